@@ -1,0 +1,176 @@
+-- Small texts, read: each line holds by evaluation.
+use Rattle.std.proofs.Common.{◌≡◌, ℕ, List, [], ◌∷◌, ◌++◌, Ok, Err, refl}
+use Rattle.std.specs.Prelude.{codes, Result}
+use Rattle.std.specs.List.{repeat}
+use Rattle.vq_laws.specs.declared.statement.Form.TheVariants.{Plain, Scheduled}
+use Rattle.vq_laws.specs.declared.statement.FaultKind.{FaultKind}
+use Rattle.vq_laws.specs.declared.statement.FaultKind.TheVariants.{Syntax, Order, Number, Name, Twice, Range, Overlap, Limit}
+use Rattle.vq_laws.specs.declared.script.Script.{Script}
+use Rattle.vq_laws.specs.Reading.{read_script}
+use Rattle.vq_laws.specs.Memory.{Memory}
+use Rattle.vq_laws.specs.SlowRun.{final}
+use Rattle.vq_laws.specs.Lowering.{plan_of}
+
+-- the bytes that a text's script leaves, or its first fault
+abbrev bytes_left : Result Script (ℕ × FaultKind) → Result Memory (ℕ × FaultKind)
+bytes_left (Ok script) = Ok (final (plan_of script))
+bytes_left (Err fault) = Err fault
+
+abbrev bytes_of : List ℕ → Result Memory (ℕ × FaultKind)
+bytes_of text = bytes_left (read_script text Plain)
+
+-- the same of a text with a schedule
+abbrev scheduled : List ℕ → Result Memory (ℕ × FaultKind)
+scheduled text = bytes_left (read_script text Scheduled)
+
+-- Texts without a fault
+
+nothing : bytes_of [] ≡ Ok []
+nothing = refl
+
+one_fill :
+    bytes_of
+    (codes "buffer X 8\nqueue Q immediate\nsubmit Q\nfill X 0 8 0x01020304\nend\n")
+    ≡ Ok ((4 ∷ 3 ∷ 2 ∷ 1 ∷ 4 ∷ 3 ∷ 2 ∷ 1 ∷ []) ∷ [])
+one_fill = refl
+
+no_last_line_feed : bytes_of (codes "buffer X 4") ≡ Ok ((0 ∷ 0 ∷ 0 ∷ 0 ∷ []) ∷ [])
+no_last_line_feed = refl
+
+comments :
+    bytes_of
+    (codes "# nothing\n\n  buffer\tX 0x4 # four\r\n")
+    ≡ Ok ((0 ∷ 0 ∷ 0 ∷ 0 ∷ []) ∷ [])
+comments = refl
+
+-- One fault of each kind
+
+open_batch : bytes_of (codes "queue Q immediate\nsubmit Q\n") ≡ Err (3, Syntax)
+open_batch = refl
+
+open_batch_before_a_return : bytes_of (codes "queue Q immediate\nsubmit Q\n\r") ≡ Err (4, Syntax)
+open_batch_before_a_return = refl
+
+a_byte : bytes_of (codes "buffer X 4\nbuffer Y\u{1} 4\n") ≡ Err (2, Syntax)
+a_byte = refl
+
+a_long_name :
+    bytes_of
+    (codes "buffer ABCDEFGHIJKLMNOP 4\nbuffer ABCDEFGHIJKLMNOPQ 4\n")
+    ≡ Err (2, Syntax)
+a_long_name = refl
+
+a_digit_first : bytes_of (codes "buffer 4X 4\n") ≡ Err (1, Syntax)
+a_digit_first = refl
+
+an_unknown_mode : bytes_of (codes "queue Q immediate\nqueue P eager\n") ≡ Err (2, Syntax)
+an_unknown_mode = refl
+
+a_command_outside : bytes_of (codes "buffer X 4\nfill X 0 4 1\n") ≡ Err (2, Syntax)
+a_command_outside = refl
+
+a_buffer_inside : bytes_of (codes "queue Q immediate\nsubmit Q\nbuffer X 4\n") ≡ Err (3, Syntax)
+a_buffer_inside = refl
+
+a_schedule_in_a_plain_text : bytes_of (codes "queue Q immediate\nschedule\n") ≡ Err (2, Syntax)
+a_schedule_in_a_plain_text = refl
+
+no_schedule : scheduled (codes "queue Q immediate\n") ≡ Err (2, Syntax)
+no_schedule = refl
+
+a_large_mark : bytes_of (codes "buffer X 0X4\n") ≡ Err (1, Number)
+a_large_mark = refl
+
+a_late_declaration :
+    bytes_of
+    (codes "queue Q immediate\nsubmit Q\nend\nbuffer X 4\n")
+    ≡ Err (4, Order)
+a_late_declaration = refl
+
+too_large_a_number : bytes_of (codes "buffer X 18446744073709551616\n") ≡ Err (1, Number)
+too_large_a_number = refl
+
+too_many_digits : bytes_of (codes "buffer X 000000000000000000004\n") ≡ Err (1, Number)
+too_many_digits = refl
+
+a_word_of_33_bits :
+    bytes_of
+    (codes "buffer X 4\nqueue Q immediate\nsubmit Q\nfill X 0 4 4294967296\n")
+    ≡ Err (4, Number)
+a_word_of_33_bits = refl
+
+a_wrong_size_word :
+    bytes_of
+    (codes "buffer X 4\nqueue Q immediate\nsubmit Q\nfill X 0 all 1\n")
+    ≡ Err (4, Number)
+a_wrong_size_word = refl
+
+no_queue : bytes_of (codes "buffer X 4\nsubmit Q\n") ≡ Err (2, Name)
+no_queue = refl
+
+a_buffer_for_a_queue : bytes_of (codes "buffer X 4\nsubmit X\n") ≡ Err (2, Name)
+a_buffer_for_a_queue = refl
+
+declared_twice : bytes_of (codes "buffer X 4\nqueue X immediate\n") ≡ Err (2, Twice)
+declared_twice = refl
+
+no_bytes : bytes_of (codes "buffer X 0\n") ≡ Err (1, Range)
+no_bytes = refl
+
+past_the_end :
+    bytes_of
+    (codes "buffer X 8\nqueue Q immediate\nsubmit Q\nfill X 4 8 1\n")
+    ≡ Err (4, Range)
+past_the_end = refl
+
+unaligned :
+    bytes_of
+    (codes "buffer X 8\nqueue Q immediate\nsubmit Q\nfill X 2 4 1\n")
+    ≡ Err (4, Range)
+unaligned = refl
+
+too_many_bytes : bytes_of (codes "buffer X 1048577\n") ≡ Err (1, Limit)
+too_many_bytes = refl
+
+too_many_bytes_together : bytes_of (codes "buffer X 1048576\nbuffer Y 1\n") ≡ Err (2, Limit)
+too_many_bytes_together = refl
+
+sixty_five_commands :
+    bytes_of
+    (codes "buffer X 4\nqueue Q immediate\nsubmit Q\n" ++ repeat 65 (codes "fill X 0 4 1\n"))
+    ≡ Err (68, Limit)
+sixty_five_commands = refl
+
+-- Several kinds on one line: the first one is named
+
+twice_and_no_bytes : bytes_of (codes "buffer X 4\nbuffer X 0\n") ≡ Err (2, Twice)
+twice_and_no_bytes = refl
+
+no_name_and_no_number : bytes_of (codes "buffer 4 X\n") ≡ Err (1, Syntax)
+no_name_and_no_number = refl
+
+no_number_and_unknown :
+    bytes_of
+    (codes "queue Q immediate\nsubmit Q\nfill X 0 4 z\n")
+    ≡ Err (3, Number)
+no_number_and_unknown = refl
+
+unknown_and_unaligned :
+    bytes_of
+    (codes "queue Q immediate\nsubmit Q\nfill X 1 4 0\n")
+    ≡ Err (3, Name)
+unknown_and_unaligned = refl
+
+twice_and_too_large : bytes_of (codes "buffer X 4\nbuffer X 1048577\n") ≡ Err (2, Twice)
+twice_and_too_large = refl
+
+the_first_line_decides : bytes_of (codes "buffer X 0\nbuffer\n") ≡ Err (1, Range)
+the_first_line_decides = refl
+
+-- Version 2
+
+version_three : bytes_of (codes "version 3\n") ≡ Err (1, Syntax)
+version_three = refl
+
+a_late_version : bytes_of (codes "buffer X 4\nversion 2\n") ≡ Err (2, Syntax)
+a_late_version = refl
