@@ -121,7 +121,8 @@ command_words s (Fill b offset size word) =
 command_words s (Update b offset bytes) =
     codes "update" ∷ buffer_name s b ∷ decimal offset ∷ flat_map (hex_digits 2) bytes ∷ []
 command_words s (Copy source from target to size) =
-    codes "copy" ∷ buffer_name s source ∷ decimal from ∷ buffer_name s target ∷ decimal to ∷ decimal size ∷ []
+    codes "copy" ∷ buffer_name s source ∷ decimal from ∷ buffer_name s target ∷ decimal to ∷
+    decimal size ∷ []
 
 -- the lines of an optional fence
 abbrev pub fence_lines : Script → Option Mark → List (List (List ℕ))

@@ -33,7 +33,8 @@ pub record IsLeastPair (P : ℕ → ℕ → Type 0) (a b : ℕ) : Type 0 where
   pub holds : P a b
   pub least : (c d : ℕ) → P c d → (b < d) ⊎ ((b ≡ d) × (a ≤ c))
 
--- a need that is unreached in a job that the slow run leaves; of a wait for any the whole step, where no pair is reached
+-- a need that is unreached in a job that the slow run leaves; of a wait for any the whole step,
+-- where no pair is reached
 abbrev pub is_unreached : Plan → ℕ → Need → Bool
 is_unreached p j n =
     if waits_for_any p j
@@ -62,19 +63,29 @@ pub record AreNeighbours (p : Plan) (t e f : ℕ) : Type 0 where
 pub record IsNextSignal (p : Plan) (t line e : ℕ) : Type 0 where
   pub in_chain : chain_of p e ≡ Some t
   pub later : line < line_of_op p e
-  pub first : (f : ℕ) → chain_of p f ≡ Some t → line < line_of_op p f → line_of_op p e ≤ line_of_op p f
+  pub first : (f : ℕ) → chain_of p f ≡ Some t → line < line_of_op p f →
+      line_of_op p e ≤ line_of_op p f
 
 pub data IsUnordered (p : Plan) : ℕ → ℕ → Type 0 where
   -- a timeline's operation isn't above the initial value
-  too_low : (t e : ℕ) → is_timeline_chain p t ≡ true → chain_of p e ≡ Some t → value p e ≤ initial p t → IsUnordered p (line_of_op p e) (line_of_op p e)
+  too_low : (t e : ℕ) → is_timeline_chain p t ≡ true → chain_of p e ≡ Some t →
+      value p e ≤ initial p t → IsUnordered p (line_of_op p e) (line_of_op p e)
   -- two neighbours have equal values
-  equal : (t e f : ℕ) → is_timeline_chain p t ≡ true → AreNeighbours p t e f → value p e ≡ value p f → IsUnordered p (line_of_op p e) (line_of_op p f)
+  equal : (t e f : ℕ) → is_timeline_chain p t ≡ true → AreNeighbours p t e f →
+      value p e ≡ value p f → IsUnordered p (line_of_op p e) (line_of_op p f)
   -- of two neighbours the first isn't sure for the second's job; the lesser line stands first
-  unsure : (t e f j : ℕ) → is_timeline_chain p t ≡ true → AreNeighbours p t e f → job_of p f ≡ Some j → ¬ IsSure p e j → line_of_op p e ≤ line_of_op p f → IsUnordered p (line_of_op p e) (line_of_op p f)
-  unsure_back : (t e f j : ℕ) → is_timeline_chain p t ≡ true → AreNeighbours p t e f → job_of p f ≡ Some j → ¬ IsSure p e j → line_of_op p f < line_of_op p e → IsUnordered p (line_of_op p f) (line_of_op p e)
-  -- The job of a binary wait is neither that of the next signal nor before it, so the semaphore might still be signaled then.
-  -- (VUID-vkQueueSubmit-pSignalSemaphores-00067)
-  unawaited : (n : Need) (e i j place : ℕ) → slice_get (needs p i) place ≡ Some n → kind_of p.script n.chain ≡ Some Binary → IsNextSignal p n.chain n.line e → job_of p e ≡ Some j → i ≢ j → ¬ HappensBefore p i j → IsUnordered p n.line (line_of_op p e)
+  unsure : (t e f j : ℕ) → is_timeline_chain p t ≡ true → AreNeighbours p t e f →
+      job_of p f ≡ Some j → ¬ IsSure p e j → line_of_op p e ≤ line_of_op p f →
+      IsUnordered p (line_of_op p e) (line_of_op p f)
+  unsure_back : (t e f j : ℕ) → is_timeline_chain p t ≡ true → AreNeighbours p t e f →
+      job_of p f ≡ Some j → ¬ IsSure p e j → line_of_op p f < line_of_op p e →
+      IsUnordered p (line_of_op p f) (line_of_op p e)
+  -- The job of a binary wait is neither that of the next signal nor before it, so the semaphore
+  -- might still be signaled then. (Vulkan 1.3, vkQueueSubmit: a binary semaphore is unsignaled when
+  -- a signal of it executes)
+  unawaited : (n : Need) (e i j place : ℕ) → slice_get (needs p i) place ≡ Some n →
+      kind_of p.script n.chain ≡ Some Binary → IsNextSignal p n.chain n.line e →
+      job_of p e ≡ Some j → i ≢ j → ¬ HappensBefore p i j → IsUnordered p n.line (line_of_op p e)
 
 -- whether a job of a script names a fence, and whether it resets it
 abbrev pub names_at : Script → ℕ → ℕ → Bool
@@ -83,15 +94,17 @@ names_at s fence j = option_map_or (names_fence fence) (slice_get s.jobs j) fals
 abbrev pub resets_at : Script → ℕ → ℕ → Bool
 resets_at s fence j = option_map_or (resets_fence fence) (slice_get s.jobs j) false
 
--- A job's reset of a fence is effective: an earlier job named the fence, and no job between names or resets it.
+-- A job's reset of a fence is effective: an earlier job named the fence, and no job between names
+-- or resets it.
 pub record IsEffectiveReset (s : Script) (fence naming job : ℕ) : Type 0 where
   pub earlier : naming < job
   pub names : names_at s fence naming ≡ true
   pub resets : resets_at s fence job ≡ true
-  pub between : (k : ℕ) → naming < k → k < job → (names_at s fence k ≡ false) × (resets_at s fence k ≡ false)
+  pub between : (k : ℕ) → naming < k → k < job →
+      (names_at s fence k ≡ false) × (resets_at s fence k ≡ false)
 
 -- An effective reset of a fence whose last naming isn't sure to be signaled.
--- (Vulkan 1.3, vkResetFences: each fence is not used by a batch that is still pending, VUID-vkResetFences-pFences-01123)
+-- (Vulkan 1.3, vkResetFences: each fence is not used by a batch that is still pending)
 pub record IsFenceBusyAt (p : Plan) (line : ℕ) : Type 0 where
   pub job : ℕ
   pub fence : ℕ
@@ -113,10 +126,11 @@ is_immediate_batch p j = of_job (λ x. by_lane x.lane) false p j
   where
     by_lane : Lane → Bool
     by_lane HostLane = false
-    by_lane (QueueLane q) = option_map_or (λ x. is_immediate x.mode) (slice_get p.script.queues q) false
+    by_lane (QueueLane q) =
+        option_map_or (λ x. is_immediate x.mode) (slice_get p.script.queues q) false
 
--- A batch of an immediate queue waits for a signal that is not sure to be pending when it is submitted. That such a queue
--- can't hold back a batch is the project's own.
+-- A batch of an immediate queue waits for a signal that is not sure to be pending when it is
+-- submitted. That such a queue can't hold back a batch is the project's own.
 pub record IsNotPendingAt (p : Plan) (line : ℕ) : Type 0 where
   pub job : ℕ
   pub immediate : is_immediate_batch p job ≡ true
@@ -128,7 +142,8 @@ pub record IsNotPendingAt (p : Plan) (line : ℕ) : Type 0 where
   pub resolver : resolver p need.chain need.value ≡ Some op
   pub signaler : ℕ
   pub of_op : job_of p op ≡ Some signaler
-  pub late : (signaler < job) × ((is_host_step p signaler || is_immediate_batch p signaler) ≡ true) → ⊥
+  pub late : (signaler < job)
+      × ((is_host_step p signaler || is_immediate_batch p signaler) ≡ true) → ⊥
   pub unsure : (h : ℕ) → h < job → is_host_step p h ≡ true → ¬ IsSure p op h
   pub named : line ≡ need.line
 
@@ -147,25 +162,28 @@ NoLine P = (n : ℕ) → ¬ P n
 abbrev pub NoLines : (ℕ → ℕ → Type 0) → Type 0
 NoLines P = (a b : ℕ) → ¬ P a b
 
--- A lawful plan: no row of faults holds. By the rows its commands are ordered and its timelines rise (`HasSureOrder`).
+-- A lawful plan: no row of faults holds. By the rows its commands are ordered and its timelines
+-- rise (`HasSureOrder`).
 pub record IsLawful (p : Plan) : Type 0 where
   pub reachable : left_over p ≡ []
   pub ordered : NoLines (IsUnordered p)
   pub resettable : NoLine (IsFenceBusyAt p)
   pub pending : NoLine (IsNotPendingAt p)
   pub race_free : NoLines (IsRaceAt p)
-  -- The chains of binary semaphores and fences rise in a sure order too. This follows from the rows and from the faults of
-  -- lowering; until that is proved it is asked.
+  -- The chains of binary semaphores and fences rise in a sure order too. This follows from the rows
+  -- and from the faults of lowering; until that is proved it is asked.
   pub counted : (t : ℕ) → is_timeline_chain p t ≡ false → RisesFrom p (initial p t) (chain p t)
 
--- The faults are decided in the order of the rows, and the least line, or the least pair of lines, is named. Want of memory
--- may be answered at any place.
+-- The faults are decided in the order of the rows, and the least line, or the least pair of lines,
+-- is named. Want of memory may be answered at any place.
 abbrev pub IsFirstFault : Plan → OrderFault → Type 0
 IsFirstFault p (Unreachable n) = IsLeast (IsUnreachableAt p) n
 IsFirstFault p (Unordered a b) = (left_over p ≡ []) × IsLeastPair (IsUnordered p) a b
-IsFirstFault p (FenceBusy n) = (left_over p ≡ []) × NoLines (IsUnordered p) × IsLeast (IsFenceBusyAt p) n
+IsFirstFault p (FenceBusy n) = (left_over p ≡ []) × NoLines (IsUnordered p)
+    × IsLeast (IsFenceBusyAt p) n
 IsFirstFault p (NotPending n) =
-    (left_over p ≡ []) × NoLines (IsUnordered p) × NoLine (IsFenceBusyAt p) × IsLeast (IsNotPendingAt p) n
+    (left_over p ≡ []) × NoLines (IsUnordered p) × NoLine (IsFenceBusyAt p)
+    × IsLeast (IsNotPendingAt p) n
 IsFirstFault p (Race a b) =
     (left_over p ≡ [])
     × NoLines (IsUnordered p)
@@ -174,7 +192,8 @@ IsFirstFault p (Race a b) =
     × IsLeastPair (IsRaceAt p) a b
 IsFirstFault p Memory = Unit {0}
 
--- What a check of a plan answers: the plan exactly where it is lawful, else its first fault, or want of memory.
+-- What a check of a plan answers: the plan exactly where it is lawful, else its first fault, or
+-- want of memory.
 abbrev pub Checks : Plan → Result Plan OrderFault → Type 0
 Checks p (Ok q) = (q ≡ p) × IsLawful p
 Checks p (Err f) = IsFirstFault p f

@@ -10,7 +10,8 @@ use Rattle.vq_laws.specs.Canonical.{same_actor}
 use Rattle.vq_laws.specs.Plan.{Plan, chain_of, chain, initial, value, needs, signals_of, is_batch, job_of, is_host_step}
 use Rattle.vq_laws.specs.Points.{earlier_in_queue, smaller_ops}
 
--- A law that each event of a list keeps after those before it. What came before stands latest first.
+-- A law that each event of a list keeps after those before it. What came before stands latest
+-- first.
 abbrev pub AfterEach : (List Event → Event → Type 0) → List Event → List Event → Type 0
 AfterEach P before [] = Unit {0}
 AfterEach P before (x ∷ xs) = P before x × AfterEach P (x ∷ before) xs
@@ -89,13 +90,15 @@ was_freed_later q r (other ∷ before) = was_freed_later q r before
 abbrev pub refers_since : ℕ → List Event → ℕ
 refers_since q [] = 0
 refers_since q (Take e r fresh ∷ before) = if q == r then 0 else refers_since q before
-refers_since q (Refer a r e ∷ before) = if q == r then refers_since q before + 1 else refers_since q before
+refers_since q (Refer a r e ∷ before) = if q == r then refers_since q before + 1
+    else refers_since q before
 refers_since q (other ∷ before) = refers_since q before
 
 abbrev pub unrefers_since : ℕ → List Event → ℕ
 unrefers_since q [] = 0
 unrefers_since q (Take e r fresh ∷ before) = if q == r then 0 else unrefers_since q before
-unrefers_since q (Unref a r e ∷ before) = if q == r then unrefers_since q before + 1 else unrefers_since q before
+unrefers_since q (Unref a r e ∷ before) = if q == r then unrefers_since q before + 1
+    else unrefers_since q before
 unrefers_since q (other ∷ before) = unrefers_since q before
 
 -- how many points were made
@@ -112,19 +115,23 @@ is_on_chain p t q before = (e : ℕ) × (last_take q before ≡ Some e) × (chai
 pub record IsFreedLast (p : Plan) (t : ℕ) (before : List Event) (q : ℕ) : Type 0 where
   pub free : stands_free q before ≡ true
   pub on_chain : is_on_chain p t q before
-  pub last : (r : ℕ) → r ≢ q → stands_free r before ≡ true → is_on_chain p t r before → was_freed_later q r before ≡ true
+  pub last : (r : ℕ) → r ≢ q → stands_free r before ≡ true → is_on_chain p t r before →
+      was_freed_later q r before ≡ true
 
--- A point that was taken is taken again only once it was freed. A take that isn't fresh names the point of the chain that
--- was freed last. A fresh one comes only where no point of the chain stands free, and names the number of points made.
+-- A point that was taken is taken again only once it was freed. A take that isn't fresh names the
+-- point of the chain that was freed last. A fresh one comes only where no point of the chain stands
+-- free, and names the number of points made.
 pub record TakesInTurn (p : Plan) (before : List Event) (e q : ℕ) (fresh : Bool) : Type 0 where
   pub given_up : (f : ℕ) → last_take q before ≡ Some f → stands_free q before ≡ true
   pub chain : ℕ
   pub in_chain : chain_of p e ≡ Some chain
   pub reused : fresh ≡ false → IsFreedLast p chain before q
   pub number : fresh ≡ true → q ≡ made_points before
-  pub none_free : fresh ≡ true → (r : ℕ) → stands_free r before ≡ true → ¬ is_on_chain p chain r before
+  pub none_free : fresh ≡ true → (r : ℕ) → stands_free r before ≡ true →
+      ¬ is_on_chain p chain r before
 
--- A point is freed only when its operation is signaled and completed, and each reference since its take is given back.
+-- A point is freed only when its operation is signaled and completed, and each reference since its
+-- take is given back.
 pub record FreesInTime (before : List Event) (q : ℕ) : Type 0 where
   pub op : ℕ
   pub last_take : last_take q before ≡ Some op
@@ -139,7 +146,8 @@ carried_when_referred a q (Refer b r e ∷ before) =
     if same_actor a b && (q == r) then last_take q before else carried_when_referred a q before
 carried_when_referred a q (other ∷ before) = carried_when_referred a q before
 
--- A look sees the signal of the operation that the point carried when the actor's reference was made.
+-- A look sees the signal of the operation that the point carried when the actor's reference was
+-- made.
 pub record LooksTruly (before : List Event) (a : ActorName) (q e : ℕ) : Type 0 where
   pub carried : carried_when_referred a q before ≡ Some e
   pub signaled : came (signals e) before ≡ true
@@ -155,23 +163,28 @@ PointLaw p history = AfterEach (KeepsPoints p) [] history
 
 -- an operation of a chain with at least this value is bound
 abbrev pub is_pending_at : Plan → List Event → Need → Bool
-is_pending_at p before n = nat_le n.value (initial p n.chain) || list_any (λ e. nat_le n.value (value p e) && came (binds e) before) (chain p n.chain)
+is_pending_at p before n =
+    nat_le n.value (initial p n.chain)
+    || list_any (λ e. nat_le n.value (value p e) && came (binds e) before) (chain p n.chain)
 
--- a batch is released after the earlier batches of its queue, with a point for each of its signals and each need pending
+-- a batch is released after the earlier batches of its queue, with a point for each of its signals
+-- and each need pending
 pub record ReleasesInTime (p : Plan) (before : List Event) (j : ℕ) : Type 0 where
   pub batch : is_batch p j ≡ true
   pub in_order : list_all (λ i. came (releases i) before) (earlier_in_queue p j) ≡ true
   pub taken : list_all (λ e. came (takes_for e) before) (signals_of p j) ≡ true
   pub needs : list_all (is_pending_at p before) (needs p j) ≡ true
 
--- an operation is bound after all smaller ones of its chain, and after its batch's release or its host step's start
+-- an operation is bound after all smaller ones of its chain, and after its batch's release or its
+-- host step's start
 pub record BindsInTime (p : Plan) (before : List Event) (e : ℕ) : Type 0 where
   pub job : ℕ
   pub of_job : job_of p e ≡ Some job
   pub chain : ℕ
   pub in_chain : chain_of p e ≡ Some chain
   pub in_order : list_all (λ f. came (binds f) before) (smaller_ops p chain e) ≡ true
-  pub ready : (if is_host_step p job then came (starts job) before else came (releases job) before) ≡ true
+  pub ready : (if is_host_step p job then came (starts job) before else came (releases job) before)
+      ≡ true
 
 abbrev pub KeepsPending : Plan → List Event → Event → Type 0
 KeepsPending p before (Release j) = ReleasesInTime p before j

@@ -169,7 +169,8 @@ has_fault form before words Twice =
     option_map_or (fails (is_new before) words) (form_of form before words) false
 has_fault form before words Range =
     option_map_or (λ s. not (is_in_range before s)) (meaning form before words) false
-has_fault form before words Overlap = option_map_or (overlaps before) (meaning form before words) false
+has_fault form before words Overlap =
+    option_map_or (overlaps before) (meaning form before words) false
 has_fault form before words Limit =
     option_map_or (passes_limit (limits_of (version_of before)) before)
     (meaning form before words) false

@@ -35,11 +35,13 @@ abbrev pub resets_fence : ℕ → Job → Bool
 resets_fence f (Host h) = step_resets f h.step
 resets_fence f (Batch b) = false
 
--- how many effective resets of a fence jobs hold; a reset is effective where the fence was named since the last one
+-- how many effective resets of a fence jobs hold; a reset is effective where the fence was named
+-- since the last one
 abbrev pub effective_resets : ℕ → Bool → List Job → ℕ
 effective_resets f named [] = 0
 effective_resets f named (job ∷ jobs) =
-    if resets_fence f job && named then 1 + effective_resets f false jobs else effective_resets f (named || names_fence f job) jobs
+    if resets_fence f job && named then 1 + effective_resets f false jobs
+    else effective_resets f (named || names_fence f job) jobs
 
 -- the value that a wait or a poll of a fence asks for
 abbrev pub fence_value : Script → ℕ → ℕ → ℕ
@@ -56,20 +58,23 @@ of_wait s j m =
     record {
       line = m.line;
       chain = m.semaphore;
-      value = if is_timeline_at s m.semaphore then m.value else count_by (λ x. (x.semaphore == m.semaphore) && nat_lt x.job j) (all_signals s);
+      value = if is_timeline_at s m.semaphore then m.value
+          else count_by (λ x. (x.semaphore == m.semaphore) && nat_lt x.job j) (all_signals s);
       from = m.from;
     }
 
 abbrev pub step_needs : Script → ℕ → ℕ → HostStep → List Need
 step_needs s j line (WaitAll pairs) = map (of_pair line) pairs
 step_needs s j line (WaitAny pairs) = map (of_pair line) pairs
-step_needs s j line (FenceWait f) = record { line = line; chain = f; value = fence_value s j f; from = 1 } ∷ []
+step_needs s j line (FenceWait f) =
+    record { line = line; chain = f; value = fence_value s j f; from = 1 } ∷ []
 step_needs s j line other = []
 
 abbrev pub step_asked : Script → ℕ → ℕ → HostStep → List Need
 step_asked s j line (PollAll pairs) = map (of_pair line) pairs
 step_asked s j line (PollAny pairs) = map (of_pair line) pairs
-step_asked s j line (FencePoll f) = record { line = line; chain = f; value = fence_value s j f; from = 1 } ∷ []
+step_asked s j line (FencePoll f) =
+    record { line = line; chain = f; value = fence_value s j f; from = 1 } ∷ []
 step_asked s j line (Read t) = record { line = line; chain = t; value = 0; from = 1 } ∷ []
 step_asked s j line other = []
 
@@ -97,7 +102,8 @@ lane_of (Batch b) = QueueLane b.queue
 -- the last of the first jobs that passes a test
 abbrev pub last_from : ℕ → (Job → Bool) → List Job → Option ℕ → Option ℕ
 last_from n test [] found = found
-last_from n test (job ∷ jobs) found = last_from (n + 1) test jobs (if test job then Some n else found)
+last_from n test (job ∷ jobs) found =
+    last_from (n + 1) test jobs (if test job then Some n else found)
 
 abbrev pub last_before : Script → ℕ → (Job → Bool) → Option ℕ
 last_before s j test = last_from 0 test (take j s.jobs) None
@@ -110,14 +116,19 @@ commands_in (Batch b) = length b.commands
 
 -- commands are numbered through all batches
 abbrev pub job_commands : Script → ℕ → Job → List ℕ
-job_commands s j job = range_with_len (fold (λ n x. n + commands_in x) 0 (take j s.jobs)) (commands_in job)
+job_commands s j job =
+    range_with_len (fold (λ n x. n + commands_in x) 0 (take j s.jobs)) (commands_in job)
 
 abbrev pub job_ops : Script → ℕ → List ℕ
-job_ops s j = filter (λ e. option_map_or (λ x. x.job == j) (slice_get (all_signals s) e) false) (range_with_len 0 (length (all_signals s)))
+job_ops s j =
+    filter (λ e. option_map_or (λ x. x.job == j) (slice_get (all_signals s) e) false)
+    (range_with_len 0 (length (all_signals s)))
 
 -- what an idle step waits for: the last batch of each queue
 abbrev pub step_idle : Script → ℕ → HostStep → List ℕ
-step_idle s j Idle = filter_map (λ q. last_before s j (λ x. same_lane (QueueLane q) (lane_of x))) (range_with_len 0 (length s.queues))
+step_idle s j Idle =
+    filter_map (λ q. last_before s j (λ x. same_lane (QueueLane q) (lane_of x)))
+    (range_with_len 0 (length s.queues))
 step_idle s j other = []
 
 -- The plan

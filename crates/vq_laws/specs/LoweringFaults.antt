@@ -1,6 +1,6 @@
--- What lowering refuses, by the uses of a semaphore or a fence that are written before.
--- Vulkan 1.3, "Semaphores" (binary), "Fences": a binary semaphore is unsignaled when it is signaled,
--- its wait has a signal submitted earlier, and a fence that is named is not in use.
+-- What lowering refuses, by the uses of a semaphore or a fence that are written before. Vulkan 1.3,
+-- "Semaphores" (binary), "Fences": a binary semaphore is unsignaled when it is signaled, its wait
+-- has a signal submitted earlier, and a fence that is named is not in use.
 use Rattle.std.specs.Prelude.{ℕ, if◌then◌else◌, List, [], ◌∷◌, ◌+◌, ◌++◌, Bool, true, false, ◌==◌, ◌&&◌, count_by, fold, Option, Some, None, nat_le, ◌≡◌, ◌≤◌, Result, Ok, Err}
 use Rattle.std.specs.List.{flat_map, list_any}
 use Rattle.std.specs.Option.{option_to_list, option_map_or}
@@ -34,7 +34,8 @@ pub record UseLine : Type 0 where
 
 abbrev pub use_of_mark : Script → Use → Mark → List UseLine
 use_of_mark s kind m =
-    if is_counted_at s m.semaphore then record { line = m.line; semaphore = m.semaphore; kind = kind } ∷ [] else []
+    if is_counted_at s m.semaphore
+    then record { line = m.line; semaphore = m.semaphore; kind = kind } ∷ [] else []
 
 abbrev pub step_uses : ℕ → HostStep → List UseLine
 step_uses line (FenceReset f) = record { line = line; semaphore = f; kind = Reset } ∷ []
@@ -43,7 +44,8 @@ step_uses line other = []
 abbrev pub uses_of : Script → Job → List UseLine
 uses_of s (Host h) = step_uses h.line h.step
 uses_of s (Batch b) =
-    flat_map (use_of_mark s Waited) b.waits ++ flat_map (use_of_mark s Signaled) b.signals ++ flat_map (use_of_mark s Named) (option_to_list b.fence)
+    flat_map (use_of_mark s Waited) b.waits ++ flat_map (use_of_mark s Signaled) b.signals
+    ++ flat_map (use_of_mark s Named) (option_to_list b.fence)
 
 -- the uses of binary semaphores and fences, in the order of the lines
 abbrev pub uses : Script → List UseLine
@@ -75,13 +77,17 @@ count_uses test t uses = count_by (λ x. (x.semaphore == t) && test x.kind) uses
 abbrev pub last_use : ℕ → List UseLine → Option Use
 last_use t uses = fold (λ found x. if x.semaphore == t then Some x.kind else found) None uses
 
--- What is wrong with a use after others: a wait without a signal that no earlier wait took; a signal where the last use was
--- one (VUID-vkQueueSubmit-pSignalSemaphores-00067); a fence that was named and not reset since
--- (VUID-vkQueueSubmit-fence-00063, VUID-vkQueueSubmit-fence-00064).
+-- What is wrong with a use after others: a wait without a signal that no earlier wait took; a
+-- signal where the last use was one; a fence that was named and not reset since (Vulkan 1.3,
+-- vkQueueSubmit).
 abbrev pub fault_of_use : List UseLine → ℕ → Use → Option LoweringFault
-fault_of_use earlier t Waited = if nat_le (count_uses is_signaled t earlier) (count_uses is_waited t earlier) then Some NoSignal else None
-fault_of_use earlier t Signaled = if option_map_or is_signaled (last_use t earlier) false then Some SignaledTwice else None
-fault_of_use earlier t Named = if option_map_or is_named (last_use t earlier) false then Some FenceUsed else None
+fault_of_use earlier t Waited =
+    if nat_le (count_uses is_signaled t earlier) (count_uses is_waited t earlier)
+    then Some NoSignal else None
+fault_of_use earlier t Signaled = if option_map_or is_signaled (last_use t earlier) false
+    then Some SignaledTwice else None
+fault_of_use earlier t Named = if option_map_or is_named (last_use t earlier) false
+    then Some FenceUsed else None
 fault_of_use earlier t Reset = None
 
 abbrev pub use_fault : List UseLine → UseLine → Option LoweringFault
@@ -89,7 +95,8 @@ use_fault earlier x = fault_of_use earlier x.semaphore x.kind
 
 abbrev pub fault_from : List UseLine → List UseLine → Option (ℕ × LoweringFault)
 fault_from earlier [] = None
-fault_from earlier (x ∷ xs) = option_map_or (λ k. Some (x.line, k)) (use_fault earlier x) (fault_from (earlier ++ x ∷ []) xs)
+fault_from earlier (x ∷ xs) =
+    option_map_or (λ k. Some (x.line, k)) (use_fault earlier x) (fault_from (earlier ++ x ∷ []) xs)
 
 -- the first fault of a script's lowering, by its line
 abbrev pub lowering_fault : Script → Option (ℕ × LoweringFault)
@@ -107,10 +114,12 @@ pub record LastIs (earlier : List UseLine) (t : ℕ) (kind : Use) : Type 0 where
   pub of_kind : last.kind ≡ kind
   pub none_after : list_any (λ x. x.semaphore == t) back ≡ false
 
--- A use after these is faulty: a wait for which there are no more earlier signals than earlier waits; a signal with an earlier
--- signal and no wait since; a fence that was named and not reset since.
+-- A use after these is faulty: a wait for which there are no more earlier signals than earlier
+-- waits; a signal with an earlier signal and no wait since; a fence that was named and not reset
+-- since.
 abbrev pub IsFaultyUse : List UseLine → ℕ → Use → LoweringFault → Type 0
-IsFaultyUse earlier t kind NoSignal = (kind ≡ Waited) × (count_uses is_signaled t earlier ≤ count_uses is_waited t earlier)
+IsFaultyUse earlier t kind NoSignal =
+    (kind ≡ Waited) × (count_uses is_signaled t earlier ≤ count_uses is_waited t earlier)
 IsFaultyUse earlier t kind SignaledTwice = (kind ≡ Signaled) × LastIs earlier t Signaled
 IsFaultyUse earlier t kind FenceUsed = (kind ≡ Named) × LastIs earlier t Named
 
@@ -122,15 +131,18 @@ pub record IsFirstFaultyUse (s : Script) (line : ℕ) (fault : LoweringFault) : 
   pub whole : uses s ≡ earlier ++ faulty ∷ later
   pub at_line : faulty.line ≡ line
   pub is_faulty : IsFaultyUse earlier faulty.semaphore faulty.kind fault
-  pub first : (front back : List UseLine) → (x : UseLine) → (k : LoweringFault) → earlier ≡ front ++ x ∷ back → ¬ IsFaultyUse front x.semaphore x.kind k
+  pub first : (front back : List UseLine) → (x : UseLine) → (k : LoweringFault) →
+      earlier ≡ front ++ x ∷ back → ¬ IsFaultyUse front x.semaphore x.kind k
 
 -- no use of a script is faulty
 abbrev pub HasNoFaultyUse : Script → Type 0
-HasNoFaultyUse s = (front back : List UseLine) → (x : UseLine) → (k : LoweringFault) → uses s ≡ front ++ x ∷ back → ¬ IsFaultyUse front x.semaphore x.kind k
+HasNoFaultyUse s = (front back : List UseLine) → (x : UseLine) → (k : LoweringFault) →
+    uses s ≡ front ++ x ∷ back → ¬ IsFaultyUse front x.semaphore x.kind k
 
 -- What lowering answers
 
--- What lowering a script answers: its plan exactly where there is no fault, else the first fault, or want of memory.
+-- What lowering a script answers: its plan exactly where there is no fault, else the first fault,
+-- or want of memory.
 abbrev pub Lowers : Script → Result Plan PlanFault → Type 0
 Lowers s (Ok p) = (lowering_fault s ≡ None) × (p ≡ plan_of s)
 Lowers s (Err (NoSignalAt n)) = lowering_fault s ≡ Some (n, NoSignal)

@@ -62,7 +62,8 @@ pub data Step : Type 0 where
 -- What a step leaves. An answer changes nothing of progress.
 abbrev pub with_signal : Plan → Progress → ℕ → Option ℕ → Progress
 with_signal p s e None = s
-with_signal p s e (Some t) = record s { payload = put s.payload t (value p e); made = put s.made e true }
+with_signal p s e (Some t) =
+    record s { payload = put s.payload t (value p e); made = put s.made e true }
 
 abbrev pub after_progress : Plan → Progress → Step → Progress
 after_progress p s (StartStep j) = record s { started = put s.started j true }
@@ -73,7 +74,11 @@ after_progress p s (AnswerStep j a) = s
 
 abbrev pub after_step : Plan → State → Step → State
 after_step p s (StartStep j) =
-    record s { progress = after_progress p s.progress (StartStep j); at_start = put s.at_start j s.progress.payload }
+    record s {
+      progress = after_progress p s.progress (StartStep j);
+      at_start = put s.at_start j
+          s.progress.payload;
+    }
 after_step p s (AnswerStep j a) = record s { answer = put s.answer j (Some a) }
 after_step p s other = record s { progress = after_progress p s.progress other }
 
@@ -86,11 +91,14 @@ is_reached payload n = nat_le n.value (payload n.chain)
 -- all needs at a place of a job are reached, or one of them where the job waits for any
 abbrev pub are_reached : Plan → (ℕ → ℕ) → ℕ → Place → Bool
 are_reached p payload j k =
-    if waits_for_any p j then list_any (is_reached payload) (needs_at p j k) else list_all (is_reached payload) (needs_at p j k)
+    if waits_for_any p j then list_any (is_reached payload) (needs_at p j k)
+    else list_all (is_reached payload) (needs_at p j k)
 
--- A job can start when the jobs that must be finished before it are, and its needs at the first place are reached.
+-- A job can start when the jobs that must be finished before it are, and its needs at the first
+-- place are reached.
 abbrev pub can_start : Plan → (ℕ → Bool) → (ℕ → ℕ) → ℕ → Bool
-can_start p finished payload j = list_all finished (must_finish p j) && are_reached p payload j (At 1)
+can_start p finished payload j =
+    list_all finished (must_finish p j) && are_reached p payload j (At 1)
 
 -- the first of a list that isn't done
 abbrev pub next : (ℕ → Bool) → List ℕ → Option ℕ
@@ -138,7 +146,9 @@ pub record CanFinish (p : Plan) (s : State) (j : ℕ) : Type 0 where
 -- a payload had this value at a moment since the start of a job
 abbrev pub was_since : Plan → State → ℕ → ℕ → ℕ → Bool
 was_since p s j t n =
-    (n == s.at_start j t) || (nat_lt (s.at_start j t) n && list_any (λ e. s.progress.made e && (value p e == n)) (chain p t))
+    (n == s.at_start j t)
+    || (nat_lt (s.at_start j t) n
+    && list_any (λ e. s.progress.made e && (value p e == n)) (chain p t))
 
 -- What a job may be answered. A poll answers by the payloads at its start or since.
 abbrev pub may_answer : Plan → State → ℕ → Question → Answer → Bool

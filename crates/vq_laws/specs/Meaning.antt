@@ -27,8 +27,8 @@ use Rattle.vq_laws.specs.Text.{is_name, numeral}
 
 -- The form of a line
 
--- The forms that are built so far; a line of another form is Syntax. There is one queue at most, and
--- it is immediate.
+-- The forms that are built so far; a line of another form is Syntax. There is one queue at most,
+-- and it is immediate.
 abbrev pub is_built : List Line → LineForm → Bool
 is_built before BufferLine = true
 is_built before (QueueLine Immediate) = length (queues before) == 0

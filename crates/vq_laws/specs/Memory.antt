@@ -28,8 +28,8 @@ pub record HasSizes (sizes : List ℕ) (m : Memory) : Type 0 where
 
 -- Commands
 
--- Byte k of a word that is written again and again, its least significant byte first. (This order is the project's own:
--- Vulkan takes the host's.)
+-- Byte k of a word that is written again and again, its least significant byte first. (This order
+-- is the project's own: Vulkan takes the host's.)
 abbrev pub word_byte : ℕ → ℕ → ℕ
 word_byte word k = slice_index (to_le_bytes w32 word) (k % 4)
 
@@ -42,9 +42,11 @@ with_bytes old offset bytes = take offset old ++ bytes ++ drop (offset + length 
 
 -- what a command leaves
 abbrev pub effect : Command → Memory → Memory
-effect (Fill b o size w) m = set m b (with_bytes (buffer m b) o (word_bytes w (fill_size size o (length (buffer m b)))))
+effect (Fill b o size w) m =
+    set m b (with_bytes (buffer m b) o (word_bytes w (fill_size size o (length (buffer m b)))))
 effect (Update b o bytes) m = set m b (with_bytes (buffer m b) o bytes)
-effect (Copy s so t to n) m = set m t (with_bytes (buffer m t) to (slice_range (buffer m s) so (so + n)))
+effect (Copy s so t to n) m =
+    set m t (with_bytes (buffer m t) to (slice_range (buffer m s) so (so + n)))
 
 -- what commands leave, one after another
 abbrev pub after_all : List Command → Memory → Memory

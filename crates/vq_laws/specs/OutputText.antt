@@ -35,7 +35,8 @@ answer_at p j a = record { line = line_of_job p j; answer = a }
 
 -- the answers of a state, in the order of the script
 abbrev pub lines_answered : Plan → State → List AnswerLine
-lines_answered p s = filter_map (λ j. option_map (answer_at p j) (s.answer j)) (range_with_len 0 (length p.jobs))
+lines_answered p s =
+    filter_map (λ j. option_map (answer_at p j) (s.answer j)) (range_with_len 0 (length p.jobs))
 
 abbrev pub answers_of : Plan → State → List ℕ
 answers_of p s = answer_text (lines_answered p s)
@@ -58,7 +59,8 @@ abbrev pub hex_lines : List ℕ → List ℕ
 hex_lines bytes = flat_map (hex_line bytes) (range_with_len 0 ((length bytes + 15) / 16))
 
 abbrev pub buffer_text : Buffer → List ℕ → List ℕ
-buffer_text b bytes = codes "buffer " ++ b.name ++ codes " " ++ decimal b.size ++ line_feed ++ hex_lines bytes
+buffer_text b bytes =
+    codes "buffer " ++ b.name ++ codes " " ++ decimal b.size ++ line_feed ++ hex_lines bytes
 
 abbrev pub all_buffers : List Buffer → Memory → List ℕ
 all_buffers [] m = []

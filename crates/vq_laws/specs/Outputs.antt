@@ -19,7 +19,8 @@ pub data IsIn {X : Type 0} (x : X) : List X → Type 0 where
   here : {xs : List X} → IsIn x (x ∷ xs)
   there : {y : X} {xs : List X} → IsIn x xs → IsIn x (y ∷ xs)
 
--- A host step, its answer, and, where the step asks for any of several pairs and is answered `ok`, the pair that is chosen.
+-- A host step, its answer, and, where the step asks for any of several pairs and is answered `ok`,
+-- the pair that is chosen.
 pub record Answered : Type 0 where
   pub job : ℕ
   pub answer : Answer
@@ -54,10 +55,12 @@ ShowsBy p told e q other = ⊥
 abbrev pub Shows : Plan → Answered → ℕ → Type 0
 Shows p told e = ShowsBy p told e (question p told.job) told.answer
 
--- The numbers of which the low end of a window is the greatest: the floor's, and what earlier answers carry.
+-- The numbers of which the low end of a window is the greatest: the floor's, and what earlier
+-- answers carry.
 pub data IsShownReached (p : Plan) (before : List Answered) (h t : ℕ) : ℕ → Type 0 where
   from_floor : {n : ℕ} → IsSurelyReached p h t n → IsShownReached p before h t n
-  carried : {f : ℕ} (told : Answered) (e : ℕ) → IsIn told before → Shows p told e → IsMadeWith p e f → chain_of p f ≡ Some t → IsShownReached p before h t (value p f)
+  carried : {f : ℕ} (told : Answered) (e : ℕ) → IsIn told before → Shows p told e →
+      IsMadeWith p e f → chain_of p f ≡ Some t → IsShownReached p before h t (value p f)
 
 -- What may be answered
 
@@ -79,13 +82,19 @@ MayPick p told ns = (n : Need) × (told.pick ≡ Some n) × IsIn n ns × AtMostC
 
 -- What a step may be answered after these answers.
 abbrev pub AllowedBy : Plan → List Answered → Answered → Question → Answer → Type 0
-AllowedBy p before told AsksReached Reached = waits_for_any p told.job ≡ true → MayPick p told (needs p told.job)
-AllowedBy p before told PollAll Reached = (n : Need) → IsIn n (asked p told.job) → AtMostCeiling p told.job n
+AllowedBy p before told AsksReached Reached = waits_for_any p told.job ≡ true →
+    MayPick p told (needs p told.job)
+AllowedBy p before told PollAll Reached = (n : Need) → IsIn n (asked p told.job) →
+    AtMostCeiling p told.job n
 AllowedBy p before told PollAny Reached = MayPick p told (asked p told.job)
-AllowedBy p before told Fence Reached = (n : Need) → IsIn n (asked p told.job) → AtMostCeiling p told.job n
-AllowedBy p before told PollAll Timeout = (n : Need) × IsIn n (asked p told.job) × IsAboveLow p before told.job n
-AllowedBy p before told PollAny Timeout = (n : Need) → IsIn n (asked p told.job) → IsAboveLow p before told.job n
-AllowedBy p before told Fence NotReady = (n : Need) × IsIn n (asked p told.job) × IsAboveLow p before told.job n
+AllowedBy p before told Fence Reached = (n : Need) → IsIn n (asked p told.job) →
+    AtMostCeiling p told.job n
+AllowedBy p before told PollAll Timeout =
+    (n : Need) × IsIn n (asked p told.job) × IsAboveLow p before told.job n
+AllowedBy p before told PollAny Timeout = (n : Need) → IsIn n (asked p told.job) →
+    IsAboveLow p before told.job n
+AllowedBy p before told Fence NotReady =
+    (n : Need) × IsIn n (asked p told.job) × IsAboveLow p before told.job n
 AllowedBy p before told (AsksValue t) (Value n) = MayRead p before told.job t n
 AllowedBy p before told other answer = ⊥
 
@@ -111,4 +120,5 @@ pub record IsOutput (p : Plan) (text : List ℕ) : Type 0 where
   pub answers : List Answered
   pub in_order : map (λ told. told.job) answers ≡ asking p
   pub allowed : AllAllowed p [] answers
-  pub spelled : text ≡ answer_text (answer_lines p answers) ++ buffers_text p.script.buffers (final p)
+  pub spelled : text ≡ answer_text (answer_lines p answers)
+      ++ buffers_text p.script.buffers (final p)

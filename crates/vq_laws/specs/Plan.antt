@@ -118,6 +118,7 @@ chain_of p e = option_map (λ o. o.chain) (slice_get p.ops e)
 abbrev pub line_of_op : Plan → ℕ → ℕ
 line_of_op p e = option_map_or (λ o. o.line) (slice_get p.ops e) 0
 
--- what resolves a wait for a value: the first signal operation of the chain with that value or a greater one
+-- what resolves a wait for a value: the first signal operation of the chain with that value or a
+-- greater one
 abbrev pub resolver : Plan → ℕ → ℕ → Option ℕ
 resolver p t v = find (λ e. nat_le v (value p e)) (chain p t)

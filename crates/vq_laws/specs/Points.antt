@@ -1,6 +1,6 @@
--- What the actors do with points, one atomic step at a time. Each point has one binary semaphore, and
--- carries one signal operation at a time. The construction is this project's own, over Vulkan 1.3,
--- "Semaphores" (binary and timeline).
+-- What the actors do with points, one atomic step at a time. Each point has one binary semaphore,
+-- and carries one signal operation at a time. The construction is this project's own, over Vulkan
+-- 1.3, "Semaphores" (binary and timeline).
 use Rattle.std.specs.Prelude.{ℕ, Bool, List, Option, false, [], None, length, filter, Some, nat_lt, nat_le, ◌||◌, if◌then◌else◌, ◌==◌, count_by, ◌&&◌, not, ◌≡◌, true, MatchBool, is_some, ◌<◌, ◌∷◌, ◌+◌, fold, ◌*◌, map, sum, ◌-◌}
 use Rattle.std.specs.List.{range_with_len, list_all, list_any, slice_get, filter_map}
 use Rattle.std.specs.Option.{option_map_or, option_to_list}
@@ -67,7 +67,8 @@ opening_points p =
 -- Actors and their jobs
 
 abbrev pub jobs_of_lane : Plan → Lane → List ℕ
-jobs_of_lane p lane = filter (λ j. of_job (λ x. same_lane lane x.lane) false p j) (range_with_len 0 (length p.jobs))
+jobs_of_lane p lane =
+    filter (λ j. of_job (λ x. same_lane lane x.lane) false p j) (range_with_len 0 (length p.jobs))
 
 abbrev pub lane_of_actor : ActorName → Option Lane
 lane_of_actor HostActor = Some HostLane
@@ -76,7 +77,9 @@ lane_of_actor (SubmitActor q) = None
 
 -- the first job of an actor's lane that isn't finished; a submit actor has none
 abbrev pub next_job : Plan → PointState → ActorName → Option ℕ
-next_job p w a = option_map_or (λ lane. next w.machine.progress.finished (jobs_of_lane p lane)) (lane_of_actor a) None
+next_job p w a =
+    option_map_or (λ lane. next w.machine.progress.finished (jobs_of_lane p lane))
+    (lane_of_actor a) None
 
 -- the jobs written before a job
 abbrev pub written_before : Plan → ℕ → List ℕ
@@ -86,11 +89,13 @@ written_before p j = range_with_len 0 j
 abbrev pub earlier_in_queue : Plan → ℕ → List ℕ
 earlier_in_queue p j = of_job (λ x. filter (λ i. nat_lt i j) (jobs_of_lane p x.lane)) [] p j
 
--- each need above its chain's initial value has its resolver bound; it isn't asked where a job waits for any
+-- each need above its chain's initial value has its resolver bound; it isn't asked where a job
+-- waits for any
 abbrev pub are_needs_pending : Plan → PointState → ℕ → Bool
 are_needs_pending p w j =
     waits_for_any p j
-    || list_all (λ n. nat_le n.value (initial p n.chain) || option_map_or w.bound (resolver p n.chain n.value) false) (needs p j)
+    || list_all (λ n. nat_le n.value (initial p n.chain)
+    || option_map_or w.bound (resolver p n.chain n.value) false) (needs p j)
 
 -- a released batch, or a started host step
 abbrev pub may_bind : Plan → PointState → ℕ → Bool
@@ -104,9 +109,11 @@ resolves p e n = option_map_or (λ r. r == e) (resolver p n.chain n.value) false
 abbrev pub needs_resolved : Plan → ℕ → ℕ → ℕ
 needs_resolved p j e = count_by (resolves p e) (needs p j)
 
--- the needs that a job waits for now: before its start those from the first place on, after it those from later ones
+-- the needs that a job waits for now: before its start those from the first place on, after it
+-- those from later ones
 abbrev pub needs_now : Plan → PointState → ℕ → List Need
-needs_now p w j = if w.machine.progress.started j then filter (λ n. nat_lt 1 n.from) (needs p j) else needs_at p j (At 1)
+needs_now p w j = if w.machine.progress.started j then filter (λ n. nat_lt 1 n.from) (needs p j)
+    else needs_at p j (At 1)
 
 abbrev pub count_of : List ℕ → ℕ → ℕ
 count_of xs x = count_by (λ y. y == x) xs
@@ -129,7 +136,8 @@ is_pending w e = w.bound e && not (w.past e)
 pub record CanSubmit (p : Plan) (w : PointState) (j : ℕ) : Type 0 where
   pub batch : is_batch p j ≡ true
   pub waiting : w.submitted j ≡ false
-  pub in_order : list_all (λ i. if is_host_step p i then w.machine.progress.finished i else w.submitted i) (written_before p j) ≡ true
+  pub in_order : list_all (λ i. if is_host_step p i then w.machine.progress.finished i
+      else w.submitted i) (written_before p j) ≡ true
 
 -- A point is made only where none is free; else the one freed last is used again.
 pub record CanTake (p : Plan) (w : PointState) (e q : ℕ) (fresh : Bool) : Type 0 where
@@ -138,11 +146,15 @@ pub record CanTake (p : Plan) (w : PointState) (e q : ℕ) (fresh : Bool) : Type
   pub chain : ℕ
   pub in_chain : chain_of p e ≡ Some chain
   pub without : w.point_of e ≡ None
-  pub in_turn : (if is_host_step p job then w.machine.progress.started job else w.submitted job && not (w.released job) && list_all w.released (earlier_in_queue p job) && are_needs_pending p w job) ≡ true
-  pub point : MatchBool fresh ((w.free chain ≡ []) × (q ≡ w.points)) (slice_get (w.free chain) 0 ≡ Some q)
+  pub in_turn : (if is_host_step p job then w.machine.progress.started job
+      else w.submitted job && not (w.released job) && list_all w.released (earlier_in_queue p job)
+      && are_needs_pending p w job) ≡ true
+  pub point : MatchBool fresh ((w.free chain ≡ [])
+      × (q ≡ w.points)) (slice_get (w.free chain) 0 ≡ Some q)
 
--- A batch is held back until each of its waits has a signal that is pending. This is the project's own: Vulkan's timelines may
--- be waited for before their signal is submitted, and what stands below them here can't.
+-- A batch is held back until each of its waits has a signal that is pending. This is the project's
+-- own: Vulkan's timelines may be waited for before their signal is submitted, and what stands below
+-- them here can't.
 pub record CanRelease (p : Plan) (w : PointState) (j : ℕ) : Type 0 where
   pub batch : is_batch p j ≡ true
   pub submitted : w.submitted j ≡ true
@@ -193,17 +205,20 @@ pub record CanFree (w : PointState) (q : ℕ) : Type 0 where
   pub waiting : w.waiting q ≡ true
   pub unreferenced : list_any (λ r. r.point == q) w.held ≡ false
 
--- A job starts after the one before it in its lane, when its first waits are reached. That the host step before a batch is
--- finished isn't asked: it was when the batch was submitted.
+-- A job starts after the one before it in its lane, when its first waits are reached. That the host
+-- step before a batch is finished isn't asked: it was when the batch was submitted.
 pub record CanStartNow (p : Plan) (w : PointState) (j : ℕ) : Type 0 where
   pub exists : j < length p.jobs
   pub waiting : w.machine.progress.started j ≡ false
   pub lane : list_all w.machine.progress.finished (option_to_list (previous p j)) ≡ true
   pub ready : are_reached p w.machine.progress.payload j (At 1) ≡ true
   pub idle : list_all w.machine.progress.finished (idle_after p j) ≡ true
-  pub released : (if is_host_step p j then list_all (λ i. is_host_step p i || w.submitted i) (written_before p j) else w.released j) ≡ true
+  pub released : (if is_host_step p j
+      then list_all (λ i. is_host_step p i || w.submitted i) (written_before p j)
+      else w.released j) ≡ true
 
--- The operation is its job's next one, and bound. That it sets a greater payload isn't asked: in a lawful plan it does.
+-- The operation is its job's next one, and bound. That it sets a greater payload isn't asked: in a
+-- lawful plan it does.
 pub record CanSignalNow (p : Plan) (w : PointState) (e : ℕ) : Type 0 where
   pub job : ℕ
   pub chain : ℕ
@@ -221,7 +236,8 @@ actor_of_lane (QueueLane q) = RingActor q
 
 pub record CanFinishNow (p : Plan) (w : PointState) (j : ℕ) : Type 0 where
   pub step : CanStep p w.machine (FinishStep j)
-  pub unreferring : list_any (λ r. of_job (λ x. same_actor (actor_of_lane x.lane) r.actor) false p j) w.held ≡ false
+  pub unreferring : list_any
+      (λ r. of_job (λ x. same_actor (actor_of_lane x.lane) r.actor) false p j) w.held ≡ false
 
 abbrev pub CanCome : Plan → PointState → Event → Type 0
 CanCome p w (Submit j) = CanSubmit p w j
@@ -259,19 +275,32 @@ after_event p w (Take e q fresh) =
       point_of = put w.point_of e (Some q);
       carried = put w.carried q (Some e);
       points = if fresh then w.points + 1 else w.points;
-      free = if fresh then w.free else at_option {A = ℕ → List ℕ} (λ t f. put f t (filter (λ r. not (r == q)) (f t))) (chain_of p e) w.free;
+      free = if fresh then w.free
+          else at_option {A = ℕ →
+          List ℕ} (λ t f. put f t (filter (λ r. not (r == q)) (f t))) (chain_of p e) w.free;
     }
 after_event p w (Release j) = record w { released = put w.released j true }
 after_event p w (Bind e q) = record w { bound = put w.bound e true }
-after_event p w (Refer a q e) = record w { held = record { actor = a; point = q; op = e } ∷ w.held; referred = with_note w.referred (next_job p w a) e }
+after_event p w (Refer a q e) =
+    record w {
+      held = record { actor = a; point = q; op = e } ∷ w.held;
+      referred = with_note w.referred
+          (next_job p w a) e;
+    }
 after_event p w (Look a q e) = record w { looked = with_note w.looked (next_job p w a) e }
 after_event p w (Unref a q e) = record w { held = without_first (is_reference a q e) w.held }
-after_event p w (Complete e) = record w { past = put w.past e true; waiting = at_option {A = ℕ → Bool} (λ q f. put f q true) (w.point_of e) w.waiting }
+after_event p w (Complete e) =
+    record w {
+      past = put w.past e true;
+      waiting = at_option {A = ℕ →
+          Bool} (λ q f. put f q true) (w.point_of e) w.waiting;
+    }
 after_event p w (Free q) =
     record w {
       waiting = put w.waiting q false;
       carried = put w.carried q None;
-      free = at_option {A = ℕ → List ℕ} (λ t f. put f t (q ∷ f t)) (option_map_or (chain_of p) (w.carried q) None) w.free;
+      free = at_option {A = ℕ →
+          List ℕ} (λ t f. put f t (q ∷ f t)) (option_map_or (chain_of p) (w.carried q) None) w.free;
     }
 after_event p w (Starts j) = record w { machine = after_step p w.machine (StartStep j) }
 after_event p w (Applies j c) = record w { machine = after_step p w.machine (ApplyStep c) }
@@ -302,10 +331,12 @@ step_of other = None
 abbrev pub steps_of : List Event → List Step
 steps_of events = filter_map step_of events
 
--- A bound on the events of a history: each job is submitted, released, started and finished, or started, answered and finished;
--- each operation is taken, bound, signaled, completed and freed; each need is referred, looked at and given back.
+-- A bound on the events of a history: each job is submitted, released, started and finished, or
+-- started, answered and finished; each operation is taken, bound, signaled, completed and freed;
+-- each need is referred, looked at and given back.
 abbrev pub acts : Plan → ℕ
-acts p = 4 * length p.jobs + length p.commands + 5 * length p.ops + 3 * sum (map (λ x. length x.needs) p.jobs)
+acts p = 4 * length p.jobs + length p.commands + 5 * length p.ops + 3 * sum
+    (map (λ x. length x.needs) p.jobs)
 
 -- how many events may still come
 abbrev pub acts_left : Plan → List Event → ℕ

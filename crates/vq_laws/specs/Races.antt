@@ -11,7 +11,9 @@ use Rattle.vq_laws.specs.Sure.{KeepsChains}
 
 -- whether two commands of a plan conflict
 abbrev pub conflicts : Plan → ℕ → ℕ → Bool
-conflicts p c d = list_any (λ x. list_any (conflict p.sizes x) (option_to_list (command_at p d))) (option_to_list (command_at p c))
+conflicts p c d =
+    list_any (λ x. list_any (conflict p.sizes x) (option_to_list (command_at p d)))
+    (option_to_list (command_at p c))
 
 -- commands of two jobs that conflict, neither before the other
 pub record IsRace (p : Plan) (c d : ℕ) : Type 0 where
@@ -26,9 +28,11 @@ pub record IsRace (p : Plan) (c d : ℕ) : Type 0 where
 
 -- conflicting commands of two jobs are ordered
 abbrev pub HasNoRace : Plan → Type 0
-HasNoRace p = (c d i j : ℕ) → has (commands_of p i) c ≡ true → has (commands_of p j) d ≡ true → i ≢ j → conflicts p c d ≡ true → HappensBeforeCommand p i j d ⊎ HappensBeforeCommand p j i c
+HasNoRace p = (c d i j : ℕ) → has (commands_of p i) c ≡ true → has (commands_of p j) d ≡ true →
+    i ≢ j → conflicts p c d ≡ true → HappensBeforeCommand p i j d ⊎ HappensBeforeCommand p j i c
 
--- What the laws on runs need of a plan: the slow run does each job, chains rise in a sure order, and there is no race.
+-- What the laws on runs need of a plan: the slow run does each job, chains rise in a sure order,
+-- and there is no race.
 pub record HasSureOrder (p : Plan) : Type 0 where
   pub reachable : left_over p ≡ []
   pub chains : KeepsChains p

@@ -15,14 +15,16 @@ pub record Range : Type 0 where
   pub start : ℕ
   pub size : ℕ
 
--- how many bytes a fill writes; with the whole size the rest of the buffer, rounded down to a multiple of 4
+-- how many bytes a fill writes; with the whole size the rest of the buffer, rounded down to a
+-- multiple of 4
 abbrev pub fill_size : FillSize → ℕ → ℕ → ℕ
 fill_size Whole offset size = (size - offset) / 4 * 4
 fill_size (Count n) offset size = n
 
 -- what a command writes, in buffers of these sizes
 abbrev pub written_range : List ℕ → Command → Range
-written_range sizes (Fill b o size w) = record { buffer = b; start = o; size = fill_size size o (slice_index_or sizes b 0) }
+written_range sizes (Fill b o size w) =
+    record { buffer = b; start = o; size = fill_size size o (slice_index_or sizes b 0) }
 written_range sizes (Update b o bytes) = record { buffer = b; start = o; size = length bytes }
 written_range sizes (Copy s so t to n) = record { buffer = t; start = to; size = n }
 
@@ -33,7 +35,9 @@ read_range other = None
 
 -- two ranges have a byte in common
 abbrev pub share : Range → Range → Bool
-share r s = (r.buffer == s.buffer) && nat_lt (max r.start s.start) (min (r.start + r.size) (s.start + s.size))
+share r s =
+    (r.buffer == s.buffer)
+    && nat_lt (max r.start s.start) (min (r.start + r.size) (s.start + s.size))
 
 -- whether a command reads a byte that it writes
 abbrev pub overlaps_itself : List ℕ → Command → Bool
@@ -43,9 +47,8 @@ overlaps_itself sizes c = option_map_or (share (written_range sizes c)) (read_ra
 abbrev pub is_aligned : ℕ → Bool
 is_aligned n = n % 4 == 0
 
--- A fill and an update begin at a multiple of 4, and the number of their bytes is one too; a copy may stand anywhere.
--- (VUID-vkCmdFillBuffer-dstOffset-00025, VUID-vkCmdFillBuffer-size-00028, VUID-vkCmdUpdateBuffer-dstOffset-00036,
--- VUID-vkCmdUpdateBuffer-dataSize-00038)
+-- A fill and an update begin at a multiple of 4, and the number of their bytes is one too; a copy
+-- may stand anywhere. (Vulkan 1.3, vkCmdFillBuffer, vkCmdUpdateBuffer)
 abbrev pub is_aligned_command : Command → Bool
 is_aligned_command (Fill b o Whole w) = is_aligned o
 is_aligned_command (Fill b o (Count n) w) = is_aligned o && is_aligned n
@@ -57,9 +60,10 @@ pub record IsWithin (sizes : List ℕ) (r : Range) : Type 0 where
   pub exists : r.buffer < length sizes
   pub ends : r.start + r.size ≤ slice_index_or sizes r.buffer 0
 
--- A command fits: its ranges lie in their buffers, the multiples of 4 hold, and a copy doesn't overlap itself. A size of 0,
--- an update of any length, and a fill of the rest of a buffer from its very end on fit too: that these can't be written in
--- a script is a matter of the script's lines, which ask for more.
+-- A command fits: its ranges lie in their buffers, the multiples of 4 hold, and a copy doesn't
+-- overlap itself. A size of 0, an update of any length, and a fill of the rest of a buffer from its
+-- very end on fit too: that these can't be written in a script is a matter of the script's lines,
+-- which ask for more.
 pub record Fits (sizes : List ℕ) (c : Command) : Type 0 where
   pub written : IsWithin sizes (written_range sizes c)
   pub read : IfSome (read_range c) (IsWithin sizes)

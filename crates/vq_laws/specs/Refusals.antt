@@ -15,7 +15,9 @@ at_line fault n = codes "error: " ++ fault ++ codes ": line " ++ decimal n ++ li
 
 -- a fault at two lines
 abbrev pub at_lines : List ℕ → ℕ → ℕ → List ℕ
-at_lines fault a b = codes "error: " ++ fault ++ codes ": lines " ++ decimal a ++ codes " and " ++ decimal b ++ line_feed
+at_lines fault a b =
+    codes "error: " ++ fault ++ codes ": lines " ++ decimal a ++ codes " and " ++ decimal b
+    ++ line_feed
 
 -- want of memory writes nothing
 abbrev pub plan_refusal : PlanFault → List ℕ

@@ -44,7 +44,8 @@ abbrev pub of_mark : ℕ → Mark → Signaling
 of_mark j m = record { job = j; line = m.line; semaphore = m.semaphore; value = m.value }
 
 abbrev pub step_signals : ℕ → ℕ → HostStep → List Signaling
-step_signals j line (Signal pair) = record { job = j; line = line; semaphore = pair.semaphore; value = pair.value } ∷ []
+step_signals j line (Signal pair) =
+    record { job = j; line = line; semaphore = pair.semaphore; value = pair.value } ∷ []
 step_signals j line other = []
 
 -- the signals of a job, in the order of its lines
@@ -63,7 +64,8 @@ signals_semaphore t x = x.semaphore == t
 -- the value of a signal after others: the k-th signal of a binary semaphore or a fence is value k
 abbrev pub signal_value : Script → List Signaling → Signaling → ℕ
 signal_value s earlier x =
-    if is_timeline_at s x.semaphore then x.value else count_by (signals_semaphore x.semaphore) earlier + 1
+    if is_timeline_at s x.semaphore then x.value
+    else count_by (signals_semaphore x.semaphore) earlier + 1
 
 abbrev pub values_from : Script → List Signaling → List Signaling → List ℕ
 values_from s earlier [] = []
@@ -80,12 +82,15 @@ value_at s e = option_map_or (λ v. v) (slice_get (values s) e) 0
 -- an operation among others that are in the order of their values: behind those of the same value
 abbrev pub insert_op : Script → ℕ → List ℕ → List ℕ
 insert_op s e [] = e ∷ []
-insert_op s e (f ∷ fs) = if nat_le (value_at s f) (value_at s e) then f ∷ insert_op s e fs else e ∷ f ∷ fs
+insert_op s e (f ∷ fs) = if nat_le (value_at s f) (value_at s e) then f ∷ insert_op s e fs
+    else e ∷ f ∷ fs
 
 -- the operations of a chain, by value and then by line
 abbrev pub chain_ops : Script → ℕ → List ℕ
 chain_ops s t =
-    fold (λ ops e. insert_op s e ops) [] (filter (λ e. option_map_or (signals_semaphore t) (slice_get (all_signals s) e) false) (range_with_len 0 (length (all_signals s))))
+    fold (λ ops e. insert_op s e ops) []
+    (filter (λ e. option_map_or (signals_semaphore t) (slice_get (all_signals s) e) false)
+    (range_with_len 0 (length (all_signals s))))
 
 abbrev pub op_at : Script → ℕ × Signaling → Op
 op_at s (e, x) =

@@ -1,5 +1,5 @@
--- The slow run: again and again the lowest job that can be done is done whole. What it leaves in the
--- buffers is what a script means. This project's own.
+-- The slow run: again and again the lowest job that can be done is done whole. What it leaves in
+-- the buffers is what a script means. This project's own.
 use Rattle.std.specs.Prelude.{ℕ, max, List, fold, Bool, false, map, filter, not, ◌&&◌, length, find, Option, zero, suc, [], ◌∷◌, ◌++◌, ◌≡◌}
 use Rattle.std.specs.Option.{option_map_or}
 use Rattle.std.specs.List.{range_with_len, filter_map, flat_map}
@@ -28,7 +28,8 @@ payload_after p done t = greatest (initial p t) (map (value p) (filter (is_of p 
 -- whether a job isn't done, and can be done whole: it can start, and all its needs are reached
 abbrev pub is_ready : Plan → List ℕ → ℕ → Bool
 is_ready p done j =
-    not (has done j) && can_start p (has done) (payload_after p done) j && are_reached p (payload_after p done) j AtEnd
+    not (has done j) && can_start p (has done) (payload_after p done) j
+    && are_reached p (payload_after p done) j AtEnd
 
 abbrev pub lowest_ready : Plan → List ℕ → Option ℕ
 lowest_ready p done = find (is_ready p done) (range_with_len 0 (length p.jobs))
@@ -36,7 +37,8 @@ lowest_ready p done = find (is_ready p done) (range_with_len 0 (length p.jobs))
 -- so many times, the lowest job that can be done whole is done
 abbrev pub slow_from : ℕ → Plan → List ℕ → List ℕ
 slow_from zero p done = done
-slow_from (suc n) p done = option_map_or (λ j. slow_from n p (done ++ j ∷ [])) (lowest_ready p done) done
+slow_from (suc n) p done =
+    option_map_or (λ j. slow_from n p (done ++ j ∷ [])) (lowest_ready p done) done
 
 -- the jobs that a slow run does, in its order
 abbrev pub slow_order : Plan → List ℕ
@@ -49,7 +51,9 @@ left_over p = filter (λ j. not (has (slow_order p) j)) (range_with_len 0 (lengt
 -- the steps of jobs, one after another, each job whole
 abbrev pub steps_of_jobs : Plan → List ℕ → List Step
 steps_of_jobs p [] = []
-steps_of_jobs p (j ∷ js) = StartStep j ∷ (map ApplyStep (commands_of p j) ++ (map SignalStep (signals_of p j) ++ (FinishStep j ∷ steps_of_jobs p js)))
+steps_of_jobs p (j ∷ js) =
+    StartStep j ∷ (map ApplyStep (commands_of p j)
+    ++ (map SignalStep (signals_of p j) ++ (FinishStep j ∷ steps_of_jobs p js)))
 
 -- The final bytes
 
@@ -70,4 +74,5 @@ final p = bytes_after p (flat_map (commands_of p) (slow_order p))
 -- One result: every finished run leaves the bytes of the slow run.
 abbrev pub HasOneResult : Plan → Type 0
 HasOneResult p =
-    (steps : List Step) → Run p steps → IsFinished p (state_after p steps) → bytes_after p (state_after p steps).progress.applied ≡ final p
+    (steps : List Step) → Run p steps → IsFinished p (state_after p steps) →
+    bytes_after p (state_after p steps).progress.applied ≡ final p

@@ -23,8 +23,9 @@ pub record IsWaitedFor (p : Plan) (e j : ℕ) (k : Place) : Type 0 where
   pub waits : has (awaited_at p j k) by_op ≡ true
   pub earlier : comes_earlier p job j ≡ true
 
--- A signal operation is sure to be made before a job comes to a place. A job that waits for a batch's first signal may run
--- before the batch's second one is made: so happens-before alone doesn't order signals.
+-- A signal operation is sure to be made before a job comes to a place. A job that waits for a
+-- batch's first signal may run before the batch's second one is made: so happens-before alone
+-- doesn't order signals.
 pub data IsSureAt (p : Plan) (e : ℕ) : ℕ → Place → Type 0 where
   finished_first : {j : ℕ} {k : Place} → IsFinishedFirst p e j → IsSureAt p e j k
   waited_for : {j : ℕ} {k : Place} → IsWaitedFor p e j k → IsSureAt p e j k
@@ -40,13 +41,15 @@ IsSure p e j = IsSureAt p e j AtEnd
 abbrev pub IsSureForJobOf : Plan → ℕ → ℕ → Type 0
 IsSureForJobOf p e f = (j : ℕ) × (job_of p f ≡ Some j) × IsSure p e j
 
--- from an operation on, the values of a chain rise, and each operation is sure for the job of the next
+-- from an operation on, the values of a chain rise, and each operation is sure for the job of the
+-- next
 abbrev pub KeepsRising : Plan → ℕ → List ℕ → Type 0
 KeepsRising p e [] = Unit {0}
 KeepsRising p e (f ∷ fs) = (value p e < value p f) × IsSureForJobOf p e f × KeepsRising p f fs
 
 -- The values of a chain rise from its initial value on, in an order that the plan makes sure.
--- (Vulkan 1.3, VUID-VkSubmitInfo-pSignalSemaphores-03242: a signal's value is greater than the payload when it executes)
+-- (Vulkan 1.3, "Semaphore Signaling": a signal's value is greater than the payload when it
+-- executes)
 abbrev pub RisesFrom : Plan → ℕ → List ℕ → Type 0
 RisesFrom p n [] = Unit {0}
 RisesFrom p n (e ∷ es) = (n < value p e) × KeepsRising p e es

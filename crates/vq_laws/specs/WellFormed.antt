@@ -14,10 +14,12 @@ AreRising (x ∷ xs) = ((y : ℕ) → has xs y ≡ true → x < y) × AreRising 
 -- operations by value, and those of one value by line
 abbrev pub AreInOrder : Plan → List ℕ → Type 0
 AreInOrder p [] = Unit {0}
-AreInOrder p (e ∷ es) = ((f : ℕ) → has es f ≡ true → (value p e < value p f) ⊎ ((value p e ≡ value p f) × (e < f))) × AreInOrder p es
+AreInOrder p (e ∷ es) =
+    ((f : ℕ) → has es f ≡ true → (value p e < value p f) ⊎ ((value p e ≡ value p f) × (e < f)))
+    × AreInOrder p es
 
--- What the plan of a script keeps: each operation stands in its chain and among its job's signals, and each command is of
--- one job and fits its buffers.
+-- What the plan of a script keeps: each operation stands in its chain and among its job's signals,
+-- and each command is of one job and fits its buffers.
 pub record IsWellFormed (p : Plan) : Type 0 where
   pub in_chain : (e t : ℕ) → chain_of p e ≡ Some t → has (chain p t) e ≡ true
   pub of_chain : (e t : ℕ) → has (chain p t) e ≡ true → chain_of p e ≡ Some t
@@ -33,13 +35,18 @@ pub record IsWellFormed (p : Plan) : Type 0 where
   pub waits_for_all : (j : ℕ) → is_host_step p j ≡ false → waits_for_any p j ≡ false
   -- all needs of a host step hold back its start
   pub host_waits : (j : ℕ) → is_host_step p j ≡ true → waits_at_start p j ≡ true
-  pub one_job : (c i j : ℕ) → has (commands_of p i) c ≡ true → has (commands_of p j) c ≡ true → i ≡ j
-  pub fits : (c j : ℕ) → has (commands_of p j) c ≡ true → (x : Command) × (command_at p c ≡ Some x) × Fits p.sizes x
+  pub one_job : (c i j : ℕ) → has (commands_of p i) c ≡ true → has (commands_of p j) c ≡ true →
+      i ≡ j
+  pub fits : (c j : ℕ) → has (commands_of p j) c ≡ true →
+      (x : Command) × (command_at p c ≡ Some x) × Fits p.sizes x
 
--- What every plan keeps of host steps: a question is a host step's, which signals nothing, and the host's steps run one
--- after another.
+-- What every plan keeps of host steps: a question is a host step's, which signals nothing, and the
+-- host's steps run one after another.
 pub record KeepsHostOrder (p : Plan) : Type 0 where
-  pub asks : (j : ℕ) → is_silent (question p j) ≡ false → (is_host_step p j ≡ true) × (signals_of p j ≡ [])
+  pub asks : (j : ℕ) → is_silent (question p j) ≡ false →
+      (is_host_step p j ≡ true) × (signals_of p j ≡ [])
   -- only a batch waits for the host step before it
-  pub before_batch : (i j : ℕ) → host_before p j ≡ Some i → (i < j) × (is_host_step p i ≡ true) × (is_host_step p j ≡ false)
-  pub lane : (i j : ℕ) → i < j → is_host_step p i ≡ true → is_host_step p j ≡ true → (q : ℕ) × (i ≤ q) × (q < j) × (is_host_step p q ≡ true) × (has (must_finish p j) q ≡ true)
+  pub before_batch : (i j : ℕ) → host_before p j ≡ Some i →
+      (i < j) × (is_host_step p i ≡ true) × (is_host_step p j ≡ false)
+  pub lane : (i j : ℕ) → i < j → is_host_step p i ≡ true → is_host_step p j ≡ true →
+      (q : ℕ) × (i ≤ q) × (q < j) × (is_host_step p q ≡ true) × (has (must_finish p j) q ≡ true)

@@ -29,8 +29,10 @@ pub record IsGreatest (P : ℕ → Type 0) (n : ℕ) : Type 0 where
   pub holds : P n
   pub greatest : (m : ℕ) → P m → m ≤ n
 
--- What is made with an operation: itself, the earlier signals of its job, and all that is sure for that job.
+-- What is made with an operation: itself, the earlier signals of its job, and all that is sure for
+-- that job.
 pub data IsMadeWith (p : Plan) (e : ℕ) : ℕ → Type 0 where
   itself : IsMadeWith p e e
-  signaled_earlier : {f j : ℕ} → job_of p e ≡ Some j → job_of p f ≡ Some j → f < e → IsMadeWith p e f
+  signaled_earlier : {f j : ℕ} → job_of p e ≡ Some j → job_of p f ≡ Some j → f < e →
+      IsMadeWith p e f
   sure : {f j : ℕ} → job_of p e ≡ Some j → IsSure p f j → IsMadeWith p e f

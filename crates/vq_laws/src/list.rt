@@ -3,7 +3,7 @@ ghost use Rattle.std.specs.Prelude.{◌≡◌, length, string_bytes};
 
 use std::marker::Model;
 
-/// A list of items.
+/// A list of items. Source: this project's own.
 #[derive(Drop)]
 pub struct List<T> {
     items: Vec<T>,
@@ -18,12 +18,14 @@ impl<T> Model for List<T> {
 }
 
 impl<T> List<T> {
+    /// A list of these items. It takes no memory.
     pub fn of(items: Vec<T>) -> List<T>
         ensures { result ≡ items.items }
     {
         List { items }
     }
 
+    /// The items, in order.
     pub fn as_slice(&self) -> &[T]
         ensures { result.now ≡ self.now }
     {
@@ -31,7 +33,7 @@ impl<T> List<T> {
     }
 }
 
-/// The bytes of a name.
+/// The bytes of a name. Source: this project's own.
 #[derive(Drop)]
 pub struct Name {
     text: String,
@@ -46,12 +48,14 @@ impl Model for Name {
 }
 
 impl Name {
+    /// A name with the bytes of this text. It takes no memory.
     pub fn of(text: String) -> Name
         ensures { result ≡ string_bytes text }
     {
         Name { text }
     }
 
+    /// The bytes of the name.
     pub fn as_slice(&self) -> &[u8]
         ensures { result.now ≡ self.now }
     {
@@ -59,7 +63,7 @@ impl Name {
     }
 }
 
-/// Bytes, as an update writes them.
+/// Bytes that a command writes. Source: this project's own.
 #[derive(Drop)]
 pub struct Bytes {
     items: Vec<u8>,
@@ -74,12 +78,14 @@ impl Model for Bytes {
 }
 
 impl Bytes {
+    /// These bytes. It takes no memory.
     pub fn of(items: Vec<u8>) -> Bytes
         ensures { result ≡ items.items }
     {
         Bytes { items }
     }
 
+    /// The bytes, in order.
     pub fn as_slice(&self) -> &[u8]
         ensures { result.now ≡ self.now }
     {

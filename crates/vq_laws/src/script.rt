@@ -1,20 +1,29 @@
-//! A script as data: what its text declares and submits.
+//! A script as data: what its text declares and submits. Lines are counted from 1; buffers,
+//! semaphores, queues and jobs from 0, in the order of the text.
 use crate::list::{Bytes, List, Name};
 
+/// A buffer of this many zero bytes. Source: Vulkan 1.3, "Buffers".
 #[derive(Drop)]
 pub struct Buffer {
     pub line: u32,
     pub name: Name,
+    /// In bytes, from 1.
     pub size: u32,
 }
 
+/// What a name of a semaphore or a fence stands for. Source: Vulkan 1.3, "Semaphores" and "Fences".
 #[derive(Clone, Copy, Debug, PartialEq, Eq)]
 pub enum SemaphoreKind {
+    /// A timeline semaphore with this initial payload.
     Timeline(u64),
+    /// A binary semaphore, unsignaled.
     Binary,
+    /// A fence, unsignaled.
     Fence,
 }
 
+/// A timeline semaphore, a binary semaphore or a fence.
+/// Source: Vulkan 1.3, "Semaphores" and "Fences".
 #[derive(Drop)]
 pub struct Semaphore {
     pub line: u32,
@@ -22,13 +31,19 @@ pub struct Semaphore {
     pub kind: SemaphoreKind,
 }
 
+/// How a queue is submitted to. Source: this project's own.
 #[derive(Clone, Copy, Debug, PartialEq, Eq)]
 pub enum Mode {
+    /// By the host, which hands each batch to the device at once.
     Immediate,
+    /// By the host, which holds batches back.
     Deferred,
+    /// By a thread of the queue's own.
     Threaded,
 }
 
+/// A queue. Its batches run one after another. Source: Vulkan 1.3, "Queues"; that batches of a queue
+/// don't overlap is this project's own.
 #[derive(Drop)]
 pub struct Queue {
     pub line: u32,
@@ -36,34 +51,51 @@ pub struct Queue {
     pub mode: Mode,
 }
 
+/// A timeline semaphore and a value of its payload.
+/// Source: Vulkan 1.3, vkWaitSemaphores and vkSignalSemaphore.
 #[derive(Clone, Copy, Debug, PartialEq, Eq)]
 pub struct Pair {
     pub semaphore: u32,
     pub value: u64,
 }
 
+/// What the host does between submissions.
+/// Source: Vulkan 1.3, "Host Operations on Semaphores", "Fences", vkDeviceWaitIdle.
 #[derive(Drop)]
 pub enum HostStep {
+    /// Signals a timeline semaphore.
     Signal(Pair),
+    /// Waits until all pairs are reached.
     WaitAll(List<Pair>),
+    /// Waits until one pair is reached.
     WaitAny(List<Pair>),
+    /// Asks, without waiting, whether all pairs are reached.
     PollAll(List<Pair>),
+    /// Asks, without waiting, whether one pair is reached.
     PollAny(List<Pair>),
+    /// Reads the payload of a timeline semaphore.
     Read(u32),
+    /// Waits for a fence.
     FenceWait(u32),
+    /// Asks, without waiting, whether a fence is signaled.
     FencePoll(u32),
+    /// Resets a fence.
     FenceReset(u32),
+    /// Waits until each batch submitted before is complete.
     Idle,
 }
 
+/// A host step with its line.
 #[derive(Drop)]
 pub struct HostLine {
     pub line: u32,
     pub step: HostStep,
 }
 
-/// A wait or a signal of a batch. A wait holds back the batch's commands from this place on, counted from 1; for a signal it
-/// is 1.
+/// A wait or a signal of a batch, or the fence that it names. The value is 0 for a binary semaphore
+/// or a fence. A wait holds back the batch's commands from the place `from` on, counted from 1; for
+/// a signal and a fence it is 1. Source: Vulkan 1.3, VkSubmitInfo and VkTimelineSemaphoreSubmitInfo;
+/// places of waits are this project's own.
 #[derive(Clone, Copy, Debug, PartialEq, Eq)]
 pub struct Mark {
     pub line: u32,
@@ -72,25 +104,33 @@ pub struct Mark {
     pub from: u32,
 }
 
+/// How many bytes a fill writes. Source: Vulkan 1.3, vkCmdFillBuffer.
 #[derive(Clone, Copy, Debug, PartialEq, Eq)]
 pub enum FillSize {
+    /// The rest of the buffer, rounded down to a multiple of 4.
     Whole,
+    /// This many bytes, a multiple of 4.
     Count(u32),
 }
 
+/// A transfer command. Offsets and sizes are in bytes.
+/// Source: Vulkan 1.3, "Clear Commands" and "Copy Commands".
 #[derive(Drop)]
 pub enum Command {
+    /// Writes a word again and again, its least significant byte first.
     Fill {
         buffer: u32,
         offset: u32,
         size: FillSize,
         word: u32,
     },
+    /// Writes these bytes.
     Update {
         buffer: u32,
         offset: u32,
         bytes: Bytes,
     },
+    /// Writes what stands elsewhere.
     Copy {
         source: u32,
         source_offset: u32,
@@ -100,12 +140,15 @@ pub enum Command {
     },
 }
 
+/// A command with its line.
 #[derive(Drop)]
 pub struct CommandLine {
     pub line: u32,
     pub command: Command,
 }
 
+/// A batch that is submitted to a queue: its commands come after its waits, and its signals after
+/// its commands. Source: Vulkan 1.3, "Queue Submission".
 #[derive(Drop)]
 pub struct Batch {
     pub line: u32,
@@ -116,32 +159,40 @@ pub struct Batch {
     pub fence: Option<Mark>,
 }
 
+/// A host step or a batch.
 #[derive(Drop)]
 pub enum Job {
     Host(HostLine),
     Batch(Batch),
 }
 
+/// Who takes a turn. Source: this project's own.
 #[derive(Clone, Copy, Debug, PartialEq, Eq)]
 pub enum ActorName {
     Host,
+    /// The submitting thread of a threaded queue.
     Submit(u32),
+    /// The device's side of a queue.
     Ring(u32),
 }
 
+/// One turn of a schedule. Source: this project's own.
 #[derive(Clone, Copy, Debug, PartialEq, Eq)]
 pub struct Turn {
     pub line: u32,
     pub actor: ActorName,
 }
 
+/// A script. Source: this project's own.
 #[derive(Drop)]
 pub struct Script {
+    /// 1, or 2 where the text begins with `version 2`.
     pub version: u32,
     pub buffers: List<Buffer>,
     pub semaphores: List<Semaphore>,
     pub queues: List<Queue>,
     pub jobs: List<Job>,
+    /// Whether a schedule follows.
     pub scheduled: bool,
     pub turns: List<Turn>,
 }
