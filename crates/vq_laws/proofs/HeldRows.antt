@@ -19,7 +19,7 @@ use Rattle.vq_laws.specs.Lowering.{batch_commands, plan_of, resets_fence}
 use Rattle.vq_laws.specs.ValidScripts.{IsValid, KeepsLimits}
 use Rattle.vq_laws.specs.Signals.{Signaling, all_signals, kind_of}
 use Rattle.vq_laws.specs.LoweringFaults.{lowering_fault}
-use Rattle.vq_laws.specs.Checks.{IsRaceAt, AreNeighbours, IsUnordered, too_low, equal, unsure, unsure_back, unawaited, NoLines, is_immediate_batch, IsFirstFault, IsLawful}
+use Rattle.vq_laws.specs.Checks.{IsRaceAt, AreNeighbours, IsUnordered, too_low, equal, unsure, unsure_back, unawaited, NoLines, is_immediate_batch, IsFirstPlanFault, IsLawful}
 use Rattle.vq_laws.specs.declared.script.CommandLine.{CommandLine}
 use Rattle.vq_laws.specs.declared.script.Job.{Job}
 use Rattle.std.proofs.lemmas.Bool.{false≢true}
@@ -253,7 +253,7 @@ end_held_least a b r =
     at_least e = omega arith
 
 -- the script's first fault
-end_held_fault : IsFirstFault end_held (Race 10 13)
+end_held_fault : IsFirstPlanFault end_held (Race 10 13)
 end_held_fault =
     (refl, held_ordered 3, (λ line b. held_no_reset 3 b.job b.fence b.effective.resets), (λ line b. held_not_immediate 3 b.job b.immediate), record { holds = end_held_race; least = end_held_least })
 

@@ -174,26 +174,27 @@ pub record IsLawful (p : Plan) : Type 0 where
   -- and from the faults of lowering; until that is proved it is asked.
   pub counted : (t : ℕ) → is_timeline_chain p t ≡ false → RisesFrom p (initial p t) (chain p t)
 
--- The faults are decided in the order of the rows, and the least line, or the least pair of lines,
--- is named. Want of memory may be answered at any place.
-abbrev pub IsFirstFault : Plan → OrderFault → Type 0
-IsFirstFault p (Unreachable n) = IsLeast (IsUnreachableAt p) n
-IsFirstFault p (Unordered a b) = (left_over p ≡ []) × IsLeastPair (IsUnordered p) a b
-IsFirstFault p (FenceBusy n) = (left_over p ≡ []) × NoLines (IsUnordered p)
+-- The first fault of a plan: the faults are decided in the order of the rows, and the least line, or
+-- the least pair of lines, is named. Want of memory is no fault of the plan.
+abbrev pub IsFirstPlanFault : Plan → OrderFault → Type 0
+IsFirstPlanFault p (Unreachable n) = IsLeast (IsUnreachableAt p) n
+IsFirstPlanFault p (Unordered a b) = (left_over p ≡ []) × IsLeastPair (IsUnordered p) a b
+IsFirstPlanFault p (FenceBusy n) = (left_over p ≡ []) × NoLines (IsUnordered p)
     × IsLeast (IsFenceBusyAt p) n
-IsFirstFault p (NotPending n) =
+IsFirstPlanFault p (NotPending n) =
     (left_over p ≡ []) × NoLines (IsUnordered p) × NoLine (IsFenceBusyAt p)
     × IsLeast (IsNotPendingAt p) n
-IsFirstFault p (Race a b) =
+IsFirstPlanFault p (Race a b) =
     (left_over p ≡ [])
     × NoLines (IsUnordered p)
     × NoLine (IsFenceBusyAt p)
     × NoLine (IsNotPendingAt p)
     × IsLeastPair (IsRaceAt p) a b
-IsFirstFault p Memory = Unit {0}
+IsFirstPlanFault p Memory = ⊥
 
 -- What a check of a plan answers: the plan exactly where it is lawful, else its first fault, or
 -- want of memory.
 abbrev pub Checks : Plan → Result Plan OrderFault → Type 0
 Checks p (Ok q) = (q ≡ p) × IsLawful p
-Checks p (Err f) = IsFirstFault p f
+Checks p (Err Memory) = Unit {0}
+Checks p (Err fault) = IsFirstPlanFault p fault

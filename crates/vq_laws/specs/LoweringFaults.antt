@@ -141,14 +141,19 @@ HasNoFaultyUse s = (front back : List UseLine) → (x : UseLine) → (k : Loweri
 
 -- What lowering answers
 
+-- The first fault of a script's lowering. Want of memory is no fault of the script.
+abbrev pub IsFirstLoweringFault : Script → PlanFault → Type 0
+IsFirstLoweringFault s (NoSignalAt n) = lowering_fault s ≡ Some (n, NoSignal)
+IsFirstLoweringFault s (SignaledTwiceAt n) = lowering_fault s ≡ Some (n, SignaledTwice)
+IsFirstLoweringFault s (FenceUsedAt n) = lowering_fault s ≡ Some (n, FenceUsed)
+IsFirstLoweringFault s Memory = ⊥
+
 -- What lowering a script answers: its plan exactly where there is no fault, else the first fault,
 -- or want of memory.
 abbrev pub Lowers : Script → Result Plan PlanFault → Type 0
 Lowers s (Ok p) = (lowering_fault s ≡ None) × (p ≡ plan_of s)
-Lowers s (Err (NoSignalAt n)) = lowering_fault s ≡ Some (n, NoSignal)
-Lowers s (Err (SignaledTwiceAt n)) = lowering_fault s ≡ Some (n, SignaledTwice)
-Lowers s (Err (FenceUsedAt n)) = lowering_fault s ≡ Some (n, FenceUsed)
 Lowers s (Err Memory) = Unit {0}
+Lowers s (Err fault) = IsFirstLoweringFault s fault
 
 -- A plan of a script: lowering a script that can be written gave it.
 pub record IsPlan (p : Plan) : Type 0 where
