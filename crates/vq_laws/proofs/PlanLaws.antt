@@ -28,12 +28,12 @@ use Rattle.vq_laws.proofs.Lists.{has_here, has_there, has_cases}
 
 -- Places in lists
 
-get-map : {X Y : Type 0} (f : X → Y) (xs : List X) (i : ℕ) → slice_get (map f xs) i ≡ option_map f (slice_get xs i)
+pub get-map : {X Y : Type 0} (f : X → Y) (xs : List X) (i : ℕ) → slice_get (map f xs) i ≡ option_map f (slice_get xs i)
 get-map f [] i = refl
 get-map f (x ∷ xs) zero = refl
 get-map f (x ∷ xs) (suc i) = get-map f xs i
 
-get-enumerate : {X : Type 0} (a : ℕ) (xs : List X) (i : ℕ) → slice_get (enumerate_from a xs) i ≡ option_map (λ x. (a + i, x)) (slice_get xs i)
+pub get-enumerate : {X : Type 0} (a : ℕ) (xs : List X) (i : ℕ) → slice_get (enumerate_from a xs) i ≡ option_map (λ x. (a + i, x)) (slice_get xs i)
 get-enumerate a [] i = refl
 get-enumerate {X} a (x ∷ xs) zero =
     let e : a ≡ a + 0 = omega arith in
@@ -44,12 +44,12 @@ get-enumerate {X} a (x ∷ xs) (suc i) =
     let f : ℕ → Option (ℕ × X) = λ n. option_map (λ y. (n, y)) (slice_get xs i) in
     get-enumerate (a + 1) xs i ∙ ap f e
 
-get_some : {X : Type 0} (xs : List X) (i : ℕ) → i < length xs → (x : X) × (slice_get xs i ≡ Some x)
+pub get_some : {X : Type 0} (xs : List X) (i : ℕ) → i < length xs → (x : X) × (slice_get xs i ≡ Some x)
 get_some [] i l = absurd (omega arith)
 get_some (x ∷ xs) zero l = (x, refl)
 get_some (x ∷ xs) (suc i) l = get_some xs i (omega arith)
 
-get_within : {X : Type 0} (xs : List X) (i : ℕ) (x : X) → slice_get xs i ≡ Some x → i < length xs
+pub get_within : {X : Type 0} (xs : List X) (i : ℕ) (x : X) → slice_get xs i ≡ Some x → i < length xs
 get_within [] i x e = absurd (let c : None ≡ Some x = e in cc)
 get_within (y ∷ xs) zero x e = omega arith
 get_within (y ∷ xs) (suc i) x e = let l = get_within xs i x e in omega arith
@@ -58,14 +58,14 @@ pub get-append : {X : Type 0} (xs ys : List X) (i : ℕ) → slice_get (xs ++ ys
 get-append [] ys i = ap (slice_get ys) (omega arith)
 get-append (x ∷ xs) ys i = let e : suc (length xs) + i ≡ suc (length xs + i) = omega arith in ap (slice_get (x ∷ xs ++ ys)) e ∙ get-append xs ys i
 
-get-append_left : {X : Type 0} (xs ys : List X) (i : ℕ) → i < length xs → slice_get (xs ++ ys) i ≡ slice_get xs i
+pub get-append_left : {X : Type 0} (xs ys : List X) (i : ℕ) → i < length xs → slice_get (xs ++ ys) i ≡ slice_get xs i
 get-append_left [] ys i l = absurd (omega arith)
 get-append_left (x ∷ xs) ys zero l = refl
 get-append_left (x ∷ xs) ys (suc i) l = get-append_left xs ys i (omega arith)
 
 -- The jobs of a plan
 
-job_is : (s : Script) (j : ℕ) → slice_get (plan_of s).jobs j ≡ option_map (λ job. plan_job s (j, job)) (slice_get s.jobs j)
+pub job_is : (s : Script) (j : ℕ) → slice_get (plan_of s).jobs j ≡ option_map (λ job. plan_job s (j, job)) (slice_get s.jobs j)
 job_is s j = get-map (plan_job s) (enumerate_from 0 s.jobs) j ∙ (ap (option_map (plan_job s)) (get-enumerate 0 s.jobs j) ∙ by_job (slice_get s.jobs j))
   where
     by_job : (o : Option Job) → option_map (plan_job s) (option_map (λ x. (0 + j, x)) o) ≡ option_map (λ job. plan_job s (j, job)) o
@@ -73,7 +73,7 @@ job_is s j = get-map (plan_job s) (enumerate_from 0 s.jobs) j ∙ (ap (option_ma
     by_job (Some job) = let f : ℕ → Option PlanJob = λ n. Some (plan_job s (n, job)) in let e : 0 + j ≡ j = omega arith in ap f e
 
 -- a part of a job of a plan
-part_is : {B : Type 0} (part : PlanJob → B) (none : B) (s : Script) (j : ℕ) → option_map_or part (slice_get (plan_of s).jobs j) none ≡ option_map_or (λ job. part (plan_job s (j, job))) (slice_get s.jobs j) none
+pub part_is : {B : Type 0} (part : PlanJob → B) (none : B) (s : Script) (j : ℕ) → option_map_or part (slice_get (plan_of s).jobs j) none ≡ option_map_or (λ job. part (plan_job s (j, job))) (slice_get s.jobs j) none
 part_is part none s j = ap (λ o. option_map_or part o none) (job_is s j) ∙ by_job (slice_get s.jobs j)
   where
     by_job : (o : Option Job) → option_map_or part (option_map (λ job. plan_job s (j, job)) o) none ≡ option_map_or (λ job. part (plan_job s (j, job))) o none
@@ -126,7 +126,7 @@ op_chain_is s e = ap (option_map (λ o. o.chain)) (op_is s e) ∙ by_op (slice_g
 
 -- Filters of ranges
 
-has-range_cases : (n a x : ℕ) → has (range_with_len a n) x ≡ true → (a ≤ x) × (x < a + n)
+pub has-range_cases : (n a x : ℕ) → has (range_with_len a n) x ≡ true → (a ≤ x) × (x < a + n)
 has-range_cases zero a x h = absurd (false≢true h)
 has-range_cases (suc n) a x h =
     elim (has_cases a (range_with_len (a + 1) n) x h) [
@@ -134,7 +134,7 @@ has-range_cases (suc n) a x h =
       | inr i ↦ let r = has-range_cases n (a + 1) x i in let l = r.0 in let u = r.1 in (omega arith, omega arith)
     ]
 
-range-has : (n a x : ℕ) → a ≤ x → x < a + n → has (range_with_len a n) x ≡ true
+pub range-has : (n a x : ℕ) → a ≤ x → x < a + n → has (range_with_len a n) x ≡ true
 range-has zero a x l h = absurd (omega arith)
 range-has (suc n) a x l h =
     elim (cases_eq a x) [
@@ -142,7 +142,7 @@ range-has (suc n) a x l h =
       | inr e ↦ or_right (eqb a x) (has (range_with_len (a + 1) n) x) (range-has n (a + 1) x (grind arith) (grind arith))
     ]
 
-filter-has_cases : (test : ℕ → Bool) (xs : List ℕ) (x : ℕ) → has (filter test xs) x ≡ true → (has xs x ≡ true) × (test x ≡ true)
+pub filter-has_cases : (test : ℕ → Bool) (xs : List ℕ) (x : ℕ) → has (filter test xs) x ≡ true → (has xs x ≡ true) × (test x ≡ true)
 filter-has_cases test [] x h = absurd (false≢true h)
 filter-has_cases test (y ∷ xs) x h = by_test (test y) refl (filter-has_cases test xs x)
   where
@@ -262,7 +262,7 @@ or_false false = refl
 has-chain_ops : (s : Script) (t x : ℕ) → has (chain_ops s t) x ≡ has (filter (λ e. option_map_or (signals_semaphore t) (slice_get (all_signals s) e) false) (range_with_len 0 (length (all_signals s)))) x
 has-chain_ops s t x = has-fold_insert s (filter (λ e. option_map_or (signals_semaphore t) (slice_get (all_signals s) e) false) (range_with_len 0 (length (all_signals s)))) [] x ∙ or_false (has (filter (λ e. option_map_or (signals_semaphore t) (slice_get (all_signals s) e) false) (range_with_len 0 (length (all_signals s)))) x)
 
-get-range : (n a i : ℕ) → i < n → slice_get (range_with_len a n) i ≡ Some (a + i)
+pub get-range : (n a i : ℕ) → i < n → slice_get (range_with_len a n) i ≡ Some (a + i)
 get-range zero a i l = absurd (omega arith)
 get-range (suc n) a zero l = ap Some (let e : a ≡ a + 0 = omega arith in e)
 get-range (suc n) a (suc i) l = get-range n (a + 1) i (omega arith) ∙ ap Some (let e : (a + 1) + i ≡ a + suc i = omega arith in e)
@@ -353,7 +353,7 @@ total_take (x ∷ jobs) i zero job e l = absurd (omega arith)
 total_take (x ∷ jobs) zero (suc j) job e l = let c = ap (λ o. option_map_or commands_in o 0) e in omega arith
 total_take (x ∷ jobs) (suc i) (suc j) job e l = let r = total_take jobs i j job e (omega arith) in omega arith
 
-length-batch_commands : (job : Job) → length (batch_commands job) ≡ commands_in job
+pub length-batch_commands : (job : Job) → length (batch_commands job) ≡ commands_in job
 length-batch_commands (Host h) = refl
 length-batch_commands (Batch b) = refl
 
@@ -665,7 +665,7 @@ module _ (s : Script) (v : IsValid s) where
 
 -- The host's steps
 
-filter_empty : (test : ℕ → Bool) (xs : List ℕ) → ((x : ℕ) → has xs x ≡ true → test x ≡ false) → filter test xs ≡ []
+pub filter_empty : (test : ℕ → Bool) (xs : List ℕ) → ((x : ℕ) → has xs x ≡ true → test x ≡ false) → filter test xs ≡ []
 filter_empty test [] f = refl
 filter_empty test (x ∷ xs) f = cond-false (test x) (x ∷ filter test xs) (filter test xs) (f x (has_here x xs)) ∙ filter_empty test xs (λ y m. f y (has_there x xs y m))
 
