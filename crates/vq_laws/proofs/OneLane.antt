@@ -1,9 +1,10 @@
 -- Scripts of one lane: no use of a semaphore, no signals, and a plan whose jobs follow one another.
-use Rattle.std.proofs.Common.{◌≡◌, ℕ, zero, suc, ◌+◌, ◌<◌, ◌≤◌, Bool, true, false, cond, not, ◌&&◌, eqb, leb, List, [], ◌∷◌, ◌++◌, length, map, filter, find, fold, take, Option, Some, None, refl, sym, ap, ◌∙◌, inl, inr, subst, arith}
-use Rattle.std.specs.List.{slice_get, list_all, list_any, flat_map, range_with_len, enumerate_from}
+use Rattle.std.proofs.Common.{◌≡◌, ℕ, zero, suc, ◌+◌, ◌<◌, ◌≤◌, Bool, true, false, cond, not, ◌&&◌, eqb, leb, List, [], ◌∷◌, ◌++◌, length, map, filter, find, fold, take, length-append, Option, Some, None, option_map, refl, sym, ap, ◌∙◌, inl, inr, subst, arith}
+use Rattle.std.specs.List.{slice_get, list_all, list_any, flat_map, filter_map, cons_option, range_with_len, enumerate_from}
 use Rattle.std.specs.Option.{option_map_or, option_to_list}
 use Rattle.std.proofs.lemmas.Bool.{eq-eqb, cond-true, cond-false, cases_eq, and_from}
-use Rattle.std.proofs.lemmas.List.{length-map}
+use Rattle.std.proofs.lemmas.List.{length-map, append_assoc}
+use Rattle.std.proofs.lemmas.Grind.{flat_map-append}
 use Rattle.std.proofs.lemmas.List.FromFn.{length-enumerate_from}
 use Rattle.vq_laws.specs.declared.script.Script.{Script}
 use Rattle.vq_laws.specs.declared.script.Job.{Job}
@@ -15,16 +16,19 @@ use Rattle.vq_laws.specs.declared.script.Semaphore.{Semaphore}
 use Rattle.vq_laws.specs.declared.plan.Need.{Need}
 use Rattle.vq_laws.specs.Edges.{must_finish, needs_at, Place, At, AtEnd}
 use Rattle.vq_laws.specs.Machine.{is_reached, are_reached, can_start}
-use Rattle.vq_laws.specs.SlowRun.{is_ready, payload_after, slow_from, slow_order, left_over}
+use Rattle.vq_laws.specs.SlowRun.{is_ready, payload_after, slow_from, slow_order, left_over, final}
+use Rattle.vq_laws.specs.Memory.{after_all, zeros_of}
+use Rattle.vq_laws.specs.declared.script.CommandLine.{CommandLine}
+use Rattle.vq_laws.specs.declared.script.Command.{Command}
 use Rattle.vq_laws.specs.declared.plan.PlanJob.{PlanJob}
 use Rattle.vq_laws.specs.declared.plan.Lane.TheVariants.{Host as HostLane, Queue as QueueLane}
 use Rattle.vq_laws.specs.declared.plan.Question.TheVariants.{Silent}
 use Rattle.vq_laws.specs.Signals.{Signaling, job_signals, all_signals, of_mark, op_at, chain_ops, initial_value}
-use Rattle.vq_laws.specs.Plan.{Plan, previous, host_before, idle_after, needs, waits_for_any, commands_of, signals_of, question, same_lane, has}
+use Rattle.vq_laws.specs.Plan.{Plan, previous, host_before, idle_after, needs, waits_for_any, command_at, commands_of, signals_of, question, same_lane, has}
 use Rattle.vq_laws.specs.Lowering.{lane_of, last_from, last_before, commands_in, batch_commands, plan_job, plan_of, of_wait}
 use Rattle.vq_laws.specs.LoweringFaults.{uses, uses_of, lowering_fault, fault_from, use_of_mark, UseLine, Waited, Signaled, Named}
 use Rattle.vq_laws.specs.ValidScripts.{HasOneLane, ArePlainBatches, IsPlainBatch, sizes_of}
-use Rattle.vq_laws.proofs.PlanLaws.{get_within, part_is, length-batch_commands, has-range_cases, range-has, filter_empty}
+use Rattle.vq_laws.proofs.PlanLaws.{get_within, get-append, part_is, length-batch_commands, has-range_cases, range-has, filter_empty}
 
 -- The jobs of a script of one lane
 
@@ -135,12 +139,8 @@ count_commands [] n = omega arith
 count_commands (job ∷ jobs) n =
     let r = count_commands jobs (n + commands_in job) in
     let l = length-batch_commands job in
-    let c = length_append (batch_commands job) (flat_map batch_commands jobs) in
+    let c = length-append (batch_commands job) (flat_map batch_commands jobs) in
     omega arith
-  where
-    length_append : {X : Type 0} (xs ys : List X) → length (xs ++ ys) ≡ length xs + length ys
-    length_append [] ys = omega arith
-    length_append (x ∷ xs) ys = let r = length_append xs ys in omega arith
 
 -- What a plain batch is lowered to: its place, its line, the number of commands before it, and the number of its own.
 abbrev pub lane_job : ℕ → ℕ → ℕ → ℕ → PlanJob
@@ -242,6 +242,36 @@ range-has_not n a x l = by_test (has (range_with_len a n) x) refl
     by_test : (b : Bool) → has (range_with_len a n) x ≡ b → has (range_with_len a n) x ≡ false
     by_test false e = e
     by_test true e = let r = has-range_cases n a x e in let u = r.1 in absurd (omega arith)
+
+range_append : (m n a : ℕ) → range_with_len a m ++ range_with_len (a + m) n ≡ range_with_len a (m + n)
+range_append zero n a =
+    let e : a + 0 ≡ a = omega arith in
+    let f : n ≡ 0 + n = omega arith in
+    ap (λ (k : ℕ). range_with_len k n) e ∙ ap (range_with_len a) f
+range_append (suc m) n a =
+    let e : a + suc m ≡ (a + 1) + m = omega arith in
+    let f : suc (m + n) ≡ suc m + n = omega arith in
+    ap (λ (k : ℕ). a ∷ range_with_len (a + 1) m ++ range_with_len k n) e
+    ∙ (ap (λ (xs : List ℕ). a ∷ xs) (range_append m n (a + 1)) ∙ ap (range_with_len a) f)
+
+take_front : {X : Type 0} (front back : List X) → take (length front) (front ++ back) ≡ front
+take_front [] back = refl
+take_front {X} (x ∷ front) back = ap (λ (xs : List X). x ∷ xs) (take_front front back)
+
+-- the commands of a list, by their numbers
+commands_by_number : (cs front back : List CommandLine) → cs ≡ front ++ back →
+    filter_map (λ c. option_map (λ x. x.command) (slice_get cs c)) (range_with_len (length front) (length back)) ≡ map (λ x. x.command) back
+commands_by_number cs front [] e = refl
+commands_by_number cs front (x ∷ back) e =
+    let z : length front ≡ length front + 0 = omega arith in
+    let at : slice_get cs (length front) ≡ Some x =
+    ap (λ (ds : List CommandLine). slice_get ds (length front)) e ∙ (ap (slice_get (front ++ x ∷ back)) z ∙ get-append front (x ∷ back) 0) in
+    let count = length-append front (x ∷ []) in
+    let n : length front + 1 ≡ length (front ++ x ∷ []) = omega arith in
+    let number : ℕ → Option Command = λ c. option_map (λ x. x.command) (slice_get cs c) in
+    ap (λ (o : Option CommandLine). cons_option (option_map (λ y. y.command) o) (filter_map number (range_with_len (length front + 1) (length back)))) at
+    ∙ (ap (λ (k : ℕ). x.command ∷ filter_map number (range_with_len k (length back))) n
+    ∙ ap (λ (ds : List Command). x.command ∷ ds) (commands_by_number cs (front ++ x ∷ []) back (e ∙ sym (append_assoc front (x ∷ []) back))))
 
 -- the first of a range that passes a test
 find_range : (n a j : ℕ) (test : ℕ → Bool) → a ≤ j → j < a + n → ((i : ℕ) → i < j → test i ≡ false) → test j ≡ true →
@@ -409,3 +439,41 @@ module _ (s : Script) (h : HasOneLane s) where
       all_done j m =
           let n = one_lane_length in
           ap not (ap (λ (xs : List ℕ). has xs j) (one_lane_order ∙ ap (range_with_len 0) (sym n)) ∙ m)
+
+  -- The bytes
+
+  -- the commands of the last jobs are numbered from those of the first on
+  commands_span : (front rest : List Job) → s.jobs ≡ front ++ rest → ArePlainBatches rest →
+      flat_map (commands_of (plan_of s)) (range_with_len (length front) (length rest))
+      ≡ range_with_len (length (flat_map batch_commands front)) (length (flat_map batch_commands rest))
+  commands_span front [] e a = refl
+  commands_span front (Host x ∷ rest) e a = absurd a
+  commands_span front (BatchJob b ∷ rest) e a =
+      let z : length front ≡ length front + 0 = omega arith in
+      let at : slice_get s.jobs (length front) ≡ Some (BatchJob b) =
+      ap (λ (jobs : List Job). slice_get jobs (length front)) e
+      ∙ (ap (slice_get (front ++ BatchJob b ∷ rest)) z ∙ get-append front (BatchJob b ∷ rest) 0) in
+      let first : take (length front) s.jobs ≡ front = ap (take (length front)) e ∙ take_front front (BatchJob b ∷ rest) in
+      let here : commands_of (plan_of s) (length front) ≡ range_with_len (length (flat_map batch_commands front)) (length b.commands) =
+      one_lane_commands (length front) b at ∙ ap (λ (jobs : List Job). range_with_len (length (flat_map batch_commands jobs)) (length b.commands)) first in
+      let count = length-append front (BatchJob b ∷ []) in
+      let n : length front + 1 ≡ length (front ++ BatchJob b ∷ []) = omega arith in
+      let cut : flat_map batch_commands (front ++ BatchJob b ∷ []) ≡ flat_map batch_commands front ++ flat_map batch_commands (BatchJob b ∷ []) = flat_map-append batch_commands front (BatchJob b ∷ []) in
+      let one = length-append b.commands [] in
+      let two = length-append (flat_map batch_commands front) (b.commands ++ []) in
+      let more : length (flat_map batch_commands (front ++ BatchJob b ∷ [])) ≡ length (flat_map batch_commands front) + length b.commands =
+      ap length cut ∙ omega arith in
+      let sum = length-append b.commands (flat_map batch_commands rest) in
+      ap (λ (cs : List ℕ). cs ++ flat_map (commands_of (plan_of s)) (range_with_len (length front + 1) (length rest))) here
+      ∙ (ap (λ (k : ℕ). range_with_len (length (flat_map batch_commands front)) (length b.commands) ++ flat_map (commands_of (plan_of s)) (range_with_len k (length rest))) n
+      ∙ (ap (λ (cs : List ℕ). range_with_len (length (flat_map batch_commands front)) (length b.commands) ++ cs) (commands_span (front ++ BatchJob b ∷ []) rest (e ∙ sym (append_assoc front (BatchJob b ∷ []) rest)) a.1)
+      ∙ (ap (λ (k : ℕ). range_with_len (length (flat_map batch_commands front)) (length b.commands) ++ range_with_len k (length (flat_map batch_commands rest))) more
+      ∙ (range_append (length b.commands) (length (flat_map batch_commands rest)) (length (flat_map batch_commands front))
+      ∙ ap (range_with_len (length (flat_map batch_commands front))) (sym sum)))))
+
+  -- The slow run leaves what all commands leave in the order of the script.
+  pub one_lane_final : final (plan_of s) ≡ after_all (map (λ x. x.command) (flat_map batch_commands s.jobs)) (zeros_of (sizes_of s))
+  one_lane_final =
+      ap (λ (js : List ℕ). after_all (filter_map (command_at (plan_of s)) (flat_map (commands_of (plan_of s)) js)) (zeros_of (sizes_of s))) one_lane_order
+      ∙ (ap (λ (cs : List ℕ). after_all (filter_map (command_at (plan_of s)) cs) (zeros_of (sizes_of s))) (commands_span [] s.jobs refl h.batches)
+      ∙ ap (λ (cs : List Command). after_all cs (zeros_of (sizes_of s))) (commands_by_number (flat_map batch_commands s.jobs) [] (flat_map batch_commands s.jobs) refl))
