@@ -123,7 +123,7 @@ said before TurnsLine (a ∷ b ∷ []) m n k = two _ (actor_at before a) (numera
 said before TurnsLine words m n k = absurd (cc)
 
 -- what is found passes the test
-found_passes : {A : Type 0} (p : A → Bool) (xs : List A) (y : A) → find p xs ≡ Some y → p y ≡ true
+pub found_passes : {A : Type 0} (p : A → Bool) (xs : List A) (y : A) → find p xs ≡ Some y → p y ≡ true
 found_passes p [] y h = absurd (cc)
 found_passes {A} p (x ∷ xs) y h = by_test (p x) refl (found_passes p xs y) h
   where
@@ -132,7 +132,7 @@ found_passes {A} p (x ∷ xs) y h = by_test (p x) refl (found_passes p xs y) h
     by_test false e rest h = rest h
 
 -- a form that is built is the one found
-built_found : (before : List Line) (o : Option LineForm) (f : LineForm) → where_built before o ≡ Some f → o ≡ Some f
+pub built_found : (before : List Line) (o : Option LineForm) (f : LineForm) → where_built before o ≡ Some f → o ≡ Some f
 built_found before None f h = absurd (cc)
 built_found before (Some g) f h = by_test (is_built before g) h
   where
@@ -141,7 +141,7 @@ built_found before (Some g) f h = by_test (is_built before g) h
     by_test false h = absurd (cc)
 
 -- where nothing is found, the first fails the test
-first_fails : {A : Type 0} (p : A → Bool) (x : A) (xs : List A) → find p (x ∷ xs) ≡ None → (p x ≡ false) × (find p xs ≡ None)
+pub first_fails : {A : Type 0} (p : A → Bool) (x : A) (xs : List A) → find p (x ∷ xs) ≡ None → (p x ≡ false) × (find p xs ≡ None)
 first_fails {A} p x xs h = by_test (p x) refl h
   where
     by_test : (b : Bool) → p x ≡ b → cond b (Some x) (find p xs) ≡ None → (p x ≡ false) × (find p xs ≡ None)
@@ -149,7 +149,7 @@ first_fails {A} p x xs h = by_test (p x) refl h
     by_test false e h = (e, h)
 
 -- a form's words fail no test
-passes : (b : Bool) → not b ≡ false → b ≡ true
+pub passes : (b : Bool) → not b ≡ false → b ≡ true
 passes true h = refl
 passes false h = absurd (cc)
 
