@@ -9,6 +9,7 @@ use Rattle.std.proofs.lemmas.List.Elements.{filter_map-append}
 use Rattle.std.proofs.lemmas.List.Sums.{sum_by-cons, sum_by-append}
 use Rattle.vq_laws.specs.declared.statement.Form.{Form}
 use Rattle.vq_laws.specs.declared.statement.FaultKind.{FaultKind}
+use Rattle.vq_laws.specs.declared.statement.FaultKind.TheVariants.{Syntax}
 use Rattle.vq_laws.specs.declared.statement.Section.{Section}
 use Rattle.vq_laws.specs.declared.statement.Section.TheVariants.{Outside, InBatch, InSchedule}
 use Rattle.vq_laws.specs.declared.statement.Statement.{Statement}
@@ -31,6 +32,7 @@ use Rattle.vq_laws.specs.Text.{words_of, lines_of}
 use Rattle.vq_laws.specs.Limits.{is_job}
 use Rattle.vq_laws.specs.Ranges.{Fits, IsWithin, fill_size}
 use Rattle.vq_laws.specs.Lowering.{batch_commands, commands_in}
+use Rattle.vq_laws.specs.Signals.{Signaling, all_signals}
 use Rattle.vq_laws.specs.ValidScripts.{IsValid, KeepsLimits, HasOneLane, ArePlainBatches, sizes_of}
 use Rattle.vq_laws.proofs.Meanings.{has_meaning}
 use Rattle.vq_laws.proofs.LineFacts.{sizes_before, Said, said_of}
@@ -206,3 +208,278 @@ kept_more before n s k said = by_section (section before) s refl said
     by_section InBatch EndBatch e h =
         kept_plain before n EndBatch k refl (subst (λ (w : Section). Stands (sizes_before before) w EndBatch) (sym e) tt) (omega arith) (omega arith) (omega arith)
     by_section was s e h = absurd h
+
+-- Reading
+
+kept_line : (form : Form) (before : List Line) (n : ℕ) (words : List (List ℕ)) (now : List Line) → Kept before →
+    read_statement form before n words ≡ Ok now → Kept now
+kept_line form before n [] now k h = let same : before ≡ now = cc in subst Kept same k
+kept_line form before n (word ∷ words) now k h = by_fault (fault_of form before (word ∷ words)) refl h
+  where
+    by_fault : (o : Option FaultKind) → fault_of form before (word ∷ words) ≡ o →
+        without_fault o (option_map_or (with_line before n) (meaning form before (word ∷ words)) before) ≡ Ok now → Kept now
+    by_fault None e h =
+        let m = has_meaning form before (word ∷ words) e in
+        let is : with_line before n m.0 ≡ now = sym (ap (λ (o : Option Statement). option_map_or (with_line before n) o before) m.1) ∙ same_lines (option_map_or (with_line before n) (meaning form before (word ∷ words)) before) now h in
+        subst Kept is (kept_more before n m.0 k (said_of before form (word ∷ words) m.0 e m.1))
+      where
+        same_lines : (a b : List Line) → ◌≡◌ {A = Result (List Line) FaultKind} (Ok a) (Ok b) → a ≡ b
+        same_lines a b e = cc
+    by_fault (Some kind) e h = absurd (never kind h)
+      where
+        never : (kind : FaultKind) → ◌≡◌ {A = Result (List Line) FaultKind} (Err kind) (Ok now) → ⊥
+        never kind h = cc
+
+kept_lines : (form : Form) (before : List Line) (n : ℕ) (lines : List (List ℕ)) (all : List Line) → Kept before →
+    read_lines form before n lines ≡ Ok all → Kept all
+kept_lines form before n [] all k h = by_end (ends_early form before) h
+  where
+    by_end : (b : Bool) → cond {A = Result (List Line) (ℕ × FaultKind)} b (Err (n, Syntax)) (Ok before) ≡ Ok all → Kept all
+    by_end true h = absurd (cc)
+    by_end false h = let same : before ≡ all = cc in subst Kept same k
+kept_lines form before n (line ∷ lines) all k h = by_line (read_line form before n line) refl h (λ now. kept_lines form now (n + 1) lines all)
+  where
+    by_line : (r : Result (List Line) FaultKind) → read_line form before n line ≡ r → go_on n (λ now. read_lines form now (n + 1) lines) r ≡ Ok all →
+        ((now : List Line) → Kept now → read_lines form now (n + 1) lines ≡ Ok all → Kept all) → Kept all
+    by_line (Ok now) e h more = more now (kept_line form before n (words_of line) now k e) h
+    by_line (Err kind) e h more = absurd (cc)
+
+-- the script of what was read
+abbrev of_lines : Result (List Line) (ℕ × FaultKind) → Result Script (ℕ × FaultKind)
+of_lines (Ok lines) = Ok (script_of lines)
+of_lines (Err fault) = Err fault
+
+-- a script of lines that keep all this
+record IsOfLines (s : Script) : Type 0 where
+  lines : List Line
+  kept : Kept lines
+  whole : script_of lines ≡ s
+
+of_text : (text : List ℕ) (form : Form) (s : Script) → StandsFor text form s → IsOfLines s
+of_text text form s h = by_result (read_lines form [] 1 (lines_of text)) refl h
+  where
+    same_script : (a b : Script) → ◌≡◌ {A = Result Script (ℕ × FaultKind)} (Ok a) (Ok b) → a ≡ b
+    same_script a b e = cc
+
+    by_result : (r : Result (List Line) (ℕ × FaultKind)) → read_lines form [] 1 (lines_of text) ≡ r → of_lines r ≡ Ok s → IsOfLines s
+    by_result (Ok lines) e h = record { lines = lines; kept = kept_lines form [] 1 (lines_of text) lines kept_first e; whole = same_script (script_of lines) s h }
+    by_result (Err fault) e h = absurd (cc)
+
+-- The script of lines
+
+-- the lines of a batch, line by line
+batch_lines_cons : (line : Line) (lines : List Line) → batch_lines (line ∷ lines) ≡ cond (is_end line.statement) [] (line ∷ batch_lines lines)
+batch_lines_cons line lines = by_test (is_end line.statement)
+  where
+    by_test : (b : Bool) → take (cond (not b) (1 + position_or_len (λ l. is_end l.statement) lines) 0) (line ∷ lines) ≡ cond b [] (line ∷ batch_lines lines)
+    by_test true = refl
+    by_test false = let e : 1 + position_or_len (λ l. is_end l.statement) lines ≡ suc (position_or_len (λ l. is_end l.statement) lines) = omega arith in ap (λ (k : ℕ). take k (line ∷ lines)) e
+
+-- what no line that stands declares or adds
+module _ {X : Type 0} (sizes : List ℕ) (part : Line → Option X) (none : (n : ℕ) (was : Section) (s : Statement) → Stands sizes was s → part (record { number = n; statement = s }) ≡ None) where
+  none_of : (was : Section) (lines : List Line) → AllStand sizes was lines → filter_map part lines ≡ []
+  none_of was [] a = refl
+  none_of was (line ∷ lines) a =
+      ap (λ (o : Option X). cons_option o (filter_map part lines)) (none line.number was line.statement a.0)
+      ∙ none_of (section_after was line.statement) lines a.1
+
+  none_in_batch : (was : Section) (lines : List Line) → AllStand sizes was lines → filter_map part (batch_lines lines) ≡ []
+  none_in_batch was [] a = refl
+  none_in_batch was (line ∷ lines) a = ap (filter_map part) (batch_lines_cons line lines) ∙ by_test (is_end line.statement) (none_in_batch (section_after was line.statement) lines a.1)
+    where
+      by_test : (b : Bool) → filter_map part (batch_lines lines) ≡ [] → filter_map part (cond b [] (line ∷ batch_lines lines)) ≡ []
+      by_test true e = refl
+      by_test false e =
+          ap (λ (o : Option X). cons_option o (filter_map part (batch_lines lines))) (none line.number was line.statement a.0) ∙ e
+
+no_semaphore : (sizes : List ℕ) (n : ℕ) (was : Section) (s : Statement) → Stands sizes was s → semaphore_of (record { number = n; statement = s }) ≡ None
+no_semaphore sizes n Outside (DeclareBuffer name size) h = refl
+no_semaphore sizes n Outside (DeclareQueue name mode) h = refl
+no_semaphore sizes n Outside (BeginBatch q) h = refl
+no_semaphore sizes n InBatch (AddCommand c) h = refl
+no_semaphore sizes n InBatch EndBatch h = refl
+no_semaphore sizes n was s h = absurd h
+
+no_wait : (sizes : List ℕ) (n : ℕ) (was : Section) (s : Statement) → Stands sizes was s → wait_of (record { number = n; statement = s }) ≡ None
+no_wait sizes n Outside (DeclareBuffer name size) h = refl
+no_wait sizes n Outside (DeclareQueue name mode) h = refl
+no_wait sizes n Outside (BeginBatch q) h = refl
+no_wait sizes n InBatch (AddCommand c) h = refl
+no_wait sizes n InBatch EndBatch h = refl
+no_wait sizes n was s h = absurd h
+
+no_signal : (sizes : List ℕ) (n : ℕ) (was : Section) (s : Statement) → Stands sizes was s → signal_of (record { number = n; statement = s }) ≡ None
+no_signal sizes n Outside (DeclareBuffer name size) h = refl
+no_signal sizes n Outside (DeclareQueue name mode) h = refl
+no_signal sizes n Outside (BeginBatch q) h = refl
+no_signal sizes n InBatch (AddCommand c) h = refl
+no_signal sizes n InBatch EndBatch h = refl
+no_signal sizes n was s h = absurd h
+
+no_fence : (sizes : List ℕ) (n : ℕ) (was : Section) (s : Statement) → Stands sizes was s → fence_of (record { number = n; statement = s }) ≡ None
+no_fence sizes n Outside (DeclareBuffer name size) h = refl
+no_fence sizes n Outside (DeclareQueue name mode) h = refl
+no_fence sizes n Outside (BeginBatch q) h = refl
+no_fence sizes n InBatch (AddCommand c) h = refl
+no_fence sizes n InBatch EndBatch h = refl
+no_fence sizes n was s h = absurd h
+
+-- commands that fit
+abbrev AllFit : List ℕ → List CommandLine → Type 0
+AllFit sizes [] = Unit {0}
+AllFit sizes (x ∷ xs) = Fits sizes x.command × AllFit sizes xs
+
+abbrev JobsFit : List ℕ → List Job → Type 0
+JobsFit sizes [] = Unit {0}
+JobsFit sizes (job ∷ jobs) = AllFit sizes (batch_commands job) × JobsFit sizes jobs
+
+fit_at : (sizes : List ℕ) (xs : List CommandLine) (k : ℕ) (x : CommandLine) → AllFit sizes xs → slice_get xs k ≡ Some x → Fits sizes x.command
+fit_at sizes [] k x a e = absurd (let c : None ≡ Some x = e in cc)
+fit_at sizes (y ∷ xs) zero x a e = let same : y ≡ x = cc in subst (λ (z : CommandLine). Fits sizes z.command) same a.0
+fit_at sizes (y ∷ xs) (suc k) x a e = fit_at sizes xs k x a.1 e
+
+jobs_fit_at : (sizes : List ℕ) (jobs : List Job) (j k : ℕ) (job : Job) (x : CommandLine) → JobsFit sizes jobs →
+    slice_get jobs j ≡ Some job → slice_get (batch_commands job) k ≡ Some x → Fits sizes x.command
+jobs_fit_at sizes [] j k job x a e f = absurd (let c : None ≡ Some job = e in cc)
+jobs_fit_at sizes (y ∷ jobs) zero k job x a e f =
+    let same : y ≡ job = cc in
+    fit_at sizes (batch_commands y) k x a.0 (ap (λ (z : Job). slice_get (batch_commands z) k) same ∙ f)
+jobs_fit_at sizes (y ∷ jobs) (suc j) k job x a e f = jobs_fit_at sizes jobs j k job x a.1 e f
+
+count_cons : (test : Statement → Bool) (line : Line) (lines : List Line) → count test (line ∷ lines) ≡ cond (test line.statement) 1 0 + count test lines
+count_cons test line lines = sum_by-cons (λ (l : Line). cond (test l.statement) 1 0) line lines
+
+-- the commands of the batch that is open in a part of the text
+abbrev open_commands : Section → List Line → List CommandLine
+open_commands InBatch lines = filter_map command_of (batch_lines lines)
+open_commands was lines = []
+
+-- what the jobs of lines keep
+record JobsKept (sizes : List ℕ) (was : Section) (lines : List Line) : Type 0 where
+  plain : ArePlainBatches (jobs_of lines)
+  open_fit : AllFit sizes (open_commands was lines)
+  fit : JobsFit sizes (jobs_of lines)
+  jobs : length (jobs_of lines) ≤ count is_job lines
+  commands : length (open_commands was lines) + sum (map commands_in (jobs_of lines)) ≤ count is_command lines
+
+module _ (sizes : List ℕ) where
+  jobs_kept_more : (n : ℕ) (was : Section) (s : Statement) (lines : List Line) → Stands sizes was s → AllStand sizes (section_after was s) lines →
+      JobsKept sizes (section_after was s) lines → JobsKept sizes was (record { number = n; statement = s } ∷ lines)
+  jobs_kept_more n Outside (DeclareBuffer name size) lines h a k =
+      let line : Line = record { number = n; statement = DeclareBuffer name size } in
+      let j = count_cons is_job line lines in
+      let c = count_cons is_command line lines in
+      let kj = k.jobs in
+      let kc = k.commands in
+      record { plain = k.plain; open_fit = tt; fit = k.fit; jobs = omega arith; commands = omega arith }
+  jobs_kept_more n Outside (DeclareQueue name mode) lines h a k =
+      let line : Line = record { number = n; statement = DeclareQueue name mode } in
+      let j = count_cons is_job line lines in
+      let c = count_cons is_command line lines in
+      let kj = k.jobs in
+      let kc = k.commands in
+      record { plain = k.plain; open_fit = tt; fit = k.fit; jobs = omega arith; commands = omega arith }
+  jobs_kept_more n Outside (BeginBatch q) lines h a k =
+      let line : Line = record { number = n; statement = BeginBatch q } in
+      let j = count_cons is_job line lines in
+      let c = count_cons is_command line lines in
+      let kj = k.jobs in
+      let kc = k.commands in
+      let t = sum_by-cons (λ (x : ℕ). x) (length (filter_map command_of (batch_lines lines))) (map commands_in (jobs_of lines)) in
+      record {
+        plain = (
+          record {
+            queue = h;
+            waits = none_in_batch sizes wait_of (no_wait sizes) InBatch lines a;
+            signals = none_in_batch sizes signal_of (no_signal sizes) InBatch lines a;
+            fence = ap first_of_list (none_in_batch sizes fence_of (no_fence sizes) InBatch lines a);
+          },
+          k.plain,
+        );
+        open_fit = tt;
+        fit = (k.open_fit, k.fit);
+        jobs = omega arith;
+        commands = omega arith;
+      }
+  jobs_kept_more n InBatch (AddCommand command) lines h a k =
+      let line : Line = record { number = n; statement = AddCommand command } in
+      let j = count_cons is_job line lines in
+      let c = count_cons is_command line lines in
+      let kj = k.jobs in
+      let kc = k.commands in
+      let b = ap (λ (ls : List Line). filter_map command_of ls) (batch_lines_cons line lines) in
+      let l = ap length b in
+      record {
+        plain = k.plain;
+        open_fit = subst (AllFit sizes) (sym b) (h, k.open_fit);
+        fit = k.fit;
+        jobs = omega arith;
+        commands = omega arith;
+      }
+  jobs_kept_more n InBatch EndBatch lines h a k =
+      let line : Line = record { number = n; statement = EndBatch } in
+      let j = count_cons is_job line lines in
+      let c = count_cons is_command line lines in
+      let kj = k.jobs in
+      let kc = k.commands in
+      let b = ap (λ (ls : List Line). filter_map command_of ls) (batch_lines_cons line lines) in
+      let l = ap length b in
+      record {
+        plain = k.plain;
+        open_fit = subst (AllFit sizes) (sym b) tt;
+        fit = k.fit;
+        jobs = omega arith;
+        commands = omega arith;
+      }
+  jobs_kept_more n was s lines h a k = absurd h
+
+  jobs_kept : (was : Section) (lines : List Line) → AllStand sizes was lines → JobsKept sizes was lines
+  jobs_kept Outside [] a = record { plain = tt; open_fit = tt; fit = tt; jobs = omega arith; commands = omega arith }
+  jobs_kept InBatch [] a = record { plain = tt; open_fit = tt; fit = tt; jobs = omega arith; commands = omega arith }
+  jobs_kept InSchedule [] a = record { plain = tt; open_fit = tt; fit = tt; jobs = omega arith; commands = omega arith }
+  jobs_kept was (line ∷ lines) a =
+      jobs_kept_more line.number was line.statement lines a.0 a.1 (jobs_kept (section_after was line.statement) lines a.1)
+
+lines_one_lane : (lines : List Line) → Kept lines → HasOneLane (script_of lines)
+lines_one_lane lines k =
+    record {
+      semaphores = none_of (sizes_before lines) semaphore_of (no_semaphore (sizes_before lines)) Outside lines k.stand;
+      batches = (jobs_kept (sizes_before lines) Outside lines k.stand).plain;
+    }
+
+lines_valid : (lines : List Line) → Kept lines → IsValid (script_of lines)
+lines_valid lines k =
+    record {
+      signals = λ e x h. absurd (no_signal_at e x h);
+      commands = λ j n job x e f. jobs_fit_at (sizes_before lines) (jobs_of lines) j n job x jobs.fit e f;
+      limits = record { buffers = k.few_buffers; bytes = k.few_bytes; semaphores = semaphores; queues = queues; jobs = count_jobs; commands = count_commands };
+    }
+  where
+    one : HasOneLane (script_of lines)
+    one = lines_one_lane lines k
+
+    jobs : JobsKept (sizes_before lines) Outside lines
+    jobs = jobs_kept (sizes_before lines) Outside lines k.stand
+
+    no_signal_at : (e : ℕ) (x : Signaling) → slice_get (all_signals (script_of lines)) e ≡ Some x → ⊥
+    no_signal_at e x h = let c : None ≡ Some x = ap (λ (xs : List Signaling). slice_get xs e) (sym (one_lane_signals (script_of lines) one)) ∙ h in cc
+
+    semaphores : length (script_of lines).semaphores ≤ 256
+    semaphores = let l = ap length one.semaphores in omega arith
+
+    queues : length (script_of lines).queues ≤ 8
+    queues = let l = k.one_queue in omega arith
+
+    count_jobs : length (jobs_of lines) ≤ 4096
+    count_jobs = let l = jobs.jobs in let m = k.few_jobs in omega arith
+
+    count_commands : sum (map commands_in (jobs_of lines)) ≤ 8192
+    count_commands = let l = jobs.commands in let m = k.few_commands in omega arith
+
+-- A script that a text stands for has one lane.
+pub text_one_lane : (text : List ℕ) (form : Form) (s : Script) → StandsFor text form s → HasOneLane s
+text_one_lane text form s h = let l = of_text text form s h in subst HasOneLane l.whole (lines_one_lane l.lines l.kept)
+
+-- A script that a text stands for is valid.
+pub text_valid : (text : List ℕ) (form : Form) (s : Script) → StandsFor text form s → IsValid s
+text_valid text form s h = let l = of_text text form s h in subst IsValid l.whole (lines_valid l.lines l.kept)
