@@ -282,7 +282,7 @@ chain_past s t l = ap (λ o. option_map_or (λ x. x) o []) (get-map (chain_ops s
 
 -- Where signals come from
 
-some_of : {X Y : Type 0} (f : X → Y) (o : Option X) (y : Y) → option_map f o ≡ Some y → (x : X) × (o ≡ Some x) × (f x ≡ y)
+pub some_of : {X Y : Type 0} (f : X → Y) (o : Option X) (y : Y) → option_map f o ≡ Some y → (x : X) × (o ≡ Some x) × (f x ≡ y)
 some_of f None y e = absurd (let c : None ≡ Some y = e in cc)
 some_of f (Some x) y e = (x, refl, cc)
 

@@ -61,4 +61,4 @@ is_valid = record { signals = signals; commands = commands; limits = limits }
         of_command (option_map_or (λ z. slice_get (batch_commands z) k) (slice_get script.jobs j) None) x (ap (λ o. option_map_or (λ z. slice_get (batch_commands z) k) o None) hj ∙ hk) (fits j k)
 
 is_plan : IsPlan (plan_of script)
-is_plan = record { of_script = is_script; faultless = refl; lowered = refl; valid = is_valid }
+is_plan = record { of_script = is_script; faultless = refl; lowered = refl }

@@ -15,7 +15,6 @@ use Rattle.vq_laws.specs.declared.plan.PlanFault.TheVariants.{NoSignal as NoSign
 use Rattle.vq_laws.specs.Signals.{is_counted_at}
 use Rattle.vq_laws.specs.Plan.{Plan}
 use Rattle.vq_laws.specs.Lowering.{plan_of}
-use Rattle.vq_laws.specs.ValidScripts.{IsValid}
 use Rattle.vq_laws.specs.SameScript.{IsScript}
 
 -- Uses
@@ -160,5 +159,3 @@ pub record IsPlan (p : Plan) : Type 0 where
   pub of_script : IsScript p.script
   pub faultless : lowering_fault p.script ≡ None
   pub lowered : p ≡ plan_of p.script
-  -- What is known of a script that can be written. It follows from its being one.
-  pub valid : IsValid p.script
