@@ -12,7 +12,8 @@ ghost use Rattle.vq_laws.specs.Sure.{RisesFrom, IsSure, IsSureAt};
 ghost use Rattle.vq_laws.specs.HappensBefore.{HappensBeforeAt, HappensBefore, HappensBeforeCommand};
 ghost use Rattle.vq_laws.specs.Machine.{are_reached, Step, StartStep, was_since, Run, state_after, ProgressRun, progress_after, without_answers, AreFinished, IsFinished};
 ghost use Rattle.vq_laws.specs.SlowRun.{is_ready, payload_after, slow_order, left_over, final, bytes_after, steps_of_jobs, HasOneResult};
-ghost use Rattle.vq_laws.specs.Checks.{IsLawful, IsEffectiveReset, IsUnreachableAt, IsUnordered, IsRaceAt, NoLines, is_timeline_chain};
+ghost use Rattle.vq_laws.specs.declared.plan.OrderFault.{OrderFault};
+ghost use Rattle.vq_laws.specs.Checks.{IsLawful, IsEffectiveReset, IsUnreachableAt, IsUnordered, IsRaceAt, NoLines, is_timeline_chain, IsFirstPlanFault};
 ghost use Rattle.vq_laws.specs.Outputs.{IsOutput};
 ghost use Rattle.vq_laws.specs.OutputText.{answers_of, buffers_text};
 ghost use Rattle.vq_laws.specs.Signals.{Signaling, all_signals, signals_semaphore, value_at, is_timeline_at};
@@ -175,6 +176,11 @@ pub fn lawful_plans_have_order()
     ensures timelines { (p : Plan) → IsWellFormed p → NoLines (IsUnordered p) →
         (t : ℕ) → is_timeline_chain p t ≡ true → RisesFrom p (initial p t) (chain p t) }
     ensures order { (p : Plan) → IsWellFormed p → IsLawful p → HasSureOrder p }
+{}
+
+/// A lawful plan has no first fault.
+pub fn lawful_plans_have_no_fault()
+    ensures { (p : Plan) → (fault : OrderFault) → IsLawful p → ¬ IsFirstPlanFault p fault }
 {}
 
 /// A command that fits leaves the length of each buffer. In the range that it writes stand its
