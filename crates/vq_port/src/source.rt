@@ -1,4 +1,4 @@
-ghost use Rattle.std.specs.Prelude.{◌≡◌, ℕ, ◌<◌, ◌≤◌, List, length, take, drop, IfOk, OnErr};
+ghost use Rattle.std.specs.Prelude.{◌≡◌, ℕ, ◌<◌, ◌≤◌, List, length, take, IfOk, OnErr};
 ghost use Rattle.std.specs.declared.option.Option.{Option};
 ghost use Rattle.vq_port.specs.Faults.{Rose};
 ghost use Rattle.vq_port.specs.Reading.{Takes, IsAtEnd};
@@ -19,7 +19,6 @@ pub trait Source {
     fn read(&mut self, piece: &mut [u8]) -> Result<usize, Failed>
         ensures at_most { IfOk result (λ count. count ≤ length piece.old) }
         ensures takes { IfOk result (λ count. Takes (take count piece.new) (left self.old) (left self.new)) }
-        ensures behind { IfOk result (λ count. drop count piece.new ≡ drop count piece.old) }
         ensures end { IfOk result (λ count. count ≡ 0 → 0 < length piece.old → IsAtEnd (left self.new)) }
 
         ensures counted { faults self.old ≤ faults self.new }

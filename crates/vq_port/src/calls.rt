@@ -1,0 +1,51 @@
+// Which calls of a port in memory fail, and how many have.
+ghost use Rattle.std.specs.Prelude.{◌≡◌, ◌≤◌, ◌↔◌, IsTrue};
+ghost use Rattle.vq_port.specs.Faults.{one_more};
+ghost use Rattle.vq_port.specs.InMemory.{IsNamed};
+
+use std::marker::Model;
+
+#[derive(Drop)]
+pub struct Calls {
+    fails: Vec<u32>,
+    calls: u64,
+    faults: u64,
+}
+
+impl Model for Calls {
+    ghost use Rattle.vq_port.specs.InMemory.{CallState};
+
+    ghost Value = { CallState };
+
+    ghost view = { λ c. record { fails = c.fails.items; calls = c.calls; faults = c.faults } };
+}
+
+impl Calls {
+    pub fn new(fails: Vec<u32>) -> Calls
+        ensures { result ≡ record { fails = fails.items; calls = 0; faults = 0 } }
+    {
+        Calls {
+            fails,
+            calls: 0,
+            faults: 0,
+        }
+    }
+
+    // Counts one more call, and says whether it is to fail.
+    pub fn count_call(&mut self) -> bool
+        ensures named { IsTrue result ↔ IsNamed self.old.fails self.old.calls }
+        ensures counted { self.new ≡ record self.old { calls = one_more self.old.calls } }
+    {
+        self.calls = self.calls.saturating_add(1);
+        let number = self.calls;
+        self.fails.iter().any(|named| u64::from(*named) == number)
+    }
+
+    // Counts one more fault.
+    pub fn count_fault(&mut self)
+        ensures faults { self.new ≡ record self.old { faults = one_more self.old.faults } }
+        ensures counted { self.old.faults ≤ self.new.faults }
+    {
+        self.faults = self.faults.saturating_add(1);
+    }
+}
