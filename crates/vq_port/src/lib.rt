@@ -21,3 +21,6 @@ pub use source::Source;
 pub use standard::{StdSink, StdSource};
 pub use steady::{SteadySink, SteadySource};
 pub use write::write_whole;
+
+#[cfg(test)]
+mod tests;

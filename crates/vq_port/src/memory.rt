@@ -4,13 +4,10 @@ ghost use Rattle.vq_port.specs.InMemory.{IsNamed, sink_room};
 
 use crate::calls::Calls;
 use crate::rest::Rest;
-use crate::store::Store;
+use crate::store::{ROOM, Store};
 use crate::{Failed, Sink, Source};
 use std::alloc::{AllocError, Global};
 use std::marker::Model;
-
-// The bytes that a sink in memory has room for.
-const ROOM: usize = 8_388_608;
 
 /// A source over bytes in memory, which moves at most so many bytes with a call, and fails at the
 /// calls that were named, by their numbers from 1. This project's rule.
@@ -28,11 +25,11 @@ impl Model for MemorySource {
     ghost Value = { SourceState };
 
     ghost view = { λ s. record {
-        left = s.rest;
-        piece = s.piece;
-        fails = s.calls.fails;
-        calls = s.calls.calls;
-        faults = s.calls.faults
+      left = s.rest;
+      piece = s.piece;
+      fails = s.calls.fails;
+      calls = s.calls.calls;
+      faults = s.calls.faults;
     } };
 
     ghost invariant = { λ s. 1 ≤ s.piece };
@@ -66,15 +63,15 @@ impl Source for MemorySource {
         ensures count { IfOk result (λ count. count ≡ min (length piece.old) (min self.old.piece (length self.old.left))) }
         ensures moved { IfOk result (λ count. piece.new ≡ take count self.old.left ++ drop count piece.old) }
         ensures ok { IfOk result (λ count. self.new ≡ record self.old {
-            left = drop count self.old.left;
-            calls = one_more self.old.calls
+          left = drop count self.old.left;
+          calls = one_more self.old.calls;
         }) }
         ensures end { IfOk result (λ count. count ≡ 0 → 0 < length piece.old → self.old.left ≡ []) }
 
         ensures untouched { OnErr result (piece.new ≡ piece.old) }
         ensures err { OnErr result (self.new ≡ record self.old {
-            calls = one_more self.old.calls;
-            faults = one_more self.old.faults
+          calls = one_more self.old.calls;
+          faults = one_more self.old.faults;
         }) }
         ensures counted { self.old.faults ≤ self.new.faults }
     {
@@ -104,11 +101,11 @@ impl Model for MemorySink {
     ghost Value = { SinkState };
 
     ghost view = { λ s. record {
-        written = s.store.bytes;
-        piece = s.piece;
-        fails = s.calls.fails;
-        calls = s.calls.calls;
-        faults = s.calls.faults
+      written = s.store.bytes;
+      piece = s.piece;
+      fails = s.calls.fails;
+      calls = s.calls.calls;
+      faults = s.calls.faults;
     } };
 
     ghost invariant = { λ s. (1 ≤ s.piece) × (s.store.room ≡ sink_room) };
@@ -120,11 +117,11 @@ impl MemorySink {
     pub fn new(alloc: Global, piece: usize, fails: Vec<u32>) -> Result<MemorySink, AllocError>
         requires { 1 ≤ piece }
         ensures { IfOk result (λ sink. sink ≡ record {
-            written = [];
-            piece = piece;
-            fails = fails.items;
-            calls = 0;
-            faults = 0
+          written = [];
+          piece = piece;
+          fails = fails.items;
+          calls = 0;
+          faults = 0;
         }) }
     {
         Ok(MemorySink {
@@ -156,13 +153,13 @@ impl Sink for MemorySink {
         ensures count { IfOk result (λ count. count ≡ min (length piece.now) self.old.piece) }
         ensures at_least { IfOk result (λ count. 0 < length piece.now → 0 < count) }
         ensures ok { IfOk result (λ count. self.new ≡ record self.old {
-            written = self.old.written ++ take count piece.now;
-            calls = one_more self.old.calls
+          written = self.old.written ++ take count piece.now;
+          calls = one_more self.old.calls;
         }) }
 
         ensures err { OnErr result (self.new ≡ record self.old {
-            calls = one_more self.old.calls;
-            faults = one_more self.old.faults
+          calls = one_more self.old.calls;
+          faults = one_more self.old.faults;
         }) }
         ensures counted { self.old.faults ≤ self.new.faults }
     {

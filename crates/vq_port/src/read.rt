@@ -68,7 +68,7 @@ pub fn read_whole<S: Source>(
     ensures ended { OnOk result (OnSome (S.left source.old) (S.left source.new ≡ Some [])) }
 
     ensures too_long { IsErrOf result ReadFault.TooLong → IfSome (S.left source.old) (λ all. limit < length all) }
-    ensures one_more { IsErrOf result ReadFault.TooLong →
+    ensures one_past { IsErrOf result ReadFault.TooLong →
         IfSome (S.left source.old) (λ all. S.left source.new ≡ Some (drop (limit + 1) all)) }
 
     ensures counted { S.faults source.old ≤ S.faults source.new }

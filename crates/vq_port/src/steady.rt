@@ -3,13 +3,10 @@ ghost use Rattle.std.specs.Option.{option_copied};
 ghost use Rattle.vq_port.specs.InMemory.{told_after, sink_room};
 
 use crate::rest::Rest;
-use crate::store::Store;
+use crate::store::{ROOM, Store};
 use crate::{Failed, Sink, Source};
 use std::alloc::{AllocError, Global};
 use std::marker::Model;
-
-// The bytes that a steady sink has room for, where nothing else is said.
-const ROOM: usize = 8_388_608;
 
 /// A source over bytes in memory that never fails. This project's rule.
 #[derive(Drop)]
@@ -69,8 +66,8 @@ impl Model for SteadySink {
     ghost Value = { SteadyState };
 
     ghost view = { λ s. record {
-        written = if s.is_over then None else Some s.store.bytes;
-        room = s.store.room
+      written = if s.is_over then None else Some s.store.bytes;
+      room = s.store.room;
     } };
 }
 

@@ -4,6 +4,9 @@ ghost use Rattle.std.specs.Prelude.{◌≡◌, ◌+◌, ◌-◌, ◌≤◌, [], 
 use std::alloc::{AllocError, Global};
 use std::marker::Model;
 
+// The bytes that a sink in memory has room for, where nothing else is said.
+pub const ROOM: usize = 8_388_608;
+
 #[derive(Drop)]
 pub struct Store {
     bytes: Vec<u8>,

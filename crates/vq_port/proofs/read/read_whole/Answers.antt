@@ -38,8 +38,8 @@ returns-then-limit-len-clause-too_long g c = λ _.
     (omega (arith, c.loop-bytes.bytes.ok.0))
     (takes_more _ _ _ _ _ c.loop-bytes.invariant.3 c.in_ok-count.ensures.takes)
 
-pub returns-then-limit-len-clause-one_more : goal.returns-then-limit-len-clause-one_more
-returns-then-limit-len-clause-one_more g c = λ _.
+pub returns-then-limit-len-clause-one_past : goal.returns-then-limit-len-clause-one_past
+returns-then-limit-len-clause-one_past g c = λ _.
     let within = c.in_ok-count.ensures.at_most in
     let size = length-take c.min-most.result c.loop-bytes.piece in
     let same = c.read.auto.piece in
