@@ -1,2 +1,3 @@
-pub mod Taking
 pub mod Appending
+pub mod Taking
+pub mod Telling

@@ -3,6 +3,8 @@ ghost use Rattle.std.specs.Prelude.{◌≡◌, ◌≤◌, ◌↔◌, IsTrue};
 ghost use Rattle.vq_port.specs.Faults.{one_more};
 ghost use Rattle.vq_port.specs.InMemory.{IsNamed};
 
+use crate::Failed;
+use crate::failed::count_fault;
 use std::marker::Model;
 
 #[derive(Drop)]
@@ -41,11 +43,11 @@ impl Calls {
         self.fails.iter().any(|named| u64::from(*named) == number)
     }
 
-    // Counts one more fault.
-    pub fn count_fault(&mut self)
+    // Counts one more fault, and gives it as an error.
+    pub fn count_fault(&mut self) -> Failed
         ensures faults { self.new ≡ record self.old { faults = one_more self.old.faults } }
         ensures counted { self.old.faults ≤ self.new.faults }
     {
-        self.faults = self.faults.saturating_add(1);
+        count_fault(&mut self.faults)
     }
 }

@@ -76,8 +76,7 @@ impl Source for MemorySource {
         ensures counted { self.old.faults ≤ self.new.faults }
     {
         if self.calls.count_call() {
-            self.calls.count_fault();
-            return Err(Failed);
+            return Err(self.calls.count_fault());
         }
         let count = piece.len().min(self.piece).min(self.rest.len());
         self.rest.move_into(piece, count);
@@ -166,8 +165,7 @@ impl Sink for MemorySink {
         let named = self.calls.count_call();
         let count = piece.len().min(self.piece);
         if named || self.store.free() < count {
-            self.calls.count_fault();
-            return Err(Failed);
+            return Err(self.calls.count_fault());
         }
         self.store.append(&piece[..count]);
         Ok(count)

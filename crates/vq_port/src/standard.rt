@@ -1,6 +1,8 @@
-ghost use Rattle.std.specs.Prelude.{◌≡◌, ◌<◌, ◌≤◌, length, None, IfOk, IfSome, MatchResult};
+ghost use Rattle.std.specs.Prelude.{◌≡◌, ◌<◌, ◌≤◌, length, take, None, IfOk, IfSome, MatchResult};
+ghost use Rattle.std.specs.Io.KnownBytes.{Appends, ReadConsumes};
 ghost use Rattle.vq_port.specs.Faults.{one_more};
 
+use crate::failed::count_fault;
 use crate::{Failed, Sink, Source};
 use std::io::{Read, Stdin, Stdout, Write};
 use std::marker::Model;
@@ -41,13 +43,7 @@ impl Source for StdSource {
         ensures faults { MatchResult result (λ _. self.new ≡ self.old) (λ _. self.new ≡ one_more self.old) }
         ensures counted { self.old ≤ self.new }
     {
-        match self.input.read(piece) {
-            Ok(count) => Ok(count),
-            Err(_) => {
-                self.faults = self.faults.saturating_add(1);
-                Err(Failed)
-            }
-        }
+        read_counted(&mut self.input, &mut self.faults, piece)
     }
 }
 
@@ -89,20 +85,42 @@ impl Sink for StdSink {
         ensures faults { MatchResult result (λ _. self.new ≡ self.old) (λ _. self.new ≡ one_more self.old) }
         ensures counted { self.old ≤ self.new }
     {
-        match write_flushed(&mut self.output, piece) {
-            Some(count) => Ok(count),
-            None => {
-                self.faults = self.faults.saturating_add(1);
-                Err(Failed)
-            }
-        }
+        write_counted(&mut self.output, &mut self.faults, piece)
+    }
+}
+
+// Reads once, and counts an error as a fault.
+fn read_counted<R: Read>(input: &mut R, faults: &mut u64, piece: &mut [u8]) -> Result<usize, Failed>
+    ensures at_most { IfOk result (λ count. count ≤ length piece.old) }
+    ensures bytes { ReadConsumes (R.remaining input.old) (R.remaining input.new) result piece.new }
+    ensures faults { MatchResult result (λ _. faults.new ≡ faults.old) (λ _. faults.new ≡ one_more faults.old) }
+    ensures counted { faults.old ≤ faults.new }
+{
+    match input.read(piece) {
+        Ok(count) => Ok(count),
+        Err(_) => Err(count_fault(faults)),
+    }
+}
+
+// Writes once and flushes, and counts as a fault where either fails.
+fn write_counted<W: Write>(output: &mut W, faults: &mut u64, piece: &[u8]) -> Result<usize, Failed>
+    ensures at_most { IfOk result (λ count. count ≤ length piece.now) }
+    ensures at_least { IfOk result (λ count. 0 < length piece.now → 0 < count) }
+    ensures bytes { IfOk result (λ count. Appends (W.contents output.old) (W.contents output.new) (take count piece.now)) }
+    ensures faults { MatchResult result (λ _. faults.new ≡ faults.old) (λ _. faults.new ≡ one_more faults.old) }
+    ensures counted { faults.old ≤ faults.new }
+{
+    match write_flushed(output, piece) {
+        Some(count) => Ok(count),
+        None => Err(count_fault(faults)),
     }
 }
 
 // Writes and flushes. `None` where either fails, or where nothing is taken of a piece that isn't empty.
-fn write_flushed(output: &mut Stdout, piece: &[u8]) -> Option<usize>
+fn write_flushed<W: Write>(output: &mut W, piece: &[u8]) -> Option<usize>
     ensures at_most { IfSome result (λ count. count ≤ length piece.now) }
     ensures at_least { IfSome result (λ count. 0 < length piece.now → 0 < count) }
+    ensures bytes { IfSome result (λ count. Appends (W.contents output.old) (W.contents output.new) (take count piece.now)) }
 {
     let count = output.write(piece).ok()?;
     output.flush().ok()?;

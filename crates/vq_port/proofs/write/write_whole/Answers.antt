@@ -4,13 +4,11 @@ use Rattle.vq_port.proofs.write.write_whole.Goals as goal
 
 pub loop-rest-preserved : goal.loop-rest-preserved
 loop-rest-preserved g c =
-    let before = c.loop-rest.invariant.1 in
-    let count = c.in_ok-count.count in (
-      omega (arith, c.write.ensures.counted),
-      (
-        before.0 + count,
-        rest_length c.args.bytes.now c.loop-rest.rest.now before.0 count before.1 before.2 c.in_ok-count.ensures.at_most,
-        rest_behind c.args.bytes.now c.loop-rest.rest.now before.0 count before.2,
-        appends_rest c.args.bytes.now c.loop-rest.rest.now before.0 count _ _ _ before.2 before.3 c.in_ok-count.ensures.appends,
-      ),
-    )
+    let before = c.loop-rest.invariant in
+    let count = c.in_ok-count.count in record {
+      counted = omega (arith, c.write.ensures.counted);
+      done = before.done + count;
+      within = rest_length c.args.bytes.now c.loop-rest.rest.now before.done count before.within before.behind c.in_ok-count.ensures.at_most;
+      behind = rest_behind c.args.bytes.now c.loop-rest.rest.now before.done count before.behind;
+      written = appends_rest c.args.bytes.now c.loop-rest.rest.now before.done count _ _ _ before.behind before.written c.in_ok-count.ensures.appends;
+    }

@@ -2,12 +2,15 @@ use Rattle.std.proofs.Common.{◌≡◌, ℕ, ◌≤◌, length, take, drop}
 use Rattle.vq_port.specs.Writing.{Appends}
 use Rattle.vq_port.proofs.write.write_whole.Given as goal
 
--- The bytes before the rest were written.
+-- So many bytes were written, and the rest are those behind.
 abbrev pub invariant-loop-rest : goal.invariant-loop-rest
-invariant-loop-rest g l =
-    (g.K.Sink.faults l.fn.sink ≤ g.K.Sink.faults l.sink) ×
-    ((done : ℕ) × (done ≤ length l.bytes) × (l.rest ≡ drop done l.bytes) ×
-    Appends (take done l.bytes) (g.K.Sink.written l.fn.sink) (g.K.Sink.written l.sink))
+invariant-loop-rest g l = record {
+  counted : g.K.Sink.faults l.fn.sink ≤ g.K.Sink.faults l.sink;
+  done : ℕ;
+  within : done ≤ length l.bytes;
+  behind : l.rest ≡ drop done l.bytes;
+  written : Appends (take done l.bytes) (g.K.Sink.written l.fn.sink) (g.K.Sink.written l.sink);
+}
 
 abbrev pub decreases-loop-rest : goal.decreases-loop-rest
 decreases-loop-rest g l = length l.rest
