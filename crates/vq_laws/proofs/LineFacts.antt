@@ -1,5 +1,5 @@
 -- What a line without a fault says, by the part of the text in which it stands.
-use Rattle.std.proofs.Common.{◌≡◌, ℕ, zero, suc, ◌+◌, ◌-◌, ◌*◌, ◌/◌, ◌<◌, ◌≤◌, ◌==◌, Bool, true, false, cond, not, ◌&&◌, ◌||◌, eqb, ltb, leb, List, [], ◌∷◌, ◌++◌, length, map, find, Option, Some, None, option_map, refl, sym, ap, ◌∙◌, ◌⊎◌, inl, inr, subst, arith}
+use Rattle.std.proofs.Common.{◌≡◌, ℕ, zero, suc, ◌+◌, ◌<◌, ◌≤◌, ◌==◌, Bool, true, false, cond, not, ◌&&◌, List, [], ◌∷◌, ◌++◌, length, map, find, Option, Some, None, option_map, refl, sym, ap, ◌∙◌, subst, arith}
 use Rattle.std.specs.Prelude.{nat_lt, sum}
 use Rattle.std.specs.List.{slice_get, slice_index_or, list_all, position, position_or_len}
 use Rattle.std.specs.Option.{option_map_or, option_and_then}
@@ -18,7 +18,7 @@ use Rattle.vq_laws.specs.declared.statement.LineForm.TheVariants.{BufferLine, Qu
 use Rattle.vq_laws.specs.declared.script.Buffer.{Buffer}
 use Rattle.vq_laws.specs.declared.script.Queue.{Queue}
 use Rattle.vq_laws.specs.declared.script.Mode.{Mode}
-use Rattle.vq_laws.specs.declared.script.Mode.TheVariants.{Immediate, Deferred, Threaded}
+use Rattle.vq_laws.specs.declared.script.Mode.TheVariants.{Immediate}
 use Rattle.vq_laws.specs.declared.script.Command.{Command}
 use Rattle.vq_laws.specs.declared.script.Command.TheVariants.{Fill, Update, Copy}
 use Rattle.vq_laws.specs.declared.script.FillSize.TheVariants.{Whole, Count}

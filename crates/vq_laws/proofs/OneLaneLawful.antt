@@ -1,25 +1,25 @@
 -- The plan of a script of one lane is lawful: each job happens before each later one, and there are no signals and no waits.
-use Rattle.std.proofs.Common.{◌≡◌, ℕ, zero, suc, ◌+◌, ◌<◌, ◌≤◌, Bool, true, false, cond, not, eqb, List, [], ◌∷◌, ◌++◌, length, map, filter, Option, Some, None, refl, sym, ap, ◌∙◌, ◌⊎◌, inl, inr, subst, arith}
+use Rattle.std.proofs.Common.{◌≡◌, ℕ, zero, suc, ◌+◌, ◌<◌, ◌≤◌, Bool, true, cond, not, eqb, List, [], ◌∷◌, ◌++◌, length, map, Option, Some, None, refl, sym, ap, ◌∙◌, ◌⊎◌, inl, inr, subst, arith}
 use Rattle.std.specs.Prelude.{nat_lt}
 use Rattle.std.specs.List.{slice_get, position_or_len, range_with_len}
 use Rattle.std.specs.Option.{option_map_or}
 use Rattle.std.proofs.lemmas.Bool.{eq-eqb, ne_eqb, false≢true, cases_eq, cases_lt, lt-ltb}
 use Rattle.vq_laws.specs.declared.script.Script.{Script}
 use Rattle.vq_laws.specs.declared.script.Job.{Job}
-use Rattle.vq_laws.specs.Plan.{Plan, has, previous, commands_of, needs, chain, chain_of, job_of, initial, question, is_silent}
+use Rattle.vq_laws.specs.Plan.{Plan, has, commands_of, needs, chain, chain_of, initial, question, is_silent}
 use Rattle.vq_laws.specs.Lowering.{plan_job, plan_of}
 use Rattle.vq_laws.specs.Edges.{Place, AtEnd, place_of, by_lane}
 use Rattle.vq_laws.specs.HappensBefore.{comes_earlier, IsHop, HappensBeforeAt, one, more}
-use Rattle.vq_laws.specs.SlowRun.{slow_order, final}
+use Rattle.vq_laws.specs.SlowRun.{final}
 use Rattle.vq_laws.specs.Sure.{RisesFrom}
 use Rattle.vq_laws.specs.Races.{IsRace}
-use Rattle.vq_laws.specs.Checks.{IsLawful, IsUnordered, too_low, equal, unsure, unsure_back, unawaited, IsFenceBusyAt, IsNotPendingAt, IsRaceAt, is_timeline_chain}
+use Rattle.vq_laws.specs.Checks.{IsLawful, IsUnordered, too_low, equal, unsure, unsure_back, unawaited}
 use Rattle.vq_laws.specs.Outputs.{IsOutput, Answered, answer_lines, asking}
 use Rattle.vq_laws.specs.OutputText.{answer_text, buffers_text}
 use Rattle.vq_laws.specs.ValidScripts.{HasOneLane}
 use Rattle.vq_laws.proofs.PlanLaws.{part_is, get_within, filter_empty}
 use Rattle.vq_laws.proofs.Edges.{of_edge}
-use Rattle.vq_laws.proofs.OneLane.{lane_plan, one_lane_plan, one_lane_needs, one_lane_previous, one_lane_question, one_lane_order, one_lane_left}
+use Rattle.vq_laws.proofs.OneLane.{one_lane_plan, one_lane_needs, one_lane_previous, one_lane_question, one_lane_order, one_lane_left}
 
 -- where a number stands in a range
 position_range : (n a t : ℕ) → a ≤ t → t < a + n → a + position_or_len (λ k. eqb k t) (range_with_len a n) ≡ t

@@ -3,8 +3,7 @@ use Rattle.std.proofs.Common.{◌≡◌, ℕ, zero, suc, ◌+◌, ◌<◌, ◌�
 use Rattle.std.specs.Prelude.{Result, sum}
 use Rattle.std.specs.List.{slice_get, slice_index_or, filter_map, cons_option, position_or_len}
 use Rattle.std.specs.Option.{option_map_or}
-use Rattle.std.proofs.lemmas.Bool.{false≢true}
-use Rattle.std.proofs.lemmas.List.{map-append, length-map}
+use Rattle.std.proofs.lemmas.List.{map-append}
 use Rattle.std.proofs.lemmas.List.Elements.{filter_map-append}
 use Rattle.std.proofs.lemmas.List.Sums.{sum_by-cons, sum_by-append}
 use Rattle.vq_laws.specs.declared.statement.Form.{Form}
@@ -18,14 +17,13 @@ use Rattle.vq_laws.specs.declared.statement.Line.{Line}
 use Rattle.vq_laws.specs.declared.script.Script.{Script}
 use Rattle.vq_laws.specs.declared.script.Buffer.{Buffer}
 use Rattle.vq_laws.specs.declared.script.Job.{Job}
-use Rattle.vq_laws.specs.declared.script.Mark.{Mark}
 use Rattle.vq_laws.specs.declared.script.CommandLine.{CommandLine}
 use Rattle.vq_laws.specs.declared.script.Command.{Command}
 use Rattle.vq_laws.specs.declared.script.Command.TheVariants.{Fill, Update, Copy}
 use Rattle.vq_laws.specs.declared.script.FillSize.TheVariants.{Whole, Count}
 use Rattle.vq_laws.specs.Context.{section_after, section, buffer_of, buffers, semaphore_of, queue_of, queues, is_end, is_command, count}
-use Rattle.vq_laws.specs.ScriptOfLines.{script_of, batch_lines, wait_of, command_of, signal_of, fence_of, first_of_list, job_at, jobs_of}
-use Rattle.vq_laws.specs.Reading.{with_line, without_fault, read_line, read_statement, read_lines, go_on, read_script, StandsFor}
+use Rattle.vq_laws.specs.ScriptOfLines.{script_of, batch_lines, wait_of, command_of, signal_of, fence_of, first_of_list, jobs_of}
+use Rattle.vq_laws.specs.Reading.{with_line, without_fault, read_line, read_statement, read_lines, go_on, StandsFor}
 use Rattle.vq_laws.specs.LineFaults.{fault_of, ends_early}
 use Rattle.vq_laws.specs.Meaning.{meaning}
 use Rattle.vq_laws.specs.Text.{words_of, lines_of}
@@ -33,7 +31,7 @@ use Rattle.vq_laws.specs.Limits.{is_job}
 use Rattle.vq_laws.specs.Ranges.{Fits, IsWithin, fill_size}
 use Rattle.vq_laws.specs.Lowering.{batch_commands, commands_in}
 use Rattle.vq_laws.specs.Signals.{Signaling, all_signals}
-use Rattle.vq_laws.specs.ValidScripts.{IsValid, KeepsLimits, HasOneLane, ArePlainBatches, sizes_of}
+use Rattle.vq_laws.specs.ValidScripts.{IsValid, HasOneLane, ArePlainBatches}
 use Rattle.vq_laws.proofs.Meanings.{has_meaning}
 use Rattle.vq_laws.proofs.LineFacts.{sizes_before, Said, said_of}
 use Rattle.vq_laws.proofs.OneLane.{one_lane_signals}

@@ -6,7 +6,6 @@ use Rattle.std.specs.List.{slice_get}
 use Rattle.std.proofs.lemmas.List.{length-map}
 use Rattle.vq_laws.specs.declared.script.Script.{Script}
 use Rattle.vq_laws.specs.declared.script.Buffer.{Buffer}
-use Rattle.vq_laws.specs.declared.script.Semaphore.{Semaphore}
 use Rattle.vq_laws.specs.declared.script.Job.{Job}
 use Rattle.vq_laws.specs.declared.script.Job.TheVariants.{Host, Batch as BatchJob}
 use Rattle.vq_laws.specs.declared.script.CommandLine.{CommandLine}
@@ -14,7 +13,7 @@ use Rattle.vq_laws.specs.Signals.{Signaling, all_signals}
 use Rattle.vq_laws.specs.Lowering.{batch_commands, commands_in}
 use Rattle.vq_laws.specs.Ranges.{Fits}
 use Rattle.vq_laws.specs.ValidScripts.{IsValid, KeepsLimits, HasOneLane, ArePlainBatches, sizes_of}
-use Rattle.vq_laws.specs.SameScript.{SameButLines, IsScript, without_lines, job_without_lines, mark_without_line, command_without_line, buffer_without_line, semaphore_without_line, queue_without_line}
+use Rattle.vq_laws.specs.SameScript.{SameButLines, IsScript, job_without_lines, mark_without_line, command_without_line, buffer_without_line, semaphore_without_line, queue_without_line}
 use Rattle.vq_laws.proofs.PlanLaws.{get-map, some_of}
 use Rattle.vq_laws.proofs.OneLane.{one_lane_signals}
 use Rattle.vq_laws.proofs.ScriptFacts.{text_one_lane, text_valid}
