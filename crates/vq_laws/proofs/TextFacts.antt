@@ -23,12 +23,16 @@ no_more x [] n l = let one = at_most_one (length (x ∷ []) == 0) (x ∷ []) in 
 no_more x (part ∷ []) n l = let one = at_most_one (length (x ∷ part) == 0) (x ∷ part) in omega arith
 no_more x (part ∷ next ∷ parts) n l = omega arith
 
-few_parts : (text : List ℕ) → length (without_empty_end (slice_split is_line_feed text)) ≤ length text
+few_parts : (text : List ℕ) →
+    length (without_empty_end (slice_split is_line_feed text)) ≤ length text
 few_parts [] = omega arith
 few_parts (x ∷ text) = by_test (is_line_feed x) (few_parts text)
   where
-    by_test : (b : Bool) → length (without_empty_end (slice_split is_line_feed text)) ≤ length text →
-        length (without_empty_end (cond b ([] ∷ slice_split is_line_feed text) (onto_first x (slice_split is_line_feed text)))) ≤ suc (length text)
+    by_test : (b : Bool) →
+        length (without_empty_end (slice_split is_line_feed text)) ≤ length text →
+        length (without_empty_end
+        (cond b ([] ∷ slice_split is_line_feed text)
+        (onto_first x (slice_split is_line_feed text)))) ≤ suc (length text)
     by_test true l = one_more (slice_split is_line_feed text) (length text) l
     by_test false l = no_more x (slice_split is_line_feed text) (length text) l
 
