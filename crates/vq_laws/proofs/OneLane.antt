@@ -167,6 +167,15 @@ lane_job j line before count =
       question = Silent;
     }
 
+-- What plain batches are lowered to, one after another, from a place and a number of commands
+-- before them on.
+abbrev pub lane_jobs : ℕ → ℕ → List Job → List PlanJob
+lane_jobs j before [] = []
+lane_jobs j before (Host h ∷ jobs) = []
+lane_jobs j before (BatchJob b ∷ jobs) =
+    lane_job j b.line before (length b.commands)
+    ∷ lane_jobs (j + 1) (before + length b.commands) jobs
+
 -- the job of a batch, by its parts
 abbrev batch_job : ℕ → ℕ → Option ℕ → Option ℕ → List Mark → Script → ℕ → ℕ → ℕ → List Signaling →
     PlanJob
@@ -310,6 +319,15 @@ find_range (suc n) a j test l u below here = elim (cases_eq a j) [
       ∙ find_range n (a + 1) j test (grind arith) (grind arith) below here
 ]
 
+-- one batch more has so many commands more
+commands_more : (front : List Job) (b : Batch) →
+    length (flat_map batch_commands (front ++ BatchJob b ∷ []))
+    ≡ length (flat_map batch_commands front) + length b.commands
+commands_more front b =
+    let one = length-append b.commands [] in
+    let two = length-append (flat_map batch_commands front) (b.commands ++ []) in
+    ap length (flat_map-append batch_commands front (BatchJob b ∷ [])) ∙ omega arith
+
 module _ (s : Script) (h : HasOneLane s) where
   pub one_lane_uses : uses s ≡ []
   one_lane_uses = no_uses s s.jobs h.batches
@@ -359,6 +377,49 @@ module _ (s : Script) (h : HasOneLane s) where
   one_lane_plan =
       ap (λ (xs : List Signaling). bare_plan s xs s.semaphores) one_lane_signals
       ∙ ap (λ (xs : List Semaphore). bare_plan s [] xs) h.semaphores
+
+  -- the batch at a place, and the number of commands up to the next one
+  batch_at : (front rest : List Job) (b : Batch) → s.jobs ≡ front ++ BatchJob b ∷ rest →
+      slice_get s.jobs (length front) ≡ Some (BatchJob b)
+  batch_at front rest b e =
+      let z : length front ≡ length front + 0 = omega arith in
+      ap (λ (jobs : List Job). slice_get jobs (length front)) e
+      ∙ (ap (slice_get (front ++ BatchJob b ∷ rest)) z ∙ get-append front (BatchJob b ∷ rest) 0)
+
+  first_jobs : (front rest : List Job) → s.jobs ≡ front ++ rest → take (length front) s.jobs ≡ front
+  first_jobs front rest e = ap (take (length front)) e ∙ take_front front rest
+
+  -- the jobs of the plan from a place on
+  jobs_from : (front rest : List Job) → s.jobs ≡ front ++ rest → ArePlainBatches rest →
+      map (plan_job s) (enumerate_from (length front) rest)
+      ≡ lane_jobs (length front) (length (flat_map batch_commands front)) rest
+  jobs_from front [] e a = refl
+  jobs_from front (Host x ∷ rest) e a = absurd a
+  jobs_from front (BatchJob b ∷ rest) e a =
+      let count = length-append front (BatchJob b ∷ []) in
+      let n : length front + 1 ≡ length (front ++ BatchJob b ∷ []) = omega arith in
+      let more = commands_more front b in
+      ap (λ (x : PlanJob). x ∷ map (plan_job s) (enumerate_from (length front + 1) rest))
+      (one_lane_job (length front) b (batch_at front rest b e)
+      ∙ ap (λ (jobs : List Job). lane_job (length front) b.line
+      (length (flat_map batch_commands jobs)) (length b.commands))
+      (first_jobs front (BatchJob b ∷ rest) e))
+      ∙ ap (λ (xs : List PlanJob). lane_job (length front) b.line
+      (length (flat_map batch_commands front)) (length b.commands) ∷ xs)
+      (ap (λ (k : ℕ). map (plan_job s) (enumerate_from k rest)) n
+      ∙ (jobs_from (front ++ BatchJob b ∷ []) rest
+      (e ∙ sym (append_assoc front (BatchJob b ∷ []) rest)) a.1
+      ∙ (ap (λ (k : ℕ). lane_jobs k (length (flat_map batch_commands (front ++ BatchJob b ∷ [])))
+      rest) (sym n)
+      ∙ ap (λ (k : ℕ). lane_jobs (length front + 1) k rest) more)))
+
+  -- The jobs of the plan, one after another.
+  pub one_lane_jobs : map (plan_job s) (enumerate_from 0 s.jobs) ≡ lane_jobs 0 0 s.jobs
+  one_lane_jobs = jobs_from [] s.jobs refl h.batches
+
+  -- The whole plan.
+  pub one_lane_plan_of : plan_of s ≡ lane_plan s (lane_jobs 0 0 s.jobs)
+  one_lane_plan_of = one_lane_plan ∙ ap (lane_plan s) one_lane_jobs
 
   -- a part of each job of the plan
   lane_part : {B : Type 0} (part : PlanJob → B) (none : B) (j : ℕ) →
@@ -533,27 +594,14 @@ module _ (s : Script) (h : HasOneLane s) where
   commands_span front [] e a = refl
   commands_span front (Host x ∷ rest) e a = absurd a
   commands_span front (BatchJob b ∷ rest) e a =
-      let z : length front ≡ length front + 0 = omega arith in
-      let at : slice_get s.jobs (length front) ≡ Some (BatchJob b) =
-      ap (λ (jobs : List Job). slice_get jobs (length front)) e
-      ∙ (ap (slice_get (front ++ BatchJob b ∷ rest)) z ∙ get-append front (BatchJob b ∷ rest) 0) in
-      let first : take (length front) s.jobs ≡ front = ap (take (length front)) e
-      ∙ take_front front (BatchJob b ∷ rest) in
       let here : commands_of (plan_of s) (length front)
       ≡ range_with_len (length (flat_map batch_commands front)) (length b.commands) =
-      one_lane_commands (length front) b at
+      one_lane_commands (length front) b (batch_at front rest b e)
       ∙ ap (λ (jobs : List Job). range_with_len (length (flat_map batch_commands jobs))
-      (length b.commands)) first in
+      (length b.commands)) (first_jobs front (BatchJob b ∷ rest) e) in
       let count = length-append front (BatchJob b ∷ []) in
       let n : length front + 1 ≡ length (front ++ BatchJob b ∷ []) = omega arith in
-      let cut : flat_map batch_commands (front ++ BatchJob b ∷ []) ≡ flat_map batch_commands front
-      ++ flat_map batch_commands (BatchJob b ∷ []) =
-      flat_map-append batch_commands front (BatchJob b ∷ []) in
-      let one = length-append b.commands [] in
-      let two = length-append (flat_map batch_commands front) (b.commands ++ []) in
-      let more : length (flat_map batch_commands (front ++ BatchJob b ∷ []))
-      ≡ length (flat_map batch_commands front) + length b.commands =
-      ap length cut ∙ omega arith in
+      let more = commands_more front b in
       let sum = length-append b.commands (flat_map batch_commands rest) in
       ap (λ (cs : List ℕ). cs
       ++ flat_map (commands_of (plan_of s)) (range_with_len (length front + 1) (length rest)))
