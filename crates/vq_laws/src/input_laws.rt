@@ -1,4 +1,5 @@
-//! Laws over what texts stand for, and over plans of one lane. The functions do nothing: their contracts are the laws.
+//! Laws over what texts stand for, and over plans of one lane. The functions do nothing: their
+//! contracts are the laws.
 ghost use Rattle.std.specs.Prelude.{◌≡◌, ◌≤◌, ℕ, List, [], None, length, map};
 ghost use Rattle.std.specs.List.{flat_map, range_with_len};
 ghost use Rattle.vq_laws.specs.declared.script.Script.{Script};
@@ -18,20 +19,21 @@ pub fn lines_are_few()
     ensures { (text : List ℕ) → length (lines_of text) ≤ length text }
 {}
 
-/// A script that can be written is valid: its signals name semaphores that exist, its commands fit their buffers, and it
-/// stays within the limits.
+/// A script that can be written is valid: its signals name semaphores that exist, its commands fit
+/// their buffers, and it stays within the limits.
 pub fn scripts_are_valid()
     ensures { (s : Script) → IsScript s → IsValid s }
 {}
 
-/// A script that can be written has one lane: no semaphores, and only batches of one queue with nothing but commands. So it is
-/// as long as no further form of lines is built.
+/// A script that can be written has one lane: no semaphores, and only batches of one queue with
+/// nothing but commands. So it is as long as no further form of lines is built.
 pub fn scripts_have_one_lane()
     ensures { (s : Script) → IsScript s → HasOneLane s }
 {}
 
-/// A script of one lane has no fault of lowering. The slow run of its plan does all jobs in their order, and leaves what all
-/// commands leave in the order of the script. The plan is lawful, and the text of these buffers is its only output.
+/// A script of one lane has no fault of lowering. The slow run of its plan does all jobs in their
+/// order, and leaves what all commands leave in the order of the script. The plan is lawful, and the
+/// text of these buffers is its only output.
 pub fn one_lane_plans()
     ensures faultless { (s : Script) → HasOneLane s → lowering_fault s ≡ None }
     ensures order { (s : Script) → HasOneLane s →
