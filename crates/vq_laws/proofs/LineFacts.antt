@@ -190,8 +190,8 @@ forms_belong form before InBatch = in_batch (version_of before == 2)
 forms_belong form before InSchedule = refl
 
 -- what is built is built
-where_it_is_built : (before : List Line) (o : Option LineForm) (f : LineForm) → where_built before o
-    ≡ Some f → is_built before f ≡ true
+where_it_is_built : (before : List Line) (o : Option LineForm) (f : LineForm) →
+    where_built before o ≡ Some f → is_built before f ≡ true
 where_it_is_built before None f h = absurd (cc)
 where_it_is_built before (Some g) f h = by_test (is_built before g) refl h
   where
@@ -298,8 +298,8 @@ module _ (before : List Line) where
   says was s an_end r o l = tt
 
   -- What a line without a fault says.
-  pub said_of : (form : Form) (words : List (List ℕ)) (s : Statement) → fault_of form before words
-      ≡ None →
+  pub said_of : (form : Form) (words : List (List ℕ)) (s : Statement) →
+      fault_of form before words ≡ None →
       meaning form before words ≡ Some s → Said before (section before) s
   said_of form words s h m =
       let one =

@@ -460,8 +460,8 @@ module _ (s : Script) (h : HasOneLane s) where
   one_lane_signals_of j = lane_part (λ x. x.signals) [] j (λ l b c. refl)
 
   -- a part of the job of a batch
-  batch_part : {B : Type 0} (part : PlanJob → B) (none : B) (j : ℕ) (b : Batch) → slice_get s.jobs j
-      ≡ Some (BatchJob b) →
+  batch_part : {B : Type 0} (part : PlanJob → B) (none : B) (j : ℕ) (b : Batch) →
+      slice_get s.jobs j ≡ Some (BatchJob b) →
       option_map_or part (slice_get (plan_of s).jobs j) none
       ≡ part (lane_job j b.line (length (flat_map batch_commands (take j s.jobs)))
       (length b.commands))

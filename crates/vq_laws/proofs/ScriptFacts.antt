@@ -353,8 +353,8 @@ of_text text form s h = by_result (read_lines form [] 1 (lines_of text)) refl h
     same_script : (a b : Script) → ◌≡◌ {A = Result Script (ℕ × FaultKind)} (Ok a) (Ok b) → a ≡ b
     same_script a b e = cc
 
-    by_result : (r : Result (List Line) (ℕ × FaultKind)) → read_lines form [] 1 (lines_of text)
-        ≡ r → of_lines r ≡ Ok s → IsOfLines s
+    by_result : (r : Result (List Line) (ℕ × FaultKind)) →
+        read_lines form [] 1 (lines_of text) ≡ r → of_lines r ≡ Ok s → IsOfLines s
     by_result (Ok lines) e h =
         record {
           lines = lines;
