@@ -1,0 +1,149 @@
+"""A second reading of docs/LANGUAGE.md: what vq writes for an input, and with which status.
+
+It shares nothing with the program but the page. `answer(data)` gives (status, text).
+"""
+import re
+
+LIMIT = 4_194_304
+NAME = re.compile(rb'[A-Za-z_][A-Za-z0-9_]{0,15}')
+DECIMAL = re.compile(rb'[0-9]{1,20}')
+HEXADECIMAL = re.compile(rb'0x[0-9a-fA-F]{1,16}')
+# The forms of lines by their section: a word as it stands, or what its place takes. Forms with
+# `unbuilt` are forms of the language that are not built.
+OUTSIDE = [
+    ('buffer', [b'buffer', 'new', 'numeral']),
+    ('unbuilt', [b'timeline', 'new', 'numeral']),
+    ('unbuilt', [b'binary', 'new']),
+    ('unbuilt', [b'fence', 'new']),
+    ('queue', [b'queue', 'new', b'immediate']),
+    ('unbuilt', [b'queue', 'new', b'deferred']),
+    ('unbuilt', [b'queue', 'new', b'threaded']),
+    ('submit', [b'submit', 'queue name']),
+]
+INSIDE = [
+    ('unbuilt', [b'fill', 'buffer name', 'numeral', b'whole', 'small numeral']),
+    ('fill', [b'fill', 'buffer name', 'numeral', 'numeral', 'small numeral']),
+    ('end', [b'end']),
+]
+
+
+class Fault(Exception):
+    pass
+
+
+def numeral(word):
+    if HEXADECIMAL.fullmatch(word):
+        value = int(word, 16)
+    elif DECIMAL.fullmatch(word):
+        value = int(word)
+    else:
+        return None
+    return value if value < 2 ** 64 else None
+
+
+def lines_of(data):
+    parts = data.split(b'\n')
+    if parts[-1] == b'':
+        parts.pop()
+    return [part[:-1] if part.endswith(b'\r') else part for part in parts]
+
+
+class Reader:
+    def __init__(self):
+        self.names = {}
+        self.buffers = []
+        self.begun = self.inside = False
+        self.jobs = self.commands = self.in_batch = 0
+
+    def read(self, line):
+        line = line.split(b'#', 1)[0]
+        words = [word for word in re.split(rb'[ \t]+', line) if word]
+        if not words:
+            return
+        if any(not 32 <= byte <= 126 and byte != 9 for byte in line):
+            raise Fault('syntax')
+        form, places = self.form(words)
+        if form is None or form == 'unbuilt' or (form == 'queue' and 'queue' in self.kinds()):
+            raise Fault('syntax')
+        at = list(zip(places, words))
+        if any(place in ('new', 'queue name', 'buffer name') and not NAME.fullmatch(word) for place, word in at):
+            raise Fault('syntax')
+        if form in ('buffer', 'queue') and self.begun:
+            raise Fault('order')
+        for place, word in at:
+            if place in ('numeral', 'small numeral'):
+                value = numeral(word)
+                if value is None or (place == 'small numeral' and value >= 2 ** 32):
+                    raise Fault('number')
+        for place, word in at:
+            if place == 'queue name' and self.names.get(word, ('', 0))[0] != 'queue':
+                raise Fault('name')
+            if place == 'buffer name' and self.names.get(word, ('', 0))[0] != 'buffer':
+                raise Fault('name')
+        if any(place == 'new' and word in self.names for place, word in at):
+            raise Fault('twice')
+        getattr(self, form)(words)
+
+    def kinds(self):
+        return {kind for kind, _ in self.names.values()}
+
+    def form(self, words):
+        for form, places in INSIDE if self.inside else OUTSIDE:
+            if len(places) == len(words) and all(
+                    word == place for place, word in zip(places, words) if isinstance(place, bytes)):
+                return form, places
+        return None, []
+
+    def buffer(self, words):
+        size = numeral(words[2])
+        if size == 0:
+            raise Fault('range')
+        if len(self.buffers) == 64 or sum(len(held) for _, held in self.buffers) + size > 1_048_576:
+            raise Fault('limit')
+        self.names[words[1]] = ('buffer', len(self.buffers))
+        self.buffers.append((words[1], bytearray(size)))
+
+    def queue(self, words):
+        self.names[words[1]] = ('queue', 0)
+
+    def submit(self, _):
+        if self.jobs == 4096:
+            raise Fault('limit')
+        self.jobs += 1
+        self.begun = self.inside = True
+        self.in_batch = 0
+
+    def fill(self, words):
+        held = self.buffers[self.names[words[1]][1]][1]
+        offset, size, word = numeral(words[2]), numeral(words[3]), numeral(words[4])
+        if offset >= len(held) or offset % 4 or size % 4 or size == 0 or offset + size > len(held):
+            raise Fault('range')
+        if self.commands == 8192 or self.in_batch == 64:
+            raise Fault('limit')
+        self.commands += 1
+        self.in_batch += 1
+        held[offset:offset + size] = word.to_bytes(4, 'little') * (size // 4)
+
+    def end(self, _):
+        self.inside = False
+
+
+def answer(data):
+    if len(data) > LIMIT:
+        return 2, b'error: too long\n'
+    reader = Reader()
+    lines = lines_of(data)
+    number = 0
+    try:
+        for number, line in enumerate(lines, 1):
+            reader.read(line)
+        number = len(lines) + 1
+        if reader.inside:
+            raise Fault('syntax')
+    except Fault as fault:
+        return 2, f'error: {fault}: line {number}\n'.encode()
+    text = []
+    for name, held in reader.buffers:
+        text.append(b'buffer ' + name + b' %d\n' % len(held))
+        text.extend(held[row:row + 16].hex().encode() + b'\n' for row in range(0, len(held), 16))
+    return 0, b''.join(text) + b'end\n'
