@@ -3,7 +3,7 @@ use Rattle.std.proofs.Common.{◌≡◌, ℕ, ◌+◌, ◌-◌, ◌≤◌, List,
 use Rattle.std.proofs.Math.Seq.{take-add}
 use Rattle.std.proofs.lemmas.Grind.{common_steps}
 use Rattle.std.specs.declared.option.Option.{Option}
-use Rattle.vq_port.specs.Writing.{Appends, Stays}
+use Rattle.vq_port.specs.Writing.{Appends, Stays, StillTells}
 
 -- nothing was written
 pub appends_nothing : (x : Option (List ℕ)) → Appends [] x x
@@ -36,3 +36,17 @@ rest_behind bytes rest done count e = grind (arith, common_steps)
 -- there are so many in the rest
 pub rest_length : (bytes rest : List ℕ) (done count : ℕ) → done ≤ length bytes → rest ≡ drop done bytes → count ≤ length rest → done + count ≤ length bytes
 rest_length bytes rest done count l e h = grind (arith, common_steps)
+
+-- so many bytes were told, and then so many more
+pub tells_more : (a b : ℕ) (x y z : Option (List ℕ)) (room room' room'' : ℕ) →
+    StillTells a x y room room' → StillTells b y z room' room'' → StillTells (a + b) x z room room''
+tells_more a b None y z room room' room'' p q = tt
+tells_more a b (Some w) None z room room' room'' p q = λ fits.
+    let first : a ≤ room = omega arith in
+    let none = (p first).0 in absurd (cc none)
+tells_more a b (Some w) (Some v) z room room' room'' p q = λ fits.
+    let first : a ≤ room = omega arith in
+    let left : room ≤ room' + a = (p first).1 in
+    let second : b ≤ room' = omega arith in
+    let last : room' ≤ room'' + b = (q second).1 in
+    ((q second).0, omega arith)

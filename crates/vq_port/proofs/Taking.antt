@@ -62,3 +62,8 @@ takes_past n a (Some all) (Some rest) e p = let f = ap length p in omega (arith,
 -- so many were taken as were there before and came with one read
 pub taken_length : (a b : List ℕ) (n : ℕ) → n ≤ length b → length (a ++ take n b) ≡ length a + n
 taken_length a b n h = omega (arith, length-append a (take n b), length-take n b)
+
+-- what holds of the bytes that were read whole holds of all that was left, where that was told
+pub holds_of_all : (P : List ℕ → Type 0) (x : Option (List ℕ)) (bytes : List ℕ) → IfSome x (λ all. bytes ≡ all) → P bytes → IfSome x P
+holds_of_all P None bytes e p = tt
+holds_of_all P (Some all) bytes e p = subst P e p

@@ -1,5 +1,5 @@
 -- What callers see of the sources and sinks in memory. Calls are numbered from 1.
-use Rattle.std.specs.Prelude.{◌≡◌, ℕ, ◌+◌, ◌<◌, ◌≤◌, List, ◌++◌, length, min, Bool, true, false, Some, None, Contains, nat_le, if◌then◌else◌}
+use Rattle.std.specs.Prelude.{ℕ, ◌+◌, ◌-◌, List, ◌++◌, length, Some, None, Contains, nat_le, if◌then◌else◌}
 use Rattle.std.specs.declared.option.Option.{Option}
 use Rattle.vq_port.specs.Faults.{one_more}
 
@@ -50,3 +50,8 @@ abbrev pub told_after : Option (List ℕ) → ℕ → List ℕ → Option (List 
 told_after None room bytes = None
 told_after (Some earlier) room bytes =
     if nat_le (length earlier + length bytes) room then Some (earlier ++ bytes) else None
+
+-- How many more bytes fit the room of a steady sink, while it tells them.
+abbrev pub room_left : Option (List ℕ) → ℕ → ℕ
+room_left None room = 0
+room_left (Some earlier) room = room - length earlier

@@ -1,4 +1,4 @@
-ghost use Rattle.std.specs.Prelude.{◌≡◌, ◌≢◌, ◌↔◌, ◌⊎◌, ◌+◌, ◌<◌, ◌≤◌, [], ◌++◌, length, take, drop, min, Some, IsErr, IfOk, OnOk, OnErr};
+ghost use Rattle.std.specs.Prelude.{◌≡◌, ◌≢◌, ◌↔◌, ◌⊎◌, ◌+◌, ◌-◌, ◌<◌, ◌≤◌, [], ◌++◌, length, take, drop, min, Some, IsErr, IfOk, OnOk, OnErr};
 ghost use Rattle.vq_port.specs.Faults.{one_more};
 ghost use Rattle.vq_port.specs.InMemory.{IsNamed, sink_room};
 
@@ -140,6 +140,8 @@ impl MemorySink {
 
 impl Sink for MemorySink {
     ghost written = { λ s. Some s.written };
+
+    ghost room = { λ s. sink_room - length s.written };
 
     ghost faults = { λ s. s.faults };
 

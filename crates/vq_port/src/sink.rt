@@ -1,7 +1,7 @@
 ghost use Rattle.std.specs.Prelude.{ℕ, ◌<◌, ◌≤◌, List, length, take, IfOk, OnErr};
 ghost use Rattle.std.specs.declared.option.Option.{Option};
 ghost use Rattle.vq_port.specs.Faults.{Rose};
-ghost use Rattle.vq_port.specs.Writing.{Appends, Stays};
+ghost use Rattle.vq_port.specs.Writing.{Appends, Stays, StillTells};
 
 use crate::Failed;
 
@@ -13,6 +13,9 @@ pub trait Sink {
     /// The bytes that were written so far, where the sink tells them.
     ghost written: { Self → Option (List ℕ) };
 
+    /// How many more bytes the sink is sure to tell. It is sure of none unless it says so.
+    ghost room: { Self → ℕ } = { λ _. 0 };
+
     /// How often the sink has failed, at most 2^64 - 1; the count never falls.
     ghost faults: { Self → ℕ };
 
@@ -23,6 +26,8 @@ pub trait Sink {
         ensures at_most { IfOk result (λ count. count ≤ length piece.now) }
         ensures at_least { IfOk result (λ count. 0 < length piece.now → 0 < count) }
         ensures appends { IfOk result (λ count. Appends (take count piece.now) (written self.old) (written self.new)) }
+        ensures tells { IfOk result (λ count. StillTells count
+            (written self.old) (written self.new) (room self.old) (room self.new)) }
 
         ensures counted { faults self.old ≤ faults self.new }
         ensures failed { OnErr result (Rose (faults self.old) (faults self.new)) }

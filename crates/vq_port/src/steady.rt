@@ -1,6 +1,6 @@
-ghost use Rattle.std.specs.Prelude.{◌≡◌, ◌<◌, ◌≤◌, [], ◌++◌, length, take, drop, min, Some, IsOk, IfOk};
+ghost use Rattle.std.specs.Prelude.{◌≡◌, ◌<◌, ◌≤◌, [], ◌++◌, length, take, drop, min, Some, IsOk, IfOk, IfSome};
 ghost use Rattle.std.specs.Option.{option_copied};
-ghost use Rattle.vq_port.specs.InMemory.{told_after, sink_room};
+ghost use Rattle.vq_port.specs.InMemory.{told_after, room_left, sink_room};
 
 use crate::rest::Rest;
 use crate::store::{ROOM, Store};
@@ -104,12 +104,15 @@ impl SteadySink {
 impl Sink for SteadySink {
     ghost written = { λ s. s.written };
 
+    ghost room = { λ s. room_left s.written s.room };
+
     ghost faults = { λ _. 0 };
 
     /// It takes all bytes of `piece`, and never fails.
     fn write(&mut self, piece: &[u8]) -> Result<usize, Failed>
         ensures steady { IsOk result }
         ensures count { IfOk result (λ count. count ≡ length piece.now) }
+        ensures within { IfSome self.old.written (λ earlier. length earlier ≤ self.old.room) }
         ensures told { self.new ≡ record self.old { written = told_after self.old.written self.old.room piece.now } }
     {
         if piece.len() <= self.store.free() {

@@ -1,6 +1,6 @@
-ghost use Rattle.std.specs.Prelude.{◌≡◌, ◌≤◌, [], IsOk, OnOk, OnErr};
+ghost use Rattle.std.specs.Prelude.{◌≡◌, ◌≤◌, [], length, IsOk, OnOk, OnErr};
 ghost use Rattle.vq_port.specs.Faults.{Rose};
-ghost use Rattle.vq_port.specs.Writing.{Appends, AppendsPart};
+ghost use Rattle.vq_port.specs.Writing.{Appends, AppendsPart, StillTells};
 
 use crate::{Failed, Sink};
 
@@ -9,6 +9,8 @@ use crate::{Failed, Sink};
 /// This project's rule.
 pub fn write_whole<K: Sink>(sink: &mut K, bytes: &[u8]) -> Result<(), Failed>
     ensures whole { OnOk result (Appends bytes.now (K.written sink.old) (K.written sink.new)) }
+    ensures tells { OnOk result (StillTells (length bytes.now)
+        (K.written sink.old) (K.written sink.new) (K.room sink.old) (K.room sink.new)) }
     ensures part { OnErr result (AppendsPart bytes.now (K.written sink.old) (K.written sink.new)) }
     ensures empty { bytes.now ≡ [] → IsOk result }
 

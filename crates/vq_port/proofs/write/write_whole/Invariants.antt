@@ -1,5 +1,5 @@
 use Rattle.std.proofs.Common.{◌≡◌, ℕ, ◌≤◌, length, take, drop}
-use Rattle.vq_port.specs.Writing.{Appends}
+use Rattle.vq_port.specs.Writing.{Appends, StillTells}
 use Rattle.vq_port.proofs.write.write_whole.Given as goal
 
 -- So many bytes were written, and the rest are those behind.
@@ -10,6 +10,7 @@ invariant-loop-rest g l = record {
   within : done ≤ length l.bytes;
   behind : l.rest ≡ drop done l.bytes;
   written : Appends (take done l.bytes) (g.K.Sink.written l.fn.sink) (g.K.Sink.written l.sink);
+  tells : StillTells done (g.K.Sink.written l.fn.sink) (g.K.Sink.written l.sink) (g.K.Sink.room l.fn.sink) (g.K.Sink.room l.sink);
 }
 
 abbrev pub decreases-loop-rest : goal.decreases-loop-rest
