@@ -11,6 +11,6 @@ Takes bytes before now = IfSome before (λ all. IsSomeAnd now (λ rest. all ≡ 
 abbrev pub TakesAtMost : ℕ → Option (List ℕ) → Option (List ℕ) → Type 0
 TakesAtMost most before now = (bytes : List ℕ) × (length bytes ≤ most) × Takes bytes before now
 
--- Nothing is left.
+-- Nothing is left, where that is told.
 abbrev pub IsAtEnd : Option (List ℕ) → Type 0
 IsAtEnd now = IfSome now (λ rest. rest ≡ [])

@@ -1,6 +1,7 @@
 -- What writing does to the bytes that a sink was given, where the sink tells them.
 -- What was written is `Some` of a list, or `None` where the sink doesn't tell it.
--- Each fact here holds where the bytes are told at the end of the call; they were then told at its start too.
+-- `Appends`, `Stays` and `AppendsPart` speak of a call at whose end the bytes are told; they were then told at its
+-- start too.
 use Rattle.std.specs.Prelude.{◌≡◌, ℕ, ◌+◌, ◌<◌, ◌≤◌, List, ◌++◌, length, take, Some, IfSome, OnSome, IsSome, IsSomeAnd}
 use Rattle.std.specs.declared.option.Option.{Option}
 

@@ -21,7 +21,7 @@ pub trait Sink {
 
     /// Takes bytes from the front of `piece` and gives their number, at most the length of `piece`,
     /// and at least 1 for a piece that isn't empty. `Failed` comes only where the sink counted a
-    /// fault in this call, and then nothing was taken.
+    /// fault in this call; what it tells of its bytes then stays as it was.
     fn write(&mut self, piece: &[u8]) -> Result<usize, Failed>
         ensures at_most { IfOk result (λ count. count ≤ length piece.now) }
         ensures at_least { IfOk result (λ count. 0 < length piece.now → 0 < count) }

@@ -15,7 +15,7 @@ pub trait Source {
 
     /// Moves bytes into the front of `piece` and gives their number, at most the length of `piece`.
     /// It is 0 for a piece that isn't empty only where nothing is left. `Failed` comes only where the
-    /// source counted a fault in this call, and then nothing was taken.
+    /// source counted a fault in this call; what it tells of the bytes left then stays as it was.
     fn read(&mut self, piece: &mut [u8]) -> Result<usize, Failed>
         ensures at_most { IfOk result (λ count. count ≤ length piece.old) }
         ensures takes { IfOk result (λ count. Takes (take count piece.new) (left self.old) (left self.new)) }
