@@ -16,7 +16,7 @@ even_found a b c d e rest h =
     let some : ltb 0 (length (d ∷ e ∷ rest)) ≡ true = grind (arith, nat_tests) in
     rw (some, h) refl
 
-length_texts : (words : List (Bor (List ℕ))) → length (texts words) ≡ length words
+pub length_texts : (words : List (Bor (List ℕ))) → length (texts words) ≡ length words
 length_texts [] = refl
 length_texts (w ∷ ws) = let more = length_texts ws in omega arith
 

@@ -2,11 +2,11 @@
 use Rattle.std.specs.Prelude.{ℕ, ◌≡◌, List, [], ◌∷◌, find, Option}
 use Rattle.std.specs.Option.{option_map}
 use Rattle.vq_laws.specs.declared.statement.LineForm.{LineForm}
-use Rattle.vq_laws.specs.declared.statement.LineForm.TheVariants.{VersionLine, BufferLine, TimelineLine, BinaryLine, FenceLine, QueueLine, SubmitLine, HostSignalLine, HostWaitAllLine, HostWaitAnyLine, HostPollAllLine, HostPollAnyLine, HostReadLine, HostFenceWaitLine, HostFencePollLine, HostFenceResetLine, HostIdleLine, ScheduleLine, HeldTimelineLine, HeldBinaryLine, WaitTimelineLine, WaitBinaryLine, FillWholeLine, FillLine, UpdateLine, CopyLine, SignalTimelineLine, SignalBinaryLine, BatchFenceLine, EndLine, TurnLine, TurnsLine}
-use Rattle.vq_laws.specs.Forms.{Place, Actor, BinaryName, BufferName, FenceName, HexDigits, NewName, Numeral, QueueName, SmallNumeral, TimelineName, places}
+use Rattle.vq_laws.specs.declared.statement.LineForm.TheVariants.{BufferLine, TimelineLine, BinaryLine, FenceLine, QueueLine, SubmitLine, HostSignalLine, HostWaitAllLine, HostWaitAnyLine, HostPollAllLine, HostPollAnyLine, HostReadLine, HostFenceWaitLine, HostFencePollLine, HostFenceResetLine, HostIdleLine, WaitTimelineLine, WaitBinaryLine, FillWholeLine, FillLine, UpdateLine, CopyLine, SignalTimelineLine, SignalBinaryLine, BatchFenceLine, EndLine}
+use Rattle.vq_laws.specs.Forms.{Place, BinaryName, BufferName, FenceName, HexDigits, NewName, Numeral, QueueName, SmallNumeral, TimelineName, places}
 use Rattle.vq_laws.specs.Meaning.{matches, agree, open_places, pair_places}
 use Rattle.vq_script.specs.declared.forms.Found.{Found}
-use Rattle.vq_script.specs.declared.forms.Found.TheVariants.{Version, Buffer, Timeline, Binary, Fence, Queue, Submit, HostSignal, HostWaitAll, HostWaitAny, HostPollAll, HostPollAny, HostRead, HostFenceWait, HostFencePoll, HostFenceReset, HostIdle, Schedule, HeldTimeline, HeldBinary, WaitTimeline, WaitBinary, FillWhole, Fill, Update, Copy, SignalTimeline, SignalBinary, BatchFence, End, Turn, Turns}
+use Rattle.vq_script.specs.declared.forms.Found.TheVariants.{Buffer, Timeline, Binary, Fence, Queue, Submit, HostSignal, HostWaitAll, HostWaitAny, HostPollAll, HostPollAny, HostRead, HostFenceWait, HostFencePoll, HostFenceReset, HostIdle, WaitTimeline, WaitBinary, FillWhole, Fill, Update, Copy, SignalTimeline, SignalBinary, BatchFence, End}
 use Rattle.vq_script.specs.Words.{texts}
 
 -- a form with its open places and the words there
@@ -14,7 +14,6 @@ abbrev pub OpenLine : Type 0
 OpenLine = LineForm × List (Place × List ℕ)
 
 abbrev pub open_line : Found → OpenLine
-open_line Version = (VersionLine, [])
 open_line (Buffer name size) = (BufferLine, (NewName, name.now) ∷ (Numeral, size.now) ∷ [])
 open_line (Timeline name value) = (TimelineLine, (NewName, name.now) ∷ (Numeral, value.now) ∷ [])
 open_line (Binary name) = (BinaryLine, (NewName, name.now) ∷ [])
@@ -32,14 +31,6 @@ open_line (HostFenceWait fence) = (HostFenceWaitLine, (FenceName, fence.now) ∷
 open_line (HostFencePoll fence) = (HostFencePollLine, (FenceName, fence.now) ∷ [])
 open_line (HostFenceReset fence) = (HostFenceResetLine, (FenceName, fence.now) ∷ [])
 open_line HostIdle = (HostIdleLine, [])
-open_line Schedule = (ScheduleLine, [])
-open_line (HeldTimeline timeline value place) = (
-  HeldTimelineLine,
-  (TimelineName, timeline.now) ∷ (Numeral, value.now) ∷ (Numeral, place.now)
-      ∷ [],
-)
-open_line (HeldBinary semaphore place) =
-    (HeldBinaryLine, (BinaryName, semaphore.now) ∷ (Numeral, place.now) ∷ [])
 open_line (WaitTimeline timeline value) =
     (WaitTimelineLine, (TimelineName, timeline.now) ∷ (Numeral, value.now) ∷ [])
 open_line (WaitBinary semaphore) = (WaitBinaryLine, (BinaryName, semaphore.now) ∷ [])
@@ -65,8 +56,6 @@ open_line (SignalTimeline timeline value) =
 open_line (SignalBinary semaphore) = (SignalBinaryLine, (BinaryName, semaphore.now) ∷ [])
 open_line (BatchFence fence) = (BatchFenceLine, (FenceName, fence.now) ∷ [])
 open_line End = (EndLine, [])
-open_line (Turn actor) = (TurnLine, (Actor, actor.now) ∷ [])
-open_line (Turns actor count) = (TurnsLine, (Actor, actor.now) ∷ (Numeral, count.now) ∷ [])
 
 -- the open places of a form with these words
 abbrev pub with_words : List (List ℕ) → LineForm → OpenLine

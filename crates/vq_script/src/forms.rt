@@ -3,15 +3,15 @@ ghost use Rattle.std.specs.Prelude.{◌≡◌, ◌≤◌, ◌&&◌, ◌%◌, [],
 ghost use Rattle.std.specs.Str.{bytes_eq};
 ghost use Rattle.std.specs.Option.{option_map};
 ghost use Rattle.vq_laws.specs.Meaning.{matches, agree};
-ghost use Rattle.vq_laws.specs.Forms.{places, forms_outside, forms_in_batch, held_forms, forms_in_schedule};
+ghost use Rattle.vq_laws.specs.Forms.{places, forms_outside, forms_in_batch};
 ghost use Rattle.vq_script.specs.Words.{texts};
 ghost use Rattle.vq_script.specs.Forms.{Finds, FindsPairs};
 
 use vq_laws::script::Mode;
 
 /// A line by its form, with the words in its places.
+#[derive(Clone, Copy)]
 pub enum Found<'a> {
-    Version,
     Buffer {
         name: &'a [u8],
         size: &'a [u8],
@@ -62,16 +62,6 @@ pub enum Found<'a> {
         fence: &'a [u8],
     },
     HostIdle,
-    Schedule,
-    HeldTimeline {
-        timeline: &'a [u8],
-        value: &'a [u8],
-        place: &'a [u8],
-    },
-    HeldBinary {
-        semaphore: &'a [u8],
-        place: &'a [u8],
-    },
     WaitTimeline {
         timeline: &'a [u8],
         value: &'a [u8],
@@ -113,13 +103,6 @@ pub enum Found<'a> {
         fence: &'a [u8],
     },
     End,
-    Turn {
-        actor: &'a [u8],
-    },
-    Turns {
-        actor: &'a [u8],
-        count: &'a [u8],
-    },
 }
 
 /// Whether a word is this text.
@@ -429,17 +412,5 @@ pub fn form_in_batch<'a>(words: &'a [&'a [u8]]) -> Option<Found<'a>>
             first, second, third, fourth, fifth, sixth,
         ),
         [_, _, _, _, _, _, _, ..] => None,
-    }
-}
-
-/// The form of a line's words in the schedule.
-pub fn form_in_schedule<'a>(words: &'a [&'a [u8]]) -> Option<Found<'a>>
-    ensures { Finds result (texts words.now) forms_in_schedule }
-{
-    match words {
-        [] => None,
-        [actor] => Some(Found::Turn { actor }),
-        [actor, count] => Some(Found::Turns { actor, count }),
-        [_, _, _, ..] => None,
     }
 }

@@ -1,92 +1,163 @@
 //! A text, read line by line.
-ghost use Rattle.std.specs.Prelude.{◌≡◌, ℕ, ◌+◌, ◌<◌, ◌≤◌, ◌^◌, ◌-◌, length, IfOk, OnErr, IfErr, Ok, [], vec_len};
-ghost use Rattle.vq_laws.specs.Text.{lines_of, words_of};
-ghost use Rattle.vq_laws.specs.LineFaults.{ends_early};
-ghost use Rattle.vq_laws.specs.Reading.{read_statement, read_line, read_lines, go_on};
-ghost use Rattle.vq_script.specs.Reads.{Says, Adds, IsFault};
+ghost use Rattle.std.specs.Prelude.{◌≡◌, ◌<◌, ◌-◌, ◌^◌, List, [], length, None, Some, IfOk, IfErr};
+ghost use Rattle.vq_laws.specs.declared.statement.Line.{Line};
+ghost use Rattle.vq_laws.specs.Text.{lines_of};
+ghost use Rattle.vq_laws.specs.Forms.{forms_outside, forms_in_batch};
+ghost use Rattle.vq_laws.specs.Reading.{read_lines, read_script, StandsFor};
+ghost use Rattle.vq_script.specs.Holds.{Keeps, batch_so_far, open_so_far};
+ghost use Rattle.vq_script.specs.Reads.{TakesForm, Reads, ReadsLine, script_from, Gives, IsFirst};
+ghost use Rattle.vq_script.specs.Words.{texts};
 
-use crate::lookups::ends_early;
-use crate::text::next_line;
-use std::alloc::{AllocError, Global};
-use vq_laws::statement::{FaultKind, Form, Line, Statement};
+use crate::batches::{end_line, fill_line, submit_line};
+use crate::declarations::{buffer_line, queue_line};
+use crate::fault::{ScriptFault, Stop};
+use crate::forms::{Found, form_in_batch, form_outside};
+use crate::known::{Known, OpenBatch};
+use crate::lines::next_line;
+use crate::words::{are_plain, find_words};
+use std::alloc::Global;
+use vq_laws::script::Script;
+use vq_laws::statement::{FaultKind, Form};
 
-/// Why a text is no script.
-#[derive(Debug, Drop)]
-pub enum ScriptFault {
-    At { line: u32, kind: FaultKind },
-    Memory,
-}
-
-impl From<AllocError> for ScriptFault {
-    ghost use Rattle.vq_script.specs.declared.reader.ScriptFault.TheVariants.{Memory};
-
-    ghost from_gives = { λ _ e. e ≡ Memory };
-
-    fn from(_: AllocError) -> ScriptFault {
-        ScriptFault::Memory
-    }
-}
-
-/// What turns a line into a statement.
-pub trait Grammar {
-    /// The statement of a line, if it has words, or its fault.
-    fn statement(
-        &self,
-        alloc: Global,
-        form: Form,
-        lines: &[Line],
-        line: &[u8],
-    ) -> Result<Result<Option<Statement>, FaultKind>, AllocError>
-        ensures { IfOk result (λ found. Says form lines.now line.now found) };
-}
-
-/// Reads one line, or gives its fault and changes nothing.
-fn read_line<G: Grammar>(
+/// Reads the words of a line outside a batch. Words of no form that is built are Syntax.
+fn outside_line(
     alloc: Global,
-    grammar: &G,
-    form: Form,
-    lines: &mut Vec<Line>,
+    known: &mut Known,
     number: u32,
-    line: &[u8],
-) -> Result<Result<(), FaultKind>, AllocError>
-    ensures { IfOk result (λ read. Adds form lines.old.items number line.now read lines.new.items) }
+    words: &[&[u8]],
+) -> Result<Option<OpenBatch>, Stop>
+    ensures { (lines : List Line) → Keeps lines known.old None → TakesForm lines number (texts words.now) forms_outside result known.new }
 {
-    match grammar.statement(alloc, form, lines, line)? {
-        Err(kind) => Ok(Err(kind)),
-        Ok(None) => Ok(Ok(())),
-        Ok(Some(statement)) => {
-            lines.push(Line { number, statement })?;
-            Ok(Ok(()))
-        }
+    let Some(found) = form_outside(words) else {
+        return Err(Stop::Fault(FaultKind::Syntax));
+    };
+    match found {
+        Found::Buffer { name, size } => buffer_line(alloc, known, number, name, size),
+        Found::Queue { name, mode } => queue_line(alloc, known, number, name, mode),
+        Found::Submit { queue } => submit_line(alloc, known, number, queue),
+        _ => Err(Stop::Fault(FaultKind::Syntax)),
     }
 }
 
-/// The statements of a text, or the first line with a fault and its first kind.
-pub fn read_lines<G: Grammar>(
+/// Reads the words of a line in a batch. Words of no form that is built are Syntax.
+fn batch_line(
     alloc: Global,
-    grammar: &G,
-    form: Form,
-    text: &[u8],
-) -> Result<Vec<Line>, ScriptFault>
-    requires { length (lines_of text.now) < 2 ^ 32 - 1 }
-    ensures ok { IfOk result (λ lines. read_lines form [] 1 (lines_of text.now) ≡ Ok lines.items) }
-    ensures at { IfErr result (λ fault. IsFault fault (read_lines form [] 1 (lines_of text.now))) }
+    known: &mut Known,
+    batch: OpenBatch,
+    number: u32,
+    words: &[&[u8]],
+) -> Result<Option<OpenBatch>, Stop>
+    ensures { (lines : List Line) → Keeps lines known.old (Some (batch_so_far batch)) → TakesForm lines number (texts words.now) forms_in_batch result known.new }
 {
-    let mut lines = Vec::new(alloc);
+    match form_in_batch(words) {
+        Some(Found::Fill {
+            buffer,
+            offset,
+            size,
+            word,
+        }) => fill_line(known, batch, number, buffer, offset, size, word),
+        Some(Found::End) => end_line(alloc, known, batch, number),
+        _ => Err(Stop::Fault(FaultKind::Syntax)),
+    }
+}
+
+/// Reads the words of a line. A line without words says nothing.
+fn words_line(
+    alloc: Global,
+    known: &mut Known,
+    batch: Option<OpenBatch>,
+    number: u32,
+    words: &[&[u8]],
+) -> Result<Option<OpenBatch>, Stop>
+    ensures { (form : Form) (lines : List Line) → Keeps lines known.old (open_so_far batch) → Reads form lines number (texts words.now) result known.new }
+{
+    if words.is_empty() {
+        return Ok(batch);
+    }
+    if !are_plain(words) {
+        return Err(Stop::Fault(FaultKind::Syntax));
+    }
+    match batch {
+        None => outside_line(alloc, known, number, words),
+        Some(batch) => batch_line(alloc, known, batch, number, words),
+    }
+}
+
+/// Reads a line. Its words take the place of those of the line before.
+fn read_line<'a>(
+    alloc: Global,
+    known: &mut Known,
+    batch: Option<OpenBatch>,
+    number: u32,
+    line: &'a [u8],
+    words: &mut Vec<&'a [u8]>,
+) -> Result<Option<OpenBatch>, ScriptFault>
+    ensures { (form : Form) (lines : List Line) → Keeps lines known.old (open_so_far batch) → ReadsLine form lines number line.now result known.new }
+{
+    find_words(line, words)?;
+    match words_line(alloc, known, batch, number, words) {
+        Ok(next) => Ok(next),
+        Err(Stop::Fault(kind)) => Err(ScriptFault::At { line: number, kind }),
+        Err(Stop::NoMemory) => Err(ScriptFault::Memory),
+    }
+}
+
+/// The script, where the text may end here. The line after the last is Syntax where a batch is open, or where the form asks
+/// for a schedule.
+fn finish(
+    alloc: Global,
+    form: Form,
+    known: Known,
+    batch: Option<OpenBatch>,
+    number: u32,
+) -> Result<Script, ScriptFault>
+    ensures { (lines : List Line) → Keeps lines known (open_so_far batch) → Gives result (script_from (read_lines form lines number [])) }
+{
+    match (form, batch) {
+        (Form::Plain, None) => Ok(known.into_script(alloc)),
+        _ => Err(ScriptFault::At {
+            line: number,
+            kind: FaultKind::Syntax,
+        }),
+    }
+}
+
+/// Reads a text as a script.
+///
+/// Lines end at line feeds, with or without a carriage return before them. From `#` on a line is a comment. Words are
+/// printable ASCII, between runs of spaces and tabs. A line says one of
+///
+/// - `buffer NAME SIZE`: a buffer of 1 to 1,048,576 bytes; 64 buffers at most, of 1,048,576 bytes together;
+/// - `queue NAME immediate`: the one queue;
+/// - `submit QUEUE`: the first line of a batch; 4,096 batches at most;
+/// - `fill BUFFER OFFSET SIZE WORD`: a command of the batch; 64 a batch at most, and 8,192 in all;
+/// - `end`: the last line of the batch.
+///
+/// Buffers and the queue are declared before the first batch. The script has the same declarations and batches, each with
+/// the number of its line, counted from 1.
+///
+/// The format is this project's own. The ranges of a fill are those of Vulkan 1.3, "Clear Commands".
+///
+/// # Errors
+///
+/// `At` is the first line with a fault and the first kind of that line's faults, in the order of `FaultKind`; the line
+/// after the last is `Syntax` where a batch is open, or where the form is `Scheduled`, since no schedule is read yet.
+/// `Memory` comes where memory runs out.
+pub fn parse(alloc: Global, bytes: &[u8], form: Form) -> Result<Script, ScriptFault>
+    requires { length (lines_of bytes.now) < 2 ^ 32 - 1 }
+    ensures exact { Gives result (read_script bytes.now form) }
+    ensures stands { IfOk result (λ script. StandsFor bytes.now form script) }
+    ensures fault { IfErr result (λ fault. IsFirst bytes.now form fault) }
+{
+    let mut known = Known::new(alloc);
+    let mut batch = None;
+    let mut words = Vec::new(alloc);
     let mut number: u32 = 1;
-    let mut rest = text;
+    let mut rest = bytes;
     while let Some((line, after)) = next_line(rest) {
-        if let Err(kind) = read_line(alloc, grammar, form, &mut lines, number, line)? {
-            return Err(ScriptFault::At { line: number, kind });
-        }
+        batch = read_line(alloc, &mut known, batch, number, line, &mut words)?;
         rest = after;
         number += 1;
     }
-    if ends_early(form, &lines) {
-        return Err(ScriptFault::At {
-            line: number,
-            kind: FaultKind::Syntax,
-        });
-    }
-    Ok(lines)
+    finish(alloc, form, known, batch, number)
 }

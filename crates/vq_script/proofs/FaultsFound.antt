@@ -1,0 +1,102 @@
+-- What words say, from the form that they have.
+use Rattle.std.proofs.Common.{◌≡◌, ℕ, ◌<◌, Bool, true, false, not, cond, ◌||◌, List, [], ◌∷◌, length, map, Option, Some, None, Result, Ok, Err, arith, refl, sym, ap, ◌∙◌, subst}
+use Rattle.std.specs.Prelude.{find, is_some}
+use Rattle.std.specs.List.{list_all}
+use Rattle.std.specs.Option.{option_map, option_map_or, option_and_then}
+use Rattle.vq_laws.specs.declared.statement.Line.{Line}
+use Rattle.vq_laws.specs.declared.statement.Form.{Form}
+use Rattle.vq_laws.specs.declared.statement.Statement.{Statement}
+use Rattle.vq_laws.specs.declared.statement.LineForm.{LineForm}
+use Rattle.vq_laws.specs.declared.statement.FaultKind.{FaultKind}
+use Rattle.vq_laws.specs.declared.statement.FaultKind.TheVariants.{Syntax, Order, Number, Name, Twice, Range, Overlap, Limit}
+use Rattle.vq_laws.specs.Text.{is_plain}
+use Rattle.vq_laws.specs.Forms.{places}
+use Rattle.vq_laws.specs.Context.{version_of}
+use Rattle.vq_laws.specs.Limits.{limits_of, passes_limit}
+use Rattle.vq_laws.specs.LineFaults.{fails, is_shaped, is_numeric, is_known, is_new, is_out_of_order, is_in_range, overlaps, kinds, fault_of}
+use Rattle.vq_laws.specs.Meaning.{is_built, matches, where_built, form_of, statement_of, open_places, meaning}
+use Rattle.vq_laws.specs.Reading.{read_statement, with_line, without_fault}
+use Rattle.vq_script.specs.declared.known.Known.{Known}
+use Rattle.vq_script.specs.declared.known.OpenBatch.{OpenBatch}
+use Rattle.vq_script.specs.declared.fault.Stop.{Stop}
+use Rattle.vq_script.specs.declared.fault.Stop.TheVariants.{Fault, NoMemory}
+use Rattle.vq_script.specs.Forms.{with_words}
+use Rattle.vq_script.specs.Faults.{first_fault, statement_at}
+use Rattle.vq_script.specs.Holds.{Keeps, open_so_far}
+use Rattle.vq_script.specs.Reads.{Takes, TakesFound, TakesForm, Reads}
+
+-- what words say, where their bytes are plain or not and they have a form or none
+abbrev meaning_with : List Line → List (List ℕ) → Option LineForm → Option Statement
+meaning_with before words form =
+    option_and_then (λ f. statement_of before f (map (λ x. x.1) (open_places (places f) words))) form
+
+abbrev has_fault_with : List Line → List (List ℕ) → Bool → Option LineForm → FaultKind → Bool
+has_fault_with before words plain form Syntax = not plain || option_map_or (fails is_shaped words) form true
+has_fault_with before words plain form Order = option_map_or (is_out_of_order before) form false
+has_fault_with before words plain form Number = option_map_or (fails is_numeric words) form false
+has_fault_with before words plain form Name = option_map_or (fails (is_known before) words) form false
+has_fault_with before words plain form Twice = option_map_or (fails (is_new before) words) form false
+has_fault_with before words plain form Range = option_map_or (λ s. not (is_in_range before s)) (meaning_with before words form) false
+has_fault_with before words plain form Overlap = option_map_or (overlaps before) (meaning_with before words form) false
+has_fault_with before words plain form Limit = option_map_or (passes_limit (limits_of (version_of before)) before) (meaning_with before words form) false
+
+abbrev fault_with : List Line → List (List ℕ) → Bool → Option LineForm → Option FaultKind
+fault_with before words plain form = find (has_fault_with before words plain form) kinds
+
+fault_is : (form : Form) (before : List Line) (words : List (List ℕ)) → fault_of form before words ≡ fault_with before words (list_all (list_all is_plain) words) (form_of form before words)
+fault_is form before words = refl
+
+-- words with a byte that isn't plain
+unplain_fault : (form : Form) (before : List Line) (words : List (List ℕ)) → list_all (list_all is_plain) words ≡ false → fault_of form before words ≡ Some Syntax
+unplain_fault form before words h = ap (λ b. fault_with before words b (form_of form before words)) h
+
+-- words of a form have the faults that the form and its places have
+found_fault : (before : List Line) (words : List (List ℕ)) (f : LineForm) → fault_with before words true (where_built before (Some f)) ≡ first_fault before (with_words words f)
+found_fault before words f = by_built (is_built before f) refl
+  where
+    by_built : (b : Bool) → is_built before f ≡ b → fault_with before words true (where_built before (Some f)) ≡ first_fault before (with_words words f)
+    by_built true e = rw e refl
+    by_built false e = rw e refl
+
+-- .. and say what these say, where they have none
+found_meaning : (before : List Line) (words : List (List ℕ)) (f : LineForm) → first_fault before (with_words words f) ≡ None → meaning_with before words (where_built before (Some f)) ≡ statement_at before (with_words words f)
+found_meaning before words f h = by_built (is_built before f) refl
+  where
+    by_built : (b : Bool) → is_built before f ≡ b → meaning_with before words (where_built before (Some f)) ≡ statement_at before (with_words words f)
+    by_built true e = rw e refl
+    by_built false e = absurd (cc (rw e at h))
+
+-- reading a line whose words aren't plain
+pub reads_unplain : (form : Form) (lines : List Line) (n : ℕ) (words : List (List ℕ)) → 0 < length words → list_all (list_all is_plain) words ≡ false → read_statement form lines n words ≡ Err Syntax
+reads_unplain form lines n [] some h = absurd (omega arith)
+reads_unplain form lines n (word ∷ words) some h =
+    ap (λ k. without_fault k (option_map_or (with_line lines n) (meaning form lines (word ∷ words)) lines)) (unplain_fault form lines (word ∷ words) h)
+
+-- a line that takes words of a form reads them
+pub reads_form : (form : Form) (lines : List Line) (n : ℕ) (words : List (List ℕ)) (forms : List LineForm) (result : Result (Option OpenBatch) Stop) (known : Known) →
+    0 < length words → list_all (list_all is_plain) words ≡ true → form_of form lines words ≡ where_built lines (find (matches words) forms) →
+    TakesForm lines n words forms result known → Reads form lines n words result known
+reads_form form lines n [] forms result known some plain is takes = absurd (omega arith)
+reads_form form lines n (word ∷ words) forms result known some plain is takes =
+    by_found (find (matches (word ∷ words)) forms) is takes
+  where
+    by_result : (r : Result (Option OpenBatch) Stop) (f : LineForm) → form_of form lines (word ∷ words) ≡ where_built lines (Some f) → Takes lines n (with_words (word ∷ words) f) r known → Reads form lines n (word ∷ words) r known
+    by_result (Ok batch) f e t =
+        let fine : fault_of form lines (word ∷ words) ≡ None = (λ i. fault_with lines (word ∷ words) (plain i) (e i)) ∙ found_fault lines (word ∷ words) f ∙ t.1 in
+        let says : meaning form lines (word ∷ words) ≡ Some t.0 = ap (meaning_with lines (word ∷ words)) e ∙ found_meaning lines (word ∷ words) f t.1 ∙ t.2 in
+        (with_line lines n t.0, (λ i. without_fault (fine i) (option_map_or (with_line lines n) (says i) lines)), t.3)
+    by_result (Err (Fault kind)) f e t =
+        let fault : fault_of form lines (word ∷ words) ≡ Some kind = (λ i. fault_with lines (word ∷ words) (plain i) (e i)) ∙ found_fault lines (word ∷ words) f ∙ t in
+        (λ i. without_fault (fault i) (option_map_or (with_line lines n) (meaning form lines (word ∷ words)) lines))
+    by_result (Err NoMemory) f e t = tt
+
+    by_none : (r : Result (Option OpenBatch) Stop) → form_of form lines (word ∷ words) ≡ None → TakesFound lines n None r known → Reads form lines n (word ∷ words) r known
+    by_none (Ok batch) e t = absurd t
+    by_none (Err (Fault kind)) e t =
+        let fault : fault_of form lines (word ∷ words) ≡ Some Syntax = (λ i. fault_with lines (word ∷ words) (plain i) (e i)) in
+        (λ i. without_fault (fault i) (option_map_or (with_line lines n) (meaning form lines (word ∷ words)) lines)) ∙ ap (λ k. Err k) (sym t)
+    by_none (Err NoMemory) e t = tt
+
+    by_found : (found : Option LineForm) → form_of form lines (word ∷ words) ≡ where_built lines found → TakesFound lines n (option_map (with_words (word ∷ words)) found) result known → Reads form lines n (word ∷ words) result known
+    by_found None e t = by_none result e t
+    by_found (Some f) e t = by_result result f e t

@@ -1,0 +1,18 @@
+use Rattle.std.proofs.Common.{◌≡◌, ◌+◌, List, length, []}
+use Rattle.vq_laws.specs.declared.statement.Line.{Line}
+use Rattle.vq_laws.specs.Text.{lines_of}
+use Rattle.vq_laws.specs.Reading.{read_lines}
+use Rattle.vq_script.specs.Holds.{Keeps, open_so_far}
+use Rattle.vq_script.proofs.reader.parse.Given as goal
+
+-- the parser knows some lines, and reading on from here after them gives what reading the whole text gives
+abbrev pub invariant-loop-line : goal.invariant-loop-line
+invariant-loop-line l = record {
+  read : List Line;
+  keeps : Keeps read l.known (open_so_far l.batch);
+  same : read_lines l.form read l.number (lines_of l.rest) ≡ read_lines l.form [] 1 (lines_of l.fn.bytes);
+  counted : l.number + length (lines_of l.rest) ≡ 1 + length (lines_of l.fn.bytes);
+}
+
+abbrev pub decreases-loop-line : goal.decreases-loop-line
+decreases-loop-line l = length l.rest

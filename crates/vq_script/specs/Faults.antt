@@ -1,0 +1,42 @@
+-- What the form of a line and the words at its places say, after lines before it: its statement, or the first kind of its
+-- faults. A line that isn't built is Syntax.
+use Rattle.std.specs.Prelude.{◌≡◌, Bool, ◌||◌, not, false, find, List, map, Option, Some, None, Result, Ok, Err}
+use Rattle.std.specs.List.{list_all}
+use Rattle.std.specs.Option.{option_map_or}
+use Rattle.vq_laws.specs.declared.statement.FaultKind.{FaultKind}
+use Rattle.vq_laws.specs.declared.statement.FaultKind.TheVariants.{Syntax, Order, Number, Name, Twice, Range, Overlap, Limit}
+use Rattle.vq_laws.specs.declared.statement.Statement.{Statement}
+use Rattle.vq_laws.specs.declared.statement.Line.{Line}
+use Rattle.vq_laws.specs.Context.{version_of}
+use Rattle.vq_laws.specs.Limits.{limits_of, passes_limit}
+use Rattle.vq_laws.specs.LineFaults.{is_shaped, is_numeric, is_known, is_new, is_out_of_order, is_in_range, overlaps, kinds}
+use Rattle.vq_laws.specs.Meaning.{is_built, statement_of}
+use Rattle.vq_script.specs.Forms.{OpenLine}
+
+-- the statement of a line
+abbrev pub statement_at : List Line → OpenLine → Option Statement
+statement_at before line = statement_of before line.0 (map (λ x. x.1) line.1)
+
+-- whether a line has a fault of a kind
+abbrev pub has_fault_at : List Line → OpenLine → FaultKind → Bool
+has_fault_at before line Syntax = not (is_built before line.0) || not (list_all is_shaped line.1)
+has_fault_at before line Order = is_out_of_order before line.0
+has_fault_at before line Number = not (list_all is_numeric line.1)
+has_fault_at before line Name = not (list_all (is_known before) line.1)
+has_fault_at before line Twice = not (list_all (is_new before) line.1)
+has_fault_at before line Range =
+    option_map_or (λ s. not (is_in_range before s)) (statement_at before line) false
+has_fault_at before line Overlap = option_map_or (overlaps before) (statement_at before line) false
+has_fault_at before line Limit =
+    option_map_or (passes_limit (limits_of (version_of before)) before)
+    (statement_at before line) false
+
+-- the first kind of a line's faults
+abbrev pub first_fault : List Line → OpenLine → Option FaultKind
+first_fault before line = find (has_fault_at before line) kinds
+
+-- A line has no fault, and its statement is what is made of the value; or it has this fault first.
+abbrev pub Tells : {A : Type 0} → List Line → OpenLine → (A → Statement) → Result A FaultKind → Type 0
+Tells before line says (Ok value) =
+    (first_fault before line ≡ None) × (statement_at before line ≡ Some (says value))
+Tells before line says (Err kind) = first_fault before line ≡ Some kind

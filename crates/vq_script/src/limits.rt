@@ -1,0 +1,16 @@
+//! The limits of a script. They are this project's own.
+
+/// The most buffers.
+pub const BUFFERS: usize = 64;
+
+/// The most bytes of all buffers together.
+pub const BYTES: u32 = 1_048_576;
+
+/// The most jobs.
+pub const JOBS: usize = 4096;
+
+/// The most commands of all batches together.
+pub const COMMANDS: u32 = 8192;
+
+/// The most commands of one batch.
+pub const BATCH_COMMANDS: usize = 64;
