@@ -52,6 +52,7 @@ version_alone (a ∷ b ∷ []) = by_test (bytes_eq a (codes "version")) refl
         by_second : (t : Bool) → where_built [] (cond t (Some VersionLine) (find (matches (codes "version" ∷ b ∷ [])) forms_outside)) ≡ where_built [] (find (matches (codes "version" ∷ b ∷ [])) forms_outside)
         by_second true = refl
         by_second false = refl
+
     by_test : (t : Bool) → bytes_eq a (codes "version") ≡ t → where_built [] (cond (matches (a ∷ b ∷ []) VersionLine) (Some VersionLine) (find (matches (a ∷ b ∷ [])) forms_outside)) ≡ where_built [] (find (matches (a ∷ b ∷ [])) forms_outside)
     by_test true e = is_version ((bytes_eq-Decides a (codes "version")).0 e)
     by_test false e = ap (λ t. where_built [] (cond (t && (bytes_eq b (codes "2") && true)) (Some VersionLine) (find (matches (a ∷ b ∷ [])) forms_outside))) e

@@ -1,5 +1,5 @@
 //! A text, read line by line.
-ghost use Rattle.std.specs.Prelude.{◌≡◌, ◌<◌, ◌-◌, ◌^◌, List, [], length, None, Some, IfOk, IfErr};
+ghost use Rattle.std.specs.Prelude.{◌≡◌, ◌<◌, ◌-◌, ◌^◌, IsTrue, nat_lt, List, [], length, None, Some, IfOk, IfErr};
 ghost use Rattle.vq_laws.specs.declared.statement.Line.{Line};
 ghost use Rattle.vq_laws.specs.Text.{lines_of};
 ghost use Rattle.vq_laws.specs.Forms.{forms_outside, forms_in_batch};
@@ -50,12 +50,14 @@ fn batch_line(
     ensures { (lines : List Line) → Keeps lines known.old (Some (batch_so_far batch)) → TakesForm lines number (texts words.now) forms_in_batch result known.new }
 {
     match form_in_batch(words) {
-        Some(Found::Fill {
-            buffer,
-            offset,
-            size,
-            word,
-        }) => fill_line(known, batch, number, buffer, offset, size, word),
+        Some(
+            Found::Fill {
+                buffer,
+                offset,
+                size,
+                word,
+            },
+        ) => fill_line(known, batch, number, buffer, offset, size, word),
         Some(Found::End) => end_line(alloc, known, batch, number),
         _ => Err(Stop::Fault(FaultKind::Syntax)),
     }
@@ -122,7 +124,15 @@ fn finish(
     }
 }
 
-/// Reads a text as a script.
+/// Whether a text has so few bytes that its lines can be counted: fewer than 2^32 - 1.
+pub fn is_short(bytes: &[u8]) -> bool
+    ensures exact { result ≡ nat_lt (length bytes.now) (2 ^ 32 - 1) }
+    ensures lines { IsTrue result → length (lines_of bytes.now) < 2 ^ 32 - 1 }
+{
+    bytes.len() < 4_294_967_295
+}
+
+/// Reads a text as a script. It has fewer than 2^32 - 1 lines, as it does where `is_short` says so.
 ///
 /// Lines end at line feeds, with or without a carriage return before them. From `#` on a line is a comment. Words are
 /// printable ASCII, between runs of spaces and tabs. A line says one of

@@ -16,6 +16,10 @@ returns c = λ lines h.
     let commands = c.of-2.ensures in
     let no_signals = c.of-3.ensures ∙ c.new-2.ensures.items in
     let pushed : c.push.new.self.items ≡ known.jobs.items ++ BatchJob (started batch.line batch.queue batch.commands.items) ∷ [] =
-        c.in_ok-push.ensures.items ∙ (λ i. known.jobs.items ++ BatchJob (record { line = batch.line; queue = batch.queue; waits = no_waits i; commands = commands i; signals = no_signals i; fence = None }) ∷ []) in
-    (EndBatch, end_kinds lines _ _ _ _ _ _ h, refl, subst (λ (js : List Job). Holds (with_line lines c.args.number EndBatch) known.buffers.items known.bytes known.queues.items js known.commands None) (sym pushed)
-    (holds_end lines c.args.number batch.line batch.queue batch.commands.items known.buffers.items known.bytes known.queues.items known.jobs.items known.commands h))
+    c.in_ok-push.ensures.items ∙ (λ i. known.jobs.items ++ BatchJob (record { line = batch.line; queue = batch.queue; waits = no_waits i; commands = commands i; signals = no_signals i; fence = None }) ∷ []) in (
+      EndBatch,
+      end_kinds lines _ _ _ _ _ _ h,
+      refl,
+      subst (λ (js : List Job). Holds (with_line lines c.args.number EndBatch) known.buffers.items known.bytes known.queues.items js known.commands None) (sym pushed)
+          (holds_end lines c.args.number batch.line batch.queue batch.commands.items known.buffers.items known.bytes known.queues.items known.jobs.items known.commands h),
+    )

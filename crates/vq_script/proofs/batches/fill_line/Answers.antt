@@ -11,6 +11,10 @@ returns c = λ lines h.
     let told = c.in_ok-command.ensures.told lines h in
     let says = AddCommand c.in_ok-command.command in
     let known = c.args.known.now in
-    let batch = c.args.batch in
-    (says, told.0, told.1, subst (λ (cs : List CommandLine). Holds (with_line lines c.args.number says) known.buffers.items known.bytes known.queues.items known.jobs.items (known.commands + 1) (Some (started batch.line batch.queue cs))) (sym c.in_ok-push.ensures.items)
-    (holds_command lines c.args.number c.in_ok-command.command batch.line batch.queue batch.commands.items known.buffers.items known.bytes known.queues.items known.jobs.items known.commands h))
+    let batch = c.args.batch in (
+      says,
+      told.0,
+      told.1,
+      subst (λ (cs : List CommandLine). Holds (with_line lines c.args.number says) known.buffers.items known.bytes known.queues.items known.jobs.items (known.commands + 1) (Some (started batch.line batch.queue cs))) (sym c.in_ok-push.ensures.items)
+          (holds_command lines c.args.number c.in_ok-command.command batch.line batch.queue batch.commands.items known.buffers.items known.bytes known.queues.items known.jobs.items known.commands h),
+    )

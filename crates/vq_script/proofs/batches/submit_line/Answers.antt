@@ -10,6 +10,10 @@ pub returns : goal.returns
 returns c = λ lines h.
     let told = c.in_ok-queue.ensures lines h in
     let says = BeginBatch c.in_ok-queue.queue in
-    let known = c.args.known.now in
-    (says, told.0, told.1, subst (λ (cs : List CommandLine). Holds (with_line lines c.args.number says) known.buffers.items known.bytes known.queues.items known.jobs.items known.commands (Some (started c.args.number c.in_ok-queue.queue cs))) (sym c.new.ensures.items)
-    (holds_submit lines c.args.number c.in_ok-queue.queue known.buffers.items known.bytes known.queues.items known.jobs.items known.commands h))
+    let known = c.args.known.now in (
+      says,
+      told.0,
+      told.1,
+      subst (λ (cs : List CommandLine). Holds (with_line lines c.args.number says) known.buffers.items known.bytes known.queues.items known.jobs.items known.commands (Some (started c.args.number c.in_ok-queue.queue cs))) (sym c.new.ensures.items)
+          (holds_submit lines c.args.number c.in_ok-queue.queue known.buffers.items known.bytes known.queues.items known.jobs.items known.commands h),
+    )

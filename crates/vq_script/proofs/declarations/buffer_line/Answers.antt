@@ -13,6 +13,10 @@ returns c = λ lines h.
     let known = c.args.known.now in
     let named : c.in_ok-owned_name.field-0 ≡ c.args.name.now = c.in_ok-owned_name.ensures in
     let pushed : c.push.new.self.items ≡ known.buffers.items ++ record { line = c.args.number; name = c.args.name.now; size = c.in_ok-size.size } ∷ [] =
-        c.in_ok-push.ensures.items ∙ ap (λ (name : List ℕ). known.buffers.items ++ record { line = c.args.number; name = name; size = c.in_ok-size.size } ∷ []) named in
-    (says, told.0, told.1, subst (λ (bs : List Buffer). Holds (with_line lines c.args.number says) bs (known.bytes + c.in_ok-size.size) known.queues.items known.jobs.items known.commands None) (sym pushed)
-    (holds_buffer lines c.args.number c.args.name.now c.in_ok-size.size known.buffers.items known.bytes known.queues.items known.jobs.items known.commands h))
+    c.in_ok-push.ensures.items ∙ ap (λ (name : List ℕ). known.buffers.items ++ record { line = c.args.number; name = name; size = c.in_ok-size.size } ∷ []) named in (
+      says,
+      told.0,
+      told.1,
+      subst (λ (bs : List Buffer). Holds (with_line lines c.args.number says) bs (known.bytes + c.in_ok-size.size) known.queues.items known.jobs.items known.commands None) (sym pushed)
+          (holds_buffer lines c.args.number c.args.name.now c.in_ok-size.size known.buffers.items known.bytes known.queues.items known.jobs.items known.commands h),
+    )

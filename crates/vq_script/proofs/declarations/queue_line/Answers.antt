@@ -13,6 +13,10 @@ returns c = λ lines h.
     let known = c.args.known.now in
     let named : c.in_ok-owned_name.field-0 ≡ c.args.name.now = c.in_ok-owned_name.ensures in
     let pushed : c.push.new.self.items ≡ known.queues.items ++ record { line = c.args.number; name = c.args.name.now; mode = c.args.mode } ∷ [] =
-        c.in_ok-push.ensures.items ∙ ap (λ (name : List ℕ). known.queues.items ++ record { line = c.args.number; name = name; mode = c.args.mode } ∷ []) named in
-    (says, told.0, told.1, subst (λ (qs : List Queue). Holds (with_line lines c.args.number says) known.buffers.items known.bytes qs known.jobs.items known.commands None) (sym pushed)
-    (holds_queue lines c.args.number c.args.name.now c.args.mode known.buffers.items known.bytes known.queues.items known.jobs.items known.commands h))
+    c.in_ok-push.ensures.items ∙ ap (λ (name : List ℕ). known.queues.items ++ record { line = c.args.number; name = name; mode = c.args.mode } ∷ []) named in (
+      says,
+      told.0,
+      told.1,
+      subst (λ (qs : List Queue). Holds (with_line lines c.args.number says) known.buffers.items known.bytes qs known.jobs.items known.commands None) (sym pushed)
+          (holds_queue lines c.args.number c.args.name.now c.args.mode known.buffers.items known.bytes known.queues.items known.jobs.items known.commands h),
+    )

@@ -1,0 +1,195 @@
+//! Texts with what the rules of the format say of them.
+use crate::fault::ScriptFault;
+use crate::reader::{is_short, parse};
+use std::alloc::{AllocError, Global};
+use vq_laws::script::{Command, FillSize, Job, Mode};
+use vq_laws::statement::{FaultKind, Form};
+
+/// The first fault of a text, if it has one.
+fn verdict(alloc: Global, text: &[u8], form: Form) -> Result<(), ScriptFault> {
+    if !is_short(text) {
+        return Err(ScriptFault::Memory);
+    }
+    match parse(alloc, text, form) {
+        Ok(_) => Ok(()),
+        Err(fault) => Err(fault),
+    }
+}
+
+/// A buffer, a queue, and batches with the same number of fills.
+fn batches(alloc: Global, count: usize, fills: usize) -> Result<String, AllocError> {
+    let mut text = String::from_str(alloc, "buffer X 8\nqueue Q immediate\n")?;
+    for _ in 0..count {
+        text.push_str("submit Q\n")?;
+        for _ in 0..fills {
+            text.push_str("fill X 0 8 0\n")?;
+        }
+        text.push_str("end\n")?;
+    }
+    Ok(text)
+}
+
+#[test]
+fn fine_texts(rt: HostRuntime) {
+    let texts: [&[u8]; 13] = [
+        b"",
+        b"\n \t \r\n",
+        b"# one comment",
+        b"buffer X 8\r\nqueue Q immediate\r\nsubmit Q\r\nend\r\n",
+        b"buffer X 8\n\n# \xff\x00\nqueue Q immediate",
+        b"buffer X 8# right behind a word",
+        b"\tbuffer\t X\t8 \t",
+        b"buffer abcdefghijklmnop 8",
+        b"buffer _9 0x0000000000000008",
+        b"buffer X 00000000000000000008",
+        b"buffer X 1048576",
+        b"buffer X 8\nqueue Q immediate\nsubmit Q\nfill X 4 4 4294967295\nend",
+        b"buffer X 8\nqueue Q immediate\nsubmit Q\nfill X 0 8 0xFFffFFff\nfill X 0 4 1\nend\nsubmit Q\nend",
+    ];
+    for text in texts {
+        assert_eq!(rt; verdict(rt.alloc(), text, Form::Plain), Ok(()), "{text:?}");
+    }
+}
+
+#[test]
+fn faulty_texts(rt: HostRuntime) {
+    let declared = "buffer X 8\nqueue Q immediate\n";
+    let texts: [(&str, u32, FaultKind); 36] = [
+        ("submit Q\n", 4, FaultKind::Syntax),
+        ("word", 3, FaultKind::Syntax),
+        ("end", 3, FaultKind::Syntax),
+        ("buffer Y", 3, FaultKind::Syntax),
+        ("buffer Y 8 8", 3, FaultKind::Syntax),
+        ("buffer Y\x7f 8", 3, FaultKind::Syntax),
+        ("buffer Y 8 \u{e9}", 3, FaultKind::Syntax),
+        ("buffer abcdefghijklmnopq 8", 3, FaultKind::Syntax),
+        ("buffer 9Y 8", 3, FaultKind::Syntax),
+        ("buffer Y-Z 8", 3, FaultKind::Syntax),
+        ("queue R immediate", 3, FaultKind::Syntax),
+        ("submit Q\nfill X 0 whole 1\nend", 4, FaultKind::Syntax),
+        ("submit Q\nsubmit Q\nend", 4, FaultKind::Syntax),
+        ("submit Q\nbuffer Y 8\nend", 4, FaultKind::Syntax),
+        ("submit Q\nend\nbuffer Y 8", 5, FaultKind::Order),
+        ("submit Q\nend\nbuffer X 0y", 5, FaultKind::Order),
+        ("buffer Y 18446744073709551615", 3, FaultKind::Limit),
+        ("buffer Y 18446744073709551616", 3, FaultKind::Number),
+        ("buffer Y 000000000000000000008", 3, FaultKind::Number),
+        ("buffer Y 0xffffffffffffffff", 3, FaultKind::Limit),
+        ("buffer Y 0x00000000000000008", 3, FaultKind::Number),
+        ("buffer Y 0x", 3, FaultKind::Number),
+        ("buffer X 8a", 3, FaultKind::Number),
+        ("submit Q\nfill Y 0 8 4294967296\nend", 4, FaultKind::Number),
+        ("submit X", 3, FaultKind::Name),
+        ("submit Q\nfill Q 9 9 0\nend", 4, FaultKind::Name),
+        ("buffer Q 0", 3, FaultKind::Twice),
+        ("buffer Y 0", 3, FaultKind::Range),
+        ("submit Q\nfill X 8 4 0\nend", 4, FaultKind::Range),
+        ("submit Q\nfill X 0 0 0\nend", 4, FaultKind::Range),
+        ("submit Q\nfill X 4 8 0\nend", 4, FaultKind::Range),
+        ("submit Q\nfill X 2 4 0\nend", 4, FaultKind::Range),
+        ("submit Q\nfill X 0 6 0\nend", 4, FaultKind::Range),
+        (
+            "submit Q\nfill X 4 18446744073709551612 0\nend",
+            4,
+            FaultKind::Range,
+        ),
+        ("buffer Y 1048569", 3, FaultKind::Limit),
+        ("buffer Y 0\nbuffer 9 8", 3, FaultKind::Range),
+    ];
+    for (rest, line, kind) in texts {
+        let text = format!(in rt.alloc(); "{declared}{rest}").expect(&rt, "memory");
+        let want = Err(ScriptFault::At { line, kind });
+        assert_eq!(rt;
+            verdict(rt.alloc(), text.as_bytes(), Form::Plain),
+            want,
+            "{rest}"
+        );
+    }
+}
+
+#[test]
+fn first_lines_and_limits(rt: HostRuntime) {
+    let alloc = rt.alloc();
+    let syntax = |line| Err(ScriptFault::At {
+        line,
+        kind: FaultKind::Syntax,
+    });
+    let limit = |line| Err(ScriptFault::At {
+        line,
+        kind: FaultKind::Limit,
+    });
+    assert_eq!(rt;
+        verdict(alloc, b"queue Q immediate\nsubmit Q", Form::Plain),
+        syntax(3)
+    );
+    assert_eq!(rt; verdict(alloc, b"queue Q deferred", Form::Plain), syntax(1));
+    assert_eq!(rt; verdict(alloc, b"version 2", Form::Plain), syntax(1));
+    assert_eq!(rt; verdict(alloc, b"", Form::Scheduled), syntax(1));
+    assert_eq!(rt; verdict(alloc, b"buffer X 1048577", Form::Plain), limit(1));
+    for (count, fills, want) in [
+        (4096, 0, Ok(())),
+        (4097, 0, limit(8195)),
+        (128, 64, Ok(())),
+        (1, 65, limit(68)),
+    ] {
+        let text = batches(alloc, count, fills).expect(&rt, "memory");
+        assert_eq!(rt;
+            verdict(alloc, text.as_bytes(), Form::Plain),
+            want,
+            "{count} {fills}"
+        );
+    }
+    let mut text = batches(alloc, 128, 64).expect(&rt, "memory");
+    text.push_str("submit Q\nfill X 0 8 0\nend")
+        .expect(&rt, "memory");
+    assert_eq!(rt; verdict(alloc, text.as_bytes(), Form::Plain), limit(8452));
+    let mut text = String::new(alloc);
+    for i in 0..64 {
+        let line = format!(in alloc; "buffer B{i} 4\n").expect(&rt, "memory");
+        text.push_str(line.as_str()).expect(&rt, "memory");
+    }
+    assert_eq!(rt; verdict(alloc, text.as_bytes(), Form::Plain), Ok(()));
+    text.push_str("buffer C 4").expect(&rt, "memory");
+    assert_eq!(rt; verdict(alloc, text.as_bytes(), Form::Plain), limit(65));
+}
+
+#[test]
+fn script_of_a_text(rt: HostRuntime) {
+    let text =
+        b"buffer X 8\nqueue Q immediate\n\nsubmit Q # the batch\nfill X 0 8 0x01020304\nend\n";
+    let script = parse(rt.alloc(), text, Form::Plain).expect(&rt, "the text has no fault");
+    assert_eq!(rt; script.version, 1);
+    assert!(rt; script.semaphores.as_slice().is_empty() && script.turns.as_slice().is_empty());
+    assert!(rt; !script.scheduled);
+    match (script.buffers.as_slice(), script.queues.as_slice()) {
+        ([buffer], [queue]) => {
+            assert_eq!(rt; buffer.name.as_slice(), b"X".as_slice());
+            assert_eq!(rt; (buffer.line, buffer.size), (1, 8));
+            assert_eq!(rt; queue.name.as_slice(), b"Q".as_slice());
+            assert_eq!(rt; (queue.line, queue.mode), (2, Mode::Immediate));
+        }
+        _ => assert!(rt; false),
+    }
+    let [Job::Batch(batch)] = script.jobs.as_slice() else {
+        panic!(rt; "one batch is wanted");
+    };
+    assert_eq!(rt; (batch.line, batch.queue, batch.fence), (4, 0, None));
+    assert!(rt; batch.waits.as_slice().is_empty() && batch.signals.as_slice().is_empty());
+    let [line] = batch.commands.as_slice() else {
+        panic!(rt; "one command is wanted");
+    };
+    let Command::Fill {
+        buffer,
+        offset,
+        size,
+        word,
+    } = &line.command
+    else {
+        panic!(rt; "a fill is wanted");
+    };
+    assert_eq!(rt;
+        (line.line, *buffer, *offset, *word),
+        (5, 0, 0, 0x0102_0304)
+    );
+    assert_eq!(rt; *size, FillSize::Count(8));
+}
