@@ -1,0 +1,3 @@
+mod Fitting
+mod Parts
+pub mod Sizes
