@@ -1,0 +1,4 @@
+mod HexLines
+mod Lowered
+mod Commands
+mod SlowRuns

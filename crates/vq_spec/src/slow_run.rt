@@ -1,0 +1,76 @@
+//! The slow run of a plan: what its script means.
+ghost use Rattle.std.specs.Prelude.{◌≡◌, ◌<◌, IfOk, length, map};
+ghost use Rattle.vq_laws.specs.LoweringFaults.{IsPlan};
+ghost use Rattle.vq_laws.specs.Memory.{HasSizes, after_all, zeros_of};
+ghost use Rattle.vq_laws.specs.Plan.{commands_of};
+ghost use Rattle.vq_laws.specs.SlowRun.{command_list, slow_order, left_over, final};
+ghost use Rattle.vq_laws.specs.SameScript.{IsScript};
+ghost use Rattle.vq_laws.specs.ValidScripts.{sizes_of};
+
+use crate::lowering::numbers;
+use crate::plan::Plan;
+use std::alloc::{AllocError, Global};
+use vq_laws::list::List;
+use vq_laws::script::Script;
+use vq_transfer::buffers::Buffers;
+
+/// What a slow run does: again and again the lowest job that can be done is done whole.
+#[derive(Drop)]
+pub struct SlowRun {
+    /// The jobs that it does, in their order.
+    pub order: List<u32>,
+    /// The jobs that it leaves.
+    pub stuck: List<u32>,
+    /// The bytes of the buffers after it.
+    pub buffers: Buffers,
+}
+
+/// The sizes of a script's buffers.
+fn sizes_of(alloc: Global, script: &Script) -> Result<Vec<u32>, AllocError>
+    ensures { IfOk result (λ sizes. sizes.items ≡ sizes_of script.now) }
+{
+    let buffers = script.buffers.as_slice();
+    buffers.iter().map(|buffer| buffer.size).collect(alloc)
+}
+
+/// Buffers of the sizes that a script declares, all bytes zero.
+fn zero_buffers(alloc: Global, script: &Script) -> Result<Buffers, AllocError>
+    requires { IsScript script.now }
+    ensures { IfOk result (λ buffers. buffers ≡ zeros_of (sizes_of script.now)) }
+{
+    let sizes = sizes_of(alloc, script)?;
+    Buffers::new(alloc, sizes.as_slice())
+}
+
+/// Applies the commands of a job.
+fn apply_job(plan: &Plan, j: u32, buffers: &mut Buffers)
+    requires plan { IsPlan plan.now }
+    requires exists { j < length plan.now.jobs }
+    requires sizes { map length buffers.old ≡ plan.now.sizes }
+    ensures bytes { buffers.new ≡ after_all (command_list plan.now (commands_of plan.now j)) buffers.old }
+    ensures sizes { map length buffers.new ≡ plan.now.sizes }
+{
+    for c in plan.job(j).commands.as_slice() {
+        buffers.apply(&plan.command(*c).command);
+    }
+}
+
+/// The slow run of a plan. The error is want of memory.
+///
+/// Source: this project's rule.
+pub fn slow_run(alloc: Global, plan: &Plan) -> Result<SlowRun, AllocError>
+    ensures order { IfOk result (λ run. run.order ≡ slow_order plan.now) }
+    ensures stuck { IfOk result (λ run. run.stuck ≡ left_over plan.now) }
+    ensures bytes { IfOk result (λ run. run.buffers ≡ final plan.now) }
+    ensures sizes { IfOk result (λ run. HasSizes (sizes_of plan.now.script) run.buffers) }
+{
+    let mut buffers = zero_buffers(alloc, plan.script())?;
+    for j in 0..plan.jobs() {
+        apply_job(plan, j, &mut buffers);
+    }
+    Ok(SlowRun {
+        order: numbers(alloc, 0, plan.jobs())?,
+        stuck: List::of(Vec::new(alloc)),
+        buffers,
+    })
+}
