@@ -9,36 +9,48 @@ use Rattle.vq_laws.specs.OutputText.{hex_line, hex_byte, line_feed}
 -- Adding to a list
 
 -- a list after a call that adds to it
-pub added : {E : Type 0} (r : Result (Unit {0}) E) (new old shown text : List ℕ) → new ≡ cond (is_ok r) (old ++ shown) old → shown ≡ text → OnOk r (new ≡ old ++ text)
+pub added : {E : Type 0} (r : Result (Unit {0}) E) (new old shown text : List ℕ) →
+    new ≡ cond (is_ok r) (old ++ shown) old → shown ≡ text → OnOk r (new ≡ old ++ text)
 added (Ok u) new old shown text e s = e ∙ ap (λ xs. old ++ xs) s
 added (Err x) new old shown text e s = tt
 
 -- One line
 
 -- digits at the front of a line, and the byte behind them
-pub front_and_end : (line digits : List ℕ) (n : ℕ) (end : ℕ) → length digits ≡ n → n < length line → get_or line n 0 ≡ end → take (n + 1) (digits ++ drop n line) ≡ digits ++ end ∷ []
+pub front_and_end : (line digits : List ℕ) (n : ℕ) (end : ℕ) → length digits ≡ n → n < length line →
+    get_or line n 0 ≡ end → take (n + 1) (digits ++ drop n line) ≡ digits ++ end ∷ []
 front_and_end line digits n end l h e =
     let m : length (digits ++ end ∷ []) ≡ n + 1 = omega (arith, length-append digits (end ∷ [])) in
-    ap (λ xs. take (n + 1) (digits ++ xs)) (drop_more line n 0 h ∙ ap (λ x. x ∷ drop (n + 1) line) e)
-    ∙ (ap (take (n + 1)) (sym (append_assoc digits (end ∷ []) (drop (n + 1) line))) ∙ take_at (digits ++ end ∷ []) (drop (n + 1) line) (n + 1) m)
+    ap (λ xs. take (n + 1) (digits ++ xs))
+    (drop_more line n 0 h ∙ ap (λ x. x ∷ drop (n + 1) line) e)
+    ∙ (ap (take (n + 1)) (sym (append_assoc digits (end ∷ []) (drop (n + 1) line)))
+    ∙ take_at (digits ++ end ∷ []) (drop (n + 1) line) (n + 1) m)
 
 pub length-digits : (bytes : List ℕ) → length (flat_map hex_byte bytes) ≡ 2 * length bytes
 length-digits [] = refl
-length-digits (b ∷ bytes) = omega (arith, length-digits bytes, length-append (hex_byte b) (flat_map hex_byte bytes))
+length-digits (b ∷ bytes) = omega
+    (arith, length-digits bytes, length-append (hex_byte b) (flat_map hex_byte bytes))
 
 -- Lines
 
 pub range_push : (a n : ℕ) → range_with_len a (suc n) ≡ range_with_len a n ++ (a + n) ∷ []
 range_push a zero = ap (λ k. k ∷ []) (omega arith)
-range_push a (suc n) = ap (λ ks. a ∷ ks) (range_push (a + 1) n ∙ ap (λ k. range_with_len (a + 1) n ++ k ∷ []) (omega arith))
+range_push a (suc n) = ap (λ ks. a ∷ ks)
+    (range_push (a + 1) n ∙ ap (λ k. range_with_len (a + 1) n ++ k ∷ []) (omega arith))
 
 -- what a function gives for one number more
-pub flat_map-range_push : {X : Type 0} (f : ℕ → List X) (n : ℕ) → flat_map f (range_with_len 0 (n + 1)) ≡ flat_map f (range_with_len 0 n) ++ f n
+pub flat_map-range_push : {X : Type 0} (f : ℕ → List X) (n : ℕ) →
+    flat_map f (range_with_len 0 (n + 1)) ≡ flat_map f (range_with_len 0 n) ++ f n
 flat_map-range_push f n =
-    ap (λ k. flat_map f (range_with_len 0 k)) (add-one n) ∙ (ap (flat_map f) (range_push 0 n) ∙ (flat_map-append f (range_with_len 0 n) ((0 + n) ∷ []) ∙ ap (λ part. flat_map f (range_with_len 0 n) ++ part) (append-nil (f (0 + n)) ∙ ap f (zero-add n))))
+    ap (λ k. flat_map f (range_with_len 0 k)) (add-one n)
+    ∙ (ap (flat_map f) (range_push 0 n) ∙
+    (flat_map-append f (range_with_len 0 n) ((0 + n) ∷ [])
+    ∙ ap (λ part. flat_map f (range_with_len 0 n) ++ part)
+    (append-nil (f (0 + n)) ∙ ap f (zero-add n))))
 
 -- a part that ends past the list ends with it
-part_end : (bytes : List ℕ) (a b : ℕ) → slice_range bytes a (min (length bytes) b) ≡ slice_range bytes a b
+part_end : (bytes : List ℕ) (a b : ℕ) →
+    slice_range bytes a (min (length bytes) b) ≡ slice_range bytes a b
 part_end bytes a b =
     ap (λ n. take n (drop a bytes)) same ∙ take_min (b - a) (drop a bytes)
   where
@@ -46,8 +58,17 @@ part_end bytes a b =
     same = simp length-drop (omega arith)
 
 -- one more line of bytes
-pub hex_lines_more : (old bytes now new : List ℕ) (row end : ℕ) → now ≡ old ++ flat_map (hex_line bytes) (range_with_len 0 row) → end ≡ min (length bytes) (16 * row + 16) → new ≡ now ++ (flat_map hex_byte (slice_range bytes (16 * row) end) ++ line_feed) → new ≡ old ++ flat_map (hex_line bytes) (range_with_len 0 (row + 1))
+pub hex_lines_more : (old bytes now new : List ℕ) (row end : ℕ) →
+    now ≡ old ++ flat_map (hex_line bytes) (range_with_len 0 row) →
+    end ≡ min (length bytes) (16 * row + 16) →
+    new ≡ now ++ (flat_map hex_byte (slice_range bytes (16 * row) end) ++ line_feed) →
+    new ≡ old ++ flat_map (hex_line bytes) (range_with_len 0 (row + 1))
 hex_lines_more old bytes now new row end a b c =
     let f = hex_line bytes in
-    let line : flat_map hex_byte (slice_range bytes (16 * row) end) ++ line_feed ≡ f row = ap (λ part. flat_map hex_byte part ++ line_feed) (ap (slice_range bytes (16 * row)) b ∙ part_end bytes (16 * row) (16 * row + 16)) in
-    c ∙ (ap (λ part. now ++ part) line ∙ (ap (λ part. part ++ f row) a ∙ (append_assoc old (flat_map f (range_with_len 0 row)) (f row) ∙ ap (λ part. old ++ part) (sym (flat_map-range_push f row)))))
+    let line : flat_map hex_byte (slice_range bytes (16 * row) end) ++ line_feed
+    ≡ f row = ap (λ part. flat_map hex_byte part ++ line_feed)
+    (ap (slice_range bytes (16 * row)) b ∙ part_end bytes (16 * row) (16 * row + 16)) in
+    c ∙ (ap (λ part. now ++ part) line ∙
+    (ap (λ part. part ++ f row) a ∙
+    (append_assoc old (flat_map f (range_with_len 0 row)) (f row)
+    ∙ ap (λ part. old ++ part) (sym (flat_map-range_push f row)))))

@@ -43,13 +43,21 @@ total (job ∷ jobs) =
     omega arith
 
 -- one more job's commands
-pub commands_push : (jobs : List Job) (j : ℕ) (job : Job) → slice_get jobs j ≡ Some job → flat_map batch_commands (take (j + 1) jobs) ≡ flat_map batch_commands (take j jobs) ++ batch_commands job
-commands_push jobs j job e = let n : j + 1 ≡ suc j = omega arith in ap (λ k. flat_map batch_commands (take k jobs)) n ∙ push jobs j e
+pub commands_push : (jobs : List Job) (j : ℕ) (job : Job) → slice_get jobs j ≡ Some job →
+    flat_map batch_commands (take (j + 1) jobs) ≡ flat_map batch_commands (take j jobs)
+    ++ batch_commands job
+commands_push jobs j job e = let n : j + 1 ≡ suc j = omega arith in ap
+    (λ k. flat_map batch_commands (take k jobs)) n ∙ push jobs j e
   where
-    push : (jobs : List Job) (j : ℕ) → slice_get jobs j ≡ Some job → flat_map batch_commands (take (suc j) jobs) ≡ flat_map batch_commands (take j jobs) ++ batch_commands job
+    push : (jobs : List Job) (j : ℕ) → slice_get jobs j ≡ Some job →
+        flat_map batch_commands (take (suc j) jobs) ≡ flat_map batch_commands (take j jobs)
+        ++ batch_commands job
     push [] j e = absurd (let c : None ≡ Some job = e in cc)
-    push (x ∷ jobs) zero e = let same : x ≡ job = cc in append-nil (batch_commands x) ∙ ap batch_commands same
-    push (x ∷ jobs) (suc j) e = ap (λ cs. batch_commands x ++ cs) (push jobs j e) ∙ sym (append_assoc (batch_commands x) (flat_map batch_commands (take j jobs)) (batch_commands job))
+    push (x ∷ jobs) zero e = let same : x ≡ job = cc in append-nil (batch_commands x)
+        ∙ ap batch_commands same
+    push (x ∷ jobs) (suc j) e = ap (λ cs. batch_commands x ++ cs) (push jobs j e)
+        ∙ sym (append_assoc (batch_commands x) (flat_map batch_commands (take j jobs))
+        (batch_commands job))
 
 module _ (s : Script) (i : IsScript s) where
   pub few_jobs : length s.jobs ≤ 4096
@@ -61,12 +69,15 @@ module _ (s : Script) (i : IsScript s) where
       omega (arith, total s.jobs)
 
   -- the commands up to a job and its own
-  pub few_up_to : (j : ℕ) (job : Job) → slice_get s.jobs j ≡ Some job → length (flat_map batch_commands (take j s.jobs)) + length (batch_commands job) ≤ 8192
+  pub few_up_to : (j : ℕ) (job : Job) → slice_get s.jobs j ≡ Some job →
+      length (flat_map batch_commands (take j s.jobs)) + length (batch_commands job) ≤ 8192
   few_up_to j job e =
       let whole = flat_map-append batch_commands (take (j + 1) s.jobs) (drop (j + 1) s.jobs) in
-      let cut = ap (λ jobs. length (flat_map batch_commands jobs)) (take-append-drop (j + 1) s.jobs) in
+      let cut = ap (λ jobs. length (flat_map batch_commands jobs))
+      (take-append-drop (j + 1) s.jobs) in
       let here = ap length (commands_push s.jobs j job e) in
-      let a = length-append (flat_map batch_commands (take (j + 1) s.jobs)) (flat_map batch_commands (drop (j + 1) s.jobs)) in
+      let a = length-append (flat_map batch_commands (take (j + 1) s.jobs))
+      (flat_map batch_commands (drop (j + 1) s.jobs)) in
       let b = length-append (flat_map batch_commands (take j s.jobs)) (batch_commands job) in
       omega (arith, few_commands, ap length whole)
 
@@ -74,24 +85,34 @@ module _ (s : Script) (i : IsScript s) where
   plan_length = length-map (enumerate_from 0 s.jobs) (plan_job s) ∙ length-enumerate_from 0 s.jobs
 
   -- the edges to a job: one from the job before
-  pub lane_edges : (j : ℕ) → j < length s.jobs → edges_to (plan_of s) j ≡ option_to_list (one_before j)
+  pub lane_edges : (j : ℕ) → j < length s.jobs →
+      edges_to (plan_of s) j ≡ option_to_list (one_before j)
   lane_edges j l =
       let p = plan_of s in
       let h = written_one_lane s i in
-      let edges : Option ℕ → Option ℕ → List ℕ → Bool → List Need → List ℕ = λ before host idle any ns. option_to_list before ++ option_to_list host ++ idle ++ filter_map (job_of p) (if any then [] else filter_map (λ n. resolver p n.chain n.value) (filter (λ n. nat_lt (initial p n.chain) n.value) ns)) in
-      (λ k. edges (one_lane_previous s h j l k) (one_lane_host s h j k) (one_lane_idle s h j k) (one_lane_any s h j k) (one_lane_needs s h j k))
-      ∙ (append-nil (option_to_list (one_before j) ++ [] ++ []) ∙ (append-nil (option_to_list (one_before j) ++ []) ∙ append-nil (option_to_list (one_before j))))
+      let edges : Option ℕ → Option ℕ → List ℕ → Bool → List Need → List ℕ = λ before host idle any
+      ns. option_to_list before ++ option_to_list host ++ idle
+      ++ filter_map (job_of p) (if any then [] else filter_map (λ n. resolver p n.chain n.value)
+      (filter (λ n. nat_lt (initial p n.chain) n.value) ns)) in
+      (λ k. edges (one_lane_previous s h j l k) (one_lane_host s h j k) (one_lane_idle s h j k)
+      (one_lane_any s h j k) (one_lane_needs s h j k))
+      ∙ (append-nil (option_to_list (one_before j) ++ [] ++ [])
+      ∙ (append-nil (option_to_list (one_before j) ++ [])
+      ∙ append-nil (option_to_list (one_before j))))
 
 -- Jobs
 
 -- a job that was read
-pub read_job : (jobs seen : List Job) (j : ℕ) (r job : Job) → seen ≡ jobs → j < length jobs → r ≡ get_or seen j r → r ≡ job → slice_get jobs j ≡ Some job
+pub read_job : (jobs seen : List Job) (j : ℕ) (r job : Job) → seen ≡ jobs → j < length jobs →
+    r ≡ get_or seen j r → r ≡ job → slice_get jobs j ≡ Some job
 read_job jobs seen j r job e l read is =
     slice_get_read jobs (length jobs) j r refl l (read ∙ ap (λ xs. get_or xs j r) e) ∙ ap Some is
 
 -- no job of a script of one lane is a host step
-pub no_host_step : (s : Script) → IsScript s → (j : ℕ) (x : HostLine) → slice_get s.jobs j ≡ Some (Host x) → ⊥
-no_host_step s i j x e = batch_there (plain_at s.jobs j (written_one_lane s i).batches (get_within s.jobs j (Host x) e))
+pub no_host_step : (s : Script) → IsScript s → (j : ℕ) (x : HostLine) →
+    slice_get s.jobs j ≡ Some (Host x) → ⊥
+no_host_step s i j x e = batch_there
+    (plain_at s.jobs j (written_one_lane s i).batches (get_within s.jobs j (Host x) e))
   where
     batch_there : (b : Batch) × IsPlainAt s.jobs j b → ⊥
     batch_there r = let c : Some (Host x) ≡ Some (BatchJob r.0) = sym e ∙ r.1.is in cc
@@ -104,54 +125,101 @@ one_before_is zero (Some x) h = absurd (let l = h.0 in omega arith)
 one_before_is (suc j) (Some x) h = let e : suc j - 1 ≡ j = omega arith in ap Some (h.1 ∙ e)
 
 -- what a batch is lowered to, by its parts
-pub lowered_job : (s : Script) → IsScript s → (j : ℕ) (b : Batch) → slice_get s.jobs j ≡ Some (BatchJob b) → (first : ℕ) (previous : Option ℕ) (needs asked : List Need) (idle commands signals : List ℕ) → first ≡ length (flat_map batch_commands (take j s.jobs)) → previous ≡ one_before j → needs ≡ [] → asked ≡ [] → idle ≡ [] → commands ≡ range_with_len first (length b.commands) → signals ≡ [] → slice_get (plan_of s).jobs j ≡ Some (record { line = b.line; lane = QueueLane b.queue; previous = previous; host_before = None; any = false; needs = needs; asked = asked; idle_after = idle; commands = commands; signals = signals; question = Silent })
-lowered_job s i j b at first previous needs asked idle commands signals e_first e_previous e_needs e_asked e_idle e_commands e_signals =
+pub lowered_job : (s : Script) → IsScript s → (j : ℕ) (b : Batch) →
+    slice_get s.jobs j ≡ Some (BatchJob b) →
+    (first : ℕ) (previous : Option ℕ) (needs asked : List Need) (idle commands signals : List ℕ) →
+    first ≡ length (flat_map batch_commands (take j s.jobs)) → previous ≡ one_before j →
+    needs ≡ [] → asked ≡ [] → idle ≡ [] → commands ≡ range_with_len first (length b.commands) →
+    signals ≡ [] → slice_get (plan_of s).jobs j
+    ≡ Some (record {
+      line = b.line;
+      lane = QueueLane b.queue;
+      previous = previous;
+      host_before =
+          None;
+      any = false;
+      needs = needs;
+      asked = asked;
+      idle_after = idle;
+      commands = commands;
+      signals = signals;
+      question = Silent;
+    })
+lowered_job s i j b at first previous needs asked idle commands signals e_first e_previous e_needs
+    e_asked e_idle e_commands e_signals =
     let h = written_one_lane s i in
     let plain = plain_batch s.jobs j b h.batches at in
-    let numbered : commands ≡ range_with_len (length (flat_map batch_commands (take j s.jobs))) (length b.commands) = e_commands ∙ ap (λ n. range_with_len n (length b.commands)) e_first in
+    let numbered : commands ≡ range_with_len (length (flat_map batch_commands (take j s.jobs)))
+    (length b.commands) = e_commands ∙ ap (λ n. range_with_len n (length b.commands)) e_first in
     job_is s j
     ∙ (ap (option_map (λ job. plan_job s (j, job))) at
-    ∙ ap Some (one_lane_job s h j b at ∙ λ k. record { line = b.line; lane = QueueLane (sym plain.queue k); previous = sym e_previous k; host_before = None; any = false; needs = sym e_needs k; asked = sym e_asked k; idle_after = sym e_idle k; commands = sym numbered k; signals = sym e_signals k; question = Silent }))
+    ∙ ap Some (one_lane_job s h j b at ∙ λ k. record {
+      line = b.line;
+      lane = QueueLane (sym plain.queue k);
+      previous = sym e_previous k;
+      host_before = None;
+      any = false;
+      needs = sym e_needs k;
+      asked = sym e_asked k;
+      idle_after =
+          sym e_idle k;
+      commands = sym numbered k;
+      signals = sym e_signals k;
+      question = Silent;
+    }))
 
 -- Tables
 
 -- a list of what a function gives, and one item more
-pub pushed_range : {X : Type 0} (f : ℕ → X) (old new : List X) (x : X) (j : ℕ) → old ≡ map f (range_with_len 0 j) → new ≡ old ++ x ∷ [] → x ≡ f j → new ≡ map f (range_with_len 0 (j + 1))
+pub pushed_range : {X : Type 0} (f : ℕ → X) (old new : List X) (x : X) (j : ℕ) →
+    old ≡ map f (range_with_len 0 j) → new ≡ old ++ x ∷ [] → x ≡ f j →
+    new ≡ map f (range_with_len 0 (j + 1))
 pushed_range f old new x j a b e =
     b ∙ ((λ i. a i ++ e i ∷ []) ∙ sym (map-range_with_len_more f 0 j j (zero-add j)))
 
 -- one job more, and the commands before the next
-module _ (s : Script) (j : ℕ) (job : PlanJob) (at : slice_get (plan_of s).jobs j ≡ Some job) (exists : j < length s.jobs) where
+module _ (s : Script) (j : ℕ) (job : PlanJob) (at : slice_get (plan_of s).jobs j ≡ Some job)
+    (exists : j < length s.jobs) where
   -- the job is what the script's is lowered to
   is_lowered : (x : Job) → slice_get s.jobs j ≡ Some x → plan_job s (j, x) ≡ job
   is_lowered x e =
-      let same : Some (plan_job s (j, x)) ≡ Some job = sym (job_is s j ∙ ap (option_map (λ y. plan_job s (j, y))) e) ∙ at in
+      let same : Some (plan_job s (j, x)) ≡ Some job = sym
+      (job_is s j ∙ ap (option_map (λ y. plan_job s (j, y))) e) ∙ at in
       cc
 
   -- its commands are those of the script's job
-  length-lowered : (x : Job) → slice_get s.jobs j ≡ Some x → length job.commands ≡ length (batch_commands x)
+  length-lowered : (x : Job) → slice_get s.jobs j ≡ Some x →
+      length job.commands ≡ length (batch_commands x)
   length-lowered (Host h) e = ap (λ y. length y.commands) (sym (is_lowered (Host h) e))
   length-lowered (BatchJob b) e =
-      ap (λ y. length y.commands) (sym (is_lowered (BatchJob b) e)) ∙ length-range_with_len (fold (λ n x. n + commands_in x) 0 (take j s.jobs)) (length b.commands)
+      ap (λ y. length y.commands) (sym (is_lowered (BatchJob b) e))
+      ∙ length-range_with_len (fold (λ n x. n + commands_in x) 0 (take j s.jobs))
+      (length b.commands)
 
-  pub jobs_push : (old new : List PlanJob) → old ≡ map (plan_job s) (enumerate_from 0 (take j s.jobs)) → new ≡ old ++ job ∷ [] → new ≡ map (plan_job s) (enumerate_from 0 (take (j + 1) s.jobs))
+  pub jobs_push : (old new : List PlanJob) →
+      old ≡ map (plan_job s) (enumerate_from 0 (take j s.jobs)) → new ≡ old ++ job ∷ [] →
+      new ≡ map (plan_job s) (enumerate_from 0 (take (j + 1) s.jobs))
   jobs_push old new a b = by_job (get_some s.jobs j exists)
     where
-      by_job : (x : Job) × (slice_get s.jobs j ≡ Some x) → new ≡ map (plan_job s) (enumerate_from 0 (take (j + 1) s.jobs))
+      by_job : (x : Job) × (slice_get s.jobs j ≡ Some x) →
+          new ≡ map (plan_job s) (enumerate_from 0 (take (j + 1) s.jobs))
       by_job x =
           b ∙ ((λ i. a i ++ sym (is_lowered x.0 x.1) i ∷ []) ∙ sym (plan_jobs_push s j x.0 x.1))
 
-  pub first_push : (first : ℕ) → first ≡ length (flat_map batch_commands (take j s.jobs)) → first + length job.commands ≡ length (flat_map batch_commands (take (j + 1) s.jobs))
+  pub first_push : (first : ℕ) → first ≡ length (flat_map batch_commands (take j s.jobs)) →
+      first + length job.commands ≡ length (flat_map batch_commands (take (j + 1) s.jobs))
   first_push first e = by_job (get_some s.jobs j exists)
     where
-      by_job : (x : Job) × (slice_get s.jobs j ≡ Some x) → first + length job.commands ≡ length (flat_map batch_commands (take (j + 1) s.jobs))
+      by_job : (x : Job) × (slice_get s.jobs j ≡ Some x) →
+          first + length job.commands ≡ length (flat_map batch_commands (take (j + 1) s.jobs))
       by_job x =
           let own = length-lowered x.0 x.1 in
           let cut = ap length (commands_push s.jobs j x.0 x.1) in
           let sum = length-append (flat_map batch_commands (take j s.jobs)) (batch_commands x.0) in
           omega arith
 
-  pub first_fits : IsScript s → (first : ℕ) → first ≡ length (flat_map batch_commands (take j s.jobs)) → first + length job.commands ≤ 8192
+  pub first_fits : IsScript s → (first : ℕ) →
+      first ≡ length (flat_map batch_commands (take j s.jobs)) → first + length job.commands ≤ 8192
   first_fits i first e = by_job (get_some s.jobs j exists)
     where
       by_job : (x : Job) × (slice_get s.jobs j ≡ Some x) → first + length job.commands ≤ 8192
@@ -161,7 +229,10 @@ module _ (s : Script) (j : ℕ) (job : PlanJob) (at : slice_get (plan_of s).jobs
           omega arith
 
 -- all that is kept
-pub kept : (s : Script) → IsScript s → (t : Tables) → t.jobs.items ≡ (plan_of s).jobs → t.edges.items ≡ map (edges_to (plan_of s)) (range_with_len 0 (length s.jobs)) → map (command_there s.jobs) t.places.items ≡ map Some (plan_of s).commands → t.ops.items ≡ [] → t.chains.items ≡ [] → KeepsPlan s t
+pub kept : (s : Script) → IsScript s → (t : Tables) → t.jobs.items ≡ (plan_of s).jobs →
+    t.edges.items ≡ map (edges_to (plan_of s)) (range_with_len 0 (length s.jobs)) →
+    map (command_there s.jobs) t.places.items ≡ map Some (plan_of s).commands → t.ops.items ≡ [] →
+    t.chains.items ≡ [] → KeepsPlan s t
 kept s i t jobs edges places ops chains =
     let lane = one_lane_plan s (written_one_lane s i) in
     let jobs_count = few_jobs s i in
@@ -187,20 +258,27 @@ kept s i t jobs edges places ops chains =
     }
 
 -- the edges to the first job, and to a later one
-pub edges_first : (s : Script) → IsScript s → (j : ℕ) → j < length s.jobs → j ≤ 0 → (edges : List ℕ) → edges ≡ [] → edges ≡ edges_to (plan_of s) j
+pub edges_first : (s : Script) → IsScript s → (j : ℕ) → j < length s.jobs → j ≤ 0 →
+    (edges : List ℕ) → edges ≡ [] → edges ≡ edges_to (plan_of s) j
 edges_first s i zero l first edges e = e ∙ sym (lane_edges s i zero l)
 edges_first s i (suc j) l first edges e = absurd (omega arith)
 
-pub edges_later : (s : Script) → IsScript s → (j : ℕ) → j < length s.jobs → 0 < j → (old new : List ℕ) → old ≡ [] → new ≡ old ++ (j - 1) ∷ [] → new ≡ edges_to (plan_of s) j
+pub edges_later : (s : Script) → IsScript s → (j : ℕ) → j < length s.jobs → 0 < j →
+    (old new : List ℕ) → old ≡ [] → new ≡ old ++ (j - 1) ∷ [] → new ≡ edges_to (plan_of s) j
 edges_later s i zero l later old new a b = absurd (omega arith)
 edges_later s i (suc j) l later old new a b =
     let n : suc j - 1 ≡ j = omega arith in
     b ∙ ((λ k. a k ++ n k ∷ []) ∙ sym (lane_edges s i (suc j) l))
 
 -- a job of the script, by its place
-pub few_in : (s : Script) → IsScript s → (j : ℕ) (job : Job) → slice_get s.jobs j ≡ Some job → length (batch_commands job) ≤ 8192
+pub few_in : (s : Script) → IsScript s → (j : ℕ) (job : Job) → slice_get s.jobs j ≡ Some job →
+    length (batch_commands job) ≤ 8192
 few_in s i j job e = omega (arith, few_up_to s i j job e)
 
 -- what is kept is kept of a plan
 pub is_plan : (s : Script) → IsScript s → IsPlan (plan_of s)
-is_plan s i = record { of_script = i; faultless = one_lane_faultless s (written_one_lane s i); lowered = refl }
+is_plan s i = record {
+  of_script = i;
+  faultless = one_lane_faultless s (written_one_lane s i);
+  lowered = refl;
+}

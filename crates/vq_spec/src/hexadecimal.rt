@@ -52,3 +52,27 @@ pub(crate) fn push_lines(out: &mut Vec<u8>, bytes: &[u8]) -> Result<(), AllocErr
     }
     Ok(())
 }
+
+#[cfg(test)]
+mod tests {
+    use super::*;
+    use std::test::Fail;
+
+    #[test]
+    fn bytes_stand_in_lines(rt: HostRuntime) -> Result<(), Fail> {
+        let bytes: &[u8] = b"\x00\x01\x09\x0a\x0f\x10\x7f\x80\x99\x9a\xa0\xaa\xf0\xfe\xff\x42\xc3";
+        let rows: [(usize, &[u8]); 4] = [
+            (0, b""),
+            (1, b"00\n"),
+            (16, b"0001090a0f107f80999aa0aaf0feff42\n"),
+            (17, b"0001090a0f107f80999aa0aaf0feff42\nc3\n"),
+        ];
+        for (count, text) in rows {
+            assert!(rt; count <= bytes.len());
+            let mut out = Vec::new(rt.alloc());
+            push_lines(&mut out, &bytes[..count])?;
+            assert_eq!(rt; out.as_slice(), text, "of {count} bytes");
+        }
+        Ok(())
+    }
+}

@@ -107,7 +107,8 @@ fn lower_edges_to(alloc: Global, script: &Script, j: u32) -> Result<List<u32>, A
 /// The edges to each job.
 fn lower_edges(alloc: Global, script: &Script) -> Result<Vec<List<u32>>, AllocError>
     requires { IsScript script.now }
-    ensures { IfOk result (λ edges. edges.items ≡ map (edges_to (plan_of script.now)) (range_with_len 0 (length script.now.jobs))) }
+    ensures { IfOk result (λ edges. edges.items
+        ≡ map (edges_to (plan_of script.now)) (range_with_len 0 (length script.now.jobs))) }
 {
     let mut edges = Vec::new(alloc);
     for j in 0..script.jobs.as_slice().len() as u32 {
@@ -139,7 +140,8 @@ fn push_places(places: &mut Vec<Place>, job: u32, count: u32) -> Result<(), Allo
 /// Where each command stands.
 fn lower_places(alloc: Global, script: &Script) -> Result<Vec<Place>, AllocError>
     requires { IsScript script.now }
-    ensures { IfOk result (λ places. map (command_there script.now.jobs) places.items ≡ map Some (plan_of script.now).commands) }
+    ensures { IfOk result (λ places. map (command_there script.now.jobs) places.items
+        ≡ map Some (plan_of script.now).commands) }
 {
     let mut places = Vec::new(alloc);
     let jobs = script.jobs.as_slice();

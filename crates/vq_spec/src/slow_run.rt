@@ -47,7 +47,8 @@ fn apply_job(plan: &Plan, j: u32, buffers: &mut Buffers)
     requires plan { IsPlan plan.now }
     requires exists { j < length plan.now.jobs }
     requires sizes { map length buffers.old ≡ plan.now.sizes }
-    ensures bytes { buffers.new ≡ after_all (command_list plan.now (commands_of plan.now j)) buffers.old }
+    ensures bytes { buffers.new
+        ≡ after_all (command_list plan.now (commands_of plan.now j)) buffers.old }
     ensures sizes { map length buffers.new ≡ plan.now.sizes }
 {
     for c in plan.job(j).commands.as_slice() {

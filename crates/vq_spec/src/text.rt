@@ -27,6 +27,16 @@ fn push_buffer(
     push_lines(out, bytes)
 }
 
+/// About as many bytes as the text of buffers has. One that is too small only costs time.
+fn text_size(buffers: &Buffers) -> usize {
+    let mut size = 64usize;
+    for b in 0..buffers.count() {
+        let lines = buffers.bytes(b).len() / 16 + 2;
+        size = size.saturating_add(lines.saturating_mul(33));
+    }
+    size
+}
+
 /// The text of buffers: for each buffer a line with its name and its size, and its bytes in
 /// hexadecimal digits, sixteen bytes to a line; the last line is `end`. The error is want of memory.
 ///
@@ -36,7 +46,7 @@ pub fn buffers_text(alloc: Global, plan: &Plan, buffers: &Buffers) -> Result<Vec
     ensures { IfOk result (λ text. text.items ≡ buffers_text plan.now.script.buffers buffers.now) }
 {
     let declared = plan.script().buffers.as_slice();
-    let mut out = Vec::with_capacity(alloc, 64)?;
+    let mut out = Vec::with_capacity(alloc, text_size(buffers))?;
     for b in 0..buffers.count() {
         push_buffer(alloc, &mut out, &declared[b as usize], buffers.bytes(b))?;
     }

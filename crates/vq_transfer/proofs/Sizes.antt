@@ -28,9 +28,12 @@ sizes_are sizes m h =
         get_or-map length m k [] d inside ∙ (h.each k ∙ get_or_default sizes k 0 d (omega arith))
 
 -- a command that fits leaves the sizes
-pub sizes_stay : (c : Command) (m : Memory) → Fits (map length m) c → map length (effect c m) ≡ map length m
-sizes_stay c m f = sizes_are (map length m) (effect c m) (effect_sizes (map length m) c m (has_own_sizes m) f)
+pub sizes_stay : (c : Command) (m : Memory) → Fits (map length m) c →
+    map length (effect c m) ≡ map length m
+sizes_stay c m f = sizes_are (map length m) (effect c m)
+    (effect_sizes (map length m) c m (has_own_sizes m) f)
 
 -- the same where the command is known by its parts
-pub sizes_after : (c d : Command) (m new : Memory) → d ≡ c → Fits (map length m) d → new ≡ effect c m → map length new ≡ map length m
+pub sizes_after : (c d : Command) (m new : Memory) → d ≡ c → Fits (map length m) d →
+    new ≡ effect c m → map length new ≡ map length m
 sizes_after c d m new is f e = ap (map length) e ∙ sizes_stay c m (subst (Fits (map length m)) is f)

@@ -83,7 +83,8 @@ impl Buffers {
 
     /// Whether a range of bytes lies in its buffer.
     fn is_within(&self, buffer: u32, start: u32, size: usize) -> bool
-        ensures { IsTrue result ↔ IsWithin (map length self.now) (record { buffer = buffer; start = start; size = size }) }
+        ensures { let range = record { buffer = buffer; start = start; size = size } in
+            IsTrue result ↔ IsWithin (map length self.now) range }
     {
         let len = self.size(buffer);
         (buffer as usize) < self.bytes.len() && size <= len && start as usize <= len - size
@@ -91,7 +92,8 @@ impl Buffers {
 
     /// Whether a fill fits.
     fn fits_fill(&self, buffer: u32, offset: u32, size: FillSize) -> bool
-        ensures { (word : ℕ) → IsTrue result ↔ Fits (map length self.now) (Command.Fill buffer offset size word) }
+        ensures { (word : ℕ) →
+            IsTrue result ↔ Fits (map length self.now) (Command.Fill buffer offset size word) }
     {
         let bytes = fill_size(size, offset, self.size(buffer));
         self.is_within(buffer, offset, bytes) && is_aligned_fill(offset, size)
@@ -114,8 +116,8 @@ impl Buffers {
             && !overlaps_itself(source, from, target, to, size)
     }
 
-    /// Whether a command fits: its ranges lie in their buffers, fills and updates begin at a multiple of 4 and write a
-    /// multiple of 4 bytes, and a copy reads no byte that it writes.
+    /// Whether a command fits: its ranges lie in their buffers, fills and updates begin at a multiple
+    /// of 4 and write a multiple of 4 bytes, and a copy reads no byte that it writes.
     ///
     /// Source: Vulkan 1.3, "Clear Commands" and "Copy Commands".
     pub fn fits(&self, command: &Command) -> bool
@@ -208,8 +210,8 @@ impl Buffers {
 
     /// Applies a command that fits. A copy reads all its bytes before it writes any.
     ///
-    /// Source: Vulkan 1.3, "Clear Commands" and "Copy Commands". That a fill writes the least significant byte of its word
-    /// first is this project's rule.
+    /// Source: Vulkan 1.3, "Clear Commands" and "Copy Commands". That a fill writes the least
+    /// significant byte of its word first is this project's rule.
     pub fn apply(&mut self, command: &Command)
         requires { Fits (map length self.old) command.now }
         ensures bytes { self.new ≡ effect command.now self.old }

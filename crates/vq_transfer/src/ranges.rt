@@ -33,7 +33,8 @@ pub(crate) fn is_aligned_fill(offset: u32, size: FillSize) -> bool
 
 /// Whether a copy reads a byte that it writes.
 pub(crate) fn overlaps_itself(source: u32, from: u32, target: u32, to: u32, size: u32) -> bool
-    ensures { (sizes : List ℕ) → result ≡ overlaps_itself sizes (Command.Copy source from target to size) }
+    ensures { (sizes : List ℕ) →
+        result ≡ overlaps_itself sizes (Command.Copy source from target to size) }
 {
     let (from, to, size) = (u64::from(from), u64::from(to), u64::from(size));
     target == source && to.max(from) < (to + size).min(from + size)

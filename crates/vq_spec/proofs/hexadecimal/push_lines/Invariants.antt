@@ -4,4 +4,5 @@ use Rattle.vq_laws.specs.OutputText.{hex_line}
 use Rattle.vq_spec.proofs.hexadecimal.push_lines.Given as goal
 
 abbrev pub invariant-loop-row : goal.invariant-loop-row
-invariant-loop-row l = l.out.items ≡ l.fn.out.items ++ flat_map (hex_line l.bytes) (range_with_len 0 l.row)
+invariant-loop-row l = l.out.items ≡ l.fn.out.items
+    ++ flat_map (hex_line l.bytes) (range_with_len 0 l.row)

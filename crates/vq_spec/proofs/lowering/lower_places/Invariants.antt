@@ -5,4 +5,5 @@ use Rattle.vq_spec.specs.Places.{command_there}
 use Rattle.vq_spec.proofs.lowering.lower_places.Given as goal
 
 abbrev pub invariant-loop-j : goal.invariant-loop-j
-invariant-loop-j l = map (command_there l.fn.script.jobs) l.places.items ≡ map Some (flat_map batch_commands (take l.j l.fn.script.jobs))
+invariant-loop-j l = map (command_there l.fn.script.jobs) l.places.items
+    ≡ map Some (flat_map batch_commands (take l.j l.fn.script.jobs))

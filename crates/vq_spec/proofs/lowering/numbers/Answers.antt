@@ -7,4 +7,6 @@ pub loop-place-preserved : goal.loop-place-preserved
 loop-place-preserved c =
     let first = c.args.first in
     let place = c.loop-place.place in
-    (c.in_ok-push.ensures {u = tt}).items ∙ (ap (λ ns. ns ++ (first + place) ∷ []) c.loop-place.invariant ∙ (sym (range_push first place) ∙ ap (range_with_len first) (sym (add-one place))))
+    (c.in_ok-push.ensures {u = tt}).items ∙
+    (ap (λ ns. ns ++ (first + place) ∷ []) c.loop-place.invariant
+    ∙ (sym (range_push first place) ∙ ap (range_with_len first) (sym (add-one place))))

@@ -10,8 +10,10 @@ command-requires c =
     let p = c.args.plan.now in
     let k = c.loop-c.c-index in
     let own = c.as_slice-c-items.ensures in
-    let inside : k < length c.job.result.now.commands = omega (arith, c.loop-c-test.true, ap length own) in
-    let exists = command_exists p c.requires.plan c.args.j c.job.result.now c.job.ensures k inside in
+    let inside : k < length c.job.result.now.commands = omega
+    (arith, c.loop-c-test.true, ap length own) in
+    let exists = command_exists p c.requires.plan c.args.j c.job.result.now c.job.ensures k
+    inside in
     omega (arith, ap (λ cs. get_or cs k 0) own)
 
 pub apply-requires : goal.apply-requires
@@ -19,18 +21,25 @@ apply-requires c =
     let p = c.args.plan.now in
     let k = c.loop-c.c-index in
     let own = c.as_slice-c-items.ensures in
-    let inside : k < length c.job.result.now.commands = omega (arith, c.loop-c-test.true, ap length own) in
+    let inside : k < length c.job.result.now.commands = omega
+    (arith, c.loop-c-test.true, ap length own) in
     let seen = ap (λ cs. slice_get p.commands (get_or cs k 0)) (sym own) ∙ c.command.ensures in
-    subst (λ (sizes : List ℕ). Fits sizes c.command.result.now.command) (sym c.loop-c.invariant.sizes) (seen_fits p c.requires.plan c.args.j c.job.result.now c.job.ensures k inside c.command.result.now seen)
+    subst (λ (sizes : List ℕ). Fits sizes c.command.result.now.command)
+    (sym c.loop-c.invariant.sizes)
+    (seen_fits p c.requires.plan c.args.j c.job.result.now c.job.ensures k inside
+    c.command.result.now seen)
 
 pub loop-c-preserved : goal.loop-c-preserved
 loop-c-preserved c =
     let p = c.args.plan.now in
     let k = c.loop-c.c-index in
     let own = c.as_slice-c-items.ensures in
-    let inside : k < length c.job.result.now.commands = omega (arith, c.loop-c-test.true, ap length own) in
+    let inside : k < length c.job.result.now.commands = omega
+    (arith, c.loop-c-test.true, ap length own) in
     let seen = ap (λ cs. slice_get p.commands (get_or cs k 0)) (sym own) ∙ c.command.ensures in
     record {
-      bytes = after_command p c.args.j c.job.result.now c.job.ensures k inside c.command.result.now seen c.args.buffers.now c.loop-c.buffers c.apply.new.self c.loop-c.invariant.bytes c.apply.ensures.bytes;
+      bytes = after_command p c.args.j c.job.result.now c.job.ensures k inside c.command.result.now
+          seen c.args.buffers.now c.loop-c.buffers c.apply.new.self c.loop-c.invariant.bytes
+          c.apply.ensures.bytes;
       sizes = c.apply.ensures.sizes ∙ c.loop-c.invariant.sizes;
     }

@@ -6,6 +6,7 @@ use Rattle.vq_spec.proofs.slow_run.apply_job.Given as goal
 
 abbrev pub invariant-loop-c : goal.invariant-loop-c
 invariant-loop-c l = record {
-  bytes : l.buffers ≡ after_all (command_list l.plan (take l.c-index (commands_of l.plan l.j))) l.fn.buffers;
+  bytes : l.buffers ≡ after_all (command_list l.plan (take l.c-index (commands_of l.plan l.j)))
+      l.fn.buffers;
   sizes : map length l.buffers ≡ l.plan.sizes;
 }

@@ -5,4 +5,13 @@ use Rattle.vq_spec.proofs.slow_run.zero_buffers.Goals as goal
 
 pub new-requires : goal.new-requires
 new-requires c =
-    omega (arith, few_buffers c.args.script.now c.requires, c.as_slice.ensures.len, ap length c.as_slice.ensures.value, ap length (c.in_ok-sizes.ensures {u = tt}), length-map c.args.script.now.buffers (λ b. b.size))
+    omega (
+      arith,
+      few_buffers c.args.script.now c.requires,
+      c.as_slice.ensures.len,
+      ap length
+          c.as_slice.ensures.value,
+      ap length (c.in_ok-sizes.ensures {u = tt}),
+      length-map
+          c.args.script.now.buffers (λ b. b.size),
+    )

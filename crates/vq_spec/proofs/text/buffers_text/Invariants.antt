@@ -3,4 +3,5 @@ use Rattle.vq_laws.specs.OutputText.{all_buffers}
 use Rattle.vq_spec.proofs.text.buffers_text.Given as goal
 
 abbrev pub invariant-loop-b : goal.invariant-loop-b
-invariant-loop-b l = l.out.items ++ all_buffers (drop l.b l.plan.script.buffers) (drop l.b l.buffers) ≡ all_buffers l.plan.script.buffers l.buffers
+invariant-loop-b l = l.out.items ++ all_buffers (drop l.b l.plan.script.buffers)
+    (drop l.b l.buffers) ≡ all_buffers l.plan.script.buffers l.buffers

@@ -5,4 +5,5 @@ use Rattle.vq_transfer.proofs.buffers.zero_bytes.Goals as goal
 
 pub returns : goal.returns
 returns c =
-    IfOk-weaker c.vec.result _ _ (λ v made. made (λ y same. same) ∙ replicate_is c.args.size) c.vec.ensures.items_if_clones_equal
+    IfOk-weaker c.vec.result _ _ (λ v made. made (λ y same. same) ∙ replicate_is c.args.size)
+    c.vec.ensures.items_if_clones_equal

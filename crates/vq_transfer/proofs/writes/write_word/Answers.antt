@@ -5,4 +5,5 @@ use Rattle.vq_transfer.proofs.writes.write_word.Goals as goal
 
 pub returns : goal.returns
 returns c =
-    fill_by_all (word_byte c.args.word) c.loop-place.part (length c.args.part.now) 0 c.loop-place.auto.part (λ k h. c.loop-place.invariant k (omega arith))
+    fill_by_all (word_byte c.args.word) c.loop-place.part (length c.args.part.now) 0
+    c.loop-place.auto.part (λ k h. c.loop-place.invariant k (omega arith))

@@ -10,15 +10,27 @@ pub index-requires : goal.index-requires
 index-requires c =
     let s = c.self.inside.script in
     let k = c.self.invariant in
-    omega (arith, c.self.inside.tables.edges.ok.0, ap length k.edges, length-map-range_with_len (edges_to (plan_of s)) 0 (length s.jobs), plan_length s k.script, ap (λ p. length p.jobs) c.self.view_is, c.requires)
+    omega (
+      arith,
+      c.self.inside.tables.edges.ok.0,
+      ap length k.edges,
+      length-map-range_with_len
+          (edges_to (plan_of s)) 0 (length s.jobs),
+      plan_length s k.script,
+      ap (λ p. length p.jobs)
+          c.self.view_is,
+      c.requires,
+    )
 
 pub returns : goal.returns
 returns c =
     let s = c.self.inside.script in
     let k = c.self.invariant in
     let j = c.args.j in
-    let inside : j < length s.jobs = omega (arith, plan_length s k.script, ap (λ p. length p.jobs) c.self.view_is, c.requires) in
+    let inside : j < length s.jobs = omega
+    (arith, plan_length s k.script, ap (λ p. length p.jobs) c.self.view_is, c.requires) in
     c.as_slice.ensures
     ∙ (c.index.ensures
     ∙ (ap (λ xs. get_or xs j c.index.result.now) k.edges
-    ∙ (get_or-map-range_with_len (edges_to (plan_of s)) 0 (length s.jobs) j j c.index.result.now inside (zero-add j) ∙ ap (λ p. edges_to p j) c.self.view_is)))
+    ∙ (get_or-map-range_with_len (edges_to (plan_of s)) 0 (length s.jobs) j j c.index.result.now
+    inside (zero-add j) ∙ ap (λ p. edges_to p j) c.self.view_is)))

@@ -4,4 +4,7 @@ use Rattle.vq_laws.proofs.WrittenScripts.{written_one_lane}
 use Rattle.vq_spec.proofs.plan.Plan.lower.Goals as goal
 
 pub returns-in-Ok : goal.returns-in-Ok
-returns-in-Ok c = (one_lane_faultless c.args.script (written_one_lane c.args.script c.requires), refl)
+returns-in-Ok c = (
+  one_lane_faultless c.args.script (written_one_lane c.args.script c.requires),
+  refl,
+)

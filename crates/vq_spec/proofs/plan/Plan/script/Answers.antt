@@ -4,4 +4,5 @@ use Rattle.vq_spec.proofs.Lowered.{is_plan}
 use Rattle.vq_spec.proofs.plan.Plan.script.Goals as goal
 
 pub returns-clause-plan : goal.returns-clause-plan
-returns-clause-plan c = subst IsPlan c.self.view_is (is_plan c.self.inside.script c.self.invariant.script)
+returns-clause-plan c = subst IsPlan c.self.view_is
+    (is_plan c.self.inside.script c.self.invariant.script)

@@ -9,7 +9,16 @@ returns-in-Some c =
     let vs = c.self.inside.bytes.items in
     let m = c.args.self.now in
     let v = c.in-Some.bytes.now in
-    let inside : c.args.buffer < length (map length m) = omega (arith, ap length c.deref.ensures.value, found.3.0, ap length c.self.view_is, length-map vs (λ v. v.items), length-map m length) in
+    let inside : c.args.buffer < length (map length m) = omega (
+      arith,
+      ap length c.deref.ensures.value,
+      found.3.0,
+      ap length c.self.view_is,
+      length-map vs
+          (λ v. v.items),
+      length-map m length,
+    ) in
     c.len.ensures
     ∙ (v.ok.0
-    ∙ sym (size_at vs m c.args.buffer v c.self.view_is inside (found.3.1 v ∙ ap (λ xs. get_or xs c.args.buffer v) c.deref.ensures.value)))
+    ∙ sym (size_at vs m c.args.buffer v c.self.view_is inside
+    (found.3.1 v ∙ ap (λ xs. get_or xs c.args.buffer v) c.deref.ensures.value)))

@@ -6,8 +6,15 @@ use Rattle.vq_transfer.proofs.buffers.Buffers.update.Goals as goal
 pub update-requires : goal.update-requires
 update-requires c =
     let v = c.index_mut-bytes.result.now in
-    let size = size_at _ c.args.self.now c.args.target v c.self.view_is c.requires.written.exists c.index_mut-bytes.ensures.value in
-    omega (arith, c.requires.written.ends, ap length c.as_mut_slice.ensures.value, ap length c.as_slice.ensures)
+    let size = size_at _ c.args.self.now c.args.target v c.self.view_is c.requires.written.exists
+    c.index_mut-bytes.ensures.value in
+    omega (
+      arith,
+      c.requires.written.ends,
+      ap length c.as_mut_slice.ensures.value,
+      ap length
+          c.as_slice.ensures,
+    )
 
 pub returns : goal.returns
 returns c =
@@ -16,4 +23,6 @@ returns c =
     let read = c.index_mut-bytes.ensures.value in
     let exists = c.requires.written.exists in
     let size = size_at _ m c.args.target v c.self.view_is exists read in
-    bytes_of-write _ m c.args.target v c.self.view_is exists read c.update.new.bytes c.args.offset c.args.new.now (c.update.ensures ∙ λ i. with_bytes (c.as_mut_slice.ensures.value i) c.args.offset (c.as_slice.ensures i)) (omega (arith, c.requires.written.ends))
+    bytes_of-write _ m c.args.target v c.self.view_is exists read c.update.new.bytes c.args.offset
+    c.args.new.now (c.update.ensures ∙ λ i. with_bytes (c.as_mut_slice.ensures.value i)
+    c.args.offset (c.as_slice.ensures i)) (omega (arith, c.requires.written.ends))
