@@ -34,7 +34,8 @@ fn write_digits(digits: &mut [u8], bytes: &[u8])
 /// Adds one line of bytes.
 fn push_line(out: &mut Vec<u8>, bytes: &[u8]) -> Result<(), AllocError>
     requires { length bytes.now ≤ 16 }
-    ensures { OnOk result (out.new.items ≡ out.old.items ++ (flat_map hex_byte bytes.now ++ line_feed)) }
+    ensures { OnOk result
+        (out.new.items ≡ out.old.items ++ (flat_map hex_byte bytes.now ++ line_feed)) }
 {
     let mut line = [b'\n'; 2 * ROW + 1];
     let digits = 2 * bytes.len();

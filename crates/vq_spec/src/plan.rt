@@ -117,8 +117,8 @@ impl Plan {
         }
     }
 
-    /// The jobs with an edge to a job: those that must be finished before it starts, and those whose
-    /// signals it waits for.
+    /// The jobs with an edge to a job: those that must be finished before it starts, and those
+    /// whose signals it waits for.
     ///
     /// Source: Vulkan 1.3, "Semaphore Waiting" and "Queue Submission".
     pub fn edges(&self, j: u32) -> &[u32]

@@ -38,7 +38,8 @@ fn text_size(buffers: &Buffers) -> usize {
 }
 
 /// The text of buffers: for each buffer a line with its name and its size, and its bytes in
-/// hexadecimal digits, sixteen bytes to a line; the last line is `end`. The error is want of memory.
+/// hexadecimal digits, sixteen bytes to a line; the last line is `end`. The error is want of
+/// memory.
 ///
 /// Source: this project's rule.
 pub fn buffers_text(alloc: Global, plan: &Plan, buffers: &Buffers) -> Result<Vec<u8>, AllocError>

@@ -83,8 +83,8 @@ impl Buffers {
 
     /// Whether a range of bytes lies in its buffer.
     fn is_within(&self, buffer: u32, start: u32, size: usize) -> bool
-        ensures { let range = record { buffer = buffer; start = start; size = size } in
-            IsTrue result ↔ IsWithin (map length self.now) range }
+        ensures { IsTrue result ↔ IsWithin (map length self.now)
+            (record { buffer = buffer; start = start; size = size }) }
     {
         let len = self.size(buffer);
         (buffer as usize) < self.bytes.len() && size <= len && start as usize <= len - size
@@ -101,7 +101,8 @@ impl Buffers {
 
     /// Whether an update fits.
     fn fits_update(&self, buffer: u32, offset: u32, bytes: &Bytes) -> bool
-        ensures { IsTrue result ↔ Fits (map length self.now) (Command.Update buffer offset bytes.now) }
+        ensures { IsTrue result
+            ↔ Fits (map length self.now) (Command.Update buffer offset bytes.now) }
     {
         let size = bytes.as_slice().len();
         self.is_within(buffer, offset, size) && is_aligned(offset as usize) && is_aligned(size)
@@ -109,15 +110,16 @@ impl Buffers {
 
     /// Whether a copy fits.
     fn fits_copy(&self, source: u32, from: u32, target: u32, to: u32, size: u32) -> bool
-        ensures { IsTrue result ↔ Fits (map length self.now) (Command.Copy source from target to size) }
+        ensures { IsTrue result
+            ↔ Fits (map length self.now) (Command.Copy source from target to size) }
     {
         self.is_within(target, to, size as usize)
             && self.is_within(source, from, size as usize)
             && !overlaps_itself(source, from, target, to, size)
     }
 
-    /// Whether a command fits: its ranges lie in their buffers, fills and updates begin at a multiple
-    /// of 4 and write a multiple of 4 bytes, and a copy reads no byte that it writes.
+    /// Whether a command fits: its ranges lie in their buffers, fills and updates begin at a
+    /// multiple of 4 and write a multiple of 4 bytes, and a copy reads no byte that it writes.
     ///
     /// Source: Vulkan 1.3, "Clear Commands" and "Copy Commands".
     pub fn fits(&self, command: &Command) -> bool

@@ -23,7 +23,8 @@ pub(crate) fn is_aligned(n: usize) -> bool
 
 /// Whether a fill begins at a multiple of 4 and writes whole words.
 pub(crate) fn is_aligned_fill(offset: u32, size: FillSize) -> bool
-    ensures { (buffer word : ℕ) → result ≡ is_aligned_command (Command.Fill buffer offset size word) }
+    ensures { (buffer word : ℕ) →
+        result ≡ is_aligned_command (Command.Fill buffer offset size word) }
 {
     match size {
         FillSize::Whole => is_aligned(offset as usize),

@@ -43,7 +43,8 @@ pub(crate) fn copy_from(target: &mut [u8], to: usize, source: &[u8], from: usize
     update(target, to, &source[from..from + size]);
 }
 
-/// Copies `size` bytes to another place of the same buffer, which has no byte in common with theirs.
+/// Copies `size` bytes to another place of the same buffer, which has no byte in common with
+/// theirs.
 pub(crate) fn copy_inside(bytes: &mut [u8], from: usize, to: usize, size: usize)
     requires written { to + size ≤ length bytes.old }
     requires read { from + size ≤ length bytes.old }

@@ -1,0 +1,101 @@
+-- What a run of the program may write, and with which status it ends. This project's own.
+use Rattle.std.specs.Prelude.{ℕ, ◌≡◌, ◌<◌, ◌≤◌, List, [], length, Option, Some, None, IfSome, OnSome}
+use Rattle.vq_laws.specs.declared.statement.Form.TheVariants.{Plain}
+use Rattle.vq_laws.specs.declared.statement.FaultKind.{FaultKind}
+use Rattle.vq_laws.specs.declared.script.Script.{Script}
+use Rattle.vq_laws.specs.declared.plan.PlanFault.{PlanFault}
+use Rattle.vq_laws.specs.declared.plan.PlanFault.TheVariants.{Memory as NoMemoryToLower}
+use Rattle.vq_laws.specs.declared.plan.OrderFault.{OrderFault}
+use Rattle.vq_laws.specs.Reading.{StandsFor, IsFirstFault}
+use Rattle.vq_laws.specs.Lowering.{plan_of}
+use Rattle.vq_laws.specs.LoweringFaults.{lowering_fault, IsFirstLoweringFault}
+use Rattle.vq_laws.specs.Checks.{IsLawful, IsFirstPlanFault}
+use Rattle.vq_laws.specs.Outputs.{IsOutput}
+use Rattle.vq_laws.specs.Refusals.{too_long, bad_words, line_refusal, plan_refusal, order_refusal}
+use Rattle.vq_main.specs.Writes.{SinkMoment, WroteAll, WrotePart, WroteNothing}
+use Rattle.vq_main.specs.declared.status.Status.{Status}
+use Rattle.vq_main.specs.declared.status.Status.TheVariants.{Done, BadWords, Refused, ReadFault, WriteFault, Memory}
+
+-- the most bytes of an input
+abbrev pub input_limit : ℕ
+input_limit = 4194304
+
+-- What a run without words may answer for an input, with the text that it writes.
+pub data IsOutcome (input : List ℕ) : Status → List ℕ → Type 0 where
+  -- the input is too long
+  is_too_long : input_limit < length input → IsOutcome input Refused too_long
+  -- a line is faulty: the first one of the text, by its first kind
+  has_faulty_line : (n : ℕ) (kind : FaultKind) → length input ≤ input_limit →
+      IsFirstFault input Plain n kind → IsOutcome input Refused (line_refusal n kind)
+  -- the script that the input stands for has no plan
+  has_no_plan : (script : Script) (fault : PlanFault) → length input ≤ input_limit →
+      StandsFor input Plain script → IsFirstLoweringFault script fault →
+      IsOutcome input Refused (plan_refusal fault)
+  -- its plan is not lawful
+  is_unlawful : (script : Script) (fault : OrderFault) → length input ≤ input_limit →
+      StandsFor input Plain script → lowering_fault script ≡ None →
+      IsFirstPlanFault (plan_of script) fault → IsOutcome input Refused (order_refusal fault)
+  -- the script is lawful, and the text is one that a run of its plan may give
+  gives_output : (script : Script) (text : List ℕ) → length input ≤ input_limit →
+      StandsFor input Plain script → lowering_fault script ≡ None → IsLawful (plan_of script) →
+      IsOutput (plan_of script) text → IsOutcome input Done text
+
+-- a text refuses a script for a fault of its lowering; want of memory refuses nothing
+abbrev pub RefusesPlan : PlanFault → List ℕ → Type 0
+RefusesPlan NoMemoryToLower text = ⊥
+RefusesPlan fault text = text ≡ plan_refusal fault
+
+-- What a run without words wrote to the sink, by the status that it ended with: a whole text; a part
+-- of one, where the writing failed; else nothing.
+abbrev pub Ends : List ℕ → Status → SinkMoment → SinkMoment → Type 0
+Ends input Done before now = (text : List ℕ) × IsOutcome input Done text × WroteAll text before now
+Ends input Refused before now =
+    (text : List ℕ) × IsOutcome input Refused text × WroteAll text before now
+Ends input WriteFault before now =
+    (status : Status) × (text : List ℕ) × IsOutcome input status text × WrotePart text before now
+Ends input ReadFault before now = WroteNothing before now
+Ends input Memory before now = WroteNothing before now
+Ends input BadWords before now = ⊥
+
+-- What a run with words wrote to the sink: the line that refuses them, or a part of it.
+abbrev pub EndsForWords : Status → SinkMoment → SinkMoment → Type 0
+EndsForWords BadWords before now = WroteAll bad_words before now
+EndsForWords WriteFault before now = WrotePart bad_words before now
+EndsForWords other before now = ⊥
+
+-- Where a run answers by its input, and the source tells what it has left, the input was read to its
+-- end; one that is too long needn't be.
+abbrev pub ReadsToEnd : Status → Option (List ℕ) → Option (List ℕ) → Type 0
+ReadsToEnd Done before now = OnSome before (now ≡ Some [])
+ReadsToEnd Refused before now =
+    IfSome before (λ input. length input ≤ input_limit → now ≡ Some [])
+ReadsToEnd other before now = Unit {0}
+
+-- An input stands for a lawful script.
+pub record IsLawfulInput (input : List ℕ) : Type 0 where
+  pub short : length input ≤ input_limit
+  pub script : Script
+  pub stands : StandsFor input Plain script
+  pub lowers : lowering_fault script ≡ None
+  pub lawful : IsLawful (plan_of script)
+
+-- a run ended with its whole text written, or for want of memory
+abbrev pub IsDoneOrMemory : Status → Type 0
+IsDoneOrMemory Done = Unit {0}
+IsDoneOrMemory Memory = Unit {0}
+IsDoneOrMemory other = ⊥
+
+-- A fault of reading and want of memory leave the sink as it was.
+abbrev pub WritesNothing : Status → SinkMoment → SinkMoment → Type 0
+WritesNothing ReadFault before now = WroteNothing before now
+WritesNothing Memory before now = WroteNothing before now
+WritesNothing other before now = Unit {0}
+
+-- the exit status of each ending
+abbrev pub status_number : Status → ℕ
+status_number Done = 0
+status_number BadWords = 1
+status_number Refused = 2
+status_number ReadFault = 3
+status_number WriteFault = 4
+status_number Memory = 5

@@ -1,0 +1,39 @@
+//! The program `vq`: reads a script of queues and buffers from standard input, runs it, and writes
+//! the final buffers to standard output.
+#![tactic(auto)]
+
+mod outcome;
+mod run;
+mod status;
+#[cfg(test)]
+mod tests;
+
+use run::run;
+use status::Status;
+use std::process::ExitCode;
+use std::{env, io};
+use vq_port::{StdSink, StdSource, write_whole};
+
+/// The words of the command line, without the program's name.
+fn words(rt: &HostRuntime) -> io::Result<Vec<String>> {
+    let mut words = Vec::new(rt.alloc());
+    for word in env::args(rt)?.skip(1) {
+        words.push(word)?;
+    }
+    Ok(words)
+}
+
+fn main(rt: HostRuntime) -> ExitCode {
+    let mut source = StdSource::new(rt.stdin());
+    let mut sink = StdSink::new(rt.stdout());
+    let status = match words(&rt) {
+        Ok(words) => run(rt.alloc(), words.as_slice(), &mut source, &mut sink),
+        Err(error) if error.kind() == io::ErrorKind::OutOfMemory => Status::Memory,
+        // A word that is no text.
+        Err(_) => match write_whole(&mut sink, b"error: words\n") {
+            Ok(()) => Status::BadWords,
+            Err(_) => Status::WriteFault,
+        },
+    };
+    ExitCode::from(status.number())
+}

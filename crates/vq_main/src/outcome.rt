@@ -1,0 +1,96 @@
+//! What the program writes for an input.
+ghost use Rattle.std.specs.Prelude.{◌≡◌, ◌≤◌, ◌++◌, IfOk, length};
+ghost use Rattle.vq_laws.specs.Reading.{StandsFor};
+ghost use Rattle.vq_laws.specs.OutputText.{buffers_text};
+ghost use Rattle.vq_laws.specs.Refusals.{line_refusal};
+ghost use Rattle.vq_laws.specs.SlowRun.{final};
+ghost use Rattle.vq_laws.specs.declared.statement.Form.TheVariants.{Plain};
+ghost use Rattle.vq_main.specs.Outcomes.{IsOutcome, RefusesPlan, input_limit};
+
+use crate::status::Status;
+use std::alloc::{AllocError, Global};
+use vq_script::{FaultKind, Form, Script, ScriptFault, parse};
+use vq_spec::PlanFault;
+use vq_spec::plan::Plan;
+use vq_spec::slow_run::slow_run;
+use vq_spec::text::buffers_text;
+
+/// A status with the text that goes with it.
+#[derive(Drop)]
+pub struct Outcome {
+    pub status: Status,
+    pub text: Vec<u8>,
+}
+
+/// The text that refuses a faulty line.
+fn line_refusal(alloc: Global, line: u32, kind: FaultKind) -> Result<Vec<u8>, AllocError>
+    ensures { IfOk result (λ text. text.items ≡ line_refusal line kind) }
+{
+    let text = format!(in alloc; "error: {kind}: line {line}\n")?;
+    Ok(text.into_bytes())
+}
+
+/// The text that refuses a script without a plan.
+fn plan_refusal(alloc: Global, fault: PlanFault) -> Result<Vec<u8>, AllocError>
+    ensures { IfOk result (λ text. RefusesPlan fault text.items) }
+{
+    let text = match fault {
+        PlanFault::NoSignal { line } => format!(in alloc; "error: no signal: line {line}\n")?,
+        PlanFault::SignaledTwice { line } => {
+            format!(in alloc; "error: signaled twice: line {line}\n")?
+        }
+        PlanFault::FenceUsed { line } => format!(in alloc; "error: fence used: line {line}\n")?,
+        PlanFault::Memory => return Err(AllocError),
+    };
+    Ok(text.into_bytes())
+}
+
+/// The text of a plan's final buffers.
+fn final_text(alloc: Global, plan: &Plan) -> Result<Vec<u8>, AllocError>
+    ensures { IfOk result (λ text. text.items ≡ buffers_text plan.now.script.buffers (final plan.now)) }
+{
+    let run = slow_run(alloc, plan)?;
+    buffers_text(alloc, plan, &run.buffers)
+}
+
+/// What is written for a script that an input stands for.
+fn of_script(alloc: Global, script: Script, input: &[u8]) -> Result<Outcome, AllocError>
+    requires short { length input.now ≤ input_limit }
+    requires stands { StandsFor input.now Plain script }
+    ensures { IfOk result (λ outcome. IsOutcome input.now outcome.status outcome.text.items) }
+{
+    match Plan::lower(alloc, script) {
+        Ok(plan) => {
+            let text = final_text(alloc, &plan)?;
+            Ok(Outcome {
+                status: Status::Done,
+                text,
+            })
+        }
+        Err(fault) => {
+            let text = plan_refusal(alloc, fault)?;
+            Ok(Outcome {
+                status: Status::Refused,
+                text,
+            })
+        }
+    }
+}
+
+/// What is written for an input.
+pub fn of_input(alloc: Global, input: &[u8]) -> Result<Outcome, AllocError>
+    requires { length input.now ≤ input_limit }
+    ensures { IfOk result (λ outcome. IsOutcome input.now outcome.status outcome.text.items) }
+{
+    match parse(alloc, input, Form::Plain) {
+        Ok(script) => of_script(alloc, script, input),
+        Err(ScriptFault::Memory) => Err(AllocError),
+        Err(ScriptFault::At { line, kind }) => {
+            let text = line_refusal(alloc, line, kind)?;
+            Ok(Outcome {
+                status: Status::Refused,
+                text,
+            })
+        }
+    }
+}

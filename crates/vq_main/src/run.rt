@@ -1,0 +1,109 @@
+//! The top call.
+ghost use Rattle.std.specs.Prelude.{◌≡◌, ◌<◌, ◌≤◌, ◌↔◌, length, IfSome};
+ghost use Rattle.vq_port.specs.Faults.{Rose};
+ghost use Rattle.vq_laws.specs.Refusals.{bad_words, too_long};
+ghost use Rattle.vq_main.specs.Writes.{Writes, moment};
+ghost use Rattle.vq_main.specs.Outcomes.{Ends, EndsForWords, ReadsToEnd, WritesNothing, IsLawfulInput, IsDoneOrMemory};
+
+use crate::outcome::of_input;
+use crate::status::Status;
+use std::alloc::Global;
+use vq_port::{ReadFault, Sink, Source, read_whole, write_whole};
+
+/// The most bytes of an input.
+const INPUT_LIMIT: usize = 4_194_304;
+
+/// Writes a text, and gives this status, or `WriteFault` where the writing fails.
+fn write<K: Sink>(sink: &mut K, text: &[u8], status: Status) -> Status
+    ensures { Writes text.now status result
+        (moment K.written K.room K.faults sink.old)
+        (moment K.written K.room K.faults sink.new) }
+{
+    match write_whole(sink, text) {
+        Ok(()) => status,
+        Err(_) => Status::WriteFault,
+    }
+}
+
+/// Refuses the words of the command line.
+fn refuse_words<K: Sink>(sink: &mut K) -> Status
+    ensures ends { EndsForWords result
+        (moment K.written K.room K.faults sink.old)
+        (moment K.written K.room K.faults sink.new) }
+    ensures write_fault { result ≡ Status.WriteFault → Rose (K.faults sink.old) (K.faults sink.new) }
+{
+    write(sink, b"error: words\n", Status::BadWords)
+}
+
+/// Answers what the source holds.
+fn answer<S: Source, K: Sink>(alloc: Global, source: &mut S, sink: &mut K) -> Status
+    ensures headline { IfSome (S.left source.old) (λ input.
+        Ends input result
+        (moment K.written K.room K.faults sink.old)
+        (moment K.written K.room K.faults sink.new)) }
+    ensures no_bad_words { result ≡ Status.BadWords → ⊥ }
+    ensures read_fault { result ≡ Status.ReadFault → Rose (S.faults source.old) (S.faults source.new) }
+    ensures write_fault { result ≡ Status.WriteFault → Rose (K.faults sink.old) (K.faults sink.new) }
+    ensures nothing { WritesNothing result
+        (moment K.written K.room K.faults sink.old)
+        (moment K.written K.room K.faults sink.new) }
+    ensures to_end { ReadsToEnd result (S.left source.old) (S.left source.new) }
+{
+    match read_whole(alloc, source, INPUT_LIMIT) {
+        Err(ReadFault::Failed) => Status::ReadFault,
+        Err(ReadFault::Memory) => Status::Memory,
+        Err(ReadFault::TooLong) => write(sink, b"error: too long\n", Status::Refused),
+        Ok(input) => match of_input(alloc, input.as_slice()) {
+            Ok(outcome) => write(sink, outcome.text.as_slice(), outcome.status),
+            Err(_) => Status::Memory,
+        },
+    }
+}
+
+/// Reads a script from the source, runs it, and writes what it leaves.
+///
+/// There are no words yet: any word is `BadWords`. Otherwise the source is read to its end. An input
+/// above 4,194,304 bytes, a faulty line, a script without a plan and an unlawful plan are
+/// `Refused`, with the line of the first fault; else the text is one that a run of the script may
+/// give. `ReadFault` comes only where the source counted a fault in this call, `WriteFault` only
+/// where the sink did; `Memory` is want of memory. The whole text is written at once, at the end.
+pub fn run<S: Source, K: Sink>(
+    alloc: Global,
+    words: &[String],
+    source: &mut S,
+    sink: &mut K,
+) -> Status
+    // Whatever script it meets, it writes the first fault of its input, or only what the
+    // specification's machine for that script may give; every other ending is a counted fault of
+    // reading or writing, or want of memory.
+    ensures headline { length words.now ≡ 0 → IfSome (S.left source.old) (λ input.
+        Ends input result
+        (moment K.written K.room K.faults sink.old)
+        (moment K.written K.room K.faults sink.new)) }
+
+    // A lawful script is run, unless the source or the sink fails.
+    ensures lawful { length words.now ≡ 0 → IfSome (S.left source.old) (λ input. IsLawfulInput input →
+        ¬ Rose (S.faults source.old) (S.faults source.new) →
+        ¬ Rose (K.faults sink.old) (K.faults sink.new) → IsDoneOrMemory result) }
+
+    // Words are refused before anything is read.
+    ensures words { 0 < length words.now → EndsForWords result
+        (moment K.written K.room K.faults sink.old)
+        (moment K.written K.room K.faults sink.new) }
+    ensures bad_words { result ≡ Status.BadWords → 0 < length words.now }
+    ensures unread { 0 < length words.now → source.new ≡ source.old }
+
+    // Each fault has its cause, and an answer by the input was read to its end.
+    ensures read_fault { result ≡ Status.ReadFault → Rose (S.faults source.old) (S.faults source.new) }
+    ensures write_fault { result ≡ Status.WriteFault → Rose (K.faults sink.old) (K.faults sink.new) }
+    ensures nothing { WritesNothing result
+        (moment K.written K.room K.faults sink.old)
+        (moment K.written K.room K.faults sink.new) }
+    ensures to_end { length words.now ≡ 0 → ReadsToEnd result (S.left source.old) (S.left source.new) }
+{
+    if words.is_empty() {
+        answer(alloc, source, sink)
+    } else {
+        refuse_words(sink)
+    }
+}

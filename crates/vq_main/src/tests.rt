@@ -1,0 +1,167 @@
+use super::*;
+use std::alloc::{AllocError, Global};
+use std::test::Fail;
+use vq_port::{MemorySink, MemorySource, SteadySink, SteadySource};
+
+const FILL: &str = "buffer X 8\nqueue Q immediate\nsubmit Q\nfill X 0 8 0x01020304\nend\n";
+
+const FILLED: &str = "buffer X 8\n0403020104030201\nend\n";
+
+// What a run over memory gives: its status, and the bytes that were written.
+fn ran(
+    alloc: Global,
+    input: &[u8],
+    sink: &mut MemorySink,
+    fails: Vec<u32>,
+) -> Result<Status, AllocError> {
+    let mut source = MemorySource::new(input.to_vec(alloc)?, 4096, fails);
+    Ok(run(alloc, &[], &mut source, sink))
+}
+
+#[test]
+fn scripts_are_run_or_refused(rt: HostRuntime) -> Result<(), Fail> {
+    let alloc = rt.alloc();
+    for (input, text, status) in [
+        ("", "end\n", Status::Done),
+        (FILL, FILLED, Status::Done),
+        // the ends of lines, comments and blanks
+        (
+            "buffer X 4\r\n\r\n# caf\u{e9}\r\n\t \n  buffer\tY  0x04#Y\r",
+            "buffer X 4\n00000000\nbuffer Y 4\n00000000\nend\n",
+            Status::Done,
+        ),
+        // a later batch sees what an earlier one wrote
+        (
+            "buffer X 20\nqueue Q immediate\nsubmit Q\nfill X 0 20 4294967295\nend\nsubmit Q\nfill X 4 8 0xA1b2\nend\nsubmit Q\nend",
+            "buffer X 20\nffffffffb2a10000b2a10000ffffffff\nffffffff\nend\n",
+            Status::Done,
+        ),
+        // a batch that is left open
+        (
+            "queue Q immediate\nsubmit Q\n",
+            "error: syntax: line 3\n",
+            Status::Refused,
+        ),
+        (
+            "queue Q immediate\nsubmit Q\n\r",
+            "error: syntax: line 4\n",
+            Status::Refused,
+        ),
+        // a byte that may not stand in a line, forms that are not built
+        (
+            "buffer X 4\nbuffer Y\u{e9} 4\n",
+            "error: syntax: line 2\n",
+            Status::Refused,
+        ),
+        (
+            "queue P immediate\nqueue Q immediate\n",
+            "error: syntax: line 2\n",
+            Status::Refused,
+        ),
+        ("host idle\n", "error: syntax: line 1\n", Status::Refused),
+        // the first faulty line, and its first kind
+        (
+            "buffer X 0\nbuffer X 0\nqueue\n",
+            "error: range: line 1\n",
+            Status::Refused,
+        ),
+        (
+            "buffer X 4\nbuffer X 0\n",
+            "error: twice: line 2\n",
+            Status::Refused,
+        ),
+        (
+            "buffer X 4\nsubmit Q",
+            "error: name: line 2\n",
+            Status::Refused,
+        ),
+        (
+            "buffer X 18446744073709551616\n",
+            "error: number: line 1\n",
+            Status::Refused,
+        ),
+        (
+            "buffer X 1048577\n",
+            "error: limit: line 1\n",
+            Status::Refused,
+        ),
+        (
+            "queue Q immediate\nsubmit Q\nend\nbuffer X 4",
+            "error: order: line 4\n",
+            Status::Refused,
+        ),
+    ] {
+        let mut sink = MemorySink::new(alloc, 4096, Vec::new(alloc))?;
+        let ended = ran(alloc, input.as_bytes(), &mut sink, Vec::new(alloc))?;
+        assert_eq!(rt; ended, status, "{input:?}");
+        assert_eq!(rt; sink.written(), text.as_bytes(), "{input:?}");
+    }
+    Ok(())
+}
+
+#[test]
+fn faults_of_reading_and_writing_end_a_run(rt: HostRuntime) -> Result<(), Fail> {
+    let alloc = rt.alloc();
+    for (reads, writes, status, text) in [
+        (1, 0, Status::ReadFault, ""),
+        (2, 0, Status::ReadFault, ""),
+        (3, 0, Status::Done, FILLED),
+        (0, 1, Status::WriteFault, ""),
+        (0, 2, Status::WriteFault, "buffer X"),
+        (0, 5, Status::Done, FILLED),
+    ] {
+        let mut sink = MemorySink::new(alloc, 8, vec![in alloc; writes]?)?;
+        let ended = ran(alloc, FILL.as_bytes(), &mut sink, vec![in alloc; reads]?)?;
+        assert_eq!(rt; ended, status, "a fault at read {reads}, write {writes}");
+        assert_eq!(rt;
+            sink.written(),
+            text.as_bytes(),
+            "a fault at read {reads}, write {writes}"
+        );
+    }
+    Ok(())
+}
+
+#[test]
+fn words_and_long_inputs_are_refused(rt: HostRuntime) -> Result<(), Fail> {
+    let alloc = rt.alloc();
+    let words = vec![in alloc; String::from_str(alloc, "--check")?]?;
+    let mut source = MemorySource::new(FILL.as_bytes().to_vec(alloc)?, 4096, vec![in alloc; 1]?);
+    let mut sink = MemorySink::new(alloc, 4096, Vec::new(alloc))?;
+    let ended = run(alloc, words.as_slice(), &mut source, &mut sink);
+    assert_eq!(rt; ended, Status::BadWords);
+    assert_eq!(rt; sink.written(), b"error: words\n".as_slice());
+
+    for (length, status, text) in [
+        (4_194_304, Status::Done, "end\n"),
+        (4_194_305, Status::Refused, "error: too long\n"),
+    ] {
+        let input = vec![in alloc; b'#'; length]?;
+        let mut sink = MemorySink::new(alloc, 4096, Vec::new(alloc))?;
+        let ended = ran(alloc, input.as_slice(), &mut sink, Vec::new(alloc))?;
+        assert_eq!(rt; ended, status, "{length} bytes");
+        assert_eq!(rt; sink.written(), text.as_bytes(), "{length} bytes");
+    }
+    Ok(())
+}
+
+#[test]
+fn steady_ports_never_fail_a_run(rt: HostRuntime) -> Result<(), Fail> {
+    let alloc = rt.alloc();
+    let mut sink = SteadySink::new(alloc)?;
+    let mut source = SteadySource::new(FILL.as_bytes().to_vec(alloc)?);
+    assert_eq!(rt; run(alloc, &[], &mut source, &mut sink), Status::Done);
+    assert_eq!(rt; sink.written(), Some(FILLED.as_bytes()));
+
+    // A room that the text fills, and one that it overflows.
+    for (room, told) in [
+        (FILLED.len(), Some(FILLED.as_bytes())),
+        (FILLED.len() - 1, None),
+    ] {
+        let mut sink = SteadySink::with_room(alloc, room)?;
+        let mut source = SteadySource::new(FILL.as_bytes().to_vec(alloc)?);
+        assert_eq!(rt; run(alloc, &[], &mut source, &mut sink), Status::Done);
+        assert_eq!(rt; sink.written(), told, "a room of {room}");
+    }
+    Ok(())
+}
