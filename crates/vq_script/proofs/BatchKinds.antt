@@ -1,15 +1,14 @@
 -- The first kind of the faults of a line in a batch, from the tests that the parser makes.
-use Rattle.std.proofs.Common.{◌≡◌, ℕ, ◌+◌, ◌==◌, ◌<◌, ◌≤◌, Bool, true, false, not, cond, ◌||◌, ◌&&◌, List, [], ◌∷◌, length, map, Option, Some, None, arith, refl, sym, ap, ◌∙◌, nat_lt}
+use Rattle.std.proofs.Common.{◌≡◌, ℕ, ◌+◌, Bool, true, false, not, cond, ◌||◌, ◌&&◌, List, [], ◌∷◌, length, Option, Some, None, arith, refl, ap, ◌∙◌, nat_lt}
 use Rattle.std.specs.Prelude.{is_some}
-use Rattle.std.specs.List.{position, slice_get, list_any, count_by}
+use Rattle.std.specs.List.{position, slice_get}
 use Rattle.std.specs.Str.{bytes_eq}
-use Rattle.std.specs.Option.{option_map, option_map_or}
+use Rattle.std.specs.Option.{option_map_or}
 use Rattle.std.proofs.lemmas.Bool.{le-ltb}
 use Rattle.vq_laws.specs.declared.statement.Line.{Line}
 use Rattle.vq_laws.specs.declared.statement.Statement.{Statement}
-use Rattle.vq_laws.specs.declared.statement.Statement.TheVariants.{AddCommand, AddWait, EndBatch}
-use Rattle.vq_laws.specs.declared.statement.FaultKind.{FaultKind}
-use Rattle.vq_laws.specs.declared.statement.FaultKind.TheVariants.{Syntax, Order, Number, Name, Twice, Range, Overlap, Limit}
+use Rattle.vq_laws.specs.declared.statement.Statement.TheVariants.{AddCommand, AddWait}
+use Rattle.vq_laws.specs.declared.statement.FaultKind.TheVariants.{Number, Name, Range, Overlap, Limit}
 use Rattle.vq_laws.specs.declared.statement.LineForm.TheVariants.{FillLine, EndLine}
 use Rattle.vq_laws.specs.declared.script.Buffer.{Buffer}
 use Rattle.vq_laws.specs.declared.script.Queue.{Queue}
@@ -21,12 +20,12 @@ use Rattle.vq_laws.specs.Text.{is_name, numeral}
 use Rattle.vq_laws.specs.Forms.{BufferName, Numeral, SmallNumeral}
 use Rattle.vq_laws.specs.Context.{is_wait, is_command, count, some, open_batch, buffers, buffer_at, size_of}
 use Rattle.vq_laws.specs.Limits.{passes_limit, limits_of}
-use Rattle.vq_laws.specs.LineFaults.{is_in_range, overlaps, waits_too_far}
+use Rattle.vq_laws.specs.LineFaults.{is_in_range, overlaps}
 use Rattle.vq_laws.specs.Ranges.{is_aligned}
 use Rattle.vq_laws.specs.Meaning.{small_numeral, of_four}
 use Rattle.vq_script.specs.Forms.{OpenLine}
 use Rattle.vq_script.specs.Faults.{first_fault, statement_at}
-use Rattle.vq_script.specs.Holds.{Holds, commands_of}
+use Rattle.vq_script.specs.Holds.{Holds}
 use Rattle.vq_script.proofs.FirstKinds.{first_of_tests}
 
 -- `fill BUFFER OFFSET SIZE WORD`

@@ -1,6 +1,6 @@
 -- What words say, from the form that they have.
-use Rattle.std.proofs.Common.{◌≡◌, ℕ, ◌<◌, Bool, true, false, not, cond, ◌||◌, List, [], ◌∷◌, length, map, Option, Some, None, Result, Ok, Err, arith, refl, sym, ap, ◌∙◌, subst}
-use Rattle.std.specs.Prelude.{find, is_some}
+use Rattle.std.proofs.Common.{◌≡◌, ℕ, ◌<◌, Bool, true, false, not, ◌||◌, List, [], ◌∷◌, length, map, Option, Some, None, Result, Ok, Err, arith, refl, sym, ap, ◌∙◌}
+use Rattle.std.specs.Prelude.{find}
 use Rattle.std.specs.List.{list_all}
 use Rattle.std.specs.Option.{option_map, option_map_or, option_and_then}
 use Rattle.vq_laws.specs.declared.statement.Line.{Line}
@@ -22,7 +22,6 @@ use Rattle.vq_script.specs.declared.fault.Stop.{Stop}
 use Rattle.vq_script.specs.declared.fault.Stop.TheVariants.{Fault, NoMemory}
 use Rattle.vq_script.specs.Forms.{with_words}
 use Rattle.vq_script.specs.Faults.{first_fault, statement_at}
-use Rattle.vq_script.specs.Holds.{Keeps, open_so_far}
 use Rattle.vq_script.specs.Reads.{Takes, TakesFound, TakesForm, Reads}
 
 -- what words say, where their bytes are plain or not and they have a form or none

@@ -1,35 +1,27 @@
 -- The first kind of a line's faults, from the tests that the parser makes.
-use Rattle.std.proofs.Common.{◌≡◌, ℕ, ◌+◌, ◌==◌, ◌<◌, ◌≤◌, Bool, true, false, not, cond, ◌||◌, ◌&&◌, List, [], ◌∷◌, ◌++◌, length, map, Option, Some, None, arith, refl, sym, ap, ◌∙◌, subst, nat_lt}
+use Rattle.std.proofs.Common.{◌≡◌, ℕ, ◌+◌, ◌==◌, Bool, true, false, not, cond, ◌||◌, ◌&&◌, List, [], ◌∷◌, length, map, Option, Some, None, arith, refl, sym, ap, ◌∙◌, nat_lt}
 use Rattle.std.specs.Prelude.{is_some, sum}
-use Rattle.std.specs.List.{list_any, count_by, position, slice_get, sum_by}
+use Rattle.std.specs.List.{list_any, count_by, position}
 use Rattle.std.specs.Str.{bytes_eq}
 use Rattle.std.specs.Option.{option_map, option_map_or}
 use Rattle.std.proofs.lemmas.List.Sums.{sum_by-cons}
 use Rattle.std.proofs.lemmas.Bool.Decides.{nat_tests}
 use Rattle.vq_laws.specs.declared.statement.Line.{Line}
-use Rattle.vq_laws.specs.declared.statement.Statement.{Statement}
-use Rattle.vq_laws.specs.declared.statement.Statement.TheVariants.{DeclareBuffer, DeclareQueue, BeginBatch, AddCommand, EndBatch, AddWait}
-use Rattle.vq_laws.specs.declared.statement.FaultKind.{FaultKind}
+use Rattle.vq_laws.specs.declared.statement.Statement.TheVariants.{DeclareBuffer, BeginBatch}
 use Rattle.vq_laws.specs.declared.statement.FaultKind.TheVariants.{Syntax, Order, Number, Name, Twice, Range, Overlap, Limit}
-use Rattle.vq_laws.specs.declared.statement.LineForm.{LineForm}
-use Rattle.vq_laws.specs.declared.statement.LineForm.TheVariants.{BufferLine, QueueLine, SubmitLine, FillLine, EndLine}
+use Rattle.vq_laws.specs.declared.statement.LineForm.TheVariants.{BufferLine, QueueLine, SubmitLine}
 use Rattle.vq_laws.specs.declared.script.Buffer.{Buffer}
 use Rattle.vq_laws.specs.declared.script.Queue.{Queue}
-use Rattle.vq_laws.specs.declared.script.Batch.{Batch}
 use Rattle.vq_laws.specs.declared.script.Job.{Job}
 use Rattle.vq_laws.specs.declared.script.Mode.{Mode}
 use Rattle.vq_laws.specs.declared.script.Mode.TheVariants.{Immediate}
-use Rattle.vq_laws.specs.declared.script.Command.TheVariants.{Fill}
-use Rattle.vq_laws.specs.declared.script.FillSize.TheVariants.{Count}
 use Rattle.vq_laws.specs.Text.{is_name, numeral}
-use Rattle.vq_laws.specs.Forms.{Place, NewName, BufferName, QueueName, Numeral, SmallNumeral}
-use Rattle.vq_laws.specs.Context.{has_begun, is_submit, is_host_step, is_wait, is_command, count, some, open_batch, buffers, semaphores, queues, is_declared, size_of}
+use Rattle.vq_laws.specs.Forms.{NewName, QueueName, Numeral}
+use Rattle.vq_laws.specs.Context.{has_begun, count, some, open_batch, buffers, semaphores, queues, is_declared}
 use Rattle.vq_laws.specs.Limits.{is_job, passes_limit, limits_of}
-use Rattle.vq_laws.specs.LineFaults.{is_out_of_order, is_in_range, is_known, is_new, overlaps, part_of, waits_too_far}
-use Rattle.vq_laws.specs.Ranges.{is_aligned}
-use Rattle.vq_laws.specs.Meaning.{small_numeral, of_four}
+use Rattle.vq_laws.specs.LineFaults.{is_in_range, overlaps, part_of}
 use Rattle.vq_script.specs.Forms.{OpenLine}
-use Rattle.vq_script.specs.Faults.{first_fault, has_fault_at, statement_at}
+use Rattle.vq_script.specs.Faults.{first_fault, has_fault_at}
 use Rattle.vq_script.specs.Holds.{Holds}
 
 -- the first of the kinds, from the tests of each

@@ -22,7 +22,7 @@ use Rattle.vq_script.specs.declared.forms.Found.{Found}
 use Rattle.vq_script.specs.declared.forms.Found.TheVariants.{Buffer, Queue, Submit, Fill, End}
 use Rattle.vq_script.specs.Forms.{OpenLine, open_line, with_words, Finds}
 use Rattle.vq_script.specs.Faults.{first_fault}
-use Rattle.vq_laws.specs.Meaning.{is_built, matches, where_built, form_of, forms_at}
+use Rattle.vq_laws.specs.Meaning.{is_built, matches, where_built, form_of}
 
 -- a last form that isn't built changes nothing
 without_last : (before : List Line) (words : List (List ℕ)) (forms : List LineForm) (f : LineForm) → is_built before f ≡ false →

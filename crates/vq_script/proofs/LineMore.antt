@@ -1,5 +1,5 @@
 -- What lines say with one line more.
-use Rattle.std.proofs.Common.{◌≡◌, ℕ, ◌+◌, ◌-◌, ◌≤◌, Bool, true, false, not, cond, ◌||◌, List, [], ◌∷◌, ◌++◌, length, reverse, drop, take, arith, refl, sym, ap, ◌∙◌, suc, subst}
+use Rattle.std.proofs.Common.{◌≡◌, ℕ, ◌+◌, ◌-◌, Bool, true, false, not, cond, List, [], ◌∷◌, ◌++◌, length, reverse, drop, take, arith, refl, ap, ◌∙◌, suc}
 use Rattle.std.specs.List.{after_last, before_first, prefix_len}
 use Rattle.std.proofs.lemmas.List.{reverse-append, drop-append-le, drop_all, length-append, length-reverse}
 use Rattle.std.proofs.lemmas.List.Sums.{fold-append, prefix_len-le-length}

@@ -1,5 +1,5 @@
 -- What the parser knows, with the line of one statement more.
-use Rattle.std.proofs.Common.{◌≡◌, ℕ, ◌+◌, ◌≤◌, Bool, true, false, not, cond, ◌||◌, List, [], ◌∷◌, ◌++◌, length, map, Some, None, arith, refl, sym, ap, ◌∙◌, subst, nat_lt}
+use Rattle.std.proofs.Common.{ℕ, ◌+◌, Bool, false, ◌||◌, List, [], ◌∷◌, ◌++◌, map, Some, None, arith, refl, sym, ap, ◌∙◌, nat_lt}
 use Rattle.std.specs.List.{filter_map, flat_map, fold}
 use Rattle.std.proofs.lemmas.List.{append_assoc, append-nil, length-append}
 use Rattle.std.proofs.lemmas.List.Sums.{fold-append}
@@ -24,8 +24,8 @@ use Rattle.vq_laws.specs.Limits.{is_job}
 use Rattle.vq_laws.specs.LineFaults.{part_of}
 use Rattle.vq_laws.specs.Reading.{with_line}
 use Rattle.vq_laws.specs.ScriptOfLines.{batch_lines, jobs_of, is_schedule, turns_at, command_of, wait_of, signal_of, fence_of, first_of_list}
-use Rattle.vq_laws.specs.declared.statement.Section.TheVariants.{Outside, InBatch}
-use Rattle.vq_script.specs.Holds.{Holds, jobs_with, open_jobs}
+use Rattle.vq_laws.specs.declared.statement.Section.TheVariants.{Outside}
+use Rattle.vq_script.specs.Holds.{Holds}
 use Rattle.vq_script.proofs.LineMore.{after_last_cut, after_last_more, before_first_more, count_more, version_more}
 
 abbrev numbered : ℕ → Statement → Line

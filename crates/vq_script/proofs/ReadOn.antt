@@ -4,7 +4,6 @@ use Rattle.std.specs.Result.{IsErr, IsErrAnd}
 use Rattle.vq_laws.specs.declared.statement.Line.{Line}
 use Rattle.vq_laws.specs.declared.statement.Form.{Form}
 use Rattle.vq_laws.specs.declared.statement.FaultKind.{FaultKind}
-use Rattle.vq_laws.specs.declared.script.Script.{Script}
 use Rattle.vq_laws.specs.Text.{lines_of}
 use Rattle.vq_laws.specs.Reading.{read_line, read_lines, read_script, go_on}
 use Rattle.vq_script.specs.declared.known.Known.{Known}

@@ -1,4 +1,4 @@
-use Rattle.std.proofs.Common.{◌≡◌, true, false, Some, None, refl, sym, ap, ◌∙◌}
+use Rattle.std.proofs.Common.{◌≡◌, true, false, Some, None, refl, sym}
 use Rattle.vq_laws.specs.Text.{is_name}
 use Rattle.vq_script.proofs.BatchKinds.{fill_kinds, fill_values, fill_said}
 use Rattle.vq_script.proofs.batches.fill_command.Goals as goal

@@ -1,4 +1,4 @@
-use Rattle.std.proofs.Common.{[], Some, List, sym, subst}
+use Rattle.std.proofs.Common.{Some, List, sym, subst}
 use Rattle.vq_laws.specs.declared.script.CommandLine.{CommandLine}
 use Rattle.vq_laws.specs.declared.statement.Statement.TheVariants.{BeginBatch}
 use Rattle.vq_laws.specs.Reading.{with_line}

@@ -1,4 +1,4 @@
-use Rattle.std.proofs.Common.{◌≡◌, true, false, nat_lt, refl, sym, arith, length}
+use Rattle.std.proofs.Common.{◌≡◌, true, false, refl, sym, arith, length}
 use Rattle.std.proofs.lemmas.Bool.Decides.{nat_tests}
 use Rattle.vq_laws.specs.Text.{is_name}
 use Rattle.vq_script.proofs.FirstKinds.{queue_kinds}

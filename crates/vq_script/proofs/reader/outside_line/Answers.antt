@@ -1,4 +1,4 @@
-use Rattle.std.proofs.Common.{Some, None, Err, subst, sym}
+use Rattle.std.proofs.Common.{Err, subst}
 use Rattle.std.specs.Prelude.{Option}
 use Rattle.vq_laws.specs.Forms.{forms_outside}
 use Rattle.vq_script.specs.declared.forms.Found.{Found}

@@ -1,4 +1,4 @@
-use Rattle.std.proofs.Common.{◌≡◌, ◌<◌, arith, length, sym, subst}
+use Rattle.std.proofs.Common.{◌<◌, arith, length, sym, subst}
 use Rattle.std.specs.Prelude.{Option}
 use Rattle.std.proofs.lemmas.Bool.Decides.{nat_tests}
 use Rattle.vq_laws.specs.Forms.{forms_outside, forms_in_batch}
@@ -7,7 +7,7 @@ use Rattle.vq_script.specs.declared.known.OpenBatch.{OpenBatch}
 use Rattle.vq_script.specs.Words.{texts}
 use Rattle.vq_script.proofs.PairForms.{length_texts}
 use Rattle.vq_script.proofs.FormsFound.{form_outside_is, form_in_batch_is}
-use Rattle.vq_script.proofs.FaultsFound.{reads_form, reads_unplain}
+use Rattle.vq_script.proofs.FaultsFound.{reads_form}
 use Rattle.vq_script.proofs.reader.words_line.Goals as goal
 
 pub returns-in-None : goal.returns-in-None

@@ -1,4 +1,4 @@
-use Rattle.std.proofs.Common.{sym, arith}
+use Rattle.std.proofs.Common.{sym}
 use Rattle.vq_script.proofs.PlainWords.{plain_at}
 use Rattle.vq_script.proofs.words.are_plain.Goals as goal
 
