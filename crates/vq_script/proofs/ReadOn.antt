@@ -9,7 +9,8 @@ use Rattle.vq_laws.specs.Reading.{read_line, read_lines, read_script, go_on}
 use Rattle.vq_script.specs.declared.known.Known.{Known}
 use Rattle.vq_script.specs.declared.fault.ScriptFault.{ScriptFault}
 use Rattle.vq_script.specs.declared.fault.ScriptFault.TheVariants.{At, Memory}
-use Rattle.vq_script.specs.Reads.{ReadsLine, script_from, Gives, IsFirst}
+use Rattle.vq_script.specs.Outcomes.{Gives, IsFirst}
+use Rattle.vq_script.specs.Reads.{ReadsLine, script_from}
 
 -- reading a text is reading its lines, and making a script of these
 pub reads_text : (text : List ℕ) (form : Form) → read_script text form ≡ script_from (read_lines form [] 1 (lines_of text))

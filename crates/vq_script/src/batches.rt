@@ -33,7 +33,7 @@ fn submitted_queue(known: &Known, queue: &[u8]) -> Result<u32, FaultKind>
     Ok(queue)
 }
 
-/// Reads `submit QUEUE`.
+/// Reads `submit QUEUE`, and gives the batch that it opens.
 pub fn submit_line(
     alloc: Global,
     known: &Known,
@@ -109,7 +109,7 @@ fn fill_command(
     })
 }
 
-/// Reads `fill BUFFER OFFSET SIZE WORD`.
+/// Reads `fill BUFFER OFFSET SIZE WORD`, and gives the batch with its command.
 pub fn fill_line(
     known: &mut Known,
     batch: OpenBatch,
@@ -132,7 +132,7 @@ pub fn fill_line(
     Ok(Some(batch))
 }
 
-/// Reads `end`.
+/// Reads `end`, which ends the batch. No batch is open after it.
 pub fn end_line(
     alloc: Global,
     known: &mut Known,

@@ -43,7 +43,7 @@ fn buffer_size(known: &Known, name: &[u8], size: &[u8]) -> Result<u32, FaultKind
     Ok(size as u32)
 }
 
-/// Reads `buffer NAME SIZE`.
+/// Reads `buffer NAME SIZE`. No batch is open after it.
 pub fn buffer_line(
     alloc: Global,
     known: &mut Known,
@@ -88,7 +88,7 @@ fn check_queue(known: &Known, name: &[u8], mode: Mode) -> Result<(), FaultKind>
     Ok(())
 }
 
-/// Reads `queue NAME MODE`.
+/// Reads `queue NAME MODE`. No batch is open after it.
 pub fn queue_line(
     alloc: Global,
     known: &mut Known,

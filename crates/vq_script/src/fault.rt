@@ -4,7 +4,8 @@ ghost use Rattle.std.specs.Prelude.{◌≡◌};
 use std::alloc::{AllocError, AllocFailed};
 use vq_laws::statement::FaultKind;
 
-/// Why a text is no script.
+/// Why a text is no script: its first line with a fault, counted from 1, and the first kind of that line's faults; or
+/// memory ran out.
 #[derive(Clone, Copy, Debug, PartialEq, Eq)]
 pub enum ScriptFault {
     At { line: u32, kind: FaultKind },

@@ -5,7 +5,8 @@ ghost use Rattle.vq_laws.specs.Text.{lines_of};
 ghost use Rattle.vq_laws.specs.Forms.{forms_outside, forms_in_batch};
 ghost use Rattle.vq_laws.specs.Reading.{read_lines, read_script, StandsFor};
 ghost use Rattle.vq_script.specs.Holds.{Keeps, batch_so_far, open_so_far};
-ghost use Rattle.vq_script.specs.Reads.{TakesForm, Reads, ReadsLine, script_from, Gives, IsFirst};
+ghost use Rattle.vq_script.specs.Outcomes.{Gives, IsFirst};
+ghost use Rattle.vq_script.specs.Reads.{TakesForm, Reads, ReadsLine, script_from};
 ghost use Rattle.vq_script.specs.Words.{texts};
 
 use crate::batches::{end_line, fill_line, submit_line};
@@ -19,7 +20,8 @@ use std::alloc::Global;
 use vq_laws::script::Script;
 use vq_laws::statement::{FaultKind, Form};
 
-/// Reads the words of a line outside a batch. Words of no form that is built are Syntax.
+/// Reads the words of a line outside a batch, and gives the batch that is open after it. Words of no form that is built are
+/// Syntax.
 fn outside_line(
     alloc: Global,
     known: &mut Known,
@@ -39,7 +41,8 @@ fn outside_line(
     }
 }
 
-/// Reads the words of a line in a batch. Words of no form that is built are Syntax.
+/// Reads the words of a line in a batch, and gives the batch that is open after it. Words of no form that is built are
+/// Syntax.
 fn batch_line(
     alloc: Global,
     known: &mut Known,
@@ -63,7 +66,7 @@ fn batch_line(
     }
 }
 
-/// Reads the words of a line. A line without words says nothing.
+/// Reads the words of a line, and gives the batch that is open after it. A line without words says nothing.
 fn words_line(
     alloc: Global,
     known: &mut Known,
@@ -85,7 +88,7 @@ fn words_line(
     }
 }
 
-/// Reads a line. Its words take the place of those of the line before.
+/// Reads a line, and gives the batch that is open after it. Its words take the place of those of the line before.
 fn read_line<'a>(
     alloc: Global,
     known: &mut Known,

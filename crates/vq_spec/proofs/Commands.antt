@@ -1,6 +1,6 @@
 -- Where commands stand.
 use Rattle.std.proofs.Common.{◌≡◌, ℕ, zero, suc, ◌+◌, ◌<◌, List, [], ◌∷◌, ◌++◌, length, map, get_or, Option, Some, None, refl, sym, ap, ◌∙◌, arith, append_assoc, zero-add}
-use Rattle.std.specs.List.{slice_get, range_with_len}
+use Rattle.std.specs.List.{slice_get}
 use Rattle.std.specs.Option.{option_map_or}
 use Rattle.std.proofs.lemmas.List.{map-append, length-map, same_lists, get_or-map}
 use Rattle.std.proofs.lemmas.List.FromFn.{map-range_with_len_more, length-map-range_with_len, get_or-map-range_with_len}
@@ -12,7 +12,7 @@ use Rattle.vq_laws.proofs.PlanLaws.{get_some, get_within}
 use Rattle.vq_laws.specs.declared.script.Script.{Script}
 use Rattle.vq_laws.specs.Plan.{Plan}
 use Rattle.vq_laws.specs.Lowering.{plan_of}
-use Rattle.vq_spec.specs.declared.lowering.Place.{Place}
+use Rattle.vq_spec.specs.declared.places.Place.{Place}
 use Rattle.vq_spec.specs.declared.lowering.Tables.{Tables}
 use Rattle.vq_spec.specs.Kept.{KeepsPlan}
 use Rattle.vq_spec.specs.Places.{command_there, places_of}

@@ -1,11 +1,11 @@
 -- The tables of a plan whose script has one lane.
-use Rattle.std.proofs.Common.{◌≡◌, ℕ, zero, suc, ◌+◌, ◌-◌, ◌<◌, ◌≤◌, ◌^◌, get_or, option_map, Bool, false, if◌then◌else◌, List, [], ◌∷◌, ◌++◌, length, map, filter, take, drop, sum, Option, Some, None, refl, sym, ap, ◌∙◌, arith, append_assoc, fold, zero-add}
+use Rattle.std.proofs.Common.{◌≡◌, ℕ, zero, suc, ◌+◌, ◌-◌, ◌<◌, ◌≤◌, get_or, option_map, Bool, false, if◌then◌else◌, List, [], ◌∷◌, ◌++◌, length, map, filter, take, drop, sum, Option, Some, None, refl, sym, ap, ◌∙◌, arith, append_assoc, fold, zero-add}
 use Rattle.std.specs.List.{slice_get, flat_map, filter_map, range_with_len, enumerate_from}
-use Rattle.std.specs.Option.{option_to_list, SomeIff}
-use Rattle.std.proofs.lemmas.Option.{slice_get_read}
-use Rattle.std.proofs.lemmas.List.{append-nil, length-append, length-map, take-append-drop}
+use Rattle.std.specs.Option.{option_map_or, option_to_list, SomeIff}
+use Rattle.std.proofs.lemmas.Option.{slice_get_read, get_or_from_slice_get}
+use Rattle.std.proofs.lemmas.List.{append-nil, length-append, length-map, take-append-drop, same_lists, get_or-map}
 use Rattle.std.proofs.lemmas.List.Sums.{sum_by-cons}
-use Rattle.std.proofs.lemmas.List.FromFn.{length-enumerate_from, length-range_with_len, map-range_with_len_more}
+use Rattle.std.proofs.lemmas.List.FromFn.{length-enumerate_from, length-range_with_len, length-map-range_with_len, get_or-map-range_with_len}
 use Rattle.std.proofs.lemmas.Grind.{flat_map-append}
 use Rattle.vq_laws.specs.declared.script.Script.{Script}
 use Rattle.vq_laws.specs.declared.script.Job.{Job}
@@ -15,10 +15,9 @@ use Rattle.vq_laws.specs.declared.script.Batch.{Batch}
 use Rattle.vq_laws.specs.declared.plan.PlanJob.{PlanJob}
 use Rattle.vq_laws.specs.declared.plan.Lane.TheVariants.{Queue as QueueLane}
 use Rattle.vq_laws.specs.declared.plan.Question.TheVariants.{Silent}
-use Rattle.vq_laws.specs.declared.script.CommandLine.{CommandLine}
 use Rattle.vq_laws.specs.declared.plan.Need.{Need}
-use Rattle.vq_laws.specs.Plan.{needs, resolver, initial, job_of, previous, host_before, idle_after, waits_for_any}
-use Rattle.vq_laws.specs.Edges.{edges_to}
+use Rattle.vq_laws.specs.Plan.{resolver, initial, job_of}
+use Rattle.vq_laws.specs.Edges.{edges_to, must_finish}
 use Rattle.std.specs.Bool.{nat_lt}
 use Rattle.vq_laws.specs.Lowering.{batch_commands, commands_in, plan_of, plan_job}
 use Rattle.vq_laws.specs.LoweringFaults.{IsPlan}
@@ -26,8 +25,9 @@ use Rattle.vq_laws.specs.SameScript.{IsScript}
 use Rattle.vq_laws.proofs.PlanLaws.{length-batch_commands, get_within, get_some, job_is}
 use Rattle.vq_spec.specs.declared.lowering.Tables.{Tables}
 use Rattle.vq_spec.specs.Kept.{KeepsPlan}
+use Rattle.vq_spec.specs.Jobs.{finished_before}
 use Rattle.vq_spec.specs.Places.{command_there}
-use Rattle.vq_laws.proofs.OneLane.{IsPlainAt, plain_at, plain_batch, one_lane_job, one_before, one_lane_previous, one_lane_host, one_lane_idle, one_lane_any, one_lane_needs, one_lane_faultless, one_lane_plan, plan_jobs_push}
+use Rattle.vq_laws.proofs.OneLane.{IsPlainAt, plain_at, plain_batch, one_lane_job, one_before, one_lane_any, one_lane_needs, one_lane_faultless, one_lane_plan, plan_jobs_push}
 use Rattle.vq_laws.proofs.WrittenScripts.{written_one_lane, written_valid}
 
 -- Numbers
@@ -84,21 +84,47 @@ module _ (s : Script) (i : IsScript s) where
   pub plan_length : length (plan_of s).jobs ≡ length s.jobs
   plan_length = length-map (enumerate_from 0 s.jobs) (plan_job s) ∙ length-enumerate_from 0 s.jobs
 
-  -- the edges to a job: one from the job before
-  pub lane_edges : (j : ℕ) → j < length s.jobs →
-      edges_to (plan_of s) j ≡ option_to_list (one_before j)
-  lane_edges j l =
+  -- where no job waits for a signal, its edges come from what must be finished before it
+  edges_are : (j : ℕ) → edges_to (plan_of s) j ≡ must_finish (plan_of s) j
+  edges_are j =
       let p = plan_of s in
       let h = written_one_lane s i in
-      let edges : Option ℕ → Option ℕ → List ℕ → Bool → List Need → List ℕ = λ before host idle any
-      ns. option_to_list before ++ option_to_list host ++ idle
+      let edges : Bool → List Need → List ℕ = λ any ns. must_finish p j
       ++ filter_map (job_of p) (if any then [] else filter_map (λ n. resolver p n.chain n.value)
       (filter (λ n. nat_lt (initial p n.chain) n.value) ns)) in
-      (λ k. edges (one_lane_previous s h j l k) (one_lane_host s h j k) (one_lane_idle s h j k)
-      (one_lane_any s h j k) (one_lane_needs s h j k))
-      ∙ (append-nil (option_to_list (one_before j) ++ [] ++ [])
-      ∙ (append-nil (option_to_list (one_before j) ++ [])
-      ∙ append-nil (option_to_list (one_before j))))
+      (λ k. edges (one_lane_any s h j k) (one_lane_needs s h j k)) ∙ append-nil (must_finish p j)
+
+  -- the edges to all jobs, by the jobs
+  pub edges_of_jobs : (jobs : List PlanJob) → jobs ≡ (plan_of s).jobs →
+      map finished_before jobs ≡ map (edges_to (plan_of s)) (range_with_len 0 (length s.jobs))
+  edges_of_jobs jobs e =
+      let count = ap length e ∙ plan_length in
+      same_lists _ _ (length-map jobs finished_before
+      ∙ (count ∙ sym (length-map-range_with_len (edges_to (plan_of s)) 0 (length s.jobs))))
+      (λ j d l. at_job j d (omega (arith, length-map jobs finished_before)))
+    where
+      by_job : (j : ℕ) (d : List ℕ) → j < length jobs →
+          (x : PlanJob) × (slice_get jobs j ≡ Some x) →
+          get_or (map finished_before jobs) j d
+          ≡ get_or (map (edges_to (plan_of s)) (range_with_len 0 (length s.jobs))) j d
+      by_job j d l x =
+          let inside : j < length s.jobs = omega (arith, ap length e, plan_length) in
+          let there : slice_get (plan_of s).jobs j ≡ Some x.0 =
+          ap (λ xs. slice_get xs j) (sym e) ∙ x.1 in
+          let same : must_finish (plan_of s) j ≡ finished_before x.0 =
+          ap (λ o. option_to_list (option_map_or (λ y. y.previous) o None)
+          ++ option_to_list (option_map_or (λ y. y.host_before) o None)
+          ++ option_map_or (λ y. y.idle_after) o []) there in
+          get_or-map finished_before jobs j x.0 d l
+          ∙ (ap finished_before (get_or_from_slice_get jobs j x.0 x.0 x.1)
+          ∙ (sym (edges_are j ∙ same)
+          ∙ sym (get_or-map-range_with_len (edges_to (plan_of s)) 0 (length s.jobs) j j d inside
+          (zero-add j))))
+
+      at_job : (j : ℕ) (d : List ℕ) → j < length jobs →
+          get_or (map finished_before jobs) j d
+          ≡ get_or (map (edges_to (plan_of s)) (range_with_len 0 (length s.jobs))) j d
+      at_job j d l = by_job j d l (get_some jobs j l)
 
 -- Jobs
 
@@ -169,13 +195,6 @@ lowered_job s i j b at first previous needs asked idle commands signals e_first 
     }))
 
 -- Tables
-
--- a list of what a function gives, and one item more
-pub pushed_range : {X : Type 0} (f : ℕ → X) (old new : List X) (x : X) (j : ℕ) →
-    old ≡ map f (range_with_len 0 j) → new ≡ old ++ x ∷ [] → x ≡ f j →
-    new ≡ map f (range_with_len 0 (j + 1))
-pushed_range f old new x j a b e =
-    b ∙ ((λ i. a i ++ e i ∷ []) ∙ sym (map-range_with_len_more f 0 j j (zero-add j)))
 
 -- one job more, and the commands before the next
 module _ (s : Script) (j : ℕ) (job : PlanJob) (at : slice_get (plan_of s).jobs j ≡ Some job)
@@ -256,19 +275,6 @@ kept s i t jobs edges places ops chains =
       few_ops = omega arith;
       few_chains = omega arith;
     }
-
--- the edges to the first job, and to a later one
-pub edges_first : (s : Script) → IsScript s → (j : ℕ) → j < length s.jobs → j ≤ 0 →
-    (edges : List ℕ) → edges ≡ [] → edges ≡ edges_to (plan_of s) j
-edges_first s i zero l first edges e = e ∙ sym (lane_edges s i zero l)
-edges_first s i (suc j) l first edges e = absurd (omega arith)
-
-pub edges_later : (s : Script) → IsScript s → (j : ℕ) → j < length s.jobs → 0 < j →
-    (old new : List ℕ) → old ≡ [] → new ≡ old ++ (j - 1) ∷ [] → new ≡ edges_to (plan_of s) j
-edges_later s i zero l later old new a b = absurd (omega arith)
-edges_later s i (suc j) l later old new a b =
-    let n : suc j - 1 ≡ j = omega arith in
-    b ∙ ((λ k. a k ++ n k ∷ []) ∙ sym (lane_edges s i (suc j) l))
 
 -- a job of the script, by its place
 pub few_in : (s : Script) → IsScript s → (j : ℕ) (job : Job) → slice_get s.jobs j ≡ Some job →

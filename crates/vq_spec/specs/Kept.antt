@@ -1,5 +1,5 @@
 -- What a plan keeps beside its script.
-use Rattle.std.specs.Prelude.{ℕ, ◌≡◌, ◌<◌, ◌^◌, List, map, length, Some}
+use Rattle.std.specs.Prelude.{◌≡◌, ◌<◌, ◌^◌, map, length, Some}
 use Rattle.std.specs.List.{range_with_len}
 use Rattle.vq_laws.specs.declared.script.Script.{Script}
 use Rattle.vq_laws.specs.Edges.{edges_to}
@@ -8,7 +8,8 @@ use Rattle.vq_laws.specs.SameScript.{IsScript}
 use Rattle.vq_spec.specs.declared.lowering.Tables.{Tables}
 use Rattle.vq_spec.specs.Places.{command_there}
 
--- These tables are those of the plan of a script that can be written, and their places have 32 bits.
+-- These tables are those of the plan of a script that can be written, and their places have 32
+-- bits.
 pub record KeepsPlan (s : Script) (t : Tables) : Type 0 where
   pub script : IsScript s
   pub jobs : t.jobs.items ≡ (plan_of s).jobs

@@ -5,11 +5,12 @@ use Rattle.std.specs.Option.{option_map_or}
 use Rattle.vq_laws.specs.declared.script.Job.{Job}
 use Rattle.vq_laws.specs.declared.script.CommandLine.{CommandLine}
 use Rattle.vq_laws.specs.Lowering.{batch_commands}
-use Rattle.vq_spec.specs.declared.lowering.Place.{Place}
+use Rattle.vq_spec.specs.declared.places.Place.{Place}
 
 -- the command at a place
 abbrev pub command_there : List Job → Place → Option CommandLine
-command_there jobs p = option_map_or (λ job. slice_get (batch_commands job) p.place) (slice_get jobs p.job) None
+command_there jobs p =
+    option_map_or (λ job. slice_get (batch_commands job) p.place) (slice_get jobs p.job) None
 
 -- the first places of a job
 abbrev pub places_of : ℕ → ℕ → List Place

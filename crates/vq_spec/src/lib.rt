@@ -1,8 +1,10 @@
 //! Plans: what a script asks for, job by job, and what it means.
 #![tactic(auto)]
 
-pub mod hexadecimal;
-pub mod lowering;
+mod edges;
+mod hexadecimal;
+mod lowering;
+mod places;
 pub mod plan;
 pub mod slow_run;
 pub mod text;

@@ -1,22 +1,15 @@
 //! What a plan keeps beside its script.
-ghost use Rattle.std.specs.Prelude.{◌≡◌, ◌<◌, ◌+◌, ◌^◌, ◌++◌, [], map, take, length, Some, OnOk, IfOk};
+ghost use Rattle.std.specs.Prelude.{◌≡◌, ◌<◌, ◌+◌, ◌^◌, [], take, length, Some, IfOk};
 ghost use Rattle.std.specs.List.{flat_map, range_with_len, slice_get};
-ghost use Rattle.vq_laws.specs.Edges.{edges_to};
-ghost use Rattle.vq_laws.specs.Lowering.{batch_commands, plan_job, plan_of};
+ghost use Rattle.vq_laws.specs.Lowering.{batch_commands, plan_of};
 ghost use Rattle.vq_laws.specs.SameScript.{IsScript};
-ghost use Rattle.vq_spec.specs.Places.{command_there, places_of};
 
+use crate::edges::lower_edges;
+use crate::places::{Place, lower_places};
 use std::alloc::{AllocError, Global};
 use vq_laws::list::List;
 use vq_laws::plan::{Lane, Op, PlanJob, Question};
 use vq_laws::script::{Job, Script};
-
-/// Where a command stands: in which job, and how many commands of the job stand before it.
-#[derive(Clone, Copy, Debug, PartialEq, Eq)]
-pub(crate) struct Place {
-    pub(crate) job: u32,
-    pub(crate) place: u32,
-}
 
 /// What a plan keeps beside its script.
 #[derive(Drop)]
@@ -90,67 +83,6 @@ fn lower_jobs(alloc: Global, script: &Script) -> Result<Vec<PlanJob>, AllocError
     Ok(jobs)
 }
 
-/// The jobs with an edge to a job: in the one lane, the job before.
-fn lower_edges_to(alloc: Global, script: &Script, j: u32) -> Result<List<u32>, AllocError>
-    requires script { IsScript script.now }
-    requires exists { j < length script.now.jobs }
-    ensures { IfOk result (λ edges. edges ≡ edges_to (plan_of script.now) j) }
-{
-    let _ = script;
-    let mut edges = Vec::new(alloc);
-    if j > 0 {
-        edges.push(j - 1)?;
-    }
-    Ok(List::of(edges))
-}
-
-/// The edges to each job.
-fn lower_edges(alloc: Global, script: &Script) -> Result<Vec<List<u32>>, AllocError>
-    requires { IsScript script.now }
-    ensures { IfOk result (λ edges. edges.items
-        ≡ map (edges_to (plan_of script.now)) (range_with_len 0 (length script.now.jobs))) }
-{
-    let mut edges = Vec::new(alloc);
-    for j in 0..script.jobs.as_slice().len() as u32 {
-        edges.push(lower_edges_to(alloc, script, j)?)?;
-    }
-    Ok(edges)
-}
-
-/// How many commands a job has.
-fn commands_in(job: &Job) -> usize
-    ensures { result ≡ length (batch_commands job.now) }
-{
-    match job {
-        Job::Host(_) => 0,
-        Job::Batch(batch) => batch.commands.as_slice().len(),
-    }
-}
-
-/// Adds the places of a job's commands.
-fn push_places(places: &mut Vec<Place>, job: u32, count: u32) -> Result<(), AllocError>
-    ensures { OnOk result (places.new.items ≡ places.old.items ++ places_of job count) }
-{
-    for place in 0..count {
-        places.push(Place { job, place })?;
-    }
-    Ok(())
-}
-
-/// Where each command stands.
-fn lower_places(alloc: Global, script: &Script) -> Result<Vec<Place>, AllocError>
-    requires { IsScript script.now }
-    ensures { IfOk result (λ places. map (command_there script.now.jobs) places.items
-        ≡ map Some (plan_of script.now).commands) }
-{
-    let mut places = Vec::new(alloc);
-    let jobs = script.jobs.as_slice();
-    for j in 0..jobs.len() as u32 {
-        push_places(&mut places, j, commands_in(&jobs[j as usize]) as u32)?;
-    }
-    Ok(places)
-}
-
 impl Tables {
     ghost use Rattle.vq_spec.specs.Kept.{KeepsPlan};
 
@@ -159,9 +91,11 @@ impl Tables {
         requires { IsScript script.now }
         ensures { IfOk result (λ tables. KeepsPlan script.now tables) }
     {
+        let jobs = lower_jobs(alloc, script)?;
+        let edges = lower_edges(alloc, jobs.as_slice())?;
         Ok(Tables {
-            jobs: lower_jobs(alloc, script)?,
-            edges: lower_edges(alloc, script)?,
+            jobs,
+            edges,
             places: lower_places(alloc, script)?,
             ops: Vec::new(alloc),
             chains: Vec::new(alloc),

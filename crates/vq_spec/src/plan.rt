@@ -5,7 +5,8 @@ ghost use Rattle.vq_laws.specs.Edges.{edges_to};
 ghost use Rattle.vq_laws.specs.LoweringFaults.{IsPlan, Lowers};
 ghost use Rattle.vq_laws.specs.SameScript.{IsScript};
 
-use crate::lowering::{Place, Tables};
+use crate::lowering::Tables;
+use crate::places::Place;
 use std::alloc::Global;
 use std::marker::Model;
 use vq_laws::list::List;

@@ -1,6 +1,6 @@
-use Rattle.std.proofs.Common.{◌≡◌, ◌∙◌, ap, sym, length, arith, Some, refl}
-use Rattle.std.specs.List.{slice_get, range_with_len}
-use Rattle.vq_laws.specs.declared.script.Job.TheVariants.{Host, Batch}
+use Rattle.std.proofs.Common.{◌∙◌, ap, length, arith}
+use Rattle.std.specs.List.{range_with_len}
+use Rattle.vq_laws.specs.declared.script.Job.TheVariants.{Batch}
 use Rattle.vq_spec.proofs.Lowered.{read_job, no_host_step, few_up_to, one_before_is, lowered_job}
 use Rattle.vq_spec.proofs.lowering.lower_job.Goals as goal
 

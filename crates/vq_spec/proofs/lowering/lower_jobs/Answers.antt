@@ -1,4 +1,4 @@
-use Rattle.std.proofs.Common.{◌≡◌, ◌<◌, ◌+◌, ◌∙◌, ap, length, arith}
+use Rattle.std.proofs.Common.{◌<◌, ◌+◌, ◌∙◌, ap, length, arith}
 use Rattle.vq_spec.proofs.Lowered.{few_jobs, jobs_push, first_push, first_fits}
 use Rattle.vq_spec.proofs.lowering.lower_jobs.Goals as goal
 

@@ -1,7 +1,5 @@
-use Rattle.std.proofs.Common.{◌≡◌, ◌∙◌, ap, sym, length, map, arith}
+use Rattle.std.proofs.Common.{◌≡◌, ◌∙◌, ap, sym, length, arith}
 use Rattle.std.specs.List.{range_with_len}
-use Rattle.vq_laws.specs.Memory.{zeros_of}
-use Rattle.vq_laws.specs.ValidScripts.{sizes_of}
 use Rattle.vq_spec.proofs.SlowRuns.{zeros_are, sizes_of_plan, has_sizes, after_job, slow_order_is, none_left, final_is}
 use Rattle.vq_spec.proofs.slow_run.slow_run.Goals as goal
 

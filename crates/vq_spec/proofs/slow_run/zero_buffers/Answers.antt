@@ -1,4 +1,4 @@
-use Rattle.std.proofs.Common.{ap, length, arith, map, List}
+use Rattle.std.proofs.Common.{ap, length, arith}
 use Rattle.std.proofs.lemmas.List.{length-map}
 use Rattle.vq_spec.proofs.SlowRuns.{few_buffers}
 use Rattle.vq_spec.proofs.slow_run.zero_buffers.Goals as goal

@@ -1,5 +1,4 @@
-use Rattle.std.proofs.Common.{◌≡◌, ◌<◌, ◌∙◌, ap, sym, length, arith, refl, Some, None, get_or}
-use Rattle.std.specs.List.{slice_get}
+use Rattle.std.proofs.Common.{◌≡◌, ◌∙◌, ap, sym, length, arith, refl, Some, None, get_or}
 use Rattle.std.proofs.lemmas.Option.{slice_get_read}
 use Rattle.vq_laws.specs.declared.script.Job.TheVariants.{Host, Batch}
 use Rattle.vq_laws.proofs.PlanLaws.{get_within}

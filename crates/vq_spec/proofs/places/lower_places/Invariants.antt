@@ -2,7 +2,7 @@ use Rattle.std.proofs.Common.{◌≡◌, map, take, Some}
 use Rattle.std.specs.List.{flat_map}
 use Rattle.vq_laws.specs.Lowering.{batch_commands}
 use Rattle.vq_spec.specs.Places.{command_there}
-use Rattle.vq_spec.proofs.lowering.lower_places.Given as goal
+use Rattle.vq_spec.proofs.places.lower_places.Given as goal
 
 abbrev pub invariant-loop-j : goal.invariant-loop-j
 invariant-loop-j l = map (command_there l.fn.script.jobs) l.places.items

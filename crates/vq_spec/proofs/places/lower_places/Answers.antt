@@ -1,10 +1,10 @@
-use Rattle.std.proofs.Common.{◌≡◌, ◌<◌, ◌++◌, ◌∙◌, ap, length, arith, refl, take}
+use Rattle.std.proofs.Common.{◌<◌, ◌++◌, ◌∙◌, ap, length, arith, refl, take}
 use Rattle.std.specs.List.{flat_map}
 use Rattle.vq_laws.specs.Lowering.{batch_commands}
 use Rattle.vq_spec.specs.Places.{places_of}
 use Rattle.vq_spec.proofs.Lowered.{few_jobs, few_in, read_job, commands_push}
 use Rattle.vq_spec.proofs.Commands.{map-command_there-push}
-use Rattle.vq_spec.proofs.lowering.lower_places.Goals as goal
+use Rattle.vq_spec.proofs.places.lower_places.Goals as goal
 
 pub overflow_cast-j-end : goal.overflow_cast-j-end
 overflow_cast-j-end c = omega

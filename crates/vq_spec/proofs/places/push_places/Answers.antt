@@ -1,5 +1,5 @@
 use Rattle.vq_spec.proofs.Commands.{places_push}
-use Rattle.vq_spec.proofs.lowering.push_places.Goals as goal
+use Rattle.vq_spec.proofs.places.push_places.Goals as goal
 
 pub loop-place-preserved : goal.loop-place-preserved
 loop-place-preserved c =
