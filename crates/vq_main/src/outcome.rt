@@ -10,10 +10,7 @@ ghost use Rattle.vq_main.specs.Outcomes.{IsOutcome, RefusesPlan, input_limit};
 use crate::status::Status;
 use std::alloc::{AllocError, Global};
 use vq_script::{FaultKind, Form, Script, ScriptFault, parse};
-use vq_spec::PlanFault;
-use vq_spec::plan::Plan;
-use vq_spec::slow_run::slow_run;
-use vq_spec::text::buffers_text;
+use vq_spec::{Plan, PlanFault, buffers_text, slow_run};
 
 /// A status with the text that goes with it.
 #[derive(Drop)]

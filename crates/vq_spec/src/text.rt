@@ -8,7 +8,7 @@ use crate::hexadecimal::push_lines;
 use crate::plan::Plan;
 use std::alloc::{AllocError, Global};
 use vq_laws::script::Buffer;
-use vq_transfer::buffers::Buffers;
+use vq_transfer::Buffers;
 
 /// Adds the text of one buffer.
 fn push_buffer(

@@ -2,5 +2,7 @@
 #![tactic(auto)]
 
 pub mod buffers;
-pub mod ranges;
-pub mod writes;
+mod ranges;
+mod writes;
+
+pub use buffers::Buffers;

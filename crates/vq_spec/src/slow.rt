@@ -12,7 +12,7 @@ use crate::plan::Plan;
 use std::alloc::{AllocError, Global};
 use vq_laws::list::List;
 use vq_laws::script::Script;
-use vq_transfer::buffers::Buffers;
+use vq_transfer::Buffers;
 
 /// What a slow run does: again and again the lowest job that can be done is done whole.
 #[derive(Drop)]

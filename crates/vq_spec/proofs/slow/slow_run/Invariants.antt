@@ -2,7 +2,7 @@ use Rattle.std.proofs.Common.{◌≡◌, map, length}
 use Rattle.std.specs.List.{flat_map, range_with_len}
 use Rattle.vq_laws.specs.Plan.{commands_of}
 use Rattle.vq_laws.specs.SlowRun.{bytes_after}
-use Rattle.vq_spec.proofs.slow_run.slow_run.Given as goal
+use Rattle.vq_spec.proofs.slow.slow_run.Given as goal
 
 abbrev pub invariant-loop-j : goal.invariant-loop-j
 invariant-loop-j l = record {

@@ -1,7 +1,7 @@
 use Rattle.std.proofs.Common.{◌≡◌, ◌∙◌, ap, sym, length, arith}
 use Rattle.std.specs.List.{range_with_len}
 use Rattle.vq_spec.proofs.SlowRuns.{zeros_are, sizes_of_plan, has_sizes, after_job, slow_order_is, none_left, final_is}
-use Rattle.vq_spec.proofs.slow_run.slow_run.Goals as goal
+use Rattle.vq_spec.proofs.slow.slow_run.Goals as goal
 
 pub loop-j-init : goal.loop-j-init
 loop-j-init c =

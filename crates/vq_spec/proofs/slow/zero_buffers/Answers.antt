@@ -1,7 +1,7 @@
 use Rattle.std.proofs.Common.{ap, length, arith}
 use Rattle.std.proofs.lemmas.List.{length-map}
 use Rattle.vq_spec.proofs.SlowRuns.{few_buffers}
-use Rattle.vq_spec.proofs.slow_run.zero_buffers.Goals as goal
+use Rattle.vq_spec.proofs.slow.zero_buffers.Goals as goal
 
 pub new-requires : goal.new-requires
 new-requires c =

@@ -2,7 +2,7 @@ use Rattle.std.proofs.Common.{◌<◌, ◌∙◌, ap, sym, subst, length, arith,
 use Rattle.std.specs.List.{slice_get}
 use Rattle.vq_laws.specs.Ranges.{Fits}
 use Rattle.vq_spec.proofs.SlowRuns.{command_exists, seen_fits, after_command}
-use Rattle.vq_spec.proofs.slow_run.apply_job.Goals as goal
+use Rattle.vq_spec.proofs.slow.apply_job.Goals as goal
 
 pub command-requires : goal.command-requires
 command-requires c =
