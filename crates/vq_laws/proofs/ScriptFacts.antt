@@ -158,7 +158,7 @@ kept_first =
       few_commands = omega arith;
     }
 
-count_push : (test : Statement → Bool) (before : List Line) (n : ℕ) (s : Statement) →
+pub count_push : (test : Statement → Bool) (before : List Line) (n : ℕ) (s : Statement) →
     count test (with_line before n s) ≡ count test before + cond (test s) 1 0
 count_push test before n s =
     let e = sum_by-append (λ (line : Line). cond (test line.statement) 1 0) before
@@ -366,7 +366,7 @@ of_text text form s h = by_result (read_lines form [] 1 (lines_of text)) refl h
 -- The script of lines
 
 -- the lines of a batch, line by line
-batch_lines_cons : (line : Line) (lines : List Line) → batch_lines (line ∷ lines)
+pub batch_lines_cons : (line : Line) (lines : List Line) → batch_lines (line ∷ lines)
     ≡ cond (is_end line.statement) [] (line ∷ batch_lines lines)
 batch_lines_cons line lines = by_test (is_end line.statement)
   where
