@@ -30,7 +30,7 @@ flat_map_same f h g e [] = refl
 flat_map_same f h g e (x ∷ xs) = λ i. e x i ++ flat_map_same f h g e xs i
 
 -- a part of an item that a change leaves alone
-item_same : {A B : Type 0} (f : A → B) (g : A → A) (none : B) → ((x : A) → f (g x) ≡ f x) → (xs : List A) (n : ℕ) → option_map_or f (slice_get (map g xs) n) none ≡ option_map_or f (slice_get xs n) none
+pub item_same : {A B : Type 0} (f : A → B) (g : A → A) (none : B) → ((x : A) → f (g x) ≡ f x) → (xs : List A) (n : ℕ) → option_map_or f (slice_get (map g xs) n) none ≡ option_map_or f (slice_get xs n) none
 item_same f g none h [] n = refl
 item_same f g none h (x ∷ xs) zero = h x
 item_same f g none h (x ∷ xs) (suc n) = item_same f g none h xs n
@@ -121,7 +121,7 @@ schedule_same s = λ i.
     (codes "schedule" ∷ []) ∷ (ap (map (turns_words (without_lines s))) (joined_same s.turns) ∙ turns_same s (joined_turns s.turns)) i
     else []
 
-lines_same : (s : Script) → canonical_lines (without_lines s) ≡ canonical_lines s
+pub lines_same : (s : Script) → canonical_lines (without_lines s) ≡ canonical_lines s
 lines_same s = λ i.
     version_words s.version
     ++ map_same buffer_words buffer_without_line (λ b. refl) s.buffers i

@@ -137,7 +137,7 @@ Said before InBatch EndBatch = Unit {0}
 Said before was other = ⊥
 
 -- whether a form that is built may stand in a part of the text
-abbrev belongs : Section → LineForm → Bool
+abbrev pub belongs : Section → LineForm → Bool
 belongs Outside FillLine = false
 belongs Outside EndLine = false
 belongs InBatch BufferLine = false
@@ -151,7 +151,7 @@ belongs InSchedule EndLine = false
 belongs was other = true
 
 -- what is found is one of those that all pass a test
-found_belongs : {A : Type 0} (p q : A → Bool) (xs : List A) (y : A) → list_all q xs ≡ true →
+pub found_belongs : {A : Type 0} (p q : A → Bool) (xs : List A) (y : A) → list_all q xs ≡ true →
     find p xs ≡ Some y → q y ≡ true
 found_belongs p q [] y a h = absurd (cc)
 found_belongs {A} p q (x ∷ xs) y a h =
@@ -164,13 +164,13 @@ found_belongs {A} p q (x ∷ xs) y a h =
     by_test false e rest h = rest h
 
 -- the forms of a part of the text
-abbrev forms_in : Form → List Line → Section → List LineForm
+abbrev pub forms_in : Form → List Line → Section → List LineForm
 forms_in form before Outside = first_forms before ++ forms_outside ++ schedule_forms form
 forms_in form before InBatch = held_forms (version_of before) ++ forms_in_batch
 forms_in form before InSchedule = forms_in_schedule
 
 -- they belong to it
-forms_belong : (form : Form) (before : List Line) (was : Section) →
+pub forms_belong : (form : Form) (before : List Line) (was : Section) →
     list_all (belongs was) (forms_in form before was) ≡ true
 forms_belong form before Outside = outside form before
   where
@@ -190,7 +190,7 @@ forms_belong form before InBatch = in_batch (version_of before == 2)
 forms_belong form before InSchedule = refl
 
 -- what is built is built
-where_it_is_built : (before : List Line) (o : Option LineForm) (f : LineForm) →
+pub where_it_is_built : (before : List Line) (o : Option LineForm) (f : LineForm) →
     where_built before o ≡ Some f → is_built before f ≡ true
 where_it_is_built before None f h = absurd (cc)
 where_it_is_built before (Some g) f h = by_test (is_built before g) refl h
@@ -202,7 +202,7 @@ where_it_is_built before (Some g) f h = by_test (is_built before g) refl h
     by_test false e h = absurd (cc)
 
 -- a position is one of a list
-position_within : (test : Queue → Bool) (qs : List Queue) (q : ℕ) → position test qs ≡ Some q →
+pub position_within : (test : Queue → Bool) (qs : List Queue) (q : ℕ) → position test qs ≡ Some q →
     q < length qs
 position_within test qs q h = by_test (nat_lt (position_or_len test qs) (length qs)) refl h
   where
@@ -214,7 +214,7 @@ position_within test qs q h = by_test (nat_lt (position_or_len test qs) (length 
     by_test false e h = absurd (cc)
 
 -- below a limit
-below : (a b : ℕ) → not (nat_lt a b) ≡ false → a < b
+pub below : (a b : ℕ) → not (nat_lt a b) ≡ false → a < b
 below a b h = ltb-true a b (passes (nat_lt a b) h)
 
 -- what a fill says
