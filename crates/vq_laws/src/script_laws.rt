@@ -7,9 +7,9 @@ ghost use Rattle.vq_laws.specs.declared.statement.Statement.{Statement};
 ghost use Rattle.vq_laws.specs.declared.script.Script.{Script};
 ghost use Rattle.vq_laws.specs.LineFaults.{fault_of};
 ghost use Rattle.vq_laws.specs.Meaning.{meaning};
-ghost use Rattle.vq_laws.specs.SameScript.{SameButLines};
-ghost use Rattle.vq_laws.specs.Reading.{read_lines, IsFirstFaultOf};
-ghost use Rattle.vq_laws.specs.Canonical.{canonical_text};
+ghost use Rattle.vq_laws.specs.SameScript.{SameButLines, IsScript};
+ghost use Rattle.vq_laws.specs.Reading.{read_lines, IsFirstFaultOf, StandsFor};
+ghost use Rattle.vq_laws.specs.Canonical.{canonical_text, form_of_script};
 
 /// A line without a fault has a meaning.
 pub fn lines_without_fault_have_a_meaning()
@@ -29,4 +29,11 @@ pub fn reading_gives_the_first_fault()
 /// Scripts that are the same up to line numbers have the same canonical text.
 pub fn canonical_text_ignores_lines()
     ensures { (a b : Script) → SameButLines a b → canonical_text a ≡ canonical_text b }
+{}
+
+/// The canonical text of a script that can be written stands for it, up to line numbers.
+pub fn canonical_text_reads_back()
+    ensures { (s : Script) → IsScript s →
+        (read : Script) × StandsFor (canonical_text s) (form_of_script s) read
+        × SameButLines read s }
 {}
