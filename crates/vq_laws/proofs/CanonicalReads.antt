@@ -1,34 +1,33 @@
 -- The canonical text of a script that can be written stands for it, up to line numbers.
-use Rattle.std.proofs.Common.{◌≡◌, ℕ, ◌+◌, Bool, true, false, cond, not, ◌&&◌, List, [], ◌∷◌, ◌++◌, append_assoc, append-nil, map, Option, Some, None, Ok, Err, refl, sym, ap, ◌∙◌, subst}
+use Rattle.std.proofs.Common.{◌≡◌, ℕ, ◌+◌, Bool, true, false, cond, List, [], ◌∷◌, ◌++◌, append_assoc, append-nil, map, Option, Some, None, Ok, Err, refl, sym, ap, ◌∙◌, subst}
 use Rattle.std.specs.Prelude.{Result, codes}
 use Rattle.std.specs.List.{flat_map, list_all, join_with_byte}
 use Rattle.std.proofs.lemmas.Bool.{and_from}
 use Rattle.vq_laws.specs.declared.statement.Form.{Form}
-use Rattle.vq_laws.specs.declared.statement.Form.TheVariants.{Plain, Scheduled}
+use Rattle.vq_laws.specs.declared.statement.Form.TheVariants.{Plain}
 use Rattle.vq_laws.specs.declared.statement.FaultKind.{FaultKind}
 use Rattle.vq_laws.specs.declared.statement.FaultKind.TheVariants.{Syntax}
 use Rattle.vq_laws.specs.declared.statement.Section.{Section}
-use Rattle.vq_laws.specs.declared.statement.Section.TheVariants.{Outside, InBatch}
+use Rattle.vq_laws.specs.declared.statement.Section.TheVariants.{InBatch}
 use Rattle.vq_laws.specs.declared.statement.Statement.{Statement}
-use Rattle.vq_laws.specs.declared.statement.Statement.TheVariants.{DeclareBuffer, DeclareQueue, BeginBatch, AddCommand, EndBatch}
+use Rattle.vq_laws.specs.declared.statement.Statement.TheVariants.{DeclareBuffer, BeginBatch, AddCommand, EndBatch}
 use Rattle.vq_laws.specs.declared.statement.Line.{Line}
 use Rattle.vq_laws.specs.declared.script.Script.{Script}
 use Rattle.vq_laws.specs.declared.script.Buffer.{Buffer}
 use Rattle.vq_laws.specs.declared.script.Command.{Command}
-use Rattle.vq_laws.specs.Text.{words_of, lines_of}
-use Rattle.vq_laws.specs.Context.{section}
+use Rattle.vq_laws.specs.Text.{lines_of}
 use Rattle.vq_laws.specs.LineFaults.{ends_early}
 use Rattle.vq_laws.specs.ScriptOfLines.{script_of}
-use Rattle.vq_laws.specs.Reading.{with_line, read_line, read_statement, read_lines, go_on, StandsFor}
+use Rattle.vq_laws.specs.Reading.{with_line, read_statement, read_lines, go_on, StandsFor}
 use Rattle.vq_laws.specs.SameScript.{SameButLines, IsScript, without_lines}
 use Rattle.vq_laws.specs.Canonical.{canonical_text, canonical_lines, line_text, form_of_script, buffer_words, queue_words, job_words, command_words, queue_name}
 use Rattle.vq_laws.proofs.CanonicalLaws.{lines_same}
 use Rattle.vq_laws.proofs.WrittenTexts.{are_text_words, words_back, lines_back}
 use Rattle.vq_laws.proofs.PartsSaid.{say_nothing, say_more}
-use Rattle.vq_laws.proofs.OrderedParts.{run, AllMay, Leads, leads_on, buffer_statements, queue_statements, job_statements, batch_statements, IsOrdered, HasParts, text_has_parts, said_script}
+use Rattle.vq_laws.proofs.OrderedParts.{run, AllMay, Leads, leads_on, buffer_statements, queue_statements, job_statements, batch_statements, IsOrdered, text_has_parts, said_script}
 use Rattle.vq_laws.proofs.NamedParts.{AreNamed, nothing_named, named_more}
 use Rattle.vq_laws.proofs.WrittenLines.{words_at, line_reads}
-use Rattle.vq_laws.proofs.ScriptParts.{Parts, parts, a_buffer, a_command, a_job, queue_list, after, May, Say, script_of_parts, no_parts, part_of_batch}
+use Rattle.vq_laws.proofs.ScriptParts.{Parts, parts, a_command, a_job, queue_list, after, Say, script_of_parts, no_parts, part_of_batch}
 
 -- Reading statements
 
@@ -204,8 +203,7 @@ parts_read_back p o none =
     let lines : lines_of (canonical_text (script_of_parts p))
     ≡ map (join_with_byte 32) (words_along no_parts (statements_of p)) =
     ap (λ (ws : List (List (List ℕ))). lines_of (flat_map line_text ws)) (sym (words_canonical p o none))
-    ∙ lines_back (words_along no_parts (statements_of p)) r.are_words in
-    (
+    ∙ lines_back (words_along no_parts (statements_of p)) r.are_words in (
       script_of r.all,
       ap of_lines (ap (read_lines Plain [] 1) lines ∙ r.reads),
       said_script r.all p (subst (Say r.all) leads.ends r.say) none,
@@ -220,8 +218,7 @@ canonical_reads_back s i =
     let text : canonical_text (script_of_parts has.said) ≡ canonical_text s =
     ap canonical_text (sym same) ∙ ap (flat_map line_text) (lines_same s) in
     let form : Plain ≡ form_of_script s =
-    ap (λ (x : Script). form_of_script x) (sym same) in
-    (
+    ap (λ (x : Script). form_of_script x) (sym same) in (
       back.0,
       subst (λ (z : List ℕ × Form). StandsFor z.0 z.1 back.0) (λ k. (text k, form k)) back.1,
       back.2 ∙ sym same,

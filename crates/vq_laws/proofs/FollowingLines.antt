@@ -1,10 +1,10 @@
 -- A line without a fault says a statement that may follow what the lines before say.
-use Rattle.std.proofs.Common.{◌≡◌, ℕ, zero, suc, ◌+◌, ◌<◌, ◌≤◌, ◌==◌, Bool, true, false, cond, not, ◌&&◌, ◌||◌, List, [], ◌∷◌, ◌++◌, length, map, find, Option, Some, None, option_map, refl, sym, ap, ◌∙◌, subst, arith}
+use Rattle.std.proofs.Common.{◌≡◌, ℕ, ◌+◌, ◌<◌, ◌==◌, Bool, true, false, cond, not, ◌&&◌, ◌||◌, List, [], ◌∷◌, length, map, find, Option, Some, None, option_map, refl, sym, ap, ◌∙◌, subst, arith}
 use Rattle.std.specs.Prelude.{nat_lt, sum}
-use Rattle.std.specs.List.{list_all, list_any, position, position_or_len}
+use Rattle.std.specs.List.{list_any, position, position_or_len}
 use Rattle.std.specs.Str.{bytes_eq}
 use Rattle.std.proofs.lemmas.List.{length-map}
-use Rattle.std.proofs.lemmas.Bool.{or_parts, and_parts, and_from, ltb-true, ltb-false, eqb-true, false≢true}
+use Rattle.std.proofs.lemmas.Bool.{or_parts, and_parts, ltb-true, ltb-false, eqb-true, false≢true}
 use Rattle.vq_laws.specs.declared.statement.Form.{Form}
 use Rattle.vq_laws.specs.declared.statement.Section.{Section}
 use Rattle.vq_laws.specs.declared.statement.Section.TheVariants.{Outside, InBatch, InSchedule}
@@ -14,25 +14,24 @@ use Rattle.vq_laws.specs.declared.statement.Line.{Line}
 use Rattle.vq_laws.specs.declared.statement.LineForm.{LineForm}
 use Rattle.vq_laws.specs.declared.statement.LineForm.TheVariants.{BufferLine, QueueLine, SubmitLine, FillLine, EndLine}
 use Rattle.vq_laws.specs.declared.script.Buffer.{Buffer}
-use Rattle.vq_laws.specs.declared.script.Queue.{Queue}
 use Rattle.vq_laws.specs.declared.script.Semaphore.{Semaphore}
 use Rattle.vq_laws.specs.declared.script.Mode.TheVariants.{Immediate}
 use Rattle.vq_laws.specs.declared.script.Command.{Command}
 use Rattle.vq_laws.specs.declared.script.Command.TheVariants.{Fill}
 use Rattle.vq_laws.specs.declared.script.FillSize.TheVariants.{Count}
 use Rattle.vq_laws.specs.Text.{numeral, is_name}
-use Rattle.vq_laws.specs.Context.{section, buffers, queues, semaphores, buffer_at, queue_at, is_declared, size_of, has_begun, open_batch, is_command, count, some, version_of}
-use Rattle.vq_laws.specs.Meaning.{matches, is_built, form_of, forms_at, meaning, small_numeral, of_four}
+use Rattle.vq_laws.specs.Context.{section, buffers, queues, buffer_at, queue_at, is_declared, size_of, has_begun, open_batch, is_command, count, some, version_of}
+use Rattle.vq_laws.specs.Meaning.{matches, is_built, forms_at, meaning, small_numeral, of_four}
 use Rattle.vq_laws.specs.Limits.{is_job, limits_of, passes_limit}
 use Rattle.vq_laws.specs.Ranges.{is_aligned}
-use Rattle.vq_laws.specs.LineFaults.{fault_of, is_in_range, overlaps, is_out_of_order, is_within, part_of}
+use Rattle.vq_laws.specs.LineFaults.{fault_of, is_in_range, is_within, part_of}
 use Rattle.vq_laws.specs.SameScript.{buffer_without_line, queue_without_line}
 use Rattle.vq_laws.proofs.Meanings.{found_passes, built_found}
 use Rattle.vq_laws.proofs.LineFacts.{belongs, found_belongs, forms_belong, where_it_is_built, position_within, below}
 use Rattle.vq_laws.proofs.CanonicalLaws.{item_same}
 use Rattle.vq_laws.proofs.WrittenNumbers.{numeral_below, small_numeral_below}
 use Rattle.vq_laws.proofs.LineTests.{PassesTests, tests_passed}
-use Rattle.vq_laws.proofs.ScriptParts.{Parts, parts, queue_list, May, Say, has_jobs, part_of_batch, is_named, size_in, sizes_in, is_fill_in_range, count_jobs, count_commands, HasCommands, OpenLines}
+use Rattle.vq_laws.proofs.ScriptParts.{Parts, queue_list, May, Say, has_jobs, part_of_batch, is_named, size_in, sizes_in, is_fill_in_range, count_jobs, count_commands, HasCommands, OpenLines}
 
 -- What the context is, in the words of parts
 

@@ -1,31 +1,31 @@
 -- Names of parts: each is a name, and the look-up of a buffer's name gives this buffer.
-use Rattle.std.proofs.Common.{◌≡◌, ℕ, zero, suc, ◌+◌, ◌<◌, ◌≤◌, ◌==◌, Bool, true, false, cond, not, ◌&&◌, ◌||◌, List, [], ◌∷◌, ◌++◌, length, length-append, Option, Some, None, refl, sym, ap, ◌∙◌, ◌⊎◌, inl, inr, subst, arith}
-use Rattle.std.specs.Prelude.{nat_lt, nat_le, is_some}
+use Rattle.std.proofs.Common.{◌≡◌, ℕ, zero, suc, ◌+◌, ◌≤◌, ◌==◌, Bool, true, false, cond, not, ◌&&◌, ◌||◌, List, [], ◌∷◌, ◌++◌, length, length-append, Some, None, refl, sym, ap, ◌∙◌, ◌⊎◌, inl, inr, subst, arith}
+use Rattle.std.specs.Prelude.{nat_lt, nat_le}
 use Rattle.std.specs.List.{slice_get, slice_index, list_all, list_any, position, position_or_len}
 use Rattle.std.specs.Str.{bytes_eq}
 use Rattle.std.proofs.lemmas.List.Folds.{position_or_len_push}
 use Rattle.std.proofs.lemmas.Slice.Eq.{bytes_eq-Decides}
-use Rattle.std.proofs.lemmas.Bool.{and_parts, and_from, or_parts, or_cases, ltb-true, lt-ltb, le-leb, leb-true, eq-eqb, eqb-true, false≢true}
+use Rattle.std.proofs.lemmas.Bool.{and_parts, and_from, or_parts, or_cases, ltb-true, lt-ltb, le-leb, leb-true, eq-eqb, eqb-true}
 use Rattle.vq_laws.specs.declared.statement.Statement.{Statement}
 use Rattle.vq_laws.specs.declared.statement.Statement.TheVariants.{DeclareBuffer, DeclareQueue, BeginBatch, AddCommand, EndBatch}
 use Rattle.vq_laws.specs.declared.script.Buffer.{Buffer}
 use Rattle.vq_laws.specs.Text.{is_name, is_letter, is_digit}
 use Rattle.vq_laws.proofs.WrittenTexts.{is_word_byte, is_text_word, all_weaker, differs}
-use Rattle.vq_laws.proofs.ScriptParts.{Parts, parts, a_buffer, queue_list, after, May, no_parts}
+use Rattle.vq_laws.proofs.ScriptParts.{Parts, a_buffer, queue_list, after, May, no_parts}
 
 -- Names are words
 
 name_byte : (b : ℕ) → (is_letter b || is_digit b) ≡ true → is_word_byte b ≡ true
 name_byte b h =
     elim (or_cases (is_letter b) (is_digit b) h) [
-      inl letter ↦ elim (or_cases ((nat_le 65 b && nat_le b 90) || (nat_le 97 b && nat_le b 122)) (b == 95) letter) [
-        inl case ↦ elim (or_cases (nat_le 65 b && nat_le b 90) (nat_le 97 b && nat_le b 122) case) [
-          inl upper ↦ between 65 90 (omega arith) (omega arith) upper
-        | inr lower ↦ between 97 122 (omega arith) (omega arith) lower
+      | inl letter ↦ elim (or_cases ((nat_le 65 b && nat_le b 90) || (nat_le 97 b && nat_le b 122)) (b == 95) letter) [
+        | inl case ↦ elim (or_cases (nat_le 65 b && nat_le b 90) (nat_le 97 b && nat_le b 122) case) [
+          | inl upper ↦ between 65 90 (omega arith) (omega arith) upper
+          | inr lower ↦ between 97 122 (omega arith) (omega arith) lower
         ]
-      | inr line ↦ let e = eqb-true b 95 line in byte (omega arith) (omega arith)
+        | inr line ↦ let e = eqb-true b 95 line in byte (omega arith) (omega arith)
       ]
-    | inr digit ↦ between 48 57 (omega arith) (omega arith) digit
+      | inr digit ↦ between 48 57 (omega arith) (omega arith) digit
     ]
   where
     byte : 36 ≤ b → b ≤ 126 → is_word_byte b ≡ true
@@ -139,14 +139,15 @@ named_more p (DeclareBuffer name size) n m = record { buffer_names = names; queu
         × (position (λ x. bytes_eq b.name x.name) (p.buffers ++ a_buffer name size ∷ []) ≡ Some k)
     names k b h =
         elim (get_push p.buffers (a_buffer name size) k b h) [
-          inl e ↦ let old = n.buffer_names k b e in
-          (old.0, position_found (λ x. bytes_eq b.name x.name) p.buffers (a_buffer name size) k old.1)
-        | inr e ↦
-          subst (λ (z : Buffer × ℕ). (is_name z.0.name ≡ true)
-          × (position (λ x. bytes_eq z.0.name x.name) (p.buffers ++ a_buffer name size ∷ []) ≡ Some z.1))
-          (λ i. (e.1 i, sym e.0 i))
-          (m.named,
-          position_new (λ x. bytes_eq name x.name) p.buffers (a_buffer name size) fresh (same_bytes name))
+          | inl e ↦ let old = n.buffer_names k b e in
+              (old.0, position_found (λ x. bytes_eq b.name x.name) p.buffers (a_buffer name size) k old.1)
+          | inr e ↦
+              subst (λ (z : Buffer × ℕ). (is_name z.0.name ≡ true)
+              × (position (λ x. bytes_eq z.0.name x.name) (p.buffers ++ a_buffer name size ∷ []) ≡ Some z.1))
+              (λ i. (e.1 i, sym e.0 i)) (
+                m.named,
+                position_new (λ x. bytes_eq name x.name) p.buffers (a_buffer name size) fresh (same_bytes name),
+              )
         ]
 named_more p (DeclareQueue name mode) n m =
     record {

@@ -1,5 +1,5 @@
 -- The parts that the lines of a text say can be said in the canonical order.
-use Rattle.std.proofs.Common.{◌≡◌, ℕ, ◌+◌, Bool, true, false, cond, ◌||◌, List, [], ◌∷◌, ◌++◌, append_assoc, append-nil, map, Option, Some, None, Ok, Err, refl, sym, ap, ◌∙◌, subst, arith}
+use Rattle.std.proofs.Common.{◌≡◌, ℕ, ◌+◌, Bool, true, false, cond, ◌||◌, List, [], ◌∷◌, ◌++◌, append_assoc, append-nil, map, Option, Some, None, Ok, Err, refl, sym, ap, ◌∙◌, subst}
 use Rattle.std.specs.Prelude.{Result}
 use Rattle.std.specs.List.{flat_map, list_any}
 use Rattle.std.specs.Option.{option_map_or}
@@ -14,16 +14,14 @@ use Rattle.vq_laws.specs.declared.statement.Form.TheVariants.{Plain, Scheduled}
 use Rattle.vq_laws.specs.declared.statement.FaultKind.{FaultKind}
 use Rattle.vq_laws.specs.declared.statement.FaultKind.TheVariants.{Syntax}
 use Rattle.vq_laws.specs.declared.statement.Section.{Section}
-use Rattle.vq_laws.specs.declared.statement.Section.TheVariants.{Outside, InBatch, InSchedule}
+use Rattle.vq_laws.specs.declared.statement.Section.TheVariants.{Outside, InBatch}
 use Rattle.vq_laws.specs.declared.statement.Statement.{Statement}
 use Rattle.vq_laws.specs.declared.statement.Statement.TheVariants.{DeclareBuffer, DeclareQueue, BeginBatch, AddCommand, EndBatch}
 use Rattle.vq_laws.specs.declared.statement.Line.{Line}
 use Rattle.vq_laws.specs.declared.script.Script.{Script}
 use Rattle.vq_laws.specs.declared.script.Buffer.{Buffer}
-use Rattle.vq_laws.specs.declared.script.Job.{Job}
 use Rattle.vq_laws.specs.declared.script.Mode.TheVariants.{Immediate}
 use Rattle.vq_laws.specs.declared.script.Command.{Command}
-use Rattle.vq_laws.specs.Context.{section}
 use Rattle.vq_laws.specs.Text.{words_of, lines_of}
 use Rattle.vq_laws.specs.Meaning.{meaning}
 use Rattle.vq_laws.specs.LineFaults.{fault_of, ends_early}
@@ -33,7 +31,7 @@ use Rattle.vq_laws.specs.SameScript.{without_lines, job_without_lines, semaphore
 use Rattle.vq_laws.proofs.Meanings.{has_meaning}
 use Rattle.vq_laws.proofs.FollowingLines.{may_follow}
 use Rattle.vq_laws.proofs.PartsSaid.{say_nothing, say_more}
-use Rattle.vq_laws.proofs.ScriptParts.{Parts, parts, a_buffer, a_job, queue_list, after, May, MayBuffer, MayQueue, with_command, with_batch, is_named, Say, script_of_parts, no_parts, part_of_batch, continued}
+use Rattle.vq_laws.proofs.ScriptParts.{Parts, parts, a_buffer, a_job, queue_list, after, May, MayBuffer, with_command, with_batch, Say, script_of_parts, no_parts, part_of_batch, continued}
 
 -- Chains of statements
 

@@ -1,14 +1,14 @@
 -- One more statement, and the parts that the lines say then.
-use Rattle.std.proofs.Common.{◌≡◌, ℕ, ◌+◌, ◌-◌, ◌<◌, ◌≤◌, Bool, true, false, cond, not, ◌||◌, List, [], ◌∷◌, ◌++◌, append_assoc, append-nil, length, length-append, map, fold, drop, Option, Some, None, option_map, refl, sym, ap, ◌∙◌, subst, arith}
+use Rattle.std.proofs.Common.{◌≡◌, ℕ, ◌+◌, ◌-◌, Bool, true, false, cond, not, ◌||◌, List, [], ◌∷◌, ◌++◌, append_assoc, append-nil, length, length-append, map, drop, Option, Some, None, option_map, refl, sym, ap, ◌∙◌, subst, arith}
 use Rattle.std.specs.Prelude.{sum, nat_lt}
-use Rattle.std.specs.List.{filter_map, list_any, flat_map, after_last, suffix_len, prefix_len}
+use Rattle.std.specs.List.{filter_map, flat_map, after_last, suffix_len, prefix_len}
 use Rattle.std.proofs.lemmas.List.{map-append, reverse-append, drop-append-le, drop_all}
 use Rattle.std.proofs.lemmas.List.Sums.{fold-append, sum_by-append, sum_by-cons}
 use Rattle.std.proofs.lemmas.List.Folds.{list_any-append}
 use Rattle.std.proofs.lemmas.List.Elements.{filter_map-append}
 use Rattle.std.proofs.lemmas.Grind.{flat_map-append}
 use Rattle.vq_laws.specs.declared.statement.Section.{Section}
-use Rattle.vq_laws.specs.declared.statement.Section.TheVariants.{Outside, InBatch}
+use Rattle.vq_laws.specs.declared.statement.Section.TheVariants.{Outside}
 use Rattle.vq_laws.specs.declared.statement.Statement.{Statement}
 use Rattle.vq_laws.specs.declared.statement.Statement.TheVariants.{DeclareBuffer, DeclareQueue, BeginBatch, AddCommand, EndBatch}
 use Rattle.vq_laws.specs.declared.statement.Line.{Line}
@@ -16,20 +16,18 @@ use Rattle.vq_laws.specs.declared.script.Buffer.{Buffer}
 use Rattle.vq_laws.specs.declared.script.Queue.{Queue}
 use Rattle.vq_laws.specs.declared.script.Semaphore.{Semaphore}
 use Rattle.vq_laws.specs.declared.script.Turn.{Turn}
-use Rattle.vq_laws.specs.declared.script.Mode.{Mode}
-use Rattle.vq_laws.specs.declared.script.Mode.TheVariants.{Immediate}
 use Rattle.vq_laws.specs.declared.script.Job.{Job}
 use Rattle.vq_laws.specs.declared.script.Job.TheVariants.{Batch as BatchJob}
 use Rattle.vq_laws.specs.declared.script.CommandLine.{CommandLine}
 use Rattle.vq_laws.specs.declared.script.Command.{Command}
-use Rattle.vq_laws.specs.Context.{section, section_after, version_of, buffer_of, buffers, semaphore_of, semaphores, queue_of, queues, has_begun, open_batch, is_submit, is_end, is_host_step, is_command, count, some}
+use Rattle.vq_laws.specs.Context.{section, section_after, version_of, buffer_of, buffers, semaphore_of, semaphores, queue_of, queues, has_begun, open_batch, is_submit, is_end, is_host_step, is_command, some}
 use Rattle.vq_laws.specs.ScriptOfLines.{batch_lines, wait_of, command_of, signal_of, fence_of, first_of_list, jobs_of, is_schedule, turns_at}
 use Rattle.vq_laws.specs.Reading.{with_line}
 use Rattle.vq_laws.specs.Limits.{is_job}
 use Rattle.vq_laws.specs.LineFaults.{part_of}
 use Rattle.vq_laws.specs.SameScript.{buffer_without_line, queue_without_line, job_without_lines, mark_without_line, command_without_line}
 use Rattle.vq_laws.proofs.ScriptFacts.{count_push, batch_lines_cons}
-use Rattle.vq_laws.proofs.ScriptParts.{Parts, parts, a_buffer, a_queue, a_command, a_job, queue_list, with_command, with_batch, after, May, OpenLines, HasCommands, continued, Say, no_parts, has_jobs, count_jobs, count_commands}
+use Rattle.vq_laws.proofs.ScriptParts.{Parts, parts, a_buffer, a_command, a_job, queue_list, with_command, with_batch, after, May, HasCommands, continued, Say, no_parts, has_jobs}
 
 -- what stands after the last element that passes, one element more
 after_last_push : {X : Type 0} (p : X → Bool) (xs : List X) (y : X) →

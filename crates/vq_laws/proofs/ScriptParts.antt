@@ -1,6 +1,6 @@
 -- What lines say so far, as the parts of a script, and what each further statement asks of them:
 -- the forms that are built so far.
-use Rattle.std.proofs.Common.{◌≡◌, ℕ, ◌+◌, ◌^◌, ◌<◌, ◌≤◌, ◌==◌, Bool, true, false, not, ◌&&◌, ◌||◌, List, [], ◌∷◌, ◌++◌, length, map, Option, Some, None, option_map}
+use Rattle.std.proofs.Common.{◌≡◌, ℕ, ◌+◌, ◌^◌, ◌<◌, ◌≤◌, Bool, true, false, not, ◌&&◌, ◌||◌, List, [], ◌∷◌, ◌++◌, length, map, Option, Some, None, option_map}
 use Rattle.std.specs.Prelude.{sum, nat_lt}
 use Rattle.std.specs.List.{slice_get, filter_map, list_any, flat_map}
 use Rattle.std.specs.Option.{option_map_or}

@@ -1,14 +1,12 @@
 -- A canonical line is read, after lines that say parts, as the statement for which it is written.
-use Rattle.std.proofs.Common.{◌≡◌, ℕ, zero, suc, ◌+◌, ◌^◌, ◌<◌, ◌≤◌, ◌==◌, Bool, true, false, cond, not, ◌&&◌, ◌||◌, List, [], ◌∷◌, ◌++◌, length, map, find, Option, Some, None, Ok, option_map, refl, sym, ap, ◌∙◌, subst, arith}
-use Rattle.std.specs.Prelude.{nat_lt, nat_le, is_some, codes, sum, Result}
-use Rattle.std.specs.List.{slice_get, list_all, list_any, position, position_or_len}
+use Rattle.std.proofs.Common.{◌≡◌, ℕ, ◌+◌, ◌^◌, ◌<◌, ◌≤◌, ◌==◌, Bool, true, false, cond, not, ◌&&◌, ◌||◌, List, [], ◌∷◌, ◌++◌, length, map, find, Option, Some, None, Ok, option_map, refl, sym, ap, ◌∙◌, subst, arith}
+use Rattle.std.specs.Prelude.{nat_lt, is_some, codes, sum}
+use Rattle.std.specs.List.{slice_get, list_all, position}
 use Rattle.std.specs.Option.{option_map_or}
 use Rattle.std.specs.Str.{bytes_eq}
 use Rattle.std.specs.Fmt.{decimal}
 use Rattle.std.proofs.lemmas.Bool.{and_parts, and_from, or_parts, or_from, ltb-true, lt-ltb, false≢true, false_from_ne_true}
-use Rattle.vq_laws.specs.declared.statement.Form.{Form}
 use Rattle.vq_laws.specs.declared.statement.Form.TheVariants.{Plain}
-use Rattle.vq_laws.specs.declared.statement.FaultKind.{FaultKind}
 use Rattle.vq_laws.specs.declared.statement.Section.{Section}
 use Rattle.vq_laws.specs.declared.statement.Section.TheVariants.{Outside, InBatch}
 use Rattle.vq_laws.specs.declared.statement.Statement.{Statement}
@@ -22,22 +20,22 @@ use Rattle.vq_laws.specs.declared.script.Mode.TheVariants.{Immediate}
 use Rattle.vq_laws.specs.declared.script.Command.{Command}
 use Rattle.vq_laws.specs.declared.script.Command.TheVariants.{Fill}
 use Rattle.vq_laws.specs.declared.script.FillSize.TheVariants.{Count}
-use Rattle.vq_laws.specs.Text.{is_name, is_plain, numeral}
-use Rattle.vq_laws.specs.Forms.{places, mode_word, forms_outside, forms_in_batch, held_forms}
-use Rattle.vq_laws.specs.Context.{section, buffers, queues, queue_at, buffer_at, is_declared, has_begun, open_batch, is_command, count, some, version_of}
-use Rattle.vq_laws.specs.Meaning.{matches, where_built, form_of, first_forms, small_numeral, of_four}
-use Rattle.vq_laws.specs.Limits.{limits_of, passes_limit, is_job}
-use Rattle.vq_laws.specs.LineFaults.{is_shaped, is_numeric, is_known, is_new, is_out_of_order, is_in_range, part_of}
+use Rattle.vq_laws.specs.Text.{is_name, is_plain}
+use Rattle.vq_laws.specs.Forms.{mode_word, forms_outside, forms_in_batch, held_forms}
+use Rattle.vq_laws.specs.Context.{section, buffers, queues, queue_at, buffer_at, has_begun, open_batch, is_command, count, some, version_of}
+use Rattle.vq_laws.specs.Meaning.{matches, where_built, form_of, first_forms, of_four}
+use Rattle.vq_laws.specs.Limits.{is_job}
+use Rattle.vq_laws.specs.LineFaults.{part_of}
 use Rattle.vq_laws.specs.Ranges.{is_aligned}
-use Rattle.vq_laws.specs.Canonical.{command_words, queue_name, buffer_name, fill_word}
+use Rattle.vq_laws.specs.Canonical.{command_words, queue_name, fill_word}
 use Rattle.vq_laws.specs.Reading.{with_line, read_statement}
 use Rattle.vq_laws.proofs.LineFacts.{forms_in}
 use Rattle.vq_laws.proofs.LineTests.{PassesTests, read_tested}
-use Rattle.vq_laws.proofs.FollowingLines.{size_said, sizes_said, buffer_count_said, queue_count_said, buffer_at_said, queue_at_said, declared_said, within_said}
+use Rattle.vq_laws.proofs.FollowingLines.{sizes_said, buffer_count_said, queue_count_said, buffer_at_said, queue_at_said, declared_said, within_said}
 use Rattle.vq_laws.proofs.WrittenTexts.{is_word_byte, is_text_word, are_text_words, all_weaker, word_to_plain}
 use Rattle.vq_laws.proofs.WrittenNumbers.{decimal_back, decimal_word, decimal_not_whole, fill_word_back, fill_word_word}
 use Rattle.vq_laws.proofs.NamedParts.{AreNamed, name_word, same_bytes}
-use Rattle.vq_laws.proofs.ScriptParts.{Parts, parts, queue_list, May, MayBuffer, MayQueue, MayBegin, MayFill, MayEnd, Say, script_of_parts, has_jobs, part_of_batch, is_named, size_in, sizes_in, is_fill_in_range, count_jobs, count_commands, HasCommands, OpenLines}
+use Rattle.vq_laws.proofs.ScriptParts.{Parts, queue_list, May, MayBuffer, MayQueue, MayFill, MayEnd, Say, script_of_parts, has_jobs, part_of_batch, is_named, size_in, sizes_in, is_fill_in_range, count_jobs, count_commands, HasCommands, OpenLines}
 
 -- The words of a statement
 

@@ -1,5 +1,5 @@
 -- Numbers that are written, read again.
-use Rattle.std.proofs.Common.{◌≡◌, ℕ, zero, suc, ◌+◌, ◌*◌, ◌/◌, ◌%◌, ◌^◌, ◌<◌, ◌≤◌, ◌==◌, Bool, true, false, cond, not, ◌&&◌, List, [], ◌∷◌, length, Option, Some, None, refl, sym, ap, ◌∙◌, subst, arith}
+use Rattle.std.proofs.Common.{◌≡◌, ℕ, ◌+◌, ◌*◌, ◌/◌, ◌%◌, ◌^◌, ◌<◌, ◌≤◌, ◌==◌, Bool, true, false, cond, not, ◌&&◌, List, [], ◌∷◌, length, Option, Some, None, refl, ap, ◌∙◌, subst, arith}
 use Rattle.std.specs.Prelude.{nat_le, nat_lt, codes, drop}
 use Rattle.std.specs.List.{list_all}
 use Rattle.std.specs.Option.{option_and_then}
@@ -11,7 +11,7 @@ use Rattle.std.proofs.lemmas.Fmt.{decimal_is_IsNumeral, length-decimal-le}
 use Rattle.std.proofs.lemmas.Str.{digit_value-digit_char}
 use Rattle.std.proofs.lemmas.Str.Parse.{digit_from_value}
 use Rattle.std.proofs.lemmas.Slice.Eq.{bytes_eq-Decides}
-use Rattle.std.proofs.lemmas.Bool.{leb-true, ltb-true, lt-ltb, le-leb, eqb-true, false_from_ne_true, false≢true, and_parts, and_from, and_right}
+use Rattle.std.proofs.lemmas.Bool.{ltb-true, lt-ltb, le-leb, false_from_ne_true, and_parts, and_from, and_right}
 use Rattle.vq_laws.specs.Text.{numeral, numeral_in, is_numeral_in, is_marked_hex}
 use Rattle.vq_laws.specs.Meaning.{small_numeral}
 use Rattle.vq_laws.specs.Canonical.{fill_word, hex_digits}
@@ -161,13 +161,25 @@ module _ (w : ℕ) (small : w < 2 ^ 32) where
   hex_all : AllDigits 16 (hex_digits 8 w)
   hex_all = (
     hex_digit_fits (w / 16 / 16 / 16 / 16 / 16 / 16 / 16 % 16) (omega arith),
-    (hex_digit_fits (w / 16 / 16 / 16 / 16 / 16 / 16 % 16) (omega arith),
-    (hex_digit_fits (w / 16 / 16 / 16 / 16 / 16 % 16) (omega arith),
-    (hex_digit_fits (w / 16 / 16 / 16 / 16 % 16) (omega arith),
-    (hex_digit_fits (w / 16 / 16 / 16 % 16) (omega arith),
-    (hex_digit_fits (w / 16 / 16 % 16) (omega arith),
-    (hex_digit_fits (w / 16 % 16) (omega arith),
-    (hex_digit_fits (w % 16) (omega arith), tt)))))))
+    (
+      hex_digit_fits (w / 16 / 16 / 16 / 16 / 16 / 16 % 16) (omega arith),
+      (
+        hex_digit_fits (w / 16 / 16 / 16 / 16 / 16 % 16) (omega arith),
+        (
+          hex_digit_fits (w / 16 / 16 / 16 / 16 % 16) (omega arith),
+          (
+            hex_digit_fits (w / 16 / 16 / 16 % 16) (omega arith),
+            (
+              hex_digit_fits (w / 16 / 16 % 16) (omega arith),
+              (
+                hex_digit_fits (w / 16 % 16) (omega arith),
+                (hex_digit_fits (w % 16) (omega arith), tt),
+              ),
+            ),
+          ),
+        ),
+      ),
+    ),
   )
 
   hex_value : digits_value 16 (hex_digits 8 w) ≡ w

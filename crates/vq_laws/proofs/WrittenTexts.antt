@@ -1,11 +1,11 @@
 -- A text that is written line by line: its lines, and the words of each line.
-use Rattle.std.proofs.Common.{◌≡◌, ℕ, zero, suc, ◌+◌, ◌-◌, ◌<◌, ◌≤◌, ◌==◌, Bool, true, false, cond, not, ◌&&◌, ◌||◌, List, [], ◌∷◌, ◌++◌, append_assoc, length, map, take, refl, sym, ap, ◌∙◌, subst, arith}
+use Rattle.std.proofs.Common.{◌≡◌, ℕ, zero, suc, ◌+◌, ◌-◌, ◌≤◌, ◌==◌, Bool, true, false, cond, not, ◌&&◌, List, [], ◌∷◌, ◌++◌, append_assoc, length, map, take, refl, ap, ◌∙◌, arith}
 use Rattle.std.specs.Prelude.{nat_le, nat_lt, filter}
 use Rattle.std.specs.List.{slice_split, onto_first, before_first, position_or_len, slice_index, list_all, flat_map, join_with_byte}
 use Rattle.std.specs.Str.Lines.{strip_carriage_return}
-use Rattle.std.proofs.lemmas.Bool.{leb-true, eqb-false, eqb-true, false_from_ne_true, true_from_ne_false, false≢true, and_parts, and_from, le-leb, or_from, or_left}
+use Rattle.std.proofs.lemmas.Bool.{leb-true, eqb-true, false_from_ne_true, false≢true, and_parts, and_from, le-leb, or_from, or_left}
 use Rattle.std.proofs.lemmas.List.Folds.{list_all-append}
-use Rattle.vq_laws.specs.Text.{is_line_feed, without_empty_end, lines_of, words_of, words_in, without_comment, is_blank, is_some_word, is_plain}
+use Rattle.vq_laws.specs.Text.{is_line_feed, without_empty_end, lines_of, words_of, words_in, is_blank, is_some_word, is_plain}
 use Rattle.vq_laws.specs.Canonical.{line_text}
 
 -- Words
