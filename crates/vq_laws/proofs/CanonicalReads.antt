@@ -44,7 +44,8 @@ record AreRead (before : List Line) (n : ℕ) (p : Parts) (statements : List Sta
   say : Say all (run p statements)
 
 -- lines that say no open batch may end
-may_end : (before : List Line) (p : Parts) → Say before p → p.batch ≡ None → ends_early Plain before ≡ false
+may_end : (before : List Line) (p : Parts) → Say before p → p.batch ≡ None →
+    ends_early Plain before ≡ false
 may_end before p h none = ap ends (h.part ∙ ap part_of_batch none)
   where
     ends : Section → Bool
@@ -52,14 +53,17 @@ may_end before p h none = ap ends (h.part ∙ ap part_of_batch none)
     ends other = false
 
 -- Statements that may follow each other are read from their canonical words.
-statements_read : (before : List Line) (n : ℕ) (p : Parts) (statements : List Statement) → Say before p →
-    AreNamed p → AllMay p statements → (run p statements).batch ≡ None → AreRead before n p statements
+statements_read : (before : List Line) (n : ℕ) (p : Parts) (statements : List Statement) →
+    Say before p →
+    AreNamed p → AllMay p statements → (run p statements).batch ≡ None →
+    AreRead before n p statements
 statements_read before n p [] h named all closed =
     record {
       are_words = refl;
       all = before;
       reads =
-          ap (λ (b : Bool). cond {A = Result (List Line) (ℕ × FaultKind)} b (Err (n, Syntax)) (Ok before))
+          ap (λ (b : Bool). cond {A = Result (List Line) (ℕ × FaultKind)} b (Err (n, Syntax))
+          (Ok before))
           (may_end before p h closed);
       say = h;
     }
@@ -70,13 +74,17 @@ statements_read before n p (s ∷ statements) h named all closed =
     statements_read now (n + 1) (after p s) statements (say_more before n p s h all.0)
     (named_more p s named all.0) all.1 closed in
     record {
-      are_words = and_from (are_text_words (words_at p s)) (list_all are_text_words (words_along (after p s) statements))
+      are_words =
+          and_from (are_text_words (words_at p s))
+          (list_all are_text_words (words_along (after p s) statements))
           line.are_words rest.are_words;
       all = rest.all;
       reads =
           ap (λ (r : Result (List Line) FaultKind). go_on n
-          (λ ls. read_lines Plain ls (n + 1) (map (join_with_byte 32) (words_along (after p s) statements))) r)
-          (ap (read_statement Plain before n) (words_back (words_at p s) line.are_words) ∙ line.reads n)
+          (λ ls. read_lines Plain ls (n + 1)
+          (map (join_with_byte 32) (words_along (after p s) statements))) r)
+          (ap (read_statement Plain before n) (words_back (words_at p s) line.are_words)
+          ∙ line.reads n)
           ∙ rest.reads;
       say = rest.say;
     }
@@ -89,25 +97,31 @@ words_append p [] second = refl
 words_append p (s ∷ first) second =
     ap (λ (ws : List (List (List ℕ))). words_at p s ∷ ws) (words_append (after p s) first second)
 
-buffers_along : (p : Parts) (bs : List Buffer) → words_along p (buffer_statements bs) ≡ map buffer_words bs
+buffers_along : (p : Parts) (bs : List Buffer) → words_along p (buffer_statements bs)
+    ≡ map buffer_words bs
 buffers_along p [] = refl
 buffers_along p (b ∷ bs) =
     ap (λ (ws : List (List (List ℕ))). buffer_words b ∷ ws)
     (buffers_along (after p (DeclareBuffer b.name b.size)) bs)
 
-queue_along : (p : Parts) (q : Option (List ℕ)) → words_along p (queue_statements q) ≡ map queue_words (queue_list q)
+queue_along : (p : Parts) (q : Option (List ℕ)) → words_along p (queue_statements q)
+    ≡ map queue_words (queue_list q)
 queue_along p None = refl
 queue_along p (Some name) = refl
 
-module _ (bs : List Buffer) (q : Option (List ℕ)) (said : List (List Command)) (batch : Option (List Command)) where
+module _ (bs : List Buffer) (q : Option (List ℕ)) (said : List (List Command))
+    (batch : Option (List Command)) where
   -- the rest of a batch
   commands_along : (jobs : List (List Command)) (before commands : List Command) →
-      words_along (parts bs q jobs (Some before)) (map (λ c. AddCommand c) commands ++ EndBatch ∷ [])
-      ≡ map (λ c. command_words (script_of_parts (parts bs q said batch)) c.command) (map a_command commands)
+      words_along (parts bs q jobs (Some before))
+      (map (λ c. AddCommand c) commands ++ EndBatch ∷ [])
+      ≡ map (λ c. command_words (script_of_parts (parts bs q said batch)) c.command)
+      (map a_command commands)
       ++ (codes "end" ∷ []) ∷ []
   commands_along jobs before [] = refl
   commands_along jobs before (c ∷ commands) =
-      ap (λ (ws : List (List (List ℕ))). command_words (script_of_parts (parts bs q said batch)) c ∷ ws)
+      ap (λ (ws : List (List (List ℕ))). command_words (script_of_parts (parts bs q said batch)) c
+      ∷ ws)
       (commands_along jobs (before ++ c ∷ []) commands)
 
   -- it leads out of the batch
@@ -120,16 +134,20 @@ module _ (bs : List Buffer) (q : Option (List ℕ)) (said : List (List Command))
   -- the lines of a batch that only has commands
   plain_job_words : (commands : List Command) →
       (codes "submit" ∷ queue_name (script_of_parts (parts bs q said batch)) 0 ∷ [])
-      ∷ (map (λ c. command_words (script_of_parts (parts bs q said batch)) c.command) (map a_command commands)
+      ∷ (map (λ c. command_words (script_of_parts (parts bs q said batch)) c.command)
+      (map a_command commands)
       ++ (codes "end" ∷ []) ∷ [])
       ≡ job_words (script_of_parts (parts bs q said batch)) (a_job commands)
   plain_job_words commands =
       ap (λ (ws : List (List (List ℕ))).
-      (codes "submit" ∷ queue_name (script_of_parts (parts bs q said batch)) 0 ∷ []) ∷ (ws ++ (codes "end" ∷ []) ∷ []))
+      (codes "submit" ∷ queue_name (script_of_parts (parts bs q said batch)) 0 ∷ [])
+      ∷ (ws ++ (codes "end" ∷ []) ∷ []))
       (sym (append-nil (written ++ []) ∙ append-nil written))
     where
       written : List (List (List ℕ))
-      written = map (λ c. command_words (script_of_parts (parts bs q said batch)) c.command) (map a_command commands)
+      written =
+          map (λ c. command_words (script_of_parts (parts bs q said batch)) c.command)
+          (map a_command commands)
 
   jobs_along : (before jobs : List (List Command)) →
       words_along (parts bs q before None) (flat_map job_statements jobs)
@@ -141,17 +159,20 @@ module _ (bs : List Buffer) (q : Option (List ℕ)) (said : List (List Command))
       ∙ (λ i.
       (ap (λ (ws : List (List (List ℕ))). words_at (parts bs q before None) (BeginBatch 0) ∷ ws)
       (commands_along before [] commands) ∙ plain_job_words commands) i
-      ++ (ap (λ (x : Parts). words_along x (flat_map job_statements jobs)) out.1 ∙ jobs_along out.0 jobs) i)
+      ++ (ap (λ (x : Parts). words_along x (flat_map job_statements jobs)) out.1
+      ∙ jobs_along out.0 jobs) i)
 
 -- the statements of parts, in the canonical order
 abbrev statements_of : Parts → List Statement
-statements_of p = (buffer_statements p.buffers ++ queue_statements p.queue) ++ batch_statements p.jobs p.batch
+statements_of p =
+    (buffer_statements p.buffers ++ queue_statements p.queue) ++ batch_statements p.jobs p.batch
 
 module _ (p : Parts) (o : IsOrdered p) where
   declarations_lead : Leads no_parts (buffer_statements p.buffers ++ queue_statements p.queue)
       (parts p.buffers p.queue [] None)
   declarations_lead =
-      leads_on no_parts (parts p.buffers None [] None) (parts p.buffers p.queue [] None) (buffer_statements p.buffers)
+      leads_on no_parts (parts p.buffers None [] None) (parts p.buffers p.queue [] None)
+      (buffer_statements p.buffers)
       (queue_statements p.queue) o.buffers_first o.queue_next
 
   ordered_leads : Leads no_parts (statements_of p) p
@@ -160,7 +181,8 @@ module _ (p : Parts) (o : IsOrdered p) where
       (buffer_statements p.buffers ++ queue_statements p.queue) (batch_statements p.jobs p.batch)
       declarations_lead o.batches_last
 
-  declarations_along : words_along no_parts (buffer_statements p.buffers ++ queue_statements p.queue)
+  declarations_along : words_along no_parts
+      (buffer_statements p.buffers ++ queue_statements p.queue)
       ≡ (map buffer_words p.buffers ++ []) ++ map queue_words (queue_list p.queue)
   declarations_along =
       words_append no_parts (buffer_statements p.buffers) (queue_statements p.queue)
@@ -168,24 +190,30 @@ module _ (p : Parts) (o : IsOrdered p) where
       ++ queue_along (run no_parts (buffer_statements p.buffers)) p.queue i)
 
   batches_along : p.batch ≡ None →
-      words_along (run no_parts (buffer_statements p.buffers ++ queue_statements p.queue)) (batch_statements p.jobs p.batch)
+      words_along (run no_parts (buffer_statements p.buffers ++ queue_statements p.queue))
+      (batch_statements p.jobs p.batch)
       ≡ flat_map (job_words (script_of_parts p)) (map a_job p.jobs) ++ []
   batches_along none =
       (λ i. words_along (declarations_lead.ends i) (batch_statements p.jobs (none i)))
       ∙ (words_append (parts p.buffers p.queue [] None) (flat_map job_statements p.jobs) []
-      ∙ ap (λ (ws : List (List (List ℕ))). ws ++ []) (jobs_along p.buffers p.queue p.jobs p.batch [] p.jobs))
+      ∙ ap (λ (ws : List (List (List ℕ))). ws ++ [])
+      (jobs_along p.buffers p.queue p.jobs p.batch [] p.jobs))
 
   -- The words of these statements are the canonical lines.
-  words_canonical : p.batch ≡ None → words_along no_parts (statements_of p) ≡ canonical_lines (script_of_parts p)
+  words_canonical : p.batch ≡ None → words_along no_parts (statements_of p)
+      ≡ canonical_lines (script_of_parts p)
   words_canonical none =
-      words_append no_parts (buffer_statements p.buffers ++ queue_statements p.queue) (batch_statements p.jobs p.batch)
+      words_append no_parts (buffer_statements p.buffers ++ queue_statements p.queue)
+      (batch_statements p.jobs p.batch)
       ∙ ((λ i. declarations_along i ++ batches_along none i)
-      ∙ sym (append_assoc ((map buffer_words p.buffers ++ []) ++ map queue_words (queue_list p.queue))
+      ∙ sym (append_assoc ((map buffer_words p.buffers ++ []) ++ map queue_words
+      (queue_list p.queue))
       (flat_map (job_words (script_of_parts p)) (map a_job p.jobs)) []))
 
 -- A script is read back from its canonical text, up to line numbers.
 abbrev ReadsBack : Script → Type 0
-ReadsBack s = (read : Script) × StandsFor (canonical_text s) (form_of_script s) read × SameButLines read s
+ReadsBack s =
+    (read : Script) × StandsFor (canonical_text s) (form_of_script s) read × SameButLines read s
 
 abbrev of_lines : Result (List Line) (ℕ × FaultKind) → Result Script (ℕ × FaultKind)
 of_lines (Ok lines) = Ok (script_of lines)
@@ -202,7 +230,8 @@ parts_read_back p o none =
     (ap (λ (x : Parts). x.batch) leads.ends ∙ none) in
     let lines : lines_of (canonical_text (script_of_parts p))
     ≡ map (join_with_byte 32) (words_along no_parts (statements_of p)) =
-    ap (λ (ws : List (List (List ℕ))). lines_of (flat_map line_text ws)) (sym (words_canonical p o none))
+    ap (λ (ws : List (List (List ℕ))). lines_of (flat_map line_text ws))
+    (sym (words_canonical p o none))
     ∙ lines_back (words_along no_parts (statements_of p)) r.are_words in (
       script_of r.all,
       ap of_lines (ap (read_lines Plain [] 1) lines ∙ r.reads),

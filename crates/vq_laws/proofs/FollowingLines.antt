@@ -41,15 +41,19 @@ any_same : {A : Type 0} (p : A → Bool) (g : A → A) → ((x : A) → p (g x) 
 any_same p g h [] = refl
 any_same p g h (x ∷ xs) = λ i. h x i || any_same p g h xs i
 
-position_or_len_same : {A : Type 0} (p : A → Bool) (g : A → A) → ((x : A) → p (g x) ≡ p x) → (xs : List A) →
+position_or_len_same : {A : Type 0} (p : A → Bool) (g : A → A) → ((x : A) → p (g x) ≡ p x) →
+    (xs : List A) →
     position_or_len p (map g xs) ≡ position_or_len p xs
 position_or_len_same p g h [] = refl
-position_or_len_same p g h (x ∷ xs) = λ i. cond (not (h x i)) (1 + position_or_len_same p g h xs i) 0
+position_or_len_same p g h (x ∷ xs) =
+    λ i. cond (not (h x i)) (1 + position_or_len_same p g h xs i) 0
 
-position_same : {A : Type 0} (p : A → Bool) (g : A → A) → ((x : A) → p (g x) ≡ p x) → (xs : List A) →
+position_same : {A : Type 0} (p : A → Bool) (g : A → A) → ((x : A) → p (g x) ≡ p x) →
+    (xs : List A) →
     position p (map g xs) ≡ position p xs
 position_same p g h xs = λ i.
-    cond (nat_lt (position_or_len_same p g h xs i) (length-map xs g i)) (Some (position_or_len_same p g h xs i)) None
+    cond (nat_lt (position_or_len_same p g h xs i) (length-map xs g i))
+    (Some (position_or_len_same p g h xs i)) None
 
 sizes_same : (bs : List Buffer) → sizes_in (map buffer_without_line bs) ≡ sizes_in bs
 sizes_same [] = refl
@@ -65,17 +69,21 @@ module _ (before : List Line) (p : Parts) (h : Say before p) where
   sizes_said = sym (sizes_same (buffers before)) ∙ ap sizes_in h.buffers_are
 
   pub buffer_count_said : length (buffers before) ≡ length p.buffers
-  buffer_count_said = sym (length-map (buffers before) buffer_without_line) ∙ ap length h.buffers_are
+  buffer_count_said =
+      sym (length-map (buffers before) buffer_without_line) ∙ ap length h.buffers_are
 
   pub queue_count_said : length (queues before) ≡ length (queue_list p.queue)
   queue_count_said = sym (length-map (queues before) queue_without_line) ∙ ap length h.queues_are
 
-  pub buffer_at_said : (name : List ℕ) → buffer_at before name ≡ position (λ b. bytes_eq name b.name) p.buffers
+  pub buffer_at_said : (name : List ℕ) → buffer_at before name
+      ≡ position (λ b. bytes_eq name b.name) p.buffers
   buffer_at_said name =
-      sym (position_same (λ b. bytes_eq name b.name) buffer_without_line (λ x. refl) (buffers before))
+      sym (position_same (λ b. bytes_eq name b.name) buffer_without_line (λ x. refl)
+      (buffers before))
       ∙ ap (position (λ b. bytes_eq name b.name)) h.buffers_are
 
-  pub queue_at_said : (name : List ℕ) → queue_at before name ≡ position (λ q. bytes_eq name q.name) (queue_list p.queue)
+  pub queue_at_said : (name : List ℕ) → queue_at before name
+      ≡ position (λ q. bytes_eq name q.name) (queue_list p.queue)
   queue_at_said name =
       sym (position_same (λ q. bytes_eq name q.name) queue_without_line (λ x. refl) (queues before))
       ∙ ap (position (λ q. bytes_eq name q.name)) h.queues_are
@@ -92,7 +100,8 @@ module _ (before : List Line) (p : Parts) (h : Say before p) where
       (is_within before b offset size && is_aligned offset && is_aligned size)
       ≡ is_fill_in_range p.buffers b offset size
   within_said b offset size = λ i.
-      (nat_lt offset (size_said b i) && nat_lt 0 size && not (nat_lt (size_said b i) (offset + size)))
+      (nat_lt offset (size_said b i) && nat_lt 0 size && not
+      (nat_lt (size_said b i) (offset + size)))
       && is_aligned offset && is_aligned size
 
 -- Parts of the text
@@ -101,11 +110,13 @@ outside_batch : (b : Option (List Command)) → Outside ≡ part_of_batch b → 
 outside_batch None e = refl
 outside_batch (Some commands) e = absurd (cc)
 
-inside_batch : (b : Option (List Command)) → InBatch ≡ part_of_batch b → (cs : List Command) × (b ≡ Some cs)
+inside_batch : (b : Option (List Command)) → InBatch ≡ part_of_batch b →
+    (cs : List Command) × (b ≡ Some cs)
 inside_batch None e = absurd (cc)
 inside_batch (Some commands) e = (commands, refl)
 
-no_jobs : (jobs : List (List Command)) (b : Option (List Command)) → has_jobs jobs b ≡ false → jobs ≡ []
+no_jobs : (jobs : List (List Command)) (b : Option (List Command)) → has_jobs jobs b ≡ false →
+    jobs ≡ []
 no_jobs [] b e = refl
 no_jobs (cs ∷ jobs) b e = absurd (false≢true (sym e))
 
@@ -113,7 +124,8 @@ no_queue : (q : Option (List ℕ)) → length (queue_list q) ≡ 0 → q ≡ Non
 no_queue None e = refl
 no_queue (Some name) e = absurd (omega arith)
 
-some_queue : (q : Option (List ℕ)) (k : ℕ) → k < length (queue_list q) → (k ≡ 0) × ((name : List ℕ) × (q ≡ Some name))
+some_queue : (q : Option (List ℕ)) (k : ℕ) → k < length (queue_list q) →
+    (k ≡ 0) × ((name : List ℕ) × (q ≡ Some name))
 some_queue None k l = absurd (omega arith)
 some_queue (Some name) k l = (omega arith, (name, refl))
 
@@ -136,13 +148,18 @@ module _ (form : Form) (before : List Line) (p : Parts) (h : Say before p) where
       by_size (Some n) i =
           let same : DeclareBuffer name n ≡ s = same_statement (DeclareBuffer name n) s i in
           let order =
-          or_parts ((true && has_begun before) || some (λ x. nat_lt 0 (part_of x)) (open_batch before)) false t.in_order in
-          let begun = or_parts (has_begun before) (some (λ x. nat_lt 0 (part_of x)) (open_batch before)) order.0 in
+          or_parts ((true && has_begun before) || some (λ x. nat_lt 0 (part_of x))
+          (open_batch before)) false t.in_order in
+          let begun =
+          or_parts (has_begun before) (some (λ x. nat_lt 0 (part_of x)) (open_batch before))
+          order.0 in
           let r : is_in_range before (DeclareBuffer name n) ≡ true =
           subst (λ (z : Statement). is_in_range before z ≡ true) (sym same) t.ranged in
           let limits =
-          or_parts (not (nat_lt (length (buffers before)) 64)) (nat_lt 1048576 (sum (sizes_in (buffers before)) + n))
-          (subst (λ (z : Statement). passes_limit (limits_of (version_of before)) before z ≡ false) (sym same) t.limited) in
+          or_parts (not (nat_lt (length (buffers before)) 64))
+          (nat_lt 1048576 (sum (sizes_in (buffers before)) + n))
+          (subst (λ (z : Statement). passes_limit (limits_of (version_of before)) before z ≡ false)
+          (sym same) t.limited) in
           let few = below (length (buffers before)) 64 limits.0 in
           let bytes = ltb-false 1048576 (sum (sizes_in (buffers before)) + n) limits.1 in
           let length_is = buffer_count_said before p h in
@@ -153,7 +170,8 @@ module _ (form : Form) (before : List Line) (p : Parts) (h : Say before p) where
             first = no_jobs p.jobs p.batch (sym h.begun ∙ begun.0);
             named = (and_parts (is_name name) true t.shaped).0;
             fresh = sym (declared_said before p h name)
-                ∙ not_true (is_declared before name) (and_parts (not (is_declared before name)) true t.fresh).0;
+                ∙ not_true (is_declared before name)
+                (and_parts (not (is_declared before name)) true t.fresh).0;
             some_bytes = ltb-true 0 n r;
             few = omega arith;
             bytes = omega arith;
@@ -163,11 +181,16 @@ module _ (form : Form) (before : List Line) (p : Parts) (h : Say before p) where
       (length (queues before) == 0) ≡ true →
       PassesTests form before (a ∷ name ∷ c ∷ []) (QueueLine Immediate) s → May p s
   queue_may a name c s e b t =
-      let same : DeclareQueue name Immediate ≡ s = same_statement (DeclareQueue name Immediate) s t.said in
+      let same : DeclareQueue name Immediate ≡ s =
+      same_statement (DeclareQueue name Immediate) s t.said in
       let order =
-      or_parts ((true && has_begun before) || some (λ x. nat_lt 0 (part_of x)) (open_batch before)) false t.in_order in
-      let begun = or_parts (has_begun before) (some (λ x. nat_lt 0 (part_of x)) (open_batch before)) order.0 in
-      let only = no_queue p.queue (sym (queue_count_said before p h) ∙ eqb-true (length (queues before)) 0 b) in
+      or_parts ((true && has_begun before) || some (λ x. nat_lt 0 (part_of x)) (open_batch before))
+      false t.in_order in
+      let begun =
+      or_parts (has_begun before) (some (λ x. nat_lt 0 (part_of x)) (open_batch before)) order.0 in
+      let only =
+      no_queue p.queue (sym (queue_count_said before p h)
+      ∙ eqb-true (length (queues before)) 0 b) in
       subst (May p) same
       (record {
         outside = outside_batch p.batch e;
@@ -177,14 +200,16 @@ module _ (form : Form) (before : List Line) (p : Parts) (h : Say before p) where
         named = (and_parts (is_name name) true t.shaped).0;
         fresh = ap (λ (q : Option (List ℕ)). is_named p.buffers q name) (sym only)
             ∙ (sym (declared_said before p h name)
-            ∙ not_true (is_declared before name) (and_parts (not (is_declared before name)) true t.fresh).0);
+            ∙ not_true (is_declared before name)
+            (and_parts (not (is_declared before name)) true t.fresh).0);
       })
 
   submit_may : (a queue : List ℕ) (s : Statement) → Outside ≡ part_of_batch p.batch →
       PassesTests form before (a ∷ queue ∷ []) SubmitLine s → May p s
   submit_may a queue s e t = by_queue (queue_at before queue) refl t.said
     where
-      by_queue : (o : Option ℕ) → queue_at before queue ≡ o → option_map (λ q. BeginBatch q) o ≡ Some s → May p s
+      by_queue : (o : Option ℕ) → queue_at before queue ≡ o →
+          option_map (λ q. BeginBatch q) o ≡ Some s → May p s
       by_queue None f i = absurd (cc)
       by_queue (Some q) f i =
           let same : BeginBatch q ≡ s = same_statement (BeginBatch q) s i in
@@ -193,36 +218,44 @@ module _ (form : Form) (before : List Line) (p : Parts) (h : Say before p) where
           let one = some_queue p.queue q (omega arith) in
           let few =
           below (count is_job before) 4096
-          (subst (λ (z : Statement). passes_limit (limits_of (version_of before)) before z ≡ false) (sym same) t.limited) in
+          (subst (λ (z : Statement). passes_limit (limits_of (version_of before)) before z ≡ false)
+          (sym same) t.limited) in
           let none = outside_batch p.batch e in
           let jobs : count is_job before ≡ length p.jobs =
           h.job_count ∙ ap (λ (b : Option (List Command)). count_jobs p.jobs b) none in
           subst (May p) same
           (record { outside = none; same = one.0; name = one.1.0; is = one.1.1; few = omega arith })
 
-  fill_may : (a buffer offset size word : List ℕ) (s : Statement) → InBatch ≡ part_of_batch p.batch →
+  fill_may : (a buffer offset size word : List ℕ) (s : Statement) →
+      InBatch ≡ part_of_batch p.batch →
       PassesTests form before (a ∷ buffer ∷ offset ∷ size ∷ word ∷ []) FillLine s → May p s
   fill_may a buffer offset size word s e t =
-      by_places (buffer_at before buffer) (numeral offset) (numeral size) (small_numeral word) refl refl refl t.said
+      by_places (buffer_at before buffer) (numeral offset) (numeral size) (small_numeral word) refl
+      refl refl t.said
     where
-      by_places : (b o n w : Option ℕ) → numeral offset ≡ o → numeral size ≡ n → small_numeral word ≡ w →
+      by_places : (b o n w : Option ℕ) → numeral offset ≡ o → numeral size ≡ n →
+          small_numeral word ≡ w →
           of_four (λ b o n w. AddCommand (Fill b o (Count n) w)) b o n w ≡ Some s → May p s
       by_places None o n w f g k i = absurd (cc)
       by_places (Some b) None n w f g k i = absurd (cc)
       by_places (Some b) (Some o) None w f g k i = absurd (cc)
       by_places (Some b) (Some o) (Some n) None f g k i = absurd (cc)
       by_places (Some b) (Some o) (Some n) (Some w) f g k i =
-          let same : AddCommand (Fill b o (Count n) w) ≡ s = same_statement (AddCommand (Fill b o (Count n) w)) s i in
+          let same : AddCommand (Fill b o (Count n) w) ≡ s =
+          same_statement (AddCommand (Fill b o (Count n) w)) s i in
           let r : is_in_range before (AddCommand (Fill b o (Count n) w)) ≡ true =
           subst (λ (z : Statement). is_in_range before z ≡ true) (sym same) t.ranged in
           let limits =
-          or_parts (not (nat_lt (count is_command before) 8192)) (not (nat_lt (count is_command (open_batch before)) 64))
-          (subst (λ (z : Statement). passes_limit (limits_of (version_of before)) before z ≡ false) (sym same) t.limited) in
+          or_parts (not (nat_lt (count is_command before) 8192))
+          (not (nat_lt (count is_command (open_batch before)) 64))
+          (subst (λ (z : Statement). passes_limit (limits_of (version_of before)) before z ≡ false)
+          (sym same) t.limited) in
           let all = below (count is_command before) 8192 limits.0 in
           let few = below (count is_command (open_batch before)) 64 limits.1 in
           let inside = inside_batch p.batch e in
           let commands : HasCommands inside.0 (open_batch before) =
-          subst (λ (x : Option (List Command)). OpenLines x (open_batch before)) inside.1 h.opened in
+          subst (λ (x : Option (List Command)). OpenLines x (open_batch before)) inside.1
+          h.opened in
           let counted = commands.counted in
           let counts : count is_command before ≡ sum (map length p.jobs) + length inside.0 =
           h.command_count ∙ ap (λ (x : Option (List Command)). count_commands p.jobs x) inside.1 in
@@ -254,7 +287,8 @@ module _ (form : Form) (before : List Line) (p : Parts) (h : Say before p) where
       was ≡ part_of_batch p.batch → belongs was f ≡ true → is_built before f ≡ true →
       matches words f ≡ true → PassesTests form before words f s → May p s
   line_may Outside BufferLine (a ∷ name ∷ size ∷ []) s e g b m t = buffer_may a name size s e t
-  line_may Outside (QueueLine Immediate) (a ∷ name ∷ c ∷ []) s e g b m t = queue_may a name c s e b t
+  line_may Outside (QueueLine Immediate) (a ∷ name ∷ c ∷ []) s e g b m t =
+      queue_may a name c s e b t
   line_may Outside SubmitLine (a ∷ queue ∷ []) s e g b m t = submit_may a queue s e t
   line_may InBatch FillLine (a ∷ buffer ∷ offset ∷ size ∷ word ∷ []) s e g b m t =
       fill_may a buffer offset size word s e t

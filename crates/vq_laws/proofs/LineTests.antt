@@ -37,18 +37,29 @@ pub tests_passed : (form : Form) (before : List Line) (words : List (List ℕ)) 
     fault_of form before words ≡ None → meaning form before words ≡ Some s →
     (f : LineForm) × PassesTests form before words f s
 tests_passed form before words s h m =
-    let one = first_fails (has_fault form before words) Syntax (Order ∷ Number ∷ Name ∷ Twice ∷ Range ∷ Overlap ∷ Limit ∷ []) h in
-    let two = first_fails (has_fault form before words) Order (Number ∷ Name ∷ Twice ∷ Range ∷ Overlap ∷ Limit ∷ []) one.1 in
-    let three = first_fails (has_fault form before words) Number (Name ∷ Twice ∷ Range ∷ Overlap ∷ Limit ∷ []) two.1 in
-    let four = first_fails (has_fault form before words) Name (Twice ∷ Range ∷ Overlap ∷ Limit ∷ []) three.1 in
-    let five = first_fails (has_fault form before words) Twice (Range ∷ Overlap ∷ Limit ∷ []) four.1 in
+    let one =
+    first_fails (has_fault form before words) Syntax
+    (Order ∷ Number ∷ Name ∷ Twice ∷ Range ∷ Overlap ∷ Limit ∷ []) h in
+    let two =
+    first_fails (has_fault form before words) Order
+    (Number ∷ Name ∷ Twice ∷ Range ∷ Overlap ∷ Limit ∷ []) one.1 in
+    let three =
+    first_fails (has_fault form before words) Number (Name ∷ Twice ∷ Range ∷ Overlap ∷ Limit ∷ [])
+    two.1 in
+    let four =
+    first_fails (has_fault form before words) Name (Twice ∷ Range ∷ Overlap ∷ Limit ∷ []) three.1 in
+    let five =
+    first_fails (has_fault form before words) Twice (Range ∷ Overlap ∷ Limit ∷ []) four.1 in
     let six = first_fails (has_fault form before words) Range (Overlap ∷ Limit ∷ []) five.1 in
     let seven = first_fails (has_fault form before words) Overlap (Limit ∷ []) six.1 in
     let eight = first_fails (has_fault form before words) Limit [] seven.1 in
-    let syntax = or_parts (not (list_all (list_all is_plain) words)) (option_map_or (fails is_shaped words) (form_of form before words) true) one.0 in
+    let syntax =
+    or_parts (not (list_all (list_all is_plain) words))
+    (option_map_or (fails is_shaped words) (form_of form before words) true) one.0 in
     by_form (form_of form before words) refl syntax.0 syntax.1 two.0 three.0 four.0 five.0 m
     (passes (is_in_range before s)
-    (sym (ap (λ (o : Option Statement). option_map_or (λ x. not (is_in_range before x)) o false) m) ∙ six.0))
+    (sym (ap (λ (o : Option Statement). option_map_or (λ x. not (is_in_range before x)) o false) m)
+    ∙ six.0))
     (sym (ap (λ (o : Option Statement). option_map_or (overlaps before) o false) m) ∙ seven.0)
     (sym (ap (λ (o : Option Statement). option_map_or
     (passes_limit (limits_of (version_of before)) before) o false) m) ∙ eight.0)
@@ -60,7 +71,8 @@ tests_passed form before words s h m =
         option_map_or (fails is_numeric words) o false ≡ false →
         option_map_or (fails (is_known before) words) o false ≡ false →
         option_map_or (fails (is_new before) words) o false ≡ false →
-        option_and_then (λ f. statement_of before f (map (λ x. x.1) (open_places (places f) words))) o ≡ Some s →
+        option_and_then (λ f. statement_of before f (map (λ x. x.1) (open_places (places f) words)))
+        o ≡ Some s →
         is_in_range before s ≡ true → overlaps before s ≡ false →
         passes_limit (limits_of (version_of before)) before s ≡ false →
         (f : LineForm) × PassesTests form before words f s
@@ -92,30 +104,41 @@ module _ (form : Form) (before : List Line) (words : List (List ℕ)) (f : LineF
   -- what such a line says
   pub tests_say : meaning form before words ≡ Some s
   tests_say =
-      ap (option_and_then (λ g. statement_of before g (map (λ x. x.1) (open_places (places g) words)))) t.found
+      ap (option_and_then (λ g. statement_of before g
+      (map (λ x. x.1) (open_places (places g) words)))) t.found
       ∙ t.said
 
   -- it has no fault
   pub no_fault : fault_of form before words ≡ None
   no_fault =
-      none_found (has_fault form before words) Syntax (Order ∷ Number ∷ Name ∷ Twice ∷ Range ∷ Overlap ∷ Limit ∷ [])
-      (or_from (not (list_all (list_all is_plain) words)) (option_map_or (fails is_shaped words) (form_of form before words) true)
+      none_found (has_fault form before words) Syntax
+      (Order ∷ Number ∷ Name ∷ Twice ∷ Range ∷ Overlap ∷ Limit ∷ [])
+      (or_from (not (list_all (list_all is_plain) words))
+      (option_map_or (fails is_shaped words) (form_of form before words) true)
       (ap not t.plain)
-      (ap (λ (o : Option LineForm). option_map_or (fails is_shaped words) o true) t.found ∙ ap not t.shaped))
-      (none_found (has_fault form before words) Order (Number ∷ Name ∷ Twice ∷ Range ∷ Overlap ∷ Limit ∷ [])
-      (ap (λ (o : Option LineForm). option_map_or (is_out_of_order before) o false) t.found ∙ t.in_order)
+      (ap (λ (o : Option LineForm). option_map_or (fails is_shaped words) o true) t.found
+      ∙ ap not t.shaped))
+      (none_found (has_fault form before words) Order
+      (Number ∷ Name ∷ Twice ∷ Range ∷ Overlap ∷ Limit ∷ [])
+      (ap (λ (o : Option LineForm). option_map_or (is_out_of_order before) o false) t.found
+      ∙ t.in_order)
       (none_found (has_fault form before words) Number (Name ∷ Twice ∷ Range ∷ Overlap ∷ Limit ∷ [])
-      (ap (λ (o : Option LineForm). option_map_or (fails is_numeric words) o false) t.found ∙ ap not t.numeric)
+      (ap (λ (o : Option LineForm). option_map_or (fails is_numeric words) o false) t.found
+      ∙ ap not t.numeric)
       (none_found (has_fault form before words) Name (Twice ∷ Range ∷ Overlap ∷ Limit ∷ [])
-      (ap (λ (o : Option LineForm). option_map_or (fails (is_known before) words) o false) t.found ∙ ap not t.known)
+      (ap (λ (o : Option LineForm). option_map_or (fails (is_known before) words) o false) t.found
+      ∙ ap not t.known)
       (none_found (has_fault form before words) Twice (Range ∷ Overlap ∷ Limit ∷ [])
-      (ap (λ (o : Option LineForm). option_map_or (fails (is_new before) words) o false) t.found ∙ ap not t.fresh)
+      (ap (λ (o : Option LineForm). option_map_or (fails (is_new before) words) o false) t.found
+      ∙ ap not t.fresh)
       (none_found (has_fault form before words) Range (Overlap ∷ Limit ∷ [])
-      (ap (λ (o : Option Statement). option_map_or (λ x. not (is_in_range before x)) o false) tests_say ∙ ap not t.ranged)
+      (ap (λ (o : Option Statement). option_map_or (λ x. not (is_in_range before x)) o false)
+      tests_say ∙ ap not t.ranged)
       (none_found (has_fault form before words) Overlap (Limit ∷ [])
       (ap (λ (o : Option Statement). option_map_or (overlaps before) o false) tests_say ∙ t.apart)
       (none_found (has_fault form before words) Limit []
-      (ap (λ (o : Option Statement). option_map_or (passes_limit (limits_of (version_of before)) before) o false) tests_say ∙ t.limited)
+      (ap (λ (o : Option Statement). option_map_or
+      (passes_limit (limits_of (version_of before)) before) o false) tests_say ∙ t.limited)
       refl)))))))
 
 -- A line whose words pass the tests is read as its statement.

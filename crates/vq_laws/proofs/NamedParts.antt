@@ -18,13 +18,14 @@ use Rattle.vq_laws.proofs.ScriptParts.{Parts, a_buffer, queue_list, after, May, 
 name_byte : (b : ℕ) → (is_letter b || is_digit b) ≡ true → is_word_byte b ≡ true
 name_byte b h =
     elim (or_cases (is_letter b) (is_digit b) h) [
-      | inl letter ↦ elim (or_cases ((nat_le 65 b && nat_le b 90) || (nat_le 97 b && nat_le b 122)) (b == 95) letter) [
-        | inl case ↦ elim (or_cases (nat_le 65 b && nat_le b 90) (nat_le 97 b && nat_le b 122) case) [
-          | inl upper ↦ between 65 90 (omega arith) (omega arith) upper
-          | inr lower ↦ between 97 122 (omega arith) (omega arith) lower
-        ]
-        | inr line ↦ let e = eqb-true b 95 line in byte (omega arith) (omega arith)
-      ]
+      | inl letter ↦ elim (or_cases ((nat_le 65 b && nat_le b 90) || (nat_le 97 b && nat_le b 122))
+          (b == 95) letter) [
+            | inl case ↦ elim (or_cases (nat_le 65 b && nat_le b 90) (nat_le 97 b && nat_le b 122) case) [
+              | inl upper ↦ between 65 90 (omega arith) (omega arith) upper
+              | inr lower ↦ between 97 122 (omega arith) (omega arith) lower
+            ]
+            | inr line ↦ let e = eqb-true b 95 line in byte (omega arith) (omega arith)
+          ]
       | inr digit ↦ between 48 57 (omega arith) (omega arith) digit
     ]
   where
@@ -34,7 +35,8 @@ name_byte b h =
         (and_from (nat_le 33 b) (nat_le b 126) (le-leb 33 b (omega arith)) (le-leb b 126 m))
         (ap not (differs b 35 (λ e. omega arith)))
 
-    between : (low high : ℕ) → 36 ≤ low → high ≤ 126 → (nat_le low b && nat_le b high) ≡ true → is_word_byte b ≡ true
+    between : (low high : ℕ) → 36 ≤ low → high ≤ 126 → (nat_le low b && nat_le b high) ≡ true →
+        is_word_byte b ≡ true
     between low high l m e =
         let ends = and_parts (nat_le low b) (nat_le b high) e in
         let x = leb-true low b ends.0 in
@@ -45,10 +47,12 @@ name_byte b h =
 pub name_word : (name : List ℕ) → is_name name ≡ true → is_text_word name ≡ true
 name_word name h =
     let all =
-    and_parts (nat_lt 0 (length name) && nat_le (length name) 16 && not (is_digit (slice_index name 0)))
+    and_parts (nat_lt 0 (length name) && nat_le (length name) 16 && not
+    (is_digit (slice_index name 0)))
     (list_all (λ b. is_letter b || is_digit b) name) h in
     let first =
-    and_parts (nat_lt 0 (length name) && nat_le (length name) 16) (not (is_digit (slice_index name 0))) all.0 in
+    and_parts (nat_lt 0 (length name) && nat_le (length name) 16)
+    (not (is_digit (slice_index name 0))) all.0 in
     let some = and_parts (nat_lt 0 (length name)) (nat_le (length name) 16) first.0 in
     and_from (nat_lt 0 (length name)) (list_all is_word_byte name) some.0
     (all_weaker (λ b. is_letter b || is_digit b) is_word_byte name_byte name all.1)
@@ -56,12 +60,14 @@ name_word name h =
 -- Positions
 
 -- a position in a list is one where the list goes on
-position_found : {A : Type 0} (test : A → Bool) (xs : List A) (y : A) (k : ℕ) → position test xs ≡ Some k →
+position_found : {A : Type 0} (test : A → Bool) (xs : List A) (y : A) (k : ℕ) →
+    position test xs ≡ Some k →
     position test (xs ++ y ∷ []) ≡ Some k
 position_found {A} test xs y k h = by_test (nat_lt (position_or_len test xs) (length xs)) refl h
   where
     by_test : (b : Bool) → nat_lt (position_or_len test xs) (length xs) ≡ b →
-        cond b (Some (position_or_len test xs)) None ≡ Some k → position test (xs ++ y ∷ []) ≡ Some k
+        cond b (Some (position_or_len test xs)) None ≡ Some k →
+        position test (xs ++ y ∷ []) ≡ Some k
     by_test true e i =
         let l = ltb-true (position_or_len test xs) (length xs) e in
         let same : position_or_len test xs ≡ k = cc in
@@ -84,7 +90,8 @@ none_passes test (x ∷ xs) h =
     ap (λ (b : Bool). cond (not b) (1 + position_or_len test xs) 0) no.0 ∙ omega arith
 
 -- the first that passes may be the last of a list
-position_new : {A : Type 0} (test : A → Bool) (xs : List A) (y : A) → list_any test xs ≡ false → test y ≡ true →
+position_new : {A : Type 0} (test : A → Bool) (xs : List A) (y : A) → list_any test xs ≡ false →
+    test y ≡ true →
     position test (xs ++ y ∷ []) ≡ Some (length xs)
 position_new test xs y h e =
     let m = length-append xs (y ∷ []) in
@@ -98,7 +105,8 @@ position_new test xs y h e =
     ∙ ap (λ (j : ℕ). Some j) here
 
 -- an item of a longer list is one of the list, or the new one
-get_push : {A : Type 0} (xs : List A) (y : A) (k : ℕ) (x : A) → slice_get (xs ++ y ∷ []) k ≡ Some x →
+get_push : {A : Type 0} (xs : List A) (y : A) (k : ℕ) (x : A) →
+    slice_get (xs ++ y ∷ []) k ≡ Some x →
     (slice_get xs k ≡ Some x) ⊎ ((k ≡ length xs) × (y ≡ x))
 get_push [] y zero x h = inr (refl, cc)
 get_push [] y (suc k) x h = absurd (let c : None ≡ Some x = h in cc)
@@ -126,7 +134,8 @@ nothing_named =
 
 -- They stay so after a statement that may follow.
 pub named_more : (p : Parts) (s : Statement) → AreNamed p → May p s → AreNamed (after p s)
-named_more p (DeclareBuffer name size) n m = record { buffer_names = names; queue_names = n.queue_names }
+named_more p (DeclareBuffer name size) n m =
+    record { buffer_names = names; queue_names = n.queue_names }
   where
     fresh : list_any (λ b. bytes_eq name b.name) p.buffers ≡ false
     fresh =
@@ -139,25 +148,33 @@ named_more p (DeclareBuffer name size) n m = record { buffer_names = names; queu
         × (position (λ x. bytes_eq b.name x.name) (p.buffers ++ a_buffer name size ∷ []) ≡ Some k)
     names k b h =
         elim (get_push p.buffers (a_buffer name size) k b h) [
-          | inl e ↦ let old = n.buffer_names k b e in
-              (old.0, position_found (λ x. bytes_eq b.name x.name) p.buffers (a_buffer name size) k old.1)
+          | inl e ↦ let old = n.buffer_names k b e in (
+            old.0,
+            position_found (λ x. bytes_eq b.name x.name) p.buffers (a_buffer name size) k
+                old.1,
+          )
           | inr e ↦
               subst (λ (z : Buffer × ℕ). (is_name z.0.name ≡ true)
-              × (position (λ x. bytes_eq z.0.name x.name) (p.buffers ++ a_buffer name size ∷ []) ≡ Some z.1))
+              × (position (λ x. bytes_eq z.0.name x.name) (p.buffers ++ a_buffer name size ∷ [])
+              ≡ Some z.1))
               (λ i. (e.1 i, sym e.0 i)) (
                 m.named,
-                position_new (λ x. bytes_eq name x.name) p.buffers (a_buffer name size) fresh (same_bytes name),
+                position_new (λ x. bytes_eq name x.name) p.buffers (a_buffer name size) fresh
+                    (same_bytes name),
               )
         ]
 named_more p (DeclareQueue name mode) n m =
     record {
       buffer_names = n.buffer_names;
-      queue_names = λ other h. subst (λ (x : List ℕ). is_name x ≡ true) (same_name name other h) m.named;
+      queue_names =
+          λ other h. subst (λ (x : List ℕ). is_name x ≡ true) (same_name name other h) m.named;
     }
   where
     same_name : (a b : List ℕ) → Some a ≡ Some b → a ≡ b
     same_name a b e = cc
-named_more p (BeginBatch q) n m = record { buffer_names = n.buffer_names; queue_names = n.queue_names }
-named_more p (AddCommand c) n m = record { buffer_names = n.buffer_names; queue_names = n.queue_names }
+named_more p (BeginBatch q) n m =
+    record { buffer_names = n.buffer_names; queue_names = n.queue_names }
+named_more p (AddCommand c) n m =
+    record { buffer_names = n.buffer_names; queue_names = n.queue_names }
 named_more p EndBatch n m = record { buffer_names = n.buffer_names; queue_names = n.queue_names }
 named_more p s n m = absurd m

@@ -50,7 +50,8 @@ pub record Leads (p : Parts) (statements : List Statement) (q : Parts) : Type 0 
   pub all : AllMay p statements
   pub ends : run p statements ≡ q
 
-pub leads_on : (p q r : Parts) (first second : List Statement) → Leads p first q → Leads q second r →
+pub leads_on : (p q r : Parts) (first second : List Statement) → Leads p first q →
+    Leads q second r →
     Leads p (first ++ second) r
 leads_on p q r [] second l m = subst (λ (x : Parts). Leads x second r) (sym l.ends) m
 leads_on p q r (s ∷ first) second l m =
@@ -58,7 +59,8 @@ leads_on p q r (s ∷ first) second l m =
     leads_on (after p s) q r first second (record { all = l.all.1; ends = l.ends }) m in
     record { all = (l.all.0, rest.all); ends = rest.ends }
 
-leads_push : (p q : Parts) (statements : List Statement) (s : Statement) → Leads p statements q → May q s →
+leads_push : (p q : Parts) (statements : List Statement) (s : Statement) → Leads p statements q →
+    May q s →
     Leads p (statements ++ s ∷ []) (after q s)
 leads_push p q statements s l m =
     leads_on p q (after q s) statements (s ∷ []) l (record { all = (m, tt); ends = refl })
@@ -100,9 +102,13 @@ ordered_buffer : (bs : List Buffer) (q : Option (List ℕ)) (name : List ℕ) (s
     IsOrdered (parts (bs ++ a_buffer name size ∷ []) q [] None)
 ordered_buffer bs q name size o m =
     record {
-      buffers_first = subst (λ (ss : List Statement). Leads no_parts ss (parts (bs ++ a_buffer name size ∷ []) None [] None))
-          (sym (map-append (λ (b : Buffer). DeclareBuffer b.name b.size) bs (a_buffer name size ∷ [])))
-          (leads_push no_parts (parts bs None [] None) (buffer_statements bs) (DeclareBuffer name size) o.buffers_first
+      buffers_first =
+          subst (λ (ss : List Statement). Leads no_parts ss
+          (parts (bs ++ a_buffer name size ∷ []) None [] None))
+          (sym (map-append (λ (b : Buffer). DeclareBuffer b.name b.size) bs
+          (a_buffer name size ∷ [])))
+          (leads_push no_parts (parts bs None [] None) (buffer_statements bs)
+          (DeclareBuffer name size) o.buffers_first
           (record {
             outside = refl;
             first = refl;
@@ -141,11 +147,17 @@ ordered_buffer bs q name size o m =
               immediate = refl;
               only = refl;
               named = k.named;
-              fresh = or_from (list_any (λ b. bytes_eq other b.name) (bs ++ a_buffer name size ∷ []) || false) false
-                  (or_from (list_any (λ b. bytes_eq other b.name) (bs ++ a_buffer name size ∷ [])) false
-                  (list_any-append (λ (b : Buffer). bytes_eq other b.name) bs (a_buffer name size ∷ [])
-                  ∙ or_from (list_any (λ b. bytes_eq other b.name) bs) (bytes_eq other name || false) older.0
-                  (or_from (bytes_eq other name) false (same_names name other apart.0) refl)) refl) refl;
+              fresh =
+                  or_from (list_any (λ b. bytes_eq other b.name)
+                  (bs ++ a_buffer name size ∷ []) || false) false
+                  (or_from (list_any (λ b. bytes_eq other b.name) (bs ++ a_buffer name size ∷ []))
+                  false
+                  (list_any-append (λ (b : Buffer). bytes_eq other b.name) bs
+                  (a_buffer name size ∷ [])
+                  ∙ or_from (list_any (λ b. bytes_eq other b.name) bs)
+                  (bytes_eq other name || false) older.0
+                  (or_from (bytes_eq other name) false (same_names name other apart.0) refl)) refl)
+                  refl;
             },
             tt,
           );
@@ -159,12 +171,15 @@ ordered_begin bs q jobs o m =
     record {
       buffers_first = o.buffers_first;
       queue_next = o.queue_next;
-      batches_last = subst (λ (ss : List Statement). Leads (parts bs q [] None) ss (parts bs q jobs (Some [])))
+      batches_last =
+          subst (λ (ss : List Statement). Leads (parts bs q [] None) ss (parts bs q jobs (Some [])))
           (append_assoc (flat_map job_statements jobs) [] (BeginBatch 0 ∷ []))
-          (leads_push (parts bs q [] None) (parts bs q jobs None) (batch_statements jobs None) (BeginBatch 0) o.batches_last m);
+          (leads_push (parts bs q [] None) (parts bs q jobs None) (batch_statements jobs None)
+          (BeginBatch 0) o.batches_last m);
     }
 
-ordered_command : (bs : List Buffer) (q : Option (List ℕ)) (jobs : List (List Command)) (commands : List Command)
+ordered_command : (bs : List Buffer) (q : Option (List ℕ)) (jobs : List (List Command))
+    (commands : List Command)
     (c : Command) → IsOrdered (parts bs q jobs (Some commands)) →
     May (parts bs q jobs (Some commands)) (AddCommand c) →
     IsOrdered (parts bs q jobs (Some (commands ++ c ∷ [])))
@@ -172,49 +187,69 @@ ordered_command bs q jobs commands c o m =
     record {
       buffers_first = o.buffers_first;
       queue_next = o.queue_next;
-      batches_last = subst (λ (ss : List Statement). Leads (parts bs q [] None) ss (parts bs q jobs (Some (commands ++ c ∷ []))))
-          (append_assoc (flat_map job_statements jobs) (BeginBatch 0 ∷ map (λ x. AddCommand x) commands) (AddCommand c ∷ [])
+      batches_last =
+          subst (λ (ss : List Statement). Leads (parts bs q [] None) ss
+          (parts bs q jobs (Some (commands ++ c ∷ []))))
+          (append_assoc (flat_map job_statements jobs)
+          (BeginBatch 0 ∷ map (λ x. AddCommand x) commands) (AddCommand c ∷ [])
           ∙ ap (λ (ss : List Statement). flat_map job_statements jobs ++ BeginBatch 0 ∷ ss)
           (sym (map-append (λ (x : Command). AddCommand x) commands (c ∷ []))))
-          (leads_push (parts bs q [] None) (parts bs q jobs (Some commands)) (batch_statements jobs (Some commands))
+          (leads_push (parts bs q [] None) (parts bs q jobs (Some commands))
+          (batch_statements jobs (Some commands))
           (AddCommand c) o.batches_last m);
     }
 
-ordered_end : (bs : List Buffer) (q : Option (List ℕ)) (jobs : List (List Command)) (commands : List Command) →
+ordered_end : (bs : List Buffer) (q : Option (List ℕ)) (jobs : List (List Command))
+    (commands : List Command) →
     IsOrdered (parts bs q jobs (Some commands)) → May (parts bs q jobs (Some commands)) EndBatch →
     IsOrdered (parts bs q (jobs ++ commands ∷ []) None)
 ordered_end bs q jobs commands o m =
     record {
       buffers_first = o.buffers_first;
       queue_next = o.queue_next;
-      batches_last = subst (λ (ss : List Statement). Leads (parts bs q [] None) ss (parts bs q (jobs ++ commands ∷ []) None))
-          (append_assoc (flat_map job_statements jobs) (BeginBatch 0 ∷ map (λ x. AddCommand x) commands) (EndBatch ∷ [])
+      batches_last =
+          subst (λ (ss : List Statement). Leads (parts bs q [] None) ss
+          (parts bs q (jobs ++ commands ∷ []) None))
+          (append_assoc (flat_map job_statements jobs)
+          (BeginBatch 0 ∷ map (λ x. AddCommand x) commands) (EndBatch ∷ [])
           ∙ sym (append-nil (flat_map job_statements (jobs ++ commands ∷ []))
           ∙ (flat_map-append job_statements jobs (commands ∷ [])
-          ∙ ap (λ (ss : List Statement). flat_map job_statements jobs ++ ss) (append-nil (job_statements commands)))))
-          (leads_push (parts bs q [] None) (parts bs q jobs (Some commands)) (batch_statements jobs (Some commands))
+          ∙ ap (λ (ss : List Statement). flat_map job_statements jobs ++ ss)
+          (append-nil (job_statements commands)))))
+          (leads_push (parts bs q [] None) (parts bs q jobs (Some commands))
+          (batch_statements jobs (Some commands))
           EndBatch o.batches_last m);
     }
 
 -- Parts in order stay so.
 ordered_more : (p : Parts) (s : Statement) → IsOrdered p → May p s → IsOrdered (after p s)
 ordered_more p (DeclareBuffer name size) o m =
-    let same : p ≡ parts p.buffers p.queue [] None = λ i. parts p.buffers p.queue (m.first i) (m.outside i) in
+    let same : p ≡ parts p.buffers p.queue [] None =
+    λ i. parts p.buffers p.queue (m.first i) (m.outside i) in
     subst (λ (z : List (List Command) × Option (List Command)).
     IsOrdered (parts (p.buffers ++ a_buffer name size ∷ []) p.queue z.0 z.1))
     (λ i. (sym m.first i, sym m.outside i))
     (ordered_buffer p.buffers p.queue name size (subst IsOrdered same o)
     (subst (λ (x : Parts). MayBuffer x name size) same m))
 ordered_more p (DeclareQueue name mode) o m =
-    let same : p ≡ parts p.buffers None [] None = λ i. parts p.buffers (m.only i) (m.first i) (m.outside i) in
+    let same : p ≡ parts p.buffers None [] None =
+    λ i. parts p.buffers (m.only i) (m.first i) (m.outside i) in
     let old : IsOrdered (parts p.buffers None [] None) = subst IsOrdered same o in
-    subst (λ (z : List (List Command) × Option (List Command)). IsOrdered (parts p.buffers (Some name) z.0 z.1))
+    subst (λ (z : List (List Command) × Option (List Command)). IsOrdered
+    (parts p.buffers (Some name) z.0 z.1))
     (λ i. (sym m.first i, sym m.outside i))
     (record {
       buffers_first = old.buffers_first;
       queue_next = record {
         all = (
-          record { outside = refl; first = refl; immediate = refl; only = refl; named = m.named; fresh = m.fresh },
+          record {
+            outside = refl;
+            first = refl;
+            immediate = refl;
+            only = refl;
+            named = m.named;
+            fresh = m.fresh;
+          },
           tt,
         );
         ends = refl;
@@ -222,17 +257,22 @@ ordered_more p (DeclareQueue name mode) o m =
       batches_last = record { all = tt; ends = refl };
     })
 ordered_more p (BeginBatch q) o m =
-    let same : p ≡ parts p.buffers p.queue p.jobs None = λ i. parts p.buffers p.queue p.jobs (m.outside i) in
+    let same : p ≡ parts p.buffers p.queue p.jobs None =
+    λ i. parts p.buffers p.queue p.jobs (m.outside i) in
     ordered_begin p.buffers p.queue p.jobs (subst IsOrdered same o)
     (subst (λ (x : Parts × ℕ). May x.0 (BeginBatch x.1)) (λ i. (same i, m.same i)) m)
 ordered_more p (AddCommand c) o m =
-    let same : p ≡ parts p.buffers p.queue p.jobs (Some m.commands) = λ i. parts p.buffers p.queue p.jobs (m.inside i) in
-    subst (λ (b : Option (List Command)). IsOrdered (parts p.buffers p.queue p.jobs (with_command b c))) (sym m.inside)
+    let same : p ≡ parts p.buffers p.queue p.jobs (Some m.commands) =
+    λ i. parts p.buffers p.queue p.jobs (m.inside i) in
+    subst (λ (b : Option (List Command)). IsOrdered
+    (parts p.buffers p.queue p.jobs (with_command b c))) (sym m.inside)
     (ordered_command p.buffers p.queue p.jobs m.commands c (subst IsOrdered same o)
     (subst (λ (x : Parts). May x (AddCommand c)) same m))
 ordered_more p EndBatch o m =
-    let same : p ≡ parts p.buffers p.queue p.jobs (Some m.commands) = λ i. parts p.buffers p.queue p.jobs (m.inside i) in
-    subst (λ (b : Option (List Command)). IsOrdered (parts p.buffers p.queue (with_batch p.jobs b) None)) (sym m.inside)
+    let same : p ≡ parts p.buffers p.queue p.jobs (Some m.commands) =
+    λ i. parts p.buffers p.queue p.jobs (m.inside i) in
+    subst (λ (b : Option (List Command)). IsOrdered
+    (parts p.buffers p.queue (with_batch p.jobs b) None)) (sym m.inside)
     (ordered_end p.buffers p.queue p.jobs m.commands (subst IsOrdered same o)
     (subst (λ (x : Parts). May x EndBatch) same m))
 ordered_more p s o m = absurd m
@@ -260,7 +300,8 @@ nothing_ordered =
 same_lines : (a b : List Line) → ◌≡◌ {A = Result (List Line) FaultKind} (Ok a) (Ok b) → a ≡ b
 same_lines a b e = cc
 
-ordered_line : (form : Form) (before : List Line) (n : ℕ) (words : List (List ℕ)) (now : List Line) →
+ordered_line : (form : Form) (before : List Line) (n : ℕ) (words : List (List ℕ))
+    (now : List Line) →
     SayOrdered before → read_statement form before n words ≡ Ok now → SayOrdered now
 ordered_line form before n [] now k h = subst SayOrdered (same_lines before now h) k
 ordered_line form before n (word ∷ words) now k h =
@@ -289,7 +330,8 @@ ordered_line form before n (word ∷ words) now k h =
         never : (kind : FaultKind) → ◌≡◌ {A = Result (List Line) FaultKind} (Err kind) (Ok now) → ⊥
         never kind h = cc
 
-ordered_lines : (form : Form) (before : List Line) (n : ℕ) (lines : List (List ℕ)) (all : List Line) →
+ordered_lines : (form : Form) (before : List Line) (n : ℕ) (lines : List (List ℕ))
+    (all : List Line) →
     SayOrdered before → read_lines form before n lines ≡ Ok all →
     SayOrdered all × (ends_early form all ≡ false)
 ordered_lines form before n [] all k h = by_end (ends_early form before) refl h

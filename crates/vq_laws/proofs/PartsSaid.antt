@@ -38,7 +38,8 @@ after_last_push {X} p xs y =
     ∙ by_test (p y)
   where
     by_test : (b : Bool) →
-        drop (length (xs ++ y ∷ []) - cond (not b) (1 + suffix_len (λ x. not (p x)) xs) 0) (xs ++ y ∷ [])
+        drop (length (xs ++ y ∷ []) - cond (not b) (1 + suffix_len (λ x. not (p x)) xs) 0)
+        (xs ++ y ∷ [])
         ≡ cond b [] (after_last p xs ++ y ∷ [])
     by_test true = drop_all (length (xs ++ y ∷ []) - 0) (xs ++ y ∷ []) (omega arith)
     by_test false =
@@ -48,14 +49,17 @@ after_last_push {X} p xs y =
         ap (λ (k : ℕ). drop k (xs ++ y ∷ [])) same
         ∙ drop-append-le (length xs - suffix_len (λ x. not (p x)) xs) xs (y ∷ []) (omega arith)
 
+abbrev a_line : ℕ → Statement → Line
+a_line n s = record { number = n; statement = s }
+
 -- What lines say, one line more
 module _ (before : List Line) (n : ℕ) (s : Statement) where
   section_push : section (with_line before n s) ≡ section_after (section before) s
   section_push =
       fold-append (λ was (l : Line). section_after was l.statement) Outside before
-      (record { number = n; statement = s } ∷ [])
+      (a_line n s ∷ [])
 
-  version_push : version_of (record { number = n; statement = s } ∷ []) ≡ 1 → version_of before ≡ 1 →
+  version_push : version_of (a_line n s ∷ []) ≡ 1 → version_of before ≡ 1 →
       version_of (with_line before n s) ≡ 1
   version_push one h = by_lines before h
     where
@@ -65,51 +69,52 @@ module _ (before : List Line) (n : ℕ) (s : Statement) where
 
   buffers_push : (bs : List Buffer) → map buffer_without_line (buffers before) ≡ bs →
       map buffer_without_line (buffers (with_line before n s))
-      ≡ bs ++ map buffer_without_line (filter_map buffer_of (record { number = n; statement = s } ∷ []))
+      ≡ bs ++ map buffer_without_line (filter_map buffer_of (a_line n s ∷ []))
   buffers_push bs h =
-      ap (map buffer_without_line) (filter_map-append buffer_of before (record { number = n; statement = s } ∷ []))
+      ap (map buffer_without_line) (filter_map-append buffer_of before (a_line n s ∷ []))
       ∙ (map-append buffer_without_line (buffers before)
-      (filter_map buffer_of (record { number = n; statement = s } ∷ []))
+      (filter_map buffer_of (a_line n s ∷ []))
       ∙ ap (λ (xs : List Buffer). xs ++ map buffer_without_line
-      (filter_map buffer_of (record { number = n; statement = s } ∷ []))) h)
+      (filter_map buffer_of (a_line n s ∷ []))) h)
 
   queues_push : (qs : List Queue) → map queue_without_line (queues before) ≡ qs →
       map queue_without_line (queues (with_line before n s))
-      ≡ qs ++ map queue_without_line (filter_map queue_of (record { number = n; statement = s } ∷ []))
+      ≡ qs ++ map queue_without_line (filter_map queue_of (a_line n s ∷ []))
   queues_push qs h =
-      ap (map queue_without_line) (filter_map-append queue_of before (record { number = n; statement = s } ∷ []))
+      ap (map queue_without_line) (filter_map-append queue_of before (a_line n s ∷ []))
       ∙ (map-append queue_without_line (queues before)
-      (filter_map queue_of (record { number = n; statement = s } ∷ []))
+      (filter_map queue_of (a_line n s ∷ []))
       ∙ ap (λ (xs : List Queue). xs ++ map queue_without_line
-      (filter_map queue_of (record { number = n; statement = s } ∷ []))) h)
+      (filter_map queue_of (a_line n s ∷ []))) h)
 
   semaphores_push : semaphores before ≡ [] →
-      semaphores (with_line before n s) ≡ filter_map semaphore_of (record { number = n; statement = s } ∷ [])
+      semaphores (with_line before n s) ≡ filter_map semaphore_of (a_line n s ∷ [])
   semaphores_push h =
-      filter_map-append semaphore_of before (record { number = n; statement = s } ∷ [])
+      filter_map-append semaphore_of before (a_line n s ∷ [])
       ∙ ap (λ (xs : List Semaphore). xs ++ filter_map semaphore_of
-      (record { number = n; statement = s } ∷ [])) h
+      (a_line n s ∷ [])) h
 
-  some_push : (test : Statement → Bool) → some test (with_line before n s) ≡ (some test before || (test s || false))
-  some_push test = list_any-append (λ (l : Line). test l.statement) before (record { number = n; statement = s } ∷ [])
+  some_push : (test : Statement → Bool) → some test (with_line before n s)
+      ≡ (some test before || (test s || false))
+  some_push test = list_any-append (λ (l : Line). test l.statement) before (a_line n s ∷ [])
 
   open_push : open_batch (with_line before n s)
-      ≡ cond (is_submit s || is_end s) [] (open_batch before ++ record { number = n; statement = s } ∷ [])
+      ≡ cond (is_submit s || is_end s) [] (open_batch before ++ a_line n s ∷ [])
   open_push =
       after_last_push (λ (l : Line). is_submit l.statement || is_end l.statement) before
-      (record { number = n; statement = s })
+      (a_line n s)
 
   turns_push : flat_map turns_at before ≡ [] →
-      flat_map turns_at (with_line before n s) ≡ flat_map turns_at (record { number = n; statement = s } ∷ [])
+      flat_map turns_at (with_line before n s) ≡ flat_map turns_at (a_line n s ∷ [])
   turns_push h =
-      flat_map-append turns_at before (record { number = n; statement = s } ∷ [])
-      ∙ ap (λ (xs : List Turn). xs ++ flat_map turns_at (record { number = n; statement = s } ∷ [])) h
+      flat_map-append turns_at before (a_line n s ∷ [])
+      ∙ ap (λ (xs : List Turn). xs ++ flat_map turns_at (a_line n s ∷ [])) h
 
   jobs_push : (more : List Line) → map job_without_lines (jobs_of (with_line before n s ++ more))
-      ≡ map job_without_lines (jobs_of (before ++ record { number = n; statement = s } ∷ more))
+      ≡ map job_without_lines (jobs_of (before ++ a_line n s ∷ more))
   jobs_push more =
       ap (λ (ls : List Line). map job_without_lines (jobs_of ls))
-      (append_assoc before (record { number = n; statement = s } ∷ []) more)
+      (append_assoc before (a_line n s ∷ []) more)
 
 or_false : (a b : Bool) → a ≡ false → b ≡ false → (a || (b || false)) ≡ false
 or_false false false h e = refl
@@ -128,51 +133,65 @@ one_of : (b : Bool) → b ≡ false → cond {A = ℕ} b 1 0 ≡ 0
 one_of true h = absurd (cc)
 one_of false h = refl
 
+-- A statement declares, and does nothing else: these buffers and this queue become those.
+record Declares (n : ℕ) (s : Statement) (bs cs : List Buffer) (q r : Option (List ℕ)) : Type 0 where
+  stays : section_after Outside s ≡ Outside
+  version : version_of (a_line n s ∷ []) ≡ 1
+  buffers_then : bs ++ map buffer_without_line (filter_map buffer_of (a_line n s ∷ [])) ≡ cs
+  no_semaphore : filter_map semaphore_of (a_line n s ∷ []) ≡ []
+  queue_then : queue_list q ++ map queue_without_line (filter_map queue_of (a_line n s ∷ []))
+      ≡ queue_list r
+  begins_none : (is_submit s || is_host_step s) ≡ false
+  bounds_none : (is_submit s || is_end s) ≡ false
+  no_part : nat_lt 0 (part_of s) ≡ false
+  no_job : is_job s ≡ false
+  no_command : is_command s ≡ false
+  same_jobs : (more : List Line) → jobs_of (a_line n s ∷ more) ≡ jobs_of more
+  no_schedule : is_schedule s ≡ false
+  no_turn : turns_at (a_line n s) ≡ []
+
 -- a declaration
-declared : (before : List Line) (n : ℕ) (s : Statement) (bs cs : List Buffer) (q r : Option (List ℕ)) →
-    section_after Outside s ≡ Outside →
-    version_of (record { number = n; statement = s } ∷ []) ≡ 1 →
-    bs ++ map buffer_without_line (filter_map buffer_of (record { number = n; statement = s } ∷ [])) ≡ cs →
-    filter_map semaphore_of (record { number = n; statement = s } ∷ []) ≡ [] →
-    queue_list q ++ map queue_without_line (filter_map queue_of (record { number = n; statement = s } ∷ [])) ≡ queue_list r →
-    (is_submit s || is_host_step s) ≡ false → (is_submit s || is_end s) ≡ false → nat_lt 0 (part_of s) ≡ false →
-    is_job s ≡ false → is_command s ≡ false →
-    ((more : List Line) → jobs_of (record { number = n; statement = s } ∷ more) ≡ jobs_of more) →
-    is_schedule s ≡ false → turns_at (record { number = n; statement = s }) ≡ [] →
+declared : (before : List Line) (n : ℕ) (s : Statement) (bs cs : List Buffer)
+    (q r : Option (List ℕ)) → Declares n s bs cs q r →
     Say before (parts bs q [] None) → Say (with_line before n s) (parts cs r [] None)
-declared before n s bs cs q r after_it version more_buffers no_semaphore more_queues no_begin no_open no_part no_job no_command same_jobs no_schedule no_turn h =
+declared before n s bs cs q r d h =
     let jc = count_push is_job before n s in
-    let jn : cond {A = ℕ} (is_job s) 1 0 ≡ 0 = one_of (is_job s) no_job in
+    let jn : cond {A = ℕ} (is_job s) 1 0 ≡ 0 = one_of (is_job s) d.no_job in
     let jh = h.job_count in
     let cc = count_push is_command before n s in
-    let cn : cond {A = ℕ} (is_command s) 1 0 ≡ 0 = one_of (is_command s) no_command in
+    let cn : cond {A = ℕ} (is_command s) 1 0 ≡ 0 = one_of (is_command s) d.no_command in
     let ch = h.command_count in
+    let closed =
+    ap (λ (b : Bool). cond b [] (open_batch before ++ a_line n s ∷ [])) d.bounds_none in
     record {
-      part = section_push before n s ∙ (ap (λ (w : Section). section_after w s) h.part ∙ after_it);
-      version = version_push before n s version h.version;
-      buffers_are = buffers_push before n s bs h.buffers_are ∙ more_buffers;
-      no_semaphores = semaphores_push before n s h.no_semaphores ∙ no_semaphore;
-      queues_are = queues_push before n s (queue_list q) h.queues_are ∙ more_queues;
+      part = section_push before n s
+          ∙ (ap (λ (w : Section). section_after w s) h.part ∙ d.stays);
+      version = version_push before n s d.version h.version;
+      buffers_are = buffers_push before n s bs h.buffers_are ∙ d.buffers_then;
+      no_semaphores = semaphores_push before n s h.no_semaphores ∙ d.no_semaphore;
+      queues_are = queues_push before n s (queue_list q) h.queues_are ∙ d.queue_then;
       begun = some_push before n s (λ t. is_submit t || is_host_step t)
-          ∙ or_false (has_begun before) (is_submit s || is_host_step s) h.begun no_begin;
+          ∙ or_false (has_begun before) (is_submit s || is_host_step s) h.begun d.begins_none;
       opened = subst (λ (ls : List Line). some (λ t. nat_lt 0 (part_of t)) ls ≡ false)
-          (sym (open_push before n s
-          ∙ ap (λ (b : Bool). cond b [] (open_batch before ++ record { number = n; statement = s } ∷ [])) no_open))
+          (sym (open_push before n s ∙ closed))
           (some_push (open_batch before) n s (λ t. nat_lt 0 (part_of t))
-          ∙ or_false (some (λ t. nat_lt 0 (part_of t)) (open_batch before)) (nat_lt 0 (part_of s)) h.opened no_part);
+          ∙ or_false (some (λ t. nat_lt 0 (part_of t)) (open_batch before)) (nat_lt 0 (part_of s))
+          h.opened d.no_part);
       job_count = omega arith;
       command_count = omega arith;
       jobs_are = λ more. jobs_push before n s more
-          ∙ (h.jobs_are (record { number = n; statement = s } ∷ more)
-          ∙ ap (map job_without_lines) (same_jobs more));
+          ∙ (h.jobs_are (a_line n s ∷ more) ∙ ap (map job_without_lines) (d.same_jobs more));
       unscheduled = some_push before n s is_schedule
-          ∙ or_false (some is_schedule before) (is_schedule s) h.unscheduled no_schedule;
-      no_turns = turns_push before n s h.no_turns ∙ ap (λ (ts : List Turn). ts ++ []) no_turn;
+          ∙ or_false (some is_schedule before) (is_schedule s) h.unscheduled d.no_schedule;
+      no_turns = turns_push before n s h.no_turns
+          ∙ ap (λ (ts : List Turn). ts ++ []) d.no_turn;
     }
 
 -- a batch begins
-begins : (before : List Line) (n : ℕ) (bs : List Buffer) (q : Option (List ℕ)) (jobs : List (List Command)) →
-    Say before (parts bs q jobs None) → Say (with_line before n (BeginBatch 0)) (parts bs q jobs (Some []))
+begins : (before : List Line) (n : ℕ) (bs : List Buffer) (q : Option (List ℕ))
+    (jobs : List (List Command)) →
+    Say before (parts bs q jobs None) → Say (with_line before n (BeginBatch 0))
+    (parts bs q jobs (Some []))
 begins before n bs q jobs h =
     let jc = count_push is_job before n (BeginBatch 0) in
     let jh = h.job_count in
@@ -183,15 +202,21 @@ begins before n bs q jobs h =
       version = version_push before n (BeginBatch 0) refl h.version;
       buffers_are = buffers_push before n (BeginBatch 0) bs h.buffers_are ∙ append-nil bs;
       no_semaphores = semaphores_push before n (BeginBatch 0) h.no_semaphores;
-      queues_are = queues_push before n (BeginBatch 0) (queue_list q) h.queues_are ∙ append-nil (queue_list q);
+      queues_are =
+          queues_push before n (BeginBatch 0) (queue_list q) h.queues_are
+          ∙ append-nil (queue_list q);
       begun = some_push before n (BeginBatch 0) (λ t. is_submit t || is_host_step t)
           ∙ (or_true (has_begun before) ∙ sym (has_some jobs));
-      opened = subst (HasCommands []) (sym (open_push before n (BeginBatch 0))) (record { only = refl; counted = refl });
+      opened =
+          subst (HasCommands []) (sym (open_push before n (BeginBatch 0)))
+          (record { only = refl; counted = refl });
       job_count = omega arith;
       command_count = omega arith;
       jobs_are = λ more. jobs_push before n (BeginBatch 0) more
-          ∙ h.jobs_are (record { number = n; statement = BeginBatch 0 } ∷ more);
-      unscheduled = some_push before n (BeginBatch 0) is_schedule ∙ (or_nothing (some is_schedule before) ∙ h.unscheduled);
+          ∙ h.jobs_are (a_line n (BeginBatch 0) ∷ more);
+      unscheduled =
+          some_push before n (BeginBatch 0) is_schedule
+          ∙ (or_nothing (some is_schedule before) ∙ h.unscheduled);
       no_turns = turns_push before n (BeginBatch 0) h.no_turns;
     }
   where
@@ -200,7 +225,8 @@ begins before n bs q jobs h =
     has_some (cs ∷ js) = refl
 
 -- a command is added
-adds : (before : List Line) (n : ℕ) (bs : List Buffer) (q : Option (List ℕ)) (jobs : List (List Command))
+adds : (before : List Line) (n : ℕ) (bs : List Buffer) (q : Option (List ℕ))
+    (jobs : List (List Command))
     (commands : List Command) (c : Command) →
     Say before (parts bs q jobs (Some commands)) →
     Say (with_line before n (AddCommand c)) (parts bs q jobs (Some (commands ++ c ∷ [])))
@@ -213,11 +239,15 @@ adds before n bs q jobs commands c h =
     let oh = h.opened.counted in
     let l = length-append commands (c ∷ []) in
     record {
-      part = section_push before n (AddCommand c) ∙ ap (λ (w : Section). section_after w (AddCommand c)) h.part;
+      part =
+          section_push before n (AddCommand c)
+          ∙ ap (λ (w : Section). section_after w (AddCommand c)) h.part;
       version = version_push before n (AddCommand c) refl h.version;
       buffers_are = buffers_push before n (AddCommand c) bs h.buffers_are ∙ append-nil bs;
       no_semaphores = semaphores_push before n (AddCommand c) h.no_semaphores;
-      queues_are = queues_push before n (AddCommand c) (queue_list q) h.queues_are ∙ append-nil (queue_list q);
+      queues_are =
+          queues_push before n (AddCommand c) (queue_list q) h.queues_are
+          ∙ append-nil (queue_list q);
       begun = some_push before n (AddCommand c) (λ t. is_submit t || is_host_step t)
           ∙ (or_nothing (has_begun before) ∙ (h.begun ∙ same_begun jobs));
       opened = subst (HasCommands (commands ++ c ∷ [])) (sym (open_push before n (AddCommand c)))
@@ -229,13 +259,16 @@ adds before n bs q jobs commands c h =
       job_count = omega arith;
       command_count = omega arith;
       jobs_are = λ more. jobs_push before n (AddCommand c) more
-          ∙ (h.jobs_are (record { number = n; statement = AddCommand c } ∷ more)
+          ∙ (h.jobs_are (a_line n (AddCommand c) ∷ more)
           ∙ ap (λ (js : List Job). map a_job jobs ++ js) (goes_on more));
-      unscheduled = some_push before n (AddCommand c) is_schedule ∙ (or_nothing (some is_schedule before) ∙ h.unscheduled);
+      unscheduled =
+          some_push before n (AddCommand c) is_schedule
+          ∙ (or_nothing (some is_schedule before) ∙ h.unscheduled);
       no_turns = turns_push before n (AddCommand c) h.no_turns;
     }
   where
-    same_begun : (js : List (List Command)) → has_jobs js (Some commands) ≡ has_jobs js (Some (commands ++ c ∷ []))
+    same_begun : (js : List (List Command)) → has_jobs js (Some commands)
+        ≡ has_jobs js (Some (commands ++ c ∷ []))
     same_begun [] = refl
     same_begun (cs ∷ js) = refl
 
@@ -255,7 +288,7 @@ adds before n bs q jobs commands c h =
         ∷ map job_without_lines (jobs_of more)
 
     goes_on : (more : List Line) →
-        continued (Some commands) (record { number = n; statement = AddCommand c } ∷ more)
+        continued (Some commands) (a_line n (AddCommand c) ∷ more)
         ≡ continued (Some (commands ++ c ∷ [])) more
     goes_on more =
         ap (λ (ls : List Line).
@@ -270,15 +303,17 @@ adds before n bs q jobs commands c h =
         }
         )
         ∷ map job_without_lines (jobs_of more))
-        (batch_lines_cons (record { number = n; statement = AddCommand c }) more)
+        (batch_lines_cons (a_line n (AddCommand c)) more)
         ∙ ap (batch_with more)
         (sym (append_assoc (map a_command commands) (a_command c ∷ [])
         (map command_without_line (filter_map command_of (batch_lines more))))
-        ∙ ap (λ (xs : List CommandLine). xs ++ map command_without_line (filter_map command_of (batch_lines more)))
+        ∙ ap (λ (xs : List CommandLine). xs ++ map command_without_line
+        (filter_map command_of (batch_lines more)))
         (sym (map-append a_command commands (c ∷ []))))
 
 -- a batch ends
-ends : (before : List Line) (n : ℕ) (bs : List Buffer) (q : Option (List ℕ)) (jobs : List (List Command))
+ends : (before : List Line) (n : ℕ) (bs : List Buffer) (q : Option (List ℕ))
+    (jobs : List (List Command))
     (commands : List Command) →
     Say before (parts bs q jobs (Some commands)) →
     Say (with_line before n EndBatch) (parts bs q (jobs ++ commands ∷ []) None)
@@ -296,7 +331,8 @@ ends before n bs q jobs commands h =
       version = version_push before n EndBatch refl h.version;
       buffers_are = buffers_push before n EndBatch bs h.buffers_are ∙ append-nil bs;
       no_semaphores = semaphores_push before n EndBatch h.no_semaphores;
-      queues_are = queues_push before n EndBatch (queue_list q) h.queues_are ∙ append-nil (queue_list q);
+      queues_are =
+          queues_push before n EndBatch (queue_list q) h.queues_are ∙ append-nil (queue_list q);
       begun = some_push before n EndBatch (λ t. is_submit t || is_host_step t)
           ∙ (or_nothing (has_begun before) ∙ (h.begun ∙ same_begun jobs));
       opened = subst (λ (ls : List Line). some (λ s. nat_lt 0 (part_of s)) ls ≡ false)
@@ -304,21 +340,25 @@ ends before n bs q jobs commands h =
       job_count = omega arith;
       command_count = omega arith;
       jobs_are = λ more. jobs_push before n EndBatch more
-          ∙ (h.jobs_are (record { number = n; statement = EndBatch } ∷ more)
+          ∙ (h.jobs_are (a_line n EndBatch ∷ more)
           ∙ (ap (λ (js : List Job). map a_job jobs ++ js) (closes more)
-          ∙ (sym (append_assoc (map a_job jobs) (a_job commands ∷ []) (map job_without_lines (jobs_of more)))
+          ∙ (sym (append_assoc (map a_job jobs) (a_job commands ∷ [])
+          (map job_without_lines (jobs_of more)))
           ∙ ap (λ (js : List Job). js ++ map job_without_lines (jobs_of more))
           (sym (map-append a_job jobs (commands ∷ []))))));
-      unscheduled = some_push before n EndBatch is_schedule ∙ (or_nothing (some is_schedule before) ∙ h.unscheduled);
+      unscheduled =
+          some_push before n EndBatch is_schedule
+          ∙ (or_nothing (some is_schedule before) ∙ h.unscheduled);
       no_turns = turns_push before n EndBatch h.no_turns;
     }
   where
-    same_begun : (js : List (List Command)) → has_jobs js (Some commands) ≡ has_jobs (js ++ commands ∷ []) None
+    same_begun : (js : List (List Command)) → has_jobs js (Some commands)
+        ≡ has_jobs (js ++ commands ∷ []) None
     same_begun [] = refl
     same_begun (cs ∷ js) = refl
 
     closes : (more : List Line) →
-        continued (Some commands) (record { number = n; statement = EndBatch } ∷ more)
+        continued (Some commands) (a_line n EndBatch ∷ more)
         ≡ a_job commands ∷ map job_without_lines (jobs_of more)
     closes more =
         ap (λ (ls : List Line).
@@ -333,9 +373,17 @@ ends before n bs q jobs commands h =
         }
         )
         ∷ map job_without_lines (jobs_of more))
-        (batch_lines_cons (record { number = n; statement = EndBatch }) more)
+        (batch_lines_cons (a_line n EndBatch) more)
         ∙ ap (λ (xs : List CommandLine).
-        BatchJob (record { line = 0; queue = 0; waits = []; commands = xs; signals = []; fence = None })
+        BatchJob (record {
+          line = 0;
+          queue = 0;
+          waits = [];
+          commands = xs;
+          signals = [];
+          fence =
+              None;
+        })
         ∷ map job_without_lines (jobs_of more)) (append-nil (map a_command commands))
 
 -- No lines say no parts.
@@ -361,33 +409,70 @@ pub say_more : (before : List Line) (n : ℕ) (p : Parts) (s : Statement) → Sa
     Say (with_line before n s) (after p s)
 say_more before n p (DeclareBuffer name size) h m =
     subst (λ (z : List (List Command) × Option (List Command)).
-    Say (with_line before n (DeclareBuffer name size)) (parts (p.buffers ++ a_buffer name size ∷ []) p.queue z.0 z.1))
+    Say (with_line before n (DeclareBuffer name size))
+    (parts (p.buffers ++ a_buffer name size ∷ []) p.queue z.0 z.1))
     (λ i. (sym m.first i, sym m.outside i))
-    (declared before n (DeclareBuffer name size) p.buffers (p.buffers ++ a_buffer name size ∷ []) p.queue p.queue
-    refl refl refl refl (append-nil (queue_list p.queue)) refl refl refl refl refl (λ more. refl) refl refl
-    (subst (λ (z : List (List Command) × Option (List Command)). Say before (parts p.buffers p.queue z.0 z.1))
+    (declared before n (DeclareBuffer name size) p.buffers (p.buffers ++ a_buffer name size ∷ [])
+    p.queue p.queue
+    (record {
+      stays = refl;
+      version = refl;
+      buffers_then = refl;
+      no_semaphore = refl;
+      queue_then = append-nil (queue_list p.queue);
+      begins_none = refl;
+      bounds_none = refl;
+      no_part = refl;
+      no_job = refl;
+      no_command = refl;
+      same_jobs = λ more. refl;
+      no_schedule = refl;
+      no_turn = refl;
+    })
+    (subst (λ (z : List (List Command) × Option (List Command)). Say before
+    (parts p.buffers p.queue z.0 z.1))
     (λ i. (m.first i, m.outside i)) h))
 say_more before n p (DeclareQueue name mode) h m =
     subst (λ (z : List (List Command) × Option (List Command)).
     Say (with_line before n (DeclareQueue name mode)) (parts p.buffers (Some name) z.0 z.1))
     (λ i. (sym m.first i, sym m.outside i))
     (declared before n (DeclareQueue name mode) p.buffers p.buffers None (Some name)
-    refl refl (append-nil p.buffers) refl (λ i. record { line = 0; name = name; mode = m.immediate i } ∷ [])
-    refl refl refl refl refl (λ more. refl) refl refl
-    (subst (λ (z : Option (List ℕ) × List (List Command) × Option (List Command)). Say before (parts p.buffers z.0 z.1 z.2))
+    (record {
+      stays = refl;
+      version = refl;
+      buffers_then = append-nil p.buffers;
+      no_semaphore = refl;
+      queue_then = λ i. record { line = 0; name = name; mode = m.immediate i } ∷ [];
+      begins_none = refl;
+      bounds_none = refl;
+      no_part = refl;
+      no_job = refl;
+      no_command = refl;
+      same_jobs = λ more. refl;
+      no_schedule = refl;
+      no_turn = refl;
+    })
+    (subst (λ (z : Option (List ℕ) × List (List Command) × Option (List Command)). Say before
+    (parts p.buffers z.0 z.1 z.2))
     (λ i. (m.only i, m.first i, m.outside i)) h))
 say_more before n p (BeginBatch q) h m =
-    subst (λ (k : ℕ). Say (with_line before n (BeginBatch k)) (parts p.buffers p.queue p.jobs (Some []))) (sym m.same)
+    subst (λ (k : ℕ). Say (with_line before n (BeginBatch k))
+    (parts p.buffers p.queue p.jobs (Some []))) (sym m.same)
     (begins before n p.buffers p.queue p.jobs
-    (subst (λ (b : Option (List Command)). Say before (parts p.buffers p.queue p.jobs b)) m.outside h))
+    (subst (λ (b : Option (List Command)). Say before (parts p.buffers p.queue p.jobs b)) m.outside
+    h))
 say_more before n p (AddCommand c) h m =
-    subst (λ (b : Option (List Command)). Say (with_line before n (AddCommand c)) (parts p.buffers p.queue p.jobs (with_command b c)))
+    subst (λ (b : Option (List Command)). Say (with_line before n (AddCommand c))
+    (parts p.buffers p.queue p.jobs (with_command b c)))
     (sym m.inside)
     (adds before n p.buffers p.queue p.jobs m.commands c
-    (subst (λ (b : Option (List Command)). Say before (parts p.buffers p.queue p.jobs b)) m.inside h))
+    (subst (λ (b : Option (List Command)). Say before (parts p.buffers p.queue p.jobs b)) m.inside
+    h))
 say_more before n p EndBatch h m =
-    subst (λ (b : Option (List Command)). Say (with_line before n EndBatch) (parts p.buffers p.queue (with_batch p.jobs b) None))
+    subst (λ (b : Option (List Command)). Say (with_line before n EndBatch)
+    (parts p.buffers p.queue (with_batch p.jobs b) None))
     (sym m.inside)
     (ends before n p.buffers p.queue p.jobs m.commands
-    (subst (λ (b : Option (List Command)). Say before (parts p.buffers p.queue p.jobs b)) m.inside h))
+    (subst (λ (b : Option (List Command)). Say before (parts p.buffers p.queue p.jobs b)) m.inside
+    h))
 say_more before n p s h m = absurd m

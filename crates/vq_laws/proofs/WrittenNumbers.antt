@@ -32,22 +32,27 @@ numeral_is : (base most : ℕ) (ds : List ℕ) (n : ℕ) → 0 < length ds → l
 numeral_is base most ds n some few all same small =
     let l : digits_value base ds < 2 ^ 64 = omega arith in
     let t : is_numeral_in base most ds ≡ true =
-    and_from (nat_lt 0 (length ds) && nat_le (length ds) most && list_all (λ b. nat_lt (digit_value b) base) ds)
+    and_from (nat_lt 0 (length ds) && nat_le (length ds) most && list_all
+    (λ b. nat_lt (digit_value b) base) ds)
     (nat_lt (digits_value base ds) (2 ^ 64))
-    (and_from (nat_lt 0 (length ds) && nat_le (length ds) most) (list_all (λ b. nat_lt (digit_value b) base) ds)
-    (and_from (nat_lt 0 (length ds)) (nat_le (length ds) most) (lt-ltb 0 (length ds) some) (le-leb (length ds) most few))
+    (and_from (nat_lt 0 (length ds) && nat_le (length ds) most)
+    (list_all (λ b. nat_lt (digit_value b) base) ds)
+    (and_from (nat_lt 0 (length ds)) (nat_le (length ds) most) (lt-ltb 0 (length ds) some)
+    (le-leb (length ds) most few))
     (digit_tests base ds all)) (lt-ltb (digits_value base ds) (2 ^ 64) l) in
     ap (λ (b : Bool). cond b (Some (digits_value base ds)) None) t ∙ ap (λ (k : ℕ). Some k) same
 
 -- what is read is small
-numeral_small : (base most : ℕ) (ds : List ℕ) (n : ℕ) → numeral_in base most ds ≡ Some n → n < 2 ^ 64
+numeral_small : (base most : ℕ) (ds : List ℕ) (n : ℕ) → numeral_in base most ds ≡ Some n →
+    n < 2 ^ 64
 numeral_small base most ds n h = by_test (is_numeral_in base most ds) refl h
   where
     by_test : (b : Bool) → is_numeral_in base most ds ≡ b →
         cond b (Some (digits_value base ds)) None ≡ Some n → n < 2 ^ 64
     by_test true e i =
         let l = ltb-true (digits_value base ds) (2 ^ 64)
-        (and_parts (nat_lt 0 (length ds) && nat_le (length ds) most && list_all (λ b. nat_lt (digit_value b) base) ds)
+        (and_parts (nat_lt 0 (length ds) && nat_le (length ds) most && list_all
+        (λ b. nat_lt (digit_value b) base) ds)
         (nat_lt (digits_value base ds) (2 ^ 64)) e).1 in
         let same : digits_value base ds ≡ n = cc in
         omega arith
@@ -57,7 +62,8 @@ numeral_small base most ds n h = by_test (is_numeral_in base most ds) refl h
 pub numeral_below : (word : List ℕ) (n : ℕ) → numeral word ≡ Some n → n < 2 ^ 64
 numeral_below word n h = by_test (is_marked_hex word) h
   where
-    by_test : (b : Bool) → cond b (numeral_in 16 16 (drop 2 word)) (numeral_in 10 20 word) ≡ Some n → n < 2 ^ 64
+    by_test : (b : Bool) → cond b (numeral_in 16 16 (drop 2 word)) (numeral_in 10 20 word)
+        ≡ Some n → n < 2 ^ 64
     by_test true i = numeral_small 16 16 (drop 2 word) n i
     by_test false i = numeral_small 10 20 word n i
 
@@ -65,7 +71,8 @@ numeral_below word n h = by_test (is_marked_hex word) h
 pub small_numeral_below : (word : List ℕ) (n : ℕ) → small_numeral word ≡ Some n → n < 2 ^ 32
 small_numeral_below word n h = by_number (numeral word) h
   where
-    by_number : (o : Option ℕ) → option_and_then (λ k. cond (nat_lt k (2 ^ 32)) (Some k) None) o ≡ Some n → n < 2 ^ 32
+    by_number : (o : Option ℕ) → option_and_then (λ k. cond (nat_lt k (2 ^ 32)) (Some k) None) o
+        ≡ Some n → n < 2 ^ 32
     by_number None i = absurd (cc)
     by_number (Some k) i = by_test (nat_lt k (2 ^ 32)) refl i
       where
@@ -81,7 +88,8 @@ digits_unmarked [] h = refl
 digits_unmarked (a ∷ []) h = refl
 digits_unmarked (a ∷ b ∷ ds) h =
     and_right (a == 48) (b == 120)
-    (differs b 120 (λ e. let l = h.1.0 in let m : digit_value b ≡ digit_value 120 = ap digit_value e in
+    (differs b 120 (λ e. let l = h.1.0 in
+    let m : digit_value b ≡ digit_value 120 = ap digit_value e in
     let k : digit_value 120 ≡ 33 = refl in omega arith))
 
 -- The decimal numeral of a number is read as this number.
@@ -90,7 +98,8 @@ decimal_back n small =
     let is = decimal_is_IsNumeral n small in
     ap (λ (b : Bool). cond b (numeral_in 16 16 (drop 2 (decimal n))) (numeral_in 10 20 (decimal n)))
     (digits_unmarked (decimal n) is.0.1)
-    ∙ numeral_is 10 20 (decimal n) n is.0.0 (length-decimal-le 20 n (omega arith) (omega arith) small) is.0.1 is.1 small
+    ∙ numeral_is 10 20 (decimal n) n is.0.0
+    (length-decimal-le 20 n (omega arith) (omega arith) small) is.0.1 is.1 small
 
 digit_is_word_byte : (b : ℕ) → digit_value b < 10 → is_word_byte b ≡ true
 digit_is_word_byte b h =
@@ -104,13 +113,15 @@ digit_is_word_byte b h =
 digits_are_word : (ds : List ℕ) → AllDigits 10 ds → list_all is_word_byte ds ≡ true
 digits_are_word [] h = refl
 digits_are_word (d ∷ ds) h =
-    and_from (is_word_byte d) (list_all is_word_byte ds) (digit_is_word_byte d h.0) (digits_are_word ds h.1)
+    and_from (is_word_byte d) (list_all is_word_byte ds) (digit_is_word_byte d h.0)
+    (digits_are_word ds h.1)
 
 -- It is a word ..
 pub decimal_word : (n : ℕ) → n < 2 ^ 64 → is_text_word (decimal n) ≡ true
 decimal_word n small =
     let is = decimal_is_IsNumeral n small in
-    and_from (nat_lt 0 (length (decimal n))) (list_all is_word_byte (decimal n)) (lt-ltb 0 (length (decimal n)) is.0.0)
+    and_from (nat_lt 0 (length (decimal n))) (list_all is_word_byte (decimal n))
+    (lt-ltb 0 (length (decimal n)) is.0.0)
     (digits_are_word (decimal n) is.0.1)
 
 -- .. and not the word for the whole size.
@@ -118,7 +129,8 @@ pub decimal_not_whole : (n : ℕ) → n < 2 ^ 64 → bytes_eq (decimal n) (codes
 decimal_not_whole n small =
     false_from_ne_true (bytes_eq (decimal n) (codes "whole"))
     (λ e. let same = (bytes_eq-Decides (decimal n) (codes "whole")).0 e in
-    let all : AllDigits 10 (codes "whole") = subst (AllDigits 10) same (decimal_is_IsNumeral n small).0.1 in
+    let all : AllDigits 10 (codes "whole") =
+    subst (AllDigits 10) same (decimal_is_IsNumeral n small).0.1 in
     let l : digit_value 119 < 10 = all.0 in
     let k : digit_value 119 ≡ 32 = refl in
     omega arith)
@@ -131,7 +143,8 @@ hex_char_is_word_byte d h = by_test (nat_lt d 10) refl
     byte : (b : ℕ) → 48 ≤ b → b ≤ 102 → is_word_byte b ≡ true
     byte b l m =
         and_from (nat_le 33 b && nat_le b 126) (not (b == 35))
-        (and_from (nat_le 33 b) (nat_le b 126) (le-leb 33 b (omega arith)) (le-leb b 126 (omega arith)))
+        (and_from (nat_le 33 b) (nat_le b 126) (le-leb 33 b (omega arith))
+        (le-leb b 126 (omega arith)))
         (ap not (differs b 35 (λ e. omega arith)))
 
     by_test : (t : Bool) → nat_lt d 10 ≡ t → is_word_byte (cond t (48 + d) (87 + d)) ≡ true
@@ -139,8 +152,10 @@ hex_char_is_word_byte d h = by_test (nat_lt d 10) refl
     by_test false e = byte (87 + d) (omega arith) (omega arith)
 
 -- the value of eight digits
-eight_value : (a b c d e f g h : ℕ) → a < 16 → b < 16 → c < 16 → d < 16 → e < 16 → f < 16 → g < 16 → h < 16 →
-    digits_value 16 (digit_char a ∷ digit_char b ∷ digit_char c ∷ digit_char d ∷ digit_char e ∷ digit_char f ∷ digit_char g ∷ digit_char h ∷ [])
+eight_value : (a b c d e f g h : ℕ) → a < 16 → b < 16 → c < 16 → d < 16 → e < 16 → f < 16 → g < 16 →
+    h < 16 →
+    digits_value 16 (digit_char a ∷ digit_char b ∷ digit_char c ∷ digit_char d ∷ digit_char e
+    ∷ digit_char f ∷ digit_char g ∷ digit_char h ∷ [])
     ≡ ((((((a * 16 + b) * 16 + c) * 16 + d) * 16 + e) * 16 + f) * 16 + g) * 16 + h
 eight_value a b c d e f g h la lb lc ld le lf lg lh =
     let va = digit_value-digit_char a (omega arith) in
@@ -187,16 +202,20 @@ module _ (w : ℕ) (small : w < 2 ^ 32) where
       eight_value (w / 16 / 16 / 16 / 16 / 16 / 16 / 16 % 16) (w / 16 / 16 / 16 / 16 / 16 / 16 % 16)
       (w / 16 / 16 / 16 / 16 / 16 % 16) (w / 16 / 16 / 16 / 16 % 16) (w / 16 / 16 / 16 % 16)
       (w / 16 / 16 % 16) (w / 16 % 16) (w % 16)
-      (omega arith) (omega arith) (omega arith) (omega arith) (omega arith) (omega arith) (omega arith) (omega arith)
+      (omega arith) (omega arith) (omega arith) (omega arith) (omega arith) (omega arith)
+      (omega arith) (omega arith)
       ∙ omega arith
 
   fill_numeral : numeral (fill_word w) ≡ Some w
-  fill_numeral = numeral_is 16 16 (hex_digits 8 w) w (omega arith) (omega arith) hex_all hex_value (omega arith)
+  fill_numeral =
+      numeral_is 16 16 (hex_digits 8 w) w (omega arith) (omega arith) hex_all hex_value
+      (omega arith)
 
   -- The word of a fill is read as this number.
   pub fill_word_back : small_numeral (fill_word w) ≡ Some w
   fill_word_back =
-      ap (λ (o : Option ℕ). option_and_then (λ n. cond (nat_lt n (2 ^ 32)) (Some n) None) o) fill_numeral
+      ap (λ (o : Option ℕ). option_and_then (λ n. cond (nat_lt n (2 ^ 32)) (Some n) None) o)
+      fill_numeral
       ∙ ap (λ (b : Bool). cond b (Some w) None) (lt-ltb w (2 ^ 32) small)
 
   -- It is a word.

@@ -95,8 +95,10 @@ split_part {X} p (x ∷ part) rest c h e =
     let parts = and_parts (not (p x)) (list_all (λ y. not (p y)) part) h in
     by_test (p x) parts.0 (split_part p part rest c parts.1 e)
   where
-    by_test : (b : Bool) → not b ≡ true → slice_split p (part ++ c ∷ rest) ≡ part ∷ slice_split p rest →
-        cond b ([] ∷ slice_split p (part ++ c ∷ rest)) (onto_first x (slice_split p (part ++ c ∷ rest)))
+    by_test : (b : Bool) → not b ≡ true → slice_split p (part ++ c ∷ rest)
+        ≡ part ∷ slice_split p rest →
+        cond b ([] ∷ slice_split p (part ++ c ∷ rest))
+        (onto_first x (slice_split p (part ++ c ∷ rest)))
         ≡ (x ∷ part) ∷ slice_split p rest
     by_test true n i = absurd (false≢true n)
     by_test false n i = ap (onto_first x) i
@@ -201,7 +203,8 @@ words_back words h =
 no_return : (bs : List ℕ) (i : ℕ) → list_all (λ b. not (b == 13)) bs ≡ true →
     (slice_index bs i == 13) ≡ false
 no_return [] i h = refl
-no_return (b ∷ bs) zero h = not_true (b == 13) (and_parts (not (b == 13)) (list_all (λ x. not (x == 13)) bs) h).0
+no_return (b ∷ bs) zero h =
+    not_true (b == 13) (and_parts (not (b == 13)) (list_all (λ x. not (x == 13)) bs) h).0
   where
     not_true : (x : Bool) → not x ≡ true → x ≡ false
     not_true true e = absurd (false≢true e)
@@ -212,7 +215,8 @@ no_return (b ∷ bs) (suc i) h =
 return_kept : (bs : List ℕ) → list_all is_line_byte bs ≡ true → strip_carriage_return bs ≡ bs
 return_kept bs h =
     ap (λ (b : Bool). cond b (take (length bs - 1) bs) bs)
-    (no_return bs (length bs - 1) (all_weaker is_line_byte (λ b. not (b == 13)) line_to_not_return bs h))
+    (no_return bs (length bs - 1) (all_weaker is_line_byte (λ b. not (b == 13)) line_to_not_return
+    bs h))
 
 -- the part after the last line feed is empty and no line
 empty_end : (lines : List (List ℕ)) → without_empty_end (lines ++ [] ∷ []) ≡ lines
@@ -237,12 +241,14 @@ returns_kept : (lines : List (List (List ℕ))) → list_all are_text_words line
 returns_kept [] h = refl
 returns_kept (words ∷ lines) h =
     let parts = and_parts (are_text_words words) (list_all are_text_words lines) h in
-    λ i. return_kept (join_with_byte 32 words) (join_bytes words parts.0) i ∷ returns_kept lines parts.1 i
+    λ i. return_kept (join_with_byte 32 words) (join_bytes words parts.0) i ∷ returns_kept lines
+    parts.1 i
 
 -- The lines of a text that is written line by line are these lines.
 pub lines_back : (lines : List (List (List ℕ))) → list_all are_text_words lines ≡ true →
     lines_of (flat_map line_text lines) ≡ map (join_with_byte 32) lines
 lines_back lines h =
-    ap (λ (ls : List (List ℕ)). map strip_carriage_return (without_empty_end ls)) (split_lines lines h)
+    ap (λ (ls : List (List ℕ)). map strip_carriage_return (without_empty_end ls))
+    (split_lines lines h)
     ∙ (ap (map strip_carriage_return) (empty_end (map (join_with_byte 32) lines))
     ∙ returns_kept lines h)
