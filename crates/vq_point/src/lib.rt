@@ -1,0 +1,96 @@
+//! The word of a point: 64 bits that say which operation the point carries, how many references it has,
+//! whether its binary sync is signaled and whether it is held.
+#![tactic(auto)]
+
+ghost use Rattle.std.specs.Prelude.{◌≡◌, ◌≢◌, ◌↔◌, ◌⊎◌, ◌*◌, ◌/◌, ◌%◌, ◌^◌, ◌<◌, ◌≤◌, ◌==◌, Some, IsNone, IfSome, false};
+ghost use Rattle.vq_point.specs.Word.{bits_of, parts_of};
+
+// The layout: bits 0 to 31 are the operation, and the other parts begin at these bits.
+const REFS: u32 = 32;
+
+const SIGNALED: u32 = 48;
+
+const HELD: u32 = 49;
+// No bit is set from here on.
+const END: u32 = 50;
+
+/// What the word of a point says: the operation that it carries, how many references to it there are,
+/// whether its binary sync is signaled, and whether the point is held. This project's own.
+#[derive(Clone, Copy, PartialEq, Eq, Debug)]
+pub struct PointWord {
+    pub op: u32,
+    pub refs: u16,
+    pub signaled: bool,
+    pub held: bool,
+}
+
+impl PointWord {
+    /// The word in 64 bits: 0 to 31 are the operation, 32 to 47 the references, 48 whether it is
+    /// signaled, 49 whether it is held, and the rest are 0. A word that isn't held says nothing else.
+    pub fn pack(self) -> u64
+        requires { self.held ≡ false → (self.op ≡ 0) × (self.refs ≡ 0) × (self.signaled ≡ false) }
+
+        ensures layout { result ≡ bits_of self }
+        ensures undone { parts_of result ≡ Some self }
+    {
+        u64::from(self.op)
+            | u64::from(self.refs) << REFS
+            | u64::from(self.signaled) << SIGNALED
+            | u64::from(self.held) << HELD
+    }
+}
+
+/// The parts of a point's word. It is `None` exactly where a bit of 50 to 63 is set, or where bit 49 is
+/// clear and the word isn't 0: such bits are no point's word.
+pub fn unpack(word: u64) -> Option<PointWord>
+    ensures parts { result ≡ parts_of word }
+    ensures undone { IfSome result (λ w. bits_of w ≡ word) }
+    ensures refused { IsNone result ↔ ((2 ^ 50 ≤ word) ⊎ ((word / 2 ^ 49 % 2 ≡ 0) × (word ≢ 0))) }
+{
+    let held = is_set(word, HELD);
+    if word >> END != 0 || (!held && word != 0) {
+        return None;
+    }
+    Some(PointWord {
+        op: (word & u64::from(u32::MAX)) as u32,
+        refs: (word >> REFS & u64::from(u16::MAX)) as u16,
+        signaled: is_set(word, SIGNALED),
+        held,
+    })
+}
+
+// Whether a bit of a word is set.
+fn is_set(word: u64, bit: u32) -> bool
+    requires { bit < 64 }
+    ensures { result ≡ (word / 2 ^ bit % 2 == 1) }
+{
+    word >> bit & 1 == 1
+}
+
+#[cfg(test)]
+mod tests {
+    use super::*;
+
+    #[test]
+    fn words_of_points(rt: HostRuntime) {
+        for (word, parts) in [
+            (0, Some((0, 0, false, false))),
+            (844_429_225_099_264, Some((0, 1, true, true))),
+            (562_949_953_421_314, Some((2, 0, false, true))),
+            (5, None),
+            (1 << 50, None),
+            (1 << 49 | 1 << 63, None),
+        ] {
+            let want = parts.map(|(op, refs, signaled, held)| PointWord {
+                op,
+                refs,
+                signaled,
+                held,
+            });
+            assert_eq!(rt; unpack(word), want, "of {word}");
+            if let Some(parts) = unpack(word) {
+                assert_eq!(rt; parts.pack(), word);
+            }
+        }
+    }
+}
