@@ -18,13 +18,13 @@ use Rattle.vq_laws.specs.declared.script.Command.{Command}
 use Rattle.vq_laws.specs.Text.{lines_of}
 use Rattle.vq_laws.specs.LineFaults.{ends_early}
 use Rattle.vq_laws.specs.ScriptOfLines.{script_of}
-use Rattle.vq_laws.specs.Reading.{with_line, read_statement, read_lines, go_on, StandsFor}
+use Rattle.vq_laws.specs.Reading.{with_line, read_statement, read_lines, go_on, read_script, StandsFor}
 use Rattle.vq_laws.specs.SameScript.{SameButLines, IsScript, without_lines}
 use Rattle.vq_laws.specs.Canonical.{canonical_text, canonical_lines, line_text, form_of_script, buffer_words, queue_words, job_words, command_words, queue_name}
 use Rattle.vq_laws.proofs.CanonicalLaws.{lines_same}
 use Rattle.vq_laws.proofs.WrittenTexts.{are_text_words, words_back, lines_back}
 use Rattle.vq_laws.proofs.PartsSaid.{say_nothing, say_more}
-use Rattle.vq_laws.proofs.OrderedParts.{run, AllMay, Leads, leads_on, buffer_statements, queue_statements, job_statements, batch_statements, IsOrdered, text_has_parts, said_script}
+use Rattle.vq_laws.proofs.OrderedParts.{run, AllMay, Leads, leads_on, buffer_statements, queue_statements, job_statements, batch_statements, IsOrdered, HasParts, text_has_parts, said_script}
 use Rattle.vq_laws.proofs.NamedParts.{AreNamed, nothing_named, named_more}
 use Rattle.vq_laws.proofs.WrittenLines.{words_at, line_reads}
 use Rattle.vq_laws.proofs.ScriptParts.{Parts, parts, a_command, a_job, queue_list, after, Say, script_of_parts, no_parts, part_of_batch}
@@ -111,17 +111,22 @@ queue_along p (Some name) = refl
 
 module _ (bs : List Buffer) (q : Option (List ℕ)) (said : List (List Command))
     (batch : Option (List Command)) where
+  -- the script whose lines are written
+  abbrev whole : Script
+  whole = script_of_parts (parts bs q said batch)
+
+  -- the lines of commands
+  abbrev command_lines : List Command → List (List (List ℕ))
+  command_lines commands = map (λ c. command_words whole c.command) (map a_command commands)
+
   -- the rest of a batch
   commands_along : (jobs : List (List Command)) (before commands : List Command) →
       words_along (parts bs q jobs (Some before))
       (map (λ c. AddCommand c) commands ++ EndBatch ∷ [])
-      ≡ map (λ c. command_words (script_of_parts (parts bs q said batch)) c.command)
-      (map a_command commands)
-      ++ (codes "end" ∷ []) ∷ []
+      ≡ command_lines commands ++ (codes "end" ∷ []) ∷ []
   commands_along jobs before [] = refl
   commands_along jobs before (c ∷ commands) =
-      ap (λ (ws : List (List (List ℕ))). command_words (script_of_parts (parts bs q said batch)) c
-      ∷ ws)
+      ap (λ (ws : List (List (List ℕ))). command_words whole c ∷ ws)
       (commands_along jobs (before ++ c ∷ []) commands)
 
   -- it leads out of the batch
@@ -133,25 +138,17 @@ module _ (bs : List Buffer) (q : Option (List ℕ)) (said : List (List Command))
 
   -- the lines of a batch that only has commands
   plain_job_words : (commands : List Command) →
-      (codes "submit" ∷ queue_name (script_of_parts (parts bs q said batch)) 0 ∷ [])
-      ∷ (map (λ c. command_words (script_of_parts (parts bs q said batch)) c.command)
-      (map a_command commands)
-      ++ (codes "end" ∷ []) ∷ [])
-      ≡ job_words (script_of_parts (parts bs q said batch)) (a_job commands)
+      (codes "submit" ∷ queue_name whole 0 ∷ [])
+      ∷ (command_lines commands ++ (codes "end" ∷ []) ∷ [])
+      ≡ job_words whole (a_job commands)
   plain_job_words commands =
       ap (λ (ws : List (List (List ℕ))).
-      (codes "submit" ∷ queue_name (script_of_parts (parts bs q said batch)) 0 ∷ [])
-      ∷ (ws ++ (codes "end" ∷ []) ∷ []))
-      (sym (append-nil (written ++ []) ∙ append-nil written))
-    where
-      written : List (List (List ℕ))
-      written =
-          map (λ c. command_words (script_of_parts (parts bs q said batch)) c.command)
-          (map a_command commands)
+      (codes "submit" ∷ queue_name whole 0 ∷ []) ∷ (ws ++ (codes "end" ∷ []) ∷ []))
+      (sym (append-nil (command_lines commands ++ []) ∙ append-nil (command_lines commands)))
 
   jobs_along : (before jobs : List (List Command)) →
       words_along (parts bs q before None) (flat_map job_statements jobs)
-      ≡ flat_map (job_words (script_of_parts (parts bs q said batch))) (map a_job jobs)
+      ≡ flat_map (job_words whole) (map a_job jobs)
   jobs_along before [] = refl
   jobs_along before (commands ∷ jobs) =
       let out = commands_run before [] commands in
@@ -238,17 +235,45 @@ parts_read_back p o none =
       said_script r.all p (subst (Say r.all) leads.ends r.say) none,
     )
 
+-- the parts of a script that can be written
+written_parts : (s : Script) → IsScript s → HasParts s
+written_parts s i =
+    let has = text_has_parts i.text i.form i.written i.stands in
+    record {
+      said = has.said;
+      ordered = has.ordered;
+      closed = has.closed;
+      same = sym i.same ∙ has.same;
+    }
+
+-- it is read without a schedule
+written_form : (s : Script) → IsScript s → Plain ≡ form_of_script s
+written_form s i = ap (λ (x : Script). form_of_script x) (sym (written_parts s i).same)
+
 -- The canonical text of a script that can be written stands for it, up to line numbers.
 pub canonical_reads_back : (s : Script) → IsScript s → ReadsBack s
 canonical_reads_back s i =
-    let has = text_has_parts i.text i.form i.written i.stands in
-    let same : without_lines s ≡ script_of_parts has.said = sym i.same ∙ has.same in
+    let has = written_parts s i in
     let back = parts_read_back has.said has.ordered has.closed in
     let text : canonical_text (script_of_parts has.said) ≡ canonical_text s =
-    ap canonical_text (sym same) ∙ ap (flat_map line_text) (lines_same s) in
-    let form : Plain ≡ form_of_script s =
-    ap (λ (x : Script). form_of_script x) (sym same) in (
+    ap canonical_text (sym has.same) ∙ ap (flat_map line_text) (lines_same s) in (
       back.0,
-      subst (λ (z : List ℕ × Form). StandsFor z.0 z.1 back.0) (λ k. (text k, form k)) back.1,
-      back.2 ∙ sym same,
+      subst (λ (z : List ℕ × Form). StandsFor z.0 z.1 back.0)
+          (λ k. (text k, written_form s i k)) back.1,
+      back.2 ∙ sym has.same,
     )
+
+-- Scripts that can be written and have the same canonical text are the same up to line numbers.
+pub canonical_tells_apart : (a b : Script) → IsScript a → IsScript b →
+    canonical_text a ≡ canonical_text b → SameButLines a b
+canonical_tells_apart a b i j e =
+    let of_a = canonical_reads_back a i in
+    let of_b = canonical_reads_back b j in
+    let form : form_of_script a ≡ form_of_script b = sym (written_form a i) ∙ written_form b j in
+    let read : of_a.0 ≡ of_b.0 =
+    same_script of_a.0 of_b.0
+    (sym of_a.1 ∙ ((λ k. read_script (e k) (form k)) ∙ of_b.1)) in
+    sym of_a.2 ∙ (ap without_lines read ∙ of_b.2)
+  where
+    same_script : (x y : Script) → ◌≡◌ {A = Result Script (ℕ × FaultKind)} (Ok x) (Ok y) → x ≡ y
+    same_script x y h = cc
