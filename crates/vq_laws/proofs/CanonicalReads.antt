@@ -91,12 +91,14 @@ statements_read before n p (s ∷ statements) h named all closed =
 
 -- The canonical lines
 
+-- statements after others
 words_append : (p : Parts) (first second : List Statement) → words_along p (first ++ second)
     ≡ words_along p first ++ words_along (run p first) second
 words_append p [] second = refl
 words_append p (s ∷ first) second =
     ap (λ (ws : List (List (List ℕ))). words_at p s ∷ ws) (words_append (after p s) first second)
 
+-- buffers
 buffers_along : (p : Parts) (bs : List Buffer) → words_along p (buffer_statements bs)
     ≡ map buffer_words bs
 buffers_along p [] = refl
@@ -104,6 +106,7 @@ buffers_along p (b ∷ bs) =
     ap (λ (ws : List (List (List ℕ))). buffer_words b ∷ ws)
     (buffers_along (after p (DeclareBuffer b.name b.size)) bs)
 
+-- the queue
 queue_along : (p : Parts) (q : Option (List ℕ)) → words_along p (queue_statements q)
     ≡ map queue_words (queue_list q)
 queue_along p None = refl
@@ -146,6 +149,7 @@ module _ (bs : List Buffer) (q : Option (List ℕ)) (said : List (List Command))
       (codes "submit" ∷ queue_name whole 0 ∷ []) ∷ (ws ++ (codes "end" ∷ []) ∷ []))
       (sym (append-nil (command_lines commands ++ []) ∙ append-nil (command_lines commands)))
 
+  -- batches
   jobs_along : (before jobs : List (List Command)) →
       words_along (parts bs q before None) (flat_map job_statements jobs)
       ≡ flat_map (job_words whole) (map a_job jobs)
@@ -165,6 +169,7 @@ statements_of p =
     (buffer_statements p.buffers ++ queue_statements p.queue) ++ batch_statements p.jobs p.batch
 
 module _ (p : Parts) (o : IsOrdered p) where
+  -- the declarations lead to parts without batches ..
   declarations_lead : Leads no_parts (buffer_statements p.buffers ++ queue_statements p.queue)
       (parts p.buffers p.queue [] None)
   declarations_lead =
@@ -172,12 +177,14 @@ module _ (p : Parts) (o : IsOrdered p) where
       (buffer_statements p.buffers)
       (queue_statements p.queue) o.buffers_first o.queue_next
 
+  -- .. and the batches
   ordered_leads : Leads no_parts (statements_of p) p
   ordered_leads =
       leads_on no_parts (parts p.buffers p.queue [] None) p
       (buffer_statements p.buffers ++ queue_statements p.queue) (batch_statements p.jobs p.batch)
       declarations_lead o.batches_last
 
+  -- the words of declarations
   declarations_along : words_along no_parts
       (buffer_statements p.buffers ++ queue_statements p.queue)
       ≡ (map buffer_words p.buffers ++ []) ++ map queue_words (queue_list p.queue)
@@ -186,6 +193,7 @@ module _ (p : Parts) (o : IsOrdered p) where
       ∙ (λ i. (buffers_along no_parts p.buffers ∙ sym (append-nil (map buffer_words p.buffers))) i
       ++ queue_along (run no_parts (buffer_statements p.buffers)) p.queue i)
 
+  -- the words of batches
   batches_along : p.batch ≡ None →
       words_along (run no_parts (buffer_statements p.buffers ++ queue_statements p.queue))
       (batch_statements p.jobs p.batch)
@@ -212,6 +220,7 @@ abbrev ReadsBack : Script → Type 0
 ReadsBack s =
     (read : Script) × StandsFor (canonical_text s) (form_of_script s) read × SameButLines read s
 
+-- the script of what was read
 abbrev of_lines : Result (List Line) (ℕ × FaultKind) → Result Script (ℕ × FaultKind)
 of_lines (Ok lines) = Ok (script_of lines)
 of_lines (Err fault) = Err fault

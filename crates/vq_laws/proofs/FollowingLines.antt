@@ -41,6 +41,7 @@ any_same : {A : Type 0} (p : A → Bool) (g : A → A) → ((x : A) → p (g x) 
 any_same p g h [] = refl
 any_same p g h (x ∷ xs) = λ i. h x i || any_same p g h xs i
 
+-- .. finds the same place ..
 position_or_len_same : {A : Type 0} (p : A → Bool) (g : A → A) → ((x : A) → p (g x) ≡ p x) →
     (xs : List A) →
     position_or_len p (map g xs) ≡ position_or_len p xs
@@ -48,6 +49,7 @@ position_or_len_same p g h [] = refl
 position_or_len_same p g h (x ∷ xs) =
     λ i. cond (not (h x i)) (1 + position_or_len_same p g h xs i) 0
 
+-- .. if it finds one
 position_same : {A : Type 0} (p : A → Bool) (g : A → A) → ((x : A) → p (g x) ≡ p x) →
     (xs : List A) →
     position p (map g xs) ≡ position p xs
@@ -55,19 +57,23 @@ position_same p g h xs = λ i.
     cond (nat_lt (position_or_len_same p g h xs i) (length-map xs g i))
     (Some (position_or_len_same p g h xs i)) None
 
+-- sizes don't read lines
 sizes_same : (bs : List Buffer) → sizes_in (map buffer_without_line bs) ≡ sizes_in bs
 sizes_same [] = refl
 sizes_same (b ∷ bs) = ap (λ (ns : List ℕ). b.size ∷ ns) (sizes_same bs)
 
 module _ (before : List Line) (p : Parts) (h : Say before p) where
+  -- the size of a buffer
   pub size_said : (b : ℕ) → size_of before b ≡ size_in p.buffers b
   size_said b =
       sym (item_same (λ x. x.size) buffer_without_line 0 (λ x. refl) (buffers before) b)
       ∙ ap (λ (bs : List Buffer). size_in bs b) h.buffers_are
 
+  -- the sizes of buffers
   pub sizes_said : sizes_in (buffers before) ≡ sizes_in p.buffers
   sizes_said = sym (sizes_same (buffers before)) ∙ ap sizes_in h.buffers_are
 
+  -- how many buffers and queues there are
   pub buffer_count_said : length (buffers before) ≡ length p.buffers
   buffer_count_said =
       sym (length-map (buffers before) buffer_without_line) ∙ ap length h.buffers_are
@@ -75,6 +81,7 @@ module _ (before : List Line) (p : Parts) (h : Say before p) where
   pub queue_count_said : length (queues before) ≡ length (queue_list p.queue)
   queue_count_said = sym (length-map (queues before) queue_without_line) ∙ ap length h.queues_are
 
+  -- look-ups by name
   pub buffer_at_said : (name : List ℕ) → buffer_at before name
       ≡ position (λ b. bytes_eq name b.name) p.buffers
   buffer_at_said name =
@@ -88,6 +95,7 @@ module _ (before : List Line) (p : Parts) (h : Say before p) where
       sym (position_same (λ q. bytes_eq name q.name) queue_without_line (λ x. refl) (queues before))
       ∙ ap (position (λ q. bytes_eq name q.name)) h.queues_are
 
+  -- whether a name is declared
   pub declared_said : (name : List ℕ) → is_declared before name ≡ is_named p.buffers p.queue name
   declared_said name = λ i.
       (sym (any_same (λ b. bytes_eq name b.name) buffer_without_line (λ x. refl) (buffers before))
@@ -96,6 +104,7 @@ module _ (before : List Line) (p : Parts) (h : Say before p) where
       || (sym (any_same (λ q. bytes_eq name q.name) queue_without_line (λ x. refl) (queues before))
       ∙ ap (list_any (λ q. bytes_eq name q.name)) h.queues_are) i
 
+  -- whether a fill is in range
   pub within_said : (b offset size : ℕ) →
       (is_within before b offset size && is_aligned offset && is_aligned size)
       ≡ is_fill_in_range p.buffers b offset size
@@ -106,24 +115,29 @@ module _ (before : List Line) (p : Parts) (h : Say before p) where
 
 -- Parts of the text
 
+-- outside a batch none is open
 outside_batch : (b : Option (List Command)) → Outside ≡ part_of_batch b → b ≡ None
 outside_batch None e = refl
 outside_batch (Some commands) e = absurd (cc)
 
+-- inside a batch one is open
 inside_batch : (b : Option (List Command)) → InBatch ≡ part_of_batch b →
     (cs : List Command) × (b ≡ Some cs)
 inside_batch None e = absurd (cc)
 inside_batch (Some commands) e = (commands, refl)
 
+-- no batch has begun
 no_jobs : (jobs : List (List Command)) (b : Option (List Command)) → has_jobs jobs b ≡ false →
     jobs ≡ []
 no_jobs [] b e = refl
 no_jobs (cs ∷ jobs) b e = absurd (false≢true (sym e))
 
+-- no queue is declared
 no_queue : (q : Option (List ℕ)) → length (queue_list q) ≡ 0 → q ≡ None
 no_queue None e = refl
 no_queue (Some name) e = absurd (omega arith)
 
+-- the one queue
 some_queue : (q : Option (List ℕ)) (k : ℕ) → k < length (queue_list q) →
     (k ≡ 0) × ((name : List ℕ) × (q ≡ Some name))
 some_queue None k l = absurd (omega arith)
@@ -139,6 +153,7 @@ same_statement a b e = cc
 -- What a line may say
 
 module _ (form : Form) (before : List Line) (p : Parts) (h : Say before p) where
+  -- a buffer
   buffer_may : (a name size : List ℕ) (s : Statement) → Outside ≡ part_of_batch p.batch →
       PassesTests form before (a ∷ name ∷ size ∷ []) BufferLine s → May p s
   buffer_may a name size s e t = by_size (numeral size) t.said
@@ -177,6 +192,7 @@ module _ (form : Form) (before : List Line) (p : Parts) (h : Say before p) where
             bytes = omega arith;
           })
 
+  -- a queue
   queue_may : (a name c : List ℕ) (s : Statement) → Outside ≡ part_of_batch p.batch →
       (length (queues before) == 0) ≡ true →
       PassesTests form before (a ∷ name ∷ c ∷ []) (QueueLine Immediate) s → May p s
@@ -204,6 +220,7 @@ module _ (form : Form) (before : List Line) (p : Parts) (h : Say before p) where
             (and_parts (not (is_declared before name)) true t.fresh).0);
       })
 
+  -- the start of a batch
   submit_may : (a queue : List ℕ) (s : Statement) → Outside ≡ part_of_batch p.batch →
       PassesTests form before (a ∷ queue ∷ []) SubmitLine s → May p s
   submit_may a queue s e t = by_queue (queue_at before queue) refl t.said
@@ -226,6 +243,7 @@ module _ (form : Form) (before : List Line) (p : Parts) (h : Say before p) where
           subst (May p) same
           (record { outside = none; same = one.0; name = one.1.0; is = one.1.1; few = omega arith })
 
+  -- a fill
   fill_may : (a buffer offset size word : List ℕ) (s : Statement) →
       InBatch ≡ part_of_batch p.batch →
       PassesTests form before (a ∷ buffer ∷ offset ∷ size ∷ word ∷ []) FillLine s → May p s
@@ -276,6 +294,7 @@ module _ (form : Form) (before : List Line) (p : Parts) (h : Say before p) where
             total = omega arith;
           })
 
+  -- the end of a batch
   end_may : (a : List ℕ) (s : Statement) → InBatch ≡ part_of_batch p.batch →
       PassesTests form before (a ∷ []) EndLine s → May p s
   end_may a s e t =
@@ -283,6 +302,7 @@ module _ (form : Form) (before : List Line) (p : Parts) (h : Say before p) where
       let inside = inside_batch p.batch e in
       subst (May p) same (record { commands = inside.0; inside = inside.1 })
 
+  -- by the part of the text and the form
   line_may : (was : Section) (f : LineForm) (words : List (List ℕ)) (s : Statement) →
       was ≡ part_of_batch p.batch → belongs was f ≡ true → is_built before f ≡ true →
       matches words f ≡ true → PassesTests form before words f s → May p s

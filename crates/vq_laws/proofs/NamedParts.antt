@@ -15,6 +15,7 @@ use Rattle.vq_laws.proofs.ScriptParts.{Parts, a_buffer, queue_list, after, May, 
 
 -- Names are words
 
+-- a byte of a name is a byte of a word
 name_byte : (b : ℕ) → (is_letter b || is_digit b) ≡ true → is_word_byte b ≡ true
 name_byte b h =
     elim (or_cases (is_letter b) (is_digit b) h) [
@@ -81,6 +82,7 @@ position_found {A} test xs y k h = by_test (nat_lt (position_or_len test xs) (le
         ∙ ap (λ (j : ℕ). Some j) (here ∙ same)
     by_test false e i = absurd (cc)
 
+-- where none passes, the place is the end
 none_passes : {A : Type 0} (test : A → Bool) (xs : List A) → list_any test xs ≡ false →
     position_or_len test xs ≡ length xs
 none_passes test [] h = refl
@@ -114,6 +116,7 @@ get_push (z ∷ xs) y zero x h = inl h
 get_push (z ∷ xs) y (suc k) x h =
     elim (get_push xs y k x h) [ inl e ↦ inl e | inr e ↦ let f = e.0 in inr (omega arith, e.1) ]
 
+-- a name is the same as itself
 pub same_bytes : (name : List ℕ) → bytes_eq name name ≡ true
 same_bytes name = (bytes_eq-Decides name name).1 refl
 
@@ -125,6 +128,7 @@ pub record AreNamed (p : Parts) : Type 0 where
       (is_name b.name ≡ true) × (position (λ x. bytes_eq b.name x.name) p.buffers ≡ Some k)
   pub queue_names : (name : List ℕ) → p.queue ≡ Some name → is_name name ≡ true
 
+-- no parts
 pub nothing_named : AreNamed no_parts
 nothing_named =
     record {

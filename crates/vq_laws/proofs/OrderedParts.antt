@@ -50,6 +50,7 @@ pub record Leads (p : Parts) (statements : List Statement) (q : Parts) : Type 0 
   pub all : AllMay p statements
   pub ends : run p statements ≡ q
 
+-- one chain after another
 pub leads_on : (p q r : Parts) (first second : List Statement) → Leads p first q →
     Leads q second r →
     Leads p (first ++ second) r
@@ -59,6 +60,7 @@ leads_on p q r (s ∷ first) second l m =
     leads_on (after p s) q r first second (record { all = l.all.1; ends = l.ends }) m in
     record { all = (l.all.0, rest.all); ends = rest.ends }
 
+-- one statement more
 leads_push : (p q : Parts) (statements : List Statement) (s : Statement) → Leads p statements q →
     May q s →
     Leads p (statements ++ s ∷ []) (after q s)
@@ -67,6 +69,7 @@ leads_push p q statements s l m =
 
 -- The canonical order
 
+-- the statements of buffers, of the queue, of a batch, of the open batch, of all batches
 abbrev pub buffer_statements : List Buffer → List Statement
 buffer_statements bs = map (λ b. DeclareBuffer b.name b.size) bs
 
@@ -91,6 +94,7 @@ pub record IsOrdered (p : Parts) : Type 0 where
       (parts p.buffers p.queue [] None)
   pub batches_last : Leads (parts p.buffers p.queue [] None) (batch_statements p.jobs p.batch) p
 
+-- names differ both ways
 same_names : (a b : List ℕ) → bytes_eq a b ≡ false → bytes_eq b a ≡ false
 same_names a b h =
     false_from_ne_true (bytes_eq b a)
@@ -164,6 +168,7 @@ ordered_buffer bs q name size o m =
           ends = refl;
         }
 
+-- a batch begins
 ordered_begin : (bs : List Buffer) (q : Option (List ℕ)) (jobs : List (List Command)) →
     IsOrdered (parts bs q jobs None) → May (parts bs q jobs None) (BeginBatch 0) →
     IsOrdered (parts bs q jobs (Some []))
@@ -178,6 +183,7 @@ ordered_begin bs q jobs o m =
           (BeginBatch 0) o.batches_last m);
     }
 
+-- a command is added
 ordered_command : (bs : List Buffer) (q : Option (List ℕ)) (jobs : List (List Command))
     (commands : List Command)
     (c : Command) → IsOrdered (parts bs q jobs (Some commands)) →
@@ -199,6 +205,7 @@ ordered_command bs q jobs commands c o m =
           (AddCommand c) o.batches_last m);
     }
 
+-- a batch ends
 ordered_end : (bs : List Buffer) (q : Option (List ℕ)) (jobs : List (List Command))
     (commands : List Command) →
     IsOrdered (parts bs q jobs (Some commands)) → May (parts bs q jobs (Some commands)) EndBatch →
@@ -285,6 +292,7 @@ record SayOrdered (before : List Line) : Type 0 where
   say : Say before said
   ordered : IsOrdered said
 
+-- no lines
 nothing_ordered : SayOrdered []
 nothing_ordered =
     record {
@@ -300,6 +308,7 @@ nothing_ordered =
 same_lines : (a b : List Line) → ◌≡◌ {A = Result (List Line) FaultKind} (Ok a) (Ok b) → a ≡ b
 same_lines a b e = cc
 
+-- one line more
 ordered_line : (form : Form) (before : List Line) (n : ℕ) (words : List (List ℕ))
     (now : List Line) →
     SayOrdered before → read_statement form before n words ≡ Ok now → SayOrdered now
@@ -330,6 +339,7 @@ ordered_line form before n (word ∷ words) now k h =
         never : (kind : FaultKind) → ◌≡◌ {A = Result (List Line) FaultKind} (Err kind) (Ok now) → ⊥
         never kind h = cc
 
+-- all lines; they may end
 ordered_lines : (form : Form) (before : List Line) (n : ℕ) (lines : List (List ℕ))
     (all : List Line) →
     SayOrdered before → read_lines form before n lines ≡ Ok all →

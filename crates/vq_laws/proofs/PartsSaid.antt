@@ -49,16 +49,19 @@ after_last_push {X} p xs y =
         ap (λ (k : ℕ). drop k (xs ++ y ∷ [])) same
         ∙ drop-append-le (length xs - suffix_len (λ x. not (p x)) xs) xs (y ∷ []) (omega arith)
 
+-- a statement as a line
 abbrev a_line : ℕ → Statement → Line
 a_line n s = record { number = n; statement = s }
 
 -- What lines say, one line more
 module _ (before : List Line) (n : ℕ) (s : Statement) where
+  -- the part of the text
   section_push : section (with_line before n s) ≡ section_after (section before) s
   section_push =
       fold-append (λ was (l : Line). section_after was l.statement) Outside before
       (a_line n s ∷ [])
 
+  -- the version, one line more
   version_push : version_of (a_line n s ∷ []) ≡ 1 → version_of before ≡ 1 →
       version_of (with_line before n s) ≡ 1
   version_push one h = by_lines before h
@@ -67,6 +70,7 @@ module _ (before : List Line) (n : ℕ) (s : Statement) where
       by_lines [] h = one
       by_lines (l ∷ ls) h = h
 
+  -- buffers up to lines
   buffers_push : (bs : List Buffer) → map buffer_without_line (buffers before) ≡ bs →
       map buffer_without_line (buffers (with_line before n s))
       ≡ bs ++ map buffer_without_line (filter_map buffer_of (a_line n s ∷ []))
@@ -77,6 +81,7 @@ module _ (before : List Line) (n : ℕ) (s : Statement) where
       ∙ ap (λ (xs : List Buffer). xs ++ map buffer_without_line
       (filter_map buffer_of (a_line n s ∷ []))) h)
 
+  -- queues up to lines
   queues_push : (qs : List Queue) → map queue_without_line (queues before) ≡ qs →
       map queue_without_line (queues (with_line before n s))
       ≡ qs ++ map queue_without_line (filter_map queue_of (a_line n s ∷ []))
@@ -87,6 +92,7 @@ module _ (before : List Line) (n : ℕ) (s : Statement) where
       ∙ ap (λ (xs : List Queue). xs ++ map queue_without_line
       (filter_map queue_of (a_line n s ∷ []))) h)
 
+  -- semaphores, where there are none so far
   semaphores_push : semaphores before ≡ [] →
       semaphores (with_line before n s) ≡ filter_map semaphore_of (a_line n s ∷ [])
   semaphores_push h =
@@ -94,28 +100,33 @@ module _ (before : List Line) (n : ℕ) (s : Statement) where
       ∙ ap (λ (xs : List Semaphore). xs ++ filter_map semaphore_of
       (a_line n s ∷ [])) h
 
+  -- whether some line is such a statement
   some_push : (test : Statement → Bool) → some test (with_line before n s)
       ≡ (some test before || (test s || false))
   some_push test = list_any-append (λ (l : Line). test l.statement) before (a_line n s ∷ [])
 
+  -- the lines of the open batch
   open_push : open_batch (with_line before n s)
       ≡ cond (is_submit s || is_end s) [] (open_batch before ++ a_line n s ∷ [])
   open_push =
       after_last_push (λ (l : Line). is_submit l.statement || is_end l.statement) before
       (a_line n s)
 
+  -- turns, where there are none so far
   turns_push : flat_map turns_at before ≡ [] →
       flat_map turns_at (with_line before n s) ≡ flat_map turns_at (a_line n s ∷ [])
   turns_push h =
       flat_map-append turns_at before (a_line n s ∷ [])
       ∙ ap (λ (xs : List Turn). xs ++ flat_map turns_at (a_line n s ∷ [])) h
 
+  -- jobs, with further lines
   jobs_push : (more : List Line) → map job_without_lines (jobs_of (with_line before n s ++ more))
       ≡ map job_without_lines (jobs_of (before ++ a_line n s ∷ more))
   jobs_push more =
       ap (λ (ls : List Line). map job_without_lines (jobs_of ls))
       (append_assoc before (a_line n s ∷ []) more)
 
+-- tests that both fail
 or_false : (a b : Bool) → a ≡ false → b ≡ false → (a || (b || false)) ≡ false
 or_false false false h e = refl
 or_false true b h e = h
@@ -129,6 +140,7 @@ or_nothing : (a : Bool) → (a || false) ≡ a
 or_nothing true = refl
 or_nothing false = refl
 
+-- what isn't counted
 one_of : (b : Bool) → b ≡ false → cond {A = ℕ} b 1 0 ≡ 0
 one_of true h = absurd (cc)
 one_of false h = refl

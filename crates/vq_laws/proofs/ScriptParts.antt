@@ -45,6 +45,7 @@ abbrev pub parts : List Buffer → Option (List ℕ) → List (List Command) →
     Parts
 parts bs q jobs batch = record { buffers = bs; queue = q; jobs = jobs; batch = batch }
 
+-- a buffer, a queue and a command without a line
 abbrev pub a_buffer : List ℕ → ℕ → Buffer
 a_buffer name size = record { line = 0; name = name; size = size }
 
@@ -68,6 +69,7 @@ a_job commands =
     }
     )
 
+-- the queues of parts: one or none
 abbrev pub queue_list : Option (List ℕ) → List Queue
 queue_list None = []
 queue_list (Some name) = a_queue name ∷ []
@@ -87,10 +89,12 @@ script_of_parts p =
 
 -- A further statement
 
+-- the open batch with one command more
 abbrev pub with_command : Option (List Command) → Command → Option (List Command)
 with_command None command = None
 with_command (Some commands) command = Some (commands ++ command ∷ [])
 
+-- the batches with the open one
 abbrev pub with_batch : List (List Command) → Option (List Command) → List (List Command)
 with_batch jobs None = jobs
 with_batch jobs (Some commands) = jobs ++ commands ∷ []
@@ -112,12 +116,15 @@ is_named bs q name =
     || list_any (λ (x : Semaphore). bytes_eq name x.name) []
     || list_any (λ x. bytes_eq name x.name) (queue_list q)
 
+-- the sizes of buffers
 abbrev pub sizes_in : List Buffer → List ℕ
 sizes_in bs = map (λ b. b.size) bs
 
+-- the size of a buffer, 0 where there is none
 abbrev pub size_in : List Buffer → ℕ → ℕ
 size_in bs b = option_map_or (λ x. x.size) (slice_get bs b) 0
 
+-- a fill of so many bytes lies in its buffer, at multiples of 4
 abbrev pub is_fill_in_range : List Buffer → ℕ → ℕ → ℕ → Bool
 is_fill_in_range bs b offset size =
     (nat_lt offset (size_in bs b) && nat_lt 0 size && not (nat_lt (size_in bs b) (offset + size)))
@@ -177,19 +184,23 @@ May p other = ⊥
 
 -- Lines that say parts
 
+-- the part of the text where a batch is open or none
 abbrev pub part_of_batch : Option (List Command) → Section
 part_of_batch None = Outside
 part_of_batch (Some commands) = InBatch
 
+-- a batch has begun
 abbrev pub has_jobs : List (List Command) → Option (List Command) → Bool
 has_jobs (commands ∷ jobs) batch = true
 has_jobs [] (Some commands) = true
 has_jobs [] None = false
 
+-- batches, the open one too
 abbrev pub count_jobs : List (List Command) → Option (List Command) → ℕ
 count_jobs jobs None = length jobs
 count_jobs jobs (Some commands) = length jobs + 1
 
+-- commands of batches, of the open one too
 abbrev pub count_commands : List (List Command) → Option (List Command) → ℕ
 count_commands jobs None = sum (map length jobs)
 count_commands jobs (Some commands) = sum (map length jobs) + length commands
@@ -199,6 +210,7 @@ pub record HasCommands (commands : List Command) (lines : List Line) : Type 0 wh
   pub only : some (λ s. not (is_command s)) lines ≡ false
   pub counted : count is_command lines ≡ length commands
 
+-- what the lines after the last bound of a batch are
 abbrev pub OpenLines : Option (List Command) → List Line → Type 0
 OpenLines None lines = some (λ s. nat_lt 0 (part_of s)) lines ≡ false
 OpenLines (Some commands) lines = HasCommands commands lines

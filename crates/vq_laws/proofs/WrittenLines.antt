@@ -61,6 +61,7 @@ words_plain words h =
     (λ w e. all_weaker is_word_byte is_plain word_to_plain w
     (and_parts (nat_lt 0 (length w)) (list_all is_word_byte w) e).1) words h
 
+-- three words
 words_of_three : (a b c : List ℕ) → is_text_word a ≡ true → is_text_word b ≡ true →
     is_text_word c ≡ true →
     are_text_words (a ∷ b ∷ c ∷ []) ≡ true
@@ -90,10 +91,12 @@ command_part : (s : Statement) → is_command s ≡ true → nat_lt 2 (part_of s
 command_part (AddCommand c) h = refl
 command_part s h = absurd (false≢true h)
 
+-- .. and to none after the end
 command_before_end : (s : Statement) → is_command s ≡ true → nat_lt 5 (part_of s) ≡ false
 command_before_end (AddCommand c) h = refl
 command_before_end s h = absurd (false≢true h)
 
+-- nothing is below 0
 not_below : (k : ℕ) → nat_lt k 0 ≡ false
 not_below k = false_from_ne_true (nat_lt k 0) (λ e. let l = ltb-true k 0 e in omega arith)
 
@@ -102,6 +105,7 @@ abbrev place_of : Statement → ℕ
 place_of (AddWait pair from) = from
 place_of other = 0
 
+-- a command waits at no place
 command_place : (k : ℕ) (s : Statement) → is_command s ≡ true → nat_lt k (place_of s) ≡ false
 command_place k (AddCommand c) h = not_below k
 command_place k s h = absurd (false≢true h)
@@ -110,6 +114,7 @@ command_place k s h = absurd (false≢true h)
 not_over : (a b : ℕ) → a < b → not (nat_lt a b) ≡ false
 not_over a b l = ap not (lt-ltb a b l)
 
+-- not past a limit
 not_past : (a b : ℕ) → b ≤ a → nat_lt a b ≡ false
 not_past a b l = false_from_ne_true (nat_lt a b) (λ e. let m = ltb-true a b e in omega arith)
 
@@ -152,6 +157,7 @@ record IsFirst (before : List Line) : Type 0 where
   unbegun : has_begun before ≡ false
   no_parts : some (λ s. nat_lt 0 (part_of s)) (open_batch before) ≡ false
 
+-- lines that say no batch
 is_first : (before : List Line) (p : Parts) → Say before p → p.batch ≡ None → p.jobs ≡ [] →
     IsFirst before
 is_first before p h outside first =
@@ -175,6 +181,7 @@ declaration_in_order before f =
 -- The lines
 
 module _ (before : List Line) (p : Parts) (h : Say before p) (named : AreNamed p) where
+  -- a buffer
   buffer_reads : (name : List ℕ) (size : ℕ) → MayBuffer p name size →
       ReadsAs before (codes "buffer" ∷ name ∷ decimal size ∷ []) (DeclareBuffer name size)
   buffer_reads name size m =
@@ -215,6 +222,7 @@ module _ (before : List Line) (p : Parts) (h : Say before p) (named : AreNamed p
             (DeclareBuffer name size) tests;
       }
 
+  -- a queue
   queue_reads : (name : List ℕ) → MayQueue p name Immediate →
       ReadsAs before (codes "queue" ∷ name ∷ codes "immediate" ∷ []) (DeclareQueue name Immediate)
   queue_reads name m =
@@ -251,6 +259,7 @@ module _ (before : List Line) (p : Parts) (h : Say before p) (named : AreNamed p
             (QueueLine Immediate) (DeclareQueue name Immediate) tests;
       }
 
+  -- the start of a batch
   submit_reads : (name : List ℕ) → p.batch ≡ None → p.queue ≡ Some name → length p.jobs < 4096 →
       ReadsAs before (codes "submit" ∷ name ∷ []) (BeginBatch 0)
   submit_reads name outside is few =
@@ -288,6 +297,7 @@ module _ (before : List Line) (p : Parts) (h : Say before p) (named : AreNamed p
             tests;
       }
 
+  -- the end of a batch
   end_reads : MayEnd p → ReadsAs before (codes "end" ∷ []) EndBatch
   end_reads m =
       let lines : HasCommands m.commands (open_batch before) =
@@ -319,6 +329,7 @@ module _ (before : List Line) (p : Parts) (h : Say before p) (named : AreNamed p
         reads = λ n. read_tested Plain before n (codes "end") [] EndLine EndBatch tests;
       }
 
+  -- a fill
   fill_reads : (b o n w : ℕ) (x : Buffer) (commands : List Command) → p.batch ≡ Some commands →
       slice_get p.buffers b ≡ Some x → is_fill_in_range p.buffers b o n ≡ true →
       o < 2 ^ 64 → n < 2 ^ 64 → w < 2 ^ 32 → length commands < 64 →
@@ -390,6 +401,7 @@ module _ (before : List Line) (p : Parts) (h : Say before p) (named : AreNamed p
       by_item None e l = absurd (omega arith)
       by_item (Some x) e l = (x, e)
 
+  -- a command
   command_reads : (c : Command) → MayFill p c → ReadsAs before (command_words (script_of_parts p) c)
       (AddCommand c)
   command_reads c m =

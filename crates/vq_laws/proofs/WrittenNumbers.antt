@@ -19,6 +19,7 @@ use Rattle.vq_laws.proofs.WrittenTexts.{is_word_byte, is_text_word, differs}
 
 -- Digits
 
+-- digits pass the test of each
 digit_tests : (base : ℕ) (ds : List ℕ) → AllDigits base ds →
     list_all (λ b. nat_lt (digit_value b) base) ds ≡ true
 digit_tests base [] h = refl
@@ -101,6 +102,7 @@ decimal_back n small =
     ∙ numeral_is 10 20 (decimal n) n is.0.0
     (length-decimal-le 20 n (omega arith) (omega arith) small) is.0.1 is.1 small
 
+-- a decimal digit is a byte of a word ..
 digit_is_word_byte : (b : ℕ) → digit_value b < 10 → is_word_byte b ≡ true
 digit_is_word_byte b h =
     let r = digit_from_value b h in
@@ -110,6 +112,7 @@ digit_is_word_byte b h =
     (and_from (nat_le 33 b) (nat_le b 126) (le-leb 33 b (omega arith)) (le-leb b 126 (omega arith)))
     (ap not (differs b 35 (λ e. omega arith)))
 
+-- .. and digits are such bytes
 digits_are_word : (ds : List ℕ) → AllDigits 10 ds → list_all is_word_byte ds ≡ true
 digits_are_word [] h = refl
 digits_are_word (d ∷ ds) h =
@@ -137,6 +140,7 @@ decimal_not_whole n small =
 
 -- Hexadecimal words
 
+-- a hexadecimal digit is a byte of a word
 hex_char_is_word_byte : (d : ℕ) → d < 16 → is_word_byte (digit_char d) ≡ true
 hex_char_is_word_byte d h = by_test (nat_lt d 10) refl
   where
@@ -168,11 +172,13 @@ eight_value a b c d e f g h la lb lc ld le lf lg lh =
     let vh = digit_value-digit_char h (omega arith) in
     omega arith
 
+-- its value is below 16
 hex_digit_fits : (d : ℕ) → d < 16 → digit_value (digit_char d) < 16
 hex_digit_fits d l = let e = digit_value-digit_char d (omega arith) in omega arith
 
 -- eight hexadecimal digits of a word
 module _ (w : ℕ) (small : w < 2 ^ 32) where
+  -- they are digits
   hex_all : AllDigits 16 (hex_digits 8 w)
   hex_all = (
     hex_digit_fits (w / 16 / 16 / 16 / 16 / 16 / 16 / 16 % 16) (omega arith),
@@ -197,6 +203,7 @@ module _ (w : ℕ) (small : w < 2 ^ 32) where
     ),
   )
 
+  -- their value
   hex_value : digits_value 16 (hex_digits 8 w) ≡ w
   hex_value =
       eight_value (w / 16 / 16 / 16 / 16 / 16 / 16 / 16 % 16) (w / 16 / 16 / 16 / 16 / 16 / 16 % 16)
@@ -206,6 +213,7 @@ module _ (w : ℕ) (small : w < 2 ^ 32) where
       (omega arith) (omega arith)
       ∙ omega arith
 
+  -- as a numeral
   fill_numeral : numeral (fill_word w) ≡ Some w
   fill_numeral =
       numeral_is 16 16 (hex_digits 8 w) w (omega arith) (omega arith) hex_all hex_value

@@ -18,6 +18,7 @@ is_word_byte b = nat_le 33 b && nat_le b 126 && not (b == 35)
 abbrev pub is_text_word : List ℕ → Bool
 is_text_word word = nat_lt 0 (length word) && list_all is_word_byte word
 
+-- such words
 abbrev pub are_text_words : List (List ℕ) → Bool
 are_text_words words = list_all is_text_word words
 
@@ -48,9 +49,11 @@ word_byte b h =
 pub differs : (a b : ℕ) → (a ≡ b → ⊥) → (a == b) ≡ false
 differs a b f = false_from_ne_true (a == b) (λ e. f (eqb-true a b e))
 
+-- what is false is not
 not_false : (x : Bool) → x ≡ false → not x ≡ true
 not_false x e = ap not e
 
+-- a byte of a word is one of a line
 word_to_line : (b : ℕ) → is_word_byte b ≡ true → is_line_byte b ≡ true
 word_to_line b h =
     let w = word_byte b h in
@@ -63,6 +66,7 @@ pub word_to_plain : (b : ℕ) → is_word_byte b ≡ true → is_plain b ≡ tru
 word_to_plain b h =
     or_left (nat_le 32 b && nat_le b 126) (b == 9) (word_to_line b h)
 
+-- .. and no blank ..
 word_to_not_blank : (b : ℕ) → is_word_byte b ≡ true → not (is_blank b) ≡ true
 word_to_not_blank b h =
     let w = word_byte b h in
@@ -70,14 +74,17 @@ word_to_not_blank b h =
     not_false (is_blank b)
     (or_from (b == 32) (b == 9) (differs b 32 (λ e. omega arith)) (differs b 9 (λ e. omega arith)))
 
+-- .. and no hash sign
 word_to_not_hash : (b : ℕ) → is_word_byte b ≡ true → not (b == 35) ≡ true
 word_to_not_hash b h = not_false (b == 35) (word_byte b h).2
 
+-- a byte of a line is no line feed ..
 line_to_not_feed : (b : ℕ) → is_line_byte b ≡ true → not (is_line_feed b) ≡ true
 line_to_not_feed b h =
     let l = leb-true 32 b (and_parts (nat_le 32 b) (nat_le b 126) h).0 in
     not_false (b == 10) (differs b 10 (λ e. omega arith))
 
+-- .. and no carriage return
 line_to_not_return : (b : ℕ) → is_line_byte b ≡ true → not (b == 13) ≡ true
 line_to_not_return b h =
     let l = leb-true 32 b (and_parts (nat_le 32 b) (nat_le b 126) h).0 in
@@ -133,6 +140,7 @@ before_none {X} p (x ∷ xs) h =
 
 -- The bytes of a line
 
+-- words joined by one space hold bytes of lines alone ..
 join_bytes : (words : List (List ℕ)) → are_text_words words ≡ true →
     list_all is_line_byte (join_with_byte 32 words) ≡ true
 join_bytes [] h = refl
@@ -148,6 +156,7 @@ join_bytes (w ∷ v ∷ words) h =
     (and_parts (nat_lt 0 (length w)) (list_all is_word_byte w) parts.0).1)
     (join_bytes (v ∷ words) parts.1)
 
+-- .. and no hash sign
 join_no_hash : (words : List (List ℕ)) → are_text_words words ≡ true →
     list_all (λ b. not (b == 35)) (join_with_byte 32 words) ≡ true
 join_no_hash [] h = refl
@@ -166,11 +175,13 @@ join_no_hash (w ∷ v ∷ words) h =
 
 -- The words of a line
 
+-- a word is kept among the parts between blanks
 word_kept : (w : List ℕ) (rest : List (List ℕ)) → is_text_word w ≡ true →
     filter is_some_word (w ∷ rest) ≡ w ∷ filter is_some_word rest
 word_kept [] rest h = absurd (false≢true h)
 word_kept (b ∷ w) rest h = refl
 
+-- the parts of joined words, without empty ones
 words_joined : (words : List (List ℕ)) → are_text_words words ≡ true →
     words_in (join_with_byte 32 words) ≡ words
 words_joined [] h = refl
@@ -212,6 +223,7 @@ no_return (b ∷ bs) zero h =
 no_return (b ∷ bs) (suc i) h =
     no_return bs i (and_parts (not (b == 13)) (list_all (λ x. not (x == 13)) bs) h).1
 
+-- nothing is cut off a line's end
 return_kept : (bs : List ℕ) → list_all is_line_byte bs ≡ true → strip_carriage_return bs ≡ bs
 return_kept bs h =
     ap (λ (b : Bool). cond b (take (length bs - 1) bs) bs)
@@ -224,6 +236,7 @@ empty_end [] = refl
 empty_end (line ∷ []) = refl
 empty_end (line ∷ next ∷ lines) = ap (λ (ls : List (List ℕ)). line ∷ ls) (empty_end (next ∷ lines))
 
+-- the parts of a text that is written line by line, and an empty one after the last line feed
 split_lines : (lines : List (List (List ℕ))) → list_all are_text_words lines ≡ true →
     slice_split is_line_feed (flat_map line_text lines) ≡ map (join_with_byte 32) lines ++ [] ∷ []
 split_lines [] h = refl
@@ -236,6 +249,7 @@ split_lines (words ∷ lines) h =
     (join_bytes words parts.0)) refl
     ∙ ap (λ (ls : List (List ℕ)). join_with_byte 32 words ∷ ls) (split_lines lines parts.1))
 
+-- nothing is cut off the ends of lines
 returns_kept : (lines : List (List (List ℕ))) → list_all are_text_words lines ≡ true →
     map strip_carriage_return (map (join_with_byte 32) lines) ≡ map (join_with_byte 32) lines
 returns_kept [] h = refl
