@@ -1,9 +1,9 @@
 -- Canonical texts, computed. A number's digits are opened by name.
-use Rattle.std.proofs.Common.{◌≡◌, ℕ, List, [], ◌++◌, Ok, Err, refl}
+use Rattle.std.proofs.Common.{◌≡◌, ℕ, List, [], Ok, Err, refl}
 use Rattle.std.specs.Prelude.{codes, Result}
 use Rattle.std.specs.Fmt.{digits}
 use Rattle.vq_laws.specs.declared.statement.Form.{Form}
-use Rattle.vq_laws.specs.declared.statement.Form.TheVariants.{Plain, Scheduled}
+use Rattle.vq_laws.specs.declared.statement.Form.TheVariants.{Plain}
 use Rattle.vq_laws.specs.declared.statement.FaultKind.{FaultKind}
 use Rattle.vq_laws.specs.declared.script.Script.{Script}
 use Rattle.vq_laws.specs.Reading.{read_script}

@@ -1,5 +1,5 @@
 -- The first fault of a text: no line before it has one.
-use Rattle.std.proofs.Common.{◌≡◌, ℕ, ◌+◌, Bool, true, false, cond, List, [], ◌∷◌, ◌++◌, length, Ok, Err, refl, sym, ◌∙◌, ap, arith, subst}
+use Rattle.std.proofs.Common.{◌≡◌, ℕ, ◌+◌, Bool, true, false, cond, List, [], ◌∷◌, Ok, Err, refl, sym, ◌∙◌, ap, arith, subst}
 use Rattle.std.specs.Prelude.{Result}
 use Rattle.vq_laws.specs.declared.statement.Form.{Form}
 use Rattle.vq_laws.specs.declared.statement.FaultKind.{FaultKind}

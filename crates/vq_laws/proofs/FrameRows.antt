@@ -8,9 +8,7 @@ use Rattle.vq_laws.specs.declared.script.Job.TheVariants.{Host, Batch}
 use Rattle.vq_laws.specs.declared.script.HostStep.TheVariants.{FenceWait, FenceReset, Idle, Read}
 use Rattle.vq_laws.specs.declared.script.Command.TheVariants.{Fill, Update, Copy}
 use Rattle.vq_laws.specs.declared.script.FillSize.TheVariants.{Count}
-use Rattle.std.specs.Prelude.{codes, Ok, ◌++◌}
-use Rattle.vq_laws.specs.declared.statement.Form.TheVariants.{Plain}
-use Rattle.vq_laws.specs.Reading.{read_script}
+use Rattle.std.specs.Prelude.{codes, ◌++◌}
 use Rattle.vq_laws.specs.SlowRun.{left_over, final}
 use Rattle.vq_laws.specs.Lowering.{plan_of}
 use Rattle.vq_laws.specs.LoweringFaults.{lowering_fault, FenceUsed}

@@ -1,5 +1,5 @@
 -- A lawful plan has no first fault.
-use Rattle.std.proofs.Common.{◌≡◌, true, [], subst}
+use Rattle.std.proofs.Common.{◌≡◌, true, subst}
 use Rattle.std.proofs.lemmas.Bool.{false≢true}
 use Rattle.vq_laws.specs.declared.plan.OrderFault.{OrderFault}
 use Rattle.vq_laws.specs.declared.plan.OrderFault.TheVariants.{Unreachable, Unordered, FenceBusy, NotPending, Race, Memory}

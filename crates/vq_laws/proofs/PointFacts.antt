@@ -1,19 +1,14 @@
 -- What ties points and references to the events that came before.
-use Rattle.std.proofs.Common.{◌≡◌, ℕ, ◌+◌, ◌≤◌, Bool, true, false, not, ◌&&◌, cond, eqb, List, [], ◌∷◌, filter, Option, Some, None, refl, sym, ap, ◌∙◌, ◌⊎◌, inl, inr, subst, arith, ◌==◌}
-use Rattle.std.specs.List.{list_any, slice_get}
-use Rattle.std.specs.Option.{option_map_or}
-use Rattle.std.proofs.lemmas.Bool.{eqb-true, eqb-false, eq-eqb, ne_eqb, or_cases, or_parts, or_left, or_right, and_parts, and_from, false≢true, cases_Bool, cases_eq, cond-true, cond-false, not-true}
+use Rattle.std.proofs.Common.{◌≡◌, ℕ, ◌+◌, ◌≤◌, Bool, true, false, ◌&&◌, cond, eqb, List, [], ◌∷◌, Option, Some, None, refl, sym, ap, ◌∙◌, inl, inr, ◌==◌}
+use Rattle.std.specs.List.{list_any}
+use Rattle.std.proofs.lemmas.Bool.{eqb-true, eqb-false, eq-eqb, ne_eqb, or_cases, or_parts, or_left, or_right, and_parts, false≢true, cond-true, cond-false}
 use Rattle.vq_laws.specs.declared.script.ActorName.{ActorName}
-use Rattle.vq_laws.specs.declared.plan.Answer.{Answer as AnswerTo}
 use Rattle.vq_laws.specs.declared.plan.Event.{Event}
-use Rattle.vq_laws.specs.declared.plan.Event.TheVariants.{Submit, Take, Release, Bind, Refer, Look, Unref, Complete, Free, Start, Apply, Signal, Finish, Answer}
-use Rattle.vq_laws.specs.Plan.{Plan, has, chain_of}
-use Rattle.vq_laws.specs.Machine.{with_signal, put}
-use Rattle.vq_laws.specs.Points.{PointState, Reference, at_option, opening_points, holds, is_pending, is_reference, without_first, CanTake, CanFree, CanCome, after_event, HistoryFrom}
+use Rattle.vq_laws.specs.Plan.{Plan, has}
+use Rattle.vq_laws.specs.Points.{PointState, Reference, holds, is_reference, without_first}
 use Rattle.vq_laws.specs.Canonical.{same_actor}
-use Rattle.vq_laws.specs.HistoryLaws.{AfterEach, came, signals, completes, last_take, stands_free, was_freed_later, refers_since, unrefers_since, made_points, is_on_chain, IsFreedLast, TakesInTurn, FreesInTime, carried_when_referred, KeepsPoints, PointLaw}
-use Rattle.vq_laws.proofs.Lists.{has_here, has_there, has_cases}
-use Rattle.vq_laws.proofs.RunLaws.{put_here, put_there, put_cases, put_keeps, same_some}
+use Rattle.vq_laws.specs.HistoryLaws.{came, signals, completes, last_take, stands_free, was_freed_later, refers_since, unrefers_since, made_points, is_on_chain, carried_when_referred}
+use Rattle.vq_laws.proofs.Lists.{has_here, has_there}
 
 -- how many references to a point are held
 abbrev pub held_at : ℕ → List Reference → ℕ

@@ -2,14 +2,14 @@
 use Rattle.std.proofs.Common.{◌≡◌, ℕ, ◌+◌, ◌≤◌, Bool, true, false, not, ◌&&◌, cond, eqb, List, [], ◌∷◌, filter, Option, Some, None, refl, sym, ap, ◌∙◌, ◌⊎◌, inl, inr, subst, arith, ◌==◌}
 use Rattle.std.specs.List.{list_any, slice_get}
 use Rattle.std.specs.Option.{option_map_or}
-use Rattle.std.proofs.lemmas.Bool.{eqb-true, eqb-false, eq-eqb, ne_eqb, or_cases, or_parts, or_left, or_right, and_parts, and_from, false≢true, cases_Bool, cases_eq, cond-true, cond-false, not-true}
+use Rattle.std.proofs.lemmas.Bool.{eqb-true, eqb-false, eq-eqb, ne_eqb, or_cases, or_left, or_right, and_parts, and_from, false≢true, cases_Bool, cases_eq, cond-true, cond-false, not-true}
 use Rattle.vq_laws.specs.declared.script.ActorName.{ActorName}
 use Rattle.vq_laws.specs.declared.plan.Answer.{Answer as AnswerTo}
 use Rattle.vq_laws.specs.declared.plan.Event.{Event}
 use Rattle.vq_laws.specs.declared.plan.Event.TheVariants.{Submit, Take, Release, Bind, Refer, Look, Unref, Complete, Free, Start, Apply, Signal, Finish, Answer}
 use Rattle.vq_laws.specs.Plan.{Plan, has, chain_of}
 use Rattle.vq_laws.specs.Machine.{with_signal, put}
-use Rattle.vq_laws.specs.Points.{PointState, Reference, at_option, opening_points, holds, is_pending, is_reference, without_first, CanTake, CanFree, CanCome, after_event, HistoryFrom}
+use Rattle.vq_laws.specs.Points.{PointState, at_option, opening_points, holds, is_pending, is_reference, without_first, CanTake, CanFree, CanCome, after_event, HistoryFrom}
 use Rattle.vq_laws.specs.Canonical.{same_actor}
 use Rattle.vq_laws.specs.HistoryLaws.{AfterEach, came, signals, completes, last_take, stands_free, was_freed_later, refers_since, unrefers_since, made_points, is_on_chain, IsFreedLast, TakesInTurn, FreesInTime, carried_when_referred, KeepsPoints, PointLaw}
 use Rattle.vq_laws.proofs.Lists.{has_here, has_there, has_cases}

@@ -1,7 +1,7 @@
 -- The plan of a script.
 -- Vulkan 1.3, "Queue Submission" (batches), "Semaphores" (binary: a wait needs its signal submitted
 -- earlier), "Fences".
-use Rattle.std.specs.Prelude.{ℕ, ◌==◌, Bool, false, ◌+◌, ◌&&◌, ◌||◌, if◌then◌else◌, List, [], ◌∷◌, take, nat_lt, count_by, map, length, Option, Some, None, fold, filter, ◌<◌, ◌≡◌}
+use Rattle.std.specs.Prelude.{ℕ, ◌==◌, Bool, false, ◌+◌, ◌&&◌, ◌||◌, if◌then◌else◌, List, [], ◌∷◌, take, nat_lt, count_by, map, length, Option, Some, None, fold, filter}
 use Rattle.std.specs.Option.{option_map_or}
 use Rattle.std.specs.List.{range_with_len, slice_get, filter_map, flat_map, enumerate_from}
 use Rattle.vq_laws.specs.declared.script.Job.{Job}
@@ -18,7 +18,7 @@ use Rattle.vq_laws.specs.declared.plan.Lane.{Lane}
 use Rattle.vq_laws.specs.declared.plan.Lane.TheVariants.{Host as HostLane, Queue as QueueLane}
 use Rattle.vq_laws.specs.declared.plan.PlanJob.{PlanJob}
 use Rattle.vq_laws.specs.declared.script.CommandLine.{CommandLine}
-use Rattle.vq_laws.specs.Signals.{is_timeline_at, all_signals, initial_value, chain_ops, op_at, Signaling}
+use Rattle.vq_laws.specs.Signals.{is_timeline_at, all_signals, initial_value, chain_ops, op_at}
 use Rattle.vq_laws.specs.Plan.{same_lane, Plan}
 
 -- Values of fences

@@ -7,7 +7,7 @@ use Rattle.vq_laws.specs.declared.plan.Answer.{Answer}
 use Rattle.vq_laws.specs.declared.plan.Answer.TheVariants.{Reached, Timeout, NotReady, Value}
 use Rattle.vq_laws.specs.declared.plan.AnswerLine.{AnswerLine}
 use Rattle.vq_laws.specs.declared.script.Buffer.{Buffer}
-use Rattle.vq_laws.specs.Plan.{value, Plan, line_of_job}
+use Rattle.vq_laws.specs.Plan.{Plan, line_of_job}
 use Rattle.vq_laws.specs.Machine.{State}
 use Rattle.vq_laws.specs.Memory.{Memory}
 

@@ -37,3 +37,10 @@ pub fn canonical_text_reads_back()
         (read : Script) × StandsFor (canonical_text s) (form_of_script s) read
         × SameButLines read s }
 {}
+
+/// Scripts that can be written have the same canonical text only where they are the same up to line
+/// numbers.
+pub fn canonical_text_tells_scripts_apart()
+    ensures { (a b : Script) → IsScript a → IsScript b → canonical_text a ≡ canonical_text b →
+        SameButLines a b }
+{}
