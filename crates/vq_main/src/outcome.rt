@@ -1,5 +1,5 @@
 //! What the program writes for an input.
-ghost use Rattle.std.specs.Prelude.{◌≡◌, ◌≤◌, ◌++◌, IfOk, length};
+ghost use Rattle.std.specs.Prelude.{◌≡◌, ◌≤◌, IfOk, length};
 ghost use Rattle.vq_laws.specs.Reading.{StandsFor};
 ghost use Rattle.vq_laws.specs.OutputText.{buffers_text};
 ghost use Rattle.vq_laws.specs.Refusals.{line_refusal};

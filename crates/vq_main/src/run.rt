@@ -1,7 +1,6 @@
 //! The top call.
-ghost use Rattle.std.specs.Prelude.{◌≡◌, ◌<◌, ◌≤◌, ◌↔◌, length, IfSome};
+ghost use Rattle.std.specs.Prelude.{◌≡◌, ◌<◌, length, IfSome};
 ghost use Rattle.vq_port.specs.Faults.{Rose};
-ghost use Rattle.vq_laws.specs.Refusals.{bad_words, too_long};
 ghost use Rattle.vq_main.specs.Writes.{Writes, moment};
 ghost use Rattle.vq_main.specs.Outcomes.{Ends, EndsForWords, ReadsToEnd, WritesNothing, IsLawfulInput, IsDoneOrMemory};
 

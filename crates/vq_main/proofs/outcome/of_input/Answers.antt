@@ -1,5 +1,4 @@
-use Rattle.std.proofs.Common.{◌≤◌, ℕ, List, length, arith, sym, subst}
-use Rattle.vq_laws.specs.Text.{lines_of}
+use Rattle.std.proofs.Common.{ℕ, List, arith, sym, subst}
 use Rattle.vq_laws.proofs.TextFacts.{few_lines}
 use Rattle.vq_main.specs.declared.status.Status.TheVariants.{Refused}
 use Rattle.vq_main.specs.Outcomes.{IsOutcome, has_faulty_line}
