@@ -5,57 +5,61 @@ use Rattle.vq_laws.specs.declared.statement.Form.TheVariants.{Plain}
 use Rattle.vq_laws.specs.declared.script.Script.{Script}
 use Rattle.vq_laws.specs.declared.plan.PlanFault.{PlanFault}
 use Rattle.vq_laws.specs.declared.plan.PlanFault.TheVariants.{NoSignal, SignaledTwice, FenceUsed, Memory as NoMemoryToLower}
-use Rattle.vq_laws.specs.Reading.{StandsFor}
+use Rattle.vq_laws.specs.declared.statement.FaultKind.{FaultKind}
+use Rattle.vq_laws.specs.Reading.{StandsFor, IsFirstFault}
 use Rattle.vq_laws.specs.Lowering.{plan_of}
 use Rattle.vq_laws.specs.LoweringFaults.{lowering_fault, IsFirstLoweringFault, Lowers}
 use Rattle.vq_laws.specs.Plan.{Plan}
 use Rattle.vq_laws.specs.SlowRun.{final}
 use Rattle.vq_laws.specs.OutputText.{buffers_text}
 use Rattle.vq_laws.specs.Outputs.{IsOutput}
+use Rattle.vq_laws.specs.ValidScripts.{HasOneLane}
 use Rattle.vq_laws.proofs.ScriptFacts.{text_one_lane}
 use Rattle.vq_laws.proofs.OneLaneLawful.{one_lane_lawful, one_lane_output}
 use Rattle.vq_laws.specs.Checks.{IsLawful}
-use Rattle.vq_laws.specs.Refusals.{too_long}
+use Rattle.vq_laws.specs.Refusals.{too_long, line_refusal}
 use Rattle.vq_laws.proofs.LawfulPlans.{lawful_without_fault}
+use Rattle.vq_main.specs.declared.task.Task.{Task}
+use Rattle.vq_main.specs.declared.task.Task.TheVariants.{Run, Check}
 use Rattle.vq_main.specs.declared.status.Status.{Status}
 use Rattle.vq_main.specs.declared.status.Status.TheVariants.{Done, BadWords, Refused, ReadFault, WriteFault, Memory}
-use Rattle.vq_main.specs.Outcomes.{IsOutcome, is_too_long, has_faulty_line, has_no_plan, is_unlawful, gives_output, Ends, RefusesPlan, ReadsToEnd, IsLawfulInput, IsDoneOrMemory, input_limit}
+use Rattle.vq_main.specs.Outcomes.{IsOutcome, is_too_long, has_faulty_line, has_no_plan, is_unlawful, gives_answer, Ends, AnswersTask, TaskText, RefusesPlan, ReadsToEnd, IsLawfulInput, IsDoneOrMemory, input_limit}
 use Rattle.vq_main.specs.Writes.{SinkMoment, WroteAll, Writes, wrote_all, wrote_part}
 
 -- a whole outcome was written
-whole_ends : (input : List ℕ) (status : Status) (text : List ℕ) (before now : SinkMoment) →
-    IsOutcome input status text → WroteAll text before now → Ends input status before now
-whole_ends input Done text before now o a = (text, o, a)
-whole_ends input Refused text before now o a = (text, o, a)
-whole_ends input BadWords text before now o a = elim o [ ]
-whole_ends input ReadFault text before now o a = elim o [ ]
-whole_ends input WriteFault text before now o a = elim o [ ]
-whole_ends input Memory text before now o a = elim o [ ]
+whole_ends : (task : Task) (input : List ℕ) (status : Status) (text : List ℕ) (before now : SinkMoment) →
+    IsOutcome task input status text → WroteAll text before now → Ends task input status before now
+whole_ends task input Done text before now o a = (text, o, a)
+whole_ends task input Refused text before now o a = (text, o, a)
+whole_ends task input BadWords text before now o a = elim o [ ]
+whole_ends task input ReadFault text before now o a = elim o [ ]
+whole_ends task input WriteFault text before now o a = elim o [ ]
+whole_ends task input Memory text before now o a = elim o [ ]
 
 -- an outcome was written, whole or in part
-pub outcome_ends : (input : List ℕ) (status result : Status) (text : List ℕ) (before now : SinkMoment) →
-    IsOutcome input status text → Writes text status result before now →
-    Ends input result before now
-outcome_ends input status result text before now o (wrote_all same a) =
-    subst (λ s. Ends input s before now) (sym same) (whole_ends input status text before now o a)
-outcome_ends input status result text before now o (wrote_part same a rose) =
-    subst (λ s. Ends input s before now) (sym same) (status, text, o, a)
+pub outcome_ends : (task : Task) (input : List ℕ) (status result : Status) (text : List ℕ) (before now : SinkMoment) →
+    IsOutcome task input status text → Writes text status result before now →
+    Ends task input result before now
+outcome_ends task input status result text before now o (wrote_all same a) =
+    subst (λ s. Ends task input s before now) (sym same) (whole_ends task input status text before now o a)
+outcome_ends task input status result text before now o (wrote_part same a rose) =
+    subst (λ s. Ends task input s before now) (sym same) (status, text, o, a)
 
 -- the same for an input that the source told
-pub told_ends : (left : Option (List ℕ)) (bytes : List ℕ) (status result : Status) (text : List ℕ) (before now : SinkMoment) →
-    IfSome left (λ all. bytes ≡ all) → IsOutcome bytes status text → Writes text status result before now →
-    IfSome left (λ input. Ends input result before now)
-told_ends None bytes status result text before now same o w = tt
-told_ends (Some input) bytes status result text before now same o w =
-    subst (λ all. Ends all result before now) same (outcome_ends bytes status result text before now o w)
+pub told_ends : (task : Task) (left : Option (List ℕ)) (bytes : List ℕ) (status result : Status) (text : List ℕ) (before now : SinkMoment) →
+    IfSome left (λ all. bytes ≡ all) → IsOutcome task bytes status text → Writes text status result before now →
+    IfSome left (λ input. Ends task input result before now)
+told_ends task None bytes status result text before now same o w = tt
+told_ends task (Some input) bytes status result text before now same o w =
+    subst (λ all. Ends task all result before now) same (outcome_ends task bytes status result text before now o w)
 
 -- an input that is too long
-pub too_long_ends : (left : Option (List ℕ)) (result : Status) (before now : SinkMoment) →
+pub too_long_ends : (task : Task) (left : Option (List ℕ)) (result : Status) (before now : SinkMoment) →
     IfSome left (λ all. input_limit < length all) → Writes too_long Refused result before now →
-    IfSome left (λ input. Ends input result before now)
-too_long_ends None result before now long w = tt
-too_long_ends (Some input) result before now long w =
-    outcome_ends input Refused result too_long before now (is_too_long long) w
+    IfSome left (λ input. Ends task input result before now)
+too_long_ends task None result before now long w = tt
+too_long_ends task (Some input) result before now long w =
+    outcome_ends task input Refused result too_long before now (is_too_long long) w
 
 -- a source that was read whole was read to its end
 pub read_to_end : (result : Status) (before now : Option (List ℕ)) → OnSome before (now ≡ Some []) →
@@ -76,45 +80,61 @@ no_lowering_fault script (FenceUsed n) none some = cc
 no_lowering_fault script NoMemoryToLower none some = some
 
 -- a lawful input is not refused
-not_refused : (input text : List ℕ) → IsLawfulInput input → IsOutcome input Refused text → ⊥
-not_refused input text l (is_too_long long) = let short = l.short in omega arith
-not_refused input text l (has_faulty_line n kind short fault) = let stands = l.stands in cc
-not_refused input text l (has_no_plan script fault short stands refused) =
+not_refused : (task : Task) (input text : List ℕ) → IsLawfulInput input → IsOutcome task input Refused text → ⊥
+not_refused task input text l (is_too_long long) = let short = l.short in omega arith
+not_refused task input text l (has_faulty_line n kind short fault) = let stands = l.stands in cc
+not_refused task input text l (has_no_plan script fault short stands refused) =
     let other = l.stands in
     let same : l.script ≡ script = cc in
     no_lowering_fault script fault (subst (λ s. lowering_fault s ≡ None) same l.lowers) refused
-not_refused input text l (is_unlawful script fault short stands lowers refused) =
+not_refused task input text l (is_unlawful script fault short stands lowers refused) =
     let other = l.stands in
     let same : l.script ≡ script = cc in
     lawful_without_fault (plan_of script) fault (subst (λ s. IsLawful (plan_of s)) same l.lawful) refused
 
 -- a lawful input is run, unless the source or the sink fails
-pub lawful_ends : (input : List ℕ) (result : Status) (before now : SinkMoment) →
-    Ends input result before now → (result ≡ ReadFault → ⊥) → (result ≡ WriteFault → ⊥) →
+pub lawful_ends : (task : Task) (input : List ℕ) (result : Status) (before now : SinkMoment) →
+    Ends task input result before now → (result ≡ ReadFault → ⊥) → (result ≡ WriteFault → ⊥) →
     IsLawfulInput input → IsDoneOrMemory result
-lawful_ends input Done before now e r w l = tt
-lawful_ends input Memory before now e r w l = tt
-lawful_ends input BadWords before now e r w l = e
-lawful_ends input ReadFault before now e r w l = r refl
-lawful_ends input WriteFault before now e r w l = w refl
-lawful_ends input Refused before now e r w l = not_refused input e.0 l e.1
+lawful_ends task input Done before now e r w l = tt
+lawful_ends task input Memory before now e r w l = tt
+lawful_ends task input BadWords before now e r w l = e
+lawful_ends task input ReadFault before now e r w l = r refl
+lawful_ends task input WriteFault before now e r w l = w refl
+lawful_ends task input Refused before now e r w l = not_refused task input e.0 l e.1
 
 -- a script was refused for a fault of its lowering
-pub refused_outcome : (input : List ℕ) (script : Script) (fault : PlanFault) (text : List ℕ) → length input ≤ input_limit →
-    StandsFor input Plain script → Lowers script (Err fault) → RefusesPlan fault text → IsOutcome input Refused text
-refused_outcome input script (NoSignal n) text short stands l r =
-    subst (λ t. IsOutcome input Refused t) (sym r) (has_no_plan script (NoSignal n) short stands l)
-refused_outcome input script (SignaledTwice n) text short stands l r =
-    subst (λ t. IsOutcome input Refused t) (sym r) (has_no_plan script (SignaledTwice n) short stands l)
-refused_outcome input script (FenceUsed n) text short stands l r =
-    subst (λ t. IsOutcome input Refused t) (sym r) (has_no_plan script (FenceUsed n) short stands l)
-refused_outcome input script NoMemoryToLower text short stands l r = absurd r
+pub refused_outcome : (task : Task) (input : List ℕ) (script : Script) (fault : PlanFault) (text : List ℕ) → length input ≤ input_limit →
+    StandsFor input Plain script → Lowers script (Err fault) → RefusesPlan fault text → IsOutcome task input Refused text
+refused_outcome task input script (NoSignal n) text short stands l r =
+    subst (λ t. IsOutcome task input Refused t) (sym r) (has_no_plan script (NoSignal n) short stands l)
+refused_outcome task input script (SignaledTwice n) text short stands l r =
+    subst (λ t. IsOutcome task input Refused t) (sym r) (has_no_plan script (SignaledTwice n) short stands l)
+refused_outcome task input script (FenceUsed n) text short stands l r =
+    subst (λ t. IsOutcome task input Refused t) (sym r) (has_no_plan script (FenceUsed n) short stands l)
+refused_outcome task input script NoMemoryToLower text short stands l r = absurd r
 
--- a script of one lane was lowered and run
-pub output_outcome : (input : List ℕ) (script : Script) (p : Plan) (text : List ℕ) → length input ≤ input_limit →
-    StandsFor input Plain script → Lowers script (Ok p) → text ≡ buffers_text p.script.buffers (final p) → IsOutcome input Done text
-output_outcome input script p text short stands l same =
+-- what is written for a task of a script of one lane answers it
+answers_task : (task : Task) (script : Script) (p : Plan) (text : List ℕ) → HasOneLane script →
+    p ≡ plan_of script → TaskText task p text → AnswersTask task (plan_of script) text
+answers_task Run script p text lane same text_is =
+    let here : text ≡ buffers_text script.buffers (final (plan_of script)) =
+    subst (λ q. text ≡ buffers_text q.script.buffers (final q)) same text_is in
+    subst (λ t. IsOutput (plan_of script) t) (sym here) (one_lane_output script lane)
+answers_task Check script p text lane same text_is = text_is
+
+-- a script of one lane was lowered, and its task done
+pub task_outcome : (task : Task) (input : List ℕ) (script : Script) (p : Plan) (text : List ℕ) →
+    length input ≤ input_limit → StandsFor input Plain script → Lowers script (Ok p) →
+    TaskText task p text → IsOutcome task input Done text
+task_outcome task input script p text short stands l text_is =
     let lane = text_one_lane input Plain script stands in
-    let text_is : text ≡ buffers_text script.buffers (final (plan_of script)) = subst (λ q. text ≡ buffers_text q.script.buffers (final q)) l.1 same in
-    gives_output script text short stands l.0 (one_lane_lawful script lane)
-    (subst (λ t. IsOutput (plan_of script) t) (sym text_is) (one_lane_output script lane))
+    gives_answer script text short stands l.0 (one_lane_lawful script lane)
+    (answers_task task script p text lane l.1 text_is)
+
+-- a faulty line was refused
+pub faulty_outcome : (task : Task) (input : List ℕ) (n : ℕ) (kind : FaultKind) (text : List ℕ) →
+    length input ≤ input_limit → IsFirstFault input Plain n kind → text ≡ line_refusal n kind →
+    IsOutcome task input Refused text
+faulty_outcome task input n kind text short fault text_is =
+    subst (λ t. IsOutcome task input Refused t) (sym text_is) (has_faulty_line n kind short fault)

@@ -1,5 +1,5 @@
 -- What a run of the program may write, and with which status it ends. This project's own.
-use Rattle.std.specs.Prelude.{ℕ, ◌≡◌, ◌<◌, ◌≤◌, List, [], length, Option, Some, None, IfSome, OnSome}
+use Rattle.std.specs.Prelude.{ℕ, ◌≡◌, ◌<◌, ◌≤◌, List, [], ◌++◌, length, Option, Some, None, IfSome, OnSome, codes}
 use Rattle.vq_laws.specs.declared.statement.Form.TheVariants.{Plain}
 use Rattle.vq_laws.specs.declared.statement.FaultKind.{FaultKind}
 use Rattle.vq_laws.specs.declared.script.Script.{Script}
@@ -7,57 +7,79 @@ use Rattle.vq_laws.specs.declared.plan.PlanFault.{PlanFault}
 use Rattle.vq_laws.specs.declared.plan.PlanFault.TheVariants.{Memory as NoMemoryToLower}
 use Rattle.vq_laws.specs.declared.plan.OrderFault.{OrderFault}
 use Rattle.vq_laws.specs.Reading.{StandsFor, IsFirstFault}
+use Rattle.vq_laws.specs.Plan.{Plan}
 use Rattle.vq_laws.specs.Lowering.{plan_of}
 use Rattle.vq_laws.specs.LoweringFaults.{lowering_fault, IsFirstLoweringFault}
 use Rattle.vq_laws.specs.Checks.{IsLawful, IsFirstPlanFault}
+use Rattle.vq_laws.specs.SlowRun.{final}
+use Rattle.vq_laws.specs.OutputText.{line_feed, buffers_text}
 use Rattle.vq_laws.specs.Outputs.{IsOutput}
 use Rattle.vq_laws.specs.Refusals.{too_long, bad_words, line_refusal, plan_refusal, order_refusal}
 use Rattle.vq_main.specs.Writes.{SinkMoment, WroteAll, WrotePart, WroteNothing}
+use Rattle.vq_main.specs.declared.task.Task.{Task}
+use Rattle.vq_main.specs.declared.task.Task.TheVariants.{Run, Check}
 use Rattle.vq_main.specs.declared.status.Status.{Status}
 use Rattle.vq_main.specs.declared.status.Status.TheVariants.{Done, BadWords, Refused, ReadFault, WriteFault, Memory}
+
+-- what is written of a lawful script that is only checked
+abbrev pub is_lawful_text : List ℕ
+is_lawful_text = codes "lawful" ++ line_feed
 
 -- the most bytes of an input
 abbrev pub input_limit : ℕ
 input_limit = 4194304
 
--- What a run without words may answer for an input, with the text that it writes.
-pub data IsOutcome (input : List ℕ) : Status → List ℕ → Type 0 where
+-- What a task writes for a lawful plan: a text that a run of it may give, or that it is lawful.
+abbrev pub AnswersTask : Task → Plan → List ℕ → Type 0
+AnswersTask Run p text = IsOutput p text
+AnswersTask Check p text = text ≡ is_lawful_text
+
+-- What a task may answer for an input, with the text that it writes.
+pub data IsOutcome (task : Task) (input : List ℕ) : Status → List ℕ → Type 0 where
   -- the input is too long
-  is_too_long : input_limit < length input → IsOutcome input Refused too_long
+  is_too_long : input_limit < length input → IsOutcome task input Refused too_long
   -- a line is faulty: the first one of the text, by its first kind
   has_faulty_line : (n : ℕ) (kind : FaultKind) → length input ≤ input_limit →
-      IsFirstFault input Plain n kind → IsOutcome input Refused (line_refusal n kind)
+      IsFirstFault input Plain n kind → IsOutcome task input Refused (line_refusal n kind)
   -- the script that the input stands for has no plan
   has_no_plan : (script : Script) (fault : PlanFault) → length input ≤ input_limit →
       StandsFor input Plain script → IsFirstLoweringFault script fault →
-      IsOutcome input Refused (plan_refusal fault)
+      IsOutcome task input Refused (plan_refusal fault)
   -- its plan is not lawful
   is_unlawful : (script : Script) (fault : OrderFault) → length input ≤ input_limit →
       StandsFor input Plain script → lowering_fault script ≡ None →
-      IsFirstPlanFault (plan_of script) fault → IsOutcome input Refused (order_refusal fault)
-  -- the script is lawful, and the text is one that a run of its plan may give
-  gives_output : (script : Script) (text : List ℕ) → length input ≤ input_limit →
+      IsFirstPlanFault (plan_of script) fault → IsOutcome task input Refused (order_refusal fault)
+  -- the script is lawful, and the text answers the task
+  gives_answer : (script : Script) (text : List ℕ) → length input ≤ input_limit →
       StandsFor input Plain script → lowering_fault script ≡ None → IsLawful (plan_of script) →
-      IsOutput (plan_of script) text → IsOutcome input Done text
+      AnswersTask task (plan_of script) text → IsOutcome task input Done text
 
 -- a text refuses a script for a fault of its lowering; want of memory refuses nothing
 abbrev pub RefusesPlan : PlanFault → List ℕ → Type 0
 RefusesPlan NoMemoryToLower text = ⊥
 RefusesPlan fault text = text ≡ plan_refusal fault
 
--- What a run without words wrote to the sink, by the status that it ended with: a whole text; a part
--- of one, where the writing failed; else nothing.
-abbrev pub Ends : List ℕ → Status → SinkMoment → SinkMoment → Type 0
-Ends input Done before now = (text : List ℕ) × IsOutcome input Done text × WroteAll text before now
-Ends input Refused before now =
-    (text : List ℕ) × IsOutcome input Refused text × WroteAll text before now
-Ends input WriteFault before now =
-    (status : Status) × (text : List ℕ) × IsOutcome input status text × WrotePart text before now
-Ends input ReadFault before now = WroteNothing before now
-Ends input Memory before now = WroteNothing before now
-Ends input BadWords before now = ⊥
+-- the text that is written for a task of a plan of one lane, which has one output
+abbrev pub TaskText : Task → Plan → List ℕ → Type 0
+TaskText Run p text = text ≡ buffers_text p.script.buffers (final p)
+TaskText Check p text = text ≡ is_lawful_text
 
--- What a run with words wrote to the sink: the line that refuses them, or a part of it.
+-- What a run for a task wrote to the sink, by the status that it ended with: a whole text; a part
+-- of one, where the writing failed; else nothing.
+abbrev pub Ends : Task → List ℕ → Status → SinkMoment → SinkMoment → Type 0
+Ends task input Done before now =
+    (text : List ℕ) × IsOutcome task input Done text × WroteAll text before now
+Ends task input Refused before now =
+    (text : List ℕ) × IsOutcome task input Refused text × WroteAll text before now
+Ends task input WriteFault before now =
+    (status : Status) × (text : List ℕ) × IsOutcome task input status text
+    × WrotePart text before now
+Ends task input ReadFault before now = WroteNothing before now
+Ends task input Memory before now = WroteNothing before now
+Ends task input BadWords before now = ⊥
+
+-- What a run with words outside the grammar wrote to the sink: the line that refuses them, or a
+-- part of it.
 abbrev pub EndsForWords : Status → SinkMoment → SinkMoment → Type 0
 EndsForWords BadWords before now = WroteAll bad_words before now
 EndsForWords WriteFault before now = WrotePart bad_words before now

@@ -5,6 +5,7 @@
 mod outcome;
 mod run;
 mod status;
+mod task;
 #[cfg(test)]
 mod tests;
 

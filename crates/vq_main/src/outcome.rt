@@ -5,9 +5,10 @@ ghost use Rattle.vq_laws.specs.OutputText.{buffers_text};
 ghost use Rattle.vq_laws.specs.Refusals.{line_refusal};
 ghost use Rattle.vq_laws.specs.SlowRun.{final};
 ghost use Rattle.vq_laws.specs.declared.statement.Form.TheVariants.{Plain};
-ghost use Rattle.vq_main.specs.Outcomes.{IsOutcome, RefusesPlan, input_limit};
+ghost use Rattle.vq_main.specs.Outcomes.{IsOutcome, RefusesPlan, TaskText, input_limit};
 
 use crate::status::Status;
+use crate::task::Task;
 use std::alloc::{AllocError, Global};
 use vq_script::{FaultKind, Form, Script, ScriptFault, parse};
 use vq_spec::{Plan, PlanFault, buffers_text, slow_run};
@@ -50,15 +51,25 @@ fn final_text(alloc: Global, plan: &Plan) -> Result<Vec<u8>, AllocError>
     buffers_text(alloc, plan, &run.buffers)
 }
 
+/// What answers a task for a plan that is lawful.
+fn task_text(alloc: Global, task: Task, plan: &Plan) -> Result<Vec<u8>, AllocError>
+    ensures { IfOk result (λ text. TaskText task plan.now text.items) }
+{
+    match task {
+        Task::Run => final_text(alloc, plan),
+        Task::Check => Vec::from_slice(alloc, b"lawful\n"),
+    }
+}
+
 /// What is written for a script that an input stands for.
-fn of_script(alloc: Global, script: Script, input: &[u8]) -> Result<Outcome, AllocError>
+fn of_script(alloc: Global, task: Task, script: Script, input: &[u8]) -> Result<Outcome, AllocError>
     requires short { length input.now ≤ input_limit }
     requires stands { StandsFor input.now Plain script }
-    ensures { IfOk result (λ outcome. IsOutcome input.now outcome.status outcome.text.items) }
+    ensures { IfOk result (λ outcome. IsOutcome task input.now outcome.status outcome.text.items) }
 {
     match Plan::lower(alloc, script) {
         Ok(plan) => {
-            let text = final_text(alloc, &plan)?;
+            let text = task_text(alloc, task, &plan)?;
             Ok(Outcome {
                 status: Status::Done,
                 text,
@@ -75,12 +86,12 @@ fn of_script(alloc: Global, script: Script, input: &[u8]) -> Result<Outcome, All
 }
 
 /// What is written for an input.
-pub fn of_input(alloc: Global, input: &[u8]) -> Result<Outcome, AllocError>
+pub fn of_input(alloc: Global, task: Task, input: &[u8]) -> Result<Outcome, AllocError>
     requires { length input.now ≤ input_limit }
-    ensures { IfOk result (λ outcome. IsOutcome input.now outcome.status outcome.text.items) }
+    ensures { IfOk result (λ outcome. IsOutcome task input.now outcome.status outcome.text.items) }
 {
     match parse(alloc, input, Form::Plain) {
-        Ok(script) => of_script(alloc, script, input),
+        Ok(script) => of_script(alloc, task, script, input),
         Err(ScriptFault::Memory) => Err(AllocError),
         Err(ScriptFault::At { line, kind }) => {
             let text = line_refusal(alloc, line, kind)?;

@@ -1,11 +1,14 @@
 //! The top call.
-ghost use Rattle.std.specs.Prelude.{◌≡◌, ◌<◌, length, IfSome};
+ghost use Rattle.std.specs.Prelude.{◌≡◌, map, string_bytes, Some, None, IfSome};
 ghost use Rattle.vq_port.specs.Faults.{Rose};
+ghost use Rattle.vq_main.specs.declared.task.Task.{Task};
+ghost use Rattle.vq_main.specs.Tasks.{task_of};
 ghost use Rattle.vq_main.specs.Writes.{Writes, moment};
 ghost use Rattle.vq_main.specs.Outcomes.{Ends, EndsForWords, ReadsToEnd, WritesNothing, IsLawfulInput, IsDoneOrMemory};
 
 use crate::outcome::of_input;
 use crate::status::Status;
+use crate::task::{Task, task_of};
 use std::alloc::Global;
 use vq_port::{ReadFault, Sink, Source, read_whole, write_whole};
 
@@ -35,9 +38,9 @@ fn refuse_words<K: Sink>(sink: &mut K) -> Status
 }
 
 /// Answers what the source holds.
-fn answer<S: Source, K: Sink>(alloc: Global, source: &mut S, sink: &mut K) -> Status
+fn answer<S: Source, K: Sink>(alloc: Global, task: Task, source: &mut S, sink: &mut K) -> Status
     ensures headline { IfSome (S.left source.old) (λ input.
-        Ends input result
+        Ends task input result
         (moment K.written K.room K.faults sink.old)
         (moment K.written K.room K.faults sink.new)) }
     ensures no_bad_words { result ≡ Status.BadWords → ⊥ }
@@ -52,45 +55,49 @@ fn answer<S: Source, K: Sink>(alloc: Global, source: &mut S, sink: &mut K) -> St
         Err(ReadFault::Failed) => Status::ReadFault,
         Err(ReadFault::Memory) => Status::Memory,
         Err(ReadFault::TooLong) => write(sink, b"error: too long\n", Status::Refused),
-        Ok(input) => match of_input(alloc, input.as_slice()) {
+        Ok(input) => match of_input(alloc, task, input.as_slice()) {
             Ok(outcome) => write(sink, outcome.text.as_slice(), outcome.status),
             Err(_) => Status::Memory,
         },
     }
 }
 
-/// Reads a script from the source, runs it, and writes what it leaves.
+/// Does what the words ask for with the script that the source holds, and writes the answer.
 ///
-/// There are no words yet: any word is `BadWords`. Otherwise the source is read to its end. An input
-/// above 4,194,304 bytes, a faulty line, a script without a plan and an unlawful plan are
-/// `Refused`, with the line of the first fault; else the text is one that a run of the script may
-/// give. `ReadFault` comes only where the source counted a fault in this call, `WriteFault` only
-/// where the sink did; `Memory` is want of memory. The whole text is written at once, at the end.
+/// Without words the script is run. With `--check` alone it is only said whether it is lawful. Other
+/// words are `BadWords`, and nothing is read then. Else the source is read to its end. An input above
+/// 4,194,304 bytes, a faulty line, a script without a plan and an unlawful plan are `Refused`, with
+/// the line of the first fault; else the text is one that a run of the script may give, or `lawful`.
+/// `ReadFault` comes only where the source counted a fault in this call, `WriteFault` only where the
+/// sink did; `Memory` is want of memory. The whole text is written at once, at the end. Source: this
+/// project's own.
 pub fn run<S: Source, K: Sink>(
     alloc: Global,
     words: &[String],
     source: &mut S,
     sink: &mut K,
 ) -> Status
-    // Whatever script it meets, it writes the first fault of its input, or only what the
+    // Whatever script it meets, it writes the first fault of its words or script, or only what the
     // specification's machine for that script may give; every other ending is a counted fault of
     // reading or writing, or want of memory.
-    ensures headline { length words.now ≡ 0 → IfSome (S.left source.old) (λ input.
-        Ends input result
+    ensures headline { (task : Task) → task_of (map string_bytes words.now) ≡ Some task →
+        IfSome (S.left source.old) (λ input.
+        Ends task input result
         (moment K.written K.room K.faults sink.old)
         (moment K.written K.room K.faults sink.new)) }
 
-    // A lawful script is run, unless the source or the sink fails.
-    ensures lawful { length words.now ≡ 0 → IfSome (S.left source.old) (λ input. IsLawfulInput input →
+    // A lawful script is run, or said to be lawful, unless the source or the sink fails.
+    ensures lawful { (task : Task) → task_of (map string_bytes words.now) ≡ Some task →
+        IfSome (S.left source.old) (λ input. IsLawfulInput input →
         ¬ Rose (S.faults source.old) (S.faults source.new) →
         ¬ Rose (K.faults sink.old) (K.faults sink.new) → IsDoneOrMemory result) }
 
-    // Words are refused before anything is read.
-    ensures words { 0 < length words.now → EndsForWords result
+    // Words outside the grammar are refused before anything is read.
+    ensures words { task_of (map string_bytes words.now) ≡ None → EndsForWords result
         (moment K.written K.room K.faults sink.old)
         (moment K.written K.room K.faults sink.new) }
-    ensures bad_words { result ≡ Status.BadWords → 0 < length words.now }
-    ensures unread { 0 < length words.now → source.new ≡ source.old }
+    ensures bad_words { result ≡ Status.BadWords → task_of (map string_bytes words.now) ≡ None }
+    ensures unread { task_of (map string_bytes words.now) ≡ None → source.new ≡ source.old }
 
     // Each fault has its cause, and an answer by the input was read to its end.
     ensures read_fault { result ≡ Status.ReadFault → Rose (S.faults source.old) (S.faults source.new) }
@@ -98,11 +105,11 @@ pub fn run<S: Source, K: Sink>(
     ensures nothing { WritesNothing result
         (moment K.written K.room K.faults sink.old)
         (moment K.written K.room K.faults sink.new) }
-    ensures to_end { length words.now ≡ 0 → ReadsToEnd result (S.left source.old) (S.left source.new) }
+    ensures to_end { (task : Task) → task_of (map string_bytes words.now) ≡ Some task →
+        ReadsToEnd result (S.left source.old) (S.left source.new) }
 {
-    if words.is_empty() {
-        answer(alloc, source, sink)
-    } else {
-        refuse_words(sink)
+    match task_of(words) {
+        Some(task) => answer(alloc, task, source, sink),
+        None => refuse_words(sink),
     }
 }

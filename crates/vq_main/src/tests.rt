@@ -125,12 +125,25 @@ fn faults_of_reading_and_writing_end_a_run(rt: HostRuntime) -> Result<(), Fail> 
 #[test]
 fn words_and_long_inputs_are_refused(rt: HostRuntime) -> Result<(), Fail> {
     let alloc = rt.alloc();
-    let words = vec![in alloc; String::from_str(alloc, "--check")?]?;
-    let mut source = MemorySource::new(FILL.as_bytes().to_vec(alloc)?, 4096, vec![in alloc; 1]?);
-    let mut sink = MemorySink::new(alloc, 4096, Vec::new(alloc))?;
-    let ended = run(alloc, words.as_slice(), &mut source, &mut sink);
-    assert_eq!(rt; ended, Status::BadWords);
-    assert_eq!(rt; sink.written(), b"error: words\n".as_slice());
+    for (first, second) in [
+        ("", None),
+        ("--chec", None),
+        ("--check ", None),
+        ("check", None),
+        ("--check", Some("--check")),
+        ("", Some("--check")),
+    ] {
+        let mut words = vec![in alloc; String::from_str(alloc, first)?]?;
+        if let Some(word) = second {
+            words.push(String::from_str(alloc, word)?)?;
+        }
+        let input = FILL.as_bytes().to_vec(alloc)?;
+        let mut source = MemorySource::new(input, 4096, vec![in alloc; 1]?);
+        let mut sink = MemorySink::new(alloc, 4096, Vec::new(alloc))?;
+        let ended = run(alloc, words.as_slice(), &mut source, &mut sink);
+        assert_eq!(rt; ended, Status::BadWords, "{first:?}, then {second:?}");
+        assert_eq!(rt; sink.written(), b"error: words\n".as_slice());
+    }
 
     for (length, status, text) in [
         (4_194_304, Status::Done, "end\n"),
@@ -141,6 +154,33 @@ fn words_and_long_inputs_are_refused(rt: HostRuntime) -> Result<(), Fail> {
         let ended = ran(alloc, input.as_slice(), &mut sink, Vec::new(alloc))?;
         assert_eq!(rt; ended, status, "{length} bytes");
         assert_eq!(rt; sink.written(), text.as_bytes(), "{length} bytes");
+    }
+    Ok(())
+}
+
+#[test]
+fn scripts_are_only_checked(rt: HostRuntime) -> Result<(), Fail> {
+    let alloc = rt.alloc();
+    for (input, text, status) in [
+        ("", "lawful\n", Status::Done),
+        (FILL, "lawful\n", Status::Done),
+        (
+            "buffer X 4\nsubmit Q\n",
+            "error: name: line 2\n",
+            Status::Refused,
+        ),
+        (
+            "queue Q immediate\nsubmit Q\n",
+            "error: syntax: line 3\n",
+            Status::Refused,
+        ),
+    ] {
+        let words = vec![in alloc; String::from_str(alloc, "--check")?]?;
+        let mut source = MemorySource::new(input.as_bytes().to_vec(alloc)?, 4096, Vec::new(alloc));
+        let mut sink = MemorySink::new(alloc, 4096, Vec::new(alloc))?;
+        let ended = run(alloc, words.as_slice(), &mut source, &mut sink);
+        assert_eq!(rt; ended, status, "{input:?}");
+        assert_eq!(rt; sink.written(), text.as_bytes(), "{input:?}");
     }
     Ok(())
 }
