@@ -8,6 +8,7 @@ LIMIT = 4_194_304
 NAME = re.compile(rb'[A-Za-z_][A-Za-z0-9_]{0,15}')
 DECIMAL = re.compile(rb'[0-9]{1,20}')
 HEXADECIMAL = re.compile(rb'0x[0-9a-fA-F]{1,16}')
+DIGITS = re.compile(rb'([0-9a-fA-F]{2})*')
 # The forms of lines by their section: a word as it stands, or what its place takes. Forms with
 # `unbuilt` are forms of the language that are not built.
 OUTSIDE = [
@@ -21,8 +22,10 @@ OUTSIDE = [
     ('submit', [b'submit', 'queue name']),
 ]
 INSIDE = [
-    ('unbuilt', [b'fill', 'buffer name', 'numeral', b'whole', 'small numeral']),
+    ('fill_whole', [b'fill', 'buffer name', 'numeral', b'whole', 'small numeral']),
     ('fill', [b'fill', 'buffer name', 'numeral', 'numeral', 'small numeral']),
+    ('update', [b'update', 'buffer name', 'numeral', 'digits']),
+    ('copy', [b'copy', 'buffer name', 'numeral', 'buffer name', 'numeral', 'numeral']),
     ('end', [b'end']),
 ]
 
@@ -75,6 +78,8 @@ class Reader:
                 value = numeral(word)
                 if value is None or (place == 'small numeral' and value >= 2 ** 32):
                     raise Fault('number')
+            if place == 'digits' and not DIGITS.fullmatch(word):
+                raise Fault('number')
         for place, word in at:
             if place == 'queue name' and self.names.get(word, ('', 0))[0] != 'queue':
                 raise Fault('name')
@@ -113,16 +118,48 @@ class Reader:
         self.begun = self.inside = True
         self.in_batch = 0
 
-    def fill(self, words):
-        held = self.buffers[self.names[words[1]][1]][1]
-        offset, size, word = numeral(words[2]), numeral(words[3]), numeral(words[4])
-        if offset >= len(held) or offset % 4 or size % 4 or size == 0 or offset + size > len(held):
-            raise Fault('range')
+    def held(self, name):
+        return self.buffers[self.names[name][1]][1]
+
+    def command(self):
         if self.commands == 8192 or self.in_batch == 64:
             raise Fault('limit')
         self.commands += 1
         self.in_batch += 1
+
+    def fill(self, words):
+        held = self.held(words[1])
+        offset, size, word = numeral(words[2]), numeral(words[3]), numeral(words[4])
+        if offset >= len(held) or offset % 4 or size % 4 or size == 0 or offset + size > len(held):
+            raise Fault('range')
+        self.command()
         held[offset:offset + size] = word.to_bytes(4, 'little') * (size // 4)
+
+    def fill_whole(self, words):
+        held = self.held(words[1])
+        offset, word = numeral(words[2]), numeral(words[4])
+        if offset >= len(held) or offset % 4:
+            raise Fault('range')
+        self.command()
+        count = (len(held) - offset) // 4
+        held[offset:offset + 4 * count] = word.to_bytes(4, 'little') * count
+
+    def update(self, words):
+        held, offset, written = self.held(words[1]), numeral(words[2]), bytes.fromhex(words[3].decode())
+        if offset >= len(held) or offset % 4 or len(written) % 4 or len(written) > 65536 or offset + len(written) > len(held):
+            raise Fault('range')
+        self.command()
+        held[offset:offset + len(written)] = written
+
+    def copy(self, words):
+        source, target = self.held(words[1]), self.held(words[3])
+        start, place, size = (numeral(words[number]) for number in (2, 4, 5))
+        if start >= len(source) or place >= len(target) or size == 0 or start + size > len(source) or place + size > len(target):
+            raise Fault('range')
+        if source is target and set(range(start, start + size)) & set(range(place, place + size)):
+            raise Fault('overlap')
+        self.command()
+        target[place:place + size] = source[start:start + size]
 
     def end(self, _):
         self.inside = False

@@ -1,5 +1,5 @@
 -- Canonical texts, computed. A number's digits are opened by name.
-use Rattle.std.proofs.Common.{◌≡◌, ℕ, List, [], Ok, Err, refl}
+use Rattle.std.proofs.Common.{◌≡◌, ℕ, List, [], ◌++◌, Ok, Err, refl}
 use Rattle.std.specs.Prelude.{codes, Result}
 use Rattle.std.specs.Fmt.{digits}
 use Rattle.vq_laws.specs.declared.statement.Form.{Form}
@@ -19,3 +19,13 @@ reprinted form text = printed (read_script text form)
 one_buffer : reprinted Plain (codes " buffer  X 0x10 # note\n") ≡ codes "buffer X 16\n"
 unfolding digits
 one_buffer = refl
+
+-- the numerals of each command
+every_command :
+    reprinted Plain
+    (codes "buffer X 0x40\nqueue Q immediate\nsubmit Q\nfill X 0 whole 1 # note\n"
+    ++ codes "fill X 0x0 4 0xABC\nupdate X 4 0aFF00b1\ncopy  X 00 X 8 8\nend")
+    ≡ codes "buffer X 64\nqueue Q immediate\nsubmit Q\nfill X 0 whole 0x00000001\n"
+    ++ codes "fill X 0 4 0x00000abc\nupdate X 4 0aff00b1\ncopy X 0 X 8 8\nend\n"
+unfolding digits
+every_command = refl

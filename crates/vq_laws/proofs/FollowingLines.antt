@@ -1,6 +1,6 @@
 -- A line without a fault says a statement that may follow what the lines before say.
 use Rattle.std.proofs.Common.{◌≡◌, ℕ, ◌+◌, ◌<◌, ◌==◌, Bool, true, false, cond, not, ◌&&◌, ◌||◌, List, [], ◌∷◌, length, map, find, Option, Some, None, option_map, refl, sym, ap, ◌∙◌, subst, arith}
-use Rattle.std.specs.Prelude.{nat_lt, sum}
+use Rattle.std.specs.Prelude.{nat_lt, is_some, sum}
 use Rattle.std.specs.List.{list_any, position, position_or_len}
 use Rattle.std.specs.Str.{bytes_eq}
 use Rattle.std.proofs.lemmas.List.{length-map}
@@ -12,26 +12,26 @@ use Rattle.vq_laws.specs.declared.statement.Statement.{Statement}
 use Rattle.vq_laws.specs.declared.statement.Statement.TheVariants.{DeclareBuffer, DeclareQueue, BeginBatch, AddCommand, EndBatch}
 use Rattle.vq_laws.specs.declared.statement.Line.{Line}
 use Rattle.vq_laws.specs.declared.statement.LineForm.{LineForm}
-use Rattle.vq_laws.specs.declared.statement.LineForm.TheVariants.{BufferLine, QueueLine, SubmitLine, FillLine, EndLine}
+use Rattle.vq_laws.specs.declared.statement.LineForm.TheVariants.{BufferLine, QueueLine, SubmitLine, FillWholeLine, FillLine, UpdateLine, CopyLine, EndLine}
 use Rattle.vq_laws.specs.declared.script.Buffer.{Buffer}
 use Rattle.vq_laws.specs.declared.script.Semaphore.{Semaphore}
 use Rattle.vq_laws.specs.declared.script.Mode.TheVariants.{Immediate}
 use Rattle.vq_laws.specs.declared.script.Command.{Command}
-use Rattle.vq_laws.specs.declared.script.Command.TheVariants.{Fill}
-use Rattle.vq_laws.specs.declared.script.FillSize.TheVariants.{Count}
+use Rattle.vq_laws.specs.declared.script.Command.TheVariants.{Fill, Update, Copy}
+use Rattle.vq_laws.specs.declared.script.FillSize.TheVariants.{Whole, Count}
 use Rattle.vq_laws.specs.Text.{numeral, is_name}
 use Rattle.vq_laws.specs.Context.{section, buffers, queues, buffer_at, queue_at, is_declared, size_of, has_begun, open_batch, is_command, count, some, version_of}
-use Rattle.vq_laws.specs.Meaning.{matches, is_built, forms_at, meaning, small_numeral, of_four}
+use Rattle.vq_laws.specs.Meaning.{matches, is_built, forms_at, meaning, small_numeral, is_hex, hex_bytes, of_two, of_three, of_four, of_five}
 use Rattle.vq_laws.specs.Limits.{is_job, limits_of, passes_limit}
-use Rattle.vq_laws.specs.Ranges.{is_aligned}
-use Rattle.vq_laws.specs.LineFaults.{fault_of, is_in_range, is_within, part_of}
+use Rattle.vq_laws.specs.Ranges.{is_aligned, overlaps_itself}
+use Rattle.vq_laws.specs.LineFaults.{fault_of, is_in_range, is_within, is_command_in_range, overlaps, part_of}
 use Rattle.vq_laws.specs.SameScript.{buffer_without_line, queue_without_line}
 use Rattle.vq_laws.proofs.Meanings.{found_passes, built_found}
 use Rattle.vq_laws.proofs.LineFacts.{belongs, found_belongs, forms_belong, where_it_is_built, position_within, below}
 use Rattle.vq_laws.proofs.CanonicalLaws.{item_same}
-use Rattle.vq_laws.proofs.WrittenNumbers.{numeral_below, small_numeral_below}
+use Rattle.vq_laws.proofs.WrittenNumbers.{numeral_below, small_numeral_below, hex_bytes_below}
 use Rattle.vq_laws.proofs.LineTests.{PassesTests, tests_passed}
-use Rattle.vq_laws.proofs.ScriptParts.{Parts, queue_list, May, Say, has_jobs, part_of_batch, is_named, size_in, sizes_in, is_fill_in_range, count_jobs, count_commands, HasCommands, OpenLines}
+use Rattle.vq_laws.proofs.ScriptParts.{Parts, queue_list, May, Say, has_jobs, part_of_batch, is_named, size_in, sizes_in, is_within_in, is_command_in, HasNumerals, count_jobs, count_commands, HasCommands, OpenLines}
 
 -- What the context is, in the words of parts
 
@@ -104,14 +104,26 @@ module _ (before : List Line) (p : Parts) (h : Say before p) where
       || (sym (any_same (λ q. bytes_eq name q.name) queue_without_line (λ x. refl) (queues before))
       ∙ ap (list_any (λ q. bytes_eq name q.name)) h.queues_are) i
 
-  -- whether a fill is in range
-  pub within_said : (b offset size : ℕ) →
-      (is_within before b offset size && is_aligned offset && is_aligned size)
-      ≡ is_fill_in_range p.buffers b offset size
+  -- whether bytes lie in a buffer
+  within_said : (b offset size : ℕ) →
+      is_within before b offset size ≡ is_within_in p.buffers b offset size
   within_said b offset size = λ i.
-      (nat_lt offset (size_said b i) && nat_lt 0 size && not
-      (nat_lt (size_said b i) (offset + size)))
-      && is_aligned offset && is_aligned size
+      nat_lt offset (size_said b i) && nat_lt 0 size && not
+      (nat_lt (size_said b i) (offset + size))
+
+  -- whether a command is in range
+  pub range_said : (c : Command) → is_command_in_range before c ≡ is_command_in p.buffers c
+  range_said (Fill b o Whole w) = λ i. nat_lt o (size_said b i) && is_aligned o
+  range_said (Fill b o (Count n) w) = λ i. within_said b o n i && is_aligned o && is_aligned n
+  range_said (Update b o bytes) = λ i.
+      within_said b o (length bytes) i && is_aligned o && is_aligned (length bytes)
+      && not (nat_lt 65536 (length bytes))
+  range_said (Copy s from t to n) = λ i. within_said s from n i && within_said t to n i
+
+  -- whether it overlaps itself
+  pub overlap_said : (c : Command) → overlaps before (AddCommand c)
+      ≡ overlaps_itself (sizes_in p.buffers) c
+  overlap_said c = ap (λ (ns : List ℕ). overlaps_itself ns c) sizes_said
 
 -- Parts of the text
 
@@ -243,6 +255,57 @@ module _ (form : Form) (before : List Line) (p : Parts) (h : Say before p) where
           subst (May p) same
           (record { outside = none; same = one.0; name = one.1.0; is = one.1.1; few = omega arith })
 
+  -- a command
+  command_may : (words : List (List ℕ)) (f : LineForm) (c : Command) (s : Statement) →
+      InBatch ≡ part_of_batch p.batch → Some (AddCommand c) ≡ Some s → HasNumerals c →
+      PassesTests form before words f s → May p s
+  command_may words f c s e i numerals t =
+      let same : AddCommand c ≡ s = same_statement (AddCommand c) s i in
+      let r : is_in_range before (AddCommand c) ≡ true =
+      subst (λ (z : Statement). is_in_range before z ≡ true) (sym same) t.ranged in
+      let o : overlaps before (AddCommand c) ≡ false =
+      subst (λ (z : Statement). overlaps before z ≡ false) (sym same) t.apart in
+      let limits =
+      or_parts (not (nat_lt (count is_command before) 8192))
+      (not (nat_lt (count is_command (open_batch before)) 64))
+      (subst (λ (z : Statement). passes_limit (limits_of (version_of before)) before z ≡ false)
+      (sym same) t.limited) in
+      let all = below (count is_command before) 8192 limits.0 in
+      let few = below (count is_command (open_batch before)) 64 limits.1 in
+      let inside = inside_batch p.batch e in
+      let commands : HasCommands inside.0 (open_batch before) =
+      subst (λ (x : Option (List Command)). OpenLines x (open_batch before)) inside.1
+      h.opened in
+      let counted = commands.counted in
+      let counts : count is_command before ≡ sum (map length p.jobs) + length inside.0 =
+      h.command_count ∙ ap (λ (x : Option (List Command)). count_commands p.jobs x) inside.1 in
+      subst (May p) same
+      (record {
+        commands = inside.0;
+        inside = inside.1;
+        range = sym (range_said before p h c) ∙ r;
+        apart = sym (overlap_said before p h c) ∙ o;
+        numerals = numerals;
+        few = omega arith;
+        total = omega arith;
+      })
+
+  -- a fill of the rest of a buffer
+  fill_whole_may : (a buffer offset c word : List ℕ) (s : Statement) →
+      InBatch ≡ part_of_batch p.batch →
+      PassesTests form before (a ∷ buffer ∷ offset ∷ c ∷ word ∷ []) FillWholeLine s → May p s
+  fill_whole_may a buffer offset c word s e t =
+      by_places (buffer_at before buffer) (numeral offset) (small_numeral word) refl refl t.said
+    where
+      by_places : (b o w : Option ℕ) → numeral offset ≡ o → small_numeral word ≡ w →
+          of_three (λ b o w. AddCommand (Fill b o Whole w)) b o w ≡ Some s → May p s
+      by_places None o w f k i = absurd (cc)
+      by_places (Some b) None w f k i = absurd (cc)
+      by_places (Some b) (Some o) None f k i = absurd (cc)
+      by_places (Some b) (Some o) (Some w) f k i =
+          command_may (a ∷ buffer ∷ offset ∷ c ∷ word ∷ []) FillWholeLine (Fill b o Whole w) s e i
+          (numeral_below offset o f, small_numeral_below word w k) t
+
   -- a fill
   fill_may : (a buffer offset size word : List ℕ) (s : Statement) →
       InBatch ≡ part_of_batch p.batch →
@@ -259,40 +322,47 @@ module _ (form : Form) (before : List Line) (p : Parts) (h : Say before p) where
       by_places (Some b) (Some o) None w f g k i = absurd (cc)
       by_places (Some b) (Some o) (Some n) None f g k i = absurd (cc)
       by_places (Some b) (Some o) (Some n) (Some w) f g k i =
-          let same : AddCommand (Fill b o (Count n) w) ≡ s =
-          same_statement (AddCommand (Fill b o (Count n) w)) s i in
-          let r : is_in_range before (AddCommand (Fill b o (Count n) w)) ≡ true =
-          subst (λ (z : Statement). is_in_range before z ≡ true) (sym same) t.ranged in
-          let limits =
-          or_parts (not (nat_lt (count is_command before) 8192))
-          (not (nat_lt (count is_command (open_batch before)) 64))
-          (subst (λ (z : Statement). passes_limit (limits_of (version_of before)) before z ≡ false)
-          (sym same) t.limited) in
-          let all = below (count is_command before) 8192 limits.0 in
-          let few = below (count is_command (open_batch before)) 64 limits.1 in
-          let inside = inside_batch p.batch e in
-          let commands : HasCommands inside.0 (open_batch before) =
-          subst (λ (x : Option (List Command)). OpenLines x (open_batch before)) inside.1
-          h.opened in
-          let counted = commands.counted in
-          let counts : count is_command before ≡ sum (map length p.jobs) + length inside.0 =
-          h.command_count ∙ ap (λ (x : Option (List Command)). count_commands p.jobs x) inside.1 in
-          subst (May p) same
-          (record {
-            commands = inside.0;
-            inside = inside.1;
-            buffer = b;
-            offset = o;
-            size = n;
-            word = w;
-            is = refl;
-            range = sym (within_said before p h b o n) ∙ r;
-            offset_below = numeral_below offset o f;
-            size_below = numeral_below size n g;
-            word_below = small_numeral_below word w k;
-            few = omega arith;
-            total = omega arith;
-          })
+          command_may (a ∷ buffer ∷ offset ∷ size ∷ word ∷ []) FillLine (Fill b o (Count n) w) s e i
+          (numeral_below offset o f, numeral_below size n g, small_numeral_below word w k) t
+
+  -- an update
+  update_may : (a buffer offset digits : List ℕ) (s : Statement) →
+      InBatch ≡ part_of_batch p.batch →
+      PassesTests form before (a ∷ buffer ∷ offset ∷ digits ∷ []) UpdateLine s → May p s
+  update_may a buffer offset digits s e t =
+      by_places (buffer_at before buffer) (numeral offset) refl t.said
+    where
+      hex : is_hex digits ≡ true
+      hex =
+          (and_parts (is_hex digits) true
+          (and_parts (is_some (numeral offset)) (is_hex digits && true) t.numeric).1).0
+
+      by_places : (b o : Option ℕ) → numeral offset ≡ o →
+          of_two (λ b o. AddCommand (Update b o (hex_bytes digits))) b o ≡ Some s → May p s
+      by_places None o f i = absurd (cc)
+      by_places (Some b) None f i = absurd (cc)
+      by_places (Some b) (Some o) f i =
+          command_may (a ∷ buffer ∷ offset ∷ digits ∷ []) UpdateLine (Update b o (hex_bytes digits))
+          s e i (numeral_below offset o f, hex_bytes_below digits hex) t
+
+  -- a copy
+  copy_may : (a source from target to size : List ℕ) (s : Statement) →
+      InBatch ≡ part_of_batch p.batch →
+      PassesTests form before (a ∷ source ∷ from ∷ target ∷ to ∷ size ∷ []) CopyLine s → May p s
+  copy_may a source from target to size s e t =
+      by_places (buffer_at before source) (numeral from) (buffer_at before target) (numeral to)
+      (numeral size) refl refl refl t.said
+    where
+      by_places : (b o c q n : Option ℕ) → numeral from ≡ o → numeral to ≡ q → numeral size ≡ n →
+          of_five (λ b o c q n. AddCommand (Copy b o c q n)) b o c q n ≡ Some s → May p s
+      by_places None o c q n f g k i = absurd (cc)
+      by_places (Some b) None c q n f g k i = absurd (cc)
+      by_places (Some b) (Some o) None q n f g k i = absurd (cc)
+      by_places (Some b) (Some o) (Some c) None n f g k i = absurd (cc)
+      by_places (Some b) (Some o) (Some c) (Some q) None f g k i = absurd (cc)
+      by_places (Some b) (Some o) (Some c) (Some q) (Some n) f g k i =
+          command_may (a ∷ source ∷ from ∷ target ∷ to ∷ size ∷ []) CopyLine (Copy b o c q n) s e i
+          (numeral_below from o f, numeral_below to q g, numeral_below size n k) t
 
   -- the end of a batch
   end_may : (a : List ℕ) (s : Statement) → InBatch ≡ part_of_batch p.batch →
@@ -310,13 +380,22 @@ module _ (form : Form) (before : List Line) (p : Parts) (h : Say before p) where
   line_may Outside (QueueLine Immediate) (a ∷ name ∷ c ∷ []) s e g b m t =
       queue_may a name c s e b t
   line_may Outside SubmitLine (a ∷ queue ∷ []) s e g b m t = submit_may a queue s e t
+  line_may InBatch FillWholeLine (a ∷ buffer ∷ offset ∷ c ∷ word ∷ []) s e g b m t =
+      fill_whole_may a buffer offset c word s e t
   line_may InBatch FillLine (a ∷ buffer ∷ offset ∷ size ∷ word ∷ []) s e g b m t =
       fill_may a buffer offset size word s e t
+  line_may InBatch UpdateLine (a ∷ buffer ∷ offset ∷ digits ∷ []) s e g b m t =
+      update_may a buffer offset digits s e t
+  line_may InBatch CopyLine (a ∷ source ∷ from ∷ target ∷ to ∷ size ∷ []) s e g b m t =
+      copy_may a source from target to size s e t
   line_may InBatch EndLine (a ∷ []) s e g b m t = end_may a s e t
   line_may InSchedule BufferLine words s e g b m t = absurd (false≢true g)
   line_may InSchedule (QueueLine mode) words s e g b m t = absurd (false≢true g)
   line_may InSchedule SubmitLine words s e g b m t = absurd (false≢true g)
+  line_may InSchedule FillWholeLine words s e g b m t = absurd (false≢true g)
   line_may InSchedule FillLine words s e g b m t = absurd (false≢true g)
+  line_may InSchedule UpdateLine words s e g b m t = absurd (false≢true g)
+  line_may InSchedule CopyLine words s e g b m t = absurd (false≢true g)
   line_may InSchedule EndLine words s e g b m t = absurd (false≢true g)
   line_may was f words s e g b m t = absurd (cc)
 

@@ -14,7 +14,7 @@ use Rattle.vq_laws.specs.declared.statement.Statement.{Statement}
 use Rattle.vq_laws.specs.declared.statement.Statement.TheVariants.{DeclareBuffer, DeclareQueue, BeginBatch, AddCommand, EndBatch}
 use Rattle.vq_laws.specs.declared.statement.Line.{Line}
 use Rattle.vq_laws.specs.declared.statement.LineForm.{LineForm}
-use Rattle.vq_laws.specs.declared.statement.LineForm.TheVariants.{BufferLine, QueueLine, SubmitLine, FillLine, EndLine}
+use Rattle.vq_laws.specs.declared.statement.LineForm.TheVariants.{BufferLine, QueueLine, SubmitLine, FillWholeLine, FillLine, UpdateLine, CopyLine, EndLine}
 use Rattle.vq_laws.specs.declared.script.Buffer.{Buffer}
 use Rattle.vq_laws.specs.declared.script.Queue.{Queue}
 use Rattle.vq_laws.specs.declared.script.Mode.{Mode}
@@ -25,7 +25,7 @@ use Rattle.vq_laws.specs.declared.script.FillSize.TheVariants.{Whole, Count}
 use Rattle.vq_laws.specs.Text.{numeral}
 use Rattle.vq_laws.specs.Forms.{places, forms_outside, forms_in_batch, forms_in_schedule, held_forms, schedule_forms}
 use Rattle.vq_laws.specs.Context.{section, buffers, queues, queue_at, buffer_at, open_batch, size_of, is_command, count, version_of}
-use Rattle.vq_laws.specs.Meaning.{matches, open_places, is_built, where_built, of_four, statement_of, meaning, form_of, forms_at, first_forms, small_numeral}
+use Rattle.vq_laws.specs.Meaning.{matches, open_places, is_built, where_built, of_two, of_three, of_four, of_five, hex_bytes, statement_of, meaning, form_of, forms_at, first_forms, small_numeral}
 use Rattle.vq_laws.specs.Limits.{limits_of, passes_limit, is_job}
 use Rattle.vq_laws.specs.LineFaults.{fault_of, has_fault, is_in_range, is_command_in_range, is_within, overlaps}
 use Rattle.vq_laws.specs.Ranges.{Fits, IsWithin, is_aligned, overlaps_itself}
@@ -138,7 +138,10 @@ Said before was other = ⊥
 
 -- whether a form that is built may stand in a part of the text
 abbrev pub belongs : Section → LineForm → Bool
+belongs Outside FillWholeLine = false
 belongs Outside FillLine = false
+belongs Outside UpdateLine = false
+belongs Outside CopyLine = false
 belongs Outside EndLine = false
 belongs InBatch BufferLine = false
 belongs InBatch (QueueLine mode) = false
@@ -146,7 +149,10 @@ belongs InBatch SubmitLine = false
 belongs InSchedule BufferLine = false
 belongs InSchedule (QueueLine mode) = false
 belongs InSchedule SubmitLine = false
+belongs InSchedule FillWholeLine = false
 belongs InSchedule FillLine = false
+belongs InSchedule UpdateLine = false
+belongs InSchedule CopyLine = false
 belongs InSchedule EndLine = false
 belongs was other = true
 
@@ -217,15 +223,29 @@ position_within test qs q h = by_test (nat_lt (position_or_len test qs) (length 
 pub below : (a b : ℕ) → not (nat_lt a b) ≡ false → a < b
 below a b h = ltb-true a b (passes (nat_lt a b) h)
 
--- what a fill says
-fill_says : (before : List Line) (buffer offset size word : Option ℕ) (s : Statement) →
-    of_four (λ b o n w. AddCommand (Fill b o (Count n) w)) buffer offset size word ≡ Some s →
+-- a command of two numbers, of three, of four, of five
+of_two_says : (f : ℕ → ℕ → Command) (b o : Option ℕ) (s : Statement) →
+    of_two (λ x y. AddCommand (f x y)) b o ≡ Some s → (c : Command) × (AddCommand c ≡ s)
+of_two_says f None o s h = absurd (cc)
+of_two_says f (Some b) None s h = absurd (cc)
+of_two_says f (Some b) (Some o) s h = (f b o, cc)
+
+of_three_says : (f : ℕ → ℕ → ℕ → Command) (b o n : Option ℕ) (s : Statement) →
+    of_three (λ x y z. AddCommand (f x y z)) b o n ≡ Some s → (c : Command) × (AddCommand c ≡ s)
+of_three_says f None o n s h = absurd (cc)
+of_three_says f (Some b) o n s h = of_two_says (f b) o n s h
+
+of_four_says : (f : ℕ → ℕ → ℕ → ℕ → Command) (b o n w : Option ℕ) (s : Statement) →
+    of_four (λ x y z u. AddCommand (f x y z u)) b o n w ≡ Some s →
     (c : Command) × (AddCommand c ≡ s)
-fill_says before None offset size word s h = absurd (cc)
-fill_says before (Some b) None size word s h = absurd (cc)
-fill_says before (Some b) (Some o) None word s h = absurd (cc)
-fill_says before (Some b) (Some o) (Some n) None s h = absurd (cc)
-fill_says before (Some b) (Some o) (Some n) (Some w) s h = (Fill b o (Count n) w, cc)
+of_four_says f None o n w s h = absurd (cc)
+of_four_says f (Some b) o n w s h = of_three_says (f b) o n w s h
+
+of_five_says : (f : ℕ → ℕ → ℕ → ℕ → ℕ → Command) (b o n w v : Option ℕ) (s : Statement) →
+    of_five (λ x y z u k. AddCommand (f x y z u k)) b o n w v ≡ Some s →
+    (c : Command) × (AddCommand c ≡ s)
+of_five_says f None o n w v s h = absurd (cc)
+of_five_says f (Some b) o n w v s h = of_four_says (f b) o n w v s h
 
 -- A statement of a form that is built, by the part of the text in which it stands.
 data Shape (before : List Line) : Section → Statement → Type 0 where
@@ -254,6 +274,9 @@ module _ (before : List Line) where
       same_statement : (a b : Statement) → Some a ≡ Some b → a ≡ b
       same_statement a b e = cc
 
+  command_shape : (s : Statement) → (c : Command) × (AddCommand c ≡ s) → Shape before InBatch s
+  command_shape s c = subst (Shape before InBatch) c.1 (a_command c.0)
+
   -- the words of a form that is built and stands where it may
   shape : (was : Section) (f : LineForm) (words : List (List ℕ)) (s : Statement) →
       belongs was f ≡ true → is_built before f ≡ true →
@@ -264,16 +287,31 @@ module _ (before : List Line) where
       subst (Shape before Outside) same
       (a_queue name Immediate (eqb-true (length (queues before)) 0 b))
   shape Outside SubmitLine (queue ∷ []) s g b h = batch_shape queue (queue_at before queue) s refl h
+  shape InBatch FillWholeLine (buffer ∷ offset ∷ word ∷ []) s g b h =
+      command_shape s
+      (of_three_says (λ x y z. Fill x y Whole z) (buffer_at before buffer) (numeral offset)
+      (small_numeral word) s h)
   shape InBatch FillLine (buffer ∷ offset ∷ size ∷ word ∷ []) s g b h =
-      let c = fill_says before (buffer_at before buffer) (numeral offset) (numeral size)
-      (small_numeral word) s h in
-      subst (Shape before InBatch) c.1 (a_command c.0)
+      command_shape s
+      (of_four_says (λ x y z u. Fill x y (Count z) u) (buffer_at before buffer) (numeral offset)
+      (numeral size) (small_numeral word) s h)
+  shape InBatch UpdateLine (buffer ∷ offset ∷ digits ∷ []) s g b h =
+      command_shape s
+      (of_two_says (λ x y. Update x y (hex_bytes digits)) (buffer_at before buffer) (numeral offset)
+      s h)
+  shape InBatch CopyLine (source ∷ from ∷ target ∷ to ∷ size ∷ []) s g b h =
+      command_shape s
+      (of_five_says (λ x y z u k. Copy x y z u k) (buffer_at before source) (numeral from)
+      (buffer_at before target) (numeral to) (numeral size) s h)
   shape InBatch EndLine [] s g b h =
       let same : EndBatch ≡ s = cc in subst (Shape before InBatch) same an_end
   shape InSchedule BufferLine words s g b h = absurd (false≢true g)
   shape InSchedule (QueueLine mode) words s g b h = absurd (false≢true g)
   shape InSchedule SubmitLine words s g b h = absurd (false≢true g)
+  shape InSchedule FillWholeLine words s g b h = absurd (false≢true g)
   shape InSchedule FillLine words s g b h = absurd (false≢true g)
+  shape InSchedule UpdateLine words s g b h = absurd (false≢true g)
+  shape InSchedule CopyLine words s g b h = absurd (false≢true g)
   shape InSchedule EndLine words s g b h = absurd (false≢true g)
   shape was f words s g b h = absurd (cc)
 

@@ -1,11 +1,12 @@
 -- A script that a text stands for is valid and has one lane.
 use Rattle.std.proofs.Common.{◌≡◌, ℕ, zero, suc, ◌+◌, ◌<◌, ◌≤◌, Bool, true, false, cond, not, List, [], ◌∷◌, ◌++◌, append-nil, length, length-append, map, fold, take, Option, Some, None, Ok, Err, refl, sym, ap, ◌∙◌, subst, arith}
 use Rattle.std.specs.Prelude.{Result, sum}
-use Rattle.std.specs.List.{slice_get, slice_index_or, filter_map, cons_option, position_or_len}
+use Rattle.std.specs.List.{slice_get, slice_index_or, filter_map, cons_option, position_or_len, flat_map}
 use Rattle.std.specs.Option.{option_map_or}
 use Rattle.std.proofs.lemmas.List.{map-append}
 use Rattle.std.proofs.lemmas.List.Elements.{filter_map-append}
 use Rattle.std.proofs.lemmas.List.Sums.{sum_by-cons, sum_by-append}
+use Rattle.std.proofs.lemmas.Bool.{or_from}
 use Rattle.vq_laws.specs.declared.statement.Form.{Form}
 use Rattle.vq_laws.specs.declared.statement.FaultKind.{FaultKind}
 use Rattle.vq_laws.specs.declared.statement.FaultKind.TheVariants.{Syntax}
@@ -21,8 +22,8 @@ use Rattle.vq_laws.specs.declared.script.CommandLine.{CommandLine}
 use Rattle.vq_laws.specs.declared.script.Command.{Command}
 use Rattle.vq_laws.specs.declared.script.Command.TheVariants.{Fill, Update, Copy}
 use Rattle.vq_laws.specs.declared.script.FillSize.TheVariants.{Whole, Count}
-use Rattle.vq_laws.specs.Context.{section_after, section, buffer_of, buffers, semaphore_of, queue_of, queues, is_end, is_command, count}
-use Rattle.vq_laws.specs.ScriptOfLines.{script_of, batch_lines, wait_of, command_of, signal_of, fence_of, first_of_list, jobs_of}
+use Rattle.vq_laws.specs.Context.{section_after, section, buffer_of, buffers, semaphore_of, queue_of, queues, is_end, is_command, count, some, version_of}
+use Rattle.vq_laws.specs.ScriptOfLines.{script_of, batch_lines, wait_of, command_of, signal_of, fence_of, first_of_list, jobs_of, is_schedule, turns_at}
 use Rattle.vq_laws.specs.Reading.{with_line, without_fault, read_line, read_statement, read_lines, go_on, StandsFor}
 use Rattle.vq_laws.specs.LineFaults.{fault_of, ends_early}
 use Rattle.vq_laws.specs.Meaning.{meaning}
@@ -587,9 +588,57 @@ module _ (sizes : List ℕ) where
       jobs_kept_more line.number was line.statement lines a.0 a.1
       (jobs_kept (section_after was line.statement) lines a.1)
 
+-- lines that stand name no version, and have no schedule
+module _ (sizes : List ℕ) where
+  no_version : (lines : List Line) → AllStand sizes Outside lines → version_of lines ≡ 1
+  no_version [] a = refl
+  no_version (line ∷ lines) a = by_statement line.number line.statement a.0
+    where
+      by_statement : (n : ℕ) (s : Statement) → Stands sizes Outside s →
+          version_of (record { number = n; statement = s } ∷ lines) ≡ 1
+      by_statement n (DeclareBuffer name size) h = refl
+      by_statement n (DeclareQueue name mode) h = refl
+      by_statement n (BeginBatch q) h = refl
+      by_statement n s h = absurd h
+
+  is_no_schedule : (was : Section) (s : Statement) → Stands sizes was s → is_schedule s ≡ false
+  is_no_schedule Outside (DeclareBuffer name size) h = refl
+  is_no_schedule Outside (DeclareQueue name mode) h = refl
+  is_no_schedule Outside (BeginBatch q) h = refl
+  is_no_schedule InBatch (AddCommand c) h = refl
+  is_no_schedule InBatch EndBatch h = refl
+  is_no_schedule was s h = absurd h
+
+  no_schedule : (was : Section) (lines : List Line) → AllStand sizes was lines →
+      some is_schedule lines ≡ false
+  no_schedule was [] a = refl
+  no_schedule was (line ∷ lines) a =
+      or_from (is_schedule line.statement) (some is_schedule lines)
+      (is_no_schedule was line.statement a.0)
+      (no_schedule (section_after was line.statement) lines a.1)
+
+  no_turn : (n : ℕ) (was : Section) (s : Statement) → Stands sizes was s →
+      turns_at (record { number = n; statement = s }) ≡ []
+  no_turn n Outside (DeclareBuffer name size) h = refl
+  no_turn n Outside (DeclareQueue name mode) h = refl
+  no_turn n Outside (BeginBatch q) h = refl
+  no_turn n InBatch (AddCommand c) h = refl
+  no_turn n InBatch EndBatch h = refl
+  no_turn n was s h = absurd h
+
+  no_turns : (was : Section) (lines : List Line) → AllStand sizes was lines →
+      flat_map turns_at lines ≡ []
+  no_turns was [] a = refl
+  no_turns was (line ∷ lines) a = λ i.
+      no_turn line.number was line.statement a.0 i
+      ++ no_turns (section_after was line.statement) lines a.1 i
+
 lines_one_lane : (lines : List Line) → Kept lines → HasOneLane (script_of lines)
 lines_one_lane lines k =
     record {
+      version = no_version (sizes_before lines) lines k.stand;
+      unscheduled = no_schedule (sizes_before lines) Outside lines k.stand;
+      turns = no_turns (sizes_before lines) Outside lines k.stand;
       semaphores =
           none_of (sizes_before lines) semaphore_of (no_semaphore (sizes_before lines)) Outside
           lines k.stand;

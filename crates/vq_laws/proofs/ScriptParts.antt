@@ -20,15 +20,16 @@ use Rattle.vq_laws.specs.declared.script.Job.{Job}
 use Rattle.vq_laws.specs.declared.script.Job.TheVariants.{Batch as BatchJob}
 use Rattle.vq_laws.specs.declared.script.CommandLine.{CommandLine}
 use Rattle.vq_laws.specs.declared.script.Command.{Command}
-use Rattle.vq_laws.specs.declared.script.Command.TheVariants.{Fill}
-use Rattle.vq_laws.specs.declared.script.FillSize.TheVariants.{Count}
+use Rattle.vq_laws.specs.declared.script.Command.TheVariants.{Fill, Update, Copy}
+use Rattle.vq_laws.specs.declared.script.FillSize.TheVariants.{Whole, Count}
 use Rattle.vq_laws.specs.Text.{is_name}
 use Rattle.vq_laws.specs.Context.{section, version_of, buffers, semaphores, queues, has_begun, open_batch, is_command, count, some}
 use Rattle.vq_laws.specs.ScriptOfLines.{batch_lines, wait_of, command_of, signal_of, fence_of, first_of_list, jobs_of, is_schedule, turns_at}
 use Rattle.vq_laws.specs.Limits.{is_job}
 use Rattle.vq_laws.specs.LineFaults.{part_of}
-use Rattle.vq_laws.specs.Ranges.{is_aligned}
+use Rattle.vq_laws.specs.Ranges.{is_aligned, overlaps_itself}
 use Rattle.vq_laws.specs.SameScript.{buffer_without_line, queue_without_line, job_without_lines, mark_without_line, command_without_line}
+use Rattle.vq_laws.proofs.WrittenNumbers.{AllBytes}
 
 -- Parts
 
@@ -124,11 +125,26 @@ sizes_in bs = map (λ b. b.size) bs
 abbrev pub size_in : List Buffer → ℕ → ℕ
 size_in bs b = option_map_or (λ x. x.size) (slice_get bs b) 0
 
--- a fill of so many bytes lies in its buffer, at multiples of 4
-abbrev pub is_fill_in_range : List Buffer → ℕ → ℕ → ℕ → Bool
-is_fill_in_range bs b offset size =
-    (nat_lt offset (size_in bs b) && nat_lt 0 size && not (nat_lt (size_in bs b) (offset + size)))
-    && is_aligned offset && is_aligned size
+-- bytes that begin in a buffer, at least one, and end in it
+abbrev pub is_within_in : List Buffer → ℕ → ℕ → ℕ → Bool
+is_within_in bs b offset size =
+    nat_lt offset (size_in bs b) && nat_lt 0 size && not (nat_lt (size_in bs b) (offset + size))
+
+-- a command lies in its buffers, at multiples of 4 where it has to
+abbrev pub is_command_in : List Buffer → Command → Bool
+is_command_in bs (Fill b o Whole w) = nat_lt o (size_in bs b) && is_aligned o
+is_command_in bs (Fill b o (Count n) w) = is_within_in bs b o n && is_aligned o && is_aligned n
+is_command_in bs (Update b o bytes) =
+    is_within_in bs b o (length bytes) && is_aligned o && is_aligned (length bytes)
+    && not (nat_lt 65536 (length bytes))
+is_command_in bs (Copy s from t to n) = is_within_in bs s from n && is_within_in bs t to n
+
+-- a command's offsets, sizes, word and bytes are numbers that a line can hold
+abbrev pub HasNumerals : Command → Type 0
+HasNumerals (Fill b o Whole w) = (o < 2 ^ 64) × (w < 2 ^ 32)
+HasNumerals (Fill b o (Count n) w) = (o < 2 ^ 64) × (n < 2 ^ 64) × (w < 2 ^ 32)
+HasNumerals (Update b o bytes) = (o < 2 ^ 64) × AllBytes bytes
+HasNumerals (Copy s from t to n) = (from < 2 ^ 64) × (to < 2 ^ 64) × (n < 2 ^ 64)
 
 pub record MayBuffer (p : Parts) (name : List ℕ) (size : ℕ) : Type 0 where
   pub outside : p.batch ≡ None
@@ -154,18 +170,12 @@ pub record MayBegin (p : Parts) (q : ℕ) : Type 0 where
   pub is : p.queue ≡ Some name
   pub few : length p.jobs < 4096
 
-pub record MayFill (p : Parts) (command : Command) : Type 0 where
+pub record MayCommand (p : Parts) (command : Command) : Type 0 where
   pub commands : List Command
   pub inside : p.batch ≡ Some commands
-  pub buffer : ℕ
-  pub offset : ℕ
-  pub size : ℕ
-  pub word : ℕ
-  pub is : command ≡ Fill buffer offset (Count size) word
-  pub range : is_fill_in_range p.buffers buffer offset size ≡ true
-  pub offset_below : offset < 2 ^ 64
-  pub size_below : size < 2 ^ 64
-  pub word_below : word < 2 ^ 32
+  pub range : is_command_in p.buffers command ≡ true
+  pub apart : overlaps_itself (sizes_in p.buffers) command ≡ false
+  pub numerals : HasNumerals command
   pub few : length commands < 64
   pub total : sum (map length p.jobs) + length commands < 8192
 
@@ -178,7 +188,7 @@ abbrev pub May : Parts → Statement → Type 0
 May p (DeclareBuffer name size) = MayBuffer p name size
 May p (DeclareQueue name mode) = MayQueue p name mode
 May p (BeginBatch q) = MayBegin p q
-May p (AddCommand command) = MayFill p command
+May p (AddCommand command) = MayCommand p command
 May p EndBatch = MayEnd p
 May p other = ⊥
 

@@ -4,7 +4,7 @@ use Rattle.std.specs.Prelude.{codes, Result}
 use Rattle.std.specs.List.{repeat}
 use Rattle.vq_laws.specs.declared.statement.Form.TheVariants.{Plain, Scheduled}
 use Rattle.vq_laws.specs.declared.statement.FaultKind.{FaultKind}
-use Rattle.vq_laws.specs.declared.statement.FaultKind.TheVariants.{Syntax, Order, Number, Name, Twice, Range, Limit}
+use Rattle.vq_laws.specs.declared.statement.FaultKind.TheVariants.{Syntax, Order, Number, Name, Twice, Range, Overlap, Limit}
 use Rattle.vq_laws.specs.declared.script.Script.{Script}
 use Rattle.vq_laws.specs.Reading.{read_script}
 use Rattle.vq_laws.specs.Memory.{Memory}
@@ -33,6 +33,26 @@ one_fill :
     (codes "buffer X 8\nqueue Q immediate\nsubmit Q\nfill X 0 8 0x01020304\nend\n")
     ≡ Ok ((4 ∷ 3 ∷ 2 ∷ 1 ∷ 4 ∷ 3 ∷ 2 ∷ 1 ∷ []) ∷ [])
 one_fill = refl
+
+whole :
+    bytes_of
+    (codes "buffer X 7\nqueue Q immediate\nsubmit Q\nfill X 0 whole 0xffffffff\n"
+    ++ codes "end\n")
+    ≡ Ok ((255 ∷ 255 ∷ 255 ∷ 255 ∷ 0 ∷ 0 ∷ 0 ∷ []) ∷ [])
+whole = refl
+
+copy_beside :
+    bytes_of
+    (codes "buffer X 16\nqueue Q immediate\nsubmit Q\nfill X 0 8 0x04030201\n"
+    ++ codes "copy X 0 X 8 8\nend\n")
+    ≡ Ok ((1 ∷ 2 ∷ 3 ∷ 4 ∷ 1 ∷ 2 ∷ 3 ∷ 4 ∷ 1 ∷ 2 ∷ 3 ∷ 4 ∷ 1 ∷ 2 ∷ 3 ∷ 4 ∷ []) ∷ [])
+copy_beside = refl
+
+update :
+    bytes_of
+    (codes "buffer X 4\nqueue Q immediate\nsubmit Q\nupdate X 0 0aFF00b1\nend\n")
+    ≡ Ok ((10 ∷ 255 ∷ 0 ∷ 177 ∷ []) ∷ [])
+update = refl
 
 no_last_line_feed : bytes_of (codes "buffer X 4") ≡ Ok ((0 ∷ 0 ∷ 0 ∷ 0 ∷ []) ∷ [])
 no_last_line_feed = refl
@@ -105,6 +125,18 @@ a_wrong_size_word :
     ≡ Err (4, Number)
 a_wrong_size_word = refl
 
+an_odd_digit :
+    bytes_of
+    (codes "buffer X 4\nqueue Q immediate\nsubmit Q\nupdate X 0 0000000\n")
+    ≡ Err (4, Number)
+an_odd_digit = refl
+
+no_hex_digit :
+    bytes_of
+    (codes "buffer X 4\nqueue Q immediate\nsubmit Q\nupdate X 0 0000000g\n")
+    ≡ Err (4, Number)
+no_hex_digit = refl
+
 no_queue : bytes_of (codes "buffer X 4\nsubmit Q\n") ≡ Err (2, Name)
 no_queue = refl
 
@@ -123,11 +155,42 @@ past_the_end :
     ≡ Err (4, Range)
 past_the_end = refl
 
+whole_at_the_end :
+    bytes_of
+    (codes "buffer X 8\nqueue Q immediate\nsubmit Q\nfill X 8 whole 1\n")
+    ≡ Err (4, Range)
+whole_at_the_end = refl
+
+whole_near_the_end :
+    bytes_of
+    (codes "buffer X 6\nqueue Q immediate\nsubmit Q\nfill X 4 whole 1\nend\n")
+    ≡ Ok ((0 ∷ 0 ∷ 0 ∷ 0 ∷ 0 ∷ 0 ∷ []) ∷ [])
+whole_near_the_end = refl
+
 unaligned :
     bytes_of
     (codes "buffer X 8\nqueue Q immediate\nsubmit Q\nfill X 2 4 1\n")
     ≡ Err (4, Range)
 unaligned = refl
+
+unaligned_size :
+    bytes_of
+    (codes "buffer X 8\nqueue Q immediate\nsubmit Q\nupdate X 0 0000\n")
+    ≡ Err (4, Range)
+unaligned_size = refl
+
+an_empty_copy :
+    bytes_of
+    (codes "buffer X 8\nbuffer Y 8\nqueue Q immediate\nsubmit Q\ncopy X 0 Y 0 0\n")
+    ≡ Err (5, Range)
+an_empty_copy = refl
+
+overlap :
+    bytes_of
+    (codes "buffer X 16\nqueue Q immediate\nsubmit Q\nfill X 0 8 0x04030201\n"
+    ++ codes "copy X 0 X 7 8\nend\n")
+    ≡ Err (5, Overlap)
+overlap = refl
 
 too_many_bytes : bytes_of (codes "buffer X 1048577\n") ≡ Err (1, Limit)
 too_many_bytes = refl
@@ -145,6 +208,12 @@ sixty_five_commands = refl
 
 twice_and_no_bytes : bytes_of (codes "buffer X 4\nbuffer X 0\n") ≡ Err (2, Twice)
 twice_and_no_bytes = refl
+
+past_the_end_and_overlapping :
+    bytes_of
+    (codes "buffer X 8\nqueue Q immediate\nsubmit Q\ncopy X 0 X 4 8\n")
+    ≡ Err (4, Range)
+past_the_end_and_overlapping = refl
 
 no_name_and_no_number : bytes_of (codes "buffer 4 X\n") ≡ Err (1, Syntax)
 no_name_and_no_number = refl

@@ -1,7 +1,7 @@
 -- A canonical line is read, after lines that say parts, as the statement for which it is written.
 use Rattle.std.proofs.Common.{◌≡◌, ℕ, ◌+◌, ◌^◌, ◌<◌, ◌≤◌, ◌==◌, Bool, true, false, cond, not, ◌&&◌, ◌||◌, List, [], ◌∷◌, ◌++◌, length, map, find, Option, Some, None, Ok, option_map, refl, sym, ap, ◌∙◌, subst, arith}
 use Rattle.std.specs.Prelude.{nat_lt, is_some, codes, sum}
-use Rattle.std.specs.List.{slice_get, list_all, position}
+use Rattle.std.specs.List.{slice_get, list_all, position, flat_map}
 use Rattle.std.specs.Option.{option_map_or}
 use Rattle.std.specs.Str.{bytes_eq}
 use Rattle.std.specs.Fmt.{decimal}
@@ -13,29 +13,29 @@ use Rattle.vq_laws.specs.declared.statement.Statement.{Statement}
 use Rattle.vq_laws.specs.declared.statement.Statement.TheVariants.{DeclareBuffer, DeclareQueue, BeginBatch, AddCommand, EndBatch, AddWait}
 use Rattle.vq_laws.specs.declared.statement.Line.{Line}
 use Rattle.vq_laws.specs.declared.statement.LineForm.{LineForm}
-use Rattle.vq_laws.specs.declared.statement.LineForm.TheVariants.{VersionLine, BufferLine, QueueLine, SubmitLine, FillWholeLine, FillLine, EndLine}
+use Rattle.vq_laws.specs.declared.statement.LineForm.TheVariants.{VersionLine, BufferLine, QueueLine, SubmitLine, FillWholeLine, FillLine, UpdateLine, CopyLine, EndLine}
 use Rattle.vq_laws.specs.declared.script.Buffer.{Buffer}
 use Rattle.vq_laws.specs.declared.script.Mode.{Mode}
 use Rattle.vq_laws.specs.declared.script.Mode.TheVariants.{Immediate}
 use Rattle.vq_laws.specs.declared.script.Command.{Command}
-use Rattle.vq_laws.specs.declared.script.Command.TheVariants.{Fill}
-use Rattle.vq_laws.specs.declared.script.FillSize.TheVariants.{Count}
+use Rattle.vq_laws.specs.declared.script.Command.TheVariants.{Fill, Update, Copy}
+use Rattle.vq_laws.specs.declared.script.FillSize.TheVariants.{Whole, Count}
 use Rattle.vq_laws.specs.Text.{is_name, is_plain}
 use Rattle.vq_laws.specs.Forms.{mode_word, forms_outside, forms_in_batch, held_forms}
 use Rattle.vq_laws.specs.Context.{section, buffers, queues, queue_at, buffer_at, has_begun, open_batch, is_command, count, some, version_of}
-use Rattle.vq_laws.specs.Meaning.{matches, where_built, form_of, first_forms, of_four}
-use Rattle.vq_laws.specs.Limits.{is_job}
-use Rattle.vq_laws.specs.LineFaults.{part_of}
+use Rattle.vq_laws.specs.Meaning.{matches, where_built, form_of, first_forms, of_two, of_three, of_four, of_five}
+use Rattle.vq_laws.specs.Limits.{is_job, limits_of, passes_limit}
+use Rattle.vq_laws.specs.LineFaults.{part_of, is_in_range, overlaps}
 use Rattle.vq_laws.specs.Ranges.{is_aligned}
-use Rattle.vq_laws.specs.Canonical.{command_words, queue_name, fill_word}
+use Rattle.vq_laws.specs.Canonical.{command_words, buffer_name, queue_name, fill_word, hex_digits}
 use Rattle.vq_laws.specs.Reading.{with_line, read_statement}
 use Rattle.vq_laws.proofs.LineFacts.{forms_in}
 use Rattle.vq_laws.proofs.LineTests.{PassesTests, read_tested}
-use Rattle.vq_laws.proofs.FollowingLines.{sizes_said, buffer_count_said, queue_count_said, buffer_at_said, queue_at_said, declared_said, within_said}
+use Rattle.vq_laws.proofs.FollowingLines.{sizes_said, buffer_count_said, queue_count_said, buffer_at_said, queue_at_said, declared_said, range_said, overlap_said}
 use Rattle.vq_laws.proofs.WrittenTexts.{is_word_byte, is_text_word, are_text_words, all_weaker, word_to_plain}
-use Rattle.vq_laws.proofs.WrittenNumbers.{decimal_back, decimal_word, decimal_not_whole, fill_word_back, fill_word_word}
+use Rattle.vq_laws.proofs.WrittenNumbers.{decimal_back, decimal_word, decimal_not_whole, fill_word_back, fill_word_word, byte_digits_back, byte_digits_hex, byte_digits_word}
 use Rattle.vq_laws.proofs.NamedParts.{AreNamed, name_word, same_bytes}
-use Rattle.vq_laws.proofs.ScriptParts.{Parts, queue_list, May, MayBuffer, MayQueue, MayFill, MayEnd, Say, script_of_parts, has_jobs, part_of_batch, is_named, size_in, sizes_in, is_fill_in_range, count_jobs, count_commands, HasCommands, OpenLines}
+use Rattle.vq_laws.proofs.ScriptParts.{Parts, queue_list, May, MayBuffer, MayQueue, MayCommand, MayEnd, Say, script_of_parts, has_jobs, part_of_batch, is_named, size_in, sizes_in, is_within_in, count_jobs, count_commands, HasCommands, OpenLines}
 
 -- The words of a statement
 
@@ -329,68 +329,6 @@ module _ (before : List Line) (p : Parts) (h : Say before p) (named : AreNamed p
         reads = λ n. read_tested Plain before n (codes "end") [] EndLine EndBatch tests;
       }
 
-  -- a fill
-  fill_reads : (b o n w : ℕ) (x : Buffer) (commands : List Command) → p.batch ≡ Some commands →
-      slice_get p.buffers b ≡ Some x → is_fill_in_range p.buffers b o n ≡ true →
-      o < 2 ^ 64 → n < 2 ^ 64 → w < 2 ^ 32 → length commands < 64 →
-      sum (map length p.jobs) + length commands < 8192 →
-      ReadsAs before (codes "fill" ∷ x.name ∷ decimal o ∷ decimal n ∷ fill_word w ∷ [])
-      (AddCommand (Fill b o (Count n) w))
-  fill_reads b o n w x commands inside is range so sn sw few total =
-      let known = named.buffer_names b x is in
-      let at : buffer_at before x.name ≡ Some b = buffer_at_said before p h x.name ∙ known.1 in
-      let lines : HasCommands commands (open_batch before) =
-      subst (λ (z : Option (List Command)). OpenLines z (open_batch before)) inside h.opened in
-      let counted = lines.counted in
-      let counts : count is_command before ≡ sum (map length p.jobs) + length commands =
-      h.command_count ∙ ap (λ (z : Option (List Command)). count_commands p.jobs z) inside in
-      let words : are_text_words (codes "fill" ∷ x.name ∷ decimal o ∷ decimal n ∷ fill_word w ∷ [])
-      ≡ true =
-      and_from (is_text_word x.name) (are_text_words (decimal o ∷ decimal n ∷ fill_word w ∷ []))
-      (name_word x.name known.0)
-      (words_of_three (decimal o) (decimal n) (fill_word w) (decimal_word o so) (decimal_word n sn)
-      (fill_word_word w sw)) in
-      let tests : PassesTests Plain before
-      (codes "fill" ∷ x.name ∷ decimal o ∷ decimal n ∷ fill_word w ∷ []) FillLine
-      (AddCommand (Fill b o (Count n) w)) =
-      record {
-        found =
-            form_inside before (codes "fill" ∷ x.name ∷ decimal o ∷ decimal n ∷ fill_word w ∷ [])
-            (Some FillLine)
-            (h.part ∙ ap part_of_batch inside) h.version
-            (ap (λ (t : Bool). cond (t && true) (Some FillWholeLine) (Some FillLine))
-            (decimal_not_whole n sn));
-        plain =
-            words_plain (codes "fill" ∷ x.name ∷ decimal o ∷ decimal n ∷ fill_word w ∷ []) words;
-        shaped = and_from (is_name x.name) true known.0 refl;
-        in_order = or_from (some (λ s. nat_lt 2 (part_of s)) (open_batch before)) false
-            (only_commands (λ s. nat_lt 2 (part_of s)) command_part (open_batch before) lines.only)
-            refl;
-        numeric = λ i.
-            is_some (decimal_back o so i) && (is_some (decimal_back n sn i)
-            && (is_some (fill_word_back w sw i) && true));
-        known = λ i. is_some (at i) && true;
-        fresh = refl;
-        said = λ i.
-            of_four (λ c d e f. AddCommand (Fill c d (Count e) f)) (at i) (decimal_back o so i)
-            (decimal_back n sn i)
-            (fill_word_back w sw i);
-        ranged = within_said before p h b o n ∙ range;
-        apart = refl;
-        limited =
-            or_from (not (nat_lt (count is_command before) 8192))
-            (not (nat_lt (count is_command (open_batch before)) 64))
-            (not_over (count is_command before) 8192 (omega arith))
-            (not_over (count is_command (open_batch before)) 64 (omega arith));
-      } in
-      record {
-        are_words = words;
-        reads =
-            λ k. read_tested Plain before k (codes "fill")
-            (x.name ∷ decimal o ∷ decimal n ∷ fill_word w ∷ []) FillLine
-            (AddCommand (Fill b o (Count n) w)) tests;
-      }
-
   -- a buffer that has bytes is there
   buffer_there : (bs : List Buffer) (b : ℕ) → 0 < size_in bs b →
       (x : Buffer) × (slice_get bs b ≡ Some x)
@@ -401,34 +339,264 @@ module _ (before : List Line) (p : Parts) (h : Say before p) (named : AreNamed p
       by_item None e l = absurd (omega arith)
       by_item (Some x) e l = (x, e)
 
-  -- a command
-  command_reads : (c : Command) → MayFill p c → ReadsAs before (command_words (script_of_parts p) c)
-      (AddCommand c)
-  command_reads c m =
+  -- the name of a buffer, in canonical lines
+  abbrev name_of : ℕ → List ℕ
+  name_of b = buffer_name (script_of_parts p) b
+
+  -- the name of a buffer that has bytes
+  has_name : (b : ℕ) → 0 < size_in p.buffers b →
+      (is_name (name_of b) ≡ true) × (buffer_at before (name_of b) ≡ Some b)
+  has_name b l =
+      let x = buffer_there p.buffers b l in
+      let known = named.buffer_names b x.0 x.1 in
+      subst (λ (o : Option Buffer). (is_name (option_map_or (λ y. y.name) o []) ≡ true)
+      × (buffer_at before (option_map_or (λ y. y.name) o []) ≡ Some b)) (sym x.1)
+      (known.0, buffer_at_said before p h x.0.name ∙ known.1)
+
+  -- bytes within a buffer that has bytes: at least one
+  within_some : (b o n : ℕ) → is_within_in p.buffers b o n ≡ true →
+      (0 < size_in p.buffers b) × (0 < n)
+  within_some b o n r =
+      let parts =
+      and_parts (nat_lt o (size_in p.buffers b) && nat_lt 0 n)
+      (not (nat_lt (size_in p.buffers b) (o + n))) r in
+      let front = and_parts (nat_lt o (size_in p.buffers b)) (nat_lt 0 n) parts.0 in
+      let l = ltb-true o (size_in p.buffers b) front.0 in
+      (omega arith, ltb-true 0 n front.1)
+
+  -- what each command passes: it belongs where it stands, in range, apart, within the limits
+  record PassesAll (c : Command) : Type 0 where
+    part : section before ≡ InBatch
+    in_order : (some (λ s. nat_lt 2 (part_of s)) (open_batch before) || false) ≡ false
+    ranged : is_in_range before (AddCommand c) ≡ true
+    apart : overlaps before (AddCommand c) ≡ false
+    limited : passes_limit (limits_of (version_of before)) before (AddCommand c) ≡ false
+
+  passes_all : (c : Command) → MayCommand p c → PassesAll c
+  passes_all c m =
+      let lines : HasCommands m.commands (open_batch before) =
+      subst (λ (z : Option (List Command)). OpenLines z (open_batch before)) m.inside h.opened in
+      let counted = lines.counted in
+      let counts : count is_command before ≡ sum (map length p.jobs) + length m.commands =
+      h.command_count ∙ ap (λ (z : Option (List Command)). count_commands p.jobs z) m.inside in
+      let few = m.few in
+      let total = m.total in
+      record {
+        part = h.part ∙ ap part_of_batch m.inside;
+        in_order = or_from (some (λ s. nat_lt 2 (part_of s)) (open_batch before)) false
+            (only_commands (λ s. nat_lt 2 (part_of s)) command_part (open_batch before) lines.only)
+            refl;
+        ranged = range_said before p h c ∙ m.range;
+        apart = overlap_said before p h c ∙ m.apart;
+        limited =
+            or_from (not (nat_lt (count is_command before) 8192))
+            (not (nat_lt (count is_command (open_batch before)) 64))
+            (not_over (count is_command before) 8192 (omega arith))
+            (not_over (count is_command (open_batch before)) 64 (omega arith));
+      }
+
+  -- a fill of the rest of a buffer
+  fill_whole_reads : (b o w : ℕ) → MayCommand p (Fill b o Whole w) →
+      ReadsAs before (command_words (script_of_parts p) (Fill b o Whole w))
+      (AddCommand (Fill b o Whole w))
+  fill_whole_reads b o w m =
+      let l = ltb-true o (size_in p.buffers b)
+      (and_parts (nat_lt o (size_in p.buffers b)) (is_aligned o) m.range).0 in
+      let name = has_name b (omega arith) in
+      let all = passes_all (Fill b o Whole w) m in
+      let so = m.numerals.0 in
+      let sw = m.numerals.1 in
+      let words : are_text_words (command_words (script_of_parts p) (Fill b o Whole w)) ≡ true =
+      and_from (is_text_word (name_of b))
+      (are_text_words (decimal o ∷ codes "whole" ∷ fill_word w ∷ []))
+      (name_word (name_of b) name.0)
+      (words_of_three (decimal o) (codes "whole") (fill_word w) (decimal_word o so) refl
+      (fill_word_word w sw)) in
+      let tests : PassesTests Plain before (command_words (script_of_parts p) (Fill b o Whole w))
+      FillWholeLine (AddCommand (Fill b o Whole w)) =
+      record {
+        found =
+            form_inside before (command_words (script_of_parts p) (Fill b o Whole w))
+            (Some FillWholeLine) all.part h.version refl;
+        plain = words_plain (command_words (script_of_parts p) (Fill b o Whole w)) words;
+        shaped = and_from (is_name (name_of b)) true name.0 refl;
+        in_order = all.in_order;
+        numeric = λ i.
+            is_some (decimal_back o so i) && (is_some (fill_word_back w sw i) && true);
+        known = λ i. is_some (name.1 i) && true;
+        fresh = refl;
+        said = λ i.
+            of_three (λ c d e. AddCommand (Fill c d Whole e)) (name.1 i) (decimal_back o so i)
+            (fill_word_back w sw i);
+        ranged = all.ranged;
+        apart = all.apart;
+        limited = all.limited;
+      } in
+      record {
+        are_words = words;
+        reads =
+            λ k. read_tested Plain before k (codes "fill")
+            (name_of b ∷ decimal o ∷ codes "whole" ∷ fill_word w ∷ []) FillWholeLine
+            (AddCommand (Fill b o Whole w)) tests;
+      }
+
+  -- a fill
+  fill_reads : (b o n w : ℕ) → MayCommand p (Fill b o (Count n) w) →
+      ReadsAs before (command_words (script_of_parts p) (Fill b o (Count n) w))
+      (AddCommand (Fill b o (Count n) w))
+  fill_reads b o n w m =
       let range =
-      and_parts ((nat_lt m.offset (size_in p.buffers m.buffer) && nat_lt 0 m.size
-      && not (nat_lt (size_in p.buffers m.buffer) (m.offset + m.size))) && is_aligned m.offset)
-      (is_aligned m.size) m.range in
-      let within =
-      and_parts (nat_lt m.offset (size_in p.buffers m.buffer) && nat_lt 0 m.size
-      && not (nat_lt (size_in p.buffers m.buffer) (m.offset + m.size))) (is_aligned m.offset)
-      range.0 in
-      let starts =
-      and_parts (nat_lt m.offset (size_in p.buffers m.buffer) && nat_lt 0 m.size)
-      (not (nat_lt (size_in p.buffers m.buffer) (m.offset + m.size))) within.0 in
-      let begins =
-      and_parts (nat_lt m.offset (size_in p.buffers m.buffer)) (nat_lt 0 m.size) starts.0 in
-      let l = ltb-true m.offset (size_in p.buffers m.buffer) begins.0 in
-      let x = buffer_there p.buffers m.buffer (omega arith) in
-      subst (λ (z : Command). ReadsAs before (command_words (script_of_parts p) z) (AddCommand z))
-      (sym m.is)
-      (subst (λ (o : Option Buffer). ReadsAs before
-      (codes "fill" ∷ option_map_or (λ y. y.name) o [] ∷ decimal m.offset ∷ decimal m.size
-      ∷ fill_word m.word ∷ [])
-      (AddCommand (Fill m.buffer m.offset (Count m.size) m.word))) (sym x.1)
-      (fill_reads m.buffer m.offset m.size m.word x.0 m.commands m.inside x.1 m.range m.offset_below
-      m.size_below
-      m.word_below m.few m.total))
+      and_parts (is_within_in p.buffers b o n && is_aligned o) (is_aligned n) m.range in
+      let within = and_parts (is_within_in p.buffers b o n) (is_aligned o) range.0 in
+      let name = has_name b (within_some b o n within.0).0 in
+      let all = passes_all (Fill b o (Count n) w) m in
+      let so = m.numerals.0 in
+      let sn = m.numerals.1 in
+      let sw = m.numerals.2 in
+      let words : are_text_words (command_words (script_of_parts p) (Fill b o (Count n) w))
+      ≡ true =
+      and_from (is_text_word (name_of b)) (are_text_words (decimal o ∷ decimal n ∷ fill_word w ∷ []))
+      (name_word (name_of b) name.0)
+      (words_of_three (decimal o) (decimal n) (fill_word w) (decimal_word o so) (decimal_word n sn)
+      (fill_word_word w sw)) in
+      let tests : PassesTests Plain before
+      (command_words (script_of_parts p) (Fill b o (Count n) w)) FillLine
+      (AddCommand (Fill b o (Count n) w)) =
+      record {
+        found =
+            form_inside before (command_words (script_of_parts p) (Fill b o (Count n) w))
+            (Some FillLine) all.part h.version
+            (ap (λ (t : Bool). cond (t && true) (Some FillWholeLine) (Some FillLine))
+            (decimal_not_whole n sn));
+        plain = words_plain (command_words (script_of_parts p) (Fill b o (Count n) w)) words;
+        shaped = and_from (is_name (name_of b)) true name.0 refl;
+        in_order = all.in_order;
+        numeric = λ i.
+            is_some (decimal_back o so i) && (is_some (decimal_back n sn i)
+            && (is_some (fill_word_back w sw i) && true));
+        known = λ i. is_some (name.1 i) && true;
+        fresh = refl;
+        said = λ i.
+            of_four (λ c d e f. AddCommand (Fill c d (Count e) f)) (name.1 i) (decimal_back o so i)
+            (decimal_back n sn i) (fill_word_back w sw i);
+        ranged = all.ranged;
+        apart = all.apart;
+        limited = all.limited;
+      } in
+      record {
+        are_words = words;
+        reads =
+            λ k. read_tested Plain before k (codes "fill")
+            (name_of b ∷ decimal o ∷ decimal n ∷ fill_word w ∷ []) FillLine
+            (AddCommand (Fill b o (Count n) w)) tests;
+      }
+
+  -- an update
+  update_reads : (b o : ℕ) (bytes : List ℕ) → MayCommand p (Update b o bytes) →
+      ReadsAs before (command_words (script_of_parts p) (Update b o bytes))
+      (AddCommand (Update b o bytes))
+  update_reads b o bytes m =
+      let range =
+      and_parts (is_within_in p.buffers b o (length bytes) && is_aligned o
+      && is_aligned (length bytes)) (not (nat_lt 65536 (length bytes))) m.range in
+      let even =
+      and_parts (is_within_in p.buffers b o (length bytes) && is_aligned o)
+      (is_aligned (length bytes)) range.0 in
+      let within = and_parts (is_within_in p.buffers b o (length bytes)) (is_aligned o) even.0 in
+      let some_bytes = within_some b o (length bytes) within.0 in
+      let name = has_name b some_bytes.0 in
+      let all = passes_all (Update b o bytes) m in
+      let so = m.numerals.0 in
+      let words : are_text_words (command_words (script_of_parts p) (Update b o bytes)) ≡ true =
+      words_of_three (name_of b) (decimal o) (flat_map (hex_digits 2) bytes)
+      (name_word (name_of b) name.0) (decimal_word o so)
+      (byte_digits_word bytes some_bytes.1) in
+      let tests : PassesTests Plain before (command_words (script_of_parts p) (Update b o bytes))
+      UpdateLine (AddCommand (Update b o bytes)) =
+      record {
+        found =
+            form_inside before (command_words (script_of_parts p) (Update b o bytes))
+            (Some UpdateLine) all.part h.version refl;
+        plain = words_plain (command_words (script_of_parts p) (Update b o bytes)) words;
+        shaped = and_from (is_name (name_of b)) true name.0 refl;
+        in_order = all.in_order;
+        numeric = λ i. is_some (decimal_back o so i) && (byte_digits_hex bytes i && true);
+        known = λ i. is_some (name.1 i) && true;
+        fresh = refl;
+        said = λ i.
+            of_two (λ c d. AddCommand (Update c d (byte_digits_back bytes m.numerals.1 i)))
+            (name.1 i) (decimal_back o so i);
+        ranged = all.ranged;
+        apart = all.apart;
+        limited = all.limited;
+      } in
+      record {
+        are_words = words;
+        reads =
+            λ k. read_tested Plain before k (codes "update")
+            (name_of b ∷ decimal o ∷ flat_map (hex_digits 2) bytes ∷ []) UpdateLine
+            (AddCommand (Update b o bytes)) tests;
+      }
+
+  -- a copy
+  copy_reads : (s from t to n : ℕ) → MayCommand p (Copy s from t to n) →
+      ReadsAs before (command_words (script_of_parts p) (Copy s from t to n))
+      (AddCommand (Copy s from t to n))
+  copy_reads s from t to n m =
+      let range =
+      and_parts (is_within_in p.buffers s from n) (is_within_in p.buffers t to n) m.range in
+      let source = has_name s (within_some s from n range.0).0 in
+      let target = has_name t (within_some t to n range.1).0 in
+      let all = passes_all (Copy s from t to n) m in
+      let sf = m.numerals.0 in
+      let st = m.numerals.1 in
+      let sn = m.numerals.2 in
+      let words : are_text_words (command_words (script_of_parts p) (Copy s from t to n)) ≡ true =
+      and_from (is_text_word (name_of s))
+      (are_text_words (decimal from ∷ name_of t ∷ decimal to ∷ decimal n ∷ []))
+      (name_word (name_of s) source.0)
+      (and_from (is_text_word (decimal from))
+      (are_text_words (name_of t ∷ decimal to ∷ decimal n ∷ [])) (decimal_word from sf)
+      (words_of_three (name_of t) (decimal to) (decimal n) (name_word (name_of t) target.0)
+      (decimal_word to st) (decimal_word n sn))) in
+      let tests : PassesTests Plain before (command_words (script_of_parts p) (Copy s from t to n))
+      CopyLine (AddCommand (Copy s from t to n)) =
+      record {
+        found =
+            form_inside before (command_words (script_of_parts p) (Copy s from t to n))
+            (Some CopyLine) all.part h.version refl;
+        plain = words_plain (command_words (script_of_parts p) (Copy s from t to n)) words;
+        shaped =
+            and_from (is_name (name_of s)) (is_name (name_of t) && true) source.0
+            (and_from (is_name (name_of t)) true target.0 refl);
+        in_order = all.in_order;
+        numeric = λ i.
+            is_some (decimal_back from sf i) && (is_some (decimal_back to st i)
+            && (is_some (decimal_back n sn i) && true));
+        known = λ i. is_some (source.1 i) && (is_some (target.1 i) && true);
+        fresh = refl;
+        said = λ i.
+            of_five (λ a b c d e. AddCommand (Copy a b c d e)) (source.1 i) (decimal_back from sf i)
+            (target.1 i) (decimal_back to st i) (decimal_back n sn i);
+        ranged = all.ranged;
+        apart = all.apart;
+        limited = all.limited;
+      } in
+      record {
+        are_words = words;
+        reads =
+            λ k. read_tested Plain before k (codes "copy")
+            (name_of s ∷ decimal from ∷ name_of t ∷ decimal to ∷ decimal n ∷ []) CopyLine
+            (AddCommand (Copy s from t to n)) tests;
+      }
+
+  -- a command
+  command_reads : (c : Command) → MayCommand p c →
+      ReadsAs before (command_words (script_of_parts p) c) (AddCommand c)
+  command_reads (Fill b o Whole w) m = fill_whole_reads b o w m
+  command_reads (Fill b o (Count n) w) m = fill_reads b o n w m
+  command_reads (Update b o bytes) m = update_reads b o bytes m
+  command_reads (Copy s from t to n) m = copy_reads s from t to n m
 
   -- The canonical words of a statement that may follow read as this statement.
   pub line_reads : (s : Statement) → May p s → ReadsAs before (words_at p s) s

@@ -1,7 +1,7 @@
 -- Numbers that are written, read again.
 use Rattle.std.proofs.Common.{◌≡◌, ℕ, ◌+◌, ◌*◌, ◌/◌, ◌%◌, ◌^◌, ◌<◌, ◌≤◌, ◌==◌, Bool, true, false, cond, not, ◌&&◌, List, [], ◌∷◌, length, Option, Some, None, refl, ap, ◌∙◌, subst, arith}
 use Rattle.std.specs.Prelude.{nat_le, nat_lt, codes, drop}
-use Rattle.std.specs.List.{list_all}
+use Rattle.std.specs.List.{list_all, flat_map}
 use Rattle.std.specs.Option.{option_and_then}
 use Rattle.std.specs.Str.{bytes_eq}
 use Rattle.std.specs.Fmt.{decimal}
@@ -11,9 +11,9 @@ use Rattle.std.proofs.lemmas.Fmt.{decimal_is_IsNumeral, length-decimal-le}
 use Rattle.std.proofs.lemmas.Str.{digit_value-digit_char}
 use Rattle.std.proofs.lemmas.Str.Parse.{digit_from_value}
 use Rattle.std.proofs.lemmas.Slice.Eq.{bytes_eq-Decides}
-use Rattle.std.proofs.lemmas.Bool.{ltb-true, lt-ltb, le-leb, false_from_ne_true, and_parts, and_from, and_right}
+use Rattle.std.proofs.lemmas.Bool.{ltb-true, lt-ltb, le-leb, eq-eqb, false_from_ne_true, and_parts, and_from, and_right}
 use Rattle.vq_laws.specs.Text.{numeral, numeral_in, is_numeral_in, is_marked_hex}
-use Rattle.vq_laws.specs.Meaning.{small_numeral}
+use Rattle.vq_laws.specs.Meaning.{small_numeral, is_hex, hex_bytes}
 use Rattle.vq_laws.specs.Canonical.{fill_word, hex_digits}
 use Rattle.vq_laws.proofs.WrittenTexts.{is_word_byte, is_text_word, differs}
 
@@ -245,3 +245,79 @@ module _ (w : ℕ) (small : w < 2 ^ 32) where
       (hex_char_is_word_byte (w / 16 % 16) (omega arith))
       (and_from (is_word_byte (digit_char (w % 16))) true
       (hex_char_is_word_byte (w % 16) (omega arith)) refl)))))))
+
+-- Bytes of two digits each
+
+-- each of these is below 256
+abbrev pub AllBytes : List ℕ → Type 0
+AllBytes [] = Unit {0}
+AllBytes (b ∷ bytes) = (b < 256) × AllBytes bytes
+
+-- What hexadecimal digits stand for are bytes.
+pub hex_bytes_below : (digits : List ℕ) → is_hex digits ≡ true → AllBytes (hex_bytes digits)
+hex_bytes_below digits h =
+    by_digits digits
+    (and_parts (length digits % 2 == 0) (list_all (λ b. nat_lt (digit_value b) 16) digits) h).1
+  where
+    by_digits : (ds : List ℕ) → list_all (λ b. nat_lt (digit_value b) 16) ds ≡ true →
+        AllBytes (hex_bytes ds)
+    by_digits [] e = tt
+    by_digits (high ∷ []) e = tt
+    by_digits (high ∷ low ∷ ds) e =
+        let first =
+        and_parts (nat_lt (digit_value high) 16)
+        (list_all (λ b. nat_lt (digit_value b) 16) (low ∷ ds)) e in
+        let second =
+        and_parts (nat_lt (digit_value low) 16) (list_all (λ b. nat_lt (digit_value b) 16) ds)
+        first.1 in
+        let l = ltb-true (digit_value high) 16 first.0 in
+        let m = ltb-true (digit_value low) 16 second.0 in
+        (omega arith, by_digits ds second.1)
+
+-- The digits of bytes are read as these bytes.
+pub byte_digits_back : (bytes : List ℕ) → AllBytes bytes →
+    hex_bytes (flat_map (hex_digits 2) bytes) ≡ bytes
+byte_digits_back [] h = refl
+byte_digits_back (b ∷ bytes) h =
+    let l = h.0 in
+    let high = digit_value-digit_char (b / 16 % 16) (omega arith) in
+    let low = digit_value-digit_char (b % 16) (omega arith) in
+    let same : 16 * digit_value (digit_char (b / 16 % 16)) + digit_value (digit_char (b % 16))
+    ≡ b = omega arith in
+    λ i. same i ∷ byte_digits_back bytes h.1 i
+
+-- what holds of each hexadecimal digit holds of all
+all_byte_digits : (test : ℕ → Bool) → ((d : ℕ) → d < 16 → test (digit_char d) ≡ true) →
+    (bytes : List ℕ) → list_all test (flat_map (hex_digits 2) bytes) ≡ true
+all_byte_digits test f [] = refl
+all_byte_digits test f (b ∷ bytes) =
+    and_from (test (digit_char (b / 16 % 16)))
+    (list_all test (digit_char (b % 16) ∷ flat_map (hex_digits 2) bytes))
+    (f (b / 16 % 16) (omega arith))
+    (and_from (test (digit_char (b % 16))) (list_all test (flat_map (hex_digits 2) bytes))
+    (f (b % 16) (omega arith)) (all_byte_digits test f bytes))
+
+-- two digits for each byte
+count_byte_digits : (bytes : List ℕ) → length (flat_map (hex_digits 2) bytes) ≡ 2 * length bytes
+count_byte_digits [] = refl
+count_byte_digits (b ∷ bytes) = let rest = count_byte_digits bytes in omega arith
+
+-- They are hexadecimal digits, two for each byte ..
+pub byte_digits_hex : (bytes : List ℕ) → is_hex (flat_map (hex_digits 2) bytes) ≡ true
+byte_digits_hex bytes =
+    let count = count_byte_digits bytes in
+    and_from (length (flat_map (hex_digits 2) bytes) % 2 == 0)
+    (list_all (λ b. nat_lt (digit_value b) 16) (flat_map (hex_digits 2) bytes))
+    (eq-eqb (length (flat_map (hex_digits 2) bytes) % 2) 0 (omega arith))
+    (all_byte_digits (λ b. nat_lt (digit_value b) 16)
+    (λ d l. lt-ltb (digit_value (digit_char d)) 16 (hex_digit_fits d l)) bytes)
+
+-- .. and a word, where there is a byte.
+pub byte_digits_word : (bytes : List ℕ) → 0 < length bytes →
+    is_text_word (flat_map (hex_digits 2) bytes) ≡ true
+byte_digits_word bytes some =
+    let count = count_byte_digits bytes in
+    and_from (nat_lt 0 (length (flat_map (hex_digits 2) bytes)))
+    (list_all is_word_byte (flat_map (hex_digits 2) bytes))
+    (lt-ltb 0 (length (flat_map (hex_digits 2) bytes)) (omega arith))
+    (all_byte_digits is_word_byte hex_char_is_word_byte bytes)

@@ -14,7 +14,7 @@ use Rattle.vq_laws.specs.Signals.{Signaling, all_signals}
 use Rattle.vq_laws.specs.Lowering.{batch_commands, commands_in}
 use Rattle.vq_laws.specs.Ranges.{Fits}
 use Rattle.vq_laws.specs.ValidScripts.{IsValid, KeepsLimits, HasOneLane, ArePlainBatches, sizes_of}
-use Rattle.vq_laws.specs.SameScript.{SameButLines, IsScript, job_without_lines, mark_without_line, command_without_line, buffer_without_line, semaphore_without_line, queue_without_line}
+use Rattle.vq_laws.specs.SameScript.{SameButLines, IsScript, job_without_lines, mark_without_line, command_without_line, buffer_without_line, semaphore_without_line, queue_without_line, turn_without_line}
 use Rattle.vq_laws.proofs.PlanLaws.{get-map, some_of}
 use Rattle.vq_laws.proofs.OneLane.{one_lane_signals}
 use Rattle.vq_laws.proofs.ScriptFacts.{text_one_lane, text_valid}
@@ -65,6 +65,11 @@ plain_with (BatchJob b ∷ jobs) a = (
 pub same_one_lane : (a s : Script) → SameButLines a s → HasOneLane a → HasOneLane s
 same_one_lane a s same h =
     record {
+      version = sym (ap (λ (z : Script). z.version) same) ∙ h.version;
+      unscheduled = sym (ap (λ (z : Script). z.scheduled) same) ∙ h.unscheduled;
+      turns =
+          map_empty turn_without_line s.turns
+          (sym (ap (λ (z : Script). z.turns) same) ∙ ap (map turn_without_line) h.turns);
       semaphores =
           map_empty semaphore_without_line s.semaphores
           (sym (ap (λ (z : Script). z.semaphores) same)

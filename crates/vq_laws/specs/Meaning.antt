@@ -33,7 +33,10 @@ abbrev pub is_built : List Line → LineForm → Bool
 is_built before BufferLine = true
 is_built before (QueueLine Immediate) = length (queues before) == 0
 is_built before SubmitLine = true
+is_built before FillWholeLine = true
 is_built before FillLine = true
+is_built before UpdateLine = true
+is_built before CopyLine = true
 is_built before EndLine = true
 is_built before other = false
 

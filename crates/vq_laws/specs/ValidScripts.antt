@@ -1,5 +1,5 @@
 -- What each script that can be written keeps. This project's own.
-use Rattle.std.specs.Prelude.{ℕ, ◌≡◌, ◌<◌, ◌≤◌, List, [], ◌∷◌, length, map, sum, None, Some}
+use Rattle.std.specs.Prelude.{ℕ, ◌≡◌, ◌<◌, ◌≤◌, List, [], ◌∷◌, length, map, sum, false, None, Some}
 use Rattle.std.specs.List.{slice_get}
 use Rattle.vq_laws.specs.declared.script.Script.{Script}
 use Rattle.vq_laws.specs.declared.script.Batch.{Batch}
@@ -44,8 +44,12 @@ ArePlainBatches [] = Unit {0}
 ArePlainBatches (Host h ∷ jobs) = ⊥
 ArePlainBatches (BatchJob b ∷ jobs) = IsPlainBatch b × ArePlainBatches jobs
 
--- A script of one lane: it has no semaphores, and its jobs are batches of one queue that only have
--- commands. So is each script of the forms that are built so far.
+-- A script of one lane: it is of version 1, has no semaphores and no schedule, and its jobs are
+-- batches of one queue that only have commands. So is each script of the forms that are built so
+-- far.
 pub record HasOneLane (s : Script) : Type 0 where
+  pub version : s.version ≡ 1
   pub semaphores : s.semaphores ≡ []
   pub batches : ArePlainBatches s.jobs
+  pub unscheduled : s.scheduled ≡ false
+  pub turns : s.turns ≡ []

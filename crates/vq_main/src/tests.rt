@@ -36,6 +36,27 @@ fn scripts_are_run_or_refused(rt: HostRuntime) -> Result<(), Fail> {
             "buffer X 20\nffffffffb2a10000b2a10000ffffffff\nffffffff\nend\n",
             Status::Done,
         ),
+        // the commands, at the ends of their ranges
+        (
+            "buffer X 7\nqueue Q immediate\nsubmit Q\nfill X 0 whole 0xffffffff\nend",
+            "buffer X 7\nffffffff000000\nend\n",
+            Status::Done,
+        ),
+        (
+            "buffer X 16\nqueue Q immediate\nsubmit Q\nfill X 0 8 0x04030201\ncopy X 0 X 8 8\nend",
+            "buffer X 16\n01020304010203040102030401020304\nend\n",
+            Status::Done,
+        ),
+        (
+            "buffer X 16\nqueue Q immediate\nsubmit Q\nfill X 0 8 0x04030201\ncopy X 0 X 7 8\nend",
+            "error: overlap: line 5\n",
+            Status::Refused,
+        ),
+        (
+            "buffer Y 5\nbuffer X 4\nqueue Q immediate\nsubmit Q\nupdate X 0 0aFF00b1\nend\nsubmit Q\ncopy X 1 Y 2 3\nend",
+            "buffer Y 5\n0000ff00b1\nbuffer X 4\n0aff00b1\nend\n",
+            Status::Done,
+        ),
         // a batch that is left open
         (
             "queue Q immediate\nsubmit Q\n",

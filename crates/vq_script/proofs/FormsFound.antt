@@ -9,7 +9,7 @@ use Rattle.vq_laws.specs.declared.statement.Line.{Line}
 use Rattle.vq_laws.specs.declared.statement.Form.{Form}
 use Rattle.vq_laws.specs.declared.statement.Form.TheVariants.{Plain, Scheduled}
 use Rattle.vq_laws.specs.declared.statement.LineForm.{LineForm}
-use Rattle.vq_laws.specs.declared.statement.LineForm.TheVariants.{VersionLine, ScheduleLine, FillLine, EndLine}
+use Rattle.vq_laws.specs.declared.statement.LineForm.TheVariants.{VersionLine, ScheduleLine, FillWholeLine, FillLine, UpdateLine, CopyLine, EndLine}
 use Rattle.vq_laws.specs.declared.statement.Section.TheVariants.{Outside, InBatch}
 use Rattle.vq_laws.specs.Context.{section, version_of}
 use Rattle.vq_laws.specs.Forms.{forms_outside, forms_in_batch, held_forms}
@@ -19,7 +19,7 @@ use Rattle.vq_laws.specs.declared.statement.FaultKind.TheVariants.{Syntax}
 use Rattle.vq_laws.specs.declared.script.Mode.{Mode}
 use Rattle.std.specs.Borrow.{Bor}
 use Rattle.vq_script.specs.declared.forms.Found.{Found}
-use Rattle.vq_script.specs.declared.forms.Found.TheVariants.{Buffer, Queue, Submit, Fill, End}
+use Rattle.vq_script.specs.declared.forms.Found.TheVariants.{Buffer, Queue, Submit, FillWhole, Fill, Update, Copy, End}
 use Rattle.vq_script.specs.Forms.{OpenLine, open_line, with_words, Finds}
 use Rattle.vq_script.specs.Faults.{first_fault}
 use Rattle.vq_laws.specs.Meaning.{is_built, matches, where_built, form_of}
@@ -70,7 +70,10 @@ form_in_batch_is form before words h v = rw h (ap (λ n. where_built before (fin
 
 -- the forms that are built and stand in a batch
 abbrev stands_in_batch : LineForm → Bool
+stands_in_batch FillWholeLine = true
 stands_in_batch FillLine = true
+stands_in_batch UpdateLine = true
+stands_in_batch CopyLine = true
 stands_in_batch EndLine = true
 stands_in_batch other = false
 
@@ -90,7 +93,10 @@ unbuilt_found : (lines : List Line) (found : Found) → not (stands_in_batch (op
 unbuilt_found lines (Buffer name size) o b q s = absurd (b name size refl)
 unbuilt_found lines (Queue name mode) o b q s = absurd (q name mode refl)
 unbuilt_found lines (Submit queue) o b q s = absurd (s queue refl)
+unbuilt_found lines (FillWhole buffer offset word) o b q s = absurd (cc)
 unbuilt_found lines (Fill buffer offset size word) o b q s = absurd (cc)
+unbuilt_found lines (Update buffer offset digits) o b q s = absurd (cc)
+unbuilt_found lines (Copy source target size) o b q s = absurd (cc)
 unbuilt_found lines End o b q s = absurd (cc)
 unbuilt_found lines other o b q s = refl
 

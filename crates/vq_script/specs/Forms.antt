@@ -46,10 +46,10 @@ open_line (Fill buffer offset size word) = (
 )
 open_line (Update buffer offset digits) =
     (UpdateLine, (BufferName, buffer.now) ∷ (Numeral, offset.now) ∷ (HexDigits, digits.now) ∷ [])
-open_line (Copy source source_offset target target_offset size) = (
+open_line (Copy source target size) = (
   CopyLine,
-  (BufferName, source.now) ∷ (Numeral, source_offset.now) ∷ (BufferName, target.now)
-      ∷ (Numeral, target_offset.now) ∷ (Numeral, size.now) ∷ [],
+  (BufferName, source.buffer.now) ∷ (Numeral, source.offset.now) ∷ (BufferName, target.buffer.now)
+      ∷ (Numeral, target.offset.now) ∷ (Numeral, size.now) ∷ [],
 )
 open_line (SignalTimeline timeline value) =
     (SignalTimelineLine, (TimelineName, timeline.now) ∷ (Numeral, value.now) ∷ [])

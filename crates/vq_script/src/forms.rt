@@ -9,6 +9,13 @@ ghost use Rattle.vq_script.specs.Forms.{Finds, FindsPairs};
 
 use vq_laws::script::Mode;
 
+/// The words of a place in a buffer.
+#[derive(Clone, Copy)]
+pub struct PlaceWords<'a> {
+    pub buffer: &'a [u8],
+    pub offset: &'a [u8],
+}
+
 /// A line by its form, with the words in its places.
 #[derive(Clone, Copy)]
 pub enum Found<'a> {
@@ -86,10 +93,8 @@ pub enum Found<'a> {
         digits: &'a [u8],
     },
     Copy {
-        source: &'a [u8],
-        source_offset: &'a [u8],
-        target: &'a [u8],
-        target_offset: &'a [u8],
+        source: PlaceWords<'a>,
+        target: PlaceWords<'a>,
         size: &'a [u8],
     },
     SignalTimeline {
@@ -317,11 +322,17 @@ fn in_batch_of_six<'a>(
     ensures { Finds result (first.now ∷ second.now ∷ third.now ∷ fourth.now ∷ fifth.now ∷ sixth.now ∷ []) forms_in_batch }
 {
     if is(first, "copy") {
+        let source = PlaceWords {
+            buffer: second,
+            offset: third,
+        };
+        let target = PlaceWords {
+            buffer: fourth,
+            offset: fifth,
+        };
         Some(Found::Copy {
-            source: second,
-            source_offset: third,
-            target: fourth,
-            target_offset: fifth,
+            source,
+            target,
             size: sixth,
         })
     } else {

@@ -1,9 +1,12 @@
 //! Numerals.
-ghost use Rattle.std.specs.Prelude.{◌≡◌, ◌≤◌, ◌<◌, ◌^◌, length};
+ghost use Rattle.std.specs.Prelude.{◌≡◌, ◌≤◌, ◌<◌, ◌^◌, true, length, nat_lt, IfOk};
+ghost use Rattle.std.specs.List.{list_all};
 ghost use Rattle.std.specs.Char.{digit_value};
 ghost use Rattle.std.specs.Option.{option_and_then};
 ghost use Rattle.vq_laws.specs.Text.{numeral, numeral_in};
-ghost use Rattle.vq_laws.specs.Meaning.{small_numeral};
+ghost use Rattle.vq_laws.specs.Meaning.{small_numeral, is_hex, hex_bytes};
+
+use std::alloc::{AllocError, Global};
 
 /// The value of a digit, at least 36 for a byte that is none.
 pub fn digit(byte: u8) -> u32
@@ -66,4 +69,37 @@ pub fn small_numeral(word: &[u8]) -> Option<u32>
             }
         }
     }
+}
+
+/// Whether each byte of a word is a hexadecimal digit, of either case.
+fn has_hex_digits(word: &[u8]) -> bool
+    ensures { result ≡ list_all (λ b. nat_lt (digit_value b) 16) word.now }
+{
+    for byte in word {
+        if digit(*byte) >= 16 {
+            return false;
+        }
+    }
+    true
+}
+
+/// Whether a word is an even number of hexadecimal digits.
+pub fn is_hex(word: &[u8]) -> bool
+    ensures { result ≡ is_hex word.now }
+{
+    word.len() % 2 == 0 && has_hex_digits(word)
+}
+
+/// The bytes that hexadecimal digits stand for, two digits a byte.
+pub fn hex_bytes(alloc: Global, digits: &[u8]) -> Result<Vec<u8>, AllocError>
+    requires { is_hex digits.now ≡ true }
+    ensures { IfOk result (λ bytes. bytes.items ≡ hex_bytes digits.now) }
+{
+    let mut bytes = Vec::with_capacity(alloc, digits.len() / 2)?;
+    let mut rest = digits;
+    while let [high, low, after @ ..] = rest {
+        bytes.push((16 * digit(*high) + digit(*low)) as u8)?;
+        rest = after;
+    }
+    Ok(bytes)
 }

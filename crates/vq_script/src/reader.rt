@@ -9,7 +9,8 @@ ghost use Rattle.vq_script.specs.Outcomes.{Gives, IsFirst};
 ghost use Rattle.vq_script.specs.Reads.{TakesForm, Reads, ReadsLine, script_from};
 ghost use Rattle.vq_script.specs.Words.{texts};
 
-use crate::batches::{end_line, fill_line, submit_line};
+use crate::batches::{end_line, submit_line};
+use crate::commands::{copy_line, fill_line, fill_whole_line, update_line};
 use crate::declarations::{buffer_line, queue_line};
 use crate::fault::{ScriptFault, Stop};
 use crate::forms::{Found, form_in_batch, form_outside};
@@ -52,16 +53,32 @@ fn batch_line(
 ) -> Result<Option<OpenBatch>, Stop>
     ensures { (lines : List Line) → Keeps lines known.old (Some (batch_so_far batch)) → TakesForm lines number (texts words.now) forms_in_batch result known.new }
 {
-    match form_in_batch(words) {
-        Some(
-            Found::Fill {
-                buffer,
-                offset,
-                size,
-                word,
-            },
-        ) => fill_line(known, batch, number, buffer, offset, size, word),
-        Some(Found::End) => end_line(alloc, known, batch, number),
+    let Some(found) = form_in_batch(words) else {
+        return Err(Stop::Fault(FaultKind::Syntax));
+    };
+    match found {
+        Found::FillWhole {
+            buffer,
+            offset,
+            word,
+        } => fill_whole_line(known, batch, number, buffer, offset, word),
+        Found::Fill {
+            buffer,
+            offset,
+            size,
+            word,
+        } => fill_line(known, batch, number, buffer, offset, size, word),
+        Found::Update {
+            buffer,
+            offset,
+            digits,
+        } => update_line(alloc, known, batch, number, buffer, offset, digits),
+        Found::Copy {
+            source,
+            target,
+            size,
+        } => copy_line(known, batch, number, source, target, size),
+        Found::End => end_line(alloc, known, batch, number),
         _ => Err(Stop::Fault(FaultKind::Syntax)),
     }
 }
@@ -143,13 +160,17 @@ pub fn is_short(bytes: &[u8]) -> bool
 /// - `buffer NAME SIZE`: a buffer of 1 to 1,048,576 bytes; 64 buffers at most, of 1,048,576 bytes together;
 /// - `queue NAME immediate`: the one queue;
 /// - `submit QUEUE`: the first line of a batch; 4,096 batches at most;
-/// - `fill BUFFER OFFSET SIZE WORD`: a command of the batch; 64 a batch at most, and 8,192 in all;
+/// - `fill BUFFER OFFSET SIZE WORD`, or `fill BUFFER OFFSET whole WORD`: writes a word again and again;
+/// - `update BUFFER OFFSET DIGITS`: writes 1 to 65,536 bytes, of two hexadecimal digits each;
+/// - `copy BUFFER OFFSET BUFFER OFFSET SIZE`: writes bytes that stand elsewhere, none of which it reads;
 /// - `end`: the last line of the batch.
 ///
+/// Fills, updates and copies are the commands of the batch; 64 a batch at most, and 8,192 in all.
 /// Buffers and the queue are declared before the first batch. The script has the same declarations and batches, each with
 /// the number of its line, counted from 1.
 ///
-/// The format is this project's own. The ranges of a fill are those of Vulkan 1.3, "Clear Commands".
+/// The format is this project's own. The ranges of commands are those of Vulkan 1.3, "Clear Commands" and "Copy
+/// Commands".
 ///
 /// # Errors
 ///

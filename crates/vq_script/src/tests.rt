@@ -1,5 +1,6 @@
 //! Texts with what the rules of the format say of them.
 use crate::fault::ScriptFault;
+use crate::print;
 use crate::reader::{is_short, parse};
 use std::alloc::{AllocError, Global};
 use vq_laws::script::{Command, FillSize, Job, Mode};
@@ -31,7 +32,7 @@ fn batches(alloc: Global, count: usize, fills: usize) -> Result<String, AllocErr
 
 #[test]
 fn fine_texts(rt: HostRuntime) {
-    let texts: [&[u8]; 13] = [
+    let texts: [&[u8]; 14] = [
         b"",
         b"\n \t \r\n",
         b"# one comment",
@@ -44,6 +45,7 @@ fn fine_texts(rt: HostRuntime) {
         b"buffer X 00000000000000000008",
         b"buffer X 1048576",
         b"buffer X 8\nqueue Q immediate\nsubmit Q\nfill X 4 4 4294967295\nend",
+        b"buffer X 8\nqueue Q immediate\nsubmit Q\nfill X 4 whole 1\nupdate X 4 00ffAAbb\ncopy X 0 X 4 4\nend",
         b"buffer X 8\nqueue Q immediate\nsubmit Q\nfill X 0 8 0xFFffFFff\nfill X 0 4 1\nend\nsubmit Q\nend",
     ];
     for text in texts {
@@ -66,7 +68,7 @@ fn faulty_texts(rt: HostRuntime) {
         ("buffer 9Y 8", 3, FaultKind::Syntax),
         ("buffer Y-Z 8", 3, FaultKind::Syntax),
         ("queue R immediate", 3, FaultKind::Syntax),
-        ("submit Q\nfill X 0 whole 1\nend", 4, FaultKind::Syntax),
+        ("submit Q\nwait X 1\nend", 4, FaultKind::Syntax),
         ("submit Q\nsubmit Q\nend", 4, FaultKind::Syntax),
         ("submit Q\nbuffer Y 8\nend", 4, FaultKind::Syntax),
         ("submit Q\nend\nbuffer Y 8", 5, FaultKind::Order),
@@ -103,6 +105,121 @@ fn faulty_texts(rt: HostRuntime) {
             verdict(rt.alloc(), text.as_bytes(), Form::Plain),
             want,
             "{rest}"
+        );
+    }
+}
+
+#[test]
+fn faults_of_commands(rt: HostRuntime) {
+    let commands: [(&str, Option<FaultKind>); 45] = [
+        ("fill Y 4 whole 1", None),
+        ("fill Y 8 whole 1", Some(FaultKind::Range)),
+        ("fill X 2 whole 1", Some(FaultKind::Range)),
+        (
+            "fill X 18446744073709551612 whole 1",
+            Some(FaultKind::Range),
+        ),
+        ("fill X 0 whole 4294967296", Some(FaultKind::Number)),
+        ("fill X 0 Whole 1", Some(FaultKind::Number)),
+        ("fill Z 0 whole 1", Some(FaultKind::Name)),
+        ("fill 9 x whole 1", Some(FaultKind::Syntax)),
+        ("update X 12 aAbBcCdD", None),
+        ("update X 0 0011223", Some(FaultKind::Number)),
+        ("update X 0 0011223g", Some(FaultKind::Number)),
+        ("update X 0 g0112233", Some(FaultKind::Number)),
+        ("update X 0 0x112233", Some(FaultKind::Number)),
+        ("update X 0 0011:233", Some(FaultKind::Number)),
+        ("update Z 0 0011223g", Some(FaultKind::Number)),
+        ("update 9 0 0011223g", Some(FaultKind::Syntax)),
+        ("update Z 99 00112233", Some(FaultKind::Name)),
+        ("update X 16 00112233", Some(FaultKind::Range)),
+        ("update X 2 00112233", Some(FaultKind::Range)),
+        ("update X 0 001122", Some(FaultKind::Range)),
+        ("update X 12 0011223344556677", Some(FaultKind::Range)),
+        (
+            "update X 18446744073709551612 00112233",
+            Some(FaultKind::Range),
+        ),
+        ("copy X 0 X 8 8", None),
+        ("copy X 8 X 0 8", None),
+        ("copy X 5 Y 1 7", None),
+        ("copy X 1 Y 1 1", None),
+        ("copy X 0 X 7 8", Some(FaultKind::Overlap)),
+        ("copy X 7 X 0 8", Some(FaultKind::Overlap)),
+        ("copy X 15 X 15 1", Some(FaultKind::Overlap)),
+        ("copy X 9 X 8 8", Some(FaultKind::Range)),
+        ("copy X 8 X 9 8", Some(FaultKind::Range)),
+        ("copy X 0 Y 0 9", Some(FaultKind::Range)),
+        ("copy Y 0 X 0 9", Some(FaultKind::Range)),
+        ("copy X 0 X 8 0", Some(FaultKind::Range)),
+        ("copy X 16 Y 0 1", Some(FaultKind::Range)),
+        ("copy X 0 Y 8 1", Some(FaultKind::Range)),
+        ("copy X 18446744073709551615 Y 0 1", Some(FaultKind::Range)),
+        ("copy X 0 Y 18446744073709551615 1", Some(FaultKind::Range)),
+        ("copy X 8 Y 0 18446744073709551615", Some(FaultKind::Range)),
+        (
+            "copy X 18446744073709551615 X 18446744073709551615 2",
+            Some(FaultKind::Range),
+        ),
+        ("copy X 0 Z 99 1", Some(FaultKind::Name)),
+        ("copy Q 0 X 99 1", Some(FaultKind::Name)),
+        ("copy Z 0 X y 1", Some(FaultKind::Number)),
+        ("copy 9 x X 0 1", Some(FaultKind::Syntax)),
+        ("copy X x 9 0 1", Some(FaultKind::Syntax)),
+    ];
+    let declared = "buffer X 16\nbuffer Y 8\nqueue Q immediate\nsubmit Q\n";
+    for (command, fault) in commands {
+        let text = format!(in rt.alloc(); "{declared}{command}\nend").expect(&rt, "memory");
+        let want = match fault {
+            None => Ok(()),
+            Some(kind) => Err(ScriptFault::At { line: 5, kind }),
+        };
+        assert_eq!(rt;
+            verdict(rt.alloc(), text.as_bytes(), Form::Plain),
+            want,
+            "{command}"
+        );
+    }
+}
+
+#[test]
+fn sizes_and_limits_of_commands(rt: HostRuntime) {
+    let alloc = rt.alloc();
+    for (bytes, kind) in [(65_536, None), (65_540, Some(FaultKind::Range))] {
+        let declared = "buffer X 65544\nqueue Q immediate\nsubmit Q\nupdate X 0 ";
+        let mut text = String::from_str(alloc, declared).expect(&rt, "memory");
+        for _ in 0..bytes {
+            text.push_str("0a").expect(&rt, "memory");
+        }
+        text.push_str("\nend").expect(&rt, "memory");
+        let want = match kind {
+            None => Ok(()),
+            Some(kind) => Err(ScriptFault::At { line: 4, kind }),
+        };
+        assert_eq!(rt;
+            verdict(alloc, text.as_bytes(), Form::Plain),
+            want,
+            "{bytes}"
+        );
+    }
+    for command in [
+        "fill X 0 whole 0\n",
+        "update X 0 00000000\n",
+        "copy X 0 X 4 4\n",
+    ] {
+        let declared = "buffer X 8\nqueue Q immediate\nsubmit Q\n";
+        let mut text = String::from_str(alloc, declared).expect(&rt, "memory");
+        for _ in 0..65 {
+            text.push_str(command).expect(&rt, "memory");
+        }
+        let want = Err(ScriptFault::At {
+            line: 68,
+            kind: FaultKind::Limit,
+        });
+        assert_eq!(rt;
+            verdict(alloc, text.as_bytes(), Form::Plain),
+            want,
+            "{command}"
         );
     }
 }
@@ -192,4 +309,85 @@ fn script_of_a_text(rt: HostRuntime) {
         (5, 0, 0, 0x0102_0304)
     );
     assert_eq!(rt; *size, FillSize::Count(8));
+}
+
+#[test]
+fn commands_of_a_text(rt: HostRuntime) {
+    let text =
+        b"buffer X 16\nbuffer Y 8\nqueue Q immediate\nsubmit Q\nfill Y 4 whole 7\nupdate X 8 01fFA0b1\ncopy X 3 Y 2 5\nend";
+    let script = parse(rt.alloc(), text, Form::Plain).expect(&rt, "the text has no fault");
+    let [Job::Batch(batch)] = script.jobs.as_slice() else {
+        panic!(rt; "one batch is wanted");
+    };
+    let [fill, update, copy] = batch.commands.as_slice() else {
+        panic!(rt; "three commands are wanted");
+    };
+    assert_eq!(rt; (fill.line, update.line, copy.line), (5, 6, 7));
+    match &fill.command {
+        Command::Fill {
+            buffer,
+            offset,
+            size,
+            word,
+        } => {
+            assert_eq!(rt; (*buffer, *offset, *word), (1, 4, 7));
+            assert_eq!(rt; *size, FillSize::Whole);
+        }
+        _ => panic!(rt; "a fill is wanted"),
+    }
+    match &update.command {
+        Command::Update {
+            buffer,
+            offset,
+            bytes,
+        } => {
+            assert_eq!(rt; (*buffer, *offset), (0, 8));
+            assert_eq!(rt; bytes.as_slice(), [0x01, 0xff, 0xa0, 0xb1].as_slice());
+        }
+        _ => panic!(rt; "an update is wanted"),
+    }
+    match &copy.command {
+        Command::Copy {
+            source,
+            source_offset,
+            target,
+            target_offset,
+            size,
+        } => {
+            assert_eq!(rt; (*source, *source_offset), (0, 3));
+            assert_eq!(rt; (*target, *target_offset, *size), (1, 2, 5));
+        }
+        _ => panic!(rt; "a copy is wanted"),
+    }
+}
+
+/// The canonical text of the script that a text stands for.
+fn printed(alloc: Global, text: &[u8]) -> Result<Vec<u8>, ScriptFault> {
+    if !is_short(text) {
+        return Err(ScriptFault::Memory);
+    }
+    let script = parse(alloc, text, Form::Plain)?;
+    match print(alloc, &script) {
+        Ok(text) => Ok(text),
+        Err(_) => Err(ScriptFault::Memory),
+    }
+}
+
+#[test]
+fn canonical_texts(rt: HostRuntime) {
+    let texts: [(&str, &str); 3] = [
+        ("", ""),
+        (" buffer  X 0x10 # note\n", "buffer X 16\n"),
+        (
+            "queue Q immediate\r\n\nbuffer Y 0x0007\nbuffer X 16\nsubmit Q\nfill Y 04 whole 0xABC\nupdate X 0 0aFF00b1 #\nend\nsubmit Q\ncopy X 1 Y 0x0 3\nfill X 0 4 4294967295\nend",
+            "buffer Y 7\nbuffer X 16\nqueue Q immediate\nsubmit Q\nfill Y 4 whole 0x00000abc\nupdate X 0 0aff00b1\nend\nsubmit Q\ncopy X 1 Y 0 3\nfill X 0 4 0xffffffff\nend\n",
+        ),
+    ];
+    for (text, canonical) in texts {
+        // A canonical text is that of the script that it stands for.
+        for text in [text, canonical] {
+            let bytes = printed(rt.alloc(), text.as_bytes()).expect(&rt, "the text has no fault");
+            assert_eq!(rt; bytes.as_slice(), canonical.as_bytes(), "{text:?}");
+        }
+    }
 }

@@ -4,17 +4,16 @@ use Rattle.vq_laws.specs.declared.statement.Statement.TheVariants.{AddCommand}
 use Rattle.vq_laws.specs.Reading.{with_line}
 use Rattle.vq_script.specs.Holds.{Holds}
 use Rattle.vq_script.proofs.Pushes.{holds_command, started}
-use Rattle.vq_script.proofs.batches.fill_line.Goals as goal
+use Rattle.vq_script.proofs.commands.add_command.Goals as goal
 
 pub returns : goal.returns
-returns c = λ lines h.
-    let told = c.in_ok-command.ensures.told lines h in
-    let says = AddCommand c.in_ok-command.command in
+returns c = λ lines line h none said.
+    let says = AddCommand c.args.command in
     let known = c.args.known.now in
     let batch = c.args.batch in (
       says,
-      told.0,
-      told.1,
+      none,
+      said,
       subst (λ (cs : List CommandLine). Holds (with_line lines c.args.number says) known.buffers.items known.bytes known.queues.items known.jobs.items (known.commands + 1) (Some (started batch.line batch.queue cs))) (sym c.in_ok-push.ensures.items)
-          (holds_command lines c.args.number c.in_ok-command.command batch.line batch.queue batch.commands.items known.buffers.items known.bytes known.queues.items known.jobs.items known.commands h),
+          (holds_command lines c.args.number c.args.command batch.line batch.queue batch.commands.items known.buffers.items known.bytes known.queues.items known.jobs.items known.commands h),
     )
