@@ -1,10 +1,11 @@
 //! The lines that declare buffers and queues.
-ghost use Rattle.std.specs.Prelude.{◌≡◌, ◌+◌, ◌<◌, ◌≤◌, List, length, true, None, IfOk, OnOk};
+ghost use Rattle.std.specs.Prelude.{◌≡◌, ◌+◌, ◌<◌, ◌≤◌, List, length, true, false, None, IfOk, OnOk};
 ghost use Rattle.vq_laws.specs.Text.{is_name};
 ghost use Rattle.vq_laws.specs.declared.statement.Line.{Line};
 ghost use Rattle.vq_script.specs.Faults.{Tells};
 ghost use Rattle.vq_script.specs.Forms.{open_line};
 ghost use Rattle.vq_script.specs.Holds.{Keeps};
+ghost use Rattle.vq_script.specs.Names.{is_taken};
 ghost use Rattle.vq_script.specs.Reads.{Takes};
 
 use crate::fault::Stop;
@@ -21,6 +22,7 @@ fn buffer_size(known: &Known, name: &[u8], size: &[u8]) -> Result<u32, FaultKind
     ensures told { (lines : List Line) → Keeps lines known.now None → Tells lines (open_line (Found.Buffer name.entry size.entry)) (λ n. Statement.DeclareBuffer name.now n) result }
     ensures named { OnOk result (is_name name.now ≡ true) }
     ensures room { IfOk result (λ n. (length known.now.buffers.items < 64) × (known.now.bytes + n ≤ 1048576)) }
+    ensures fresh { OnOk result (is_taken known.now.buffers.items known.now.queues.items name.now ≡ false) }
 {
     if !is_name(name) {
         return Err(FaultKind::Syntax);
@@ -59,8 +61,7 @@ pub fn buffer_line(
         name: owned_name(alloc, name)?,
         size,
     };
-    known.buffers.push(buffer)?;
-    known.bytes += size;
+    known.add_buffer(alloc, buffer)?;
     Ok(None)
 }
 
@@ -69,6 +70,7 @@ fn check_queue(known: &Known, name: &[u8], mode: Mode) -> Result<(), FaultKind>
     ensures told { (lines : List Line) → Keeps lines known.now None → Tells lines (open_line (Found.Queue name.entry mode)) (λ u. Statement.DeclareQueue name.now mode) result }
     ensures named { OnOk result (is_name name.now ≡ true) }
     ensures room { OnOk result (length known.now.queues.items < 8) }
+    ensures fresh { OnOk result (is_taken known.now.buffers.items known.now.queues.items name.now ≡ false) }
 {
     let Mode::Immediate = mode else {
         return Err(FaultKind::Syntax);
@@ -104,6 +106,6 @@ pub fn queue_line(
         name: owned_name(alloc, name)?,
         mode,
     };
-    known.queues.push(queue)?;
+    known.add_queue(alloc, queue)?;
     Ok(None)
 }

@@ -1,11 +1,14 @@
 //! What the lines so far declare and submit.
-ghost use Rattle.std.specs.Prelude.{◌≡◌, ◌+◌, ◌<◌, ◌≤◌, ◌||◌, not, nat_lt, length, IfSome};
+ghost use Rattle.std.specs.Prelude.{◌≡◌, ◌+◌, ◌<◌, ◌≤◌, ◌||◌, ◌++◌, ◌∷◌, [], ℕ, List, not, nat_lt, length, false, OnOk, OnErr};
 ghost use Rattle.std.specs.List.{position, list_any, slice_get};
 ghost use Rattle.std.specs.Str.{bytes_eq};
 ghost use Rattle.std.specs.Option.{option_map_or};
+ghost use Rattle.vq_script.specs.Names.{declared_as, buffer_in, queue_in, is_taken};
 
+use crate::declared::Declared;
 use crate::limits;
-use std::alloc::Global;
+use std::alloc::{AllocError, Global};
+use std::collections::BTreeMap;
 use vq_laws::list::List;
 use vq_laws::script::{Buffer, CommandLine, Job, Queue, Script};
 
@@ -20,9 +23,13 @@ pub struct Known {
     pub jobs: Vec<Job>,
     /// The commands of all batches together.
     pub commands: u32,
+    /// What each declared name stands for.
+    names: BTreeMap<Vec<u8>, Declared>,
     ghost few_bytes: { bytes ≤ 1048576 },
     ghost few_buffers: { length buffers.items ≤ 64 },
     ghost few_queues: { length queues.items ≤ 8 },
+    ghost buffer_names: { (name : List ℕ) → buffer_in (declared_as names name) ≡ position (λ b. bytes_eq name b.name) buffers.items },
+    ghost queue_names: { (name : List ℕ) → queue_in (declared_as names name) ≡ position (λ q. bytes_eq name q.name) queues.items },
 }
 
 /// A batch whose `end` line hasn't come.
@@ -34,7 +41,7 @@ pub struct OpenBatch {
 }
 
 impl Known {
-    ghost use Rattle.std.specs.Prelude.{List, [], None};
+    ghost use Rattle.std.specs.Prelude.{None};
     ghost use Rattle.vq_laws.specs.declared.statement.Line.{Line};
     ghost use Rattle.vq_laws.specs.ScriptOfLines.{script_of};
     ghost use Rattle.vq_script.specs.Holds.{Keeps};
@@ -49,6 +56,7 @@ impl Known {
             queues: Vec::new(alloc),
             jobs: Vec::new(alloc),
             commands: 0,
+            names: BTreeMap::new(alloc),
         }
     }
 
@@ -67,22 +75,60 @@ impl Known {
         }
     }
 
-    /// The place of the first buffer of this name.
-    fn buffer_place(&self, name: &[u8]) -> Option<usize>
-        ensures place { result ≡ position (λ b. bytes_eq name.now b.name) self.now.buffers.items }
-        ensures within { IfSome result (λ place. place < length self.now.buffers.items) }
+    /// Declares a buffer, whose name is new. For want of memory all stays as it was.
+    pub fn add_buffer(&mut self, alloc: Global, buffer: Buffer) -> Result<(), AllocError>
+        requires room { length self.old.buffers.items < 64 }
+        requires few_bytes { self.old.bytes + buffer.size ≤ 1048576 }
+        requires fresh { is_taken self.old.buffers.items self.old.queues.items buffer.name ≡ false }
+        ensures buffers { OnOk result (self.new.buffers.items ≡ self.old.buffers.items ++ buffer ∷ []) }
+        ensures bytes { OnOk result (self.new.bytes ≡ self.old.bytes + buffer.size) }
+        ensures queues { self.new.queues.items ≡ self.old.queues.items }
+        ensures jobs { self.new.jobs.items ≡ self.old.jobs.items }
+        ensures commands { self.new.commands ≡ self.old.commands }
+        ensures buffers_stay { OnErr result (self.new.buffers.items ≡ self.old.buffers.items) }
+        ensures bytes_stay { OnErr result (self.new.bytes ≡ self.old.bytes) }
     {
-        self.buffers
-            .iter()
-            .position(|buffer| name == buffer.name.as_slice())
+        let name = Vec::from_slice(alloc, buffer.name.as_slice())?;
+        let number = self.buffers.len() as u32;
+        // Room comes first, so that the name never stands in the map without its buffer.
+        self.buffers.reserve(1)?;
+        self.names.insert(name, Declared::Buffer(number))?;
+        self.bytes += buffer.size;
+        let Ok(()) = self.buffers.push(buffer) else {
+            unreachable!()
+        };
+        Ok(())
+    }
+
+    /// Declares a queue, whose name is new. For want of memory all stays as it was.
+    pub fn add_queue(&mut self, alloc: Global, queue: Queue) -> Result<(), AllocError>
+        requires room { length self.old.queues.items < 8 }
+        requires fresh { is_taken self.old.buffers.items self.old.queues.items queue.name ≡ false }
+        ensures queues { OnOk result (self.new.queues.items ≡ self.old.queues.items ++ queue ∷ []) }
+        ensures buffers { self.new.buffers.items ≡ self.old.buffers.items }
+        ensures bytes { self.new.bytes ≡ self.old.bytes }
+        ensures jobs { self.new.jobs.items ≡ self.old.jobs.items }
+        ensures commands { self.new.commands ≡ self.old.commands }
+        ensures queues_stay { OnErr result (self.new.queues.items ≡ self.old.queues.items) }
+    {
+        let name = Vec::from_slice(alloc, queue.name.as_slice())?;
+        let number = self.queues.len() as u32;
+        // Room comes first, so that the name never stands in the map without its queue.
+        self.queues.reserve(1)?;
+        self.names.insert(name, Declared::Queue(number))?;
+        let Ok(()) = self.queues.push(queue) else {
+            unreachable!()
+        };
+        Ok(())
     }
 
     /// The number of the buffer of this name.
     pub fn buffer_at(&self, name: &[u8]) -> Option<u32>
         ensures { result ≡ position (λ b. bytes_eq name.now b.name) self.now.buffers.items }
     {
-        match self.buffer_place(name) {
-            Some(place) => Some(place as u32),
+        match self.names.get(name) {
+            Some(Declared::Buffer(number)) => Some(*number),
+            Some(Declared::Queue(_)) => None,
             None => None,
         }
     }
@@ -97,49 +143,22 @@ impl Known {
         }
     }
 
-    /// The place of the first queue of this name.
-    fn queue_place(&self, name: &[u8]) -> Option<usize>
-        ensures place { result ≡ position (λ q. bytes_eq name.now q.name) self.now.queues.items }
-        ensures within { IfSome result (λ place. place < length self.now.queues.items) }
-    {
-        self.queues
-            .iter()
-            .position(|queue| name == queue.name.as_slice())
-    }
-
     /// The number of the queue of this name.
     pub fn queue_at(&self, name: &[u8]) -> Option<u32>
         ensures { result ≡ position (λ q. bytes_eq name.now q.name) self.now.queues.items }
     {
-        match self.queue_place(name) {
-            Some(place) => Some(place as u32),
+        match self.names.get(name) {
+            Some(Declared::Queue(number)) => Some(*number),
+            Some(Declared::Buffer(_)) => None,
             None => None,
         }
-    }
-
-    /// Whether a buffer has this name.
-    fn has_buffer(&self, name: &[u8]) -> bool
-        ensures { result ≡ list_any (λ b. bytes_eq name.now b.name) self.now.buffers.items }
-    {
-        self.buffers
-            .iter()
-            .any(|buffer| name == buffer.name.as_slice())
-    }
-
-    /// Whether a queue has this name.
-    fn has_queue(&self, name: &[u8]) -> bool
-        ensures { result ≡ list_any (λ q. bytes_eq name.now q.name) self.now.queues.items }
-    {
-        self.queues
-            .iter()
-            .any(|queue| name == queue.name.as_slice())
     }
 
     /// Whether a buffer or a queue has this name.
     pub fn is_declared(&self, name: &[u8]) -> bool
         ensures { result ≡ (list_any (λ b. bytes_eq name.now b.name) self.now.buffers.items || list_any (λ q. bytes_eq name.now q.name) self.now.queues.items) }
     {
-        self.has_buffer(name) || self.has_queue(name)
+        self.names.contains_key(name)
     }
 
     /// Whether a queue is declared.

@@ -4,6 +4,12 @@ use Rattle.vq_laws.specs.Text.{is_name}
 use Rattle.vq_script.proofs.CommandKinds.{update_kinds, update_said, update_values}
 use Rattle.vq_script.proofs.commands.update_place.Goals as goal
 
+pub returns-then-not-is_hex-clause-told : goal.returns-then-not-is_hex-clause-told
+returns-then-not-is_hex-clause-told c = λ lines h.
+    let named : is_name c.args.buffer.now ≡ true = cc in
+    let hex : is_hex c.args.digits.now ≡ false = cc in
+    update_kinds lines c.args.buffer.now c.args.offset.now c.args.digits.now _ (Some c.in-Some.offset) false h named refl (sym c.in-Some.ensures) hex
+
 pub returns-in_default-buffer_at-clause-told : goal.returns-in_default-buffer_at-clause-told
 returns-in_default-buffer_at-clause-told c = λ lines h.
     let named : is_name c.args.buffer.now ≡ true = cc in

@@ -1,5 +1,4 @@
-use Rattle.std.proofs.Common.{◌≡◌, ℕ, ◌+◌, ◌∷◌, ◌++◌, [], None, List, sym, ap, subst, ◌∙◌}
-use Rattle.vq_laws.specs.declared.script.Buffer.{Buffer}
+use Rattle.std.proofs.Common.{◌≡◌, ℕ, ◌∷◌, ◌++◌, [], None, List, ap, ◌∙◌}
 use Rattle.vq_laws.specs.declared.statement.Statement.TheVariants.{DeclareBuffer}
 use Rattle.vq_laws.specs.Reading.{with_line}
 use Rattle.vq_script.specs.Holds.{Holds}
@@ -12,11 +11,11 @@ returns c = λ lines h.
     let says = DeclareBuffer c.args.name.now c.in_ok-size.size in
     let known = c.args.known.now in
     let named : c.in_ok-owned_name.field-0 ≡ c.args.name.now = c.in_ok-owned_name.ensures in
-    let pushed : c.push.new.self.items ≡ known.buffers.items ++ record { line = c.args.number; name = c.args.name.now; size = c.in_ok-size.size } ∷ [] =
-    c.in_ok-push.ensures.items ∙ ap (λ (name : List ℕ). known.buffers.items ++ record { line = c.args.number; name = name; size = c.in_ok-size.size } ∷ []) named in (
-      says,
-      told.0,
-      told.1,
-      subst (λ (bs : List Buffer). Holds (with_line lines c.args.number says) bs (known.bytes + c.in_ok-size.size) known.queues.items known.jobs.items known.commands None) (sym pushed)
-          (holds_buffer lines c.args.number c.args.name.now c.in_ok-size.size known.buffers.items known.bytes known.queues.items known.jobs.items known.commands h),
-    )
+    let next = c.add_buffer.new.self in
+    let done = c.in_ok-add_buffer.ensures in
+    let pushed : next.buffers.items ≡ known.buffers.items ++ record { line = c.args.number; name = c.args.name.now; size = c.in_ok-size.size } ∷ [] =
+    done.buffers ∙ ap (λ (name : List ℕ). known.buffers.items ++ record { line = c.args.number; name = name; size = c.in_ok-size.size } ∷ []) named in
+    let kept : Holds (with_line lines c.args.number says) next.buffers.items next.bytes next.queues.items next.jobs.items next.commands None =
+    rw (pushed, done.bytes, done.queues, done.jobs, done.commands)
+    (holds_buffer lines c.args.number c.args.name.now c.in_ok-size.size known.buffers.items known.bytes known.queues.items known.jobs.items known.commands h) in
+    (says, told.0, told.1, kept)

@@ -1,5 +1,4 @@
-use Rattle.std.proofs.Common.{◌≡◌, ℕ, ◌∷◌, ◌++◌, [], None, List, sym, ap, subst, ◌∙◌}
-use Rattle.vq_laws.specs.declared.script.Queue.{Queue}
+use Rattle.std.proofs.Common.{◌≡◌, ℕ, ◌∷◌, ◌++◌, [], None, List, ap, ◌∙◌}
 use Rattle.vq_laws.specs.declared.statement.Statement.TheVariants.{DeclareQueue}
 use Rattle.vq_laws.specs.Reading.{with_line}
 use Rattle.vq_script.specs.Holds.{Holds}
@@ -12,11 +11,11 @@ returns c = λ lines h.
     let says = DeclareQueue c.args.name.now c.args.mode in
     let known = c.args.known.now in
     let named : c.in_ok-owned_name.field-0 ≡ c.args.name.now = c.in_ok-owned_name.ensures in
-    let pushed : c.push.new.self.items ≡ known.queues.items ++ record { line = c.args.number; name = c.args.name.now; mode = c.args.mode } ∷ [] =
-    c.in_ok-push.ensures.items ∙ ap (λ (name : List ℕ). known.queues.items ++ record { line = c.args.number; name = name; mode = c.args.mode } ∷ []) named in (
-      says,
-      told.0,
-      told.1,
-      subst (λ (qs : List Queue). Holds (with_line lines c.args.number says) known.buffers.items known.bytes qs known.jobs.items known.commands None) (sym pushed)
-          (holds_queue lines c.args.number c.args.name.now c.args.mode known.buffers.items known.bytes known.queues.items known.jobs.items known.commands h),
-    )
+    let next = c.add_queue.new.self in
+    let done = c.in_ok-add_queue.ensures in
+    let pushed : next.queues.items ≡ known.queues.items ++ record { line = c.args.number; name = c.args.name.now; mode = c.args.mode } ∷ [] =
+    done.queues ∙ ap (λ (name : List ℕ). known.queues.items ++ record { line = c.args.number; name = name; mode = c.args.mode } ∷ []) named in
+    let kept : Holds (with_line lines c.args.number says) next.buffers.items next.bytes next.queues.items next.jobs.items next.commands None =
+    rw (done.buffers, done.bytes, pushed, done.jobs, done.commands)
+    (holds_queue lines c.args.number c.args.name.now c.args.mode known.buffers.items known.bytes known.queues.items known.jobs.items known.commands h) in
+    (says, told.0, told.1, kept)
