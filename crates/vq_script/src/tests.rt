@@ -56,7 +56,7 @@ fn fine_texts(rt: HostRuntime) {
 #[test]
 fn faulty_texts(rt: HostRuntime) {
     let declared = "buffer X 8\nqueue Q immediate\n";
-    let texts: [(&str, u32, FaultKind); 36] = [
+    let texts: [(&str, u32, FaultKind); 48] = [
         ("submit Q\n", 4, FaultKind::Syntax),
         ("word", 3, FaultKind::Syntax),
         ("end", 3, FaultKind::Syntax),
@@ -80,6 +80,18 @@ fn faulty_texts(rt: HostRuntime) {
         ("buffer Y 0x00000000000000008", 3, FaultKind::Number),
         ("buffer Y 0x", 3, FaultKind::Number),
         ("buffer X 8a", 3, FaultKind::Number),
+        ("submit", 3, FaultKind::Syntax),
+        ("queue R", 3, FaultKind::Syntax),
+        ("submit Q\nend end", 4, FaultKind::Syntax),
+        ("submit Q\nfill 9X 0 8 0", 4, FaultKind::Syntax),
+        ("submit Q\nfill X 0 8", 4, FaultKind::Syntax),
+        ("submit Q\nupdate X 0", 4, FaultKind::Syntax),
+        ("submit Q\ncopy X 0 X 4", 4, FaultKind::Syntax),
+        ("submit Q\nfill X 0y 8 0", 4, FaultKind::Number),
+        ("submit Q\nfill X 0 8y 0", 4, FaultKind::Number),
+        ("submit Q\nfill X 0 8 y", 4, FaultKind::Number),
+        ("submit Q\nfill Y 0 8 0", 4, FaultKind::Name),
+        ("submit Y", 3, FaultKind::Name),
         ("submit Q\nfill Y 0 8 4294967296\nend", 4, FaultKind::Number),
         ("submit X", 3, FaultKind::Name),
         ("submit Q\nfill Q 9 9 0\nend", 4, FaultKind::Name),
@@ -241,6 +253,14 @@ fn first_lines_and_limits(rt: HostRuntime) {
     );
     assert_eq!(rt; verdict(alloc, b"queue Q deferred", Form::Plain), syntax(1));
     assert_eq!(rt; verdict(alloc, b"version 2", Form::Plain), syntax(1));
+    let taken = ScriptFault::At {
+        line: 2,
+        kind: FaultKind::Twice,
+    };
+    assert_eq!(rt;
+        verdict(alloc, b"buffer X 4\nqueue X immediate", Form::Plain),
+        Err(taken)
+    );
     assert_eq!(rt; verdict(alloc, b"", Form::Scheduled), syntax(1));
     assert_eq!(rt; verdict(alloc, b"buffer X 1048577", Form::Plain), limit(1));
     for (count, fills, want) in [
