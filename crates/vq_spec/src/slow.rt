@@ -30,7 +30,11 @@ fn sizes_of(alloc: Global, script: &Script) -> Result<Vec<u32>, AllocError>
     ensures { IfOk result (λ sizes. sizes.items ≡ sizes_of script.now) }
 {
     let buffers = script.buffers.as_slice();
-    buffers.iter().map(|buffer| buffer.size).collect(alloc)
+    let mut sizes = Vec::with_capacity(alloc, buffers.len())?;
+    for buffer in buffers {
+        sizes.push(buffer.size)?;
+    }
+    Ok(sizes)
 }
 
 /// Buffers of the sizes that a script declares, all bytes zero.
