@@ -18,7 +18,7 @@ use Rattle.vq_laws.specs.Signals.{Signaling, all_signals}
 use Rattle.vq_laws.specs.Lowering.{batch_commands, plan_of}
 use Rattle.vq_laws.specs.ValidScripts.{IsValid, KeepsLimits}
 use Rattle.vq_laws.specs.LoweringFaults.{Lowers, IsPlan}
-use Rattle.vq_laws.specs.SameScript.{IsScript}
+use Rattle.vq_laws.specs.SameScript.{IsRead}
 
 abbrev lines : List Line
 lines =
@@ -32,9 +32,9 @@ lines =
 abbrev script : Script
 script = script_of lines
 
-is_script : IsScript script
-is_script =
-    record { text = codes "buffer X 8\nqueue Q immediate\nsubmit Q\nfill X 0 8 0x01020304\nend\n"; form = Plain; written = script; stands = refl; same = refl }
+is_read : IsRead script
+is_read =
+    record { text = codes "buffer X 8\nqueue Q immediate\nsubmit Q\nfill X 0 8 0x01020304\nend\n"; form = Plain; stands = refl }
 
 lowers : Lowers script (Ok (plan_of script))
 lowers = (refl, refl)
@@ -61,4 +61,4 @@ is_valid = record { signals = signals; commands = commands; limits = limits }
         of_command (option_map_or (λ z. slice_get (batch_commands z) k) (slice_get script.jobs j) None) x (ap (λ o. option_map_or (λ z. slice_get (batch_commands z) k) o None) hj ∙ hk) (fits j k)
 
 is_plan : IsPlan (plan_of script)
-is_plan = record { of_script = is_script; faultless = refl; lowered = refl }
+is_plan = record { of_script = is_read; faultless = refl; lowered = refl }

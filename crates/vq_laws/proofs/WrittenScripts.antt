@@ -14,7 +14,7 @@ use Rattle.vq_laws.specs.Signals.{Signaling, all_signals}
 use Rattle.vq_laws.specs.Lowering.{batch_commands, commands_in}
 use Rattle.vq_laws.specs.Ranges.{Fits}
 use Rattle.vq_laws.specs.ValidScripts.{IsValid, KeepsLimits, HasOneLane, ArePlainBatches, sizes_of}
-use Rattle.vq_laws.specs.SameScript.{SameButLines, IsScript, job_without_lines, mark_without_line, command_without_line, buffer_without_line, semaphore_without_line, queue_without_line, turn_without_line}
+use Rattle.vq_laws.specs.SameScript.{SameButLines, IsScript, IsRead, job_without_lines, mark_without_line, command_without_line, buffer_without_line, semaphore_without_line, queue_without_line, turn_without_line}
 use Rattle.vq_laws.proofs.PlanLaws.{get-map, some_of}
 use Rattle.vq_laws.proofs.OneLane.{one_lane_signals}
 use Rattle.vq_laws.proofs.ScriptFacts.{text_one_lane, text_valid}
@@ -185,3 +185,16 @@ pub written_valid : (s : Script) → IsScript s → IsValid s
 written_valid s i =
     same_valid i.written s i.same (written_one_lane s i)
     (text_valid i.text i.form i.written i.stands)
+
+-- A script that was read can be written, ..
+pub read_written : (s : Script) → IsRead s → IsScript s
+read_written s i =
+    record { text = i.text; form = i.form; written = s; stands = i.stands; same = refl }
+
+-- .. is valid, ..
+pub read_valid : (s : Script) → IsRead s → IsValid s
+read_valid s i = text_valid i.text i.form s i.stands
+
+-- .. and has one lane.
+pub read_one_lane : (s : Script) → IsRead s → HasOneLane s
+read_one_lane s i = text_one_lane i.text i.form s i.stands

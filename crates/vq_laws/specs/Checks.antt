@@ -8,12 +8,11 @@ use Rattle.std.specs.Option.{option_map_or}
 use Rattle.vq_laws.specs.declared.plan.Need.{Need}
 use Rattle.vq_laws.specs.declared.script.SemaphoreKind.TheVariants.{Binary}
 use Rattle.vq_laws.specs.declared.script.Script.{Script}
-use Rattle.vq_laws.specs.declared.script.Mode.{Mode}
-use Rattle.vq_laws.specs.declared.script.Mode.TheVariants.{Immediate}
 use Rattle.vq_laws.specs.declared.plan.Lane.{Lane}
 use Rattle.vq_laws.specs.declared.plan.Lane.TheVariants.{Host as HostLane, Queue as QueueLane}
 use Rattle.vq_laws.specs.declared.plan.OrderFault.{OrderFault}
 use Rattle.vq_laws.specs.declared.plan.OrderFault.TheVariants.{Unreachable, Unordered, FenceBusy, NotPending, Race, Memory}
+use Rattle.vq_laws.specs.Context.{is_immediate}
 use Rattle.vq_laws.specs.Plan.{Plan, needs, waits_for_any, has, chain, chain_of, line_of_op, initial, value, job_of, line_of_job, of_job, resolver, is_host_step, line_of_command}
 use Rattle.vq_laws.specs.Machine.{is_reached}
 use Rattle.vq_laws.specs.SlowRun.{payload_after, slow_order, left_over}
@@ -115,10 +114,6 @@ pub record IsFenceBusyAt (p : Plan) (line : ℕ) : Type 0 where
   pub of_job : job_of p op ≡ Some naming
   pub unsure : ¬ IsSure p op job
   pub named : line ≡ line_of_job p job
-
-abbrev pub is_immediate : Mode → Bool
-is_immediate Immediate = true
-is_immediate other = false
 
 -- whether a job is a batch of an immediate queue
 abbrev pub is_immediate_batch : Plan → ℕ → Bool

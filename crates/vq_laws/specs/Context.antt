@@ -15,7 +15,7 @@ use Rattle.vq_laws.specs.declared.script.Queue.{Queue}
 use Rattle.vq_laws.specs.declared.script.SemaphoreKind.{SemaphoreKind}
 use Rattle.vq_laws.specs.declared.script.SemaphoreKind.TheVariants.{Timeline, Binary, Fence}
 use Rattle.vq_laws.specs.declared.script.Mode.{Mode}
-use Rattle.vq_laws.specs.declared.script.Mode.TheVariants.{Threaded}
+use Rattle.vq_laws.specs.declared.script.Mode.TheVariants.{Immediate, Threaded}
 
 -- Parts of the text
 
@@ -86,6 +86,10 @@ is_binary other = false
 abbrev pub is_fence : SemaphoreKind → Bool
 is_fence Fence = true
 is_fence other = false
+
+abbrev pub is_immediate : Mode → Bool
+is_immediate Immediate = true
+is_immediate other = false
 
 abbrev pub is_threaded : Mode → Bool
 is_threaded Threaded = true

@@ -15,7 +15,7 @@ use Rattle.vq_laws.specs.declared.plan.PlanFault.TheVariants.{NoSignal as NoSign
 use Rattle.vq_laws.specs.Signals.{is_counted_at}
 use Rattle.vq_laws.specs.Plan.{Plan}
 use Rattle.vq_laws.specs.Lowering.{plan_of}
-use Rattle.vq_laws.specs.SameScript.{IsScript}
+use Rattle.vq_laws.specs.SameScript.{IsRead}
 
 -- Uses
 
@@ -154,8 +154,8 @@ Lowers s (Ok p) = (lowering_fault s ≡ None) × (p ≡ plan_of s)
 Lowers s (Err Memory) = Unit {0}
 Lowers s (Err fault) = IsFirstLoweringFault s fault
 
--- A plan of a script: lowering a script that can be written gave it.
+-- A plan of a script: lowering a script that was read gave it.
 pub record IsPlan (p : Plan) : Type 0 where
-  pub of_script : IsScript p.script
+  pub of_script : IsRead p.script
   pub faultless : lowering_fault p.script ≡ None
   pub lowered : p ≡ plan_of p.script

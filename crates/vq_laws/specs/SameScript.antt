@@ -63,6 +63,12 @@ without_lines s =
 abbrev pub SameButLines : Script → Script → Type 0
 SameButLines a b = without_lines a ≡ without_lines b
 
+-- A script as it is read: some text stands for it, its lines included.
+pub record IsRead (s : Script) : Type 0 where
+  pub text : List ℕ
+  pub form : Form
+  pub stands : StandsFor text form s
+
 -- A script can be written: up to line numbers, some text stands for it.
 pub record IsScript (s : Script) : Type 0 where
   pub text : List ℕ

@@ -1,14 +1,18 @@
 -- What each script that can be written keeps. This project's own.
-use Rattle.std.specs.Prelude.{ℕ, ◌≡◌, ◌<◌, ◌≤◌, List, [], ◌∷◌, length, map, sum, false, None, Some}
-use Rattle.std.specs.List.{slice_get}
+use Rattle.std.specs.Prelude.{ℕ, ◌≡◌, ◌<◌, ◌≤◌, Bool, true, false, List, [], ◌∷◌, ◌++◌, length, map, sum, None, Some, All}
+use Rattle.std.specs.List.{slice_get, flat_map}
+use Rattle.std.specs.Option.{option_map_or, option_to_list}
 use Rattle.vq_laws.specs.declared.script.Script.{Script}
 use Rattle.vq_laws.specs.declared.script.Batch.{Batch}
 use Rattle.vq_laws.specs.declared.script.Job.{Job}
 use Rattle.vq_laws.specs.declared.script.Job.TheVariants.{Host, Batch as BatchJob}
 use Rattle.vq_laws.specs.declared.script.CommandLine.{CommandLine}
+use Rattle.vq_laws.specs.declared.script.Mark.{Mark}
+use Rattle.vq_laws.specs.Context.{is_fence, is_immediate}
 use Rattle.vq_laws.specs.Limits.{limits_of}
 use Rattle.vq_laws.specs.Ranges.{Fits}
-use Rattle.vq_laws.specs.Signals.{Signaling, all_signals}
+use Rattle.vq_laws.specs.Signals.{Signaling, all_signals, kind_of, is_timeline_at}
+use Rattle.vq_laws.specs.WellFormed.{AreRising}
 use Rattle.vq_laws.specs.Lowering.{commands_in, batch_commands}
 
 -- the sizes of a script's buffers
@@ -24,6 +28,35 @@ pub record KeepsLimits (s : Script) : Type 0 where
   pub jobs : length s.jobs ≤ (limits_of s.version).jobs
   pub commands : sum (map commands_in s.jobs) ≤ (limits_of s.version).commands
 
+-- whether a semaphore of a script is a fence
+abbrev pub is_fence_at : Script → ℕ → Bool
+is_fence_at s t = option_map_or is_fence (kind_of s t) false
+
+-- A wait or a signal of a batch names a timeline or a binary semaphore, which has no value.
+pub record IsValidMark (s : Script) (m : Mark) : Type 0 where
+  pub exists : m.semaphore < length s.semaphores
+  pub kind : is_fence_at s m.semaphore ≡ false
+  pub valueless : is_timeline_at s m.semaphore ≡ false → m.value ≡ 0
+
+-- The fence of a batch is one.
+pub record IsValidFence (s : Script) (m : Mark) : Type 0 where
+  pub exists : m.semaphore < length s.semaphores
+  pub kind : is_fence_at s m.semaphore ≡ true
+  pub valueless : m.value ≡ 0
+
+-- A batch names what exists, of the kinds that its places need, and stays within the limits of a
+-- batch.
+pub record IsValidBatch (s : Script) (b : Batch) : Type 0 where
+  pub queue : b.queue < length s.queues
+  pub waits : All (IsValidMark s) b.waits
+  pub signals : All (IsValidMark s) b.signals
+  pub fence : (m : Mark) → b.fence ≡ Some m → IsValidFence s m
+  pub few_waits : length b.waits ≤ 16
+  pub few_signals : length b.signals ≤ 16
+
+abbrev pub HasValidBatches : Script → Type 0
+HasValidBatches s = (j : ℕ) (b : Batch) → slice_get s.jobs j ≡ Some (BatchJob b) → IsValidBatch s b
+
 -- Signals name semaphores that exist, commands fit their buffers, and the limits are kept.
 pub record IsValid (s : Script) : Type 0 where
   pub signals : (e : ℕ) (x : Signaling) → slice_get (all_signals s) e ≡ Some x →
@@ -31,6 +64,42 @@ pub record IsValid (s : Script) : Type 0 where
   pub commands : (j k : ℕ) (job : Job) (x : CommandLine) → slice_get s.jobs j ≡ Some job →
       slice_get (batch_commands job) k ≡ Some x → Fits (sizes_of s) x.command
   pub limits : KeepsLimits s
+
+-- The lines of a job: its first line, then its waits, its commands, its signals and its fence.
+abbrev pub job_lines : Job → List ℕ
+job_lines (Host h) = h.line ∷ []
+job_lines (BatchJob b) =
+    b.line
+    ∷ map (λ m. m.line) b.waits
+    ++ map (λ c. c.line) b.commands
+    ++ map (λ m. m.line) b.signals
+    ++ map (λ m. m.line) (option_to_list b.fence)
+
+-- the lines of a script rise in its order
+abbrev pub HasRisingLines : Script → Type 0
+HasRisingLines s = AreRising (flat_map job_lines s.jobs)
+
+-- whether a queue of a script is immediate
+abbrev pub is_immediate_queue : Script → ℕ → Bool
+is_immediate_queue s q = option_map_or (λ x. is_immediate x.mode) (slice_get s.queues q) false
+
+-- a batch that waits as a whole, and not at all where its queue is immediate
+pub record WaitsWhole (s : Script) (b : Batch) : Type 0 where
+  pub from_start : All (λ m. m.from ≡ 1) b.waits
+  pub unheld : is_immediate_queue s b.queue ≡ true → b.waits ≡ []
+
+abbrev pub AreWholeBatches : Script → List Job → Type 0
+AreWholeBatches s [] = Unit {0}
+AreWholeBatches s (Host h ∷ jobs) = ⊥
+AreWholeBatches s (BatchJob b ∷ jobs) = WaitsWhole s b × AreWholeBatches s jobs
+
+-- A script of batches alone: it is of version 1 and has no schedule and no host steps. So is each
+-- script of the forms that are built so far.
+pub record IsOfBatches (s : Script) : Type 0 where
+  pub version : s.version ≡ 1
+  pub batches : AreWholeBatches s s.jobs
+  pub unscheduled : s.scheduled ≡ false
+  pub turns : s.turns ≡ []
 
 -- a batch of the first queue that only has commands
 pub record IsPlainBatch (b : Batch) : Type 0 where

@@ -21,14 +21,14 @@ use Rattle.vq_laws.specs.Edges.{edges_to, must_finish}
 use Rattle.std.specs.Bool.{nat_lt}
 use Rattle.vq_laws.specs.Lowering.{batch_commands, commands_in, plan_of, plan_job}
 use Rattle.vq_laws.specs.LoweringFaults.{IsPlan}
-use Rattle.vq_laws.specs.SameScript.{IsScript}
+use Rattle.vq_laws.specs.SameScript.{IsRead}
 use Rattle.vq_laws.proofs.PlanLaws.{length-batch_commands, get_within, get_some, job_is}
 use Rattle.vq_spec.specs.declared.lowering.Tables.{Tables}
 use Rattle.vq_spec.specs.Kept.{KeepsPlan}
 use Rattle.vq_spec.specs.Jobs.{finished_before}
 use Rattle.vq_spec.specs.Places.{command_there}
 use Rattle.vq_laws.proofs.OneLane.{IsPlainAt, plain_at, plain_batch, one_lane_job, one_before, one_lane_any, one_lane_needs, one_lane_faultless, one_lane_plan, plan_jobs_push}
-use Rattle.vq_laws.proofs.WrittenScripts.{written_one_lane, written_valid}
+use Rattle.vq_laws.proofs.WrittenScripts.{read_one_lane, read_valid}
 
 -- Numbers
 
@@ -59,13 +59,13 @@ commands_push jobs j job e = let n : j + 1 ≡ suc j = omega arith in ap
         ∙ sym (append_assoc (batch_commands x) (flat_map batch_commands (take j jobs))
         (batch_commands job))
 
-module _ (s : Script) (i : IsScript s) where
+module _ (s : Script) (i : IsRead s) where
   pub few_jobs : length s.jobs ≤ 4096
-  few_jobs = (written_valid s i).limits.jobs
+  few_jobs = (read_valid s i).limits.jobs
 
   pub few_commands : length (flat_map batch_commands s.jobs) ≤ 8192
   few_commands =
-      let most : sum (map commands_in s.jobs) ≤ 8192 = (written_valid s i).limits.commands in
+      let most : sum (map commands_in s.jobs) ≤ 8192 = (read_valid s i).limits.commands in
       omega (arith, total s.jobs)
 
   -- the commands up to a job and its own
@@ -88,7 +88,7 @@ module _ (s : Script) (i : IsScript s) where
   edges_are : (j : ℕ) → edges_to (plan_of s) j ≡ must_finish (plan_of s) j
   edges_are j =
       let p = plan_of s in
-      let h = written_one_lane s i in
+      let h = read_one_lane s i in
       let edges : Bool → List Need → List ℕ = λ any ns. must_finish p j
       ++ filter_map (job_of p) (if any then [] else filter_map (λ n. resolver p n.chain n.value)
       (filter (λ n. nat_lt (initial p n.chain) n.value) ns)) in
@@ -135,10 +135,10 @@ read_job jobs seen j r job e l read is =
     slice_get_read jobs (length jobs) j r refl l (read ∙ ap (λ xs. get_or xs j r) e) ∙ ap Some is
 
 -- no job of a script of one lane is a host step
-pub no_host_step : (s : Script) → IsScript s → (j : ℕ) (x : HostLine) →
+pub no_host_step : (s : Script) → IsRead s → (j : ℕ) (x : HostLine) →
     slice_get s.jobs j ≡ Some (Host x) → ⊥
 no_host_step s i j x e = batch_there
-    (plain_at s.jobs j (written_one_lane s i).batches (get_within s.jobs j (Host x) e))
+    (plain_at s.jobs j (read_one_lane s i).batches (get_within s.jobs j (Host x) e))
   where
     batch_there : (b : Batch) × IsPlainAt s.jobs j b → ⊥
     batch_there r = let c : Some (Host x) ≡ Some (BatchJob r.0) = sym e ∙ r.1.is in cc
@@ -151,7 +151,7 @@ one_before_is zero (Some x) h = absurd (let l = h.0 in omega arith)
 one_before_is (suc j) (Some x) h = let e : suc j - 1 ≡ j = omega arith in ap Some (h.1 ∙ e)
 
 -- what a batch is lowered to, by its parts
-pub lowered_job : (s : Script) → IsScript s → (j : ℕ) (b : Batch) →
+pub lowered_job : (s : Script) → IsRead s → (j : ℕ) (b : Batch) →
     slice_get s.jobs j ≡ Some (BatchJob b) →
     (first : ℕ) (previous : Option ℕ) (needs asked : List Need) (idle commands signals : List ℕ) →
     first ≡ length (flat_map batch_commands (take j s.jobs)) → previous ≡ one_before j →
@@ -173,7 +173,7 @@ pub lowered_job : (s : Script) → IsScript s → (j : ℕ) (b : Batch) →
     })
 lowered_job s i j b at first previous needs asked idle commands signals e_first e_previous e_needs
     e_asked e_idle e_commands e_signals =
-    let h = written_one_lane s i in
+    let h = read_one_lane s i in
     let plain = plain_batch s.jobs j b h.batches at in
     let numbered : commands ≡ range_with_len (length (flat_map batch_commands (take j s.jobs)))
     (length b.commands) = e_commands ∙ ap (λ n. range_with_len n (length b.commands)) e_first in
@@ -237,7 +237,7 @@ module _ (s : Script) (j : ℕ) (job : PlanJob) (at : slice_get (plan_of s).jobs
           let sum = length-append (flat_map batch_commands (take j s.jobs)) (batch_commands x.0) in
           omega arith
 
-  pub first_fits : IsScript s → (first : ℕ) →
+  pub first_fits : IsRead s → (first : ℕ) →
       first ≡ length (flat_map batch_commands (take j s.jobs)) → first + length job.commands ≤ 8192
   first_fits i first e = by_job (get_some s.jobs j exists)
     where
@@ -248,12 +248,12 @@ module _ (s : Script) (j : ℕ) (job : PlanJob) (at : slice_get (plan_of s).jobs
           omega arith
 
 -- all that is kept
-pub kept : (s : Script) → IsScript s → (t : Tables) → t.jobs.items ≡ (plan_of s).jobs →
+pub kept : (s : Script) → IsRead s → (t : Tables) → t.jobs.items ≡ (plan_of s).jobs →
     t.edges.items ≡ map (edges_to (plan_of s)) (range_with_len 0 (length s.jobs)) →
     map (command_there s.jobs) t.places.items ≡ map Some (plan_of s).commands → t.ops.items ≡ [] →
     t.chains.items ≡ [] → KeepsPlan s t
 kept s i t jobs edges places ops chains =
-    let lane = one_lane_plan s (written_one_lane s i) in
+    let lane = one_lane_plan s (read_one_lane s i) in
     let jobs_count = few_jobs s i in
     let commands_count = few_commands s i in
     let all_jobs = ap length jobs in
@@ -277,14 +277,14 @@ kept s i t jobs edges places ops chains =
     }
 
 -- a job of the script, by its place
-pub few_in : (s : Script) → IsScript s → (j : ℕ) (job : Job) → slice_get s.jobs j ≡ Some job →
+pub few_in : (s : Script) → IsRead s → (j : ℕ) (job : Job) → slice_get s.jobs j ≡ Some job →
     length (batch_commands job) ≤ 8192
 few_in s i j job e = omega (arith, few_up_to s i j job e)
 
 -- what is kept is kept of a plan
-pub is_plan : (s : Script) → IsScript s → IsPlan (plan_of s)
+pub is_plan : (s : Script) → IsRead s → IsPlan (plan_of s)
 is_plan s i = record {
   of_script = i;
-  faultless = one_lane_faultless s (written_one_lane s i);
+  faultless = one_lane_faultless s (read_one_lane s i);
   lowered = refl;
 }

@@ -14,21 +14,21 @@ use Rattle.vq_laws.specs.Memory.{Memory, HasSizes, effect, after_all, zeros_of}
 use Rattle.vq_laws.specs.Ranges.{Fits}
 use Rattle.vq_laws.specs.SlowRun.{command_list, slow_order, left_over, bytes_after, zeros, final}
 use Rattle.vq_laws.specs.LoweringFaults.{IsPlan}
-use Rattle.vq_laws.specs.SameScript.{IsScript}
+use Rattle.vq_laws.specs.SameScript.{IsRead}
 use Rattle.vq_laws.specs.ValidScripts.{sizes_of}
 use Rattle.vq_laws.proofs.Lists.{has_here, has_there}
 use Rattle.vq_laws.proofs.OneLane.{one_lane_order, one_lane_left}
 use Rattle.vq_laws.specs.WellFormed.{IsWellFormed}
 use Rattle.vq_laws.proofs.PlanLaws.{well_formed}
-use Rattle.vq_laws.proofs.WrittenScripts.{written_one_lane, written_valid}
+use Rattle.vq_laws.proofs.WrittenScripts.{read_one_lane, read_valid}
 use Rattle.vq_transfer.proofs.Sizes.{has_own_sizes}
 use Rattle.vq_spec.proofs.HexLines.{flat_map-range_push}
 use Rattle.vq_spec.proofs.Lowered.{plan_length}
 
 -- Sizes
 
-pub few_buffers : (s : Script) → IsScript s → length s.buffers ≤ 64
-few_buffers s i = (written_valid s i).limits.buffers
+pub few_buffers : (s : Script) → IsRead s → length s.buffers ≤ 64
+few_buffers s i = (read_valid s i).limits.buffers
 
 pub sizes-zeros_of : (sizes : List ℕ) → map length (zeros_of sizes) ≡ sizes
 sizes-zeros_of [] = refl
@@ -45,7 +45,7 @@ has_sizes sizes m e = subst (λ (ns : List ℕ). HasSizes ns m) e (has_own_sizes
 
 is_well_formed : (p : Plan) → IsPlan p → IsWellFormed p
 is_well_formed p h = subst IsWellFormed (sym h.lowered)
-    (well_formed p.script (written_valid p.script h.of_script))
+    (well_formed p.script (read_valid p.script h.of_script))
 
 has-get_or : (xs : List ℕ) (k : ℕ) → k < length xs → has xs (get_or xs k 0) ≡ true
 has-get_or [] k l = absurd (omega arith)
@@ -133,13 +133,13 @@ pub slow_order_is : (p : Plan) → IsPlan p → slow_order p ≡ range_with_len 
 slow_order_is p h =
     let s = p.script in
     ap slow_order h.lowered
-    ∙ (one_lane_order s (written_one_lane s h.of_script)
+    ∙ (one_lane_order s (read_one_lane s h.of_script)
     ∙ (ap (range_with_len 0) (sym (plan_length s h.of_script))
     ∙ ap (λ q. range_with_len 0 (length q.jobs)) (sym h.lowered)))
 
 pub none_left : (p : Plan) → IsPlan p → left_over p ≡ []
 none_left p h = ap left_over h.lowered ∙ one_lane_left p.script
-    (written_one_lane p.script h.of_script)
+    (read_one_lane p.script h.of_script)
 
 -- what the slow run leaves, where its jobs are done in their order
 pub final_is : (p : Plan) → IsPlan p → (n : ℕ) → n ≡ length p.jobs → (m : Memory) →

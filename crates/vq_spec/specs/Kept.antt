@@ -4,14 +4,14 @@ use Rattle.std.specs.List.{range_with_len}
 use Rattle.vq_laws.specs.declared.script.Script.{Script}
 use Rattle.vq_laws.specs.Edges.{edges_to}
 use Rattle.vq_laws.specs.Lowering.{plan_of}
-use Rattle.vq_laws.specs.SameScript.{IsScript}
+use Rattle.vq_laws.specs.SameScript.{IsRead}
 use Rattle.vq_spec.specs.declared.lowering.Tables.{Tables}
 use Rattle.vq_spec.specs.Places.{command_there}
 
 -- These tables are those of the plan of a script that can be written, and their places have 32
 -- bits.
 pub record KeepsPlan (s : Script) (t : Tables) : Type 0 where
-  pub script : IsScript s
+  pub script : IsRead s
   pub jobs : t.jobs.items ≡ (plan_of s).jobs
   pub edges : t.edges.items ≡ map (edges_to (plan_of s)) (range_with_len 0 (length s.jobs))
   pub places : map (command_there s.jobs) t.places.items ≡ map Some (plan_of s).commands

@@ -2,7 +2,7 @@
 ghost use Rattle.std.specs.Prelude.{◌≡◌, ◌<◌, ◌+◌, ◌^◌, [], take, length, Some, IfOk};
 ghost use Rattle.std.specs.List.{flat_map, range_with_len, slice_get};
 ghost use Rattle.vq_laws.specs.Lowering.{batch_commands, plan_of};
-ghost use Rattle.vq_laws.specs.SameScript.{IsScript};
+ghost use Rattle.vq_laws.specs.SameScript.{IsRead};
 
 use crate::edges::lower_edges;
 use crate::places::{Place, lower_places};
@@ -44,7 +44,7 @@ pub(crate) fn numbers(alloc: Global, first: u32, count: u32) -> Result<List<u32>
 
 /// A job of the plan; the batches before it have `first` commands.
 fn lower_job(alloc: Global, script: &Script, j: u32, first: u32) -> Result<PlanJob, AllocError>
-    requires script { IsScript script.now }
+    requires script { IsRead script.now }
     requires exists { j < length script.now.jobs }
     requires before { first ≡ length (flat_map batch_commands (take j script.now.jobs)) }
     ensures { IfOk result (λ job. slice_get (plan_of script.now).jobs j ≡ Some job) }
@@ -70,7 +70,7 @@ fn lower_job(alloc: Global, script: &Script, j: u32, first: u32) -> Result<PlanJ
 
 /// The jobs of the plan.
 fn lower_jobs(alloc: Global, script: &Script) -> Result<Vec<PlanJob>, AllocError>
-    requires { IsScript script.now }
+    requires { IsRead script.now }
     ensures { IfOk result (λ jobs. jobs.items ≡ (plan_of script.now).jobs) }
 {
     let mut jobs = Vec::new(alloc);
@@ -88,7 +88,7 @@ impl Tables {
 
     /// What is kept of the plan of a script.
     pub(crate) fn of(alloc: Global, script: &Script) -> Result<Tables, AllocError>
-        requires { IsScript script.now }
+        requires { IsRead script.now }
         ensures { IfOk result (λ tables. KeepsPlan script.now tables) }
     {
         let jobs = lower_jobs(alloc, script)?;

@@ -1,7 +1,7 @@
 //! Where the commands of a plan stand in its script.
 ghost use Rattle.std.specs.Prelude.{◌≡◌, ◌++◌, map, length, Some, OnOk, IfOk};
 ghost use Rattle.vq_laws.specs.Lowering.{batch_commands, plan_of};
-ghost use Rattle.vq_laws.specs.SameScript.{IsScript};
+ghost use Rattle.vq_laws.specs.SameScript.{IsRead};
 ghost use Rattle.vq_spec.specs.Places.{command_there, places_of};
 
 use std::alloc::{AllocError, Global};
@@ -36,7 +36,7 @@ fn push_places(places: &mut Vec<Place>, job: u32, count: u32) -> Result<(), Allo
 
 /// Where each command stands.
 pub(crate) fn lower_places(alloc: Global, script: &Script) -> Result<Vec<Place>, AllocError>
-    requires { IsScript script.now }
+    requires { IsRead script.now }
     ensures { IfOk result (λ places. map (command_there script.now.jobs) places.items
         ≡ map Some (plan_of script.now).commands) }
 {

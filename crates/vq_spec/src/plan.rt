@@ -3,7 +3,7 @@ ghost use Rattle.std.specs.Prelude.{◌≡◌, ◌<◌, length, Some};
 ghost use Rattle.std.specs.List.{slice_get};
 ghost use Rattle.vq_laws.specs.Edges.{edges_to};
 ghost use Rattle.vq_laws.specs.LoweringFaults.{IsPlan, Lowers};
-ghost use Rattle.vq_laws.specs.SameScript.{IsScript};
+ghost use Rattle.vq_laws.specs.SameScript.{IsRead};
 
 use crate::lowering::Tables;
 use crate::places::Place;
@@ -39,7 +39,7 @@ impl Plan {
     /// Source: Vulkan 1.3, "Queue Submission". That the batches of a queue run one after another is
     /// this project's rule.
     pub fn lower(alloc: Global, script: Script) -> Result<Plan, PlanFault>
-        requires { IsScript script }
+        requires { IsRead script }
         ensures { Lowers script result }
     {
         match Tables::of(alloc, &script) {

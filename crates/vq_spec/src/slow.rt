@@ -4,7 +4,7 @@ ghost use Rattle.vq_laws.specs.LoweringFaults.{IsPlan};
 ghost use Rattle.vq_laws.specs.Memory.{HasSizes, after_all, zeros_of};
 ghost use Rattle.vq_laws.specs.Plan.{commands_of};
 ghost use Rattle.vq_laws.specs.SlowRun.{command_list, slow_order, left_over, final};
-ghost use Rattle.vq_laws.specs.SameScript.{IsScript};
+ghost use Rattle.vq_laws.specs.SameScript.{IsRead};
 ghost use Rattle.vq_laws.specs.ValidScripts.{sizes_of};
 
 use crate::lowering::numbers;
@@ -39,7 +39,7 @@ fn sizes_of(alloc: Global, script: &Script) -> Result<Vec<u32>, AllocError>
 
 /// Buffers of the sizes that a script declares, all bytes zero.
 fn zero_buffers(alloc: Global, script: &Script) -> Result<Buffers, AllocError>
-    requires { IsScript script.now }
+    requires { IsRead script.now }
     ensures { IfOk result (λ buffers. buffers ≡ zeros_of (sizes_of script.now)) }
 {
     let sizes = sizes_of(alloc, script)?;
