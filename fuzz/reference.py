@@ -1,6 +1,7 @@
 """A second reading of docs/LANGUAGE.md: what vq writes for an input, and with which status.
 
-It shares nothing with the program but the page. `answer(data)` gives (status, text).
+It shares nothing with the program but the page. `answer(data)` gives (status, text). It is plain and
+slow: needs are looked up by scans, and nothing is kept that can be counted again.
 """
 import re
 
@@ -13,24 +14,35 @@ DIGITS = re.compile(rb'([0-9a-fA-F]{2})*')
 # `unbuilt` are forms of the language that are not built.
 OUTSIDE = [
     ('buffer', [b'buffer', 'new', 'numeral']),
-    ('unbuilt', [b'timeline', 'new', 'numeral']),
-    ('unbuilt', [b'binary', 'new']),
-    ('unbuilt', [b'fence', 'new']),
+    ('timeline', [b'timeline', 'new', 'numeral']),
+    ('binary', [b'binary', 'new']),
+    ('fence', [b'fence', 'new']),
     ('queue', [b'queue', 'new', b'immediate']),
     ('unbuilt', [b'queue', 'new', b'deferred']),
-    ('unbuilt', [b'queue', 'new', b'threaded']),
+    ('queue', [b'queue', 'new', b'threaded']),
     ('submit', [b'submit', 'queue name']),
 ]
 INSIDE = [
+    ('wait', [b'wait', 'timeline name', 'numeral']),
+    ('wait', [b'wait', 'binary name']),
     ('fill_whole', [b'fill', 'buffer name', 'numeral', b'whole', 'small numeral']),
     ('fill', [b'fill', 'buffer name', 'numeral', 'numeral', 'small numeral']),
     ('update', [b'update', 'buffer name', 'numeral', 'digits']),
     ('copy', [b'copy', 'buffer name', 'numeral', 'buffer name', 'numeral', 'numeral']),
+    ('signal', [b'signal', 'timeline name', 'numeral']),
+    ('signal', [b'signal', 'binary name']),
+    ('batch_fence', [b'fence', 'fence name']),
     ('end', [b'end']),
 ]
+DECLARATIONS = ('buffer', 'timeline', 'binary', 'fence', 'queue')
+PARTS = {'wait': 1, 'fill_whole': 2, 'fill': 2, 'update': 2, 'copy': 2, 'signal': 3, 'batch_fence': 4, 'end': 5}
 
 
 class Fault(Exception):
+    pass
+
+
+class Refusal(Exception):
     pass
 
 
@@ -51,14 +63,24 @@ def lines_of(data):
     return [part[:-1] if part.endswith(b'\r') else part for part in parts]
 
 
+class Batch:
+    def __init__(self, line, queue):
+        self.line, self.queue = line, queue
+        self.waits, self.commands, self.signals, self.fence = [], [], [], None
+
+
 class Reader:
     def __init__(self):
         self.names = {}
         self.buffers = []
-        self.begun = self.inside = False
-        self.jobs = self.commands = self.in_batch = 0
+        self.semaphores = []
+        self.queues = []
+        self.jobs = []
+        self.batch = None
+        self.part = self.commands = self.number = 0
 
-    def read(self, line):
+    def read(self, line, number):
+        self.number = number
         line = line.split(b'#', 1)[0]
         words = [word for word in re.split(rb'[ \t]+', line) if word]
         if not words:
@@ -66,12 +88,17 @@ class Reader:
         if any(not 32 <= byte <= 126 and byte != 9 for byte in line):
             raise Fault('syntax')
         form, places = self.form(words)
-        if form is None or form == 'unbuilt' or (form == 'queue' and 'queue' in self.kinds()):
+        if form is None or form == 'unbuilt':
+            raise Fault('syntax')
+        if form == 'wait' and self.queues[self.batch.queue] == b'immediate':
             raise Fault('syntax')
         at = list(zip(places, words))
-        if any(place in ('new', 'queue name', 'buffer name') and not NAME.fullmatch(word) for place, word in at):
+        if any(isinstance(place, str) and (place == 'new' or place.endswith(' name')) and not NAME.fullmatch(word)
+               for place, word in at):
             raise Fault('syntax')
-        if form in ('buffer', 'queue') and self.begun:
+        if form in DECLARATIONS and (self.jobs or self.batch):
+            raise Fault('order')
+        if self.batch and (PARTS[form] < self.part or form == 'batch_fence' and self.batch.fence):
             raise Fault('order')
         for place, word in at:
             if place in ('numeral', 'small numeral'):
@@ -81,19 +108,16 @@ class Reader:
             if place == 'digits' and not DIGITS.fullmatch(word):
                 raise Fault('number')
         for place, word in at:
-            if place == 'queue name' and self.names.get(word, ('', 0))[0] != 'queue':
-                raise Fault('name')
-            if place == 'buffer name' and self.names.get(word, ('', 0))[0] != 'buffer':
+            if isinstance(place, str) and place.endswith(' name') and self.names.get(word, ('', 0))[0] != place[:-5]:
                 raise Fault('name')
         if any(place == 'new' and word in self.names for place, word in at):
             raise Fault('twice')
         getattr(self, form)(words)
-
-    def kinds(self):
-        return {kind for kind, _ in self.names.values()}
+        if self.batch:
+            self.part = PARTS.get(form, 0)
 
     def form(self, words):
-        for form, places in INSIDE if self.inside else OUTSIDE:
+        for form, places in INSIDE if self.batch else OUTSIDE:
             if len(places) == len(words) and all(
                     word == place for place, word in zip(places, words) if isinstance(place, bytes)):
                 return form, places
@@ -103,66 +127,172 @@ class Reader:
         size = numeral(words[2])
         if size == 0:
             raise Fault('range')
-        if len(self.buffers) == 64 or sum(len(held) for _, held in self.buffers) + size > 1_048_576:
+        if len(self.buffers) == 64 or sum(held for _, held in self.buffers) + size > 1_048_576:
             raise Fault('limit')
         self.names[words[1]] = ('buffer', len(self.buffers))
-        self.buffers.append((words[1], bytearray(size)))
+        self.buffers.append((words[1], size))
+
+    def semaphore(self, words, kind, initial):
+        if len(self.semaphores) == 256:
+            raise Fault('limit')
+        self.names[words[1]] = (kind, len(self.semaphores))
+        self.semaphores.append((kind, initial))
+
+    def timeline(self, words):
+        self.semaphore(words, 'timeline', numeral(words[2]))
+
+    def binary(self, words):
+        self.semaphore(words, 'binary', 0)
+
+    def fence(self, words):
+        self.semaphore(words, 'fence', 0)
 
     def queue(self, words):
-        self.names[words[1]] = ('queue', 0)
-
-    def submit(self, _):
-        if self.jobs == 4096:
+        if len(self.queues) == 8:
             raise Fault('limit')
-        self.jobs += 1
-        self.begun = self.inside = True
-        self.in_batch = 0
+        self.names[words[1]] = ('queue', len(self.queues))
+        self.queues.append(words[2])
 
-    def held(self, name):
-        return self.buffers[self.names[name][1]][1]
+    def submit(self, words):
+        if len(self.jobs) == 4096:
+            raise Fault('limit')
+        self.batch = Batch(self.number, self.names[words[1]][1])
 
-    def command(self):
-        if self.commands == 8192 or self.in_batch == 64:
+    def mark(self, words):
+        return self.number, self.names[words[1]][1], numeral(words[2]) if len(words) == 3 else None
+
+    def wait(self, words):
+        if len(self.batch.waits) == 16:
+            raise Fault('limit')
+        self.batch.waits.append(self.mark(words))
+
+    def signal(self, words):
+        if len(self.batch.signals) == 16:
+            raise Fault('limit')
+        self.batch.signals.append(self.mark(words))
+
+    def batch_fence(self, words):
+        self.batch.fence = self.number, self.names[words[1]][1], None
+
+    def place(self, name):
+        number = self.names[name][1]
+        return number, self.buffers[number][1]
+
+    def command(self, *command):
+        if self.commands == 8192 or len(self.batch.commands) == 64:
             raise Fault('limit')
         self.commands += 1
-        self.in_batch += 1
+        self.batch.commands.append((self.number, command))
 
     def fill(self, words):
-        held = self.held(words[1])
+        buffer, held = self.place(words[1])
         offset, size, word = numeral(words[2]), numeral(words[3]), numeral(words[4])
-        if offset >= len(held) or offset % 4 or size % 4 or size == 0 or offset + size > len(held):
+        if offset >= held or offset % 4 or size % 4 or size == 0 or offset + size > held:
             raise Fault('range')
-        self.command()
-        held[offset:offset + size] = word.to_bytes(4, 'little') * (size // 4)
+        self.command('write', buffer, offset, word.to_bytes(4, 'little') * (size // 4))
 
     def fill_whole(self, words):
-        held = self.held(words[1])
+        buffer, held = self.place(words[1])
         offset, word = numeral(words[2]), numeral(words[4])
-        if offset >= len(held) or offset % 4:
+        if offset >= held or offset % 4:
             raise Fault('range')
-        self.command()
-        count = (len(held) - offset) // 4
-        held[offset:offset + 4 * count] = word.to_bytes(4, 'little') * count
+        self.command('write', buffer, offset, word.to_bytes(4, 'little') * ((held - offset) // 4))
 
     def update(self, words):
-        held, offset, written = self.held(words[1]), numeral(words[2]), bytes.fromhex(words[3].decode())
-        if offset >= len(held) or offset % 4 or len(written) % 4 or len(written) > 65536 or offset + len(written) > len(held):
+        (buffer, held), offset, written = self.place(words[1]), numeral(words[2]), bytes.fromhex(words[3].decode())
+        if offset >= held or offset % 4 or not written or len(written) % 4 or len(written) > 65536 or offset + len(written) > held:
             raise Fault('range')
-        self.command()
-        held[offset:offset + len(written)] = written
+        self.command('write', buffer, offset, written)
 
     def copy(self, words):
-        source, target = self.held(words[1]), self.held(words[3])
+        (source, held), (target, room) = self.place(words[1]), self.place(words[3])
         start, place, size = (numeral(words[number]) for number in (2, 4, 5))
-        if start >= len(source) or place >= len(target) or size == 0 or start + size > len(source) or place + size > len(target):
+        if start >= held or place >= room or size == 0 or start + size > held or place + size > room:
             raise Fault('range')
-        if source is target and set(range(start, start + size)) & set(range(place, place + size)):
+        if source == target and max(start, place) < min(start, place) + size:
             raise Fault('overlap')
-        self.command()
-        target[place:place + size] = source[start:start + size]
+        self.command('copy', source, start, target, place, size)
 
     def end(self, _):
-        self.inside = False
+        self.jobs.append(self.batch)
+        self.batch = None
+
+
+class Plan:
+    """Jobs with what they wait for and signal, each chain as (value, line, job, number of the signal)."""
+
+    def __init__(self, reader):
+        self.reader = reader
+        self.jobs = reader.jobs
+        kinds = [kind for kind, _ in reader.semaphores]
+        self.initial = [value for _, value in reader.semaphores]
+        self.chains = [[] for _ in kinds]
+        signaled = [0] * len(kinds)
+        waited = [0] * len(kinds)
+        self.needs, self.signals = [], []
+        number = 0
+        for j, batch in enumerate(self.jobs):
+            needs = []
+            for line, semaphore, value in batch.waits:
+                if kinds[semaphore] == 'binary':
+                    if signaled[semaphore] <= waited[semaphore]:
+                        raise Refusal(f'no signal: line {line}')
+                    waited[semaphore] += 1
+                    value = signaled[semaphore]
+                needs.append((line, semaphore, value))
+            self.needs.append(needs)
+            ops = []
+            for line, semaphore, value in batch.signals + ([batch.fence] if batch.fence else []):
+                if kinds[semaphore] == 'binary':
+                    if signaled[semaphore] > waited[semaphore]:
+                        raise Refusal(f'signaled twice: line {line}')
+                if kinds[semaphore] == 'fence' and signaled[semaphore]:
+                    raise Refusal(f'fence used: line {line}')
+                if kinds[semaphore] != 'timeline':
+                    signaled[semaphore] += 1
+                    value = signaled[semaphore]
+                self.chains[semaphore].append((value, line, j, number))
+                ops.append((semaphore, value))
+                number += 1
+            self.signals.append(ops)
+        for chain in self.chains:
+            chain.sort(key=lambda op: (op[0], op[3]))
+        self.slow_run()
+
+    def slow_run(self):
+        payload = list(self.initial)
+        self.order, done = [], set()
+        last = {}
+        self.previous = []
+        for j, batch in enumerate(self.jobs):
+            self.previous.append(last.get(batch.queue))
+            last[batch.queue] = j
+        while True:
+            ready = [j for j in range(len(self.jobs)) if j not in done
+                     and (self.previous[j] is None or self.previous[j] in done)
+                     and all(payload[t] >= value for _, t, value in self.needs[j])]
+            if not ready:
+                break
+            self.order.append(ready[0])
+            done.add(ready[0])
+            for t, value in self.signals[ready[0]]:
+                payload[t] = max(payload[t], value)
+        unreached = [line for j in range(len(self.jobs)) if j not in done
+                     for line, t, value in self.needs[j] if payload[t] < value]
+        if unreached:
+            raise Refusal(f'unreachable: line {min(unreached)}')
+
+    def final(self):
+        held = [bytearray(size) for _, size in self.reader.buffers]
+        for j in self.order:
+            for _, command in self.jobs[j].commands:
+                if command[0] == 'write':
+                    _, buffer, offset, written = command
+                    held[buffer][offset:offset + len(written)] = written
+                else:
+                    _, source, start, target, place, size = command
+                    held[target][place:place + size] = held[source][start:start + size]
+        return held
 
 
 def answer(data):
@@ -173,14 +303,17 @@ def answer(data):
     number = 0
     try:
         for number, line in enumerate(lines, 1):
-            reader.read(line)
+            reader.read(line, number)
         number = len(lines) + 1
-        if reader.inside:
+        if reader.batch:
             raise Fault('syntax')
+        plan = Plan(reader)
     except Fault as fault:
         return 2, f'error: {fault}: line {number}\n'.encode()
+    except Refusal as refusal:
+        return 2, f'error: {refusal}\n'.encode()
     text = []
-    for name, held in reader.buffers:
-        text.append(b'buffer ' + name + b' %d\n' % len(held))
-        text.extend(held[row:row + 16].hex().encode() + b'\n' for row in range(0, len(held), 16))
+    for (name, size), held in zip(reader.buffers, plan.final()):
+        text.append(b'buffer ' + name + b' %d\n' % size)
+        text.extend(held[row:row + 16].hex().encode() + b'\n' for row in range(0, size, 16))
     return 0, b''.join(text) + b'end\n'

@@ -1,6 +1,6 @@
 -- The canonical text of a script that can be written stands for it, up to line numbers.
-use Rattle.std.proofs.Common.{◌≡◌, ℕ, ◌+◌, Bool, true, false, cond, List, [], ◌∷◌, ◌++◌, append_assoc, append-nil, map, Option, Some, None, Ok, Err, refl, sym, ap, ◌∙◌, subst}
-use Rattle.std.specs.Prelude.{Result, codes}
+use Rattle.std.proofs.Common.{◌≡◌, ℕ, ◌+◌, Bool, true, false, cond, List, [], ◌∷◌, ◌++◌, append-nil, map, Option, None, Ok, Err, refl, sym, ap, ◌∙◌, subst}
+use Rattle.std.specs.Prelude.{Result}
 use Rattle.std.specs.List.{flat_map, list_all, join_with_byte}
 use Rattle.std.proofs.lemmas.Bool.{and_from}
 use Rattle.vq_laws.specs.declared.statement.Form.{Form}
@@ -10,38 +10,38 @@ use Rattle.vq_laws.specs.declared.statement.FaultKind.TheVariants.{Syntax}
 use Rattle.vq_laws.specs.declared.statement.Section.{Section}
 use Rattle.vq_laws.specs.declared.statement.Section.TheVariants.{InBatch}
 use Rattle.vq_laws.specs.declared.statement.Statement.{Statement}
-use Rattle.vq_laws.specs.declared.statement.Statement.TheVariants.{DeclareBuffer, BeginBatch, AddCommand, EndBatch}
+use Rattle.vq_laws.specs.declared.statement.Statement.TheVariants.{DeclareBuffer, DeclareSemaphore, DeclareQueue}
 use Rattle.vq_laws.specs.declared.statement.Line.{Line}
 use Rattle.vq_laws.specs.declared.script.Script.{Script}
 use Rattle.vq_laws.specs.declared.script.Buffer.{Buffer}
-use Rattle.vq_laws.specs.declared.script.Command.{Command}
+use Rattle.vq_laws.specs.declared.script.Semaphore.{Semaphore}
+use Rattle.vq_laws.specs.declared.script.Queue.{Queue}
 use Rattle.vq_laws.specs.Text.{lines_of}
 use Rattle.vq_laws.specs.LineFaults.{ends_early}
 use Rattle.vq_laws.specs.ScriptOfLines.{script_of}
 use Rattle.vq_laws.specs.Reading.{with_line, read_statement, read_lines, go_on, read_script, StandsFor}
 use Rattle.vq_laws.specs.SameScript.{SameButLines, IsScript, without_lines}
-use Rattle.vq_laws.specs.Canonical.{canonical_text, canonical_lines, line_text, form_of_script, buffer_words, queue_words, job_words, command_words, queue_name}
+use Rattle.vq_laws.specs.Canonical.{canonical_text, canonical_lines, line_text, form_of_script, buffer_words, semaphore_words, queue_words, job_words}
 use Rattle.vq_laws.proofs.CanonicalLaws.{lines_same}
 use Rattle.vq_laws.proofs.WrittenTexts.{are_text_words, words_back, lines_back}
 use Rattle.vq_laws.proofs.PartsSaid.{say_nothing, say_more}
-use Rattle.vq_laws.proofs.OrderedParts.{run, AllMay, Leads, leads_on, buffer_statements, queue_statements, job_statements, batch_statements, IsOrdered, HasParts, text_has_parts, said_script}
+use Rattle.vq_laws.proofs.OrderedParts.{Leads, leads_on, buffer_statements, semaphore_statements, queue_statements, job_statements, open_statements, declarations, IsOrdered, HasParts, text_has_parts, said_script}
+use Rattle.vq_laws.proofs.BatchItems.{HasItems}
 use Rattle.vq_laws.proofs.NamedParts.{AreNamed, nothing_named, named_more}
-use Rattle.vq_laws.proofs.WrittenLines.{words_at, line_reads}
-use Rattle.vq_laws.proofs.ScriptParts.{Parts, parts, a_command, a_job, queue_list, after, Say, script_of_parts, no_parts, part_of_batch}
+use Rattle.vq_laws.proofs.LineWords.{words_at}
+use Rattle.vq_laws.proofs.WrittenLines.{line_reads}
+use Rattle.vq_laws.proofs.CanonicalBatches.{words_along, words_append, jobs_along}
+use Rattle.vq_laws.proofs.ScriptParts.{Told, Parts, a_job, after, Say, script_of_parts, no_parts, part_of_batch}
 
 -- Reading statements
 
--- the canonical words of statements, one after another
-abbrev words_along : Parts → List Statement → List (List (List ℕ))
-words_along p [] = []
-words_along p (s ∷ statements) = words_at p s ∷ words_along (after p s) statements
-
 -- lines that are read
-record AreRead (before : List Line) (n : ℕ) (p : Parts) (statements : List Statement) : Type 0 where
+record AreRead (before : List Line) (n : ℕ) (p : Parts) (statements : List Statement) (q : Parts)
+    : Type 0 where
   are_words : list_all are_text_words (words_along p statements) ≡ true
   all : List Line
   reads : read_lines Plain before n (map (join_with_byte 32) (words_along p statements)) ≡ Ok all
-  say : Say all (run p statements)
+  say : Say all q
 
 -- lines that say no open batch may end
 may_end : (before : List Line) (p : Parts) → Say before p → p.batch ≡ None →
@@ -53,26 +53,25 @@ may_end before p h none = ap ends (h.part ∙ ap part_of_batch none)
     ends other = false
 
 -- Statements that may follow each other are read from their canonical words.
-statements_read : (before : List Line) (n : ℕ) (p : Parts) (statements : List Statement) →
-    Say before p →
-    AreNamed p → AllMay p statements → (run p statements).batch ≡ None →
-    AreRead before n p statements
-statements_read before n p [] h named all closed =
+statements_read : (before : List Line) (n : ℕ) (p : Parts) (statements : List Statement)
+    (q : Parts) → Say before p → AreNamed p → Leads p statements q → q.batch ≡ None →
+    AreRead before n p statements q
+statements_read before n p [] q h named l closed =
     record {
       are_words = refl;
       all = before;
       reads =
           ap (λ (b : Bool). cond {A = Result (List Line) (ℕ × FaultKind)} b (Err (n, Syntax))
           (Ok before))
-          (may_end before p h closed);
-      say = h;
+          (may_end before q (subst (Say before) l h) closed);
+      say = subst (Say before) l h;
     }
-statements_read before n p (s ∷ statements) h named all closed =
-    let line = line_reads before p h named s all.0 in
+statements_read before n p (s ∷ statements) q h named l closed =
+    let line = line_reads before p h named s l.0 in
     let now : List Line = with_line before n s in
     let rest =
-    statements_read now (n + 1) (after p s) statements (say_more before n p s h all.0)
-    (named_more p s named all.0) all.1 closed in
+    statements_read now (n + 1) (after p s) statements q (say_more before n p h s l.0)
+    (named_more p s named l.0) l.1 closed in
     record {
       are_words =
           and_from (are_text_words (words_at p s))
@@ -91,13 +90,6 @@ statements_read before n p (s ∷ statements) h named all closed =
 
 -- The canonical lines
 
--- statements after others
-words_append : (p : Parts) (first second : List Statement) → words_along p (first ++ second)
-    ≡ words_along p first ++ words_along (run p first) second
-words_append p [] second = refl
-words_append p (s ∷ first) second =
-    ap (λ (ws : List (List (List ℕ))). words_at p s ∷ ws) (words_append (after p s) first second)
-
 -- buffers
 buffers_along : (p : Parts) (bs : List Buffer) → words_along p (buffer_statements bs)
     ≡ map buffer_words bs
@@ -106,114 +98,92 @@ buffers_along p (b ∷ bs) =
     ap (λ (ws : List (List (List ℕ))). buffer_words b ∷ ws)
     (buffers_along (after p (DeclareBuffer b.name b.size)) bs)
 
--- the queue
-queue_along : (p : Parts) (q : Option (List ℕ)) → words_along p (queue_statements q)
-    ≡ map queue_words (queue_list q)
-queue_along p None = refl
-queue_along p (Some name) = refl
+-- semaphores
+semaphores_along : (p : Parts) (ss : List Semaphore) → words_along p (semaphore_statements ss)
+    ≡ map semaphore_words ss
+semaphores_along p [] = refl
+semaphores_along p (s ∷ ss) =
+    ap (λ (ws : List (List (List ℕ))). semaphore_words s ∷ ws)
+    (semaphores_along (after p (DeclareSemaphore s.name s.kind)) ss)
 
-module _ (bs : List Buffer) (q : Option (List ℕ)) (said : List (List Command))
-    (batch : Option (List Command)) where
-  -- the script whose lines are written
-  abbrev whole : Script
-  whole = script_of_parts (parts bs q said batch)
-
-  -- the lines of commands
-  abbrev command_lines : List Command → List (List (List ℕ))
-  command_lines commands = map (λ c. command_words whole c.command) (map a_command commands)
-
-  -- the rest of a batch
-  commands_along : (jobs : List (List Command)) (before commands : List Command) →
-      words_along (parts bs q jobs (Some before))
-      (map (λ c. AddCommand c) commands ++ EndBatch ∷ [])
-      ≡ command_lines commands ++ (codes "end" ∷ []) ∷ []
-  commands_along jobs before [] = refl
-  commands_along jobs before (c ∷ commands) =
-      ap (λ (ws : List (List (List ℕ))). command_words whole c ∷ ws)
-      (commands_along jobs (before ++ c ∷ []) commands)
-
-  -- it leads out of the batch
-  commands_run : (jobs : List (List Command)) (before commands : List Command) →
-      (more : List (List Command)) × (run (parts bs q jobs (Some before))
-      (map (λ c. AddCommand c) commands ++ EndBatch ∷ []) ≡ parts bs q more None)
-  commands_run jobs before [] = (jobs ++ before ∷ [], refl)
-  commands_run jobs before (c ∷ commands) = commands_run jobs (before ++ c ∷ []) commands
-
-  -- the lines of a batch that only has commands
-  plain_job_words : (commands : List Command) →
-      (codes "submit" ∷ queue_name whole 0 ∷ [])
-      ∷ (command_lines commands ++ (codes "end" ∷ []) ∷ [])
-      ≡ job_words whole (a_job commands)
-  plain_job_words commands =
-      ap (λ (ws : List (List (List ℕ))).
-      (codes "submit" ∷ queue_name whole 0 ∷ []) ∷ (ws ++ (codes "end" ∷ []) ∷ []))
-      (sym (append-nil (command_lines commands ++ []) ∙ append-nil (command_lines commands)))
-
-  -- batches
-  jobs_along : (before jobs : List (List Command)) →
-      words_along (parts bs q before None) (flat_map job_statements jobs)
-      ≡ flat_map (job_words whole) (map a_job jobs)
-  jobs_along before [] = refl
-  jobs_along before (commands ∷ jobs) =
-      let out = commands_run before [] commands in
-      words_append (parts bs q before None) (job_statements commands) (flat_map job_statements jobs)
-      ∙ (λ i.
-      (ap (λ (ws : List (List (List ℕ))). words_at (parts bs q before None) (BeginBatch 0) ∷ ws)
-      (commands_along before [] commands) ∙ plain_job_words commands) i
-      ++ (ap (λ (x : Parts). words_along x (flat_map job_statements jobs)) out.1
-      ∙ jobs_along out.0 jobs) i)
+-- queues
+queues_along : (p : Parts) (qs : List Queue) → words_along p (queue_statements qs)
+    ≡ map queue_words qs
+queues_along p [] = refl
+queues_along p (q ∷ qs) =
+    ap (λ (ws : List (List (List ℕ))). queue_words q ∷ ws)
+    (queues_along (after p (DeclareQueue q.name q.mode)) qs)
 
 -- the statements of parts, in the canonical order
 abbrev statements_of : Parts → List Statement
 statements_of p =
-    (buffer_statements p.buffers ++ queue_statements p.queue) ++ batch_statements p.jobs p.batch
+    buffer_statements p.buffers ++ semaphore_statements p.semaphores
+    ++ queue_statements p.queues ++ flat_map job_statements p.jobs
 
-module _ (p : Parts) (o : IsOrdered p) where
-  -- the declarations lead to parts without batches ..
-  declarations_lead : Leads no_parts (buffer_statements p.buffers ++ queue_statements p.queue)
-      (parts p.buffers p.queue [] None)
-  declarations_lead =
-      leads_on no_parts (parts p.buffers None [] None) (parts p.buffers p.queue [] None)
-      (buffer_statements p.buffers)
-      (queue_statements p.queue) o.buffers_first o.queue_next
+module _ (p : Parts) (o : IsOrdered p) (items : HasItems p) (none : p.batch ≡ None) where
+  -- the declarations
+  abbrev declared : Parts
+  declared = declarations p.buffers p.semaphores p.queues
 
-  -- .. and the batches
+  -- the batches follow the declarations, ..
+  jobs_lead : Leads declared (flat_map job_statements p.jobs) p
+  jobs_lead =
+      subst (λ (xs : List Statement). Leads declared xs p)
+      (append-nil (flat_map job_statements p.jobs))
+      (subst (λ (b : Option Told). Leads declared
+      (flat_map job_statements p.jobs ++ open_statements b) p) none o.batches_last)
+
+  -- .. which are those of buffers, then semaphores, ..
+  semaphores_lead : Leads no_parts
+      (buffer_statements p.buffers ++ semaphore_statements p.semaphores)
+      (declarations p.buffers p.semaphores [])
+  semaphores_lead =
+      leads_on no_parts (declarations p.buffers [] []) (declarations p.buffers p.semaphores [])
+      (buffer_statements p.buffers) (semaphore_statements p.semaphores) o.buffers_first
+      o.semaphores_next
+
+  -- .. then queues
+  queues_lead : Leads no_parts
+      (buffer_statements p.buffers ++ semaphore_statements p.semaphores
+      ++ queue_statements p.queues) declared
+  queues_lead =
+      leads_on no_parts (declarations p.buffers p.semaphores []) declared
+      (buffer_statements p.buffers ++ semaphore_statements p.semaphores)
+      (queue_statements p.queues) semaphores_lead o.queues_next
+
+  -- all statements lead to the parts
   ordered_leads : Leads no_parts (statements_of p) p
   ordered_leads =
-      leads_on no_parts (parts p.buffers p.queue [] None) p
-      (buffer_statements p.buffers ++ queue_statements p.queue) (batch_statements p.jobs p.batch)
-      declarations_lead o.batches_last
-
-  -- the words of declarations
-  declarations_along : words_along no_parts
-      (buffer_statements p.buffers ++ queue_statements p.queue)
-      ≡ (map buffer_words p.buffers ++ []) ++ map queue_words (queue_list p.queue)
-  declarations_along =
-      words_append no_parts (buffer_statements p.buffers) (queue_statements p.queue)
-      ∙ (λ i. (buffers_along no_parts p.buffers ∙ sym (append-nil (map buffer_words p.buffers))) i
-      ++ queue_along (run no_parts (buffer_statements p.buffers)) p.queue i)
-
-  -- the words of batches
-  batches_along : p.batch ≡ None →
-      words_along (run no_parts (buffer_statements p.buffers ++ queue_statements p.queue))
-      (batch_statements p.jobs p.batch)
-      ≡ flat_map (job_words (script_of_parts p)) (map a_job p.jobs) ++ []
-  batches_along none =
-      (λ i. words_along (declarations_lead.ends i) (batch_statements p.jobs (none i)))
-      ∙ (words_append (parts p.buffers p.queue [] None) (flat_map job_statements p.jobs) []
-      ∙ ap (λ (ws : List (List (List ℕ))). ws ++ [])
-      (jobs_along p.buffers p.queue p.jobs p.batch [] p.jobs))
+      leads_on no_parts declared p
+      (buffer_statements p.buffers ++ semaphore_statements p.semaphores
+      ++ queue_statements p.queues)
+      (flat_map job_statements p.jobs) queues_lead jobs_lead
 
   -- The words of these statements are the canonical lines.
-  words_canonical : p.batch ≡ None → words_along no_parts (statements_of p)
-      ≡ canonical_lines (script_of_parts p)
-  words_canonical none =
-      words_append no_parts (buffer_statements p.buffers ++ queue_statements p.queue)
-      (batch_statements p.jobs p.batch)
-      ∙ ((λ i. declarations_along i ++ batches_along none i)
-      ∙ sym (append_assoc ((map buffer_words p.buffers ++ []) ++ map queue_words
-      (queue_list p.queue))
-      (flat_map (job_words (script_of_parts p)) (map a_job p.jobs)) []))
+  words_canonical : words_along no_parts (statements_of p) ≡ canonical_lines (script_of_parts p)
+  words_canonical =
+      words_append no_parts declared
+      (buffer_statements p.buffers ++ semaphore_statements p.semaphores
+      ++ queue_statements p.queues)
+      (flat_map job_statements p.jobs) queues_lead
+      ∙ ((λ i.
+      words_append no_parts (declarations p.buffers p.semaphores [])
+      (buffer_statements p.buffers ++ semaphore_statements p.semaphores)
+      (queue_statements p.queues) semaphores_lead i
+      ++ jobs_along p.buffers p.semaphores p.queues [] p.jobs p items.closed jobs_lead i)
+      ∙ ((λ i.
+      words_append no_parts (declarations p.buffers [] []) (buffer_statements p.buffers)
+      (semaphore_statements p.semaphores) o.buffers_first i
+      ++ queues_along (declarations p.buffers p.semaphores []) p.queues i
+      ++ flat_map (job_words (script_of_parts p)) (map a_job p.jobs))
+      ∙ ((λ i.
+      buffers_along no_parts p.buffers i
+      ++ semaphores_along (declarations p.buffers [] []) p.semaphores i
+      ++ map queue_words p.queues
+      ++ flat_map (job_words (script_of_parts p)) (map a_job p.jobs))
+      ∙ sym (append-nil
+      (map buffer_words p.buffers ++ map semaphore_words p.semaphores ++ map queue_words p.queues
+      ++ flat_map (job_words (script_of_parts p)) (map a_job p.jobs))))))
 
 -- A script is read back from its canonical text, up to line numbers.
 abbrev ReadsBack : Script → Type 0
@@ -226,22 +196,21 @@ of_lines (Ok lines) = Ok (script_of lines)
 of_lines (Err fault) = Err fault
 
 -- the canonical text of parts
-parts_read_back : (p : Parts) → IsOrdered p → p.batch ≡ None →
+parts_read_back : (p : Parts) → IsOrdered p → HasItems p → p.batch ≡ None →
     (read : Script) × StandsFor (canonical_text (script_of_parts p)) Plain read
     × (without_lines read ≡ script_of_parts p)
-parts_read_back p o none =
-    let leads = ordered_leads p o in
+parts_read_back p o items none =
     let r =
-    statements_read [] 1 no_parts (statements_of p) say_nothing nothing_named leads.all
-    (ap (λ (x : Parts). x.batch) leads.ends ∙ none) in
+    statements_read [] 1 no_parts (statements_of p) p say_nothing nothing_named
+    (ordered_leads p o items none) none in
     let lines : lines_of (canonical_text (script_of_parts p))
     ≡ map (join_with_byte 32) (words_along no_parts (statements_of p)) =
     ap (λ (ws : List (List (List ℕ))). lines_of (flat_map line_text ws))
-    (sym (words_canonical p o none))
+    (sym (words_canonical p o items none))
     ∙ lines_back (words_along no_parts (statements_of p)) r.are_words in (
       script_of r.all,
       ap of_lines (ap (read_lines Plain [] 1) lines ∙ r.reads),
-      said_script r.all p (subst (Say r.all) leads.ends r.say) none,
+      said_script r.all p r.say none,
     )
 
 -- the parts of a script that can be written
@@ -251,6 +220,7 @@ written_parts s i =
     record {
       said = has.said;
       ordered = has.ordered;
+      items = has.items;
       closed = has.closed;
       same = sym i.same ∙ has.same;
     }
@@ -263,7 +233,7 @@ written_form s i = ap (λ (x : Script). form_of_script x) (sym (written_parts s 
 pub canonical_reads_back : (s : Script) → IsScript s → ReadsBack s
 canonical_reads_back s i =
     let has = written_parts s i in
-    let back = parts_read_back has.said has.ordered has.closed in
+    let back = parts_read_back has.said has.ordered has.items has.closed in
     let text : canonical_text (script_of_parts has.said) ≡ canonical_text s =
     ap canonical_text (sym has.same) ∙ ap (flat_map line_text) (lines_same s) in (
       back.0,

@@ -29,3 +29,15 @@ every_command :
     ++ codes "fill X 0 4 0x00000abc\nupdate X 4 0aff00b1\ncopy X 0 X 8 8\nend\n"
 unfolding digits
 every_command = refl
+
+-- declarations in their order, and the marks of a batch
+marks :
+    reprinted Plain
+    (codes "queue Q threaded\ntimeline A 0x10 # note\nqueue P immediate\nbuffer X 4\nfence F\n"
+    ++ codes "binary S\nsubmit Q\nwait A 16\nwait S\nfill X 0 whole 1\nsignal S\nsignal A 0x11\n"
+    ++ codes "fence F\nend\nsubmit P\nend\n")
+    ≡ codes "buffer X 4\ntimeline A 16\nfence F\nbinary S\nqueue Q threaded\nqueue P immediate\n"
+    ++ codes "submit Q\nwait A 16\nwait S\nfill X 0 whole 0x00000001\nsignal S\nsignal A 17\n"
+    ++ codes "fence F\nend\nsubmit P\nend\n"
+unfolding digits
+marks = refl

@@ -1,5 +1,5 @@
 -- The list of a job's edges holds what the four reasons say.
-use Rattle.std.proofs.Common.{◌≡◌, ℕ, zero, suc, Bool, true, false, ltb, leb, List, [], ◌∷◌, ◌++◌, filter, Option, Some, None, refl, sym, ap, ◌∙◌, inl, inr}
+use Rattle.std.proofs.Common.{◌≡◌, ◌<◌, ℕ, zero, suc, Bool, true, false, ltb, leb, List, [], ◌∷◌, ◌++◌, filter, Option, Some, None, refl, sym, ap, ◌∙◌, inl, inr}
 use Rattle.std.specs.List.{slice_get, filter_map, cons_option}
 use Rattle.std.specs.Option.{option_to_list}
 use Rattle.std.proofs.lemmas.Bool.{false≢true, cond-true, cond-false, ltb-true, lt-ltb}
@@ -115,6 +115,14 @@ module _ (p : Plan) (i j : ℕ) where
   finish_edge : (k : Place) → has (must_finish p j) i ≡ true → has (edges_at p j k) i ≡ true
   finish_edge k m = has-append_left (must_finish p j) (filter_map (job_of p) (awaited_at p j k)) i m
 
+  -- what resolves a need is awaited
+  pub need_awaits : (k : Place) (n : Need) (place e : ℕ) → waits_for_any p j ≡ false → slice_get (needs p j) place ≡ Some n → holds_back n k ≡ true → initial p n.chain < n.value → resolver p n.chain n.value ≡ Some e → has (awaited_at p j k) e ≡ true
+  need_awaits k n place e any is back above resolves =
+      let a = at_need k place n is back in
+      let b = filter_place (is_above p) (needs_at p j k) a.0 n a.1 (lt-ltb (initial p n.chain) n.value above) in
+      let m = has_mapped_need (resolve p) (filter (is_above p) (needs_at p j k)) b.0 n e b.1 resolves in
+      ap (λ zs. has zs e) (cond-false (waits_for_any p j) [] (filter_map (resolve p) (filter (is_above p) (needs_at p j k))) any) ∙ m
+
   pub of_edge : (k : Place) → EdgeAt p i j k → has (edges_at p j k) i ≡ true
   of_edge k (by_lane e) =
       finish_edge k (has-append_left (option_to_list (previous p j) ++ option_to_list (host_before p j)) (idle_after p j) i (has-append_left (option_to_list (previous p j)) (option_to_list (host_before p j)) i (option_has (previous p j) i e)))
@@ -122,8 +130,5 @@ module _ (p : Plan) (i j : ℕ) where
       finish_edge k (has-append_left (option_to_list (previous p j) ++ option_to_list (host_before p j)) (idle_after p j) i (has-append_right (option_to_list (previous p j)) (option_to_list (host_before p j)) i (option_has (host_before p j) i e)))
   of_edge k (by_idle m) = finish_edge k (has-append_right (option_to_list (previous p j) ++ option_to_list (host_before p j)) (idle_after p j) i m)
   of_edge k (by_need n place e any is back above resolves of_job) =
-      let a = at_need k place n is back in
-      let b = filter_place (is_above p) (needs_at p j k) a.0 n a.1 (lt-ltb (initial p n.chain) n.value above) in
-      let m = has_mapped_need (resolve p) (filter (is_above p) (needs_at p j k)) b.0 n e b.1 resolves in
-      let f : has (awaited_at p j k) e ≡ true = ap (λ zs. has zs e) (cond-false (waits_for_any p j) [] (filter_map (resolve p) (filter (is_above p) (needs_at p j k))) any) ∙ m in
+      let f = need_awaits k n place e any is back above resolves in
       has-append_right (must_finish p j) (filter_map (job_of p) (awaited_at p j k)) i (has_mapped (job_of p) (awaited_at p j k) e i f of_job)

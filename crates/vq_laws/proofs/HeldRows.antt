@@ -35,7 +35,6 @@ use Rattle.vq_laws.specs.declared.plan.Event.TheVariants.{Submit, Take, Release,
 use Rattle.vq_laws.proofs.RunLaws.{same_some}
 use Rattle.vq_laws.specs.declared.plan.OrderFault.TheVariants.{Race}
 use Rattle.vq_laws.proofs.Lists.{has_cases}
-use Rattle.vq_laws.proofs.RowLaws.{lawful_has_sure_order}
 
 abbrev queue : ℕ → ℕ → Queue
 queue line letter = record { line = line; name = letter ∷ []; mode = Threaded }
@@ -427,7 +426,6 @@ copy_held_lawful =
       resettable = λ line b. held_no_reset 2 b.job b.fence b.effective.resets;
       pending = λ line b. held_not_immediate 2 b.job b.immediate;
       race_free = copy_held_race_free;
-      counted = λ t h. copy_held_chains t;
     }
 
 copy_held_valid : IsValid (held_from 2)
@@ -462,4 +460,5 @@ copy_held_well_formed : IsWellFormed copy_held
 copy_held_well_formed = well_formed (held_from 2) copy_held_valid
 
 copy_held_result : HasOneResult copy_held
-copy_held_result = one_result copy_held copy_held_well_formed (lawful_has_sure_order copy_held copy_held_well_formed copy_held_lawful)
+copy_held_result =
+    one_result copy_held copy_held_well_formed (record { reachable = refl; chains = copy_held_chains; no_race = copy_held_no_race })

@@ -1,17 +1,19 @@
--- Names of parts: each is a name, and the look-up of a buffer's name gives this buffer.
-use Rattle.std.proofs.Common.{◌≡◌, ℕ, zero, suc, ◌+◌, ◌≤◌, ◌==◌, Bool, true, false, cond, not, ◌&&◌, ◌||◌, List, [], ◌∷◌, ◌++◌, length, length-append, Some, None, refl, sym, ap, ◌∙◌, ◌⊎◌, inl, inr, subst, arith}
+-- Names of parts: each is a name, and looking it up gives what has it.
+use Rattle.std.proofs.Common.{◌≡◌, ℕ, zero, suc, ◌+◌, ◌<◌, ◌≤◌, ◌==◌, Bool, true, false, cond, not, ◌&&◌, ◌||◌, List, [], ◌∷◌, ◌++◌, length, length-append, Some, None, refl, sym, ap, ◌∙◌, ◌⊎◌, inl, inr, subst, arith}
 use Rattle.std.specs.Prelude.{nat_lt, nat_le}
 use Rattle.std.specs.List.{slice_get, slice_index, list_all, list_any, position, position_or_len}
 use Rattle.std.specs.Str.{bytes_eq}
 use Rattle.std.proofs.lemmas.List.Folds.{position_or_len_push}
 use Rattle.std.proofs.lemmas.Slice.Eq.{bytes_eq-Decides}
-use Rattle.std.proofs.lemmas.Bool.{and_parts, and_from, or_parts, or_cases, ltb-true, lt-ltb, le-leb, leb-true, eq-eqb, eqb-true}
+use Rattle.std.proofs.lemmas.Bool.{and_parts, and_from, or_parts, or_cases, ltb-true, lt-ltb, le-leb, leb-true, eq-eqb, eqb-true, false≢true}
 use Rattle.vq_laws.specs.declared.statement.Statement.{Statement}
-use Rattle.vq_laws.specs.declared.statement.Statement.TheVariants.{DeclareBuffer, DeclareQueue, BeginBatch, AddCommand, EndBatch}
+use Rattle.vq_laws.specs.declared.statement.Statement.TheVariants.{DeclareBuffer, DeclareSemaphore, DeclareQueue, BeginBatch, AddWait, AddCommand, AddSignal, AddFence, EndBatch}
 use Rattle.vq_laws.specs.declared.script.Buffer.{Buffer}
+use Rattle.vq_laws.specs.declared.script.Semaphore.{Semaphore}
+use Rattle.vq_laws.specs.declared.script.Queue.{Queue}
 use Rattle.vq_laws.specs.Text.{is_name, is_letter, is_digit}
 use Rattle.vq_laws.proofs.WrittenTexts.{is_word_byte, is_text_word, all_weaker, differs}
-use Rattle.vq_laws.proofs.ScriptParts.{Parts, a_buffer, queue_list, after, May, no_parts}
+use Rattle.vq_laws.proofs.ScriptParts.{Parts, a_buffer, a_semaphore, a_queue, is_named, after, May, no_parts}
 
 -- Names are words
 
@@ -117,68 +119,186 @@ get_push (z ∷ xs) y (suc k) x h =
     elim (get_push xs y k x h) [ inl e ↦ inl e | inr e ↦ let f = e.0 in inr (omega arith, e.1) ]
 
 -- a name is the same as itself
-pub same_bytes : (name : List ℕ) → bytes_eq name name ≡ true
+same_bytes : (name : List ℕ) → bytes_eq name name ≡ true
 same_bytes name = (bytes_eq-Decides name name).1 refl
+
+-- Positions of more than a name
+
+-- where the first item that passes a test passes another one too, it is the first that passes both
+first_of_both : {A : Type 0} (p q : A → Bool) (xs : List A) (k : ℕ) (x : A) →
+    position_or_len p xs ≡ k → slice_get xs k ≡ Some x → q x ≡ true →
+    position_or_len (λ y. p y && q y) xs ≡ k
+first_of_both p q [] k x e g h = absurd (let c : None ≡ Some x = g in cc)
+first_of_both {A} p q (y ∷ xs) k x e g h =
+    by_test (p y) (q y) refl e (λ j f i. first_of_both p q xs j x f i h)
+  where
+    by_test : (a b : Bool) → q y ≡ b → cond (not a) (1 + position_or_len p xs) 0 ≡ k →
+        ((j : ℕ) → position_or_len p xs ≡ j → slice_get xs j ≡ Some x →
+        position_or_len (λ z. p z && q z) xs ≡ j) →
+        cond (not (a && b)) (1 + position_or_len (λ z. p z && q z) xs) 0 ≡ k
+    by_test true true i e more = e
+    by_test true false i e more =
+        let first : slice_get (y ∷ xs) 0 ≡ Some x =
+        ap (λ (j : ℕ). slice_get (y ∷ xs) j) e ∙ g in
+        let same : y ≡ x = some_same y x first in
+        absurd (false≢true (sym i ∙ (ap q same ∙ h)))
+      where
+        some_same : (a b : A) → Some a ≡ Some b → a ≡ b
+        some_same a b e = cc
+    by_test false b i e more =
+        let next : 1 + position_or_len p xs ≡ suc (position_or_len p xs) = omega arith in
+        let there : slice_get xs (position_or_len p xs) ≡ Some x =
+        ap (λ (j : ℕ). slice_get (y ∷ xs) j) (sym next ∙ e) ∙ g in
+        ap (λ (j : ℕ). 1 + j) (more (position_or_len p xs) refl there) ∙ e
+
+-- such an item is found by both
+pub position_of_both : {A : Type 0} (p q : A → Bool) (xs : List A) (k : ℕ) (x : A) →
+    position p xs ≡ Some k → slice_get xs k ≡ Some x → q x ≡ true →
+    position (λ y. p y && q y) xs ≡ Some k
+position_of_both p q xs k x h g e = by_test (nat_lt (position_or_len p xs) (length xs)) refl h
+  where
+    by_test : (b : Bool) → nat_lt (position_or_len p xs) (length xs) ≡ b →
+        cond b (Some (position_or_len p xs)) None ≡ Some k →
+        position (λ y. p y && q y) xs ≡ Some k
+    by_test true l i =
+        let same : position_or_len p xs ≡ k = cc in
+        let both = first_of_both p q xs k x same g e in
+        (λ j. cond (nat_lt (both j) (length xs)) (Some (both j)) None)
+        ∙ (ap (λ (b : Bool). cond b (Some k) None)
+        (ap (λ (j : ℕ). nat_lt j (length xs)) (sym same) ∙ l))
+    by_test false l i = absurd (cc)
+
+-- what is found is there and passes
+pub position_passes : {A : Type 0} (p : A → Bool) (xs : List A) (k : ℕ) → position p xs ≡ Some k →
+    (x : A) × (slice_get xs k ≡ Some x) × (p x ≡ true)
+position_passes {A} p xs k h = by_test (nat_lt (position_or_len p xs) (length xs)) refl h
+  where
+    here : (ys : List A) → position_or_len p ys < length ys →
+        (x : A) × (slice_get ys (position_or_len p ys) ≡ Some x) × (p x ≡ true)
+    here [] l = absurd (omega arith)
+    here (y ∷ ys) l = by_first (p y) refl l (here ys)
+      where
+        by_first : (b : Bool) → p y ≡ b →
+            cond (not b) (1 + position_or_len p ys) 0 < length (y ∷ ys) →
+            (position_or_len p ys < length ys →
+            (x : A) × (slice_get ys (position_or_len p ys) ≡ Some x) × (p x ≡ true)) →
+            (x : A)
+            × (slice_get (y ∷ ys) (cond (not b) (1 + position_or_len p ys) 0) ≡ Some x)
+            × (p x ≡ true)
+        by_first true e l more = (y, refl, e)
+        by_first false e l more =
+            let next : 1 + position_or_len p ys ≡ suc (position_or_len p ys) = omega arith in
+            let x = more (omega arith) in
+            (x.0, ap (λ (j : ℕ). slice_get (y ∷ ys) j) next ∙ x.1, x.2)
+
+    by_test : (b : Bool) → nat_lt (position_or_len p xs) (length xs) ≡ b →
+        cond b (Some (position_or_len p xs)) None ≡ Some k →
+        (x : A) × (slice_get xs k ≡ Some x) × (p x ≡ true)
+    by_test true l i =
+        let same : position_or_len p xs ≡ k = cc in
+        let x = here xs (ltb-true (position_or_len p xs) (length xs) l) in
+        (x.0, ap (λ (j : ℕ). slice_get xs j) (sym same) ∙ x.1, x.2)
+    by_test false l i = absurd (cc)
 
 -- Names of parts
 
--- Each name of parts is a name, and looking a buffer's name up gives the buffer.
+-- Each of these items has a name, and looking it up gives the item.
+abbrev pub AllNamed : {A : Type 0} → (A → List ℕ) → List A → Type 0
+AllNamed {A} name xs =
+    (k : ℕ) (x : A) → slice_get xs k ≡ Some x →
+    (is_name (name x) ≡ true) × (position (λ y. bytes_eq (name x) (name y)) xs ≡ Some k)
+
+-- .. with one more of a fresh name
+named_push : {A : Type 0} (name : A → List ℕ) (xs : List A) (y : A) → AllNamed name xs →
+    is_name (name y) ≡ true → list_any (λ x. bytes_eq (name y) (name x)) xs ≡ false →
+    AllNamed name (xs ++ y ∷ [])
+named_push {A} name xs y old named fresh k x h =
+    elim (get_push xs y k x h) [
+      | inl e ↦ let known = old k x e in
+          (known.0, position_found (λ z. bytes_eq (name x) (name z)) xs y k known.1)
+      | inr e ↦
+          subst (λ (z : A × ℕ). (is_name (name z.0) ≡ true)
+          × (position (λ a. bytes_eq (name z.0) (name a)) (xs ++ y ∷ []) ≡ Some z.1))
+          (λ i. (e.1 i, sym e.0 i)) (
+            named,
+            position_new (λ a. bytes_eq (name y) (name a)) xs y fresh (same_bytes (name y)),
+          )
+    ]
+
+-- The names of parts.
 pub record AreNamed (p : Parts) : Type 0 where
-  pub buffer_names : (k : ℕ) (b : Buffer) → slice_get p.buffers k ≡ Some b →
-      (is_name b.name ≡ true) × (position (λ x. bytes_eq b.name x.name) p.buffers ≡ Some k)
-  pub queue_names : (name : List ℕ) → p.queue ≡ Some name → is_name name ≡ true
+  pub buffer_names : AllNamed (λ b. b.name) p.buffers
+  pub semaphore_names : AllNamed (λ s. s.name) p.semaphores
+  pub queue_names : AllNamed (λ q. q.name) p.queues
 
 -- no parts
 pub nothing_named : AreNamed no_parts
 nothing_named =
     record {
       buffer_names = λ k b h. absurd (let c : None ≡ Some b = h in cc);
-      queue_names = λ name h. absurd (cc);
+      semaphore_names = λ k s h. absurd (let c : None ≡ Some s = h in cc);
+      queue_names = λ k q h. absurd (let c : None ≡ Some q = h in cc);
+    }
+
+-- a name is in no list
+pub record IsFresh (bs : List Buffer) (ss : List Semaphore) (qs : List Queue) (name : List ℕ)
+    : Type 0 where
+  pub no_buffer : list_any (λ b. bytes_eq name b.name) bs ≡ false
+  pub no_semaphore : list_any (λ s. bytes_eq name s.name) ss ≡ false
+  pub no_queue : list_any (λ q. bytes_eq name q.name) qs ≡ false
+
+-- what isn't named is in no list
+pub is_fresh : (bs : List Buffer) (ss : List Semaphore) (qs : List Queue) (name : List ℕ) →
+    is_named bs ss qs name ≡ false → IsFresh bs ss qs name
+is_fresh bs ss qs name h =
+    let front =
+    or_parts (list_any (λ b. bytes_eq name b.name) bs || list_any (λ s. bytes_eq name s.name) ss)
+    (list_any (λ q. bytes_eq name q.name) qs) h in
+    let first =
+    or_parts (list_any (λ b. bytes_eq name b.name) bs) (list_any (λ s. bytes_eq name s.name) ss)
+    front.0 in
+    record { no_buffer = first.0; no_semaphore = first.1; no_queue = front.1 }
+
+-- where a statement declares nothing
+same_names : (p q : Parts) → AreNamed p → p.buffers ≡ q.buffers → p.semaphores ≡ q.semaphores →
+    p.queues ≡ q.queues → AreNamed q
+same_names p q n e f g =
+    record {
+      buffer_names = subst (AllNamed (λ b. b.name)) e n.buffer_names;
+      semaphore_names = subst (AllNamed (λ s. s.name)) f n.semaphore_names;
+      queue_names = subst (AllNamed (λ x. x.name)) g n.queue_names;
     }
 
 -- They stay so after a statement that may follow.
 pub named_more : (p : Parts) (s : Statement) → AreNamed p → May p s → AreNamed (after p s)
 named_more p (DeclareBuffer name size) n m =
-    record { buffer_names = names; queue_names = n.queue_names }
-  where
-    fresh : list_any (λ b. bytes_eq name b.name) p.buffers ≡ false
-    fresh =
-        (or_parts (list_any (λ b. bytes_eq name b.name) p.buffers) false
-        (or_parts (list_any (λ b. bytes_eq name b.name) p.buffers || false)
-        (list_any (λ x. bytes_eq name x.name) (queue_list p.queue)) m.fresh).0).0
-
-    names : (k : ℕ) (b : Buffer) → slice_get (p.buffers ++ a_buffer name size ∷ []) k ≡ Some b →
-        (is_name b.name ≡ true)
-        × (position (λ x. bytes_eq b.name x.name) (p.buffers ++ a_buffer name size ∷ []) ≡ Some k)
-    names k b h =
-        elim (get_push p.buffers (a_buffer name size) k b h) [
-          | inl e ↦ let old = n.buffer_names k b e in (
-            old.0,
-            position_found (λ x. bytes_eq b.name x.name) p.buffers (a_buffer name size) k
-                old.1,
-          )
-          | inr e ↦
-              subst (λ (z : Buffer × ℕ). (is_name z.0.name ≡ true)
-              × (position (λ x. bytes_eq z.0.name x.name) (p.buffers ++ a_buffer name size ∷ [])
-              ≡ Some z.1))
-              (λ i. (e.1 i, sym e.0 i)) (
-                m.named,
-                position_new (λ x. bytes_eq name x.name) p.buffers (a_buffer name size) fresh
-                    (same_bytes name),
-              )
-        ]
+    record {
+      buffer_names =
+          named_push (λ b. b.name) p.buffers (a_buffer name size) n.buffer_names m.named
+          (is_fresh p.buffers p.semaphores p.queues name m.fresh).no_buffer;
+      semaphore_names = n.semaphore_names;
+      queue_names = n.queue_names;
+    }
+named_more p (DeclareSemaphore name kind) n m =
+    record {
+      buffer_names = n.buffer_names;
+      semaphore_names =
+          named_push (λ s. s.name) p.semaphores (a_semaphore name kind) n.semaphore_names m.named
+          (is_fresh p.buffers p.semaphores p.queues name m.fresh).no_semaphore;
+      queue_names = n.queue_names;
+    }
 named_more p (DeclareQueue name mode) n m =
     record {
       buffer_names = n.buffer_names;
+      semaphore_names = n.semaphore_names;
       queue_names =
-          λ other h. subst (λ (x : List ℕ). is_name x ≡ true) (same_name name other h) m.named;
+          named_push (λ q. q.name) p.queues (a_queue name mode) n.queue_names m.named
+          (is_fresh p.buffers p.semaphores p.queues name m.fresh).no_queue;
     }
-  where
-    same_name : (a b : List ℕ) → Some a ≡ Some b → a ≡ b
-    same_name a b e = cc
-named_more p (BeginBatch q) n m =
-    record { buffer_names = n.buffer_names; queue_names = n.queue_names }
-named_more p (AddCommand c) n m =
-    record { buffer_names = n.buffer_names; queue_names = n.queue_names }
-named_more p EndBatch n m = record { buffer_names = n.buffer_names; queue_names = n.queue_names }
+named_more p (BeginBatch q) n m = same_names p (after p (BeginBatch q)) n refl refl refl
+named_more p (AddWait pair from) n m = same_names p (after p (AddWait pair from)) n refl refl refl
+named_more p (AddCommand c) n m = same_names p (after p (AddCommand c)) n refl refl refl
+named_more p (AddSignal pair) n m = same_names p (after p (AddSignal pair)) n refl refl refl
+named_more p (AddFence f) n m = same_names p (after p (AddFence f)) n refl refl refl
+named_more p EndBatch n m = same_names p (after p EndBatch) n refl refl refl
 named_more p s n m = absurd m

@@ -104,16 +104,16 @@ slice_get_past (x ∷ xs) (suc i) h = slice_get_past xs i (omega arith)
 
 -- The slow run
 
-abbrev place : List ℕ → ℕ → ℕ
+abbrev pub place : List ℕ → ℕ → ℕ
 place xs x = position_or_len (λ k. eqb k x) xs
 
-place_head : (x : ℕ) (xs : List ℕ) → place (x ∷ xs) x ≡ 0
+pub place_head : (x : ℕ) (xs : List ℕ) → place (x ∷ xs) x ≡ 0
 place_head x xs = cond-false (not (eqb x x)) (1 + place xs x) 0 (ap not (eq-eqb x x refl))
 
-place_tail : (y : ℕ) (xs : List ℕ) (x : ℕ) → eqb y x ≡ false → place (y ∷ xs) x ≡ 1 + place xs x
+pub place_tail : (y : ℕ) (xs : List ℕ) (x : ℕ) → eqb y x ≡ false → place (y ∷ xs) x ≡ 1 + place xs x
 place_tail y xs x e = cond-true (not (eqb y x)) (1 + place xs x) 0 (ap not e)
 
-place-append : (front back : List ℕ) (x : ℕ) → has front x ≡ false → place (front ++ back) x ≡ length front + place back x
+pub place-append : (front back : List ℕ) (x : ℕ) → has front x ≡ false → place (front ++ back) x ≡ length front + place back x
 place-append [] back x h = omega arith
 place-append (y ∷ front) back x h =
     let parts = or_parts (eqb y x) (has front x) h in
@@ -160,10 +160,10 @@ module _ (p : Plan) where
       not-false (has (slow_order p) j) (filter_none (λ i. not (has (slow_order p) i)) (range_with_len 0 (length p.jobs)) j h (has_range (length p.jobs) 0 j (omega arith) (omega arith)))
 
   -- one job stands earlier in the slow run than another
-  abbrev Earlier : ℕ → ℕ → Type 0
+  abbrev pub Earlier : ℕ → ℕ → Type 0
   Earlier i j = place (slow_order p) i < place (slow_order p) j
 
-  before_earlier : (i j : ℕ) (k : Place) → HappensBeforeAt p i j k → Earlier i j
+  pub before_earlier : (i j : ℕ) (k : Place) → HappensBeforeAt p i j k → Earlier i j
   before_earlier i j k (one h) = ltb-true (place (slow_order p) i) (place (slow_order p) j) h.earlier
   before_earlier i j k (more {h = q} b h) =
       let a = before_earlier i q AtEnd b in

@@ -16,83 +16,82 @@ use Rattle.vq_laws.specs.declared.statement.FaultKind.TheVariants.{Syntax}
 use Rattle.vq_laws.specs.declared.statement.Section.{Section}
 use Rattle.vq_laws.specs.declared.statement.Section.TheVariants.{Outside, InBatch}
 use Rattle.vq_laws.specs.declared.statement.Statement.{Statement}
-use Rattle.vq_laws.specs.declared.statement.Statement.TheVariants.{DeclareBuffer, DeclareQueue, BeginBatch, AddCommand, EndBatch}
+use Rattle.vq_laws.specs.declared.statement.Statement.TheVariants.{DeclareBuffer, DeclareSemaphore, DeclareQueue, BeginBatch, AddWait, AddCommand, AddSignal, AddFence, EndBatch}
 use Rattle.vq_laws.specs.declared.statement.Line.{Line}
 use Rattle.vq_laws.specs.declared.script.Script.{Script}
 use Rattle.vq_laws.specs.declared.script.Buffer.{Buffer}
-use Rattle.vq_laws.specs.declared.script.Mode.TheVariants.{Immediate}
-use Rattle.vq_laws.specs.declared.script.Command.{Command}
+use Rattle.vq_laws.specs.declared.script.Semaphore.{Semaphore}
+use Rattle.vq_laws.specs.declared.script.SemaphoreKind.{SemaphoreKind}
+use Rattle.vq_laws.specs.declared.script.Queue.{Queue}
+use Rattle.vq_laws.specs.declared.script.Mode.{Mode}
 use Rattle.vq_laws.specs.Text.{words_of, lines_of}
 use Rattle.vq_laws.specs.Meaning.{meaning}
 use Rattle.vq_laws.specs.LineFaults.{fault_of, ends_early}
 use Rattle.vq_laws.specs.ScriptOfLines.{script_of, jobs_of}
 use Rattle.vq_laws.specs.Reading.{with_line, without_fault, read_line, read_statement, read_lines, go_on, StandsFor}
-use Rattle.vq_laws.specs.SameScript.{without_lines, job_without_lines, semaphore_without_line, turn_without_line}
+use Rattle.vq_laws.specs.SameScript.{without_lines, job_without_lines, turn_without_line}
 use Rattle.vq_laws.proofs.Meanings.{has_meaning}
 use Rattle.vq_laws.proofs.FollowingLines.{may_follow}
 use Rattle.vq_laws.proofs.PartsSaid.{say_nothing, say_more}
-use Rattle.vq_laws.proofs.ScriptParts.{Parts, parts, a_buffer, a_job, queue_list, after, May, MayBuffer, with_command, with_batch, Say, script_of_parts, no_parts, part_of_batch, continued}
+use Rattle.vq_laws.proofs.NamedParts.{IsFresh, is_fresh}
+use Rattle.vq_laws.proofs.BatchItems.{HasItems, no_items, items_more}
+use Rattle.vq_laws.proofs.ScriptParts.{Told, Parts, parts, a_buffer, a_semaphore, a_queue, a_job, after, after_item, May, MayBuffer, MaySemaphore, MayQueue, MayItem, MayEnd, is_named, with_item, with_batch, Say, script_of_parts, no_parts, part_of_batch, continued}
 
 -- Chains of statements
 
--- the parts after statements
-abbrev pub run : Parts → List Statement → Parts
-run p [] = p
-run p (s ∷ statements) = run (after p s) statements
-
--- each may follow those before it
-abbrev pub AllMay : Parts → List Statement → Type 0
-AllMay p [] = Unit {0}
-AllMay p (s ∷ statements) = May p s × AllMay (after p s) statements
-
--- Statements lead from parts to parts.
-pub record Leads (p : Parts) (statements : List Statement) (q : Parts) : Type 0 where
-  pub all : AllMay p statements
-  pub ends : run p statements ≡ q
+-- Statements lead from parts to parts, each where it may follow those before it.
+abbrev pub Leads : Parts → List Statement → Parts → Type 0
+Leads p [] q = p ≡ q
+Leads p (s ∷ statements) q = May p s × Leads (after p s) statements q
 
 -- one chain after another
 pub leads_on : (p q r : Parts) (first second : List Statement) → Leads p first q →
-    Leads q second r →
-    Leads p (first ++ second) r
-leads_on p q r [] second l m = subst (λ (x : Parts). Leads x second r) (sym l.ends) m
-leads_on p q r (s ∷ first) second l m =
-    let rest =
-    leads_on (after p s) q r first second (record { all = l.all.1; ends = l.ends }) m in
-    record { all = (l.all.0, rest.all); ends = rest.ends }
+    Leads q second r → Leads p (first ++ second) r
+leads_on p q r [] second l m = subst (λ (x : Parts). Leads x second r) (sym l) m
+leads_on p q r (s ∷ first) second l m = (l.0, leads_on (after p s) q r first second l.1 m)
 
 -- one statement more
 leads_push : (p q : Parts) (statements : List Statement) (s : Statement) → Leads p statements q →
-    May q s →
-    Leads p (statements ++ s ∷ []) (after q s)
-leads_push p q statements s l m =
-    leads_on p q (after q s) statements (s ∷ []) l (record { all = (m, tt); ends = refl })
+    May q s → Leads p (statements ++ s ∷ []) (after q s)
+leads_push p q statements s l m = leads_on p q (after q s) statements (s ∷ []) l (m, refl)
 
 -- The canonical order
 
--- the statements of buffers, of the queue, of a batch, of the open batch, of all batches
+-- the statements of buffers, semaphores, queues, of a batch, of the open batch, of all batches
 abbrev pub buffer_statements : List Buffer → List Statement
 buffer_statements bs = map (λ b. DeclareBuffer b.name b.size) bs
 
-abbrev pub queue_statements : Option (List ℕ) → List Statement
-queue_statements None = []
-queue_statements (Some name) = DeclareQueue name Immediate ∷ []
+abbrev pub semaphore_statements : List Semaphore → List Statement
+semaphore_statements ss = map (λ s. DeclareSemaphore s.name s.kind) ss
 
-abbrev pub job_statements : List Command → List Statement
-job_statements commands = BeginBatch 0 ∷ map (λ c. AddCommand c) commands ++ EndBatch ∷ []
+abbrev pub queue_statements : List Queue → List Statement
+queue_statements qs = map (λ q. DeclareQueue q.name q.mode) qs
 
-abbrev pub open_statements : Option (List Command) → List Statement
+abbrev pub job_statements : Told → List Statement
+job_statements t = BeginBatch t.0 ∷ t.1 ++ EndBatch ∷ []
+
+abbrev pub open_statements : Option Told → List Statement
 open_statements None = []
-open_statements (Some commands) = BeginBatch 0 ∷ map (λ c. AddCommand c) commands
+open_statements (Some t) = BeginBatch t.0 ∷ t.1
 
-abbrev pub batch_statements : List (List Command) → Option (List Command) → List Statement
+abbrev batch_statements : List Told → Option Told → List Statement
 batch_statements jobs batch = flat_map job_statements jobs ++ open_statements batch
 
--- The parts can be said in this order: buffers, the queue, batches.
+-- parts without batches
+abbrev pub declarations : List Buffer → List Semaphore → List Queue → Parts
+declarations bs ss qs = parts bs ss qs [] None
+
+-- The parts can be said in this order: buffers, semaphores, queues, batches.
 pub record IsOrdered (p : Parts) : Type 0 where
-  pub buffers_first : Leads no_parts (buffer_statements p.buffers) (parts p.buffers None [] None)
-  pub queue_next : Leads (parts p.buffers None [] None) (queue_statements p.queue)
-      (parts p.buffers p.queue [] None)
-  pub batches_last : Leads (parts p.buffers p.queue [] None) (batch_statements p.jobs p.batch) p
+  pub buffers_first : Leads no_parts (buffer_statements p.buffers) (declarations p.buffers [] [])
+  pub semaphores_next : Leads (declarations p.buffers [] []) (semaphore_statements p.semaphores)
+      (declarations p.buffers p.semaphores [])
+  pub queues_next : Leads (declarations p.buffers p.semaphores []) (queue_statements p.queues)
+      (declarations p.buffers p.semaphores p.queues)
+  pub batches_last : Leads (declarations p.buffers p.semaphores p.queues)
+      (batch_statements p.jobs p.batch) p
+
+-- One more declaration
 
 -- names differ both ways
 same_names : (a b : List ℕ) → bytes_eq a b ≡ false → bytes_eq b a ≡ false
@@ -100,189 +99,309 @@ same_names a b h =
     false_from_ne_true (bytes_eq b a)
     (λ e. false≢true (sym h ∙ (bytes_eq-Decides a b).1 (sym ((bytes_eq-Decides b a).0 e))))
 
--- one more buffer
-ordered_buffer : (bs : List Buffer) (q : Option (List ℕ)) (name : List ℕ) (size : ℕ) →
-    IsOrdered (parts bs q [] None) → MayBuffer (parts bs q [] None) name size →
-    IsOrdered (parts (bs ++ a_buffer name size ∷ []) q [] None)
-ordered_buffer bs q name size o m =
-    record {
-      buffers_first =
-          subst (λ (ss : List Statement). Leads no_parts ss
-          (parts (bs ++ a_buffer name size ∷ []) None [] None))
-          (sym (map-append (λ (b : Buffer). DeclareBuffer b.name b.size) bs
-          (a_buffer name size ∷ [])))
-          (leads_push no_parts (parts bs None [] None) (buffer_statements bs)
-          (DeclareBuffer name size) o.buffers_first
-          (record {
-            outside = refl;
-            first = refl;
-            named = m.named;
-            fresh = or_from (list_any (λ b. bytes_eq name b.name) bs || false) false fresh.0 refl;
-            some_bytes = m.some_bytes;
-            few = m.few;
-            bytes = m.bytes;
-          }));
-      queue_next = by_queue q o.queue_next fresh.1;
-      batches_last = record { all = tt; ends = refl };
-    }
-  where
-    fresh : ((list_any (λ b. bytes_eq name b.name) bs || false) ≡ false)
-        × (list_any (λ x. bytes_eq name x.name) (queue_list q) ≡ false)
-    fresh =
-        or_parts (list_any (λ b. bytes_eq name b.name) bs || false)
-        (list_any (λ x. bytes_eq name x.name) (queue_list q)) m.fresh
+-- a test that fails for items and one more
+any_push : {A : Type 0} (test : A → Bool) (xs : List A) (y : A) → list_any test xs ≡ false →
+    test y ≡ false → list_any test (xs ++ y ∷ []) ≡ false
+any_push test xs y h e =
+    list_any-append test xs (y ∷ [])
+    ∙ or_from (list_any test xs) (test y || false) h (or_from (test y) false e refl)
 
-    by_queue : (r : Option (List ℕ)) →
-        Leads (parts bs None [] None) (queue_statements r) (parts bs r [] None) →
-        list_any (λ x. bytes_eq name x.name) (queue_list r) ≡ false →
-        Leads (parts (bs ++ a_buffer name size ∷ []) None [] None) (queue_statements r)
-        (parts (bs ++ a_buffer name size ∷ []) r [] None)
-    by_queue None l e = record { all = tt; ends = refl }
-    by_queue (Some other) l e =
-        let k = l.all.0 in
-        let old = or_parts (list_any (λ b. bytes_eq other b.name) bs || false) false k.fresh in
-        let older = or_parts (list_any (λ b. bytes_eq other b.name) bs) false old.0 in
-        let apart = or_parts (bytes_eq name other) false e in
-        record {
-          all = (
-            record {
+-- a name that is in no list is none of them all
+not_named : (bs : List Buffer) (ss : List Semaphore) (qs : List Queue) (name : List ℕ) →
+    IsFresh bs ss qs name → is_named bs ss qs name ≡ false
+not_named bs ss qs name f =
+    or_from
+    (list_any (λ b. bytes_eq name b.name) bs || list_any (λ s. bytes_eq name s.name) ss)
+    (list_any (λ q. bytes_eq name q.name) qs)
+    (or_from (list_any (λ b. bytes_eq name b.name) bs) (list_any (λ s. bytes_eq name s.name) ss)
+    f.no_buffer f.no_semaphore) f.no_queue
+
+-- these buffers and semaphores and one thing more of this name: a name that is fresh for them, and
+-- another one, is fresh for those
+abbrev AreMore : List ℕ → List Buffer → List Semaphore → List Buffer → List Semaphore → Type 0
+AreMore name bs ss cs ts =
+    (other : List ℕ) (qs : List Queue) → IsFresh bs ss qs other → bytes_eq other name ≡ false →
+    IsFresh cs ts qs other
+
+more_buffers : (bs : List Buffer) (ss : List Semaphore) (name : List ℕ) (size : ℕ) →
+    AreMore name bs ss (bs ++ a_buffer name size ∷ []) ss
+more_buffers bs ss name size other qs f e =
+    record {
+      no_buffer = any_push (λ b. bytes_eq other b.name) bs (a_buffer name size) f.no_buffer e;
+      no_semaphore = f.no_semaphore;
+      no_queue = f.no_queue;
+    }
+
+more_semaphores : (bs : List Buffer) (ss : List Semaphore) (name : List ℕ)
+    (kind : SemaphoreKind) → AreMore name bs ss bs (ss ++ a_semaphore name kind ∷ [])
+more_semaphores bs ss name kind other qs f e =
+    record {
+      no_buffer = f.no_buffer;
+      no_semaphore =
+          any_push (λ s. bytes_eq other s.name) ss (a_semaphore name kind) f.no_semaphore e;
+      no_queue = f.no_queue;
+    }
+
+-- queues follow as well after these buffers and semaphores
+queues_as_well : (bs cs : List Buffer) (ss ts : List Semaphore) (name : List ℕ) →
+    AreMore name bs ss cs ts → (start qs end : List Queue) →
+    list_any (λ q. bytes_eq name q.name) qs ≡ false →
+    Leads (declarations bs ss start) (queue_statements qs) (declarations bs ss end) →
+    Leads (declarations cs ts start) (queue_statements qs) (declarations cs ts end)
+queues_as_well bs cs ss ts name more start [] end apart l =
+    ap (λ (p : Parts). declarations cs ts p.queues) l
+queues_as_well bs cs ss ts name more start (q ∷ qs) end apart l =
+    let one = or_parts (bytes_eq name q.name) (list_any (λ x. bytes_eq name x.name) qs) apart in
+    let m = l.0 in (
+      record {
+        outside = refl;
+        first = refl;
+        named = m.named;
+        fresh = not_named cs ts start q.name
+            (more q.name start (is_fresh bs ss start q.name m.fresh)
+            (same_names name q.name one.0));
+        few = m.few;
+        built = m.built;
+      },
+      queues_as_well bs cs ss ts name more (start ++ a_queue q.name q.mode ∷ []) qs end one.1 l.1,
+    )
+
+-- semaphores follow as well after one more buffer
+semaphores_as_well : (bs : List Buffer) (name : List ℕ) (size : ℕ)
+    (start ss end : List Semaphore) → list_any (λ s. bytes_eq name s.name) ss ≡ false →
+    Leads (declarations bs start []) (semaphore_statements ss) (declarations bs end []) →
+    Leads (declarations (bs ++ a_buffer name size ∷ []) start []) (semaphore_statements ss)
+    (declarations (bs ++ a_buffer name size ∷ []) end [])
+semaphores_as_well bs name size start [] end apart l =
+    ap (λ (p : Parts). declarations (bs ++ a_buffer name size ∷ []) p.semaphores []) l
+semaphores_as_well bs name size start (s ∷ ss) end apart l =
+    let one = or_parts (bytes_eq name s.name) (list_any (λ x. bytes_eq name x.name) ss) apart in
+    let m = l.0 in (
+      record {
+        outside = refl;
+        first = refl;
+        named = m.named;
+        fresh = not_named (bs ++ a_buffer name size ∷ []) start [] s.name
+            (more_buffers bs start name size s.name [] (is_fresh bs start [] s.name m.fresh)
+            (same_names name s.name one.0));
+        few = m.few;
+        small = m.small;
+      },
+      semaphores_as_well bs name size (start ++ a_semaphore s.name s.kind ∷ []) ss end one.1 l.1,
+    )
+
+module _ (bs : List Buffer) (ss : List Semaphore) (qs : List Queue)
+    (o : IsOrdered (declarations bs ss qs)) where
+  -- one more buffer
+  ordered_buffer : (name : List ℕ) (size : ℕ) → MayBuffer (declarations bs ss qs) name size →
+      IsOrdered (declarations (bs ++ a_buffer name size ∷ []) ss qs)
+  ordered_buffer name size m =
+      let f = is_fresh bs ss qs name m.fresh in
+      record {
+        buffers_first =
+            subst (λ (xs : List Statement). Leads no_parts xs
+            (declarations (bs ++ a_buffer name size ∷ []) [] []))
+            (sym (map-append (λ (b : Buffer). DeclareBuffer b.name b.size) bs
+            (a_buffer name size ∷ [])))
+            (leads_push no_parts (declarations bs [] []) (buffer_statements bs)
+            (DeclareBuffer name size) o.buffers_first
+            (record {
               outside = refl;
               first = refl;
-              immediate = refl;
-              only = refl;
-              named = k.named;
-              fresh =
-                  or_from (list_any (λ b. bytes_eq other b.name)
-                  (bs ++ a_buffer name size ∷ []) || false) false
-                  (or_from (list_any (λ b. bytes_eq other b.name) (bs ++ a_buffer name size ∷ []))
-                  false
-                  (list_any-append (λ (b : Buffer). bytes_eq other b.name) bs
-                  (a_buffer name size ∷ [])
-                  ∙ or_from (list_any (λ b. bytes_eq other b.name) bs)
-                  (bytes_eq other name || false) older.0
-                  (or_from (bytes_eq other name) false (same_names name other apart.0) refl)) refl)
-                  refl;
-            },
-            tt,
-          );
-          ends = refl;
-        }
+              named = m.named;
+              fresh = not_named bs [] [] name
+                  (record { no_buffer = f.no_buffer; no_semaphore = refl; no_queue = refl });
+              some_bytes = m.some_bytes;
+              few = m.few;
+              bytes = m.bytes;
+            }));
+        semaphores_next =
+            semaphores_as_well bs name size [] ss ss f.no_semaphore o.semaphores_next;
+        queues_next =
+            queues_as_well bs (bs ++ a_buffer name size ∷ []) ss ss name
+            (more_buffers bs ss name size) [] qs qs f.no_queue o.queues_next;
+        batches_last = refl;
+      }
 
--- a batch begins
-ordered_begin : (bs : List Buffer) (q : Option (List ℕ)) (jobs : List (List Command)) →
-    IsOrdered (parts bs q jobs None) → May (parts bs q jobs None) (BeginBatch 0) →
-    IsOrdered (parts bs q jobs (Some []))
-ordered_begin bs q jobs o m =
-    record {
-      buffers_first = o.buffers_first;
-      queue_next = o.queue_next;
-      batches_last =
-          subst (λ (ss : List Statement). Leads (parts bs q [] None) ss (parts bs q jobs (Some [])))
-          (append_assoc (flat_map job_statements jobs) [] (BeginBatch 0 ∷ []))
-          (leads_push (parts bs q [] None) (parts bs q jobs None) (batch_statements jobs None)
-          (BeginBatch 0) o.batches_last m);
-    }
+  -- one more semaphore
+  ordered_semaphore : (name : List ℕ) (kind : SemaphoreKind) →
+      MaySemaphore (declarations bs ss qs) name kind →
+      IsOrdered (declarations bs (ss ++ a_semaphore name kind ∷ []) qs)
+  ordered_semaphore name kind m =
+      let f = is_fresh bs ss qs name m.fresh in
+      record {
+        buffers_first = o.buffers_first;
+        semaphores_next =
+            subst (λ (xs : List Statement). Leads (declarations bs [] []) xs
+            (declarations bs (ss ++ a_semaphore name kind ∷ []) []))
+            (sym (map-append (λ (s : Semaphore). DeclareSemaphore s.name s.kind) ss
+            (a_semaphore name kind ∷ [])))
+            (leads_push (declarations bs [] []) (declarations bs ss []) (semaphore_statements ss)
+            (DeclareSemaphore name kind) o.semaphores_next
+            (record {
+              outside = refl;
+              first = refl;
+              named = m.named;
+              fresh = not_named bs ss [] name
+                  (record {
+                    no_buffer = f.no_buffer;
+                    no_semaphore = f.no_semaphore;
+                    no_queue = refl;
+                  });
+              few = m.few;
+              small = m.small;
+            }));
+        queues_next =
+            queues_as_well bs bs ss (ss ++ a_semaphore name kind ∷ []) name
+            (more_semaphores bs ss name kind) [] qs qs f.no_queue o.queues_next;
+        batches_last = refl;
+      }
 
--- a command is added
-ordered_command : (bs : List Buffer) (q : Option (List ℕ)) (jobs : List (List Command))
-    (commands : List Command)
-    (c : Command) → IsOrdered (parts bs q jobs (Some commands)) →
-    May (parts bs q jobs (Some commands)) (AddCommand c) →
-    IsOrdered (parts bs q jobs (Some (commands ++ c ∷ [])))
-ordered_command bs q jobs commands c o m =
-    record {
-      buffers_first = o.buffers_first;
-      queue_next = o.queue_next;
-      batches_last =
-          subst (λ (ss : List Statement). Leads (parts bs q [] None) ss
-          (parts bs q jobs (Some (commands ++ c ∷ []))))
-          (append_assoc (flat_map job_statements jobs)
-          (BeginBatch 0 ∷ map (λ x. AddCommand x) commands) (AddCommand c ∷ [])
-          ∙ ap (λ (ss : List Statement). flat_map job_statements jobs ++ BeginBatch 0 ∷ ss)
-          (sym (map-append (λ (x : Command). AddCommand x) commands (c ∷ []))))
-          (leads_push (parts bs q [] None) (parts bs q jobs (Some commands))
-          (batch_statements jobs (Some commands))
-          (AddCommand c) o.batches_last m);
-    }
+  -- one more queue
+  ordered_queue : (name : List ℕ) (mode : Mode) → MayQueue (declarations bs ss qs) name mode →
+      IsOrdered (declarations bs ss (qs ++ a_queue name mode ∷ []))
+  ordered_queue name mode m =
+      record {
+        buffers_first = o.buffers_first;
+        semaphores_next = o.semaphores_next;
+        queues_next =
+            subst (λ (xs : List Statement). Leads (declarations bs ss []) xs
+            (declarations bs ss (qs ++ a_queue name mode ∷ [])))
+            (sym (map-append (λ (q : Queue). DeclareQueue q.name q.mode) qs
+            (a_queue name mode ∷ [])))
+            (leads_push (declarations bs ss []) (declarations bs ss qs) (queue_statements qs)
+            (DeclareQueue name mode) o.queues_next m);
+        batches_last = refl;
+      }
 
--- a batch ends
-ordered_end : (bs : List Buffer) (q : Option (List ℕ)) (jobs : List (List Command))
-    (commands : List Command) →
-    IsOrdered (parts bs q jobs (Some commands)) → May (parts bs q jobs (Some commands)) EndBatch →
-    IsOrdered (parts bs q (jobs ++ commands ∷ []) None)
-ordered_end bs q jobs commands o m =
-    record {
-      buffers_first = o.buffers_first;
-      queue_next = o.queue_next;
-      batches_last =
-          subst (λ (ss : List Statement). Leads (parts bs q [] None) ss
-          (parts bs q (jobs ++ commands ∷ []) None))
-          (append_assoc (flat_map job_statements jobs)
-          (BeginBatch 0 ∷ map (λ x. AddCommand x) commands) (EndBatch ∷ [])
-          ∙ sym (append-nil (flat_map job_statements (jobs ++ commands ∷ []))
-          ∙ (flat_map-append job_statements jobs (commands ∷ [])
-          ∙ ap (λ (ss : List Statement). flat_map job_statements jobs ++ ss)
-          (append-nil (job_statements commands)))))
-          (leads_push (parts bs q [] None) (parts bs q jobs (Some commands))
-          (batch_statements jobs (Some commands))
-          EndBatch o.batches_last m);
-    }
+-- One more line of a batch
 
--- Parts in order stay so.
-ordered_more : (p : Parts) (s : Statement) → IsOrdered p → May p s → IsOrdered (after p s)
-ordered_more p (DeclareBuffer name size) o m =
-    let same : p ≡ parts p.buffers p.queue [] None =
-    λ i. parts p.buffers p.queue (m.first i) (m.outside i) in
-    subst (λ (z : List (List Command) × Option (List Command)).
-    IsOrdered (parts (p.buffers ++ a_buffer name size ∷ []) p.queue z.0 z.1))
-    (λ i. (sym m.first i, sym m.outside i))
-    (ordered_buffer p.buffers p.queue name size (subst IsOrdered same o)
-    (subst (λ (x : Parts). MayBuffer x name size) same m))
-ordered_more p (DeclareQueue name mode) o m =
-    let same : p ≡ parts p.buffers None [] None =
-    λ i. parts p.buffers (m.only i) (m.first i) (m.outside i) in
-    let old : IsOrdered (parts p.buffers None [] None) = subst IsOrdered same o in
-    subst (λ (z : List (List Command) × Option (List Command)). IsOrdered
-    (parts p.buffers (Some name) z.0 z.1))
-    (λ i. (sym m.first i, sym m.outside i))
-    (record {
-      buffers_first = old.buffers_first;
-      queue_next = record {
-        all = (
-          record {
-            outside = refl;
-            first = refl;
-            immediate = refl;
-            only = refl;
-            named = m.named;
-            fresh = m.fresh;
-          },
-          tt,
-        );
-        ends = refl;
-      };
-      batches_last = record { all = tt; ends = refl };
-    })
-ordered_more p (BeginBatch q) o m =
-    let same : p ≡ parts p.buffers p.queue p.jobs None =
-    λ i. parts p.buffers p.queue p.jobs (m.outside i) in
-    ordered_begin p.buffers p.queue p.jobs (subst IsOrdered same o)
-    (subst (λ (x : Parts × ℕ). May x.0 (BeginBatch x.1)) (λ i. (same i, m.same i)) m)
-ordered_more p (AddCommand c) o m =
-    let same : p ≡ parts p.buffers p.queue p.jobs (Some m.commands) =
-    λ i. parts p.buffers p.queue p.jobs (m.inside i) in
-    subst (λ (b : Option (List Command)). IsOrdered
-    (parts p.buffers p.queue p.jobs (with_command b c))) (sym m.inside)
-    (ordered_command p.buffers p.queue p.jobs m.commands c (subst IsOrdered same o)
-    (subst (λ (x : Parts). May x (AddCommand c)) same m))
-ordered_more p EndBatch o m =
-    let same : p ≡ parts p.buffers p.queue p.jobs (Some m.commands) =
-    λ i. parts p.buffers p.queue p.jobs (m.inside i) in
-    subst (λ (b : Option (List Command)). IsOrdered
-    (parts p.buffers p.queue (with_batch p.jobs b) None)) (sym m.inside)
-    (ordered_end p.buffers p.queue p.jobs m.commands (subst IsOrdered same o)
-    (subst (λ (x : Parts). May x EndBatch) same m))
-ordered_more p s o m = absurd m
+module _ (bs : List Buffer) (ss : List Semaphore) (qs : List Queue) (jobs : List Told) where
+  -- a batch begins
+  ordered_begin : (q : ℕ) → IsOrdered (parts bs ss qs jobs None) →
+      May (parts bs ss qs jobs None) (BeginBatch q) →
+      IsOrdered (parts bs ss qs jobs (Some (q, [])))
+  ordered_begin q o m =
+      record {
+        buffers_first = o.buffers_first;
+        semaphores_next = o.semaphores_next;
+        queues_next = o.queues_next;
+        batches_last =
+            subst (λ (xs : List Statement). Leads (declarations bs ss qs) xs
+            (parts bs ss qs jobs (Some (q, []))))
+            (append_assoc (flat_map job_statements jobs) [] (BeginBatch q ∷ []))
+            (leads_push (declarations bs ss qs) (parts bs ss qs jobs None)
+            (batch_statements jobs None) (BeginBatch q) o.batches_last m);
+      }
+
+  -- a statement is added
+  ordered_item : (t : Told) (s : Statement) → IsOrdered (parts bs ss qs jobs (Some t)) →
+      May (parts bs ss qs jobs (Some t)) s →
+      after (parts bs ss qs jobs (Some t)) s ≡ parts bs ss qs jobs (with_item (Some t) s) →
+      IsOrdered (parts bs ss qs jobs (with_item (Some t) s))
+  ordered_item t s o m is =
+      record {
+        buffers_first = o.buffers_first;
+        semaphores_next = o.semaphores_next;
+        queues_next = o.queues_next;
+        batches_last =
+            subst (λ (z : List Statement × Parts). Leads (declarations bs ss qs) z.0 z.1)
+            (λ i. (append_assoc (flat_map job_statements jobs) (BeginBatch t.0 ∷ t.1) (s ∷ []) i, is i))
+            (leads_push (declarations bs ss qs) (parts bs ss qs jobs (Some t))
+            (batch_statements jobs (Some t)) s o.batches_last m);
+      }
+
+  -- a batch ends
+  ordered_end : (t : Told) → IsOrdered (parts bs ss qs jobs (Some t)) →
+      MayEnd (parts bs ss qs jobs (Some t)) → IsOrdered (parts bs ss qs (jobs ++ t ∷ []) None)
+  ordered_end t o m =
+      record {
+        buffers_first = o.buffers_first;
+        semaphores_next = o.semaphores_next;
+        queues_next = o.queues_next;
+        batches_last =
+            subst (λ (xs : List Statement). Leads (declarations bs ss qs) xs
+            (parts bs ss qs (jobs ++ t ∷ []) None))
+            (append_assoc (flat_map job_statements jobs) (BeginBatch t.0 ∷ t.1) (EndBatch ∷ [])
+            ∙ sym (append-nil (flat_map job_statements (jobs ++ t ∷ []))
+            ∙ (flat_map-append job_statements jobs (t ∷ [])
+            ∙ ap (λ (xs : List Statement). flat_map job_statements jobs ++ xs)
+            (append-nil (job_statements t)))))
+            (leads_push (declarations bs ss qs) (parts bs ss qs jobs (Some t))
+            (batch_statements jobs (Some t)) EndBatch o.batches_last m);
+      }
+
+module _ (p : Parts) (o : IsOrdered p) where
+  -- before the first batch
+  ordered_first : (cs : List Buffer) (ts : List Semaphore) (rs : List Queue) → p.jobs ≡ [] →
+      p.batch ≡ None → IsOrdered (declarations cs ts rs) → IsOrdered (parts cs ts rs p.jobs p.batch)
+  ordered_first cs ts rs first outside k =
+      subst (λ (z : List Told × Option Told). IsOrdered (parts cs ts rs z.0 z.1))
+      (λ i. (sym first i, sym outside i)) k
+
+  -- a statement of a batch
+  ordered_more_item : (s : Statement) → (m : MayItem p s) →
+      May (parts p.buffers p.semaphores p.queues p.jobs (Some m.told)) s →
+      after (parts p.buffers p.semaphores p.queues p.jobs (Some m.told)) s
+      ≡ parts p.buffers p.semaphores p.queues p.jobs (with_item (Some m.told) s) →
+      IsOrdered (after_item p s)
+  ordered_more_item s m may is =
+      let same : p ≡ parts p.buffers p.semaphores p.queues p.jobs (Some m.told) =
+      λ i. parts p.buffers p.semaphores p.queues p.jobs (m.inside i) in
+      subst (λ (b : Option Told). IsOrdered
+      (parts p.buffers p.semaphores p.queues p.jobs (with_item b s))) (sym m.inside)
+      (ordered_item p.buffers p.semaphores p.queues p.jobs m.told s (subst IsOrdered same o) may is)
+
+  -- Parts in order stay so.
+  ordered_more : (s : Statement) → May p s → IsOrdered (after p s)
+  ordered_more (DeclareBuffer name size) m =
+      let same : p ≡ declarations p.buffers p.semaphores p.queues =
+      λ i. parts p.buffers p.semaphores p.queues (m.first i) (m.outside i) in
+      ordered_first (p.buffers ++ a_buffer name size ∷ []) p.semaphores p.queues m.first m.outside
+      (ordered_buffer p.buffers p.semaphores p.queues (subst IsOrdered same o) name size
+      (subst (λ (x : Parts). MayBuffer x name size) same m))
+  ordered_more (DeclareSemaphore name kind) m =
+      let same : p ≡ declarations p.buffers p.semaphores p.queues =
+      λ i. parts p.buffers p.semaphores p.queues (m.first i) (m.outside i) in
+      ordered_first p.buffers (p.semaphores ++ a_semaphore name kind ∷ []) p.queues m.first
+      m.outside
+      (ordered_semaphore p.buffers p.semaphores p.queues (subst IsOrdered same o) name kind
+      (subst (λ (x : Parts). MaySemaphore x name kind) same m))
+  ordered_more (DeclareQueue name mode) m =
+      let same : p ≡ declarations p.buffers p.semaphores p.queues =
+      λ i. parts p.buffers p.semaphores p.queues (m.first i) (m.outside i) in
+      ordered_first p.buffers p.semaphores (p.queues ++ a_queue name mode ∷ []) m.first m.outside
+      (ordered_queue p.buffers p.semaphores p.queues (subst IsOrdered same o) name mode
+      (subst (λ (x : Parts). MayQueue x name mode) same m))
+  ordered_more (BeginBatch q) m =
+      let same : p ≡ parts p.buffers p.semaphores p.queues p.jobs None =
+      λ i. parts p.buffers p.semaphores p.queues p.jobs (m.outside i) in
+      ordered_begin p.buffers p.semaphores p.queues p.jobs q (subst IsOrdered same o)
+      (subst (λ (x : Parts). May x (BeginBatch q)) same m)
+  ordered_more (AddWait pair from) m =
+      ordered_more_item (AddWait pair from) m
+      (subst (λ (b : Option Told). May (parts p.buffers p.semaphores p.queues p.jobs b)
+      (AddWait pair from)) m.inside m) refl
+  ordered_more (AddCommand c) m =
+      ordered_more_item (AddCommand c) m
+      (subst (λ (b : Option Told). May (parts p.buffers p.semaphores p.queues p.jobs b)
+      (AddCommand c)) m.inside m) refl
+  ordered_more (AddSignal pair) m =
+      ordered_more_item (AddSignal pair) m
+      (subst (λ (b : Option Told). May (parts p.buffers p.semaphores p.queues p.jobs b)
+      (AddSignal pair)) m.inside m) refl
+  ordered_more (AddFence f) m =
+      ordered_more_item (AddFence f) m
+      (subst (λ (b : Option Told). May (parts p.buffers p.semaphores p.queues p.jobs b)
+      (AddFence f)) m.inside m) refl
+  ordered_more EndBatch m =
+      let same : p ≡ parts p.buffers p.semaphores p.queues p.jobs (Some m.told) =
+      λ i. parts p.buffers p.semaphores p.queues p.jobs (m.inside i) in
+      subst (λ (b : Option Told). IsOrdered
+      (parts p.buffers p.semaphores p.queues (with_batch p.jobs b) None)) (sym m.inside)
+      (ordered_end p.buffers p.semaphores p.queues p.jobs m.told (subst IsOrdered same o)
+      (subst MayEnd same m))
+  ordered_more s m = absurd m
 
 -- Reading
 
@@ -291,6 +410,7 @@ record SayOrdered (before : List Line) : Type 0 where
   said : Parts
   say : Say before said
   ordered : IsOrdered said
+  items : HasItems said
 
 -- no lines
 nothing_ordered : SayOrdered []
@@ -299,10 +419,12 @@ nothing_ordered =
       said = no_parts;
       say = say_nothing;
       ordered = record {
-        buffers_first = record { all = tt; ends = refl };
-        queue_next = record { all = tt; ends = refl };
-        batches_last = record { all = tt; ends = refl };
+        buffers_first = refl;
+        semaphores_next = refl;
+        queues_next = refl;
+        batches_last = refl;
       };
+      items = no_items;
     }
 
 same_lines : (a b : List Line) → ◌≡◌ {A = Result (List Line) FaultKind} (Ok a) (Ok b) → a ≡ b
@@ -331,8 +453,9 @@ ordered_line form before n (word ∷ words) now k h =
         subst SayOrdered is
         (record {
           said = after k.said m.0;
-          say = say_more before n k.said m.0 k.say may;
-          ordered = ordered_more k.said m.0 k.ordered may;
+          say = say_more before n k.said k.say m.0 may;
+          ordered = ordered_more k.said k.ordered m.0 may;
+          items = items_more k.said m.0 k.items may;
         })
     by_fault (Some kind) e h = absurd (never kind h)
       where
@@ -371,7 +494,7 @@ said_script lines p h none = λ i.
     record {
       version = h.version i;
       buffers = h.buffers_are i;
-      semaphores = map semaphore_without_line (h.no_semaphores i);
+      semaphores = h.semaphores_are i;
       queues = h.queues_are i;
       jobs = jobs i;
       scheduled = h.unscheduled i;
@@ -382,13 +505,14 @@ said_script lines p h none = λ i.
     jobs =
         ap (λ (ls : List Line). map job_without_lines (jobs_of ls)) (sym (append-nil lines))
         ∙ (h.jobs_are []
-        ∙ (ap (λ (b : Option (List Command)). map a_job p.jobs ++ continued b []) none
+        ∙ (ap (λ (b : Option Told). map a_job p.jobs ++ continued b []) none
         ∙ append-nil (map a_job p.jobs)))
 
 -- a script of parts in order, up to line numbers
 pub record HasParts (s : Script) : Type 0 where
   pub said : Parts
   pub ordered : IsOrdered said
+  pub items : HasItems said
   pub closed : said.batch ≡ None
   pub same : without_lines s ≡ script_of_parts said
 
@@ -408,10 +532,10 @@ text_has_parts text form s h = by_result (read_lines form [] 1 (lines_of text)) 
     ends Scheduled Outside = true
     ends form other = false
 
-    no_batch : (f : Form) (b : Option (List Command)) → ends f (part_of_batch b) ≡ false → b ≡ None
+    no_batch : (f : Form) (b : Option Told) → ends f (part_of_batch b) ≡ false → b ≡ None
     no_batch f None e = refl
-    no_batch Plain (Some cs) e = absurd (false≢true (sym e))
-    no_batch Scheduled (Some cs) e = absurd (false≢true (sym e))
+    no_batch Plain (Some t) e = absurd (false≢true (sym e))
+    no_batch Scheduled (Some t) e = absurd (false≢true (sym e))
 
     by_result : (r : Result (List Line) (ℕ × FaultKind)) →
         read_lines form [] 1 (lines_of text) ≡ r → of_lines r ≡ Ok s → HasParts s
@@ -422,6 +546,7 @@ text_has_parts text form s h = by_result (read_lines form [] 1 (lines_of text)) 
         (record {
           said = k.0.said;
           ordered = k.0.ordered;
+          items = k.0.items;
           closed = closed;
           same = said_script lines k.0.said k.0.say closed;
         })

@@ -103,21 +103,21 @@ commands_are s j = part_is (λ x. x.commands) [] s j ∙ by_job (slice_get s.job
 
 -- The operations of a plan
 
-op_is : (s : Script) (e : ℕ) → slice_get (plan_of s).ops e ≡ option_map (λ x. op_at s (e, x)) (slice_get (all_signals s) e)
+pub op_is : (s : Script) (e : ℕ) → slice_get (plan_of s).ops e ≡ option_map (λ x. op_at s (e, x)) (slice_get (all_signals s) e)
 op_is s e = get-map (op_at s) (enumerate_from 0 (all_signals s)) e ∙ (ap (option_map (op_at s)) (get-enumerate 0 (all_signals s) e) ∙ by_op (slice_get (all_signals s) e))
   where
     by_op : (o : Option Signaling) → option_map (op_at s) (option_map (λ x. (0 + e, x)) o) ≡ option_map (λ x. op_at s (e, x)) o
     by_op None = refl
     by_op (Some x) = let f = λ (n : ℕ). Some (op_at s (n, x)) in let q : 0 + e ≡ e = omega arith in ap f q
 
-op_job_is : (s : Script) (e : ℕ) → job_of (plan_of s) e ≡ option_map (λ x. x.job) (slice_get (all_signals s) e)
+pub op_job_is : (s : Script) (e : ℕ) → job_of (plan_of s) e ≡ option_map (λ x. x.job) (slice_get (all_signals s) e)
 op_job_is s e = ap (option_map (λ o. o.job)) (op_is s e) ∙ by_op (slice_get (all_signals s) e)
   where
     by_op : (o : Option Signaling) → option_map (λ x. x.job) (option_map (λ x. op_at s (e, x)) o) ≡ option_map (λ x. x.job) o
     by_op None = refl
     by_op (Some x) = refl
 
-op_chain_is : (s : Script) (e : ℕ) → chain_of (plan_of s) e ≡ option_map (λ x. x.semaphore) (slice_get (all_signals s) e)
+pub op_chain_is : (s : Script) (e : ℕ) → chain_of (plan_of s) e ≡ option_map (λ x. x.semaphore) (slice_get (all_signals s) e)
 op_chain_is s e = ap (option_map (λ o. o.chain)) (op_is s e) ∙ by_op (slice_get (all_signals s) e)
   where
     by_op : (o : Option Signaling) → option_map (λ x. x.chain) (option_map (λ x. op_at s (e, x)) o) ≡ option_map (λ x. x.semaphore) o
@@ -243,7 +243,7 @@ no_value s earlier [] e h = refl
 no_value s earlier (x ∷ xs) zero h = absurd (let c : Some x ≡ None = h in cc)
 no_value s earlier (x ∷ xs) (suc e) h = no_value s (earlier ++ x ∷ []) xs e h
 
-op_value_is : (s : Script) (e : ℕ) → value (plan_of s) e ≡ value_at s e
+pub op_value_is : (s : Script) (e : ℕ) → value (plan_of s) e ≡ value_at s e
 op_value_is s e = ap (λ o. option_map_or (λ x. x.value) o 0) (op_is s e) ∙ by_op (slice_get (all_signals s) e) refl
   where
     by_op : (o : Option Signaling) → slice_get (all_signals s) e ≡ o → option_map_or (λ x. x.value) (option_map (λ x. op_at s (e, x)) o) 0 ≡ value_at s e
@@ -289,7 +289,7 @@ some_of f (Some x) y e = (x, refl, cc)
 same_signal : (x y : Signaling) → Some x ≡ Some y → x ≡ y
 same_signal x y e = cc
 
-each_job : (a : ℕ) (job : Job) (i : ℕ) (x : Signaling) → slice_get (job_signals (a, job)) i ≡ Some x → x.job ≡ a
+pub each_job : (a : ℕ) (job : Job) (i : ℕ) (x : Signaling) → slice_get (job_signals (a, job)) i ≡ Some x → x.job ≡ a
 each_job a (Host h) i x e = by_step h.step e
   where
     absent : {A : Type 0} → None ≡ Some x → A
@@ -307,15 +307,15 @@ each_job a (Batch b) i x e =
     ap (λ z. z.job) (sym m.2)
 
 -- the job of a signal
-record IsOf (a : ℕ) (jobs : List Job) (x : Signaling) : Type 0 where
-  place : ℕ
-  number : a + place ≡ x.job
-  job : Job
-  is : slice_get jobs place ≡ Some job
-  line : ℕ
-  among : slice_get (job_signals (a + place, job)) line ≡ Some x
+pub record IsOf (a : ℕ) (jobs : List Job) (x : Signaling) : Type 0 where
+  pub place : ℕ
+  pub number : a + place ≡ x.job
+  pub job : Job
+  pub is : slice_get jobs place ≡ Some job
+  pub line : ℕ
+  pub among : slice_get (job_signals (a + place, job)) line ≡ Some x
 
-owner : (a : ℕ) (jobs : List Job) (e : ℕ) (x : Signaling) → slice_get (flat_map job_signals (enumerate_from a jobs)) e ≡ Some x → IsOf a jobs x
+pub owner : (a : ℕ) (jobs : List Job) (e : ℕ) (x : Signaling) → slice_get (flat_map job_signals (enumerate_from a jobs)) e ≡ Some x → IsOf a jobs x
 owner a [] e x g = absurd (let c : None ≡ Some x = g in cc)
 owner a (job ∷ jobs) e x g = by_place (cases_lt e (length (job_signals (a, job)))) (owner (a + 1) jobs)
   where
@@ -375,19 +375,19 @@ command_from (x ∷ jobs) (suc j) k job e l =
 -- The last of the first jobs
 
 -- the last job that passes a test
-record IsLast (n : ℕ) (test : Job → Bool) (jobs : List Job) (found : Option ℕ) : Type 0 where
-  place : ℕ
-  is_found : last_from n test jobs found ≡ Some (n + place)
-  job : Job
-  is : slice_get jobs place ≡ Some job
-  passes : test job ≡ true
-  none_after : (m : ℕ) (y : Job) → place < m → slice_get jobs m ≡ Some y → test y ≡ false
+pub record IsLast (n : ℕ) (test : Job → Bool) (jobs : List Job) (found : Option ℕ) : Type 0 where
+  pub place : ℕ
+  pub is_found : last_from n test jobs found ≡ Some (n + place)
+  pub job : Job
+  pub is : slice_get jobs place ≡ Some job
+  pub passes : test job ≡ true
+  pub none_after : (m : ℕ) (y : Job) → place < m → slice_get jobs m ≡ Some y → test y ≡ false
 
-record HasNone (n : ℕ) (test : Job → Bool) (jobs : List Job) (found : Option ℕ) : Type 0 where
-  same : last_from n test jobs found ≡ found
-  none : (m : ℕ) (y : Job) → slice_get jobs m ≡ Some y → test y ≡ false
+pub record HasNone (n : ℕ) (test : Job → Bool) (jobs : List Job) (found : Option ℕ) : Type 0 where
+  pub same : last_from n test jobs found ≡ found
+  pub none : (m : ℕ) (y : Job) → slice_get jobs m ≡ Some y → test y ≡ false
 
-last_cases : (n : ℕ) (test : Job → Bool) (jobs : List Job) (found : Option ℕ) → HasNone n test jobs found ⊎ IsLast n test jobs found
+pub last_cases : (n : ℕ) (test : Job → Bool) (jobs : List Job) (found : Option ℕ) → HasNone n test jobs found ⊎ IsLast n test jobs found
 last_cases n test [] found = inl (record { same = refl; none = λ m y e. absurd (let c : None ≡ Some y = e in cc) })
 last_cases n test (x ∷ jobs) found = by_rest (last_cases (n + 1) test jobs (cond (test x) (Some n) found))
   where

@@ -11,10 +11,10 @@ use Rattle.vq_laws.specs.Ranges.{Range, written_range, read_range, share, confli
 use Rattle.vq_laws.specs.Plan.{Plan, command_at, has, chain, initial, value, job_of, chain_of, line_of_op, line_of_command}
 use Rattle.vq_laws.specs.Edges.{AtEnd, place_of}
 use Rattle.vq_laws.specs.WellFormed.{AreInOrder, IsWellFormed}
-use Rattle.vq_laws.specs.Races.{conflicts, HasNoRace, HasSureOrder}
+use Rattle.vq_laws.specs.Races.{conflicts, HasNoRace}
 use Rattle.vq_laws.specs.HappensBefore.{HappensBeforeCommand}
 use Rattle.vq_laws.specs.Sure.{IsSure, IsSureForJobOf, KeepsRising, RisesFrom}
-use Rattle.vq_laws.specs.Checks.{NoLines, IsRaceAt, IsUnordered, too_low, equal, unsure, unsure_back, is_timeline_chain, IsLawful}
+use Rattle.vq_laws.specs.Checks.{NoLines, IsRaceAt, IsUnordered, too_low, equal, unsure, unsure_back, is_timeline_chain}
 use Rattle.vq_laws.proofs.Decides.{before_decides, sure_decides}
 use Rattle.vq_laws.proofs.Lists.{has-append_right, has_here}
 use Rattle.vq_laws.proofs.PlanLaws.{get-append}
@@ -98,7 +98,7 @@ op_job p e t c = by_op (slice_get p.ops e) refl c
     by_op None i h = absurd (let k : None ≡ Some t = h in cc)
     by_op (Some x) i h = (x.job, ap (option_map (λ y. y.job)) i)
 
-order_from : (p : Plan) (front back : List ℕ) → AreInOrder p (front ++ back) → AreInOrder p back
+pub order_from : (p : Plan) (front back : List ℕ) → AreInOrder p (front ++ back) → AreInOrder p back
 order_from p [] back r = r
 order_from p (x ∷ front) back r = order_from p front back r.1
 
@@ -148,11 +148,3 @@ module _ (p : Plan) (w : IsWellFormed p) (ordered : NoLines (IsUnordered p)) (t 
         ],
         rising [] e es q,
       )
-
--- a lawful plan has a sure order
-pub lawful_has_sure_order : (p : Plan) → IsWellFormed p → IsLawful p → HasSureOrder p
-lawful_has_sure_order p w l = record { reachable = l.reachable; chains = λ t. by_kind t (is_timeline_chain p t) refl; no_race = rows_order_commands p l.race_free }
-  where
-    by_kind : (t : ℕ) (b : Bool) → is_timeline_chain p t ≡ b → RisesFrom p (initial p t) (chain p t)
-    by_kind t true e = rows_order_timelines p w l.ordered t e
-    by_kind t false e = l.counted t e

@@ -1,370 +1,44 @@
--- A script that a text stands for is valid and has one lane.
-use Rattle.std.proofs.Common.{◌≡◌, ℕ, zero, suc, ◌+◌, ◌<◌, ◌≤◌, Bool, true, false, cond, not, List, [], ◌∷◌, ◌++◌, append-nil, length, length-append, map, fold, take, Option, Some, None, Ok, Err, refl, sym, ap, ◌∙◌, subst, arith}
-use Rattle.std.specs.Prelude.{Result, sum}
-use Rattle.std.specs.List.{slice_get, slice_index_or, filter_map, cons_option, position_or_len, flat_map}
-use Rattle.std.specs.Option.{option_map_or}
-use Rattle.std.proofs.lemmas.List.{map-append}
-use Rattle.std.proofs.lemmas.List.Elements.{filter_map-append}
-use Rattle.std.proofs.lemmas.List.Sums.{sum_by-cons, sum_by-append}
-use Rattle.std.proofs.lemmas.Bool.{or_from}
-use Rattle.vq_laws.specs.declared.statement.Form.{Form}
-use Rattle.vq_laws.specs.declared.statement.FaultKind.{FaultKind}
-use Rattle.vq_laws.specs.declared.statement.FaultKind.TheVariants.{Syntax}
-use Rattle.vq_laws.specs.declared.statement.Section.{Section}
-use Rattle.vq_laws.specs.declared.statement.Section.TheVariants.{Outside, InBatch, InSchedule}
+-- What the script keeps for which lines stand: its batches name what exists, limits are kept, and
+-- no form stands that isn't built.
+use Rattle.std.proofs.Common.{◌≡◌, ℕ, zero, suc, ◌+◌, ◌-◌, ◌<◌, ◌≤◌, Bool, true, false, cond, not, ◌⊎◌, List, [], ◌∷◌, ◌++◌, length, map, take, Option, Some, None, inl, inr, refl, sym, ap, ◌∙◌, subst, arith}
+use Rattle.std.specs.Prelude.{sum, All}
+use Rattle.std.specs.List.{AllByRecursion as Every}
+use Rattle.std.specs.List.{slice_get, filter_map, position_or_len, flat_map, enumerate_from}
+use Rattle.std.specs.Option.{option_map, option_map_or, option_to_list}
+use Rattle.std.proofs.lemmas.List.{length-map}
+use Rattle.std.proofs.lemmas.List.Elements.{All-nil, All-cons, All-head, All-tail}
+use Rattle.std.proofs.lemmas.List.Sums.{sum_by-cons}
+use Rattle.std.proofs.lemmas.Bool.{or_from, false≢true}
 use Rattle.vq_laws.specs.declared.statement.Statement.{Statement}
-use Rattle.vq_laws.specs.declared.statement.Statement.TheVariants.{DeclareBuffer, DeclareQueue, BeginBatch, AddCommand, EndBatch}
+use Rattle.vq_laws.specs.declared.statement.Statement.TheVariants.{DeclareBuffer, DeclareSemaphore, DeclareQueue, BeginBatch, AddWait, AddCommand, AddSignal, AddFence, EndBatch}
 use Rattle.vq_laws.specs.declared.statement.Line.{Line}
+use Rattle.vq_laws.specs.declared.statement.Form.{Form}
+use Rattle.vq_laws.specs.Reading.{StandsFor}
 use Rattle.vq_laws.specs.declared.script.Script.{Script}
-use Rattle.vq_laws.specs.declared.script.Buffer.{Buffer}
+use Rattle.vq_laws.specs.declared.script.Semaphore.{Semaphore}
+use Rattle.vq_laws.specs.declared.script.SemaphoreKind.{SemaphoreKind}
+use Rattle.vq_laws.specs.declared.script.SemaphoreKind.TheVariants.{Fence}
+use Rattle.vq_laws.specs.declared.script.Queue.{Queue}
+use Rattle.vq_laws.specs.declared.script.Mode.{Mode}
+use Rattle.vq_laws.specs.declared.script.Pair.{Pair}
+use Rattle.vq_laws.specs.declared.script.Mark.{Mark}
+use Rattle.vq_laws.specs.declared.script.Batch.{Batch}
 use Rattle.vq_laws.specs.declared.script.Job.{Job}
+use Rattle.vq_laws.specs.declared.script.Job.TheVariants.{Host, Batch as BatchJob}
 use Rattle.vq_laws.specs.declared.script.CommandLine.{CommandLine}
 use Rattle.vq_laws.specs.declared.script.Command.{Command}
-use Rattle.vq_laws.specs.declared.script.Command.TheVariants.{Fill, Update, Copy}
-use Rattle.vq_laws.specs.declared.script.FillSize.TheVariants.{Whole, Count}
-use Rattle.vq_laws.specs.Context.{section_after, section, buffer_of, buffers, semaphore_of, queue_of, queues, is_end, is_command, count, some, version_of}
+use Rattle.vq_laws.specs.Context.{is_immediate, is_fence, is_timeline, is_end, is_command, count, some, version_of}
 use Rattle.vq_laws.specs.ScriptOfLines.{script_of, batch_lines, wait_of, command_of, signal_of, fence_of, first_of_list, jobs_of, is_schedule, turns_at}
-use Rattle.vq_laws.specs.Reading.{with_line, without_fault, read_line, read_statement, read_lines, go_on, StandsFor}
-use Rattle.vq_laws.specs.LineFaults.{fault_of, ends_early}
-use Rattle.vq_laws.specs.Meaning.{meaning}
-use Rattle.vq_laws.specs.Text.{words_of, lines_of}
 use Rattle.vq_laws.specs.Limits.{is_job}
-use Rattle.vq_laws.specs.Ranges.{Fits, IsWithin, fill_size}
+use Rattle.vq_laws.specs.Ranges.{Fits}
 use Rattle.vq_laws.specs.Lowering.{batch_commands, commands_in}
-use Rattle.vq_laws.specs.Signals.{Signaling, all_signals}
-use Rattle.vq_laws.specs.ValidScripts.{IsValid, HasOneLane, ArePlainBatches}
-use Rattle.vq_laws.proofs.Meanings.{has_meaning}
-use Rattle.vq_laws.proofs.LineFacts.{sizes_before, Said, said_of}
-use Rattle.vq_laws.proofs.OneLane.{one_lane_signals}
-
--- Commands fit as well where one more buffer is declared
-
-same_size : (sizes : List ℕ) (n b : ℕ) → b < length sizes → slice_index_or (sizes ++ n ∷ []) b 0
-    ≡ slice_index_or sizes b 0
-same_size [] n b l = absurd (omega arith)
-same_size (x ∷ sizes) n zero l = refl
-same_size (x ∷ sizes) n (suc b) l = same_size sizes n b (omega arith)
-
-within_more : (sizes : List ℕ) (n b o m : ℕ) →
-    IsWithin sizes (record { buffer = b; start = o; size = m }) →
-    IsWithin (sizes ++ n ∷ []) (record { buffer = b; start = o; size = m })
-within_more sizes n b o m w =
-    let l = w.exists in
-    let e = w.ends in
-    let s = same_size sizes n b l in
-    let c = length-append sizes (n ∷ []) in
-    record { exists = omega arith; ends = omega arith }
-
-fits_more : (sizes : List ℕ) (n : ℕ) (c : Command) → Fits sizes c → Fits (sizes ++ n ∷ []) c
-fits_more sizes n (Fill b o Whole w) f =
-    let s = same_size sizes n b f.written.exists in
-    record {
-      written =
-          subst (λ (k : ℕ). IsWithin (sizes ++ n ∷ [])
-          (record { buffer = b; start = o; size = fill_size Whole o k })) (sym s)
-          (within_more sizes n b o (fill_size Whole o (slice_index_or sizes b 0))
-          f.written);
-      read = tt;
-      aligned = f.aligned;
-      apart = refl;
-    }
-fits_more sizes n (Fill b o (Count m) w) f =
-    record {
-      written = within_more sizes n b o m f.written;
-      read = tt;
-      aligned = f.aligned;
-      apart =
-          refl;
-    }
-fits_more sizes n (Update b o bytes) f =
-    record {
-      written = within_more sizes n b o (length bytes) f.written;
-      read = tt;
-      aligned =
-          f.aligned;
-      apart = refl;
-    }
-fits_more sizes n (Copy s so t to m) f =
-    record {
-      written = within_more sizes n t to m f.written;
-      read =
-          within_more sizes n s so m f.read;
-      aligned = refl;
-      apart = f.apart;
-    }
-
--- Lines in their parts of the text
-
--- A statement stands in a part of the text, and its command fits buffers of these sizes.
-abbrev Stands : List ℕ → Section → Statement → Type 0
-Stands sizes Outside (DeclareBuffer name size) = Unit {0}
-Stands sizes Outside (DeclareQueue name mode) = Unit {0}
-Stands sizes Outside (BeginBatch q) = q ≡ 0
-Stands sizes InBatch (AddCommand c) = Fits sizes c
-Stands sizes InBatch EndBatch = Unit {0}
-Stands sizes was other = ⊥
-
--- each of these lines stands in its part, from this part on
-abbrev AllStand : List ℕ → Section → List Line → Type 0
-AllStand sizes was [] = Unit {0}
-AllStand sizes was (line ∷ lines) =
-    Stands sizes was line.statement × AllStand sizes (section_after was line.statement) lines
-
-stands_more : (sizes : List ℕ) (n : ℕ) (was : Section) (s : Statement) → Stands sizes was s →
-    Stands (sizes ++ n ∷ []) was s
-stands_more sizes n Outside (DeclareBuffer name size) h = tt
-stands_more sizes n Outside (DeclareQueue name mode) h = tt
-stands_more sizes n Outside (BeginBatch q) h = h
-stands_more sizes n InBatch (AddCommand c) h = fits_more sizes n c h
-stands_more sizes n InBatch EndBatch h = tt
-stands_more sizes n was s h = absurd h
-
-all_stand_more : (sizes : List ℕ) (n : ℕ) (was : Section) (lines : List Line) →
-    AllStand sizes was lines → AllStand (sizes ++ n ∷ []) was lines
-all_stand_more sizes n was [] h = tt
-all_stand_more sizes n was (line ∷ lines) h = (
-  stands_more sizes n was line.statement h.0,
-  all_stand_more sizes n (section_after was line.statement) lines h.1,
-)
-
--- one line more
-all_stand_push : (sizes : List ℕ) (was : Section) (lines : List Line) (n : ℕ) (s : Statement) →
-    AllStand sizes was lines →
-    Stands sizes (fold (λ w line. section_after w line.statement) was lines) s →
-    AllStand sizes was (with_line lines n s)
-all_stand_push sizes was [] n s h t = (t, tt)
-all_stand_push sizes was (line ∷ lines) n s h t =
-    (h.0, all_stand_push sizes (section_after was line.statement) lines n s h.1 t)
-
--- What is kept from line to line
-
--- What the lines keep that were read.
-record Kept (before : List Line) : Type 0 where
-  stand : AllStand (sizes_before before) Outside before
-  few_buffers : length (buffers before) ≤ 64
-  few_bytes : sum (sizes_before before) ≤ 1048576
-  one_queue : length (queues before) ≤ 1
-  few_jobs : count is_job before ≤ 4096
-  few_commands : count is_command before ≤ 8192
-
-kept_first : Kept []
-kept_first =
-    record {
-      stand = tt;
-      few_buffers = omega arith;
-      few_bytes = omega arith;
-      one_queue =
-          omega arith;
-      few_jobs = omega arith;
-      few_commands = omega arith;
-    }
-
-pub count_push : (test : Statement → Bool) (before : List Line) (n : ℕ) (s : Statement) →
-    count test (with_line before n s) ≡ count test before + cond (test s) 1 0
-count_push test before n s =
-    let e = sum_by-append (λ (line : Line). cond (test line.statement) 1 0) before
-    (record { number = n; statement = s } ∷ []) in
-    let f = sum_by-cons (λ (line : Line). cond (test line.statement) 1 0)
-    (record { number = n; statement = s }) [] in
-    omega arith
-
-buffers_push : (before : List Line) (n : ℕ) (s : Statement) → buffers (with_line before n s)
-    ≡ buffers before ++ filter_map buffer_of (record { number = n; statement = s } ∷ [])
-buffers_push before n s =
-    filter_map-append buffer_of before (record { number = n; statement = s } ∷ [])
-
-queues_push : (before : List Line) (n : ℕ) (s : Statement) → length (queues (with_line before n s))
-    ≡ length (queues before) + length
-    (filter_map queue_of (record { number = n; statement = s } ∷ []))
-queues_push before n s =
-    ap length (filter_map-append queue_of before (record { number = n; statement = s } ∷ []))
-    ∙ length-append (queues before)
-    (filter_map queue_of (record { number = n; statement = s } ∷ []))
-
--- a line that declares no buffer
-kept_plain : (before : List Line) (n : ℕ) (s : Statement) → Kept before →
-    filter_map buffer_of (record { number = n; statement = s } ∷ []) ≡ [] →
-    Stands (sizes_before before) (section before) s →
-    length (queues before) + length
-    (filter_map queue_of (record { number = n; statement = s } ∷ [])) ≤ 1 →
-    count is_job before + cond (is_job s) 1 0 ≤ 4096 →
-    count is_command before + cond (is_command s) 1 0 ≤ 8192 → Kept (with_line before n s)
-kept_plain before n s k none stands one jobs commands =
-    let same : buffers (with_line before n s) ≡ buffers before = buffers_push before n s
-    ∙ (ap (λ (bs : List Buffer). buffers before ++ bs) none ∙ append-nil (buffers before)) in
-    let sizes : sizes_before before ≡ sizes_before (with_line before n s) =
-    ap (λ (bs : List Buffer). map (λ b. b.size) bs) (sym same) in
-    let q = queues_push before n s in
-    let j = count_push is_job before n s in
-    let c = count_push is_command before n s in
-    record {
-      stand = subst (λ (zs : List ℕ). AllStand zs Outside (with_line before n s)) sizes
-          (all_stand_push (sizes_before before) Outside before n s k.stand stands);
-      few_buffers = subst (λ (bs : List Buffer). length bs ≤ 64) (sym same) k.few_buffers;
-      few_bytes = subst (λ (zs : List ℕ). sum zs ≤ 1048576) sizes k.few_bytes;
-      one_queue = omega arith;
-      few_jobs = omega arith;
-      few_commands = omega arith;
-    }
-
--- a line that declares a buffer
-kept_buffer : (before : List Line) (n : ℕ) (name : List ℕ) (size : ℕ) → Kept before →
-    section before ≡ Outside →
-    length (buffers before) < 64 → sum (sizes_before before) + size ≤ 1048576 →
-    Kept (with_line before n (DeclareBuffer name size))
-kept_buffer before n name size k outside few bytes =
-    let more : buffers (with_line before n (DeclareBuffer name size)) ≡ buffers before
-    ++ record { line = n; name = name; size = size } ∷ [] =
-    buffers_push before n (DeclareBuffer name size) in
-    let sizes : sizes_before (with_line before n (DeclareBuffer name size)) ≡ sizes_before before
-    ++ size ∷ [] =
-    ap (λ (bs : List Buffer). map (λ b. b.size) bs) more
-    ∙ map-append (λ (b : Buffer). b.size) (buffers before)
-    (record { line = n; name = name; size = size } ∷ []) in
-    let l = ap length more
-    ∙ length-append (buffers before) (record { line = n; name = name; size = size } ∷ []) in
-    let t = sum_by-append (λ (x : ℕ). x) (sizes_before before) (size ∷ []) in
-    let u = sum_by-cons (λ (x : ℕ). x) size [] in
-    let total : sum (sizes_before before ++ size ∷ []) ≤ 1048576 = omega arith in
-    let q = queues_push before n (DeclareBuffer name size) in
-    let j = count_push is_job before n (DeclareBuffer name size) in
-    let c = count_push is_command before n (DeclareBuffer name size) in
-    let kq = k.one_queue in
-    let kj = k.few_jobs in
-    let kc = k.few_commands in
-    record {
-      stand = subst
-          (λ (zs : List ℕ). AllStand zs Outside (with_line before n (DeclareBuffer name size)))
-          (sym sizes)
-          (all_stand_push (sizes_before before ++ size ∷ []) Outside before n
-          (DeclareBuffer name size)
-          (all_stand_more (sizes_before before) size Outside before k.stand)
-          (subst (λ (w : Section). Stands (sizes_before before ++ size ∷ []) w
-          (DeclareBuffer name size)) (sym outside) tt));
-      few_buffers = omega arith;
-      few_bytes = subst (λ (zs : List ℕ). sum zs ≤ 1048576) (sym sizes) total;
-      one_queue = omega arith;
-      few_jobs = omega arith;
-      few_commands = omega arith;
-    }
-
--- A line without a fault keeps all this.
-kept_more : (before : List Line) (n : ℕ) (s : Statement) → Kept before →
-    Said before (section before) s → Kept (with_line before n s)
-kept_more before n s k said = by_section (section before) s refl said
-  where
-    kq : length (queues before) ≤ 1
-    kq = k.one_queue
-
-    kj : count is_job before ≤ 4096
-    kj = k.few_jobs
-
-    kc : count is_command before ≤ 8192
-    kc = k.few_commands
-
-    by_section : (was : Section) (s : Statement) → section before ≡ was → Said before was s →
-        Kept (with_line before n s)
-    by_section Outside (DeclareBuffer name size) e h = kept_buffer before n name size k e h.0 h.1
-    by_section Outside (DeclareQueue name mode) e h =
-        kept_plain before n (DeclareQueue name mode) k refl
-        (subst (λ (w : Section). Stands (sizes_before before) w (DeclareQueue name mode))
-        (sym e) tt) (omega arith) (omega arith) (omega arith)
-    by_section Outside (BeginBatch q) e h =
-        let l = h.0 in
-        let m = h.1 in
-        let first : q ≡ 0 = omega arith in
-        kept_plain before n (BeginBatch q) k refl
-        (subst (λ (w : Section). Stands (sizes_before before) w (BeginBatch q)) (sym e) first)
-        (omega arith) (omega arith) (omega arith)
-    by_section InBatch (AddCommand c) e h =
-        let l = h.1 in
-        kept_plain before n (AddCommand c) k refl
-        (subst (λ (w : Section). Stands (sizes_before before) w (AddCommand c)) (sym e) h.0)
-        (omega arith) (omega arith) (omega arith)
-    by_section InBatch EndBatch e h =
-        kept_plain before n EndBatch k refl
-        (subst (λ (w : Section). Stands (sizes_before before) w EndBatch) (sym e) tt)
-        (omega arith) (omega arith) (omega arith)
-    by_section was s e h = absurd h
-
--- Reading
-
-kept_line : (form : Form) (before : List Line) (n : ℕ) (words : List (List ℕ)) (now : List Line) →
-    Kept before →
-    read_statement form before n words ≡ Ok now → Kept now
-kept_line form before n [] now k h = let same : before ≡ now = cc in subst Kept same k
-kept_line form before n (word ∷ words) now k h =
-    by_fault (fault_of form before (word ∷ words)) refl h
-  where
-    by_fault : (o : Option FaultKind) → fault_of form before (word ∷ words) ≡ o →
-        without_fault o
-        (option_map_or (with_line before n) (meaning form before (word ∷ words)) before)
-        ≡ Ok now → Kept now
-    by_fault None e h =
-        let m = has_meaning form before (word ∷ words) e in
-        let is : with_line before n m.0 ≡ now =
-        sym (ap (λ (o : Option Statement). option_map_or (with_line before n) o before) m.1)
-        ∙ same_lines
-        (option_map_or (with_line before n) (meaning form before (word ∷ words)) before) now
-        h in
-        subst Kept is (kept_more before n m.0 k (said_of before form (word ∷ words) m.0 e m.1))
-      where
-        same_lines : (a b : List Line) → ◌≡◌ {A = Result (List Line) FaultKind} (Ok a) (Ok b) →
-            a ≡ b
-        same_lines a b e = cc
-    by_fault (Some kind) e h = absurd (never kind h)
-      where
-        never : (kind : FaultKind) → ◌≡◌ {A = Result (List Line) FaultKind} (Err kind) (Ok now) → ⊥
-        never kind h = cc
-
-kept_lines : (form : Form) (before : List Line) (n : ℕ) (lines : List (List ℕ)) (all : List Line) →
-    Kept before →
-    read_lines form before n lines ≡ Ok all → Kept all
-kept_lines form before n [] all k h = by_end (ends_early form before) h
-  where
-    by_end : (b : Bool) →
-        cond {A = Result (List Line) (ℕ × FaultKind)} b (Err (n, Syntax)) (Ok before) ≡ Ok all →
-        Kept all
-    by_end true h = absurd (cc)
-    by_end false h = let same : before ≡ all = cc in subst Kept same k
-kept_lines form before n (line ∷ lines) all k h =
-    by_line (read_line form before n line) refl h (λ now. kept_lines form now (n + 1) lines all)
-  where
-    by_line : (r : Result (List Line) FaultKind) → read_line form before n line ≡ r →
-        go_on n (λ now. read_lines form now (n + 1) lines) r ≡ Ok all →
-        ((now : List Line) → Kept now → read_lines form now (n + 1) lines ≡ Ok all → Kept all) →
-        Kept all
-    by_line (Ok now) e h more = more now (kept_line form before n (words_of line) now k e) h
-    by_line (Err kind) e h more = absurd (cc)
-
--- the script of what was read
-abbrev of_lines : Result (List Line) (ℕ × FaultKind) → Result Script (ℕ × FaultKind)
-of_lines (Ok lines) = Ok (script_of lines)
-of_lines (Err fault) = Err fault
-
--- a script of lines that keep all this
-record IsOfLines (s : Script) : Type 0 where
-  lines : List Line
-  kept : Kept lines
-  whole : script_of lines ≡ s
-
-of_text : (text : List ℕ) (form : Form) (s : Script) → StandsFor text form s → IsOfLines s
-of_text text form s h = by_result (read_lines form [] 1 (lines_of text)) refl h
-  where
-    same_script : (a b : Script) → ◌≡◌ {A = Result Script (ℕ × FaultKind)} (Ok a) (Ok b) → a ≡ b
-    same_script a b e = cc
-
-    by_result : (r : Result (List Line) (ℕ × FaultKind)) →
-        read_lines form [] 1 (lines_of text) ≡ r → of_lines r ≡ Ok s → IsOfLines s
-    by_result (Ok lines) e h =
-        record {
-          lines = lines;
-          kept = kept_lines form [] 1 (lines_of text) lines kept_first e;
-          whole = same_script (script_of lines) s h;
-        }
-    by_result (Err fault) e h = absurd (cc)
-
--- The script of lines
+use Rattle.vq_laws.specs.Signals.{Signaling, all_signals, job_signals, of_mark, kind_of}
+use Rattle.vq_laws.specs.ValidScripts.{IsValid, IsValidMark, IsValidFence, IsValidBatch, HasValidBatches, WaitsWhole, AreWholeBatches, IsOfBatches, is_immediate_queue}
+use Rattle.vq_laws.proofs.PlanLaws.{get-map, get_within}
+use Rattle.vq_laws.proofs.LinePushes.{a_line}
+use Rattle.vq_laws.proofs.LineFacts.{sizes_before, IsMarkOf}
+use Rattle.vq_laws.proofs.Standing.{Declarations, declared_by, Where, is_outside, is_inside, where_after, IsHeld, Stands, StandsWait, AllStand}
+use Rattle.vq_laws.proofs.ReadLines.{Kept, of_text}
 
 -- the lines of a batch, line by line
 pub batch_lines_cons : (line : Line) (lines : List Line) → batch_lines (line ∷ lines)
@@ -380,320 +54,571 @@ batch_lines_cons line lines = by_test (is_end line.statement)
         ≡ suc (position_or_len (λ l. is_end l.statement) lines) =
         omega arith in ap (λ (k : ℕ). take k (line ∷ lines)) e
 
--- what no line that stands declares or adds
-module _ {X : Type 0} (sizes : List ℕ) (part : Line → Option X)
-    (none : (n : ℕ) (was : Section) (s : Statement) → Stands sizes was s →
-    part (record { number = n; statement = s }) ≡ None) where
-  none_of : (was : Section) (lines : List Line) → AllStand sizes was lines → filter_map part lines
-      ≡ []
-  none_of was [] a = refl
-  none_of was (line ∷ lines) a =
-      ap (λ (o : Option X). cons_option o (filter_map part lines))
-      (none line.number was line.statement a.0)
-      ∙ none_of (section_after was line.statement) lines a.1
+-- Batches of what is declared
 
-  none_in_batch : (was : Section) (lines : List Line) → AllStand sizes was lines →
-      filter_map part (batch_lines lines) ≡ []
-  none_in_batch was [] a = refl
-  none_in_batch was (line ∷ lines) a =
-      ap (filter_map part) (batch_lines_cons line lines)
-      ∙ by_test (is_end line.statement)
-      (none_in_batch (section_after was line.statement) lines a.1)
-    where
-      by_test : (b : Bool) → filter_map part (batch_lines lines) ≡ [] →
-          filter_map part (cond b [] (line ∷ batch_lines lines)) ≡ []
-      by_test true e = refl
-      by_test false e =
-          ap (λ (o : Option X). cons_option o (filter_map part (batch_lines lines)))
-          (none line.number was line.statement a.0) ∙ e
+-- what holds of each, one after another
+every_append : {X : Type 0} (P : X → Type 0) (xs ys : List X) → Every P xs → Every P ys →
+    Every P (xs ++ ys)
+every_append P [] ys a b = b
+every_append P (x ∷ xs) ys a b = (a.0, every_append P xs ys a.1 b)
 
-no_semaphore : (sizes : List ℕ) (n : ℕ) (was : Section) (s : Statement) → Stands sizes was s →
-    semaphore_of (record { number = n; statement = s }) ≡ None
-no_semaphore sizes n Outside (DeclareBuffer name size) h = refl
-no_semaphore sizes n Outside (DeclareQueue name mode) h = refl
-no_semaphore sizes n Outside (BeginBatch q) h = refl
-no_semaphore sizes n InBatch (AddCommand c) h = refl
-no_semaphore sizes n InBatch EndBatch h = refl
-no_semaphore sizes n was s h = absurd h
+every_map : {X Y : Type 0} (P : Y → Type 0) (f : X → Y) (xs : List X) → Every (λ x. P (f x)) xs →
+    Every P (map f xs)
+every_map P f [] a = tt
+every_map P f (x ∷ xs) a = (a.0, every_map P f xs a.1)
 
-no_wait : (sizes : List ℕ) (n : ℕ) (was : Section) (s : Statement) → Stands sizes was s →
-    wait_of (record { number = n; statement = s }) ≡ None
-no_wait sizes n Outside (DeclareBuffer name size) h = refl
-no_wait sizes n Outside (DeclareQueue name mode) h = refl
-no_wait sizes n Outside (BeginBatch q) h = refl
-no_wait sizes n InBatch (AddCommand c) h = refl
-no_wait sizes n InBatch EndBatch h = refl
-no_wait sizes n was s h = absurd h
+-- .. holds at each place
+of_every : {X : Type 0} (P : X → Type 0) (xs : List X) → Every P xs → All P xs
+of_every P [] a = All-nil P
+of_every P (x ∷ xs) a = All-cons P x xs a.0 (of_every P xs a.1)
 
-no_signal : (sizes : List ℕ) (n : ℕ) (was : Section) (s : Statement) → Stands sizes was s →
-    signal_of (record { number = n; statement = s }) ≡ None
-no_signal sizes n Outside (DeclareBuffer name size) h = refl
-no_signal sizes n Outside (DeclareQueue name mode) h = refl
-no_signal sizes n Outside (BeginBatch q) h = refl
-no_signal sizes n InBatch (AddCommand c) h = refl
-no_signal sizes n InBatch EndBatch h = refl
-no_signal sizes n was s h = absurd h
+abbrev pair_of : Mark → Pair
+pair_of m = record { semaphore = m.semaphore; value = m.value }
 
-no_fence : (sizes : List ℕ) (n : ℕ) (was : Section) (s : Statement) → Stands sizes was s →
-    fence_of (record { number = n; statement = s }) ≡ None
-no_fence sizes n Outside (DeclareBuffer name size) h = refl
-no_fence sizes n Outside (DeclareQueue name mode) h = refl
-no_fence sizes n Outside (BeginBatch q) h = refl
-no_fence sizes n InBatch (AddCommand c) h = refl
-no_fence sizes n InBatch EndBatch h = refl
-no_fence sizes n was s h = absurd h
+-- a wait, a signal, a fence, a command of these declarations
+abbrev IsWaitOf : Declarations → Mark → Type 0
+IsWaitOf d m = IsMarkOf d.kinds (pair_of m) × (m.from ≡ 1)
 
--- commands that fit
-abbrev AllFit : List ℕ → List CommandLine → Type 0
-AllFit sizes [] = Unit {0}
-AllFit sizes (x ∷ xs) = Fits sizes x.command × AllFit sizes xs
+abbrev IsSignalOf : Declarations → Mark → Type 0
+IsSignalOf d m = IsMarkOf d.kinds (pair_of m)
 
-abbrev JobsFit : List ℕ → List Job → Type 0
-JobsFit sizes [] = Unit {0}
-JobsFit sizes (job ∷ jobs) = AllFit sizes (batch_commands job) × JobsFit sizes jobs
+abbrev IsFenceOf : Declarations → Mark → Type 0
+IsFenceOf d m = (slice_get d.kinds m.semaphore ≡ Some Fence) × (m.value ≡ 0)
 
-fit_at : (sizes : List ℕ) (xs : List CommandLine) (k : ℕ) (x : CommandLine) → AllFit sizes xs →
-    slice_get xs k ≡ Some x → Fits sizes x.command
-fit_at sizes [] k x a e = absurd (let c : None ≡ Some x = e in cc)
-fit_at sizes (y ∷ xs) zero x a e =
-    let same : y ≡ x = cc in subst (λ (z : CommandLine). Fits sizes z.command) same a.0
-fit_at sizes (y ∷ xs) (suc k) x a e = fit_at sizes xs k x a.1 e
+abbrev IsCommandOf : Declarations → CommandLine → Type 0
+IsCommandOf d x = Fits d.sizes x.command
 
-jobs_fit_at : (sizes : List ℕ) (jobs : List Job) (j k : ℕ) (job : Job) (x : CommandLine) →
-    JobsFit sizes jobs →
-    slice_get jobs j ≡ Some job → slice_get (batch_commands job) k ≡ Some x → Fits sizes x.command
-jobs_fit_at sizes [] j k job x a e f = absurd (let c : None ≡ Some job = e in cc)
-jobs_fit_at sizes (y ∷ jobs) zero k job x a e f =
-    let same : y ≡ job = cc in
-    fit_at sizes (batch_commands y) k x a.0 (ap (λ (z : Job). slice_get (batch_commands z) k) same
-    ∙ f)
-jobs_fit_at sizes (y ∷ jobs) (suc j) k job x a e f = jobs_fit_at sizes jobs j k job x a.1 e f
+-- What lines of a batch of a queue keep, after so many waits and signals.
+record KeepsBatch (d : Declarations) (q w g : ℕ) (waits : List Mark) (commands : List CommandLine)
+    (signals fences : List Mark) : Type 0 where
+  waits_of : Every (IsWaitOf d) waits
+  unheld : (waits ≡ []) ⊎ IsHeld d.modes q
+  commands_of : Every (IsCommandOf d) commands
+  signals_of : Every (IsSignalOf d) signals
+  fences_of : Every (IsFenceOf d) fences
+  few_waits : length waits ≤ 16 - w
+  few_signals : length signals ≤ 16 - g
+
+abbrev KeepsOpen : Declarations → ℕ → ℕ → ℕ → List Line → Type 0
+KeepsOpen d q w g lines =
+    KeepsBatch d q w g (filter_map wait_of lines) (filter_map command_of lines)
+    (filter_map signal_of lines) (filter_map fence_of lines)
+
+-- a job is such a batch
+record KeepsJob (d : Declarations) (b : Batch) : Type 0 where
+  queue : b.queue < length d.modes
+  fences : List Mark
+  first : b.fence ≡ first_of_list fences
+  parts : KeepsBatch d b.queue 0 0 b.waits b.commands b.signals fences
+
+abbrev KeepJobs : Declarations → List Job → Type 0
+KeepJobs d [] = Unit {0}
+KeepJobs d (Host h ∷ jobs) = ⊥
+KeepJobs d (BatchJob b ∷ jobs) = KeepsJob d b × KeepJobs d jobs
+
+-- the batch that is open at a place
+abbrev OpenKept : Declarations → Where → List Line → Type 0
+OpenKept d is_outside lines = Unit {0}
+OpenKept d (is_inside q w g k) lines = KeepsOpen d q w g (batch_lines lines)
+
+abbrev open_commands : Where → List Line → List CommandLine
+open_commands is_outside lines = []
+open_commands (is_inside q w g k) lines = filter_map command_of (batch_lines lines)
+
+-- what the jobs of lines keep
+record JobsKept (d : Declarations) (was : Where) (lines : List Line) : Type 0 where
+  all : KeepJobs d (jobs_of lines)
+  opened : OpenKept d was lines
+  few_jobs : length (jobs_of lines) ≤ count is_job lines
+  few_commands : length (open_commands was lines) + sum (map commands_in (jobs_of lines))
+      ≤ count is_command lines
 
 count_cons : (test : Statement → Bool) (line : Line) (lines : List Line) → count test (line ∷ lines)
     ≡ cond (test line.statement) 1 0 + count test lines
 count_cons test line lines = sum_by-cons (λ (l : Line). cond (test l.statement) 1 0) line lines
 
--- the commands of the batch that is open in a part of the text
-abbrev open_commands : Section → List Line → List CommandLine
-open_commands InBatch lines = filter_map command_of (batch_lines lines)
-open_commands was lines = []
-
--- what the jobs of lines keep
-record JobsKept (sizes : List ℕ) (was : Section) (lines : List Line) : Type 0 where
-  plain : ArePlainBatches (jobs_of lines)
-  open_fit : AllFit sizes (open_commands was lines)
-  fit : JobsFit sizes (jobs_of lines)
-  jobs : length (jobs_of lines) ≤ count is_job lines
-  commands : length (open_commands was lines) + sum (map commands_in (jobs_of lines)) ≤ count
-      is_command lines
-
-module _ (sizes : List ℕ) where
-  jobs_kept_more : (n : ℕ) (was : Section) (s : Statement) (lines : List Line) →
-      Stands sizes was s → AllStand sizes (section_after was s) lines →
-      JobsKept sizes (section_after was s) lines →
-      JobsKept sizes was (record { number = n; statement = s } ∷ lines)
-  jobs_kept_more n Outside (DeclareBuffer name size) lines h a k =
-      let line : Line = record { number = n; statement = DeclareBuffer name size } in
-      let j = count_cons is_job line lines in
-      let c = count_cons is_command line lines in
-      let kj = k.jobs in
-      let kc = k.commands in
+module _ (d : Declarations) where
+  -- no lines
+  open_none : (q w g : ℕ) → KeepsOpen d q w g []
+  open_none q w g =
       record {
-        plain = k.plain;
-        open_fit = tt;
-        fit = k.fit;
-        jobs = omega arith;
-        commands =
-            omega arith;
+        waits_of = tt;
+        unheld = inl refl;
+        commands_of = tt;
+        signals_of = tt;
+        fences_of = tt;
+        few_waits = omega arith;
+        few_signals = omega arith;
       }
-  jobs_kept_more n Outside (DeclareQueue name mode) lines h a k =
-      let line : Line = record { number = n; statement = DeclareQueue name mode } in
-      let j = count_cons is_job line lines in
-      let c = count_cons is_command line lines in
-      let kj = k.jobs in
-      let kc = k.commands in
+
+  -- a wait before other lines
+  open_wait : (n q w g k : ℕ) (pair : Pair) (from : ℕ) (lines : List Line) →
+      StandsWait d q w k pair from → KeepsOpen d q (w + 1) g lines →
+      KeepsOpen d q w g (a_line n (AddWait pair from) ∷ lines)
+  open_wait n q w g k pair from lines h o =
+      let l = o.few_waits in
+      let f = h.few in
       record {
-        plain = k.plain;
-        open_fit = tt;
-        fit = k.fit;
-        jobs = omega arith;
-        commands =
-            omega arith;
+        waits_of = ((h.mark, h.whole), o.waits_of);
+        unheld = inr h.held;
+        commands_of = o.commands_of;
+        signals_of = o.signals_of;
+        fences_of = o.fences_of;
+        few_waits = omega arith;
+        few_signals = o.few_signals;
       }
-  jobs_kept_more n Outside (BeginBatch q) lines h a k =
-      let line : Line = record { number = n; statement = BeginBatch q } in
-      let j = count_cons is_job line lines in
-      let c = count_cons is_command line lines in
-      let kj = k.jobs in
-      let kc = k.commands in
+
+  open_command : (n q w g : ℕ) (c : Command) (lines : List Line) → Fits d.sizes c →
+      KeepsOpen d q w g lines → KeepsOpen d q w g (a_line n (AddCommand c) ∷ lines)
+  open_command n q w g c lines h o =
+      record {
+        waits_of = o.waits_of;
+        unheld = o.unheld;
+        commands_of = (h, o.commands_of);
+        signals_of = o.signals_of;
+        fences_of = o.fences_of;
+        few_waits = o.few_waits;
+        few_signals = o.few_signals;
+      }
+
+  open_signal : (n q w g : ℕ) (pair : Pair) (lines : List Line) → IsMarkOf d.kinds pair → g < 16 →
+      KeepsOpen d q w (g + 1) lines → KeepsOpen d q w g (a_line n (AddSignal pair) ∷ lines)
+  open_signal n q w g pair lines h f o =
+      let l = o.few_signals in
+      record {
+        waits_of = o.waits_of;
+        unheld = o.unheld;
+        commands_of = o.commands_of;
+        signals_of = (h, o.signals_of);
+        fences_of = o.fences_of;
+        few_waits = o.few_waits;
+        few_signals = omega arith;
+      }
+
+  open_fence : (n q w g f : ℕ) (lines : List Line) → slice_get d.kinds f ≡ Some Fence →
+      KeepsOpen d q w g lines → KeepsOpen d q w g (a_line n (AddFence f) ∷ lines)
+  open_fence n q w g f lines h o =
+      record {
+        waits_of = o.waits_of;
+        unheld = o.unheld;
+        commands_of = o.commands_of;
+        signals_of = o.signals_of;
+        fences_of = ((h, refl), o.fences_of);
+        few_waits = o.few_waits;
+        few_signals = o.few_signals;
+      }
+
+  -- lines that add no job and no command
+  jobs_kept_declared : (n : ℕ) (s : Statement) (lines : List Line) →
+      jobs_of (a_line n s ∷ lines) ≡ jobs_of lines → is_job s ≡ false → is_command s ≡ false →
+      JobsKept d is_outside lines → JobsKept d is_outside (a_line n s ∷ lines)
+  jobs_kept_declared n s lines same no_job no_command k =
+      let j = count_cons is_job (a_line n s) lines ∙ ap (λ (b : Bool). cond b 1 0
+      + count is_job lines) no_job in
+      let c = count_cons is_command (a_line n s) lines ∙ ap (λ (b : Bool). cond b 1 0
+      + count is_command lines) no_command in
+      let kj = k.few_jobs in
+      let kc = k.few_commands in
+      let lj = ap length same in
+      let lc = ap (λ (js : List Job). sum (map commands_in js)) same in
+      record {
+        all = subst (KeepJobs d) (sym same) k.all;
+        opened = tt;
+        few_jobs = omega arith;
+        few_commands = omega arith;
+      }
+
+  -- a line more of the open batch
+  jobs_kept_inside : (n q w g k v h p : ℕ) (s : Statement) (lines : List Line) →
+      jobs_of (a_line n s ∷ lines) ≡ jobs_of lines → is_job s ≡ false → is_end s ≡ false →
+      KeepsOpen d q w g (a_line n s ∷ batch_lines lines) →
+      length (filter_map command_of (a_line n s ∷ batch_lines lines))
+      ≡ cond (is_command s) 1 0 + length (filter_map command_of (batch_lines lines)) →
+      JobsKept d (is_inside q v h p) lines → JobsKept d (is_inside q w g k) (a_line n s ∷ lines)
+  jobs_kept_inside n q w g k v h p s lines same no_job goes_on open_now more kept =
+      let j = count_cons is_job (a_line n s) lines ∙ ap (λ (b : Bool). cond b 1 0
+      + count is_job lines) no_job in
+      let c = count_cons is_command (a_line n s) lines in
+      let kj = kept.few_jobs in
+      let kc = kept.few_commands in
+      let lj = ap length same in
+      let lc = ap (λ (js : List Job). sum (map commands_in js)) same in
+      let l = ap (λ (ls : List Line). length (filter_map command_of ls)) here in
+      record {
+        all = subst (KeepJobs d) (sym same) kept.all;
+        opened = subst (KeepsOpen d q w g) (sym here) open_now;
+        few_jobs = omega arith;
+        few_commands = omega arith;
+      }
+    where
+      here : batch_lines (a_line n s ∷ lines) ≡ a_line n s ∷ batch_lines lines
+      here = batch_lines_cons (a_line n s) lines
+          ∙ ap (λ (b : Bool). cond b [] (a_line n s ∷ batch_lines lines)) goes_on
+
+  -- a batch begins
+  jobs_kept_begin : (n q : ℕ) (lines : List Line) → q < length d.modes →
+      JobsKept d (is_inside q 0 0 0) lines →
+      JobsKept d is_outside (a_line n (BeginBatch q) ∷ lines)
+  jobs_kept_begin n q lines h k =
+      let j = count_cons is_job (a_line n (BeginBatch q)) lines in
+      let c = count_cons is_command (a_line n (BeginBatch q)) lines in
+      let kj = k.few_jobs in
+      let kc = k.few_commands in
       let t = sum_by-cons (λ (x : ℕ). x) (length (filter_map command_of (batch_lines lines)))
       (map commands_in (jobs_of lines)) in
       record {
-        plain = (
+        all = (
           record {
             queue = h;
-            waits = none_in_batch sizes wait_of (no_wait sizes) InBatch lines a;
-            signals = none_in_batch sizes signal_of (no_signal sizes) InBatch lines a;
-            fence = ap first_of_list
-                (none_in_batch sizes fence_of (no_fence sizes) InBatch lines a);
+            fences = filter_map fence_of (batch_lines lines);
+            first = refl;
+            parts = k.opened;
           },
-          k.plain,
+          k.all,
         );
-        open_fit = tt;
-        fit = (k.open_fit, k.fit);
-        jobs = omega arith;
-        commands = omega arith;
+        opened = tt;
+        few_jobs = omega arith;
+        few_commands = omega arith;
       }
-  jobs_kept_more n InBatch (AddCommand command) lines h a k =
-      let line : Line = record { number = n; statement = AddCommand command } in
-      let j = count_cons is_job line lines in
-      let c = count_cons is_command line lines in
-      let kj = k.jobs in
-      let kc = k.commands in
-      let b = ap (λ (ls : List Line). filter_map command_of ls) (batch_lines_cons line lines) in
-      let l = ap length b in
-      record {
-        plain = k.plain;
-        open_fit = subst (AllFit sizes) (sym b) (h, k.open_fit);
-        fit = k.fit;
-        jobs = omega arith;
-        commands = omega arith;
-      }
-  jobs_kept_more n InBatch EndBatch lines h a k =
-      let line : Line = record { number = n; statement = EndBatch } in
-      let j = count_cons is_job line lines in
-      let c = count_cons is_command line lines in
-      let kj = k.jobs in
-      let kc = k.commands in
-      let b = ap (λ (ls : List Line). filter_map command_of ls) (batch_lines_cons line lines) in
-      let l = ap length b in
-      record {
-        plain = k.plain;
-        open_fit = subst (AllFit sizes) (sym b) tt;
-        fit = k.fit;
-        jobs = omega arith;
-        commands = omega arith;
-      }
-  jobs_kept_more n was s lines h a k = absurd h
 
-  jobs_kept : (was : Section) (lines : List Line) → AllStand sizes was lines →
-      JobsKept sizes was lines
-  jobs_kept Outside [] a =
-      record { plain = tt; open_fit = tt; fit = tt; jobs = omega arith; commands = omega arith }
-  jobs_kept InBatch [] a =
-      record { plain = tt; open_fit = tt; fit = tt; jobs = omega arith; commands = omega arith }
-  jobs_kept InSchedule [] a =
-      record { plain = tt; open_fit = tt; fit = tt; jobs = omega arith; commands = omega arith }
+  -- a batch ends
+  jobs_kept_end : (n q w g k : ℕ) (lines : List Line) → JobsKept d is_outside lines →
+      JobsKept d (is_inside q w g k) (a_line n EndBatch ∷ lines)
+  jobs_kept_end n q w g k lines kept =
+      let j = count_cons is_job (a_line n EndBatch) lines in
+      let c = count_cons is_command (a_line n EndBatch) lines in
+      let kj = kept.few_jobs in
+      let kc = kept.few_commands in
+      let e = batch_lines_cons (a_line n EndBatch) lines in
+      let l = ap (λ (ls : List Line). length (filter_map command_of ls)) e in
+      record {
+        all = kept.all;
+        opened = subst (KeepsOpen d q w g) (sym e) (open_none q w g);
+        few_jobs = omega arith;
+        few_commands = omega arith;
+      }
+
+  jobs_kept_more : (n : ℕ) (was : Where) (s : Statement) (lines : List Line) →
+      Stands d was s → JobsKept d (where_after was s) lines →
+      JobsKept d was (a_line n s ∷ lines)
+  jobs_kept_more n is_outside (DeclareBuffer name size) lines h k =
+      jobs_kept_declared n (DeclareBuffer name size) lines refl refl refl k
+  jobs_kept_more n is_outside (DeclareSemaphore name kind) lines h k =
+      jobs_kept_declared n (DeclareSemaphore name kind) lines refl refl refl k
+  jobs_kept_more n is_outside (DeclareQueue name mode) lines h k =
+      jobs_kept_declared n (DeclareQueue name mode) lines refl refl refl k
+  jobs_kept_more n is_outside (BeginBatch q) lines h k = jobs_kept_begin n q lines h k
+  jobs_kept_more n (is_inside q w g p) (AddWait pair from) lines h k =
+      jobs_kept_inside n q w g p (w + 1) g 1 (AddWait pair from) lines refl refl refl
+      (open_wait n q w g p pair from (batch_lines lines) h k.opened) (omega arith) k
+  jobs_kept_more n (is_inside q w g p) (AddCommand c) lines h k =
+      jobs_kept_inside n q w g p w g 2 (AddCommand c) lines refl refl refl
+      (open_command n q w g c (batch_lines lines) h.0 k.opened) (omega arith) k
+  jobs_kept_more n (is_inside q w g p) (AddSignal pair) lines h k =
+      jobs_kept_inside n q w g p w (g + 1) 3 (AddSignal pair) lines refl refl refl
+      (open_signal n q w g pair (batch_lines lines) h.0 h.1 k.opened) (omega arith) k
+  jobs_kept_more n (is_inside q w g p) (AddFence f) lines h k =
+      jobs_kept_inside n q w g p w g 4 (AddFence f) lines refl refl refl
+      (open_fence n q w g f (batch_lines lines) h.0 k.opened) (omega arith) k
+  jobs_kept_more n (is_inside q w g p) EndBatch lines h k = jobs_kept_end n q w g p lines k
+  jobs_kept_more n was s lines h k = absurd h
+
+  jobs_kept : (was : Where) (lines : List Line) → AllStand d was lines → JobsKept d was lines
+  jobs_kept is_outside [] a =
+      record { all = tt; opened = tt; few_jobs = omega arith; few_commands = omega arith }
+  jobs_kept (is_inside q w g k) [] a =
+      record {
+        all = tt;
+        opened = open_none q w g;
+        few_jobs = omega arith;
+        few_commands = omega arith;
+      }
   jobs_kept was (line ∷ lines) a =
-      jobs_kept_more line.number was line.statement lines a.0 a.1
-      (jobs_kept (section_after was line.statement) lines a.1)
+      jobs_kept_more line.number was line.statement lines a.0
+      (jobs_kept (where_after was line.statement) lines a.1)
 
--- lines that stand name no version, and have no schedule
-module _ (sizes : List ℕ) where
-  no_version : (lines : List Line) → AllStand sizes Outside lines → version_of lines ≡ 1
+  -- lines that stand name no version, and have no schedule
+  no_version : (lines : List Line) → AllStand d is_outside lines → version_of lines ≡ 1
   no_version [] a = refl
   no_version (line ∷ lines) a = by_statement line.number line.statement a.0
     where
-      by_statement : (n : ℕ) (s : Statement) → Stands sizes Outside s →
-          version_of (record { number = n; statement = s } ∷ lines) ≡ 1
+      by_statement : (n : ℕ) (s : Statement) → Stands d is_outside s →
+          version_of (a_line n s ∷ lines) ≡ 1
       by_statement n (DeclareBuffer name size) h = refl
+      by_statement n (DeclareSemaphore name kind) h = refl
       by_statement n (DeclareQueue name mode) h = refl
       by_statement n (BeginBatch q) h = refl
       by_statement n s h = absurd h
 
-  is_no_schedule : (was : Section) (s : Statement) → Stands sizes was s → is_schedule s ≡ false
-  is_no_schedule Outside (DeclareBuffer name size) h = refl
-  is_no_schedule Outside (DeclareQueue name mode) h = refl
-  is_no_schedule Outside (BeginBatch q) h = refl
-  is_no_schedule InBatch (AddCommand c) h = refl
-  is_no_schedule InBatch EndBatch h = refl
-  is_no_schedule was s h = absurd h
+  -- .. and no schedule and no turns
+  record IsPlainLine (line : Line) : Type 0 where
+    no_schedule : is_schedule line.statement ≡ false
+    no_turns : turns_at line ≡ []
 
-  no_schedule : (was : Section) (lines : List Line) → AllStand sizes was lines →
+  is_plain_line : (n : ℕ) (was : Where) (s : Statement) → Stands d was s →
+      IsPlainLine (a_line n s)
+  is_plain_line n is_outside (DeclareBuffer name size) h =
+      record { no_schedule = refl; no_turns = refl }
+  is_plain_line n is_outside (DeclareSemaphore name kind) h =
+      record { no_schedule = refl; no_turns = refl }
+  is_plain_line n is_outside (DeclareQueue name mode) h =
+      record { no_schedule = refl; no_turns = refl }
+  is_plain_line n is_outside (BeginBatch q) h = record { no_schedule = refl; no_turns = refl }
+  is_plain_line n (is_inside q w g k) (AddWait pair from) h =
+      record { no_schedule = refl; no_turns = refl }
+  is_plain_line n (is_inside q w g k) (AddCommand c) h =
+      record { no_schedule = refl; no_turns = refl }
+  is_plain_line n (is_inside q w g k) (AddSignal pair) h =
+      record { no_schedule = refl; no_turns = refl }
+  is_plain_line n (is_inside q w g k) (AddFence f) h =
+      record { no_schedule = refl; no_turns = refl }
+  is_plain_line n (is_inside q w g k) EndBatch h = record { no_schedule = refl; no_turns = refl }
+  is_plain_line n was s h = absurd h
+
+  no_schedule : (was : Where) (lines : List Line) → AllStand d was lines →
       some is_schedule lines ≡ false
   no_schedule was [] a = refl
   no_schedule was (line ∷ lines) a =
       or_from (is_schedule line.statement) (some is_schedule lines)
-      (is_no_schedule was line.statement a.0)
-      (no_schedule (section_after was line.statement) lines a.1)
+      (is_plain_line line.number was line.statement a.0).no_schedule
+      (no_schedule (where_after was line.statement) lines a.1)
 
-  no_turn : (n : ℕ) (was : Section) (s : Statement) → Stands sizes was s →
-      turns_at (record { number = n; statement = s }) ≡ []
-  no_turn n Outside (DeclareBuffer name size) h = refl
-  no_turn n Outside (DeclareQueue name mode) h = refl
-  no_turn n Outside (BeginBatch q) h = refl
-  no_turn n InBatch (AddCommand c) h = refl
-  no_turn n InBatch EndBatch h = refl
-  no_turn n was s h = absurd h
-
-  no_turns : (was : Section) (lines : List Line) → AllStand sizes was lines →
+  no_turns : (was : Where) (lines : List Line) → AllStand d was lines →
       flat_map turns_at lines ≡ []
   no_turns was [] a = refl
   no_turns was (line ∷ lines) a = λ i.
-      no_turn line.number was line.statement a.0 i
-      ++ no_turns (section_after was line.statement) lines a.1 i
+      (is_plain_line line.number was line.statement a.0).no_turns i
+      ++ no_turns (where_after was line.statement) lines a.1 i
 
-lines_one_lane : (lines : List Line) → Kept lines → HasOneLane (script_of lines)
-lines_one_lane lines k =
-    record {
-      version = no_version (sizes_before lines) lines k.stand;
-      unscheduled = no_schedule (sizes_before lines) Outside lines k.stand;
-      turns = no_turns (sizes_before lines) Outside lines k.stand;
-      semaphores =
-          none_of (sizes_before lines) semaphore_of (no_semaphore (sizes_before lines)) Outside
-          lines k.stand;
-      batches = (jobs_kept (sizes_before lines) Outside lines k.stand).plain;
-    }
+-- Scripts of what is declared
 
-lines_valid : (lines : List Line) → Kept lines → IsValid (script_of lines)
-lines_valid lines k =
-    record {
-      signals = λ e x h. absurd (no_signal_at e x h);
-      commands =
-          λ j n job x e f. jobs_fit_at (sizes_before lines) (jobs_of lines) j n job x jobs.fit e f;
-      limits = record {
-        buffers = k.few_buffers;
-        bytes = k.few_bytes;
-        semaphores =
-            semaphores;
-        queues = queues;
-        jobs = count_jobs;
-        commands = count_commands;
-      };
-    }
-  where
-    one : HasOneLane (script_of lines)
-    one = lines_one_lane lines k
+-- the job at a place
+job_kept : (d : Declarations) (jobs : List Job) (j : ℕ) (b : Batch) → KeepJobs d jobs →
+    slice_get jobs j ≡ Some (BatchJob b) → KeepsJob d b
+job_kept d [] j b k e = absurd (let c : None ≡ Some (BatchJob b) = e in cc)
+job_kept d (Host h ∷ jobs) j b k e = absurd k
+job_kept d (BatchJob c ∷ jobs) zero b k e = let same : c ≡ b = cc in subst (KeepsJob d) same k.0
+job_kept d (BatchJob c ∷ jobs) (suc j) b k e = job_kept d jobs j b k.1 e
 
-    jobs : JobsKept (sizes_before lines) Outside lines
-    jobs = jobs_kept (sizes_before lines) Outside lines k.stand
+no_host : (d : Declarations) (jobs : List Job) (j : ℕ) (h : _) → KeepJobs d jobs →
+    slice_get jobs j ≡ Some (Host h) → ⊥
+no_host d [] j h k e = let c : None ≡ Some (Host h) = e in cc
+no_host d (Host x ∷ jobs) j h k e = k
+no_host d (BatchJob c ∷ jobs) zero h k e = cc
+no_host d (BatchJob c ∷ jobs) (suc j) h k e = no_host d jobs j h k.1 e
 
-    no_signal_at : (e : ℕ) (x : Signaling) → slice_get (all_signals (script_of lines)) e ≡ Some x →
-        ⊥
-    no_signal_at e x h =
-        let c : None ≡ Some x =
-        ap (λ (xs : List Signaling). slice_get xs e)
-        (sym (one_lane_signals (script_of lines) one)) ∙ h in cc
+all_at : {X : Type 0} (P : X → Type 0) (xs : List X) (k : ℕ) (x : X) → Every P xs →
+    slice_get xs k ≡ Some x → P x
+all_at P [] k x a e = absurd (let c : None ≡ Some x = e in cc)
+all_at {X} P (y ∷ xs) zero x a e = let same : y ≡ x = cc in subst P same a.0
+all_at P (y ∷ xs) (suc k) x a e = all_at P xs k x a.1 e
 
-    semaphores : length (script_of lines).semaphores ≤ 256
-    semaphores = let l = ap length one.semaphores in omega arith
+all_weaker : {X : Type 0} (P Q : X → Type 0) (xs : List X) → ((x : X) → P x → Q x) → Every P xs →
+    Every Q xs
+all_weaker P Q [] f a = tt
+all_weaker P Q (x ∷ xs) f a = (f x a.0, all_weaker P Q xs f a.1)
 
-    queues : length (script_of lines).queues ≤ 8
-    queues = let l = k.one_queue in omega arith
+module _ (s : Script) where
+  -- what the script declares
+  abbrev declared_in : Declarations
+  declared_in =
+      record {
+        sizes = map (λ b. b.size) s.buffers;
+        kinds = map (λ x. x.kind) s.semaphores;
+        modes = map (λ q. q.mode) s.queues;
+      }
 
-    count_jobs : length (jobs_of lines) ≤ 4096
-    count_jobs = let l = jobs.jobs in let m = k.few_jobs in omega arith
+  kind_here : (t : ℕ) (kind : SemaphoreKind) → slice_get declared_in.kinds t ≡ Some kind →
+      kind_of s t ≡ Some kind
+  kind_here t kind e = sym (get-map (λ (x : Semaphore). x.kind) s.semaphores t) ∙ e
 
-    count_commands : sum (map commands_in (jobs_of lines)) ≤ 8192
-    count_commands = let l = jobs.commands in let m = k.few_commands in omega arith
+  exists_here : (t : ℕ) (kind : SemaphoreKind) → slice_get declared_in.kinds t ≡ Some kind →
+      t < length s.semaphores
+  exists_here t kind e =
+      let l = get_within declared_in.kinds t kind e in
+      let n = length-map s.semaphores (λ (x : Semaphore). x.kind) in
+      omega arith
 
--- A script that a text stands for has one lane.
-pub text_one_lane : (text : List ℕ) (form : Form) (s : Script) → StandsFor text form s →
-    HasOneLane s
-text_one_lane text form s h =
-    let l = of_text text form s h in subst HasOneLane l.whole (lines_one_lane l.lines l.kept)
+  valid_mark : (m : Mark) → IsMarkOf declared_in.kinds (pair_of m) → IsValidMark s m
+  valid_mark m k =
+      let e = kind_here m.semaphore k.kind k.is in
+      record {
+        exists = exists_here m.semaphore k.kind k.is;
+        kind = ap (λ (o : Option SemaphoreKind). option_map_or is_fence o false) e ∙ k.no_fence;
+        valueless =
+            λ h. k.valueless
+            (sym (ap (λ (o : Option SemaphoreKind). option_map_or is_timeline o false) e) ∙ h);
+      }
 
--- A script that a text stands for is valid.
+  valid_fence : (m : Mark) → IsFenceOf declared_in m → IsValidFence s m
+  valid_fence m k =
+      let e = kind_here m.semaphore Fence k.0 in
+      record {
+        exists = exists_here m.semaphore Fence k.0;
+        kind = ap (λ (o : Option SemaphoreKind). option_map_or is_fence o false) e;
+        valueless = k.1;
+      }
+
+  first_valid : (fences : List Mark) (m : Mark) → Every (IsFenceOf declared_in) fences →
+      first_of_list fences ≡ Some m → IsValidFence s m
+  first_valid [] m a e = absurd (let c : None ≡ Some m = e in cc)
+  first_valid (x ∷ xs) m a e =
+      let same : x ≡ m = cc in subst (IsValidFence s) same (valid_fence x a.0)
+
+  valid_batch : (b : Batch) → KeepsJob declared_in b → IsValidBatch s b
+  valid_batch b k =
+      let p = k.parts in
+      let q = k.queue in
+      let n = length-map s.queues (λ (x : Queue). x.mode) in
+      let w = p.few_waits in
+      let g = p.few_signals in
+      record {
+        queue = omega arith;
+        waits =
+            of_every (IsValidMark s) b.waits
+            (all_weaker (IsWaitOf declared_in) (IsValidMark s) b.waits (λ m h. valid_mark m h.0)
+            p.waits_of);
+        signals =
+            of_every (IsValidMark s) b.signals
+            (all_weaker (IsSignalOf declared_in) (IsValidMark s) b.signals valid_mark
+            p.signals_of);
+        fence = λ m e. first_valid k.fences m p.fences_of (sym k.first ∙ e);
+        few_waits = omega arith;
+        few_signals = omega arith;
+      }
+
+  -- a queue that isn't immediate
+  held_here : (q : ℕ) → IsHeld declared_in.modes q → is_immediate_queue s q ≡ false
+  held_here q h =
+      by_queue (slice_get s.queues q) (sym (get-map (λ (x : Queue). x.mode) s.queues q) ∙ h.is)
+    where
+      by_queue : (o : Option Queue) → option_map (λ (x : Queue). x.mode) o ≡ Some h.mode →
+          option_map_or (λ x. is_immediate x.mode) o false ≡ false
+      by_queue None e = absurd (let c : None ≡ Some h.mode = e in cc)
+      by_queue (Some x) e =
+          let same : h.mode ≡ x.mode = cc in
+          subst (λ (m : Mode). is_immediate m ≡ false) same h.held
+
+  whole_batch : (b : Batch) → KeepsJob declared_in b → WaitsWhole s b
+  whole_batch b k =
+      record {
+        from_start =
+            of_every (λ m. m.from ≡ 1) b.waits
+            (all_weaker (IsWaitOf declared_in) (λ m. m.from ≡ 1) b.waits (λ m h. h.1)
+            k.parts.waits_of);
+        unheld = λ h. none h k.parts.unheld;
+      }
+    where
+      none : is_immediate_queue s b.queue ≡ true → (b.waits ≡ []) ⊎ IsHeld declared_in.modes b.queue →
+          b.waits ≡ []
+      none h (inl e) = e
+      none h (inr held) = absurd (false≢true (sym (held_here b.queue held) ∙ h))
+
+  whole_batches : (jobs : List Job) → KeepJobs declared_in jobs → AreWholeBatches s jobs
+  whole_batches [] k = tt
+  whole_batches (Host h ∷ jobs) k = absurd k
+  whole_batches (BatchJob b ∷ jobs) k = (whole_batch b k.0, whole_batches jobs k.1)
+
+-- The signals of valid batches name semaphores that exist.
+module _ (s : Script) where
+  abbrev Exists : Signaling → Type 0
+  Exists x = x.semaphore < length s.semaphores
+
+  marks_exist : (ms : List Mark) → All (IsValidMark s) ms →
+      Every (λ m. m.semaphore < length s.semaphores) ms
+  marks_exist [] a = tt
+  marks_exist (m ∷ ms) a =
+      ((All-head (IsValidMark s) m ms a).exists, marks_exist ms (All-tail (IsValidMark s) m ms a))
+
+  fence_exists : (o : Option Mark) → ((m : Mark) → o ≡ Some m → IsValidFence s m) →
+      Every (λ m. m.semaphore < length s.semaphores) (option_to_list o)
+  fence_exists None f = tt
+  fence_exists (Some m) f = ((f m refl).exists, tt)
+
+  job_signals_exist : (n : ℕ) (b : Batch) → IsValidBatch s b →
+      Every Exists (job_signals (n, BatchJob b))
+  job_signals_exist n b v =
+      every_map Exists (of_mark n) (b.signals ++ option_to_list b.fence)
+      (every_append (λ m. m.semaphore < length s.semaphores) b.signals (option_to_list b.fence)
+      (marks_exist b.signals v.signals) (fence_exists b.fence v.fence))
+
+  signals_exist : (n : ℕ) (jobs : List Job) → AreWholeBatches s jobs →
+      ((j : ℕ) (b : Batch) → slice_get jobs j ≡ Some (BatchJob b) → IsValidBatch s b) →
+      Every Exists (flat_map job_signals (enumerate_from n jobs))
+  signals_exist n [] w v = tt
+  signals_exist n (Host h ∷ jobs) w v = absurd w
+  signals_exist n (BatchJob b ∷ jobs) w v =
+      every_append Exists (job_signals (n, BatchJob b))
+      (flat_map job_signals (enumerate_from (n + 1) jobs)) (job_signals_exist n b (v 0 b refl))
+      (signals_exist (n + 1) jobs w.1 (λ j c e. v (suc j) c e))
+
+  pub valid_signals : HasValidBatches s → IsOfBatches s → (e : ℕ) (x : Signaling) →
+      slice_get (all_signals s) e ≡ Some x → x.semaphore < length s.semaphores
+  valid_signals v w e x h = all_at Exists (all_signals s) e x (signals_exist 0 s.jobs w.batches v) h
+
+-- The script of lines that were read
+
+module _ (next : ℕ) (lines : List Line) (k : Kept next lines) where
+  kept_jobs : JobsKept (declared_by lines) is_outside lines
+  kept_jobs = jobs_kept (declared_by lines) is_outside lines k.stand
+
+  -- its commands fit
+  job_fits : (job : Job) (n : ℕ) (x : CommandLine) (j : ℕ) → slice_get (jobs_of lines) j ≡ Some job →
+      slice_get (batch_commands job) n ≡ Some x → Fits (sizes_before lines) x.command
+  job_fits (Host h) n x j e f =
+      absurd (no_host (declared_by lines) (jobs_of lines) j h kept_jobs.all e)
+  job_fits (BatchJob b) n x j e f =
+      all_at (IsCommandOf (declared_by lines)) b.commands n x
+      (job_kept (declared_by lines) (jobs_of lines) j b kept_jobs.all e).parts.commands_of f
+
+  pub lines_batches : HasValidBatches (script_of lines)
+  lines_batches j b e =
+      valid_batch (script_of lines) b
+      (job_kept (declared_by lines) (jobs_of lines) j b kept_jobs.all e)
+
+  pub lines_of_batches : IsOfBatches (script_of lines)
+  lines_of_batches =
+      record {
+        version = no_version (declared_by lines) lines k.stand;
+        batches = whole_batches (script_of lines) (jobs_of lines) kept_jobs.all;
+        unscheduled = no_schedule (declared_by lines) is_outside lines k.stand;
+        turns = no_turns (declared_by lines) is_outside lines k.stand;
+      }
+
+  pub lines_valid : IsValid (script_of lines)
+  lines_valid =
+      let kj = kept_jobs.few_jobs in
+      let kc = kept_jobs.few_commands in
+      let mj = k.few_jobs in
+      let mc = k.few_commands in
+      record {
+        signals = valid_signals (script_of lines) lines_batches lines_of_batches;
+        commands = λ j n job x e f. job_fits job n x j e f;
+        limits = record {
+          buffers = k.few_buffers;
+          bytes = k.few_bytes;
+          semaphores = k.few_semaphores;
+          queues = k.few_queues;
+          jobs = omega arith;
+          commands = omega arith;
+        };
+      }
+
+-- A script that a text stands for is valid, ..
 pub text_valid : (text : List ℕ) (form : Form) (s : Script) → StandsFor text form s → IsValid s
 text_valid text form s h =
-    let l = of_text text form s h in subst IsValid l.whole (lines_valid l.lines l.kept)
+    let l = of_text text form s h in subst IsValid l.whole (lines_valid l.next l.lines l.kept)
+
+-- .. its batches name what exists, ..
+pub text_batches : (text : List ℕ) (form : Form) (s : Script) → StandsFor text form s →
+    HasValidBatches s
+text_batches text form s h =
+    let l = of_text text form s h in
+    subst HasValidBatches l.whole (lines_batches l.next l.lines l.kept)
+
+-- .. and it is one of batches alone.
+pub text_of_batches : (text : List ℕ) (form : Form) (s : Script) → StandsFor text form s →
+    IsOfBatches s
+text_of_batches text form s h =
+    let l = of_text text form s h in
+    subst IsOfBatches l.whole (lines_of_batches l.next l.lines l.kept)

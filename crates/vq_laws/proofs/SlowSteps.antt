@@ -21,7 +21,7 @@ use Rattle.vq_laws.proofs.Places.{reached_earlier, are_reached_still}
 use Rattle.vq_laws.proofs.RowLaws.{op_chain}
 
 -- each job can be done whole after those before it
-abbrev ReadyEach : Plan → List ℕ → List ℕ → Type 0
+abbrev pub ReadyEach : Plan → List ℕ → List ℕ → Type 0
 ReadyEach p done [] = Unit {0}
 ReadyEach p done (j ∷ js) = (is_ready p done j ≡ true) × (j < length p.jobs) × ReadyEach p (done ++ j ∷ []) js
 
@@ -33,12 +33,12 @@ in_range (suc n) a i h = elim (has_cases a (range_with_len (a + 1) n) i h) [
 ]
 
 -- what a slow run adds to the jobs that are done
-record Adds (p : Plan) (done all : List ℕ) : Type 0 where
-  rest : List ℕ
-  whole : all ≡ done ++ rest
-  each : ReadyEach p done rest
+pub record Adds (p : Plan) (done all : List ℕ) : Type 0 where
+  pub rest : List ℕ
+  pub whole : all ≡ done ++ rest
+  pub each : ReadyEach p done rest
 
-slow_adds : (p : Plan) (n : ℕ) (done : List ℕ) → Adds p done (slow_from n p done)
+pub slow_adds : (p : Plan) (n : ℕ) (done : List ℕ) → Adds p done (slow_from n p done)
 slow_adds p zero done = record { rest = []; whole = sym (append-nil done); each = tt }
 slow_adds p (suc n) done = by_case (lowest_ready p done) refl (slow_adds p n)
   where
@@ -75,7 +75,7 @@ greatest_below p done n m (e ∷ es) l f = by_test (is_of p done e) refl (λ k h
         let a = ap (λ zs. greatest n (map (value p) zs)) (cond-false (is_of p done e) (e ∷ filter (is_of p done) es) (filter (is_of p done) es) q) in
         subst (λ z. z ≤ m) (sym a) (r n l)
 
-is_of_job : (p : Plan) (done : List ℕ) (e : ℕ) → is_of p done e ≡ true → (i : ℕ) × (job_of p e ≡ Some i) × (has done i ≡ true)
+pub is_of_job : (p : Plan) (done : List ℕ) (e : ℕ) → is_of p done e ≡ true → (i : ℕ) × (job_of p e ≡ Some i) × (has done i ≡ true)
 is_of_job p done e h = by_option (job_of p e) refl h
   where
     by_option : (o : Option ℕ) → job_of p e ≡ o → option_map_or (has done) o false ≡ true → (i : ℕ) × (job_of p e ≡ Some i) × (has done i ≡ true)

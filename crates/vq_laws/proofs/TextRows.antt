@@ -57,6 +57,36 @@ update = refl
 no_last_line_feed : bytes_of (codes "buffer X 4") ≡ Ok ((0 ∷ 0 ∷ 0 ∷ 0 ∷ []) ∷ [])
 no_last_line_feed = refl
 
+two_queues :
+    bytes_of
+    (codes "buffer X 8\nbuffer Y 8\ntimeline A 0\nqueue P threaded\n"
+    ++ codes "queue Q threaded\nsubmit P\nwait A 1\ncopy X 0 Y 0 8\nend\nsubmit Q\n"
+    ++ codes "fill X 0 8 0x0a0b0c0d\nsignal A 1\nend\n")
+    ≡ Ok ((13 ∷ 12 ∷ 11 ∷ 10 ∷ 13 ∷ 12 ∷ 11 ∷ 10 ∷ []) ∷ (13 ∷ 12 ∷ 11 ∷ 10 ∷ 13 ∷ 12 ∷ 11 ∷ 10 ∷ []) ∷ [])
+two_queues = refl
+
+no_word_is_reserved :
+    bytes_of
+    (codes "buffer host 4\nqueue submit immediate\nsubmit submit\nfill host 0 4 1\nend\n")
+    ≡ Ok ((1 ∷ 0 ∷ 0 ∷ 0 ∷ []) ∷ [])
+no_word_is_reserved = refl
+
+an_empty_batch : bytes_of (codes "queue Q threaded\nsubmit Q\nend\n") ≡ Ok []
+an_empty_batch = refl
+
+binary_and_fence :
+    bytes_of
+    (codes "binary S\nfence F\nqueue Q threaded\nsubmit Q\nsignal S\nfence F\n"
+    ++ codes "end\nsubmit Q\nwait S\nend\n")
+    ≡ Ok []
+binary_and_fence = refl
+
+the_largest_value :
+    bytes_of
+    (codes "timeline A 18446744073709551615\ntimeline B 0xffffffffffffffff\n")
+    ≡ Ok []
+the_largest_value = refl
+
 comments :
     bytes_of
     (codes "# nothing\n\n  buffer\tX 0x4 # four\r\n")
@@ -98,6 +128,12 @@ a_schedule_in_a_plain_text = refl
 no_schedule : scheduled (codes "queue Q immediate\n") ≡ Err (2, Syntax)
 no_schedule = refl
 
+a_wait_on_an_immediate_queue :
+    bytes_of
+    (codes "timeline A 0\nqueue Q immediate\nqueue P threaded\nsubmit Q\nwait A 0\n")
+    ≡ Err (5, Syntax)
+a_wait_on_an_immediate_queue = refl
+
 a_large_mark : bytes_of (codes "buffer X 0X4\n") ≡ Err (1, Number)
 a_large_mark = refl
 
@@ -106,6 +142,33 @@ a_late_declaration :
     (codes "queue Q immediate\nsubmit Q\nend\nbuffer X 4\n")
     ≡ Err (4, Order)
 a_late_declaration = refl
+
+a_wait_after_a_command :
+    bytes_of
+    (codes "buffer X 4\ntimeline A 0\nqueue Q threaded\nsubmit Q\nfill X 0 4 1\n"
+    ++ codes "wait A 1\nend\n")
+    ≡ Err (6, Order)
+a_wait_after_a_command = refl
+
+a_command_after_a_signal :
+    bytes_of
+    (codes "buffer X 4\ntimeline A 0\nqueue Q threaded\nsubmit Q\nsignal A 1\n"
+    ++ codes "fill X 0 4 1\nend\n")
+    ≡ Err (6, Order)
+a_command_after_a_signal = refl
+
+a_second_fence :
+    bytes_of
+    (codes "fence F\nfence G\nqueue Q threaded\nsubmit Q\nfence F\nfence G\nend\n")
+    ≡ Err (6, Order)
+a_second_fence = refl
+
+a_signal_after_a_fence :
+    bytes_of
+    (codes "fence F\ntimeline A 0\nqueue Q threaded\nsubmit Q\nfence F\n"
+    ++ codes "signal A 1\nend\n")
+    ≡ Err (6, Order)
+a_signal_after_a_fence = refl
 
 too_large_a_number : bytes_of (codes "buffer X 18446744073709551616\n") ≡ Err (1, Number)
 too_large_a_number = refl
@@ -142,6 +205,18 @@ no_queue = refl
 
 a_buffer_for_a_queue : bytes_of (codes "buffer X 4\nsubmit X\n") ≡ Err (2, Name)
 a_buffer_for_a_queue = refl
+
+a_binary_with_a_value :
+    bytes_of
+    (codes "binary S\nqueue Q threaded\nsubmit Q\nwait S 1\n")
+    ≡ Err (4, Name)
+a_binary_with_a_value = refl
+
+a_timeline_without_a_value :
+    bytes_of
+    (codes "timeline A 0\nqueue Q threaded\nsubmit Q\nsignal A\n")
+    ≡ Err (4, Name)
+a_timeline_without_a_value = refl
 
 declared_twice : bytes_of (codes "buffer X 4\nqueue X immediate\n") ≡ Err (2, Twice)
 declared_twice = refl
@@ -198,11 +273,31 @@ too_many_bytes = refl
 too_many_bytes_together : bytes_of (codes "buffer X 1048576\nbuffer Y 1\n") ≡ Err (2, Limit)
 too_many_bytes_together = refl
 
+nine_queues :
+    bytes_of
+    (codes "queue Q1 threaded\nqueue Q2 threaded\nqueue Q3 threaded\n"
+    ++ codes "queue Q4 threaded\nqueue Q5 threaded\nqueue Q6 threaded\n"
+    ++ codes "queue Q7 threaded\nqueue Q8 threaded\nqueue Q9 threaded\n")
+    ≡ Err (9, Limit)
+nine_queues = refl
+
 sixty_five_commands :
     bytes_of
     (codes "buffer X 4\nqueue Q immediate\nsubmit Q\n" ++ repeat 65 (codes "fill X 0 4 1\n"))
     ≡ Err (68, Limit)
 sixty_five_commands = refl
+
+seventeen_waits :
+    bytes_of
+    (codes "timeline A 0\nqueue Q threaded\nsubmit Q\n" ++ repeat 17 (codes "wait A 0\n"))
+    ≡ Err (20, Limit)
+seventeen_waits = refl
+
+seventeen_signals :
+    bytes_of
+    (codes "timeline A 0\nqueue Q threaded\nsubmit Q\n" ++ repeat 17 (codes "signal A 1\n"))
+    ≡ Err (20, Limit)
+seventeen_signals = refl
 
 -- Several kinds on one line: the first one is named
 
@@ -236,6 +331,44 @@ twice_and_too_large = refl
 the_first_line_decides : bytes_of (codes "buffer X 0\nbuffer\n") ≡ Err (1, Range)
 the_first_line_decides = refl
 
+-- A text that is cut off
+
+cut_after_five :
+    bytes_of
+    (codes "buffer X 8\nbuffer Y 8\ntimeline A 0\nqueue P threaded\n"
+    ++ codes "queue Q threaded\n")
+    ≡ Ok ((0 ∷ 0 ∷ 0 ∷ 0 ∷ 0 ∷ 0 ∷ 0 ∷ 0 ∷ []) ∷ (0 ∷ 0 ∷ 0 ∷ 0 ∷ 0 ∷ 0 ∷ 0 ∷ 0 ∷ []) ∷ [])
+cut_after_five = refl
+
+cut_after_six :
+    bytes_of
+    (codes "buffer X 8\nbuffer Y 8\ntimeline A 0\nqueue P threaded\n"
+    ++ codes "queue Q threaded\nsubmit P\n")
+    ≡ Err (7, Syntax)
+cut_after_six = refl
+
+cut_after_seven :
+    bytes_of
+    (codes "buffer X 8\nbuffer Y 8\ntimeline A 0\nqueue P threaded\n"
+    ++ codes "queue Q threaded\nsubmit P\nwait A 1\n")
+    ≡ Err (8, Syntax)
+cut_after_seven = refl
+
+cut_after_eight :
+    bytes_of
+    (codes "buffer X 8\nbuffer Y 8\ntimeline A 0\nqueue P threaded\n"
+    ++ codes "queue Q threaded\nsubmit P\nwait A 1\ncopy X 0 Y 0 8\n")
+    ≡ Err (9, Syntax)
+cut_after_eight = refl
+
+cut_after_twelve :
+    bytes_of
+    (codes "buffer X 8\nbuffer Y 8\ntimeline A 0\nqueue P threaded\n"
+    ++ codes "queue Q threaded\nsubmit P\nwait A 1\ncopy X 0 Y 0 8\nend\nsubmit Q\n"
+    ++ codes "fill X 0 8 0x0a0b0c0d\nsignal A 1\n")
+    ≡ Err (13, Syntax)
+cut_after_twelve = refl
+
 -- Version 2
 
 version_three : bytes_of (codes "version 3\n") ≡ Err (1, Syntax)
@@ -243,3 +376,10 @@ version_three = refl
 
 a_late_version : bytes_of (codes "buffer X 4\nversion 2\n") ≡ Err (2, Syntax)
 a_late_version = refl
+
+held_in_version_one :
+    bytes_of
+    (codes "buffer X 8\nbuffer Y 8\ntimeline A 0\nqueue P threaded\n"
+    ++ codes "queue Q threaded\nsubmit P\nwait A 1 from 2\nfill Y 0 8 5\n")
+    ≡ Err (7, Syntax)
+held_in_version_one = refl

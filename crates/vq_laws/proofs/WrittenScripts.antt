@@ -1,23 +1,30 @@
--- A script that can be written is valid and has one lane: what holds of the script of a text holds
--- of each that is the same up
--- to line numbers.
-use Rattle.std.proofs.Common.{◌≡◌, ℕ, ◌≤◌, List, [], ◌∷◌, length, map, Option, Some, None, option_map, refl, sym, ap, ◌∙◌, subst, arith}
-use Rattle.std.specs.Prelude.{sum}
+-- A script that can be written is valid, its batches name what exists, and it is one of batches
+-- alone: what holds of the script of a text holds of each that is the same up to line numbers.
+use Rattle.std.proofs.Common.{◌≡◌, ℕ, ◌≤◌, false, List, [], ◌∷◌, length, map, Option, Some, None, option_map, refl, sym, ap, ◌∙◌, subst, arith}
+use Rattle.std.specs.Prelude.{sum, All}
 use Rattle.std.specs.List.{slice_get}
+use Rattle.std.specs.Option.{option_map_or}
 use Rattle.std.proofs.lemmas.List.{length-map}
+use Rattle.std.proofs.lemmas.List.Elements.{All-nil, All-cons, All-head, All-tail, All-map}
 use Rattle.vq_laws.specs.declared.script.Script.{Script}
 use Rattle.vq_laws.specs.declared.script.Buffer.{Buffer}
+use Rattle.vq_laws.specs.declared.script.Semaphore.{Semaphore}
+use Rattle.vq_laws.specs.declared.script.SemaphoreKind.{SemaphoreKind}
+use Rattle.vq_laws.specs.declared.script.Queue.{Queue}
+use Rattle.vq_laws.specs.declared.script.Mark.{Mark}
+use Rattle.vq_laws.specs.declared.script.Batch.{Batch}
 use Rattle.vq_laws.specs.declared.script.Job.{Job}
 use Rattle.vq_laws.specs.declared.script.Job.TheVariants.{Host, Batch as BatchJob}
 use Rattle.vq_laws.specs.declared.script.CommandLine.{CommandLine}
-use Rattle.vq_laws.specs.Signals.{Signaling, all_signals}
+use Rattle.vq_laws.specs.Context.{is_immediate, is_fence, is_timeline}
+use Rattle.vq_laws.specs.Signals.{kind_of}
 use Rattle.vq_laws.specs.Lowering.{batch_commands, commands_in}
 use Rattle.vq_laws.specs.Ranges.{Fits}
-use Rattle.vq_laws.specs.ValidScripts.{IsValid, KeepsLimits, HasOneLane, ArePlainBatches, sizes_of}
+use Rattle.vq_laws.specs.ValidScripts.{IsValid, KeepsLimits, IsValidMark, IsValidFence, IsValidBatch, HasValidBatches, AreWholeBatches, IsOfBatches, HasRisingLines, is_immediate_queue, sizes_of}
 use Rattle.vq_laws.specs.SameScript.{SameButLines, IsScript, IsRead, job_without_lines, mark_without_line, command_without_line, buffer_without_line, semaphore_without_line, queue_without_line, turn_without_line}
 use Rattle.vq_laws.proofs.PlanLaws.{get-map, some_of}
-use Rattle.vq_laws.proofs.OneLane.{one_lane_signals}
-use Rattle.vq_laws.proofs.ScriptFacts.{text_one_lane, text_valid}
+use Rattle.vq_laws.proofs.ScriptFacts.{text_valid, text_batches, text_of_batches, valid_signals}
+use Rattle.vq_laws.proofs.LinesRise.{text_lines_rise}
 
 -- Lists without lines
 
@@ -25,60 +32,22 @@ map_empty : {X Y : Type 0} (f : X → Y) (xs : List X) → map f xs ≡ [] → x
 map_empty f [] e = refl
 map_empty f (x ∷ xs) e = absurd (cc)
 
-none_mapped : {X Y : Type 0} (f : X → Y) (o : Option X) → option_map f o ≡ None → o ≡ None
-none_mapped f None e = refl
-none_mapped f (Some x) e = absurd (cc)
+all_unmapped : {X Y : Type 0} (P : Y → Type 0) (f : X → Y) (xs : List X) → All P (map f xs) →
+    All (λ x. P (f x)) xs
+all_unmapped P f [] a = All-nil (λ x. P (f x))
+all_unmapped P f (x ∷ xs) a =
+    All-cons (λ y. P (f y)) x xs (All-head P (f x) (map f xs) a)
+    (all_unmapped P f xs (All-tail P (f x) (map f xs) a))
 
--- Scripts of one lane
+all_so : {X : Type 0} (P Q : X → Type 0) (xs : List X) → ((x : X) → P x → Q x) → All P xs → All Q xs
+all_so P Q [] f a = All-nil Q
+all_so P Q (x ∷ xs) f a =
+    All-cons Q x xs (f x (All-head P x xs a)) (all_so P Q xs f (All-tail P x xs a))
 
-plain_without : (jobs : List Job) → ArePlainBatches jobs →
-    ArePlainBatches (map job_without_lines jobs)
-plain_without [] a = tt
-plain_without (Host h ∷ jobs) a = absurd a
-plain_without (BatchJob b ∷ jobs) a = (
-  record {
-    queue = a.0.queue;
-    waits = ap (map mark_without_line) a.0.waits;
-    signals =
-        ap (map mark_without_line) a.0.signals;
-    fence = ap (option_map mark_without_line) a.0.fence;
-  },
-  plain_without jobs a.1,
-)
-
-plain_with : (jobs : List Job) → ArePlainBatches (map job_without_lines jobs) → ArePlainBatches jobs
-plain_with [] a = tt
-plain_with (Host h ∷ jobs) a = absurd a
-plain_with (BatchJob b ∷ jobs) a = (
-  record {
-    queue = a.0.queue;
-    waits = map_empty mark_without_line b.waits a.0.waits;
-    signals =
-        map_empty mark_without_line b.signals a.0.signals;
-    fence =
-        none_mapped mark_without_line b.fence a.0.fence;
-  },
-  plain_with jobs a.1,
-)
-
--- Scripts that are the same up to line numbers have one lane alike.
-pub same_one_lane : (a s : Script) → SameButLines a s → HasOneLane a → HasOneLane s
-same_one_lane a s same h =
-    record {
-      version = sym (ap (λ (z : Script). z.version) same) ∙ h.version;
-      unscheduled = sym (ap (λ (z : Script). z.scheduled) same) ∙ h.unscheduled;
-      turns =
-          map_empty turn_without_line s.turns
-          (sym (ap (λ (z : Script). z.turns) same) ∙ ap (map turn_without_line) h.turns);
-      semaphores =
-          map_empty semaphore_without_line s.semaphores
-          (sym (ap (λ (z : Script). z.semaphores) same)
-          ∙ ap (map semaphore_without_line) h.semaphores);
-      batches =
-          plain_with s.jobs
-          (subst (λ (z : Script). ArePlainBatches z.jobs) same
-          (plain_without a.jobs h.batches));
-    }
+-- the batch of a job, or this one
+abbrev batch_or : Batch → Job → Batch
+batch_or d (Host h) = d
+batch_or d (BatchJob b) = b
 
 -- Valid scripts
 
@@ -160,41 +129,228 @@ module _ (a s : Script) (same : SameButLines a s) where
       subst (λ (ns : List ℕ). Fits ns x.command) sizes
       (same_fits (sizes_of a) z.0 x z.2 (v.commands j k y.0 z.0 y.1 z.1))
 
-  -- Of scripts that are the same up to line numbers one is valid where the other is.
-  pub same_valid : HasOneLane s → IsValid a → IsValid s
-  same_valid h v =
-      record {
-        signals = λ e x i. absurd (none e x i);
-        commands = commands v;
-        limits =
-            limits v.limits;
-      }
+  -- What they declare is the same.
+  kinds_same : (t : ℕ) → kind_of a t ≡ kind_of s t
+  kinds_same t = by_lists a s same
     where
-      none : (e : ℕ) (x : Signaling) → slice_get (all_signals s) e ≡ Some x → ⊥
-      none e x i =
-          let c : None ≡ Some x =
-          ap (λ (xs : List Signaling). slice_get xs e) (sym (one_lane_signals s h)) ∙ i in cc
+      without : (x : Script) → kind_of x t
+          ≡ option_map (λ y. y.kind) (slice_get (map semaphore_without_line x.semaphores) t)
+      without x =
+          by_item (slice_get x.semaphores t)
+          ∙ ap (option_map (λ y. y.kind)) (sym (get-map semaphore_without_line x.semaphores t))
+        where
+          by_item : (o : Option Semaphore) → option_map (λ y. y.kind) o
+              ≡ option_map (λ y. y.kind) (option_map semaphore_without_line o)
+          by_item None = refl
+          by_item (Some y) = refl
 
--- A script that can be written has one lane.
-pub written_one_lane : (s : Script) → IsScript s → HasOneLane s
-written_one_lane s i =
-    same_one_lane i.written s i.same (text_one_lane i.text i.form i.written i.stands)
+      by_lists : (a s : Script) → SameButLines a s → kind_of a t ≡ kind_of s t
+      by_lists a s same =
+          without a
+          ∙ (ap (λ (z : Script). option_map (λ y. y.kind) (slice_get z.semaphores t)) same
+          ∙ sym (without s))
 
--- A script that can be written is valid.
-pub written_valid : (s : Script) → IsScript s → IsValid s
-written_valid s i =
-    same_valid i.written s i.same (written_one_lane s i)
-    (text_valid i.text i.form i.written i.stands)
+  modes_same : (q : ℕ) → is_immediate_queue a q ≡ is_immediate_queue s q
+  modes_same q =
+      without a
+      ∙ (ap (λ (z : Script). option_map_or (λ y. is_immediate y.mode) (slice_get z.queues q) false)
+      same
+      ∙ sym (without s))
+    where
+      without : (x : Script) → is_immediate_queue x q
+          ≡ option_map_or (λ y. is_immediate y.mode)
+          (slice_get (map queue_without_line x.queues) q) false
+      without x =
+          by_item (slice_get x.queues q)
+          ∙ ap (λ (o : Option Queue). option_map_or (λ y. is_immediate y.mode) o false)
+          (sym (get-map queue_without_line x.queues q))
+        where
+          by_item : (o : Option Queue) → option_map_or (λ y. is_immediate y.mode) o false
+              ≡ option_map_or (λ y. is_immediate y.mode) (option_map queue_without_line o) false
+          by_item None = refl
+          by_item (Some y) = refl
 
--- A script that was read can be written, ..
-pub read_written : (s : Script) → IsRead s → IsScript s
-read_written s i =
-    record { text = i.text; form = i.form; written = s; stands = i.stands; same = refl }
+  semaphores_same : length a.semaphores ≡ length s.semaphores
+  semaphores_same =
+      same_length semaphore_without_line a.semaphores s.semaphores
+      (ap (λ (z : Script). z.semaphores) same)
 
--- .. is valid, ..
-pub read_valid : (s : Script) → IsRead s → IsValid s
-read_valid s i = text_valid i.text i.form s i.stands
+  queues_same : length a.queues ≡ length s.queues
+  queues_same =
+      same_length queue_without_line a.queues s.queues (ap (λ (z : Script). z.queues) same)
 
--- .. and has one lane.
-pub read_one_lane : (s : Script) → IsRead s → HasOneLane s
-read_one_lane s i = text_one_lane i.text i.form s i.stands
+  mark_same : (m : Mark) → IsValidMark a m → IsValidMark s (mark_without_line m)
+  mark_same m v =
+      let k = kinds_same m.semaphore in
+      let l = v.exists in
+      let n = semaphores_same in
+      record {
+        exists = omega arith;
+        kind =
+            ap (λ (o : Option SemaphoreKind). option_map_or is_fence o false) (sym k) ∙ v.kind;
+        valueless =
+            λ h. v.valueless
+            (ap (λ (o : Option SemaphoreKind). option_map_or is_timeline o false) k ∙ h);
+      }
+
+  mark_with : (m : Mark) → IsValidMark s (mark_without_line m) → IsValidMark s m
+  mark_with m v = record { exists = v.exists; kind = v.kind; valueless = v.valueless }
+
+  fence_same : (m : Mark) → IsValidFence a m → IsValidFence s (mark_without_line m)
+  fence_same m v =
+      let k = kinds_same m.semaphore in
+      let l = v.exists in
+      let n = semaphores_same in
+      record {
+        exists = omega arith;
+        kind =
+            ap (λ (o : Option SemaphoreKind). option_map_or is_fence o false) (sym k) ∙ v.kind;
+        valueless = v.valueless;
+      }
+
+  -- marks that are the same but for their lines
+  marks_same : (xs ys : List Mark) → map mark_without_line xs ≡ map mark_without_line ys →
+      All (IsValidMark a) xs → All (IsValidMark s) ys
+  marks_same xs ys e v =
+      all_so (λ m. IsValidMark s (mark_without_line m)) (IsValidMark s) ys mark_with
+      (all_unmapped (IsValidMark s) mark_without_line ys
+      (subst (All (IsValidMark s)) e
+      (All-map (IsValidMark s) mark_without_line xs
+      (all_so (IsValidMark a) (λ m. IsValidMark s (mark_without_line m)) xs mark_same v))))
+
+  -- a fence that is the same but for its line
+  fences_same : (o : Option Mark) (m : Mark) → option_map mark_without_line o
+      ≡ Some (mark_without_line m) →
+      ((x : Mark) → o ≡ Some x → IsValidFence a x) → IsValidFence s m
+  fences_same None m e v = absurd (let c : None ≡ Some (mark_without_line m) = e in cc)
+  fences_same (Some x) m e v =
+      let same : mark_without_line x ≡ mark_without_line m = cc in
+      let f = subst (IsValidFence s) same (fence_same x (v x refl)) in
+      record { exists = f.exists; kind = f.kind; valueless = f.valueless }
+
+  batch_same : (b c : Batch) → job_without_lines (BatchJob c) ≡ job_without_lines (BatchJob b) →
+      IsValidBatch a c → IsValidBatch s b
+  batch_same b c e v =
+      let q : c.queue ≡ b.queue = ap (λ (j : Job). (batch_or b j).queue) e in
+      let w : map mark_without_line c.waits ≡ map mark_without_line b.waits =
+      ap (λ (j : Job). (batch_or b j).waits) e in
+      let g : map mark_without_line c.signals ≡ map mark_without_line b.signals =
+      ap (λ (j : Job). (batch_or b j).signals) e in
+      let f : option_map mark_without_line c.fence ≡ option_map mark_without_line b.fence =
+      ap (λ (j : Job). (batch_or b j).fence) e in
+      let lw = same_length mark_without_line c.waits b.waits w in
+      let lg = same_length mark_without_line c.signals b.signals g in
+      let vq = v.queue in
+      let vw = v.few_waits in
+      let vg = v.few_signals in
+      let n = queues_same in
+      record {
+        queue = omega arith;
+        waits = marks_same c.waits b.waits w v.waits;
+        signals = marks_same c.signals b.signals g v.signals;
+        fence =
+            λ m h. fences_same c.fence m (f ∙ ap (option_map mark_without_line) h) v.fence;
+        few_waits = omega arith;
+        few_signals = omega arith;
+      }
+
+  pub same_batches : HasValidBatches a → HasValidBatches s
+  same_batches v j b e =
+      let without : slice_get (map job_without_lines s.jobs) j
+      ≡ Some (job_without_lines (BatchJob b)) =
+      get-map job_without_lines s.jobs j ∙ ap (option_map job_without_lines) e in
+      let of_a : slice_get (map job_without_lines a.jobs) j
+      ≡ Some (job_without_lines (BatchJob b)) =
+      ap (λ (z : Script). slice_get z.jobs j) same ∙ without in
+      let y = some_of job_without_lines (slice_get a.jobs j) (job_without_lines (BatchJob b))
+      (sym (get-map job_without_lines a.jobs j) ∙ of_a) in
+      by_job y.0 y.1 y.2
+    where
+      by_job : (y : Job) → slice_get a.jobs j ≡ Some y →
+          job_without_lines y ≡ job_without_lines (BatchJob b) → IsValidBatch s b
+      by_job (Host h) i f = absurd (cc)
+      by_job (BatchJob c) i f = batch_same b c f (v j c i)
+
+  -- batches as a whole
+  whole_here : (jobs : List Job) → AreWholeBatches a jobs →
+      AreWholeBatches s (map job_without_lines jobs)
+  whole_here [] w = tt
+  whole_here (Host h ∷ jobs) w = absurd w
+  whole_here (BatchJob b ∷ jobs) w = (
+    record {
+      from_start = All-map (λ m. m.from ≡ 1) mark_without_line b.waits w.0.from_start;
+      unheld = λ h. ap (map mark_without_line) (w.0.unheld (modes_same b.queue ∙ h));
+    },
+    whole_here jobs w.1,
+  )
+
+  whole_there : (jobs : List Job) → AreWholeBatches s (map job_without_lines jobs) →
+      AreWholeBatches s jobs
+  whole_there [] w = tt
+  whole_there (Host h ∷ jobs) w = absurd w
+  whole_there (BatchJob b ∷ jobs) w = (
+    record {
+      from_start = all_unmapped (λ m. m.from ≡ 1) mark_without_line b.waits w.0.from_start;
+      unheld = λ h. map_empty mark_without_line b.waits (w.0.unheld h);
+    },
+    whole_there jobs w.1,
+  )
+
+  pub same_of_batches : IsOfBatches a → IsOfBatches s
+  same_of_batches h =
+      record {
+        version = sym (ap (λ (z : Script). z.version) same) ∙ h.version;
+        batches =
+            whole_there s.jobs
+            (subst (λ (z : Script). AreWholeBatches s z.jobs) same
+            (whole_here a.jobs h.batches));
+        unscheduled = sym (ap (λ (z : Script). z.scheduled) same) ∙ h.unscheduled;
+        turns =
+            map_empty turn_without_line s.turns
+            (sym (ap (λ (z : Script). z.turns) same) ∙ ap (map turn_without_line) h.turns);
+      }
+
+  -- Of scripts that are the same up to line numbers one is valid where the other is.
+  pub same_valid : HasValidBatches a → IsOfBatches a → IsValid a → IsValid s
+  same_valid b w v =
+      record {
+        signals = valid_signals s (same_batches b) (same_of_batches w);
+        commands = commands v;
+        limits = limits v.limits;
+      }
+
+module _ (s : Script) (i : IsScript s) where
+  -- The batches of a script that can be written name what exists, ..
+  pub written_batches : HasValidBatches s
+  written_batches = same_batches i.written s i.same (text_batches i.text i.form i.written i.stands)
+
+  -- .. it is one of batches alone, ..
+  pub written_of_batches : IsOfBatches s
+  written_of_batches =
+      same_of_batches i.written s i.same (text_of_batches i.text i.form i.written i.stands)
+
+  -- .. and it is valid.
+  pub written_valid : IsValid s
+  written_valid =
+      same_valid i.written s i.same (text_batches i.text i.form i.written i.stands)
+      (text_of_batches i.text i.form i.written i.stands)
+      (text_valid i.text i.form i.written i.stands)
+
+module _ (s : Script) (i : IsRead s) where
+  -- A script that was read can be written; it keeps all this, ..
+  pub read_written : IsScript s
+  read_written =
+      record { text = i.text; form = i.form; written = s; stands = i.stands; same = refl }
+
+  pub read_batches : HasValidBatches s
+  read_batches = text_batches i.text i.form s i.stands
+
+  pub read_of_batches : IsOfBatches s
+  read_of_batches = text_of_batches i.text i.form s i.stands
+
+  pub read_valid : IsValid s
+  read_valid = text_valid i.text i.form s i.stands
+
+  -- .. and its lines rise.
+  pub read_lines_rise : HasRisingLines s
+  read_lines_rise = text_lines_rise i.text i.form s i.stands

@@ -18,7 +18,7 @@ use Rattle.vq_laws.specs.Machine.{is_reached}
 use Rattle.vq_laws.specs.SlowRun.{payload_after, slow_order, left_over}
 use Rattle.vq_laws.specs.Signals.{is_timeline_at, kind_of}
 use Rattle.vq_laws.specs.HappensBefore.{HappensBefore}
-use Rattle.vq_laws.specs.Sure.{IsSure, RisesFrom}
+use Rattle.vq_laws.specs.Sure.{IsSure}
 use Rattle.vq_laws.specs.Lowering.{names_fence, resets_fence}
 use Rattle.vq_laws.specs.Races.{IsRace}
 
@@ -115,14 +115,15 @@ pub record IsFenceBusyAt (p : Plan) (line : ℕ) : Type 0 where
   pub unsure : ¬ IsSure p op job
   pub named : line ≡ line_of_job p job
 
+-- whether a lane is that of an immediate queue
+abbrev pub is_immediate_lane : Plan → Lane → Bool
+is_immediate_lane p HostLane = false
+is_immediate_lane p (QueueLane q) =
+    option_map_or (λ x. is_immediate x.mode) (slice_get p.script.queues q) false
+
 -- whether a job is a batch of an immediate queue
 abbrev pub is_immediate_batch : Plan → ℕ → Bool
-is_immediate_batch p j = of_job (λ x. by_lane x.lane) false p j
-  where
-    by_lane : Lane → Bool
-    by_lane HostLane = false
-    by_lane (QueueLane q) =
-        option_map_or (λ x. is_immediate x.mode) (slice_get p.script.queues q) false
+is_immediate_batch p j = of_job (λ x. is_immediate_lane p x.lane) false p j
 
 -- A batch of an immediate queue waits for a signal that is not sure to be pending when it is
 -- submitted. That such a queue can't hold back a batch is the project's own.
@@ -158,16 +159,13 @@ abbrev pub NoLines : (ℕ → ℕ → Type 0) → Type 0
 NoLines P = (a b : ℕ) → ¬ P a b
 
 -- A lawful plan: no row of faults holds. By the rows its commands are ordered and its timelines
--- rise (`HasSureOrder`).
+-- rise; its binary semaphores and fences rise by the refusals of lowering too (`HasSureOrder`).
 pub record IsLawful (p : Plan) : Type 0 where
   pub reachable : left_over p ≡ []
   pub ordered : NoLines (IsUnordered p)
   pub resettable : NoLine (IsFenceBusyAt p)
   pub pending : NoLine (IsNotPendingAt p)
   pub race_free : NoLines (IsRaceAt p)
-  -- The chains of binary semaphores and fences rise in a sure order too. This follows from the rows
-  -- and from the faults of lowering; until that is proved it is asked.
-  pub counted : (t : ℕ) → is_timeline_chain p t ≡ false → RisesFrom p (initial p t) (chain p t)
 
 -- The first fault of a plan: the faults are decided in the order of the rows, and the least line, or
 -- the least pair of lines, is named. Want of memory is no fault of the plan.

@@ -13,6 +13,7 @@ pub mod Memory
 pub mod Plan
 pub mod Edges
 pub mod WellFormed
+pub mod Lanes
 pub mod Signals
 pub mod Lowering
 pub mod ValidScripts

@@ -1,6 +1,6 @@
 -- What the words of a line say: their form, the words at its open places, and the statement.
 -- The format is this project's own.
-use Rattle.std.specs.Prelude.{Bool, true, List, [], ◌∷◌, ◌+◌, ◌++◌, ℕ, ◌%◌, ◌==◌, nat_lt, false, ◌&&◌, length, if◌then◌else◌, Option, Some, None, find, ◌||◌, drop, codes, ◌^◌, ◌*◌, map}
+use Rattle.std.specs.Prelude.{Bool, true, List, [], ◌∷◌, ◌+◌, ◌++◌, ℕ, ◌%◌, ◌==◌, nat_lt, false, ◌&&◌, length, if◌then◌else◌, Option, Some, None, find, ◌||◌, drop, codes, ◌^◌, ◌*◌, map, not}
 use Rattle.std.specs.Str.{bytes_eq}
 use Rattle.std.specs.Option.{option_map, option_and_then}
 use Rattle.std.specs.List.{list_all}
@@ -13,7 +13,7 @@ use Rattle.vq_laws.specs.declared.statement.Section.{Section}
 use Rattle.vq_laws.specs.declared.statement.Section.TheVariants.{Outside, InBatch, InSchedule}
 use Rattle.vq_laws.specs.declared.script.ActorName.{ActorName}
 use Rattle.vq_laws.specs.declared.script.ActorName.TheVariants.{Host as HostActor, Submit as SubmitActor, Ring as RingActor}
-use Rattle.vq_laws.specs.declared.script.Mode.TheVariants.{Immediate}
+use Rattle.vq_laws.specs.declared.script.Mode.TheVariants.{Immediate, Threaded}
 use Rattle.vq_laws.specs.declared.script.Pair.{Pair}
 use Rattle.vq_laws.specs.declared.statement.Statement.{Statement}
 use Rattle.vq_laws.specs.declared.statement.Statement.TheVariants.{HasVersion, DeclareBuffer, DeclareSemaphore, DeclareQueue, BeginBatch, AddWait, AddCommand, AddSignal, AddFence, EndBatch, TakeHostStep, BeginSchedule, TakeTurns}
@@ -22,21 +22,30 @@ use Rattle.vq_laws.specs.declared.script.HostStep.TheVariants.{Signal as HostSig
 use Rattle.vq_laws.specs.declared.script.Command.TheVariants.{Fill, Update, Copy}
 use Rattle.vq_laws.specs.declared.script.FillSize.TheVariants.{Whole, Count}
 use Rattle.vq_laws.specs.Forms.{forms_outside, forms_in_batch, forms_in_schedule, held_forms, schedule_forms, Place, Pairs, word, Fixed, places, TimelineName, Numeral}
-use Rattle.vq_laws.specs.Context.{queues, section, version_of, queue_at, threaded_at, timeline_at, buffer_at, binary_at, fence_at}
+use Rattle.vq_laws.specs.Context.{section, is_batch_immediate, version_of, queue_at, threaded_at, timeline_at, buffer_at, binary_at, fence_at}
 use Rattle.vq_laws.specs.Text.{is_name, numeral}
 
 -- The form of a line
 
--- The forms that are built so far; a line of another form is Syntax. There is one queue at most,
--- and it is immediate.
+-- The forms that are built so far; a line of another form is Syntax. No queue is deferred, and a
+-- batch of an immediate queue waits for nothing.
 abbrev pub is_built : List Line → LineForm → Bool
 is_built before BufferLine = true
-is_built before (QueueLine Immediate) = length (queues before) == 0
+is_built before TimelineLine = true
+is_built before BinaryLine = true
+is_built before FenceLine = true
+is_built before (QueueLine Immediate) = true
+is_built before (QueueLine Threaded) = true
 is_built before SubmitLine = true
+is_built before WaitTimelineLine = not (is_batch_immediate before)
+is_built before WaitBinaryLine = not (is_batch_immediate before)
 is_built before FillWholeLine = true
 is_built before FillLine = true
 is_built before UpdateLine = true
 is_built before CopyLine = true
+is_built before SignalTimelineLine = true
+is_built before SignalBinaryLine = true
+is_built before BatchFenceLine = true
 is_built before EndLine = true
 is_built before other = false
 

@@ -1,5 +1,5 @@
 -- What each script that can be written keeps. This project's own.
-use Rattle.std.specs.Prelude.{ℕ, ◌≡◌, ◌<◌, ◌≤◌, Bool, true, false, List, [], ◌∷◌, ◌++◌, length, map, sum, None, Some, All}
+use Rattle.std.specs.Prelude.{ℕ, ◌≡◌, ◌<◌, ◌≤◌, Bool, true, false, List, [], ◌∷◌, ◌++◌, length, map, sum, Some, All}
 use Rattle.std.specs.List.{slice_get, flat_map}
 use Rattle.std.specs.Option.{option_map_or, option_to_list}
 use Rattle.vq_laws.specs.declared.script.Script.{Script}
@@ -98,27 +98,5 @@ AreWholeBatches s (BatchJob b ∷ jobs) = WaitsWhole s b × AreWholeBatches s jo
 pub record IsOfBatches (s : Script) : Type 0 where
   pub version : s.version ≡ 1
   pub batches : AreWholeBatches s s.jobs
-  pub unscheduled : s.scheduled ≡ false
-  pub turns : s.turns ≡ []
-
--- a batch of the first queue that only has commands
-pub record IsPlainBatch (b : Batch) : Type 0 where
-  pub queue : b.queue ≡ 0
-  pub waits : b.waits ≡ []
-  pub signals : b.signals ≡ []
-  pub fence : b.fence ≡ None
-
-abbrev pub ArePlainBatches : List Job → Type 0
-ArePlainBatches [] = Unit {0}
-ArePlainBatches (Host h ∷ jobs) = ⊥
-ArePlainBatches (BatchJob b ∷ jobs) = IsPlainBatch b × ArePlainBatches jobs
-
--- A script of one lane: it is of version 1, has no semaphores and no schedule, and its jobs are
--- batches of one queue that only have commands. So is each script of the forms that are built so
--- far.
-pub record HasOneLane (s : Script) : Type 0 where
-  pub version : s.version ≡ 1
-  pub semaphores : s.semaphores ≡ []
-  pub batches : ArePlainBatches s.jobs
   pub unscheduled : s.scheduled ≡ false
   pub turns : s.turns ≡ []

@@ -1,18 +1,16 @@
-//! Laws over what texts stand for, and over plans of one lane. The functions do nothing: their
-//! contracts are the laws.
-ghost use Rattle.std.specs.Prelude.{◌≡◌, ◌≤◌, ℕ, List, [], None, length, map};
-ghost use Rattle.std.specs.List.{flat_map, range_with_len};
+//! Laws over what texts stand for. The functions do nothing: their contracts are the laws.
+ghost use Rattle.std.specs.Prelude.{◌≡◌, ◌≤◌, ℕ, List, length};
 ghost use Rattle.vq_laws.specs.declared.script.Script.{Script};
-ghost use Rattle.vq_laws.specs.Checks.{IsLawful};
-ghost use Rattle.vq_laws.specs.Lowering.{batch_commands, plan_of};
-ghost use Rattle.vq_laws.specs.LoweringFaults.{lowering_fault};
-ghost use Rattle.vq_laws.specs.Memory.{after_all, zeros_of};
+ghost use Rattle.vq_laws.specs.Checks.{IsFenceBusyAt, IsNotPendingAt, NoLine};
+ghost use Rattle.vq_laws.specs.Edges.{HasNoHeldWait};
+ghost use Rattle.vq_laws.specs.LoweringFaults.{IsPlan};
 ghost use Rattle.vq_laws.specs.OutputText.{buffers_text};
 ghost use Rattle.vq_laws.specs.Outputs.{IsOutput};
-ghost use Rattle.vq_laws.specs.SlowRun.{final, left_over, slow_order};
-ghost use Rattle.vq_laws.specs.SameScript.{IsScript};
+ghost use Rattle.vq_laws.specs.Plan.{Plan};
+ghost use Rattle.vq_laws.specs.SlowRun.{final};
+ghost use Rattle.vq_laws.specs.SameScript.{IsRead, IsScript};
 ghost use Rattle.vq_laws.specs.Text.{lines_of};
-ghost use Rattle.vq_laws.specs.ValidScripts.{IsValid, HasOneLane, sizes_of};
+ghost use Rattle.vq_laws.specs.ValidScripts.{IsValid, HasValidBatches, IsOfBatches, HasRisingLines};
 
 /// A text has no more lines than bytes.
 pub fn lines_are_few()
@@ -20,32 +18,33 @@ pub fn lines_are_few()
 {}
 
 /// A script that can be written is valid: its signals name semaphores that exist, its commands fit
-/// their buffers, and it stays within the limits.
+/// their buffers, it stays within the limits, and its batches name what exists, of the kinds that
+/// their places need.
 pub fn scripts_are_valid()
-    ensures { (s : Script) → IsScript s → IsValid s }
+    ensures valid { (s : Script) → IsScript s → IsValid s }
+    ensures batches { (s : Script) → IsScript s → HasValidBatches s }
 {}
 
-/// A script that can be written has one lane: no semaphores, and only batches of one queue with
-/// nothing but commands. So it is as long as no further form of lines is built.
-pub fn scripts_have_one_lane()
-    ensures { (s : Script) → IsScript s → HasOneLane s }
+/// A script that can be written is one of batches alone, of which those of immediate queues wait for
+/// nothing. So it is as long as no further form of lines is built.
+pub fn scripts_are_of_batches()
+    ensures { (s : Script) → IsScript s → IsOfBatches s }
 {}
 
-/// A script of one lane has no fault of lowering. The slow run of its plan does all jobs in their
-/// order, and leaves what all commands leave in the order of the script. The plan is lawful, and the
-/// text of these buffers is its only output.
-pub fn one_lane_plans()
-    ensures faultless { (s : Script) → HasOneLane s → lowering_fault s ≡ None }
-    ensures order { (s : Script) → HasOneLane s →
-        slow_order (plan_of s) ≡ range_with_len 0 (length s.jobs) }
-    ensures none_left { (s : Script) → HasOneLane s → left_over (plan_of s) ≡ [] }
-    ensures bytes { (s : Script) → HasOneLane s →
-        final (plan_of s)
-        ≡ after_all (map (λ x. x.command) (flat_map batch_commands s.jobs)) (zeros_of (sizes_of s)) }
-    ensures lawful { (s : Script) → HasOneLane s → IsLawful (plan_of s) }
-    ensures output { (s : Script) → HasOneLane s →
-        IsOutput (plan_of s) (buffers_text s.buffers (final (plan_of s))) }
-    ensures only_output { (s : Script) → HasOneLane s →
-        (text : List ℕ) → IsOutput (plan_of s) text →
-        text ≡ buffers_text s.buffers (final (plan_of s)) }
+/// The lines of a script that was read rise in its order. It can be written, so it is valid too.
+pub fn lines_rise()
+    ensures rise { (s : Script) → IsRead s → HasRisingLines s }
+    ensures written { (s : Script) → IsRead s → IsScript s }
+{}
+
+/// The plan of a script of batches alone asks nothing: it has one output, the text of the buffers
+/// that the slow run leaves. No fence is reset, no batch of an immediate queue waits, and no wait
+/// holds back a part of a batch only.
+pub fn plans_of_batches()
+    ensures output { (p : Plan) → IsPlan p → IsOutput p (buffers_text p.script.buffers (final p)) }
+    ensures only_output { (p : Plan) → IsPlan p → (text : List ℕ) → IsOutput p text →
+        text ≡ buffers_text p.script.buffers (final p) }
+    ensures resettable { (p : Plan) → IsPlan p → NoLine (IsFenceBusyAt p) }
+    ensures pending { (p : Plan) → IsPlan p → NoLine (IsNotPendingAt p) }
+    ensures unheld { (p : Plan) → IsPlan p → HasNoHeldWait p }
 {}

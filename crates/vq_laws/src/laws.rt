@@ -28,8 +28,8 @@ ghost use Rattle.vq_laws.specs.declared.plan.Event.{Event};
 /// Every finished run of a lawful plan leaves the bytes of the slow run, whatever the order of its
 /// steps. So does every one without answers.
 pub fn one_result()
-    ensures run { (p : Plan) → IsWellFormed p → IsLawful p → HasOneResult p }
-    ensures progress { (p : Plan) → IsWellFormed p → IsLawful p → (steps : List Step) →
+    ensures run { (p : Plan) → IsPlan p → IsLawful p → HasOneResult p }
+    ensures progress { (p : Plan) → IsPlan p → IsLawful p → (steps : List Step) →
         ProgressRun p steps → AreFinished p (progress_after p steps) →
         bytes_after p (progress_after p steps).applied ≡ final p }
 {}
@@ -46,22 +46,22 @@ pub fn runs_progress()
 /// the first place of a started job, for the place of an applied command, and for a job with a made
 /// signal or a finished job are made. With each applied command the commands before it are applied.
 pub fn sure_in_time()
-    ensures started { (p : Plan) → IsWellFormed p → IsLawful p → (steps : List Step) → Run p steps →
+    ensures started { (p : Plan) → IsPlan p → IsLawful p → (steps : List Step) → Run p steps →
         (e j : ℕ) → (state_after p steps).progress.started j ≡ true → IsSureAt p e j (At 1) →
         (state_after p steps).progress.made e ≡ true }
-    ensures applied { (p : Plan) → IsWellFormed p → IsLawful p → (steps : List Step) → Run p steps →
+    ensures applied { (p : Plan) → IsPlan p → IsLawful p → (steps : List Step) → Run p steps →
         (e j c : ℕ) → has (commands_of p j) c ≡ true →
         has (state_after p steps).progress.applied c ≡ true → IsSureAt p e j (place_of p j c) →
         (state_after p steps).progress.made e ≡ true }
-    ensures signaled { (p : Plan) → IsWellFormed p → IsLawful p → (steps : List Step) →
+    ensures signaled { (p : Plan) → IsPlan p → IsLawful p → (steps : List Step) →
         Run p steps →
         (e j f : ℕ) → job_of p f ≡ Some j → (state_after p steps).progress.made f ≡ true →
         IsSure p e j → (state_after p steps).progress.made e ≡ true }
-    ensures finished { (p : Plan) → IsWellFormed p → IsLawful p → (steps : List Step) →
+    ensures finished { (p : Plan) → IsPlan p → IsLawful p → (steps : List Step) →
         Run p steps →
         (e j : ℕ) → (state_after p steps).progress.finished j ≡ true → IsSure p e j →
         (state_after p steps).progress.made e ≡ true }
-    ensures commands { (p : Plan) → IsWellFormed p → IsLawful p → (steps : List Step) →
+    ensures commands { (p : Plan) → IsPlan p → IsLawful p → (steps : List Step) →
         Run p steps →
         (i j c d : ℕ) → has (commands_of p i) c ≡ true → has (commands_of p j) d ≡ true →
         has (state_after p steps).progress.applied d ≡ true →
@@ -82,9 +82,9 @@ pub fn slow_run_stops()
 /// The slow run of a lawful plan is a finished run: the jobs of its order one after another, each
 /// whole.
 pub fn slow_run_is_a_run()
-    ensures run { (p : Plan) → IsWellFormed p → IsLawful p →
+    ensures run { (p : Plan) → IsPlan p → IsLawful p →
         ProgressRun p (steps_of_jobs p (slow_order p)) }
-    ensures finished { (p : Plan) → IsWellFormed p → IsLawful p →
+    ensures finished { (p : Plan) → IsPlan p → IsLawful p →
         AreFinished p (progress_after p (steps_of_jobs p (slow_order p))) }
 {}
 
@@ -99,7 +99,7 @@ pub fn slow_run_ignores_places()
 /// In each state of a run an operation is made exactly where its chain's payload has reached its
 /// value.
 pub fn made_as_payloads_say()
-    ensures { (p : Plan) → IsWellFormed p → IsLawful p → (steps : List Step) → Run p steps →
+    ensures { (p : Plan) → IsPlan p → IsLawful p → (steps : List Step) → Run p steps →
         (e t : ℕ) → chain_of p e ≡ Some t →
         ((state_after p steps).progress.made e
         ≡ true) ↔ (value p e ≤ (state_after p steps).progress.payload t) }
@@ -107,14 +107,14 @@ pub fn made_as_payloads_say()
 
 /// For a host step its start is enough: what is sure for it is made from then on.
 pub fn sure_for_host_steps()
-    ensures { (p : Plan) → IsWellFormed p → IsLawful p → (steps : List Step) → Run p steps →
+    ensures { (p : Plan) → IsPlan p → IsLawful p → (steps : List Step) → Run p steps →
         (e j : ℕ) → is_host_step p j ≡ true → (state_after p steps).progress.started j ≡ true →
         IsSure p e j → (state_after p steps).progress.made e ≡ true }
 {}
 
 /// While a job without signals runs, no operation of a job after it is made.
 pub fn none_after_a_running_job()
-    ensures { (p : Plan) → IsWellFormed p → IsLawful p → (steps : List Step) → Run p steps →
+    ensures { (p : Plan) → IsPlan p → IsLawful p → (steps : List Step) → Run p steps →
         (e i j : ℕ) → signals_of p i ≡ [] → (state_after p steps).progress.finished i ≡ false →
         HappensBefore p i j → job_of p e ≡ Some j →
         (state_after p steps).progress.made e ≡ false }
@@ -134,7 +134,7 @@ pub fn without_held_waits()
 /// event need ask that a signal sets a greater payload, or that a started batch stands after the
 /// last host step before it.
 pub fn history_is_run()
-    ensures { (p : Plan) → IsWellFormed p → KeepsHostOrder p → IsLawful p → (events : List Event) →
+    ensures { (p : Plan) → IsPlan p → IsLawful p → (events : List Event) →
         HistoryFrom p (opening_points p) events → Run p (steps_of events) }
 {}
 
@@ -154,7 +154,7 @@ pub fn pending_in_order()
 
 /// The text of a finished run of a lawful plan, answers and buffers, is one of the plan's outputs.
 pub fn run_gives_output()
-    ensures { (p : Plan) → IsWellFormed p → KeepsHostOrder p → IsLawful p → (steps : List Step) →
+    ensures { (p : Plan) → IsPlan p → IsLawful p → (steps : List Step) →
         Run p steps → IsFinished p (state_after p steps) →
         IsOutput p (answers_of p (state_after p steps)
         ++ buffers_text p.script.buffers
@@ -170,12 +170,15 @@ pub fn order_decides()
 {}
 
 /// Where no row of faults holds, conflicting commands of two jobs are ordered, and each timeline
-/// rises in a sure order. So a lawful plan has all that the laws on runs need.
+/// rises in a sure order. So do binary semaphores and fences, by the refusals of lowering and the
+/// row of waits that may be overtaken. So a lawful plan has all that the laws on runs need.
 pub fn lawful_plans_have_order()
     ensures commands { (p : Plan) → NoLines (IsRaceAt p) → HasNoRace p }
     ensures timelines { (p : Plan) → IsWellFormed p → NoLines (IsUnordered p) →
         (t : ℕ) → is_timeline_chain p t ≡ true → RisesFrom p (initial p t) (chain p t) }
-    ensures order { (p : Plan) → IsWellFormed p → IsLawful p → HasSureOrder p }
+    ensures counted { (p : Plan) → IsPlan p → left_over p ≡ [] → NoLines (IsUnordered p) →
+        (t : ℕ) → is_timeline_chain p t ≡ false → RisesFrom p (initial p t) (chain p t) }
+    ensures order { (p : Plan) → IsPlan p → IsLawful p → HasSureOrder p }
 {}
 
 /// A lawful plan has no first fault.
@@ -214,12 +217,12 @@ pub fn lowering_finds_faults()
 
 /// What a read may give is what the payload was in some state from the job's start to now.
 pub fn reads_give_payloads()
-    ensures was { (p : Plan) → IsWellFormed p → IsLawful p → (a b : List Step) → (j t n : ℕ) →
+    ensures was { (p : Plan) → IsPlan p → IsLawful p → (a b : List Step) → (j t n : ℕ) →
         Run p (a ++ StartStep j ∷ b) →
         was_since p (state_after p (a ++ StartStep j ∷ b)) j t n ≡ true →
         (front back : List Step) × (b ≡ front ++ back)
         × ((state_after p (a ++ StartStep j ∷ front)).progress.payload t ≡ n) }
-    ensures may { (p : Plan) → IsWellFormed p → IsLawful p → (a b : List Step) → (j t n : ℕ) →
+    ensures may { (p : Plan) → IsPlan p → IsLawful p → (a b : List Step) → (j t n : ℕ) →
         Run p (a ++ StartStep j ∷ b) →
         (front back : List Step) → b ≡ (front ++ back) →
         (state_after p (a ++ StartStep j ∷ front)).progress.payload t ≡ n →

@@ -1,29 +1,28 @@
 -- What a run leaves in the sink, from the outcome of its input and from what writing it left.
-use Rattle.std.proofs.Common.{◌≡◌, ℕ, ◌<◌, ◌≤◌, List, length, Option, Some, None, IfSome, refl, subst, sym, arith}
+use Rattle.std.proofs.Common.{◌≡◌, ℕ, ◌<◌, ◌≤◌, true, List, length, Option, Some, None, IfSome, refl, subst, sym, arith}
 use Rattle.std.specs.Prelude.{Ok, Err, OnSome, []}
 use Rattle.vq_laws.specs.declared.statement.Form.TheVariants.{Plain}
 use Rattle.vq_laws.specs.declared.script.Script.{Script}
 use Rattle.vq_laws.specs.declared.plan.PlanFault.{PlanFault}
 use Rattle.vq_laws.specs.declared.plan.PlanFault.TheVariants.{NoSignal, SignaledTwice, FenceUsed, Memory as NoMemoryToLower}
+use Rattle.vq_laws.specs.declared.plan.OrderFault.{OrderFault}
+use Rattle.vq_laws.specs.declared.plan.OrderFault.TheVariants.{Unreachable, Unordered, FenceBusy, NotPending, Race, Memory as NoMemoryToCheck}
 use Rattle.vq_laws.specs.declared.statement.FaultKind.{FaultKind}
 use Rattle.vq_laws.specs.Reading.{StandsFor, IsFirstFault}
 use Rattle.vq_laws.specs.Lowering.{plan_of}
-use Rattle.vq_laws.specs.LoweringFaults.{lowering_fault, IsFirstLoweringFault, Lowers}
-use Rattle.vq_laws.specs.Plan.{Plan}
-use Rattle.vq_laws.specs.SlowRun.{final}
-use Rattle.vq_laws.specs.OutputText.{buffers_text}
+use Rattle.vq_laws.specs.LoweringFaults.{lowering_fault, IsFirstLoweringFault, IsPlan, Lowers}
+use Rattle.vq_laws.specs.Plan.{Plan, has}
 use Rattle.vq_laws.specs.Outputs.{IsOutput}
-use Rattle.vq_laws.specs.ValidScripts.{HasOneLane}
-use Rattle.vq_laws.proofs.ScriptFacts.{text_one_lane}
-use Rattle.vq_laws.proofs.OneLaneLawful.{one_lane_lawful, one_lane_output}
-use Rattle.vq_laws.specs.Checks.{IsLawful}
+use Rattle.vq_laws.specs.Checks.{IsLeast, IsUnreachableAt}
+use Rattle.vq_laws.proofs.BatchPlans.{batches_output}
 use Rattle.vq_laws.specs.Refusals.{too_long, line_refusal}
-use Rattle.vq_laws.proofs.LawfulPlans.{lawful_without_fault}
+use Rattle.std.proofs.lemmas.Bool.{false≢true}
+use Rattle.vq_order.specs.Reach.{ChecksReach}
 use Rattle.vq_main.specs.declared.task.Task.{Task}
 use Rattle.vq_main.specs.declared.task.Task.TheVariants.{Run, Check}
 use Rattle.vq_main.specs.declared.status.Status.{Status}
 use Rattle.vq_main.specs.declared.status.Status.TheVariants.{Done, BadWords, Refused, ReadFault, WriteFault, Memory}
-use Rattle.vq_main.specs.Outcomes.{IsOutcome, is_too_long, has_faulty_line, has_no_plan, is_unlawful, gives_answer, Ends, AnswersTask, TaskText, RefusesPlan, ReadsToEnd, IsLawfulInput, IsDoneOrMemory, input_limit}
+use Rattle.vq_main.specs.Outcomes.{IsOutcome, is_too_long, has_faulty_line, has_no_plan, is_unlawful, gives_answer, IsChecked, IsFirstFaultChecked, Ends, AnswersTask, TaskText, RefusesPlan, RefusesOrder, ReadsToEnd, IsLawfulInput, IsDoneOrMemory, input_limit}
 use Rattle.vq_main.specs.Writes.{SinkMoment, WroteAll, Writes, wrote_all, wrote_part}
 
 -- a whole outcome was written
@@ -79,6 +78,17 @@ no_lowering_fault script (SignaledTwice n) none some = cc
 no_lowering_fault script (FenceUsed n) none some = cc
 no_lowering_fault script NoMemoryToLower none some = some
 
+-- a plan that was checked has no first fault
+checked_without_fault : (p : Plan) (fault : OrderFault) → IsChecked p → IsFirstFaultChecked p fault →
+    ⊥
+checked_without_fault p (Unreachable n) c f =
+    false≢true (subst (λ jobs. has jobs f.holds.job ≡ true) c f.holds.left)
+checked_without_fault p (Unordered a b) c f = f
+checked_without_fault p (FenceBusy n) c f = f
+checked_without_fault p (NotPending n) c f = f
+checked_without_fault p (Race a b) c f = f
+checked_without_fault p NoMemoryToCheck c f = f
+
 -- a lawful input is not refused
 not_refused : (task : Task) (input text : List ℕ) → IsLawfulInput input → IsOutcome task input Refused text → ⊥
 not_refused task input text l (is_too_long long) = let short = l.short in omega arith
@@ -90,7 +100,8 @@ not_refused task input text l (has_no_plan script fault short stands refused) =
 not_refused task input text l (is_unlawful script fault short stands lowers refused) =
     let other = l.stands in
     let same : l.script ≡ script = cc in
-    lawful_without_fault (plan_of script) fault (subst (λ s. IsLawful (plan_of s)) same l.lawful) refused
+    checked_without_fault (plan_of script) fault
+    (subst (λ s. IsChecked (plan_of s)) same l.checked) refused
 
 -- a lawful input is run, unless the source or the sink fails
 pub lawful_ends : (task : Task) (input : List ℕ) (result : Status) (before now : SinkMoment) →
@@ -114,23 +125,44 @@ refused_outcome task input script (FenceUsed n) text short stands l r =
     subst (λ t. IsOutcome task input Refused t) (sym r) (has_no_plan script (FenceUsed n) short stands l)
 refused_outcome task input script NoMemoryToLower text short stands l r = absurd r
 
--- what is written for a task of a script of one lane answers it
-answers_task : (task : Task) (script : Script) (p : Plan) (text : List ℕ) → HasOneLane script →
-    p ≡ plan_of script → TaskText task p text → AnswersTask task (plan_of script) text
-answers_task Run script p text lane same text_is =
-    let here : text ≡ buffers_text script.buffers (final (plan_of script)) =
-    subst (λ q. text ≡ buffers_text q.script.buffers (final q)) same text_is in
-    subst (λ t. IsOutput (plan_of script) t) (sym here) (one_lane_output script lane)
-answers_task Check script p text lane same text_is = text_is
+-- what is written for a task of a plan of batches answers it
+answers_task : (task : Task) (p : Plan) (text : List ℕ) → IsPlan p → TaskText task p text →
+    AnswersTask task p text
+answers_task Run p text i text_is = subst (IsOutput p) (sym text_is) (batches_output p i)
+answers_task Check p text i text_is = text_is
 
--- a script of one lane was lowered, and its task done
-pub task_outcome : (task : Task) (input : List ℕ) (script : Script) (p : Plan) (text : List ℕ) →
-    length input ≤ input_limit → StandsFor input Plain script → Lowers script (Ok p) →
-    TaskText task p text → IsOutcome task input Done text
-task_outcome task input script p text short stands l text_is =
-    let lane = text_one_lane input Plain script stands in
-    gives_answer script text short stands l.0 (one_lane_lawful script lane)
-    (answers_task task script p text lane l.1 text_is)
+-- a plan was checked, and its task done
+pub task_outcome : (task : Task) (input : List ℕ) (p : Plan) (text : List ℕ) →
+    length input ≤ input_limit → StandsFor input Plain p.script → Lowers p.script (Ok p) →
+    IsPlan p → IsChecked p → TaskText task p text → IsOutcome task input Done text
+task_outcome task input p text short stands l i checked text_is =
+    gives_answer p.script text short stands l.0 (subst IsChecked l.1 checked)
+    (subst (λ q. AnswersTask task q text) l.1 (answers_task task p text i text_is))
+
+-- a plan was refused for its first fault
+pub unlawful_outcome : (task : Task) (input : List ℕ) (p : Plan) (fault : OrderFault)
+    (text : List ℕ) → length input ≤ input_limit → StandsFor input Plain p.script →
+    Lowers p.script (Ok p) → ChecksReach p (Err fault) → RefusesOrder fault text →
+    IsOutcome task input Refused text
+unlawful_outcome task input p (Unreachable n) text short stands l f r =
+    subst (λ t. IsOutcome task input Refused t) (sym r)
+    (is_unlawful p.script (Unreachable n) short stands l.0
+    (subst (λ q. IsLeast (IsUnreachableAt q) n) l.1 f))
+unlawful_outcome task input p (Unordered a b) text short stands l f r = absurd f
+unlawful_outcome task input p (FenceBusy n) text short stands l f r = absurd f
+unlawful_outcome task input p (NotPending n) text short stands l f r = absurd f
+unlawful_outcome task input p (Race a b) text short stands l f r = absurd f
+unlawful_outcome task input p NoMemoryToCheck text short stands l f r = absurd r
+
+-- the plan of a script that was lowered is one of this script
+pub lowered_stands : (input : List ℕ) (script : Script) (p : Plan) →
+    StandsFor input Plain script → Lowers script (Ok p) → StandsFor input Plain p.script
+lowered_stands input script p stands l =
+    subst (λ q. StandsFor input Plain q.script) (sym l.1) stands
+
+pub lowered_again : (script : Script) (p : Plan) → Lowers script (Ok p) → Lowers p.script (Ok p)
+lowered_again script p l =
+    subst (λ q. Lowers q.script (Ok p)) (sym l.1) l
 
 -- a faulty line was refused
 pub faulty_outcome : (task : Task) (input : List ℕ) (n : ℕ) (kind : FaultKind) (text : List ℕ) →

@@ -1,15 +1,18 @@
 //! What the program writes for an input.
-ghost use Rattle.std.specs.Prelude.{◌≡◌, ◌≤◌, IfOk, length};
+ghost use Rattle.std.specs.Prelude.{◌≡◌, ◌≤◌, IfOk, Ok, length};
+ghost use Rattle.vq_laws.specs.LoweringFaults.{Lowers};
 ghost use Rattle.vq_laws.specs.Reading.{StandsFor};
 ghost use Rattle.vq_laws.specs.OutputText.{buffers_text};
-ghost use Rattle.vq_laws.specs.Refusals.{line_refusal};
+ghost use Rattle.vq_laws.specs.Refusals.{at_line, at_lines, line_refusal};
 ghost use Rattle.vq_laws.specs.SlowRun.{final};
 ghost use Rattle.vq_laws.specs.declared.statement.Form.TheVariants.{Plain};
-ghost use Rattle.vq_main.specs.Outcomes.{IsOutcome, RefusesPlan, TaskText, input_limit};
+ghost use Rattle.vq_main.specs.Outcomes.{IsOutcome, RefusesOrder, RefusesPlan, TaskText, input_limit};
 
 use crate::status::Status;
 use crate::task::Task;
 use std::alloc::{AllocError, Global};
+use vq_order::OrderFault;
+use vq_order::check::check;
 use vq_script::{FaultKind, Form, Script, ScriptFault, parse};
 use vq_spec::{Plan, PlanFault, buffers_text, slow_run};
 
@@ -43,6 +46,36 @@ fn plan_refusal(alloc: Global, fault: PlanFault) -> Result<Vec<u8>, AllocError>
     Ok(text.into_bytes())
 }
 
+/// The text that refuses a plan for a fault at one line.
+fn at_line(alloc: Global, fault: &str, line: u32) -> Result<Vec<u8>, AllocError>
+    ensures { IfOk result (λ text. text.items ≡ at_line fault.now line) }
+{
+    let text = format!(in alloc; "error: {fault}: line {line}\n")?;
+    Ok(text.into_bytes())
+}
+
+/// The text that refuses a plan for a fault at two lines.
+fn at_lines(alloc: Global, fault: &str, first: u32, second: u32) -> Result<Vec<u8>, AllocError>
+    ensures { IfOk result (λ text. text.items ≡ at_lines fault.now first second) }
+{
+    let text = format!(in alloc; "error: {fault}: lines {first} and {second}\n")?;
+    Ok(text.into_bytes())
+}
+
+/// The text that refuses a plan that isn't lawful.
+fn order_refusal(alloc: Global, fault: OrderFault) -> Result<Vec<u8>, AllocError>
+    ensures { IfOk result (λ text. RefusesOrder fault text.items) }
+{
+    match fault {
+        OrderFault::Unreachable { line } => at_line(alloc, "unreachable", line),
+        OrderFault::Unordered { first, second } => at_lines(alloc, "unordered", first, second),
+        OrderFault::FenceBusy { line } => at_line(alloc, "fence busy", line),
+        OrderFault::NotPending { line } => at_line(alloc, "not pending", line),
+        OrderFault::Race { first, second } => at_lines(alloc, "race", first, second),
+        OrderFault::Memory => Err(AllocError),
+    }
+}
+
 /// The text of a plan's final buffers.
 fn final_text(alloc: Global, plan: &Plan) -> Result<Vec<u8>, AllocError>
     ensures { IfOk result (λ text. text.items ≡ buffers_text plan.now.script.buffers (final plan.now)) }
@@ -61,6 +94,31 @@ fn task_text(alloc: Global, task: Task, plan: &Plan) -> Result<Vec<u8>, AllocErr
     }
 }
 
+/// What is written for the plan of a script that an input stands for.
+fn of_plan(alloc: Global, task: Task, plan: Plan, input: &[u8]) -> Result<Outcome, AllocError>
+    requires short { length input.now ≤ input_limit }
+    requires stands { StandsFor input.now Plain plan.script }
+    requires lowers { Lowers plan.script (Ok plan) }
+    ensures { IfOk result (λ outcome. IsOutcome task input.now outcome.status outcome.text.items) }
+{
+    match check(alloc, plan) {
+        Ok(ordered) => {
+            let text = task_text(alloc, task, ordered.plan())?;
+            Ok(Outcome {
+                status: Status::Done,
+                text,
+            })
+        }
+        Err(fault) => {
+            let text = order_refusal(alloc, fault)?;
+            Ok(Outcome {
+                status: Status::Refused,
+                text,
+            })
+        }
+    }
+}
+
 /// What is written for a script that an input stands for.
 fn of_script(alloc: Global, task: Task, script: Script, input: &[u8]) -> Result<Outcome, AllocError>
     requires short { length input.now ≤ input_limit }
@@ -68,13 +126,7 @@ fn of_script(alloc: Global, task: Task, script: Script, input: &[u8]) -> Result<
     ensures { IfOk result (λ outcome. IsOutcome task input.now outcome.status outcome.text.items) }
 {
     match Plan::lower(alloc, script) {
-        Ok(plan) => {
-            let text = task_text(alloc, task, &plan)?;
-            Ok(Outcome {
-                status: Status::Done,
-                text,
-            })
-        }
+        Ok(plan) => of_plan(alloc, task, plan, input),
         Err(fault) => {
             let text = plan_refusal(alloc, fault)?;
             Ok(Outcome {

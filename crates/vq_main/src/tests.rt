@@ -75,8 +75,13 @@ fn scripts_are_run_or_refused(rt: HostRuntime) -> Result<(), Fail> {
             Status::Refused,
         ),
         (
-            "queue P immediate\nqueue Q immediate\n",
+            "queue P immediate\nqueue Q deferred\n",
             "error: syntax: line 2\n",
+            Status::Refused,
+        ),
+        (
+            "timeline A 0\nqueue P immediate\nsubmit P\nwait A 0\nend\n",
+            "error: syntax: line 4\n",
             Status::Refused,
         ),
         ("host idle\n", "error: syntax: line 1\n", Status::Refused),
@@ -109,6 +114,67 @@ fn scripts_are_run_or_refused(rt: HostRuntime) -> Result<(), Fail> {
         (
             "queue Q immediate\nsubmit Q\nend\nbuffer X 4",
             "error: order: line 4\n",
+            Status::Refused,
+        ),
+    ] {
+        let mut sink = MemorySink::new(alloc, 4096, Vec::new(alloc))?;
+        let ended = ran(alloc, input.as_bytes(), &mut sink, Vec::new(alloc))?;
+        assert_eq!(rt; ended, status, "{input:?}");
+        assert_eq!(rt; sink.written(), text.as_bytes(), "{input:?}");
+    }
+    Ok(())
+}
+
+/// Q writes X, and P copies it once that is done.
+const COPY: &str =
+    "buffer X 8\nbuffer Y 8\ntimeline A 0\nqueue P threaded\nqueue Q threaded\nsubmit P\nwait A 1\ncopy X 0 Y 0 8\nend\nsubmit Q\nfill X 0 8 0x0a0b0c0d\nsignal A 1\nend\n";
+
+#[test]
+fn queues_wait_for_each_other(rt: HostRuntime) -> Result<(), Fail> {
+    let alloc = rt.alloc();
+    for (input, text, status) in [
+        (
+            COPY,
+            "buffer X 8\n0d0c0b0a0d0c0b0a\nbuffer Y 8\n0d0c0b0a0d0c0b0a\nend\n",
+            Status::Done,
+        ),
+        // a binary semaphore that is passed on twice
+        (
+            "buffer X 4\nbinary S\nqueue P threaded\nqueue Q threaded\nsubmit P\nfill X 0 4 1\nsignal S\nend\nsubmit Q\nwait S\nfill X 0 4 2\nsignal S\nend\nsubmit P\nwait S\nfill X 0 4 3\nend\n",
+            "buffer X 4\n03000000\nend\n",
+            Status::Done,
+        ),
+        // a later, greater signal
+        (
+            "timeline A 0\nbuffer X 4\nqueue P threaded\nqueue Q threaded\nsubmit P\nwait A 3\nfill X 0 4 5\nend\nsubmit Q\nsignal A 2\nend\nsubmit Q\nsignal A 7\nend\n",
+            "buffer X 4\n05000000\nend\n",
+            Status::Done,
+        ),
+        // waits that are never reached: of two queues for each other, of a batch for itself
+        (
+            "timeline A 0\ntimeline B 0\nqueue P threaded\nqueue Q threaded\nsubmit P\nwait A 1\nsignal B 1\nend\nsubmit Q\nwait B 1\nsignal A 1\nend\n",
+            "error: unreachable: line 6\n",
+            Status::Refused,
+        ),
+        (
+            "timeline A 0\nqueue Q threaded\nsubmit Q\nwait A 5\nsignal A 4\nend\n",
+            "error: unreachable: line 4\n",
+            Status::Refused,
+        ),
+        // faults of lowering, before those of the order
+        (
+            "binary S\nqueue P threaded\nsubmit P\nsignal S\nend\nsubmit P\nsignal S\nend\n",
+            "error: signaled twice: line 7\n",
+            Status::Refused,
+        ),
+        (
+            "binary S\ntimeline A 0\nqueue Q threaded\nsubmit Q\nwait A 1\nend\nsubmit Q\nwait S\nend\n",
+            "error: no signal: line 8\n",
+            Status::Refused,
+        ),
+        (
+            "fence F\nqueue Q threaded\nsubmit Q\nfence F\nend\nsubmit Q\nfence F\nend\n",
+            "error: fence used: line 7\n",
             Status::Refused,
         ),
     ] {
@@ -185,6 +251,12 @@ fn scripts_are_only_checked(rt: HostRuntime) -> Result<(), Fail> {
     for (input, text, status) in [
         ("", "lawful\n", Status::Done),
         (FILL, "lawful\n", Status::Done),
+        (COPY, "lawful\n", Status::Done),
+        (
+            "timeline A 0\nqueue Q threaded\nsubmit Q\nwait A 1\nend\n",
+            "error: unreachable: line 4\n",
+            Status::Refused,
+        ),
         (
             "buffer X 4\nsubmit Q\n",
             "error: name: line 2\n",

@@ -17,7 +17,7 @@ use Rattle.vq_laws.specs.LineFaults.{fails, is_shaped, is_numeric, is_known, is_
 use Rattle.vq_laws.specs.Meaning.{is_built, matches, where_built, form_of, statement_of, open_places, meaning}
 use Rattle.vq_laws.specs.Reading.{read_statement, with_line, without_fault}
 use Rattle.vq_script.specs.declared.known.Known.{Known}
-use Rattle.vq_script.specs.declared.known.OpenBatch.{OpenBatch}
+use Rattle.vq_script.specs.declared.open_batch.OpenBatch.{OpenBatch}
 use Rattle.vq_script.specs.declared.fault.Stop.{Stop}
 use Rattle.vq_script.specs.declared.fault.Stop.TheVariants.{Fault, NoMemory}
 use Rattle.vq_script.specs.Forms.{with_words}

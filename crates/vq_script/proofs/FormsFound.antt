@@ -9,7 +9,7 @@ use Rattle.vq_laws.specs.declared.statement.Line.{Line}
 use Rattle.vq_laws.specs.declared.statement.Form.{Form}
 use Rattle.vq_laws.specs.declared.statement.Form.TheVariants.{Plain, Scheduled}
 use Rattle.vq_laws.specs.declared.statement.LineForm.{LineForm}
-use Rattle.vq_laws.specs.declared.statement.LineForm.TheVariants.{VersionLine, ScheduleLine, FillWholeLine, FillLine, UpdateLine, CopyLine, EndLine}
+use Rattle.vq_laws.specs.declared.statement.LineForm.TheVariants.{VersionLine, ScheduleLine, WaitTimelineLine, WaitBinaryLine, FillWholeLine, FillLine, UpdateLine, CopyLine, SignalTimelineLine, SignalBinaryLine, BatchFenceLine, EndLine}
 use Rattle.vq_laws.specs.declared.statement.Section.TheVariants.{Outside, InBatch}
 use Rattle.vq_laws.specs.Context.{section, version_of}
 use Rattle.vq_laws.specs.Forms.{forms_outside, forms_in_batch, held_forms}
@@ -19,7 +19,8 @@ use Rattle.vq_laws.specs.declared.statement.FaultKind.TheVariants.{Syntax}
 use Rattle.vq_laws.specs.declared.script.Mode.{Mode}
 use Rattle.std.specs.Borrow.{Bor}
 use Rattle.vq_script.specs.declared.forms.Found.{Found}
-use Rattle.vq_script.specs.declared.forms.Found.TheVariants.{Buffer, Queue, Submit, FillWhole, Fill, Update, Copy, End}
+use Rattle.vq_script.specs.declared.forms.Found.TheVariants.{Buffer, Timeline, Binary, Fence, Queue, Submit, WaitTimeline, WaitBinary, FillWhole, Fill, Update, Copy, SignalTimeline, SignalBinary, BatchFence, End}
+use Rattle.vq_script.specs.declared.forms.PlaceWords.{PlaceWords}
 use Rattle.vq_script.specs.Forms.{OpenLine, open_line, with_words, Finds}
 use Rattle.vq_script.specs.Faults.{first_fault}
 use Rattle.vq_laws.specs.Meaning.{is_built, matches, where_built, form_of}
@@ -68,12 +69,17 @@ form_outside_is Scheduled (l ∷ before) words h = rw h (without_last (l ∷ bef
 pub form_in_batch_is : (form : Form) (before : List Line) (words : List (List ℕ)) → section before ≡ InBatch → version_of before ≡ 1 → form_of form before words ≡ where_built before (find (matches words) forms_in_batch)
 form_in_batch_is form before words h v = rw h (ap (λ n. where_built before (find (matches words) (held_forms n ++ forms_in_batch))) v)
 
--- the forms that are built and stand in a batch
+-- the forms that stand in a batch
 abbrev stands_in_batch : LineForm → Bool
+stands_in_batch WaitTimelineLine = true
+stands_in_batch WaitBinaryLine = true
 stands_in_batch FillWholeLine = true
 stands_in_batch FillLine = true
 stands_in_batch UpdateLine = true
 stands_in_batch CopyLine = true
+stands_in_batch SignalTimelineLine = true
+stands_in_batch SignalBinaryLine = true
+stands_in_batch BatchFenceLine = true
 stands_in_batch EndLine = true
 stands_in_batch other = false
 
@@ -86,29 +92,92 @@ find_all {X} p test (y ∷ xs) x h e = by_test (p y) e (find_all p test xs x (an
     by_test true i more = (let same : y ≡ x = cc in subst (λ (z : X). test z ≡ true) same (and_parts (test y) (list_all test xs) h).0)
     by_test false i more = more i
 
+-- the form that is found passes a test that all forms pass
+form_passes : (test : LineForm → Bool) (words : List (List ℕ)) (forms : List LineForm)
+    (found : Found) → list_all test forms ≡ true → Finds (Some found) words forms →
+    test (open_line found).0 ≡ true
+form_passes test words forms found h finds = by_found (find (matches words) forms) refl finds
+  where
+    by_found : (f : Option LineForm) → find (matches words) forms ≡ f →
+        Some (open_line found) ≡ option_map (with_words words) f → test (open_line found).0 ≡ true
+    by_found None e i = absurd (cc)
+    by_found (Some f) e i =
+        let same : open_line found ≡ with_words words f = cc in
+        subst (λ (x : OpenLine). test x.0 ≡ true) (sym same)
+        (find_all (matches words) test forms f h e)
+
+-- Lines outside a batch
+
+-- A line is of none of the forms that are read outside a batch.
+pub record IsUnreadOutside (found : Found) : Type 0 where
+  pub no_buffer : (name size : Bor (List ℕ)) → found ≡ Buffer name size → ⊥
+  pub no_timeline : (name value : Bor (List ℕ)) → found ≡ Timeline name value → ⊥
+  pub no_binary : (name : Bor (List ℕ)) → found ≡ Binary name → ⊥
+  pub no_fence : (name : Bor (List ℕ)) → found ≡ Fence name → ⊥
+  pub no_queue : (name : Bor (List ℕ)) (mode : Mode) → found ≡ Queue name mode → ⊥
+  pub no_submit : (queue : Bor (List ℕ)) → found ≡ Submit queue → ⊥
+
 -- a line found outside a batch, of a form that isn't built
-unbuilt_found : (lines : List Line) (found : Found) → not (stands_in_batch (open_line found).0) ≡ true →
-    ((name size : Bor (List ℕ)) → found ≡ Buffer name size → ⊥) → ((name : Bor (List ℕ)) (mode : Mode) → found ≡ Queue name mode → ⊥) → ((queue : Bor (List ℕ)) → found ≡ Submit queue → ⊥) →
+unbuilt_found : (lines : List Line) (found : Found) →
+    not (stands_in_batch (open_line found).0) ≡ true → IsUnreadOutside found →
     is_built lines (open_line found).0 ≡ false
-unbuilt_found lines (Buffer name size) o b q s = absurd (b name size refl)
-unbuilt_found lines (Queue name mode) o b q s = absurd (q name mode refl)
-unbuilt_found lines (Submit queue) o b q s = absurd (s queue refl)
-unbuilt_found lines (FillWhole buffer offset word) o b q s = absurd (cc)
-unbuilt_found lines (Fill buffer offset size word) o b q s = absurd (cc)
-unbuilt_found lines (Update buffer offset digits) o b q s = absurd (cc)
-unbuilt_found lines (Copy source target size) o b q s = absurd (cc)
-unbuilt_found lines End o b q s = absurd (cc)
-unbuilt_found lines other o b q s = refl
+unbuilt_found lines (Buffer name size) o u = absurd (u.no_buffer name size refl)
+unbuilt_found lines (Timeline name value) o u = absurd (u.no_timeline name value refl)
+unbuilt_found lines (Binary name) o u = absurd (u.no_binary name refl)
+unbuilt_found lines (Fence name) o u = absurd (u.no_fence name refl)
+unbuilt_found lines (Queue name mode) o u = absurd (u.no_queue name mode refl)
+unbuilt_found lines (Submit queue) o u = absurd (u.no_submit queue refl)
+unbuilt_found lines (WaitTimeline timeline value) o u = absurd (cc)
+unbuilt_found lines (WaitBinary semaphore) o u = absurd (cc)
+unbuilt_found lines (FillWhole buffer offset word) o u = absurd (cc)
+unbuilt_found lines (Fill buffer offset size word) o u = absurd (cc)
+unbuilt_found lines (Update buffer offset digits) o u = absurd (cc)
+unbuilt_found lines (Copy source target size) o u = absurd (cc)
+unbuilt_found lines (SignalTimeline timeline value) o u = absurd (cc)
+unbuilt_found lines (SignalBinary semaphore) o u = absurd (cc)
+unbuilt_found lines (BatchFence fence) o u = absurd (cc)
+unbuilt_found lines End o u = absurd (cc)
+unbuilt_found lines other o u = refl
 
 -- .. is Syntax
-pub unbuilt_outside : (lines : List Line) (words : List (List ℕ)) (found : Found) → Finds (Some found) words forms_outside →
-    ((name size : Bor (List ℕ)) → found ≡ Buffer name size → ⊥) → ((name : Bor (List ℕ)) (mode : Mode) → found ≡ Queue name mode → ⊥) → ((queue : Bor (List ℕ)) → found ≡ Submit queue → ⊥) →
+pub unbuilt_outside : (lines : List Line) (words : List (List ℕ)) (found : Found) →
+    Finds (Some found) words forms_outside → IsUnreadOutside found →
     first_fault lines (open_line found) ≡ Some Syntax
-unbuilt_outside lines words found finds b q s =
-    rw (unbuilt_found lines found (outside (find (matches words) forms_outside) refl finds) b q s) refl
-  where
-    outside : (f : Option LineForm) → find (matches words) forms_outside ≡ f → Some (open_line found) ≡ option_map (with_words words) f → not (stands_in_batch (open_line found).0) ≡ true
-    outside None e i = absurd (cc)
-    outside (Some f) e i =
-        let same : open_line found ≡ with_words words f = cc in
-        subst (λ (x : OpenLine). not (stands_in_batch x.0) ≡ true) (sym same) (find_all (matches words) (λ g. not (stands_in_batch g)) forms_outside f refl e)
+unbuilt_outside lines words found finds u =
+    rw (unbuilt_found lines found
+    (form_passes (λ f. not (stands_in_batch f)) words forms_outside found refl finds) u) refl
+
+-- Lines in a batch
+
+-- A line is of none of the forms that are read in a batch.
+pub record IsUnreadInBatch (found : Found) : Type 0 where
+  pub no_wait_timeline : (t v : Bor (List ℕ)) → found ≡ WaitTimeline t v → ⊥
+  pub no_wait_binary : (s : Bor (List ℕ)) → found ≡ WaitBinary s → ⊥
+  pub no_fill_whole : (b o w : Bor (List ℕ)) → found ≡ FillWhole b o w → ⊥
+  pub no_fill : (b o n w : Bor (List ℕ)) → found ≡ Fill b o n w → ⊥
+  pub no_update : (b o d : Bor (List ℕ)) → found ≡ Update b o d → ⊥
+  pub no_copy : (s t : PlaceWords) (n : Bor (List ℕ)) → found ≡ Copy s t n → ⊥
+  pub no_signal_timeline : (t v : Bor (List ℕ)) → found ≡ SignalTimeline t v → ⊥
+  pub no_signal_binary : (s : Bor (List ℕ)) → found ≡ SignalBinary s → ⊥
+  pub no_fence : (f : Bor (List ℕ)) → found ≡ BatchFence f → ⊥
+  pub no_end : found ≡ End → ⊥
+
+unread_found : (found : Found) → stands_in_batch (open_line found).0 ≡ true →
+    IsUnreadInBatch found → ⊥
+unread_found (WaitTimeline t v) o u = u.no_wait_timeline t v refl
+unread_found (WaitBinary s) o u = u.no_wait_binary s refl
+unread_found (FillWhole b offset w) o u = u.no_fill_whole b offset w refl
+unread_found (Fill b offset n w) o u = u.no_fill b offset n w refl
+unread_found (Update b offset d) o u = u.no_update b offset d refl
+unread_found (Copy s t n) o u = u.no_copy s t n refl
+unread_found (SignalTimeline t v) o u = u.no_signal_timeline t v refl
+unread_found (SignalBinary s) o u = u.no_signal_binary s refl
+unread_found (BatchFence f) o u = u.no_fence f refl
+unread_found End o u = u.no_end refl
+unread_found other o u = absurd (cc)
+
+-- each line of a form that stands in a batch is read
+pub read_in_batch : (words : List (List ℕ)) (found : Found) →
+    Finds (Some found) words forms_in_batch → IsUnreadInBatch found → ⊥
+read_in_batch words found finds u =
+    unread_found found (form_passes stands_in_batch words forms_in_batch found refl finds) u

@@ -1,5 +1,5 @@
 -- What the map of names finds after one name more, as the list of what is declared has it.
-use Rattle.std.proofs.Common.{ℕ, ◌≡◌, ◌+◌, Bool, true, false, ◌||◌, not, cond, List, [], ◌∷◌, ◌++◌, length, Option, Some, None, arith, refl, sym, ap, subst, ◌∙◌, nat_lt}
+use Rattle.std.proofs.Common.{ℕ, ◌≡◌, ◌+◌, Bool, true, false, ◌||◌, ◌&&◌, not, cond, List, [], ◌∷◌, ◌++◌, length, Option, Some, None, arith, refl, sym, ap, subst, ◌∙◌, nat_lt}
 use Rattle.std.specs.List.{position, position_or_len, list_any}
 use Rattle.std.specs.Option.{is_some}
 use Rattle.std.specs.Str.{bytes_eq}
@@ -15,9 +15,16 @@ use Rattle.std.proofs.lemmas.List.Sums.{prefix_len-le-length}
 use Rattle.std.proofs.lemmas.Bool.Decides.{nat_tests}
 use Rattle.std.proofs.lemmas.Map.Text.{is_eq-slice_cmp}
 use Rattle.std.proofs.lemmas.Slice.Eq.{bytes_eq-Decides}
-use Rattle.vq_script.specs.declared.declared.Declared.{Declared}
-use Rattle.vq_script.specs.declared.declared.Declared.TheVariants.{Buffer as BufferAt, Queue as QueueAt}
-use Rattle.vq_script.specs.Names.{declared_as, buffer_in, queue_in}
+use Rattle.std.proofs.lemmas.Bool.{or_parts}
+use Rattle.vq_laws.specs.declared.script.Buffer.{Buffer}
+use Rattle.vq_laws.specs.declared.script.Semaphore.{Semaphore}
+use Rattle.vq_laws.specs.declared.script.SemaphoreKind.{SemaphoreKind}
+use Rattle.vq_laws.specs.declared.script.SemaphoreKind.TheVariants.{Timeline, Binary, Fence}
+use Rattle.vq_laws.specs.declared.script.Queue.{Queue}
+use Rattle.vq_laws.specs.Context.{is_timeline, is_binary, is_fence}
+use Rattle.vq_script.specs.declared.named_item.NamedItem.{NamedItem}
+use Rattle.vq_script.specs.declared.named_item.NamedItem.TheVariants.{Buffer as BufferAt, Timeline as TimelineAt, Binary as BinaryAt, Fence as FenceAt, Queue as QueueAt}
+use Rattle.vq_script.specs.Names.{item_of, semaphore_item, buffer_in, timeline_in, binary_in, fence_in, queue_in, names_buffer, names_timeline, names_binary, names_fence, names_queue, is_taken}
 
 -- the first place that passes is in the list where any element passes
 any_within : {X : Type 0} (p : X → Bool) (xs : List X) → nat_lt (position_or_len p xs) (length xs) ≡ list_any p xs
@@ -74,59 +81,243 @@ has_bytes name = is_at (λ k. slice_cmp nat_cmp name k.items)
 same_bytes : (xs ys : List ℕ) → is_eq (slice_cmp nat_cmp xs ys) ≡ true → xs ≡ ys
 same_bytes xs ys h = (bytes_eq-Decides xs ys).0 (sym (is_eq-slice_cmp xs ys) ∙ h)
 
-other_names : (old new : List (Vec ℕ × Declared)) (test : Vec ℕ → Bool) → KeepsOthers (eq_by_cmp key_cmp) test old new → (other : Vec ℕ → Bool) → IsKeyTest (eq_by_cmp key_cmp) other → AreApart test other → lookup other new ≡ lookup other old
+other_names : (old new : List (Vec ℕ × NamedItem)) (test : Vec ℕ → Bool) →
+    KeepsOthers (eq_by_cmp key_cmp) test old new → (other : Vec ℕ → Bool) →
+    IsKeyTest (eq_by_cmp key_cmp) other → AreApart test other → lookup other new ≡ lookup other old
 unfolding KeepsOthers
 other_names old new test h = h
 
--- after a name is put into the map, it stands for what was put there, and each other name for what it stood for
-after_put : (old new : BTreeMap (Vec ℕ) Declared) (k : Vec ℕ) (d : Declared) → Updates key_cmp old new k (Some d) → (name : List ℕ) (b : Bool) → bytes_eq name k.items ≡ b → declared_as new name ≡ cond b (Some d) (declared_as old name)
+-- after a name is put into the map, it stands for what was put there, and each other name for what
+-- it stood for
+after_put : (old new : BTreeMap (Vec ℕ) NamedItem) (k : Vec ℕ) (d : NamedItem) →
+    Updates key_cmp old new k (Some d) → (name : List ℕ) (b : Bool) → bytes_eq name k.items ≡ b →
+    item_of new name ≡ cond b (Some d) (item_of old name)
 after_put old new k d put name true e =
     let same : name ≡ k.items = (bytes_eq-Decides name k.items).0 e in
-    subst (λ (bs : List ℕ). declared_as new bs ≡ Some d) (sym same) put.1
+    subst (λ (bs : List ℕ). item_of new bs ≡ Some d) (sym same) put.1
 after_put old new k d put name false e =
     other_names old.entries new.entries (is_at (key_cmp k)) put.3 (has_bytes name)
     (λ x y h. ap (λ (bs : List ℕ). is_eq (slice_cmp nat_cmp bs y.items)) (same_bytes name x.items h))
-    (λ x h. subst (λ (bs : List ℕ). is_eq (slice_cmp nat_cmp name bs) ≡ false) (same_bytes k.items x.items h) (is_eq-slice_cmp name k.items ∙ e))
+    (λ x h. subst (λ (bs : List ℕ). is_eq (slice_cmp nat_cmp name bs) ≡ false)
+    (same_bytes k.items x.items h) (is_eq-slice_cmp name k.items ∙ e))
 
 -- the last of a list is found by its name, if the name is new
-pub found_with : {X : Type 0} (name_of : X → List ℕ) (reads : Option Declared → Option ℕ) (old new : BTreeMap (Vec ℕ) Declared) (k : Vec ℕ) (d : Declared) (xs : List X) (x : X) →
-    Updates key_cmp old new k (Some d) → k.items ≡ name_of x → reads (Some d) ≡ Some (length xs) → list_any (λ y. bytes_eq (name_of x) (name_of y)) xs ≡ false →
-    ((name : List ℕ) → reads (declared_as old name) ≡ position (λ y. bytes_eq name (name_of y)) xs) →
-    (name : List ℕ) → reads (declared_as new name) ≡ position (λ y. bytes_eq name (name_of y)) (xs ++ x ∷ [])
-found_with name_of reads old new k d xs x put named last fresh was name = by_test (bytes_eq name k.items) refl
+found_with : {X : Type 0} (passes : List ℕ → X → Bool) (reads : Option NamedItem → Option ℕ)
+    (old new : BTreeMap (Vec ℕ) NamedItem) (k : Vec ℕ) (d : NamedItem) (xs : List X) (x : X) →
+    Updates key_cmp old new k (Some d) → ((name : List ℕ) → passes name x ≡ bytes_eq name k.items) →
+    reads (Some d) ≡ Some (length xs) → list_any (passes k.items) xs ≡ false →
+    ((name : List ℕ) → reads (item_of old name) ≡ position (passes name) xs) →
+    (name : List ℕ) → reads (item_of new name) ≡ position (passes name) (xs ++ x ∷ [])
+found_with passes reads old new k d xs x put named last fresh was name =
+    by_test (bytes_eq name k.items) refl
   where
-    by_test : (b : Bool) → bytes_eq name k.items ≡ b → reads (declared_as new name) ≡ position (λ y. bytes_eq name (name_of y)) (xs ++ x ∷ [])
-    by_test true e =
-        let same : name_of x ≡ name = sym ((bytes_eq-Decides name k.items).0 e ∙ named) in
-        let none = subst (λ (bs : List ℕ). list_any (λ y. bytes_eq bs (name_of y)) xs ≡ false) same fresh in
-        let passes : bytes_eq name (name_of x) ≡ true = ap (bytes_eq name) (sym named) ∙ e in
-        ap reads (after_put old new k d put name true e) ∙ last ∙ sym (last_found (λ y. bytes_eq name (name_of y)) xs x none passes)
-    by_test false e =
-        let fails : bytes_eq name (name_of x) ≡ false = ap (bytes_eq name) (sym named) ∙ e in
-        ap reads (after_put old new k d put name false e) ∙ was name ∙ sym (same_found (λ y. bytes_eq name (name_of y)) xs x fails)
-
--- a name of something else leaves a list's names as they were, if it is new
-pub found_without : {X : Type 0} (name_of : X → List ℕ) (reads : Option Declared → Option ℕ) (old new : BTreeMap (Vec ℕ) Declared) (k : Vec ℕ) (d : Declared) (xs : List X) →
-    Updates key_cmp old new k (Some d) → reads (Some d) ≡ None → list_any (λ y. bytes_eq k.items (name_of y)) xs ≡ false →
-    ((name : List ℕ) → reads (declared_as old name) ≡ position (λ y. bytes_eq name (name_of y)) xs) →
-    (name : List ℕ) → reads (declared_as new name) ≡ position (λ y. bytes_eq name (name_of y)) xs
-found_without name_of reads old new k d xs put none fresh was name = by_test (bytes_eq name k.items) refl
-  where
-    by_test : (b : Bool) → bytes_eq name k.items ≡ b → reads (declared_as new name) ≡ position (λ y. bytes_eq name (name_of y)) xs
+    by_test : (b : Bool) → bytes_eq name k.items ≡ b →
+        reads (item_of new name) ≡ position (passes name) (xs ++ x ∷ [])
     by_test true e =
         let same : k.items ≡ name = sym ((bytes_eq-Decides name k.items).0 e) in
-        ap reads (after_put old new k d put name true e) ∙ none ∙ sym (none_found (λ y. bytes_eq name (name_of y)) xs (subst (λ (bs : List ℕ). list_any (λ y. bytes_eq bs (name_of y)) xs ≡ false) same fresh))
+        let none = subst (λ (bs : List ℕ). list_any (passes bs) xs ≡ false) same fresh in
+        ap reads (after_put old new k d put name true e) ∙ last
+        ∙ sym (last_found (passes name) xs x none (named name ∙ e))
+    by_test false e =
+        ap reads (after_put old new k d put name false e) ∙ was name
+        ∙ sym (same_found (passes name) xs x (named name ∙ e))
+
+-- a name of something else leaves a list's names as they were, if it is new
+pub found_without : {X : Type 0} (passes : List ℕ → X → Bool)
+    (reads : Option NamedItem → Option ℕ) (old new : BTreeMap (Vec ℕ) NamedItem) (k : Vec ℕ)
+    (d : NamedItem) (xs : List X) →
+    Updates key_cmp old new k (Some d) → reads (Some d) ≡ None →
+    list_any (passes k.items) xs ≡ false →
+    ((name : List ℕ) → reads (item_of old name) ≡ position (passes name) xs) →
+    (name : List ℕ) → reads (item_of new name) ≡ position (passes name) xs
+found_without passes reads old new k d xs put none fresh was name =
+    by_test (bytes_eq name k.items) refl
+  where
+    by_test : (b : Bool) → bytes_eq name k.items ≡ b →
+        reads (item_of new name) ≡ position (passes name) xs
+    by_test true e =
+        let same : k.items ≡ name = sym ((bytes_eq-Decides name k.items).0 e) in
+        let free = subst (λ (bs : List ℕ). list_any (passes bs) xs ≡ false) same fresh in
+        ap reads (after_put old new k d put name true e) ∙ none
+        ∙ sym (none_found (passes name) xs free)
     by_test false e = ap reads (after_put old new k d put name false e) ∙ was name
 
--- what stands for something is a buffer or a queue
-pub is_either : (d : Option Declared) → is_some d ≡ (is_some (buffer_in d) || is_some (queue_in d))
-is_either None = refl
-is_either (Some (BufferAt n)) = refl
-is_either (Some (QueueAt n)) = refl
+-- a new buffer, and a new queue
 
--- the map has a name where a buffer or a queue has it
-pub either_found : {X Y : Type 0} (p : X → Bool) (xs : List X) (q : Y → Bool) (ys : List Y) (d : Option Declared) → buffer_in d ≡ position p xs → queue_in d ≡ position q ys → is_some d ≡ (list_any p xs || list_any q ys)
-either_found p xs q ys d of_xs of_ys =
-    is_either d
-    ∙ ap (λ (b : Bool). b || is_some (queue_in d)) (ap is_some of_xs ∙ any_found p xs)
-    ∙ ap (λ (b : Bool). list_any p xs || b) (ap is_some of_ys ∙ any_found q ys)
+pub buffer_found : (old new : BTreeMap (Vec ℕ) NamedItem) (k : Vec ℕ) (n : ℕ) (xs : List Buffer)
+    (x : Buffer) → Updates key_cmp old new k (Some (BufferAt n)) → k.items ≡ x.name →
+    n ≡ length xs → list_any (names_buffer k.items) xs ≡ false →
+    ((name : List ℕ) → buffer_in (item_of old name) ≡ position (names_buffer name) xs) →
+    (name : List ℕ) → buffer_in (item_of new name) ≡ position (names_buffer name) (xs ++ x ∷ [])
+buffer_found old new k n xs x put named last fresh was =
+    found_with names_buffer buffer_in old new k (BufferAt n) xs x put
+    (λ name. ap (bytes_eq name) (sym named)) (ap (λ (m : ℕ). Some m) last) fresh was
+
+pub queue_found : (old new : BTreeMap (Vec ℕ) NamedItem) (k : Vec ℕ) (n : ℕ) (xs : List Queue)
+    (x : Queue) → Updates key_cmp old new k (Some (QueueAt n)) → k.items ≡ x.name →
+    n ≡ length xs → list_any (names_queue k.items) xs ≡ false →
+    ((name : List ℕ) → queue_in (item_of old name) ≡ position (names_queue name) xs) →
+    (name : List ℕ) → queue_in (item_of new name) ≡ position (names_queue name) (xs ++ x ∷ [])
+queue_found old new k n xs x put named last fresh was =
+    found_with names_queue queue_in old new k (QueueAt n) xs x put
+    (λ name. ap (bytes_eq name) (sym named)) (ap (λ (m : ℕ). Some m) last) fresh was
+
+-- semaphores of a kind, by the test of the kind
+
+abbrev pub names_kind : (SemaphoreKind → Bool) → List ℕ → Semaphore → Bool
+names_kind is_kind name s = bytes_eq name s.name && is_kind s.kind
+
+abbrev pub has_name : List ℕ → Semaphore → Bool
+has_name name s = bytes_eq name s.name
+
+-- none of a kind has a name that no semaphore has
+pub none_of_kind : (is_kind : SemaphoreKind → Bool) (name : List ℕ) (xs : List Semaphore) →
+    list_any (has_name name) xs ≡ false → list_any (names_kind is_kind name) xs ≡ false
+none_of_kind is_kind name [] h = refl
+none_of_kind is_kind name (x ∷ xs) h =
+    let parts = or_parts (has_name name x) (list_any (has_name name) xs) h in
+    λ t. (parts.0 t && is_kind x.kind) || none_of_kind is_kind name xs parts.1 t
+
+-- one semaphore more, whose name is new, is found if it is of the kind
+pub kind_found : (is_kind : SemaphoreKind → Bool) (reads : Option NamedItem → Option ℕ) →
+    ((kind : SemaphoreKind) (n : ℕ) →
+    reads (Some (semaphore_item kind n)) ≡ cond (is_kind kind) (Some n) None) →
+    (old new : BTreeMap (Vec ℕ) NamedItem) (k : Vec ℕ) (d : NamedItem) (n : ℕ)
+    (xs : List Semaphore) (x : Semaphore) → Updates key_cmp old new k (Some d) →
+    k.items ≡ x.name → d ≡ semaphore_item x.kind n → n ≡ length xs →
+    list_any (has_name k.items) xs ≡ false →
+    ((name : List ℕ) → reads (item_of old name) ≡ position (names_kind is_kind name) xs) →
+    (name : List ℕ) →
+    reads (item_of new name) ≡ position (names_kind is_kind name) (xs ++ x ∷ [])
+kind_found is_kind reads read old new k d n xs x put named item last fresh was name =
+    by_kind (is_kind x.kind) refl
+  where
+    free : list_any (names_kind is_kind k.items) xs ≡ false
+    free = none_of_kind is_kind k.items xs fresh
+
+    and_true : (other : List ℕ) → is_kind x.kind ≡ true →
+        names_kind is_kind other x ≡ bytes_eq other k.items
+    and_true other e =
+        ap (λ b. bytes_eq other x.name && b) e ∙ true_right (bytes_eq other x.name)
+        ∙ ap (bytes_eq other) (sym named)
+      where
+        true_right : (b : Bool) → (b && true) ≡ b
+        true_right true = refl
+        true_right false = refl
+
+    by_kind : (b : Bool) → is_kind x.kind ≡ b →
+        reads (item_of new name) ≡ position (names_kind is_kind name) (xs ++ x ∷ [])
+    by_kind true e =
+        found_with (names_kind is_kind) reads old new k d xs x put
+        (λ other. and_true other e)
+        (ap (λ (i : NamedItem). reads (Some i)) item ∙ read x.kind n
+        ∙ ap (λ b. cond b (Some n) None) e ∙ ap (λ (m : ℕ). Some m) last)
+        free was name
+    by_kind false e =
+        found_without (names_kind is_kind) reads old new k d xs put
+        (ap (λ (i : NamedItem). reads (Some i)) item ∙ read x.kind n
+        ∙ ap (λ b. cond b (Some n) None) e)
+        free was name
+        ∙ sym (same_found (names_kind is_kind name) xs x (and_false (bytes_eq name x.name) e))
+      where
+        and_false : (b : Bool) → is_kind x.kind ≡ false → (b && is_kind x.kind) ≡ false
+        and_false true i = i
+        and_false false i = refl
+
+-- which kind of semaphore an item reads as
+
+pub no_buffer : (kind : SemaphoreKind) (n : ℕ) → buffer_in (Some (semaphore_item kind n)) ≡ None
+no_buffer (Timeline v) n = refl
+no_buffer Binary n = refl
+no_buffer Fence n = refl
+
+pub no_queue : (kind : SemaphoreKind) (n : ℕ) → queue_in (Some (semaphore_item kind n)) ≡ None
+no_queue (Timeline v) n = refl
+no_queue Binary n = refl
+no_queue Fence n = refl
+
+pub reads_timeline : (kind : SemaphoreKind) (n : ℕ) →
+    timeline_in (Some (semaphore_item kind n)) ≡ cond (is_timeline kind) (Some n) None
+reads_timeline (Timeline v) n = refl
+reads_timeline Binary n = refl
+reads_timeline Fence n = refl
+
+pub reads_binary : (kind : SemaphoreKind) (n : ℕ) →
+    binary_in (Some (semaphore_item kind n)) ≡ cond (is_binary kind) (Some n) None
+reads_binary (Timeline v) n = refl
+reads_binary Binary n = refl
+reads_binary Fence n = refl
+
+pub reads_fence : (kind : SemaphoreKind) (n : ℕ) →
+    fence_in (Some (semaphore_item kind n)) ≡ cond (is_fence kind) (Some n) None
+reads_fence (Timeline v) n = refl
+reads_fence Binary n = refl
+reads_fence Fence n = refl
+
+-- a name that is not taken is new in each list
+pub free_parts : (buffers : List Buffer) (semaphores : List Semaphore) (queues : List Queue)
+    (name : List ℕ) → is_taken buffers semaphores queues name ≡ false →
+    (list_any (names_buffer name) buffers ≡ false) × (list_any (has_name name) semaphores ≡ false)
+    × (list_any (names_queue name) queues ≡ false)
+free_parts buffers semaphores queues name h =
+    let first = or_parts (list_any (names_buffer name) buffers || list_any (has_name name) semaphores)
+    (list_any (names_queue name) queues) h in
+    let second = or_parts (list_any (names_buffer name) buffers) (list_any (has_name name) semaphores)
+    first.0 in
+    (second.0, second.1, first.1)
+
+-- what stands for something is a buffer, a semaphore or fence of some kind, or a queue
+some_item : (d : Option NamedItem) →
+    is_some d
+    ≡ (is_some (buffer_in d)
+    || (is_some (timeline_in d) || is_some (binary_in d) || is_some (fence_in d))
+    || is_some (queue_in d))
+some_item None = refl
+some_item (Some (BufferAt n)) = refl
+some_item (Some (TimelineAt n)) = refl
+some_item (Some (BinaryAt n)) = refl
+some_item (Some (FenceAt n)) = refl
+some_item (Some (QueueAt n)) = refl
+
+-- some semaphore or fence has a name where one of some kind has it
+any_kind : (name : List ℕ) (xs : List Semaphore) →
+    (list_any (names_timeline name) xs || list_any (names_binary name) xs
+    || list_any (names_fence name) xs)
+    ≡ list_any (has_name name) xs
+any_kind name [] = refl
+any_kind name (x ∷ xs) =
+    by_kind x.kind (bytes_eq name x.name) (list_any (names_timeline name) xs)
+    (list_any (names_binary name) xs) (list_any (names_fence name) xs) (any_kind name xs)
+  where
+    by_kind : (kind : SemaphoreKind) (b t i f : Bool) →
+        (t || i || f) ≡ list_any (has_name name) xs →
+        (((b && is_timeline kind) || t) || ((b && is_binary kind) || i)
+        || ((b && is_fence kind) || f))
+        ≡ (b || list_any (has_name name) xs)
+    by_kind (Timeline v) true t i f h = refl
+    by_kind Binary true true i f h = refl
+    by_kind Binary true false i f h = refl
+    by_kind Fence true true i f h = refl
+    by_kind Fence true false true f h = refl
+    by_kind Fence true false false f h = refl
+    by_kind (Timeline v) false t i f h = h
+    by_kind Binary false t i f h = h
+    by_kind Fence false t i f h = h
+
+-- the map has a name where something that is declared has it
+pub taken_found : (buffers : List Buffer) (semaphores : List Semaphore) (queues : List Queue)
+    (name : List ℕ) (d : Option NamedItem) → buffer_in d ≡ position (names_buffer name) buffers →
+    timeline_in d ≡ position (names_timeline name) semaphores →
+    binary_in d ≡ position (names_binary name) semaphores →
+    fence_in d ≡ position (names_fence name) semaphores →
+    queue_in d ≡ position (names_queue name) queues →
+    is_some d ≡ is_taken buffers semaphores queues name
+taken_found buffers semaphores queues name d b t i f q =
+    some_item d
+    ∙ (λ s. is_some (b s) || (is_some (t s) || is_some (i s) || is_some (f s)) || is_some (q s))
+    ∙ (λ s. any_found (names_buffer name) buffers s
+    || (any_found (names_timeline name) semaphores s || any_found (names_binary name) semaphores s
+    || any_found (names_fence name) semaphores s)
+    || any_found (names_queue name) queues s)
+    ∙ ap (λ c. list_any (names_buffer name) buffers || c || list_any (names_queue name) queues)
+    (any_kind name semaphores)

@@ -4,17 +4,19 @@ use Rattle.std.specs.Result.{OnOk, is_ok}
 use Rattle.std.proofs.lemmas.Bool.{cond-false}
 use Rattle.std.proofs.lemmas.List.{append-nil}
 use Rattle.std.proofs.lemmas.Grind.{flat_map-append}
-use Rattle.std.specs.List.{flat_map}
+use Rattle.std.specs.List.{flat_map, All}
 use Rattle.std.specs.Int.{to_be_bytes, w32}
 use Rattle.vq_laws.specs.declared.script.Script.{Script}
 use Rattle.vq_laws.specs.declared.script.Batch.{Batch}
 use Rattle.vq_laws.specs.declared.script.Buffer.{Buffer}
+use Rattle.vq_laws.specs.declared.script.Semaphore.{Semaphore}
+use Rattle.vq_laws.specs.declared.script.Mark.{Mark}
 use Rattle.vq_laws.specs.declared.script.Queue.{Queue}
 use Rattle.vq_laws.specs.declared.script.CommandLine.{CommandLine}
 use Rattle.vq_laws.specs.declared.script.Job.{Job}
 use Rattle.vq_laws.specs.declared.script.Job.TheVariants.{Host, Batch as BatchJob}
-use Rattle.vq_laws.specs.ValidScripts.{HasOneLane, IsPlainBatch, ArePlainBatches}
-use Rattle.vq_laws.specs.Canonical.{hex_digits, fill_word, queue_name, buffer_words, queue_words, semaphore_words, wait_words, command_words, signal_words, fence_lines, job_words, version_words, schedule_words, line_text, canonical_lines, canonical_text}
+use Rattle.vq_laws.specs.ValidScripts.{IsOfBatches, AreWholeBatches}
+use Rattle.vq_laws.specs.Canonical.{hex_digits, fill_word, queue_name, buffer_words, queue_words, semaphore_words, mark_words, from_words, wait_words, command_words, signal_words, fence_lines, job_words, version_words, schedule_words, line_text, canonical_text}
 
 -- what follows from what a call gives
 pub on_ok : {E P Q : Type 0} (r : Result (Unit {0}) E) → OnOk r P → (P → Q) → OnOk r Q
@@ -53,75 +55,82 @@ flat_map-flat_map f g [] = refl
 flat_map-flat_map f g (x ∷ xs) = flat_map-append f (g x) (flat_map g xs)
     ∙ ap (λ ys. flat_map f (g x) ++ ys) (flat_map-flat_map f g xs)
 
--- the lines of a batch that only has commands
-plain_job_words : (s : Script) (b : Batch) → IsPlainBatch b →
-    job_words s (BatchJob b) ≡ (codes "submit" ∷ queue_name s b.queue ∷ [])
-    ∷ (map (λ c. command_words s c.command) b.commands ++ (codes "end" ∷ []) ∷ [])
-plain_job_words s b p =
-    let first = codes "submit" ∷ queue_name s b.queue ∷ [] in
-    let last = (codes "end" ∷ []) ∷ [] in
-    let commands = map (λ (c : CommandLine). command_words s c.command) b.commands in
-    ap₂ (λ waits signals. first ∷ map (wait_words s) waits ++ commands ++ map (signal_words s) signals
-    ++ fence_lines s b.fence ++ last) p.waits p.signals
-    ∙ ap (λ fence. first ∷ (commands ++ [] ++ fence_lines s fence ++ last)) p.fence
-    ∙ ap (λ lines. first ∷ (lines ++ last)) (append-nil (commands ++ []) ∙ append-nil commands)
-
--- the text of a batch that only has commands
-batch_text : (s : Script) (b : Batch) → IsPlainBatch b →
+-- the lines of a batch, one kind after another
+batch_text : (s : Script) (b : Batch) →
     flat_map line_text (job_words s (BatchJob b))
     ≡ line_text (codes "submit" ∷ queue_name s b.queue ∷ [])
-    ++ (flat_map (λ c. line_text (command_words s c.command)) b.commands ++ codes "end\n")
-batch_text s b p =
+    ++ (flat_map (λ m. line_text (wait_words s m)) b.waits
+    ++ flat_map (λ c. line_text (command_words s c.command)) b.commands
+    ++ flat_map (λ m. line_text (signal_words s m)) b.signals
+    ++ flat_map line_text (fence_lines s b.fence)
+    ++ codes "end\n")
+batch_text s b =
     let first = line_text (codes "submit" ∷ queue_name s b.queue ∷ []) in
-    let f = λ (c : CommandLine). command_words s c.command in
-    ap (flat_map line_text) (plain_job_words s b p)
-    ∙ ap (λ text. first ++ text)
-    (flat_map-append line_text (map f b.commands) ((codes "end" ∷ []) ∷ [])
-    ∙ ap (λ text. text ++ codes "end\n") (flat_map-map line_text f b.commands))
+    let command = λ (c : CommandLine). command_words s c.command in
+    let waits = map (wait_words s) b.waits in
+    let commands = map command b.commands in
+    let signals = map (signal_words s) b.signals in
+    let fence = fence_lines s b.fence in
+    let last = (codes "end" ∷ []) ∷ [] in
+    ap (λ text. first ++ text)
+    (flat_map-append line_text (waits ++ commands ++ signals ++ fence) last
+    ∙ ap (λ text. text ++ codes "end\n")
+    (flat_map-append line_text (waits ++ commands ++ signals) fence
+    ∙ ap (λ text. text ++ flat_map line_text fence)
+    (flat_map-append line_text (waits ++ commands) signals
+    ∙ ap₂ (λ front back. front ++ back)
+    (flat_map-append line_text waits commands
+    ∙ ap₂ (λ front back. front ++ back) (flat_map-map line_text (wait_words s) b.waits)
+    (flat_map-map line_text command b.commands))
+    (flat_map-map line_text (signal_words s) b.signals))))
 
--- a batch of the first queue that only has commands
-abbrev pub IsPlainJob : Job → Type 0
-IsPlainJob (Host h) = ⊥
-IsPlainJob (BatchJob b) = IsPlainBatch b
+-- a batch whose waits hold it back as a whole
+abbrev pub IsWholeJob : Job → Type 0
+IsWholeJob (Host h) = ⊥
+IsWholeJob (BatchJob b) = All (λ m. m.from ≡ 1) b.waits
 
--- each of plain batches is one
-pub plain_job : (jobs : List Job) (j : ℕ) (job : Job) → ArePlainBatches jobs → j < length jobs →
-    IsPlainJob (slice_index_or jobs j job)
-plain_job [] j job plain l = absurd (omega arith)
-plain_job (Host h ∷ jobs) j job plain l = absurd plain
-plain_job (BatchJob b ∷ jobs) zero job plain l = plain.0
-plain_job (BatchJob b ∷ jobs) (suc j) job plain l = plain_job jobs j job plain.1 (omega arith)
+-- each of whole batches is one
+pub whole_job : (s : Script) (jobs : List Job) (j : ℕ) (job : Job) → AreWholeBatches s jobs →
+    j < length jobs → IsWholeJob (slice_index_or jobs j job)
+whole_job s [] j job whole l = absurd (omega arith)
+whole_job s (Host h ∷ jobs) j job whole l = absurd whole
+whole_job s (BatchJob b ∷ jobs) zero job whole l = whole.0.from_start
+whole_job s (BatchJob b ∷ jobs) (suc j) job whole l = whole_job s jobs j job whole.1 (omega arith)
+
+-- the words of a wait that holds back the whole batch
+pub whole_wait : (s : Script) (m : Mark) → m.from ≡ 1 →
+    wait_words s m ≡ codes "wait" ∷ mark_words s m
+whole_wait s m e =
+    ap (λ (n : ℕ). codes "wait" ∷ mark_words s m ++ from_words n) e
+    ∙ ap (λ words. codes "wait" ∷ words) (append-nil (mark_words s m))
 
 no_schedule : (s : Script) → s.scheduled ≡ false → schedule_words s ≡ []
 no_schedule s e = cond-false s.scheduled _ [] e
 
--- the lines of a script of one lane
-one_lane_lines : (s : Script) → HasOneLane s →
-    canonical_lines s
-    ≡ (map buffer_words s.buffers ++ map queue_words s.queues) ++ flat_map (job_words s) s.jobs
-one_lane_lines s lane =
+-- the text of a script of batches: its buffers, its semaphores and fences, its queues and its batches
+script_text : (s : Script) → IsOfBatches s →
+    canonical_text s
+    ≡ flat_map (λ b. line_text (buffer_words b)) s.buffers
+    ++ flat_map (λ x. line_text (semaphore_words x)) s.semaphores
+    ++ flat_map (λ q. line_text (queue_words q)) s.queues
+    ++ flat_map (λ j. flat_map line_text (job_words s j)) s.jobs
+script_text s is =
     let buffers = map buffer_words s.buffers in
+    let semaphores = map semaphore_words s.semaphores in
     let queues = map queue_words s.queues in
     let jobs = flat_map (job_words s) s.jobs in
-    ap₂ (λ version semaphores. version_words version ++ buffers ++ map semaphore_words semaphores
-    ++ queues ++ jobs ++ schedule_words s) lane.version lane.semaphores
-    ∙ ap (λ schedule. buffers ++ [] ++ queues ++ jobs ++ schedule) (no_schedule s lane.unscheduled)
-    ∙ append-nil (buffers ++ [] ++ queues ++ jobs)
-    ∙ ap (λ lines. lines ++ queues ++ jobs) (append-nil buffers)
-
--- the text of a script of one lane: its buffers, its queues and its batches
-one_lane_text : (s : Script) → HasOneLane s →
-    canonical_text s
-    ≡ (flat_map (λ b. line_text (buffer_words b)) s.buffers
-    ++ flat_map (λ q. line_text (queue_words q)) s.queues)
-    ++ flat_map (λ j. flat_map line_text (job_words s j)) s.jobs
-one_lane_text s lane =
-    ap (flat_map line_text) (one_lane_lines s lane)
-    ∙ flat_map-append line_text (map buffer_words s.buffers ++ map queue_words s.queues)
-    (flat_map (job_words s) s.jobs)
+    ap (λ version. flat_map line_text (version_words version ++ buffers ++ semaphores ++ queues
+    ++ jobs ++ schedule_words s)) is.version
+    ∙ ap (λ schedule. flat_map line_text (buffers ++ semaphores ++ queues ++ jobs ++ schedule))
+    (no_schedule s is.unscheduled)
+    ∙ ap (flat_map line_text) (append-nil (buffers ++ semaphores ++ queues ++ jobs))
+    ∙ flat_map-append line_text (buffers ++ semaphores ++ queues) jobs
     ∙ ap₂ (λ front back. front ++ back)
-    (flat_map-append line_text (map buffer_words s.buffers) (map queue_words s.queues)
+    (flat_map-append line_text (buffers ++ semaphores) queues
+    ∙ ap₂ (λ front back. front ++ back)
+    (flat_map-append line_text buffers semaphores
     ∙ ap₂ (λ front back. front ++ back) (flat_map-map line_text buffer_words s.buffers)
+    (flat_map-map line_text semaphore_words s.semaphores))
     (flat_map-map line_text queue_words s.queues))
     (flat_map-flat_map line_text (job_words s) s.jobs)
 
@@ -134,42 +143,56 @@ word_text n old prefixed new bytes b p e =
     ∙ append_assoc old (32 ∷ codes "0x") (flat_map (hex_digits 2) (to_be_bytes w32 n))
     ∙ ap (λ digits. old ++ (32 ∷ codes "0x" ++ digits)) (word_digits n)
 
--- five lists after a list, the first three of them as one and the last two as one
-appended : (old a b c d e v w x y z : List ℕ) → v ≡ old ++ a → w ≡ v ++ b → x ≡ w ++ c →
-    y ≡ x ++ d → z ≡ y ++ e → z ≡ old ++ (((a ++ b) ++ c) ++ (d ++ e))
-appended old a b c d e v w x y z p q r s t =
-    t ∙ ap (λ xs. xs ++ e)
-    (s ∙ ap (λ xs. xs ++ d) (r ∙ ap (λ xs. xs ++ c) (q ∙ ap (λ xs. xs ++ b) p)))
+-- six lists after a list, the last five of them as one
+appended : (old a b c d e f u v w x y z : List ℕ) → u ≡ old ++ a → v ≡ u ++ b → w ≡ v ++ c →
+    x ≡ w ++ d → y ≡ x ++ e → z ≡ y ++ f → z ≡ old ++ (a ++ (b ++ c ++ d ++ e ++ f))
+appended old a b c d e f u v w x y z p q r s t l =
+    l ∙ ap (λ xs. xs ++ f) (t ∙ ap (λ xs. xs ++ e)
+    (s ∙ ap (λ xs. xs ++ d) (r ∙ ap (λ xs. xs ++ c) (q ∙ ap (λ xs. xs ++ b) p))))
     ∙ simp append_assoc
 
 -- a list with the lines of a batch
-pub batch_added : (s : Script) (b : Batch) → IsPlainBatch b →
-    (name : List ℕ) (commands : List CommandLine) → name ≡ queue_name s b.queue →
-    commands ≡ b.commands → (old first named ended filled new : List ℕ) →
-    first ≡ old ++ codes "submit" → named ≡ first ++ 32 ∷ name → ended ≡ named ++ 10 ∷ [] →
-    filled ≡ ended ++ flat_map (λ c. line_text (command_words s c.command)) commands →
-    new ≡ filled ++ codes "end\n" →
+pub batch_added : (s : Script) (b : Batch) (name : List ℕ) (waits signals : List Mark)
+    (commands : List CommandLine) → name ≡ queue_name s b.queue → waits ≡ b.waits →
+    commands ≡ b.commands → signals ≡ b.signals →
+    (old first waited filled signaled fenced new : List ℕ) →
+    first ≡ old ++ line_text (codes "submit" ∷ name ∷ []) →
+    waited ≡ first ++ flat_map (λ m. line_text (wait_words s m)) waits →
+    filled ≡ waited ++ flat_map (λ c. line_text (command_words s c.command)) commands →
+    signaled ≡ filled ++ flat_map (λ m. line_text (signal_words s m)) signals →
+    fenced ≡ signaled ++ flat_map line_text (fence_lines s b.fence) →
+    new ≡ fenced ++ codes "end\n" →
     new ≡ old ++ flat_map line_text (job_words s (BatchJob b))
-batch_added s b p name commands n cs old first named ended filled new e1 e2 e3 e4 e5 =
-    let lines : List CommandLine → List ℕ
-    = λ cs. flat_map (λ c. line_text (command_words s c.command)) cs in
-    appended old (codes "submit") (32 ∷ queue_name s b.queue) (10 ∷ []) (lines b.commands)
-    (codes "end\n") first named ended filled new e1
-    (e2 ∙ ap (λ xs. first ++ 32 ∷ xs) n) e3 (e4 ∙ ap (λ xs. ended ++ lines xs) cs) e5
-    ∙ ap (λ text. old ++ text) (sym (batch_text s b p))
+batch_added s b name waits signals commands n ws cs ss old first waited filled signaled fenced new e1 e2 e3 e4 e5 e6 =
+    let wait_lines : List Mark → List ℕ = flat_map (λ m. line_text (wait_words s m)) in
+    let command_lines : List CommandLine → List ℕ
+    = flat_map (λ c. line_text (command_words s c.command)) in
+    let signal_lines : List Mark → List ℕ = flat_map (λ m. line_text (signal_words s m)) in
+    appended old (line_text (codes "submit" ∷ queue_name s b.queue ∷ [])) (wait_lines b.waits)
+    (command_lines b.commands) (signal_lines b.signals) (flat_map line_text (fence_lines s b.fence))
+    (codes "end\n") first waited filled signaled fenced new
+    (e1 ∙ ap (λ (xs : List ℕ). old ++ line_text (codes "submit" ∷ xs ∷ [])) n)
+    (e2 ∙ ap (λ xs. first ++ wait_lines xs) ws) (e3 ∙ ap (λ xs. waited ++ command_lines xs) cs)
+    (e4 ∙ ap (λ xs. filled ++ signal_lines xs) ss) e5 e6
+    ∙ ap (λ text. old ++ text) (sym (batch_text s b))
 
--- the buffers, the queues and the batches of a script of one lane, one after another
-pub lane_text : (s : Script) → HasOneLane s → (bs : List Buffer) (qs : List Queue) (js : List Job) →
-    bs ≡ s.buffers → qs ≡ s.queues → js ≡ s.jobs → (none buffers queues new : List ℕ) →
-    none ≡ [] → buffers ≡ none ++ flat_map (λ b. line_text (buffer_words b)) bs →
-    queues ≡ buffers ++ flat_map (λ q. line_text (queue_words q)) qs →
+-- the declarations and the batches of a script of batches, one after another
+pub text_added : (s : Script) → IsOfBatches s → (bs : List Buffer) (xs : List Semaphore)
+    (qs : List Queue) (js : List Job) → bs ≡ s.buffers → xs ≡ s.semaphores → qs ≡ s.queues →
+    js ≡ s.jobs → (none buffers semaphores queues new : List ℕ) → none ≡ [] →
+    buffers ≡ none ++ flat_map (λ b. line_text (buffer_words b)) bs →
+    semaphores ≡ buffers ++ flat_map (λ x. line_text (semaphore_words x)) xs →
+    queues ≡ semaphores ++ flat_map (λ q. line_text (queue_words q)) qs →
     new ≡ queues ++ flat_map (λ j. flat_map line_text (job_words s j)) js →
     new ≡ canonical_text s
-lane_text s lane bs qs js b q j none buffers queues new e1 e2 e3 e4 =
-    let buffer_lines : List Buffer → List ℕ = flat_map (λ x. line_text (buffer_words x)) in
-    let queue_lines : List Queue → List ℕ = flat_map (λ x. line_text (queue_words x)) in
-    let job_lines : List Job → List ℕ = flat_map (λ x. flat_map line_text (job_words s x)) in
-    e4 ∙ ap₂ (λ xs ys. xs ++ job_lines ys)
-    (e3 ∙ ap₂ (λ xs ys. xs ++ queue_lines ys)
-    (e2 ∙ ap₂ (λ xs ys. xs ++ buffer_lines ys) e1 b) q) j
-    ∙ sym (one_lane_text s lane)
+text_added s is bs xs qs js b x q j none buffers semaphores queues new e1 e2 e3 e4 e5 =
+    let buffer_lines : List Buffer → List ℕ = flat_map (λ y. line_text (buffer_words y)) in
+    let semaphore_lines : List Semaphore → List ℕ
+    = flat_map (λ y. line_text (semaphore_words y)) in
+    let queue_lines : List Queue → List ℕ = flat_map (λ y. line_text (queue_words y)) in
+    let job_lines : List Job → List ℕ = flat_map (λ y. flat_map line_text (job_words s y)) in
+    e5 ∙ ap₂ (λ front back. front ++ job_lines back)
+    (e4 ∙ ap₂ (λ front back. front ++ queue_lines back)
+    (e3 ∙ ap₂ (λ front back. front ++ semaphore_lines back)
+    (e2 ∙ ap₂ (λ front back. front ++ buffer_lines back) e1 b) x) q) j
+    ∙ sym (script_text s is)

@@ -1,169 +1,544 @@
 -- What the parser knows, with the line of one statement more.
-use Rattle.std.proofs.Common.{ℕ, ◌+◌, Bool, false, ◌||◌, List, [], ◌∷◌, ◌++◌, map, Some, None, arith, refl, sym, ap, ◌∙◌, nat_lt}
-use Rattle.std.specs.List.{filter_map, flat_map, fold}
-use Rattle.std.proofs.lemmas.List.{append_assoc, append-nil, length-append}
+use Rattle.std.proofs.Common.{◌≡◌, ℕ, ◌+◌, Bool, true, false, ◌||◌, cond, List, [], ◌∷◌, ◌++◌, length, map, Option, Some, None, arith, refl, sym, ap, subst, ◌∙◌, nat_lt}
+use Rattle.std.specs.List.{filter_map, flat_map, fold, cons_option}
+use Rattle.std.specs.Option.{option_or}
+use Rattle.std.proofs.lemmas.List.{append_assoc, append-nil, length-append, map-append}
 use Rattle.std.proofs.lemmas.List.Sums.{fold-append}
-use Rattle.std.proofs.lemmas.List.Folds.{list_any-append}
-use Rattle.std.proofs.lemmas.List.Elements.{filter_map-append}
 use Rattle.std.proofs.lemmas.Grind.{flat_map-append}
 use Rattle.std.proofs.lemmas.Bool.{le-ltb}
-use Rattle.std.proofs.lemmas.List.{map-append}
 use Rattle.vq_laws.specs.declared.statement.Line.{Line}
 use Rattle.vq_laws.specs.declared.statement.Statement.{Statement}
-use Rattle.vq_laws.specs.declared.statement.Statement.TheVariants.{DeclareBuffer, DeclareQueue, BeginBatch, AddCommand, EndBatch}
+use Rattle.vq_laws.specs.declared.statement.Statement.TheVariants.{DeclareBuffer, DeclareSemaphore, DeclareQueue, BeginBatch, AddWait, AddCommand, AddSignal, AddFence, EndBatch}
 use Rattle.vq_laws.specs.declared.script.Buffer.{Buffer}
+use Rattle.vq_laws.specs.declared.script.Semaphore.{Semaphore}
+use Rattle.vq_laws.specs.declared.script.SemaphoreKind.{SemaphoreKind}
 use Rattle.vq_laws.specs.declared.script.Queue.{Queue}
 use Rattle.vq_laws.specs.declared.script.Mode.{Mode}
 use Rattle.vq_laws.specs.declared.script.Batch.{Batch}
+use Rattle.vq_laws.specs.declared.script.Mark.{Mark}
+use Rattle.vq_laws.specs.declared.script.Pair.{Pair}
 use Rattle.vq_laws.specs.declared.script.Command.{Command}
-use Rattle.vq_laws.specs.declared.script.CommandLine.{CommandLine}
 use Rattle.vq_laws.specs.declared.script.Job.{Job}
 use Rattle.vq_laws.specs.declared.script.Job.TheVariants.{Batch as BatchJob}
-use Rattle.vq_laws.specs.Context.{section_after, buffer_of, semaphore_of, queue_of, count, some, open_batch, is_command, is_wait, is_submit, is_end}
+use Rattle.vq_laws.specs.Context.{section, section_after, buffer_of, semaphore_of, queue_of, count, some, open_batch, last_queue, is_command, is_wait, is_signal, is_batch_fence, is_submit, is_end, version_of}
 use Rattle.vq_laws.specs.Limits.{is_job}
 use Rattle.vq_laws.specs.LineFaults.{part_of}
 use Rattle.vq_laws.specs.Reading.{with_line}
-use Rattle.vq_laws.specs.ScriptOfLines.{batch_lines, jobs_of, is_schedule, turns_at, command_of, wait_of, signal_of, fence_of, first_of_list}
-use Rattle.vq_laws.specs.declared.statement.Section.TheVariants.{Outside}
-use Rattle.vq_script.specs.Holds.{Holds}
-use Rattle.vq_script.proofs.LineMore.{after_last_cut, after_last_more, before_first_more, count_more, version_more}
+use Rattle.vq_laws.specs.ScriptOfLines.{batch_lines, jobs_of, job_at, is_schedule, turns_at, mark, command_of, wait_of, signal_of, fence_of, first_of_list}
+use Rattle.vq_laws.specs.declared.statement.Section.{Section}
+use Rattle.vq_laws.specs.declared.statement.Section.TheVariants.{Outside, InBatch}
+use Rattle.vq_script.specs.Holds.{Holds, Declares, FillBatch, Kept, held_from, last_part, with_buffer, with_semaphore, with_queue, with_command, with_batch}
+use Rattle.vq_script.proofs.LineMore.{numbered, after_last_cut, after_last_more, before_first_more, count_more, some_more, version_more, given_none, given_one, later_part}
+use Rattle.vq_script.proofs.BatchMore.{waiting, commanding, signaling, fenced, started, fill_nothing, fill_started, fill_more, fill_wait, fill_command, fill_signal, fill_fence}
 
-abbrev numbered : ℕ → Statement → Line
-numbered n s = record { number = n; statement = s }
+-- a line that begins a batch or ends it
+abbrev cuts : Line → Bool
+cuts l = is_submit l.statement || is_end l.statement
 
--- the batch that lines leave open
-abbrev opens : Line → Bool
-opens l = is_submit l.statement || is_end l.statement
+-- the part of the text, with one line more
+section_more : (lines : List Line) (l : Line) (was : Section) → section lines ≡ was →
+    section (lines ++ l ∷ []) ≡ section_after was l.statement
+section_more lines l was h =
+    fold-append (λ was (x : Line). section_after was x.statement) Outside lines (l ∷ [])
+    ∙ ap (λ was. section_after was l.statement) h
 
-pub holds_buffer : (lines : List Line) (n : ℕ) (name : List ℕ) (size : ℕ) (declared : List Buffer) (bytes : ℕ) (lanes : List Queue) (ended : List Job) (commands : ℕ) →
-    Holds lines declared bytes lanes ended commands None →
-    Holds (with_line lines n (DeclareBuffer name size)) (declared ++ record { line = n; name = name; size = size } ∷ []) (bytes + size) lanes ended commands None
-holds_buffer lines n name size declared bytes lanes ended commands h =
+-- What is declared
+
+-- no schedule begins, and no version is named, with one line more
+pub record SaysLittle (s : Statement) : Type 0 where
+  version : (n : ℕ) → version_of (numbered n s ∷ []) ≡ 1
+  schedule : is_schedule s ≡ false
+  turns : (n : ℕ) → turns_at (numbered n s) ≡ []
+
+no_schedule_more : (lines : List Line) (l : Line) → some is_schedule lines ≡ false →
+    is_schedule l.statement ≡ false → some is_schedule (lines ++ l ∷ []) ≡ false
+no_schedule_more lines l h i = some_more is_schedule lines l ∙ (λ t. h t || i t)
+
+no_turns_more : (lines : List Line) (l : Line) → flat_map turns_at lines ≡ [] →
+    turns_at l ≡ [] → flat_map turns_at (lines ++ l ∷ []) ≡ []
+no_turns_more lines l h i =
+    flat_map-append turns_at lines (l ∷ []) ∙ (λ t. h t ++ (i t ++ []))
+
+-- a line that declares nothing
+pub record DeclaresNone (s : Statement) : Type 0 where
+  little : SaysLittle s
+  buffer : (n : ℕ) → buffer_of (numbered n s) ≡ None
+  semaphore : (n : ℕ) → semaphore_of (numbered n s) ≡ None
+  queue : (n : ℕ) → queue_of (numbered n s) ≡ None
+
+declares_none : (lines : List Line) (n : ℕ) (s : Statement) (k : Kept) → Declares lines k →
+    DeclaresNone s → Declares (with_line lines n s) k
+declares_none lines n s k h none =
     record {
-      part = fold-append (λ was (l : Line). section_after was l.statement) Outside lines (numbered n (DeclareBuffer name size) ∷ []) ∙ ap (λ was. section_after was (DeclareBuffer name size)) h.part;
-      version = version_more lines (numbered n (DeclareBuffer name size)) h.version refl;
-      all_buffers = filter_map-append buffer_of lines (numbered n (DeclareBuffer name size) ∷ []) ∙ ap (λ bs. bs ++ record { line = n; name = name; size = size } ∷ []) h.all_buffers;
-      all_bytes = ap (fold (λ a x. a + x) 0) (map-append (λ (b : Buffer). b.size) declared (record { line = n; name = name; size = size } ∷ [])) ∙ fold-append (λ a x. a + x) 0 (map (λ (b : Buffer). b.size) declared) (size ∷ []) ∙ ap (λ k. k + size) h.all_bytes;
-      no_semaphores = filter_map-append semaphore_of lines (numbered n (DeclareBuffer name size) ∷ []) ∙ append-nil (filter_map semaphore_of lines) ∙ h.no_semaphores;
-      all_queues = filter_map-append queue_of lines (numbered n (DeclareBuffer name size) ∷ []) ∙ append-nil (filter_map queue_of lines) ∙ h.all_queues;
-      all_jobs = (let more = count_more is_job lines (numbered n (DeclareBuffer name size)) in let was = h.all_jobs in omega arith);
-      all_commands = (let more = count_more is_command lines (numbered n (DeclareBuffer name size)) in let was = h.all_commands in omega arith);
-      no_schedule = list_any-append (λ (l : Line). is_schedule l.statement) lines (numbered n (DeclareBuffer name size) ∷ []) ∙ ap (λ b. b || false) h.no_schedule;
-      no_turns = flat_map-append turns_at lines (numbered n (DeclareBuffer name size) ∷ []) ∙ append-nil (flat_map turns_at lines) ∙ h.no_turns;
-      batch_commands = ap (count is_command) (after_last_more opens lines (numbered n (DeclareBuffer name size)) refl) ∙ (let more = count_more is_command (open_batch lines) (numbered n (DeclareBuffer name size)) in let was = h.batch_commands in omega arith);
-      in_order = λ m le. ap (some (λ s. nat_lt m (part_of s))) (after_last_more opens lines (numbered n (DeclareBuffer name size)) refl) ∙ list_any-append (λ (l : Line). nat_lt m (part_of l.statement)) (open_batch lines) (numbered n (DeclareBuffer name size) ∷ []) ∙ ap (λ b. b || (nat_lt m (part_of (DeclareBuffer name size)) || false)) (h.in_order m le) ∙ ap (λ b. b || false) (le-ltb m 0 (omega arith));
-      no_waits = ap (some is_wait) (after_last_more opens lines (numbered n (DeclareBuffer name size)) refl) ∙ list_any-append (λ (l : Line). is_wait l.statement) (open_batch lines) (numbered n (DeclareBuffer name size) ∷ []) ∙ ap (λ b. b || false) h.no_waits;
-      jobs = λ rest. ap jobs_of (append_assoc lines (numbered n (DeclareBuffer name size) ∷ []) rest) ∙ h.jobs (numbered n (DeclareBuffer name size) ∷ rest);
-    }
-
-pub holds_queue : (lines : List Line) (n : ℕ) (name : List ℕ) (mode : Mode) (declared : List Buffer) (bytes : ℕ) (lanes : List Queue) (ended : List Job) (commands : ℕ) →
-    Holds lines declared bytes lanes ended commands None →
-    Holds (with_line lines n (DeclareQueue name mode)) declared bytes (lanes ++ record { line = n; name = name; mode = mode } ∷ []) ended commands None
-holds_queue lines n name mode declared bytes lanes ended commands h =
-    record {
-      part = fold-append (λ was (l : Line). section_after was l.statement) Outside lines (numbered n (DeclareQueue name mode) ∷ []) ∙ ap (λ was. section_after was (DeclareQueue name mode)) h.part;
-      version = version_more lines (numbered n (DeclareQueue name mode)) h.version refl;
-      all_buffers = filter_map-append buffer_of lines (numbered n (DeclareQueue name mode) ∷ []) ∙ append-nil (filter_map buffer_of lines) ∙ h.all_buffers;
+      version = version_more lines (numbered n s) h.version (none.little.version n);
+      all_buffers = given_none buffer_of lines (numbered n s) k.buffers (none.buffer n) h.all_buffers;
       all_bytes = h.all_bytes;
-      no_semaphores = filter_map-append semaphore_of lines (numbered n (DeclareQueue name mode) ∷ []) ∙ append-nil (filter_map semaphore_of lines) ∙ h.no_semaphores;
-      all_queues = filter_map-append queue_of lines (numbered n (DeclareQueue name mode) ∷ []) ∙ ap (λ qs. qs ++ record { line = n; name = name; mode = mode } ∷ []) h.all_queues;
-      all_jobs = (let more = count_more is_job lines (numbered n (DeclareQueue name mode)) in let was = h.all_jobs in omega arith);
-      all_commands = (let more = count_more is_command lines (numbered n (DeclareQueue name mode)) in let was = h.all_commands in omega arith);
-      no_schedule = list_any-append (λ (l : Line). is_schedule l.statement) lines (numbered n (DeclareQueue name mode) ∷ []) ∙ ap (λ b. b || false) h.no_schedule;
-      no_turns = flat_map-append turns_at lines (numbered n (DeclareQueue name mode) ∷ []) ∙ append-nil (flat_map turns_at lines) ∙ h.no_turns;
-      batch_commands = ap (count is_command) (after_last_more opens lines (numbered n (DeclareQueue name mode)) refl) ∙ (let more = count_more is_command (open_batch lines) (numbered n (DeclareQueue name mode)) in let was = h.batch_commands in omega arith);
-      in_order = λ m le. ap (some (λ s. nat_lt m (part_of s))) (after_last_more opens lines (numbered n (DeclareQueue name mode)) refl) ∙ list_any-append (λ (l : Line). nat_lt m (part_of l.statement)) (open_batch lines) (numbered n (DeclareQueue name mode) ∷ []) ∙ ap (λ b. b || (nat_lt m (part_of (DeclareQueue name mode)) || false)) (h.in_order m le) ∙ ap (λ b. b || false) (le-ltb m 0 (omega arith));
-      no_waits = ap (some is_wait) (after_last_more opens lines (numbered n (DeclareQueue name mode)) refl) ∙ list_any-append (λ (l : Line). is_wait l.statement) (open_batch lines) (numbered n (DeclareQueue name mode) ∷ []) ∙ ap (λ b. b || false) h.no_waits;
-      jobs = λ rest. ap jobs_of (append_assoc lines (numbered n (DeclareQueue name mode) ∷ []) rest) ∙ h.jobs (numbered n (DeclareQueue name mode) ∷ rest);
+      all_semaphores = given_none semaphore_of lines (numbered n s) k.semaphores (none.semaphore n)
+          h.all_semaphores;
+      all_queues = given_none queue_of lines (numbered n s) k.queues (none.queue n) h.all_queues;
+      no_schedule = no_schedule_more lines (numbered n s) h.no_schedule none.little.schedule;
+      no_turns = no_turns_more lines (numbered n s) h.no_turns (none.little.turns n);
     }
 
--- a batch without lines so far
-abbrev pub started : ℕ → ℕ → List CommandLine → Batch
-started n queue commands = record { line = n; queue = queue; waits = []; commands = commands; signals = []; fence = None }
-
-pub holds_submit : (lines : List Line) (n queue : ℕ) (declared : List Buffer) (bytes : ℕ) (lanes : List Queue) (ended : List Job) (commands : ℕ) →
-    Holds lines declared bytes lanes ended commands None →
-    Holds (with_line lines n (BeginBatch queue)) declared bytes lanes ended commands (Some (started n queue []))
-holds_submit lines n queue declared bytes lanes ended commands h =
+declares_buffer : (lines : List Line) (n : ℕ) (name : List ℕ) (size : ℕ) (k : Kept) →
+    Declares lines k →
+    Declares (with_line lines n (DeclareBuffer name size))
+    (with_buffer k (record { line = n; name = name; size = size }))
+declares_buffer lines n name size k h =
+    let l = numbered n (DeclareBuffer name size) in
+    let b : Buffer = record { line = n; name = name; size = size } in
     record {
-      part = fold-append (λ was (l : Line). section_after was l.statement) Outside lines (numbered n (BeginBatch queue) ∷ []) ∙ ap (λ was. section_after was (BeginBatch queue)) h.part;
-      version = version_more lines (numbered n (BeginBatch queue)) h.version refl;
-      all_buffers = filter_map-append buffer_of lines (numbered n (BeginBatch queue) ∷ []) ∙ append-nil (filter_map buffer_of lines) ∙ h.all_buffers;
+      version = version_more lines l h.version refl;
+      all_buffers = given_one buffer_of lines l k.buffers b refl h.all_buffers;
+      all_bytes = ap (fold (λ a x. a + x) 0)
+          (map-append (λ (x : Buffer). x.size) k.buffers (b ∷ []))
+          ∙ fold-append (λ a x. a + x) 0 (map (λ (x : Buffer). x.size) k.buffers) (size ∷ [])
+          ∙ ap (λ m. m + size) h.all_bytes;
+      all_semaphores = given_none semaphore_of lines l k.semaphores refl h.all_semaphores;
+      all_queues = given_none queue_of lines l k.queues refl h.all_queues;
+      no_schedule = no_schedule_more lines l h.no_schedule refl;
+      no_turns = no_turns_more lines l h.no_turns refl;
+    }
+
+declares_semaphore : (lines : List Line) (n : ℕ) (name : List ℕ) (kind : SemaphoreKind)
+    (k : Kept) → Declares lines k →
+    Declares (with_line lines n (DeclareSemaphore name kind))
+    (with_semaphore k (record { line = n; name = name; kind = kind }))
+declares_semaphore lines n name kind k h =
+    let l = numbered n (DeclareSemaphore name kind) in
+    let x : Semaphore = record { line = n; name = name; kind = kind } in
+    record {
+      version = version_more lines l h.version refl;
+      all_buffers = given_none buffer_of lines l k.buffers refl h.all_buffers;
       all_bytes = h.all_bytes;
-      no_semaphores = filter_map-append semaphore_of lines (numbered n (BeginBatch queue) ∷ []) ∙ append-nil (filter_map semaphore_of lines) ∙ h.no_semaphores;
-      all_queues = filter_map-append queue_of lines (numbered n (BeginBatch queue) ∷ []) ∙ append-nil (filter_map queue_of lines) ∙ h.all_queues;
-      all_jobs = (let more = count_more is_job lines (numbered n (BeginBatch queue)) in let was = h.all_jobs in omega arith);
-      all_commands = (let more = count_more is_command lines (numbered n (BeginBatch queue)) in let was = h.all_commands in omega arith);
-      no_schedule = list_any-append (λ (l : Line). is_schedule l.statement) lines (numbered n (BeginBatch queue) ∷ []) ∙ ap (λ b. b || false) h.no_schedule;
-      no_turns = flat_map-append turns_at lines (numbered n (BeginBatch queue) ∷ []) ∙ append-nil (flat_map turns_at lines) ∙ h.no_turns;
-      batch_commands = ap (count is_command) (after_last_cut opens lines (numbered n (BeginBatch queue)) refl);
-      in_order = λ m le. ap (some (λ s. nat_lt m (part_of s))) (after_last_cut opens lines (numbered n (BeginBatch queue)) refl);
-      no_waits = ap (some is_wait) (after_last_cut opens lines (numbered n (BeginBatch queue)) refl);
-      jobs = λ rest. ap jobs_of (append_assoc lines (numbered n (BeginBatch queue) ∷ []) rest) ∙ h.jobs (numbered n (BeginBatch queue) ∷ rest);
+      all_semaphores = given_one semaphore_of lines l k.semaphores x refl h.all_semaphores;
+      all_queues = given_none queue_of lines l k.queues refl h.all_queues;
+      no_schedule = no_schedule_more lines l h.no_schedule refl;
+      no_turns = no_turns_more lines l h.no_turns refl;
     }
 
-pub holds_command : (lines : List Line) (n : ℕ) (command : Command) (m queue : ℕ) (inside : List CommandLine) (declared : List Buffer) (bytes : ℕ) (lanes : List Queue) (ended : List Job) (commands : ℕ) →
-    Holds lines declared bytes lanes ended commands (Some (started m queue inside)) →
-    Holds (with_line lines n (AddCommand command)) declared bytes lanes ended (commands + 1) (Some (started m queue (inside ++ record { line = n; command = command } ∷ [])))
-holds_command lines n command m queue inside declared bytes lanes ended commands h =
+declares_queue : (lines : List Line) (n : ℕ) (name : List ℕ) (mode : Mode) (k : Kept) →
+    Declares lines k →
+    Declares (with_line lines n (DeclareQueue name mode))
+    (with_queue k (record { line = n; name = name; mode = mode }))
+declares_queue lines n name mode k h =
+    let l = numbered n (DeclareQueue name mode) in
+    let x : Queue = record { line = n; name = name; mode = mode } in
     record {
-      part = fold-append (λ was (l : Line). section_after was l.statement) Outside lines (numbered n (AddCommand command) ∷ []) ∙ ap (λ was. section_after was (AddCommand command)) h.part;
-      version = version_more lines (numbered n (AddCommand command)) h.version refl;
-      all_buffers = filter_map-append buffer_of lines (numbered n (AddCommand command) ∷ []) ∙ append-nil (filter_map buffer_of lines) ∙ h.all_buffers;
+      version = version_more lines l h.version refl;
+      all_buffers = given_none buffer_of lines l k.buffers refl h.all_buffers;
       all_bytes = h.all_bytes;
-      no_semaphores = filter_map-append semaphore_of lines (numbered n (AddCommand command) ∷ []) ∙ append-nil (filter_map semaphore_of lines) ∙ h.no_semaphores;
-      all_queues = filter_map-append queue_of lines (numbered n (AddCommand command) ∷ []) ∙ append-nil (filter_map queue_of lines) ∙ h.all_queues;
-      all_jobs = (let more = count_more is_job lines (numbered n (AddCommand command)) in let was = h.all_jobs in omega arith);
-      all_commands = (let more = count_more is_command lines (numbered n (AddCommand command)) in let was = h.all_commands in omega arith);
-      no_schedule = list_any-append (λ (l : Line). is_schedule l.statement) lines (numbered n (AddCommand command) ∷ []) ∙ ap (λ b. b || false) h.no_schedule;
-      no_turns = flat_map-append turns_at lines (numbered n (AddCommand command) ∷ []) ∙ append-nil (flat_map turns_at lines) ∙ h.no_turns;
-      batch_commands = ap (count is_command) (after_last_more opens lines (numbered n (AddCommand command)) refl) ∙ (let more = count_more is_command (open_batch lines) (numbered n (AddCommand command)) in let was = h.batch_commands in (let long = length-append inside (record { line = n; command = command } ∷ []) in omega arith));
-      in_order = λ m le. ap (some (λ s. nat_lt m (part_of s))) (after_last_more opens lines (numbered n (AddCommand command)) refl) ∙ list_any-append (λ (l : Line). nat_lt m (part_of l.statement)) (open_batch lines) (numbered n (AddCommand command) ∷ []) ∙ ap (λ b. b || (nat_lt m (part_of (AddCommand command)) || false)) (h.in_order m le) ∙ ap (λ b. b || false) (le-ltb m 2 le);
-      no_waits = ap (some is_wait) (after_last_more opens lines (numbered n (AddCommand command)) refl) ∙ list_any-append (λ (l : Line). is_wait l.statement) (open_batch lines) (numbered n (AddCommand command) ∷ []) ∙ ap (λ b. b || false) h.no_waits;
-      jobs = λ rest. ap jobs_of (append_assoc lines (numbered n (AddCommand command) ∷ []) rest) ∙ h.jobs (numbered n (AddCommand command) ∷ rest)
-          ∙ ap (λ ls. ended ++ BatchJob (record { line = m; queue = queue; waits = filter_map wait_of ls; commands = inside ++ filter_map command_of ls; signals = filter_map signal_of ls; fence = first_of_list (filter_map fence_of ls) }) ∷ jobs_of rest) (before_first_more (λ (l : Line). is_end l.statement) (numbered n (AddCommand command)) rest refl)
-          ∙ ap (λ cs. ended ++ BatchJob (record { line = m; queue = queue; waits = filter_map wait_of (batch_lines rest); commands = cs; signals = filter_map signal_of (batch_lines rest); fence = first_of_list (filter_map fence_of (batch_lines rest)) }) ∷ jobs_of rest) (sym (append_assoc inside (record { line = n; command = command } ∷ []) (filter_map command_of (batch_lines rest))));
+      all_semaphores = given_none semaphore_of lines l k.semaphores refl h.all_semaphores;
+      all_queues = given_one queue_of lines l k.queues x refl h.all_queues;
+      no_schedule = no_schedule_more lines l h.no_schedule refl;
+      no_turns = no_turns_more lines l h.no_turns refl;
     }
 
-pub holds_end : (lines : List Line) (n m queue : ℕ) (inside : List CommandLine) (declared : List Buffer) (bytes : ℕ) (lanes : List Queue) (ended : List Job) (commands : ℕ) →
-    Holds lines declared bytes lanes ended commands (Some (started m queue inside)) →
-    Holds (with_line lines n (EndBatch)) declared bytes lanes (ended ++ BatchJob (started m queue inside) ∷ []) commands None
-holds_end lines n m queue inside declared bytes lanes ended commands h =
+-- Lines that declare
+
+-- a statement that is part of no batch and begins no job
+pub record StandsOutside (s : Statement) : Type 0 where
+  after : section_after Outside s ≡ Outside
+  cut : (is_submit s || is_end s) ≡ false
+  part : part_of s ≡ 0
+  wait : is_wait s ≡ false
+  command : is_command s ≡ false
+  signal : is_signal s ≡ false
+  fence : is_batch_fence s ≡ false
+  held : held_from s ≡ 0
+  job : is_job s ≡ false
+  none : (n : ℕ) (rest : List Line) → job_at (numbered n s) rest ≡ None
+
+same_count : (test : Statement → Bool) (lines : List Line) (l : Line) (m : ℕ) →
+    count test lines ≡ m → test l.statement ≡ false → count test (lines ++ l ∷ []) ≡ m
+same_count test lines l m h none =
+    let same : count test lines + 0 ≡ m = omega (arith, h) in
+    count_more test lines l ∙ ap (λ (b : Bool). count test lines + cond b 1 0) none ∙ same
+
+one_counted : (test : Statement → Bool) (lines : List Line) (l : Line) (m : ℕ) →
+    count test lines ≡ m → test l.statement ≡ true → count test (lines ++ l ∷ []) ≡ m + 1
+one_counted test lines l m h one =
+    count_more test lines l ∙ ap (λ (b : Bool). count test lines + cond b 1 0) one
+    ∙ ap (λ (a : ℕ). a + 1) h
+
+nothing : (b : Bool) → b ≡ false → 0 ≡ 0 + cond b 1 0
+nothing b h = ap (λ (x : Bool). 0 + cond x 1 0) (sym h)
+
+holds_outside : (lines : List Line) (n : ℕ) (s : Statement) (k next : Kept) → Holds lines k None →
+    StandsOutside s → Declares (with_line lines n s) next → next.jobs ≡ k.jobs →
+    next.commands ≡ k.commands → Holds (with_line lines n s) next None
+holds_outside lines n s k next h out declares jobs commands =
     record {
-      part = fold-append (λ was (l : Line). section_after was l.statement) Outside lines (numbered n (EndBatch) ∷ []) ∙ ap (λ was. section_after was (EndBatch)) h.part;
-      version = version_more lines (numbered n (EndBatch)) h.version refl;
-      all_buffers = filter_map-append buffer_of lines (numbered n (EndBatch) ∷ []) ∙ append-nil (filter_map buffer_of lines) ∙ h.all_buffers;
-      all_bytes = h.all_bytes;
-      no_semaphores = filter_map-append semaphore_of lines (numbered n (EndBatch) ∷ []) ∙ append-nil (filter_map semaphore_of lines) ∙ h.no_semaphores;
-      all_queues = filter_map-append queue_of lines (numbered n (EndBatch) ∷ []) ∙ append-nil (filter_map queue_of lines) ∙ h.all_queues;
-      all_jobs = (let more = count_more is_job lines (numbered n EndBatch) in let was = h.all_jobs in let long = length-append ended (BatchJob (started m queue inside) ∷ []) in omega arith);
-      all_commands = (let more = count_more is_command lines (numbered n (EndBatch)) in let was = h.all_commands in omega arith);
-      no_schedule = list_any-append (λ (l : Line). is_schedule l.statement) lines (numbered n (EndBatch) ∷ []) ∙ ap (λ b. b || false) h.no_schedule;
-      no_turns = flat_map-append turns_at lines (numbered n (EndBatch) ∷ []) ∙ append-nil (flat_map turns_at lines) ∙ h.no_turns;
-      batch_commands = ap (count is_command) (after_last_cut opens lines (numbered n (EndBatch)) refl);
-      in_order = λ m le. ap (some (λ s. nat_lt m (part_of s))) (after_last_cut opens lines (numbered n (EndBatch)) refl);
-      no_waits = ap (some is_wait) (after_last_cut opens lines (numbered n (EndBatch)) refl);
-      jobs = λ rest. ap jobs_of (append_assoc lines (numbered n (EndBatch) ∷ []) rest) ∙ h.jobs (numbered n (EndBatch) ∷ rest)
-          ∙ ap (λ cs. ended ++ BatchJob (started m queue cs) ∷ jobs_of rest) (append-nil inside)
-          ∙ sym (append_assoc ended (BatchJob (started m queue inside) ∷ []) (jobs_of rest));
+      part = section_more lines (numbered n s) Outside h.part ∙ out.after;
+      declares = declares;
+      all_jobs = same_count is_job lines (numbered n s) (length next.jobs + 0)
+          (h.all_jobs ∙ ap (λ (js : List Job). length js + 0) (sym jobs)) out.job;
+      all_commands = same_count is_command lines (numbered n s) next.commands
+          (h.all_commands ∙ sym commands) out.command;
+      of_queue = tt;
+      inside = subst (λ (ls : List Line). FillBatch ls None)
+          (sym (after_last_more cuts lines (numbered n s) out.cut))
+          (fill_more (open_batch lines) (numbered n s) None None h.inside
+          (nothing (is_wait s) out.wait) (nothing (is_command s) out.command)
+          (nothing (is_signal s) out.signal) (sym out.fence)
+          (λ m. ap (nat_lt m) (sym out.part) ∙ later_part m 0 (part_of s) (omega arith))
+          (λ m le. ap (nat_lt m) out.held ∙ le-ltb m 0 (omega arith)));
+      jobs = λ rest. ap jobs_of (append_assoc lines (numbered n s ∷ []) rest)
+          ∙ h.jobs (numbered n s ∷ rest)
+          ∙ (λ t. sym jobs t ++ cons_option (out.none n rest t) (jobs_of rest));
     }
 
--- without lines nothing is known
-pub holds_nothing : Holds [] [] 0 [] [] 0 None
-holds_nothing =
+outside_buffer : (name : List ℕ) (size : ℕ) → StandsOutside (DeclareBuffer name size)
+outside_buffer name size =
     record {
+      after = refl;
+      cut = refl;
       part = refl;
-      version = refl;
-      all_buffers = refl;
-      all_bytes = refl;
-      no_semaphores = refl;
-      all_queues = refl;
-      all_jobs = refl;
-      all_commands = refl;
-      batch_commands = refl;
-      in_order = λ m le. refl;
-      no_waits = refl;
-      jobs = λ rest. refl;
-      no_schedule = refl;
-      no_turns = refl;
+      wait = refl;
+      command = refl;
+      signal = refl;
+      fence = refl;
+      held = refl;
+      job = refl;
+      none = λ n rest. refl;
+    }
+
+outside_semaphore : (name : List ℕ) (kind : SemaphoreKind) →
+    StandsOutside (DeclareSemaphore name kind)
+outside_semaphore name kind =
+    record {
+      after = refl;
+      cut = refl;
+      part = refl;
+      wait = refl;
+      command = refl;
+      signal = refl;
+      fence = refl;
+      held = refl;
+      job = refl;
+      none = λ n rest. refl;
+    }
+
+outside_queue : (name : List ℕ) (mode : Mode) → StandsOutside (DeclareQueue name mode)
+outside_queue name mode =
+    record {
+      after = refl;
+      cut = refl;
+      part = refl;
+      wait = refl;
+      command = refl;
+      signal = refl;
+      fence = refl;
+      held = refl;
+      job = refl;
+      none = λ n rest. refl;
+    }
+
+pub holds_buffer : (lines : List Line) (n : ℕ) (name : List ℕ) (size : ℕ) (k : Kept) →
+    Holds lines k None →
+    Holds (with_line lines n (DeclareBuffer name size))
+    (with_buffer k (record { line = n; name = name; size = size })) None
+holds_buffer lines n name size k h =
+    holds_outside lines n (DeclareBuffer name size) k
+    (with_buffer k (record { line = n; name = name; size = size })) h (outside_buffer name size)
+    (declares_buffer lines n name size k h.declares) refl refl
+
+pub holds_semaphore : (lines : List Line) (n : ℕ) (name : List ℕ) (kind : SemaphoreKind)
+    (k : Kept) → Holds lines k None →
+    Holds (with_line lines n (DeclareSemaphore name kind))
+    (with_semaphore k (record { line = n; name = name; kind = kind })) None
+holds_semaphore lines n name kind k h =
+    holds_outside lines n (DeclareSemaphore name kind) k
+    (with_semaphore k (record { line = n; name = name; kind = kind })) h
+    (outside_semaphore name kind) (declares_semaphore lines n name kind k h.declares) refl refl
+
+pub holds_queue : (lines : List Line) (n : ℕ) (name : List ℕ) (mode : Mode) (k : Kept) →
+    Holds lines k None →
+    Holds (with_line lines n (DeclareQueue name mode))
+    (with_queue k (record { line = n; name = name; mode = mode })) None
+holds_queue lines n name mode k h =
+    holds_outside lines n (DeclareQueue name mode) k
+    (with_queue k (record { line = n; name = name; mode = mode })) h (outside_queue name mode)
+    (declares_queue lines n name mode k h.declares) refl refl
+
+-- Lines of a batch
+
+-- the queue of the batch that was begun last
+abbrev queue_after : Option ℕ → Statement → Option ℕ
+queue_after was (BeginBatch q) = Some q
+queue_after was other = was
+
+queue_more : (lines : List Line) (l : Line) (was : Option ℕ) → last_queue lines ≡ was →
+    last_queue (lines ++ l ∷ []) ≡ queue_after was l.statement
+queue_more lines l was h =
+    fold-append (λ queue (x : Line). queue_after queue x.statement) None lines (l ∷ [])
+    ∙ ap (λ queue. queue_after queue l.statement) h
+
+none_begun : (queue : ℕ) → DeclaresNone (BeginBatch queue)
+none_begun queue =
+    record {
+      little = record { version = λ n. refl; schedule = refl; turns = λ n. refl };
+      buffer = λ n. refl;
+      semaphore = λ n. refl;
+      queue = λ n. refl;
+    }
+
+pub holds_submit : (lines : List Line) (n queue : ℕ) (k : Kept) → Holds lines k None →
+    Holds (with_line lines n (BeginBatch queue)) k (Some (started n queue))
+holds_submit lines n queue k h =
+    let l = numbered n (BeginBatch queue) in
+    record {
+      part = section_more lines l Outside h.part;
+      declares = declares_none lines n (BeginBatch queue) k h.declares (none_begun queue);
+      all_jobs = one_counted is_job lines l (length k.jobs + 0) h.all_jobs refl
+          ∙ (let long : length k.jobs + 0 + 1 ≡ length k.jobs + 1 = omega arith in long);
+      all_commands = same_count is_command lines l k.commands h.all_commands refl;
+      of_queue = queue_more lines l (last_queue lines) refl;
+      inside = subst (λ (ls : List Line). FillBatch ls (Some (started n queue)))
+          (sym (after_last_cut cuts lines l refl)) (fill_started n queue);
+      jobs = λ rest. ap jobs_of (append_assoc lines (l ∷ []) rest) ∙ h.jobs (l ∷ rest);
+    }
+
+-- a batch with what further lines of it say
+abbrev going : Batch → List Line → Batch
+going b lines =
+    record {
+      line = b.line;
+      queue = b.queue;
+      waits = b.waits ++ filter_map wait_of lines;
+      commands = b.commands ++ filter_map command_of lines;
+      signals = b.signals ++ filter_map signal_of lines;
+      fence = option_or b.fence (first_of_list (filter_map fence_of lines));
+    }
+
+-- a statement that stands in a batch and doesn't end it
+pub record StandsInside (s : Statement) : Type 0 where
+  after : section_after InBatch s ≡ InBatch
+  cut : (is_submit s || is_end s) ≡ false
+  end : is_end s ≡ false
+  job : is_job s ≡ false
+  none : (n : ℕ) (rest : List Line) → job_at (numbered n s) rest ≡ None
+  queue : (was : Option ℕ) → queue_after was s ≡ was
+  declares : DeclaresNone s
+
+holds_inside : (lines : List Line) (n : ℕ) (s : Statement) (k : Kept) (commands : ℕ)
+    (b c : Batch) → Holds lines k (Some b) → StandsInside s → b.queue ≡ c.queue →
+    FillBatch (open_batch lines ++ numbered n s ∷ []) (Some c) →
+    count is_command (with_line lines n s) ≡ commands →
+    ((more : List Line) → going b (numbered n s ∷ more) ≡ going c more) →
+    Holds (with_line lines n s) (record k { commands = commands }) (Some c)
+holds_inside lines n s k commands b c h stands queue fills counted goes =
+    let l = numbered n s in
+    record {
+      part = section_more lines l InBatch h.part ∙ stands.after;
+      declares = (
+          let d = declares_none lines n s k h.declares stands.declares in
+          record {
+            version = d.version;
+            all_buffers = d.all_buffers;
+            all_bytes = d.all_bytes;
+            all_semaphores = d.all_semaphores;
+            all_queues = d.all_queues;
+            no_schedule = d.no_schedule;
+            no_turns = d.no_turns;
+          }
+          );
+      all_jobs = same_count is_job lines l (length k.jobs + 1) h.all_jobs stands.job;
+      all_commands = counted;
+      of_queue = queue_more lines l (last_queue lines) refl ∙ stands.queue (last_queue lines)
+          ∙ h.of_queue ∙ ap (λ (q : ℕ). Some q) queue;
+      inside = subst (λ (ls : List Line). FillBatch ls (Some c))
+          (sym (after_last_more cuts lines l stands.cut)) fills;
+      jobs = λ rest. ap jobs_of (append_assoc lines (l ∷ []) rest) ∙ h.jobs (l ∷ rest)
+          ∙ (λ t. k.jobs ++ BatchJob (going b (before_first_more (λ (x : Line). is_end x.statement)
+          l rest stands.end t)) ∷ cons_option (stands.none n rest t) (jobs_of rest))
+          ∙ ap (λ (x : Batch). k.jobs ++ BatchJob x ∷ jobs_of rest) (goes (batch_lines rest));
+    }
+
+inside_wait : (pair : Pair) → StandsInside (AddWait pair 1)
+inside_wait pair =
+    record {
+      after = refl;
+      cut = refl;
+      end = refl;
+      job = refl;
+      none = λ n rest. refl;
+      queue = λ was. refl;
+      declares = record {
+        little = record { version = λ n. refl; schedule = refl; turns = λ n. refl };
+        buffer = λ n. refl;
+        semaphore = λ n. refl;
+        queue = λ n. refl;
+      };
+    }
+
+inside_command : (command : Command) → StandsInside (AddCommand command)
+inside_command command =
+    record {
+      after = refl;
+      cut = refl;
+      end = refl;
+      job = refl;
+      none = λ n rest. refl;
+      queue = λ was. refl;
+      declares = record {
+        little = record { version = λ n. refl; schedule = refl; turns = λ n. refl };
+        buffer = λ n. refl;
+        semaphore = λ n. refl;
+        queue = λ n. refl;
+      };
+    }
+
+inside_signal : (pair : Pair) → StandsInside (AddSignal pair)
+inside_signal pair =
+    record {
+      after = refl;
+      cut = refl;
+      end = refl;
+      job = refl;
+      none = λ n rest. refl;
+      queue = λ was. refl;
+      declares = record {
+        little = record { version = λ n. refl; schedule = refl; turns = λ n. refl };
+        buffer = λ n. refl;
+        semaphore = λ n. refl;
+        queue = λ n. refl;
+      };
+    }
+
+inside_fence : (fence : ℕ) → StandsInside (AddFence fence)
+inside_fence fence =
+    record {
+      after = refl;
+      cut = refl;
+      end = refl;
+      job = refl;
+      none = λ n rest. refl;
+      queue = λ was. refl;
+      declares = record {
+        little = record { version = λ n. refl; schedule = refl; turns = λ n. refl };
+        buffer = λ n. refl;
+        semaphore = λ n. refl;
+        queue = λ n. refl;
+      };
+    }
+
+pub holds_wait : (lines : List Line) (n : ℕ) (pair : Pair) (b : Batch) (k : Kept) →
+    Holds lines k (Some b) → nat_lt 1 (last_part (Some b)) ≡ false →
+    Holds (with_line lines n (AddWait pair 1)) k (Some (waiting b n pair))
+holds_wait lines n pair b k h fits =
+    holds_inside lines n (AddWait pair 1) k k.commands b (waiting b n pair) h (inside_wait pair)
+    refl (fill_wait (open_batch lines) n pair b h.inside fits)
+    (same_count is_command lines (numbered n (AddWait pair 1)) k.commands h.all_commands refl)
+    goes
+  where
+    goes : (more : List Line) →
+        going b (numbered n (AddWait pair 1) ∷ more) ≡ going (waiting b n pair) more
+    goes more = λ i. record (going b more) {
+      waits = sym (append_assoc b.waits (mark n pair 1 ∷ []) (filter_map wait_of more)) i;
+    }
+
+pub holds_command : (lines : List Line) (n : ℕ) (command : Command) (b : Batch) (k : Kept) →
+    Holds lines k (Some b) → nat_lt 2 (last_part (Some b)) ≡ false →
+    Holds (with_line lines n (AddCommand command)) (with_command k) (Some (commanding b n command))
+holds_command lines n command b k h fits =
+    holds_inside lines n (AddCommand command) k (k.commands + 1) b (commanding b n command) h
+    (inside_command command) refl (fill_command (open_batch lines) n command b h.inside fits)
+    (one_counted is_command lines (numbered n (AddCommand command)) k.commands h.all_commands refl)
+    goes
+  where
+    goes : (more : List Line) →
+        going b (numbered n (AddCommand command) ∷ more) ≡ going (commanding b n command) more
+    goes more = λ i. record (going b more) {
+      commands = sym (append_assoc b.commands (record { line = n; command = command } ∷ [])
+          (filter_map command_of more)) i;
+    }
+
+pub holds_signal : (lines : List Line) (n : ℕ) (pair : Pair) (b : Batch) (k : Kept) →
+    Holds lines k (Some b) → nat_lt 3 (last_part (Some b)) ≡ false →
+    Holds (with_line lines n (AddSignal pair)) k (Some (signaling b n pair))
+holds_signal lines n pair b k h fits =
+    holds_inside lines n (AddSignal pair) k k.commands b (signaling b n pair) h
+    (inside_signal pair) refl (fill_signal (open_batch lines) n pair b h.inside fits)
+    (same_count is_command lines (numbered n (AddSignal pair)) k.commands h.all_commands refl)
+    goes
+  where
+    goes : (more : List Line) →
+        going b (numbered n (AddSignal pair) ∷ more) ≡ going (signaling b n pair) more
+    goes more = λ i. record (going b more) {
+      signals = sym (append_assoc b.signals (mark n pair 1 ∷ []) (filter_map signal_of more)) i;
+    }
+
+pub holds_fence : (lines : List Line) (n fence : ℕ) (b : Batch) (k : Kept) →
+    Holds lines k (Some b) → b.fence ≡ None →
+    Holds (with_line lines n (AddFence fence)) k (Some (fenced b n fence))
+holds_fence lines n fence b k h none =
+    holds_inside lines n (AddFence fence) k k.commands b (fenced b n fence) h
+    (inside_fence fence) refl (fill_fence (open_batch lines) n fence b h.inside)
+    (same_count is_command lines (numbered n (AddFence fence)) k.commands h.all_commands refl)
+    goes
+  where
+    goes : (more : List Line) →
+        going b (numbered n (AddFence fence) ∷ more) ≡ going (fenced b n fence) more
+    goes more = λ i. record (going b more) {
+      fence = ap (λ (x : Option Mark). option_or x
+          (Some (mark n (record { semaphore = fence; value = 0 }) 1))) none i;
+    }
+
+-- The end of a batch
+
+none_ended : DeclaresNone EndBatch
+none_ended =
+    record {
+      little = record { version = λ n. refl; schedule = refl; turns = λ n. refl };
+      buffer = λ n. refl;
+      semaphore = λ n. refl;
+      queue = λ n. refl;
+    }
+
+-- a batch of which no line follows
+gone : (b : Batch) → going b [] ≡ b
+gone b = λ i. record {
+  line = b.line;
+  queue = b.queue;
+  waits = append-nil b.waits i;
+  commands = append-nil b.commands i;
+  signals = append-nil b.signals i;
+  fence = or_none b.fence i;
+}
+  where
+    or_none : (x : Option Mark) → option_or x None ≡ x
+    or_none None = refl
+    or_none (Some m) = refl
+
+pub holds_end : (lines : List Line) (n : ℕ) (b : Batch) (k : Kept) → Holds lines k (Some b) →
+    Holds (with_line lines n EndBatch) (with_batch k b) None
+holds_end lines n b k h =
+    let l = numbered n EndBatch in
+    record {
+      part = section_more lines l InBatch h.part;
+      declares = (
+          let d = declares_none lines n EndBatch k h.declares none_ended in
+          record {
+            version = d.version;
+            all_buffers = d.all_buffers;
+            all_bytes = d.all_bytes;
+            all_semaphores = d.all_semaphores;
+            all_queues = d.all_queues;
+            no_schedule = d.no_schedule;
+            no_turns = d.no_turns;
+          }
+          );
+      all_jobs = same_count is_job lines l (length k.jobs + 1) h.all_jobs refl
+          ∙ (
+          let long = length-append k.jobs (BatchJob b ∷ []) in
+          let same : length k.jobs + 1 ≡ length (k.jobs ++ BatchJob b ∷ []) + 0 = omega arith in same
+          );
+      all_commands = same_count is_command lines l k.commands h.all_commands refl;
+      of_queue = tt;
+      inside = subst (λ (ls : List Line). FillBatch ls None)
+          (sym (after_last_cut cuts lines l refl)) fill_nothing;
+      jobs = λ rest. ap jobs_of (append_assoc lines (l ∷ []) rest) ∙ h.jobs (l ∷ rest)
+          ∙ ap (λ (x : Batch). k.jobs ++ BatchJob x ∷ jobs_of rest) (gone b)
+          ∙ sym (append_assoc k.jobs (BatchJob b ∷ []) (jobs_of rest));
     }

@@ -1,27 +1,80 @@
 -- What the parser keeps of the lines that it has read.
-use Rattle.std.specs.Prelude.{ℕ, ◌≡◌, ◌+◌, ◌≤◌, nat_lt, false, List, [], ◌∷◌, ◌++◌, length, map, sum, Option, Some, None}
+use Rattle.std.specs.Prelude.{ℕ, ◌≡◌, ◌+◌, ◌≤◌, Bool, nat_lt, false, List, [], ◌∷◌, ◌++◌, length, map, sum, Option, Some, None, is_some, if◌then◌else◌}
 use Rattle.std.specs.List.{filter_map, flat_map}
 use Rattle.std.specs.Option.{option_or}
 use Rattle.vq_laws.specs.declared.script.Buffer.{Buffer}
+use Rattle.vq_laws.specs.declared.script.Semaphore.{Semaphore}
 use Rattle.vq_laws.specs.declared.script.Queue.{Queue}
 use Rattle.vq_laws.specs.declared.script.Batch.{Batch}
 use Rattle.vq_laws.specs.declared.script.CommandLine.{CommandLine}
+use Rattle.vq_laws.specs.declared.script.Mark.{Mark}
 use Rattle.vq_laws.specs.declared.script.Job.{Job}
 use Rattle.vq_laws.specs.declared.script.Job.TheVariants.{Batch as BatchJob}
 use Rattle.vq_laws.specs.declared.statement.Line.{Line}
+use Rattle.vq_laws.specs.declared.statement.Statement.{Statement}
+use Rattle.vq_laws.specs.declared.statement.Statement.TheVariants.{AddWait}
 use Rattle.vq_laws.specs.declared.statement.Section.{Section}
 use Rattle.vq_laws.specs.declared.statement.Section.TheVariants.{Outside, InBatch}
-use Rattle.vq_laws.specs.Context.{section, version_of, buffers, semaphores, queues, count, some, open_batch, is_command, is_wait}
+use Rattle.vq_laws.specs.Context.{section, version_of, buffers, semaphores, queues, count, some, open_batch, last_queue, is_command, is_wait, is_signal, is_batch_fence}
 use Rattle.vq_laws.specs.Limits.{is_job}
 use Rattle.vq_laws.specs.LineFaults.{part_of}
 use Rattle.vq_laws.specs.ScriptOfLines.{batch_lines, wait_of, command_of, signal_of, fence_of, first_of_list, jobs_of, is_schedule, turns_at}
 use Rattle.vq_script.specs.declared.known.Known.{Known}
-use Rattle.vq_script.specs.declared.known.OpenBatch.{OpenBatch}
+use Rattle.vq_script.specs.declared.open_batch.OpenBatch.{OpenBatch}
+
+-- What lines declare and submit, but for a batch that is open.
+pub record Kept : Type 0 where
+  pub buffers : List Buffer
+  -- the bytes of all buffers together
+  pub bytes : ℕ
+  pub semaphores : List Semaphore
+  pub queues : List Queue
+  -- the batches that have ended
+  pub jobs : List Job
+  -- the commands of all batches together
+  pub commands : ℕ
+
+abbrev pub kept : Known → Kept
+kept known =
+    record {
+      buffers = known.buffers.items;
+      bytes = known.bytes;
+      semaphores = known.semaphores.items;
+      queues = known.queues.items;
+      jobs = known.jobs.items;
+      commands = known.commands;
+    }
+
+-- what is kept after a line more
+
+abbrev pub with_buffer : Kept → Buffer → Kept
+with_buffer k b = record k { buffers = k.buffers ++ b ∷ []; bytes = k.bytes + b.size }
+
+abbrev pub with_semaphore : Kept → Semaphore → Kept
+with_semaphore k s = record k { semaphores = k.semaphores ++ s ∷ [] }
+
+abbrev pub with_queue : Kept → Queue → Kept
+with_queue k q = record k { queues = k.queues ++ q ∷ [] }
+
+abbrev pub with_command : Kept → Kept
+with_command k = record k { commands = k.commands + 1 }
+
+abbrev pub with_batch : Kept → Batch → Kept
+with_batch k b = record k { jobs = k.jobs ++ BatchJob b ∷ [] }
+
+-- The open batch
 
 -- an open batch, as if it ended here
 abbrev pub batch_so_far : OpenBatch → Batch
 batch_so_far b =
-    record { line = b.line; queue = b.queue; waits = []; commands = b.commands.items; signals = []; fence = None }
+    record {
+      line = b.line;
+      queue = b.queue;
+      waits = b.waits.items;
+      commands = b.commands.items;
+      signals = b.signals.items;
+      fence = b.fence;
+    }
 
 abbrev pub open_so_far : Option OpenBatch → Option Batch
 open_so_far None = None
@@ -32,19 +85,51 @@ abbrev pub section_of : Option Batch → Section
 section_of None = Outside
 section_of (Some b) = InBatch
 
+abbrev pub waits_of : Option Batch → List Mark
+waits_of None = []
+waits_of (Some b) = b.waits
+
 abbrev pub commands_of : Option Batch → List CommandLine
 commands_of None = []
 commands_of (Some b) = b.commands
+
+abbrev pub signals_of : Option Batch → List Mark
+signals_of None = []
+signals_of (Some b) = b.signals
+
+abbrev pub named_fence : Option Batch → Option Mark
+named_fence None = None
+named_fence (Some b) = b.fence
 
 -- a batch that is open is a job
 abbrev pub open_jobs : Option Batch → ℕ
 open_jobs None = 0
 open_jobs (Some b) = 1
 
--- the last part of a batch of which there may be lines: none, or the commands
+-- the last part of a batch of which there is a line, by whether it has waits, commands, signals
+-- and a fence
+abbrev pub last_part_by : (waits commands signals fence : Bool) → ℕ
+last_part_by waits commands signals fence =
+    if fence then 4
+    else if signals then 3
+    else if commands then 2
+    else if waits then 1
+    else 0
+
 abbrev pub last_part : Option Batch → ℕ
-last_part None = 0
-last_part (Some b) = 2
+last_part batch =
+    last_part_by (nat_lt 0 (length (waits_of batch))) (nat_lt 0 (length (commands_of batch)))
+    (nat_lt 0 (length (signals_of batch))) (is_some (named_fence batch))
+
+-- the queue of the batch that was begun last is that of the open batch
+abbrev pub IsOfQueue : Option ℕ → Option Batch → Type 0
+IsOfQueue queue None = Unit {0}
+IsOfQueue queue (Some b) = queue ≡ Some b.queue
+
+-- from which command on a wait holds back
+abbrev pub held_from : Statement → ℕ
+held_from (AddWait pair from) = from
+held_from other = 0
 
 -- the jobs that follow, where the open batch goes on
 abbrev pub jobs_with : Option Batch → List Line → List Job
@@ -61,26 +146,36 @@ jobs_with (Some b) rest =
     }
     ) ∷ jobs_of rest
 
--- These are the buffers, their bytes, the queues, the ended jobs, the number of commands and the open batch of these lines.
-pub record Holds (lines : List Line) (declared : List Buffer) (bytes : ℕ) (lanes : List Queue) (ended : List Job)
-    (commands : ℕ) (batch : Option Batch) : Type 0 where
-  pub part : section lines ≡ section_of batch
+-- Lines declare what is kept of them, in version 1 and without a schedule.
+pub record Declares (lines : List Line) (k : Kept) : Type 0 where
   pub version : version_of lines ≡ 1
-  pub all_buffers : buffers lines ≡ declared
-  pub all_bytes : sum (map (λ b. b.size) declared) ≡ bytes
-  pub no_semaphores : semaphores lines ≡ []
-  pub all_queues : queues lines ≡ lanes
-  pub all_jobs : count is_job lines ≡ length ended + open_jobs batch
-  pub all_commands : count is_command lines ≡ commands
-  pub batch_commands : count is_command (open_batch lines) ≡ length (commands_of batch)
-  pub in_order : (n : ℕ) → last_part batch ≤ n → some (λ s. nat_lt n (part_of s)) (open_batch lines) ≡ false
-  pub no_waits : some is_wait (open_batch lines) ≡ false
-  pub jobs : (rest : List Line) → jobs_of (lines ++ rest) ≡ ended ++ jobs_with batch rest
+  pub all_buffers : buffers lines ≡ k.buffers
+  pub all_bytes : sum (map (λ b. b.size) k.buffers) ≡ k.bytes
+  pub all_semaphores : semaphores lines ≡ k.semaphores
+  pub all_queues : queues lines ≡ k.queues
   pub no_schedule : some is_schedule lines ≡ false
   pub no_turns : flat_map turns_at lines ≡ []
 
+-- The lines of the open batch so far are those of this batch.
+pub record FillBatch (inside : List Line) (batch : Option Batch) : Type 0 where
+  pub all_waits : count is_wait inside ≡ length (waits_of batch)
+  pub all_commands : count is_command inside ≡ length (commands_of batch)
+  pub all_signals : count is_signal inside ≡ length (signals_of batch)
+  pub fences : some is_batch_fence inside ≡ is_some (named_fence batch)
+  pub in_order : (n : ℕ) → some (λ s. nat_lt n (part_of s)) inside ≡ nat_lt n (last_part batch)
+  -- each wait holds back the whole batch
+  pub whole_waits : (n : ℕ) → 1 ≤ n → some (λ s. nat_lt n (held_from s)) inside ≡ false
+
+-- Lines say what is kept of them, and leave this batch open.
+pub record Holds (lines : List Line) (k : Kept) (batch : Option Batch) : Type 0 where
+  pub part : section lines ≡ section_of batch
+  pub declares : Declares lines k
+  pub all_jobs : count is_job lines ≡ length k.jobs + open_jobs batch
+  pub all_commands : count is_command lines ≡ k.commands
+  pub of_queue : IsOfQueue (last_queue lines) batch
+  pub inside : FillBatch (open_batch lines) batch
+  pub jobs : (rest : List Line) → jobs_of (lines ++ rest) ≡ k.jobs ++ jobs_with batch rest
+
 -- The parser knows this of the lines that it has read.
 abbrev pub Keeps : List Line → Known → Option Batch → Type 0
-Keeps lines known batch =
-    Holds lines known.buffers.items known.bytes known.queues.items known.jobs.items known.commands
-    batch
+Keeps lines known batch = Holds lines (kept known) batch

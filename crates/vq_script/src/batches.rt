@@ -8,8 +8,9 @@ ghost use Rattle.vq_script.specs.Reads.{Takes};
 
 use crate::fault::Stop;
 use crate::forms::Found;
-use crate::known::{Known, OpenBatch};
+use crate::known::Known;
 use crate::names::is_name;
+use crate::open_batch::OpenBatch;
 use std::alloc::Global;
 use vq_laws::list::List;
 use vq_laws::script::{Batch, Job};
@@ -17,7 +18,8 @@ use vq_laws::statement::{FaultKind, Statement};
 
 /// The queue of `submit QUEUE`, or the first kind of the line's faults.
 fn submitted_queue(known: &Known, queue: &[u8]) -> Result<u32, FaultKind>
-    ensures { (lines : List Line) → Keeps lines known.now None → Tells lines (open_line (Found.Submit queue.entry)) (λ q. Statement.BeginBatch q) result }
+    ensures { (lines : List Line) → Keeps lines known.now None →
+        Tells lines (open_line (Found.Submit queue.entry)) (λ q. Statement.BeginBatch q) result }
 {
     if !is_name(queue) {
         return Err(FaultKind::Syntax);
@@ -38,32 +40,32 @@ pub fn submit_line(
     number: u32,
     queue: &[u8],
 ) -> Result<Option<OpenBatch>, Stop>
-    ensures { (lines : List Line) → Keeps lines known.now None → Takes lines number (open_line (Found.Submit queue.entry)) result known.now }
+    ensures { (lines : List Line) → Keeps lines known.now None →
+        Takes lines number (open_line (Found.Submit queue.entry)) result known.now }
 {
     let queue = submitted_queue(known, queue)?;
     Ok(Some(OpenBatch {
         line: number,
         queue,
+        waits: Vec::new(alloc),
         commands: Vec::new(alloc),
+        signals: Vec::new(alloc),
+        fence: None,
     }))
 }
 
 /// Reads `end`, which ends the batch. No batch is open after it.
-pub fn end_line(
-    alloc: Global,
-    known: &mut Known,
-    batch: OpenBatch,
-    number: u32,
-) -> Result<Option<OpenBatch>, Stop>
-    ensures { (lines : List Line) → Keeps lines known.old (Some (batch_so_far batch)) → Takes lines number (open_line Found.End) result known.new }
+pub fn end_line(known: &mut Known, batch: OpenBatch, number: u32) -> Result<Option<OpenBatch>, Stop>
+    ensures { (lines : List Line) → Keeps lines known.old (Some (batch_so_far batch)) →
+        Takes lines number (open_line Found.End) result known.new }
 {
     let ended = Batch {
         line: batch.line,
         queue: batch.queue,
-        waits: List::of(Vec::new(alloc)),
+        waits: List::of(batch.waits),
         commands: List::of(batch.commands),
-        signals: List::of(Vec::new(alloc)),
-        fence: None,
+        signals: List::of(batch.signals),
+        fence: batch.fence,
     };
     known.jobs.push(Job::Batch(ended))?;
     Ok(None)

@@ -1,21 +1,22 @@
-//! The lines that stand in a batch: its commands.
-ghost use Rattle.std.specs.Prelude.{◌≡◌, ◌+◌, ◌<◌, ◌&&◌, ◌==◌, true, not, nat_lt, min, max, List, None, Some, OnOk};
+//! The lines of a batch that are its commands.
+ghost use Rattle.std.specs.Prelude.{◌≡◌, ◌+◌, ◌<◌, ◌&&◌, ◌==◌, true, not, nat_lt, min, max, false, List, None, Some, OnOk};
 ghost use Rattle.std.specs.List.{position};
-ghost use Rattle.std.specs.Str.{bytes_eq};
 ghost use Rattle.vq_laws.specs.declared.statement.Line.{Line};
 ghost use Rattle.vq_laws.specs.Meaning.{hex_bytes, is_hex, of_two, of_three};
 ghost use Rattle.vq_laws.specs.Ranges.{is_aligned};
 ghost use Rattle.vq_laws.specs.Text.{is_name, numeral};
 ghost use Rattle.vq_script.specs.Faults.{Tells, first_fault, statement_at};
 ghost use Rattle.vq_script.specs.Forms.{OpenLine, open_line};
-ghost use Rattle.vq_script.specs.Holds.{Keeps, batch_so_far};
+ghost use Rattle.vq_script.specs.Holds.{Keeps, batch_so_far, last_part};
+ghost use Rattle.vq_script.specs.Names.{names_buffer};
 ghost use Rattle.vq_script.specs.Reads.{Takes};
 
 use crate::fault::Stop;
 use crate::forms::{Found, PlaceWords};
-use crate::known::{Known, OpenBatch};
+use crate::known::Known;
 use crate::names::is_name;
 use crate::numerals::{hex_bytes, is_hex, numeral, small_numeral};
+use crate::open_batch::OpenBatch;
 use std::alloc::Global;
 use vq_laws::list::Bytes;
 use vq_laws::script::{Command, CommandLine, FillSize};
@@ -26,7 +27,8 @@ const UPDATE_BYTES: u64 = 65_536;
 
 /// Whether bytes begin in a buffer, are one at least, and end in it.
 fn is_within(buffer_size: u32, offset: u64, size: u64) -> bool
-    ensures { result ≡ (nat_lt offset buffer_size && nat_lt 0 size && not (nat_lt buffer_size (offset + size))) }
+    ensures { result ≡ (nat_lt offset buffer_size && nat_lt 0 size
+        && not (nat_lt buffer_size (offset + size))) }
 {
     let end = u64::from(buffer_size);
     offset < end && 0 < size && size <= end - offset
@@ -48,14 +50,17 @@ fn is_whole_in_range(buffer_size: u32, offset: u64) -> bool
 
 /// Whether a fill is in range.
 fn is_fill_in_range(buffer_size: u32, offset: u64, size: u64) -> bool
-    ensures { result ≡ (nat_lt offset buffer_size && nat_lt 0 size && not (nat_lt buffer_size (offset + size)) && is_aligned offset && is_aligned size) }
+    ensures { result ≡ (nat_lt offset buffer_size && nat_lt 0 size
+        && not (nat_lt buffer_size (offset + size)) && is_aligned offset && is_aligned size) }
 {
     is_within(buffer_size, offset, size) && is_aligned(offset) && is_aligned(size)
 }
 
 /// Whether an update is in range.
 fn is_update_in_range(buffer_size: u32, offset: u64, size: u64) -> bool
-    ensures { result ≡ (nat_lt offset buffer_size && nat_lt 0 size && not (nat_lt buffer_size (offset + size)) && is_aligned offset && is_aligned size && not (nat_lt 65536 size)) }
+    ensures { result ≡ (nat_lt offset buffer_size && nat_lt 0 size
+        && not (nat_lt buffer_size (offset + size)) && is_aligned offset && is_aligned size
+        && not (nat_lt 65536 size)) }
 {
     is_fill_in_range(buffer_size, offset, size) && size <= UPDATE_BYTES
 }
@@ -67,8 +72,12 @@ fn add_command(
     number: u32,
     command: Command,
 ) -> Result<Option<OpenBatch>, Stop>
-    requires { known.old.commands < 8192 }
-    ensures { (lines : List Line) (line : OpenLine) → Keeps lines known.old (Some (batch_so_far batch)) → first_fault lines line ≡ None → statement_at lines line ≡ Some (Statement.AddCommand command) → Takes lines number line result known.new }
+    requires room { known.old.commands < 8192 }
+    requires in_order { nat_lt 2 (last_part (Some (batch_so_far batch))) ≡ false }
+    ensures { (lines : List Line) (line : OpenLine) →
+        Keeps lines known.old (Some (batch_so_far batch)) → first_fault lines line ≡ None →
+        statement_at lines line ≡ Some (Statement.AddCommand command) →
+        Takes lines number line result known.new }
 {
     let mut batch = batch;
     let line = CommandLine {
@@ -88,11 +97,17 @@ fn fill_whole_command(
     offset: &[u8],
     word: &[u8],
 ) -> Result<Command, FaultKind>
-    ensures told { (lines : List Line) → Keeps lines known.now (Some (batch_so_far batch.now)) → Tells lines (open_line (Found.FillWhole buffer.entry offset.entry word.entry)) (λ c. Statement.AddCommand c) result }
+    ensures told { (lines : List Line) → Keeps lines known.now (Some (batch_so_far batch.now)) →
+        Tells lines (open_line (Found.FillWhole buffer.entry offset.entry word.entry))
+        (λ c. Statement.AddCommand c) result }
+    ensures in_order { OnOk result (nat_lt 2 (last_part (Some (batch_so_far batch.now))) ≡ false) }
     ensures room { OnOk result (known.now.commands < 8192) }
 {
     if !is_name(buffer) {
         return Err(FaultKind::Syntax);
+    }
+    if batch.is_past_commands() {
+        return Err(FaultKind::Order);
     }
     let Some(offset) = numeral(offset) else {
         return Err(FaultKind::Number);
@@ -126,7 +141,9 @@ pub fn fill_whole_line(
     offset: &[u8],
     word: &[u8],
 ) -> Result<Option<OpenBatch>, Stop>
-    ensures { (lines : List Line) → Keeps lines known.old (Some (batch_so_far batch)) → Takes lines number (open_line (Found.FillWhole buffer.entry offset.entry word.entry)) result known.new }
+    ensures { (lines : List Line) → Keeps lines known.old (Some (batch_so_far batch)) →
+        Takes lines number (open_line (Found.FillWhole buffer.entry offset.entry word.entry))
+        result known.new }
 {
     let command = fill_whole_command(known, &batch, buffer, offset, word)?;
     add_command(known, batch, number, command)
@@ -141,11 +158,17 @@ fn fill_command(
     size: &[u8],
     word: &[u8],
 ) -> Result<Command, FaultKind>
-    ensures told { (lines : List Line) → Keeps lines known.now (Some (batch_so_far batch.now)) → Tells lines (open_line (Found.Fill buffer.entry offset.entry size.entry word.entry)) (λ c. Statement.AddCommand c) result }
+    ensures told { (lines : List Line) → Keeps lines known.now (Some (batch_so_far batch.now)) →
+        Tells lines (open_line (Found.Fill buffer.entry offset.entry size.entry word.entry))
+        (λ c. Statement.AddCommand c) result }
+    ensures in_order { OnOk result (nat_lt 2 (last_part (Some (batch_so_far batch.now))) ≡ false) }
     ensures room { OnOk result (known.now.commands < 8192) }
 {
     if !is_name(buffer) {
         return Err(FaultKind::Syntax);
+    }
+    if batch.is_past_commands() {
+        return Err(FaultKind::Order);
     }
     let Some(offset) = numeral(offset) else {
         return Err(FaultKind::Number);
@@ -183,13 +206,16 @@ pub fn fill_line(
     size: &[u8],
     word: &[u8],
 ) -> Result<Option<OpenBatch>, Stop>
-    ensures { (lines : List Line) → Keeps lines known.old (Some (batch_so_far batch)) → Takes lines number (open_line (Found.Fill buffer.entry offset.entry size.entry word.entry)) result known.new }
+    ensures { (lines : List Line) → Keeps lines known.old (Some (batch_so_far batch)) →
+        Takes lines number (open_line (Found.Fill buffer.entry offset.entry size.entry word.entry))
+        result known.new }
 {
     let command = fill_command(known, &batch, buffer, offset, size, word)?;
     add_command(known, batch, number, command)
 }
 
-/// The buffer and the offset of `update BUFFER OFFSET DIGITS`, or the first kind of the line's faults.
+/// The buffer and the offset of `update BUFFER OFFSET DIGITS`, or the first kind of the line's
+/// faults.
 fn update_place(
     known: &Known,
     batch: &OpenBatch,
@@ -197,12 +223,18 @@ fn update_place(
     offset: &[u8],
     digits: &[u8],
 ) -> Result<(u32, u32), FaultKind>
-    ensures told { (lines : List Line) → Keeps lines known.now (Some (batch_so_far batch.now)) → Tells lines (open_line (Found.Update buffer.entry offset.entry digits.entry)) (λ p. Statement.AddCommand (Command.Update p.0 p.1 (hex_bytes digits.now))) result }
+    ensures told { (lines : List Line) → Keeps lines known.now (Some (batch_so_far batch.now)) →
+        Tells lines (open_line (Found.Update buffer.entry offset.entry digits.entry))
+        (λ p. Statement.AddCommand (Command.Update p.0 p.1 (hex_bytes digits.now))) result }
     ensures hex { OnOk result (is_hex digits.now ≡ true) }
+    ensures in_order { OnOk result (nat_lt 2 (last_part (Some (batch_so_far batch.now))) ≡ false) }
     ensures room { OnOk result (known.now.commands < 8192) }
 {
     if !is_name(buffer) {
         return Err(FaultKind::Syntax);
+    }
+    if batch.is_past_commands() {
+        return Err(FaultKind::Order);
     }
     let Some(offset) = numeral(offset) else {
         return Err(FaultKind::Number);
@@ -233,7 +265,9 @@ pub fn update_line(
     offset: &[u8],
     digits: &[u8],
 ) -> Result<Option<OpenBatch>, Stop>
-    ensures { (lines : List Line) → Keeps lines known.old (Some (batch_so_far batch)) → Takes lines number (open_line (Found.Update buffer.entry offset.entry digits.entry)) result known.new }
+    ensures { (lines : List Line) → Keeps lines known.old (Some (batch_so_far batch)) →
+        Takes lines number (open_line (Found.Update buffer.entry offset.entry digits.entry))
+        result known.new }
 {
     let (buffer, offset) = update_place(known, &batch, buffer, offset, digits)?;
     let bytes = Bytes::of(hex_bytes(alloc, digits)?);
@@ -254,21 +288,25 @@ fn are_names(first: &[u8], second: &[u8]) -> bool
 
 /// The numbers of three numerals.
 fn three_numerals(first: &[u8], second: &[u8], third: &[u8]) -> Option<(u64, u64, u64)>
-    ensures { result ≡ of_three (λ a b c. (a, b, c)) (numeral first.now) (numeral second.now) (numeral third.now) }
+    ensures { result ≡ of_three (λ a b c. (a, b, c)) (numeral first.now) (numeral second.now)
+        (numeral third.now) }
 {
     Some((numeral(first)?, numeral(second)?, numeral(third)?))
 }
 
 /// The numbers of the buffers of two names.
 fn two_buffers(known: &Known, first: &[u8], second: &[u8]) -> Option<(u32, u32)>
-    ensures { result ≡ of_two (λ a b. (a, b)) (position (λ b. bytes_eq first.now b.name) known.now.buffers.items) (position (λ b. bytes_eq second.now b.name) known.now.buffers.items) }
+    ensures { result ≡ of_two (λ a b. (a, b))
+        (position (names_buffer first.now) known.now.buffers.items)
+        (position (names_buffer second.now) known.now.buffers.items) }
 {
     Some((known.buffer_at(first)?, known.buffer_at(second)?))
 }
 
 /// Whether two ranges of so many bytes share one.
 fn share(first: u32, start: u64, second: u32, other_start: u64, size: u64) -> bool
-    ensures { result ≡ ((first == second) && nat_lt (max start other_start) (min (start + size) (other_start + size))) }
+    ensures { result ≡ ((first == second)
+        && nat_lt (max start other_start) (min (start + size) (other_start + size))) }
 {
     first == second && start.abs_diff(other_start) < size
 }
@@ -281,11 +319,17 @@ fn copy_command(
     target: PlaceWords<'_>,
     size: &[u8],
 ) -> Result<Command, FaultKind>
-    ensures told { (lines : List Line) → Keeps lines known.now (Some (batch_so_far batch.now)) → Tells lines (open_line (Found.Copy source.entry target.entry size.entry)) (λ c. Statement.AddCommand c) result }
+    ensures told { (lines : List Line) → Keeps lines known.now (Some (batch_so_far batch.now)) →
+        Tells lines (open_line (Found.Copy source.entry target.entry size.entry))
+        (λ c. Statement.AddCommand c) result }
+    ensures in_order { OnOk result (nat_lt 2 (last_part (Some (batch_so_far batch.now))) ≡ false) }
     ensures room { OnOk result (known.now.commands < 8192) }
 {
     if !are_names(source.buffer, target.buffer) {
         return Err(FaultKind::Syntax);
+    }
+    if batch.is_past_commands() {
+        return Err(FaultKind::Order);
     }
     let Some((from, to, size)) = three_numerals(source.offset, target.offset, size) else {
         return Err(FaultKind::Number);
@@ -323,7 +367,9 @@ pub fn copy_line(
     target: PlaceWords<'_>,
     size: &[u8],
 ) -> Result<Option<OpenBatch>, Stop>
-    ensures { (lines : List Line) → Keeps lines known.old (Some (batch_so_far batch)) → Takes lines number (open_line (Found.Copy source.entry target.entry size.entry)) result known.new }
+    ensures { (lines : List Line) → Keeps lines known.old (Some (batch_so_far batch)) →
+        Takes lines number (open_line (Found.Copy source.entry target.entry size.entry))
+        result known.new }
 {
     let command = copy_command(known, &batch, source, target, size)?;
     add_command(known, batch, number, command)

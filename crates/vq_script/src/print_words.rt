@@ -1,10 +1,10 @@
-//! The words of a canonical text.
-ghost use Rattle.std.specs.Prelude.{◌≡◌, ◌++◌, ◌∷◌, ◌<◌, OnOk};
+//! The words of a canonical text, and lines of a word and a name.
+ghost use Rattle.std.specs.Prelude.{◌≡◌, ◌++◌, ◌∷◌, [], ◌<◌, OnOk};
 ghost use Rattle.std.specs.List.{flat_map};
 ghost use Rattle.std.specs.Char.{digit_char};
 ghost use Rattle.std.specs.Fmt.{decimal};
 ghost use Rattle.vq_laws.specs.Forms.{mode_word};
-ghost use Rattle.vq_laws.specs.Canonical.{hex_digits, fill_word, fill_size_word};
+ghost use Rattle.vq_laws.specs.Canonical.{hex_digits, fill_word, fill_size_word, line_text};
 
 use std::alloc::{AllocError, Global};
 use vq_laws::script::{FillSize, Mode};
@@ -60,7 +60,7 @@ pub(crate) fn push_word(out: &mut Vec<u8>, word: &[u8]) -> Result<(), AllocError
 }
 
 /// Adds a space and a decimal numeral.
-pub(crate) fn push_number(alloc: Global, out: &mut Vec<u8>, number: u32) -> Result<(), AllocError>
+pub(crate) fn push_number(alloc: Global, out: &mut Vec<u8>, number: u64) -> Result<(), AllocError>
     ensures { OnOk result (out.new.items ≡ out.old.items ++ 32 ∷ decimal number) }
 {
     push_word(out, number.to_string(alloc)?.as_bytes())
@@ -84,7 +84,7 @@ pub(crate) fn push_fill_size(
 {
     match size {
         FillSize::Whole => push_word(out, b"whole"),
-        FillSize::Count(count) => push_number(alloc, out, count),
+        FillSize::Count(count) => push_number(alloc, out, u64::from(count)),
     }
 }
 
@@ -99,5 +99,34 @@ pub(crate) fn push_place(
         (out.new.items ≡ out.old.items ++ (32 ∷ name.now ++ 32 ∷ decimal offset)) }
 {
     push_word(out, name)?;
-    push_number(alloc, out, offset)
+    push_number(alloc, out, u64::from(offset))
+}
+
+/// Adds a line of a word and a name.
+pub(crate) fn push_name_line(out: &mut Vec<u8>, word: &[u8], name: &[u8]) -> Result<(), AllocError>
+    ensures { OnOk result
+        (out.new.items ≡ out.old.items ++ line_text (word.now ∷ name.now ∷ [])) }
+{
+    out.extend_from_slice(word)?;
+    push_word(out, name)?;
+    out.push(b'\n')?;
+    Ok(())
+}
+
+/// Adds a line of a word, a name and a decimal numeral.
+pub(crate) fn push_number_line(
+    alloc: Global,
+    out: &mut Vec<u8>,
+    word: &[u8],
+    name: &[u8],
+    number: u64,
+) -> Result<(), AllocError>
+    ensures { OnOk result (out.new.items ≡ out.old.items
+        ++ line_text (word.now ∷ name.now ∷ decimal number ∷ [])) }
+{
+    out.extend_from_slice(word)?;
+    push_word(out, name)?;
+    push_number(alloc, out, number)?;
+    out.push(b'\n')?;
+    Ok(())
 }

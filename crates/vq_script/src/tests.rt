@@ -3,7 +3,7 @@ use crate::fault::ScriptFault;
 use crate::print;
 use crate::reader::{is_short, parse};
 use std::alloc::{AllocError, Global};
-use vq_laws::script::{Command, FillSize, Job, Mode};
+use vq_laws::script::{Command, FillSize, Job, Mark, Mode, SemaphoreKind};
 use vq_laws::statement::{FaultKind, Form};
 
 /// The first fault of a text, if it has one.
@@ -56,7 +56,7 @@ fn fine_texts(rt: HostRuntime) {
 #[test]
 fn faulty_texts(rt: HostRuntime) {
     let declared = "buffer X 8\nqueue Q immediate\n";
-    let texts: [(&str, u32, FaultKind); 48] = [
+    let texts: [(&str, u32, FaultKind); 47] = [
         ("submit Q\n", 4, FaultKind::Syntax),
         ("word", 3, FaultKind::Syntax),
         ("end", 3, FaultKind::Syntax),
@@ -67,7 +67,6 @@ fn faulty_texts(rt: HostRuntime) {
         ("buffer abcdefghijklmnopq 8", 3, FaultKind::Syntax),
         ("buffer 9Y 8", 3, FaultKind::Syntax),
         ("buffer Y-Z 8", 3, FaultKind::Syntax),
-        ("queue R immediate", 3, FaultKind::Syntax),
         ("submit Q\nwait X 1\nend", 4, FaultKind::Syntax),
         ("submit Q\nsubmit Q\nend", 4, FaultKind::Syntax),
         ("submit Q\nbuffer Y 8\nend", 4, FaultKind::Syntax),
@@ -381,6 +380,240 @@ fn commands_of_a_text(rt: HostRuntime) {
     }
 }
 
+#[test]
+fn faults_of_semaphores_and_queues(rt: HostRuntime) {
+    let declared =
+        "buffer X 8\ntimeline T 5\nbinary S\nfence F\nqueue Q threaded\nqueue I immediate\n";
+    let texts: [(&str, Option<(u32, FaultKind)>); 65] = [
+        ("timeline U 18446744073709551615", None),
+        (
+            "binary U\nfence V\nqueue R threaded\nqueue W immediate",
+            None,
+        ),
+        ("timeline U", Some((7, FaultKind::Syntax))),
+        ("timeline U 1 2", Some((7, FaultKind::Syntax))),
+        ("timeline 9U 1", Some((7, FaultKind::Syntax))),
+        ("binary U 1", Some((7, FaultKind::Syntax))),
+        ("binary U-V", Some((7, FaultKind::Syntax))),
+        ("fence", Some((7, FaultKind::Syntax))),
+        ("fence 9U", Some((7, FaultKind::Syntax))),
+        ("queue R deferred", Some((7, FaultKind::Syntax))),
+        ("queue R Threaded", Some((7, FaultKind::Syntax))),
+        ("queue 9R threaded", Some((7, FaultKind::Syntax))),
+        (
+            "timeline U 18446744073709551616",
+            Some((7, FaultKind::Number)),
+        ),
+        ("timeline T y", Some((7, FaultKind::Number))),
+        ("timeline X 1", Some((7, FaultKind::Twice))),
+        ("binary T", Some((7, FaultKind::Twice))),
+        ("fence Q", Some((7, FaultKind::Twice))),
+        ("queue F threaded", Some((7, FaultKind::Twice))),
+        ("queue I threaded", Some((7, FaultKind::Twice))),
+        ("buffer S 8", Some((7, FaultKind::Twice))),
+        ("submit Q\nend\ntimeline U 1", Some((9, FaultKind::Order))),
+        ("submit Q\nend\ntimeline T y", Some((9, FaultKind::Order))),
+        ("submit Q\nend\nbinary S", Some((9, FaultKind::Order))),
+        ("submit Q\nend\nfence F", Some((9, FaultKind::Order))),
+        (
+            "submit Q\nend\nqueue R threaded",
+            Some((9, FaultKind::Order)),
+        ),
+        ("submit T", Some((7, FaultKind::Name))),
+        ("wait T 1", Some((7, FaultKind::Syntax))),
+        ("signal S", Some((7, FaultKind::Syntax))),
+        (
+            "submit Q\nwait T 18446744073709551615\nwait T 1\nwait S\nend",
+            None,
+        ),
+        (
+            "submit Q\nwait S\nfill X 0 8 0\nsignal T 0\nsignal S\nfence F\nend",
+            None,
+        ),
+        (
+            "submit I\nfill X 0 8 0\nsignal T 9\nfence F\nend\nsubmit Q\nwait T 9\nend",
+            None,
+        ),
+        ("submit Q\nwait", Some((8, FaultKind::Syntax))),
+        ("submit Q\nwait T 1 2", Some((8, FaultKind::Syntax))),
+        ("submit Q\nwait S from 2", Some((8, FaultKind::Syntax))),
+        ("submit Q\nwait T 1 from 2", Some((8, FaultKind::Syntax))),
+        ("submit Q\nwait 9T 1", Some((8, FaultKind::Syntax))),
+        ("submit Q\nsignal 9S", Some((8, FaultKind::Syntax))),
+        ("submit Q\nfence F F", Some((8, FaultKind::Syntax))),
+        ("submit Q\nfence F\nfence 9", Some((9, FaultKind::Syntax))),
+        ("submit I\nwait T 1", Some((8, FaultKind::Syntax))),
+        ("submit I\nwait S", Some((8, FaultKind::Syntax))),
+        (
+            "submit I\nfill X 0 8 0\nwait T y",
+            Some((9, FaultKind::Syntax)),
+        ),
+        (
+            "submit Q\nwait S\nend\nsubmit I\nwait S",
+            Some((11, FaultKind::Syntax)),
+        ),
+        (
+            "submit Q\nfill X 0 8 0\nwait T 1",
+            Some((9, FaultKind::Order)),
+        ),
+        (
+            "submit Q\nfill X 0 8 0\nwait Z y",
+            Some((9, FaultKind::Order)),
+        ),
+        ("submit Q\nsignal T 1\nwait S", Some((9, FaultKind::Order))),
+        (
+            "submit Q\nsignal S\nfill X 0 8 0",
+            Some((9, FaultKind::Order)),
+        ),
+        (
+            "submit Q\nsignal S\nfill X 0 whole y",
+            Some((9, FaultKind::Order)),
+        ),
+        ("submit Q\nfence F\nwait S", Some((9, FaultKind::Order))),
+        (
+            "submit Q\nfence F\nupdate X 0 00000000",
+            Some((9, FaultKind::Order)),
+        ),
+        (
+            "submit Q\nfence F\ncopy X 0 X 4 4",
+            Some((9, FaultKind::Order)),
+        ),
+        ("submit Q\nfence F\nsignal T 1", Some((9, FaultKind::Order))),
+        ("submit Q\nfence F\nfence F", Some((9, FaultKind::Order))),
+        (
+            "submit Q\nwait Z 18446744073709551616",
+            Some((8, FaultKind::Number)),
+        ),
+        ("submit Q\nsignal T y", Some((8, FaultKind::Number))),
+        ("submit Q\nwait S 1", Some((8, FaultKind::Name))),
+        ("submit Q\nwait T", Some((8, FaultKind::Name))),
+        ("submit Q\nwait F", Some((8, FaultKind::Name))),
+        ("submit Q\nwait F 1", Some((8, FaultKind::Name))),
+        ("submit Q\nsignal S 1", Some((8, FaultKind::Name))),
+        ("submit Q\nsignal T", Some((8, FaultKind::Name))),
+        ("submit Q\nsignal X", Some((8, FaultKind::Name))),
+        ("submit Q\nfence S", Some((8, FaultKind::Name))),
+        ("submit Q\nfence T", Some((8, FaultKind::Name))),
+        ("submit Q\nfill T 0 8 0", Some((8, FaultKind::Name))),
+    ];
+    for (rest, fault) in texts {
+        let text = format!(in rt.alloc(); "{declared}{rest}").expect(&rt, "memory");
+        let want = match fault {
+            None => Ok(()),
+            Some((line, kind)) => Err(ScriptFault::At { line, kind }),
+        };
+        assert_eq!(rt;
+            verdict(rt.alloc(), text.as_bytes(), Form::Plain),
+            want,
+            "{rest}"
+        );
+    }
+}
+
+/// A text, and a line after it again and again.
+fn repeated(alloc: Global, text: &str, line: &str, count: usize) -> Result<String, AllocError> {
+    let mut text = String::from_str(alloc, text)?;
+    for _ in 0..count {
+        text.push_str(line)?;
+    }
+    Ok(text)
+}
+
+/// Semaphores of this many names, one kind after another.
+fn semaphores(alloc: Global, count: usize) -> Result<String, AllocError> {
+    let mut text = String::new(alloc);
+    for i in 0..count {
+        let line = match i % 3 {
+            0 => format!(in alloc; "timeline N{i} 0\n")?,
+            1 => format!(in alloc; "binary N{i}\n")?,
+            _ => format!(in alloc; "fence N{i}\n")?,
+        };
+        text.push_str(line.as_str())?;
+    }
+    Ok(text)
+}
+
+#[test]
+fn limits_of_semaphores_and_queues(rt: HostRuntime) {
+    let alloc = rt.alloc();
+    let declared = "timeline T 0\nbinary S\nqueue Q threaded\nsubmit Q\n";
+    for mark in ["wait T 1\n", "wait S\n", "signal T 1\n", "signal S\n"] {
+        for (count, line, kind) in [(16, 21, FaultKind::Syntax), (17, 21, FaultKind::Limit)] {
+            let text = repeated(alloc, declared, mark, count).expect(&rt, "memory");
+            // After sixteen the text ends inside the batch.
+            let want = Err(ScriptFault::At { line, kind });
+            assert_eq!(rt;
+                verdict(alloc, text.as_bytes(), Form::Plain),
+                want,
+                "{mark} {count}"
+            );
+        }
+    }
+    let limit = Err(ScriptFault::At {
+        line: 257,
+        kind: FaultKind::Limit,
+    });
+    for (last, want) in [
+        ("", Ok(())),
+        ("timeline U 0", limit),
+        ("binary U", limit),
+        ("fence U", limit),
+    ] {
+        let mut text = semaphores(alloc, 256).expect(&rt, "memory");
+        text.push_str(last).expect(&rt, "memory");
+        assert_eq!(rt;
+            verdict(alloc, text.as_bytes(), Form::Plain),
+            want,
+            "{last}"
+        );
+    }
+    let mut text = String::new(alloc);
+    for i in 0..9 {
+        assert_eq!(rt; verdict(alloc, text.as_bytes(), Form::Plain), Ok(()), "{i}");
+        let line = format!(in alloc; "queue Q{i} threaded\n").expect(&rt, "memory");
+        text.push_str(line.as_str()).expect(&rt, "memory");
+    }
+    let limit = Err(ScriptFault::At {
+        line: 9,
+        kind: FaultKind::Limit,
+    });
+    assert_eq!(rt; verdict(alloc, text.as_bytes(), Form::Plain), limit);
+}
+
+#[test]
+fn marks_of_a_text(rt: HostRuntime) {
+    let text =
+        b"binary S\ntimeline T 5\nfence F\nqueue I immediate\nqueue Q threaded\nsubmit Q\nwait T 7\nwait S\nsignal T 9\nfence F\nend";
+    let script = parse(rt.alloc(), text, Form::Plain).expect(&rt, "the text has no fault");
+    let [binary, timeline, fence] = script.semaphores.as_slice() else {
+        panic!(rt; "three semaphores are wanted");
+    };
+    assert_eq!(rt; (binary.line, binary.kind), (1, SemaphoreKind::Binary));
+    assert_eq!(rt;
+        (timeline.line, timeline.kind),
+        (2, SemaphoreKind::Timeline(5))
+    );
+    assert_eq!(rt; (fence.line, fence.kind), (3, SemaphoreKind::Fence));
+    assert_eq!(rt; timeline.name.as_slice(), b"T".as_slice());
+    let [Job::Batch(batch)] = script.jobs.as_slice() else {
+        panic!(rt; "one batch is wanted");
+    };
+    assert_eq!(rt; (batch.line, batch.queue), (6, 1));
+    let mark = |line, semaphore, value| Mark {
+        line,
+        semaphore,
+        value,
+        from: 1,
+    };
+    assert_eq!(rt;
+        batch.waits.as_slice(),
+        [mark(7, 1, 7), mark(8, 0, 0)].as_slice()
+    );
+    assert_eq!(rt; batch.signals.as_slice(), [mark(9, 1, 9)].as_slice());
+    assert_eq!(rt; batch.fence, Some(mark(10, 2, 0)));
+    assert!(rt; batch.commands.as_slice().is_empty());
+}
+
 /// The canonical text of the script that a text stands for.
 fn printed(alloc: Global, text: &[u8]) -> Result<Vec<u8>, ScriptFault> {
     if !is_short(text) {
@@ -395,12 +628,16 @@ fn printed(alloc: Global, text: &[u8]) -> Result<Vec<u8>, ScriptFault> {
 
 #[test]
 fn canonical_texts(rt: HostRuntime) {
-    let texts: [(&str, &str); 3] = [
+    let texts: [(&str, &str); 4] = [
         ("", ""),
         (" buffer  X 0x10 # note\n", "buffer X 16\n"),
         (
             "queue Q immediate\r\n\nbuffer Y 0x0007\nbuffer X 16\nsubmit Q\nfill Y 04 whole 0xABC\nupdate X 0 0aFF00b1 #\nend\nsubmit Q\ncopy X 1 Y 0x0 3\nfill X 0 4 4294967295\nend",
             "buffer Y 7\nbuffer X 16\nqueue Q immediate\nsubmit Q\nfill Y 4 whole 0x00000abc\nupdate X 0 0aff00b1\nend\nsubmit Q\ncopy X 1 Y 0 3\nfill X 0 4 0xffffffff\nend\n",
+        ),
+        (
+            "queue Q  threaded\nfence F # done\nbuffer X 8\ntimeline T 0x5\nbinary S\nqueue I immediate\nsubmit Q\nwait T 07\nwait S\nfill X 0 8 1\nsignal T 0x9\nsignal S\nfence F\nend\nsubmit I\nsignal T 18446744073709551615\nend",
+            "buffer X 8\nfence F\ntimeline T 5\nbinary S\nqueue Q threaded\nqueue I immediate\nsubmit Q\nwait T 7\nwait S\nfill X 0 8 0x00000001\nsignal T 9\nsignal S\nfence F\nend\nsubmit I\nsignal T 18446744073709551615\nend\n",
         ),
     ];
     for (text, canonical) in texts {

@@ -1,8 +1,10 @@
 -- A slow run by its jobs.
-use Rattle.std.proofs.Common.{◌≡◌, ℕ, zero, suc, ◌+◌, ◌<◌, ◌≤◌, true, List, [], ◌∷◌, ◌++◌, length, map, take, get_or, Some, None, option_map, refl, sym, ap, ◌∙◌, subst, arith}
+use Rattle.std.proofs.Common.{◌≡◌, ℕ, zero, suc, ◌+◌, ◌<◌, ◌≤◌, true, List, [], ◌∷◌, ◌++◌, length, map, take, get_or, Option, Some, None, option_map, refl, sym, ap, ◌∙◌, inl, inr, subst, arith}
 use Rattle.std.specs.List.{slice_get, cons_option, flat_map, range_with_len}
 use Rattle.std.specs.Option.{option_map_or}
-use Rattle.std.proofs.lemmas.List.{take_more}
+use Rattle.std.proofs.lemmas.Bool.{false≢true}
+use Rattle.std.proofs.lemmas.Grind.{flat_map-append}
+use Rattle.std.proofs.lemmas.List.{append-nil, take_more}
 use Rattle.std.proofs.lemmas.List.Elements.{filter_map-append}
 use Rattle.std.proofs.lemmas.List.FromFn.{length-map-range_with_len}
 use Rattle.vq_laws.specs.declared.script.Script.{Script}
@@ -12,18 +14,17 @@ use Rattle.vq_laws.specs.declared.plan.PlanJob.{PlanJob}
 use Rattle.vq_laws.specs.Plan.{Plan, has, command_at, commands_of}
 use Rattle.vq_laws.specs.Memory.{Memory, HasSizes, effect, after_all, zeros_of}
 use Rattle.vq_laws.specs.Ranges.{Fits}
-use Rattle.vq_laws.specs.SlowRun.{command_list, slow_order, left_over, bytes_after, zeros, final}
+use Rattle.vq_laws.specs.SlowRun.{command_list, is_ready, lowest_ready, slow_from, slow_order, bytes_after, zeros}
 use Rattle.vq_laws.specs.LoweringFaults.{IsPlan}
 use Rattle.vq_laws.specs.SameScript.{IsRead}
 use Rattle.vq_laws.specs.ValidScripts.{sizes_of}
-use Rattle.vq_laws.proofs.Lists.{has_here, has_there}
-use Rattle.vq_laws.proofs.OneLane.{one_lane_order, one_lane_left}
-use Rattle.vq_laws.specs.WellFormed.{IsWellFormed}
-use Rattle.vq_laws.proofs.PlanLaws.{well_formed}
-use Rattle.vq_laws.proofs.WrittenScripts.{read_one_lane, read_valid}
+use Rattle.vq_laws.proofs.Lists.{has-append_cases, has_cases}
+use Rattle.vq_laws.proofs.PlanLaws.{has-range_cases}
+use Rattle.vq_laws.proofs.PlansKept.{plan_well_formed}
+use Rattle.vq_laws.proofs.SlowRun.{find_member}
+use Rattle.vq_laws.proofs.WrittenScripts.{read_valid}
 use Rattle.vq_transfer.proofs.Sizes.{has_own_sizes}
-use Rattle.vq_spec.proofs.HexLines.{flat_map-range_push}
-use Rattle.vq_spec.proofs.Lowered.{plan_length}
+use Rattle.vq_spec.proofs.SlowHeads.{has_at}
 
 -- Sizes
 
@@ -43,15 +44,6 @@ has_sizes sizes m e = subst (λ (ns : List ℕ). HasSizes ns m) e (has_own_sizes
 
 -- Commands of a job
 
-is_well_formed : (p : Plan) → IsPlan p → IsWellFormed p
-is_well_formed p h = subst IsWellFormed (sym h.lowered)
-    (well_formed p.script (read_valid p.script h.of_script))
-
-has-get_or : (xs : List ℕ) (k : ℕ) → k < length xs → has xs (get_or xs k 0) ≡ true
-has-get_or [] k l = absurd (omega arith)
-has-get_or (x ∷ xs) zero l = has_here x xs
-has-get_or (x ∷ xs) (suc k) l = has_there x xs (get_or xs k 0) (has-get_or xs k (omega arith))
-
 pub command_within : (cs : List CommandLine) (c : ℕ) (x : Command) →
     option_map (λ y. y.command) (slice_get cs c) ≡ Some x → c < length cs
 command_within [] c x e = absurd (let h : None ≡ Some x = e in cc)
@@ -65,8 +57,8 @@ module _ (p : Plan) (h : IsPlan p) (j : ℕ) (job : PlanJob) (at : slice_get p.j
   command_fits =
       let own : commands_of p j ≡ job.commands = ap (λ o. option_map_or (λ y. y.commands) o [])
       at in
-      (is_well_formed p h).fits (get_or job.commands k 0) j
-      (ap (λ cs. has cs (get_or job.commands k 0)) own ∙ has-get_or job.commands k inside)
+      (plan_well_formed p h).fits (get_or job.commands k 0) j
+      (ap (λ cs. has cs (get_or job.commands k 0)) own ∙ has_at job.commands k inside)
 
   pub command_exists : get_or job.commands k 0 < length p.commands
   command_exists = command_within p.commands (get_or job.commands k 0) command_fits.0 command_fits.1
@@ -116,37 +108,45 @@ after_command p j job at k l line e m now new a b =
     ∙ ap (λ cs. after_all (command_list p cs) m) (sym more))))
 
 -- one job more
-pub after_job : (p : Plan) (j : ℕ) (now new : Memory) →
-    now ≡ bytes_after p (flat_map (commands_of p) (range_with_len 0 j)) →
-    new ≡ after_all (command_list p (commands_of p j)) now →
-    new ≡ bytes_after p (flat_map (commands_of p) (range_with_len 0 (j + 1)))
-after_job p j now new a b =
+pub after_job : (p : Plan) (order : List ℕ) (k : ℕ) → k < length order → (now new : Memory) →
+    now ≡ bytes_after p (flat_map (commands_of p) (take k order)) →
+    new ≡ after_all (command_list p (commands_of p (get_or order k 0))) now →
+    new ≡ bytes_after p (flat_map (commands_of p) (take (k + 1) order))
+after_job p order k l now new a b =
+    let j = get_or order k 0 in
+    let more : flat_map (commands_of p) (take (k + 1) order) ≡ flat_map (commands_of p) (take k order) ++ commands_of p j =
+    ap (flat_map (commands_of p)) (take_more order k 0 l)
+    ∙ (flat_map-append (commands_of p) (take k order) (j ∷ [])
+    ∙ ap (λ cs. flat_map (commands_of p) (take k order) ++ cs) (append-nil (commands_of p j))) in
     b
     ∙ (ap (after_all (command_list p (commands_of p j))) a
-    ∙ (sym (after_more p (flat_map (commands_of p) (range_with_len 0 j)) (commands_of p j)
-    (zeros_of p.sizes)) ∙ ap (λ cs. bytes_after p cs)
-    (sym (flat_map-range_push (commands_of p) j))))
+    ∙ (sym (after_more p (flat_map (commands_of p) (take k order)) (commands_of p j) (zeros_of p.sizes))
+    ∙ ap (bytes_after p) (sym more)))
 
 -- The order
 
-pub slow_order_is : (p : Plan) → IsPlan p → slow_order p ≡ range_with_len 0 (length p.jobs)
-slow_order_is p h =
-    let s = p.script in
-    ap slow_order h.lowered
-    ∙ (one_lane_order s (read_one_lane s h.of_script)
-    ∙ (ap (range_with_len 0) (sym (plan_length s h.of_script))
-    ∙ ap (λ q. range_with_len 0 (length q.jobs)) (sym h.lowered)))
+module _ (p : Plan) where
+  slow_within : (n : ℕ) (done : List ℕ) → ((j : ℕ) → has done j ≡ true → j < length p.jobs) →
+      (j : ℕ) → has (slow_from n p done) j ≡ true → j < length p.jobs
+  slow_within zero done k = k
+  slow_within (suc n) done k = by_case (lowest_ready p done) refl (slow_within n)
+    where
+      by_case : (o : Option ℕ) → lowest_ready p done ≡ o →
+          ((more : List ℕ) → ((j : ℕ) → has more j ≡ true → j < length p.jobs) →
+          (j : ℕ) → has (slow_from n p more) j ≡ true → j < length p.jobs) →
+          (j : ℕ) → has (option_map_or (λ i. slow_from n p (done ++ i ∷ [])) o done) j ≡ true →
+          j < length p.jobs
+      by_case None e f = k
+      by_case (Some i) e f =
+          let l = (has-range_cases (length p.jobs) 0 i (find_member (is_ready p done) (range_with_len 0 (length p.jobs)) i e)).1 in
+          f (done ++ i ∷ []) (λ j h. elim (has-append_cases done (i ∷ []) j h) [
+            | inl a ↦ k j a
+            | inr a ↦ elim (has_cases i [] j a) [ inl q ↦ subst (λ z. z < length p.jobs) q (omega arith) | inr t ↦ absurd (false≢true t) ]
+          ])
 
-pub none_left : (p : Plan) → IsPlan p → left_over p ≡ []
-none_left p h = ap left_over h.lowered ∙ one_lane_left p.script
-    (read_one_lane p.script h.of_script)
-
--- what the slow run leaves, where its jobs are done in their order
-pub final_is : (p : Plan) → IsPlan p → (n : ℕ) → n ≡ length p.jobs → (m : Memory) →
-    m ≡ bytes_after p (flat_map (commands_of p) (range_with_len 0 n)) → m ≡ final p
-final_is p h n e m a =
-    a ∙ ap (λ js. bytes_after p (flat_map (commands_of p) js))
-    (ap (range_with_len 0) e ∙ sym (slow_order_is p h))
+  -- the slow run does jobs that exist
+  pub slow_exists : (j : ℕ) → has (slow_order p) j ≡ true → j < length p.jobs
+  slow_exists = slow_within (length p.jobs) [] (λ j h. absurd (false≢true h))
 
 -- zero bytes have the sizes of the plan
 pub zeros_are : (p : Plan) → IsPlan p → (s : Script) → s ≡ p.script → (m : Memory) →

@@ -1,10 +1,12 @@
 -- What a plan keeps beside its script.
-use Rattle.std.specs.Prelude.{◌≡◌, ◌<◌, ◌^◌, map, length, Some}
+use Rattle.std.specs.Prelude.{◌≡◌, ◌<◌, ◌^◌, map, length, Some, None}
 use Rattle.std.specs.List.{range_with_len}
 use Rattle.vq_laws.specs.declared.script.Script.{Script}
 use Rattle.vq_laws.specs.Edges.{edges_to}
 use Rattle.vq_laws.specs.Lowering.{plan_of}
+use Rattle.vq_laws.specs.LoweringFaults.{lowering_fault}
 use Rattle.vq_laws.specs.SameScript.{IsRead}
+use Rattle.vq_spec.specs.ChainParts.{AreChains}
 use Rattle.vq_spec.specs.declared.lowering.Tables.{Tables}
 use Rattle.vq_spec.specs.Places.{command_there}
 
@@ -12,11 +14,12 @@ use Rattle.vq_spec.specs.Places.{command_there}
 -- bits.
 pub record KeepsPlan (s : Script) (t : Tables) : Type 0 where
   pub script : IsRead s
+  pub faultless : lowering_fault s ≡ None
   pub jobs : t.jobs.items ≡ (plan_of s).jobs
   pub edges : t.edges.items ≡ map (edges_to (plan_of s)) (range_with_len 0 (length s.jobs))
   pub places : map (command_there s.jobs) t.places.items ≡ map Some (plan_of s).commands
   pub ops : t.ops.items ≡ (plan_of s).ops
-  pub chains : t.chains.items ≡ (plan_of s).chains
+  pub chains : AreChains s t.chains.items
   pub few_jobs : length t.jobs.items < 2 ^ 32
   pub few_places : length t.places.items < 2 ^ 32
   pub few_ops : length t.ops.items < 2 ^ 32

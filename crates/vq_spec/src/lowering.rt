@@ -1,15 +1,19 @@
 //! What a plan keeps beside its script.
-ghost use Rattle.std.specs.Prelude.{◌≡◌, ◌<◌, ◌+◌, ◌^◌, [], take, length, Some, IfOk};
+ghost use Rattle.std.specs.Prelude.{◌≡◌, ◌<◌, ◌+◌, ◌^◌, [], None, All, map, take, length, Some, IfOk, OnOk};
 ghost use Rattle.std.specs.List.{flat_map, range_with_len, slice_get};
 ghost use Rattle.vq_laws.specs.Lowering.{batch_commands, plan_of};
+ghost use Rattle.vq_laws.specs.LoweringFaults.{lowering_fault};
 ghost use Rattle.vq_laws.specs.SameScript.{IsRead};
+ghost use Rattle.vq_spec.specs.Counts.{AreLowered, batch_job, need_by};
 
+use crate::chains::{Chain, lower_chains, place_ops};
 use crate::edges::lower_edges;
 use crate::places::{Place, lower_places};
+use crate::signals::{Signals, value_of};
 use std::alloc::{AllocError, Global};
 use vq_laws::list::List;
-use vq_laws::plan::{Lane, Op, PlanJob, Question};
-use vq_laws::script::{Job, Script};
+use vq_laws::plan::{Lane, Need, Op, PlanJob, Question};
+use vq_laws::script::{Batch, Job, Mark, Script};
 
 /// What a plan keeps beside its script.
 #[derive(Drop)]
@@ -20,7 +24,19 @@ pub(crate) struct Tables {
     /// Where each command stands in the script.
     pub(crate) places: Vec<Place>,
     pub(crate) ops: Vec<Op>,
-    pub(crate) chains: Vec<List<u32>>,
+    /// The operations of each semaphore and each fence.
+    pub(crate) chains: Vec<Chain>,
+}
+
+/// The parts of a plan so far, job by job.
+#[derive(Drop)]
+pub(crate) struct Lowered {
+    pub(crate) jobs: Vec<PlanJob>,
+    /// How many commands the jobs have.
+    pub(crate) commands: u32,
+    /// The last job of each queue.
+    pub(crate) last: Vec<Option<u32>>,
+    pub(crate) signals: Signals,
 }
 
 /// A list of nothing.
@@ -42,45 +58,127 @@ pub(crate) fn numbers(alloc: Global, first: u32, count: u32) -> Result<List<u32>
     Ok(List::of(numbers))
 }
 
-/// A job of the plan; the batches before it have `first` commands.
-fn lower_job(alloc: Global, script: &Script, j: u32, first: u32) -> Result<PlanJob, AllocError>
-    requires script { IsRead script.now }
-    requires exists { j < length script.now.jobs }
-    requires before { first ≡ length (flat_map batch_commands (take j script.now.jobs)) }
-    ensures { IfOk result (λ job. slice_get (plan_of script.now).jobs j ≡ Some job) }
+/// What a wait asks for. That of a binary semaphore takes the last signal that is written before
+/// its batch, so its value is how many there are.
+fn lower_wait(script: &Script, counts: &[u64], wait: &Mark) -> Need
+    requires exists { wait.now.semaphore < length script.now.semaphores }
+    requires counted { length counts.now ≡ length script.now.semaphores }
+    ensures { result ≡ need_by script.now counts.now wait.now }
 {
-    let Job::Batch(batch) = &script.jobs.as_slice()[j as usize] else {
-        unreachable!()
-    };
-    let count = batch.commands.as_slice().len() as u32;
-    Ok(PlanJob {
-        line: batch.line,
-        lane: Lane::Queue(batch.queue),
-        previous: j.checked_sub(1),
-        host_before: None,
-        any: false,
-        needs: none(alloc),
-        asked: none(alloc),
-        idle_after: none(alloc),
-        commands: numbers(alloc, first, count)?,
-        signals: none(alloc),
-        question: Question::Silent,
-    })
+    Need {
+        line: wait.line,
+        chain: wait.semaphore,
+        value: value_of(script, wait, counts[wait.semaphore as usize]),
+        from: wait.from,
+    }
 }
 
-/// The jobs of the plan.
-fn lower_jobs(alloc: Global, script: &Script) -> Result<Vec<PlanJob>, AllocError>
-    requires { IsRead script.now }
-    ensures { IfOk result (λ jobs. jobs.items ≡ (plan_of script.now).jobs) }
+/// What the waits of a batch ask for, where each semaphore has so many signals before it.
+fn lower_waits(
+    alloc: Global,
+    script: &Script,
+    counts: &[u64],
+    waits: &[Mark],
+) -> Result<List<Need>, AllocError>
+    requires exist { All (λ m. m.semaphore < length script.now.semaphores) waits.now }
+    requires counted { length counts.now ≡ length script.now.semaphores }
+    ensures { IfOk result (λ needs. needs ≡ map (need_by script.now counts.now) waits.now) }
 {
-    let mut jobs = Vec::new(alloc);
-    let mut first = 0u32;
-    for j in 0..script.jobs.as_slice().len() as u32 {
-        let job = lower_job(alloc, script, j, first)?;
-        first += job.commands.as_slice().len() as u32;
-        jobs.push(job)?;
+    let mut needs = Vec::with_capacity(alloc, waits.len())?;
+    for wait in waits {
+        needs.push(lower_wait(script, counts, wait))?;
     }
-    Ok(jobs)
+    Ok(List::of(needs))
+}
+
+/// The job that a batch is lowered to.
+fn batch_job(
+    alloc: Global,
+    batch: &Batch,
+    previous: Option<u32>,
+    needs: List<Need>,
+    commands: List<u32>,
+    signals: List<u32>,
+) -> PlanJob
+    ensures { result ≡ batch_job batch.now previous needs commands signals }
+{
+    PlanJob {
+        line: batch.line,
+        lane: Lane::Queue(batch.queue),
+        previous,
+        host_before: None,
+        any: false,
+        needs,
+        asked: none(alloc),
+        idle_after: none(alloc),
+        commands,
+        signals,
+        question: Question::Silent,
+    }
+}
+
+/// No last job yet in so many queues.
+fn no_jobs(alloc: Global, queues: usize) -> Result<Vec<Option<u32>>, AllocError>
+    ensures { IfOk result (λ last. last.items ≡ map (λ q. None) (range_with_len 0 queues)) }
+{
+    let mut last = Vec::with_capacity(alloc, queues)?;
+    for _ in 0..queues {
+        last.push(None)?;
+    }
+    Ok(last)
+}
+
+impl Lowered {
+    /// No jobs yet.
+    fn new(alloc: Global, script: &Script) -> Result<Lowered, AllocError>
+        ensures { IfOk result (λ lowered. AreLowered script.now 0 lowered) }
+    {
+        let queues = script.queues.as_slice().len();
+        Ok(Lowered {
+            jobs: Vec::new(alloc),
+            commands: 0,
+            last: no_jobs(alloc, queues)?,
+            signals: Signals::new(alloc, script)?,
+        })
+    }
+
+    /// Adds the next job.
+    fn push(&mut self, alloc: Global, script: &Script, j: u32) -> Result<(), AllocError>
+        requires read { IsRead script.now }
+        requires exists { j < length script.now.jobs }
+        requires kept { AreLowered script.now j self.old }
+        ensures { OnOk result (AreLowered script.now (j + 1) self.new) }
+    {
+        let Job::Batch(batch) = &script.jobs.as_slice()[j as usize] else {
+            unreachable!()
+        };
+        let counts = self.signals.counts.as_slice();
+        let needs = lower_waits(alloc, script, counts, batch.waits.as_slice())?;
+        let first = self.signals.ops.len() as u32;
+        self.signals.push_batch(script, j, batch)?;
+        let signals = numbers(alloc, first, self.signals.ops.len() as u32 - first)?;
+        let count = batch.commands.as_slice().len() as u32;
+        let commands = numbers(alloc, self.commands, count)?;
+        let queue = batch.queue as usize;
+        let previous = self.last[queue];
+        let job = batch_job(alloc, batch, previous, needs, commands, signals);
+        self.jobs.push(job)?;
+        self.last[queue] = Some(j);
+        self.commands += count;
+        Ok(())
+    }
+}
+
+/// The jobs of the plan, and its operations.
+fn lower_jobs(alloc: Global, script: &Script) -> Result<Lowered, AllocError>
+    requires { IsRead script.now }
+    ensures { IfOk result (λ lowered. AreLowered script.now (length script.now.jobs) lowered) }
+{
+    let mut lowered = Lowered::new(alloc, script)?;
+    for j in 0..script.jobs.as_slice().len() as u32 {
+        lowered.push(alloc, script, j)?;
+    }
+    Ok(lowered)
 }
 
 impl Tables {
@@ -88,17 +186,27 @@ impl Tables {
 
     /// What is kept of the plan of a script.
     pub(crate) fn of(alloc: Global, script: &Script) -> Result<Tables, AllocError>
-        requires { IsRead script.now }
+        requires read { IsRead script.now }
+        requires faultless { lowering_fault script.now ≡ None }
         ensures { IfOk result (λ tables. KeepsPlan script.now tables) }
     {
-        let jobs = lower_jobs(alloc, script)?;
-        let edges = lower_edges(alloc, jobs.as_slice())?;
+        let Lowered { jobs, signals, .. } = lower_jobs(alloc, script)?;
+        let unplaced = signals.ops.as_slice();
+        let chains = lower_chains(alloc, unplaced, script.semaphores.as_slice().len())?;
+        let ops = place_ops(alloc, unplaced, chains.as_slice())?;
+        let edges = lower_edges(
+            alloc,
+            script,
+            ops.as_slice(),
+            chains.as_slice(),
+            jobs.as_slice(),
+        )?;
         Ok(Tables {
             jobs,
             edges,
             places: lower_places(alloc, script)?,
-            ops: Vec::new(alloc),
-            chains: Vec::new(alloc),
+            ops,
+            chains,
         })
     }
 }

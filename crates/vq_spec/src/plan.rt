@@ -3,10 +3,13 @@ ghost use Rattle.std.specs.Prelude.{◌≡◌, ◌<◌, length, Some};
 ghost use Rattle.std.specs.List.{slice_get};
 ghost use Rattle.vq_laws.specs.Edges.{edges_to};
 ghost use Rattle.vq_laws.specs.LoweringFaults.{IsPlan, Lowers};
+ghost use Rattle.vq_laws.specs.Plan.{chain, initial, resolver};
 ghost use Rattle.vq_laws.specs.SameScript.{IsRead};
 
+use crate::edges::initial_value;
 use crate::lowering::Tables;
 use crate::places::Place;
+use crate::uses::find_fault;
 use std::alloc::Global;
 use std::marker::Model;
 use vq_laws::list::List;
@@ -34,14 +37,17 @@ impl Model for Plan {
 }
 
 impl Plan {
-    /// The plan of a script. The only error so far is want of memory.
+    /// The plan of a script. The error is the first fault by its line: a wait of a binary semaphore
+    /// without an earlier signal that no earlier wait took, a signal of one whose signal no wait
+    /// took, a fence that was named and not reset since; or it is want of memory.
     ///
-    /// Source: Vulkan 1.3, "Queue Submission". That the batches of a queue run one after another is
-    /// this project's rule.
+    /// Source: Vulkan 1.3, "Queue Submission", "Semaphores", "Fences". That the batches of a queue
+    /// run one after another is this project's rule.
     pub fn lower(alloc: Global, script: Script) -> Result<Plan, PlanFault>
         requires { IsRead script }
         ensures { Lowers script result }
     {
+        find_fault(alloc, &script)?;
         match Tables::of(alloc, &script) {
             Ok(tables) => Ok(Plan { script, tables }),
             Err(_) => Err(PlanFault::Memory),
@@ -86,6 +92,16 @@ impl Plan {
         self.tables.ops.len() as u32
     }
 
+    /// A signal operation; operations are numbered from 0 in the order of the script.
+    ///
+    /// Source: Vulkan 1.3, "Semaphore Signaling".
+    pub fn op(&self, e: u32) -> Op
+        requires { e < length self.now.ops }
+        ensures { slice_get self.now.ops e ≡ Some result }
+    {
+        self.tables.ops[e as usize]
+    }
+
     /// How many chains there are: one for each semaphore and each fence.
     ///
     /// Source: this project's rule.
@@ -93,6 +109,39 @@ impl Plan {
         ensures { result ≡ length self.now.chains }
     {
         self.tables.chains.len() as u32
+    }
+
+    /// The payload of a chain before its first signal. Chains are numbered as the script's
+    /// semaphores and fences are.
+    ///
+    /// Source: Vulkan 1.3, VkSemaphoreTypeCreateInfo. That binary semaphores and fences begin with
+    /// 0 is this project's rule.
+    pub fn initial(&self, t: u32) -> u64
+        requires { t < length self.now.chains }
+        ensures { result ≡ initial self.now t }
+    {
+        initial_value(self.script.semaphores.as_slice()[t as usize].kind)
+    }
+
+    /// The signal operations of a chain, by value and then by line.
+    ///
+    /// Source: Vulkan 1.3, "Semaphore Signaling".
+    pub fn chain(&self, t: u32) -> &[u32]
+        requires { t < length self.now.chains }
+        ensures { result.now ≡ chain self.now t }
+    {
+        self.tables.chains[t as usize].ops.as_slice()
+    }
+
+    /// What resolves a wait for a value of a chain: its first signal operation with that value or a
+    /// greater one, if there is one.
+    ///
+    /// Source: Vulkan 1.3, "Semaphore Waiting".
+    pub fn resolver(&self, t: u32, v: u64) -> Option<u32>
+        requires { t < length self.now.chains }
+        ensures { result ≡ resolver self.now t v }
+    {
+        self.tables.chains[t as usize].resolver(v)
     }
 
     /// How many commands there are in all batches.

@@ -7,7 +7,7 @@ ghost use Rattle.vq_laws.specs.SlowRun.{command_list, slow_order, left_over, fin
 ghost use Rattle.vq_laws.specs.SameScript.{IsRead};
 ghost use Rattle.vq_laws.specs.ValidScripts.{sizes_of};
 
-use crate::lowering::numbers;
+use crate::order::{SlowOrder, slow_order};
 use crate::plan::Plan;
 use std::alloc::{AllocError, Global};
 use vq_laws::list::List;
@@ -69,13 +69,18 @@ pub fn slow_run(alloc: Global, plan: &Plan) -> Result<SlowRun, AllocError>
     ensures bytes { IfOk result (λ run. run.buffers ≡ final plan.now) }
     ensures sizes { IfOk result (λ run. HasSizes (sizes_of plan.now.script) run.buffers) }
 {
+    let SlowOrder {
+        order,
+        stuck,
+        payloads: _,
+    } = slow_order(alloc, plan)?;
     let mut buffers = zero_buffers(alloc, plan.script())?;
-    for j in 0..plan.jobs() {
-        apply_job(plan, j, &mut buffers);
+    for j in order.as_slice() {
+        apply_job(plan, *j, &mut buffers);
     }
     Ok(SlowRun {
-        order: numbers(alloc, 0, plan.jobs())?,
-        stuck: List::of(Vec::new(alloc)),
+        order,
+        stuck,
         buffers,
     })
 }

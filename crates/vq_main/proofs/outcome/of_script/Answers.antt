@@ -1,9 +1,5 @@
-use Rattle.vq_main.proofs.Endings.{refused_outcome, task_outcome}
+use Rattle.vq_main.proofs.Endings.{refused_outcome}
 use Rattle.vq_main.proofs.outcome.of_script.Goals as goal
-
-pub returns-in_ok-text-in-Ok : goal.returns-in_ok-text-in-Ok
-returns-in_ok-text-in-Ok c =
-    task_outcome _ _ _ _ _ c.requires.short c.requires.stands c.in-Ok.ensures c.in_ok-text-in-Ok.ensures
 
 pub returns-in_ok-text-in-Err : goal.returns-in_ok-text-in-Err
 returns-in_ok-text-in-Err c =

@@ -1,25 +1,64 @@
-use Rattle.std.proofs.Common.{◌≡◌, ◌++◌, ◌∷◌, [], refl, sym, ap, subst, ◌∙◌, List, ℕ, false, length, Some, arith}
-use Rattle.std.specs.List.{position, list_any}
-use Rattle.std.specs.Str.{bytes_eq}
-use Rattle.std.proofs.lemmas.Bool.{or_parts}
-use Rattle.vq_script.specs.Names.{buffer_in, queue_in}
-use Rattle.vq_script.proofs.NamesFound.{found_with, found_without}
+use Rattle.std.proofs.Common.{◌≡◌, ◌++◌, ◌∷◌, [], refl, sym, ap, subst, ◌∙◌, List, ℕ, false, length, arith}
+use Rattle.std.specs.List.{position}
+use Rattle.vq_laws.specs.Context.{is_timeline, is_binary, is_fence}
+use Rattle.vq_script.specs.Names.{is_taken, names_buffer, buffer_in, names_timeline, timeline_in, names_binary, binary_in, names_fence, fence_in, names_queue}
+use Rattle.vq_script.proofs.NamesFound.{found_without, free_parts, none_of_kind, queue_found}
 use Rattle.vq_script.proofs.known.Known.add_queue.Goals as goal
-
-pub invariant_of-self-2-clause-queue_names : goal.invariant_of-self-2-clause-queue_names
-invariant_of-self-2-clause-queue_names c = λ name.
-    let known = c.args.self.now in
-    let queue = c.args.queue in
-    let key : c.in_ok-name.name.items ≡ queue.name = c.in_ok-name.ensures.items ∙ c.as_slice.ensures in
-    let number : c.len-number.result ≡ length known.queues.items = grind arith in
-    let pushed : c.push.new.self.items ≡ known.queues.items ++ queue ∷ [] = grind arith in
-    let fresh = (or_parts _ _ c.requires.fresh).1 in
-    found_with (λ q. q.name) queue_in known.names c.insert.new.self c.in_ok-name.name _ known.queues.items queue c.in_ok-insert.ensures.updates key (ap (λ (n : ℕ). Some n) number) fresh known.queue_names name
-    ∙ ap (position (λ q. bytes_eq name q.name)) (sym pushed)
 
 pub invariant_of-self-2-clause-buffer_names : goal.invariant_of-self-2-clause-buffer_names
 invariant_of-self-2-clause-buffer_names c = λ name.
     let known = c.args.self.now in
-    let key : c.in_ok-name.name.items ≡ c.args.queue.name = c.in_ok-name.ensures.items ∙ c.as_slice.ensures in
-    let fresh = subst (λ (bs : List ℕ). list_any (λ b. bytes_eq bs b.name) known.buffers.items ≡ false) (sym key) (or_parts _ _ c.requires.fresh).0 in
-    found_without (λ b. b.name) buffer_in known.names c.insert.new.self c.in_ok-name.name _ known.buffers.items c.in_ok-insert.ensures.updates refl fresh known.buffer_names name
+    let key : c.in_ok-name.name.items ≡ c.args.queue.name =
+    c.in_ok-name.ensures.items ∙ c.as_slice.ensures in
+    let free = free_parts known.buffers.items known.semaphores.items known.queues.items
+    c.in_ok-name.name.items (subst (λ (bs : List ℕ). is_taken known.buffers.items
+    known.semaphores.items known.queues.items bs ≡ false) (sym key) c.requires.fresh) in
+    found_without names_buffer buffer_in known.names c.insert.new.self c.in_ok-name.name _
+    known.buffers.items c.in_ok-insert.ensures.updates refl (free.0) known.buffer_names name
+
+pub invariant_of-self-2-clause-timeline_names : goal.invariant_of-self-2-clause-timeline_names
+invariant_of-self-2-clause-timeline_names c = λ name.
+    let known = c.args.self.now in
+    let key : c.in_ok-name.name.items ≡ c.args.queue.name =
+    c.in_ok-name.ensures.items ∙ c.as_slice.ensures in
+    let free = free_parts known.buffers.items known.semaphores.items known.queues.items
+    c.in_ok-name.name.items (subst (λ (bs : List ℕ). is_taken known.buffers.items
+    known.semaphores.items known.queues.items bs ≡ false) (sym key) c.requires.fresh) in
+    found_without names_timeline timeline_in known.names c.insert.new.self c.in_ok-name.name _
+    known.semaphores.items c.in_ok-insert.ensures.updates refl (none_of_kind is_timeline c.in_ok-name.name.items known.semaphores.items free.1) known.timeline_names name
+
+pub invariant_of-self-2-clause-binary_names : goal.invariant_of-self-2-clause-binary_names
+invariant_of-self-2-clause-binary_names c = λ name.
+    let known = c.args.self.now in
+    let key : c.in_ok-name.name.items ≡ c.args.queue.name =
+    c.in_ok-name.ensures.items ∙ c.as_slice.ensures in
+    let free = free_parts known.buffers.items known.semaphores.items known.queues.items
+    c.in_ok-name.name.items (subst (λ (bs : List ℕ). is_taken known.buffers.items
+    known.semaphores.items known.queues.items bs ≡ false) (sym key) c.requires.fresh) in
+    found_without names_binary binary_in known.names c.insert.new.self c.in_ok-name.name _
+    known.semaphores.items c.in_ok-insert.ensures.updates refl (none_of_kind is_binary c.in_ok-name.name.items known.semaphores.items free.1) known.binary_names name
+
+pub invariant_of-self-2-clause-fence_names : goal.invariant_of-self-2-clause-fence_names
+invariant_of-self-2-clause-fence_names c = λ name.
+    let known = c.args.self.now in
+    let key : c.in_ok-name.name.items ≡ c.args.queue.name =
+    c.in_ok-name.ensures.items ∙ c.as_slice.ensures in
+    let free = free_parts known.buffers.items known.semaphores.items known.queues.items
+    c.in_ok-name.name.items (subst (λ (bs : List ℕ). is_taken known.buffers.items
+    known.semaphores.items known.queues.items bs ≡ false) (sym key) c.requires.fresh) in
+    found_without names_fence fence_in known.names c.insert.new.self c.in_ok-name.name _
+    known.semaphores.items c.in_ok-insert.ensures.updates refl (none_of_kind is_fence c.in_ok-name.name.items known.semaphores.items free.1) known.fence_names name
+
+pub invariant_of-self-2-clause-queue_names : goal.invariant_of-self-2-clause-queue_names
+invariant_of-self-2-clause-queue_names c = λ name.
+    let known = c.args.self.now in
+    let key : c.in_ok-name.name.items ≡ c.args.queue.name =
+    c.in_ok-name.ensures.items ∙ c.as_slice.ensures in
+    let number : c.len-number.result ≡ length known.queues.items = grind arith in
+    let pushed : c.push.new.self.items ≡ known.queues.items ++ c.args.queue ∷ [] = grind arith in
+    let free = free_parts known.buffers.items known.semaphores.items known.queues.items
+    c.in_ok-name.name.items (subst (λ (bs : List ℕ). is_taken known.buffers.items
+    known.semaphores.items known.queues.items bs ≡ false) (sym key) c.requires.fresh) in
+    queue_found known.names c.insert.new.self c.in_ok-name.name _ known.queues.items c.args.queue
+    c.in_ok-insert.ensures.updates key number free.2 known.queue_names name
+    ∙ ap (position (names_queue name)) (sym pushed)

@@ -5,13 +5,15 @@ use Rattle.vq_script.proofs.known.Known.into_script.Goals as goal
 
 pub returns : goal.returns
 returns c = λ lines h.
-    let ended : c.of-4.result ≡ jobs_of lines = c.of-4.ensures ∙ sym (append-nil c.args.self.jobs.items) ∙ sym (h.jobs []) ∙ ap jobs_of (append-nil lines) in
+    let ended : c.of-4.result ≡ jobs_of lines =
+    c.of-4.ensures ∙ sym (append-nil c.args.self.jobs.items) ∙ sym (h.jobs [])
+    ∙ ap jobs_of (append-nil lines) in
     λ i. record {
-      version = sym h.version i;
-      buffers = (c.of.ensures ∙ sym h.all_buffers) i;
-      semaphores = (c.of-2.ensures ∙ c.new.ensures.items ∙ sym h.no_semaphores) i;
-      queues = (c.of-3.ensures ∙ sym h.all_queues) i;
+      version = sym h.declares.version i;
+      buffers = (c.of.ensures ∙ sym h.declares.all_buffers) i;
+      semaphores = (c.of-2.ensures ∙ sym h.declares.all_semaphores) i;
+      queues = (c.of-3.ensures ∙ sym h.declares.all_queues) i;
       jobs = ended i;
-      scheduled = sym h.no_schedule i;
-      turns = (c.of-5.ensures ∙ c.new-2.ensures.items ∙ sym h.no_turns) i;
+      scheduled = sym h.declares.no_schedule i;
+      turns = (c.of-5.ensures ∙ c.new.ensures.items ∙ sym h.declares.no_turns) i;
     }

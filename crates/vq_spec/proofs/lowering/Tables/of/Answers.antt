@@ -1,12 +1,94 @@
-use Rattle.std.proofs.Common.{◌∙◌}
-use Rattle.vq_spec.proofs.Lowered.{kept, edges_of_jobs}
+use Rattle.std.proofs.Common.{◌≡◌, ◌∙◌, ap, sym, length, map, subst, All, List, ℕ, ◌<◌, ◌^◌, arith}
+use Rattle.std.specs.List.{enumerate_from, range_with_len}
+use Rattle.vq_laws.specs.declared.plan.Op.{Op}
+use Rattle.vq_laws.specs.Edges.{edges_to}
+use Rattle.vq_laws.specs.Lowering.{plan_of}
+use Rattle.vq_spec.specs.declared.chains.Chain.{Chain}
+use Rattle.vq_spec.specs.ChainParts.{placed, IsSearchable, AreSorted, AreChains}
+use Rattle.vq_spec.proofs.KeptTables.{lowered_jobs, lowered_ops, lowered_few, kept}
+use Rattle.vq_spec.proofs.PlanChains.{unplaced_ops, are_chains, searchable, placed_ops, unplaced_exist}
 use Rattle.vq_spec.proofs.lowering.Tables.of.Goals as goal
+
+pub lower_chains-requires-clause-few : goal.lower_chains-requires-clause-few
+lower_chains-requires-clause-few c = omega (
+  arith,
+  lowered_few c.args.script.now c.in_ok-jobs.field-0 (c.in_ok-jobs.ensures {u = tt})
+      c.requires.read,
+  ap length c.as_slice-unplaced.ensures.value,
+)
+
+pub lower_chains-requires-clause-exist : goal.lower_chains-requires-clause-exist
+lower_chains-requires-clause-exist c =
+    let s = c.args.script.now in
+    let ops : c.as_slice-unplaced.result.now ≡ unplaced_ops s = c.as_slice-unplaced.ensures.value
+    ∙ lowered_ops s c.in_ok-jobs.field-0 (c.in_ok-jobs.ensures {u = tt}) in
+    subst (λ (z : List Op × ℕ). All (λ o. o.chain < z.1) z.0)
+    (λ i. (sym ops i, sym (ap length c.as_slice.ensures) i)) (unplaced_exist s c.requires.read)
+
+pub place_ops-requires-clause-few : goal.place_ops-requires-clause-few
+place_ops-requires-clause-few c = omega (
+  arith,
+  lowered_few c.args.script.now c.in_ok-jobs.field-0 (c.in_ok-jobs.ensures {u = tt})
+      c.requires.read,
+  ap length c.as_slice-unplaced.ensures.value,
+)
+
+pub place_ops-requires-clause-exist : goal.place_ops-requires-clause-exist
+place_ops-requires-clause-exist c =
+    let s = c.args.script.now in
+    let ops : c.as_slice-unplaced.result.now ≡ unplaced_ops s = c.as_slice-unplaced.ensures.value
+    ∙ lowered_ops s c.in_ok-jobs.field-0 (c.in_ok-jobs.ensures {u = tt}) in
+    let sorted = c.in_ok-chains.ensures {u = tt} in
+    let count : length c.as_slice-2.result.now ≡ length s.semaphores = ap length
+    c.as_slice-2.ensures.value ∙ (sorted.number ∙ ap length c.as_slice.ensures) in
+    subst (λ (z : List Op × ℕ). All (λ o. o.chain < z.1) z.0) (λ i. (sym ops i, sym count i))
+    (unplaced_exist s c.requires.read)
+
+pub place_ops-requires-clause-searchable : goal.place_ops-requires-clause-searchable
+place_ops-requires-clause-searchable c =
+    let few : length c.as_slice-unplaced.result.now < 2 ^ 32 = omega (
+      arith,
+      lowered_few c.args.script.now c.in_ok-jobs.field-0 (c.in_ok-jobs.ensures {u = tt})
+          c.requires.read,
+      ap length c.as_slice-unplaced.ensures.value,
+    ) in
+    subst (λ (cs : List Chain). All IsSearchable cs) (sym c.as_slice-2.ensures.value)
+    (searchable c.as_slice-unplaced.result.now _ c.in_ok-chains.chains.items few
+    (c.in_ok-chains.ensures {u = tt}))
+
+pub lower_edges-requires-clause-parts : goal.lower_edges-requires-clause-parts
+lower_edges-requires-clause-parts c =
+    let s = c.args.script.now in
+    let chains = c.in_ok-chains.chains.items in
+    let ops : c.as_slice-unplaced.result.now ≡ unplaced_ops s = c.as_slice-unplaced.ensures.value
+    ∙ lowered_ops s c.in_ok-jobs.field-0 (c.in_ok-jobs.ensures {u = tt}) in
+    let are = are_chains s c.requires.read c.as_slice-unplaced.result.now ops chains
+    (subst (λ (n : ℕ). AreSorted c.as_slice-unplaced.result.now n chains)
+    (ap length c.as_slice.ensures) (c.in_ok-chains.ensures {u = tt})) in
+    record {
+      read = c.requires.read;
+      ops = c.as_slice-3.ensures.value
+          ∙ (c.in_ok-ops.ensures {u = tt}
+          ∙ ((λ i. map (placed (c.as_slice-2.ensures.value i)) (enumerate_from 0 (ops i)))
+          ∙ placed_ops s c.requires.read chains are));
+      chains = subst (AreChains s) (sym c.as_slice-4.ensures.value) are;
+    }
 
 pub returns : goal.returns
 returns c =
     let s = c.args.script.now in
-    let jobs = c.in_ok-jobs.ensures {u = tt} in
-    let seen = c.as_slice.ensures.value ∙ jobs in
-    kept s c.requires _ jobs (c.in_ok-edges.ensures {u = tt}
-    ∙ edges_of_jobs s c.requires c.as_slice.result.now seen)
-    (c.in_ok-lower_places.ensures {u = tt}) c.new.ensures.items c.new-2.ensures.items
+    let chains = c.in_ok-chains.chains.items in
+    let ops : c.as_slice-unplaced.result.now ≡ unplaced_ops s = c.as_slice-unplaced.ensures.value
+    ∙ lowered_ops s c.in_ok-jobs.field-0 (c.in_ok-jobs.ensures {u = tt}) in
+    let are = are_chains s c.requires.read c.as_slice-unplaced.result.now ops chains
+    (subst (λ (n : ℕ). AreSorted c.as_slice-unplaced.result.now n chains)
+    (ap length c.as_slice.ensures) (c.in_ok-chains.ensures {u = tt})) in
+    let jobs = lowered_jobs s c.in_ok-jobs.field-0 (c.in_ok-jobs.ensures {u = tt}) in
+    kept s c.requires.read c.requires.faultless _ jobs
+    (c.in_ok-edges.ensures {u = tt}
+    ∙ ap (λ js. map (edges_to (plan_of s)) (range_with_len 0 (length js)))
+    c.as_slice-5.ensures.value)
+    (c.in_ok-lower_places.ensures {u = tt})
+    (c.in_ok-ops.ensures {u = tt}
+    ∙ ((λ i. map (placed (c.as_slice-2.ensures.value i)) (enumerate_from 0 (ops i)))
+    ∙ placed_ops s c.requires.read chains are)) are

@@ -1,8 +1,8 @@
 use Rattle.std.proofs.Common.{subst}
 use Rattle.vq_laws.specs.LoweringFaults.{IsPlan}
-use Rattle.vq_spec.proofs.Lowered.{is_plan}
+use Rattle.vq_spec.proofs.KeptTables.{is_plan}
 use Rattle.vq_spec.proofs.plan.Plan.script.Goals as goal
 
 pub returns-clause-plan : goal.returns-clause-plan
 returns-clause-plan c = subst IsPlan c.self.view_is
-    (is_plan c.self.inside.script c.self.invariant.script)
+    (is_plan c.self.inside.script c.self.inside.tables c.self.invariant)

@@ -1,0 +1,13 @@
+use Rattle.std.proofs.Common.{refl}
+use Rattle.vq_laws.specs.declared.statement.Form.TheVariants.{Plain}
+use Rattle.vq_script.proofs.tests.printed.Goals as goal
+
+pub print-requires : goal.print-requires
+print-requires c =
+    record {
+      text = c.args.text.now;
+      form = Plain;
+      written = _;
+      stands = c.in_ok-script.ensures.stands;
+      same = refl;
+    }

@@ -1,0 +1,91 @@
+-- All that is kept of a plan.
+use Rattle.std.proofs.Common.{◌≡◌, ◌<◌, ◌≤◌, ◌^◌, length, map, Some, None, refl, ap, ◌∙◌, arith}
+use Rattle.std.specs.List.{enumerate_from, range_with_len, flat_map}
+use Rattle.std.proofs.lemmas.List.{length-map}
+use Rattle.std.proofs.lemmas.List.FromFn.{length-enumerate_from, length-map-range_with_len}
+use Rattle.vq_laws.specs.declared.script.Script.{Script}
+use Rattle.vq_laws.specs.Edges.{edges_to}
+use Rattle.vq_laws.specs.Lowering.{plan_of, plan_job}
+use Rattle.vq_laws.specs.LoweringFaults.{lowering_fault, IsPlan}
+use Rattle.vq_laws.specs.SameScript.{IsRead}
+use Rattle.vq_laws.specs.Signals.{job_signals, all_signals, chain_ops, op_at}
+use Rattle.vq_laws.proofs.WrittenScripts.{read_valid}
+use Rattle.vq_spec.specs.declared.lowering.Lowered.{Lowered}
+use Rattle.vq_spec.specs.declared.lowering.Tables.{Tables}
+use Rattle.vq_spec.specs.ChainParts.{AreChains}
+use Rattle.vq_spec.specs.Counts.{AreLowered, first_ops, unplaced}
+use Rattle.vq_spec.specs.Kept.{KeepsPlan}
+use Rattle.vq_spec.specs.Places.{command_there}
+use Rattle.vq_spec.proofs.Lowered.{few_jobs, few_commands, plan_length}
+use Rattle.vq_spec.proofs.PlanChains.{unplaced_ops}
+use Rattle.vq_spec.proofs.Ranges.{take_all}
+use Rattle.vq_spec.proofs.SignalOrder.{few_signals}
+
+-- Where all jobs are lowered
+
+module _ (s : Script) (x : Lowered) (k : AreLowered s (length s.jobs) x) where
+  pub lowered_jobs : x.jobs.items ≡ (plan_of s).jobs
+  lowered_jobs = k.jobs ∙ ap (λ jobs. map (plan_job s) (enumerate_from 0 jobs)) (take_all s.jobs)
+
+  all_counted : length x.signals.ops.items ≡ length (all_signals s)
+  all_counted = k.operations
+      ∙ ap (λ jobs. length (flat_map job_signals
+      (enumerate_from 0 jobs))) (take_all s.jobs)
+
+  pub lowered_ops : x.signals.ops.items ≡ unplaced_ops s
+  lowered_ops = k.signals.ops
+      ∙ (ap (first_ops s) all_counted
+      ∙ ap (λ xs. map (unplaced s) (enumerate_from 0 xs))
+      (take_all (all_signals s)))
+
+  pub lowered_few : IsRead s → length x.signals.ops.items < 2 ^ 32
+  lowered_few i = let n = all_counted in let m = few_signals s i in omega arith
+
+-- Tables
+
+op_count : (s : Script) → length (plan_of s).ops ≡ length (all_signals s)
+op_count s = length-map (enumerate_from 0 (all_signals s)) (op_at s)
+    ∙ length-enumerate_from 0 (all_signals s)
+
+pub chain_count : (s : Script) → length (plan_of s).chains ≡ length s.semaphores
+chain_count s = length-map-range_with_len (chain_ops s) 0 (length s.semaphores)
+
+few_chains : (s : Script) → IsRead s → length s.semaphores ≤ 256
+few_chains s i = (read_valid s i).limits.semaphores
+
+pub kept : (s : Script) → IsRead s → lowering_fault s ≡ None → (t : Tables) →
+    t.jobs.items ≡ (plan_of s).jobs →
+    t.edges.items ≡ map (edges_to (plan_of s)) (range_with_len 0 (length t.jobs.items)) →
+    map (command_there s.jobs) t.places.items ≡ map Some (plan_of s).commands →
+    t.ops.items ≡ (plan_of s).ops → AreChains s t.chains.items → KeepsPlan s t
+kept s i none t jobs edges places ops chains =
+    let jobs_count = few_jobs s i in
+    let commands_count = few_commands s i in
+    let signals_count = few_signals s i in
+    let chains_count = few_chains s i in
+    let all_jobs = ap length jobs in
+    let counted = plan_length s i in
+    let all_places = ap length places in
+    let one = length-map t.places.items (command_there s.jobs) in
+    let two = length-map (plan_of s).commands Some in
+    let all_ops = ap length ops in
+    let ops_counted = op_count s in
+    let all_chains = chains.number in
+    record {
+      script = i;
+      faultless = none;
+      jobs = jobs;
+      edges = edges ∙ ap (λ n. map (edges_to (plan_of s)) (range_with_len 0 n))
+          (all_jobs ∙ counted);
+      places = places;
+      ops = ops;
+      chains = chains;
+      few_jobs = omega arith;
+      few_places = omega arith;
+      few_ops = omega arith;
+      few_chains = omega arith;
+    }
+
+-- what is kept is kept of a plan
+pub is_plan : (s : Script) → (t : Tables) → KeepsPlan s t → IsPlan (plan_of s)
+is_plan s t k = record { of_script = k.script; faultless = k.faultless; lowered = refl }

@@ -1,0 +1,10 @@
+use Rattle.std.proofs.Common.{ℕ, ◌++◌, ◌∷◌, [], ◌∙◌, ap, sym, zero-add}
+use Rattle.std.proofs.lemmas.List.FromFn.{map-range_with_len_more}
+use Rattle.vq_spec.proofs.signals.zeros.Goals as goal
+
+pub loop-preserved : goal.loop-preserved
+loop-preserved c =
+    (c.in_ok-push.ensures {u = tt}).items
+    ∙ (ap (λ ls. ls ++ 0 ∷ []) c.loop.invariant
+    ∙ sym (map-range_with_len_more {X = ℕ} (λ t. 0) 0 c.loop.counter c.loop.counter
+    (zero-add c.loop.counter)))

@@ -1,0 +1,11 @@
+use Rattle.std.proofs.Common.{◌++◌, ◌∷◌, [], ◌∙◌, ap, sym, Option, None, zero-add}
+use Rattle.std.proofs.lemmas.List.FromFn.{map-range_with_len_more}
+use Rattle.vq_spec.specs.declared.uses.Usage.{Usage}
+use Rattle.vq_spec.proofs.uses.never_used.Goals as goal
+
+pub loop-preserved : goal.loop-preserved
+loop-preserved c =
+    (c.in_ok-push.ensures {u = tt}).items
+    ∙ (ap (λ ls. ls ++ None ∷ []) c.loop.invariant
+    ∙ sym (map-range_with_len_more {X = Option Usage} (λ t. None) 0 c.loop.counter c.loop.counter
+    (zero-add c.loop.counter)))

@@ -1,0 +1,135 @@
+//! The chains of signal operations: those of each semaphore and each fence, by value and then by
+//! line.
+ghost use Rattle.std.specs.Prelude.{◌≡◌, ◌<◌, ◌^◌, [], All, IfOk, map, length};
+ghost use Rattle.std.specs.List.{enumerate_from, range_with_len};
+ghost use Rattle.std.specs.List.Sorted.{IsSorted};
+ghost use Rattle.vq_spec.specs.ChainParts.{members, is_before, pair_cmp, placed, Sorts, AreSorted, IsSearchable, first_with, place_in};
+
+use std::alloc::{AllocError, Global};
+use vq_laws::list::List;
+use vq_laws::plan::Op;
+
+/// The operations of a semaphore or a fence, by value and then by line.
+#[derive(Drop)]
+pub(crate) struct Chain {
+    pub(crate) ops: List<u32>,
+    /// The same operations, each behind its value.
+    pub(crate) pairs: Vec<(u64, u32)>,
+}
+
+/// Whether a value and an operation come before others.
+fn is_before(pair: (u64, u32), value: u64, op: u32) -> bool
+    ensures { result ≡ is_before pair value op }
+{
+    pair.0 < value || (pair.0 == value && pair.1 < op)
+}
+
+impl Chain {
+    /// A chain of operations that stand behind their values.
+    fn of(alloc: Global, members: &[(u64, u32)]) -> Result<Chain, AllocError>
+        ensures { IfOk result (λ chain. Sorts members.now chain) }
+    {
+        let mut pairs = Vec::from_slice(alloc, members)?;
+        pairs.sort()?;
+        let mut ops = Vec::with_capacity(alloc, pairs.len())?;
+        for pair in &pairs {
+            ops.push(pair.1)?;
+        }
+        Ok(Chain {
+            ops: List::of(ops),
+            pairs,
+        })
+    }
+
+    /// The first operation with a value or a greater one.
+    pub(crate) fn resolver(&self, value: u64) -> Option<u32>
+        requires { IsSorted pair_cmp self.now.pairs.items }
+        ensures { result ≡ first_with self.now.pairs.items value }
+    {
+        let place = self.pairs.as_slice().partition_point(|pair| pair.0 < value);
+        if place < self.pairs.len() {
+            Some(self.pairs[place].1)
+        } else {
+            None
+        }
+    }
+
+    /// The place of an operation with this value.
+    fn place(&self, value: u64, op: u32) -> usize
+        requires { IsSorted pair_cmp self.now.pairs.items }
+        ensures { result ≡ place_in self.now.pairs.items value op }
+    {
+        self.pairs
+            .as_slice()
+            .partition_point(|pair| is_before(*pair, value, op))
+    }
+}
+
+/// So many empty lists.
+fn no_members(alloc: Global, count: usize) -> Result<Vec<Vec<(u64, u32)>>, AllocError>
+    ensures { IfOk result (λ lists. map (λ v. v.items) lists.items
+        ≡ map (λ t. []) (range_with_len 0 count)) }
+{
+    let mut lists = Vec::with_capacity(alloc, count)?;
+    for _ in 0..count {
+        lists.push(Vec::new(alloc))?;
+    }
+    Ok(lists)
+}
+
+/// The operations of each chain behind their values, in the order of the script.
+fn gather(alloc: Global, ops: &[Op], count: usize) -> Result<Vec<Vec<(u64, u32)>>, AllocError>
+    requires few { length ops.now < 2 ^ 32 }
+    requires exist { All (λ o. o.chain < count) ops.now }
+    ensures { IfOk result (λ lists. map (λ v. v.items) lists.items
+        ≡ map (members ops.now) (range_with_len 0 count)) }
+{
+    let mut lists = no_members(alloc, count)?;
+    for (e, op) in ops.iter().enumerate() {
+        lists[op.chain as usize].push((op.value, e as u32))?;
+    }
+    Ok(lists)
+}
+
+/// The chains of operations whose places aren't known yet.
+pub(crate) fn lower_chains(
+    alloc: Global,
+    ops: &[Op],
+    count: usize,
+) -> Result<Vec<Chain>, AllocError>
+    requires few { length ops.now < 2 ^ 32 }
+    requires exist { All (λ o. o.chain < count) ops.now }
+    ensures { IfOk result (λ chains. AreSorted ops.now count chains.items) }
+{
+    let lists = gather(alloc, ops, count)?;
+    let mut chains = Vec::with_capacity(alloc, count)?;
+    for members in &lists {
+        chains.push(Chain::of(alloc, members.as_slice())?)?;
+    }
+    Ok(chains)
+}
+
+/// An operation with its place in its chain.
+fn place_op(chains: &[Chain], e: u32, op: &Op) -> Op
+    requires exists { op.now.chain < length chains.now }
+    requires searchable { All IsSearchable chains.now }
+    ensures { result ≡ placed chains.now (e, op.now) }
+{
+    let index = chains[op.chain as usize].place(op.value, e) as u32;
+    Op { index, ..*op }
+}
+
+/// The operations with their places in their chains.
+pub(crate) fn place_ops(alloc: Global, ops: &[Op], chains: &[Chain]) -> Result<Vec<Op>, AllocError>
+    requires few { length ops.now < 2 ^ 32 }
+    requires exist { All (λ o. o.chain < length chains.now) ops.now }
+    requires searchable { All IsSearchable chains.now }
+    ensures { IfOk result (λ placed_ops. placed_ops.items
+        ≡ map (placed chains.now) (enumerate_from 0 ops.now)) }
+{
+    let mut placed = Vec::with_capacity(alloc, ops.len())?;
+    for (e, op) in ops.iter().enumerate() {
+        placed.push(place_op(chains, e as u32, op))?;
+    }
+    Ok(placed)
+}
