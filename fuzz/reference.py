@@ -218,6 +218,19 @@ class Reader:
         self.batch = None
 
 
+def touched(command):
+    """The ranges that a command writes and reads, as (buffer, first byte, byte after the last)."""
+    if command[0] == 'write':
+        _, buffer, offset, written = command
+        return (buffer, offset, offset + len(written)), None
+    _, source, start, target, place, size = command
+    return (target, place, place + size), (source, start, start + size)
+
+
+def share(first, second):
+    return bool(first and second and first[0] == second[0] and set(range(*first[1:])) & set(range(*second[1:])))
+
+
 class Plan:
     """Jobs with what they wait for and signal, each chain as (value, line, job, number of the signal)."""
 
@@ -229,8 +242,7 @@ class Plan:
         self.chains = [[] for _ in kinds]
         signaled = [0] * len(kinds)
         waited = [0] * len(kinds)
-        self.needs, self.signals = [], []
-        number = 0
+        self.needs, self.signals, self.ops = [], [], []
         for j, batch in enumerate(self.jobs):
             needs = []
             for line, semaphore, value in batch.waits:
@@ -251,13 +263,19 @@ class Plan:
                 if kinds[semaphore] != 'timeline':
                     signaled[semaphore] += 1
                     value = signaled[semaphore]
-                self.chains[semaphore].append((value, line, j, number))
+                self.chains[semaphore].append((value, line, j, len(self.ops)))
                 ops.append((semaphore, value))
-                number += 1
+                self.ops.append(j)
             self.signals.append(ops)
         for chain in self.chains:
             chain.sort(key=lambda op: (op[0], op[3]))
+        self.kinds = kinds
         self.slow_run()
+        self.paths()
+        for kind, pairs in (('unordered', self.unordered()), ('race', self.races())):
+            if pairs:
+                second, first = min((second, first) for first, second in pairs)
+                raise Refusal(f'{kind}: lines {first} and {second}')
 
     def slow_run(self):
         payload = list(self.initial)
@@ -281,6 +299,52 @@ class Plan:
                      for line, t, value in self.needs[j] if payload[t] < value]
         if unreached:
             raise Refusal(f'unreachable: line {min(unreached)}')
+
+    def paths(self):
+        """The jobs that happen before each job, and the numbers of the signals sure to be made before it ends."""
+        place = {j: number for number, j in enumerate(self.order)}
+        self.before, self.sure = {}, {}
+        # A path to a job leads through jobs that stand earlier in the slow run, so those have all theirs.
+        for j in self.order:
+            awaited = [next(op for op in self.chains[t] if op[0] >= value)
+                       for _, t, value in self.needs[j] if value > self.initial[t]]
+            hops = {i for i in [self.previous[j]] + [job for _, _, job, _ in awaited]
+                    if i is not None and place[i] < place[j]}
+            self.before[j] = hops.union(*(self.before[i] for i in hops))
+            self.sure[j] = {e for e, job in enumerate(self.ops) if job == self.previous[j]}
+            for _, _, job, by in awaited:
+                if job in hops:
+                    self.sure[j].update(e for e in range(by + 1) if self.ops[e] == job)
+            self.sure[j].update(*(self.sure[i] for i in hops))
+
+    def unordered(self):
+        """The pairs of lines of signals, and of a binary wait and the next signal, that no order is sure for."""
+        pairs = []
+        for kind, initial, chain in zip(self.kinds, self.initial, self.chains):
+            if kind == 'timeline':
+                pairs += [(line, line) for value, line, _, _ in chain if value <= initial]
+                for (value, line, _, e), (greater, other, job, _) in zip(chain, chain[1:]):
+                    if value == greater:
+                        pairs.append((line, other))
+                    if e not in self.sure[job]:
+                        pairs.append((min(line, other), max(line, other)))
+        for i, needs in enumerate(self.needs):
+            for line, t, _ in needs:
+                if self.kinds[t] == 'binary':
+                    later = [(other, j) for _, other, j, _ in self.chains[t] if other > line]
+                    if later:
+                        other, j = min(later)
+                        if i != j and i not in self.before[j]:
+                            pairs.append((line, other))
+        return pairs
+
+    def races(self):
+        """The pairs of lines of commands with a byte in common that one of them writes, neither job before the other."""
+        commands = [(line, j, *touched(command)) for j, batch in enumerate(self.jobs) for line, command in batch.commands]
+        return [(line, other) for number, (line, i, writes, reads) in enumerate(commands)
+                for other, j, others, read in commands[number + 1:]
+                if i != j and i not in self.before[j] and j not in self.before[i]
+                and (share(writes, others) or share(writes, read) or share(others, reads))]
 
     def final(self):
         held = [bytearray(size) for _, size in self.reader.buffers]

@@ -11,18 +11,17 @@ use Rattle.vq_laws.specs.declared.statement.FaultKind.{FaultKind}
 use Rattle.vq_laws.specs.Reading.{StandsFor, IsFirstFault}
 use Rattle.vq_laws.specs.Lowering.{plan_of}
 use Rattle.vq_laws.specs.LoweringFaults.{lowering_fault, IsFirstLoweringFault, IsPlan, Lowers}
-use Rattle.vq_laws.specs.Plan.{Plan, has}
+use Rattle.vq_laws.specs.Plan.{Plan}
 use Rattle.vq_laws.specs.Outputs.{IsOutput}
-use Rattle.vq_laws.specs.Checks.{IsLeast, IsUnreachableAt}
+use Rattle.vq_laws.specs.Checks.{IsLawful, IsFirstPlanFault, Checks}
 use Rattle.vq_laws.proofs.BatchPlans.{batches_output}
 use Rattle.vq_laws.specs.Refusals.{too_long, line_refusal}
-use Rattle.std.proofs.lemmas.Bool.{false≢true}
-use Rattle.vq_order.specs.Reach.{ChecksReach}
+use Rattle.vq_laws.proofs.LawfulPlans.{lawful_without_fault}
 use Rattle.vq_main.specs.declared.task.Task.{Task}
 use Rattle.vq_main.specs.declared.task.Task.TheVariants.{Run, Check}
 use Rattle.vq_main.specs.declared.status.Status.{Status}
 use Rattle.vq_main.specs.declared.status.Status.TheVariants.{Done, BadWords, Refused, ReadFault, WriteFault, Memory}
-use Rattle.vq_main.specs.Outcomes.{IsOutcome, is_too_long, has_faulty_line, has_no_plan, is_unlawful, gives_answer, IsChecked, IsFirstFaultChecked, Ends, AnswersTask, TaskText, RefusesPlan, RefusesOrder, ReadsToEnd, IsLawfulInput, IsDoneOrMemory, input_limit}
+use Rattle.vq_main.specs.Outcomes.{IsOutcome, is_too_long, has_faulty_line, has_no_plan, is_unlawful, gives_answer, Ends, AnswersTask, TaskText, RefusesPlan, RefusesOrder, ReadsToEnd, IsLawfulInput, IsDoneOrMemory, input_limit}
 use Rattle.vq_main.specs.Writes.{SinkMoment, WroteAll, Writes, wrote_all, wrote_part}
 
 -- a whole outcome was written
@@ -78,17 +77,6 @@ no_lowering_fault script (SignaledTwice n) none some = cc
 no_lowering_fault script (FenceUsed n) none some = cc
 no_lowering_fault script NoMemoryToLower none some = some
 
--- a plan that was checked has no first fault
-checked_without_fault : (p : Plan) (fault : OrderFault) → IsChecked p → IsFirstFaultChecked p fault →
-    ⊥
-checked_without_fault p (Unreachable n) c f =
-    false≢true (subst (λ jobs. has jobs f.holds.job ≡ true) c f.holds.left)
-checked_without_fault p (Unordered a b) c f = f
-checked_without_fault p (FenceBusy n) c f = f
-checked_without_fault p (NotPending n) c f = f
-checked_without_fault p (Race a b) c f = f
-checked_without_fault p NoMemoryToCheck c f = f
-
 -- a lawful input is not refused
 not_refused : (task : Task) (input text : List ℕ) → IsLawfulInput input → IsOutcome task input Refused text → ⊥
 not_refused task input text l (is_too_long long) = let short = l.short in omega arith
@@ -100,8 +88,8 @@ not_refused task input text l (has_no_plan script fault short stands refused) =
 not_refused task input text l (is_unlawful script fault short stands lowers refused) =
     let other = l.stands in
     let same : l.script ≡ script = cc in
-    checked_without_fault (plan_of script) fault
-    (subst (λ s. IsChecked (plan_of s)) same l.checked) refused
+    lawful_without_fault (plan_of script) fault
+    (subst (λ s. IsLawful (plan_of s)) same l.lawful) refused
 
 -- a lawful input is run, unless the source or the sink fails
 pub lawful_ends : (task : Task) (input : List ℕ) (result : Status) (before now : SinkMoment) →
@@ -134,24 +122,36 @@ answers_task Check p text i text_is = text_is
 -- a plan was checked, and its task done
 pub task_outcome : (task : Task) (input : List ℕ) (p : Plan) (text : List ℕ) →
     length input ≤ input_limit → StandsFor input Plain p.script → Lowers p.script (Ok p) →
-    IsPlan p → IsChecked p → TaskText task p text → IsOutcome task input Done text
-task_outcome task input p text short stands l i checked text_is =
-    gives_answer p.script text short stands l.0 (subst IsChecked l.1 checked)
+    IsPlan p → IsLawful p → TaskText task p text → IsOutcome task input Done text
+task_outcome task input p text short stands l i lawful text_is =
+    gives_answer p.script text short stands l.0 (subst IsLawful l.1 lawful)
     (subst (λ q. AnswersTask task q text) l.1 (answers_task task p text i text_is))
 
 -- a plan was refused for its first fault
 pub unlawful_outcome : (task : Task) (input : List ℕ) (p : Plan) (fault : OrderFault)
     (text : List ℕ) → length input ≤ input_limit → StandsFor input Plain p.script →
-    Lowers p.script (Ok p) → ChecksReach p (Err fault) → RefusesOrder fault text →
+    Lowers p.script (Ok p) → Checks p (Err fault) → RefusesOrder fault text →
     IsOutcome task input Refused text
 unlawful_outcome task input p (Unreachable n) text short stands l f r =
     subst (λ t. IsOutcome task input Refused t) (sym r)
     (is_unlawful p.script (Unreachable n) short stands l.0
-    (subst (λ q. IsLeast (IsUnreachableAt q) n) l.1 f))
-unlawful_outcome task input p (Unordered a b) text short stands l f r = absurd f
-unlawful_outcome task input p (FenceBusy n) text short stands l f r = absurd f
-unlawful_outcome task input p (NotPending n) text short stands l f r = absurd f
-unlawful_outcome task input p (Race a b) text short stands l f r = absurd f
+    (subst (λ q. IsFirstPlanFault q (Unreachable n)) l.1 f))
+unlawful_outcome task input p (Unordered a b) text short stands l f r =
+    subst (λ t. IsOutcome task input Refused t) (sym r)
+    (is_unlawful p.script (Unordered a b) short stands l.0
+    (subst (λ q. IsFirstPlanFault q (Unordered a b)) l.1 f))
+unlawful_outcome task input p (FenceBusy n) text short stands l f r =
+    subst (λ t. IsOutcome task input Refused t) (sym r)
+    (is_unlawful p.script (FenceBusy n) short stands l.0
+    (subst (λ q. IsFirstPlanFault q (FenceBusy n)) l.1 f))
+unlawful_outcome task input p (NotPending n) text short stands l f r =
+    subst (λ t. IsOutcome task input Refused t) (sym r)
+    (is_unlawful p.script (NotPending n) short stands l.0
+    (subst (λ q. IsFirstPlanFault q (NotPending n)) l.1 f))
+unlawful_outcome task input p (Race a b) text short stands l f r =
+    subst (λ t. IsOutcome task input Refused t) (sym r)
+    (is_unlawful p.script (Race a b) short stands l.0
+    (subst (λ q. IsFirstPlanFault q (Race a b)) l.1 f))
 unlawful_outcome task input p NoMemoryToCheck text short stands l f r = absurd r
 
 -- the plan of a script that was lowered is one of this script

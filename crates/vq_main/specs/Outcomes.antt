@@ -6,13 +6,13 @@ use Rattle.vq_laws.specs.declared.script.Script.{Script}
 use Rattle.vq_laws.specs.declared.plan.PlanFault.{PlanFault}
 use Rattle.vq_laws.specs.declared.plan.PlanFault.TheVariants.{Memory as NoMemoryToLower}
 use Rattle.vq_laws.specs.declared.plan.OrderFault.{OrderFault}
-use Rattle.vq_laws.specs.declared.plan.OrderFault.TheVariants.{Unreachable, Memory as NoMemoryToCheck}
+use Rattle.vq_laws.specs.declared.plan.OrderFault.TheVariants.{Memory as NoMemoryToCheck}
 use Rattle.vq_laws.specs.Reading.{StandsFor, IsFirstFault}
 use Rattle.vq_laws.specs.Plan.{Plan}
 use Rattle.vq_laws.specs.Lowering.{plan_of}
 use Rattle.vq_laws.specs.LoweringFaults.{lowering_fault, IsFirstLoweringFault}
-use Rattle.vq_laws.specs.Checks.{IsLeast, IsUnreachableAt}
-use Rattle.vq_laws.specs.SlowRun.{final, left_over}
+use Rattle.vq_laws.specs.Checks.{IsLawful, IsFirstPlanFault}
+use Rattle.vq_laws.specs.SlowRun.{final}
 use Rattle.vq_laws.specs.OutputText.{line_feed, buffers_text}
 use Rattle.vq_laws.specs.Outputs.{IsOutput}
 use Rattle.vq_laws.specs.Refusals.{too_long, bad_words, line_refusal, plan_refusal, order_refusal}
@@ -30,17 +30,7 @@ is_lawful_text = codes "lawful" ++ line_feed
 abbrev pub input_limit : ℕ
 input_limit = 4194304
 
--- What is checked of a plan so far: the slow run does each job, so every wait can be reached. That
--- signals stand in a sure order, and that no commands race, isn't checked yet.
-abbrev pub IsChecked : Plan → Type 0
-IsChecked p = left_over p ≡ []
-
--- the first fault of a plan, of those that are looked for so far
-abbrev pub IsFirstFaultChecked : Plan → OrderFault → Type 0
-IsFirstFaultChecked p (Unreachable n) = IsLeast (IsUnreachableAt p) n
-IsFirstFaultChecked p other = ⊥
-
--- What a task writes for a plan that was checked: an output of the plan, or that it is lawful.
+-- What a task writes for a lawful plan: an output of the plan, or that it is lawful.
 abbrev pub AnswersTask : Task → Plan → List ℕ → Type 0
 AnswersTask Run p text = IsOutput p text
 AnswersTask Check p text = text ≡ is_lawful_text
@@ -59,11 +49,11 @@ pub data IsOutcome (task : Task) (input : List ℕ) : Status → List ℕ → Ty
   -- its plan is not lawful
   is_unlawful : (script : Script) (fault : OrderFault) → length input ≤ input_limit →
       StandsFor input Plain script → lowering_fault script ≡ None →
-      IsFirstFaultChecked (plan_of script) fault →
+      IsFirstPlanFault (plan_of script) fault →
       IsOutcome task input Refused (order_refusal fault)
-  -- no fault is found, and the text answers the task
+  -- the script is lawful, and the text answers the task
   gives_answer : (script : Script) (text : List ℕ) → length input ≤ input_limit →
-      StandsFor input Plain script → lowering_fault script ≡ None → IsChecked (plan_of script) →
+      StandsFor input Plain script → lowering_fault script ≡ None → IsLawful (plan_of script) →
       AnswersTask task (plan_of script) text → IsOutcome task input Done text
 
 -- a text refuses a script for a fault of its lowering; want of memory refuses nothing
@@ -110,13 +100,13 @@ ReadsToEnd Refused before now =
     IfSome before (λ input. length input ≤ input_limit → now ≡ Some [])
 ReadsToEnd other before now = Unit {0}
 
--- An input stands for a script of which no fault is found.
+-- An input stands for a lawful script.
 pub record IsLawfulInput (input : List ℕ) : Type 0 where
   pub short : length input ≤ input_limit
   pub script : Script
   pub stands : StandsFor input Plain script
   pub lowers : lowering_fault script ≡ None
-  pub checked : IsChecked (plan_of script)
+  pub lawful : IsLawful (plan_of script)
 
 -- a run ended with its whole text written, or for want of memory
 abbrev pub IsDoneOrMemory : Status → Type 0

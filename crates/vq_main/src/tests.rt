@@ -245,6 +245,13 @@ fn words_and_long_inputs_are_refused(rt: HostRuntime) -> Result<(), Fail> {
     Ok(())
 }
 
+// What is said of a script that is only checked.
+fn said(alloc: Global, input: &str, sink: &mut MemorySink) -> Result<Status, AllocError> {
+    let words = vec![in alloc; String::from_str(alloc, "--check")?]?;
+    let mut source = MemorySource::new(input.as_bytes().to_vec(alloc)?, 4096, Vec::new(alloc));
+    Ok(run(alloc, words.as_slice(), &mut source, sink))
+}
+
 #[test]
 fn scripts_are_only_checked(rt: HostRuntime) -> Result<(), Fail> {
     let alloc = rt.alloc();
@@ -268,11 +275,96 @@ fn scripts_are_only_checked(rt: HostRuntime) -> Result<(), Fail> {
             Status::Refused,
         ),
     ] {
-        let words = vec![in alloc; String::from_str(alloc, "--check")?]?;
-        let mut source = MemorySource::new(input.as_bytes().to_vec(alloc)?, 4096, Vec::new(alloc));
         let mut sink = MemorySink::new(alloc, 4096, Vec::new(alloc))?;
-        let ended = run(alloc, words.as_slice(), &mut source, &mut sink);
+        let ended = said(alloc, input, &mut sink)?;
         assert_eq!(rt; ended, status, "{input:?}");
+        assert_eq!(rt; sink.written(), text.as_bytes(), "{input:?}");
+    }
+    Ok(())
+}
+
+#[test]
+fn signals_stand_in_a_sure_order(rt: HostRuntime) -> Result<(), Fail> {
+    let alloc = rt.alloc();
+    for (input, text) in [
+        // two queues that signal one timeline
+        (
+            "timeline A 0\nqueue P threaded\nqueue Q threaded\nsubmit P\nsignal A 1\nend\nsubmit Q\nsignal A 2\nend\n",
+            "error: unordered: lines 5 and 8\n",
+        ),
+        // the same, once the second waits for the first
+        (
+            "timeline A 0\nqueue P threaded\nqueue Q threaded\nsubmit P\nsignal A 1\nend\nsubmit Q\nwait A 1\nsignal A 2\nend\n",
+            "lawful\n",
+        ),
+        // the initial value
+        (
+            "timeline A 18446744073709551615\nqueue P threaded\nsubmit P\nsignal A 18446744073709551615\nend\n",
+            "error: unordered: lines 4 and 4\n",
+        ),
+        // a batch's signals aren't sure to one that waits for another of them, but for their job
+        (
+            "timeline A 0\ntimeline B 0\nqueue P threaded\nqueue Q threaded\nsubmit P\nsignal A 1\nsignal B 1\nend\nsubmit Q\nwait A 1\nsignal B 2\nend\n",
+            "error: unordered: lines 7 and 11\n",
+        ),
+        (
+            "timeline A 0\ntimeline B 0\nqueue P threaded\nqueue Q threaded\nsubmit P\nsignal A 1\nsignal B 1\nend\nsubmit Q\nwait B 1\nsignal B 2\nend\n",
+            "lawful\n",
+        ),
+        // a binary wait that the next signal may overtake
+        (
+            "binary S\nqueue P threaded\nqueue Q threaded\nsubmit P\nsignal S\nend\nsubmit Q\nwait S\nend\nsubmit P\nsignal S\nend\n",
+            "error: unordered: lines 8 and 11\n",
+        ),
+    ] {
+        let mut sink = MemorySink::new(alloc, 4096, Vec::new(alloc))?;
+        said(alloc, input, &mut sink)?;
+        assert_eq!(rt; sink.written(), text.as_bytes(), "{input:?}");
+    }
+    Ok(())
+}
+
+#[test]
+fn conflicting_commands_are_ordered(rt: HostRuntime) -> Result<(), Fail> {
+    let alloc = rt.alloc();
+    for (input, text) in [
+        // the copy doesn't wait: a wait for 0 waits for nothing
+        (
+            "buffer X 8\nbuffer Y 8\ntimeline A 0\nqueue P threaded\nqueue Q threaded\nsubmit P\nwait A 0\ncopy X 0 Y 0 8\nend\nsubmit Q\nfill X 0 8 1\nsignal A 1\nend\n",
+            "error: race: lines 8 and 11\n",
+        ),
+        // a wait for too small a value
+        (
+            "buffer X 8\ntimeline A 0\nqueue P threaded\nqueue Q threaded\nsubmit P\nsignal A 1\nend\nsubmit P\nfill X 0 4 1\nsignal A 2\nend\nsubmit Q\nwait A 1\nfill X 0 4 2\nend\n",
+            "error: race: lines 9 and 14\n",
+        ),
+        // a copy's read and a write of one shared byte, and of none
+        (
+            "buffer X 8\nbuffer Y 8\nqueue P threaded\nqueue Q threaded\nsubmit P\ncopy X 0 Y 0 4\nend\nsubmit Q\ncopy Y 4 X 3 1\nend\n",
+            "error: race: lines 6 and 9\n",
+        ),
+        (
+            "buffer X 8\nbuffer Y 8\nqueue P threaded\nqueue Q threaded\nsubmit P\ncopy X 0 Y 0 4\nend\nsubmit Q\ncopy Y 4 X 4 1\nend\n",
+            "lawful\n",
+        ),
+        // two readers
+        (
+            "buffer X 8\nbuffer Y 8\nqueue P threaded\nqueue Q threaded\nsubmit P\ncopy X 0 Y 0 4\nend\nsubmit Q\ncopy X 0 Y 4 4\nend\n",
+            "lawful\n",
+        ),
+        // two queues that wait for one signal
+        (
+            "buffer X 8\nbuffer Y 8\ntimeline A 0\nqueue P threaded\nqueue Q threaded\nqueue R threaded\nsubmit P\nfill X 0 8 1\nsignal A 1\nend\nsubmit Q\nwait A 1\ncopy X 0 Y 0 4\nend\nsubmit R\nwait A 1\ncopy X 4 Y 4 4\nend\n",
+            "lawful\n",
+        ),
+        // a wait for a value between two signals
+        (
+            "buffer X 8\ntimeline A 0\nqueue P threaded\nqueue Q threaded\nsubmit P\nsignal A 1\nend\nsubmit P\nfill X 0 4 1\nsignal A 3\nend\nsubmit Q\nwait A 2\nfill X 0 4 2\nend\n",
+            "lawful\n",
+        ),
+    ] {
+        let mut sink = MemorySink::new(alloc, 4096, Vec::new(alloc))?;
+        said(alloc, input, &mut sink)?;
         assert_eq!(rt; sink.written(), text.as_bytes(), "{input:?}");
     }
     Ok(())

@@ -1,1 +1,23 @@
-mod UnreachedLaws
+pub mod SlowFacts
+pub mod Covering
+pub mod ClockLaws
+pub mod RowLaws
+pub mod WindowLaws
+pub mod RaceLaws
+pub mod PairLaws
+pub mod PlanFacts
+pub mod PlanRaces
+pub mod Resolving
+pub mod PairSearches
+pub mod UnorderedLaws
+pub mod BinaryChains
+pub mod UnorderedSteps
+pub mod UnreachedLaws
+pub mod CommandJobs
+pub mod AccessLaws
+pub mod Marking
+pub mod RacingPairs
+pub mod SweepLaws
+pub mod CutLaws
+pub mod SweptCells
+pub mod SweptRaces

@@ -1,1 +1,10 @@
+pub mod Clocks
+pub mod Counts
+pub mod Kept
+pub mod Pairs
+pub mod UnorderedPairs
 pub mod Reach
+pub mod Accessed
+pub mod CellRanges
+pub mod Swept
+pub mod Found

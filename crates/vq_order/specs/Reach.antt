@@ -1,31 +1,14 @@
--- Plans of which the slow run does each job, and the least line of a wait that it leaves unreached.
+-- The least line of a wait that the slow run leaves unreached.
 -- Vulkan 1.3, "Semaphore Waiting". The slow run is this project's own.
-use Rattle.std.specs.Prelude.{ℕ, ◌≡◌, ◌<◌, true, List, [], length, Option, Some, None, Result, Ok, Err}
+use Rattle.std.specs.Prelude.{ℕ, ◌≡◌, ◌<◌, true, List, length, Option, Some, None}
 use Rattle.std.specs.List.{slice_get}
 use Rattle.vq_laws.specs.declared.plan.Need.{Need}
-use Rattle.vq_laws.specs.declared.plan.OrderFault.{OrderFault}
-use Rattle.vq_laws.specs.declared.plan.OrderFault.TheVariants.{Unreachable, Memory}
-use Rattle.vq_laws.specs.Checks.{IsLeast, NoLine, is_unreached, IsUnreachableAt}
+use Rattle.vq_laws.specs.Checks.{IsLeast, NoLine, is_unreached}
 use Rattle.vq_laws.specs.LoweringFaults.{IsPlan}
 use Rattle.vq_laws.specs.Plan.{Plan, has, needs}
 use Rattle.vq_laws.specs.SlowRun.{slow_order, left_over}
 use Rattle.vq_spec.specs.declared.order.SlowOrder.{SlowOrder}
 use Rattle.vq_spec.specs.SlowProgress.{ArePayloads}
-
--- the plan of a script, of which the slow run leaves no job
-pub record IsReachable (p : Plan) : Type 0 where
-  pub plan : IsPlan p
-  pub reachable : left_over p ≡ []
-
--- What a check of a plan answers so far: the plan exactly where the slow run leaves no job, else
--- the least line of a wait that it leaves unreached, or want of memory.
-abbrev pub ChecksReach : Plan → Result Plan OrderFault → Type 0
-ChecksReach p (Ok q) = (q ≡ p) × (left_over p ≡ [])
-ChecksReach p (Err (Unreachable n)) = IsLeast (IsUnreachableAt p) n
-ChecksReach p (Err Memory) = Unit {0}
-ChecksReach p (Err fault) = ⊥
-
--- Searches
 
 -- what is known of the slow run of the plan of a script
 pub record HasRun (p : Plan) (run : SlowOrder) : Type 0 where

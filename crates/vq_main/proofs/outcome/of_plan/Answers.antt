@@ -8,8 +8,8 @@ pub returns-in_ok-text-in-Ok : goal.returns-in_ok-text-in-Ok
 returns-in_ok-text-in-Ok c =
     let same = c.in-Ok.ensures.0 in
     task_outcome _ _ _ _ c.requires.short c.requires.stands c.requires.lowers
-    (subst IsPlan same c.plan.ensures.plan) c.in-Ok.ensures.1
-    (subst (λ p. TaskText c.args.task p c.in_ok-text-in-Ok.text.items) (c.plan.ensures.same ∙ same)
+    (subst IsPlan same c.plan.ensures.read) c.in-Ok.ensures.1
+    (subst (λ p. TaskText c.args.task p c.in_ok-text-in-Ok.text.items) (c.plan.ensures.value ∙ same)
     c.in_ok-text-in-Ok.ensures)
 
 pub returns-in_ok-text-in-Err : goal.returns-in_ok-text-in-Err

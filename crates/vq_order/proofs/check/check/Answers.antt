@@ -1,11 +1,7 @@
-use Rattle.vq_laws.proofs.PlansKept.{plan_well_formed}
-use Rattle.vq_order.proofs.UnreachedLaws.{none_left}
+use Rattle.vq_laws.proofs.LawfulOrder.{plan_has_sure_order}
 use Rattle.vq_order.proofs.check.check.Goals as goal
 
-pub of-requires : goal.of-requires
-of-requires c =
-    let plan = c.in-Ok.ensures.plan in
-    record {
-      plan = plan;
-      reachable = none_left c.args.plan (plan_well_formed c.args.plan plan) (c.in-None.ensures {u = tt});
-    }
+pub of-requires-clause-order : goal.of-requires-clause-order
+of-requires-clause-order c =
+    let found = c.in-Ok.ensures in
+    plan_has_sure_order c.args.plan found.plan found.lawful

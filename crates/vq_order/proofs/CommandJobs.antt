@@ -1,0 +1,82 @@
+-- Each command of a plan is of a job, and buffers are small.
+use Rattle.std.proofs.Common.{◌≡◌, ℕ, suc, ◌+◌, ◌<◌, ◌≤◌, true, List, [], ◌∷◌, length, fold, take, get_or, sum, Some, None, option_map, refl, sym, ap, ◌∙◌, ◌⊎◌, inl, inr, subst, arith}
+use Rattle.std.specs.List.{slice_get, flat_map}
+use Rattle.std.specs.Option.{option_map_or}
+use Rattle.std.proofs.lemmas.Bool.{cases_lt, false≢true}
+use Rattle.std.proofs.lemmas.Option.{slice_get_past}
+use Rattle.std.proofs.lemmas.List.{length-append, get_or_past}
+use Rattle.std.proofs.lemmas.List.Sums.{get_or-le-sum_by}
+use Rattle.vq_laws.specs.declared.script.Script.{Script}
+use Rattle.vq_laws.specs.declared.script.Job.{Job}
+use Rattle.vq_laws.specs.declared.script.Job.TheVariants.{Host, Batch}
+use Rattle.vq_laws.specs.Plan.{Plan, has, commands_of}
+use Rattle.vq_laws.specs.Lowering.{commands_in, batch_commands, plan_job, plan_of}
+use Rattle.vq_laws.specs.LoweringFaults.{IsPlan}
+use Rattle.vq_laws.specs.WellFormed.{IsWellFormed}
+use Rattle.vq_laws.proofs.PlanLaws.{part_is, range-has, length-batch_commands}
+use Rattle.vq_laws.proofs.WrittenScripts.{read_valid}
+
+-- the commands of jobs, counted from a number on
+abbrev counted : ℕ → List Job → ℕ
+counted a jobs = fold (λ n x. n + commands_in x) a jobs
+
+record HasOwner (jobs : List Job) (a c : ℕ) : Type 0 where
+  job : ℕ
+  item : Job
+  is : slice_get jobs job ≡ Some item
+  from : counted a (take job jobs) ≤ c
+  upto : c < counted a (take job jobs) + commands_in item
+
+find_owner : (jobs : List Job) (a c : ℕ) → a ≤ c → c < a + length (flat_map batch_commands jobs) → HasOwner jobs a c
+find_owner [] a c l u = absurd (omega arith)
+find_owner (x ∷ jobs) a c l u = by_place (cases_lt c (a + commands_in x)) (find_owner jobs (a + commands_in x) c)
+  where
+    by_place : ((c < a + commands_in x) ⊎ (a + commands_in x ≤ c)) → (a + commands_in x ≤ c → c < (a + commands_in x) + length (flat_map batch_commands jobs) → HasOwner jobs (a + commands_in x) c) → HasOwner (x ∷ jobs) a c
+    by_place (inl h) f = record { job = 0; item = x; is = refl; from = l; upto = h }
+    by_place (inr h) f =
+        let n = length-batch_commands x in
+        let m = length-append (batch_commands x) (flat_map batch_commands jobs) in
+        let r = f h (omega arith) in
+        record { job = suc r.job; item = r.item; is = r.is; from = r.from; upto = r.upto }
+
+owned : (s : Script) (c : ℕ) → c < length (plan_of s).commands → (j : ℕ) × (has (commands_of (plan_of s) j) c ≡ true)
+owned s c l =
+    let o = find_owner s.jobs 0 c (omega arith) (omega arith) in
+    (o.job, ap (λ (xs : List ℕ). has xs c) (part_is (λ x. x.commands) [] s o.job ∙ ap (λ y. option_map_or (λ job. (plan_job s (o.job, job)).commands) y []) o.is) ∙ by_job o.job o.item o.from o.upto)
+  where
+    by_job : (j : ℕ) (item : Job) → counted 0 (take j s.jobs) ≤ c → c < counted 0 (take j s.jobs) + commands_in item → has (plan_job s (j, item)).commands c ≡ true
+    by_job j (Host h) f u = absurd (omega arith)
+    by_job j (Batch b) f u = range-has (length b.commands) (counted 0 (take j s.jobs)) c f u
+
+pub command_has_job : (p : Plan) → IsPlan p → (c : ℕ) → c < length p.commands → (j : ℕ) × (has (commands_of p j) c ≡ true)
+command_has_job p i = subst (λ (q : Plan). (c : ℕ) → c < length q.commands → (j : ℕ) × (has (commands_of q j) c ≡ true)) (sym i.lowered) (owned p.script)
+
+item_small : (xs : List ℕ) (i : ℕ) → get_or xs i 0 ≤ sum xs
+item_small xs i = elim (cases_lt i (length xs)) [
+  | inl l ↦ get_or-le-sum_by (λ x. x) xs i 0 l
+  | inr l ↦ (let e = get_or_past xs i 0 l in omega arith)
+]
+
+pub size_small : (p : Plan) → IsPlan p → (b : ℕ) → get_or p.sizes b 0 ≤ 1048576
+size_small p i b =
+    let v = (read_valid p.script i.of_script).limits.bytes in
+    let h = item_small p.sizes b in
+    let e = ap (λ (q : Plan). sum q.sizes) i.lowered in
+    omega arith
+
+-- a job with commands is one of the plan
+pub owner_exists : (p : Plan) (j c : ℕ) → has (commands_of p j) c ≡ true → j < length p.jobs
+owner_exists p j c h = elim (cases_lt j (length p.jobs)) [
+  | inl l ↦ l
+  | inr g ↦ absurd (false≢true (sym (ap (λ o. has (option_map_or (λ x. x.commands) o []) c) (slice_get_past p.jobs j g)) ∙ h))
+]
+
+-- a command of a job is one of the plan
+pub owned_exists : (p : Plan) → IsWellFormed p → (j c : ℕ) → has (commands_of p j) c ≡ true → c < length p.commands
+owned_exists p w j c h = elim (cases_lt c (length p.commands)) [
+  | inl l ↦ l
+  | inr g ↦
+      let f = w.fits c j h in
+      let e : None ≡ Some f.0 = sym (ap (option_map (λ x. x.command)) (slice_get_past p.commands c g)) ∙ f.1 in
+      absurd (let q = e in cc)
+]

@@ -1,0 +1,109 @@
+-- The first pair of racing commands in the order of numbers is the least by lines, and passing over
+-- all pairs shows that there is none.
+use Rattle.std.proofs.Common.{◌≡◌, ◌≢◌, ℕ, ◌+◌, ◌<◌, ◌≤◌, min, max, Bool, true, false, ◌&&◌, ◌||◌, eqb, ltb, List, length, Option, Some, None, refl, sym, ap, ◌∙◌, ◌⊎◌, inl, inr, subst, arith}
+use Rattle.std.specs.Option.{option_map_or, option_to_list}
+use Rattle.std.specs.List.{list_any}
+use Rattle.std.proofs.lemmas.Bool.{cases_eq, cases_lt}
+use Rattle.vq_laws.specs.declared.script.Command.{Command}
+use Rattle.vq_laws.specs.Ranges.{Range, share, conflict, written_range, read_range}
+use Rattle.vq_laws.specs.Plan.{Plan, has, commands_of, command_at}
+use Rattle.vq_laws.specs.Edges.{Place, place_of}
+use Rattle.vq_laws.specs.WellFormed.{IsWellFormed}
+use Rattle.vq_laws.specs.Races.{conflicts, IsRace, HasNoRace}
+use Rattle.vq_laws.specs.HappensBefore.{HappensBeforeAt, HappensBeforeCommand}
+use Rattle.vq_laws.specs.Checks.{IsRaceAt, IsLeastPair}
+use Rattle.vq_laws.specs.Plan.{line_of_command}
+use Rattle.vq_laws.proofs.Places.{before_end}
+use Rattle.vq_order.proofs.WindowLaws.{before_then}
+
+-- what is before a command is before all that its job is before
+pub command_then : (p : Plan) (h i j c : ℕ) (k : Place) → HappensBeforeCommand p h i c → HappensBeforeAt p i j k → HappensBeforeAt p h j k
+command_then p h i j c k a b = before_then p h i j k (before_end p h i (place_of p i c) a) b
+
+-- Conflicts go both ways
+
+or_swap : (a b c : Bool) → ((a || b) || c) ≡ ((a || c) || b)
+or_swap true b c = refl
+or_swap false true true = refl
+or_swap false true false = refl
+or_swap false false true = refl
+or_swap false false false = refl
+
+eqb_swap : (a b : ℕ) → eqb a b ≡ eqb b a
+eqb_swap a b = grind arith
+
+share_swap : (r s : Range) → share r s ≡ share s r
+share_swap r s =
+    let a : max r.start s.start ≡ max s.start r.start = omega arith in
+    let b : min (r.start + r.size) (s.start + s.size) ≡ min (s.start + s.size) (r.start + r.size) = omega arith in
+    ap (λ t. t && ltb (max r.start s.start) (min (r.start + r.size) (s.start + s.size))) (eqb_swap r.buffer s.buffer)
+    ∙ (ap (λ m. eqb s.buffer r.buffer && ltb m (min (r.start + r.size) (s.start + s.size))) a ∙ ap (λ m. eqb s.buffer r.buffer && ltb (max s.start r.start) m) b)
+
+pub conflict_swap : (sizes : List ℕ) (x y : Command) → conflict sizes x y ≡ conflict sizes y x
+conflict_swap sizes x y =
+    let wx = written_range sizes x in
+    let wy = written_range sizes y in
+    let a = option_map_or (share wx) (read_range y) false in
+    let b = option_map_or (share wy) (read_range x) false in
+    ap (λ t. (t || a) || b) (share_swap wx wy) ∙ or_swap (share wy wx) a b
+
+pub conflicts_swap : (p : Plan) (c d : ℕ) → conflicts p c d ≡ conflicts p d c
+conflicts_swap p c d = go (command_at p c) (command_at p d)
+  where
+    go : (o q : Option Command) → list_any (λ x. list_any (conflict p.sizes x) (option_to_list q)) (option_to_list o) ≡ list_any (λ x. list_any (conflict p.sizes x) (option_to_list o)) (option_to_list q)
+    go None None = refl
+    go None (Some y) = refl
+    go (Some x) None = refl
+    go (Some x) (Some y) = ap (λ t. (t || false) || false) (conflict_swap p.sizes x y)
+
+pub race_swap : (p : Plan) (c d : ℕ) → IsRace p c d → IsRace p d c
+race_swap p c d r =
+    record {
+      first_job = r.second_job;
+      second_job = r.first_job;
+      first = r.second;
+      second = r.first;
+      two_jobs = λ e. r.two_jobs (sym e);
+      conflict = conflicts_swap p d c ∙ r.conflict;
+      unordered = r.unordered_back;
+      unordered_back = r.unordered;
+    }
+
+-- No pair, the lesser number first, races
+pub no_race_by_pairs : (p : Plan) → IsWellFormed p → ((c d i j : ℕ) → c < d → has (commands_of p i) c ≡ true → has (commands_of p j) d ≡ true → i ≢ j → conflicts p c d ≡ true → HappensBeforeCommand p i j d ⊎ HappensBeforeCommand p j i c) → HasNoRace p
+no_race_by_pairs p w f c d i j hc hd n x = elim (cases_lt c d) [
+  | inl l ↦ f c d i j l hc hd n x
+  | inr g ↦ elim (cases_eq c d) [
+    | inl e ↦ absurd (n (w.one_job c i j hc (subst (λ z. has (commands_of p j) z ≡ true) (sym e) hd)))
+    | inr e ↦ elim (f d c j i (grind arith) hd hc (λ q. n (sym q)) (conflicts_swap p d c ∙ x)) [ inl b ↦ inr b | inr b ↦ inl b ]
+  ]
+]
+
+-- Lines of commands rise with their numbers. So the pair with the least second number, and then the least first one, is named.
+pub first_pair_is_least : (p : Plan) → IsWellFormed p → ((c d : ℕ) → c < d → d < length p.commands → line_of_command p c < line_of_command p d) → ((c d : ℕ) → IsRace p c d → (c < length p.commands) × (d < length p.commands)) → (c d : ℕ) → c < d → IsRace p c d
+    → ((a b : ℕ) → a < b → IsRace p a b → (d < b) ⊎ ((d ≡ b) × (c ≤ a))) → IsLeastPair (IsRaceAt p) (line_of_command p c) (line_of_command p d)
+first_pair_is_least p w rise within c d l race least =
+    record {
+      holds = record { first = c; second = d; race = race; in_order = (let a = rise c d l (within c d race).1 in omega arith); first_line = refl; second_line = refl };
+      least = λ x y r. by_order x y r (cases_lt r.first r.second);
+    }
+  where
+    named : (a b : ℕ) → a < b → IsRace p a b → (line_of_command p d < line_of_command p b) ⊎ ((line_of_command p d ≡ line_of_command p b) × (line_of_command p c ≤ line_of_command p a))
+    named a b m r = elim (least a b m r) [
+      | inl q ↦ inl (rise d b q (within a b r).1)
+      | inr q ↦ inr (ap (line_of_command p) q.0, elim (cases_eq c a) [ inl e ↦ (let g = ap (line_of_command p) e in omega arith) | inr e ↦ (let k = q.1 in let g = rise c a (grind arith) (within a b r).0 in omega arith) ])
+    ]
+
+    by_order : (x y : ℕ) (r : IsRaceAt p x y) → ((r.first < r.second) ⊎ (r.second ≤ r.first)) → (line_of_command p d < y) ⊎ ((line_of_command p d ≡ y) × (line_of_command p c ≤ x))
+    by_order x y r (inl m) =
+        subst (λ (z : ℕ × ℕ). (line_of_command p d < z.1) ⊎ ((line_of_command p d ≡ z.1) × (line_of_command p c ≤ z.0))) (λ i. (sym r.first_line i, sym r.second_line i)) (named r.first r.second m r.race)
+    by_order x y r (inr m) = elim (cases_eq r.first r.second) [
+      | inl e ↦ absurd (r.race.two_jobs (same r e))
+      | inr e ↦
+          let g = rise r.second r.first (grind arith) (within r.first r.second r.race).0 in
+          let o = r.in_order in
+          absurd (omega arith)
+    ]
+      where
+        same : (r : IsRaceAt p x y) → r.first ≡ r.second → r.race.first_job ≡ r.race.second_job
+        same r e = w.one_job r.first r.race.first_job r.race.second_job r.race.first (subst (λ z. has (commands_of p r.race.second_job) z ≡ true) (sym e) r.race.second)

@@ -1,0 +1,95 @@
+-- Going through cells, one after another.
+use Rattle.std.proofs.Common.{◌≡◌, ◌≢◌, ℕ, zero, suc, Bool, true, false, List, [], ◌∷◌, set, Some, None, refl, sym, ◌∙◌, ◌⊎◌, inl, inr, subst, arith}
+use Rattle.std.specs.List.{slice_get}
+use Rattle.std.proofs.lemmas.Bool.{false≢true}
+use Rattle.std.proofs.lemmas.List.{length-set}
+use Rattle.vq_laws.specs.Plan.{Plan, has}
+use Rattle.vq_order.specs.declared.cells.Cell.{Cell}
+use Rattle.vq_order.specs.Swept.{Touch, Touched, KeepsCell, HasJobs, Touches, KeepsAll, HaveJobs, Extended, Sweeps, AreUntouched}
+
+-- a cell after one of them has changed
+pub changed_cases : (cells : List Cell) (k : ℕ) (new : Cell) (i : ℕ) (cell : Cell) → slice_get (set cells k new) i ≡ Some cell → ((i ≡ k) × (cell ≡ new)) ⊎ ((k ≢ i) × (slice_get cells i ≡ Some cell))
+changed_cases [] k new i cell e = absurd (let q : None ≡ Some cell = e in cc)
+changed_cases (c ∷ cells) zero new zero cell e = let q : cell ≡ new = cc in inl (refl, q)
+changed_cases (c ∷ cells) zero new (suc i) cell e = inr ((λ q. let r : zero ≡ suc i = q in omega arith), e)
+changed_cases (c ∷ cells) (suc k) new zero cell e = inr ((λ q. let r : suc k ≡ zero = q in omega arith), e)
+changed_cases (c ∷ cells) (suc k) new (suc i) cell e = elim (changed_cases cells k new i cell e) [
+  | inl q ↦ (let a = q.0 in inl ((omega arith), q.1))
+  | inr q ↦ inr ((λ r. q.0 (let s = r in omega arith)), q.1)
+]
+
+module _ (p : Plan) where
+  -- a touch of another cell changes nothing
+  elsewhere : (log : List Touch) (t : Touch) (k : ℕ) (cell : Cell) → t.cell ≢ k → KeepsCell p log k cell → KeepsCell p (t ∷ log) k cell
+  elsewhere log t k cell n c =
+      record {
+        wrote = λ j h. c.wrote j (old j true h);
+        read = λ j h. c.read j (old j false h);
+        in_order = λ i j w h m. c.in_order i j w (old i true h) (old j w m);
+      }
+    where
+      old : (j : ℕ) (w : Bool) → Touched (t ∷ log) k j w → Touched log k j w
+      old j w (inl e) = absurd (n e.0)
+      old j w (inr m) = m
+
+  -- one cell is touched
+  pub sweeps_one : (cells : List Cell) (k j : ℕ) (w : Bool) (old new : Cell) → slice_get cells k ≡ Some old → HaveJobs p cells → Touches p j w old new → Sweeps p cells (set cells k new) (λ i m v. (i ≡ k) × (m ≡ j) × (v ≡ w))
+  sweeps_one cells k j w old new e h t =
+      record {
+        count = length-set cells k new;
+        jobs = λ i cell g. elim (changed_cases cells k new i cell g) [
+          | inl q ↦ subst (HasJobs p) (sym q.1) t.jobs
+          | inr q ↦ h i cell q.1
+        ];
+        extends = λ log keeps. record {
+          longer = record { cell = k; job = j; writes = w } ∷ log;
+          keeps = λ i cell g. elim (changed_cases cells k new i cell g) [
+            | inl q ↦ subst (λ (z : ℕ × Cell). KeepsCell p (record { cell = k; job = j; writes = w } ∷ log) z.0 z.1) (λ n. (sym q.0 n, sym q.1 n)) (t.keeps log k (keeps k old e))
+            | inr q ↦ elsewhere log (record { cell = k; job = j; writes = w }) i cell q.0 (keeps i cell q.1)
+          ];
+          before = λ i m v h. inr h;
+          own = λ i m v h. inl (sym h.0, sym h.1, sym h.2);
+        };
+      }
+
+  pub sweeps_none : (cells : List Cell) (Own : ℕ → ℕ → Bool → Type 0) → HaveJobs p cells → ((k j : ℕ) (w : Bool) → ¬ Own k j w) → Sweeps p cells cells Own
+  sweeps_none cells Own h n =
+      record { count = refl; jobs = h; extends = λ log keeps. record { longer = log; keeps = keeps; before = λ k j w t. t; own = λ k j w t. absurd (n k j w t) } }
+
+  -- one after another; of the touches of both these are some
+  pub sweeps_then : (a b c : List Cell) (First Second Own : ℕ → ℕ → Bool → Type 0) → Sweeps p a b First → Sweeps p b c Second → ((k j : ℕ) (w : Bool) → Own k j w → First k j w ⊎ Second k j w) → Sweeps p a c Own
+  sweeps_then a b c First Second Own f s parts =
+      record {
+        count = s.count ∙ f.count;
+        jobs = s.jobs;
+        extends = λ log keeps. both log (f.extends log keeps);
+      }
+    where
+      both : (log : List Touch) → Extended p b log First → Extended p c log Own
+      both log x =
+          let y = s.extends x.longer x.keeps in
+          record {
+            longer = y.longer;
+            keeps = y.keeps;
+            before = λ k j w t. y.before k j w (x.before k j w t);
+            own = λ k j w t. elim (parts k j w t) [ inl m ↦ y.before k j w (x.own k j w m) | inr m ↦ y.own k j w m ];
+          }
+
+  pub sweeps_own : (a b : List Cell) (More Own : ℕ → ℕ → Bool → Type 0) → Sweeps p a b More → ((k j : ℕ) (w : Bool) → Own k j w → More k j w) → Sweeps p a b Own
+  sweeps_own a b More Own s f =
+      record {
+        count = s.count;
+        jobs = s.jobs;
+        extends = λ log keeps. (let x = s.extends log keeps in record { longer = x.longer; keeps = x.keeps; before = x.before; own = λ k j w t. x.own k j w (f k j w t) });
+      }
+
+  pub untouched_jobs : (cells : List Cell) → AreUntouched cells → HaveJobs p cells
+  untouched_jobs cells u k cell e =
+      let q = u k cell e in
+      record {
+        writer = λ j g. absurd (let r : None ≡ Some j = sym q.0 ∙ g in cc);
+        readers = λ j g. absurd (false≢true (subst (λ (xs : List ℕ). has xs j ≡ true) q.1 g));
+      }
+
+  pub untouched_keeps : (cells : List Cell) → KeepsAll p [] cells
+  untouched_keeps cells k cell e = record { wrote = λ j t. absurd t; read = λ j t. absurd t; in_order = λ i j w t u. absurd t }

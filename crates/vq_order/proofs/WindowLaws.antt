@@ -1,0 +1,237 @@
+-- In a chain that rises, what is sure for a job, and what may be made beside it, are the first
+-- operations.
+use Rattle.std.proofs.Common.{◌≡◌, ◌≢◌, ℕ, zero, suc, ◌+◌, ◌-◌, ◌<◌, ◌≤◌, Bool, true, false, not, ◌&&◌, eqb, List, [], ◌∷◌, length, get_or, Option, Some, None, refl, sym, ap, ◌∙◌, ◌⊎◌, inl, inr, subst, arith}
+use Rattle.std.specs.List.{filter_map, slice_get}
+use Rattle.std.specs.Option.{option_map}
+use Rattle.std.proofs.lemmas.Bool.{cases_lt, cases_eq, false≢true, cond-true, cond-false, eq-eqb, ne_eqb}
+use Rattle.vq_laws.specs.declared.plan.Op.{Op}
+use Rattle.vq_laws.specs.Plan.{Plan, has, chain, chain_of, job_of, initial, value}
+use Rattle.vq_laws.specs.Edges.{Place, AtEnd, must_finish, awaited_at}
+use Rattle.vq_laws.specs.WellFormed.{IsWellFormed}
+use Rattle.vq_laws.specs.HappensBefore.{comes_earlier, IsHop, HappensBefore, HappensBeforeAt, one, more}
+use Rattle.vq_laws.specs.Sure.{IsSure, IsSureAt, finished_first, waited_for, passed_on, IsSureForJobOf, KeepsRising, RisesFrom, KeepsChains}
+use Rattle.vq_laws.specs.Windows.{IsSurelyReached, at_first, sure, IsPossiblyReached, possible, IsPossible, IsGreatest}
+use Rattle.vq_laws.proofs.Lists.{has-append_left, has-append_right, has_here, has_there}
+use Rattle.vq_laws.proofs.Places.{has_mapped}
+use Rattle.vq_order.specs.Counts.{AreFirst, value_after}
+use Rattle.vq_order.proofs.SlowFacts.{place, has_at, at_place, place_within}
+use Rattle.vq_order.proofs.RowLaws.{op_exists}
+
+module _ (p : Plan) where
+  first_hop : (i j : ℕ) (k : Place) → has (must_finish p j) i ≡ true → comes_earlier p i j ≡ true → IsHop p i j k
+  first_hop i j k m e = record { edge = has-append_left (must_finish p j) (filter_map (job_of p) (awaited_at p j k)) i m; earlier = e }
+
+  op_hop : (f i j : ℕ) (k : Place) → has (awaited_at p j k) f ≡ true → job_of p f ≡ Some i → comes_earlier p i j ≡ true → IsHop p i j k
+  op_hop f i j k h w e = record { edge = has-append_right (must_finish p j) (filter_map (job_of p) (awaited_at p j k)) i (has_mapped (job_of p) (awaited_at p j k) f i h w); earlier = e }
+
+  same : (f i j : ℕ) → job_of p f ≡ Some i → job_of p f ≡ Some j → i ≡ j
+  same f i j a b = let c : Some i ≡ Some j = sym a ∙ b in cc
+
+  pub before_then : (i j h : ℕ) (k : Place) → HappensBefore p i j → HappensBeforeAt p j h k → HappensBeforeAt p i h k
+  before_then i j h k b (one o) = more b o
+  before_then i j h k b (more {h = q} c o) = more (before_then i j q AtEnd b c) o
+
+  -- what is sure for the job of a sure operation is sure
+  pub sure_then : (e f j h : ℕ) (k : Place) → job_of p f ≡ Some j → IsSure p e j → IsSureAt p f h k → IsSureAt p e h k
+  sure_then e f j h k o s (finished_first x) = passed_on (subst (IsSure p e) (same f j x.job o x.of_job) s) (first_hop x.job h k x.first x.earlier)
+  sure_then e f j h k o s (waited_for x) = passed_on (subst (IsSure p e) (same f j x.job o x.of_job) s) (op_hop x.by_op x.job h k x.waits x.same_job x.earlier)
+  sure_then e f j h k o s (passed_on {i = i} x hop) = passed_on (sure_then e f j i AtEnd o s x) hop
+
+  -- the job of a sure operation is before
+  pub sure_before : (f j h : ℕ) (k : Place) → job_of p f ≡ Some j → IsSureAt p f h k → HappensBeforeAt p j h k
+  sure_before f j h k o (finished_first x) = one (subst (λ z. IsHop p z h k) (same f x.job j x.of_job o) (first_hop x.job h k x.first x.earlier))
+  sure_before f j h k o (waited_for x) = one (subst (λ z. IsHop p z h k) (same f x.job j x.of_job o) (op_hop x.by_op x.job h k x.waits x.same_job x.earlier))
+  sure_before f j h k o (passed_on {i = i} x hop) = more (sure_before f j i AtEnd o x) hop
+
+  abbrev HaveJobs : List ℕ → Type 0
+  HaveJobs xs = (x : ℕ) → has xs x ≡ true → (j : ℕ) × (job_of p x ≡ Some j)
+
+  op_of : (e t : ℕ) → chain_of p e ≡ Some t → (j : ℕ) × (job_of p e ≡ Some j)
+  op_of e t c = by_case (slice_get p.ops e) refl
+    where
+      by_case : (o : Option Op) → slice_get p.ops e ≡ o → (j : ℕ) × (job_of p e ≡ Some j)
+      by_case None n = absurd (none_some (sym (ap (option_map (λ x. x.chain)) n) ∙ c))
+        where
+          none_some : None ≡ Some t → ⊥
+          none_some h = cc
+      by_case (Some x) n = (x.job, ap (option_map (λ y. y.job)) n)
+
+  -- in a chain that rises, an earlier operation has the lesser value, and is sure for the job of each later one
+  rise : (e : ℕ) (es : List ℕ) → KeepsRising p e es → (k m : ℕ) → k < m → m < suc (length es) → value p (get_or (e ∷ es) k 0) < value p (get_or (e ∷ es) m 0)
+  rise e [] r k m l h = absurd (omega arith)
+  rise e (f ∷ fs) r zero zero l h = absurd (omega arith)
+  rise e (f ∷ fs) r zero (suc m) l h = elim (cases_eq m 0) [
+    | inl q ↦ subst (λ n. value p e < value p (get_or (f ∷ fs) n 0)) (sym q) r.0
+    | inr n ↦ let a = rise f fs r.2 zero m (grind arith) (omega arith) in let b = r.0 in omega arith
+  ]
+  rise e (f ∷ fs) r (suc k) zero l h = absurd (omega arith)
+  rise e (f ∷ fs) r (suc k) (suc m) l h = rise f fs r.2 k m (omega arith) (omega arith)
+
+  step_sure : (e f j : ℕ) → IsSureForJobOf p e f → job_of p f ≡ Some j → IsSure p e j
+  step_sure e f j s o = subst (IsSure p e) (same f s.0 j s.1 o) s.2
+
+  sure_up : (e : ℕ) (es : List ℕ) → KeepsRising p e es → HaveJobs (e ∷ es) → (k m j : ℕ) → k < m → m < suc (length es) → job_of p (get_or (e ∷ es) m 0) ≡ Some j → IsSure p (get_or (e ∷ es) k 0) j
+  sure_up e [] r w k m j l h o = absurd (omega arith)
+  sure_up e (f ∷ fs) r w zero zero j l h o = absurd (omega arith)
+  sure_up e (f ∷ fs) r w zero (suc m) j l h o = elim (cases_eq m 0) [
+    | inl q ↦ step_sure e f j r.1 (subst (λ n. job_of p (get_or (f ∷ fs) n 0) ≡ Some j) q o)
+    | inr n ↦
+        let g = w f (has_there e (f ∷ fs) f (has_here f fs)) in
+        sure_then e f g.0 j AtEnd g.1 (step_sure e f g.0 r.1 g.1) (sure_up f fs r.2 (λ x i. w x (has_there e (f ∷ fs) x i)) zero m j (grind arith) (omega arith) o)
+  ]
+  sure_up e (f ∷ fs) r w (suc k) zero j l h o = absurd (omega arith)
+  sure_up e (f ∷ fs) r w (suc k) (suc m) j l h o = sure_up f fs r.2 (λ x i. w x (has_there e (f ∷ fs) x i)) k m j (omega arith) (omega arith) o
+
+  low_first : (n : ℕ) (xs : List ℕ) → RisesFrom p n xs → (k : ℕ) → k < length xs → n < value p (get_or xs k 0)
+  low_first n [] r k l = absurd (omega arith)
+  low_first n (e ∷ es) r k l = elim (cases_eq k 0) [
+    | inl q ↦ subst (λ m. n < value p (get_or (e ∷ es) m 0)) (sym q) r.0
+    | inr q ↦ let a = rise e es r.1 0 k (grind arith) (omega arith) in let b = r.0 in omega arith
+  ]
+
+module _ (p : Plan) (w : IsWellFormed p) (chains : KeepsChains p) (t : ℕ) where
+  -- operation k of the chain
+  abbrev pub op_at : ℕ → ℕ
+  op_at k = get_or (chain p t) k 0
+
+  pub op_chain : (k : ℕ) → k < length (chain p t) → chain_of p (op_at k) ≡ Some t
+  op_chain k l = w.of_chain (op_at k) t (has_at (chain p t) k l)
+
+  pub op_job : (k : ℕ) → k < length (chain p t) → (j : ℕ) × (job_of p (op_at k) ≡ Some j)
+  op_job k l = op_of p (op_at k) t (op_chain k l)
+
+  pub above_initial : (k : ℕ) → k < length (chain p t) → initial p t < value p (op_at k)
+  above_initial k l = low_first p (initial p t) (chain p t) (chains t) k l
+
+  pub values_rise : (k m : ℕ) → k < m → m < length (chain p t) → value p (op_at k) < value p (op_at m)
+  values_rise k m l h = go (chain p t) (chains t) h
+    where
+      go : (xs : List ℕ) → RisesFrom p (initial p t) xs → m < length xs → value p (get_or xs k 0) < value p (get_or xs m 0)
+      go [] r h = absurd (omega arith)
+      go (e ∷ es) r h = rise p e es r.1 k m l h
+
+  pub ops_sure : (k m j : ℕ) → k < m → m < length (chain p t) → job_of p (op_at m) ≡ Some j → IsSure p (op_at k) j
+  ops_sure k m j l h o = go (chain p t) (chains t) (λ x i. op_of p x t (w.of_chain x t i)) h o
+    where
+      go : (xs : List ℕ) → RisesFrom p (initial p t) xs → ((x : ℕ) → has xs x ≡ true → (i : ℕ) × (job_of p x ≡ Some i)) → m < length xs → job_of p (get_or xs m 0) ≡ Some j → IsSure p (get_or xs k 0) j
+      go [] r jobs h o = absurd (omega arith)
+      go (e ∷ es) r jobs h o = sure_up p e es r.1 jobs k m j l h o
+
+  pub sure_down : (k m h : ℕ) → k < m → m < length (chain p t) → IsSure p (op_at m) h → IsSure p (op_at k) h
+  sure_down k m h l n s = let o = op_job m n in sure_then p (op_at k) (op_at m) o.0 h AtEnd o.1 (ops_sure k m o.0 l n o.1) s
+
+  pub possible_down : (k m h : ℕ) → k < m → m < length (chain p t) → IsPossible p h t (op_at m) → IsPossible p h t (op_at k)
+  possible_down k m h l n s =
+      let o = op_job k (omega arith) in
+      let b : HappensBefore p o.0 s.job = sure_before p (op_at k) o.0 s.job AtEnd o.1 (ops_sure k m s.job l n s.of_job) in
+      record {
+        in_chain = op_chain k (omega arith);
+        job = o.0;
+        of_job = o.1;
+        other = λ q. s.not_after (subst (λ z. HappensBefore p z s.job) q b);
+        not_after = λ x. s.not_after (before_then p h o.0 s.job AtEnd x b);
+      }
+
+  -- an operation of the chain stands in it
+  at_op : (e : ℕ) → chain_of p e ≡ Some t → (k : ℕ) × (k < length (chain p t)) × (op_at k ≡ e)
+  at_op e c = let l = place_within (chain p t) e (w.in_chain e t c) in (place (chain p t) e, l, at_place (chain p t) e l)
+
+  -- the greatest value below a place
+  at_most : (n k : ℕ) → k < n → n ≤ length (chain p t) → value p (op_at k) ≤ value p (op_at (n - 1))
+  at_most n k l h = elim (cases_eq k (n - 1)) [
+    | inl q ↦ subst (λ z. value p (op_at k) ≤ value p (op_at z)) q (omega arith)
+    | inr q ↦ let a = values_rise k (n - 1) (grind arith) (omega arith) in omega arith
+  ]
+
+  -- the first operations are those that are sure: so the last of them has the floor
+  floor_some : (h n : ℕ) → suc n ≤ length (chain p t) → ((k : ℕ) → k < suc n → IsSure p (op_at k) h) → ((k : ℕ) → suc n ≤ k → k < length (chain p t) → ¬ IsSure p (op_at k) h) → IsGreatest (IsSurelyReached p h t) (value p (op_at n))
+  floor_some h n l below above = record { holds = sure (op_chain n l) (below n (omega arith)); greatest = greatest }
+    where
+      greatest : (m : ℕ) → IsSurelyReached p h t m → m ≤ value p (op_at n)
+      greatest m at_first = let a = above_initial n l in omega arith
+      greatest m (sure {e = e} c s) =
+          let a = at_op e c in
+          elim (cases_lt a.0 (suc n)) [
+            | inl b ↦ subst (λ z. value p z ≤ value p (op_at n)) a.2 (subst (λ z. value p (op_at a.0) ≤ value p (op_at z)) (let q : suc n - 1 ≡ n = omega arith in q) (at_most (suc n) a.0 b l))
+            | inr b ↦ absurd (above a.0 b a.1 (subst (λ z. IsSure p z h) (sym a.2) s))
+          ]
+
+  floor_none : (h : ℕ) → ((k : ℕ) → k < length (chain p t) → ¬ IsSure p (op_at k) h) → IsGreatest (IsSurelyReached p h t) (initial p t)
+  floor_none h above = record { holds = at_first; greatest = greatest }
+    where
+      greatest : (m : ℕ) → IsSurelyReached p h t m → m ≤ initial p t
+      greatest m at_first = omega arith
+      greatest m (sure {e = e} c s) = let a = at_op e c in absurd (above a.0 a.1 (subst (λ z. IsSure p z h) (sym a.2) s))
+
+  ceiling_some : (h n : ℕ) → suc n ≤ length (chain p t) → ((k : ℕ) → k < suc n → IsPossible p h t (op_at k)) → ((k : ℕ) → suc n ≤ k → k < length (chain p t) → ¬ IsPossible p h t (op_at k)) → IsGreatest (IsPossiblyReached p h t) (value p (op_at n))
+  ceiling_some h n l below above = record { holds = possible (below n (omega arith)); greatest = greatest }
+    where
+      greatest : (m : ℕ) → IsPossiblyReached p h t m → m ≤ value p (op_at n)
+      greatest m at_first = let a = above_initial n l in omega arith
+      greatest m (possible {e = e} s) =
+          let a = at_op e s.in_chain in
+          elim (cases_lt a.0 (suc n)) [
+            | inl b ↦ subst (λ z. value p z ≤ value p (op_at n)) a.2 (subst (λ z. value p (op_at a.0) ≤ value p (op_at z)) (let q : suc n - 1 ≡ n = omega arith in q) (at_most (suc n) a.0 b l))
+            | inr b ↦ absurd (above a.0 b a.1 (subst (IsPossible p h t) (sym a.2) s))
+          ]
+
+  ceiling_none : (h : ℕ) → ((k : ℕ) → k < length (chain p t) → ¬ IsPossible p h t (op_at k)) → IsGreatest (IsPossiblyReached p h t) (initial p t)
+  ceiling_none h above = record { holds = at_first; greatest = greatest }
+    where
+      greatest : (m : ℕ) → IsPossiblyReached p h t m → m ≤ initial p t
+      greatest m at_first = omega arith
+      greatest m (possible {e = e} s) = let a = at_op e s.in_chain in absurd (above a.0 a.1 (subst (IsPossible p h t) (sym a.2) s))
+
+  -- a search by halves over the chain
+  pub sure_left : (ops : List ℕ) → ops ≡ chain p t → (m h : ℕ) → m < length ops → IsSure p (get_or ops m 0) h → (k : ℕ) → k < m + 1 → IsSure p (get_or ops k 0) h
+  sure_left ops e m h l s k b =
+      subst (λ (xs : List ℕ). m < length xs → IsSure p (get_or xs m 0) h → IsSure p (get_or xs k 0) h) (sym e)
+      (λ l s. elim (cases_eq k m) [ inl q ↦ subst (λ z. IsSure p (op_at z) h) (sym q) s | inr q ↦ sure_down k m h (grind arith) l s ]) l s
+
+  pub sure_right : (ops : List ℕ) → ops ≡ chain p t → (m h : ℕ) → ¬ IsSure p (get_or ops m 0) h → (k : ℕ) → m ≤ k → k < length ops → ¬ IsSure p (get_or ops k 0) h
+  sure_right ops e m h unsure k b l s = unsure (sure_left ops e k h l s m (omega arith))
+
+  pub possible_left : (ops : List ℕ) → ops ≡ chain p t → (m h : ℕ) → m < length ops → IsPossible p h t (get_or ops m 0) → (k : ℕ) → k < m + 1 → IsPossible p h t (get_or ops k 0)
+  possible_left ops e m h l s k b =
+      subst (λ (xs : List ℕ). m < length xs → IsPossible p h t (get_or xs m 0) → IsPossible p h t (get_or xs k 0)) (sym e)
+      (λ l s. elim (cases_eq k m) [ inl q ↦ subst (λ z. IsPossible p h t (op_at z)) (sym q) s | inr q ↦ possible_down k m h (grind arith) l s ]) l s
+
+  pub possible_right : (ops : List ℕ) → ops ≡ chain p t → (m h : ℕ) → ¬ IsPossible p h t (get_or ops m 0) → (k : ℕ) → m ≤ k → k < length ops → ¬ IsPossible p h t (get_or ops k 0)
+  possible_right ops e m h late k b l s = late (possible_left ops e k h l s m (omega arith))
+
+  pub chain_op_exists : (ops : List ℕ) → ops ≡ chain p t → (k : ℕ) → k < length ops → get_or ops k 0 < length p.ops
+  chain_op_exists ops e k l =
+      subst (λ (xs : List ℕ). k < length xs → get_or xs k 0 < length p.ops) (sym e) (λ l. let o = op_job k l in op_exists p (op_at k) o.0 o.1) l
+
+  floor_at : (h n : ℕ) → 0 < n → n ≤ length (chain p t) → ((k : ℕ) → k < n → IsSure p (op_at k) h) → ((k : ℕ) → n ≤ k → k < length (chain p t) → ¬ IsSure p (op_at k) h) → IsGreatest (IsSurelyReached p h t) (value p (op_at (n - 1)))
+  floor_at h n some l below above =
+      let e : suc (n - 1) ≡ n = omega arith in
+      floor_some h (n - 1) (omega arith) (λ k b. below k (omega arith)) (λ k b. above k (omega arith))
+
+  ceiling_at : (h n : ℕ) → 0 < n → n ≤ length (chain p t) → ((k : ℕ) → k < n → IsPossible p h t (op_at k)) → ((k : ℕ) → n ≤ k → k < length (chain p t) → ¬ IsPossible p h t (op_at k)) → IsGreatest (IsPossiblyReached p h t) (value p (op_at (n - 1)))
+  ceiling_at h n some l below above =
+      let e : suc (n - 1) ≡ n = omega arith in
+      ceiling_some h (n - 1) (omega arith) (λ k b. below k (omega arith)) (λ k b. above k (omega arith))
+
+  pub chain_op_of : (ops : List ℕ) → ops ≡ chain p t → (k : ℕ) → k < length ops → chain_of p (get_or ops k 0) ≡ Some t
+  chain_op_of ops e k l = subst (λ (xs : List ℕ). k < length xs → chain_of p (get_or xs k 0) ≡ Some t) (sym e) (λ l. op_chain k l) l
+
+  -- the value after the first operations that are sure is the floor
+  pub floor_is : (h n : ℕ) → AreFirst (λ e. IsSure p e h) (chain p t) n → IsGreatest (IsSurelyReached p h t) (value_after p t n)
+  floor_is h n f = elim (cases_eq n 0) [
+    | inl q ↦ subst (IsGreatest (IsSurelyReached p h t)) (sym (cond-true (eqb n 0) (initial p t) (value p (op_at (n - 1))) (eq-eqb n 0 q))) (floor_none h (λ k l. f.above k (omega arith) l))
+    | inr d ↦ subst (IsGreatest (IsSurelyReached p h t)) (sym (cond-false (eqb n 0) (initial p t) (value p (op_at (n - 1))) (ne_eqb n 0 d))) (floor_at h n (grind arith) f.within f.below f.above)
+  ]
+
+  -- the value after the first operations that may be made is the ceiling
+  pub ceiling_is : (h n : ℕ) → AreFirst (IsPossible p h t) (chain p t) n → IsGreatest (IsPossiblyReached p h t) (value_after p t n)
+  ceiling_is h n f = elim (cases_eq n 0) [
+    | inl q ↦ subst (IsGreatest (IsPossiblyReached p h t)) (sym (cond-true (eqb n 0) (initial p t) (value p (op_at (n - 1))) (eq-eqb n 0 q))) (ceiling_none h (λ k l. f.above k (omega arith) l))
+    | inr d ↦ subst (IsGreatest (IsPossiblyReached p h t)) (sym (cond-false (eqb n 0) (initial p t) (value p (op_at (n - 1))) (ne_eqb n 0 d))) (ceiling_at h n (grind arith) f.within f.below f.above)
+  ]
+
+pub possible_ways : (p : Plan) (op j job t : ℕ) → job_of p op ≡ Some job → chain_of p op ≡ Some t → (b d : Bool) → (job ≡ j) ⊎ (job ≢ j) → (b ≡ true → job ≢ j) → (job ≢ j → b ≡ true) → (d ≡ true → HappensBefore p j job) → (HappensBefore p j job → d ≡ true) → ((b && not d) ≡ true → IsPossible p j t op) × (IsPossible p j t op → (b && not d) ≡ true)
+possible_ways p op j job t o c false d e f g h i = ((λ x. absurd (false≢true x)), (λ s. g (λ q. s.other (same p op s.job job s.of_job o ∙ q))))
+possible_ways p op j job t o c true true e f g h i = ((λ x. absurd (false≢true x)), (λ s. absurd (s.not_after (subst (HappensBefore p j) (same p op job s.job o s.of_job) (h refl)))))
+possible_ways p op j job t o c true false e f g h i =
+    ((λ x. record { in_chain = c; job = job; of_job = o; other = f refl; not_after = λ b. false≢true (i b) }), (λ s. refl))

@@ -1,0 +1,13 @@
+use Rattle.std.proofs.Common.{sym, subst}
+use Rattle.vq_laws.specs.Sure.{KeepsChains}
+use Rattle.vq_laws.specs.WellFormed.{IsWellFormed}
+use Rattle.vq_laws.specs.Windows.{IsGreatest, IsPossiblyReached}
+use Rattle.vq_order.proofs.WindowLaws.{ceiling_is}
+use Rattle.vq_order.proofs.ordered.Ordered.ceiling.Goals as goal
+
+pub returns : goal.returns
+returns c =
+    let p = c.args.self.now in
+    let w : IsWellFormed p = subst IsWellFormed c.self.view_is c.self.invariant.well_formed in
+    let ch : KeepsChains p = subst KeepsChains c.self.view_is c.self.invariant.sure_order.chains in
+    subst (IsGreatest (IsPossiblyReached p c.args.j c.args.t)) (sym c.value_after.ensures) (ceiling_is p w ch c.args.t c.args.j c.count_possible.result c.count_possible.ensures)
