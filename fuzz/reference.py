@@ -1,7 +1,8 @@
-"""A second reading of docs/LANGUAGE.md: what vq writes for an input, and with which status.
+"""A second reading of docs/LANGUAGE.md and docs/ONE_RESULT.md: what vq writes for an input, and with which status.
 
-It shares nothing with the program but the page. `answer(data)` gives (status, text). It is plain and
-slow: needs are looked up by scans, and nothing is kept that can be counted again.
+It shares nothing with the program but the pages. `answer(data)` gives (status, text). It is plain and slow: needs are
+looked up by scans, what happens before what is a set of jobs for each job, and nothing is kept that can be counted
+again.
 """
 import re
 
