@@ -12,7 +12,7 @@ use Rattle.vq_laws.specs.Ranges.{conflict}
 use Rattle.vq_laws.proofs.OneResult.{slice_get_past}
 use Rattle.vq_laws.proofs.Places.{command_order, job_order}
 use Rattle.vq_laws.proofs.UnheldWaits.{plan_holds_no_wait}
-use Rattle.vq_order.proofs.PlanFacts.{plan_lines, plan_well_formed}
+use Rattle.vq_laws.proofs.PlansKept.{plan_lines, plan_well_formed}
 use Rattle.vq_order.proofs.RaceLaws.{conflicts_swap, no_race_by_pairs, first_pair_is_least}
 
 -- commands that conflict exist

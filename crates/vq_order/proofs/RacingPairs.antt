@@ -8,7 +8,7 @@ use Rattle.vq_laws.specs.Races.{IsRace}
 use Rattle.vq_laws.specs.WellFormed.{IsWellFormed}
 use Rattle.vq_laws.proofs.PlansKept.{plan_lines}
 use Rattle.vq_order.proofs.CommandJobs.{owned_exists}
-use Rattle.vq_order.proofs.PlanFacts.{plan_well_formed}
+use Rattle.vq_laws.proofs.PlansKept.{plan_well_formed}
 use Rattle.vq_order.proofs.RaceLaws.{race_swap, first_pair_is_least}
 
 pub race_exists : (p : Plan) → IsWellFormed p → (c d : ℕ) → IsRace p c d → (c < length p.commands) × (d < length p.commands)

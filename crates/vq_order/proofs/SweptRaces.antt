@@ -18,7 +18,7 @@ use Rattle.vq_order.specs.declared.spans.Span.{Span}
 use Rattle.vq_order.proofs.AccessLaws.{race_by, RacesBy}
 use Rattle.vq_order.proofs.CutLaws.{shared_cell}
 use Rattle.vq_order.proofs.Marking.{taken_cases}
-use Rattle.vq_order.proofs.PlanFacts.{plan_well_formed}
+use Rattle.vq_laws.proofs.PlansKept.{plan_well_formed}
 use Rattle.vq_order.proofs.RacingPairs.{no_pair_races}
 
 -- One more command, and one more job

@@ -215,7 +215,7 @@ fn touch_count(cuts: &[u64], accesses: &[Access]) -> usize
 
 /// With more cells than this to go through for each command, on the average, the work could be more
 /// than that of comparing all pairs of commands.
-const MOST_CELLS: usize = 64;
+const MOST_CELLS: usize = 256;
 
 /// Whether going through all commands once rules out races. It doesn't where a command comes before
 /// one that it should come after, nor where ranges overlap so much that comparing pairs is quicker.

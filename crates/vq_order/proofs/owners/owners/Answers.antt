@@ -3,7 +3,7 @@ use Rattle.std.proofs.lemmas.Bool.{cases_eq, cases_Bool}
 use Rattle.vq_laws.specs.Plan.{has, commands_of}
 use Rattle.vq_order.specs.Clocks.{in_row}
 use Rattle.vq_order.proofs.CommandJobs.{command_has_job, owner_exists}
-use Rattle.vq_order.proofs.PlanFacts.{plan_well_formed}
+use Rattle.vq_laws.proofs.PlansKept.{plan_well_formed}
 use Rattle.vq_order.proofs.RowLaws.{whole_new}
 use Rattle.vq_order.proofs.owners.owners.Goals as goal
 

@@ -6,7 +6,7 @@ use Rattle.vq_order.specs.Swept.{TouchesAmong, TouchesBy}
 use Rattle.vq_order.specs.declared.accesses.Access.{Access}
 use Rattle.vq_order.proofs.AccessLaws.{access_at}
 use Rattle.vq_order.proofs.CommandJobs.{owned_exists}
-use Rattle.vq_order.proofs.PlanFacts.{plan_well_formed}
+use Rattle.vq_laws.proofs.PlansKept.{plan_well_formed}
 use Rattle.vq_order.proofs.SlowFacts.{has_at}
 use Rattle.vq_order.proofs.SweptCells.{sweeps_none, sweeps_then}
 use Rattle.vq_order.proofs.SweptRaces.{among_more}
