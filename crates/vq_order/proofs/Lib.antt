@@ -6,7 +6,6 @@ pub mod WindowLaws
 pub mod RaceLaws
 pub mod PairLaws
 pub mod PlanFacts
-pub mod PlanRaces
 pub mod Resolving
 pub mod PairSearches
 pub mod UnorderedLaws

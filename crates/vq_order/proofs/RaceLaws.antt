@@ -1,6 +1,5 @@
--- The first pair of racing commands in the order of numbers is the least by lines, and passing over
--- all pairs shows that there is none.
-use Rattle.std.proofs.Common.{◌≡◌, ◌≢◌, ℕ, ◌+◌, ◌<◌, ◌≤◌, min, max, Bool, true, false, ◌&&◌, ◌||◌, eqb, ltb, List, length, Option, Some, None, refl, sym, ap, ◌∙◌, ◌⊎◌, inl, inr, subst, arith}
+-- The first pair of racing commands in the order of numbers is the least by lines.
+use Rattle.std.proofs.Common.{◌≡◌, ℕ, ◌+◌, ◌<◌, ◌≤◌, min, max, Bool, true, false, ◌&&◌, ◌||◌, eqb, ltb, List, length, Option, Some, None, refl, sym, ap, ◌∙◌, ◌⊎◌, inl, inr, subst, arith}
 use Rattle.std.specs.Option.{option_map_or, option_to_list}
 use Rattle.std.specs.List.{list_any}
 use Rattle.std.proofs.lemmas.Bool.{cases_eq, cases_lt}
@@ -9,7 +8,7 @@ use Rattle.vq_laws.specs.Ranges.{Range, share, conflict, written_range, read_ran
 use Rattle.vq_laws.specs.Plan.{Plan, has, commands_of, command_at}
 use Rattle.vq_laws.specs.Edges.{Place, place_of}
 use Rattle.vq_laws.specs.WellFormed.{IsWellFormed}
-use Rattle.vq_laws.specs.Races.{conflicts, IsRace, HasNoRace}
+use Rattle.vq_laws.specs.Races.{conflicts, IsRace}
 use Rattle.vq_laws.specs.HappensBefore.{HappensBeforeAt, HappensBeforeCommand}
 use Rattle.vq_laws.specs.Checks.{IsRaceAt, IsLeastPair}
 use Rattle.vq_laws.specs.Plan.{line_of_command}
@@ -68,16 +67,6 @@ race_swap p c d r =
       unordered = r.unordered_back;
       unordered_back = r.unordered;
     }
-
--- No pair, the lesser number first, races
-pub no_race_by_pairs : (p : Plan) → IsWellFormed p → ((c d i j : ℕ) → c < d → has (commands_of p i) c ≡ true → has (commands_of p j) d ≡ true → i ≢ j → conflicts p c d ≡ true → HappensBeforeCommand p i j d ⊎ HappensBeforeCommand p j i c) → HasNoRace p
-no_race_by_pairs p w f c d i j hc hd n x = elim (cases_lt c d) [
-  | inl l ↦ f c d i j l hc hd n x
-  | inr g ↦ elim (cases_eq c d) [
-    | inl e ↦ absurd (n (w.one_job c i j hc (subst (λ z. has (commands_of p j) z ≡ true) (sym e) hd)))
-    | inr e ↦ elim (f d c j i (grind arith) hd hc (λ q. n (sym q)) (conflicts_swap p d c ∙ x)) [ inl b ↦ inr b | inr b ↦ inl b ]
-  ]
-]
 
 -- Lines of commands rise with their numbers. So the pair with the least second number, and then the least first one, is named.
 pub first_pair_is_least : (p : Plan) → IsWellFormed p → ((c d : ℕ) → c < d → d < length p.commands → line_of_command p c < line_of_command p d) → ((c d : ℕ) → IsRace p c d → (c < length p.commands) × (d < length p.commands)) → (c d : ℕ) → c < d → IsRace p c d
