@@ -9,18 +9,21 @@ use Rattle.std.proofs.lemmas.List.Elements.{All-head, All-tail}
 use Rattle.vq_laws.specs.declared.script.Script.{Script}
 use Rattle.vq_laws.specs.declared.script.Mark.{Mark}
 use Rattle.vq_laws.specs.declared.script.Batch.{Batch}
+use Rattle.vq_laws.specs.declared.script.HostLine.{HostLine}
+use Rattle.vq_laws.specs.declared.script.HostStep.{HostStep}
+use Rattle.vq_laws.specs.declared.script.HostStep.TheVariants.{Signal}
 use Rattle.vq_laws.specs.declared.script.Job.{Job}
 use Rattle.vq_laws.specs.declared.script.Job.TheVariants.{Host, Batch as BatchJob}
 use Rattle.vq_laws.specs.declared.plan.Need.{Need}
 use Rattle.vq_laws.specs.Plan.{Plan, has, value, job_of, chain_of, line_of_op}
-use Rattle.vq_laws.specs.Signals.{Signaling, all_signals, job_signals, of_mark}
+use Rattle.vq_laws.specs.Signals.{Signaling, all_signals, job_signals, of_mark, step_signals, is_timeline_at}
 use Rattle.vq_laws.specs.Lowering.{plan_of}
-use Rattle.vq_laws.specs.ValidScripts.{AreWholeBatches}
+use Rattle.vq_laws.specs.ValidScripts.{IsValidStep, HasValidSteps}
 use Rattle.vq_laws.specs.WellFormed.{AreInOrder}
 use Rattle.vq_laws.proofs.Lists.{has_here, has_there, has_cases, has-append_right}
 use Rattle.vq_laws.proofs.PlanLaws.{get-map, some_of, owner, op_chain_is, op_job_is}
 use Rattle.vq_laws.proofs.PlanLines.{op_line_is}
-use Rattle.vq_laws.proofs.CountedUses.{mark_lines, whole_at}
+use Rattle.vq_laws.proofs.CountedUses.{mark_lines}
 
 -- Counting
 
@@ -104,10 +107,24 @@ pub record IsSignal (s : Script) (e t : ℕ) : Type 0 where
   pub of_job : job_of (plan_of s) e ≡ Some signal.job
   pub line_is : line_of_op (plan_of s) e ≡ signal.line
 
-module _ (s : Script) (w : AreWholeBatches s s.jobs) where
+module _ (s : Script) (hs : HasValidSteps s) where
+  -- a host step signals timelines alone
+  host_signals : (j : ℕ) (h : HostLine) → slice_get s.jobs j ≡ Some (Host h) → (k : ℕ) (x : Signaling) →
+      slice_get (step_signals j h.line h.step) k ≡ Some x → is_timeline_at s x.semaphore ≡ true
+  host_signals j h e k x among = by_step h.step (hs j h e) k among
+    where
+      by_step : (t : HostStep) → IsValidStep s t → (k : ℕ) →
+          slice_get (step_signals j h.line t) k ≡ Some x → is_timeline_at s x.semaphore ≡ true
+      by_step (Signal pair) v zero g =
+          let here : Signaling = record { job = j; line = h.line; semaphore = pair.semaphore; value = pair.value } in
+          let same : here ≡ x = cc in
+          ap (λ (z : Signaling). is_timeline_at s z.semaphore) (sym same) ∙ v
+      by_step (Signal pair) v (suc k) g = absurd (let c : None ≡ Some x = g in cc)
+      by_step other v k g = absurd (let c : None ≡ Some x = g in cc)
+
   signal_of_batch : (e t : ℕ) (x : Signaling) → slice_get (all_signals s) e ≡ Some x →
-      x.semaphore ≡ t → IsSignal s e t
-  signal_of_batch e t x at of_chain =
+      x.semaphore ≡ t → is_timeline_at s t ≡ false → IsSignal s e t
+  signal_of_batch e t x at of_chain counted =
       let o = owner 0 s.jobs e x at in
       let n = o.number in
       let z : 0 + o.place ≡ o.place = omega arith in
@@ -117,7 +134,11 @@ module _ (s : Script) (w : AreWholeBatches s s.jobs) where
     where
       by_job : (job : Job) → slice_get s.jobs x.job ≡ Some job → (line : ℕ) →
           slice_get (job_signals (x.job, job)) line ≡ Some x → IsSignal s e t
-      by_job (Host h) is line among = absurd (whole_at s s.jobs x.job h w is)
+      by_job (Host h) is line among =
+          absurd
+          (false≢true
+          (sym counted
+          ∙ (ap (is_timeline_at s) (sym of_chain) ∙ host_signals x.job h is line x among)))
       by_job (BatchJob b) is line among =
           let m = some_of (of_mark x.job) (slice_get (b.signals ++ option_to_list b.fence) line) x
           (sym (get-map (of_mark x.job) (b.signals ++ option_to_list b.fence) line) ∙ among) in
@@ -136,18 +157,19 @@ module _ (s : Script) (w : AreWholeBatches s s.jobs) where
             line_is = op_line_is s e ∙ ap (λ (q : Option Signaling). option_map_or (λ y. y.line) q 0) at;
           }
 
-  pub signal_is : (e t : ℕ) → chain_of (plan_of s) e ≡ Some t → IsSignal s e t
-  signal_is e t c =
+  pub signal_is : (e t : ℕ) → chain_of (plan_of s) e ≡ Some t → is_timeline_at s t ≡ false →
+      IsSignal s e t
+  signal_is e t c counted =
       let x = some_of (λ y. y.semaphore) (slice_get (all_signals s) e) t (sym (op_chain_is s e) ∙ c) in
-      signal_of_batch e t x.0 x.1 x.2
+      signal_of_batch e t x.0 x.1 x.2 counted
 
-  -- the line of a signal is one of its batch
-  pub line_among : (e t : ℕ) (i : IsSignal s e t) →
-      has (mark_lines (i.batch.signals ++ option_to_list i.batch.fence)) i.signal.line ≡ true
-  line_among e t i =
-      subst (λ (l : ℕ). has (mark_lines (i.batch.signals ++ option_to_list i.batch.fence)) l ≡ true)
-      (sym i.of_line)
-      (mark_has (i.batch.signals ++ option_to_list i.batch.fence) i.place i.mark i.among)
+-- the line of a signal is one of its batch
+pub line_among : (s : Script) (e t : ℕ) (i : IsSignal s e t) →
+    has (mark_lines (i.batch.signals ++ option_to_list i.batch.fence)) i.signal.line ≡ true
+line_among s e t i =
+    subst (λ (l : ℕ). has (mark_lines (i.batch.signals ++ option_to_list i.batch.fence)) l ≡ true)
+    (sym i.of_line)
+    (mark_has (i.batch.signals ++ option_to_list i.batch.fence) i.place i.mark i.among)
 
 -- the mark of an option
 pub only : (o : Option Mark) (k : ℕ) (m : Mark) → slice_get (option_to_list o) k ≡ Some m → o ≡ Some m

@@ -1,5 +1,5 @@
--- The chains of binary semaphores and fences rise in a sure order, where lowering finds no fault and
--- no wait of a binary semaphore may be overtaken by the next signal.
+-- The chain of a binary semaphore rises in a sure order, where lowering finds no fault and no wait of
+-- it may be overtaken by the next signal.
 use Rattle.std.proofs.Common.{◌≡◌, ◌≢◌, ℕ, ◌+◌, ◌-◌, ◌<◌, ◌≤◌, Bool, true, false, not, ◌&&◌, eqb, ltb, leb, ◌⊎◌, List, [], ◌∷◌, ◌++◌, length, map, take, find, count_by, Option, Some, None, option_map, inl, inr, refl, sym, ap, ◌∙◌, subst, arith}
 use Rattle.std.specs.List.{slice_get, list_all, list_any}
 use Rattle.std.specs.Option.{option_map_or, option_to_list}
@@ -7,8 +7,7 @@ use Rattle.std.proofs.lemmas.Bool.{eqb-true, eq-eqb, false≢true, and_parts, ca
 use Rattle.std.proofs.lemmas.List.{append_assoc}
 use Rattle.vq_laws.specs.declared.script.Script.{Script}
 use Rattle.vq_laws.specs.declared.script.SemaphoreKind.{SemaphoreKind}
-use Rattle.vq_laws.specs.declared.script.SemaphoreKind.TheVariants.{Timeline, Binary, Fence}
-use Rattle.vq_laws.specs.declared.script.Semaphore.{Semaphore}
+use Rattle.vq_laws.specs.declared.script.SemaphoreKind.TheVariants.{Binary}
 use Rattle.vq_laws.specs.declared.script.Mark.{Mark}
 use Rattle.vq_laws.specs.declared.script.Batch.{Batch}
 use Rattle.vq_laws.specs.declared.script.Job.{Job}
@@ -18,8 +17,8 @@ use Rattle.vq_laws.specs.Context.{is_timeline, is_fence}
 use Rattle.vq_laws.specs.Plan.{has, chain, initial, value, job_of, chain_of, line_of_op, needs, waits_for_any, resolver}
 use Rattle.vq_laws.specs.Signals.{initial_value, Signaling, all_signals, kind_of, is_timeline_at, is_counted_at, signals_semaphore}
 use Rattle.vq_laws.specs.Lowering.{plan_of, of_wait, plan_job}
-use Rattle.vq_laws.specs.LoweringFaults.{lowering_fault, uses, Use, Waited, Signaled, Named, UseLine, LastIs, SignaledTwice, FenceUsed}
-use Rattle.vq_laws.specs.ValidScripts.{IsValid, IsValidMark, IsValidBatch, HasValidBatches, AreWholeBatches, HasRisingLines, job_lines, is_fence_at}
+use Rattle.vq_laws.specs.LoweringFaults.{lowering_fault, uses, Use, Waited, Signaled, UseLine, LastIs, SignaledTwice}
+use Rattle.vq_laws.specs.ValidScripts.{IsValid, IsValidMark, IsValidBatch, HasValidBatches, HasValidSteps, HasRisingLines, job_lines, is_fence_at}
 use Rattle.vq_laws.specs.Sure.{RisesFrom}
 use Rattle.vq_laws.specs.Edges.{AtEnd}
 use Rattle.vq_laws.specs.Machine.{is_reached, are_reached, can_start}
@@ -29,7 +28,7 @@ use Rattle.vq_laws.specs.Checks.{IsUnordered, IsNextSignal, NoLines, unawaited}
 use Rattle.vq_laws.specs.WellFormed.{IsWellFormed, AreInOrder, AreRising}
 use Rattle.vq_laws.specs.Lanes.{HasLinesInOrder}
 use Rattle.vq_laws.proofs.Lists.{has_here, has_there, has_cases, has-append_cases, has-append_right, has-append_left}
-use Rattle.vq_laws.proofs.PlanLaws.{well_formed, get-map, get_some, get_within, get-append, get-append_left, some_of, op_chain_is, op_value_is, part_is}
+use Rattle.vq_laws.proofs.PlanLaws.{well_formed, get-map, get_within, get-append, get-append_left, some_of, op_chain_is, op_value_is, part_is}
 use Rattle.vq_laws.proofs.PlanLanes.{count_ops, count_jobs}
 use Rattle.vq_laws.proofs.PlanLines.{lines_in_order}
 use Rattle.vq_laws.proofs.SignalValues.{counted_value}
@@ -38,11 +37,11 @@ use Rattle.vq_laws.proofs.Decides.{before_decides}
 use Rattle.vq_laws.proofs.Edges.{need_awaits}
 use Rattle.vq_laws.proofs.PassedOn.{IsPassedOn, ArePassedOn, passed_on_rises}
 use Rattle.vq_laws.proofs.FaultLaws.{no_fault_found}
-use Rattle.vq_laws.proofs.CountedUses.{StandsIn, IsUse, use_is, uses_rise, signal_is_use, fence_is_use, HasLastBefore, last_before, lines_across, waits_first, wait_line, signal_line, job_rises, mark_lines}
+use Rattle.vq_laws.proofs.CountedUses.{StandsIn, IsUse, use_is, reset_fence, uses_rise, signal_is_use, HasLastBefore, last_before, lines_across, waits_first, wait_line, signal_line, job_rises, mark_lines}
 use Rattle.vq_laws.proofs.ChainSignals.{count_take_more, count_to, IsSignal, signal_is, line_among, mark_has, only, of_all, all_pass, find_here, order_across}
 
 -- Where lowering finds no fault, ..
-module _ (s : Script) (v : IsValid s) (bs : HasValidBatches s) (w : AreWholeBatches s s.jobs)
+module _ (s : Script) (v : IsValid s) (bs : HasValidBatches s) (hs : HasValidSteps s)
     (r : HasRisingLines s) (faultless : lowering_fault s ≡ None) where
   lines : HasLinesInOrder (plan_of s)
   lines = lines_in_order s r
@@ -51,7 +50,7 @@ module _ (s : Script) (v : IsValid s) (bs : HasValidBatches s) (w : AreWholeBatc
   formed = well_formed s v
 
   use_lines : AreRising (map (λ (z : UseLine). z.line) (uses s))
-  use_lines = uses_rise s w r
+  use_lines = uses_rise s r
 
   within : (e t : ℕ) → IsSignal s e t → e < length (plan_of s).ops
   within e t i =
@@ -59,7 +58,7 @@ module _ (s : Script) (v : IsValid s) (bs : HasValidBatches s) (w : AreWholeBatc
 
   module _ (t : ℕ) (counted : is_timeline_at s t ≡ false) where
     -- the value of a signal is the number of those before it, and one more
-    value_counts : (e : ℕ) → IsSignal s e t →
+    pub value_counts : (e : ℕ) → IsSignal s e t →
         value (plan_of s) e ≡ count_by (signals_semaphore t) (take e (all_signals s)) + 1
     value_counts e i =
         op_value_is s e
@@ -67,7 +66,7 @@ module _ (s : Script) (v : IsValid s) (bs : HasValidBatches s) (w : AreWholeBatc
         (ap (is_timeline_at s) i.of_chain ∙ counted)
         ∙ ap (λ (k : ℕ). count_by (signals_semaphore k) (take e (all_signals s)) + 1) i.of_chain)
 
-    values_rise : (e f : ℕ) → IsSignal s e t → IsSignal s f t → e < f →
+    pub values_rise : (e f : ℕ) → IsSignal s e t → IsSignal s f t → e < f →
         value (plan_of s) e < value (plan_of s) f
     values_rise e f i j l =
         let a = value_counts e i in
@@ -95,8 +94,8 @@ module _ (s : Script) (v : IsValid s) (bs : HasValidBatches s) (w : AreWholeBatc
             let a = values_rise f e j i k in
             absurd (omega arith)
 
-    member : (e : ℕ) → has (chain (plan_of s) t) e ≡ true → IsSignal s e t
-    member e h = signal_is s w e t (formed.of_chain e t h)
+    pub member : (e : ℕ) → has (chain (plan_of s) t) e ≡ true → IsSignal s e t
+    member e h = signal_is s hs e t (formed.of_chain e t h) counted
 
     -- two operations that follow one another in the chain
     module _ (front : List ℕ) (e f : ℕ) (back : List ℕ)
@@ -107,15 +106,15 @@ module _ (s : Script) (v : IsValid s) (bs : HasValidBatches s) (w : AreWholeBatc
       in_chain : (g : ℕ) → has (front ++ e ∷ f ∷ back) g ≡ true → IsSignal s g t
       in_chain g h = member g (subst (λ (xs : List ℕ). has xs g ≡ true) (sym split) h)
 
-      first_signal : IsSignal s e t
+      pub first_signal : IsSignal s e t
       first_signal = in_chain e (has-append_right front (e ∷ f ∷ back) e (has_here e (f ∷ back)))
 
-      next_signal : IsSignal s f t
+      pub next_signal : IsSignal s f t
       next_signal =
           in_chain f
           (has-append_right front (e ∷ f ∷ back) f (has_there e (f ∷ back) f (has_here f back)))
 
-      in_turn : e < f
+      pub in_turn : e < f
       in_turn =
           numbers_rise e f first_signal next_signal
           ((order_from (plan_of s) front (e ∷ f ∷ back) ordered).0 f (has_here f back))
@@ -128,7 +127,7 @@ module _ (s : Script) (v : IsValid s) (bs : HasValidBatches s) (w : AreWholeBatc
           (subst (λ (xs : List ℕ). has xs g ≡ true) split (formed.in_chain g t c)))
         where
           i : IsSignal s g t
-          i = signal_is s w g t c
+          i = signal_is s hs g t c counted
 
           after_next : (has back g ≡ true) → f ≤ g
           after_next h =
@@ -148,7 +147,7 @@ module _ (s : Script) (v : IsValid s) (bs : HasValidBatches s) (w : AreWholeBatc
             | inr m ↦ elim (has_cases f back g m) [ inl q ↦ omega arith | inr n ↦ after_next n ]
           ]
 
-      line_before : line_of_op (plan_of s) e < line_of_op (plan_of s) f
+      pub line_before : line_of_op (plan_of s) e < line_of_op (plan_of s) f
       line_before = lines.ops e f in_turn (within f t next_signal)
 
   -- Batches and their marks
@@ -156,11 +155,11 @@ module _ (s : Script) (v : IsValid s) (bs : HasValidBatches s) (w : AreWholeBatc
   valid_batch : (i : Batch) (j : ℕ) → slice_get s.jobs j ≡ Some (BatchJob i) → IsValidBatch s i
   valid_batch b j e = bs j b e
 
-  wait_kind : (b : Batch) (j k : ℕ) (m : Mark) → slice_get s.jobs j ≡ Some (BatchJob b) →
+  pub wait_kind : (b : Batch) (j k : ℕ) (m : Mark) → slice_get s.jobs j ≡ Some (BatchJob b) →
       slice_get b.waits k ≡ Some m → is_fence_at s m.semaphore ≡ false
   wait_kind b j k m e h = (of_all (IsValidMark s) b.waits k m (bs j b e).waits h).kind
 
-  signal_kind : (b : Batch) (j k : ℕ) (m : Mark) → slice_get s.jobs j ≡ Some (BatchJob b) →
+  pub signal_kind : (b : Batch) (j k : ℕ) (m : Mark) → slice_get s.jobs j ≡ Some (BatchJob b) →
       slice_get b.signals k ≡ Some m → is_fence_at s m.semaphore ≡ false
   signal_kind b j k m e h = (of_all (IsValidMark s) b.signals k m (bs j b e).signals h).kind
 
@@ -183,7 +182,7 @@ module _ (s : Script) (v : IsValid s) (bs : HasValidBatches s) (w : AreWholeBatc
   ]
 
   -- .. and one of a fence's chain is the fence of its batch
-  is_fence_of : (e t : ℕ) (i : IsSignal s e t) → is_fence_at s t ≡ true →
+  pub is_fence_of : (e t : ℕ) (i : IsSignal s e t) → is_fence_at s t ≡ true →
       i.batch.fence ≡ Some i.mark
   is_fence_of e t i fence = elim (cases_lt i.place (length i.batch.signals)) [
     | inl l ↦
@@ -200,73 +199,12 @@ module _ (s : Script) (v : IsValid s) (bs : HasValidBatches s) (w : AreWholeBatc
   ]
 
   -- the line of an operation
-  mark_line : (e t : ℕ) (i : IsSignal s e t) → line_of_op (plan_of s) e ≡ i.mark.line
+  pub mark_line : (e t : ℕ) (i : IsSignal s e t) → line_of_op (plan_of s) e ≡ i.mark.line
   mark_line e t i = i.line_is ∙ i.of_line
 
   -- its use
   abbrev use_of : (e t : ℕ) → IsSignal s e t → Use → UseLine
   use_of e t i kind = record { line = i.mark.line; semaphore = i.mark.semaphore; kind = kind }
-
-  -- Fences
-
-  -- A fence is named once at most: nothing follows an operation in its chain.
-  module _ (t : ℕ) (counted : is_timeline_at s t ≡ false) (fence : is_fence_at s t ≡ true)
-      (used : is_counted_at s t ≡ true) where
-    fence_use : (e : ℕ) (i : IsSignal s e t) → StandsIn (uses s) (use_of e t i Named)
-    fence_use e i =
-        fence_is_use s i.signal.job i.batch i.mark i.job_at (is_fence_of e t i fence)
-        (ap (is_counted_at s) i.of_mark_chain ∙ used)
-
-    -- each use of it names it
-    named_use : (x : UseLine) → StandsIn (uses s) x → x.semaphore ≡ t → x.kind ≡ Named
-    named_use x i e = by_among (use_is s x w i)
-      where
-        wrong : (b : Batch) (j : ℕ) (m : Mark) → x.semaphore ≡ m.semaphore →
-            is_fence_at s m.semaphore ≡ false → x.kind ≡ Named
-        wrong b j m q f =
-            absurd (false≢true (sym f ∙ (ap (is_fence_at s) (sym q ∙ e) ∙ fence)))
-
-        by_among : IsUse s x → x.kind ≡ Named
-        by_among u = elim u.among [
-          | inl k ↦ wrong u.batch u.job k.mark k.of_semaphore
-              (wait_kind u.batch u.job k.place k.mark u.at k.is)
-          | inr o ↦ elim o [
-            | inl k ↦ wrong u.batch u.job k.mark k.of_semaphore
-                (signal_kind u.batch u.job k.place k.mark u.at k.is)
-            | inr k ↦ k.of_kind
-          ]
-        ]
-
-    named_once : (e f : ℕ) (i : IsSignal s e t) (j : IsSignal s f t) →
-        line_of_op (plan_of s) e < line_of_op (plan_of s) f → ⊥
-    named_once e f i j l =
-        let x = fence_use f j in
-        let a = mark_line e t i in
-        let b = mark_line f t j in
-        let before = last_before s (use_of f t j Named) (use_of e t i Named) x.front x.back use_lines
-        x.whole (fence_use e i) (omega arith) in
-        let same : i.mark.semaphore ≡ j.mark.semaphore = i.of_mark_chain ∙ sym j.of_mark_chain in
-        let kind : before.kind ≡ Named =
-        sym before.last.of_kind
-        ∙ named_use before.last.last before.stands (before.last.of_semaphore ∙ i.of_mark_chain) in
-        no_fault_found s faultless x.front x.back (use_of f t j Named) FenceUsed x.whole (
-          refl,
-          subst (λ (k : Use). LastIs x.front j.mark.semaphore k) kind
-              (subst (λ (z : ℕ). LastIs x.front z before.kind) same before.last),
-        )
-
-    fence_rises : (es : List ℕ) → chain (plan_of s) t ≡ es → initial (plan_of s) t ≡ 0 →
-        RisesFrom (plan_of s) (initial (plan_of s) t) es
-    fence_rises [] q z = tt
-    fence_rises (e ∷ []) q z =
-        let i = member t counted e
-        (subst (λ (xs : List ℕ). has xs e ≡ true) (sym q) (has_here e [])) in
-        let n = value_counts t counted e i in
-        (omega arith, tt)
-    fence_rises (e ∷ f ∷ es) q z =
-        absurd
-        (named_once e f (first_signal t counted [] e f es q) (next_signal t counted [] e f es q)
-        (line_before t counted [] e f es q))
 
   -- Binary semaphores
 
@@ -299,7 +237,10 @@ module _ (s : Script) (v : IsValid s) (bs : HasValidBatches s) (w : AreWholeBatc
     -- each use of it signals it or waits for it
     binary_use : (x : UseLine) → StandsIn (uses s) x → x.semaphore ≡ t →
         (x.kind ≡ Signaled) ⊎ ((x.kind ≡ Waited) × IsWait t x.line)
-    binary_use x i e = by_among (use_is s x w i)
+    binary_use x i e = elim (use_is s x i) [
+      | inl u ↦ by_among u
+      | inr k ↦ absurd (false≢true (sym apart ∙ (ap (is_fence_at s) (sym e) ∙ reset_fence s hs x k)))
+    ]
       where
         by_among : IsUse s x → (x.kind ≡ Signaled) ⊎ ((x.kind ≡ Waited) × IsWait t x.line)
         by_among u = elim u.among [
@@ -430,13 +371,13 @@ module _ (s : Script) (v : IsValid s) (bs : HasValidBatches s) (w : AreWholeBatc
                 let b : x.wait.batch ≡ y.batch = cc in
                 let o = waits_first x.wait.batch x.line y.signal.line rising wait_here
                 (subst (λ (z : Batch). has (mark_lines (z.signals ++ option_to_list z.fence))
-                y.signal.line ≡ true) (sym b) (line_among s w k t y)) in
+                y.signal.line ≡ true) (sym b) (line_among s k t y)) in
                 omega arith
             not_later n (inr d) =
                 let o = lines_across s.jobs a y.signal.job (BatchJob x.wait.batch) (BatchJob y.batch)
                 x.line y.signal.line r x.wait.at y.job_at (omega (arith, d))
                 (wait_line x.wait.batch x.line wait_here)
-                (signal_line y.batch y.signal.line (line_among s w k t y)) in
+                (signal_line y.batch y.signal.line (line_among s k t y)) in
                 omega arith
 
         later_job : (k : ℕ) (y : IsSignal s k t) → x.line < line_of_op (plan_of s) k →
@@ -446,7 +387,7 @@ module _ (s : Script) (v : IsValid s) (bs : HasValidBatches s) (w : AreWholeBatc
               (let here : line_of_op (plan_of s) k ≡ y.signal.line = y.line_is in
               let o = lines_across s.jobs y.signal.job a (BatchJob y.batch) (BatchJob x.wait.batch)
               y.signal.line x.line r y.job_at x.wait.at n
-              (signal_line y.batch y.signal.line (line_among s w k t y))
+              (signal_line y.batch y.signal.line (line_among s k t y))
               (wait_line x.wait.batch x.line wait_here) in
               absurd (omega arith))
           | inr n ↦ n
@@ -471,7 +412,7 @@ module _ (s : Script) (v : IsValid s) (bs : HasValidBatches s) (w : AreWholeBatc
                 ∙ ap (λ (b : Bool). b && ltb y.job a) q
             by_test true q =
                 let c = of_chain k y h (eqb-true y.semaphore t q) in
-                let z = signal_is s w k t c in
+                let z = signal_is s hs k t c counted in
                 let first = before_or_at k z l in
                 let g = x.after in
                 let n = earlier_job k z (omega arith) in
@@ -500,7 +441,7 @@ module _ (s : Script) (v : IsValid s) (bs : HasValidBatches s) (w : AreWholeBatc
                 ∙ ap (λ (b : Bool). b && ltb y.job a) q
             by_test true q =
                 let c = of_chain k y h (eqb-true y.semaphore t q) in
-                let z = signal_is s w k t c in
+                let z = signal_is s hs k t c counted in
                 let g = none_between t counted front e f back split k c l in
                 let o = at_or_after k z g in
                 let b = x.before in
@@ -605,7 +546,7 @@ module _ (s : Script) (v : IsValid s) (bs : HasValidBatches s) (w : AreWholeBatc
           ]
             where
               i : IsSignal s g t
-              i = signal_is s w g t c
+              i = signal_is s hs g t c counted
 
               by_equal : (f ≡ g) ⊎ (f ≢ g) → f ≤ g →
                   line_of_op (plan_of s) f ≤ line_of_op (plan_of s) g
@@ -726,7 +667,7 @@ module _ (s : Script) (v : IsValid s) (bs : HasValidBatches s) (w : AreWholeBatc
         all_passed_on (front ++ e ∷ []) (f ∷ es) (q ∙ sym (append_assoc front (e ∷ []) (f ∷ es))),
       )
 
-      binary_rises : left_over (plan_of s) ≡ [] →
+      pub binary_rises : left_over (plan_of s) ≡ [] →
           RisesFrom (plan_of s) (initial (plan_of s) t) (chain (plan_of s) t)
       binary_rises reach =
           passed_on_rises (plan_of s) t reach jobs_exist (all_passed_on [] (chain (plan_of s) t) refl)
@@ -739,49 +680,3 @@ module _ (s : Script) (v : IsValid s) (bs : HasValidBatches s) (w : AreWholeBatc
               let l = get_within s.jobs i.signal.job (BatchJob i.batch) i.job_at in
               let c = count_jobs s in
               (i.signal.job, i.of_job, omega arith)
-
-  -- All chains but those of timelines
-
-  none_there : (t : ℕ) → slice_get s.semaphores t ≡ None → (es : List ℕ) →
-      chain (plan_of s) t ≡ es → RisesFrom (plan_of s) (initial (plan_of s) t) es
-  none_there t absent [] q = tt
-  none_there t absent (e ∷ es) q =
-      let i = signal_is s w e t
-      (formed.of_chain e t (subst (λ (xs : List ℕ). has xs e ≡ true) (sym q) (has_here e es))) in
-      let l = v.signals e i.signal i.at in
-      let g = get_some s.semaphores i.signal.semaphore l in
-      let c : Some g.0 ≡ None =
-      sym g.1 ∙ (ap (slice_get s.semaphores) i.of_chain ∙ absent) in
-      absurd (cc)
-
-  pub counted_rises : left_over (plan_of s) ≡ [] → NoLines (IsUnordered (plan_of s)) → (t : ℕ) →
-      is_timeline_at s t ≡ false →
-      RisesFrom (plan_of s) (initial (plan_of s) t) (chain (plan_of s) t)
-  counted_rises reach unordered t timeline = by_semaphore (slice_get s.semaphores t) refl
-    where
-      by_kind : (x : Semaphore) (k : SemaphoreKind) → slice_get s.semaphores t ≡ Some x →
-          x.kind ≡ k → RisesFrom (plan_of s) (initial (plan_of s) t) (chain (plan_of s) t)
-      by_kind x (Timeline n) e q =
-          absurd
-          (false≢true
-          (sym timeline
-          ∙ (ap (λ (o : Option Semaphore). option_map_or is_timeline (option_map (λ y. y.kind) o)
-          false) e ∙ ap is_timeline q)))
-      by_kind x Binary e q =
-          binary_rises t (ap (option_map (λ y. y.kind)) e ∙ ap Some q) unordered reach
-      by_kind x Fence e q =
-          fence_rises t timeline (ap (λ (o : Option SemaphoreKind). option_map_or is_fence o false) k)
-          (ap (λ (o : Option SemaphoreKind). option_map_or (λ z. not (is_timeline z)) o false) k)
-          (chain (plan_of s) t) refl
-          (ap (λ (o : Option ℕ). option_map_or (λ n. n) o 0)
-          (get-map (λ y. initial_value y.kind) s.semaphores t
-          ∙ ap (option_map (λ y. initial_value y.kind)) e)
-          ∙ ap initial_value q)
-        where
-          k : kind_of s t ≡ Some Fence
-          k = ap (option_map (λ y. y.kind)) e ∙ ap Some q
-
-      by_semaphore : (o : Option Semaphore) → slice_get s.semaphores t ≡ o →
-          RisesFrom (plan_of s) (initial (plan_of s) t) (chain (plan_of s) t)
-      by_semaphore None e = none_there t e (chain (plan_of s) t) refl
-      by_semaphore (Some x) e = by_kind x x.kind e refl

@@ -7,6 +7,8 @@ use Rattle.std.proofs.lemmas.Bool.{eqb-true, eq-eqb, false≢true, or_left, or_r
 use Rattle.std.proofs.lemmas.List.{append_assoc}
 use Rattle.vq_laws.specs.declared.script.Script.{Script}
 use Rattle.vq_laws.specs.declared.script.HostLine.{HostLine}
+use Rattle.vq_laws.specs.declared.script.HostStep.{HostStep}
+use Rattle.vq_laws.specs.declared.script.HostStep.TheVariants.{FenceReset}
 use Rattle.vq_laws.specs.declared.script.Mark.{Mark}
 use Rattle.vq_laws.specs.declared.script.Batch.{Batch}
 use Rattle.vq_laws.specs.declared.script.Job.{Job}
@@ -14,8 +16,8 @@ use Rattle.vq_laws.specs.declared.script.Job.TheVariants.{Host, Batch as BatchJo
 use Rattle.vq_laws.specs.Plan.{has}
 use Rattle.vq_laws.specs.WellFormed.{AreRising}
 use Rattle.vq_laws.specs.Signals.{is_counted_at}
-use Rattle.vq_laws.specs.LoweringFaults.{Use, Waited, Signaled, Named, UseLine, LastIs, use_of_mark, uses_of, uses}
-use Rattle.vq_laws.specs.ValidScripts.{job_lines, HasRisingLines, AreWholeBatches}
+use Rattle.vq_laws.specs.LoweringFaults.{Use, Waited, Signaled, Named, Reset, UseLine, LastIs, use_of_mark, step_uses, uses_of, uses}
+use Rattle.vq_laws.specs.ValidScripts.{job_lines, HasRisingLines, AreWholeBatches, IsValidStep, HasValidSteps, is_fence_at}
 use Rattle.vq_laws.proofs.Lists.{has_here, has_there, has_cases, has-append_cases, has-append_left, has-append_right}
 use Rattle.vq_laws.proofs.PlanLines.{IsPart, rising_left, rising_right, rising_across, part_join, part_none, part_same, part_left, part_right, map-append}
 
@@ -114,10 +116,13 @@ mark_part s kind (m ∷ ms) =
     one true = part_same (m.line ∷ [])
     one false = part_none (m.line ∷ [])
 
-job_part : (s : Script) (job : Job) → (uses_host : (h : HostLine) → job ≡ Host h → ⊥) →
-    IsPart (map (λ x. x.line) (uses_of s job)) (job_lines job)
-job_part s (Host h) none = absurd (none h refl)
-job_part s (BatchJob b) none =
+job_part : (s : Script) (job : Job) → IsPart (map (λ x. x.line) (uses_of s job)) (job_lines job)
+job_part s (Host h) = by_step h.step
+  where
+    by_step : (t : HostStep) → IsPart (map (λ x. x.line) (step_uses h.line t)) (h.line ∷ [])
+    by_step (FenceReset f) = part_same (h.line ∷ [])
+    by_step other = part_none (h.line ∷ [])
+job_part s (BatchJob b) =
     subst (λ (zs : List ℕ). IsPart zs (job_lines (BatchJob b))) (sym lines)
     (part_right (w ++ g ++ f) (b.line ∷ []) (waits ++ commands ++ signals ++ fence)
     (part_join (w ++ g) f (waits ++ commands ++ signals) fence
@@ -155,21 +160,19 @@ job_part s (BatchJob b) none =
         (map-append (λ x. x.line) (flat_map (use_of_mark s Waited) b.waits)
         (flat_map (use_of_mark s Signaled) b.signals))
 
-uses_part : (s : Script) (jobs : List Job) → AreWholeBatches s jobs →
+uses_part : (s : Script) (jobs : List Job) →
     IsPart (map (λ x. x.line) (flat_map (uses_of s) jobs)) (flat_map job_lines jobs)
-uses_part s [] w = part_same []
-uses_part s (Host h ∷ jobs) w = absurd w
-uses_part s (BatchJob b ∷ jobs) w =
-    subst (λ (zs : List ℕ). IsPart zs (job_lines (BatchJob b) ++ flat_map job_lines jobs))
-    (sym (map-append (λ x. x.line) (uses_of s (BatchJob b)) (flat_map (uses_of s) jobs)))
-    (part_join (map (λ x. x.line) (uses_of s (BatchJob b)))
-    (map (λ x. x.line) (flat_map (uses_of s) jobs)) (job_lines (BatchJob b))
-    (flat_map job_lines jobs) (job_part s (BatchJob b) (λ h e. cc)) (uses_part s jobs w.1))
+uses_part s [] = part_same []
+uses_part s (job ∷ jobs) =
+    subst (λ (zs : List ℕ). IsPart zs (job_lines job ++ flat_map job_lines jobs))
+    (sym (map-append (λ x. x.line) (uses_of s job) (flat_map (uses_of s) jobs)))
+    (part_join (map (λ x. x.line) (uses_of s job))
+    (map (λ x. x.line) (flat_map (uses_of s) jobs)) (job_lines job)
+    (flat_map job_lines jobs) (job_part s job) (uses_part s jobs))
 
 -- The lines of uses rise.
-pub uses_rise : (s : Script) → AreWholeBatches s s.jobs → HasRisingLines s →
-    AreRising (map (λ x. x.line) (uses s))
-uses_rise s w r = (uses_part s s.jobs w).rise r
+pub uses_rise : (s : Script) → HasRisingLines s → AreRising (map (λ x. x.line) (uses s))
+uses_rise s r = (uses_part s s.jobs).rise r
 
 -- Lines of jobs
 
@@ -324,7 +327,7 @@ mark_use s kind ms x i =
         none [] q = cc
         none (z ∷ front) q = cc
 
--- A use is one of a batch: a wait, a signal, or its fence.
+-- A use of a batch: a wait, a signal, or its fence.
 pub record IsUse (s : Script) (x : UseLine) : Type 0 where
   pub job : ℕ
   pub batch : Batch
@@ -339,14 +342,53 @@ whole_at s (Host x ∷ jobs) j h w e = w
 whole_at s (BatchJob b ∷ jobs) zero h w e = cc
 whole_at s (BatchJob b ∷ jobs) (suc j) h w e = whole_at s jobs j h w.1 e
 
-pub use_is : (s : Script) (x : UseLine) → AreWholeBatches s s.jobs → StandsIn (uses s) x → IsUse s x
-use_is s x w i = let r = of_flat (uses_of s) s.jobs x i in by_job r.0 r.1 r.2 r.3
+-- a script of batches alone has no step that could be wrong
+pub whole_steps : (s : Script) → AreWholeBatches s s.jobs → HasValidSteps s
+whole_steps s w j h e = absurd (whole_at s s.jobs j h w e)
+
+-- a host step resets a fence
+pub record IsReset (s : Script) (x : UseLine) : Type 0 where
+  pub job : ℕ
+  pub host : HostLine
+  pub at : slice_get s.jobs job ≡ Some (Host host)
+  pub step : host.step ≡ FenceReset x.semaphore
+  pub of_line : x.line ≡ host.line
+  pub of_kind : x.kind ≡ Reset
+
+-- A use is one of a batch, or a reset by the host.
+pub use_is : (s : Script) (x : UseLine) → StandsIn (uses s) x → IsUse s x ⊎ IsReset s x
+use_is s x i = let r = of_flat (uses_of s) s.jobs x i in by_job r.0 r.1 r.2 r.3
   where
+    nothing_stands : (front back : List UseLine) → [] ≡ front ++ x ∷ back → ⊥
+    nothing_stands [] back q = cc
+    nothing_stands (z ∷ front) back q = cc
+
+    by_step : (j : ℕ) (h : HostLine) → slice_get s.jobs j ≡ Some (Host h) → (t : HostStep) →
+        h.step ≡ t → StandsIn (step_uses h.line t) x → IsUse s x ⊎ IsReset s x
+    by_step j h e (FenceReset f) q i = by_front i.front i.whole
+      where
+        by_front : (front : List UseLine) →
+            record { line = h.line; semaphore = f; kind = Reset } ∷ [] ≡ front ++ x ∷ i.back →
+            IsUse s x ⊎ IsReset s x
+        by_front [] g =
+            let same : record { line = h.line; semaphore = f; kind = Reset } ≡ x = cc in
+            inr (record {
+              job = j;
+              host = h;
+              at = e;
+              step = q ∙ ap (λ (z : UseLine). FenceReset z.semaphore) same;
+              of_line = ap (λ (z : UseLine). z.line) (sym same);
+              of_kind = ap (λ (z : UseLine). z.kind) (sym same);
+            })
+        by_front (z ∷ front) g =
+            let rest : [] ≡ front ++ x ∷ i.back = cc in absurd (nothing_stands front i.back rest)
+    by_step j h e other q i = absurd (nothing_stands i.front i.back i.whole)
+
     by_job : (j : ℕ) (job : Job) → slice_get s.jobs j ≡ Some job → StandsIn (uses_of s job) x →
-        IsUse s x
-    by_job j (Host h) e i = absurd (whole_at s s.jobs j h w e)
+        IsUse s x ⊎ IsReset s x
+    by_job j (Host h) e i = by_step j h e h.step refl i
     by_job j (BatchJob b) e i =
-        record {
+        inl (record {
           job = j;
           batch = b;
           at = e;
@@ -354,7 +396,7 @@ use_is s x w i = let r = of_flat (uses_of s) s.jobs x i in by_job r.0 r.1 r.2 r.
               (of_append
               (flat_map (use_of_mark s Waited) b.waits ++ flat_map (use_of_mark s Signaled) b.signals)
               (flat_map (use_of_mark s Named) (option_to_list b.fence)) x i);
-        }
+        })
       where
         by_part : StandsIn (flat_map (use_of_mark s Waited) b.waits
             ++ flat_map (use_of_mark s Signaled) b.signals) x
@@ -368,6 +410,11 @@ use_is s x w i = let r = of_flat (uses_of s) s.jobs x i in by_job r.0 r.1 r.2 r.
               | inr k ↦ inr (inl (mark_use s Signaled b.signals x k))
             ]
         by_part (inr i) = inr (inr (mark_use s Named (option_to_list b.fence) x i))
+
+-- what is reset is a fence
+pub reset_fence : (s : Script) → HasValidSteps s → (x : UseLine) → IsReset s x →
+    is_fence_at s x.semaphore ≡ true
+reset_fence s v x k = subst (IsValidStep s) k.step (v k.job k.host k.at)
 
 -- a mark of a counted semaphore is a use
 mark_stands : (s : Script) (kind : Use) (ms : List Mark) (k : ℕ) (m : Mark) →

@@ -112,7 +112,7 @@ module _ (p : Plan) (i j : ℕ) where
           let t = need_at k a.place q.1 a.is in
           by_need q.1 t.place r e t.is t.passes (ltb-true (initial p q.1.chain) q.1.value a.passes) q.3 o
 
-  finish_edge : (k : Place) → has (must_finish p j) i ≡ true → has (edges_at p j k) i ≡ true
+  pub finish_edge : (k : Place) → has (must_finish p j) i ≡ true → has (edges_at p j k) i ≡ true
   finish_edge k m = has-append_left (must_finish p j) (filter_map (job_of p) (awaited_at p j k)) i m
 
   -- what resolves a need is awaited

@@ -19,7 +19,7 @@ sure_along p e i j k s (one h) = passed_on s h
 sure_along p e i j k s (more {h = q} b h) = passed_on (sure_along p e i q AtEnd s b) h
 
 -- a job of a slow run is ready after those before it
-ready_at : (p : Plan) (done rest front back : List ℕ) (j : ℕ) → ReadyEach p done rest →
+pub ready_at : (p : Plan) (done rest front back : List ℕ) (j : ℕ) → ReadyEach p done rest →
     rest ≡ front ++ j ∷ back → is_ready p (done ++ front) j ≡ true
 ready_at p done [] [] back j r e = absurd (cc)
 ready_at p done [] (x ∷ front) back j r e = absurd (cc)
@@ -73,7 +73,7 @@ reached_by p done v n (e ∷ es) l h =
             h
 
 -- what stands in the front of a list stands before its end
-place_in_front : (front back : List ℕ) (x : ℕ) → has front x ≡ true →
+pub place_in_front : (front back : List ℕ) (x : ℕ) → has front x ≡ true →
     place (front ++ back) x < length front
 place_in_front [] back x h = absurd (false≢true h)
 place_in_front (y ∷ front) back x h = by_test (eqb y x) refl (place_in_front front back x)

@@ -20,11 +20,12 @@ use Rattle.vq_laws.specs.Context.{is_immediate, is_fence, is_timeline}
 use Rattle.vq_laws.specs.Signals.{kind_of}
 use Rattle.vq_laws.specs.Lowering.{batch_commands, commands_in}
 use Rattle.vq_laws.specs.Ranges.{Fits}
-use Rattle.vq_laws.specs.ValidScripts.{IsValid, KeepsLimits, IsValidMark, IsValidFence, IsValidBatch, HasValidBatches, AreWholeBatches, IsOfBatches, HasRisingLines, is_immediate_queue, sizes_of}
+use Rattle.vq_laws.specs.ValidScripts.{IsValid, KeepsLimits, IsValidMark, IsValidFence, IsValidBatch, HasValidBatches, HasValidSteps, AreWholeBatches, IsOfBatches, HasRisingLines, is_immediate_queue, sizes_of}
 use Rattle.vq_laws.specs.SameScript.{SameButLines, IsScript, IsRead, job_without_lines, mark_without_line, command_without_line, buffer_without_line, semaphore_without_line, queue_without_line, turn_without_line}
 use Rattle.vq_laws.proofs.PlanLaws.{get-map, some_of}
 use Rattle.vq_laws.proofs.ScriptFacts.{text_valid, text_batches, text_of_batches, valid_signals}
 use Rattle.vq_laws.proofs.LinesRise.{text_lines_rise}
+use Rattle.vq_laws.proofs.CountedUses.{whole_steps}
 
 -- Lists without lines
 
@@ -347,6 +348,9 @@ module _ (s : Script) (i : IsRead s) where
 
   pub read_of_batches : IsOfBatches s
   read_of_batches = text_of_batches i.text i.form s i.stands
+
+  pub read_steps : HasValidSteps s
+  read_steps = whole_steps s read_of_batches.batches
 
   pub read_valid : IsValid s
   read_valid = text_valid i.text i.form s i.stands

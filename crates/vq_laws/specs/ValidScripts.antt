@@ -6,6 +6,9 @@ use Rattle.vq_laws.specs.declared.script.Script.{Script}
 use Rattle.vq_laws.specs.declared.script.Batch.{Batch}
 use Rattle.vq_laws.specs.declared.script.Job.{Job}
 use Rattle.vq_laws.specs.declared.script.Job.TheVariants.{Host, Batch as BatchJob}
+use Rattle.vq_laws.specs.declared.script.HostLine.{HostLine}
+use Rattle.vq_laws.specs.declared.script.HostStep.{HostStep}
+use Rattle.vq_laws.specs.declared.script.HostStep.TheVariants.{Signal, FenceReset}
 use Rattle.vq_laws.specs.declared.script.CommandLine.{CommandLine}
 use Rattle.vq_laws.specs.declared.script.Mark.{Mark}
 use Rattle.vq_laws.specs.Context.{is_fence, is_immediate}
@@ -56,6 +59,15 @@ pub record IsValidBatch (s : Script) (b : Batch) : Type 0 where
 
 abbrev pub HasValidBatches : Script → Type 0
 HasValidBatches s = (j : ℕ) (b : Batch) → slice_get s.jobs j ≡ Some (BatchJob b) → IsValidBatch s b
+
+-- A host step that signals names a timeline, and one that resets names a fence.
+abbrev pub IsValidStep : Script → HostStep → Type 0
+IsValidStep s (Signal pair) = is_timeline_at s pair.semaphore ≡ true
+IsValidStep s (FenceReset f) = is_fence_at s f ≡ true
+IsValidStep s other = Unit {0}
+
+abbrev pub HasValidSteps : Script → Type 0
+HasValidSteps s = (j : ℕ) (h : HostLine) → slice_get s.jobs j ≡ Some (Host h) → IsValidStep s h.step
 
 -- Signals name semaphores that exist, commands fit their buffers, and the limits are kept.
 pub record IsValid (s : Script) : Type 0 where

@@ -13,12 +13,12 @@ ghost use Rattle.vq_laws.specs.HappensBefore.{HappensBeforeAt, HappensBefore, Ha
 ghost use Rattle.vq_laws.specs.Machine.{are_reached, Step, StartStep, was_since, Run, state_after, ProgressRun, progress_after, without_answers, AreFinished, IsFinished};
 ghost use Rattle.vq_laws.specs.SlowRun.{is_ready, payload_after, slow_order, left_over, final, bytes_after, steps_of_jobs, HasOneResult};
 ghost use Rattle.vq_laws.specs.declared.plan.OrderFault.{OrderFault};
-ghost use Rattle.vq_laws.specs.Checks.{IsLawful, IsEffectiveReset, IsUnreachableAt, IsUnordered, IsRaceAt, NoLines, is_timeline_chain, IsFirstPlanFault};
+ghost use Rattle.vq_laws.specs.Checks.{IsLawful, IsEffectiveReset, IsUnreachableAt, IsUnordered, IsFenceBusyAt, IsRaceAt, NoLine, NoLines, is_timeline_chain, IsFirstPlanFault};
 ghost use Rattle.vq_laws.specs.Outputs.{IsOutput};
 ghost use Rattle.vq_laws.specs.OutputText.{answers_of, buffers_text};
 ghost use Rattle.vq_laws.specs.Signals.{Signaling, all_signals, signals_semaphore, value_at, is_timeline_at};
 ghost use Rattle.vq_laws.specs.Lowering.{effective_resets, plan_of};
-ghost use Rattle.vq_laws.specs.ValidScripts.{IsValid};
+ghost use Rattle.vq_laws.specs.ValidScripts.{IsValid, HasValidBatches, HasValidSteps, HasRisingLines};
 ghost use Rattle.vq_laws.specs.LoweringFaults.{LoweringFault, lowering_fault, IsFirstFaultyUse, HasNoFaultyUse, IsPlan};
 ghost use Rattle.vq_laws.specs.Points.{HistoryFrom, opening_points, steps_of};
 ghost use Rattle.vq_laws.specs.HistoryLaws.{PendingLaw, PointLaw};
@@ -179,6 +179,20 @@ pub fn lawful_plans_have_order()
     ensures counted { (p : Plan) → IsPlan p → left_over p ≡ [] → NoLines (IsUnordered p) →
         (t : ℕ) → is_timeline_chain p t ≡ false → RisesFrom p (initial p t) (chain p t) }
     ensures order { (p : Plan) → IsPlan p → IsLawful p → HasSureOrder p }
+{}
+
+/// The same of each script whose host steps signal timelines and reset fences. The k-th naming of a
+/// fence signals value k. Between two namings stands an effective reset, the signal of the first
+/// naming is sure for it where no fence is busy, and so it is for the batch of the second.
+pub fn fences_rise_with_resets()
+    ensures chains { (s : Script) → IsValid s → HasValidBatches s → HasValidSteps s →
+        HasRisingLines s → lowering_fault s ≡ None → left_over (plan_of s) ≡ [] →
+        NoLines (IsUnordered (plan_of s)) → NoLine (IsFenceBusyAt (plan_of s)) →
+        (t : ℕ) → is_timeline_at s t ≡ false →
+        RisesFrom (plan_of s) (initial (plan_of s) t) (chain (plan_of s) t) }
+    ensures order { (s : Script) → IsValid s → HasValidBatches s → HasValidSteps s →
+        HasRisingLines s → lowering_fault s ≡ None → IsLawful (plan_of s) →
+        HasSureOrder (plan_of s) }
 {}
 
 /// A lawful plan has no first fault.

@@ -53,7 +53,7 @@ pub struct Queue {
 
 /// A timeline semaphore and a value of its payload.
 /// Source: Vulkan 1.3, vkWaitSemaphores and vkSignalSemaphore.
-#[derive(Clone, Copy, Debug, PartialEq, Eq)]
+#[derive(Clone, Copy)]
 pub struct Pair {
     pub semaphore: u32,
     pub value: u64,
@@ -167,7 +167,7 @@ pub enum Job {
 }
 
 /// Who takes a turn. Source: this project's own.
-#[derive(Clone, Copy, Debug, PartialEq, Eq)]
+#[derive(Clone, Copy)]
 pub enum ActorName {
     Host,
     /// The submitting thread of a threaded queue.
@@ -177,7 +177,7 @@ pub enum ActorName {
 }
 
 /// One turn of a schedule. Source: this project's own.
-#[derive(Clone, Copy, Debug, PartialEq, Eq)]
+#[derive(Clone, Copy)]
 pub struct Turn {
     pub line: u32,
     pub actor: ActorName,

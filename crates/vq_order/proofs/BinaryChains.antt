@@ -7,13 +7,13 @@ use Rattle.vq_laws.specs.declared.script.SemaphoreKind.{SemaphoreKind}
 use Rattle.vq_laws.specs.declared.script.SemaphoreKind.TheVariants.{Timeline, Binary, Fence}
 use Rattle.vq_laws.specs.Context.{is_timeline, is_binary}
 use Rattle.vq_laws.specs.Plan.{Plan, chain, chain_of, value, line_of_op}
-use Rattle.vq_laws.specs.Signals.{kind_of}
+use Rattle.vq_laws.specs.Signals.{kind_of, is_timeline_at}
 use Rattle.vq_laws.specs.LoweringFaults.{IsPlan}
 use Rattle.vq_laws.specs.Checks.{IsNextSignal}
 use Rattle.vq_laws.specs.WellFormed.{IsWellFormed}
 use Rattle.vq_laws.specs.Lanes.{HasLinesInOrder}
 use Rattle.vq_laws.proofs.OneResult.{slice_get_past}
-use Rattle.vq_laws.proofs.WrittenScripts.{read_valid, read_batches, read_of_batches, read_lines_rise}
+use Rattle.vq_laws.proofs.WrittenScripts.{read_valid, read_batches, read_steps, read_lines_rise}
 use Rattle.vq_laws.proofs.ChainSignals.{signal_is}
 use Rattle.vq_laws.proofs.CountedChains.{numbers_rise}
 use Rattle.vq_laws.proofs.PlansKept.{plan_well_formed, plan_lines}
@@ -41,9 +41,12 @@ module _ (p : Plan) (i : IsPlan p) (t : ℕ) (binary : kind_of p.script t ≡ So
   numbers : (e f : ℕ) → chain_of p e ≡ Some t → chain_of p f ≡ Some t → ComesBefore p e f → e < f
   numbers =
       subst (λ (q : Plan). (e f : ℕ) → chain_of q e ≡ Some t → chain_of q f ≡ Some t → ComesBefore q e f → e < f) (sym i.lowered)
-      (λ e f c d o. numbers_rise p.script (read_valid p.script i.of_script) (read_batches p.script i.of_script) (read_of_batches p.script i.of_script).batches (read_lines_rise p.script i.of_script) i.faultless t
-      (ap (λ (x : Option SemaphoreKind). option_map_or is_timeline x false) binary) e f
-      (signal_is p.script (read_of_batches p.script i.of_script).batches e t c) (signal_is p.script (read_of_batches p.script i.of_script).batches f t d) o)
+      (λ e f c d o. numbers_rise p.script (read_valid p.script i.of_script) (read_batches p.script i.of_script) (read_steps p.script i.of_script) (read_lines_rise p.script i.of_script) i.faultless t
+      counted e f
+      (signal_is p.script (read_steps p.script i.of_script) e t c counted) (signal_is p.script (read_steps p.script i.of_script) f t d counted) o)
+    where
+      counted : is_timeline_at p.script t ≡ false
+      counted = ap (λ (x : Option SemaphoreKind). option_map_or is_timeline x false) binary
 
   -- .. and so do their lines
   pub lines_rise : (k m : ℕ) → k < m → m < length (chain p t) → line_of_op p (op_in p t k) < line_of_op p (op_in p t m)
