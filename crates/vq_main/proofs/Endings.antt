@@ -1,22 +1,22 @@
 -- What a run leaves in the sink, from the outcome of its input and from what writing it left.
 use Rattle.std.proofs.Common.{◌≡◌, ℕ, ◌<◌, ◌≤◌, true, List, length, Option, Some, None, IfSome, refl, subst, sym, arith}
 use Rattle.std.specs.Prelude.{Ok, Err, OnSome, []}
-use Rattle.vq_laws.specs.declared.statement.Form.TheVariants.{Plain}
-use Rattle.vq_laws.specs.declared.script.Script.{Script}
-use Rattle.vq_laws.specs.declared.plan.PlanFault.{PlanFault}
-use Rattle.vq_laws.specs.declared.plan.PlanFault.TheVariants.{NoSignal, SignaledTwice, FenceUsed, Memory as NoMemoryToLower}
-use Rattle.vq_laws.specs.declared.plan.OrderFault.{OrderFault}
-use Rattle.vq_laws.specs.declared.plan.OrderFault.TheVariants.{Unreachable, Unordered, FenceBusy, NotPending, Race, Memory as NoMemoryToCheck}
-use Rattle.vq_laws.specs.declared.statement.FaultKind.{FaultKind}
-use Rattle.vq_laws.specs.Reading.{StandsFor, IsFirstFault}
-use Rattle.vq_laws.specs.Lowering.{plan_of}
-use Rattle.vq_laws.specs.LoweringFaults.{lowering_fault, IsFirstLoweringFault, IsPlan, Lowers}
-use Rattle.vq_laws.specs.Plan.{Plan}
-use Rattle.vq_laws.specs.Outputs.{IsOutput}
-use Rattle.vq_laws.specs.Checks.{IsLawful, IsFirstPlanFault, Checks}
-use Rattle.vq_laws.proofs.BatchPlans.{batches_output}
-use Rattle.vq_laws.specs.Refusals.{too_long, line_refusal}
-use Rattle.vq_laws.proofs.LawfulPlans.{lawful_without_fault}
+use Rattle.vq_model.specs.declared.statement.Form.TheVariants.{Plain}
+use Rattle.vq_model.specs.declared.script.Script.{Script}
+use Rattle.vq_model.specs.declared.plan.PlanFault.{PlanFault}
+use Rattle.vq_model.specs.declared.plan.PlanFault.TheVariants.{NoSignal, SignaledTwice, FenceUsed, Memory as NoMemoryToLower}
+use Rattle.vq_model.specs.declared.plan.OrderFault.{OrderFault}
+use Rattle.vq_model.specs.declared.plan.OrderFault.TheVariants.{Unreachable, Unordered, FenceBusy, NotPending, Race, Memory as NoMemoryToCheck}
+use Rattle.vq_model.specs.declared.statement.FaultKind.{FaultKind}
+use Rattle.vq_model.specs.Reading.{StandsFor, IsFirstFault}
+use Rattle.vq_model.specs.Lowering.{plan_of}
+use Rattle.vq_model.specs.LoweringFaults.{lowering_fault, IsFirstLoweringFault, IsPlan, Lowers}
+use Rattle.vq_model.specs.Plan.{Plan}
+use Rattle.vq_model.specs.Outputs.{IsOutput}
+use Rattle.vq_model.specs.Checks.{IsLawful, IsFirstPlanFault, Checks}
+use Rattle.vq_plan_laws.proofs.Cited.{batches_output}
+use Rattle.vq_model.specs.Refusals.{too_long, line_refusal}
+use Rattle.vq_order_laws.proofs.Cited.{lawful_without_fault}
 use Rattle.vq_main.specs.declared.task.Task.{Task}
 use Rattle.vq_main.specs.declared.task.Task.TheVariants.{Run, Check}
 use Rattle.vq_main.specs.declared.status.Status.{Status}

@@ -1,21 +1,21 @@
 -- What a run of the program may write, and with which status it ends. This project's own.
 use Rattle.std.specs.Prelude.{ℕ, ◌≡◌, ◌<◌, ◌≤◌, List, [], ◌++◌, length, Option, Some, None, IfSome, OnSome, codes}
-use Rattle.vq_laws.specs.declared.statement.Form.TheVariants.{Plain}
-use Rattle.vq_laws.specs.declared.statement.FaultKind.{FaultKind}
-use Rattle.vq_laws.specs.declared.script.Script.{Script}
-use Rattle.vq_laws.specs.declared.plan.PlanFault.{PlanFault}
-use Rattle.vq_laws.specs.declared.plan.PlanFault.TheVariants.{Memory as NoMemoryToLower}
-use Rattle.vq_laws.specs.declared.plan.OrderFault.{OrderFault}
-use Rattle.vq_laws.specs.declared.plan.OrderFault.TheVariants.{Memory as NoMemoryToCheck}
-use Rattle.vq_laws.specs.Reading.{StandsFor, IsFirstFault}
-use Rattle.vq_laws.specs.Plan.{Plan}
-use Rattle.vq_laws.specs.Lowering.{plan_of}
-use Rattle.vq_laws.specs.LoweringFaults.{lowering_fault, IsFirstLoweringFault}
-use Rattle.vq_laws.specs.Checks.{IsLawful, IsFirstPlanFault}
-use Rattle.vq_laws.specs.SlowRun.{final}
-use Rattle.vq_laws.specs.OutputText.{line_feed, buffers_text}
-use Rattle.vq_laws.specs.Outputs.{IsOutput}
-use Rattle.vq_laws.specs.Refusals.{too_long, bad_words, line_refusal, plan_refusal, order_refusal}
+use Rattle.vq_model.specs.declared.statement.Form.TheVariants.{Plain}
+use Rattle.vq_model.specs.declared.statement.FaultKind.{FaultKind}
+use Rattle.vq_model.specs.declared.script.Script.{Script}
+use Rattle.vq_model.specs.declared.plan.PlanFault.{PlanFault}
+use Rattle.vq_model.specs.declared.plan.PlanFault.TheVariants.{Memory as NoMemoryToLower}
+use Rattle.vq_model.specs.declared.plan.OrderFault.{OrderFault}
+use Rattle.vq_model.specs.declared.plan.OrderFault.TheVariants.{Memory as NoMemoryToCheck}
+use Rattle.vq_model.specs.Reading.{StandsFor, IsFirstFault}
+use Rattle.vq_model.specs.Plan.{Plan}
+use Rattle.vq_model.specs.Lowering.{plan_of}
+use Rattle.vq_model.specs.LoweringFaults.{lowering_fault, IsFirstLoweringFault}
+use Rattle.vq_model.specs.Checks.{IsLawful, IsFirstPlanFault}
+use Rattle.vq_model.specs.SlowRun.{final}
+use Rattle.vq_model.specs.OutputText.{line_feed, buffers_text}
+use Rattle.vq_model.specs.Outputs.{IsOutput}
+use Rattle.vq_model.specs.Refusals.{too_long, bad_words, line_refusal, plan_refusal, order_refusal}
 use Rattle.vq_main.specs.Writes.{SinkMoment, WroteAll, WrotePart, WroteNothing}
 use Rattle.vq_main.specs.declared.task.Task.{Task}
 use Rattle.vq_main.specs.declared.task.Task.TheVariants.{Run, Check}

@@ -1,11 +1,11 @@
 //! What the program writes for an input.
 ghost use Rattle.std.specs.Prelude.{◌≡◌, ◌≤◌, IfOk, Ok, length};
-ghost use Rattle.vq_laws.specs.LoweringFaults.{Lowers};
-ghost use Rattle.vq_laws.specs.Reading.{StandsFor};
-ghost use Rattle.vq_laws.specs.OutputText.{buffers_text};
-ghost use Rattle.vq_laws.specs.Refusals.{at_line, at_lines, line_refusal};
-ghost use Rattle.vq_laws.specs.SlowRun.{final};
-ghost use Rattle.vq_laws.specs.declared.statement.Form.TheVariants.{Plain};
+ghost use Rattle.vq_model.specs.LoweringFaults.{Lowers};
+ghost use Rattle.vq_model.specs.Reading.{StandsFor};
+ghost use Rattle.vq_model.specs.OutputText.{buffers_text};
+ghost use Rattle.vq_model.specs.Refusals.{at_line, at_lines, line_refusal};
+ghost use Rattle.vq_model.specs.SlowRun.{final};
+ghost use Rattle.vq_model.specs.declared.statement.Form.TheVariants.{Plain};
 ghost use Rattle.vq_main.specs.Outcomes.{IsOutcome, RefusesOrder, RefusesPlan, TaskText, input_limit};
 
 use crate::status::Status;

@@ -3,14 +3,14 @@ use Rattle.std.proofs.Common.{◌≡◌, ◌≢◌, ℕ, ◌+◌, ◌≤◌, ◌
 use Rattle.std.specs.List.{list_any}
 use Rattle.std.specs.Option.{option_map_or, option_to_list}
 use Rattle.std.proofs.lemmas.Option.{slice_get-get_or}
-use Rattle.vq_laws.specs.declared.script.Command.{Command}
-use Rattle.vq_laws.specs.declared.script.Command.TheVariants.{Update, Copy}
-use Rattle.vq_laws.specs.HappensBefore.{HappensBeforeCommand}
-use Rattle.vq_laws.specs.LoweringFaults.{IsPlan}
-use Rattle.vq_laws.specs.Plan.{Plan, command_at, commands_of, has}
-use Rattle.vq_laws.specs.Races.{conflicts, IsRace}
-use Rattle.vq_laws.specs.Ranges.{Range, Fits, share, conflict, written_range, read_range}
-use Rattle.vq_laws.specs.WellFormed.{IsWellFormed}
+use Rattle.vq_model.specs.declared.script.Command.{Command}
+use Rattle.vq_model.specs.declared.script.Command.TheVariants.{Update, Copy}
+use Rattle.vq_model.specs.HappensBefore.{HappensBeforeCommand}
+use Rattle.vq_model.specs.LoweringFaults.{IsPlan}
+use Rattle.vq_model.specs.Plan.{Plan, command_at, commands_of, has}
+use Rattle.vq_model.specs.Races.{conflicts, IsRace}
+use Rattle.vq_model.specs.Ranges.{Range, Fits, share, conflict, written_range, read_range}
+use Rattle.vq_model.specs.WellFormed.{IsWellFormed}
 use Rattle.vq_order.specs.Accessed.{span_of, spans_share, accesses_conflict, IsAccess, HasAccesses}
 use Rattle.vq_order.proofs.CommandJobs.{size_small}
 use Rattle.vq_order.specs.declared.accesses.Access.{Access}

@@ -3,20 +3,19 @@ use Rattle.std.proofs.Common.{◌≡◌, ℕ, ◌+◌, ◌<◌, ◌≤◌, true,
 use Rattle.std.specs.List.{slice_get}
 use Rattle.std.specs.Option.{option_map_or}
 use Rattle.std.proofs.lemmas.Bool.{cases_lt, cases_eq, false≢true}
-use Rattle.vq_laws.specs.declared.script.SemaphoreKind.{SemaphoreKind}
-use Rattle.vq_laws.specs.declared.script.SemaphoreKind.TheVariants.{Timeline, Binary, Fence}
-use Rattle.vq_laws.specs.Context.{is_timeline, is_binary}
-use Rattle.vq_laws.specs.Plan.{Plan, chain, chain_of, value, line_of_op}
-use Rattle.vq_laws.specs.Signals.{kind_of, is_timeline_at}
-use Rattle.vq_laws.specs.LoweringFaults.{IsPlan}
-use Rattle.vq_laws.specs.Checks.{IsNextSignal}
-use Rattle.vq_laws.specs.WellFormed.{IsWellFormed}
-use Rattle.vq_laws.specs.Lanes.{HasLinesInOrder}
-use Rattle.vq_laws.proofs.OneResult.{slice_get_past}
-use Rattle.vq_laws.proofs.WrittenScripts.{read_valid, read_batches, read_steps, read_lines_rise}
-use Rattle.vq_laws.proofs.ChainSignals.{signal_is}
-use Rattle.vq_laws.proofs.CountedChains.{numbers_rise}
-use Rattle.vq_laws.proofs.PlansKept.{plan_well_formed, plan_lines}
+use Rattle.vq_model.specs.declared.script.SemaphoreKind.{SemaphoreKind}
+use Rattle.vq_model.specs.declared.script.SemaphoreKind.TheVariants.{Timeline, Binary, Fence}
+use Rattle.vq_model.specs.Context.{is_timeline, is_binary}
+use Rattle.vq_model.specs.Plan.{Plan, chain, chain_of, value, line_of_op}
+use Rattle.vq_model.specs.Signals.{kind_of, is_timeline_at}
+use Rattle.vq_model.specs.LoweringFaults.{IsPlan}
+use Rattle.vq_model.specs.Checks.{IsNextSignal}
+use Rattle.vq_model.specs.WellFormed.{IsWellFormed}
+use Rattle.vq_model.specs.Lanes.{HasLinesInOrder}
+use Rattle.vq_model.proofs.Gets.{slice_get_past}
+use Rattle.vq_reading_laws.proofs.Cited.{read_valid, read_batches, read_steps, read_lines_rise}
+use Rattle.vq_order_laws.proofs.Cited.{signal_is, numbers_rise}
+use Rattle.vq_plan_laws.proofs.Cited.{plan_well_formed, plan_lines}
 use Rattle.vq_order.specs.Counts.{AreFirst}
 use Rattle.vq_order.specs.UnorderedPairs.{op_in, IsNextOrNone}
 use Rattle.vq_order.proofs.SlowFacts.{place, at_place, place_within}

@@ -3,15 +3,15 @@ use Rattle.std.proofs.Common.{◌≡◌, ℕ, zero, suc, ◌+◌, ◌<◌, ◌�
 use Rattle.std.specs.List.{filter_map}
 use Rattle.std.specs.Option.{option_to_list}
 use Rattle.std.proofs.lemmas.Bool.{false≢true, cases_eq}
-use Rattle.vq_laws.specs.Plan.{Plan, has, previous, host_before, idle_after, job_of}
-use Rattle.vq_laws.specs.Edges.{Place, AtEnd, must_finish, awaited_at, edges_at}
-use Rattle.vq_laws.specs.SlowRun.{left_over}
-use Rattle.vq_laws.specs.HappensBefore.{comes_earlier, IsHop, HappensBefore, HappensBeforeAt, one, more}
-use Rattle.vq_laws.specs.Sure.{IsSure, IsSureAt, finished_first, waited_for, passed_on}
-use Rattle.vq_laws.proofs.Lists.{has-append_cases, has-append_left, has-append_right, has_here, has_cases}
-use Rattle.vq_laws.proofs.RunLaws.{mapped}
-use Rattle.vq_laws.proofs.Places.{has_mapped}
-use Rattle.vq_laws.specs.Lanes.{lane_at, KeepsLanes, IsJustBefore}
+use Rattle.vq_model.specs.Plan.{Plan, has, previous, host_before, idle_after, job_of}
+use Rattle.vq_model.specs.Edges.{Place, AtEnd, must_finish, awaited_at, edges_at}
+use Rattle.vq_model.specs.SlowRun.{left_over}
+use Rattle.vq_model.specs.HappensBefore.{comes_earlier, IsHop, HappensBefore, HappensBeforeAt, one, more}
+use Rattle.vq_model.specs.Sure.{IsSure, IsSureAt, finished_first, waited_for, passed_on}
+use Rattle.vq_model.proofs.Lists.{has-append_cases, has-append_left, has-append_right, has_here, has_cases}
+use Rattle.vq_model.proofs.Mapped.{mapped}
+use Rattle.vq_model.proofs.Mapped.{has_mapped}
+use Rattle.vq_model.specs.Lanes.{lane_at, KeepsLanes, IsJustBefore}
 use Rattle.vq_order.specs.Clocks.{Covers, itself, IsClock, IsSureClock, PassesOne, SureByJob, IsSureBy}
 use Rattle.vq_order.proofs.SlowFacts.{must_earlier}
 use Rattle.vq_order.proofs.Covering.{joins, covers_same}

@@ -6,15 +6,16 @@ use Rattle.std.proofs.lemmas.Bool.{cases_lt, false≢true}
 use Rattle.std.proofs.lemmas.Option.{slice_get_past}
 use Rattle.std.proofs.lemmas.List.{length-append, get_or_past}
 use Rattle.std.proofs.lemmas.List.Sums.{get_or-le-sum_by}
-use Rattle.vq_laws.specs.declared.script.Script.{Script}
-use Rattle.vq_laws.specs.declared.script.Job.{Job}
-use Rattle.vq_laws.specs.declared.script.Job.TheVariants.{Host, Batch}
-use Rattle.vq_laws.specs.Plan.{Plan, has, commands_of}
-use Rattle.vq_laws.specs.Lowering.{commands_in, batch_commands, plan_job, plan_of}
-use Rattle.vq_laws.specs.LoweringFaults.{IsPlan}
-use Rattle.vq_laws.specs.WellFormed.{IsWellFormed}
-use Rattle.vq_laws.proofs.PlanLaws.{part_is, range-has, length-batch_commands}
-use Rattle.vq_laws.proofs.WrittenScripts.{read_valid}
+use Rattle.vq_model.specs.declared.script.Script.{Script}
+use Rattle.vq_model.specs.declared.script.Job.{Job}
+use Rattle.vq_model.specs.declared.script.Job.TheVariants.{Host, Batch}
+use Rattle.vq_model.specs.Plan.{Plan, has, commands_of}
+use Rattle.vq_model.specs.Lowering.{commands_in, batch_commands, plan_job, plan_of}
+use Rattle.vq_model.specs.LoweringFaults.{IsPlan}
+use Rattle.vq_model.specs.WellFormed.{IsWellFormed}
+use Rattle.vq_plan_laws.proofs.Cited.{part_is, length-batch_commands}
+use Rattle.vq_model.proofs.Numbers.{range-has}
+use Rattle.vq_reading_laws.proofs.Cited.{read_valid}
 
 -- the commands of jobs, counted from a number on
 abbrev counted : ℕ → List Job → ℕ

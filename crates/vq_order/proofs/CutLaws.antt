@@ -9,8 +9,8 @@ use Rattle.std.proofs.lemmas.Grind.{get_or_default_zero}
 use Rattle.std.proofs.lemmas.List.Kept.{Contains-dedup_nat}
 use Rattle.std.proofs.lemmas.List.Sorted.{Contains-permutation}
 use Rattle.std.proofs.lemmas.Map.Keys.{IsStrictlyIncreasing-dedup, non_decreasing_from_sorted, sorted_from_strictly_increasing}
-use Rattle.vq_laws.specs.Plan.{has}
-use Rattle.vq_laws.proofs.Lists.{has-append_left, has-append_right, has_here, has_there}
+use Rattle.vq_model.specs.Plan.{has}
+use Rattle.vq_model.proofs.Lists.{has-append_left, has-append_right, has_here, has_there}
 use Rattle.vq_order.specs.Accessed.{spans_share}
 use Rattle.vq_order.specs.CellRanges.{start_of, starts_of, AreCuts, IsCellOf}
 use Rattle.vq_order.specs.declared.accesses.Access.{Access}

@@ -4,8 +4,8 @@ use Rattle.std.specs.List.{slice_get}
 use Rattle.std.proofs.lemmas.Bool.{cases_eq, cases_Bool, false≢true}
 use Rattle.std.proofs.lemmas.List.{get_or-set_same, get_or-set_other}
 use Rattle.std.proofs.Math.Seq.{take-suc}
-use Rattle.vq_laws.specs.Plan.{has}
-use Rattle.vq_laws.proofs.Lists.{has-append_cases, has-append_left, has-append_right, has_cases, has_here}
+use Rattle.vq_model.specs.Plan.{has}
+use Rattle.vq_model.proofs.Lists.{has-append_cases, has-append_left, has-append_right, has_cases, has_here}
 
 -- one more of a list
 pub taken_cases : (xs : List ℕ) (i x : ℕ) → i < length xs → has (take (i + 1) xs) x ≡ true → (has (take i xs) x ≡ true) ⊎ (x ≡ get_or xs i 0)

@@ -1,7 +1,7 @@
 -- The least pair of lines of two searches, and of a search number by number.
 use Rattle.std.proofs.Common.{◌≡◌, ℕ, ◌<◌, ◌≤◌, ◌+◌, Option, Some, None, refl, sym, ◌⊎◌, inl, inr, subst, arith}
 use Rattle.std.proofs.lemmas.Bool.{cases_eq}
-use Rattle.vq_laws.specs.Checks.{IsLeastPair}
+use Rattle.vq_model.specs.Checks.{IsLeastPair}
 use Rattle.vq_order.specs.Pairs.{IsLeastPairOrNone, lower_pair}
 use Rattle.vq_order.specs.UnorderedPairs.{lower_of, IsOfFirst}
 use Rattle.vq_order.proofs.PairLaws.{pair_same, pair_more}

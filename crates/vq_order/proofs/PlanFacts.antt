@@ -1,10 +1,10 @@
 -- The order of commands in each plan of a script that was read.
 use Rattle.std.proofs.Common.{◌↔◌, ℕ, IsTrue, Bool}
-use Rattle.vq_laws.specs.HappensBefore.{HappensBefore, HappensBeforeCommand}
-use Rattle.vq_laws.specs.LoweringFaults.{IsPlan}
-use Rattle.vq_laws.specs.Plan.{Plan}
-use Rattle.vq_laws.proofs.Places.{command_order, job_order}
-use Rattle.vq_laws.proofs.UnheldWaits.{plan_holds_no_wait}
+use Rattle.vq_model.specs.HappensBefore.{HappensBefore, HappensBeforeCommand}
+use Rattle.vq_model.specs.LoweringFaults.{IsPlan}
+use Rattle.vq_model.specs.Plan.{Plan}
+use Rattle.vq_order_laws.proofs.Cited.{command_order, job_order}
+use Rattle.vq_plan_laws.proofs.Cited.{plan_holds_no_wait}
 
 -- commands are ordered as their jobs are
 pub by_commands : (p : Plan) → IsPlan p → (i j : ℕ) (b : Bool) → (IsTrue b ↔ HappensBefore p i j) → (d : ℕ) → IsTrue b ↔ HappensBeforeCommand p i j d

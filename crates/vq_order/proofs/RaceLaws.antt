@@ -3,16 +3,16 @@ use Rattle.std.proofs.Common.{◌≡◌, ℕ, ◌+◌, ◌<◌, ◌≤◌, min, 
 use Rattle.std.specs.Option.{option_map_or, option_to_list}
 use Rattle.std.specs.List.{list_any}
 use Rattle.std.proofs.lemmas.Bool.{cases_eq, cases_lt}
-use Rattle.vq_laws.specs.declared.script.Command.{Command}
-use Rattle.vq_laws.specs.Ranges.{Range, share, conflict, written_range, read_range}
-use Rattle.vq_laws.specs.Plan.{Plan, has, commands_of, command_at}
-use Rattle.vq_laws.specs.Edges.{Place, place_of}
-use Rattle.vq_laws.specs.WellFormed.{IsWellFormed}
-use Rattle.vq_laws.specs.Races.{conflicts, IsRace}
-use Rattle.vq_laws.specs.HappensBefore.{HappensBeforeAt, HappensBeforeCommand}
-use Rattle.vq_laws.specs.Checks.{IsRaceAt, IsLeastPair}
-use Rattle.vq_laws.specs.Plan.{line_of_command}
-use Rattle.vq_laws.proofs.Places.{before_end}
+use Rattle.vq_model.specs.declared.script.Command.{Command}
+use Rattle.vq_model.specs.Ranges.{Range, share, conflict, written_range, read_range}
+use Rattle.vq_model.specs.Plan.{Plan, has, commands_of, command_at}
+use Rattle.vq_model.specs.Edges.{Place, place_of}
+use Rattle.vq_model.specs.WellFormed.{IsWellFormed}
+use Rattle.vq_model.specs.Races.{conflicts, IsRace}
+use Rattle.vq_model.specs.HappensBefore.{HappensBeforeAt, HappensBeforeCommand}
+use Rattle.vq_model.specs.Checks.{IsRaceAt, IsLeastPair}
+use Rattle.vq_model.specs.Plan.{line_of_command}
+use Rattle.vq_order_laws.proofs.Cited.{before_end}
 use Rattle.vq_order.proofs.WindowLaws.{before_then}
 
 -- what is before a command is before all that its job is before

@@ -1,14 +1,13 @@
 -- Races among pairs of commands, the lesser number first.
 use Rattle.std.proofs.Common.{◌≡◌, ℕ, ◌<◌, true, length, sym, inl, inr, subst, arith}
 use Rattle.std.proofs.lemmas.Bool.{cases_eq, cases_lt}
-use Rattle.vq_laws.specs.Checks.{IsRaceAt, IsLeastPair, NoLines}
-use Rattle.vq_laws.specs.LoweringFaults.{IsPlan}
-use Rattle.vq_laws.specs.Plan.{Plan, has, commands_of, line_of_command}
-use Rattle.vq_laws.specs.Races.{IsRace}
-use Rattle.vq_laws.specs.WellFormed.{IsWellFormed}
-use Rattle.vq_laws.proofs.PlansKept.{plan_lines}
+use Rattle.vq_model.specs.Checks.{IsRaceAt, IsLeastPair, NoLines}
+use Rattle.vq_model.specs.LoweringFaults.{IsPlan}
+use Rattle.vq_model.specs.Plan.{Plan, has, commands_of, line_of_command}
+use Rattle.vq_model.specs.Races.{IsRace}
+use Rattle.vq_model.specs.WellFormed.{IsWellFormed}
+use Rattle.vq_plan_laws.proofs.Cited.{plan_lines, plan_well_formed}
 use Rattle.vq_order.proofs.CommandJobs.{owned_exists}
-use Rattle.vq_laws.proofs.PlansKept.{plan_well_formed}
 use Rattle.vq_order.proofs.RaceLaws.{race_swap, first_pair_is_least}
 
 pub race_exists : (p : Plan) → IsWellFormed p → (c d : ℕ) → IsRace p c d → (c < length p.commands) × (d < length p.commands)

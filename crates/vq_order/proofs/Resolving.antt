@@ -3,10 +3,10 @@ use Rattle.std.proofs.Common.{◌≡◌, ℕ, ◌<◌, nat_lt, List, [], ◌∷�
 use Rattle.std.specs.List.{slice_get, filter_map}
 use Rattle.std.specs.Option.{option_map_or}
 use Rattle.std.proofs.lemmas.List.Elements.{filter-append, filter_map-append}
-use Rattle.vq_laws.specs.declared.plan.Need.{Need}
-use Rattle.vq_laws.specs.declared.plan.PlanJob.{PlanJob}
-use Rattle.vq_laws.specs.Lanes.{KeepsSemaphores}
-use Rattle.vq_laws.specs.Plan.{Plan, needs, resolver, initial}
+use Rattle.vq_model.specs.declared.plan.Need.{Need}
+use Rattle.vq_model.specs.declared.plan.PlanJob.{PlanJob}
+use Rattle.vq_model.specs.Lanes.{KeepsSemaphores}
+use Rattle.vq_model.specs.Plan.{Plan, needs, resolver, initial}
 use Rattle.vq_order.specs.Clocks.{resolving}
 
 pub resolving_push : (p : Plan) (front : List Need) (n : Need) → resolving p (front ++ n ∷ []) ≡ resolving p front ++ resolving p (n ∷ [])

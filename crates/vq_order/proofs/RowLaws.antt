@@ -6,18 +6,19 @@ use Rattle.std.proofs.Math.Seq.{take-append_seam, take-suc, get_or-append_seam}
 use Rattle.std.proofs.Math.ListN.{get_or-append, set}
 use Rattle.std.proofs.lemmas.List.{get_or-replicate, get_or_past, length-replicate, length-append, take_all, get_or-set_same, get_or-set_other}
 use Rattle.std.proofs.lemmas.Bool.{lt-ltb, ltb-true, cases_lt, cases_eq, false≢true}
-use Rattle.vq_laws.specs.Plan.{Plan, has, job_of, signals_of}
-use Rattle.vq_laws.specs.Edges.{AtEnd, must_finish, awaited_at, edges_to}
-use Rattle.vq_laws.specs.WellFormed.{AreRising, IsWellFormed}
-use Rattle.vq_laws.specs.SlowRun.{left_over, slow_order}
-use Rattle.vq_laws.specs.HappensBefore.{HappensBefore}
-use Rattle.vq_laws.specs.Sure.{IsSure}
-use Rattle.vq_laws.proofs.Lists.{has-append_cases, has_here, has_there, has_cases}
-use Rattle.vq_laws.proofs.RunLaws.{mapped}
-use Rattle.vq_laws.specs.Lanes.{lane_at, KeepsLanes}
+use Rattle.vq_model.specs.Plan.{Plan, has, job_of, signals_of}
+use Rattle.vq_model.specs.Edges.{AtEnd, must_finish, awaited_at, edges_to}
+use Rattle.vq_model.specs.WellFormed.{AreRising, IsWellFormed}
+use Rattle.vq_model.specs.SlowRun.{left_over, slow_order}
+use Rattle.vq_model.specs.HappensBefore.{HappensBefore}
+use Rattle.vq_model.specs.Sure.{IsSure}
+use Rattle.vq_model.proofs.Lists.{has-append_cases, has_here, has_there, has_cases}
+use Rattle.vq_model.proofs.Mapped.{mapped}
+use Rattle.vq_model.specs.Lanes.{lane_at, KeepsLanes}
 use Rattle.vq_order.specs.Clocks.{Covers, itself, PassesOne, in_row, row_of, row_at, position, HasClocks, HasPositions, IsClock, AreRows, IsSureClock, HasSureClocks, SureByJob, IsSureBy, EndsOps, AreClocks}
 use Rattle.vq_order.proofs.SlowFacts.{place_at, place_within, at_place, has_at, slow_exists, slow_short, must_earlier}
-use Rattle.vq_laws.proofs.OneResult.{slow_distinct, slow_has, slice_get_past}
+use Rattle.vq_order_laws.proofs.Cited.{slow_distinct, slow_has}
+use Rattle.vq_model.proofs.Gets.{slice_get_past}
 use Rattle.std.specs.Option.{option_map}
 use Rattle.vq_order.proofs.Covering.{covers_same}
 use Rattle.vq_order.proofs.ClockLaws.{clock_step, clock_skip, sure_job_step, sure_op_step, sure_op_skip}

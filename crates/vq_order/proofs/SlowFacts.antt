@@ -4,13 +4,14 @@ use Rattle.std.specs.List.{list_all, range_with_len, position_or_len}
 use Rattle.std.specs.Option.{option_map_or}
 use Rattle.std.proofs.lemmas.Bool.{and_parts, false≢true, not-true, eqb-true, cond-true, cond-false, lt-ltb, cases_lt, ne_eqb, eq-eqb, or_parts}
 use Rattle.std.proofs.lemmas.List.{length-append}
-use Rattle.vq_laws.specs.Plan.{Plan, has}
-use Rattle.vq_laws.specs.Edges.{AtEnd, must_finish}
-use Rattle.vq_laws.specs.Machine.{can_start, are_reached}
-use Rattle.vq_laws.specs.SlowRun.{is_ready, payload_after, lowest_ready, slow_from, slow_order, left_over}
-use Rattle.vq_laws.specs.HappensBefore.{comes_earlier}
-use Rattle.vq_laws.proofs.Lists.{AreDistinct, has-append_cases, has_here, has_there, has_cases, list_all_has}
-use Rattle.vq_laws.proofs.OneResult.{find_passes, slow_has}
+use Rattle.vq_model.specs.Plan.{Plan, has}
+use Rattle.vq_model.specs.Edges.{AtEnd, must_finish}
+use Rattle.vq_model.specs.Machine.{can_start, are_reached}
+use Rattle.vq_model.specs.SlowRun.{is_ready, payload_after, lowest_ready, slow_from, slow_order, left_over}
+use Rattle.vq_model.specs.HappensBefore.{comes_earlier}
+use Rattle.vq_model.proofs.Lists.{AreDistinct, has-append_cases, has_here, has_there, has_cases, list_all_has}
+use Rattle.vq_model.proofs.Searches.{find_passes}
+use Rattle.vq_order_laws.proofs.Cited.{slow_has}
 
 -- where a number stands in a list
 abbrev pub place : List ℕ → ℕ → ℕ

@@ -1,9 +1,9 @@
 -- What is kept of a cell, with one more read or write.
 use Rattle.std.proofs.Common.{◌≡◌, ℕ, ◌<◌, ◌+◌, Bool, true, false, List, [], ◌∷◌, ◌++◌, length, take, get_or, Option, Some, sym, ◌∙◌, ◌⊎◌, inl, inr, subst}
 use Rattle.std.proofs.lemmas.Bool.{false≢true}
-use Rattle.vq_laws.proofs.Lists.{has-append_cases, has-append_left, has-append_right, has_here, has_cases}
-use Rattle.vq_laws.specs.Edges.{place_of}
-use Rattle.vq_laws.specs.Plan.{Plan, has}
+use Rattle.vq_model.proofs.Lists.{has-append_cases, has-append_left, has-append_right, has_here, has_cases}
+use Rattle.vq_model.specs.Edges.{place_of}
+use Rattle.vq_model.specs.Plan.{Plan, has}
 use Rattle.vq_order.specs.declared.cells.Cell.{Cell}
 use Rattle.vq_order.specs.Swept.{AtOrBefore, Touch, Touched, ByWriter, ByReader, KeepsCell, HasJobs, IsAfterSome, IsAfterAll, KeepsLater}
 use Rattle.vq_order.proofs.Marking.{taken_cases}

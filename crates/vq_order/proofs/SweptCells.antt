@@ -3,7 +3,7 @@ use Rattle.std.proofs.Common.{◌≡◌, ◌≢◌, ℕ, zero, suc, Bool, true, 
 use Rattle.std.specs.List.{slice_get}
 use Rattle.std.proofs.lemmas.Bool.{false≢true}
 use Rattle.std.proofs.lemmas.List.{length-set}
-use Rattle.vq_laws.specs.Plan.{Plan, has}
+use Rattle.vq_model.specs.Plan.{Plan, has}
 use Rattle.vq_order.specs.declared.cells.Cell.{Cell}
 use Rattle.vq_order.specs.Swept.{Touch, Touched, KeepsCell, HasJobs, Touches, KeepsAll, HaveJobs, Extended, Sweeps, AreUntouched}
 

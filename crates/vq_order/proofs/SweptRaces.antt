@@ -3,12 +3,12 @@ use Rattle.std.proofs.Common.{◌≡◌, ℕ, ◌<◌, ◌+◌, Bool, true, fals
 use Rattle.std.specs.List.{slice_get, Contains}
 use Rattle.std.specs.Option.{option_map_or}
 use Rattle.std.proofs.lemmas.Bool.{false≢true, or_cases}
-use Rattle.vq_laws.specs.Checks.{IsRaceAt, NoLines}
-use Rattle.vq_laws.specs.LoweringFaults.{IsPlan}
-use Rattle.vq_laws.specs.Plan.{Plan, has, commands_of}
-use Rattle.vq_laws.specs.SlowRun.{left_over, slow_order}
-use Rattle.vq_laws.proofs.OneResult.{slow_has}
-use Rattle.vq_laws.proofs.PlanLaws.{get_some}
+use Rattle.vq_model.specs.Checks.{IsRaceAt, NoLines}
+use Rattle.vq_model.specs.LoweringFaults.{IsPlan}
+use Rattle.vq_model.specs.Plan.{Plan, has, commands_of}
+use Rattle.vq_model.specs.SlowRun.{left_over, slow_order}
+use Rattle.vq_order_laws.proofs.Cited.{slow_has}
+use Rattle.vq_model.proofs.Gets.{get_some}
 use Rattle.vq_order.specs.Accessed.{spans_share, accesses_conflict, HasAccesses}
 use Rattle.vq_order.specs.CellRanges.{start_of, AreCuts, IsCellOf}
 use Rattle.vq_order.specs.Swept.{AreInOrder, Touched, Extended, TouchesBy, TouchesAmong, TouchesIn}
@@ -18,7 +18,7 @@ use Rattle.vq_order.specs.declared.spans.Span.{Span}
 use Rattle.vq_order.proofs.AccessLaws.{race_by, RacesBy}
 use Rattle.vq_order.proofs.CutLaws.{shared_cell}
 use Rattle.vq_order.proofs.Marking.{taken_cases}
-use Rattle.vq_laws.proofs.PlansKept.{plan_well_formed}
+use Rattle.vq_plan_laws.proofs.Cited.{plan_well_formed}
 use Rattle.vq_order.proofs.RacingPairs.{no_pair_races}
 
 -- One more command, and one more job

@@ -3,13 +3,14 @@ use Rattle.std.proofs.Common.{◌≡◌, ℕ, zero, suc, ◌+◌, ◌<◌, true,
 use Rattle.std.specs.List.{slice_get}
 use Rattle.std.specs.Option.{option_map_or}
 use Rattle.std.proofs.lemmas.Bool.{cases_lt}
-use Rattle.vq_laws.specs.declared.plan.Need.{Need}
-use Rattle.vq_laws.specs.Plan.{Plan, chain, chain_of, value, line_of_op, needs}
-use Rattle.vq_laws.specs.WellFormed.{IsWellFormed, AreInOrder}
-use Rattle.vq_laws.specs.Lanes.{KeepsSemaphores, HasLinesInOrder}
-use Rattle.vq_laws.specs.Checks.{IsUnordered, AreNeighbours, is_timeline_chain, too_low, equal, unsure, unsure_back, unawaited}
-use Rattle.vq_laws.proofs.OneResult.{slice_get_past}
-use Rattle.vq_laws.proofs.PlanLaws.{get_within, some_of}
+use Rattle.vq_model.specs.declared.plan.Need.{Need}
+use Rattle.vq_model.specs.Plan.{Plan, chain, chain_of, value, line_of_op, needs}
+use Rattle.vq_model.specs.WellFormed.{IsWellFormed, AreInOrder}
+use Rattle.vq_model.specs.Lanes.{KeepsSemaphores, HasLinesInOrder}
+use Rattle.vq_model.specs.Checks.{IsUnordered, AreNeighbours, is_timeline_chain, too_low, equal, unsure, unsure_back, unawaited}
+use Rattle.vq_model.proofs.Gets.{slice_get_past}
+use Rattle.vq_model.proofs.Gets.{get_within}
+use Rattle.vq_model.proofs.Options.{some_of}
 use Rattle.vq_order.specs.UnorderedPairs.{IsOfFirst, IsTooLow, IsUnsureFor, AreUnordered, op_in, IsUnorderedAt, IsUnorderedIn, IsOvertakenIn}
 use Rattle.vq_order.proofs.PairSearches.{Either}
 use Rattle.vq_order.proofs.SlowFacts.{place, has_at, at_place, place_within}

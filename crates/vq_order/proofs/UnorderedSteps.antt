@@ -4,15 +4,15 @@ use Rattle.std.specs.List.{slice_get}
 use Rattle.std.specs.Option.{option_map_or, option_copied, is_some, IfSome}
 use Rattle.std.proofs.lemmas.Bool.{ltb-true, ltb-false}
 use Rattle.std.proofs.lemmas.Option.{slice_get_past}
-use Rattle.vq_laws.specs.declared.plan.Need.{Need}
-use Rattle.vq_laws.specs.declared.plan.PlanJob.{PlanJob}
-use Rattle.vq_laws.specs.declared.script.SemaphoreKind.TheVariants.{Binary}
-use Rattle.vq_laws.specs.Plan.{Plan, chain, needs}
-use Rattle.vq_laws.specs.Signals.{kind_of}
-use Rattle.vq_laws.specs.LoweringFaults.{IsPlan}
-use Rattle.vq_laws.specs.Lanes.{HasLinesInOrder}
-use Rattle.vq_laws.specs.Checks.{IsUnordered, IsNextSignal, is_timeline_chain}
-use Rattle.vq_laws.proofs.PlansKept.{plan_well_formed, plan_semaphores, plan_lines}
+use Rattle.vq_model.specs.declared.plan.Need.{Need}
+use Rattle.vq_model.specs.declared.plan.PlanJob.{PlanJob}
+use Rattle.vq_model.specs.declared.script.SemaphoreKind.TheVariants.{Binary}
+use Rattle.vq_model.specs.Plan.{Plan, chain, needs}
+use Rattle.vq_model.specs.Signals.{kind_of}
+use Rattle.vq_model.specs.LoweringFaults.{IsPlan}
+use Rattle.vq_model.specs.Lanes.{HasLinesInOrder}
+use Rattle.vq_model.specs.Checks.{IsUnordered, IsNextSignal, is_timeline_chain}
+use Rattle.vq_plan_laws.proofs.Cited.{plan_well_formed, plan_semaphores, plan_lines}
 use Rattle.vq_order.specs.Pairs.{IsLeastPairOrNone}
 use Rattle.vq_order.specs.UnorderedPairs.{lower_of, IsOfFirst, IsUnorderedAt, IsUnorderedIn, IsOvertakenBy, IsOvertaken, IsOvertakenAt, IsOvertakenIn}
 use Rattle.vq_order.proofs.PairLaws.{pair_same}

@@ -3,17 +3,19 @@ use Rattle.std.proofs.Common.{◌≡◌, ℕ, zero, suc, ◌+◌, ◌<◌, min, 
 use Rattle.std.specs.List.{list_any, slice_get, range_with_len}
 use Rattle.std.specs.Option.{option_map_or}
 use Rattle.std.proofs.lemmas.Bool.{cases_lt, cond-true, false≢true}
-use Rattle.vq_laws.specs.declared.plan.Need.{Need}
-use Rattle.vq_laws.specs.declared.plan.PlanJob.{PlanJob}
-use Rattle.vq_laws.specs.Checks.{IsLeast, NoLine, is_unreached, IsUnreachableAt}
-use Rattle.vq_laws.specs.LoweringFaults.{IsPlan}
-use Rattle.vq_laws.specs.Machine.{is_reached}
-use Rattle.vq_laws.specs.Plan.{Plan, has, needs, waits_for_any}
-use Rattle.vq_laws.specs.SlowRun.{left_over, payload_after, slow_order}
-use Rattle.vq_laws.specs.WellFormed.{IsWellFormed}
-use Rattle.vq_laws.proofs.Lists.{has-append_cases, has-append_left, has-append_right, has_here, has_cases}
-use Rattle.vq_laws.proofs.PlanLaws.{filter-has_cases, get_within, has-range_cases}
-use Rattle.vq_laws.proofs.SlowRun.{left_unreachable}
+use Rattle.vq_model.specs.declared.plan.Need.{Need}
+use Rattle.vq_model.specs.declared.plan.PlanJob.{PlanJob}
+use Rattle.vq_model.specs.Checks.{IsLeast, NoLine, is_unreached, IsUnreachableAt}
+use Rattle.vq_model.specs.LoweringFaults.{IsPlan}
+use Rattle.vq_model.specs.Machine.{is_reached}
+use Rattle.vq_model.specs.Plan.{Plan, has, needs, waits_for_any}
+use Rattle.vq_model.specs.SlowRun.{left_over, payload_after, slow_order}
+use Rattle.vq_model.specs.WellFormed.{IsWellFormed}
+use Rattle.vq_model.proofs.Lists.{has-append_cases, has-append_left, has-append_right, has_here, has_cases}
+use Rattle.vq_model.proofs.Filters.{filter-has_cases}
+use Rattle.vq_model.proofs.Gets.{get_within}
+use Rattle.vq_model.proofs.Numbers.{has-range_cases}
+use Rattle.vq_order_laws.proofs.Cited.{left_unreachable}
 use Rattle.vq_spec.specs.SlowProgress.{lower, payload_in, ArePayloads}
 use Rattle.vq_spec.proofs.SlowReady.{same_any, own_needs, chains_exist}
 use Rattle.vq_order.specs.Reach.{IsLeastOrNone, IsUnreachedOf, IsUnreachedIn}

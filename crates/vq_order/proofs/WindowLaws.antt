@@ -4,15 +4,15 @@ use Rattle.std.proofs.Common.{◌≡◌, ◌≢◌, ℕ, zero, suc, ◌+◌, ◌
 use Rattle.std.specs.List.{filter_map, slice_get}
 use Rattle.std.specs.Option.{option_map}
 use Rattle.std.proofs.lemmas.Bool.{cases_lt, cases_eq, false≢true, cond-true, cond-false, eq-eqb, ne_eqb}
-use Rattle.vq_laws.specs.declared.plan.Op.{Op}
-use Rattle.vq_laws.specs.Plan.{Plan, has, chain, chain_of, job_of, initial, value}
-use Rattle.vq_laws.specs.Edges.{Place, AtEnd, must_finish, awaited_at}
-use Rattle.vq_laws.specs.WellFormed.{IsWellFormed}
-use Rattle.vq_laws.specs.HappensBefore.{comes_earlier, IsHop, HappensBefore, HappensBeforeAt, one, more}
-use Rattle.vq_laws.specs.Sure.{IsSure, IsSureAt, finished_first, waited_for, passed_on, IsSureForJobOf, KeepsRising, RisesFrom, KeepsChains}
-use Rattle.vq_laws.specs.Windows.{IsSurelyReached, at_first, sure, IsPossiblyReached, possible, IsPossible, IsGreatest}
-use Rattle.vq_laws.proofs.Lists.{has-append_left, has-append_right, has_here, has_there}
-use Rattle.vq_laws.proofs.Places.{has_mapped}
+use Rattle.vq_model.specs.declared.plan.Op.{Op}
+use Rattle.vq_model.specs.Plan.{Plan, has, chain, chain_of, job_of, initial, value}
+use Rattle.vq_model.specs.Edges.{Place, AtEnd, must_finish, awaited_at}
+use Rattle.vq_model.specs.WellFormed.{IsWellFormed}
+use Rattle.vq_model.specs.HappensBefore.{comes_earlier, IsHop, HappensBefore, HappensBeforeAt, one, more}
+use Rattle.vq_model.specs.Sure.{IsSure, IsSureAt, finished_first, waited_for, passed_on, IsSureForJobOf, KeepsRising, RisesFrom, KeepsChains}
+use Rattle.vq_model.specs.Windows.{IsSurelyReached, at_first, sure, IsPossiblyReached, possible, IsPossible, IsGreatest}
+use Rattle.vq_model.proofs.Lists.{has-append_left, has-append_right, has_here, has_there}
+use Rattle.vq_model.proofs.Mapped.{has_mapped}
 use Rattle.vq_order.specs.Counts.{AreFirst, value_after}
 use Rattle.vq_order.proofs.SlowFacts.{place, has_at, at_place, place_within}
 use Rattle.vq_order.proofs.RowLaws.{op_exists}

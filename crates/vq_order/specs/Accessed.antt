@@ -2,11 +2,11 @@
 use Rattle.std.specs.Prelude.{ℕ, ◌≡◌, ◌<◌, ◌+◌, ◌==◌, ◌&&◌, ◌||◌, min, max, nat_lt, Bool, true, false, List, length, Option, Some, None, option_map, ◌⊎◌, ◌↔◌, IsTrue}
 use Rattle.std.specs.List.{slice_get, slice_index_or}
 use Rattle.std.specs.Option.{option_map_or}
-use Rattle.vq_laws.specs.declared.script.Command.{Command}
-use Rattle.vq_laws.specs.Plan.{Plan, has, commands_of, command_at}
-use Rattle.vq_laws.specs.HappensBefore.{HappensBeforeCommand}
-use Rattle.vq_laws.specs.Races.{IsRace}
-use Rattle.vq_laws.specs.Ranges.{Range, written_range, read_range}
+use Rattle.vq_model.specs.declared.script.Command.{Command}
+use Rattle.vq_model.specs.Plan.{Plan, has, commands_of, command_at}
+use Rattle.vq_model.specs.HappensBefore.{HappensBeforeCommand}
+use Rattle.vq_model.specs.Races.{IsRace}
+use Rattle.vq_model.specs.Ranges.{Range, written_range, read_range}
 use Rattle.vq_order.specs.declared.spans.Span.{Span}
 use Rattle.vq_order.specs.declared.accesses.Access.{Access}
 

@@ -3,16 +3,16 @@
 -- Vulkan 1.3, "Implicit Synchronization Guarantees" (submission order).
 use Rattle.std.specs.Prelude.{ℕ, ◌++◌, ◌∷◌, ◌≡◌, ◌<◌, ◌≤◌, ◌+◌, ◌==◌, true, List, [], length, Option, Some, ◌⊎◌, filter, nat_lt}
 use Rattle.std.specs.List.{slice_index_or, position_or_len, filter_map}
-use Rattle.vq_laws.specs.declared.plan.Need.{Need}
-use Rattle.vq_laws.specs.Plan.{Plan, has, job_of, resolver, initial}
-use Rattle.vq_laws.specs.Edges.{Place, AtEnd}
-use Rattle.vq_laws.specs.WellFormed.{IsWellFormed}
-use Rattle.vq_laws.specs.HappensBefore.{HappensBefore, HappensBeforeAt, comes_earlier}
-use Rattle.vq_laws.specs.Sure.{IsSure, IsSureAt}
-use Rattle.vq_laws.specs.SlowRun.{slow_order, left_over}
-use Rattle.vq_laws.specs.Races.{HasSureOrder}
-use Rattle.vq_laws.specs.Checks.{IsLawful}
-use Rattle.vq_laws.specs.Lanes.{lane_at, KeepsLanes}
+use Rattle.vq_model.specs.declared.plan.Need.{Need}
+use Rattle.vq_model.specs.Plan.{Plan, has, job_of, resolver, initial}
+use Rattle.vq_model.specs.Edges.{Place, AtEnd}
+use Rattle.vq_model.specs.WellFormed.{IsWellFormed}
+use Rattle.vq_model.specs.HappensBefore.{HappensBefore, HappensBeforeAt, comes_earlier}
+use Rattle.vq_model.specs.Sure.{IsSure, IsSureAt}
+use Rattle.vq_model.specs.SlowRun.{slow_order, left_over}
+use Rattle.vq_model.specs.Races.{HasSureOrder}
+use Rattle.vq_model.specs.Checks.{IsLawful}
+use Rattle.vq_model.specs.Lanes.{lane_at, KeepsLanes}
 
 -- A row says of each thing of a job whether it is among some: exactly where its number is below
 -- that of the job's lane.

@@ -1,6 +1,6 @@
 -- The first operations of a chain, those of which something holds, and the value after them.
 use Rattle.std.specs.Prelude.{ℕ, ◌<◌, ◌≤◌, ◌-◌, ◌==◌, if◌then◌else◌, List, length, get_or}
-use Rattle.vq_laws.specs.Plan.{Plan, chain, initial, value}
+use Rattle.vq_model.specs.Plan.{Plan, chain, initial, value}
 
 -- something holds of so many numbers of a list, the first ones, and of no others
 pub record AreFirst (S : ℕ → Type 0) (xs : List ℕ) (n : ℕ) : Type 0 where

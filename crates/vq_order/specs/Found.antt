@@ -1,10 +1,10 @@
 -- What a search for the first fault of a plan gives.
 use Rattle.std.specs.Prelude.{Result, Ok, Err}
-use Rattle.vq_laws.specs.declared.plan.OrderFault.{OrderFault}
-use Rattle.vq_laws.specs.declared.plan.OrderFault.TheVariants.{Memory}
-use Rattle.vq_laws.specs.Plan.{Plan}
-use Rattle.vq_laws.specs.Checks.{IsLawful, IsFirstPlanFault}
-use Rattle.vq_laws.specs.LoweringFaults.{IsPlan}
+use Rattle.vq_model.specs.declared.plan.OrderFault.{OrderFault}
+use Rattle.vq_model.specs.declared.plan.OrderFault.TheVariants.{Memory}
+use Rattle.vq_model.specs.Plan.{Plan}
+use Rattle.vq_model.specs.Checks.{IsLawful, IsFirstPlanFault}
+use Rattle.vq_model.specs.LoweringFaults.{IsPlan}
 use Rattle.vq_order.specs.declared.clock_rows.Clocks.{Clocks}
 use Rattle.vq_order.specs.Kept.{AreClocksOf}
 

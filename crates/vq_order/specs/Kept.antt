@@ -1,5 +1,5 @@
 -- What is known of the clocks that are kept beside a plan.
-use Rattle.vq_laws.specs.Plan.{Plan}
+use Rattle.vq_model.specs.Plan.{Plan}
 use Rattle.vq_order.specs.Clocks.{AreClocks, KeepsClocks}
 use Rattle.vq_order.specs.declared.clock_rows.Clocks.{Clocks}
 

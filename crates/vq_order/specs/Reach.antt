@@ -2,11 +2,11 @@
 -- Vulkan 1.3, "Semaphore Waiting". The slow run is this project's own.
 use Rattle.std.specs.Prelude.{ℕ, ◌≡◌, ◌<◌, true, List, length, Option, Some, None}
 use Rattle.std.specs.List.{slice_get}
-use Rattle.vq_laws.specs.declared.plan.Need.{Need}
-use Rattle.vq_laws.specs.Checks.{IsLeast, NoLine, is_unreached}
-use Rattle.vq_laws.specs.LoweringFaults.{IsPlan}
-use Rattle.vq_laws.specs.Plan.{Plan, has, needs}
-use Rattle.vq_laws.specs.SlowRun.{slow_order, left_over}
+use Rattle.vq_model.specs.declared.plan.Need.{Need}
+use Rattle.vq_model.specs.Checks.{IsLeast, NoLine, is_unreached}
+use Rattle.vq_model.specs.LoweringFaults.{IsPlan}
+use Rattle.vq_model.specs.Plan.{Plan, has, needs}
+use Rattle.vq_model.specs.SlowRun.{slow_order, left_over}
 use Rattle.vq_spec.specs.declared.order.SlowOrder.{SlowOrder}
 use Rattle.vq_spec.specs.SlowProgress.{ArePayloads}
 

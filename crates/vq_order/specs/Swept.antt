@@ -2,8 +2,8 @@
 -- and jobs that have read it since.
 use Rattle.std.specs.Prelude.{ℕ, ◌≡◌, ◌<◌, ◌≤◌, ◌⊎◌, Bool, true, false, List, [], ◌∷◌, length, Option, Some, None}
 use Rattle.std.specs.List.{slice_get}
-use Rattle.vq_laws.specs.HappensBefore.{HappensBeforeCommand}
-use Rattle.vq_laws.specs.Plan.{Plan, has, commands_of}
+use Rattle.vq_model.specs.HappensBefore.{HappensBeforeCommand}
+use Rattle.vq_model.specs.Plan.{Plan, has, commands_of}
 use Rattle.vq_order.specs.CellRanges.{IsCellOf}
 use Rattle.vq_order.specs.declared.accesses.Access.{Access}
 use Rattle.vq_order.specs.declared.cells.Cell.{Cell}

@@ -2,13 +2,13 @@
 -- Vulkan 1.3, "Semaphore Signaling", "Semaphore Waiting". The lines that are named are this project's own.
 use Rattle.std.specs.Prelude.{ℕ, ◌≡◌, ◌≢◌, ◌<◌, ◌≤◌, ◌+◌, ◌⊎◌, true, length, min, max, Option, Some, None}
 use Rattle.std.specs.List.{slice_get, slice_index_or}
-use Rattle.vq_laws.specs.declared.plan.Need.{Need}
-use Rattle.vq_laws.specs.declared.script.SemaphoreKind.TheVariants.{Binary}
-use Rattle.vq_laws.specs.Plan.{Plan, chain, initial, value, job_of, line_of_op, needs}
-use Rattle.vq_laws.specs.Signals.{kind_of}
-use Rattle.vq_laws.specs.Sure.{IsSure}
-use Rattle.vq_laws.specs.HappensBefore.{HappensBefore}
-use Rattle.vq_laws.specs.Checks.{IsNextSignal, is_timeline_chain}
+use Rattle.vq_model.specs.declared.plan.Need.{Need}
+use Rattle.vq_model.specs.declared.script.SemaphoreKind.TheVariants.{Binary}
+use Rattle.vq_model.specs.Plan.{Plan, chain, initial, value, job_of, line_of_op, needs}
+use Rattle.vq_model.specs.Signals.{kind_of}
+use Rattle.vq_model.specs.Sure.{IsSure}
+use Rattle.vq_model.specs.HappensBefore.{HappensBefore}
+use Rattle.vq_model.specs.Checks.{IsNextSignal, is_timeline_chain}
 use Rattle.vq_order.specs.Pairs.{lower_pair}
 
 -- the lesser of two pairs that may be there

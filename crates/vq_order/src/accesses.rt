@@ -1,15 +1,15 @@
 //! The bytes that commands read and write.
 ghost use Rattle.std.specs.Prelude.{◌≡◌, ◌<◌, true, length, IfOk, option_map};
 ghost use Rattle.std.specs.List.{slice_index_or};
-ghost use Rattle.vq_laws.specs.LoweringFaults.{IsPlan};
-ghost use Rattle.vq_laws.specs.Plan.{commands_of, has};
-ghost use Rattle.vq_laws.specs.Ranges.{Fits, fill_size, read_range, written_range};
+ghost use Rattle.vq_model.specs.LoweringFaults.{IsPlan};
+ghost use Rattle.vq_model.specs.Plan.{commands_of, has};
+ghost use Rattle.vq_model.specs.Ranges.{Fits, fill_size, read_range, written_range};
 ghost use Rattle.vq_order.specs.Accessed.{accesses_conflict, span_of, HasAccesses, IsAccess};
 
 use crate::owners::owners;
 use crate::spans::{Span, share, share_some};
 use std::alloc::{AllocError, Global};
-use vq_laws::script::{Command, FillSize};
+use vq_model::script::{Command, FillSize};
 use vq_spec::plan::Plan;
 
 /// What a command of a job writes, and what it reads.

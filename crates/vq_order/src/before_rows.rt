@@ -1,9 +1,9 @@
 //! The rows of jobs that happen before a job.
 ghost use Rattle.std.specs.Prelude.{◌++◌, ◌∷◌, List, ◌≡◌, ◌<◌, ◌≤◌, ◌+◌, [], ℕ, length, IfOk};
 ghost use Rattle.std.specs.List.{slice_index_or};
-ghost use Rattle.vq_laws.specs.Edges.{AtEnd};
-ghost use Rattle.vq_laws.specs.Lanes.{lane_at, KeepsLanes};
-ghost use Rattle.vq_laws.specs.SlowRun.{slow_order, left_over};
+ghost use Rattle.vq_model.specs.Edges.{AtEnd};
+ghost use Rattle.vq_model.specs.Lanes.{lane_at, KeepsLanes};
+ghost use Rattle.vq_model.specs.SlowRun.{slow_order, left_over};
 ghost use Rattle.vq_order.specs.Clocks.{AddsEdge, Covers, itself, PassesOne, IsClock, in_row, position, AreRows, HasClocks, HasPositions};
 
 use crate::lanes::lane_at;

@@ -1,6 +1,6 @@
 //! Cells: bytes that each command covers whole or not at all.
 ghost use Rattle.std.specs.Prelude.{◌≡◌, ◌<◌, ◌∷◌, ◌↔◌, ℕ, List, true, false, IsTrue, length, Some, IfOk};
-ghost use Rattle.vq_laws.specs.Plan.{has};
+ghost use Rattle.vq_model.specs.Plan.{has};
 ghost use Rattle.vq_order.specs.Clocks.{AreClocks};
 ghost use Rattle.vq_order.specs.Swept.{AtOrBefore, HasJobs, Touches, IsAfterSome, IsAfterAll, KeepsLater};
 

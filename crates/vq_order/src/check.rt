@@ -1,5 +1,5 @@
 //! Checking a plan.
-ghost use Rattle.vq_laws.specs.Checks.{Checks};
+ghost use Rattle.vq_model.specs.Checks.{Checks};
 ghost use Rattle.vq_order.specs.Found.{FindsFault};
 
 use crate::clock_rows::Clocks;
@@ -8,7 +8,7 @@ use crate::races::first_race;
 use crate::unordered::first_unordered;
 use crate::unreachable::least_unreached;
 use std::alloc::Global;
-use vq_laws::plan::OrderFault;
+use vq_model::plan::OrderFault;
 use vq_spec::{Plan, slow_order};
 
 /// The clocks of a lawful plan, or its first fault. No fence is reset, and no batch of an immediate

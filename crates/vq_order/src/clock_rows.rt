@@ -1,13 +1,13 @@
 //! The clocks of a plan's jobs.
 ghost use Rattle.std.specs.Prelude.{◌↔◌, IsTrue, ◌∷◌, List, ◌≡◌, ◌<◌, ◌≤◌, [], ℕ, true, length, Some, IfOk};
 ghost use Rattle.std.specs.List.{slice_get, slice_index_or};
-ghost use Rattle.vq_laws.specs.Edges.{Place, edges_at};
-ghost use Rattle.vq_laws.specs.Lanes.{lane_at, KeepsLanes, KeepsSemaphores};
-ghost use Rattle.vq_laws.specs.Plan.{job_of, has};
-ghost use Rattle.vq_laws.specs.WellFormed.{IsWellFormed};
-ghost use Rattle.vq_laws.specs.SlowRun.{slow_order, left_over};
-ghost use Rattle.vq_laws.specs.HappensBefore.{HappensBefore, HappensBeforeAt, HappensBeforeCommand};
-ghost use Rattle.vq_laws.specs.Sure.{IsSure};
+ghost use Rattle.vq_model.specs.Edges.{Place, edges_at};
+ghost use Rattle.vq_model.specs.Lanes.{lane_at, KeepsLanes, KeepsSemaphores};
+ghost use Rattle.vq_model.specs.Plan.{job_of, has};
+ghost use Rattle.vq_model.specs.WellFormed.{IsWellFormed};
+ghost use Rattle.vq_model.specs.SlowRun.{slow_order, left_over};
+ghost use Rattle.vq_model.specs.HappensBefore.{HappensBefore, HappensBeforeAt, HappensBeforeCommand};
+ghost use Rattle.vq_model.specs.Sure.{IsSure};
 ghost use Rattle.vq_order.specs.Clocks.{PassesOne};
 ghost use Rattle.vq_order.specs.Kept.{AreClocksOf};
 

@@ -1,9 +1,9 @@
 //! The lanes of jobs, by number.
 ghost use Rattle.std.specs.Prelude.{◌≡◌, ◌<◌, ◌+◌, length, Some};
 ghost use Rattle.std.specs.List.{slice_get};
-ghost use Rattle.vq_laws.specs.Lanes.{lane_at};
+ghost use Rattle.vq_model.specs.Lanes.{lane_at};
 
-use vq_laws::plan::Lane;
+use vq_model::plan::Lane;
 use vq_spec::plan::Plan;
 
 /// A job's lane by number: the host's lane, then those of the queues.

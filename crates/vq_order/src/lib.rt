@@ -22,4 +22,4 @@ mod unreachable;
 mod waits;
 
 pub use ordered::Ordered;
-pub use vq_laws::plan::OrderFault;
+pub use vq_model::plan::OrderFault;

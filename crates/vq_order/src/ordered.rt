@@ -1,13 +1,13 @@
 //! Plans that were checked.
 ghost use Rattle.std.specs.Prelude.{Some, ◌≡◌, ◌+◌, ◌-◌, ◌<◌, ◌≤◌, ◌↔◌, IsTrue, ℕ, length, get_or};
 ghost use Rattle.std.specs.List.{slice_get, slice_index_or};
-ghost use Rattle.vq_laws.specs.Checks.{IsLawful};
-ghost use Rattle.vq_laws.specs.LoweringFaults.{IsPlan};
-ghost use Rattle.vq_laws.specs.HappensBefore.{HappensBefore, HappensBeforeCommand};
-ghost use Rattle.vq_laws.specs.Plan.{chain, chain_of, job_of, has};
-ghost use Rattle.vq_laws.specs.Races.{HasSureOrder};
-ghost use Rattle.vq_laws.specs.Sure.{IsSure};
-ghost use Rattle.vq_laws.specs.Windows.{IsGreatest, IsPossible, IsSurelyReached, IsPossiblyReached};
+ghost use Rattle.vq_model.specs.Checks.{IsLawful};
+ghost use Rattle.vq_model.specs.LoweringFaults.{IsPlan};
+ghost use Rattle.vq_model.specs.HappensBefore.{HappensBefore, HappensBeforeCommand};
+ghost use Rattle.vq_model.specs.Plan.{chain, chain_of, job_of, has};
+ghost use Rattle.vq_model.specs.Races.{HasSureOrder};
+ghost use Rattle.vq_model.specs.Sure.{IsSure};
+ghost use Rattle.vq_model.specs.Windows.{IsGreatest, IsPossible, IsSurelyReached, IsPossiblyReached};
 ghost use Rattle.vq_order.specs.Counts.{AreFirst, value_after};
 ghost use Rattle.vq_order.specs.Kept.{AreClocksOf, IsClocked};
 
@@ -23,7 +23,7 @@ pub struct Ordered {
 }
 
 impl Model for Ordered {
-    ghost use Rattle.vq_laws.specs.Plan.{Plan as Lowered};
+    ghost use Rattle.vq_model.specs.Plan.{Plan as Lowered};
     ghost use Rattle.vq_order.specs.Kept.{IsClocked};
 
     ghost Value = { Lowered };

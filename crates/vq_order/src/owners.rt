@@ -1,7 +1,7 @@
 //! The jobs of commands.
 ghost use Rattle.std.specs.Prelude.{◌≡◌, ◌<◌, ℕ, true, false, length, IfOk};
-ghost use Rattle.vq_laws.specs.Plan.{commands_of, has};
-ghost use Rattle.vq_laws.specs.WellFormed.{IsWellFormed};
+ghost use Rattle.vq_model.specs.Plan.{commands_of, has};
+ghost use Rattle.vq_model.specs.WellFormed.{IsWellFormed};
 ghost use Rattle.vq_order.specs.Accessed.{HasOwners};
 ghost use Rattle.vq_order.specs.Clocks.{in_row};
 

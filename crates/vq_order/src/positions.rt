@@ -1,8 +1,8 @@
 //! Where jobs stand in the slow run.
 ghost use Rattle.std.specs.Prelude.{◌≡◌, ◌<◌, ◌≤◌, [], length, IfOk};
 ghost use Rattle.std.specs.List.{slice_get, slice_index_or};
-ghost use Rattle.vq_laws.specs.Lanes.{KeepsLanes};
-ghost use Rattle.vq_laws.specs.SlowRun.{slow_order, left_over};
+ghost use Rattle.vq_model.specs.Lanes.{KeepsLanes};
+ghost use Rattle.vq_model.specs.SlowRun.{slow_order, left_over};
 ghost use Rattle.vq_order.specs.Clocks.{position, HasPositions};
 
 use std::alloc::{AllocError, Global};

@@ -1,7 +1,7 @@
 //! Races: commands of a plan that conflict, neither before the other.
 ghost use Rattle.std.specs.Prelude.{◌≡◌, [], IfOk};
-ghost use Rattle.vq_laws.specs.Checks.{IsRaceAt};
-ghost use Rattle.vq_laws.specs.SlowRun.{left_over, slow_order};
+ghost use Rattle.vq_model.specs.Checks.{IsRaceAt};
+ghost use Rattle.vq_model.specs.SlowRun.{left_over, slow_order};
 ghost use Rattle.vq_order.specs.Clocks.{AreClocks};
 ghost use Rattle.vq_order.specs.Pairs.{IsLeastPairOrNone};
 

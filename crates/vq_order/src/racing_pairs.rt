@@ -1,7 +1,7 @@
 //! The least pair of commands that race.
 ghost use Rattle.std.specs.Prelude.{◌≡◌, ◌<◌, ◌↔◌, ℕ, IsTrue, length};
-ghost use Rattle.vq_laws.specs.Checks.{IsRaceAt};
-ghost use Rattle.vq_laws.specs.Races.{IsRace};
+ghost use Rattle.vq_model.specs.Checks.{IsRaceAt};
+ghost use Rattle.vq_model.specs.Races.{IsRace};
 ghost use Rattle.vq_order.specs.Accessed.{HasAccesses, IsAccess, IsFirstRacing, AreOrdered};
 ghost use Rattle.vq_order.specs.Clocks.{AreClocks};
 ghost use Rattle.vq_order.specs.Pairs.{IsLeastPairOrNone};

@@ -1,11 +1,11 @@
 //! The rows of operations that are sure for a job.
 ghost use Rattle.std.specs.Prelude.{◌++◌, ◌∷◌, List, ◌≡◌, ◌<◌, ◌≤◌, ◌+◌, [], ℕ, true, length, Some, IfOk};
 ghost use Rattle.std.specs.List.{slice_get, slice_index_or};
-ghost use Rattle.vq_laws.specs.Edges.{AtEnd, must_finish};
-ghost use Rattle.vq_laws.specs.Lanes.{lane_at, KeepsLanes, KeepsSemaphores};
-ghost use Rattle.vq_laws.specs.Plan.{job_of, has};
-ghost use Rattle.vq_laws.specs.WellFormed.{IsWellFormed};
-ghost use Rattle.vq_laws.specs.SlowRun.{slow_order, left_over};
+ghost use Rattle.vq_model.specs.Edges.{AtEnd, must_finish};
+ghost use Rattle.vq_model.specs.Lanes.{lane_at, KeepsLanes, KeepsSemaphores};
+ghost use Rattle.vq_model.specs.Plan.{job_of, has};
+ghost use Rattle.vq_model.specs.WellFormed.{IsWellFormed};
+ghost use Rattle.vq_model.specs.SlowRun.{slow_order, left_over};
 ghost use Rattle.vq_order.specs.Clocks.{AddsJob, AddsOp, Covers, SureByJob, IsSureBy, EndsOps, IsSureClock, in_row, position, AreRows, HasSureClocks, HasPositions};
 
 use crate::lanes::lane_at;

@@ -2,9 +2,9 @@
 //! with that order, it is enough to ask whether what has touched a cell before comes before.
 ghost use Rattle.std.specs.Prelude.{◌≡◌, ◌<◌, ◌≤◌, IsTrue, true, false, [], length, IfOk};
 ghost use Rattle.std.specs.List.Sorted.{IsNonDecreasing};
-ghost use Rattle.vq_laws.specs.Checks.{IsRaceAt, NoLines};
-ghost use Rattle.vq_laws.specs.Plan.{commands_of};
-ghost use Rattle.vq_laws.specs.SlowRun.{left_over, slow_order};
+ghost use Rattle.vq_model.specs.Checks.{IsRaceAt, NoLines};
+ghost use Rattle.vq_model.specs.Plan.{commands_of};
+ghost use Rattle.vq_model.specs.SlowRun.{left_over, slow_order};
 ghost use Rattle.vq_order.specs.Accessed.{HasAccesses};
 ghost use Rattle.vq_order.specs.Clocks.{AreClocks};
 ghost use Rattle.vq_order.specs.Swept.{AreUntouched, HasJobs, HaveJobs, ReadsCell, Sweeps, Touches};

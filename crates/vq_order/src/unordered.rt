@@ -2,20 +2,20 @@
 ghost use Rattle.std.specs.Prelude.{ℕ, ◌≡◌, ◌<◌, ◌≤◌, ◌+◌, ◌↔◌, ◌⊎◌, [], false, Some, IsTrue, length};
 ghost use Rattle.std.specs.List.{slice_get, slice_index_or};
 ghost use Rattle.std.specs.Option.{option_map_or};
-ghost use Rattle.vq_laws.specs.declared.script.SemaphoreKind.TheVariants.{Binary};
-ghost use Rattle.vq_laws.specs.Checks.{IsUnordered, is_timeline_chain};
-ghost use Rattle.vq_laws.specs.Context.{is_binary};
-ghost use Rattle.vq_laws.specs.LoweringFaults.{IsPlan};
-ghost use Rattle.vq_laws.specs.Plan.{chain, value, line_of_op, needs};
-ghost use Rattle.vq_laws.specs.Signals.{kind_of};
+ghost use Rattle.vq_model.specs.declared.script.SemaphoreKind.TheVariants.{Binary};
+ghost use Rattle.vq_model.specs.Checks.{IsUnordered, is_timeline_chain};
+ghost use Rattle.vq_model.specs.Context.{is_binary};
+ghost use Rattle.vq_model.specs.LoweringFaults.{IsPlan};
+ghost use Rattle.vq_model.specs.Plan.{chain, value, line_of_op, needs};
+ghost use Rattle.vq_model.specs.Signals.{kind_of};
 ghost use Rattle.vq_order.specs.Clocks.{AreClocks};
 ghost use Rattle.vq_order.specs.Counts.{AreFirst};
 ghost use Rattle.vq_order.specs.Pairs.{IsLeastPairOrNone, comes_first};
 ghost use Rattle.vq_order.specs.UnorderedPairs.{lower_of, IsOfFirst, IsTooLow, IsUnsureFor, AreUnordered, IsUnorderedNext, IsUnorderedAt, IsUnorderedIn, IsOvertakenBy, IsNextOrNone, IsOvertaken, IsOvertakenIn};
 
 use crate::clock_rows::Clocks;
-use vq_laws::plan::Need;
-use vq_laws::script::SemaphoreKind;
+use vq_model::plan::Need;
+use vq_model::script::SemaphoreKind;
 use vq_spec::plan::Plan;
 
 /// Whether a pair of lines comes before another: by the second line, and then by the first.

@@ -1,12 +1,12 @@
 //! The least line of a wait that the slow run leaves unreached.
 ghost use Rattle.std.specs.Prelude.{◌≡◌, ◌<◌, ◌+◌, ◌++◌, ◌∷◌, [], ℕ, List, length, Some};
 ghost use Rattle.std.specs.List.{slice_get};
-ghost use Rattle.vq_laws.specs.Checks.{is_unreached, IsUnreachableAt};
-ghost use Rattle.vq_laws.specs.Plan.{needs};
+ghost use Rattle.vq_model.specs.Checks.{is_unreached, IsUnreachableAt};
+ghost use Rattle.vq_model.specs.Plan.{needs};
 ghost use Rattle.vq_spec.specs.SlowProgress.{lower};
 ghost use Rattle.vq_order.specs.Reach.{HasRun, IsLeastOrNone, IsUnreachedOf, IsUnreachedIn};
 
-use vq_laws::plan::Need;
+use vq_model::plan::Need;
 use vq_spec::reached::{any_reached, is_reached};
 use vq_spec::{Plan, SlowOrder};
 

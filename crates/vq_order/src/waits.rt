@@ -2,12 +2,12 @@
 ghost use Rattle.std.specs.Prelude.{◌≡◌, ◌<◌, ◌++◌, ◌∷◌, [], length, Some, IfOk, OnOk};
 ghost use Rattle.std.specs.List.{slice_get};
 ghost use Rattle.std.specs.Option.{option_to_list};
-ghost use Rattle.vq_laws.specs.Edges.{AtEnd, must_finish, awaited_at};
-ghost use Rattle.vq_laws.specs.Lanes.{KeepsSemaphores};
+ghost use Rattle.vq_model.specs.Edges.{AtEnd, must_finish, awaited_at};
+ghost use Rattle.vq_model.specs.Lanes.{KeepsSemaphores};
 ghost use Rattle.vq_order.specs.Clocks.{resolving};
 
 use std::alloc::{AllocError, Global};
-use vq_laws::plan::Need;
+use vq_model::plan::Need;
 use vq_spec::plan::Plan;
 
 /// Adds a number, if there is one.

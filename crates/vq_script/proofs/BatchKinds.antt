@@ -1,10 +1,10 @@
 -- The first kind of the faults of `end`.
 use Rattle.std.proofs.Common.{◌≡◌, ◌+◌, false, not, ◌||◌, List, [], Some, None, arith, refl, ap, ◌∙◌}
 use Rattle.std.proofs.lemmas.Bool.{le-ltb}
-use Rattle.vq_laws.specs.declared.statement.Line.{Line}
-use Rattle.vq_laws.specs.declared.statement.LineForm.TheVariants.{EndLine}
-use Rattle.vq_laws.specs.declared.script.Batch.{Batch}
-use Rattle.vq_laws.specs.Context.{is_command, count, open_batch}
+use Rattle.vq_model.specs.declared.statement.Line.{Line}
+use Rattle.vq_model.specs.declared.statement.LineForm.TheVariants.{EndLine}
+use Rattle.vq_model.specs.declared.script.Batch.{Batch}
+use Rattle.vq_model.specs.Context.{is_command, count, open_batch}
 use Rattle.vq_script.specs.Faults.{first_fault}
 use Rattle.vq_script.specs.Holds.{Holds, Kept, last_part}
 use Rattle.vq_script.proofs.BatchMore.{most_parts}

@@ -4,15 +4,15 @@ use Rattle.std.specs.Prelude.{is_some}
 use Rattle.std.proofs.lemmas.List.{length-append}
 use Rattle.std.proofs.lemmas.Bool.{le-ltb}
 use Rattle.std.proofs.lemmas.Bool.Decides.{nat_tests}
-use Rattle.vq_laws.specs.declared.statement.Line.{Line}
-use Rattle.vq_laws.specs.declared.statement.Statement.TheVariants.{AddWait, AddCommand, AddSignal, AddFence}
-use Rattle.vq_laws.specs.declared.script.Pair.{Pair}
-use Rattle.vq_laws.specs.declared.script.Batch.{Batch}
-use Rattle.vq_laws.specs.declared.script.Command.{Command}
-use Rattle.vq_laws.specs.declared.script.CommandLine.{CommandLine}
-use Rattle.vq_laws.specs.Context.{is_wait, is_command, is_signal, is_batch_fence}
-use Rattle.vq_laws.specs.LineFaults.{part_of}
-use Rattle.vq_laws.specs.ScriptOfLines.{mark}
+use Rattle.vq_model.specs.declared.statement.Line.{Line}
+use Rattle.vq_model.specs.declared.statement.Statement.TheVariants.{AddWait, AddCommand, AddSignal, AddFence}
+use Rattle.vq_model.specs.declared.script.Pair.{Pair}
+use Rattle.vq_model.specs.declared.script.Batch.{Batch}
+use Rattle.vq_model.specs.declared.script.Command.{Command}
+use Rattle.vq_model.specs.declared.script.CommandLine.{CommandLine}
+use Rattle.vq_model.specs.Context.{is_wait, is_command, is_signal, is_batch_fence}
+use Rattle.vq_model.specs.LineFaults.{part_of}
+use Rattle.vq_model.specs.ScriptOfLines.{mark}
 use Rattle.vq_script.specs.Holds.{FillBatch, waits_of, commands_of, signals_of, named_fence, last_part, last_part_by, held_from}
 use Rattle.vq_script.proofs.LineMore.{numbered, or_false, count_more, some_more, later_part}
 

@@ -4,24 +4,24 @@ use Rattle.std.specs.Prelude.{is_some}
 use Rattle.std.specs.List.{list_all, position, slice_get}
 use Rattle.std.specs.Str.{bytes_eq}
 use Rattle.std.specs.Option.{option_map_or}
-use Rattle.vq_laws.specs.declared.statement.Line.{Line}
-use Rattle.vq_laws.specs.declared.statement.Statement.{Statement}
-use Rattle.vq_laws.specs.declared.statement.Statement.TheVariants.{AddCommand}
-use Rattle.vq_laws.specs.declared.statement.FaultKind.{FaultKind}
-use Rattle.vq_laws.specs.declared.statement.FaultKind.TheVariants.{Syntax, Order, Number, Name, Twice, Range, Overlap, Limit}
-use Rattle.vq_laws.specs.declared.statement.LineForm.TheVariants.{FillWholeLine, FillLine, UpdateLine, CopyLine}
-use Rattle.vq_laws.specs.declared.script.Buffer.{Buffer}
-use Rattle.vq_laws.specs.declared.script.Batch.{Batch}
-use Rattle.vq_laws.specs.declared.script.Command.{Command}
-use Rattle.vq_laws.specs.declared.script.Command.TheVariants.{Fill, Update, Copy}
-use Rattle.vq_laws.specs.declared.script.FillSize.TheVariants.{Whole, Count}
-use Rattle.vq_laws.specs.Text.{is_name, numeral}
-use Rattle.vq_laws.specs.Forms.{BufferName, Numeral, SmallNumeral, HexDigits}
-use Rattle.vq_laws.specs.Context.{some, open_batch, buffers, buffer_at, size_of}
-use Rattle.vq_laws.specs.Limits.{passes_limit, limits_of}
-use Rattle.vq_laws.specs.LineFaults.{is_numeric, is_known, part_of, is_in_range, is_command_in_range, overlaps}
-use Rattle.vq_laws.specs.Ranges.{is_aligned, overlaps_itself}
-use Rattle.vq_laws.specs.Meaning.{small_numeral, is_hex, hex_bytes, of_two, of_three, of_four, of_five}
+use Rattle.vq_model.specs.declared.statement.Line.{Line}
+use Rattle.vq_model.specs.declared.statement.Statement.{Statement}
+use Rattle.vq_model.specs.declared.statement.Statement.TheVariants.{AddCommand}
+use Rattle.vq_model.specs.declared.statement.FaultKind.{FaultKind}
+use Rattle.vq_model.specs.declared.statement.FaultKind.TheVariants.{Syntax, Order, Number, Name, Twice, Range, Overlap, Limit}
+use Rattle.vq_model.specs.declared.statement.LineForm.TheVariants.{FillWholeLine, FillLine, UpdateLine, CopyLine}
+use Rattle.vq_model.specs.declared.script.Buffer.{Buffer}
+use Rattle.vq_model.specs.declared.script.Batch.{Batch}
+use Rattle.vq_model.specs.declared.script.Command.{Command}
+use Rattle.vq_model.specs.declared.script.Command.TheVariants.{Fill, Update, Copy}
+use Rattle.vq_model.specs.declared.script.FillSize.TheVariants.{Whole, Count}
+use Rattle.vq_model.specs.Text.{is_name, numeral}
+use Rattle.vq_model.specs.Forms.{BufferName, Numeral, SmallNumeral, HexDigits}
+use Rattle.vq_model.specs.Context.{some, open_batch, buffers, buffer_at, size_of}
+use Rattle.vq_model.specs.Limits.{passes_limit, limits_of}
+use Rattle.vq_model.specs.LineFaults.{is_numeric, is_known, part_of, is_in_range, is_command_in_range, overlaps}
+use Rattle.vq_model.specs.Ranges.{is_aligned, overlaps_itself}
+use Rattle.vq_model.specs.Meaning.{small_numeral, is_hex, hex_bytes, of_two, of_three, of_four, of_five}
 use Rattle.vq_script.specs.Forms.{OpenLine}
 use Rattle.vq_script.specs.Faults.{first_fault, has_fault_at, statement_at}
 use Rattle.vq_script.specs.Holds.{Holds, Kept, last_part}

@@ -3,19 +3,19 @@ use Rattle.std.proofs.Common.{◌≡◌, ℕ, ◌<◌, Bool, true, false, not, �
 use Rattle.std.specs.Prelude.{find}
 use Rattle.std.specs.List.{list_all}
 use Rattle.std.specs.Option.{option_map, option_map_or, option_and_then}
-use Rattle.vq_laws.specs.declared.statement.Line.{Line}
-use Rattle.vq_laws.specs.declared.statement.Form.{Form}
-use Rattle.vq_laws.specs.declared.statement.Statement.{Statement}
-use Rattle.vq_laws.specs.declared.statement.LineForm.{LineForm}
-use Rattle.vq_laws.specs.declared.statement.FaultKind.{FaultKind}
-use Rattle.vq_laws.specs.declared.statement.FaultKind.TheVariants.{Syntax, Order, Number, Name, Twice, Range, Overlap, Limit}
-use Rattle.vq_laws.specs.Text.{is_plain}
-use Rattle.vq_laws.specs.Forms.{places}
-use Rattle.vq_laws.specs.Context.{version_of}
-use Rattle.vq_laws.specs.Limits.{limits_of, passes_limit}
-use Rattle.vq_laws.specs.LineFaults.{fails, is_shaped, is_numeric, is_known, is_new, is_out_of_order, is_in_range, overlaps, kinds, fault_of}
-use Rattle.vq_laws.specs.Meaning.{is_built, matches, where_built, form_of, statement_of, open_places, meaning}
-use Rattle.vq_laws.specs.Reading.{read_statement, with_line, without_fault}
+use Rattle.vq_model.specs.declared.statement.Line.{Line}
+use Rattle.vq_model.specs.declared.statement.Form.{Form}
+use Rattle.vq_model.specs.declared.statement.Statement.{Statement}
+use Rattle.vq_model.specs.declared.statement.LineForm.{LineForm}
+use Rattle.vq_model.specs.declared.statement.FaultKind.{FaultKind}
+use Rattle.vq_model.specs.declared.statement.FaultKind.TheVariants.{Syntax, Order, Number, Name, Twice, Range, Overlap, Limit}
+use Rattle.vq_model.specs.Text.{is_plain}
+use Rattle.vq_model.specs.Forms.{places}
+use Rattle.vq_model.specs.Context.{version_of}
+use Rattle.vq_model.specs.Limits.{limits_of, passes_limit}
+use Rattle.vq_model.specs.LineFaults.{fails, is_shaped, is_numeric, is_known, is_new, is_out_of_order, is_in_range, overlaps, kinds, fault_of}
+use Rattle.vq_model.specs.Meaning.{is_built, matches, where_built, form_of, statement_of, open_places, meaning}
+use Rattle.vq_model.specs.Reading.{read_statement, with_line, without_fault}
 use Rattle.vq_script.specs.declared.known.Known.{Known}
 use Rattle.vq_script.specs.declared.open_batch.OpenBatch.{OpenBatch}
 use Rattle.vq_script.specs.declared.fault.Stop.{Stop}

@@ -6,24 +6,24 @@ use Rattle.std.specs.Str.{bytes_eq}
 use Rattle.std.specs.Option.{option_map, option_map_or}
 use Rattle.std.proofs.lemmas.List.Sums.{sum_by-cons}
 use Rattle.std.proofs.lemmas.Bool.Decides.{nat_tests}
-use Rattle.vq_laws.specs.declared.statement.Line.{Line}
-use Rattle.vq_laws.specs.declared.statement.Statement.{Statement}
-use Rattle.vq_laws.specs.declared.statement.Statement.TheVariants.{DeclareBuffer, DeclareSemaphore, BeginBatch}
-use Rattle.vq_laws.specs.declared.statement.FaultKind.{FaultKind}
-use Rattle.vq_laws.specs.declared.statement.FaultKind.TheVariants.{Syntax, Order, Number, Name, Twice, Range, Overlap, Limit}
-use Rattle.vq_laws.specs.declared.statement.LineForm.TheVariants.{BufferLine, TimelineLine, BinaryLine, FenceLine, QueueLine, SubmitLine}
-use Rattle.vq_laws.specs.declared.script.Buffer.{Buffer}
-use Rattle.vq_laws.specs.declared.script.Semaphore.{Semaphore}
-use Rattle.vq_laws.specs.declared.script.SemaphoreKind.{SemaphoreKind}
-use Rattle.vq_laws.specs.declared.script.SemaphoreKind.TheVariants.{Timeline, Binary, Fence}
-use Rattle.vq_laws.specs.declared.script.Queue.{Queue}
-use Rattle.vq_laws.specs.declared.script.Mode.{Mode}
-use Rattle.vq_laws.specs.Text.{is_name, numeral}
-use Rattle.vq_laws.specs.Forms.{NewName, QueueName, Numeral}
-use Rattle.vq_laws.specs.Context.{has_begun, count, some, open_batch, queues, is_declared}
-use Rattle.vq_laws.specs.Limits.{is_job, passes_limit, limits_of}
-use Rattle.vq_laws.specs.LineFaults.{is_in_range, overlaps, part_of, is_numeric}
-use Rattle.vq_laws.specs.Meaning.{is_built}
+use Rattle.vq_model.specs.declared.statement.Line.{Line}
+use Rattle.vq_model.specs.declared.statement.Statement.{Statement}
+use Rattle.vq_model.specs.declared.statement.Statement.TheVariants.{DeclareBuffer, DeclareSemaphore, BeginBatch}
+use Rattle.vq_model.specs.declared.statement.FaultKind.{FaultKind}
+use Rattle.vq_model.specs.declared.statement.FaultKind.TheVariants.{Syntax, Order, Number, Name, Twice, Range, Overlap, Limit}
+use Rattle.vq_model.specs.declared.statement.LineForm.TheVariants.{BufferLine, TimelineLine, BinaryLine, FenceLine, QueueLine, SubmitLine}
+use Rattle.vq_model.specs.declared.script.Buffer.{Buffer}
+use Rattle.vq_model.specs.declared.script.Semaphore.{Semaphore}
+use Rattle.vq_model.specs.declared.script.SemaphoreKind.{SemaphoreKind}
+use Rattle.vq_model.specs.declared.script.SemaphoreKind.TheVariants.{Timeline, Binary, Fence}
+use Rattle.vq_model.specs.declared.script.Queue.{Queue}
+use Rattle.vq_model.specs.declared.script.Mode.{Mode}
+use Rattle.vq_model.specs.Text.{is_name, numeral}
+use Rattle.vq_model.specs.Forms.{NewName, QueueName, Numeral}
+use Rattle.vq_model.specs.Context.{has_begun, count, some, open_batch, queues, is_declared}
+use Rattle.vq_model.specs.Limits.{is_job, passes_limit, limits_of}
+use Rattle.vq_model.specs.LineFaults.{is_in_range, overlaps, part_of, is_numeric}
+use Rattle.vq_model.specs.Meaning.{is_built}
 use Rattle.vq_script.specs.Forms.{OpenLine}
 use Rattle.vq_script.specs.Faults.{first_fault, has_fault_at, statement_at}
 use Rattle.vq_script.specs.Names.{is_taken, names_queue}

@@ -5,25 +5,25 @@ use Rattle.std.specs.Str.{bytes_eq}
 use Rattle.std.proofs.lemmas.Bool.{and_parts}
 use Rattle.std.proofs.lemmas.Slice.Eq.{bytes_eq-Decides}
 use Rattle.std.specs.Prelude.{codes, ◌&&◌}
-use Rattle.vq_laws.specs.declared.statement.Line.{Line}
-use Rattle.vq_laws.specs.declared.statement.Form.{Form}
-use Rattle.vq_laws.specs.declared.statement.Form.TheVariants.{Plain, Scheduled}
-use Rattle.vq_laws.specs.declared.statement.LineForm.{LineForm}
-use Rattle.vq_laws.specs.declared.statement.LineForm.TheVariants.{VersionLine, ScheduleLine, WaitTimelineLine, WaitBinaryLine, FillWholeLine, FillLine, UpdateLine, CopyLine, SignalTimelineLine, SignalBinaryLine, BatchFenceLine, EndLine}
-use Rattle.vq_laws.specs.declared.statement.Section.TheVariants.{Outside, InBatch}
-use Rattle.vq_laws.specs.Context.{section, version_of}
-use Rattle.vq_laws.specs.Forms.{forms_outside, forms_in_batch, held_forms}
+use Rattle.vq_model.specs.declared.statement.Line.{Line}
+use Rattle.vq_model.specs.declared.statement.Form.{Form}
+use Rattle.vq_model.specs.declared.statement.Form.TheVariants.{Plain, Scheduled}
+use Rattle.vq_model.specs.declared.statement.LineForm.{LineForm}
+use Rattle.vq_model.specs.declared.statement.LineForm.TheVariants.{VersionLine, ScheduleLine, WaitTimelineLine, WaitBinaryLine, FillWholeLine, FillLine, UpdateLine, CopyLine, SignalTimelineLine, SignalBinaryLine, BatchFenceLine, EndLine}
+use Rattle.vq_model.specs.declared.statement.Section.TheVariants.{Outside, InBatch}
+use Rattle.vq_model.specs.Context.{section, version_of}
+use Rattle.vq_model.specs.Forms.{forms_outside, forms_in_batch, held_forms}
 use Rattle.std.specs.List.{list_all}
 use Rattle.std.specs.Option.{option_map}
-use Rattle.vq_laws.specs.declared.statement.FaultKind.TheVariants.{Syntax}
-use Rattle.vq_laws.specs.declared.script.Mode.{Mode}
+use Rattle.vq_model.specs.declared.statement.FaultKind.TheVariants.{Syntax}
+use Rattle.vq_model.specs.declared.script.Mode.{Mode}
 use Rattle.std.specs.Borrow.{Bor}
 use Rattle.vq_script.specs.declared.forms.Found.{Found}
 use Rattle.vq_script.specs.declared.forms.Found.TheVariants.{Buffer, Timeline, Binary, Fence, Queue, Submit, WaitTimeline, WaitBinary, FillWhole, Fill, Update, Copy, SignalTimeline, SignalBinary, BatchFence, End}
 use Rattle.vq_script.specs.declared.forms.PlaceWords.{PlaceWords}
 use Rattle.vq_script.specs.Forms.{OpenLine, open_line, with_words, Finds}
 use Rattle.vq_script.specs.Faults.{first_fault}
-use Rattle.vq_laws.specs.Meaning.{is_built, matches, where_built, form_of}
+use Rattle.vq_model.specs.Meaning.{is_built, matches, where_built, form_of}
 
 -- a last form that isn't built changes nothing
 without_last : (before : List Line) (words : List (List ℕ)) (forms : List LineForm) (f : LineForm) → is_built before f ≡ false →

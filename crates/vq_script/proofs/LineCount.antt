@@ -4,7 +4,7 @@ use Rattle.std.specs.List.{slice_split, onto_first}
 use Rattle.std.specs.Str.Lines.{strip_carriage_return}
 use Rattle.std.proofs.lemmas.List.{length-map}
 use Rattle.std.proofs.lemmas.Bool.Decides.{nat_tests}
-use Rattle.vq_laws.specs.Text.{lines_of, without_empty_end, is_line_feed}
+use Rattle.vq_model.specs.Text.{lines_of, without_empty_end, is_line_feed}
 
 -- a part with a byte is a line
 one_line : (b : ℕ) (part : List ℕ) → without_empty_end ((b ∷ part) ∷ []) ≡ (b ∷ part) ∷ []

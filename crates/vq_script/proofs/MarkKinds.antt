@@ -4,19 +4,19 @@ use Rattle.std.proofs.Common.{◌≡◌, ℕ, Bool, true, false, not, cond, ◌|
 use Rattle.std.specs.Prelude.{is_some}
 use Rattle.std.specs.List.{list_all, position, slice_get}
 use Rattle.std.specs.Option.{option_map, option_map_or}
-use Rattle.vq_laws.specs.declared.statement.Line.{Line}
-use Rattle.vq_laws.specs.declared.statement.Statement.{Statement}
-use Rattle.vq_laws.specs.declared.statement.Statement.TheVariants.{AddWait, AddSignal, AddFence}
-use Rattle.vq_laws.specs.declared.statement.FaultKind.TheVariants.{Syntax, Order, Number, Name, Twice, Limit}
-use Rattle.vq_laws.specs.declared.statement.LineForm.TheVariants.{WaitTimelineLine, WaitBinaryLine, SignalTimelineLine, SignalBinaryLine, BatchFenceLine}
-use Rattle.vq_laws.specs.declared.script.Pair.{Pair}
-use Rattle.vq_laws.specs.declared.script.Batch.{Batch}
-use Rattle.vq_laws.specs.Text.{is_name, numeral}
-use Rattle.vq_laws.specs.Forms.{TimelineName, BinaryName, FenceName, Numeral}
-use Rattle.vq_laws.specs.Context.{is_immediate, is_batch_immediate, timeline_at, binary_at, fence_at}
-use Rattle.vq_laws.specs.Limits.{passes_limit, limits_of}
-use Rattle.vq_laws.specs.LineFaults.{is_numeric, is_known, is_in_range, overlaps}
-use Rattle.vq_laws.specs.Meaning.{of_two, binary_pair}
+use Rattle.vq_model.specs.declared.statement.Line.{Line}
+use Rattle.vq_model.specs.declared.statement.Statement.{Statement}
+use Rattle.vq_model.specs.declared.statement.Statement.TheVariants.{AddWait, AddSignal, AddFence}
+use Rattle.vq_model.specs.declared.statement.FaultKind.TheVariants.{Syntax, Order, Number, Name, Twice, Limit}
+use Rattle.vq_model.specs.declared.statement.LineForm.TheVariants.{WaitTimelineLine, WaitBinaryLine, SignalTimelineLine, SignalBinaryLine, BatchFenceLine}
+use Rattle.vq_model.specs.declared.script.Pair.{Pair}
+use Rattle.vq_model.specs.declared.script.Batch.{Batch}
+use Rattle.vq_model.specs.Text.{is_name, numeral}
+use Rattle.vq_model.specs.Forms.{TimelineName, BinaryName, FenceName, Numeral}
+use Rattle.vq_model.specs.Context.{is_immediate, is_batch_immediate, timeline_at, binary_at, fence_at}
+use Rattle.vq_model.specs.Limits.{passes_limit, limits_of}
+use Rattle.vq_model.specs.LineFaults.{is_numeric, is_known, is_in_range, overlaps}
+use Rattle.vq_model.specs.Meaning.{of_two, binary_pair}
 use Rattle.vq_script.specs.Forms.{OpenLine}
 use Rattle.vq_script.specs.Faults.{first_fault, has_fault_at, statement_at}
 use Rattle.vq_script.specs.Holds.{Holds, Kept, last_part, last_part_by}

@@ -16,12 +16,12 @@ use Rattle.std.proofs.lemmas.Bool.Decides.{nat_tests}
 use Rattle.std.proofs.lemmas.Map.Text.{is_eq-slice_cmp}
 use Rattle.std.proofs.lemmas.Slice.Eq.{bytes_eq-Decides}
 use Rattle.std.proofs.lemmas.Bool.{or_parts}
-use Rattle.vq_laws.specs.declared.script.Buffer.{Buffer}
-use Rattle.vq_laws.specs.declared.script.Semaphore.{Semaphore}
-use Rattle.vq_laws.specs.declared.script.SemaphoreKind.{SemaphoreKind}
-use Rattle.vq_laws.specs.declared.script.SemaphoreKind.TheVariants.{Timeline, Binary, Fence}
-use Rattle.vq_laws.specs.declared.script.Queue.{Queue}
-use Rattle.vq_laws.specs.Context.{is_timeline, is_binary, is_fence}
+use Rattle.vq_model.specs.declared.script.Buffer.{Buffer}
+use Rattle.vq_model.specs.declared.script.Semaphore.{Semaphore}
+use Rattle.vq_model.specs.declared.script.SemaphoreKind.{SemaphoreKind}
+use Rattle.vq_model.specs.declared.script.SemaphoreKind.TheVariants.{Timeline, Binary, Fence}
+use Rattle.vq_model.specs.declared.script.Queue.{Queue}
+use Rattle.vq_model.specs.Context.{is_timeline, is_binary, is_fence}
 use Rattle.vq_script.specs.declared.named_item.NamedItem.{NamedItem}
 use Rattle.vq_script.specs.declared.named_item.NamedItem.TheVariants.{Buffer as BufferAt, Timeline as TimelineAt, Binary as BinaryAt, Fence as FenceAt, Queue as QueueAt}
 use Rattle.vq_script.specs.Names.{item_of, semaphore_item, buffer_in, timeline_in, binary_in, fence_in, queue_in, names_buffer, names_timeline, names_binary, names_fence, names_queue, is_taken}

@@ -4,8 +4,8 @@ use Rattle.std.specs.Option.{option_map}
 use Rattle.std.proofs.lemmas.List.{take_all}
 use Rattle.std.proofs.lemmas.Bool.Decides.{nat_tests}
 use Rattle.std.specs.Borrow.{Bor}
-use Rattle.vq_laws.specs.Meaning.{matches, agree}
-use Rattle.vq_laws.specs.Forms.{places, forms_outside}
+use Rattle.vq_model.specs.Meaning.{matches, agree}
+use Rattle.vq_model.specs.Forms.{places, forms_outside}
 use Rattle.vq_script.specs.Words.{texts}
 use Rattle.vq_script.specs.Forms.{OpenLine, with_words, pair_forms}
 

@@ -7,7 +7,7 @@ use Rattle.std.proofs.lemmas.Bool.{and_parts}
 use Rattle.std.proofs.lemmas.Bool.Decides.{nat_tests}
 use Rattle.std.proofs.lemmas.List.Folds.{list_all_at}
 use Rattle.std.proofs.lemmas.Str.{IsUtf8-from_ascii}
-use Rattle.vq_laws.specs.Text.{is_plain, is_letter, is_digit, is_name}
+use Rattle.vq_model.specs.Text.{is_plain, is_letter, is_digit, is_name}
 use Rattle.vq_script.specs.Words.{texts}
 
 list_all_texts : (test : List ℕ → Bool) (words : List (Bor (List ℕ))) → list_all test (texts words) ≡ list_all (λ w. test w.now) words

@@ -6,17 +6,17 @@ use Rattle.std.proofs.lemmas.List.{append-nil}
 use Rattle.std.proofs.lemmas.Grind.{flat_map-append}
 use Rattle.std.specs.List.{flat_map, All}
 use Rattle.std.specs.Int.{to_be_bytes, w32}
-use Rattle.vq_laws.specs.declared.script.Script.{Script}
-use Rattle.vq_laws.specs.declared.script.Batch.{Batch}
-use Rattle.vq_laws.specs.declared.script.Buffer.{Buffer}
-use Rattle.vq_laws.specs.declared.script.Semaphore.{Semaphore}
-use Rattle.vq_laws.specs.declared.script.Mark.{Mark}
-use Rattle.vq_laws.specs.declared.script.Queue.{Queue}
-use Rattle.vq_laws.specs.declared.script.CommandLine.{CommandLine}
-use Rattle.vq_laws.specs.declared.script.Job.{Job}
-use Rattle.vq_laws.specs.declared.script.Job.TheVariants.{Host, Batch as BatchJob}
-use Rattle.vq_laws.specs.ValidScripts.{IsOfBatches, AreWholeBatches}
-use Rattle.vq_laws.specs.Canonical.{hex_digits, fill_word, queue_name, buffer_words, queue_words, semaphore_words, mark_words, from_words, wait_words, command_words, signal_words, fence_lines, job_words, version_words, schedule_words, line_text, canonical_text}
+use Rattle.vq_model.specs.declared.script.Script.{Script}
+use Rattle.vq_model.specs.declared.script.Batch.{Batch}
+use Rattle.vq_model.specs.declared.script.Buffer.{Buffer}
+use Rattle.vq_model.specs.declared.script.Semaphore.{Semaphore}
+use Rattle.vq_model.specs.declared.script.Mark.{Mark}
+use Rattle.vq_model.specs.declared.script.Queue.{Queue}
+use Rattle.vq_model.specs.declared.script.CommandLine.{CommandLine}
+use Rattle.vq_model.specs.declared.script.Job.{Job}
+use Rattle.vq_model.specs.declared.script.Job.TheVariants.{Host, Batch as BatchJob}
+use Rattle.vq_model.specs.ValidScripts.{IsOfBatches, AreWholeBatches}
+use Rattle.vq_model.specs.Canonical.{hex_digits, fill_word, queue_name, buffer_words, queue_words, semaphore_words, mark_words, from_words, wait_words, command_words, signal_words, fence_lines, job_words, version_words, schedule_words, line_text, canonical_text}
 
 -- what follows from what a call gives
 pub on_ok : {E P Q : Type 0} (r : Result (Unit {0}) E) → OnOk r P → (P → Q) → OnOk r Q

@@ -6,27 +6,27 @@ use Rattle.std.proofs.lemmas.List.{append_assoc, append-nil, length-append, map-
 use Rattle.std.proofs.lemmas.List.Sums.{fold-append}
 use Rattle.std.proofs.lemmas.Grind.{flat_map-append}
 use Rattle.std.proofs.lemmas.Bool.{le-ltb}
-use Rattle.vq_laws.specs.declared.statement.Line.{Line}
-use Rattle.vq_laws.specs.declared.statement.Statement.{Statement}
-use Rattle.vq_laws.specs.declared.statement.Statement.TheVariants.{DeclareBuffer, DeclareSemaphore, DeclareQueue, BeginBatch, AddWait, AddCommand, AddSignal, AddFence, EndBatch}
-use Rattle.vq_laws.specs.declared.script.Buffer.{Buffer}
-use Rattle.vq_laws.specs.declared.script.Semaphore.{Semaphore}
-use Rattle.vq_laws.specs.declared.script.SemaphoreKind.{SemaphoreKind}
-use Rattle.vq_laws.specs.declared.script.Queue.{Queue}
-use Rattle.vq_laws.specs.declared.script.Mode.{Mode}
-use Rattle.vq_laws.specs.declared.script.Batch.{Batch}
-use Rattle.vq_laws.specs.declared.script.Mark.{Mark}
-use Rattle.vq_laws.specs.declared.script.Pair.{Pair}
-use Rattle.vq_laws.specs.declared.script.Command.{Command}
-use Rattle.vq_laws.specs.declared.script.Job.{Job}
-use Rattle.vq_laws.specs.declared.script.Job.TheVariants.{Batch as BatchJob}
-use Rattle.vq_laws.specs.Context.{section, section_after, buffer_of, semaphore_of, queue_of, count, some, open_batch, last_queue, is_command, is_wait, is_signal, is_batch_fence, is_submit, is_end, version_of}
-use Rattle.vq_laws.specs.Limits.{is_job}
-use Rattle.vq_laws.specs.LineFaults.{part_of}
-use Rattle.vq_laws.specs.Reading.{with_line}
-use Rattle.vq_laws.specs.ScriptOfLines.{batch_lines, jobs_of, job_at, is_schedule, turns_at, mark, command_of, wait_of, signal_of, fence_of, first_of_list}
-use Rattle.vq_laws.specs.declared.statement.Section.{Section}
-use Rattle.vq_laws.specs.declared.statement.Section.TheVariants.{Outside, InBatch}
+use Rattle.vq_model.specs.declared.statement.Line.{Line}
+use Rattle.vq_model.specs.declared.statement.Statement.{Statement}
+use Rattle.vq_model.specs.declared.statement.Statement.TheVariants.{DeclareBuffer, DeclareSemaphore, DeclareQueue, BeginBatch, AddWait, AddCommand, AddSignal, AddFence, EndBatch}
+use Rattle.vq_model.specs.declared.script.Buffer.{Buffer}
+use Rattle.vq_model.specs.declared.script.Semaphore.{Semaphore}
+use Rattle.vq_model.specs.declared.script.SemaphoreKind.{SemaphoreKind}
+use Rattle.vq_model.specs.declared.script.Queue.{Queue}
+use Rattle.vq_model.specs.declared.script.Mode.{Mode}
+use Rattle.vq_model.specs.declared.script.Batch.{Batch}
+use Rattle.vq_model.specs.declared.script.Mark.{Mark}
+use Rattle.vq_model.specs.declared.script.Pair.{Pair}
+use Rattle.vq_model.specs.declared.script.Command.{Command}
+use Rattle.vq_model.specs.declared.script.Job.{Job}
+use Rattle.vq_model.specs.declared.script.Job.TheVariants.{Batch as BatchJob}
+use Rattle.vq_model.specs.Context.{section, section_after, buffer_of, semaphore_of, queue_of, count, some, open_batch, last_queue, is_command, is_wait, is_signal, is_batch_fence, is_submit, is_end, version_of}
+use Rattle.vq_model.specs.Limits.{is_job}
+use Rattle.vq_model.specs.LineFaults.{part_of}
+use Rattle.vq_model.specs.Reading.{with_line}
+use Rattle.vq_model.specs.ScriptOfLines.{batch_lines, jobs_of, job_at, is_schedule, turns_at, mark, command_of, wait_of, signal_of, fence_of, first_of_list}
+use Rattle.vq_model.specs.declared.statement.Section.{Section}
+use Rattle.vq_model.specs.declared.statement.Section.TheVariants.{Outside, InBatch}
 use Rattle.vq_script.specs.Holds.{Holds, Declares, FillBatch, Kept, held_from, last_part, with_buffer, with_semaphore, with_queue, with_command, with_batch}
 use Rattle.vq_script.proofs.LineMore.{numbered, after_last_cut, after_last_more, before_first_more, count_more, some_more, version_more, given_none, given_one, later_part}
 use Rattle.vq_script.proofs.BatchMore.{waiting, commanding, signaling, fenced, started, fill_nothing, fill_started, fill_more, fill_wait, fill_command, fill_signal, fill_fence}

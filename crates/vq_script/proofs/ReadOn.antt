@@ -1,11 +1,11 @@
 -- Reading a text from one of its lines on.
 use Rattle.std.proofs.Common.{◌≡◌, ℕ, ◌+◌, List, [], ◌∷◌, Ok, Err, Result, refl, sym, ap, ◌∙◌}
 use Rattle.std.specs.Result.{IsErr, IsErrAnd}
-use Rattle.vq_laws.specs.declared.statement.Line.{Line}
-use Rattle.vq_laws.specs.declared.statement.Form.{Form}
-use Rattle.vq_laws.specs.declared.statement.FaultKind.{FaultKind}
-use Rattle.vq_laws.specs.Text.{lines_of}
-use Rattle.vq_laws.specs.Reading.{read_line, read_lines, read_script, go_on}
+use Rattle.vq_model.specs.declared.statement.Line.{Line}
+use Rattle.vq_model.specs.declared.statement.Form.{Form}
+use Rattle.vq_model.specs.declared.statement.FaultKind.{FaultKind}
+use Rattle.vq_model.specs.Text.{lines_of}
+use Rattle.vq_model.specs.Reading.{read_line, read_lines, read_script, go_on}
 use Rattle.vq_script.specs.declared.known.Known.{Known}
 use Rattle.vq_script.specs.declared.fault.ScriptFault.{ScriptFault}
 use Rattle.vq_script.specs.declared.fault.ScriptFault.TheVariants.{At, Memory}

@@ -1,10 +1,10 @@
 -- A line's form with the words in its places, wherever they lie.
 use Rattle.std.specs.Prelude.{ℕ, ◌≡◌, List, [], ◌∷◌, find, Option}
 use Rattle.std.specs.Option.{option_map}
-use Rattle.vq_laws.specs.declared.statement.LineForm.{LineForm}
-use Rattle.vq_laws.specs.declared.statement.LineForm.TheVariants.{BufferLine, TimelineLine, BinaryLine, FenceLine, QueueLine, SubmitLine, HostSignalLine, HostWaitAllLine, HostWaitAnyLine, HostPollAllLine, HostPollAnyLine, HostReadLine, HostFenceWaitLine, HostFencePollLine, HostFenceResetLine, HostIdleLine, WaitTimelineLine, WaitBinaryLine, FillWholeLine, FillLine, UpdateLine, CopyLine, SignalTimelineLine, SignalBinaryLine, BatchFenceLine, EndLine}
-use Rattle.vq_laws.specs.Forms.{Place, BinaryName, BufferName, FenceName, HexDigits, NewName, Numeral, QueueName, SmallNumeral, TimelineName, places}
-use Rattle.vq_laws.specs.Meaning.{matches, agree, open_places, pair_places}
+use Rattle.vq_model.specs.declared.statement.LineForm.{LineForm}
+use Rattle.vq_model.specs.declared.statement.LineForm.TheVariants.{BufferLine, TimelineLine, BinaryLine, FenceLine, QueueLine, SubmitLine, HostSignalLine, HostWaitAllLine, HostWaitAnyLine, HostPollAllLine, HostPollAnyLine, HostReadLine, HostFenceWaitLine, HostFencePollLine, HostFenceResetLine, HostIdleLine, WaitTimelineLine, WaitBinaryLine, FillWholeLine, FillLine, UpdateLine, CopyLine, SignalTimelineLine, SignalBinaryLine, BatchFenceLine, EndLine}
+use Rattle.vq_model.specs.Forms.{Place, BinaryName, BufferName, FenceName, HexDigits, NewName, Numeral, QueueName, SmallNumeral, TimelineName, places}
+use Rattle.vq_model.specs.Meaning.{matches, agree, open_places, pair_places}
 use Rattle.vq_script.specs.declared.forms.Found.{Found}
 use Rattle.vq_script.specs.declared.forms.Found.TheVariants.{Buffer, Timeline, Binary, Fence, Queue, Submit, HostSignal, HostWaitAll, HostWaitAny, HostPollAll, HostPollAny, HostRead, HostFenceWait, HostFencePoll, HostFenceReset, HostIdle, WaitTimeline, WaitBinary, FillWhole, Fill, Update, Copy, SignalTimeline, SignalBinary, BatchFence, End}
 use Rattle.vq_script.specs.Words.{texts}

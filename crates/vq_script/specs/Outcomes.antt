@@ -1,9 +1,9 @@
 -- What parsing a text gives: what reading it gives, or that memory ran out.
 use Rattle.std.specs.Prelude.{ℕ, ◌≡◌, List, Result, Ok, Err}
-use Rattle.vq_laws.specs.declared.statement.Form.{Form}
-use Rattle.vq_laws.specs.declared.statement.FaultKind.{FaultKind}
-use Rattle.vq_laws.specs.declared.script.Script.{Script}
-use Rattle.vq_laws.specs.Reading.{IsFirstFault}
+use Rattle.vq_model.specs.declared.statement.Form.{Form}
+use Rattle.vq_model.specs.declared.statement.FaultKind.{FaultKind}
+use Rattle.vq_model.specs.declared.script.Script.{Script}
+use Rattle.vq_model.specs.Reading.{IsFirstFault}
 use Rattle.vq_script.specs.declared.fault.ScriptFault.{ScriptFault}
 use Rattle.vq_script.specs.declared.fault.ScriptFault.TheVariants.{At, Memory}
 

@@ -1,6 +1,6 @@
 //! The lines that begin a batch and end it.
 ghost use Rattle.std.specs.Prelude.{List, None, Some};
-ghost use Rattle.vq_laws.specs.declared.statement.Line.{Line};
+ghost use Rattle.vq_model.specs.declared.statement.Line.{Line};
 ghost use Rattle.vq_script.specs.Faults.{Tells};
 ghost use Rattle.vq_script.specs.Forms.{open_line};
 ghost use Rattle.vq_script.specs.Holds.{Keeps, batch_so_far};
@@ -12,9 +12,9 @@ use crate::known::Known;
 use crate::names::is_name;
 use crate::open_batch::OpenBatch;
 use std::alloc::Global;
-use vq_laws::list::List;
-use vq_laws::script::{Batch, Job};
-use vq_laws::statement::{FaultKind, Statement};
+use vq_model::list::List;
+use vq_model::script::{Batch, Job};
+use vq_model::statement::{FaultKind, Statement};
 
 /// The queue of `submit QUEUE`, or the first kind of the line's faults.
 fn submitted_queue(known: &Known, queue: &[u8]) -> Result<u32, FaultKind>

@@ -1,10 +1,10 @@
 //! The lines of a batch that are its commands.
 ghost use Rattle.std.specs.Prelude.{◌≡◌, ◌+◌, ◌<◌, ◌&&◌, ◌==◌, true, not, nat_lt, min, max, false, List, None, Some, OnOk};
 ghost use Rattle.std.specs.List.{position};
-ghost use Rattle.vq_laws.specs.declared.statement.Line.{Line};
-ghost use Rattle.vq_laws.specs.Meaning.{hex_bytes, is_hex, of_two, of_three};
-ghost use Rattle.vq_laws.specs.Ranges.{is_aligned};
-ghost use Rattle.vq_laws.specs.Text.{is_name, numeral};
+ghost use Rattle.vq_model.specs.declared.statement.Line.{Line};
+ghost use Rattle.vq_model.specs.Meaning.{hex_bytes, is_hex, of_two, of_three};
+ghost use Rattle.vq_model.specs.Ranges.{is_aligned};
+ghost use Rattle.vq_model.specs.Text.{is_name, numeral};
 ghost use Rattle.vq_script.specs.Faults.{Tells, first_fault, statement_at};
 ghost use Rattle.vq_script.specs.Forms.{OpenLine, open_line};
 ghost use Rattle.vq_script.specs.Holds.{Keeps, batch_so_far, last_part};
@@ -18,9 +18,9 @@ use crate::names::is_name;
 use crate::numerals::{hex_bytes, is_hex, numeral, small_numeral};
 use crate::open_batch::OpenBatch;
 use std::alloc::Global;
-use vq_laws::list::Bytes;
-use vq_laws::script::{Command, CommandLine, FillSize};
-use vq_laws::statement::{FaultKind, Statement};
+use vq_model::list::Bytes;
+use vq_model::script::{Command, CommandLine, FillSize};
+use vq_model::statement::{FaultKind, Statement};
 
 /// The most bytes of an update. Source: Vulkan 1.3, vkCmdUpdateBuffer.
 const UPDATE_BYTES: u64 = 65_536;

@@ -1,9 +1,9 @@
 //! The lines that declare buffers, semaphores, fences and queues.
 ghost use Rattle.std.specs.Prelude.{◌≡◌, ◌+◌, ◌<◌, ◌≤◌, List, length, true, false, None, Some, IfOk, OnOk};
-ghost use Rattle.vq_laws.specs.Meaning.{is_built};
-ghost use Rattle.vq_laws.specs.Text.{is_name};
-ghost use Rattle.vq_laws.specs.declared.statement.Line.{Line};
-ghost use Rattle.vq_laws.specs.declared.statement.LineForm.TheVariants.{QueueLine};
+ghost use Rattle.vq_model.specs.Meaning.{is_built};
+ghost use Rattle.vq_model.specs.Text.{is_name};
+ghost use Rattle.vq_model.specs.declared.statement.Line.{Line};
+ghost use Rattle.vq_model.specs.declared.statement.LineForm.TheVariants.{QueueLine};
 ghost use Rattle.vq_script.specs.Faults.{Tells, first_fault, statement_at};
 ghost use Rattle.vq_script.specs.Forms.{OpenLine, open_line};
 ghost use Rattle.vq_script.specs.Holds.{Keeps};
@@ -17,8 +17,8 @@ use crate::names::{is_name, owned_name};
 use crate::numerals::numeral;
 use crate::open_batch::OpenBatch;
 use std::alloc::Global;
-use vq_laws::script::{Buffer, Mode, Queue, Semaphore, SemaphoreKind};
-use vq_laws::statement::{FaultKind, Statement};
+use vq_model::script::{Buffer, Mode, Queue, Semaphore, SemaphoreKind};
+use vq_model::statement::{FaultKind, Statement};
 
 /// The size that `buffer NAME SIZE` declares, or the first kind of the line's faults.
 fn buffer_size(known: &Known, name: &[u8], size: &[u8]) -> Result<u32, FaultKind>

@@ -2,7 +2,7 @@
 ghost use Rattle.std.specs.Prelude.{◌≡◌};
 
 use std::alloc::{AllocError, AllocFailed};
-use vq_laws::statement::FaultKind;
+use vq_model::statement::FaultKind;
 
 /// Why a text is no script: its first line with a fault, counted from 1, and the first kind of that line's faults; or
 /// memory ran out.

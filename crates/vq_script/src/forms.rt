@@ -2,12 +2,12 @@
 ghost use Rattle.std.specs.Prelude.{◌≡◌, ◌≤◌, ◌&&◌, ◌%◌, [], ◌∷◌, ◌++◌, find, map, length};
 ghost use Rattle.std.specs.Str.{bytes_eq};
 ghost use Rattle.std.specs.Option.{option_map};
-ghost use Rattle.vq_laws.specs.Meaning.{matches, agree};
-ghost use Rattle.vq_laws.specs.Forms.{places, forms_outside, forms_in_batch};
+ghost use Rattle.vq_model.specs.Meaning.{matches, agree};
+ghost use Rattle.vq_model.specs.Forms.{places, forms_outside, forms_in_batch};
 ghost use Rattle.vq_script.specs.Words.{texts};
 ghost use Rattle.vq_script.specs.Forms.{Finds, FindsPairs};
 
-use vq_laws::script::Mode;
+use vq_model::script::Mode;
 
 /// The words of a place in a buffer.
 #[derive(Clone, Copy)]

@@ -9,8 +9,8 @@ use crate::named_item::{NamedItem, semaphore_item};
 use crate::open_batch::OpenBatch;
 use std::alloc::{AllocError, Global};
 use std::collections::BTreeMap;
-use vq_laws::list::List;
-use vq_laws::script::{Buffer, Job, Mode, Queue, Script, Semaphore};
+use vq_model::list::List;
+use vq_model::script::{Buffer, Job, Mode, Queue, Script, Semaphore};
 
 /// What the lines so far declare and submit, but for a batch that is still open.
 #[derive(Drop)]
@@ -45,9 +45,9 @@ pub struct Known {
 
 impl Known {
     ghost use Rattle.std.specs.Prelude.{None};
-    ghost use Rattle.vq_laws.specs.Context.{is_immediate};
-    ghost use Rattle.vq_laws.specs.declared.statement.Line.{Line};
-    ghost use Rattle.vq_laws.specs.ScriptOfLines.{script_of};
+    ghost use Rattle.vq_model.specs.Context.{is_immediate};
+    ghost use Rattle.vq_model.specs.declared.statement.Line.{Line};
+    ghost use Rattle.vq_model.specs.ScriptOfLines.{script_of};
     ghost use Rattle.vq_script.specs.Holds.{Keeps, kept, with_buffer, with_semaphore, with_queue};
 
     /// What no lines declare and submit.

@@ -2,7 +2,7 @@
 ghost use Rattle.std.specs.Prelude.{◌≡◌, [], ◌∷◌, MatchOption, All, false, ◌<◌, ◌≤◌, length};
 ghost use Rattle.std.specs.List.{position_or_len};
 ghost use Rattle.std.specs.Str.Lines.{strip_carriage_return};
-ghost use Rattle.vq_laws.specs.Text.{lines_of, is_line_feed};
+ghost use Rattle.vq_model.specs.Text.{lines_of, is_line_feed};
 
 /// A line without the one carriage return that belongs to its end.
 fn without_return(line: &[u8]) -> &[u8]

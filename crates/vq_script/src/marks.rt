@@ -1,7 +1,7 @@
 //! The lines of a batch that name semaphores and fences: its waits, its signals and its fence.
 ghost use Rattle.std.specs.Prelude.{◌≡◌, List, false, nat_lt, None, Some, OnOk, IfOk};
-ghost use Rattle.vq_laws.specs.declared.statement.Line.{Line};
-ghost use Rattle.vq_laws.specs.ScriptOfLines.{mark};
+ghost use Rattle.vq_model.specs.declared.statement.Line.{Line};
+ghost use Rattle.vq_model.specs.ScriptOfLines.{mark};
 ghost use Rattle.vq_script.specs.Faults.{Tells, first_fault, statement_at};
 ghost use Rattle.vq_script.specs.Forms.{OpenLine, open_line};
 ghost use Rattle.vq_script.specs.Holds.{Keeps, batch_so_far, last_part};
@@ -13,8 +13,8 @@ use crate::known::Known;
 use crate::names::is_name;
 use crate::numerals::numeral;
 use crate::open_batch::OpenBatch;
-use vq_laws::script::{Mark, Pair};
-use vq_laws::statement::{FaultKind, Statement};
+use vq_model::script::{Mark, Pair};
+use vq_model::statement::{FaultKind, Statement};
 
 /// The mark of a line. It holds back the whole batch, if it is a wait.
 fn mark(number: u32, pair: Pair) -> Mark

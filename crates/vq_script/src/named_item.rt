@@ -2,7 +2,7 @@
 ghost use Rattle.std.specs.Prelude.{◌≡◌, Some};
 ghost use Rattle.vq_script.specs.Names.{semaphore_item, buffer_in, timeline_in, binary_in, fence_in, queue_in};
 
-use vq_laws::script::SemaphoreKind;
+use vq_model::script::SemaphoreKind;
 
 /// A buffer, a timeline or binary semaphore, a fence or a queue, by its number. Semaphores and
 /// fences are counted together.

@@ -1,11 +1,11 @@
 //! Names.
 ghost use Rattle.std.specs.Prelude.{◌≡◌, ◌||◌, true, IfOk};
 ghost use Rattle.std.specs.List.{list_all};
-ghost use Rattle.vq_laws.specs.Text.{is_name, is_letter, is_digit};
+ghost use Rattle.vq_model.specs.Text.{is_name, is_letter, is_digit};
 
 use std::alloc::{AllocError, Global};
 use std::str;
-use vq_laws::list::Name;
+use vq_model::list::Name;
 
 fn is_letter(byte: u8) -> bool
     ensures { result ≡ is_letter byte }

@@ -3,8 +3,8 @@ ghost use Rattle.std.specs.Prelude.{◌≡◌, ◌≤◌, ◌<◌, ◌^◌, true
 ghost use Rattle.std.specs.List.{list_all};
 ghost use Rattle.std.specs.Char.{digit_value};
 ghost use Rattle.std.specs.Option.{option_and_then};
-ghost use Rattle.vq_laws.specs.Text.{numeral, numeral_in};
-ghost use Rattle.vq_laws.specs.Meaning.{small_numeral, is_hex, hex_bytes};
+ghost use Rattle.vq_model.specs.Text.{numeral, numeral_in};
+ghost use Rattle.vq_model.specs.Meaning.{small_numeral, is_hex, hex_bytes};
 
 use std::alloc::{AllocError, Global};
 

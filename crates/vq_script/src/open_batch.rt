@@ -3,7 +3,7 @@ ghost use Rattle.std.specs.Prelude.{◌≡◌, not, nat_lt, length, Some};
 ghost use Rattle.vq_script.specs.Holds.{batch_so_far, last_part};
 
 use crate::limits;
-use vq_laws::script::{CommandLine, Mark};
+use vq_model::script::{CommandLine, Mark};
 
 /// A batch whose `end` line hasn't come.
 #[derive(Drop)]

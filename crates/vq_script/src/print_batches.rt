@@ -1,13 +1,13 @@
 //! The lines of a canonical text that are batches.
 ghost use Rattle.std.specs.Prelude.{◌≡◌, ◌++◌, ◌∷◌, [], OnOk, All};
 ghost use Rattle.std.specs.List.{flat_map};
-ghost use Rattle.vq_laws.specs.ValidScripts.{AreWholeBatches};
-ghost use Rattle.vq_laws.specs.Canonical.{semaphore_name, semaphore_kind, queue_name, mark_words, wait_words, signal_words, fence_lines, job_words, line_text};
+ghost use Rattle.vq_model.specs.ValidScripts.{AreWholeBatches};
+ghost use Rattle.vq_model.specs.Canonical.{semaphore_name, semaphore_kind, queue_name, mark_words, wait_words, signal_words, fence_lines, job_words, line_text};
 
 use crate::print_commands::push_commands;
 use crate::print_words::{push_name_line, push_number_line};
 use std::alloc::{AllocError, Global};
-use vq_laws::script::{Batch, Job, Mark, Script, SemaphoreKind};
+use vq_model::script::{Batch, Job, Mark, Script, SemaphoreKind};
 
 /// The name of a queue, empty for a queue that isn't declared.
 fn queue_name(script: &Script, queue: u32) -> &[u8]

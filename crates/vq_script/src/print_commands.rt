@@ -2,11 +2,11 @@
 ghost use Rattle.std.specs.Prelude.{◌≡◌, ◌++◌, ◌∷◌, [], codes, OnOk};
 ghost use Rattle.std.specs.List.{flat_map};
 ghost use Rattle.std.specs.Fmt.{decimal};
-ghost use Rattle.vq_laws.specs.Canonical.{buffer_name, hex_digits, fill_word, fill_size_word, command_words, line_text};
+ghost use Rattle.vq_model.specs.Canonical.{buffer_name, hex_digits, fill_word, fill_size_word, command_words, line_text};
 
 use crate::print_words::{push_fill_size, push_fill_word, push_hex_bytes, push_number, push_place};
 use std::alloc::{AllocError, Global};
-use vq_laws::script::{Command, CommandLine, FillSize, Script};
+use vq_model::script::{Command, CommandLine, FillSize, Script};
 
 /// The name of a buffer, empty for a buffer that isn't declared.
 fn buffer_name(script: &Script, buffer: u32) -> &[u8]

@@ -1,11 +1,11 @@
 //! The lines of a canonical text that are declarations.
 ghost use Rattle.std.specs.Prelude.{◌≡◌, ◌++◌, ◌∷◌, [], OnOk};
 ghost use Rattle.std.specs.List.{flat_map};
-ghost use Rattle.vq_laws.specs.Canonical.{buffer_words, semaphore_words, queue_words, line_text};
+ghost use Rattle.vq_model.specs.Canonical.{buffer_words, semaphore_words, queue_words, line_text};
 
 use crate::print_words::{mode_word, push_name_line, push_number_line, push_word};
 use std::alloc::{AllocError, Global};
-use vq_laws::script::{Buffer, Queue, Semaphore, SemaphoreKind};
+use vq_model::script::{Buffer, Queue, Semaphore, SemaphoreKind};
 
 /// Adds the line of a buffer.
 fn push_buffer(alloc: Global, out: &mut Vec<u8>, buffer: &Buffer) -> Result<(), AllocError>

@@ -1,13 +1,13 @@
 //! The canonical text of a script.
 ghost use Rattle.std.specs.Prelude.{◌≡◌, IfOk};
-ghost use Rattle.vq_laws.specs.SameScript.{IsScript};
-ghost use Rattle.vq_laws.specs.ValidScripts.{IsOfBatches};
-ghost use Rattle.vq_laws.specs.Canonical.{canonical_text};
+ghost use Rattle.vq_model.specs.SameScript.{IsScript};
+ghost use Rattle.vq_model.specs.ValidScripts.{IsOfBatches};
+ghost use Rattle.vq_model.specs.Canonical.{canonical_text};
 
 use crate::print_batches::push_jobs;
 use crate::print_declarations::{push_buffers, push_queues, push_semaphores};
 use std::alloc::{AllocError, Global};
-use vq_laws::script::Script;
+use vq_model::script::Script;
 
 /// The canonical text of a script of batches.
 fn print_batches(alloc: Global, script: &Script) -> Result<Vec<u8>, AllocError>

@@ -3,11 +3,11 @@ ghost use Rattle.std.specs.Prelude.{◌≡◌, ◌++◌, ◌∷◌, [], ◌<◌,
 ghost use Rattle.std.specs.List.{flat_map};
 ghost use Rattle.std.specs.Char.{digit_char};
 ghost use Rattle.std.specs.Fmt.{decimal};
-ghost use Rattle.vq_laws.specs.Forms.{mode_word};
-ghost use Rattle.vq_laws.specs.Canonical.{hex_digits, fill_word, fill_size_word, line_text};
+ghost use Rattle.vq_model.specs.Forms.{mode_word};
+ghost use Rattle.vq_model.specs.Canonical.{hex_digits, fill_word, fill_size_word, line_text};
 
 use std::alloc::{AllocError, Global};
-use vq_laws::script::{FillSize, Mode};
+use vq_model::script::{FillSize, Mode};
 
 /// The word of a mode.
 pub(crate) fn mode_word(mode: Mode) -> &'static [u8]

@@ -1,9 +1,9 @@
 //! A text, read line by line.
 ghost use Rattle.std.specs.Prelude.{◌≡◌, ◌<◌, ◌-◌, ◌^◌, IsTrue, nat_lt, List, [], length, None, Some, IfOk, IfErr};
-ghost use Rattle.vq_laws.specs.declared.statement.Line.{Line};
-ghost use Rattle.vq_laws.specs.Text.{lines_of};
-ghost use Rattle.vq_laws.specs.Forms.{forms_outside, forms_in_batch};
-ghost use Rattle.vq_laws.specs.Reading.{read_lines, read_script, StandsFor};
+ghost use Rattle.vq_model.specs.declared.statement.Line.{Line};
+ghost use Rattle.vq_model.specs.Text.{lines_of};
+ghost use Rattle.vq_model.specs.Forms.{forms_outside, forms_in_batch};
+ghost use Rattle.vq_model.specs.Reading.{read_lines, read_script, StandsFor};
 ghost use Rattle.vq_script.specs.Holds.{Keeps, batch_so_far, open_so_far};
 ghost use Rattle.vq_script.specs.Outcomes.{Gives, IsFirst};
 ghost use Rattle.vq_script.specs.Reads.{TakesForm, Reads, ReadsLine, script_from};
@@ -23,8 +23,8 @@ use crate::marks::{
 use crate::open_batch::OpenBatch;
 use crate::words::{are_plain, find_words};
 use std::alloc::Global;
-use vq_laws::script::Script;
-use vq_laws::statement::{FaultKind, Form};
+use vq_model::script::Script;
+use vq_model::statement::{FaultKind, Form};
 
 /// Reads the words of a line outside a batch, and gives the batch that is open after it. Words of
 /// no form that is built are Syntax.

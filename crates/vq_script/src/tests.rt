@@ -3,8 +3,8 @@ use crate::fault::ScriptFault;
 use crate::print;
 use crate::reader::{is_short, parse};
 use std::alloc::{AllocError, Global};
-use vq_laws::script::{Command, FillSize, Job, Mark, Mode, SemaphoreKind};
-use vq_laws::statement::{FaultKind, Form};
+use vq_model::script::{Command, FillSize, Job, Mark, Mode, SemaphoreKind};
+use vq_model::statement::{FaultKind, Form};
 
 /// The first fault of a text, if it has one.
 fn verdict(alloc: Global, text: &[u8], form: Form) -> Result<(), ScriptFault> {

@@ -4,15 +4,16 @@ use Rattle.std.specs.List.{slice_get, filter_map, cons_option, enumerate_from, r
 use Rattle.std.specs.List.Sorted.{IsPermutation}
 use Rattle.std.specs.Option.{option_map_or}
 use Rattle.std.proofs.lemmas.Bool.{cond-true, cond-false, eq-eqb, eqb-true, le-leb, lt-leb, ltb-true, ltb-false, false≢true}
-use Rattle.vq_laws.specs.declared.script.Script.{Script}
-use Rattle.vq_laws.specs.Lowering.{plan_of}
-use Rattle.vq_laws.specs.Plan.{has, value, chain}
-use Rattle.vq_laws.specs.SameScript.{IsRead}
-use Rattle.vq_laws.specs.Signals.{Signaling, all_signals, signals_semaphore, values_from, value_at, insert_op, chain_ops, op_at}
-use Rattle.vq_laws.specs.WellFormed.{AreInOrder}
-use Rattle.vq_laws.proofs.Lists.{has_cases}
-use Rattle.vq_laws.proofs.PlanLaws.{get-map, get-enumerate, get-range, get-append, well_formed}
-use Rattle.vq_laws.proofs.WrittenScripts.{read_valid}
+use Rattle.vq_model.specs.declared.script.Script.{Script}
+use Rattle.vq_model.specs.Lowering.{plan_of}
+use Rattle.vq_model.specs.Plan.{has, value, chain}
+use Rattle.vq_model.specs.SameScript.{IsRead}
+use Rattle.vq_model.specs.Signals.{Signaling, all_signals, signals_semaphore, values_from, value_at, insert_op, chain_ops, op_at}
+use Rattle.vq_model.specs.WellFormed.{AreInOrder}
+use Rattle.vq_model.proofs.Lists.{has_cases}
+use Rattle.vq_model.proofs.Gets.{get-map, get-enumerate, get-range, get-append}
+use Rattle.vq_plan_laws.proofs.Cited.{well_formed}
+use Rattle.vq_reading_laws.proofs.Cited.{read_valid}
 use Rattle.vq_spec.specs.declared.chains.Chain.{Chain}
 use Rattle.vq_spec.specs.Counts.{unplaced}
 use Rattle.vq_spec.specs.ChainParts.{member, members, is_before, Sorts, valued, first_with, place_in}

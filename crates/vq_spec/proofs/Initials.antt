@@ -2,11 +2,11 @@
 use Rattle.std.proofs.Common.{◌≡◌, ℕ, zero, suc, ◌<◌, List, [], ◌∷◌, length, map, slice_index_or, refl, arith}
 use Rattle.std.specs.List.{slice_get}
 use Rattle.std.specs.Option.{option_map_or}
-use Rattle.vq_laws.specs.declared.script.Script.{Script}
-use Rattle.vq_laws.specs.declared.script.Semaphore.{Semaphore}
-use Rattle.vq_laws.specs.Plan.{initial}
-use Rattle.vq_laws.specs.Signals.{initial_value}
-use Rattle.vq_laws.specs.Lowering.{plan_of}
+use Rattle.vq_model.specs.declared.script.Script.{Script}
+use Rattle.vq_model.specs.declared.script.Semaphore.{Semaphore}
+use Rattle.vq_model.specs.Plan.{initial}
+use Rattle.vq_model.specs.Signals.{initial_value}
+use Rattle.vq_model.specs.Lowering.{plan_of}
 
 initial_at : (xs : List Semaphore) (t : ℕ) (d : Semaphore) → t < length xs →
     option_map_or (λ n. n) (slice_get (map (λ x. initial_value x.kind) xs) t) 0

@@ -3,13 +3,13 @@ use Rattle.std.proofs.Common.{◌≡◌, ◌<◌, ◌≤◌, ◌^◌, length, ma
 use Rattle.std.specs.List.{enumerate_from, range_with_len, flat_map}
 use Rattle.std.proofs.lemmas.List.{length-map}
 use Rattle.std.proofs.lemmas.List.FromFn.{length-enumerate_from, length-map-range_with_len}
-use Rattle.vq_laws.specs.declared.script.Script.{Script}
-use Rattle.vq_laws.specs.Edges.{edges_to}
-use Rattle.vq_laws.specs.Lowering.{plan_of, plan_job}
-use Rattle.vq_laws.specs.LoweringFaults.{lowering_fault, IsPlan}
-use Rattle.vq_laws.specs.SameScript.{IsRead}
-use Rattle.vq_laws.specs.Signals.{job_signals, all_signals, chain_ops, op_at}
-use Rattle.vq_laws.proofs.WrittenScripts.{read_valid}
+use Rattle.vq_model.specs.declared.script.Script.{Script}
+use Rattle.vq_model.specs.Edges.{edges_to}
+use Rattle.vq_model.specs.Lowering.{plan_of, plan_job}
+use Rattle.vq_model.specs.LoweringFaults.{lowering_fault, IsPlan}
+use Rattle.vq_model.specs.SameScript.{IsRead}
+use Rattle.vq_model.specs.Signals.{job_signals, all_signals, chain_ops, op_at}
+use Rattle.vq_reading_laws.proofs.Cited.{read_valid}
 use Rattle.vq_spec.specs.declared.lowering.Lowered.{Lowered}
 use Rattle.vq_spec.specs.declared.lowering.Tables.{Tables}
 use Rattle.vq_spec.specs.ChainParts.{AreChains}

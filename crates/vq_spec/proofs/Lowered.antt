@@ -6,15 +6,15 @@ use Rattle.std.proofs.lemmas.List.{append-nil, length-append, length-map, take-a
 use Rattle.std.proofs.lemmas.List.Sums.{sum_by-cons}
 use Rattle.std.proofs.lemmas.List.FromFn.{length-enumerate_from}
 use Rattle.std.proofs.lemmas.Grind.{flat_map-append}
-use Rattle.vq_laws.specs.declared.script.Script.{Script}
-use Rattle.vq_laws.specs.declared.script.Job.{Job}
-use Rattle.vq_laws.specs.declared.script.Job.TheVariants.{Host, Batch as BatchJob}
-use Rattle.vq_laws.specs.declared.script.HostLine.{HostLine}
-use Rattle.vq_laws.specs.Lowering.{batch_commands, commands_in, plan_of, plan_job}
-use Rattle.vq_laws.specs.SameScript.{IsRead}
-use Rattle.vq_laws.specs.ValidScripts.{AreWholeBatches}
-use Rattle.vq_laws.proofs.PlanLaws.{length-batch_commands}
-use Rattle.vq_laws.proofs.WrittenScripts.{read_valid, read_of_batches}
+use Rattle.vq_model.specs.declared.script.Script.{Script}
+use Rattle.vq_model.specs.declared.script.Job.{Job}
+use Rattle.vq_model.specs.declared.script.Job.TheVariants.{Host, Batch as BatchJob}
+use Rattle.vq_model.specs.declared.script.HostLine.{HostLine}
+use Rattle.vq_model.specs.Lowering.{batch_commands, commands_in, plan_of, plan_job}
+use Rattle.vq_model.specs.SameScript.{IsRead}
+use Rattle.vq_model.specs.ValidScripts.{AreWholeBatches}
+use Rattle.vq_plan_laws.proofs.Cited.{length-batch_commands}
+use Rattle.vq_reading_laws.proofs.Cited.{read_valid, read_of_batches}
 
 -- Numbers
 

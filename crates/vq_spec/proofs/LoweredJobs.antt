@@ -7,21 +7,22 @@ use Rattle.std.proofs.lemmas.List.{length-append, map-append, length-take-le}
 use Rattle.std.proofs.lemmas.List.Elements.{recursion_from_All}
 use Rattle.std.proofs.lemmas.List.FromFn.{length-map-range_with_len}
 use Rattle.std.proofs.lemmas.List.Sums.{sum_by-cons}
-use Rattle.vq_laws.specs.declared.script.Script.{Script}
-use Rattle.vq_laws.specs.declared.script.Mark.{Mark}
-use Rattle.vq_laws.specs.declared.script.Batch.{Batch}
-use Rattle.vq_laws.specs.declared.script.Job.{Job}
-use Rattle.vq_laws.specs.declared.script.Job.TheVariants.{Host, Batch as BatchJob}
-use Rattle.vq_laws.specs.declared.plan.Need.{Need}
-use Rattle.vq_laws.specs.declared.plan.Lane.TheVariants.{Host as HostLane, Queue as QueueLane}
-use Rattle.vq_laws.specs.declared.plan.Question.TheVariants.{Silent}
-use Rattle.vq_laws.specs.Lowering.{batch_commands, commands_in, plan_job, lane_of, last_from, last_before, of_wait}
-use Rattle.vq_laws.specs.Plan.{same_lane}
-use Rattle.vq_laws.specs.SameScript.{IsRead}
-use Rattle.vq_laws.specs.Signals.{job_signals, all_signals, signals_semaphore}
-use Rattle.vq_laws.specs.ValidScripts.{AreWholeBatches, IsValidBatch, IsValidMark}
-use Rattle.vq_laws.proofs.PlanLaws.{length-batch_commands, get_within}
-use Rattle.vq_laws.proofs.WrittenScripts.{read_batches, read_of_batches}
+use Rattle.vq_model.specs.declared.script.Script.{Script}
+use Rattle.vq_model.specs.declared.script.Mark.{Mark}
+use Rattle.vq_model.specs.declared.script.Batch.{Batch}
+use Rattle.vq_model.specs.declared.script.Job.{Job}
+use Rattle.vq_model.specs.declared.script.Job.TheVariants.{Host, Batch as BatchJob}
+use Rattle.vq_model.specs.declared.plan.Need.{Need}
+use Rattle.vq_model.specs.declared.plan.Lane.TheVariants.{Host as HostLane, Queue as QueueLane}
+use Rattle.vq_model.specs.declared.plan.Question.TheVariants.{Silent}
+use Rattle.vq_model.specs.Lowering.{batch_commands, commands_in, plan_job, lane_of, last_from, last_before, of_wait}
+use Rattle.vq_model.specs.Plan.{same_lane}
+use Rattle.vq_model.specs.SameScript.{IsRead}
+use Rattle.vq_model.specs.Signals.{job_signals, all_signals, signals_semaphore}
+use Rattle.vq_model.specs.ValidScripts.{AreWholeBatches, IsValidBatch, IsValidMark}
+use Rattle.vq_plan_laws.proofs.Cited.{length-batch_commands}
+use Rattle.vq_model.proofs.Gets.{get_within}
+use Rattle.vq_reading_laws.proofs.Cited.{read_batches, read_of_batches}
 use Rattle.vq_spec.specs.declared.lowering.Lowered.{Lowered}
 use Rattle.vq_spec.specs.Counts.{signals_before, AreSignals, AreLowered, need_by, value_by, batch_job, in_queue, last_of_queues}
 use Rattle.vq_spec.proofs.Lowered.{commands_push, few_up_to}

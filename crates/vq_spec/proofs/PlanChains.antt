@@ -6,14 +6,15 @@ use Rattle.std.proofs.lemmas.List.{length-take-le, map-append}
 use Rattle.std.proofs.lemmas.List.Sorted.{length_permutation}
 use Rattle.std.proofs.lemmas.List.Sums.{prefix_len-le-length}
 use Rattle.std.proofs.lemmas.Option.{slice_get_read, slice_get-get_or}
-use Rattle.vq_laws.specs.declared.script.Script.{Script}
-use Rattle.vq_laws.specs.declared.plan.Op.{Op}
-use Rattle.vq_laws.specs.Lowering.{plan_of}
-use Rattle.vq_laws.specs.Plan.{has, value, chain, resolver}
-use Rattle.vq_laws.specs.SameScript.{IsRead}
-use Rattle.vq_laws.specs.Signals.{Signaling, all_signals, chain_ops, op_at, value_at}
-use Rattle.vq_laws.proofs.PlanLaws.{get-map, get-enumerate, get_some, get_within, well_formed}
-use Rattle.vq_laws.proofs.WrittenScripts.{read_valid}
+use Rattle.vq_model.specs.declared.script.Script.{Script}
+use Rattle.vq_model.specs.declared.plan.Op.{Op}
+use Rattle.vq_model.specs.Lowering.{plan_of}
+use Rattle.vq_model.specs.Plan.{has, value, chain, resolver}
+use Rattle.vq_model.specs.SameScript.{IsRead}
+use Rattle.vq_model.specs.Signals.{Signaling, all_signals, chain_ops, op_at, value_at}
+use Rattle.vq_model.proofs.Gets.{get-map, get-enumerate, get_some, get_within}
+use Rattle.vq_plan_laws.proofs.Cited.{well_formed}
+use Rattle.vq_reading_laws.proofs.Cited.{read_valid}
 use Rattle.vq_spec.specs.declared.chains.Chain.{Chain}
 use Rattle.vq_spec.specs.ChainParts.{member, members, placed, place_in, valued, Sorts, AreSorted, IsSearchable, AreChains, first_with}
 use Rattle.vq_spec.specs.Counts.{unplaced}

@@ -5,23 +5,25 @@ use Rattle.std.specs.Option.{option_map_or, option_to_list, option_and_then}
 use Rattle.std.proofs.lemmas.Bool.{cond-true, cond-false, lt-ltb}
 use Rattle.std.proofs.lemmas.List.Elements.{filter_map-append}
 use Rattle.std.proofs.lemmas.List.FromFn.{map-range_with_len_more}
-use Rattle.vq_laws.specs.declared.script.Script.{Script}
-use Rattle.vq_laws.specs.declared.script.Semaphore.{Semaphore}
-use Rattle.vq_laws.specs.declared.script.Mark.{Mark}
-use Rattle.vq_laws.specs.declared.script.Job.{Job}
-use Rattle.vq_laws.specs.declared.script.Job.TheVariants.{Host, Batch as BatchJob}
-use Rattle.vq_laws.specs.declared.plan.Need.{Need}
-use Rattle.vq_laws.specs.declared.plan.Op.{Op}
-use Rattle.vq_laws.specs.declared.plan.PlanJob.{PlanJob}
-use Rattle.vq_laws.specs.Edges.{edges_to}
-use Rattle.vq_laws.specs.Lowering.{plan_of, plan_job, of_wait}
-use Rattle.vq_laws.specs.Plan.{Plan, has, value, chain, resolver, initial, job_of, waits_for_any, needs}
-use Rattle.vq_laws.specs.SameScript.{IsRead}
-use Rattle.vq_laws.specs.Signals.{initial_value}
-use Rattle.vq_laws.specs.ValidScripts.{IsValidMark}
-use Rattle.vq_laws.proofs.Lists.{has_here, has_there}
-use Rattle.vq_laws.proofs.PlanLaws.{get-map, get_within, job_is, some_of, well_formed}
-use Rattle.vq_laws.proofs.WrittenScripts.{read_valid, read_batches}
+use Rattle.vq_model.specs.declared.script.Script.{Script}
+use Rattle.vq_model.specs.declared.script.Semaphore.{Semaphore}
+use Rattle.vq_model.specs.declared.script.Mark.{Mark}
+use Rattle.vq_model.specs.declared.script.Job.{Job}
+use Rattle.vq_model.specs.declared.script.Job.TheVariants.{Host, Batch as BatchJob}
+use Rattle.vq_model.specs.declared.plan.Need.{Need}
+use Rattle.vq_model.specs.declared.plan.Op.{Op}
+use Rattle.vq_model.specs.declared.plan.PlanJob.{PlanJob}
+use Rattle.vq_model.specs.Edges.{edges_to}
+use Rattle.vq_model.specs.Lowering.{plan_of, plan_job, of_wait}
+use Rattle.vq_model.specs.Plan.{Plan, has, value, chain, resolver, initial, job_of, waits_for_any, needs}
+use Rattle.vq_model.specs.SameScript.{IsRead}
+use Rattle.vq_model.specs.Signals.{initial_value}
+use Rattle.vq_model.specs.ValidScripts.{IsValidMark}
+use Rattle.vq_model.proofs.Lists.{has_here, has_there}
+use Rattle.vq_model.proofs.Gets.{get-map, get_within}
+use Rattle.vq_plan_laws.proofs.Cited.{job_is, well_formed}
+use Rattle.vq_model.proofs.Options.{some_of}
+use Rattle.vq_reading_laws.proofs.Cited.{read_valid, read_batches}
 use Rattle.vq_spec.specs.declared.chains.Chain.{Chain}
 use Rattle.vq_spec.specs.ChainParts.{AreParts, first_with}
 use Rattle.vq_spec.specs.Jobs.{awaited_job, edges_of}

@@ -3,14 +3,14 @@ use Rattle.std.proofs.Common.{◌≡◌, ℕ, zero, suc, ◌+◌, ◌<◌, ◌�
 use Rattle.std.specs.List.{list_all, range_with_len}
 use Rattle.std.specs.Option.{option_to_list}
 use Rattle.std.proofs.lemmas.Bool.{and_parts, false≢true, not-true, cases_eq, cases_lt, cond-true, cond-false}
-use Rattle.vq_laws.specs.Plan.{Plan, has, chain, initial, value, previous, host_before, idle_after}
-use Rattle.vq_laws.specs.Edges.{AtEnd, must_finish}
-use Rattle.vq_laws.specs.Lanes.{lane_at, KeepsLanes, IsJustBefore}
-use Rattle.vq_laws.specs.Machine.{can_start, are_reached}
-use Rattle.vq_laws.specs.SlowRun.{is_ready, payload_after, lowest_ready, is_of}
-use Rattle.vq_laws.specs.WellFormed.{IsWellFormed}
-use Rattle.vq_laws.proofs.Lists.{has-append_cases, has-append_left, has_here, has_there, has_cases, list_all_has}
-use Rattle.vq_laws.proofs.Places.{ready_whole}
+use Rattle.vq_model.specs.Plan.{Plan, has, chain, initial, value, previous, host_before, idle_after}
+use Rattle.vq_model.specs.Edges.{AtEnd, must_finish}
+use Rattle.vq_model.specs.Lanes.{lane_at, KeepsLanes, IsJustBefore}
+use Rattle.vq_model.specs.Machine.{can_start, are_reached}
+use Rattle.vq_model.specs.SlowRun.{is_ready, payload_after, lowest_ready, is_of}
+use Rattle.vq_model.specs.WellFormed.{IsWellFormed}
+use Rattle.vq_model.proofs.Lists.{has-append_cases, has-append_left, has_here, has_there, has_cases, list_all_has}
+use Rattle.vq_plan_laws.proofs.Cited.{ready_whole}
 use Rattle.vq_spec.specs.SlowProgress.{IsClosed, IsHead, AreHeads, IsLeastOf, lower}
 
 -- an element stands in the list

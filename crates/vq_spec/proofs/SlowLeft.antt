@@ -2,10 +2,10 @@
 use Rattle.std.proofs.Common.{◌≡◌, ℕ, suc, ◌+◌, Bool, true, false, if◌then◌else◌, not, List, [], ◌∷◌, ◌++◌, length, filter, refl, sym, ap, ◌∙◌, arith, zero-add}
 use Rattle.std.specs.List.{range_with_len}
 use Rattle.std.proofs.lemmas.List.Elements.{filter-append}
-use Rattle.vq_laws.specs.Plan.{Plan, has}
-use Rattle.vq_laws.specs.SlowRun.{left_over, slow_order}
-use Rattle.vq_laws.proofs.Lists.{has_here, has_there}
-use Rattle.vq_laws.proofs.PlanLaws.{has-range_cases}
+use Rattle.vq_model.specs.Plan.{Plan, has}
+use Rattle.vq_model.specs.SlowRun.{left_over, slow_order}
+use Rattle.vq_model.proofs.Lists.{has_here, has_there}
+use Rattle.vq_model.proofs.Numbers.{has-range_cases}
 use Rattle.vq_spec.specs.SlowProgress.{is_marked, AreMarks}
 use Rattle.vq_spec.proofs.HexLines.{range_push}
 

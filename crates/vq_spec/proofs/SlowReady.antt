@@ -2,15 +2,15 @@
 use Rattle.std.proofs.Common.{◌≡◌, ℕ, zero, suc, ◌<◌, Bool, true, false, if◌then◌else◌, nat_le, List, [], ◌∷◌, ◌++◌, length, All, Some, None, refl, sym, ap, ◌∙◌, subst, arith}
 use Rattle.std.specs.List.{list_all, list_any, slice_get}
 use Rattle.std.specs.Option.{option_map_or, option_to_list}
-use Rattle.vq_laws.specs.declared.plan.Need.{Need}
-use Rattle.vq_laws.specs.declared.plan.PlanJob.{PlanJob}
-use Rattle.vq_laws.specs.Edges.{AtEnd, must_finish}
-use Rattle.vq_laws.specs.LoweringFaults.{IsPlan}
-use Rattle.vq_laws.specs.Machine.{is_reached, are_reached}
-use Rattle.vq_laws.specs.Plan.{Plan, has, needs, waits_for_any}
-use Rattle.vq_laws.specs.SlowRun.{payload_after}
-use Rattle.vq_laws.proofs.Lists.{has_here, has_there}
-use Rattle.vq_laws.proofs.PlansKept.{plan_lanes, plan_semaphores}
+use Rattle.vq_model.specs.declared.plan.Need.{Need}
+use Rattle.vq_model.specs.declared.plan.PlanJob.{PlanJob}
+use Rattle.vq_model.specs.Edges.{AtEnd, must_finish}
+use Rattle.vq_model.specs.LoweringFaults.{IsPlan}
+use Rattle.vq_model.specs.Machine.{is_reached, are_reached}
+use Rattle.vq_model.specs.Plan.{Plan, has, needs, waits_for_any}
+use Rattle.vq_model.specs.SlowRun.{payload_after}
+use Rattle.vq_model.proofs.Lists.{has_here, has_there}
+use Rattle.vq_plan_laws.proofs.Cited.{plan_lanes, plan_semaphores}
 use Rattle.vq_spec.specs.Jobs.{finished_before}
 use Rattle.vq_spec.specs.SlowProgress.{is_marked, payload_in, AreMarks, ArePayloads}
 

@@ -7,22 +7,22 @@ use Rattle.std.proofs.lemmas.Grind.{flat_map-append}
 use Rattle.std.proofs.lemmas.List.{append-nil, take_more}
 use Rattle.std.proofs.lemmas.List.Elements.{filter_map-append}
 use Rattle.std.proofs.lemmas.List.FromFn.{length-map-range_with_len}
-use Rattle.vq_laws.specs.declared.script.Script.{Script}
-use Rattle.vq_laws.specs.declared.script.Command.{Command}
-use Rattle.vq_laws.specs.declared.script.CommandLine.{CommandLine}
-use Rattle.vq_laws.specs.declared.plan.PlanJob.{PlanJob}
-use Rattle.vq_laws.specs.Plan.{Plan, has, command_at, commands_of}
-use Rattle.vq_laws.specs.Memory.{Memory, HasSizes, effect, after_all, zeros_of}
-use Rattle.vq_laws.specs.Ranges.{Fits}
-use Rattle.vq_laws.specs.SlowRun.{command_list, is_ready, lowest_ready, slow_from, slow_order, bytes_after, zeros}
-use Rattle.vq_laws.specs.LoweringFaults.{IsPlan}
-use Rattle.vq_laws.specs.SameScript.{IsRead}
-use Rattle.vq_laws.specs.ValidScripts.{sizes_of}
-use Rattle.vq_laws.proofs.Lists.{has-append_cases, has_cases}
-use Rattle.vq_laws.proofs.PlanLaws.{has-range_cases}
-use Rattle.vq_laws.proofs.PlansKept.{plan_well_formed}
-use Rattle.vq_laws.proofs.SlowRun.{find_member}
-use Rattle.vq_laws.proofs.WrittenScripts.{read_valid}
+use Rattle.vq_model.specs.declared.script.Script.{Script}
+use Rattle.vq_model.specs.declared.script.Command.{Command}
+use Rattle.vq_model.specs.declared.script.CommandLine.{CommandLine}
+use Rattle.vq_model.specs.declared.plan.PlanJob.{PlanJob}
+use Rattle.vq_model.specs.Plan.{Plan, has, command_at, commands_of}
+use Rattle.vq_model.specs.Memory.{Memory, HasSizes, effect, after_all, zeros_of}
+use Rattle.vq_model.specs.Ranges.{Fits}
+use Rattle.vq_model.specs.SlowRun.{command_list, is_ready, lowest_ready, slow_from, slow_order, bytes_after, zeros}
+use Rattle.vq_model.specs.LoweringFaults.{IsPlan}
+use Rattle.vq_model.specs.SameScript.{IsRead}
+use Rattle.vq_model.specs.ValidScripts.{sizes_of}
+use Rattle.vq_model.proofs.Lists.{has-append_cases, has_cases}
+use Rattle.vq_model.proofs.Numbers.{has-range_cases}
+use Rattle.vq_plan_laws.proofs.Cited.{plan_well_formed}
+use Rattle.vq_model.proofs.Searches.{find_member}
+use Rattle.vq_reading_laws.proofs.Cited.{read_valid}
 use Rattle.vq_transfer.proofs.Sizes.{has_own_sizes}
 use Rattle.vq_spec.proofs.SlowHeads.{has_at}
 

@@ -6,15 +6,15 @@ use Rattle.std.specs.Option.{option_map_or}
 use Rattle.std.proofs.lemmas.List.{get_or-set_same, get_or-set_other, length-set, length-append, length-replicate, get_or-replicate}
 use Rattle.std.proofs.Math.Seq.{get_or-append_seam, take-append_seam}
 use Rattle.std.proofs.lemmas.Bool.{false≢true, cases_eq, cases_lt, or_cases, or_left, or_right, or_from, ne_eqb, cond-false}
-use Rattle.vq_laws.specs.Plan.{Plan, has, job_of, chain_of, chain, initial, value, signals_of}
-use Rattle.vq_laws.specs.Edges.{must_finish}
-use Rattle.vq_laws.specs.Lanes.{lane_at, KeepsLanes}
-use Rattle.vq_laws.specs.SlowRun.{is_ready, is_of, payload_after, lowest_ready, slow_from}
-use Rattle.vq_laws.specs.WellFormed.{IsWellFormed}
-use Rattle.vq_laws.proofs.Lists.{has-append, has-append_cases, has-append_left, has-append_right, has_here, has_cases, list_all_has}
-use Rattle.vq_laws.proofs.OneResult.{find_passes}
-use Rattle.vq_laws.proofs.PlanLaws.{has-range_cases}
-use Rattle.vq_laws.proofs.SlowRun.{find_member}
+use Rattle.vq_model.specs.Plan.{Plan, has, job_of, chain_of, chain, initial, value, signals_of}
+use Rattle.vq_model.specs.Edges.{must_finish}
+use Rattle.vq_model.specs.Lanes.{lane_at, KeepsLanes}
+use Rattle.vq_model.specs.SlowRun.{is_ready, is_of, payload_after, lowest_ready, slow_from}
+use Rattle.vq_model.specs.WellFormed.{IsWellFormed}
+use Rattle.vq_model.proofs.Lists.{has-append, has-append_cases, has-append_left, has-append_right, has_here, has_cases, list_all_has}
+use Rattle.vq_model.proofs.Searches.{find_passes}
+use Rattle.vq_model.proofs.Numbers.{has-range_cases}
+use Rattle.vq_model.proofs.Searches.{find_member}
 use Rattle.vq_spec.specs.SlowProgress.{IsClosed, IsHead, AreHeads, AreMarks, ArePayloads, IsPayloadOf, with_some, PayloadsWith, IsProgress}
 use Rattle.vq_spec.proofs.SlowHeads.{ready_first, lane_done, payload_is, one_payload}
 

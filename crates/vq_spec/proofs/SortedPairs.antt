@@ -10,8 +10,8 @@ use Rattle.std.proofs.lemmas.Cmp.{then_total, on_total, nat_cmp_total}
 use Rattle.std.proofs.lemmas.List.Sorted.{sorted_far, ranks_by, All-permutation, sum_by-IsPermutation, IsPartitionedBy-ltb}
 use Rattle.std.proofs.lemmas.List.Elements.{recursion_from_All}
 use Rattle.std.proofs.lemmas.List.Sums.{sum_by-cons}
-use Rattle.vq_laws.specs.Plan.{has}
-use Rattle.vq_laws.proofs.Lists.{has_there, has_cases}
+use Rattle.vq_model.specs.Plan.{has}
+use Rattle.vq_model.proofs.Lists.{has_there, has_cases}
 use Rattle.vq_spec.specs.ChainParts.{pair_cmp, is_before}
 
 -- Pairs

@@ -9,21 +9,21 @@ use Rattle.std.proofs.lemmas.Bool.{cases_eq, cond-true, cond-false, eq-eqb, ne_e
 use Rattle.std.proofs.lemmas.List.{append-nil, length-set}
 use Rattle.std.proofs.lemmas.List.FromFn.{length-map-range_with_len, get_or-map-range_with_len}
 use Rattle.std.proofs.lemmas.List.Sums.{fold-append}
-use Rattle.vq_laws.specs.declared.script.Script.{Script}
-use Rattle.vq_laws.specs.declared.script.SemaphoreKind.{SemaphoreKind}
-use Rattle.vq_laws.specs.declared.script.Mark.{Mark}
-use Rattle.vq_laws.specs.declared.script.Batch.{Batch}
-use Rattle.vq_laws.specs.declared.script.Job.{Job}
-use Rattle.vq_laws.specs.declared.script.Job.TheVariants.{Host, Batch as BatchJob}
-use Rattle.vq_laws.specs.declared.plan.PlanFault.{PlanFault}
-use Rattle.vq_laws.specs.declared.plan.PlanFault.TheVariants.{NoSignal as NoSignalAt, SignaledTwice as SignaledTwiceAt, FenceUsed as FenceUsedAt}
-use Rattle.vq_laws.specs.Context.{is_timeline}
-use Rattle.vq_laws.specs.LoweringFaults.{Use, Waited as IsWaited, Signaled as IsSignaled, Named as IsNamed, UseLine, LoweringFault, NoSignal, SignaledTwice, FenceUsed, count_uses, is_signaled, is_waited, is_named, last_use, fault_of_use, use_fault, use_of_mark, uses_of, uses, fault_from, lowering_fault}
-use Rattle.vq_laws.specs.SameScript.{IsRead}
-use Rattle.vq_laws.specs.Signals.{kind_of, is_timeline_at, is_counted_at}
-use Rattle.vq_laws.specs.ValidScripts.{is_fence_at, IsValidMark, IsValidFence, IsValidBatch, AreWholeBatches}
-use Rattle.vq_laws.proofs.PlanLaws.{get_some}
-use Rattle.vq_laws.proofs.WrittenScripts.{read_batches, read_of_batches}
+use Rattle.vq_model.specs.declared.script.Script.{Script}
+use Rattle.vq_model.specs.declared.script.SemaphoreKind.{SemaphoreKind}
+use Rattle.vq_model.specs.declared.script.Mark.{Mark}
+use Rattle.vq_model.specs.declared.script.Batch.{Batch}
+use Rattle.vq_model.specs.declared.script.Job.{Job}
+use Rattle.vq_model.specs.declared.script.Job.TheVariants.{Host, Batch as BatchJob}
+use Rattle.vq_model.specs.declared.plan.PlanFault.{PlanFault}
+use Rattle.vq_model.specs.declared.plan.PlanFault.TheVariants.{NoSignal as NoSignalAt, SignaledTwice as SignaledTwiceAt, FenceUsed as FenceUsedAt}
+use Rattle.vq_model.specs.Context.{is_timeline}
+use Rattle.vq_model.specs.LoweringFaults.{Use, Waited as IsWaited, Signaled as IsSignaled, Named as IsNamed, UseLine, LoweringFault, NoSignal, SignaledTwice, FenceUsed, count_uses, is_signaled, is_waited, is_named, last_use, fault_of_use, use_fault, use_of_mark, uses_of, uses, fault_from, lowering_fault}
+use Rattle.vq_model.specs.SameScript.{IsRead}
+use Rattle.vq_model.specs.Signals.{kind_of, is_timeline_at, is_counted_at}
+use Rattle.vq_model.specs.ValidScripts.{is_fence_at, IsValidMark, IsValidFence, IsValidBatch, AreWholeBatches}
+use Rattle.vq_model.proofs.Gets.{get_some}
+use Rattle.vq_reading_laws.proofs.Cited.{read_batches, read_of_batches}
 use Rattle.vq_spec.specs.declared.uses.Usage.{Usage}
 use Rattle.vq_spec.specs.declared.uses.Usage.TheVariants.{Waited, Signaled, Named}
 use Rattle.vq_spec.specs.Walks.{fault_after, walk_counted, walk_mark, walk_marks, walk_batch, walk_jobs, and_then, never_used, Walks, FindsFault}

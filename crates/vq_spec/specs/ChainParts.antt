@@ -5,11 +5,11 @@ use Rattle.std.specs.List.Sorted.{IsPermutation, IsSorted}
 use Rattle.std.specs.Option.{option_map, option_map_or}
 use Rattle.std.specs.Ordering.{ordering_then, nat_cmp}
 use Rattle.std.specs.declared.cmp.Ordering.{Ordering}
-use Rattle.vq_laws.specs.declared.plan.Op.{Op}
-use Rattle.vq_laws.specs.declared.script.Script.{Script}
-use Rattle.vq_laws.specs.Lowering.{plan_of}
-use Rattle.vq_laws.specs.SameScript.{IsRead}
-use Rattle.vq_laws.specs.Signals.{value_at, chain_ops}
+use Rattle.vq_model.specs.declared.plan.Op.{Op}
+use Rattle.vq_model.specs.declared.script.Script.{Script}
+use Rattle.vq_model.specs.Lowering.{plan_of}
+use Rattle.vq_model.specs.SameScript.{IsRead}
+use Rattle.vq_model.specs.Signals.{value_at, chain_ops}
 use Rattle.vq_spec.specs.declared.chains.Chain.{Chain}
 
 -- an operation behind its value, if it is one of the chain

@@ -1,18 +1,18 @@
 -- What lowering keeps of the jobs before one.
 use Rattle.std.specs.Prelude.{ℕ, List, ◌≡◌, ◌≤◌, map, take, length, count_by, if◌then◌else◌, Option, None, Bool, false, []}
 use Rattle.std.specs.List.{flat_map, enumerate_from, range_with_len, slice_index}
-use Rattle.vq_laws.specs.declared.script.Script.{Script}
-use Rattle.vq_laws.specs.declared.script.Mark.{Mark}
-use Rattle.vq_laws.specs.declared.script.Batch.{Batch}
-use Rattle.vq_laws.specs.declared.script.Job.{Job}
-use Rattle.vq_laws.specs.declared.plan.PlanJob.{PlanJob}
-use Rattle.vq_laws.specs.declared.plan.Question.TheVariants.{Silent}
-use Rattle.vq_laws.specs.declared.plan.Op.{Op}
-use Rattle.vq_laws.specs.declared.plan.Need.{Need}
-use Rattle.vq_laws.specs.declared.plan.Lane.TheVariants.{Queue as QueueLane}
-use Rattle.vq_laws.specs.Lowering.{batch_commands, plan_job, lane_of, last_before}
-use Rattle.vq_laws.specs.Plan.{same_lane}
-use Rattle.vq_laws.specs.Signals.{Signaling, job_signals, all_signals, signals_semaphore, value_at, is_timeline_at}
+use Rattle.vq_model.specs.declared.script.Script.{Script}
+use Rattle.vq_model.specs.declared.script.Mark.{Mark}
+use Rattle.vq_model.specs.declared.script.Batch.{Batch}
+use Rattle.vq_model.specs.declared.script.Job.{Job}
+use Rattle.vq_model.specs.declared.plan.PlanJob.{PlanJob}
+use Rattle.vq_model.specs.declared.plan.Question.TheVariants.{Silent}
+use Rattle.vq_model.specs.declared.plan.Op.{Op}
+use Rattle.vq_model.specs.declared.plan.Need.{Need}
+use Rattle.vq_model.specs.declared.plan.Lane.TheVariants.{Queue as QueueLane}
+use Rattle.vq_model.specs.Lowering.{batch_commands, plan_job, lane_of, last_before}
+use Rattle.vq_model.specs.Plan.{same_lane}
+use Rattle.vq_model.specs.Signals.{Signaling, job_signals, all_signals, signals_semaphore, value_at, is_timeline_at}
 use Rattle.vq_spec.specs.declared.lowering.Lowered.{Lowered}
 use Rattle.vq_spec.specs.declared.signals.Signals.{Signals}
 

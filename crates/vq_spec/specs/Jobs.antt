@@ -1,9 +1,9 @@
 -- What must be finished before a job of a plan, and what it waits for.
 use Rattle.std.specs.Prelude.{ℕ, List, ◌++◌, Option, None, nat_lt, if◌then◌else◌, option_and_then, filter_map}
 use Rattle.std.specs.Option.{option_to_list}
-use Rattle.vq_laws.specs.declared.plan.Need.{Need}
-use Rattle.vq_laws.specs.declared.plan.PlanJob.{PlanJob}
-use Rattle.vq_laws.specs.Plan.{Plan, initial, resolver, job_of}
+use Rattle.vq_model.specs.declared.plan.Need.{Need}
+use Rattle.vq_model.specs.declared.plan.PlanJob.{PlanJob}
+use Rattle.vq_model.specs.Plan.{Plan, initial, resolver, job_of}
 
 -- the jobs that must be finished before a job starts
 abbrev pub finished_before : PlanJob → List ℕ

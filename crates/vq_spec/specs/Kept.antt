@@ -1,11 +1,11 @@
 -- What a plan keeps beside its script.
 use Rattle.std.specs.Prelude.{◌≡◌, ◌<◌, ◌^◌, map, length, Some, None}
 use Rattle.std.specs.List.{range_with_len}
-use Rattle.vq_laws.specs.declared.script.Script.{Script}
-use Rattle.vq_laws.specs.Edges.{edges_to}
-use Rattle.vq_laws.specs.Lowering.{plan_of}
-use Rattle.vq_laws.specs.LoweringFaults.{lowering_fault}
-use Rattle.vq_laws.specs.SameScript.{IsRead}
+use Rattle.vq_model.specs.declared.script.Script.{Script}
+use Rattle.vq_model.specs.Edges.{edges_to}
+use Rattle.vq_model.specs.Lowering.{plan_of}
+use Rattle.vq_model.specs.LoweringFaults.{lowering_fault}
+use Rattle.vq_model.specs.SameScript.{IsRead}
 use Rattle.vq_spec.specs.ChainParts.{AreChains}
 use Rattle.vq_spec.specs.declared.lowering.Tables.{Tables}
 use Rattle.vq_spec.specs.Places.{command_there}

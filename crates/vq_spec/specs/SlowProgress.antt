@@ -1,10 +1,10 @@
 -- What a slow run keeps on its way, beside the jobs that it has done. This project's own.
 use Rattle.std.specs.Prelude.{ℕ, ◌≡◌, ◌<◌, ◌≤◌, ◌+◌, Bool, true, false, List, length, get_or, min, Option, Some, None, ◌⊎◌, ◌||◌}
-use Rattle.vq_laws.specs.Plan.{Plan, has, chain, initial, value}
-use Rattle.vq_laws.specs.Edges.{must_finish}
-use Rattle.vq_laws.specs.SlowRun.{payload_after, is_of}
-use Rattle.vq_laws.specs.Lanes.{lane_at}
-use Rattle.vq_laws.specs.LoweringFaults.{IsPlan}
+use Rattle.vq_model.specs.Plan.{Plan, has, chain, initial, value}
+use Rattle.vq_model.specs.Edges.{must_finish}
+use Rattle.vq_model.specs.SlowRun.{payload_after, is_of}
+use Rattle.vq_model.specs.Lanes.{lane_at}
+use Rattle.vq_model.specs.LoweringFaults.{IsPlan}
 use Rattle.vq_spec.specs.declared.progress.Progress.{Progress}
 
 -- what must be finished before a done job is done

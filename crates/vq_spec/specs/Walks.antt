@@ -2,15 +2,15 @@
 use Rattle.std.specs.Prelude.{ℕ, List, [], ◌∷◌, ◌≡◌, Bool, true, false, if◌then◌else◌, Option, Some, None, Result, Ok, Err, map, slice_set, slice_index_or}
 use Rattle.std.specs.List.{range_with_len}
 use Rattle.std.specs.Option.{option_map_or, option_to_list}
-use Rattle.vq_laws.specs.declared.script.Script.{Script}
-use Rattle.vq_laws.specs.declared.script.Mark.{Mark}
-use Rattle.vq_laws.specs.declared.script.Batch.{Batch}
-use Rattle.vq_laws.specs.declared.script.Job.{Job}
-use Rattle.vq_laws.specs.declared.script.Job.TheVariants.{Host, Batch as BatchJob}
-use Rattle.vq_laws.specs.declared.plan.PlanFault.{PlanFault}
-use Rattle.vq_laws.specs.declared.plan.PlanFault.TheVariants.{NoSignal, SignaledTwice, FenceUsed, Memory}
-use Rattle.vq_laws.specs.LoweringFaults.{lowering_fault, IsFirstLoweringFault}
-use Rattle.vq_laws.specs.Signals.{is_timeline_at}
+use Rattle.vq_model.specs.declared.script.Script.{Script}
+use Rattle.vq_model.specs.declared.script.Mark.{Mark}
+use Rattle.vq_model.specs.declared.script.Batch.{Batch}
+use Rattle.vq_model.specs.declared.script.Job.{Job}
+use Rattle.vq_model.specs.declared.script.Job.TheVariants.{Host, Batch as BatchJob}
+use Rattle.vq_model.specs.declared.plan.PlanFault.{PlanFault}
+use Rattle.vq_model.specs.declared.plan.PlanFault.TheVariants.{NoSignal, SignaledTwice, FenceUsed, Memory}
+use Rattle.vq_model.specs.LoweringFaults.{lowering_fault, IsFirstLoweringFault}
+use Rattle.vq_model.specs.Signals.{is_timeline_at}
 use Rattle.vq_spec.specs.declared.uses.Usage.{Usage}
 use Rattle.vq_spec.specs.declared.uses.Usage.TheVariants.{Waited, Signaled, Named}
 

@@ -6,8 +6,8 @@ ghost use Rattle.std.specs.List.Sorted.{IsSorted};
 ghost use Rattle.vq_spec.specs.ChainParts.{members, is_before, pair_cmp, placed, Sorts, AreSorted, IsSearchable, first_with, place_in};
 
 use std::alloc::{AllocError, Global};
-use vq_laws::list::List;
-use vq_laws::plan::Op;
+use vq_model::list::List;
+use vq_model::plan::Op;
 
 /// The operations of a semaphore or a fence, by value and then by line.
 #[derive(Drop)]

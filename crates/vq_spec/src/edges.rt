@@ -2,17 +2,17 @@
 ghost use Rattle.std.specs.Prelude.{◌≡◌, ◌<◌, ◌++◌, All, map, length, OnOk, IfOk};
 ghost use Rattle.std.specs.List.{range_with_len};
 ghost use Rattle.std.specs.Option.{option_to_list};
-ghost use Rattle.vq_laws.specs.Edges.{edges_to};
-ghost use Rattle.vq_laws.specs.Lowering.{plan_of};
-ghost use Rattle.vq_laws.specs.Signals.{initial_value};
+ghost use Rattle.vq_model.specs.Edges.{edges_to};
+ghost use Rattle.vq_model.specs.Lowering.{plan_of};
+ghost use Rattle.vq_model.specs.Signals.{initial_value};
 ghost use Rattle.vq_spec.specs.ChainParts.{AreParts};
 ghost use Rattle.vq_spec.specs.Jobs.{awaited_job, edges_of};
 
 use crate::chains::Chain;
 use std::alloc::{AllocError, Global};
-use vq_laws::list::List;
-use vq_laws::plan::{Need, Op, PlanJob};
-use vq_laws::script::{Script, SemaphoreKind};
+use vq_model::list::List;
+use vq_model::plan::{Need, Op, PlanJob};
+use vq_model::script::{Script, SemaphoreKind};
 
 /// The value of a semaphore or a fence before its first signal.
 pub(crate) fn initial_value(kind: SemaphoreKind) -> u64

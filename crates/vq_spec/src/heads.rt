@@ -1,13 +1,13 @@
 //! The first job of each lane that isn't done.
 ghost use Rattle.std.specs.Prelude.{◌≡◌, ◌≢◌, ◌<◌, ◌≤◌, ◌++◌, ◌∷◌, [], ℕ, List, true, length, IfOk};
-ghost use Rattle.vq_laws.specs.Lanes.{lane_number, lane_at};
-ghost use Rattle.vq_laws.specs.LoweringFaults.{IsPlan};
-ghost use Rattle.vq_laws.specs.SlowRun.{is_ready};
+ghost use Rattle.vq_model.specs.Lanes.{lane_number, lane_at};
+ghost use Rattle.vq_model.specs.LoweringFaults.{IsPlan};
+ghost use Rattle.vq_model.specs.SlowRun.{is_ready};
 ghost use Rattle.vq_spec.specs.SlowProgress.{IsClosed, AreHeads};
 
 use crate::plan::Plan;
 use std::alloc::{AllocError, Global};
-use vq_laws::plan::Lane;
+use vq_model::plan::Lane;
 
 /// A lane by number: the host's lane, then those of the queues.
 fn lane_number(lane: Lane) -> usize

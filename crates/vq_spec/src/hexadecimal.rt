@@ -1,7 +1,7 @@
 //! Bytes as lines of hexadecimal digits.
 ghost use Rattle.std.specs.Prelude.{◌≡◌, ◌++◌, ◌<◌, ◌≤◌, ◌*◌, ◌^◌, OnOk, length};
 ghost use Rattle.std.specs.List.{flat_map};
-ghost use Rattle.vq_laws.specs.OutputText.{hex_digit, hex_byte, hex_lines, line_feed};
+ghost use Rattle.vq_model.specs.OutputText.{hex_digit, hex_byte, hex_lines, line_feed};
 
 use std::alloc::AllocError;
 

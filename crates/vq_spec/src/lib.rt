@@ -23,5 +23,5 @@ pub use order::{SlowOrder, slow_order};
 pub use plan::Plan;
 pub use slow::{SlowRun, slow_run};
 pub use text::buffers_text;
-pub use vq_laws::plan::{Answer, AnswerLine, Event, Lane, Need, Op, PlanFault, PlanJob, Question};
+pub use vq_model::plan::{Answer, AnswerLine, Event, Lane, Need, Op, PlanFault, PlanJob, Question};
 pub use vq_transfer::Buffers;

@@ -1,9 +1,9 @@
 //! What a plan keeps beside its script.
 ghost use Rattle.std.specs.Prelude.{◌≡◌, ◌<◌, ◌+◌, ◌^◌, [], None, All, map, take, length, Some, IfOk, OnOk};
 ghost use Rattle.std.specs.List.{flat_map, range_with_len, slice_get};
-ghost use Rattle.vq_laws.specs.Lowering.{batch_commands, plan_of};
-ghost use Rattle.vq_laws.specs.LoweringFaults.{lowering_fault};
-ghost use Rattle.vq_laws.specs.SameScript.{IsRead};
+ghost use Rattle.vq_model.specs.Lowering.{batch_commands, plan_of};
+ghost use Rattle.vq_model.specs.LoweringFaults.{lowering_fault};
+ghost use Rattle.vq_model.specs.SameScript.{IsRead};
 ghost use Rattle.vq_spec.specs.Counts.{AreLowered, batch_job, need_by};
 
 use crate::chains::{Chain, lower_chains, place_ops};
@@ -11,9 +11,9 @@ use crate::edges::lower_edges;
 use crate::places::{Place, lower_places};
 use crate::signals::{Signals, value_of};
 use std::alloc::{AllocError, Global};
-use vq_laws::list::List;
-use vq_laws::plan::{Lane, Need, Op, PlanJob, Question};
-use vq_laws::script::{Batch, Job, Mark, Script};
+use vq_model::list::List;
+use vq_model::plan::{Lane, Need, Op, PlanJob, Question};
+use vq_model::script::{Batch, Job, Mark, Script};
 
 /// What a plan keeps beside its script.
 #[derive(Drop)]

@@ -1,14 +1,14 @@
 //! The order of the slow run of a plan.
 ghost use Rattle.std.specs.Prelude.{◌≡◌, ◌<◌, ◌^◌, ◌++◌, ◌∷◌, [], if◌then◌else◌, IfOk, OnOk, length, filter, not};
 ghost use Rattle.std.specs.List.{range_with_len};
-ghost use Rattle.vq_laws.specs.LoweringFaults.{IsPlan};
-ghost use Rattle.vq_laws.specs.SlowRun.{slow_order, left_over};
+ghost use Rattle.vq_model.specs.LoweringFaults.{IsPlan};
+ghost use Rattle.vq_model.specs.SlowRun.{slow_order, left_over};
 ghost use Rattle.vq_spec.specs.SlowProgress.{is_marked, ArePayloads, HasCome};
 
 use crate::plan::Plan;
 use crate::progress::Progress;
 use std::alloc::{AllocError, Global};
-use vq_laws::list::List;
+use vq_model::list::List;
 
 /// The order of a slow run: again and again the lowest job that can be done is done whole.
 #[derive(Drop)]

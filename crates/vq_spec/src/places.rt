@@ -1,11 +1,11 @@
 //! Where the commands of a plan stand in its script.
 ghost use Rattle.std.specs.Prelude.{◌≡◌, ◌++◌, map, length, Some, OnOk, IfOk};
-ghost use Rattle.vq_laws.specs.Lowering.{batch_commands, plan_of};
-ghost use Rattle.vq_laws.specs.SameScript.{IsRead};
+ghost use Rattle.vq_model.specs.Lowering.{batch_commands, plan_of};
+ghost use Rattle.vq_model.specs.SameScript.{IsRead};
 ghost use Rattle.vq_spec.specs.Places.{command_there, places_of};
 
 use std::alloc::{AllocError, Global};
-use vq_laws::script::{Job, Script};
+use vq_model::script::{Job, Script};
 
 /// Where a command stands: in which job, and how many commands of the job stand before it.
 #[derive(Clone, Copy, Debug, PartialEq, Eq)]

@@ -1,10 +1,10 @@
 //! The plan of a script.
 ghost use Rattle.std.specs.Prelude.{◌≡◌, ◌<◌, length, Some};
 ghost use Rattle.std.specs.List.{slice_get};
-ghost use Rattle.vq_laws.specs.Edges.{edges_to};
-ghost use Rattle.vq_laws.specs.LoweringFaults.{IsPlan, Lowers};
-ghost use Rattle.vq_laws.specs.Plan.{chain, initial, resolver};
-ghost use Rattle.vq_laws.specs.SameScript.{IsRead};
+ghost use Rattle.vq_model.specs.Edges.{edges_to};
+ghost use Rattle.vq_model.specs.LoweringFaults.{IsPlan, Lowers};
+ghost use Rattle.vq_model.specs.Plan.{chain, initial, resolver};
+ghost use Rattle.vq_model.specs.SameScript.{IsRead};
 
 use crate::edges::initial_value;
 use crate::lowering::Tables;
@@ -12,9 +12,9 @@ use crate::places::Place;
 use crate::uses::find_fault;
 use std::alloc::Global;
 use std::marker::Model;
-use vq_laws::list::List;
-use vq_laws::plan::{Op, PlanFault, PlanJob};
-use vq_laws::script::{CommandLine, Job, Script};
+use vq_model::list::List;
+use vq_model::plan::{Op, PlanFault, PlanJob};
+use vq_model::script::{CommandLine, Job, Script};
 
 /// A script's jobs in lanes, with what each waits for, its commands and its signals.
 #[derive(Drop)]
@@ -24,11 +24,11 @@ pub struct Plan {
 }
 
 impl Model for Plan {
-    ghost use Rattle.vq_laws.specs.Plan.{Plan};
+    ghost use Rattle.vq_model.specs.Plan.{Plan};
 
     ghost Value = { Plan };
 
-    ghost use Rattle.vq_laws.specs.Lowering.{plan_of};
+    ghost use Rattle.vq_model.specs.Lowering.{plan_of};
     ghost use Rattle.vq_spec.specs.Kept.{KeepsPlan};
 
     ghost view = { λ a. plan_of a.script };

@@ -2,7 +2,7 @@
 ghost use Rattle.std.specs.Prelude.{◌≡◌, ◌<◌, ◌++◌, ◌∷◌, [], ℕ, List, true, length, All, IfOk, OnOk};
 ghost use Rattle.std.specs.List.{list_all};
 ghost use Rattle.std.specs.Option.{option_to_list};
-ghost use Rattle.vq_laws.specs.SlowRun.{is_ready, lowest_ready};
+ghost use Rattle.vq_model.specs.SlowRun.{is_ready, lowest_ready};
 ghost use Rattle.vq_spec.specs.Jobs.{finished_before};
 ghost use Rattle.vq_spec.specs.SlowProgress.{lower, is_marked, IsLeastOf, HasCome};
 
@@ -11,7 +11,7 @@ use crate::payloads::{first_payloads, signal_all};
 use crate::plan::Plan;
 use crate::reached::needs_reached;
 use std::alloc::{AllocError, Global};
-use vq_laws::plan::PlanJob;
+use vq_model::plan::PlanJob;
 
 /// How far a slow run has come.
 #[derive(Drop)]

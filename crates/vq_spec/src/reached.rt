@@ -1,10 +1,10 @@
 //! Whether needs are reached.
 ghost use Rattle.std.specs.Prelude.{◌≡◌, ◌<◌, length, All, if◌then◌else◌};
 ghost use Rattle.std.specs.List.{list_all, list_any};
-ghost use Rattle.vq_laws.specs.Machine.{is_reached};
+ghost use Rattle.vq_model.specs.Machine.{is_reached};
 ghost use Rattle.vq_spec.specs.SlowProgress.{payload_in};
 
-use vq_laws::plan::{Need, PlanJob};
+use vq_model::plan::{Need, PlanJob};
 
 /// Whether the payload of a need's chain is its value or greater.
 ///

@@ -1,16 +1,16 @@
 //! The signal operations of a script, with their values.
 ghost use Rattle.std.specs.Prelude.{◌≡◌, ◌<◌, ◌+◌, map, length, Some, IfOk, OnOk};
 ghost use Rattle.std.specs.List.{slice_get, range_with_len};
-ghost use Rattle.vq_laws.specs.SameScript.{IsRead};
-ghost use Rattle.vq_laws.specs.Signals.{all_signals, of_mark};
+ghost use Rattle.vq_model.specs.SameScript.{IsRead};
+ghost use Rattle.vq_model.specs.Signals.{all_signals, of_mark};
 ghost use Rattle.vq_spec.specs.Counts.{AreSignals, signals_before, value_by};
-ghost use Rattle.vq_laws.specs.declared.script.Job.TheVariants.{Batch as BatchJob};
+ghost use Rattle.vq_model.specs.declared.script.Job.TheVariants.{Batch as BatchJob};
 
 use crate::uses::is_timeline;
 use std::alloc::{AllocError, Global};
-use vq_laws::list::List;
-use vq_laws::plan::Op;
-use vq_laws::script::{Batch, Mark, Script};
+use vq_model::list::List;
+use vq_model::plan::Op;
+use vq_model::script::{Batch, Mark, Script};
 
 /// The signal operations so far, their places in their chains still 0, and how many of them each
 /// semaphore has.

@@ -1,17 +1,17 @@
 //! The slow run of a plan: what its script means.
 ghost use Rattle.std.specs.Prelude.{◌≡◌, ◌<◌, IfOk, length, map};
-ghost use Rattle.vq_laws.specs.LoweringFaults.{IsPlan};
-ghost use Rattle.vq_laws.specs.Memory.{HasSizes, after_all, zeros_of};
-ghost use Rattle.vq_laws.specs.Plan.{commands_of};
-ghost use Rattle.vq_laws.specs.SlowRun.{command_list, slow_order, left_over, final};
-ghost use Rattle.vq_laws.specs.SameScript.{IsRead};
-ghost use Rattle.vq_laws.specs.ValidScripts.{sizes_of};
+ghost use Rattle.vq_model.specs.LoweringFaults.{IsPlan};
+ghost use Rattle.vq_model.specs.Memory.{HasSizes, after_all, zeros_of};
+ghost use Rattle.vq_model.specs.Plan.{commands_of};
+ghost use Rattle.vq_model.specs.SlowRun.{command_list, slow_order, left_over, final};
+ghost use Rattle.vq_model.specs.SameScript.{IsRead};
+ghost use Rattle.vq_model.specs.ValidScripts.{sizes_of};
 
 use crate::order::{SlowOrder, slow_order};
 use crate::plan::Plan;
 use std::alloc::{AllocError, Global};
-use vq_laws::list::List;
-use vq_laws::script::Script;
+use vq_model::list::List;
+use vq_model::script::Script;
 use vq_transfer::Buffers;
 
 /// What a slow run does: again and again the lowest job that can be done is done whole.

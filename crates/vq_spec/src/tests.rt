@@ -4,7 +4,7 @@ ghost use Rattle.std.specs.Prelude.{◌≡◌};
 use crate::chains::{lower_chains, place_ops};
 use crate::uses::{Usage, fault_after};
 use std::test::Fail;
-use vq_laws::plan::{Op, PlanFault};
+use vq_model::plan::{Op, PlanFault};
 
 #[test]
 fn uses_after_others_are_faulty(rt: HostRuntime) {

@@ -1,13 +1,13 @@
 //! The text of buffers.
 ghost use Rattle.std.specs.Prelude.{◌≡◌, ◌++◌, ◌<◌, OnOk, IfOk, length};
-ghost use Rattle.vq_laws.specs.Memory.{HasSizes};
-ghost use Rattle.vq_laws.specs.OutputText.{buffer_text, buffers_text};
-ghost use Rattle.vq_laws.specs.ValidScripts.{sizes_of};
+ghost use Rattle.vq_model.specs.Memory.{HasSizes};
+ghost use Rattle.vq_model.specs.OutputText.{buffer_text, buffers_text};
+ghost use Rattle.vq_model.specs.ValidScripts.{sizes_of};
 
 use crate::hexadecimal::push_lines;
 use crate::plan::Plan;
 use std::alloc::{AllocError, Global};
-use vq_laws::script::Buffer;
+use vq_model::script::Buffer;
 use vq_transfer::Buffers;
 
 /// Adds the text of one buffer.

@@ -1,15 +1,15 @@
 //! The uses of binary semaphores and fences, and the first that is faulty.
 ghost use Rattle.std.specs.Prelude.{◌≡◌, ◌<◌, All, IfOk, length};
 ghost use Rattle.std.specs.Option.{option_map_or};
-ghost use Rattle.vq_laws.specs.Context.{is_timeline};
-ghost use Rattle.vq_laws.specs.SameScript.{IsRead};
-ghost use Rattle.vq_laws.specs.ValidScripts.{HasValidBatches, IsValidBatch, IsOfBatches};
+ghost use Rattle.vq_model.specs.Context.{is_timeline};
+ghost use Rattle.vq_model.specs.SameScript.{IsRead};
+ghost use Rattle.vq_model.specs.ValidScripts.{HasValidBatches, IsValidBatch, IsOfBatches};
 ghost use Rattle.vq_spec.specs.Walks.{was_signaled, was_named, fault_after, Walks, walk_mark, walk_marks, walk_batch, walk_jobs, FindsFault, never_used};
 
 use std::alloc::{AllocError, Global};
-use vq_laws::list::List;
-use vq_laws::plan::PlanFault;
-use vq_laws::script::{Batch, Job, Mark, Script, SemaphoreKind};
+use vq_model::list::List;
+use vq_model::plan::PlanFault;
+use vq_model::script::{Batch, Job, Mark, Script, SemaphoreKind};
 
 /// How a batch uses a binary semaphore or a fence.
 #[derive(Clone, Copy, Debug, PartialEq, Eq)]

@@ -4,7 +4,7 @@ use Rattle.std.specs.Prelude.{nat_lt, nat_le, slice_range}
 use Rattle.std.specs.List.Sorted.{IsPartitionedBy, IsPartitionPoint}
 use Rattle.std.proofs.lemmas.Bool.{cases_lt}
 use Rattle.std.proofs.lemmas.Bool.Decides.{nat_tests}
-use Rattle.vq_laws.specs.Timeline.{Entry, Timeline, KeepsLists, AreRisingFrom, entries_from, point_at, value_before, past_value, pending_value, first_at_least}
+use Rattle.vq_points.specs.Timeline.{Entry, Timeline, KeepsLists, AreRisingFrom, entries_from, point_at, value_before, past_value, pending_value, first_at_least}
 use Rattle.vq_timeline_core.specs.declared.answers.Found.{Found}
 use Rattle.vq_timeline_core.specs.declared.answers.Found.TheVariants as found_as
 use Rattle.vq_timeline_core.specs.Answers.{found, pending_answer}

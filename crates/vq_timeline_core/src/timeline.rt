@@ -1,7 +1,7 @@
 ghost use Rattle.std.specs.Prelude.{◌≡◌, ◌↔◌, ℕ, ◌^◌, ◌<◌, ◌≤◌, length, None, IsErr, IfOk, IfErr, OnOk, OnErr};
 ghost use Rattle.std.specs.List.Sorted.{IsPartitionPoint};
 ghost use Rattle.std.specs.Option.{option_map};
-ghost use Rattle.vq_laws.specs.Timeline.{KeepsLists, AreRisingFrom, new_timeline, point_at, past_value, pending_value, pending, first_pending, CanTake, after_take, CanBind, next_unbound, after_bind, after_complete, CanFree, after_free};
+ghost use Rattle.vq_points.specs.Timeline.{KeepsLists, AreRisingFrom, new_timeline, point_at, past_value, pending_value, pending, first_pending, CanTake, after_take, CanBind, next_unbound, after_bind, after_complete, CanFree, after_free};
 ghost use Rattle.vq_timeline_core.specs.Answers.{taken_answer, found, place_of};
 
 use crate::{Found, NotNext, OpPlace, Taken};
@@ -28,7 +28,7 @@ pub struct TimelineCore {
 }
 
 impl Model for TimelineCore {
-    ghost use Rattle.vq_laws.specs.Timeline.{Timeline};
+    ghost use Rattle.vq_points.specs.Timeline.{Timeline};
 
     ghost Value = { Timeline };
 

@@ -3,9 +3,9 @@ use Rattle.std.proofs.Common.{◌≡◌, ℕ, Bool, not, List, ◌↔◌, refl, 
 use Rattle.std.specs.Bool.{IsTrue}
 use Rattle.std.specs.List.{slice_index_or}
 use Rattle.std.proofs.lemmas.Bool.{not-true, not_from_false}
-use Rattle.vq_laws.specs.declared.script.FillSize.{FillSize}
-use Rattle.vq_laws.specs.declared.script.Command.TheVariants.{Fill, Copy}
-use Rattle.vq_laws.specs.Ranges.{Fits, IsWithin, fill_size, is_aligned_command, overlaps_itself}
+use Rattle.vq_model.specs.declared.script.FillSize.{FillSize}
+use Rattle.vq_model.specs.declared.script.Command.TheVariants.{Fill, Copy}
+use Rattle.vq_model.specs.Ranges.{Fits, IsWithin, fill_size, is_aligned_command, overlaps_itself}
 
 -- a fill that lies in its buffer fits where it is aligned
 pub fill_fits : (sizes : List ℕ) (b o : ℕ) (size : FillSize) (word n : ℕ) (aligned : Bool) →

@@ -5,8 +5,8 @@ use Rattle.std.proofs.lemmas.List.{map-set, with_items_is, get_or-map, length-ma
 use Rattle.std.proofs.lemmas.List.FromFn.{length-map-range_with_len, get_or-map-range_with_len}
 use Rattle.std.specs.Vec.{with_items}
 use Rattle.std.specs.List.{range_with_len, slice_index_or, slice_range}
-use Rattle.vq_laws.specs.Memory.{Memory, buffer, with_bytes}
-use Rattle.vq_laws.proofs.MemoryLaws.{length-with_bytes}
+use Rattle.vq_model.specs.Memory.{Memory, buffer, with_bytes}
+use Rattle.vq_memory_laws.proofs.Cited.{length-with_bytes}
 use Rattle.vq_transfer.specs.Stored.{bytes_of}
 
 -- a vector with other items, seen from outside

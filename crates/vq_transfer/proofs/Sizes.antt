@@ -2,10 +2,10 @@
 use Rattle.std.proofs.Common.{◌≡◌, ℕ, ◌<◌, List, [], ◌∷◌, length, map, zero, suc, refl, sym, ◌∙◌, ap, subst, get_or, arith}
 use Rattle.std.proofs.lemmas.List.{get_or-map, length-map, same_lists, get_or_default}
 use Rattle.std.specs.List.{slice_index_or}
-use Rattle.vq_laws.specs.declared.script.Command.{Command}
-use Rattle.vq_laws.specs.Memory.{Memory, HasSizes, buffer, effect}
-use Rattle.vq_laws.specs.Ranges.{Fits}
-use Rattle.vq_laws.proofs.MemoryLaws.{effect_sizes}
+use Rattle.vq_model.specs.declared.script.Command.{Command}
+use Rattle.vq_model.specs.Memory.{Memory, HasSizes, buffer, effect}
+use Rattle.vq_model.specs.Ranges.{Fits}
+use Rattle.vq_memory_laws.proofs.Cited.{effect_sizes}
 
 -- buffers have the sizes that they have
 pub has_own_sizes : (m : Memory) → HasSizes (map length m) m

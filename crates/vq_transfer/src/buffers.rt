@@ -1,15 +1,15 @@
 //! The bytes of all buffers.
 ghost use Rattle.std.specs.Prelude.{◌≡◌, ◌≢◌, ℕ, [], ◌+◌, ◌<◌, ◌≤◌, ◌^◌, ◌↔◌, IsTrue, IfOk, length, map};
 ghost use Rattle.std.specs.List.{range_with_len, slice_index_or};
-ghost use Rattle.vq_laws.specs.Memory.{effect, zeros_of, buffer};
-ghost use Rattle.vq_laws.specs.Ranges.{Fits, IsWithin};
+ghost use Rattle.vq_model.specs.Memory.{effect, zeros_of, buffer};
+ghost use Rattle.vq_model.specs.Ranges.{Fits, IsWithin};
 
 use crate::ranges::{fill_size, is_aligned, is_aligned_fill, overlaps_itself};
 use crate::writes;
 use std::alloc::{AllocError, Global};
 use std::marker::Model;
-use vq_laws::list::Bytes;
-use vq_laws::script::{Command, FillSize};
+use vq_model::list::Bytes;
+use vq_model::script::{Command, FillSize};
 
 /// The bytes of each buffer, in the order in which the buffers are declared.
 #[derive(Drop)]
@@ -19,7 +19,7 @@ pub struct Buffers {
 
 impl Model for Buffers {
     ghost use Rattle.std.specs.Prelude.{length, ◌<◌, ◌^◌};
-    ghost use Rattle.vq_laws.specs.Memory.{Memory};
+    ghost use Rattle.vq_model.specs.Memory.{Memory};
     ghost use Rattle.vq_transfer.specs.Stored.{bytes_of};
 
     ghost Value = { Memory };

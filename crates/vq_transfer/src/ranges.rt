@@ -1,8 +1,8 @@
 //! Whether the ranges of commands lie in their buffers.
 ghost use Rattle.std.specs.Prelude.{◌≡◌, ℕ, List};
-ghost use Rattle.vq_laws.specs.Ranges.{fill_size, is_aligned, is_aligned_command, overlaps_itself};
+ghost use Rattle.vq_model.specs.Ranges.{fill_size, is_aligned, is_aligned_command, overlaps_itself};
 
-use vq_laws::script::{Command, FillSize};
+use vq_model::script::{Command, FillSize};
 
 /// How many bytes a fill from `offset` on writes in a buffer of `len` bytes.
 pub(crate) fn fill_size(size: FillSize, offset: u32, len: usize) -> usize

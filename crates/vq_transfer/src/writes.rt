@@ -1,7 +1,7 @@
 //! Writes into the bytes of one buffer. All other bytes stay.
 ghost use Rattle.std.specs.Prelude.{◌≡◌, ◌<◌, ◌≤◌, ◌+◌, ◌*◌, ◌%◌, ℕ, length, min, max};
 ghost use Rattle.std.specs.List.{slice_range};
-ghost use Rattle.vq_laws.specs.Memory.{with_bytes, word_bytes};
+ghost use Rattle.vq_model.specs.Memory.{with_bytes, word_bytes};
 
 /// Writes a word again and again, its least significant byte first.
 fn write_word(part: &mut [u8], word: u32)

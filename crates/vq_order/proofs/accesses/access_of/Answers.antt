@@ -2,7 +2,7 @@ use Rattle.std.proofs.Common.{ap}
 use Rattle.std.specs.Option.{option_map}
 use Rattle.vq_order.proofs.AccessLaws.{fits_command}
 use Rattle.vq_order.proofs.CommandJobs.{owned_exists, owner_exists}
-use Rattle.vq_laws.proofs.PlansKept.{plan_well_formed}
+use Rattle.vq_plan_laws.proofs.Cited.{plan_well_formed}
 use Rattle.vq_order.proofs.accesses.access_of.Goals as goal
 
 pub command-requires : goal.command-requires

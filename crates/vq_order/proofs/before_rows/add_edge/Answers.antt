@@ -1,5 +1,5 @@
 use Rattle.std.proofs.Common.{◌≡◌, ◌+◌, ℕ, List, [], max, eqb, if◌then◌else◌, length, get_or, ap, ◌∙◌, sym, subst, arith}
-use Rattle.vq_laws.specs.Lanes.{lane_at}
+use Rattle.vq_model.specs.Lanes.{lane_at}
 use Rattle.vq_order.specs.Clocks.{in_row}
 use Rattle.vq_order.proofs.RowLaws.{take_edge, leave_edge}
 use Rattle.vq_order.proofs.before_rows.add_edge.Goals as goal

@@ -1,5 +1,5 @@
 use Rattle.std.proofs.Common.{◌≡◌, ◌+◌, length, take}
-use Rattle.vq_laws.specs.Lanes.{lane_at}
+use Rattle.vq_model.specs.Lanes.{lane_at}
 use Rattle.vq_order.specs.Clocks.{Covers, itself, PassesOne, in_row}
 use Rattle.vq_order.proofs.before_rows.before_clock.Given as goal
 

@@ -1,7 +1,7 @@
 use Rattle.std.proofs.Common.{◌+◌, ◌<◌, ℕ, List, length, get_or, sym, subst}
-use Rattle.vq_laws.specs.SlowRun.{slow_order}
+use Rattle.vq_model.specs.SlowRun.{slow_order}
 use Rattle.vq_order.specs.Clocks.{HasClocks, IsClock, in_row}
-use Rattle.vq_laws.specs.Edges.{AtEnd}
+use Rattle.vq_model.specs.Edges.{AtEnd}
 use Rattle.vq_order.proofs.RowLaws.{slow_at, clocks_push}
 use Rattle.vq_order.proofs.before_rows.before_clocks.Goals as goal
 

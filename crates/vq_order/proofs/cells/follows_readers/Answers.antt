@@ -1,5 +1,5 @@
 use Rattle.std.proofs.Common.{◌≡◌, ℕ, List, get_or, true, subst}
-use Rattle.vq_laws.specs.Plan.{has}
+use Rattle.vq_model.specs.Plan.{has}
 use Rattle.vq_order.proofs.SlowFacts.{has_at}
 use Rattle.vq_order.proofs.cells.follows_readers.Goals as goal
 

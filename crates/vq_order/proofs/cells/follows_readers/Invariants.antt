@@ -1,5 +1,5 @@
 use Rattle.std.proofs.Common.{◌≡◌, ℕ, true, take}
-use Rattle.vq_laws.specs.Plan.{has}
+use Rattle.vq_model.specs.Plan.{has}
 use Rattle.vq_order.specs.Swept.{AtOrBefore}
 use Rattle.vq_order.proofs.cells.follows_readers.Given as goal
 

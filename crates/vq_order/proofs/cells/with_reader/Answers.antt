@@ -1,6 +1,6 @@
 use Rattle.std.proofs.Common.{◌≡◌, ◌++◌, ◌∷◌, ◌+◌, ◌⊎◌, [], ℕ, List, get_or, take, true, sym, ap, ◌∙◌, subst}
 use Rattle.std.proofs.lemmas.List.{take_all}
-use Rattle.vq_laws.specs.Plan.{has}
+use Rattle.vq_model.specs.Plan.{has}
 use Rattle.vq_order.specs.Swept.{AtOrBefore, KeepsLater}
 use Rattle.vq_order.proofs.SlowFacts.{has_at}
 use Rattle.vq_order.proofs.SweepLaws.{Others, Only, keep_one, skip_one, kept_at_last}

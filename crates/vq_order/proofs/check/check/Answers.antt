@@ -1,4 +1,4 @@
-use Rattle.vq_laws.proofs.LawfulOrder.{plan_has_sure_order}
+use Rattle.vq_order_laws.proofs.Cited.{plan_has_sure_order}
 use Rattle.vq_order.proofs.check.check.Goals as goal
 
 pub of-requires-clause-order : goal.of-requires-clause-order

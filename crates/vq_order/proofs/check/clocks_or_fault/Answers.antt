@@ -1,7 +1,6 @@
 use Rattle.std.proofs.Common.{ℕ, Option, subst}
-use Rattle.vq_laws.specs.Checks.{IsRaceAt}
-use Rattle.vq_laws.proofs.BatchPlans.{never_busy, never_ahead}
-use Rattle.vq_laws.proofs.PlansKept.{plan_well_formed}
+use Rattle.vq_model.specs.Checks.{IsRaceAt}
+use Rattle.vq_plan_laws.proofs.Cited.{never_busy, never_ahead, plan_well_formed}
 use Rattle.vq_order.specs.Pairs.{IsLeastPairOrNone}
 use Rattle.vq_order.proofs.UnreachedLaws.{none_left}
 use Rattle.vq_order.proofs.check.clocks_or_fault.Goals as goal

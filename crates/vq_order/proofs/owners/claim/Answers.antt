@@ -1,6 +1,6 @@
 use Rattle.std.proofs.Common.{◌≡◌, ℕ, List, true, get_or, ◌∙◌, subst, arith, rules}
 use Rattle.std.proofs.lemmas.List.{length-set}
-use Rattle.vq_laws.specs.Plan.{has, commands_of}
+use Rattle.vq_model.specs.Plan.{has, commands_of}
 use Rattle.vq_order.proofs.CommandJobs.{owned_exists}
 use Rattle.vq_order.proofs.Marking.{marked_own, marked_others}
 use Rattle.vq_order.proofs.SlowFacts.{has_at}

@@ -1,5 +1,5 @@
 use Rattle.std.proofs.Common.{◌≡◌, ℕ, true, false, length, take}
-use Rattle.vq_laws.specs.Plan.{has}
+use Rattle.vq_model.specs.Plan.{has}
 use Rattle.vq_order.specs.Clocks.{in_row}
 use Rattle.vq_order.proofs.owners.claim.Given as goal
 

@@ -1,9 +1,9 @@
 use Rattle.std.proofs.Common.{◌<◌, ◌≡◌, ◌+◌, ℕ, List, true, length, drop, sym, ap, ◌∙◌, inl, inr, subst, arith, rules}
 use Rattle.std.proofs.lemmas.Bool.{cases_eq, cases_Bool}
-use Rattle.vq_laws.specs.Plan.{has, commands_of}
+use Rattle.vq_model.specs.Plan.{has, commands_of}
 use Rattle.vq_order.specs.Clocks.{in_row}
 use Rattle.vq_order.proofs.CommandJobs.{command_has_job, owner_exists}
-use Rattle.vq_laws.proofs.PlansKept.{plan_well_formed}
+use Rattle.vq_plan_laws.proofs.Cited.{plan_well_formed}
 use Rattle.vq_order.proofs.RowLaws.{whole_new}
 use Rattle.vq_order.proofs.owners.owners.Goals as goal
 

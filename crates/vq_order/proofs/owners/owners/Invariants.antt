@@ -1,5 +1,5 @@
 use Rattle.std.proofs.Common.{◌≡◌, ◌<◌, ℕ, true, length}
-use Rattle.vq_laws.specs.Plan.{has, commands_of}
+use Rattle.vq_model.specs.Plan.{has, commands_of}
 use Rattle.vq_order.specs.Clocks.{in_row}
 use Rattle.vq_order.proofs.owners.owners.Given as goal
 

@@ -1,5 +1,5 @@
 use Rattle.std.proofs.Common.{ℕ, true, length, take, get_or, ◌≡◌}
-use Rattle.vq_laws.specs.Plan.{has}
+use Rattle.vq_model.specs.Plan.{has}
 use Rattle.vq_order.specs.Clocks.{position}
 use Rattle.vq_order.proofs.positions.positions.Given as goal
 

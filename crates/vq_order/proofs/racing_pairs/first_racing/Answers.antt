@@ -1,6 +1,6 @@
 use Rattle.std.proofs.Common.{inl, inr, sym, ◌∙◌, subst, arith}
 use Rattle.std.proofs.lemmas.Bool.{false≢true, cases_eq}
-use Rattle.vq_laws.specs.Races.{IsRace}
+use Rattle.vq_model.specs.Races.{IsRace}
 use Rattle.vq_order.proofs.AccessLaws.{access_at}
 use Rattle.vq_order.proofs.racing_pairs.first_racing.Goals as goal
 

@@ -1,5 +1,5 @@
 use Rattle.std.proofs.Common.{◌<◌, ℕ}
-use Rattle.vq_laws.specs.Races.{IsRace}
+use Rattle.vq_model.specs.Races.{IsRace}
 use Rattle.vq_order.proofs.racing_pairs.first_racing.Given as goal
 
 abbrev pub invariant-loop-c : goal.invariant-loop-c

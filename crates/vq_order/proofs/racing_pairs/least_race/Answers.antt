@@ -1,8 +1,8 @@
 use Rattle.std.proofs.Common.{ℕ, inl, inr, ap, subst, arith}
 use Rattle.std.proofs.lemmas.Bool.{cases_eq}
 use Rattle.std.specs.Option.{option_map_or}
-use Rattle.vq_laws.specs.Checks.{IsLeastPair, IsRaceAt}
-use Rattle.vq_laws.specs.Races.{IsRace}
+use Rattle.vq_model.specs.Checks.{IsLeastPair, IsRaceAt}
+use Rattle.vq_model.specs.Races.{IsRace}
 use Rattle.vq_order.proofs.RacingPairs.{first_is_least, no_pair_races}
 use Rattle.vq_order.proofs.racing_pairs.least_race.Goals as goal
 

@@ -1,7 +1,7 @@
 use Rattle.std.proofs.Common.{true, false, inl, inr, sym, ◌∙◌, Bool, refl, IsTrue, not}
 use Rattle.std.proofs.lemmas.Bool.{false≢true}
 use Rattle.vq_order.proofs.AccessLaws.{race_from, race_by}
-use Rattle.vq_laws.proofs.PlansKept.{plan_well_formed}
+use Rattle.vq_plan_laws.proofs.Cited.{plan_well_formed}
 use Rattle.vq_order.proofs.racing_pairs.race.Goals as goal
 
 pub returns-then-a-b : goal.returns-then-a-b

@@ -1,5 +1,5 @@
 use Rattle.std.proofs.Common.{◌≡◌, ℕ, List, [], max, eqb, if◌then◌else◌, length, get_or, sym, ap, ◌∙◌, subst, arith}
-use Rattle.vq_laws.specs.Lanes.{lane_at}
+use Rattle.vq_model.specs.Lanes.{lane_at}
 use Rattle.vq_order.specs.Clocks.{in_row}
 use Rattle.vq_order.proofs.RowLaws.{first_early, take_job}
 use Rattle.vq_order.proofs.sure_rows.add_job.Goals as goal

@@ -1,7 +1,7 @@
 use Rattle.std.proofs.Common.{◌≡◌, ◌+◌, ℕ, List, [], max, eqb, if◌then◌else◌, get_or, Some, ap, subst, arith}
 use Rattle.std.specs.Option.{option_map}
-use Rattle.vq_laws.specs.Plan.{job_of}
-use Rattle.vq_laws.specs.Lanes.{lane_at}
+use Rattle.vq_model.specs.Plan.{job_of}
+use Rattle.vq_model.specs.Lanes.{lane_at}
 use Rattle.vq_order.specs.Clocks.{in_row}
 use Rattle.vq_order.proofs.RowLaws.{take_op, leave_op}
 use Rattle.vq_order.proofs.sure_rows.add_op.Goals as goal

@@ -1,6 +1,6 @@
 use Rattle.std.proofs.Common.{◌≡◌, [], sym, ap, ◌∙◌, arith}
 use Rattle.std.specs.Option.{option_map_or}
-use Rattle.vq_laws.specs.Plan.{signals_of}
+use Rattle.vq_model.specs.Plan.{signals_of}
 use Rattle.vq_order.proofs.RowLaws.{ends_some, ends_none, last_of_job, op_exists, last_none}
 use Rattle.vq_order.proofs.sure_rows.ops_end.Goals as goal
 

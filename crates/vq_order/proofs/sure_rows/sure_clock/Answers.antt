@@ -1,9 +1,9 @@
 use Rattle.std.proofs.Common.{◌≡◌, ◌+◌, ℕ, List, [], ◌∷◌, ◌++◌, length, take, drop, get_or, true, sym, ap, ◌∙◌, subst, add-one, rules}
 use Rattle.std.proofs.Math.Seq.{take-suc}
 use Rattle.std.proofs.lemmas.List.{take_all}
-use Rattle.vq_laws.specs.Edges.{AtEnd, must_finish}
-use Rattle.vq_laws.specs.Plan.{has, job_of}
-use Rattle.vq_laws.specs.Lanes.{lane_at}
+use Rattle.vq_model.specs.Edges.{AtEnd, must_finish}
+use Rattle.vq_model.specs.Plan.{has, job_of}
+use Rattle.vq_model.specs.Lanes.{lane_at}
 use Rattle.vq_order.specs.Clocks.{Covers, SureByJob, IsSureBy, in_row}
 use Rattle.vq_order.proofs.ClockLaws.{sure_end}
 use Rattle.vq_order.proofs.SlowFacts.{has_at}

@@ -1,7 +1,7 @@
 use Rattle.std.proofs.Common.{◌≡◌, ◌+◌, length, take}
-use Rattle.vq_laws.specs.Plan.{job_of}
-use Rattle.vq_laws.specs.Edges.{must_finish}
-use Rattle.vq_laws.specs.Lanes.{lane_at}
+use Rattle.vq_model.specs.Plan.{job_of}
+use Rattle.vq_model.specs.Edges.{must_finish}
+use Rattle.vq_model.specs.Lanes.{lane_at}
 use Rattle.vq_order.specs.Clocks.{Covers, SureByJob, IsSureBy, in_row}
 use Rattle.vq_order.proofs.sure_rows.sure_clock.Given as goal
 

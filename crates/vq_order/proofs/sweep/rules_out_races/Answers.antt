@@ -1,6 +1,6 @@
 use Rattle.std.proofs.Common.{◌≡◌, [], sym, ◌∙◌, length, IsTrue, List, ℕ, subst, rules}
 use Rattle.std.proofs.lemmas.Result.{IfOk-weaker}
-use Rattle.vq_laws.specs.Checks.{IsRaceAt, NoLines}
+use Rattle.vq_model.specs.Checks.{IsRaceAt, NoLines}
 use Rattle.vq_order.specs.CellRanges.{AreCuts}
 use Rattle.vq_order.specs.Swept.{Sweeps, TouchesIn}
 use Rattle.vq_order.proofs.SweptCells.{untouched_keeps}

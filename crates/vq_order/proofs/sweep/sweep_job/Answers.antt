@@ -1,12 +1,12 @@
 use Rattle.std.proofs.Common.{◌≡◌, ◌+◌, [], ℕ, List, None, true, take, get_or, subst, arith, rules}
 use Rattle.std.proofs.lemmas.Bool.{false≢true}
 use Rattle.std.proofs.lemmas.Option.{slice_get-get_or}
-use Rattle.vq_laws.specs.Plan.{has, commands_of}
+use Rattle.vq_model.specs.Plan.{has, commands_of}
 use Rattle.vq_order.specs.Swept.{TouchesAmong, TouchesBy}
 use Rattle.vq_order.specs.declared.accesses.Access.{Access}
 use Rattle.vq_order.proofs.AccessLaws.{access_at}
 use Rattle.vq_order.proofs.CommandJobs.{owned_exists}
-use Rattle.vq_laws.proofs.PlansKept.{plan_well_formed}
+use Rattle.vq_plan_laws.proofs.Cited.{plan_well_formed}
 use Rattle.vq_order.proofs.SlowFacts.{has_at}
 use Rattle.vq_order.proofs.SweptCells.{sweeps_none, sweeps_then}
 use Rattle.vq_order.proofs.SweptRaces.{among_more}

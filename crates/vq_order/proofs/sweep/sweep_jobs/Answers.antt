@@ -1,6 +1,6 @@
 use Rattle.std.proofs.Common.{◌+◌, [], take, get_or}
 use Rattle.std.proofs.lemmas.Bool.{false≢true}
-use Rattle.vq_laws.specs.Plan.{commands_of}
+use Rattle.vq_model.specs.Plan.{commands_of}
 use Rattle.vq_order.specs.Swept.{TouchesAmong, TouchesIn}
 use Rattle.vq_order.proofs.RowLaws.{slow_at}
 use Rattle.vq_order.proofs.SweptCells.{sweeps_none, sweeps_then}

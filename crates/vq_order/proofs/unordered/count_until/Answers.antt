@@ -1,7 +1,7 @@
 use Rattle.std.proofs.Common.{◌≡◌, ◌≤◌, ◌<◌, ℕ, ◌+◌, ◌-◌, ◌/◌, get_or, subst, sym, ap, arith}
 use Rattle.std.specs.Option.{option_map_or}
-use Rattle.vq_laws.specs.Plan.{line_of_op}
-use Rattle.vq_laws.proofs.PlansKept.{plan_well_formed}
+use Rattle.vq_model.specs.Plan.{line_of_op}
+use Rattle.vq_plan_laws.proofs.Cited.{plan_well_formed}
 use Rattle.vq_order.proofs.BinaryChains.{until_left, until_right}
 use Rattle.vq_order.proofs.UnorderedLaws.{chain_op_exists}
 use Rattle.vq_order.proofs.unordered.count_until.Goals as goal

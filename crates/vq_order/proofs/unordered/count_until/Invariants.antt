@@ -1,5 +1,5 @@
 use Rattle.std.proofs.Common.{◌<◌, ◌≤◌, ◌-◌, ℕ, length, get_or}
-use Rattle.vq_laws.specs.Plan.{line_of_op}
+use Rattle.vq_model.specs.Plan.{line_of_op}
 use Rattle.vq_order.proofs.unordered.count_until.Given as goal
 
 abbrev pub decreases-loop-low : goal.decreases-loop-low

@@ -1,5 +1,5 @@
 use Rattle.std.proofs.Common.{ℕ, Option, sym, subst}
-use Rattle.vq_laws.specs.Checks.{IsUnordered}
+use Rattle.vq_model.specs.Checks.{IsUnordered}
 use Rattle.vq_order.specs.Pairs.{IsLeastPairOrNone}
 use Rattle.vq_order.proofs.UnorderedSteps.{all_searched}
 use Rattle.vq_order.proofs.unordered.first_unordered.Goals as goal

@@ -1,7 +1,7 @@
 use Rattle.std.proofs.Common.{ℕ, ◌+◌, length, get_or, Option, sym, subst, arith}
-use Rattle.vq_laws.specs.declared.plan.Need.{Need}
-use Rattle.vq_laws.specs.Plan.{needs}
-use Rattle.vq_laws.proofs.PlansKept.{plan_semaphores}
+use Rattle.vq_model.specs.declared.plan.Need.{Need}
+use Rattle.vq_model.specs.Plan.{needs}
+use Rattle.vq_plan_laws.proofs.Cited.{plan_semaphores}
 use Rattle.vq_order.specs.Pairs.{IsLeastPairOrNone}
 use Rattle.vq_order.specs.UnorderedPairs.{IsOfFirst, IsOvertakenAt}
 use Rattle.vq_order.proofs.PairSearches.{first_more}

@@ -1,5 +1,5 @@
 use Rattle.std.proofs.Common.{ℕ, List, Option, length, get_or, sym, ap, subst, arith}
-use Rattle.vq_laws.proofs.PlansKept.{plan_well_formed}
+use Rattle.vq_plan_laws.proofs.Cited.{plan_well_formed}
 use Rattle.vq_order.specs.Pairs.{IsLeastPairOrNone}
 use Rattle.vq_order.specs.UnorderedPairs.{IsTooLow, op_in, IsUnorderedNext, IsUnorderedAt}
 use Rattle.vq_order.proofs.PairSearches.{pair_join}

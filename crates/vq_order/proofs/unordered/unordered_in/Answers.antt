@@ -1,5 +1,5 @@
 use Rattle.std.proofs.Common.{ℕ, ◌+◌, Option, sym, ◌∙◌, subst, arith}
-use Rattle.vq_laws.proofs.PlansKept.{plan_semaphores}
+use Rattle.vq_plan_laws.proofs.Cited.{plan_semaphores}
 use Rattle.vq_order.specs.Pairs.{IsLeastPairOrNone}
 use Rattle.vq_order.specs.UnorderedPairs.{IsOfFirst, IsUnorderedAt}
 use Rattle.vq_order.proofs.PairSearches.{first_more}

@@ -1,7 +1,7 @@
 use Rattle.std.proofs.Common.{◌≡◌, ◌<◌, ◌∙◌, List, ℕ, All, not, length, ap, sym, subst}
 use Rattle.std.specs.List.{list_any}
-use Rattle.vq_laws.specs.declared.plan.Need.{Need}
-use Rattle.vq_laws.specs.Machine.{is_reached}
+use Rattle.vq_model.specs.declared.plan.Need.{Need}
+use Rattle.vq_model.specs.Machine.{is_reached}
 use Rattle.vq_spec.specs.SlowProgress.{payload_in}
 use Rattle.vq_spec.proofs.SlowReady.{chains_exist}
 use Rattle.vq_order.proofs.UnreachedLaws.{any_unreached}

@@ -1,8 +1,8 @@
 use Rattle.std.proofs.Common.{◌≡◌, ◌+◌, ◌++◌, ◌∷◌, [], ℕ, List, take, get_or, subst, sym, ap, ◌∙◌, add-one}
 use Rattle.std.proofs.Math.Seq.{take-suc}
 use Rattle.std.proofs.lemmas.List.{take_all}
-use Rattle.vq_laws.specs.Plan.{has}
-use Rattle.vq_laws.specs.SlowRun.{left_over}
+use Rattle.vq_model.specs.Plan.{has}
+use Rattle.vq_model.specs.SlowRun.{left_over}
 use Rattle.vq_spec.proofs.SlowHeads.{has_at}
 use Rattle.vq_order.specs.Reach.{IsLeastOrNone, IsUnreachedIn}
 use Rattle.vq_order.proofs.UnreachedLaws.{no_job, all_jobs, left_exists}

@@ -1,5 +1,5 @@
 use Rattle.std.proofs.Common.{◌+◌, sym, ◌∙◌, subst}
-use Rattle.vq_laws.specs.Checks.{IsLeast}
+use Rattle.vq_model.specs.Checks.{IsLeast}
 use Rattle.vq_order.specs.Reach.{IsUnreachedOf}
 use Rattle.vq_order.proofs.UnreachedLaws.{need_found, need_reached}
 use Rattle.vq_order.proofs.unreachable.with_need.Goals as goal

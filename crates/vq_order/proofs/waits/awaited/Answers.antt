@@ -1,6 +1,6 @@
 use Rattle.std.proofs.Common.{◌≡◌, ◌+◌, ◌++◌, ◌∷◌, [], take, get_or, sym, ap, ◌∙◌, add-one}
 use Rattle.std.proofs.Math.Seq.{take-suc}
-use Rattle.vq_laws.specs.declared.plan.Need.{Need}
+use Rattle.vq_model.specs.declared.plan.Need.{Need}
 use Rattle.vq_order.specs.Clocks.{resolving}
 use Rattle.vq_order.proofs.Resolving.{resolving_push, need_chain}
 use Rattle.vq_order.proofs.waits.awaited.Goals as goal

@@ -1,7 +1,7 @@
 use Rattle.std.proofs.Common.{◌≡◌, ◌∷◌, ◌++◌, [], None, refl, sym, subst, ◌∙◌}
-use Rattle.vq_laws.specs.declared.script.Job.TheVariants.{Batch as BatchJob}
-use Rattle.vq_laws.specs.declared.statement.Statement.TheVariants.{EndBatch}
-use Rattle.vq_laws.specs.Reading.{with_line}
+use Rattle.vq_model.specs.declared.script.Job.TheVariants.{Batch as BatchJob}
+use Rattle.vq_model.specs.declared.statement.Statement.TheVariants.{EndBatch}
+use Rattle.vq_model.specs.Reading.{with_line}
 use Rattle.vq_script.specs.Holds.{Holds, Kept, kept, batch_so_far}
 use Rattle.vq_script.proofs.BatchKinds.{end_kinds}
 use Rattle.vq_script.proofs.Pushes.{holds_end}

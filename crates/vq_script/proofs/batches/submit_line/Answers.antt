@@ -1,7 +1,7 @@
 use Rattle.std.proofs.Common.{Some, None, [], sym, subst}
-use Rattle.vq_laws.specs.declared.script.Batch.{Batch}
-use Rattle.vq_laws.specs.declared.statement.Statement.TheVariants.{BeginBatch}
-use Rattle.vq_laws.specs.Reading.{with_line}
+use Rattle.vq_model.specs.declared.script.Batch.{Batch}
+use Rattle.vq_model.specs.declared.statement.Statement.TheVariants.{BeginBatch}
+use Rattle.vq_model.specs.Reading.{with_line}
 use Rattle.vq_script.specs.Holds.{Holds, kept}
 use Rattle.vq_script.proofs.Pushes.{holds_submit}
 use Rattle.vq_script.proofs.batches.submit_line.Goals as goal

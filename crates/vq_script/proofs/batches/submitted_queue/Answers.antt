@@ -1,9 +1,9 @@
 use Rattle.std.proofs.Common.{◌≡◌, true, false, Some, None, refl, ap, sym, ◌∙◌, List}
 use Rattle.std.specs.List.{position}
 use Rattle.std.specs.Option.{option_map}
-use Rattle.vq_laws.specs.Text.{is_name}
-use Rattle.vq_laws.specs.declared.script.Queue.{Queue}
-use Rattle.vq_laws.specs.declared.statement.Statement.TheVariants.{BeginBatch}
+use Rattle.vq_model.specs.Text.{is_name}
+use Rattle.vq_model.specs.declared.script.Queue.{Queue}
+use Rattle.vq_model.specs.declared.statement.Statement.TheVariants.{BeginBatch}
 use Rattle.vq_script.specs.Holds.{kept}
 use Rattle.vq_script.specs.Names.{names_queue}
 use Rattle.vq_script.proofs.FirstKinds.{submit_kinds}

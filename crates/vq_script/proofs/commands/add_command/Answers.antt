@@ -1,7 +1,7 @@
 use Rattle.std.proofs.Common.{Some, sym, subst}
-use Rattle.vq_laws.specs.declared.script.Batch.{Batch}
-use Rattle.vq_laws.specs.declared.statement.Statement.TheVariants.{AddCommand}
-use Rattle.vq_laws.specs.Reading.{with_line}
+use Rattle.vq_model.specs.declared.script.Batch.{Batch}
+use Rattle.vq_model.specs.declared.statement.Statement.TheVariants.{AddCommand}
+use Rattle.vq_model.specs.Reading.{with_line}
 use Rattle.vq_script.specs.Holds.{Holds, kept, with_command, batch_so_far}
 use Rattle.vq_script.proofs.BatchMore.{commanding}
 use Rattle.vq_script.proofs.Pushes.{holds_command}

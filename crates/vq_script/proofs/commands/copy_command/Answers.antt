@@ -1,5 +1,5 @@
 use Rattle.std.proofs.Common.{◌≡◌, ◌&&◌, true, false, refl, sym}
-use Rattle.vq_laws.specs.Text.{is_name}
+use Rattle.vq_model.specs.Text.{is_name}
 use Rattle.vq_script.proofs.CommandKinds.{copy_kinds, copy_says, copy_unknown, copy_unread, copy_values}
 use Rattle.vq_script.proofs.commands.copy_command.Goals as goal
 

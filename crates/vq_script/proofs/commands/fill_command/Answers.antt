@@ -1,5 +1,5 @@
 use Rattle.std.proofs.Common.{◌≡◌, true, false, Some, None, refl, sym}
-use Rattle.vq_laws.specs.Text.{is_name}
+use Rattle.vq_model.specs.Text.{is_name}
 use Rattle.vq_script.proofs.CommandKinds.{fill_kinds, fill_said, fill_values}
 use Rattle.vq_script.proofs.commands.fill_command.Goals as goal
 

@@ -1,5 +1,5 @@
 use Rattle.std.proofs.Common.{◌≡◌, true, false, Some, None, refl, sym}
-use Rattle.vq_laws.specs.Text.{is_name}
+use Rattle.vq_model.specs.Text.{is_name}
 use Rattle.vq_script.proofs.CommandKinds.{whole_kinds, whole_said, whole_values}
 use Rattle.vq_script.proofs.commands.fill_whole_command.Goals as goal
 

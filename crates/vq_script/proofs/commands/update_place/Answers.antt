@@ -1,6 +1,6 @@
 use Rattle.std.proofs.Common.{◌≡◌, true, false, ◌/◌, length, Some, None, refl, sym}
-use Rattle.vq_laws.specs.Meaning.{is_hex}
-use Rattle.vq_laws.specs.Text.{is_name}
+use Rattle.vq_model.specs.Meaning.{is_hex}
+use Rattle.vq_model.specs.Text.{is_name}
 use Rattle.vq_script.proofs.CommandKinds.{update_kinds, update_said, update_values}
 use Rattle.vq_script.proofs.commands.update_place.Goals as goal
 

@@ -1,7 +1,7 @@
 use Rattle.std.proofs.Common.{◌≡◌, None, sym, ap, subst, ◌∙◌}
-use Rattle.vq_laws.specs.declared.script.Buffer.{Buffer}
-use Rattle.vq_laws.specs.declared.statement.Statement.TheVariants.{DeclareBuffer}
-use Rattle.vq_laws.specs.Reading.{with_line}
+use Rattle.vq_model.specs.declared.script.Buffer.{Buffer}
+use Rattle.vq_model.specs.declared.statement.Statement.TheVariants.{DeclareBuffer}
+use Rattle.vq_model.specs.Reading.{with_line}
 use Rattle.vq_script.specs.Holds.{Holds, Kept, kept, with_buffer}
 use Rattle.vq_script.proofs.Pushes.{holds_buffer}
 use Rattle.vq_script.proofs.declarations.buffer_line.Goals as goal

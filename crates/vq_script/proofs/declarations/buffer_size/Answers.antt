@@ -1,8 +1,8 @@
 use Rattle.std.proofs.Common.{◌≡◌, true, false, nat_lt, Some, None, refl, sym, ap, arith}
 use Rattle.std.specs.Option.{option_map}
 use Rattle.std.proofs.lemmas.Bool.Decides.{nat_tests}
-use Rattle.vq_laws.specs.declared.statement.Statement.TheVariants.{DeclareBuffer}
-use Rattle.vq_laws.specs.Text.{is_name, numeral}
+use Rattle.vq_model.specs.declared.statement.Statement.TheVariants.{DeclareBuffer}
+use Rattle.vq_model.specs.Text.{is_name, numeral}
 use Rattle.vq_script.specs.Holds.{kept}
 use Rattle.vq_script.proofs.FirstKinds.{buffer_kinds, buffer_sizes}
 use Rattle.vq_script.proofs.declarations.buffer_size.Goals as goal

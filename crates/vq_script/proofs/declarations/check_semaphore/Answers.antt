@@ -1,5 +1,5 @@
 use Rattle.std.proofs.Common.{◌≡◌, true, false, refl, sym}
-use Rattle.vq_laws.specs.Text.{is_name}
+use Rattle.vq_model.specs.Text.{is_name}
 use Rattle.vq_script.specs.Holds.{kept}
 use Rattle.vq_script.proofs.FirstKinds.{binary_kinds, fence_kinds}
 use Rattle.vq_script.proofs.declarations.check_semaphore.Goals as goal

@@ -1,7 +1,7 @@
 use Rattle.std.proofs.Common.{◌≡◌, None, sym, ap, subst, ◌∙◌}
-use Rattle.vq_laws.specs.declared.script.Semaphore.{Semaphore}
-use Rattle.vq_laws.specs.declared.statement.Statement.TheVariants.{DeclareSemaphore}
-use Rattle.vq_laws.specs.Reading.{with_line}
+use Rattle.vq_model.specs.declared.script.Semaphore.{Semaphore}
+use Rattle.vq_model.specs.declared.statement.Statement.TheVariants.{DeclareSemaphore}
+use Rattle.vq_model.specs.Reading.{with_line}
 use Rattle.vq_script.specs.Holds.{Holds, Kept, kept, with_semaphore}
 use Rattle.vq_script.proofs.Pushes.{holds_semaphore}
 use Rattle.vq_script.proofs.declarations.declare_semaphore.Goals as goal

@@ -1,8 +1,8 @@
 use Rattle.std.proofs.Common.{◌≡◌, true, false, Some, None, refl, sym, ap}
 use Rattle.std.specs.Option.{option_map}
-use Rattle.vq_laws.specs.declared.script.SemaphoreKind.TheVariants.{Timeline}
-use Rattle.vq_laws.specs.declared.statement.Statement.TheVariants.{DeclareSemaphore}
-use Rattle.vq_laws.specs.Text.{is_name, numeral}
+use Rattle.vq_model.specs.declared.script.SemaphoreKind.TheVariants.{Timeline}
+use Rattle.vq_model.specs.declared.statement.Statement.TheVariants.{DeclareSemaphore}
+use Rattle.vq_model.specs.Text.{is_name, numeral}
 use Rattle.vq_script.specs.Holds.{kept}
 use Rattle.vq_script.proofs.FirstKinds.{timeline_kinds, timeline_limits}
 use Rattle.vq_script.proofs.declarations.initial_value.Goals as goal

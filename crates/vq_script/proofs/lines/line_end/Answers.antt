@@ -1,7 +1,7 @@
 use Rattle.std.proofs.Common.{arith, sym}
 use Rattle.std.proofs.lemmas.List.Sums.{position_or_len_is}
 use Rattle.std.proofs.lemmas.Bool.Decides.{nat_tests}
-use Rattle.vq_laws.specs.Text.{is_line_feed}
+use Rattle.vq_model.specs.Text.{is_line_feed}
 use Rattle.vq_script.proofs.lines.line_end.Goals as goal
 
 pub returns-then-byte-eq10-clause-place : goal.returns-then-byte-eq10-clause-place

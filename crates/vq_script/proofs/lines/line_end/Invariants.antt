@@ -1,5 +1,5 @@
 use Rattle.std.proofs.Common.{◌≡◌, ℕ, ◌<◌, get_or, false}
-use Rattle.vq_laws.specs.Text.{is_line_feed}
+use Rattle.vq_model.specs.Text.{is_line_feed}
 use Rattle.vq_script.proofs.lines.line_end.Given as goal
 
 abbrev pub invariant-loop-place : goal.invariant-loop-place

@@ -1,7 +1,7 @@
 use Rattle.std.proofs.Common.{◌≡◌, ◌++◌, true, length, nat_lt}
 use Rattle.std.specs.List.{list_all}
 use Rattle.std.specs.Char.{digit_value}
-use Rattle.vq_laws.specs.Meaning.{hex_bytes}
+use Rattle.vq_model.specs.Meaning.{hex_bytes}
 use Rattle.vq_script.proofs.numerals.hex_bytes.Given as goal
 
 abbrev pub invariant-loop-rest : goal.invariant-loop-rest

@@ -1,6 +1,6 @@
 use Rattle.std.proofs.Common.{codes, subst, sym, ◌≡◌, List}
 use Rattle.std.specs.List.{All}
-use Rattle.vq_laws.specs.declared.script.Mark.{Mark}
+use Rattle.vq_model.specs.declared.script.Mark.{Mark}
 use Rattle.vq_script.proofs.PrintedLines.{on_ok, added, batch_added}
 use Rattle.vq_script.proofs.print_batches.push_batch.Goals as goal
 

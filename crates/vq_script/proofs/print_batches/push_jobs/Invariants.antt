@@ -1,6 +1,6 @@
 use Rattle.std.proofs.Common.{◌≡◌, ◌++◌, take}
 use Rattle.std.specs.List.{flat_map}
-use Rattle.vq_laws.specs.Canonical.{job_words, line_text}
+use Rattle.vq_model.specs.Canonical.{job_words, line_text}
 use Rattle.vq_script.proofs.print_batches.push_jobs.Given as goal
 
 abbrev pub invariant-loop-job : goal.invariant-loop-job

@@ -1,6 +1,6 @@
 use Rattle.std.proofs.Common.{◌≡◌, ◌++◌, ℕ, List, subst, sym}
 use Rattle.std.specs.Result.{OnOk}
-use Rattle.vq_laws.specs.Canonical.{line_text}
+use Rattle.vq_model.specs.Canonical.{line_text}
 use Rattle.vq_script.proofs.PrintedLines.{whole_wait}
 use Rattle.vq_script.proofs.print_batches.push_wait.Goals as goal
 

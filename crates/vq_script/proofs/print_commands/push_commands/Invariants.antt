@@ -1,6 +1,6 @@
 use Rattle.std.proofs.Common.{◌≡◌, ◌++◌, take}
 use Rattle.std.specs.List.{flat_map}
-use Rattle.vq_laws.specs.Canonical.{command_words, line_text}
+use Rattle.vq_model.specs.Canonical.{command_words, line_text}
 use Rattle.vq_script.proofs.print_commands.push_commands.Given as goal
 
 abbrev pub invariant-loop-line : goal.invariant-loop-line

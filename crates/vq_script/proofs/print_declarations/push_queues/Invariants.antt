@@ -1,6 +1,6 @@
 use Rattle.std.proofs.Common.{◌≡◌, ◌++◌, take}
 use Rattle.std.specs.List.{flat_map}
-use Rattle.vq_laws.specs.Canonical.{queue_words, line_text}
+use Rattle.vq_model.specs.Canonical.{queue_words, line_text}
 use Rattle.vq_script.proofs.print_declarations.push_queues.Given as goal
 
 abbrev pub invariant-loop-queue : goal.invariant-loop-queue

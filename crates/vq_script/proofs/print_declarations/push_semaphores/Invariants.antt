@@ -1,6 +1,6 @@
 use Rattle.std.proofs.Common.{◌≡◌, ◌++◌, take}
 use Rattle.std.specs.List.{flat_map}
-use Rattle.vq_laws.specs.Canonical.{semaphore_words, line_text}
+use Rattle.vq_model.specs.Canonical.{semaphore_words, line_text}
 use Rattle.vq_script.proofs.print_declarations.push_semaphores.Given as goal
 
 abbrev pub invariant-loop-semaphore : goal.invariant-loop-semaphore

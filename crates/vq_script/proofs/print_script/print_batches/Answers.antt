@@ -1,6 +1,6 @@
 use Rattle.std.proofs.Common.{subst, sym, List}
-use Rattle.vq_laws.specs.declared.script.Job.{Job}
-use Rattle.vq_laws.specs.ValidScripts.{AreWholeBatches}
+use Rattle.vq_model.specs.declared.script.Job.{Job}
+use Rattle.vq_model.specs.ValidScripts.{AreWholeBatches}
 use Rattle.vq_script.proofs.PrintedLines.{text_added}
 use Rattle.vq_script.proofs.print_script.print_batches.Goals as goal
 

@@ -1,6 +1,6 @@
 use Rattle.std.proofs.Common.{◌≡◌, ◌++◌, take}
 use Rattle.std.specs.List.{flat_map}
-use Rattle.vq_laws.specs.Canonical.{hex_digits}
+use Rattle.vq_model.specs.Canonical.{hex_digits}
 use Rattle.vq_script.proofs.print_words.push_hex_bytes.Given as goal
 
 abbrev pub invariant-loop-byte : goal.invariant-loop-byte

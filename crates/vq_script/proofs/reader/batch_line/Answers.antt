@@ -1,6 +1,6 @@
 use Rattle.std.proofs.Common.{subst}
 use Rattle.std.specs.Prelude.{Option}
-use Rattle.vq_laws.specs.Forms.{forms_in_batch}
+use Rattle.vq_model.specs.Forms.{forms_in_batch}
 use Rattle.vq_script.specs.declared.forms.Found.{Found}
 use Rattle.vq_script.specs.Forms.{Finds}
 use Rattle.vq_script.specs.Words.{texts}

@@ -1,10 +1,10 @@
 use Rattle.std.proofs.Common.{◌≡◌, suc, Result, arith, length, sym, ap, subst, ◌∙◌}
 use Rattle.std.specs.Prelude.{IfErr}
-use Rattle.vq_laws.specs.declared.script.Script.{Script}
-use Rattle.vq_laws.specs.Reading.{read_script}
+use Rattle.vq_model.specs.declared.script.Script.{Script}
+use Rattle.vq_model.specs.Reading.{read_script}
 use Rattle.vq_script.specs.declared.fault.ScriptFault.{ScriptFault}
 use Rattle.vq_script.specs.Outcomes.{Gives, IsFirst}
-use Rattle.vq_laws.specs.Text.{lines_of}
+use Rattle.vq_model.specs.Text.{lines_of}
 use Rattle.vq_script.proofs.ReadOn.{gives_fault, is_first, on_read, returned}
 use Rattle.vq_script.proofs.reader.parse.Goals as goal
 

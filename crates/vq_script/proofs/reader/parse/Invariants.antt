@@ -1,7 +1,7 @@
 use Rattle.std.proofs.Common.{◌≡◌, ◌+◌, List, length, []}
-use Rattle.vq_laws.specs.declared.statement.Line.{Line}
-use Rattle.vq_laws.specs.Text.{lines_of}
-use Rattle.vq_laws.specs.Reading.{read_lines}
+use Rattle.vq_model.specs.declared.statement.Line.{Line}
+use Rattle.vq_model.specs.Text.{lines_of}
+use Rattle.vq_model.specs.Reading.{read_lines}
 use Rattle.vq_script.specs.Holds.{Keeps, open_so_far}
 use Rattle.vq_script.proofs.reader.parse.Given as goal
 

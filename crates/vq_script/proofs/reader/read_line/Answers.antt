@@ -1,7 +1,7 @@
 use Rattle.std.proofs.Common.{◌≡◌, ℕ, List, Ok, Err, refl, ap, subst, ◌∙◌}
-use Rattle.vq_laws.specs.declared.statement.Line.{Line}
-use Rattle.vq_laws.specs.Text.{words_of}
-use Rattle.vq_laws.specs.Reading.{read_statement}
+use Rattle.vq_model.specs.declared.statement.Line.{Line}
+use Rattle.vq_model.specs.Text.{words_of}
+use Rattle.vq_model.specs.Reading.{read_statement}
 use Rattle.vq_script.specs.Holds.{Keeps, open_so_far}
 use Rattle.vq_script.specs.Words.{texts}
 use Rattle.vq_script.proofs.reader.read_line.Goals as goal

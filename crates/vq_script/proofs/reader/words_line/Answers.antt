@@ -1,7 +1,7 @@
 use Rattle.std.proofs.Common.{◌<◌, arith, length, sym, subst}
 use Rattle.std.specs.Prelude.{Option}
 use Rattle.std.proofs.lemmas.Bool.Decides.{nat_tests}
-use Rattle.vq_laws.specs.Forms.{forms_outside, forms_in_batch}
+use Rattle.vq_model.specs.Forms.{forms_outside, forms_in_batch}
 use Rattle.vq_script.specs.Holds.{Keeps, open_so_far}
 use Rattle.vq_script.specs.declared.open_batch.OpenBatch.{OpenBatch}
 use Rattle.vq_script.specs.Words.{texts}

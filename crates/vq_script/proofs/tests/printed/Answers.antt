@@ -1,5 +1,5 @@
 use Rattle.std.proofs.Common.{refl}
-use Rattle.vq_laws.specs.declared.statement.Form.TheVariants.{Plain}
+use Rattle.vq_model.specs.declared.statement.Form.TheVariants.{Plain}
 use Rattle.vq_script.proofs.tests.printed.Goals as goal
 
 pub print-requires : goal.print-requires

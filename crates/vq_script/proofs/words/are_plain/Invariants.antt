@@ -1,6 +1,6 @@
 use Rattle.std.proofs.Common.{◌≡◌, take, true}
 use Rattle.std.specs.List.{list_all}
-use Rattle.vq_laws.specs.Text.{is_plain}
+use Rattle.vq_model.specs.Text.{is_plain}
 use Rattle.vq_script.specs.Words.{texts}
 use Rattle.vq_script.proofs.words.are_plain.Given as goal
 

@@ -1,5 +1,5 @@
 use Rattle.std.proofs.Common.{◌≡◌, ◌++◌, length}
-use Rattle.vq_laws.specs.Text.{words_in, words_of}
+use Rattle.vq_model.specs.Text.{words_in, words_of}
 use Rattle.vq_script.specs.Words.{texts}
 use Rattle.vq_script.proofs.words.find_words.Given as goal
 

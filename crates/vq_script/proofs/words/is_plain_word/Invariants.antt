@@ -1,6 +1,6 @@
 use Rattle.std.proofs.Common.{◌≡◌, take, true}
 use Rattle.std.specs.List.{list_all}
-use Rattle.vq_laws.specs.Text.{is_plain}
+use Rattle.vq_model.specs.Text.{is_plain}
 use Rattle.vq_script.proofs.words.is_plain_word.Given as goal
 
 abbrev pub invariant-loop-byte : goal.invariant-loop-byte

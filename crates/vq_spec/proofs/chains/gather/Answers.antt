@@ -1,6 +1,6 @@
 use Rattle.std.proofs.Common.{arith, take}
 use Rattle.std.proofs.lemmas.Option.{slice_get-get_or}
-use Rattle.vq_laws.specs.declared.plan.Op.{Op}
+use Rattle.vq_model.specs.declared.plan.Op.{Op}
 use Rattle.vq_spec.proofs.GatheredChains.{lists_length, gathered_push}
 use Rattle.vq_spec.proofs.chains.gather.Goals as goal
 

@@ -1,5 +1,5 @@
 use Rattle.std.proofs.lemmas.Option.{slice_get-get_or}
-use Rattle.vq_laws.specs.declared.plan.Op.{Op}
+use Rattle.vq_model.specs.declared.plan.Op.{Op}
 use Rattle.vq_spec.proofs.PlanChains.{placed_push}
 use Rattle.vq_spec.proofs.chains.place_ops.Goals as goal
 

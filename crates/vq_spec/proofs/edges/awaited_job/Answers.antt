@@ -1,8 +1,8 @@
 use Rattle.std.proofs.Common.{◌∙◌, ap, sym, length, refl, get_or}
 use Rattle.std.proofs.lemmas.Option.{slice_get_read, slice_get-get_or}
-use Rattle.vq_laws.specs.declared.plan.Op.{Op}
-use Rattle.vq_laws.specs.declared.script.Semaphore.{Semaphore}
-use Rattle.vq_laws.specs.Signals.{initial_value}
+use Rattle.vq_model.specs.declared.plan.Op.{Op}
+use Rattle.vq_model.specs.declared.script.Semaphore.{Semaphore}
+use Rattle.vq_model.specs.Signals.{initial_value}
 use Rattle.vq_spec.proofs.PlanEdges.{initial_is, resolved, op_exists, awaited_some, awaited_none}
 use Rattle.vq_spec.proofs.edges.awaited_job.Goals as goal
 

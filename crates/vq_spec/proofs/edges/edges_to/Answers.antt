@@ -1,8 +1,8 @@
 use Rattle.std.proofs.Common.{◌∙◌, ap, sym, get_or}
 use Rattle.std.specs.List.{slice_get}
 use Rattle.std.proofs.lemmas.Option.{slice_get-get_or}
-use Rattle.vq_laws.specs.declared.plan.Need.{Need}
-use Rattle.vq_laws.specs.Lowering.{plan_of}
+use Rattle.vq_model.specs.declared.plan.Need.{Need}
+use Rattle.vq_model.specs.Lowering.{plan_of}
 use Rattle.vq_spec.specs.Jobs.{finished_before}
 use Rattle.vq_spec.proofs.PlanEdges.{edges_push}
 use Rattle.vq_spec.proofs.edges.edges_to.Goals as goal

@@ -1,6 +1,6 @@
 use Rattle.std.proofs.Common.{◌≡◌, ◌++◌, take}
 use Rattle.std.specs.List.{filter_map}
-use Rattle.vq_laws.specs.Lowering.{plan_of}
+use Rattle.vq_model.specs.Lowering.{plan_of}
 use Rattle.vq_spec.specs.Jobs.{finished_before, awaited_job}
 use Rattle.vq_spec.proofs.edges.edges_to.Given as goal
 

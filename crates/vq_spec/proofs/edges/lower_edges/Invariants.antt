@@ -1,7 +1,7 @@
 use Rattle.std.proofs.Common.{◌≡◌, map}
 use Rattle.std.specs.List.{range_with_len}
-use Rattle.vq_laws.specs.Edges.{edges_to}
-use Rattle.vq_laws.specs.Lowering.{plan_of}
+use Rattle.vq_model.specs.Edges.{edges_to}
+use Rattle.vq_model.specs.Lowering.{plan_of}
 use Rattle.vq_spec.proofs.edges.lower_edges.Given as goal
 
 abbrev pub invariant-loop-job : goal.invariant-loop-job

@@ -1,5 +1,5 @@
 use Rattle.std.proofs.Common.{◌≢◌, ◌<◌, ◌≤◌, ◌-◌, ℕ, length}
-use Rattle.vq_laws.specs.Lanes.{lane_at}
+use Rattle.vq_model.specs.Lanes.{lane_at}
 use Rattle.vq_spec.proofs.heads.next_in_lane.Given as goal
 
 abbrev pub decreases-loop-job : goal.decreases-loop-job

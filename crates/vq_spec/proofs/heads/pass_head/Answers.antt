@@ -1,8 +1,8 @@
 use Rattle.std.proofs.Common.{◌≡◌, ◌≢◌, ◌<◌, ◌++◌, ◌∷◌, [], ℕ, length, get_or, subst, sym, ap, ◌∙◌, arith}
 use Rattle.std.proofs.Math.ListN.{set}
 use Rattle.std.specs.Option.{option_map_or}
-use Rattle.vq_laws.specs.Lanes.{lane_number, lane_at}
-use Rattle.vq_laws.proofs.PlansKept.{plan_lanes}
+use Rattle.vq_model.specs.Lanes.{lane_number, lane_at}
+use Rattle.vq_plan_laws.proofs.Cited.{plan_lanes}
 use Rattle.vq_spec.specs.SlowProgress.{AreHeads}
 use Rattle.vq_spec.proofs.SlowHeads.{ready_first, ready_is_head}
 use Rattle.vq_spec.proofs.SlowSteps.{heads_push}

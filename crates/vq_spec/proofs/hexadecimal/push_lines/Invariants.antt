@@ -1,6 +1,6 @@
 use Rattle.std.proofs.Common.{◌≡◌, ◌++◌}
 use Rattle.std.specs.List.{flat_map, range_with_len}
-use Rattle.vq_laws.specs.OutputText.{hex_line}
+use Rattle.vq_model.specs.OutputText.{hex_line}
 use Rattle.vq_spec.proofs.hexadecimal.push_lines.Given as goal
 
 abbrev pub invariant-loop-row : goal.invariant-loop-row

@@ -1,6 +1,6 @@
 use Rattle.std.proofs.Common.{◌≡◌, ◌*◌, take}
 use Rattle.std.specs.List.{flat_map}
-use Rattle.vq_laws.specs.OutputText.{hex_byte}
+use Rattle.vq_model.specs.OutputText.{hex_byte}
 use Rattle.vq_spec.proofs.hexadecimal.write_digits.Given as goal
 
 abbrev pub invariant-loop-place : goal.invariant-loop-place

@@ -1,5 +1,5 @@
 use Rattle.std.proofs.Common.{◌≡◌, ◌+◌, ◌-◌, suc, Some, None, length, sym, ap, ◌∙◌, arith}
-use Rattle.vq_laws.specs.SlowRun.{lowest_ready, slow_from}
+use Rattle.vq_model.specs.SlowRun.{lowest_ready, slow_from}
 use Rattle.vq_spec.proofs.SlowSteps.{lowest_facts, slow_more, slow_stops}
 use Rattle.vq_spec.proofs.order.run_slowly.Goals as goal
 

@@ -1,5 +1,5 @@
 use Rattle.std.proofs.Common.{◌≡◌, ◌-◌, length}
-use Rattle.vq_laws.specs.SlowRun.{slow_from, slow_order}
+use Rattle.vq_model.specs.SlowRun.{slow_from, slow_order}
 use Rattle.vq_spec.specs.SlowProgress.{HasCome}
 use Rattle.vq_spec.proofs.order.run_slowly.Given as goal
 

@@ -1,6 +1,6 @@
 use Rattle.std.proofs.Common.{◌∙◌, ap, filter, length, not, arith}
 use Rattle.std.specs.List.{range_with_len}
-use Rattle.vq_laws.proofs.PlansKept.{plan_lanes}
+use Rattle.vq_plan_laws.proofs.Cited.{plan_lanes}
 use Rattle.vq_spec.specs.SlowProgress.{is_marked}
 use Rattle.vq_spec.proofs.SlowLeft.{left_is}
 use Rattle.vq_spec.proofs.order.slow_order.Goals as goal

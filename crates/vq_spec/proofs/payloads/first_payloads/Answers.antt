@@ -1,6 +1,6 @@
 use Rattle.std.proofs.Common.{◌≡◌, ◌<◌, ◌+◌, ℕ, [], sym, subst, arith, length, get_or}
-use Rattle.vq_laws.specs.SlowRun.{payload_after}
-use Rattle.vq_laws.proofs.PlansKept.{plan_semaphores}
+use Rattle.vq_model.specs.SlowRun.{payload_after}
+use Rattle.vq_plan_laws.proofs.Cited.{plan_semaphores}
 use Rattle.vq_spec.proofs.SlowSteps.{payload_push}
 use Rattle.vq_spec.proofs.payloads.first_payloads.Goals as goal
 

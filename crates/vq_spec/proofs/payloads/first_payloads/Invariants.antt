@@ -1,5 +1,5 @@
 use Rattle.std.proofs.Common.{◌≡◌, ◌<◌, ℕ, [], length, get_or}
-use Rattle.vq_laws.specs.SlowRun.{payload_after}
+use Rattle.vq_model.specs.SlowRun.{payload_after}
 use Rattle.vq_spec.proofs.payloads.first_payloads.Given as goal
 
 abbrev pub invariant-loop-chain : goal.invariant-loop-chain

@@ -1,8 +1,8 @@
 use Rattle.std.proofs.Common.{◌≡◌, ◌++◌, ◌∷◌, [], Some, max, get_or, subst, ap, arith}
 use Rattle.std.proofs.Math.ListN.{set}
 use Rattle.std.specs.Option.{option_map, option_map_or}
-use Rattle.vq_laws.specs.Plan.{chain_of, value}
-use Rattle.vq_laws.proofs.PlansKept.{plan_semaphores, plan_well_formed}
+use Rattle.vq_model.specs.Plan.{chain_of, value}
+use Rattle.vq_plan_laws.proofs.Cited.{plan_semaphores, plan_well_formed}
 use Rattle.vq_spec.specs.SlowProgress.{PayloadsWith}
 use Rattle.vq_spec.proofs.SlowSteps.{payloads_step, payloads_same}
 use Rattle.vq_spec.proofs.payloads.signal.Goals as goal

@@ -2,8 +2,8 @@ use Rattle.std.proofs.Common.{◌≡◌, ◌+◌, ◌++◌, ◌∷◌, [], ℕ, 
 use Rattle.std.proofs.Math.Seq.{take-suc}
 use Rattle.std.proofs.lemmas.List.{take_all}
 use Rattle.std.specs.Option.{option_map_or}
-use Rattle.vq_laws.specs.Plan.{signals_of, has}
-use Rattle.vq_laws.proofs.PlansKept.{plan_well_formed}
+use Rattle.vq_model.specs.Plan.{signals_of, has}
+use Rattle.vq_plan_laws.proofs.Cited.{plan_well_formed}
 use Rattle.vq_spec.specs.SlowProgress.{PayloadsWith}
 use Rattle.vq_spec.proofs.SlowHeads.{has_at}
 use Rattle.vq_spec.proofs.SlowSteps.{op_exists, payloads_start, payloads_end}

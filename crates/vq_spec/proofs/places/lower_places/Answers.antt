@@ -1,6 +1,6 @@
 use Rattle.std.proofs.Common.{◌<◌, ◌++◌, ◌∙◌, ap, length, arith, refl, take}
 use Rattle.std.specs.List.{flat_map}
-use Rattle.vq_laws.specs.Lowering.{batch_commands}
+use Rattle.vq_model.specs.Lowering.{batch_commands}
 use Rattle.vq_spec.specs.Places.{places_of}
 use Rattle.vq_spec.proofs.Lowered.{few_jobs, few_in, read_job, commands_push}
 use Rattle.vq_spec.proofs.Commands.{map-command_there-push}

@@ -1,6 +1,6 @@
 use Rattle.std.proofs.Common.{◌≡◌, map, take, Some}
 use Rattle.std.specs.List.{flat_map}
-use Rattle.vq_laws.specs.Lowering.{batch_commands}
+use Rattle.vq_model.specs.Lowering.{batch_commands}
 use Rattle.vq_spec.specs.Places.{command_there}
 use Rattle.vq_spec.proofs.places.lower_places.Given as goal
 

@@ -1,6 +1,6 @@
 use Rattle.std.proofs.Common.{◌≡◌, true, take}
 use Rattle.std.specs.List.{list_all}
-use Rattle.vq_laws.specs.Machine.{is_reached}
+use Rattle.vq_model.specs.Machine.{is_reached}
 use Rattle.vq_spec.specs.SlowProgress.{payload_in}
 use Rattle.vq_spec.proofs.reached.all_reached.Given as goal
 

@@ -1,6 +1,6 @@
 use Rattle.std.proofs.Common.{◌≡◌, false, take}
 use Rattle.std.specs.List.{list_any}
-use Rattle.vq_laws.specs.Machine.{is_reached}
+use Rattle.vq_model.specs.Machine.{is_reached}
 use Rattle.vq_spec.specs.SlowProgress.{payload_in}
 use Rattle.vq_spec.proofs.reached.any_reached.Given as goal
 

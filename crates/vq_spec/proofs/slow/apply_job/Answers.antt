@@ -1,6 +1,6 @@
 use Rattle.std.proofs.Common.{◌<◌, ◌∙◌, ap, sym, subst, length, arith, get_or, List, ℕ}
 use Rattle.std.specs.List.{slice_get}
-use Rattle.vq_laws.specs.Ranges.{Fits}
+use Rattle.vq_model.specs.Ranges.{Fits}
 use Rattle.vq_spec.proofs.SlowRuns.{command_exists, seen_fits, after_command}
 use Rattle.vq_spec.proofs.slow.apply_job.Goals as goal
 

@@ -1,7 +1,7 @@
 use Rattle.std.proofs.Common.{◌≡◌, map, take, length}
-use Rattle.vq_laws.specs.Memory.{after_all}
-use Rattle.vq_laws.specs.Plan.{commands_of}
-use Rattle.vq_laws.specs.SlowRun.{command_list}
+use Rattle.vq_model.specs.Memory.{after_all}
+use Rattle.vq_model.specs.Plan.{commands_of}
+use Rattle.vq_model.specs.SlowRun.{command_list}
 use Rattle.vq_spec.proofs.slow.apply_job.Given as goal
 
 abbrev pub invariant-loop-c : goal.invariant-loop-c

@@ -1,6 +1,6 @@
 use Rattle.std.proofs.Common.{◌≡◌, ◌∙◌, ap, sym, get_or}
-use Rattle.vq_laws.specs.Plan.{has}
-use Rattle.vq_laws.specs.SlowRun.{slow_order}
+use Rattle.vq_model.specs.Plan.{has}
+use Rattle.vq_model.specs.SlowRun.{slow_order}
 use Rattle.vq_spec.proofs.SlowHeads.{has_at}
 use Rattle.vq_spec.proofs.SlowRuns.{zeros_are, after_job, slow_exists}
 use Rattle.vq_spec.proofs.slow.slow_run.Goals as goal

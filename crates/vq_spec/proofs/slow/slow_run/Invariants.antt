@@ -1,7 +1,7 @@
 use Rattle.std.proofs.Common.{◌≡◌, map, take, length}
 use Rattle.std.specs.List.{flat_map}
-use Rattle.vq_laws.specs.Plan.{commands_of}
-use Rattle.vq_laws.specs.SlowRun.{bytes_after}
+use Rattle.vq_model.specs.Plan.{commands_of}
+use Rattle.vq_model.specs.SlowRun.{bytes_after}
 use Rattle.vq_spec.proofs.slow.slow_run.Given as goal
 
 abbrev pub invariant-loop-j : goal.invariant-loop-j

@@ -1,7 +1,7 @@
 use Rattle.std.proofs.Common.{◌<◌, ◌^◌, List, ◌∷◌, [], All, length, sym, subst, arith}
 use Rattle.std.specs.List.Sorted.{IsSorted}
 use Rattle.std.proofs.lemmas.List.Elements.{All-from_recursion}
-use Rattle.vq_laws.specs.declared.plan.Op.{Op}
+use Rattle.vq_model.specs.declared.plan.Op.{Op}
 use Rattle.vq_spec.specs.declared.chains.Chain.{Chain}
 use Rattle.vq_spec.specs.ChainParts.{pair_cmp, IsSearchable}
 use Rattle.vq_spec.proofs.PlanChains.{searchable}

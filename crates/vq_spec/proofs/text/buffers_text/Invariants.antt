@@ -1,5 +1,5 @@
 use Rattle.std.proofs.Common.{◌≡◌, ◌++◌, drop}
-use Rattle.vq_laws.specs.OutputText.{all_buffers}
+use Rattle.vq_model.specs.OutputText.{all_buffers}
 use Rattle.vq_spec.proofs.text.buffers_text.Given as goal
 
 abbrev pub invariant-loop-b : goal.invariant-loop-b

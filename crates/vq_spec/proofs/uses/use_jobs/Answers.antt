@@ -1,4 +1,4 @@
-use Rattle.vq_laws.proofs.WrittenScripts.{read_batches}
+use Rattle.vq_reading_laws.proofs.Cited.{read_batches}
 use Rattle.vq_spec.proofs.Lowered.{read_job, no_host_step}
 use Rattle.vq_spec.proofs.uses.use_jobs.Goals as goal
 use Rattle.std.proofs.Common.{arith, ap, length, ◌<◌}

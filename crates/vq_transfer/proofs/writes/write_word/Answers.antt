@@ -1,6 +1,6 @@
 use Rattle.std.proofs.Common.{arith, length}
 use Rattle.std.proofs.lemmas.List.FromFn.{fill_by_all}
-use Rattle.vq_laws.specs.Memory.{word_byte}
+use Rattle.vq_model.specs.Memory.{word_byte}
 use Rattle.vq_transfer.proofs.writes.write_word.Goals as goal
 
 pub returns : goal.returns

@@ -1,5 +1,5 @@
 use Rattle.std.proofs.Common.{◌≡◌, ℕ, ◌<◌, ◌*◌, get_or}
-use Rattle.vq_laws.specs.Memory.{word_byte}
+use Rattle.vq_model.specs.Memory.{word_byte}
 use Rattle.vq_transfer.proofs.writes.write_word.Given as goal
 
 abbrev pub invariant-loop-place : goal.invariant-loop-place

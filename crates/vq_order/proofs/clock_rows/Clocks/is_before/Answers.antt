@@ -1,6 +1,6 @@
 use Rattle.std.proofs.Common.{◌≡◌, ◌↔◌, IsTrue, ℕ, List, [], length, get_or, ltb, sym, ap, ◌∙◌, subst, arith}
 use Rattle.std.proofs.lemmas.Grind.{get_or_default_zero}
-use Rattle.vq_laws.specs.HappensBefore.{HappensBefore}
+use Rattle.vq_model.specs.HappensBefore.{HappensBefore}
 use Rattle.vq_order.proofs.RowLaws.{before_row_exists, before_lane_exists, before_exact}
 use Rattle.vq_order.proofs.clock_rows.Clocks.is_before.Goals as goal
 

@@ -1,8 +1,8 @@
 use Rattle.std.proofs.Common.{◌≡◌, ◌↔◌, IsTrue, ℕ, List, [], length, get_or, ltb, Some, sym, ap, ◌∙◌, subst, arith}
 use Rattle.std.proofs.lemmas.Grind.{get_or_default_zero}
 use Rattle.std.specs.Option.{option_map}
-use Rattle.vq_laws.specs.Plan.{job_of}
-use Rattle.vq_laws.specs.Sure.{IsSure}
+use Rattle.vq_model.specs.Plan.{job_of}
+use Rattle.vq_model.specs.Sure.{IsSure}
 use Rattle.vq_order.proofs.RowLaws.{sure_row_exists, sure_lane_exists, sure_exact}
 use Rattle.vq_order.proofs.clock_rows.Clocks.is_sure.Goals as goal
 

@@ -1,6 +1,6 @@
 use Rattle.std.proofs.Common.{ℕ, length, ap, subst}
 use Rattle.vq_order.specs.Clocks.{HasClocks, HasSureClocks}
-use Rattle.vq_laws.proofs.PlansKept.{plan_lanes, plan_semaphores, plan_well_formed}
+use Rattle.vq_plan_laws.proofs.Cited.{plan_lanes, plan_semaphores, plan_well_formed}
 use Rattle.vq_order.proofs.clock_rows.Clocks.new.Goals as goal
 
 pub positions-requires-clause-lanes : goal.positions-requires-clause-lanes

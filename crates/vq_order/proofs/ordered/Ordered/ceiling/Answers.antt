@@ -1,7 +1,7 @@
 use Rattle.std.proofs.Common.{sym, subst}
-use Rattle.vq_laws.specs.Sure.{KeepsChains}
-use Rattle.vq_laws.specs.WellFormed.{IsWellFormed}
-use Rattle.vq_laws.specs.Windows.{IsGreatest, IsPossiblyReached}
+use Rattle.vq_model.specs.Sure.{KeepsChains}
+use Rattle.vq_model.specs.WellFormed.{IsWellFormed}
+use Rattle.vq_model.specs.Windows.{IsGreatest, IsPossiblyReached}
 use Rattle.vq_order.proofs.WindowLaws.{ceiling_is}
 use Rattle.vq_order.proofs.ordered.Ordered.ceiling.Goals as goal
 

@@ -1,9 +1,9 @@
 use Rattle.std.proofs.Common.{◌≡◌, ℕ, List, ◌<◌, ◌+◌, ◌-◌, ◌/◌, length, get_or, subst, sym, ap, ◌∙◌, arith}
 use Rattle.std.proofs.lemmas.Bool.{false≢true}
-use Rattle.vq_laws.specs.Plan.{Plan, chain}
-use Rattle.vq_laws.specs.WellFormed.{IsWellFormed}
-use Rattle.vq_laws.specs.Sure.{KeepsChains}
-use Rattle.vq_laws.specs.Windows.{IsPossible}
+use Rattle.vq_model.specs.Plan.{Plan, chain}
+use Rattle.vq_model.specs.WellFormed.{IsWellFormed}
+use Rattle.vq_model.specs.Sure.{KeepsChains}
+use Rattle.vq_model.specs.Windows.{IsPossible}
 use Rattle.vq_order.specs.Counts.{AreFirst}
 use Rattle.vq_order.proofs.WindowLaws.{possible_left, possible_right, chain_op_exists, chain_op_of}
 use Rattle.vq_order.proofs.ordered.Ordered.count_possible.Goals as goal

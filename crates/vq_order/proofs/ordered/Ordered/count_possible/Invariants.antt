@@ -1,5 +1,5 @@
 use Rattle.std.proofs.Common.{◌<◌, ◌≤◌, ◌-◌, ℕ, length, get_or}
-use Rattle.vq_laws.specs.Windows.{IsPossible}
+use Rattle.vq_model.specs.Windows.{IsPossible}
 use Rattle.vq_order.proofs.ordered.Ordered.count_possible.Given as goal
 
 abbrev pub decreases-loop-low : goal.decreases-loop-low

@@ -1,8 +1,8 @@
 use Rattle.std.proofs.Common.{◌≡◌, ℕ, List, ◌+◌, ◌-◌, ◌/◌, get_or, subst, sym, ap, ◌∙◌, arith}
 use Rattle.std.proofs.lemmas.Bool.{false≢true}
-use Rattle.vq_laws.specs.Plan.{Plan, chain}
-use Rattle.vq_laws.specs.WellFormed.{IsWellFormed}
-use Rattle.vq_laws.specs.Sure.{KeepsChains, IsSure}
+use Rattle.vq_model.specs.Plan.{Plan, chain}
+use Rattle.vq_model.specs.WellFormed.{IsWellFormed}
+use Rattle.vq_model.specs.Sure.{KeepsChains, IsSure}
 use Rattle.vq_order.specs.Counts.{AreFirst}
 use Rattle.vq_order.proofs.WindowLaws.{sure_left, sure_right, chain_op_exists}
 use Rattle.vq_order.proofs.ordered.Ordered.count_sure.Goals as goal

@@ -1,5 +1,5 @@
 use Rattle.std.proofs.Common.{◌<◌, ◌≤◌, ◌-◌, ℕ, length, get_or}
-use Rattle.vq_laws.specs.Sure.{IsSure}
+use Rattle.vq_model.specs.Sure.{IsSure}
 use Rattle.vq_order.proofs.ordered.Ordered.count_sure.Given as goal
 
 abbrev pub decreases-loop-low : goal.decreases-loop-low

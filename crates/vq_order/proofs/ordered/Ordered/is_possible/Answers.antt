@@ -1,6 +1,6 @@
 use Rattle.std.proofs.Common.{◌≡◌, ◌<◌, length, Some, subst, ap}
 use Rattle.std.specs.Option.{option_map}
-use Rattle.vq_laws.specs.Plan.{Plan, job_of}
+use Rattle.vq_model.specs.Plan.{Plan, job_of}
 use Rattle.vq_order.proofs.ordered.Ordered.is_possible.Goals as goal
 
 pub before-requires-clause-second : goal.before-requires-clause-second

@@ -1,4 +1,4 @@
-use Rattle.vq_laws.proofs.PlansKept.{plan_well_formed}
+use Rattle.vq_plan_laws.proofs.Cited.{plan_well_formed}
 use Rattle.vq_order.proofs.ordered.Ordered.of.Goals as goal
 
 pub invariant_of-result : goal.invariant_of-result

@@ -1,7 +1,7 @@
 use Rattle.std.proofs.Common.{◌≡◌, ◌-◌, length, get_or, eqb, sym, ap, ◌∙◌, arith}
 use Rattle.std.specs.Option.{option_map_or}
 use Rattle.std.proofs.lemmas.Bool.{cond-true, cond-false, eq-eqb, ne_eqb}
-use Rattle.vq_laws.specs.Plan.{Plan, chain, value, initial}
+use Rattle.vq_model.specs.Plan.{Plan, chain, value, initial}
 use Rattle.vq_order.proofs.WindowLaws.{chain_op_exists}
 use Rattle.vq_order.proofs.ordered.Ordered.value_after.Goals as goal
 

@@ -1,6 +1,6 @@
 use Rattle.std.proofs.Common.{◌≡◌, ◌++◌, ◌∷◌, [], refl, sym, ap, subst, ◌∙◌, List, ℕ, false, length, arith}
 use Rattle.std.specs.List.{position}
-use Rattle.vq_laws.specs.Context.{is_timeline, is_binary, is_fence}
+use Rattle.vq_model.specs.Context.{is_timeline, is_binary, is_fence}
 use Rattle.vq_script.specs.Names.{is_taken, names_buffer, buffer_in, names_timeline, timeline_in, names_binary, binary_in, names_fence, fence_in, names_queue}
 use Rattle.vq_script.proofs.NamesFound.{found_without, free_parts, none_of_kind, queue_found}
 use Rattle.vq_script.proofs.known.Known.add_queue.Goals as goal

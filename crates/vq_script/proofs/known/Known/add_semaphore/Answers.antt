@@ -1,6 +1,6 @@
 use Rattle.std.proofs.Common.{◌≡◌, ◌++◌, ◌∷◌, [], sym, ap, subst, ◌∙◌, List, ℕ, false, length, arith, Some}
 use Rattle.std.specs.List.{position}
-use Rattle.vq_laws.specs.Context.{is_timeline, is_binary, is_fence}
+use Rattle.vq_model.specs.Context.{is_timeline, is_binary, is_fence}
 use Rattle.vq_script.specs.Names.{is_taken, names_buffer, buffer_in, names_timeline, timeline_in, names_binary, binary_in, names_fence, fence_in, names_queue, queue_in}
 use Rattle.vq_script.proofs.NamesFound.{found_without, free_parts, kind_found, no_buffer, no_queue, reads_timeline, reads_binary, reads_fence}
 use Rattle.vq_script.proofs.known.Known.add_semaphore.Goals as goal

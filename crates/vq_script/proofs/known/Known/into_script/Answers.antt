@@ -1,6 +1,6 @@
 use Rattle.std.proofs.Common.{◌≡◌, [], sym, ap, ◌∙◌}
 use Rattle.std.proofs.lemmas.List.{append-nil}
-use Rattle.vq_laws.specs.ScriptOfLines.{jobs_of}
+use Rattle.vq_model.specs.ScriptOfLines.{jobs_of}
 use Rattle.vq_script.proofs.known.Known.into_script.Goals as goal
 
 pub returns : goal.returns

@@ -1,6 +1,6 @@
 use Rattle.std.proofs.Common.{◌≡◌, ◌+◌, ◌<◌, ◌∙◌, ap, sym, arith, length, refl, map, All, List, subst, ◌++◌, ◌∷◌, []}
 use Rattle.std.specs.List.{range_with_len}
-use Rattle.vq_laws.specs.declared.script.Mark.{Mark}
+use Rattle.vq_model.specs.declared.script.Mark.{Mark}
 use Rattle.vq_spec.specs.Counts.{need_by, signals_before}
 use Rattle.vq_spec.proofs.Lowered.{read_job, no_host_step}
 use Rattle.vq_spec.proofs.LoweredJobs.{is_valid, waits_exist, last_length, commands_fit, signal_count, lowered_push}

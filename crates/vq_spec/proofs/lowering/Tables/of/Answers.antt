@@ -1,8 +1,8 @@
 use Rattle.std.proofs.Common.{◌≡◌, ◌∙◌, ap, sym, length, map, subst, All, List, ℕ, ◌<◌, ◌^◌, arith}
 use Rattle.std.specs.List.{enumerate_from, range_with_len}
-use Rattle.vq_laws.specs.declared.plan.Op.{Op}
-use Rattle.vq_laws.specs.Edges.{edges_to}
-use Rattle.vq_laws.specs.Lowering.{plan_of}
+use Rattle.vq_model.specs.declared.plan.Op.{Op}
+use Rattle.vq_model.specs.Edges.{edges_to}
+use Rattle.vq_model.specs.Lowering.{plan_of}
 use Rattle.vq_spec.specs.declared.chains.Chain.{Chain}
 use Rattle.vq_spec.specs.ChainParts.{placed, IsSearchable, AreSorted, AreChains}
 use Rattle.vq_spec.proofs.KeptTables.{lowered_jobs, lowered_ops, lowered_few, kept}

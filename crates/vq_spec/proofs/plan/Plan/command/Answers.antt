@@ -1,7 +1,7 @@
 use Rattle.std.proofs.Common.{◌≡◌, ◌∙◌, ap, sym, length, arith, refl, Some, None, get_or}
 use Rattle.std.proofs.lemmas.Option.{slice_get_read}
-use Rattle.vq_laws.specs.declared.script.Job.TheVariants.{Host, Batch}
-use Rattle.vq_laws.proofs.PlanLaws.{get_within}
+use Rattle.vq_model.specs.declared.script.Job.TheVariants.{Host, Batch}
+use Rattle.vq_model.proofs.Gets.{get_within}
 use Rattle.vq_spec.proofs.Lowered.{read_job}
 use Rattle.vq_spec.proofs.Commands.{kept_command, job_within, command_in}
 use Rattle.vq_spec.proofs.plan.Plan.command.Goals as goal

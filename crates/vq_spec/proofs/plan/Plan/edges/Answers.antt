@@ -1,8 +1,8 @@
 use Rattle.std.proofs.Common.{◌<◌, ◌∙◌, ap, length, arith}
 use Rattle.std.proofs.lemmas.List.FromFn.{length-map-range_with_len, get_or-map-range_with_len}
 use Rattle.std.proofs.Common.{get_or, zero-add}
-use Rattle.vq_laws.specs.Edges.{edges_to}
-use Rattle.vq_laws.specs.Lowering.{plan_of}
+use Rattle.vq_model.specs.Edges.{edges_to}
+use Rattle.vq_model.specs.Lowering.{plan_of}
 use Rattle.vq_spec.proofs.Lowered.{plan_length}
 use Rattle.vq_spec.proofs.plan.Plan.edges.Goals as goal
 

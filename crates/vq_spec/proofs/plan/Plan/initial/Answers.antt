@@ -1,6 +1,6 @@
 use Rattle.std.proofs.Common.{◌<◌, ◌∙◌, ap, sym, subst, arith, length}
-use Rattle.vq_laws.specs.Plan.{initial}
-use Rattle.vq_laws.specs.Signals.{initial_value}
+use Rattle.vq_model.specs.Plan.{initial}
+use Rattle.vq_model.specs.Signals.{initial_value}
 use Rattle.std.proofs.Common.{slice_index_or}
 use Rattle.vq_spec.proofs.Initials.{initial_is}
 use Rattle.vq_spec.proofs.KeptTables.{chain_count}

@@ -1,5 +1,5 @@
 use Rattle.std.proofs.Common.{◌<◌, ◌∙◌, ap, arith, length}
-use Rattle.vq_laws.specs.Plan.{resolver}
+use Rattle.vq_model.specs.Plan.{resolver}
 use Rattle.vq_spec.proofs.KeptTables.{chain_count}
 use Rattle.vq_spec.proofs.PlanChains.{chain_read, resolver_is}
 use Rattle.vq_spec.proofs.plan.Plan.resolver.Goals as goal

@@ -1,9 +1,9 @@
 use Rattle.std.proofs.Common.{◌≡◌, ◌<◌, true, false, if◌then◌else◌, ℕ, All, length, get_or, sym, subst, ap, ◌∙◌}
 use Rattle.std.specs.List.{list_all, list_any}
-use Rattle.vq_laws.specs.Plan.{has}
-use Rattle.vq_laws.specs.Edges.{must_finish}
-use Rattle.vq_laws.specs.Machine.{is_reached}
-use Rattle.vq_laws.proofs.PlansKept.{plan_well_formed}
+use Rattle.vq_model.specs.Plan.{has}
+use Rattle.vq_model.specs.Edges.{must_finish}
+use Rattle.vq_model.specs.Machine.{is_reached}
+use Rattle.vq_plan_laws.proofs.Cited.{plan_well_formed}
 use Rattle.vq_spec.specs.Jobs.{finished_before}
 use Rattle.vq_spec.specs.SlowProgress.{is_marked, payload_in}
 use Rattle.vq_spec.proofs.SlowHeads.{first_not_ready, ready_needs}

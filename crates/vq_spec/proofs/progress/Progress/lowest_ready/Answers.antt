@@ -1,8 +1,8 @@
 use Rattle.std.proofs.Common.{◌≡◌, ◌+◌, ◌++◌, ◌∷◌, [], ℕ, List, take, length, get_or, subst, sym, ap, ◌∙◌, add-one}
 use Rattle.std.proofs.Math.Seq.{take-suc}
 use Rattle.std.proofs.lemmas.List.{take_all}
-use Rattle.vq_laws.specs.SlowRun.{is_ready}
-use Rattle.vq_laws.proofs.PlansKept.{plan_lanes}
+use Rattle.vq_model.specs.SlowRun.{is_ready}
+use Rattle.vq_plan_laws.proofs.Cited.{plan_lanes}
 use Rattle.vq_spec.specs.SlowProgress.{IsLeastOf}
 use Rattle.vq_spec.proofs.SlowHeads.{lowest_is}
 use Rattle.vq_spec.proofs.progress.Progress.lowest_ready.Goals as goal

@@ -1,5 +1,5 @@
 use Rattle.std.proofs.Common.{length, take}
-use Rattle.vq_laws.specs.SlowRun.{is_ready}
+use Rattle.vq_model.specs.SlowRun.{is_ready}
 use Rattle.vq_spec.specs.SlowProgress.{IsLeastOf}
 use Rattle.vq_spec.proofs.progress.Progress.lowest_ready.Given as goal
 

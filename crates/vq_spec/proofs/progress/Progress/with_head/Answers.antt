@@ -1,5 +1,5 @@
 use Rattle.std.proofs.Common.{◌++◌, ◌∷◌, [], Some, length, subst, sym, ◌∙◌, arith}
-use Rattle.vq_laws.specs.SlowRun.{is_ready}
+use Rattle.vq_model.specs.SlowRun.{is_ready}
 use Rattle.vq_spec.specs.SlowProgress.{IsLeastOf}
 use Rattle.vq_spec.proofs.SlowHeads.{least_take, least_leave}
 use Rattle.vq_spec.proofs.progress.Progress.with_head.Goals as goal

@@ -2,8 +2,8 @@ use Rattle.std.proofs.Common.{◌≡◌, ℕ, ◌+◌, ◌∙◌, ap, arith, len
 use Rattle.std.specs.List.{slice_get}
 use Rattle.std.specs.Option.{option_to_list}
 use Rattle.std.proofs.lemmas.Option.{slice_get-get_or}
-use Rattle.vq_laws.specs.declared.script.Mark.{Mark}
-use Rattle.vq_laws.specs.Signals.{all_signals}
+use Rattle.vq_model.specs.declared.script.Mark.{Mark}
+use Rattle.vq_model.specs.Signals.{all_signals}
 use Rattle.vq_spec.specs.Counts.{signals_before}
 use Rattle.vq_spec.proofs.SignalOrder.{batch_signal, batch_fence, batch_count}
 use Rattle.vq_spec.proofs.signals.Signals.push_batch.Goals as goal

@@ -1,6 +1,6 @@
 use Rattle.std.proofs.Common.{eq-eqb, sym, subst}
-use Rattle.vq_laws.specs.Timeline.{Timeline, CanBind}
-use Rattle.vq_laws.proofs.TimelineLaws.{bind_keeps}
+use Rattle.vq_points.specs.Timeline.{Timeline, CanBind}
+use Rattle.vq_points.proofs.Cited.{bind_keeps}
 use Rattle.vq_timeline_core.specs.Lists.{lists_of}
 use Rattle.vq_timeline_core.proofs.timeline.TimelineCore.bind.Goals as goal
 

@@ -1,5 +1,5 @@
 use Rattle.std.proofs.Common.{◌∙◌, ap, sym}
-use Rattle.vq_laws.specs.declared.script.Command.TheVariants.{Fill, Update, Copy}
+use Rattle.vq_model.specs.declared.script.Command.TheVariants.{Fill, Update, Copy}
 use Rattle.vq_transfer.proofs.Sizes.{sizes_after}
 use Rattle.vq_transfer.proofs.buffers.Buffers.apply.Goals as goal
 

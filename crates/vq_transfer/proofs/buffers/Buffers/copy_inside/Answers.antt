@@ -2,7 +2,7 @@ use Rattle.std.proofs.Common.{◌+◌, ◌∙◌, ap, sym, length, arith}
 use Rattle.std.proofs.Math.ListN.{set}
 use Rattle.std.specs.List.{slice_range}
 use Rattle.std.proofs.lemmas.List.{length-take, length-drop}
-use Rattle.vq_laws.specs.Memory.{buffer, with_bytes}
+use Rattle.vq_model.specs.Memory.{buffer, with_bytes}
 use Rattle.vq_transfer.proofs.Parts.{bytes_at, size_at, bytes_of-write}
 use Rattle.vq_transfer.proofs.buffers.Buffers.copy_inside.Goals as goal
 

@@ -1,8 +1,8 @@
 use Rattle.std.proofs.Common.{◌∙◌, ap, sym, length, arith}
 use Rattle.std.proofs.lemmas.List.FromFn.{length-map-range_with_len}
 use Rattle.std.proofs.Math.ListN.{set}
-use Rattle.vq_laws.specs.Memory.{buffer, with_bytes, word_bytes, word_byte}
-use Rattle.vq_laws.specs.Ranges.{fill_size}
+use Rattle.vq_model.specs.Memory.{buffer, with_bytes, word_bytes, word_byte}
+use Rattle.vq_model.specs.Ranges.{fill_size}
 use Rattle.vq_transfer.proofs.Parts.{bytes_at, size_at, bytes_of-write}
 use Rattle.vq_transfer.proofs.buffers.Buffers.fill.Goals as goal
 

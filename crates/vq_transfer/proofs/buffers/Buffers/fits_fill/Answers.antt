@@ -1,5 +1,5 @@
 use Rattle.std.proofs.Common.{◌∙◌, ap}
-use Rattle.vq_laws.specs.Ranges.{fill_size}
+use Rattle.vq_model.specs.Ranges.{fill_size}
 use Rattle.vq_transfer.proofs.Fitting.{fill_fits}
 use Rattle.vq_transfer.proofs.buffers.Buffers.fits_fill.Goals as goal
 

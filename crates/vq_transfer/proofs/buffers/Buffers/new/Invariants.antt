@@ -1,5 +1,5 @@
 use Rattle.std.proofs.Common.{◌≡◌, take, length}
-use Rattle.vq_laws.specs.Memory.{zeros_of}
+use Rattle.vq_model.specs.Memory.{zeros_of}
 use Rattle.vq_transfer.specs.Stored.{bytes_of}
 use Rattle.vq_transfer.proofs.buffers.Buffers.new.Given as goal
 

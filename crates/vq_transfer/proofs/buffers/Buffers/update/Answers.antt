@@ -1,5 +1,5 @@
 use Rattle.std.proofs.Common.{◌∙◌, ap, length, arith}
-use Rattle.vq_laws.specs.Memory.{with_bytes}
+use Rattle.vq_model.specs.Memory.{with_bytes}
 use Rattle.vq_transfer.proofs.Parts.{size_at, bytes_of-write}
 use Rattle.vq_transfer.proofs.buffers.Buffers.update.Goals as goal
 

@@ -1,0 +1,63 @@
+-- Chains of statements, and the canonical order of the parts of a script.
+use Rattle.std.proofs.Common.{◌≡◌, List, [], ◌∷◌, ◌++◌, sym, subst, refl, map, Option, Some, None}
+use Rattle.vq_model.specs.declared.statement.Statement.{Statement}
+use Rattle.vq_canonical_laws.proofs.ScriptParts.{Parts, after, May, Told, parts, no_parts}
+use Rattle.vq_model.specs.declared.statement.Statement.TheVariants.{DeclareBuffer, DeclareSemaphore, DeclareQueue, BeginBatch, EndBatch}
+use Rattle.vq_model.specs.declared.script.Buffer.{Buffer}
+use Rattle.vq_model.specs.declared.script.Semaphore.{Semaphore}
+use Rattle.vq_model.specs.declared.script.Queue.{Queue}
+use Rattle.std.specs.List.{flat_map}
+
+-- Chains of statements
+
+-- Statements lead from parts to parts, each where it may follow those before it.
+abbrev pub Leads : Parts → List Statement → Parts → Type 0
+Leads p [] q = p ≡ q
+Leads p (s ∷ statements) q = May p s × Leads (after p s) statements q
+
+-- one chain after another
+pub leads_on : (p q r : Parts) (first second : List Statement) → Leads p first q →
+    Leads q second r → Leads p (first ++ second) r
+leads_on p q r [] second l m = subst (λ (x : Parts). Leads x second r) (sym l) m
+leads_on p q r (s ∷ first) second l m = (l.0, leads_on (after p s) q r first second l.1 m)
+
+-- one statement more
+pub leads_push : (p q : Parts) (statements : List Statement) (s : Statement) → Leads p statements q →
+    May q s → Leads p (statements ++ s ∷ []) (after q s)
+leads_push p q statements s l m = leads_on p q (after q s) statements (s ∷ []) l (m, refl)
+
+-- The canonical order
+
+-- the statements of buffers, semaphores, queues, of a batch, of the open batch, of all batches
+abbrev pub buffer_statements : List Buffer → List Statement
+buffer_statements bs = map (λ b. DeclareBuffer b.name b.size) bs
+
+abbrev pub semaphore_statements : List Semaphore → List Statement
+semaphore_statements ss = map (λ s. DeclareSemaphore s.name s.kind) ss
+
+abbrev pub queue_statements : List Queue → List Statement
+queue_statements qs = map (λ q. DeclareQueue q.name q.mode) qs
+
+abbrev pub job_statements : Told → List Statement
+job_statements t = BeginBatch t.0 ∷ t.1 ++ EndBatch ∷ []
+
+abbrev pub open_statements : Option Told → List Statement
+open_statements None = []
+open_statements (Some t) = BeginBatch t.0 ∷ t.1
+
+abbrev pub batch_statements : List Told → Option Told → List Statement
+batch_statements jobs batch = flat_map job_statements jobs ++ open_statements batch
+
+-- parts without batches
+abbrev pub declarations : List Buffer → List Semaphore → List Queue → Parts
+declarations bs ss qs = parts bs ss qs [] None
+
+-- The parts can be said in this order: buffers, semaphores, queues, batches.
+pub record IsOrdered (p : Parts) : Type 0 where
+  pub buffers_first : Leads no_parts (buffer_statements p.buffers) (declarations p.buffers [] [])
+  pub semaphores_next : Leads (declarations p.buffers [] []) (semaphore_statements p.semaphores)
+      (declarations p.buffers p.semaphores [])
+  pub queues_next : Leads (declarations p.buffers p.semaphores []) (queue_statements p.queues)
+      (declarations p.buffers p.semaphores p.queues)
+  pub batches_last : Leads (declarations p.buffers p.semaphores p.queues)
+      (batch_statements p.jobs p.batch) p

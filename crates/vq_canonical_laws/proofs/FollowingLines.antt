@@ -1,0 +1,654 @@
+-- A line without a fault says a statement that may follow what the lines before say.
+use Rattle.std.proofs.Common.{◌≡◌, Option, Some, None, refl, false, List, [], ◌∷◌, sym, Bool, true, not, ℕ, ◌^◌, ◌<◌, ◌++◌, cond, ◌+◌, ◌==◌, ◌&&◌, ◌||◌, length, find, option_map, ap, ◌∙◌, subst, arith}
+use Rattle.vq_model.specs.declared.statement.Section.TheVariants.{Outside, InBatch, InSchedule}
+use Rattle.vq_canonical_laws.proofs.ScriptParts.{Told, part_of_batch, has_jobs, TakesValue, Parts, May, Say, HasValue, IsBuiltMode, IsMarked, sizes_in, HasNumerals, count_jobs, count_commands, commands_of, place_of}
+use Rattle.std.proofs.lemmas.Bool.{false≢true, or_parts, and_parts, ltb-true, ltb-false}
+use Rattle.vq_model.specs.declared.statement.Statement.{Statement}
+use Rattle.vq_model.specs.declared.script.SemaphoreKind.{SemaphoreKind}
+use Rattle.vq_model.specs.declared.script.SemaphoreKind.TheVariants.{Timeline, Binary, Fence}
+use Rattle.vq_model.specs.Context.{is_timeline, is_binary, is_fence, section, buffers, semaphores, queues, buffer_at, timeline_at, binary_at, fence_at, queue_at, is_declared, has_begun, open_batch, is_batch_immediate, is_wait, is_command, is_signal, is_batch_fence, count, some, version_of}
+use Rattle.vq_model.specs.declared.statement.LineForm.{LineForm}
+use Rattle.vq_model.specs.declared.statement.LineForm.TheVariants.{WaitTimelineLine, WaitBinaryLine, FillWholeLine, FillLine, UpdateLine, CopyLine, SignalTimelineLine, SignalBinaryLine, BatchFenceLine, EndLine, BufferLine, TimelineLine, BinaryLine, FenceLine, QueueLine, SubmitLine}
+use Rattle.std.specs.List.{list_all, list_any}
+use Rattle.vq_model.specs.declared.statement.Form.{Form}
+use Rattle.vq_model.specs.declared.statement.Form.TheVariants.{Plain, Scheduled}
+use Rattle.vq_model.specs.declared.statement.Line.{Line}
+use Rattle.vq_model.specs.Forms.{forms_outside, schedule_forms, held_forms, forms_in_batch}
+use Rattle.vq_model.specs.Meaning.{first_forms, matches, is_built, forms_at, meaning, small_numeral, is_hex, hex_bytes, binary_pair, of_two, of_three, of_four, of_five}
+use Rattle.std.specs.Prelude.{nat_lt, is_some, sum, count_by}
+use Rattle.std.specs.Str.{bytes_eq}
+use Rattle.vq_model.specs.declared.statement.Section.{Section}
+use Rattle.vq_model.specs.declared.statement.Statement.TheVariants.{DeclareBuffer, DeclareSemaphore, DeclareQueue, BeginBatch, AddWait, AddCommand, AddSignal, AddFence, EndBatch}
+use Rattle.vq_model.specs.declared.script.Mode.{Mode}
+use Rattle.vq_model.specs.declared.script.Mode.TheVariants.{Immediate, Threaded}
+use Rattle.vq_model.specs.declared.script.Pair.{Pair}
+use Rattle.vq_model.specs.declared.script.Command.{Command}
+use Rattle.vq_model.specs.declared.script.Command.TheVariants.{Fill, Update, Copy}
+use Rattle.vq_model.specs.declared.script.FillSize.TheVariants.{Whole, Count}
+use Rattle.vq_model.specs.Text.{numeral, is_name}
+use Rattle.vq_model.specs.Limits.{is_job, limits_of, passes_limit}
+use Rattle.vq_model.specs.LineFaults.{fault_of, is_in_range, overlaps, part_of, waits_too_far}
+use Rattle.vq_reading_laws.proofs.Cited.{found_passes, built_found, found_belongs, where_it_is_built, forms_in, below}
+use Rattle.vq_canonical_laws.proofs.WrittenNumbers.{numeral_below, small_numeral_below, hex_bytes_below}
+use Rattle.vq_canonical_laws.proofs.LineTests.{PassesTests, tests_passed}
+use Rattle.vq_canonical_laws.proofs.NamedParts.{position_passes}
+use Rattle.vq_canonical_laws.proofs.SaidContext.{sizes_said, buffer_count_said, semaphore_count_said, queue_count_said, timeline_at_said, binary_at_said, fence_at_said, queue_at_said, declared_said, range_said, overlap_said, some_said, count_said, immediate_said}
+
+-- Parts of the text
+
+-- outside a batch none is open
+outside_batch : (b : Option Told) → Outside ≡ part_of_batch b → b ≡ None
+outside_batch None e = refl
+outside_batch (Some t) e = absurd (cc)
+
+-- inside a batch one is open
+inside_batch : (b : Option Told) → InBatch ≡ part_of_batch b → (t : Told) × (b ≡ Some t)
+inside_batch None e = absurd (cc)
+inside_batch (Some t) e = (t, refl)
+
+-- no line stands in a schedule
+no_schedule : (b : Option Told) → InSchedule ≡ part_of_batch b → ⊥
+no_schedule None e = cc
+no_schedule (Some t) e = cc
+
+-- no batch has begun
+no_jobs : (jobs : List Told) (b : Option Told) → has_jobs jobs b ≡ false → jobs ≡ []
+no_jobs [] b e = refl
+no_jobs (t ∷ jobs) b e = absurd (false≢true (sym e))
+
+not_true : (b : Bool) → not b ≡ true → b ≡ false
+not_true true h = absurd (false≢true h)
+not_true false h = refl
+
+same_statement : (a b : Statement) → Some a ≡ Some b → a ≡ b
+same_statement a b e = cc
+
+nothing_said : (s : Statement) → None ≡ Some s → ⊥
+nothing_said s e = cc
+
+-- kinds that take values as marks
+timeline_takes : (k : SemaphoreKind) (v : ℕ) → is_timeline k ≡ true → v < 2 ^ 64 → TakesValue k v
+timeline_takes (Timeline i) v e l = l
+timeline_takes k v e l = absurd (false≢true e)
+
+binary_takes : (k : SemaphoreKind) → is_binary k ≡ true → TakesValue k 0
+binary_takes Binary e = refl
+binary_takes k e = absurd (false≢true e)
+
+fence_is : (k : SemaphoreKind) → is_fence k ≡ true → k ≡ Fence
+fence_is Fence e = refl
+fence_is k e = absurd (false≢true e)
+
+-- The forms of a part of the text
+
+-- a form is none of those that are built and stand in the other part
+abbrev stands_outside : LineForm → Bool
+stands_outside WaitTimelineLine = false
+stands_outside WaitBinaryLine = false
+stands_outside FillWholeLine = false
+stands_outside FillLine = false
+stands_outside UpdateLine = false
+stands_outside CopyLine = false
+stands_outside SignalTimelineLine = false
+stands_outside SignalBinaryLine = false
+stands_outside BatchFenceLine = false
+stands_outside EndLine = false
+stands_outside other = true
+
+abbrev stands_inside : LineForm → Bool
+stands_inside BufferLine = false
+stands_inside TimelineLine = false
+stands_inside BinaryLine = false
+stands_inside FenceLine = false
+stands_inside (QueueLine mode) = false
+stands_inside SubmitLine = false
+stands_inside other = true
+
+all_outside : (form : Form) (before : List Line) →
+    list_all stands_outside (first_forms before ++ forms_outside ++ schedule_forms form) ≡ true
+all_outside Plain [] = refl
+all_outside Plain (line ∷ lines) = refl
+all_outside Scheduled [] = refl
+all_outside Scheduled (line ∷ lines) = refl
+
+all_inside : (b : Bool) → list_all stands_inside (cond b (held_forms 2) [] ++ forms_in_batch)
+    ≡ true
+all_inside true = refl
+all_inside false = refl
+
+-- What a line may say
+
+module _ (form : Form) (before : List Line) (p : Parts) (h : Say before p) where
+  -- before the first batch
+  first_parts : Outside ≡ part_of_batch p.batch →
+      ((has_begun before || some (λ x. nat_lt 0 (part_of x)) (open_batch before)) || false)
+      ≡ false →
+      (p.batch ≡ None) × (p.jobs ≡ [])
+  first_parts e order =
+      let front =
+      or_parts (has_begun before || some (λ x. nat_lt 0 (part_of x)) (open_batch before)) false
+      order in
+      let begun =
+      or_parts (has_begun before) (some (λ x. nat_lt 0 (part_of x)) (open_batch before)) front.0 in
+      (outside_batch p.batch e, no_jobs p.jobs p.batch (sym h.begun ∙ begun.0))
+
+  -- a buffer
+  buffer_may : (words : List (List ℕ)) (s : Statement) → Outside ≡ part_of_batch p.batch →
+      matches words BufferLine ≡ true → PassesTests form before words BufferLine s → May p s
+  buffer_may (a ∷ name ∷ size ∷ []) s e m t = by_size (numeral size) t.said
+    where
+      by_size : (o : Option ℕ) → option_map (λ n. DeclareBuffer name n) o ≡ Some s → May p s
+      by_size None i = absurd (nothing_said s i)
+      by_size (Some n) i =
+          let same : DeclareBuffer name n ≡ s = same_statement (DeclareBuffer name n) s i in
+          let first = first_parts e t.in_order in
+          let r : is_in_range before (DeclareBuffer name n) ≡ true =
+          subst (λ (z : Statement). is_in_range before z ≡ true) (sym same) t.ranged in
+          let limits =
+          or_parts (not (nat_lt (length (buffers before)) 64))
+          (nat_lt 1048576 (sum (sizes_in (buffers before)) + n))
+          (subst (λ (z : Statement). passes_limit (limits_of (version_of before)) before z ≡ false)
+          (sym same) t.limited) in
+          let few = below (length (buffers before)) 64 limits.0 in
+          let bytes = ltb-false 1048576 (sum (sizes_in (buffers before)) + n) limits.1 in
+          let length_is = buffer_count_said before p h in
+          let sum_is = ap sum (sizes_said before p h) in
+          subst (May p) same
+          (record {
+            outside = first.0;
+            first = first.1;
+            named = (and_parts (is_name name) true t.shaped).0;
+            fresh = sym (declared_said before p h name)
+                ∙ not_true (is_declared before name)
+                (and_parts (not (is_declared before name)) true t.fresh).0;
+            some_bytes = ltb-true 0 n r;
+            few = omega arith;
+            bytes = omega arith;
+          })
+  buffer_may words s e m t = absurd (false≢true m)
+
+  -- a semaphore
+  semaphore_may : (name : List ℕ) (kind : SemaphoreKind) (s : Statement) →
+      Outside ≡ part_of_batch p.batch →
+      ((has_begun before || some (λ x. nat_lt 0 (part_of x)) (open_batch before)) || false)
+      ≡ false →
+      is_name name ≡ true → not (is_declared before name) ≡ true →
+      passes_limit (limits_of (version_of before)) before s ≡ false →
+      Some (DeclareSemaphore name kind) ≡ Some s → HasValue kind → May p s
+  semaphore_may name kind s e order named fresh limited i small =
+      let same : DeclareSemaphore name kind ≡ s =
+      same_statement (DeclareSemaphore name kind) s i in
+      let first = first_parts e order in
+      let few =
+      below (length (semaphores before)) 256
+      (subst (λ (z : Statement). passes_limit (limits_of (version_of before)) before z ≡ false)
+      (sym same) limited) in
+      let length_is = semaphore_count_said before p h in
+      subst (May p) same
+      (record {
+        outside = first.0;
+        first = first.1;
+        named = named;
+        fresh = sym (declared_said before p h name) ∙ not_true (is_declared before name) fresh;
+        few = omega arith;
+        small = small;
+      })
+
+  timeline_may : (words : List (List ℕ)) (s : Statement) → Outside ≡ part_of_batch p.batch →
+      matches words TimelineLine ≡ true → PassesTests form before words TimelineLine s → May p s
+  timeline_may (a ∷ name ∷ value ∷ []) s e m t = by_value (numeral value) refl t.said
+    where
+      by_value : (o : Option ℕ) → numeral value ≡ o →
+          option_map (λ v. DeclareSemaphore name (Timeline v)) o ≡ Some s → May p s
+      by_value None f i = absurd (nothing_said s i)
+      by_value (Some v) f i =
+          semaphore_may name (Timeline v) s e t.in_order
+          (and_parts (is_name name) true t.shaped).0
+          (and_parts (not (is_declared before name)) true t.fresh).0 t.limited i
+          (numeral_below value v f)
+  timeline_may words s e m t = absurd (false≢true m)
+
+  binary_may : (words : List (List ℕ)) (s : Statement) → Outside ≡ part_of_batch p.batch →
+      matches words BinaryLine ≡ true → PassesTests form before words BinaryLine s → May p s
+  binary_may (a ∷ name ∷ []) s e m t =
+      semaphore_may name Binary s e t.in_order (and_parts (is_name name) true t.shaped).0
+      (and_parts (not (is_declared before name)) true t.fresh).0 t.limited t.said tt
+  binary_may words s e m t = absurd (false≢true m)
+
+  fence_may : (words : List (List ℕ)) (s : Statement) → Outside ≡ part_of_batch p.batch →
+      matches words FenceLine ≡ true → PassesTests form before words FenceLine s → May p s
+  fence_may (a ∷ name ∷ []) s e m t =
+      semaphore_may name Fence s e t.in_order (and_parts (is_name name) true t.shaped).0
+      (and_parts (not (is_declared before name)) true t.fresh).0 t.limited t.said tt
+  fence_may words s e m t = absurd (false≢true m)
+
+  -- a queue
+  queue_may : (mode : Mode) → IsBuiltMode mode → (words : List (List ℕ)) (s : Statement) →
+      Outside ≡ part_of_batch p.batch → matches words (QueueLine mode) ≡ true →
+      PassesTests form before words (QueueLine mode) s → May p s
+  queue_may mode built (a ∷ name ∷ c ∷ []) s e m t =
+      let same : DeclareQueue name mode ≡ s = same_statement (DeclareQueue name mode) s t.said in
+      let first = first_parts e t.in_order in
+      let few =
+      below (length (queues before)) 8
+      (subst (λ (z : Statement). passes_limit (limits_of (version_of before)) before z ≡ false)
+      (sym same) t.limited) in
+      let length_is = queue_count_said before p h in
+      subst (May p) same
+      (record {
+        outside = first.0;
+        first = first.1;
+        named = (and_parts (is_name name) true t.shaped).0;
+        fresh = sym (declared_said before p h name)
+            ∙ not_true (is_declared before name)
+            (and_parts (not (is_declared before name)) true t.fresh).0;
+        few = omega arith;
+        built = built;
+      })
+  queue_may mode built words s e m t = absurd (false≢true m)
+
+  -- the start of a batch
+  submit_may : (words : List (List ℕ)) (s : Statement) → Outside ≡ part_of_batch p.batch →
+      matches words SubmitLine ≡ true → PassesTests form before words SubmitLine s → May p s
+  submit_may (a ∷ queue ∷ []) s e m t = by_queue (queue_at before queue) refl t.said
+    where
+      by_queue : (o : Option ℕ) → queue_at before queue ≡ o →
+          option_map (λ q. BeginBatch q) o ≡ Some s → May p s
+      by_queue None f i = absurd (nothing_said s i)
+      by_queue (Some q) f i =
+          let same : BeginBatch q ≡ s = same_statement (BeginBatch q) s i in
+          let found =
+          position_passes (λ x. bytes_eq queue x.name) p.queues q
+          (sym (queue_at_said before p h queue) ∙ f) in
+          let few =
+          below (count is_job before) 4096
+          (subst (λ (z : Statement). passes_limit (limits_of (version_of before)) before z ≡ false)
+          (sym same) t.limited) in
+          let none = outside_batch p.batch e in
+          let jobs : count is_job before ≡ length p.jobs =
+          h.job_count ∙ ap (λ (b : Option Told). count_jobs p.jobs b) none in
+          subst (May p) same
+          (record { outside = none; queue = found.0; there = found.1; few = omega arith })
+  submit_may words s e m t = absurd (false≢true m)
+
+  -- a timeline's mark, and a binary semaphore's
+  timeline_marked : (name : List ℕ) (t v : ℕ) → timeline_at before name ≡ Some t → v < 2 ^ 64 →
+      IsMarked p.semaphores (record { semaphore = t; value = v })
+  timeline_marked name t v f l =
+      let found =
+      position_passes (λ x. bytes_eq name x.name && is_timeline x.kind) p.semaphores t
+      (sym (timeline_at_said before p h name) ∙ f) in
+      record {
+        semaphore = found.0;
+        there = found.1;
+        takes =
+            timeline_takes found.0.kind v
+            (and_parts (bytes_eq name found.0.name) (is_timeline found.0.kind) found.2).1 l;
+      }
+
+  binary_marked : (name : List ℕ) (t : ℕ) → binary_at before name ≡ Some t →
+      IsMarked p.semaphores (binary_pair t)
+  binary_marked name t f =
+      let found =
+      position_passes (λ x. bytes_eq name x.name && is_binary x.kind) p.semaphores t
+      (sym (binary_at_said before p h name) ∙ f) in
+      record {
+        semaphore = found.0;
+        there = found.1;
+        takes =
+            binary_takes found.0.kind
+            (and_parts (bytes_eq name found.0.name) (is_binary found.0.kind) found.2).1;
+      }
+
+  -- no later part of the open batch has begun
+  part_said : (told : Told) → p.batch ≡ Some told → (k : ℕ) →
+      (some (λ x. nat_lt k (part_of x)) (open_batch before) || false) ≡ false →
+      list_any (λ x. nat_lt k (part_of x)) told.1 ≡ false
+  part_said told inside k order =
+      sym (some_said before p h told inside (λ x. nat_lt k (part_of x)))
+      ∙ (or_parts (some (λ x. nat_lt k (part_of x)) (open_batch before)) false order).0
+
+  -- a wait
+  wait_may : (pair : Pair) (s : Statement) → InBatch ≡ part_of_batch p.batch →
+      not (is_batch_immediate before) ≡ true →
+      (some (λ x. nat_lt 1 (part_of x)) (open_batch before) || false) ≡ false →
+      passes_limit (limits_of (version_of before)) before s ≡ false →
+      Some (AddWait pair 1) ≡ Some s → IsMarked p.semaphores pair → May p s
+  wait_may pair s e later order limited i known =
+      let same : AddWait pair 1 ≡ s = same_statement (AddWait pair 1) s i in
+      let inside = inside_batch p.batch e in
+      let few =
+      below (count is_wait (open_batch before)) 16
+      (subst (λ (z : Statement). passes_limit (limits_of (version_of before)) before z ≡ false)
+      (sym same) limited) in
+      let counted = count_said before p h inside.0 inside.1 is_wait in
+      subst (May p) same
+      (record {
+        told = inside.0;
+        inside = inside.1;
+        in_order = part_said inside.0 inside.1 1 order;
+        fits = record {
+          known = known;
+          at_once = refl;
+          later = sym (immediate_said before p h inside.0 inside.1)
+              ∙ not_true (is_batch_immediate before) later;
+          few = omega arith;
+        };
+      })
+
+  wait_timeline_may : (words : List (List ℕ)) (s : Statement) → InBatch ≡ part_of_batch p.batch →
+      is_built before WaitTimelineLine ≡ true → matches words WaitTimelineLine ≡ true →
+      PassesTests form before words WaitTimelineLine s → May p s
+  wait_timeline_may (a ∷ name ∷ value ∷ []) s e b m t =
+      by_places (timeline_at before name) (numeral value) refl refl t.said
+    where
+      by_places : (o v : Option ℕ) → timeline_at before name ≡ o → numeral value ≡ v →
+          option_map (λ x. AddWait x 1)
+          (of_two (λ y z. record { semaphore = y; value = z }) o v) ≡ Some s → May p s
+      by_places None v f g i = absurd (nothing_said s i)
+      by_places (Some o) None f g i = absurd (nothing_said s i)
+      by_places (Some o) (Some v) f g i =
+          wait_may (record { semaphore = o; value = v }) s e b t.in_order t.limited i
+          (timeline_marked name o v f (numeral_below value v g))
+  wait_timeline_may words s e b m t = absurd (false≢true m)
+
+  wait_binary_may : (words : List (List ℕ)) (s : Statement) → InBatch ≡ part_of_batch p.batch →
+      is_built before WaitBinaryLine ≡ true → matches words WaitBinaryLine ≡ true →
+      PassesTests form before words WaitBinaryLine s → May p s
+  wait_binary_may (a ∷ name ∷ []) s e b m t = by_place (binary_at before name) refl t.said
+    where
+      by_place : (o : Option ℕ) → binary_at before name ≡ o →
+          option_map (λ x. AddWait (binary_pair x) 1) o ≡ Some s → May p s
+      by_place None f i = absurd (nothing_said s i)
+      by_place (Some o) f i =
+          wait_may (binary_pair o) s e b t.in_order t.limited i (binary_marked name o f)
+  wait_binary_may words s e b m t = absurd (false≢true m)
+
+  -- a signal
+  signal_may : (pair : Pair) (s : Statement) → InBatch ≡ part_of_batch p.batch →
+      (some (λ x. nat_lt 3 (part_of x)) (open_batch before) || false) ≡ false →
+      passes_limit (limits_of (version_of before)) before s ≡ false →
+      Some (AddSignal pair) ≡ Some s → IsMarked p.semaphores pair → May p s
+  signal_may pair s e order limited i known =
+      let same : AddSignal pair ≡ s = same_statement (AddSignal pair) s i in
+      let inside = inside_batch p.batch e in
+      let few =
+      below (count is_signal (open_batch before)) 16
+      (subst (λ (z : Statement). passes_limit (limits_of (version_of before)) before z ≡ false)
+      (sym same) limited) in
+      let counted = count_said before p h inside.0 inside.1 is_signal in
+      subst (May p) same
+      (record {
+        told = inside.0;
+        inside = inside.1;
+        in_order = part_said inside.0 inside.1 3 order;
+        fits = record { known = known; few = omega arith };
+      })
+
+  signal_timeline_may : (words : List (List ℕ)) (s : Statement) →
+      InBatch ≡ part_of_batch p.batch → matches words SignalTimelineLine ≡ true →
+      PassesTests form before words SignalTimelineLine s → May p s
+  signal_timeline_may (a ∷ name ∷ value ∷ []) s e m t =
+      by_places (timeline_at before name) (numeral value) refl refl t.said
+    where
+      by_places : (o v : Option ℕ) → timeline_at before name ≡ o → numeral value ≡ v →
+          option_map (λ x. AddSignal x)
+          (of_two (λ y z. record { semaphore = y; value = z }) o v) ≡ Some s → May p s
+      by_places None v f g i = absurd (nothing_said s i)
+      by_places (Some o) None f g i = absurd (nothing_said s i)
+      by_places (Some o) (Some v) f g i =
+          signal_may (record { semaphore = o; value = v }) s e t.in_order t.limited i
+          (timeline_marked name o v f (numeral_below value v g))
+  signal_timeline_may words s e m t = absurd (false≢true m)
+
+  signal_binary_may : (words : List (List ℕ)) (s : Statement) → InBatch ≡ part_of_batch p.batch →
+      matches words SignalBinaryLine ≡ true → PassesTests form before words SignalBinaryLine s →
+      May p s
+  signal_binary_may (a ∷ name ∷ []) s e m t = by_place (binary_at before name) refl t.said
+    where
+      by_place : (o : Option ℕ) → binary_at before name ≡ o →
+          option_map (λ x. AddSignal (binary_pair x)) o ≡ Some s → May p s
+      by_place None f i = absurd (nothing_said s i)
+      by_place (Some o) f i =
+          signal_may (binary_pair o) s e t.in_order t.limited i (binary_marked name o f)
+  signal_binary_may words s e m t = absurd (false≢true m)
+
+  -- a fence
+  batch_fence_may : (words : List (List ℕ)) (s : Statement) → InBatch ≡ part_of_batch p.batch →
+      matches words BatchFenceLine ≡ true → PassesTests form before words BatchFenceLine s →
+      May p s
+  batch_fence_may (a ∷ name ∷ []) s e m t = by_place (fence_at before name) refl t.said
+    where
+      by_place : (o : Option ℕ) → fence_at before name ≡ o →
+          option_map (λ x. AddFence x) o ≡ Some s → May p s
+      by_place None f i = absurd (nothing_said s i)
+      by_place (Some o) f i =
+          let same : AddFence o ≡ s = same_statement (AddFence o) s i in
+          let inside = inside_batch p.batch e in
+          let order =
+          or_parts (some (λ x. nat_lt 4 (part_of x)) (open_batch before))
+          (some is_batch_fence (open_batch before)) t.in_order in
+          let found =
+          position_passes (λ x. bytes_eq name x.name && is_fence x.kind) p.semaphores o
+          (sym (fence_at_said before p h name) ∙ f) in
+          subst (May p) same
+          (record {
+            told = inside.0;
+            inside = inside.1;
+            in_order = sym (some_said before p h inside.0 inside.1 (λ x. nat_lt 4 (part_of x)))
+                ∙ order.0;
+            fits = record {
+              semaphore = found.0;
+              there = found.1;
+              fence = fence_is found.0.kind
+                  (and_parts (bytes_eq name found.0.name) (is_fence found.0.kind) found.2).1;
+              only = sym (some_said before p h inside.0 inside.1 is_batch_fence) ∙ order.1;
+            };
+          })
+  batch_fence_may words s e m t = absurd (false≢true m)
+
+  -- a command
+  command_may : (c : Command) (s : Statement) → InBatch ≡ part_of_batch p.batch →
+      (some (λ x. nat_lt 2 (part_of x)) (open_batch before) || false) ≡ false →
+      is_in_range before s ≡ true → overlaps before s ≡ false →
+      passes_limit (limits_of (version_of before)) before s ≡ false →
+      Some (AddCommand c) ≡ Some s → HasNumerals c → May p s
+  command_may c s e order ranged apart limited i numerals =
+      let same : AddCommand c ≡ s = same_statement (AddCommand c) s i in
+      let r : is_in_range before (AddCommand c) ≡ true =
+      subst (λ (z : Statement). is_in_range before z ≡ true) (sym same) ranged in
+      let o : overlaps before (AddCommand c) ≡ false =
+      subst (λ (z : Statement). overlaps before z ≡ false) (sym same) apart in
+      let limits =
+      or_parts (not (nat_lt (count is_command before) 8192))
+      (not (nat_lt (count is_command (open_batch before)) 64))
+      (subst (λ (z : Statement). passes_limit (limits_of (version_of before)) before z ≡ false)
+      (sym same) limited) in
+      let all = below (count is_command before) 8192 limits.0 in
+      let few = below (count is_command (open_batch before)) 64 limits.1 in
+      let inside = inside_batch p.batch e in
+      let counted = count_said before p h inside.0 inside.1 is_command in
+      let counts : count is_command before
+      ≡ commands_of p.jobs + count_by is_command inside.0.1 =
+      h.command_count ∙ ap (λ (x : Option Told). count_commands p.jobs x) inside.1 in
+      subst (May p) same
+      (record {
+        told = inside.0;
+        inside = inside.1;
+        in_order = part_said inside.0 inside.1 2 order;
+        fits = record {
+          range = sym (range_said before p h c) ∙ r;
+          apart = sym (overlap_said before p h c) ∙ o;
+          numerals = numerals;
+          few = omega arith;
+          total = omega arith;
+        };
+      })
+
+  -- a fill of the rest of a buffer
+  fill_whole_may : (words : List (List ℕ)) (s : Statement) → InBatch ≡ part_of_batch p.batch →
+      matches words FillWholeLine ≡ true → PassesTests form before words FillWholeLine s → May p s
+  fill_whole_may (a ∷ buffer ∷ offset ∷ c ∷ word ∷ []) s e m t =
+      by_places (buffer_at before buffer) (numeral offset) (small_numeral word) refl refl t.said
+    where
+      by_places : (b o w : Option ℕ) → numeral offset ≡ o → small_numeral word ≡ w →
+          of_three (λ b o w. AddCommand (Fill b o Whole w)) b o w ≡ Some s → May p s
+      by_places None o w f k i = absurd (nothing_said s i)
+      by_places (Some b) None w f k i = absurd (nothing_said s i)
+      by_places (Some b) (Some o) None f k i = absurd (nothing_said s i)
+      by_places (Some b) (Some o) (Some w) f k i =
+          command_may (Fill b o Whole w) s e t.in_order t.ranged t.apart t.limited i
+          (numeral_below offset o f, small_numeral_below word w k)
+  fill_whole_may words s e m t = absurd (false≢true m)
+
+  -- a fill
+  fill_may : (words : List (List ℕ)) (s : Statement) → InBatch ≡ part_of_batch p.batch →
+      matches words FillLine ≡ true → PassesTests form before words FillLine s → May p s
+  fill_may (a ∷ buffer ∷ offset ∷ size ∷ word ∷ []) s e m t =
+      by_places (buffer_at before buffer) (numeral offset) (numeral size) (small_numeral word) refl
+      refl refl t.said
+    where
+      by_places : (b o n w : Option ℕ) → numeral offset ≡ o → numeral size ≡ n →
+          small_numeral word ≡ w →
+          of_four (λ b o n w. AddCommand (Fill b o (Count n) w)) b o n w ≡ Some s → May p s
+      by_places None o n w f g k i = absurd (nothing_said s i)
+      by_places (Some b) None n w f g k i = absurd (nothing_said s i)
+      by_places (Some b) (Some o) None w f g k i = absurd (nothing_said s i)
+      by_places (Some b) (Some o) (Some n) None f g k i = absurd (nothing_said s i)
+      by_places (Some b) (Some o) (Some n) (Some w) f g k i =
+          command_may (Fill b o (Count n) w) s e t.in_order t.ranged t.apart t.limited i
+          (numeral_below offset o f, numeral_below size n g, small_numeral_below word w k)
+  fill_may words s e m t = absurd (false≢true m)
+
+  -- an update
+  update_may : (words : List (List ℕ)) (s : Statement) → InBatch ≡ part_of_batch p.batch →
+      matches words UpdateLine ≡ true → PassesTests form before words UpdateLine s → May p s
+  update_may (a ∷ buffer ∷ offset ∷ digits ∷ []) s e m t =
+      by_places (buffer_at before buffer) (numeral offset) refl t.said
+    where
+      hex : is_hex digits ≡ true
+      hex =
+          (and_parts (is_hex digits) true
+          (and_parts (is_some (numeral offset)) (is_hex digits && true) t.numeric).1).0
+
+      by_places : (b o : Option ℕ) → numeral offset ≡ o →
+          of_two (λ b o. AddCommand (Update b o (hex_bytes digits))) b o ≡ Some s → May p s
+      by_places None o f i = absurd (nothing_said s i)
+      by_places (Some b) None f i = absurd (nothing_said s i)
+      by_places (Some b) (Some o) f i =
+          command_may (Update b o (hex_bytes digits)) s e t.in_order t.ranged t.apart t.limited i
+          (numeral_below offset o f, hex_bytes_below digits hex)
+  update_may words s e m t = absurd (false≢true m)
+
+  -- a copy
+  copy_may : (words : List (List ℕ)) (s : Statement) → InBatch ≡ part_of_batch p.batch →
+      matches words CopyLine ≡ true → PassesTests form before words CopyLine s → May p s
+  copy_may (a ∷ source ∷ from ∷ target ∷ to ∷ size ∷ []) s e m t =
+      by_places (buffer_at before source) (numeral from) (buffer_at before target) (numeral to)
+      (numeral size) refl refl refl t.said
+    where
+      by_places : (b o c q n : Option ℕ) → numeral from ≡ o → numeral to ≡ q → numeral size ≡ n →
+          of_five (λ b o c q n. AddCommand (Copy b o c q n)) b o c q n ≡ Some s → May p s
+      by_places None o c q n f g k i = absurd (nothing_said s i)
+      by_places (Some b) None c q n f g k i = absurd (nothing_said s i)
+      by_places (Some b) (Some o) None q n f g k i = absurd (nothing_said s i)
+      by_places (Some b) (Some o) (Some c) None n f g k i = absurd (nothing_said s i)
+      by_places (Some b) (Some o) (Some c) (Some q) None f g k i = absurd (nothing_said s i)
+      by_places (Some b) (Some o) (Some c) (Some q) (Some n) f g k i =
+          command_may (Copy b o c q n) s e t.in_order t.ranged t.apart t.limited i
+          (numeral_below from o f, numeral_below to q g, numeral_below size n k)
+  copy_may words s e m t = absurd (false≢true m)
+
+  -- the end of a batch
+  end_may : (words : List (List ℕ)) (s : Statement) → InBatch ≡ part_of_batch p.batch →
+      matches words EndLine ≡ true → PassesTests form before words EndLine s → May p s
+  end_may (a ∷ []) s e m t =
+      let same : EndBatch ≡ s = same_statement EndBatch s t.said in
+      let inside = inside_batch p.batch e in
+      let near : waits_too_far (open_batch before) ≡ false =
+      not_true (waits_too_far (open_batch before))
+      (subst (λ (z : Statement). is_in_range before z ≡ true) (sym same) t.ranged) in
+      subst (May p) same
+      (record {
+        told = inside.0;
+        inside = inside.1;
+        in_order = part_said inside.0 inside.1 5 t.in_order;
+        near = ap (λ (k : ℕ). list_any (λ x. nat_lt (k + 1) (place_of x)) inside.0.1)
+            (sym (count_said before p h inside.0 inside.1 is_command))
+            ∙ (sym (some_said before p h inside.0 inside.1
+            (λ x. nat_lt (count is_command (open_batch before) + 1) (place_of x)))
+            ∙ near);
+      })
+  end_may words s e m t = absurd (false≢true m)
+
+  -- by the form, outside a batch
+  outside_may : (f : LineForm) (words : List (List ℕ)) (s : Statement) →
+      Outside ≡ part_of_batch p.batch → stands_outside f ≡ true → is_built before f ≡ true →
+      matches words f ≡ true → PassesTests form before words f s → May p s
+  outside_may BufferLine words s e g b m t = buffer_may words s e m t
+  outside_may TimelineLine words s e g b m t = timeline_may words s e m t
+  outside_may BinaryLine words s e g b m t = binary_may words s e m t
+  outside_may FenceLine words s e g b m t = fence_may words s e m t
+  outside_may (QueueLine Immediate) words s e g b m t = queue_may Immediate tt words s e m t
+  outside_may (QueueLine Threaded) words s e g b m t = queue_may Threaded tt words s e m t
+  outside_may SubmitLine words s e g b m t = submit_may words s e m t
+  outside_may WaitTimelineLine words s e g b m t = absurd (false≢true g)
+  outside_may WaitBinaryLine words s e g b m t = absurd (false≢true g)
+  outside_may FillWholeLine words s e g b m t = absurd (false≢true g)
+  outside_may FillLine words s e g b m t = absurd (false≢true g)
+  outside_may UpdateLine words s e g b m t = absurd (false≢true g)
+  outside_may CopyLine words s e g b m t = absurd (false≢true g)
+  outside_may SignalTimelineLine words s e g b m t = absurd (false≢true g)
+  outside_may SignalBinaryLine words s e g b m t = absurd (false≢true g)
+  outside_may BatchFenceLine words s e g b m t = absurd (false≢true g)
+  outside_may EndLine words s e g b m t = absurd (false≢true g)
+  outside_may f words s e g b m t = absurd (false≢true b)
+
+  -- .. and inside
+  inside_may : (f : LineForm) (words : List (List ℕ)) (s : Statement) →
+      InBatch ≡ part_of_batch p.batch → stands_inside f ≡ true → is_built before f ≡ true →
+      matches words f ≡ true → PassesTests form before words f s → May p s
+  inside_may WaitTimelineLine words s e g b m t = wait_timeline_may words s e b m t
+  inside_may WaitBinaryLine words s e g b m t = wait_binary_may words s e b m t
+  inside_may FillWholeLine words s e g b m t = fill_whole_may words s e m t
+  inside_may FillLine words s e g b m t = fill_may words s e m t
+  inside_may UpdateLine words s e g b m t = update_may words s e m t
+  inside_may CopyLine words s e g b m t = copy_may words s e m t
+  inside_may SignalTimelineLine words s e g b m t = signal_timeline_may words s e m t
+  inside_may SignalBinaryLine words s e g b m t = signal_binary_may words s e m t
+  inside_may BatchFenceLine words s e g b m t = batch_fence_may words s e m t
+  inside_may EndLine words s e g b m t = end_may words s e m t
+  inside_may BufferLine words s e g b m t = absurd (false≢true g)
+  inside_may TimelineLine words s e g b m t = absurd (false≢true g)
+  inside_may BinaryLine words s e g b m t = absurd (false≢true g)
+  inside_may FenceLine words s e g b m t = absurd (false≢true g)
+  inside_may (QueueLine mode) words s e g b m t = absurd (false≢true g)
+  inside_may SubmitLine words s e g b m t = absurd (false≢true g)
+  inside_may f words s e g b m t = absurd (false≢true b)
+
+  -- by the part of the text
+  line_may : (was : Section) (f : LineForm) (words : List (List ℕ)) (s : Statement) →
+      was ≡ part_of_batch p.batch → find (matches words) (forms_in form before was) ≡ Some f →
+      is_built before f ≡ true → matches words f ≡ true → PassesTests form before words f s →
+      May p s
+  line_may Outside f words s e found b m t =
+      outside_may f words s e
+      (found_belongs (matches words) stands_outside
+      (first_forms before ++ forms_outside ++ schedule_forms form) f
+      (all_outside form before) found) b m t
+  line_may InBatch f words s e found b m t =
+      inside_may f words s e
+      (found_belongs (matches words) stands_inside
+      (held_forms (version_of before) ++ forms_in_batch) f
+      (all_inside (version_of before == 2)) found) b m t
+  line_may InSchedule f words s e found b m t = absurd (no_schedule p.batch e)
+
+  -- A line without a fault says a statement that may follow.
+  pub may_follow : (words : List (List ℕ)) (s : Statement) → fault_of form before words ≡ None →
+      meaning form before words ≡ Some s → May p s
+  may_follow words s e m =
+      let t = tests_passed form before words s e m in
+      let found = built_found before (find (matches words) (forms_at form before)) t.0 t.1.found in
+      line_may (section before) t.0 words s h.part found
+      (where_it_is_built before (find (matches words) (forms_at form before)) t.0 t.1.found)
+      (found_passes (matches words) (forms_at form before) t.0 found) t.1

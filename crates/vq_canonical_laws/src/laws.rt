@@ -1,0 +1,25 @@
+//! Laws over canonical texts. The functions do nothing: their contracts are the laws.
+ghost use Rattle.std.specs.Prelude.{◌≡◌};
+ghost use Rattle.vq_model.specs.declared.script.Script.{Script};
+ghost use Rattle.vq_model.specs.SameScript.{SameButLines, IsScript};
+ghost use Rattle.vq_model.specs.Canonical.{canonical_text, form_of_script};
+ghost use Rattle.vq_model.specs.Reading.{StandsFor};
+
+/// Scripts that are the same up to line numbers have the same canonical text.
+pub fn canonical_text_ignores_lines()
+    ensures { (a b : Script) → SameButLines a b → canonical_text a ≡ canonical_text b }
+{}
+
+/// The canonical text of a script that can be written stands for it, up to line numbers.
+pub fn canonical_text_reads_back()
+    ensures { (s : Script) → IsScript s →
+        (read : Script) × StandsFor (canonical_text s) (form_of_script s) read
+        × SameButLines read s }
+{}
+
+/// Scripts that can be written have the same canonical text only where they are the same up to line
+/// numbers.
+pub fn canonical_text_tells_scripts_apart()
+    ensures { (a b : Script) → IsScript a → IsScript b → canonical_text a ≡ canonical_text b →
+        SameButLines a b }
+{}

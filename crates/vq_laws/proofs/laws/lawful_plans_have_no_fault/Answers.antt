@@ -1,5 +1,0 @@
-use Rattle.vq_laws.proofs.LawfulPlans.{lawful_without_fault}
-use Rattle.vq_laws.proofs.laws.lawful_plans_have_no_fault.Goals as goal
-
-pub returns : goal.returns
-returns c = lawful_without_fault

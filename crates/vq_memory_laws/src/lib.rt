@@ -1,0 +1,4 @@
+//! What commands do to the bytes of buffers, as laws over the definitions.
+#![tactic(auto)]
+
+pub mod laws;

@@ -1,0 +1,10 @@
+pub mod Filters
+pub mod Gets
+pub mod Lists
+pub mod Mapped
+pub mod Numbers
+pub mod Options
+pub mod Positions
+pub mod Puts
+pub mod Rising
+pub mod Searches

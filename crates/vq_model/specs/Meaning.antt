@@ -1,0 +1,240 @@
+-- What the words of a line say: their form, the words at its open places, and the statement.
+-- The format is this project's own.
+use Rattle.std.specs.Prelude.{Bool, true, List, [], ◌∷◌, ◌+◌, ◌++◌, ℕ, ◌%◌, ◌==◌, nat_lt, false, ◌&&◌, length, if◌then◌else◌, Option, Some, None, find, ◌||◌, drop, codes, ◌^◌, ◌*◌, map, not}
+use Rattle.std.specs.Str.{bytes_eq}
+use Rattle.std.specs.Option.{option_map, option_and_then}
+use Rattle.std.specs.List.{list_all}
+use Rattle.std.specs.Char.{digit_value}
+use Rattle.vq_model.specs.declared.statement.LineForm.{LineForm}
+use Rattle.vq_model.specs.declared.statement.Line.{Line}
+use Rattle.vq_model.specs.declared.statement.LineForm.TheVariants.{VersionLine, BufferLine, TimelineLine, BinaryLine, FenceLine, QueueLine, SubmitLine, HostSignalLine, HostWaitAllLine, HostWaitAnyLine, HostPollAllLine, HostPollAnyLine, HostReadLine, HostFenceWaitLine, HostFencePollLine, HostFenceResetLine, HostIdleLine, ScheduleLine, WaitTimelineLine, WaitBinaryLine, HeldTimelineLine, HeldBinaryLine, FillWholeLine, FillLine, UpdateLine, CopyLine, SignalTimelineLine, SignalBinaryLine, BatchFenceLine, EndLine, TurnLine, TurnsLine}
+use Rattle.vq_model.specs.declared.statement.Form.{Form}
+use Rattle.vq_model.specs.declared.statement.Section.{Section}
+use Rattle.vq_model.specs.declared.statement.Section.TheVariants.{Outside, InBatch, InSchedule}
+use Rattle.vq_model.specs.declared.script.ActorName.{ActorName}
+use Rattle.vq_model.specs.declared.script.ActorName.TheVariants.{Host as HostActor, Submit as SubmitActor, Ring as RingActor}
+use Rattle.vq_model.specs.declared.script.Mode.TheVariants.{Immediate, Threaded}
+use Rattle.vq_model.specs.declared.script.Pair.{Pair}
+use Rattle.vq_model.specs.declared.statement.Statement.{Statement}
+use Rattle.vq_model.specs.declared.statement.Statement.TheVariants.{HasVersion, DeclareBuffer, DeclareSemaphore, DeclareQueue, BeginBatch, AddWait, AddCommand, AddSignal, AddFence, EndBatch, TakeHostStep, BeginSchedule, TakeTurns}
+use Rattle.vq_model.specs.declared.script.SemaphoreKind.TheVariants.{Timeline, Binary, Fence}
+use Rattle.vq_model.specs.declared.script.HostStep.TheVariants.{Signal as HostSignal, WaitAll, WaitAny, PollAll, PollAny, Read, FenceWait, FencePoll, FenceReset, Idle}
+use Rattle.vq_model.specs.declared.script.Command.TheVariants.{Fill, Update, Copy}
+use Rattle.vq_model.specs.declared.script.FillSize.TheVariants.{Whole, Count}
+use Rattle.vq_model.specs.Forms.{forms_outside, forms_in_batch, forms_in_schedule, held_forms, schedule_forms, Place, Pairs, word, Fixed, places, TimelineName, Numeral}
+use Rattle.vq_model.specs.Context.{section, is_batch_immediate, version_of, queue_at, threaded_at, timeline_at, buffer_at, binary_at, fence_at}
+use Rattle.vq_model.specs.Text.{is_name, numeral}
+
+-- The form of a line
+
+-- The forms that are built so far; a line of another form is Syntax. No queue is deferred, and a
+-- batch of an immediate queue waits for nothing.
+abbrev pub is_built : List Line → LineForm → Bool
+is_built before BufferLine = true
+is_built before TimelineLine = true
+is_built before BinaryLine = true
+is_built before FenceLine = true
+is_built before (QueueLine Immediate) = true
+is_built before (QueueLine Threaded) = true
+is_built before SubmitLine = true
+is_built before WaitTimelineLine = not (is_batch_immediate before)
+is_built before WaitBinaryLine = not (is_batch_immediate before)
+is_built before FillWholeLine = true
+is_built before FillLine = true
+is_built before UpdateLine = true
+is_built before CopyLine = true
+is_built before SignalTimelineLine = true
+is_built before SignalBinaryLine = true
+is_built before BatchFenceLine = true
+is_built before EndLine = true
+is_built before other = false
+
+-- `version 2` may stand first; in version 2 waits may hold back a part of the commands
+abbrev pub first_forms : List Line → List LineForm
+first_forms [] = VersionLine ∷ []
+first_forms (line ∷ lines) = []
+
+-- the forms of the place at which a line stands
+abbrev pub forms_at : Form → List Line → List LineForm
+forms_at form before = by_section (section before)
+  where
+    by_section : Section → List LineForm
+    by_section Outside = first_forms before ++ forms_outside ++ schedule_forms form
+    by_section InBatch = held_forms (version_of before) ++ forms_in_batch
+    by_section InSchedule = forms_in_schedule
+
+-- words are as many as places
+abbrev pub are_as_many : List Place → List (List ℕ) → Bool
+are_as_many [] [] = true
+are_as_many [] (word ∷ words) = false
+are_as_many (Pairs ∷ []) words = nat_lt 0 (length words) && (length words % 2 == 0)
+are_as_many (place ∷ more) [] = false
+are_as_many (place ∷ more) (word ∷ words) = are_as_many more words
+
+-- words agree with the fixed words of places
+abbrev pub agree : List Place → List (List ℕ) → Bool
+agree (Fixed word ∷ more) (given ∷ words) = bytes_eq given word && agree more words
+agree (place ∷ more) (given ∷ words) = agree more words
+agree more words = true
+
+-- words match a form in its number of words and in its fixed words
+abbrev pub matches : List (List ℕ) → LineForm → Bool
+matches words form = are_as_many (places form) words && agree (places form) words
+
+-- a form, where it is built
+abbrev pub where_built : List Line → Option LineForm → Option LineForm
+where_built before None = None
+where_built before (Some form) = if is_built before form then Some form else None
+
+-- the form of a line's words
+abbrev pub form_of : Form → List Line → List (List ℕ) → Option LineForm
+form_of form before words = where_built before (find (matches words) (forms_at form before))
+
+-- The words at its places
+
+-- pairs, as their places with the words there
+abbrev pub pair_places : List (List ℕ) → List (Place × List ℕ)
+pair_places (timeline ∷ value ∷ words) =
+    (TimelineName, timeline) ∷ (Numeral, value) ∷ pair_places words
+pair_places words = []
+
+-- the places of a line that aren't fixed words, with the words there
+abbrev pub open_places : List Place → List (List ℕ) → List (Place × List ℕ)
+open_places (Pairs ∷ []) words = pair_places words
+open_places (Fixed word ∷ more) (given ∷ words) = open_places more words
+open_places (place ∷ more) (given ∷ words) = (place, given) ∷ open_places more words
+open_places more words = []
+
+-- a letter and a colon before what follows
+abbrev pub is_marked : ℕ → List ℕ → Bool
+is_marked letter (first ∷ second ∷ name) = (first == letter) && (second == 58)
+is_marked letter word = false
+
+-- `host`, or `S:` or `R:` before a name
+abbrev pub is_actor : List ℕ → Bool
+is_actor word =
+    bytes_eq word (codes "host")
+    || ((is_marked 83 word || is_marked 82 word) && is_name (drop 2 word))
+
+-- the actor of a word
+abbrev pub actor_at : List Line → List ℕ → Option ActorName
+actor_at before word =
+    if bytes_eq word (codes "host") then Some HostActor
+    else if is_marked 83 word then option_map (λ q. SubmitActor q)
+    (threaded_at before (drop 2 word))
+    else option_map (λ q. RingActor q) (queue_at before (drop 2 word))
+
+-- a numeral of 32 bits
+abbrev pub small_numeral : List ℕ → Option ℕ
+small_numeral word =
+    option_and_then (λ n. if nat_lt n (2 ^ 32) then Some n else None) (numeral word)
+
+-- an even number of hexadecimal digits
+abbrev pub is_hex : List ℕ → Bool
+is_hex word = (length word % 2 == 0) && list_all (λ b. nat_lt (digit_value b) 16) word
+
+-- the bytes that two digits each stand for
+abbrev pub hex_bytes : List ℕ → List ℕ
+hex_bytes (high ∷ low ∷ digits) = (16 * digit_value high + digit_value low) ∷ hex_bytes digits
+hex_bytes digits = []
+
+-- The statement
+
+-- a function's value where all its arguments are read
+abbrev pub of_two : {A B C : Type 0} → (A → B → C) → Option A → Option B → Option C
+of_two f a b = option_and_then (λ x. option_map (f x) b) a
+
+abbrev pub of_three : {A B C D : Type 0} → (A → B → C → D) → Option A → Option B → Option C →
+    Option D
+of_three f a b c = option_and_then (λ x. of_two (f x) b c) a
+
+abbrev pub of_four : {A B C D E : Type 0} → (A → B → C → D → E) → Option A → Option B → Option C →
+    Option D → Option E
+of_four f a b c d = option_and_then (λ x. of_three (f x) b c d) a
+
+abbrev pub of_five : {A B C D E F : Type 0} → (A → B → C → D → E → F) → Option A → Option B →
+    Option C → Option D → Option E → Option F
+of_five f a b c d e = option_and_then (λ x. of_four (f x) b c d e) a
+
+-- the pair of a timeline's name and a numeral
+abbrev pub pair_at : List Line → List ℕ → List ℕ → Option Pair
+pair_at before name value =
+    of_two (λ t v. record { semaphore = t; value = v }) (timeline_at before name) (numeral value)
+
+-- the pairs of a host step
+abbrev pub pairs_at : List Line → List (List ℕ) → Option (List Pair)
+pairs_at before (name ∷ value ∷ words) =
+    of_two (λ p ps. p ∷ ps) (pair_at before name value) (pairs_at before words)
+pairs_at before words = Some []
+
+-- the pair of a binary semaphore, whose value is 0
+abbrev pub binary_pair : ℕ → Pair
+binary_pair s = record { semaphore = s; value = 0 }
+
+-- What the words at a form's open places say.
+abbrev pub statement_of : List Line → LineForm → List (List ℕ) → Option Statement
+statement_of before VersionLine [] = Some (HasVersion 2)
+statement_of before BufferLine (name ∷ size ∷ []) =
+    option_map (λ n. DeclareBuffer name n) (numeral size)
+statement_of before TimelineLine (name ∷ value ∷ []) =
+    option_map (λ v. DeclareSemaphore name (Timeline v)) (numeral value)
+statement_of before BinaryLine (name ∷ []) = Some (DeclareSemaphore name Binary)
+statement_of before FenceLine (name ∷ []) = Some (DeclareSemaphore name Fence)
+statement_of before (QueueLine mode) (name ∷ []) = Some (DeclareQueue name mode)
+statement_of before SubmitLine (queue ∷ []) = option_map (λ q. BeginBatch q) (queue_at before queue)
+statement_of before HostSignalLine (name ∷ value ∷ []) =
+    option_map (λ p. TakeHostStep (HostSignal p)) (pair_at before name value)
+statement_of before HostWaitAllLine words =
+    option_map (λ ps. TakeHostStep (WaitAll ps)) (pairs_at before words)
+statement_of before HostWaitAnyLine words =
+    option_map (λ ps. TakeHostStep (WaitAny ps)) (pairs_at before words)
+statement_of before HostPollAllLine words =
+    option_map (λ ps. TakeHostStep (PollAll ps)) (pairs_at before words)
+statement_of before HostPollAnyLine words =
+    option_map (λ ps. TakeHostStep (PollAny ps)) (pairs_at before words)
+statement_of before HostReadLine (name ∷ []) =
+    option_map (λ t. TakeHostStep (Read t)) (timeline_at before name)
+statement_of before HostFenceWaitLine (name ∷ []) =
+    option_map (λ f. TakeHostStep (FenceWait f)) (fence_at before name)
+statement_of before HostFencePollLine (name ∷ []) =
+    option_map (λ f. TakeHostStep (FencePoll f)) (fence_at before name)
+statement_of before HostFenceResetLine (name ∷ []) =
+    option_map (λ f. TakeHostStep (FenceReset f)) (fence_at before name)
+statement_of before HostIdleLine [] = Some (TakeHostStep Idle)
+statement_of before ScheduleLine [] = Some BeginSchedule
+statement_of before WaitTimelineLine (name ∷ value ∷ []) =
+    option_map (λ p. AddWait p 1) (pair_at before name value)
+statement_of before WaitBinaryLine (name ∷ []) =
+    option_map (λ s. AddWait (binary_pair s) 1) (binary_at before name)
+statement_of before HeldTimelineLine (name ∷ value ∷ place ∷ []) =
+    of_two (λ p k. AddWait p k) (pair_at before name value) (numeral place)
+statement_of before HeldBinaryLine (name ∷ place ∷ []) =
+    of_two (λ s k. AddWait (binary_pair s) k) (binary_at before name) (numeral place)
+statement_of before FillWholeLine (buffer ∷ offset ∷ word ∷ []) =
+    of_three (λ b o w. AddCommand (Fill b o Whole w)) (buffer_at before buffer) (numeral offset)
+    (small_numeral word)
+statement_of before FillLine (buffer ∷ offset ∷ size ∷ word ∷ []) =
+    of_four (λ b o n w. AddCommand (Fill b o (Count n) w)) (buffer_at before buffer)
+    (numeral offset) (numeral size) (small_numeral word)
+statement_of before UpdateLine (buffer ∷ offset ∷ digits ∷ []) =
+    of_two (λ b o. AddCommand (Update b o (hex_bytes digits))) (buffer_at before buffer)
+    (numeral offset)
+statement_of before CopyLine (source ∷ from ∷ target ∷ to ∷ size ∷ []) =
+    of_five (λ s so t o n. AddCommand (Copy s so t o n)) (buffer_at before source) (numeral from)
+    (buffer_at before target) (numeral to) (numeral size)
+statement_of before SignalTimelineLine (name ∷ value ∷ []) =
+    option_map (λ p. AddSignal p) (pair_at before name value)
+statement_of before SignalBinaryLine (name ∷ []) =
+    option_map (λ s. AddSignal (binary_pair s)) (binary_at before name)
+statement_of before BatchFenceLine (name ∷ []) = option_map (λ f. AddFence f) (fence_at before name)
+statement_of before EndLine [] = Some EndBatch
+statement_of before TurnLine (actor ∷ []) = option_map (λ a. TakeTurns a 1) (actor_at before actor)
+statement_of before TurnsLine (actor ∷ turns ∷ []) =
+    of_two (λ a n. TakeTurns a n) (actor_at before actor) (numeral turns)
+statement_of before form words = None
+
+-- What a line says after these lines, where its words are read.
+abbrev pub meaning : Form → List Line → List (List ℕ) → Option Statement
+meaning form before words =
+    option_and_then (λ f. statement_of before f (map (λ x. x.1) (open_places (places f) words)))
+    (form_of form before words)

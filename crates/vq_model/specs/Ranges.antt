@@ -1,0 +1,79 @@
+-- The bytes of buffers that a transfer command reads and writes.
+-- Vulkan 1.3, "Clear Commands" (vkCmdFillBuffer, vkCmdUpdateBuffer) and "Copy Commands"
+-- (vkCmdCopyBuffer).
+use Rattle.std.specs.Prelude.{ℕ, ◌*◌, ◌-◌, ◌/◌, List, length, Option, Some, None, ◌+◌, ◌==◌, min, max, nat_lt, Bool, ◌&&◌, false, ◌%◌, true, ◌<◌, ◌≤◌, ◌≡◌, IfSome, ◌||◌}
+use Rattle.std.specs.List.{slice_index_or}
+use Rattle.std.specs.Option.{option_map_or}
+use Rattle.vq_model.specs.declared.script.FillSize.{FillSize}
+use Rattle.vq_model.specs.declared.script.FillSize.TheVariants.{Whole, Count}
+use Rattle.vq_model.specs.declared.script.Command.{Command}
+use Rattle.vq_model.specs.declared.script.Command.TheVariants.{Fill, Update, Copy}
+
+-- bytes of one buffer
+pub record Range : Type 0 where
+  pub buffer : ℕ
+  pub start : ℕ
+  pub size : ℕ
+
+-- how many bytes a fill writes; with the whole size the rest of the buffer, rounded down to a
+-- multiple of 4
+abbrev pub fill_size : FillSize → ℕ → ℕ → ℕ
+fill_size Whole offset size = (size - offset) / 4 * 4
+fill_size (Count n) offset size = n
+
+-- what a command writes, in buffers of these sizes
+abbrev pub written_range : List ℕ → Command → Range
+written_range sizes (Fill b o size w) =
+    record { buffer = b; start = o; size = fill_size size o (slice_index_or sizes b 0) }
+written_range sizes (Update b o bytes) = record { buffer = b; start = o; size = length bytes }
+written_range sizes (Copy s so t to n) = record { buffer = t; start = to; size = n }
+
+-- what a copy reads
+abbrev pub read_range : Command → Option Range
+read_range (Copy s so t to n) = Some (record { buffer = s; start = so; size = n })
+read_range other = None
+
+-- two ranges have a byte in common
+abbrev pub share : Range → Range → Bool
+share r s =
+    (r.buffer == s.buffer)
+    && nat_lt (max r.start s.start) (min (r.start + r.size) (s.start + s.size))
+
+-- whether a command reads a byte that it writes
+abbrev pub overlaps_itself : List ℕ → Command → Bool
+overlaps_itself sizes c = option_map_or (share (written_range sizes c)) (read_range c) false
+
+-- a number of bytes, or a place, that is a multiple of 4
+abbrev pub is_aligned : ℕ → Bool
+is_aligned n = n % 4 == 0
+
+-- A fill and an update begin at a multiple of 4, and the number of their bytes is one too; a copy
+-- may stand anywhere. (Vulkan 1.3, vkCmdFillBuffer, vkCmdUpdateBuffer)
+abbrev pub is_aligned_command : Command → Bool
+is_aligned_command (Fill b o Whole w) = is_aligned o
+is_aligned_command (Fill b o (Count n) w) = is_aligned o && is_aligned n
+is_aligned_command (Update b o bytes) = is_aligned o && is_aligned (length bytes)
+is_aligned_command (Copy s so t to n) = true
+
+-- a range lies in its buffer
+pub record IsWithin (sizes : List ℕ) (r : Range) : Type 0 where
+  pub exists : r.buffer < length sizes
+  pub ends : r.start + r.size ≤ slice_index_or sizes r.buffer 0
+
+-- A command fits: its ranges lie in their buffers, the multiples of 4 hold, and a copy doesn't
+-- overlap itself. A size of 0, an update of any length, and a fill of the rest of a buffer from its
+-- very end on fit too: that these can't be written in a script is a matter of the script's lines,
+-- which ask for more.
+pub record Fits (sizes : List ℕ) (c : Command) : Type 0 where
+  pub written : IsWithin sizes (written_range sizes c)
+  pub read : IfSome (read_range c) (IsWithin sizes)
+  pub aligned : is_aligned_command c ≡ true
+  pub apart : overlaps_itself sizes c ≡ false
+
+-- Two commands conflict where they have a byte in common that one of them writes.
+-- Vulkan 1.3, "Execution and Memory Dependencies" (data hazards).
+abbrev pub conflict : List ℕ → Command → Command → Bool
+conflict sizes c d =
+    share (written_range sizes c) (written_range sizes d)
+    || option_map_or (share (written_range sizes c)) (read_range d) false
+    || option_map_or (share (written_range sizes d)) (read_range c) false

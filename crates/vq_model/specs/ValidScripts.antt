@@ -1,0 +1,114 @@
+-- What each script that can be written keeps. This project's own.
+use Rattle.std.specs.Prelude.{ℕ, ◌≡◌, ◌<◌, ◌≤◌, Bool, true, false, List, [], ◌∷◌, ◌++◌, length, map, sum, Some, All}
+use Rattle.std.specs.List.{slice_get, flat_map}
+use Rattle.std.specs.Option.{option_map_or, option_to_list}
+use Rattle.vq_model.specs.declared.script.Script.{Script}
+use Rattle.vq_model.specs.declared.script.Batch.{Batch}
+use Rattle.vq_model.specs.declared.script.Job.{Job}
+use Rattle.vq_model.specs.declared.script.Job.TheVariants.{Host, Batch as BatchJob}
+use Rattle.vq_model.specs.declared.script.HostLine.{HostLine}
+use Rattle.vq_model.specs.declared.script.HostStep.{HostStep}
+use Rattle.vq_model.specs.declared.script.HostStep.TheVariants.{Signal, FenceReset}
+use Rattle.vq_model.specs.declared.script.CommandLine.{CommandLine}
+use Rattle.vq_model.specs.declared.script.Mark.{Mark}
+use Rattle.vq_model.specs.Context.{is_fence, is_immediate}
+use Rattle.vq_model.specs.Limits.{limits_of}
+use Rattle.vq_model.specs.Ranges.{Fits}
+use Rattle.vq_model.specs.Signals.{Signaling, all_signals, kind_of, is_timeline_at}
+use Rattle.vq_model.specs.WellFormed.{AreRising}
+use Rattle.vq_model.specs.Lowering.{commands_in, batch_commands}
+
+-- the sizes of a script's buffers
+abbrev pub sizes_of : Script → List ℕ
+sizes_of s = map (λ b. b.size) s.buffers
+
+-- A script stays within the limits of its version.
+pub record KeepsLimits (s : Script) : Type 0 where
+  pub buffers : length s.buffers ≤ (limits_of s.version).buffers
+  pub bytes : sum (sizes_of s) ≤ (limits_of s.version).bytes
+  pub semaphores : length s.semaphores ≤ (limits_of s.version).semaphores
+  pub queues : length s.queues ≤ (limits_of s.version).queues
+  pub jobs : length s.jobs ≤ (limits_of s.version).jobs
+  pub commands : sum (map commands_in s.jobs) ≤ (limits_of s.version).commands
+
+-- whether a semaphore of a script is a fence
+abbrev pub is_fence_at : Script → ℕ → Bool
+is_fence_at s t = option_map_or is_fence (kind_of s t) false
+
+-- A wait or a signal of a batch names a timeline or a binary semaphore, which has no value.
+pub record IsValidMark (s : Script) (m : Mark) : Type 0 where
+  pub exists : m.semaphore < length s.semaphores
+  pub kind : is_fence_at s m.semaphore ≡ false
+  pub valueless : is_timeline_at s m.semaphore ≡ false → m.value ≡ 0
+
+-- The fence of a batch is one.
+pub record IsValidFence (s : Script) (m : Mark) : Type 0 where
+  pub exists : m.semaphore < length s.semaphores
+  pub kind : is_fence_at s m.semaphore ≡ true
+  pub valueless : m.value ≡ 0
+
+-- A batch names what exists, of the kinds that its places need, and stays within the limits of a
+-- batch.
+pub record IsValidBatch (s : Script) (b : Batch) : Type 0 where
+  pub queue : b.queue < length s.queues
+  pub waits : All (IsValidMark s) b.waits
+  pub signals : All (IsValidMark s) b.signals
+  pub fence : (m : Mark) → b.fence ≡ Some m → IsValidFence s m
+  pub few_waits : length b.waits ≤ 16
+  pub few_signals : length b.signals ≤ 16
+
+abbrev pub HasValidBatches : Script → Type 0
+HasValidBatches s = (j : ℕ) (b : Batch) → slice_get s.jobs j ≡ Some (BatchJob b) → IsValidBatch s b
+
+-- A host step that signals names a timeline, and one that resets names a fence.
+abbrev pub IsValidStep : Script → HostStep → Type 0
+IsValidStep s (Signal pair) = is_timeline_at s pair.semaphore ≡ true
+IsValidStep s (FenceReset f) = is_fence_at s f ≡ true
+IsValidStep s other = Unit {0}
+
+abbrev pub HasValidSteps : Script → Type 0
+HasValidSteps s = (j : ℕ) (h : HostLine) → slice_get s.jobs j ≡ Some (Host h) → IsValidStep s h.step
+
+-- Signals name semaphores that exist, commands fit their buffers, and the limits are kept.
+pub record IsValid (s : Script) : Type 0 where
+  pub signals : (e : ℕ) (x : Signaling) → slice_get (all_signals s) e ≡ Some x →
+      x.semaphore < length s.semaphores
+  pub commands : (j k : ℕ) (job : Job) (x : CommandLine) → slice_get s.jobs j ≡ Some job →
+      slice_get (batch_commands job) k ≡ Some x → Fits (sizes_of s) x.command
+  pub limits : KeepsLimits s
+
+-- The lines of a job: its first line, then its waits, its commands, its signals and its fence.
+abbrev pub job_lines : Job → List ℕ
+job_lines (Host h) = h.line ∷ []
+job_lines (BatchJob b) =
+    b.line
+    ∷ map (λ m. m.line) b.waits
+    ++ map (λ c. c.line) b.commands
+    ++ map (λ m. m.line) b.signals
+    ++ map (λ m. m.line) (option_to_list b.fence)
+
+-- the lines of a script rise in its order
+abbrev pub HasRisingLines : Script → Type 0
+HasRisingLines s = AreRising (flat_map job_lines s.jobs)
+
+-- whether a queue of a script is immediate
+abbrev pub is_immediate_queue : Script → ℕ → Bool
+is_immediate_queue s q = option_map_or (λ x. is_immediate x.mode) (slice_get s.queues q) false
+
+-- a batch that waits as a whole, and not at all where its queue is immediate
+pub record WaitsWhole (s : Script) (b : Batch) : Type 0 where
+  pub from_start : All (λ m. m.from ≡ 1) b.waits
+  pub unheld : is_immediate_queue s b.queue ≡ true → b.waits ≡ []
+
+abbrev pub AreWholeBatches : Script → List Job → Type 0
+AreWholeBatches s [] = Unit {0}
+AreWholeBatches s (Host h ∷ jobs) = ⊥
+AreWholeBatches s (BatchJob b ∷ jobs) = WaitsWhole s b × AreWholeBatches s jobs
+
+-- A script of batches alone: it is of version 1 and has no schedule and no host steps. So is each
+-- script of the forms that are built so far.
+pub record IsOfBatches (s : Script) : Type 0 where
+  pub version : s.version ≡ 1
+  pub batches : AreWholeBatches s s.jobs
+  pub unscheduled : s.scheduled ≡ false
+  pub turns : s.turns ≡ []

@@ -1,0 +1,163 @@
+-- What is sure for a host step is sure for each later host step, and for each batch that is written
+-- after it.
+use Rattle.std.proofs.Common.{◌≡◌, ◌≢◌, ℕ, zero, suc, ◌<◌, ◌≤◌, true, not, ◌&&◌, ◌⊎◌, List, [], ◌∷◌, length, inl, inr, sym, ap, ◌∙◌, subst, arith, ◌+◌, Bool, false, ◌++◌, take, Option, Some, None, refl}
+use Rattle.std.specs.List.{list_all, slice_get}
+use Rattle.std.proofs.lemmas.Bool.{and_parts, cases_eq, lt-ltb, false≢true, cases_lt}
+use Rattle.vq_model.specs.Plan.{Plan, has, is_host_step, previous, host_before, idle_after, same_lane, is_host_lane}
+use Rattle.vq_model.specs.Edges.{At, AtEnd, must_finish}
+use Rattle.vq_model.specs.Machine.{are_reached, can_start}
+use Rattle.vq_model.specs.SlowRun.{payload_after, slow_order, left_over}
+use Rattle.vq_model.specs.HappensBefore.{comes_earlier, IsHop}
+use Rattle.vq_model.specs.Sure.{IsSure, passed_on}
+use Rattle.vq_model.specs.WellFormed.{KeepsHostOrder}
+use Rattle.vq_model.proofs.Lists.{split_at, list_all_has, has_here, has-append_left, has-append_right}
+use Rattle.vq_model.proofs.Positions.{place, place_head, place-append}
+use Rattle.vq_order_laws.proofs.SlowOrder.{slow_has, ReadyEach, slow_adds}
+use Rattle.vq_order_laws.proofs.PassedOn.{ready_at, place_in_front}
+use Rattle.vq_order_laws.proofs.EdgeReasons.{finish_edge}
+use Rattle.std.specs.Option.{option_map_or, option_to_list}
+use Rattle.vq_model.specs.declared.script.Script.{Script}
+use Rattle.vq_model.specs.declared.script.HostLine.{HostLine}
+use Rattle.vq_model.specs.declared.script.Batch.{Batch}
+use Rattle.vq_model.specs.declared.script.Job.{Job}
+use Rattle.vq_model.specs.declared.script.Job.TheVariants.{Host, Batch as BatchJob}
+use Rattle.vq_model.specs.declared.plan.Lane.TheVariants.{Host as HostLane}
+use Rattle.vq_model.specs.Lowering.{lane_of, plan_job, plan_of}
+use Rattle.vq_plan_laws.proofs.Cited.{HasNone, IsLast, last_cases, part_is, count_jobs}
+use Rattle.vq_model.proofs.Gets.{get-take, get-take_within, get_within}
+
+module _ (p : Plan) (reach : left_over p ≡ []) where
+  -- what must be finished before a job stands earlier in the slow run
+  pub finished_earlier : (i j : ℕ) → j < length p.jobs → has (must_finish p j) i ≡ true →
+      comes_earlier p i j ≡ true
+  finished_earlier i j l m =
+      let split = split_at (slow_order p) j (slow_has p reach j l) in
+      let adds = slow_adds p (length p.jobs) [] in
+      let ready = ready_at p [] (slow_order p) split.front split.back j
+      (subst (ReadyEach p []) (sym adds.whole) adds.each) split.whole in
+      let both = and_parts (not (has split.front j)
+      && can_start p (has split.front) (payload_after p split.front) j)
+      (are_reached p (payload_after p split.front) j AtEnd) ready in
+      let starts = and_parts (not (has split.front j))
+      (can_start p (has split.front) (payload_after p split.front) j) both.0 in
+      let parts = and_parts (list_all (has split.front) (must_finish p j))
+      (are_reached p (payload_after p split.front) j (At 1)) starts.1 in
+      let first = list_all_has (has split.front) (must_finish p j) i parts.0 m in
+      let pj = ap (λ (xs : List ℕ). place xs j) split.whole
+      ∙ place-append split.front (j ∷ split.back) j split.first in
+      let pi = ap (λ (xs : List ℕ). place xs i) split.whole in
+      let f = place_in_front split.front (j ∷ split.back) i first in
+      let z = place_head j split.back in
+      lt-ltb (place (slow_order p) i) (place (slow_order p) j) (omega arith)
+
+  pub finished_hop : (i j : ℕ) → j < length p.jobs → has (must_finish p j) i ≡ true → IsHop p i j AtEnd
+  finished_hop i j l m =
+      record { edge = finish_edge p i j AtEnd m; earlier = finished_earlier i j l m }
+
+  -- what is sure for a host step is sure for each later one
+  module _ (hosts : KeepsHostOrder p) (exists : (j : ℕ) → is_host_step p j ≡ true → j < length p.jobs)
+      (e : ℕ) where
+    sure_by : (n i h : ℕ) → h < n → i ≤ h → is_host_step p i ≡ true → is_host_step p h ≡ true →
+        IsSure p e i → IsSure p e h
+    sure_by zero i h l m a b s = absurd (omega arith)
+    sure_by (suc n) i h l m a b s = by_case (cases_eq i h) (sure_by n i)
+      where
+        by_case : (i ≡ h) ⊎ (i ≢ h) →
+            ((g : ℕ) → g < n → i ≤ g → is_host_step p i ≡ true → is_host_step p g ≡ true →
+            IsSure p e i → IsSure p e g) → IsSure p e h
+        by_case (inl q) later = subst (IsSure p e) q s
+        by_case (inr d) later =
+            let before : i < h = omega (arith, d) in
+            let q = hosts.lane i h before a b in
+            let below = q.2 in
+            passed_on (later q.0 (omega arith) q.1 a q.3 s) (finished_hop q.0 h (exists h b) q.4)
+
+    pub sure_for_later : (i h : ℕ) → i ≤ h → is_host_step p i ≡ true → is_host_step p h ≡ true →
+        IsSure p e i → IsSure p e h
+    sure_for_later i h m a b s = sure_by (suc h) i h (omega arith) m a b s
+
+module _ (s : Script) where
+  host_step : (j : ℕ) (x : HostLine) → slice_get s.jobs j ≡ Some (Host x) →
+      is_host_step (plan_of s) j ≡ true
+  host_step j x e =
+      part_is (λ y. is_host_lane y.lane) false s j
+      ∙ ap (λ (o : Option Job). option_map_or (λ job. is_host_lane (plan_job s (j, job)).lane) o false) e
+
+  step_exists : (j : ℕ) → is_host_step (plan_of s) j ≡ true → j < length (plan_of s).jobs
+  step_exists j h =
+      by_job (slice_get s.jobs j) refl (sym (part_is (λ x. is_host_lane x.lane) false s j) ∙ h)
+    where
+      by_job : (o : Option Job) → slice_get s.jobs j ≡ o →
+          option_map_or (λ job. is_host_lane (plan_job s (j, job)).lane) o false ≡ true →
+          j < length (plan_of s).jobs
+      by_job None e g = absurd (false≢true g)
+      by_job (Some x) e g =
+          let l = get_within s.jobs j x e in let c = count_jobs s in omega arith
+
+  abbrev is_host_job : Job → Bool
+  is_host_job job = same_lane HostLane (lane_of job)
+
+  -- the last host step before a batch is no earlier than any other one before it
+  record HasLastStep (r j : ℕ) : Type 0 where
+    step : ℕ
+    at_or_later : r ≤ step
+    is_host : is_host_step (plan_of s) step ≡ true
+    first : has (must_finish (plan_of s) j) step ≡ true
+
+  last_step : (r j : ℕ) (x : HostLine) (b : Batch) → slice_get s.jobs r ≡ Some (Host x) →
+      slice_get s.jobs j ≡ Some (BatchJob b) → r < j → HasLastStep r j
+  last_step r j x b er ej l = by_last (last_cases 0 is_host_job (take j s.jobs) None)
+    where
+      in_front : slice_get (take j s.jobs) r ≡ Some (Host x)
+      in_front = get-take j s.jobs r l ∙ er
+
+      host_line : (job : Job) → is_host_job job ≡ true → (y : HostLine) × (job ≡ Host y)
+      host_line (Host y) h = (y, refl)
+      host_line (BatchJob c) h = absurd (false≢true h)
+
+      by_last : HasNone 0 is_host_job (take j s.jobs) None
+          ⊎ IsLast 0 is_host_job (take j s.jobs) None → HasLastStep r j
+      by_last (inl n) = absurd (false≢true (sym (n.none r (Host x) in_front)))
+      by_last (inr t) =
+          let below = get-take_within j s.jobs t.place t.job t.is in
+          let y = host_line t.job t.passes in
+          let at : slice_get s.jobs t.place ≡ Some (Host y.0) =
+          sym (get-take j s.jobs t.place below) ∙ (t.is ∙ ap Some y.1) in
+          let z : 0 + t.place ≡ t.place = omega arith in
+          let before : host_before (plan_of s) j ≡ Some t.place =
+          part_is (λ q. q.host_before) None s j
+          ∙ (ap (λ (o : Option Job). option_map_or (λ job. (plan_job s (j, job)).host_before) o None) ej
+          ∙ (t.is_found ∙ ap Some z)) in
+          record {
+            step = t.place;
+            at_or_later = not_after;
+            is_host = host_step t.place y.0 at;
+            first =
+                has-append_left
+                (option_to_list (previous (plan_of s) j)
+                ++ option_to_list (host_before (plan_of s) j)) (idle_after (plan_of s) j) t.place
+                (has-append_right (option_to_list (previous (plan_of s) j))
+                (option_to_list (host_before (plan_of s) j)) t.place
+                (ap (λ (o : Option ℕ). has (option_to_list o) t.place) before
+                ∙ has_here t.place []));
+          }
+        where
+          not_after : r ≤ t.place
+          not_after = elim (cases_lt t.place r) [
+            | inl m ↦ absurd (false≢true (sym (t.none_after r (Host x) m in_front)))
+            | inr m ↦ m
+          ]
+
+  -- What is sure for a host step is sure for each batch that is written after it.
+  pub sure_for_batch : left_over (plan_of s) ≡ [] → KeepsHostOrder (plan_of s) → (e r j : ℕ)
+      (x : HostLine) (b : Batch) → slice_get s.jobs r ≡ Some (Host x) →
+      slice_get s.jobs j ≡ Some (BatchJob b) → r < j → IsSure (plan_of s) e r →
+      IsSure (plan_of s) e j
+  sure_for_batch reach hosts e r j x b er ej l sure =
+      let h = last_step r j x b er ej l in
+      let w = get_within s.jobs j (BatchJob b) ej in
+      let c = count_jobs s in
+      passed_on
+      (sure_for_later (plan_of s) reach hosts step_exists e r h.step h.at_or_later
+      (host_step r x er) h.is_host sure)
+      (finished_hop (plan_of s) reach h.step j (omega arith) h.first)

@@ -1,0 +1,19 @@
+pub mod Cited
+mod ChainSignals
+mod CountedChains
+mod Decides
+mod EdgeReasons
+mod HostOrder
+mod JobLines
+mod LastUses
+mod LawfulOrder
+mod LawfulPlans
+mod NeedsStay
+mod PassedOn
+mod PlacesOrdered
+mod ResetChains
+mod RowLaws
+mod SlowOrder
+mod SlowStops
+mod UseKinds
+mod UsesInOrder

@@ -1,0 +1,73 @@
+//! Laws over the order of a plan: the slow run, what happens before what, and what is sure. The
+//! functions do nothing: their contracts are the laws.
+ghost use Rattle.std.specs.Prelude.{◌≡◌, ◌++◌, ℕ, true, false, List, ◌∷◌, ◌⊎◌, [], None, ◌↔◌};
+ghost use Rattle.vq_model.specs.Plan.{Plan, has, chain, initial, value};
+ghost use Rattle.vq_model.specs.WellFormed.{IsWellFormed};
+ghost use Rattle.vq_model.specs.SlowRun.{is_ready, slow_order, left_over};
+ghost use Rattle.vq_model.specs.Checks.{IsUnreachableAt, IsLawful, IsUnordered, IsRaceAt, NoLines, is_timeline_chain, IsFenceBusyAt, NoLine, IsFirstPlanFault};
+ghost use Rattle.vq_model.specs.Edges.{Place, edges_at, EdgeAt};
+ghost use Rattle.vq_model.specs.Sure.{IsSureAt, RisesFrom};
+ghost use Rattle.vq_model.specs.HappensBefore.{HappensBeforeAt};
+ghost use Rattle.vq_model.specs.Races.{HasNoRace, HasSureOrder};
+ghost use Rattle.vq_model.specs.LoweringFaults.{IsPlan, lowering_fault};
+ghost use Rattle.vq_model.specs.Signals.{is_timeline_at};
+ghost use Rattle.vq_model.specs.Lowering.{plan_of};
+ghost use Rattle.vq_model.specs.ValidScripts.{IsValid, HasValidBatches, HasValidSteps, HasRisingLines};
+ghost use Rattle.vq_model.specs.declared.script.Script.{Script};
+ghost use Rattle.vq_model.specs.declared.plan.OrderFault.{OrderFault};
+
+/// The slow run does each job at most once. A job that it leaves can't be done whole, and where it
+/// leaves one, a line is unreachable.
+pub fn slow_run_stops()
+    ensures once { (p : Plan) → (front back : List ℕ) → (j : ℕ) →
+        slow_order p ≡ (front ++ j ∷ back) → has front j ≡ false }
+    ensures left { (p : Plan) → (j : ℕ) → has (left_over p) j ≡ true →
+        is_ready p (slow_order p) j ≡ false }
+    ensures unreachable { (p : Plan) → IsWellFormed p → (j : ℕ) → has (left_over p) j ≡ true →
+        (n : ℕ) × IsUnreachableAt p n }
+{}
+
+/// Whether a job happens before a place of another can be decided, and whether an operation is sure
+/// for it.
+pub fn order_decides()
+    ensures before { (p : Plan) → (i j : ℕ) → (k : Place) →
+        HappensBeforeAt p i j k ⊎ ¬ HappensBeforeAt p i j k }
+    ensures sure { (p : Plan) → (e j : ℕ) → (k : Place) → IsSureAt p e j k ⊎ ¬ IsSureAt p e j k }
+{}
+
+/// Where no row of faults holds, conflicting commands of two jobs are ordered, and each timeline
+/// rises in a sure order. So do binary semaphores and fences, by the refusals of lowering and the
+/// row of waits that may be overtaken. So a lawful plan has all that the laws on runs need.
+pub fn lawful_plans_have_order()
+    ensures commands { (p : Plan) → NoLines (IsRaceAt p) → HasNoRace p }
+    ensures timelines { (p : Plan) → IsWellFormed p → NoLines (IsUnordered p) →
+        (t : ℕ) → is_timeline_chain p t ≡ true → RisesFrom p (initial p t) (chain p t) }
+    ensures counted { (p : Plan) → IsPlan p → left_over p ≡ [] → NoLines (IsUnordered p) →
+        (t : ℕ) → is_timeline_chain p t ≡ false → RisesFrom p (initial p t) (chain p t) }
+    ensures order { (p : Plan) → IsPlan p → IsLawful p → HasSureOrder p }
+{}
+
+/// The same of each script whose host steps signal timelines and reset fences. The k-th naming of a
+/// fence signals value k. Between two namings stands an effective reset, the signal of the first
+/// naming is sure for it where no fence is busy, and so it is for the batch of the second.
+pub fn fences_rise_with_resets()
+    ensures chains { (s : Script) → IsValid s → HasValidBatches s → HasValidSteps s →
+        HasRisingLines s → lowering_fault s ≡ None → left_over (plan_of s) ≡ [] →
+        NoLines (IsUnordered (plan_of s)) → NoLine (IsFenceBusyAt (plan_of s)) →
+        (t : ℕ) → is_timeline_at s t ≡ false →
+        RisesFrom (plan_of s) (initial (plan_of s) t) (chain (plan_of s) t) }
+    ensures order { (s : Script) → IsValid s → HasValidBatches s → HasValidSteps s →
+        HasRisingLines s → lowering_fault s ≡ None → IsLawful (plan_of s) →
+        HasSureOrder (plan_of s) }
+{}
+
+/// A lawful plan has no first fault.
+pub fn lawful_plans_have_no_fault()
+    ensures { (p : Plan) → (fault : OrderFault) → IsLawful p → ¬ IsFirstPlanFault p fault }
+{}
+
+/// The list of the edges to a place of a job holds what the four reasons say.
+pub fn edges_have_reasons()
+    ensures { (p : Plan) → (i j : ℕ) → (k : Place) →
+        (has (edges_at p j k) i ≡ true) ↔ EdgeAt p i j k }
+{}

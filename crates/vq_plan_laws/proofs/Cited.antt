@@ -1,0 +1,16 @@
+-- What other crates may cite of this one. All other files of proofs are private to it.
+pub use Rattle.vq_plan_laws.proofs.BatchPlans.{batches_output, never_ahead, never_busy}
+pub use Rattle.vq_plan_laws.proofs.FaultLaws.{no_fault_found}
+pub use Rattle.vq_plan_laws.proofs.HostPlans.{host_order}
+pub use Rattle.vq_plan_laws.proofs.LastBefore.{HasNone, IsLast, last_cases}
+pub use Rattle.vq_plan_laws.proofs.Owners.{owner}
+pub use Rattle.vq_plan_laws.proofs.PlacesAlike.{needs_alike, reached_earlier, ready_whole, same_before, same_reached, same_sure}
+pub use Rattle.vq_plan_laws.proofs.PlanChains.{op_value_is}
+pub use Rattle.vq_plan_laws.proofs.PlanCommands.{length-batch_commands}
+pub use Rattle.vq_plan_laws.proofs.PlanLanes.{count_jobs, count_ops}
+pub use Rattle.vq_plan_laws.proofs.PlanLines.{lines_in_order, op_line_is}
+pub use Rattle.vq_plan_laws.proofs.PlanParts.{job_is, op_chain_is, op_job_is, part_is}
+pub use Rattle.vq_plan_laws.proofs.PlansKept.{plan_hosts, plan_lanes, plan_lines, plan_semaphores, plan_well_formed}
+pub use Rattle.vq_plan_laws.proofs.SignalValues.{counted_value}
+pub use Rattle.vq_plan_laws.proofs.UnheldWaits.{plan_holds_no_wait}
+pub use Rattle.vq_plan_laws.proofs.WellFormedPlans.{well_formed}

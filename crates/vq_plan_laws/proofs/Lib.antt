@@ -1,0 +1,17 @@
+pub mod Cited
+mod BatchPlans
+mod FaultLaws
+mod HostPlans
+mod LastBefore
+mod Owners
+mod PlacesAlike
+mod PlanChains
+mod PlanCommands
+mod PlanLanes
+mod PlanLines
+mod PlanParts
+mod PlansKept
+mod ResetLaws
+mod SignalValues
+mod UnheldWaits
+mod WellFormedPlans

@@ -1,0 +1,8 @@
+-- What other crates may cite of this one. All other files of proofs are private to it.
+pub use Rattle.vq_points.proofs.Binds.{bind_keeps}
+pub use Rattle.vq_points.proofs.Carriers.{waiting_count}
+pub use Rattle.vq_points.proofs.Completions.{complete_keeps, least_pending}
+pub use Rattle.vq_points.proofs.Freeings.{free_keeps}
+pub use Rattle.vq_points.proofs.HeldPoints.{entries_count}
+pub use Rattle.vq_points.proofs.NewTimelines.{new_keeps}
+pub use Rattle.vq_points.proofs.Takes.{take_keeps}

@@ -1,0 +1,4 @@
+pub mod Points
+pub mod HistoryLaws
+pub mod Timeline
+pub mod PointWord

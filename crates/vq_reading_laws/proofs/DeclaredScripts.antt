@@ -1,0 +1,192 @@
+-- Scripts of what is declared keep what a script keeps.
+use Rattle.std.proofs.Common.{◌≡◌, ℕ, zero, suc, List, [], ◌∷◌, Some, None, subst, ◌<◌, true, false, ◌⊎◌, length, map, Option, inl, inr, sym, ap, ◌∙◌, arith, ◌+◌, ◌++◌, refl}
+use Rattle.std.specs.List.{slice_get, AllByRecursion as Every, flat_map, enumerate_from}
+use Rattle.vq_model.specs.declared.script.Batch.{Batch}
+use Rattle.vq_model.specs.declared.script.Job.{Job}
+use Rattle.vq_model.specs.declared.script.Job.TheVariants.{Host, Batch as BatchJob}
+use Rattle.vq_reading_laws.proofs.Standing.{Declarations, IsHeld}
+use Rattle.vq_reading_laws.proofs.KeptBatches.{KeepsJob, KeepJobs, of_every, pair_of, IsWaitOf, IsSignalOf, IsFenceOf, every_append, every_map}
+use Rattle.std.specs.Option.{option_map, option_map_or, option_to_list}
+use Rattle.std.proofs.lemmas.List.{length-map}
+use Rattle.std.proofs.lemmas.Bool.{false≢true}
+use Rattle.vq_model.specs.declared.script.Script.{Script}
+use Rattle.vq_model.specs.declared.script.Semaphore.{Semaphore}
+use Rattle.vq_model.specs.declared.script.SemaphoreKind.{SemaphoreKind}
+use Rattle.vq_model.specs.declared.script.SemaphoreKind.TheVariants.{Fence}
+use Rattle.vq_model.specs.declared.script.Queue.{Queue}
+use Rattle.vq_model.specs.declared.script.Mode.{Mode}
+use Rattle.vq_model.specs.declared.script.Mark.{Mark}
+use Rattle.vq_model.specs.Context.{is_immediate, is_fence, is_timeline}
+use Rattle.vq_model.specs.ScriptOfLines.{first_of_list}
+use Rattle.vq_model.specs.Signals.{kind_of, Signaling, all_signals, job_signals, of_mark}
+use Rattle.vq_model.specs.ValidScripts.{IsValidMark, IsValidFence, IsValidBatch, WaitsWhole, AreWholeBatches, is_immediate_queue, HasValidBatches, IsOfBatches}
+use Rattle.vq_model.proofs.Gets.{get-map, get_within}
+use Rattle.vq_reading_laws.proofs.LineFacts.{IsMarkOf}
+use Rattle.std.specs.Prelude.{All}
+use Rattle.std.proofs.lemmas.List.Elements.{All-head, All-tail}
+
+-- Scripts of what is declared
+
+-- the job at a place
+pub job_kept : (d : Declarations) (jobs : List Job) (j : ℕ) (b : Batch) → KeepJobs d jobs →
+    slice_get jobs j ≡ Some (BatchJob b) → KeepsJob d b
+job_kept d [] j b k e = absurd (let c : None ≡ Some (BatchJob b) = e in cc)
+job_kept d (Host h ∷ jobs) j b k e = absurd k
+job_kept d (BatchJob c ∷ jobs) zero b k e = let same : c ≡ b = cc in subst (KeepsJob d) same k.0
+job_kept d (BatchJob c ∷ jobs) (suc j) b k e = job_kept d jobs j b k.1 e
+
+pub no_host : (d : Declarations) (jobs : List Job) (j : ℕ) (h : _) → KeepJobs d jobs →
+    slice_get jobs j ≡ Some (Host h) → ⊥
+no_host d [] j h k e = let c : None ≡ Some (Host h) = e in cc
+no_host d (Host x ∷ jobs) j h k e = k
+no_host d (BatchJob c ∷ jobs) zero h k e = cc
+no_host d (BatchJob c ∷ jobs) (suc j) h k e = no_host d jobs j h k.1 e
+
+pub all_at : {X : Type 0} (P : X → Type 0) (xs : List X) (k : ℕ) (x : X) → Every P xs →
+    slice_get xs k ≡ Some x → P x
+all_at P [] k x a e = absurd (let c : None ≡ Some x = e in cc)
+all_at {X} P (y ∷ xs) zero x a e = let same : y ≡ x = cc in subst P same a.0
+all_at P (y ∷ xs) (suc k) x a e = all_at P xs k x a.1 e
+
+all_weaker : {X : Type 0} (P Q : X → Type 0) (xs : List X) → ((x : X) → P x → Q x) → Every P xs →
+    Every Q xs
+all_weaker P Q [] f a = tt
+all_weaker P Q (x ∷ xs) f a = (f x a.0, all_weaker P Q xs f a.1)
+
+module _ (s : Script) where
+  -- what the script declares
+  abbrev declared_in : Declarations
+  declared_in =
+      record {
+        sizes = map (λ b. b.size) s.buffers;
+        kinds = map (λ x. x.kind) s.semaphores;
+        modes = map (λ q. q.mode) s.queues;
+      }
+
+  kind_here : (t : ℕ) (kind : SemaphoreKind) → slice_get declared_in.kinds t ≡ Some kind →
+      kind_of s t ≡ Some kind
+  kind_here t kind e = sym (get-map (λ (x : Semaphore). x.kind) s.semaphores t) ∙ e
+
+  exists_here : (t : ℕ) (kind : SemaphoreKind) → slice_get declared_in.kinds t ≡ Some kind →
+      t < length s.semaphores
+  exists_here t kind e =
+      let l = get_within declared_in.kinds t kind e in
+      let n = length-map s.semaphores (λ (x : Semaphore). x.kind) in
+      omega arith
+
+  valid_mark : (m : Mark) → IsMarkOf declared_in.kinds (pair_of m) → IsValidMark s m
+  valid_mark m k =
+      let e = kind_here m.semaphore k.kind k.is in
+      record {
+        exists = exists_here m.semaphore k.kind k.is;
+        kind = ap (λ (o : Option SemaphoreKind). option_map_or is_fence o false) e ∙ k.no_fence;
+        valueless =
+            λ h. k.valueless
+            (sym (ap (λ (o : Option SemaphoreKind). option_map_or is_timeline o false) e) ∙ h);
+      }
+
+  valid_fence : (m : Mark) → IsFenceOf declared_in m → IsValidFence s m
+  valid_fence m k =
+      let e = kind_here m.semaphore Fence k.0 in
+      record {
+        exists = exists_here m.semaphore Fence k.0;
+        kind = ap (λ (o : Option SemaphoreKind). option_map_or is_fence o false) e;
+        valueless = k.1;
+      }
+
+  first_valid : (fences : List Mark) (m : Mark) → Every (IsFenceOf declared_in) fences →
+      first_of_list fences ≡ Some m → IsValidFence s m
+  first_valid [] m a e = absurd (let c : None ≡ Some m = e in cc)
+  first_valid (x ∷ xs) m a e =
+      let same : x ≡ m = cc in subst (IsValidFence s) same (valid_fence x a.0)
+
+  pub valid_batch : (b : Batch) → KeepsJob declared_in b → IsValidBatch s b
+  valid_batch b k =
+      let p = k.parts in
+      let q = k.queue in
+      let n = length-map s.queues (λ (x : Queue). x.mode) in
+      let w = p.few_waits in
+      let g = p.few_signals in
+      record {
+        queue = omega arith;
+        waits =
+            of_every (IsValidMark s) b.waits
+            (all_weaker (IsWaitOf declared_in) (IsValidMark s) b.waits (λ m h. valid_mark m h.0)
+            p.waits_of);
+        signals =
+            of_every (IsValidMark s) b.signals
+            (all_weaker (IsSignalOf declared_in) (IsValidMark s) b.signals valid_mark
+            p.signals_of);
+        fence = λ m e. first_valid k.fences m p.fences_of (sym k.first ∙ e);
+        few_waits = omega arith;
+        few_signals = omega arith;
+      }
+
+  -- a queue that isn't immediate
+  held_here : (q : ℕ) → IsHeld declared_in.modes q → is_immediate_queue s q ≡ false
+  held_here q h =
+      by_queue (slice_get s.queues q) (sym (get-map (λ (x : Queue). x.mode) s.queues q) ∙ h.is)
+    where
+      by_queue : (o : Option Queue) → option_map (λ (x : Queue). x.mode) o ≡ Some h.mode →
+          option_map_or (λ x. is_immediate x.mode) o false ≡ false
+      by_queue None e = absurd (let c : None ≡ Some h.mode = e in cc)
+      by_queue (Some x) e =
+          let same : h.mode ≡ x.mode = cc in
+          subst (λ (m : Mode). is_immediate m ≡ false) same h.held
+
+  whole_batch : (b : Batch) → KeepsJob declared_in b → WaitsWhole s b
+  whole_batch b k =
+      record {
+        from_start =
+            of_every (λ m. m.from ≡ 1) b.waits
+            (all_weaker (IsWaitOf declared_in) (λ m. m.from ≡ 1) b.waits (λ m h. h.1)
+            k.parts.waits_of);
+        unheld = λ h. none h k.parts.unheld;
+      }
+    where
+      none : is_immediate_queue s b.queue ≡ true → (b.waits ≡ []) ⊎ IsHeld declared_in.modes b.queue →
+          b.waits ≡ []
+      none h (inl e) = e
+      none h (inr held) = absurd (false≢true (sym (held_here b.queue held) ∙ h))
+
+  pub whole_batches : (jobs : List Job) → KeepJobs declared_in jobs → AreWholeBatches s jobs
+  whole_batches [] k = tt
+  whole_batches (Host h ∷ jobs) k = absurd k
+  whole_batches (BatchJob b ∷ jobs) k = (whole_batch b k.0, whole_batches jobs k.1)
+
+-- The signals of valid batches name semaphores that exist.
+module _ (s : Script) where
+  abbrev Exists : Signaling → Type 0
+  Exists x = x.semaphore < length s.semaphores
+
+  marks_exist : (ms : List Mark) → All (IsValidMark s) ms →
+      Every (λ m. m.semaphore < length s.semaphores) ms
+  marks_exist [] a = tt
+  marks_exist (m ∷ ms) a =
+      ((All-head (IsValidMark s) m ms a).exists, marks_exist ms (All-tail (IsValidMark s) m ms a))
+
+  fence_exists : (o : Option Mark) → ((m : Mark) → o ≡ Some m → IsValidFence s m) →
+      Every (λ m. m.semaphore < length s.semaphores) (option_to_list o)
+  fence_exists None f = tt
+  fence_exists (Some m) f = ((f m refl).exists, tt)
+
+  job_signals_exist : (n : ℕ) (b : Batch) → IsValidBatch s b →
+      Every Exists (job_signals (n, BatchJob b))
+  job_signals_exist n b v =
+      every_map Exists (of_mark n) (b.signals ++ option_to_list b.fence)
+      (every_append (λ m. m.semaphore < length s.semaphores) b.signals (option_to_list b.fence)
+      (marks_exist b.signals v.signals) (fence_exists b.fence v.fence))
+
+  signals_exist : (n : ℕ) (jobs : List Job) → AreWholeBatches s jobs →
+      ((j : ℕ) (b : Batch) → slice_get jobs j ≡ Some (BatchJob b) → IsValidBatch s b) →
+      Every Exists (flat_map job_signals (enumerate_from n jobs))
+  signals_exist n [] w v = tt
+  signals_exist n (Host h ∷ jobs) w v = absurd w
+  signals_exist n (BatchJob b ∷ jobs) w v =
+      every_append Exists (job_signals (n, BatchJob b))
+      (flat_map job_signals (enumerate_from (n + 1) jobs)) (job_signals_exist n b (v 0 b refl))
+      (signals_exist (n + 1) jobs w.1 (λ j c e. v (suc j) c e))
+
+  pub valid_signals : HasValidBatches s → IsOfBatches s → (e : ℕ) (x : Signaling) →
+      slice_get (all_signals s) e ≡ Some x → x.semaphore < length s.semaphores
+  valid_signals v w e x h = all_at Exists (all_signals s) e x (signals_exist 0 s.jobs w.batches v) h

@@ -1,0 +1,564 @@
+-- What a line without a fault says, by the part of the text in which it stands.
+use Rattle.std.proofs.Common.{List, map, ◌≡◌, false, Some, ℕ, ◌<◌, ◌+◌, ◌≤◌, length, Bool, true, cond, [], ◌∷◌, find, subst, ◌++◌, ◌==◌, refl, Option, None, arith, not, suc, zero, ap, ◌&&◌, ◌||◌, option_map, sym, ◌∙◌}
+use Rattle.vq_model.specs.declared.statement.Line.{Line}
+use Rattle.vq_model.specs.declared.script.SemaphoreKind.{SemaphoreKind}
+use Rattle.vq_model.specs.Context.{semaphores, queues, is_timeline, is_fence, open_batch, some, is_batch_immediate, is_wait, count, is_command, is_signal, buffers, version_of, is_binary, section, has_begun, is_batch_fence, queue_at, buffer_at, timeline_at, binary_at, fence_at}
+use Rattle.vq_model.specs.declared.script.Mode.{Mode}
+use Rattle.std.specs.List.{slice_get, list_all, position, position_or_len}
+use Rattle.vq_model.specs.declared.script.Pair.{Pair}
+use Rattle.std.specs.Prelude.{nat_lt, sum}
+use Rattle.vq_model.specs.LineFaults.{part_of, fault_of, has_fault, part_of_form, is_out_of_order, is_declaration, is_batch_fence_form, is_in_range, overlaps}
+use Rattle.vq_model.specs.declared.script.Command.{Command}
+use Rattle.vq_model.specs.Ranges.{Fits}
+use Rattle.vq_reading_laws.proofs.CommandRanges.{sizes_before, fits_in_range}
+use Rattle.vq_model.specs.declared.statement.Section.{Section}
+use Rattle.vq_model.specs.declared.statement.Section.TheVariants.{Outside, InBatch, InSchedule}
+use Rattle.vq_model.specs.declared.statement.Statement.{Statement}
+use Rattle.vq_model.specs.declared.statement.Statement.TheVariants.{DeclareBuffer, DeclareSemaphore, DeclareQueue, BeginBatch, AddWait, AddCommand, AddSignal, AddFence, EndBatch}
+use Rattle.vq_model.specs.declared.script.SemaphoreKind.TheVariants.{Fence, Timeline, Binary}
+use Rattle.vq_model.specs.Limits.{is_job, limits_of, passes_limit}
+use Rattle.vq_model.specs.declared.statement.LineForm.{LineForm}
+use Rattle.vq_model.specs.declared.statement.LineForm.TheVariants.{BufferLine, TimelineLine, BinaryLine, FenceLine, QueueLine, SubmitLine, WaitTimelineLine, WaitBinaryLine, FillWholeLine, FillLine, UpdateLine, CopyLine, SignalTimelineLine, SignalBinaryLine, BatchFenceLine, EndLine}
+use Rattle.std.proofs.lemmas.Bool.{and_parts, ltb-true, false≢true, ltb-false, or_parts}
+use Rattle.vq_model.specs.declared.statement.Form.{Form}
+use Rattle.vq_model.specs.Forms.{forms_outside, forms_in_batch, forms_in_schedule, held_forms, schedule_forms, places}
+use Rattle.vq_model.specs.Meaning.{first_forms, is_built, where_built, of_two, of_three, of_four, of_five, matches, open_places, hex_bytes, statement_of, meaning, form_of, forms_at, small_numeral, binary_pair}
+use Rattle.vq_model.specs.declared.statement.Form.TheVariants.{Plain, Scheduled}
+use Rattle.vq_model.specs.declared.script.Queue.{Queue}
+use Rattle.vq_reading_laws.proofs.Meanings.{passes, built_found, first_fails}
+use Rattle.vq_model.specs.declared.script.Semaphore.{Semaphore}
+use Rattle.std.specs.Option.{option_map_or, option_and_then}
+use Rattle.std.specs.Str.{bytes_eq}
+use Rattle.vq_model.specs.declared.statement.FaultKind.TheVariants.{Syntax, Order, Number, Name, Twice, Range, Overlap, Limit}
+use Rattle.vq_model.specs.declared.script.Command.TheVariants.{Fill, Update, Copy}
+use Rattle.vq_model.specs.declared.script.FillSize.TheVariants.{Whole, Count}
+use Rattle.vq_model.specs.Text.{numeral}
+
+-- What a line says
+
+-- the kinds of the semaphores, and the modes of the queues, that lines declare
+abbrev pub kinds_before : List Line → List SemaphoreKind
+kinds_before before = map (λ s. s.kind) (semaphores before)
+
+abbrev pub modes_before : List Line → List Mode
+modes_before before = map (λ q. q.mode) (queues before)
+
+-- A wait or a signal of one of these semaphores: of a timeline, or of a binary semaphore, without a
+-- value.
+pub record IsMarkOf (kinds : List SemaphoreKind) (pair : Pair) : Type 0 where
+  pub kind : SemaphoreKind
+  pub is : slice_get kinds pair.semaphore ≡ Some kind
+  pub no_fence : is_fence kind ≡ false
+  pub valueless : is_timeline kind ≡ false → pair.value ≡ 0
+
+-- no line of the open batch belongs to a later part
+abbrev pub KeepsParts : List Line → ℕ → Type 0
+KeepsParts before part = some (λ s. nat_lt part (part_of s)) (open_batch before) ≡ false
+
+-- what a wait says
+pub record SaidWait (before : List Line) (pair : Pair) (from : ℕ) : Type 0 where
+  pub whole : from ≡ 1
+  pub held : is_batch_immediate before ≡ false
+  pub mark : IsMarkOf (kinds_before before) pair
+  pub few : count is_wait (open_batch before) < 16
+  pub parts : KeepsParts before 1
+
+-- what a command says
+pub record SaidCommand (before : List Line) (command : Command) : Type 0 where
+  pub fits : Fits (sizes_before before) command
+  pub few : count is_command before < 8192
+  pub parts : KeepsParts before 2
+
+-- what a signal says
+pub record SaidSignal (before : List Line) (pair : Pair) : Type 0 where
+  pub mark : IsMarkOf (kinds_before before) pair
+  pub few : count is_signal (open_batch before) < 16
+  pub parts : KeepsParts before 3
+
+-- What a statement keeps, by the part of the text in which it stands: the forms that are built so
+-- far.
+abbrev pub Said : List Line → Section → Statement → Type 0
+Said before Outside (DeclareBuffer name size) =
+    (length (buffers before) < 64) × (sum (sizes_before before) + size ≤ 1048576)
+Said before Outside (DeclareSemaphore name kind) = length (semaphores before) < 256
+Said before Outside (DeclareQueue name mode) = length (queues before) < 8
+Said before Outside (BeginBatch q) = (q < length (queues before)) × (count is_job before < 4096)
+Said before InBatch (AddWait pair from) = SaidWait before pair from
+Said before InBatch (AddCommand c) = SaidCommand before c
+Said before InBatch (AddSignal pair) = SaidSignal before pair
+Said before InBatch (AddFence f) =
+    (slice_get (kinds_before before) f ≡ Some Fence) × KeepsParts before 4
+Said before InBatch EndBatch = Unit {0}
+Said before was other = ⊥
+
+-- whether a form that is built may stand in a part of the text
+abbrev pub belongs : Section → LineForm → Bool
+belongs Outside WaitTimelineLine = false
+belongs Outside WaitBinaryLine = false
+belongs Outside FillWholeLine = false
+belongs Outside FillLine = false
+belongs Outside UpdateLine = false
+belongs Outside CopyLine = false
+belongs Outside SignalTimelineLine = false
+belongs Outside SignalBinaryLine = false
+belongs Outside BatchFenceLine = false
+belongs Outside EndLine = false
+belongs InBatch BufferLine = false
+belongs InBatch TimelineLine = false
+belongs InBatch BinaryLine = false
+belongs InBatch FenceLine = false
+belongs InBatch (QueueLine mode) = false
+belongs InBatch SubmitLine = false
+belongs InSchedule BufferLine = false
+belongs InSchedule TimelineLine = false
+belongs InSchedule BinaryLine = false
+belongs InSchedule FenceLine = false
+belongs InSchedule (QueueLine mode) = false
+belongs InSchedule SubmitLine = false
+belongs InSchedule WaitTimelineLine = false
+belongs InSchedule WaitBinaryLine = false
+belongs InSchedule FillWholeLine = false
+belongs InSchedule FillLine = false
+belongs InSchedule UpdateLine = false
+belongs InSchedule CopyLine = false
+belongs InSchedule SignalTimelineLine = false
+belongs InSchedule SignalBinaryLine = false
+belongs InSchedule BatchFenceLine = false
+belongs InSchedule EndLine = false
+belongs was other = true
+
+-- what is found is one of those that all pass a test
+pub found_belongs : {A : Type 0} (p q : A → Bool) (xs : List A) (y : A) → list_all q xs ≡ true →
+    find p xs ≡ Some y → q y ≡ true
+found_belongs p q [] y a h = absurd (cc)
+found_belongs {A} p q (x ∷ xs) y a h =
+    let parts = and_parts (q x) (list_all q xs) a in
+    by_test (p x) parts.0 (found_belongs p q xs y parts.1) h
+  where
+    by_test : (b : Bool) → q x ≡ true → (find p xs ≡ Some y → q y ≡ true) →
+        cond b (Some x) (find p xs) ≡ Some y → q y ≡ true
+    by_test true e rest h = let same : x ≡ y = cc in subst (λ (z : A). q z ≡ true) same e
+    by_test false e rest h = rest h
+
+-- the forms of a part of the text
+abbrev pub forms_in : Form → List Line → Section → List LineForm
+forms_in form before Outside = first_forms before ++ forms_outside ++ schedule_forms form
+forms_in form before InBatch = held_forms (version_of before) ++ forms_in_batch
+forms_in form before InSchedule = forms_in_schedule
+
+-- they belong to it
+pub forms_belong : (form : Form) (before : List Line) (was : Section) →
+    list_all (belongs was) (forms_in form before was) ≡ true
+forms_belong form before Outside = outside form before
+  where
+    outside : (form : Form) (before : List Line) →
+        list_all (belongs Outside) (first_forms before ++ forms_outside ++ schedule_forms form)
+        ≡ true
+    outside Plain [] = refl
+    outside Plain (line ∷ lines) = refl
+    outside Scheduled [] = refl
+    outside Scheduled (line ∷ lines) = refl
+forms_belong form before InBatch = in_batch (version_of before == 2)
+  where
+    in_batch : (b : Bool) → list_all (belongs InBatch) (cond b (held_forms 2) [] ++ forms_in_batch)
+        ≡ true
+    in_batch true = refl
+    in_batch false = refl
+forms_belong form before InSchedule = refl
+
+-- what is built is built
+pub where_it_is_built : (before : List Line) (o : Option LineForm) (f : LineForm) →
+    where_built before o ≡ Some f → is_built before f ≡ true
+where_it_is_built before None f h = absurd (cc)
+where_it_is_built before (Some g) f h = by_test (is_built before g) refl h
+  where
+    by_test : (b : Bool) → is_built before g ≡ b → cond b (Some g) None ≡ Some f → is_built before f
+        ≡ true
+    by_test true e h =
+        let same : g ≡ f = cc in subst (λ (z : LineForm). is_built before z ≡ true) same e
+    by_test false e h = absurd (cc)
+
+-- a position is one of a list
+pub position_within : (test : Queue → Bool) (qs : List Queue) (q : ℕ) → position test qs ≡ Some q →
+    q < length qs
+position_within test qs q h = by_test (nat_lt (position_or_len test qs) (length qs)) refl h
+  where
+    by_test : (b : Bool) → nat_lt (position_or_len test qs) (length qs) ≡ b →
+        cond b (Some (position_or_len test qs)) None ≡ Some q → q < length qs
+    by_test true e h =
+        let l = ltb-true (position_or_len test qs) (length qs) e in let same : position_or_len test
+        qs ≡ q = cc in omega arith
+    by_test false e h = absurd (cc)
+
+-- below a limit
+pub below : (a b : ℕ) → not (nat_lt a b) ≡ false → a < b
+below a b h = ltb-true a b (passes (nat_lt a b) h)
+
+-- a command of two numbers, of three, of four, of five
+of_two_says : (f : ℕ → ℕ → Command) (b o : Option ℕ) (s : Statement) →
+    of_two (λ x y. AddCommand (f x y)) b o ≡ Some s → (c : Command) × (AddCommand c ≡ s)
+of_two_says f None o s h = absurd (cc)
+of_two_says f (Some b) None s h = absurd (cc)
+of_two_says f (Some b) (Some o) s h = (f b o, cc)
+
+of_three_says : (f : ℕ → ℕ → ℕ → Command) (b o n : Option ℕ) (s : Statement) →
+    of_three (λ x y z. AddCommand (f x y z)) b o n ≡ Some s → (c : Command) × (AddCommand c ≡ s)
+of_three_says f None o n s h = absurd (cc)
+of_three_says f (Some b) o n s h = of_two_says (f b) o n s h
+
+of_four_says : (f : ℕ → ℕ → ℕ → ℕ → Command) (b o n w : Option ℕ) (s : Statement) →
+    of_four (λ x y z u. AddCommand (f x y z u)) b o n w ≡ Some s →
+    (c : Command) × (AddCommand c ≡ s)
+of_four_says f None o n w s h = absurd (cc)
+of_four_says f (Some b) o n w s h = of_three_says (f b) o n w s h
+
+of_five_says : (f : ℕ → ℕ → ℕ → ℕ → ℕ → Command) (b o n w v : Option ℕ) (s : Statement) →
+    of_five (λ x y z u k. AddCommand (f x y z u k)) b o n w v ≡ Some s →
+    (c : Command) × (AddCommand c ≡ s)
+of_five_says f None o n w v s h = absurd (cc)
+of_five_says f (Some b) o n w v s h = of_four_says (f b) o n w v s h
+
+-- A statement of a form that is built, by the part of the text in which it stands and by the part
+-- of the batch to which its form belongs.
+data Shape (before : List Line) : Section → ℕ → Statement → Type 0 where
+  a_buffer : (name : List ℕ) (size : ℕ) → Shape before Outside 0 (DeclareBuffer name size)
+  a_semaphore : (name : List ℕ) (kind : SemaphoreKind) →
+      Shape before Outside 0 (DeclareSemaphore name kind)
+  a_queue : (name : List ℕ) (mode : Mode) → Shape before Outside 0 (DeclareQueue name mode)
+  a_batch : (q : ℕ) → q < length (queues before) → Shape before Outside 0 (BeginBatch q)
+  a_wait : (pair : Pair) → is_batch_immediate before ≡ false → IsMarkOf (kinds_before before) pair →
+      Shape before InBatch 1 (AddWait pair 1)
+  a_command : (c : Command) → Shape before InBatch 2 (AddCommand c)
+  a_signal : (pair : Pair) → IsMarkOf (kinds_before before) pair →
+      Shape before InBatch 3 (AddSignal pair)
+  a_fence : (f : ℕ) → slice_get (kinds_before before) f ≡ Some Fence →
+      Shape before InBatch 4 (AddFence f)
+  an_end : Shape before InBatch 5 EndBatch
+
+-- a position is where an item stands that passes
+at_position : (test : Semaphore → Bool) (xs : List Semaphore) →
+    position_or_len test xs < length xs →
+    (x : Semaphore) × (slice_get xs (position_or_len test xs) ≡ Some x) × (test x ≡ true)
+at_position test [] l = absurd (omega arith)
+at_position test (x ∷ xs) l = by_test (test x) refl l (at_position test xs)
+  where
+    by_test : (b : Bool) → test x ≡ b → cond (not b) (1 + position_or_len test xs) 0 < suc (length xs) →
+        (position_or_len test xs < length xs → (y : Semaphore)
+        × (slice_get xs (position_or_len test xs) ≡ Some y) × (test y ≡ true)) →
+        (y : Semaphore) × (slice_get (x ∷ xs) (cond (not b) (1 + position_or_len test xs) 0) ≡ Some y)
+        × (test y ≡ true)
+    by_test true e m later = (x, refl, e)
+    by_test false e m later =
+        let n : suc (position_or_len test xs) ≡ 1 + position_or_len test xs = omega arith in
+        subst (λ (k : ℕ). (y : Semaphore) × (slice_get (x ∷ xs) k ≡ Some y) × (test y ≡ true)) n
+        (later (omega arith))
+
+-- what stands at the position that is found
+found_at : (test : Semaphore → Bool) (xs : List Semaphore) (t : ℕ) → position test xs ≡ Some t →
+    (x : Semaphore) × (slice_get xs t ≡ Some x) × (test x ≡ true)
+found_at test xs t h = by_test (nat_lt (position_or_len test xs) (length xs)) refl h
+  where
+    by_test : (b : Bool) → nat_lt (position_or_len test xs) (length xs) ≡ b →
+        cond b (Some (position_or_len test xs)) None ≡ Some t →
+        (x : Semaphore) × (slice_get xs t ≡ Some x) × (test x ≡ true)
+    by_test true e h =
+        let same : position_or_len test xs ≡ t = cc in
+        subst (λ (k : ℕ). (x : Semaphore) × (slice_get xs k ≡ Some x) × (test x ≡ true)) same
+        (at_position test xs (ltb-true (position_or_len test xs) (length xs) e))
+    by_test false e h = absurd (cc)
+
+-- its kind
+kind_at : (xs : List Semaphore) (t : ℕ) (x : Semaphore) → slice_get xs t ≡ Some x →
+    slice_get (map (λ s. s.kind) xs) t ≡ Some x.kind
+kind_at [] t x e = absurd (let c : None ≡ Some x = e in cc)
+kind_at (y ∷ xs) zero x e = let same : y ≡ x = cc in ap (λ (s : Semaphore). Some s.kind) same
+kind_at (y ∷ xs) (suc t) x e = kind_at xs t x e
+
+-- the kinds by their tests
+timeline_no_fence : (k : SemaphoreKind) → is_timeline k ≡ true → is_fence k ≡ false
+timeline_no_fence (Timeline v) e = refl
+timeline_no_fence Binary e = absurd (false≢true e)
+timeline_no_fence Fence e = absurd (false≢true e)
+
+binary_no_fence : (k : SemaphoreKind) → is_binary k ≡ true → is_fence k ≡ false
+binary_no_fence (Timeline v) e = absurd (false≢true e)
+binary_no_fence Binary e = refl
+binary_no_fence Fence e = absurd (false≢true e)
+
+fence_is : (k : SemaphoreKind) → is_fence k ≡ true → k ≡ Fence
+fence_is (Timeline v) e = absurd (false≢true e)
+fence_is Binary e = absurd (false≢true e)
+fence_is Fence e = refl
+
+same_statement : (a b : Statement) → Some a ≡ Some b → a ≡ b
+same_statement a b e = cc
+
+module _ (before : List Line) where
+  -- a timeline's name and a value
+  timeline_mark : (name : List ℕ) (t v : ℕ) → timeline_at before name ≡ Some t →
+      IsMarkOf (kinds_before before) (record { semaphore = t; value = v })
+  timeline_mark name t v e =
+      let f = found_at (λ s. bytes_eq name s.name && is_timeline s.kind) (semaphores before) t e in
+      let k = and_parts (bytes_eq name f.0.name) (is_timeline f.0.kind) f.2 in
+      record {
+        kind = f.0.kind;
+        is = kind_at (semaphores before) t f.0 f.1;
+        no_fence = timeline_no_fence f.0.kind k.1;
+        valueless = λ no. absurd (false≢true (sym no ∙ k.1));
+      }
+
+  -- a binary semaphore's name
+  binary_mark : (name : List ℕ) (t : ℕ) → binary_at before name ≡ Some t →
+      IsMarkOf (kinds_before before) (binary_pair t)
+  binary_mark name t e =
+      let f = found_at (λ s. bytes_eq name s.name && is_binary s.kind) (semaphores before) t e in
+      let k = and_parts (bytes_eq name f.0.name) (is_binary f.0.kind) f.2 in
+      record {
+        kind = f.0.kind;
+        is = kind_at (semaphores before) t f.0 f.1;
+        no_fence = binary_no_fence f.0.kind k.1;
+        valueless = λ no. refl;
+      }
+
+  -- a fence's name
+  fence_kind : (name : List ℕ) (t : ℕ) → fence_at before name ≡ Some t →
+      slice_get (kinds_before before) t ≡ Some Fence
+  fence_kind name t e =
+      let f = found_at (λ s. bytes_eq name s.name && is_fence s.kind) (semaphores before) t e in
+      let k = and_parts (bytes_eq name f.0.name) (is_fence f.0.kind) f.2 in
+      kind_at (semaphores before) t f.0 f.1 ∙ ap Some (fence_is f.0.kind k.1)
+
+  buffer_shape : (name : List ℕ) (o : Option ℕ) (s : Statement) →
+      option_map (λ n. DeclareBuffer name n) o ≡ Some s → Shape before Outside 0 s
+  buffer_shape name None s h = absurd (cc)
+  buffer_shape name (Some n) s h =
+      subst (Shape before Outside 0) (same_statement (DeclareBuffer name n) s h) (a_buffer name n)
+
+  timeline_shape : (name : List ℕ) (o : Option ℕ) (s : Statement) →
+      option_map (λ v. DeclareSemaphore name (Timeline v)) o ≡ Some s → Shape before Outside 0 s
+  timeline_shape name None s h = absurd (cc)
+  timeline_shape name (Some v) s h =
+      subst (Shape before Outside 0) (same_statement (DeclareSemaphore name (Timeline v)) s h)
+      (a_semaphore name (Timeline v))
+
+  batch_shape : (queue : List ℕ) (o : Option ℕ) (s : Statement) → queue_at before queue ≡ o →
+      option_map (λ q. BeginBatch q) o ≡ Some s → Shape before Outside 0 s
+  batch_shape queue None s e h = absurd (let c : None ≡ Some s = h in cc)
+  batch_shape queue (Some q) s e h =
+      let l = position_within (λ x. bytes_eq queue x.name) (queues before) q e in
+      subst (Shape before Outside 0) (same_statement (BeginBatch q) s h) (a_batch q l)
+
+  command_shape : (s : Statement) → (c : Command) × (AddCommand c ≡ s) → Shape before InBatch 2 s
+  command_shape s c = subst (Shape before InBatch 2) c.1 (a_command c.0)
+
+  -- a wait of a timeline, of a binary semaphore
+  wait_shape : (name : List ℕ) (t v : Option ℕ) (s : Statement) →
+      is_batch_immediate before ≡ false → timeline_at before name ≡ t →
+      option_map (λ p. AddWait p 1) (of_two (λ x y. record { semaphore = x; value = y }) t v)
+      ≡ Some s → Shape before InBatch 1 s
+  wait_shape name None v s i e h = absurd (cc)
+  wait_shape name (Some t) None s i e h = absurd (cc)
+  wait_shape name (Some t) (Some v) s i e h =
+      subst (Shape before InBatch 1)
+      (same_statement (AddWait (record { semaphore = t; value = v }) 1) s h)
+      (a_wait (record { semaphore = t; value = v }) i (timeline_mark name t v e))
+
+  binary_wait_shape : (name : List ℕ) (t : Option ℕ) (s : Statement) →
+      is_batch_immediate before ≡ false → binary_at before name ≡ t →
+      option_map (λ x. AddWait (binary_pair x) 1) t ≡ Some s → Shape before InBatch 1 s
+  binary_wait_shape name None s i e h = absurd (let c : None ≡ Some s = h in cc)
+  binary_wait_shape name (Some t) s i e h =
+      subst (Shape before InBatch 1) (same_statement (AddWait (binary_pair t) 1) s h)
+      (a_wait (binary_pair t) i (binary_mark name t e))
+
+  -- a signal of a timeline, of a binary semaphore
+  signal_shape : (name : List ℕ) (t v : Option ℕ) (s : Statement) → timeline_at before name ≡ t →
+      option_map (λ p. AddSignal p) (of_two (λ x y. record { semaphore = x; value = y }) t v)
+      ≡ Some s → Shape before InBatch 3 s
+  signal_shape name None v s e h = absurd (cc)
+  signal_shape name (Some t) None s e h = absurd (cc)
+  signal_shape name (Some t) (Some v) s e h =
+      subst (Shape before InBatch 3)
+      (same_statement (AddSignal (record { semaphore = t; value = v })) s h)
+      (a_signal (record { semaphore = t; value = v }) (timeline_mark name t v e))
+
+  binary_signal_shape : (name : List ℕ) (t : Option ℕ) (s : Statement) →
+      binary_at before name ≡ t →
+      option_map (λ x. AddSignal (binary_pair x)) t ≡ Some s → Shape before InBatch 3 s
+  binary_signal_shape name None s e h = absurd (let c : None ≡ Some s = h in cc)
+  binary_signal_shape name (Some t) s e h =
+      subst (Shape before InBatch 3) (same_statement (AddSignal (binary_pair t)) s h)
+      (a_signal (binary_pair t) (binary_mark name t e))
+
+  fence_shape : (name : List ℕ) (t : Option ℕ) (s : Statement) → fence_at before name ≡ t →
+      option_map (λ f. AddFence f) t ≡ Some s → Shape before InBatch 4 s
+  fence_shape name None s e h = absurd (let c : None ≡ Some s = h in cc)
+  fence_shape name (Some t) s e h =
+      subst (Shape before InBatch 4) (same_statement (AddFence t) s h)
+      (a_fence t (fence_kind name t e))
+
+  -- the words of a form that is built and stands where it may
+  shape : (was : Section) (f : LineForm) (words : List (List ℕ)) (s : Statement) →
+      belongs was f ≡ true → is_built before f ≡ true →
+      statement_of before f words ≡ Some s → Shape before was (part_of_form f) s
+  shape Outside BufferLine (name ∷ size ∷ []) s g b h = buffer_shape name (numeral size) s h
+  shape Outside TimelineLine (name ∷ value ∷ []) s g b h = timeline_shape name (numeral value) s h
+  shape Outside BinaryLine (name ∷ []) s g b h =
+      subst (Shape before Outside 0) (same_statement (DeclareSemaphore name Binary) s h)
+      (a_semaphore name Binary)
+  shape Outside FenceLine (name ∷ []) s g b h =
+      subst (Shape before Outside 0) (same_statement (DeclareSemaphore name Fence) s h)
+      (a_semaphore name Fence)
+  shape Outside (QueueLine mode) (name ∷ []) s g b h =
+      subst (Shape before Outside 0) (same_statement (DeclareQueue name mode) s h)
+      (a_queue name mode)
+  shape Outside SubmitLine (queue ∷ []) s g b h = batch_shape queue (queue_at before queue) s refl h
+  shape InBatch WaitTimelineLine (name ∷ value ∷ []) s g b h =
+      wait_shape name (timeline_at before name) (numeral value) s
+      (not_held (is_batch_immediate before) b) refl h
+    where
+      not_held : (b : Bool) → not b ≡ true → b ≡ false
+      not_held true h = absurd (false≢true h)
+      not_held false h = refl
+  shape InBatch WaitBinaryLine (name ∷ []) s g b h =
+      binary_wait_shape name (binary_at before name) s (not_held (is_batch_immediate before) b) refl h
+    where
+      not_held : (b : Bool) → not b ≡ true → b ≡ false
+      not_held true h = absurd (false≢true h)
+      not_held false h = refl
+  shape InBatch FillWholeLine (buffer ∷ offset ∷ word ∷ []) s g b h =
+      command_shape s
+      (of_three_says (λ x y z. Fill x y Whole z) (buffer_at before buffer) (numeral offset)
+      (small_numeral word) s h)
+  shape InBatch FillLine (buffer ∷ offset ∷ size ∷ word ∷ []) s g b h =
+      command_shape s
+      (of_four_says (λ x y z u. Fill x y (Count z) u) (buffer_at before buffer) (numeral offset)
+      (numeral size) (small_numeral word) s h)
+  shape InBatch UpdateLine (buffer ∷ offset ∷ digits ∷ []) s g b h =
+      command_shape s
+      (of_two_says (λ x y. Update x y (hex_bytes digits)) (buffer_at before buffer) (numeral offset)
+      s h)
+  shape InBatch CopyLine (source ∷ from ∷ target ∷ to ∷ size ∷ []) s g b h =
+      command_shape s
+      (of_five_says (λ x y z u k. Copy x y z u k) (buffer_at before source) (numeral from)
+      (buffer_at before target) (numeral to) (numeral size) s h)
+  shape InBatch SignalTimelineLine (name ∷ value ∷ []) s g b h =
+      signal_shape name (timeline_at before name) (numeral value) s refl h
+  shape InBatch SignalBinaryLine (name ∷ []) s g b h =
+      binary_signal_shape name (binary_at before name) s refl h
+  shape InBatch BatchFenceLine (name ∷ []) s g b h = fence_shape name (fence_at before name) s refl h
+  shape InBatch EndLine [] s g b h =
+      subst (Shape before InBatch 5) (same_statement EndBatch s h) an_end
+  shape InSchedule BufferLine words s g b h = absurd (false≢true g)
+  shape InSchedule TimelineLine words s g b h = absurd (false≢true g)
+  shape InSchedule BinaryLine words s g b h = absurd (false≢true g)
+  shape InSchedule FenceLine words s g b h = absurd (false≢true g)
+  shape InSchedule (QueueLine mode) words s g b h = absurd (false≢true g)
+  shape InSchedule SubmitLine words s g b h = absurd (false≢true g)
+  shape InSchedule WaitTimelineLine words s g b h = absurd (false≢true g)
+  shape InSchedule WaitBinaryLine words s g b h = absurd (false≢true g)
+  shape InSchedule FillWholeLine words s g b h = absurd (false≢true g)
+  shape InSchedule FillLine words s g b h = absurd (false≢true g)
+  shape InSchedule UpdateLine words s g b h = absurd (false≢true g)
+  shape InSchedule CopyLine words s g b h = absurd (false≢true g)
+  shape InSchedule SignalTimelineLine words s g b h = absurd (false≢true g)
+  shape InSchedule SignalBinaryLine words s g b h = absurd (false≢true g)
+  shape InSchedule BatchFenceLine words s g b h = absurd (false≢true g)
+  shape InSchedule EndLine words s g b h = absurd (false≢true g)
+  shape was f words s g b h = absurd (cc)
+
+  -- what a statement keeps that is in order and in range, doesn't overlap itself and passes no
+  -- limit
+  says : (was : Section) (part : ℕ) (s : Statement) → Shape before was part s →
+      KeepsParts before part → is_in_range before s ≡ true → overlaps before s ≡ false →
+      passes_limit (limits_of (version_of before)) before s ≡ false → Said before was s
+  says was part s (a_buffer name size) q r o l =
+      let limits =
+      or_parts (not (nat_lt (length (buffers before)) 64))
+      (nat_lt 1048576 (sum (sizes_before before) + size)) l in (
+        below (length (buffers before)) 64 limits.0,
+        ltb-false 1048576 (sum (sizes_before before) + size) limits.1,
+      )
+  says was part s (a_semaphore name kind) q r o l = below (length (semaphores before)) 256 l
+  says was part s (a_queue name mode) q r o l = below (length (queues before)) 8 l
+  says was part s (a_batch n w) q r o l = (w, below (count is_job before) 4096 l)
+  says was part s (a_wait pair i m) q r o l =
+      record {
+        whole = refl;
+        held = i;
+        mark = m;
+        few = below (count is_wait (open_batch before)) 16 l;
+        parts = q;
+      }
+  says was part s (a_command c) q r o l =
+      let limits =
+      or_parts (not (nat_lt (count is_command before) 8192))
+      (not (nat_lt (count is_command (open_batch before)) 64)) l in
+      record {
+        fits = fits_in_range before c r o;
+        few = below (count is_command before) 8192 limits.0;
+        parts = q;
+      }
+  says was part s (a_signal pair m) q r o l =
+      record { mark = m; few = below (count is_signal (open_batch before)) 16 l; parts = q }
+  says was part s (a_fence f e) q r o l = (e, q)
+  says was part s an_end q r o l = tt
+
+  -- a line that is in order belongs to no earlier part than a line before it
+  in_parts : (f : LineForm) → is_out_of_order before f ≡ false → KeepsParts before (part_of_form f)
+  in_parts f h =
+      let front =
+      or_parts ((is_declaration f && has_begun before)
+      || some (λ s. nat_lt (part_of_form f) (part_of s)) (open_batch before))
+      (is_batch_fence_form f && some is_batch_fence (open_batch before)) h in
+      (or_parts (is_declaration f && has_begun before)
+      (some (λ s. nat_lt (part_of_form f) (part_of s)) (open_batch before)) front.0).1
+
+  -- What a line without a fault says.
+  pub said_of : (form : Form) (words : List (List ℕ)) (s : Statement) →
+      fault_of form before words ≡ None →
+      meaning form before words ≡ Some s → Said before (section before) s
+  said_of form words s h m =
+      let one =
+      first_fails (has_fault form before words) Syntax
+      (Order ∷ Number ∷ Name ∷ Twice ∷ Range ∷ Overlap ∷ Limit ∷ []) h in
+      let two =
+      first_fails (has_fault form before words) Order
+      (Number ∷ Name ∷ Twice ∷ Range ∷ Overlap ∷ Limit ∷ []) one.1 in
+      let three =
+      first_fails (has_fault form before words) Number
+      (Name ∷ Twice ∷ Range ∷ Overlap ∷ Limit ∷ []) two.1 in
+      let four =
+      first_fails (has_fault form before words) Name (Twice ∷ Range ∷ Overlap ∷ Limit ∷ [])
+      three.1 in
+      let five =
+      first_fails (has_fault form before words) Twice (Range ∷ Overlap ∷ Limit ∷ []) four.1 in
+      let six = first_fails (has_fault form before words) Range (Overlap ∷ Limit ∷ []) five.1 in
+      let seven = first_fails (has_fault form before words) Overlap (Limit ∷ []) six.1 in
+      let eight = first_fails (has_fault form before words) Limit [] seven.1 in
+      by_form (form_of form before words) refl m
+      (passes (is_in_range before s)
+      (sym (ap (λ (o : Option Statement). option_map_or (λ x. not (is_in_range before x)) o
+      false) m) ∙ six.0))
+      (sym (ap (λ (o : Option Statement). option_map_or (overlaps before) o false) m) ∙ seven.0)
+      (sym (ap (λ (o : Option Statement). option_map_or
+      (passes_limit (limits_of (version_of before)) before) o false) m) ∙ eight.0) two.0
+    where
+      by_form : (o : Option LineForm) → form_of form before words ≡ o →
+          option_and_then
+          (λ f. statement_of before f (map (λ x. x.1) (open_places (places f) words))) o
+          ≡ Some s →
+          is_in_range before s ≡ true → overlaps before s ≡ false →
+          passes_limit (limits_of (version_of before)) before s ≡ false →
+          option_map_or (is_out_of_order before) (form_of form before words) false ≡ false →
+          Said before (section before) s
+      by_form None e h r o l d = absurd (cc)
+      by_form (Some f) e h r o l d =
+          says (section before) (part_of_form f) s
+          (shape (section before) f (map (λ x. x.1) (open_places (places f) words)) s
+          (found_belongs (matches words) (belongs (section before)) (forms_at form before) f
+          (forms_belong form before (section before))
+          (built_found before (find (matches words) (forms_at form before)) f e))
+          (where_it_is_built before (find (matches words) (forms_at form before)) f e) h)
+          (in_parts f (sym (ap (λ (o : Option LineForm). option_map_or (is_out_of_order before) o
+          false) e) ∙ d)) r o l

@@ -1,0 +1,8 @@
+use Rattle.vq_reading_laws.proofs.WrittenScripts.{written_valid, written_batches}
+use Rattle.vq_reading_laws.proofs.laws.scripts_are_valid.Goals as goal
+
+pub returns-clause-valid : goal.returns-clause-valid
+returns-clause-valid c = written_valid
+
+pub returns-clause-batches : goal.returns-clause-batches
+returns-clause-batches c = written_batches

@@ -1,0 +1,54 @@
+//! Laws over texts and the scripts that they stand for. The functions do nothing: their contracts are
+//! the laws.
+ghost use Rattle.std.specs.Prelude.{◌≤◌, ℕ, List, length, ◌≡◌, None, Some, Err};
+ghost use Rattle.vq_model.specs.Text.{lines_of};
+ghost use Rattle.vq_model.specs.declared.script.Script.{Script};
+ghost use Rattle.vq_model.specs.SameScript.{IsScript, IsRead};
+ghost use Rattle.vq_model.specs.ValidScripts.{IsValid, HasValidBatches, IsOfBatches, HasRisingLines};
+ghost use Rattle.vq_model.specs.declared.statement.Form.{Form};
+ghost use Rattle.vq_model.specs.declared.statement.Line.{Line};
+ghost use Rattle.vq_model.specs.declared.statement.Statement.{Statement};
+ghost use Rattle.vq_model.specs.LineFaults.{fault_of};
+ghost use Rattle.vq_model.specs.Meaning.{meaning};
+ghost use Rattle.vq_model.specs.declared.statement.FaultKind.{FaultKind};
+ghost use Rattle.vq_model.specs.Reading.{read_lines, IsFirstFaultOf};
+
+/// A text has no more lines than bytes.
+pub fn lines_are_few()
+    ensures { (text : List ℕ) → length (lines_of text) ≤ length text }
+{}
+
+/// A script that can be written is valid: its signals name semaphores that exist, its commands fit
+/// their buffers, it stays within the limits, and its batches name what exists, of the kinds that
+/// their places need.
+pub fn scripts_are_valid()
+    ensures valid { (s : Script) → IsScript s → IsValid s }
+    ensures batches { (s : Script) → IsScript s → HasValidBatches s }
+{}
+
+/// A script that can be written is one of batches alone, of which those of immediate queues wait for
+/// nothing. So it is as long as no further form of lines is built.
+pub fn scripts_are_of_batches()
+    ensures { (s : Script) → IsScript s → IsOfBatches s }
+{}
+
+/// The lines of a script that was read rise in its order. It can be written, so it is valid too.
+pub fn lines_rise()
+    ensures rise { (s : Script) → IsRead s → HasRisingLines s }
+    ensures written { (s : Script) → IsRead s → IsScript s }
+{}
+
+/// A line without a fault has a meaning.
+pub fn lines_without_fault_have_a_meaning()
+    ensures { (form : Form) → (before : List Line) → (words : List (List ℕ)) →
+        fault_of form before words ≡ None →
+        (s : Statement) × (meaning form before words ≡ Some s) }
+{}
+
+/// Reading gives the first fault: no line before it has one, and the kind is the first of its line.
+pub fn reading_gives_the_first_fault()
+    ensures { (form : Form) → (before : List Line) → (first : ℕ) → (lines : List (List ℕ)) →
+        (n : ℕ) →
+        (kind : FaultKind) → read_lines form before first lines ≡ Err (n, kind) →
+        IsFirstFaultOf form before first lines n kind }
+{}

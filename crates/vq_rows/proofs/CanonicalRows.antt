@@ -1,0 +1,43 @@
+-- Canonical texts, computed. A number's digits are opened by name.
+use Rattle.std.proofs.Common.{ℕ, List, [], Ok, Err, ◌≡◌, refl, ◌++◌}
+use Rattle.std.specs.Prelude.{Result, codes}
+use Rattle.vq_model.specs.declared.statement.FaultKind.{FaultKind}
+use Rattle.vq_model.specs.declared.script.Script.{Script}
+use Rattle.vq_model.specs.Canonical.{canonical_text}
+use Rattle.vq_model.specs.declared.statement.Form.{Form}
+use Rattle.vq_model.specs.Reading.{read_script}
+use Rattle.std.specs.Fmt.{digits}
+use Rattle.vq_model.specs.declared.statement.Form.TheVariants.{Plain}
+
+abbrev printed : Result Script (ℕ × FaultKind) → List ℕ
+printed (Ok script) = canonical_text script
+printed (Err fault) = []
+
+abbrev reprinted : Form → List ℕ → List ℕ
+reprinted form text = printed (read_script text form)
+
+one_buffer : reprinted Plain (codes " buffer  X 0x10 # note\n") ≡ codes "buffer X 16\n"
+unfolding digits
+one_buffer = refl
+
+-- the numerals of each command
+every_command :
+    reprinted Plain
+    (codes "buffer X 0x40\nqueue Q immediate\nsubmit Q\nfill X 0 whole 1 # note\n"
+    ++ codes "fill X 0x0 4 0xABC\nupdate X 4 0aFF00b1\ncopy  X 00 X 8 8\nend")
+    ≡ codes "buffer X 64\nqueue Q immediate\nsubmit Q\nfill X 0 whole 0x00000001\n"
+    ++ codes "fill X 0 4 0x00000abc\nupdate X 4 0aff00b1\ncopy X 0 X 8 8\nend\n"
+unfolding digits
+every_command = refl
+
+-- declarations in their order, and the marks of a batch
+marks :
+    reprinted Plain
+    (codes "queue Q threaded\ntimeline A 0x10 # note\nqueue P immediate\nbuffer X 4\nfence F\n"
+    ++ codes "binary S\nsubmit Q\nwait A 16\nwait S\nfill X 0 whole 1\nsignal S\nsignal A 0x11\n"
+    ++ codes "fence F\nend\nsubmit P\nend\n")
+    ≡ codes "buffer X 4\ntimeline A 16\nfence F\nbinary S\nqueue Q threaded\nqueue P immediate\n"
+    ++ codes "submit Q\nwait A 16\nwait S\nfill X 0 whole 0x00000001\nsignal S\nsignal A 17\n"
+    ++ codes "fence F\nend\nsubmit P\nend\n"
+unfolding digits
+marks = refl

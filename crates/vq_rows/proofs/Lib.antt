@@ -1,0 +1,12 @@
+mod CanonicalRows
+mod FrameRows
+mod HeldRows
+mod LimitRows
+mod PlanRows
+mod RefusedRows
+mod ResetRows
+mod Rows
+mod ScriptRows
+mod TextRows
+mod TimelineRows
+mod TraceRows
