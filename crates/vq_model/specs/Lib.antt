@@ -17,6 +17,7 @@ pub mod Lanes
 pub mod Signals
 pub mod Lowering
 pub mod ValidScripts
+pub mod Built
 pub mod LoweringFaults
 pub mod Machine
 pub mod SlowRun

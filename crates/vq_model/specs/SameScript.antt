@@ -1,6 +1,6 @@
 -- Scripts up to the numbers of their lines, and scripts that can be written.
 -- The format is this project's own.
-use Rattle.std.specs.Prelude.{map, ◌≡◌, ℕ, List}
+use Rattle.std.specs.Prelude.{map, ◌≡◌, ◌⊎◌, ℕ, List, []}
 use Rattle.std.specs.Option.{option_map}
 use Rattle.vq_model.specs.declared.script.Mark.{Mark}
 use Rattle.vq_model.specs.declared.script.CommandLine.{CommandLine}
@@ -63,11 +63,14 @@ without_lines s =
 abbrev pub SameButLines : Script → Script → Type 0
 SameButLines a b = without_lines a ≡ without_lines b
 
--- A script as it is read: some text stands for it, its lines included.
+-- A script as it is read: some text stands for it, its lines included. The turns of its schedule may
+-- have been moved out of it: nothing that a plan is made of depends on them.
 pub record IsRead (s : Script) : Type 0 where
   pub text : List ℕ
   pub form : Form
-  pub stands : StandsFor text form s
+  pub turns : List Turn
+  pub stands : StandsFor text form (record s { turns = turns })
+  pub kept_or_moved : (s.turns ≡ turns) ⊎ (s.turns ≡ [])
 
 -- A script can be written: up to line numbers, some text stands for it.
 pub record IsScript (s : Script) : Type 0 where

@@ -8,8 +8,9 @@ use Rattle.vq_model.specs.declared.script.Job.{Job}
 use Rattle.vq_model.specs.declared.script.Job.TheVariants.{Host, Batch as BatchJob}
 use Rattle.vq_model.specs.declared.script.HostLine.{HostLine}
 use Rattle.vq_model.specs.declared.script.HostStep.{HostStep}
-use Rattle.vq_model.specs.declared.script.HostStep.TheVariants.{Signal, FenceReset}
+use Rattle.vq_model.specs.declared.script.HostStep.TheVariants.{Signal, WaitAll, WaitAny, PollAll, PollAny, Read, FenceWait, FencePoll, FenceReset, Idle}
 use Rattle.vq_model.specs.declared.script.CommandLine.{CommandLine}
+use Rattle.vq_model.specs.declared.script.Pair.{Pair}
 use Rattle.vq_model.specs.declared.script.Mark.{Mark}
 use Rattle.vq_model.specs.Context.{is_fence, is_immediate}
 use Rattle.vq_model.specs.Limits.{limits_of}
@@ -60,11 +61,22 @@ pub record IsValidBatch (s : Script) (b : Batch) : Type 0 where
 abbrev pub HasValidBatches : Script → Type 0
 HasValidBatches s = (j : ℕ) (b : Batch) → slice_get s.jobs j ≡ Some (BatchJob b) → IsValidBatch s b
 
--- A host step that signals names a timeline, and one that resets names a fence.
+-- a pair of a host step names a timeline
+abbrev pub IsTimelinePair : Script → Pair → Type 0
+IsTimelinePair s x = is_timeline_at s x.semaphore ≡ true
+
+-- A host step names timelines and fences that exist, each where its form needs one.
 abbrev pub IsValidStep : Script → HostStep → Type 0
-IsValidStep s (Signal pair) = is_timeline_at s pair.semaphore ≡ true
+IsValidStep s (Signal pair) = IsTimelinePair s pair
+IsValidStep s (WaitAll pairs) = All (IsTimelinePair s) pairs
+IsValidStep s (WaitAny pairs) = All (IsTimelinePair s) pairs
+IsValidStep s (PollAll pairs) = All (IsTimelinePair s) pairs
+IsValidStep s (PollAny pairs) = All (IsTimelinePair s) pairs
+IsValidStep s (Read t) = is_timeline_at s t ≡ true
+IsValidStep s (FenceWait f) = is_fence_at s f ≡ true
+IsValidStep s (FencePoll f) = is_fence_at s f ≡ true
 IsValidStep s (FenceReset f) = is_fence_at s f ≡ true
-IsValidStep s other = Unit {0}
+IsValidStep s Idle = Unit {0}
 
 abbrev pub HasValidSteps : Script → Type 0
 HasValidSteps s = (j : ℕ) (h : HostLine) → slice_get s.jobs j ≡ Some (Host h) → IsValidStep s h.step
@@ -94,21 +106,3 @@ HasRisingLines s = AreRising (flat_map job_lines s.jobs)
 -- whether a queue of a script is immediate
 abbrev pub is_immediate_queue : Script → ℕ → Bool
 is_immediate_queue s q = option_map_or (λ x. is_immediate x.mode) (slice_get s.queues q) false
-
--- a batch that waits as a whole, and not at all where its queue is immediate
-pub record WaitsWhole (s : Script) (b : Batch) : Type 0 where
-  pub from_start : All (λ m. m.from ≡ 1) b.waits
-  pub unheld : is_immediate_queue s b.queue ≡ true → b.waits ≡ []
-
-abbrev pub AreWholeBatches : Script → List Job → Type 0
-AreWholeBatches s [] = Unit {0}
-AreWholeBatches s (Host h ∷ jobs) = ⊥
-AreWholeBatches s (BatchJob b ∷ jobs) = WaitsWhole s b × AreWholeBatches s jobs
-
--- A script of batches alone: it is of version 1 and has no schedule and no host steps. So is each
--- script of the forms that are built so far.
-pub record IsOfBatches (s : Script) : Type 0 where
-  pub version : s.version ≡ 1
-  pub batches : AreWholeBatches s s.jobs
-  pub unscheduled : s.scheduled ≡ false
-  pub turns : s.turns ≡ []

@@ -9,7 +9,7 @@ use Rattle.vq_model.specs.Edges.{Place, needs_at}
 
 -- needs that are reached stay so where numbers rise
 
-reached_still : (payload later : ℕ → ℕ) → ((t : ℕ) → payload t ≤ later t) → (n : Need) → is_reached payload n ≡ true → is_reached later n ≡ true
+pub reached_still : (payload later : ℕ → ℕ) → ((t : ℕ) → payload t ≤ later t) → (n : Need) → is_reached payload n ≡ true → is_reached later n ≡ true
 reached_still payload later r n h =
     let a = leb-true n.value (payload n.chain) h in
     let b = r n.chain in

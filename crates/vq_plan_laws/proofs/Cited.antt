@@ -1,5 +1,6 @@
 -- What other crates may cite of this one. All other files of proofs are private to it.
-pub use Rattle.vq_plan_laws.proofs.BatchPlans.{batches_output, never_ahead, never_busy}
+pub use Rattle.vq_plan_laws.proofs.HostlessPlans.{hostless_output, never_busy}
+pub use Rattle.vq_plan_laws.proofs.UnwaitedPlans.{never_ahead}
 pub use Rattle.vq_plan_laws.proofs.FaultLaws.{no_fault_found}
 pub use Rattle.vq_plan_laws.proofs.HostPlans.{host_order}
 pub use Rattle.vq_plan_laws.proofs.LastBefore.{HasNone, IsLast, last_cases}

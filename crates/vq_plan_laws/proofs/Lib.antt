@@ -1,5 +1,6 @@
 pub mod Cited
-mod BatchPlans
+mod HostlessPlans
+mod UnwaitedPlans
 mod FaultLaws
 mod HostPlans
 mod LastBefore

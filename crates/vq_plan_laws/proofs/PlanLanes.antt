@@ -1,5 +1,5 @@
 -- The plan of a script that was read keeps its lanes and its chains.
-use Rattle.std.proofs.Common.{◌≡◌, ◌+◌, true, refl, arith, ap, ℕ, Option, Some, None, ◌∙◌, ◌<◌, Bool, length, take, sym, ◌⊎◌, inl, inr, ◌-◌, ◌≤◌, List, [], ◌∷◌, ◌++◌, suc, ◌*◌, zero, ◌^◌, false, nat_lt, filter, All, subst, lit≤}
+use Rattle.std.proofs.Common.{◌≡◌, ◌+◌, true, refl, arith, ap, ℕ, Option, Some, None, ◌∙◌, ◌<◌, Bool, length, take, sym, ◌⊎◌, inl, inr, ◌-◌, ◌≤◌, List, [], ◌∷◌, ◌++◌, suc, ◌*◌, zero, ◌^◌, false, nat_lt, filter, All, subst, lit≤, map, get_or}
 use Rattle.std.proofs.lemmas.Bool.{eq-eqb, eqb-true, false≢true, cases_lt, cond-true, cond-false}
 use Rattle.vq_model.specs.declared.plan.Lane.{Lane}
 use Rattle.vq_model.specs.declared.plan.Lane.TheVariants.{Host as HostLane, Queue as QueueLane}
@@ -10,7 +10,7 @@ use Rattle.std.specs.Option.{option_map_or, option_to_list}
 use Rattle.vq_model.specs.declared.script.Script.{Script}
 use Rattle.vq_model.specs.declared.script.Job.{Job}
 use Rattle.vq_model.specs.declared.script.Job.TheVariants.{Host, Batch}
-use Rattle.vq_model.specs.Lowering.{lane_of, plan_job, plan_of, last_before, of_wait}
+use Rattle.vq_model.specs.Lowering.{lane_of, plan_job, plan_of, last_before, of_wait, of_pair, step_needs, fence_value}
 use Rattle.vq_plan_laws.proofs.PlanParts.{part_is, op_job_is, op_chain_is}
 use Rattle.vq_plan_laws.proofs.LastBefore.{IsLast, HasNone, last_cases}
 use Rattle.vq_model.proofs.Gets.{get_some, get-take, get-take_within, get-append, get-append_left, get_within}
@@ -19,15 +19,18 @@ use Rattle.vq_plan_laws.proofs.Owners.{owner, each_job}
 use Rattle.vq_model.proofs.Options.{some_of}
 use Rattle.std.proofs.lemmas.List.{length-append, length-map}
 use Rattle.vq_model.proofs.Lists.{has_cases}
-use Rattle.std.proofs.lemmas.List.Elements.{All-map}
+use Rattle.std.proofs.lemmas.List.Elements.{All-map, All-cons, All-nil}
 use Rattle.vq_model.specs.declared.script.Mark.{Mark}
 use Rattle.vq_model.specs.declared.script.HostStep.{HostStep}
 use Rattle.vq_model.specs.declared.script.HostLine.{HostLine}
-use Rattle.vq_model.specs.declared.script.HostStep.TheVariants.{Signal}
+use Rattle.vq_model.specs.declared.script.HostStep.TheVariants.{Signal, WaitAll, WaitAny, FenceWait}
+use Rattle.vq_model.specs.declared.script.Pair.{Pair}
 use Rattle.vq_model.specs.declared.plan.Need.{Need}
 use Rattle.vq_model.specs.declared.plan.PlanJob.{PlanJob}
 use Rattle.vq_model.specs.Edges.{AtEnd, must_finish, awaited_at}
-use Rattle.vq_model.specs.ValidScripts.{IsValid, HasValidBatches, IsOfBatches, AreWholeBatches}
+use Rattle.vq_model.specs.ValidScripts.{IsValid, IsValidStep, IsTimelinePair, HasValidBatches, HasValidSteps}
+use Rattle.vq_model.specs.Context.{is_timeline, is_fence}
+use Rattle.vq_reading_laws.proofs.Cited.{kind_exists}
 use Rattle.vq_model.proofs.Searches.{find_member}
 use Rattle.vq_plan_laws.proofs.WellFormedPlans.{well_formed}
 
@@ -156,7 +159,7 @@ count_jobs s = length-map (enumerate_from 0 s.jobs) (plan_job s) ∙ count 0 s.j
     count a [] = refl
     count a (x ∷ xs) = let r = count (a + 1) xs in omega arith
 
-module _ (s : Script) (v : IsValid s) (b : HasValidBatches s) (o : IsOfBatches s) where
+module _ (s : Script) (v : IsValid s) (b : HasValidBatches s) where
   few_of_job : (j : ℕ) (job : Job) → slice_get s.jobs j ≡ Some job → (m : ℕ) → length (job_signals (m, job)) ≤ 17
   few_of_job j (Host h) e m = by_step h.step
     where
@@ -263,23 +266,37 @@ module _ (s : Script) (v : IsValid s) (b : HasValidBatches s) (o : IsOfBatches s
         few_ops = few_ops;
       }
 
-  -- no job of a script of batches is a host step
-  no_host : (jobs : List Job) → AreWholeBatches s jobs → (j : ℕ) (x : HostLine) → slice_get jobs j ≡ Some (Host x) → ⊥
-  no_host [] w j x e = let c : None ≡ Some (Host x) = e in cc
-  no_host (Host h ∷ jobs) w j x e = w
-  no_host (Batch h ∷ jobs) w zero x e = let c : Some (Batch h) ≡ Some (Host x) = e in cc
-  no_host (Batch h ∷ jobs) w (suc j) x e = no_host jobs w.1 j x e
+  -- what a host step waits for is of timelines and fences that exist
+  step_needs_exist : HasValidSteps s → (j k : ℕ) (h : HostLine) → slice_get s.jobs k ≡ Some (Host h) →
+      All (λ n. n.chain < length s.semaphores) (step_needs s j h.line h.step)
+  step_needs_exist w j k h e = of_step h.step (w k h e)
+    where
+      of_pairs : (pairs : List Pair) → All (IsTimelinePair s) pairs →
+          All (λ n. n.chain < length s.semaphores) (map (of_pair h.line) pairs)
+      of_pairs pairs a =
+          All-map (λ n. n.chain < length s.semaphores) (of_pair h.line) pairs
+          (λ i d l. kind_exists s is_timeline (get_or pairs i d).semaphore (a i d l))
 
-  needs_chain : (j : ℕ) → All (λ n. n.chain < length s.semaphores) (needs (plan_of s) j)
-  needs_chain j = subst (All (λ n. n.chain < length s.semaphores)) (sym (part_is (λ x. x.needs) [] s j)) (by_job (slice_get s.jobs j) refl)
+      of_step : (t : HostStep) → IsValidStep s t →
+          All (λ n. n.chain < length s.semaphores) (step_needs s j h.line t)
+      of_step (WaitAll pairs) a = of_pairs pairs a
+      of_step (WaitAny pairs) a = of_pairs pairs a
+      of_step (FenceWait f) a =
+          All-cons (λ n. n.chain < length s.semaphores)
+          (record { line = h.line; chain = f; value = fence_value s j f; from = 1 }) []
+          (kind_exists s is_fence f a) (All-nil (λ n. n.chain < length s.semaphores))
+      of_step other a = All-nil (λ n. n.chain < length s.semaphores)
+
+  needs_chain : HasValidSteps s → (j : ℕ) → All (λ n. n.chain < length s.semaphores) (needs (plan_of s) j)
+  needs_chain w j = subst (All (λ n. n.chain < length s.semaphores)) (sym (part_is (λ x. x.needs) [] s j)) (by_job (slice_get s.jobs j) refl)
     where
       by_job : (x : Option Job) → slice_get s.jobs j ≡ x → All (λ n. n.chain < length s.semaphores) (option_map_or (λ job. (plan_job s (j, job)).needs) x [])
       by_job None e = λ i d l. absurd (omega arith)
-      by_job (Some (Host h)) e = absurd (no_host s.jobs o.batches j h e)
+      by_job (Some (Host h)) e = step_needs_exist w j j h e
       by_job (Some (Batch x)) e = All-map (λ n. n.chain < length s.semaphores) (of_wait s j) x.waits (λ i d l. ((b j x e).waits i d l).exists)
 
-  pub keeps_semaphores : KeepsSemaphores (plan_of s)
-  keeps_semaphores =
+  pub keeps_semaphores : HasValidSteps s → KeepsSemaphores (plan_of s)
+  keeps_semaphores w =
       record {
         op_chain = λ e t c. (
             let x = some_of (λ y. y.semaphore) (slice_get (all_signals s) e) t (sym (op_chain_is s e) ∙ c) in
@@ -287,7 +304,7 @@ module _ (s : Script) (v : IsValid s) (b : HasValidBatches s) (o : IsOfBatches s
             let same = x.2 in
             omega arith
             );
-        needs_chain = needs_chain;
+        needs_chain = needs_chain w;
         few = (let l : length s.semaphores ≤ 256 = v.limits.semaphores in omega arith);
         initials = length-map s.semaphores (λ x. initial_value x.kind);
         chains = length-map (range_with_len 0 (length s.semaphores)) (chain_ops s) ∙ count (length s.semaphores) 0;

@@ -80,7 +80,7 @@ pub fn plans_are_in_order()
 /// The plan of a script of batches alone asks nothing: it has one output, the text of the buffers
 /// that the slow run leaves. No fence is reset, no batch of an immediate queue waits, and no wait
 /// holds back a part of a batch only.
-pub fn plans_of_batches()
+pub fn plans_of_built_forms()
     ensures output { (p : Plan) → IsPlan p → IsOutput p (buffers_text p.script.buffers (final p)) }
     ensures only_output { (p : Plan) → IsPlan p → (text : List ℕ) → IsOutput p text →
         text ≡ buffers_text p.script.buffers (final p) }

@@ -1,5 +1,5 @@
 -- Scripts of what is declared keep what a script keeps.
-use Rattle.std.proofs.Common.{◌≡◌, ℕ, zero, suc, List, [], ◌∷◌, Some, None, subst, ◌<◌, true, false, ◌⊎◌, length, map, Option, inl, inr, sym, ap, ◌∙◌, arith, ◌+◌, ◌++◌, refl}
+use Rattle.std.proofs.Common.{◌≡◌, ℕ, Bool, zero, suc, List, [], ◌∷◌, Some, None, subst, ◌<◌, true, false, ◌⊎◌, length, map, Option, inl, inr, sym, ap, ◌∙◌, arith, ◌+◌, ◌++◌, refl}
 use Rattle.std.specs.List.{slice_get, AllByRecursion as Every, flat_map, enumerate_from}
 use Rattle.vq_model.specs.declared.script.Batch.{Batch}
 use Rattle.vq_model.specs.declared.script.Job.{Job}
@@ -16,10 +16,13 @@ use Rattle.vq_model.specs.declared.script.SemaphoreKind.TheVariants.{Fence}
 use Rattle.vq_model.specs.declared.script.Queue.{Queue}
 use Rattle.vq_model.specs.declared.script.Mode.{Mode}
 use Rattle.vq_model.specs.declared.script.Mark.{Mark}
+use Rattle.vq_model.specs.declared.script.HostLine.{HostLine}
+use Rattle.vq_model.specs.declared.script.HostStep.{HostStep}
+use Rattle.vq_model.specs.declared.script.HostStep.TheVariants.{Signal}
 use Rattle.vq_model.specs.Context.{is_immediate, is_fence, is_timeline}
 use Rattle.vq_model.specs.ScriptOfLines.{first_of_list}
-use Rattle.vq_model.specs.Signals.{kind_of, Signaling, all_signals, job_signals, of_mark}
-use Rattle.vq_model.specs.ValidScripts.{IsValidMark, IsValidFence, IsValidBatch, WaitsWhole, AreWholeBatches, is_immediate_queue, HasValidBatches, IsOfBatches}
+use Rattle.vq_model.specs.Signals.{kind_of, Signaling, all_signals, job_signals, step_signals, of_mark}
+use Rattle.vq_model.specs.ValidScripts.{IsValidMark, IsValidFence, IsValidBatch, IsValidStep, is_immediate_queue, HasValidBatches, HasValidSteps}
 use Rattle.vq_model.proofs.Gets.{get-map, get_within}
 use Rattle.vq_reading_laws.proofs.LineFacts.{IsMarkOf}
 use Rattle.std.specs.Prelude.{All}
@@ -134,27 +137,22 @@ module _ (s : Script) where
           let same : h.mode ≡ x.mode = cc in
           subst (λ (m : Mode). is_immediate m ≡ false) same h.held
 
-  whole_batch : (b : Batch) → KeepsJob declared_in b → WaitsWhole s b
-  whole_batch b k =
-      record {
-        from_start =
-            of_every (λ m. m.from ≡ 1) b.waits
-            (all_weaker (IsWaitOf declared_in) (λ m. m.from ≡ 1) b.waits (λ m h. h.1)
-            k.parts.waits_of);
-        unheld = λ h. none h k.parts.unheld;
-      }
-    where
-      none : is_immediate_queue s b.queue ≡ true → (b.waits ≡ []) ⊎ IsHeld declared_in.modes b.queue →
-          b.waits ≡ []
-      none h (inl e) = e
-      none h (inr held) = absurd (false≢true (sym (held_here b.queue held) ∙ h))
+  -- waits hold back whole batches, and none is of an immediate queue
+  pub whole_waits : (b : Batch) → KeepsJob declared_in b → All (λ m. m.from ≡ 1) b.waits
+  whole_waits b k =
+      of_every (λ m. m.from ≡ 1) b.waits
+      (all_weaker (IsWaitOf declared_in) (λ m. m.from ≡ 1) b.waits (λ m h. h.1)
+      k.parts.waits_of)
 
-  pub whole_batches : (jobs : List Job) → KeepJobs declared_in jobs → AreWholeBatches s jobs
-  whole_batches [] k = tt
-  whole_batches (Host h ∷ jobs) k = absurd k
-  whole_batches (BatchJob b ∷ jobs) k = (whole_batch b k.0, whole_batches jobs k.1)
+  pub immediate_waits : (b : Batch) → KeepsJob declared_in b →
+      is_immediate_queue s b.queue ≡ true → b.waits ≡ []
+  immediate_waits b k h =
+      elim k.parts.unheld [
+        | inl e ↦ e
+        | inr held ↦ absurd (false≢true (sym (held_here b.queue held) ∙ h))
+      ]
 
--- The signals of valid batches name semaphores that exist.
+-- The signals of valid batches and of valid host steps name semaphores that exist.
 module _ (s : Script) where
   abbrev Exists : Signaling → Type 0
   Exists x = x.semaphore < length s.semaphores
@@ -177,16 +175,35 @@ module _ (s : Script) where
       (every_append (λ m. m.semaphore < length s.semaphores) b.signals (option_to_list b.fence)
       (marks_exist b.signals v.signals) (fence_exists b.fence v.fence))
 
-  signals_exist : (n : ℕ) (jobs : List Job) → AreWholeBatches s jobs →
+  pub kind_exists : (test : SemaphoreKind → Bool) (t : ℕ) →
+      option_map_or test (kind_of s t) false ≡ true → t < length s.semaphores
+  kind_exists test t h = by_get (slice_get s.semaphores t) refl h
+    where
+      by_get : (o : Option Semaphore) → slice_get s.semaphores t ≡ o →
+          option_map_or test (option_map (λ x. x.kind) o) false ≡ true → t < length s.semaphores
+      by_get None e h = absurd (false≢true h)
+      by_get (Some x) e h = get_within s.semaphores t x e
+
+  step_signals_exist : (n line : ℕ) (t : HostStep) → IsValidStep s t →
+      Every Exists (step_signals n line t)
+  step_signals_exist n line (Signal pair) h = (kind_exists is_timeline pair.semaphore h, tt)
+  step_signals_exist n line other h = tt
+
+  signals_exist : (n : ℕ) (jobs : List Job) →
       ((j : ℕ) (b : Batch) → slice_get jobs j ≡ Some (BatchJob b) → IsValidBatch s b) →
+      ((j : ℕ) (h : HostLine) → slice_get jobs j ≡ Some (Host h) → IsValidStep s h.step) →
       Every Exists (flat_map job_signals (enumerate_from n jobs))
-  signals_exist n [] w v = tt
-  signals_exist n (Host h ∷ jobs) w v = absurd w
-  signals_exist n (BatchJob b ∷ jobs) w v =
+  signals_exist n [] v w = tt
+  signals_exist n (Host h ∷ jobs) v w =
+      every_append Exists (job_signals (n, Host h))
+      (flat_map job_signals (enumerate_from (n + 1) jobs))
+      (step_signals_exist n h.line h.step (w 0 h refl))
+      (signals_exist (n + 1) jobs (λ j c e. v (suc j) c e) (λ j c e. w (suc j) c e))
+  signals_exist n (BatchJob b ∷ jobs) v w =
       every_append Exists (job_signals (n, BatchJob b))
       (flat_map job_signals (enumerate_from (n + 1) jobs)) (job_signals_exist n b (v 0 b refl))
-      (signals_exist (n + 1) jobs w.1 (λ j c e. v (suc j) c e))
+      (signals_exist (n + 1) jobs (λ j c e. v (suc j) c e) (λ j c e. w (suc j) c e))
 
-  pub valid_signals : HasValidBatches s → IsOfBatches s → (e : ℕ) (x : Signaling) →
+  pub valid_signals : HasValidBatches s → HasValidSteps s → (e : ℕ) (x : Signaling) →
       slice_get (all_signals s) e ≡ Some x → x.semaphore < length s.semaphores
-  valid_signals v w e x h = all_at Exists (all_signals s) e x (signals_exist 0 s.jobs w.batches v) h
+  valid_signals v w e x h = all_at Exists (all_signals s) e x (signals_exist 0 s.jobs v w) h

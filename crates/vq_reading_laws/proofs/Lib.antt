@@ -13,5 +13,6 @@ mod ReadLines
 mod ScriptFacts
 mod Standing
 mod TextFacts
-mod WholeBatches
+mod SameScripts
+mod WithoutTurns
 mod WrittenScripts

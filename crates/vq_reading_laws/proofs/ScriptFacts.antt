@@ -8,16 +8,17 @@ use Rattle.vq_model.specs.declared.script.CommandLine.{CommandLine}
 use Rattle.vq_model.specs.ScriptOfLines.{script_of, jobs_of}
 use Rattle.vq_model.specs.Ranges.{Fits}
 use Rattle.vq_model.specs.Lowering.{batch_commands}
-use Rattle.vq_model.specs.ValidScripts.{IsValid, HasValidBatches, IsOfBatches}
+use Rattle.vq_model.specs.ValidScripts.{IsValid, HasValidBatches, HasValidSteps}
+use Rattle.vq_model.specs.Built.{HasNoHostStep, HasNoImmediateWait, HasWholeWaits, IsUnscheduled, IsOfFirstVersion}
 use Rattle.vq_reading_laws.proofs.CommandRanges.{sizes_before}
 use Rattle.vq_reading_laws.proofs.Standing.{declared_by, is_outside}
 use Rattle.vq_reading_laws.proofs.KeptLines.{Kept}
 use Rattle.vq_reading_laws.proofs.KeptBatches.{IsCommandOf, JobsKept, jobs_kept, no_version, no_schedule, no_turns}
-use Rattle.vq_reading_laws.proofs.DeclaredScripts.{job_kept, no_host, all_at, valid_batch, whole_batches, valid_signals}
+use Rattle.vq_reading_laws.proofs.DeclaredScripts.{job_kept, no_host, all_at, valid_batch, whole_waits, immediate_waits, valid_signals}
 use Rattle.vq_model.specs.declared.statement.Form.{Form}
 use Rattle.vq_model.specs.Reading.{StandsFor}
 use Rattle.vq_model.specs.declared.script.Script.{Script}
-use Rattle.vq_reading_laws.proofs.ReadLines.{of_text}
+use Rattle.vq_reading_laws.proofs.ReadLines.{of_text, IsOfLines}
 
 -- The script of lines that were read
 
@@ -39,14 +40,33 @@ module _ (next : ℕ) (lines : List Line) (k : Kept next lines) where
       valid_batch (script_of lines) b
       (job_kept (declared_by lines) (jobs_of lines) j b kept_jobs.all e)
 
-  pub lines_of_batches : IsOfBatches (script_of lines)
-  lines_of_batches =
+  -- no form stands that isn't built
+  pub lines_hostless : HasNoHostStep (script_of lines)
+  lines_hostless j h e = no_host (declared_by lines) (jobs_of lines) j h kept_jobs.all e
+
+  pub lines_unwaited : HasNoImmediateWait (script_of lines)
+  lines_unwaited j b e =
+      immediate_waits (script_of lines) b
+      (job_kept (declared_by lines) (jobs_of lines) j b kept_jobs.all e)
+
+  pub lines_whole : HasWholeWaits (script_of lines)
+  lines_whole j b e =
+      whole_waits (script_of lines) b
+      (job_kept (declared_by lines) (jobs_of lines) j b kept_jobs.all e)
+
+  pub lines_unscheduled : IsUnscheduled (script_of lines)
+  lines_unscheduled =
       record {
-        version = no_version (declared_by lines) lines k.stand;
-        batches = whole_batches (script_of lines) (jobs_of lines) kept_jobs.all;
         unscheduled = no_schedule (declared_by lines) is_outside lines k.stand;
         turns = no_turns (declared_by lines) is_outside lines k.stand;
       }
+
+  pub lines_version : IsOfFirstVersion (script_of lines)
+  lines_version = no_version (declared_by lines) lines k.stand
+
+  -- so host steps are valid, as there are none
+  pub lines_steps : HasValidSteps (script_of lines)
+  lines_steps j h e = absurd (lines_hostless j h e)
 
   pub lines_valid : IsValid (script_of lines)
   lines_valid =
@@ -55,7 +75,7 @@ module _ (next : ℕ) (lines : List Line) (k : Kept next lines) where
       let mj = k.few_jobs in
       let mc = k.few_commands in
       record {
-        signals = valid_signals (script_of lines) lines_batches lines_of_batches;
+        signals = valid_signals (script_of lines) lines_batches lines_steps;
         commands = λ j n job x e f. job_fits job n x j e f;
         limits = record {
           buffers = k.few_buffers;
@@ -67,21 +87,45 @@ module _ (next : ℕ) (lines : List Line) (k : Kept next lines) where
         };
       }
 
--- A script that a text stands for is valid, ..
-pub text_valid : (text : List ℕ) (form : Form) (s : Script) → StandsFor text form s → IsValid s
-text_valid text form s h =
-    let l = of_text text form s h in subst IsValid l.whole (lines_valid l.next l.lines l.kept)
+-- What holds of the script of lines that were read holds of a script that a text stands for.
+module _ (text : List ℕ) (form : Form) (s : Script) (h : StandsFor text form s) where
+  of_lines : IsOfLines s
+  of_lines = of_text text form s h
 
--- .. its batches name what exists, ..
-pub text_batches : (text : List ℕ) (form : Form) (s : Script) → StandsFor text form s →
-    HasValidBatches s
-text_batches text form s h =
-    let l = of_text text form s h in
-    subst HasValidBatches l.whole (lines_batches l.next l.lines l.kept)
+  pub text_valid : IsValid s
+  text_valid = subst IsValid of_lines.whole (lines_valid of_lines.next of_lines.lines of_lines.kept)
 
--- .. and it is one of batches alone.
-pub text_of_batches : (text : List ℕ) (form : Form) (s : Script) → StandsFor text form s →
-    IsOfBatches s
-text_of_batches text form s h =
-    let l = of_text text form s h in
-    subst IsOfBatches l.whole (lines_of_batches l.next l.lines l.kept)
+  pub text_batches : HasValidBatches s
+  text_batches =
+      subst HasValidBatches of_lines.whole
+      (lines_batches of_lines.next of_lines.lines of_lines.kept)
+
+  pub text_steps : HasValidSteps s
+  text_steps =
+      subst HasValidSteps of_lines.whole
+      (lines_steps of_lines.next of_lines.lines of_lines.kept)
+
+  pub text_hostless : HasNoHostStep s
+  text_hostless =
+      subst HasNoHostStep of_lines.whole
+      (lines_hostless of_lines.next of_lines.lines of_lines.kept)
+
+  pub text_unwaited : HasNoImmediateWait s
+  text_unwaited =
+      subst HasNoImmediateWait of_lines.whole
+      (lines_unwaited of_lines.next of_lines.lines of_lines.kept)
+
+  pub text_whole : HasWholeWaits s
+  text_whole =
+      subst HasWholeWaits of_lines.whole
+      (lines_whole of_lines.next of_lines.lines of_lines.kept)
+
+  pub text_unscheduled : IsUnscheduled s
+  text_unscheduled =
+      subst IsUnscheduled of_lines.whole
+      (lines_unscheduled of_lines.next of_lines.lines of_lines.kept)
+
+  pub text_version : IsOfFirstVersion s
+  text_version =
+      subst IsOfFirstVersion of_lines.whole
+      (lines_version of_lines.next of_lines.lines of_lines.kept)

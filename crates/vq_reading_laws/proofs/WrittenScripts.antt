@@ -1,362 +1,90 @@
--- A script that can be written is valid, its batches name what exists, and it is one of batches
--- alone: what holds of the script of a text holds of each that is the same up to line numbers.
-use Rattle.std.proofs.Common.{◌≡◌, List, [], ◌∷◌, map, refl, ℕ, ap, length, ◌∙◌, sym, subst, ◌≤◌, false, Option, Some, None, option_map, arith}
-use Rattle.std.specs.Prelude.{All, sum}
-use Rattle.std.proofs.lemmas.List.Elements.{All-nil, All-cons, All-head, All-tail, All-map}
-use Rattle.vq_model.specs.declared.script.Batch.{Batch}
-use Rattle.vq_model.specs.declared.script.Job.{Job}
-use Rattle.vq_model.specs.declared.script.Job.TheVariants.{Host, Batch as BatchJob}
-use Rattle.vq_model.specs.declared.script.Buffer.{Buffer}
-use Rattle.vq_model.specs.SameScript.{buffer_without_line, job_without_lines, command_without_line, SameButLines, mark_without_line, semaphore_without_line, queue_without_line, turn_without_line, IsScript, IsRead}
-use Rattle.vq_model.specs.Lowering.{batch_commands, commands_in}
-use Rattle.std.proofs.lemmas.List.{length-map}
-use Rattle.vq_model.specs.declared.script.CommandLine.{CommandLine}
-use Rattle.vq_model.specs.Ranges.{Fits}
-use Rattle.std.specs.List.{slice_get}
-use Rattle.std.specs.Option.{option_map_or}
+-- What is known of a script that can be written, and of one that was read.
+use Rattle.std.proofs.Common.{◌≡◌, List, [], ap, refl, sym, ◌∙◌, ◌⊎◌, inl, inr, subst}
 use Rattle.vq_model.specs.declared.script.Script.{Script}
-use Rattle.vq_model.specs.declared.script.Semaphore.{Semaphore}
-use Rattle.vq_model.specs.declared.script.SemaphoreKind.{SemaphoreKind}
-use Rattle.vq_model.specs.declared.script.Queue.{Queue}
-use Rattle.vq_model.specs.declared.script.Mark.{Mark}
-use Rattle.vq_model.specs.Context.{is_immediate, is_fence, is_timeline}
-use Rattle.vq_model.specs.Signals.{kind_of}
-use Rattle.vq_model.specs.ValidScripts.{IsValid, KeepsLimits, IsValidMark, IsValidFence, IsValidBatch, HasValidBatches, AreWholeBatches, IsOfBatches, is_immediate_queue, sizes_of, HasValidSteps, HasRisingLines}
-use Rattle.vq_model.proofs.Gets.{get-map}
-use Rattle.vq_model.proofs.Options.{some_of}
-use Rattle.vq_reading_laws.proofs.DeclaredScripts.{valid_signals}
-use Rattle.vq_reading_laws.proofs.ScriptFacts.{text_valid, text_batches, text_of_batches}
+use Rattle.vq_model.specs.declared.script.Turn.{Turn}
+use Rattle.vq_model.specs.Reading.{StandsFor}
+use Rattle.vq_model.specs.SameScript.{IsScript, IsRead}
+use Rattle.vq_model.specs.ValidScripts.{IsValid, HasValidBatches, HasValidSteps, HasRisingLines}
+use Rattle.vq_model.specs.Built.{HasNoHostStep, HasNoImmediateWait, HasWholeWaits, IsUnscheduled, IsOfFirstVersion}
+use Rattle.vq_reading_laws.proofs.ScriptFacts.{text_valid, text_batches, text_steps, text_hostless, text_unwaited, text_whole, text_unscheduled, text_version}
+use Rattle.vq_reading_laws.proofs.SameScripts.{same_valid, same_batches, same_steps, same_hostless, same_unwaited, same_whole, same_unscheduled, same_version}
 use Rattle.vq_reading_laws.proofs.LinesRise.{text_lines_rise}
-use Rattle.vq_reading_laws.proofs.WholeBatches.{whole_steps}
-
--- Lists without lines
-
-map_empty : {X Y : Type 0} (f : X → Y) (xs : List X) → map f xs ≡ [] → xs ≡ []
-map_empty f [] e = refl
-map_empty f (x ∷ xs) e = absurd (cc)
-
-all_unmapped : {X Y : Type 0} (P : Y → Type 0) (f : X → Y) (xs : List X) → All P (map f xs) →
-    All (λ x. P (f x)) xs
-all_unmapped P f [] a = All-nil (λ x. P (f x))
-all_unmapped P f (x ∷ xs) a =
-    All-cons (λ y. P (f y)) x xs (All-head P (f x) (map f xs) a)
-    (all_unmapped P f xs (All-tail P (f x) (map f xs) a))
-
-all_so : {X : Type 0} (P Q : X → Type 0) (xs : List X) → ((x : X) → P x → Q x) → All P xs → All Q xs
-all_so P Q [] f a = All-nil Q
-all_so P Q (x ∷ xs) f a =
-    All-cons Q x xs (f x (All-head P x xs a)) (all_so P Q xs f (All-tail P x xs a))
-
--- the batch of a job, or this one
-abbrev batch_or : Batch → Job → Batch
-batch_or d (Host h) = d
-batch_or d (BatchJob b) = b
-
--- Valid scripts
-
-same_sizes : (bs : List Buffer) → map (λ b. b.size) (map buffer_without_line bs)
-    ≡ map (λ b. b.size) bs
-same_sizes [] = refl
-same_sizes (b ∷ bs) = ap (λ (zs : List ℕ). b.size ∷ zs) (same_sizes bs)
-
-batch_without : (job : Job) → batch_commands (job_without_lines job)
-    ≡ map command_without_line (batch_commands job)
-batch_without (Host h) = refl
-batch_without (BatchJob b) = refl
-
-same_counts : (jobs : List Job) → map commands_in (map job_without_lines jobs)
-    ≡ map commands_in jobs
-same_counts [] = refl
-same_counts (Host h ∷ jobs) = ap (λ (zs : List ℕ). 0 ∷ zs) (same_counts jobs)
-same_counts (BatchJob b ∷ jobs) =
-    ap (λ (n : ℕ). n ∷ map commands_in (map job_without_lines jobs))
-    (length-map b.commands command_without_line)
-    ∙ ap (λ (zs : List ℕ). length b.commands ∷ zs) (same_counts jobs)
-
-same_length : {X Y : Type 0} (f : X → Y) (xs ys : List X) → map f xs ≡ map f ys →
-    length xs ≡ length ys
-same_length f xs ys e = sym (length-map xs f) ∙ (ap length e ∙ length-map ys f)
-
-same_fits : (sizes : List ℕ) (x y : CommandLine) → command_without_line x ≡ command_without_line y →
-    Fits sizes x.command → Fits sizes y.command
-same_fits sizes x y e f = subst (λ (z : CommandLine). Fits sizes z.command) e f
-
-module _ (a s : Script) (same : SameButLines a s) where
-  sizes : sizes_of a ≡ sizes_of s
-  sizes = sym (same_sizes a.buffers) ∙ (ap sizes_of same ∙ same_sizes s.buffers)
-
-  limits : KeepsLimits a → KeepsLimits s
-  limits k =
-      let b = k.buffers in
-      let c = k.semaphores in
-      let d = k.queues in
-      let e = k.jobs in
-      let lb = same_length buffer_without_line a.buffers s.buffers
-      (ap (λ (z : Script). z.buffers) same) in
-      let lc = same_length semaphore_without_line a.semaphores s.semaphores
-      (ap (λ (z : Script). z.semaphores) same) in
-      let ld = same_length queue_without_line a.queues s.queues
-      (ap (λ (z : Script). z.queues) same) in
-      let le = same_length job_without_lines a.jobs s.jobs (ap (λ (z : Script). z.jobs) same) in
-      let counts : map commands_in a.jobs ≡ map commands_in s.jobs = sym (same_counts a.jobs)
-      ∙ (ap (λ (z : Script). map commands_in z.jobs) same ∙ same_counts s.jobs) in
-      record {
-        buffers = omega arith;
-        bytes = subst (λ (zs : List ℕ). sum zs ≤ 1048576) sizes k.bytes;
-        semaphores = omega arith;
-        queues = omega arith;
-        jobs = omega arith;
-        commands = subst (λ (zs : List ℕ). sum zs ≤ 8192) counts k.commands;
-      }
-
-  commands : IsValid a → (j k : ℕ) (job : Job) (x : CommandLine) → slice_get s.jobs j ≡ Some job →
-      slice_get (batch_commands job) k ≡ Some x → Fits (sizes_of s) x.command
-  commands v j k job x e f =
-      let without : slice_get (map job_without_lines s.jobs) j ≡ Some (job_without_lines job) =
-      get-map job_without_lines s.jobs j ∙ ap (option_map job_without_lines) e in
-      let of_a : slice_get (map job_without_lines a.jobs) j ≡ Some (job_without_lines job) =
-      ap (λ (z : Script). slice_get z.jobs j) same ∙ without in
-      let y = some_of job_without_lines (slice_get a.jobs j) (job_without_lines job)
-      (sym (get-map job_without_lines a.jobs j) ∙ of_a) in
-      let lines : map command_without_line (batch_commands y.0)
-      ≡ map command_without_line (batch_commands job) =
-      sym (batch_without y.0) ∙ (ap batch_commands y.2 ∙ batch_without job) in
-      let of_x : slice_get (map command_without_line (batch_commands y.0)) k
-      ≡ Some (command_without_line x) =
-      ap (λ (zs : List CommandLine). slice_get zs k) lines
-      ∙ (get-map command_without_line (batch_commands job) k
-      ∙ ap (option_map command_without_line) f) in
-      let z = some_of command_without_line (slice_get (batch_commands y.0) k)
-      (command_without_line x) (sym (get-map command_without_line (batch_commands y.0) k)
-      ∙ of_x) in
-      subst (λ (ns : List ℕ). Fits ns x.command) sizes
-      (same_fits (sizes_of a) z.0 x z.2 (v.commands j k y.0 z.0 y.1 z.1))
-
-  -- What they declare is the same.
-  kinds_same : (t : ℕ) → kind_of a t ≡ kind_of s t
-  kinds_same t = by_lists a s same
-    where
-      without : (x : Script) → kind_of x t
-          ≡ option_map (λ y. y.kind) (slice_get (map semaphore_without_line x.semaphores) t)
-      without x =
-          by_item (slice_get x.semaphores t)
-          ∙ ap (option_map (λ y. y.kind)) (sym (get-map semaphore_without_line x.semaphores t))
-        where
-          by_item : (o : Option Semaphore) → option_map (λ y. y.kind) o
-              ≡ option_map (λ y. y.kind) (option_map semaphore_without_line o)
-          by_item None = refl
-          by_item (Some y) = refl
-
-      by_lists : (a s : Script) → SameButLines a s → kind_of a t ≡ kind_of s t
-      by_lists a s same =
-          without a
-          ∙ (ap (λ (z : Script). option_map (λ y. y.kind) (slice_get z.semaphores t)) same
-          ∙ sym (without s))
-
-  modes_same : (q : ℕ) → is_immediate_queue a q ≡ is_immediate_queue s q
-  modes_same q =
-      without a
-      ∙ (ap (λ (z : Script). option_map_or (λ y. is_immediate y.mode) (slice_get z.queues q) false)
-      same
-      ∙ sym (without s))
-    where
-      without : (x : Script) → is_immediate_queue x q
-          ≡ option_map_or (λ y. is_immediate y.mode)
-          (slice_get (map queue_without_line x.queues) q) false
-      without x =
-          by_item (slice_get x.queues q)
-          ∙ ap (λ (o : Option Queue). option_map_or (λ y. is_immediate y.mode) o false)
-          (sym (get-map queue_without_line x.queues q))
-        where
-          by_item : (o : Option Queue) → option_map_or (λ y. is_immediate y.mode) o false
-              ≡ option_map_or (λ y. is_immediate y.mode) (option_map queue_without_line o) false
-          by_item None = refl
-          by_item (Some y) = refl
-
-  semaphores_same : length a.semaphores ≡ length s.semaphores
-  semaphores_same =
-      same_length semaphore_without_line a.semaphores s.semaphores
-      (ap (λ (z : Script). z.semaphores) same)
-
-  queues_same : length a.queues ≡ length s.queues
-  queues_same =
-      same_length queue_without_line a.queues s.queues (ap (λ (z : Script). z.queues) same)
-
-  mark_same : (m : Mark) → IsValidMark a m → IsValidMark s (mark_without_line m)
-  mark_same m v =
-      let k = kinds_same m.semaphore in
-      let l = v.exists in
-      let n = semaphores_same in
-      record {
-        exists = omega arith;
-        kind =
-            ap (λ (o : Option SemaphoreKind). option_map_or is_fence o false) (sym k) ∙ v.kind;
-        valueless =
-            λ h. v.valueless
-            (ap (λ (o : Option SemaphoreKind). option_map_or is_timeline o false) k ∙ h);
-      }
-
-  mark_with : (m : Mark) → IsValidMark s (mark_without_line m) → IsValidMark s m
-  mark_with m v = record { exists = v.exists; kind = v.kind; valueless = v.valueless }
-
-  fence_same : (m : Mark) → IsValidFence a m → IsValidFence s (mark_without_line m)
-  fence_same m v =
-      let k = kinds_same m.semaphore in
-      let l = v.exists in
-      let n = semaphores_same in
-      record {
-        exists = omega arith;
-        kind =
-            ap (λ (o : Option SemaphoreKind). option_map_or is_fence o false) (sym k) ∙ v.kind;
-        valueless = v.valueless;
-      }
-
-  -- marks that are the same but for their lines
-  marks_same : (xs ys : List Mark) → map mark_without_line xs ≡ map mark_without_line ys →
-      All (IsValidMark a) xs → All (IsValidMark s) ys
-  marks_same xs ys e v =
-      all_so (λ m. IsValidMark s (mark_without_line m)) (IsValidMark s) ys mark_with
-      (all_unmapped (IsValidMark s) mark_without_line ys
-      (subst (All (IsValidMark s)) e
-      (All-map (IsValidMark s) mark_without_line xs
-      (all_so (IsValidMark a) (λ m. IsValidMark s (mark_without_line m)) xs mark_same v))))
-
-  -- a fence that is the same but for its line
-  fences_same : (o : Option Mark) (m : Mark) → option_map mark_without_line o
-      ≡ Some (mark_without_line m) →
-      ((x : Mark) → o ≡ Some x → IsValidFence a x) → IsValidFence s m
-  fences_same None m e v = absurd (let c : None ≡ Some (mark_without_line m) = e in cc)
-  fences_same (Some x) m e v =
-      let same : mark_without_line x ≡ mark_without_line m = cc in
-      let f = subst (IsValidFence s) same (fence_same x (v x refl)) in
-      record { exists = f.exists; kind = f.kind; valueless = f.valueless }
-
-  batch_same : (b c : Batch) → job_without_lines (BatchJob c) ≡ job_without_lines (BatchJob b) →
-      IsValidBatch a c → IsValidBatch s b
-  batch_same b c e v =
-      let q : c.queue ≡ b.queue = ap (λ (j : Job). (batch_or b j).queue) e in
-      let w : map mark_without_line c.waits ≡ map mark_without_line b.waits =
-      ap (λ (j : Job). (batch_or b j).waits) e in
-      let g : map mark_without_line c.signals ≡ map mark_without_line b.signals =
-      ap (λ (j : Job). (batch_or b j).signals) e in
-      let f : option_map mark_without_line c.fence ≡ option_map mark_without_line b.fence =
-      ap (λ (j : Job). (batch_or b j).fence) e in
-      let lw = same_length mark_without_line c.waits b.waits w in
-      let lg = same_length mark_without_line c.signals b.signals g in
-      let vq = v.queue in
-      let vw = v.few_waits in
-      let vg = v.few_signals in
-      let n = queues_same in
-      record {
-        queue = omega arith;
-        waits = marks_same c.waits b.waits w v.waits;
-        signals = marks_same c.signals b.signals g v.signals;
-        fence =
-            λ m h. fences_same c.fence m (f ∙ ap (option_map mark_without_line) h) v.fence;
-        few_waits = omega arith;
-        few_signals = omega arith;
-      }
-
-  pub same_batches : HasValidBatches a → HasValidBatches s
-  same_batches v j b e =
-      let without : slice_get (map job_without_lines s.jobs) j
-      ≡ Some (job_without_lines (BatchJob b)) =
-      get-map job_without_lines s.jobs j ∙ ap (option_map job_without_lines) e in
-      let of_a : slice_get (map job_without_lines a.jobs) j
-      ≡ Some (job_without_lines (BatchJob b)) =
-      ap (λ (z : Script). slice_get z.jobs j) same ∙ without in
-      let y = some_of job_without_lines (slice_get a.jobs j) (job_without_lines (BatchJob b))
-      (sym (get-map job_without_lines a.jobs j) ∙ of_a) in
-      by_job y.0 y.1 y.2
-    where
-      by_job : (y : Job) → slice_get a.jobs j ≡ Some y →
-          job_without_lines y ≡ job_without_lines (BatchJob b) → IsValidBatch s b
-      by_job (Host h) i f = absurd (cc)
-      by_job (BatchJob c) i f = batch_same b c f (v j c i)
-
-  -- batches as a whole
-  whole_here : (jobs : List Job) → AreWholeBatches a jobs →
-      AreWholeBatches s (map job_without_lines jobs)
-  whole_here [] w = tt
-  whole_here (Host h ∷ jobs) w = absurd w
-  whole_here (BatchJob b ∷ jobs) w = (
-    record {
-      from_start = All-map (λ m. m.from ≡ 1) mark_without_line b.waits w.0.from_start;
-      unheld = λ h. ap (map mark_without_line) (w.0.unheld (modes_same b.queue ∙ h));
-    },
-    whole_here jobs w.1,
-  )
-
-  whole_there : (jobs : List Job) → AreWholeBatches s (map job_without_lines jobs) →
-      AreWholeBatches s jobs
-  whole_there [] w = tt
-  whole_there (Host h ∷ jobs) w = absurd w
-  whole_there (BatchJob b ∷ jobs) w = (
-    record {
-      from_start = all_unmapped (λ m. m.from ≡ 1) mark_without_line b.waits w.0.from_start;
-      unheld = λ h. map_empty mark_without_line b.waits (w.0.unheld h);
-    },
-    whole_there jobs w.1,
-  )
-
-  pub same_of_batches : IsOfBatches a → IsOfBatches s
-  same_of_batches h =
-      record {
-        version = sym (ap (λ (z : Script). z.version) same) ∙ h.version;
-        batches =
-            whole_there s.jobs
-            (subst (λ (z : Script). AreWholeBatches s z.jobs) same
-            (whole_here a.jobs h.batches));
-        unscheduled = sym (ap (λ (z : Script). z.scheduled) same) ∙ h.unscheduled;
-        turns =
-            map_empty turn_without_line s.turns
-            (sym (ap (λ (z : Script). z.turns) same) ∙ ap (map turn_without_line) h.turns);
-      }
-
-  -- Of scripts that are the same up to line numbers one is valid where the other is.
-  pub same_valid : HasValidBatches a → IsOfBatches a → IsValid a → IsValid s
-  same_valid b w v =
-      record {
-        signals = valid_signals s (same_batches b) (same_of_batches w);
-        commands = commands v;
-        limits = limits v.limits;
-      }
+use Rattle.vq_reading_laws.proofs.WithoutTurns.{valid_without, batches_without, steps_without}
 
 module _ (s : Script) (i : IsScript s) where
-  -- The batches of a script that can be written name what exists, ..
+  -- The batches of a script that can be written, and its host steps, name what exists, ..
   pub written_batches : HasValidBatches s
   written_batches = same_batches i.written s i.same (text_batches i.text i.form i.written i.stands)
 
-  -- .. it is one of batches alone, ..
-  pub written_of_batches : IsOfBatches s
-  written_of_batches =
-      same_of_batches i.written s i.same (text_of_batches i.text i.form i.written i.stands)
+  pub written_steps : HasValidSteps s
+  written_steps = same_steps i.written s i.same (text_steps i.text i.form i.written i.stands)
 
   -- .. and it is valid.
   pub written_valid : IsValid s
   written_valid =
       same_valid i.written s i.same (text_batches i.text i.form i.written i.stands)
-      (text_of_batches i.text i.form i.written i.stands)
+      (text_steps i.text i.form i.written i.stands)
       (text_valid i.text i.form i.written i.stands)
 
+  -- So far no such script has a host step, a wait in a batch of an immediate queue, a wait that
+  -- holds back a part of a batch, a schedule, or a version.
+  pub written_hostless : HasNoHostStep s
+  written_hostless =
+      same_hostless i.written s i.same (text_hostless i.text i.form i.written i.stands)
+
+  pub written_unwaited : HasNoImmediateWait s
+  written_unwaited =
+      same_unwaited i.written s i.same (text_unwaited i.text i.form i.written i.stands)
+
+  pub written_whole : HasWholeWaits s
+  written_whole = same_whole i.written s i.same (text_whole i.text i.form i.written i.stands)
+
+  pub written_unscheduled : IsUnscheduled s
+  written_unscheduled =
+      same_unscheduled i.written s i.same (text_unscheduled i.text i.form i.written i.stands)
+
+  pub written_version : IsOfFirstVersion s
+  written_version = same_version i.written s i.same (text_version i.text i.form i.written i.stands)
+
 module _ (s : Script) (i : IsRead s) where
-  -- A script that was read can be written; it keeps all this, ..
-  pub read_written : IsScript s
-  read_written =
-      record { text = i.text; form = i.form; written = s; stands = i.stands; same = refl }
+  abbrev before_moving : Script
+  before_moving = record s { turns = i.turns }
 
+  -- A script that was read keeps all this, also where its turns were moved out of it, ..
   pub read_batches : HasValidBatches s
-  read_batches = text_batches i.text i.form s i.stands
-
-  pub read_of_batches : IsOfBatches s
-  read_of_batches = text_of_batches i.text i.form s i.stands
+  read_batches =
+      batches_without s i.turns (text_batches i.text i.form before_moving i.stands)
 
   pub read_steps : HasValidSteps s
-  read_steps = whole_steps s read_of_batches.batches
+  read_steps = steps_without s i.turns (text_steps i.text i.form before_moving i.stands)
 
   pub read_valid : IsValid s
-  read_valid = text_valid i.text i.form s i.stands
+  read_valid = valid_without s i.turns (text_valid i.text i.form before_moving i.stands)
+
+  pub read_hostless : HasNoHostStep s
+  read_hostless = text_hostless i.text i.form before_moving i.stands
+
+  pub read_unwaited : HasNoImmediateWait s
+  read_unwaited = text_unwaited i.text i.form before_moving i.stands
+
+  pub read_whole : HasWholeWaits s
+  read_whole = text_whole i.text i.form before_moving i.stands
 
   -- .. and its lines rise.
   pub read_lines_rise : HasRisingLines s
-  read_lines_rise = text_lines_rise i.text i.form s i.stands
+  read_lines_rise = text_lines_rise i.text i.form before_moving i.stands
+
+  -- So far it has no turns that could be moved, so it can be written.
+  pub read_written : IsScript s
+  read_written =
+      let none : i.turns ≡ [] = (text_unscheduled i.text i.form before_moving i.stands).turns in
+      let own : s.turns ≡ i.turns =
+      elim i.kept_or_moved [ inl kept ↦ kept | inr moved ↦ moved ∙ sym none ] in
+      let P : List Turn → Type 0 = λ turns. StandsFor i.text i.form (record s { turns = turns }) in
+      record {
+        text = i.text;
+        form = i.form;
+        written = s;
+        stands = subst P (sym own) i.stands;
+        same = refl;
+      }

@@ -4,7 +4,8 @@ ghost use Rattle.std.specs.Prelude.{◌≤◌, ℕ, List, length, ◌≡◌, Non
 ghost use Rattle.vq_model.specs.Text.{lines_of};
 ghost use Rattle.vq_model.specs.declared.script.Script.{Script};
 ghost use Rattle.vq_model.specs.SameScript.{IsScript, IsRead};
-ghost use Rattle.vq_model.specs.ValidScripts.{IsValid, HasValidBatches, IsOfBatches, HasRisingLines};
+ghost use Rattle.vq_model.specs.ValidScripts.{IsValid, HasValidBatches, HasValidSteps, HasRisingLines};
+ghost use Rattle.vq_model.specs.Built.{HasNoHostStep, HasNoImmediateWait, HasWholeWaits, IsUnscheduled, IsOfFirstVersion};
 ghost use Rattle.vq_model.specs.declared.statement.Form.{Form};
 ghost use Rattle.vq_model.specs.declared.statement.Line.{Line};
 ghost use Rattle.vq_model.specs.declared.statement.Statement.{Statement};
@@ -19,17 +20,23 @@ pub fn lines_are_few()
 {}
 
 /// A script that can be written is valid: its signals name semaphores that exist, its commands fit
-/// their buffers, it stays within the limits, and its batches name what exists, of the kinds that
-/// their places need.
+/// their buffers, it stays within the limits, and its batches and host steps name what exists, of the
+/// kinds that their places need.
 pub fn scripts_are_valid()
     ensures valid { (s : Script) → IsScript s → IsValid s }
     ensures batches { (s : Script) → IsScript s → HasValidBatches s }
+    ensures steps { (s : Script) → IsScript s → HasValidSteps s }
 {}
 
-/// A script that can be written is one of batches alone, of which those of immediate queues wait for
-/// nothing. So it is as long as no further form of lines is built.
-pub fn scripts_are_of_batches()
-    ensures { (s : Script) → IsScript s → IsOfBatches s }
+/// What no script that can be written has so far: a host step, a wait in a batch of an immediate queue,
+/// a wait that holds back a part of a batch only, a schedule, a version. Each of these falls alone, with
+/// the form of lines that brings it.
+pub fn scripts_are_of_built_forms()
+    ensures hostless { (s : Script) → IsScript s → HasNoHostStep s }
+    ensures unwaited { (s : Script) → IsScript s → HasNoImmediateWait s }
+    ensures whole { (s : Script) → IsScript s → HasWholeWaits s }
+    ensures unscheduled { (s : Script) → IsScript s → IsUnscheduled s }
+    ensures version { (s : Script) → IsScript s → IsOfFirstVersion s }
 {}
 
 /// The lines of a script that was read rise in its order. It can be written, so it is valid too.

@@ -1,5 +1,5 @@
 -- A text, its script and its plan: the premises of the laws on plans of scripts are met.
-use Rattle.std.proofs.Common.{List, [], ◌∷◌, refl, Ok, ◌≡◌, ℕ, zero, suc, ◌<◌, Option, Some, None, IfSome, ap, ◌∙◌, subst, arith}
+use Rattle.std.proofs.Common.{List, [], ◌∷◌, refl, inl, Ok, ◌≡◌, ℕ, zero, suc, ◌<◌, Option, Some, None, IfSome, ap, ◌∙◌, subst, arith}
 use Rattle.vq_model.specs.declared.statement.Line.{Line}
 use Rattle.vq_model.specs.declared.statement.Statement.TheVariants.{DeclareBuffer, DeclareQueue, BeginBatch, AddCommand, EndBatch}
 use Rattle.vq_model.specs.declared.script.Mode.TheVariants.{Immediate}
@@ -34,7 +34,7 @@ script = script_of lines
 
 is_read : IsRead script
 is_read =
-    record { text = codes "buffer X 8\nqueue Q immediate\nsubmit Q\nfill X 0 8 0x01020304\nend\n"; form = Plain; stands = refl }
+    record { text = codes "buffer X 8\nqueue Q immediate\nsubmit Q\nfill X 0 8 0x01020304\nend\n"; form = Plain; turns = []; stands = refl; kept_or_moved = inl refl }
 
 lowers : Lowers script (Ok (plan_of script))
 lowers = (refl, refl)

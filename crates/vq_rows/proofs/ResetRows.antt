@@ -63,7 +63,7 @@ two_steps : HasValidSteps two_namings
 two_steps zero h e = absurd (let c : Some (BatchJob (naming 3)) ≡ Some (Host h) = e in cc)
 two_steps (suc zero) h e =
     let same : record { line = 6; step = FenceWait 0 } ≡ h = cc in
-    subst (λ (x : HostLine). IsValidStep two_namings x.step) same tt
+    subst (λ (x : HostLine). IsValidStep two_namings x.step) same refl
 two_steps (suc (suc zero)) h e =
     let same : record { line = 7; step = FenceReset 0 } ≡ h = cc in
     subst (λ (x : HostLine). IsValidStep two_namings x.step) same refl

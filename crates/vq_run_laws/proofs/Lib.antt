@@ -12,7 +12,9 @@ mod PairLists
 mod Payloads
 mod PlacesReached
 mod ProgressRuns
+mod RunFacts
 mod SinceStart
 mod SlowSteps
 mod StateFacts
 mod Swaps
+mod Unreached

@@ -1,4 +1,4 @@
-use Rattle.vq_reading_laws.proofs.WrittenScripts.{written_valid, written_batches}
+use Rattle.vq_reading_laws.proofs.WrittenScripts.{written_valid, written_batches, written_steps}
 use Rattle.vq_reading_laws.proofs.laws.scripts_are_valid.Goals as goal
 
 pub returns-clause-valid : goal.returns-clause-valid
@@ -6,3 +6,6 @@ returns-clause-valid c = written_valid
 
 pub returns-clause-batches : goal.returns-clause-batches
 returns-clause-batches c = written_batches
+
+pub returns-clause-steps : goal.returns-clause-steps
+returns-clause-steps c = written_steps

@@ -1,8 +1,11 @@
 use Rattle.vq_order_laws.proofs.Cited.{plan_has_sure_order}
 use Rattle.vq_plan_laws.proofs.Cited.{plan_hosts, plan_well_formed}
-use Rattle.vq_points.specs.Points.{opening_points}
-use Rattle.vq_run_laws.proofs.HistoryRuns.{history_leads, follows_opening}
+use Rattle.vq_run_laws.proofs.RunFacts.{histories_are_runs}
 use Rattle.vq_run_laws.proofs.laws.history_is_run.Goals as goal
 
-pub returns : goal.returns
-returns c p w l events h = (history_leads p (plan_well_formed p w) (plan_hosts p w) (plan_has_sure_order p w l).chains (opening_points p) events (follows_opening p) h).run
+pub returns-clause-ordered : goal.returns-clause-ordered
+returns-clause-ordered c p w h o = histories_are_runs p w o h
+
+pub returns-clause-lawful : goal.returns-clause-lawful
+returns-clause-lawful c p i l =
+    histories_are_runs p (plan_well_formed p i) (plan_has_sure_order p i l) (plan_hosts p i)

@@ -3,6 +3,9 @@ use Rattle.vq_plan_laws.proofs.Cited.{plan_hosts, plan_well_formed}
 use Rattle.vq_run_laws.proofs.OutputRuns.{run_gives_output}
 use Rattle.vq_run_laws.proofs.laws.run_gives_output.Goals as goal
 
-pub returns : goal.returns
-returns c p i lawful steps run done =
-    run_gives_output p (plan_well_formed p i) (plan_hosts p i) (plan_has_sure_order p i lawful) steps run done
+pub returns-clause-ordered : goal.returns-clause-ordered
+returns-clause-ordered c = run_gives_output
+
+pub returns-clause-lawful : goal.returns-clause-lawful
+returns-clause-lawful c p i l =
+    run_gives_output p (plan_well_formed p i) (plan_hosts p i) (plan_has_sure_order p i l)

@@ -1,0 +1,33 @@
+-- What scripts of the forms that are built so far don't have. Each of these falls alone, with the form
+-- that it leaves out, so each law names only those that it rests on. This project's own.
+use Rattle.std.specs.Prelude.{ℕ, ◌≡◌, true, false, [], Some, All}
+use Rattle.std.specs.List.{slice_get}
+use Rattle.vq_model.specs.declared.script.Script.{Script}
+use Rattle.vq_model.specs.declared.script.Batch.{Batch}
+use Rattle.vq_model.specs.declared.script.Job.{Job}
+use Rattle.vq_model.specs.declared.script.Job.TheVariants.{Host, Batch as BatchJob}
+use Rattle.vq_model.specs.declared.script.HostLine.{HostLine}
+use Rattle.vq_model.specs.ValidScripts.{is_immediate_queue}
+
+-- no job is a step of the host
+abbrev pub HasNoHostStep : Script → Type 0
+HasNoHostStep s = (j : ℕ) (h : HostLine) → slice_get s.jobs j ≡ Some (Host h) → ⊥
+
+-- no batch of an immediate queue waits
+abbrev pub HasNoImmediateWait : Script → Type 0
+HasNoImmediateWait s = (j : ℕ) (b : Batch) → slice_get s.jobs j ≡ Some (BatchJob b) →
+    is_immediate_queue s b.queue ≡ true → b.waits ≡ []
+
+-- each wait holds back the whole of its batch
+abbrev pub HasWholeWaits : Script → Type 0
+HasWholeWaits s = (j : ℕ) (b : Batch) → slice_get s.jobs j ≡ Some (BatchJob b) →
+    All (λ m. m.from ≡ 1) b.waits
+
+-- no schedule stands in it
+pub record IsUnscheduled (s : Script) : Type 0 where
+  pub unscheduled : s.scheduled ≡ false
+  pub turns : s.turns ≡ []
+
+-- it is of the first version
+abbrev pub IsOfFirstVersion : Script → Type 0
+IsOfFirstVersion s = s.version ≡ 1

@@ -1,0 +1,62 @@
+-- What a script keeps doesn't depend on the turns of its schedule.
+use Rattle.std.proofs.Common.{◌≡◌, ℕ, List, [], ◌∷◌, map}
+use Rattle.std.specs.Prelude.{All}
+use Rattle.std.proofs.lemmas.List.Elements.{All-nil}
+use Rattle.vq_model.specs.declared.script.Script.{Script}
+use Rattle.vq_model.specs.declared.script.Turn.{Turn}
+use Rattle.vq_model.specs.declared.script.Mark.{Mark}
+use Rattle.vq_model.specs.declared.script.HostStep.{HostStep}
+use Rattle.vq_model.specs.declared.script.HostStep.TheVariants.{Signal, WaitAll, WaitAny, PollAll, PollAny, Read, FenceWait, FencePoll, FenceReset, Idle}
+use Rattle.vq_model.specs.ValidScripts.{IsValid, IsValidMark, IsValidFence, IsValidBatch, IsValidStep, HasValidBatches, HasValidSteps}
+
+module _ (s : Script) (turns : List Turn) where
+  abbrev with_turns : Script
+  with_turns = record s { turns = turns }
+
+  mark : (m : Mark) → IsValidMark with_turns m → IsValidMark s m
+  mark m v = record { exists = v.exists; kind = v.kind; valueless = v.valueless }
+
+  fence : (m : Mark) → IsValidFence with_turns m → IsValidFence s m
+  fence m v = record { exists = v.exists; kind = v.kind; valueless = v.valueless }
+
+  pub batches_without : HasValidBatches with_turns → HasValidBatches s
+  batches_without v j b e =
+      let x = v j b e in
+      record {
+        queue = x.queue;
+        waits = λ i d l. mark _ (x.waits i d l);
+        signals = λ i d l. mark _ (x.signals i d l);
+        fence = λ m f. fence m (x.fence m f);
+        few_waits = x.few_waits;
+        few_signals = x.few_signals;
+      }
+
+  step : (t : HostStep) → IsValidStep with_turns t → IsValidStep s t
+  step (Signal pair) v = v
+  step (WaitAll pairs) v = v
+  step (WaitAny pairs) v = v
+  step (PollAll pairs) v = v
+  step (PollAny pairs) v = v
+  step (Read t) v = v
+  step (FenceWait f) v = v
+  step (FencePoll f) v = v
+  step (FenceReset f) v = v
+  step Idle v = tt
+
+  pub steps_without : HasValidSteps with_turns → HasValidSteps s
+  steps_without v j h e = step h.step (v j h e)
+
+  pub valid_without : IsValid with_turns → IsValid s
+  valid_without v =
+      record {
+        signals = v.signals;
+        commands = v.commands;
+        limits = record {
+          buffers = v.limits.buffers;
+          bytes = v.limits.bytes;
+          semaphores = v.limits.semaphores;
+          queues = v.limits.queues;
+          jobs = v.limits.jobs;
+          commands = v.limits.commands;
+        };
+      }
