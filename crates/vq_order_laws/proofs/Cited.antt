@@ -9,3 +9,4 @@ pub use Rattle.vq_order_laws.proofs.ResetChains.{counted_rises}
 pub use Rattle.vq_order_laws.proofs.RowLaws.{op_chain}
 pub use Rattle.vq_order_laws.proofs.SlowOrder.{Earlier, ReadyEach, before_earlier, is_of_job, slow_adds, slow_distinct, slow_has}
 pub use Rattle.vq_order_laws.proofs.SlowStops.{left_unreachable, left_waits}
+pub use Rattle.vq_order_laws.proofs.RisingChains.{rising_at}

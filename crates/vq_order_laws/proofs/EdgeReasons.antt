@@ -122,12 +122,27 @@ module _ (p : Plan) (i j : ℕ) where
       let m = has_mapped_need (resolve p) (filter (is_above p) (needs_at p j k)) b.0 n e b.1 resolves in
       ap (λ zs. has zs e) (cond-false (waits_for_any p j) [] (filter_map (resolve p) (filter (is_above p) (needs_at p j k))) any) ∙ m
 
+  -- what must be finished before a job, by its reason
+  pub lane_first : previous p j ≡ Some i → has (must_finish p j) i ≡ true
+  lane_first e =
+      has-append_left (option_to_list (previous p j) ++ option_to_list (host_before p j)) (idle_after p j) i
+      (has-append_left (option_to_list (previous p j)) (option_to_list (host_before p j)) i
+      (option_has (previous p j) i e))
+
+  pub host_first : host_before p j ≡ Some i → has (must_finish p j) i ≡ true
+  host_first e =
+      has-append_left (option_to_list (previous p j) ++ option_to_list (host_before p j)) (idle_after p j) i
+      (has-append_right (option_to_list (previous p j)) (option_to_list (host_before p j)) i
+      (option_has (host_before p j) i e))
+
+  pub idle_first : has (idle_after p j) i ≡ true → has (must_finish p j) i ≡ true
+  idle_first m =
+      has-append_right (option_to_list (previous p j) ++ option_to_list (host_before p j)) (idle_after p j) i m
+
   pub of_edge : (k : Place) → EdgeAt p i j k → has (edges_at p j k) i ≡ true
-  of_edge k (by_lane e) =
-      finish_edge k (has-append_left (option_to_list (previous p j) ++ option_to_list (host_before p j)) (idle_after p j) i (has-append_left (option_to_list (previous p j)) (option_to_list (host_before p j)) i (option_has (previous p j) i e)))
-  of_edge k (by_host e) =
-      finish_edge k (has-append_left (option_to_list (previous p j) ++ option_to_list (host_before p j)) (idle_after p j) i (has-append_right (option_to_list (previous p j)) (option_to_list (host_before p j)) i (option_has (host_before p j) i e)))
-  of_edge k (by_idle m) = finish_edge k (has-append_right (option_to_list (previous p j) ++ option_to_list (host_before p j)) (idle_after p j) i m)
+  of_edge k (by_lane e) = finish_edge k (lane_first e)
+  of_edge k (by_host e) = finish_edge k (host_first e)
+  of_edge k (by_idle m) = finish_edge k (idle_first m)
   of_edge k (by_need n place e any is back above resolves of_job) =
       let f = need_awaits k n place e any is back above resolves in
       has-append_right (must_finish p j) (filter_map (job_of p) (awaited_at p j k)) i (has_mapped (job_of p) (awaited_at p j k) e i f of_job)

@@ -12,8 +12,7 @@ use Rattle.vq_model.specs.Sure.{IsSure, passed_on}
 use Rattle.vq_model.specs.WellFormed.{KeepsHostOrder}
 use Rattle.vq_model.proofs.Lists.{split_at, list_all_has, has_here, has-append_left, has-append_right}
 use Rattle.vq_model.proofs.Positions.{place, place_head, place-append}
-use Rattle.vq_order_laws.proofs.SlowOrder.{slow_has, ReadyEach, slow_adds}
-use Rattle.vq_order_laws.proofs.PassedOn.{ready_at, place_in_front}
+use Rattle.vq_order_laws.proofs.SlowFronts.{finished_earlier}
 use Rattle.vq_order_laws.proofs.EdgeReasons.{finish_edge}
 use Rattle.std.specs.Option.{option_map_or, option_to_list}
 use Rattle.vq_model.specs.declared.script.Script.{Script}
@@ -27,32 +26,9 @@ use Rattle.vq_plan_laws.proofs.Cited.{HasNone, IsLast, last_cases, part_is, coun
 use Rattle.vq_model.proofs.Gets.{get-take, get-take_within, get_within}
 
 module _ (p : Plan) (reach : left_over p ≡ []) where
-  -- what must be finished before a job stands earlier in the slow run
-  pub finished_earlier : (i j : ℕ) → j < length p.jobs → has (must_finish p j) i ≡ true →
-      comes_earlier p i j ≡ true
-  finished_earlier i j l m =
-      let split = split_at (slow_order p) j (slow_has p reach j l) in
-      let adds = slow_adds p (length p.jobs) [] in
-      let ready = ready_at p [] (slow_order p) split.front split.back j
-      (subst (ReadyEach p []) (sym adds.whole) adds.each) split.whole in
-      let both = and_parts (not (has split.front j)
-      && can_start p (has split.front) (payload_after p split.front) j)
-      (are_reached p (payload_after p split.front) j AtEnd) ready in
-      let starts = and_parts (not (has split.front j))
-      (can_start p (has split.front) (payload_after p split.front) j) both.0 in
-      let parts = and_parts (list_all (has split.front) (must_finish p j))
-      (are_reached p (payload_after p split.front) j (At 1)) starts.1 in
-      let first = list_all_has (has split.front) (must_finish p j) i parts.0 m in
-      let pj = ap (λ (xs : List ℕ). place xs j) split.whole
-      ∙ place-append split.front (j ∷ split.back) j split.first in
-      let pi = ap (λ (xs : List ℕ). place xs i) split.whole in
-      let f = place_in_front split.front (j ∷ split.back) i first in
-      let z = place_head j split.back in
-      lt-ltb (place (slow_order p) i) (place (slow_order p) j) (omega arith)
-
   pub finished_hop : (i j : ℕ) → j < length p.jobs → has (must_finish p j) i ≡ true → IsHop p i j AtEnd
   finished_hop i j l m =
-      record { edge = finish_edge p i j AtEnd m; earlier = finished_earlier i j l m }
+      record { edge = finish_edge p i j AtEnd m; earlier = finished_earlier p reach i j l m }
 
   -- what is sure for a host step is sure for each later one
   module _ (hosts : KeepsHostOrder p) (exists : (j : ℕ) → is_host_step p j ≡ true → j < length p.jobs)

@@ -10,7 +10,7 @@ use Rattle.vq_model.specs.Lowering.{plan_of}
 use Rattle.vq_model.specs.LoweringFaults.{lowering_fault, IsPlan}
 use Rattle.vq_model.specs.ValidScripts.{IsValid, HasValidBatches, HasValidSteps, HasRisingLines}
 use Rattle.vq_model.specs.Checks.{IsLawful, IsUnordered, IsFenceBusyAt, NoLine, NoLines, is_timeline_chain}
-use Rattle.vq_plan_laws.proofs.Cited.{well_formed, never_busy}
+use Rattle.vq_plan_laws.proofs.Cited.{well_formed}
 use Rattle.vq_order_laws.proofs.RowLaws.{rows_order_commands, rows_order_timelines}
 use Rattle.vq_order_laws.proofs.ResetChains.{counted_rises}
 use Rattle.vq_model.specs.SlowRun.{left_over}
@@ -32,7 +32,7 @@ module _ (s : Script) (v : IsValid s) (bs : HasValidBatches s) (hs : HasValidSte
       by_kind t false e = counted_rises s v bs hs r faultless l.reachable l.ordered l.resettable t e
 
 module _ (p : Plan) (i : IsPlan p) where
-  plan_chains : left_over p ≡ [] → NoLines (IsUnordered p) → NoLine (IsFenceBusyAt p) → (t : ℕ) →
+  pub plan_chains : left_over p ≡ [] → NoLines (IsUnordered p) → NoLine (IsFenceBusyAt p) → (t : ℕ) →
       is_timeline_chain p t ≡ false → RisesFrom p (initial p t) (chain p t)
   plan_chains =
       subst
@@ -40,12 +40,6 @@ module _ (p : Plan) (i : IsPlan p) where
       is_timeline_chain q t ≡ false → RisesFrom q (initial q t) (chain q t)) (sym i.lowered)
       (counted_rises p.script (read_valid p.script i.of_script) (read_batches p.script i.of_script)
       (read_steps p.script i.of_script) (read_lines_rise p.script i.of_script) i.faultless)
-
-  -- so far no fence of a plan is reset
-  pub plan_counted : left_over p ≡ [] → NoLines (IsUnordered p) → (t : ℕ) →
-      is_timeline_chain p t ≡ false → RisesFrom p (initial p t) (chain p t)
-  plan_counted reach unordered t timeline =
-      plan_chains reach unordered (never_busy p i) t timeline
 
   pub plan_has_sure_order : IsLawful p → HasSureOrder p
   plan_has_sure_order =

@@ -17,3 +17,6 @@ mod SlowOrder
 mod SlowStops
 mod UseKinds
 mod UsesInOrder
+mod EdgesAgree
+mod SlowFronts
+mod RisingChains

@@ -1,13 +1,13 @@
 //! Laws over the order of a plan: the slow run, what happens before what, and what is sure. The
 //! functions do nothing: their contracts are the laws.
-ghost use Rattle.std.specs.Prelude.{◌≡◌, ◌++◌, ℕ, true, false, List, ◌∷◌, ◌⊎◌, [], None, ◌↔◌};
+ghost use Rattle.std.specs.Prelude.{◌≡◌, ◌<◌, ◌++◌, ℕ, length, true, false, List, ◌∷◌, ◌⊎◌, [], None, ◌↔◌};
 ghost use Rattle.vq_model.specs.Plan.{Plan, has, chain, initial, value};
 ghost use Rattle.vq_model.specs.WellFormed.{IsWellFormed};
 ghost use Rattle.vq_model.specs.SlowRun.{is_ready, slow_order, left_over};
 ghost use Rattle.vq_model.specs.Checks.{IsUnreachableAt, IsLawful, IsUnordered, IsRaceAt, NoLines, is_timeline_chain, IsFenceBusyAt, NoLine, IsFirstPlanFault};
-ghost use Rattle.vq_model.specs.Edges.{Place, edges_at, EdgeAt};
+ghost use Rattle.vq_model.specs.Edges.{Place, edges_at, edges_to, EdgeAt};
 ghost use Rattle.vq_model.specs.Sure.{IsSureAt, RisesFrom};
-ghost use Rattle.vq_model.specs.HappensBefore.{HappensBeforeAt};
+ghost use Rattle.vq_model.specs.HappensBefore.{HappensBeforeAt, comes_earlier};
 ghost use Rattle.vq_model.specs.Races.{HasNoRace, HasSureOrder};
 ghost use Rattle.vq_model.specs.LoweringFaults.{IsPlan, lowering_fault};
 ghost use Rattle.vq_model.specs.Signals.{is_timeline_at};
@@ -36,14 +36,16 @@ pub fn order_decides()
 {}
 
 /// Where no row of faults holds, conflicting commands of two jobs are ordered, and each timeline
-/// rises in a sure order. So do binary semaphores and fences, by the refusals of lowering and the
-/// row of waits that may be overtaken. So a lawful plan has all that the laws on runs need.
+/// rises in a sure order. So do binary semaphores and fences, by the refusals of lowering, the row of
+/// waits that may be overtaken and the row of busy fences. So a lawful plan has all that the laws on
+/// runs need.
 pub fn lawful_plans_have_order()
     ensures commands { (p : Plan) → NoLines (IsRaceAt p) → HasNoRace p }
     ensures timelines { (p : Plan) → IsWellFormed p → NoLines (IsUnordered p) →
         (t : ℕ) → is_timeline_chain p t ≡ true → RisesFrom p (initial p t) (chain p t) }
     ensures counted { (p : Plan) → IsPlan p → left_over p ≡ [] → NoLines (IsUnordered p) →
-        (t : ℕ) → is_timeline_chain p t ≡ false → RisesFrom p (initial p t) (chain p t) }
+        NoLine (IsFenceBusyAt p) → (t : ℕ) → is_timeline_chain p t ≡ false →
+        RisesFrom p (initial p t) (chain p t) }
     ensures order { (p : Plan) → IsPlan p → IsLawful p → HasSureOrder p }
 {}
 
@@ -70,4 +72,13 @@ pub fn lawful_plans_have_no_fault()
 pub fn edges_have_reasons()
     ensures { (p : Plan) → (i j : ℕ) → (k : Place) →
         (has (edges_at p j k) i ≡ true) ↔ EdgeAt p i j k }
+{}
+
+/// In a plan with a sure order, as each lawful plan of a script that was read has one, every edge leads
+/// from a job that stands earlier in the slow run.
+pub fn edges_agree_with_the_slow_run()
+    ensures ordered { (p : Plan) → IsWellFormed p → HasSureOrder p → (i j : ℕ) →
+        j < length p.jobs → has (edges_to p j) i ≡ true → comes_earlier p i j ≡ true }
+    ensures lawful { (p : Plan) → IsPlan p → IsLawful p → (i j : ℕ) →
+        j < length p.jobs → has (edges_to p j) i ≡ true → comes_earlier p i j ≡ true }
 {}

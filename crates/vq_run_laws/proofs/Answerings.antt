@@ -1,4 +1,5 @@
 -- What each state of a run keeps of the answers given so far.
+use Rattle.vq_order_laws.proofs.Cited.{rising_at}
 use Rattle.std.proofs.Common.{◌≡◌, ℕ, ◌<◌, ◌≤◌, true, false, Option, Some, is_some, option_map, ◌⊎◌, sym, ap, ◌∙◌, Bool, ◌&&◌, cond, eqb, ltb, List, [], ◌∷◌, None, refl, inl, inr, subst, arith}
 use Rattle.vq_model.specs.Plan.{Plan, has, initial, value, chain_of, question, is_host_step, is_silent, needs, asked, waits_for_any, signals_of, chain, job_of}
 use Rattle.vq_model.specs.Edges.{must_finish, At, AtEnd}
@@ -22,7 +23,6 @@ use Rattle.vq_model.proofs.Lists.{split_at, has-append_cases, has_here, has_ther
 use Rattle.vq_model.proofs.Puts.{put_here, put_there, put_cases, put_keeps}
 use Rattle.vq_model.proofs.Options.{same_some}
 use Rattle.vq_run_laws.proofs.KeptSteps.{need_made, made_below, sure_ready}
-use Rattle.vq_run_laws.proofs.NeedsMade.{rising_at}
 use Rattle.vq_plan_laws.proofs.Cited.{same_sure, needs_alike}
 use Rattle.vq_run_laws.proofs.Payloads.{front_below}
 

@@ -1,4 +1,5 @@
 -- Each step keeps what a state keeps.
+use Rattle.vq_order_laws.proofs.Cited.{rising_at}
 use Rattle.std.proofs.Common.{◌≡◌, ℕ, ◌<◌, ◌≤◌, Bool, true, false, leb, List, [], ◌∷◌, ◌++◌, Some, refl, sym, ap, ◌∙◌, ◌⊎◌, inl, inr, subst, arith}
 use Rattle.std.specs.List.{list_all, filter_map}
 use Rattle.std.proofs.lemmas.Bool.{and_parts, false≢true, cases_eq, leb-false}
@@ -12,7 +13,7 @@ use Rattle.vq_model.proofs.Lists.{has_cases, has-append_cases, has-append_left, 
 use Rattle.vq_run_laws.proofs.NextDone.{next_in, next_before}
 use Rattle.vq_model.proofs.Puts.{put_here, put_there, put_cases, put_keeps}
 use Rattle.vq_run_laws.proofs.StateFacts.{Must, RaisedTo, HasCome, by_start, by_command, by_signal, by_finish, Keeps, come_later}
-use Rattle.vq_run_laws.proofs.NeedsMade.{IsNeed, awaited_need, rising_at}
+use Rattle.vq_run_laws.proofs.NeedsMade.{IsNeed, awaited_need}
 use Rattle.vq_model.proofs.Searches.{find_splits}
 use Rattle.vq_run_laws.proofs.Swaps.{extends_push}
 use Rattle.vq_model.proofs.Options.{same_some}

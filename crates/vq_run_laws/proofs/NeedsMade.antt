@@ -53,13 +53,3 @@ awaited_need p payload j k r h a = by_test (waits_for_any p j) refl
         need_of p payload (needs_at p j k) r (sym (ap (λ zs. has zs r) (cond-false (waits_for_any p j) [] (filter_map (resolve p) (filter (is_above p) (needs_at p j k))) e)) ∙ h)
         (sym (cond-false (waits_for_any p j) (list_any (is_reached payload) (needs_at p j k)) (list_all (is_reached payload) (needs_at p j k)) e) ∙ a)
 
--- Chains
-
--- from an operation that stands in a chain on, the values rise
-rising_on : (p : Plan) (x : ℕ) (front back : List ℕ) (r : ℕ) → KeepsRising p x (front ++ r ∷ back) → KeepsRising p r back
-rising_on p x [] back r k = k.2
-rising_on p x (y ∷ front) back r k = rising_on p y front back r k.2
-
-pub rising_at : (p : Plan) (n : ℕ) (front back : List ℕ) (r : ℕ) → RisesFrom p n (front ++ r ∷ back) → KeepsRising p r back
-rising_at p n [] back r k = k.1
-rising_at p n (y ∷ front) back r k = rising_on p y front back r k.1

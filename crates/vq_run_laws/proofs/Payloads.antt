@@ -7,7 +7,7 @@ use Rattle.vq_model.proofs.Lists.{has_cases, split_at, has-append_cases}
 use Rattle.vq_model.specs.WellFormed.{IsWellFormed}
 use Rattle.vq_model.specs.Machine.{Progress, Step, Run, state_after, StartStep, ApplyStep, SignalStep, FinishStep, AnswerStep, put, with_signal, CanProgress, after_progress, State, after_step, CanStep, RunFrom, opening_state}
 use Rattle.vq_run_laws.proofs.StateFacts.{Invariant}
-use Rattle.vq_run_laws.proofs.NeedsMade.{rising_at}
+use Rattle.vq_order_laws.proofs.Cited.{rising_at}
 use Rattle.vq_run_laws.proofs.KeptSteps.{made_below}
 use Rattle.vq_run_laws.proofs.KeptRuns.{run_keeps}
 use Rattle.vq_model.proofs.Options.{same_some}
