@@ -1,6 +1,6 @@
 -- A text, read: the script that it stands for, or its first line with a fault and the first kind of
 -- that line's faults. The format is this project's own.
-use Rattle.std.specs.Prelude.{ℕ, ◌+◌, List, [], ◌∷◌, ◌++◌, Option, Some, None, Result, Ok, Err, if◌then◌else◌, ◌≡◌, true, length}
+use Rattle.std.specs.Prelude.{ℕ, ◌+◌, List, [], ◌∷◌, ◌++◌, Option, Some, None, Result, Ok, Err, if◌then◌else◌, ◌≡◌, true, false, length}
 use Rattle.std.specs.Option.{option_map_or}
 use Rattle.vq_model.specs.declared.statement.Statement.{Statement}
 use Rattle.vq_model.specs.declared.statement.Line.{Line}
@@ -47,13 +47,14 @@ read_lines form before n (line ∷ lines) =
 
 -- The whole text
 
+-- the script of lines that were read, or their fault
+abbrev pub script_or_fault : Result (List Line) (ℕ × FaultKind) → Result Script (ℕ × FaultKind)
+script_or_fault (Ok lines) = Ok (script_of lines)
+script_or_fault (Err fault) = Err fault
+
 -- The script of a text, or the first line with a fault and the first kind of that line's faults.
 abbrev pub read_script : List ℕ → Form → Result Script (ℕ × FaultKind)
-read_script text form = of_lines (read_lines form [] 1 (lines_of text))
-  where
-    of_lines : Result (List Line) (ℕ × FaultKind) → Result Script (ℕ × FaultKind)
-    of_lines (Ok lines) = Ok (script_of lines)
-    of_lines (Err fault) = Err fault
+read_script text form = script_or_fault (read_lines form [] 1 (lines_of text))
 
 -- A text stands for a script.
 abbrev pub StandsFor : List ℕ → Form → Script → Type 0
@@ -63,13 +64,19 @@ StandsFor text form script = read_script text form ≡ Ok script
 abbrev pub IsFirstFault : List ℕ → Form → ℕ → FaultKind → Type 0
 IsFirstFault text form n kind = read_script text form ≡ Err (n, kind)
 
--- The first fault, in other words
+-- Faults by their lines, without going through the text
 
--- the first lines of a text as statements, whatever follows them
-abbrev pub read_part : Form → List Line → ℕ → List (List ℕ) → Result (List Line) (ℕ × FaultKind)
-read_part form before n [] = Ok before
-read_part form before n (line ∷ lines) =
-    go_on n (λ now. read_part form now (n + 1) lines) (read_line form before n line)
+-- These lines have no fault, each after those before it; with them the statements are these.
+abbrev pub HaveNoFault : Form → List Line → ℕ → List (List ℕ) → List Line → Type 0
+HaveNoFault form before n [] statements = before ≡ statements
+HaveNoFault form before n (line ∷ lines) statements =
+    (now : List Line) × (read_line form before n line ≡ Ok now)
+    × HaveNoFault form now (n + 1) lines statements
+
+-- No line of a text has a fault, and it doesn't end too early; its statements are these.
+pub record IsFaultless (form : Form) (lines : List (List ℕ)) (statements : List Line) : Type 0 where
+  pub without : HaveNoFault form [] 1 lines statements
+  pub ended : ends_early form statements ≡ false
 
 -- the first of these lines has a fault of this kind first; where there is none, the text ends too
 -- early
@@ -86,5 +93,5 @@ pub record IsFirstFaultOf (form : Form) (before : List Line) (first : ℕ) (line
   pub parts : lines ≡ front ++ back
   pub counted : n ≡ first + length front
   pub statements : List Line
-  pub without : read_part form before first front ≡ Ok statements
+  pub without : HaveNoFault form before first front statements
   pub here : HasFaultHere form statements n back kind

@@ -1,8 +1,8 @@
 -- A bind keeps the lists of a timeline, and loses no point.
-use Rattle.std.proofs.Common.{◌≡◌, ℕ, ◌+◌, ◌<◌, [], ◌∷◌, ◌++◌, length, drop, Some, ◌≤◌, true, get_or, Option, None, ◌∙◌, ap, subst, ◌⊎◌, inl, inr, List, IsPermutation, ◌-◌, arith}
+use Rattle.std.proofs.Common.{◌≡◌, ℕ, ◌+◌, ◌<◌, [], ◌∷◌, ◌++◌, length, drop, Some, ◌≤◌, true, get_or, Option, None, ◌∙◌, ap, subst, ◌⊎◌, inl, inr, List, IsPermutation, ◌-◌, arith, sym}
 use Rattle.std.specs.Prelude.{slice_range}
-use Rattle.vq_points.specs.Timeline.{Timeline, KeepsLists, taken, CanBind, is_next, all_points, after_bind, indexes, entries_from}
-use Rattle.std.proofs.lemmas.Bool.{cases_lt}
+use Rattle.vq_points.specs.Timeline.{Timeline, KeepsLists, taken, CanBind, is_next, point_at, all_points, after_bind, indexes, entries_from}
+use Rattle.std.proofs.lemmas.Bool.{cases_lt, cases_eq}
 use Rattle.std.proofs.lemmas.List.{drop_more, get_or_past}
 use Rattle.vq_points.proofs.TimelineLists.{same_of_test, IsMoved, moved}
 use Rattle.vq_points.proofs.HeldPoints.{range_push, held, held_append, all_held, entries_push, range_count}
@@ -66,6 +66,7 @@ bind_keeps t index point k can next =
       one_each = k.one_each;
       in_order = omega arith;
       within = omega arith;
+      had = λ j l e. at j l e (cases_eq j t.bound);
       between =
           ap (λ (xs : List (Option ℕ)). indexes (entries_from t.completed xs)) b.more
           ∙ entries_push t.completed part point
@@ -77,3 +78,11 @@ bind_keeps t index point k can next =
       all = length_permutation (all_points t) (all_points (after_bind t)) moves.same ∙ k.all;
       few = k.few;
     }
+  where
+    at : (j : ℕ) → j < t.bound + 1 → point_at t j ≡ None → (j ≡ t.bound) ⊎ (j ≡ t.bound → ⊥) → ⊥
+    at j l none (inl e) =
+        let here : j ≡ index = e ∙ sym (same_of_test index t.bound next) in
+        let taken = can.taken in
+        let same = ap (point_at t) here in
+        cc
+    at j l none (inr n) = k.had j (omega (arith, n)) none

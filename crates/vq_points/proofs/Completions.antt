@@ -80,6 +80,7 @@ least_keeps t x k least some =
       one_each = k.one_each;
       in_order = omega arith;
       within = k.within;
+      had = k.had;
       between = between;
       completion = rising_push (last_carrier t) (last_carrier (complete_from t (Some x))) x.point (t.completed + 1) 0 t.waiting absent others below last (omega arith) k.completion;
       distinct = moves.distinct;

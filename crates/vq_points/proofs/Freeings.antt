@@ -37,6 +37,7 @@ free_keeps t point k can =
       one_each = k.one_each;
       in_order = k.in_order;
       within = k.within;
+      had = k.had;
       between = k.between;
       completion =
           subst (AreRisingFrom 0) (sym (ap (map f) r.left ∙ map-append f r.front r.back))

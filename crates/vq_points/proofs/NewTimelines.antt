@@ -14,6 +14,7 @@ new_keeps initial values h =
       one_each = length-replicate (length values) None;
       in_order = omega arith;
       within = omega arith;
+      had = λ k l. absurd (omega arith);
       between = refl;
       completion = tt;
       distinct = subst AreDistinct (sym none) tt;

@@ -1,9 +1,10 @@
 -- A take keeps the lists of a timeline, and adds no point but a fresh one.
-use Rattle.std.proofs.Common.{ℕ, List, set, Some, ◌≡◌, ◌∷◌, ◌++◌, drop, ◌+◌, ◌-◌, get_or, Option, None, ◌∙◌, ap, arith, [], refl, IsPermutation, ◌≤◌, length, map, sym, subst}
-use Rattle.vq_points.specs.Timeline.{Timeline, all_points, KeepsLists, CanTake, fresh_points, take_from, after_take, indexes, entries_from, AreDistinct, AreRisingFrom, last_from}
+use Rattle.std.proofs.Common.{ℕ, List, set, Some, ◌≡◌, ◌∷◌, ◌++◌, drop, ◌+◌, ◌-◌, get_or, Option, None, ◌∙◌, ap, arith, [], refl, inl, inr, IsPermutation, ◌≤◌, length, map, sym, subst}
+use Rattle.std.proofs.lemmas.Bool.{cases_lt}
+use Rattle.vq_points.specs.Timeline.{Timeline, all_points, KeepsLists, CanTake, point_at, fresh_points, take_from, after_take, indexes, entries_from, AreDistinct, AreRisingFrom, last_from}
 use Rattle.std.specs.Prelude.{slice_range}
 use Rattle.vq_points.proofs.HeldPoints.{held, all_held, IsPut, put_at, range_same, drop_set, held_count}
-use Rattle.std.proofs.lemmas.List.{length-drop, get_or-drop, length-set, take-set-le, length-append, length-take}
+use Rattle.std.proofs.lemmas.List.{get_or-set_other, length-drop, get_or-drop, length-set, take-set-le, length-append, length-take}
 use Rattle.vq_points.proofs.PartedLists.{parted, parted_at}
 use Rattle.vq_points.proofs.TimelineLists.{IsMoved, moved}
 use Rattle.vq_points.proofs.Carriers.{waiting_count}
@@ -22,6 +23,13 @@ record IsGiven (t : Timeline) (index p : ℕ) : Type 0 where
   before : (free : List ℕ) → free ++ held (drop t.bound t.points) ++ held (slice_range t.points t.completed t.bound) ++ t.waiting ≡ (free ++ front) ++ back
   after : (free : List ℕ) (made : ℕ) → all_points (put t index p free made) ≡ (free ++ front) ++ p ∷ back
 
+-- an operation without a point isn't bound
+pub unbound : (t : Timeline) (index : ℕ) → KeepsLists t → point_at t index ≡ None → t.bound ≤ index
+unbound t index k none = elim (cases_lt index t.bound) [
+  | inl l ↦ absurd (k.had index l none)
+  | inr l ↦ l
+]
+
 given : (t : Timeline) (index fresh p : ℕ) → KeepsLists t → CanTake t index fresh → IsGiven t index p
 given t index fresh p k can =
     record {
@@ -30,7 +38,7 @@ given t index fresh p k can =
       before = λ free. ap (λ (xs : List ℕ). free ++ xs ++ held part ++ t.waiting) r.before ∙ parted free r.front r.back (held part) t.waiting;
       after = λ free made.
           all_held (put t index p free made)
-          ∙ (λ i. free ++ held (drop_set t.points t.bound index (Some p) can.unbound i) ++ held (range_same t.points t.completed t.bound index (Some p) k.in_order can.unbound i) ++ t.waiting)
+          ∙ (λ i. free ++ held (drop_set t.points t.bound index (Some p) (unbound t index k can.without) i) ++ held (range_same t.points t.completed t.bound index (Some p) k.in_order (unbound t index k can.without) i) ++ t.waiting)
           ∙ ap (λ (xs : List ℕ). free ++ xs ++ held part ++ t.waiting) r.after
           ∙ parted_at free r.front r.back (held part) t.waiting p;
     }
@@ -39,11 +47,11 @@ given t index fresh p k can =
     part = slice_range t.points t.completed t.bound
 
     place : t.bound + (index - t.bound) ≡ index
-    place = let l = can.unbound in omega arith
+    place = let l = (unbound t index k can.without) in omega arith
 
     r : IsPut (drop t.bound t.points) (index - t.bound) p
     r =
-        let l = can.unbound in
+        let l = (unbound t index k can.without) in
         let m = can.exists in
         let n = k.one_each in
         let left = length-drop t.bound t.points in
@@ -77,6 +85,7 @@ put_keeps t index p made free k l distinct all few =
       one_each = length-set t.points index (Some p) ∙ k.one_each;
       in_order = k.in_order;
       within = k.within;
+      had = λ j d e. k.had j d (sym (get_or-set_other t.points index j (Some p) None (λ (q : j ≡ index). (let m = q in absurd (omega arith)))) ∙ e);
       between = ap (λ (xs : List (Option ℕ)). indexes (entries_from t.completed xs)) (range_same t.points t.completed t.bound index (Some p) k.in_order l) ∙ k.between;
       completion =
           subst (λ (xs : List (Option ℕ)). AreRisingFrom 0 (map (λ w. last_from 0 0 w xs) t.waiting))
@@ -117,7 +126,7 @@ take_keeps t index fresh k can = by_free t.free refl (take_moves t index fresh k
         omega arith in
         let most : length (all_points (put t index fresh t.free (t.made + 1))) ≤ length t.values =
         subst (λ (free : List ℕ). length (all_points (put t index fresh free (t.made + 1))) ≤ length t.values) (sym e) (put_count t index fresh (t.made + 1) k) in
-        put_keeps t index fresh (t.made + 1) t.free k can.unbound moves.distinct count (omega arith)
+        put_keeps t index fresh (t.made + 1) t.free k (unbound t index k can.without) moves.distinct count (omega arith)
     by_free (point ∷ free) e moves =
-        put_keeps t index point t.made free k can.unbound moves.distinct
+        put_keeps t index point t.made free k (unbound t index k can.without) moves.distinct
         (length_permutation (all_points t) (all_points (take_from t index fresh (point ∷ free))) moves.same ∙ k.all) k.few

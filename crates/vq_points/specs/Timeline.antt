@@ -105,6 +105,8 @@ pub record KeepsLists (t : Timeline) : Type 0 where
   -- completed operations are bound, and bound ones exist
   pub in_order : t.completed ≤ t.bound
   pub within : t.bound ≤ length t.values
+  -- each bound operation has had its point, so also each completed one
+  pub had : (k : ℕ) → k < t.bound → ¬ (point_at t k ≡ None)
   -- the pending list is the operations between the two numbers, in order, each with its point
   pub between : indexes (pending t) ≡ range_with_len t.completed (t.bound - t.completed)
   -- each waiting point was carried by a completed operation, and they stand in the order of
@@ -134,7 +136,6 @@ new_timeline initial values =
 -- timeline
 pub record CanTake (t : Timeline) (index fresh : ℕ) : Type 0 where
   pub exists : index < length t.values
-  pub unbound : t.bound ≤ index
   pub without : point_at t index ≡ None
   pub unknown : IsAbsent fresh (all_points t)
 

@@ -6,7 +6,7 @@ use Rattle.vq_model.specs.declared.statement.Form.{Form}
 use Rattle.vq_model.specs.declared.statement.FaultKind.{FaultKind}
 use Rattle.vq_model.specs.declared.statement.Statement.{Statement}
 use Rattle.vq_model.specs.declared.statement.Line.{Line}
-use Rattle.vq_model.specs.Reading.{with_line, without_fault, read_statement, read_line, read_lines, go_on, StandsFor}
+use Rattle.vq_model.specs.Reading.{with_line, without_fault, read_statement, read_line, read_lines, go_on, StandsFor, script_or_fault}
 use Rattle.vq_model.specs.LineFaults.{fault_of, ends_early}
 use Rattle.vq_model.specs.Meaning.{meaning}
 use Rattle.vq_reading_laws.proofs.Meanings.{has_meaning}
@@ -68,11 +68,6 @@ kept_lines form before n (line ∷ lines) all k h =
     by_line (Ok now) e h more = more now (kept_line form before n (words_of line) now k e) h
     by_line (Err kind) e h more = absurd (cc)
 
--- the script of what was read
-abbrev of_lines : Result (List Line) (ℕ × FaultKind) → Result Script (ℕ × FaultKind)
-of_lines (Ok lines) = Ok (script_of lines)
-of_lines (Err fault) = Err fault
-
 -- A script of lines that keep all this.
 pub record IsOfLines (s : Script) : Type 0 where
   pub lines : List Line
@@ -87,7 +82,7 @@ of_text text form s h = by_result (read_lines form [] 1 (lines_of text)) refl h
     same_script a b e = cc
 
     by_result : (r : Result (List Line) (ℕ × FaultKind)) →
-        read_lines form [] 1 (lines_of text) ≡ r → of_lines r ≡ Ok s → IsOfLines s
+        read_lines form [] 1 (lines_of text) ≡ r → script_or_fault r ≡ Ok s → IsOfLines s
     by_result (Ok lines) e h =
         let k = kept_lines form [] 1 (lines_of text) lines kept_first e in
         record {

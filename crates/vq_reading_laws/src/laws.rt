@@ -1,6 +1,6 @@
 //! Laws over texts and the scripts that they stand for. The functions do nothing: their contracts are
 //! the laws.
-ghost use Rattle.std.specs.Prelude.{◌≤◌, ℕ, List, length, ◌≡◌, None, Some, Err};
+ghost use Rattle.std.specs.Prelude.{◌≤◌, ◌↔◌, ℕ, List, [], length, ◌≡◌, false, None, Some, Ok, Err};
 ghost use Rattle.vq_model.specs.Text.{lines_of};
 ghost use Rattle.vq_model.specs.declared.script.Script.{Script};
 ghost use Rattle.vq_model.specs.SameScript.{IsScript, IsRead};
@@ -9,10 +9,11 @@ ghost use Rattle.vq_model.specs.Built.{HasNoHostStep, HasNoImmediateWait, HasWho
 ghost use Rattle.vq_model.specs.declared.statement.Form.{Form};
 ghost use Rattle.vq_model.specs.declared.statement.Line.{Line};
 ghost use Rattle.vq_model.specs.declared.statement.Statement.{Statement};
-ghost use Rattle.vq_model.specs.LineFaults.{fault_of};
+ghost use Rattle.vq_model.specs.LineFaults.{fault_of, ends_early};
 ghost use Rattle.vq_model.specs.Meaning.{meaning};
 ghost use Rattle.vq_model.specs.declared.statement.FaultKind.{FaultKind};
-ghost use Rattle.vq_model.specs.Reading.{read_lines, IsFirstFaultOf};
+ghost use Rattle.vq_model.specs.Reading.{read_lines, HaveNoFault, IsFaultless, IsFirstFaultOf, StandsFor};
+ghost use Rattle.vq_model.specs.ScriptOfLines.{script_of};
 
 /// A text has no more lines than bytes.
 pub fn lines_are_few()
@@ -52,10 +53,27 @@ pub fn lines_without_fault_have_a_meaning()
         (s : Statement) × (meaning form before words ≡ Some s) }
 {}
 
-/// Reading gives the first fault: no line before it has one, and the kind is the first of its line.
+/// The first fault of some lines is what reading them gives, and nothing else: no line before it has a
+/// fault, and the kind is the first of its line. Where no line has one, and the text doesn't end too
+/// early, reading gives the statements.
 pub fn reading_gives_the_first_fault()
-    ensures { (form : Form) → (before : List Line) → (first : ℕ) → (lines : List (List ℕ)) →
-        (n : ℕ) →
-        (kind : FaultKind) → read_lines form before first lines ≡ Err (n, kind) →
-        IsFirstFaultOf form before first lines n kind }
+    ensures fault { (form : Form) → (before : List Line) → (first : ℕ) →
+        (lines : List (List ℕ)) → (n : ℕ) → (kind : FaultKind) →
+        (read_lines form before first lines ≡ Err (n, kind))
+        ↔ IsFirstFaultOf form before first lines n kind }
+    ensures none { (form : Form) → (before : List Line) → (first : ℕ) →
+        (lines : List (List ℕ)) → (statements : List Line) →
+        (read_lines form before first lines ≡ Ok statements)
+        ↔ (HaveNoFault form before first lines statements
+        × (ends_early form statements ≡ false)) }
+{}
+
+/// A text without a faulty line stands for the script of its statements, and a text that stands for a
+/// script has no faulty line.
+pub fn faultless_texts_stand_for_scripts()
+    ensures stands { (text : List ℕ) → (form : Form) → (statements : List Line) →
+        IsFaultless form (lines_of text) statements → StandsFor text form (script_of statements) }
+    ensures faultless { (text : List ℕ) → (form : Form) → (s : Script) → StandsFor text form s →
+        (statements : List Line) × IsFaultless form (lines_of text) statements
+        × (script_of statements ≡ s) }
 {}
