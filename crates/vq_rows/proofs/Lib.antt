@@ -3,6 +3,7 @@ mod FrameRows
 mod HeldRows
 mod LimitRows
 mod PlanRows
+mod QueueRows
 mod RefusedRows
 mod ResetRows
 mod Rows
@@ -10,3 +11,4 @@ mod ScriptRows
 mod TextRows
 mod TimelineRows
 mod TraceRows
+mod WindowRows
