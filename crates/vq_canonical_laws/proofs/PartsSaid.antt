@@ -11,7 +11,7 @@ use Rattle.vq_model.specs.declared.script.Queue.{Queue}
 use Rattle.vq_model.specs.declared.script.Semaphore.{Semaphore}
 use Rattle.vq_model.specs.declared.script.Turn.{Turn}
 use Rattle.vq_model.specs.declared.script.Job.{Job}
-use Rattle.vq_model.specs.Context.{section, has_begun, open_batch, last_queue, is_submit, is_host_step, is_command, some, buffers, semaphores, queues}
+use Rattle.vq_model.specs.Context.{section, has_begun, open_batch, last_queue, is_submit, is_host_step, is_command, some}
 use Rattle.vq_model.specs.ScriptOfLines.{batch_lines, jobs_of, is_schedule}
 use Rattle.vq_model.specs.Reading.{with_line}
 use Rattle.vq_model.specs.Limits.{is_job}

@@ -4,7 +4,6 @@ use Rattle.std.specs.Prelude.{ℕ, ◌≡◌, true, false, [], Some, All}
 use Rattle.std.specs.List.{slice_get}
 use Rattle.vq_model.specs.declared.script.Script.{Script}
 use Rattle.vq_model.specs.declared.script.Batch.{Batch}
-use Rattle.vq_model.specs.declared.script.Job.{Job}
 use Rattle.vq_model.specs.declared.script.Job.TheVariants.{Host, Batch as BatchJob}
 use Rattle.vq_model.specs.declared.script.HostLine.{HostLine}
 use Rattle.vq_model.specs.ValidScripts.{is_immediate_queue}

@@ -77,7 +77,3 @@ pub data EdgeAt (p : Plan) (i j : ℕ) (k : Place) : Type 0 where
       slice_get (needs p j) place ≡ Some n → holds_back n k ≡ true → initial p n.chain < n.value →
       resolver p n.chain n.value ≡ Some e → job_of p e ≡ Some i → EdgeAt p i j k
   by_idle : has (idle_after p j) i ≡ true → EdgeAt p i j k
-
--- the edges between jobs
-abbrev pub Edge : Plan → ℕ → ℕ → Type 0
-Edge p i j = EdgeAt p i j AtEnd

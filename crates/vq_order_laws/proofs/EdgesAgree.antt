@@ -1,23 +1,23 @@
 -- In a plan with a sure order every edge agrees with the slow run: it leads from a job that stands
 -- earlier there.
-use Rattle.std.proofs.Common.{ℕ, ◌≡◌, ◌≢◌, zero, suc, true, false, Bool, List, [], ◌∷◌, ◌++◌, ◌&&◌, not, refl, sym, ap, ◌∙◌, subst, ◌<◌, ◌≤◌, leb, inl, inr, arith, length, ◌⊎◌, Option, Some, None}
+use Rattle.std.proofs.Common.{ℕ, ◌≡◌, zero, suc, true, false, Bool, List, [], ◌∷◌, ◌&&◌, not, sym, ap, ◌∙◌, subst, ◌<◌, ◌≤◌, leb, inl, inr, arith, length, Option, Some, None}
 use Rattle.std.specs.List.{slice_get, list_all, list_any}
 use Rattle.std.specs.Option.{option_map_or}
 use Rattle.std.proofs.lemmas.Bool.{and_parts, cases_lt, cond-false, false≢true, lt-ltb, ltb-true, leb-true, le-leb}
 use Rattle.vq_model.specs.declared.plan.Need.{Need}
-use Rattle.vq_model.specs.Plan.{Plan, has, needs, waits_for_any, value, job_of, chain, chain_of, initial, resolver}
-use Rattle.vq_model.specs.Edges.{AtEnd, EdgeAt, by_lane, by_host, by_need, by_idle, edges_to, must_finish}
+use Rattle.vq_model.specs.Plan.{Plan, has, needs, waits_for_any, value, job_of, chain, initial, resolver}
+use Rattle.vq_model.specs.Edges.{AtEnd, EdgeAt, by_lane, by_host, by_need, by_idle, edges_to}
 use Rattle.vq_model.specs.Machine.{is_reached, are_reached, can_start}
-use Rattle.vq_model.specs.HappensBefore.{comes_earlier, IsHop}
+use Rattle.vq_model.specs.HappensBefore.{comes_earlier}
 use Rattle.vq_model.specs.Races.{HasSureOrder}
-use Rattle.vq_model.specs.SlowRun.{is_ready, payload_after, slow_order, left_over}
-use Rattle.vq_model.specs.Sure.{IsSure, IsSureAt, finished_first, waited_for, passed_on, KeepsRising, RisesFrom}
+use Rattle.vq_model.specs.SlowRun.{is_ready, payload_after, slow_order}
+use Rattle.vq_model.specs.Sure.{IsSure, finished_first, waited_for, passed_on, KeepsRising, RisesFrom}
 use Rattle.vq_model.specs.WellFormed.{IsWellFormed}
-use Rattle.vq_model.proofs.Gets.{get_within, slice_get_past}
+use Rattle.vq_model.proofs.Gets.{slice_get_past}
 use Rattle.vq_model.proofs.Lists.{has_cases, has-append_cases}
 use Rattle.vq_model.proofs.Options.{same_some}
 use Rattle.vq_model.proofs.Positions.{place}
-use Rattle.vq_model.proofs.Searches.{find_member, find_passes, Finds, find_splits}
+use Rattle.vq_model.proofs.Searches.{Finds, find_splits}
 use Rattle.vq_order_laws.proofs.EdgeReasons.{edge_of, lane_first, host_first, idle_first}
 use Rattle.vq_order_laws.proofs.RisingChains.{rising_at}
 use Rattle.vq_order_laws.proofs.SlowFronts.{finished_earlier, signaled_earlier}

@@ -1,17 +1,15 @@
 -- What is sure for a host step is sure for each later host step, and for each batch that is written
 -- after it.
-use Rattle.std.proofs.Common.{◌≡◌, ◌≢◌, ℕ, zero, suc, ◌<◌, ◌≤◌, true, not, ◌&&◌, ◌⊎◌, List, [], ◌∷◌, length, inl, inr, sym, ap, ◌∙◌, subst, arith, ◌+◌, Bool, false, ◌++◌, take, Option, Some, None, refl}
-use Rattle.std.specs.List.{list_all, slice_get}
-use Rattle.std.proofs.lemmas.Bool.{and_parts, cases_eq, lt-ltb, false≢true, cases_lt}
+use Rattle.std.proofs.Common.{◌≡◌, ◌≢◌, ℕ, zero, suc, ◌<◌, ◌≤◌, true, ◌⊎◌, [], length, inl, inr, sym, ap, ◌∙◌, subst, arith, ◌+◌, Bool, false, ◌++◌, take, Option, Some, None, refl}
+use Rattle.std.specs.List.{slice_get}
+use Rattle.std.proofs.lemmas.Bool.{cases_eq, false≢true, cases_lt}
 use Rattle.vq_model.specs.Plan.{Plan, has, is_host_step, previous, host_before, idle_after, same_lane, is_host_lane}
-use Rattle.vq_model.specs.Edges.{At, AtEnd, must_finish}
-use Rattle.vq_model.specs.Machine.{are_reached, can_start}
-use Rattle.vq_model.specs.SlowRun.{payload_after, slow_order, left_over}
-use Rattle.vq_model.specs.HappensBefore.{comes_earlier, IsHop}
+use Rattle.vq_model.specs.Edges.{AtEnd, must_finish}
+use Rattle.vq_model.specs.SlowRun.{left_over}
+use Rattle.vq_model.specs.HappensBefore.{IsHop}
 use Rattle.vq_model.specs.Sure.{IsSure, passed_on}
 use Rattle.vq_model.specs.WellFormed.{KeepsHostOrder}
-use Rattle.vq_model.proofs.Lists.{split_at, list_all_has, has_here, has-append_left, has-append_right}
-use Rattle.vq_model.proofs.Positions.{place, place_head, place-append}
+use Rattle.vq_model.proofs.Lists.{has_here, has-append_left, has-append_right}
 use Rattle.vq_order_laws.proofs.SlowFronts.{finished_earlier}
 use Rattle.vq_order_laws.proofs.EdgeReasons.{finish_edge}
 use Rattle.std.specs.Option.{option_map_or, option_to_list}

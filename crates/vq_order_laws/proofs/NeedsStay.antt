@@ -2,7 +2,7 @@
 use Rattle.std.proofs.Common.{◌≡◌, ℕ, ◌≤◌, true, arith, List, [], ◌∷◌, refl, inl, inr, Bool, false, sym, ◌∙◌}
 use Rattle.std.proofs.lemmas.Bool.{leb-true, le-leb, and_parts, and_from, or_cases, or_left, or_right, cond-true, cond-false}
 use Rattle.vq_model.specs.declared.plan.Need.{Need}
-use Rattle.vq_model.specs.Plan.{value, Plan, waits_for_any}
+use Rattle.vq_model.specs.Plan.{Plan, waits_for_any}
 use Rattle.vq_model.specs.Machine.{is_reached, are_reached}
 use Rattle.std.specs.List.{list_all, list_any}
 use Rattle.vq_model.specs.Edges.{Place, needs_at}

@@ -1,17 +1,17 @@
 -- A chain whose signals are passed on: for each but the last a job waits, which is the next signal's
 -- or happens before it. Such a chain rises in a sure order.
-use Rattle.std.proofs.Common.{ℕ, ◌≡◌, true, List, [], ◌∷◌, ◌++◌, refl, sym, ap, ◌∙◌, subst, ◌<◌, ◌≤◌, Bool, false, max, map, filter, inl, inr, arith, ◌+◌, not, eqb, length, ◌⊎◌, Some, zero, suc}
+use Rattle.std.proofs.Common.{ℕ, ◌≡◌, true, List, [], ◌∷◌, ◌++◌, refl, sym, ap, ◌∙◌, subst, ◌<◌, ◌≤◌, inl, inr, arith, length, ◌⊎◌, Some, zero, suc}
 use Rattle.vq_model.specs.Plan.{Plan, has, value, job_of, chain, initial}
 use Rattle.vq_model.specs.Edges.{Place, AtEnd, awaited_at}
 use Rattle.vq_model.specs.HappensBefore.{HappensBeforeAt, one, more, HappensBefore, comes_earlier}
 use Rattle.vq_model.specs.Sure.{IsSureAt, IsSure, passed_on, IsSureForJobOf, KeepsRising, RisesFrom, waited_for}
 use Rattle.std.proofs.lemmas.List.{append_assoc}
-use Rattle.vq_model.specs.SlowRun.{is_ready, greatest, is_of, payload_after, slow_order, left_over}
+use Rattle.vq_model.specs.SlowRun.{is_ready, payload_after, slow_order, left_over}
 use Rattle.vq_order_laws.proofs.SlowOrder.{before_earlier}
 use Rattle.vq_order_laws.proofs.SlowFronts.{signaled_earlier}
-use Rattle.std.proofs.lemmas.Bool.{cases_lt, cond-true, cond-false, false≢true, eq-eqb, lt-ltb}
-use Rattle.vq_model.proofs.Lists.{has_here, has_there, has_cases, AreDistinct, Splits, split_at, has-append_cases, has-append_right}
-use Rattle.vq_model.proofs.Positions.{place, place_tail, place_head, place-append}
+use Rattle.std.proofs.lemmas.Bool.{false≢true, lt-ltb}
+use Rattle.vq_model.proofs.Lists.{has_here, has_cases, Splits, split_at, has-append_cases, has-append_right}
+use Rattle.vq_model.proofs.Positions.{place}
 
 -- what is sure for a job is sure for what the job happens before
 pub sure_along : (p : Plan) (e i j : ℕ) (k : Place) → IsSure p e i → HappensBeforeAt p i j k →

@@ -1,6 +1,6 @@
 -- What stands in front of a job in the slow run: what must be finished before it, and the jobs that
 -- signal what it waits for.
-use Rattle.std.proofs.Common.{ℕ, ◌≡◌, true, List, [], ◌∷◌, ◌++◌, ◌&&◌, refl, sym, ap, ◌∙◌, subst, ◌<◌, ◌≤◌, Bool, false, max, map, filter, inl, inr, arith, ◌+◌, not, eqb, length, ◌⊎◌, Some}
+use Rattle.std.proofs.Common.{ℕ, ◌≡◌, true, List, [], ◌∷◌, ◌++◌, ◌&&◌, refl, sym, ap, ◌∙◌, subst, ◌<◌, ◌≤◌, Bool, false, max, map, filter, inl, inr, arith, ◌+◌, not, eqb, length, Some}
 use Rattle.std.specs.List.{list_all}
 use Rattle.std.proofs.lemmas.Bool.{and_parts, cases_lt, cond-true, cond-false, false≢true, eq-eqb, lt-ltb}
 use Rattle.std.proofs.lemmas.List.{append_assoc}

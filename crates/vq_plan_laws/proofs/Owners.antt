@@ -6,7 +6,6 @@ use Rattle.std.specs.Option.{option_to_list}
 use Rattle.vq_model.specs.declared.script.Job.{Job}
 use Rattle.vq_model.specs.declared.script.Job.TheVariants.{Host, Batch}
 use Rattle.vq_model.specs.declared.script.HostStep.{HostStep}
-use Rattle.vq_model.specs.Plan.{value}
 use Rattle.vq_model.specs.declared.script.HostStep.TheVariants.{Signal}
 use Rattle.vq_model.proofs.Gets.{get-map, get-append, get-append_left}
 use Rattle.vq_model.proofs.Options.{some_of}

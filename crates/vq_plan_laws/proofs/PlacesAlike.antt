@@ -3,7 +3,7 @@
 use Rattle.std.proofs.Common.{◌≡◌, ℕ, if◌then◌else◌, ltb, List, [], ◌++◌, filter, sym, ap, ◌∙◌, suc, true, eqb, leb, ◌∷◌, refl, arith, Bool, false, ◌&&◌, not}
 use Rattle.std.specs.List.{list_all, list_any, filter_map}
 use Rattle.vq_model.specs.declared.plan.Need.{Need}
-use Rattle.vq_model.specs.Plan.{Plan, has, waits_for_any, initial, value, job_of, resolver, needs, is_host_step}
+use Rattle.vq_model.specs.Plan.{Plan, has, waits_for_any, initial, job_of, resolver, needs, is_host_step}
 use Rattle.vq_model.specs.Edges.{Place, must_finish, awaited_at, edges_at, needs_at, At, AtEnd, waits_at_start}
 use Rattle.vq_model.specs.Machine.{is_reached, are_reached, can_start}
 use Rattle.vq_model.specs.HappensBefore.{IsHop, HappensBeforeAt, one, more}

@@ -8,7 +8,7 @@ use Rattle.vq_model.specs.declared.plan.PlanJob.{PlanJob}
 use Rattle.vq_model.proofs.Gets.{get-map, get-enumerate}
 use Rattle.std.specs.Option.{option_map_or}
 use Rattle.vq_model.specs.declared.script.Job.TheVariants.{Host, Batch}
-use Rattle.vq_model.specs.Plan.{signals_of, commands_of, job_of, chain, chain_of}
+use Rattle.vq_model.specs.Plan.{signals_of, commands_of, job_of, chain_of}
 use Rattle.vq_model.specs.Signals.{Signaling, all_signals, op_at}
 
 -- The jobs of a plan

@@ -7,7 +7,6 @@ use Rattle.vq_model.specs.declared.script.Script.{Script}
 use Rattle.vq_model.specs.declared.script.Mark.{Mark}
 use Rattle.vq_model.specs.declared.script.Job.{Job}
 use Rattle.vq_model.specs.declared.script.Job.TheVariants.{Host, Batch}
-use Rattle.vq_model.specs.declared.plan.Need.{Need}
 use Rattle.vq_model.specs.Built.{HasWholeWaits}
 use Rattle.vq_model.specs.Edges.{HasNoHeldWait}
 use Rattle.vq_model.specs.Lowering.{of_wait, plan_job, plan_of}

@@ -4,7 +4,6 @@ use Rattle.std.specs.List.{slice_get}
 use Rattle.std.specs.Option.{option_map_or}
 use Rattle.std.proofs.lemmas.Bool.{false≢true}
 use Rattle.vq_model.specs.declared.script.Script.{Script}
-use Rattle.vq_model.specs.declared.script.Batch.{Batch}
 use Rattle.vq_model.specs.declared.script.Job.{Job}
 use Rattle.vq_model.specs.declared.script.Job.TheVariants.{Host, Batch as BatchJob}
 use Rattle.vq_model.specs.declared.plan.Need.{Need}

@@ -1,7 +1,7 @@
 -- A bind keeps the lists of a timeline, and loses no point.
 use Rattle.std.proofs.Common.{◌≡◌, ℕ, ◌+◌, ◌<◌, [], ◌∷◌, ◌++◌, length, drop, Some, ◌≤◌, true, get_or, Option, None, ◌∙◌, ap, subst, ◌⊎◌, inl, inr, List, IsPermutation, ◌-◌, arith, sym}
 use Rattle.std.specs.Prelude.{slice_range}
-use Rattle.vq_points.specs.Timeline.{Timeline, KeepsLists, taken, CanBind, is_next, point_at, all_points, after_bind, indexes, entries_from}
+use Rattle.vq_points.specs.Timeline.{Timeline, KeepsLists, CanBind, is_next, point_at, all_points, after_bind, indexes, entries_from}
 use Rattle.std.proofs.lemmas.Bool.{cases_lt, cases_eq}
 use Rattle.std.proofs.lemmas.List.{drop_more, get_or_past}
 use Rattle.vq_points.proofs.TimelineLists.{same_of_test, IsMoved, moved}

@@ -2,8 +2,8 @@
 use Rattle.std.proofs.Common.{ℕ, List, arith, true, false, ◌∷◌, Option, None, refl, sym, subst, []}
 use Rattle.vq_model.specs.declared.plan.Event.{Event}
 use Rattle.vq_model.specs.Plan.{Plan, chain_of}
-use Rattle.vq_points.specs.Points.{PointState, CanFree, at_option, holds, CanCome, after_event, HistoryFrom, opening_points}
-use Rattle.vq_points.specs.HistoryLaws.{last_take, FreesInTime, KeepsPoints, AfterEach, PointLaw}
+use Rattle.vq_points.specs.Points.{PointState, CanFree, at_option, CanCome, after_event, HistoryFrom, opening_points}
+use Rattle.vq_points.specs.HistoryLaws.{FreesInTime, KeepsPoints, AfterEach, PointLaw}
 use Rattle.vq_points.proofs.PointFacts.{Links, none_held, none_some}
 use Rattle.std.specs.Option.{option_map_or}
 use Rattle.vq_model.specs.declared.plan.Event.TheVariants.{Submit, Take, Release, Bind, Refer, Look, Unref, Complete, Free, Start, Apply, Signal, Finish, Answer}

@@ -16,10 +16,6 @@ abbrev pub AfterEach : (List Event → Event → Type 0) → List Event → List
 AfterEach P before [] = Unit {0}
 AfterEach P before (x ∷ xs) = P before x × AfterEach P (x ∷ before) xs
 
-abbrev pub takes_point : ℕ → Event → Bool
-takes_point q (Take e r fresh) = q == r
-takes_point q other = false
-
 abbrev pub takes_for : ℕ → Event → Bool
 takes_for e (Take f r fresh) = e == f
 takes_for e other = false
@@ -27,22 +23,6 @@ takes_for e other = false
 abbrev pub is_fresh : Event → Bool
 is_fresh (Take e r fresh) = fresh
 is_fresh other = false
-
-abbrev pub frees : ℕ → Event → Bool
-frees q (Free r) = q == r
-frees q other = false
-
-abbrev pub refers_to : ℕ → Event → Bool
-refers_to q (Refer a r e) = q == r
-refers_to q other = false
-
-abbrev pub refers_by : ActorName → ℕ → ℕ → Event → Bool
-refers_by a q e (Refer b r f) = same_actor a b && (q == r) && (e == f)
-refers_by a q e other = false
-
-abbrev pub unrefers : ℕ → Event → Bool
-unrefers q (Unref a r e) = q == r
-unrefers q other = false
 
 abbrev pub signals : ℕ → Event → Bool
 signals e (Signal f) = e == f

@@ -1,7 +1,7 @@
 -- What the actors do with points, one atomic step at a time. Each point has one binary semaphore,
 -- and carries one signal operation at a time. The construction is this project's own, over Vulkan
 -- 1.3, "Semaphores" (binary and timeline).
-use Rattle.std.specs.Prelude.{ℕ, Bool, List, Option, false, [], None, length, filter, Some, nat_lt, nat_le, ◌||◌, if◌then◌else◌, ◌==◌, count_by, ◌&&◌, not, ◌≡◌, true, MatchBool, is_some, ◌<◌, ◌∷◌, ◌+◌, fold, ◌*◌, map, sum, ◌-◌}
+use Rattle.std.specs.Prelude.{ℕ, Bool, List, Option, false, [], None, length, filter, Some, nat_lt, nat_le, ◌||◌, if◌then◌else◌, ◌==◌, count_by, ◌&&◌, not, ◌≡◌, true, MatchBool, is_some, ◌<◌, ◌∷◌, ◌+◌}
 use Rattle.std.specs.List.{range_with_len, list_all, list_any, slice_get, filter_map}
 use Rattle.std.specs.Option.{option_map_or, option_to_list}
 use Rattle.vq_model.specs.declared.script.ActorName.{ActorName}
@@ -308,10 +308,6 @@ after_event p w (Signals e) = record w { machine = after_step p w.machine (Signa
 after_event p w (Finishes j) = record w { machine = after_step p w.machine (FinishStep j) }
 after_event p w (AnswersAs j a) = record w { machine = after_step p w.machine (AnswerStep j a) }
 
--- the world that events lead to
-abbrev pub points_after : Plan → List Event → PointState
-points_after p events = fold (after_event p) (opening_points p) events
-
 -- Histories
 
 -- from a world on, each event may come in the world before it
@@ -330,14 +326,3 @@ step_of other = None
 
 abbrev pub steps_of : List Event → List Step
 steps_of events = filter_map step_of events
-
--- A bound on the events of a history: each job is submitted, released, started and finished, or
--- started, answered and finished; each operation is taken, bound, signaled, completed and freed;
--- each need is referred, looked at and given back.
-abbrev pub acts : Plan → ℕ
-acts p = 4 * length p.jobs + length p.commands + 5 * length p.ops + 3 * sum
-    (map (λ x. length x.needs) p.jobs)
-
--- how many events may still come
-abbrev pub acts_left : Plan → List Event → ℕ
-acts_left p events = acts p - length events

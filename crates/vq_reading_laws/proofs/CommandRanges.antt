@@ -1,7 +1,7 @@
 -- Commands whose ranges were tested fit.
 use Rattle.std.proofs.Common.{ℕ, List, map, ◌≡◌, zero, suc, ◌<◌, [], ◌∷◌, length, refl, arith, ◌+◌, Bool, true, false, not, ◌&&◌}
 use Rattle.vq_model.specs.declared.statement.Line.{Line}
-use Rattle.vq_model.specs.Context.{buffers, size_of, some}
+use Rattle.vq_model.specs.Context.{buffers, size_of}
 use Rattle.std.specs.List.{slice_get, slice_index_or}
 use Rattle.std.specs.Option.{option_map_or}
 use Rattle.vq_model.specs.declared.script.Buffer.{Buffer}

@@ -1,5 +1,5 @@
 -- Scripts of what is declared keep what a script keeps.
-use Rattle.std.proofs.Common.{◌≡◌, ℕ, Bool, zero, suc, List, [], ◌∷◌, Some, None, subst, ◌<◌, true, false, ◌⊎◌, length, map, Option, inl, inr, sym, ap, ◌∙◌, arith, ◌+◌, ◌++◌, refl}
+use Rattle.std.proofs.Common.{◌≡◌, ℕ, Bool, zero, suc, List, [], ◌∷◌, Some, None, subst, ◌<◌, true, false, length, map, Option, inl, inr, sym, ap, ◌∙◌, arith, ◌+◌, ◌++◌, refl}
 use Rattle.std.specs.List.{slice_get, AllByRecursion as Every, flat_map, enumerate_from}
 use Rattle.vq_model.specs.declared.script.Batch.{Batch}
 use Rattle.vq_model.specs.declared.script.Job.{Job}

@@ -10,7 +10,6 @@ use Rattle.vq_model.specs.SameScript.{buffer_without_line, job_without_lines, co
 use Rattle.vq_model.specs.Lowering.{batch_commands, commands_in}
 use Rattle.std.proofs.lemmas.List.{length-map}
 use Rattle.vq_model.specs.declared.script.CommandLine.{CommandLine}
-use Rattle.vq_model.specs.declared.script.HostLine.{HostLine}
 use Rattle.vq_model.specs.declared.script.HostStep.{HostStep}
 use Rattle.vq_model.specs.declared.script.HostStep.TheVariants.{Signal, WaitAll, WaitAny, PollAll, PollAny, Read, FenceWait, FencePoll, FenceReset, Idle}
 use Rattle.vq_model.specs.Ranges.{Fits}

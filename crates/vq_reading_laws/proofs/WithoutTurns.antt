@@ -1,13 +1,11 @@
 -- What a script keeps doesn't depend on the turns of its schedule.
-use Rattle.std.proofs.Common.{◌≡◌, ℕ, List, [], ◌∷◌, map}
-use Rattle.std.specs.Prelude.{All}
-use Rattle.std.proofs.lemmas.List.Elements.{All-nil}
+use Rattle.std.proofs.Common.{List}
 use Rattle.vq_model.specs.declared.script.Script.{Script}
 use Rattle.vq_model.specs.declared.script.Turn.{Turn}
 use Rattle.vq_model.specs.declared.script.Mark.{Mark}
 use Rattle.vq_model.specs.declared.script.HostStep.{HostStep}
 use Rattle.vq_model.specs.declared.script.HostStep.TheVariants.{Signal, WaitAll, WaitAny, PollAll, PollAny, Read, FenceWait, FencePoll, FenceReset, Idle}
-use Rattle.vq_model.specs.ValidScripts.{IsValid, IsValidMark, IsValidFence, IsValidBatch, IsValidStep, HasValidBatches, HasValidSteps}
+use Rattle.vq_model.specs.ValidScripts.{IsValid, IsValidMark, IsValidFence, IsValidStep, HasValidBatches, HasValidSteps}
 
 module _ (s : Script) (turns : List Turn) where
   abbrev with_turns : Script

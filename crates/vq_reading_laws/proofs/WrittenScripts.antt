@@ -1,5 +1,5 @@
 -- What is known of a script that can be written, and of one that was read.
-use Rattle.std.proofs.Common.{◌≡◌, List, [], ap, refl, sym, ◌∙◌, ◌⊎◌, inl, inr, subst}
+use Rattle.std.proofs.Common.{◌≡◌, List, [], refl, sym, ◌∙◌, inl, inr, subst}
 use Rattle.vq_model.specs.declared.script.Script.{Script}
 use Rattle.vq_model.specs.declared.script.Turn.{Turn}
 use Rattle.vq_model.specs.Reading.{StandsFor}

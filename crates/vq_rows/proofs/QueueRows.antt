@@ -1,6 +1,6 @@
 -- A text with two queues: its plan is one of a script that was read, and it is lawful. So the premises of
 -- the laws on plans of scripts are met, and their conclusions hold of it.
-use Rattle.std.proofs.Common.{ℕ, List, [], ◌∷◌, ◌++◌, false, true, None, ◌≡◌, ◌≢◌, refl, zero, suc, arith, ◌⊎◌, inl, inr, ap, ◌∙◌, subst, sym, ◌+◌, ◌≤◌, ◌<◌, length, Some, Option, IfSome, option_map, Ok}
+use Rattle.std.proofs.Common.{ℕ, List, [], ◌∷◌, ◌++◌, false, true, None, ◌≡◌, ◌≢◌, refl, zero, suc, arith, inl, inr, ap, ◌∙◌, subst, sym, ◌+◌, ◌≤◌, length, Some}
 use Rattle.std.specs.Prelude.{codes}
 use Rattle.std.specs.List.{slice_get}
 use Rattle.std.specs.Option.{option_map_or}
@@ -14,7 +14,6 @@ use Rattle.vq_model.specs.declared.script.FillSize.TheVariants.{Count}
 use Rattle.vq_model.specs.declared.statement.Form.TheVariants.{Plain}
 use Rattle.vq_model.specs.declared.plan.Need.{Need}
 use Rattle.vq_model.specs.Plan.{Plan, has, chain, chain_of, initial, value, needs, commands_of}
-use Rattle.vq_model.specs.Edges.{AtEnd, At}
 use Rattle.vq_model.specs.Signals.{kind_of}
 use Rattle.vq_model.specs.SameScript.{IsRead}
 use Rattle.vq_model.specs.Lowering.{plan_of, resets_fence}
@@ -22,9 +21,6 @@ use Rattle.vq_model.specs.LoweringFaults.{IsPlan}
 use Rattle.vq_model.specs.SlowRun.{HasOneResult, final}
 use Rattle.vq_model.specs.HappensBefore.{HappensBefore, HappensBeforeCommand, one}
 use Rattle.vq_model.specs.Checks.{IsLawful, IsUnordered, AreNeighbours, IsRaceAt, NoLines, too_low, equal, unsure, unsure_back, unawaited, is_immediate_batch}
-use Rattle.vq_model.specs.Races.{conflicts, HasSureOrder}
-use Rattle.vq_model.specs.Windows.{IsSurelyReached, IsPossiblyReached}
-use Rattle.vq_model.specs.WellFormed.{IsWellFormed}
 use Rattle.vq_model.proofs.Gets.{slice_get_past}
 use Rattle.vq_model.proofs.Lists.{has_cases}
 use Rattle.vq_plan_laws.proofs.Cited.{plan_well_formed, plan_holds_no_wait}

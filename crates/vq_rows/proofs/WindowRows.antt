@@ -1,8 +1,7 @@
 -- A host step that reads a timeline beside the batch that signals it: between which values it looks, and
 -- what it may be answered.
-use Rattle.std.proofs.Common.{ℕ, List, [], ◌∷◌, ◌++◌, false, true, None, ◌≡◌, refl, zero, suc, arith, ◌⊎◌, inl, inr, ap, sym, ◌∙◌, ◌≤◌, Some}
+use Rattle.std.proofs.Common.{ℕ, [], ◌∷◌, ◌++◌, false, None, ◌≡◌, refl, zero, suc, arith, inl, inr, ap, sym, ◌∙◌, ◌≤◌, Some}
 use Rattle.std.proofs.lemmas.Bool.{false≢true}
-use Rattle.vq_model.specs.declared.script.Script.{Script}
 use Rattle.vq_model.specs.declared.script.Mode.TheVariants.{Threaded}
 use Rattle.vq_model.specs.declared.script.SemaphoreKind.TheVariants.{Timeline}
 use Rattle.vq_model.specs.declared.script.Job.TheVariants.{Host, Batch}
@@ -14,7 +13,7 @@ use Rattle.vq_model.specs.Lowering.{plan_of}
 use Rattle.vq_model.specs.HappensBefore.{HappensBeforeAt, one, more}
 use Rattle.vq_model.specs.Sure.{IsSure, finished_first, waited_for, passed_on}
 use Rattle.vq_model.specs.Windows.{IsSurelyReached, at_first as first_sure, sure, IsPossiblyReached, at_first as first_possible, possible, IsPossible, IsGreatest}
-use Rattle.vq_model.specs.Outputs.{IsOutput, Answered, Allowed, IsShownReached, from_floor, carried, asking, answer_lines}
+use Rattle.vq_model.specs.Outputs.{IsOutput, Answered, Allowed, IsShownReached, from_floor, carried, answer_lines}
 use Rattle.vq_model.specs.OutputText.{answer_text, buffers_text}
 use Rattle.vq_model.specs.SlowRun.{final}
 

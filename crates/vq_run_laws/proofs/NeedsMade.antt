@@ -1,13 +1,12 @@
 -- A need that is reached, and the operation that resolves it.
-use Rattle.std.proofs.Common.{◌≡◌, ℕ, ◌<◌, ◌≤◌, Some, Option, Bool, ltb, true, false, List, [], ◌∷◌, filter, refl, sym, ap, ◌∙◌, inl, inr, ◌++◌}
-use Rattle.vq_model.specs.Plan.{Plan, chain, initial, value, resolver, has, waits_for_any}
+use Rattle.std.proofs.Common.{◌≡◌, ℕ, ◌<◌, ◌≤◌, Some, Option, Bool, ltb, true, false, List, [], ◌∷◌, filter, refl, sym, ap, ◌∙◌, inl, inr}
+use Rattle.vq_model.specs.Plan.{Plan, initial, resolver, has, waits_for_any}
 use Rattle.vq_model.specs.declared.plan.Need.{Need}
 use Rattle.std.specs.List.{list_all, filter_map, list_any}
 use Rattle.std.proofs.lemmas.Bool.{and_parts, false≢true, cond-true, cond-false, leb-true, ltb-true}
 use Rattle.vq_model.specs.Machine.{is_reached, are_reached}
 use Rattle.vq_model.proofs.Mapped.{has_option}
 use Rattle.vq_model.specs.Edges.{Place, awaited_at, needs_at}
-use Rattle.vq_model.specs.Sure.{KeepsRising, RisesFrom}
 
 -- Waits
 
@@ -52,4 +51,3 @@ awaited_need p payload j k r h a = by_test (waits_for_any p j) refl
     by_test false e =
         need_of p payload (needs_at p j k) r (sym (ap (λ zs. has zs r) (cond-false (waits_for_any p j) [] (filter_map (resolve p) (filter (is_above p) (needs_at p j k))) e)) ∙ h)
         (sym (cond-false (waits_for_any p j) (list_any (is_reached payload) (needs_at p j k)) (list_all (is_reached payload) (needs_at p j k)) e) ∙ a)
-

@@ -1,5 +1,5 @@
 -- The laws on runs, each of a well-formed plan with a sure order.
-use Rattle.std.proofs.Common.{◌≡◌, ℕ, List, true, false, sym}
+use Rattle.std.proofs.Common.{List, sym}
 use Rattle.std.proofs.lemmas.Bool.{false_from_ne_true}
 use Rattle.vq_model.specs.Plan.{Plan}
 use Rattle.vq_model.specs.Edges.{At, AtEnd, place_of}

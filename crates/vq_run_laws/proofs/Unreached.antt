@@ -1,5 +1,5 @@
 -- A need that the slow run leaves unreached is reached in no run.
-use Rattle.std.proofs.Common.{◌≡◌, ℕ, ◌≤◌, ◌<◌, ◌+◌, Bool, true, false, not, ◌&&◌, ◌||◌, max, List, [], ◌∷◌, length, map, filter, fold, Option, Some, None, refl, sym, ap, ◌∙◌, ◌⊎◌, inl, inr, subst, zero, suc, arith}
+use Rattle.std.proofs.Common.{◌≡◌, ℕ, ◌≤◌, ◌<◌, Bool, true, false, not, ◌&&◌, max, List, [], ◌∷◌, length, map, filter, fold, Option, Some, None, refl, sym, ap, ◌∙◌, ◌⊎◌, inl, inr, subst, zero, suc, arith}
 use Rattle.std.specs.List.{list_all, list_any, slice_get, range_with_len}
 use Rattle.std.specs.Option.{option_map_or}
 use Rattle.std.proofs.lemmas.Bool.{and_parts, and_from, or_parts, false≢true, false_from_ne_true, cases_eq, cond-true, cond-false, not-true}
@@ -7,8 +7,8 @@ use Rattle.vq_model.specs.declared.plan.Need.{Need}
 use Rattle.vq_model.specs.Plan.{Plan, has, needs, waits_for_any, signals_of, chain, initial, value, job_of, chain_of}
 use Rattle.vq_model.specs.Edges.{At, AtEnd, must_finish}
 use Rattle.vq_model.specs.WellFormed.{IsWellFormed}
-use Rattle.vq_model.specs.Machine.{is_reached, are_reached, Progress, State, Step, StartStep, ApplyStep, SignalStep, FinishStep, AnswerStep, put, with_signal, after_progress, CanProgress, CanSignal, ProgressFrom, opening_progress, opening_state, Run, state_after, without_answers}
-use Rattle.vq_model.specs.SlowRun.{greatest, is_of, is_ready, payload_after, slow_order, left_over}
+use Rattle.vq_model.specs.Machine.{is_reached, are_reached, Progress, Step, StartStep, ApplyStep, SignalStep, FinishStep, AnswerStep, put, with_signal, after_progress, CanProgress, CanSignal, ProgressFrom, opening_progress, opening_state, Run, state_after, without_answers}
+use Rattle.vq_model.specs.SlowRun.{greatest, is_of, payload_after, slow_order}
 use Rattle.vq_model.specs.Checks.{is_unreached, IsUnreachableAt}
 use Rattle.vq_model.proofs.Lists.{has_cases, list_all_has, list_all_from}
 use Rattle.vq_model.proofs.Filters.{filter-has}

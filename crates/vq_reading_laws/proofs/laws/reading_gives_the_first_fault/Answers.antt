@@ -3,7 +3,8 @@ use Rattle.vq_reading_laws.proofs.laws.reading_gives_the_first_fault.Goals as go
 
 pub returns-clause-fault : goal.returns-clause-fault
 returns-clause-fault c form before first lines n kind = (
-  first_fault form before first lines n kind, only_fault form before first lines n kind,
+  first_fault form before first lines n kind,
+  only_fault form before first lines n kind,
 )
 
 pub returns-clause-none : goal.returns-clause-none
