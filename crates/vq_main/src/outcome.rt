@@ -11,8 +11,7 @@ ghost use Rattle.vq_main.specs.Outcomes.{IsOutcome, RefusesOrder, RefusesPlan, T
 use crate::status::Status;
 use crate::task::Task;
 use std::alloc::{AllocError, Global};
-use vq_order::OrderFault;
-use vq_order::check::check;
+use vq_order::{OrderFault, Ordered, check};
 use vq_script::{FaultKind, Form, Script, ScriptFault, parse};
 use vq_spec::{Plan, PlanFault, buffers_text, slow_run};
 
@@ -21,6 +20,28 @@ use vq_spec::{Plan, PlanFault, buffers_text, slow_run};
 pub struct Outcome {
     pub status: Status,
     pub text: Vec<u8>,
+}
+
+impl Outcome {
+    /// This text, and that all went well.
+    fn done(text: Vec<u8>) -> Outcome
+        ensures { result ≡ record { status = Status.Done; text = text } }
+    {
+        Outcome {
+            status: Status::Done,
+            text,
+        }
+    }
+
+    /// This text, and that the input is refused.
+    fn refused(text: Vec<u8>) -> Outcome
+        ensures { result ≡ record { status = Status.Refused; text = text } }
+    {
+        Outcome {
+            status: Status::Refused,
+            text,
+        }
+    }
 }
 
 /// The text that refuses a faulty line.
@@ -94,6 +115,22 @@ fn task_text(alloc: Global, task: Task, plan: &Plan) -> Result<Vec<u8>, AllocErr
     }
 }
 
+/// What is written for a plan that is lawful.
+fn of_lawful(alloc: Global, task: Task, ordered: &Ordered) -> Result<Outcome, AllocError>
+    ensures { IfOk result (λ outcome. (outcome.status ≡ Status.Done)
+        × TaskText task ordered.now outcome.text.items) }
+{
+    Ok(Outcome::done(task_text(alloc, task, ordered.plan())?))
+}
+
+/// What is written for a plan that isn't.
+fn of_unlawful(alloc: Global, fault: OrderFault) -> Result<Outcome, AllocError>
+    ensures { IfOk result (λ outcome. (outcome.status ≡ Status.Refused)
+        × RefusesOrder fault outcome.text.items) }
+{
+    Ok(Outcome::refused(order_refusal(alloc, fault)?))
+}
+
 /// What is written for the plan of a script that an input stands for.
 fn of_plan(alloc: Global, task: Task, plan: Plan, input: &[u8]) -> Result<Outcome, AllocError>
     requires short { length input.now ≤ input_limit }
@@ -102,20 +139,8 @@ fn of_plan(alloc: Global, task: Task, plan: Plan, input: &[u8]) -> Result<Outcom
     ensures { IfOk result (λ outcome. IsOutcome task input.now outcome.status outcome.text.items) }
 {
     match check(alloc, plan) {
-        Ok(ordered) => {
-            let text = task_text(alloc, task, ordered.plan())?;
-            Ok(Outcome {
-                status: Status::Done,
-                text,
-            })
-        }
-        Err(fault) => {
-            let text = order_refusal(alloc, fault)?;
-            Ok(Outcome {
-                status: Status::Refused,
-                text,
-            })
-        }
+        Ok(ordered) => of_lawful(alloc, task, &ordered),
+        Err(fault) => of_unlawful(alloc, fault),
     }
 }
 
@@ -127,13 +152,7 @@ fn of_script(alloc: Global, task: Task, script: Script, input: &[u8]) -> Result<
 {
     match Plan::lower(alloc, script) {
         Ok(plan) => of_plan(alloc, task, plan, input),
-        Err(fault) => {
-            let text = plan_refusal(alloc, fault)?;
-            Ok(Outcome {
-                status: Status::Refused,
-                text,
-            })
-        }
+        Err(fault) => Ok(Outcome::refused(plan_refusal(alloc, fault)?)),
     }
 }
 
@@ -146,11 +165,7 @@ pub fn of_input(alloc: Global, task: Task, input: &[u8]) -> Result<Outcome, Allo
         Ok(script) => of_script(alloc, task, script, input),
         Err(ScriptFault::Memory) => Err(AllocError),
         Err(ScriptFault::At { line, kind }) => {
-            let text = line_refusal(alloc, line, kind)?;
-            Ok(Outcome {
-                status: Status::Refused,
-                text,
-            })
+            Ok(Outcome::refused(line_refusal(alloc, line, kind)?))
         }
     }
 }

@@ -4,7 +4,8 @@ use Rattle.std.proofs.lemmas.List.{length-append, length-take, length-drop, plac
 use Rattle.vq_model.specs.Memory.{with_bytes, Memory, buffer, word_bytes, effect, HasSizes, word_byte, written_byte}
 use Rattle.std.proofs.lemmas.Bool.{cases_lt, cases_eq, ltb-false, and_cases, eqb-false, or_parts}
 use Rattle.std.proofs.Math.ListN.{set}
-use Rattle.vq_model.specs.Ranges.{Range, fill_size, written_range, Fits, IsWithin, share, read_range, conflict}
+use Rattle.vq_model.specs.declared.ranges.Range.{Range}
+use Rattle.vq_model.specs.Ranges.{fill_size, written_range, Fits, IsWithin, share, read_range, conflict}
 use Rattle.std.specs.List.{slice_range, slice_index_or}
 use Rattle.vq_model.specs.declared.script.Command.{Command}
 use Rattle.vq_model.specs.declared.script.Command.TheVariants.{Fill, Update, Copy}

@@ -18,17 +18,17 @@ must_finish p j =
 
 -- A place in a job. A batch's commands are at the places 1, 2 and so on; a job starts at place 1.
 -- Its signals and its finish come at the end.
-pub data Place : Type 0 where
-  At : ℕ → Place
-  AtEnd : Place
+pub data Stage : Type 0 where
+  At : ℕ → Stage
+  AtEnd : Stage
 
 -- the place of a command in its job
-abbrev pub place_of : Plan → ℕ → ℕ → Place
-place_of p j c = At (suc (position_or_len (λ d. d == c) (commands_of p j)))
+abbrev pub stage_of : Plan → ℕ → ℕ → Stage
+stage_of p j c = At (suc (position_or_len (λ d. d == c) (commands_of p j)))
 
 -- The needs that hold back a place of a job: those from this place or an earlier one on; at the end
 -- all needs.
-abbrev pub needs_at : Plan → ℕ → Place → List Need
+abbrev pub needs_at : Plan → ℕ → Stage → List Need
 needs_at p j (At k) = filter (λ n. nat_le n.from k) (needs p j)
 needs_at p j AtEnd = needs p j
 
@@ -44,7 +44,7 @@ HasNoHeldWait p = (j : ℕ) → waits_at_start p j ≡ true
 
 -- the signal operations that resolve the needs at a place of a job that are above the initial
 -- values; none where the job waits for any of several
-abbrev pub awaited_at : Plan → ℕ → Place → List ℕ
+abbrev pub awaited_at : Plan → ℕ → Stage → List ℕ
 awaited_at p j k =
     if waits_for_any p j
     then []
@@ -53,7 +53,7 @@ awaited_at p j k =
 
 -- The jobs with an edge to a place of a job: those that must be finished before it, and those of
 -- the operations that hold back the place.
-abbrev pub edges_at : Plan → ℕ → Place → List ℕ
+abbrev pub edges_at : Plan → ℕ → Stage → List ℕ
 edges_at p j k = must_finish p j ++ filter_map (job_of p) (awaited_at p j k)
 
 -- the jobs with an edge to a job
@@ -63,14 +63,14 @@ edges_to p j = edges_at p j AtEnd
 -- Edges by their reasons
 
 -- whether a need holds back a place of its job
-abbrev pub holds_back : Need → Place → Bool
+abbrev pub holds_back : Need → Stage → Bool
 holds_back n (At k) = nat_le n.from k
 holds_back n AtEnd = true
 
 -- There is an edge from a job to a place of another for four reasons: it is the one before in the
 -- lane; it is the last host step before a batch; it signals what resolves a need at the place,
 -- above the initial value; an idle step waits for it.
-pub data EdgeAt (p : Plan) (i j : ℕ) (k : Place) : Type 0 where
+pub data EdgeAt (p : Plan) (i j : ℕ) (k : Stage) : Type 0 where
   by_lane : previous p j ≡ Some i → EdgeAt p i j k
   by_host : host_before p j ≡ Some i → EdgeAt p i j k
   by_need : (n : Need) (place e : ℕ) → waits_for_any p j ≡ false →

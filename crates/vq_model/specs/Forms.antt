@@ -10,25 +10,25 @@ use Rattle.vq_model.specs.declared.statement.Form.{Form}
 use Rattle.vq_model.specs.declared.statement.Form.TheVariants.{Plain, Scheduled}
 
 -- What stands at a place of a line.
-pub data Place : Type 0 where
+pub data Slot : Type 0 where
   -- this word
-  Fixed : (word : List ℕ) → Place
+  Fixed : (word : List ℕ) → Slot
   -- the name that the line declares
-  NewName : Place
+  NewName : Slot
   -- the name of a buffer, a timeline, a binary semaphore, a fence, a queue
-  BufferName : Place
-  TimelineName : Place
-  BinaryName : Place
-  FenceName : Place
-  QueueName : Place
+  BufferName : Slot
+  TimelineName : Slot
+  BinaryName : Slot
+  FenceName : Slot
+  QueueName : Slot
   -- a numeral; one of 32 bits; an even number of hexadecimal digits
-  Numeral : Place
-  SmallNumeral : Place
-  HexDigits : Place
+  Numeral : Slot
+  SmallNumeral : Slot
+  HexDigits : Slot
   -- an actor of the schedule
-  Actor : Place
+  Actor : Slot
   -- names of timelines with numerals, one pair or more, up to the line's end
-  Pairs : Place
+  Pairs : Slot
 
 -- the word of a mode
 abbrev pub mode_word : Mode → List ℕ
@@ -37,11 +37,11 @@ mode_word Deferred = codes "deferred"
 mode_word Threaded = codes "threaded"
 
 -- a fixed word
-abbrev pub word : String → Place
+abbrev pub word : String → Slot
 word text = Fixed (codes text)
 
 -- The places of each form.
-abbrev pub places : LineForm → List Place
+abbrev pub places : LineForm → List Slot
 places VersionLine = word "version" ∷ word "2" ∷ []
 places BufferLine = word "buffer" ∷ NewName ∷ Numeral ∷ []
 places TimelineLine = word "timeline" ∷ NewName ∷ Numeral ∷ []

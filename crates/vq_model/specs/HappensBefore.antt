@@ -4,7 +4,7 @@ use Rattle.std.specs.Prelude.{ℕ, ◌==◌, nat_lt, Bool, ◌≡◌, true}
 use Rattle.std.specs.List.{position_or_len}
 use Rattle.vq_model.specs.Plan.{Plan, has}
 use Rattle.vq_model.specs.SlowRun.{slow_order}
-use Rattle.vq_model.specs.Edges.{Place, edges_at, AtEnd, place_of}
+use Rattle.vq_model.specs.Edges.{Stage, edges_at, AtEnd, stage_of}
 
 -- Whether one job stands earlier in the slow run than another. It is asked only of plans in which
 -- the slow run does each job: elsewhere a job that is left over stands behind all that are done.
@@ -14,15 +14,15 @@ comes_earlier p i j =
     (position_or_len (λ k. k == j) (slow_order p))
 
 -- an edge to a place of a job that agrees with the slow run
-pub record IsHop (p : Plan) (i j : ℕ) (k : Place) : Type 0 where
+pub record IsHop (p : Plan) (i j : ℕ) (k : Stage) : Type 0 where
   pub edge : has (edges_at p j k) i ≡ true
   pub earlier : comes_earlier p i j ≡ true
 
 -- A job happens before a place of another: a path of such edges leads to it, the last one to that
 -- place, the others to the ends of jobs. So what passes through a job has waited for all its needs.
-pub data HappensBeforeAt (p : Plan) (i : ℕ) : ℕ → Place → Type 0 where
-  one : {j : ℕ} {k : Place} → IsHop p i j k → HappensBeforeAt p i j k
-  more : {h j : ℕ} {k : Place} → HappensBeforeAt p i h AtEnd → IsHop p h j k →
+pub data HappensBeforeAt (p : Plan) (i : ℕ) : ℕ → Stage → Type 0 where
+  one : {j : ℕ} {k : Stage} → IsHop p i j k → HappensBeforeAt p i j k
+  more : {h j : ℕ} {k : Stage} → HappensBeforeAt p i h AtEnd → IsHop p h j k →
       HappensBeforeAt p i j k
 
 -- One job happens before another: before its end, and so before its signals and its finish. Its
@@ -32,4 +32,4 @@ HappensBefore p i j = HappensBeforeAt p i j AtEnd
 
 -- the commands of a job happen before a command of another
 abbrev pub HappensBeforeCommand : Plan → ℕ → ℕ → ℕ → Type 0
-HappensBeforeCommand p i j d = HappensBeforeAt p i j (place_of p j d)
+HappensBeforeCommand p i j d = HappensBeforeAt p i j (stage_of p j d)

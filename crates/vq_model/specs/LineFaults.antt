@@ -19,7 +19,7 @@ use Rattle.vq_model.specs.declared.statement.Form.TheVariants.{Scheduled}
 use Rattle.vq_model.specs.declared.statement.Section.{Section}
 use Rattle.vq_model.specs.declared.statement.Section.TheVariants.{Outside, InBatch}
 use Rattle.vq_model.specs.Text.{is_name, numeral, is_plain}
-use Rattle.vq_model.specs.Forms.{Place, NewName, BufferName, TimelineName, BinaryName, FenceName, QueueName, Actor, word, Numeral, SmallNumeral, HexDigits, places}
+use Rattle.vq_model.specs.Forms.{Slot, NewName, BufferName, TimelineName, BinaryName, FenceName, QueueName, Actor, word, Numeral, SmallNumeral, HexDigits, places}
 use Rattle.vq_model.specs.Meaning.{is_actor, small_numeral, is_hex, actor_at, open_places, form_of, meaning}
 use Rattle.vq_model.specs.Context.{buffer_at, timeline_at, binary_at, fence_at, queue_at, is_declared, is_batch_fence, some, has_begun, open_batch, size_of, is_command, count, version_of, section, buffers}
 use Rattle.vq_model.specs.Ranges.{is_aligned, overlaps_itself}
@@ -28,7 +28,7 @@ use Rattle.vq_model.specs.Limits.{limits_of, passes_limit}
 -- Syntax, number, name, twice: words at places
 
 -- Syntax: a word has the shape of its place
-abbrev pub is_shaped : Place × List ℕ → Bool
+abbrev pub is_shaped : Slot × List ℕ → Bool
 is_shaped (NewName, word) = is_name word
 is_shaped (BufferName, word) = is_name word
 is_shaped (TimelineName, word) = is_name word
@@ -39,14 +39,14 @@ is_shaped (Actor, word) = is_actor word
 is_shaped (other, word) = true
 
 -- Number: a numeral's place holds a numeral
-abbrev pub is_numeric : Place × List ℕ → Bool
+abbrev pub is_numeric : Slot × List ℕ → Bool
 is_numeric (Numeral, word) = is_some (numeral word)
 is_numeric (SmallNumeral, word) = is_some (small_numeral word)
 is_numeric (HexDigits, word) = is_hex word
 is_numeric (other, word) = true
 
 -- Name: a name is declared, of the kind that its place needs
-abbrev pub is_known : List Line → Place × List ℕ → Bool
+abbrev pub is_known : List Line → Slot × List ℕ → Bool
 is_known before (BufferName, word) = is_some (buffer_at before word)
 is_known before (TimelineName, word) = is_some (timeline_at before word)
 is_known before (BinaryName, word) = is_some (binary_at before word)
@@ -56,12 +56,12 @@ is_known before (Actor, word) = is_some (actor_at before word)
 is_known before (other, word) = true
 
 -- Twice: a declared name is new
-abbrev pub is_new : List Line → Place × List ℕ → Bool
+abbrev pub is_new : List Line → Slot × List ℕ → Bool
 is_new before (NewName, word) = not (is_declared before word)
 is_new before (other, word) = true
 
 -- some open place of a line fails a test
-abbrev pub fails : (Place × List ℕ → Bool) → List (List ℕ) → LineForm → Bool
+abbrev pub fails : (Slot × List ℕ → Bool) → List (List ℕ) → LineForm → Bool
 fails test words form = not (list_all test (open_places (places form) words))
 
 -- Order

@@ -10,7 +10,7 @@ use Rattle.vq_model.specs.declared.plan.Answer.TheVariants.{Reached, Timeout, No
 use Rattle.vq_model.specs.declared.plan.Question.{Question}
 use Rattle.vq_model.specs.declared.plan.Question.TheVariants.{Reached as AsksReached, PollAll, PollAny, Fence, Value as AsksValue}
 use Rattle.vq_model.specs.Plan.{Plan, initial, value, chain_of, waits_for_any, has, commands_of, signals_of, chain, question, is_silent, asked}
-use Rattle.vq_model.specs.Edges.{Place, needs_at, At, must_finish, place_of, AtEnd}
+use Rattle.vq_model.specs.Edges.{Stage, needs_at, At, must_finish, stage_of, AtEnd}
 
 -- States
 
@@ -89,7 +89,7 @@ abbrev pub is_reached : (ℕ → ℕ) → Need → Bool
 is_reached payload n = nat_le n.value (payload n.chain)
 
 -- all needs at a place of a job are reached, or one of them where the job waits for any
-abbrev pub are_reached : Plan → (ℕ → ℕ) → ℕ → Place → Bool
+abbrev pub are_reached : Plan → (ℕ → ℕ) → ℕ → Stage → Bool
 are_reached p payload j k =
     if waits_for_any p j then list_any (is_reached payload) (needs_at p j k)
     else list_all (is_reached payload) (needs_at p j k)
@@ -114,7 +114,7 @@ pub record CanApply (p : Plan) (s : Progress) (j c : ℕ) : Type 0 where
   pub started : s.started j ≡ true
   pub unfinished : s.finished j ≡ false
   pub next : next (has s.applied) (commands_of p j) ≡ Some c
-  pub ready : are_reached p s.payload j (place_of p j c) ≡ true
+  pub ready : are_reached p s.payload j (stage_of p j c) ≡ true
 
 -- A batch's signals come after its commands and its waits, and each sets a greater payload.
 -- (Vulkan 1.3, "Semaphore Signaling")

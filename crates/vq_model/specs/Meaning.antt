@@ -21,7 +21,7 @@ use Rattle.vq_model.specs.declared.script.SemaphoreKind.TheVariants.{Timeline, B
 use Rattle.vq_model.specs.declared.script.HostStep.TheVariants.{Signal as HostSignal, WaitAll, WaitAny, PollAll, PollAny, Read, FenceWait, FencePoll, FenceReset, Idle}
 use Rattle.vq_model.specs.declared.script.Command.TheVariants.{Fill, Update, Copy}
 use Rattle.vq_model.specs.declared.script.FillSize.TheVariants.{Whole, Count}
-use Rattle.vq_model.specs.Forms.{forms_outside, forms_in_batch, forms_in_schedule, held_forms, schedule_forms, Place, Pairs, word, Fixed, places, TimelineName, Numeral}
+use Rattle.vq_model.specs.Forms.{forms_outside, forms_in_batch, forms_in_schedule, held_forms, schedule_forms, Slot, Pairs, word, Fixed, places, TimelineName, Numeral}
 use Rattle.vq_model.specs.Context.{section, is_batch_immediate, version_of, queue_at, threaded_at, timeline_at, buffer_at, binary_at, fence_at}
 use Rattle.vq_model.specs.Text.{is_name, numeral}
 
@@ -64,7 +64,7 @@ forms_at form before = by_section (section before)
     by_section InSchedule = forms_in_schedule
 
 -- words are as many as places
-abbrev pub are_as_many : List Place → List (List ℕ) → Bool
+abbrev pub are_as_many : List Slot → List (List ℕ) → Bool
 are_as_many [] [] = true
 are_as_many [] (word ∷ words) = false
 are_as_many (Pairs ∷ []) words = nat_lt 0 (length words) && (length words % 2 == 0)
@@ -72,7 +72,7 @@ are_as_many (place ∷ more) [] = false
 are_as_many (place ∷ more) (word ∷ words) = are_as_many more words
 
 -- words agree with the fixed words of places
-abbrev pub agree : List Place → List (List ℕ) → Bool
+abbrev pub agree : List Slot → List (List ℕ) → Bool
 agree (Fixed word ∷ more) (given ∷ words) = bytes_eq given word && agree more words
 agree (place ∷ more) (given ∷ words) = agree more words
 agree more words = true
@@ -93,13 +93,13 @@ form_of form before words = where_built before (find (matches words) (forms_at f
 -- The words at its places
 
 -- pairs, as their places with the words there
-abbrev pub pair_places : List (List ℕ) → List (Place × List ℕ)
+abbrev pub pair_places : List (List ℕ) → List (Slot × List ℕ)
 pair_places (timeline ∷ value ∷ words) =
     (TimelineName, timeline) ∷ (Numeral, value) ∷ pair_places words
 pair_places words = []
 
 -- the places of a line that aren't fixed words, with the words there
-abbrev pub open_places : List Place → List (List ℕ) → List (Place × List ℕ)
+abbrev pub open_places : List Slot → List (List ℕ) → List (Slot × List ℕ)
 open_places (Pairs ∷ []) words = pair_places words
 open_places (Fixed word ∷ more) (given ∷ words) = open_places more words
 open_places (place ∷ more) (given ∷ words) = (place, given) ∷ open_places more words

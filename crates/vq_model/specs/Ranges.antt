@@ -8,12 +8,7 @@ use Rattle.vq_model.specs.declared.script.FillSize.{FillSize}
 use Rattle.vq_model.specs.declared.script.FillSize.TheVariants.{Whole, Count}
 use Rattle.vq_model.specs.declared.script.Command.{Command}
 use Rattle.vq_model.specs.declared.script.Command.TheVariants.{Fill, Update, Copy}
-
--- bytes of one buffer
-pub record Range : Type 0 where
-  pub buffer : ℕ
-  pub start : ℕ
-  pub size : ℕ
+use Rattle.vq_model.specs.declared.ranges.Range.{Range}
 
 -- how many bytes a fill writes; with the whole size the rest of the buffer, rounded down to a
 -- multiple of 4

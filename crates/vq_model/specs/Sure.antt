@@ -3,7 +3,7 @@
 -- executes.
 use Rattle.std.specs.Prelude.{ℕ, ◌≡◌, true, Some, ◌≤◌, ◌<◌, List, [], ◌∷◌}
 use Rattle.vq_model.specs.Plan.{Plan, has, job_of, value, chain, initial}
-use Rattle.vq_model.specs.Edges.{must_finish, Place, awaited_at, AtEnd}
+use Rattle.vq_model.specs.Edges.{must_finish, Stage, awaited_at, AtEnd}
 use Rattle.vq_model.specs.HappensBefore.{comes_earlier, IsHop}
 
 -- the job of an operation is finished before this one starts
@@ -14,7 +14,7 @@ pub record IsFinishedFirst (p : Plan) (e j : ℕ) : Type 0 where
   pub earlier : comes_earlier p job j ≡ true
 
 -- a place of a job waits for this operation, or for a later one of the same job
-pub record IsWaitedFor (p : Plan) (e j : ℕ) (k : Place) : Type 0 where
+pub record IsWaitedFor (p : Plan) (e j : ℕ) (k : Stage) : Type 0 where
   pub job : ℕ
   pub of_job : job_of p e ≡ Some job
   pub by_op : ℕ
@@ -26,10 +26,10 @@ pub record IsWaitedFor (p : Plan) (e j : ℕ) (k : Place) : Type 0 where
 -- A signal operation is sure to be made before a job comes to a place. A job that waits for a
 -- batch's first signal may run before the batch's second one is made: so happens-before alone
 -- doesn't order signals.
-pub data IsSureAt (p : Plan) (e : ℕ) : ℕ → Place → Type 0 where
-  finished_first : {j : ℕ} {k : Place} → IsFinishedFirst p e j → IsSureAt p e j k
-  waited_for : {j : ℕ} {k : Place} → IsWaitedFor p e j k → IsSureAt p e j k
-  passed_on : {i j : ℕ} {k : Place} → IsSureAt p e i AtEnd → IsHop p i j k → IsSureAt p e j k
+pub data IsSureAt (p : Plan) (e : ℕ) : ℕ → Stage → Type 0 where
+  finished_first : {j : ℕ} {k : Stage} → IsFinishedFirst p e j → IsSureAt p e j k
+  waited_for : {j : ℕ} {k : Stage} → IsWaitedFor p e j k → IsSureAt p e j k
+  passed_on : {i j : ℕ} {k : Stage} → IsSureAt p e i AtEnd → IsHop p i j k → IsSureAt p e j k
 
 -- sure for a job: made before its end, and so before its signals and its finish
 abbrev pub IsSure : Plan → ℕ → ℕ → Type 0

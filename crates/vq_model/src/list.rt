@@ -31,6 +31,13 @@ impl<T> List<T> {
     {
         self.items.as_slice()
     }
+
+    /// How many items there are.
+    pub fn len(&self) -> usize
+        ensures { result ≡ length self.now }
+    {
+        self.items.len()
+    }
 }
 
 /// The bytes of a name. Source: this project's own.

@@ -1,5 +1,9 @@
 //! A script as data: what its text declares and submits. Lines are counted from 1; buffers,
 //! semaphores, queues and jobs from 0, in the order of the text.
+ghost use Rattle.std.specs.Prelude.{◌≡◌};
+ghost use Rattle.vq_model.specs.Context.{is_binary, is_timeline};
+ghost use Rattle.vq_model.specs.Signals.{initial_value};
+
 use crate::list::{Bytes, List, Name};
 
 /// A buffer of this many zero bytes. Source: Vulkan 1.3, "Buffers".
@@ -20,6 +24,33 @@ pub enum SemaphoreKind {
     Binary,
     /// A fence, unsignaled.
     Fence,
+}
+
+impl SemaphoreKind {
+    /// Whether this is a timeline semaphore.
+    pub fn is_timeline(self) -> bool
+        ensures { result ≡ is_timeline self }
+    {
+        matches!(self, SemaphoreKind::Timeline(_))
+    }
+
+    /// Whether this is a binary semaphore.
+    pub fn is_binary(self) -> bool
+        ensures { result ≡ is_binary self }
+    {
+        matches!(self, SemaphoreKind::Binary)
+    }
+
+    /// The payload before the first signal. Source: Vulkan 1.3, VkSemaphoreTypeCreateInfo; that
+    /// binary semaphores and fences begin with 0 is this project's own.
+    pub fn initial_value(self) -> u64
+        ensures { result ≡ initial_value self }
+    {
+        match self {
+            SemaphoreKind::Timeline(value) => value,
+            _ => 0,
+        }
+    }
 }
 
 /// A timeline semaphore, a binary semaphore or a fence.

@@ -1,6 +1,7 @@
 -- Conflicts and races by the accesses of commands.
-use Rattle.std.proofs.Common.{◌≡◌, ◌≢◌, ℕ, ◌+◌, ◌≤◌, ◌<◌, arith, length, get_or, Bool, true, false, ◌||◌, List, Option, Some, None, option_map, refl, sym, ap, ◌∙◌, subst}
-use Rattle.std.specs.List.{list_any}
+use Rattle.std.proofs.Common.{◌≡◌, ◌≢◌, ℕ, zero, suc, [], ◌∷◌, take, ◌+◌, ◌≤◌, ◌<◌, arith, length, get_or, Bool, true, false, ◌||◌, List, Option, Some, None, option_map, refl, sym, ap, ◌∙◌, subst, inl, inr}
+use Rattle.std.specs.List.{list_any, slice_get}
+use Rattle.std.proofs.lemmas.List.{length-take-le}
 use Rattle.std.specs.Option.{option_map_or, option_to_list}
 use Rattle.std.proofs.lemmas.Option.{slice_get-get_or}
 use Rattle.vq_model.specs.declared.script.Command.{Command}
@@ -9,12 +10,15 @@ use Rattle.vq_model.specs.HappensBefore.{HappensBeforeCommand}
 use Rattle.vq_model.specs.LoweringFaults.{IsPlan}
 use Rattle.vq_model.specs.Plan.{Plan, command_at, commands_of, has}
 use Rattle.vq_model.specs.Races.{conflicts, IsRace}
-use Rattle.vq_model.specs.Ranges.{Range, Fits, share, conflict, written_range, read_range}
+use Rattle.vq_model.specs.declared.ranges.Range.{Range}
+use Rattle.vq_model.specs.Ranges.{Fits, share, conflict, written_range, read_range}
 use Rattle.vq_model.specs.WellFormed.{IsWellFormed}
-use Rattle.vq_order.specs.Accessed.{span_of, spans_share, accesses_conflict, IsAccess, HasAccesses}
+use Rattle.vq_order_laws.proofs.Cited.{command_order, job_order}
+use Rattle.vq_plan_laws.proofs.Cited.{plan_well_formed, plan_holds_no_wait}
+use Rattle.vq_order.specs.Accessed.{span_of, spans_share, accesses_conflict, access_in, IsAccess, AreAccesses, RaceBy}
 use Rattle.vq_order.proofs.CommandJobs.{size_small}
-use Rattle.vq_order.specs.declared.accesses.Access.{Access}
-use Rattle.vq_order.specs.declared.spans.Span.{Span}
+use Rattle.vq_order.specs.declared.races.accesses.Access.{Access}
+use Rattle.vq_order.specs.declared.races.accesses.Span.{Span}
 
 or_none : (b : Bool) → ((b || false) || false) ≡ b
 or_none true = refl
@@ -41,36 +45,38 @@ conflicts_are p c d a b u v =
     ∙ (ap (λ (z : Span × Span). (spans_share z.0 z.1 || option_map_or (spans_share z.0) (option_map span_of (read_range v.command)) false) || option_map_or (spans_share z.1) (option_map span_of (read_range u.command)) false) (λ i. (sym u.writes i, sym v.writes i))
     ∙ ap (λ (z : Option Span × Option Span). (spans_share a.written b.written || option_map_or (spans_share a.written) z.1 false) || option_map_or (spans_share b.written) z.0 false) (λ i. (sym u.reads i, sym v.reads i))))))
 
-pub race_from : (p : Plan) (c d : ℕ) (a b : Access) → IsAccess p c a → IsAccess p d b → a.job ≢ b.job → accesses_conflict a b ≡ true → ¬ HappensBeforeCommand p a.job b.job d → ¬ HappensBeforeCommand p b.job a.job c → IsRace p c d
-race_from p c d a b u v n x f g =
-    record {
-      first_job = a.job;
-      second_job = b.job;
-      first = u.of_job;
-      second = v.of_job;
-      two_jobs = n;
-      conflict = conflicts_are p c d a b u v ∙ x;
-      unordered = f;
-      unordered_back = g;
-    }
-
--- what a race says of accesses
-pub record RacesBy (p : Plan) (c d : ℕ) (a b : Access) : Type 0 where
-  pub two_jobs : a.job ≢ b.job
-  pub conflict : accesses_conflict a b ≡ true
-  pub unordered : ¬ HappensBeforeCommand p a.job b.job d
-  pub unordered_back : ¬ HappensBeforeCommand p b.job a.job c
-
-pub race_by : (p : Plan) → IsWellFormed p → (c d : ℕ) (a b : Access) → IsAccess p c a → IsAccess p d b → IsRace p c d → RacesBy p c d a b
-race_by p w c d a b u v r =
-    let e = w.one_job c r.first_job a.job r.first u.of_job in
-    let f = w.one_job d r.second_job b.job r.second v.of_job in
-    record {
-      two_jobs = λ q. r.two_jobs (e ∙ (q ∙ sym f));
-      conflict = sym (conflicts_are p c d a b u v) ∙ r.conflict;
-      unordered = subst (λ (z : ℕ × ℕ). ¬ HappensBeforeCommand p z.0 z.1 d) (λ i. (e i, f i)) r.unordered;
-      unordered_back = subst (λ (z : ℕ × ℕ). ¬ HappensBeforeCommand p z.1 z.0 c) (λ i. (e i, f i)) r.unordered_back;
-    }
+-- commands race where their accesses do
+pub race_is : (p : Plan) → IsPlan p → (c d : ℕ) (a b : Access) → IsAccess p c a → IsAccess p d b → (RaceBy p a b → IsRace p c d) × (IsRace p c d → RaceBy p a b)
+race_is p i c d a b u v = (
+  (λ r. record {
+    first_job = a.job;
+    second_job = b.job;
+    first = u.of_job;
+    second = v.of_job;
+    two_jobs = λ e. r.apart (inl (inl e));
+    conflict = conflicts_are p c d a b u v ∙ r.conflict;
+    unordered = λ h. r.apart (inl (inr (job_order p a.job b.job d h)));
+    unordered_back = λ h. r.apart (inr (inr (job_order p b.job a.job c h)));
+  }),
+  (λ r.
+      let w = plan_well_formed p i in
+      let e = w.one_job c r.first_job a.job r.first u.of_job in
+      let f = w.one_job d r.second_job b.job r.second v.of_job in
+      let held = plan_holds_no_wait p i in
+      record {
+        conflict = sym (conflicts_are p c d a b u v) ∙ r.conflict;
+        apart = λ o. elim o [
+          | inl x ↦ elim x [
+            | inl q ↦ r.two_jobs (e ∙ (q ∙ sym f))
+            | inr h ↦ r.unordered (subst (λ (z : ℕ × ℕ). HappensBeforeCommand p z.0 z.1 d) (λ k. (sym e k, sym f k)) (command_order p held a.job b.job d h))
+          ]
+          | inr x ↦ elim x [
+            | inl q ↦ r.two_jobs (e ∙ (sym q ∙ sym f))
+            | inr h ↦ r.unordered_back (subst (λ (z : ℕ × ℕ). HappensBeforeCommand p z.1 z.0 c) (λ k. (sym e k, sym f k)) (command_order p held b.job a.job c h))
+          ]
+        ];
+      }),
+)
 
 pub fits_command : (p : Plan) → IsWellFormed p → (c j : ℕ) (x : Command) → has (commands_of p j) c ≡ true → command_at p c ≡ Some x → Fits p.sizes x
 fits_command p w c j x h e =
@@ -97,8 +103,24 @@ copy_small p i x f s so t to n e =
     ((omega arith), (omega arith))
 
 -- an access of the table
-pub access_at : (p : Plan) (accesses : List Access) → HasAccesses p accesses → (c : ℕ) → c < length p.commands → IsAccess p c (get_or accesses c (record { job = 0; written = record { buffer = 0; start = 0; end = 0 }; read = None }))
-access_at p accesses h c l =
-    let n = h.count in
-    let none : Access = record { job = 0; written = record { buffer = 0; start = 0; end = 0 }; read = None } in
-    h.each c (get_or accesses c none) (slice_get-get_or accesses c none (omega arith))
+pub access_at : (p : Plan) (accesses : List Access) → AreAccesses p accesses → (c : ℕ) → c < length accesses → IsAccess p c (access_in accesses c)
+access_at p accesses h c l = h.each c (access_in accesses c) (slice_get-get_or accesses c (record { job = 0; written = record { buffer = 0; start = 0; end = 0 }; read = None }) l)
+
+-- of two commands of the table
+pub races_at : (p : Plan) → IsPlan p → (accesses : List Access) → AreAccesses p accesses → (c d : ℕ) → c < length accesses → d < length accesses → (RaceBy p (access_in accesses c) (access_in accesses d) → IsRace p c d) × (IsRace p c d → RaceBy p (access_in accesses c) (access_in accesses d))
+races_at p i accesses h c d l m = race_is p i c d (access_in accesses c) (access_in accesses d) (access_at p accesses h c l) (access_at p accesses h d m)
+
+-- those of fewer commands
+
+get_take : (n : ℕ) (xs : List Access) (c : ℕ) (a : Access) → slice_get (take n xs) c ≡ Some a → slice_get xs c ≡ Some a
+get_take zero xs c a e = absurd (let q : None ≡ Some a = e in cc)
+get_take (suc n) [] c a e = absurd (let q : None ≡ Some a = e in cc)
+get_take (suc n) (x ∷ xs) zero a e = e
+get_take (suc n) (x ∷ xs) (suc c) a e = get_take n xs c a e
+
+pub first_accesses : (p : Plan) (n : ℕ) (accesses : List Access) → n ≤ length accesses → AreAccesses p accesses → AreAccesses p (take n accesses)
+first_accesses p n accesses l h =
+    record {
+      within = let e = length-take-le n accesses l in let w = h.within in omega arith;
+      each = λ c a e. h.each c a (get_take n accesses c a e);
+    }

@@ -17,7 +17,7 @@ use Rattle.vq_reading_laws.proofs.Cited.{read_valid, read_batches, read_steps, r
 use Rattle.vq_order_laws.proofs.Cited.{signal_is, numbers_rise}
 use Rattle.vq_plan_laws.proofs.Cited.{plan_well_formed, plan_lines}
 use Rattle.vq_order.specs.Counts.{AreFirst}
-use Rattle.vq_order.specs.UnorderedPairs.{op_in, IsNextOrNone}
+use Rattle.vq_order.specs.UnorderedLines.{op_in, IsNextOrNone}
 use Rattle.vq_order.proofs.SlowFacts.{place, at_place, place_within}
 use Rattle.vq_order.proofs.UnorderedLaws.{get_at, order_at, op_here, op_of_chain}
 
@@ -60,15 +60,8 @@ module _ (p : Plan) (i : IsPlan p) (t : ℕ) (binary : kind_of p.script t ≡ So
     | inr d ↦ (let r = lines_rise k m (omega (arith, d)) h in omega arith)
   ]
 
-  module _ (ops : List ℕ) (same : ops ≡ chain p t) where
-    -- a search by halves over the chain
-    pub until_left : (line m : ℕ) → m < length ops → line_of_op p (get_or ops m 0) ≤ line → (k : ℕ) → k < m + 1 → line_of_op p (get_or ops k 0) ≤ line
-    until_left line m l h k b =
-        subst (λ (xs : List ℕ). m < length xs → line_of_op p (get_or xs m 0) ≤ line → line_of_op p (get_or xs k 0) ≤ line) (sym same)
-        (λ l h. let r = lines_rise_to k m (omega arith) l in omega arith) l h
-
-    pub until_right : (line m : ℕ) → line < line_of_op p (get_or ops m 0) → (k : ℕ) → m ≤ k → k < length ops → ¬ (line_of_op p (get_or ops k 0) ≤ line)
-    until_right line m h k b l n = let r = until_left line k l n m (omega arith) in omega arith
+  pub lines_down : (line k m : ℕ) → k < m → m < length (chain p t) → line_of_op p (op_in p t m) ≤ line → line_of_op p (op_in p t k) ≤ line
+  lines_down line k m l h a = let r = lines_rise k m l h in omega arith
 
   -- where an operation of the chain stands
   stands : (e : ℕ) → chain_of p e ≡ Some t → (k : ℕ) × (k < length (chain p t)) × (op_in p t k ≡ e)

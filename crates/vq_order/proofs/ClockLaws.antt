@@ -4,7 +4,7 @@ use Rattle.std.specs.List.{filter_map}
 use Rattle.std.specs.Option.{option_to_list}
 use Rattle.std.proofs.lemmas.Bool.{false≢true, cases_eq}
 use Rattle.vq_model.specs.Plan.{Plan, has, previous, host_before, idle_after, job_of}
-use Rattle.vq_model.specs.Edges.{Place, AtEnd, must_finish, awaited_at, edges_at}
+use Rattle.vq_model.specs.Edges.{Stage, AtEnd, must_finish, awaited_at, edges_at}
 use Rattle.vq_model.specs.SlowRun.{left_over}
 use Rattle.vq_model.specs.HappensBefore.{comes_earlier, IsHop, HappensBefore, HappensBeforeAt, one, more}
 use Rattle.vq_model.specs.Sure.{IsSure, IsSureAt, finished_first, waited_for, passed_on}
@@ -12,7 +12,7 @@ use Rattle.vq_model.proofs.Lists.{has-append_cases, has-append_left, has-append_
 use Rattle.vq_model.proofs.Mapped.{mapped}
 use Rattle.vq_model.proofs.Mapped.{has_mapped}
 use Rattle.vq_model.specs.Lanes.{lane_at, KeepsLanes, IsJustBefore}
-use Rattle.vq_order.specs.Clocks.{Covers, itself, IsClock, IsSureClock, PassesOne, SureByJob, IsSureBy}
+use Rattle.vq_order.specs.VectorClocks.{Covers, itself, IsClock, IsSureClock, PassesOne, SureByJob, IsSureBy}
 use Rattle.vq_order.proofs.SlowFacts.{must_earlier}
 use Rattle.vq_order.proofs.Covering.{joins, covers_same}
 
@@ -34,7 +34,7 @@ last_cases xs y x h = elim (has-append_cases xs (y ∷ []) x h) [
 
 module _ (p : Plan) where
   -- a job is before a place where it is, or is before, the first job of an edge to the place
-  pub passes_before : (j : ℕ) (k : Place) (x : ℕ) → PassesOne p j (edges_at p j k) x → HappensBeforeAt p x j k
+  pub passes_before : (j : ℕ) (k : Stage) (x : ℕ) → PassesOne p j (edges_at p j k) x → HappensBeforeAt p x j k
   passes_before j k x h = by_case h.comes
     where
       hop : IsHop p h.through j k
@@ -44,7 +44,7 @@ module _ (p : Plan) where
       by_case (inl b) = more b hop
       by_case (inr e) = one (subst (λ z. IsHop p z j k) (sym e) hop)
 
-  pub before_passes : (j : ℕ) (k : Place) (x : ℕ) → HappensBeforeAt p x j k → PassesOne p j (edges_at p j k) x
+  pub before_passes : (j : ℕ) (k : Stage) (x : ℕ) → HappensBeforeAt p x j k → PassesOne p j (edges_at p j k) x
   before_passes j k x (one h) = record { through = x; listed = h.edge; earlier = h.earlier; comes = inr refl }
   before_passes j k x (more {h = q} b h) = record { through = q; listed = h.edge; earlier = h.earlier; comes = inl b }
 
@@ -61,7 +61,7 @@ module _ (p : Plan) where
         | inr s ↦ absurd (false≢true (sym e ∙ subst (λ z. comes_earlier p z j ≡ true) s q.earlier))
       ])
 
-  pub clock_end : (j : ℕ) (k : Place) (row : ℕ → ℕ) → Covers (lane_at p) itself row (PassesOne p j (edges_at p j k)) → IsClock p j k row
+  pub clock_end : (j : ℕ) (k : Stage) (row : ℕ → ℕ) → Covers (lane_at p) itself row (PassesOne p j (edges_at p j k)) → IsClock p j k row
   clock_end j k row c = covers_same (lane_at p) itself row (PassesOne p j (edges_at p j k)) (λ i. HappensBeforeAt p i j k) c (passes_before j k) (before_passes j k)
 
 module _ (p : Plan) (lanes : KeepsLanes p) (reach : left_over p ≡ []) where
@@ -188,7 +188,7 @@ module _ (p : Plan) (lanes : KeepsLanes p) (reach : left_over p ≡ []) where
       ]
 
   -- nothing else is sure for a job
-  pub sure_end : (j : ℕ) (k : Place) (row : ℕ → ℕ) → j < length p.jobs → Covers (lane_at p) (job_of p) row (IsSureBy p j (must_finish p j) (awaited_at p j k)) → IsSureClock p j k row
+  pub sure_end : (j : ℕ) (k : Stage) (row : ℕ → ℕ) → j < length p.jobs → Covers (lane_at p) (job_of p) row (IsSureBy p j (must_finish p j) (awaited_at p j k)) → IsSureClock p j k row
   sure_end j k row l c = covers_same (lane_at p) (job_of p) row (IsSureBy p j (must_finish p j) (awaited_at p j k)) (λ e. IsSureAt p e j k) c to_sure from_sure
     where
       op_hop : (f i : ℕ) → has (awaited_at p j k) f ≡ true → job_of p f ≡ Some i → comes_earlier p i j ≡ true → IsHop p i j k

@@ -4,10 +4,10 @@ pub mod ClockLaws
 pub mod RowLaws
 pub mod WindowLaws
 pub mod RaceLaws
-pub mod PairLaws
-pub mod PlanFacts
+pub mod LineSearches
+pub mod Firsts
+pub mod CheckLaws
 pub mod Resolving
-pub mod PairSearches
 pub mod UnorderedLaws
 pub mod BinaryChains
 pub mod UnorderedSteps

@@ -4,20 +4,13 @@ use Rattle.std.specs.Option.{option_map_or, option_to_list}
 use Rattle.std.specs.List.{list_any}
 use Rattle.std.proofs.lemmas.Bool.{cases_eq, cases_lt}
 use Rattle.vq_model.specs.declared.script.Command.{Command}
-use Rattle.vq_model.specs.Ranges.{Range, share, conflict, written_range, read_range}
+use Rattle.vq_model.specs.declared.ranges.Range.{Range}
+use Rattle.vq_model.specs.Ranges.{share, conflict, written_range, read_range}
 use Rattle.vq_model.specs.Plan.{Plan, has, commands_of, command_at}
-use Rattle.vq_model.specs.Edges.{Place, place_of}
 use Rattle.vq_model.specs.WellFormed.{IsWellFormed}
 use Rattle.vq_model.specs.Races.{conflicts, IsRace}
-use Rattle.vq_model.specs.HappensBefore.{HappensBeforeAt, HappensBeforeCommand}
 use Rattle.vq_model.specs.Checks.{IsRaceAt, IsLeastPair}
 use Rattle.vq_model.specs.Plan.{line_of_command}
-use Rattle.vq_order_laws.proofs.Cited.{before_end}
-use Rattle.vq_order.proofs.WindowLaws.{before_then}
-
--- what is before a command is before all that its job is before
-pub command_then : (p : Plan) (h i j c : ℕ) (k : Place) → HappensBeforeCommand p h i c → HappensBeforeAt p i j k → HappensBeforeAt p h j k
-command_then p h i j c k a b = before_then p h i j k (before_end p h i (place_of p i c) a) b
 
 -- Conflicts go both ways
 

@@ -1,5 +1,5 @@
 -- What one edge, or one operation, adds to the row of a job.
-use Rattle.std.proofs.Common.{◌≡◌, ℕ, zero, suc, ◌+◌, ◌-◌, ◌<◌, ◌≤◌, max, true, false, eqb, ltb, if◌then◌else◌, List, [], ◌∷◌, ◌++◌, length, take, replicate, get_or, IsTrue, ◌↔◌, Some, None, refl, sym, ap, ◌∙◌, ◌⊎◌, inl, inr, subst, arith}
+use Rattle.std.proofs.Common.{◌≡◌, ℕ, zero, suc, ◌+◌, ◌-◌, ◌<◌, ◌≤◌, max, true, false, eqb, ltb, List, [], ◌∷◌, ◌++◌, length, take, replicate, get_or, IsTrue, ◌↔◌, Option, Some, None, refl, sym, ap, ◌∙◌, ◌⊎◌, inl, inr, subst, arith}
 use Rattle.std.specs.List.{slice_get, filter_map}
 use Rattle.std.proofs.Common.{add-one}
 use Rattle.std.proofs.Math.Seq.{take-append_seam, take-suc, get_or-append_seam}
@@ -15,17 +15,12 @@ use Rattle.vq_model.specs.Sure.{IsSure}
 use Rattle.vq_model.proofs.Lists.{has-append_cases, has_here, has_there, has_cases}
 use Rattle.vq_model.proofs.Mapped.{mapped}
 use Rattle.vq_model.specs.Lanes.{lane_at, KeepsLanes}
-use Rattle.vq_order.specs.Clocks.{Covers, itself, PassesOne, in_row, row_of, row_at, position, HasClocks, HasPositions, IsClock, AreRows, IsSureClock, HasSureClocks, SureByJob, IsSureBy, EndsOps, AreClocks}
+use Rattle.vq_order.specs.VectorClocks.{HasClocks, HasSureClocks, Covers, in_row, row_of, position, lanes, HasRows, HasPositions, IsComplete, SureByJob, IsSureBy, EndsOps}
 use Rattle.vq_order.proofs.SlowFacts.{place_at, place_within, at_place, has_at, slow_exists, slow_short, must_earlier}
 use Rattle.vq_order_laws.proofs.Cited.{slow_distinct, slow_has}
 use Rattle.vq_model.proofs.Gets.{slice_get_past}
 use Rattle.std.specs.Option.{option_map}
 use Rattle.vq_order.proofs.Covering.{covers_same}
-use Rattle.vq_order.proofs.ClockLaws.{clock_step, clock_skip, sure_job_step, sure_op_step, sure_op_skip}
-
--- a test that fails
-pub ltb_not : (a b : ℕ) → b ≤ a → ltb a b ≡ false
-ltb_not a b h = grind arith
 
 -- what is written back into a vector whole
 pub whole_new : {X : Type 0} (n : ℕ) (new rest : List X) → length new ≡ n → take n (new ++ rest) ≡ new
@@ -42,57 +37,37 @@ module _ (p : Plan) where
     | inr m ↦ let r = mapped (job_of p) (awaited_at p j AtEnd) i m in lanes.job_exists r.0 i r.2
   ]
 
-  pub row_start : (j : ℕ) (row : List ℕ) (n : ℕ) → row ≡ replicate n 0 → Covers (lane_at p) itself (in_row row) (PassesOne p j [])
-  row_start j row n e = record { below = λ x i o h. absurd (false≢true h.listed); covered = λ x i o h. let z : in_row row (lane_at p i) ≡ 0 = ap (λ r. in_row r (lane_at p i)) e ∙ in_zeros n (lane_at p i) in absurd (omega arith) }
-
-module _ (p : Plan) (lanes : KeepsLanes p) (reach : left_over p ≡ []) (rows : List (List ℕ)) (positions : List ℕ) (has_positions : HasPositions p positions) (j : ℕ) (exists : j < length p.jobs) (clocks : HasClocks p rows (position p j)) (h : ℕ) (h_exists : h < length p.jobs) where
-  pub take_edge : get_or positions h 0 < get_or positions j 0 → (row new : List ℕ) → ((l : ℕ) → in_row new l ≡ max (max (in_row row l) (in_row (get_or rows (get_or positions h 0) []) l)) (if eqb (lane_at p h) l then h + 1 else 0)) → (edges : List ℕ) → Covers (lane_at p) itself (in_row row) (PassesOne p j edges) → Covers (lane_at p) itself (in_row new) (PassesOne p j (edges ++ h ∷ []))
-  take_edge less row new is edges c =
-      let a = has_positions.each h h_exists in
-      let b = has_positions.each j exists in
-      let l : position p h < position p j = omega arith in
-      let f : IsClock p h AtEnd (in_row (get_or rows (get_or positions h 0) [])) = subst (λ (k : ℕ). IsClock p h AtEnd (row_at rows k)) (sym a) (clocks.clock h l) in
-      clock_step p lanes reach j h edges (in_row row) (in_row (get_or rows (get_or positions h 0) [])) (in_row new) h_exists (lt-ltb (position p h) (position p j) l) f c is
-
-  pub leave_edge : get_or positions j 0 ≤ get_or positions h 0 → (row : List ℕ) → (edges : List ℕ) → Covers (lane_at p) itself (in_row row) (PassesOne p j edges) → Covers (lane_at p) itself (in_row row) (PassesOne p j (edges ++ h ∷ []))
-  leave_edge more row edges c =
-      let a = has_positions.each h h_exists in
-      let b = has_positions.each j exists in
-      clock_skip p j h edges (in_row row) (ltb_not (position p h) (position p j) (omega arith)) c
+-- a row of zeros covers nothing
+pub zeros_cover : (lane : ℕ → ℕ) (of : ℕ → Option ℕ) (S : ℕ → Type 0) → ((x : ℕ) → ¬ S x) → (n : ℕ) → Covers lane of (in_row (replicate n 0)) S
+zeros_cover lane of S none n = record { below = λ x i o h. absurd (none x h); covered = λ x i o h. let z = in_zeros n (lane i) in absurd (omega arith) }
 
 -- Tables that grow
-
-pub rows_push : (p : Plan) (rows : List (List ℕ)) (row : List ℕ) (n j : ℕ) → length rows ≡ n → position p j ≡ n → (Q : ℕ → (ℕ → ℕ) → Type 0) → ((i : ℕ) → position p i < n → Q i (row_of p rows i)) → ((i : ℕ) → position p i ≡ n → i ≡ j) → Q j (in_row row) → (i : ℕ) → position p i < n + 1 → Q i (row_of p (rows ++ row ∷ []) i)
-rows_push p rows row n j count here Q old only new i h = elim (cases_lt (position p i) n) [
-  | inl l ↦ subst (λ (r : List ℕ). Q i (in_row r)) (sym (get_or-append rows (row ∷ []) [] (position p i) (omega arith))) (old i l)
-  | inr g ↦
-      let e : position p i ≡ n = omega arith in
-      let at : position p i ≡ length rows = e ∙ sym count in
-      let r : get_or (rows ++ row ∷ []) (position p i) [] ≡ row = ap (λ k. get_or (rows ++ row ∷ []) k []) at ∙ get_or-append_seam rows row [] [] in
-      let s = only i e in
-      subst (λ (x : List ℕ). Q i (in_row x)) (sym r) (subst (λ k. Q k (in_row row)) (sym s) new)
-]
-
-rows_wide : (p : Plan) (rows : List (List ℕ)) (row : List ℕ) (n : ℕ) → AreRows p rows n → length row ≡ length p.script.queues + 1 → AreRows p (rows ++ row ∷ []) (n + 1)
-rows_wide p rows row n t w =
-    record {
-      count = let a = t.count in let e = length-append rows (row ∷ []) in omega arith;
-      width = λ q h. elim (cases_lt q n) [
-        | inl l ↦ ap length (get_or-append rows (row ∷ []) [] q (let a = t.count in omega arith)) ∙ t.width q l
-        | inr g ↦ let at : q ≡ length rows = (let a = t.count in omega arith) in ap length (ap (λ k. get_or (rows ++ row ∷ []) k []) at ∙ get_or-append_seam rows row [] []) ∙ w
-      ];
-    }
 
 -- one job alone stands at a place of the slow run
 only : (p : Plan) (n : ℕ) → n < length (slow_order p) → (i : ℕ) → position p i ≡ n → i ≡ get_or (slow_order p) n 0
 only p n l i e = sym (at_place (slow_order p) i (omega arith)) ∙ ap (λ k. get_or (slow_order p) k 0) e
 
-pub clocks_push : (p : Plan) (rows : List (List ℕ)) (row : List ℕ) (n : ℕ) → n < length (slow_order p) → HasClocks p rows n → IsClock p (get_or (slow_order p) n 0) AtEnd (in_row row) → length row ≡ length p.script.queues + 1 → HasClocks p (rows ++ row ∷ []) (n + 1)
-clocks_push p rows row n l c k w =
+pub rows_push : (p : Plan) (Says : ℕ → (ℕ → ℕ) → Type 0) (rows : List (List ℕ)) (row : List ℕ) (n : ℕ) → n < length (slow_order p) → HasRows p Says rows n → Says (get_or (slow_order p) n 0) (in_row row) → length row ≡ lanes p → HasRows p Says (rows ++ row ∷ []) (n + 1)
+rows_push p Says rows row n l t new w =
     record {
-      table = rows_wide p rows row n c.table w;
-      clock = rows_push p rows row n (get_or (slow_order p) n 0) c.table.count (place_at (slow_order p) n (slow_distinct p) l) (λ i r. IsClock p i AtEnd r) c.clock (only p n l) k;
+      count = let e = length-append rows (row ∷ []) in let a = t.count in omega arith;
+      width = λ q h. elim (cases_lt q n) [
+        | inl b ↦ ap length (front q b) ∙ t.width q b
+        | inr g ↦ ap length (last q (omega arith)) ∙ w
+      ];
+      each = λ i h. elim (cases_lt (position p i) n) [
+        | inl b ↦ subst (λ (r : List ℕ). Says i (in_row r)) (sym (front (position p i) b)) (t.each i b)
+        | inr g ↦
+            let e : position p i ≡ n = omega arith in
+            subst (λ (x : ℕ × List ℕ). Says x.0 (in_row x.1)) (λ k. (sym (only p n l i e) k, sym (last (position p i) e) k)) new
+      ];
     }
+  where
+    front : (q : ℕ) → q < n → get_or (rows ++ row ∷ []) q [] ≡ get_or rows q []
+    front q b = get_or-append rows (row ∷ []) [] q (let a = t.count in omega arith)
+
+    last : (q : ℕ) → q ≡ n → get_or (rows ++ row ∷ []) q [] ≡ row
+    last q e = ap (λ k. get_or (rows ++ row ∷ []) k []) (e ∙ sym t.count) ∙ get_or-append_seam rows row [] []
 
 -- the job at a place of the slow run
 pub slow_at : (p : Plan) (order : List ℕ) → order ≡ slow_order p → (i : ℕ) → i < length order → (get_or order i 0 < length p.jobs) × (position p (get_or order i 0) ≡ i)
@@ -170,44 +145,6 @@ ends_none p w j e =
       above = λ f i o l. omega arith;
     }
 
--- Rows of sure operations
-
-module _ (p : Plan) (lanes : KeepsLanes p) (reach : left_over p ≡ []) (rows : List (List ℕ)) (positions : List ℕ) (has_positions : HasPositions p positions) (j : ℕ) (exists : j < length p.jobs) (clocks : HasSureClocks p rows (position p j)) where
-  pub first_early : (i : ℕ) → has (must_finish p j) i ≡ true → get_or positions i 0 < position p j
-  first_early i m =
-      let a = has_positions.each i (lanes.first_exists i j m) in
-      let l = ltb-true (position p i) (position p j) (must_earlier p reach i j exists m) in
-      omega arith
-
-  pub take_job : (i b : ℕ) → has (must_finish p j) i ≡ true → EndsOps p i b → (row new : List ℕ) → ((l : ℕ) → in_row new l ≡ max (max (in_row row l) (in_row (get_or rows (get_or positions i 0) []) l)) (if eqb (lane_at p i) l then b else 0)) → (firsts : List ℕ) → Covers (lane_at p) (job_of p) (in_row row) (SureByJob p firsts) → Covers (lane_at p) (job_of p) (in_row new) (SureByJob p (firsts ++ i ∷ []))
-  take_job i b m ends row new is firsts c =
-      let here = lanes.first_exists i j m in
-      let a = has_positions.each i here in
-      let l = ltb-true (position p i) (position p j) (must_earlier p reach i j exists m) in
-      let f : IsSureClock p i AtEnd (in_row (get_or rows (get_or positions i 0) [])) = subst (λ (k : ℕ). IsSureClock p i AtEnd (row_at rows k)) (sym a) (clocks.clock i l) in
-      sure_job_step p lanes reach i b firsts (in_row row) (in_row (get_or rows (get_or positions i 0) [])) (in_row new) here f ends.own ends.above c is
-
-  pub take_op : (f i : ℕ) → job_of p f ≡ Some i → get_or positions i 0 < get_or positions j 0 → (row new : List ℕ) → ((l : ℕ) → in_row new l ≡ max (max (in_row row l) (in_row (get_or rows (get_or positions i 0) []) l)) (if eqb (lane_at p i) l then f + 1 else 0)) → (firsts ops : List ℕ) → Covers (lane_at p) (job_of p) (in_row row) (IsSureBy p j firsts ops) → Covers (lane_at p) (job_of p) (in_row new) (IsSureBy p j firsts (ops ++ f ∷ []))
-  take_op f i o less row new is firsts ops c =
-      let a = has_positions.each i (lanes.job_exists f i o) in
-      let b = has_positions.each j exists in
-      let l : position p i < position p j = omega arith in
-      let g : IsSureClock p i AtEnd (in_row (get_or rows (get_or positions i 0) [])) = subst (λ (k : ℕ). IsSureClock p i AtEnd (row_at rows k)) (sym a) (clocks.clock i l) in
-      sure_op_step p lanes reach j f i firsts ops (in_row row) (in_row (get_or rows (get_or positions i 0) [])) (in_row new) o (lt-ltb (position p i) (position p j) l) g c is
-
-  pub leave_op : (f i : ℕ) → job_of p f ≡ Some i → get_or positions j 0 ≤ get_or positions i 0 → (row : List ℕ) → (firsts ops : List ℕ) → Covers (lane_at p) (job_of p) (in_row row) (IsSureBy p j firsts ops) → Covers (lane_at p) (job_of p) (in_row row) (IsSureBy p j firsts (ops ++ f ∷ []))
-  leave_op f i o more row firsts ops c =
-      let a = has_positions.each i (lanes.job_exists f i o) in
-      let b = has_positions.each j exists in
-      sure_op_skip p lanes reach j f i firsts ops (in_row row) o (ltb_not (position p i) (position p j) (omega arith)) c
-
-pub sure_push : (p : Plan) (rows : List (List ℕ)) (row : List ℕ) (n : ℕ) → n < length (slow_order p) → HasSureClocks p rows n → IsSureClock p (get_or (slow_order p) n 0) AtEnd (in_row row) → length row ≡ length p.script.queues + 1 → HasSureClocks p (rows ++ row ∷ []) (n + 1)
-sure_push p rows row n l c k w =
-    record {
-      table = rows_wide p rows row n c.table w;
-      clock = rows_push p rows row n (get_or (slow_order p) n 0) c.table.count (place_at (slow_order p) n (slow_distinct p) l) (λ i r. IsSureClock p i AtEnd r) c.clock (only p n l) k;
-    }
-
 pub last_none : (xs : List ℕ) → None ≡ slice_get xs (length xs - 1) → xs ≡ []
 last_none [] h = refl
 last_none (x ∷ xs) h = absurd (none_at (x ∷ xs) (length (x ∷ xs) - 1) (let l : suc (length xs) - 1 < suc (length xs) = omega arith in l) h)
@@ -217,78 +154,33 @@ last_none (x ∷ xs) h = absurd (none_at (x ∷ xs) (length (x ∷ xs) - 1) (let
     none_at (y ∷ ys) zero l e = let s : None ≡ Some y = e in cc
     none_at (y ∷ ys) (suc n) l e = none_at ys n (omega arith) e
 
-pub sure_start : (p : Plan) (row : List ℕ) (n : ℕ) → row ≡ replicate n 0 → Covers (lane_at p) (job_of p) (in_row row) (SureByJob p [])
-sure_start p row n e = record { below = λ x i o h. absurd (false≢true h.listed); covered = λ x i o h. let z : in_row row (lane_at p i) ≡ 0 = ap (λ r. in_row r (lane_at p i)) e ∙ in_zeros n (lane_at p i) in absurd (omega arith) }
-
 pub sure_middle : (p : Plan) (j : ℕ) (firsts row : List ℕ) → Covers (lane_at p) (job_of p) (in_row row) (SureByJob p firsts) → Covers (lane_at p) (job_of p) (in_row row) (IsSureBy p j firsts [])
 sure_middle p j firsts row c =
     covers_same (lane_at p) (job_of p) (in_row row) (SureByJob p firsts) (IsSureBy p j firsts []) c (λ x h. inl h) (λ x h. elim h [ inl q ↦ q | inr q ↦ absurd (false≢true q.listed) ])
 
--- Reading the tables
+-- what must be finished before a job stands earlier in the slow run
+pub first_early : (p : Plan) → IsComplete p → (j : ℕ) → j < length p.jobs → (i : ℕ) → has (must_finish p j) i ≡ true → position p i < position p j
+first_early p c j l i m = ltb-true (position p i) (position p j) (must_earlier p c.reachable i j l m)
 
-module _ (p : Plan) (positions : List ℕ) (before sure : List (List ℕ)) (right : AreClocks p positions before sure) (j : ℕ) (exists : j < length p.jobs) where
-  abbrev pub here : ℕ
-  here = get_or positions j 0
+-- each job has a place in a run that leaves none
+pub position_within : (p : Plan) → IsComplete p → (j : ℕ) → j < length p.jobs → position p j < length (slow_order p)
+position_within p c j l = place_within (slow_order p) j (slow_has p c.reachable j l)
 
-  pub here_within : here < length (slow_order p)
-  here_within = let a = right.positions_right.each j exists in let l = place_within (slow_order p) j (slow_has p right.reachable j exists) in omega arith
+-- Reading the tables of all jobs
 
-  pub before_row_exists : here < length before
-  before_row_exists = let l = here_within in let n = right.before_right.table.count in omega arith
+module _ (p : Plan) (complete : IsComplete p) (rows : List (List ℕ)) (j : ℕ) (exists : j < length p.jobs) where
+  pub row_exists : (Says : ℕ → (ℕ → ℕ) → Type 0) → HasRows p Says rows (length (slow_order p)) → (position p j < length rows) × (length (get_or rows (position p j) []) ≡ lanes p)
+  row_exists Says t =
+      let l = position_within p complete j exists in
+      let n = t.count in
+      ((omega arith), t.width (position p j) l)
 
-  pub sure_row_exists : here < length sure
-  sure_row_exists = let l = here_within in let n = right.sure_right.table.count in omega arith
+  pub before_exact : HasClocks p rows (length (slow_order p)) → (i : ℕ) → IsTrue (ltb i (row_of p rows j (lane_at p i))) ↔ HappensBefore p i j
+  before_exact t i =
+      let f = t.each j (position_within p complete j exists) in
+      ((λ h. f.covered i i refl (ltb-true i (row_of p rows j (lane_at p i)) h)), (λ h. lt-ltb i (row_of p rows j (lane_at p i)) (f.below i i refl h)))
 
-  pub before_lane_exists : (i : ℕ) → lane_at p i < length (get_or before here [])
-  before_lane_exists i = let w = right.before_right.table.width here here_within in let l = right.lanes.lane_exists i in omega arith
-
-  pub sure_lane_exists : (i : ℕ) → lane_at p i < length (get_or sure here [])
-  sure_lane_exists i = let w = right.sure_right.table.width here here_within in let l = right.lanes.lane_exists i in omega arith
-
-  pub before_exact : (i : ℕ) → IsTrue (ltb i (get_or (get_or before here []) (lane_at p i) 0)) ↔ HappensBefore p i j
-  before_exact i =
-      let a = right.positions_right.each j exists in
-      let f : IsClock p j AtEnd (in_row (get_or before here [])) = subst (λ (k : ℕ). IsClock p j AtEnd (row_at before k)) (sym a) (right.before_right.clock j (let l = here_within in omega arith)) in
-      ((λ h. f.covered i i refl (ltb-true i (get_or (get_or before here []) (lane_at p i) 0) h)), (λ h. lt-ltb i (get_or (get_or before here []) (lane_at p i) 0) (f.below i i refl h)))
-
-  pub sure_exact : (e i : ℕ) → job_of p e ≡ Some i → IsTrue (ltb e (get_or (get_or sure here []) (lane_at p i) 0)) ↔ IsSure p e j
-  sure_exact e i o =
-      let a = right.positions_right.each j exists in
-      let f : IsSureClock p j AtEnd (in_row (get_or sure here [])) = subst (λ (k : ℕ). IsSureClock p j AtEnd (row_at sure k)) (sym a) (right.sure_right.clock j (let l = here_within in omega arith)) in
-      ((λ h. f.covered e i o (ltb-true e (get_or (get_or sure here []) (lane_at p i) 0) h)), (λ h. lt-ltb e (get_or (get_or sure here []) (lane_at p i) 0) (f.below e i o h)))
-
--- A search through the edges to a place
-
-pub passes_wider : (p : Plan) (j : ℕ) (xs ys : List ℕ) (i : ℕ) → ((h : ℕ) → has xs h ≡ true → has ys h ≡ true) → PassesOne p j xs i → PassesOne p j ys i
-passes_wider p j xs ys i f q = record { through = q.through; listed = f q.through q.listed; earlier = q.earlier; comes = q.comes }
-
-pub passes_last : (p : Plan) (j : ℕ) (edges : List ℕ) (n i : ℕ) → n < length edges → ¬ PassesOne p j (take n edges) i → ¬ PassesOne p j (get_or edges n 0 ∷ []) i → ¬ PassesOne p j (take (n + 1) edges) i
-passes_last p j edges n i l a b q =
-    elim (has-append_cases (take n edges) (get_or edges n 0 ∷ []) q.through (subst (λ (xs : List ℕ). has xs q.through ≡ true) (rw add-one (take-suc edges n 0 l)) q.listed)) [
-      | inl m ↦ a (record { through = q.through; listed = m; earlier = q.earlier; comes = q.comes })
-      | inr m ↦ b (record { through = q.through; listed = m; earlier = q.earlier; comes = q.comes })
-    ]
-
-pub one_edge : (xs : List ℕ) (n h : ℕ) → n < length xs → has (get_or xs n 0 ∷ []) h ≡ true → has xs h ≡ true
-one_edge xs n h l m = elim (has_cases (get_or xs n 0) [] h m) [ inl e ↦ subst (λ z. has xs z ≡ true) e (has_at xs n l) | inr t ↦ absurd (false≢true t) ]
-
-module _ (p : Plan) (positions : List ℕ) (right : HasPositions p positions) (h i j : ℕ) (h_exists : h < length p.jobs) (exists : j < length p.jobs) where
-  pub pass_is : get_or positions h 0 < get_or positions j 0 → (HappensBefore p i h ⊎ (i ≡ h)) → PassesOne p j (h ∷ []) i
-  pass_is l c =
-      let a = right.each h h_exists in
-      let b = right.each j exists in
-      record { through = h; listed = has_here h []; earlier = lt-ltb (position p h) (position p j) (omega arith); comes = c }
-
-  only_edge : (t : ℕ) → has (h ∷ []) t ≡ true → t ≡ h
-  only_edge t m = elim (has_cases h [] t m) [ inl e ↦ sym e | inr f ↦ absurd (false≢true f) ]
-
-  pub pass_comes : PassesOne p j (h ∷ []) i → HappensBefore p i h ⊎ (i ≡ h)
-  pass_comes q = let e = only_edge q.through q.listed in subst (λ z. HappensBefore p i z ⊎ (i ≡ z)) e q.comes
-
-  pub pass_late : get_or positions j 0 ≤ get_or positions h 0 → ¬ PassesOne p j (h ∷ []) i
-  pass_late l q =
-      let e = only_edge q.through q.listed in
-      let a = right.each h h_exists in
-      let b = right.each j exists in
-      let c = ltb-true (position p h) (position p j) (subst (λ z. ltb (position p z) (position p j) ≡ true) e q.earlier) in
-      omega arith
+  pub sure_exact : HasSureClocks p rows (length (slow_order p)) → (e i : ℕ) → job_of p e ≡ Some i → IsTrue (ltb e (row_of p rows j (lane_at p i))) ↔ IsSure p e j
+  sure_exact t e i o =
+      let f = t.each j (position_within p complete j exists) in
+      ((λ h. f.covered e i o (ltb-true e (row_of p rows j (lane_at p i)) h)), (λ h. lt-ltb e (row_of p rows j (lane_at p i)) (f.below e i o h)))

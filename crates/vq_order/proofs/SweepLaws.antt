@@ -2,21 +2,21 @@
 use Rattle.std.proofs.Common.{◌≡◌, ℕ, ◌<◌, ◌+◌, Bool, true, false, List, [], ◌∷◌, ◌++◌, length, take, get_or, Option, Some, sym, ◌∙◌, ◌⊎◌, inl, inr, subst}
 use Rattle.std.proofs.lemmas.Bool.{false≢true}
 use Rattle.vq_model.proofs.Lists.{has-append_cases, has-append_left, has-append_right, has_here, has_cases}
-use Rattle.vq_model.specs.Edges.{place_of}
+use Rattle.vq_model.specs.Edges.{AtEnd}
 use Rattle.vq_model.specs.Plan.{Plan, has}
-use Rattle.vq_order.specs.declared.cells.Cell.{Cell}
-use Rattle.vq_order.specs.Swept.{AtOrBefore, Touch, Touched, ByWriter, ByReader, KeepsCell, HasJobs, IsAfterSome, IsAfterAll, KeepsLater}
+use Rattle.vq_order.specs.declared.races.cells.Cell.{Cell}
+use Rattle.vq_order.specs.Swept.{AtOrBefore, Visit, Touched, ByWriter, ByReader, KeepsCell, HasJobs, IsAfterSome, IsAfterAll, KeepsLater}
 use Rattle.vq_order.proofs.Marking.{taken_cases}
-use Rattle.vq_order.proofs.RaceLaws.{command_then}
+use Rattle.vq_order.proofs.WindowLaws.{before_then}
 use Rattle.vq_order.proofs.SlowFacts.{has_at}
 
 module _ (p : Plan) where
   pub then_before : (h i j : ℕ) → AtOrBefore p h i → AtOrBefore p i j → AtOrBefore p h j
   then_before h i j (inl e) b = subst (λ z. AtOrBefore p z j) (sym e) b
   then_before h i j (inr a) (inl e) = subst (λ z. AtOrBefore p h z) e (inr a)
-  then_before h i j (inr a) (inr b) = inr (λ d. command_then p h i j 0 (place_of p j d) (a 0) (b d))
+  then_before h i j (inr a) (inr b) = inr (before_then p h i j AtEnd a b)
 
-  abbrev here : ℕ → ℕ → Bool → Touch
+  abbrev here : ℕ → ℕ → Bool → Visit
   here k j w = record { cell = k; job = j; writes = w }
 
   writer_then : (writer : Option ℕ) (j d : ℕ) → IsAfterSome p writer d → ByWriter p writer j → AtOrBefore p j d
@@ -25,7 +25,7 @@ module _ (p : Plan) where
   reader_then : (readers : List ℕ) (j d : ℕ) → IsAfterAll p readers d → ByReader p readers j → AtOrBefore p j d
   reader_then readers j d f b = then_before j b.later d b.comes (f b.later b.is_kept)
 
-  pub read_keeps : (cell : Cell) (new : Cell) (d : ℕ) → new.writer ≡ cell.writer → IsAfterSome p cell.writer d → KeepsLater p cell.readers.items d new.readers.items → (log : List Touch) (k : ℕ) → KeepsCell p log k cell → KeepsCell p (here k d false ∷ log) k new
+  pub read_keeps : (cell : Cell) (new : Cell) (d : ℕ) → new.writer ≡ cell.writer → IsAfterSome p cell.writer d → KeepsLater p cell.readers.items d new.readers.items → (log : List Visit) (k : ℕ) → KeepsCell p log k cell → KeepsCell p (here k d false ∷ log) k new
   read_keeps cell new d same after later log k c =
       record {
         wrote = λ j t. elim t [
@@ -52,14 +52,14 @@ module _ (p : Plan) where
       }
 
   -- all that touched a cell comes before one that follows its last writer and all readers since
-  touched_before : (cell : Cell) (d : ℕ) → IsAfterSome p cell.writer d → IsAfterAll p cell.readers.items d → (log : List Touch) (k : ℕ) → KeepsCell p log k cell → (j : ℕ) (w : Bool) → Touched log k j w → AtOrBefore p j d
+  touched_before : (cell : Cell) (d : ℕ) → IsAfterSome p cell.writer d → IsAfterAll p cell.readers.items d → (log : List Visit) (k : ℕ) → KeepsCell p log k cell → (j : ℕ) (w : Bool) → Touched log k j w → AtOrBefore p j d
   touched_before cell d f g log k c j true t = writer_then cell.writer j d f (c.wrote j t)
   touched_before cell d f g log k c j false t = elim (c.read j t) [
     | inl b ↦ writer_then cell.writer j d f b
     | inr b ↦ reader_then cell.readers.items j d g b
   ]
 
-  pub write_keeps : (cell : Cell) (new : Cell) (d : ℕ) → new.writer ≡ Some d → IsAfterSome p cell.writer d → IsAfterAll p cell.readers.items d → (log : List Touch) (k : ℕ) → KeepsCell p log k cell → KeepsCell p (here k d true ∷ log) k new
+  pub write_keeps : (cell : Cell) (new : Cell) (d : ℕ) → new.writer ≡ Some d → IsAfterSome p cell.writer d → IsAfterAll p cell.readers.items d → (log : List Visit) (k : ℕ) → KeepsCell p log k cell → KeepsCell p (here k d true ∷ log) k new
   write_keeps cell new d same f g log k c =
       record {
         wrote = λ j t. elim t [

@@ -4,8 +4,8 @@ use Rattle.std.specs.List.{slice_get}
 use Rattle.std.proofs.lemmas.Bool.{false≢true}
 use Rattle.std.proofs.lemmas.List.{length-set}
 use Rattle.vq_model.specs.Plan.{Plan, has}
-use Rattle.vq_order.specs.declared.cells.Cell.{Cell}
-use Rattle.vq_order.specs.Swept.{Touch, Touched, KeepsCell, HasJobs, Touches, KeepsAll, HaveJobs, Extended, Sweeps, AreUntouched}
+use Rattle.vq_order.specs.declared.races.cells.Cell.{Cell}
+use Rattle.vq_order.specs.Swept.{Visit, Touched, KeepsCell, HasJobs, Touches, KeepsAll, HaveJobs, Extended, Sweeps, AreUntouched, FitsSweep}
 
 -- a cell after one of them has changed
 pub changed_cases : (cells : List Cell) (k : ℕ) (new : Cell) (i : ℕ) (cell : Cell) → slice_get (set cells k new) i ≡ Some cell → ((i ≡ k) × (cell ≡ new)) ⊎ ((k ≢ i) × (slice_get cells i ≡ Some cell))
@@ -20,7 +20,7 @@ changed_cases (c ∷ cells) (suc k) new (suc i) cell e = elim (changed_cases cel
 
 module _ (p : Plan) where
   -- a touch of another cell changes nothing
-  elsewhere : (log : List Touch) (t : Touch) (k : ℕ) (cell : Cell) → t.cell ≢ k → KeepsCell p log k cell → KeepsCell p (t ∷ log) k cell
+  elsewhere : (log : List Visit) (t : Visit) (k : ℕ) (cell : Cell) → t.cell ≢ k → KeepsCell p log k cell → KeepsCell p (t ∷ log) k cell
   elsewhere log t k cell n c =
       record {
         wrote = λ j h. c.wrote j (old j true h);
@@ -65,7 +65,7 @@ module _ (p : Plan) where
         extends = λ log keeps. both log (f.extends log keeps);
       }
     where
-      both : (log : List Touch) → Extended p b log First → Extended p c log Own
+      both : (log : List Visit) → Extended p b log First → Extended p c log Own
       both log x =
           let y = s.extends x.longer x.keeps in
           record {
@@ -93,3 +93,7 @@ module _ (p : Plan) where
 
   pub untouched_keeps : (cells : List Cell) → KeepsAll p [] cells
   untouched_keeps cells k cell e = record { wrote = λ j t. absurd t; read = λ j t. absurd t; in_order = λ i j w t u. absurd t }
+
+  -- after going through cells, one may go on
+  pub fits_then : (cuts : List ℕ) (a b : List Cell) (Own : ℕ → ℕ → Bool → Type 0) → FitsSweep p cuts a → Sweeps p a b Own → FitsSweep p cuts b
+  fits_then cuts a b Own f s = record { rise = f.rise; count = s.count ∙ f.count; jobs = s.jobs }

@@ -11,8 +11,8 @@ use Rattle.vq_model.specs.Checks.{IsUnordered, AreNeighbours, is_timeline_chain,
 use Rattle.vq_model.proofs.Gets.{slice_get_past}
 use Rattle.vq_model.proofs.Gets.{get_within}
 use Rattle.vq_model.proofs.Options.{some_of}
-use Rattle.vq_order.specs.UnorderedPairs.{IsOfFirst, IsTooLow, IsUnsureFor, AreUnordered, op_in, IsUnorderedAt, IsUnorderedIn, IsOvertakenIn}
-use Rattle.vq_order.proofs.PairSearches.{Either}
+use Rattle.vq_order.specs.UnorderedLines.{IsOfFirst, IsTooLow, IsUnsureFor, AreUnordered, op_in, IsUnorderedAt, IsUnorderedIn, IsOvertakenIn}
+use Rattle.vq_order.proofs.LineSearches.{Either}
 use Rattle.vq_order.proofs.SlowFacts.{place, has_at, at_place, place_within}
 
 -- Lists

@@ -13,10 +13,10 @@ use Rattle.vq_model.specs.LoweringFaults.{IsPlan}
 use Rattle.vq_model.specs.Lanes.{HasLinesInOrder}
 use Rattle.vq_model.specs.Checks.{IsUnordered, IsNextSignal, is_timeline_chain}
 use Rattle.vq_plan_laws.proofs.Cited.{plan_well_formed, plan_semaphores, plan_lines}
-use Rattle.vq_order.specs.Pairs.{IsLeastPairOrNone}
-use Rattle.vq_order.specs.UnorderedPairs.{lower_of, IsOfFirst, IsUnorderedAt, IsUnorderedIn, IsOvertakenBy, IsOvertaken, IsOvertakenAt, IsOvertakenIn}
-use Rattle.vq_order.proofs.PairLaws.{pair_same}
-use Rattle.vq_order.proofs.PairSearches.{Either, pair_join}
+use Rattle.vq_order.specs.declared.lines.Lines.{Lines}
+use Rattle.vq_order.specs.LeastLines.{AreLeastOrNone}
+use Rattle.vq_order.specs.UnorderedLines.{IsOfFirst, IsUnorderedAt, IsUnorderedIn, IsOvertakenBy, IsOvertaken, IsOvertakenAt, IsOvertakenIn}
+use Rattle.vq_order.proofs.LineSearches.{Either, lines_same}
 use Rattle.vq_order.proofs.UnorderedLaws.{get_at, unordered_whole, unordered_parts}
 use Rattle.vq_order.proofs.BinaryChains.{one_next}
 
@@ -26,16 +26,16 @@ copied_is xs n None e h = sym (slice_get_past xs n (ltb-false n (length xs) (sym
 copied_is xs n (Some x) e h = ap Some h ∙ sym (get_at xs n x.now (ltb-true n (length xs) (sym e)))
 
 -- a chain of which all places were searched
-pub all_places : (p : Plan) (t k : ℕ) (ops : List ℕ) → ops ≡ chain p t → is_timeline_chain p t ≡ true → k ≤ length ops → length ops ≤ k → (o : Option (ℕ × ℕ)) → IsLeastPairOrNone (IsOfFirst (IsUnorderedAt p t) k) o → IsLeastPairOrNone (IsUnorderedIn p t) o
+pub all_places : (p : Plan) (t k : ℕ) (ops : List ℕ) → ops ≡ chain p t → is_timeline_chain p t ≡ true → k ≤ length ops → length ops ≤ k → (o : Option Lines) → AreLeastOrNone (IsOfFirst (IsUnorderedAt p t) k) o → AreLeastOrNone (IsUnorderedIn p t) o
 all_places p t k ops e kind l h o x =
     let n : k ≡ length (chain p t) = let q = ap length e in omega arith in
-    pair_same (IsOfFirst (IsUnorderedAt p t) k) (IsUnorderedIn p t)
+    lines_same (IsOfFirst (IsUnorderedAt p t) k) (IsUnorderedIn p t)
     (λ a b y. (kind, subst (λ (m : ℕ). IsOfFirst (IsUnorderedAt p t) m a b) n y))
     (λ a b y. subst (λ (m : ℕ). IsOfFirst (IsUnorderedAt p t) m a b) (sym n) y.1) o x
 
 -- all numbers were searched
-pub all_first : (R : ℕ → ℕ → ℕ → Type 0) (k n : ℕ) → k ≤ n → n ≤ k → (o : Option (ℕ × ℕ)) → IsLeastPairOrNone (IsOfFirst R k) o → IsLeastPairOrNone (IsOfFirst R n) o
-all_first R k n l h o x = let e : k ≡ n = omega arith in subst (λ (m : ℕ). IsLeastPairOrNone (IsOfFirst R m) o) e x
+pub all_first : (R : ℕ → ℕ → ℕ → Type 0) (k n : ℕ) → k ≤ n → n ≤ k → (o : Option Lines) → AreLeastOrNone (IsOfFirst R k) o → AreLeastOrNone (IsOfFirst R n) o
+all_first R k n l h o x = let e : k ≡ n = omega arith in subst (λ (m : ℕ). AreLeastOrNone (IsOfFirst R m) o) e x
 
 -- a need of a job
 pub need_at : (p : Plan) (i : ℕ) (job : PlanJob) → slice_get p.jobs i ≡ Some job → (ns : List Need) → ns ≡ job.needs → (k : ℕ) (none : Need) → k < length ns → slice_get (needs p i) k ≡ Some (get_or ns k none)
@@ -47,21 +47,19 @@ pub needs_count : (p : Plan) (i : ℕ) (job : PlanJob) → slice_get p.jobs i �
 needs_count p i job e ns same = ap length (ap (λ o. option_map_or (λ x. x.needs) o []) e ∙ sym same)
 
 -- the wait of a need at its place
-pub wait_at : (p : Plan) (i k : ℕ) (n : Need) → slice_get (needs p i) k ≡ Some n → (o : Option (ℕ × ℕ)) → IsLeastPairOrNone (IsOvertaken p i n) o → IsLeastPairOrNone (IsOvertakenAt p i k) o
+pub wait_at : (p : Plan) (i k : ℕ) (n : Need) → slice_get (needs p i) k ≡ Some n → (o : Option Lines) → AreLeastOrNone (IsOvertaken p i n) o → AreLeastOrNone (IsOvertakenAt p i k) o
 wait_at p i k n e o x =
-    pair_same (IsOvertaken p i n) (IsOvertakenAt p i k) (λ a b y. record { need = n; of_job = e; overtaken = y })
+    lines_same (IsOvertaken p i n) (IsOvertakenAt p i k) (λ a b y. record { need = n; of_job = e; overtaken = y })
     (λ a b y. let same : y.need ≡ n = let c : Some y.need ≡ Some n = sym y.of_job ∙ e in cc in subst (λ (m : Need). IsOvertaken p i m a b) same y.overtaken) o x
 
 -- by the next signal, which is the only one
-pub by_next : (p : Plan) → HasLinesInOrder p → (i : ℕ) (n : Need) → kind_of p.script n.chain ≡ Some Binary → (e : ℕ) → IsNextSignal p n.chain n.line e → (o : Option (ℕ × ℕ)) → IsLeastPairOrNone (IsOvertakenBy p i n.line e) o → IsLeastPairOrNone (IsOvertaken p i n) o
+pub by_next : (p : Plan) → HasLinesInOrder p → (i : ℕ) (n : Need) → kind_of p.script n.chain ≡ Some Binary → (e : ℕ) → IsNextSignal p n.chain n.line e → (o : Option Lines) → AreLeastOrNone (IsOvertakenBy p i n.line e) o → AreLeastOrNone (IsOvertaken p i n) o
 by_next p lines i n kind e next o x =
-    pair_same (IsOvertakenBy p i n.line e) (IsOvertaken p i n) (λ a b y. record { binary = kind; op = e; next = next; by_op = y })
+    lines_same (IsOvertakenBy p i n.line e) (IsOvertaken p i n) (λ a b y. record { binary = kind; op = e; next = next; by_op = y })
     (λ a b y. subst (λ (f : ℕ). IsOvertakenBy p i n.line f a b) (one_next p lines n.chain n.line y.op e y.next next) y.by_op) o x
 
 -- the search over all chains and all jobs
-pub all_searched : (p : Plan) → IsPlan p → (o q : Option (ℕ × ℕ)) → IsLeastPairOrNone (IsOfFirst (IsUnorderedIn p) (length p.chains)) o → IsLeastPairOrNone (IsOfFirst (IsOvertakenIn p) (length p.jobs)) q → IsLeastPairOrNone (IsUnordered p) (lower_of o q)
-all_searched p i o q x y =
-    let Timelines : ℕ → ℕ → Type 0 = IsOfFirst (IsUnorderedIn p) (length p.chains) in
-    let Waits : ℕ → ℕ → Type 0 = IsOfFirst (IsOvertakenIn p) (length p.jobs) in
-    pair_same (Either Timelines Waits) (IsUnordered p) (unordered_whole p (plan_well_formed p i) (plan_lines p i)) (unordered_parts p (plan_well_formed p i) (plan_lines p i) (plan_semaphores p i)) (lower_of o q)
-    (pair_join Timelines Waits o q x y)
+pub all_searched : (p : Plan) → IsPlan p → (o : Option Lines) → AreLeastOrNone (Either (IsOfFirst (IsUnorderedIn p) (length p.chains)) (IsOfFirst (IsOvertakenIn p) (length p.jobs))) o → AreLeastOrNone (IsUnordered p) o
+all_searched p i =
+    lines_same (Either (IsOfFirst (IsUnorderedIn p) (length p.chains)) (IsOfFirst (IsOvertakenIn p) (length p.jobs))) (IsUnordered p)
+    (unordered_whole p (plan_well_formed p i) (plan_lines p i)) (unordered_parts p (plan_well_formed p i) (plan_lines p i) (plan_semaphores p i))

@@ -18,7 +18,7 @@ use Rattle.vq_model.proofs.Numbers.{has-range_cases}
 use Rattle.vq_order_laws.proofs.Cited.{left_unreachable}
 use Rattle.vq_spec.specs.SlowProgress.{lower, payload_in, ArePayloads}
 use Rattle.vq_spec.proofs.SlowReady.{same_any, own_needs, chains_exist}
-use Rattle.vq_order.specs.Reach.{IsLeastOrNone, IsUnreachedOf, IsUnreachedIn}
+use Rattle.vq_order.specs.Unreached.{IsLeastOrNone, IsUnreachedOf, IsUnreachedIn}
 
 module _ (P Q : ℕ → Type 0) where
   -- nothing new

@@ -6,39 +6,39 @@ use Rattle.std.specs.Option.{option_map}
 use Rattle.std.proofs.lemmas.Bool.{cases_lt, cases_eq, false≢true, cond-true, cond-false, eq-eqb, ne_eqb}
 use Rattle.vq_model.specs.declared.plan.Op.{Op}
 use Rattle.vq_model.specs.Plan.{Plan, has, chain, chain_of, job_of, initial, value}
-use Rattle.vq_model.specs.Edges.{Place, AtEnd, must_finish, awaited_at}
+use Rattle.vq_model.specs.Edges.{Stage, AtEnd, must_finish, awaited_at}
 use Rattle.vq_model.specs.WellFormed.{IsWellFormed}
 use Rattle.vq_model.specs.HappensBefore.{comes_earlier, IsHop, HappensBefore, HappensBeforeAt, one, more}
 use Rattle.vq_model.specs.Sure.{IsSure, IsSureAt, finished_first, waited_for, passed_on, IsSureForJobOf, KeepsRising, RisesFrom, KeepsChains}
-use Rattle.vq_model.specs.Windows.{IsSurelyReached, at_first, sure, IsPossiblyReached, possible, IsPossible, IsGreatest}
+use Rattle.vq_model.specs.Windows.{IsSurelyReached, at_first, sure, IsPossiblyReached, possible, IsGreatest}
 use Rattle.vq_model.proofs.Lists.{has-append_left, has-append_right, has_here, has_there}
 use Rattle.vq_model.proofs.Mapped.{has_mapped}
-use Rattle.vq_order.specs.Counts.{AreFirst, value_after}
+use Rattle.vq_order.specs.Counts.{AreFirst, MayBeMade, value_after}
 use Rattle.vq_order.proofs.SlowFacts.{place, has_at, at_place, place_within}
 use Rattle.vq_order.proofs.RowLaws.{op_exists}
 
 module _ (p : Plan) where
-  first_hop : (i j : ℕ) (k : Place) → has (must_finish p j) i ≡ true → comes_earlier p i j ≡ true → IsHop p i j k
+  first_hop : (i j : ℕ) (k : Stage) → has (must_finish p j) i ≡ true → comes_earlier p i j ≡ true → IsHop p i j k
   first_hop i j k m e = record { edge = has-append_left (must_finish p j) (filter_map (job_of p) (awaited_at p j k)) i m; earlier = e }
 
-  op_hop : (f i j : ℕ) (k : Place) → has (awaited_at p j k) f ≡ true → job_of p f ≡ Some i → comes_earlier p i j ≡ true → IsHop p i j k
+  op_hop : (f i j : ℕ) (k : Stage) → has (awaited_at p j k) f ≡ true → job_of p f ≡ Some i → comes_earlier p i j ≡ true → IsHop p i j k
   op_hop f i j k h w e = record { edge = has-append_right (must_finish p j) (filter_map (job_of p) (awaited_at p j k)) i (has_mapped (job_of p) (awaited_at p j k) f i h w); earlier = e }
 
   same : (f i j : ℕ) → job_of p f ≡ Some i → job_of p f ≡ Some j → i ≡ j
   same f i j a b = let c : Some i ≡ Some j = sym a ∙ b in cc
 
-  pub before_then : (i j h : ℕ) (k : Place) → HappensBefore p i j → HappensBeforeAt p j h k → HappensBeforeAt p i h k
+  pub before_then : (i j h : ℕ) (k : Stage) → HappensBefore p i j → HappensBeforeAt p j h k → HappensBeforeAt p i h k
   before_then i j h k b (one o) = more b o
   before_then i j h k b (more {h = q} c o) = more (before_then i j q AtEnd b c) o
 
   -- what is sure for the job of a sure operation is sure
-  pub sure_then : (e f j h : ℕ) (k : Place) → job_of p f ≡ Some j → IsSure p e j → IsSureAt p f h k → IsSureAt p e h k
+  pub sure_then : (e f j h : ℕ) (k : Stage) → job_of p f ≡ Some j → IsSure p e j → IsSureAt p f h k → IsSureAt p e h k
   sure_then e f j h k o s (finished_first x) = passed_on (subst (IsSure p e) (same f j x.job o x.of_job) s) (first_hop x.job h k x.first x.earlier)
   sure_then e f j h k o s (waited_for x) = passed_on (subst (IsSure p e) (same f j x.job o x.of_job) s) (op_hop x.by_op x.job h k x.waits x.same_job x.earlier)
   sure_then e f j h k o s (passed_on {i = i} x hop) = passed_on (sure_then e f j i AtEnd o s x) hop
 
   -- the job of a sure operation is before
-  pub sure_before : (f j h : ℕ) (k : Place) → job_of p f ≡ Some j → IsSureAt p f h k → HappensBeforeAt p j h k
+  pub sure_before : (f j h : ℕ) (k : Stage) → job_of p f ≡ Some j → IsSureAt p f h k → HappensBeforeAt p j h k
   sure_before f j h k o (finished_first x) = one (subst (λ z. IsHop p z h k) (same f x.job j x.of_job o) (first_hop x.job h k x.first x.earlier))
   sure_before f j h k o (waited_for x) = one (subst (λ z. IsHop p z h k) (same f x.job j x.of_job o) (op_hop x.by_op x.job h k x.waits x.same_job x.earlier))
   sure_before f j h k o (passed_on {i = i} x hop) = more (sure_before f j i AtEnd o x) hop
@@ -117,15 +117,14 @@ module _ (p : Plan) (w : IsWellFormed p) (chains : KeepsChains p) (t : ℕ) wher
       go [] r jobs h o = absurd (omega arith)
       go (e ∷ es) r jobs h o = sure_up p e es r.1 jobs k m j l h o
 
-  pub sure_down : (k m h : ℕ) → k < m → m < length (chain p t) → IsSure p (op_at m) h → IsSure p (op_at k) h
-  sure_down k m h l n s = let o = op_job m n in sure_then p (op_at k) (op_at m) o.0 h AtEnd o.1 (ops_sure k m o.0 l n o.1) s
+  pub sure_down : (h k m : ℕ) → k < m → m < length (chain p t) → IsSure p (op_at m) h → IsSure p (op_at k) h
+  sure_down h k m l n s = let o = op_job m n in sure_then p (op_at k) (op_at m) o.0 h AtEnd o.1 (ops_sure k m o.0 l n o.1) s
 
-  pub possible_down : (k m h : ℕ) → k < m → m < length (chain p t) → IsPossible p h t (op_at m) → IsPossible p h t (op_at k)
-  possible_down k m h l n s =
+  pub possible_down : (h k m : ℕ) → k < m → m < length (chain p t) → MayBeMade p h (op_at m) → MayBeMade p h (op_at k)
+  possible_down h k m l n s =
       let o = op_job k (omega arith) in
       let b : HappensBefore p o.0 s.job = sure_before p (op_at k) o.0 s.job AtEnd o.1 (ops_sure k m s.job l n s.of_job) in
       record {
-        in_chain = op_chain k (omega arith);
         job = o.0;
         of_job = o.1;
         other = λ q. s.not_after (subst (λ z. HappensBefore p z s.job) q b);
@@ -143,95 +142,56 @@ module _ (p : Plan) (w : IsWellFormed p) (chains : KeepsChains p) (t : ℕ) wher
     | inr q ↦ let a = values_rise k (n - 1) (grind arith) (omega arith) in omega arith
   ]
 
-  -- the first operations are those that are sure: so the last of them has the floor
-  floor_some : (h n : ℕ) → suc n ≤ length (chain p t) → ((k : ℕ) → k < suc n → IsSure p (op_at k) h) → ((k : ℕ) → suc n ≤ k → k < length (chain p t) → ¬ IsSure p (op_at k) h) → IsGreatest (IsSurelyReached p h t) (value p (op_at n))
-  floor_some h n l below above = record { holds = sure (op_chain n l) (below n (omega arith)); greatest = greatest }
+  -- Of the first operations, those of which something holds, the last has the greatest value.
+  pub greatest_first : (S R : ℕ → Type 0) → R (initial p t) → ((e : ℕ) → chain_of p e ≡ Some t → S e → R (value p e)) → ((m : ℕ) → R m → (m ≡ initial p t) ⊎ ((e : ℕ) × (chain_of p e ≡ Some t) × S e × (m ≡ value p e))) → (n : ℕ) → AreFirst S (chain p t) n → IsGreatest R (value_after p t n)
+  greatest_first S R first take cases n f = elim (cases_eq n 0) [
+    | inl q ↦ subst (IsGreatest R) (sym (cond-true (eqb n 0) (initial p t) (value p (op_at (n - 1))) (eq-eqb n 0 q))) (none q)
+    | inr d ↦ subst (IsGreatest R) (sym (cond-false (eqb n 0) (initial p t) (value p (op_at (n - 1))) (ne_eqb n 0 d))) (some (grind arith))
+  ]
     where
-      greatest : (m : ℕ) → IsSurelyReached p h t m → m ≤ value p (op_at n)
-      greatest m at_first = let a = above_initial n l in omega arith
-      greatest m (sure {e = e} c s) =
+      not_above : (e : ℕ) → chain_of p e ≡ Some t → S e → (k : ℕ) × (k < n) × (op_at k ≡ e)
+      not_above e c s =
           let a = at_op e c in
-          elim (cases_lt a.0 (suc n)) [
-            | inl b ↦ subst (λ z. value p z ≤ value p (op_at n)) a.2 (subst (λ z. value p (op_at a.0) ≤ value p (op_at z)) (let q : suc n - 1 ≡ n = omega arith in q) (at_most (suc n) a.0 b l))
-            | inr b ↦ absurd (above a.0 b a.1 (subst (λ z. IsSure p z h) (sym a.2) s))
+          elim (cases_lt a.0 n) [
+            | inl b ↦ (a.0, b, a.2)
+            | inr b ↦ absurd (f.above a.0 b a.1 (subst S (sym a.2) s))
           ]
 
-  floor_none : (h : ℕ) → ((k : ℕ) → k < length (chain p t) → ¬ IsSure p (op_at k) h) → IsGreatest (IsSurelyReached p h t) (initial p t)
-  floor_none h above = record { holds = at_first; greatest = greatest }
-    where
-      greatest : (m : ℕ) → IsSurelyReached p h t m → m ≤ initial p t
-      greatest m at_first = omega arith
-      greatest m (sure {e = e} c s) = let a = at_op e c in absurd (above a.0 a.1 (subst (λ z. IsSure p z h) (sym a.2) s))
+      none : n ≡ 0 → IsGreatest R (initial p t)
+      none q = record { holds = first; greatest = λ m r. elim (cases m r) [ inl e ↦ (omega arith) | inr x ↦ (let a = not_above x.0 x.1 x.2 in let b = a.1 in absurd (omega arith)) ] }
 
-  ceiling_some : (h n : ℕ) → suc n ≤ length (chain p t) → ((k : ℕ) → k < suc n → IsPossible p h t (op_at k)) → ((k : ℕ) → suc n ≤ k → k < length (chain p t) → ¬ IsPossible p h t (op_at k)) → IsGreatest (IsPossiblyReached p h t) (value p (op_at n))
-  ceiling_some h n l below above = record { holds = possible (below n (omega arith)); greatest = greatest }
-    where
-      greatest : (m : ℕ) → IsPossiblyReached p h t m → m ≤ value p (op_at n)
-      greatest m at_first = let a = above_initial n l in omega arith
-      greatest m (possible {e = e} s) =
-          let a = at_op e s.in_chain in
-          elim (cases_lt a.0 (suc n)) [
-            | inl b ↦ subst (λ z. value p z ≤ value p (op_at n)) a.2 (subst (λ z. value p (op_at a.0) ≤ value p (op_at z)) (let q : suc n - 1 ≡ n = omega arith in q) (at_most (suc n) a.0 b l))
-            | inr b ↦ absurd (above a.0 b a.1 (subst (IsPossible p h t) (sym a.2) s))
-          ]
+      some : 0 < n → IsGreatest R (value p (op_at (n - 1)))
+      some l =
+          let w = f.within in
+          record {
+            holds = take (op_at (n - 1)) (op_chain (n - 1) (omega arith)) (f.below (n - 1) (omega arith));
+            greatest = λ m r. elim (cases m r) [
+              | inl e ↦ (let a = above_initial (n - 1) (omega arith) in omega arith)
+              | inr x ↦
+                  let a = not_above x.0 x.1 x.2 in
+                  let c = at_most n a.0 a.1 w in
+                  let v = ap (value p) a.2 in
+                  let q = x.3 in
+                  omega arith
+            ];
+          }
 
-  ceiling_none : (h : ℕ) → ((k : ℕ) → k < length (chain p t) → ¬ IsPossible p h t (op_at k)) → IsGreatest (IsPossiblyReached p h t) (initial p t)
-  ceiling_none h above = record { holds = at_first; greatest = greatest }
-    where
-      greatest : (m : ℕ) → IsPossiblyReached p h t m → m ≤ initial p t
-      greatest m at_first = omega arith
-      greatest m (possible {e = e} s) = let a = at_op e s.in_chain in absurd (above a.0 a.1 (subst (IsPossible p h t) (sym a.2) s))
-
-  -- a search by halves over the chain
-  pub sure_left : (ops : List ℕ) → ops ≡ chain p t → (m h : ℕ) → m < length ops → IsSure p (get_or ops m 0) h → (k : ℕ) → k < m + 1 → IsSure p (get_or ops k 0) h
-  sure_left ops e m h l s k b =
-      subst (λ (xs : List ℕ). m < length xs → IsSure p (get_or xs m 0) h → IsSure p (get_or xs k 0) h) (sym e)
-      (λ l s. elim (cases_eq k m) [ inl q ↦ subst (λ z. IsSure p (op_at z) h) (sym q) s | inr q ↦ sure_down k m h (grind arith) l s ]) l s
-
-  pub sure_right : (ops : List ℕ) → ops ≡ chain p t → (m h : ℕ) → ¬ IsSure p (get_or ops m 0) h → (k : ℕ) → m ≤ k → k < length ops → ¬ IsSure p (get_or ops k 0) h
-  sure_right ops e m h unsure k b l s = unsure (sure_left ops e k h l s m (omega arith))
-
-  pub possible_left : (ops : List ℕ) → ops ≡ chain p t → (m h : ℕ) → m < length ops → IsPossible p h t (get_or ops m 0) → (k : ℕ) → k < m + 1 → IsPossible p h t (get_or ops k 0)
-  possible_left ops e m h l s k b =
-      subst (λ (xs : List ℕ). m < length xs → IsPossible p h t (get_or xs m 0) → IsPossible p h t (get_or xs k 0)) (sym e)
-      (λ l s. elim (cases_eq k m) [ inl q ↦ subst (λ z. IsPossible p h t (op_at z)) (sym q) s | inr q ↦ possible_down k m h (grind arith) l s ]) l s
-
-  pub possible_right : (ops : List ℕ) → ops ≡ chain p t → (m h : ℕ) → ¬ IsPossible p h t (get_or ops m 0) → (k : ℕ) → m ≤ k → k < length ops → ¬ IsPossible p h t (get_or ops k 0)
-  possible_right ops e m h late k b l s = late (possible_left ops e k h l s m (omega arith))
-
-  pub chain_op_exists : (ops : List ℕ) → ops ≡ chain p t → (k : ℕ) → k < length ops → get_or ops k 0 < length p.ops
-  chain_op_exists ops e k l =
-      subst (λ (xs : List ℕ). k < length xs → get_or xs k 0 < length p.ops) (sym e) (λ l. let o = op_job k l in op_exists p (op_at k) o.0 o.1) l
-
-  floor_at : (h n : ℕ) → 0 < n → n ≤ length (chain p t) → ((k : ℕ) → k < n → IsSure p (op_at k) h) → ((k : ℕ) → n ≤ k → k < length (chain p t) → ¬ IsSure p (op_at k) h) → IsGreatest (IsSurelyReached p h t) (value p (op_at (n - 1)))
-  floor_at h n some l below above =
-      let e : suc (n - 1) ≡ n = omega arith in
-      floor_some h (n - 1) (omega arith) (λ k b. below k (omega arith)) (λ k b. above k (omega arith))
-
-  ceiling_at : (h n : ℕ) → 0 < n → n ≤ length (chain p t) → ((k : ℕ) → k < n → IsPossible p h t (op_at k)) → ((k : ℕ) → n ≤ k → k < length (chain p t) → ¬ IsPossible p h t (op_at k)) → IsGreatest (IsPossiblyReached p h t) (value p (op_at (n - 1)))
-  ceiling_at h n some l below above =
-      let e : suc (n - 1) ≡ n = omega arith in
-      ceiling_some h (n - 1) (omega arith) (λ k b. below k (omega arith)) (λ k b. above k (omega arith))
-
-  pub chain_op_of : (ops : List ℕ) → ops ≡ chain p t → (k : ℕ) → k < length ops → chain_of p (get_or ops k 0) ≡ Some t
-  chain_op_of ops e k l = subst (λ (xs : List ℕ). k < length xs → chain_of p (get_or xs k 0) ≡ Some t) (sym e) (λ l. op_chain k l) l
-
-  -- the value after the first operations that are sure is the floor
   pub floor_is : (h n : ℕ) → AreFirst (λ e. IsSure p e h) (chain p t) n → IsGreatest (IsSurelyReached p h t) (value_after p t n)
-  floor_is h n f = elim (cases_eq n 0) [
-    | inl q ↦ subst (IsGreatest (IsSurelyReached p h t)) (sym (cond-true (eqb n 0) (initial p t) (value p (op_at (n - 1))) (eq-eqb n 0 q))) (floor_none h (λ k l. f.above k (omega arith) l))
-    | inr d ↦ subst (IsGreatest (IsSurelyReached p h t)) (sym (cond-false (eqb n 0) (initial p t) (value p (op_at (n - 1))) (ne_eqb n 0 d))) (floor_at h n (grind arith) f.within f.below f.above)
-  ]
+  floor_is h = greatest_first (λ e. IsSure p e h) (IsSurelyReached p h t) at_first (λ e c s. sure c s) cases
+    where
+      cases : (m : ℕ) → IsSurelyReached p h t m → (m ≡ initial p t) ⊎ ((e : ℕ) × (chain_of p e ≡ Some t) × IsSure p e h × (m ≡ value p e))
+      cases m at_first = inl refl
+      cases m (sure {e = e} c s) = inr (e, c, s, refl)
 
-  -- the value after the first operations that may be made is the ceiling
-  pub ceiling_is : (h n : ℕ) → AreFirst (IsPossible p h t) (chain p t) n → IsGreatest (IsPossiblyReached p h t) (value_after p t n)
-  ceiling_is h n f = elim (cases_eq n 0) [
-    | inl q ↦ subst (IsGreatest (IsPossiblyReached p h t)) (sym (cond-true (eqb n 0) (initial p t) (value p (op_at (n - 1))) (eq-eqb n 0 q))) (ceiling_none h (λ k l. f.above k (omega arith) l))
-    | inr d ↦ subst (IsGreatest (IsPossiblyReached p h t)) (sym (cond-false (eqb n 0) (initial p t) (value p (op_at (n - 1))) (ne_eqb n 0 d))) (ceiling_at h n (grind arith) f.within f.below f.above)
-  ]
+  pub ceiling_is : (h n : ℕ) → AreFirst (MayBeMade p h) (chain p t) n → IsGreatest (IsPossiblyReached p h t) (value_after p t n)
+  ceiling_is h = greatest_first (MayBeMade p h) (IsPossiblyReached p h t) at_first (λ e c s. possible (record { in_chain = c; job = s.job; of_job = s.of_job; other = s.other; not_after = s.not_after })) cases
+    where
+      cases : (m : ℕ) → IsPossiblyReached p h t m → (m ≡ initial p t) ⊎ ((e : ℕ) × (chain_of p e ≡ Some t) × MayBeMade p h e × (m ≡ value p e))
+      cases m at_first = inl refl
+      cases m (possible {e = e} s) = inr (e, s.in_chain, record { job = s.job; of_job = s.of_job; other = s.other; not_after = s.not_after }, refl)
 
-pub possible_ways : (p : Plan) (op j job t : ℕ) → job_of p op ≡ Some job → chain_of p op ≡ Some t → (b d : Bool) → (job ≡ j) ⊎ (job ≢ j) → (b ≡ true → job ≢ j) → (job ≢ j → b ≡ true) → (d ≡ true → HappensBefore p j job) → (HappensBefore p j job → d ≡ true) → ((b && not d) ≡ true → IsPossible p j t op) × (IsPossible p j t op → (b && not d) ≡ true)
-possible_ways p op j job t o c false d e f g h i = ((λ x. absurd (false≢true x)), (λ s. g (λ q. s.other (same p op s.job job s.of_job o ∙ q))))
-possible_ways p op j job t o c true true e f g h i = ((λ x. absurd (false≢true x)), (λ s. absurd (s.not_after (subst (HappensBefore p j) (same p op job s.job o s.of_job) (h refl)))))
-possible_ways p op j job t o c true false e f g h i =
-    ((λ x. record { in_chain = c; job = job; of_job = o; other = f refl; not_after = λ b. false≢true (i b) }), (λ s. refl))
+pub possible_ways : (p : Plan) (op j job : ℕ) → job_of p op ≡ Some job → (b d : Bool) → (b ≡ true → job ≢ j) → (job ≢ j → b ≡ true) → (d ≡ true → HappensBefore p j job) → (HappensBefore p j job → d ≡ true) → ((b && not d) ≡ true → MayBeMade p j op) × (MayBeMade p j op → (b && not d) ≡ true)
+possible_ways p op j job o false d f g h i = ((λ x. absurd (false≢true x)), (λ s. g (λ q. s.other (same p op s.job job s.of_job o ∙ q))))
+possible_ways p op j job o true true f g h i = ((λ x. absurd (false≢true x)), (λ s. absurd (s.not_after (subst (HappensBefore p j) (same p op job s.job o s.of_job) (h refl)))))
+possible_ways p op j job o true false f g h i =
+    ((λ x. record { job = job; of_job = o; other = f refl; not_after = λ b. false≢true (i b) }), (λ s. refl))

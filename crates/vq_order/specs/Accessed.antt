@@ -1,14 +1,15 @@
 -- The bytes that the commands of a plan read and write.
-use Rattle.std.specs.Prelude.{ℕ, ◌≡◌, ◌<◌, ◌+◌, ◌==◌, ◌&&◌, ◌||◌, min, max, nat_lt, Bool, true, false, List, length, Option, Some, None, option_map, ◌⊎◌, ◌↔◌, IsTrue}
+use Rattle.std.specs.Prelude.{ℕ, ◌≡◌, ◌<◌, ◌≤◌, ◌+◌, ◌==◌, ◌&&◌, ◌||◌, min, max, nat_lt, Bool, true, false, List, length, Option, Some, None, option_map}
 use Rattle.std.specs.List.{slice_get, slice_index_or}
 use Rattle.std.specs.Option.{option_map_or}
 use Rattle.vq_model.specs.declared.script.Command.{Command}
 use Rattle.vq_model.specs.Plan.{Plan, has, commands_of, command_at}
-use Rattle.vq_model.specs.HappensBefore.{HappensBeforeCommand}
 use Rattle.vq_model.specs.Races.{IsRace}
-use Rattle.vq_model.specs.Ranges.{Range, written_range, read_range}
-use Rattle.vq_order.specs.declared.spans.Span.{Span}
-use Rattle.vq_order.specs.declared.accesses.Access.{Access}
+use Rattle.vq_model.specs.declared.ranges.Range.{Range}
+use Rattle.vq_model.specs.Ranges.{written_range, read_range}
+use Rattle.vq_order.specs.declared.races.accesses.Span.{Span}
+use Rattle.vq_order.specs.declared.races.accesses.Access.{Access}
+use Rattle.vq_order.specs.Swept.{AreInOrder}
 
 abbrev pub span_of : Range → Span
 span_of r = record { buffer = r.buffer; start = r.start; end = r.start + r.size }
@@ -33,9 +34,9 @@ pub record IsAccess (p : Plan) (c : ℕ) (a : Access) : Type 0 where
   pub writes : a.written ≡ span_of (written_range p.sizes command)
   pub reads : a.read ≡ option_map span_of (read_range command)
 
--- the accesses of all commands
-pub record HasAccesses (p : Plan) (accesses : List Access) : Type 0 where
-  pub count : length accesses ≡ length p.commands
+-- the accesses of the first commands
+pub record AreAccesses (p : Plan) (accesses : List Access) : Type 0 where
+  pub within : length accesses ≤ length p.commands
   pub each : (c : ℕ) (a : Access) → slice_get accesses c ≡ Some a → IsAccess p c a
 
 -- the job of each command
@@ -44,12 +45,27 @@ pub record HasOwners (p : Plan) (owners : List ℕ) : Type 0 where
   pub each : (c : ℕ) → c < length p.commands →
       has (commands_of p (slice_index_or owners c 0)) c ≡ true
 
--- the answer says whether the commands of one of two jobs happen before those of the other
-abbrev pub AreOrdered : Plan → ℕ → ℕ → Bool → Type 0
-AreOrdered p i j ordered =
-    (c d : ℕ) → IsTrue ordered ↔ (HappensBeforeCommand p i j d ⊎ HappensBeforeCommand p j i c)
+-- commands that conflict, of jobs that are not in order
+pub record RaceBy (p : Plan) (a b : Access) : Type 0 where
+  pub conflict : accesses_conflict a b ≡ true
+  pub apart : ¬ AreInOrder p a.job b.job
+
+abbrev pub access_in : List Access → ℕ → Access
+access_in accesses c =
+    slice_index_or accesses c (record {
+      job = 0;
+      written = record { buffer = 0; start = 0; end = 0 };
+      read = None;
+    })
 
 -- the first command with a lower number that races with a command, or none
-abbrev pub IsFirstRacing : Plan → ℕ → Option ℕ → Type 0
-IsFirstRacing p d None = (a : ℕ) → a < d → ¬ IsRace p a d
-IsFirstRacing p d (Some c) = (c < d) × IsRace p c d × ((a : ℕ) → a < c → ¬ IsRace p a d)
+abbrev pub IsFirstRacing : Plan → List Access → ℕ → Option ℕ → Type 0
+IsFirstRacing p xs d None = (a : ℕ) → a < d → ¬ RaceBy p (access_in xs a) (access_in xs d)
+IsFirstRacing p xs d (Some c) =
+    (c < d)
+    × RaceBy p (access_in xs c) (access_in xs d)
+    × ((a : ℕ) → a < c → ¬ RaceBy p (access_in xs a) (access_in xs d))
+
+-- no two of the first commands race
+abbrev pub HasNoRaceBelow : Plan → ℕ → Type 0
+HasNoRaceBelow p n = (c d : ℕ) → c < d → d < n → ¬ IsRace p c d

@@ -4,9 +4,9 @@ use Rattle.std.specs.Prelude.{ℕ, ◌≡◌, ◌<◌, ◌≤◌, ◌+◌, ◌*�
 use Rattle.std.specs.List.{slice_get, slice_index_or, Contains}
 use Rattle.std.specs.List.Sorted.{IsNonDecreasing}
 use Rattle.std.specs.Option.{option_to_list}
-use Rattle.vq_order.specs.declared.accesses.Access.{Access}
-use Rattle.vq_order.specs.declared.cuts.Reach.{Reach}
-use Rattle.vq_order.specs.declared.spans.Span.{Span}
+use Rattle.vq_order.specs.declared.races.accesses.Access.{Access}
+use Rattle.vq_order.specs.declared.races.cuts.Reach.{Reach}
+use Rattle.vq_order.specs.declared.races.accesses.Span.{Span}
 
 -- a byte of a buffer as one number
 abbrev pub axis : ℕ → ℕ → ℕ

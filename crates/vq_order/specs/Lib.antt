@@ -1,10 +1,9 @@
-pub mod Clocks
+pub mod VectorClocks
 pub mod Counts
-pub mod Kept
-pub mod Pairs
-pub mod UnorderedPairs
-pub mod Reach
+pub mod LeastLines
+pub mod UnorderedLines
+pub mod Unreached
 pub mod Accessed
 pub mod CellRanges
 pub mod Swept
-pub mod Found
+pub mod Checked

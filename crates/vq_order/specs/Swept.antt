@@ -2,28 +2,35 @@
 -- and jobs that have read it since.
 use Rattle.std.specs.Prelude.{ℕ, ◌≡◌, ◌<◌, ◌≤◌, ◌⊎◌, Bool, true, false, List, [], ◌∷◌, length, Option, Some, None}
 use Rattle.std.specs.List.{slice_get}
-use Rattle.vq_model.specs.HappensBefore.{HappensBeforeCommand}
+use Rattle.std.specs.List.Sorted.{IsNonDecreasing}
+use Rattle.vq_model.specs.HappensBefore.{HappensBefore}
 use Rattle.vq_model.specs.Plan.{Plan, has, commands_of}
 use Rattle.vq_order.specs.CellRanges.{IsCellOf}
-use Rattle.vq_order.specs.declared.accesses.Access.{Access}
-use Rattle.vq_order.specs.declared.cells.Cell.{Cell}
-use Rattle.vq_order.specs.declared.spans.Span.{Span}
+use Rattle.vq_order.specs.declared.races.accesses.Access.{Access}
+use Rattle.vq_order.specs.declared.races.cells.Cell.{Cell}
+use Rattle.vq_order.specs.declared.races.cells.Touch.{Touch}
+use Rattle.vq_order.specs.declared.races.cells.Touch.TheVariants.{Reads, Writes}
+use Rattle.vq_order.specs.declared.races.accesses.Span.{Span}
 
--- a job is another one, or its commands happen before all commands of the other
+-- a job is another one, or happens before it
 abbrev pub AtOrBefore : Plan → ℕ → ℕ → Type 0
-AtOrBefore p i j = (i ≡ j) ⊎ ((d : ℕ) → HappensBeforeCommand p i j d)
+AtOrBefore p i j = (i ≡ j) ⊎ HappensBefore p i j
 
 abbrev pub AreInOrder : Plan → ℕ → ℕ → Type 0
 AreInOrder p i j = AtOrBefore p i j ⊎ AtOrBefore p j i
 
 -- a command of a job reads or writes a cell
-pub record Touch : Type 0 where
+pub record Visit : Type 0 where
   pub cell : ℕ
   pub job : ℕ
   pub writes : Bool
 
+abbrev pub is_write : Touch → Bool
+is_write Reads = false
+is_write Writes = true
+
 -- among these a command of a job reads or writes a cell
-abbrev pub Touched : List Touch → ℕ → ℕ → Bool → Type 0
+abbrev pub Touched : List Visit → ℕ → ℕ → Bool → Type 0
 Touched [] k j w = ⊥
 Touched (t ∷ log) k j w =
     ((t.cell ≡ k) × (t.job ≡ j) × (t.writes ≡ w)) ⊎ Touched log k j w
@@ -42,7 +49,7 @@ pub record ByReader (p : Plan) (readers : List ℕ) (j : ℕ) : Type 0 where
 
 -- What is kept of a cell stands for all that has touched it, and all that conflicts there is in
 -- order.
-pub record KeepsCell (p : Plan) (log : List Touch) (k : ℕ) (cell : Cell) : Type 0 where
+pub record KeepsCell (p : Plan) (log : List Visit) (k : ℕ) (cell : Cell) : Type 0 where
   pub wrote : (j : ℕ) → Touched log k j true → ByWriter p cell.writer j
   pub read : (j : ℕ) → Touched log k j false →
       ByWriter p cell.writer j ⊎ ByReader p cell.readers.items j
@@ -53,6 +60,11 @@ pub record KeepsCell (p : Plan) (log : List Touch) (k : ℕ) (cell : Cell) : Typ
 pub record HasJobs (p : Plan) (cell : Cell) : Type 0 where
   pub writer : (j : ℕ) → cell.writer ≡ Some j → j < length p.jobs
   pub readers : (j : ℕ) → has cell.readers.items j ≡ true → j < length p.jobs
+
+-- a job may touch a cell: it is one of the plan, and so are those that have
+pub record MayTouch (p : Plan) (cell : Cell) (job : ℕ) : Type 0 where
+  pub jobs : HasJobs p cell
+  pub exists : job < length p.jobs
 
 abbrev pub IsAfterSome : Plan → Option ℕ → ℕ → Type 0
 IsAfterSome p writer j = (i : ℕ) → writer ≡ Some i → AtOrBefore p i j
@@ -70,13 +82,13 @@ pub record KeepsLater (p : Plan) (readers : List ℕ) (j : ℕ) (kept : List ℕ
 -- is kept after it for one more.
 pub record Touches (p : Plan) (j : ℕ) (w : Bool) (old new : Cell) : Type 0 where
   pub jobs : HasJobs p new
-  pub keeps : (log : List Touch) (k : ℕ) → KeepsCell p log k old →
+  pub keeps : (log : List Visit) (k : ℕ) → KeepsCell p log k old →
       KeepsCell p (record { cell = k; job = j; writes = w } ∷ log) k new
 
 -- Cells
 
 -- what is kept of all cells stands for all that has touched them
-abbrev pub KeepsAll : Plan → List Touch → List Cell → Type 0
+abbrev pub KeepsAll : Plan → List Visit → List Cell → Type 0
 KeepsAll p log cells =
     (k : ℕ) (cell : Cell) → slice_get cells k ≡ Some cell → KeepsCell p log k cell
 
@@ -84,9 +96,9 @@ abbrev pub HaveJobs : Plan → List Cell → Type 0
 HaveJobs p cells = (k : ℕ) (cell : Cell) → slice_get cells k ≡ Some cell → HasJobs p cell
 
 -- these touches, and those before
-pub record Extended (p : Plan) (cells : List Cell) (log : List Touch)
+pub record Extended (p : Plan) (cells : List Cell) (log : List Visit)
     (Own : ℕ → ℕ → Bool → Type 0) : Type 0 where
-  pub longer : List Touch
+  pub longer : List Visit
   pub keeps : KeepsAll p longer cells
   pub before : (k j : ℕ) (w : Bool) → Touched log k j w → Touched longer k j w
   pub own : (k j : ℕ) (w : Bool) → Own k j w → Touched longer k j w
@@ -96,7 +108,13 @@ pub record Sweeps (p : Plan) (old new : List Cell)
     (Own : ℕ → ℕ → Bool → Type 0) : Type 0 where
   pub count : length new ≡ length old
   pub jobs : HaveJobs p new
-  pub extends : (log : List Touch) → KeepsAll p log old → Extended p new log Own
+  pub extends : (log : List Visit) → KeepsAll p log old → Extended p new log Own
+
+-- where cells begin, and what is kept of each
+pub record FitsSweep (p : Plan) (cuts : List ℕ) (cells : List Cell) : Type 0 where
+  pub rise : IsNonDecreasing cuts
+  pub count : length cells ≡ length cuts
+  pub jobs : HaveJobs p cells
 
 -- a command of this job touches each of these cells
 pub record TouchesEach (first end job : ℕ) (writes : Bool)
@@ -106,22 +124,21 @@ pub record TouchesEach (first end job : ℕ) (writes : Bool)
   pub same_job : j ≡ job
   pub same_kind : w ≡ writes
 
--- a command writes a cell
-pub record WritesCell (cuts : List ℕ) (a : Access) (k j : ℕ) (w : Bool) : Type 0 where
-  pub cell : IsCellOf cuts a.written k
-  pub same_job : j ≡ a.job
-  pub writes : w ≡ true
+-- a command of this job touches the cells of a range
+pub record TouchesSpan (cuts : List ℕ) (s : Span) (job : ℕ) (writes : Bool)
+    (k j : ℕ) (w : Bool) : Type 0 where
+  pub cell : IsCellOf cuts s k
+  pub same_job : j ≡ job
+  pub same_kind : w ≡ writes
 
 -- a command reads a cell
 pub record ReadsCell (cuts : List ℕ) (a : Access) (k j : ℕ) (w : Bool) : Type 0 where
   pub span : Span
   pub is_read : a.read ≡ Some span
-  pub cell : IsCellOf cuts span k
-  pub same_job : j ≡ a.job
-  pub reads : w ≡ false
+  pub touch : TouchesSpan cuts span a.job false k j w
 
 abbrev pub TouchesBy : List ℕ → Access → ℕ → ℕ → Bool → Type 0
-TouchesBy cuts a k j w = WritesCell cuts a k j w ⊎ ReadsCell cuts a k j w
+TouchesBy cuts a k j w = TouchesSpan cuts a.written a.job true k j w ⊎ ReadsCell cuts a k j w
 
 -- one of these commands touches a cell
 pub record TouchesAmong (cuts : List ℕ) (accesses : List Access) (commands : List ℕ)

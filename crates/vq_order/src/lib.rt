@@ -1,25 +1,17 @@
 //! The order that a plan puts on its jobs, and what a plan is refused for.
 #![tactic(auto)]
 
-mod accesses;
-mod before_rows;
-mod cells;
-pub mod check;
-pub mod clock_rows;
-mod cuts;
-mod lanes;
-pub mod ordered;
-mod owners;
-mod positions;
+mod checking;
+mod clocked;
+mod clocks;
+mod complete_run;
+mod lines;
+mod ordered;
 mod races;
-mod racing_pairs;
-mod rows;
-mod spans;
-mod sure_rows;
-mod sweep;
+mod searching;
 mod unordered;
 mod unreachable;
-mod waits;
 
+pub use checking::check;
 pub use ordered::Ordered;
 pub use vq_model::plan::OrderFault;

@@ -1,49 +1,44 @@
 //! Plans that were checked.
-ghost use Rattle.std.specs.Prelude.{Some, ◌≡◌, ◌+◌, ◌-◌, ◌<◌, ◌≤◌, ◌↔◌, IsTrue, ℕ, length, get_or};
-ghost use Rattle.std.specs.List.{slice_get, slice_index_or};
+ghost use Rattle.std.specs.Prelude.{◌≡◌, ◌<◌, ◌≤◌, ◌↔◌, IsTrue, length};
+ghost use Rattle.std.specs.List.{slice_index_or};
 ghost use Rattle.vq_model.specs.Checks.{IsLawful};
+ghost use Rattle.vq_model.specs.HappensBefore.{HappensBefore};
 ghost use Rattle.vq_model.specs.LoweringFaults.{IsPlan};
-ghost use Rattle.vq_model.specs.HappensBefore.{HappensBefore, HappensBeforeCommand};
-ghost use Rattle.vq_model.specs.Plan.{chain, chain_of, job_of, has};
-ghost use Rattle.vq_model.specs.Races.{HasSureOrder};
+ghost use Rattle.vq_model.specs.Plan.{chain};
+ghost use Rattle.vq_model.specs.SlowRun.{slow_order};
 ghost use Rattle.vq_model.specs.Sure.{IsSure};
-ghost use Rattle.vq_model.specs.Windows.{IsGreatest, IsPossible, IsSurelyReached, IsPossiblyReached};
-ghost use Rattle.vq_order.specs.Counts.{AreFirst, value_after};
-ghost use Rattle.vq_order.specs.Kept.{AreClocksOf, IsClocked};
+ghost use Rattle.vq_model.specs.Windows.{IsGreatest, IsSurelyReached, IsPossiblyReached};
+ghost use Rattle.vq_order.specs.Counts.{value_after, MayBeMade};
 
-use crate::clock_rows::Clocks;
+use crate::clocked::Clocked;
+use crate::searching::count_first;
 use std::marker::Model;
-use vq_spec::plan::Plan;
+use vq_spec::Plan;
 
 /// A lawful plan, with the order of its jobs and of its signals.
 #[derive(Drop)]
 pub struct Ordered {
-    plan: Plan,
-    clocks: Clocks,
+    order: Clocked,
 }
 
 impl Model for Ordered {
+    ghost use Rattle.vq_model.specs.Checks.{IsLawful};
     ghost use Rattle.vq_model.specs.Plan.{Plan as Lowered};
-    ghost use Rattle.vq_order.specs.Kept.{IsClocked};
 
     ghost Value = { Lowered };
 
-    ghost view = { λ a. a.plan };
+    ghost view = { λ a. a.order };
 
-    ghost invariant = { λ a. IsClocked a.plan a.clocks };
+    ghost invariant = { λ a. IsLawful a.order };
 }
 
 impl Ordered {
-    /// A lawful plan, with its clocks.
-    pub(crate) fn of(plan: Plan, clocks: Clocks) -> Ordered
-        requires lawful { IsLawful plan }
-        requires order { HasSureOrder plan }
-        requires clocks { AreClocksOf plan clocks }
-        ensures { result ≡ plan }
+    /// A lawful plan, with the order of its jobs.
+    pub(crate) fn of(order: Clocked) -> Ordered
+        requires { IsLawful order }
+        ensures { result ≡ order }
     {
-        // The plan is one of a script that was read.
-        let _ = plan.script();
-        Ordered { plan, clocks }
+        Ordered { order }
     }
 
     /// The plan.
@@ -54,9 +49,16 @@ impl Ordered {
         ensures lawful { IsLawful self.now }
         ensures read { IsPlan self.now }
     {
-        // The plan is one of a script that was read.
-        let _ = self.plan.script();
-        &self.plan
+        self.order.plan()
+    }
+
+    /// The jobs in the order of the slow run, which does them all.
+    ///
+    /// Source: this project's rule.
+    pub fn slow_order(&self) -> &[u32]
+        ensures { result.now ≡ slow_order self.now }
+    {
+        self.order.slow_order()
     }
 
     /// Whether one job happens before another.
@@ -67,18 +69,7 @@ impl Ordered {
         requires second { j < length self.now.jobs }
         ensures { IsTrue result ↔ HappensBefore self.now i j }
     {
-        self.clocks.is_before(&self.plan, i, j)
-    }
-
-    /// Whether the commands of one job happen before each command of another.
-    ///
-    /// Source: Vulkan 1.3, "Execution and Memory Dependencies".
-    pub fn before_commands(&self, i: u32, j: u32) -> bool
-        requires first { i < length self.now.jobs }
-        requires second { j < length self.now.jobs }
-        ensures { (d : ℕ) → IsTrue result ↔ HappensBeforeCommand self.now i j d }
-    {
-        self.clocks.is_before_commands(&self.plan, i, j)
+        self.order.before(i, j)
     }
 
     /// Whether a signal operation is sure to be made before a job ends.
@@ -89,7 +80,7 @@ impl Ordered {
         requires exists { j < length self.now.jobs }
         ensures { IsTrue result ↔ IsSure self.now op j }
     {
-        self.clocks.is_sure(&self.plan, op, j)
+        self.order.is_sure(op, j)
     }
 
     /// What a chain has surely reached when a job starts: the greatest such number.
@@ -100,9 +91,17 @@ impl Ordered {
         requires chain { t < length self.now.chains }
         ensures { IsGreatest (IsSurelyReached self.now j t) result }
     {
-        // The chains of a lawful plan rise.
-        let _ = &self.plan;
-        self.value_after(t, self.count_sure(j, t))
+        let ops = self.plan().chain(t);
+        let count = count_first(
+            ops.len(),
+            |k|
+                requires place { k < length ops.now }
+                requires exists { slice_index_or ops.now k 0 < length self.now.ops }
+                requires job { j < length self.now.jobs }
+                ensures { IsTrue result ↔ IsSure self.entry.now (slice_index_or ops.entry.now k 0) j }
+            { self.is_sure(ops[k], j) },
+        );
+        self.value_after(t, count)
     }
 
     /// What a chain may have reached while a job runs: the greatest such number.
@@ -113,49 +112,17 @@ impl Ordered {
         requires chain { t < length self.now.chains }
         ensures { IsGreatest (IsPossiblyReached self.now j t) result }
     {
-        // The chains of a lawful plan rise.
-        let _ = &self.plan;
-        self.value_after(t, self.count_possible(j, t))
-    }
-
-    /// How many operations of a chain are sure for a job: the first ones.
-    fn count_sure(&self, j: u32, t: u32) -> usize
-        requires exists { j < length self.now.jobs }
-        requires chain { t < length self.now.chains }
-        ensures { AreFirst (λ e. IsSure self.now e j) (chain self.now t) result }
-    {
-        let ops = self.plan.chain(t);
-        let mut low = 0;
-        let mut high = ops.len();
-        while low < high {
-            let middle = low + (high - low) / 2;
-            if self.is_sure(ops[middle], j) {
-                low = middle + 1;
-            } else {
-                high = middle;
-            }
-        }
-        low
-    }
-
-    /// How many operations of a chain may be made while a job runs: the first ones.
-    fn count_possible(&self, j: u32, t: u32) -> usize
-        requires exists { j < length self.now.jobs }
-        requires chain { t < length self.now.chains }
-        ensures { AreFirst (IsPossible self.now j t) (chain self.now t) result }
-    {
-        let ops = self.plan.chain(t);
-        let mut low = 0;
-        let mut high = ops.len();
-        while low < high {
-            let middle = low + (high - low) / 2;
-            if self.is_possible(ops[middle], j) {
-                low = middle + 1;
-            } else {
-                high = middle;
-            }
-        }
-        low
+        let ops = self.plan().chain(t);
+        let count = count_first(
+            ops.len(),
+            |k|
+                requires place { k < length ops.now }
+                requires exists { slice_index_or ops.now k 0 < length self.now.ops }
+                requires job { j < length self.now.jobs }
+                ensures { IsTrue result ↔ MayBeMade self.entry.now j (slice_index_or ops.entry.now k 0) }
+            { self.is_possible(ops[k], j) },
+        );
+        self.value_after(t, count)
     }
 
     /// Whether an operation may be made while a job runs: its job is another one and doesn't come
@@ -163,10 +130,9 @@ impl Ordered {
     fn is_possible(&self, op: u32, j: u32) -> bool
         requires op_exists { op < length self.now.ops }
         requires exists { j < length self.now.jobs }
-        ensures { (t : ℕ) → chain_of self.now op ≡ Some t →
-            IsTrue result ↔ IsPossible self.now j t op }
+        ensures { IsTrue result ↔ MayBeMade self.now j op }
     {
-        let job = self.plan.op(op).job;
+        let job = self.plan().op(op).job;
         job != j && !self.before(j, job)
     }
 
@@ -176,10 +142,10 @@ impl Ordered {
         requires within { count ≤ length (chain self.now t) }
         ensures { result ≡ value_after self.now t count }
     {
+        let plan = self.plan();
         if count == 0 {
-            self.plan.initial(t)
-        } else {
-            self.plan.op(self.plan.chain(t)[count - 1]).value
+            return plan.initial(t);
         }
+        plan.op(plan.chain(t)[count - 1]).value
     }
 }

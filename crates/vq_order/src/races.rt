@@ -1,34 +1,133 @@
 //! Races: commands of a plan that conflict, neither before the other.
-ghost use Rattle.std.specs.Prelude.{◌≡◌, [], IfOk};
+ghost use Rattle.std.specs.Prelude.{◌≡◌, ◌<◌, ◌↔◌, length, IfOk, IsTrue};
 ghost use Rattle.vq_model.specs.Checks.{IsRaceAt};
-ghost use Rattle.vq_model.specs.SlowRun.{left_over, slow_order};
-ghost use Rattle.vq_order.specs.Clocks.{AreClocks};
-ghost use Rattle.vq_order.specs.Pairs.{IsLeastPairOrNone};
+ghost use Rattle.vq_order.specs.Accessed.{AreAccesses, HasNoRaceBelow, IsFirstRacing};
+ghost use Rattle.vq_order.specs.LeastLines.{AreLeastOrNone};
+ghost use Rattle.vq_order.specs.Swept.{AreInOrder};
 
-use crate::accesses::accesses;
-use crate::clock_rows::Clocks;
-use crate::racing_pairs::least_race;
-use crate::sweep::rules_out_races;
+mod accesses;
+mod cells;
+mod cuts;
+mod sweep;
+
+use crate::clocked::Clocked;
+use crate::lines::Lines;
+use crate::races::accesses::{Access, all_accesses, conflict};
+use crate::races::cells::{Halt, is_at_or_before};
+use crate::races::sweep::{go_through, touch_count};
 use std::alloc::{AllocError, Global};
-use vq_spec::plan::Plan;
+
+/// Whether one of two jobs is the other one, or happens before it.
+fn are_in_order(order: &Clocked, i: u32, j: u32) -> bool
+    requires first { i < length order.now.jobs }
+    requires second { j < length order.now.jobs }
+    ensures { IsTrue result ↔ AreInOrder order.now i j }
+{
+    is_at_or_before(order, i, j) || is_at_or_before(order, j, i)
+}
+
+/// The first command with a lower number that races with a command. As commands of one job stand
+/// together, it is enough to remember the last job that was found to be in order with this one's.
+fn first_racing(order: &Clocked, accesses: &[Access], d: u32) -> Option<u32>
+    requires accesses { AreAccesses order.now accesses.now }
+    requires exists { d < length accesses.now }
+    ensures { IsFirstRacing order.now accesses.now d result }
+{
+    let access = &accesses[d as usize];
+    let mut in_order = access.job;
+    for c in 0..d {
+        let other = &accesses[c as usize];
+        if other.job == in_order {
+            continue;
+        }
+        if are_in_order(order, other.job, access.job) {
+            in_order = other.job;
+        } else if conflict(other, access) {
+            return Some(c);
+        }
+    }
+    None
+}
+
+/// The least pair of lines of commands that race, or none, where the first commands don't.
+fn least_race(order: &Clocked, accesses: &[Access], clean: u32) -> Option<Lines>
+    requires accesses { AreAccesses order.now accesses.now }
+    requires all { length accesses.now ≡ length order.now.commands }
+    requires clean { HasNoRaceBelow order.now clean }
+    ensures { AreLeastOrNone (IsRaceAt order.now) result }
+{
+    let plan = order.plan();
+    for d in clean..plan.commands() {
+        if let Some(c) = first_racing(order, accesses, d) {
+            return Some(Lines {
+                first: plan.command(c).line,
+                second: plan.command(d).line,
+            });
+        }
+    }
+    None
+}
+
+/// Whether going through commands once finds no conflict out of order.
+fn is_clean(alloc: Global, order: &Clocked, accesses: &[Access]) -> Result<bool, AllocError>
+    requires { AreAccesses order.now accesses.now }
+    ensures { IfOk result (λ clean. IsTrue clean → HasNoRaceBelow order.now (length accesses.now)) }
+{
+    match go_through(alloc, order, accesses) {
+        Ok(()) => Ok(true),
+        Err(Halt::Conflict) => Ok(false),
+        Err(Halt::Memory(error)) => Err(error),
+    }
+}
+
+/// With no more commands than this left of a search by halves, comparing pairs is quicker.
+const FEW_COMMANDS: u32 = 256;
+
+/// A number of commands, the first ones, of which no two race. The search is by halves, so where not
+/// all are such ones, one of the next few races with one of them.
+fn count_clean(alloc: Global, order: &Clocked, accesses: &[Access]) -> Result<u32, AllocError>
+    requires accesses { AreAccesses order.now accesses.now }
+    requires all { length accesses.now ≡ length order.now.commands }
+    ensures { IfOk result (HasNoRaceBelow order.now) }
+{
+    let mut low = 0;
+    let mut high = order.plan().commands();
+    while high - low > FEW_COMMANDS {
+        let middle = low + (high - low) / 2;
+        if is_clean(alloc, order, &accesses[..middle as usize])? {
+            low = middle;
+        } else {
+            high = middle;
+        }
+    }
+    Ok(low)
+}
+
+/// With more cells than this to go through for each command, on the average, comparing all pairs of
+/// commands is quicker.
+const MOST_CELLS: usize = 32;
+
+/// Whether ranges overlap so much that comparing all pairs of commands is quicker than going through
+/// their cells.
+fn overlap_much(alloc: Global, accesses: &[Access]) -> Result<bool, AllocError> {
+    let count = touch_count(alloc, accesses)?;
+    Ok(count / MOST_CELLS > accesses.len())
+}
 
 /// The least pair of lines of commands that race, by the second line and then by the first, or
-/// none. Only where going through all commands once doesn't rule out a race are pairs looked at.
-pub(crate) fn first_race(
-    alloc: Global,
-    plan: &Plan,
-    clocks: &Clocks,
-    order: &[u32],
-) -> Result<Option<(u32, u32)>, AllocError>
-    requires reachable { left_over plan.now ≡ [] }
-    requires order { order.now ≡ slow_order plan.now }
-    requires right { AreClocks plan.now clocks.now.positions.items clocks.now.before
-        clocks.now.sure }
-    ensures { IfOk result (IsLeastPairOrNone (IsRaceAt plan.now)) }
+/// none. Commands are gone through cell by cell. Where that finds a race, the second command is
+/// looked for by halves, and compared with each one before it.
+pub(crate) fn first_race(alloc: Global, order: &Clocked) -> Result<Option<Lines>, AllocError>
+    ensures { IfOk result (AreLeastOrNone (IsRaceAt order.now)) }
 {
-    let accesses = accesses(alloc, plan)?;
-    if rules_out_races(alloc, plan, clocks, accesses.as_slice(), order)? {
+    let accesses = all_accesses(alloc, order.plan())?;
+    let accesses = accesses.as_slice();
+    if overlap_much(alloc, accesses)? {
+        return Ok(least_race(order, accesses, 0));
+    }
+    if is_clean(alloc, order, accesses)? {
         return Ok(None);
     }
-    Ok(least_race(plan, clocks, accesses.as_slice()))
+    let clean = count_clean(alloc, order, accesses)?;
+    Ok(least_race(order, accesses, clean))
 }

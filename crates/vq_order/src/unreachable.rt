@@ -4,7 +4,7 @@ ghost use Rattle.std.specs.List.{slice_get};
 ghost use Rattle.vq_model.specs.Checks.{is_unreached, IsUnreachableAt};
 ghost use Rattle.vq_model.specs.Plan.{needs};
 ghost use Rattle.vq_spec.specs.SlowProgress.{lower};
-ghost use Rattle.vq_order.specs.Reach.{HasRun, IsLeastOrNone, IsUnreachedOf, IsUnreachedIn};
+ghost use Rattle.vq_order.specs.Unreached.{HasRun, IsLeastOrNone, IsUnreachedOf, IsUnreachedIn};
 
 use vq_model::plan::Need;
 use vq_spec::reached::{any_reached, is_reached};

@@ -6,7 +6,7 @@ use Rattle.vq_model.proofs.Lists.{has_here, has_there, has_cases}
 use Rattle.std.specs.List.{position_or_len}
 use Rattle.vq_model.specs.SlowRun.{slow_order}
 use Rattle.vq_model.proofs.Options.{same_some}
-use Rattle.vq_model.specs.Edges.{Place, AtEnd, must_finish, awaited_at, edges_at}
+use Rattle.vq_model.specs.Edges.{Stage, AtEnd, must_finish, awaited_at, edges_at}
 use Rattle.vq_model.specs.HappensBefore.{comes_earlier, HappensBeforeAt, one, more, HappensBefore}
 use Rattle.vq_model.specs.Sure.{IsFinishedFirst, IsWaitedFor, IsSureAt, finished_first, waited_for, passed_on, IsSure}
 
@@ -45,7 +45,7 @@ job_decides p e j = by_option (job_of p e) refl
     by_option (Some x) i = elim (cases_eq x j) [ inl q ↦ inl (i ∙ ap Some q) | inr n ↦ inr (λ h. n (same_some x j (sym i ∙ h))) ]
 
 module _ (p : Plan) where
-  before_by : (n i j : ℕ) (k : Place) → stands p j < n → HappensBeforeAt p i j k ⊎ (HappensBeforeAt p i j k → ⊥)
+  before_by : (n i j : ℕ) (k : Stage) → stands p j < n → HappensBeforeAt p i j k ⊎ (HappensBeforeAt p i j k → ⊥)
   before_by zero i j k l = absurd (omega arith)
   before_by (suc n) i j k l = from_search (in_list (λ h. (comes_earlier p h j ≡ true) × ((h ≡ i) ⊎ HappensBefore p i h)) (edges_at p j k) (λ h m. decide h (before_by n i h AtEnd)))
     where
@@ -73,7 +73,7 @@ module _ (p : Plan) where
           refuted (more {h = q} b h) = g q h.edge (h.earlier, inr b)
 
   -- a job is before a place of another, or not
-  pub before_decides : (i j : ℕ) (k : Place) → HappensBeforeAt p i j k ⊎ (HappensBeforeAt p i j k → ⊥)
+  pub before_decides : (i j : ℕ) (k : Stage) → HappensBeforeAt p i j k ⊎ (HappensBeforeAt p i j k → ⊥)
   before_decides i j k = before_by (suc (stands p j)) i j k (omega arith)
 
   first_decides : (e j : ℕ) → IsFinishedFirst p e j ⊎ (IsFinishedFirst p e j → ⊥)
@@ -91,7 +91,7 @@ module _ (p : Plan) where
             n (subst (λ z. has (must_finish p j) z ≡ true) s f.first, subst (λ z. comes_earlier p z j ≡ true) s f.earlier))
       ]
 
-  waited_decides : (e j : ℕ) (k : Place) → IsWaitedFor p e j k ⊎ (IsWaitedFor p e j k → ⊥)
+  waited_decides : (e j : ℕ) (k : Stage) → IsWaitedFor p e j k ⊎ (IsWaitedFor p e j k → ⊥)
   waited_decides e j k = by_option (job_of p e) refl
     where
       none_some : {x : ℕ} → None ≡ Some x → ⊥
@@ -114,7 +114,7 @@ module _ (p : Plan) where
           as_test (inl q) = inl q
           as_test (inr g) = inr (λ q. g q.0 q.1 q.2)
 
-  sure_by : (n e j : ℕ) (k : Place) → stands p j < n → IsSureAt p e j k ⊎ (IsSureAt p e j k → ⊥)
+  sure_by : (n e j : ℕ) (k : Stage) → stands p j < n → IsSureAt p e j k ⊎ (IsSureAt p e j k → ⊥)
   sure_by zero e j k l = absurd (omega arith)
   sure_by (suc n) e j k l = by_parts (first_decides e j) (waited_decides e j k) (in_list (λ i. (comes_earlier p i j ≡ true) × IsSure p e i) (edges_at p j k) (λ i m. decide i (sure_by n e i AtEnd)))
     where
@@ -136,5 +136,5 @@ module _ (p : Plan) where
           refuted (passed_on {i = i} s h) = g i h.edge (h.earlier, s)
 
   -- an operation is sure for a place of a job, or not
-  pub sure_decides : (e j : ℕ) (k : Place) → IsSureAt p e j k ⊎ (IsSureAt p e j k → ⊥)
+  pub sure_decides : (e j : ℕ) (k : Stage) → IsSureAt p e j k ⊎ (IsSureAt p e j k → ⊥)
   sure_decides e j k = sure_by (suc (stands p j)) e j k (omega arith)

@@ -6,7 +6,7 @@ use Rattle.std.proofs.lemmas.Bool.{cond-true, cond-false, false≢true, ltb-true
 use Rattle.vq_model.specs.Plan.{has, Plan, resolver, initial, previous, host_before, idle_after, needs, waits_for_any, job_of}
 use Rattle.vq_model.proofs.Lists.{has_cases, has_here, has_there, has-append_cases, has-append_left, has-append_right}
 use Rattle.std.specs.Option.{option_to_list}
-use Rattle.vq_model.specs.Edges.{Place, At, AtEnd, must_finish, needs_at, awaited_at, edges_at, holds_back, EdgeAt, by_lane, by_host, by_need, by_idle}
+use Rattle.vq_model.specs.Edges.{Stage, At, AtEnd, must_finish, needs_at, awaited_at, edges_at, holds_back, EdgeAt, by_lane, by_host, by_need, by_idle}
 use Rattle.vq_model.proofs.Mapped.{has_mapped, mapped}
 
 -- Lists of needs
@@ -82,15 +82,15 @@ is_above p n = ltb (initial p n.chain) n.value
 
 module _ (p : Plan) (i j : ℕ) where
   -- a need at a place
-  need_at : (k : Place) (place : ℕ) (n : Need) → slice_get (needs_at p j k) place ≡ Some n → Filtered (λ m. holds_back m k) (needs p j) n
+  need_at : (k : Stage) (place : ℕ) (n : Need) → slice_get (needs_at p j k) place ≡ Some n → Filtered (λ m. holds_back m k) (needs p j) n
   need_at (At k) place n h = filtered (λ m. leb m.from k) (needs p j) place n h
   need_at AtEnd place n h = record { place = place; is = h; passes = refl }
 
-  at_need : (k : Place) (place : ℕ) (n : Need) → slice_get (needs p j) place ≡ Some n → holds_back n k ≡ true → (q : ℕ) × (slice_get (needs_at p j k) q ≡ Some n)
+  at_need : (k : Stage) (place : ℕ) (n : Need) → slice_get (needs p j) place ≡ Some n → holds_back n k ≡ true → (q : ℕ) × (slice_get (needs_at p j k) q ≡ Some n)
   at_need (At k) place n h t = filter_place (λ m. leb m.from k) (needs p j) place n h t
   at_need AtEnd place n h t = (place, h)
 
-  pub edge_of : (k : Place) → has (edges_at p j k) i ≡ true → EdgeAt p i j k
+  pub edge_of : (k : Stage) → has (edges_at p j k) i ≡ true → EdgeAt p i j k
   edge_of k h =
       elim (has-append_cases (must_finish p j) (filter_map (job_of p) (awaited_at p j k)) i h) [
         | inl m ↦ elim (has-append_cases (option_to_list (previous p j) ++ option_to_list (host_before p j)) (idle_after p j) i m) [
@@ -111,11 +111,11 @@ module _ (p : Plan) (i j : ℕ) where
           let t = need_at k a.place q.1 a.is in
           by_need q.1 t.place r e t.is t.passes (ltb-true (initial p q.1.chain) q.1.value a.passes) q.3 o
 
-  pub finish_edge : (k : Place) → has (must_finish p j) i ≡ true → has (edges_at p j k) i ≡ true
+  pub finish_edge : (k : Stage) → has (must_finish p j) i ≡ true → has (edges_at p j k) i ≡ true
   finish_edge k m = has-append_left (must_finish p j) (filter_map (job_of p) (awaited_at p j k)) i m
 
   -- what resolves a need is awaited
-  pub need_awaits : (k : Place) (n : Need) (place e : ℕ) → waits_for_any p j ≡ false → slice_get (needs p j) place ≡ Some n → holds_back n k ≡ true → initial p n.chain < n.value → resolver p n.chain n.value ≡ Some e → has (awaited_at p j k) e ≡ true
+  pub need_awaits : (k : Stage) (n : Need) (place e : ℕ) → waits_for_any p j ≡ false → slice_get (needs p j) place ≡ Some n → holds_back n k ≡ true → initial p n.chain < n.value → resolver p n.chain n.value ≡ Some e → has (awaited_at p j k) e ≡ true
   need_awaits k n place e any is back above resolves =
       let a = at_need k place n is back in
       let b = filter_place (is_above p) (needs_at p j k) a.0 n a.1 (lt-ltb (initial p n.chain) n.value above) in
@@ -139,7 +139,7 @@ module _ (p : Plan) (i j : ℕ) where
   idle_first m =
       has-append_right (option_to_list (previous p j) ++ option_to_list (host_before p j)) (idle_after p j) i m
 
-  pub of_edge : (k : Place) → EdgeAt p i j k → has (edges_at p j k) i ≡ true
+  pub of_edge : (k : Stage) → EdgeAt p i j k → has (edges_at p j k) i ≡ true
   of_edge k (by_lane e) = finish_edge k (lane_first e)
   of_edge k (by_host e) = finish_edge k (host_first e)
   of_edge k (by_idle m) = finish_edge k (idle_first m)

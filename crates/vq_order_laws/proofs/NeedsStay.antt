@@ -5,7 +5,7 @@ use Rattle.vq_model.specs.declared.plan.Need.{Need}
 use Rattle.vq_model.specs.Plan.{Plan, waits_for_any}
 use Rattle.vq_model.specs.Machine.{is_reached, are_reached}
 use Rattle.std.specs.List.{list_all, list_any}
-use Rattle.vq_model.specs.Edges.{Place, needs_at}
+use Rattle.vq_model.specs.Edges.{Stage, needs_at}
 
 -- needs that are reached stay so where numbers rise
 
@@ -29,7 +29,7 @@ any_still payload later r (n ∷ ns) h =
       | inr t ↦ or_right (is_reached later n) (list_any (is_reached later) ns) (any_still payload later r ns t)
     ]
 
-pub are_reached_still : (p : Plan) (payload later : ℕ → ℕ) → ((t : ℕ) → payload t ≤ later t) → (j : ℕ) (k : Place) → are_reached p payload j k ≡ true → are_reached p later j k ≡ true
+pub are_reached_still : (p : Plan) (payload later : ℕ → ℕ) → ((t : ℕ) → payload t ≤ later t) → (j : ℕ) (k : Stage) → are_reached p payload j k ≡ true → are_reached p later j k ≡ true
 are_reached_still p payload later r j k h = by_test (waits_for_any p j) refl
   where
     by_test : (b : Bool) → waits_for_any p j ≡ b → are_reached p later j k ≡ true

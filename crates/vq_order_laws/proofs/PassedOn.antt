@@ -2,7 +2,7 @@
 -- or happens before it. Such a chain rises in a sure order.
 use Rattle.std.proofs.Common.{ℕ, ◌≡◌, true, List, [], ◌∷◌, ◌++◌, refl, sym, ap, ◌∙◌, subst, ◌<◌, ◌≤◌, inl, inr, arith, length, ◌⊎◌, Some, zero, suc}
 use Rattle.vq_model.specs.Plan.{Plan, has, value, job_of, chain, initial}
-use Rattle.vq_model.specs.Edges.{Place, AtEnd, awaited_at}
+use Rattle.vq_model.specs.Edges.{Stage, AtEnd, awaited_at}
 use Rattle.vq_model.specs.HappensBefore.{HappensBeforeAt, one, more, HappensBefore, comes_earlier}
 use Rattle.vq_model.specs.Sure.{IsSureAt, IsSure, passed_on, IsSureForJobOf, KeepsRising, RisesFrom, waited_for}
 use Rattle.std.proofs.lemmas.List.{append_assoc}
@@ -14,7 +14,7 @@ use Rattle.vq_model.proofs.Lists.{has_here, has_cases, Splits, split_at, has-app
 use Rattle.vq_model.proofs.Positions.{place}
 
 -- what is sure for a job is sure for what the job happens before
-pub sure_along : (p : Plan) (e i j : ℕ) (k : Place) → IsSure p e i → HappensBeforeAt p i j k →
+pub sure_along : (p : Plan) (e i j : ℕ) (k : Stage) → IsSure p e i → HappensBeforeAt p i j k →
     IsSureAt p e j k
 sure_along p e i j k s (one h) = passed_on s h
 sure_along p e i j k s (more {h = q} b h) = passed_on (sure_along p e i q AtEnd s b) h

@@ -5,7 +5,7 @@ use Rattle.std.proofs.lemmas.Bool.{cond-true, cond-false, false≢true}
 use Rattle.vq_model.specs.declared.plan.Need.{Need}
 use Rattle.vq_model.specs.Plan.{has, Plan, initial, resolver, needs, waits_for_any, job_of, commands_of}
 use Rattle.vq_model.proofs.Lists.{has_here, has_there, has_cases, has-append_cases, has-append_left, has-append_right}
-use Rattle.vq_model.specs.Edges.{Place, At, AtEnd, awaited_at, needs_at, must_finish, place_of, HasNoHeldWait}
+use Rattle.vq_model.specs.Edges.{Stage, At, AtEnd, awaited_at, needs_at, must_finish, stage_of, HasNoHeldWait}
 use Rattle.vq_model.specs.HappensBefore.{IsHop, HappensBefore, HappensBeforeAt, one, more, HappensBeforeCommand}
 use Rattle.vq_model.proofs.Mapped.{mapped, has_mapped}
 use Rattle.vq_model.specs.Sure.{IsSure, IsSureAt, finished_first, waited_for, passed_on}
@@ -48,7 +48,7 @@ has_later f test at (n ∷ ns) r h = by_at (at n) refl (has_later f test at ns r
 abbrev found : Plan → List Need → List ℕ
 found p ns = filter_map (λ n. resolver p n.chain n.value) (filter (λ n. ltb (initial p n.chain) n.value) ns)
 
-awaited_later : (p : Plan) (j : ℕ) (k : Place) (r : ℕ) → has (awaited_at p j k) r ≡ true → has (awaited_at p j AtEnd) r ≡ true
+awaited_later : (p : Plan) (j : ℕ) (k : Stage) (r : ℕ) → has (awaited_at p j k) r ≡ true → has (awaited_at p j AtEnd) r ≡ true
 awaited_later p j AtEnd r h = h
 awaited_later p j (At k) r h = by_test (waits_for_any p j) refl
   where
@@ -58,7 +58,7 @@ awaited_later p j (At k) r h = by_test (waits_for_any p j) refl
         ap (λ zs. has zs r) (cond-false (waits_for_any p j) [] (found p (needs p j)) e)
         ∙ has_later (λ n. resolver p n.chain n.value) (λ n. ltb (initial p n.chain) n.value) (λ n. leb n.from k) (needs p j) r (ap (λ zs. has zs r) (sym (cond-false (waits_for_any p j) [] (found p (needs_at p j (At k))) e)) ∙ h)
 
-hop_later : (p : Plan) (i j : ℕ) (k : Place) → IsHop p i j k → IsHop p i j AtEnd
+hop_later : (p : Plan) (i j : ℕ) (k : Stage) → IsHop p i j k → IsHop p i j AtEnd
 hop_later p i j k h =
     record {
       edge = elim (has-append_cases (must_finish p j) (filter_map (job_of p) (awaited_at p j k)) i h.edge) [
@@ -71,12 +71,12 @@ hop_later p i j k h =
     }
 
 -- a job before a place of another is before the other
-pub before_end : (p : Plan) (i j : ℕ) (k : Place) → HappensBeforeAt p i j k → HappensBefore p i j
+pub before_end : (p : Plan) (i j : ℕ) (k : Stage) → HappensBeforeAt p i j k → HappensBefore p i j
 before_end p i j k (one h) = one (hop_later p i j k h)
 before_end p i j k (more {h = q} b h) = more b (hop_later p q j k h)
 
 -- an operation that is sure for a place is sure for the job
-pub sure_end : (p : Plan) (e j : ℕ) (k : Place) → IsSureAt p e j k → IsSure p e j
+pub sure_end : (p : Plan) (e j : ℕ) (k : Stage) → IsSureAt p e j k → IsSure p e j
 sure_end p e j k (finished_first f) = finished_first f
 sure_end p e j k (waited_for f) =
     waited_for (record { job = f.job; of_job = f.of_job; by_op = f.by_op; same_job = f.same_job; at_or_later = f.at_or_later; waits = awaited_later p j k f.by_op f.waits; earlier = f.earlier })
@@ -86,7 +86,7 @@ sure_end p e j k (passed_on {i = i} s h) = passed_on s (hop_later p i j k h)
 
 -- commands are ordered as their jobs are
 pub command_order : (p : Plan) → HasNoHeldWait p → (i j d : ℕ) → HappensBefore p i j → HappensBeforeCommand p i j d
-command_order p n i j d b = same_before p i j AtEnd (place_of p j d) (sym (needs_alike p j (position_or_len (λ c. eqb c d) (commands_of p j)) (n j))) b
+command_order p n i j d b = same_before p i j AtEnd (stage_of p j d) (sym (needs_alike p j (position_or_len (λ c. eqb c d) (commands_of p j)) (n j))) b
 
 pub job_order : (p : Plan) (i j d : ℕ) → HappensBeforeCommand p i j d → HappensBefore p i j
-job_order p i j d b = before_end p i j (place_of p j d) b
+job_order p i j d b = before_end p i j (stage_of p j d) b

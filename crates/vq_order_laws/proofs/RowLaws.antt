@@ -2,13 +2,14 @@
 use Rattle.std.proofs.Common.{◌≡◌, ℕ, eqb, sym, ◌∙◌, inl, inr, ◌+◌, ◌&&◌, ltb, min, max, ap, true, false, ◌||◌, List, Bool, Option, Some, None, refl, arith, option_map, [], ◌∷◌, ◌++◌, ◌<◌, length, ◌⊎◌, subst}
 use Rattle.std.proofs.lemmas.Bool.{eq-eqb, ne_eqb, cases_eq, or_cases, or_left, or_right, false≢true, cases_lt}
 use Rattle.std.proofs.Math.Nat.{max_comm, min_comm}
-use Rattle.vq_model.specs.Ranges.{Range, share, written_range, read_range, conflict}
+use Rattle.vq_model.specs.declared.ranges.Range.{Range}
+use Rattle.vq_model.specs.Ranges.{share, written_range, read_range, conflict}
 use Rattle.std.specs.Option.{option_map_or, option_to_list}
 use Rattle.vq_model.specs.declared.script.Command.{Command}
 use Rattle.std.specs.List.{list_any, slice_get}
 use Rattle.vq_model.specs.Plan.{Plan, command_at, line_of_command, chain, job_of, chain_of, has, initial, value, line_of_op}
 use Rattle.vq_model.specs.Races.{conflicts, HasNoRace}
-use Rattle.vq_model.specs.Edges.{place_of, AtEnd}
+use Rattle.vq_model.specs.Edges.{stage_of, AtEnd}
 use Rattle.vq_model.specs.HappensBefore.{HappensBeforeCommand}
 use Rattle.vq_model.specs.Checks.{NoLines, IsRaceAt, IsUnordered, too_low, equal, unsure, unsure_back, is_timeline_chain}
 use Rattle.vq_order_laws.proofs.Decides.{before_decides, sure_decides}
@@ -57,9 +58,9 @@ conflicts_back p c d h = by_commands (command_at p c) (command_at p d) h
 
 -- conflicting commands are ordered
 pub rows_order_commands : (p : Plan) → NoLines (IsRaceAt p) → HasNoRace p
-rows_order_commands p free c d i j hc hd n x = elim (before_decides p i j (place_of p j d)) [
+rows_order_commands p free c d i j hc hd n x = elim (before_decides p i j (stage_of p j d)) [
   | inl b ↦ inl b
-  | inr a ↦ elim (before_decides p j i (place_of p i c)) [ inl b ↦ inr b | inr b ↦ absurd (race a b) ]
+  | inr a ↦ elim (before_decides p j i (stage_of p i c)) [ inl b ↦ inr b | inr b ↦ absurd (race a b) ]
 ]
   where
     race : (HappensBeforeCommand p i j d → ⊥) → (HappensBeforeCommand p j i c → ⊥) → ⊥

@@ -4,7 +4,7 @@ use Rattle.std.specs.List.{range_with_len}
 use Rattle.std.specs.Option.{option_map_or}
 use Rattle.std.proofs.lemmas.Bool.{and_parts, ltb-true, not-true, not-false, false≢true}
 use Rattle.vq_model.specs.Plan.{Plan, has, job_of}
-use Rattle.vq_model.specs.Edges.{Place, AtEnd}
+use Rattle.vq_model.specs.Edges.{Stage, AtEnd}
 use Rattle.vq_model.specs.Machine.{can_start, are_reached}
 use Rattle.vq_model.specs.SlowRun.{is_ready, payload_after, lowest_ready, slow_from, slow_order, left_over, is_of}
 use Rattle.vq_model.specs.HappensBefore.{HappensBeforeAt, one, more}
@@ -39,7 +39,7 @@ module _ (p : Plan) where
   abbrev pub Earlier : ℕ → ℕ → Type 0
   Earlier i j = place (slow_order p) i < place (slow_order p) j
 
-  pub before_earlier : (i j : ℕ) (k : Place) → HappensBeforeAt p i j k → Earlier i j
+  pub before_earlier : (i j : ℕ) (k : Stage) → HappensBeforeAt p i j k → Earlier i j
   before_earlier i j k (one h) = ltb-true (place (slow_order p) i) (place (slow_order p) j) h.earlier
   before_earlier i j k (more {h = q} b h) =
       let a = before_earlier i q AtEnd b in

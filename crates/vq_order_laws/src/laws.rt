@@ -5,7 +5,7 @@ ghost use Rattle.vq_model.specs.Plan.{Plan, has, chain, initial, value};
 ghost use Rattle.vq_model.specs.WellFormed.{IsWellFormed};
 ghost use Rattle.vq_model.specs.SlowRun.{is_ready, slow_order, left_over};
 ghost use Rattle.vq_model.specs.Checks.{IsUnreachableAt, IsLawful, IsUnordered, IsRaceAt, NoLines, is_timeline_chain, IsFenceBusyAt, NoLine, IsFirstPlanFault};
-ghost use Rattle.vq_model.specs.Edges.{Place, edges_at, edges_to, EdgeAt};
+ghost use Rattle.vq_model.specs.Edges.{Stage, edges_at, edges_to, EdgeAt};
 ghost use Rattle.vq_model.specs.Sure.{IsSureAt, RisesFrom};
 ghost use Rattle.vq_model.specs.HappensBefore.{HappensBeforeAt, comes_earlier};
 ghost use Rattle.vq_model.specs.Races.{HasNoRace, HasSureOrder};
@@ -30,9 +30,9 @@ pub fn slow_run_stops()
 /// Whether a job happens before a place of another can be decided, and whether an operation is sure
 /// for it.
 pub fn order_decides()
-    ensures before { (p : Plan) → (i j : ℕ) → (k : Place) →
+    ensures before { (p : Plan) → (i j : ℕ) → (k : Stage) →
         HappensBeforeAt p i j k ⊎ ¬ HappensBeforeAt p i j k }
-    ensures sure { (p : Plan) → (e j : ℕ) → (k : Place) → IsSureAt p e j k ⊎ ¬ IsSureAt p e j k }
+    ensures sure { (p : Plan) → (e j : ℕ) → (k : Stage) → IsSureAt p e j k ⊎ ¬ IsSureAt p e j k }
 {}
 
 /// Where no row of faults holds, conflicting commands of two jobs are ordered, and each timeline
@@ -70,7 +70,7 @@ pub fn lawful_plans_have_no_fault()
 
 /// The list of the edges to a place of a job holds what the four reasons say.
 pub fn edges_have_reasons()
-    ensures { (p : Plan) → (i j : ℕ) → (k : Place) →
+    ensures { (p : Plan) → (i j : ℕ) → (k : Stage) →
         (has (edges_at p j k) i ≡ true) ↔ EdgeAt p i j k }
 {}
 

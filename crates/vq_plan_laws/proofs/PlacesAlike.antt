@@ -4,7 +4,7 @@ use Rattle.std.proofs.Common.{◌≡◌, ℕ, if◌then◌else◌, ltb, List, []
 use Rattle.std.specs.List.{list_all, list_any, filter_map}
 use Rattle.vq_model.specs.declared.plan.Need.{Need}
 use Rattle.vq_model.specs.Plan.{Plan, has, waits_for_any, initial, job_of, resolver, needs, is_host_step}
-use Rattle.vq_model.specs.Edges.{Place, must_finish, awaited_at, edges_at, needs_at, At, AtEnd, waits_at_start}
+use Rattle.vq_model.specs.Edges.{Stage, must_finish, awaited_at, edges_at, needs_at, At, AtEnd, waits_at_start}
 use Rattle.vq_model.specs.Machine.{is_reached, are_reached, can_start}
 use Rattle.vq_model.specs.HappensBefore.{IsHop, HappensBeforeAt, one, more}
 use Rattle.vq_model.specs.Sure.{IsSureAt, finished_first, waited_for, passed_on}
@@ -14,7 +14,7 @@ use Rattle.vq_model.specs.SlowRun.{is_ready, payload_after}
 
 -- Two places with the same needs are alike.
 
-module _ (p : Plan) (j : ℕ) (a b : Place) (e : needs_at p j a ≡ needs_at p j b) where
+module _ (p : Plan) (j : ℕ) (a b : Stage) (e : needs_at p j a ≡ needs_at p j b) where
   same_awaited : awaited_at p j a ≡ awaited_at p j b
   same_awaited = ap (λ (ns : List Need). if waits_for_any p j then [] else filter_map (λ n. resolver p n.chain n.value) (filter (λ n. ltb (initial p n.chain) n.value) ns)) e
 
@@ -27,11 +27,11 @@ module _ (p : Plan) (j : ℕ) (a b : Place) (e : needs_at p j a ≡ needs_at p j
   same_hop : (i : ℕ) → IsHop p i j a → IsHop p i j b
   same_hop i h = record { edge = ap (λ zs. has zs i) (sym same_edges) ∙ h.edge; earlier = h.earlier }
 
-pub same_before : (p : Plan) (i j : ℕ) (a b : Place) → needs_at p j a ≡ needs_at p j b → HappensBeforeAt p i j a → HappensBeforeAt p i j b
+pub same_before : (p : Plan) (i j : ℕ) (a b : Stage) → needs_at p j a ≡ needs_at p j b → HappensBeforeAt p i j a → HappensBeforeAt p i j b
 same_before p i j a b e (one h) = one (same_hop p j a b e i h)
 same_before p i j a b e (more {h = q} c h) = more c (same_hop p j a b e q h)
 
-pub same_sure : (p : Plan) (e j : ℕ) (a b : Place) → needs_at p j a ≡ needs_at p j b → IsSureAt p e j a → IsSureAt p e j b
+pub same_sure : (p : Plan) (e j : ℕ) (a b : Stage) → needs_at p j a ≡ needs_at p j b → IsSureAt p e j a → IsSureAt p e j b
 same_sure p e j a b q (finished_first f) = finished_first f
 same_sure p e j a b q (waited_for f) =
     waited_for (record { job = f.job; of_job = f.of_job; by_op = f.by_op; same_job = f.same_job; at_or_later = f.at_or_later; waits = ap (λ zs. has zs f.by_op) (sym (same_awaited p j a b q)) ∙ f.waits; earlier = f.earlier })

@@ -66,31 +66,3 @@ fn is_set(word: u64, bit: u32) -> bool
 {
     word >> bit & 1 == 1
 }
-
-#[cfg(test)]
-mod tests {
-    use super::*;
-
-    #[test]
-    fn words_of_points(rt: HostRuntime) {
-        for (word, parts) in [
-            (0, Some((0, 0, false, false))),
-            (844_429_225_099_264, Some((0, 1, true, true))),
-            (562_949_953_421_314, Some((2, 0, false, true))),
-            (5, None),
-            (1 << 50, None),
-            (1 << 49 | 1 << 63, None),
-        ] {
-            let want = parts.map(|(op, refs, signaled, held)| PointWord {
-                op,
-                refs,
-                signaled,
-                held,
-            });
-            assert_eq!(rt; unpack(word), want, "of {word}");
-            if let Some(parts) = unpack(word) {
-                assert_eq!(rt; parts.pack(), word);
-            }
-        }
-    }
-}

@@ -1,7 +1,7 @@
 -- A bind keeps the lists of a timeline, and loses no point.
 use Rattle.std.proofs.Common.{◌≡◌, ℕ, ◌+◌, ◌<◌, [], ◌∷◌, ◌++◌, length, drop, Some, ◌≤◌, true, get_or, Option, None, ◌∙◌, ap, subst, ◌⊎◌, inl, inr, List, IsPermutation, ◌-◌, arith, sym}
 use Rattle.std.specs.Prelude.{slice_range}
-use Rattle.vq_points.specs.Timeline.{Timeline, KeepsLists, CanBind, is_next, point_at, all_points, after_bind, indexes, entries_from}
+use Rattle.vq_points.specs.Timeline.{Timeline, KeepsLists, MayBind, is_next, point_at, all_points, after_bind, indexes, entries_from}
 use Rattle.std.proofs.lemmas.Bool.{cases_lt, cases_eq}
 use Rattle.std.proofs.lemmas.List.{drop_more, get_or_past}
 use Rattle.vq_points.proofs.TimelineLists.{same_of_test, IsMoved, moved}
@@ -19,7 +19,7 @@ record IsBindable (t : Timeline) (point : ℕ) : Type 0 where
   rest : drop t.bound t.points ≡ Some point ∷ drop (t.bound + 1) t.points
   more : slice_range t.points t.completed (t.bound + 1) ≡ slice_range t.points t.completed t.bound ++ Some point ∷ []
 
-bindable : (t : Timeline) (index point : ℕ) → KeepsLists t → CanBind t index point → is_next t index ≡ true → IsBindable t point
+bindable : (t : Timeline) (index point : ℕ) → KeepsLists t → MayBind t index point → is_next t index ≡ true → IsBindable t point
 bindable t index point k can next = by_room (cases_lt t.bound (length t.points))
   where
     slot : get_or t.points t.bound None ≡ Some point
@@ -46,10 +46,10 @@ bind_moves t point k b =
     ∙ third_pushed t.free first second t.waiting point)
     (grouped t.free first second t.waiting) k.distinct
 
-pub bind_same : (t : Timeline) (index point : ℕ) → KeepsLists t → CanBind t index point → is_next t index ≡ true → IsPermutation (all_points t) (all_points (after_bind t))
+pub bind_same : (t : Timeline) (index point : ℕ) → KeepsLists t → MayBind t index point → is_next t index ≡ true → IsPermutation (all_points t) (all_points (after_bind t))
 bind_same t index point k can next = (bind_moves t point k (bindable t index point k can next)).same
 
-pub bind_keeps : (t : Timeline) (index point : ℕ) → KeepsLists t → CanBind t index point → is_next t index ≡ true → KeepsLists (after_bind t)
+pub bind_keeps : (t : Timeline) (index point : ℕ) → KeepsLists t → MayBind t index point → is_next t index ≡ true → KeepsLists (after_bind t)
 bind_keeps t index point k can next =
     let b = bindable t index point k can next in
     let moves = bind_moves t point k b in

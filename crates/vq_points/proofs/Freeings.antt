@@ -1,6 +1,6 @@
 -- A freeing keeps the lists of a timeline, and loses no point.
 use Rattle.std.proofs.Common.{ℕ, ◌++◌, List, [], ◌∷◌, ◌∙◌, ap, IsPermutation, map, sym, subst}
-use Rattle.vq_points.specs.Timeline.{Timeline, KeepsLists, points_of, pending, taken, CanFree, all_points, after_free, AreRisingFrom, last_carrier}
+use Rattle.vq_points.specs.Timeline.{Timeline, KeepsLists, points_of, pending, taken, MayFree, all_points, after_free, AreRisingFrom, last_carrier}
 use Rattle.vq_points.proofs.TimelineLists.{IsRemoved, removed, distinct_back, IsMoved, moved}
 use Rattle.vq_points.proofs.PartedLists.{fourth_parted, grouped_last}
 use Rattle.std.proofs.lemmas.List.{map-append}
@@ -9,11 +9,11 @@ use Rattle.vq_points.proofs.Carriers.{rising_without}
 
 -- A freeing
 
-waits_once : (t : Timeline) (point : ℕ) → KeepsLists t → CanFree t point → IsRemoved point t.waiting
+waits_once : (t : Timeline) (point : ℕ) → KeepsLists t → MayFree t point → IsRemoved point t.waiting
 waits_once t point k can =
     removed point t.waiting (distinct_back (t.free ++ points_of (taken t) ++ points_of (pending t)) t.waiting k.distinct) can
 
-free_moves : (t : Timeline) (point : ℕ) → KeepsLists t → CanFree t point → IsMoved (all_points t) (all_points (after_free t point))
+free_moves : (t : Timeline) (point : ℕ) → KeepsLists t → MayFree t point → IsMoved (all_points t) (all_points (after_free t point))
 free_moves t point k can =
     let r = waits_once t point k can in
     let first = points_of (taken t) in
@@ -24,10 +24,10 @@ free_moves t point k can =
     (ap (λ (xs : List ℕ). point ∷ (t.free ++ first ++ second ++ xs)) r.left)
     (grouped_last t.free first second r.front r.back) k.distinct
 
-pub free_same : (t : Timeline) (point : ℕ) → KeepsLists t → CanFree t point → IsPermutation (all_points t) (all_points (after_free t point))
+pub free_same : (t : Timeline) (point : ℕ) → KeepsLists t → MayFree t point → IsPermutation (all_points t) (all_points (after_free t point))
 free_same t point k can = (free_moves t point k can).same
 
-pub free_keeps : (t : Timeline) (point : ℕ) → KeepsLists t → CanFree t point → KeepsLists (after_free t point)
+pub free_keeps : (t : Timeline) (point : ℕ) → KeepsLists t → MayFree t point → KeepsLists (after_free t point)
 free_keeps t point k can =
     let r = waits_once t point k can in
     let moves = free_moves t point k can in

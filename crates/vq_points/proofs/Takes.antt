@@ -1,7 +1,7 @@
 -- A take keeps the lists of a timeline, and adds no point but a fresh one.
 use Rattle.std.proofs.Common.{ℕ, List, set, Some, ◌≡◌, ◌∷◌, ◌++◌, drop, ◌+◌, ◌-◌, get_or, Option, None, ◌∙◌, ap, arith, [], refl, inl, inr, IsPermutation, ◌≤◌, length, map, sym, subst}
 use Rattle.std.proofs.lemmas.Bool.{cases_lt}
-use Rattle.vq_points.specs.Timeline.{Timeline, all_points, KeepsLists, CanTake, point_at, fresh_points, take_from, after_take, indexes, entries_from, AreDistinct, AreRisingFrom, last_from}
+use Rattle.vq_points.specs.Timeline.{Timeline, all_points, KeepsLists, MayTake, point_at, fresh_points, take_from, after_take, indexes, entries_from, AreDistinct, AreRisingFrom, last_from}
 use Rattle.std.specs.Prelude.{slice_range}
 use Rattle.vq_points.proofs.HeldPoints.{held, all_held, IsPut, put_at, range_same, drop_set, held_count}
 use Rattle.std.proofs.lemmas.List.{get_or-set_other, length-drop, get_or-drop, length-set, take-set-le, length-append, length-take}
@@ -30,7 +30,7 @@ unbound t index k none = elim (cases_lt index t.bound) [
   | inr l ↦ l
 ]
 
-given : (t : Timeline) (index fresh p : ℕ) → KeepsLists t → CanTake t index fresh → IsGiven t index p
+given : (t : Timeline) (index fresh p : ℕ) → KeepsLists t → MayTake t index fresh → IsGiven t index p
 given t index fresh p k can =
     record {
       front = r.front;
@@ -58,7 +58,7 @@ given t index fresh p k can =
         put_at (drop t.bound t.points) (index - t.bound) p (omega arith)
         (get_or-drop t.bound t.points (index - t.bound) None ∙ ap (λ (j : ℕ). get_or t.points j None) place ∙ can.without)
 
-take_moves : (t : Timeline) (index fresh : ℕ) → KeepsLists t → CanTake t index fresh → IsMoved (fresh_points t.free fresh ++ all_points t) (all_points (after_take t index fresh))
+take_moves : (t : Timeline) (index fresh : ℕ) → KeepsLists t → MayTake t index fresh → IsMoved (fresh_points t.free fresh ++ all_points t) (all_points (after_take t index fresh))
 take_moves t index fresh k can = by_free t.free refl
   where
     by_free : (free : List ℕ) → t.free ≡ free → IsMoved (fresh_points free fresh ++ all_points t) (all_points (take_from t index fresh free))
@@ -73,7 +73,7 @@ take_moves t index fresh k can = by_free t.free refl
         (all_held t ∙ ap (λ (xs : List ℕ). xs ++ held (drop t.bound t.points) ++ held (slice_range t.points t.completed t.bound) ++ t.waiting) e)
         (g.after free t.made) (g.before free) k.distinct
 
-pub take_same : (t : Timeline) (index fresh : ℕ) → KeepsLists t → CanTake t index fresh → IsPermutation (fresh_points t.free fresh ++ all_points t) (all_points (after_take t index fresh))
+pub take_same : (t : Timeline) (index fresh : ℕ) → KeepsLists t → MayTake t index fresh → IsPermutation (fresh_points t.free fresh ++ all_points t) (all_points (after_take t index fresh))
 take_same t index fresh k can = (take_moves t index fresh k can).same
 
 -- the lists with a point put at an operation that isn't bound
@@ -115,7 +115,7 @@ put_count t index p made k =
     let waiting = waiting_count t k in
     omega arith
 
-pub take_keeps : (t : Timeline) (index fresh : ℕ) → KeepsLists t → CanTake t index fresh → KeepsLists (after_take t index fresh)
+pub take_keeps : (t : Timeline) (index fresh : ℕ) → KeepsLists t → MayTake t index fresh → KeepsLists (after_take t index fresh)
 take_keeps t index fresh k can = by_free t.free refl (take_moves t index fresh k can)
   where
     by_free : (free : List ℕ) → t.free ≡ free → IsMoved (fresh_points free fresh ++ all_points t) (all_points (take_from t index fresh free)) → KeepsLists (take_from t index fresh free)

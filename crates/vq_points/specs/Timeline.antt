@@ -134,7 +134,7 @@ new_timeline initial values =
 
 -- a point may be taken for an operation that has none, with a fresh point that isn't one of the
 -- timeline
-pub record CanTake (t : Timeline) (index fresh : ℕ) : Type 0 where
+pub record MayTake (t : Timeline) (index fresh : ℕ) : Type 0 where
   pub exists : index < length t.values
   pub without : point_at t index ≡ None
   pub unknown : IsAbsent fresh (all_points t)
@@ -160,7 +160,7 @@ abbrev pub next_unbound : Timeline → ℕ
 next_unbound t = t.bound
 
 -- a point may be bound to the operation for which it is taken
-pub record CanBind (t : Timeline) (index point : ℕ) : Type 0 where
+pub record MayBind (t : Timeline) (index point : ℕ) : Type 0 where
   pub unbound : t.bound ≤ index
   pub taken : point_at t index ≡ Some point
 
@@ -195,8 +195,8 @@ abbrev pub after_complete : Timeline → Timeline
 after_complete t = complete_from t (first_pending t)
 
 -- a point may be freed that waits for it
-abbrev pub CanFree : Timeline → ℕ → Type 0
-CanFree t point = IsPresent point t.waiting
+abbrev pub MayFree : Timeline → ℕ → Type 0
+MayFree t point = IsPresent point t.waiting
 
 -- what freeing a point leaves
 abbrev pub after_free : Timeline → ℕ → Timeline

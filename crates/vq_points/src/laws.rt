@@ -6,7 +6,7 @@ ghost use Rattle.vq_points.specs.Points.{HistoryFrom, opening_points};
 ghost use Rattle.vq_points.specs.HistoryLaws.{PointLaw, PendingLaw};
 ghost use Rattle.vq_model.specs.declared.plan.Event.{Event};
 ghost use Rattle.vq_model.specs.WellFormed.{IsWellFormed};
-ghost use Rattle.vq_points.specs.Timeline.{Timeline, KeepsLists, AreRisingFrom, new_timeline, CanTake, after_take, CanBind, is_next, after_bind, after_complete, CanFree, after_free, all_points, fresh_points};
+ghost use Rattle.vq_points.specs.Timeline.{Timeline, KeepsLists, AreRisingFrom, new_timeline, MayTake, after_take, MayBind, is_next, after_bind, after_complete, MayFree, after_free, all_points, fresh_points};
 ghost use Rattle.vq_points.specs.PointWord.{PointWord, IsPointWord, pack, unpack};
 
 /// Every history keeps the point law: no point is used again before its operation is signaled and
@@ -27,26 +27,26 @@ pub fn pending_in_order()
 pub fn calls_keep_lists()
     ensures opened { (initial : ℕ) → (values : List ℕ) → AreRisingFrom initial values →
         KeepsLists (new_timeline initial values) }
-    ensures take { (t : Timeline) → (index fresh : ℕ) → KeepsLists t → CanTake t index fresh →
+    ensures take { (t : Timeline) → (index fresh : ℕ) → KeepsLists t → MayTake t index fresh →
         KeepsLists (after_take t index fresh) }
-    ensures bind { (t : Timeline) → (index point : ℕ) → KeepsLists t → CanBind t index point →
+    ensures bind { (t : Timeline) → (index point : ℕ) → KeepsLists t → MayBind t index point →
         is_next t index ≡ true → KeepsLists (after_bind t) }
     ensures complete { (t : Timeline) → KeepsLists t → KeepsLists (after_complete t) }
-    ensures free { (t : Timeline) → (point : ℕ) → KeepsLists t → CanFree t point →
+    ensures free { (t : Timeline) → (point : ℕ) → KeepsLists t → MayFree t point →
         KeepsLists (after_free t point) }
 {}
 
 /// No call loses a point or puts another in its place: a take adds the fresh point where none is free,
 /// and each other call only moves points.
 pub fn calls_lose_no_point()
-    ensures take { (t : Timeline) → (index fresh : ℕ) → KeepsLists t → CanTake t index fresh →
+    ensures take { (t : Timeline) → (index fresh : ℕ) → KeepsLists t → MayTake t index fresh →
         IsPermutation (fresh_points t.free fresh ++ all_points t)
         (all_points (after_take t index fresh)) }
-    ensures bind { (t : Timeline) → (index point : ℕ) → KeepsLists t → CanBind t index point →
+    ensures bind { (t : Timeline) → (index point : ℕ) → KeepsLists t → MayBind t index point →
         is_next t index ≡ true → IsPermutation (all_points t) (all_points (after_bind t)) }
     ensures complete { (t : Timeline) → KeepsLists t →
         IsPermutation (all_points t) (all_points (after_complete t)) }
-    ensures free { (t : Timeline) → (point : ℕ) → KeepsLists t → CanFree t point →
+    ensures free { (t : Timeline) → (point : ℕ) → KeepsLists t → MayFree t point →
         IsPermutation (all_points t) (all_points (after_free t point)) }
 {}
 

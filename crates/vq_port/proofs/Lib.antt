@@ -1,3 +1,4 @@
 pub mod Appending
+pub mod Counting
 pub mod Taking
 pub mod Telling

@@ -21,6 +21,3 @@ pub use source::Source;
 pub use standard::{StdSink, StdSource};
 pub use steady::{SteadySink, SteadySource};
 pub use write::write_whole;
-
-#[cfg(test)]
-mod tests;

@@ -29,7 +29,7 @@ use Rattle.vq_model.specs.declared.statement.Statement.TheVariants.{DeclareBuffe
 -- What is kept from line to line
 
 -- What the lines keep that were read, where the next line has this number.
-pub record Kept (next : ℕ) (before : List Line) : Type 0 where
+pub record LinesKept (next : ℕ) (before : List Line) : Type 0 where
   pub stand : AllStand (declared_by before) is_outside before
   pub leads : Lead before (where_of before)
   pub few_buffers : length (buffers before) ≤ 64
@@ -41,7 +41,7 @@ pub record Kept (next : ℕ) (before : List Line) : Type 0 where
   pub rising : AreRising (map (λ l. l.number) before)
   pub numbered : (m : ℕ) → has (map (λ l. l.number) before) m ≡ true → m < next
 
-pub kept_first : Kept 1 []
+pub kept_first : LinesKept 1 []
 kept_first =
     record {
       stand = tt;
@@ -57,7 +57,7 @@ kept_first =
     }
 
 -- a line without words changes nothing
-pub kept_on : (n : ℕ) (before : List Line) → Kept n before → Kept (n + 1) before
+pub kept_on : (n : ℕ) (before : List Line) → LinesKept n before → LinesKept (n + 1) before
 kept_on n before k =
     record {
       stand = k.stand;
@@ -130,14 +130,14 @@ module _ (before : List Line) (n : ℕ) (s : Statement) where
       }
 
   -- one line more, which passes no limit
-  kept_push : Kept n before → Said before (section before) s →
+  kept_push : LinesKept n before → Said before (section before) s →
       length (buffers before) + length (filter_map buffer_of (a_line n s ∷ [])) ≤ 64 →
       sum (sizes_before before)
       + sum (map (λ b. b.size) (filter_map buffer_of (a_line n s ∷ []))) ≤ 1048576 →
       length (semaphores before) + length (filter_map semaphore_of (a_line n s ∷ [])) ≤ 256 →
       length (queues before) + length (filter_map queue_of (a_line n s ∷ [])) ≤ 8 →
       count is_job before + cond (is_job s) 1 0 ≤ 4096 →
-      count is_command before + cond (is_command s) 1 0 ≤ 8192 → Kept (n + 1) (with_line before n s)
+      count is_command before + cond (is_command s) 1 0 ≤ 8192 → LinesKept (n + 1) (with_line before n s)
   kept_push k said b z t q j c =
       let here = said_stands before (where_of before) s k.leads said in
       let lb = ap length buffers_more
@@ -190,8 +190,8 @@ module _ (before : List Line) (n : ℕ) (s : Statement) where
           last (inr e) = absurd (false≢true e)
 
 -- A line without a fault keeps all this.
-pub kept_more : (before : List Line) (n : ℕ) (s : Statement) → Kept n before →
-    Said before (section before) s → Kept (n + 1) (with_line before n s)
+pub kept_more : (before : List Line) (n : ℕ) (s : Statement) → LinesKept n before →
+    Said before (section before) s → LinesKept (n + 1) (with_line before n s)
 kept_more before n s k said = by_section (section before) s refl said
   where
     kb : length (buffers before) ≤ 64
@@ -217,7 +217,7 @@ kept_more before n s k said = by_section (section before) s refl said
     again was s e h = subst (λ (x : Section). Said before x s) (sym e) h
 
     by_section : (was : Section) (s : Statement) → section before ≡ was → Said before was s →
-        Kept (n + 1) (with_line before n s)
+        LinesKept (n + 1) (with_line before n s)
     by_section Outside (DeclareBuffer name size) e h =
         let l = h.0 in
         let m = h.1 in

@@ -11,7 +11,7 @@ use Rattle.vq_model.specs.LineFaults.{fault_of, ends_early}
 use Rattle.vq_model.specs.Meaning.{meaning}
 use Rattle.vq_reading_laws.proofs.Meanings.{has_meaning}
 use Rattle.vq_reading_laws.proofs.LineFacts.{said_of}
-use Rattle.vq_reading_laws.proofs.KeptLines.{Kept, kept_on, kept_more, kept_first}
+use Rattle.vq_reading_laws.proofs.KeptLines.{LinesKept, kept_on, kept_more, kept_first}
 use Rattle.vq_model.specs.declared.statement.FaultKind.TheVariants.{Syntax}
 use Rattle.vq_model.specs.Text.{words_of, lines_of}
 use Rattle.vq_model.specs.declared.script.Script.{Script}
@@ -20,17 +20,17 @@ use Rattle.vq_model.specs.ScriptOfLines.{script_of}
 -- Reading
 
 kept_line : (form : Form) (before : List Line) (n : ℕ) (words : List (List ℕ)) (now : List Line) →
-    Kept n before →
-    read_statement form before n words ≡ Ok now → Kept (n + 1) now
+    LinesKept n before →
+    read_statement form before n words ≡ Ok now → LinesKept (n + 1) now
 kept_line form before n [] now k h =
-    let same : before ≡ now = cc in subst (Kept (n + 1)) same (kept_on n before k)
+    let same : before ≡ now = cc in subst (LinesKept (n + 1)) same (kept_on n before k)
 kept_line form before n (word ∷ words) now k h =
     by_fault (fault_of form before (word ∷ words)) refl h
   where
     by_fault : (o : Option FaultKind) → fault_of form before (word ∷ words) ≡ o →
         without_fault o
         (option_map_or (with_line before n) (meaning form before (word ∷ words)) before)
-        ≡ Ok now → Kept (n + 1) now
+        ≡ Ok now → LinesKept (n + 1) now
     by_fault None e h =
         let m = has_meaning form before (word ∷ words) e in
         let is : with_line before n m.0 ≡ now =
@@ -38,7 +38,7 @@ kept_line form before n (word ∷ words) now k h =
         ∙ same_lines
         (option_map_or (with_line before n) (meaning form before (word ∷ words)) before) now
         h in
-        subst (Kept (n + 1)) is (kept_more before n m.0 k (said_of before form (word ∷ words) m.0 e m.1))
+        subst (LinesKept (n + 1)) is (kept_more before n m.0 k (said_of before form (word ∷ words) m.0 e m.1))
       where
         same_lines : (a b : List Line) → ◌≡◌ {A = Result (List Line) FaultKind} (Ok a) (Ok b) →
             a ≡ b
@@ -49,22 +49,22 @@ kept_line form before n (word ∷ words) now k h =
         never kind h = cc
 
 kept_lines : (form : Form) (before : List Line) (n : ℕ) (lines : List (List ℕ)) (all : List Line) →
-    Kept n before →
-    read_lines form before n lines ≡ Ok all → (m : ℕ) × Kept m all
+    LinesKept n before →
+    read_lines form before n lines ≡ Ok all → (m : ℕ) × LinesKept m all
 kept_lines form before n [] all k h = by_end (ends_early form before) h
   where
     by_end : (b : Bool) →
         cond {A = Result (List Line) (ℕ × FaultKind)} b (Err (n, Syntax)) (Ok before) ≡ Ok all →
-        (m : ℕ) × Kept m all
+        (m : ℕ) × LinesKept m all
     by_end true h = absurd (cc)
-    by_end false h = let same : before ≡ all = cc in (n, subst (Kept n) same k)
+    by_end false h = let same : before ≡ all = cc in (n, subst (LinesKept n) same k)
 kept_lines form before n (line ∷ lines) all k h =
     by_line (read_line form before n line) refl h (λ now. kept_lines form now (n + 1) lines all)
   where
     by_line : (r : Result (List Line) FaultKind) → read_line form before n line ≡ r →
         go_on n (λ now. read_lines form now (n + 1) lines) r ≡ Ok all →
-        ((now : List Line) → Kept (n + 1) now → read_lines form now (n + 1) lines ≡ Ok all →
-        (m : ℕ) × Kept m all) → (m : ℕ) × Kept m all
+        ((now : List Line) → LinesKept (n + 1) now → read_lines form now (n + 1) lines ≡ Ok all →
+        (m : ℕ) × LinesKept m all) → (m : ℕ) × LinesKept m all
     by_line (Ok now) e h more = more now (kept_line form before n (words_of line) now k e) h
     by_line (Err kind) e h more = absurd (cc)
 
@@ -72,7 +72,7 @@ kept_lines form before n (line ∷ lines) all k h =
 pub record IsOfLines (s : Script) : Type 0 where
   pub lines : List Line
   pub next : ℕ
-  pub kept : Kept next lines
+  pub kept : LinesKept next lines
   pub whole : script_of lines ≡ s
 
 pub of_text : (text : List ℕ) (form : Form) (s : Script) → StandsFor text form s → IsOfLines s

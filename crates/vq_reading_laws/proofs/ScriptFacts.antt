@@ -12,7 +12,7 @@ use Rattle.vq_model.specs.ValidScripts.{IsValid, HasValidBatches, HasValidSteps}
 use Rattle.vq_model.specs.Built.{HasNoHostStep, HasNoImmediateWait, HasWholeWaits, IsUnscheduled, IsOfFirstVersion}
 use Rattle.vq_reading_laws.proofs.CommandRanges.{sizes_before}
 use Rattle.vq_reading_laws.proofs.Standing.{declared_by, is_outside}
-use Rattle.vq_reading_laws.proofs.KeptLines.{Kept}
+use Rattle.vq_reading_laws.proofs.KeptLines.{LinesKept}
 use Rattle.vq_reading_laws.proofs.KeptBatches.{IsCommandOf, JobsKept, jobs_kept, no_version, no_schedule, no_turns}
 use Rattle.vq_reading_laws.proofs.DeclaredScripts.{job_kept, no_host, all_at, valid_batch, whole_waits, immediate_waits, valid_signals}
 use Rattle.vq_model.specs.declared.statement.Form.{Form}
@@ -22,7 +22,7 @@ use Rattle.vq_reading_laws.proofs.ReadLines.{of_text, IsOfLines}
 
 -- The script of lines that were read
 
-module _ (next : ℕ) (lines : List Line) (k : Kept next lines) where
+module _ (next : ℕ) (lines : List Line) (k : LinesKept next lines) where
   kept_jobs : JobsKept (declared_by lines) is_outside lines
   kept_jobs = jobs_kept (declared_by lines) is_outside lines k.stand
 

@@ -11,7 +11,7 @@ use Rattle.vq_model.specs.declared.script.FillSize.TheVariants.{Count}
 use Rattle.vq_model.specs.Lowering.{plan_of, resets_fence, batch_commands}
 use Rattle.vq_model.specs.LoweringFaults.{lowering_fault}
 use Rattle.vq_model.specs.SlowRun.{slow_order, final, left_over, bytes_after, HasOneResult}
-use Rattle.vq_model.specs.Edges.{edges_to, At, edges_at, Place, place_of, AtEnd}
+use Rattle.vq_model.specs.Edges.{edges_to, At, edges_at, Stage, stage_of, AtEnd}
 use Rattle.vq_model.specs.HappensBefore.{HappensBeforeCommand, one, HappensBeforeAt, more}
 use Rattle.vq_model.specs.Sure.{KeepsChains, IsSureAt, finished_first, waited_for, passed_on}
 use Rattle.std.proofs.lemmas.Bool.{false≢true}
@@ -147,7 +147,7 @@ end_held_chains zero = (omega arith, tt)
 end_held_chains (suc t) = tt
 
 -- no edge, no path
-no_path : (p : Plan) (i j : ℕ) (k : Place) → edges_at p j k ≡ [] → ¬ HappensBeforeAt p i j k
+no_path : (p : Plan) (i j : ℕ) (k : Stage) → edges_at p j k ≡ [] → ¬ HappensBeforeAt p i j k
 no_path p i j k e (one h) = false≢true (ap (λ zs. has zs i) (sym e) ∙ h.edge)
 no_path p i j k e (more {h = q} b h) = false≢true (ap (λ zs. has zs q) (sym e) ∙ h.edge)
 
@@ -330,7 +330,7 @@ before_signal = fold (after_event copy_held) before_start (Starts 0 ∷ Applies 
 no_early_copy : (j : ℕ) → ¬ CanApply copy_held before_signal.machine.progress j 1
 no_early_copy j c = by_job j c.next c.ready
   where
-    by_job : (j : ℕ) → next (has before_signal.machine.progress.applied) (commands_of copy_held j) ≡ Some 1 → are_reached copy_held before_signal.machine.progress.payload j (place_of copy_held j 1) ≡ true → ⊥
+    by_job : (j : ℕ) → next (has before_signal.machine.progress.applied) (commands_of copy_held j) ≡ Some 1 → are_reached copy_held before_signal.machine.progress.payload j (stage_of copy_held j 1) ≡ true → ⊥
     by_job zero n r = false≢true r
     by_job (suc zero) n r = cc
     by_job (suc (suc j)) n r = cc

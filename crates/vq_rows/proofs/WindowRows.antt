@@ -8,7 +8,7 @@ use Rattle.vq_model.specs.declared.script.Job.TheVariants.{Host, Batch}
 use Rattle.vq_model.specs.declared.script.HostStep.TheVariants.{Read}
 use Rattle.vq_model.specs.declared.plan.Answer.TheVariants.{Value}
 use Rattle.vq_model.specs.Plan.{Plan, has, chain_of, value}
-use Rattle.vq_model.specs.Edges.{Place, AtEnd, edges_at}
+use Rattle.vq_model.specs.Edges.{Stage, AtEnd, edges_at}
 use Rattle.vq_model.specs.Lowering.{plan_of}
 use Rattle.vq_model.specs.HappensBefore.{HappensBeforeAt, one, more}
 use Rattle.vq_model.specs.Sure.{IsSure, finished_first, waited_for, passed_on}
@@ -53,7 +53,7 @@ floor = record { holds = first_sure; greatest = most }
     most m first_sure = omega arith
     most m (sure {e = e} c s) = absurd (nothing_sure e s)
 
-no_path : (i : ℕ) (k : Place) → edges_at plan 0 k ≡ [] → ¬ HappensBeforeAt plan i 0 k
+no_path : (i : ℕ) (k : Stage) → edges_at plan 0 k ≡ [] → ¬ HappensBeforeAt plan i 0 k
 no_path i k none (one h) = false≢true (ap (λ zs. has zs i) (sym none) ∙ h.edge)
 no_path i k none (more {h = q} b h) = false≢true (ap (λ zs. has zs q) (sym none) ∙ h.edge)
 

@@ -11,7 +11,7 @@ use Rattle.std.specs.Option.{option_map_or}
 use Rattle.vq_model.specs.SlowRun.{slow_order}
 use Rattle.vq_model.proofs.Gets.{slice_get_past}
 use Rattle.vq_order_laws.proofs.Cited.{slow_distinct, Earlier, before_earlier}
-use Rattle.vq_model.specs.Edges.{place_of}
+use Rattle.vq_model.specs.Edges.{stage_of}
 use Rattle.vq_model.specs.WellFormed.{AreRising, IsWellFormed}
 use Rattle.vq_model.specs.Races.{HasSureOrder}
 use Rattle.vq_run_laws.proofs.StateFacts.{Must}
@@ -88,7 +88,7 @@ module _ (p : Plan) (w : IsWellFormed p) (lawful : HasSureOrder p) where
             let a = w.one_job y m.first_job j m.first (f y (has_there x xs y h)) in
             let b = w.one_job x m.second_job j m.second (f x (has_here x xs)) in
             elim m.order [
-              | inl q ↦ no_loop p j (subst (λ z. Earlier p z j) a (subst (λ z. Earlier p m.first_job z) b (before_earlier p m.first_job m.second_job (place_of p m.second_job x) q)))
+              | inl q ↦ no_loop p j (subst (λ z. Earlier p z j) a (subst (λ z. Earlier p m.first_job z) b (before_earlier p m.first_job m.second_job (stage_of p m.second_job x) q)))
               | inr q ↦ let l = r.0 y h in let k = q.1 in absurd (omega arith)
             ]),
         go xs (λ c h. f c (has_there x xs c h)) r.1,
@@ -102,7 +102,7 @@ module _ (p : Plan) (w : IsWellFormed p) (lawful : HasSureOrder p) where
       let a = w.one_job y m.first_job s.0 m.first s.2 in
       let b = w.one_job x m.second_job j m.second hx in
       elim m.order [
-        | inl q ↦ e.0 s.0 s.1 (subst (λ z. Earlier p z j) a (subst (λ z. Earlier p m.first_job z) b (before_earlier p m.first_job m.second_job (place_of p m.second_job x) q)))
+        | inl q ↦ e.0 s.0 s.1 (subst (λ z. Earlier p z j) a (subst (λ z. Earlier p m.first_job z) b (before_earlier p m.first_job m.second_job (stage_of p m.second_job x) q)))
         | inr q ↦ false≢true (sym d.0 ∙ subst (λ z. has js z ≡ true) (sym a ∙ (q.0 ∙ b)) s.1)
       ])
 

@@ -7,7 +7,7 @@ use Rattle.vq_model.specs.Sure.{KeepsChains}
 use Rattle.vq_run_laws.proofs.StateFacts.{Invariant, HasCome, by_start, by_command, by_signal, by_finish}
 use Rattle.vq_run_laws.proofs.KeptSteps.{keep_start, keep_finish, keep_apply, keep_signal, end_commands}
 use Rattle.std.proofs.lemmas.Bool.{false≢true}
-use Rattle.vq_model.specs.Edges.{Place, place_of}
+use Rattle.vq_model.specs.Edges.{Stage, stage_of}
 use Rattle.vq_model.specs.HappensBefore.{HappensBeforeCommand}
 
 -- Runs
@@ -47,7 +47,7 @@ holds_at_opening p =
       extends = tt;
     }
   where
-    nowhere : (j : ℕ) (k : Place) → HasCome p (λ i. false) (λ i. false) (λ e. false) [] j k → ⊥
+    nowhere : (j : ℕ) (k : Stage) → HasCome p (λ i. false) (λ i. false) (λ e. false) [] j k → ⊥
     nowhere j k (by_start h) = false≢true h
     nowhere j k (by_command c m h) = false≢true h
     nowhere j k (by_signal e m h) = false≢true h
@@ -74,4 +74,4 @@ pub commands_before : (p : Plan) → IsWellFormed p → KeepsChains p → (xs : 
 commands_before p w ch xs r i j c d m n h b =
     let s : Progress = (state_after p xs).progress in
     let k : Invariant p s = run_keeps p w ch xs r in
-    end_commands p w ch s.payload s.started s.finished s.made s.applied k i c (k.before i j (place_of p j d) (by_command d n h) b) m
+    end_commands p w ch s.payload s.started s.finished s.made s.applied k i c (k.before i j (stage_of p j d) (by_command d n h) b) m

@@ -4,7 +4,7 @@ use Rattle.std.proofs.Common.{◌≡◌, ℕ, ◌<◌, ◌≤◌, Bool, true, fa
 use Rattle.std.specs.List.{list_all, filter_map}
 use Rattle.std.proofs.lemmas.Bool.{and_parts, false≢true, cases_eq, leb-false}
 use Rattle.vq_model.specs.Plan.{Plan, has, commands_of, signals_of, chain, initial, value, job_of, chain_of}
-use Rattle.vq_model.specs.Edges.{Place, At, AtEnd, place_of, must_finish, awaited_at, edges_at}
+use Rattle.vq_model.specs.Edges.{Stage, At, AtEnd, stage_of, must_finish, awaited_at, edges_at}
 use Rattle.vq_model.specs.WellFormed.{IsWellFormed}
 use Rattle.vq_model.specs.Machine.{are_reached, can_start, put, next}
 use Rattle.vq_model.specs.HappensBefore.{HappensBeforeAt, one, more}
@@ -52,7 +52,7 @@ module _ (p : Plan) (w : IsWellFormed p) (chains : KeepsChains p) (payload : ℕ
       ]
 
   -- a job that may come to a place: what must be finished before it is, and the needs at the place are reached
-  module _ (j : ℕ) (at : Place) (ended : (i : ℕ) → has (must_finish p j) i ≡ true → finished i ≡ true) (reached : are_reached p payload j at ≡ true) where
+  module _ (j : ℕ) (at : Stage) (ended : (i : ℕ) → has (must_finish p j) i ≡ true → finished i ≡ true) (reached : are_reached p payload j at ≡ true) where
     pub awaited_made : (r : ℕ) → has (awaited_at p j at) r ≡ true → made r ≡ true
     awaited_made r h = need_made r (awaited_need p payload j at r h reached)
 
@@ -74,14 +74,14 @@ module _ (p : Plan) (w : IsWellFormed p) (chains : KeepsChains p) (payload : ℕ
     sure_ready e (passed_on {i = i} s h) = k.sure e i AtEnd (edge_end i h.edge) s
 
     -- the places to which jobs have come, and this one
-    abbrev Comes : ℕ → Place → Type 0
+    abbrev Comes : ℕ → Stage → Type 0
     Comes i q = HasCome p started finished made applied i q ⊎ ((i ≡ j) × (q ≡ at))
 
-    sure_next : (e i : ℕ) (q : Place) → Comes i q → IsSureAt p e i q → made e ≡ true
+    sure_next : (e i : ℕ) (q : Stage) → Comes i q → IsSureAt p e i q → made e ≡ true
     sure_next e i q (inl h) s = k.sure e i q h s
     sure_next e i q (inr h) s = sure_ready e (subst (λ z. IsSureAt p e j z) h.1 (subst (λ z. IsSureAt p e z q) h.0 s))
 
-    before_next : (i h : ℕ) (q : Place) → Comes h q → HappensBeforeAt p i h q → HasCome p started finished made applied i AtEnd
+    before_next : (i h : ℕ) (q : Stage) → Comes h q → HappensBeforeAt p i h q → HasCome p started finished made applied i AtEnd
     before_next i h q (inl c) b = k.before i h q c b
     before_next i h q (inr c) b = before_ready i (subst (λ z. HappensBeforeAt p i j z) c.1 (subst (λ z. HappensBeforeAt p i z q) c.0 b))
 
@@ -113,10 +113,10 @@ module _ (p : Plan) (w : IsWellFormed p) (chains : KeepsChains p) (payload : ℕ
       grow : (i : ℕ) → started i ≡ true → put started j true i ≡ true
       grow i h = put_keeps started j i h
 
-      later : (i : ℕ) (q : Place) → HasCome p started finished made applied i q → HasCome p (put started j true) finished made applied i q
+      later : (i : ℕ) (q : Stage) → HasCome p started finished made applied i q → HasCome p (put started j true) finished made applied i q
       later i q h = come_later p started finished made applied (put started j true) finished made applied grow (λ a b. b) (λ a b. b) (λ a b. b) i q h
 
-      comes : (i : ℕ) (q : Place) → HasCome p (put started j true) finished made applied i q → HasCome p started finished made applied i q ⊎ ((i ≡ j) × (q ≡ At 1))
+      comes : (i : ℕ) (q : Stage) → HasCome p (put started j true) finished made applied i q → HasCome p started finished made applied i q ⊎ ((i ≡ j) × (q ≡ At 1))
       comes i q (by_start h) = elim (put_cases started j i h) [ inl e ↦ inr (e, refl) | inr o ↦ inl (by_start o) ]
       comes i q (by_command c m h) = inl (by_command c m h)
       comes i q (by_signal e m h) = inl (by_signal e m h)
@@ -147,16 +147,16 @@ module _ (p : Plan) (w : IsWellFormed p) (chains : KeepsChains p) (payload : ℕ
       grow : (i : ℕ) → finished i ≡ true → put finished j true i ≡ true
       grow i h = put_keeps finished j i h
 
-      later : (i : ℕ) (q : Place) → HasCome p started finished made applied i q → HasCome p started (put finished j true) made applied i q
+      later : (i : ℕ) (q : Stage) → HasCome p started finished made applied i q → HasCome p started (put finished j true) made applied i q
       later i q h = come_later p started finished made applied started (put finished j true) made applied (λ a b. b) grow (λ a b. b) (λ a b. b) i q h
 
-      comes : (i : ℕ) (q : Place) → HasCome p started (put finished j true) made applied i q → HasCome p started finished made applied i q ⊎ ((i ≡ j) × (q ≡ AtEnd))
+      comes : (i : ℕ) (q : Stage) → HasCome p started (put finished j true) made applied i q → HasCome p started finished made applied i q ⊎ ((i ≡ j) × (q ≡ AtEnd))
       comes i q (by_start h) = inl (by_start h)
       comes i q (by_command c m h) = inl (by_command c m h)
       comes i q (by_signal e m h) = inl (by_signal e m h)
       comes i q (by_finish h) = elim (put_cases finished j i h) [ inl e ↦ inr (e, refl) | inr o ↦ inl (by_finish o) ]
 
-  pub keep_apply : (j c : ℕ) → started j ≡ true → next (has applied) (commands_of p j) ≡ Some c → are_reached p payload j (place_of p j c) ≡ true → Keeps p payload started finished made (applied ++ c ∷ [])
+  pub keep_apply : (j c : ℕ) → started j ≡ true → next (has applied) (commands_of p j) ≡ Some c → are_reached p payload j (stage_of p j c) ≡ true → Keeps p payload started finished made (applied ++ c ∷ [])
   keep_apply j c s n reached =
       record {
         finished_started = k.finished_started;
@@ -167,8 +167,8 @@ module _ (p : Plan) (w : IsWellFormed p) (chains : KeepsChains p) (payload : ℕ
         made_commands = λ e i x h q m. grow x (k.made_commands e i x h q m);
         made_earlier = k.made_earlier;
         raised = k.raised;
-        sure = λ e i q h m. sure_next j (place_of p j c) ended reached e i q (comes i q h) m;
-        before = λ i h q m b. later i AtEnd (before_next j (place_of p j c) ended reached i h q (comes h q m) b);
+        sure = λ e i q h m. sure_next j (stage_of p j c) ended reached e i q (comes i q h) m;
+        before = λ i h q m b. later i AtEnd (before_next j (stage_of p j c) ended reached i h q (comes h q m) b);
         applied_job = λ x h. elim (pushed applied c x h) [
           | inl m ↦ k.applied_job x m
           | inr e ↦ record { job = j; in_job = subst (λ z. has (commands_of p j) z ≡ true) e fresh.0; has_started = s }
@@ -192,17 +192,17 @@ module _ (p : Plan) (w : IsWellFormed p) (chains : KeepsChains p) (payload : ℕ
       grow : (x : ℕ) → has applied x ≡ true → has (applied ++ c ∷ []) x ≡ true
       grow x h = has-append_left applied (c ∷ []) x h
 
-      later : (i : ℕ) (q : Place) → HasCome p started finished made applied i q → HasCome p started finished made (applied ++ c ∷ []) i q
+      later : (i : ℕ) (q : Stage) → HasCome p started finished made applied i q → HasCome p started finished made (applied ++ c ∷ []) i q
       later i q h = come_later p started finished made applied started finished made (applied ++ c ∷ []) (λ a b. b) (λ a b. b) (λ a b. b) grow i q h
 
-      comes : (i : ℕ) (q : Place) → HasCome p started finished made (applied ++ c ∷ []) i q → HasCome p started finished made applied i q ⊎ ((i ≡ j) × (q ≡ place_of p j c))
+      comes : (i : ℕ) (q : Stage) → HasCome p started finished made (applied ++ c ∷ []) i q → HasCome p started finished made applied i q ⊎ ((i ≡ j) × (q ≡ stage_of p j c))
       comes i q (by_start h) = inl (by_start h)
       comes i q (by_command d m h) =
           elim (pushed applied c d h) [
             | inl o ↦ inl (by_command d m o)
             | inr e ↦
                 let here = w.one_job d i j m (subst (λ z. has (commands_of p j) z ≡ true) e fresh.0) in
-                inr (here, ap (λ z. place_of p z d) here ∙ ap (λ z. place_of p j z) (sym e))
+                inr (here, ap (λ z. stage_of p z d) here ∙ ap (λ z. stage_of p j z) (sym e))
           ]
       comes i q (by_signal e m h) = inl (by_signal e m h)
       comes i q (by_finish h) = inl (by_finish h)
@@ -210,7 +210,7 @@ module _ (p : Plan) (w : IsWellFormed p) (chains : KeepsChains p) (payload : ℕ
       unapplied : (x : ℕ) → has applied x ≡ true → Must p c x → ⊥
       unapplied x h m =
           elim m.order [
-            | inl b ↦ false≢true (sym fresh.1 ∙ end_commands m.first_job c (k.before m.first_job m.second_job (place_of p m.second_job x) (by_command x m.second h) b) m.first)
+            | inl b ↦ false≢true (sym fresh.1 ∙ end_commands m.first_job c (k.before m.first_job m.second_job (stage_of p m.second_job x) (by_command x m.second h) b) m.first)
             | inr q ↦ false≢true (sym fresh.1 ∙ k.applied_earlier m.second_job x c m.second (subst (λ z. has (commands_of p z) c ≡ true) q.0 m.first) q.1 h)
           ]
 
@@ -254,10 +254,10 @@ module _ (p : Plan) (w : IsWellFormed p) (chains : KeepsChains p) (payload : ℕ
       grow : (f : ℕ) → made f ≡ true → put made e true f ≡ true
       grow f h = put_keeps made e f h
 
-      later : (h : ℕ) (q : Place) → HasCome p started finished made applied h q → HasCome p started finished (put made e true) applied h q
+      later : (h : ℕ) (q : Stage) → HasCome p started finished made applied h q → HasCome p started finished (put made e true) applied h q
       later h q c = come_later p started finished made applied started finished (put made e true) applied (λ a b. b) (λ a b. b) grow (λ a b. b) h q c
 
-      comes : (h : ℕ) (q : Place) → HasCome p started finished (put made e true) applied h q → HasCome p started finished made applied h q ⊎ ((h ≡ j) × (q ≡ AtEnd))
+      comes : (h : ℕ) (q : Stage) → HasCome p started finished (put made e true) applied h q → HasCome p started finished made applied h q ⊎ ((h ≡ j) × (q ≡ AtEnd))
       comes h q (by_start c) = inl (by_start c)
       comes h q (by_command d m c) = inl (by_command d m c)
       comes h q (by_signal f m c) = elim (put_cases made e f c) [ inl r ↦ inr (same_some h j (sym m ∙ (ap (job_of p) r ∙ of_job)), refl) | inr o ↦ inl (by_signal f m o) ]

@@ -6,7 +6,7 @@ use Rattle.std.specs.List.{list_all, filter_map, list_any}
 use Rattle.std.proofs.lemmas.Bool.{and_parts, false≢true, cond-true, cond-false, leb-true, ltb-true}
 use Rattle.vq_model.specs.Machine.{is_reached, are_reached}
 use Rattle.vq_model.proofs.Mapped.{has_option}
-use Rattle.vq_model.specs.Edges.{Place, awaited_at, needs_at}
+use Rattle.vq_model.specs.Edges.{Stage, awaited_at, needs_at}
 
 -- Waits
 
@@ -42,7 +42,7 @@ need_of p payload (n ∷ ns) r h a = by_test (is_above p n) refl (need_of p payl
         let e' : filter (is_above p) (n ∷ ns) ≡ filter (is_above p) ns = cond-false (is_above p n) (n ∷ filter (is_above p) ns) (filter (is_above p) ns) e in
         f (sym (ap (λ zs. has (filter_map (resolve p) zs) r) e') ∙ h) parts.1
 
-pub awaited_need : (p : Plan) (payload : ℕ → ℕ) (j : ℕ) (k : Place) (r : ℕ) → has (awaited_at p j k) r ≡ true → are_reached p payload j k ≡ true → IsNeed p payload r
+pub awaited_need : (p : Plan) (payload : ℕ → ℕ) (j : ℕ) (k : Stage) (r : ℕ) → has (awaited_at p j k) r ≡ true → are_reached p payload j k ≡ true → IsNeed p payload r
 awaited_need p payload j k r h a = by_test (waits_for_any p j) refl
   where
     by_test : (b : Bool) → waits_for_any p j ≡ b → IsNeed p payload r

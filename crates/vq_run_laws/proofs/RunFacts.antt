@@ -2,7 +2,7 @@
 use Rattle.std.proofs.Common.{List, sym}
 use Rattle.std.proofs.lemmas.Bool.{false_from_ne_true}
 use Rattle.vq_model.specs.Plan.{Plan}
-use Rattle.vq_model.specs.Edges.{At, AtEnd, place_of}
+use Rattle.vq_model.specs.Edges.{At, AtEnd, stage_of}
 use Rattle.vq_model.specs.Machine.{Step, Run, Progress, state_after}
 use Rattle.vq_model.specs.WellFormed.{IsWellFormed, KeepsHostOrder}
 use Rattle.vq_model.specs.Races.{HasSureOrder}
@@ -32,7 +32,7 @@ module _ (p : Plan) (w : IsWellFormed p) (o : HasSureOrder p) where
             end_commands p w o.chains s'.payload s'.started s'.finished s'.made s'.applied k i c
             (k.before i j (At 1) (by_start s) b) m);
         applied = λ xs run e j c m a q.
-            (kept xs run).sure e j (place_of p j c) (by_command c m a) q;
+            (kept xs run).sure e j (stage_of p j c) (by_command c m a) q;
         applied_commands = λ xs run i j c d m n a b.
             commands_before p w o.chains xs run i j c d m n a b;
         signaled = λ xs run e j f i m q. (kept xs run).sure e j AtEnd (by_signal f i m) q;

@@ -3,7 +3,7 @@
 use Rattle.std.specs.Prelude.{ℕ, ◌≡◌, ◌≤◌, ◌↔◌, ◌++◌, ◌∷◌, true, false, List, [], Some}
 use Rattle.vq_model.specs.declared.plan.Event.{Event}
 use Rattle.vq_model.specs.Plan.{Plan, has, commands_of, signals_of, job_of, chain_of, value, is_host_step}
-use Rattle.vq_model.specs.Edges.{At, place_of, HasNoHeldWait}
+use Rattle.vq_model.specs.Edges.{At, stage_of, HasNoHeldWait}
 use Rattle.vq_model.specs.Machine.{Step, StartStep, Run, state_after, ProgressRun, progress_after, AreFinished, IsFinished, was_since}
 use Rattle.vq_model.specs.SlowRun.{bytes_after, final, slow_order, steps_of_jobs}
 use Rattle.vq_model.specs.HappensBefore.{HappensBefore, HappensBeforeAt, HappensBeforeCommand}
@@ -30,7 +30,7 @@ pub record IsSureInTime (p : Plan) : Type 0 where
       has (commands_of p i) c ≡ true → has (state_after p steps).progress.applied c ≡ true
   -- so for the place of an applied command
   pub applied : (steps : List Step) → Run p steps → (e j c : ℕ) → has (commands_of p j) c ≡ true →
-      has (state_after p steps).progress.applied c ≡ true → IsSureAt p e j (place_of p j c) →
+      has (state_after p steps).progress.applied c ≡ true → IsSureAt p e j (stage_of p j c) →
       (state_after p steps).progress.made e ≡ true
   pub applied_commands : (steps : List Step) → Run p steps → (i j c d : ℕ) →
       has (commands_of p i) c ≡ true → has (commands_of p j) d ≡ true →

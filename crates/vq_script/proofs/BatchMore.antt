@@ -13,28 +13,9 @@ use Rattle.vq_model.specs.declared.script.CommandLine.{CommandLine}
 use Rattle.vq_model.specs.Context.{is_wait, is_command, is_signal, is_batch_fence}
 use Rattle.vq_model.specs.LineFaults.{part_of}
 use Rattle.vq_model.specs.ScriptOfLines.{mark}
+use Rattle.vq_script.specs.SaidLines.{waiting, commanding, signaling, fenced, started}
 use Rattle.vq_script.specs.Holds.{FillBatch, waits_of, commands_of, signals_of, named_fence, last_part, last_part_by, held_from}
 use Rattle.vq_script.proofs.LineMore.{numbered, or_false, count_more, some_more, later_part}
-
--- the batch with a line more
-
-abbrev pub waiting : Batch → ℕ → Pair → Batch
-waiting b n pair = record b { waits = b.waits ++ mark n pair 1 ∷ [] }
-
-abbrev pub commanding : Batch → ℕ → Command → Batch
-commanding b n command =
-    record b { commands = b.commands ++ record { line = n; command = command } ∷ [] }
-
-abbrev pub signaling : Batch → ℕ → Pair → Batch
-signaling b n pair = record b { signals = b.signals ++ mark n pair 1 ∷ [] }
-
-abbrev pub fenced : Batch → ℕ → ℕ → Batch
-fenced b n fence = record b { fence = Some (mark n (record { semaphore = fence; value = 0 }) 1) }
-
--- a batch without lines so far
-abbrev pub started : ℕ → ℕ → Batch
-started n queue =
-    record { line = n; queue = queue; waits = []; commands = []; signals = []; fence = None }
 
 -- no line of a batch
 pub fill_nothing : FillBatch [] None

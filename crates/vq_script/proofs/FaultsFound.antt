@@ -17,12 +17,11 @@ use Rattle.vq_model.specs.LineFaults.{fails, is_shaped, is_numeric, is_known, is
 use Rattle.vq_model.specs.Meaning.{is_built, matches, where_built, form_of, statement_of, open_places, meaning}
 use Rattle.vq_model.specs.Reading.{read_statement, with_line, without_fault}
 use Rattle.vq_script.specs.declared.known.Known.{Known}
-use Rattle.vq_script.specs.declared.open_batch.OpenBatch.{OpenBatch}
-use Rattle.vq_script.specs.declared.fault.Stop.{Stop}
-use Rattle.vq_script.specs.declared.fault.Stop.TheVariants.{Fault, NoMemory}
-use Rattle.vq_script.specs.Forms.{with_words}
-use Rattle.vq_script.specs.Faults.{first_fault, statement_at}
-use Rattle.vq_script.specs.Reads.{Takes, TakesFound, TakesForm, Reads}
+use Rattle.vq_reading_laws.proofs.Cited.{has_meaning}
+use Rattle.vq_script.specs.declared.fault.ScriptFault.{ScriptFault}
+use Rattle.vq_script.specs.declared.fault.ScriptFault.TheVariants.{At, Memory}
+use Rattle.vq_script.specs.Faults.{Means, first_fault, statement_at, with_words}
+use Rattle.vq_script.specs.Reads.{Takes, Reads}
 
 -- what words say, where their bytes are plain or not and they have a form or none
 abbrev meaning_with : List Line → List (List ℕ) → Option LineForm → Option Statement
@@ -71,31 +70,59 @@ reads_unplain form lines n [] some h = absurd (omega arith)
 reads_unplain form lines n (word ∷ words) some h =
     ap (λ k. without_fault k (option_map_or (with_line lines n) (meaning form lines (word ∷ words)) lines)) (unplain_fault form lines (word ∷ words) h)
 
+-- words of no form
+pub reads_none : (form : Form) (lines : List Line) (n : ℕ) (words : List (List ℕ))
+    (forms : List LineForm) → 0 < length words → list_all (list_all is_plain) words ≡ true →
+    form_of form lines words ≡ where_built lines (find (matches words) forms) →
+    find (matches words) forms ≡ None → read_statement form lines n words ≡ Err Syntax
+reads_none form lines n [] forms some plain is none = absurd (omega arith)
+reads_none form lines n (word ∷ words) forms some plain is none =
+    let ws = word ∷ words in
+    let fault : fault_of form lines ws ≡ Some Syntax =
+    λ i. fault_with lines ws (plain i) ((is ∙ ap (where_built lines) none) i) in
+    λ i. without_fault (fault i) (option_map_or (with_line lines n) (meaning form lines ws) lines)
+
 -- a line that takes words of a form reads them
-pub reads_form : (form : Form) (lines : List Line) (n : ℕ) (words : List (List ℕ)) (forms : List LineForm) (result : Result (Option OpenBatch) Stop) (known : Known) →
-    0 < length words → list_all (list_all is_plain) words ≡ true → form_of form lines words ≡ where_built lines (find (matches words) forms) →
-    TakesForm lines n words forms result known → Reads form lines n words result known
-reads_form form lines n [] forms result known some plain is takes = absurd (omega arith)
-reads_form form lines n (word ∷ words) forms result known some plain is takes =
-    by_found (find (matches (word ∷ words)) forms) is takes
+pub reads_form : (form : Form) (lines : List Line) (n : ℕ) (words : List (List ℕ))
+    (forms : List LineForm) (f : LineForm) (result : Result (Unit {0}) ScriptFault) (known : Known) →
+    0 < length words → list_all (list_all is_plain) words ≡ true →
+    form_of form lines words ≡ where_built lines (find (matches words) forms) →
+    find (matches words) forms ≡ Some f →
+    (Means lines (with_words words f) → Takes lines n (with_words words f) result known) →
+    Reads form lines n words result known
+reads_form form lines n [] forms f result known some plain is found takes = absurd (omega arith)
+reads_form form lines n (word ∷ words) forms f result known some plain is found takes =
+    by_result result (takes means)
   where
-    by_result : (r : Result (Option OpenBatch) Stop) (f : LineForm) → form_of form lines (word ∷ words) ≡ where_built lines (Some f) → Takes lines n (with_words (word ∷ words) f) r known → Reads form lines n (word ∷ words) r known
-    by_result (Ok batch) f e t =
-        let fine : fault_of form lines (word ∷ words) ≡ None = (λ i. fault_with lines (word ∷ words) (plain i) (e i)) ∙ found_fault lines (word ∷ words) f ∙ t.1 in
-        let says : meaning form lines (word ∷ words) ≡ Some t.0 = ap (meaning_with lines (word ∷ words)) e ∙ found_meaning lines (word ∷ words) f t.1 ∙ t.2 in
-        (with_line lines n t.0, (λ i. without_fault (fine i) (option_map_or (with_line lines n) (says i) lines)), t.3)
-    by_result (Err (Fault kind)) f e t =
-        let fault : fault_of form lines (word ∷ words) ≡ Some kind = (λ i. fault_with lines (word ∷ words) (plain i) (e i)) ∙ found_fault lines (word ∷ words) f ∙ t in
-        (λ i. without_fault (fault i) (option_map_or (with_line lines n) (meaning form lines (word ∷ words)) lines))
-    by_result (Err NoMemory) f e t = tt
+    ws : List (List ℕ)
+    ws = word ∷ words
 
-    by_none : (r : Result (Option OpenBatch) Stop) → form_of form lines (word ∷ words) ≡ None → TakesFound lines n None r known → Reads form lines n (word ∷ words) r known
-    by_none (Ok batch) e t = absurd t
-    by_none (Err (Fault kind)) e t =
-        let fault : fault_of form lines (word ∷ words) ≡ Some Syntax = (λ i. fault_with lines (word ∷ words) (plain i) (e i)) in
-        (λ i. without_fault (fault i) (option_map_or (with_line lines n) (meaning form lines (word ∷ words)) lines)) ∙ ap (λ k. Err k) (sym t)
-    by_none (Err NoMemory) e t = tt
+    here : form_of form lines ws ≡ where_built lines (Some f)
+    here = is ∙ ap (where_built lines) found
 
-    by_found : (found : Option LineForm) → form_of form lines (word ∷ words) ≡ where_built lines found → TakesFound lines n (option_map (with_words (word ∷ words)) found) result known → Reads form lines n (word ∷ words) result known
-    by_found None e t = by_none result e t
-    by_found (Some f) e t = by_result result f e t
+    faults : fault_of form lines ws ≡ first_fault lines (with_words ws f)
+    faults = (λ i. fault_with lines ws (plain i) (here i)) ∙ found_fault lines ws f
+
+    says : first_fault lines (with_words ws f) ≡ None →
+        meaning form lines ws ≡ statement_at lines (with_words ws f)
+    says none = ap (meaning_with lines ws) here ∙ found_meaning lines ws f none
+
+    means : Means lines (with_words ws f)
+    means none =
+        let said = has_meaning form lines ws (faults ∙ none) in
+        (said.0, sym (says none) ∙ said.1)
+
+    by_result : (r : Result (Unit {0}) ScriptFault) → Takes lines n (with_words ws f) r known →
+        Reads form lines n ws r known
+    by_result (Ok done) t = (
+      with_line lines n t.0,
+      λ i. without_fault ((faults ∙ t.1) i)
+          (option_map_or (with_line lines n) ((says t.1 ∙ t.2) i) lines),
+      t.3,
+    )
+    by_result (Err (At m kind)) t = (
+      t.0,
+      λ i. without_fault ((faults ∙ t.1) i)
+          (option_map_or (with_line lines n) (meaning form lines ws) lines),
+    )
+    by_result (Err Memory) t = tt

@@ -22,9 +22,10 @@ use Rattle.vq_model.specs.declared.script.SemaphoreKind.{SemaphoreKind}
 use Rattle.vq_model.specs.declared.script.SemaphoreKind.TheVariants.{Timeline, Binary, Fence}
 use Rattle.vq_model.specs.declared.script.Queue.{Queue}
 use Rattle.vq_model.specs.Context.{is_timeline, is_binary, is_fence}
+use Rattle.vq_model.specs.Forms.{Slot, BufferName, TimelineName, BinaryName, FenceName, QueueName}
 use Rattle.vq_script.specs.declared.named_item.NamedItem.{NamedItem}
 use Rattle.vq_script.specs.declared.named_item.NamedItem.TheVariants.{Buffer as BufferAt, Timeline as TimelineAt, Binary as BinaryAt, Fence as FenceAt, Queue as QueueAt}
-use Rattle.vq_script.specs.Names.{item_of, semaphore_item, buffer_in, timeline_in, binary_in, fence_in, queue_in, names_buffer, names_timeline, names_binary, names_fence, names_queue, is_taken}
+use Rattle.vq_script.specs.Names.{item_of, semaphore_item, number_in, number_in_lists, names_buffer, names_timeline, names_binary, names_fence, names_queue, is_taken}
 
 -- the first place that passes is in the list where any element passes
 any_within : {X : Type 0} (p : X → Bool) (xs : List X) → nat_lt (position_or_len p xs) (length xs) ≡ list_any p xs
@@ -123,7 +124,7 @@ found_with passes reads old new k d xs x put named last fresh was name =
         ∙ sym (same_found (passes name) xs x (named name ∙ e))
 
 -- a name of something else leaves a list's names as they were, if it is new
-pub found_without : {X : Type 0} (passes : List ℕ → X → Bool)
+found_without : {X : Type 0} (passes : List ℕ → X → Bool)
     (reads : Option NamedItem → Option ℕ) (old new : BTreeMap (Vec ℕ) NamedItem) (k : Vec ℕ)
     (d : NamedItem) (xs : List X) →
     Updates key_cmp old new k (Some d) → reads (Some d) ≡ None →
@@ -142,36 +143,16 @@ found_without passes reads old new k d xs put none fresh was name =
         ∙ sym (none_found (passes name) xs free)
     by_test false e = ap reads (after_put old new k d put name false e) ∙ was name
 
--- a new buffer, and a new queue
-
-pub buffer_found : (old new : BTreeMap (Vec ℕ) NamedItem) (k : Vec ℕ) (n : ℕ) (xs : List Buffer)
-    (x : Buffer) → Updates key_cmp old new k (Some (BufferAt n)) → k.items ≡ x.name →
-    n ≡ length xs → list_any (names_buffer k.items) xs ≡ false →
-    ((name : List ℕ) → buffer_in (item_of old name) ≡ position (names_buffer name) xs) →
-    (name : List ℕ) → buffer_in (item_of new name) ≡ position (names_buffer name) (xs ++ x ∷ [])
-buffer_found old new k n xs x put named last fresh was =
-    found_with names_buffer buffer_in old new k (BufferAt n) xs x put
-    (λ name. ap (bytes_eq name) (sym named)) (ap (λ (m : ℕ). Some m) last) fresh was
-
-pub queue_found : (old new : BTreeMap (Vec ℕ) NamedItem) (k : Vec ℕ) (n : ℕ) (xs : List Queue)
-    (x : Queue) → Updates key_cmp old new k (Some (QueueAt n)) → k.items ≡ x.name →
-    n ≡ length xs → list_any (names_queue k.items) xs ≡ false →
-    ((name : List ℕ) → queue_in (item_of old name) ≡ position (names_queue name) xs) →
-    (name : List ℕ) → queue_in (item_of new name) ≡ position (names_queue name) (xs ++ x ∷ [])
-queue_found old new k n xs x put named last fresh was =
-    found_with names_queue queue_in old new k (QueueAt n) xs x put
-    (λ name. ap (bytes_eq name) (sym named)) (ap (λ (m : ℕ). Some m) last) fresh was
-
 -- semaphores of a kind, by the test of the kind
 
-abbrev pub names_kind : (SemaphoreKind → Bool) → List ℕ → Semaphore → Bool
+abbrev names_kind : (SemaphoreKind → Bool) → List ℕ → Semaphore → Bool
 names_kind is_kind name s = bytes_eq name s.name && is_kind s.kind
 
-abbrev pub has_name : List ℕ → Semaphore → Bool
+abbrev has_name : List ℕ → Semaphore → Bool
 has_name name s = bytes_eq name s.name
 
 -- none of a kind has a name that no semaphore has
-pub none_of_kind : (is_kind : SemaphoreKind → Bool) (name : List ℕ) (xs : List Semaphore) →
+none_of_kind : (is_kind : SemaphoreKind → Bool) (name : List ℕ) (xs : List Semaphore) →
     list_any (has_name name) xs ≡ false → list_any (names_kind is_kind name) xs ≡ false
 none_of_kind is_kind name [] h = refl
 none_of_kind is_kind name (x ∷ xs) h =
@@ -179,7 +160,7 @@ none_of_kind is_kind name (x ∷ xs) h =
     λ t. (parts.0 t && is_kind x.kind) || none_of_kind is_kind name xs parts.1 t
 
 -- one semaphore more, whose name is new, is found if it is of the kind
-pub kind_found : (is_kind : SemaphoreKind → Bool) (reads : Option NamedItem → Option ℕ) →
+kind_found : (is_kind : SemaphoreKind → Bool) (reads : Option NamedItem → Option ℕ) →
     ((kind : SemaphoreKind) (n : ℕ) →
     reads (Some (semaphore_item kind n)) ≡ cond (is_kind kind) (Some n) None) →
     (old new : BTreeMap (Vec ℕ) NamedItem) (k : Vec ℕ) (d : NamedItem) (n : ℕ)
@@ -226,36 +207,36 @@ kind_found is_kind reads read old new k d n xs x put named item last fresh was n
 
 -- which kind of semaphore an item reads as
 
-pub no_buffer : (kind : SemaphoreKind) (n : ℕ) → buffer_in (Some (semaphore_item kind n)) ≡ None
+no_buffer : (kind : SemaphoreKind) (n : ℕ) → (number_in BufferName) (Some (semaphore_item kind n)) ≡ None
 no_buffer (Timeline v) n = refl
 no_buffer Binary n = refl
 no_buffer Fence n = refl
 
-pub no_queue : (kind : SemaphoreKind) (n : ℕ) → queue_in (Some (semaphore_item kind n)) ≡ None
+no_queue : (kind : SemaphoreKind) (n : ℕ) → (number_in QueueName) (Some (semaphore_item kind n)) ≡ None
 no_queue (Timeline v) n = refl
 no_queue Binary n = refl
 no_queue Fence n = refl
 
-pub reads_timeline : (kind : SemaphoreKind) (n : ℕ) →
-    timeline_in (Some (semaphore_item kind n)) ≡ cond (is_timeline kind) (Some n) None
+reads_timeline : (kind : SemaphoreKind) (n : ℕ) →
+    (number_in TimelineName) (Some (semaphore_item kind n)) ≡ cond (is_timeline kind) (Some n) None
 reads_timeline (Timeline v) n = refl
 reads_timeline Binary n = refl
 reads_timeline Fence n = refl
 
-pub reads_binary : (kind : SemaphoreKind) (n : ℕ) →
-    binary_in (Some (semaphore_item kind n)) ≡ cond (is_binary kind) (Some n) None
+reads_binary : (kind : SemaphoreKind) (n : ℕ) →
+    (number_in BinaryName) (Some (semaphore_item kind n)) ≡ cond (is_binary kind) (Some n) None
 reads_binary (Timeline v) n = refl
 reads_binary Binary n = refl
 reads_binary Fence n = refl
 
-pub reads_fence : (kind : SemaphoreKind) (n : ℕ) →
-    fence_in (Some (semaphore_item kind n)) ≡ cond (is_fence kind) (Some n) None
+reads_fence : (kind : SemaphoreKind) (n : ℕ) →
+    (number_in FenceName) (Some (semaphore_item kind n)) ≡ cond (is_fence kind) (Some n) None
 reads_fence (Timeline v) n = refl
 reads_fence Binary n = refl
 reads_fence Fence n = refl
 
 -- a name that is not taken is new in each list
-pub free_parts : (buffers : List Buffer) (semaphores : List Semaphore) (queues : List Queue)
+free_parts : (buffers : List Buffer) (semaphores : List Semaphore) (queues : List Queue)
     (name : List ℕ) → is_taken buffers semaphores queues name ≡ false →
     (list_any (names_buffer name) buffers ≡ false) × (list_any (has_name name) semaphores ≡ false)
     × (list_any (names_queue name) queues ≡ false)
@@ -269,9 +250,9 @@ free_parts buffers semaphores queues name h =
 -- what stands for something is a buffer, a semaphore or fence of some kind, or a queue
 some_item : (d : Option NamedItem) →
     is_some d
-    ≡ (is_some (buffer_in d)
-    || (is_some (timeline_in d) || is_some (binary_in d) || is_some (fence_in d))
-    || is_some (queue_in d))
+    ≡ (is_some (number_in BufferName d)
+    || (is_some (number_in TimelineName d) || is_some (number_in BinaryName d) || is_some (number_in FenceName d))
+    || is_some (number_in QueueName d))
 some_item None = refl
 some_item (Some (BufferAt n)) = refl
 some_item (Some (TimelineAt n)) = refl
@@ -306,11 +287,11 @@ any_kind name (x ∷ xs) =
 
 -- the map has a name where something that is declared has it
 pub taken_found : (buffers : List Buffer) (semaphores : List Semaphore) (queues : List Queue)
-    (name : List ℕ) (d : Option NamedItem) → buffer_in d ≡ position (names_buffer name) buffers →
-    timeline_in d ≡ position (names_timeline name) semaphores →
-    binary_in d ≡ position (names_binary name) semaphores →
-    fence_in d ≡ position (names_fence name) semaphores →
-    queue_in d ≡ position (names_queue name) queues →
+    (name : List ℕ) (d : Option NamedItem) → (number_in BufferName) d ≡ position (names_buffer name) buffers →
+    (number_in TimelineName) d ≡ position (names_timeline name) semaphores →
+    (number_in BinaryName) d ≡ position (names_binary name) semaphores →
+    (number_in FenceName) d ≡ position (names_fence name) semaphores →
+    (number_in QueueName) d ≡ position (names_queue name) queues →
     is_some d ≡ is_taken buffers semaphores queues name
 taken_found buffers semaphores queues name d b t i f q =
     some_item d
@@ -321,3 +302,96 @@ taken_found buffers semaphores queues name d b t i f q =
     || any_found (names_queue name) queues s)
     ∙ ap (λ c. list_any (names_buffer name) buffers || c || list_any (names_queue name) queues)
     (any_kind name semaphores)
+
+-- What is declared has its names in the map.
+abbrev pub HasNames : BTreeMap (Vec ℕ) NamedItem → List Buffer → List Semaphore → List Queue → Type 0
+HasNames names buffers semaphores queues = (place : Slot) (name : List ℕ) →
+    number_in place (item_of names name) ≡ number_in_lists buffers semaphores queues place name
+
+module _ (old new : BTreeMap (Vec ℕ) NamedItem) (k : Vec ℕ) (d : NamedItem)
+    (buffers : List Buffer) (semaphores : List Semaphore) (queues : List Queue)
+    (put : Updates key_cmp old new k (Some d)) (was : HasNames old buffers semaphores queues)
+    (fresh : is_taken buffers semaphores queues k.items ≡ false) where
+  free : (list_any (names_buffer k.items) buffers ≡ false)
+      × (list_any (has_name k.items) semaphores ≡ false)
+      × (list_any (names_queue k.items) queues ≡ false)
+  free = free_parts buffers semaphores queues k.items fresh
+
+  -- a name of something else leaves the buffers, the queues and the semaphores of a kind as they were
+  other_buffers : number_in BufferName (Some d) ≡ None → (name : List ℕ) →
+      number_in BufferName (item_of new name) ≡ position (names_buffer name) buffers
+  other_buffers none = found_without names_buffer (number_in BufferName) old new k d buffers put none
+      free.0 (was BufferName)
+
+  other_queues : number_in QueueName (Some d) ≡ None → (name : List ℕ) →
+      number_in QueueName (item_of new name) ≡ position (names_queue name) queues
+  other_queues none = found_without names_queue (number_in QueueName) old new k d queues put none
+      free.2 (was QueueName)
+
+  other_semaphores : (is_kind : SemaphoreKind → Bool) (place : Slot) →
+      number_in place (Some d) ≡ None → ((name : List ℕ) →
+      number_in place (item_of old name) ≡ position (names_kind is_kind name) semaphores) →
+      (name : List ℕ) →
+      number_in place (item_of new name) ≡ position (names_kind is_kind name) semaphores
+  other_semaphores is_kind place none h = found_without (names_kind is_kind) (number_in place) old new
+      k d semaphores put none (none_of_kind is_kind k.items semaphores free.1) h
+
+  -- a buffer more
+  pub buffer_named : (n : ℕ) (x : Buffer) → d ≡ BufferAt n → k.items ≡ x.name →
+      n ≡ length buffers → HasNames new (buffers ++ x ∷ []) semaphores queues
+  buffer_named n x is named last BufferName name =
+      found_with names_buffer (number_in BufferName) old new k d buffers x put
+      (λ other. ap (bytes_eq other) (sym named))
+      (ap (λ (i : NamedItem). number_in BufferName (Some i)) is ∙ ap (λ (m : ℕ). Some m) last)
+      free.0 (was BufferName) name
+  buffer_named n x is named last TimelineName name =
+      other_semaphores is_timeline TimelineName
+      (ap (λ (i : NamedItem). number_in TimelineName (Some i)) is) (was TimelineName) name
+  buffer_named n x is named last BinaryName name =
+      other_semaphores is_binary BinaryName
+      (ap (λ (i : NamedItem). number_in BinaryName (Some i)) is) (was BinaryName) name
+  buffer_named n x is named last FenceName name =
+      other_semaphores is_fence FenceName
+      (ap (λ (i : NamedItem). number_in FenceName (Some i)) is) (was FenceName) name
+  buffer_named n x is named last QueueName name =
+      other_queues (ap (λ (i : NamedItem). number_in QueueName (Some i)) is) name
+  buffer_named n x is named last other name = refl
+
+  -- a queue more
+  pub queue_named : (n : ℕ) (x : Queue) → d ≡ QueueAt n → k.items ≡ x.name →
+      n ≡ length queues → HasNames new buffers semaphores (queues ++ x ∷ [])
+  queue_named n x is named last BufferName name =
+      other_buffers (ap (λ (i : NamedItem). number_in BufferName (Some i)) is) name
+  queue_named n x is named last TimelineName name =
+      other_semaphores is_timeline TimelineName
+      (ap (λ (i : NamedItem). number_in TimelineName (Some i)) is) (was TimelineName) name
+  queue_named n x is named last BinaryName name =
+      other_semaphores is_binary BinaryName
+      (ap (λ (i : NamedItem). number_in BinaryName (Some i)) is) (was BinaryName) name
+  queue_named n x is named last FenceName name =
+      other_semaphores is_fence FenceName
+      (ap (λ (i : NamedItem). number_in FenceName (Some i)) is) (was FenceName) name
+  queue_named n x is named last QueueName name =
+      found_with names_queue (number_in QueueName) old new k d queues x put
+      (λ other. ap (bytes_eq other) (sym named))
+      (ap (λ (i : NamedItem). number_in QueueName (Some i)) is ∙ ap (λ (m : ℕ). Some m) last)
+      free.2 (was QueueName) name
+  queue_named n x is named last other name = refl
+
+  -- a semaphore or a fence more
+  pub semaphore_named : (n : ℕ) (x : Semaphore) → d ≡ semaphore_item x.kind n → k.items ≡ x.name →
+      n ≡ length semaphores → HasNames new buffers (semaphores ++ x ∷ []) queues
+  semaphore_named n x is named last BufferName name =
+      other_buffers (ap (λ (i : NamedItem). number_in BufferName (Some i)) is ∙ no_buffer x.kind n) name
+  semaphore_named n x is named last TimelineName name =
+      kind_found is_timeline (number_in TimelineName) reads_timeline old new k d n semaphores x put
+      named is last free.1 (was TimelineName) name
+  semaphore_named n x is named last BinaryName name =
+      kind_found is_binary (number_in BinaryName) reads_binary old new k d n semaphores x put
+      named is last free.1 (was BinaryName) name
+  semaphore_named n x is named last FenceName name =
+      kind_found is_fence (number_in FenceName) reads_fence old new k d n semaphores x put
+      named is last free.1 (was FenceName) name
+  semaphore_named n x is named last QueueName name =
+      other_queues (ap (λ (i : NamedItem). number_in QueueName (Some i)) is ∙ no_queue x.kind n) name
+  semaphore_named n x is named last other name = refl

@@ -1,10 +1,10 @@
 -- The lines of a canonical text, one after another.
-use Rattle.std.proofs.Common.{◌≡◌, ℕ, ◌/◌, ◌%◌, ◌<◌, ◌^◌, List, [], ◌∷◌, ◌++◌, map, codes, refl, sym, ap, ◌∙◌, ap₂, arith, append_assoc, length, slice_index_or, false, zero, suc, cond, Result, Ok, Err}
+use Rattle.std.proofs.Common.{◌≡◌, ℕ, ◌/◌, ◌%◌, ◌<◌, ◌^◌, List, [], ◌∷◌, ◌++◌, map, codes, refl, sym, ap, ◌∙◌, ap₂, arith, append_assoc, length, slice_index_or, false, zero, suc, cond, Result, Ok, Err, Some}
 use Rattle.std.specs.Result.{OnOk, is_ok}
 use Rattle.std.proofs.lemmas.Bool.{cond-false}
 use Rattle.std.proofs.lemmas.List.{append-nil}
 use Rattle.std.proofs.lemmas.Grind.{flat_map-append}
-use Rattle.std.specs.List.{flat_map, All}
+use Rattle.std.specs.List.{flat_map, slice_get, All}
 use Rattle.std.specs.Int.{to_be_bytes, w32}
 use Rattle.vq_model.specs.declared.script.Script.{Script}
 use Rattle.vq_model.specs.declared.script.Batch.{Batch}
@@ -15,7 +15,7 @@ use Rattle.vq_model.specs.declared.script.Queue.{Queue}
 use Rattle.vq_model.specs.declared.script.CommandLine.{CommandLine}
 use Rattle.vq_model.specs.declared.script.Job.{Job}
 use Rattle.vq_model.specs.declared.script.Job.TheVariants.{Host, Batch as BatchJob}
-use Rattle.vq_model.specs.ValidScripts.{IsOfBatches, AreWholeBatches}
+use Rattle.vq_model.specs.Built.{HasNoHostStep, HasWholeWaits, IsUnscheduled, IsOfFirstVersion}
 use Rattle.vq_model.specs.Canonical.{hex_digits, fill_word, queue_name, buffer_words, queue_words, semaphore_words, mark_words, from_words, wait_words, command_words, signal_words, fence_lines, job_words, version_words, schedule_words, line_text, canonical_text}
 
 -- what follows from what a call gives
@@ -89,13 +89,20 @@ abbrev pub IsWholeJob : Job → Type 0
 IsWholeJob (Host h) = ⊥
 IsWholeJob (BatchJob b) = All (λ m. m.from ≡ 1) b.waits
 
--- each of whole batches is one
-pub whole_job : (s : Script) (jobs : List Job) (j : ℕ) (job : Job) → AreWholeBatches s jobs →
-    j < length jobs → IsWholeJob (slice_index_or jobs j job)
-whole_job s [] j job whole l = absurd (omega arith)
-whole_job s (Host h ∷ jobs) j job whole l = absurd whole
-whole_job s (BatchJob b ∷ jobs) zero job whole l = whole.0.from_start
-whole_job s (BatchJob b ∷ jobs) (suc j) job whole l = whole_job s jobs j job whole.1 (omega arith)
+-- each job of a script without host steps is one, where each wait holds back its whole batch
+pub whole_job : (s : Script) (jobs : List Job) → jobs ≡ s.jobs → HasNoHostStep s →
+    HasWholeWaits s → (j : ℕ) (job : Job) → j < length jobs → IsWholeJob (slice_index_or jobs j job)
+whole_job s jobs e hostless whole j job l =
+    by_job (slice_index_or jobs j job) (ap (λ (xs : List Job). slice_get xs j) (sym e) ∙ at jobs j l)
+  where
+    at : (xs : List Job) (k : ℕ) → k < length xs → slice_get xs k ≡ Some (slice_index_or xs k job)
+    at [] k l = absurd (omega arith)
+    at (x ∷ xs) zero l = refl
+    at (x ∷ xs) (suc k) l = at xs k (omega arith)
+
+    by_job : (x : Job) → slice_get s.jobs j ≡ Some x → IsWholeJob x
+    by_job (Host h) f = hostless j h f
+    by_job (BatchJob b) f = whole j b f
 
 -- the words of a wait that holds back the whole batch
 pub whole_wait : (s : Script) (m : Mark) → m.from ≡ 1 →
@@ -107,20 +114,21 @@ whole_wait s m e =
 no_schedule : (s : Script) → s.scheduled ≡ false → schedule_words s ≡ []
 no_schedule s e = cond-false s.scheduled _ [] e
 
--- the text of a script of batches: its buffers, its semaphores and fences, its queues and its batches
-script_text : (s : Script) → IsOfBatches s →
+-- The text of a script of the first version without a schedule: its buffers, its semaphores and fences,
+-- its queues and its jobs.
+script_text : (s : Script) → IsOfFirstVersion s → IsUnscheduled s →
     canonical_text s
     ≡ flat_map (λ b. line_text (buffer_words b)) s.buffers
     ++ flat_map (λ x. line_text (semaphore_words x)) s.semaphores
     ++ flat_map (λ q. line_text (queue_words q)) s.queues
     ++ flat_map (λ j. flat_map line_text (job_words s j)) s.jobs
-script_text s is =
+script_text s first is =
     let buffers = map buffer_words s.buffers in
     let semaphores = map semaphore_words s.semaphores in
     let queues = map queue_words s.queues in
     let jobs = flat_map (job_words s) s.jobs in
     ap (λ version. flat_map line_text (version_words version ++ buffers ++ semaphores ++ queues
-    ++ jobs ++ schedule_words s)) is.version
+    ++ jobs ++ schedule_words s)) first
     ∙ ap (λ schedule. flat_map line_text (buffers ++ semaphores ++ queues ++ jobs ++ schedule))
     (no_schedule s is.unscheduled)
     ∙ ap (flat_map line_text) (append-nil (buffers ++ semaphores ++ queues ++ jobs))
@@ -176,8 +184,8 @@ batch_added s b name waits signals commands n ws cs ss old first waited filled s
     (e4 ∙ ap (λ xs. filled ++ signal_lines xs) ss) e5 e6
     ∙ ap (λ text. old ++ text) (sym (batch_text s b))
 
--- the declarations and the batches of a script of batches, one after another
-pub text_added : (s : Script) → IsOfBatches s → (bs : List Buffer) (xs : List Semaphore)
+-- the declarations and the jobs of such a script, one after another
+pub text_added : (s : Script) → IsOfFirstVersion s → IsUnscheduled s → (bs : List Buffer) (xs : List Semaphore)
     (qs : List Queue) (js : List Job) → bs ≡ s.buffers → xs ≡ s.semaphores → qs ≡ s.queues →
     js ≡ s.jobs → (none buffers semaphores queues new : List ℕ) → none ≡ [] →
     buffers ≡ none ++ flat_map (λ b. line_text (buffer_words b)) bs →
@@ -185,7 +193,7 @@ pub text_added : (s : Script) → IsOfBatches s → (bs : List Buffer) (xs : Lis
     queues ≡ semaphores ++ flat_map (λ q. line_text (queue_words q)) qs →
     new ≡ queues ++ flat_map (λ j. flat_map line_text (job_words s j)) js →
     new ≡ canonical_text s
-text_added s is bs xs qs js b x q j none buffers semaphores queues new e1 e2 e3 e4 e5 =
+text_added s first is bs xs qs js b x q j none buffers semaphores queues new e1 e2 e3 e4 e5 =
     let buffer_lines : List Buffer → List ℕ = flat_map (λ y. line_text (buffer_words y)) in
     let semaphore_lines : List Semaphore → List ℕ
     = flat_map (λ y. line_text (semaphore_words y)) in
@@ -195,4 +203,4 @@ text_added s is bs xs qs js b x q j none buffers semaphores queues new e1 e2 e3 
     (e4 ∙ ap₂ (λ front back. front ++ queue_lines back)
     (e3 ∙ ap₂ (λ front back. front ++ semaphore_lines back)
     (e2 ∙ ap₂ (λ front back. front ++ buffer_lines back) e1 b) x) q) j
-    ∙ sym (script_text s is)
+    ∙ sym (script_text s first is)

@@ -29,7 +29,10 @@ use Rattle.vq_model.specs.declared.statement.Section.{Section}
 use Rattle.vq_model.specs.declared.statement.Section.TheVariants.{Outside, InBatch}
 use Rattle.vq_script.specs.Holds.{Holds, Declares, FillBatch, Kept, held_from, last_part, with_buffer, with_semaphore, with_queue, with_command, with_batch}
 use Rattle.vq_script.proofs.LineMore.{numbered, after_last_cut, after_last_more, before_first_more, count_more, some_more, version_more, given_none, given_one, later_part}
-use Rattle.vq_script.proofs.BatchMore.{waiting, commanding, signaling, fenced, started, fill_nothing, fill_started, fill_more, fill_wait, fill_command, fill_signal, fill_fence}
+use Rattle.vq_script.specs.declared.said.Said.{Said}
+use Rattle.vq_script.specs.declared.said.Said.TheVariants.{Buffer as SaysBuffer, Semaphore as SaysSemaphore, Queue as SaysQueue, Submit, Wait, FillWhole, Fill, Update, Copy, Signal, Fence, End}
+use Rattle.vq_script.specs.SaidLines.{MayKeep, statement_in, after, waiting, commanding, signaling, fenced, started}
+use Rattle.vq_script.proofs.BatchMore.{fill_nothing, fill_started, fill_more, fill_wait, fill_command, fill_signal, fill_fence}
 
 -- a line that begins a batch or ends it
 abbrev cuts : Line → Bool
@@ -45,7 +48,7 @@ section_more lines l was h =
 -- What is declared
 
 -- no schedule begins, and no version is named, with one line more
-pub record SaysLittle (s : Statement) : Type 0 where
+record SaysLittle (s : Statement) : Type 0 where
   version : (n : ℕ) → version_of (numbered n s ∷ []) ≡ 1
   schedule : is_schedule s ≡ false
   turns : (n : ℕ) → turns_at (numbered n s) ≡ []
@@ -60,7 +63,7 @@ no_turns_more lines l h i =
     flat_map-append turns_at lines (l ∷ []) ∙ (λ t. h t ++ (i t ++ []))
 
 -- a line that declares nothing
-pub record DeclaresNone (s : Statement) : Type 0 where
+record DeclaresNone (s : Statement) : Type 0 where
   little : SaysLittle s
   buffer : (n : ℕ) → buffer_of (numbered n s) ≡ None
   semaphore : (n : ℕ) → semaphore_of (numbered n s) ≡ None
@@ -137,7 +140,7 @@ declares_queue lines n name mode k h =
 -- Lines that declare
 
 -- a statement that is part of no batch and begins no job
-pub record StandsOutside (s : Statement) : Type 0 where
+record StandsOutside (s : Statement) : Type 0 where
   after : section_after Outside s ≡ Outside
   cut : (is_submit s || is_end s) ≡ false
   part : part_of s ≡ 0
@@ -234,7 +237,7 @@ outside_queue name mode =
       none = λ n rest. refl;
     }
 
-pub holds_buffer : (lines : List Line) (n : ℕ) (name : List ℕ) (size : ℕ) (k : Kept) →
+holds_buffer : (lines : List Line) (n : ℕ) (name : List ℕ) (size : ℕ) (k : Kept) →
     Holds lines k None →
     Holds (with_line lines n (DeclareBuffer name size))
     (with_buffer k (record { line = n; name = name; size = size })) None
@@ -243,7 +246,7 @@ holds_buffer lines n name size k h =
     (with_buffer k (record { line = n; name = name; size = size })) h (outside_buffer name size)
     (declares_buffer lines n name size k h.declares) refl refl
 
-pub holds_semaphore : (lines : List Line) (n : ℕ) (name : List ℕ) (kind : SemaphoreKind)
+holds_semaphore : (lines : List Line) (n : ℕ) (name : List ℕ) (kind : SemaphoreKind)
     (k : Kept) → Holds lines k None →
     Holds (with_line lines n (DeclareSemaphore name kind))
     (with_semaphore k (record { line = n; name = name; kind = kind })) None
@@ -252,7 +255,7 @@ holds_semaphore lines n name kind k h =
     (with_semaphore k (record { line = n; name = name; kind = kind })) h
     (outside_semaphore name kind) (declares_semaphore lines n name kind k h.declares) refl refl
 
-pub holds_queue : (lines : List Line) (n : ℕ) (name : List ℕ) (mode : Mode) (k : Kept) →
+holds_queue : (lines : List Line) (n : ℕ) (name : List ℕ) (mode : Mode) (k : Kept) →
     Holds lines k None →
     Holds (with_line lines n (DeclareQueue name mode))
     (with_queue k (record { line = n; name = name; mode = mode })) None
@@ -283,7 +286,7 @@ none_begun queue =
       queue = λ n. refl;
     }
 
-pub holds_submit : (lines : List Line) (n queue : ℕ) (k : Kept) → Holds lines k None →
+holds_submit : (lines : List Line) (n queue : ℕ) (k : Kept) → Holds lines k None →
     Holds (with_line lines n (BeginBatch queue)) k (Some (started n queue))
 holds_submit lines n queue k h =
     let l = numbered n (BeginBatch queue) in
@@ -312,7 +315,7 @@ going b lines =
     }
 
 -- a statement that stands in a batch and doesn't end it
-pub record StandsInside (s : Statement) : Type 0 where
+record StandsInside (s : Statement) : Type 0 where
   after : section_after InBatch s ≡ InBatch
   cut : (is_submit s || is_end s) ≡ false
   end : is_end s ≡ false
@@ -423,7 +426,7 @@ inside_fence fence =
       };
     }
 
-pub holds_wait : (lines : List Line) (n : ℕ) (pair : Pair) (b : Batch) (k : Kept) →
+holds_wait : (lines : List Line) (n : ℕ) (pair : Pair) (b : Batch) (k : Kept) →
     Holds lines k (Some b) → nat_lt 1 (last_part (Some b)) ≡ false →
     Holds (with_line lines n (AddWait pair 1)) k (Some (waiting b n pair))
 holds_wait lines n pair b k h fits =
@@ -438,7 +441,7 @@ holds_wait lines n pair b k h fits =
       waits = sym (append_assoc b.waits (mark n pair 1 ∷ []) (filter_map wait_of more)) i;
     }
 
-pub holds_command : (lines : List Line) (n : ℕ) (command : Command) (b : Batch) (k : Kept) →
+holds_command : (lines : List Line) (n : ℕ) (command : Command) (b : Batch) (k : Kept) →
     Holds lines k (Some b) → nat_lt 2 (last_part (Some b)) ≡ false →
     Holds (with_line lines n (AddCommand command)) (with_command k) (Some (commanding b n command))
 holds_command lines n command b k h fits =
@@ -454,7 +457,7 @@ holds_command lines n command b k h fits =
           (filter_map command_of more)) i;
     }
 
-pub holds_signal : (lines : List Line) (n : ℕ) (pair : Pair) (b : Batch) (k : Kept) →
+holds_signal : (lines : List Line) (n : ℕ) (pair : Pair) (b : Batch) (k : Kept) →
     Holds lines k (Some b) → nat_lt 3 (last_part (Some b)) ≡ false →
     Holds (with_line lines n (AddSignal pair)) k (Some (signaling b n pair))
 holds_signal lines n pair b k h fits =
@@ -469,7 +472,7 @@ holds_signal lines n pair b k h fits =
       signals = sym (append_assoc b.signals (mark n pair 1 ∷ []) (filter_map signal_of more)) i;
     }
 
-pub holds_fence : (lines : List Line) (n fence : ℕ) (b : Batch) (k : Kept) →
+holds_fence : (lines : List Line) (n fence : ℕ) (b : Batch) (k : Kept) →
     Holds lines k (Some b) → b.fence ≡ None →
     Holds (with_line lines n (AddFence fence)) k (Some (fenced b n fence))
 holds_fence lines n fence b k h none =
@@ -511,7 +514,7 @@ gone b = λ i. record {
     or_none None = refl
     or_none (Some m) = refl
 
-pub holds_end : (lines : List Line) (n : ℕ) (b : Batch) (k : Kept) → Holds lines k (Some b) →
+holds_end : (lines : List Line) (n : ℕ) (b : Batch) (k : Kept) → Holds lines k (Some b) →
     Holds (with_line lines n EndBatch) (with_batch k b) None
 holds_end lines n b k h =
     let l = numbered n EndBatch in
@@ -542,3 +545,23 @@ holds_end lines n b k h =
           ∙ ap (λ (x : Batch). k.jobs ++ BatchJob x ∷ jobs_of rest) (gone b)
           ∙ sym (append_assoc k.jobs (BatchJob b ∷ []) (jobs_of rest));
     }
+
+-- What a line says that may be kept, with what is kept after it.
+pub holds_after : (lines : List Line) (n : ℕ) (said : Said) (k : Kept) (batch : Option Batch) →
+    Holds lines k batch → MayKeep k batch said →
+    Holds (with_line lines n (statement_in said)) (after n (statement_in said) k batch).0
+    (after n (statement_in said) k batch).1
+holds_after lines n (SaysBuffer name size) k None h m = holds_buffer lines n name.now size k h
+holds_after lines n (SaysSemaphore name kind) k None h m = holds_semaphore lines n name.now kind k h
+holds_after lines n (SaysQueue name mode) k None h m = holds_queue lines n name.now mode k h
+holds_after lines n (Submit q) k None h m = holds_submit lines n q k h
+holds_after lines n other k None h m = absurd m
+holds_after lines n (Wait pair) k (Some b) h m = holds_wait lines n pair b k h m
+holds_after lines n (FillWhole x o w) k (Some b) h m = holds_command lines n _ b k h m.in_order
+holds_after lines n (Fill x o size w) k (Some b) h m = holds_command lines n _ b k h m.in_order
+holds_after lines n (Update x o digits) k (Some b) h m = holds_command lines n _ b k h m.0.in_order
+holds_after lines n (Copy s from t to size) k (Some b) h m = holds_command lines n _ b k h m.in_order
+holds_after lines n (Signal pair) k (Some b) h m = holds_signal lines n pair b k h m
+holds_after lines n (Fence f) k (Some b) h m = holds_fence lines n f b k h m
+holds_after lines n End k (Some b) h m = holds_end lines n b k h
+holds_after lines n other k (Some b) h m = absurd m

@@ -4,13 +4,13 @@ use Rattle.std.specs.Result.{IsErr, IsErrAnd}
 use Rattle.vq_model.specs.declared.statement.Line.{Line}
 use Rattle.vq_model.specs.declared.statement.Form.{Form}
 use Rattle.vq_model.specs.declared.statement.FaultKind.{FaultKind}
-use Rattle.vq_model.specs.Text.{lines_of}
+use Rattle.vq_model.specs.Text.{lines_of, words_of}
 use Rattle.vq_model.specs.Reading.{read_line, read_lines, read_script, go_on}
 use Rattle.vq_script.specs.declared.known.Known.{Known}
 use Rattle.vq_script.specs.declared.fault.ScriptFault.{ScriptFault}
 use Rattle.vq_script.specs.declared.fault.ScriptFault.TheVariants.{At, Memory}
 use Rattle.vq_script.specs.Outcomes.{Gives, IsFirst}
-use Rattle.vq_script.specs.Reads.{ReadsLine, script_from}
+use Rattle.vq_script.specs.Reads.{Reads, script_from}
 
 -- reading a text is reading its lines, and making a script of these
 pub reads_text : (text : List ℕ) (form : Form) → read_script text form ≡ script_from (read_lines form [] 1 (lines_of text))
@@ -31,10 +31,15 @@ on_fault : (form : Form) (lines : List Line) (n : ℕ) (line : List ℕ) (rest a
 on_fault form lines n line rest after kind e r = ap (read_lines form lines n) e ∙ ap (go_on n (λ now. read_lines form now (n + 1) after)) r
 
 -- the fault of a line is that of the text
-pub gives_fault : (text : List ℕ) (form : Form) (lines : List Line) (n : ℕ) (line : List ℕ) (rest after : List (List ℕ)) (fault : ScriptFault) (known : Known) →
-    rest ≡ line ∷ after → read_lines form lines n rest ≡ read_lines form [] 1 (lines_of text) → ReadsLine form lines n line (Err fault) known → Gives (Err fault) (read_script text form)
+pub gives_fault : (text : List ℕ) (form : Form) (lines : List Line) (n : ℕ) (line : List ℕ)
+    (rest after : List (List ℕ)) (fault : ScriptFault) (known : Known) → rest ≡ line ∷ after →
+    read_lines form lines n rest ≡ read_lines form [] 1 (lines_of text) →
+    Reads form lines n (words_of line) (Err fault) known →
+    Gives (Err fault) (read_script text form)
 gives_fault text form lines n line rest after (At m kind) known e same r =
-    reads_text text form ∙ ap script_from (sym same ∙ on_fault form lines n line rest after kind e r.1) ∙ (λ i. Err (sym r.0 i, kind))
+    reads_text text form
+    ∙ ap script_from (sym same ∙ on_fault form lines n line rest after kind e r.1)
+    ∙ (λ i. Err (sym r.0 i, kind))
 gives_fault text form lines n line rest after Memory known e same r = tt
 
 -- what an exit by `?` returns

@@ -1,6 +1,6 @@
 -- What the form of a line and the words at its places say, after lines before it: its statement, or the first kind of its
 -- faults. A line that isn't built is Syntax.
-use Rattle.std.specs.Prelude.{◌≡◌, Bool, ◌||◌, not, false, find, List, map, Option, Some, None, Result, Ok, Err}
+use Rattle.std.specs.Prelude.{ℕ, ◌≡◌, Bool, ◌||◌, not, false, find, List, map, Option, Some, None, Result, Ok, Err}
 use Rattle.std.specs.List.{list_all}
 use Rattle.std.specs.Option.{option_map_or}
 use Rattle.vq_model.specs.declared.statement.FaultKind.{FaultKind}
@@ -11,7 +11,17 @@ use Rattle.vq_model.specs.Context.{version_of}
 use Rattle.vq_model.specs.Limits.{limits_of, passes_limit}
 use Rattle.vq_model.specs.LineFaults.{is_shaped, is_numeric, is_known, is_new, is_out_of_order, is_in_range, overlaps, kinds}
 use Rattle.vq_model.specs.Meaning.{is_built, statement_of}
-use Rattle.vq_script.specs.Forms.{OpenLine}
+use Rattle.vq_model.specs.declared.statement.LineForm.{LineForm}
+use Rattle.vq_model.specs.Forms.{Slot, places}
+use Rattle.vq_model.specs.Meaning.{open_places}
+
+-- a form with its open places and the words there
+abbrev pub OpenLine : Type 0
+OpenLine = LineForm × List (Slot × List ℕ)
+
+-- the open places of a form with these words
+abbrev pub with_words : List (List ℕ) → LineForm → OpenLine
+with_words words form = (form, open_places (places form) words)
 
 -- the statement of a line
 abbrev pub statement_at : List Line → OpenLine → Option Statement
@@ -34,6 +44,11 @@ has_fault_at before line Limit =
 -- the first kind of a line's faults
 abbrev pub first_fault : List Line → OpenLine → Option FaultKind
 first_fault before line = find (has_fault_at before line) kinds
+
+-- A line without a fault says something.
+abbrev pub Means : List Line → OpenLine → Type 0
+Means before line =
+    first_fault before line ≡ None → (s : Statement) × (statement_at before line ≡ Some s)
 
 -- A line has no fault, and its statement is what is made of the value; or it has this fault first.
 abbrev pub Tells : {A : Type 0} → List Line → OpenLine → (A → Statement) → Result A FaultKind → Type 0

@@ -177,5 +177,5 @@ pub record Holds (lines : List Line) (k : Kept) (batch : Option Batch) : Type 0 
   pub jobs : (rest : List Line) → jobs_of (lines ++ rest) ≡ k.jobs ++ jobs_with batch rest
 
 -- The parser knows this of the lines that it has read.
-abbrev pub Keeps : List Line → Known → Option Batch → Type 0
-Keeps lines known batch = Holds lines (kept known) batch
+abbrev pub Keeps : List Line → Known → Type 0
+Keeps lines known = Holds lines (kept known) (open_so_far known.batch)

@@ -1,6 +1,6 @@
 -- What a name of the map of names stands for.
 use Rattle.std.specs.Prelude.{ℕ, Bool, ◌||◌, ◌&&◌, List, Option, Some, None}
-use Rattle.std.specs.List.{list_any}
+use Rattle.std.specs.List.{list_any, position}
 use Rattle.std.specs.Str.{bytes_eq}
 use Rattle.std.specs.Ordering.{nat_cmp}
 use Rattle.std.specs.Cmp.Lexicographic.{slice_cmp}
@@ -12,6 +12,7 @@ use Rattle.vq_model.specs.declared.script.SemaphoreKind.{SemaphoreKind}
 use Rattle.vq_model.specs.declared.script.SemaphoreKind.TheVariants.{Timeline, Binary, Fence}
 use Rattle.vq_model.specs.declared.script.Queue.{Queue}
 use Rattle.vq_model.specs.Context.{is_timeline, is_binary, is_fence}
+use Rattle.vq_model.specs.Forms.{Slot, BufferName, TimelineName, BinaryName, FenceName, QueueName}
 use Rattle.vq_script.specs.declared.named_item.NamedItem.{NamedItem}
 use Rattle.vq_script.specs.declared.named_item.NamedItem.TheVariants.{Buffer as BufferAt, Timeline as TimelineAt, Binary as BinaryAt, Fence as FenceAt, Queue as QueueAt}
 
@@ -25,28 +26,14 @@ semaphore_item (Timeline v) n = TimelineAt n
 semaphore_item Binary n = BinaryAt n
 semaphore_item Fence n = FenceAt n
 
--- the number of the buffer, if it is one ..
-abbrev pub buffer_in : Option NamedItem → Option ℕ
-buffer_in (Some (BufferAt n)) = Some n
-buffer_in other = None
-
--- .. of the timeline, the binary semaphore, the fence ..
-abbrev pub timeline_in : Option NamedItem → Option ℕ
-timeline_in (Some (TimelineAt n)) = Some n
-timeline_in other = None
-
-abbrev pub binary_in : Option NamedItem → Option ℕ
-binary_in (Some (BinaryAt n)) = Some n
-binary_in other = None
-
-abbrev pub fence_in : Option NamedItem → Option ℕ
-fence_in (Some (FenceAt n)) = Some n
-fence_in other = None
-
--- .. of the queue
-abbrev pub queue_in : Option NamedItem → Option ℕ
-queue_in (Some (QueueAt n)) = Some n
-queue_in other = None
+-- the number of what stands for a name, if it is of the kind that a place needs
+abbrev pub number_in : Slot → Option NamedItem → Option ℕ
+number_in BufferName (Some (BufferAt n)) = Some n
+number_in TimelineName (Some (TimelineAt n)) = Some n
+number_in BinaryName (Some (BinaryAt n)) = Some n
+number_in FenceName (Some (FenceAt n)) = Some n
+number_in QueueName (Some (QueueAt n)) = Some n
+number_in place other = None
 
 -- whether a buffer, a queue, or a semaphore or fence of a kind has this name
 abbrev pub names_buffer : List ℕ → Buffer → Bool
@@ -63,6 +50,15 @@ names_fence name s = bytes_eq name s.name && is_fence s.kind
 
 abbrev pub names_queue : List ℕ → Queue → Bool
 names_queue name q = bytes_eq name q.name
+
+-- the number of what has this name, of the kind that a place needs
+abbrev pub number_in_lists : List Buffer → List Semaphore → List Queue → Slot → List ℕ → Option ℕ
+number_in_lists buffers semaphores queues BufferName name = position (names_buffer name) buffers
+number_in_lists buffers semaphores queues TimelineName name = position (names_timeline name) semaphores
+number_in_lists buffers semaphores queues BinaryName name = position (names_binary name) semaphores
+number_in_lists buffers semaphores queues FenceName name = position (names_fence name) semaphores
+number_in_lists buffers semaphores queues QueueName name = position (names_queue name) queues
+number_in_lists buffers semaphores queues place name = None
 
 -- whether something that is declared has this name
 abbrev pub is_taken : List Buffer → List Semaphore → List Queue → List ℕ → Bool

@@ -1,18 +1,22 @@
 //! What the lines so far declare and submit.
-ghost use Rattle.std.specs.Prelude.{◌≡◌, ◌+◌, ◌<◌, ◌≤◌, ◌||◌, ◌++◌, ◌∷◌, [], ℕ, List, not, nat_lt, length, false, OnOk, OnErr};
-ghost use Rattle.std.specs.List.{position, list_any, slice_get};
+ghost use Rattle.std.specs.Prelude.{◌≡◌, ◌+◌, ◌<◌, ◌≤◌, ◌||◌, ◌++◌, ◌∷◌, [], ℕ, List, nat_lt, length, false, is_some, not, OnOk};
 ghost use Rattle.std.specs.Option.{option_map_or};
-ghost use Rattle.vq_script.specs.Names.{item_of, buffer_in, timeline_in, binary_in, fence_in, queue_in, names_buffer, names_timeline, names_binary, names_fence, names_queue, is_taken};
+ghost use Rattle.std.specs.List.{slice_get};
+ghost use Rattle.vq_model.specs.Forms.{Slot};
+ghost use Rattle.vq_model.specs.Limits.{limits_of};
+ghost use Rattle.vq_script.specs.Names.{item_of, number_in, number_in_lists, is_taken};
 
 use crate::limits;
 use crate::named_item::{NamedItem, semaphore_item};
 use crate::open_batch::OpenBatch;
+use crate::table::Token;
 use std::alloc::{AllocError, Global};
 use std::collections::BTreeMap;
 use vq_model::list::List;
 use vq_model::script::{Buffer, Job, Mode, Queue, Script, Semaphore};
+use vq_model::statement::Section;
 
-/// What the lines so far declare and submit, but for a batch that is still open.
+/// What the lines so far declare and submit.
 #[derive(Drop)]
 pub struct Known {
     pub buffers: Vec<Buffer>,
@@ -25,34 +29,30 @@ pub struct Known {
     pub jobs: Vec<Job>,
     /// The commands of all batches together.
     pub commands: u32,
+    /// The batch that is open.
+    pub batch: Option<OpenBatch>,
     /// What each declared name stands for.
     names: BTreeMap<Vec<u8>, NamedItem>,
-    ghost few_bytes: { bytes ≤ 1048576 },
-    ghost few_buffers: { length buffers.items ≤ 64 },
-    ghost few_semaphores: { length semaphores.items ≤ 256 },
-    ghost few_queues: { length queues.items ≤ 8 },
-    ghost buffer_names: { (name : List ℕ) → buffer_in (item_of names name)
-        ≡ position (names_buffer name) buffers.items },
-    ghost timeline_names: { (name : List ℕ) → timeline_in (item_of names name)
-        ≡ position (names_timeline name) semaphores.items },
-    ghost binary_names: { (name : List ℕ) → binary_in (item_of names name)
-        ≡ position (names_binary name) semaphores.items },
-    ghost fence_names: { (name : List ℕ) → fence_in (item_of names name)
-        ≡ position (names_fence name) semaphores.items },
-    ghost queue_names: { (name : List ℕ) → queue_in (item_of names name)
-        ≡ position (names_queue name) queues.items },
+    ghost few_bytes: { bytes ≤ (limits_of 1).bytes },
+    ghost few_buffers: { length buffers.items ≤ (limits_of 1).buffers },
+    ghost few_semaphores: { length semaphores.items ≤ (limits_of 1).semaphores },
+    ghost few_queues: { length queues.items ≤ (limits_of 1).queues },
+    ghost all_names: { (place : Slot) (name : List ℕ) → number_in place (item_of names name)
+        ≡ number_in_lists buffers.items semaphores.items queues.items place name },
 }
 
 impl Known {
     ghost use Rattle.std.specs.Prelude.{None};
     ghost use Rattle.vq_model.specs.Context.{is_immediate};
-    ghost use Rattle.vq_model.specs.declared.statement.Line.{Line};
     ghost use Rattle.vq_model.specs.ScriptOfLines.{script_of};
-    ghost use Rattle.vq_script.specs.Holds.{Keeps, kept, with_buffer, with_semaphore, with_queue};
+    ghost use Rattle.vq_model.specs.declared.statement.Line.{Line};
+    ghost use Rattle.vq_script.specs.Holds.{Holds, Keeps, kept, last_part, named_fence, waits_of, commands_of, signals_of, open_so_far, section_of, with_buffer, with_semaphore, with_queue};
+    ghost use Rattle.vq_script.specs.LineTests.{is_immediate_in, number_of, size_in};
+    ghost use Rattle.vq_script.specs.Table.{place_of};
 
     /// What no lines declare and submit.
     pub fn new(alloc: Global) -> Known
-        ensures { Keeps [] result None }
+        ensures { Keeps [] result }
     {
         Known {
             buffers: Vec::new(alloc),
@@ -61,13 +61,14 @@ impl Known {
             queues: Vec::new(alloc),
             jobs: Vec::new(alloc),
             commands: 0,
+            batch: None,
             names: BTreeMap::new(alloc),
         }
     }
 
     /// The script of lines outside a batch.
     pub fn into_script(self, alloc: Global) -> Script
-        ensures { (lines : List Line) → Keeps lines self None → result ≡ script_of lines }
+        ensures { (lines : List Line) → Holds lines (kept self) None → result ≡ script_of lines }
     {
         Script {
             version: 1,
@@ -80,135 +81,22 @@ impl Known {
         }
     }
 
-    /// Declares a buffer, whose name is new. For want of memory all stays as it was.
-    pub fn add_buffer(&mut self, alloc: Global, buffer: Buffer) -> Result<(), AllocError>
-        requires room { length self.old.buffers.items < 64 }
-        requires few_bytes { self.old.bytes + buffer.size ≤ 1048576 }
-        requires fresh { is_taken self.old.buffers.items self.old.semaphores.items
-            self.old.queues.items buffer.name ≡ false }
-        ensures added { OnOk result (kept self.new ≡ with_buffer (kept self.old) buffer) }
-        ensures stays { OnErr result (kept self.new ≡ kept self.old) }
+    /// The part of the text in which the next line stands.
+    pub fn section(&self) -> Section
+        ensures { result ≡ section_of (open_so_far self.now.batch) }
     {
-        let name = Vec::from_slice(alloc, buffer.name.as_slice())?;
-        let number = self.buffers.len() as u32;
-        // Room comes first, so that the name never stands in the map without its buffer.
-        self.buffers.reserve(1)?;
-        self.names.insert(name, NamedItem::Buffer(number))?;
-        self.bytes += buffer.size;
-        let Ok(()) = self.buffers.push(buffer) else {
-            unreachable!()
-        };
-        Ok(())
-    }
-
-    /// Declares a timeline, a binary semaphore or a fence, whose name is new. For want of memory
-    /// all stays as it was.
-    pub fn add_semaphore(&mut self, alloc: Global, semaphore: Semaphore) -> Result<(), AllocError>
-        requires room { length self.old.semaphores.items < 256 }
-        requires fresh { is_taken self.old.buffers.items self.old.semaphores.items
-            self.old.queues.items semaphore.name ≡ false }
-        ensures added { OnOk result (kept self.new ≡ with_semaphore (kept self.old) semaphore) }
-        ensures stays { OnErr result (kept self.new ≡ kept self.old) }
-    {
-        let name = Vec::from_slice(alloc, semaphore.name.as_slice())?;
-        let item = semaphore_item(semaphore.kind, self.semaphores.len() as u32);
-        // Room comes first, so that the name never stands in the map without its semaphore.
-        self.semaphores.reserve(1)?;
-        self.names.insert(name, item)?;
-        let Ok(()) = self.semaphores.push(semaphore) else {
-            unreachable!()
-        };
-        Ok(())
-    }
-
-    /// Declares a queue, whose name is new. For want of memory all stays as it was.
-    pub fn add_queue(&mut self, alloc: Global, queue: Queue) -> Result<(), AllocError>
-        requires room { length self.old.queues.items < 8 }
-        requires fresh { is_taken self.old.buffers.items self.old.semaphores.items
-            self.old.queues.items queue.name ≡ false }
-        ensures added { OnOk result (kept self.new ≡ with_queue (kept self.old) queue) }
-        ensures stays { OnErr result (kept self.new ≡ kept self.old) }
-    {
-        let name = Vec::from_slice(alloc, queue.name.as_slice())?;
-        let number = self.queues.len() as u32;
-        // Room comes first, so that the name never stands in the map without its queue.
-        self.queues.reserve(1)?;
-        self.names.insert(name, NamedItem::Queue(number))?;
-        let Ok(()) = self.queues.push(queue) else {
-            unreachable!()
-        };
-        Ok(())
-    }
-
-    /// The number of the buffer of this name.
-    pub fn buffer_at(&self, name: &[u8]) -> Option<u32>
-        ensures { result ≡ position (names_buffer name.now) self.now.buffers.items }
-    {
-        match self.names.get(name) {
-            Some(item) => item.buffer(),
-            None => None,
+        match self.batch {
+            None => Section::Outside,
+            Some(_) => Section::InBatch,
         }
     }
 
-    /// The size of a buffer.
-    pub fn size_of(&self, buffer: u32) -> u32
-        ensures { result ≡ option_map_or (λ b. b.size) (slice_get self.now.buffers.items buffer) 0 }
+    /// The number of what has this name, if it is of the kind that a place needs.
+    #[tactic(auto, unfolding(crate::specs::LineTests::number_of))]
+    pub fn number_of(&self, place: Token, name: &[u8]) -> Option<u32>
+        ensures { result ≡ number_of (kept self.now) (place_of place) name.now }
     {
-        match self.buffers.get(buffer as usize) {
-            Some(buffer) => buffer.size,
-            None => 0,
-        }
-    }
-
-    /// The number of the timeline of this name.
-    pub fn timeline_at(&self, name: &[u8]) -> Option<u32>
-        ensures { result ≡ position (names_timeline name.now) self.now.semaphores.items }
-    {
-        match self.names.get(name) {
-            Some(item) => item.timeline(),
-            None => None,
-        }
-    }
-
-    /// The number of the binary semaphore of this name.
-    pub fn binary_at(&self, name: &[u8]) -> Option<u32>
-        ensures { result ≡ position (names_binary name.now) self.now.semaphores.items }
-    {
-        match self.names.get(name) {
-            Some(item) => item.binary(),
-            None => None,
-        }
-    }
-
-    /// The number of the fence of this name.
-    pub fn fence_at(&self, name: &[u8]) -> Option<u32>
-        ensures { result ≡ position (names_fence name.now) self.now.semaphores.items }
-    {
-        match self.names.get(name) {
-            Some(item) => item.fence(),
-            None => None,
-        }
-    }
-
-    /// The number of the queue of this name.
-    pub fn queue_at(&self, name: &[u8]) -> Option<u32>
-        ensures { result ≡ position (names_queue name.now) self.now.queues.items }
-    {
-        match self.names.get(name) {
-            Some(item) => item.queue(),
-            None => None,
-        }
-    }
-
-    /// Whether a queue is immediate.
-    pub fn is_immediate(&self, queue: u32) -> bool
-        ensures { result ≡ option_map_or (λ q. is_immediate q.mode)
-            (slice_get self.now.queues.items queue) false }
-    {
-        match self.queues.get(queue as usize) {
-            Some(queue) => queue.mode == Mode::Immediate,
-            None => false,
-        }
+        self.names.get(name)?.number(place)
     }
 
     /// Whether something that is declared has this name.
@@ -219,47 +107,150 @@ impl Known {
         self.names.contains_key(name)
     }
 
-    /// Whether a batch has ended.
+    /// The size of a buffer.
+    pub fn size_of(&self, buffer: u32) -> u32
+        ensures { result ≡ size_in (kept self.now) buffer }
+    {
+        match self.buffers.get(buffer as usize) {
+            Some(buffer) => buffer.size,
+            None => 0,
+        }
+    }
+
+    /// Whether the open batch is of an immediate queue.
+    pub fn is_batch_immediate(&self) -> bool
+        ensures { result ≡ is_immediate_in (kept self.now) (open_so_far self.now.batch) }
+    {
+        match &self.batch {
+            None => false,
+            Some(batch) => self.is_immediate(batch.queue),
+        }
+    }
+
+    /// Whether a queue is immediate.
+    fn is_immediate(&self, queue: u32) -> bool
+        ensures { result ≡ option_map_or (λ q. is_immediate q.mode)
+            (slice_get self.now.queues.items queue) false }
+    {
+        match self.queues.get(queue as usize) {
+            Some(queue) => queue.mode == Mode::Immediate,
+            None => false,
+        }
+    }
+
+    /// Whether a batch has begun.
     pub fn has_begun(&self) -> bool
-        ensures { result ≡ nat_lt 0 (length self.now.jobs.items) }
+        ensures { result ≡ (is_some (open_so_far self.now.batch)
+            || nat_lt 0 (length self.now.jobs.items)) }
     {
-        !self.jobs.is_empty()
+        self.batch.is_some() || !self.jobs.is_empty()
     }
 
-    /// Whether one buffer more, of so many bytes, is too much.
-    pub fn lacks_room(&self, size: u64) -> bool
-        ensures { result ≡ (not (nat_lt (length self.now.buffers.items) 64)
-            || nat_lt 1048576 (self.now.bytes + size)) }
+    /// The last part of the open batch of which there is a line, 0 where there is none.
+    pub fn last_part(&self) -> u32
+        ensures { result ≡ last_part (open_so_far self.now.batch) }
     {
-        self.buffers.len() >= limits::BUFFERS || size > u64::from(limits::BYTES - self.bytes)
+        match &self.batch {
+            None => 0,
+            Some(batch) => batch.last_part(),
+        }
     }
 
-    /// Whether one timeline, binary semaphore or fence more is too much.
-    pub fn has_all_semaphores(&self) -> bool
-        ensures { result ≡ not (nat_lt (length self.now.semaphores.items) 256) }
+    /// Whether the open batch names a fence.
+    pub fn has_fence(&self) -> bool
+        ensures { result ≡ is_some (named_fence (open_so_far self.now.batch)) }
     {
-        self.semaphores.len() >= limits::SEMAPHORES
+        match &self.batch {
+            None => false,
+            Some(batch) => batch.fence.is_some(),
+        }
     }
 
-    /// Whether one queue more is too much.
-    pub fn has_all_queues(&self) -> bool
-        ensures { result ≡ not (nat_lt (length self.now.queues.items) 8) }
+    /// Whether one wait more is too much.
+    pub fn has_all_waits(&self) -> bool
+        ensures { result ≡ not (nat_lt (length (waits_of (open_so_far self.now.batch)))
+            (limits_of 1).waits) }
     {
-        self.queues.len() >= limits::QUEUES
+        match &self.batch {
+            None => false,
+            Some(batch) => batch.waits.len() >= limits::BATCH_WAITS,
+        }
     }
 
-    /// Whether one job more is too much.
-    pub fn has_all_jobs(&self) -> bool
-        ensures { result ≡ not (nat_lt (length self.now.jobs.items) 4096) }
+    /// Whether one command more is too much, in all or in the open batch.
+    pub fn has_all_commands(&self) -> bool
+        ensures { result ≡ (not (nat_lt self.now.commands (limits_of 1).commands)
+            || not (nat_lt (length (commands_of (open_so_far self.now.batch)))
+            (limits_of 1).batch_commands)) }
     {
-        self.jobs.len() >= limits::JOBS
+        match &self.batch {
+            None => self.commands >= limits::COMMANDS,
+            Some(batch) => {
+                self.commands >= limits::COMMANDS || batch.commands.len() >= limits::BATCH_COMMANDS
+            }
+        }
     }
 
-    /// Whether one command more is too much, in all or in a batch.
-    pub fn has_all_commands(&self, batch: &OpenBatch) -> bool
-        ensures { result ≡ (not (nat_lt self.now.commands 8192)
-            || not (nat_lt (length batch.now.commands.items) 64)) }
+    /// Whether one signal more is too much.
+    pub fn has_all_signals(&self) -> bool
+        ensures { result ≡ not (nat_lt (length (signals_of (open_so_far self.now.batch)))
+            (limits_of 1).signals) }
     {
-        self.commands >= limits::COMMANDS || batch.commands.len() >= limits::BATCH_COMMANDS
+        match &self.batch {
+            None => false,
+            Some(batch) => batch.signals.len() >= limits::BATCH_SIGNALS,
+        }
+    }
+
+    /// Declares a buffer, whose name is new. For want of memory all stays as it was.
+    pub fn add_buffer(&mut self, alloc: Global, buffer: Buffer) -> Result<(), AllocError>
+        requires room { length self.old.buffers.items < (limits_of 1).buffers }
+        requires few_bytes { self.old.bytes + buffer.size ≤ (limits_of 1).bytes }
+        requires fresh { is_taken self.old.buffers.items self.old.semaphores.items
+            self.old.queues.items buffer.name ≡ false }
+        ensures added { OnOk result (kept self.new ≡ with_buffer (kept self.old) buffer) }
+        ensures open { self.new.batch ≡ self.old.batch }
+    {
+        let name = Vec::from_slice(alloc, buffer.name.as_slice())?;
+        let item = NamedItem::Buffer(self.buffers.len() as u32);
+        // Room comes first, so that the name never stands in the map without its buffer.
+        self.buffers.reserve(1)?;
+        self.names.insert(name, item)?;
+        self.bytes += buffer.size;
+        self.buffers.push_reserved(buffer);
+        Ok(())
+    }
+
+    /// Declares a timeline, a binary semaphore or a fence, whose name is new. For want of memory
+    /// all stays as it was.
+    pub fn add_semaphore(&mut self, alloc: Global, semaphore: Semaphore) -> Result<(), AllocError>
+        requires room { length self.old.semaphores.items < (limits_of 1).semaphores }
+        requires fresh { is_taken self.old.buffers.items self.old.semaphores.items
+            self.old.queues.items semaphore.name ≡ false }
+        ensures added { OnOk result (kept self.new ≡ with_semaphore (kept self.old) semaphore) }
+        ensures open { self.new.batch ≡ self.old.batch }
+    {
+        let name = Vec::from_slice(alloc, semaphore.name.as_slice())?;
+        let item = semaphore_item(semaphore.kind, self.semaphores.len() as u32);
+        self.semaphores.reserve(1)?;
+        self.names.insert(name, item)?;
+        self.semaphores.push_reserved(semaphore);
+        Ok(())
+    }
+
+    /// Declares a queue, whose name is new. For want of memory all stays as it was.
+    pub fn add_queue(&mut self, alloc: Global, queue: Queue) -> Result<(), AllocError>
+        requires room { length self.old.queues.items < (limits_of 1).queues }
+        requires fresh { is_taken self.old.buffers.items self.old.semaphores.items
+            self.old.queues.items queue.name ≡ false }
+        ensures added { OnOk result (kept self.new ≡ with_queue (kept self.old) queue) }
+        ensures open { self.new.batch ≡ self.old.batch }
+    {
+        let name = Vec::from_slice(alloc, queue.name.as_slice())?;
+        let item = NamedItem::Queue(self.queues.len() as u32);
+        self.queues.reserve(1)?;
+        self.names.insert(name, item)?;
+        self.queues.push_reserved(queue);
+        Ok(())
     }
 }

@@ -1,7 +1,9 @@
 //! What a declared name stands for.
 ghost use Rattle.std.specs.Prelude.{◌≡◌, Some};
-ghost use Rattle.vq_script.specs.Names.{semaphore_item, buffer_in, timeline_in, binary_in, fence_in, queue_in};
+ghost use Rattle.vq_script.specs.Names.{semaphore_item, number_in};
+ghost use Rattle.vq_script.specs.Table.{place_of};
 
+use crate::table::Token;
 use vq_model::script::SemaphoreKind;
 
 /// A buffer, a timeline or binary semaphore, a fence or a queue, by its number. Semaphores and
@@ -16,52 +18,16 @@ pub enum NamedItem {
 }
 
 impl NamedItem {
-    /// The number of the buffer, if it is one.
-    pub fn buffer(self) -> Option<u32>
-        ensures { result ≡ buffer_in (Some self) }
+    /// The number of the item, if it is of the kind that a place needs.
+    pub fn number(self, place: Token) -> Option<u32>
+        ensures { result ≡ number_in (place_of place) (Some self) }
     {
-        match self {
-            NamedItem::Buffer(number) => Some(number),
-            _ => None,
-        }
-    }
-
-    /// The number of the timeline, if it is one.
-    pub fn timeline(self) -> Option<u32>
-        ensures { result ≡ timeline_in (Some self) }
-    {
-        match self {
-            NamedItem::Timeline(number) => Some(number),
-            _ => None,
-        }
-    }
-
-    /// The number of the binary semaphore, if it is one.
-    pub fn binary(self) -> Option<u32>
-        ensures { result ≡ binary_in (Some self) }
-    {
-        match self {
-            NamedItem::Binary(number) => Some(number),
-            _ => None,
-        }
-    }
-
-    /// The number of the fence, if it is one.
-    pub fn fence(self) -> Option<u32>
-        ensures { result ≡ fence_in (Some self) }
-    {
-        match self {
-            NamedItem::Fence(number) => Some(number),
-            _ => None,
-        }
-    }
-
-    /// The number of the queue, if it is one.
-    pub fn queue(self) -> Option<u32>
-        ensures { result ≡ queue_in (Some self) }
-    {
-        match self {
-            NamedItem::Queue(number) => Some(number),
+        match (place, self) {
+            (Token::BufferToken, NamedItem::Buffer(number)) => Some(number),
+            (Token::TimelineToken, NamedItem::Timeline(number)) => Some(number),
+            (Token::BinaryToken, NamedItem::Binary(number)) => Some(number),
+            (Token::FenceToken, NamedItem::Fence(number)) => Some(number),
+            (Token::QueueToken, NamedItem::Queue(number)) => Some(number),
             _ => None,
         }
     }

@@ -1,9 +1,12 @@
 //! A batch that is open.
-ghost use Rattle.std.specs.Prelude.{◌≡◌, not, nat_lt, length, Some};
+ghost use Rattle.std.specs.Prelude.{◌≡◌, OnOk, Some};
+ghost use Rattle.vq_model.specs.ScriptOfLines.{mark};
 ghost use Rattle.vq_script.specs.Holds.{batch_so_far, last_part};
+ghost use Rattle.vq_script.specs.SaidLines.{started, waiting, commanding, signaling, fenced};
 
-use crate::limits;
-use vq_model::script::{CommandLine, Mark};
+use std::alloc::{AllocError, Global};
+use vq_model::list::List;
+use vq_model::script::{Batch, Command, CommandLine, Mark, Pair};
 
 /// A batch whose `end` line hasn't come.
 #[derive(Drop)]
@@ -16,39 +19,102 @@ pub struct OpenBatch {
     pub fence: Option<Mark>,
 }
 
+/// The mark of a line. It holds back the whole batch, if it is a wait.
+fn mark(number: u32, pair: Pair) -> Mark
+    ensures { result ≡ mark number pair 1 }
+{
+    Mark {
+        line: number,
+        semaphore: pair.semaphore,
+        value: pair.value,
+        from: 1,
+    }
+}
+
 impl OpenBatch {
-    /// Whether a wait comes too late: after a command, a signal or the fence.
-    pub fn is_past_waits(&self) -> bool
-        ensures { result ≡ nat_lt 1 (last_part (Some (batch_so_far self.now))) }
+    /// A batch without lines so far.
+    pub fn new(alloc: Global, line: u32, queue: u32) -> OpenBatch
+        ensures { batch_so_far result ≡ started line queue }
     {
-        !self.commands.is_empty() || self.is_past_commands()
+        OpenBatch {
+            line,
+            queue,
+            waits: Vec::new(alloc),
+            commands: Vec::new(alloc),
+            signals: Vec::new(alloc),
+            fence: None,
+        }
     }
 
-    /// Whether a command comes too late: after a signal or the fence.
-    pub fn is_past_commands(&self) -> bool
-        ensures { result ≡ nat_lt 2 (last_part (Some (batch_so_far self.now))) }
+    /// The last part of the batch of which there is a line: 1 for its waits, 2 for its commands, 3 for its signals, 4 for
+    /// its fence.
+    pub fn last_part(&self) -> u32
+        ensures { result ≡ last_part (Some (batch_so_far self.now)) }
     {
-        !self.signals.is_empty() || self.is_past_signals()
+        if self.fence.is_some() {
+            4
+        } else if !self.signals.is_empty() {
+            3
+        } else if !self.commands.is_empty() {
+            2
+        } else if !self.waits.is_empty() {
+            1
+        } else {
+            0
+        }
     }
 
-    /// Whether a signal comes too late: after the fence.
-    pub fn is_past_signals(&self) -> bool
-        ensures { result ≡ nat_lt 3 (last_part (Some (batch_so_far self.now))) }
+    /// Adds the wait of a line.
+    pub fn add_wait(&mut self, number: u32, pair: Pair) -> Result<(), AllocError>
+        ensures { OnOk result (batch_so_far self.new ≡ waiting (batch_so_far self.old) number pair) }
     {
-        self.fence.is_some()
+        self.waits.push(mark(number, pair))?;
+        Ok(())
     }
 
-    /// Whether one wait more is too much.
-    pub fn has_all_waits(&self) -> bool
-        ensures { result ≡ not (nat_lt (length self.now.waits.items) 16) }
+    /// Adds the command of a line.
+    pub fn add_command(&mut self, number: u32, command: Command) -> Result<(), AllocError>
+        ensures { OnOk result (batch_so_far self.new ≡ commanding (batch_so_far self.old) number command) }
     {
-        self.waits.len() >= limits::BATCH_WAITS
+        self.commands.push(CommandLine {
+            line: number,
+            command,
+        })?;
+        Ok(())
     }
 
-    /// Whether one signal more is too much.
-    pub fn has_all_signals(&self) -> bool
-        ensures { result ≡ not (nat_lt (length self.now.signals.items) 16) }
+    /// Adds the signal of a line.
+    pub fn add_signal(&mut self, number: u32, pair: Pair) -> Result<(), AllocError>
+        ensures { OnOk result (batch_so_far self.new ≡ signaling (batch_so_far self.old) number pair) }
     {
-        self.signals.len() >= limits::BATCH_SIGNALS
+        self.signals.push(mark(number, pair))?;
+        Ok(())
+    }
+
+    /// Adds the fence of a line.
+    pub fn add_fence(&mut self, number: u32, semaphore: u32)
+        ensures { batch_so_far self.new ≡ fenced (batch_so_far self.old) number semaphore }
+    {
+        self.fence = Some(mark(
+            number,
+            Pair {
+                semaphore,
+                value: 0,
+            },
+        ));
+    }
+
+    /// The batch, where it ends.
+    pub fn end(self) -> Batch
+        ensures { result ≡ batch_so_far self }
+    {
+        Batch {
+            line: self.line,
+            queue: self.queue,
+            waits: List::of(self.waits),
+            commands: List::of(self.commands),
+            signals: List::of(self.signals),
+            fence: self.fence,
+        }
     }
 }

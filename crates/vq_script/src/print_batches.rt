@@ -1,7 +1,7 @@
 //! The lines of a canonical text that are batches.
 ghost use Rattle.std.specs.Prelude.{◌≡◌, ◌++◌, ◌∷◌, [], OnOk, All};
 ghost use Rattle.std.specs.List.{flat_map};
-ghost use Rattle.vq_model.specs.ValidScripts.{AreWholeBatches};
+ghost use Rattle.vq_model.specs.Built.{HasNoHostStep, HasWholeWaits};
 ghost use Rattle.vq_model.specs.Canonical.{semaphore_name, semaphore_kind, queue_name, mark_words, wait_words, signal_words, fence_lines, job_words, line_text};
 
 use crate::print_commands::push_commands;
@@ -142,7 +142,9 @@ pub(crate) fn push_jobs(
     script: &Script,
     jobs: &[Job],
 ) -> Result<(), AllocError>
-    requires { AreWholeBatches script.now jobs.now }
+    requires written { jobs.now ≡ script.now.jobs }
+    requires hostless { HasNoHostStep script.now }
+    requires whole { HasWholeWaits script.now }
     ensures { OnOk result (out.new.items ≡ out.old.items
         ++ flat_map (λ j. flat_map line_text (job_words script.now j)) jobs.now) }
 {

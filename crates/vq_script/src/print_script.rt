@@ -1,26 +1,12 @@
 //! The canonical text of a script.
 ghost use Rattle.std.specs.Prelude.{◌≡◌, IfOk};
 ghost use Rattle.vq_model.specs.SameScript.{IsScript};
-ghost use Rattle.vq_model.specs.ValidScripts.{IsOfBatches};
 ghost use Rattle.vq_model.specs.Canonical.{canonical_text};
 
 use crate::print_batches::push_jobs;
 use crate::print_declarations::{push_buffers, push_queues, push_semaphores};
 use std::alloc::{AllocError, Global};
 use vq_model::script::Script;
-
-/// The canonical text of a script of batches.
-fn print_batches(alloc: Global, script: &Script) -> Result<Vec<u8>, AllocError>
-    requires { IsOfBatches script.now }
-    ensures { IfOk result (λ text. text.items ≡ canonical_text script.now) }
-{
-    let mut out = Vec::new(alloc);
-    push_buffers(alloc, &mut out, script.buffers.as_slice())?;
-    push_semaphores(alloc, &mut out, script.semaphores.as_slice())?;
-    push_queues(&mut out, script.queues.as_slice())?;
-    push_jobs(alloc, &mut out, script, script.jobs.as_slice())?;
-    Ok(out)
-}
 
 /// The canonical text of a script: one space between words, no comment, and a line feed after each
 /// line. The buffers come first, then the timelines, binary semaphores and fences, then the queues,
@@ -34,5 +20,10 @@ pub fn print(alloc: Global, script: &Script) -> Result<Vec<u8>, AllocError>
     requires { IsScript script.now }
     ensures { IfOk result (λ text. text.items ≡ canonical_text script.now) }
 {
-    print_batches(alloc, script)
+    let mut out = Vec::new(alloc);
+    push_buffers(alloc, &mut out, script.buffers.as_slice())?;
+    push_semaphores(alloc, &mut out, script.semaphores.as_slice())?;
+    push_queues(&mut out, script.queues.as_slice())?;
+    push_jobs(alloc, &mut out, script, script.jobs.as_slice())?;
+    Ok(out)
 }

@@ -1,166 +1,102 @@
 //! A text, read line by line.
-ghost use Rattle.std.specs.Prelude.{◌≡◌, ◌<◌, ◌-◌, ◌^◌, IsTrue, nat_lt, List, [], length, None, Some, IfOk, IfErr};
+ghost use Rattle.std.specs.Prelude.{◌≡◌, ◌<◌, ◌-◌, ◌^◌, IsTrue, nat_lt, List, [], length, IfOk, IfErr};
 ghost use Rattle.vq_model.specs.declared.statement.Line.{Line};
-ghost use Rattle.vq_model.specs.Text.{lines_of};
-ghost use Rattle.vq_model.specs.Forms.{forms_outside, forms_in_batch};
+ghost use Rattle.vq_model.specs.Text.{lines_of, words_of};
 ghost use Rattle.vq_model.specs.Reading.{read_lines, read_script, StandsFor};
-ghost use Rattle.vq_script.specs.Holds.{Keeps, batch_so_far, open_so_far};
+ghost use Rattle.vq_script.specs.Faults.{Means};
+ghost use Rattle.vq_script.specs.Holds.{Keeps, open_so_far};
+ghost use Rattle.vq_script.specs.OpenWords.{opens};
 ghost use Rattle.vq_script.specs.Outcomes.{Gives, IsFirst};
-ghost use Rattle.vq_script.specs.Reads.{TakesForm, Reads, ReadsLine, script_from};
+ghost use Rattle.vq_script.specs.Reads.{Takes, Reads, script_from};
+ghost use Rattle.vq_script.specs.SaidLines.{AreFound, Stands};
 ghost use Rattle.vq_script.specs.Words.{texts};
 
-use crate::batches::{end_line, submit_line};
-use crate::commands::{copy_line, fill_line, fill_whole_line, update_line};
-use crate::declarations::{binary_line, buffer_line, fence_line, queue_line, timeline_line};
-use crate::fault::{ScriptFault, Stop};
-use crate::forms::{Found, form_in_batch, form_outside};
+use crate::fault::ScriptFault;
 use crate::known::Known;
+use crate::line_faults::said_by;
 use crate::lines::next_line;
-use crate::marks::{
-    batch_fence_line, signal_binary_line, signal_timeline_line, wait_binary_line,
-    wait_timeline_line,
-};
-use crate::open_batch::OpenBatch;
+use crate::open_words::{OpenWord, find_open};
+use crate::table::form_of;
 use crate::words::{are_plain, find_words};
 use std::alloc::Global;
 use vq_model::script::Script;
-use vq_model::statement::{FaultKind, Form};
+use vq_model::statement::{FaultKind, Form, LineForm};
 
-/// Reads the words of a line outside a batch, and gives the batch that is open after it. Words of
-/// no form that is built are Syntax.
-fn outside_line(
+/// Reads a line of a form, whose words these are.
+fn read_open(
     alloc: Global,
     known: &mut Known,
     number: u32,
-    words: &[&[u8]],
-) -> Result<Option<OpenBatch>, Stop>
-    ensures { (lines : List Line) → Keeps lines known.old None →
-        TakesForm lines number (texts words.now) forms_outside result known.new }
+    form: LineForm,
+    words: &[OpenWord<'_>],
+) -> Result<(), ScriptFault>
+    requires found { AreFound form (opens words.now) }
+    requires stands { Stands form (open_so_far known.old.batch) }
+    ensures { (lines : List Line) → Keeps lines known.old → Means lines (form, opens words.now) →
+        Takes lines number (form, opens words.now) result known.new }
 {
-    let Some(found) = form_outside(words) else {
-        return Err(Stop::Fault(FaultKind::Syntax));
-    };
-    match found {
-        Found::Buffer { name, size } => buffer_line(alloc, known, number, name, size),
-        Found::Timeline { name, value } => timeline_line(alloc, known, number, name, value),
-        Found::Binary { name } => binary_line(alloc, known, number, name),
-        Found::Fence { name } => fence_line(alloc, known, number, name),
-        Found::Queue { name, mode } => queue_line(alloc, known, number, name, mode),
-        Found::Submit { queue } => submit_line(alloc, known, number, queue),
-        _ => Err(Stop::Fault(FaultKind::Syntax)),
+    match said_by(known, form, words) {
+        Ok(said) => {
+            known.add(alloc, number, said)?;
+            Ok(())
+        }
+        Err(kind) => Err(ScriptFault::At { line: number, kind }),
     }
 }
 
-/// Reads the words of a line in a batch, and gives the batch that is open after it. Words of no
-/// form are Syntax.
-fn batch_line(
+/// Reads the words of a line. A line without words says nothing.
+fn read_words<'a>(
     alloc: Global,
     known: &mut Known,
-    batch: OpenBatch,
     number: u32,
-    words: &[&[u8]],
-) -> Result<Option<OpenBatch>, Stop>
-    ensures { (lines : List Line) → Keeps lines known.old (Some (batch_so_far batch)) →
-        TakesForm lines number (texts words.now) forms_in_batch result known.new }
-{
-    let Some(found) = form_in_batch(words) else {
-        return Err(Stop::Fault(FaultKind::Syntax));
-    };
-    match found {
-        Found::FillWhole {
-            buffer,
-            offset,
-            word,
-        } => fill_whole_line(known, batch, number, buffer, offset, word),
-        Found::Fill {
-            buffer,
-            offset,
-            size,
-            word,
-        } => fill_line(known, batch, number, buffer, offset, size, word),
-        Found::Update {
-            buffer,
-            offset,
-            digits,
-        } => update_line(alloc, known, batch, number, buffer, offset, digits),
-        Found::Copy {
-            source,
-            target,
-            size,
-        } => copy_line(known, batch, number, source, target, size),
-        Found::WaitTimeline { timeline, value } => {
-            wait_timeline_line(known, batch, number, timeline, value)
-        }
-        Found::WaitBinary { semaphore } => wait_binary_line(known, batch, number, semaphore),
-        Found::SignalTimeline { timeline, value } => {
-            signal_timeline_line(known, batch, number, timeline, value)
-        }
-        Found::SignalBinary { semaphore } => signal_binary_line(known, batch, number, semaphore),
-        Found::BatchFence { fence } => batch_fence_line(known, batch, number, fence),
-        Found::End => end_line(known, batch, number),
-        // No other form stands in a batch.
-        _ => unreachable!(),
-    }
-}
-
-/// Reads the words of a line, and gives the batch that is open after it. A line without words says
-/// nothing.
-fn words_line(
-    alloc: Global,
-    known: &mut Known,
-    batch: Option<OpenBatch>,
-    number: u32,
-    words: &[&[u8]],
-) -> Result<Option<OpenBatch>, Stop>
-    ensures { (form : Form) (lines : List Line) → Keeps lines known.old (open_so_far batch) →
+    words: &[&'a [u8]],
+    open: &mut Vec<OpenWord<'a>>,
+) -> Result<(), ScriptFault>
+    ensures { (form : Form) (lines : List Line) → Keeps lines known.old →
         Reads form lines number (texts words.now) result known.new }
 {
     if words.is_empty() {
-        return Ok(batch);
+        return Ok(());
     }
     if !are_plain(words) {
-        return Err(Stop::Fault(FaultKind::Syntax));
+        return Err(ScriptFault::At {
+            line: number,
+            kind: FaultKind::Syntax,
+        });
     }
-    match batch {
-        None => outside_line(alloc, known, number, words),
-        Some(batch) => batch_line(alloc, known, batch, number, words),
-    }
+    let Some(form) = form_of(known.section(), words) else {
+        return Err(ScriptFault::At {
+            line: number,
+            kind: FaultKind::Syntax,
+        });
+    };
+    find_open(form, words, open)?;
+    read_open(alloc, known, number, form, open)
 }
 
-/// Reads a line, and gives the batch that is open after it. Its words take the place of those of
-/// the line before.
+/// Reads a line. Its words take the place of those of the line before.
 fn read_line<'a>(
     alloc: Global,
     known: &mut Known,
-    batch: Option<OpenBatch>,
     number: u32,
     line: &'a [u8],
     words: &mut Vec<&'a [u8]>,
-) -> Result<Option<OpenBatch>, ScriptFault>
-    ensures { (form : Form) (lines : List Line) → Keeps lines known.old (open_so_far batch) →
-        ReadsLine form lines number line.now result known.new }
+    open: &mut Vec<OpenWord<'a>>,
+) -> Result<(), ScriptFault>
+    ensures { (form : Form) (lines : List Line) → Keeps lines known.old →
+        Reads form lines number (words_of line.now) result known.new }
 {
     find_words(line, words)?;
-    match words_line(alloc, known, batch, number, words) {
-        Ok(next) => Ok(next),
-        Err(Stop::Fault(kind)) => Err(ScriptFault::At { line: number, kind }),
-        Err(Stop::NoMemory) => Err(ScriptFault::Memory),
-    }
+    read_words(alloc, known, number, words, open)
 }
 
 /// The script, where the text may end here. The line after the last is Syntax where a batch is
 /// open, or where the form asks for a schedule.
-fn finish(
-    alloc: Global,
-    form: Form,
-    known: Known,
-    batch: Option<OpenBatch>,
-    number: u32,
-) -> Result<Script, ScriptFault>
-    ensures { (lines : List Line) → Keeps lines known (open_so_far batch) →
+fn finish(alloc: Global, form: Form, known: Known, number: u32) -> Result<Script, ScriptFault>
+    ensures { (lines : List Line) → Keeps lines known →
         Gives result (script_from (read_lines form lines number [])) }
 {
-    match (form, batch) {
+    match (form, &known.batch) {
         (Form::Plain, None) => Ok(known.into_script(alloc)),
         _ => Err(ScriptFault::At {
             line: number,
@@ -225,14 +161,14 @@ pub fn parse(alloc: Global, bytes: &[u8], form: Form) -> Result<Script, ScriptFa
     ensures fault { IfErr result (λ fault. IsFirst bytes.now form fault) }
 {
     let mut known = Known::new(alloc);
-    let mut batch = None;
     let mut words = Vec::new(alloc);
+    let mut open = Vec::new(alloc);
     let mut number: u32 = 1;
     let mut rest = bytes;
     while let Some((line, after)) = next_line(rest) {
-        batch = read_line(alloc, &mut known, batch, number, line, &mut words)?;
+        read_line(alloc, &mut known, number, line, &mut words, &mut open)?;
         rest = after;
         number += 1;
     }
-    finish(alloc, form, known, batch, number)
+    finish(alloc, form, known, number)
 }

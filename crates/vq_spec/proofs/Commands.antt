@@ -12,14 +12,14 @@ use Rattle.vq_model.proofs.Gets.{get_some, get_within}
 use Rattle.vq_model.specs.declared.script.Script.{Script}
 use Rattle.vq_model.specs.Plan.{Plan}
 use Rattle.vq_model.specs.Lowering.{plan_of}
-use Rattle.vq_spec.specs.declared.places.Place.{Place}
+use Rattle.vq_spec.specs.declared.places.CommandAt.{CommandAt}
 use Rattle.vq_spec.specs.declared.lowering.Tables.{Tables}
-use Rattle.vq_spec.specs.Kept.{KeepsPlan}
+use Rattle.vq_spec.specs.PlanTables.{KeepsPlan}
 use Rattle.vq_spec.specs.Places.{command_there, places_of}
 
 -- a command whose place is known
-pub at_place : (jobs : List Job) (places : List Place) (commands : List CommandLine) (c : ℕ)
-    (p : Place) → map (command_there jobs) places ≡ map Some commands → c < length commands →
+pub at_place : (jobs : List Job) (places : List CommandAt) (commands : List CommandLine) (c : ℕ)
+    (p : CommandAt) → map (command_there jobs) places ≡ map Some commands → c < length commands →
     p ≡ get_or places c p → command_there jobs p ≡ slice_get commands c
 at_place jobs places [] c p e l r = absurd (omega arith)
 at_place jobs [] (x ∷ commands) c p e l r = absurd (let h = ap length e in omega arith)
@@ -30,13 +30,13 @@ at_place jobs (q ∷ places) (x ∷ commands) (suc c) p e l r =
     commands c p t (omega arith) r
 
 -- the places of one command more
-pub places_push : (old now new : List Place) (job k : ℕ) → now ≡ old ++ places_of job k →
+pub places_push : (old now new : List CommandAt) (job k : ℕ) → now ≡ old ++ places_of job k →
     new ≡ now ++ record { job = job; place = k } ∷ [] → new ≡ old ++ places_of job (k + 1)
 places_push old now new job k a b =
     b ∙ (ap (λ ps. ps ++ record { job = job; place = k } ∷ []) a
     ∙ (append_assoc old (places_of job k) (record { job = job; place = k } ∷ [])
     ∙ ap (λ ps. old ++ ps) (sym
-    (map-range_with_len_more {X = Place} (λ n. record { job = job; place = n }) 0 k k
+    (map-range_with_len_more {X = CommandAt} (λ n. record { job = job; place = n }) 0 k k
     (zero-add k)))))
 
 -- the commands at the places of a job
@@ -45,7 +45,7 @@ pub job_places : (jobs : List Job) (j : ℕ) (job : Job) (count : ℕ) → slice
     map (command_there jobs) (places_of j count) ≡ map Some (batch_commands job)
 job_places jobs j job count e n =
     same_lists _ _ (length-map (places_of j count) (command_there jobs)
-    ∙ (length-map-range_with_len {X = Place} (λ k. record { job = j; place = k }) 0 count
+    ∙ (length-map-range_with_len {X = CommandAt} (λ k. record { job = j; place = k }) 0 count
     ∙ (n ∙ sym (length-map (batch_commands job) Some)))) (λ k d l. at_place k d l)
   where
     by_command : (k : ℕ) (d : Option CommandLine) → k < count →
@@ -53,16 +53,16 @@ job_places jobs j job count e n =
         get_or (map (command_there jobs) (places_of j count)) k d
         ≡ get_or (map Some (batch_commands job)) k d
     by_command k d inside found =
-        let p : Place = record { job = j; place = k } in
+        let p : CommandAt = record { job = j; place = k } in
         let there : k < length (places_of j count) = omega (
           arith,
-          length-map-range_with_len {X = Place} (λ k. record { job = j; place = k }) 0
+          length-map-range_with_len {X = CommandAt} (λ k. record { job = j; place = k }) 0
               count,
         ) in
         let here : k < length (batch_commands job) = omega arith in
         get_or-map (command_there jobs) (places_of j count) k p d there
         ∙ (ap (command_there jobs)
-        (get_or-map-range_with_len {X = Place} (λ k. record { job = j; place = k }) 0 count k k
+        (get_or-map-range_with_len {X = CommandAt} (λ k. record { job = j; place = k }) 0 count k k
         p inside (zero-add k))
         ∙ (ap (λ o. option_map_or (λ job. slice_get (batch_commands job) k) o None) e
         ∙ (found.1
@@ -78,15 +78,15 @@ job_places jobs j job count e n =
           arith,
           length-map (places_of j count) (command_there jobs),
           length-map-range_with_len
-              {X = Place} (λ k. record { job = j; place = k }) 0 count,
+              {X = CommandAt} (λ k. record { job = j; place = k }) 0 count,
         ) in
         by_command k d inside (get_some (batch_commands job) k (omega arith))
 
 -- the places of one job more
-pub map-command_there-push : (jobs : List Job) (places : List Place) (j : ℕ) (job : Job)
+pub map-command_there-push : (jobs : List Job) (places : List CommandAt) (j : ℕ) (job : Job)
     (before after : List CommandLine) → slice_get jobs j ≡ Some job →
     map (command_there jobs) places ≡ map Some before → after ≡ before ++ batch_commands job →
-    (new : List Place) → new ≡ places ++ places_of j (length (batch_commands job)) →
+    (new : List CommandAt) → new ≡ places ++ places_of j (length (batch_commands job)) →
     map (command_there jobs) new ≡ map Some after
 map-command_there-push jobs places j job before after e a b new c =
     ap (map (command_there jobs)) c
@@ -96,7 +96,7 @@ map-command_there-push jobs places j job before after e a b new c =
 
 -- a command that a plan keeps the place of
 pub kept_command : (s : Script) (t : Tables) → KeepsPlan s t → (now : Plan) → plan_of s ≡ now →
-    (c : ℕ) → c < length now.commands → (p : Place) → p ≡ get_or t.places.items c p →
+    (c : ℕ) → c < length now.commands → (p : CommandAt) → p ≡ get_or t.places.items c p →
     (x : CommandLine) × (slice_get now.commands c ≡ Some x) × (command_there s.jobs p ≡ Some x)
 kept_command s t k now e c l p r = by_command (get_some now.commands c l)
   where
@@ -112,7 +112,7 @@ kept_command s t k now e c l p r = by_command (get_some now.commands c l)
         )
 
 -- the job of a place exists
-pub job_within : (jobs : List Job) (p : Place) (x : CommandLine) → command_there jobs p ≡ Some x →
+pub job_within : (jobs : List Job) (p : CommandAt) (x : CommandLine) → command_there jobs p ≡ Some x →
     p.job < length jobs
 job_within jobs p x e = by_case (slice_get jobs p.job) refl
   where
@@ -123,7 +123,7 @@ job_within jobs p x e = by_case (slice_get jobs p.job) refl
     by_case (Some job) at = get_within jobs p.job job at
 
 -- the command is the job's at the place
-pub command_in : (jobs : List Job) (p : Place) (x : CommandLine) (job : Job) →
+pub command_in : (jobs : List Job) (p : CommandAt) (x : CommandLine) (job : Job) →
     command_there jobs p ≡ Some x → slice_get jobs p.job ≡ Some job →
     slice_get (batch_commands job) p.place ≡ Some x
 command_in jobs p x job e at = sym

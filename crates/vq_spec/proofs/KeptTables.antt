@@ -1,20 +1,22 @@
 -- All that is kept of a plan.
-use Rattle.std.proofs.Common.{◌≡◌, ◌<◌, ◌≤◌, ◌^◌, length, map, Some, None, refl, ap, ◌∙◌, arith}
+use Rattle.std.proofs.Common.{◌≡◌, ℕ, ◌<◌, ◌≤◌, ◌^◌, length, map, get_or, zero-add, Some, None, refl, ap, ◌∙◌, arith}
 use Rattle.std.specs.List.{enumerate_from, range_with_len, flat_map}
 use Rattle.std.proofs.lemmas.List.{length-map}
-use Rattle.std.proofs.lemmas.List.FromFn.{length-enumerate_from, length-map-range_with_len}
+use Rattle.std.proofs.lemmas.List.FromFn.{length-enumerate_from, length-map-range_with_len, get_or-map-range_with_len}
 use Rattle.vq_model.specs.declared.script.Script.{Script}
-use Rattle.vq_model.specs.Edges.{edges_to}
 use Rattle.vq_model.specs.Lowering.{plan_of, plan_job}
 use Rattle.vq_model.specs.LoweringFaults.{lowering_fault, IsPlan}
+use Rattle.vq_model.specs.Plan.{Plan}
 use Rattle.vq_model.specs.SameScript.{IsRead}
 use Rattle.vq_model.specs.Signals.{job_signals, all_signals, chain_ops, op_at}
 use Rattle.vq_reading_laws.proofs.Cited.{read_valid}
+use Rattle.vq_spec.specs.declared.edges.JobWaits.{JobWaits}
 use Rattle.vq_spec.specs.declared.lowering.Lowered.{Lowered}
 use Rattle.vq_spec.specs.declared.lowering.Tables.{Tables}
 use Rattle.vq_spec.specs.ChainParts.{AreChains}
 use Rattle.vq_spec.specs.Counts.{AreLowered, first_ops, unplaced}
-use Rattle.vq_spec.specs.Kept.{KeepsPlan}
+use Rattle.vq_spec.specs.Jobs.{waits_of}
+use Rattle.vq_spec.specs.PlanTables.{KeepsPlan}
 use Rattle.vq_spec.specs.Places.{command_there}
 use Rattle.vq_spec.proofs.Lowered.{few_jobs, few_commands, plan_length}
 use Rattle.vq_spec.proofs.PlanChains.{unplaced_ops}
@@ -55,10 +57,10 @@ few_chains s i = (read_valid s i).limits.semaphores
 
 pub kept : (s : Script) → IsRead s → lowering_fault s ≡ None → (t : Tables) →
     t.jobs.items ≡ (plan_of s).jobs →
-    t.edges.items ≡ map (edges_to (plan_of s)) (range_with_len 0 (length t.jobs.items)) →
+    t.waits.items ≡ map (waits_of (plan_of s)) (range_with_len 0 (length t.jobs.items)) →
     map (command_there s.jobs) t.places.items ≡ map Some (plan_of s).commands →
     t.ops.items ≡ (plan_of s).ops → AreChains s t.chains.items → KeepsPlan s t
-kept s i none t jobs edges places ops chains =
+kept s i none t jobs waits places ops chains =
     let jobs_count = few_jobs s i in
     let commands_count = few_commands s i in
     let signals_count = few_signals s i in
@@ -75,7 +77,7 @@ kept s i none t jobs edges places ops chains =
       script = i;
       faultless = none;
       jobs = jobs;
-      edges = edges ∙ ap (λ n. map (edges_to (plan_of s)) (range_with_len 0 n))
+      waits = waits ∙ ap (λ n. map (waits_of (plan_of s)) (range_with_len 0 n))
           (all_jobs ∙ counted);
       places = places;
       ops = ops;
@@ -89,3 +91,26 @@ kept s i none t jobs edges places ops chains =
 -- what is kept is kept of a plan
 pub is_plan : (s : Script) → (t : Tables) → KeepsPlan s t → IsPlan (plan_of s)
 is_plan s t k = record { of_script = k.script; faultless = k.faultless; lowered = refl }
+
+-- what is kept of one job
+module _ (s : Script) (t : Tables) (k : KeepsPlan s t) (p : Plan) (is : plan_of s ≡ p) (j : ℕ)
+    (exists : j < length p.jobs) where
+  pub waits_within : j < length t.waits.items
+  waits_within = omega (
+    arith,
+    ap length k.waits,
+    length-map-range_with_len
+        (waits_of (plan_of s)) 0 (length s.jobs),
+    plan_length s k.script,
+    ap (λ (x : Plan). length x.jobs)
+        is,
+    exists,
+  )
+
+  pub waits_read : (w : JobWaits) → w ≡ get_or t.waits.items j w → w ≡ waits_of p j
+  waits_read w r =
+      let inside : j < length s.jobs = omega
+      (arith, plan_length s k.script, ap (λ (x : Plan). length x.jobs) is, exists) in
+      r ∙ (ap (λ xs. get_or xs j w) k.waits
+      ∙ (get_or-map-range_with_len (waits_of (plan_of s)) 0 (length s.jobs) j j w inside
+      (zero-add j) ∙ ap (λ p. waits_of p j) is))

@@ -12,9 +12,8 @@ use Rattle.vq_model.specs.declared.script.Job.TheVariants.{Host, Batch as BatchJ
 use Rattle.vq_model.specs.declared.script.HostLine.{HostLine}
 use Rattle.vq_model.specs.Lowering.{batch_commands, commands_in, plan_of, plan_job}
 use Rattle.vq_model.specs.SameScript.{IsRead}
-use Rattle.vq_model.specs.ValidScripts.{AreWholeBatches}
 use Rattle.vq_plan_laws.proofs.Cited.{length-batch_commands}
-use Rattle.vq_reading_laws.proofs.Cited.{read_valid, read_of_batches}
+use Rattle.vq_reading_laws.proofs.Cited.{read_valid, read_hostless}
 
 -- Numbers
 
@@ -78,18 +77,10 @@ pub read_job : (jobs seen : List Job) (j : ℕ) (r job : Job) → seen ≡ jobs 
 read_job jobs seen j r job e l read is =
     slice_get_read jobs (length jobs) j r refl l (read ∙ ap (λ xs. get_or xs j r) e) ∙ ap Some is
 
--- no job of a script of batches is a host step
-no_host_there : (s : Script) (jobs : List Job) (j : ℕ) (x : HostLine) → AreWholeBatches s jobs →
-    slice_get jobs j ≡ Some (Host x) → ⊥
-no_host_there s [] j x w e = let c : None ≡ Some (Host x) = e in cc
-no_host_there s (Host h ∷ jobs) j x w e = w
-no_host_there s (BatchJob b ∷ jobs) zero x w e =
-    let c : Some (BatchJob b) ≡ Some (Host x) = e in cc
-no_host_there s (BatchJob b ∷ jobs) (suc j) x w e = no_host_there s jobs j x w.1 e
-
+-- no job of a script that was read is a host step so far
 pub no_host_step : (s : Script) → IsRead s → (j : ℕ) (x : HostLine) →
     slice_get s.jobs j ≡ Some (Host x) → ⊥
-no_host_step s i j x e = no_host_there s s.jobs j x (read_of_batches s i).batches e
+no_host_step s i j x e = read_hostless s i j x e
 
 -- a job of the script, by its place
 pub few_in : (s : Script) → IsRead s → (j : ℕ) (job : Job) → slice_get s.jobs j ≡ Some job →

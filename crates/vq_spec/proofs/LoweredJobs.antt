@@ -1,4 +1,5 @@
 -- One job more is lowered.
+use Rattle.vq_model.specs.declared.script.HostLine.{HostLine}
 use Rattle.std.proofs.Common.{◌≡◌, ℕ, zero, suc, ◌+◌, ◌-◌, ◌<◌, ◌≤◌, Bool, false, cond, List, [], ◌∷◌, ◌++◌, length, get_or, map, take, All, Option, Some, None, refl, sym, ap, ◌∙◌, arith}
 use Rattle.std.proofs.Math.ListN.{set}
 use Rattle.std.specs.List.{count_by, sum_by, slice_get, range_with_len, enumerate_from, flat_map, AllByRecursion}
@@ -19,10 +20,10 @@ use Rattle.vq_model.specs.Lowering.{batch_commands, commands_in, plan_job, lane_
 use Rattle.vq_model.specs.Plan.{same_lane}
 use Rattle.vq_model.specs.SameScript.{IsRead}
 use Rattle.vq_model.specs.Signals.{job_signals, all_signals, signals_semaphore}
-use Rattle.vq_model.specs.ValidScripts.{AreWholeBatches, IsValidBatch, IsValidMark}
+use Rattle.vq_model.specs.ValidScripts.{IsValidBatch, IsValidMark}
 use Rattle.vq_plan_laws.proofs.Cited.{length-batch_commands}
 use Rattle.vq_model.proofs.Gets.{get_within}
-use Rattle.vq_reading_laws.proofs.Cited.{read_batches, read_of_batches}
+use Rattle.vq_reading_laws.proofs.Cited.{read_batches, read_hostless}
 use Rattle.vq_spec.specs.declared.lowering.Lowered.{Lowered}
 use Rattle.vq_spec.specs.Counts.{signals_before, AreSignals, AreLowered, need_by, value_by, batch_job, in_queue, last_of_queues}
 use Rattle.vq_spec.proofs.Lowered.{commands_push, few_up_to}
@@ -52,12 +53,13 @@ last_before-push s j job at test =
     ∙ ap (λ k. cond (test job) (Some k) (last_before s j test)) e)
 
 -- no batch comes after a host step
-no_host : (s : Script) (n j : ℕ) (jobs : List Job) → AreWholeBatches s jobs →
+no_host : (n j : ℕ) (jobs : List Job) →
+    ((i : ℕ) (h : HostLine) → slice_get jobs i ≡ Some (Host h) → ⊥) →
     last_from n (λ x. same_lane HostLane (lane_of x)) (take j jobs) None ≡ None
-no_host s n zero jobs w = refl
-no_host s n (suc j) [] w = refl
-no_host s n (suc j) (Host h ∷ jobs) w = absurd w
-no_host s n (suc j) (BatchJob b ∷ jobs) w = no_host s (n + 1) j jobs w.1
+no_host n zero jobs w = refl
+no_host n (suc j) [] w = refl
+no_host n (suc j) (Host h ∷ jobs) w = absurd (w 0 h refl)
+no_host n (suc j) (BatchJob b ∷ jobs) w = no_host (n + 1) j jobs (λ i h e. w (suc i) h e)
 
 -- Commands
 
@@ -120,7 +122,7 @@ module _ (s : Script) (i : IsRead s) (j : ℕ) (b : Batch) (at : slice_get s.job
   job_is previous needs commands signals e_previous e_needs e_commands e_signals =
       let e : x.commands ≡ sum_by commands_in (take j s.jobs) = k.commands
       ∙ commands_total (take j s.jobs) in
-      let host = no_host s 0 j s.jobs (read_of_batches s i).batches in
+      let host = no_host 0 j s.jobs (read_hostless s i) in
       λ t. record {
         line = b.line;
         lane = QueueLane b.queue;

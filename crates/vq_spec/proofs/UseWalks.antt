@@ -1,4 +1,5 @@
 -- The walk over uses finds the first fault of lowering.
+use Rattle.vq_model.specs.declared.script.HostLine.{HostLine}
 use Rattle.std.proofs.Common.{◌≡◌, ◌≢◌, ℕ, suc, ◌+◌, ◌<◌, Bool, true, false, not, ◌&&◌, cond, eqb, List, [], ◌∷◌, ◌++◌, length, get_or, Option, Some, None, option_map, Result, Ok, Err, refl, sym, ap, ◌∙◌, ◌⊎◌, inl, inr, subst, arith, append_assoc, get_or-set_other, get_or-set_same, zero-add}
 use Rattle.std.proofs.Math.ListN.{set}
 use Rattle.std.specs.List.{flat_map, slice_get}
@@ -21,9 +22,9 @@ use Rattle.vq_model.specs.Context.{is_timeline}
 use Rattle.vq_model.specs.LoweringFaults.{Use, Waited as IsWaited, Signaled as IsSignaled, Named as IsNamed, UseLine, LoweringFault, NoSignal, SignaledTwice, FenceUsed, count_uses, is_signaled, is_waited, is_named, last_use, fault_of_use, use_fault, use_of_mark, uses_of, uses, fault_from, lowering_fault}
 use Rattle.vq_model.specs.SameScript.{IsRead}
 use Rattle.vq_model.specs.Signals.{kind_of, is_timeline_at, is_counted_at}
-use Rattle.vq_model.specs.ValidScripts.{is_fence_at, IsValidMark, IsValidFence, IsValidBatch, AreWholeBatches}
+use Rattle.vq_model.specs.ValidScripts.{is_fence_at, IsValidMark, IsValidFence, IsValidBatch}
 use Rattle.vq_model.proofs.Gets.{get_some}
-use Rattle.vq_reading_laws.proofs.Cited.{read_batches, read_of_batches}
+use Rattle.vq_reading_laws.proofs.Cited.{read_batches, read_hostless}
 use Rattle.vq_spec.specs.declared.uses.Usage.{Usage}
 use Rattle.vq_spec.specs.declared.uses.Usage.TheVariants.{Waited, Signaled, Named}
 use Rattle.vq_spec.specs.Walks.{fault_after, walk_counted, walk_mark, walk_marks, walk_batch, walk_jobs, and_then, never_used, Walks, FindsFault}
@@ -427,15 +428,16 @@ module _ (s : Script) where
   follows_jobs : (last : List (Option Usage)) (earlier : List UseLine) (jobs : List Job) →
       Tracks s last earlier →
       ((j : ℕ) (b : Batch) → slice_get jobs j ≡ Some (BatchJob b) → IsValidBatch s b) →
-      AreWholeBatches s jobs → Follows earlier (flat_map (uses_of s) jobs) (walk_jobs s last jobs)
+      ((j : ℕ) (h : HostLine) → slice_get jobs j ≡ Some (Host h) → ⊥) →
+      Follows earlier (flat_map (uses_of s) jobs) (walk_jobs s last jobs)
   follows_jobs last earlier [] k v w = follows_none last earlier k
-  follows_jobs last earlier (Host h ∷ jobs) k v w = absurd w
+  follows_jobs last earlier (Host h ∷ jobs) k v w = absurd (w 0 h refl)
   follows_jobs last earlier (BatchJob b ∷ jobs) k v w =
       follows_both earlier (uses_of s (BatchJob b)) (flat_map (uses_of s) jobs)
       (walk_batch s last b) (λ next. walk_jobs s next jobs)
       (follows_batch last earlier b k (v 0 b refl))
       (λ next t. follows_jobs next (earlier ++ uses_of s (BatchJob b)) jobs t
-      (λ j c e. v (suc j) c e) w.1)
+      (λ j c e. v (suc j) c e) (λ j h e. w (suc j) h e))
 
   tracks_none : Tracks s (never_used (length s.semaphores)) []
   tracks_none =
@@ -462,7 +464,7 @@ pub finds : (s : Script) → IsRead s → (r : Result (Unit {0}) PlanFault) →
     Walks (walk_jobs s first s.jobs) r last → FindsFault s r
 finds s i r last first is seen = by_walk (walk_jobs s (never_used (length s.semaphores)) s.jobs) refl
     (follows_jobs s (never_used (length s.semaphores)) [] s.jobs (tracks_none s)
-    (read_batches s i) (read_of_batches s i).batches)
+    (read_batches s i) (read_hostless s i))
   where
     walk : Walks (walk_jobs s (never_used (length s.semaphores)) s.jobs) r last
     walk = subst (λ from. Walks (walk_jobs s from s.jobs) r last) is seen

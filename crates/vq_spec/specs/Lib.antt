@@ -1,7 +1,7 @@
 pub mod ChainParts
 pub mod Counts
 pub mod Jobs
-pub mod Kept
+pub mod PlanTables
 pub mod Places
 pub mod SlowProgress
 pub mod Walks

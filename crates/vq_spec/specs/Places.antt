@@ -5,13 +5,13 @@ use Rattle.std.specs.Option.{option_map_or}
 use Rattle.vq_model.specs.declared.script.Job.{Job}
 use Rattle.vq_model.specs.declared.script.CommandLine.{CommandLine}
 use Rattle.vq_model.specs.Lowering.{batch_commands}
-use Rattle.vq_spec.specs.declared.places.Place.{Place}
+use Rattle.vq_spec.specs.declared.places.CommandAt.{CommandAt}
 
 -- the command at a place
-abbrev pub command_there : List Job → Place → Option CommandLine
+abbrev pub command_there : List Job → CommandAt → Option CommandLine
 command_there jobs p =
     option_map_or (λ job. slice_get (batch_commands job) p.place) (slice_get jobs p.job) None
 
 -- the first places of a job
-abbrev pub places_of : ℕ → ℕ → List Place
+abbrev pub places_of : ℕ → ℕ → List CommandAt
 places_of job count = map (λ k. record { job = job; place = k }) (range_with_len 0 count)

@@ -5,7 +5,7 @@ use Rattle.vq_model.specs.Edges.{must_finish}
 use Rattle.vq_model.specs.SlowRun.{payload_after, is_of}
 use Rattle.vq_model.specs.Lanes.{lane_at}
 use Rattle.vq_model.specs.LoweringFaults.{IsPlan}
-use Rattle.vq_spec.specs.declared.progress.Progress.{Progress}
+use Rattle.vq_spec.specs.declared.progress.SlowState.{SlowState}
 
 -- what must be finished before a done job is done
 abbrev pub IsClosed : Plan → List ℕ → Type 0
@@ -71,7 +71,7 @@ pub record PayloadsWith (p : Plan) (done signals payloads : List ℕ) : Type 0 w
   pub each : (t : ℕ) → t < length p.script.semaphores →
       IsPayloadOf p (with_some p done signals) t (get_or payloads t 0)
 
--- Progress
+-- How far a slow run has come
 
 -- what a slow run keeps beside the jobs that it has done
 pub record IsProgress (p : Plan) (done : List ℕ) (marks : List Bool) (payloads heads : List ℕ)
@@ -82,6 +82,6 @@ pub record IsProgress (p : Plan) (done : List ℕ) (marks : List Bool) (payloads
   pub heads_right : AreHeads p done heads
 
 -- how far a slow run of the plan of a script has come
-pub record HasCome (p : Plan) (s : Progress) : Type 0 where
+pub record HasCome (p : Plan) (s : SlowState) : Type 0 where
   pub plan : IsPlan p
   pub progress : IsProgress p s.order.items s.marks.items s.payloads.items s.heads.items

@@ -1,23 +1,12 @@
 //! The first job of each lane that isn't done.
 ghost use Rattle.std.specs.Prelude.{◌≡◌, ◌≢◌, ◌<◌, ◌≤◌, ◌++◌, ◌∷◌, [], ℕ, List, true, length, IfOk};
-ghost use Rattle.vq_model.specs.Lanes.{lane_number, lane_at};
+ghost use Rattle.vq_model.specs.Lanes.{lane_at};
 ghost use Rattle.vq_model.specs.LoweringFaults.{IsPlan};
 ghost use Rattle.vq_model.specs.SlowRun.{is_ready};
 ghost use Rattle.vq_spec.specs.SlowProgress.{IsClosed, AreHeads};
 
 use crate::plan::Plan;
 use std::alloc::{AllocError, Global};
-use vq_model::plan::Lane;
-
-/// A lane by number: the host's lane, then those of the queues.
-fn lane_number(lane: Lane) -> usize
-    ensures { result ≡ lane_number lane }
-{
-    match lane {
-        Lane::Host => 0,
-        Lane::Queue(queue) => queue as usize + 1,
-    }
-}
 
 /// The first job of a lane from a job on, or the number of jobs.
 fn next_in_lane(plan: &Plan, lane: usize, from: u32) -> u32
@@ -29,7 +18,7 @@ fn next_in_lane(plan: &Plan, lane: usize, from: u32) -> u32
 {
     let mut job = from;
     while job < plan.jobs() {
-        if lane_number(plan.job(job).lane) == lane {
+        if plan.job(job).lane.number() == lane {
             return job;
         }
         job += 1;
@@ -57,6 +46,6 @@ pub(crate) fn pass_head(heads: &mut [u32], plan: &Plan, j: u32)
     ensures { (done : List ℕ) → IsClosed plan.now done → is_ready plan.now done j ≡ true →
         AreHeads plan.now done heads.old → AreHeads plan.now (done ++ j ∷ []) heads.new }
 {
-    let lane = lane_number(plan.job(j).lane);
+    let lane = plan.job(j).lane.number();
     heads[lane] = next_in_lane(plan, lane, j + 1);
 }

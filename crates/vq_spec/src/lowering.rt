@@ -7,8 +7,8 @@ ghost use Rattle.vq_model.specs.SameScript.{IsRead};
 ghost use Rattle.vq_spec.specs.Counts.{AreLowered, batch_job, need_by};
 
 use crate::chains::{Chain, lower_chains, place_ops};
-use crate::edges::lower_edges;
-use crate::places::{Place, lower_places};
+use crate::edges::{JobWaits, lower_waits};
+use crate::places::{CommandAt, lower_places};
 use crate::signals::{Signals, value_of};
 use std::alloc::{AllocError, Global};
 use vq_model::list::List;
@@ -19,10 +19,10 @@ use vq_model::script::{Batch, Job, Mark, Script};
 #[derive(Drop)]
 pub(crate) struct Tables {
     pub(crate) jobs: Vec<PlanJob>,
-    /// The jobs with an edge to each job.
-    pub(crate) edges: Vec<List<u32>>,
+    /// What each job waits for.
+    pub(crate) waits: Vec<JobWaits>,
     /// Where each command stands in the script.
-    pub(crate) places: Vec<Place>,
+    pub(crate) places: Vec<CommandAt>,
     pub(crate) ops: Vec<Op>,
     /// The operations of each semaphore and each fence.
     pub(crate) chains: Vec<Chain>,
@@ -74,7 +74,7 @@ fn lower_wait(script: &Script, counts: &[u64], wait: &Mark) -> Need
 }
 
 /// What the waits of a batch ask for, where each semaphore has so many signals before it.
-fn lower_waits(
+fn lower_needs(
     alloc: Global,
     script: &Script,
     counts: &[u64],
@@ -153,7 +153,7 @@ impl Lowered {
             unreachable!()
         };
         let counts = self.signals.counts.as_slice();
-        let needs = lower_waits(alloc, script, counts, batch.waits.as_slice())?;
+        let needs = lower_needs(alloc, script, counts, batch.waits.as_slice())?;
         let first = self.signals.ops.len() as u32;
         self.signals.push_batch(script, j, batch)?;
         let signals = numbers(alloc, first, self.signals.ops.len() as u32 - first)?;
@@ -182,7 +182,7 @@ fn lower_jobs(alloc: Global, script: &Script) -> Result<Lowered, AllocError>
 }
 
 impl Tables {
-    ghost use Rattle.vq_spec.specs.Kept.{KeepsPlan};
+    ghost use Rattle.vq_spec.specs.PlanTables.{KeepsPlan};
 
     /// What is kept of the plan of a script.
     pub(crate) fn of(alloc: Global, script: &Script) -> Result<Tables, AllocError>
@@ -194,7 +194,7 @@ impl Tables {
         let unplaced = signals.ops.as_slice();
         let chains = lower_chains(alloc, unplaced, script.semaphores.as_slice().len())?;
         let ops = place_ops(alloc, unplaced, chains.as_slice())?;
-        let edges = lower_edges(
+        let waits = lower_waits(
             alloc,
             script,
             ops.as_slice(),
@@ -203,7 +203,7 @@ impl Tables {
         )?;
         Ok(Tables {
             jobs,
-            edges,
+            waits,
             places: lower_places(alloc, script)?,
             ops,
             chains,

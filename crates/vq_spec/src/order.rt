@@ -6,7 +6,7 @@ ghost use Rattle.vq_model.specs.SlowRun.{slow_order, left_over};
 ghost use Rattle.vq_spec.specs.SlowProgress.{is_marked, ArePayloads, HasCome};
 
 use crate::plan::Plan;
-use crate::progress::Progress;
+use crate::progress::SlowState;
 use std::alloc::{AllocError, Global};
 use vq_model::list::List;
 
@@ -22,11 +22,11 @@ pub struct SlowOrder {
 }
 
 /// How far a slow run comes.
-fn run_slowly(alloc: Global, plan: &Plan) -> Result<Progress, AllocError>
+fn run_slowly(alloc: Global, plan: &Plan) -> Result<SlowState, AllocError>
     ensures come { IfOk result (λ s. HasCome plan.now s) }
     ensures order { IfOk result (λ s. s.order.items ≡ slow_order plan.now) }
 {
-    let mut progress = Progress::new(alloc, plan)?;
+    let mut progress = SlowState::new(alloc, plan)?;
     for _round in 0..plan.jobs() {
         match progress.lowest_ready(plan) {
             Some(j) => progress.finish(plan, j)?,
@@ -70,7 +70,7 @@ pub fn slow_order(alloc: Global, plan: &Plan) -> Result<SlowOrder, AllocError>
     ensures payloads { IfOk result (λ run.
         ArePayloads plan.now (slow_order plan.now) run.payloads) }
 {
-    let Progress {
+    let SlowState {
         order,
         marks,
         payloads,

@@ -9,7 +9,7 @@ use vq_model::script::{Job, Script};
 
 /// Where a command stands: in which job, and how many commands of the job stand before it.
 #[derive(Clone, Copy, Debug, PartialEq, Eq)]
-pub(crate) struct Place {
+pub(crate) struct CommandAt {
     pub(crate) job: u32,
     pub(crate) place: u32,
 }
@@ -25,17 +25,17 @@ fn commands_in(job: &Job) -> usize
 }
 
 /// Adds the places of a job's commands.
-fn push_places(places: &mut Vec<Place>, job: u32, count: u32) -> Result<(), AllocError>
+fn push_places(places: &mut Vec<CommandAt>, job: u32, count: u32) -> Result<(), AllocError>
     ensures { OnOk result (places.new.items ≡ places.old.items ++ places_of job count) }
 {
     for place in 0..count {
-        places.push(Place { job, place })?;
+        places.push(CommandAt { job, place })?;
     }
     Ok(())
 }
 
 /// Where each command stands.
-pub(crate) fn lower_places(alloc: Global, script: &Script) -> Result<Vec<Place>, AllocError>
+pub(crate) fn lower_places(alloc: Global, script: &Script) -> Result<Vec<CommandAt>, AllocError>
     requires { IsRead script.now }
     ensures { IfOk result (λ places. map (command_there script.now.jobs) places.items
         ≡ map Some (plan_of script.now).commands) }

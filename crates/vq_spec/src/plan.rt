@@ -1,14 +1,13 @@
 //! The plan of a script.
-ghost use Rattle.std.specs.Prelude.{◌≡◌, ◌<◌, length, Some};
+ghost use Rattle.std.specs.Prelude.{◌≡◌, ◌<◌, ◌↔◌, ℕ, length, Some, IsNone};
 ghost use Rattle.std.specs.List.{slice_get};
-ghost use Rattle.vq_model.specs.Edges.{edges_to};
+ghost use Rattle.vq_model.specs.Edges.{AtEnd, awaited_at, edges_to, must_finish};
 ghost use Rattle.vq_model.specs.LoweringFaults.{IsPlan, Lowers};
-ghost use Rattle.vq_model.specs.Plan.{chain, initial, resolver};
+ghost use Rattle.vq_model.specs.Plan.{chain, chain_of, initial, resolver, value};
 ghost use Rattle.vq_model.specs.SameScript.{IsRead};
 
-use crate::edges::initial_value;
 use crate::lowering::Tables;
-use crate::places::Place;
+use crate::places::CommandAt;
 use crate::uses::find_fault;
 use std::alloc::Global;
 use std::marker::Model;
@@ -29,7 +28,7 @@ impl Model for Plan {
     ghost Value = { Plan };
 
     ghost use Rattle.vq_model.specs.Lowering.{plan_of};
-    ghost use Rattle.vq_spec.specs.Kept.{KeepsPlan};
+    ghost use Rattle.vq_spec.specs.PlanTables.{KeepsPlan};
 
     ghost view = { λ a. plan_of a.script };
 
@@ -48,10 +47,8 @@ impl Plan {
         ensures { Lowers script result }
     {
         find_fault(alloc, &script)?;
-        match Tables::of(alloc, &script) {
-            Ok(tables) => Ok(Plan { script, tables }),
-            Err(_) => Err(PlanFault::Memory),
-        }
+        let tables = Tables::of(alloc, &script)?;
+        Ok(Plan { script, tables })
     }
 
     /// The script that was lowered. The plan is the one of this script.
@@ -120,7 +117,9 @@ impl Plan {
         requires { t < length self.now.chains }
         ensures { result ≡ initial self.now t }
     {
-        initial_value(self.script.semaphores.as_slice()[t as usize].kind)
+        self.script.semaphores.as_slice()[t as usize]
+            .kind
+            .initial_value()
     }
 
     /// The signal operations of a chain, by value and then by line.
@@ -139,7 +138,9 @@ impl Plan {
     /// Source: Vulkan 1.3, "Semaphore Waiting".
     pub fn resolver(&self, t: u32, v: u64) -> Option<u32>
         requires { t < length self.now.chains }
-        ensures { result ≡ resolver self.now t v }
+        ensures value { result ≡ resolver self.now t v }
+        ensures none { IsNone result
+            ↔ ((e : ℕ) → chain_of self.now e ≡ Some t → value self.now e < v) }
     {
         self.tables.chains[t as usize].resolver(v)
     }
@@ -160,11 +161,34 @@ impl Plan {
         requires { c < length self.now.commands }
         ensures { slice_get self.now.commands c ≡ Some result.now }
     {
-        let Place { job, place } = self.tables.places[c as usize];
+        let CommandAt { job, place } = self.tables.places[c as usize];
         match &self.script.jobs.as_slice()[job as usize] {
             Job::Batch(batch) => &batch.commands.as_slice()[place as usize],
             Job::Host(_) => unreachable!(),
         }
+    }
+
+    /// The jobs that must be finished before a job starts: the one before it in its lane, for a batch
+    /// the last host step before it, and those that an idle step waits for.
+    ///
+    /// Source: Vulkan 1.3, "Queue Submission". That a queue's batches run one after another is this
+    /// project's rule.
+    pub fn must_finish(&self, j: u32) -> &[u32]
+        requires { j < length self.now.jobs }
+        ensures { result.now ≡ must_finish self.now j }
+    {
+        self.tables.waits[j as usize].firsts.as_slice()
+    }
+
+    /// The signal operations that a job waits for: those that resolve its needs above the initial
+    /// values, in the order of its needs; none where it waits for any of several.
+    ///
+    /// Source: Vulkan 1.3, "Semaphore Waiting".
+    pub fn awaited(&self, j: u32) -> &[u32]
+        requires { j < length self.now.jobs }
+        ensures { result.now ≡ awaited_at self.now j AtEnd }
+    {
+        self.tables.waits[j as usize].awaited.as_slice()
     }
 
     /// The jobs with an edge to a job: those that must be finished before it starts, and those
@@ -175,6 +199,6 @@ impl Plan {
         requires { j < length self.now.jobs }
         ensures { result.now ≡ edges_to self.now j }
     {
-        self.tables.edges[j as usize].as_slice()
+        self.tables.waits[j as usize].edges.as_slice()
     }
 }

@@ -15,7 +15,7 @@ use vq_model::plan::PlanJob;
 
 /// How far a slow run has come.
 #[derive(Drop)]
-pub(crate) struct Progress {
+pub(crate) struct SlowState {
     /// The jobs that are done, in their order.
     pub(crate) order: Vec<u32>,
     /// For each job whether it is done.
@@ -70,15 +70,15 @@ fn lower(lowest: Option<u32>, other: u32) -> u32
     }
 }
 
-impl Progress {
+impl SlowState {
     /// Where a slow run begins.
-    pub(crate) fn new(alloc: Global, plan: &Plan) -> Result<Progress, AllocError>
+    pub(crate) fn new(alloc: Global, plan: &Plan) -> Result<SlowState, AllocError>
         ensures come { IfOk result (λ s. HasCome plan.now s) }
         ensures empty { IfOk result (λ s. s.order.items ≡ []) }
     {
         let heads = first_heads(alloc, plan)?;
         let payloads = first_payloads(alloc, plan)?;
-        Ok(Progress {
+        Ok(SlowState {
             order: Vec::with_capacity(alloc, plan.jobs() as usize)?,
             marks: vec![in alloc; false; plan.jobs() as usize]?,
             payloads,

@@ -6,7 +6,6 @@ ghost use Rattle.vq_model.specs.Signals.{all_signals, of_mark};
 ghost use Rattle.vq_spec.specs.Counts.{AreSignals, signals_before, value_by};
 ghost use Rattle.vq_model.specs.declared.script.Job.TheVariants.{Batch as BatchJob};
 
-use crate::uses::is_timeline;
 use std::alloc::{AllocError, Global};
 use vq_model::list::List;
 use vq_model::plan::Op;
@@ -36,7 +35,8 @@ pub(crate) fn value_of(script: &Script, mark: &Mark, count: u64) -> u64
     requires { mark.now.semaphore < length script.now.semaphores }
     ensures { result ≡ value_by script.now mark.now count }
 {
-    if is_timeline(script.semaphores.as_slice()[mark.semaphore as usize].kind) {
+    let semaphore = &script.semaphores.as_slice()[mark.semaphore as usize];
+    if semaphore.kind.is_timeline() {
         mark.value
     } else {
         count

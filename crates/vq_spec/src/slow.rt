@@ -60,6 +60,22 @@ fn apply_job(plan: &Plan, j: u32, buffers: &mut Buffers)
     }
 }
 
+/// The buffers after the jobs of a plan were done in the order of its slow run, each whole. The
+/// error is want of memory.
+///
+/// Source: this project's rule.
+pub fn apply_in_order(alloc: Global, plan: &Plan, order: &[u32]) -> Result<Buffers, AllocError>
+    requires { order.now ≡ slow_order plan.now }
+    ensures bytes { IfOk result (λ buffers. buffers ≡ final plan.now) }
+    ensures sizes { IfOk result (λ buffers. HasSizes (sizes_of plan.now.script) buffers) }
+{
+    let mut buffers = zero_buffers(alloc, plan.script())?;
+    for j in order {
+        apply_job(plan, *j, &mut buffers);
+    }
+    Ok(buffers)
+}
+
 /// The slow run of a plan. The error is want of memory.
 ///
 /// Source: this project's rule.
@@ -69,15 +85,8 @@ pub fn slow_run(alloc: Global, plan: &Plan) -> Result<SlowRun, AllocError>
     ensures bytes { IfOk result (λ run. run.buffers ≡ final plan.now) }
     ensures sizes { IfOk result (λ run. HasSizes (sizes_of plan.now.script) run.buffers) }
 {
-    let SlowOrder {
-        order,
-        stuck,
-        payloads: _,
-    } = slow_order(alloc, plan)?;
-    let mut buffers = zero_buffers(alloc, plan.script())?;
-    for j in order.as_slice() {
-        apply_job(plan, *j, &mut buffers);
-    }
+    let SlowOrder { order, stuck, .. } = slow_order(alloc, plan)?;
+    let buffers = apply_in_order(alloc, plan, order.as_slice())?;
     Ok(SlowRun {
         order,
         stuck,

@@ -1,15 +1,14 @@
 //! The uses of binary semaphores and fences, and the first that is faulty.
 ghost use Rattle.std.specs.Prelude.{◌≡◌, ◌<◌, All, IfOk, length};
 ghost use Rattle.std.specs.Option.{option_map_or};
-ghost use Rattle.vq_model.specs.Context.{is_timeline};
 ghost use Rattle.vq_model.specs.SameScript.{IsRead};
-ghost use Rattle.vq_model.specs.ValidScripts.{HasValidBatches, IsValidBatch, IsOfBatches};
+ghost use Rattle.vq_model.specs.ValidScripts.{HasValidBatches, IsValidBatch};
 ghost use Rattle.vq_spec.specs.Walks.{was_signaled, was_named, fault_after, Walks, walk_mark, walk_marks, walk_batch, walk_jobs, FindsFault, never_used};
 
 use std::alloc::{AllocError, Global};
 use vq_model::list::List;
 use vq_model::plan::PlanFault;
-use vq_model::script::{Batch, Job, Mark, Script, SemaphoreKind};
+use vq_model::script::{Batch, Job, Mark, Script};
 
 /// How a batch uses a binary semaphore or a fence.
 #[derive(Clone, Copy, Debug, PartialEq, Eq)]
@@ -20,13 +19,6 @@ pub(crate) enum Usage {
     Signaled,
     /// It names the fence.
     Named,
-}
-
-/// Whether this is a timeline semaphore.
-pub(crate) fn is_timeline(kind: SemaphoreKind) -> bool
-    ensures { result ≡ is_timeline kind }
-{
-    matches!(kind, SemaphoreKind::Timeline(_))
 }
 
 /// Whether the last use was a signal.
@@ -68,7 +60,7 @@ fn use_mark(
     ensures { Walks (walk_mark script.now last.old usage mark.now) result last.new }
 {
     let place = mark.semaphore as usize;
-    if is_timeline(script.semaphores.as_slice()[place].kind) {
+    if script.semaphores.as_slice()[place].kind.is_timeline() {
         return Ok(());
     }
     if let Some(fault) = fault_after(last[place], usage, mark.line) {
@@ -140,8 +132,6 @@ pub(crate) fn find_fault(alloc: Global, script: &Script) -> Result<(), PlanFault
     requires { IsRead script.now }
     ensures { FindsFault script.now result }
 {
-    match never_used(alloc, script.semaphores.as_slice().len()) {
-        Ok(mut last) => use_jobs(script, last.as_mut_slice()),
-        Err(_) => Err(PlanFault::Memory),
-    }
+    let mut last = never_used(alloc, script.semaphores.as_slice().len())?;
+    use_jobs(script, last.as_mut_slice())
 }

@@ -8,6 +8,3 @@ mod timeline;
 
 pub use answers::{Found, NotNext, OpPlace, Taken};
 pub use timeline::TimelineCore;
-
-#[cfg(test)]
-mod tests;

@@ -1,7 +1,7 @@
 ghost use Rattle.std.specs.Prelude.{◌≡◌, ◌↔◌, ℕ, ◌^◌, ◌<◌, ◌≤◌, length, None, IsErr, IfOk, IfErr, OnOk, OnErr};
 ghost use Rattle.std.specs.List.Sorted.{IsPartitionPoint};
 ghost use Rattle.std.specs.Option.{option_map};
-ghost use Rattle.vq_points.specs.Timeline.{KeepsLists, AreRisingFrom, new_timeline, point_at, past_value, pending_value, pending, first_pending, CanTake, after_take, CanBind, next_unbound, after_bind, after_complete, CanFree, after_free};
+ghost use Rattle.vq_points.specs.Timeline.{KeepsLists, AreRisingFrom, new_timeline, point_at, past_value, pending_value, pending, first_pending, MayTake, after_take, MayBind, next_unbound, after_bind, after_complete, MayFree, after_free};
 ghost use Rattle.vq_timeline_core.specs.Answers.{taken_answer, found, place_of};
 
 use crate::{Found, NotNext, OpPlace, Taken};
@@ -65,7 +65,7 @@ impl TimelineCore {
     /// Gives a point to an operation that has none: the free point that was freed last, or, exactly
     /// where none is free, this fresh one.
     pub fn take(&mut self, index: u32, fresh: u32) -> Taken
-        requires { CanTake self.old index fresh }
+        requires { MayTake self.old index fresh }
 
         ensures answer { result ≡ taken_answer self.old.free fresh }
         ensures after { self.new ≡ after_take self.old index fresh }
@@ -88,7 +88,7 @@ impl TimelineCore {
     /// exactly where an operation of smaller value isn't bound, with the least index that isn't, and
     /// nothing changes then.
     pub fn bind(&mut self, index: u32, point: u32) -> Result<(), NotNext>
-        requires { CanBind self.old index point }
+        requires { MayBind self.old index point }
 
         ensures ok { OnOk result (self.new ≡ after_bind self.old) }
         ensures refused { IsErr result ↔ (next_unbound self.old < index) }
@@ -148,7 +148,7 @@ impl TimelineCore {
 
     /// Frees a point that waits for it: it is the first to be used again.
     pub fn free(&mut self, point: u32)
-        requires { CanFree self.old point }
+        requires { MayFree self.old point }
 
         ensures after { self.new ≡ after_free self.old point }
         ensures kept { KeepsLists self.new }
@@ -200,7 +200,7 @@ impl TimelineCore {
         ensures answer { result ≡ place_of self.now index }
         ensures without { (result ≡ OpPlace.Without)
             ↔ ((self.now.bound ≤ index) × (point_at self.now index ≡ None)) }
-        ensures taken { (point : ℕ) → result ≡ OpPlace.Taken point → CanBind self.now index point }
+        ensures taken { (point : ℕ) → result ≡ OpPlace.Taken point → MayBind self.now index point }
         ensures kept { KeepsLists self.now }
     {
         if index < self.completed {

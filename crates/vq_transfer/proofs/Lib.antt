@@ -1,3 +1,2 @@
-mod Fitting
 mod Parts
 pub mod Sizes

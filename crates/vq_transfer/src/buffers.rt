@@ -1,14 +1,14 @@
 //! The bytes of all buffers.
-ghost use Rattle.std.specs.Prelude.{◌≡◌, ◌≢◌, ℕ, [], ◌+◌, ◌<◌, ◌≤◌, ◌^◌, ◌↔◌, IsTrue, IfOk, length, map};
+ghost use Rattle.std.specs.Prelude.{◌≡◌, ◌≢◌, ℕ, false, [], ◌+◌, ◌<◌, ◌≤◌, ◌^◌, ◌↔◌, IsTrue, IfOk, length, map};
 ghost use Rattle.std.specs.List.{range_with_len, slice_index_or};
 ghost use Rattle.vq_model.specs.Memory.{effect, zeros_of, buffer};
-ghost use Rattle.vq_model.specs.Ranges.{Fits, IsWithin};
+ghost use Rattle.vq_model.specs.Ranges.{Fits, IsWithin, share};
 
-use crate::ranges::{fill_size, is_aligned, is_aligned_fill, overlaps_itself};
 use crate::writes;
 use std::alloc::{AllocError, Global};
 use std::marker::Model;
 use vq_model::list::Bytes;
+use vq_model::ranges::Range;
 use vq_model::script::{Command, FillSize};
 
 /// The bytes of each buffer, in the order in which the buffers are declared.
@@ -82,40 +82,21 @@ impl Buffers {
     }
 
     /// Whether a range of bytes lies in its buffer.
-    fn is_within(&self, buffer: u32, start: u32, size: usize) -> bool
-        ensures { IsTrue result ↔ IsWithin (map length self.now)
-            (record { buffer = buffer; start = start; size = size }) }
+    fn is_within(&self, range: Range) -> bool
+        ensures { IsTrue result ↔ IsWithin (map length self.now) range }
     {
-        let len = self.size(buffer);
-        (buffer as usize) < self.bytes.len() && size <= len && start as usize <= len - size
+        let len = self.size(range.buffer);
+        (range.buffer as usize) < self.bytes.len()
+            && range.size <= len
+            && range.start as usize <= len - range.size
     }
 
-    /// Whether a fill fits.
-    fn fits_fill(&self, buffer: u32, offset: u32, size: FillSize) -> bool
-        ensures { (word : ℕ) →
-            IsTrue result ↔ Fits (map length self.now) (Command.Fill buffer offset size word) }
-    {
-        let bytes = fill_size(size, offset, self.size(buffer));
-        self.is_within(buffer, offset, bytes) && is_aligned_fill(offset, size)
-    }
-
-    /// Whether an update fits.
-    fn fits_update(&self, buffer: u32, offset: u32, bytes: &Bytes) -> bool
+    /// Whether a range lies in its buffer and has no byte in common with another one.
+    fn is_within_apart(&self, range: Range, other: Range) -> bool
         ensures { IsTrue result
-            ↔ Fits (map length self.now) (Command.Update buffer offset bytes.now) }
+            ↔ (IsWithin (map length self.now) range × (share other range ≡ false)) }
     {
-        let size = bytes.as_slice().len();
-        self.is_within(buffer, offset, size) && is_aligned(offset as usize) && is_aligned(size)
-    }
-
-    /// Whether a copy fits.
-    fn fits_copy(&self, source: u32, from: u32, target: u32, to: u32, size: u32) -> bool
-        ensures { IsTrue result
-            ↔ Fits (map length self.now) (Command.Copy source from target to size) }
-    {
-        self.is_within(target, to, size as usize)
-            && self.is_within(source, from, size as usize)
-            && !overlaps_itself(source, from, target, to, size)
+        self.is_within(range) && !other.shares(range)
     }
 
     /// Whether a command fits: its ranges lie in their buffers, fills and updates begin at a
@@ -125,25 +106,13 @@ impl Buffers {
     pub fn fits(&self, command: &Command) -> bool
         ensures { IsTrue result ↔ Fits (map length self.now) command.now }
     {
-        match command {
-            Command::Fill {
-                buffer,
-                offset,
-                size,
-                word: _,
-            } => self.fits_fill(*buffer, *offset, *size),
-            Command::Update {
-                buffer,
-                offset,
-                bytes,
-            } => self.fits_update(*buffer, *offset, bytes),
-            Command::Copy {
-                source,
-                source_offset,
-                target,
-                target_offset,
-                size,
-            } => self.fits_copy(*source, *source_offset, *target, *target_offset, *size),
+        let written = command.written(self.size(command.target()));
+        if !self.is_within(written) || !command.is_aligned() {
+            return false;
+        }
+        match command.read() {
+            Some(read) => self.is_within_apart(read, written),
+            None => true,
         }
     }
 
@@ -153,7 +122,7 @@ impl Buffers {
         ensures { self.new ≡ effect (Command.Fill target offset size word) self.old }
     {
         let bytes = &mut self.bytes[target as usize];
-        let count = fill_size(size, offset, bytes.len());
+        let count = size.bytes(offset, bytes.len());
         writes::fill(bytes.as_mut_slice(), offset as usize, count, word);
     }
 
@@ -247,6 +216,3 @@ impl Buffers {
         }
     }
 }
-
-#[cfg(test)]
-mod tests;

@@ -2,7 +2,6 @@
 #![tactic(auto)]
 
 pub mod buffers;
-mod ranges;
 mod writes;
 
 pub use buffers::Buffers;

@@ -1,6 +1,12 @@
+use Rattle.std.proofs.Common.{subst, sym}
+use Rattle.vq_main.specs.declared.outcome.Outcome.{Outcome}
+use Rattle.vq_main.specs.Outcomes.{IsOutcome}
 use Rattle.vq_main.proofs.Endings.{refused_outcome}
 use Rattle.vq_main.proofs.outcome.of_script.Goals as goal
 
-pub returns-in_ok-text-in-Err : goal.returns-in_ok-text-in-Err
-returns-in_ok-text-in-Err c =
-    refused_outcome _ _ _ _ _ c.requires.short c.requires.stands c.in-Err.ensures c.in_ok-text-in-Err.ensures
+pub returns-in_ok-plan_refusal-in-Err : goal.returns-in_ok-plan_refusal-in-Err
+returns-in_ok-plan_refusal-in-Err c =
+    subst (λ (o : Outcome). IsOutcome c.args.task c.args.input.now o.status o.text.items)
+    (sym c.refused.ensures)
+    (refused_outcome _ _ _ _ _ c.requires.short c.requires.stands c.in-Err.ensures
+    c.in_ok-plan_refusal-in-Err.ensures)

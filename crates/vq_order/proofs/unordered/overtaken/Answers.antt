@@ -6,17 +6,11 @@ use Rattle.vq_order.proofs.UnorderedLaws.{op_here}
 use Rattle.vq_order.proofs.UnorderedSteps.{by_next}
 use Rattle.vq_order.proofs.unordered.overtaken.Goals as goal
 
-pub is_binary-requires : goal.is_binary-requires
-is_binary-requires c =
-    let n = (plan_semaphores c.args.plan.now c.requires.plan).chains in
-    let l = c.requires.chain in
-    omega arith
-
 pub overtaken_by-requires-clause-op_exists : goal.overtaken_by-requires-clause-op_exists
-overtaken_by-requires-clause-op_exists c = op_here c.args.plan.now c.in-Some.op c.args.need.now.chain c.in-Some.ensures.in_chain
+overtaken_by-requires-clause-op_exists c = op_here c.args.order.now c.in-Some.op c.args.need.now.chain c.in-Some.ensures.in_chain
 
 pub returns-in-Some : goal.returns-in-Some
 returns-in-Some c =
-    let p = c.args.plan.now in
+    let p = c.args.order.now in
     let n = c.args.need.now in
-    by_next p (plan_lines p c.requires.plan) c.args.i n (binary_is (kind_of p.script n.chain) (sym c.is_binary.ensures ∙ c.if-not-is_binary.false)) c.in-Some.op c.in-Some.ensures c.overtaken_by.result c.overtaken_by.ensures
+    by_next p (plan_lines p c.is_binary.ensures.complete.plan) c.args.i n (binary_is (kind_of p.script n.chain) (sym c.is_binary.ensures.value ∙ c.if-not-is_binary.false)) c.in-Some.op c.in-Some.ensures c.overtaken_by.result c.overtaken_by.ensures

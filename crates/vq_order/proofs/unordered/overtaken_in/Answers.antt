@@ -2,9 +2,10 @@ use Rattle.std.proofs.Common.{ℕ, ◌+◌, length, get_or, Option, sym, subst, 
 use Rattle.vq_model.specs.declared.plan.Need.{Need}
 use Rattle.vq_model.specs.Plan.{needs}
 use Rattle.vq_plan_laws.proofs.Cited.{plan_semaphores}
-use Rattle.vq_order.specs.Pairs.{IsLeastPairOrNone}
-use Rattle.vq_order.specs.UnorderedPairs.{IsOfFirst, IsOvertakenAt}
-use Rattle.vq_order.proofs.PairSearches.{first_more}
+use Rattle.vq_order.specs.declared.lines.Lines.{Lines}
+use Rattle.vq_order.specs.LeastLines.{AreLeastOrNone}
+use Rattle.vq_order.specs.UnorderedLines.{IsOfFirst, IsOvertakenAt}
+use Rattle.vq_order.proofs.LineSearches.{first_more}
 use Rattle.vq_order.proofs.Resolving.{need_chain}
 use Rattle.vq_order.proofs.UnorderedSteps.{all_first, need_at, needs_count, wait_at}
 use Rattle.vq_order.proofs.unordered.overtaken_in.Goals as goal
@@ -14,22 +15,22 @@ no_need = record { line = 0; chain = 0; value = 0; from = 0 }
 
 pub overtaken-requires-clause-chain : goal.overtaken-requires-clause-chain
 overtaken-requires-clause-chain c =
-    need_chain c.args.plan.now (plan_semaphores c.args.plan.now c.requires.plan) c.args.i c.job.result.now c.job.ensures c.as_slice-need-items.result.now c.as_slice-need-items.ensures c.loop-need.need-index no_need c.loop-need-test.true
+    need_chain c.args.order.now (plan_semaphores c.args.order.now c.job.ensures.complete.plan) c.args.i c.job.result.now c.job.ensures.value c.as_slice-need-items.result.now c.as_slice-need-items.ensures c.loop-need.need-index no_need c.loop-need-test.true
 
 pub loop-need-preserved : goal.loop-need-preserved
 loop-need-preserved c =
-    let p = c.args.plan.now in
+    let p = c.args.order.now in
     let k = c.loop-need.need-index in
     let items = c.as_slice-need-items.result.now in
     let R = IsOvertakenAt p c.args.i in
-    let at = need_at p c.args.i c.job.result.now c.job.ensures items c.as_slice-need-items.ensures k no_need c.loop-need-test.true in
-    subst (λ (o : Option (ℕ × ℕ)). IsLeastPairOrNone (IsOfFirst R (k + 1)) o) (sym c.lower-lowest.ensures)
+    let at = need_at p c.args.i c.job.result.now c.job.ensures.value items c.as_slice-need-items.ensures k no_need c.loop-need-test.true in
+    subst (λ (o : Option Lines). AreLeastOrNone (IsOfFirst R (k + 1)) o) (sym c.lower-lowest.ensures)
     (first_more R k c.loop-need.lowest c.overtaken.result c.loop-need.invariant (wait_at p c.args.i k (get_or items k no_need) at c.overtaken.result c.overtaken.ensures))
 
 pub returns : goal.returns
 returns c =
-    let p = c.args.plan.now in
-    let n = needs_count p c.args.i c.job.result.now c.job.ensures c.as_slice-need-items.result.now c.as_slice-need-items.ensures in
+    let p = c.args.order.now in
+    let n = needs_count p c.args.i c.job.result.now c.job.ensures.value c.as_slice-need-items.result.now c.as_slice-need-items.ensures in
     let a = c.loop-need.auto.need-index-end in
     let b = c.loop-need-test.false in
     all_first (IsOvertakenAt p c.args.i) c.loop-need.need-index (length (needs p c.args.i)) (omega arith) (omega arith) c.loop-need.lowest c.loop-need.invariant

@@ -2,7 +2,7 @@ use Rattle.std.proofs.Common.{◌≡◌, [], length, subst, sym, ap, ◌∙◌, 
 use Rattle.std.specs.Option.{option_map_or}
 use Rattle.vq_model.specs.Plan.{needs}
 use Rattle.vq_plan_laws.proofs.Cited.{plan_semaphores}
-use Rattle.vq_order.specs.Reach.{IsLeastOrNone, IsUnreachedOf}
+use Rattle.vq_order.specs.Unreached.{IsLeastOrNone, IsUnreachedOf}
 use Rattle.vq_order.proofs.UnreachedLaws.{no_need, need_at, chain_at}
 use Rattle.vq_order.proofs.unreachable.least_of_job.Goals as goal
 

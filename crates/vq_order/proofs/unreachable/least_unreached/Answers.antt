@@ -4,7 +4,7 @@ use Rattle.std.proofs.lemmas.List.{take_all}
 use Rattle.vq_model.specs.Plan.{has}
 use Rattle.vq_model.specs.SlowRun.{left_over}
 use Rattle.vq_spec.proofs.SlowHeads.{has_at}
-use Rattle.vq_order.specs.Reach.{IsLeastOrNone, IsUnreachedIn}
+use Rattle.vq_order.specs.Unreached.{IsLeastOrNone, IsUnreachedIn}
 use Rattle.vq_order.proofs.UnreachedLaws.{no_job, all_jobs, left_exists}
 use Rattle.vq_order.proofs.unreachable.least_unreached.Goals as goal
 

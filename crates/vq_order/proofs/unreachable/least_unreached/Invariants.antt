@@ -1,5 +1,5 @@
 use Rattle.std.proofs.Common.{take}
-use Rattle.vq_order.specs.Reach.{IsLeastOrNone, IsUnreachedIn}
+use Rattle.vq_order.specs.Unreached.{IsLeastOrNone, IsUnreachedIn}
 use Rattle.vq_order.proofs.unreachable.least_unreached.Given as goal
 
 abbrev pub invariant-loop-j : goal.invariant-loop-j

@@ -1,6 +1,6 @@
 use Rattle.std.proofs.Common.{◌+◌, sym, ◌∙◌, subst}
 use Rattle.vq_model.specs.Checks.{IsLeast}
-use Rattle.vq_order.specs.Reach.{IsUnreachedOf}
+use Rattle.vq_order.specs.Unreached.{IsUnreachedOf}
 use Rattle.vq_order.proofs.UnreachedLaws.{need_found, need_reached}
 use Rattle.vq_order.proofs.unreachable.with_need.Goals as goal
 

@@ -1,6 +1,7 @@
 use Rattle.std.proofs.Common.{◌≡◌, ◌+◌, ◌++◌, length, take, drop, sym, ap, subst, arith, List, ℕ, length-take, length-append, length-drop}
 use Rattle.std.proofs.lemmas.List.{take-append-le}
 use Rattle.vq_port.specs.Reading.{Takes}
+use Rattle.vq_port.proofs.Counting.{rose_later}
 use Rattle.vq_port.proofs.Taking.{takes_nothing, takes_more, takes_all, takes_to_end, takes_to, takes_no_others, takes_past, taken_length}
 use Rattle.vq_port.proofs.read.read_whole.Goals as goal
 
@@ -75,3 +76,7 @@ returns-in_err-extend_from_slice-clause-memory g c = λ _.
       omega (arith, c.loop-bytes.bytes.ok.0),
       takes_more _ _ _ _ _ c.loop-bytes.invariant.taken c.in_ok-count.ensures.takes,
     )
+
+pub returns-in_err-count-clause-failed : goal.returns-in_err-count-clause-failed
+returns-in_err-count-clause-failed g c = λ _.
+    rose_later _ _ _ c.loop-bytes.invariant.counted c.in_err-count.ensures.failed

@@ -22,7 +22,7 @@ returns c =
     let lanes = plan_lanes p c.requires.plan in
     let own : lane_at p j ≡ lane_number c.job.result.now.lane =
     ap (λ o. option_map_or (λ x. lane_number x.lane) o 0) c.job.ensures in
-    let e : c.lane_number-lane.result ≡ lane_at p j = c.lane_number-lane.ensures ∙ sym own in
+    let e : c.number-lane.result ≡ lane_at p j = c.number-lane.ensures ∙ sym own in
     let up = c.next_in_lane.ensures.at in
     let none : (i : ℕ) → j < i → i < next → lane_at p i ≢ lane_at p j =
     λ i a b q. c.next_in_lane.ensures.none i (omega arith) b (q ∙ sym e) in

@@ -1,13 +1,26 @@
-use Rattle.std.proofs.Common.{sym, subst}
-use Rattle.vq_model.specs.Sure.{KeepsChains}
-use Rattle.vq_model.specs.WellFormed.{IsWellFormed}
+use Rattle.std.proofs.Common.{◌≡◌, ap, ◌∙◌, sym, subst}
+use Rattle.vq_order_laws.proofs.Cited.{plan_has_sure_order}
+use Rattle.vq_plan_laws.proofs.Cited.{plan_well_formed}
+use Rattle.vq_model.specs.Plan.{Plan, chain}
 use Rattle.vq_model.specs.Windows.{IsGreatest, IsPossiblyReached}
-use Rattle.vq_order.proofs.WindowLaws.{ceiling_is}
+use Rattle.vq_order.specs.Counts.{MayBeMade}
+use Rattle.vq_order.proofs.Firsts.{first_found}
+use Rattle.vq_order.proofs.UnorderedLaws.{chain_op_exists}
+use Rattle.vq_order.proofs.WindowLaws.{possible_down, ceiling_is}
 use Rattle.vq_order.proofs.ordered.Ordered.ceiling.Goals as goal
+
+pub count_first-count-requires : goal.count_first-count-requires
+count_first-count-requires c =
+    let p = c.args.self.now in
+    let e : c.chain-ops.result.now ≡ chain p c.args.t = c.chain-ops.ensures ∙ ap (λ (q : Plan). chain q c.args.t) c.plan.ensures.value in
+    λ k l. (l, (chain_op_exists p (plan_well_formed p c.plan.ensures.read) c.args.t c.chain-ops.result.now e k l, c.requires.exists))
 
 pub returns : goal.returns
 returns c =
     let p = c.args.self.now in
-    let w : IsWellFormed p = subst IsWellFormed c.self.view_is c.self.invariant.well_formed in
-    let ch : KeepsChains p = subst KeepsChains c.self.view_is c.self.invariant.sure_order.chains in
-    subst (IsGreatest (IsPossiblyReached p c.args.j c.args.t)) (sym c.value_after.ensures) (ceiling_is p w ch c.args.t c.args.j c.count_possible.result c.count_possible.ensures)
+    let w = plan_well_formed p c.plan.ensures.read in
+    let chains = (plan_has_sure_order p c.plan.ensures.read c.plan.ensures.lawful).chains in
+    let e : c.chain-ops.result.now ≡ chain p c.args.t = c.chain-ops.ensures ∙ ap (λ (q : Plan). chain q c.args.t) c.plan.ensures.value in
+    let found = c.count_first-count.ensures in
+    let first = first_found (MayBeMade p c.args.j) (chain p c.args.t) c.chain-ops.result.now e (possible_down p w chains c.args.t c.args.j) c.count_first-count.result found.within found.last found.next in
+    subst (IsGreatest (IsPossiblyReached p c.args.j c.args.t)) (sym c.value_after.ensures) (ceiling_is p w chains c.args.t c.args.j c.count_first-count.result first)

@@ -1,4 +1,5 @@
 use Rattle.std.proofs.Common.{◌∙◌}
+use Rattle.vq_model.specs.Forms.{BufferName, TimelineName, BinaryName, FenceName, QueueName}
 use Rattle.vq_script.specs.Names.{item_of}
 use Rattle.vq_script.proofs.NamesFound.{taken_found}
 use Rattle.vq_script.proofs.known.Known.is_declared.Goals as goal
@@ -9,5 +10,5 @@ returns c =
     let name = c.args.name.now in
     c.contains_key.ensures
     ∙ taken_found known.buffers.items known.semaphores.items known.queues.items name
-    (item_of known.names name) (known.buffer_names name) (known.timeline_names name)
-    (known.binary_names name) (known.fence_names name) (known.queue_names name)
+    (item_of known.names name) (known.all_names BufferName name) (known.all_names TimelineName name)
+    (known.all_names BinaryName name) (known.all_names FenceName name) (known.all_names QueueName name)

@@ -13,8 +13,8 @@ unreachable-requires c =
     (read_job c.args.script.now.jobs c.as_slice.result.now c.args.j c.index-as_slice-j.result _
     c.as_slice.ensures c.requires.exists c.index-as_slice-j.is c.in_default.is)
 
-pub lower_waits-requires-clause-exist : goal.lower_waits-requires-clause-exist
-lower_waits-requires-clause-exist c =
+pub lower_needs-requires-clause-exist : goal.lower_needs-requires-clause-exist
+lower_needs-requires-clause-exist c =
     let s = c.args.script.now in
     let at = read_job s.jobs c.as_slice.result.now c.args.j
     c.index-as_slice-j.result _ c.as_slice.ensures c.requires.exists c.index-as_slice-j.is
@@ -23,8 +23,8 @@ lower_waits-requires-clause-exist c =
     (sym c.as_slice-2.ensures)
     (waits_exist s c.requires.read c.args.j c.in-Batch.batch at c.args.self.now c.requires.kept)
 
-pub lower_waits-requires-clause-counted : goal.lower_waits-requires-clause-counted
-lower_waits-requires-clause-counted c =
+pub lower_needs-requires-clause-counted : goal.lower_needs-requires-clause-counted
+lower_needs-requires-clause-counted c =
     ap length c.as_slice-counts.ensures.value
     ∙ counts_length c.args.script.now c.args.self.now.signals c.requires.kept.signals
 

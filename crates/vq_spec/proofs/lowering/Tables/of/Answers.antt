@@ -1,10 +1,10 @@
 use Rattle.std.proofs.Common.{◌≡◌, ◌∙◌, ap, sym, length, map, subst, All, List, ℕ, ◌<◌, ◌^◌, arith}
 use Rattle.std.specs.List.{enumerate_from, range_with_len}
 use Rattle.vq_model.specs.declared.plan.Op.{Op}
-use Rattle.vq_model.specs.Edges.{edges_to}
 use Rattle.vq_model.specs.Lowering.{plan_of}
 use Rattle.vq_spec.specs.declared.chains.Chain.{Chain}
 use Rattle.vq_spec.specs.ChainParts.{placed, IsSearchable, AreSorted, AreChains}
+use Rattle.vq_spec.specs.Jobs.{waits_of}
 use Rattle.vq_spec.proofs.KeptTables.{lowered_jobs, lowered_ops, lowered_few, kept}
 use Rattle.vq_spec.proofs.PlanChains.{unplaced_ops, are_chains, searchable, placed_ops, unplaced_exist}
 use Rattle.vq_spec.proofs.lowering.Tables.of.Goals as goal
@@ -56,8 +56,8 @@ place_ops-requires-clause-searchable c =
     (searchable c.as_slice-unplaced.result.now _ c.in_ok-chains.chains.items few
     (c.in_ok-chains.ensures {u = tt}))
 
-pub lower_edges-requires-clause-parts : goal.lower_edges-requires-clause-parts
-lower_edges-requires-clause-parts c =
+pub lower_waits-requires-clause-parts : goal.lower_waits-requires-clause-parts
+lower_waits-requires-clause-parts c =
     let s = c.args.script.now in
     let chains = c.in_ok-chains.chains.items in
     let ops : c.as_slice-unplaced.result.now ≡ unplaced_ops s = c.as_slice-unplaced.ensures.value
@@ -85,8 +85,8 @@ returns c =
     (ap length c.as_slice.ensures) (c.in_ok-chains.ensures {u = tt})) in
     let jobs = lowered_jobs s c.in_ok-jobs.field-0 (c.in_ok-jobs.ensures {u = tt}) in
     kept s c.requires.read c.requires.faultless _ jobs
-    (c.in_ok-edges.ensures {u = tt}
-    ∙ ap (λ js. map (edges_to (plan_of s)) (range_with_len 0 (length js)))
+    (c.in_ok-waits.ensures {u = tt}
+    ∙ ap (λ js. map (waits_of (plan_of s)) (range_with_len 0 (length js)))
     c.as_slice-5.ensures.value)
     (c.in_ok-lower_places.ensures {u = tt})
     (c.in_ok-ops.ensures {u = tt}

@@ -2,7 +2,7 @@ use Rattle.std.proofs.Common.{rules, ◌≡◌, ◌∷◌, [], not, reverse, sym
 use Rattle.std.specs.Prelude.{◌==◌}
 use Rattle.std.proofs.lemmas.List.{reverse-append}
 use Rattle.std.proofs.lemmas.Fn.{filter_same}
-use Rattle.vq_points.specs.Timeline.{Timeline, CanFree, after_free}
+use Rattle.vq_points.specs.Timeline.{Timeline, MayFree, after_free}
 use Rattle.vq_timeline_core.specs.Lists.{lists_of}
 use Rattle.vq_timeline_core.proofs.Steps.{freed_keeps, freed_is}
 use Rattle.vq_timeline_core.proofs.timeline.TimelineCore.free.Goals as goal
@@ -10,7 +10,7 @@ use Rattle.vq_timeline_core.proofs.timeline.TimelineCore.free.Goals as goal
 pub invariant_of-self : goal.invariant_of-self
 invariant_of-self c =
     let t = lists_of c.self.inside in
-    let can = subst (λ (t : Timeline). CanFree t c.args.point) (sym c.self.view_is) c.requires in
+    let can = subst (λ (t : Timeline). MayFree t c.args.point) (sym c.self.view_is) c.requires in
     let left = filter_same _ (λ x. not (x == c.args.point)) _ (λ x b f k. search rules) _ _ c.retain.ensures.filtered in
     let free = ap reverse c.push_reserved.ensures.items ∙ reverse-append c.self.inside.free.items (c.args.point ∷ []) in
     let waiting_room = c.retain.ensures.capacity in

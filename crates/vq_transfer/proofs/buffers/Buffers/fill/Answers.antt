@@ -11,7 +11,7 @@ fill-requires-clause-within c =
     let v = c.index_mut-bytes.result.now in
     let size = size_at _ c.args.self.now c.args.target v c.self.view_is c.requires.written.exists
     c.index_mut-bytes.ensures.value in
-    let count = c.fill_size-count.ensures ∙ ap (fill_size c.args.size c.args.offset)
+    let count = c.bytes-count.ensures ∙ ap (fill_size c.args.size c.args.offset)
     (c.len.ensures ∙ (v.ok.0 ∙ sym size)) in
     omega (arith, c.requires.written.ends, ap length c.as_mut_slice.ensures.value)
 
@@ -19,12 +19,12 @@ pub returns : goal.returns
 returns c =
     let m = c.args.self.now in
     let v = c.index_mut-bytes.result.now in
-    let n = c.fill_size-count.result in
+    let n = c.bytes-count.result in
     let read = c.index_mut-bytes.ensures.value in
     let exists = c.requires.written.exists in
     let size = size_at _ m c.args.target v c.self.view_is exists read in
     let here = bytes_at _ m c.args.target v c.self.view_is exists read in
-    let count = c.fill_size-count.ensures ∙ ap (fill_size c.args.size c.args.offset)
+    let count = c.bytes-count.ensures ∙ ap (fill_size c.args.size c.args.offset)
     (c.len.ensures ∙ v.ok.0) in
     let asked = count ∙ ap (fill_size c.args.size c.args.offset) (sym size) in
     let long = length-map-range_with_len (word_byte c.args.word) 0 n in

@@ -1,0 +1,41 @@
+-- What the parts of a check give is what the check gives.
+use Rattle.std.proofs.Common.{◌≡◌, Err, Option, Some, None, subst}
+use Rattle.vq_model.specs.declared.plan.OrderFault.{OrderFault}
+use Rattle.vq_model.specs.declared.plan.OrderFault.TheVariants.{Unreachable, Unordered, FenceBusy, NotPending, Race, Memory}
+use Rattle.vq_model.specs.Checks.{Checks, IsFirstPlanFault, IsLawful, IsRaceAt, IsUnordered, NoLines}
+use Rattle.vq_model.specs.Plan.{Plan}
+use Rattle.vq_plan_laws.proofs.Cited.{never_busy, never_ahead}
+use Rattle.vq_order.specs.declared.lines.Lines.{Lines}
+use Rattle.vq_order.specs.Checked.{KeepsPlanOr}
+use Rattle.vq_order.specs.LeastLines.{AreLeastOrNone}
+use Rattle.vq_order.specs.VectorClocks.{IsComplete}
+
+pub fault_is : (p : Plan) (f : OrderFault) → KeepsPlanOr p (Err f) → Checks p (Err f)
+fault_is p (Unreachable n) h = h
+fault_is p (Unordered a b) h = h
+fault_is p (FenceBusy n) h = h
+fault_is p (NotPending n) h = h
+fault_is p (Race a b) h = h
+fault_is p Memory h = h
+
+module _ (p o : Plan) (same : o ≡ p) (complete : IsComplete p) (unordered : NoLines (IsUnordered o)) (x : Option Lines) (race : AreLeastOrNone (IsRaceAt o) x) where
+  -- A plan of which the slow run leaves no job, with no signals in no sure order and no race, is
+  -- lawful: the other faults need steps that can't be written so far.
+  pub lawful_plan : x ≡ None → IsLawful p
+  lawful_plan none =
+      record {
+        reachable = complete.reachable;
+        ordered = subst (λ (q : Plan). NoLines (IsUnordered q)) same unordered;
+        resettable = never_busy p complete.plan;
+        pending = never_ahead p complete.plan;
+        race_free = subst (λ (z : Plan × Option Lines). AreLeastOrNone (IsRaceAt z.0) z.1) (λ i. (same i, none i)) race;
+      }
+
+  pub race_first : (l : Lines) → x ≡ Some l → IsFirstPlanFault p (Race l.first l.second)
+  race_first l some = (
+    complete.reachable,
+    subst (λ (q : Plan). NoLines (IsUnordered q)) same unordered,
+    never_busy p complete.plan,
+    never_ahead p complete.plan,
+    subst (λ (z : Plan × Option Lines). AreLeastOrNone (IsRaceAt z.0) z.1) (λ i. (same i, some i)) race,
+  )

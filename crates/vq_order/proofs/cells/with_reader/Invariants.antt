@@ -1,9 +1,0 @@
-use Rattle.std.proofs.Common.{◌≡◌, ◌⊎◌, ℕ, true, take}
-use Rattle.vq_model.specs.Plan.{has}
-use Rattle.vq_order.specs.Swept.{AtOrBefore}
-use Rattle.vq_order.proofs.cells.with_reader.Given as goal
-
-abbrev pub invariant-loop-reader : goal.invariant-loop-reader
-invariant-loop-reader l =
-    ((i : ℕ) → has (take l.reader-index l.reader-items) i ≡ true → AtOrBefore l.plan i l.job ⊎ (has l.kept.items i ≡ true))
-    × ((i : ℕ) → has l.kept.items i ≡ true → has l.reader-items i ≡ true)

@@ -1,0 +1,25 @@
+use Rattle.std.proofs.Common.{◌∙◌, sym, subst}
+use Rattle.std.proofs.lemmas.Result.{err_from_is_err_and}
+use Rattle.vq_model.specs.Checks.{IsLawful}
+use Rattle.vq_order.proofs.CheckLaws.{fault_is, lawful_plan, race_first}
+use Rattle.vq_order.proofs.checking.check.Goals as goal
+
+pub returns-in_err-order : goal.returns-in_err-order
+returns-in_err-order c =
+    let p = err_from_is_err_and c.from_residual.result c.from_residual.ensures.1 in
+    rw (p.1, p.2) (fault_is c.args.plan c.in_err-order.field-0.0 c.in_err-order.ensures)
+
+pub returns-in-Some-2 : goal.returns-in-Some-2
+returns-in-Some-2 c =
+    let k = c.in_ok-order.ensures in
+    race_first c.args.plan c.in_ok-order.order k.0 k.1 c.in_default.ensures c.in_ok-first.field-0 c.in_ok-first.ensures c.in-Some-2.field-0 c.in-Some-2.is
+
+pub of-requires : goal.of-requires
+of-requires c =
+    let k = c.in_ok-order.ensures in
+    subst IsLawful (sym k.0) (lawful_plan c.args.plan c.in_ok-order.order k.0 k.1 c.in_default.ensures c.in_ok-first.field-0 c.in_ok-first.ensures c.in_default-2.is)
+
+pub returns : goal.returns
+returns c =
+    let k = c.in_ok-order.ensures in
+    (c.of.ensures ∙ k.0, lawful_plan c.args.plan c.in_ok-order.order k.0 k.1 c.in_default.ensures c.in_ok-first.field-0 c.in_ok-first.ensures c.in_default-2.is)

@@ -1,9 +1,0 @@
-use Rattle.std.proofs.Common.{◌<◌, ◌≤◌, ◌-◌, ℕ, length, get_or}
-use Rattle.vq_model.specs.Windows.{IsPossible}
-use Rattle.vq_order.proofs.ordered.Ordered.count_possible.Given as goal
-
-abbrev pub decreases-loop-low : goal.decreases-loop-low
-decreases-loop-low l = l.high - l.low
-
-abbrev pub invariant-loop-low : goal.invariant-loop-low
-invariant-loop-low l = (l.low ≤ l.high) × (l.high ≤ length l.ops) × ((k : ℕ) → k < l.low → IsPossible l.self l.j l.t (get_or l.ops k 0)) × ((k : ℕ) → l.high ≤ k → k < length l.ops → ¬ IsPossible l.self l.j l.t (get_or l.ops k 0))

@@ -1,0 +1,12 @@
+use Rattle.std.proofs.Common.{refl}
+use Rattle.vq_order.proofs.SweepLaws.{read_keeps, read_jobs}
+use Rattle.vq_order.proofs.races.cells.Cell.read.Goals as goal
+
+pub returns : goal.returns
+returns c =
+    let p = c.args.order.now in
+    let old = c.args.self.now in
+    record {
+      jobs = read_jobs p old (record { writer = old.writer; readers = c.in_ok-self.field-0 }) c.args.job refl c.requires.jobs c.requires.exists c.in_ok-self.ensures;
+      keeps = read_keeps p old (record { writer = old.writer; readers = c.in_ok-self.field-0 }) c.args.job refl (c.follows_writer.ensures c.if-not-follows_writer.false) c.in_ok-self.ensures;
+    }

@@ -1,0 +1,50 @@
+//! Checking a plan.
+ghost use Rattle.vq_model.specs.Checks.{Checks};
+ghost use Rattle.vq_order.specs.Checked.{KeepsPlanOr};
+
+use crate::clocked::Clocked;
+use crate::complete_run::CompleteRun;
+use crate::lines::Lines;
+use crate::ordered::Ordered;
+use crate::races::first_race;
+use crate::unordered::first_unordered;
+use crate::unreachable::least_unreached;
+use std::alloc::Global;
+use vq_model::plan::OrderFault;
+use vq_spec::{Plan, slow_order};
+
+/// A plan with the order of its jobs, or its first unreachable wait.
+fn clocked(alloc: Global, plan: Plan) -> Result<Clocked, OrderFault>
+    ensures { KeepsPlanOr plan result }
+{
+    let run = slow_order(alloc, &plan)?;
+    if let Some(line) = least_unreached(&plan, &run) {
+        return Err(OrderFault::Unreachable { line });
+    }
+    let run = CompleteRun::new(alloc, plan, run)?;
+    let order = Clocked::new(alloc, run)?;
+    Ok(order)
+}
+
+/// Checks a plan, and keeps it with the order of its jobs where it is lawful.
+///
+/// The errors come in this order, each with the least line, or with the least pair of lines by the
+/// second and then by the first: `Unreachable`, where the slow run leaves a job, with a wait that is
+/// then unreached; `Unordered`, where signals of one semaphore stand in no sure order; `Race`, where
+/// commands of two jobs conflict and neither happens before the other. `FenceBusy` and `NotPending`
+/// don't come of scripts that can be written so far. `Memory` is want of memory.
+///
+/// Source: Vulkan 1.3, "Semaphore Signaling", "Semaphore Waiting", "Execution and Memory
+/// Dependencies". That the slow run decides what can be reached is this project's rule.
+pub fn check(alloc: Global, plan: Plan) -> Result<Ordered, OrderFault>
+    ensures { Checks plan result }
+{
+    let order = clocked(alloc, plan)?;
+    if let Some(Lines { first, second }) = first_unordered(&order) {
+        return Err(OrderFault::Unordered { first, second });
+    }
+    if let Some(Lines { first, second }) = first_race(alloc, &order)? {
+        return Err(OrderFault::Race { first, second });
+    }
+    Ok(Ordered::of(order))
+}

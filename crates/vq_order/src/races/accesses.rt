@@ -1,0 +1,187 @@
+//! The bytes that commands read and write.
+ghost use Rattle.std.specs.Prelude.{◌≡◌, ◌<◌, ℕ, true, false, length, IfOk, option_map};
+ghost use Rattle.std.specs.List.{slice_index_or};
+ghost use Rattle.std.specs.Option.{option_map_or};
+ghost use Rattle.vq_model.specs.LoweringFaults.{IsPlan};
+ghost use Rattle.vq_model.specs.Plan.{commands_of, has};
+ghost use Rattle.vq_model.specs.Ranges.{Fits, fill_size, read_range, written_range};
+ghost use Rattle.vq_order.specs.Accessed.{accesses_conflict, span_of, spans_share, AreAccesses, HasOwners, IsAccess};
+ghost use Rattle.vq_order.specs.VectorClocks.{in_row};
+
+use std::alloc::{AllocError, Global};
+use vq_model::script::{Command, FillSize};
+use vq_spec::Plan;
+
+/// Bytes of one buffer, from `start` up to `end`.
+#[derive(Clone, Copy)]
+pub(crate) struct Span {
+    pub(crate) buffer: u32,
+    pub(crate) start: u32,
+    pub(crate) end: u32,
+}
+
+/// What a command of a job writes, and what it reads.
+#[derive(Clone, Copy)]
+pub(crate) struct Access {
+    pub(crate) job: u32,
+    pub(crate) written: Span,
+    pub(crate) read: Option<Span>,
+}
+
+/// Whether two ranges have a byte in common.
+fn share(a: Span, b: Span) -> bool
+    ensures { result ≡ spans_share a b }
+{
+    a.buffer == b.buffer && a.start.max(b.start) < a.end.min(b.end)
+}
+
+/// Whether a range has a byte in common with another one, if there is another one.
+fn share_some(a: Span, b: Option<Span>) -> bool
+    ensures { result ≡ option_map_or (spans_share a) b false }
+{
+    match b {
+        Some(b) => share(a, b),
+        None => false,
+    }
+}
+
+/// Whether one command writes a byte that the other one reads or writes.
+pub(crate) fn conflict(a: &Access, b: &Access) -> bool
+    ensures { result ≡ accesses_conflict a.now b.now }
+{
+    share(a.written, b.written) || share_some(a.written, b.read) || share_some(b.written, a.read)
+}
+
+/// How many bytes a buffer has.
+fn buffer_size(plan: &Plan, buffer: u32) -> u32
+    requires { buffer < length plan.now.sizes }
+    ensures { result ≡ slice_index_or plan.now.sizes buffer 0 }
+{
+    plan.script().buffers.as_slice()[buffer as usize].size
+}
+
+/// How many bytes a fill from `offset` on writes in a buffer of `len` bytes.
+fn fill_size(size: FillSize, offset: u32, len: u32) -> u32
+    ensures { result ≡ fill_size size offset len }
+{
+    match size {
+        FillSize::Whole => len.saturating_sub(offset) / 4 * 4,
+        FillSize::Count(count) => count,
+    }
+}
+
+/// What a command writes.
+fn written_span(plan: &Plan, command: &Command) -> Span
+    requires plan { IsPlan plan.now }
+    requires fits { Fits plan.now.sizes command.now }
+    ensures { result ≡ span_of (written_range plan.now.sizes command.now) }
+{
+    match command {
+        Command::Fill {
+            buffer,
+            offset,
+            size,
+            word: _,
+        } => Span {
+            buffer: *buffer,
+            start: *offset,
+            end: *offset + fill_size(*size, *offset, buffer_size(plan, *buffer)),
+        },
+        Command::Update {
+            buffer,
+            offset,
+            bytes,
+        } => Span {
+            buffer: *buffer,
+            start: *offset,
+            end: *offset + bytes.as_slice().len() as u32,
+        },
+        Command::Copy {
+            source: _,
+            source_offset: _,
+            target,
+            target_offset,
+            size,
+        } => Span {
+            buffer: *target,
+            start: *target_offset,
+            end: *target_offset + *size,
+        },
+    }
+}
+
+/// What a command reads.
+fn read_span(plan: &Plan, command: &Command) -> Option<Span>
+    requires plan { IsPlan plan.now }
+    requires fits { Fits plan.now.sizes command.now }
+    ensures { result ≡ option_map span_of (read_range command.now) }
+{
+    match command {
+        Command::Copy {
+            source,
+            source_offset,
+            target: _,
+            target_offset: _,
+            size,
+        } => Some(Span {
+            buffer: *source,
+            start: *source_offset,
+            end: *source_offset + *size,
+        }),
+        _ => None,
+    }
+}
+
+/// What a command of this job reads and writes.
+fn access_of(plan: &Plan, c: u32, job: u32) -> Access
+    requires plan { IsPlan plan.now }
+    requires own { has (commands_of plan.now job) c ≡ true }
+    ensures { IsAccess plan.now c result }
+{
+    let command = &plan.command(c).command;
+    Access {
+        job,
+        written: written_span(plan, command),
+        read: read_span(plan, command),
+    }
+}
+
+/// Writes down a job as that of its commands.
+fn claim(owners: &mut [u32], plan: &Plan, j: u32)
+    requires plan { IsPlan plan.now }
+    requires exists { j < length plan.now.jobs }
+    requires count { length owners.old ≡ length plan.now.commands }
+    ensures own { (c : ℕ) → has (commands_of plan.now j) c ≡ true → in_row owners.new c ≡ j }
+    ensures others { (c : ℕ) → has (commands_of plan.now j) c ≡ false →
+        in_row owners.new c ≡ in_row owners.old c }
+{
+    for c in plan.job(j).commands.as_slice() {
+        owners[*c as usize] = j;
+    }
+}
+
+/// The job of each command.
+fn owners(alloc: Global, plan: &Plan) -> Result<Vec<u32>, AllocError>
+    requires { IsPlan plan.now }
+    ensures { IfOk result (λ owners. HasOwners plan.now owners.items) }
+{
+    let mut owners = vec![in alloc; 0; plan.commands() as usize]?;
+    for j in 0..plan.jobs() {
+        claim(&mut owners, plan, j);
+    }
+    Ok(owners)
+}
+
+/// What all commands read and write.
+pub(crate) fn all_accesses(alloc: Global, plan: &Plan) -> Result<Vec<Access>, AllocError>
+    requires { IsPlan plan.now }
+    ensures accesses { IfOk result (λ accesses. AreAccesses plan.now accesses.items) }
+    ensures all { IfOk result (λ accesses. length accesses.items ≡ length plan.now.commands) }
+{
+    let owners = owners(alloc, plan)?;
+    let mut accesses = Vec::with_capacity(alloc, owners.len())?;
+    for c in 0..plan.commands() {
+        accesses.push(access_of(plan, c, owners[c as usize]))?;
+    }
+    Ok(accesses)
+}

@@ -1,0 +1,68 @@
+//! Cuts: buffers are cut into cells where the ranges of commands begin.
+ghost use Rattle.std.specs.Prelude.{◌≡◌, ◌<◌, ◌≤◌, ◌++◌, ℕ, length, OnOk, IfOk};
+ghost use Rattle.std.specs.List.{slice_index_or};
+ghost use Rattle.std.specs.List.Sorted.{IsNonDecreasing};
+ghost use Rattle.vq_order.specs.CellRanges.{axis, starts_of, AreCuts, IsReach};
+
+use crate::races::accesses::{Access, Span};
+use std::alloc::{AllocError, Global};
+
+/// Cells, from the first one up to an end.
+#[derive(Clone, Copy)]
+pub(crate) struct Reach {
+    pub(crate) first: usize,
+    pub(crate) end: usize,
+}
+
+/// A byte of a buffer as one number.
+fn on_axis(buffer: u32, offset: u32) -> u64
+    ensures { result ≡ axis buffer offset }
+{
+    u64::from(buffer) * 4294967296 + u64::from(offset)
+}
+
+/// Adds where the ranges of a command begin.
+fn push_starts(cuts: &mut Vec<u64>, access: &Access) -> Result<(), AllocError>
+    ensures { OnOk result (cuts.new.items ≡ cuts.old.items ++ starts_of access.now) }
+{
+    cuts.push(on_axis(access.written.buffer, access.written.start))?;
+    if let Some(read) = access.read {
+        cuts.push(on_axis(read.buffer, read.start))?;
+    }
+    Ok(())
+}
+
+/// Where the ranges of all commands begin, each place once, in order.
+pub(crate) fn make_cuts(alloc: Global, accesses: &[Access]) -> Result<Vec<u64>, AllocError>
+    ensures { IfOk result (λ cuts. AreCuts accesses.now cuts.items) }
+{
+    let mut cuts = Vec::new(alloc);
+    for access in accesses {
+        push_starts(&mut cuts, access)?;
+    }
+    cuts.sort_unstable();
+    cuts.dedup();
+    Ok(cuts)
+}
+
+/// How many cuts are below a place.
+fn cuts_below(cuts: &[u64], place: u64) -> usize
+    requires { IsNonDecreasing cuts.now }
+    ensures within { result ≤ length cuts.now }
+    ensures below { (k : ℕ) → k < result → slice_index_or cuts.now k 0 < place }
+    ensures above { (k : ℕ) → result ≤ k → k < length cuts.now →
+        place ≤ slice_index_or cuts.now k 0 }
+{
+    cuts.partition_point(|cut| *cut < place)
+}
+
+/// The cells of a range.
+pub(crate) fn reach_of(cuts: &[u64], span: Span) -> Reach
+    requires { IsNonDecreasing cuts.now }
+    ensures { IsReach cuts.now span result }
+{
+    Reach {
+        first: cuts_below(cuts, on_axis(span.buffer, span.start)),
+        end: cuts_below(cuts, on_axis(span.buffer, span.end)),
+    }
+}

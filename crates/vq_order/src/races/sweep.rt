@@ -1,0 +1,158 @@
+//! Going through all commands in the order of the slow run, cell by cell. As happens-before agrees
+//! with that order, it is enough to ask whether what has touched a cell before comes before.
+ghost use Rattle.std.specs.Prelude.{◌≡◌, ◌<◌, true, false, length, IfOk, OnOk};
+ghost use Rattle.std.specs.List.Sorted.{IsNonDecreasing};
+ghost use Rattle.vq_model.specs.Plan.{commands_of};
+ghost use Rattle.vq_model.specs.SlowRun.{slow_order};
+ghost use Rattle.vq_order.specs.Accessed.{AreAccesses, HasNoRaceBelow};
+ghost use Rattle.vq_order.specs.Swept.{is_write, AreUntouched, FitsSweep, ReadsCell, Sweeps};
+ghost use Rattle.vq_order.specs.Swept.{TouchesAmong, TouchesBy, TouchesIn, TouchesSpan};
+ghost use Rattle.vq_order.specs.VectorClocks.{IsComplete};
+
+use crate::clocked::Clocked;
+use crate::races::accesses::{Access, Span};
+use crate::races::cells::{Cell, Halt, Touch};
+use crate::races::cuts::{Reach, make_cuts, reach_of};
+use std::alloc::{AllocError, Global};
+
+/// What stays the same while commands are gone through: the order of the jobs, and where cells
+/// begin.
+#[derive(Clone, Copy)]
+struct Sweep<'a> {
+    order: &'a Clocked,
+    cuts: &'a [u64],
+}
+
+impl Sweep<'_> {
+    /// Goes through the cells of a range.
+    fn range(
+        &self,
+        alloc: Global,
+        cells: &mut [Cell],
+        span: Span,
+        job: u32,
+        touch: Touch,
+    ) -> Result<(), Halt>
+        requires fits { FitsSweep self.now.order.now self.now.cuts.now cells.old }
+        requires exists { job < length self.now.order.now.jobs }
+        ensures { OnOk result (Sweeps self.now.order.now cells.old cells.new
+            (TouchesSpan self.now.cuts.now span job (is_write touch))) }
+    {
+        let Reach { first, end } = reach_of(self.cuts, span);
+        for k in first..end {
+            cells[k].touch(alloc, self.order, job, touch)?;
+        }
+        Ok(())
+    }
+
+    /// Goes through the cells that a command reads.
+    fn read(&self, alloc: Global, cells: &mut [Cell], access: &Access) -> Result<(), Halt>
+        requires fits { FitsSweep self.now.order.now self.now.cuts.now cells.old }
+        requires exists { access.now.job < length self.now.order.now.jobs }
+        ensures { OnOk result (Sweeps self.now.order.now cells.old cells.new
+            (ReadsCell self.now.cuts.now access.now)) }
+    {
+        match access.read {
+            Some(read) => self.range(alloc, cells, read, access.job, Touch::Reads),
+            None => Ok(()),
+        }
+    }
+
+    /// Goes through the cells of a command.
+    fn command(&self, alloc: Global, cells: &mut [Cell], access: &Access) -> Result<(), Halt>
+        requires fits { FitsSweep self.now.order.now self.now.cuts.now cells.old }
+        requires exists { access.now.job < length self.now.order.now.jobs }
+        ensures { OnOk result (Sweeps self.now.order.now cells.old cells.new
+            (TouchesBy self.now.cuts.now access.now)) }
+    {
+        self.read(alloc, cells, access)?;
+        self.range(alloc, cells, access.written, access.job, Touch::Writes)
+    }
+
+    /// Goes through those commands of a job whose accesses are given: those of the first commands
+    /// of the plan.
+    fn job(
+        &self,
+        alloc: Global,
+        cells: &mut [Cell],
+        accesses: &[Access],
+        j: u32,
+    ) -> Result<(), Halt>
+        requires fits { FitsSweep self.now.order.now self.now.cuts.now cells.old }
+        requires accesses { AreAccesses self.now.order.now accesses.now }
+        requires exists { j < length self.now.order.now.jobs }
+        ensures { OnOk result (Sweeps self.now.order.now cells.old cells.new
+            (TouchesAmong self.now.cuts.now accesses.now (commands_of self.now.order.now j))) }
+    {
+        for c in self.order.job(j).commands.as_slice() {
+            if let Some(access) = accesses.get(*c as usize) {
+                self.command(alloc, cells, access)?;
+            }
+        }
+        Ok(())
+    }
+
+    /// Goes through commands in the order of the slow run.
+    fn jobs(&self, alloc: Global, cells: &mut [Cell], accesses: &[Access]) -> Result<(), Halt>
+        requires fits { FitsSweep self.now.order.now self.now.cuts.now cells.old }
+        requires accesses { AreAccesses self.now.order.now accesses.now }
+        ensures swept { OnOk result (Sweeps self.now.order.now cells.old cells.new
+            (TouchesIn self.now.order.now self.now.cuts.now accesses.now
+            (slow_order self.now.order.now))) }
+        ensures complete { IsComplete self.now.order.now }
+    {
+        for j in self.order.slow_order() {
+            self.job(alloc, cells, accesses, *j)?;
+        }
+        Ok(())
+    }
+}
+
+/// Cells that nothing has touched.
+fn untouched(alloc: Global, count: usize) -> Result<Vec<Cell>, AllocError>
+    ensures count { IfOk result (λ cells. length cells.items ≡ count) }
+    ensures untouched { IfOk result (λ cells. AreUntouched cells.items) }
+{
+    let mut cells = Vec::with_capacity(alloc, count)?;
+    for _ in 0..count {
+        cells.push(Cell::new(alloc))?;
+    }
+    Ok(cells)
+}
+
+/// How many cells a range has.
+fn cell_count(cuts: &[u64], span: Span) -> usize
+    requires { IsNonDecreasing cuts.now }
+{
+    let Reach { first, end } = reach_of(cuts, span);
+    end.saturating_sub(first)
+}
+
+/// How many cells commands read and write, each time counted.
+pub(crate) fn touch_count(alloc: Global, accesses: &[Access]) -> Result<usize, AllocError> {
+    let cuts = make_cuts(alloc, accesses)?;
+    let cuts = cuts.as_slice();
+    let mut count: usize = 0;
+    for access in accesses {
+        count = count.saturating_add(cell_count(cuts, access.written));
+        if let Some(read) = access.read {
+            count = count.saturating_add(cell_count(cuts, read));
+        }
+    }
+    Ok(count)
+}
+
+/// Goes through the first commands of a plan, in the order of the slow run. The error is a command
+/// that comes after one that it conflicts with and that isn't before it, or want of memory.
+pub(crate) fn go_through(alloc: Global, order: &Clocked, accesses: &[Access]) -> Result<(), Halt>
+    requires { AreAccesses order.now accesses.now }
+    ensures { OnOk result (HasNoRaceBelow order.now (length accesses.now)) }
+{
+    let cuts = make_cuts(alloc, accesses)?;
+    let mut cells = untouched(alloc, cuts.len())?;
+    let sweep = Sweep {
+        order,
+        cuts: cuts.as_slice(),
+    };
+    sweep.jobs(alloc, cells.as_mut_slice(), accesses)
+}

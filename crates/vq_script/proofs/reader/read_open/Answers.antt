@@ -1,0 +1,19 @@
+use Rattle.std.proofs.Common.{Option, sym, subst}
+use Rattle.vq_model.specs.declared.script.Batch.{Batch}
+use Rattle.vq_model.specs.Reading.{with_line}
+use Rattle.vq_script.specs.Holds.{Holds, Kept}
+use Rattle.vq_script.specs.SaidLines.{statement_in}
+use Rattle.vq_script.proofs.Pushes.{holds_after}
+use Rattle.vq_script.proofs.reader.read_open.Goals as goal
+
+pub returns-in_ok-add-in-Ok : goal.returns-in_ok-add-in-Ok
+returns-in_ok-add-in-Ok c = λ lines h m.
+    let told = c.in-Ok.ensures.told lines h m in
+    let s = statement_in c.in-Ok.said in (
+      s,
+      told.0,
+      told.1,
+      subst (λ (now : Kept × Option Batch). Holds (with_line lines c.args.number s) now.0 now.1)
+          (sym c.in_ok-add-in-Ok.ensures)
+          (holds_after lines c.args.number c.in-Ok.said _ _ h c.in-Ok.ensures.may.keep),
+    )

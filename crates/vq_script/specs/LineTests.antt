@@ -1,0 +1,127 @@
+-- The tests of a line, over what the parser keeps of the lines before it.
+use Rattle.std.specs.Prelude.{ℕ, ◌≡◌, ◌+◌, Bool, true, false, ◌&&◌, ◌||◌, not, cond, find, length, nat_lt, is_some, List, [], ◌∷◌, Option, Some, None}
+use Rattle.std.specs.List.{list_all, position, slice_get}
+use Rattle.std.specs.Option.{option_map_or}
+use Rattle.vq_model.specs.declared.script.Batch.{Batch}
+use Rattle.vq_model.specs.declared.script.Command.{Command}
+use Rattle.vq_model.specs.declared.script.Command.TheVariants.{Fill, Update, Copy}
+use Rattle.vq_model.specs.declared.script.FillSize.TheVariants.{Whole, Count}
+use Rattle.vq_model.specs.declared.statement.FaultKind.{FaultKind}
+use Rattle.vq_model.specs.declared.statement.FaultKind.TheVariants.{Syntax, Order, Number, Name, Twice, Range, Overlap, Limit}
+use Rattle.vq_model.specs.declared.statement.Line.{Line}
+use Rattle.vq_model.specs.declared.statement.LineForm.{LineForm}
+use Rattle.vq_model.specs.declared.statement.LineForm.TheVariants.{WaitTimelineLine, WaitBinaryLine}
+use Rattle.vq_model.specs.declared.statement.Statement.{Statement}
+use Rattle.vq_model.specs.declared.statement.Statement.TheVariants.{AddWait, AddCommand, AddSignal, BeginBatch, DeclareBuffer, DeclareSemaphore, DeclareQueue}
+use Rattle.vq_model.specs.Context.{is_immediate}
+use Rattle.vq_model.specs.Forms.{Slot, NewName, BufferName, TimelineName, BinaryName, FenceName, QueueName}
+use Rattle.vq_model.specs.Limits.{limits_of, passes_limit}
+use Rattle.vq_model.specs.LineFaults.{is_shaped, is_numeric, is_declaration, part_of_form, is_batch_fence_form, is_in_range, overlaps}
+use Rattle.vq_model.specs.Meaning.{is_built}
+use Rattle.vq_model.specs.Ranges.{is_aligned}
+use Rattle.vq_script.specs.Holds.{Kept, last_part, named_fence, waits_of, commands_of, signals_of}
+use Rattle.vq_script.specs.Names.{number_in_lists, is_taken}
+
+-- Syntax
+
+-- whether the open batch is of an immediate queue
+abbrev pub is_immediate_in : Kept → Option Batch → Bool
+is_immediate_in k None = false
+is_immediate_in k (Some b) = option_map_or (λ q. is_immediate q.mode) (slice_get k.queues b.queue) false
+
+abbrev pub is_built_in : Kept → Option Batch → LineForm → Bool
+is_built_in k batch WaitTimelineLine = not (is_immediate_in k batch)
+is_built_in k batch WaitBinaryLine = not (is_immediate_in k batch)
+is_built_in k batch other = is_built [] other
+
+-- Order
+
+abbrev pub is_late : Kept → Option Batch → LineForm → Bool
+is_late k batch form =
+    (is_declaration form && (is_some batch || nat_lt 0 (length k.jobs)))
+    || nat_lt (part_of_form form) (last_part batch)
+    || (is_batch_fence_form form && is_some (named_fence batch))
+
+-- Name and Twice
+
+-- the number of what has this name, of the kind that the place needs
+unfoldable pub number_of : Kept → Slot → List ℕ → Option ℕ
+number_of k place name = number_in_lists k.buffers k.semaphores k.queues place name
+
+-- no form with an actor is read yet
+abbrev pub is_known_in : Kept → Slot × List ℕ → Bool
+is_known_in k (BufferName, word) = is_some (number_of k BufferName word)
+is_known_in k (TimelineName, word) = is_some (number_of k TimelineName word)
+is_known_in k (BinaryName, word) = is_some (number_of k BinaryName word)
+is_known_in k (FenceName, word) = is_some (number_of k FenceName word)
+is_known_in k (QueueName, word) = is_some (number_of k QueueName word)
+is_known_in k (other, word) = true
+
+abbrev pub is_new_in : Kept → Slot × List ℕ → Bool
+is_new_in k (NewName, word) = not (is_taken k.buffers k.semaphores k.queues word)
+is_new_in k (other, word) = true
+
+-- the first kind of the faults that words have at their places
+abbrev pub word_fault : Kept → Option Batch → LineForm → List (Slot × List ℕ) → Option FaultKind
+word_fault k batch form words =
+    cond (not (is_built_in k batch form) || not (list_all is_shaped words)) (Some Syntax)
+    (cond (is_late k batch form) (Some Order)
+    (cond (not (list_all is_numeric words)) (Some Number)
+    (cond (not (list_all (is_known_in k) words)) (Some Name)
+    (cond (not (list_all (is_new_in k) words)) (Some Twice) None))))
+
+-- Range
+
+-- the size of a buffer
+abbrev pub size_in : Kept → ℕ → ℕ
+size_in k b = option_map_or (λ x. x.size) (slice_get k.buffers b) 0
+
+abbrev pub is_within_in : Kept → ℕ → ℕ → ℕ → Bool
+is_within_in k buffer offset size =
+    nat_lt offset (size_in k buffer) && nat_lt 0 size
+    && not (nat_lt (size_in k buffer) (offset + size))
+
+abbrev pub is_command_in : Kept → Command → Bool
+is_command_in k (Fill b o Whole w) = nat_lt o (size_in k b) && is_aligned o
+is_command_in k (Fill b o (Count n) w) = is_within_in k b o n && is_aligned o && is_aligned n
+is_command_in k (Update b o bytes) =
+    is_within_in k b o (length bytes) && is_aligned o && is_aligned (length bytes)
+    && not (nat_lt 65536 (length bytes))
+is_command_in k (Copy s from t to n) = is_within_in k s from n && is_within_in k t to n
+
+-- each wait so far holds back the whole batch, so that `end` is in range
+abbrev pub is_in_range_in : Kept → Statement → Bool
+is_in_range_in k (DeclareBuffer name size) = nat_lt 0 size
+is_in_range_in k (AddCommand command) = is_command_in k command
+is_in_range_in k (AddWait pair from) = nat_lt 0 from && nat_lt from 66
+is_in_range_in k other = true
+
+-- Limit
+
+abbrev pub passes_in : Kept → Option Batch → Statement → Bool
+passes_in k b (DeclareBuffer name size) =
+    not (nat_lt (length k.buffers) (limits_of 1).buffers)
+    || nat_lt (limits_of 1).bytes (k.bytes + size)
+passes_in k b (DeclareSemaphore name kind) =
+    not (nat_lt (length k.semaphores) (limits_of 1).semaphores)
+passes_in k b (DeclareQueue name mode) = not (nat_lt (length k.queues) (limits_of 1).queues)
+passes_in k b (BeginBatch queue) = not (nat_lt (length k.jobs) (limits_of 1).jobs)
+passes_in k b (AddWait pair from) = not (nat_lt (length (waits_of b)) (limits_of 1).waits)
+passes_in k b (AddCommand command) =
+    not (nat_lt k.commands (limits_of 1).commands)
+    || not (nat_lt (length (commands_of b)) (limits_of 1).batch_commands)
+passes_in k b (AddSignal pair) = not (nat_lt (length (signals_of b)) (limits_of 1).signals)
+passes_in k b other = false
+
+-- the first kind of the faults that a statement has
+abbrev pub statement_fault : Kept → Option Batch → Statement → Option FaultKind
+statement_fault k batch s =
+    cond (not (is_in_range_in k s)) (Some Range)
+    (cond (overlaps [] s) (Some Overlap) (cond (passes_in k batch s) (Some Limit) None))
+
+-- the same, after lines, of a statement or none
+abbrev pub later_fault : List Line → Option Statement → Option FaultKind
+later_fault lines said =
+    cond (option_map_or (λ s. not (is_in_range lines s)) said false) (Some Range)
+    (cond (option_map_or (overlaps lines) said false) (Some Overlap)
+    (cond (option_map_or (passes_limit (limits_of 1) lines) said false) (Some Limit) None))

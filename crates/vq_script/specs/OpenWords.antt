@@ -1,0 +1,28 @@
+-- The words at the open places of a line, wherever they lie.
+use Rattle.std.specs.Prelude.{ℕ, ◌≡◌, Bool, true, false, List, map, [], ◌∷◌}
+use Rattle.std.specs.List.{list_all}
+use Rattle.vq_model.specs.Forms.{Slot, Fixed, Actor}
+use Rattle.vq_script.specs.Table.{place_of}
+use Rattle.vq_script.specs.declared.open_words.OpenWord.{OpenWord}
+
+abbrev pub open_of : OpenWord → Slot × List ℕ
+open_of x = (place_of x.place, x.word.now)
+
+abbrev pub opens : List OpenWord → List (Slot × List ℕ)
+opens words = map open_of words
+
+-- a place with its word, if it isn't a fixed word
+abbrev pub opened : Slot → List ℕ → List (Slot × List ℕ)
+opened (Fixed text) given = []
+opened place given = (place, given) ∷ []
+
+-- a place that isn't an actor's
+abbrev pub is_no_actor : Slot → Bool
+is_no_actor Actor = false
+is_no_actor other = true
+
+abbrev pub IsNoActor : Slot → Type 0
+IsNoActor place = is_no_actor place ≡ true
+
+abbrev pub are_no_actors : List (Slot × List ℕ) → Type 0
+are_no_actors words = list_all (λ x. is_no_actor x.0) words ≡ true

@@ -1,0 +1,235 @@
+-- What a line says, before it is kept, and what is kept after it.
+use Rattle.std.specs.Prelude.{ℕ, ◌≡◌, ◌+◌, ◌<◌, ◌≤◌, ◌^◌, Bool, true, false, nat_lt, List, [], ◌∷◌, ◌++◌, length, Option, Some, None, is_some, map, ⊤}
+use Rattle.std.specs.List.{list_all}
+use Rattle.std.specs.Option.{option_map}
+use Rattle.vq_model.specs.declared.script.Batch.{Batch}
+use Rattle.vq_model.specs.declared.script.Command.{Command}
+use Rattle.vq_model.specs.declared.script.Command.TheVariants.{Fill, Update, Copy}
+use Rattle.vq_model.specs.declared.script.FillSize.TheVariants.{Whole, Count}
+use Rattle.vq_model.specs.declared.script.Pair.{Pair}
+use Rattle.vq_model.specs.declared.statement.Line.{Line}
+use Rattle.vq_model.specs.declared.statement.LineForm.{LineForm}
+use Rattle.vq_model.specs.declared.statement.LineForm.TheVariants.{BufferLine, TimelineLine, BinaryLine, FenceLine, QueueLine, UpdateLine, SubmitLine, WaitTimelineLine, WaitBinaryLine, SignalTimelineLine, SignalBinaryLine, BatchFenceLine, EndLine, FillWholeLine, FillLine, CopyLine}
+use Rattle.vq_model.specs.declared.statement.Statement.{Statement}
+use Rattle.vq_model.specs.declared.statement.Statement.TheVariants.{AddWait, AddCommand, AddSignal, AddFence, BeginBatch, EndBatch, DeclareBuffer, DeclareSemaphore, DeclareQueue}
+use Rattle.vq_model.specs.Forms.{Slot, NewName, BufferName, TimelineName, BinaryName, FenceName, QueueName, HexDigits, Fixed, Pairs, places}
+use Rattle.vq_model.specs.Limits.{limits_of}
+use Rattle.vq_model.specs.LineFaults.{part_of_form}
+use Rattle.vq_model.specs.Meaning.{is_hex, hex_bytes, small_numeral, binary_pair, of_two, of_three, of_four, of_five, statement_of}
+use Rattle.vq_model.specs.ScriptOfLines.{mark}
+use Rattle.vq_model.specs.Text.{is_name, numeral}
+use Rattle.vq_script.specs.declared.said.Said.{Said}
+use Rattle.vq_script.specs.declared.said.Said.TheVariants.{Buffer, Semaphore, Queue, Submit, Wait, FillWhole, Fill as SaidFill, Update as SaidUpdate, Copy as SaidCopy, Signal, Fence, End}
+use Rattle.vq_script.specs.Holds.{Kept, last_part, with_buffer, with_semaphore, with_queue, with_command, with_batch}
+use Rattle.vq_script.specs.LineTests.{number_of}
+use Rattle.vq_script.specs.Names.{is_taken}
+use Rattle.vq_script.specs.OpenWords.{is_no_actor}
+
+abbrev pub statement_in : Said → Statement
+statement_in (Buffer name size) = DeclareBuffer name.now size
+statement_in (Semaphore name kind) = DeclareSemaphore name.now kind
+statement_in (Queue name mode) = DeclareQueue name.now mode
+statement_in (Submit queue) = BeginBatch queue
+statement_in (Wait pair) = AddWait pair 1
+statement_in (FillWhole b o w) = AddCommand (Fill b o Whole w)
+statement_in (SaidFill b o n w) = AddCommand (Fill b o (Count n) w)
+statement_in (SaidUpdate b o digits) = AddCommand (Update b o (hex_bytes digits.now))
+statement_in (SaidCopy s from t to n) = AddCommand (Copy s from t to n)
+statement_in (Signal pair) = AddSignal pair
+statement_in (Fence f) = AddFence f
+statement_in End = EndBatch
+
+-- The words of a form
+
+-- the places that are no fixed words
+abbrev pub open_kinds : List Slot → List Slot
+open_kinds [] = []
+open_kinds (Fixed text ∷ more) = open_kinds more
+open_kinds (place ∷ more) = place ∷ open_kinds more
+
+-- words stand at the open places of a form
+abbrev pub AreOf : LineForm → List (Slot × List ℕ) → Type 0
+AreOf form words = map (λ x. x.0) words ≡ open_kinds (places form)
+
+-- places that end with pairs; no form with such places is read yet
+abbrev pub end_with_pairs : List Slot → Bool
+end_with_pairs [] = false
+end_with_pairs (Pairs ∷ []) = true
+end_with_pairs (place ∷ more) = end_with_pairs more
+
+-- the same, where the form doesn't end with pairs
+abbrev pub AreFound : LineForm → List (Slot × List ℕ) → Type 0
+AreFound form words = end_with_pairs (places form) ≡ false → AreOf form words
+
+-- A form stands where a batch is open, or where none is. No form with an actor is read yet.
+pub record Stands (form : LineForm) (batch : Option Batch) : Type 0 where
+  pub inside : nat_lt 0 (part_of_form form) ≡ is_some batch
+  pub no_actor : list_all is_no_actor (open_kinds (places form)) ≡ true
+
+-- what is said is the statement of a form with these words
+abbrev pub Says : List Line → LineForm → List (Slot × List ℕ) → Option Said → Type 0
+Says lines form words said =
+    option_map statement_in said ≡ statement_of lines form (map (λ x. x.1) words)
+
+-- the part of a batch to which a line belongs
+abbrev pub part_in : Said → ℕ
+part_in (Wait pair) = 1
+part_in (FillWhole b o w) = 2
+part_in (SaidFill b o n w) = 2
+part_in (SaidUpdate b o digits) = 2
+part_in (SaidCopy s from t to n) = 2
+part_in (Signal pair) = 3
+part_in (Fence f) = 4
+part_in End = 5
+part_in other = 0
+
+-- the word that is kept as it stands, with its place: a name that is declared, or digits
+abbrev pub copied_in : Said → Option (Slot × List ℕ)
+copied_in (Buffer name size) = Some (NewName, name.now)
+copied_in (Semaphore name kind) = Some (NewName, name.now)
+copied_in (Queue name mode) = Some (NewName, name.now)
+copied_in (SaidUpdate b o digits) = Some (HexDigits, digits.now)
+copied_in other = None
+
+-- .. among the words of a form
+abbrev pub new_name : List (List ℕ) → Option (Slot × List ℕ)
+new_name [] = None
+new_name (name ∷ more) = Some (NewName, name)
+
+abbrev pub copied : LineForm → List (List ℕ) → Option (Slot × List ℕ)
+copied BufferLine words = new_name words
+copied TimelineLine words = new_name words
+copied BinaryLine words = new_name words
+copied FenceLine words = new_name words
+copied (QueueLine mode) words = new_name words
+copied UpdateLine (buffer ∷ offset ∷ digits ∷ []) = Some (HexDigits, digits)
+copied other words = None
+
+-- What a line says that names what is declared, by what is kept.
+abbrev pub named_in : Kept → LineForm → List (List ℕ) → Option Statement
+named_in k SubmitLine (queue ∷ []) =
+    option_map (λ q. BeginBatch q) (number_of k QueueName queue)
+named_in k WaitTimelineLine (name ∷ value ∷ []) =
+    of_two (λ t v. AddWait (record { semaphore = t; value = v }) 1) (number_of k TimelineName name)
+    (numeral value)
+named_in k WaitBinaryLine (name ∷ []) =
+    option_map (λ s. AddWait (binary_pair s) 1) (number_of k BinaryName name)
+named_in k FillWholeLine (buffer ∷ offset ∷ word ∷ []) =
+    of_three (λ b o w. AddCommand (Fill b o Whole w)) (number_of k BufferName buffer)
+    (numeral offset) (small_numeral word)
+named_in k FillLine (buffer ∷ offset ∷ size ∷ word ∷ []) =
+    of_four (λ b o n w. AddCommand (Fill b o (Count n) w)) (number_of k BufferName buffer)
+    (numeral offset) (numeral size) (small_numeral word)
+named_in k UpdateLine (buffer ∷ offset ∷ digits ∷ []) =
+    of_two (λ b o. AddCommand (Update b o (hex_bytes digits))) (number_of k BufferName buffer)
+    (numeral offset)
+named_in k CopyLine (source ∷ from ∷ target ∷ to ∷ size ∷ []) =
+    of_five (λ s so t o n. AddCommand (Copy s so t o n)) (number_of k BufferName source)
+    (numeral from) (number_of k BufferName target) (numeral to) (numeral size)
+named_in k SignalTimelineLine (name ∷ value ∷ []) =
+    of_two (λ t v. AddSignal (record { semaphore = t; value = v })) (number_of k TimelineName name)
+    (numeral value)
+named_in k SignalBinaryLine (name ∷ []) =
+    option_map (λ s. AddSignal (binary_pair s)) (number_of k BinaryName name)
+named_in k BatchFenceLine (name ∷ []) = option_map (λ f. AddFence f) (number_of k FenceName name)
+named_in k EndLine [] = Some EndBatch
+named_in k form words = None
+
+-- the forms of a batch, but for its commands, and the form that begins it
+abbrev pub is_batch_line : LineForm → Bool
+is_batch_line SubmitLine = true
+is_batch_line WaitTimelineLine = true
+is_batch_line WaitBinaryLine = true
+is_batch_line SignalTimelineLine = true
+is_batch_line SignalBinaryLine = true
+is_batch_line BatchFenceLine = true
+is_batch_line EndLine = true
+is_batch_line other = false
+
+-- A line says something that suits its form and its words.
+pub record Suits (form : LineForm) (words : List (Slot × List ℕ)) (said : Said) : Type 0 where
+  pub part : part_in said ≡ part_of_form form
+  pub copies : copied_in said ≡ copied form (map (λ x. x.1) words)
+
+-- offsets and sizes that have 32 bits
+abbrev pub IsSmall : Said → Type 0
+IsSmall (FillWhole buffer o w) = o < 2 ^ 32
+IsSmall (SaidFill buffer o n w) = (o < 2 ^ 32) × (n < 2 ^ 32)
+IsSmall (SaidUpdate buffer o digits) = o < 2 ^ 32
+IsSmall (SaidCopy s from t to n) = (from < 2 ^ 32) × (to < 2 ^ 32) × (n < 2 ^ 32)
+IsSmall other = ⊤
+
+-- What may be kept
+
+abbrev pub IsNewName : Kept → List ℕ → Type 0
+IsNewName k name =
+    (is_name name ≡ true) × (is_taken k.buffers k.semaphores k.queues name ≡ false)
+
+-- one command more may be kept
+pub record MayCommand (k : Kept) (b : Batch) : Type 0 where
+  pub room : k.commands < (limits_of 1).commands
+  pub in_order : nat_lt 2 (last_part (Some b)) ≡ false
+
+abbrev pub MayKeep : Kept → Option Batch → Said → Type 0
+MayKeep k None (Buffer name size) =
+    IsNewName k name.now × (length k.buffers < (limits_of 1).buffers)
+    × (k.bytes + size ≤ (limits_of 1).bytes)
+MayKeep k None (Semaphore name kind) =
+    IsNewName k name.now × (length k.semaphores < (limits_of 1).semaphores)
+MayKeep k None (Queue name mode) = IsNewName k name.now × (length k.queues < (limits_of 1).queues)
+MayKeep k None (Submit queue) = ⊤
+MayKeep k (Some b) (Wait pair) = nat_lt 1 (last_part (Some b)) ≡ false
+MayKeep k (Some b) (FillWhole buffer o w) = MayCommand k b
+MayKeep k (Some b) (SaidFill buffer o n w) = MayCommand k b
+MayKeep k (Some b) (SaidUpdate buffer o digits) = MayCommand k b × (is_hex digits.now ≡ true)
+MayKeep k (Some b) (SaidCopy s from t to n) = MayCommand k b
+MayKeep k (Some b) (Signal pair) = nat_lt 3 (last_part (Some b)) ≡ false
+MayKeep k (Some b) (Fence f) = b.fence ≡ None
+MayKeep k (Some b) End = ⊤
+MayKeep k batch other = ⊥
+
+-- A line's words and what it says have no fault, so that it may be kept.
+pub record May (k : Kept) (batch : Option Batch) (said : Said) : Type 0 where
+  pub keep : MayKeep k batch said
+  pub small : IsSmall said
+
+-- What is kept after a line more
+
+abbrev pub waiting : Batch → ℕ → Pair → Batch
+waiting b n pair = record b { waits = b.waits ++ mark n pair 1 ∷ [] }
+
+abbrev pub commanding : Batch → ℕ → Command → Batch
+commanding b n command =
+    record b { commands = b.commands ++ record { line = n; command = command } ∷ [] }
+
+abbrev pub signaling : Batch → ℕ → Pair → Batch
+signaling b n pair = record b { signals = b.signals ++ mark n pair 1 ∷ [] }
+
+abbrev pub fenced : Batch → ℕ → ℕ → Batch
+fenced b n fence = record b { fence = Some (mark n (record { semaphore = fence; value = 0 }) 1) }
+
+-- a batch without lines so far
+abbrev pub started : ℕ → ℕ → Batch
+started n queue =
+    record { line = n; queue = queue; waits = []; commands = []; signals = []; fence = None }
+
+-- what is kept where the open batch ends
+abbrev pub ended : Kept → Option Batch → Kept × Option Batch
+ended k None = (k, None)
+ended k (Some b) = (with_batch k b, None)
+
+-- what is kept, and the batch that is open
+abbrev pub after : ℕ → Statement → Kept → Option Batch → Kept × Option Batch
+after n (DeclareBuffer name size) k batch =
+    (with_buffer k (record { line = n; name = name; size = size }), batch)
+after n (DeclareSemaphore name kind) k batch =
+    (with_semaphore k (record { line = n; name = name; kind = kind }), batch)
+after n (DeclareQueue name mode) k batch =
+    (with_queue k (record { line = n; name = name; mode = mode }), batch)
+after n (BeginBatch queue) k batch = (k, Some (started n queue))
+after n (AddWait pair from) k (Some b) = (k, Some (waiting b n pair))
+after n (AddCommand command) k (Some b) = (with_command k, Some (commanding b n command))
+after n (AddSignal pair) k (Some b) = (k, Some (signaling b n pair))
+after n (AddFence fence) k (Some b) = (k, Some (fenced b n fence))
+after n EndBatch k batch = ended k batch
+after n other k batch = (k, batch)

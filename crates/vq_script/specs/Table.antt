@@ -1,0 +1,42 @@
+-- The places of the code's table, as the places of the definitions.
+use Rattle.std.specs.Prelude.{ℕ, List, map, Bool, true, false, [], ◌∷◌}
+use Rattle.std.specs.Str.{bytes_eq}
+use Rattle.vq_model.specs.Forms.{Slot, Fixed, NewName, BufferName, TimelineName, BinaryName, FenceName, QueueName, Numeral, SmallNumeral, HexDigits, Actor, Pairs, forms_outside, forms_in_batch, forms_in_schedule}
+use Rattle.vq_model.specs.declared.statement.LineForm.{LineForm}
+use Rattle.vq_model.specs.declared.statement.Section.{Section}
+use Rattle.vq_model.specs.declared.statement.Section.TheVariants.{Outside, InBatch, InSchedule}
+use Rattle.vq_script.specs.declared.table.Token.{Token}
+use Rattle.vq_script.specs.declared.table.Token.TheVariants.{Word, Name, BufferToken, TimelineToken, BinaryToken, FenceToken, QueueToken, Number, SmallNumber, Digits, ActorToken, PairTokens}
+
+abbrev pub place_of : Token → Slot
+place_of (Word text) = Fixed text.now
+place_of Name = NewName
+place_of BufferToken = BufferName
+place_of TimelineToken = TimelineName
+place_of BinaryToken = BinaryName
+place_of FenceToken = FenceName
+place_of QueueToken = QueueName
+place_of Number = Numeral
+place_of SmallNumber = SmallNumeral
+place_of Digits = HexDigits
+place_of ActorToken = Actor
+place_of PairTokens = Pairs
+
+abbrev pub places_of : List Token → List Slot
+places_of tokens = map place_of tokens
+
+-- the forms of a part of a text, in version 1 and without a schedule
+abbrev pub forms_of : Section → List LineForm
+forms_of Outside = forms_outside
+forms_of InBatch = forms_in_batch
+forms_of InSchedule = forms_in_schedule
+
+-- pairs alone are left
+abbrev pub are_pairs : List Slot → Bool
+are_pairs (Pairs ∷ []) = true
+are_pairs other = false
+
+-- a word agrees with the fixed word of its place
+abbrev pub agrees : Slot → List ℕ → Bool
+agrees (Fixed text) given = bytes_eq given text
+agrees other given = true

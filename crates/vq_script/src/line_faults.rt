@@ -1,0 +1,217 @@
+//! The first fault of a line: its words first, then what it says.
+ghost use Rattle.std.specs.Prelude.{◌≡◌, ◌<◌, ◌^◌, [], List, None, IsTrue, IfOk};
+ghost use Rattle.vq_model.specs.LineFaults.{overlaps};
+ghost use Rattle.vq_model.specs.Ranges.{is_aligned};
+ghost use Rattle.vq_model.specs.declared.statement.Line.{Line};
+ghost use Rattle.vq_script.specs.Faults.{Means, Tells};
+ghost use Rattle.vq_script.specs.Holds.{Keeps, kept, open_so_far};
+ghost use Rattle.vq_script.specs.LineTests.{is_built_in, is_late, is_within_in, size_in, is_in_range_in, passes_in, word_fault, statement_fault};
+ghost use Rattle.vq_script.specs.OpenWords.{opens};
+ghost use Rattle.vq_script.specs.SaidLines.{AreFound, IsSmall, May, Stands, statement_in};
+
+use crate::known::Known;
+use crate::limits;
+use crate::open_words::OpenWord;
+use crate::place_faults::{are_known, are_new, are_numeric, are_shaped};
+use crate::said::{Said, statement_of};
+use crate::table::{is_declaration, part_of_form};
+use vq_model::script::Mode;
+use vq_model::statement::{FaultKind, LineForm};
+
+/// Whether lines of a form are read so far: no queue is deferred, and a batch of an immediate queue waits for nothing.
+fn is_built(known: &Known, form: LineForm) -> bool
+    ensures { result ≡ is_built_in (kept known.now) (open_so_far known.now.batch) form }
+{
+    match form {
+        LineForm::BufferLine => true,
+        LineForm::TimelineLine => true,
+        LineForm::BinaryLine => true,
+        LineForm::FenceLine => true,
+        LineForm::QueueLine(mode) => mode != Mode::Deferred,
+        LineForm::SubmitLine => true,
+        LineForm::WaitTimelineLine => !known.is_batch_immediate(),
+        LineForm::WaitBinaryLine => !known.is_batch_immediate(),
+        LineForm::FillWholeLine => true,
+        LineForm::FillLine => true,
+        LineForm::UpdateLine => true,
+        LineForm::CopyLine => true,
+        LineForm::SignalTimelineLine => true,
+        LineForm::SignalBinaryLine => true,
+        LineForm::BatchFenceLine => true,
+        LineForm::EndLine => true,
+        _ => false,
+    }
+}
+
+/// Whether a form is out of order: a declaration after the first batch, a line of an earlier part of the batch, or a
+/// second fence.
+fn is_late(known: &Known, form: LineForm) -> bool
+    ensures { result ≡ is_late (kept known.now) (open_so_far known.now.batch) form }
+{
+    (is_declaration(form) && known.has_begun())
+        || part_of_form(form) < known.last_part()
+        || (matches!(form, LineForm::BatchFenceLine) && known.has_fence())
+}
+
+/// The first kind of the faults that the words of a line have.
+fn word_fault(known: &Known, form: LineForm, words: &[OpenWord<'_>]) -> Option<FaultKind>
+    ensures { result ≡ word_fault (kept known.now) (open_so_far known.now.batch) form (opens words.now) }
+{
+    if !is_built(known, form) || !are_shaped(words) {
+        return Some(FaultKind::Syntax);
+    }
+    if is_late(known, form) {
+        return Some(FaultKind::Order);
+    }
+    if !are_numeric(words) {
+        return Some(FaultKind::Number);
+    }
+    if !are_known(known, words) {
+        return Some(FaultKind::Name);
+    }
+    if !are_new(known, words) {
+        return Some(FaultKind::Twice);
+    }
+    None
+}
+
+/// The most bytes of an update. Source: Vulkan 1.3, vkCmdUpdateBuffer.
+const UPDATE_BYTES: u64 = 65_536;
+
+/// Whether bytes begin in a buffer, are one at least, and end in it.
+fn is_within(known: &Known, buffer: u32, offset: u64, size: u64) -> bool
+    ensures exact { result ≡ is_within_in (kept known.now) buffer offset size }
+    ensures small { IsTrue result → (offset < 2 ^ 32) × (size < 2 ^ 32) }
+{
+    let end = u64::from(known.size_of(buffer));
+    offset < end && 0 < size && size <= end - offset
+}
+
+/// Whether a place, or a number of bytes, is a multiple of 4.
+fn is_aligned(place: u64) -> bool
+    ensures { result ≡ is_aligned place }
+{
+    place % 4 == 0
+}
+
+/// Whether the sizes and offsets of what a line says are in range.
+#[tactic(auto, using(crate::proofs::DigitsRead::hex_length, crate::proofs::DigitsRead::hex_limit))]
+fn is_in_range(known: &Known, said: &Said<'_>) -> bool
+    ensures exact { result ≡ is_in_range_in (kept known.now) (statement_in said.now) }
+    ensures small { IsTrue result → IsSmall said.now }
+{
+    match *said {
+        Said::Buffer { size, .. } => 0 < size,
+        Said::FillWhole { buffer, offset, .. } => {
+            offset < u64::from(known.size_of(buffer)) && is_aligned(offset)
+        }
+        Said::Fill {
+            buffer,
+            offset,
+            size,
+            ..
+        } => is_within(known, buffer, offset, size) && is_aligned(offset) && is_aligned(size),
+        Said::Update {
+            buffer,
+            offset,
+            digits,
+        } => {
+            let size = (digits.len() / 2) as u64;
+            is_within(known, buffer, offset, size)
+                && is_aligned(offset)
+                && is_aligned(size)
+                && size <= UPDATE_BYTES
+        }
+        Said::Copy {
+            source,
+            source_offset,
+            target,
+            target_offset,
+            size,
+        } => {
+            is_within(known, source, source_offset, size)
+                && is_within(known, target, target_offset, size)
+        }
+        _ => true,
+    }
+}
+
+/// Whether the two ranges of a copy share a byte of one buffer.
+fn overlaps(said: &Said<'_>) -> bool
+    ensures { result ≡ overlaps [] (statement_in said.now) }
+{
+    match *said {
+        Said::Copy {
+            source,
+            source_offset,
+            target,
+            target_offset,
+            size,
+        } => target == source && target_offset.abs_diff(source_offset) < size,
+        _ => false,
+    }
+}
+
+/// Whether what a line says takes a quantity past its limit.
+fn passes_limit(known: &Known, said: &Said<'_>) -> bool
+    ensures { result ≡ passes_in (kept known.now) (open_so_far known.now.batch) (statement_in said.now) }
+{
+    match *said {
+        Said::Buffer { size, .. } => {
+            known.buffers.len() >= limits::BUFFERS || size > u64::from(limits::BYTES - known.bytes)
+        }
+        Said::Semaphore { .. } => known.semaphores.len() >= limits::SEMAPHORES,
+        Said::Queue { .. } => known.queues.len() >= limits::QUEUES,
+        Said::Submit { .. } => known.jobs.len() >= limits::JOBS,
+        Said::Wait { .. } => known.has_all_waits(),
+        Said::FillWhole { .. } => known.has_all_commands(),
+        Said::Fill { .. } => known.has_all_commands(),
+        Said::Update { .. } => known.has_all_commands(),
+        Said::Copy { .. } => known.has_all_commands(),
+        Said::Signal { .. } => known.has_all_signals(),
+        Said::Fence { .. } => false,
+        Said::End => false,
+    }
+}
+
+/// The first kind of the faults that what a line says has.
+fn statement_fault(known: &Known, said: &Said<'_>) -> Option<FaultKind>
+    ensures exact { result ≡ statement_fault (kept known.now) (open_so_far known.now.batch) (statement_in said.now) }
+    ensures small { result ≡ None → IsSmall said.now }
+{
+    if !is_in_range(known, said) {
+        return Some(FaultKind::Range);
+    }
+    if overlaps(said) {
+        return Some(FaultKind::Overlap);
+    }
+    if passes_limit(known, said) {
+        return Some(FaultKind::Limit);
+    }
+    None
+}
+
+/// What a line of a form says, or the first kind of its faults.
+pub fn said_by<'a>(
+    known: &Known,
+    form: LineForm,
+    words: &[OpenWord<'a>],
+) -> Result<Said<'a>, FaultKind>
+    requires found { AreFound form (opens words.now) }
+    requires stands { Stands form (open_so_far known.now.batch) }
+    ensures told { (lines : List Line) → Keeps lines known.now → Means lines (form, opens words.now) →
+        Tells lines (form, opens words.now) statement_in result }
+    ensures may { IfOk result (May (kept known.now) (open_so_far known.now.batch)) }
+{
+    if let Some(kind) = word_fault(known, form, words) {
+        return Err(kind);
+    }
+    // All numbers are read by now: what isn't would be a name.
+    let Some(said) = statement_of(known, form, words) else {
+        return Err(FaultKind::Name);
+    };
+    if let Some(kind) = statement_fault(known, &said) {
+        return Err(kind);
+    }
+    Ok(said)
+}

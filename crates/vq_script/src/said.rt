@@ -1,0 +1,199 @@
+//! What a line says, before it is kept: nothing is copied yet.
+ghost use Rattle.std.specs.Prelude.{◌≡◌, true, List, map, IfSome};
+ghost use Rattle.std.specs.Option.{option_map};
+ghost use Rattle.vq_model.specs.declared.statement.Line.{Line};
+ghost use Rattle.vq_script.specs.Holds.{Declares, kept, open_so_far};
+ghost use Rattle.vq_script.specs.OpenWords.{opens};
+ghost use Rattle.vq_script.specs.SaidLines.{AreOf, Says, Suits, is_batch_line, named_in, statement_in};
+ghost use Rattle.vq_script.specs.LineTests.{is_built_in};
+ghost use Rattle.vq_model.specs.LineFaults.{is_declaration, part_of_form};
+
+use crate::known::Known;
+use crate::numerals::{numeral, small_numeral};
+use crate::open_words::OpenWord;
+use crate::table::{Token, is_declaration, part_of_form};
+use vq_model::script::{Mode, Pair, SemaphoreKind};
+use vq_model::statement::LineForm;
+
+/// What a line says. Its numbers may be too large yet.
+#[derive(Clone, Copy)]
+pub enum Said<'a> {
+    Buffer {
+        name: &'a [u8],
+        size: u64,
+    },
+    Semaphore {
+        name: &'a [u8],
+        kind: SemaphoreKind,
+    },
+    Queue {
+        name: &'a [u8],
+        mode: Mode,
+    },
+    Submit {
+        queue: u32,
+    },
+    Wait {
+        pair: Pair,
+    },
+    FillWhole {
+        buffer: u32,
+        offset: u64,
+        word: u32,
+    },
+    Fill {
+        buffer: u32,
+        offset: u64,
+        size: u64,
+        word: u32,
+    },
+    Update {
+        buffer: u32,
+        offset: u64,
+        digits: &'a [u8],
+    },
+    Copy {
+        source: u32,
+        source_offset: u64,
+        target: u32,
+        target_offset: u64,
+        size: u64,
+    },
+    Signal {
+        pair: Pair,
+    },
+    Fence {
+        fence: u32,
+    },
+    End,
+}
+
+/// What a line says that declares, where its numbers are read.
+fn declaration<'a>(form: LineForm, words: &[OpenWord<'a>]) -> Option<Said<'a>>
+    requires of { AreOf form (opens words.now) }
+    requires declares { is_declaration form ≡ true }
+    ensures says { (lines : List Line) → Says lines form (opens words.now) result }
+    ensures suits { IfSome result (Suits form (opens words.now)) }
+{
+    match (form, words) {
+        (LineForm::BufferLine, [name, size]) => Some(Said::Buffer {
+            name: name.word,
+            size: numeral(size.word)?,
+        }),
+        (LineForm::TimelineLine, [name, value]) => Some(Said::Semaphore {
+            name: name.word,
+            kind: SemaphoreKind::Timeline(numeral(value.word)?),
+        }),
+        (LineForm::BinaryLine, [name]) => Some(Said::Semaphore {
+            name: name.word,
+            kind: SemaphoreKind::Binary,
+        }),
+        (LineForm::FenceLine, [name]) => Some(Said::Semaphore {
+            name: name.word,
+            kind: SemaphoreKind::Fence,
+        }),
+        (LineForm::QueueLine(mode), [name]) => Some(Said::Queue {
+            name: name.word,
+            mode,
+        }),
+        _ => unreachable!(),
+    }
+}
+
+/// What a line says that is a command, where its numbers and names are read.
+fn command<'a>(known: &Known, form: LineForm, words: &[OpenWord<'a>]) -> Option<Said<'a>>
+    requires of { AreOf form (opens words.now) }
+    requires part { part_of_form form ≡ 2 }
+    ensures says { option_map statement_in result
+        ≡ named_in (kept known.now) form (map (λ x. x.1) (opens words.now)) }
+    ensures suits { IfSome result (Suits form (opens words.now)) }
+{
+    match (form, words) {
+        (LineForm::FillWholeLine, [buffer, offset, word]) => Some(Said::FillWhole {
+            buffer: known.number_of(Token::BufferToken, buffer.word)?,
+            offset: numeral(offset.word)?,
+            word: small_numeral(word.word)?,
+        }),
+        (LineForm::FillLine, [buffer, offset, size, word]) => Some(Said::Fill {
+            buffer: known.number_of(Token::BufferToken, buffer.word)?,
+            offset: numeral(offset.word)?,
+            size: numeral(size.word)?,
+            word: small_numeral(word.word)?,
+        }),
+        (LineForm::UpdateLine, [buffer, offset, digits]) => Some(Said::Update {
+            buffer: known.number_of(Token::BufferToken, buffer.word)?,
+            offset: numeral(offset.word)?,
+            digits: digits.word,
+        }),
+        (LineForm::CopyLine, [source, from, target, to, size]) => Some(Said::Copy {
+            source: known.number_of(Token::BufferToken, source.word)?,
+            source_offset: numeral(from.word)?,
+            target: known.number_of(Token::BufferToken, target.word)?,
+            target_offset: numeral(to.word)?,
+            size: numeral(size.word)?,
+        }),
+        _ => unreachable!(),
+    }
+}
+
+/// What a line says that begins a batch or ends it, or names a semaphore or a fence of one, where its numbers and names are read.
+fn batch_line<'a>(known: &Known, form: LineForm, words: &[OpenWord<'a>]) -> Option<Said<'a>>
+    requires of { AreOf form (opens words.now) }
+    requires part { is_batch_line form ≡ true }
+    ensures says { option_map statement_in result
+        ≡ named_in (kept known.now) form (map (λ x. x.1) (opens words.now)) }
+    ensures suits { IfSome result (Suits form (opens words.now)) }
+{
+    match (form, words) {
+        (LineForm::SubmitLine, [queue]) => Some(Said::Submit {
+            queue: known.number_of(Token::QueueToken, queue.word)?,
+        }),
+        (LineForm::WaitTimelineLine, [timeline, value]) => Some(Said::Wait {
+            pair: Pair {
+                semaphore: known.number_of(Token::TimelineToken, timeline.word)?,
+                value: numeral(value.word)?,
+            },
+        }),
+        (LineForm::WaitBinaryLine, [semaphore]) => Some(Said::Wait {
+            pair: Pair {
+                semaphore: known.number_of(Token::BinaryToken, semaphore.word)?,
+                value: 0,
+            },
+        }),
+        (LineForm::SignalTimelineLine, [timeline, value]) => Some(Said::Signal {
+            pair: Pair {
+                semaphore: known.number_of(Token::TimelineToken, timeline.word)?,
+                value: numeral(value.word)?,
+            },
+        }),
+        (LineForm::SignalBinaryLine, [semaphore]) => Some(Said::Signal {
+            pair: Pair {
+                semaphore: known.number_of(Token::BinaryToken, semaphore.word)?,
+                value: 0,
+            },
+        }),
+        (LineForm::BatchFenceLine, [fence]) => Some(Said::Fence {
+            fence: known.number_of(Token::FenceToken, fence.word)?,
+        }),
+        (LineForm::EndLine, []) => Some(Said::End),
+        _ => unreachable!(),
+    }
+}
+
+#[tactic(auto, using(crate::proofs::LineTold::batch_line_left))]
+/// What a line of a form says, where its numbers and names are read.
+pub fn statement_of<'a>(known: &Known, form: LineForm, words: &[OpenWord<'a>]) -> Option<Said<'a>>
+    requires of { AreOf form (opens words.now) }
+    requires built { is_built_in (kept known.now) (open_so_far known.now.batch) form ≡ true }
+    ensures says { (lines : List Line) → Declares lines (kept known.now) →
+        Says lines form (opens words.now) result }
+    ensures suits { IfSome result (Suits form (opens words.now)) }
+{
+    if is_declaration(form) {
+        declaration(form, words)
+    } else if part_of_form(form) == 2 {
+        command(known, form, words)
+    } else {
+        batch_line(known, form, words)
+    }
+}

@@ -1,0 +1,236 @@
+//! The forms of lines as a table: for each form what stands at its places.
+ghost use Rattle.std.specs.Prelude.{◌≡◌, find};
+ghost use Rattle.std.specs.Str.{bytes_eq};
+ghost use Rattle.vq_model.specs.Forms.{places};
+ghost use Rattle.vq_model.specs.LineFaults.{part_of_form, is_declaration};
+ghost use Rattle.vq_model.specs.Meaning.{agree, are_as_many, matches};
+ghost use Rattle.vq_script.specs.Table.{place_of, places_of, forms_of, are_pairs, agrees};
+ghost use Rattle.vq_script.specs.Words.{texts};
+
+use crate::table::Token::{
+    ActorToken, BinaryToken, BufferToken, Digits, FenceToken, Name, Number, PairTokens, QueueToken,
+    SmallNumber, TimelineToken, Word,
+};
+use vq_model::script::Mode;
+use vq_model::statement::LineForm::{
+    BatchFenceLine, BinaryLine, BufferLine, CopyLine, EndLine, FenceLine, FillLine, FillWholeLine,
+    HeldBinaryLine, HeldTimelineLine, HostFencePollLine, HostFenceResetLine, HostFenceWaitLine,
+    HostIdleLine, HostPollAllLine, HostPollAnyLine, HostReadLine, HostSignalLine, HostWaitAllLine,
+    HostWaitAnyLine, QueueLine, ScheduleLine, SignalBinaryLine, SignalTimelineLine, SubmitLine,
+    TimelineLine, TurnLine, TurnsLine, UpdateLine, VersionLine, WaitBinaryLine, WaitTimelineLine,
+};
+use vq_model::statement::{LineForm, Section};
+
+/// What stands at a place of a line.
+#[derive(Clone, Copy)]
+pub enum Token {
+    Word(&'static str),
+    Name,
+    BufferToken,
+    TimelineToken,
+    BinaryToken,
+    FenceToken,
+    QueueToken,
+    Number,
+    SmallNumber,
+    Digits,
+    ActorToken,
+    PairTokens,
+}
+
+/// The places of a form.
+pub fn places(form: LineForm) -> &'static [Token]
+    ensures { places_of result.now ≡ places form }
+{
+    match form {
+        VersionLine => &[Word("version"), Word("2")],
+        BufferLine => &[Word("buffer"), Name, Number],
+        TimelineLine => &[Word("timeline"), Name, Number],
+        BinaryLine => &[Word("binary"), Name],
+        FenceLine => &[Word("fence"), Name],
+        QueueLine(Mode::Immediate) => &[Word("queue"), Name, Word("immediate")],
+        QueueLine(Mode::Deferred) => &[Word("queue"), Name, Word("deferred")],
+        QueueLine(Mode::Threaded) => &[Word("queue"), Name, Word("threaded")],
+        SubmitLine => &[Word("submit"), QueueToken],
+        HostSignalLine => &[Word("host"), Word("signal"), TimelineToken, Number],
+        HostWaitAllLine => &[Word("host"), Word("wait"), Word("all"), PairTokens],
+        HostWaitAnyLine => &[Word("host"), Word("wait"), Word("any"), PairTokens],
+        HostPollAllLine => &[Word("host"), Word("poll"), Word("all"), PairTokens],
+        HostPollAnyLine => &[Word("host"), Word("poll"), Word("any"), PairTokens],
+        HostReadLine => &[Word("host"), Word("read"), TimelineToken],
+        HostFenceWaitLine => &[Word("host"), Word("fence"), Word("wait"), FenceToken],
+        HostFencePollLine => &[Word("host"), Word("fence"), Word("poll"), FenceToken],
+        HostFenceResetLine => &[Word("host"), Word("fence"), Word("reset"), FenceToken],
+        HostIdleLine => &[Word("host"), Word("idle")],
+        ScheduleLine => &[Word("schedule")],
+        WaitTimelineLine => &[Word("wait"), TimelineToken, Number],
+        WaitBinaryLine => &[Word("wait"), BinaryToken],
+        HeldTimelineLine => &[Word("wait"), TimelineToken, Number, Word("from"), Number],
+        HeldBinaryLine => &[Word("wait"), BinaryToken, Word("from"), Number],
+        FillWholeLine => &[
+            Word("fill"),
+            BufferToken,
+            Number,
+            Word("whole"),
+            SmallNumber,
+        ],
+        FillLine => &[Word("fill"), BufferToken, Number, Number, SmallNumber],
+        UpdateLine => &[Word("update"), BufferToken, Number, Digits],
+        CopyLine => &[
+            Word("copy"),
+            BufferToken,
+            Number,
+            BufferToken,
+            Number,
+            Number,
+        ],
+        SignalTimelineLine => &[Word("signal"), TimelineToken, Number],
+        SignalBinaryLine => &[Word("signal"), BinaryToken],
+        BatchFenceLine => &[Word("fence"), FenceToken],
+        EndLine => &[Word("end")],
+        TurnLine => &[ActorToken],
+        TurnsLine => &[ActorToken, Number],
+    }
+}
+
+/// The forms of a part of a text.
+fn forms_of(section: Section) -> &'static [LineForm]
+    ensures { result.now ≡ forms_of section }
+{
+    match section {
+        Section::Outside => &[
+            BufferLine,
+            TimelineLine,
+            BinaryLine,
+            FenceLine,
+            QueueLine(Mode::Immediate),
+            QueueLine(Mode::Deferred),
+            QueueLine(Mode::Threaded),
+            SubmitLine,
+            HostSignalLine,
+            HostWaitAllLine,
+            HostWaitAnyLine,
+            HostPollAllLine,
+            HostPollAnyLine,
+            HostReadLine,
+            HostFenceWaitLine,
+            HostFencePollLine,
+            HostFenceResetLine,
+            HostIdleLine,
+        ],
+        Section::InBatch => &[
+            WaitTimelineLine,
+            WaitBinaryLine,
+            FillWholeLine,
+            FillLine,
+            UpdateLine,
+            CopyLine,
+            SignalTimelineLine,
+            SignalBinaryLine,
+            BatchFenceLine,
+            EndLine,
+        ],
+        Section::InSchedule => &[TurnLine, TurnsLine],
+    }
+}
+
+/// The part of a batch to which a line belongs: 1 for its waits, 2 for its commands, 3 for its signals, 4 for its fence,
+/// 5 for its end; a line of no batch has part 0.
+pub fn part_of_form(form: LineForm) -> u32
+    ensures { result ≡ part_of_form form }
+{
+    match form {
+        WaitTimelineLine | WaitBinaryLine | HeldTimelineLine | HeldBinaryLine => 1,
+        FillWholeLine | FillLine | UpdateLine | CopyLine => 2,
+        SignalTimelineLine | SignalBinaryLine => 3,
+        BatchFenceLine => 4,
+        EndLine => 5,
+        _ => 0,
+    }
+}
+
+/// Whether a form declares.
+pub fn is_declaration(form: LineForm) -> bool
+    ensures { result ≡ is_declaration form }
+{
+    matches!(
+        form,
+        BufferLine | TimelineLine | BinaryLine | FenceLine | QueueLine(_)
+    )
+}
+
+/// Whether pairs alone are left of places.
+pub fn are_pairs(places: &[Token]) -> bool
+    ensures { result ≡ are_pairs (places_of places.now) }
+{
+    matches!(places, [Token::PairTokens])
+}
+
+/// Whether words are as many as places.
+#[tactic(auto, using(crate::proofs::TableSteps::as_many_pairs, crate::proofs::TableSteps::as_many_none, crate::proofs::TableSteps::as_many_rest))]
+fn are_as_many(places: &[Token], words: &[&[u8]]) -> bool
+    ensures { result ≡ are_as_many (places_of places.now) (texts words.now) }
+{
+    let mut left = places;
+    let mut rest = words;
+    while !are_pairs(left) {
+        let [_, later @ ..] = left else {
+            return rest.is_empty();
+        };
+        let [_, after @ ..] = rest else {
+            return false;
+        };
+        left = later;
+        rest = after;
+    }
+    !rest.is_empty() && rest.len() % 2 == 0
+}
+
+/// Whether a word agrees with the fixed word of its place.
+fn agrees(place: Token, word: &[u8]) -> bool
+    ensures { result ≡ agrees (place_of place) word.now }
+{
+    match place {
+        Token::Word(text) => word == text.as_bytes(),
+        _ => true,
+    }
+}
+
+/// Whether words agree with the fixed words of places.
+#[tactic(auto, using(crate::proofs::TableSteps::agree_none, crate::proofs::TableSteps::agree_rest))]
+fn agree(places: &[Token], words: &[&[u8]]) -> bool
+    ensures { result ≡ agree (places_of places.now) (texts words.now) }
+{
+    let mut left = places;
+    let mut rest = words;
+    while let [place, later @ ..] = left {
+        let [word, after @ ..] = rest else {
+            return true;
+        };
+        if !agrees(*place, word) {
+            return false;
+        }
+        left = later;
+        rest = after;
+    }
+    true
+}
+
+/// Whether words match a form in its number of words and in its fixed words.
+fn matches(words: &[&[u8]], form: LineForm) -> bool
+    ensures { result ≡ matches (texts words.now) form }
+{
+    agree(places(form), words) && are_as_many(places(form), words)
+}
+
+/// The form of a line's words in a part of a text.
+pub fn form_of(section: Section, words: &[&[u8]]) -> Option<LineForm>
+    ensures { result ≡ find (matches (texts words.now)) (forms_of section) }
+{
+    for form in forms_of(section) {
+        if matches(words, *form) {
+            return Some(*form);
+        }
+    }
+    None
+}
