@@ -1,5 +1,6 @@
 use super::*;
 use std::alloc::{AllocError, Global};
+use std::process::Abort;
 use std::test::Fail;
 use vq_port::{MemorySink, MemorySource, SteadySink, SteadySource};
 
@@ -20,35 +21,44 @@ fn answers(
     Ok(run(alloc, words, &mut source, &mut sink) == status && sink.written() == text)
 }
 
-/// Whether a script is run, and leaves this text of buffers.
-fn leaves(alloc: Global, input: &str, text: &str) -> Result<bool, AllocError> {
-    answers(alloc, &[], input.as_bytes(), text.as_bytes(), Status::Done)
+/// Runs each input, and compares the text that is written and how the run ends.
+fn each_ends(
+    rt: &impl Abort,
+    alloc: Global,
+    words: &[String],
+    status: Status,
+    rows: &[(&str, &str)],
+) -> Result<(), Fail> {
+    for (input, text) in rows {
+        let is_right = answers(alloc, words, input.as_bytes(), text.as_bytes(), status)?;
+        assert!(rt; is_right, "{input:?}");
+    }
+    Ok(())
 }
 
-/// Whether a script is refused with this line.
-fn is_refused(alloc: Global, input: &str, text: &str) -> Result<bool, AllocError> {
-    answers(
-        alloc,
-        &[],
-        input.as_bytes(),
-        text.as_bytes(),
-        Status::Refused,
-    )
+/// The word `--check`.
+fn check(alloc: Global) -> Result<Vec<String>, AllocError> {
+    Ok(vec![in alloc; String::from_str(alloc, "--check")?]?)
 }
 
 #[test]
 fn scripts_are_run(rt: HostRuntime) -> Result<(), Fail> {
-    for (input, text) in [
-        ("", "end\n"),
-        (FILL, FILLED),
-        // the ends of lines, comments and blanks
-        (
-            "buffer X 4\r\n\r\n# caf\u{e9}\r\n\t \n  buffer\tY  0x04#Y\r",
-            "buffer X 4\n00000000\nbuffer Y 4\n00000000\nend\n",
-        ),
-        // a later batch sees what an earlier one wrote
-        (
-            "buffer X 20
+    each_ends(
+        &rt,
+        rt.alloc(),
+        &[],
+        Status::Done,
+        &[
+            ("", "end\n"),
+            (FILL, FILLED),
+            // the ends of lines, comments and blanks
+            (
+                "buffer X 4\r\n\r\n# caf\u{e9}\r\n\t \n  buffer\tY  0x04#Y\r",
+                "buffer X 4\n00000000\nbuffer Y 4\n00000000\nend\n",
+            ),
+            // a later batch sees what an earlier one wrote
+            (
+                "buffer X 20
 queue Q immediate
 submit Q
 fill X 0 20 4294967295
@@ -58,27 +68,30 @@ fill X 4 8 0xA1b2
 end
 submit Q
 end",
-            "buffer X 20\nffffffffb2a10000b2a10000ffffffff\nffffffff\nend\n",
-        ),
-    ] {
-        assert!(rt; leaves(rt.alloc(), input, text)?, "{input:?}");
-    }
-    Ok(())
+                "buffer X 20\nffffffffb2a10000b2a10000ffffffff\nffffffff\nend\n",
+            ),
+        ],
+    )
 }
 
 #[test]
 fn commands_leave_bytes(rt: HostRuntime) -> Result<(), Fail> {
-    for (input, text) in [
-        (
-            "buffer X 7\nqueue Q immediate\nsubmit Q\nfill X 0 whole 0xffffffff\nend",
-            "buffer X 7\nffffffff000000\nend\n",
-        ),
-        (
-            "buffer X 16\nqueue Q immediate\nsubmit Q\nfill X 0 8 0x04030201\ncopy X 0 X 8 8\nend",
-            "buffer X 16\n01020304010203040102030401020304\nend\n",
-        ),
-        (
-            "buffer Y 5
+    each_ends(
+        &rt,
+        rt.alloc(),
+        &[],
+        Status::Done,
+        &[
+            (
+                "buffer X 7\nqueue Q immediate\nsubmit Q\nfill X 0 whole 0xffffffff\nend",
+                "buffer X 7\nffffffff000000\nend\n",
+            ),
+            (
+                "buffer X 16\nqueue Q immediate\nsubmit Q\nfill X 0 8 0x04030201\ncopy X 0 X 8 8\nend",
+                "buffer X 16\n01020304010203040102030401020304\nend\n",
+            ),
+            (
+                "buffer Y 5
 buffer X 4
 queue Q immediate
 submit Q
@@ -87,57 +100,61 @@ end
 submit Q
 copy X 1 Y 2 3
 end",
-            "buffer Y 5\n0000ff00b1\nbuffer X 4\n0aff00b1\nend\n",
-        ),
-    ] {
-        assert!(rt; leaves(rt.alloc(), input, text)?, "{input:?}");
-    }
-    Ok(())
+                "buffer Y 5\n0000ff00b1\nbuffer X 4\n0aff00b1\nend\n",
+            ),
+        ],
+    )
 }
 
 #[test]
 fn faulty_lines_are_refused(rt: HostRuntime) -> Result<(), Fail> {
-    for (input, text) in [
-        // a batch that is left open
-        ("queue Q immediate\nsubmit Q\n", "error: syntax: line 3\n"),
-        ("queue Q immediate\nsubmit Q\n\r", "error: syntax: line 4\n"),
-        // a byte that may not stand in a line, forms that are not built
-        ("buffer X 4\nbuffer Y\u{e9} 4\n", "error: syntax: line 2\n"),
-        (
-            "queue P immediate\nqueue Q deferred\n",
-            "error: syntax: line 2\n",
-        ),
-        (
-            "timeline A 0\nqueue P immediate\nsubmit P\nwait A 0\nend\n",
-            "error: syntax: line 4\n",
-        ),
-        ("host idle\n", "error: syntax: line 1\n"),
-    ] {
-        assert!(rt; is_refused(rt.alloc(), input, text)?, "{input:?}");
-    }
-    Ok(())
+    each_ends(
+        &rt,
+        rt.alloc(),
+        &[],
+        Status::Refused,
+        &[
+            // a batch that is left open
+            ("queue Q immediate\nsubmit Q\n", "error: syntax: line 3\n"),
+            ("queue Q immediate\nsubmit Q\n\r", "error: syntax: line 4\n"),
+            // a byte that may not stand in a line, forms that are not built
+            ("buffer X 4\nbuffer Y\u{e9} 4\n", "error: syntax: line 2\n"),
+            (
+                "queue P immediate\nqueue Q deferred\n",
+                "error: syntax: line 2\n",
+            ),
+            (
+                "timeline A 0\nqueue P immediate\nsubmit P\nwait A 0\nend\n",
+                "error: syntax: line 4\n",
+            ),
+            ("host idle\n", "error: syntax: line 1\n"),
+        ],
+    )
 }
 
 #[test]
 fn first_kinds_are_named(rt: HostRuntime) -> Result<(), Fail> {
-    for (input, text) in [
-        ("buffer X 0\nbuffer X 0\nqueue\n", "error: range: line 1\n"),
-        ("buffer X 4\nbuffer X 0\n", "error: twice: line 2\n"),
-        ("buffer X 4\nsubmit Q", "error: name: line 2\n"),
-        ("buffer X 18446744073709551616\n", "error: number: line 1\n"),
-        ("buffer X 1048577\n", "error: limit: line 1\n"),
-        (
-            "queue Q immediate\nsubmit Q\nend\nbuffer X 4",
-            "error: order: line 4\n",
-        ),
-        (
-            "buffer X 16\nqueue Q immediate\nsubmit Q\nfill X 0 8 0x04030201\ncopy X 0 X 7 8\nend",
-            "error: overlap: line 5\n",
-        ),
-    ] {
-        assert!(rt; is_refused(rt.alloc(), input, text)?, "{input:?}");
-    }
-    Ok(())
+    each_ends(
+        &rt,
+        rt.alloc(),
+        &[],
+        Status::Refused,
+        &[
+            ("buffer X 0\nbuffer X 0\nqueue\n", "error: range: line 1\n"),
+            ("buffer X 4\nbuffer X 0\n", "error: twice: line 2\n"),
+            ("buffer X 4\nsubmit Q", "error: name: line 2\n"),
+            ("buffer X 18446744073709551616\n", "error: number: line 1\n"),
+            ("buffer X 1048577\n", "error: limit: line 1\n"),
+            (
+                "queue Q immediate\nsubmit Q\nend\nbuffer X 4",
+                "error: order: line 4\n",
+            ),
+            (
+                "buffer X 16\nqueue Q immediate\nsubmit Q\nfill X 0 8 0x04030201\ncopy X 0 X 7 8\nend",
+                "error: overlap: line 5\n",
+            ),
+        ],
+    )
 }
 
 /// Q writes X, and P copies it once that is done.
@@ -158,14 +175,19 @@ end
 
 #[test]
 fn queues_wait_for_each_other(rt: HostRuntime) -> Result<(), Fail> {
-    for (input, text) in [
-        (
-            COPY,
-            "buffer X 8\n0d0c0b0a0d0c0b0a\nbuffer Y 8\n0d0c0b0a0d0c0b0a\nend\n",
-        ),
-        // a binary semaphore that is passed on twice
-        (
-            "buffer X 4
+    each_ends(
+        &rt,
+        rt.alloc(),
+        &[],
+        Status::Done,
+        &[
+            (
+                COPY,
+                "buffer X 8\n0d0c0b0a0d0c0b0a\nbuffer Y 8\n0d0c0b0a0d0c0b0a\nend\n",
+            ),
+            // a binary semaphore that is passed on twice
+            (
+                "buffer X 4
 binary S
 queue P threaded
 queue Q threaded
@@ -183,11 +205,11 @@ wait S
 fill X 0 4 3
 end
 ",
-            "buffer X 4\n03000000\nend\n",
-        ),
-        // a later, greater signal
-        (
-            "timeline A 0
+                "buffer X 4\n03000000\nend\n",
+            ),
+            // a later, greater signal
+            (
+                "timeline A 0
 buffer X 4
 queue P threaded
 queue Q threaded
@@ -202,20 +224,23 @@ submit Q
 signal A 7
 end
 ",
-            "buffer X 4\n05000000\nend\n",
-        ),
-    ] {
-        assert!(rt; leaves(rt.alloc(), input, text)?, "{input:?}");
-    }
-    Ok(())
+                "buffer X 4\n05000000\nend\n",
+            ),
+        ],
+    )
 }
 
 #[test]
 fn unreached_waits_are_refused(rt: HostRuntime) -> Result<(), Fail> {
-    for (input, text) in [
-        // two queues that wait for each other
-        (
-            "timeline A 0
+    each_ends(
+        &rt,
+        rt.alloc(),
+        &[],
+        Status::Refused,
+        &[
+            // two queues that wait for each other
+            (
+                "timeline A 0
 timeline B 0
 queue P threaded
 queue Q threaded
@@ -228,39 +253,40 @@ wait B 1
 signal A 1
 end
 ",
-            "error: unreachable: line 6\n",
-        ),
-        // a batch that waits for itself
-        (
-            "timeline A 0\nqueue Q threaded\nsubmit Q\nwait A 5\nsignal A 4\nend\n",
-            "error: unreachable: line 4\n",
-        ),
-    ] {
-        assert!(rt; is_refused(rt.alloc(), input, text)?, "{input:?}");
-    }
-    Ok(())
+                "error: unreachable: line 6\n",
+            ),
+            // a batch that waits for itself
+            (
+                "timeline A 0\nqueue Q threaded\nsubmit Q\nwait A 5\nsignal A 4\nend\n",
+                "error: unreachable: line 4\n",
+            ),
+        ],
+    )
 }
 
 #[test]
 fn scripts_without_a_plan_are_refused(rt: HostRuntime) -> Result<(), Fail> {
-    for (input, text) in [
-        (
-            "binary S\nqueue P threaded\nsubmit P\nsignal S\nend\nsubmit P\nsignal S\nend\n",
-            "error: signaled twice: line 7\n",
-        ),
-        // before a wait that is never reached
-        (
-            "binary S\ntimeline A 0\nqueue Q threaded\nsubmit Q\nwait A 1\nend\nsubmit Q\nwait S\nend\n",
-            "error: no signal: line 8\n",
-        ),
-        (
-            "fence F\nqueue Q threaded\nsubmit Q\nfence F\nend\nsubmit Q\nfence F\nend\n",
-            "error: fence used: line 7\n",
-        ),
-    ] {
-        assert!(rt; is_refused(rt.alloc(), input, text)?, "{input:?}");
-    }
-    Ok(())
+    each_ends(
+        &rt,
+        rt.alloc(),
+        &[],
+        Status::Refused,
+        &[
+            (
+                "binary S\nqueue P threaded\nsubmit P\nsignal S\nend\nsubmit P\nsignal S\nend\n",
+                "error: signaled twice: line 7\n",
+            ),
+            // before a wait that is never reached
+            (
+                "binary S\ntimeline A 0\nqueue Q threaded\nsubmit Q\nwait A 1\nend\nsubmit Q\nwait S\nend\n",
+                "error: no signal: line 8\n",
+            ),
+            (
+                "fence F\nqueue Q threaded\nsubmit Q\nfence F\nend\nsubmit Q\nfence F\nend\n",
+                "error: fence used: line 7\n",
+            ),
+        ],
+    )
 }
 
 /// A script with an update of so many bytes.
@@ -385,61 +411,44 @@ fn long_inputs_are_refused(rt: HostRuntime) -> Result<(), Fail> {
     Ok(())
 }
 
-/// Whether this is said of a script that is only checked.
-fn is_said(alloc: Global, input: &str, text: &str) -> Result<bool, AllocError> {
-    let words = vec![in alloc; String::from_str(alloc, "--check")?]?;
-    let status = if text == "lawful\n" {
-        Status::Done
-    } else {
-        Status::Refused
-    };
-    answers(
-        alloc,
+#[test]
+fn scripts_are_only_checked(rt: HostRuntime) -> Result<(), Fail> {
+    let words = check(rt.alloc())?;
+    each_ends(
+        &rt,
+        rt.alloc(),
         words.as_slice(),
-        input.as_bytes(),
-        text.as_bytes(),
-        status,
+        Status::Done,
+        &[("", "lawful\n"), (FILL, "lawful\n"), (COPY, "lawful\n")],
+    )?;
+    each_ends(
+        &rt,
+        rt.alloc(),
+        words.as_slice(),
+        Status::Refused,
+        &[
+            (
+                "timeline A 0\nqueue Q threaded\nsubmit Q\nwait A 1\nend\n",
+                "error: unreachable: line 4\n",
+            ),
+            ("buffer X 4\nsubmit Q\n", "error: name: line 2\n"),
+            ("queue Q immediate\nsubmit Q\n", "error: syntax: line 3\n"),
+        ],
     )
 }
 
 #[test]
-fn scripts_are_only_checked(rt: HostRuntime) -> Result<(), Fail> {
-    for (input, text) in [
-        ("", "lawful\n"),
-        (FILL, "lawful\n"),
-        (COPY, "lawful\n"),
-        (
-            "timeline A 0\nqueue Q threaded\nsubmit Q\nwait A 1\nend\n",
-            "error: unreachable: line 4\n",
-        ),
-        ("buffer X 4\nsubmit Q\n", "error: name: line 2\n"),
-        ("queue Q immediate\nsubmit Q\n", "error: syntax: line 3\n"),
-    ] {
-        assert!(rt; is_said(rt.alloc(), input, text)?, "{input:?}");
-    }
-    Ok(())
-}
-
-#[test]
 fn signals_of_queues_are_in_a_sure_order(rt: HostRuntime) -> Result<(), Fail> {
-    for (input, text) in [
-        // two queues that signal one timeline
-        (
-            "timeline A 0
-queue P threaded
-queue Q threaded
-submit P
-signal A 1
-end
-submit Q
-signal A 2
-end
-",
-            "error: unordered: lines 5 and 8\n",
-        ),
-        // the same, once the second waits for the first
-        (
-            "timeline A 0
+    let words = check(rt.alloc())?;
+    each_ends(
+        &rt,
+        rt.alloc(),
+        words.as_slice(),
+        Status::Done,
+        &[
+            // the same, once the second waits for the first
+            (
+                "timeline A 0
 queue P threaded
 queue Q threaded
 submit P
@@ -450,40 +459,47 @@ wait A 1
 signal A 2
 end
 ",
-            "lawful\n",
-        ),
-        // the initial value
-        (
-            "timeline A 18446744073709551615\nqueue P threaded\nsubmit P\nsignal A 18446744073709551615\nend\n",
-            "error: unordered: lines 4 and 4\n",
-        ),
-    ] {
-        assert!(rt; is_said(rt.alloc(), input, text)?, "{input:?}");
-    }
-    Ok(())
+                "lawful\n",
+            ),
+        ],
+    )?;
+    each_ends(
+        &rt,
+        rt.alloc(),
+        words.as_slice(),
+        Status::Refused,
+        &[ // two queues that signal one timeline
+            (
+                "timeline A 0
+queue P threaded
+queue Q threaded
+submit P
+signal A 1
+end
+submit Q
+signal A 2
+end
+",
+                "error: unordered: lines 5 and 8\n",
+            ),
+            // the initial value
+            (
+                "timeline A 18446744073709551615\nqueue P threaded\nsubmit P\nsignal A 18446744073709551615\nend\n",
+                "error: unordered: lines 4 and 4\n",
+            ),
+        ],
+    )
 }
 
 #[test]
 fn signals_of_batches_are_in_a_sure_order(rt: HostRuntime) -> Result<(), Fail> {
-    for (input, text) in [
-        // a batch's signals aren't sure to one that waits for another of them, but for their job
-        (
-            "timeline A 0
-timeline B 0
-queue P threaded
-queue Q threaded
-submit P
-signal A 1
-signal B 1
-end
-submit Q
-wait A 1
-signal B 2
-end
-",
-            "error: unordered: lines 7 and 11\n",
-        ),
-        (
+    let words = check(rt.alloc())?;
+    each_ends(
+        &rt,
+        rt.alloc(),
+        words.as_slice(),
+        Status::Done,
+        &[(
             "timeline A 0
 timeline B 0
 queue P threaded
@@ -498,10 +514,33 @@ signal B 2
 end
 ",
             "lawful\n",
-        ),
-        // a binary wait that the next signal may overtake
-        (
-            "binary S
+        )],
+    )?;
+    each_ends(
+        &rt,
+        rt.alloc(),
+        words.as_slice(),
+        Status::Refused,
+        &[ // a batch's signals aren't sure to one that waits for another of them, but for their job
+            (
+                "timeline A 0
+timeline B 0
+queue P threaded
+queue Q threaded
+submit P
+signal A 1
+signal B 1
+end
+submit Q
+wait A 1
+signal B 2
+end
+",
+                "error: unordered: lines 7 and 11\n",
+            ),
+            // a binary wait that the next signal may overtake
+            (
+                "binary S
 queue P threaded
 queue Q threaded
 submit P
@@ -514,20 +553,43 @@ submit P
 signal S
 end
 ",
-            "error: unordered: lines 8 and 11\n",
-        ),
-    ] {
-        assert!(rt; is_said(rt.alloc(), input, text)?, "{input:?}");
-    }
-    Ok(())
+                "error: unordered: lines 8 and 11\n",
+            ),
+        ],
+    )
 }
 
 #[test]
 fn conflicting_commands_are_ordered(rt: HostRuntime) -> Result<(), Fail> {
-    for (input, text) in [
-        // the copy doesn't wait: a wait for 0 waits for nothing
-        (
+    let words = check(rt.alloc())?;
+    each_ends(
+        &rt,
+        rt.alloc(),
+        words.as_slice(),
+        Status::Done,
+        &[(
             "buffer X 8
+buffer Y 8
+queue P threaded
+queue Q threaded
+submit P
+copy X 0 Y 0 4
+end
+submit Q
+copy Y 4 X 4 1
+end
+",
+            "lawful\n",
+        )],
+    )?;
+    each_ends(
+        &rt,
+        rt.alloc(),
+        words.as_slice(),
+        Status::Refused,
+        &[ // the copy doesn't wait: a wait for 0 waits for nothing
+            (
+                "buffer X 8
 buffer Y 8
 timeline A 0
 queue P threaded
@@ -541,11 +603,11 @@ fill X 0 8 1
 signal A 1
 end
 ",
-            "error: race: lines 8 and 11\n",
-        ),
-        // a wait for too small a value
-        (
-            "buffer X 8
+                "error: race: lines 8 and 11\n",
+            ),
+            // a wait for too small a value
+            (
+                "buffer X 8
 timeline A 0
 queue P threaded
 queue Q threaded
@@ -561,11 +623,11 @@ wait A 1
 fill X 0 4 2
 end
 ",
-            "error: race: lines 9 and 14\n",
-        ),
-        // a copy's read and a write of one shared byte, and of none
-        (
-            "buffer X 8
+                "error: race: lines 9 and 14\n",
+            ),
+            // a copy's read and a write of one shared byte, and of none
+            (
+                "buffer X 8
 buffer Y 8
 queue P threaded
 queue Q threaded
@@ -576,34 +638,23 @@ submit Q
 copy Y 4 X 3 1
 end
 ",
-            "error: race: lines 6 and 9\n",
-        ),
-        (
-            "buffer X 8
-buffer Y 8
-queue P threaded
-queue Q threaded
-submit P
-copy X 0 Y 0 4
-end
-submit Q
-copy Y 4 X 4 1
-end
-",
-            "lawful\n",
-        ),
-    ] {
-        assert!(rt; is_said(rt.alloc(), input, text)?, "{input:?}");
-    }
-    Ok(())
+                "error: race: lines 6 and 9\n",
+            ),
+        ],
+    )
 }
 
 #[test]
 fn commands_that_are_ordered_or_apart_are_lawful(rt: HostRuntime) -> Result<(), Fail> {
-    for (input, text) in [
-        // two readers
-        (
-            "buffer X 8
+    let words = check(rt.alloc())?;
+    each_ends(
+        &rt,
+        rt.alloc(),
+        words.as_slice(),
+        Status::Done,
+        &[ // two readers
+            (
+                "buffer X 8
 buffer Y 8
 queue P threaded
 queue Q threaded
@@ -614,11 +665,11 @@ submit Q
 copy X 0 Y 4 4
 end
 ",
-            "lawful\n",
-        ),
-        // two queues that wait for one signal
-        (
-            "buffer X 8
+                "lawful\n",
+            ),
+            // two queues that wait for one signal
+            (
+                "buffer X 8
 buffer Y 8
 timeline A 0
 queue P threaded
@@ -637,11 +688,11 @@ wait A 1
 copy X 4 Y 4 4
 end
 ",
-            "lawful\n",
-        ),
-        // a wait for a value between two signals
-        (
-            "buffer X 8
+                "lawful\n",
+            ),
+            // a wait for a value between two signals
+            (
+                "buffer X 8
 timeline A 0
 queue P threaded
 queue Q threaded
@@ -657,12 +708,10 @@ wait A 2
 fill X 0 4 2
 end
 ",
-            "lawful\n",
-        ),
-    ] {
-        assert!(rt; is_said(rt.alloc(), input, text)?, "{input:?}");
-    }
-    Ok(())
+                "lawful\n",
+            ),
+        ],
+    )
 }
 
 /// Whether a run over steady ports, with this room, is done and leaves this.

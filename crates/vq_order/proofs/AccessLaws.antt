@@ -1,8 +1,9 @@
 -- Conflicts and races by the accesses of commands.
-use Rattle.std.proofs.Common.{◌≡◌, ◌≢◌, ℕ, zero, suc, [], ◌∷◌, take, ◌+◌, ◌≤◌, ◌<◌, arith, length, get_or, Bool, true, false, ◌||◌, List, Option, Some, None, option_map, refl, sym, ap, ◌∙◌, subst, inl, inr}
+use Rattle.std.proofs.Common.{◌≡◌, ℕ, zero, suc, [], ◌∷◌, take, ◌+◌, ◌≤◌, ◌<◌, arith, length, Bool, true, false, ◌||◌, List, Option, Some, None, option_map, refl, sym, ap, ◌∙◌, subst, inl, inr}
 use Rattle.std.specs.List.{list_any, slice_get}
 use Rattle.std.proofs.lemmas.List.{length-take-le}
 use Rattle.std.specs.Option.{option_map_or, option_to_list}
+use Rattle.std.proofs.lemmas.Bool.{cases_eq}
 use Rattle.std.proofs.lemmas.Option.{slice_get-get_or}
 use Rattle.vq_model.specs.declared.script.Command.{Command}
 use Rattle.vq_model.specs.declared.script.Command.TheVariants.{Update, Copy}
@@ -15,7 +16,7 @@ use Rattle.vq_model.specs.Ranges.{Fits, share, conflict, written_range, read_ran
 use Rattle.vq_model.specs.WellFormed.{IsWellFormed}
 use Rattle.vq_order_laws.proofs.Cited.{command_order, job_order}
 use Rattle.vq_plan_laws.proofs.Cited.{plan_well_formed, plan_holds_no_wait}
-use Rattle.vq_order.specs.Accessed.{span_of, spans_share, accesses_conflict, access_in, IsAccess, AreAccesses, RaceBy}
+use Rattle.vq_order.specs.Accessed.{span_of, spans_share, accesses_conflict, access_in, IsAccess, AreAccesses, AreAllInOrder, HasNoRaceBelow, RaceBy}
 use Rattle.vq_order.proofs.CommandJobs.{size_small}
 use Rattle.vq_order.specs.declared.races.accesses.Access.{Access}
 use Rattle.vq_order.specs.declared.races.accesses.Span.{Span}
@@ -109,6 +110,23 @@ access_at p accesses h c l = h.each c (access_in accesses c) (slice_get-get_or a
 -- of two commands of the table
 pub races_at : (p : Plan) → IsPlan p → (accesses : List Access) → AreAccesses p accesses → (c d : ℕ) → c < length accesses → d < length accesses → (RaceBy p (access_in accesses c) (access_in accesses d) → IsRace p c d) × (IsRace p c d → RaceBy p (access_in accesses c) (access_in accesses d))
 races_at p i accesses h c d l m = race_is p i c d (access_in accesses c) (access_in accesses d) (access_at p accesses h c l) (access_at p accesses h d m)
+
+-- One command more
+
+pub stays_quiet : (p : Plan) (xs : List Access) (d q : ℕ) → (access_in xs d).job ≡ q → AreAllInOrder p xs d q → AreAllInOrder p xs (d + 1) q
+stays_quiet p xs d q e f a l = elim (cases_eq a d) [
+  | inl s ↦ inl (inl (ap (λ z. (access_in xs z).job) s ∙ e))
+  | inr n ↦ f a (grind arith)
+]
+
+pub quiet_races_none : (p : Plan) → IsPlan p → (accesses : List Access) → AreAccesses p accesses → (d : ℕ) → d < length accesses → AreAllInOrder p accesses d (access_in accesses d).job → (a : ℕ) → a < d → ¬ IsRace p a d
+quiet_races_none p i accesses h d m f a l r = ((races_at p i accesses h a d (omega arith) m).1 r).apart (f a l)
+
+pub none_races_next : (p : Plan) (d : ℕ) → HasNoRaceBelow p d → ((a : ℕ) → a < d → ¬ IsRace p a d) → HasNoRaceBelow p (d + 1)
+none_races_next p d below none a b l m r = elim (cases_eq b d) [
+  | inl e ↦ none a (omega arith) (subst (IsRace p a) e r)
+  | inr n ↦ below a b l (grind arith) r
+]
 
 -- those of fewer commands
 

@@ -48,9 +48,6 @@ module _ (p : Plan) where
   before_passes j k x (one h) = record { through = x; listed = h.edge; earlier = h.earlier; comes = inr refl }
   before_passes j k x (more {h = q} b h) = record { through = q; listed = h.edge; earlier = h.earlier; comes = inl b }
 
-  pub clock_start : (j : ℕ) → Covers (lane_at p) itself (λ l. 0) (PassesOne p j [])
-  clock_start j = record { below = λ x i o h. absurd (false≢true h.listed); covered = λ x i o h. absurd (omega arith) }
-
   -- an edge that doesn't agree with the slow run adds nothing
   pub clock_skip : (j h : ℕ) (hs : List ℕ) (row : ℕ → ℕ) → comes_earlier p h j ≡ false → Covers (lane_at p) itself row (PassesOne p j hs) → Covers (lane_at p) itself row (PassesOne p j (hs ++ h ∷ []))
   clock_skip j h hs row e c =

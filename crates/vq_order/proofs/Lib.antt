@@ -1,22 +1,22 @@
-pub mod SlowFacts
-pub mod Covering
-pub mod ClockLaws
-pub mod RowLaws
-pub mod WindowLaws
-pub mod RaceLaws
-pub mod LineSearches
-pub mod Firsts
-pub mod CheckLaws
-pub mod Resolving
-pub mod UnorderedLaws
-pub mod BinaryChains
-pub mod UnorderedSteps
-pub mod UnreachedLaws
-pub mod CommandJobs
-pub mod AccessLaws
-pub mod Marking
-pub mod RacingPairs
-pub mod SweepLaws
-pub mod CutLaws
-pub mod SweptCells
-pub mod SweptRaces
+mod SlowFacts
+mod Covering
+mod ClockLaws
+mod RowLaws
+mod WindowLaws
+mod RaceLaws
+mod LineSearches
+mod Firsts
+mod CheckLaws
+mod NeedChains
+mod UnorderedLaws
+mod BinaryChains
+mod UnorderedSteps
+mod UnreachedLaws
+mod CommandJobs
+mod AccessLaws
+mod Marking
+mod RacingPairs
+mod SweepLaws
+mod CutLaws
+mod SweptCells
+mod SweptRaces

@@ -1,10 +1,15 @@
 -- Searching for the least pair of lines.
-use Rattle.std.proofs.Common.{◌≡◌, ℕ, ◌<◌, ◌≤◌, ◌+◌, Bool, true, false, ◌&&◌, eqb, ltb, Option, Some, None, refl, sym, ◌∙◌, ◌⊎◌, inl, inr, subst, arith}
+use Rattle.std.proofs.Common.{◌≡◌, ℕ, ◌<◌, ◌≤◌, ◌+◌, List, [], length, get_or, ap, Bool, true, false, ◌&&◌, eqb, ltb, Option, Some, None, refl, sym, ◌∙◌, ◌⊎◌, inl, inr, subst, arith}
 use Rattle.std.proofs.lemmas.Bool.{cases_eq, cases_lt, or_cases, and_parts, false≢true, ltb-true, eqb-true, cond-true, cond-false, lt-ltb, eq-eqb, or_left, or_right, and_from}
+use Rattle.std.specs.List.{slice_get}
+use Rattle.std.specs.Option.{option_map_or}
+use Rattle.std.proofs.lemmas.Option.{slice_get-get_or}
+use Rattle.vq_model.specs.declared.plan.Need.{Need}
+use Rattle.vq_model.specs.declared.plan.PlanJob.{PlanJob}
+use Rattle.vq_model.specs.Plan.{Plan, needs}
 use Rattle.vq_model.specs.Checks.{IsLeastPair}
 use Rattle.vq_order.specs.declared.lines.Lines.{Lines}
-use Rattle.vq_order.specs.LeastLines.{AreLeastOrNone, comes_first, lower_lines, lower_of}
-use Rattle.vq_order.specs.UnorderedLines.{IsOfFirst}
+use Rattle.vq_order.specs.LeastLines.{AreLeastOrNone, IsOfFirst, IsOfNeed, comes_first, lower_lines, lower_of}
 
 -- two lines are not after two others
 abbrev AtMost : Lines → ℕ → ℕ → Type 0
@@ -85,10 +90,6 @@ module _ (P : ℕ → ℕ → Type 0) (R : ℕ → ℕ → ℕ → Type 0) where
   none_beside = lines_same P (Either P (IsOfFirst R 0)) (λ a b x. inl x) (λ a b x. elim x [ inl p ↦ p | inr p ↦ (let l = p.below in absurd (omega arith)) ])
 
 module _ (R : ℕ → ℕ → ℕ → Type 0) where
-  -- nothing yet
-  pub first_none : AreLeastOrNone (IsOfFirst R 0) None
-  first_none a b x = let l = x.below in omega arith
-
   abbrev Never : ℕ → ℕ → Type 0
   Never a b = ⊥
 
@@ -97,3 +98,23 @@ module _ (R : ℕ → ℕ → ℕ → Type 0) where
   first_more n o q k h =
       lines_same (Either Never (IsOfFirst R (n + 1))) (IsOfFirst R (n + 1)) (λ a b x. elim x [ inl p ↦ absurd p | inr p ↦ p ]) (λ a b x. inr x) (lower_of o q)
       (first_more_beside Never R n o q (lines_same (IsOfFirst R n) (Either Never (IsOfFirst R n)) (λ a b x. inr x) (λ a b x. elim x [ inl p ↦ absurd p | inr p ↦ p ]) o k) h)
+
+-- all numbers were searched
+pub all_first : (R : ℕ → ℕ → ℕ → Type 0) (k n : ℕ) → k ≤ n → n ≤ k → (o : Option Lines) → AreLeastOrNone (IsOfFirst R k) o → AreLeastOrNone (IsOfFirst R n) o
+all_first R k n l h o x = let e : k ≡ n = omega arith in subst (λ (m : ℕ). AreLeastOrNone (IsOfFirst R m) o) e x
+
+-- The needs of a job
+
+pub need_at : (p : Plan) (i : ℕ) (job : PlanJob) → slice_get p.jobs i ≡ Some job → (ns : List Need) → ns ≡ job.needs → (k : ℕ) (none : Need) → k < length ns → slice_get (needs p i) k ≡ Some (get_or ns k none)
+need_at p i job e ns same k none l =
+    let are : needs p i ≡ ns = ap (λ o. option_map_or (λ x. x.needs) o []) e ∙ sym same in
+    subst (λ (ms : List Need). slice_get ms k ≡ Some (get_or ns k none)) (sym are) (slice_get-get_or ns k none l)
+
+pub needs_count : (p : Plan) (i : ℕ) (job : PlanJob) → slice_get p.jobs i ≡ Some job → (ns : List Need) → ns ≡ job.needs → length (needs p i) ≡ length ns
+needs_count p i job e ns same = ap length (ap (λ o. option_map_or (λ x. x.needs) o []) e ∙ sym same)
+
+-- a need at its place
+pub of_need : (p : Plan) (R : Need → ℕ → ℕ → Type 0) (i k : ℕ) (n : Need) → slice_get (needs p i) k ≡ Some n → (o : Option Lines) → AreLeastOrNone (R n) o → AreLeastOrNone (IsOfNeed p R i k) o
+of_need p R i k n e o x =
+    lines_same (R n) (IsOfNeed p R i k) (λ a b y. record { need = n; of_job = e; holds = y })
+    (λ a b y. let same : y.need ≡ n = let c : Some y.need ≡ Some n = sym y.of_job ∙ e in cc in subst (λ (m : Need). R m a b) same y.holds) o x

@@ -1,11 +1,10 @@
 -- Going through cells, one after another.
 use Rattle.std.proofs.Common.{◌≡◌, ◌≢◌, ℕ, zero, suc, Bool, true, false, List, [], ◌∷◌, set, Some, None, refl, sym, ◌∙◌, ◌⊎◌, inl, inr, subst, arith}
 use Rattle.std.specs.List.{slice_get}
-use Rattle.std.proofs.lemmas.Bool.{false≢true}
 use Rattle.std.proofs.lemmas.List.{length-set}
-use Rattle.vq_model.specs.Plan.{Plan, has}
+use Rattle.vq_model.specs.Plan.{Plan}
 use Rattle.vq_order.specs.declared.races.cells.Cell.{Cell}
-use Rattle.vq_order.specs.Swept.{Visit, Touched, KeepsCell, HasJobs, Touches, KeepsAll, HaveJobs, Extended, Sweeps, AreUntouched, FitsSweep}
+use Rattle.vq_order.specs.Swept.{Visit, Touched, KeepsCell, HasJobs, Touches, KeepsAll, HaveJobs, Extended, Sweeps}
 
 -- a cell after one of them has changed
 pub changed_cases : (cells : List Cell) (k : ℕ) (new : Cell) (i : ℕ) (cell : Cell) → slice_get (set cells k new) i ≡ Some cell → ((i ≡ k) × (cell ≡ new)) ⊎ ((k ≢ i) × (slice_get cells i ≡ Some cell))
@@ -83,17 +82,5 @@ module _ (p : Plan) where
         extends = λ log keeps. (let x = s.extends log keeps in record { longer = x.longer; keeps = x.keeps; before = x.before; own = λ k j w t. x.own k j w (f k j w t) });
       }
 
-  pub untouched_jobs : (cells : List Cell) → AreUntouched cells → HaveJobs p cells
-  untouched_jobs cells u k cell e =
-      let q = u k cell e in
-      record {
-        writer = λ j g. absurd (let r : None ≡ Some j = sym q.0 ∙ g in cc);
-        readers = λ j g. absurd (false≢true (subst (λ (xs : List ℕ). has xs j ≡ true) q.1 g));
-      }
-
   pub untouched_keeps : (cells : List Cell) → KeepsAll p [] cells
   untouched_keeps cells k cell e = record { wrote = λ j t. absurd t; read = λ j t. absurd t; in_order = λ i j w t u. absurd t }
-
-  -- after going through cells, one may go on
-  pub fits_then : (cuts : List ℕ) (a b : List Cell) (Own : ℕ → ℕ → Bool → Type 0) → FitsSweep p cuts a → Sweeps p a b Own → FitsSweep p cuts b
-  fits_then cuts a b Own f s = record { rise = f.rise; count = s.count ∙ f.count; jobs = s.jobs }

@@ -4,7 +4,7 @@ use Rattle.std.specs.List.{slice_get, Contains}
 use Rattle.std.specs.Option.{option_map_or}
 use Rattle.std.proofs.lemmas.Option.{slice_get-get_or, slice_get_past}
 use Rattle.std.proofs.lemmas.Bool.{false≢true, or_cases, ltb-true, ltb-false}
-use Rattle.vq_model.specs.Plan.{Plan, has, commands_of}
+use Rattle.vq_model.specs.Plan.{Plan, commands_of}
 use Rattle.vq_model.specs.SlowRun.{slow_order}
 use Rattle.vq_order_laws.proofs.Cited.{slow_has}
 use Rattle.vq_model.proofs.Gets.{get_some}

@@ -11,7 +11,8 @@ use Rattle.vq_model.specs.Checks.{IsUnordered, AreNeighbours, is_timeline_chain,
 use Rattle.vq_model.proofs.Gets.{slice_get_past}
 use Rattle.vq_model.proofs.Gets.{get_within}
 use Rattle.vq_model.proofs.Options.{some_of}
-use Rattle.vq_order.specs.UnorderedLines.{IsOfFirst, IsTooLow, IsUnsureFor, AreUnordered, op_in, IsUnorderedAt, IsUnorderedIn, IsOvertakenIn}
+use Rattle.vq_order.specs.LeastLines.{IsOfFirst}
+use Rattle.vq_order.specs.UnorderedLines.{IsTooLow, IsUnsureFor, AreUnordered, op_in, IsUnorderedAt, IsUnorderedIn, IsOvertakenIn}
 use Rattle.vq_order.proofs.LineSearches.{Either}
 use Rattle.vq_order.proofs.SlowFacts.{place, has_at, at_place, place_within}
 
@@ -90,7 +91,7 @@ module _ (p : Plan) (w : IsWellFormed p) (lines : HasLinesInOrder p) where
       by_place (inr next) = of_neighbours x.number x.holds.1.number a b x.holds.0 next.0 next.1
   unordered_whole a b (inr x) =
       let here = x.holds.holds in
-      let o = here.overtaken in
+      let o = here.holds in
       at_lines a b here.need.line (line_of_op p o.op) o.by_op.first o.by_op.second
       (unawaited here.need o.op x.number o.by_op.job x.holds.number here.of_job o.binary o.next o.by_op.of_job o.by_op.other o.by_op.not_before)
 
@@ -134,7 +135,7 @@ module _ (p : Plan) (w : IsWellFormed p) (lines : HasLinesInOrder p) where
                     record {
                       need = n;
                       of_job = h;
-                      overtaken =
+                      holds =
                           record {
                             binary = kind;
                             op = e;

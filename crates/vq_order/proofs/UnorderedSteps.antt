@@ -1,21 +1,20 @@
 -- The steps of the search for signals in no sure order.
-use Rattle.std.proofs.Common.{◌≡◌, ℕ, ◌<◌, ◌≤◌, true, List, [], length, get_or, ltb, Bor, Option, Some, None, sym, ap, ◌∙◌, subst, arith}
+use Rattle.std.proofs.Common.{◌≡◌, ℕ, ◌≤◌, true, List, length, get_or, ltb, Bor, Option, Some, None, sym, ap, ◌∙◌, subst, arith}
 use Rattle.std.specs.List.{slice_get}
-use Rattle.std.specs.Option.{option_map_or, option_copied, is_some, IfSome}
+use Rattle.std.specs.Option.{option_copied, is_some, IfSome}
 use Rattle.std.proofs.lemmas.Bool.{ltb-true, ltb-false}
 use Rattle.std.proofs.lemmas.Option.{slice_get_past}
 use Rattle.vq_model.specs.declared.plan.Need.{Need}
-use Rattle.vq_model.specs.declared.plan.PlanJob.{PlanJob}
 use Rattle.vq_model.specs.declared.script.SemaphoreKind.TheVariants.{Binary}
-use Rattle.vq_model.specs.Plan.{Plan, chain, needs}
+use Rattle.vq_model.specs.Plan.{Plan, chain}
 use Rattle.vq_model.specs.Signals.{kind_of}
 use Rattle.vq_model.specs.LoweringFaults.{IsPlan}
 use Rattle.vq_model.specs.Lanes.{HasLinesInOrder}
 use Rattle.vq_model.specs.Checks.{IsUnordered, IsNextSignal, is_timeline_chain}
 use Rattle.vq_plan_laws.proofs.Cited.{plan_well_formed, plan_semaphores, plan_lines}
 use Rattle.vq_order.specs.declared.lines.Lines.{Lines}
-use Rattle.vq_order.specs.LeastLines.{AreLeastOrNone}
-use Rattle.vq_order.specs.UnorderedLines.{IsOfFirst, IsUnorderedAt, IsUnorderedIn, IsOvertakenBy, IsOvertaken, IsOvertakenAt, IsOvertakenIn}
+use Rattle.vq_order.specs.LeastLines.{IsOfFirst, AreLeastOrNone}
+use Rattle.vq_order.specs.UnorderedLines.{IsUnorderedAt, IsUnorderedIn, IsOvertakenBy, IsOvertaken, IsOvertakenIn}
 use Rattle.vq_order.proofs.LineSearches.{Either, lines_same}
 use Rattle.vq_order.proofs.UnorderedLaws.{get_at, unordered_whole, unordered_parts}
 use Rattle.vq_order.proofs.BinaryChains.{one_next}
@@ -32,25 +31,6 @@ all_places p t k ops e kind l h o x =
     lines_same (IsOfFirst (IsUnorderedAt p t) k) (IsUnorderedIn p t)
     (λ a b y. (kind, subst (λ (m : ℕ). IsOfFirst (IsUnorderedAt p t) m a b) n y))
     (λ a b y. subst (λ (m : ℕ). IsOfFirst (IsUnorderedAt p t) m a b) (sym n) y.1) o x
-
--- all numbers were searched
-pub all_first : (R : ℕ → ℕ → ℕ → Type 0) (k n : ℕ) → k ≤ n → n ≤ k → (o : Option Lines) → AreLeastOrNone (IsOfFirst R k) o → AreLeastOrNone (IsOfFirst R n) o
-all_first R k n l h o x = let e : k ≡ n = omega arith in subst (λ (m : ℕ). AreLeastOrNone (IsOfFirst R m) o) e x
-
--- a need of a job
-pub need_at : (p : Plan) (i : ℕ) (job : PlanJob) → slice_get p.jobs i ≡ Some job → (ns : List Need) → ns ≡ job.needs → (k : ℕ) (none : Need) → k < length ns → slice_get (needs p i) k ≡ Some (get_or ns k none)
-need_at p i job e ns same k none l =
-    let are : needs p i ≡ ns = ap (λ o. option_map_or (λ x. x.needs) o []) e ∙ sym same in
-    subst (λ (ms : List Need). slice_get ms k ≡ Some (get_or ns k none)) (sym are) (get_at ns k none l)
-
-pub needs_count : (p : Plan) (i : ℕ) (job : PlanJob) → slice_get p.jobs i ≡ Some job → (ns : List Need) → ns ≡ job.needs → length (needs p i) ≡ length ns
-needs_count p i job e ns same = ap length (ap (λ o. option_map_or (λ x. x.needs) o []) e ∙ sym same)
-
--- the wait of a need at its place
-pub wait_at : (p : Plan) (i k : ℕ) (n : Need) → slice_get (needs p i) k ≡ Some n → (o : Option Lines) → AreLeastOrNone (IsOvertaken p i n) o → AreLeastOrNone (IsOvertakenAt p i k) o
-wait_at p i k n e o x =
-    lines_same (IsOvertaken p i n) (IsOvertakenAt p i k) (λ a b y. record { need = n; of_job = e; overtaken = y })
-    (λ a b y. let same : y.need ≡ n = let c : Some y.need ≡ Some n = sym y.of_job ∙ e in cc in subst (λ (m : Need). IsOvertaken p i m a b) same y.overtaken) o x
 
 -- by the next signal, which is the only one
 pub by_next : (p : Plan) → HasLinesInOrder p → (i : ℕ) (n : Need) → kind_of p.script n.chain ≡ Some Binary → (e : ℕ) → IsNextSignal p n.chain n.line e → (o : Option Lines) → AreLeastOrNone (IsOvertakenBy p i n.line e) o → AreLeastOrNone (IsOvertaken p i n) o

@@ -1,9 +1,9 @@
 -- In a chain that rises, what is sure for a job, and what may be made beside it, are the first
 -- operations.
-use Rattle.std.proofs.Common.{◌≡◌, ◌≢◌, ℕ, zero, suc, ◌+◌, ◌-◌, ◌<◌, ◌≤◌, Bool, true, false, not, ◌&&◌, eqb, List, [], ◌∷◌, length, get_or, Option, Some, None, refl, sym, ap, ◌∙◌, ◌⊎◌, inl, inr, subst, arith}
+use Rattle.std.proofs.Common.{◌≡◌, ℕ, zero, suc, ◌-◌, ◌<◌, ◌≤◌, true, eqb, List, [], ◌∷◌, length, get_or, Option, Some, None, refl, sym, ap, ◌∙◌, ◌⊎◌, inl, inr, subst, arith}
 use Rattle.std.specs.List.{filter_map, slice_get}
 use Rattle.std.specs.Option.{option_map}
-use Rattle.std.proofs.lemmas.Bool.{cases_lt, cases_eq, false≢true, cond-true, cond-false, eq-eqb, ne_eqb}
+use Rattle.std.proofs.lemmas.Bool.{cases_lt, cases_eq, cond-true, cond-false, eq-eqb, ne_eqb}
 use Rattle.vq_model.specs.declared.plan.Op.{Op}
 use Rattle.vq_model.specs.Plan.{Plan, has, chain, chain_of, job_of, initial, value}
 use Rattle.vq_model.specs.Edges.{Stage, AtEnd, must_finish, awaited_at}
@@ -15,7 +15,6 @@ use Rattle.vq_model.proofs.Lists.{has-append_left, has-append_right, has_here, h
 use Rattle.vq_model.proofs.Mapped.{has_mapped}
 use Rattle.vq_order.specs.Counts.{AreFirst, MayBeMade, value_after}
 use Rattle.vq_order.proofs.SlowFacts.{place, has_at, at_place, place_within}
-use Rattle.vq_order.proofs.RowLaws.{op_exists}
 
 module _ (p : Plan) where
   first_hop : (i j : ℕ) (k : Stage) → has (must_finish p j) i ≡ true → comes_earlier p i j ≡ true → IsHop p i j k
@@ -189,9 +188,3 @@ module _ (p : Plan) (w : IsWellFormed p) (chains : KeepsChains p) (t : ℕ) wher
       cases : (m : ℕ) → IsPossiblyReached p h t m → (m ≡ initial p t) ⊎ ((e : ℕ) × (chain_of p e ≡ Some t) × MayBeMade p h e × (m ≡ value p e))
       cases m at_first = inl refl
       cases m (possible {e = e} s) = inr (e, s.in_chain, record { job = s.job; of_job = s.of_job; other = s.other; not_after = s.not_after }, refl)
-
-pub possible_ways : (p : Plan) (op j job : ℕ) → job_of p op ≡ Some job → (b d : Bool) → (b ≡ true → job ≢ j) → (job ≢ j → b ≡ true) → (d ≡ true → HappensBefore p j job) → (HappensBefore p j job → d ≡ true) → ((b && not d) ≡ true → MayBeMade p j op) × (MayBeMade p j op → (b && not d) ≡ true)
-possible_ways p op j job o false d f g h i = ((λ x. absurd (false≢true x)), (λ s. g (λ q. s.other (same p op s.job job s.of_job o ∙ q))))
-possible_ways p op j job o true true f g h i = ((λ x. absurd (false≢true x)), (λ s. absurd (s.not_after (subst (HappensBefore p j) (same p op job s.job o s.of_job) (h refl)))))
-possible_ways p op j job o true false f g h i =
-    ((λ x. record { job = job; of_job = o; other = f refl; not_after = λ b. false≢true (i b) }), (λ s. refl))

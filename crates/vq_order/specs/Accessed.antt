@@ -69,3 +69,7 @@ IsFirstRacing p xs d (Some c) =
 -- no two of the first commands race
 abbrev pub HasNoRaceBelow : Plan → ℕ → Type 0
 HasNoRaceBelow p n = (c d : ℕ) → c < d → d < n → ¬ IsRace p c d
+
+-- the jobs of the first commands are in order with a job
+abbrev pub AreAllInOrder : Plan → List Access → ℕ → ℕ → Type 0
+AreAllInOrder p xs n job = (a : ℕ) → a < n → AreInOrder p (access_in xs a).job job

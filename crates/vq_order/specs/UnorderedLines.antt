@@ -1,20 +1,15 @@
 -- Signals in no sure order, by where they stand: at a place of a timeline's chain, or behind a wait of a binary semaphore.
 -- Vulkan 1.3, "Semaphore Signaling", "Semaphore Waiting". The lines that are named are this project's own.
 use Rattle.std.specs.Prelude.{ℕ, ◌≡◌, ◌≢◌, ◌<◌, ◌≤◌, ◌+◌, ◌⊎◌, true, length, min, max, Option, Some, None}
-use Rattle.std.specs.List.{slice_get, slice_index_or}
+use Rattle.std.specs.List.{slice_index_or}
 use Rattle.vq_model.specs.declared.plan.Need.{Need}
 use Rattle.vq_model.specs.declared.script.SemaphoreKind.TheVariants.{Binary}
-use Rattle.vq_model.specs.Plan.{Plan, chain, initial, value, job_of, line_of_op, needs}
+use Rattle.vq_model.specs.Plan.{Plan, chain, initial, value, job_of, line_of_op}
 use Rattle.vq_model.specs.Signals.{kind_of}
 use Rattle.vq_model.specs.Sure.{IsSure}
 use Rattle.vq_model.specs.HappensBefore.{HappensBefore}
 use Rattle.vq_model.specs.Checks.{IsNextSignal, is_timeline_chain}
-
--- a pair of one of the first numbers
-pub record IsOfFirst (R : ℕ → ℕ → ℕ → Type 0) (n a b : ℕ) : Type 0 where
-  pub number : ℕ
-  pub below : number < n
-  pub holds : R number a b
+use Rattle.vq_order.specs.LeastLines.{IsOfFirst, IsOfNeeds}
 
 -- Timelines
 
@@ -79,12 +74,6 @@ pub record IsOvertaken (p : Plan) (i : ℕ) (n : Need) (a b : ℕ) : Type 0 wher
   pub next : IsNextSignal p n.chain n.line op
   pub by_op : IsOvertakenBy p i n.line op a b
 
--- at a place among what a job waits for
-pub record IsOvertakenAt (p : Plan) (i k a b : ℕ) : Type 0 where
-  pub need : Need
-  pub of_job : slice_get (needs p i) k ≡ Some need
-  pub overtaken : IsOvertaken p i need a b
-
 -- a wait of a job
 abbrev pub IsOvertakenIn : Plan → ℕ → ℕ → ℕ → Type 0
-IsOvertakenIn p i a b = IsOfFirst (IsOvertakenAt p i) (length (needs p i)) a b
+IsOvertakenIn p i a b = IsOfNeeds p (IsOvertaken p i) i a b

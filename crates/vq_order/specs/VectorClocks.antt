@@ -60,12 +60,6 @@ pub record SureByOp (p : Plan) (j : ℕ) (ops : List ℕ) (e : ℕ) : Type 0 whe
 abbrev pub IsSureBy : Plan → ℕ → List ℕ → List ℕ → ℕ → Type 0
 IsSureBy p j firsts ops e = SureByJob p firsts e ⊎ SureByOp p j ops e
 
--- the operations that resolve needs, where these are above the initial values
-abbrev pub resolving : Plan → List Need → List ℕ
-resolving p ns =
-    filter_map (λ n. resolver p n.chain n.value)
-    (filter (λ n. nat_lt (initial p n.chain) n.value) ns)
-
 -- With one more edge to a job, or one more job or operation to wait for, a row still says what is
 -- before the job.
 
@@ -114,7 +108,8 @@ abbrev pub row_of : Plan → List (List ℕ) → ℕ → ℕ → ℕ
 row_of p rows j = row_at rows (position p j)
 
 -- so many rows, as wide as there are lanes: what something says of the first jobs of the slow run
-pub record HasRows (p : Plan) (Says : ℕ → (ℕ → ℕ) → Type 0) (rows : List (List ℕ)) (n : ℕ) : Type 0 where
+pub record HasRows (p : Plan) (Says : ℕ → (ℕ → ℕ) → Type 0)
+    (rows : List (List ℕ)) (n : ℕ) : Type 0 where
   pub count : length rows ≡ n
   pub width : (q : ℕ) → q < n → length (slice_index_or rows q []) ≡ lanes p
   pub each : (j : ℕ) → position p j < n → Says j (row_of p rows j)
@@ -138,7 +133,8 @@ pub record IsComplete (p : Plan) : Type 0 where
   pub reachable : left_over p ≡ []
 
 -- the row of a job is made next, after those of the jobs before it in the slow run
-pub record MakesRow (p : Plan) (Says : ℕ → (ℕ → ℕ) → Type 0) (rows : List (List ℕ)) (j : ℕ) : Type 0 where
+pub record MakesRow (p : Plan) (Says : ℕ → (ℕ → ℕ) → Type 0)
+    (rows : List (List ℕ)) (j : ℕ) : Type 0 where
   pub complete : IsComplete p
   pub exists : j < length p.jobs
   pub earlier : HasRows p Says rows (position p j)

@@ -2,4 +2,3 @@
 pub(crate) mod before;
 pub(crate) mod rows;
 pub(crate) mod sure;
-mod waits;

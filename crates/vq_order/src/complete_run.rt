@@ -9,7 +9,6 @@ ghost use Rattle.vq_order.specs.VectorClocks.{position, lanes, HasPositions, IsC
 use std::alloc::{AllocError, Global};
 use std::marker::Model;
 use vq_model::list::List;
-use vq_model::plan::Lane;
 use vq_spec::{Plan, SlowOrder};
 
 /// A plan of which the slow run leaves no job, with that run: its jobs in their order, and where
@@ -93,10 +92,7 @@ impl CompleteRun {
         ensures value { result ≡ lane_at self.now j }
         ensures exists { result < lanes self.now }
     {
-        match self.plan().job(j).lane {
-            Lane::Host => 0,
-            Lane::Queue(queue) => queue as usize + 1,
-        }
+        self.plan().job(j).lane.number()
     }
 }
 

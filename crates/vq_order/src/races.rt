@@ -1,7 +1,7 @@
 //! Races: commands of a plan that conflict, neither before the other.
-ghost use Rattle.std.specs.Prelude.{◌≡◌, ◌<◌, ◌↔◌, length, IfOk, IsTrue};
+ghost use Rattle.std.specs.Prelude.{◌≡◌, ◌<◌, ◌↔◌, Some, length, IfOk, IsTrue};
 ghost use Rattle.vq_model.specs.Checks.{IsRaceAt};
-ghost use Rattle.vq_order.specs.Accessed.{AreAccesses, HasNoRaceBelow, IsFirstRacing};
+ghost use Rattle.vq_order.specs.Accessed.{access_in, AreAccesses, AreAllInOrder, HasNoRaceBelow, IsFirstRacing};
 ghost use Rattle.vq_order.specs.LeastLines.{AreLeastOrNone};
 ghost use Rattle.vq_order.specs.Swept.{AreInOrder};
 
@@ -14,7 +14,7 @@ use crate::clocked::Clocked;
 use crate::lines::Lines;
 use crate::races::accesses::{Access, all_accesses, conflict};
 use crate::races::cells::{Halt, is_at_or_before};
-use crate::races::sweep::{go_through, touch_count};
+use crate::races::sweep::{go_through, overlap_much};
 use std::alloc::{AllocError, Global};
 
 /// Whether one of two jobs is the other one, or happens before it.
@@ -40,16 +40,52 @@ fn first_racing(order: &Clocked, accesses: &[Access], d: u32) -> Option<u32>
         if other.job == in_order {
             continue;
         }
-        if are_in_order(order, other.job, access.job) {
-            in_order = other.job;
-        } else if conflict(other, access) {
+        if !conflict(other, access) {
+            continue;
+        }
+        if !are_in_order(order, other.job, access.job) {
             return Some(c);
         }
+        in_order = other.job;
     }
     None
 }
 
-/// The least pair of lines of commands that race, or none, where the first commands don't.
+/// Whether the jobs of all commands with a lower number are in order with that of a command.
+fn are_all_in_order(order: &Clocked, accesses: &[Access], d: u32) -> bool
+    requires accesses { AreAccesses order.now accesses.now }
+    requires exists { d < length accesses.now }
+    ensures { IsTrue result → AreAllInOrder order.now accesses.now d
+        (access_in accesses.now d).job }
+{
+    let job = accesses[d as usize].job;
+    let mut in_order = job;
+    for c in 0..d {
+        let other = accesses[c as usize].job;
+        if other == in_order {
+            continue;
+        }
+        if !are_in_order(order, other, job) {
+            return false;
+        }
+        in_order = other;
+    }
+    true
+}
+
+/// Whether this job is the one that is remembered.
+fn is_remembered(remembered: Option<u32>, job: u32) -> bool
+    ensures { IsTrue result → remembered ≡ Some job }
+{
+    match remembered {
+        Some(other) => other == job,
+        None => false,
+    }
+}
+
+/// The least pair of lines of commands that race, or none, where the first commands don't. A job is
+/// remembered that is in order with those of all commands before it: its further commands race with
+/// none.
 fn least_race(order: &Clocked, accesses: &[Access], clean: u32) -> Option<Lines>
     requires accesses { AreAccesses order.now accesses.now }
     requires all { length accesses.now ≡ length order.now.commands }
@@ -57,7 +93,17 @@ fn least_race(order: &Clocked, accesses: &[Access], clean: u32) -> Option<Lines>
     ensures { AreLeastOrNone (IsRaceAt order.now) result }
 {
     let plan = order.plan();
+    let mut quiet = None;
     for d in clean..plan.commands() {
+        let job = accesses[d as usize].job;
+        if is_remembered(quiet, job) {
+            continue;
+        }
+        if are_all_in_order(order, accesses, d) {
+            quiet = Some(job);
+            continue;
+        }
+        quiet = None;
         if let Some(c) = first_racing(order, accesses, d) {
             return Some(Lines {
                 first: plan.command(c).line,
@@ -101,17 +147,6 @@ fn count_clean(alloc: Global, order: &Clocked, accesses: &[Access]) -> Result<u3
         }
     }
     Ok(low)
-}
-
-/// With more cells than this to go through for each command, on the average, comparing all pairs of
-/// commands is quicker.
-const MOST_CELLS: usize = 32;
-
-/// Whether ranges overlap so much that comparing all pairs of commands is quicker than going through
-/// their cells.
-fn overlap_much(alloc: Global, accesses: &[Access]) -> Result<bool, AllocError> {
-    let count = touch_count(alloc, accesses)?;
-    Ok(count / MOST_CELLS > accesses.len())
 }
 
 /// The least pair of lines of commands that race, by the second line and then by the first, or

@@ -7,7 +7,6 @@ ghost use Rattle.vq_model.specs.Checks.{IsUnordered, is_timeline_chain};
 ghost use Rattle.vq_model.specs.Context.{is_binary};
 ghost use Rattle.vq_model.specs.Plan.{chain, value, line_of_op, needs};
 ghost use Rattle.vq_model.specs.Signals.{kind_of};
-ghost use Rattle.vq_order.specs.Counts.{AreFirst};
 ghost use Rattle.vq_order.specs.LeastLines.{AreLeastOrNone};
 ghost use Rattle.vq_order.specs.UnorderedLines.{IsTooLow, IsUnsureFor, AreUnordered, IsUnorderedNext, IsUnorderedAt, IsUnorderedIn};
 ghost use Rattle.vq_order.specs.UnorderedLines.{IsOvertakenBy, IsNextOrNone, IsOvertaken, IsOvertakenIn};
@@ -130,14 +129,15 @@ fn unordered_in(order: &Clocked, t: u32) -> Option<Lines>
     lowest
 }
 
-/// How many signals of a binary semaphore are written up to a line: the first ones of its chain.
-fn count_until(order: &Clocked, t: u32, line: u32) -> usize
+/// The next signal of a binary semaphore that is written after a line: the signals up to it are the
+/// first ones of the chain.
+fn next_signal(order: &Clocked, t: u32, line: u32) -> Option<u32>
     requires chain { t < length order.now.chains }
     requires binary { kind_of order.now.script t ≡ Some Binary }
-    ensures { AreFirst (λ e. line_of_op order.now e ≤ line) (chain order.now t) result }
+    ensures { IsNextOrNone order.now t line result }
 {
     let ops = order.chain(t);
-    count_first(
+    let count = count_first(
         ops.len(),
         |k|
             requires place { k < length ops.now }
@@ -145,16 +145,8 @@ fn count_until(order: &Clocked, t: u32, line: u32) -> usize
             ensures { IsTrue result
                 ↔ (line_of_op order.entry.now (slice_index_or ops.entry.now k 0) ≤ line) }
         { order.op(ops[k]).line <= line },
-    )
-}
-
-/// The next signal of a binary semaphore that is written after a line.
-fn next_signal(order: &Clocked, t: u32, line: u32) -> Option<u32>
-    requires chain { t < length order.now.chains }
-    requires binary { kind_of order.now.script t ≡ Some Binary }
-    ensures { IsNextOrNone order.now t line result }
-{
-    order.chain(t).get(count_until(order, t, line)).copied()
+    );
+    ops.get(count).copied()
 }
 
 /// The lines of a job's wait and of a signal, if the job is neither that of the signal nor before

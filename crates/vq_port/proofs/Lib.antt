@@ -1,4 +1,4 @@
-pub mod Appending
-pub mod Counting
-pub mod Taking
-pub mod Telling
+mod Appending
+mod Counting
+mod Taking
+mod Telling

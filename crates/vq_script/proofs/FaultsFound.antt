@@ -17,10 +17,9 @@ use Rattle.vq_model.specs.LineFaults.{fails, is_shaped, is_numeric, is_known, is
 use Rattle.vq_model.specs.Meaning.{is_built, matches, where_built, form_of, statement_of, open_places, meaning}
 use Rattle.vq_model.specs.Reading.{read_statement, with_line, without_fault}
 use Rattle.vq_script.specs.declared.known.Known.{Known}
-use Rattle.vq_reading_laws.proofs.Cited.{has_meaning}
 use Rattle.vq_script.specs.declared.fault.ScriptFault.{ScriptFault}
 use Rattle.vq_script.specs.declared.fault.ScriptFault.TheVariants.{At, Memory}
-use Rattle.vq_script.specs.Faults.{Means, first_fault, statement_at, with_words}
+use Rattle.vq_script.specs.Faults.{first_fault, statement_at, with_words}
 use Rattle.vq_script.specs.Reads.{Takes, Reads}
 
 -- what words say, where their bytes are plain or not and they have a form or none
@@ -88,11 +87,11 @@ pub reads_form : (form : Form) (lines : List Line) (n : ℕ) (words : List (List
     0 < length words → list_all (list_all is_plain) words ≡ true →
     form_of form lines words ≡ where_built lines (find (matches words) forms) →
     find (matches words) forms ≡ Some f →
-    (Means lines (with_words words f) → Takes lines n (with_words words f) result known) →
+    Takes lines n (with_words words f) result known →
     Reads form lines n words result known
 reads_form form lines n [] forms f result known some plain is found takes = absurd (omega arith)
 reads_form form lines n (word ∷ words) forms f result known some plain is found takes =
-    by_result result (takes means)
+    by_result result takes
   where
     ws : List (List ℕ)
     ws = word ∷ words
@@ -106,11 +105,6 @@ reads_form form lines n (word ∷ words) forms f result known some plain is foun
     says : first_fault lines (with_words ws f) ≡ None →
         meaning form lines ws ≡ statement_at lines (with_words ws f)
     says none = ap (meaning_with lines ws) here ∙ found_meaning lines ws f none
-
-    means : Means lines (with_words ws f)
-    means none =
-        let said = has_meaning form lines ws (faults ∙ none) in
-        (said.0, sym (says none) ∙ said.1)
 
     by_result : (r : Result (Unit {0}) ScriptFault) → Takes lines n (with_words ws f) r known →
         Reads form lines n ws r known

@@ -27,16 +27,17 @@ use Rattle.vq_model.specs.Context.{has_begun, is_batch_immediate, is_immediate, 
 use Rattle.vq_model.specs.Forms.{Slot, HexDigits, Numeral, NewName, BufferName, TimelineName, BinaryName, FenceName, QueueName, Actor, places}
 use Rattle.vq_model.specs.LineFaults.{is_shaped, is_numeric, is_known, is_new, is_declaration, part_of_form, is_batch_fence_form, is_out_of_order, is_command_in_range, is_in_range, overlaps}
 use Rattle.vq_model.specs.Limits.{passes_limit, limits_of}
-use Rattle.vq_model.specs.Meaning.{is_built, hex_bytes, of_two, statement_of}
+use Rattle.vq_model.specs.Meaning.{is_built, hex_bytes, is_hex, small_numeral, of_two, of_three, of_four, of_five, statement_of}
+use Rattle.vq_model.specs.Text.{numeral}
 use Rattle.vq_reading_laws.proofs.Cited.{below}
 use Rattle.vq_script.specs.declared.said.Said.{Said}
 use Rattle.vq_script.specs.declared.said.Said.TheVariants.{Buffer as SaysBuffer, Semaphore as SaysSemaphore, Queue as SaysQueue, Submit, Wait, FillWhole, Fill, Update, Copy, Signal, Fence, End}
 use Rattle.vq_script.specs.Faults.{first_fault, statement_at}
 use Rattle.vq_script.specs.Holds.{Holds, Declares, Kept, last_part, named_fence, open_jobs}
-use Rattle.vq_script.specs.LineTests.{number_of, is_built_in, is_immediate_in, is_late, is_known_in, is_new_in, word_fault, is_command_in, is_in_range_in, passes_in, statement_fault, later_fault}
+use Rattle.vq_script.specs.LineTests.{number_of, is_built_in, is_immediate_in, is_late, is_known_in, is_new_in, word_fault, is_command_in, is_in_range_in, passes_in, said_fault, later_fault}
 use Rattle.vq_script.specs.Names.{names_buffer, names_queue, names_timeline, names_binary, names_fence}
 use Rattle.vq_script.specs.OpenWords.{is_no_actor}
-use Rattle.vq_script.specs.SaidLines.{AreOf, AreFound, Stands, Suits, MayKeep, MayCommand, IsNewName, end_with_pairs, open_kinds, statement_in, part_in, copied, new_name, is_batch_line, named_in}
+use Rattle.vq_script.specs.SaidLines.{AreOf, AreFound, Stands, Suits, MayKeep, MayCommand, IsNewName, end_with_pairs, open_kinds, statement_in, part_in, copied, new_name, is_batch_line, named_in, placed, are_one_each}
 
 -- Syntax
 
@@ -137,34 +138,46 @@ new_by lines k ((place, word) ∷ words) d = λ i. at_place place i && new_by li
         || list_any (λ (q : Queue). bytes_eq word q.name) (d.all_queues i))
     at_place other = refl
 
--- The kinds of words come before those of what they say.
-words_first : (a b c d e : Bool) (later : Option FaultKind) →
-    cond a (Some Syntax) (cond b (Some Order) (cond c (Some Number) (cond d (Some Name)
-    (cond e (Some Twice) later))))
-    ≡ option_or (cond a (Some Syntax) (cond b (Some Order) (cond c (Some Number) (cond d (Some Name)
-    (cond e (Some Twice) None))))) later
-words_first true b c d e later = refl
-words_first false true c d e later = refl
-words_first false false true d e later = refl
-words_first false false false true e later = refl
-words_first false false false false true later = refl
-words_first false false false false false later = refl
+-- The kinds that come before words are read come first.
+words_first : (a b : Bool) (later : Option FaultKind) →
+    cond a (Some Syntax) (cond b (Some Order) later)
+    ≡ option_or (cond a (Some Syntax) (cond b (Some Order) None)) later
+words_first true b later = refl
+words_first false true later = refl
+words_first false false later = refl
 
 module _ (lines : List Line) (k : Kept) (batch : Option Batch) (h : Holds lines k batch) where
+  -- the kinds from numbers on, by whether all numbers and all names are read
+  abbrev pub read_fault : List (Slot × List ℕ) → Option Statement → (numeric known : Bool) →
+      Option FaultKind
+  read_fault words said numeric known =
+      cond (not numeric) (Some Number)
+      (cond (not known) (Some Name) (later_fault lines k words said))
+
   -- the first kind of a line's faults
-  pub first_by : (form : LineForm) (words : List (Slot × List ℕ)) → Stands form batch →
+  first_by : (form : LineForm) (words : List (Slot × List ℕ)) → Stands form batch →
       AreFound form words →
       first_fault lines (form, words)
-      ≡ option_or (word_fault k batch form words) (later_fault lines (statement_at lines (form, words)))
+      ≡ option_or (word_fault k batch form words)
+      (read_fault words (statement_at lines (form, words)) (list_all is_numeric words)
+      (list_all (is_known_in k) words))
   first_by form words stands are = by_built (is_built_in k batch form) refl
     where
       built : is_built lines form ≡ is_built_in k batch form
       built = built_by lines k batch form h stands.inside
 
+      statement_kinds : Option FaultKind
+      statement_kinds =
+          cond (option_map_or (λ s. not (is_in_range lines s)) (statement_at lines (form, words)) false) (Some Range)
+          (cond (option_map_or (overlaps lines) (statement_at lines (form, words)) false) (Some Overlap)
+          (cond (option_map_or (passes_limit (limits_of 1) lines) (statement_at lines (form, words)) false)
+          (Some Limit) None))
+
       by_built : (b : Bool) → is_built_in k batch form ≡ b →
           first_fault lines (form, words)
           ≡ option_or (word_fault k batch form words)
-          (later_fault lines (statement_at lines (form, words)))
+          (read_fault words (statement_at lines (form, words)) (list_all is_numeric words)
+          (list_all (is_known_in k) words))
       by_built true e =
           let kinds = are (built_found k batch form e) in
           let none : list_all is_no_actor (map (λ x. x.0) words) ≡ true =
@@ -173,19 +186,21 @@ module _ (lines : List Line) (k : Kept) (batch : Option Batch) (h : Holds lines 
           (cond (late_by lines k batch form h i) (Some Order)
           (cond (not (list_all is_numeric words)) (Some Number)
           (cond (not (known_by lines k words h.declares none i)) (Some Name)
-          (cond (not (new_by lines k words h.declares i)) (Some Twice)
-          (later_fault lines (statement_at lines (form, words))))))))
-          ∙ words_first _ _ _ _ _ (later_fault lines (statement_at lines (form, words)))
+          (cond (not (new_by lines k words h.declares i)) (Some Twice) statement_kinds)))))
+          ∙ words_first _ _ (read_fault words (statement_at lines (form, words))
+          (list_all is_numeric words) (list_all (is_known_in k) words))
       by_built false e = rw (built ∙ e, e) refl
 
-  -- the same, where the words have no fault
-  pub later_first : (form : LineForm) (words : List (Slot × List ℕ)) → Stands form batch →
-      AreFound form words → word_fault k batch form words ≡ None → (said : Option Statement) →
-      said ≡ statement_at lines (form, words) →
-      first_fault lines (form, words) ≡ later_fault lines said
-  later_first form words stands are none said is =
+  -- the same, by what the tests of words say
+  pub words_by : (form : LineForm) (words : List (Slot × List ℕ)) → Stands form batch →
+      AreFound form words → (o : Option FaultKind) → word_fault k batch form words ≡ o →
+      first_fault lines (form, words)
+      ≡ option_or o (read_fault words (statement_at lines (form, words)) (list_all is_numeric words)
+      (list_all (is_known_in k) words))
+  words_by form words stands are o e =
       first_by form words stands are
-      ∙ (λ i. option_or (none i) (later_fault lines (sym is i)))
+      ∙ ap (λ (x : Option FaultKind). option_or x (read_fault words (statement_at lines (form, words))
+      (list_all is_numeric words) (list_all (is_known_in k) words))) e
 
   -- Range
 
@@ -232,12 +247,15 @@ module _ (lines : List Line) (k : Kept) (batch : Option Batch) (h : Holds lines 
   limit_by (Signal pair) s = rw h.inside.all_signals refl
   limit_by other s = refl
 
-  -- the first kind of the faults that what a line says has
-  pub later_by : (said : Said) → nat_lt 0 (part_in said) ≡ is_some batch →
-      later_fault lines (Some (statement_in said)) ≡ statement_fault k batch (statement_in said)
-  later_by said s = λ i.
-      cond (not (range_by said i)) (Some Range)
-      (cond (overlap_by said i) (Some Overlap) (cond (limit_by said s i) (Some Limit) None))
+  -- the first kind of the faults that a line has whose words are read
+  pub later_by : (words : List (Slot × List ℕ)) (said : Said) →
+      nat_lt 0 (part_in said) ≡ is_some batch →
+      later_fault lines k words (Some (statement_in said))
+      ≡ said_fault k batch words (statement_in said)
+  later_by words said s = λ i.
+      cond (not (list_all (is_new_in k) words)) (Some Twice)
+      (cond (not (range_by said i)) (Some Range)
+      (cond (overlap_by said i) (Some Overlap) (cond (limit_by said s i) (Some Limit) None)))
 
 -- What may be kept
 
@@ -292,8 +310,6 @@ fence_form other e = absurd (omega arith)
 pub record Passes (k : Kept) (batch : Option Batch) (form : LineForm) (words : List (Slot × List ℕ)) :
     Type 0 where
   pub shaped : list_all is_shaped words ≡ true
-  pub numeric : list_all is_numeric words ≡ true
-  pub fresh : list_all (is_new_in k) words ≡ true
   pub in_order : nat_lt (part_of_form form) (last_part batch) ≡ false
   pub one_fence : (is_batch_fence_form form && is_some (named_fence batch)) ≡ false
   pub built : is_built_in k batch form ≡ true
@@ -303,9 +319,6 @@ pub passed : (k : Kept) (batch : Option Batch) (form : LineForm) (words : List (
 passed k batch form words w =
     let one = cond_none (not (is_built_in k batch form) || not (list_all is_shaped words)) Syntax _ w in
     let two = cond_none (is_late k batch form) Order _ one.1 in
-    let three = cond_none (not (list_all is_numeric words)) Number _ two.1 in
-    let four = cond_none (not (list_all (is_known_in k) words)) Name _ three.1 in
-    let five = cond_none (not (list_all (is_new_in k) words)) Twice _ four.1 in
     let syntax = or_parts (not (is_built_in k batch form)) (not (list_all is_shaped words)) one.0 in
     let order =
     or_parts ((is_declaration form && (is_some batch || nat_lt 0 (length k.jobs)))
@@ -313,21 +326,39 @@ passed k batch form words w =
     (is_batch_fence_form form && is_some (named_fence batch)) two.0 in
     record {
       shaped = not_false _ syntax.1;
-      numeric = not_false _ three.0;
-      fresh = not_false _ five.0;
       in_order = (or_parts (is_declaration form && (is_some batch || nat_lt 0 (length k.jobs)))
           (nat_lt (part_of_form form) (last_part batch)) order.0).1;
       one_fence = order.1;
       built = not_false _ syntax.0;
     }
 
+-- the tests that come after words are read, where they find no fault
+pub record PassesLater (k : Kept) (batch : Option Batch) (words : List (Slot × List ℕ))
+    (s : Statement) : Type 0 where
+  pub numeric : list_all is_numeric words ≡ true
+  pub fresh : list_all (is_new_in k) words ≡ true
+  pub limited : passes_in k batch s ≡ false
+
+pub passed_later : (k : Kept) (batch : Option Batch) (words : List (Slot × List ℕ))
+    (s : Statement) → list_all is_numeric words ≡ true → said_fault k batch words s ≡ None →
+    PassesLater k batch words s
+passed_later k batch words s n e =
+    let five = cond_none (not (list_all (is_new_in k) words)) Twice _ e in
+    let six = cond_none (not (is_in_range_in k s)) Range _ five.1 in
+    record {
+      numeric = n;
+      fresh = not_false _ five.0;
+      limited = (cond_none (passes_in k batch s) Limit None (cond_none (overlaps [] s) Overlap _ six.1).1).0;
+    }
+
 module _ (k : Kept) (form : LineForm) (words : List (Slot × List ℕ)) (are : AreOf form words) where
   -- a name that is declared
   is_new_name : (batch : Option Batch) (name : List ℕ) → Passes k batch form words →
+      list_all (is_new_in k) words ≡ true →
       Some (NewName, name) ≡ copied form (map (λ y. y.1) words) → IsNewName k name
-  is_new_name batch name p e = (
+  is_new_name batch name p fresh e = (
     copy_passes is_shaped form words (NewName, name) are e p.shaped,
-    not_true _ (copy_passes (is_new_in k) form words (NewName, name) are e p.fresh),
+    not_true _ (copy_passes (is_new_in k) form words (NewName, name) are e fresh),
   )
 
   -- a command
@@ -345,32 +376,32 @@ module _ (k : Kept) (form : LineForm) (words : List (Slot × List ℕ)) (are : A
 
   -- what a line without a fault says
   pub may_keep : (batch : Option Batch) (said : Said) → Stands form batch → Suits form words said →
-      Passes k batch form words → passes_in k batch (statement_in said) ≡ false →
+      Passes k batch form words → PassesLater k batch words (statement_in said) →
       MayKeep k batch said
   may_keep None (SaysBuffer name size) st su p l =
       let limits =
       or_parts (not (nat_lt (length k.buffers) (limits_of 1).buffers))
-      (nat_lt (limits_of 1).bytes (k.bytes + size)) l in (
-        is_new_name None name.now p su.copies,
+      (nat_lt (limits_of 1).bytes (k.bytes + size)) l.limited in (
+        is_new_name None name.now p l.fresh su.copies,
         below (length k.buffers) (limits_of 1).buffers limits.0,
         ltb-false (limits_of 1).bytes (k.bytes + size) limits.1,
       )
   may_keep None (SaysSemaphore name kind) st su p l =
-      (is_new_name None name.now p su.copies, below (length k.semaphores) (limits_of 1).semaphores l)
+      (is_new_name None name.now p l.fresh su.copies, below (length k.semaphores) (limits_of 1).semaphores l.limited)
   may_keep None (SaysQueue name mode) st su p l =
-      (is_new_name None name.now p su.copies, below (length k.queues) (limits_of 1).queues l)
+      (is_new_name None name.now p l.fresh su.copies, below (length k.queues) (limits_of 1).queues l.limited)
   may_keep None (Submit q) st su p l = tt
   may_keep None other st su p l =
       absurd (let c : nat_lt 0 (part_in other) ≡ false = ap (nat_lt 0) su.part ∙ st.inside in cc)
   may_keep (Some b) (Wait pair) st su p l =
       subst (λ (n : ℕ). nat_lt n (last_part (Some b)) ≡ false) (sym su.part) p.in_order
-  may_keep (Some b) (FillWhole x o w) st su p l = may_command b (FillWhole x o w) p refl su.part l
-  may_keep (Some b) (Fill x o n w) st su p l = may_command b (Fill x o n w) p refl su.part l
+  may_keep (Some b) (FillWhole x o w) st su p l = may_command b (FillWhole x o w) p refl su.part l.limited
+  may_keep (Some b) (Fill x o n w) st su p l = may_command b (Fill x o n w) p refl su.part l.limited
   may_keep (Some b) (Update x o digits) st su p l = (
-    may_command b (Update x o digits) p refl su.part l,
-    copy_passes is_numeric form words (HexDigits, digits.now) are su.copies p.numeric,
+    may_command b (Update x o digits) p refl su.part l.limited,
+    copy_passes is_numeric form words (HexDigits, digits.now) are su.copies l.numeric,
   )
-  may_keep (Some b) (Copy s from t to n) st su p l = may_command b (Copy s from t to n) p refl su.part l
+  may_keep (Some b) (Copy s from t to n) st su p l = may_command b (Copy s from t to n) p refl su.part l.limited
   may_keep (Some b) (Signal pair) st su p l =
       subst (λ (n : ℕ). nat_lt n (last_part (Some b)) ≡ false) (sym su.part) p.in_order
   may_keep (Some b) (Fence f) st su p l =
@@ -403,28 +434,204 @@ pair_said f None b = refl
 pair_said f (Some t) None = refl
 pair_said f (Some t) (Some v) = refl
 
--- what a line says that names what is declared
-pub named_by : (lines : List Line) (k : Kept) (batch : Option Batch) (form : LineForm)
-    (words : List (List ℕ)) → Declares lines k → is_built_in k batch form ≡ true →
-    is_declaration form ≡ false →
-    named_in k form words ≡ statement_of lines form words
-unfolding number_of
-named_by lines k batch SubmitLine (queue ∷ []) d b n = rw d.all_queues refl
-named_by lines k batch WaitTimelineLine (name ∷ value ∷ []) d b n = rw d.all_semaphores (pair_said _ _ _)
-named_by lines k batch WaitBinaryLine (name ∷ []) d b n = rw d.all_semaphores refl
-named_by lines k batch FillWholeLine (buffer ∷ offset ∷ word ∷ []) d b n = rw d.all_buffers refl
-named_by lines k batch FillLine (buffer ∷ offset ∷ size ∷ word ∷ []) d b n = rw d.all_buffers refl
-named_by lines k batch UpdateLine (buffer ∷ offset ∷ digits ∷ []) d b n = rw d.all_buffers refl
-named_by lines k batch CopyLine (source ∷ from ∷ target ∷ to ∷ size ∷ []) d b n = rw d.all_buffers refl
-named_by lines k batch SignalTimelineLine (name ∷ value ∷ []) d b n = rw d.all_semaphores (pair_said _ _ _)
-named_by lines k batch SignalBinaryLine (name ∷ []) d b n = rw d.all_semaphores refl
-named_by lines k batch BatchFenceLine (name ∷ []) d b n = rw d.all_semaphores refl
-named_by lines k batch EndLine [] d b n = refl
-named_by lines k batch form words d b n = cc
+-- whether a line's digits are read
+abbrev are_digits : LineForm → List (List ℕ) → Bool
+are_digits UpdateLine (buffer ∷ offset ∷ digits ∷ []) = is_hex digits
+are_digits form words = true
 
--- what passes all tests passes no limit
-pub passes_none : (k : Kept) (batch : Option Batch) (s : Statement) →
-    statement_fault k batch s ≡ None → passes_in k batch s ≡ false
-passes_none k batch s e =
-    (cond_none (passes_in k batch s) Limit None
-    (cond_none (overlaps [] s) Overlap _ (cond_none (not (is_in_range_in k s)) Range _ e).1).1).0
+-- what is said by what is kept is what is said after the lines
+named_by : (lines : List Line) (k : Kept) (batch : Option Batch) (form : LineForm)
+    (words : List (List ℕ)) → Declares lines k → is_built_in k batch form ≡ true →
+    named_in k form words ≡ cond (are_digits form words) (statement_of lines form words) None
+unfolding number_of
+named_by lines k batch SubmitLine (queue ∷ []) d b = rw d.all_queues refl
+named_by lines k batch WaitTimelineLine (name ∷ value ∷ []) d b = rw d.all_semaphores (pair_said _ _ _)
+named_by lines k batch WaitBinaryLine (name ∷ []) d b = rw d.all_semaphores refl
+named_by lines k batch FillWholeLine (buffer ∷ offset ∷ word ∷ []) d b = rw d.all_buffers refl
+named_by lines k batch FillLine (buffer ∷ offset ∷ size ∷ word ∷ []) d b = rw d.all_buffers refl
+named_by lines k batch UpdateLine (buffer ∷ offset ∷ digits ∷ []) d b = rw d.all_buffers refl
+named_by lines k batch CopyLine (source ∷ from ∷ target ∷ to ∷ size ∷ []) d b = rw d.all_buffers refl
+named_by lines k batch SignalTimelineLine (name ∷ value ∷ []) d b = rw d.all_semaphores (pair_said _ _ _)
+named_by lines k batch SignalBinaryLine (name ∷ []) d b = rw d.all_semaphores refl
+named_by lines k batch BatchFenceLine (name ∷ []) d b = rw d.all_semaphores refl
+named_by lines k batch BufferLine (name ∷ size ∷ []) d b = refl
+named_by lines k batch TimelineLine (name ∷ value ∷ []) d b = refl
+named_by lines k batch form words d b = cc
+
+-- Whether a line's words are read
+
+-- words at open places, as their places with the texts there
+placed_is : (words : List (Slot × List ℕ)) (kinds : List Slot) →
+    map (λ x. x.0) words ≡ kinds →
+    (are_one_each kinds (map (λ x. x.1) words) ≡ true)
+    × (words ≡ placed kinds (map (λ x. x.1) words))
+placed_is [] [] e = (refl, refl)
+placed_is [] (kind ∷ kinds) e = absurd (cc)
+placed_is (w ∷ words) [] e = absurd (cc)
+placed_is ((p, text) ∷ words) (kind ∷ kinds) e =
+    let rest : map (λ x. x.0) words ≡ kinds = cc in
+    let same : p ≡ kind = cc in
+    let more = placed_is words kinds rest in
+    (more.0, λ i. (same i, text) ∷ more.1 i)
+
+-- a value of several is read where each is
+
+some_one : {A B : Type 0} (f : A → B) (a : Option A) → is_some (option_map f a) ≡ (is_some a && true)
+some_one f None = refl
+some_one f (Some x) = refl
+
+some_two : {A B C : Type 0} (f : A → B → C) (a : Option A) (b : Option B) →
+    is_some (of_two f a b) ≡ ((is_some b && true) && (is_some a && true))
+some_two f None None = refl
+some_two f None (Some y) = refl
+some_two f (Some x) None = refl
+some_two f (Some x) (Some y) = refl
+
+some_three : {A B C D : Type 0} (f : A → B → C → D) (a : Option A) (b : Option B) (c : Option C) →
+    is_some (of_three f a b c) ≡ ((is_some b && (is_some c && true)) && (is_some a && true))
+some_three f (Some x) (Some y) c = some_one (f x y) c ∙ last (is_some c)
+  where
+    last : (t : Bool) → (t && true) ≡ ((t && true) && true)
+    last true = refl
+    last false = refl
+some_three f (Some x) None c = refl
+some_three f None None c = refl
+some_three f None (Some y) None = refl
+some_three f None (Some y) (Some z) = refl
+
+some_four : {A B C D E : Type 0} (f : A → B → C → D → E) (a : Option A) (b : Option B) (c : Option C)
+    (d : Option D) →
+    is_some (of_four f a b c d)
+    ≡ ((is_some b && (is_some c && (is_some d && true))) && (is_some a && true))
+some_four f (Some x) (Some y) (Some z) None = refl
+some_four f (Some x) (Some y) (Some z) (Some u) = refl
+some_four f (Some x) (Some y) None d = refl
+some_four f (Some x) None c d = refl
+some_four f None None c d = refl
+some_four f None (Some y) None d = refl
+some_four f None (Some y) (Some z) None = refl
+some_four f None (Some y) (Some z) (Some u) = refl
+
+some_copy : {A B C D E F : Type 0} (f : A → B → C → D → E → F) (a : Option A) (b : Option B)
+    (c : Option C) (d : Option D) (e : Option E) →
+    is_some (of_five f a b c d e)
+    ≡ ((is_some b && (is_some d && (is_some e && true))) && (is_some a && (is_some c && true)))
+some_copy f None None c d e = refl
+some_copy f None (Some y) c None e = refl
+some_copy f None (Some y) c (Some u) None = refl
+some_copy f None (Some y) c (Some u) (Some v) = refl
+some_copy f (Some x) None c d e = refl
+some_copy f (Some x) (Some y) None None e = refl
+some_copy f (Some x) (Some y) None (Some u) None = refl
+some_copy f (Some x) (Some y) None (Some u) (Some v) = refl
+some_copy f (Some x) (Some y) (Some z) None e = refl
+some_copy f (Some x) (Some y) (Some z) (Some u) None = refl
+some_copy f (Some x) (Some y) (Some z) (Some u) (Some v) = refl
+
+some_update : {A : Type 0} (t : Bool) (a b : Option ℕ) (f : ℕ → ℕ → A) →
+    is_some (cond t (of_two f a b) None) ≡ ((is_some b && (t && true)) && (is_some a && true))
+some_update true a b f = some_two f a b
+some_update false a None f = refl
+some_update false a (Some y) f = refl
+
+some_number : {B : Type 0} (f : ℕ → B) (a : Option ℕ) →
+    is_some (option_map f a) ≡ ((is_some a && true) && true)
+some_number f None = refl
+some_number f (Some x) = refl
+
+-- a line says something where all its numbers and names are read
+named_said : (k : Kept) (batch : Option Batch) (form : LineForm) (texts : List (List ℕ)) →
+    is_built_in k batch form ≡ true → are_one_each (open_kinds (places form)) texts ≡ true →
+    is_some (named_in k form texts)
+    ≡ (list_all is_numeric (placed (open_kinds (places form)) texts)
+    && list_all (is_known_in k) (placed (open_kinds (places form)) texts))
+named_said k batch BufferLine (name ∷ size ∷ []) b o = some_number _ (numeral size)
+named_said k batch TimelineLine (name ∷ value ∷ []) b o = some_number _ (numeral value)
+named_said k batch BinaryLine (name ∷ []) b o = refl
+named_said k batch FenceLine (name ∷ []) b o = refl
+named_said k batch (QueueLine mode) (name ∷ []) b o = refl
+named_said k batch SubmitLine (queue ∷ []) b o = some_one _ (number_of k QueueName queue)
+named_said k batch WaitTimelineLine (name ∷ value ∷ []) b o =
+    some_two _ (number_of k TimelineName name) (numeral value)
+named_said k batch WaitBinaryLine (name ∷ []) b o = some_one _ (number_of k BinaryName name)
+named_said k batch FillWholeLine (buffer ∷ offset ∷ word ∷ []) b o =
+    some_three _ (number_of k BufferName buffer) (numeral offset) (small_numeral word)
+named_said k batch FillLine (buffer ∷ offset ∷ size ∷ word ∷ []) b o =
+    some_four _ (number_of k BufferName buffer) (numeral offset) (numeral size) (small_numeral word)
+named_said k batch UpdateLine (buffer ∷ offset ∷ digits ∷ []) b o =
+    some_update (is_hex digits) (number_of k BufferName buffer) (numeral offset) _
+named_said k batch CopyLine (source ∷ from ∷ target ∷ to ∷ size ∷ []) b o =
+    some_copy _ (number_of k BufferName source) (numeral from) (number_of k BufferName target)
+    (numeral to) (numeral size)
+named_said k batch SignalTimelineLine (name ∷ value ∷ []) b o =
+    some_two _ (number_of k TimelineName name) (numeral value)
+named_said k batch SignalBinaryLine (name ∷ []) b o = some_one _ (number_of k BinaryName name)
+named_said k batch BatchFenceLine (name ∷ []) b o = some_one _ (number_of k FenceName name)
+named_said k batch EndLine [] b o = refl
+named_said k batch form texts b o = absurd (cc)
+
+-- the same, of words at the open places of a form
+pub all_read : (k : Kept) (batch : Option Batch) (form : LineForm)
+    (words : List (Slot × List ℕ)) → AreOf form words → is_built_in k batch form ≡ true →
+    (list_all is_numeric words && list_all (is_known_in k) words)
+    ≡ is_some (named_in k form (map (λ x. x.1) words))
+all_read k batch form words are b =
+    let p = placed_is words (open_kinds (places form)) are in
+    (λ i. list_all is_numeric (p.1 i) && list_all (is_known_in k) (p.1 i))
+    ∙ sym (named_said k batch form (map (λ x. x.1) words) b p.0)
+
+-- .. and then it says the same after the lines
+pub said_by_lines : (lines : List Line) (k : Kept) (batch : Option Batch) (form : LineForm)
+    (words : List (List ℕ)) (s : Statement) → Declares lines k → is_built_in k batch form ≡ true →
+    Some s ≡ named_in k form words → statement_of lines form words ≡ Some s
+said_by_lines lines k batch form words s d b e =
+    by_digits (are_digits form words) (e ∙ named_by lines k batch form words d b)
+  where
+    by_digits : (t : Bool) → Some s ≡ cond t (statement_of lines form words) None →
+        statement_of lines form words ≡ Some s
+    by_digits true i = sym i
+    by_digits false i = absurd (cc)
+
+-- The first kind of the faults of a line whose words aren't all read, and of one whose words are.
+
+pub unread_first : (lines : List Line) (k : Kept) (batch : Option Batch) → Holds lines k batch →
+    (form : LineForm) (words : List (Slot × List ℕ)) → Stands form batch → AreFound form words →
+    word_fault k batch form words ≡ None → None ≡ named_in k form (map (λ x. x.1) words) →
+    first_fault lines (form, words) ≡ Some (cond (list_all is_numeric words) Name Number)
+unread_first lines k batch h form words stands found none said =
+    let p = passed k batch form words none in
+    let are = found (built_found k batch form p.built) in
+    words_by lines k batch h form words stands found None none
+    ∙ by_numeric (list_all is_numeric words) (list_all (is_known_in k) words)
+    (all_read k batch form words are p.built ∙ ap (λ (o : Option Statement). is_some o) (sym said))
+  where
+    by_numeric : (n kn : Bool) → (n && kn) ≡ false →
+        read_fault lines k batch h words (statement_at lines (form, words)) n kn
+        ≡ Some (cond n Name Number)
+    by_numeric true true e = absurd (cc)
+    by_numeric true false e = refl
+    by_numeric false kn e = refl
+
+pub read_first : (lines : List Line) (k : Kept) (batch : Option Batch) → Holds lines k batch →
+    (form : LineForm) (words : List (Slot × List ℕ)) → Stands form batch → AreFound form words →
+    word_fault k batch form words ≡ None → (s : Statement) →
+    Some s ≡ named_in k form (map (λ x. x.1) words) →
+    first_fault lines (form, words) ≡ later_fault lines k words (Some s)
+read_first lines k batch h form words stands found none s said =
+    let p = passed k batch form words none in
+    let are = found (built_found k batch form p.built) in
+    let both = and_parts (list_all is_numeric words) (list_all (is_known_in k) words)
+    (all_read k batch form words are p.built ∙ ap (λ (o : Option Statement). is_some o) (sym said)) in
+    first_by lines k batch h form words stands found
+    ∙ (λ i. option_or (none i) (read_fault lines k batch h words
+    (said_by_lines lines k batch form (map (λ x. x.1) words) s h.declares p.built said i) (both.0 i)
+    (both.1 i)))
+
+-- its numbers are read
+pub read_numeric : (k : Kept) (batch : Option Batch) (form : LineForm)
+    (words : List (Slot × List ℕ)) (s : Statement) → AreOf form words →
+    is_built_in k batch form ≡ true → Some s ≡ named_in k form (map (λ x. x.1) words) →
+    list_all is_numeric words ≡ true
+read_numeric k batch form words s are b said =
+    (and_parts (list_all is_numeric words) (list_all (is_known_in k) words)
+    (all_read k batch form words are b ∙ ap (λ (o : Option Statement). is_some o) (sym said))).0

@@ -1,22 +1,11 @@
--- Words of which each byte is plain, and names, which are text.
+-- Names are text.
 use Rattle.std.proofs.Common.{◌≡◌, ℕ, ◌<◌, Bool, true, false, ◌&&◌, ◌||◌, List, [], ◌∷◌, length, get_or, arith, refl, ap, ◌∙◌, zero, suc}
 use Rattle.std.specs.List.{list_all}
 use Rattle.std.specs.Str.{IsUtf8}
-use Rattle.std.specs.Borrow.{Bor}
 use Rattle.std.proofs.lemmas.Bool.{and_parts}
 use Rattle.std.proofs.lemmas.Bool.Decides.{nat_tests}
-use Rattle.std.proofs.lemmas.List.Folds.{list_all_at}
 use Rattle.std.proofs.lemmas.Str.{IsUtf8-from_ascii}
-use Rattle.vq_model.specs.Text.{is_plain, is_letter, is_digit, is_name}
-use Rattle.vq_script.specs.Words.{texts}
-
-list_all_texts : (test : List ℕ → Bool) (words : List (Bor (List ℕ))) → list_all test (texts words) ≡ list_all (λ w. test w.now) words
-list_all_texts test [] = refl
-list_all_texts test (w ∷ ws) = ap (λ b. test w.now && b) (list_all_texts test ws)
-
--- a word with a byte that isn't plain
-pub plain_at : (words : List (Bor (List ℕ))) (i : ℕ) (d : Bor (List ℕ)) → i < length words → list_all is_plain (get_or words i d).now ≡ false → list_all (list_all is_plain) (texts words) ≡ false
-plain_at words i d l h = list_all_texts (list_all is_plain) words ∙ list_all_at (λ (w : Bor (List ℕ)). list_all is_plain w.now) words i d l h
+use Rattle.vq_model.specs.Text.{is_letter, is_digit, is_name}
 
 byte_ascii : (b : ℕ) → (is_letter b || is_digit b) ≡ true → b < 128
 byte_ascii b h = grind (arith, nat_tests)

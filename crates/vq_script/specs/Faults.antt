@@ -45,11 +45,6 @@ has_fault_at before line Limit =
 abbrev pub first_fault : List Line → OpenLine → Option FaultKind
 first_fault before line = find (has_fault_at before line) kinds
 
--- A line without a fault says something.
-abbrev pub Means : List Line → OpenLine → Type 0
-Means before line =
-    first_fault before line ≡ None → (s : Statement) × (statement_at before line ≡ Some s)
-
 -- A line has no fault, and its statement is what is made of the value; or it has this fault first.
 abbrev pub Tells : {A : Type 0} → List Line → OpenLine → (A → Statement) → Result A FaultKind → Type 0
 Tells before line says (Ok value) =

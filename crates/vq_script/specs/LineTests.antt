@@ -7,7 +7,7 @@ use Rattle.vq_model.specs.declared.script.Command.{Command}
 use Rattle.vq_model.specs.declared.script.Command.TheVariants.{Fill, Update, Copy}
 use Rattle.vq_model.specs.declared.script.FillSize.TheVariants.{Whole, Count}
 use Rattle.vq_model.specs.declared.statement.FaultKind.{FaultKind}
-use Rattle.vq_model.specs.declared.statement.FaultKind.TheVariants.{Syntax, Order, Number, Name, Twice, Range, Overlap, Limit}
+use Rattle.vq_model.specs.declared.statement.FaultKind.TheVariants.{Syntax, Order, Twice, Range, Overlap, Limit}
 use Rattle.vq_model.specs.declared.statement.Line.{Line}
 use Rattle.vq_model.specs.declared.statement.LineForm.{LineForm}
 use Rattle.vq_model.specs.declared.statement.LineForm.TheVariants.{WaitTimelineLine, WaitBinaryLine}
@@ -16,7 +16,7 @@ use Rattle.vq_model.specs.declared.statement.Statement.TheVariants.{AddWait, Add
 use Rattle.vq_model.specs.Context.{is_immediate}
 use Rattle.vq_model.specs.Forms.{Slot, NewName, BufferName, TimelineName, BinaryName, FenceName, QueueName}
 use Rattle.vq_model.specs.Limits.{limits_of, passes_limit}
-use Rattle.vq_model.specs.LineFaults.{is_shaped, is_numeric, is_declaration, part_of_form, is_batch_fence_form, is_in_range, overlaps}
+use Rattle.vq_model.specs.LineFaults.{is_shaped, is_declaration, part_of_form, is_batch_fence_form, is_in_range, overlaps}
 use Rattle.vq_model.specs.Meaning.{is_built}
 use Rattle.vq_model.specs.Ranges.{is_aligned}
 use Rattle.vq_script.specs.Holds.{Kept, last_part, named_fence, waits_of, commands_of, signals_of}
@@ -61,14 +61,11 @@ abbrev pub is_new_in : Kept → Slot × List ℕ → Bool
 is_new_in k (NewName, word) = not (is_taken k.buffers k.semaphores k.queues word)
 is_new_in k (other, word) = true
 
--- the first kind of the faults that words have at their places
+-- the first kind of the faults that words have before they are read
 abbrev pub word_fault : Kept → Option Batch → LineForm → List (Slot × List ℕ) → Option FaultKind
 word_fault k batch form words =
     cond (not (is_built_in k batch form) || not (list_all is_shaped words)) (Some Syntax)
-    (cond (is_late k batch form) (Some Order)
-    (cond (not (list_all is_numeric words)) (Some Number)
-    (cond (not (list_all (is_known_in k) words)) (Some Name)
-    (cond (not (list_all (is_new_in k) words)) (Some Twice) None))))
+    (cond (is_late k batch form) (Some Order) None)
 
 -- Range
 
@@ -113,15 +110,18 @@ passes_in k b (AddCommand command) =
 passes_in k b (AddSignal pair) = not (nat_lt (length (signals_of b)) (limits_of 1).signals)
 passes_in k b other = false
 
--- the first kind of the faults that a statement has
-abbrev pub statement_fault : Kept → Option Batch → Statement → Option FaultKind
-statement_fault k batch s =
-    cond (not (is_in_range_in k s)) (Some Range)
-    (cond (overlaps [] s) (Some Overlap) (cond (passes_in k batch s) (Some Limit) None))
+-- the first kind of the faults that words which are read, and what they say, have
+abbrev pub said_fault : Kept → Option Batch → List (Slot × List ℕ) → Statement → Option FaultKind
+said_fault k batch words s =
+    cond (not (list_all (is_new_in k) words)) (Some Twice)
+    (cond (not (is_in_range_in k s)) (Some Range)
+    (cond (overlaps [] s) (Some Overlap) (cond (passes_in k batch s) (Some Limit) None)))
 
--- the same, after lines, of a statement or none
-abbrev pub later_fault : List Line → Option Statement → Option FaultKind
-later_fault lines said =
-    cond (option_map_or (λ s. not (is_in_range lines s)) said false) (Some Range)
+-- the same, after lines, where something or nothing is said
+abbrev pub later_fault : List Line → Kept → List (Slot × List ℕ) → Option Statement →
+    Option FaultKind
+later_fault lines k words said =
+    cond (not (list_all (is_new_in k) words)) (Some Twice)
+    (cond (option_map_or (λ s. not (is_in_range lines s)) said false) (Some Range)
     (cond (option_map_or (overlaps lines) said false) (Some Overlap)
-    (cond (option_map_or (passes_limit (limits_of 1) lines) said false) (Some Limit) None))
+    (cond (option_map_or (passes_limit (limits_of 1) lines) said false) (Some Limit) None)))

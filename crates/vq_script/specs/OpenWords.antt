@@ -1,6 +1,5 @@
 -- The words at the open places of a line, wherever they lie.
-use Rattle.std.specs.Prelude.{ℕ, ◌≡◌, Bool, true, false, List, map, [], ◌∷◌}
-use Rattle.std.specs.List.{list_all}
+use Rattle.std.specs.Prelude.{ℕ, Bool, true, false, List, map, [], ◌∷◌}
 use Rattle.vq_model.specs.Forms.{Slot, Fixed, Actor}
 use Rattle.vq_script.specs.Table.{place_of}
 use Rattle.vq_script.specs.declared.open_words.OpenWord.{OpenWord}
@@ -20,9 +19,3 @@ opened place given = (place, given) ∷ []
 abbrev pub is_no_actor : Slot → Bool
 is_no_actor Actor = false
 is_no_actor other = true
-
-abbrev pub IsNoActor : Slot → Type 0
-IsNoActor place = is_no_actor place ≡ true
-
-abbrev pub are_no_actors : List (Slot × List ℕ) → Type 0
-are_no_actors words = list_all (λ x. is_no_actor x.0) words ≡ true

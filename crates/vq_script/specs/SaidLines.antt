@@ -1,5 +1,5 @@
 -- What a line says, before it is kept, and what is kept after it.
-use Rattle.std.specs.Prelude.{ℕ, ◌≡◌, ◌+◌, ◌<◌, ◌≤◌, ◌^◌, Bool, true, false, nat_lt, List, [], ◌∷◌, ◌++◌, length, Option, Some, None, is_some, map, ⊤}
+use Rattle.std.specs.Prelude.{ℕ, cond, ◌≡◌, ◌+◌, ◌<◌, ◌≤◌, ◌^◌, Bool, true, false, nat_lt, List, [], ◌∷◌, ◌++◌, length, Option, Some, None, is_some, map, ⊤}
 use Rattle.std.specs.List.{list_all}
 use Rattle.std.specs.Option.{option_map}
 use Rattle.vq_model.specs.declared.script.Batch.{Batch}
@@ -51,6 +51,16 @@ open_kinds (place ∷ more) = place ∷ open_kinds more
 abbrev pub AreOf : LineForm → List (Slot × List ℕ) → Type 0
 AreOf form words = map (λ x. x.0) words ≡ open_kinds (places form)
 
+-- texts at places, one each
+abbrev pub placed : List Slot → List (List ℕ) → List (Slot × List ℕ)
+placed (place ∷ places) (text ∷ texts) = (place, text) ∷ placed places texts
+placed places texts = []
+
+abbrev pub are_one_each : List Slot → List (List ℕ) → Bool
+are_one_each [] [] = true
+are_one_each (place ∷ places) (text ∷ texts) = are_one_each places texts
+are_one_each places texts = false
+
 -- places that end with pairs; no form with such places is read yet
 abbrev pub end_with_pairs : List Slot → Bool
 end_with_pairs [] = false
@@ -65,11 +75,6 @@ AreFound form words = end_with_pairs (places form) ≡ false → AreOf form word
 pub record Stands (form : LineForm) (batch : Option Batch) : Type 0 where
   pub inside : nat_lt 0 (part_of_form form) ≡ is_some batch
   pub no_actor : list_all is_no_actor (open_kinds (places form)) ≡ true
-
--- what is said is the statement of a form with these words
-abbrev pub Says : List Line → LineForm → List (Slot × List ℕ) → Option Said → Type 0
-Says lines form words said =
-    option_map statement_in said ≡ statement_of lines form (map (λ x. x.1) words)
 
 -- the part of a batch to which a line belongs
 abbrev pub part_in : Said → ℕ
@@ -105,7 +110,7 @@ copied (QueueLine mode) words = new_name words
 copied UpdateLine (buffer ∷ offset ∷ digits ∷ []) = Some (HexDigits, digits)
 copied other words = None
 
--- What a line says that names what is declared, by what is kept.
+-- What a line says, by what is kept, if its words are read.
 abbrev pub named_in : Kept → LineForm → List (List ℕ) → Option Statement
 named_in k SubmitLine (queue ∷ []) =
     option_map (λ q. BeginBatch q) (number_of k QueueName queue)
@@ -121,8 +126,9 @@ named_in k FillLine (buffer ∷ offset ∷ size ∷ word ∷ []) =
     of_four (λ b o n w. AddCommand (Fill b o (Count n) w)) (number_of k BufferName buffer)
     (numeral offset) (numeral size) (small_numeral word)
 named_in k UpdateLine (buffer ∷ offset ∷ digits ∷ []) =
-    of_two (λ b o. AddCommand (Update b o (hex_bytes digits))) (number_of k BufferName buffer)
-    (numeral offset)
+    cond (is_hex digits)
+    (of_two (λ b o. AddCommand (Update b o (hex_bytes digits))) (number_of k BufferName buffer)
+    (numeral offset)) None
 named_in k CopyLine (source ∷ from ∷ target ∷ to ∷ size ∷ []) =
     of_five (λ s so t o n. AddCommand (Copy s so t o n)) (number_of k BufferName source)
     (numeral from) (number_of k BufferName target) (numeral to) (numeral size)
@@ -132,8 +138,11 @@ named_in k SignalTimelineLine (name ∷ value ∷ []) =
 named_in k SignalBinaryLine (name ∷ []) =
     option_map (λ s. AddSignal (binary_pair s)) (number_of k BinaryName name)
 named_in k BatchFenceLine (name ∷ []) = option_map (λ f. AddFence f) (number_of k FenceName name)
-named_in k EndLine [] = Some EndBatch
-named_in k form words = None
+named_in k form words = statement_of [] form words
+
+-- words are read, and say this
+abbrev pub Says : Kept → LineForm → List (Slot × List ℕ) → Option Said → Type 0
+Says k form words said = option_map statement_in said ≡ named_in k form (map (λ x. x.1) words)
 
 -- the forms of a batch, but for its commands, and the form that begins it
 abbrev pub is_batch_line : LineForm → Bool

@@ -1,18 +1,20 @@
 //! The first fault of a line: its words first, then what it says.
-ghost use Rattle.std.specs.Prelude.{◌≡◌, ◌<◌, ◌^◌, [], List, None, IsTrue, IfOk};
-ghost use Rattle.vq_model.specs.LineFaults.{overlaps};
+ghost use Rattle.std.specs.Prelude.{◌≡◌, ◌<◌, ◌^◌, [], List, None, IsTrue, IfOk, cond};
+ghost use Rattle.std.specs.List.{list_all};
+ghost use Rattle.vq_model.specs.LineFaults.{is_numeric, overlaps};
+ghost use Rattle.vq_model.specs.declared.statement.FaultKind.TheVariants.{Name, Number};
 ghost use Rattle.vq_model.specs.Ranges.{is_aligned};
 ghost use Rattle.vq_model.specs.declared.statement.Line.{Line};
-ghost use Rattle.vq_script.specs.Faults.{Means, Tells};
+ghost use Rattle.vq_script.specs.Faults.{Tells};
 ghost use Rattle.vq_script.specs.Holds.{Keeps, kept, open_so_far};
-ghost use Rattle.vq_script.specs.LineTests.{is_built_in, is_late, is_within_in, size_in, is_in_range_in, passes_in, word_fault, statement_fault};
+ghost use Rattle.vq_script.specs.LineTests.{is_built_in, is_late, is_within_in, size_in, is_in_range_in, passes_in, word_fault, said_fault};
 ghost use Rattle.vq_script.specs.OpenWords.{opens};
 ghost use Rattle.vq_script.specs.SaidLines.{AreFound, IsSmall, May, Stands, statement_in};
 
 use crate::known::Known;
 use crate::limits;
 use crate::open_words::OpenWord;
-use crate::place_faults::{are_known, are_new, are_numeric, are_shaped};
+use crate::place_faults::{are_new, are_numeric, are_shaped};
 use crate::said::{Said, statement_of};
 use crate::table::{is_declaration, part_of_form};
 use vq_model::script::Mode;
@@ -53,7 +55,7 @@ fn is_late(known: &Known, form: LineForm) -> bool
         || (matches!(form, LineForm::BatchFenceLine) && known.has_fence())
 }
 
-/// The first kind of the faults that the words of a line have.
+/// The first kind of the faults that the words of a line have before they are read.
 fn word_fault(known: &Known, form: LineForm, words: &[OpenWord<'_>]) -> Option<FaultKind>
     ensures { result ≡ word_fault (kept known.now) (open_so_far known.now.batch) form (opens words.now) }
 {
@@ -62,15 +64,6 @@ fn word_fault(known: &Known, form: LineForm, words: &[OpenWord<'_>]) -> Option<F
     }
     if is_late(known, form) {
         return Some(FaultKind::Order);
-    }
-    if !are_numeric(words) {
-        return Some(FaultKind::Number);
-    }
-    if !are_known(known, words) {
-        return Some(FaultKind::Name);
-    }
-    if !are_new(known, words) {
-        return Some(FaultKind::Twice);
     }
     None
 }
@@ -174,11 +167,15 @@ fn passes_limit(known: &Known, said: &Said<'_>) -> bool
     }
 }
 
-/// The first kind of the faults that what a line says has.
-fn statement_fault(known: &Known, said: &Said<'_>) -> Option<FaultKind>
-    ensures exact { result ≡ statement_fault (kept known.now) (open_so_far known.now.batch) (statement_in said.now) }
+/// The first kind of the faults that a line has whose words are read.
+fn said_fault(known: &Known, words: &[OpenWord<'_>], said: &Said<'_>) -> Option<FaultKind>
+    ensures exact { result ≡ said_fault (kept known.now) (open_so_far known.now.batch) (opens words.now)
+        (statement_in said.now) }
     ensures small { result ≡ None → IsSmall said.now }
 {
+    if !are_new(known, words) {
+        return Some(FaultKind::Twice);
+    }
     if !is_in_range(known, said) {
         return Some(FaultKind::Range);
     }
@@ -191,6 +188,17 @@ fn statement_fault(known: &Known, said: &Said<'_>) -> Option<FaultKind>
     None
 }
 
+/// The first kind of the faults that words have which aren't all read.
+fn unread_fault(words: &[OpenWord<'_>]) -> FaultKind
+    ensures { result ≡ cond (list_all is_numeric (opens words.now)) Name Number }
+{
+    if are_numeric(words) {
+        FaultKind::Name
+    } else {
+        FaultKind::Number
+    }
+}
+
 /// What a line of a form says, or the first kind of its faults.
 pub fn said_by<'a>(
     known: &Known,
@@ -199,18 +207,17 @@ pub fn said_by<'a>(
 ) -> Result<Said<'a>, FaultKind>
     requires found { AreFound form (opens words.now) }
     requires stands { Stands form (open_so_far known.now.batch) }
-    ensures told { (lines : List Line) → Keeps lines known.now → Means lines (form, opens words.now) →
+    ensures told { (lines : List Line) → Keeps lines known.now →
         Tells lines (form, opens words.now) statement_in result }
     ensures may { IfOk result (May (kept known.now) (open_so_far known.now.batch)) }
 {
     if let Some(kind) = word_fault(known, form, words) {
         return Err(kind);
     }
-    // All numbers are read by now: what isn't would be a name.
     let Some(said) = statement_of(known, form, words) else {
-        return Err(FaultKind::Name);
+        return Err(unread_fault(words));
     };
-    if let Some(kind) = statement_fault(known, &said) {
+    if let Some(kind) = said_fault(known, words, &said) {
         return Err(kind);
     }
     Ok(said)

@@ -30,7 +30,8 @@ fn line_end(text: &[u8]) -> usize
 
 /// The first line of a text, and what follows it.
 pub fn next_line(text: &[u8]) -> Option<(&[u8], &[u8])>
-    ensures { MatchOption result (lines_of text.now ≡ []) (λ x. (lines_of text.now ≡ x.0.now ∷ lines_of x.1.now) × (length x.1.now < length text.now)) }
+    ensures { MatchOption result (lines_of text.now ≡ [])
+        (λ x. (lines_of text.now ≡ x.0.now ∷ lines_of x.1.now) × (length x.1.now < length text.now)) }
 {
     if text.is_empty() {
         return None;

@@ -8,7 +8,7 @@ use vq_model::script::SemaphoreKind;
 
 /// A buffer, a timeline or binary semaphore, a fence or a queue, by its number. Semaphores and
 /// fences are counted together.
-#[derive(Clone, Copy, Debug, PartialEq, Eq)]
+#[derive(Clone, Copy)]
 pub enum NamedItem {
     Buffer(u32),
     Timeline(u32),

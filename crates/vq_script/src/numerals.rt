@@ -59,28 +59,35 @@ pub fn numeral(word: &[u8]) -> Option<u64>
 pub fn small_numeral(word: &[u8]) -> Option<u32>
     ensures { result ≡ small_numeral word.now }
 {
-    match numeral(word) {
-        None => None,
-        Some(number) => {
-            if number < 4294967296 {
-                Some(number as u32)
-            } else {
-                None
-            }
-        }
-    }
+    u32::try_from(numeral(word)?).ok()
+}
+
+/// Whether a byte is a hexadecimal digit, of either case.
+fn is_hex_digit(byte: u8) -> bool
+    ensures { result ≡ nat_lt (digit_value byte) 16 }
+{
+    byte.is_ascii_hexdigit()
+}
+
+/// The value of a hexadecimal digit. A letter's last four bits count from 1, and its two first bits
+/// are 01.
+fn hex_digit(byte: u8) -> u8
+    requires { digit_value byte < 16 }
+    ensures { result ≡ digit_value byte }
+{
+    byte % 16 + byte / 64 * 9
 }
 
 /// Whether each byte of a word is a hexadecimal digit, of either case.
 fn has_hex_digits(word: &[u8]) -> bool
     ensures { result ≡ list_all (λ b. nat_lt (digit_value b) 16) word.now }
 {
+    // No early end, so that many bytes are tested at once.
+    let mut hex = true;
     for byte in word {
-        if digit(*byte) >= 16 {
-            return false;
-        }
+        hex = hex && is_hex_digit(*byte);
     }
-    true
+    hex
 }
 
 /// Whether a word is an even number of hexadecimal digits.
@@ -98,7 +105,7 @@ pub fn hex_bytes(alloc: Global, digits: &[u8]) -> Result<Vec<u8>, AllocError>
     let mut bytes = Vec::with_capacity(alloc, digits.len() / 2)?;
     let mut rest = digits;
     while let [high, low, after @ ..] = rest {
-        bytes.push((16 * digit(*high) + digit(*low)) as u8)?;
+        bytes.push(16 * hex_digit(*high) + hex_digit(*low))?;
         rest = after;
     }
     Ok(bytes)

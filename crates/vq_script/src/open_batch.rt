@@ -46,8 +46,8 @@ impl OpenBatch {
         }
     }
 
-    /// The last part of the batch of which there is a line: 1 for its waits, 2 for its commands, 3 for its signals, 4 for
-    /// its fence.
+    /// The last part of the batch of which there is a line: 1 for its waits, 2 for its commands, 3
+    /// for its signals, 4 for its fence.
     pub fn last_part(&self) -> u32
         ensures { result ≡ last_part (Some (batch_so_far self.now)) }
     {

@@ -1,4 +1,4 @@
-//! The faults of single words: Syntax, Number, Name and Twice.
+//! The faults of single words: Syntax, Number and Twice.
 ghost use Rattle.std.specs.Prelude.{◌≡◌};
 ghost use Rattle.std.specs.List.{list_all};
 ghost use Rattle.vq_model.specs.Meaning.{is_actor};
@@ -6,7 +6,7 @@ ghost use Rattle.vq_model.specs.LineFaults.{is_shaped, is_numeric};
 ghost use Rattle.vq_script.specs.Table.{place_of};
 ghost use Rattle.vq_script.specs.OpenWords.{opens};
 ghost use Rattle.vq_script.specs.Holds.{kept};
-ghost use Rattle.vq_script.specs.LineTests.{is_known_in, is_new_in};
+ghost use Rattle.vq_script.specs.LineTests.{is_new_in};
 
 use crate::known::Known;
 use crate::names::is_name;
@@ -71,32 +71,6 @@ pub fn are_numeric(words: &[OpenWord<'_>]) -> bool
 {
     for x in words {
         if !is_numeric(x.place, x.word) {
-            return false;
-        }
-    }
-    true
-}
-
-/// Whether a name is declared, of the kind that its place needs. No form with an actor is read yet.
-fn is_known(known: &Known, place: Token, word: &[u8]) -> bool
-    ensures { result ≡ is_known_in (kept known.now) (place_of place, word.now) }
-{
-    match place {
-        Token::BufferToken => known.number_of(place, word).is_some(),
-        Token::TimelineToken => known.number_of(place, word).is_some(),
-        Token::BinaryToken => known.number_of(place, word).is_some(),
-        Token::FenceToken => known.number_of(place, word).is_some(),
-        Token::QueueToken => known.number_of(place, word).is_some(),
-        _ => true,
-    }
-}
-
-/// Whether each name is declared, of the kind that its place needs.
-pub fn are_known(known: &Known, words: &[OpenWord<'_>]) -> bool
-    ensures { result ≡ list_all (is_known_in (kept known.now)) (opens words.now) }
-{
-    for x in words {
-        if !is_known(known, x.place, x.word) {
             return false;
         }
     }

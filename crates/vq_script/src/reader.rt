@@ -3,7 +3,6 @@ ghost use Rattle.std.specs.Prelude.{◌≡◌, ◌<◌, ◌-◌, ◌^◌, IsTrue
 ghost use Rattle.vq_model.specs.declared.statement.Line.{Line};
 ghost use Rattle.vq_model.specs.Text.{lines_of, words_of};
 ghost use Rattle.vq_model.specs.Reading.{read_lines, read_script, StandsFor};
-ghost use Rattle.vq_script.specs.Faults.{Means};
 ghost use Rattle.vq_script.specs.Holds.{Keeps, open_so_far};
 ghost use Rattle.vq_script.specs.OpenWords.{opens};
 ghost use Rattle.vq_script.specs.Outcomes.{Gives, IsFirst};
@@ -32,7 +31,7 @@ fn read_open(
 ) -> Result<(), ScriptFault>
     requires found { AreFound form (opens words.now) }
     requires stands { Stands form (open_so_far known.old.batch) }
-    ensures { (lines : List Line) → Keeps lines known.old → Means lines (form, opens words.now) →
+    ensures { (lines : List Line) → Keeps lines known.old →
         Takes lines number (form, opens words.now) result known.new }
 {
     match said_by(known, form, words) {

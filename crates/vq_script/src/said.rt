@@ -1,15 +1,13 @@
 //! What a line says, before it is kept: nothing is copied yet.
-ghost use Rattle.std.specs.Prelude.{◌≡◌, true, List, map, IfSome};
-ghost use Rattle.std.specs.Option.{option_map};
-ghost use Rattle.vq_model.specs.declared.statement.Line.{Line};
-ghost use Rattle.vq_script.specs.Holds.{Declares, kept, open_so_far};
+ghost use Rattle.std.specs.Prelude.{◌≡◌, true, IfSome};
+ghost use Rattle.vq_script.specs.Holds.{Kept, kept, open_so_far};
 ghost use Rattle.vq_script.specs.OpenWords.{opens};
-ghost use Rattle.vq_script.specs.SaidLines.{AreOf, Says, Suits, is_batch_line, named_in, statement_in};
+ghost use Rattle.vq_script.specs.SaidLines.{AreOf, Says, Suits, is_batch_line};
 ghost use Rattle.vq_script.specs.LineTests.{is_built_in};
 ghost use Rattle.vq_model.specs.LineFaults.{is_declaration, part_of_form};
 
 use crate::known::Known;
-use crate::numerals::{numeral, small_numeral};
+use crate::numerals::{is_hex, numeral, small_numeral};
 use crate::open_words::OpenWord;
 use crate::table::{Token, is_declaration, part_of_form};
 use vq_model::script::{Mode, Pair, SemaphoreKind};
@@ -72,7 +70,7 @@ pub enum Said<'a> {
 fn declaration<'a>(form: LineForm, words: &[OpenWord<'a>]) -> Option<Said<'a>>
     requires of { AreOf form (opens words.now) }
     requires declares { is_declaration form ≡ true }
-    ensures says { (lines : List Line) → Says lines form (opens words.now) result }
+    ensures says { (k : Kept) → Says k form (opens words.now) result }
     ensures suits { IfSome result (Suits form (opens words.now)) }
 {
     match (form, words) {
@@ -104,8 +102,7 @@ fn declaration<'a>(form: LineForm, words: &[OpenWord<'a>]) -> Option<Said<'a>>
 fn command<'a>(known: &Known, form: LineForm, words: &[OpenWord<'a>]) -> Option<Said<'a>>
     requires of { AreOf form (opens words.now) }
     requires part { part_of_form form ≡ 2 }
-    ensures says { option_map statement_in result
-        ≡ named_in (kept known.now) form (map (λ x. x.1) (opens words.now)) }
+    ensures says { Says (kept known.now) form (opens words.now) result }
     ensures suits { IfSome result (Suits form (opens words.now)) }
 {
     match (form, words) {
@@ -120,11 +117,16 @@ fn command<'a>(known: &Known, form: LineForm, words: &[OpenWord<'a>]) -> Option<
             size: numeral(size.word)?,
             word: small_numeral(word.word)?,
         }),
-        (LineForm::UpdateLine, [buffer, offset, digits]) => Some(Said::Update {
-            buffer: known.number_of(Token::BufferToken, buffer.word)?,
-            offset: numeral(offset.word)?,
-            digits: digits.word,
-        }),
+        (LineForm::UpdateLine, [buffer, offset, digits]) => {
+            if !is_hex(digits.word) {
+                return None;
+            }
+            Some(Said::Update {
+                buffer: known.number_of(Token::BufferToken, buffer.word)?,
+                offset: numeral(offset.word)?,
+                digits: digits.word,
+            })
+        }
         (LineForm::CopyLine, [source, from, target, to, size]) => Some(Said::Copy {
             source: known.number_of(Token::BufferToken, source.word)?,
             source_offset: numeral(from.word)?,
@@ -136,12 +138,12 @@ fn command<'a>(known: &Known, form: LineForm, words: &[OpenWord<'a>]) -> Option<
     }
 }
 
-/// What a line says that begins a batch or ends it, or names a semaphore or a fence of one, where its numbers and names are read.
+/// What a line says that begins a batch or ends it, or names a semaphore or a fence of one, where
+/// its numbers and names are read.
 fn batch_line<'a>(known: &Known, form: LineForm, words: &[OpenWord<'a>]) -> Option<Said<'a>>
     requires of { AreOf form (opens words.now) }
     requires part { is_batch_line form ≡ true }
-    ensures says { option_map statement_in result
-        ≡ named_in (kept known.now) form (map (λ x. x.1) (opens words.now)) }
+    ensures says { Says (kept known.now) form (opens words.now) result }
     ensures suits { IfSome result (Suits form (opens words.now)) }
 {
     match (form, words) {
@@ -185,8 +187,7 @@ fn batch_line<'a>(known: &Known, form: LineForm, words: &[OpenWord<'a>]) -> Opti
 pub fn statement_of<'a>(known: &Known, form: LineForm, words: &[OpenWord<'a>]) -> Option<Said<'a>>
     requires of { AreOf form (opens words.now) }
     requires built { is_built_in (kept known.now) (open_so_far known.now.batch) form ≡ true }
-    ensures says { (lines : List Line) → Declares lines (kept known.now) →
-        Says lines form (opens words.now) result }
+    ensures says { Says (kept known.now) form (opens words.now) result }
     ensures suits { IfSome result (Suits form (opens words.now)) }
 {
     if is_declaration(form) {

@@ -1,3 +1,4 @@
+pub mod Cited
 mod GatheredChains
 mod HexLines
 mod KeptTables
@@ -11,9 +12,9 @@ mod PlanEdges
 mod Ranges
 mod SignalOrder
 mod SlowRuns
-pub mod SlowHeads
+mod SlowHeads
 mod SlowSteps
-pub mod SlowReady
+mod SlowReady
 mod SlowLeft
 mod SortedPairs
 mod UseWalks

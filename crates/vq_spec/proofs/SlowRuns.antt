@@ -23,7 +23,7 @@ use Rattle.vq_model.proofs.Numbers.{has-range_cases}
 use Rattle.vq_plan_laws.proofs.Cited.{plan_well_formed}
 use Rattle.vq_model.proofs.Searches.{find_member}
 use Rattle.vq_reading_laws.proofs.Cited.{read_valid}
-use Rattle.vq_transfer.proofs.Sizes.{has_own_sizes}
+use Rattle.vq_transfer.proofs.Cited.{has_own_sizes}
 use Rattle.vq_spec.proofs.SlowHeads.{has_at}
 
 -- Sizes

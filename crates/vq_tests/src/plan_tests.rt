@@ -1,7 +1,5 @@
 //! Plans of small scripts: what resolves a wait, the slow run, and the text of buffers.
 use std::alloc::Global;
-use std::process::Abort;
-use std::test::Fail;
 use vq_script::{Form, is_short, parse};
 use vq_spec::{Plan, PlanFault, buffers_text, slow_order, slow_run};
 
@@ -27,15 +25,30 @@ signal A 9
 end
 ";
 
-/// The plan of a text that stands for a script.
-fn plan(rt: &impl Abort, alloc: Global, text: &[u8]) -> Result<Plan, Fail> {
-    assert!(rt; is_short(text));
-    Ok(Plan::lower(alloc, parse(alloc, text, Form::Plain)?)?)
+/// The plan of a text that stands for a script, or why it has none.
+fn lowered(alloc: Global, text: &[u8]) -> Option<Result<Plan, PlanFault>> {
+    if !is_short(text) {
+        return None;
+    }
+    let script = parse(alloc, text, Form::Plain).ok()?;
+    Some(Plan::lower(alloc, script))
+}
+
+/// The plan of the script.
+fn plan(alloc: Global) -> Option<Plan> {
+    lowered(alloc, SCRIPT)?.ok()
+}
+
+/// Whether this operation, or none, resolves a wait for a value of a chain.
+fn resolves(alloc: Global, chain: u32, value: u64, op: Option<u32>) -> bool {
+    match plan(alloc) {
+        Some(plan) => chain < plan.chains() && plan.resolver(chain, value) == op,
+        None => false,
+    }
 }
 
 #[test]
-fn waits_are_resolved(rt: HostRuntime) -> Result<(), Fail> {
-    let plan = plan(&rt, rt.alloc(), SCRIPT)?;
+fn waits_are_resolved(rt: HostRuntime) {
     for (chain, value, op) in [
         (0, 3, Some(1)),
         (0, 5, Some(1)),
@@ -44,50 +57,70 @@ fn waits_are_resolved(rt: HostRuntime) -> Result<(), Fail> {
         (1, 1, Some(0)),
         (1, 2, None),
     ] {
-        assert!(rt; chain < plan.chains());
-        assert_eq!(rt; plan.resolver(chain, value), op, "{value} of {chain}");
+        assert!(rt; resolves(rt.alloc(), chain, value, op));
     }
-    Ok(())
+}
+
+/// Whether a job waits for these jobs and these operations, and has these edges.
+fn waits(alloc: Global, j: u32, firsts: &[u32], ops: &[u32], edges: &[u32]) -> bool {
+    match plan(alloc) {
+        Some(plan) => {
+            j < plan.jobs()
+                && plan.must_finish(j) == firsts
+                && plan.awaited(j) == ops
+                && plan.edges(j) == edges
+        }
+        None => false,
+    }
 }
 
 #[test]
-fn jobs_have_edges(rt: HostRuntime) -> Result<(), Fail> {
-    let plan = plan(&rt, rt.alloc(), SCRIPT)?;
-    assert_eq!(rt; plan.jobs(), 3);
-    assert_eq!(rt; plan.edges(0), [1].as_slice());
-    assert_eq!(rt; plan.edges(1).len(), 0);
-    assert_eq!(rt; plan.edges(2), [1, 0].as_slice());
-    Ok(())
+fn jobs_have_edges(rt: HostRuntime) {
+    assert!(rt; waits(rt.alloc(), 0, &[], &[1], &[1]));
+    assert!(rt; waits(rt.alloc(), 1, &[], &[], &[]));
+    assert!(rt; waits(rt.alloc(), 2, &[1], &[0], &[1, 0]));
+}
+
+/// Whether the slow run does all jobs in this order, and leaves these payloads.
+fn runs(alloc: Global, order: &[u32], payloads: &[u64]) -> bool {
+    let Some(plan) = plan(alloc) else {
+        return false;
+    };
+    match slow_order(alloc, &plan) {
+        Ok(run) => {
+            run.order.as_slice() == order
+                && run.stuck.len() == 0
+                && run.payloads.as_slice() == payloads
+        }
+        Err(_) => false,
+    }
 }
 
 #[test]
-fn the_slow_order_does_the_lowest_ready_job(rt: HostRuntime) -> Result<(), Fail> {
-    let plan = plan(&rt, rt.alloc(), SCRIPT)?;
-    let run = slow_order(rt.alloc(), &plan)?;
-    assert_eq!(rt; run.order.as_slice(), [1, 0, 2].as_slice());
-    assert_eq!(rt; run.stuck.len(), 0);
-    assert_eq!(rt; run.payloads.as_slice(), [9, 1].as_slice());
-    Ok(())
+fn the_slow_order_does_the_lowest_ready_job(rt: HostRuntime) {
+    assert!(rt; runs(rt.alloc(), &[1, 0, 2], &[9, 1]));
+}
+
+/// The text of the buffers after the slow run.
+fn text(alloc: Global) -> Option<Vec<u8>> {
+    let plan = plan(alloc)?;
+    let run = slow_run(alloc, &plan).ok()?;
+    buffers_text(alloc, &plan, &run.buffers).ok()
 }
 
 #[test]
-fn buffers_are_written_as_text(rt: HostRuntime) -> Result<(), Fail> {
-    let plan = plan(&rt, rt.alloc(), SCRIPT)?;
-    let run = slow_run(rt.alloc(), &plan)?;
-    let text = buffers_text(rt.alloc(), &plan, &run.buffers)?;
+fn buffers_are_written_as_text(rt: HostRuntime) {
     let want = b"buffer X 17\n01000000020000000300000000000000\n00\nend\n";
-    assert_eq!(rt; text.as_slice(), want.as_slice());
-    Ok(())
+    assert!(rt; text(rt.alloc()).is_some_and(|text| text.as_slice() == want.as_slice()));
 }
 
 /// Why a script has no plan.
-fn fault(rt: &impl Abort, alloc: Global, text: &[u8]) -> Result<Option<PlanFault>, Fail> {
-    assert!(rt; is_short(text));
-    Ok(Plan::lower(alloc, parse(alloc, text, Form::Plain)?).err())
+fn fault(alloc: Global, text: &[u8]) -> Option<PlanFault> {
+    lowered(alloc, text)?.err()
 }
 
 #[test]
-fn faulty_uses_are_found(rt: HostRuntime) -> Result<(), Fail> {
+fn faulty_uses_are_found(rt: HostRuntime) {
     for (text, want) in [
         (
             b"binary S\nqueue Q threaded\nsubmit Q\nwait S\nend\n".as_slice(),
@@ -102,11 +135,21 @@ fn faulty_uses_are_found(rt: HostRuntime) -> Result<(), Fail> {
             PlanFault::FenceUsed { line: 7 },
         ),
         (
-            b"binary S\nqueue Q threaded\nsubmit Q\nsignal S\nend\nsubmit Q\nwait S\nend\nsubmit Q\nwait S\nend\n",
+            b"binary S
+queue Q threaded
+submit Q
+signal S
+end
+submit Q
+wait S
+end
+submit Q
+wait S
+end
+",
             PlanFault::NoSignal { line: 10 },
         ),
     ] {
-        assert_eq!(rt; fault(&rt, rt.alloc(), text)?, Some(want));
+        assert!(rt; fault(rt.alloc(), text) == Some(want));
     }
-    Ok(())
 }

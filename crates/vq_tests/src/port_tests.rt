@@ -1,21 +1,20 @@
 //! Sources that are read whole, and sinks that are written whole.
+ghost use Rattle.std.specs.Prelude.{◌≤◌, ◌<◌, ◌^◌};
+
 use std::alloc::{AllocError, Global};
 use std::test::Fail;
 use vq_port::{
-    Failed, MemorySink, MemorySource, ReadFault, Source, StdSink, StdSource, SteadySink,
-    SteadySource, read_whole, write_whole,
+    MemorySink, MemorySource, ReadFault, Source, StdSink, StdSource, SteadySink, SteadySource,
+    read_whole, write_whole,
 };
 
 // A fault at call number 0 never comes, since calls are numbered from 1.
 const NEVER: u32 = 0;
 
 /// A source of so many bytes, with a fault at one call.
-fn source(
-    alloc: Global,
-    length: usize,
-    piece: usize,
-    fail: u32,
-) -> Result<MemorySource, AllocError> {
+fn source(alloc: Global, length: usize, piece: usize, fail: u32) -> Result<MemorySource, AllocError>
+    requires { 1 ≤ piece }
+{
     let bytes = vec![in alloc; 7; length]?;
     Ok(MemorySource::new(bytes, piece, vec![in alloc; fail]?))
 }
@@ -27,7 +26,10 @@ fn read(
     limit: usize,
     piece: usize,
     fail: u32,
-) -> Result<usize, ReadFault> {
+) -> Result<usize, ReadFault>
+    requires piece { 1 ≤ piece }
+    requires limit { limit < 2 ^ 31 }
+{
     let mut source = source(alloc, length, piece, fail)?;
     Ok(read_whole(alloc, &mut source, limit)?.len())
 }
@@ -44,11 +46,7 @@ fn a_source_is_read_whole(rt: HostRuntime) {
         (10, 10, 3, 5, Err(ReadFault::Failed)),
         (10, 10, 3, 6, Ok(10)),
     ] {
-        assert_eq!(rt;
-            read(rt.alloc(), length, limit, piece, fail),
-            want,
-            "{length}, {fail}"
-        );
+        assert!(rt; read(rt.alloc(), length, limit, piece, fail) == want);
     }
 }
 
@@ -58,7 +56,9 @@ fn written(
     length: usize,
     piece: usize,
     fail: u32,
-) -> Result<(bool, usize), AllocError> {
+) -> Result<(bool, usize), AllocError>
+    requires { 1 ≤ piece }
+{
     let bytes = vec![in alloc; 7; length]?;
     let mut sink = MemorySink::new(alloc, piece, vec![in alloc; fail]?)?;
     let is_whole = write_whole(&mut sink, &bytes).is_ok();
@@ -77,34 +77,40 @@ fn a_sink_is_written_whole(rt: HostRuntime) -> Result<(), Fail> {
         (room, 65_536, NEVER, true, room),
         (room + 1, 65_536, NEVER, false, room),
     ] {
-        assert_eq!(rt;
-            written(rt.alloc(), length, piece, fail)?,
-            (is_whole, count),
-            "{length}, {fail}"
-        );
+        assert!(rt; written(rt.alloc(), length, piece, fail)? == (is_whole, count));
     }
     Ok(())
 }
 
-#[test]
-fn a_steady_sink_tells_what_fits_its_room(rt: HostRuntime) -> Result<(), Fail> {
-    let alloc = rt.alloc();
+/// What a steady sink with room for 7 bytes tells after so many writes of 4 bytes.
+fn told(alloc: Global, writes: u32) -> Result<Option<usize>, Fail> {
     let mut sink = SteadySink::with_room(alloc, 7)?;
-    write_whole(&mut sink, &[1, 2, 3, 4])?;
-    assert_eq!(rt; sink.written(), Some([1, 2, 3, 4].as_slice()));
-    write_whole(&mut sink, &[5, 6, 7, 8])?;
-    assert_eq!(rt; sink.written(), None);
-    Ok(())
+    for _ in 0..writes {
+        write_whole(&mut sink, &[1, 2, 3, 4])?;
+    }
+    Ok(sink.written().map(|bytes| bytes.len()))
 }
 
 #[test]
-fn a_steady_source_is_read(rt: HostRuntime) -> Result<(), Fail> {
-    let alloc = rt.alloc();
+fn a_steady_sink_tells_what_fits_its_room(rt: HostRuntime) -> Result<(), Fail> {
+    for (writes, want) in [(0, Some(0)), (1, Some(4)), (2, None), (3, None)] {
+        assert!(rt; told(rt.alloc(), writes)? == want);
+    }
+    Ok(())
+}
+
+/// Whether what is read of a steady source and written to a steady sink is the same.
+fn is_passed_on(alloc: Global) -> Result<bool, Fail> {
     let mut source = SteadySource::new([1, 2, 3, 4].to_vec(alloc)?);
     let bytes = read_whole(alloc, &mut source, 4)?;
     let mut sink = SteadySink::new(alloc)?;
     write_whole(&mut sink, &bytes)?;
-    assert_eq!(rt; sink.written(), Some([1, 2, 3, 4].as_slice()));
+    Ok(sink.written() == Some([1, 2, 3, 4].as_slice()))
+}
+
+#[test]
+fn bytes_are_passed_on(rt: HostRuntime) -> Result<(), Fail> {
+    assert!(rt; is_passed_on(rt.alloc())?);
     Ok(())
 }
 

@@ -117,11 +117,7 @@ fn fills_fit(rt: HostRuntime) -> Result<(), Fail> {
         (1, 0, FillSize::Count(8), false),
         (2, 0, FillSize::Whole, false),
     ] {
-        assert_eq!(rt;
-            fits(rt.alloc(), &fill(buffer, offset, size, 1))?,
-            want,
-            "at {offset}"
-        );
+        assert!(rt; fits(rt.alloc(), &fill(buffer, offset, size, 1))? == want);
     }
     Ok(())
 }
@@ -135,11 +131,7 @@ fn updates_fit(rt: HostRuntime) -> Result<(), Fail> {
         (16, b"1234", false),
         (0, b"123", false),
     ] {
-        assert_eq!(rt;
-            fits(alloc, &update(alloc, 0, offset, bytes)?)?,
-            want,
-            "at {offset}"
-        );
+        assert!(rt; fits(alloc, &update(alloc, 0, offset, bytes)?)? == want);
     }
     Ok(())
 }
@@ -158,11 +150,7 @@ fn copies_fit(rt: HostRuntime) -> Result<(), Fail> {
         (0, u32::MAX, 1, 0, 2, false),
         (0, 0, 2, 0, 4, false),
     ] {
-        assert_eq!(rt;
-            fits(rt.alloc(), &copy(source, from, target, to, size))?,
-            want,
-            "from {from} to {to}"
-        );
+        assert!(rt; fits(rt.alloc(), &copy(source, from, target, to, size))? == want);
     }
     Ok(())
 }

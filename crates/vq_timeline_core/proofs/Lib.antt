@@ -1,4 +1,4 @@
-pub mod Steps
-pub mod Points
-pub mod Finding
-pub mod Rows
+mod Steps
+mod Points
+mod Finding
+mod Rows

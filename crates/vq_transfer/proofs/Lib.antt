@@ -1,2 +1,3 @@
+pub mod Cited
 mod Parts
-pub mod Sizes
+mod Sizes

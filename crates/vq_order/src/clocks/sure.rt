@@ -6,7 +6,6 @@ ghost use Rattle.vq_model.specs.SlowRun.{slow_order};
 ghost use Rattle.vq_order.specs.VectorClocks.{in_row, lanes, AddsJob, AddsOp, EndsOps, HasSureClocks, IsSureClock, MakesSureClock};
 
 use crate::clocks::rows::{Row, Rows};
-use crate::clocks::waits::{awaited, must_finish};
 use crate::complete_run::CompleteRun;
 use std::alloc::{AllocError, Global};
 
@@ -55,12 +54,10 @@ fn sure_row(alloc: Global, run: &CompleteRun, rows: &Rows, j: u32) -> Result<Row
     ensures width { IfOk result (λ row. length row ≡ lanes run.now) }
 {
     let mut row = Row::new(alloc, run.lanes())?;
-    let firsts = must_finish(alloc, run, j)?;
-    for first in firsts.as_slice() {
+    for first in run.plan().must_finish(j) {
         add_job(&mut row, run, rows, j, *first);
     }
-    let ops = awaited(alloc, run, j)?;
-    for op in ops.as_slice() {
+    for op in run.plan().awaited(j) {
         add_op(&mut row, run, rows, j, *op);
     }
     Ok(row)

@@ -128,8 +128,13 @@ fn cell_count(cuts: &[u64], span: Span) -> usize
     end.saturating_sub(first)
 }
 
-/// How many cells commands read and write, each time counted.
-pub(crate) fn touch_count(alloc: Global, accesses: &[Access]) -> Result<usize, AllocError> {
+/// With more cells than this to go through for each command, on the average, comparing all pairs of
+/// commands is quicker.
+const MOST_CELLS: usize = 32;
+
+/// Whether ranges overlap so much that comparing all pairs of commands is quicker than going through
+/// their cells.
+pub(crate) fn overlap_much(alloc: Global, accesses: &[Access]) -> Result<bool, AllocError> {
     let cuts = make_cuts(alloc, accesses)?;
     let cuts = cuts.as_slice();
     let mut count: usize = 0;
@@ -139,7 +144,7 @@ pub(crate) fn touch_count(alloc: Global, accesses: &[Access]) -> Result<usize, A
             count = count.saturating_add(cell_count(cuts, read));
         }
     }
-    Ok(count)
+    Ok(count / MOST_CELLS > accesses.len())
 }
 
 /// Goes through the first commands of a plan, in the order of the slow run. The error is a command

@@ -1,7 +1,7 @@
-use Rattle.std.proofs.Common.{◌≡◌, ℕ, ◌+◌, ◌≤◌, length, Option, sym, subst, arith}
+use Rattle.std.proofs.Common.{◌≡◌, ℕ, ◌+◌, length, Option, sym, subst, arith}
 use Rattle.vq_order.specs.declared.lines.Lines.{Lines}
-use Rattle.vq_order.specs.LeastLines.{AreLeastOrNone}
-use Rattle.vq_order.specs.UnorderedLines.{IsOfFirst, IsUnorderedIn, IsOvertakenIn}
+use Rattle.vq_order.specs.LeastLines.{IsOfFirst, AreLeastOrNone}
+use Rattle.vq_order.specs.UnorderedLines.{IsUnorderedIn, IsOvertakenIn}
 use Rattle.vq_order.proofs.LineSearches.{Either, first_more, first_more_beside, none_beside}
 use Rattle.vq_order.proofs.UnorderedSteps.{all_searched}
 use Rattle.vq_order.proofs.unordered.first_unordered.Goals as goal

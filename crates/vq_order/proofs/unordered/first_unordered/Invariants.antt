@@ -1,6 +1,6 @@
 use Rattle.std.proofs.Common.{length}
-use Rattle.vq_order.specs.LeastLines.{AreLeastOrNone}
-use Rattle.vq_order.specs.UnorderedLines.{IsOfFirst, IsUnorderedIn, IsOvertakenIn}
+use Rattle.vq_order.specs.LeastLines.{IsOfFirst, AreLeastOrNone}
+use Rattle.vq_order.specs.UnorderedLines.{IsUnorderedIn, IsOvertakenIn}
 use Rattle.vq_order.proofs.LineSearches.{Either}
 use Rattle.vq_order.proofs.unordered.first_unordered.Given as goal
 

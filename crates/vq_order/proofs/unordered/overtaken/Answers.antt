@@ -1,6 +1,6 @@
-use Rattle.std.proofs.Common.{sym, ◌∙◌, arith}
+use Rattle.std.proofs.Common.{sym, ◌∙◌}
 use Rattle.vq_model.specs.Signals.{kind_of}
-use Rattle.vq_plan_laws.proofs.Cited.{plan_semaphores, plan_lines}
+use Rattle.vq_plan_laws.proofs.Cited.{plan_lines}
 use Rattle.vq_order.proofs.BinaryChains.{binary_is}
 use Rattle.vq_order.proofs.UnorderedLaws.{op_here}
 use Rattle.vq_order.proofs.UnorderedSteps.{by_next}

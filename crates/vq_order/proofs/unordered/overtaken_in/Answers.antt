@@ -1,13 +1,12 @@
-use Rattle.std.proofs.Common.{ℕ, ◌+◌, length, get_or, Option, sym, subst, arith}
+use Rattle.std.proofs.Common.{◌+◌, length, get_or, Option, sym, subst, arith}
 use Rattle.vq_model.specs.declared.plan.Need.{Need}
 use Rattle.vq_model.specs.Plan.{needs}
 use Rattle.vq_plan_laws.proofs.Cited.{plan_semaphores}
 use Rattle.vq_order.specs.declared.lines.Lines.{Lines}
-use Rattle.vq_order.specs.LeastLines.{AreLeastOrNone}
-use Rattle.vq_order.specs.UnorderedLines.{IsOfFirst, IsOvertakenAt}
-use Rattle.vq_order.proofs.LineSearches.{first_more}
-use Rattle.vq_order.proofs.Resolving.{need_chain}
-use Rattle.vq_order.proofs.UnorderedSteps.{all_first, need_at, needs_count, wait_at}
+use Rattle.vq_order.specs.LeastLines.{AreLeastOrNone, IsOfFirst, IsOfNeed}
+use Rattle.vq_order.specs.UnorderedLines.{IsOvertaken}
+use Rattle.vq_order.proofs.LineSearches.{first_more, all_first, need_at, needs_count, of_need}
+use Rattle.vq_order.proofs.NeedChains.{need_chain}
 use Rattle.vq_order.proofs.unordered.overtaken_in.Goals as goal
 
 abbrev no_need : Need
@@ -22,10 +21,10 @@ loop-need-preserved c =
     let p = c.args.order.now in
     let k = c.loop-need.need-index in
     let items = c.as_slice-need-items.result.now in
-    let R = IsOvertakenAt p c.args.i in
+    let R = IsOfNeed p (IsOvertaken p c.args.i) c.args.i in
     let at = need_at p c.args.i c.job.result.now c.job.ensures.value items c.as_slice-need-items.ensures k no_need c.loop-need-test.true in
     subst (λ (o : Option Lines). AreLeastOrNone (IsOfFirst R (k + 1)) o) (sym c.lower-lowest.ensures)
-    (first_more R k c.loop-need.lowest c.overtaken.result c.loop-need.invariant (wait_at p c.args.i k (get_or items k no_need) at c.overtaken.result c.overtaken.ensures))
+    (first_more R k c.loop-need.lowest c.overtaken.result c.loop-need.invariant (of_need p (IsOvertaken p c.args.i) c.args.i k (get_or items k no_need) at c.overtaken.result c.overtaken.ensures))
 
 pub returns : goal.returns
 returns c =
@@ -33,4 +32,4 @@ returns c =
     let n = needs_count p c.args.i c.job.result.now c.job.ensures.value c.as_slice-need-items.result.now c.as_slice-need-items.ensures in
     let a = c.loop-need.auto.need-index-end in
     let b = c.loop-need-test.false in
-    all_first (IsOvertakenAt p c.args.i) c.loop-need.need-index (length (needs p c.args.i)) (omega arith) (omega arith) c.loop-need.lowest c.loop-need.invariant
+    all_first (IsOfNeed p (IsOvertaken p c.args.i) c.args.i) c.loop-need.need-index (length (needs p c.args.i)) (omega arith) (omega arith) c.loop-need.lowest c.loop-need.invariant

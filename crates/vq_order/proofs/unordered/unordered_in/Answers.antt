@@ -1,8 +1,7 @@
-use Rattle.std.proofs.Common.{ℕ, ◌+◌, Option, sym, ◌∙◌, subst, arith}
-use Rattle.vq_plan_laws.proofs.Cited.{plan_semaphores}
+use Rattle.std.proofs.Common.{◌+◌, Option, sym, ◌∙◌, subst}
 use Rattle.vq_order.specs.declared.lines.Lines.{Lines}
-use Rattle.vq_order.specs.LeastLines.{AreLeastOrNone}
-use Rattle.vq_order.specs.UnorderedLines.{IsOfFirst, IsUnorderedAt}
+use Rattle.vq_order.specs.LeastLines.{IsOfFirst, AreLeastOrNone}
+use Rattle.vq_order.specs.UnorderedLines.{IsUnorderedAt}
 use Rattle.vq_order.proofs.LineSearches.{first_more}
 use Rattle.vq_order.proofs.UnorderedSteps.{all_places}
 use Rattle.vq_order.proofs.unordered.unordered_in.Goals as goal

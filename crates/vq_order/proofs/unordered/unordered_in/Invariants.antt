@@ -1,5 +1,5 @@
-use Rattle.vq_order.specs.LeastLines.{AreLeastOrNone}
-use Rattle.vq_order.specs.UnorderedLines.{IsOfFirst, IsUnorderedAt}
+use Rattle.vq_order.specs.LeastLines.{IsOfFirst, AreLeastOrNone}
+use Rattle.vq_order.specs.UnorderedLines.{IsUnorderedAt}
 use Rattle.vq_order.proofs.unordered.unordered_in.Given as goal
 
 abbrev pub invariant-loop-k : goal.invariant-loop-k

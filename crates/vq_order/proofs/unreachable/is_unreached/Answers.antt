@@ -3,7 +3,7 @@ use Rattle.std.specs.List.{list_any}
 use Rattle.vq_model.specs.declared.plan.Need.{Need}
 use Rattle.vq_model.specs.Machine.{is_reached}
 use Rattle.vq_spec.specs.SlowProgress.{payload_in}
-use Rattle.vq_spec.proofs.SlowReady.{chains_exist}
+use Rattle.vq_spec.proofs.Cited.{chains_exist}
 use Rattle.vq_order.proofs.UnreachedLaws.{any_unreached}
 use Rattle.vq_order.proofs.unreachable.is_unreached.Goals as goal
 

@@ -1,18 +1,16 @@
-use Rattle.std.proofs.Common.{◌≡◌, ◌+◌, ◌++◌, ◌∷◌, [], ℕ, List, take, get_or, subst, sym, ap, ◌∙◌, add-one}
-use Rattle.std.proofs.Math.Seq.{take-suc}
-use Rattle.std.proofs.lemmas.List.{take_all}
+use Rattle.std.proofs.Common.{◌≡◌, ◌+◌, ℕ, List, Option, length, get_or, subst, sym, ap, ◌∙◌, arith}
 use Rattle.vq_model.specs.Plan.{has}
 use Rattle.vq_model.specs.SlowRun.{left_over}
-use Rattle.vq_spec.proofs.SlowHeads.{has_at}
-use Rattle.vq_order.specs.Unreached.{IsLeastOrNone, IsUnreachedIn}
-use Rattle.vq_order.proofs.UnreachedLaws.{no_job, all_jobs, left_exists}
+use Rattle.vq_order.specs.declared.lines.Lines.{Lines}
+use Rattle.vq_order.specs.LeastLines.{AreLeastOrNone, IsOfFirst}
+use Rattle.vq_order.specs.Unreached.{IsUnreachedAt, IsUnreachedIn}
+use Rattle.vq_order.proofs.LineSearches.{first_more, all_first}
+use Rattle.vq_order.proofs.SlowFacts.{has_at}
+use Rattle.vq_order.proofs.UnreachedLaws.{left_exists, least_line, no_line}
 use Rattle.vq_order.proofs.unreachable.least_unreached.Goals as goal
 
-pub loop-j-init : goal.loop-j-init
-loop-j-init c = no_job c.args.plan.now
-
-pub with_job-lowest-requires-clause-exists : goal.with_job-lowest-requires-clause-exists
-with_job-lowest-requires-clause-exists c =
+pub unreached_in-requires-clause-exists : goal.unreached_in-requires-clause-exists
+unreached_in-requires-clause-exists c =
     let p = c.args.plan.now in
     let items = c.as_slice-j-items.result.now in
     let left : items ≡ left_over p = c.as_slice-j-items.ensures ∙ c.requires.stuck in
@@ -23,17 +21,24 @@ pub loop-j-preserved : goal.loop-j-preserved
 loop-j-preserved c =
     let p = c.args.plan.now in
     let i = c.loop-j.j-index in
-    let items = c.as_slice-j-items.result.now in
-    let more : take (i + 1) items ≡ take i items ++ get_or items i 0 ∷ [] =
-    rw add-one (take-suc items i 0 c.loop-j-test.true) in
-    subst (λ (xs : List ℕ). IsLeastOrNone (IsUnreachedIn p xs) c.with_job-lowest.result) (sym more)
-    (c.with_job-lowest.ensures (take i items) c.loop-j.invariant)
+    let R = IsUnreachedAt p in
+    let left = c.as_slice-j-items.ensures ∙ c.requires.stuck in
+    let here : AreLeastOrNone (R i) c.unreached_in.result = subst (λ (xs : List ℕ). AreLeastOrNone (IsUnreachedIn p (get_or xs i 0)) c.unreached_in.result) left c.unreached_in.ensures in
+    subst (λ (o : Option Lines). AreLeastOrNone (IsOfFirst R (i + 1)) o) (sym c.lower-lowest.ensures)
+    (first_more R i c.loop-j.lowest c.unreached_in.result c.loop-j.invariant here)
 
-pub returns : goal.returns
-returns c =
+pub returns-in-Some : goal.returns-in-Some
+returns-in-Some c =
     let p = c.args.plan.now in
-    let items = c.as_slice-j-items.result.now in
-    let left : items ≡ left_over p = c.as_slice-j-items.ensures ∙ c.requires.stuck in
-    let all : take c.loop-j.j-index items ≡ items = take_all c.loop-j.j-index items c.loop-j-test.false in
-    all_jobs p c.loop-j.lowest
-    (subst (λ (xs : List ℕ). IsLeastOrNone (IsUnreachedIn p xs) c.loop-j.lowest) (all ∙ left) c.loop-j.invariant)
+    let n = ap length (c.as_slice-j-items.ensures ∙ c.requires.stuck) in
+    let a = c.loop-j.auto.j-index-end in
+    let b = c.loop-j-test.false in
+    least_line p c.in-Some.lines (subst (AreLeastOrNone (IsOfFirst (IsUnreachedAt p) (length (left_over p)))) c.in-Some.is (all_first (IsUnreachedAt p) c.loop-j.j-index (length (left_over p)) (omega arith) (omega arith) c.loop-j.lowest c.loop-j.invariant))
+
+pub returns-in-None : goal.returns-in-None
+returns-in-None c =
+    let p = c.args.plan.now in
+    let n = ap length (c.as_slice-j-items.ensures ∙ c.requires.stuck) in
+    let a = c.loop-j.auto.j-index-end in
+    let b = c.loop-j-test.false in
+    no_line p (subst (AreLeastOrNone (IsOfFirst (IsUnreachedAt p) (length (left_over p)))) c.in-None.is (all_first (IsUnreachedAt p) c.loop-j.j-index (length (left_over p)) (omega arith) (omega arith) c.loop-j.lowest c.loop-j.invariant))

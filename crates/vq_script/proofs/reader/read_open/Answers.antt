@@ -7,8 +7,8 @@ use Rattle.vq_script.proofs.Pushes.{holds_after}
 use Rattle.vq_script.proofs.reader.read_open.Goals as goal
 
 pub returns-in_ok-add-in-Ok : goal.returns-in_ok-add-in-Ok
-returns-in_ok-add-in-Ok c = λ lines h m.
-    let told = c.in-Ok.ensures.told lines h m in
+returns-in_ok-add-in-Ok c = λ lines h.
+    let told = c.in-Ok.ensures.told lines h in
     let s = statement_in c.in-Ok.said in (
       s,
       told.0,

@@ -2,7 +2,6 @@ use Rattle.std.proofs.Common.{◌≡◌, ◌<◌, ℕ, eqb, false, List, [], ◌
 use Rattle.std.specs.Borrow.{Bor}
 use Rattle.vq_model.specs.Forms.{Slot}
 use Rattle.vq_model.specs.Meaning.{matches}
-use Rattle.vq_script.specs.Faults.{Means}
 use Rattle.vq_script.specs.Holds.{open_so_far}
 use Rattle.vq_script.specs.OpenWords.{opens}
 use Rattle.vq_script.specs.Reads.{Takes}
@@ -49,6 +48,5 @@ returns c = λ form lines h.
     (form_is form lines (texts c.args.words.now) _ _ h)
     (sym (c.in-Some.ensures ∙ ap (λ s. find (matches (texts c.args.words.now)) (forms_of s))
     c.section.ensures))
-    (subst (λ (ws : List (Slot × List ℕ)). Means lines (c.in-Some.form, ws) →
-    Takes lines c.args.number (c.in-Some.form, ws) c.read_open.result c.read_open.new.known)
+    (subst (λ (ws : List (Slot × List ℕ)). Takes lines c.args.number (c.in-Some.form, ws) c.read_open.result c.read_open.new.known)
     (ap opens c.deref.ensures.value ∙ c.in_ok-find_open.ensures) (c.read_open.ensures lines h))

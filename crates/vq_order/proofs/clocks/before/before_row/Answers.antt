@@ -6,7 +6,7 @@ use Rattle.vq_plan_laws.proofs.Cited.{plan_lanes}
 use Rattle.vq_model.specs.Edges.{AtEnd, edges_to}
 use Rattle.vq_model.specs.Plan.{Plan, has}
 use Rattle.vq_model.specs.Lanes.{lane_at}
-use Rattle.vq_order.specs.VectorClocks.{Covers, itself, lanes, PassesOne, in_row}
+use Rattle.vq_order.specs.VectorClocks.{Covers, itself, PassesOne, in_row}
 use Rattle.vq_order.proofs.ClockLaws.{clock_end}
 use Rattle.vq_order.proofs.RowLaws.{edge_exists, zeros_cover}
 use Rattle.vq_order.proofs.SlowFacts.{has_at}

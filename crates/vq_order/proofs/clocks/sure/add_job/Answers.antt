@@ -1,4 +1,4 @@
-use Rattle.std.proofs.Common.{◌≡◌, ◌<◌, ℕ, List, [], get_or, length, ap, ◌∙◌, sym, subst, arith}
+use Rattle.std.proofs.Common.{◌≡◌, ℕ, List, [], get_or, length, ap, ◌∙◌, sym, subst, arith}
 use Rattle.vq_plan_laws.proofs.Cited.{plan_lanes}
 use Rattle.vq_model.specs.Lanes.{lane_at}
 use Rattle.vq_order.specs.VectorClocks.{in_row, position, row_of, Joins}

@@ -6,11 +6,11 @@ use Rattle.vq_model.specs.Lanes.{lane_at, lane_number}
 use Rattle.vq_model.specs.Plan.{Plan}
 use Rattle.vq_order.proofs.complete_run.CompleteRun.lane.Goals as goal
 
-pub returns-in-Queue-clause-exists : goal.returns-in-Queue-clause-exists
-returns-in-Queue-clause-exists c =
+pub returns-clause-exists : goal.returns-clause-exists
+returns-clause-exists c =
     let p = c.args.self.now in
-    let at : lane_at p c.args.j ≡ c.in-Queue.queue + 1 =
+    let at : lane_at p c.args.j ≡ c.number.result =
     ap (λ (q : Plan). lane_at q c.args.j) (sym c.plan.ensures.value)
-    ∙ (ap (λ (o : Option PlanJob). option_map_or (λ x. lane_number x.lane) o 0) c.job.ensures ∙ ap lane_number c.in-Queue.is) in
+    ∙ (ap (λ (o : Option PlanJob). option_map_or (λ x. lane_number x.lane) o 0) c.job.ensures ∙ sym c.number.ensures) in
     let l = (plan_lanes p c.plan.ensures.complete.plan).lane_exists c.args.j in
     omega arith

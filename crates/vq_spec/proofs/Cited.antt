@@ -1,0 +1,3 @@
+-- What other crates may cite of this one. All other files of proofs are private to it.
+pub use Rattle.vq_spec.proofs.SlowHeads.{has_at}
+pub use Rattle.vq_spec.proofs.SlowReady.{chains_exist, own_needs, same_any}
