@@ -13,7 +13,7 @@ use crate::task::Task;
 use std::alloc::{AllocError, Global};
 use vq_order::{OrderFault, Ordered, check};
 use vq_script::{FaultKind, Form, Script, ScriptFault, parse};
-use vq_spec::{Plan, PlanFault, buffers_text, slow_run};
+use vq_spec::{Plan, PlanFault, apply_in_order, buffers_text};
 
 /// A status with the text that goes with it.
 #[derive(Drop)]
@@ -97,20 +97,21 @@ fn order_refusal(alloc: Global, fault: OrderFault) -> Result<Vec<u8>, AllocError
     }
 }
 
-/// The text of a plan's final buffers.
-fn final_text(alloc: Global, plan: &Plan) -> Result<Vec<u8>, AllocError>
-    ensures { IfOk result (λ text. text.items ≡ buffers_text plan.now.script.buffers (final plan.now)) }
+/// The text of a lawful plan's final buffers. The order of its slow run is known, so it isn't made again.
+fn final_text(alloc: Global, ordered: &Ordered) -> Result<Vec<u8>, AllocError>
+    ensures { IfOk result (λ text.
+        text.items ≡ buffers_text ordered.now.script.buffers (final ordered.now)) }
 {
-    let run = slow_run(alloc, plan)?;
-    buffers_text(alloc, plan, &run.buffers)
+    let buffers = apply_in_order(alloc, ordered.plan(), ordered.slow_order())?;
+    buffers_text(alloc, ordered.plan(), &buffers)
 }
 
 /// What answers a task for a plan that is lawful.
-fn task_text(alloc: Global, task: Task, plan: &Plan) -> Result<Vec<u8>, AllocError>
-    ensures { IfOk result (λ text. TaskText task plan.now text.items) }
+fn task_text(alloc: Global, task: Task, ordered: &Ordered) -> Result<Vec<u8>, AllocError>
+    ensures { IfOk result (λ text. TaskText task ordered.now text.items) }
 {
     match task {
-        Task::Run => final_text(alloc, plan),
+        Task::Run => final_text(alloc, ordered),
         Task::Check => Vec::from_slice(alloc, b"lawful\n"),
     }
 }
@@ -120,7 +121,7 @@ fn of_lawful(alloc: Global, task: Task, ordered: &Ordered) -> Result<Outcome, Al
     ensures { IfOk result (λ outcome. (outcome.status ≡ Status.Done)
         × TaskText task ordered.now outcome.text.items) }
 {
-    Ok(Outcome::done(task_text(alloc, task, ordered.plan())?))
+    Ok(Outcome::done(task_text(alloc, task, ordered)?))
 }
 
 /// What is written for a plan that isn't.

@@ -1,7 +1,6 @@
 //! The order of a plan of two queues and two timelines.
 use std::alloc::Global;
-use vq_order::Ordered;
-use vq_order::check::check;
+use vq_order::{Ordered, check};
 use vq_script::{Form, is_short, parse};
 use vq_spec::Plan;
 
