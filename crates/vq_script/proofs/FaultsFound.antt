@@ -1,8 +1,8 @@
 -- What words say, from the form that they have.
-use Rattle.std.proofs.Common.{◌≡◌, ℕ, ◌<◌, Bool, true, false, not, ◌||◌, List, [], ◌∷◌, length, map, Option, Some, None, Result, Ok, Err, arith, refl, sym, ap, ◌∙◌}
+use Rattle.std.proofs.Common.{◌≡◌, ℕ, ◌<◌, Bool, true, false, not, ◌||◌, List, [], ◌∷◌, length, map, Option, Some, None, Result, Ok, Err, arith, refl, ap, ◌∙◌}
 use Rattle.std.specs.Prelude.{find}
 use Rattle.std.specs.List.{list_all}
-use Rattle.std.specs.Option.{option_map, option_map_or, option_and_then}
+use Rattle.std.specs.Option.{option_map_or, option_and_then}
 use Rattle.vq_model.specs.declared.statement.Line.{Line}
 use Rattle.vq_model.specs.declared.statement.Form.{Form}
 use Rattle.vq_model.specs.declared.statement.Statement.{Statement}

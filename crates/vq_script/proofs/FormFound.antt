@@ -1,6 +1,6 @@
 -- The form of a line's words: what the place of the line adds to the forms is not built.
 use Rattle.std.proofs.Common.{◌≡◌, ℕ, Bool, true, false, not, cond, List, [], ◌∷◌, ◌++◌, map, Option, Some, None, refl, sym, ap, ◌∙◌, subst}
-use Rattle.std.specs.Prelude.{find, codes, ◌&&◌, is_some, nat_lt}
+use Rattle.std.specs.Prelude.{find, codes, ◌&&◌, nat_lt}
 use Rattle.std.specs.List.{list_all}
 use Rattle.std.specs.Str.{bytes_eq}
 use Rattle.std.proofs.lemmas.Bool.{and_parts}
@@ -13,7 +13,7 @@ use Rattle.vq_model.specs.declared.statement.LineForm.{LineForm}
 use Rattle.vq_model.specs.declared.statement.LineForm.TheVariants.{VersionLine, ScheduleLine}
 use Rattle.vq_model.specs.declared.statement.Section.TheVariants.{Outside, InBatch}
 use Rattle.vq_model.specs.Context.{section, version_of}
-use Rattle.vq_model.specs.Forms.{Slot, Fixed, NewName, BufferName, TimelineName, BinaryName, FenceName, QueueName, Numeral, SmallNumeral, HexDigits, Actor, Pairs, places, forms_outside, forms_in_batch, held_forms}
+use Rattle.vq_model.specs.Forms.{Slot, Fixed, Pairs, places, forms_outside, forms_in_batch, held_forms}
 use Rattle.vq_model.specs.LineFaults.{part_of_form}
 use Rattle.vq_model.specs.Meaning.{is_built, matches, where_built, form_of, are_as_many, agree, open_places}
 use Rattle.vq_reading_laws.proofs.Cited.{found_belongs, found_passes}

@@ -1,11 +1,10 @@
 -- What the parser keeps tells the tests of a line, and what a line without a fault says may be kept.
 use Rattle.std.proofs.Common.{◌≡◌, ℕ, ◌+◌, Bool, true, false, cond, not, ◌||◌, ◌&&◌, ◌==◌, List, [], ◌∷◌, length, map, Option, Some, None, is_some, refl, sym, ap, subst, ◌∙◌, nat_lt, arith}
-use Rattle.std.specs.List.{list_all, list_any, count_by, position, slice_get}
+use Rattle.std.specs.List.{list_all, list_any, count_by, slice_get}
 use Rattle.std.specs.Option.{option_map, option_map_or, option_or}
 use Rattle.std.specs.Str.{bytes_eq}
-use Rattle.std.proofs.lemmas.Bool.{and_parts, or_parts, ltb-true, ltb-false}
+use Rattle.std.proofs.lemmas.Bool.{and_parts, or_parts, ltb-false}
 use Rattle.std.proofs.lemmas.Bool.Decides.{nat_tests}
-use Rattle.std.proofs.lemmas.List.Folds.{list_all-map}
 use Rattle.std.proofs.lemmas.List.Sums.{sum_by-cons}
 use Rattle.vq_model.specs.declared.script.Batch.{Batch}
 use Rattle.vq_model.specs.declared.script.Buffer.{Buffer}
@@ -23,7 +22,7 @@ use Rattle.vq_model.specs.declared.statement.Line.{Line}
 use Rattle.vq_model.specs.declared.statement.LineForm.{LineForm}
 use Rattle.vq_model.specs.declared.statement.LineForm.TheVariants.{BufferLine, TimelineLine, BinaryLine, FenceLine, QueueLine, HostWaitAllLine, HostWaitAnyLine, HostPollAllLine, HostPollAnyLine, FillWholeLine, FillLine, UpdateLine, CopyLine, SubmitLine, WaitTimelineLine, WaitBinaryLine, SignalTimelineLine, SignalBinaryLine, BatchFenceLine, EndLine}
 use Rattle.vq_model.specs.declared.statement.Statement.{Statement}
-use Rattle.vq_model.specs.Context.{has_begun, is_batch_immediate, is_immediate, is_immediate_at, buffers, queues, count, open_batch, is_command}
+use Rattle.vq_model.specs.Context.{has_begun, is_batch_immediate, is_immediate, is_immediate_at, count, open_batch, is_command}
 use Rattle.vq_model.specs.Forms.{Slot, HexDigits, Numeral, NewName, BufferName, TimelineName, BinaryName, FenceName, QueueName, Actor, places}
 use Rattle.vq_model.specs.LineFaults.{is_shaped, is_numeric, is_known, is_new, is_declaration, part_of_form, is_batch_fence_form, is_out_of_order, is_command_in_range, is_in_range, overlaps}
 use Rattle.vq_model.specs.Limits.{passes_limit, limits_of}
@@ -35,7 +34,6 @@ use Rattle.vq_script.specs.declared.said.Said.TheVariants.{Buffer as SaysBuffer,
 use Rattle.vq_script.specs.Faults.{first_fault, statement_at}
 use Rattle.vq_script.specs.Holds.{Holds, Declares, Kept, last_part, named_fence, open_jobs}
 use Rattle.vq_script.specs.LineTests.{number_of, is_built_in, is_immediate_in, is_late, is_known_in, is_new_in, word_fault, is_command_in, is_in_range_in, passes_in, said_fault, later_fault}
-use Rattle.vq_script.specs.Names.{names_buffer, names_queue, names_timeline, names_binary, names_fence}
 use Rattle.vq_script.specs.OpenWords.{is_no_actor}
 use Rattle.vq_script.specs.SaidLines.{AreOf, AreFound, Stands, Suits, MayKeep, MayCommand, IsNewName, end_with_pairs, open_kinds, statement_in, part_in, copied, new_name, is_batch_line, named_in, placed, are_one_each}
 

@@ -1,7 +1,7 @@
 -- One step of the tests of words against places.
-use Rattle.std.proofs.Common.{◌≡◌, ℕ, Bool, true, false, List, [], ◌∷◌, refl, length, nat_lt}
+use Rattle.std.proofs.Common.{◌≡◌, ℕ, true, false, List, [], ◌∷◌, refl, length, nat_lt}
 use Rattle.std.specs.Prelude.{◌&&◌, ◌%◌, ◌==◌, ◌++◌}
-use Rattle.vq_model.specs.Forms.{Slot, Fixed, NewName, BufferName, TimelineName, BinaryName, FenceName, QueueName, Numeral, SmallNumeral, HexDigits, Actor, Pairs}
+use Rattle.vq_model.specs.Forms.{Slot, Fixed, Pairs}
 use Rattle.vq_model.specs.Meaning.{are_as_many, agree, open_places, pair_places}
 use Rattle.vq_script.specs.OpenWords.{opened}
 use Rattle.vq_script.specs.Table.{are_pairs, agrees}

@@ -1,6 +1,6 @@
 -- The tests of a line, over what the parser keeps of the lines before it.
-use Rattle.std.specs.Prelude.{ℕ, ◌≡◌, ◌+◌, Bool, true, false, ◌&&◌, ◌||◌, not, cond, find, length, nat_lt, is_some, List, [], ◌∷◌, Option, Some, None}
-use Rattle.std.specs.List.{list_all, position, slice_get}
+use Rattle.std.specs.Prelude.{ℕ, ◌+◌, Bool, true, false, ◌&&◌, ◌||◌, not, cond, length, nat_lt, is_some, List, [], Option, Some, None}
+use Rattle.std.specs.List.{list_all, slice_get}
 use Rattle.std.specs.Option.{option_map_or}
 use Rattle.vq_model.specs.declared.script.Batch.{Batch}
 use Rattle.vq_model.specs.declared.script.Command.{Command}

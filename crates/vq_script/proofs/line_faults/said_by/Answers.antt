@@ -1,4 +1,4 @@
-use Rattle.std.proofs.Common.{ℕ, nat_lt, Some, Option, refl, sym, ap, ◌∙◌}
+use Rattle.std.proofs.Common.{nat_lt, Some, refl, sym, ap, ◌∙◌}
 use Rattle.vq_model.specs.declared.statement.FaultKind.{FaultKind}
 use Rattle.vq_script.specs.Holds.{kept, open_so_far}
 use Rattle.vq_script.specs.OpenWords.{opens}
