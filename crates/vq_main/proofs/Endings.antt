@@ -14,7 +14,7 @@ use Rattle.vq_model.specs.LoweringFaults.{lowering_fault, IsFirstLoweringFault, 
 use Rattle.vq_model.specs.Plan.{Plan}
 use Rattle.vq_model.specs.Outputs.{IsOutput}
 use Rattle.vq_model.specs.Checks.{IsLawful, IsFirstPlanFault, Checks}
-use Rattle.vq_plan_laws.proofs.Cited.{batches_output}
+use Rattle.vq_plan_laws.proofs.Cited.{hostless_output}
 use Rattle.vq_model.specs.Refusals.{too_long, line_refusal}
 use Rattle.vq_order_laws.proofs.Cited.{lawful_without_fault}
 use Rattle.vq_main.specs.declared.task.Task.{Task}
@@ -116,7 +116,7 @@ refused_outcome task input script NoMemoryToLower text short stands l r = absurd
 -- what is written for a task of a plan of batches answers it
 answers_task : (task : Task) (p : Plan) (text : List ℕ) → IsPlan p → TaskText task p text →
     AnswersTask task p text
-answers_task Run p text i text_is = subst (IsOutput p) (sym text_is) (batches_output p i)
+answers_task Run p text i text_is = subst (IsOutput p) (sym text_is) (hostless_output p i)
 answers_task Check p text i text_is = text_is
 
 -- a plan was checked, and its task done

@@ -60,7 +60,8 @@ impl Source for MemorySource {
     fn read(&mut self, piece: &mut [u8]) -> Result<usize, Failed>
         ensures fails { IsErr result ↔ IsNamed self.old.fails self.old.calls }
 
-        ensures count { IfOk result (λ count. count ≡ min (length piece.old) (min self.old.piece (length self.old.left))) }
+        ensures count { IfOk result (λ count.
+            count ≡ min (length piece.old) (min self.old.piece (length self.old.left))) }
         ensures moved { IfOk result (λ count. piece.new ≡ take count self.old.left ++ drop count piece.old) }
         ensures ok { IfOk result (λ count. self.new ≡ record self.old {
           left = drop count self.old.left;

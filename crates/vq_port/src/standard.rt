@@ -106,7 +106,8 @@ fn read_counted<R: Read>(input: &mut R, faults: &mut u64, piece: &mut [u8]) -> R
 fn write_counted<W: Write>(output: &mut W, faults: &mut u64, piece: &[u8]) -> Result<usize, Failed>
     ensures at_most { IfOk result (λ count. count ≤ length piece.now) }
     ensures at_least { IfOk result (λ count. 0 < length piece.now → 0 < count) }
-    ensures bytes { IfOk result (λ count. Appends (W.contents output.old) (W.contents output.new) (take count piece.now)) }
+    ensures bytes { IfOk result (λ count.
+        Appends (W.contents output.old) (W.contents output.new) (take count piece.now)) }
     ensures faults { MatchResult result (λ _. faults.new ≡ faults.old) (λ _. faults.new ≡ one_more faults.old) }
     ensures counted { faults.old ≤ faults.new }
 {
@@ -120,7 +121,8 @@ fn write_counted<W: Write>(output: &mut W, faults: &mut u64, piece: &[u8]) -> Re
 fn write_flushed<W: Write>(output: &mut W, piece: &[u8]) -> Option<usize>
     ensures at_most { IfSome result (λ count. count ≤ length piece.now) }
     ensures at_least { IfSome result (λ count. 0 < length piece.now → 0 < count) }
-    ensures bytes { IfSome result (λ count. Appends (W.contents output.old) (W.contents output.new) (take count piece.now)) }
+    ensures bytes { IfSome result (λ count.
+        Appends (W.contents output.old) (W.contents output.new) (take count piece.now)) }
 {
     let count = output.write(piece).ok()?;
     output.flush().ok()?;

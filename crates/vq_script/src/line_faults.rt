@@ -3,7 +3,6 @@ ghost use Rattle.std.specs.Prelude.{◌≡◌, ◌<◌, ◌^◌, [], List, None,
 ghost use Rattle.std.specs.List.{list_all};
 ghost use Rattle.vq_model.specs.LineFaults.{is_numeric, overlaps};
 ghost use Rattle.vq_model.specs.declared.statement.FaultKind.TheVariants.{Name, Number};
-ghost use Rattle.vq_model.specs.Ranges.{is_aligned};
 ghost use Rattle.vq_model.specs.declared.statement.Line.{Line};
 ghost use Rattle.vq_script.specs.Faults.{Tells};
 ghost use Rattle.vq_script.specs.Holds.{Keeps, kept, open_so_far};
@@ -17,6 +16,7 @@ use crate::open_words::OpenWord;
 use crate::place_faults::{are_new, are_numeric, are_shaped};
 use crate::said::{Said, statement_of};
 use crate::table::{is_declaration, part_of_form};
+use vq_model::ranges::is_aligned;
 use vq_model::script::Mode;
 use vq_model::statement::{FaultKind, LineForm};
 
@@ -78,13 +78,6 @@ fn is_within(known: &Known, buffer: u32, offset: u64, size: u64) -> bool
 {
     let end = u64::from(known.size_of(buffer));
     offset < end && 0 < size && size <= end - offset
-}
-
-/// Whether a place, or a number of bytes, is a multiple of 4.
-fn is_aligned(place: u64) -> bool
-    ensures { result ≡ is_aligned place }
-{
-    place % 4 == 0
 }
 
 /// Whether the sizes and offsets of what a line says are in range.

@@ -1,0 +1,158 @@
+//! The lines of a canonical text that are batches.
+ghost use Rattle.std.specs.Prelude.{◌≡◌, ◌++◌, ◌∷◌, [], OnOk, All};
+ghost use Rattle.std.specs.List.{flat_map};
+ghost use Rattle.vq_model.specs.Built.{HasNoHostStep, HasWholeWaits};
+ghost use Rattle.vq_model.specs.Canonical.{semaphore_name, semaphore_kind, queue_name, mark_words, wait_words, signal_words, fence_lines, job_words, line_text};
+
+use crate::commands::push_commands;
+use crate::words::{push_name_line, push_number_line};
+use std::alloc::{AllocError, Global};
+use vq_model::script::{Batch, Job, Mark, Script, SemaphoreKind};
+
+/// The name of a queue, empty for a queue that isn't declared.
+fn queue_name(script: &Script, queue: u32) -> &[u8]
+    ensures { result.now ≡ queue_name script.now queue }
+{
+    match script.queues.as_slice().get(queue as usize) {
+        Some(declared) => declared.name.as_slice(),
+        None => &[],
+    }
+}
+
+/// The name of a semaphore or fence, empty for one that isn't declared.
+fn semaphore_name(script: &Script, semaphore: u32) -> &[u8]
+    ensures { result.now ≡ semaphore_name script.now semaphore }
+{
+    match script.semaphores.as_slice().get(semaphore as usize) {
+        Some(declared) => declared.name.as_slice(),
+        None => &[],
+    }
+}
+
+/// The kind of a semaphore or fence, binary for one that isn't declared.
+fn semaphore_kind(script: &Script, semaphore: u32) -> SemaphoreKind
+    ensures { result ≡ semaphore_kind script.now semaphore }
+{
+    match script.semaphores.as_slice().get(semaphore as usize) {
+        Some(declared) => declared.kind,
+        None => SemaphoreKind::Binary,
+    }
+}
+
+/// Adds a line of a word and a semaphore, with the value where it is a timeline.
+fn push_mark(
+    alloc: Global,
+    out: &mut Vec<u8>,
+    script: &Script,
+    word: &[u8],
+    mark: Mark,
+) -> Result<(), AllocError>
+    ensures { OnOk result
+        (out.new.items ≡ out.old.items ++ line_text (word.now ∷ mark_words script.now mark)) }
+{
+    let name = semaphore_name(script, mark.semaphore);
+    match semaphore_kind(script, mark.semaphore) {
+        SemaphoreKind::Timeline(_) => push_number_line(alloc, out, word, name, mark.value),
+        SemaphoreKind::Binary => push_name_line(out, word, name),
+        SemaphoreKind::Fence => push_name_line(out, word, name),
+    }
+}
+
+/// Adds the line of a wait that holds back the whole batch.
+fn push_wait(
+    alloc: Global,
+    out: &mut Vec<u8>,
+    script: &Script,
+    wait: Mark,
+) -> Result<(), AllocError>
+    requires { wait.from ≡ 1 }
+    ensures { OnOk result
+        (out.new.items ≡ out.old.items ++ line_text (wait_words script.now wait)) }
+{
+    push_mark(alloc, out, script, b"wait", wait)
+}
+
+/// Adds the lines of waits that hold back the whole batch.
+fn push_waits(
+    alloc: Global,
+    out: &mut Vec<u8>,
+    script: &Script,
+    waits: &[Mark],
+) -> Result<(), AllocError>
+    requires { All (λ m. m.from ≡ 1) waits.now }
+    ensures { OnOk result (out.new.items ≡ out.old.items
+        ++ flat_map (λ m. line_text (wait_words script.now m)) waits.now) }
+{
+    for wait in waits {
+        push_wait(alloc, out, script, *wait)?;
+    }
+    Ok(())
+}
+
+/// Adds the lines of signals.
+fn push_signals(
+    alloc: Global,
+    out: &mut Vec<u8>,
+    script: &Script,
+    signals: &[Mark],
+) -> Result<(), AllocError>
+    ensures { OnOk result (out.new.items ≡ out.old.items
+        ++ flat_map (λ m. line_text (signal_words script.now m)) signals.now) }
+{
+    for signal in signals {
+        push_mark(alloc, out, script, b"signal", *signal)?;
+    }
+    Ok(())
+}
+
+/// Adds the line of a batch's fence, if it names one.
+fn push_fence(out: &mut Vec<u8>, script: &Script, fence: Option<Mark>) -> Result<(), AllocError>
+    ensures { OnOk result (out.new.items ≡ out.old.items
+        ++ flat_map line_text (fence_lines script.now fence)) }
+{
+    match fence {
+        Some(mark) => push_name_line(out, b"fence", semaphore_name(script, mark.semaphore)),
+        None => Ok(()),
+    }
+}
+
+/// Adds the lines of a batch whose waits hold it back as a whole.
+fn push_batch(
+    alloc: Global,
+    out: &mut Vec<u8>,
+    script: &Script,
+    batch: &Batch,
+) -> Result<(), AllocError>
+    requires { All (λ m. m.from ≡ 1) batch.now.waits }
+    ensures { OnOk result (out.new.items ≡ out.old.items
+        ++ flat_map line_text (job_words script.now (Job.Batch batch.now))) }
+{
+    push_name_line(out, b"submit", queue_name(script, batch.queue))?;
+    push_waits(alloc, out, script, batch.waits.as_slice())?;
+    push_commands(alloc, out, script, batch.commands.as_slice())?;
+    push_signals(alloc, out, script, batch.signals.as_slice())?;
+    push_fence(out, script, batch.fence)?;
+    out.extend_from_slice(b"end\n")
+}
+
+/// Adds the lines of batches.
+pub(crate) fn push_jobs(
+    alloc: Global,
+    out: &mut Vec<u8>,
+    script: &Script,
+    jobs: &[Job],
+) -> Result<(), AllocError>
+    requires written { jobs.now ≡ script.now.jobs }
+    requires hostless { HasNoHostStep script.now }
+    requires whole { HasWholeWaits script.now }
+    ensures { OnOk result (out.new.items ≡ out.old.items
+        ++ flat_map (λ j. flat_map line_text (job_words script.now j)) jobs.now) }
+{
+    for job in jobs {
+        let Job::Batch(batch) = job else {
+            unreachable!()
+        };
+        push_batch(alloc, out, script, batch)?;
+    }
+    Ok(())
+}

@@ -1,0 +1,10 @@
+//! The canonical text of a script.
+#![tactic(auto)]
+
+mod batches;
+mod commands;
+mod declarations;
+mod script;
+mod words;
+
+pub use script::print;
