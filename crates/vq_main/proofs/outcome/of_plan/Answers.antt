@@ -1,4 +1,4 @@
-use Rattle.std.proofs.Common.{subst, sym}
+use Rattle.std.proofs.Common.{subst, sym, inl, refl}
 use Rattle.std.proofs.lemmas.Result.{IfOk-weaker}
 use Rattle.vq_model.specs.declared.statement.Form.TheVariants.{Plain}
 use Rattle.vq_main.specs.declared.outcome.Outcome.{Outcome}
@@ -13,7 +13,14 @@ returns-in-Ok c =
     IfOk-weaker c.of_lawful.result _ _ (λ (o : Outcome) said. subst
     (λ s. IsOutcome c.args.task c.args.input.now s o.text.items) (sym said.0)
     (task_outcome _ _ _ _ c.requires.short c.requires.stands lowers (record {
-      of_script = record { text = c.args.input.now; form = Plain; stands = c.requires.stands };
+      of_script =
+          record {
+            text = c.args.input.now;
+            form = Plain;
+            turns = c.args.plan.script.turns;
+            stands = c.requires.stands;
+            kept_or_moved = inl refl;
+          };
       faultless = lowers.0;
       lowered = lowers.1;
     }) c.in-Ok.ensures.1 (subst (λ p. TaskText c.args.task p o.text.items) same said.1)))
