@@ -33,7 +33,7 @@ loop jobs =
       turns = [];
     }
 
-abbrev frames : Script
+abbrev pub frames : Script
 frames =
     loop (
     Batch (record { line = 17; queue = 0; waits = []; commands = record { line = 18; command = Update 0 0 (sixteen 1) } ∷ []; signals = record { line = 19; semaphore = 0; value = 1; from = 1 } ∷ []; fence = None })

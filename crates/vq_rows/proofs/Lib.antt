@@ -1,7 +1,9 @@
 mod CanonicalRows
+mod FrameOrder
 mod FrameRows
 mod HeldRows
 mod LimitRows
+mod OrderTests
 mod PlanRows
 mod QueueRows
 mod RefusedRows
