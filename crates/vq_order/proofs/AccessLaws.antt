@@ -6,7 +6,6 @@ use Rattle.std.specs.Option.{option_map_or, option_to_list}
 use Rattle.std.proofs.lemmas.Bool.{cases_eq}
 use Rattle.std.proofs.lemmas.Option.{slice_get-get_or}
 use Rattle.vq_model.specs.declared.script.Command.{Command}
-use Rattle.vq_model.specs.declared.script.Command.TheVariants.{Update, Copy}
 use Rattle.vq_model.specs.HappensBefore.{HappensBeforeCommand}
 use Rattle.vq_model.specs.LoweringFaults.{IsPlan}
 use Rattle.vq_model.specs.Plan.{Plan, command_at, commands_of, has}
@@ -17,7 +16,6 @@ use Rattle.vq_model.specs.WellFormed.{IsWellFormed}
 use Rattle.vq_order_laws.proofs.Cited.{command_order, job_order}
 use Rattle.vq_plan_laws.proofs.Cited.{plan_well_formed, plan_holds_no_wait}
 use Rattle.vq_order.specs.Accessed.{span_of, spans_share, accesses_conflict, access_in, IsAccess, AreAccesses, AreAllInOrder, HasNoRaceBelow, RaceBy}
-use Rattle.vq_order.proofs.CommandJobs.{size_small}
 use Rattle.vq_order.specs.declared.races.accesses.Access.{Access}
 use Rattle.vq_order.specs.declared.races.accesses.Span.{Span}
 
@@ -85,23 +83,6 @@ fits_command p w c j x h e =
     let q : Some f.0 ≡ Some x = sym f.1 ∙ e in
     let r : f.0 ≡ x = cc in
     subst (Fits p.sizes) r f.2
-
--- ends of ranges are small
-
-pub update_small : (p : Plan) → IsPlan p → (x : Command) → Fits p.sizes x → (b o : ℕ) (bytes : List ℕ) → x ≡ Update b o bytes → o + length bytes ≤ 1048576
-update_small p i x f b o bytes e =
-    let g = (subst (Fits p.sizes) e f).written.ends in
-    let s = size_small p i b in
-    omega arith
-
-pub copy_small : (p : Plan) → IsPlan p → (x : Command) → Fits p.sizes x → (s so t to n : ℕ) → x ≡ Copy s so t to n → (so + n ≤ 1048576) × (to + n ≤ 1048576)
-copy_small p i x f s so t to n e =
-    let g = subst (Fits p.sizes) e f in
-    let w = g.written.ends in
-    let r = g.read.ends in
-    let a = size_small p i s in
-    let b = size_small p i t in
-    ((omega arith), (omega arith))
 
 -- an access of the table
 pub access_at : (p : Plan) (accesses : List Access) → AreAccesses p accesses → (c : ℕ) → c < length accesses → IsAccess p c (access_in accesses c)

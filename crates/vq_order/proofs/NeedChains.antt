@@ -1,14 +1,11 @@
 -- The needs of a job are of chains that exist.
-use Rattle.std.proofs.Common.{◌≡◌, ℕ, ◌<◌, nat_lt, List, [], ◌∷◌, ◌++◌, length, filter, All, Some, false, get_or, sym, ap, ◌∙◌, subst, arith}
-use Rattle.std.specs.List.{slice_get, filter_map}
+use Rattle.std.proofs.Common.{◌≡◌, ℕ, ◌<◌, List, [], length, All, Some, get_or, sym, ap, ◌∙◌, subst, arith}
+use Rattle.std.specs.List.{slice_get}
 use Rattle.std.specs.Option.{option_map_or}
-use Rattle.std.proofs.lemmas.List.Elements.{filter-append, filter_map-append}
 use Rattle.vq_model.specs.declared.plan.Need.{Need}
 use Rattle.vq_model.specs.declared.plan.PlanJob.{PlanJob}
 use Rattle.vq_model.specs.Lanes.{KeepsSemaphores}
-use Rattle.vq_model.specs.Edges.{AtEnd, awaited_at}
-use Rattle.vq_model.specs.Plan.{Plan, needs, resolver, initial, waits_for_any}
-use Rattle.std.proofs.lemmas.Bool.{cond-false}
+use Rattle.vq_model.specs.Plan.{Plan, needs}
 
 -- a job's needs are of chains that exist
 pub need_chain : (p : Plan) → KeepsSemaphores p → (j : ℕ) (job : PlanJob) → slice_get p.jobs j ≡ Some job → (ns : List Need) → ns ≡ job.needs → (i : ℕ) (none : Need) → i < length ns → (get_or ns i none).chain < length p.chains

@@ -1,15 +1,16 @@
 //! The bytes that commands read and write.
-ghost use Rattle.std.specs.Prelude.{◌≡◌, ◌<◌, ℕ, true, false, length, IfOk, option_map};
+ghost use Rattle.std.specs.Prelude.{◌≡◌, ◌<◌, ◌+◌, ◌^◌, ℕ, true, false, length, IfOk, option_map};
 ghost use Rattle.std.specs.List.{slice_index_or};
 ghost use Rattle.std.specs.Option.{option_map_or};
 ghost use Rattle.vq_model.specs.LoweringFaults.{IsPlan};
 ghost use Rattle.vq_model.specs.Plan.{commands_of, has};
-ghost use Rattle.vq_model.specs.Ranges.{Fits, fill_size, read_range, written_range};
+ghost use Rattle.vq_model.specs.Ranges.{Fits, read_range, written_range};
 ghost use Rattle.vq_order.specs.Accessed.{accesses_conflict, span_of, spans_share, AreAccesses, HasOwners, IsAccess};
 ghost use Rattle.vq_order.specs.VectorClocks.{in_row};
 
 use std::alloc::{AllocError, Global};
-use vq_model::script::{Command, FillSize};
+use vq_model::ranges::Range;
+use vq_model::script::Command;
 use vq_spec::Plan;
 
 /// Bytes of one buffer, from `start` up to `end`.
@@ -60,13 +61,15 @@ fn buffer_size(plan: &Plan, buffer: u32) -> u32
     plan.script().buffers.as_slice()[buffer as usize].size
 }
 
-/// How many bytes a fill from `offset` on writes in a buffer of `len` bytes.
-fn fill_size(size: FillSize, offset: u32, len: u32) -> u32
-    ensures { result ≡ fill_size size offset len }
+/// A range by its ends.
+fn span_of(range: Range) -> Span
+    requires { range.start + range.size < 2 ^ 32 }
+    ensures { result ≡ span_of range }
 {
-    match size {
-        FillSize::Whole => len.saturating_sub(offset) / 4 * 4,
-        FillSize::Count(count) => count,
+    Span {
+        buffer: range.buffer,
+        start: range.start,
+        end: range.start + range.size as u32,
     }
 }
 
@@ -76,38 +79,8 @@ fn written_span(plan: &Plan, command: &Command) -> Span
     requires fits { Fits plan.now.sizes command.now }
     ensures { result ≡ span_of (written_range plan.now.sizes command.now) }
 {
-    match command {
-        Command::Fill {
-            buffer,
-            offset,
-            size,
-            word: _,
-        } => Span {
-            buffer: *buffer,
-            start: *offset,
-            end: *offset + fill_size(*size, *offset, buffer_size(plan, *buffer)),
-        },
-        Command::Update {
-            buffer,
-            offset,
-            bytes,
-        } => Span {
-            buffer: *buffer,
-            start: *offset,
-            end: *offset + bytes.as_slice().len() as u32,
-        },
-        Command::Copy {
-            source: _,
-            source_offset: _,
-            target,
-            target_offset,
-            size,
-        } => Span {
-            buffer: *target,
-            start: *target_offset,
-            end: *target_offset + *size,
-        },
-    }
+    let size = buffer_size(plan, command.target());
+    span_of(command.written(size as usize))
 }
 
 /// What a command reads.
@@ -116,20 +89,7 @@ fn read_span(plan: &Plan, command: &Command) -> Option<Span>
     requires fits { Fits plan.now.sizes command.now }
     ensures { result ≡ option_map span_of (read_range command.now) }
 {
-    match command {
-        Command::Copy {
-            source,
-            source_offset,
-            target: _,
-            target_offset: _,
-            size,
-        } => Some(Span {
-            buffer: *source,
-            start: *source_offset,
-            end: *source_offset + *size,
-        }),
-        _ => None,
-    }
+    Some(span_of(command.read()?))
 }
 
 /// What a command of this job reads and writes.

@@ -1,4 +1,4 @@
-use Rattle.std.proofs.Common.{◌≡◌, ◌+◌, Option, ap, ◌∙◌, sym, arith}
+use Rattle.std.proofs.Common.{◌≡◌, Option, ap, ◌∙◌, sym, arith}
 use Rattle.std.specs.Option.{option_map_or}
 use Rattle.vq_plan_laws.proofs.Cited.{plan_lanes}
 use Rattle.vq_model.specs.declared.plan.PlanJob.{PlanJob}

@@ -1,9 +1,15 @@
-use Rattle.std.proofs.Common.{arith}
-use Rattle.vq_order.proofs.AccessLaws.{copy_small}
+use Rattle.std.proofs.Common.{Option, IfSome, subst, sym, arith}
+use Rattle.vq_model.specs.declared.ranges.Range.{Range}
+use Rattle.vq_model.specs.Ranges.{IsWithin}
+use Rattle.vq_order.proofs.CommandJobs.{size_small}
 use Rattle.vq_order.proofs.races.accesses.read_span.Goals as goal
 
-pub overflow_add-result : goal.overflow_add-result
-overflow_add-result c =
-    let s = copy_small c.args.plan.now c.requires.plan c.args.command.now c.requires.fits c.in-Copy.source c.in-Copy.source_offset c.in-Copy.target c.in-Copy.target_offset c.in-Copy.size c.in-Copy.is in
-    let a = s.0 in
+pub span_of-requires : goal.span_of-requires
+span_of-requires c =
+    let p = c.args.plan.now in
+    let P : Option Range → Type 0 = λ o. IfSome o (IsWithin p.sizes) in
+    let within = subst P (sym c.read.ensures) c.requires.fits.read in
+    let here = subst P c.in_ok-read.was within in
+    let small = size_small p c.requires.plan c.in_ok-read.field-0.buffer in
+    let ends = here.ends in
     omega arith
