@@ -18,7 +18,8 @@ use Rattle.vq_order_laws.proofs.Cited.{signal_is, numbers_rise}
 use Rattle.vq_plan_laws.proofs.Cited.{plan_well_formed, plan_lines}
 use Rattle.vq_order.specs.Counts.{AreFirst}
 use Rattle.vq_order.specs.UnorderedLines.{op_in, IsNextOrNone}
-use Rattle.vq_order.proofs.SlowFacts.{place, at_place, place_within}
+use Rattle.vq_order.proofs.SlowFacts.{at_place, place_within}
+use Rattle.vq_model.proofs.Positions.{place}
 use Rattle.vq_order.proofs.UnorderedLaws.{get_at, order_at, op_here, op_of_chain}
 
 -- the kind of a semaphore by its test

@@ -1,9 +1,8 @@
 -- The clock of a job from those of the jobs that lead to it.
 use Rattle.std.proofs.Common.{◌≡◌, ℕ, zero, suc, ◌+◌, ◌<◌, ◌≤◌, max, true, false, eqb, if◌then◌else◌, List, [], ◌∷◌, ◌++◌, length, Some, refl, sym, ap, ◌∙◌, ◌⊎◌, inl, inr, subst, arith}
 use Rattle.std.specs.List.{filter_map}
-use Rattle.std.specs.Option.{option_to_list}
 use Rattle.std.proofs.lemmas.Bool.{false≢true, cases_eq}
-use Rattle.vq_model.specs.Plan.{Plan, has, previous, host_before, idle_after, job_of}
+use Rattle.vq_model.specs.Plan.{Plan, has, previous, job_of}
 use Rattle.vq_model.specs.Edges.{Stage, AtEnd, must_finish, awaited_at, edges_at}
 use Rattle.vq_model.specs.SlowRun.{left_over}
 use Rattle.vq_model.specs.HappensBefore.{comes_earlier, IsHop, HappensBefore, HappensBeforeAt, one, more}
@@ -15,11 +14,7 @@ use Rattle.vq_model.specs.Lanes.{lane_at, KeepsLanes, IsJustBefore}
 use Rattle.vq_order.specs.VectorClocks.{Covers, itself, IsClock, IsSureClock, PassesOne, SureByJob, IsSureBy}
 use Rattle.vq_order.proofs.SlowFacts.{must_earlier}
 use Rattle.vq_order.proofs.Covering.{joins, covers_same}
-
-pub previous_first : (p : Plan) (k j : ℕ) → previous p j ≡ Some k → has (must_finish p j) k ≡ true
-previous_first p k j e =
-    has-append_left (option_to_list (previous p j) ++ option_to_list (host_before p j)) (idle_after p j) k
-    (has-append_left (option_to_list (previous p j)) (option_to_list (host_before p j)) k (ap (λ o. has (option_to_list o) k) e ∙ has_here k []))
+use Rattle.vq_spec.proofs.Cited.{previous_first}
 
 has_last : (xs : List ℕ) (x : ℕ) → has (xs ++ x ∷ []) x ≡ true
 has_last xs x = has-append_right xs (x ∷ []) x (has_here x [])

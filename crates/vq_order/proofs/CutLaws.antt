@@ -15,7 +15,8 @@ use Rattle.vq_order.specs.Accessed.{spans_share}
 use Rattle.vq_order.specs.CellRanges.{start_of, starts_of, AreCuts, IsCellOf}
 use Rattle.vq_order.specs.declared.races.accesses.Access.{Access}
 use Rattle.vq_order.specs.declared.races.accesses.Span.{Span}
-use Rattle.vq_order.proofs.SlowFacts.{place, place_within, at_place}
+use Rattle.vq_order.proofs.SlowFacts.{place_within, at_place}
+use Rattle.vq_model.proofs.Positions.{place}
 
 started : (accesses : List Access) (c : ℕ) (a : Access) (x : ℕ) → slice_get accesses c ≡ Some a → has (starts_of a) x ≡ true → has (flat_map starts_of accesses) x ≡ true
 started [] c a x e h = absurd (let q : None ≡ Some a = e in cc)

@@ -2,7 +2,7 @@
 use Rattle.std.proofs.Common.{◌≡◌, ℕ, zero, suc, ◌+◌, ◌-◌, ◌<◌, ◌≤◌, true, ltb, List, [], ◌∷◌, ◌++◌, length, take, replicate, get_or, IsTrue, ◌↔◌, Option, Some, None, refl, sym, ap, ◌∙◌, ◌⊎◌, inl, inr, subst, arith}
 use Rattle.std.specs.List.{slice_get, filter_map}
 use Rattle.std.proofs.Common.{add-one}
-use Rattle.std.proofs.Math.Seq.{take-append_seam, take-suc, get_or-append_seam}
+use Rattle.std.proofs.Math.Seq.{take-suc, get_or-append_seam}
 use Rattle.std.proofs.Math.ListN.{get_or-append, set}
 use Rattle.std.proofs.lemmas.List.{get_or-replicate, get_or_past, length-replicate, length-append, take_all, get_or-set_same, get_or-set_other}
 use Rattle.std.proofs.lemmas.Bool.{lt-ltb, ltb-true, cases_lt, cases_eq, false≢true}
@@ -16,15 +16,10 @@ use Rattle.vq_model.proofs.Lists.{has-append_cases, has_here, has_there, has_cas
 use Rattle.vq_model.proofs.Mapped.{mapped}
 use Rattle.vq_model.specs.Lanes.{lane_at, KeepsLanes}
 use Rattle.vq_order.specs.VectorClocks.{HasClocks, HasSureClocks, Covers, in_row, row_of, position, lanes, HasRows, HasPositions, IsComplete, SureByJob, IsSureBy, EndsOps}
-use Rattle.vq_order.proofs.SlowFacts.{place_at, place_within, at_place, has_at, slow_exists, slow_short, must_earlier}
+use Rattle.vq_order.proofs.SlowFacts.{place_at, place_within, at_place, slow_exists, slow_short, must_earlier}
+use Rattle.vq_spec.proofs.Cited.{has_at}
 use Rattle.vq_order_laws.proofs.Cited.{slow_distinct, slow_has}
-use Rattle.vq_model.proofs.Gets.{slice_get_past}
-use Rattle.std.specs.Option.{option_map}
 use Rattle.vq_order.proofs.Covering.{covers_same}
-
--- what is written back into a vector whole
-pub whole_new : {X : Type 0} (n : ℕ) (new rest : List X) → length new ≡ n → take n (new ++ rest) ≡ new
-whole_new n new rest e = subst (λ k. take k (new ++ rest) ≡ new) e (take-append_seam new rest)
 
 pub in_zeros : (n l : ℕ) → in_row (replicate n 0) l ≡ 0
 in_zeros n l = elim (cases_lt l n) [ inl h ↦ get_or-replicate n l 0 0 h | inr h ↦ get_or_past (replicate n 0) l 0 (let e = length-replicate {A = ℕ} n 0 in omega arith) ]
@@ -114,15 +109,6 @@ get_has : (xs : List ℕ) (n x : ℕ) → slice_get xs n ≡ Some x → has xs x
 get_has [] n x e = cc
 get_has (y ∷ xs) zero x e = let s : Some y ≡ Some x = e in let t : y ≡ x = cc in subst (λ z. has (y ∷ xs) z ≡ true) t (has_here y xs)
 get_has (y ∷ xs) (suc n) x e = has_there y xs x (get_has xs n x e)
-
-pub op_exists : (p : Plan) (e i : ℕ) → job_of p e ≡ Some i → e < length p.ops
-op_exists p e i o = elim (cases_lt e (length p.ops)) [
-  | inl l ↦ l
-  | inr g ↦ (let n : job_of p e ≡ None = ap (option_map (λ x. x.job)) (slice_get_past p.ops e g) in absurd (none_some i (sym n ∙ o)))
-]
-  where
-    none_some : (k : ℕ) → None ≡ Some k → ⊥
-    none_some k h = cc
 
 pub last_of_job : (p : Plan) → IsWellFormed p → (j x : ℕ) (xs : List ℕ) → signals_of p j ≡ xs → slice_get xs (length xs - 1) ≡ Some x → job_of p x ≡ Some j
 last_of_job p w j x xs s e = w.of_job x j (subst (λ (ys : List ℕ). has ys x ≡ true) (sym s) (get_has xs (length xs - 1) x e))

@@ -1,41 +1,19 @@
 -- In the slow run what must be finished before a job stands earlier.
-use Rattle.std.proofs.Common.{◌≡◌, ℕ, zero, suc, ◌+◌, ◌<◌, ◌≤◌, Bool, true, false, not, ◌&&◌, ◌||◌, eqb, List, [], ◌∷◌, ◌++◌, length, get_or, find, Option, Some, None, refl, sym, ap, ◌∙◌, ◌⊎◌, inl, inr, subst, arith}
-use Rattle.std.specs.List.{list_all, range_with_len, position_or_len}
+use Rattle.std.proofs.Common.{◌≡◌, ℕ, zero, suc, ◌+◌, ◌<◌, ◌≤◌, Bool, true, false, not, ◌&&◌, ◌||◌, eqb, List, [], ◌∷◌, ◌++◌, length, get_or, Option, Some, None, refl, sym, ap, ◌∙◌, ◌⊎◌, inl, inr, subst, arith}
+use Rattle.std.specs.List.{list_all, range_with_len}
 use Rattle.std.specs.Option.{option_map_or}
-use Rattle.std.proofs.lemmas.Bool.{and_parts, false≢true, not-true, eqb-true, cond-true, cond-false, lt-ltb, cases_lt, ne_eqb, eq-eqb, or_parts}
+use Rattle.std.proofs.lemmas.Bool.{and_parts, false≢true, not-true, eqb-true, cond-false, lt-ltb, cases_lt, ne_eqb}
 use Rattle.std.proofs.lemmas.List.{length-append}
 use Rattle.vq_model.specs.Plan.{Plan, has}
 use Rattle.vq_model.specs.Edges.{AtEnd, must_finish}
 use Rattle.vq_model.specs.Machine.{can_start, are_reached}
 use Rattle.vq_model.specs.SlowRun.{is_ready, payload_after, lowest_ready, slow_from, slow_order, left_over}
 use Rattle.vq_model.specs.HappensBefore.{comes_earlier}
-use Rattle.vq_model.proofs.Lists.{AreDistinct, has-append_cases, has_here, has_there, has_cases, list_all_has}
-use Rattle.vq_model.proofs.Searches.{find_passes}
+use Rattle.vq_model.proofs.Lists.{AreDistinct, has-append_cases, has_cases, list_all_has}
+use Rattle.vq_model.proofs.Searches.{find_passes, find_member}
 use Rattle.vq_order_laws.proofs.Cited.{slow_has}
-
--- where a number stands in a list
-abbrev pub place : List ℕ → ℕ → ℕ
-place xs x = position_or_len (λ k. eqb k x) xs
-
-place_head : (x : ℕ) (xs : List ℕ) → place (x ∷ xs) x ≡ 0
-place_head x xs = cond-false (not (eqb x x)) (1 + place xs x) 0 (ap not (eq-eqb x x refl))
-
-place_tail : (y : ℕ) (xs : List ℕ) (x : ℕ) → eqb y x ≡ false → place (y ∷ xs) x ≡ 1 + place xs x
-place_tail y xs x e = cond-true (not (eqb y x)) (1 + place xs x) 0 (ap not e)
-
-place-append : (front back : List ℕ) (x : ℕ) → has front x ≡ false → place (front ++ back) x ≡ length front + place back x
-place-append [] back x h = omega arith
-place-append (y ∷ front) back x h =
-    let parts = or_parts (eqb y x) (has front x) h in
-    let rest = place-append front back x parts.1 in
-    let here = place_tail y (front ++ back) x parts.0 in
-    omega arith
-
--- an element stands in the list
-pub has_at : (xs : List ℕ) (i : ℕ) → i < length xs → has xs (get_or xs i 0) ≡ true
-has_at [] i h = absurd (omega arith)
-has_at (x ∷ xs) zero h = has_here x xs
-has_at (x ∷ xs) (suc i) h = has_there x xs (get_or xs i 0) (has_at xs i (omega arith))
+use Rattle.vq_model.proofs.Positions.{place, place_head, place_tail, place-append}
+use Rattle.vq_spec.proofs.Cited.{has_at}
 
 -- where an element of the front stands
 pub place_front : (front back : List ℕ) (x : ℕ) → has front x ≡ true → (place (front ++ back) x ≡ place front x) × (place front x < length front)
@@ -138,17 +116,6 @@ at_place (y ∷ xs) x l = by_test (eqb y x) refl (at_place xs x)
 pub place_within : (xs : List ℕ) (x : ℕ) → has xs x ≡ true → place xs x < length xs
 place_within xs x h = (place_front xs [] x h).1
 
-pub find_has : (test : ℕ → Bool) (xs : List ℕ) (r : ℕ) → find test xs ≡ Some r → has xs r ≡ true
-find_has test [] r h = cc
-find_has test (y ∷ xs) r h = by_test (test y) refl (find_has test xs r)
-  where
-    by_test : (b : Bool) → test y ≡ b → (find test xs ≡ Some r → has xs r ≡ true) → has (y ∷ xs) r ≡ true
-    by_test true e f =
-        let h' : Some y ≡ Some r = sym (cond-true (test y) (Some y) (find test xs) e) ∙ h in
-        let i : y ≡ r = cc in
-        subst (λ z. has (y ∷ xs) z ≡ true) i (has_here y xs)
-    by_test false e f = has_there y xs r (f (sym (cond-false (test y) (Some y) (find test xs) e) ∙ h))
-
 pub in_range_list : (n a x : ℕ) → has (range_with_len a n) x ≡ true → x < a + n
 in_range_list zero a x h = absurd (false≢true h)
 in_range_list (suc n) a x h = elim (has_cases a (range_with_len (a + 1) n) x h) [ inl e ↦ (omega arith) | inr m ↦ (let l = in_range_list n (a + 1) x m in omega arith) ]
@@ -161,7 +128,7 @@ module _ (p : Plan) where
       by_case : (o : Option ℕ) → lowest_ready p done ≡ o → ((more : List ℕ) → ((j : ℕ) → has more j ≡ true → j < length p.jobs) → (j : ℕ) → has (slow_from n p more) j ≡ true → j < length p.jobs) → (j : ℕ) → has (option_map_or (λ i. slow_from n p (done ++ i ∷ [])) o done) j ≡ true → j < length p.jobs
       by_case None e f = k
       by_case (Some i) e f =
-          let m = find_has (is_ready p done) (range_with_len 0 (length p.jobs)) i e in
+          let m = find_member (is_ready p done) (range_with_len 0 (length p.jobs)) i e in
           let l = in_range_list (length p.jobs) 0 i m in
           f (done ++ i ∷ []) (λ j h. elim (has-append_cases done (i ∷ []) j h) [
             | inl a ↦ k j a

@@ -8,7 +8,7 @@ use Rattle.vq_order.specs.declared.races.cells.Cell.{Cell}
 use Rattle.vq_order.specs.Swept.{AtOrBefore, Visit, Touched, ByWriter, ByReader, KeepsCell, HasJobs, IsAfterSome, IsAfterAll, KeepsLater}
 use Rattle.vq_order.proofs.Marking.{taken_cases}
 use Rattle.vq_order.proofs.WindowLaws.{before_then}
-use Rattle.vq_order.proofs.SlowFacts.{has_at}
+use Rattle.vq_spec.proofs.Cited.{has_at}
 
 module _ (p : Plan) where
   pub then_before : (h i j : ℕ) → AtOrBefore p h i → AtOrBefore p i j → AtOrBefore p h j

@@ -14,7 +14,9 @@ use Rattle.vq_model.proofs.Options.{some_of}
 use Rattle.vq_order.specs.LeastLines.{IsOfFirst}
 use Rattle.vq_order.specs.UnorderedLines.{IsTooLow, IsUnsureFor, AreUnordered, op_in, IsUnorderedAt, IsUnorderedIn, IsOvertakenIn}
 use Rattle.vq_order.proofs.LineSearches.{Either}
-use Rattle.vq_order.proofs.SlowFacts.{place, has_at, at_place, place_within}
+use Rattle.vq_order.proofs.SlowFacts.{at_place, place_within}
+use Rattle.vq_model.proofs.Positions.{place}
+use Rattle.vq_spec.proofs.Cited.{has_at}
 
 -- Lists
 

@@ -17,11 +17,12 @@ use Rattle.vq_model.proofs.Gets.{get_within}
 use Rattle.vq_model.proofs.Numbers.{has-range_cases}
 use Rattle.vq_order_laws.proofs.Cited.{left_unreachable}
 use Rattle.vq_spec.specs.SlowProgress.{payload_in, ArePayloads}
-use Rattle.vq_spec.proofs.Cited.{same_any, own_needs, chains_exist}
+use Rattle.vq_spec.proofs.Cited.{same_any, own_needs, chains_exist, has_at}
 use Rattle.vq_order.specs.declared.lines.Lines.{Lines}
 use Rattle.vq_order.specs.LeastLines.{AreLeastOrNone, IsOfFirst}
 use Rattle.vq_order.specs.Unreached.{IsUnreachedAt, IsUnreachedIn}
-use Rattle.vq_order.proofs.SlowFacts.{place, has_at, at_place, place_within}
+use Rattle.vq_order.proofs.SlowFacts.{at_place, place_within}
+use Rattle.vq_model.proofs.Positions.{place}
 
 to_unreachable : (p : Plan) (a b : ℕ) → IsOfFirst (IsUnreachedAt p) (length (left_over p)) a b → IsUnreachableAt p a × (a ≡ b)
 to_unreachable p a b x =

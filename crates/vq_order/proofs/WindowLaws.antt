@@ -14,7 +14,9 @@ use Rattle.vq_model.specs.Windows.{IsSurelyReached, at_first, sure, IsPossiblyRe
 use Rattle.vq_model.proofs.Lists.{has-append_left, has-append_right, has_here, has_there}
 use Rattle.vq_model.proofs.Mapped.{has_mapped}
 use Rattle.vq_order.specs.Counts.{AreFirst, MayBeMade, value_after}
-use Rattle.vq_order.proofs.SlowFacts.{place, has_at, at_place, place_within}
+use Rattle.vq_order.proofs.SlowFacts.{at_place, place_within}
+use Rattle.vq_model.proofs.Positions.{place}
+use Rattle.vq_spec.proofs.Cited.{has_at}
 
 module _ (p : Plan) where
   first_hop : (i j : ℕ) (k : Stage) → has (must_finish p j) i ≡ true → comes_earlier p i j ≡ true → IsHop p i j k

@@ -12,7 +12,7 @@ use Rattle.vq_model.specs.Signals.{Signaling, all_signals, signals_semaphore, va
 use Rattle.vq_model.specs.WellFormed.{AreInOrder}
 use Rattle.vq_model.proofs.Lists.{has_cases}
 use Rattle.vq_model.proofs.Gets.{get-map, get-enumerate, get-range, get-append}
-use Rattle.vq_plan_laws.proofs.Cited.{well_formed}
+use Rattle.vq_plan_laws.proofs.Cited.{well_formed, op_value_is}
 use Rattle.vq_reading_laws.proofs.Cited.{read_valid}
 use Rattle.vq_spec.specs.declared.chains.Chain.{Chain}
 use Rattle.vq_spec.specs.Counts.{unplaced}
@@ -40,15 +40,6 @@ no_value s earlier [] e h = refl
 no_value s earlier (x ∷ xs) zero h = absurd (let c : Some x ≡ None = h in cc)
 no_value s earlier (x ∷ xs) (suc e) h = no_value s (earlier ++ x ∷ []) xs e h
 
-pub op_value : (s : Script) (e : ℕ) → value (plan_of s) e ≡ value_at s e
-op_value s e =
-    ap (λ o. option_map_or (λ x. x.value) o 0) (op_is s e) ∙ by_op (slice_get (all_signals s) e) refl
-  where
-    by_op : (o : Option Signaling) → slice_get (all_signals s) e ≡ o →
-        option_map_or (λ x. x.value) (option_map (λ x. op_at s (e, x)) o) 0 ≡ value_at s e
-    by_op None h = sym (ap (λ o. option_map_or (λ v. v) o 0) (no_value s [] (all_signals s) e h))
-    by_op (Some x) h = refl
-
 pub chain_is : (s : Script) (t : ℕ) → t < length s.semaphores →
     slice_get (plan_of s).chains t ≡ Some (chain_ops s t)
 chain_is s t l =
@@ -71,9 +62,9 @@ AreStrict s (e ∷ es) =
 strict_from : (s : Script) (es : List ℕ) → AreInOrder (plan_of s) es → AreStrict s es
 strict_from s [] h = tt
 strict_from s (e ∷ es) h = (
-  λ f m. subst (λ (v : ℕ). (v < value_at s f) ⊎ ((v ≡ value_at s f) × (e < f))) (op_value s e)
+  λ f m. subst (λ (v : ℕ). (v < value_at s f) ⊎ ((v ≡ value_at s f) × (e < f))) (op_value_is s e)
       (subst (λ (v : ℕ). (value (plan_of s) e < v) ⊎ ((value (plan_of s) e ≡ v) × (e < f)))
-      (op_value s f) (h.0 f m)),
+      (op_value_is s f) (h.0 f m)),
   strict_from s es h.1,
 )
 

@@ -1,3 +1,4 @@
 -- What other crates may cite of this one. All other files of proofs are private to it.
-pub use Rattle.vq_spec.proofs.SlowHeads.{has_at}
+pub use Rattle.vq_spec.proofs.SlowHeads.{has_at, previous_first}
 pub use Rattle.vq_spec.proofs.SlowReady.{chains_exist, own_needs, same_any}
+pub use Rattle.vq_spec.proofs.SlowSteps.{op_exists, whole_new}

@@ -2,13 +2,13 @@
 use Rattle.std.proofs.Common.{◌≡◌, ℕ, ◌<◌, ◌≤◌, ◌^◌, length, map, get_or, zero-add, Some, None, refl, ap, ◌∙◌, arith}
 use Rattle.std.specs.List.{enumerate_from, range_with_len, flat_map}
 use Rattle.std.proofs.lemmas.List.{length-map}
-use Rattle.std.proofs.lemmas.List.FromFn.{length-enumerate_from, length-map-range_with_len, get_or-map-range_with_len}
+use Rattle.std.proofs.lemmas.List.FromFn.{length-map-range_with_len, get_or-map-range_with_len}
 use Rattle.vq_model.specs.declared.script.Script.{Script}
 use Rattle.vq_model.specs.Lowering.{plan_of, plan_job}
 use Rattle.vq_model.specs.LoweringFaults.{lowering_fault, IsPlan}
 use Rattle.vq_model.specs.Plan.{Plan}
 use Rattle.vq_model.specs.SameScript.{IsRead}
-use Rattle.vq_model.specs.Signals.{job_signals, all_signals, chain_ops, op_at}
+use Rattle.vq_model.specs.Signals.{job_signals, all_signals, chain_ops}
 use Rattle.vq_reading_laws.proofs.Cited.{read_valid}
 use Rattle.vq_spec.specs.declared.edges.JobWaits.{JobWaits}
 use Rattle.vq_spec.specs.declared.lowering.Lowered.{Lowered}
@@ -22,6 +22,7 @@ use Rattle.vq_spec.proofs.Lowered.{few_jobs, few_commands, plan_length}
 use Rattle.vq_spec.proofs.PlanChains.{unplaced_ops}
 use Rattle.vq_spec.proofs.Ranges.{take_all}
 use Rattle.vq_spec.proofs.SignalOrder.{few_signals}
+use Rattle.vq_plan_laws.proofs.Cited.{count_ops}
 
 -- Where all jobs are lowered
 
@@ -45,10 +46,6 @@ module _ (s : Script) (x : Lowered) (k : AreLowered s (length s.jobs) x) where
 
 -- Tables
 
-op_count : (s : Script) → length (plan_of s).ops ≡ length (all_signals s)
-op_count s = length-map (enumerate_from 0 (all_signals s)) (op_at s)
-    ∙ length-enumerate_from 0 (all_signals s)
-
 pub chain_count : (s : Script) → length (plan_of s).chains ≡ length s.semaphores
 chain_count s = length-map-range_with_len (chain_ops s) 0 (length s.semaphores)
 
@@ -71,7 +68,7 @@ kept s i none t jobs waits places ops chains =
     let one = length-map t.places.items (command_there s.jobs) in
     let two = length-map (plan_of s).commands Some in
     let all_ops = ap length ops in
-    let ops_counted = op_count s in
+    let ops_counted = count_ops s in
     let all_chains = chains.number in
     record {
       script = i;

@@ -8,7 +8,7 @@ use Rattle.std.proofs.lemmas.List.FromFn.{length-enumerate_from}
 use Rattle.std.proofs.lemmas.Grind.{flat_map-append}
 use Rattle.vq_model.specs.declared.script.Script.{Script}
 use Rattle.vq_model.specs.declared.script.Job.{Job}
-use Rattle.vq_model.specs.declared.script.Job.TheVariants.{Host, Batch as BatchJob}
+use Rattle.vq_model.specs.declared.script.Job.TheVariants.{Host}
 use Rattle.vq_model.specs.declared.script.HostLine.{HostLine}
 use Rattle.vq_model.specs.Lowering.{batch_commands, commands_in, plan_of, plan_job}
 use Rattle.vq_model.specs.SameScript.{IsRead}

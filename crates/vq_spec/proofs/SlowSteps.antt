@@ -1,7 +1,7 @@
 -- One more job is done: marks, heads and payloads follow.
 use Rattle.std.proofs.Common.{◌≡◌, ◌≢◌, ℕ, zero, suc, ◌+◌, ◌<◌, ◌≤◌, max, Bool, true, false, eqb, List, [], ◌∷◌, ◌++◌, length, get_or, replicate, take, filter, fold, map, Option, Some, None, option_map, refl, sym, ap, ◌∙◌, ◌⊎◌, inl, inr, subst, arith}
 use Rattle.std.proofs.Math.ListN.{set, get_or-append}
-use Rattle.std.specs.List.{range_with_len, slice_get}
+use Rattle.std.specs.List.{range_with_len}
 use Rattle.std.specs.Option.{option_map_or}
 use Rattle.std.proofs.lemmas.List.{get_or-set_same, get_or-set_other, length-set, length-append, length-replicate, get_or-replicate}
 use Rattle.std.proofs.Math.Seq.{get_or-append_seam, take-append_seam}
@@ -17,6 +17,7 @@ use Rattle.vq_model.proofs.Numbers.{has-range_cases}
 use Rattle.vq_model.proofs.Searches.{find_member}
 use Rattle.vq_spec.specs.SlowProgress.{IsClosed, IsHead, AreHeads, AreMarks, ArePayloads, IsPayloadOf, with_some, PayloadsWith, IsProgress}
 use Rattle.vq_spec.proofs.SlowHeads.{ready_first, lane_done, payload_is, one_payload}
+use Rattle.vq_model.proofs.Gets.{slice_get_past}
 
 same_tests : (a b : Bool) → (a ≡ true → b ≡ true) → (b ≡ true → a ≡ true) → a ≡ b
 same_tests true b f g = sym (f refl)
@@ -250,15 +251,10 @@ starts p marks payloads heads e n h =
       heads_right = h;
     }
 
-get_past : {X : Type 0} (xs : List X) (i : ℕ) → length xs ≤ i → slice_get xs i ≡ None
-get_past [] i l = refl
-get_past (x ∷ xs) zero l = absurd (omega arith)
-get_past (x ∷ xs) (suc i) l = get_past xs i (omega arith)
-
 pub op_exists : (p : Plan) (e i : ℕ) → job_of p e ≡ Some i → e < length p.ops
 op_exists p e i o = elim (cases_lt e (length p.ops)) [
   | inl l ↦ l
-  | inr g ↦ (let n : job_of p e ≡ None = ap (option_map (λ x. x.job)) (get_past p.ops e g) in absurd (none_some i (sym n ∙ o)))
+  | inr g ↦ (let n : job_of p e ≡ None = ap (option_map (λ x. x.job)) (slice_get_past p.ops e g) in absurd (none_some i (sym n ∙ o)))
 ]
   where
     none_some : (k : ℕ) → None ≡ Some k → ⊥

@@ -5,7 +5,7 @@ use Rattle.vq_order.specs.declared.lines.Lines.{Lines}
 use Rattle.vq_order.specs.LeastLines.{AreLeastOrNone, IsOfFirst}
 use Rattle.vq_order.specs.Unreached.{IsUnreachedAt, IsUnreachedIn}
 use Rattle.vq_order.proofs.LineSearches.{first_more, all_first}
-use Rattle.vq_order.proofs.SlowFacts.{has_at}
+use Rattle.vq_spec.proofs.Cited.{has_at}
 use Rattle.vq_order.proofs.UnreachedLaws.{left_exists, least_line, no_line}
 use Rattle.vq_order.proofs.unreachable.least_unreached.Goals as goal
 

@@ -9,7 +9,7 @@ use Rattle.vq_model.specs.Lanes.{lane_at}
 use Rattle.vq_order.specs.VectorClocks.{Covers, itself, PassesOne, in_row}
 use Rattle.vq_order.proofs.ClockLaws.{clock_end}
 use Rattle.vq_order.proofs.RowLaws.{edge_exists, zeros_cover}
-use Rattle.vq_order.proofs.SlowFacts.{has_at}
+use Rattle.vq_spec.proofs.Cited.{has_at}
 use Rattle.vq_order.proofs.clocks.before.before_row.Goals as goal
 
 pub loop-edge-init : goal.loop-edge-init

@@ -8,7 +8,7 @@ use Rattle.vq_model.specs.Plan.{Plan, has, job_of}
 use Rattle.vq_model.specs.Lanes.{lane_at}
 use Rattle.vq_order.specs.VectorClocks.{Covers, SureByJob, IsSureBy, in_row}
 use Rattle.vq_order.proofs.ClockLaws.{sure_end}
-use Rattle.vq_order.proofs.SlowFacts.{has_at}
+use Rattle.vq_spec.proofs.Cited.{has_at}
 use Rattle.vq_order.proofs.RowLaws.{zeros_cover, sure_middle}
 use Rattle.vq_order.proofs.clocks.sure.sure_row.Goals as goal
 

@@ -4,7 +4,7 @@ use Rattle.vq_model.specs.Plan.{has, commands_of}
 use Rattle.vq_plan_laws.proofs.Cited.{plan_well_formed}
 use Rattle.vq_order.proofs.CommandJobs.{owned_exists}
 use Rattle.vq_order.proofs.Marking.{marked_own, marked_others}
-use Rattle.vq_order.proofs.SlowFacts.{has_at}
+use Rattle.vq_spec.proofs.Cited.{has_at}
 use Rattle.vq_order.proofs.races.accesses.claim.Goals as goal
 
 pub bounds-owners-c : goal.bounds-owners-c

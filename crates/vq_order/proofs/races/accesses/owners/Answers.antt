@@ -4,8 +4,8 @@ use Rattle.vq_model.specs.Plan.{has, commands_of}
 use Rattle.vq_order.specs.VectorClocks.{in_row}
 use Rattle.vq_order.proofs.CommandJobs.{command_has_job, owner_exists}
 use Rattle.vq_plan_laws.proofs.Cited.{plan_well_formed}
-use Rattle.vq_order.proofs.RowLaws.{whole_new}
 use Rattle.vq_order.proofs.races.accesses.owners.Goals as goal
+use Rattle.vq_spec.proofs.Cited.{whole_new}
 
 pub loop-j-preserved : goal.loop-j-preserved
 loop-j-preserved c =

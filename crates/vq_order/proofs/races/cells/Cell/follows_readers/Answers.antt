@@ -1,6 +1,6 @@
 use Rattle.std.proofs.Common.{◌≡◌, ℕ, List, get_or, true, subst}
 use Rattle.vq_model.specs.Plan.{has}
-use Rattle.vq_order.proofs.SlowFacts.{has_at}
+use Rattle.vq_spec.proofs.Cited.{has_at}
 use Rattle.vq_order.proofs.races.cells.Cell.follows_readers.Goals as goal
 
 pub is_at_or_before-requires-clause-first : goal.is_at_or_before-requires-clause-first

@@ -2,7 +2,7 @@ use Rattle.std.proofs.Common.{◌≡◌, ◌++◌, ◌∷◌, ◌+◌, ◌⊎◌
 use Rattle.std.proofs.lemmas.List.{take_all}
 use Rattle.vq_model.specs.Plan.{has}
 use Rattle.vq_order.specs.Swept.{AtOrBefore, KeepsLater}
-use Rattle.vq_order.proofs.SlowFacts.{has_at}
+use Rattle.vq_spec.proofs.Cited.{has_at}
 use Rattle.vq_order.proofs.SweepLaws.{Others, Only, keep_one, skip_one, kept_at_last}
 use Rattle.vq_order.proofs.races.cells.Cell.with_reader.Goals.{then-not-is_at_or_before+in_ok-push, else-not-is_at_or_before}
 use Rattle.vq_order.proofs.races.cells.Cell.with_reader.Goals as goal
