@@ -43,7 +43,8 @@ fn at(line: u32, kind: FaultKind) -> Result<(), ScriptFault> {
 #[test]
 fn declarations_and_marks(rt: HostRuntime) {
     let lines =
-        "buffer X 8 # bytes / timeline T 0x5 / binary S / fence F / queue I immediate /  / queue Q threaded \r / submit Q / wait T 7 / wait S / signal T 9 / signal S / fence F / end / submit I / end";
+        "buffer X 8 # bytes / timeline T 0x5 / binary S / fence F / queue I immediate /  / queue Q threaded \r / \
+         submit Q / wait T 7 / wait S / signal T 9 / signal S / fence F / end / submit I / end";
     let script = script_of(rt.alloc(), lines).expect(&rt, "the text has no fault");
     let (
         [buffer],
@@ -92,7 +93,8 @@ fn declarations_and_marks(rt: HostRuntime) {
 #[test]
 fn commands(rt: HostRuntime) {
     let lines =
-        "buffer X 16 / buffer Y 8 / queue Q immediate / submit Q / fill Y 4 whole 7 / fill X 0 8 0xFF / update X 8 01fFA0b1 / copy X 3 Y 2 5 / end";
+        "buffer X 16 / buffer Y 8 / queue Q immediate / submit Q / fill Y 4 whole 7 / fill X 0 8 0xFF / \
+         update X 8 01fFA0b1 / copy X 3 Y 2 5 / end";
     let script = script_of(rt.alloc(), lines).expect(&rt, "the text has no fault");
     let [Job::Batch(batch)] = script.jobs.as_slice() else {
         panic!(rt; "one batch is wanted");
@@ -245,12 +247,18 @@ fn canonical_texts(rt: HostRuntime) {
         ("", ""),
         (" buffer  X 0x10 # note\n", "buffer X 16\n"),
         (
-            "queue Q immediate\r\n\nbuffer Y 0x0007\nbuffer X 16\nsubmit Q\nfill Y 04 whole 0xABC\nupdate X 0 0aFF00b1 #\nend\nsubmit Q\ncopy X 1 Y 0x0 3\nfill X 0 4 4294967295\nend",
-            "buffer Y 7\nbuffer X 16\nqueue Q immediate\nsubmit Q\nfill Y 4 whole 0x00000abc\nupdate X 0 0aff00b1\nend\nsubmit Q\ncopy X 1 Y 0 3\nfill X 0 4 0xffffffff\nend\n",
+            "queue Q immediate\r\n\nbuffer Y 0x0007\nbuffer X 16\nsubmit Q\nfill Y 04 whole 0xABC\n\
+             update X 0 0aFF00b1 #\nend\nsubmit Q\ncopy X 1 Y 0x0 3\nfill X 0 4 4294967295\nend",
+            "buffer Y 7\nbuffer X 16\nqueue Q immediate\nsubmit Q\nfill Y 4 whole 0x00000abc\nupdate X 0 0aff00b1\n\
+             end\nsubmit Q\ncopy X 1 Y 0 3\nfill X 0 4 0xffffffff\nend\n",
         ),
         (
-            "queue Q  threaded\nfence F # done\nbuffer X 8\ntimeline T 0x5\nbinary S\nqueue I immediate\nsubmit Q\nwait T 07\nwait S\nfill X 0 8 1\nsignal T 0x9\nsignal S\nfence F\nend\nsubmit I\nsignal T 18446744073709551615\nend",
-            "buffer X 8\nfence F\ntimeline T 5\nbinary S\nqueue Q threaded\nqueue I immediate\nsubmit Q\nwait T 7\nwait S\nfill X 0 8 0x00000001\nsignal T 9\nsignal S\nfence F\nend\nsubmit I\nsignal T 18446744073709551615\nend\n",
+            "queue Q  threaded\nfence F # done\nbuffer X 8\ntimeline T 0x5\nbinary S\nqueue I immediate\nsubmit Q\n\
+             wait T 07\nwait S\nfill X 0 8 1\nsignal T 0x9\nsignal S\nfence F\nend\nsubmit I\n\
+             signal T 18446744073709551615\nend",
+            "buffer X 8\nfence F\ntimeline T 5\nbinary S\nqueue Q threaded\nqueue I immediate\nsubmit Q\nwait T 7\n\
+             wait S\nfill X 0 8 0x00000001\nsignal T 9\nsignal S\nfence F\nend\nsubmit I\n\
+             signal T 18446744073709551615\nend\n",
         ),
     ];
     for (text, canonical) in texts {

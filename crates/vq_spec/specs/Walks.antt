@@ -47,7 +47,8 @@ abbrev pub and_then : {A : Type 0} → Result A PlanFault → (A → Result A Pl
 and_then (Ok x) f = f x
 and_then (Err fault) f = Err fault
 
-abbrev pub walk_marks : Script → List (Option Usage) → Usage → List Mark → Result (List (Option Usage)) PlanFault
+abbrev pub walk_marks : Script → List (Option Usage) → Usage → List Mark →
+    Result (List (Option Usage)) PlanFault
 walk_marks s last usage [] = Ok last
 walk_marks s last usage (m ∷ ms) =
     and_then (walk_mark s last usage m) (λ next. walk_marks s next usage ms)
@@ -70,7 +71,8 @@ never_used count = map (λ t. None) (range_with_len 0 count)
 -- What calls answer
 
 -- the last uses are those after the walk, or the walk has this fault
-abbrev pub Walks : Result (List (Option Usage)) PlanFault → Result (Unit {0}) PlanFault → List (Option Usage) → Type 0
+abbrev pub Walks : Result (List (Option Usage)) PlanFault → Result (Unit {0}) PlanFault →
+    List (Option Usage) → Type 0
 Walks walk (Ok done) last = walk ≡ Ok last
 Walks walk (Err fault) last = walk ≡ Err fault
 
