@@ -1,10 +1,8 @@
 //! Texts with what the rules of the format say of them.
-use crate::fault::ScriptFault;
-use crate::print;
-use crate::reader::{is_short, parse};
 use std::alloc::{AllocError, Global};
 use vq_model::script::{Command, FillSize, Job, Mark, Mode, Script, SemaphoreKind};
 use vq_model::statement::{FaultKind, Form};
+use vq_script::{ScriptFault, is_short, parse, print};
 
 /// A text of lines with ` / ` between them, and of lines after them again and again.
 fn text_of(alloc: Global, first: &str, again: &str, count: usize) -> Result<String, AllocError> {
