@@ -1,6 +1,6 @@
 use Rattle.std.proofs.Common.{refl}
 use Rattle.vq_model.specs.declared.statement.Form.TheVariants.{Plain}
-use Rattle.vq_script.proofs.tests.printed.Goals as goal
+use Rattle.vq_tests.proofs.script_tests.printed.Goals as goal
 
 pub print-requires : goal.print-requires
 print-requires c =
