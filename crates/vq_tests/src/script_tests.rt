@@ -1,6 +1,6 @@
 //! Texts with what the rules of the format say of them.
 use std::alloc::{AllocError, Global};
-use vq_model::script::{Command, FillSize, Job, Mark, Mode, Script, SemaphoreKind};
+use vq_model::script::{Command, CommandLine, FillSize, Job, Mark, Mode, Script, SemaphoreKind};
 use vq_model::statement::{FaultKind, Form};
 use vq_script::{ScriptFault, is_short, parse, print};
 
@@ -38,54 +38,104 @@ fn at(line: u32, kind: FaultKind) -> Result<(), ScriptFault> {
     Err(ScriptFault::At { line, kind })
 }
 
+/// Whether a script has the declarations of the text in `declarations_and_marks`.
+fn has_declarations(script: &Script) -> bool {
+    let [buffer] = script.buffers.as_slice() else {
+        return false;
+    };
+    let [timeline, binary, fence] = script.semaphores.as_slice() else {
+        return false;
+    };
+    let [first, second] = script.queues.as_slice() else {
+        return false;
+    };
+    (buffer.line, buffer.size) == (1, 8)
+        && buffer.name.as_slice() == b"X".as_slice()
+        && (timeline.line, timeline.kind) == (2, SemaphoreKind::Timeline(5))
+        && (binary.line, binary.kind) == (3, SemaphoreKind::Binary)
+        && (fence.line, fence.kind) == (4, SemaphoreKind::Fence)
+        && (first.line, first.mode) == (5, Mode::Immediate)
+        && (second.line, second.mode) == (7, Mode::Threaded)
+}
+
+fn mark(line: u32, semaphore: u32, value: u64) -> Mark {
+    Mark {
+        line,
+        semaphore,
+        value,
+        from: 1,
+    }
+}
+
+/// Whether a script has the batches of the text in `declarations_and_marks`.
+fn has_marks(script: &Script) -> bool {
+    let [Job::Batch(batch), Job::Batch(last)] = script.jobs.as_slice() else {
+        return false;
+    };
+    (batch.line, batch.queue, last.line, last.queue) == (8, 1, 15, 0)
+        && batch.waits.as_slice() == [mark(9, 0, 7), mark(10, 1, 0)].as_slice()
+        && batch.signals.as_slice() == [mark(11, 0, 9), mark(12, 1, 0)].as_slice()
+        && batch.fence == Some(mark(13, 2, 0))
+        && last.fence.is_none()
+}
+
 #[test]
 fn declarations_and_marks(rt: HostRuntime) {
     let lines =
         "buffer X 8 # bytes / timeline T 0x5 / binary S / fence F / queue I immediate /  / queue Q threaded \r / \
          submit Q / wait T 7 / wait S / signal T 9 / signal S / fence F / end / submit I / end";
     let script = script_of(rt.alloc(), lines).expect(&rt, "the text has no fault");
-    let (
-        [buffer],
-        [timeline, binary, fence],
-        [first, second],
-        [Job::Batch(batch), Job::Batch(last)],
-    ) = (
-        script.buffers.as_slice(),
-        script.semaphores.as_slice(),
-        script.queues.as_slice(),
-        script.jobs.as_slice(),
-    ) else {
-        panic!(rt; "one buffer, three semaphores, two queues and two batches are wanted");
+    assert!(rt; has_declarations(&script));
+    assert!(rt; has_marks(&script));
+}
+
+/// Whether commands are those of the text in `commands`.
+fn are_commands(commands: &[CommandLine]) -> bool {
+    let [whole, fill, update, copy] = commands else {
+        return false;
     };
-    assert_eq!(rt; (buffer.line, buffer.size), (1, 8));
-    assert_eq!(rt; buffer.name.as_slice(), b"X".as_slice());
-    assert_eq!(rt;
-        (timeline.line, timeline.kind),
-        (2, SemaphoreKind::Timeline(5))
-    );
-    assert_eq!(rt; (binary.line, binary.kind), (3, SemaphoreKind::Binary));
-    assert_eq!(rt; (fence.line, fence.kind), (4, SemaphoreKind::Fence));
-    assert_eq!(rt; (first.line, first.mode), (5, Mode::Immediate));
-    assert_eq!(rt; (second.line, second.mode), (7, Mode::Threaded));
-    assert_eq!(rt;
-        (batch.line, batch.queue, last.line, last.queue),
-        (8, 1, 15, 0)
-    );
-    let mark = |line, semaphore, value| Mark {
-        line,
-        semaphore,
-        value,
-        from: 1,
-    };
-    assert_eq!(rt;
-        batch.waits.as_slice(),
-        [mark(9, 0, 7), mark(10, 1, 0)].as_slice()
-    );
-    assert_eq!(rt;
-        batch.signals.as_slice(),
-        [mark(11, 0, 9), mark(12, 1, 0)].as_slice()
-    );
-    assert_eq!(rt; (batch.fence, last.fence), (Some(mark(13, 2, 0)), None));
+    (whole.line, fill.line, update.line, copy.line) == (5, 6, 7, 8)
+        && matches!(
+            whole.command,
+            Command::Fill {
+                buffer: 1,
+                offset: 4,
+                size: FillSize::Whole,
+                word: 7,
+            }
+        )
+        && matches!(
+            fill.command,
+            Command::Fill {
+                buffer: 0,
+                offset: 0,
+                size: FillSize::Count(8),
+                word: 255,
+            }
+        )
+        && is_update(&update.command)
+        && matches!(
+            copy.command,
+            Command::Copy {
+                source: 0,
+                source_offset: 3,
+                target: 1,
+                target_offset: 2,
+                size: 5,
+            }
+        )
+}
+
+/// Whether a command is the update of the text in `commands`.
+fn is_update(command: &Command) -> bool {
+    match command {
+        Command::Update {
+            buffer: 0,
+            offset: 8,
+            bytes,
+        } => bytes.as_slice() == [0x01, 0xff, 0xa0, 0xb1].as_slice(),
+        _ => false,
+    }
 }
 
 #[test]
@@ -97,50 +147,7 @@ fn commands(rt: HostRuntime) {
     let [Job::Batch(batch)] = script.jobs.as_slice() else {
         panic!(rt; "one batch is wanted");
     };
-    let [whole, fill, update, copy] = batch.commands.as_slice() else {
-        panic!(rt; "four commands are wanted");
-    };
-    assert_eq!(rt;
-        (whole.line, fill.line, update.line, copy.line),
-        (5, 6, 7, 8)
-    );
-    let Command::Fill {
-        buffer: 1,
-        offset: 4,
-        size: FillSize::Whole,
-        word: 7,
-    } = &whole.command
-    else {
-        panic!(rt; "a fill of the rest is wanted");
-    };
-    let Command::Fill {
-        buffer: 0,
-        offset: 0,
-        size: FillSize::Count(8),
-        word: 255,
-    } = &fill.command
-    else {
-        panic!(rt; "a fill is wanted");
-    };
-    let Command::Update {
-        buffer: 0,
-        offset: 8,
-        bytes,
-    } = &update.command
-    else {
-        panic!(rt; "an update is wanted");
-    };
-    assert_eq!(rt; bytes.as_slice(), [0x01, 0xff, 0xa0, 0xb1].as_slice());
-    let Command::Copy {
-        source: 0,
-        source_offset: 3,
-        target: 1,
-        target_offset: 2,
-        size: 5,
-    } = &copy.command
-    else {
-        panic!(rt; "a copy is wanted");
-    };
+    assert!(rt; are_commands(batch.commands.as_slice()));
 }
 
 #[test]
