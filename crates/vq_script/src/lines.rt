@@ -4,6 +4,8 @@ ghost use Rattle.std.specs.List.{position_or_len};
 ghost use Rattle.std.specs.Str.Lines.{strip_carriage_return};
 ghost use Rattle.vq_model.specs.Text.{lines_of, is_line_feed};
 
+use memchr::memchr;
+
 /// A line without the one carriage return that belongs to its end.
 fn without_return(line: &[u8]) -> &[u8]
     ensures { result.now ≡ strip_carriage_return line.now }
@@ -20,12 +22,7 @@ fn line_end(text: &[u8]) -> usize
     ensures within { result ≤ length text.now }
     ensures none { length text.now ≤ result → All (λ b. is_line_feed b ≡ false) text.now }
 {
-    for (place, byte) in text.iter().enumerate() {
-        if *byte == b'\n' {
-            return place;
-        }
-    }
-    text.len()
+    memchr(b'\n', text).unwrap_or(text.len())
 }
 
 /// The first line of a text, and what follows it.

@@ -1,5 +1,5 @@
 //! Numerals.
-ghost use Rattle.std.specs.Prelude.{◌≡◌, ◌≤◌, ◌<◌, ◌^◌, true, length, nat_lt, IfOk};
+ghost use Rattle.std.specs.Prelude.{◌≡◌, ◌≤◌, ◌<◌, ◌+◌, ◌*◌, ◌^◌, true, length, nat_lt, IfOk};
 ghost use Rattle.std.specs.List.{list_all};
 ghost use Rattle.std.specs.Char.{digit_value};
 ghost use Rattle.std.specs.Option.{option_and_then};
@@ -69,23 +69,28 @@ fn is_hex_digit(byte: u8) -> bool
     byte.is_ascii_hexdigit()
 }
 
-/// The value of a hexadecimal digit. A letter's last four bits count from 1, and its two first bits
-/// are 01.
-fn hex_digit(byte: u8) -> u8
-    requires { digit_value byte < 16 }
-    ensures { result ≡ digit_value byte }
+/// The byte that two hexadecimal digits stand for. A letter's last four bits count from 1, and its
+/// two first bits are 01.
+#[tactic(auto, using(crate::proofs::DigitsRead::pair_values))]
+fn hex_byte(high: u8, low: u8) -> u8
+    requires high { digit_value high < 16 }
+    requires low { digit_value low < 16 }
+    ensures { result ≡ 16 * digit_value high + digit_value low }
 {
-    byte % 16 + byte / 64 * 9
+    // Both digits are in one word, as in memory, so that a loop turns many pairs at once.
+    let pair = u16::from(high) + 256 * u16::from(low);
+    let values = (pair & 0x0f0f) + 9 * (pair / 64 & 0x0303);
+    (16 * (values % 256) + values / 256) as u8
 }
 
 /// Whether each byte of a word is a hexadecimal digit, of either case.
 fn has_hex_digits(word: &[u8]) -> bool
     ensures { result ≡ list_all (λ b. nat_lt (digit_value b) 16) word.now }
 {
-    // No early end, so that many bytes are tested at once.
+    // No early end and no jump, so that many bytes are tested at once.
     let mut hex = true;
     for byte in word {
-        hex = hex && is_hex_digit(*byte);
+        hex &= is_hex_digit(*byte);
     }
     hex
 }
@@ -102,11 +107,10 @@ pub fn hex_bytes(alloc: Global, digits: &[u8]) -> Result<Vec<u8>, AllocError>
     requires { is_hex digits.now ≡ true }
     ensures { IfOk result (λ bytes. bytes.items ≡ hex_bytes digits.now) }
 {
-    let mut bytes = Vec::with_capacity(alloc, digits.len() / 2)?;
-    let mut rest = digits;
-    while let [high, low, after @ ..] = rest {
-        bytes.push(16 * hex_digit(*high) + hex_digit(*low))?;
-        rest = after;
+    // Room for all bytes at first, so that many are written at once.
+    let mut bytes = vec![in alloc; 0; digits.len() / 2]?;
+    for place in 0..bytes.len() {
+        bytes[place] = hex_byte(digits[2 * place], digits[2 * place + 1]);
     }
     Ok(bytes)
 }

@@ -1,13 +1,13 @@
-use Rattle.std.proofs.Common.{arith, sym}
-use Rattle.std.proofs.lemmas.List.Sums.{position_or_len_is}
-use Rattle.std.proofs.lemmas.Bool.Decides.{nat_tests}
+use Rattle.std.proofs.Common.{◌∙◌, arith}
+use Rattle.std.proofs.lemmas.List.Sums.{fails_before_first}
 use Rattle.vq_model.specs.Text.{is_line_feed}
+use Rattle.vq_script.proofs.FirstFound.{place_of_first}
 use Rattle.vq_script.proofs.lines.line_end.Goals as goal
 
-pub returns-then-byte-eq10-clause-place : goal.returns-then-byte-eq10-clause-place
-returns-then-byte-eq10-clause-place c =
-    sym (position_or_len_is is_line_feed c.args.text.now c.loop-place.place 0 (omega arith) c.loop-place.invariant (λ _. grind (arith, nat_tests)))
-
 pub returns-clause-place : goal.returns-clause-place
-returns-clause-place c =
-    sym (position_or_len_is is_line_feed c.args.text.now _ 0 (omega arith) (λ k h. c.loop-place.invariant k (omega arith)) (λ h. absurd (omega arith)))
+returns-clause-place c = c.unwrap_or.ensures ∙ place_of_first is_line_feed c.args.text.now c.memchr.result c.memchr.ensures
+
+pub returns-clause-none : goal.returns-clause-none
+returns-clause-none c =
+    let place = returns-clause-place c in
+    λ whole k d l. fails_before_first is_line_feed c.args.text.now k d (omega (arith, place))

@@ -1,14 +1,9 @@
-use Rattle.std.proofs.Common.{◌≡◌, ◌++◌, true, length, nat_lt}
-use Rattle.std.specs.List.{list_all}
-use Rattle.std.specs.Char.{digit_value}
+use Rattle.std.proofs.Common.{◌≡◌, ℕ, ◌<◌, ◌/◌, length, get_or}
 use Rattle.vq_model.specs.Meaning.{hex_bytes}
 use Rattle.vq_script.proofs.numerals.hex_bytes.Given as goal
 
-abbrev pub invariant-loop-rest : goal.invariant-loop-rest
-invariant-loop-rest l = record {
-  bytes : l.bytes.items ++ hex_bytes l.rest ≡ hex_bytes l.fn.digits;
-  digits : list_all (λ b. nat_lt (digit_value b) 16) l.rest ≡ true;
+abbrev pub invariant-loop-place : goal.invariant-loop-place
+invariant-loop-place l = record {
+  room : length l.bytes.items ≡ length l.digits / 2;
+  written : (k : ℕ) → k < l.place → get_or l.bytes.items k 0 ≡ get_or (hex_bytes l.digits) k 0;
 }
-
-abbrev pub decreases-loop-rest : goal.decreases-loop-rest
-decreases-loop-rest l = length l.rest

@@ -1,12 +1,6 @@
-use Rattle.std.proofs.Common.{arith, sym, ◌==◌}
-use Rattle.std.proofs.lemmas.List.Sums.{position_or_len_is}
-use Rattle.std.proofs.lemmas.Bool.Decides.{nat_tests}
+use Rattle.std.proofs.Common.{◌∙◌, ◌==◌}
+use Rattle.vq_script.proofs.FirstFound.{place_of_first}
 use Rattle.vq_script.proofs.words.comment_start.Goals as goal
 
-pub returns-then-byte-eq35-clause-place : goal.returns-then-byte-eq35-clause-place
-returns-then-byte-eq35-clause-place c =
-    sym (position_or_len_is (λ b. b == 35) c.args.line.now c.loop-place.place 0 (omega arith) c.loop-place.invariant (λ _. grind (arith, nat_tests)))
-
 pub returns-clause-place : goal.returns-clause-place
-returns-clause-place c =
-    sym (position_or_len_is (λ b. b == 35) c.args.line.now _ 0 (omega arith) (λ k h. c.loop-place.invariant k (omega arith)) (λ h. absurd (omega arith)))
+returns-clause-place c = c.unwrap_or.ensures ∙ place_of_first (λ b. b == 35) c.args.line.now c.memchr.result c.memchr.ensures
