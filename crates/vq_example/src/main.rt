@@ -43,20 +43,27 @@ fn checked(alloc: Global, text: &[u8]) -> Option<Ordered> {
     check(alloc, Plan::lower(alloc, script).ok()?).ok()
 }
 
+/// Prints what comes before a job and after it, and between which payloads it runs.
+fn print_job(rt: &HostRuntime, order: &Ordered, j: u32) -> io::Result<()>
+    requires { j < length order.now.jobs }
+{
+    for i in 0..j {
+        let ordered = are_ordered(order, i, j);
+        println!(rt; "jobs {i} and {j} are ordered: {ordered}")?;
+    }
+    for t in 0..order.plan().chains() {
+        let (floor, ceiling) = (order.floor(j, t), order.ceiling(j, t));
+        println!(rt; "at job {j} semaphore {t} is at {floor} to {ceiling}")?;
+    }
+    Ok(())
+}
+
 fn main(rt: HostRuntime) -> io::Result<ExitCode> {
     let Some(order) = checked(rt.alloc(), SCRIPT.as_bytes()) else {
         return Ok(ExitCode::from(2));
     };
-    let plan = order.plan();
-    for j in 0..plan.jobs() {
-        for i in 0..j {
-            let ordered = are_ordered(&order, i, j);
-            println!(rt; "jobs {i} and {j} are ordered: {ordered}")?;
-        }
-        for t in 0..plan.chains() {
-            let (floor, ceiling) = (order.floor(j, t), order.ceiling(j, t));
-            println!(rt; "at job {j} semaphore {t} is at {floor} to {ceiling}")?;
-        }
+    for j in 0..order.plan().jobs() {
+        print_job(&rt, &order, j)?;
     }
     Ok(ExitCode::SUCCESS)
 }
