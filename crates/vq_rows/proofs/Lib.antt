@@ -13,4 +13,5 @@ mod ScriptRows
 mod TextRows
 mod TimelineRows
 mod TraceRows
+mod UnreachedRows
 mod WindowRows
