@@ -1,5 +1,6 @@
 -- The canonical text of a script. The format is this project's own.
-use Rattle.std.specs.Prelude.{ℕ, List, [], zero, suc, ◌/◌, ◌%◌, ◌∷◌, ◌+◌, ◌++◌, codes, ◌==◌, if◌then◌else◌, nat_lt, Option, Some, None, map, Bool, true, false}
+use Rattle.std.specs.Prelude.{ℕ, List, [], zero, suc, ◌/◌, ◌%◌, ◌∷◌, ◌+◌, ◌++◌, codes, ◌==◌, if◌then◌else◌, nat_lt}
+use Rattle.std.specs.Prelude.{Option, Some, None, map, Bool, true, false}
 use Rattle.std.specs.List.{slice_get, flat_map, join_with_byte}
 use Rattle.std.specs.Option.{option_map_or}
 use Rattle.std.specs.Char.{digit_char}
@@ -10,13 +11,15 @@ use Rattle.vq_model.specs.declared.script.SemaphoreKind.TheVariants.{Binary, Tim
 use Rattle.vq_model.specs.declared.script.FillSize.{FillSize}
 use Rattle.vq_model.specs.declared.script.FillSize.TheVariants.{Whole, Count}
 use Rattle.vq_model.specs.declared.script.ActorName.{ActorName}
-use Rattle.vq_model.specs.declared.script.ActorName.TheVariants.{Host as HostActor, Submit as SubmitActor, Ring as RingActor}
+use Rattle.vq_model.specs.declared.script.ActorName.TheVariants.{Host as HostActor, Submit as SubmitActor}
+use Rattle.vq_model.specs.declared.script.ActorName.TheVariants.{Ring as RingActor}
 use Rattle.vq_model.specs.declared.script.Pair.{Pair}
 use Rattle.vq_model.specs.declared.script.Buffer.{Buffer}
 use Rattle.vq_model.specs.declared.script.Semaphore.{Semaphore}
 use Rattle.vq_model.specs.declared.script.Queue.{Queue}
 use Rattle.vq_model.specs.declared.script.HostStep.{HostStep}
-use Rattle.vq_model.specs.declared.script.HostStep.TheVariants.{Signal, WaitAll, WaitAny, PollAll, PollAny, Read, FenceWait, FencePoll, FenceReset, Idle}
+use Rattle.vq_model.specs.declared.script.HostStep.TheVariants.{Signal, WaitAll, WaitAny, PollAll, PollAny, Read}
+use Rattle.vq_model.specs.declared.script.HostStep.TheVariants.{FenceWait, FencePoll, FenceReset, Idle}
 use Rattle.vq_model.specs.declared.script.Mark.{Mark}
 use Rattle.vq_model.specs.declared.script.Command.{Command}
 use Rattle.vq_model.specs.declared.script.Command.TheVariants.{Fill, Update, Copy}

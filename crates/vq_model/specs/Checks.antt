@@ -2,7 +2,8 @@
 -- Vulkan 1.3, "Semaphore Signaling", "Semaphore Waiting", "Fences", "Execution and Memory
 -- Dependencies". The names of the faults, their order and the lines that they name are this
 -- project's own.
-use Rattle.std.specs.Prelude.{ℕ, ◌≤◌, ◌≡◌, ◌<◌, ◌⊎◌, Bool, not, if◌then◌else◌, true, Some, ◌+◌, ◌≢◌, false, ◌||◌, [], Result, Ok, Err}
+use Rattle.std.specs.Prelude.{ℕ, ◌≤◌, ◌≡◌, ◌<◌, ◌⊎◌, Bool, not, if◌then◌else◌, true, Some, ◌+◌, ◌≢◌, false, ◌||◌, []}
+use Rattle.std.specs.Prelude.{Result, Ok, Err}
 use Rattle.std.specs.List.{list_any, slice_get}
 use Rattle.std.specs.Option.{option_map_or}
 use Rattle.vq_model.specs.declared.plan.Need.{Need}
@@ -11,9 +12,11 @@ use Rattle.vq_model.specs.declared.script.Script.{Script}
 use Rattle.vq_model.specs.declared.plan.Lane.{Lane}
 use Rattle.vq_model.specs.declared.plan.Lane.TheVariants.{Host as HostLane, Queue as QueueLane}
 use Rattle.vq_model.specs.declared.plan.OrderFault.{OrderFault}
-use Rattle.vq_model.specs.declared.plan.OrderFault.TheVariants.{Unreachable, Unordered, FenceBusy, NotPending, Race, Memory}
+use Rattle.vq_model.specs.declared.plan.OrderFault.TheVariants.{Unreachable, Unordered, FenceBusy, NotPending, Race}
+use Rattle.vq_model.specs.declared.plan.OrderFault.TheVariants.{Memory}
 use Rattle.vq_model.specs.Context.{is_immediate}
-use Rattle.vq_model.specs.Plan.{Plan, needs, waits_for_any, has, chain, chain_of, line_of_op, initial, value, job_of, line_of_job, of_job, resolver, is_host_step, line_of_command}
+use Rattle.vq_model.specs.Plan.{Plan, needs, waits_for_any, has, chain, chain_of, line_of_op, initial, value, job_of}
+use Rattle.vq_model.specs.Plan.{line_of_job, of_job, resolver, is_host_step, line_of_command}
 use Rattle.vq_model.specs.Machine.{is_reached}
 use Rattle.vq_model.specs.SlowRun.{payload_after, slow_order, left_over}
 use Rattle.vq_model.specs.Signals.{is_timeline_at, kind_of}

@@ -7,7 +7,10 @@ use Rattle.std.specs.Option.{option_map_or}
 use Rattle.vq_model.specs.declared.statement.Section.{Section}
 use Rattle.vq_model.specs.declared.statement.Section.TheVariants.{Outside, InBatch, InSchedule}
 use Rattle.vq_model.specs.declared.statement.Statement.{Statement}
-use Rattle.vq_model.specs.declared.statement.Statement.TheVariants.{BeginBatch, EndBatch, BeginSchedule, DeclareBuffer, DeclareSemaphore, DeclareQueue, HasVersion, TakeHostStep, AddWait, AddCommand, AddSignal, AddFence, TakeTurns}
+use Rattle.vq_model.specs.declared.statement.Statement.TheVariants.{BeginBatch, EndBatch, BeginSchedule, DeclareBuffer}
+use Rattle.vq_model.specs.declared.statement.Statement.TheVariants.{DeclareSemaphore, DeclareQueue, HasVersion}
+use Rattle.vq_model.specs.declared.statement.Statement.TheVariants.{TakeHostStep, AddWait, AddCommand, AddSignal}
+use Rattle.vq_model.specs.declared.statement.Statement.TheVariants.{AddFence, TakeTurns}
 use Rattle.vq_model.specs.declared.statement.Line.{Line}
 use Rattle.vq_model.specs.declared.script.Buffer.{Buffer}
 use Rattle.vq_model.specs.declared.script.Semaphore.{Semaphore}

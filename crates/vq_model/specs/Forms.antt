@@ -5,7 +5,16 @@ use Prim.Native.String.{String}
 use Rattle.vq_model.specs.declared.script.Mode.{Mode}
 use Rattle.vq_model.specs.declared.script.Mode.TheVariants.{Immediate, Deferred, Threaded}
 use Rattle.vq_model.specs.declared.statement.LineForm.{LineForm}
-use Rattle.vq_model.specs.declared.statement.LineForm.TheVariants.{VersionLine, BufferLine, TimelineLine, BinaryLine, FenceLine, QueueLine, SubmitLine, HostSignalLine, HostWaitAllLine, HostWaitAnyLine, HostPollAllLine, HostPollAnyLine, HostReadLine, HostFenceWaitLine, HostFencePollLine, HostFenceResetLine, HostIdleLine, ScheduleLine, WaitTimelineLine, WaitBinaryLine, HeldTimelineLine, HeldBinaryLine, FillWholeLine, FillLine, UpdateLine, CopyLine, SignalTimelineLine, SignalBinaryLine, BatchFenceLine, EndLine, TurnLine, TurnsLine}
+use Rattle.vq_model.specs.declared.statement.LineForm.TheVariants.{VersionLine, BufferLine, TimelineLine, BinaryLine}
+use Rattle.vq_model.specs.declared.statement.LineForm.TheVariants.{FenceLine, QueueLine, SubmitLine, HostSignalLine}
+use Rattle.vq_model.specs.declared.statement.LineForm.TheVariants.{HostWaitAllLine, HostWaitAnyLine, HostPollAllLine}
+use Rattle.vq_model.specs.declared.statement.LineForm.TheVariants.{HostPollAnyLine, HostReadLine, HostFenceWaitLine}
+use Rattle.vq_model.specs.declared.statement.LineForm.TheVariants.{HostFencePollLine, HostFenceResetLine, HostIdleLine}
+use Rattle.vq_model.specs.declared.statement.LineForm.TheVariants.{ScheduleLine, WaitTimelineLine, WaitBinaryLine}
+use Rattle.vq_model.specs.declared.statement.LineForm.TheVariants.{HeldTimelineLine, HeldBinaryLine, FillWholeLine}
+use Rattle.vq_model.specs.declared.statement.LineForm.TheVariants.{FillLine, UpdateLine, CopyLine, SignalTimelineLine}
+use Rattle.vq_model.specs.declared.statement.LineForm.TheVariants.{SignalBinaryLine, BatchFenceLine, EndLine, TurnLine}
+use Rattle.vq_model.specs.declared.statement.LineForm.TheVariants.{TurnsLine}
 use Rattle.vq_model.specs.declared.statement.Form.{Form}
 use Rattle.vq_model.specs.declared.statement.Form.TheVariants.{Plain, Scheduled}
 

@@ -4,9 +4,12 @@ use Rattle.vq_model.specs.declared.script.HostStep.{HostStep}
 use Rattle.vq_model.specs.declared.script.HostStep.TheVariants.{WaitAll, WaitAny, PollAll, PollAny}
 use Rattle.vq_model.specs.declared.script.Pair.{Pair}
 use Rattle.vq_model.specs.declared.statement.Statement.{Statement}
-use Rattle.vq_model.specs.declared.statement.Statement.TheVariants.{DeclareBuffer, DeclareSemaphore, DeclareQueue, BeginBatch, AddWait, AddCommand, AddSignal, TakeHostStep, TakeTurns}
+use Rattle.vq_model.specs.declared.statement.Statement.TheVariants.{DeclareBuffer, DeclareSemaphore, DeclareQueue}
+use Rattle.vq_model.specs.declared.statement.Statement.TheVariants.{BeginBatch, AddWait, AddCommand, AddSignal}
+use Rattle.vq_model.specs.declared.statement.Statement.TheVariants.{TakeHostStep, TakeTurns}
 use Rattle.vq_model.specs.declared.statement.Line.{Line}
-use Rattle.vq_model.specs.Context.{is_submit, is_host_step, buffers, semaphores, queues, is_wait, is_command, is_signal, count, open_batch, turns_of}
+use Rattle.vq_model.specs.Context.{is_submit, is_host_step, buffers, semaphores, queues, is_wait, is_command, is_signal}
+use Rattle.vq_model.specs.Context.{count, open_batch, turns_of}
 
 -- The limits of a version.
 pub record Limits : Type 0 where

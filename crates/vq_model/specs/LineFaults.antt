@@ -1,27 +1,37 @@
 -- The faults of a line: one test for each kind, and the order of the kinds.
 -- The kinds and their order are this project's own; the ranges and alignments that are asked of
 -- commands are those of Vulkan 1.3, "Clear Commands" and "Copy Commands".
-use Rattle.std.specs.Prelude.{ℕ, Bool, true, List, is_some, not, false, nat_lt, ◌&&◌, ◌||◌, ◌+◌, length, [], ◌∷◌, find, Option, map}
+use Rattle.std.specs.Prelude.{ℕ, Bool, true, List, is_some, not, false, nat_lt, ◌&&◌, ◌||◌, ◌+◌, length, [], ◌∷◌, find}
+use Rattle.std.specs.Prelude.{Option, map}
 use Rattle.std.specs.List.{list_all}
 use Rattle.std.specs.Option.{option_map_or}
 use Rattle.vq_model.specs.declared.statement.Line.{Line}
 use Rattle.vq_model.specs.declared.statement.LineForm.{LineForm}
-use Rattle.vq_model.specs.declared.statement.LineForm.TheVariants.{BufferLine, TimelineLine, BinaryLine, FenceLine, QueueLine, WaitTimelineLine, WaitBinaryLine, HeldTimelineLine, HeldBinaryLine, FillWholeLine, FillLine, UpdateLine, CopyLine, SignalTimelineLine, SignalBinaryLine, BatchFenceLine, EndLine}
+use Rattle.vq_model.specs.declared.statement.LineForm.TheVariants.{BufferLine, TimelineLine, BinaryLine, FenceLine}
+use Rattle.vq_model.specs.declared.statement.LineForm.TheVariants.{QueueLine, WaitTimelineLine, WaitBinaryLine}
+use Rattle.vq_model.specs.declared.statement.LineForm.TheVariants.{HeldTimelineLine, HeldBinaryLine, FillWholeLine}
+use Rattle.vq_model.specs.declared.statement.LineForm.TheVariants.{FillLine, UpdateLine, CopyLine, SignalTimelineLine}
+use Rattle.vq_model.specs.declared.statement.LineForm.TheVariants.{SignalBinaryLine, BatchFenceLine, EndLine}
 use Rattle.vq_model.specs.declared.statement.Statement.{Statement}
-use Rattle.vq_model.specs.declared.statement.Statement.TheVariants.{AddWait, AddCommand, AddSignal, AddFence, DeclareBuffer, EndBatch, TakeTurns}
+use Rattle.vq_model.specs.declared.statement.Statement.TheVariants.{AddWait, AddCommand, AddSignal, AddFence}
+use Rattle.vq_model.specs.declared.statement.Statement.TheVariants.{DeclareBuffer, EndBatch, TakeTurns}
 use Rattle.vq_model.specs.declared.script.Command.{Command}
 use Rattle.vq_model.specs.declared.script.Command.TheVariants.{Fill, Update, Copy}
 use Rattle.vq_model.specs.declared.script.FillSize.TheVariants.{Whole, Count}
 use Rattle.vq_model.specs.declared.statement.Form.{Form}
 use Rattle.vq_model.specs.declared.statement.FaultKind.{FaultKind}
-use Rattle.vq_model.specs.declared.statement.FaultKind.TheVariants.{Syntax, Order, Number, Name, Twice, Range, Overlap, Limit}
+use Rattle.vq_model.specs.declared.statement.FaultKind.TheVariants.{Syntax, Order, Number, Name, Twice, Range, Overlap}
+use Rattle.vq_model.specs.declared.statement.FaultKind.TheVariants.{Limit}
 use Rattle.vq_model.specs.declared.statement.Form.TheVariants.{Scheduled}
 use Rattle.vq_model.specs.declared.statement.Section.{Section}
 use Rattle.vq_model.specs.declared.statement.Section.TheVariants.{Outside, InBatch}
 use Rattle.vq_model.specs.Text.{is_name, numeral, is_plain}
-use Rattle.vq_model.specs.Forms.{Slot, NewName, BufferName, TimelineName, BinaryName, FenceName, QueueName, Actor, word, Numeral, SmallNumeral, HexDigits, places}
+use Rattle.vq_model.specs.Forms.{Slot, NewName, BufferName, TimelineName, BinaryName, FenceName, QueueName, Actor, word}
+use Rattle.vq_model.specs.Forms.{Numeral, SmallNumeral, HexDigits, places}
 use Rattle.vq_model.specs.Meaning.{is_actor, small_numeral, is_hex, actor_at, open_places, form_of, meaning}
-use Rattle.vq_model.specs.Context.{buffer_at, timeline_at, binary_at, fence_at, queue_at, is_declared, is_batch_fence, some, has_begun, open_batch, size_of, is_command, count, version_of, section, buffers}
+use Rattle.vq_model.specs.Context.{buffer_at, timeline_at, binary_at, fence_at, queue_at, is_declared, is_batch_fence}
+use Rattle.vq_model.specs.Context.{some, has_begun, open_batch, size_of, is_command, count, version_of, section}
+use Rattle.vq_model.specs.Context.{buffers}
 use Rattle.vq_model.specs.Ranges.{is_aligned, overlaps_itself}
 use Rattle.vq_model.specs.Limits.{limits_of, passes_limit}
 

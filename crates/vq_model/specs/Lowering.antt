@@ -1,19 +1,22 @@
 -- The plan of a script.
 -- Vulkan 1.3, "Queue Submission" (batches), "Semaphores" (binary: a wait needs its signal submitted
 -- earlier), "Fences".
-use Rattle.std.specs.Prelude.{ℕ, ◌==◌, Bool, false, ◌+◌, ◌&&◌, ◌||◌, if◌then◌else◌, List, [], ◌∷◌, take, nat_lt, count_by, map, length, Option, Some, None, fold, filter}
+use Rattle.std.specs.Prelude.{ℕ, ◌==◌, Bool, false, ◌+◌, ◌&&◌, ◌||◌, if◌then◌else◌, List, [], ◌∷◌, take, nat_lt}
+use Rattle.std.specs.Prelude.{count_by, map, length, Option, Some, None, fold, filter}
 use Rattle.std.specs.Option.{option_map_or}
 use Rattle.std.specs.List.{range_with_len, slice_get, filter_map, flat_map, enumerate_from}
 use Rattle.vq_model.specs.declared.script.Job.{Job}
 use Rattle.vq_model.specs.declared.script.Job.TheVariants.{Host, Batch}
 use Rattle.vq_model.specs.declared.script.HostStep.{HostStep}
-use Rattle.vq_model.specs.declared.script.HostStep.TheVariants.{FenceReset, WaitAll, WaitAny, FenceWait, PollAll, PollAny, Read, FencePoll, Idle}
+use Rattle.vq_model.specs.declared.script.HostStep.TheVariants.{FenceReset, WaitAll, WaitAny, FenceWait, PollAll}
+use Rattle.vq_model.specs.declared.script.HostStep.TheVariants.{PollAny, Read, FencePoll, Idle}
 use Rattle.vq_model.specs.declared.script.Script.{Script}
 use Rattle.vq_model.specs.declared.script.Pair.{Pair}
 use Rattle.vq_model.specs.declared.plan.Need.{Need}
 use Rattle.vq_model.specs.declared.script.Mark.{Mark}
 use Rattle.vq_model.specs.declared.plan.Question.{Question}
-use Rattle.vq_model.specs.declared.plan.Question.TheVariants.{Silent, Reached, PollAll as AsksAll, PollAny as AsksAny, Fence as AsksFence, Value as AsksValue}
+use Rattle.vq_model.specs.declared.plan.Question.TheVariants.{Silent, Reached, PollAll as AsksAll, PollAny as AsksAny}
+use Rattle.vq_model.specs.declared.plan.Question.TheVariants.{Fence as AsksFence, Value as AsksValue}
 use Rattle.vq_model.specs.declared.plan.Lane.{Lane}
 use Rattle.vq_model.specs.declared.plan.Lane.TheVariants.{Host as HostLane, Queue as QueueLane}
 use Rattle.vq_model.specs.declared.plan.PlanJob.{PlanJob}

@@ -2,14 +2,17 @@
 -- allowed order.
 -- Vulkan 1.3, "Semaphores" (signal and wait operations), "Host Operations on Semaphores" (waits,
 -- signals and reads of the host), "Fences", "Queue Submission".
-use Rattle.std.specs.Prelude.{ℕ, Bool, List, Option, ◌==◌, if◌then◌else◌, false, [], None, true, Some, ◌∷◌, ◌++◌, nat_le, ◌&&◌, not, find, ◌≡◌, ◌<◌, length, ◌||◌, is_some, nat_lt, fold, filter}
+use Rattle.std.specs.Prelude.{ℕ, Bool, List, Option, ◌==◌, if◌then◌else◌, false, [], None, true, Some, ◌∷◌, ◌++◌}
+use Rattle.std.specs.Prelude.{nat_le, ◌&&◌, not, find, ◌≡◌, ◌<◌, length, ◌||◌, is_some, nat_lt, fold, filter}
 use Rattle.std.specs.List.{list_any, list_all}
 use Rattle.vq_model.specs.declared.plan.Answer.{Answer}
 use Rattle.vq_model.specs.declared.plan.Need.{Need}
 use Rattle.vq_model.specs.declared.plan.Answer.TheVariants.{Reached, Timeout, NotReady, Value}
 use Rattle.vq_model.specs.declared.plan.Question.{Question}
-use Rattle.vq_model.specs.declared.plan.Question.TheVariants.{Reached as AsksReached, PollAll, PollAny, Fence, Value as AsksValue}
-use Rattle.vq_model.specs.Plan.{Plan, initial, value, chain_of, waits_for_any, has, commands_of, signals_of, chain, question, is_silent, asked}
+use Rattle.vq_model.specs.declared.plan.Question.TheVariants.{Reached as AsksReached, PollAll, PollAny, Fence}
+use Rattle.vq_model.specs.declared.plan.Question.TheVariants.{Value as AsksValue}
+use Rattle.vq_model.specs.Plan.{Plan, initial, value, chain_of, waits_for_any, has, commands_of, signals_of, chain}
+use Rattle.vq_model.specs.Plan.{question, is_silent, asked}
 use Rattle.vq_model.specs.Edges.{Stage, needs_at, At, must_finish, stage_of, AtEnd}
 
 -- States

@@ -1,28 +1,45 @@
 -- What the words of a line say: their form, the words at its open places, and the statement.
 -- The format is this project's own.
-use Rattle.std.specs.Prelude.{Bool, true, List, [], ◌∷◌, ◌+◌, ◌++◌, ℕ, ◌%◌, ◌==◌, nat_lt, false, ◌&&◌, length, if◌then◌else◌, Option, Some, None, find, ◌||◌, drop, codes, ◌^◌, ◌*◌, map, not}
+use Rattle.std.specs.Prelude.{Bool, true, List, [], ◌∷◌, ◌+◌, ◌++◌, ℕ, ◌%◌, ◌==◌, nat_lt, false, ◌&&◌, length}
+use Rattle.std.specs.Prelude.{if◌then◌else◌, Option, Some, None, find, ◌||◌, drop, codes, ◌^◌, ◌*◌, map, not}
 use Rattle.std.specs.Str.{bytes_eq}
 use Rattle.std.specs.Option.{option_map, option_and_then}
 use Rattle.std.specs.List.{list_all}
 use Rattle.std.specs.Char.{digit_value}
 use Rattle.vq_model.specs.declared.statement.LineForm.{LineForm}
 use Rattle.vq_model.specs.declared.statement.Line.{Line}
-use Rattle.vq_model.specs.declared.statement.LineForm.TheVariants.{VersionLine, BufferLine, TimelineLine, BinaryLine, FenceLine, QueueLine, SubmitLine, HostSignalLine, HostWaitAllLine, HostWaitAnyLine, HostPollAllLine, HostPollAnyLine, HostReadLine, HostFenceWaitLine, HostFencePollLine, HostFenceResetLine, HostIdleLine, ScheduleLine, WaitTimelineLine, WaitBinaryLine, HeldTimelineLine, HeldBinaryLine, FillWholeLine, FillLine, UpdateLine, CopyLine, SignalTimelineLine, SignalBinaryLine, BatchFenceLine, EndLine, TurnLine, TurnsLine}
+use Rattle.vq_model.specs.declared.statement.LineForm.TheVariants.{VersionLine, BufferLine, TimelineLine, BinaryLine}
+use Rattle.vq_model.specs.declared.statement.LineForm.TheVariants.{FenceLine, QueueLine, SubmitLine, HostSignalLine}
+use Rattle.vq_model.specs.declared.statement.LineForm.TheVariants.{HostWaitAllLine, HostWaitAnyLine, HostPollAllLine}
+use Rattle.vq_model.specs.declared.statement.LineForm.TheVariants.{HostPollAnyLine, HostReadLine, HostFenceWaitLine}
+use Rattle.vq_model.specs.declared.statement.LineForm.TheVariants.{HostFencePollLine, HostFenceResetLine, HostIdleLine}
+use Rattle.vq_model.specs.declared.statement.LineForm.TheVariants.{ScheduleLine, WaitTimelineLine, WaitBinaryLine}
+use Rattle.vq_model.specs.declared.statement.LineForm.TheVariants.{HeldTimelineLine, HeldBinaryLine, FillWholeLine}
+use Rattle.vq_model.specs.declared.statement.LineForm.TheVariants.{FillLine, UpdateLine, CopyLine, SignalTimelineLine}
+use Rattle.vq_model.specs.declared.statement.LineForm.TheVariants.{SignalBinaryLine, BatchFenceLine, EndLine, TurnLine}
+use Rattle.vq_model.specs.declared.statement.LineForm.TheVariants.{TurnsLine}
 use Rattle.vq_model.specs.declared.statement.Form.{Form}
 use Rattle.vq_model.specs.declared.statement.Section.{Section}
 use Rattle.vq_model.specs.declared.statement.Section.TheVariants.{Outside, InBatch, InSchedule}
 use Rattle.vq_model.specs.declared.script.ActorName.{ActorName}
-use Rattle.vq_model.specs.declared.script.ActorName.TheVariants.{Host as HostActor, Submit as SubmitActor, Ring as RingActor}
+use Rattle.vq_model.specs.declared.script.ActorName.TheVariants.{Host as HostActor, Submit as SubmitActor}
+use Rattle.vq_model.specs.declared.script.ActorName.TheVariants.{Ring as RingActor}
 use Rattle.vq_model.specs.declared.script.Mode.TheVariants.{Immediate, Threaded}
 use Rattle.vq_model.specs.declared.script.Pair.{Pair}
 use Rattle.vq_model.specs.declared.statement.Statement.{Statement}
-use Rattle.vq_model.specs.declared.statement.Statement.TheVariants.{HasVersion, DeclareBuffer, DeclareSemaphore, DeclareQueue, BeginBatch, AddWait, AddCommand, AddSignal, AddFence, EndBatch, TakeHostStep, BeginSchedule, TakeTurns}
+use Rattle.vq_model.specs.declared.statement.Statement.TheVariants.{HasVersion, DeclareBuffer, DeclareSemaphore}
+use Rattle.vq_model.specs.declared.statement.Statement.TheVariants.{DeclareQueue, BeginBatch, AddWait, AddCommand}
+use Rattle.vq_model.specs.declared.statement.Statement.TheVariants.{AddSignal, AddFence, EndBatch, TakeHostStep}
+use Rattle.vq_model.specs.declared.statement.Statement.TheVariants.{BeginSchedule, TakeTurns}
 use Rattle.vq_model.specs.declared.script.SemaphoreKind.TheVariants.{Timeline, Binary, Fence}
-use Rattle.vq_model.specs.declared.script.HostStep.TheVariants.{Signal as HostSignal, WaitAll, WaitAny, PollAll, PollAny, Read, FenceWait, FencePoll, FenceReset, Idle}
+use Rattle.vq_model.specs.declared.script.HostStep.TheVariants.{Signal as HostSignal, WaitAll, WaitAny, PollAll}
+use Rattle.vq_model.specs.declared.script.HostStep.TheVariants.{PollAny, Read, FenceWait, FencePoll, FenceReset, Idle}
 use Rattle.vq_model.specs.declared.script.Command.TheVariants.{Fill, Update, Copy}
 use Rattle.vq_model.specs.declared.script.FillSize.TheVariants.{Whole, Count}
-use Rattle.vq_model.specs.Forms.{forms_outside, forms_in_batch, forms_in_schedule, held_forms, schedule_forms, Slot, Pairs, word, Fixed, places, TimelineName, Numeral}
-use Rattle.vq_model.specs.Context.{section, is_batch_immediate, version_of, queue_at, threaded_at, timeline_at, buffer_at, binary_at, fence_at}
+use Rattle.vq_model.specs.Forms.{forms_outside, forms_in_batch, forms_in_schedule, held_forms, schedule_forms, Slot}
+use Rattle.vq_model.specs.Forms.{Pairs, word, Fixed, places, TimelineName, Numeral}
+use Rattle.vq_model.specs.Context.{section, is_batch_immediate, version_of, queue_at, threaded_at, timeline_at}
+use Rattle.vq_model.specs.Context.{buffer_at, binary_at, fence_at}
 use Rattle.vq_model.specs.Text.{is_name, numeral}
 
 -- The form of a line

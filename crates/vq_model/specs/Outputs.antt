@@ -1,15 +1,18 @@
 -- What a run of a plan may write when its jobs run beside one another.
 -- Vulkan 1.3, "Host Operations on Semaphores", "Fences".
-use Rattle.std.specs.Prelude.{List, ◌∷◌, ℕ, Option, ◌≡◌, ◌<◌, Some, if◌then◌else◌, [], ◌≤◌, ◌⊎◌, true, ◌++◌, not, length, filter, map}
+use Rattle.std.specs.Prelude.{List, ◌∷◌, ℕ, Option, ◌≡◌, ◌<◌, Some, if◌then◌else◌, [], ◌≤◌, ◌⊎◌, true, ◌++◌, not}
+use Rattle.std.specs.Prelude.{length, filter, map}
 use Rattle.std.specs.Option.{option_to_list}
 use Rattle.std.specs.List.{range_with_len}
 use Rattle.vq_model.specs.declared.plan.Need.{Need}
 use Rattle.vq_model.specs.declared.plan.Answer.{Answer}
 use Rattle.vq_model.specs.declared.plan.Question.{Question}
-use Rattle.vq_model.specs.declared.plan.Question.TheVariants.{Reached as AsksReached, PollAll, PollAny, Fence, Value as AsksValue}
+use Rattle.vq_model.specs.declared.plan.Question.TheVariants.{Reached as AsksReached, PollAll, PollAny, Fence}
+use Rattle.vq_model.specs.declared.plan.Question.TheVariants.{Value as AsksValue}
 use Rattle.vq_model.specs.declared.plan.Answer.TheVariants.{Reached, Value, Timeout, NotReady}
 use Rattle.vq_model.specs.declared.plan.AnswerLine.{AnswerLine}
-use Rattle.vq_model.specs.Plan.{Plan, initial, resolver, asked, waits_for_any, chain_of, value, question, needs, is_silent}
+use Rattle.vq_model.specs.Plan.{Plan, initial, resolver, asked, waits_for_any, chain_of, value, question, needs}
+use Rattle.vq_model.specs.Plan.{is_silent}
 use Rattle.vq_model.specs.Windows.{IsSurelyReached, IsMadeWith, IsPossiblyReached}
 use Rattle.vq_model.specs.OutputText.{answer_at, answer_text, buffers_text}
 use Rattle.vq_model.specs.SlowRun.{final}

@@ -2,11 +2,14 @@
 use Rattle.std.specs.Prelude.{ℕ, List, ◌++◌, codes, []}
 use Rattle.std.specs.Fmt.{decimal}
 use Rattle.vq_model.specs.declared.statement.FaultKind.{FaultKind}
-use Rattle.vq_model.specs.declared.statement.FaultKind.TheVariants.{Syntax, Order, Number, Name, Twice, Range, Overlap, Limit}
+use Rattle.vq_model.specs.declared.statement.FaultKind.TheVariants.{Syntax, Order, Number, Name, Twice, Range, Overlap}
+use Rattle.vq_model.specs.declared.statement.FaultKind.TheVariants.{Limit}
 use Rattle.vq_model.specs.declared.plan.PlanFault.{PlanFault}
-use Rattle.vq_model.specs.declared.plan.PlanFault.TheVariants.{NoSignal, SignaledTwice, FenceUsed, Memory as NoMemoryToLower}
+use Rattle.vq_model.specs.declared.plan.PlanFault.TheVariants.{NoSignal, SignaledTwice, FenceUsed}
+use Rattle.vq_model.specs.declared.plan.PlanFault.TheVariants.{Memory as NoMemoryToLower}
 use Rattle.vq_model.specs.declared.plan.OrderFault.{OrderFault}
-use Rattle.vq_model.specs.declared.plan.OrderFault.TheVariants.{Unreachable, Unordered, FenceBusy, NotPending, Race, Memory}
+use Rattle.vq_model.specs.declared.plan.OrderFault.TheVariants.{Unreachable, Unordered, FenceBusy, NotPending, Race}
+use Rattle.vq_model.specs.declared.plan.OrderFault.TheVariants.{Memory}
 use Rattle.vq_model.specs.OutputText.{line_feed}
 
 -- a fault at one line

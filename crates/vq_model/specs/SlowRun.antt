@@ -1,12 +1,14 @@
 -- The slow run: again and again the lowest job that can be done is done whole. What it leaves in
 -- the buffers is what a script means. This project's own.
-use Rattle.std.specs.Prelude.{ℕ, max, List, fold, Bool, false, map, filter, not, ◌&&◌, length, find, Option, zero, suc, [], ◌∷◌, ◌++◌, ◌≡◌}
+use Rattle.std.specs.Prelude.{ℕ, max, List, fold, Bool, false, map, filter, not, ◌&&◌, length, find, Option, zero, suc}
+use Rattle.std.specs.Prelude.{[], ◌∷◌, ◌++◌, ◌≡◌}
 use Rattle.std.specs.Option.{option_map_or}
 use Rattle.std.specs.List.{range_with_len, filter_map, flat_map}
 use Rattle.vq_model.specs.declared.script.Command.{Command}
 use Rattle.vq_model.specs.Plan.{Plan, has, job_of, chain, initial, value, commands_of, signals_of, command_at}
 use Rattle.vq_model.specs.Edges.{AtEnd}
-use Rattle.vq_model.specs.Machine.{are_reached, can_start, Step, StartStep, ApplyStep, SignalStep, FinishStep, Run, state_after, IsFinished}
+use Rattle.vq_model.specs.Machine.{are_reached, can_start, Step, StartStep, ApplyStep, SignalStep, FinishStep, Run}
+use Rattle.vq_model.specs.Machine.{state_after, IsFinished}
 use Rattle.vq_model.specs.Memory.{Memory, zeros_of, after_all}
 
 -- Payloads

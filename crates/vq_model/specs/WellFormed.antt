@@ -2,7 +2,8 @@
 -- This project's own.
 use Rattle.std.specs.Prelude.{ℕ, ◌≡◌, ◌<◌, true, List, [], ◌∷◌, ◌⊎◌, false, length, Some, ◌≤◌}
 use Rattle.vq_model.specs.declared.script.Command.{Command}
-use Rattle.vq_model.specs.Plan.{has, Plan, value, command_at, needs, waits_for_any, commands_of, signals_of, is_host_step, chain, job_of, chain_of, host_before, question, is_silent}
+use Rattle.vq_model.specs.Plan.{has, Plan, value, command_at, needs, waits_for_any, commands_of, signals_of}
+use Rattle.vq_model.specs.Plan.{is_host_step, chain, job_of, chain_of, host_before, question, is_silent}
 use Rattle.vq_model.specs.Ranges.{Fits}
 use Rattle.vq_model.specs.Edges.{must_finish, waits_at_start}
 

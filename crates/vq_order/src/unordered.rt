@@ -8,7 +8,8 @@ ghost use Rattle.vq_model.specs.Context.{is_binary};
 ghost use Rattle.vq_model.specs.Plan.{chain, value, line_of_op, needs};
 ghost use Rattle.vq_model.specs.Signals.{kind_of};
 ghost use Rattle.vq_order.specs.LeastLines.{AreLeastOrNone};
-ghost use Rattle.vq_order.specs.UnorderedLines.{IsTooLow, IsUnsureFor, AreUnordered, IsUnorderedNext, IsUnorderedAt, IsUnorderedIn};
+ghost use Rattle.vq_order.specs.UnorderedLines.{IsTooLow, IsUnsureFor, AreUnordered, IsUnorderedNext, IsUnorderedAt};
+ghost use Rattle.vq_order.specs.UnorderedLines.{IsUnorderedIn};
 ghost use Rattle.vq_order.specs.UnorderedLines.{IsOvertakenBy, IsNextOrNone, IsOvertaken, IsOvertakenIn};
 ghost use Rattle.vq_order.specs.VectorClocks.{IsComplete};
 

@@ -4,7 +4,8 @@ ghost use Rattle.std.specs.Prelude.{◌≡◌, ◌<◌, ◌++◌, ℕ, length, t
 ghost use Rattle.vq_model.specs.Plan.{Plan, has, chain, initial, value};
 ghost use Rattle.vq_model.specs.WellFormed.{IsWellFormed};
 ghost use Rattle.vq_model.specs.SlowRun.{is_ready, slow_order, left_over};
-ghost use Rattle.vq_model.specs.Checks.{IsUnreachableAt, IsLawful, IsUnordered, IsRaceAt, NoLines, is_timeline_chain, IsFenceBusyAt, NoLine, IsFirstPlanFault};
+ghost use Rattle.vq_model.specs.Checks.{IsUnreachableAt, IsLawful, IsUnordered, IsRaceAt, NoLines, is_timeline_chain};
+ghost use Rattle.vq_model.specs.Checks.{IsFenceBusyAt, NoLine, IsFirstPlanFault};
 ghost use Rattle.vq_model.specs.Edges.{Stage, edges_at, edges_to, EdgeAt};
 ghost use Rattle.vq_model.specs.Sure.{IsSureAt, RisesFrom};
 ghost use Rattle.vq_model.specs.HappensBefore.{HappensBeforeAt, comes_earlier};

@@ -1,13 +1,16 @@
 -- Laws on lists of events: the point law and the pending law. Events stand latest first where a law
 -- looks back. This project's own.
-use Rattle.std.specs.Prelude.{List, [], ◌∷◌, ℕ, ◌==◌, Bool, false, ◌&&◌, if◌then◌else◌, Option, Some, None, not, ◌||◌, ◌+◌, ◌≡◌, ◌≢◌, true, nat_le}
+use Rattle.std.specs.Prelude.{List, [], ◌∷◌, ℕ, ◌==◌, Bool, false, ◌&&◌, if◌then◌else◌, Option, Some, None, not, ◌||◌}
+use Rattle.std.specs.Prelude.{◌+◌, ◌≡◌, ◌≢◌, true, nat_le}
 use Rattle.std.specs.List.{list_any, list_all}
 use Rattle.vq_model.specs.declared.plan.Event.{Event}
-use Rattle.vq_model.specs.declared.plan.Event.TheVariants.{Take, Free, Refer, Unref, Signal, Complete, Bind, Release, Start, Look}
+use Rattle.vq_model.specs.declared.plan.Event.TheVariants.{Take, Free, Refer, Unref, Signal, Complete, Bind, Release}
+use Rattle.vq_model.specs.declared.plan.Event.TheVariants.{Start, Look}
 use Rattle.vq_model.specs.declared.script.ActorName.{ActorName}
 use Rattle.vq_model.specs.declared.plan.Need.{Need}
 use Rattle.vq_model.specs.Canonical.{same_actor}
-use Rattle.vq_model.specs.Plan.{Plan, chain_of, chain, initial, value, needs, signals_of, is_batch, job_of, is_host_step}
+use Rattle.vq_model.specs.Plan.{Plan, chain_of, chain, initial, value, needs, signals_of, is_batch, job_of}
+use Rattle.vq_model.specs.Plan.{is_host_step}
 use Rattle.vq_points.specs.Points.{earlier_in_queue, smaller_ops}
 
 -- A law that each event of a list keeps after those before it. What came before stands latest

@@ -1,18 +1,24 @@
 -- What the actors do with points, one atomic step at a time. Each point has one binary semaphore,
 -- and carries one signal operation at a time. The construction is this project's own, over Vulkan
 -- 1.3, "Semaphores" (binary and timeline).
-use Rattle.std.specs.Prelude.{ℕ, Bool, List, Option, false, [], None, length, filter, Some, nat_lt, nat_le, ◌||◌, if◌then◌else◌, ◌==◌, count_by, ◌&&◌, not, ◌≡◌, true, MatchBool, is_some, ◌<◌, ◌∷◌, ◌+◌}
+use Rattle.std.specs.Prelude.{ℕ, Bool, List, Option, false, [], None, length, filter, Some, nat_lt, nat_le, ◌||◌}
+use Rattle.std.specs.Prelude.{if◌then◌else◌, ◌==◌, count_by, ◌&&◌, not, ◌≡◌, true, MatchBool, is_some, ◌<◌, ◌∷◌, ◌+◌}
 use Rattle.std.specs.List.{range_with_len, list_all, list_any, slice_get, filter_map}
 use Rattle.std.specs.Option.{option_map_or, option_to_list}
 use Rattle.vq_model.specs.declared.script.ActorName.{ActorName}
 use Rattle.vq_model.specs.declared.plan.Lane.{Lane}
-use Rattle.vq_model.specs.declared.script.ActorName.TheVariants.{Host as HostActor, Submit as SubmitActor, Ring as RingActor}
+use Rattle.vq_model.specs.declared.script.ActorName.TheVariants.{Host as HostActor, Submit as SubmitActor}
+use Rattle.vq_model.specs.declared.script.ActorName.TheVariants.{Ring as RingActor}
 use Rattle.vq_model.specs.declared.plan.Lane.TheVariants.{Host as HostLane, Queue as QueueLane}
 use Rattle.vq_model.specs.declared.plan.Need.{Need}
 use Rattle.vq_model.specs.declared.plan.Event.{Event}
-use Rattle.vq_model.specs.declared.plan.Event.TheVariants.{Submit, Take, Release, Bind, Refer, Look, Unref, Complete, Free, Start as Starts, Apply as Applies, Signal as Signals, Finish as Finishes, Answer as AnswersAs}
-use Rattle.vq_model.specs.Machine.{State, opening_state, next, are_reached, FinishStep, CanStep, AnswerStep, CanApply, put, StartStep, ApplyStep, SignalStep, after_step, Step}
-use Rattle.vq_model.specs.Plan.{Plan, of_job, same_lane, needs, waits_for_any, initial, resolver, is_host_step, chain, value, is_batch, job_of, chain_of, signals_of, previous, idle_after, has, commands_of}
+use Rattle.vq_model.specs.declared.plan.Event.TheVariants.{Submit, Take, Release, Bind, Refer, Look, Unref, Complete}
+use Rattle.vq_model.specs.declared.plan.Event.TheVariants.{Free, Start as Starts, Apply as Applies, Signal as Signals}
+use Rattle.vq_model.specs.declared.plan.Event.TheVariants.{Finish as Finishes, Answer as AnswersAs}
+use Rattle.vq_model.specs.Machine.{State, opening_state, next, are_reached, FinishStep, CanStep, AnswerStep, CanApply}
+use Rattle.vq_model.specs.Machine.{put, StartStep, ApplyStep, SignalStep, after_step, Step}
+use Rattle.vq_model.specs.Plan.{Plan, of_job, same_lane, needs, waits_for_any, initial, resolver, is_host_step, chain}
+use Rattle.vq_model.specs.Plan.{value, is_batch, job_of, chain_of, signals_of, previous, idle_after, has, commands_of}
 use Rattle.vq_model.specs.Edges.{At, needs_at, AtEnd}
 use Rattle.vq_model.specs.Canonical.{same_actor}
 

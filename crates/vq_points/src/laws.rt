@@ -6,7 +6,9 @@ ghost use Rattle.vq_points.specs.Points.{HistoryFrom, opening_points};
 ghost use Rattle.vq_points.specs.HistoryLaws.{PointLaw, PendingLaw};
 ghost use Rattle.vq_model.specs.declared.plan.Event.{Event};
 ghost use Rattle.vq_model.specs.WellFormed.{IsWellFormed};
-ghost use Rattle.vq_points.specs.Timeline.{Timeline, KeepsLists, AreRisingFrom, new_timeline, MayTake, after_take, MayBind, is_next, after_bind, after_complete, MayFree, after_free, all_points, fresh_points};
+ghost use Rattle.vq_points.specs.Timeline.{Timeline, KeepsLists, AreRisingFrom, new_timeline, MayTake, after_take};
+ghost use Rattle.vq_points.specs.Timeline.{MayBind, is_next, after_bind, after_complete, MayFree, after_free};
+ghost use Rattle.vq_points.specs.Timeline.{all_points, fresh_points};
 ghost use Rattle.vq_points.specs.PointWord.{PointWord, IsPointWord, pack, unpack};
 
 /// Every history keeps the point law: no point is used again before its operation is signaled and

@@ -4,7 +4,8 @@ use Rattle.std.specs.Prelude.{ℕ, ◌≡◌, ◌≤◌, ◌↔◌, ◌++◌, �
 use Rattle.vq_model.specs.declared.plan.Event.{Event}
 use Rattle.vq_model.specs.Plan.{Plan, has, commands_of, signals_of, job_of, chain_of, value, is_host_step}
 use Rattle.vq_model.specs.Edges.{At, stage_of, HasNoHeldWait}
-use Rattle.vq_model.specs.Machine.{Step, StartStep, Run, state_after, ProgressRun, progress_after, AreFinished, IsFinished, was_since}
+use Rattle.vq_model.specs.Machine.{Step, StartStep, Run, state_after, ProgressRun, progress_after, AreFinished}
+use Rattle.vq_model.specs.Machine.{IsFinished, was_since}
 use Rattle.vq_model.specs.SlowRun.{bytes_after, final, slow_order, steps_of_jobs}
 use Rattle.vq_model.specs.HappensBefore.{HappensBefore, HappensBeforeAt, HappensBeforeCommand}
 use Rattle.vq_model.specs.Sure.{IsSure, IsSureAt}

@@ -3,7 +3,8 @@
 //! forms of lines made it, and so of each lawful plan of a script that was read (the clause `lawful`).
 ghost use Rattle.std.specs.Prelude.{◌≡◌, ◌≤◌, ◌↔◌, List, ℕ, true, false};
 ghost use Rattle.vq_model.specs.Plan.{Plan};
-ghost use Rattle.vq_model.specs.Machine.{Step, ProgressRun, progress_after, Run, state_after, without_answers, is_reached, are_reached};
+ghost use Rattle.vq_model.specs.Machine.{Step, ProgressRun, progress_after, Run, state_after, without_answers};
+ghost use Rattle.vq_model.specs.Machine.{is_reached, are_reached};
 ghost use Rattle.vq_model.specs.SlowRun.{HasOneResult, payload_after, slow_order};
 ghost use Rattle.vq_model.specs.Checks.{IsLawful, IsUnreachableAt};
 ghost use Rattle.vq_model.specs.LoweringFaults.{IsPlan};
@@ -11,7 +12,8 @@ ghost use Rattle.vq_model.specs.WellFormed.{IsWellFormed, KeepsHostOrder};
 ghost use Rattle.vq_model.specs.Races.{HasSureOrder};
 ghost use Rattle.vq_model.specs.Edges.{HasNoHeldWait, AtEnd};
 ghost use Rattle.vq_model.specs.HappensBefore.{HappensBeforeCommand, HappensBefore};
-ghost use Rattle.vq_run_laws.specs.RunFacts.{HasOneProgress, IsSureInTime, SlowRunIsRun, MakesAsPayloadsSay, MakesNoneAfter, ReadsPayloads, HistoriesAreRuns, RunsGiveOutputs};
+ghost use Rattle.vq_run_laws.specs.RunFacts.{HasOneProgress, IsSureInTime, SlowRunIsRun, MakesAsPayloadsSay};
+ghost use Rattle.vq_run_laws.specs.RunFacts.{MakesNoneAfter, ReadsPayloads, HistoriesAreRuns, RunsGiveOutputs};
 
 /// Every finished run leaves the bytes of the slow run, whatever the order of its steps. So does every
 /// one without answers.

@@ -4,12 +4,14 @@ use Rattle.std.specs.Prelude.{ℕ, ◌≡◌, Bool, ◌||◌, not, false, find, 
 use Rattle.std.specs.List.{list_all}
 use Rattle.std.specs.Option.{option_map_or}
 use Rattle.vq_model.specs.declared.statement.FaultKind.{FaultKind}
-use Rattle.vq_model.specs.declared.statement.FaultKind.TheVariants.{Syntax, Order, Number, Name, Twice, Range, Overlap, Limit}
+use Rattle.vq_model.specs.declared.statement.FaultKind.TheVariants.{Syntax, Order, Number, Name, Twice, Range, Overlap}
+use Rattle.vq_model.specs.declared.statement.FaultKind.TheVariants.{Limit}
 use Rattle.vq_model.specs.declared.statement.Statement.{Statement}
 use Rattle.vq_model.specs.declared.statement.Line.{Line}
 use Rattle.vq_model.specs.Context.{version_of}
 use Rattle.vq_model.specs.Limits.{limits_of, passes_limit}
-use Rattle.vq_model.specs.LineFaults.{is_shaped, is_numeric, is_known, is_new, is_out_of_order, is_in_range, overlaps, kinds}
+use Rattle.vq_model.specs.LineFaults.{is_shaped, is_numeric, is_known, is_new, is_out_of_order, is_in_range, overlaps}
+use Rattle.vq_model.specs.LineFaults.{kinds}
 use Rattle.vq_model.specs.Meaning.{is_built, statement_of}
 use Rattle.vq_model.specs.declared.statement.LineForm.{LineForm}
 use Rattle.vq_model.specs.Forms.{Slot, places}

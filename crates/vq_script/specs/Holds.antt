@@ -1,5 +1,6 @@
 -- What the parser keeps of the lines that it has read.
-use Rattle.std.specs.Prelude.{ℕ, ◌≡◌, ◌+◌, ◌≤◌, Bool, nat_lt, false, List, [], ◌∷◌, ◌++◌, length, map, sum, Option, Some, None, is_some, if◌then◌else◌}
+use Rattle.std.specs.Prelude.{ℕ, ◌≡◌, ◌+◌, ◌≤◌, Bool, nat_lt, false, List, [], ◌∷◌, ◌++◌, length, map, sum, Option}
+use Rattle.std.specs.Prelude.{Some, None, is_some, if◌then◌else◌}
 use Rattle.std.specs.List.{filter_map, flat_map}
 use Rattle.std.specs.Option.{option_or}
 use Rattle.vq_model.specs.declared.script.Buffer.{Buffer}
@@ -15,10 +16,12 @@ use Rattle.vq_model.specs.declared.statement.Statement.{Statement}
 use Rattle.vq_model.specs.declared.statement.Statement.TheVariants.{AddWait}
 use Rattle.vq_model.specs.declared.statement.Section.{Section}
 use Rattle.vq_model.specs.declared.statement.Section.TheVariants.{Outside, InBatch}
-use Rattle.vq_model.specs.Context.{section, version_of, buffers, semaphores, queues, count, some, open_batch, last_queue, is_command, is_wait, is_signal, is_batch_fence}
+use Rattle.vq_model.specs.Context.{section, version_of, buffers, semaphores, queues, count, some, open_batch}
+use Rattle.vq_model.specs.Context.{last_queue, is_command, is_wait, is_signal, is_batch_fence}
 use Rattle.vq_model.specs.Limits.{is_job}
 use Rattle.vq_model.specs.LineFaults.{part_of}
-use Rattle.vq_model.specs.ScriptOfLines.{batch_lines, wait_of, command_of, signal_of, fence_of, first_of_list, jobs_of, is_schedule, turns_at}
+use Rattle.vq_model.specs.ScriptOfLines.{batch_lines, wait_of, command_of, signal_of, fence_of, first_of_list, jobs_of}
+use Rattle.vq_model.specs.ScriptOfLines.{is_schedule, turns_at}
 use Rattle.vq_script.specs.declared.known.Known.{Known}
 use Rattle.vq_script.specs.declared.open_batch.OpenBatch.{OpenBatch}
 

@@ -1,5 +1,6 @@
 -- The tests of a line, over what the parser keeps of the lines before it.
-use Rattle.std.specs.Prelude.{ℕ, ◌+◌, Bool, true, false, ◌&&◌, ◌||◌, not, cond, length, nat_lt, is_some, List, [], Option, Some, None}
+use Rattle.std.specs.Prelude.{ℕ, ◌+◌, Bool, true, false, ◌&&◌, ◌||◌, not, cond, length, nat_lt, is_some, List, []}
+use Rattle.std.specs.Prelude.{Option, Some, None}
 use Rattle.std.specs.List.{list_all, slice_get}
 use Rattle.std.specs.Option.{option_map_or}
 use Rattle.vq_model.specs.declared.script.Batch.{Batch}
@@ -12,11 +13,13 @@ use Rattle.vq_model.specs.declared.statement.Line.{Line}
 use Rattle.vq_model.specs.declared.statement.LineForm.{LineForm}
 use Rattle.vq_model.specs.declared.statement.LineForm.TheVariants.{WaitTimelineLine, WaitBinaryLine}
 use Rattle.vq_model.specs.declared.statement.Statement.{Statement}
-use Rattle.vq_model.specs.declared.statement.Statement.TheVariants.{AddWait, AddCommand, AddSignal, BeginBatch, DeclareBuffer, DeclareSemaphore, DeclareQueue}
+use Rattle.vq_model.specs.declared.statement.Statement.TheVariants.{AddWait, AddCommand, AddSignal, BeginBatch}
+use Rattle.vq_model.specs.declared.statement.Statement.TheVariants.{DeclareBuffer, DeclareSemaphore, DeclareQueue}
 use Rattle.vq_model.specs.Context.{is_immediate}
 use Rattle.vq_model.specs.Forms.{Slot, NewName, BufferName, TimelineName, BinaryName, FenceName, QueueName}
 use Rattle.vq_model.specs.Limits.{limits_of, passes_limit}
-use Rattle.vq_model.specs.LineFaults.{is_shaped, is_declaration, part_of_form, is_batch_fence_form, is_in_range, overlaps}
+use Rattle.vq_model.specs.LineFaults.{is_shaped, is_declaration, part_of_form, is_batch_fence_form, is_in_range}
+use Rattle.vq_model.specs.LineFaults.{overlaps}
 use Rattle.vq_model.specs.Meaning.{is_built}
 use Rattle.vq_model.specs.Ranges.{is_aligned}
 use Rattle.vq_script.specs.Holds.{Kept, last_part, named_fence, waits_of, commands_of, signals_of}

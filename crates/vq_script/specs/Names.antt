@@ -14,7 +14,9 @@ use Rattle.vq_model.specs.declared.script.Queue.{Queue}
 use Rattle.vq_model.specs.Context.{is_timeline, is_binary, is_fence}
 use Rattle.vq_model.specs.Forms.{Slot, BufferName, TimelineName, BinaryName, FenceName, QueueName}
 use Rattle.vq_script.specs.declared.named_item.NamedItem.{NamedItem}
-use Rattle.vq_script.specs.declared.named_item.NamedItem.TheVariants.{Buffer as BufferAt, Timeline as TimelineAt, Binary as BinaryAt, Fence as FenceAt, Queue as QueueAt}
+use Rattle.vq_script.specs.declared.named_item.NamedItem.TheVariants.{Buffer as BufferAt, Timeline as TimelineAt}
+use Rattle.vq_script.specs.declared.named_item.NamedItem.TheVariants.{Binary as BinaryAt, Fence as FenceAt}
+use Rattle.vq_script.specs.declared.named_item.NamedItem.TheVariants.{Queue as QueueAt}
 
 -- what the bytes of a name stand for in the map
 abbrev pub item_of : BTreeMap (Vec ℕ) NamedItem → List ℕ → Option NamedItem

@@ -1,5 +1,6 @@
 -- What a line says, before it is kept, and what is kept after it.
-use Rattle.std.specs.Prelude.{ℕ, cond, ◌≡◌, ◌+◌, ◌<◌, ◌≤◌, ◌^◌, Bool, true, false, nat_lt, List, [], ◌∷◌, ◌++◌, length, Option, Some, None, is_some, map, ⊤}
+use Rattle.std.specs.Prelude.{ℕ, cond, ◌≡◌, ◌+◌, ◌<◌, ◌≤◌, ◌^◌, Bool, true, false, nat_lt, List, [], ◌∷◌, ◌++◌, length}
+use Rattle.std.specs.Prelude.{Option, Some, None, is_some, map, ⊤}
 use Rattle.std.specs.List.{list_all}
 use Rattle.std.specs.Option.{option_map}
 use Rattle.vq_model.specs.declared.script.Batch.{Batch}
@@ -8,17 +9,27 @@ use Rattle.vq_model.specs.declared.script.Command.TheVariants.{Fill, Update, Cop
 use Rattle.vq_model.specs.declared.script.FillSize.TheVariants.{Whole, Count}
 use Rattle.vq_model.specs.declared.script.Pair.{Pair}
 use Rattle.vq_model.specs.declared.statement.LineForm.{LineForm}
-use Rattle.vq_model.specs.declared.statement.LineForm.TheVariants.{BufferLine, TimelineLine, BinaryLine, FenceLine, QueueLine, UpdateLine, SubmitLine, WaitTimelineLine, WaitBinaryLine, SignalTimelineLine, SignalBinaryLine, BatchFenceLine, EndLine, FillWholeLine, FillLine, CopyLine}
+use Rattle.vq_model.specs.declared.statement.LineForm.TheVariants.{BufferLine, TimelineLine, BinaryLine, FenceLine}
+use Rattle.vq_model.specs.declared.statement.LineForm.TheVariants.{QueueLine, UpdateLine, SubmitLine, WaitTimelineLine}
+use Rattle.vq_model.specs.declared.statement.LineForm.TheVariants.{WaitBinaryLine, SignalTimelineLine, SignalBinaryLine}
+use Rattle.vq_model.specs.declared.statement.LineForm.TheVariants.{BatchFenceLine, EndLine, FillWholeLine, FillLine}
+use Rattle.vq_model.specs.declared.statement.LineForm.TheVariants.{CopyLine}
 use Rattle.vq_model.specs.declared.statement.Statement.{Statement}
-use Rattle.vq_model.specs.declared.statement.Statement.TheVariants.{AddWait, AddCommand, AddSignal, AddFence, BeginBatch, EndBatch, DeclareBuffer, DeclareSemaphore, DeclareQueue}
-use Rattle.vq_model.specs.Forms.{Slot, NewName, BufferName, TimelineName, BinaryName, FenceName, QueueName, HexDigits, Fixed, Pairs, places}
+use Rattle.vq_model.specs.declared.statement.Statement.TheVariants.{AddWait, AddCommand, AddSignal, AddFence}
+use Rattle.vq_model.specs.declared.statement.Statement.TheVariants.{BeginBatch, EndBatch, DeclareBuffer}
+use Rattle.vq_model.specs.declared.statement.Statement.TheVariants.{DeclareSemaphore, DeclareQueue}
+use Rattle.vq_model.specs.Forms.{Slot, NewName, BufferName, TimelineName, BinaryName, FenceName, QueueName, HexDigits}
+use Rattle.vq_model.specs.Forms.{Fixed, Pairs, places}
 use Rattle.vq_model.specs.Limits.{limits_of}
 use Rattle.vq_model.specs.LineFaults.{part_of_form}
-use Rattle.vq_model.specs.Meaning.{is_hex, hex_bytes, small_numeral, binary_pair, of_two, of_three, of_four, of_five, statement_of}
+use Rattle.vq_model.specs.Meaning.{is_hex, hex_bytes, small_numeral, binary_pair, of_two, of_three, of_four, of_five}
+use Rattle.vq_model.specs.Meaning.{statement_of}
 use Rattle.vq_model.specs.ScriptOfLines.{mark}
 use Rattle.vq_model.specs.Text.{is_name, numeral}
 use Rattle.vq_script.specs.declared.said.Said.{Said}
-use Rattle.vq_script.specs.declared.said.Said.TheVariants.{Buffer, Semaphore, Queue, Submit, Wait, FillWhole, Fill as SaidFill, Update as SaidUpdate, Copy as SaidCopy, Signal, Fence, End}
+use Rattle.vq_script.specs.declared.said.Said.TheVariants.{Buffer, Semaphore, Queue, Submit, Wait, FillWhole}
+use Rattle.vq_script.specs.declared.said.Said.TheVariants.{Fill as SaidFill, Update as SaidUpdate, Copy as SaidCopy}
+use Rattle.vq_script.specs.declared.said.Said.TheVariants.{Signal, Fence, End}
 use Rattle.vq_script.specs.Holds.{Kept, last_part, with_buffer, with_semaphore, with_queue, with_command, with_batch}
 use Rattle.vq_script.specs.LineTests.{number_of}
 use Rattle.vq_script.specs.Names.{is_taken}

@@ -1,12 +1,16 @@
 -- The places of the code's table, as the places of the definitions.
 use Rattle.std.specs.Prelude.{ℕ, List, map, Bool, true, false, [], ◌∷◌}
 use Rattle.std.specs.Str.{bytes_eq}
-use Rattle.vq_model.specs.Forms.{Slot, Fixed, NewName, BufferName, TimelineName, BinaryName, FenceName, QueueName, Numeral, SmallNumeral, HexDigits, Actor, Pairs, forms_outside, forms_in_batch, forms_in_schedule}
+use Rattle.vq_model.specs.Forms.{Slot, Fixed, NewName, BufferName, TimelineName, BinaryName, FenceName, QueueName}
+use Rattle.vq_model.specs.Forms.{Numeral, SmallNumeral, HexDigits, Actor, Pairs, forms_outside, forms_in_batch}
+use Rattle.vq_model.specs.Forms.{forms_in_schedule}
 use Rattle.vq_model.specs.declared.statement.LineForm.{LineForm}
 use Rattle.vq_model.specs.declared.statement.Section.{Section}
 use Rattle.vq_model.specs.declared.statement.Section.TheVariants.{Outside, InBatch, InSchedule}
 use Rattle.vq_script.specs.declared.table.Token.{Token}
-use Rattle.vq_script.specs.declared.table.Token.TheVariants.{Word, Name, BufferToken, TimelineToken, BinaryToken, FenceToken, QueueToken, Number, SmallNumber, Digits, ActorToken, PairTokens}
+use Rattle.vq_script.specs.declared.table.Token.TheVariants.{Word, Name, BufferToken, TimelineToken, BinaryToken}
+use Rattle.vq_script.specs.declared.table.Token.TheVariants.{FenceToken, QueueToken, Number, SmallNumber, Digits}
+use Rattle.vq_script.specs.declared.table.Token.TheVariants.{ActorToken, PairTokens}
 
 abbrev pub place_of : Token → Slot
 place_of (Word text) = Fixed text.now

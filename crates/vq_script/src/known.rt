@@ -1,5 +1,6 @@
 //! What the lines so far declare and submit.
-ghost use Rattle.std.specs.Prelude.{◌≡◌, ◌+◌, ◌<◌, ◌≤◌, ◌||◌, ◌++◌, ◌∷◌, [], ℕ, List, nat_lt, length, false, is_some, not, OnOk};
+ghost use Rattle.std.specs.Prelude.{◌≡◌, ◌+◌, ◌<◌, ◌≤◌, ◌||◌, ◌++◌, ◌∷◌, [], ℕ, List, nat_lt, length, false, is_some};
+ghost use Rattle.std.specs.Prelude.{not, OnOk};
 ghost use Rattle.std.specs.Option.{option_map_or};
 ghost use Rattle.std.specs.List.{slice_get};
 ghost use Rattle.vq_model.specs.Forms.{Slot};
@@ -46,7 +47,9 @@ impl Known {
     ghost use Rattle.vq_model.specs.Context.{is_immediate};
     ghost use Rattle.vq_model.specs.ScriptOfLines.{script_of};
     ghost use Rattle.vq_model.specs.declared.statement.Line.{Line};
-    ghost use Rattle.vq_script.specs.Holds.{Holds, Keeps, kept, last_part, named_fence, waits_of, commands_of, signals_of, open_so_far, section_of, with_buffer, with_semaphore, with_queue};
+    ghost use Rattle.vq_script.specs.Holds.{Holds, Keeps, kept, last_part, named_fence, waits_of, commands_of};
+    ghost use Rattle.vq_script.specs.Holds.{signals_of, open_so_far, section_of, with_buffer, with_semaphore};
+    ghost use Rattle.vq_script.specs.Holds.{with_queue};
     ghost use Rattle.vq_script.specs.LineTests.{is_immediate_in, number_of, size_in};
     ghost use Rattle.vq_script.specs.Table.{place_of};
 

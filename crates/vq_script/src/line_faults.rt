@@ -6,7 +6,8 @@ ghost use Rattle.vq_model.specs.declared.statement.FaultKind.TheVariants.{Name, 
 ghost use Rattle.vq_model.specs.declared.statement.Line.{Line};
 ghost use Rattle.vq_script.specs.Faults.{Tells};
 ghost use Rattle.vq_script.specs.Holds.{Keeps, kept, open_so_far};
-ghost use Rattle.vq_script.specs.LineTests.{is_built_in, is_late, is_within_in, size_in, is_in_range_in, passes_in, word_fault, said_fault};
+ghost use Rattle.vq_script.specs.LineTests.{is_built_in, is_late, is_within_in, size_in, is_in_range_in, passes_in};
+ghost use Rattle.vq_script.specs.LineTests.{word_fault, said_fault};
 ghost use Rattle.vq_script.specs.OpenWords.{opens};
 ghost use Rattle.vq_script.specs.SaidLines.{AreFound, IsSmall, May, Stands, statement_in};
 

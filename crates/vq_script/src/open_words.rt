@@ -54,7 +54,7 @@ fn push_pairs<'a>(words: &[&'a [u8]], found: &mut Vec<OpenWord<'a>>) -> Result<(
 }
 
 /// Puts the words at the open places of a form in place of those of the line before.
-#[tactic(auto, using(crate::proofs::TableSteps::open_pairs, crate::proofs::TableSteps::open_none, crate::proofs::TableSteps::open_rest))]
+#[tactic(auto, using(crate::proofs::Opened::pairs, crate::proofs::Opened::none, crate::proofs::Opened::rest))]
 pub fn find_open<'a>(
     form: LineForm,
     words: &[&'a [u8]],

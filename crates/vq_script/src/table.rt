@@ -167,7 +167,7 @@ pub fn are_pairs(places: &[Token]) -> bool
 }
 
 /// Whether words are as many as places.
-#[tactic(auto, using(crate::proofs::TableSteps::as_many_pairs, crate::proofs::TableSteps::as_many_none, crate::proofs::TableSteps::as_many_rest))]
+#[tactic(auto, using(crate::proofs::AsMany::pairs, crate::proofs::AsMany::none, crate::proofs::AsMany::rest))]
 fn are_as_many(places: &[Token], words: &[&[u8]]) -> bool
     ensures { result ≡ are_as_many (places_of places.now) (texts words.now) }
 {

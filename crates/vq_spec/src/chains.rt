@@ -3,7 +3,8 @@
 ghost use Rattle.std.specs.Prelude.{◌≡◌, ◌<◌, ◌^◌, [], All, IfOk, map, length};
 ghost use Rattle.std.specs.List.{enumerate_from, range_with_len};
 ghost use Rattle.std.specs.List.Sorted.{IsSorted};
-ghost use Rattle.vq_spec.specs.ChainParts.{members, is_before, pair_cmp, placed, Sorts, AreSorted, IsSearchable, first_with, place_in};
+ghost use Rattle.vq_spec.specs.ChainParts.{members, is_before, pair_cmp, placed, Sorts, AreSorted, IsSearchable};
+ghost use Rattle.vq_spec.specs.ChainParts.{first_with, place_in};
 
 use std::alloc::{AllocError, Global};
 use vq_model::list::List;

@@ -3,7 +3,8 @@ ghost use Rattle.std.specs.Prelude.{◌≡◌, ◌<◌, All, IfOk, length};
 ghost use Rattle.std.specs.Option.{option_map_or};
 ghost use Rattle.vq_model.specs.SameScript.{IsRead};
 ghost use Rattle.vq_model.specs.ValidScripts.{HasValidBatches, IsValidBatch};
-ghost use Rattle.vq_spec.specs.Walks.{was_signaled, was_named, fault_after, Walks, walk_mark, walk_marks, walk_batch, walk_jobs, FindsFault, never_used};
+ghost use Rattle.vq_spec.specs.Walks.{was_signaled, was_named, fault_after, Walks, walk_mark, walk_marks, walk_batch};
+ghost use Rattle.vq_spec.specs.Walks.{walk_jobs, FindsFault, never_used};
 
 use std::alloc::{AllocError, Global};
 use vq_model::list::List;

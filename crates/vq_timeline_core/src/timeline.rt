@@ -1,7 +1,9 @@
 ghost use Rattle.std.specs.Prelude.{◌≡◌, ◌↔◌, ℕ, ◌^◌, ◌<◌, ◌≤◌, length, None, IsErr, IfOk, IfErr, OnOk, OnErr};
 ghost use Rattle.std.specs.List.Sorted.{IsPartitionPoint};
 ghost use Rattle.std.specs.Option.{option_map};
-ghost use Rattle.vq_points.specs.Timeline.{KeepsLists, AreRisingFrom, new_timeline, point_at, past_value, pending_value, pending, first_pending, MayTake, after_take, MayBind, next_unbound, after_bind, after_complete, MayFree, after_free};
+ghost use Rattle.vq_points.specs.Timeline.{KeepsLists, AreRisingFrom, new_timeline, point_at, past_value};
+ghost use Rattle.vq_points.specs.Timeline.{pending_value, pending, first_pending, MayTake, after_take, MayBind};
+ghost use Rattle.vq_points.specs.Timeline.{next_unbound, after_bind, after_complete, MayFree, after_free};
 ghost use Rattle.vq_timeline_core.specs.Answers.{taken_answer, found, place_of};
 
 use crate::{Found, NotNext, OpPlace, Taken};

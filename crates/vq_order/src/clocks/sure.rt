@@ -3,7 +3,8 @@ ghost use Rattle.std.specs.Prelude.{◌≡◌, ◌<◌, true, length, IfOk};
 ghost use Rattle.vq_model.specs.Edges.{AtEnd, must_finish};
 ghost use Rattle.vq_model.specs.Plan.{has};
 ghost use Rattle.vq_model.specs.SlowRun.{slow_order};
-ghost use Rattle.vq_order.specs.VectorClocks.{in_row, lanes, AddsJob, AddsOp, EndsOps, HasSureClocks, IsSureClock, MakesSureClock};
+ghost use Rattle.vq_order.specs.VectorClocks.{in_row, lanes, AddsJob, AddsOp, EndsOps, HasSureClocks, IsSureClock};
+ghost use Rattle.vq_order.specs.VectorClocks.{MakesSureClock};
 
 use crate::clocks::rows::{Row, Rows};
 use crate::complete_run::CompleteRun;
