@@ -1,5 +1,5 @@
 -- One step of the tests of words against places.
-use Rattle.std.proofs.Common.{◌≡◌, ℕ, List, [], ◌∷◌, refl}
+use Rattle.std.proofs.Common.{◌≡◌, ℕ, true, List, [], ◌∷◌, refl}
 use Rattle.std.specs.Prelude.{◌&&◌}
 use Rattle.vq_model.specs.Forms.{Slot, Fixed}
 use Rattle.vq_model.specs.Meaning.{agree}
