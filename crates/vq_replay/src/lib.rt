@@ -1,0 +1,10 @@
+//! Schedules: the turns that a script gives to its actors, played over a core, and the text of what they
+//! came to.
+#![tactic(auto)]
+
+mod played;
+mod trace;
+mod words;
+
+pub use played::Played;
+pub use trace::push_turns;
