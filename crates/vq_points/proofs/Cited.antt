@@ -5,4 +5,6 @@ pub use Rattle.vq_points.proofs.Completions.{complete_keeps, least_pending}
 pub use Rattle.vq_points.proofs.Freeings.{free_keeps}
 pub use Rattle.vq_points.proofs.HeldPoints.{entries_count}
 pub use Rattle.vq_points.proofs.NewTimelines.{new_keeps}
+pub use Rattle.vq_points.proofs.PointFacts.{Links, Waits}
+pub use Rattle.vq_points.proofs.PointHistories.{at_opening, one_event}
 pub use Rattle.vq_points.proofs.Takes.{take_keeps}

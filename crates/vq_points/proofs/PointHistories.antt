@@ -21,7 +21,7 @@ free_law p h w q k g =
     let c = k.counts q in
     record { op = v.op; last_take = k.carries q v.op v.carried; signaled = v.signaled; completed = v.completed; given_back = omega arith }
 
-one_event : (p : Plan) (h : List Event) (w : PointState) (x : Event) → Links p h w → CanCome p w x → KeepsPoints p h x × Links p (x ∷ h) (after_event p w x)
+pub one_event : (p : Plan) (h : List Event) (w : PointState) (x : Event) → Links p h w → CanCome p w x → KeepsPoints p h x × Links p (x ∷ h) (after_event p w x)
 one_event p h w (Submit j) k g = (tt, after_submit p h w k j)
 one_event p h w (Take e q true) k g = (fresh_law p h w k e q g, after_fresh p h w k e q g)
 one_event p h w (Take e q false) k g = (reused_law p h w k e q g, after_reused p h w k e q g)
@@ -47,7 +47,7 @@ all_events p h w (x ∷ xs) k r =
     let one = one_event p h w x k r.0 in
     (one.0, all_events p (x ∷ h) (after_event p w x) xs one.1 r.1)
 
-at_opening : (p : Plan) → Links p [] (opening_points p)
+pub at_opening : (p : Plan) → Links p [] (opening_points p)
 at_opening p =
     record {
       points = refl;

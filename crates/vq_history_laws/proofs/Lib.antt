@@ -1,0 +1,4 @@
+pub mod Cited
+mod Counts
+mod Kept
+mod Measure
