@@ -19,17 +19,18 @@ use Rattle.vq_run_laws.proofs.Payloads.{made_where_reached}
 use Rattle.vq_run_laws.proofs.NextDone.{next_in}
 use Rattle.vq_model.proofs.Puts.{put_cases, put_keeps}
 
--- the run that a history is, and where it leads
-pub record Leads (p : Plan) (s : State) (events : List Event) (end : PointState) : Type 0 where
-  pub run : RunFrom p s (steps_of events)
-  pub leads : end.machine ≡ fold (after_step p) s (steps_of events)
-
 -- What each world keeps: the facts of a run, and that a batch was submitted after the host steps before it and released after
 -- that.
 pub record Follows (p : Plan) (w : PointState) : Type 0 where
   pub machine : Invariant p w.machine.progress
   pub submitted : (j : ℕ) → w.released j ≡ true → w.submitted j ≡ true
   pub hosts : (i j : ℕ) → w.submitted j ≡ true → i < j → is_host_step p i ≡ true → w.machine.progress.finished i ≡ true
+
+-- the run that a history is, and where it leads
+pub record Leads (p : Plan) (s : State) (events : List Event) (end : PointState) : Type 0 where
+  pub run : RunFrom p s (steps_of events)
+  pub leads : end.machine ≡ fold (after_step p) s (steps_of events)
+  pub follows : Follows p end
 
 pub follows_opening : (p : Plan) → Follows p (opening_points p)
 follows_opening p =
@@ -74,7 +75,7 @@ module _ (p : Plan) (wf : IsWellFormed p) (host : KeepsHostOrder p) (ch : KeepsC
             ]
 
     -- and a signal: its operation isn't made, so the payload hasn't reached its value
-    signal_step : (e : ℕ) → CanSignalNow p w e → CanSignal p w.machine.progress e
+    pub signal_step : (e : ℕ) → CanSignalNow p w e → CanSignal p w.machine.progress e
     signal_step e g =
         record {
           job = g.job;
@@ -132,30 +133,30 @@ module _ (p : Plan) (wf : IsWellFormed p) (host : KeepsHostOrder p) (ch : KeepsC
       }
 
   pub history_leads : (w : PointState) (xs : List Event) → Follows p w → HistoryFrom p w xs → Leads p w.machine xs (fold (after_event p) w xs)
-  history_leads w [] k h = record { run = tt; leads = refl }
-  history_leads w (Submit j ∷ xs) k h = let r = history_leads (after_event p w (Submit j)) xs (follow_submit w k j h.0) h.1 in record { run = r.run; leads = r.leads }
-  history_leads w (Take e q f ∷ xs) k h = let r = history_leads (after_event p w (Take e q f)) xs (follow_points w (after_event p w (Take e q f)) k refl refl refl) h.1 in record { run = r.run; leads = r.leads }
-  history_leads w (Release j ∷ xs) k h = let r = history_leads (after_event p w (Release j)) xs (follow_release w k j h.0.submitted) h.1 in record { run = r.run; leads = r.leads }
-  history_leads w (Bind e q ∷ xs) k h = let r = history_leads (after_event p w (Bind e q)) xs (follow_points w (after_event p w (Bind e q)) k refl refl refl) h.1 in record { run = r.run; leads = r.leads }
-  history_leads w (Refer a q e ∷ xs) k h = let r = history_leads (after_event p w (Refer a q e)) xs (follow_points w (after_event p w (Refer a q e)) k refl refl refl) h.1 in record { run = r.run; leads = r.leads }
-  history_leads w (Look a q e ∷ xs) k h = let r = history_leads (after_event p w (Look a q e)) xs (follow_points w (after_event p w (Look a q e)) k refl refl refl) h.1 in record { run = r.run; leads = r.leads }
-  history_leads w (Unref a q e ∷ xs) k h = let r = history_leads (after_event p w (Unref a q e)) xs (follow_points w (after_event p w (Unref a q e)) k refl refl refl) h.1 in record { run = r.run; leads = r.leads }
-  history_leads w (Complete e ∷ xs) k h = let r = history_leads (after_event p w (Complete e)) xs (follow_points w (after_event p w (Complete e)) k refl refl refl) h.1 in record { run = r.run; leads = r.leads }
-  history_leads w (Free q ∷ xs) k h = let r = history_leads (after_event p w (Free q)) xs (follow_points w (after_event p w (Free q)) k refl refl refl) h.1 in record { run = r.run; leads = r.leads }
+  history_leads w [] k h = record { run = tt; leads = refl; follows = k }
+  history_leads w (Submit j ∷ xs) k h = let r = history_leads (after_event p w (Submit j)) xs (follow_submit w k j h.0) h.1 in record { run = r.run; leads = r.leads; follows = r.follows }
+  history_leads w (Take e q f ∷ xs) k h = let r = history_leads (after_event p w (Take e q f)) xs (follow_points w (after_event p w (Take e q f)) k refl refl refl) h.1 in record { run = r.run; leads = r.leads; follows = r.follows }
+  history_leads w (Release j ∷ xs) k h = let r = history_leads (after_event p w (Release j)) xs (follow_release w k j h.0.submitted) h.1 in record { run = r.run; leads = r.leads; follows = r.follows }
+  history_leads w (Bind e q ∷ xs) k h = let r = history_leads (after_event p w (Bind e q)) xs (follow_points w (after_event p w (Bind e q)) k refl refl refl) h.1 in record { run = r.run; leads = r.leads; follows = r.follows }
+  history_leads w (Refer a q e ∷ xs) k h = let r = history_leads (after_event p w (Refer a q e)) xs (follow_points w (after_event p w (Refer a q e)) k refl refl refl) h.1 in record { run = r.run; leads = r.leads; follows = r.follows }
+  history_leads w (Look a q e ∷ xs) k h = let r = history_leads (after_event p w (Look a q e)) xs (follow_points w (after_event p w (Look a q e)) k refl refl refl) h.1 in record { run = r.run; leads = r.leads; follows = r.follows }
+  history_leads w (Unref a q e ∷ xs) k h = let r = history_leads (after_event p w (Unref a q e)) xs (follow_points w (after_event p w (Unref a q e)) k refl refl refl) h.1 in record { run = r.run; leads = r.leads; follows = r.follows }
+  history_leads w (Complete e ∷ xs) k h = let r = history_leads (after_event p w (Complete e)) xs (follow_points w (after_event p w (Complete e)) k refl refl refl) h.1 in record { run = r.run; leads = r.leads; follows = r.follows }
+  history_leads w (Free q ∷ xs) k h = let r = history_leads (after_event p w (Free q)) xs (follow_points w (after_event p w (Free q)) k refl refl refl) h.1 in record { run = r.run; leads = r.leads; follows = r.follows }
   history_leads w (Start j ∷ xs) k h =
       let g = start_step w k j h.0 in
       let r = history_leads (after_event p w (Start j)) xs (record { machine = keep p wf ch w.machine (StartStep j) k.machine g; submitted = k.submitted; hosts = k.hosts }) h.1 in
-      record { run = (g, r.run); leads = r.leads }
+      record { run = (g, r.run); leads = r.leads; follows = r.follows }
   history_leads w (Apply j c ∷ xs) k h =
       let r = history_leads (after_event p w (Apply j c)) xs (record { machine = keep p wf ch w.machine (ApplyStep c) k.machine (j, h.0); submitted = k.submitted; hosts = k.hosts }) h.1 in
-      record { run = ((j, h.0), r.run); leads = r.leads }
+      record { run = ((j, h.0), r.run); leads = r.leads; follows = r.follows }
   history_leads w (Signal e ∷ xs) k h =
       let g = signal_step w k e h.0 in
       let r = history_leads (after_event p w (Signal e)) xs (follow_signal w k e (keep p wf ch w.machine (SignalStep e) k.machine g)) h.1 in
-      record { run = (g, r.run); leads = r.leads }
+      record { run = (g, r.run); leads = r.leads; follows = r.follows }
   history_leads w (Finish j ∷ xs) k h =
       let r = history_leads (after_event p w (Finish j)) xs (follow_finish w k j (keep p wf ch w.machine (FinishStep j) k.machine h.0.step)) h.1 in
-      record { run = (h.0.step, r.run); leads = r.leads }
+      record { run = (h.0.step, r.run); leads = r.leads; follows = r.follows }
   history_leads w (Answer j a ∷ xs) k h =
       let r = history_leads (after_event p w (Answer j a)) xs (record { machine = keep p wf ch w.machine (AnswerStep j a) k.machine h.0; submitted = k.submitted; hosts = k.hosts }) h.1 in
-      record { run = (h.0, r.run); leads = r.leads }
+      record { run = (h.0, r.run); leads = r.leads; follows = r.follows }

@@ -1,0 +1,5 @@
+pub mod Places
+pub mod Orders
+pub mod Holdings
+pub mod PlanParts
+pub mod Worlds

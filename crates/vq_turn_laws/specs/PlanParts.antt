@@ -1,0 +1,35 @@
+-- What the programs of the actors ask of a plan: each lawful plan of a script that was read keeps it.
+-- This project's own.
+use Rattle.std.specs.Prelude.{ℕ, ◌≡◌, ◌<◌, ◌≤◌, true, false, [], Some, is_some}
+use Rattle.vq_model.specs.declared.script.ActorName.{ActorName}
+use Rattle.vq_model.specs.declared.script.ActorName.TheVariants.{Submit as SubmitActor}
+use Rattle.vq_model.specs.declared.plan.Lane.{Lane}
+use Rattle.vq_model.specs.declared.plan.Lane.TheVariants.{Host as HostLane}
+use Rattle.vq_model.specs.declared.plan.Need.{Need}
+use Rattle.vq_model.specs.Plan.{Plan, of_job, needs, initial, resolver, is_host_step, previous, idle_after}
+use Rattle.vq_model.specs.Plan.{commands_of, waits_for_any}
+use Rattle.vq_model.specs.ValidScripts.{is_immediate_queue}
+use Rattle.vq_turn_laws.specs.Orders.{Within}
+
+-- the lane of a job
+abbrev pub lane_of_job : Plan → ℕ → Lane
+lane_of_job p j = of_job (λ x. x.lane) HostLane p j
+
+-- Only idle steps wait for other jobs, host steps have no commands, places of waits count from 1, and the job
+-- before another one in its lane is of that lane.
+pub record KeepsParts (p : Plan) : Type 0 where
+  pub idle : (j : ℕ) → is_host_step p j ≡ false → idle_after p j ≡ []
+  pub commands : (j : ℕ) → is_host_step p j ≡ true → commands_of p j ≡ []
+  pub places : (j : ℕ) (n : Need) → Within n (needs p j) → 1 ≤ n.from
+  pub lane : (i j : ℕ) → previous p j ≡ Some i → lane_of_job p i ≡ lane_of_job p j
+
+-- Each wait above its initial value has a resolver.
+abbrev pub HasResolvers : Plan → Type 0
+HasResolvers p =
+    (j : ℕ) (n : Need) → waits_for_any p j ≡ false → Within n (needs p j) → initial p n.chain < n.value →
+    is_some (resolver p n.chain n.value) ≡ true
+
+-- A submit actor plays where the host doesn't move the batches of its queue itself.
+abbrev pub IsActor : Plan → ActorName → Type 0
+IsActor p (SubmitActor q) = is_immediate_queue p.script q ≡ false
+IsActor p other = Unit {0}

@@ -1,0 +1,41 @@
+-- What each world of a lawful plan's history keeps, beside what each history keeps. This project's own.
+use Rattle.std.specs.Prelude.{ℕ, ◌≡◌, ◌<◌, ◌≤◌, true, List, [], ◌∷◌, ◌++◌, Option, Some, None}
+use Rattle.vq_model.specs.declared.plan.Lane.{Lane}
+use Rattle.vq_model.specs.declared.plan.Need.{Need}
+use Rattle.vq_model.specs.declared.plan.Event.{Event}
+use Rattle.vq_model.specs.declared.plan.Event.TheVariants.{Signal}
+use Rattle.vq_model.specs.Plan.{Plan, has, chain_of, value}
+use Rattle.vq_model.specs.Machine.{was_since}
+use Rattle.vq_points.specs.Points.{PointState, count_of, jobs_of_lane}
+use Rattle.vq_turns.specs.declared.look.Seen.{Seen}
+
+-- the payload that a signal sets is greater than the one before
+abbrev pub RisesAt : Plan → PointState → ℕ → Option ℕ → Type 0
+RisesAt p w e None = Unit {0}
+RisesAt p w e (Some t) = w.machine.progress.payload t < value p e
+
+abbrev pub RisesIn : Plan → PointState → Event → Type 0
+RisesIn p w (Signal e) = RisesAt p w e (chain_of p e)
+RisesIn p w other = Unit {0}
+
+-- Signaled operations are bound, and past ones are signaled.
+pub record KeepsMade (w : PointState) : Type 0 where
+  pub made_bound : (e : ℕ) → w.machine.progress.made e ≡ true → w.bound e ≡ true
+  pub past_made : (e : ℕ) → w.past e ≡ true → w.machine.progress.made e ≡ true
+
+-- Where something was referred to for a job, the jobs before it in its lane are finished.
+abbrev pub RefersInTurn : Plan → PointState → Type 0
+RefersInTurn p w =
+    (i e : ℕ) → 0 < count_of (w.referred i) e → (lane : Lane) (front back : List ℕ) →
+    jobs_of_lane p lane ≡ front ++ i ∷ back → (y : ℕ) → has front y ≡ true →
+    w.machine.progress.finished y ≡ true
+
+-- What an actor saw of its question: each value lies between the payload at the start of its job and the
+-- payload now, and the payload had it since the start.
+abbrev pub Sees : Plan → PointState → ℕ → List Need → List Seen → Type 0
+Sees p w j [] [] = Unit {0}
+Sees p w j (n ∷ ns) (x ∷ xs) =
+    (x.wanted ≡ n.value) × (w.machine.at_start j n.chain ≤ x.past)
+    × (x.past ≤ w.machine.progress.payload n.chain) × (was_since p w.machine j n.chain x.past ≡ true)
+    × Sees p w j ns xs
+Sees p w j ns xs = ⊥

@@ -1,0 +1,4 @@
+//! Laws over the programs of the actors and their places.
+#![tactic(auto)]
+
+pub mod laws;
