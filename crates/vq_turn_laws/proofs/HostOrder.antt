@@ -226,7 +226,7 @@ module _ (p : Plan) (a : ActorName) (j : ℕ) (b : IsStep p j) where
 abbrev pub is_moved : Plan → ℕ → Bool
 is_moved p j = of_job (λ x. is_immediate_lane p x.lane) false p j
 
-host_same : (p : Plan) (j : ℕ) → of_job (λ x. same_lane HostLane x.lane) false p j ≡ is_host_step p j
+pub host_same : (p : Plan) (j : ℕ) → of_job (λ x. same_lane HostLane x.lane) false p j ≡ is_host_step p j
 host_same p j = by_job (slice_get p.jobs j)
   where
     by_lane : (l : Lane) → same_lane HostLane l ≡ is_host_lane l

@@ -1,4 +1,7 @@
 mod Apart
+mod CutFacts
+mod Cuts
+mod Finishes
 mod Guards
 mod HoldingLaws
 mod HostOrder
@@ -6,15 +9,19 @@ mod KeptGuards
 mod LeftLaws
 mod MoveLaws
 mod NextJobs
+mod Orderly
 mod PastLaws
 mod PlaceLaws
 mod PlanParts
 mod ProgramLaws
 mod ProgramRows
 mod ProgramsOrder
+mod Reached
 mod References
+mod Resolvers
 mod RingOrder
 mod Rooms
 mod SeenLaws
+mod StandLaws
 mod TurnRows
 mod WaitParts

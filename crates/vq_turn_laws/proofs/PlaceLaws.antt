@@ -102,7 +102,7 @@ module _ (p : Plan) (w : PointState) where
           ]
   number_stays other c t v h = h
 
-  reached_stays : (x : Event) → RisesIn p w x → (ns : List Need) → list_any (is_reached w.machine.progress.payload) ns ≡ true → list_any (is_reached (after_event p w x).machine.progress.payload) ns ≡ true
+  pub reached_stays : (x : Event) → RisesIn p w x → (ns : List Need) → list_any (is_reached w.machine.progress.payload) ns ≡ true → list_any (is_reached (after_event p w x).machine.progress.payload) ns ≡ true
   reached_stays x c [] h = h
   reached_stays x c (n ∷ ns) h = by_test (is_reached w.machine.progress.payload n) refl (reached_stays x c ns) h
     where

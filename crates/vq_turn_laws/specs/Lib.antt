@@ -3,3 +3,4 @@ pub mod Orders
 pub mod Holdings
 pub mod PlanParts
 pub mod Worlds
+pub mod TruePlaces

@@ -8,6 +8,8 @@ use Rattle.vq_model.specs.declared.plan.Lane.TheVariants.{Host as HostLane}
 use Rattle.vq_model.specs.declared.plan.Need.{Need}
 use Rattle.vq_model.specs.Plan.{Plan, of_job, needs, initial, resolver, is_host_step, previous, idle_after}
 use Rattle.vq_model.specs.Plan.{commands_of, waits_for_any}
+use Rattle.vq_model.specs.WellFormed.{IsWellFormed, KeepsHostOrder}
+use Rattle.vq_model.specs.Sure.{KeepsChains}
 use Rattle.vq_model.specs.ValidScripts.{is_immediate_queue}
 use Rattle.vq_turn_laws.specs.Orders.{Within}
 
@@ -33,3 +35,11 @@ HasResolvers p =
 abbrev pub IsActor : Plan → ActorName → Type 0
 IsActor p (SubmitActor q) = is_immediate_queue p.script q ≡ false
 IsActor p other = Unit {0}
+
+-- what each lawful plan of a script that was read keeps, as far as programs and places ask it
+pub record IsOrderly (p : Plan) : Type 0 where
+  pub well_formed : IsWellFormed p
+  pub hosts : KeepsHostOrder p
+  pub parts : KeepsParts p
+  pub chains : KeepsChains p
+  pub resolvers : HasResolvers p
