@@ -23,5 +23,7 @@ mod RingOrder
 mod Rooms
 mod SeenLaws
 mod StandLaws
+mod TaskLaws
 mod TurnRows
+mod WaitLaws
 mod WaitParts

@@ -95,7 +95,7 @@ found_pending p w n e q h = by_value (nat_le n.value (initial p n.chain)) h
 resolves_it : (p : Plan) (n : Need) (e : ℕ) → resolver p n.chain n.value ≡ Some e → resolves p e n ≡ true
 resolves_it p n e r = ap (λ o. option_map_or (λ z. z == e) o false) r ∙ eq-eqb e e refl
 
-index_within : (k : ℕ) (ns : List Need) (i : ℕ) (n : Need) → AtIndex k ns i n → Within n ns
+pub index_within : (k : ℕ) (ns : List Need) (i : ℕ) (n : Need) → AtIndex k ns i n → Within n ns
 index_within k [] i n h = h
 index_within k (m ∷ ms) i n (inl e) = inl e.1
 index_within k (m ∷ ms) i n (inr r) = inr (index_within (k + 1) ms i n r)

@@ -60,7 +60,7 @@ module _ (p : Plan) (w : PointState) (a : ActorName) where
   same_wait : (before : List Task) (j : ℕ) (ns ms : List Need) (holding : List Holding) (met : Bool) → ns ≡ ms → HoldsTruly p w a before j ns holding met → HoldsTruly p w a before j ms holding met
   same_wait before j ns ms holding met e t = subst (λ us. HoldsTruly p w a before j us holding met) e t
 
-  nothing_held : (before : List Task) (j : ℕ) (ns : List Need) (holding : List Holding) (met : Bool) → ns ≡ [] → (holding ≡ []) × (met ≡ false) → HoldsTruly p w a before j ns holding met → HoldsTruly p w a before j [] [] false
+  pub nothing_held : (before : List Task) (j : ℕ) (ns : List Need) (holding : List Holding) (met : Bool) → ns ≡ [] → (holding ≡ []) × (met ≡ false) → HoldsTruly p w a before j ns holding met → HoldsTruly p w a before j [] [] false
   nothing_held before j ns holding met e b t =
       subst (λ (m : Bool). HoldsTruly p w a before j [] [] m) b.1
       (subst (λ (hs : List Holding). HoldsTruly p w a before j [] hs met) b.0 (same_wait before j ns [] holding met e t))
