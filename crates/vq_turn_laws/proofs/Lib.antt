@@ -10,6 +10,7 @@ mod LeftLaws
 mod MoveLaws
 mod NextJobs
 mod Orderly
+mod OtherLaws
 mod PastLaws
 mod PlaceLaws
 mod PlanParts

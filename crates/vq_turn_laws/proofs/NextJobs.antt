@@ -56,7 +56,7 @@ module _ (p : Plan) (wf : IsWellFormed p) where
   same_name (QueueLane q) (QueueLane r) HostLane a b = absurd (false≢true a)
   same_name (QueueLane q) (QueueLane r) (QueueLane s) a b = ap (λ (z : ℕ). QueueLane z) (eqb-true q s a ∙ sym (eqb-true r s b))
 
-  one_lane : (l m : Lane) (j : ℕ) → has (jobs_of_lane p l) j ≡ true → has (jobs_of_lane p m) j ≡ true → l ≡ m
+  pub one_lane : (l m : Lane) (j : ℕ) → has (jobs_of_lane p l) j ≡ true → has (jobs_of_lane p m) j ≡ true → l ≡ m
   one_lane l m j a b =
       let x = lane_is l j a in
       let y = lane_is m j b in

@@ -4,6 +4,8 @@ use Rattle.std.specs.Prelude.{ℕ, ◌≡◌, Bool, true, false, List, [], ◌�
 use Rattle.std.specs.List.{list_any}
 use Rattle.vq_model.specs.declared.script.ActorName.{ActorName}
 use Rattle.vq_model.specs.declared.plan.Need.{Need}
+use Rattle.vq_model.specs.declared.plan.Event.{Event}
+use Rattle.vq_model.specs.declared.plan.Event.TheVariants.{Refer, Look, Unref, Complete, Free}
 use Rattle.vq_model.specs.Plan.{Plan}
 use Rattle.vq_model.specs.Machine.{is_reached}
 use Rattle.vq_points.specs.Points.{PointState}
@@ -12,9 +14,19 @@ use Rattle.vq_turns.specs.declared.task.Task.TheVariants.{AwaitNeeds, Finish}
 use Rattle.vq_turns.specs.declared.look.Holding.{Holding}
 use Rattle.vq_turns.specs.Programs.{program}
 use Rattle.vq_turns.specs.Turns.{Place}
-use Rattle.vq_turn_laws.specs.Places.{IsDone, IsLeft, Each}
+use Rattle.vq_turn_laws.specs.Places.{IsDone, IsLeft, Each, Among, IsOf}
 use Rattle.vq_turn_laws.specs.Orders.{onto}
 use Rattle.vq_turn_laws.specs.Holdings.{HoldsTruly}
+
+-- whether an event is one of an actor's: that of a task of its program, one on its references, or collection,
+-- which is everybody's
+abbrev pub IsEventOf : Plan → ActorName → Event → Type 0
+IsEventOf p a (Refer b q e) = b ≡ a
+IsEventOf p a (Look b q e) = b ≡ a
+IsEventOf p a (Unref b q e) = b ≡ a
+IsEventOf p a (Complete e) = Unit {0}
+IsEventOf p a (Free q) = Unit {0}
+IsEventOf p a x = (t : Task) × Among t (program p a) × IsOf x t
 
 -- the jobs that tasks finish, in order
 abbrev pub finishes : List Task → List ℕ
