@@ -31,9 +31,8 @@ use Rattle.vq_turns.specs.declared.task.Task.TheVariants.{AwaitNeeds, Submit, Ta
 use Rattle.vq_turns.specs.declared.task.Task.TheVariants.{Compare, Answer, Finish}
 use Rattle.vq_turns.specs.Programs.{program, waits_where, takes, moves_batch, submits_batch, runs_command, runs_batch}
 use Rattle.vq_turns.specs.Programs.{host_waits, does_step, host_does}
-use Rattle.vq_turn_laws.specs.Orders.{compares}
-use Rattle.vq_turn_laws.specs.Places.{IsOf, Among}
 use Rattle.vq_turn_laws.specs.PlanParts.{lane_of_job, IsActor}
+use Rattle.vq_turn_laws.specs.Tasks.{compares, IsOf, Among}
 use Rattle.vq_turn_laws.proofs.ProgramLaws.{chain_or}
 use Rattle.vq_history_laws.proofs.Cited.{below_range, filtered}
 

@@ -16,10 +16,10 @@ use Rattle.vq_history_laws.proofs.Cited.{filtered}
 use Rattle.vq_turns.specs.declared.task.Task.{Task}
 use Rattle.vq_turns.specs.declared.task.Task.TheVariants.{Finish}
 use Rattle.vq_turns.specs.Programs.{program}
-use Rattle.vq_turn_laws.specs.Places.{IsDone, IsLeft, Each, Among}
 use Rattle.vq_turn_laws.specs.Orders.{InOrder}
+use Rattle.vq_turn_laws.specs.Places.{IsDone, IsLeft}
 use Rattle.vq_turn_laws.specs.PlanParts.{lane_of_job, IsOrderly}
-use Rattle.vq_turn_laws.specs.TruePlaces.{finishes}
+use Rattle.vq_turn_laws.specs.Tasks.{Each, Among, finishes}
 use Rattle.vq_turn_laws.proofs.Apart.{Apart, program_apart, in_queue, host_lane}
 use Rattle.vq_turn_laws.proofs.Cuts.{done_of, order_cut, apart_cut, among_cut}
 use Rattle.vq_turn_laws.proofs.Finishes.{finishes_append, program_finishes, submit_finishes, finish_among}

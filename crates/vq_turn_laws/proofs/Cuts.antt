@@ -4,8 +4,8 @@ use Rattle.std.proofs.lemmas.List.{take-append-drop}
 use Rattle.vq_model.specs.declared.script.ActorName.{ActorName}
 use Rattle.vq_model.specs.Plan.{Plan}
 use Rattle.vq_turns.specs.declared.task.Task.{Task}
-use Rattle.vq_turn_laws.specs.Places.{Among}
-use Rattle.vq_turn_laws.specs.Orders.{onto, InOrder}
+use Rattle.vq_turn_laws.specs.Orders.{InOrder}
+use Rattle.vq_turn_laws.specs.Tasks.{Among, onto}
 use Rattle.vq_turn_laws.proofs.ProgramLaws.{among_right}
 use Rattle.vq_turn_laws.proofs.Apart.{Apart, apart_behind}
 

@@ -18,8 +18,7 @@ use Rattle.vq_turns.specs.declared.task.Task.{Task}
 use Rattle.vq_turns.specs.declared.task.Task.TheVariants.{AwaitReleased, AwaitFinished, AwaitBound, AwaitNeeds}
 use Rattle.vq_turns.specs.declared.task.Task.TheVariants.{Submit, Release, Bind, Start, Apply, Signal, Compare, Answer, Finish}
 use Rattle.vq_turns.specs.Programs.{program, waits_where, takes, moves_batch, submits_batch, runs_command, runs_batch, host_waits, does_step, host_does}
-use Rattle.vq_turn_laws.specs.Places.{Among}
-use Rattle.vq_turn_laws.specs.TruePlaces.{finishes}
+use Rattle.vq_turn_laws.specs.Tasks.{Among, finishes}
 use Rattle.vq_turn_laws.proofs.HostOrder.{host_same}
 
 pub finishes_append : (xs ys : List Task) → finishes (xs ++ ys) ≡ finishes xs ++ finishes ys

@@ -1,5 +1,5 @@
 -- The event of the next task may come, where the place is true.
-use Rattle.std.proofs.Common.{◌≡◌, ℕ, ◌<◌, ◌+◌, ◌||◌, ◌&&◌, Bool, true, false, not, cond, if◌then◌else◌}
+use Rattle.std.proofs.Common.{map, ◌≡◌, ℕ, ◌<◌, ◌+◌, ◌||◌, ◌&&◌, Bool, true, false, not, cond, if◌then◌else◌}
 use Rattle.std.proofs.Common.{List, [], ◌∷◌, ◌++◌, Option, Some, None, is_some, refl, sym, subst, ap, ◌∙◌, inl, inr}
 use Rattle.std.proofs.Common.{arith, find, nat_lt, filter, ◌==◌}
 use Rattle.std.specs.List.{list_any, list_all, filter_map}
@@ -31,9 +31,10 @@ use Rattle.vq_turns.specs.Turns.{point_of, unbound_before, reaches, first_past, 
 use Rattle.vq_turns.specs.Turns.{waiting_of, waiting_point, has_reference_to}
 use Rattle.vq_run_laws.proofs.Cited.{next_in}
 use Rattle.vq_history_laws.proofs.Cited.{below_range}
-use Rattle.vq_turn_laws.specs.Orders.{compares, Waited, AsksSubmit, AsksBind, AsksStart, AsksApply, AsksSignal}
-use Rattle.vq_turn_laws.specs.Orders.{AsksAnswer, AsksFinish}
-use Rattle.vq_turn_laws.specs.Places.{IsDone, IsLeft, Each, Among}
+use Rattle.vq_turn_laws.specs.Orders.{Waited, AsksSubmit, AsksBind, AsksStart, AsksApply, AsksSignal, AsksAnswer}
+use Rattle.vq_turn_laws.specs.Orders.{AsksFinish}
+use Rattle.vq_turn_laws.specs.Places.{IsDone, IsLeft}
+use Rattle.vq_turn_laws.specs.Tasks.{compares, Each, Among}
 use Rattle.vq_turn_laws.specs.Worlds.{Sees}
 use Rattle.vq_turn_laws.proofs.PlaceLaws.{each_among}
 use Rattle.vq_turn_laws.proofs.ProgramLaws.{among_onto}
@@ -42,6 +43,10 @@ use Rattle.vq_turn_laws.proofs.WaitParts.{all_within}
 or_none : (b : Bool) → (b || false) ≡ true → b ≡ true
 or_none true h = refl
 or_none false h = absurd (false≢true h)
+
+-- the chains and values of needs
+abbrev pub pairs_of : List Need → List (ℕ × ℕ)
+pairs_of ns = map (λ n. (n.chain, n.value)) ns
 
 -- the first that isn't done
 pub next_split : (done : ℕ → Bool) (front : List ℕ) (x : ℕ) (back : List ℕ) → ((y : ℕ) → has front y ≡ true → done y ≡ true) → done x ≡ false → next done (front ++ x ∷ back) ≡ Some x
@@ -171,15 +176,15 @@ module _ (p : Plan) (w : PointState) (before : List Task) (d : Each (IsDone w) b
           by_test false i g = absurd (let c = sym (ap (λ b. cond (not b) (Some f) (find (λ f. not (w.bound f)) fs)) i) ∙ h in cc)
 
   -- What the actor saw is truly so; a value is asked of the chain that the question names.
-  pub can_answer : (j : ℕ) (asks : Question) (seen : List Seen) → AsksAnswer p before j asks → IsLeft w (Answer j asks) → Sees p w j (asked p j) seen → ((t : ℕ) → question p j ≡ AsksValue t → (n : Need) × (ns : List Need) × (asked p j ≡ n ∷ ns) × (n.chain ≡ t)) → CanAnswer p w.machine j (answer_by asks seen)
-  can_answer j asks seen k left sees valued =
+  pub can_answer : (j : ℕ) (asks : Question) (seen : List Seen) (left_tasks : List Task) → AsksAnswer p before j asks left_tasks → IsLeft w (Answer j asks) → Sees p w j (pairs_of (asked p j)) seen → ((t : ℕ) → question p j ≡ AsksValue t → (n : Need) × (ns : List Need) × (asked p j ≡ n ∷ ns) × (n.chain ≡ t)) → CanAnswer p w.machine j (answer_by asks seen)
+  can_answer j asks seen left_tasks k left sees valued =
       record {
         started = is_done (Start j) (subst (λ us. Among (Start j) us) (sym k.compared) (among_onto (Start j) (compares (asked p j)) k.earlier k.started));
         unanswered = ap is_some left;
         allowed = subst (λ z. may_answer p w.machine j (question p j) (answer_by z seen) ≡ true) (sym k.is) (by_question (question p j) refl k.loud);
       }
     where
-      reach_now : (ns : List Need) (xs : List Seen) → Sees p w j ns xs → list_all reaches xs ≡ true → list_all (is_reached w.machine.progress.payload) ns ≡ true
+      reach_now : (ns : List Need) (xs : List Seen) → Sees p w j (pairs_of ns) xs → list_all reaches xs ≡ true → list_all (is_reached w.machine.progress.payload) ns ≡ true
       reach_now [] [] s h = refl
       reach_now [] (x ∷ xs) s h = absurd s
       reach_now (n ∷ ns) [] s h = absurd s
@@ -190,7 +195,7 @@ module _ (p : Plan) (w : PointState) (before : List Task) (d : Each (IsDone w) b
           let b = s.2 in
           and_from (is_reached w.machine.progress.payload n) (list_all (is_reached w.machine.progress.payload) ns) (le-leb n.value (w.machine.progress.payload n.chain) (omega arith)) (reach_now ns xs s.4 two.1)
 
-      reach_start : (ns : List Need) (xs : List Seen) → Sees p w j ns xs → list_all (is_reached (w.machine.at_start j)) ns ≡ true → list_all reaches xs ≡ true
+      reach_start : (ns : List Need) (xs : List Seen) → Sees p w j (pairs_of ns) xs → list_all (is_reached (w.machine.at_start j)) ns ≡ true → list_all reaches xs ≡ true
       reach_start [] [] s h = refl
       reach_start [] (x ∷ xs) s h = absurd s
       reach_start (n ∷ ns) [] s h = absurd s
@@ -201,7 +206,7 @@ module _ (p : Plan) (w : PointState) (before : List Task) (d : Each (IsDone w) b
           let b = s.1 in
           and_from (reaches x) (list_all reaches xs) (le-leb x.wanted x.past (omega arith)) (reach_start ns xs s.4 two.1)
 
-      any_now : (ns : List Need) (xs : List Seen) → Sees p w j ns xs → list_any reaches xs ≡ true → list_any (is_reached w.machine.progress.payload) ns ≡ true
+      any_now : (ns : List Need) (xs : List Seen) → Sees p w j (pairs_of ns) xs → list_any reaches xs ≡ true → list_any (is_reached w.machine.progress.payload) ns ≡ true
       any_now [] [] s h = absurd (false≢true h)
       any_now [] (x ∷ xs) s h = absurd s
       any_now (n ∷ ns) [] s h = absurd s
@@ -215,7 +220,7 @@ module _ (p : Plan) (w : PointState) (before : List Task) (d : Each (IsDone w) b
             | inr r ↦ or_right (is_reached w.machine.progress.payload n) (list_any (is_reached w.machine.progress.payload) ns) (any_now ns xs s.4 r)
           ]
 
-      any_start : (ns : List Need) (xs : List Seen) → Sees p w j ns xs → list_any (is_reached (w.machine.at_start j)) ns ≡ true → list_any reaches xs ≡ true
+      any_start : (ns : List Need) (xs : List Seen) → Sees p w j (pairs_of ns) xs → list_any (is_reached (w.machine.at_start j)) ns ≡ true → list_any reaches xs ≡ true
       any_start [] [] s h = absurd (false≢true h)
       any_start [] (x ∷ xs) s h = absurd s
       any_start (n ∷ ns) [] s h = absurd s
@@ -233,7 +238,7 @@ module _ (p : Plan) (w : PointState) (before : List Task) (d : Each (IsDone w) b
       unless true c e f = absurd (false≢true (sym e ∙ f refl))
       unless false c e f = refl
 
-      first_seen : (n : Need) (ns : List Need) (xs : List Seen) → Sees p w j (n ∷ ns) xs → was_since p w.machine j n.chain (first_past xs) ≡ true
+      first_seen : (n : Need) (ns : List Need) (xs : List Seen) → Sees p w j (pairs_of (n ∷ ns)) xs → was_since p w.machine j n.chain (first_past xs) ≡ true
       first_seen n ns [] s = absurd s
       first_seen n ns (x ∷ xs) s = s.3
 
@@ -257,7 +262,7 @@ module _ (p : Plan) (w : PointState) (before : List Task) (d : Each (IsDone w) b
           by_test false h = unless (list_all (is_reached (w.machine.at_start j)) (asked p j)) (list_all reaches seen) h (reach_start (asked p j) seen sees)
       by_question (AsksValue t) e l =
           let v = valued t e in
-          subst (λ (z : ℕ). was_since p w.machine j z (first_past seen) ≡ true) v.3 (first_seen v.0 v.1 seen (subst (λ ns. Sees p w j ns seen) v.2 sees))
+          subst (λ (z : ℕ). was_since p w.machine j z (first_past seen) ≡ true) v.3 (first_seen v.0 v.1 seen (subst (λ ns. Sees p w j (pairs_of ns) seen) v.2 sees))
 
 -- Collection
 

@@ -21,9 +21,8 @@ use Rattle.vq_turns.specs.declared.task.Task.{Task}
 use Rattle.vq_turns.specs.declared.task.Task.TheVariants.{AwaitFinished, AwaitBound, AwaitNeeds, Submit, Take, Release}
 use Rattle.vq_turns.specs.declared.task.Task.TheVariants.{Bind, Start, Signal, Compare, Answer, Finish}
 use Rattle.vq_turns.specs.Programs.{program, waits_where, takes, host_waits, moves_batch, does_step, host_does}
-use Rattle.vq_turn_laws.specs.Orders.{onto, waited_since, compares, Within, Waited, InJob, AsksStart, AsksFinish}
-use Rattle.vq_turn_laws.specs.Orders.{AsksSubmit, InOrder}
-use Rattle.vq_turn_laws.specs.Places.{Among}
+use Rattle.vq_turn_laws.specs.Orders.{waited_since, Within, Waited, InJob, AsksStart, AsksFinish, AsksSubmit, InOrder}
+use Rattle.vq_turn_laws.specs.Tasks.{onto, compares, Among, finishes, compared_now, is_asking}
 use Rattle.vq_turn_laws.proofs.ProgramLaws.{InPart, onto_append, joined, parts, together, among_onto, among_turned}
 use Rattle.vq_turn_laws.proofs.ProgramLaws.{among_right, among_left, among_map, chain_or, IsBatch, moves_part}
 use Rattle.vq_turn_laws.proofs.Rooms.{Quiet, quiet_append, quiet_map, filter_few}
@@ -39,6 +38,20 @@ pub record IsStep (p : Plan) (j : ℕ) : Type 0 where
   pub commands : commands_of p j ≡ []
   pub ops : (e : ℕ) → has (signals_of p j) e ≡ true → job_of p e ≡ Some j
   pub chains : (e : ℕ) → has (signals_of p j) e ≡ true → chain_of p e ≡ Some (chain_or p e)
+  pub loud : (n : Need) → Within n (asked p j) → is_silent (question p j) ≡ false
+
+-- tasks that compare nothing
+compares_none : (f : ℕ → Task) → ((x : ℕ) (ts : List Task) → compared_now (f x ∷ ts) ≡ []) → (xs : List ℕ) (before : List Task) → compared_now before ≡ [] → compared_now (onto (map f xs) before) ≡ []
+compares_none f g [] before c = c
+compares_none f g (x ∷ xs) before c = compares_none f g xs (f x ∷ before) (g x before)
+
+compares_finish : (ns : List Need) (left : List Task) → finishes (compares ns ++ left) ≡ finishes left
+compares_finish [] left = refl
+compares_finish (n ∷ ns) left = compares_finish ns left
+
+compares_ask : (ns : List Need) (left : List Task) → is_asking left ≡ true → is_asking (compares ns ++ left) ≡ true
+compares_ask [] left h = h
+compares_ask (n ∷ ns) left h = refl
 
 all_has : (test : Need → Bool) (ns : List Need) (n : Need) → list_all test ns ≡ true → Within n ns → test n ≡ true
 all_has test [] n h w = absurd w
@@ -102,9 +115,18 @@ module _ (p : Plan) (a : ActorName) (j : ℕ) (b : IsStep p j) where
   finished_part [] before left = tt
   finished_part (i ∷ is) before left = (tt, finished_part is (AwaitFinished i ∷ before) left)
 
-  compares_part : (ns : List Need) (before left : List Task) → InPart p a before (compares ns) left
-  compares_part [] before left = tt
-  compares_part (n ∷ ns) before left = (tt, compares_part ns (Compare n.chain n.value ∷ before) left)
+  compares_part : (ns : List Need) (before left : List Task) → Among (Start j) before → (later : List ℕ) → finishes left ≡ j ∷ later → ((n : Need) → Within n ns → is_asking left ≡ true) → InPart p a before (compares ns) left
+  compares_part [] before left s later f g = tt
+  compares_part (n ∷ ns) before left s later f g = (
+    record {
+      job = j;
+      started = s;
+      later = later;
+      first = compares_finish ns left ∙ f;
+      asking = compares_ask ns left (g n (inl refl));
+    },
+    compares_part ns (Compare n.chain n.value ∷ before) left (inr s) later f (λ m w. g m (inr w)),
+  )
 
   takes_part : (es : List ℕ) → ((e : ℕ) → has es e ≡ true → has (signals_of p j) e ≡ true) → (before left : List Task) → Among (Start j) before → InPart p a before (map (λ e. Take e (chain_or p e)) es) left
   takes_part [] f before left s = tt
@@ -135,13 +157,21 @@ module _ (p : Plan) (a : ActorName) (j : ℕ) (b : IsStep p j) where
     binds_part es (λ x m. f x (has_there e es x m)) (Bind e ∷ before) left (inr s) (λ x m. let old = g x (has_there e es x m) in (old.0, inr old.1)),
   )
 
-  answer_part : (x : Bool) → is_silent (question p j) ≡ x → (before left earlier : List Task) → before ≡ onto (compares (asked p j)) earlier → Among (Start j) earlier → Waited p before j AtEnd → InPart p a before (if x then [] else Answer j (question p j) ∷ []) left
-  answer_part true e before left earlier is s w = tt
-  answer_part false e before left earlier is s w = (record { is = refl; loud = e; needs = w; earlier = earlier; compared = is; started = s }, tt)
+  answer_part : (x : Bool) → is_silent (question p j) ≡ x → (before left earlier : List Task) → before ≡ onto (compares (asked p j)) earlier → compared_now earlier ≡ [] → Among (Start j) earlier → (later : List ℕ) → finishes left ≡ j ∷ later → Waited p before j AtEnd → InPart p a before (if x then [] else Answer j (question p j) ∷ []) left
+  answer_part true e before left earlier is c s later f w = tt
+  answer_part false e before left earlier is c s later f w = (record { is = refl; loud = e; needs = w; earlier = earlier; compared = is; alone = c; started = s; later = later; first = f }, tt)
 
   answered : (x : Bool) → is_silent (question p j) ≡ x → x ≡ false → (before : List Task) → Among (Answer j (question p j)) (onto (if x then [] else Answer j (question p j) ∷ []) before)
   answered true is e before = absurd (false≢true (sym e))
   answered false is e before = inl refl
+
+  first7 : (x : Bool) (left : List Task) → finishes (((if x then [] else Answer j (question p j) ∷ []) ++ Finish j ∷ []) ++ left) ≡ j ∷ finishes left
+  first7 true left = refl
+  first7 false left = refl
+
+  asks7 : (x : Bool) → x ≡ false → (left : List Task) → is_asking (((if x then [] else Answer j (question p j) ∷ []) ++ Finish j ∷ []) ++ left) ≡ true
+  asks7 true h left = absurd (false≢true (sym h))
+  asks7 false h left = refl
 
   -- A host step behind the host steps and the batches written before it.
   pub does_part : (before left : List Task) → InJob p a before (Start j ∷ Finish j ∷ []) j (needs_at p j (At 1)) → ((i : ℕ) → i < j → is_host_step p i ≡ true → Among (Finish i) before) → ((i : ℕ) → i < j → is_host_step p i ≡ false → Among (Submit i) before) → ((e : ℕ) → waited_since p e before ≡ 0) → InPart p a before (does_step p j) left
@@ -196,9 +226,10 @@ module _ (p : Plan) (a : ActorName) (j : ℕ) (b : IsStep p j) where
       let started4 : Among (Start j) b4 = among_onto (Start j) ts b3 (inl refl) in
       let started5 : Among (Start j) b5 = among_onto (Start j) bs b4 started4 in
       let started6 : Among (Start j) b6 = among_onto (Start j) es b5 started5 in
+      let alone6 : compared_now b6 ≡ [] = compares_none Signal (λ x us. refl) (signals_of p j) b5 (compares_none Bind (λ x us. refl) (signals_of p j) b4 (compares_none (λ x. Take x (chain_or p x)) (λ x us. refl) (signals_of p j) b3 refl)) in
       let none : (c : ℕ) → has (commands_of p j) c ≡ true → ⊥ = λ c m. false≢true (ap (λ xs. has xs c) (sym b.commands) ∙ m) in
       let waited5 : Waited p b5 j AtEnd = waited_more bs b4 AtEnd (waited_more ts b3 AtEnd (waited_more ss b2 AtEnd (waited_more is b1 AtEnd (waited_at_end before)))) in
-      let finishes : AsksFinish p b8 j = record {
+      let ends : AsksFinish p b8 j = record {
         started = among_onto (Start j) as' b7 (among_onto (Start j) cs b6 started6);
         commands = λ c m. absurd (none c m);
         signals = λ e m. among_onto (Signal e) as' b7 (among_onto (Signal e) cs b6 (among_turned (Signal e) es b5 (among_map Signal (signals_of p j) e m)));
@@ -206,8 +237,8 @@ module _ (p : Plan) (a : ActorName) (j : ℕ) (b : IsStep p j) where
         answered = λ h. answered (is_silent (question p j)) refl h b7;
       }
       in
-      let part8 : InPart p a b7 (as' ++ fs) left = parts p a b7 as' fs left (answer_part (is_silent (question p j)) refl b7 (fs ++ left) b6 refl started6 (waited_more cs b6 AtEnd (waited_more es b5 AtEnd waited5))) (finishes, tt) in
-      let part7 : InPart p a b6 l6 left = parts p a b6 cs l7 left (compares_part (asked p j) b6 (l7 ++ left)) part8 in
+      let part8 : InPart p a b7 (as' ++ fs) left = parts p a b7 as' fs left (answer_part (is_silent (question p j)) refl b7 (fs ++ left) b6 refl alone6 started6 (finishes left) refl (waited_more cs b6 AtEnd (waited_more es b5 AtEnd waited5))) (ends, tt) in
+      let part7 : InPart p a b6 l6 left = parts p a b6 cs l7 left (compares_part (asked p j) b6 (l7 ++ left) started6 (finishes left) (first7 (is_silent (question p j)) left) (λ n w. asks7 (is_silent (question p j)) (b.loud n w) left)) part8 in
       let part6 : InPart p a b5 l5 left = parts p a b5 es l6 left
       (signals_each p a j b.chains (signals_of p j) [] refl b5 (l6 ++ left) started5 (among_left (Finish j) l6 left f6) (λ c m. absurd (none c m)) waited5 (λ e m. absurd (false≢true m)))
       part7

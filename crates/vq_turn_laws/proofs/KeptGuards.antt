@@ -21,8 +21,9 @@ use Rattle.vq_turns.specs.declared.look.Holding.{Holding}
 use Rattle.vq_turns.specs.Turns.{point_of, unbound_before, to_complete, to_free, collected, found, held_for}
 use Rattle.vq_turn_laws.specs.Holdings.{HoldsTruly, AtIndex}
 use Rattle.vq_turn_laws.specs.Orders.{AsksBind, AsksWait}
-use Rattle.vq_turn_laws.specs.Places.{IsDone, IsLeft, Each}
+use Rattle.vq_turn_laws.specs.Places.{IsDone, IsLeft}
 use Rattle.vq_turn_laws.specs.PlanParts.{lane_of_job}
+use Rattle.vq_turn_laws.specs.Tasks.{Each}
 use Rattle.vq_turn_laws.proofs.Guards.{can_bind, can_complete, can_free}
 use Rattle.vq_turn_laws.proofs.References.{can_refer}
 use Rattle.vq_history_laws.specs.KeptFacts.{KeepsFacts}

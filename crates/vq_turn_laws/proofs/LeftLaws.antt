@@ -14,7 +14,8 @@ use Rattle.vq_turns.specs.declared.task.Task.{Task}
 use Rattle.vq_turns.specs.declared.task.Task.TheVariants.{AwaitSubmitted, AwaitReleased, AwaitFinished, AwaitBound}
 use Rattle.vq_turns.specs.declared.task.Task.TheVariants.{AwaitNeeds, Submit, Take, Release, Bind, Start, Apply, Signal}
 use Rattle.vq_turns.specs.declared.task.Task.TheVariants.{Compare, Answer, Finish}
-use Rattle.vq_turn_laws.specs.Places.{IsDone, IsLeft, IsOf, Each, Among, IsTrueAt}
+use Rattle.vq_turn_laws.specs.Places.{IsDone, IsLeft, IsTrueAt}
+use Rattle.vq_turn_laws.specs.Tasks.{IsOf, Each, Among}
 use Rattle.vq_turn_laws.specs.Worlds.{RisesIn}
 use Rattle.vq_turn_laws.proofs.PlaceLaws.{done_stays}
 

@@ -24,6 +24,7 @@ mod RingOrder
 mod Rooms
 mod SeenLaws
 mod StandLaws
+mod StartLaws
 mod TaskLaws
 mod TurnRows
 mod WaitLaws

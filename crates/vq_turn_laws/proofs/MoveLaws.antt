@@ -17,7 +17,8 @@ use Rattle.vq_turns.specs.declared.outcome.Want.TheVariants.{Submitted, Released
 use Rattle.vq_turns.specs.declared.outcome.Outcome.TheVariants.{Moved, Blocked}
 use Rattle.vq_turns.specs.Turns.{Place, Did, GoesOn, Ends, forward, waits, moves, does, and_then, turn_from, collected}
 use Rattle.vq_turns.specs.Turns.{taken, point_of, answer_by}
-use Rattle.vq_turn_laws.specs.Places.{IsReady, is_mover, Each}
+use Rattle.vq_turn_laws.specs.Places.{IsReady}
+use Rattle.vq_turn_laws.specs.Tasks.{is_mover, Each}
 
 data Advances : Did → Type 0 where
   goes : (y : Place) → Advances (GoesOn y)

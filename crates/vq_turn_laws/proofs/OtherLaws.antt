@@ -15,9 +15,9 @@ use Rattle.vq_run_laws.proofs.Cited.{next_in}
 use Rattle.vq_turns.specs.declared.task.Task.{Task}
 use Rattle.vq_turns.specs.declared.look.Holding.{Holding}
 use Rattle.vq_turns.specs.Programs.{program}
-use Rattle.vq_turn_laws.specs.Places.{Among, IsOf}
 use Rattle.vq_turn_laws.specs.PlanParts.{IsActor, IsOrderly}
-use Rattle.vq_turn_laws.specs.TruePlaces.{Stands, IsEventOf, finishes, waited_now}
+use Rattle.vq_turn_laws.specs.Tasks.{Among, IsOf, IsEventOf, finishes, waited_now}
+use Rattle.vq_turn_laws.specs.TruePlaces.{Stands}
 use Rattle.vq_turn_laws.proofs.Apart.{programs_apart}
 use Rattle.vq_turn_laws.proofs.CutFacts.{IsCut, job_is_next}
 use Rattle.vq_turn_laws.proofs.HoldingLaws.{other_refers, other_looks, other_unrefers}

@@ -22,10 +22,10 @@ use Rattle.vq_turns.specs.declared.task.Task.TheVariants.{AwaitSubmitted, AwaitR
 use Rattle.vq_turns.specs.declared.task.Task.TheVariants.{AwaitNeeds, Submit, Take, Release, Bind, Start, Apply, Signal}
 use Rattle.vq_turns.specs.declared.task.Task.TheVariants.{Compare, Answer, Finish}
 use Rattle.vq_turns.specs.Turns.{taken, taken_of}
-use Rattle.vq_turn_laws.specs.Orders.{AsksBatch, AsksTake, AsksRelease}
-use Rattle.vq_turn_laws.specs.Places.{IsDone, IsLeft, Each, Among}
-use Rattle.vq_turn_laws.specs.Orders.{Within}
+use Rattle.vq_turn_laws.specs.Orders.{AsksBatch, AsksTake, AsksRelease, Within}
+use Rattle.vq_turn_laws.specs.Places.{IsDone, IsLeft}
 use Rattle.vq_turn_laws.specs.PlanParts.{HasResolvers}
+use Rattle.vq_turn_laws.specs.Tasks.{Each, Among}
 use Rattle.vq_turn_laws.specs.Worlds.{RisesAt, RisesIn}
 
 some_number : (m n : ℕ) → Some m ≡ Some n → m ≡ n

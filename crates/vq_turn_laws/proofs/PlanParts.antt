@@ -11,12 +11,16 @@ use Rattle.vq_model.specs.declared.script.Batch.{Batch as BatchLine}
 use Rattle.vq_model.specs.declared.script.Mark.{Mark}
 use Rattle.vq_model.specs.declared.script.Pair.{Pair}
 use Rattle.vq_model.specs.declared.script.HostStep.{HostStep}
-use Rattle.vq_model.specs.declared.script.HostStep.TheVariants.{WaitAll, WaitAny, FenceWait}
+use Rattle.vq_model.specs.declared.script.HostStep.TheVariants.{WaitAll, WaitAny, FenceWait, Signal, PollAll, PollAny, Read}
+use Rattle.vq_model.specs.declared.script.HostStep.TheVariants.{FencePoll, FenceReset, Idle}
+use Rattle.vq_model.specs.declared.plan.Question.TheVariants.{Silent, Value as AsksValue}
 use Rattle.vq_model.specs.declared.plan.Lane.{Lane}
 use Rattle.vq_model.specs.declared.plan.Lane.TheVariants.{Host as HostLane, Queue as QueueLane}
 use Rattle.vq_model.specs.declared.plan.Need.{Need}
-use Rattle.vq_model.specs.Plan.{same_lane, is_host_lane, is_host_step, previous, idle_after, commands_of, needs}
+use Rattle.vq_model.specs.Plan.{same_lane, is_host_lane, is_host_step, previous, idle_after, commands_of, needs, asked, question}
+use Rattle.vq_model.specs.Plan.{is_silent}
 use Rattle.vq_model.specs.Lowering.{plan_of, plan_job, lane_of, last_from, last_before, step_needs, of_pair, of_wait}
+use Rattle.vq_model.specs.Lowering.{step_asked, step_question}
 use Rattle.vq_model.proofs.Gets.{get-take, get-take_within}
 use Rattle.vq_plan_laws.proofs.Cited.{part_is}
 use Rattle.vq_turn_laws.specs.Orders.{Within}
@@ -113,5 +117,49 @@ module _ (s : Script) (counted : (j : ℕ) (b : BatchLine) → slice_get s.jobs 
       by_job (Some (Host x)) is m = of_step j x.line x.step n m
       by_job (Some (Batch b)) is m = of_waits j b.waits (counted j b is) n m
 
+  loud_step : (j line : ℕ) (step : HostStep) (n : Need) → Within n (step_asked s j line step) → is_silent (step_question step) ≡ false
+  loud_step j line (PollAll pairs) n w = refl
+  loud_step j line (PollAny pairs) n w = refl
+  loud_step j line (FencePoll f) n w = refl
+  loud_step j line (Read t) n w = refl
+  loud_step j line (Signal x) n w = absurd w
+  loud_step j line (WaitAll pairs) n w = refl
+  loud_step j line (WaitAny pairs) n w = refl
+  loud_step j line (FenceWait f) n w = refl
+  loud_step j line (FenceReset f) n w = absurd w
+  loud_step j line Idle n w = refl
+
+  is_loud : (j : ℕ) (n : Need) → Within n (asked (plan_of s) j) → is_silent (question (plan_of s) j) ≡ false
+  is_loud j n w = ap is_silent (part_is (λ x. x.question) Silent s j) ∙ by_job (slice_get s.jobs j) (subst (Within n) (part_is (λ x. x.asked) [] s j) w)
+    where
+      by_job : (o : Option Job) → Within n (option_map_or (λ job. (plan_job s (j, job)).asked) o []) → is_silent (option_map_or (λ job. (plan_job s (j, job)).question) o Silent) ≡ false
+      by_job None m = absurd m
+      by_job (Some (Host x)) m = loud_step j x.line x.step n m
+      by_job (Some (Batch b)) m = absurd m
+
+  value_step : (j line : ℕ) (step : HostStep) (t : ℕ) → step_question step ≡ AsksValue t → (n : Need) × (ns : List Need) × (step_asked s j line step ≡ n ∷ ns) × (n.chain ≡ t)
+  value_step j line (Read u) t h =
+      let same : u ≡ t = let z = h in cc in
+      (record { line = line; chain = u; value = 0; from = 1 }, [], refl, same)
+  value_step j line (PollAll pairs) t h = absurd (let z = h in cc)
+  value_step j line (PollAny pairs) t h = absurd (let z = h in cc)
+  value_step j line (FencePoll f) t h = absurd (let z = h in cc)
+  value_step j line (Signal x) t h = absurd (let z = h in cc)
+  value_step j line (WaitAll pairs) t h = absurd (let z = h in cc)
+  value_step j line (WaitAny pairs) t h = absurd (let z = h in cc)
+  value_step j line (FenceWait f) t h = absurd (let z = h in cc)
+  value_step j line (FenceReset f) t h = absurd (let z = h in cc)
+  value_step j line Idle t h = absurd (let z = h in cc)
+
+  value_first : (j t : ℕ) → question (plan_of s) j ≡ AsksValue t → (n : Need) × (ns : List Need) × (asked (plan_of s) j ≡ n ∷ ns) × (n.chain ≡ t)
+  value_first j t h =
+      subst (λ (us : List Need). (n : Need) × (ns : List Need) × (us ≡ n ∷ ns) × (n.chain ≡ t)) (sym (part_is (λ x. x.asked) [] s j))
+      (by_job (slice_get s.jobs j) (sym (part_is (λ x. x.question) Silent s j) ∙ h))
+    where
+      by_job : (o : Option Job) → option_map_or (λ job. (plan_job s (j, job)).question) o Silent ≡ AsksValue t → (n : Need) × (ns : List Need) × (option_map_or (λ job. (plan_job s (j, job)).asked) o [] ≡ n ∷ ns) × (n.chain ≡ t)
+      by_job None e = absurd (let z = e in cc)
+      by_job (Some (Host x)) e = value_step j x.line x.step t e
+      by_job (Some (Batch b)) e = absurd (let z = e in cc)
+
   pub keeps_parts : KeepsParts (plan_of s)
-  keeps_parts = record { idle = no_idle; commands = no_commands; places = from_one; lane = lane_before }
+  keeps_parts = record { idle = no_idle; commands = no_commands; places = from_one; lane = lane_before; loud = is_loud; value = value_first }

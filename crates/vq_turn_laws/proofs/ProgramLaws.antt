@@ -12,8 +12,8 @@ use Rattle.vq_points.specs.Points.{earlier_in_queue}
 use Rattle.vq_turns.specs.declared.task.Task.{Task}
 use Rattle.vq_turns.specs.declared.task.Task.TheVariants.{AwaitSubmitted, AwaitBound, Submit, Take, Release, Bind}
 use Rattle.vq_turns.specs.Programs.{takes, moves_batch, submits_batch}
-use Rattle.vq_turn_laws.specs.Orders.{onto, AsksBatch, AsksRelease, Asks, InOrder}
-use Rattle.vq_turn_laws.specs.Places.{Among}
+use Rattle.vq_turn_laws.specs.Orders.{AsksBatch, AsksRelease, Asks, InOrder}
+use Rattle.vq_turn_laws.specs.Tasks.{onto, Among}
 
 abbrev pub InPart : Plan → ActorName → List Task → List Task → List Task → Type 0
 InPart p a before [] left = Unit {0}

@@ -150,6 +150,7 @@ module _ (p : Plan) (wf : IsWellFormed p) (host : KeepsHostOrder p) (parts : Kee
           commands = parts.commands j h;
           ops = λ e m. wf.of_job e j m;
           chains = chain_known j;
+          loud = parts.loud j;
         };
         batches = batch_known;
         earlier_moved = λ j i m n.

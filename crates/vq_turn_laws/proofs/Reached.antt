@@ -11,10 +11,11 @@ use Rattle.vq_history_laws.specs.Histories.{points_after}
 use Rattle.vq_history_laws.specs.KeptFacts.{KeepsFacts}
 use Rattle.vq_history_laws.proofs.Cited.{history_reaches}
 use Rattle.vq_turn_laws.specs.PlanParts.{IsOrderly}
-use Rattle.vq_turn_laws.specs.Worlds.{KeepsMade, RefersInTurn, RisesIn}
+use Rattle.vq_turn_laws.specs.Worlds.{KeepsMade, KeepsStarts, RefersInTurn, RisesIn}
 use Rattle.vq_turn_laws.proofs.NextJobs.{turn_opening, turn_stays}
 use Rattle.vq_turn_laws.proofs.PastLaws.{made_opening, made_after}
 use Rattle.vq_turn_laws.proofs.SeenLaws.{rises_in}
+use Rattle.vq_turn_laws.proofs.StartLaws.{keeps_starts, starts_opening}
 
 pub record Reached (p : Plan) (w : PointState) : Type 0 where
   pub past : List Event
@@ -23,6 +24,7 @@ pub record Reached (p : Plan) (w : PointState) : Type 0 where
   pub follows : Follows p w
   pub made : KeepsMade w
   pub in_turn : RefersInTurn p w
+  pub starts : KeepsStarts p w
   pub raised : (e t : ℕ) → chain_of p e ≡ Some t → w.machine.progress.made e ≡ true →
       value p e ≤ w.machine.progress.payload t
 
@@ -45,6 +47,7 @@ reached p o events h =
       follows = l.follows;
       made = keeps_made p (opening_points p) events (made_opening p) h;
       in_turn = keeps_turns p o.well_formed (opening_points p) events (turn_opening p) h;
+      starts = keeps_starts p o (opening_points p) events (follows_opening p) (starts_opening p) h;
       raised = subst (λ (s : State). (e t : ℕ) → chain_of p e ≡ Some t → s.progress.made e ≡ true → value p e ≤ s.progress.payload t) (sym l.leads) (made_reached p (steps_of events) l.run);
     }
 

@@ -22,7 +22,8 @@ use Rattle.vq_turns.specs.declared.look.Holding.{Holding}
 use Rattle.vq_turns.specs.Turns.{point_of, found_by, found, held_for}
 use Rattle.vq_turn_laws.specs.Holdings.{needs_held, AtIndex, bit, is_holding, HoldsTruly}
 use Rattle.vq_turn_laws.specs.Orders.{Within, InJob, AsksWait}
-use Rattle.vq_turn_laws.specs.Places.{IsDone, IsLeft, Each}
+use Rattle.vq_turn_laws.specs.Places.{IsDone, IsLeft}
+use Rattle.vq_turn_laws.specs.Tasks.{Each}
 use Rattle.vq_turn_laws.proofs.PlaceLaws.{each_among}
 use Rattle.vq_turn_laws.proofs.WaitParts.{within_any}
 use Rattle.vq_turn_laws.proofs.Guards.{next_split}

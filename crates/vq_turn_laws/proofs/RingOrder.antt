@@ -19,9 +19,8 @@ use Rattle.vq_points.specs.Points.{jobs_of_lane, resolves}
 use Rattle.vq_turns.specs.declared.task.Task.{Task}
 use Rattle.vq_turns.specs.declared.task.Task.TheVariants.{AwaitReleased, Start, Apply, Signal, Finish}
 use Rattle.vq_turns.specs.Programs.{waits_where, runs_command, runs_batch}
-use Rattle.vq_turn_laws.specs.Orders.{onto, waited_since, Within, Waited, InJob, AsksStart, AsksApply, AsksFinish}
-use Rattle.vq_turn_laws.specs.Orders.{InOrder}
-use Rattle.vq_turn_laws.specs.Places.{Among}
+use Rattle.vq_turn_laws.specs.Orders.{waited_since, Within, Waited, InJob, AsksStart, AsksApply, AsksFinish, InOrder}
+use Rattle.vq_turn_laws.specs.Tasks.{onto, Among}
 use Rattle.vq_turn_laws.proofs.ProgramLaws.{InPart, onto_append, joined, parts, together, among_onto, among_turned}
 use Rattle.vq_turn_laws.proofs.ProgramLaws.{among_right, among_left, among_map, chain_or}
 use Rattle.vq_turn_laws.proofs.Rooms.{count_both, count_below, count_filter, bits_both, bits_below, filter_few}

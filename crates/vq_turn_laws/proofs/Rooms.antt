@@ -8,7 +8,8 @@ use Rattle.vq_model.specs.Plan.{Plan}
 use Rattle.vq_points.specs.Points.{resolves}
 use Rattle.vq_turns.specs.declared.task.Task.{Task}
 use Rattle.vq_turns.specs.declared.task.Task.TheVariants.{AwaitNeeds}
-use Rattle.vq_turn_laws.specs.Orders.{onto, waited_since}
+use Rattle.vq_turn_laws.specs.Orders.{waited_since}
+use Rattle.vq_turn_laws.specs.Tasks.{onto}
 use Rattle.vq_turn_laws.proofs.ProgramLaws.{onto_append}
 use Rattle.vq_history_laws.specs.Measure.{one}
 

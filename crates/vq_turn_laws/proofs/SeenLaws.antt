@@ -4,7 +4,6 @@ use Rattle.std.proofs.Common.{◌≡◌, ℕ, ◌≤◌, ◌||◌, ◌&&◌, Boo
 use Rattle.std.proofs.Common.{subst, ap, ◌∙◌, inl, inr, arith, nat_lt, ◌==◌}
 use Rattle.std.specs.List.{list_any}
 use Rattle.std.proofs.lemmas.Bool.{or_cases, or_left, or_right, and_parts, and_from, false≢true}
-use Rattle.vq_model.specs.declared.plan.Need.{Need}
 use Rattle.vq_model.specs.declared.plan.Event.{Event}
 use Rattle.vq_model.specs.declared.plan.Event.TheVariants.{Start as Starts, Signal as Signals, Answer as AnswersAs}
 use Rattle.vq_model.specs.Plan.{Plan, chain, chain_of, value}
@@ -24,7 +23,7 @@ rises_in p wf host ch w k (Signals e) g = let r = signal_step p wf host ch w k e
 rises_in p wf host ch w k other g = tt
 
 module _ (p : Plan) (w : PointState) (j : ℕ) (started : w.machine.progress.started j ≡ true) where
-  start_stays : (x : Event) → CanCome p w x → (t : ℕ) → (after_event p w x).machine.at_start j t ≡ w.machine.at_start j t
+  pub start_stays : (x : Event) → CanCome p w x → (t : ℕ) → (after_event p w x).machine.at_start j t ≡ w.machine.at_start j t
   start_stays (Starts i) g t =
       ap (λ (f : ℕ → ℕ). f t) (put_there w.machine.at_start i w.machine.progress.payload j (λ e. false≢true (sym g.waiting ∙ subst (λ (z : ℕ). w.machine.progress.started z ≡ true) e started)))
   start_stays (Signals e) g t = refl
@@ -58,21 +57,21 @@ module _ (p : Plan) (w : PointState) (j : ℕ) (started : w.machine.progress.sta
       ])
 
   -- What was seen of a started job stays so, whoever moves.
-  pub sees_stays : (x : Event) → CanCome p w x → RisesIn p w x → (ns : List Need) (xs : List Seen) → Sees p w j ns xs → Sees p (after_event p w x) j ns xs
+  pub sees_stays : (x : Event) → CanCome p w x → RisesIn p w x → (ns : List (ℕ × ℕ)) (xs : List Seen) → Sees p w j ns xs → Sees p (after_event p w x) j ns xs
   sees_stays x g r [] [] s = s
   sees_stays x g r [] (y ∷ ys) s = absurd s
-  sees_stays x g r (n ∷ ns) [] s = absurd s
-  sees_stays x g r (n ∷ ns) (y ∷ ys) s = (
+  sees_stays x g r ((t, v) ∷ ns) [] s = absurd s
+  sees_stays x g r ((t, v) ∷ ns) (y ∷ ys) s = (
     s.0,
-    (let a = start_stays x g n.chain in let b = s.1 in omega arith),
-    number_stays p w x r n.chain y.past s.2,
-    was_stays x g n.chain y.past s.3,
+    (let a = start_stays x g t in let b = s.1 in omega arith),
+    number_stays p w x r t y.past s.2,
+    was_stays x g t y.past s.3,
     sees_stays x g r ns ys s.4,
   )
 
   -- One comparison more, with a value that is the payload now, once what is signaled of the chain is past.
-  pub sees_more : (ns : List Need) (xs : List Seen) (n : Need) (y : Seen) → Sees p w j ns xs → y.wanted ≡ n.value → y.past ≡ w.machine.progress.payload n.chain → w.machine.at_start j n.chain ≤ w.machine.progress.payload n.chain → was_since p w.machine j n.chain (w.machine.progress.payload n.chain) ≡ true → Sees p w j (ns ++ n ∷ []) (xs ++ y ∷ [])
-  sees_more [] [] n y s v e l u = (v, (omega arith), (omega arith), subst (λ (z : ℕ). was_since p w.machine j n.chain z ≡ true) (sym e) u, tt)
-  sees_more [] (x ∷ xs) n y s v e l u = absurd s
-  sees_more (m ∷ ms) [] n y s v e l u = absurd s
-  sees_more (m ∷ ms) (x ∷ xs) n y s v e l u = (s.0, s.1, s.2, s.3, sees_more ms xs n y s.4 v e l u)
+  pub sees_more : (qs : List (ℕ × ℕ)) (xs : List Seen) (t v : ℕ) (y : Seen) → Sees p w j qs xs → y.wanted ≡ v → y.past ≡ w.machine.progress.payload t → w.machine.at_start j t ≤ w.machine.progress.payload t → was_since p w.machine j t (w.machine.progress.payload t) ≡ true → Sees p w j (qs ++ (t, v) ∷ []) (xs ++ y ∷ [])
+  sees_more [] [] t v y s q e l u = (q, (omega arith), (omega arith), subst (λ (z : ℕ). was_since p w.machine j t z ≡ true) (sym e) u, tt)
+  sees_more [] (x ∷ xs) t v y s q e l u = absurd s
+  sees_more ((m, n) ∷ ms) [] t v y s q e l u = absurd s
+  sees_more ((m, n) ∷ ms) (x ∷ xs) t v y s q e l u = (s.0, s.1, s.2, s.3, sees_more ms xs t v y s.4 q e l u)

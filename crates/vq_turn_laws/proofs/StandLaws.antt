@@ -10,11 +10,12 @@ use Rattle.vq_points.specs.Points.{PointState, CanCome, after_event, count_of}
 use Rattle.vq_turns.specs.declared.task.Task.{Task}
 use Rattle.vq_turns.specs.declared.task.Task.TheVariants.{AwaitNeeds, Finish}
 use Rattle.vq_turns.specs.declared.look.Holding.{Holding}
-use Rattle.vq_turn_laws.specs.Places.{IsDone, Among, IsOf}
-use Rattle.vq_turn_laws.specs.Orders.{waited_since}
 use Rattle.vq_turn_laws.specs.Holdings.{HoldsTruly}
+use Rattle.vq_turn_laws.specs.Orders.{waited_since}
+use Rattle.vq_turn_laws.specs.Places.{IsDone}
 use Rattle.vq_turn_laws.specs.PlanParts.{IsOrderly}
-use Rattle.vq_turn_laws.specs.TruePlaces.{Stands, finishes, waited_now, is_waiting}
+use Rattle.vq_turn_laws.specs.Tasks.{Among, IsOf, finishes, waited_now, is_waiting}
+use Rattle.vq_turn_laws.specs.TruePlaces.{Stands}
 use Rattle.vq_turn_laws.proofs.CutFacts.{IsCut}
 use Rattle.vq_turn_laws.proofs.HoldingLaws.{same_references, passes_task, enters_wait}
 use Rattle.vq_turn_laws.proofs.LeftLaws.{true_for_others, true_behind, true_after_look}

@@ -19,12 +19,12 @@ use Rattle.vq_turns.specs.declared.task.Task.TheVariants.{Submit, Take, Release,
 use Rattle.vq_turns.specs.declared.look.Holding.{Holding}
 use Rattle.vq_turns.specs.declared.look.Seen.{Seen}
 use Rattle.vq_turns.specs.Turns.{taken, taken_of, point_of, unbound_before, collected, to_complete, to_free, answer_by}
-use Rattle.vq_turn_laws.specs.Places.{IsOf}
 use Rattle.vq_turn_laws.specs.PlanParts.{IsOrderly}
+use Rattle.vq_turn_laws.specs.Tasks.{IsOf, finishes}
+use Rattle.vq_turn_laws.specs.TruePlaces.{Stands}
 use Rattle.vq_turn_laws.specs.Worlds.{Sees}
-use Rattle.vq_turn_laws.specs.TruePlaces.{Stands, finishes}
 use Rattle.vq_turn_laws.proofs.CutFacts.{IsCut, job_of_actor}
-use Rattle.vq_turn_laws.proofs.Guards.{can_submit, can_start, can_apply, can_signal, can_finish, can_answer}
+use Rattle.vq_turn_laws.proofs.Guards.{can_submit, can_start, can_apply, can_signal, can_finish, can_answer, pairs_of}
 use Rattle.vq_turn_laws.proofs.KeptGuards.{binds_kept, collects_kept, finish_free}
 use Rattle.vq_turn_laws.proofs.PlaceLaws.{can_release, can_take}
 use Rattle.vq_turn_laws.proofs.Reached.{Reached}
@@ -86,9 +86,9 @@ module _ (p : Plan) (o : IsOrderly p) (w : PointState) (r : Reached p w) (a : Ac
       (can, stands_finished p o w r a before j left holding met (Finishes j) c can refl (put_here w.machine.progress.finished j true) (record { held = refl; referred = refl; looked = refl }) s)
 
   -- What was seen is so, and a value is asked of the chain that the question names.
-  pub does_answer : (j : ℕ) (asks : Question) (seen : List Seen) → Sees p w j (asked p j) seen → ((t : ℕ) → question p j ≡ AsksValue t → (n : Need) × (ns : List Need) × (asked p j ≡ n ∷ ns) × (n.chain ≡ t)) → IsCut p a before (Answer j asks ∷ left) → Stands p w a before (Answer j asks ∷ left) holding met → Does p w a before (Answer j asks) left (AnswersAs j (answer_by asks seen))
+  pub does_answer : (j : ℕ) (asks : Question) (seen : List Seen) → Sees p w j (pairs_of (asked p j)) seen → ((t : ℕ) → question p j ≡ AsksValue t → (n : Need) × (ns : List Need) × (asked p j ≡ n ∷ ns) × (n.chain ≡ t)) → IsCut p a before (Answer j asks ∷ left) → Stands p w a before (Answer j asks ∷ left) holding met → Does p w a before (Answer j asks) left (AnswersAs j (answer_by asks seen))
   does_answer j asks seen sees valued c s =
-      let can = can_answer p w before s.done j asks seen c.order.0 s.left.0 sees valued in
+      let can = can_answer p w before s.done j asks seen left c.order.0 s.left.0 sees valued in
       (can, stands_behind p o w r a before (Answer j asks) left holding met (AnswersAs j (answer_by asks seen)) refl c can refl (ap is_some (put_here w.machine.answer j (Some (answer_by asks seen)))) (record { held = refl; referred = refl; looked = refl }) s)
 
 -- Collection

@@ -9,27 +9,26 @@ use Rattle.vq_model.specs.declared.plan.Event.{Event}
 use Rattle.vq_model.specs.declared.plan.Event.TheVariants.{Refer, Look, Unref}
 use Rattle.vq_model.specs.Plan.{Plan, has, chain, initial, value, resolver}
 use Rattle.vq_model.specs.Machine.{is_reached}
-use Rattle.vq_model.specs.Sure.{RisesFrom}
-use Rattle.vq_model.proofs.Lists.{has_here, has_there, split_at}
+use Rattle.vq_model.proofs.Lists.{has_here, has_there}
 use Rattle.vq_model.proofs.Options.{same_some}
 use Rattle.vq_model.proofs.Searches.{find_passes, find_member}
 use Rattle.vq_points.specs.Points.{PointState, CanCome, after_event, next_job}
-use Rattle.vq_run_laws.proofs.Cited.{above_initial}
 use Rattle.vq_turns.specs.declared.task.Task.{Task}
 use Rattle.vq_turns.specs.declared.task.Task.TheVariants.{AwaitNeeds, Finish}
 use Rattle.vq_turns.specs.declared.look.Holding.{Holding}
 use Rattle.vq_turns.specs.declared.look.Found.TheVariants.{Past, Pending, NotYet}
 use Rattle.vq_turns.specs.Turns.{held_for, with_holding, found, found_by, point_of}
-use Rattle.vq_turn_laws.specs.Places.{Among, IsOf}
-use Rattle.vq_turn_laws.specs.Orders.{AsksWait}
 use Rattle.vq_turn_laws.specs.Holdings.{AtIndex, HoldsTruly}
+use Rattle.vq_turn_laws.specs.Orders.{AsksWait}
 use Rattle.vq_turn_laws.specs.PlanParts.{IsOrderly}
-use Rattle.vq_turn_laws.specs.TruePlaces.{Stands, finishes}
+use Rattle.vq_turn_laws.specs.Tasks.{Among, IsOf, finishes}
+use Rattle.vq_turn_laws.specs.TruePlaces.{Stands}
 use Rattle.vq_turn_laws.proofs.CutFacts.{IsCut, job_is_next}
 use Rattle.vq_turn_laws.proofs.HoldingLaws.{after_refer, after_look, after_unref, meets, leaves_wait, enters_wait}
 use Rattle.vq_turn_laws.proofs.KeptGuards.{refers_kept}
 use Rattle.vq_turn_laws.proofs.LeftLaws.{true_for_others}
 use Rattle.vq_turn_laws.proofs.PlaceLaws.{reached_stays}
+use Rattle.vq_turn_laws.proofs.StartLaws.{from_initial}
 use Rattle.vq_turn_laws.proofs.Reached.{Reached, reached_rises}
 use Rattle.vq_turn_laws.proofs.References.{is_next, can_look, can_unref, found_pending, index_within}
 use Rattle.vq_turn_laws.proofs.WaitParts.{within_any}
@@ -84,18 +83,6 @@ module _ (p : Plan) (w : PointState) (a : ActorName) (before : List Task) (ns : 
       }
 
 module _ (p : Plan) (o : IsOrderly p) (w : PointState) (r : Reached p w) where
-  -- the payload is at least the initial value
-  from_initial : (t : ℕ) → initial p t ≤ w.machine.progress.payload t
-  from_initial t =
-      elim (r.follows.machine.raised t) [
-        | inl e ↦ omega arith
-        | inr x ↦
-            let s = split_at (chain p t) x.op x.in_chain in
-            let less = above_initial p (initial p t) s.front s.back x.op (subst (RisesFrom p (initial p t)) s.whole (o.chains t)) in
-            let v = x.sets in
-            omega arith
-      ]
-
   need_reached : (n : Need) → n.value ≤ w.machine.progress.payload n.chain → is_reached w.machine.progress.payload n ≡ true
   need_reached n l = le-leb n.value (w.machine.progress.payload n.chain) l
 
@@ -122,7 +109,7 @@ module _ (p : Plan) (o : IsOrderly p) (w : PointState) (r : Reached p w) where
       by_value : (b : Bool) → nat_le n.value (initial p n.chain) ≡ b → (if b then Some Past else found_by w (resolver p n.chain n.value)) ≡ Some Past → is_reached w.machine.progress.payload n ≡ true
       by_value true e h =
           let low = leb-true n.value (initial p n.chain) e in
-          let up = from_initial n.chain in
+          let up = from_initial p o.chains w r.follows n.chain in
           need_reached n (omega arith)
       by_value false e h = by_resolver (resolver p n.chain n.value) refl h
 

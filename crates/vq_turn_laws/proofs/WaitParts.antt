@@ -11,8 +11,8 @@ use Rattle.vq_model.proofs.Lists.{has_here, has-append_right}
 use Rattle.vq_points.specs.Points.{resolves, needs_resolved}
 use Rattle.vq_turns.specs.declared.task.Task.{Task}
 use Rattle.vq_turns.specs.declared.task.Task.TheVariants.{AwaitReleased, AwaitNeeds, Start, Finish}
-use Rattle.vq_turn_laws.specs.Orders.{onto, waited_since, Within, Behind, InJob, AsksWait}
-use Rattle.vq_turn_laws.specs.Places.{Among}
+use Rattle.vq_turn_laws.specs.Orders.{waited_since, Within, Behind, InJob, AsksWait}
+use Rattle.vq_turn_laws.specs.Tasks.{onto, Among}
 use Rattle.vq_turn_laws.proofs.Rooms.{need_cons}
 use Rattle.vq_turn_laws.proofs.ProgramLaws.{InPart, among_onto, among_right}
 

@@ -1,3 +1,4 @@
+pub mod Tasks
 pub mod Places
 pub mod Orders
 pub mod Holdings

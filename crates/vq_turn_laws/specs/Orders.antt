@@ -1,6 +1,6 @@
 -- What a task asks of its actor's other tasks: some stand before it, and some are left. This project's own.
 use Rattle.std.specs.Prelude.{ℕ, ◌≡◌, ◌<◌, ◌≤◌, ◌+◌, nat_lt, true, false, List, [], ◌∷◌, ◌++◌, length}
-use Rattle.std.specs.Prelude.{map, filter, count_by, Some, ◌⊎◌}
+use Rattle.std.specs.Prelude.{filter, count_by, Some, ◌⊎◌}
 use Rattle.vq_model.specs.declared.script.ActorName.{ActorName}
 use Rattle.vq_model.specs.declared.plan.Lane.{Lane}
 use Rattle.vq_model.specs.declared.plan.Need.{Need}
@@ -13,7 +13,7 @@ use Rattle.vq_turns.specs.declared.task.Task.{Task}
 use Rattle.vq_turns.specs.declared.task.Task.TheVariants.{AwaitSubmitted, AwaitReleased, AwaitFinished, AwaitBound}
 use Rattle.vq_turns.specs.declared.task.Task.TheVariants.{AwaitNeeds, Submit, Take, Release, Bind, Start, Apply, Signal}
 use Rattle.vq_turns.specs.declared.task.Task.TheVariants.{Compare, Answer, Finish}
-use Rattle.vq_turn_laws.specs.Places.{Among}
+use Rattle.vq_turn_laws.specs.Tasks.{Among, onto, compares, finishes, compared_now, is_asking}
 
 -- a need is one of these
 abbrev pub Within : Need → List Need → Type 0
@@ -91,22 +91,26 @@ pub record AsksSignal (p : Plan) (before : List Task) (e : ℕ) (left : List Tas
   pub next : Behind (signals_of p job) e Signal before
   pub needs : Waited p before job AtEnd
 
-abbrev pub compares : List Need → List Task
-compares ns = map (λ n. Compare n.chain n.value) ns
+-- a comparison stands behind the start of its job, the first that is left, and before an answer
+pub record AsksCompare (before left : List Task) : Type 0 where
+  pub job : ℕ
+  pub started : Among (Start job) before
+  pub later : List ℕ
+  pub first : finishes left ≡ job ∷ later
+  pub asking : is_asking left ≡ true
 
--- a list turned round onto another
-abbrev pub onto : List Task → List Task → List Task
-onto [] before = before
-onto (t ∷ ts) before = onto ts (t ∷ before)
-
--- a question is answered just behind the comparisons for it, which stand behind the start of its job
-pub record AsksAnswer (p : Plan) (before : List Task) (j : ℕ) (asks : Question) : Type 0 where
+-- a question is answered just behind the comparisons for it, which stand behind the start of its job, the
+-- first that is left
+pub record AsksAnswer (p : Plan) (before : List Task) (j : ℕ) (asks : Question) (left : List Task) : Type 0 where
   pub is : asks ≡ question p j
   pub loud : is_silent (question p j) ≡ false
   pub needs : Waited p before j AtEnd
   pub earlier : List Task
   pub compared : before ≡ onto (compares (asked p j)) earlier
+  pub alone : compared_now earlier ≡ []
   pub started : Among (Start j) earlier
+  pub later : List ℕ
+  pub first : finishes left ≡ j ∷ later
 
 pub record AsksFinish (p : Plan) (before : List Task) (j : ℕ) : Type 0 where
   pub started : Among (Start j) before
@@ -115,15 +119,16 @@ pub record AsksFinish (p : Plan) (before : List Task) (j : ℕ) : Type 0 where
   pub needs : Waited p before j AtEnd
   pub answered : is_silent (question p j) ≡ false → Among (Answer j (question p j)) before
 
--- An actor is in a job of its lane: those before it in the lane are finished. Before the start it waits for the needs at the
--- first place, and after it for those at later ones.
-pub record InJob (p : Plan) (a : ActorName) (before : List Task) (left : List Task) (j : ℕ) (source : List Need) : Type 0 where
+-- An actor is in a job of its lane: those before it in the lane are finished. Before the start it waits for
+-- the needs at the first place, and after it for those at later ones.
+pub record InJob (p : Plan) (a : ActorName) (before left : List Task) (j : ℕ) (source : List Need) : Type 0 where
   pub lane : Lane
   pub of_actor : lane_of_actor a ≡ Some lane
   pub behind : Behind (jobs_of_lane p lane) j Finish before
   pub unfinished : Among (Finish j) left
   pub released : is_host_step p j ≡ false → Among (AwaitReleased j) before
-  pub stage : (Among (Start j) left × (source ≡ needs_at p j (At 1))) ⊎ (Among (Start j) before × (source ≡ filter (λ n. nat_lt 1 n.from) (needs p j)))
+  pub stage : (Among (Start j) left × (source ≡ needs_at p j (At 1)))
+      ⊎ (Among (Start j) before × (source ≡ filter (λ n. nat_lt 1 n.from) (needs p j)))
 
 -- how many needs that an operation resolves were waited for since the last finish
 abbrev pub waited_since : Plan → ℕ → List Task → ℕ
@@ -148,7 +153,8 @@ Asks p a before (AwaitNeeds ns) left = AsksWait p a before ns left
 Asks p a before (Start j) left = AsksStart p before j
 Asks p a before (Apply j c) left = AsksApply p before j c left
 Asks p a before (Signal e) left = AsksSignal p before e left
-Asks p a before (Answer j asks) left = AsksAnswer p before j asks
+Asks p a before (Compare t v) left = AsksCompare before left
+Asks p a before (Answer j asks) left = AsksAnswer p before j asks left
 Asks p a before (Finish j) left = AsksFinish p before j
 Asks p a before other left = Unit {0}
 

@@ -1,10 +1,6 @@
 -- What a place says of a world: what was done is so, and what is left isn't. This project's own.
-use Rattle.std.specs.Prelude.{◌≡◌, Bool, true, false, List, [], ◌∷◌, None, is_some, ◌⊎◌}
+use Rattle.std.specs.Prelude.{◌≡◌, true, false, List, None, is_some}
 use Rattle.std.specs.List.{list_any}
-use Rattle.vq_model.specs.declared.plan.Event.{Event}
-use Rattle.vq_model.specs.declared.plan.Event.TheVariants.{Submit as Submits, Take as Takes, Release as Releases}
-use Rattle.vq_model.specs.declared.plan.Event.TheVariants.{Bind as Binds, Start as Starts, Apply as Applies}
-use Rattle.vq_model.specs.declared.plan.Event.TheVariants.{Signal as Signals, Finish as Finishes, Answer as AnswersAs}
 use Rattle.vq_model.specs.Plan.{Plan, has}
 use Rattle.vq_model.specs.Machine.{is_reached}
 use Rattle.vq_points.specs.Points.{PointState}
@@ -13,6 +9,7 @@ use Rattle.vq_turns.specs.declared.task.Task.TheVariants.{AwaitSubmitted, AwaitR
 use Rattle.vq_turns.specs.declared.task.Task.TheVariants.{AwaitNeeds, Submit, Take, Release, Bind, Start, Apply, Signal}
 use Rattle.vq_turns.specs.declared.task.Task.TheVariants.{Compare, Answer, Finish}
 use Rattle.vq_turns.specs.Turns.{unbound_before}
+use Rattle.vq_turn_laws.specs.Tasks.{Each}
 
 -- a task that was done is so in the world, from then on
 abbrev pub IsDone : PointState → Task → Type 0
@@ -45,31 +42,10 @@ IsLeft w (Answer j asks) = w.machine.answer j ≡ None
 IsLeft w (Finish j) = w.machine.progress.finished j ≡ false
 IsLeft w other = Unit {0}
 
-abbrev pub Each : (Task → Type 0) → List Task → Type 0
-Each P [] = Unit {0}
-Each P (t ∷ ts) = P t × Each P ts
-
-abbrev pub Among : Task → List Task → Type 0
-Among t [] = ⊥
-Among t (x ∷ xs) = (x ≡ t) ⊎ Among t xs
-
 -- A place is true: the tasks before it, latest first, are done, and those from it on are left.
 pub record IsTrueAt (p : Plan) (w : PointState) (before after : List Task) : Type 0 where
   pub done : Each (IsDone w) before
   pub left : Each (IsLeft w) after
-
--- whether an event is that of a task
-abbrev pub IsOf : Event → Task → Type 0
-IsOf (Submits i) (Submit j) = i ≡ j
-IsOf (Takes f q fresh) (Take e t) = f ≡ e
-IsOf (Releases i) (Release j) = i ≡ j
-IsOf (Binds f q) (Bind e) = f ≡ e
-IsOf (Starts i) (Start j) = i ≡ j
-IsOf (Applies i d) (Apply j c) = d ≡ c
-IsOf (Signals f) (Signal e) = f ≡ e
-IsOf (AnswersAs i a) (Answer j asks) = i ≡ j
-IsOf (Finishes i) (Finish j) = i ≡ j
-IsOf other task = ⊥
 
 -- A task isn't blocked: what it waits for is so. (Of a wait for needs nothing is said here.)
 abbrev pub IsReady : Plan → PointState → Task → Type 0
@@ -81,13 +57,3 @@ IsReady p w (AwaitNeeds needs) = ⊥
 IsReady p w (Bind e) = unbound_before p w e ≡ None
 IsReady p w (Signal e) = w.bound e ≡ true
 IsReady p w other = Unit {0}
-
--- whether a task makes an event of its own
-abbrev pub is_mover : Task → Bool
-is_mover (AwaitSubmitted j) = false
-is_mover (AwaitReleased j) = false
-is_mover (AwaitFinished j) = false
-is_mover (AwaitBound e) = false
-is_mover (AwaitNeeds needs) = false
-is_mover (Compare t v) = false
-is_mover other = true

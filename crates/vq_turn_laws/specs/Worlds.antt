@@ -1,10 +1,9 @@
 -- What each world of a lawful plan's history keeps, beside what each history keeps. This project's own.
 use Rattle.std.specs.Prelude.{ℕ, ◌≡◌, ◌<◌, ◌≤◌, true, List, [], ◌∷◌, ◌++◌, Option, Some, None}
 use Rattle.vq_model.specs.declared.plan.Lane.{Lane}
-use Rattle.vq_model.specs.declared.plan.Need.{Need}
 use Rattle.vq_model.specs.declared.plan.Event.{Event}
 use Rattle.vq_model.specs.declared.plan.Event.TheVariants.{Signal}
-use Rattle.vq_model.specs.Plan.{Plan, has, chain_of, value}
+use Rattle.vq_model.specs.Plan.{Plan, has, chain_of, value, initial}
 use Rattle.vq_model.specs.Machine.{was_since}
 use Rattle.vq_points.specs.Points.{PointState, count_of, jobs_of_lane}
 use Rattle.vq_turns.specs.declared.look.Seen.{Seen}
@@ -30,12 +29,17 @@ RefersInTurn p w =
     jobs_of_lane p lane ≡ front ++ i ∷ back → (y : ℕ) → has front y ≡ true →
     w.machine.progress.finished y ≡ true
 
--- What an actor saw of its question: each value lies between the payload at the start of its job and the
--- payload now, and the payload had it since the start.
-abbrev pub Sees : Plan → PointState → ℕ → List Need → List Seen → Type 0
+-- What an actor saw for a job, by chains and values that it compared: each past value lies between the payload
+-- at the start of the job and the payload now, and the payload had it since the start.
+abbrev pub Sees : Plan → PointState → ℕ → List (ℕ × ℕ) → List Seen → Type 0
 Sees p w j [] [] = Unit {0}
-Sees p w j (n ∷ ns) (x ∷ xs) =
-    (x.wanted ≡ n.value) × (w.machine.at_start j n.chain ≤ x.past)
-    × (x.past ≤ w.machine.progress.payload n.chain) × (was_since p w.machine j n.chain x.past ≡ true)
-    × Sees p w j ns xs
-Sees p w j ns xs = ⊥
+Sees p w j ((t, v) ∷ qs) (x ∷ xs) =
+    (x.wanted ≡ v) × (w.machine.at_start j t ≤ x.past) × (x.past ≤ w.machine.progress.payload t)
+    × (was_since p w.machine j t x.past ≡ true) × Sees p w j qs xs
+Sees p w j qs xs = ⊥
+
+-- the payload at the start of a job is one that the chain had
+abbrev pub KeepsStarts : Plan → PointState → Type 0
+KeepsStarts p w =
+    (j t : ℕ) → w.machine.progress.started j ≡ true →
+    (initial p t ≤ w.machine.at_start j t) × (w.machine.at_start j t ≤ w.machine.progress.payload t)
