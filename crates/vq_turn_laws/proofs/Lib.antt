@@ -22,6 +22,7 @@ mod References
 mod Resolvers
 mod RingOrder
 mod Rooms
+mod SawLaws
 mod SeenLaws
 mod StandLaws
 mod StartLaws
