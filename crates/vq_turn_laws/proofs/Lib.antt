@@ -1,4 +1,5 @@
 mod Apart
+mod CallLaws
 mod CutFacts
 mod Cuts
 mod Finishes

@@ -5,15 +5,17 @@ use Rattle.std.specs.List.{list_any}
 use Rattle.vq_model.specs.declared.script.ActorName.{ActorName}
 use Rattle.vq_model.specs.Plan.{Plan}
 use Rattle.vq_model.specs.Machine.{is_reached}
-use Rattle.vq_points.specs.Points.{PointState}
+use Rattle.vq_points.specs.Points.{PointState, CanCome, after_event}
 use Rattle.vq_turns.specs.declared.task.Task.{Task}
 use Rattle.vq_turns.specs.declared.look.Holding.{Holding}
 use Rattle.vq_turns.specs.declared.look.Seen.{Seen}
 use Rattle.vq_turns.specs.Programs.{program}
-use Rattle.vq_turns.specs.Turns.{Place}
+use Rattle.vq_turns.specs.declared.outcome.Outcome.{Outcome}
+use Rattle.vq_turns.specs.declared.outcome.Outcome.TheVariants.{Moved}
+use Rattle.vq_turns.specs.Turns.{Place, Did, GoesOn, Ends}
 use Rattle.vq_turn_laws.specs.Holdings.{HoldsTruly}
 use Rattle.vq_turn_laws.specs.Places.{IsDone, IsLeft}
-use Rattle.vq_turn_laws.specs.Tasks.{Each, finishes, waited_now, is_waiting, compared_now, is_asking, onto}
+use Rattle.vq_turn_laws.specs.Tasks.{IsEventOf, Each, finishes, waited_now, is_waiting, compared_now, is_asking, onto}
 use Rattle.vq_turn_laws.specs.Worlds.{Sees}
 
 -- An actor stands between the tasks before it, latest first, and those that are left: the ones are done, the
@@ -38,3 +40,14 @@ pub record SawTruly (p : Plan) (w : PointState) (before after : List Task) (seen
 pub record IsTrueFor (p : Plan) (w : PointState) (a : ActorName) (x : Place) : Type 0 where
   pub stands : Stands p w a (onto (take x.done (program p a)) []) (drop x.done (program p a)) x.holding x.met
   pub saw : SawTruly p w (onto (take x.done (program p a)) []) (drop x.done (program p a)) x.seen
+
+-- What a turn comes to is so: its event may come and is one of the actor's, and the place that it leads to is
+-- true.
+abbrev pub IsTrueTurn : Plan → PointState → ActorName → Outcome → Place → Type 0
+IsTrueTurn p w a (Moved x) y = CanCome p w x × IsEventOf p a x × IsTrueFor p (after_event p w x) a y
+IsTrueTurn p w a other y = IsTrueFor p w a y
+
+-- what a task of a turn comes to is so
+abbrev pub IsTrueDid : Plan → PointState → ActorName → Did → Type 0
+IsTrueDid p w a (GoesOn y) = IsTrueFor p w a y
+IsTrueDid p w a (Ends outcome y) = IsTrueTurn p w a outcome y
