@@ -263,9 +263,6 @@ module _ (p : Plan) (o : IsOrderly p) (w : PointState) (r : Reached p w) (a : Ac
         let d = stands_returned p o w r a ts ns us c g hs held in
         (d.0, refl, by_rest hs (saw_after (Unref a g.point g.op) d.0) d.1)
       where
-        v : PointState
-        v = after_event p w (Unref a g.point g.op)
-
         by_rest : (ks : List Holding) → SawTruly p (after_event p w (Unref a g.point g.op)) ts (AwaitNeeds ns ∷ us) x.seen → Stands p (after_event p w (Unref a g.point g.op)) a ts (AwaitNeeds ns ∷ us) ks true → IsTrueFor p (after_event p w (Unref a g.point g.op)) a (without_first x ks)
         by_rest [] k d =
             goes_behind p o w r a x (AwaitNeeds ns) n h (after_event p w (Unref a g.point g.op)) (without_first x []) refl (stands_over p (after_event p w (Unref a g.point g.op)) a ts ns us c d) (saw_behind p (after_event p w (Unref a g.point g.op)) (after_event p w (Unref a g.point g.op)) ts (AwaitNeeds ns) us x.seen refl k)

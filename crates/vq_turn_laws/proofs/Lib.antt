@@ -28,6 +28,7 @@ mod SeenLaws
 mod StandLaws
 mod StartLaws
 mod TaskLaws
+mod TurnLaws
 mod TurnRows
 mod WaitLaws
 mod WaitParts
