@@ -32,3 +32,4 @@ mod TurnLaws
 mod TurnRows
 mod WaitLaws
 mod WaitParts
+mod WholeTurns
