@@ -32,19 +32,11 @@ use Rattle.vq_turns.specs.declared.task.Task.TheVariants.{Compare, Answer, Finis
 use Rattle.vq_turns.specs.Programs.{program, waits_where, takes, moves_batch, submits_batch, runs_command, runs_batch}
 use Rattle.vq_turns.specs.Programs.{host_waits, does_step, host_does}
 use Rattle.vq_turn_laws.specs.PlanParts.{lane_of_job, IsActor}
-use Rattle.vq_turn_laws.specs.Tasks.{compares, IsOf, Among}
+use Rattle.vq_turn_laws.specs.Tasks.{AreApart, Differ, compares, IsOf, Among}
 use Rattle.vq_turn_laws.proofs.ProgramLaws.{chain_or}
 use Rattle.vq_history_laws.proofs.Cited.{below_range, filtered}
 
--- two tasks have no event in common
-abbrev pub Differ : Task → Task → Type 0
-Differ t u = (x : Event) → IsOf x t → IsOf x u → ⊥
-
-abbrev pub Apart : List Task → Type 0
-Apart [] = Unit {0}
-Apart (t ∷ ts) = ((u : Task) → Among u ts → Differ t u) × Apart ts
-
-pub apart_behind : (xs ys : List Task) → Apart (xs ++ ys) → Apart ys
+pub apart_behind : (xs ys : List Task) → AreApart (xs ++ ys) → AreApart ys
 apart_behind [] ys k = k
 apart_behind (x ∷ xs) ys k = apart_behind xs ys k.1
 
@@ -53,7 +45,7 @@ among_either u [] ys m = inr m
 among_either u (x ∷ xs) ys (inl e) = inl (inl e)
 among_either u (x ∷ xs) ys (inr m) = elim (among_either u xs ys m) [ inl r ↦ inl (inr r) | inr r ↦ inr r ]
 
-apart_append : (xs ys : List Task) → Apart xs → Apart ys → ((t u : Task) → Among t xs → Among u ys → Differ t u) → Apart (xs ++ ys)
+apart_append : (xs ys : List Task) → AreApart xs → AreApart ys → ((t u : Task) → Among t xs → Among u ys → Differ t u) → AreApart (xs ++ ys)
 apart_append [] ys k l f = l
 apart_append (x ∷ xs) ys k l f = (
   λ u m. elim (among_either u xs ys m) [ inl a ↦ k.0 u a | inr b ↦ f x u (inl refl) b ],
@@ -192,7 +184,7 @@ same_signal other e f a b = absurd a
 
 -- A part of a job's program: its tasks are apart, and its events are of the job and of these kinds.
 record Part (p : Plan) (j : ℕ) (ts : List Task) (codes : List ℕ) : Type 0 where
-  apart : Apart ts
+  apart : AreApart ts
   kinds : (t : Task) → Among t ts → (x : Event) → IsOf x t → JobOf p x j × (has codes (code x) ≡ true)
 
 module _ (p : Plan) (wf : IsWellFormed p) (j : ℕ) where
@@ -213,7 +205,7 @@ module _ (p : Plan) (wf : IsWellFormed p) (j : ℕ) where
   no_events : (ts : List Task) → ((t : Task) → Among t ts → (x : Event) → IsOf x t → ⊥) → Part p j ts []
   no_events ts f = record { apart = all_apart ts f; kinds = λ t m x h. absurd (f t m x h) }
     where
-      all_apart : (us : List Task) → ((t : Task) → Among t us → (x : Event) → IsOf x t → ⊥) → Apart us
+      all_apart : (us : List Task) → ((t : Task) → Among t us → (x : Event) → IsOf x t → ⊥) → AreApart us
       all_apart [] g = tt
       all_apart (u ∷ us) g = (λ v m x a b. g u (inl refl) x a, all_apart us (λ t m. g t (inr m)))
 
@@ -256,7 +248,7 @@ module _ (p : Plan) (wf : IsWellFormed p) (j : ℕ) where
             (q.0, subst (λ (z : ℕ). has (c ∷ []) z ≡ true) (sym q.1) (has_here c []));
       }
     where
-      all_apart : (gs : List ℕ) → AreRising gs → Apart (map f gs)
+      all_apart : (gs : List ℕ) → AreRising gs → AreApart (map f gs)
       all_apart [] r = tt
       all_apart (g ∷ gs) r = (
         λ u m x a b.
@@ -309,7 +301,7 @@ module _ (p : Plan) (wf : IsWellFormed p) (j : ℕ) where
         | inr b ↦ let r = in_commands cs (k + 1) t b x h in (r.0, has_there c cs r.0 r.1, r.2)
       ]
 
-  commands_apart : (cs : List ℕ) (k : ℕ) → AreRising cs → Apart (flat_map (runs_command p j) (enumerate_from k cs))
+  commands_apart : (cs : List ℕ) (k : ℕ) → AreRising cs → AreApart (flat_map (runs_command p j) (enumerate_from k cs))
   commands_apart [] k r = tt
   commands_apart (c ∷ cs) k r =
       let ws : List Task = waits_where p j (λ n. nat_lt 1 k && (n.from == k)) in
@@ -410,7 +402,7 @@ module _ (p : Plan) (wf : IsWellFormed p) (j : ℕ) where
   batch_tasks : (b : Bool) → Part p j (Submit j ∷ (if b then moves_batch p j else [])) (0 ∷ 1 ∷ 2 ∷ 3 ∷ [])
   batch_tasks b = join (Submit j ∷ []) (if b then moves_batch p j else []) (0 ∷ []) (1 ∷ 2 ∷ 3 ∷ []) (one_task (Submit j) 0 (λ x h. of_submit p x j h)) (moved_tasks b) refl
 
-  host_apart : (b : Bool) → Apart (if b then does_step p j else Submit j ∷ (if of_job (λ x. is_immediate_lane p x.lane) false p j then moves_batch p j else []))
+  host_apart : (b : Bool) → AreApart (if b then does_step p j else Submit j ∷ (if of_job (λ x. is_immediate_lane p x.lane) false p j then moves_batch p j else []))
   host_apart true = does_tasks.apart
   host_apart false = (batch_tasks (of_job (λ x. is_immediate_lane p x.lane) false p j)).apart
 
@@ -421,7 +413,7 @@ module _ (p : Plan) (wf : IsWellFormed p) (j : ℕ) where
 -- Jobs one after another
 
 module _ (p : Plan) (wf : IsWellFormed p) where
-  flat_apart : (f : ℕ → List Task) → ((j : ℕ) → Apart (f j)) → ((j : ℕ) (t : Task) → Among t (f j) → (x : Event) → IsOf x t → JobOf p x j) → (js : List ℕ) → AreRising js → Apart (flat_map f js)
+  flat_apart : (f : ℕ → List Task) → ((j : ℕ) → AreApart (f j)) → ((j : ℕ) (t : Task) → Among t (f j) → (x : Event) → IsOf x t → JobOf p x j) → (js : List ℕ) → AreRising js → AreApart (flat_map f js)
   flat_apart f k o [] r = tt
   flat_apart f k o (j ∷ js) r =
       apart_append (f j) (flat_map f js) (k j) (flat_apart f k o js r.1) (λ t u a b x m n.
@@ -446,7 +438,7 @@ module _ (p : Plan) (wf : IsWellFormed p) where
   lane_rises lane = filter_rises _ (range_with_len 0 (length p.jobs)) (range_rises (length p.jobs) 0)
 
   -- In each program the tasks are apart.
-  pub program_apart : (a : ActorName) → Apart (program p a)
+  pub program_apart : (a : ActorName) → AreApart (program p a)
   program_apart HostActor = flat_apart (host_does p) (λ j. host_apart p wf j (is_host_step p j)) (λ j t m x h. host_job p wf j (is_host_step p j) t m x h) (range_with_len 0 (length p.jobs)) (range_rises (length p.jobs) 0)
   program_apart (SubmitActor q) = flat_apart (submits_batch p) (λ j. (submits_tasks p wf j).apart) (λ j t m x h. ((submits_tasks p wf j).kinds t m x h).0) (jobs_of_lane p (QueueLane q)) (lane_rises (QueueLane q))
   program_apart (RingActor q) = flat_apart (runs_batch p) (λ j. (runs_tasks p wf j).apart) (λ j t m x h. ((runs_tasks p wf j).kinds t m x h).0) (jobs_of_lane p (QueueLane q)) (lane_rises (QueueLane q))

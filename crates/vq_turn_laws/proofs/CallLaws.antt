@@ -34,7 +34,7 @@ use Rattle.vq_turn_laws.proofs.TaskLaws.{Does, does_submit, does_release, does_t
 use Rattle.vq_turn_laws.proofs.WaitLaws.{stands_referred, stands_seen, stands_met, stands_over, stands_returned}
 
 -- the tasks that are left begin with the next one
-next_left : (n : ℕ) (ts : List Task) (t : Task) → slice_get ts n ≡ Some t → drop n ts ≡ t ∷ drop (n + 1) ts
+pub next_left : (n : ℕ) (ts : List Task) (t : Task) → slice_get ts n ≡ Some t → drop n ts ≡ t ∷ drop (n + 1) ts
 next_left n ts t h = let more : suc n ≡ n + 1 = omega arith in subst (λ (m : ℕ). drop n ts ≡ t ∷ drop m ts) more (from_next n ts h)
   where
     from_next : (n : ℕ) (ts : List Task) → slice_get ts n ≡ Some t → drop n ts ≡ t ∷ drop (suc n) ts
@@ -184,8 +184,7 @@ module _ (p : Plan) (o : IsOrderly p) (w : PointState) (r : Reached p w) (a : Ac
       let ts = before p o w r a x (Answer j q) n h in
       let us = left p o w r a x (Answer j q) n h in
       let d = does_answer p o w r a ts us x.holding x.met j q x.seen (saw_asked p o w r a ts s.done j q us x.seen c k) (λ t e. o.parts.value j t e) c s in
-      let v = after_event p w (AnswersAs j (answer_by q x.seen)) in
-      (
+      let v = after_event p w (AnswersAs j (answer_by q x.seen)) in (
         d.0,
         event_of p a (AnswersAs j (answer_by q x.seen)) (Answer j q) (c.own (Answer j q) (inl refl)) refl,
         goes_behind p o w r a x (Answer j q) n h v (record (forward x) { seen = [] }) refl (held_same p o w r a x (Answer j q) n h v (Answer j q ∷ ts) us refl d.1) (saw_answered p v ts j q us),
@@ -225,20 +224,18 @@ module _ (p : Plan) (o : IsOrderly p) (w : PointState) (r : Reached p w) (a : Ac
     -- A reference to a pending operation.
     pub call_refer : x.met ≡ false → (i : ℕ) (need : Need) (e q : ℕ) → AtIndex 0 ns i need → held_for i x.holding ≡ None → found p w need.chain need.value ≡ Some (Pending e q) → IsTrueTurn p w a (Moved (Refer a q e)) (holding_also x i e q)
     call_refer m i need e q at none f =
-        let d = stands_referred p o w r a ts ns us c x.holding (unmet m) i need e q at none f in
-        (
+        let d = stands_referred p o w r a ts ns us c x.holding (unmet m) i need e q at none f in (
           d.0,
           refl,
           stays_here p o w r a x (AwaitNeeds ns) n h (after_event p w (Refer a q e)) (holding_also x i e q) refl
-          (subst (λ (b : Bool). Stands p (after_event p w (Refer a q e)) a ts (AwaitNeeds ns ∷ us) (holding_also x i e q).holding b) (sym m) d.1)
-          (saw_after (Refer a q e) d.0),
+              (subst (λ (b : Bool). Stands p (after_event p w (Refer a q e)) a ts (AwaitNeeds ns ∷ us) (holding_also x i e q).holding b) (sym m) d.1)
+              (saw_after (Refer a q e) d.0),
         )
 
     -- A look that sees its signal.
     pub call_look : x.met ≡ false → (i : ℕ) (need : Need) (g : Holding) → AtIndex 0 ns i need → held_for i x.holding ≡ Some g → w.machine.progress.made g.op ≡ true → IsTrueTurn p w a (Moved (Look a g.point g.op)) (record x { met = true })
     call_look m i need g at is made =
-        let d = stands_seen p o w r a ts ns us c x.holding (unmet m) i need g at is made in
-        (
+        let d = stands_seen p o w r a ts ns us c x.holding (unmet m) i need g at is made in (
           d.0,
           refl,
           stays_here p o w r a x (AwaitNeeds ns) n h (after_event p w (Look a g.point g.op)) (record x { met = true }) refl d.1 (saw_after (Look a g.point g.op) d.0),

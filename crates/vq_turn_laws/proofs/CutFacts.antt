@@ -19,8 +19,8 @@ use Rattle.vq_turns.specs.Programs.{program}
 use Rattle.vq_turn_laws.specs.Orders.{InOrder}
 use Rattle.vq_turn_laws.specs.Places.{IsDone, IsLeft}
 use Rattle.vq_turn_laws.specs.PlanParts.{lane_of_job, IsOrderly}
-use Rattle.vq_turn_laws.specs.Tasks.{Each, Among, finishes}
-use Rattle.vq_turn_laws.proofs.Apart.{Apart, program_apart, in_queue, host_lane}
+use Rattle.vq_turn_laws.specs.Tasks.{AreApart, Each, Among, finishes}
+use Rattle.vq_turn_laws.proofs.Apart.{program_apart, in_queue, host_lane}
 use Rattle.vq_turn_laws.proofs.Cuts.{done_of, order_cut, apart_cut, among_cut}
 use Rattle.vq_turn_laws.proofs.Finishes.{finishes_append, program_finishes, submit_finishes, finish_among}
 use Rattle.vq_turn_laws.proofs.Guards.{next_split}
@@ -32,7 +32,7 @@ use Rattle.vq_turn_laws.proofs.ProgramsOrder.{in_order}
 -- what is known of a program, cut at a place
 pub record IsCut (p : Plan) (a : ActorName) (before after : List Task) : Type 0 where
   pub order : InOrder p a before after
-  pub apart : Apart after
+  pub apart : AreApart after
   pub own : (t : Task) → Among t after → Among t (program p a)
   -- the jobs of the actor's lane: those that are finished, and those that are left
   pub front : List ℕ

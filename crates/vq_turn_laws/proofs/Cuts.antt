@@ -5,9 +5,9 @@ use Rattle.vq_model.specs.declared.script.ActorName.{ActorName}
 use Rattle.vq_model.specs.Plan.{Plan}
 use Rattle.vq_turns.specs.declared.task.Task.{Task}
 use Rattle.vq_turn_laws.specs.Orders.{InOrder}
-use Rattle.vq_turn_laws.specs.Tasks.{Among, onto}
+use Rattle.vq_turn_laws.specs.Tasks.{AreApart, Among, onto}
 use Rattle.vq_turn_laws.proofs.ProgramLaws.{among_right}
-use Rattle.vq_turn_laws.proofs.Apart.{Apart, apart_behind}
+use Rattle.vq_turn_laws.proofs.Apart.{apart_behind}
 
 -- the tasks before a place, latest first
 abbrev pub done_of : ℕ → List Task → List Task
@@ -36,8 +36,8 @@ order_from p a (suc n) (t ∷ ts) before o = order_from p a n ts (t ∷ before) 
 pub order_cut : (p : Plan) (a : ActorName) (n : ℕ) (ts : List Task) → InOrder p a [] ts → InOrder p a (done_of n ts) (drop n ts)
 order_cut p a n ts o = order_from p a n ts [] o
 
-pub apart_cut : (n : ℕ) (ts : List Task) → Apart ts → Apart (drop n ts)
-apart_cut n ts k = apart_behind (take n ts) (drop n ts) (subst Apart (sym (take-append-drop n ts)) k)
+pub apart_cut : (n : ℕ) (ts : List Task) → AreApart ts → AreApart (drop n ts)
+apart_cut n ts k = apart_behind (take n ts) (drop n ts) (subst AreApart (sym (take-append-drop n ts)) k)
 
 pub among_cut : (n : ℕ) (ts : List Task) (t : Task) → Among t (drop n ts) → Among t ts
 among_cut n ts t m = subst (Among t) (take-append-drop n ts) (among_right t (take n ts) (drop n ts) m)

@@ -1,3 +1,4 @@
+pub mod Cited
 mod Apart
 mod CallLaws
 mod CutFacts
@@ -28,6 +29,7 @@ mod SeenLaws
 mod StandLaws
 mod StartLaws
 mod TaskLaws
+mod TrueProofs
 mod TurnLaws
 mod TurnRows
 mod WaitLaws

@@ -76,6 +76,15 @@ IsOf (AnswersAs i a) (Answer j asks) = i ≡ j
 IsOf (Finishes i) (Finish j) = i ≡ j
 IsOf other task = ⊥
 
+-- two tasks have no event in common
+abbrev pub Differ : Task → Task → Type 0
+Differ t u = (x : Event) → IsOf x t → IsOf x u → ⊥
+
+-- no two of these tasks have
+abbrev pub AreApart : List Task → Type 0
+AreApart [] = Unit {0}
+AreApart (t ∷ ts) = ((u : Task) → Among u ts → Differ t u) × AreApart ts
+
 -- whether a task makes an event of its own
 abbrev pub is_mover : Task → Bool
 is_mover (AwaitSubmitted j) = false

@@ -1,15 +1,77 @@
 //! Laws over the programs of the actors and their places. The functions do nothing: their contracts are
 //! the laws.
-ghost use Rattle.std.specs.Prelude.{◌≡◌, [], List};
+ghost use Rattle.std.specs.Prelude.{◌≡◌, [], ◌∷◌, ◌++◌, true, List, Some};
+ghost use Rattle.std.specs.List.{slice_get};
 ghost use Rattle.vq_model.specs.Plan.{Plan};
-ghost use Rattle.vq_model.specs.WellFormed.{IsWellFormed, KeepsHostOrder};
+ghost use Rattle.vq_model.specs.Checks.{IsLawful};
+ghost use Rattle.vq_model.specs.LoweringFaults.{IsPlan};
+ghost use Rattle.vq_model.specs.declared.plan.Event.{Event};
 ghost use Rattle.vq_model.specs.declared.script.ActorName.{ActorName};
+ghost use Rattle.vq_points.specs.Points.{PointState, CanCome, after_event, opening_points};
+ghost use Rattle.vq_turns.specs.declared.task.Task.{Task};
+ghost use Rattle.vq_turns.specs.declared.outcome.Outcome.TheVariants.{Moved};
 ghost use Rattle.vq_turns.specs.Programs.{program};
+ghost use Rattle.vq_turns.specs.Turns.{Place, first_place, does, turn_from, turn_of};
+ghost use Rattle.vq_turn_laws.specs.Tasks.{Each, Among, AreApart, IsOf, IsEventOf, is_mover};
+ghost use Rattle.vq_turn_laws.specs.Places.{IsDone, IsReady};
 ghost use Rattle.vq_turn_laws.specs.Orders.{InOrder};
-ghost use Rattle.vq_turn_laws.specs.PlanParts.{KeepsParts};
+ghost use Rattle.vq_turn_laws.specs.PlanParts.{IsActor, IsOrderly};
+ghost use Rattle.vq_turn_laws.specs.Worlds.{InEachWorld};
+ghost use Rattle.vq_turn_laws.specs.TruePlaces.{IsTrueFor, IsTrueDid, IsTrueTurn};
 
-/// Each actor's program is in order: what a task needs of the actor's other tasks stands before it or after it.
+/// Each lawful plan of a script that was read keeps what the laws on programs and places ask of a plan.
+pub fn lawful_plans_are_orderly()
+    ensures { (p : Plan) → IsPlan p → IsLawful p → IsOrderly p }
+{}
+
+/// Each actor's program is in order: what a task asks of the actor's other tasks stands before it, or is
+/// left behind it.
 pub fn programs_are_in_order()
-    ensures { (p : Plan) → IsWellFormed p → KeepsHostOrder p → KeepsParts p → (a : ActorName) →
-        InOrder p a [] (program p a) }
+    ensures { (p : Plan) → IsPlan p → (a : ActorName) → InOrder p a [] (program p a) }
+{}
+
+/// No two tasks of a program have an event in common, and no two actors' programs have.
+pub fn programs_are_apart()
+    ensures own { (p : Plan) → IsPlan p → (a : ActorName) → AreApart (program p a) }
+    ensures others { (p : Plan) → IsPlan p → (a b : ActorName) → IsActor p a → IsActor p b →
+        (t u : Task) → Among t (program p a) → Among u (program p b) → (x : Event) →
+        IsOf x t → IsOf x u → a ≡ b }
+{}
+
+/// What was done stays done, whatever event comes.
+pub fn what_is_done_stays_done()
+    ensures { (p : Plan) → IsPlan p → IsLawful p → InEachWorld p (λ w. (x : Event) → CanCome p w x →
+        (t : Task) → IsDone w t → IsDone (after_event p w x) t) }
+{}
+
+/// At the opening each actor's first place is true.
+pub fn first_places_are_true()
+    ensures { (p : Plan) → (a : ActorName) → IsTrueFor p (opening_points p) a first_place }
+{}
+
+/// Where an actor's place is true, the event of its next task may come, and the place that the actor goes to
+/// is true. So it is with a whole turn. A look that finds its thing so leads to a true place without an
+/// event.
+pub fn turns_keep_places_true()
+    ensures task { (p : Plan) → IsPlan p → IsLawful p → InEachWorld p (λ w. (a : ActorName) →
+        (x : Place) → IsTrueFor p w a x → (t : Task) → slice_get (program p a) x.done ≡ Some t →
+        IsTrueDid p w a (does p w a x t)) }
+    ensures turn { (p : Plan) → IsPlan p → IsLawful p → InEachWorld p (λ w. (a : ActorName) →
+        (x : Place) → IsTrueFor p w a x →
+        IsTrueTurn p w a (turn_of p w a x).outcome (turn_of p w a x).place) }
+{}
+
+/// An event of one actor leaves the true places of the others true.
+pub fn others_keep_places_true()
+    ensures { (p : Plan) → IsPlan p → IsLawful p → InEachWorld p (λ w. (a b : ActorName) →
+        IsActor p a → IsActor p b → ¬ (a ≡ b) → (x : Place) → IsTrueFor p w a x →
+        (e : Event) → CanCome p w e → IsEventOf p b e → IsTrueFor p (after_event p w e) a x) }
+{}
+
+/// An actor that isn't blocked before a task that makes an event, nor in it, moves.
+pub fn unblocked_actors_move()
+    ensures { (p : Plan) → (w : PointState) → (a : ActorName) → (front : List Task) → (t : Task) →
+        (back : List Task) → (x : Place) → Each (IsReady p w) front → IsReady p w t →
+        is_mover t ≡ true →
+        (e : Event) × ((turn_from p w a x (front ++ t ∷ back)).outcome ≡ Moved e) }
 {}
