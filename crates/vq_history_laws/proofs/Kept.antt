@@ -1,6 +1,8 @@
 -- What each world of a history keeps of its points, its jobs and its references, beside `Links`.
-use Rattle.std.proofs.Common.{◌≡◌, ℕ, zero, suc, ◌<◌, ◌≤◌, ◌+◌, Bool, true, false, not, if◌then◌else◌, List, [], ◌∷◌}
-use Rattle.std.proofs.Common.{length, Option, Some, None, is_some, refl, sym, subst, ap, ◌∙◌, inl, inr, arith, filter}
+use Rattle.vq_model.proofs.Filters.{filter-has_cases}
+use Rattle.vq_model.proofs.Numbers.{has-range_cases}
+use Rattle.std.proofs.Common.{◌≡◌, ℕ, zero, suc, ◌<◌, ◌≤◌, ◌+◌, Bool, true, false, not, List, [], ◌∷◌}
+use Rattle.std.proofs.Common.{length, Option, Some, None, is_some, refl, sym, subst, ap, ◌∙◌, inl, inr, arith}
 use Rattle.std.proofs.Common.{◌==◌}
 use Rattle.std.specs.List.{list_any, count_by, range_with_len, slice_get}
 use Rattle.std.specs.Option.{option_map, option_map_or}
@@ -17,7 +19,7 @@ use Rattle.vq_model.specs.declared.plan.Event.TheVariants.{Submit, Take, Release
 use Rattle.vq_model.specs.declared.plan.Event.TheVariants.{Free, Start, Apply, Signal, Finish, Answer}
 use Rattle.vq_model.specs.Plan.{Plan, has, job_of, chain_of, is_batch, is_silent, question}
 use Rattle.vq_model.specs.Machine.{next, may_answer, put, with_signal}
-use Rattle.vq_model.proofs.Lists.{has_here, has_there, has_cases, list_all_has}
+use Rattle.vq_model.proofs.Lists.{has_here, list_all_has}
 use Rattle.vq_model.proofs.Puts.{put_here, put_there, put_cases, put_keeps}
 use Rattle.vq_model.proofs.Options.{same_some}
 use Rattle.vq_points.specs.Points.{PointState, Reference, opening_points, jobs_of_lane, lane_of_actor, next_job}
@@ -27,7 +29,7 @@ use Rattle.vq_points.proofs.Cited.{Links}
 use Rattle.vq_run_laws.proofs.Cited.{next_in}
 use Rattle.vq_history_laws.specs.Measure.{one, sum_to}
 use Rattle.vq_history_laws.specs.KeptFacts.{KeepsFacts}
-use Rattle.vq_history_laws.proofs.Counts.{below_range, count_cons}
+use Rattle.vq_history_laws.proofs.Counts.{count_cons}
 
 pub sum_same : (f g : ℕ → ℕ) (n : ℕ) → ((i : ℕ) → g i ≡ f i) → sum_to g n ≡ sum_to f n
 sum_same f g zero s = refl
@@ -52,18 +54,6 @@ pub sum_below : (f g : ℕ → ℕ) (n : ℕ) → ((i : ℕ) → f i ≤ g i) �
 sum_below f g zero s = omega arith
 sum_below f g (suc n) s = let r = sum_below f g n s in let h = s n in omega arith
 
-pub filtered : (test : ℕ → Bool) (xs : List ℕ) (y : ℕ) → has (filter test xs) y ≡ true → (has xs y ≡ true) × (test y ≡ true)
-filtered test [] y m = absurd (false≢true m)
-filtered test (x ∷ xs) y m = by_test (test x) refl m (filtered test xs y)
-  where
-    by_test : (b : Bool) → test x ≡ b → has (if b then x ∷ filter test xs else filter test xs) y ≡ true → (has (filter test xs) y ≡ true → (has xs y ≡ true) × (test y ≡ true)) → (has (x ∷ xs) y ≡ true) × (test y ≡ true)
-    by_test true e h g =
-        elim (has_cases x (filter test xs) y h) [
-          | inl s ↦ (subst (λ (z : ℕ). has (x ∷ xs) z ≡ true) s (has_here x xs), subst (λ (z : ℕ). test z ≡ true) s e)
-          | inr r ↦ let q = g r in (has_there x xs y q.0, q.1)
-        ]
-    by_test false e h g = let q = g h in (has_there x xs y q.0, q.1)
-
 -- an actor's next job exists
 pub next_exists : (p : Plan) (w : PointState) (a : ActorName) (j : ℕ) → next_job p w a ≡ Some j → j < length p.jobs
 next_exists p w a j h = by_lane (lane_of_actor a) h
@@ -71,8 +61,8 @@ next_exists p w a j h = by_lane (lane_of_actor a) h
     by_lane : (o : Option _) → option_map_or (λ lane. next w.machine.progress.finished (jobs_of_lane p lane)) o None ≡ Some j → j < length p.jobs
     by_lane None e = absurd (let c = e in cc)
     by_lane (Some lane) e =
-        let m = (filtered _ (range_with_len 0 (length p.jobs)) j (next_in w.machine.progress.finished (jobs_of_lane p lane) j e).0).0 in
-        let x = (below_range (length p.jobs) 0 j m).1 in
+        let m = (filter-has_cases _ (range_with_len 0 (length p.jobs)) j (next_in w.machine.progress.finished (jobs_of_lane p lane) j e).0).0 in
+        let x = (has-range_cases (length p.jobs) 0 j m).1 in
         omega arith
 
 pub op_exists : (p : Plan) (e j : ℕ) → job_of p e ≡ Some j → e < length p.ops

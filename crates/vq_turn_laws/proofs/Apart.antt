@@ -1,4 +1,7 @@
 -- The tasks of all programs are different: an event is that of one task at most.
+use Rattle.vq_model.proofs.Filters.{filter-has_cases}
+use Rattle.vq_model.proofs.Filters.{rising_filter}
+use Rattle.vq_model.proofs.Numbers.{rising_range}
 use Rattle.std.proofs.Common.{◌≡◌, ℕ, zero, suc, ◌+◌, ◌&&◌, ◌||◌, Bool, true, false, not, if◌then◌else◌, List, [], ◌∷◌}
 use Rattle.std.proofs.Common.{◌++◌, length, map, filter, Option, Some, None, refl, sym, subst, ap, ◌∙◌, ◌⊎◌, inl, inr}
 use Rattle.std.proofs.Common.{arith, nat_lt, ◌==◌}
@@ -34,7 +37,6 @@ use Rattle.vq_turns.specs.Programs.{host_waits, does_step, host_does}
 use Rattle.vq_turn_laws.specs.PlanParts.{lane_of_job, IsActor}
 use Rattle.vq_turn_laws.specs.Tasks.{AreApart, Differ, compares, IsOf, Among}
 use Rattle.vq_turn_laws.proofs.ProgramLaws.{chain_or}
-use Rattle.vq_history_laws.proofs.Cited.{below_range, filtered}
 
 pub apart_behind : (xs ys : List Task) → AreApart (xs ++ ys) → AreApart ys
 apart_behind [] ys k = k
@@ -422,24 +424,12 @@ module _ (p : Plan) (wf : IsWellFormed p) where
       let less = r.0 q.0 q.1 in
       omega arith)
 
-  range_rises : (n a : ℕ) → AreRising (range_with_len a n)
-  range_rises zero a = tt
-  range_rises (suc n) a = (λ y m. let x = (below_range n (a + 1) y m).0 in omega arith, range_rises n (a + 1))
-
-  filter_rises : (test : ℕ → Bool) (xs : List ℕ) → AreRising xs → AreRising (filter test xs)
-  filter_rises test [] r = tt
-  filter_rises test (x ∷ xs) r = by_test (test x) (filter_rises test xs r.1)
-    where
-      by_test : (b : Bool) → AreRising (filter test xs) → AreRising (if b then x ∷ filter test xs else filter test xs)
-      by_test true q = (λ y m. r.0 y (filtered test xs y m).0, q)
-      by_test false q = q
-
   pub lane_rises : (lane : Lane) → AreRising (jobs_of_lane p lane)
-  lane_rises lane = filter_rises _ (range_with_len 0 (length p.jobs)) (range_rises (length p.jobs) 0)
+  lane_rises lane = rising_filter _ (range_with_len 0 (length p.jobs)) (rising_range (length p.jobs) 0)
 
   -- In each program the tasks are apart.
   pub program_apart : (a : ActorName) → AreApart (program p a)
-  program_apart HostActor = flat_apart (host_does p) (λ j. host_apart p wf j (is_host_step p j)) (λ j t m x h. host_job p wf j (is_host_step p j) t m x h) (range_with_len 0 (length p.jobs)) (range_rises (length p.jobs) 0)
+  program_apart HostActor = flat_apart (host_does p) (λ j. host_apart p wf j (is_host_step p j)) (λ j t m x h. host_job p wf j (is_host_step p j) t m x h) (range_with_len 0 (length p.jobs)) (rising_range (length p.jobs) 0)
   program_apart (SubmitActor q) = flat_apart (submits_batch p) (λ j. (submits_tasks p wf j).apart) (λ j t m x h. ((submits_tasks p wf j).kinds t m x h).0) (jobs_of_lane p (QueueLane q)) (lane_rises (QueueLane q))
   program_apart (RingActor q) = flat_apart (runs_batch p) (λ j. (runs_tasks p wf j).apart) (λ j t m x h. ((runs_tasks p wf j).kinds t m x h).0) (jobs_of_lane p (QueueLane q)) (lane_rises (QueueLane q))
 
@@ -457,7 +447,7 @@ record Owned (p : Plan) (x : Event) (a : ActorName) : Type 0 where
 
 module _ (p : Plan) (wf : IsWellFormed p) where
   pub in_queue : (q j : ℕ) → has (jobs_of_lane p (QueueLane q)) j ≡ true → lane_of_job p j ≡ QueueLane q
-  in_queue q j m = by_job (slice_get p.jobs j) (filtered (λ i. of_job (λ x. same_lane (QueueLane q) x.lane) false p i) (range_with_len 0 (length p.jobs)) j m).1
+  in_queue q j m = by_job (slice_get p.jobs j) (filter-has_cases (λ i. of_job (λ x. same_lane (QueueLane q) x.lane) false p i) (range_with_len 0 (length p.jobs)) j m).1
     where
       by_lane : (l : Lane) → same_lane (QueueLane q) l ≡ true → l ≡ QueueLane q
       by_lane HostLane h = absurd (false≢true h)

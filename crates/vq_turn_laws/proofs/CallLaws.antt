@@ -1,6 +1,6 @@
 -- What each call of an actor leaves: where its place is true and a task is next, the event of the call may come, and
 -- the place that the call goes to is true after it.
-use Rattle.std.proofs.Common.{◌≡◌, ℕ, zero, suc, ◌+◌, Bool, true, false, List, [], ◌∷◌, drop, Option, Some, None, refl, sym, subst, ap, inl, arith}
+use Rattle.std.proofs.Common.{◌≡◌, ℕ, ◌+◌, Bool, true, false, List, [], ◌∷◌, drop, Option, Some, None, refl, sym, subst, inl}
 use Rattle.std.specs.List.{slice_get}
 use Rattle.std.specs.Option.{option_map_or}
 use Rattle.vq_model.specs.declared.script.ActorName.{ActorName}
@@ -26,22 +26,12 @@ use Rattle.vq_turn_laws.specs.PlanParts.{IsOrderly}
 use Rattle.vq_turn_laws.specs.Tasks.{Among, IsOf, IsEventOf, is_waiting, is_asking}
 use Rattle.vq_turn_laws.specs.TruePlaces.{Stands, SawTruly, IsTrueFor, IsTrueTurn}
 use Rattle.vq_turn_laws.proofs.CutFacts.{IsCut, cut_at}
-use Rattle.vq_turn_laws.proofs.Cuts.{done_of, next_cut}
+use Rattle.vq_turn_laws.proofs.Cuts.{done_of, next_cut, next_left}
 use Rattle.vq_turn_laws.proofs.Reached.{Reached}
 use Rattle.vq_turn_laws.proofs.SawLaws.{saw_behind, saw_still, saw_answered, saw_compared, saw_asked}
 use Rattle.vq_turn_laws.proofs.StandLaws.{is_plain, stands_looked}
 use Rattle.vq_turn_laws.proofs.TaskLaws.{Does, does_submit, does_release, does_take, does_bind, does_start, does_apply, does_signal, does_finish, does_answer, collects_true}
 use Rattle.vq_turn_laws.proofs.WaitLaws.{stands_referred, stands_seen, stands_met, stands_over, stands_returned}
-
--- the tasks that are left begin with the next one
-pub next_left : (n : ℕ) (ts : List Task) (t : Task) → slice_get ts n ≡ Some t → drop n ts ≡ t ∷ drop (n + 1) ts
-next_left n ts t h = let more : suc n ≡ n + 1 = omega arith in subst (λ (m : ℕ). drop n ts ≡ t ∷ drop m ts) more (from_next n ts h)
-  where
-    from_next : (n : ℕ) (ts : List Task) → slice_get ts n ≡ Some t → drop n ts ≡ t ∷ drop (suc n) ts
-    from_next zero [] h = absurd (let z = h in cc)
-    from_next zero (u ∷ us) h = let same : u ≡ t = let z = h in cc in ap (λ v. v ∷ us) same
-    from_next (suc n) [] h = absurd (let z = h in cc)
-    from_next (suc n) (u ∷ us) h = from_next n us h
 
 event_of : (p : Plan) (a : ActorName) (x : Event) (t : Task) → Among t (program p a) → IsOf x t → IsEventOf p a x
 event_of p a (Refer b q e) t m own = absurd own

@@ -1,4 +1,5 @@
 -- What is known of a program that is cut at a place, and whose job is the actor's next one.
+use Rattle.vq_model.proofs.Filters.{filter-has_cases}
 use Rattle.std.proofs.Common.{◌≡◌, ℕ, true, false, List, [], ◌∷◌, ◌++◌, take, drop, Some, None, refl, sym, subst, ap, ◌∙◌}
 use Rattle.std.specs.List.{range_with_len}
 use Rattle.std.specs.Option.{option_map_or}
@@ -12,7 +13,6 @@ use Rattle.vq_model.specs.Machine.{next}
 use Rattle.vq_model.specs.WellFormed.{IsWellFormed}
 use Rattle.vq_model.proofs.Lists.{has_here, has-append_right}
 use Rattle.vq_points.specs.Points.{PointState, jobs_of_lane, lane_of_actor, actor_of_lane, next_job}
-use Rattle.vq_history_laws.proofs.Cited.{filtered}
 use Rattle.vq_turns.specs.declared.task.Task.{Task}
 use Rattle.vq_turns.specs.declared.task.Task.TheVariants.{Finish}
 use Rattle.vq_turns.specs.Programs.{program}
@@ -79,7 +79,7 @@ module _ (p : Plan) (wf : IsWellFormed p) where
   own_lane HostActor lane j s m =
       let same : HostLane ≡ lane = let z = s in cc in
       let here : has (jobs_of_lane p HostLane) j ≡ true = subst (λ (z : Lane). has (jobs_of_lane p z) j ≡ true) (sym same) m in
-      ap actor_of_lane (host_lane p wf j (sym (host_same p j) ∙ (filtered (λ i. of_job (λ x. same_lane HostLane x.lane) false p i) (range_with_len 0 _) j here).1))
+      ap actor_of_lane (host_lane p wf j (sym (host_same p j) ∙ (filter-has_cases (λ i. of_job (λ x. same_lane HostLane x.lane) false p i) (range_with_len 0 _) j here).1))
   own_lane (SubmitActor q) lane j s m = absurd (let z = s in cc)
   own_lane (RingActor q) lane j s m =
       let same : QueueLane q ≡ lane = let z = s in cc in

@@ -1,4 +1,6 @@
 -- A program cut at a place: the tasks before it, latest first, and those that are left.
+use Rattle.std.proofs.Common.{Some}
+use Rattle.std.specs.List.{slice_get}
 use Rattle.std.proofs.Common.{◌≡◌, ℕ, zero, suc, ◌+◌, List, [], ◌∷◌, take, drop, sym, subst, ap, arith}
 use Rattle.std.proofs.lemmas.List.{take-append-drop}
 use Rattle.vq_model.specs.declared.script.ActorName.{ActorName}
@@ -27,6 +29,23 @@ pub next_cut : (n : ℕ) (ts : List Task) (t : Task) (us : List Task) → drop n
 next_cut n ts t us h =
     let more : suc n ≡ n + 1 = omega arith in
     subst (λ (m : ℕ). (drop m ts ≡ us) × (done_of m ts ≡ t ∷ done_of n ts)) more (next_of n ts [] t us h)
+
+-- the tasks that are left begin with the next one
+pub next_left : (n : ℕ) (ts : List Task) (t : Task) → slice_get ts n ≡ Some t → drop n ts ≡ t ∷ drop (n + 1) ts
+next_left n ts t h = let more : suc n ≡ n + 1 = omega arith in subst (λ (m : ℕ). drop n ts ≡ t ∷ drop m ts) more (from_next n ts h)
+  where
+    from_next : (n : ℕ) (ts : List Task) → slice_get ts n ≡ Some t → drop n ts ≡ t ∷ drop (suc n) ts
+    from_next zero [] h = absurd (let z = h in cc)
+    from_next zero (u ∷ us) h = let same : u ≡ t = let z = h in cc in ap (λ v. v ∷ us) same
+    from_next (suc n) [] h = absurd (let z = h in cc)
+    from_next (suc n) (u ∷ us) h = from_next n us h
+
+-- .. and the next one stands first of those
+pub next_at : (n : ℕ) (ts : List Task) (t : Task) (us : List Task) → drop n ts ≡ t ∷ us → (slice_get ts n ≡ Some t) × (drop (suc n) ts ≡ us)
+next_at zero [] t us h = absurd (let z = h in cc)
+next_at zero (v ∷ vs) t us h = let same : v ≡ t = let z = h in cc in let rest : vs ≡ us = let z = h in cc in (ap Some same, rest)
+next_at (suc n) [] t us h = absurd (let z = h in cc)
+next_at (suc n) (v ∷ vs) t us h = next_at n vs t us h
 
 order_from : (p : Plan) (a : ActorName) (n : ℕ) (ts before : List Task) → InOrder p a before ts → InOrder p a (onto (take n ts) before) (drop n ts)
 order_from p a zero ts before o = o

@@ -1,7 +1,9 @@
 -- The event of the next task may come, where the place is true.
+use Rattle.vq_model.proofs.Numbers.{has-range_cases}
+use Rattle.vq_model.proofs.Filters.{filter-has_cases}
 use Rattle.std.proofs.Common.{map, ◌≡◌, ℕ, ◌<◌, ◌+◌, ◌||◌, ◌&&◌, Bool, true, false, not, cond, if◌then◌else◌}
 use Rattle.std.proofs.Common.{List, [], ◌∷◌, ◌++◌, Option, Some, None, is_some, refl, sym, subst, ap, ◌∙◌, inl, inr}
-use Rattle.std.proofs.Common.{arith, find, nat_lt, filter, ◌==◌}
+use Rattle.std.proofs.Common.{arith, find, nat_lt, ◌==◌}
 use Rattle.std.specs.List.{list_any, list_all, filter_map}
 use Rattle.std.specs.Option.{option_map_or, option_to_list}
 use Rattle.std.proofs.lemmas.Bool.{or_cases, or_left, or_right, and_parts, and_from, false≢true, le-leb, leb-true}
@@ -30,7 +32,6 @@ use Rattle.vq_turns.specs.declared.look.Seen.{Seen}
 use Rattle.vq_turns.specs.Turns.{point_of, unbound_before, reaches, first_past, answer_by, to_complete, to_free}
 use Rattle.vq_turns.specs.Turns.{waiting_of, waiting_point, has_reference_to}
 use Rattle.vq_run_laws.proofs.Cited.{next_in}
-use Rattle.vq_history_laws.proofs.Cited.{below_range}
 use Rattle.vq_turn_laws.specs.Orders.{Waited, AsksSubmit, AsksBind, AsksStart, AsksApply, AsksSignal, AsksAnswer}
 use Rattle.vq_turn_laws.specs.Orders.{AsksFinish}
 use Rattle.vq_turn_laws.specs.Places.{IsDone, IsLeft}
@@ -70,7 +71,7 @@ module _ (p : Plan) (w : PointState) (before : List Task) (d : Each (IsDone w) b
       record {
         batch = k.batch;
         waiting = left;
-        in_order = list_all_from (λ i. if is_host_step p i then w.machine.progress.finished i else w.submitted i) (written_before p j) (λ i m. by_host i (below_range j 0 i m).1 (is_host_step p i) refl);
+        in_order = list_all_from (λ i. if is_host_step p i then w.machine.progress.finished i else w.submitted i) (written_before p j) (λ i m. by_host i (has-range_cases j 0 i m).1 (is_host_step p i) refl);
       }
     where
       by_host : (i : ℕ) → i < 0 + j → (b : Bool) → is_host_step p i ≡ b → (if b then w.machine.progress.finished i else w.submitted i) ≡ true
@@ -97,7 +98,7 @@ module _ (p : Plan) (w : PointState) (before : List Task) (d : Each (IsDone w) b
       submitted h i l false e = is_done (Submit i) (k.batches h i (omega arith) e)
 
       by_host : (b : Bool) → is_host_step p j ≡ b → (if b then list_all (λ i. is_host_step p i || w.submitted i) (written_before p j) else w.released j) ≡ true
-      by_host true e = list_all_from (λ i. is_host_step p i || w.submitted i) (written_before p j) (λ i m. submitted e i (below_range j 0 i m).1 (is_host_step p i) refl)
+      by_host true e = list_all_from (λ i. is_host_step p i || w.submitted i) (written_before p j) (λ i m. submitted e i (has-range_cases j 0 i m).1 (is_host_step p i) refl)
       by_host false e = is_done (AwaitReleased j) (k.released e)
 
   pub can_apply : (j c : ℕ) (after : List Task) → AsksApply p before j c after → Each (IsLeft w) (Apply j c ∷ after) → CanApply p w.machine.progress j c
@@ -282,19 +283,6 @@ module _ (p : Plan) (wf : IsWellFormed p) (w : PointState) where
         | inr r ↦ has_there x xs f (in_front xs e back o.1 f r l)
       ]
 
-  filtered : (test : ℕ → Bool) (xs : List ℕ) (y : ℕ) → has (filter test xs) y ≡ true → (has xs y ≡ true) × (test y ≡ true)
-  filtered test [] y m = absurd (false≢true m)
-  filtered test (x ∷ xs) y m = by_test (test x) refl m (filtered test xs y)
-    where
-      by_test : (b : Bool) → test x ≡ b → has (if b then x ∷ filter test xs else filter test xs) y ≡ true → (has (filter test xs) y ≡ true → (has xs y ≡ true) × (test y ≡ true)) → (has (x ∷ xs) y ≡ true) × (test y ≡ true)
-      by_test true e h g =
-          elim (has_cases x (filter test xs) y h) [
-            | inl s ↦ (subst (λ (z : ℕ). has (x ∷ xs) z ≡ true) s (has_here x xs), subst (λ (z : ℕ). test z ≡ true) s e)
-            | inr r ↦ let q = g r in (has_there x xs y q.0, q.1)
-          ]
-      by_test false e h g = let q = g h in (has_there x xs y q.0, q.1)
-
-  -- In every history an operation is bound after the smaller ones of its chain.
   pub can_complete : (t e : ℕ) → ((f : ℕ) → chain_of p e ≡ Some t → w.bound e ≡ true → has (smaller_ops p t e) f ≡ true → w.bound f ≡ true) → to_complete p w t ≡ Some e → CanComplete p w e
   can_complete t e below h = by_found (find (is_pending w) (chain p t)) refl h
     where
@@ -313,7 +301,7 @@ module _ (p : Plan) (wf : IsWellFormed p) (w : PointState) where
                 in_chain = subst (λ (z : ℕ). chain_of p z ≡ Some t) same (wf.of_chain f t found.0);
                 pending = subst (λ (z : ℕ). is_pending w z ≡ true) same pends;
                 in_order = list_all_from w.past (smaller_ops p t e) (λ g m.
-                    let q = filtered (λ (z : ℕ). nat_lt (value p z) (value p e)) (chain p t) g m in
+                    let q = filter-has_cases (λ (z : ℕ). nat_lt (value p z) (value p e)) (chain p t) g m in
                     let less : value p g < value p f = subst (λ (z : ℕ). value p g < value p z) (sym same) (ltb-true (value p g) (value p e) q.1) in
                     let front = in_front x.front f x.back (subst (AreInOrder p) x.whole (wf.chain_order t)) g (subst (λ us. has us g ≡ true) x.whole q.0) less in
                     past_of g (below g (subst (λ (z : ℕ). chain_of p z ≡ Some t) same (wf.of_chain f t found.0)) bound m) (x.fail g front));

@@ -86,6 +86,12 @@ module _ (p : Plan) (e : ℕ) (h : Held) (hs : List Held) where
       let s : bit (is_some (held_for k (with_holding h hs)) && resolves p e x) ≡ bit (is_some (held_for k hs) && resolves p e x) = ap (λ o. bit (is_some o && resolves p e x)) (with_there h hs k (λ q. omega arith)) in
       omega arith
 
+pub same_name : (a b : ActorName) → same_actor a b ≡ true → a ≡ b
+same_name HostActor HostActor h = refl
+same_name (SubmitActor x) (SubmitActor y) h = ap (λ (z : ℕ). SubmitActor z) (eqb-true x y h)
+same_name (RingActor x) (RingActor y) h = ap (λ (z : ℕ). RingActor z) (eqb-true x y h)
+same_name a b h = absurd (false≢true h)
+
 -- References in the world
 
 none_left : (a : ActorName) (q e : ℕ) (f r : ℕ) (x : Reference) → is_reference a q e x ≡ true → is_reference a f r x ≡ ((f == q) && (r == e))
@@ -270,12 +276,6 @@ module _ (p : Plan) (w : PointState) (a b : ActorName) (before : List Task) (j :
         looked = t.looked;
       }
     where
-      same_name : (c d : ActorName) → same_actor c d ≡ true → c ≡ d
-      same_name HostActor HostActor h = refl
-      same_name (SubmitActor x) (SubmitActor y) h = ap (λ (z : ℕ). SubmitActor z) (eqb-true x y h)
-      same_name (RingActor x) (RingActor y) h = ap (λ (z : ℕ). RingActor z) (eqb-true x y h)
-      same_name c d h = absurd (false≢true h)
-
       not_mine : (f r : ℕ) (x : Reference) → same_actor b x.actor ≡ true → is_reference a f r x ≡ false
       not_mine f r x h = ap (λ c. c && (f == x.point) && (r == x.op)) (subst (λ (z : ActorName). same_actor a z ≡ false) (same_name b x.actor h) other)
 

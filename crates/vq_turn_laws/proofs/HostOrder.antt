@@ -1,10 +1,11 @@
 -- In the program of the host each task stands behind what it asks.
+use Rattle.vq_turn_laws.proofs.WaitParts.{all_of}
 use Rattle.std.proofs.Common.{◌≡◌, ℕ, zero, ◌<◌, ◌+◌, Bool, true, false, if◌then◌else◌, List, [], ◌∷◌, ◌++◌, length}
 use Rattle.std.proofs.Common.{map, filter, Option, Some, None, refl, sym, subst, ap, ◌∙◌, inl, inr, arith, nat_le, suc}
 use Rattle.std.proofs.Common.{◌==◌}
-use Rattle.std.specs.List.{flat_map, range_with_len, list_all, slice_get}
+use Rattle.std.specs.List.{flat_map, range_with_len, slice_get}
 use Rattle.std.specs.Option.{option_map_or}
-use Rattle.std.proofs.lemmas.Bool.{and_parts, false≢true, eqb-true, le-leb, cases_eq, cond-true, cond-false}
+use Rattle.std.proofs.lemmas.Bool.{false≢true, eqb-true, le-leb, cases_eq, cond-true, cond-false}
 use Rattle.vq_model.specs.declared.script.ActorName.{ActorName}
 use Rattle.vq_model.specs.declared.script.ActorName.TheVariants.{Host as HostActor}
 use Rattle.vq_model.specs.declared.plan.Lane.{Lane}
@@ -53,11 +54,6 @@ compares_ask : (ns : List Need) (left : List Task) → is_asking left ≡ true �
 compares_ask [] left h = h
 compares_ask (n ∷ ns) left h = refl
 
-all_has : (test : Need → Bool) (ns : List Need) (n : Need) → list_all test ns ≡ true → Within n ns → test n ≡ true
-all_has test [] n h w = absurd w
-all_has test (m ∷ ms) n h (inl e) = subst (λ (z : Need). test z ≡ true) e (and_parts (test m) (list_all test ms) h).0
-all_has test (m ∷ ms) n h (inr r) = all_has test ms n (and_parts (test m) (list_all test ms) h).1 r
-
 filter_whole : (test : Need → Bool) (ns : List Need) → ((n : Need) → Within n ns → test n ≡ true) → filter test ns ≡ ns
 filter_whole test [] f = refl
 filter_whole test (m ∷ ms) f =
@@ -75,7 +71,7 @@ nine a b c d e f g h i =
 
 module _ (p : Plan) (a : ActorName) (j : ℕ) (b : IsStep p j) where
   starts_at_one : (n : Need) → Within n (needs p j) → nat_le n.from 1 ≡ true
-  starts_at_one n w = let e = eqb-true n.from 1 (all_has (λ (z : Need). z.from == 1) (needs p j) n b.at_start w) in le-leb n.from 1 (omega arith)
+  starts_at_one n w = let e = eqb-true n.from 1 (all_of (λ (z : Need). z.from == 1) (needs p j) n b.at_start w) in le-leb n.from 1 (omega arith)
 
   all_at_one : needs_at p j (At 1) ≡ needs p j
   all_at_one = filter_whole (λ (z : Need). nat_le z.from 1) (needs p j) starts_at_one

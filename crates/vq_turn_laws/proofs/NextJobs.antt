@@ -1,4 +1,5 @@
 -- For a job nothing is referred to before the jobs before it in its lane are finished.
+use Rattle.vq_model.proofs.Filters.{filter-has_cases}
 use Rattle.vq_turn_laws.specs.Worlds.{RefersInTurn}
 use Rattle.std.proofs.Common.{◌≡◌, ℕ, zero, suc, ◌<◌, Bool, true, false, not, List, [], ◌∷◌, ◌++◌, length, Option, Some}
 use Rattle.std.proofs.Common.{None, refl, sym, subst, ap, ◌∙◌, inl, inr, arith}
@@ -19,7 +20,6 @@ use Rattle.vq_model.proofs.Searches.{find_splits}
 use Rattle.vq_model.proofs.Options.{same_some}
 use Rattle.vq_points.specs.Points.{PointState, opening_points, jobs_of_lane, lane_of_actor, next_job, count_of, CanCome}
 use Rattle.vq_points.specs.Points.{after_event}
-use Rattle.vq_history_laws.proofs.Cited.{filtered}
 use Rattle.vq_turn_laws.proofs.Apart.{lane_rises}
 use Rattle.vq_turn_laws.proofs.HoldingLaws.{noted_away}
 use Rattle.vq_turn_laws.proofs.PlaceLaws.{finished_stays}
@@ -41,7 +41,7 @@ behind_it (x ∷ xs) j back r y m = behind_it xs j back r.1 y m
 
 module _ (p : Plan) (wf : IsWellFormed p) where
   lane_is : (lane : Lane) (j : ℕ) → has (jobs_of_lane p lane) j ≡ true → (x : PlanJob) × (slice_get p.jobs j ≡ Some x) × (same_lane lane x.lane ≡ true)
-  lane_is lane j m = by_job (slice_get p.jobs j) refl (filtered (λ i. of_job (λ x. same_lane lane x.lane) false p i) (range_with_len 0 (length p.jobs)) j m).1
+  lane_is lane j m = by_job (slice_get p.jobs j) refl (filter-has_cases (λ i. of_job (λ x. same_lane lane x.lane) false p i) (range_with_len 0 (length p.jobs)) j m).1
     where
       by_job : (o : Option PlanJob) → slice_get p.jobs j ≡ o → option_map_or (λ x. same_lane lane x.lane) o false ≡ true → (x : PlanJob) × (slice_get p.jobs j ≡ Some x) × (same_lane lane x.lane ≡ true)
       by_job None is h = absurd (false≢true h)

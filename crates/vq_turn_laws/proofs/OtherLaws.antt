@@ -1,7 +1,7 @@
 -- A true place stays true through the events of other actors.
 use Rattle.std.proofs.Common.{◌≡◌, ℕ, Bool, true, false, List, ◌∷◌, Option, Some, None, refl, sym, subst, ap, ◌∙◌}
 use Rattle.std.specs.Option.{option_map_or}
-use Rattle.std.proofs.lemmas.Bool.{false≢true, eqb-true}
+use Rattle.std.proofs.lemmas.Bool.{false≢true}
 use Rattle.vq_model.specs.declared.script.ActorName.{ActorName}
 use Rattle.vq_model.specs.declared.script.ActorName.TheVariants.{Host as HostActor, Submit as SubmitActor, Ring as RingActor}
 use Rattle.vq_model.specs.declared.plan.Lane.{Lane}
@@ -20,16 +20,10 @@ use Rattle.vq_turn_laws.specs.Tasks.{Among, IsOf, IsEventOf, finishes, waited_no
 use Rattle.vq_turn_laws.specs.TruePlaces.{Stands}
 use Rattle.vq_turn_laws.proofs.Apart.{programs_apart}
 use Rattle.vq_turn_laws.proofs.CutFacts.{IsCut, job_is_next}
-use Rattle.vq_turn_laws.proofs.HoldingLaws.{other_refers, other_looks, other_unrefers}
+use Rattle.vq_turn_laws.proofs.HoldingLaws.{same_name, other_refers, other_looks, other_unrefers}
 use Rattle.vq_turn_laws.proofs.NextJobs.{one_lane}
 use Rattle.vq_turn_laws.proofs.Reached.{Reached}
 use Rattle.vq_turn_laws.proofs.StandLaws.{SameReferences, stands_still, stands_with}
-
-same_name : (a b : ActorName) → same_actor a b ≡ true → a ≡ b
-same_name HostActor HostActor h = refl
-same_name (SubmitActor x) (SubmitActor y) h = ap (λ (z : ℕ). SubmitActor z) (eqb-true x y h)
-same_name (RingActor x) (RingActor y) h = ap (λ (z : ℕ). RingActor z) (eqb-true x y h)
-same_name a b h = absurd (false≢true h)
 
 other_name : (a b : ActorName) → (a ≡ b → ⊥) → same_actor a b ≡ false
 other_name a b n = by_test (same_actor a b) refl

@@ -1,4 +1,5 @@
 -- What was done stays so, whoever moves.
+use Rattle.std.proofs.lemmas.Bool.{or_right, and_from}
 use Rattle.std.proofs.Common.{◌≡◌, ℕ, ◌≤◌, ◌<◌, Bool, true, false, not, ◌&&◌, ◌||◌, if◌then◌else◌, List, [], ◌∷◌}
 use Rattle.std.proofs.Common.{Option, Some, None, is_some, refl, sym, subst, ap, ◌∙◌, ◌⊎◌, inl, inr, arith, filter}
 use Rattle.std.proofs.Common.{nat_lt, nat_le}
@@ -27,13 +28,6 @@ use Rattle.vq_turn_laws.specs.Places.{IsDone, IsLeft}
 use Rattle.vq_turn_laws.specs.PlanParts.{HasResolvers}
 use Rattle.vq_turn_laws.specs.Tasks.{Each, Among}
 use Rattle.vq_turn_laws.specs.Worlds.{RisesAt, RisesIn}
-
-some_number : (m n : ℕ) → Some m ≡ Some n → m ≡ n
-some_number m n z = cc
-
-or_right : (b c : Bool) → c ≡ true → (b || c) ≡ true
-or_right true c h = refl
-or_right false c h = h
 
 module _ (p : Plan) (w : PointState) where
   submitted_stays : (x : Event) (j : ℕ) → w.submitted j ≡ true → (after_event p w x).submitted j ≡ true
@@ -69,7 +63,7 @@ module _ (p : Plan) (w : PointState) where
   finished_stays (Signals e) j h = in_signal (λ s. s.finished j ≡ true) e (chain_of p e) h (λ t. h)
   finished_stays other j h = h
 
-  made_stays : (x : Event) (f : ℕ) → w.machine.progress.made f ≡ true → (after_event p w x).machine.progress.made f ≡ true
+  pub made_stays : (x : Event) (f : ℕ) → w.machine.progress.made f ≡ true → (after_event p w x).machine.progress.made f ≡ true
   made_stays (Signals e) f h = in_signal (λ s. s.made f ≡ true) e (chain_of p e) h (λ t. put_keeps w.machine.progress.made e f h)
   made_stays other f h = h
 
@@ -145,10 +139,6 @@ each_along P Q (x ∷ xs) f h = (f x h.0, each_along P Q xs f h.1)
 pub done_stays : (p : Plan) (w : PointState) (x : Event) → RisesIn p w x → (before : List Task) → Each (IsDone w) before → Each (IsDone (after_event p w x)) before
 done_stays p w x c before h = each_along (IsDone w) (IsDone (after_event p w x)) before (stays_done p w x c) h
 
-and_both : (b c : Bool) → b ≡ true → c ≡ true → (b && c) ≡ true
-and_both true c h k = k
-and_both false c h k = absurd (cc)
-
 module _ (p : Plan) (w : PointState) where
   abbrev resolving : Need → Option ℕ
   resolving n = resolver p n.chain n.value
@@ -166,7 +156,7 @@ module _ (p : Plan) (w : PointState) where
       by_resolver : (o : Option ℕ) → resolver p n.chain n.value ≡ o → is_some o ≡ true → (((f : ℕ) → has (filter_map resolving (above ns)) f ≡ true → w.bound f ≡ true) → list_all is_pending_need ns ≡ true) → ((f : ℕ) → has (cons_option o (filter_map resolving (above ns))) f ≡ true → w.bound f ≡ true) → list_all is_pending_need (n ∷ ns) ≡ true
       by_resolver None is s ih h = absurd (cc)
       by_resolver (Some e) is s ih h =
-          and_both
+          and_from
           (is_pending_need n)
           (list_all is_pending_need ns)
           (or_right (nat_le n.value (initial p n.chain)) (option_map_or w.bound (resolver p n.chain n.value) false) (ap (λ o. option_map_or w.bound o false) is ∙ h e (has_here e (filter_map resolving (above ns)))))
@@ -175,7 +165,7 @@ module _ (p : Plan) (w : PointState) where
       by_value : (b : Bool) → nat_lt (initial p n.chain) n.value ≡ b → (((f : ℕ) → has (filter_map resolving (above ns)) f ≡ true → w.bound f ≡ true) → list_all is_pending_need ns ≡ true) → ((f : ℕ) → has (filter_map resolving (if b then n ∷ above ns else above ns)) f ≡ true → w.bound f ≡ true) → list_all is_pending_need (n ∷ ns) ≡ true
       by_value true e ih h = by_resolver (resolver p n.chain n.value) refl (r n (inl refl) (ltb-true (initial p n.chain) n.value e)) ih h
       by_value false e ih h =
-          and_both
+          and_from
           (is_pending_need n)
           (list_all is_pending_need ns)
           (ap (λ b. b || option_map_or w.bound (resolver p n.chain n.value) false) (le-leb n.value (initial p n.chain) (ltb-false (initial p n.chain) n.value e)))
@@ -223,9 +213,9 @@ module _ (p : Plan) (w : PointState) where
             let m = k.moves e' in
             let sub = is_submitted k.job m.submitted in
             let rel : not (w.released k.job) ≡ true = ap not (each_among (IsLeft w) after (Release k.job) left.1 (k.release e')) in
-            let s1 = and_both (w.submitted k.job) (not (w.released k.job)) sub rel in
-            let s2 = and_both (w.submitted k.job && not (w.released k.job)) (list_all w.released (earlier_in_queue p k.job)) s1 (earlier_released k.job m) in
-            and_both (w.submitted k.job && not (w.released k.job) && list_all w.released (earlier_in_queue p k.job)) (are_needs_pending p w k.job) s2 (are_pending k.job r m)
+            let s1 = and_from (w.submitted k.job) (not (w.released k.job)) sub rel in
+            let s2 = and_from (w.submitted k.job && not (w.released k.job)) (list_all w.released (earlier_in_queue p k.job)) s1 (earlier_released k.job m) in
+            and_from (w.submitted k.job && not (w.released k.job) && list_all w.released (earlier_in_queue p k.job)) (are_needs_pending p w k.job) s2 (are_pending k.job r m)
 
         by_free : (xs : List ℕ) → w.free t ≡ xs → CanCome p w (taken_of w e xs)
         by_free [] is = record { job = k.job; of_job = k.of_job; chain = t; in_chain = k.in_chain; without = left.0; in_turn = in_turn (is_host_step p k.job) refl; point = (is, refl) }

@@ -1,6 +1,9 @@
 -- All programs of a plan are in order.
-use Rattle.std.proofs.Common.{◌≡◌, ℕ, ◌<◌, Bool, true, false, not, if◌then◌else◌, List, [], ◌∷◌, ◌++◌, length}
-use Rattle.std.proofs.Common.{filter, Option, Some, None, refl, sym, subst, ap, ◌∙◌, inl, inr, arith, nat_lt}
+use Rattle.vq_model.proofs.Numbers.{has-range_cases}
+use Rattle.vq_model.proofs.Filters.{filter-has_cases}
+use Rattle.vq_model.proofs.Filters.{filter-has}
+use Rattle.std.proofs.Common.{◌≡◌, ℕ, ◌<◌, Bool, true, false, not, [], ◌++◌, length}
+use Rattle.std.proofs.Common.{filter, Option, Some, None, refl, sym, subst, ap, ◌∙◌, inl, arith, nat_lt}
 use Rattle.std.specs.List.{range_with_len, slice_get}
 use Rattle.std.specs.Option.{option_map, option_map_or, option_to_list}
 use Rattle.std.proofs.lemmas.Bool.{and_from, false≢true, eq-eqb, lt-ltb, ltb-true}
@@ -14,7 +17,7 @@ use Rattle.vq_model.specs.declared.plan.Op.{Op}
 use Rattle.vq_model.specs.Plan.{Plan, has, of_job, same_lane, is_host_lane, chain_of, is_host_step, signals_of}
 use Rattle.vq_model.specs.Plan.{question, is_silent, previous, host_before, idle_after}
 use Rattle.vq_model.specs.WellFormed.{IsWellFormed, KeepsHostOrder}
-use Rattle.vq_model.proofs.Lists.{has_here, has_there, has_cases, has-append_left}
+use Rattle.vq_model.proofs.Lists.{has_here, has-append_left}
 use Rattle.vq_model.proofs.Numbers.{has_range}
 use Rattle.vq_model.proofs.Gets.{get_some}
 use Rattle.vq_model.specs.Checks.{is_immediate_lane}
@@ -26,16 +29,7 @@ use Rattle.vq_turn_laws.specs.PlanParts.{lane_of_job, KeepsParts}
 use Rattle.vq_turn_laws.proofs.ProgramLaws.{IsBatch, chain_or, submits_in_order}
 use Rattle.vq_turn_laws.proofs.RingOrder.{RunsBatch, runs_in_order}
 use Rattle.vq_turn_laws.proofs.HostOrder.{HasHostOrder, is_moved, host_in_order}
-use Rattle.vq_history_laws.proofs.Cited.{below_range, filtered}
 use Rattle.vq_turn_laws.proofs.Apart.{in_queue, host_lane, lane_rises}
-
-has_filter : (test : ℕ → Bool) (xs : List ℕ) (y : ℕ) → has xs y ≡ true → test y ≡ true → has (filter test xs) y ≡ true
-has_filter test [] y m t = m
-has_filter test (x ∷ xs) y m t = by_test (test x) refl (λ r. has_filter test xs y r t)
-  where
-    by_test : (b : Bool) → test x ≡ b → (has xs y ≡ true → has (filter test xs) y ≡ true) → has (if b then x ∷ filter test xs else filter test xs) y ≡ true
-    by_test true e f = elim (has_cases x xs y m) [ inl s ↦ subst (λ (z : ℕ). has (x ∷ filter test xs) z ≡ true) s (has_here x (filter test xs)) | inr r ↦ has_there x (filter test xs) y (f r) ]
-    by_test false e f = elim (has_cases x xs y m) [ inl s ↦ absurd (false≢true (sym e ∙ (ap test s ∙ t))) | inr r ↦ f r ]
 
 module _ (p : Plan) (wf : IsWellFormed p) (host : KeepsHostOrder p) (parts : KeepsParts p) where
   chain_known : (j e : ℕ) → has (signals_of p j) e ≡ true → chain_of p e ≡ Some (chain_or p e)
@@ -57,14 +51,14 @@ module _ (p : Plan) (wf : IsWellFormed p) (host : KeepsHostOrder p) (parts : Kee
       by_job (Some x) h = by_lane x.lane h
 
   in_jobs : (q j : ℕ) → lane_of_job p j ≡ QueueLane q → j < length p.jobs → has (jobs_of_lane p (QueueLane q)) j ≡ true
-  in_jobs q j h l = has_filter (λ i. of_job (λ x. same_lane (QueueLane q) x.lane) false p i) (range_with_len 0 (length p.jobs)) j (has_range (length p.jobs) 0 j (omega arith) (omega arith)) (by_job (slice_get p.jobs j) h)
+  in_jobs q j h l = filter-has (λ i. of_job (λ x. same_lane (QueueLane q) x.lane) false p i) (range_with_len 0 (length p.jobs)) j (has_range (length p.jobs) 0 j (omega arith) (omega arith)) (by_job (slice_get p.jobs j) h)
     where
       by_job : (o : Option PlanJob) → option_map_or (λ x. x.lane) o HostLane ≡ QueueLane q → option_map_or (λ x. same_lane (QueueLane q) x.lane) o false ≡ true
       by_job None h = absurd (let z = h in cc)
       by_job (Some x) h = ap (same_lane (QueueLane q)) h ∙ eq-eqb q q refl
 
   exists : (lane : Lane) (j : ℕ) → has (jobs_of_lane p lane) j ≡ true → j < length p.jobs
-  exists lane j m = let x = (below_range (length p.jobs) 0 j (filtered (λ i. of_job (λ x. same_lane lane x.lane) false p i) (range_with_len 0 (length p.jobs)) j m).0).1 in omega arith
+  exists lane j m = let x = (has-range_cases (length p.jobs) 0 j (filter-has_cases (λ i. of_job (λ x. same_lane lane x.lane) false p i) (range_with_len 0 (length p.jobs)) j m).0).1 in omega arith
 
   before_job : (i j : ℕ) → previous p j ≡ Some i → i < j
   before_job i j h =
@@ -112,7 +106,7 @@ module _ (p : Plan) (wf : IsWellFormed p) (host : KeepsHostOrder p) (parts : Kee
       by_job : (o : Option PlanJob) → option_map_or (λ x. x.lane) o HostLane ≡ QueueLane q → has (option_map_or (λ x. filter (λ k. nat_lt k j) (jobs_of_lane p x.lane)) o []) i ≡ true → (i < j) × (has (jobs_of_lane p (QueueLane q)) i ≡ true)
       by_job None h m = absurd (false≢true m)
       by_job (Some x) h m =
-          let r = filtered (λ k. nat_lt k j) (jobs_of_lane p x.lane) i m in
+          let r = filter-has_cases (λ k. nat_lt k j) (jobs_of_lane p x.lane) i m in
           (ltb-true i j r.1, subst (λ l. has (jobs_of_lane p l) i ≡ true) h r.0)
 
   pub submit_in_order : (q : ℕ) → InOrder p (SubmitActor q) [] (program p (SubmitActor q))

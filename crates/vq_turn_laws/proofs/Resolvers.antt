@@ -1,4 +1,5 @@
 -- In a plan of which the slow run does each job, each wait above its initial value has a resolver.
+use Rattle.vq_turn_laws.proofs.WaitParts.{all_of}
 use Rattle.std.proofs.Common.{◌≡◌, ℕ, ◌<◌, ◌≤◌, ◌&&◌, max, Bool, true, false, not, cond, if◌then◌else◌, List, [], ◌∷◌, ◌++◌}
 use Rattle.std.proofs.Common.{length, map, filter, find, Option, Some, None, is_some, nat_le, refl, sym, subst, ap, ◌∙◌, inl, inr, arith}
 use Rattle.std.specs.List.{list_any, list_all, slice_get}
@@ -42,11 +43,6 @@ some_reaches p test (e ∷ es) n v l g = by_value (nat_le v (value p e)) refl (s
     by_value false i r =
         ap (λ b. is_some (cond b (Some e) (find (λ f. nat_le v (value p f)) es))) i
         ∙ by_test (test e) (leb-false v (value p e) i) g r
-
-all_of : (test : Need → Bool) (ns : List Need) (n : Need) → list_all test ns ≡ true → Within n ns → test n ≡ true
-all_of test [] n h w = absurd w
-all_of test (m ∷ ms) n h (inl e) = subst (λ (z : Need). test z ≡ true) e (and_parts (test m) (list_all test ms) h).0
-all_of test (m ∷ ms) n h (inr r) = all_of test ms n (and_parts (test m) (list_all test ms) h).1 r
 
 -- a job with a need exists
 need_exists : (p : Plan) (j : ℕ) (n : Need) → Within n (needs p j) → j < length p.jobs

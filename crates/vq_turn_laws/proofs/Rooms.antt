@@ -1,8 +1,8 @@
 -- How many needs were waited for, by the operation that resolves them.
+use Rattle.vq_history_laws.proofs.Cited.{count_cons}
 use Rattle.std.proofs.Common.{◌≡◌, ℕ, ◌≤◌, ◌+◌, ◌&&◌, Bool, true, false, if◌then◌else◌, List, [], ◌∷◌, ◌++◌, map}
 use Rattle.std.proofs.Common.{filter, refl, ap, ◌∙◌, arith}
 use Rattle.std.specs.List.{count_by}
-use Rattle.std.proofs.lemmas.List.Sums.{sum_by-cons}
 use Rattle.vq_model.specs.declared.plan.Need.{Need}
 use Rattle.vq_model.specs.Plan.{Plan}
 use Rattle.vq_points.specs.Points.{resolves}
@@ -13,15 +13,12 @@ use Rattle.vq_turn_laws.specs.Tasks.{onto}
 use Rattle.vq_turn_laws.proofs.ProgramLaws.{onto_append}
 use Rattle.vq_history_laws.specs.Measure.{one}
 
-pub need_cons : (test : Need → Bool) (n : Need) (ns : List Need) → count_by test (n ∷ ns) ≡ one (test n) + count_by test ns
-need_cons test n ns = sum_by-cons (λ m. one (test m)) n ns
-
 pub count_both : (a b c : Need → Bool) → ((n : Need) → one (a n) + one (b n) ≤ one (c n)) → (ns : List Need) → count_by a ns + count_by b ns ≤ count_by c ns
 count_both a b c f [] = omega arith
 count_both a b c f (n ∷ ns) =
-    let x = need_cons a n ns in
-    let y = need_cons b n ns in
-    let z = need_cons c n ns in
+    let x = count_cons a n ns in
+    let y = count_cons b n ns in
+    let z = count_cons c n ns in
     let r = count_both a b c f ns in
     let h = f n in
     omega arith
@@ -29,8 +26,8 @@ count_both a b c f (n ∷ ns) =
 pub count_below : (a c : Need → Bool) → ((n : Need) → one (a n) ≤ one (c n)) → (ns : List Need) → count_by a ns ≤ count_by c ns
 count_below a c f [] = omega arith
 count_below a c f (n ∷ ns) =
-    let x = need_cons a n ns in
-    let z = need_cons c n ns in
+    let x = count_cons a n ns in
+    let z = count_cons c n ns in
     let r = count_below a c f ns in
     let h = f n in
     omega arith
@@ -41,12 +38,12 @@ count_filter t r (n ∷ ns) = by_test (t n) refl (count_filter t r ns)
   where
     by_test : (b : Bool) → t n ≡ b → count_by r (filter t ns) ≡ count_by (λ m. t m && r m) ns → count_by r (if b then n ∷ filter t ns else filter t ns) ≡ count_by (λ m. t m && r m) (n ∷ ns)
     by_test true e h =
-        let x = need_cons r n (filter t ns) in
-        let y = need_cons (λ m. t m && r m) n ns in
+        let x = count_cons r n (filter t ns) in
+        let y = count_cons (λ m. t m && r m) n ns in
         let z : one (t n && r n) ≡ one (r n) = ap (λ b. one (b && r n)) e in
         omega arith
     by_test false e h =
-        let y = need_cons (λ m. t m && r m) n ns in
+        let y = count_cons (λ m. t m && r m) n ns in
         let z : one (t n && r n) ≡ 0 = ap (λ b. one (b && r n)) e in
         omega arith
 
@@ -71,8 +68,8 @@ pub waited_waits : (p : Plan) (e : ℕ) (ns : List Need) (before : List Task) �
 waited_waits p e [] before = omega arith
 waited_waits p e (n ∷ ns) before =
     let r = waited_waits p e ns (AwaitNeeds (n ∷ []) ∷ before) in
-    let x = need_cons (resolves p e) n ns in
-    let y = need_cons (resolves p e) n [] in
+    let x = count_cons (resolves p e) n ns in
+    let y = count_cons (resolves p e) n [] in
     omega arith
 
 -- tasks that wait for no needs

@@ -1,21 +1,21 @@
 -- What an actor saw of its question stays true, and signals raise their payloads in the worlds of histories.
 use Rattle.vq_turn_laws.specs.Worlds.{Sees, RisesAt, RisesIn}
-use Rattle.std.proofs.Common.{◌≡◌, ℕ, ◌≤◌, ◌||◌, ◌&&◌, Bool, true, List, [], ◌∷◌, ◌++◌, Option, Some, None, refl, sym}
+use Rattle.std.proofs.Common.{◌≡◌, ℕ, ◌≤◌, ◌||◌, ◌&&◌, Bool, true, List, [], ◌∷◌, ◌++◌, refl, sym}
 use Rattle.std.proofs.Common.{subst, ap, ◌∙◌, inl, inr, arith, nat_lt, ◌==◌}
 use Rattle.std.specs.List.{list_any}
 use Rattle.std.proofs.lemmas.Bool.{or_cases, or_left, or_right, and_parts, and_from, false≢true}
 use Rattle.vq_model.specs.declared.plan.Event.{Event}
 use Rattle.vq_model.specs.declared.plan.Event.TheVariants.{Start as Starts, Signal as Signals, Answer as AnswersAs}
-use Rattle.vq_model.specs.Plan.{Plan, chain, chain_of, value}
+use Rattle.vq_model.specs.Plan.{Plan, chain, value}
 use Rattle.vq_model.specs.WellFormed.{IsWellFormed, KeepsHostOrder}
 use Rattle.vq_model.specs.Sure.{KeepsChains}
-use Rattle.vq_model.specs.Machine.{with_signal, was_since}
-use Rattle.vq_model.proofs.Puts.{put_there, put_keeps}
+use Rattle.vq_model.specs.Machine.{was_since}
+use Rattle.vq_model.proofs.Puts.{put_there}
 use Rattle.vq_points.specs.Points.{PointState, CanCome, after_event}
 use Rattle.vq_turns.specs.declared.look.Seen.{Seen}
 use Rattle.vq_run_laws.proofs.Cited.{Follows}
 use Rattle.vq_run_laws.proofs.Cited.{signal_step}
-use Rattle.vq_turn_laws.proofs.PlaceLaws.{number_stays}
+use Rattle.vq_turn_laws.proofs.PlaceLaws.{made_stays, number_stays}
 
 -- In every history of a lawful plan a signal raises its payload.
 pub rises_in : (p : Plan) → IsWellFormed p → KeepsHostOrder p → KeepsChains p → (w : PointState) → Follows p w → (x : Event) → CanCome p w x → RisesIn p w x
@@ -29,14 +29,6 @@ module _ (p : Plan) (w : PointState) (j : ℕ) (started : w.machine.progress.sta
   start_stays (Signals e) g t = refl
   start_stays (AnswersAs i a) g t = refl
   start_stays other g t = refl
-
-  made_stays : (x : Event) → (f : ℕ) → w.machine.progress.made f ≡ true → (after_event p w x).machine.progress.made f ≡ true
-  made_stays (Signals e) f h = by_chain (chain_of p e)
-    where
-      by_chain : (o : Option ℕ) → (with_signal p w.machine.progress e o).made f ≡ true
-      by_chain None = h
-      by_chain (Some t) = put_keeps w.machine.progress.made e f h
-  made_stays other f h = h
 
   more_made : (m n : ℕ → Bool) (v : ℕ) → ((f : ℕ) → m f ≡ true → n f ≡ true) → (es : List ℕ) → list_any (λ e. m e && (value p e == v)) es ≡ true → list_any (λ e. n e && (value p e == v)) es ≡ true
   more_made m n v f [] h = h
@@ -53,7 +45,7 @@ module _ (p : Plan) (w : PointState) (j : ℕ) (started : w.machine.progress.sta
         | inl l ↦ or_left (n == w.machine.at_start j t) (nat_lt (w.machine.at_start j t) n && list_any (λ e. (after_event p w x).machine.progress.made e && (value p e == n)) (chain p t)) l
         | inr r ↦
             let two = and_parts (nat_lt (w.machine.at_start j t) n) (list_any (λ e. w.machine.progress.made e && (value p e == n)) (chain p t)) r in
-            or_right (n == w.machine.at_start j t) (nat_lt (w.machine.at_start j t) n && list_any (λ e. (after_event p w x).machine.progress.made e && (value p e == n)) (chain p t)) (and_from (nat_lt (w.machine.at_start j t) n) (list_any (λ e. (after_event p w x).machine.progress.made e && (value p e == n)) (chain p t)) two.0 (more_made w.machine.progress.made (after_event p w x).machine.progress.made n (made_stays x) (chain p t) two.1))
+            or_right (n == w.machine.at_start j t) (nat_lt (w.machine.at_start j t) n && list_any (λ e. (after_event p w x).machine.progress.made e && (value p e == n)) (chain p t)) (and_from (nat_lt (w.machine.at_start j t) n) (list_any (λ e. (after_event p w x).machine.progress.made e && (value p e == n)) (chain p t)) two.0 (more_made w.machine.progress.made (after_event p w x).machine.progress.made n (made_stays p w x) (chain p t) two.1))
       ])
 
   -- What was seen of a started job stays so, whoever moves.

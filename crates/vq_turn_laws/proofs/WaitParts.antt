@@ -1,4 +1,6 @@
 -- Waits in a program, and what is known of a job while tasks go by.
+use Rattle.vq_history_laws.proofs.Cited.{count_cons}
+use Rattle.std.proofs.lemmas.Bool.{and_parts}
 use Rattle.std.proofs.Common.{◌≡◌, ℕ, ◌<◌, ◌≤◌, ◌+◌, Bool, true, false, eqb, List, [], ◌∷◌, ◌++◌, length, map, filter}
 use Rattle.std.proofs.Common.{refl, sym, subst, ap, ◌∙◌, inl, inr, ◌||◌, not, cond, arith, if◌then◌else◌, ◌==◌}
 use Rattle.std.specs.List.{count_by, list_any, list_all, position_or_len, prefix_len}
@@ -13,7 +15,6 @@ use Rattle.vq_turns.specs.declared.task.Task.{Task}
 use Rattle.vq_turns.specs.declared.task.Task.TheVariants.{AwaitReleased, AwaitNeeds, Start, Finish}
 use Rattle.vq_turn_laws.specs.Orders.{waited_since, Within, Behind, InJob, AsksWait}
 use Rattle.vq_turn_laws.specs.Tasks.{onto, Among}
-use Rattle.vq_turn_laws.proofs.Rooms.{need_cons}
 use Rattle.vq_turn_laws.proofs.ProgramLaws.{InPart, among_onto, among_right}
 
 -- Needs in lists
@@ -57,6 +58,11 @@ within_any test (m ∷ ms) n (inr r) t = right (test m) (within_any test ms n r 
 pub all_within : (test : Need → Bool) (ns : List Need) → ((n : Need) → Within n ns → test n ≡ true) → list_all test ns ≡ true
 all_within test [] f = refl
 all_within test (m ∷ ms) f = and_from (test m) (list_all test ms) (f m (inl refl)) (all_within test ms (λ n w. f n (inr w)))
+
+pub all_of : (test : Need → Bool) (ns : List Need) (n : Need) → list_all test ns ≡ true → Within n ns → test n ≡ true
+all_of test [] n h w = absurd w
+all_of test (m ∷ ms) n h (inl e) = subst (λ (z : Need). test z ≡ true) e (and_parts (test m) (list_all test ms) h).0
+all_of test (m ∷ ms) n h (inr r) = all_of test ms n (and_parts (test m) (list_all test ms) h).1 r
 
 abbrev pub wait : Need → Task
 wait n = AwaitNeeds (n ∷ [])
@@ -128,6 +134,6 @@ module _ (p : Plan) (a : ActorName) (j : ℕ) (source : List Need) where
   pub waits_each : (ns : List Need) (before left : List Task) → InJob p a before left j source → ((n : Need) → Within n ns → Within n source) → HasRoom before ns → InPart p a before (map wait ns) left
   waits_each [] before left k f r = tt
   waits_each (n ∷ ns) before left k f r = (
-    one_wait before (map wait ns ++ left) (n ∷ []) (later before (map wait ns) left k) (λ m w. elim w [ inl e ↦ f m (inl e) | inr o ↦ absurd o ]) (λ e. let x = need_cons (resolves p e) n ns in let y = need_cons (resolves p e) n [] in let z = r e in omega arith),
-    waits_each ns (wait n ∷ before) left (more (wait n ∷ []) before left k) (λ m w. f m (inr w)) (λ e. let x = need_cons (resolves p e) n ns in let y = need_cons (resolves p e) n [] in let z = r e in omega arith),
+    one_wait before (map wait ns ++ left) (n ∷ []) (later before (map wait ns) left k) (λ m w. elim w [ inl e ↦ f m (inl e) | inr o ↦ absurd o ]) (λ e. let x = count_cons (resolves p e) n ns in let y = count_cons (resolves p e) n [] in let z = r e in omega arith),
+    waits_each ns (wait n ∷ before) left (more (wait n ∷ []) before left k) (λ m w. f m (inr w)) (λ e. let x = count_cons (resolves p e) n ns in let y = count_cons (resolves p e) n [] in let z = r e in omega arith),
   )

@@ -1,6 +1,6 @@
 -- A whole turn, the opening, and the turns of others.
-use Rattle.std.proofs.Common.{◌≡◌, ℕ, zero, suc, ◌+◌, Bool, true, false, if◌then◌else◌, List, [], ◌∷◌, drop, Option, Some, None, refl, subst, ap, arith}
-use Rattle.std.specs.List.{slice_get, enumerate_from}
+use Rattle.std.proofs.Common.{◌≡◌, ℕ, suc, ◌+◌, Bool, true, false, if◌then◌else◌, List, [], ◌∷◌, drop, Option, Some, None, refl, subst, arith}
+use Rattle.std.specs.List.{enumerate_from}
 use Rattle.std.specs.Option.{option_map_or}
 use Rattle.std.proofs.lemmas.Bool.{false≢true}
 use Rattle.vq_model.specs.declared.script.ActorName.{ActorName}
@@ -27,7 +27,7 @@ use Rattle.vq_turn_laws.specs.PlanParts.{IsActor, IsOrderly}
 use Rattle.vq_turn_laws.specs.Tasks.{Each, IsEventOf, waited_now}
 use Rattle.vq_turn_laws.specs.TruePlaces.{IsTrueFor, IsTrueTurn, IsTrueDid}
 use Rattle.vq_turn_laws.proofs.CutFacts.{cut_at}
-use Rattle.vq_turn_laws.proofs.Cuts.{done_of}
+use Rattle.vq_turn_laws.proofs.Cuts.{done_of, next_at}
 use Rattle.vq_turn_laws.proofs.HoldingLaws.{enters_wait}
 use Rattle.vq_turn_laws.proofs.OtherLaws.{stands_for_others}
 use Rattle.vq_turn_laws.proofs.Reached.{Reached}
@@ -157,12 +157,6 @@ module _ (p : Plan) (w : PointState) (a : ActorName) (x : Place) where
   does_forward (Compare c v) = collects_forward (collected p w c) (GoesOn (seeing x v (past_value p w c))) refl
   does_forward (Answer j q) = tt
   does_forward (Finish j) = tt
-
-next_at : (n : ℕ) (ts : List Task) (t : Task) (us : List Task) → drop n ts ≡ t ∷ us → (slice_get ts n ≡ Some t) × (drop (suc n) ts ≡ us)
-next_at zero [] t us h = absurd (let z = h in cc)
-next_at zero (v ∷ vs) t us h = let same : v ≡ t = let z = h in cc in let rest : vs ≡ us = let z = h in cc in (ap Some same, rest)
-next_at (suc n) [] t us h = absurd (let z = h in cc)
-next_at (suc n) (v ∷ vs) t us h = next_at n vs t us h
 
 module _ (p : Plan) (o : IsOrderly p) (w : PointState) (r : Reached p w) (a : ActorName) where
   turns_true : (ts : List Task) (x : Place) → drop x.done (program p a) ≡ ts → IsTrueFor p w a x → IsTrueTurn p w a (turn_from p w a x ts).outcome (turn_from p w a x ts).place
