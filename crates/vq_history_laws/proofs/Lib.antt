@@ -1,4 +1,5 @@
 pub mod Cited
 mod Counts
+mod HistoryProofs
 mod Kept
 mod Measure
