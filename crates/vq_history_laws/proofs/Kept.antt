@@ -1,13 +1,12 @@
 -- What each world of a history keeps of its points, its jobs and its references, beside `Links`.
-use Rattle.vq_model.proofs.Filters.{filter-has_cases}
-use Rattle.vq_model.proofs.Numbers.{has-range_cases}
-use Rattle.std.proofs.Common.{◌≡◌, ℕ, zero, suc, ◌<◌, ◌≤◌, ◌+◌, Bool, true, false, not, List, [], ◌∷◌}
-use Rattle.std.proofs.Common.{length, Option, Some, None, is_some, refl, sym, subst, ap, ◌∙◌, inl, inr, arith}
-use Rattle.std.proofs.Common.{◌==◌}
+use Rattle.std.proofs.Common.{◌≡◌, ℕ, zero, suc, ◌<◌, ◌≤◌, ◌+◌, Bool, true, false, not, List, [], ◌∷◌, length, Option}
+use Rattle.std.proofs.Common.{Some, None, is_some, refl, sym, subst, ap, ◌∙◌, inl, inr, arith, ◌==◌}
 use Rattle.std.specs.List.{list_any, count_by, range_with_len, slice_get}
 use Rattle.std.specs.Option.{option_map, option_map_or}
 use Rattle.std.proofs.lemmas.Option.{slice_get_within}
 use Rattle.std.proofs.lemmas.Bool.{or_cases, and_parts, false≢true, eq-eqb, cases_eq, cond-true, cond-false, ne_eqb}
+use Rattle.vq_model.proofs.Filters.{filter-has_cases}
+use Rattle.vq_model.proofs.Numbers.{has-range_cases}
 use Rattle.vq_model.specs.declared.plan.Op.{Op}
 use Rattle.vq_model.specs.declared.script.ActorName.{ActorName}
 use Rattle.vq_model.specs.declared.plan.Answer.{Answer as TheAnswer}
@@ -39,7 +38,8 @@ sum_apart : (f g : ℕ → ℕ) (k n : ℕ) → n ≤ k → ((i : ℕ) → (i �
 sum_apart f g k zero l s = refl
 sum_apart f g k (suc n) l s = let r = sum_apart f g k n (omega arith) s in let h = s n (λ e. omega arith) in omega arith
 
-pub sum_raised : (f g : ℕ → ℕ) (k n : ℕ) → k < n → g k ≡ f k + 1 → ((i : ℕ) → (i ≡ k → ⊥) → g i ≡ f i) → sum_to g n ≡ sum_to f n + 1
+pub sum_raised : (f g : ℕ → ℕ) (k n : ℕ) → k < n → g k ≡ f k + 1 → ((i : ℕ) → (i ≡ k → ⊥) → g i ≡ f i) →
+    sum_to g n ≡ sum_to f n + 1
 sum_raised f g k zero l up s = absurd (omega arith)
 sum_raised f g k (suc n) l up s =
     elim (cases_eq n k) [
@@ -58,10 +58,13 @@ sum_below f g (suc n) s = let r = sum_below f g n s in let h = s n in omega arit
 pub next_exists : (p : Plan) (w : PointState) (a : ActorName) (j : ℕ) → next_job p w a ≡ Some j → j < length p.jobs
 next_exists p w a j h = by_lane (lane_of_actor a) h
   where
-    by_lane : (o : Option _) → option_map_or (λ lane. next w.machine.progress.finished (jobs_of_lane p lane)) o None ≡ Some j → j < length p.jobs
+    by_lane : (o : Option _) →
+        option_map_or (λ lane. next w.machine.progress.finished (jobs_of_lane p lane)) o None ≡ Some j →
+        j < length p.jobs
     by_lane None e = absurd (let c = e in cc)
     by_lane (Some lane) e =
-        let m = (filter-has_cases _ (range_with_len 0 (length p.jobs)) j (next_in w.machine.progress.finished (jobs_of_lane p lane) j e).0).0 in
+        let m = (filter-has_cases _ (range_with_len 0 (length p.jobs)) j
+        (next_in w.machine.progress.finished (jobs_of_lane p lane) j e).0).0 in
         let x = (has-range_cases (length p.jobs) 0 j m).1 in
         omega arith
 
@@ -104,7 +107,9 @@ module _ (p : Plan) (h : List Event) (w : PointState) (links : Links p h w) (k :
       record {
         ops = k.ops;
         jobs = record {
-          of_submitted = λ i s. elim (put_cases w.submitted j i s) [ inl e ↦ subst (λ (z : ℕ). is_batch p z ≡ true) (sym e) g.batch | inr o ↦ k.jobs.of_submitted i o ];
+          of_submitted = λ i s. elim
+              (put_cases w.submitted j i s)
+              [ inl e ↦ subst (λ (z : ℕ). is_batch p z ≡ true) (sym e) g.batch | inr o ↦ k.jobs.of_submitted i o ];
           of_released = k.jobs.of_released;
           of_started = k.jobs.of_started;
           of_answered = k.jobs.of_answered;
@@ -118,7 +123,9 @@ module _ (p : Plan) (h : List Event) (w : PointState) (links : Links p h w) (k :
         ops = k.ops;
         jobs = record {
           of_submitted = k.jobs.of_submitted;
-          of_released = λ i s. elim (put_cases w.released j i s) [ inl e ↦ subst (λ (z : ℕ). is_batch p z ≡ true) (sym e) g.batch | inr o ↦ k.jobs.of_released i o ];
+          of_released = λ i s. elim
+              (put_cases w.released j i s)
+              [ inl e ↦ subst (λ (z : ℕ). is_batch p z ≡ true) (sym e) g.batch | inr o ↦ k.jobs.of_released i o ];
           of_started = k.jobs.of_started;
           of_answered = k.jobs.of_answered;
         };
@@ -132,7 +139,9 @@ module _ (p : Plan) (h : List Event) (w : PointState) (links : Links p h w) (k :
         jobs = record {
           of_submitted = k.jobs.of_submitted;
           of_released = k.jobs.of_released;
-          of_started = λ i s. elim (put_cases w.machine.progress.started j i s) [ inl e ↦ subst (λ (z : ℕ). z < length p.jobs) (sym e) g.exists | inr o ↦ k.jobs.of_started i o ];
+          of_started = λ i s. elim
+              (put_cases w.machine.progress.started j i s)
+              [ inl e ↦ subst (λ (z : ℕ). z < length p.jobs) (sym e) g.exists | inr o ↦ k.jobs.of_started i o ];
           of_answered = k.jobs.of_answered;
         };
         references = k.references;
@@ -186,7 +195,8 @@ module _ (p : Plan) (h : List Event) (w : PointState) (links : Links p h w) (k :
     where
       first : (xs : List ℕ) → slice_get xs 0 ≡ Some q → has xs q ≡ true
       first [] s = absurd (let x = s in cc)
-      first (x ∷ xs) s = let same : x ≡ q = let y = s in cc in subst (λ (z : ℕ). has (x ∷ xs) z ≡ true) same (has_here x xs)
+      first (x ∷ xs) s = let same : x ≡ q = let y = s in cc in subst (λ (z : ℕ). has (x ∷ xs) z ≡ true) same
+          (has_here x xs)
 
   keep_take : (e q : ℕ) (fresh : Bool) → CanTake p w e q fresh → KeepsFacts p (after_event p w (Take e q fresh))
   keep_take e q fresh g =
@@ -194,11 +204,16 @@ module _ (p : Plan) (h : List Event) (w : PointState) (links : Links p h w) (k :
         ops = record {
           carried_of = λ r f c. elim (cases_eq r q) [
             | inl i ↦
-                let same : e ≡ f = same_some e f (sym (put_here w.carried q (Some e)) ∙ subst (λ (z : ℕ). put w.carried q (Some e) z ≡ Some f) i c) in
-                subst (λ (z : ℕ). put w.point_of e (Some q) z ≡ Some r) same (put_here w.point_of e (Some q) ∙ ap Some (sym i))
+                let same : e ≡ f = same_some e f
+                (sym (put_here w.carried q (Some e)) ∙ subst (λ (z : ℕ). put w.carried q (Some e) z ≡ Some f) i c)
+                in
+                subst (λ (z : ℕ). put w.point_of e (Some q) z ≡ Some r) same
+                (put_here w.point_of e (Some q) ∙ ap Some (sym i))
             | inr n ↦
                 let old = k.ops.carried_of r f (sym (put_there w.carried q (Some e) r n) ∙ c) in
-                put_there w.point_of e (Some q) f (λ i. absurd (let a = subst (λ (z : ℕ). w.point_of z ≡ Some r) i old in let b = g.without in let z = sym b ∙ a in cc)) ∙ old
+                put_there w.point_of e (Some q) f
+                (λ i. absurd (let a = subst
+                (λ (z : ℕ). w.point_of z ≡ Some r) i old in let b = g.without in let z = sym b ∙ a in cc)) ∙ old
           ];
           exists = λ f s. elim (cases_eq f e) [
             | inl i ↦ op_exists p f g.job (ap (job_of p) i ∙ g.of_job)
@@ -206,7 +221,8 @@ module _ (p : Plan) (h : List Event) (w : PointState) (links : Links p h w) (k :
           ];
           past_bound = k.ops.past_bound;
           bound_taken = λ f b. elim (cases_eq f e) [
-            | inl i ↦ ap (λ (z : ℕ). is_some (put w.point_of e (Some q) z)) i ∙ ap is_some (put_here w.point_of e (Some q))
+            | inl i ↦ ap (λ (z : ℕ). is_some (put w.point_of e (Some q) z)) i ∙ ap is_some
+                (put_here w.point_of e (Some q))
             | inr n ↦ ap is_some (put_there w.point_of e (Some q) f n) ∙ k.ops.bound_taken f b
           ];
           below = k.ops.below;
@@ -229,7 +245,9 @@ module _ (p : Plan) (h : List Event) (w : PointState) (links : Links p h w) (k :
           below = λ f t x b c m. put_keeps w.bound e x (elim (put_cases w.bound e f b) [
             | inl i ↦
                 let same : g.chain ≡ t = same_some g.chain t (sym g.in_chain ∙ (ap (chain_of p) (sym i) ∙ c)) in
-                list_all_has w.bound (smaller_ops p g.chain e) x g.in_order (subst (λ (z : ℕ). has (smaller_ops p z e) x ≡ true) (sym same) (subst (λ (z : ℕ). has (smaller_ops p t z) x ≡ true) i m))
+                list_all_has w.bound (smaller_ops p g.chain e) x g.in_order
+                (subst (λ (z : ℕ). has (smaller_ops p z e) x ≡ true) (sym same)
+                (subst (λ (z : ℕ). has (smaller_ops p t z) x ≡ true) i m))
             | inr o ↦ k.ops.below f t x o c m
           ]);
         };
@@ -259,7 +277,8 @@ module _ (p : Plan) (h : List Event) (w : PointState) (links : Links p h w) (k :
       record {
         ops = record {
           carried_of = λ r e c. elim (cases_eq r q) [
-            | inl i ↦ absurd (let x = sym (put_here w.carried q None) ∙ subst (λ (z : ℕ). put w.carried q None z ≡ Some e) i c in cc)
+            | inl i ↦ absurd (let x = sym (put_here w.carried q None) ∙ subst
+                (λ (z : ℕ). put w.carried q None z ≡ Some e) i c in cc)
             | inr n ↦ k.ops.carried_of r e (sym (put_there w.carried q None r n) ∙ c)
           ];
           exists = k.ops.exists;
@@ -273,13 +292,18 @@ module _ (p : Plan) (h : List Event) (w : PointState) (links : Links p h w) (k :
 
   -- Of references
 
-  pub noted : (notes : ℕ → List ℕ) (a : ActorName) (j e : ℕ) → next_job p w a ≡ Some j → (i : ℕ) → with_note notes (next_job p w a) e i ≡ put notes j (e ∷ notes j) i
+  pub noted : (notes : ℕ → List ℕ) (a : ActorName) (j e : ℕ) → next_job p w a ≡ Some j → (i : ℕ) →
+      with_note notes (next_job p w a) e i ≡ put notes j (e ∷ notes j) i
   noted notes a j e h i = ap (λ o. with_note notes o e i) h
 
-  pub notes_raised : (notes : ℕ → List ℕ) (a : ActorName) (j e : ℕ) → next_job p w a ≡ Some j → sum_to (λ i. length (with_note notes (next_job p w a) e i)) (length p.jobs) ≡ sum_to (λ i. length (notes i)) (length p.jobs) + 1
+  pub notes_raised : (notes : ℕ → List ℕ) (a : ActorName) (j e : ℕ) → next_job p w a ≡ Some j →
+      sum_to (λ i. length (with_note notes (next_job p w a) e i)) (length p.jobs) ≡ sum_to (λ i. length (notes i))
+      (length p.jobs) + 1
   notes_raised notes a j e h =
-      sum_raised (λ i. length (notes i)) (λ i. length (with_note notes (next_job p w a) e i)) j (length p.jobs) (next_exists p w a j h)
-      (let x : length (with_note notes (next_job p w a) e j) ≡ length (e ∷ notes j) = ap length (noted notes a j e h j ∙ put_here notes j (e ∷ notes j)) in omega arith)
+      sum_raised (λ i. length (notes i)) (λ i. length (with_note notes (next_job p w a) e i)) j (length p.jobs)
+      (next_exists p w a j h)
+      (let x : length (with_note notes (next_job p w a) e j) ≡ length (e ∷ notes j) = ap length
+      (noted notes a j e h j ∙ put_here notes j (e ∷ notes j)) in omega arith)
       (λ i n. ap length (noted notes a j e h i ∙ put_there notes j (e ∷ notes j) i n))
 
   keep_refer : (a : ActorName) (q e : ℕ) → CanCome p w (Refer a q e) → KeepsFacts p (after_event p w (Refer a q e))
@@ -291,40 +315,48 @@ module _ (p : Plan) (h : List Event) (w : PointState) (links : Links p h w) (k :
           few = λ i f. elim (cases_eq i g.job) [
             | inl s ↦
                 let now = at i s in
-                let c : count_of (with_note w.referred (next_job p w a) e i) f ≡ count_of (e ∷ w.referred g.job) f = ap (λ xs. count_of xs f) now in
+                let c : count_of (with_note w.referred (next_job p w a) e i) f ≡ count_of (e ∷ w.referred g.job) f = ap
+                (λ xs. count_of xs f) now in
                 let d = count_cons (λ y. y == f) e (w.referred g.job) in
                 let old = k.references.few g.job f in
                 let same : needs_resolved p i f ≡ needs_resolved p g.job f = ap (λ (z : ℕ). needs_resolved p z f) s in
                 elim (cases_eq e f) [
                   | inl t ↦
-                      let wanted : count_of (w.referred g.job) f < needs_resolved p g.job f = subst (λ (z : ℕ). count_of (w.referred g.job) z < needs_resolved p g.job z) t g.wanted in
+                      let wanted : count_of (w.referred g.job) f < needs_resolved p g.job f = subst
+                      (λ (z : ℕ). count_of (w.referred g.job) z < needs_resolved p g.job z) t g.wanted in
                       let o : one (e == f) ≡ 1 = ap one (eq-eqb e f t) in
                       omega arith
                   | inr n ↦ let o : one (e == f) ≡ 0 = ap one (ne_eqb e f n) in omega arith
                 ]
             | inr n ↦
-                let c : count_of (with_note w.referred (next_job p w a) e i) f ≡ count_of (w.referred i) f = ap (λ xs. count_of xs f) (away i n) in
+                let c : count_of (with_note w.referred (next_job p w a) e i) f ≡ count_of (w.referred i) f = ap
+                (λ xs. count_of xs f) (away i n) in
                 let old = k.references.few i f in
                 omega arith
           ];
           looks = λ i f. elim (cases_eq i g.job) [
             | inl s ↦
-                let c : count_of (with_note w.referred (next_job p w a) e i) f ≡ count_of (e ∷ w.referred g.job) f = ap (λ xs. count_of xs f) (at i s) in
+                let c : count_of (with_note w.referred (next_job p w a) e i) f ≡ count_of (e ∷ w.referred g.job) f = ap
+                (λ xs. count_of xs f) (at i s) in
                 let d = count_cons (λ y. y == f) e (w.referred g.job) in
                 let old = k.references.looks i f in
-                let same : count_of (w.referred i) f ≡ count_of (w.referred g.job) f = ap (λ (z : ℕ). count_of (w.referred z) f) s in
+                let same : count_of (w.referred i) f ≡ count_of (w.referred g.job) f = ap
+                (λ (z : ℕ). count_of (w.referred z) f) s in
                 omega arith
             | inr n ↦
-                let c : count_of (with_note w.referred (next_job p w a) e i) f ≡ count_of (w.referred i) f = ap (λ xs. count_of xs f) (away i n) in
+                let c : count_of (with_note w.referred (next_job p w a) e i) f ≡ count_of (w.referred i) f = ap
+                (λ xs. count_of xs f) (away i n) in
                 let old = k.references.looks i f in
                 omega arith
           ];
-          holds_few = let s = notes_raised w.referred a g.job e g.is_next in let o = k.references.holds_few in omega arith;
+          holds_few = let s = notes_raised w.referred a g.job e g.is_next in let o = k.references.holds_few in omega
+              arith;
         };
       }
     where
       at : (i : ℕ) → i ≡ g.job → with_note w.referred (next_job p w a) e i ≡ e ∷ w.referred g.job
-      at i s = noted w.referred a g.job e g.is_next i ∙ (ap (put w.referred g.job (e ∷ w.referred g.job)) s ∙ put_here w.referred g.job (e ∷ w.referred g.job))
+      at i s = noted w.referred a g.job e g.is_next i ∙
+          (ap (put w.referred g.job (e ∷ w.referred g.job)) s ∙ put_here w.referred g.job (e ∷ w.referred g.job))
 
       away : (i : ℕ) → (i ≡ g.job → ⊥) → with_note w.referred (next_job p w a) e i ≡ w.referred i
       away i n = noted w.referred a g.job e g.is_next i ∙ put_there w.referred g.job (e ∷ w.referred g.job) i n
@@ -338,20 +370,27 @@ module _ (p : Plan) (h : List Event) (w : PointState) (links : Links p h w) (k :
           few = k.references.few;
           looks = λ i f. elim (cases_eq i g.job) [
             | inl s ↦
-                let now : with_note w.looked (next_job p w a) e i ≡ e ∷ w.looked g.job = noted w.looked a g.job e g.is_next i ∙ (ap (put w.looked g.job (e ∷ w.looked g.job)) s ∙ put_here w.looked g.job (e ∷ w.looked g.job)) in
-                let c : count_of (with_note w.looked (next_job p w a) e i) f ≡ count_of (e ∷ w.looked g.job) f = ap (λ xs. count_of xs f) now in
+                let now : with_note w.looked
+                (next_job p w a) e i ≡ e ∷ w.looked g.job = noted w.looked a g.job e g.is_next i ∙
+                (ap (put w.looked g.job (e ∷ w.looked g.job)) s ∙ put_here w.looked g.job (e ∷ w.looked g.job)) in
+                let c : count_of (with_note w.looked (next_job p w a) e i) f ≡ count_of (e ∷ w.looked g.job) f = ap
+                (λ xs. count_of xs f) now in
                 let d = count_cons (λ y. y == f) e (w.looked g.job) in
                 let old = k.references.looks g.job f in
-                let same : count_of (w.referred i) f ≡ count_of (w.referred g.job) f = ap (λ (z : ℕ). count_of (w.referred z) f) s in
+                let same : count_of (w.referred i) f ≡ count_of (w.referred g.job) f = ap
+                (λ (z : ℕ). count_of (w.referred z) f) s in
                 elim (cases_eq e f) [
                   | inl t ↦
-                      let fewer : count_of (w.looked g.job) f < count_of (w.referred g.job) f = subst (λ (z : ℕ). count_of (w.looked g.job) z < count_of (w.referred g.job) z) t g.fewer in
+                      let fewer : count_of (w.looked g.job) f < count_of (w.referred g.job) f = subst
+                      (λ (z : ℕ). count_of (w.looked g.job) z < count_of (w.referred g.job) z) t g.fewer in
                       let o : one (e == f) ≡ 1 = ap one (eq-eqb e f t) in
                       omega arith
                   | inr n ↦ let o : one (e == f) ≡ 0 = ap one (ne_eqb e f n) in omega arith
                 ]
             | inr n ↦
-                let c : count_of (with_note w.looked (next_job p w a) e i) f ≡ count_of (w.looked i) f = ap (λ xs. count_of xs f) (noted w.looked a g.job e g.is_next i ∙ put_there w.looked g.job (e ∷ w.looked g.job) i n) in
+                let c : count_of (with_note w.looked (next_job p w a) e i) f ≡ count_of (w.looked i) f = ap
+                (λ xs. count_of xs f)
+                (noted w.looked a g.job e g.is_next i ∙ put_there w.looked g.job (e ∷ w.looked g.job) i n) in
                 let old = k.references.looks i f in
                 omega arith
           ];
@@ -359,15 +398,20 @@ module _ (p : Plan) (h : List Event) (w : PointState) (links : Links p h w) (k :
         };
       }
 
-  pub one_less : (test : Reference → Bool) (rs : List Reference) → list_any test rs ≡ true → length rs ≡ length (without_first test rs) + 1
+  pub one_less : (test : Reference → Bool) (rs : List Reference) → list_any test rs ≡ true →
+      length rs ≡ length (without_first test rs) + 1
   one_less test [] m = absurd (false≢true m)
   one_less test (r ∷ rs) m = by_test (test r) refl (one_less test rs)
     where
-      by_test : (b : Bool) → test r ≡ b → (list_any test rs ≡ true → length rs ≡ length (without_first test rs) + 1) → length (r ∷ rs) ≡ length (without_first test (r ∷ rs)) + 1
-      by_test true e f = let c : length (without_first test (r ∷ rs)) ≡ length rs = ap length (cond-true (test r) rs (r ∷ without_first test rs) e) in omega arith
+      by_test : (b : Bool) → test r ≡ b → (list_any test rs ≡ true → length rs ≡ length (without_first test rs) + 1) →
+          length (r ∷ rs) ≡ length (without_first test (r ∷ rs)) + 1
+      by_test true e f = let c : length (without_first test (r ∷ rs)) ≡ length rs = ap length
+          (cond-true (test r) rs (r ∷ without_first test rs) e) in omega arith
       by_test false e f =
-          let c : length (without_first test (r ∷ rs)) ≡ length (r ∷ without_first test rs) = ap length (cond-false (test r) rs (r ∷ without_first test rs) e) in
-          let rest = f (elim (or_cases (test r) (list_any test rs) m) [ inl t ↦ absurd (false≢true (sym e ∙ t)) | inr t ↦ t ]) in
+          let c : length (without_first test (r ∷ rs)) ≡ length (r ∷ without_first test rs) = ap length
+          (cond-false (test r) rs (r ∷ without_first test rs) e) in
+          let rest = f (elim (or_cases (test r) (list_any test rs) m)
+          [ inl t ↦ absurd (false≢true (sym e ∙ t)) | inr t ↦ t ]) in
           omega arith
 
   keep_unref : (a : ActorName) (q e : ℕ) → CanCome p w (Unref a q e) → KeepsFacts p (after_event p w (Unref a q e))

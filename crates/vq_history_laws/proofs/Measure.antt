@@ -1,4 +1,5 @@
--- Each event raises one measure by one, and the measure is at most the acts of the plan: so a history is no longer than that.
+-- Each event raises one measure by one, and the measure is at most the acts of the plan: so a history is no longer
+-- than that.
 use Rattle.std.proofs.Common.{◌≡◌, ℕ, zero, suc, ◌<◌, ◌≤◌, ◌+◌, ◌-◌, ◌*◌, ◌||◌, ◌&&◌, Bool, true, false, not, List, []}
 use Rattle.std.proofs.Common.{◌∷◌, ◌++◌, length, map, sum, Option, Some, None, is_some, refl, sym, subst, ap, ◌∙◌, ◌⊎◌}
 use Rattle.std.proofs.Common.{inl, inr, arith, nat_lt, ◌==◌, eqb, fold}
@@ -22,16 +23,15 @@ use Rattle.vq_model.proofs.Lists.{has-append}
 use Rattle.vq_model.proofs.Puts.{put_here, put_there}
 use Rattle.vq_points.specs.Points.{PointState, opening_points, at_option, resolves, count_of, is_reference, CanTake}
 use Rattle.vq_points.specs.Points.{CanCome, after_event, HistoryFrom}
-use Rattle.vq_points.proofs.Cited.{Links, Waits}
+use Rattle.vq_points.proofs.Cited.{Links, Waits, one_event, at_opening}
+use Rattle.vq_run_laws.proofs.Cited.{next_in}
 use Rattle.vq_history_laws.specs.KeptFacts.{KeepsFacts}
 use Rattle.vq_history_laws.specs.Histories.{points_after, acts}
 use Rattle.vq_history_laws.specs.Measure.{one, sum_to, is_freed, waits_at, job_acts, op_acts, jobs_part, commands_part}
 use Rattle.vq_history_laws.specs.Measure.{ops_part, notes_part, total, measure}
-use Rattle.vq_run_laws.proofs.Cited.{next_in}
-use Rattle.vq_points.proofs.Cited.{one_event, at_opening}
 use Rattle.vq_history_laws.proofs.Counts.{count_cons}
-use Rattle.vq_history_laws.proofs.Kept.{sum_same, sum_raised, sum_below, op_exists, keeps_opening}
-use Rattle.vq_history_laws.proofs.Kept.{keeps_after, uncarried, notes_raised, one_less}
+use Rattle.vq_history_laws.proofs.Kept.{sum_same, sum_raised, sum_below, op_exists, keeps_opening, keeps_after}
+use Rattle.vq_history_laws.proofs.Kept.{uncarried, notes_raised, one_less}
 
 total_jobs : (a a' b c d e h : ℕ) → a' ≡ a + 1 → total a' b c d e h ≡ total a b c d e h + 1
 total_jobs a a' b c d e h x = omega arith
@@ -69,16 +69,21 @@ up_4 a b c d d' e e' x y = omega arith
 up_5 : (a b c d e e' : ℕ) → e' ≡ e + 1 → a + b + c + d + e' ≡ a + b + c + d + e + 1
 up_5 a b c d e e' x = omega arith
 
-five_same : (a b c d e a' b' c' d' e' : ℕ) → a' ≡ a → b' ≡ b → c' ≡ c → d' ≡ d → e' ≡ e → a' + b' + c' + d' + e' ≡ a + b + c + d + e
+five_same : (a b c d e a' b' c' d' e' : ℕ) → a' ≡ a → b' ≡ b → c' ≡ c → d' ≡ d → e' ≡ e →
+    a' + b' + c' + d' + e' ≡ a + b + c + d + e
 five_same a b c d e a' b' c' d' e' v w x y z = omega arith
 
 set_up : (f : ℕ → Bool) (k : ℕ) → f k ≡ false → one (put f k true k) ≡ one (f k) + 1
-set_up f k n = let a : one (put f k true k) ≡ 1 = ap one (put_here f k true) in let b : one (f k) ≡ 0 = ap one n in omega arith
+set_up f k n = let a : one (put f k true k) ≡ 1 = ap one (put_here f k true) in let b : one
+    (f k) ≡ 0 = ap one n in omega arith
 
-some_up : {A : Type 0} (f : ℕ → Option A) (k : ℕ) (x : A) → is_some (f k) ≡ false → one (is_some (put f k (Some x) k)) ≡ one (is_some (f k)) + 1
-some_up f k x n = let a : one (is_some (put f k (Some x) k)) ≡ 1 = ap (λ o. one (is_some o)) (put_here f k (Some x)) in let b : one (is_some (f k)) ≡ 0 = ap one n in omega arith
+some_up : {A : Type 0} (f : ℕ → Option A) (k : ℕ) (x : A) → is_some (f k) ≡ false →
+    one (is_some (put f k (Some x) k)) ≡ one (is_some (f k)) + 1
+some_up f k x n = let a : one (is_some (put f k (Some x) k)) ≡ 1 = ap (λ o. one (is_some o))
+    (put_here f k (Some x)) in let b : one (is_some (f k)) ≡ 0 = ap one n in omega arith
 
-module _ (p : Plan) (wf : IsWellFormed p) (h : List Event) (w : PointState) (links : Links p h w) (k : KeepsFacts p w) where
+module _ (p : Plan) (wf : IsWellFormed p) (h : List Event) (w : PointState) (links : Links p h w)
+    (k : KeepsFacts p w) where
   batch_exists : (j : ℕ) → is_batch p j ≡ true → j < length p.jobs
   batch_exists j b = ltb-true j (length p.jobs) (and_parts (nat_lt j (length p.jobs)) (not (is_host_step p j)) b).0
 
@@ -101,26 +106,33 @@ module _ (p : Plan) (wf : IsWellFormed p) (h : List Event) (w : PointState) (lin
       total_jobs _ _ _ _ _ _ _
       (sum_raised (job_acts w) (job_acts (after_event p w (Start j))) j (length p.jobs) g.exists
       (up_3 _ _ _ _ _ _ (set_up w.machine.progress.started j g.waiting))
-      (λ i n. five_same _ _ _ _ _ _ _ _ _ _ refl refl (ap one (put_there w.machine.progress.started j true i n)) refl refl))
+      (λ i n. five_same _ _ _ _ _ _ _ _ _ _ refl refl
+      (ap one (put_there w.machine.progress.started j true i n)) refl refl))
 
   rise_finish : (j : ℕ) → CanCome p w (Finish j) → measure p (after_event p w (Finish j)) ≡ measure p w + 1
   rise_finish j g =
       total_jobs _ _ _ _ _ _ _
-      (sum_raised (job_acts w) (job_acts (after_event p w (Finish j))) j (length p.jobs) (k.jobs.of_started j g.step.done.started)
+      (sum_raised (job_acts w) (job_acts (after_event p w (Finish j))) j (length p.jobs)
+      (k.jobs.of_started j g.step.done.started)
       (up_4 _ _ _ _ _ _ _ (set_up w.machine.progress.finished j g.step.done.unfinished) refl)
-      (λ i n. five_same _ _ _ _ _ _ _ _ _ _ refl refl refl (ap one (put_there w.machine.progress.finished j true i n)) refl))
+      (λ i n. five_same _ _ _ _ _ _ _ _ _ _ refl refl refl
+      (ap one (put_there w.machine.progress.finished j true i n)) refl))
 
-  rise_answer : (j : ℕ) (a : TheAnswer) → CanCome p w (Answer j a) → measure p (after_event p w (Answer j a)) ≡ measure p w + 1
+  rise_answer : (j : ℕ) (a : TheAnswer) → CanCome p w (Answer j a) →
+      measure p (after_event p w (Answer j a)) ≡ measure p w + 1
   rise_answer j a g =
       total_jobs _ _ _ _ _ _ _
-      (sum_raised (job_acts w) (job_acts (after_event p w (Answer j a))) j (length p.jobs) (k.jobs.of_started j g.started)
+      (sum_raised (job_acts w) (job_acts (after_event p w (Answer j a))) j (length p.jobs)
+      (k.jobs.of_started j g.started)
       (up_5 _ _ _ _ _ _ (some_up w.machine.answer j a g.unanswered))
-      (λ i n. five_same _ _ _ _ _ _ _ _ _ _ refl refl refl refl (ap (λ o. one (is_some o)) (put_there w.machine.answer j (Some a) i n))))
+      (λ i n. five_same _ _ _ _ _ _ _ _ _ _ refl refl refl refl
+      (ap (λ o. one (is_some o)) (put_there w.machine.answer j (Some a) i n))))
 
   command_exists : (c j : ℕ) → has (commands_of p j) c ≡ true → c < length p.commands
   command_exists c j m = let f = wf.fits c j m in by_command (slice_get p.commands c) refl f.0 f.1
     where
-      by_command : (o : Option CommandLine) → slice_get p.commands c ≡ o → (x : Command) → option_map (λ y. y.command) o ≡ Some x → c < length p.commands
+      by_command : (o : Option CommandLine) → slice_get p.commands c ≡ o → (x : Command) →
+          option_map (λ y. y.command) o ≡ Some x → c < length p.commands
       by_command None is x s = absurd (let z = s in cc)
       by_command (Some y) is x s = slice_get_within p.commands c y is
 
@@ -128,18 +140,24 @@ module _ (p : Plan) (wf : IsWellFormed p) (h : List Event) (w : PointState) (lin
   rise_apply j c g =
       let n = next_in (has w.machine.progress.applied) (commands_of p j) c g.next in
       total_commands _ _ _ _ _ _ _
-      (sum_raised (λ d. one (has w.machine.progress.applied d)) (λ d. one (has (w.machine.progress.applied ++ c ∷ []) d)) c (length p.commands) (command_exists c j n.0)
+      (sum_raised (λ d. one (has w.machine.progress.applied d))
+      (λ d. one (has (w.machine.progress.applied ++ c ∷ []) d)) c (length p.commands) (command_exists c j n.0)
       (here n.1)
-      (λ d m. ap one (has-append w.machine.progress.applied (c ∷ []) d ∙ (ap (λ b. has w.machine.progress.applied d || (b || false)) (ne_eqb c d (λ e. m (sym e))) ∙ or_last (has w.machine.progress.applied d)))))
+      (λ d m. ap one (has-append w.machine.progress.applied (c ∷ []) d ∙
+      (ap (λ b. has w.machine.progress.applied d || (b || false)) (ne_eqb c d (λ e. m (sym e))) ∙ or_last
+      (has w.machine.progress.applied d)))))
     where
       or_last : (b : Bool) → (b || false) ≡ b
       or_last true = refl
       or_last false = refl
 
-      here : has w.machine.progress.applied c ≡ false → one (has (w.machine.progress.applied ++ c ∷ []) c) ≡ one (has w.machine.progress.applied c) + 1
+      here : has w.machine.progress.applied c ≡ false →
+          one (has (w.machine.progress.applied ++ c ∷ []) c) ≡ one (has w.machine.progress.applied c) + 1
       here n =
           let a : one (has w.machine.progress.applied c) ≡ 0 = ap one n in
-          let b : one (has (w.machine.progress.applied ++ c ∷ []) c) ≡ 1 = ap one (has-append w.machine.progress.applied (c ∷ []) c ∙ (ap (λ b. b || (eqb c c || false)) n ∙ ap (λ b. b || false) (eq-eqb c c refl))) in
+          let b : one (has (w.machine.progress.applied ++ c ∷ []) c) ≡ 1 = ap one
+          (has-append w.machine.progress.applied (c ∷ []) c ∙
+          (ap (λ b. b || (eqb c c || false)) n ∙ ap (λ b. b || false) (eq-eqb c c refl))) in
           omega arith
 
   rise_bind : (e q : ℕ) → CanCome p w (Bind e q) → measure p (after_event p w (Bind e q)) ≡ measure p w + 1
@@ -162,13 +180,19 @@ module _ (p : Plan) (wf : IsWellFormed p) (h : List Event) (w : PointState) (lin
       unmade : w.machine.progress.made e ≡ false
       unmade = (next_in w.machine.progress.made _ e g.next).1
 
-      by_chain : (o : Option ℕ) → o ≡ Some g.chain → measure p (record w { machine = record w.machine { progress = with_signal p w.machine.progress e o } }) ≡ measure p w + 1
+      by_chain : (o : Option ℕ) → o ≡ Some g.chain →
+          measure p (record w { machine = record w.machine { progress = with_signal p w.machine.progress e o } }) ≡
+          measure p w + 1
       by_chain None s = absurd (let z = s in cc)
       by_chain (Some t) s =
           total_ops _ _ _ _ _ _ _
-          (sum_raised (op_acts w) (op_acts (record w { machine = record w.machine { progress = with_signal p w.machine.progress e (Some t) } })) e (length p.ops) op_of_chain
+          (sum_raised (op_acts w)
+          (op_acts (record w {
+            machine = record w.machine { progress = with_signal p w.machine.progress e (Some t) };
+          })) e (length p.ops) op_of_chain
           (up_3 _ _ _ _ _ _ (set_up w.machine.progress.made e unmade))
-          (λ i n. five_same _ _ _ _ _ _ _ _ _ _ refl refl (ap one (put_there w.machine.progress.made e true i n)) refl refl))
+          (λ i n. five_same _ _ _ _ _ _ _ _ _ _ refl refl
+          (ap one (put_there w.machine.progress.made e true i n)) refl refl))
 
   -- Points
 
@@ -189,24 +213,38 @@ module _ (p : Plan) (wf : IsWellFormed p) (h : List Event) (w : PointState) (lin
   and_none false true = refl
   and_none false false = refl
 
-  carries_other : (carried : ℕ → Option ℕ) (q e f : ℕ) → carried q ≡ Some e → (f ≡ e → ⊥) → option_map_or (λ g. g == f) (carried q) false ≡ false
+  carries_other : (carried : ℕ → Option ℕ) (q e f : ℕ) → carried q ≡ Some e → (f ≡ e → ⊥) →
+      option_map_or (λ g. g == f) (carried q) false ≡ false
   carries_other carried q e f c n = ap (λ o. option_map_or (λ g. g == f) o false) c ∙ ne_eqb e f (λ i. n (sym i))
 
-  rise_take : (e q : ℕ) (fresh : Bool) → CanTake p w e q fresh → measure p (after_event p w (Take e q fresh)) ≡ measure p w + 1
+  rise_take : (e q : ℕ) (fresh : Bool) → CanTake p w e q fresh →
+      measure p (after_event p w (Take e q fresh)) ≡ measure p w + 1
   rise_take e q fresh g =
       total_ops _ _ _ _ _ _ _
-      (sum_raised (op_acts w) (op_acts (after_event p w (Take e q fresh))) e (length p.ops) (op_exists p e g.job g.of_job)
-      (up_1 _ _ _ _ _ _ _ (some_up w.point_of e q (ap is_some g.without)) (ap one (and_never (w.past e) _ _ (unpast e g.without))))
-      (λ f n. five_same _ _ _ _ _ _ _ _ _ _ (ap (λ o. one (is_some o)) (put_there w.point_of e (Some q) f n)) refl refl refl (ap (λ b. one (w.past f && not b)) (ap (waits_at w.waiting (put w.carried q (Some e)) f) (put_there w.point_of e (Some q) f n) ∙ same f n (w.point_of f)))))
+      (sum_raised (op_acts w) (op_acts (after_event p w (Take e q fresh))) e (length p.ops)
+      (op_exists p e g.job g.of_job)
+      (up_1 _ _ _ _ _ _ _ (some_up w.point_of e q (ap is_some g.without))
+      (ap one (and_never (w.past e) _ _ (unpast e g.without))))
+      (λ f n. five_same _ _ _ _ _ _ _ _ _ _
+      (ap (λ o. one (is_some o)) (put_there w.point_of e (Some q) f n)) refl refl refl
+      (ap (λ b. one (w.past f && not b))
+      (ap (waits_at w.waiting (put w.carried q (Some e)) f) (put_there w.point_of e (Some q) f n) ∙ same f n
+      (w.point_of f)))))
     where
-      same : (f : ℕ) → (f ≡ e → ⊥) → (o : Option ℕ) → waits_at w.waiting (put w.carried q (Some e)) f o ≡ waits_at w.waiting w.carried f o
+      same : (f : ℕ) → (f ≡ e → ⊥) → (o : Option ℕ) →
+          waits_at w.waiting (put w.carried q (Some e)) f o ≡ waits_at w.waiting w.carried f o
       same f n None = refl
       same f n (Some r) =
           elim (cases_eq r q) [
             | inl i ↦
-                ap (λ b. w.waiting r && b) (ap (λ o. option_map_or (λ g. g == f) o false) (ap (put w.carried q (Some e)) i ∙ put_here w.carried q (Some e)) ∙ ne_eqb e f (λ s. n (sym s)))
-                ∙ sym (ap (λ b. w.waiting r && b) (ap (λ o. option_map_or (λ g. g == f) o false) (ap w.carried i ∙ uncarried p h w links k e q fresh g)))
-            | inr d ↦ ap (λ b. w.waiting r && b) (ap (λ o. option_map_or (λ g. g == f) o false) (put_there w.carried q (Some e) r d))
+                ap (λ b. w.waiting r && b)
+                (ap (λ o. option_map_or (λ g. g == f) o false)
+                (ap (put w.carried q (Some e)) i ∙ put_here w.carried q (Some e)) ∙ ne_eqb e f (λ s. n (sym s)))
+                ∙ sym (ap (λ b. w.waiting r && b)
+                (ap (λ o. option_map_or (λ g. g == f) o false)
+                (ap w.carried i ∙ uncarried p h w links k e q fresh g)))
+            | inr d ↦ ap (λ b. w.waiting r && b)
+                (ap (λ o. option_map_or (λ g. g == f) o false) (put_there w.carried q (Some e) r d))
           ]
 
   rise_complete : (e : ℕ) → CanCome p w (Complete e) → measure p (after_event p w (Complete e)) ≡ measure p w + 1
@@ -218,13 +256,22 @@ module _ (p : Plan) (wf : IsWellFormed p) (h : List Event) (w : PointState) (lin
       before : w.past e ≡ false
       before = not-true (w.past e) (and_parts (w.bound e) (not (w.past e)) g.pending).1
 
-      by_point : (o : Option ℕ) → w.point_of e ≡ o → is_some o ≡ true → measure p (record w { past = put w.past e true; waiting = at_option {A = ℕ → Bool} (λ q f. put f q true) o w.waiting }) ≡ measure p w + 1
+      by_point : (o : Option ℕ) → w.point_of e ≡ o → is_some o ≡ true →
+          measure p (record w {
+            past = put w.past e true;
+            waiting = at_option {A = ℕ →
+                Bool} (λ q f. put f q true) o w.waiting;
+          }) ≡ measure p w + 1
       by_point None is s = absurd (false≢true s)
       by_point (Some q) is s =
           total_ops _ _ _ _ _ _ _
-          (sum_raised (op_acts w) (op_acts (record w { past = put w.past e true; waiting = put w.waiting q true })) e (length p.ops) (k.ops.exists e (k.ops.bound_taken e bound))
-          (up_4 _ _ _ _ _ _ _ (set_up w.past e before) (ap one (now_waits ∙ sym (ap (λ b. b && not (waits_at w.waiting w.carried e (w.point_of e))) before))))
-          (λ f n. five_same _ _ _ _ _ _ _ _ _ _ refl refl refl (ap one (put_there w.past e true f n)) (ap one (ap (λ b. b && not (waits_at (put w.waiting q true) w.carried f (w.point_of f))) (put_there w.past e true f n) ∙ ap (λ b. w.past f && not b) (same f n (w.point_of f))))))
+          (sum_raised (op_acts w) (op_acts (record w { past = put w.past e true; waiting = put w.waiting q true })) e
+          (length p.ops) (k.ops.exists e (k.ops.bound_taken e bound))
+          (up_4 _ _ _ _ _ _ _ (set_up w.past e before)
+          (ap one (now_waits ∙ sym (ap (λ b. b && not (waits_at w.waiting w.carried e (w.point_of e))) before))))
+          (λ f n. five_same _ _ _ _ _ _ _ _ _ _ refl refl refl (ap one (put_there w.past e true f n))
+          (ap one (ap (λ b. b && not (waits_at (put w.waiting q true) w.carried f (w.point_of f)))
+          (put_there w.past e true f n) ∙ ap (λ b. w.past f && not b) (same f n (w.point_of f))))))
         where
           carries : w.carried q ≡ Some e
           carries = links.pending e q is before
@@ -236,14 +283,18 @@ module _ (p : Plan) (wf : IsWellFormed p) (h : List Event) (w : PointState) (lin
               ∙ (ap (λ b. not (b && option_map_or (λ f. f == e) (w.carried q) false)) (put_here w.waiting q true)
               ∙ ap not (ap (λ o. option_map_or (λ f. f == e) o false) carries ∙ eq-eqb e e refl)))
 
-          same : (f : ℕ) → (f ≡ e → ⊥) → (o : Option ℕ) → waits_at (put w.waiting q true) w.carried f o ≡ waits_at w.waiting w.carried f o
+          same : (f : ℕ) → (f ≡ e → ⊥) → (o : Option ℕ) →
+              waits_at (put w.waiting q true) w.carried f o ≡ waits_at w.waiting w.carried f o
           same f n None = refl
           same f n (Some r) =
               elim (cases_eq r q) [
                 | inl i ↦
-                    let none : option_map_or (λ g. g == f) (w.carried r) false ≡ false = carries_other w.carried r e f (ap w.carried i ∙ carries) n in
-                    ap (λ b. put w.waiting q true r && b) none ∙ (and_none (put w.waiting q true r) (w.waiting r) ∙ sym (ap (λ b. w.waiting r && b) none))
-                | inr d ↦ ap (λ b. b && option_map_or (λ g. g == f) (w.carried r) false) (put_there w.waiting q true r d)
+                    let none : option_map_or (λ g. g == f) (w.carried r) false ≡ false = carries_other w.carried r e f
+                    (ap w.carried i ∙ carries) n in
+                    ap (λ b. put w.waiting q true r && b) none ∙
+                    (and_none (put w.waiting q true r) (w.waiting r) ∙ sym (ap (λ b. w.waiting r && b) none))
+                | inr d ↦ ap (λ b. b && option_map_or (λ g. g == f) (w.carried r) false)
+                    (put_there w.waiting q true r d)
               ]
 
   rise_free : (q : ℕ) → CanCome p w (Free q) → measure p (after_event p w (Free q)) ≡ measure p w + 1
@@ -251,7 +302,8 @@ module _ (p : Plan) (wf : IsWellFormed p) (h : List Event) (w : PointState) (lin
       total_ops _ _ _ _ _ _ _
       (sum_raised (op_acts w) (op_acts (after_event p w (Free q))) e (length p.ops) (k.ops.exists e (ap is_some point))
       (up_5 _ _ _ _ _ _ freed)
-      (λ f n. five_same _ _ _ _ _ _ _ _ _ _ refl refl refl refl (ap (λ b. one (w.past f && not b)) (same f n (w.point_of f)))))
+      (λ f n. five_same _ _ _ _ _ _ _ _ _ _ refl refl refl refl
+      (ap (λ b. one (w.past f && not b)) (same f n (w.point_of f)))))
     where
       v : Waits w h q
       v = links.waits q g.waiting
@@ -262,12 +314,14 @@ module _ (p : Plan) (wf : IsWellFormed p) (h : List Event) (w : PointState) (lin
       point : w.point_of e ≡ Some q
       point = k.ops.carried_of q e v.carried
 
-      freed : one (w.past e && not (waits_at (put w.waiting q false) (put w.carried q None) e (w.point_of e))) ≡ one (is_freed w e) + 1
+      freed : one (w.past e && not (waits_at (put w.waiting q false) (put w.carried q None) e (w.point_of e))) ≡ one
+          (is_freed w e) + 1
       freed =
           let a : one (w.past e && not (waits_at (put w.waiting q false) (put w.carried q None) e (w.point_of e))) ≡ 1 =
           ap one (ap (λ b. b && not (waits_at (put w.waiting q false) (put w.carried q None) e (w.point_of e))) v.past
           ∙ (ap (λ o. not (waits_at (put w.waiting q false) (put w.carried q None) e o)) point
-          ∙ ap (λ b. not (b && option_map_or (λ f. f == e) (put w.carried q None q) false)) (put_here w.waiting q false)))
+          ∙ ap (λ b. not (b && option_map_or (λ f. f == e) (put w.carried q None q) false))
+          (put_here w.waiting q false)))
           in
           let b : one (is_freed w e) ≡ 0 =
           ap one (ap (λ b. b && not (waits_at w.waiting w.carried e (w.point_of e))) v.past
@@ -277,16 +331,21 @@ module _ (p : Plan) (wf : IsWellFormed p) (h : List Event) (w : PointState) (lin
           in
           omega arith
 
-      same : (f : ℕ) → (f ≡ e → ⊥) → (o : Option ℕ) → waits_at (put w.waiting q false) (put w.carried q None) f o ≡ waits_at w.waiting w.carried f o
+      same : (f : ℕ) → (f ≡ e → ⊥) → (o : Option ℕ) →
+          waits_at (put w.waiting q false) (put w.carried q None) f o ≡ waits_at w.waiting w.carried f o
       same f n None = refl
       same f n (Some r) =
           elim (cases_eq r q) [
             | inl i ↦
-                let none : option_map_or (λ g. g == f) (w.carried r) false ≡ false = carries_other w.carried r e f (ap w.carried i ∙ v.carried) n in
-                let gone : put w.waiting q false r ≡ false = ap (put w.waiting q false) i ∙ put_here w.waiting q false in
-                ap (λ b. b && option_map_or (λ g. g == f) (put w.carried q None r) false) gone ∙ (and_none false (w.waiting r) ∙ sym (ap (λ b. w.waiting r && b) none))
+                let none : option_map_or (λ g. g == f) (w.carried r) false ≡ false = carries_other w.carried r e f
+                (ap w.carried i ∙ v.carried) n in
+                let gone : put w.waiting q false r ≡ false = ap (put w.waiting q false) i
+                ∙ put_here w.waiting q false in
+                ap (λ b. b && option_map_or (λ g. g == f) (put w.carried q None r) false) gone ∙
+                (and_none false (w.waiting r) ∙ sym (ap (λ b. w.waiting r && b) none))
             | inr d ↦
-                ap (λ b. b && option_map_or (λ g. g == f) (put w.carried q None r) false) (put_there w.waiting q false r d)
+                ap (λ b. b && option_map_or (λ g. g == f) (put w.carried q None r) false)
+                (put_there w.waiting q false r d)
                 ∙ ap (λ o. w.waiting r && option_map_or (λ g. g == f) o false) (put_there w.carried q None r d)
           ]
 
@@ -296,9 +355,11 @@ module _ (p : Plan) (wf : IsWellFormed p) (h : List Event) (w : PointState) (lin
   rises (Take e q fresh) g = rise_take e q fresh g
   rises (Release j) g = rise_release j g
   rises (Bind e q) g = rise_bind e q g
-  rises (Refer a q e) g = total_refer _ _ _ _ _ _ _ _ (notes_raised p h w links k w.referred a g.job e g.is_next) (omega arith)
+  rises (Refer a q e) g = total_refer _ _ _ _ _ _ _ _ (notes_raised p h w links k w.referred a g.job e g.is_next)
+      (omega arith)
   rises (Look a q e) g = total_look _ _ _ _ _ _ _ (notes_raised p h w links k w.looked a g.job e g.is_next)
-  rises (Unref a q e) g = total_unref _ _ _ _ _ _ _ (one_less p h w links k (is_reference a q e) w.held g) k.references.holds_few
+  rises (Unref a q e) g = total_unref _ _ _ _ _ _ _
+      (one_less p h w links k (is_reference a q e) w.held g) k.references.holds_few
   rises (Complete e) g = rise_complete e g
   rises (Free q) g = rise_free q g
   rises (Start j) g = rise_start j g
@@ -319,7 +380,8 @@ measure_opening p =
     let b : commands_part p (opening_points p) ≡ 0 = zeros_sum (λ c. one (has [] c)) (length p.commands) (λ i. refl) in
     let c : ops_part p (opening_points p) ≡ 0 = zeros_sum (op_acts (opening_points p)) (length p.ops) (λ i. refl) in
     let d : notes_part p (λ j. []) ≡ 0 = zeros_sum (λ j. length {A = ℕ} []) (length p.jobs) (λ i. refl) in
-    all_zero (jobs_part p (opening_points p)) (commands_part p (opening_points p)) (ops_part p (opening_points p)) (notes_part p (λ j. [])) a b c d
+    all_zero (jobs_part p (opening_points p)) (commands_part p (opening_points p)) (ops_part p (opening_points p))
+    (notes_part p (λ j. [])) a b c d
   where
     all_zero : (a b c d : ℕ) → a ≡ 0 → b ≡ 0 → c ≡ 0 → d ≡ 0 → total a b c d d 0 ≡ 0
     all_zero a b c d w x y z = omega arith
@@ -332,7 +394,8 @@ const_sum c (suc n) f s =
     let m : c * suc n ≡ c * n + c = grind arith in
     omega arith
 
-sum_list : {X : Type 0} (g : X → ℕ) (xs : List X) → sum_to (λ j. option_map_or g (slice_get xs j) 0) (length xs) ≡ sum (map g xs)
+sum_list : {X : Type 0} (g : X → ℕ) (xs : List X) →
+    sum_to (λ j. option_map_or g (slice_get xs j) 0) (length xs) ≡ sum (map g xs)
 sum_list g [] = refl
 sum_list g (x ∷ xs) =
     let r = sum_list g xs in
@@ -357,7 +420,8 @@ remove test x [] l = absurd (omega arith)
 remove test x (y ∷ ys) l = by_test (test x y) refl (remove test x ys)
   where
     by_test : (b : Bool) → test x y ≡ b → (0 < count_by (test x) ys → Removed test x ys) → Removed test x (y ∷ ys)
-    by_test true i f = record { at = y; rest = ys; passes = i; shorter = omega arith; counts = λ e. count_cons (test e) y ys }
+    by_test true i f = record
+        { at = y; rest = ys; passes = i; shorter = omega arith; counts = λ e. count_cons (test e) y ys }
     by_test false i f =
         let u = count_cons (test x) y ys in
         let o : one (test x y) ≡ 0 = ap one i in
@@ -367,10 +431,12 @@ remove test x (y ∷ ys) l = by_test (test x y) refl (remove test x ys)
           rest = y ∷ r.rest;
           passes = r.passes;
           shorter = let s = r.shorter in omega arith;
-          counts = λ e. let a = count_cons (test e) y ys in let b = r.counts e in let c = count_cons (test e) y r.rest in omega arith;
+          counts = λ e. let a = count_cons (test e) y ys in let b = r.counts e in let c = count_cons
+              (test e) y r.rest in omega arith;
         }
 
-pub no_longer : {A : Type 0} (test : ℕ → A → Bool) → ((e f : ℕ) (y : A) → test e y ≡ true → test f y ≡ true → e ≡ f) → (xs : List ℕ) (ys : List A) → ((e : ℕ) → count_of xs e ≤ count_by (test e) ys) → length xs ≤ length ys
+pub no_longer : {A : Type 0} (test : ℕ → A → Bool) → ((e f : ℕ) (y : A) → test e y ≡ true → test f y ≡ true → e ≡ f) →
+    (xs : List ℕ) (ys : List A) → ((e : ℕ) → count_of xs e ≤ count_by (test e) ys) → length xs ≤ length ys
 no_longer test u [] ys c = omega arith
 no_longer test u (x ∷ xs) ys c =
     let first = c x in
@@ -412,25 +478,37 @@ module _ (p : Plan) (host : KeepsHostOrder p) (w : PointState) (k : KeepsFacts p
     where
       no_batch : (b : Bool) → is_host_step p j ≡ true → (b ≡ true → is_batch p j ≡ true) → b ≡ false
       no_batch false s f = refl
-      no_batch true s f = absurd (false≢true (sym (ap not s) ∙ (and_parts (nat_lt j (length p.jobs)) (not (is_host_step p j)) (f refl)).1))
+      no_batch true s f = absurd
+          (false≢true (sym (ap not s) ∙ (and_parts (nat_lt j (length p.jobs)) (not (is_host_step p j)) (f refl)).1))
 
-      few : (a b c d e : ℕ) → a ≤ 1 → b ≤ 1 → c ≤ 1 → d ≤ 1 → e ≤ 1 → (e ≡ 0) ⊎ ((a ≡ 0) × (b ≡ 0)) → a + b + c + d + e ≤ 4
+      few : (a b c d e : ℕ) → a ≤ 1 → b ≤ 1 → c ≤ 1 → d ≤ 1 → e ≤ 1 → (e ≡ 0) ⊎ ((a ≡ 0) × (b ≡ 0)) →
+          a + b + c + d + e ≤ 4
       few a b c d e l m n o q (inl x) = omega arith
       few a b c d e l m n o q (inr x) = let y = x.0 in let z = x.1 in omega arith
 
       by_answer : (b : Bool) → is_some (w.machine.answer j) ≡ b → job_acts w j ≤ 4
       by_answer b s =
-          few (one (w.submitted j)) (one (w.released j)) (one (w.machine.progress.started j)) (one (w.machine.progress.finished j)) (one (is_some (w.machine.answer j))) (one_small (w.submitted j)) (one_small (w.released j)) (one_small (w.machine.progress.started j)) (one_small (w.machine.progress.finished j)) (one_small (is_some (w.machine.answer j))) (either b s)
+          few (one (w.submitted j)) (one (w.released j)) (one (w.machine.progress.started j))
+          (one (w.machine.progress.finished j)) (one (is_some (w.machine.answer j))) (one_small (w.submitted j))
+          (one_small (w.released j)) (one_small (w.machine.progress.started j))
+          (one_small (w.machine.progress.finished j)) (one_small (is_some (w.machine.answer j))) (either b s)
         where
-          either : (b : Bool) → is_some (w.machine.answer j) ≡ b → (one (is_some (w.machine.answer j)) ≡ 0) ⊎ ((one (w.submitted j) ≡ 0) × (one (w.released j) ≡ 0))
+          either : (b : Bool) → is_some (w.machine.answer j) ≡ b →
+              (one (is_some (w.machine.answer j)) ≡ 0) ⊎ ((one (w.submitted j) ≡ 0) × (one (w.released j) ≡ 0))
           either false s = inl (ap one s)
           either true s =
               let step = (host.asks j (k.jobs.of_answered j s)).0 in
-              inr (ap one (no_batch (w.submitted j) step (k.jobs.of_submitted j)), ap one (no_batch (w.released j) step (k.jobs.of_released j)))
+              inr (
+                ap one (no_batch (w.submitted j) step (k.jobs.of_submitted j)),
+                ap one
+                    (no_batch (w.released j) step (k.jobs.of_released j)),
+              )
 
   few_op_acts : (e : ℕ) → op_acts w e ≤ 5
   few_op_acts e =
-      few (one (is_some (w.point_of e))) (one (w.bound e)) (one (w.machine.progress.made e)) (one (w.past e)) (one (is_freed w e)) (one_small (is_some (w.point_of e))) (one_small (w.bound e)) (one_small (w.machine.progress.made e)) (one_small (w.past e)) (one_small (is_freed w e))
+      few (one (is_some (w.point_of e))) (one (w.bound e)) (one (w.machine.progress.made e)) (one (w.past e))
+      (one (is_freed w e)) (one_small (is_some (w.point_of e))) (one_small (w.bound e))
+      (one_small (w.machine.progress.made e)) (one_small (w.past e)) (one_small (is_freed w e))
     where
       few : (a b c d e : ℕ) → a ≤ 1 → b ≤ 1 → c ≤ 1 → d ≤ 1 → e ≤ 1 → a + b + c + d + e ≤ 5
       few a b c d e l m n o q = omega arith
@@ -438,7 +516,8 @@ module _ (p : Plan) (host : KeepsHostOrder p) (w : PointState) (k : KeepsFacts p
   one_resolves : (e f : ℕ) (n : Need) → resolves p e n ≡ true → resolves p f n ≡ true → e ≡ f
   one_resolves e f n a b = by_op (resolver p n.chain n.value) a b
     where
-      by_op : (o : Option ℕ) → option_map_or (λ r. r == e) o false ≡ true → option_map_or (λ r. r == f) o false ≡ true → e ≡ f
+      by_op : (o : Option ℕ) → option_map_or (λ r. r == e) o false ≡ true → option_map_or (λ r. r == f) o false ≡ true →
+          e ≡ f
       by_op None a b = absurd (false≢true a)
       by_op (Some r) a b = sym (eqb-true r e a) ∙ eqb-true r f b
 
@@ -446,13 +525,16 @@ module _ (p : Plan) (host : KeepsHostOrder p) (w : PointState) (k : KeepsFacts p
   few_referred j = no_longer (resolves p) one_resolves (w.referred j) (needs p j) (k.references.few j)
 
   few_looked : (j : ℕ) → length (w.looked j) ≤ length (w.referred j)
-  few_looked j = no_longer (λ e y. y == e) (λ e f y a b. sym (eqb-true y e a) ∙ eqb-true y f b) (w.looked j) (w.referred j) (k.references.looks j)
+  few_looked j = no_longer (λ e y. y == e) (λ e f y a b. sym (eqb-true y e a) ∙ eqb-true y f b) (w.looked j)
+      (w.referred j) (k.references.looks j)
 
   all_needs : sum_to (λ j. length (needs p j)) (length p.jobs) ≡ sum (map (λ x. length x.needs) p.jobs)
   all_needs =
-      sum_same (λ j. option_map_or (λ x. length x.needs) (slice_get p.jobs j) 0) (λ j. length (needs p j)) (length p.jobs) (λ j. by_job (slice_get p.jobs j)) ∙ sum_list (λ (x : PlanJob). length x.needs) p.jobs
+      sum_same (λ j. option_map_or (λ x. length x.needs) (slice_get p.jobs j) 0) (λ j. length (needs p j))
+      (length p.jobs) (λ j. by_job (slice_get p.jobs j)) ∙ sum_list (λ (x : PlanJob). length x.needs) p.jobs
     where
-      by_job : (o : Option PlanJob) → length (option_map_or (λ x. x.needs) o []) ≡ option_map_or (λ x. length x.needs) o 0
+      by_job : (o : Option PlanJob) →
+          length (option_map_or (λ x. x.needs) o []) ≡ option_map_or (λ x. length x.needs) o 0
       by_job None = refl
       by_job (Some x) = refl
 
@@ -460,13 +542,20 @@ module _ (p : Plan) (host : KeepsHostOrder p) (w : PointState) (k : KeepsFacts p
   pub measure_small : measure p w ≤ acts p
   measure_small =
       let a : jobs_part p w ≤ 4 * length p.jobs = const_sum 4 (length p.jobs) (job_acts w) few_job_acts in
-      let b : commands_part p w ≤ 1 * length p.commands = const_sum 1 (length p.commands) (λ c. one (has w.machine.progress.applied c)) (λ c. one_small (has w.machine.progress.applied c)) in
+      let b : commands_part p w ≤ 1 * length p.commands = const_sum 1 (length p.commands)
+      (λ c. one (has w.machine.progress.applied c)) (λ c. one_small (has w.machine.progress.applied c)) in
       let c : ops_part p w ≤ 5 * length p.ops = const_sum 5 (length p.ops) (op_acts w) few_op_acts in
-      let d : notes_part p w.referred ≤ sum_to (λ j. length (needs p j)) (length p.jobs) = sum_below (λ j. length (w.referred j)) (λ j. length (needs p j)) (length p.jobs) few_referred in
-      let e : notes_part p w.looked ≤ notes_part p w.referred = sum_below (λ j. length (w.looked j)) (λ j. length (w.referred j)) (length p.jobs) few_looked in
-      whole (jobs_part p w) (commands_part p w) (ops_part p w) (notes_part p w.referred) (notes_part p w.looked) (length w.held) (length p.jobs) (length p.commands) (length p.ops) (sum_to (λ j. length (needs p j)) (length p.jobs)) (sum (map (λ x. length x.needs) p.jobs)) a b c d e all_needs
+      let d : notes_part p w.referred ≤ sum_to (λ j. length (needs p j)) (length p.jobs) = sum_below
+      (λ j. length (w.referred j)) (λ j. length (needs p j)) (length p.jobs) few_referred in
+      let e : notes_part p w.looked ≤ notes_part p w.referred = sum_below (λ j. length (w.looked j))
+      (λ j. length (w.referred j)) (length p.jobs) few_looked in
+      whole (jobs_part p w) (commands_part p w) (ops_part p w) (notes_part p w.referred) (notes_part p w.looked)
+      (length w.held) (length p.jobs) (length p.commands) (length p.ops)
+      (sum_to (λ j. length (needs p j)) (length p.jobs))
+      (sum (map (λ x. length x.needs) p.jobs)) a b c d e all_needs
     where
-      whole : (a b c d e h i j k m n : ℕ) → a ≤ 4 * i → b ≤ 1 * j → c ≤ 5 * k → d ≤ m → e ≤ d → m ≡ n → a + b + c + d + e + (d - h) ≤ 4 * i + j + 5 * k + 3 * n
+      whole : (a b c d e h i j k m n : ℕ) → a ≤ 4 * i → b ≤ 1 * j → c ≤ 5 * k → d ≤ m → e ≤ d → m ≡ n →
+          a + b + c + d + e + (d - h) ≤ 4 * i + j + 5 * k + 3 * n
       whole a b c d e h i j k m n s t u v x y = omega arith
 
 -- Histories
@@ -477,30 +566,36 @@ pub record Reaches (p : Plan) (end : PointState) : Type 0 where
   pub links : Links p past end
   pub facts : KeepsFacts p end
 
-reaches : (p : Plan) (h : List Event) (w : PointState) (xs : List Event) → Links p h w → KeepsFacts p w → HistoryFrom p w xs → Reaches p (fold (after_event p) w xs)
+reaches : (p : Plan) (h : List Event) (w : PointState) (xs : List Event) → Links p h w → KeepsFacts p w →
+    HistoryFrom p w xs → Reaches p (fold (after_event p) w xs)
 reaches p h w [] links k r = record { past = h; links = links; facts = k }
 reaches p h w (x ∷ xs) links k r =
     reaches p (x ∷ h) (after_event p w x) xs (one_event p h w x links r.0).1 (keeps_after p h w links k x r.0) r.1
 
-pub history_reaches : (p : Plan) → (history : List Event) → HistoryFrom p (opening_points p) history → Reaches p (points_after p history)
+pub history_reaches : (p : Plan) → (history : List Event) → HistoryFrom p (opening_points p) history →
+    Reaches p (points_after p history)
 history_reaches p history r = reaches p [] (opening_points p) history (at_opening p) (keeps_opening p) r
 
-counts : (p : Plan) → IsWellFormed p → (h : List Event) (w : PointState) (xs : List Event) → Links p h w → KeepsFacts p w → HistoryFrom p w xs → measure p (fold (after_event p) w xs) ≡ measure p w + length xs
+counts : (p : Plan) → IsWellFormed p → (h : List Event) (w : PointState) (xs : List Event) → Links p h w →
+    KeepsFacts p w → HistoryFrom p w xs → measure p (fold (after_event p) w xs) ≡ measure p w + length xs
 counts p wf h w [] links k r = omega arith
 counts p wf h w (x ∷ xs) links k r =
-    let c = counts p wf (x ∷ h) (after_event p w x) xs (one_event p h w x links r.0).1 (keeps_after p h w links k x r.0) r.1 in
+    let c = counts p wf (x ∷ h) (after_event p w x) xs (one_event p h w x links r.0).1
+    (keeps_after p h w links k x r.0) r.1 in
     let up = rises p wf h w links k x r.0 in
     omega arith
 
 -- The measure counts the events.
-pub history_counted : (p : Plan) → IsWellFormed p → (history : List Event) → HistoryFrom p (opening_points p) history → measure p (points_after p history) ≡ length history
+pub history_counted : (p : Plan) → IsWellFormed p → (history : List Event) → HistoryFrom p (opening_points p) history →
+    measure p (points_after p history) ≡ length history
 history_counted p wf history r =
     let c = counts p wf [] (opening_points p) history (at_opening p) (keeps_opening p) r in
     let o = measure_opening p in
     omega arith
 
 -- No history is longer than the acts of its plan.
-pub history_bounded : (p : Plan) → IsWellFormed p → KeepsHostOrder p → (history : List Event) → HistoryFrom p (opening_points p) history → length history ≤ acts p
+pub history_bounded : (p : Plan) → IsWellFormed p → KeepsHostOrder p → (history : List Event) →
+    HistoryFrom p (opening_points p) history → length history ≤ acts p
 history_bounded p wf host history r =
     let small = measure_small p host (points_after p history) (history_reaches p history r).facts in
     let c = history_counted p wf history r in

@@ -1,13 +1,12 @@
 -- The tasks of all programs are different: an event is that of one task at most.
-use Rattle.vq_model.proofs.Filters.{filter-has_cases}
-use Rattle.vq_model.proofs.Filters.{rising_filter}
-use Rattle.vq_model.proofs.Numbers.{rising_range}
 use Rattle.std.proofs.Common.{◌≡◌, ℕ, zero, suc, ◌+◌, ◌&&◌, ◌||◌, Bool, true, false, not, if◌then◌else◌, List, [], ◌∷◌}
 use Rattle.std.proofs.Common.{◌++◌, length, map, filter, Option, Some, None, refl, sym, subst, ap, ◌∙◌, ◌⊎◌, inl, inr}
 use Rattle.std.proofs.Common.{arith, nat_lt, ◌==◌}
 use Rattle.std.specs.List.{list_all, flat_map, range_with_len, enumerate_from, slice_get}
 use Rattle.std.specs.Option.{option_map_or}
 use Rattle.std.proofs.lemmas.Bool.{false≢true, eqb-true, ne_eqb}
+use Rattle.vq_model.proofs.Filters.{filter-has_cases, rising_filter}
+use Rattle.vq_model.proofs.Numbers.{rising_range}
 use Rattle.vq_model.specs.declared.script.ActorName.{ActorName}
 use Rattle.vq_model.specs.declared.script.ActorName.TheVariants.{Host as HostActor, Submit as SubmitActor}
 use Rattle.vq_model.specs.declared.script.ActorName.TheVariants.{Ring as RingActor}
@@ -47,14 +46,16 @@ among_either u [] ys m = inr m
 among_either u (x ∷ xs) ys (inl e) = inl (inl e)
 among_either u (x ∷ xs) ys (inr m) = elim (among_either u xs ys m) [ inl r ↦ inl (inr r) | inr r ↦ inr r ]
 
-apart_append : (xs ys : List Task) → AreApart xs → AreApart ys → ((t u : Task) → Among t xs → Among u ys → Differ t u) → AreApart (xs ++ ys)
+apart_append : (xs ys : List Task) → AreApart xs → AreApart ys → ((t u : Task) → Among t xs → Among u ys → Differ t u) →
+    AreApart (xs ++ ys)
 apart_append [] ys k l f = l
 apart_append (x ∷ xs) ys k l f = (
   λ u m. elim (among_either u xs ys m) [ inl a ↦ k.0 u a | inr b ↦ f x u (inl refl) b ],
   apart_append xs ys k.1 l (λ t u a b. f t u (inr a) b),
 )
 
-pub among_flat : (f : ℕ → List Task) (js : List ℕ) (t : Task) → Among t (flat_map f js) → (j : ℕ) × (has js j ≡ true) × Among t (f j)
+pub among_flat : (f : ℕ → List Task) (js : List ℕ) (t : Task) → Among t (flat_map f js) →
+    (j : ℕ) × (has js j ≡ true) × Among t (f j)
 among_flat f [] t m = absurd m
 among_flat f (j ∷ js) t m =
     elim (among_either t (f j) (flat_map f js) m) [
@@ -128,7 +129,8 @@ of_start : (p : Plan) (x : Event) (j : ℕ) → IsOf x (Start j) → JobOf p x j
 of_start p (Starts i) j h = (h, refl)
 of_start p other j h = absurd h
 
-of_apply : (p : Plan) (x : Event) (j c : ℕ) → has (commands_of p j) c ≡ true → IsOf x (Apply j c) → JobOf p x j × (code x ≡ 5)
+of_apply : (p : Plan) (x : Event) (j c : ℕ) → has (commands_of p j) c ≡ true → IsOf x (Apply j c) →
+    JobOf p x j × (code x ≡ 5)
 of_apply p (Applies i d) j c g h = (subst (λ (z : ℕ). has (commands_of p j) z ≡ true) (sym h) g, refl)
 of_apply p other j c g h = absurd h
 
@@ -190,10 +192,13 @@ record Part (p : Plan) (j : ℕ) (ts : List Task) (codes : List ℕ) : Type 0 wh
   kinds : (t : Task) → Among t ts → (x : Event) → IsOf x t → JobOf p x j × (has codes (code x) ≡ true)
 
 module _ (p : Plan) (wf : IsWellFormed p) (j : ℕ) where
-  join : (xs ys : List Task) (cs ds : List ℕ) → Part p j xs cs → Part p j ys ds → list_all (λ c. not (has ds c)) cs ≡ true → Part p j (xs ++ ys) (cs ++ ds)
+  join : (xs ys : List Task) (cs ds : List ℕ) → Part p j xs cs → Part p j ys ds →
+      list_all (λ c. not (has ds c)) cs ≡ true → Part p j (xs ++ ys) (cs ++ ds)
   join xs ys cs ds k l d =
       record {
-        apart = apart_append xs ys k.apart l.apart (λ t u a b x m n. clash (has ds (code x)) (l.kinds u b x n).1 (list_all_has (λ c. not (has ds c)) cs (code x) d (k.kinds t a x m).1));
+        apart = apart_append xs ys k.apart l.apart
+            (λ t u a b x m n. clash (has ds (code x)) (l.kinds u b x n).1
+            (list_all_has (λ c. not (has ds c)) cs (code x) d (k.kinds t a x m).1));
         kinds = λ t m x h. elim (among_either t xs ys m) [
           | inl a ↦ let r = k.kinds t a x h in (r.0, has-append_left cs ds (code x) r.1)
           | inr b ↦ let r = l.kinds t b x h in (r.0, has-append_right cs ds (code x) r.1)
@@ -212,7 +217,8 @@ module _ (p : Plan) (wf : IsWellFormed p) (j : ℕ) where
       all_apart (u ∷ us) g = (λ v m x a b. g u (inl refl) x a, all_apart us (λ t m. g t (inr m)))
 
   no_map : (f : ℕ → Task) (es : List ℕ) → ((e : ℕ) (x : Event) → IsOf x (f e) → ⊥) → Part p j (map f es) []
-  no_map f es g = no_events (map f es) (λ t m x h. let r = among_mapped f es t m in g r.0 x (subst (IsOf x) (sym r.2) h))
+  no_map f es g = no_events (map f es)
+      (λ t m x h. let r = among_mapped f es t m in g r.0 x (subst (IsOf x) (sym r.2) h))
 
   no_waits : (ns : List Need) → Part p j (map (λ n. AwaitNeeds (n ∷ [])) ns) []
   no_waits ns = no_events (map (λ n. AwaitNeeds (n ∷ [])) ns) (none ns)
@@ -235,12 +241,15 @@ module _ (p : Plan) (wf : IsWellFormed p) (j : ℕ) where
       record {
         apart = (λ u m. absurd m, tt);
         kinds = λ u m x h. elim m [
-          | inl e ↦ let r = f x (subst (IsOf x) (sym e) h) in (r.0, subst (λ (z : ℕ). has (c ∷ []) z ≡ true) (sym r.1) (has_here c []))
+          | inl e ↦ let r = f x (subst (IsOf x) (sym e) h) in
+              (r.0, subst (λ (z : ℕ). has (c ∷ []) z ≡ true) (sym r.1) (has_here c []))
           | inr o ↦ absurd o
         ];
       }
 
-  mapped_tasks : (f : ℕ → Task) (c : ℕ) (es : List ℕ) → AreRising es → ((e : ℕ) → has es e ≡ true → (x : Event) → IsOf x (f e) → JobOf p x j × (code x ≡ c)) → ((e g : ℕ) (x : Event) → IsOf x (f e) → IsOf x (f g) → e ≡ g) → Part p j (map f es) (c ∷ [])
+  mapped_tasks : (f : ℕ → Task) (c : ℕ) (es : List ℕ) → AreRising es →
+      ((e : ℕ) → has es e ≡ true → (x : Event) → IsOf x (f e) → JobOf p x j × (code x ≡ c)) →
+      ((e g : ℕ) (x : Event) → IsOf x (f e) → IsOf x (f g) → e ≡ g) → Part p j (map f es) (c ∷ [])
   mapped_tasks f c es rising k s =
       record {
         apart = all_apart es rising;
@@ -265,13 +274,17 @@ module _ (p : Plan) (wf : IsWellFormed p) (j : ℕ) where
   job_of_signal e m = wf.of_job e j m
 
   takes_tasks : Part p j (takes p j) (1 ∷ [])
-  takes_tasks = mapped_tasks (λ e. Take e (chain_or p e)) 1 (signals_of p j) (wf.signals j) (λ e m x h. of_take p x e (chain_or p e) j (job_of_signal e m) h) (λ e g x a b. same_take x e (chain_or p e) g (chain_or p g) a b)
+  takes_tasks = mapped_tasks (λ e. Take e (chain_or p e)) 1 (signals_of p j) (wf.signals j)
+      (λ e m x h. of_take p x e (chain_or p e) j (job_of_signal e m) h)
+      (λ e g x a b. same_take x e (chain_or p e) g (chain_or p g) a b)
 
   binds_tasks : Part p j (map Bind (signals_of p j)) (3 ∷ [])
-  binds_tasks = mapped_tasks Bind 3 (signals_of p j) (wf.signals j) (λ e m x h. of_bind p x e j (job_of_signal e m) h) (λ e g x a b. same_bind x e g a b)
+  binds_tasks = mapped_tasks Bind 3 (signals_of p j) (wf.signals j) (λ e m x h. of_bind p x e j (job_of_signal e m) h)
+      (λ e g x a b. same_bind x e g a b)
 
   signals_tasks : Part p j (map Signal (signals_of p j)) (6 ∷ [])
-  signals_tasks = mapped_tasks Signal 6 (signals_of p j) (wf.signals j) (λ e m x h. of_signal p x e j (job_of_signal e m) h) (λ e g x a b. same_signal x e g a b)
+  signals_tasks = mapped_tasks Signal 6 (signals_of p j) (wf.signals j)
+      (λ e m x h. of_signal p x e j (job_of_signal e m) h) (λ e g x a b. same_signal x e g a b)
 
   moves_tasks : Part p j (moves_batch p j) (1 ∷ 2 ∷ 3 ∷ [])
   moves_tasks =
@@ -285,19 +298,22 @@ module _ (p : Plan) (wf : IsWellFormed p) (j : ℕ) where
 
   submits_tasks : Part p j (submits_batch p j) (1 ∷ 2 ∷ 3 ∷ [])
   submits_tasks =
-      join (AwaitSubmitted j ∷ []) (moves_batch p j) [] (1 ∷ 2 ∷ 3 ∷ []) (no_events (AwaitSubmitted j ∷ []) (λ t m x h. elim m [
+      join (AwaitSubmitted j ∷ []) (moves_batch p j) [] (1 ∷ 2 ∷ 3 ∷ [])
+      (no_events (AwaitSubmitted j ∷ []) (λ t m x h. elim m [
         | inl e ↦ no_submitted x j (subst (IsOf x) (sym e) h)
         | inr o ↦ o
       ])) moves_tasks refl
 
   -- a command of those that are left
-  in_commands : (cs : List ℕ) (k : ℕ) (t : Task) → Among t (flat_map (runs_command p j) (enumerate_from k cs)) → (x : Event) → IsOf x t → (c : ℕ) × (has cs c ≡ true) × IsOf x (Apply j c)
+  in_commands : (cs : List ℕ) (k : ℕ) (t : Task) → Among t (flat_map (runs_command p j) (enumerate_from k cs)) →
+      (x : Event) → IsOf x t → (c : ℕ) × (has cs c ≡ true) × IsOf x (Apply j c)
   in_commands [] k t m x h = absurd m
   in_commands (c ∷ cs) k t m x h =
       let ws : List Task = waits_where p j (λ n. nat_lt 1 k && (n.from == k)) in
       elim (among_either t (ws ++ Apply j c ∷ []) (flat_map (runs_command p j) (enumerate_from (k + 1) cs)) m) [
         | inl a ↦ elim (among_either t ws (Apply j c ∷ []) a) [
-          | inl u ↦ absurd (false≢true ((no_waits (filter (λ n. nat_lt 1 k && (n.from == k)) (needs p j))).kinds t u x h).1)
+          | inl u ↦ absurd (false≢true
+              ((no_waits (filter (λ n. nat_lt 1 k && (n.from == k)) (needs p j))).kinds t u x h).1)
           | inr v ↦ elim v [ inl e ↦ (c, has_here c cs, subst (IsOf x) (sym e) h) | inr o ↦ absurd o ]
         ]
         | inr b ↦ let r = in_commands cs (k + 1) t b x h in (r.0, has_there c cs r.0 r.1, r.2)
@@ -309,7 +325,8 @@ module _ (p : Plan) (wf : IsWellFormed p) (j : ℕ) where
       let ws : List Task = waits_where p j (λ n. nat_lt 1 k && (n.from == k)) in
       let waits = no_waits (filter (λ n. nat_lt 1 k && (n.from == k)) (needs p j)) in
       apart_append (ws ++ Apply j c ∷ []) (flat_map (runs_command p j) (enumerate_from (k + 1) cs))
-      (apart_append ws (Apply j c ∷ []) waits.apart (λ u m. absurd m, tt) (λ t u a b x m n. false≢true (waits.kinds t a x m).1))
+      (apart_append ws (Apply j c ∷ []) waits.apart (λ u m. absurd m, tt)
+      (λ t u a b x m n. false≢true (waits.kinds t a x m).1))
       (commands_apart cs (k + 1) r.1)
       (λ t u a b x m n.
       let q = in_commands cs (k + 1) u b x n in
@@ -385,7 +402,8 @@ module _ (p : Plan) (wf : IsWellFormed p) (j : ℕ) where
       (join (a ++ b ++ c ++ d) e (4 ∷ 1 ∷ []) (3 ∷ [])
       (join (a ++ b ++ c) d (4 ∷ []) (1 ∷ [])
       (join (a ++ b) c [] (4 ∷ [])
-      (join a b [] [] (host_waits_tasks (waits_for_any p j)) (no_map AwaitFinished (idle_after p j) (λ i x m. no_finished x i m)) refl)
+      (join a b [] [] (host_waits_tasks (waits_for_any p j))
+      (no_map AwaitFinished (idle_after p j) (λ i x m. no_finished x i m)) refl)
       (one_task (Start j) 4 (λ x m. of_start p x j m)) refl)
       takes_tasks refl)
       binds_tasks refl)
@@ -402,20 +420,28 @@ module _ (p : Plan) (wf : IsWellFormed p) (j : ℕ) where
   all_codes = 0 ∷ 1 ∷ 2 ∷ 3 ∷ 4 ∷ 5 ∷ 6 ∷ 7 ∷ 8 ∷ []
 
   batch_tasks : (b : Bool) → Part p j (Submit j ∷ (if b then moves_batch p j else [])) (0 ∷ 1 ∷ 2 ∷ 3 ∷ [])
-  batch_tasks b = join (Submit j ∷ []) (if b then moves_batch p j else []) (0 ∷ []) (1 ∷ 2 ∷ 3 ∷ []) (one_task (Submit j) 0 (λ x h. of_submit p x j h)) (moved_tasks b) refl
+  batch_tasks b = join (Submit j ∷ []) (if b then moves_batch p j else []) (0 ∷ []) (1 ∷ 2 ∷ 3 ∷ [])
+      (one_task (Submit j) 0 (λ x h. of_submit p x j h)) (moved_tasks b) refl
 
-  host_apart : (b : Bool) → AreApart (if b then does_step p j else Submit j ∷ (if of_job (λ x. is_immediate_lane p x.lane) false p j then moves_batch p j else []))
+  host_apart : (b : Bool) →
+      AreApart (if b then does_step p j else Submit j ∷
+      (if of_job (λ x. is_immediate_lane p x.lane) false p j then moves_batch p j else []))
   host_apart true = does_tasks.apart
   host_apart false = (batch_tasks (of_job (λ x. is_immediate_lane p x.lane) false p j)).apart
 
-  host_job : (b : Bool) (t : Task) → Among t (if b then does_step p j else Submit j ∷ (if of_job (λ x. is_immediate_lane p x.lane) false p j then moves_batch p j else [])) → (x : Event) → IsOf x t → JobOf p x j
+  host_job : (b : Bool) (t : Task) →
+      Among t (if b then does_step p j else Submit j ∷
+      (if of_job (λ x. is_immediate_lane p x.lane) false p j then moves_batch p j else [])) → (x : Event) → IsOf x t →
+      JobOf p x j
   host_job true t m x h = (does_tasks.kinds t m x h).0
   host_job false t m x h = ((batch_tasks (of_job (λ x. is_immediate_lane p x.lane) false p j)).kinds t m x h).0
 
 -- Jobs one after another
 
 module _ (p : Plan) (wf : IsWellFormed p) where
-  flat_apart : (f : ℕ → List Task) → ((j : ℕ) → AreApart (f j)) → ((j : ℕ) (t : Task) → Among t (f j) → (x : Event) → IsOf x t → JobOf p x j) → (js : List ℕ) → AreRising js → AreApart (flat_map f js)
+  flat_apart : (f : ℕ → List Task) → ((j : ℕ) → AreApart (f j)) →
+      ((j : ℕ) (t : Task) → Among t (f j) → (x : Event) → IsOf x t → JobOf p x j) → (js : List ℕ) → AreRising js →
+      AreApart (flat_map f js)
   flat_apart f k o [] r = tt
   flat_apart f k o (j ∷ js) r =
       apart_append (f j) (flat_map f js) (k j) (flat_apart f k o js r.1) (λ t u a b x m n.
@@ -429,16 +455,21 @@ module _ (p : Plan) (wf : IsWellFormed p) where
 
   -- In each program the tasks are apart.
   pub program_apart : (a : ActorName) → AreApart (program p a)
-  program_apart HostActor = flat_apart (host_does p) (λ j. host_apart p wf j (is_host_step p j)) (λ j t m x h. host_job p wf j (is_host_step p j) t m x h) (range_with_len 0 (length p.jobs)) (rising_range (length p.jobs) 0)
-  program_apart (SubmitActor q) = flat_apart (submits_batch p) (λ j. (submits_tasks p wf j).apart) (λ j t m x h. ((submits_tasks p wf j).kinds t m x h).0) (jobs_of_lane p (QueueLane q)) (lane_rises (QueueLane q))
-  program_apart (RingActor q) = flat_apart (runs_batch p) (λ j. (runs_tasks p wf j).apart) (λ j t m x h. ((runs_tasks p wf j).kinds t m x h).0) (jobs_of_lane p (QueueLane q)) (lane_rises (QueueLane q))
+  program_apart HostActor = flat_apart (host_does p) (λ j. host_apart p wf j (is_host_step p j))
+      (λ j t m x h. host_job p wf j (is_host_step p j) t m x h) (range_with_len 0 (length p.jobs))
+      (rising_range (length p.jobs) 0)
+  program_apart (SubmitActor q) = flat_apart (submits_batch p) (λ j. (submits_tasks p wf j).apart)
+      (λ j t m x h. ((submits_tasks p wf j).kinds t m x h).0) (jobs_of_lane p (QueueLane q)) (lane_rises (QueueLane q))
+  program_apart (RingActor q) = flat_apart (runs_batch p) (λ j. (runs_tasks p wf j).apart)
+      (λ j t m x h. ((runs_tasks p wf j).kinds t m x h).0) (jobs_of_lane p (QueueLane q)) (lane_rises (QueueLane q))
 
 -- Whose an event is
 
 -- the actor of an event of this kind in this lane
 abbrev pub owner_in : Plan → Lane → ℕ → ActorName
 owner_in p HostLane c = HostActor
-owner_in p (QueueLane q) c = if has (0 ∷ []) c then HostActor else if has (1 ∷ 2 ∷ 3 ∷ []) c then (if is_immediate_queue p.script q then HostActor else SubmitActor q) else RingActor q
+owner_in p (QueueLane q) c = if has (0 ∷ []) c then HostActor else if has (1 ∷ 2 ∷ 3 ∷ []) c then
+    (if is_immediate_queue p.script q then HostActor else SubmitActor q) else RingActor q
 
 record Owned (p : Plan) (x : Event) (a : ActorName) : Type 0 where
   job : ℕ
@@ -447,13 +478,16 @@ record Owned (p : Plan) (x : Event) (a : ActorName) : Type 0 where
 
 module _ (p : Plan) (wf : IsWellFormed p) where
   pub in_queue : (q j : ℕ) → has (jobs_of_lane p (QueueLane q)) j ≡ true → lane_of_job p j ≡ QueueLane q
-  in_queue q j m = by_job (slice_get p.jobs j) (filter-has_cases (λ i. of_job (λ x. same_lane (QueueLane q) x.lane) false p i) (range_with_len 0 (length p.jobs)) j m).1
+  in_queue q j m = by_job (slice_get p.jobs j)
+      (filter-has_cases (λ i. of_job (λ x. same_lane (QueueLane q) x.lane) false p i)
+      (range_with_len 0 (length p.jobs)) j m).1
     where
       by_lane : (l : Lane) → same_lane (QueueLane q) l ≡ true → l ≡ QueueLane q
       by_lane HostLane h = absurd (false≢true h)
       by_lane (QueueLane r) h = ap (λ (z : ℕ). QueueLane z) (sym (eqb-true q r h))
 
-      by_job : (o : Option PlanJob) → option_map_or (λ x. same_lane (QueueLane q) x.lane) o false ≡ true → option_map_or (λ x. x.lane) o HostLane ≡ QueueLane q
+      by_job : (o : Option PlanJob) → option_map_or (λ x. same_lane (QueueLane q) x.lane) o false ≡ true →
+          option_map_or (λ x. x.lane) o HostLane ≡ QueueLane q
       by_job None h = absurd (false≢true h)
       by_job (Some x) h = by_lane x.lane h
 
@@ -464,7 +498,8 @@ module _ (p : Plan) (wf : IsWellFormed p) where
       by_lane HostLane h = refl
       by_lane (QueueLane r) h = absurd (false≢true h)
 
-      by_job : (o : Option PlanJob) → option_map_or (λ x. is_host_lane x.lane) o false ≡ true → option_map_or (λ x. x.lane) o HostLane ≡ HostLane
+      by_job : (o : Option PlanJob) → option_map_or (λ x. is_host_lane x.lane) o false ≡ true →
+          option_map_or (λ x. x.lane) o HostLane ≡ HostLane
       by_job None h = absurd (false≢true h)
       by_job (Some x) h = by_lane x.lane h
 
@@ -473,22 +508,31 @@ module _ (p : Plan) (wf : IsWellFormed p) where
 
   submits_own : (l : Lane) (c : ℕ) → has (0 ∷ []) c ≡ true → owner_in p l c ≡ HostActor
   submits_own HostLane c m = refl
-  submits_own (QueueLane q) c m = ap (λ (b : Bool). if b then HostActor else if has (1 ∷ 2 ∷ 3 ∷ []) c then (if is_immediate_queue p.script q then HostActor else SubmitActor q) else RingActor q) m
+  submits_own (QueueLane q) c m = ap
+      (λ (b : Bool). if b then HostActor else if has (1 ∷ 2 ∷ 3 ∷ []) c then
+      (if is_immediate_queue p.script q then HostActor else SubmitActor q) else RingActor q) m
 
-  moved_own : (l : Lane) (c : ℕ) → is_immediate_lane p l ≡ true → has (1 ∷ 2 ∷ 3 ∷ []) c ≡ true → owner_in p l c ≡ HostActor
+  moved_own : (l : Lane) (c : ℕ) → is_immediate_lane p l ≡ true → has (1 ∷ 2 ∷ 3 ∷ []) c ≡ true →
+      owner_in p l c ≡ HostActor
   moved_own HostLane c i m = refl
   moved_own (QueueLane q) c i m = either (has (0 ∷ []) c)
     where
-      either : (b : Bool) → (if b then HostActor else if has (1 ∷ 2 ∷ 3 ∷ []) c then (if is_immediate_queue p.script q then HostActor else SubmitActor q) else RingActor q) ≡ HostActor
+      either : (b : Bool) →
+          (if b then HostActor else if has (1 ∷ 2 ∷ 3 ∷ []) c then
+          (if is_immediate_queue p.script q then HostActor else SubmitActor q) else RingActor q) ≡ HostActor
       either true = refl
       either false =
-          ap (λ (b : Bool). if b then (if is_immediate_queue p.script q then HostActor else SubmitActor q) else RingActor q) m
+          ap (λ (b : Bool). if b then
+          (if is_immediate_queue p.script q then HostActor else SubmitActor q) else RingActor q) m
           ∙ ap (λ (b : Bool). if b then HostActor else SubmitActor q) i
 
-  submit_own : (q c : ℕ) → is_immediate_queue p.script q ≡ false → has (1 ∷ 2 ∷ 3 ∷ []) c ≡ true → owner_in p (QueueLane q) c ≡ SubmitActor q
+  submit_own : (q c : ℕ) → is_immediate_queue p.script q ≡ false → has (1 ∷ 2 ∷ 3 ∷ []) c ≡ true →
+      owner_in p (QueueLane q) c ≡ SubmitActor q
   submit_own q c i m =
-      ap (λ (b : Bool). if b then HostActor else if has (1 ∷ 2 ∷ 3 ∷ []) c then (if is_immediate_queue p.script q then HostActor else SubmitActor q) else RingActor q) (not_zero c m)
-      ∙ (ap (λ (b : Bool). if b then (if is_immediate_queue p.script q then HostActor else SubmitActor q) else RingActor q) m
+      ap (λ (b : Bool). if b then HostActor else if has (1 ∷ 2 ∷ 3 ∷ []) c then
+      (if is_immediate_queue p.script q then HostActor else SubmitActor q) else RingActor q) (not_zero c m)
+      ∙ (ap (λ (b : Bool). if b then
+      (if is_immediate_queue p.script q then HostActor else SubmitActor q) else RingActor q) m
       ∙ ap (λ (b : Bool). if b then HostActor else SubmitActor q) i)
     where
       not_zero : (n : ℕ) → has (1 ∷ 2 ∷ 3 ∷ []) n ≡ true → has (0 ∷ []) n ≡ false
@@ -515,35 +559,65 @@ module _ (p : Plan) (wf : IsWellFormed p) where
   owned (SubmitActor q) act t m x h =
       let r = among_flat (submits_batch p) (jobs_of_lane p (QueueLane q)) t m in
       let k = (submits_tasks p wf r.0).kinds t r.2 x h in
-      record { job = r.0; of_job = k.0; owner = ap (λ l. owner_in p l (code x)) (in_queue q r.0 r.1) ∙ submit_own q (code x) act k.1 }
+      record {
+        job = r.0;
+        of_job = k.0;
+        owner = ap (λ l. owner_in p l (code x)) (in_queue q r.0 r.1) ∙ submit_own q
+            (code x) act k.1;
+      }
   owned (RingActor q) act t m x h =
       let r = among_flat (runs_batch p) (jobs_of_lane p (QueueLane q)) t m in
       let k = (runs_tasks p wf r.0).kinds t r.2 x h in
-      record { job = r.0; of_job = k.0; owner = ap (λ l. owner_in p l (code x)) (in_queue q r.0 r.1) ∙ ring_own q (code x) k.1 }
+      record {
+        job = r.0;
+        of_job = k.0;
+        owner = ap (λ l. owner_in p l (code x)) (in_queue q r.0 r.1) ∙ ring_own q
+            (code x) k.1;
+      }
   owned HostActor act t m x h =
       let r = among_flat (host_does p) (range_with_len 0 (length p.jobs)) t m in
       by_host r.0 (is_host_step p r.0) refl r.2
     where
-      by_moved : (j : ℕ) (b : Bool) → of_job (λ y. is_immediate_lane p y.lane) false p j ≡ b → Among t (Submit j ∷ (if b then moves_batch p j else [])) → Owned p x HostActor
+      by_moved : (j : ℕ) (b : Bool) → of_job (λ y. is_immediate_lane p y.lane) false p j ≡ b →
+          Among t (Submit j ∷ (if b then moves_batch p j else [])) → Owned p x HostActor
       by_moved j b e (inl i) =
           let k = of_submit p x j (subst (IsOf x) (sym i) h) in
-          record { job = j; of_job = k.0; owner = submits_own (lane_of_job p j) (code x) (subst (λ (z : ℕ). has (0 ∷ []) z ≡ true) (sym k.1) refl) }
+          record {
+            job = j;
+            of_job = k.0;
+            owner = submits_own (lane_of_job p j) (code x)
+                (subst (λ (z : ℕ). has (0 ∷ []) z ≡ true) (sym k.1) refl);
+          }
       by_moved j false e (inr m) = absurd m
       by_moved j true e (inr m) =
           let k = (moves_tasks p wf j).kinds t m x h in
-          record { job = j; of_job = k.0; owner = moved_own (lane_of_job p j) (code x) (by_job (slice_get p.jobs j) e) k.1 }
+          record {
+            job = j;
+            of_job = k.0;
+            owner = moved_own (lane_of_job p j) (code x)
+                (by_job (slice_get p.jobs j) e) k.1;
+          }
         where
-          by_job : (o : Option PlanJob) → option_map_or (λ y. is_immediate_lane p y.lane) o false ≡ true → is_immediate_lane p (option_map_or (λ y. y.lane) o HostLane) ≡ true
+          by_job : (o : Option PlanJob) → option_map_or (λ y. is_immediate_lane p y.lane) o false ≡ true →
+              is_immediate_lane p (option_map_or (λ y. y.lane) o HostLane) ≡ true
           by_job None g = absurd (false≢true g)
           by_job (Some y) g = g
 
-      by_host : (j : ℕ) (b : Bool) → is_host_step p j ≡ b → Among t (if b then does_step p j else Submit j ∷ (if of_job (λ y. is_immediate_lane p y.lane) false p j then moves_batch p j else [])) → Owned p x HostActor
+      by_host : (j : ℕ) (b : Bool) → is_host_step p j ≡ b →
+          Among t (if b then does_step p j else Submit j ∷
+          (if of_job (λ y. is_immediate_lane p y.lane) false p j then moves_batch p j else [])) → Owned p x HostActor
       by_host j true e m =
-          record { job = j; of_job = ((does_tasks p wf j).kinds t m x h).0; owner = ap (λ l. owner_in p l (code x)) (host_lane j e) }
+          record {
+            job = j;
+            of_job = ((does_tasks p wf j).kinds t m x h).0;
+            owner = ap (λ l. owner_in p l (code x))
+                (host_lane j e);
+          }
       by_host j false e m = by_moved j (of_job (λ y. is_immediate_lane p y.lane) false p j) refl m
 
   -- An event is that of a task in one program only.
-  pub programs_apart : (a b : ActorName) → IsActor p a → IsActor p b → (t u : Task) → Among t (program p a) → Among u (program p b) → (x : Event) → IsOf x t → IsOf x u → a ≡ b
+  pub programs_apart : (a b : ActorName) → IsActor p a → IsActor p b → (t u : Task) → Among t (program p a) →
+      Among u (program p b) → (x : Event) → IsOf x t → IsOf x u → a ≡ b
   programs_apart a b i j t u m n x g h =
       let k = owned a i t m x g in
       let l = owned b j u n x h in

@@ -1,23 +1,25 @@
 -- The jobs that an actor's program finishes are those of its lane, in order.
-use Rattle.std.proofs.Common.{◌≡◌, ℕ, ◌&&◌, ◌==◌, nat_lt, Bool, true, false, if◌then◌else◌, List, [], ◌∷◌, ◌++◌, length, map, filter}
-use Rattle.std.proofs.Common.{Some, refl, sym, ap, ◌∙◌, inl, inr}
+use Rattle.std.proofs.Common.{◌≡◌, ℕ, ◌&&◌, ◌==◌, nat_lt, Bool, true, false, if◌then◌else◌, List, [], ◌∷◌, ◌++◌, length}
+use Rattle.std.proofs.Common.{map, filter, Some, refl, sym, ap, ◌∙◌, inl, inr}
 use Rattle.std.specs.List.{flat_map, range_with_len, enumerate_from}
 use Rattle.std.proofs.lemmas.Bool.{false≢true}
 use Rattle.vq_model.specs.declared.script.ActorName.{ActorName}
-use Rattle.vq_model.specs.declared.script.ActorName.TheVariants.{Host as HostActor, Submit as SubmitActor, Ring as RingActor}
+use Rattle.vq_model.specs.declared.script.ActorName.TheVariants.{Host as HostActor, Submit as SubmitActor}
+use Rattle.vq_model.specs.declared.script.ActorName.TheVariants.{Ring as RingActor}
 use Rattle.vq_model.specs.declared.plan.Lane.{Lane}
 use Rattle.vq_model.specs.declared.plan.Lane.TheVariants.{Host as HostLane, Queue as QueueLane}
 use Rattle.vq_model.specs.declared.plan.Need.{Need}
-use Rattle.vq_model.specs.Plan.{Plan, has, needs, asked, waits_for_any, idle_after, commands_of, signals_of, question, is_silent, is_host_step}
-use Rattle.vq_model.specs.Plan.{of_job, same_lane}
+use Rattle.vq_model.specs.Plan.{Plan, has, needs, asked, waits_for_any, idle_after, commands_of, signals_of, question}
+use Rattle.vq_model.specs.Plan.{is_silent, is_host_step, of_job, same_lane}
 use Rattle.vq_model.specs.Edges.{AtEnd, awaited_at}
 use Rattle.vq_model.specs.Checks.{is_immediate_batch}
 use Rattle.vq_model.proofs.Lists.{has_cases}
 use Rattle.vq_points.specs.Points.{jobs_of_lane, lane_of_actor}
 use Rattle.vq_turns.specs.declared.task.Task.{Task}
-use Rattle.vq_turns.specs.declared.task.Task.TheVariants.{AwaitReleased, AwaitFinished, AwaitBound, AwaitNeeds}
-use Rattle.vq_turns.specs.declared.task.Task.TheVariants.{Submit, Release, Bind, Start, Apply, Signal, Compare, Answer, Finish}
-use Rattle.vq_turns.specs.Programs.{program, waits_where, takes, moves_batch, submits_batch, runs_command, runs_batch, host_waits, does_step, host_does}
+use Rattle.vq_turns.specs.declared.task.Task.TheVariants.{AwaitReleased, AwaitFinished, AwaitBound, AwaitNeeds, Submit}
+use Rattle.vq_turns.specs.declared.task.Task.TheVariants.{Release, Bind, Start, Apply, Signal, Compare, Answer, Finish}
+use Rattle.vq_turns.specs.Programs.{program, waits_where, takes, moves_batch, submits_batch, runs_command, runs_batch}
+use Rattle.vq_turns.specs.Programs.{host_waits, does_step, host_does}
 use Rattle.vq_turn_laws.specs.Tasks.{Among, finishes}
 use Rattle.vq_turn_laws.proofs.HostOrder.{host_same}
 
@@ -33,7 +35,8 @@ FinishNone ts = finishes ts ≡ []
 none_append : (xs ys : List Task) → FinishNone xs → FinishNone ys → FinishNone (xs ++ ys)
 none_append xs ys f g = finishes_append xs ys ∙ (ap (λ us. us ++ finishes ys) f ∙ g)
 
-none_map : {A : Type 0} (f : A → Task) → ((x : A) (ts : List Task) → finishes (f x ∷ ts) ≡ finishes ts) → (xs : List A) → FinishNone (map f xs)
+none_map : {A : Type 0} (f : A → Task) → ((x : A) (ts : List Task) → finishes (f x ∷ ts) ≡ finishes ts) →
+    (xs : List A) → FinishNone (map f xs)
 none_map f g [] = refl
 none_map f g (x ∷ xs) = g x (map f xs) ∙ none_map f g xs
 
@@ -55,12 +58,14 @@ module _ (p : Plan) (j : ℕ) where
   moves_none =
       none_append (map AwaitBound (awaited_at p j AtEnd) ++ takes p j ++ Release j ∷ []) (map Bind (signals_of p j))
       (none_append (map AwaitBound (awaited_at p j AtEnd) ++ takes p j) (Release j ∷ [])
-      (none_append (map AwaitBound (awaited_at p j AtEnd)) (takes p j) (none_map AwaitBound (λ e ts. refl) (awaited_at p j AtEnd)) takes_none)
+      (none_append (map AwaitBound (awaited_at p j AtEnd)) (takes p j)
+      (none_map AwaitBound (λ e ts. refl) (awaited_at p j AtEnd)) takes_none)
       refl)
       (none_map Bind (λ e ts. refl) (signals_of p j))
 
   command_none : (x : ℕ × ℕ) → FinishNone (runs_command p j x)
-  command_none (place, c) = none_append (waits_where p j (λ n. nat_lt 1 place && (n.from == place))) (Apply j c ∷ []) (waits_none _) refl
+  command_none (place, c) = none_append (waits_where p j (λ n. nat_lt 1 place && (n.from == place))) (Apply j c ∷ [])
+      (waits_none _) refl
 
   runs_finish : finishes (runs_batch p j) ≡ j ∷ []
   runs_finish =
@@ -123,17 +128,22 @@ module _ (p : Plan) (j : ℕ) where
   host_finish : finishes (host_does p j) ≡ (if is_host_step p j then j ∷ [] else [])
   host_finish = by_host (is_host_step p j) (is_immediate_batch p j)
     where
-      by_host : (b c : Bool) → finishes (if b then does_step p j else Submit j ∷ (if c then moves_batch p j else [])) ≡ (if b then j ∷ [] else [])
+      by_host : (b c : Bool) →
+          finishes (if b then does_step p j else Submit j ∷ (if c then moves_batch p j else [])) ≡
+          (if b then j ∷ [] else [])
       by_host true c = does_finish
       by_host false true = moves_none
       by_host false false = refl
 
-flat_finish : (f : ℕ → List Task) (test : ℕ → Bool) → ((j : ℕ) → finishes (f j) ≡ (if test j then j ∷ [] else [])) → (js : List ℕ) → finishes (flat_map f js) ≡ filter test js
+flat_finish : (f : ℕ → List Task) (test : ℕ → Bool) → ((j : ℕ) → finishes (f j) ≡ (if test j then j ∷ [] else [])) →
+    (js : List ℕ) → finishes (flat_map f js) ≡ filter test js
 flat_finish f test g [] = refl
 flat_finish f test g (j ∷ js) =
-    finishes_append (f j) (flat_map f js) ∙ (ap (λ us. us ++ finishes (flat_map f js)) (g j) ∙ by_test (test j) (flat_finish f test g js))
+    finishes_append (f j) (flat_map f js) ∙
+    (ap (λ us. us ++ finishes (flat_map f js)) (g j) ∙ by_test (test j) (flat_finish f test g js))
   where
-    by_test : (b : Bool) → finishes (flat_map f js) ≡ filter test js → (if b then j ∷ [] else []) ++ finishes (flat_map f js) ≡ (if b then j ∷ filter test js else filter test js)
+    by_test : (b : Bool) → finishes (flat_map f js) ≡ filter test js →
+        (if b then j ∷ [] else []) ++ finishes (flat_map f js) ≡ (if b then j ∷ filter test js else filter test js)
     by_test true r = ap (λ us. j ∷ us) r
     by_test false r = r
 
@@ -144,11 +154,13 @@ all_filtered (j ∷ js) = ap (λ us. j ∷ us) (all_filtered js)
 same_filtered : (f g : ℕ → Bool) → ((j : ℕ) → f j ≡ g j) → (js : List ℕ) → filter f js ≡ filter g js
 same_filtered f g s js = ap (λ (h : ℕ → Bool). filter h js) (λ i j. s j i)
 
-pub program_finishes : (p : Plan) (a : ActorName) (lane : Lane) → lane_of_actor a ≡ Some lane → finishes (program p a) ≡ jobs_of_lane p lane
+pub program_finishes : (p : Plan) (a : ActorName) (lane : Lane) → lane_of_actor a ≡ Some lane →
+    finishes (program p a) ≡ jobs_of_lane p lane
 program_finishes p HostActor lane s =
     let same : HostLane ≡ lane = let z = s in cc in
     flat_finish (host_does p) (is_host_step p) (host_finish p) (range_with_len 0 (length p.jobs))
-    ∙ (same_filtered (is_host_step p) (λ j. of_job (λ x. same_lane HostLane x.lane) false p j) (λ j. sym (host_same p j)) (range_with_len 0 (length p.jobs))
+    ∙ (same_filtered (is_host_step p) (λ j. of_job (λ x. same_lane HostLane x.lane) false p j)
+    (λ j. sym (host_same p j)) (range_with_len 0 (length p.jobs))
     ∙ ap (jobs_of_lane p) same)
 program_finishes p (SubmitActor q) lane s = absurd (let z = s in cc)
 program_finishes p (RingActor q) lane s =
@@ -163,5 +175,6 @@ submit_finishes p q = none_flat (submits_batch p) (λ j. moves_none p j) (jobs_o
 -- a job that tasks finish has a task for it
 pub finish_among : (ts : List Task) (j : ℕ) → has (finishes ts) j ≡ true → Among (Finish j) ts
 finish_among [] j m = absurd (false≢true m)
-finish_among (Finish i ∷ ts) j m = elim (has_cases i (finishes ts) j m) [ inl e ↦ inl (ap Finish e) | inr r ↦ inr (finish_among ts j r) ]
+finish_among (Finish i ∷ ts) j m = elim
+    (has_cases i (finishes ts) j m) [ inl e ↦ inl (ap Finish e) | inr r ↦ inr (finish_among ts j r) ]
 finish_among (other ∷ ts) j m = inr (finish_among ts j m)

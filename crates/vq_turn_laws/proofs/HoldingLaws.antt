@@ -27,11 +27,13 @@ use Rattle.vq_turn_laws.proofs.References.{same_self, held_few, held_counts}
 
 -- Lists of what is held
 
-with_counts : (test : Held → Bool) (h : Held) (hs : List Held) → count_by test (with_holding h hs) ≡ one (test h) + count_by test hs
+with_counts : (test : Held → Bool) (h : Held) (hs : List Held) →
+    count_by test (with_holding h hs) ≡ one (test h) + count_by test hs
 with_counts test h [] = count_cons test h []
 with_counts test h (x ∷ xs) = by_test (nat_lt h.need x.need) (with_counts test h xs)
   where
-    by_test : (b : Bool) → count_by test (with_holding h xs) ≡ one (test h) + count_by test xs → count_by test (if b then h ∷ x ∷ xs else x ∷ with_holding h xs) ≡ one (test h) + count_by test (x ∷ xs)
+    by_test : (b : Bool) → count_by test (with_holding h xs) ≡ one (test h) + count_by test xs →
+        count_by test (if b then h ∷ x ∷ xs else x ∷ with_holding h xs) ≡ one (test h) + count_by test (x ∷ xs)
     by_test true r = count_cons test h (x ∷ xs)
     by_test false r = let u = count_cons test x (with_holding h xs) in let v = count_cons test x xs in omega arith
 
@@ -39,17 +41,22 @@ with_here : (h : Held) (hs : List Held) → held_for h.need hs ≡ None → held
 with_here h [] n = ap (λ (b : Bool). if b then Some h else None) (eq-eqb h.need h.need refl)
 with_here h (x ∷ xs) n = by_test (nat_lt h.need x.need) (x.need == h.need) refl (with_here h xs)
   where
-    by_test : (b c : Bool) → (x.need == h.need) ≡ c → (held_for h.need xs ≡ None → held_for h.need (with_holding h xs) ≡ Some h) → held_for h.need (if b then h ∷ x ∷ xs else x ∷ with_holding h xs) ≡ Some h
+    by_test : (b c : Bool) → (x.need == h.need) ≡ c →
+        (held_for h.need xs ≡ None → held_for h.need (with_holding h xs) ≡ Some h) →
+        held_for h.need (if b then h ∷ x ∷ xs else x ∷ with_holding h xs) ≡ Some h
     by_test true c e f = ap (λ (b : Bool). if b then Some h else held_for h.need (x ∷ xs)) (eq-eqb h.need h.need refl)
-    by_test false true e f = absurd (let z = sym (ap (λ (b : Bool). if b then Some x else held_for h.need xs) e) ∙ n in cc)
+    by_test false true e f = absurd
+        (let z = sym (ap (λ (b : Bool). if b then Some x else held_for h.need xs) e) ∙ n in cc)
     by_test false false e f =
-        ap (λ (b : Bool). if b then Some x else held_for h.need (with_holding h xs)) e ∙ f (sym (ap (λ (b : Bool). if b then Some x else held_for h.need xs) e) ∙ n)
+        ap (λ (b : Bool). if b then Some x else held_for h.need (with_holding h xs)) e ∙ f
+        (sym (ap (λ (b : Bool). if b then Some x else held_for h.need xs) e) ∙ n)
 
 with_there : (h : Held) (hs : List Held) (k : ℕ) → (k ≡ h.need → ⊥) → held_for k (with_holding h hs) ≡ held_for k hs
 with_there h [] k n = ap (λ (b : Bool). if b then Some h else None) (ne_eqb h.need k (λ e. n (sym e)))
 with_there h (x ∷ xs) k n = by_test (nat_lt h.need x.need) (with_there h xs k n)
   where
-    by_test : (b : Bool) → held_for k (with_holding h xs) ≡ held_for k xs → held_for k (if b then h ∷ x ∷ xs else x ∷ with_holding h xs) ≡ held_for k (x ∷ xs)
+    by_test : (b : Bool) → held_for k (with_holding h xs) ≡ held_for k xs →
+        held_for k (if b then h ∷ x ∷ xs else x ∷ with_holding h xs) ≡ held_for k (x ∷ xs)
     by_test true r = ap (λ (b : Bool). if b then Some h else held_for k (x ∷ xs)) (ne_eqb h.need k (λ e. n (sym e)))
     by_test false r = ap (λ o. if x.need == k then Some x else o) r
 
@@ -70,20 +77,30 @@ module _ (p : Plan) (e : ℕ) (h : Held) (hs : List Held) where
   held_above k [] l = refl
   held_above k (n ∷ ns) l =
       let r = held_above (k + 1) ns (omega arith) in
-      let s : bit (is_some (held_for k (with_holding h hs)) && resolves p e n) ≡ bit (is_some (held_for k hs) && resolves p e n) = ap (λ o. bit (is_some o && resolves p e n)) (with_there h hs k (λ q. omega arith)) in
+      let s : bit (is_some (held_for k (with_holding h hs)) && resolves p e n) ≡ bit
+      (is_some (held_for k hs) && resolves p e n) = ap (λ o. bit (is_some o && resolves p e n))
+      (with_there h hs k (λ q. omega arith)) in
       omega arith
 
-  held_more : (k : ℕ) (ns : List Need) (n : Need) → held_for h.need hs ≡ None → AtIndex k ns h.need n → needs_held p e (with_holding h hs) k ns ≡ needs_held p e hs k ns + bit (resolves p e n)
+  held_more : (k : ℕ) (ns : List Need) (n : Need) → held_for h.need hs ≡ None → AtIndex k ns h.need n →
+      needs_held p e (with_holding h hs) k ns ≡ needs_held p e hs k ns + bit (resolves p e n)
   held_more k [] n none m = absurd m
   held_more k (x ∷ xs) n none (inl i) =
       let r = held_above (k + 1) xs (let s = i.0 in omega arith) in
-      let new : bit (is_some (held_for k (with_holding h hs)) && resolves p e x) ≡ bit (resolves p e n) = ap (λ (z : ℕ). bit (is_some (held_for z (with_holding h hs)) && resolves p e x)) i.0 ∙ (ap (λ o. bit (is_some o && resolves p e x)) (with_here h hs none) ∙ ap (λ (z : Need). bit (resolves p e z)) i.1) in
-      let old : bit (is_some (held_for k hs) && resolves p e x) ≡ 0 = ap (λ (z : ℕ). bit (is_some (held_for z hs) && resolves p e x)) i.0 ∙ ap (λ o. bit (is_some o && resolves p e x)) none in
+      let new : bit (is_some (held_for k (with_holding h hs)) && resolves p e x) ≡ bit (resolves p e n) = ap
+      (λ (z : ℕ). bit (is_some (held_for z (with_holding h hs)) && resolves p e x)) i.0 ∙
+      (ap (λ o. bit (is_some o && resolves p e x)) (with_here h hs none) ∙ ap
+      (λ (z : Need). bit (resolves p e z)) i.1) in
+      let old : bit (is_some (held_for k hs) && resolves p e x) ≡ 0 = ap
+      (λ (z : ℕ). bit (is_some (held_for z hs) && resolves p e x)) i.0 ∙ ap
+      (λ o. bit (is_some o && resolves p e x)) none in
       omega arith
   held_more k (x ∷ xs) n none (inr m) =
       let r = held_more (k + 1) xs n none m in
       let low = index_low (k + 1) xs h.need n m in
-      let s : bit (is_some (held_for k (with_holding h hs)) && resolves p e x) ≡ bit (is_some (held_for k hs) && resolves p e x) = ap (λ o. bit (is_some o && resolves p e x)) (with_there h hs k (λ q. omega arith)) in
+      let s : bit (is_some (held_for k (with_holding h hs)) && resolves p e x) ≡ bit
+      (is_some (held_for k hs) && resolves p e x) = ap (λ o. bit (is_some o && resolves p e x))
+      (with_there h hs k (λ q. omega arith)) in
       omega arith
 
 pub same_name : (a b : ActorName) → same_actor a b ≡ true → a ≡ b
@@ -94,35 +111,46 @@ same_name a b h = absurd (false≢true h)
 
 -- References in the world
 
-none_left : (a : ActorName) (q e : ℕ) (f r : ℕ) (x : Reference) → is_reference a q e x ≡ true → is_reference a f r x ≡ ((f == q) && (r == e))
+none_left : (a : ActorName) (q e : ℕ) (f r : ℕ) (x : Reference) → is_reference a q e x ≡ true →
+    is_reference a f r x ≡ ((f == q) && (r == e))
 none_left a q e f r x h =
     let outer = and_parts (same_actor a x.actor && (q == x.point)) (e == x.op) h in
     let inner = and_parts (same_actor a x.actor) (q == x.point) outer.0 in
     ap (λ b. b && (f == x.point) && (r == x.op)) inner.0
-    ∙ (ap (λ (z : ℕ). (f == z) && (r == x.op)) (sym (eqb-true q x.point inner.1)) ∙ ap (λ (z : ℕ). (f == q) && (r == z)) (sym (eqb-true e x.op outer.1)))
+    ∙ (ap (λ (z : ℕ). (f == z) && (r == x.op)) (sym (eqb-true q x.point inner.1)) ∙ ap (λ (z : ℕ). (f == q) && (r == z))
+    (sym (eqb-true e x.op outer.1)))
 
-less_counts : (test other : Reference → Bool) (v : Bool) → ((x : Reference) → test x ≡ true → other x ≡ v) → (rs : List Reference) → list_any test rs ≡ true → count_by other rs ≡ one v + count_by other (without_first test rs)
+less_counts : (test other : Reference → Bool) (v : Bool) → ((x : Reference) → test x ≡ true → other x ≡ v) →
+    (rs : List Reference) → list_any test rs ≡ true → count_by other rs ≡ one v + count_by other (without_first test rs)
 less_counts test other v f [] m = absurd (false≢true m)
 less_counts test other v f (x ∷ xs) m = by_test (test x) refl (less_counts test other v f xs)
   where
-    by_test : (b : Bool) → test x ≡ b → (list_any test xs ≡ true → count_by other xs ≡ one v + count_by other (without_first test xs)) → count_by other (x ∷ xs) ≡ one v + count_by other (without_first test (x ∷ xs))
+    by_test : (b : Bool) → test x ≡ b →
+        (list_any test xs ≡ true → count_by other xs ≡ one v + count_by other (without_first test xs)) →
+        count_by other (x ∷ xs) ≡ one v + count_by other (without_first test (x ∷ xs))
     by_test true e g =
         let u = count_cons other x xs in
         let o : one (other x) ≡ one v = ap one (f x e) in
-        let c : count_by other (without_first test (x ∷ xs)) ≡ count_by other xs = ap (count_by other) (cond-true (test x) xs (x ∷ without_first test xs) e) in
+        let c : count_by other (without_first test (x ∷ xs)) ≡ count_by other xs = ap (count_by other)
+        (cond-true (test x) xs (x ∷ without_first test xs) e) in
         omega arith
     by_test false e g =
         let u = count_cons other x xs in
-        let c : count_by other (without_first test (x ∷ xs)) ≡ count_by other (x ∷ without_first test xs) = ap (count_by other) (cond-false (test x) xs (x ∷ without_first test xs) e) in
+        let c : count_by other (without_first test (x ∷ xs)) ≡ count_by other (x ∷ without_first test xs) = ap
+        (count_by other) (cond-false (test x) xs (x ∷ without_first test xs) e) in
         let d = count_cons other x (without_first test xs) in
-        let r = g (elim (or_cases (test x) (list_any test xs) m) [ inl t ↦ absurd (false≢true (sym e ∙ t)) | inr t ↦ t ]) in
+        let r = g (elim (or_cases (test x) (list_any test xs) m)
+        [ inl t ↦ absurd (false≢true (sym e ∙ t)) | inr t ↦ t ]) in
         omega arith
 
-noted_count : (p : Plan) (w : PointState) (notes : ℕ → List ℕ) (a : ActorName) (j e f : ℕ) → next_job p w a ≡ Some j → count_of (with_note notes (next_job p w a) e j) f ≡ one (e == f) + count_of (notes j) f
+noted_count : (p : Plan) (w : PointState) (notes : ℕ → List ℕ) (a : ActorName) (j e f : ℕ) → next_job p w a ≡ Some j →
+    count_of (with_note notes (next_job p w a) e j) f ≡ one (e == f) + count_of (notes j) f
 noted_count p w notes a j e f h =
-    ap (λ xs. count_of xs f) (ap (λ o. with_note notes o e j) h ∙ put_here notes j (e ∷ notes j)) ∙ count_cons (λ y. y == f) e (notes j)
+    ap (λ xs. count_of xs f) (ap (λ o. with_note notes o e j) h ∙ put_here notes j (e ∷ notes j)) ∙ count_cons
+    (λ y. y == f) e (notes j)
 
-pub noted_away : (p : Plan) (w : PointState) (notes : ℕ → List ℕ) (a : ActorName) (e j f : ℕ) → (next_job p w a ≡ Some j → ⊥) → count_of (with_note notes (next_job p w a) e j) f ≡ count_of (notes j) f
+pub noted_away : (p : Plan) (w : PointState) (notes : ℕ → List ℕ) (a : ActorName) (e j f : ℕ) →
+    (next_job p w a ≡ Some j → ⊥) → count_of (with_note notes (next_job p w a) e j) f ≡ count_of (notes j) f
 noted_away p w notes a e j f n = by_next (next_job p w a) n
   where
     by_next : (o : Option ℕ) → (o ≡ Some j → ⊥) → count_of (with_note notes o e j) f ≡ count_of (notes j) f
@@ -131,20 +159,26 @@ noted_away p w notes a e j f n = by_next (next_job p w a) n
 
 -- An actor's own events while it waits
 
-module _ (p : Plan) (w : PointState) (a : ActorName) (before : List Task) (j : ℕ) (ns : List Need) (holding : List Held) where
+module _ (p : Plan) (w : PointState) (a : ActorName) (before : List Task) (j : ℕ) (ns : List Need)
+    (holding : List Held) where
   -- A reference more.
-  pub after_refer : HoldsTruly p w a before j ns holding false → (i q e : ℕ) (n : Need) → AtIndex 0 ns i n → held_for i holding ≡ None → resolver p n.chain n.value ≡ Some e → next_job p w a ≡ Some j → HoldsTruly p (after_event p w (Refer a q e)) a before j ns (with_holding (record { need = i; point = q; op = e }) holding) false
+  pub after_refer : HoldsTruly p w a before j ns holding false → (i q e : ℕ) (n : Need) → AtIndex 0 ns i n →
+      held_for i holding ≡ None → resolver p n.chain n.value ≡ Some e → next_job p w a ≡ Some j →
+      HoldsTruly p (after_event p w (Refer a q e)) a before j ns
+      (with_holding (record { need = i; point = q; op = e }) holding) false
   after_refer t i q e n at none res nxt =
       record {
         tie = λ f r.
             let u = count_cons (is_reference a f r) new_reference w.held in
             let v = with_counts (is_holding f r) new holding in
-            let s : one (is_reference a f r new_reference) ≡ one (is_holding f r new) = ap (λ b. one (b && (f == q) && (r == e))) (same_self a) in
+            let s : one (is_reference a f r new_reference) ≡ one (is_holding f r new) = ap
+            (λ b. one (b && (f == q) && (r == e))) (same_self a) in
             let old = t.tie f r in
             omega arith;
         of_need = λ m k h is x at'. elim (cases_eq k i) [
           | inl s ↦
-              let same : new ≡ h = let z = sym (with_here new holding none) ∙ subst (λ (y : ℕ). held_for y (with_holding new holding) ≡ Some h) s is in cc in
+              let same : new ≡ h = let z = sym (with_here new holding none) ∙ subst
+              (λ (y : ℕ). held_for y (with_holding new holding) ≡ Some h) s is in cc in
               let one_need : n ≡ x = same_index 0 ns i n x at (subst (λ (y : ℕ). AtIndex 0 ns y x) s at') in
               ap (λ (z : Need). resolver p z.chain z.value) (sym one_need) ∙ (res ∙ ap (λ (z : Held). Some z.op) same)
           | inr d ↦ t.of_need refl k h (sym (with_there new holding k d) ∙ is) x at'
@@ -173,7 +207,9 @@ module _ (p : Plan) (w : PointState) (a : ActorName) (before : List Task) (j : �
       bits f = ap (λ o. bit (option_map_or (λ z. z == f) o false)) res
 
   -- A look that sees its signal ends the waiting.
-  pub after_look : HoldsTruly p w a before j ns holding false → (i : ℕ) (n : Need) (h : Held) → AtIndex 0 ns i n → held_for i holding ≡ Some h → next_job p w a ≡ Some j → HoldsTruly p (after_event p w (Look a h.point h.op)) a before j ns holding true
+  pub after_look : HoldsTruly p w a before j ns holding false → (i : ℕ) (n : Need) (h : Held) → AtIndex 0 ns i n →
+      held_for i holding ≡ Some h → next_job p w a ≡ Some j →
+      HoldsTruly p (after_event p w (Look a h.point h.op)) a before j ns holding true
   after_look t i n h at is nxt =
       record {
         tie = t.tie;
@@ -184,7 +220,8 @@ module _ (p : Plan) (w : PointState) (a : ActorName) (before : List Task) (j : �
             let o = t.looked f in
             elim (cases_eq h.op f) [
               | inl s ↦
-                  let counts = held_counts p f holding 0 ns i n at (ap is_some is) (ap (λ o. option_map_or (λ z. z == f) o false) (t.of_need refl i h is n at) ∙ eq-eqb h.op f s) in
+                  let counts = held_counts p f holding 0 ns i n at (ap is_some is)
+                  (ap (λ o. option_map_or (λ z. z == f) o false) (t.of_need refl i h is n at) ∙ eq-eqb h.op f s) in
                   let one_ : one (h.op == f) ≡ 1 = ap one (eq-eqb h.op f s) in
                   omega arith
               | inr d ↦ let none : one (h.op == f) ≡ 0 = ap one (ne_eqb h.op f d) in omega arith
@@ -202,11 +239,14 @@ module _ (p : Plan) (w : PointState) (a : ActorName) (before : List Task) (j : �
       }
 
 -- A reference less.
-pub after_unref : (p : Plan) (w : PointState) (a : ActorName) (before : List Task) (j : ℕ) (ns : List Need) (h : Held) (hs : List Held) → HoldsTruly p w a before j ns (h ∷ hs) true → holds w a h.point h.op ≡ true → HoldsTruly p (after_event p w (Unref a h.point h.op)) a before j ns hs true
+pub after_unref : (p : Plan) (w : PointState) (a : ActorName) (before : List Task) (j : ℕ) (ns : List Need) (h : Held)
+    (hs : List Held) → HoldsTruly p w a before j ns (h ∷ hs) true → holds w a h.point h.op ≡ true →
+    HoldsTruly p (after_event p w (Unref a h.point h.op)) a before j ns hs true
 after_unref p w a before j ns h hs t held =
     record {
       tie = λ f r.
-          let u = less_counts (is_reference a h.point h.op) (is_reference a f r) ((f == h.point) && (r == h.op)) (none_left a h.point h.op f r) w.held held in
+          let u = less_counts (is_reference a h.point h.op) (is_reference a f r) ((f == h.point) && (r == h.op))
+          (none_left a h.point h.op f r) w.held held in
           let v = count_cons (is_holding f r) h hs in
           let old = t.tie f r in
           omega arith;
@@ -216,7 +256,8 @@ after_unref p w a before j ns h hs t held =
     }
 
 -- Where nothing is held any more the waiting is done.
-pub leaves_wait : (p : Plan) (w : PointState) (a : ActorName) (before : List Task) (j : ℕ) (ns : List Need) → HoldsTruly p w a before j ns [] true → HoldsTruly p w a (AwaitNeeds ns ∷ before) j [] [] false
+pub leaves_wait : (p : Plan) (w : PointState) (a : ActorName) (before : List Task) (j : ℕ) (ns : List Need) →
+    HoldsTruly p w a before j ns [] true → HoldsTruly p w a (AwaitNeeds ns ∷ before) j [] [] false
 leaves_wait p w a before j ns t =
     record {
       tie = t.tie;
@@ -226,7 +267,8 @@ leaves_wait p w a before j ns t =
     }
 
 -- A wait begins.
-pub enters_wait : (p : Plan) (w : PointState) (a : ActorName) (before : List Task) (j : ℕ) (ns : List Need) → HoldsTruly p w a before j [] [] false → HoldsTruly p w a before j ns [] false
+pub enters_wait : (p : Plan) (w : PointState) (a : ActorName) (before : List Task) (j : ℕ) (ns : List Need) →
+    HoldsTruly p w a before j [] [] false → HoldsTruly p w a before j ns [] false
 enters_wait p w a before j ns t =
     record {
       tie = t.tie;
@@ -241,13 +283,17 @@ enters_wait p w a before j ns t =
 
 -- The events of others
 
-module _ (p : Plan) (w : PointState) (a b : ActorName) (before : List Task) (j : ℕ) (ns : List Need) (holding : List Held) (met : Bool) (t : HoldsTruly p w a before j ns holding met) (other : same_actor a b ≡ false) where
-  pub other_refers : (q e : ℕ) → (next_job p w b ≡ Some j → ⊥) → HoldsTruly p (after_event p w (Refer b q e)) a before j ns holding met
+module _ (p : Plan) (w : PointState) (a b : ActorName) (before : List Task) (j : ℕ) (ns : List Need)
+    (holding : List Held) (met : Bool) (t : HoldsTruly p w a before j ns holding met)
+    (other : same_actor a b ≡ false) where
+  pub other_refers : (q e : ℕ) → (next_job p w b ≡ Some j → ⊥) →
+      HoldsTruly p (after_event p w (Refer b q e)) a before j ns holding met
   other_refers q e n =
       record {
         tie = λ f r.
             let u = count_cons (is_reference a f r) (record { actor = b; point = q; op = e }) w.held in
-            let s : one (is_reference a f r (record { actor = b; point = q; op = e })) ≡ 0 = ap (λ c. one (c && (f == q) && (r == e))) other in
+            let s : one (is_reference a f r (record { actor = b; point = q; op = e })) ≡ 0 = ap
+            (λ c. one (c && (f == q) && (r == e))) other in
             let old = t.tie f r in
             omega arith;
         of_need = t.of_need;
@@ -255,7 +301,8 @@ module _ (p : Plan) (w : PointState) (a b : ActorName) (before : List Task) (j :
         looked = λ f. let c = noted_away p w w.referred b e j f n in let o = t.looked f in omega arith;
       }
 
-  pub other_looks : (q e : ℕ) → (next_job p w b ≡ Some j → ⊥) → HoldsTruly p (after_event p w (Look b q e)) a before j ns holding met
+  pub other_looks : (q e : ℕ) → (next_job p w b ≡ Some j → ⊥) →
+      HoldsTruly p (after_event p w (Look b q e)) a before j ns holding met
   other_looks q e n =
       record {
         tie = t.tie;
@@ -264,11 +311,15 @@ module _ (p : Plan) (w : PointState) (a b : ActorName) (before : List Task) (j :
         looked = λ f. let c = noted_away p w w.looked b e j f n in let o = t.looked f in omega arith;
       }
 
-  pub other_unrefers : (q e : ℕ) → holds w b q e ≡ true → HoldsTruly p (after_event p w (Unref b q e)) a before j ns holding met
+  pub other_unrefers : (q e : ℕ) → holds w b q e ≡ true →
+      HoldsTruly p (after_event p w (Unref b q e)) a before j ns holding met
   other_unrefers q e held =
       record {
         tie = λ f r.
-            let u = less_counts (is_reference b q e) (is_reference a f r) false (λ x h. not_mine f r x (and_parts (same_actor b x.actor) (q == x.point) (and_parts (same_actor b x.actor && (q == x.point)) (e == x.op) h).0).0) w.held held in
+            let u = less_counts (is_reference b q e) (is_reference a f r) false
+            (λ x h. not_mine f r x
+            (and_parts (same_actor b x.actor) (q == x.point)
+            (and_parts (same_actor b x.actor && (q == x.point)) (e == x.op) h).0).0) w.held held in
             let old = t.tie f r in
             omega arith;
         of_need = t.of_need;
@@ -277,17 +328,21 @@ module _ (p : Plan) (w : PointState) (a b : ActorName) (before : List Task) (j :
       }
     where
       not_mine : (f r : ℕ) (x : Reference) → same_actor b x.actor ≡ true → is_reference a f r x ≡ false
-      not_mine f r x h = ap (λ c. c && (f == x.point) && (r == x.op)) (subst (λ (z : ActorName). same_actor a z ≡ false) (same_name b x.actor h) other)
+      not_mine f r x h = ap (λ c. c && (f == x.point) && (r == x.op))
+          (subst (λ (z : ActorName). same_actor a z ≡ false) (same_name b x.actor h) other)
 
 -- Between waits
 
 -- events that leave references as they are, and tasks that wait for no needs
-pub same_references : (p : Plan) (w v : PointState) (a : ActorName) (before : List Task) (j : ℕ) (ns : List Need) (holding : List Held) (met : Bool) → v.held ≡ w.held → v.referred ≡ w.referred → v.looked ≡ w.looked → HoldsTruly p w a before j ns holding met → HoldsTruly p v a before j ns holding met
+pub same_references : (p : Plan) (w v : PointState) (a : ActorName) (before : List Task) (j : ℕ) (ns : List Need)
+    (holding : List Held) (met : Bool) → v.held ≡ w.held → v.referred ≡ w.referred → v.looked ≡ w.looked →
+    HoldsTruly p w a before j ns holding met → HoldsTruly p v a before j ns holding met
 same_references p w v a before j ns holding met h r l t =
     record {
       tie = λ q e. ap (count_by (is_reference a q e)) h ∙ t.tie q e;
       of_need = t.of_need;
-      referred = λ e. let x : count_of (v.referred j) e ≡ count_of (w.referred j) e = ap (λ (f : ℕ → List ℕ). count_of (f j) e) r in let o = t.referred e in omega arith;
+      referred = λ e. let x : count_of (v.referred j) e ≡ count_of (w.referred j) e = ap
+          (λ (f : ℕ → List ℕ). count_of (f j) e) r in let o = t.referred e in omega arith;
       looked = λ e.
           let x : count_of (v.referred j) e ≡ count_of (w.referred j) e = ap (λ (f : ℕ → List ℕ). count_of (f j) e) r in
           let y : count_of (v.looked j) e ≡ count_of (w.looked j) e = ap (λ (f : ℕ → List ℕ). count_of (f j) e) l in
@@ -295,12 +350,21 @@ same_references p w v a before j ns holding met h r l t =
           omega arith;
     }
 
-pub passes_task : (p : Plan) (w : PointState) (a : ActorName) (t : Task) (before : List Task) (j : ℕ) → ((e : ℕ) → waited_since p e (t ∷ before) ≡ waited_since p e before) → HoldsTruly p w a before j [] [] false → HoldsTruly p w a (t ∷ before) j [] [] false
+pub passes_task : (p : Plan) (w : PointState) (a : ActorName) (t : Task) (before : List Task) (j : ℕ) →
+    ((e : ℕ) → waited_since p e (t ∷ before) ≡ waited_since p e before) → HoldsTruly p w a before j [] [] false →
+    HoldsTruly p w a (t ∷ before) j [] [] false
 passes_task p w a t before j same k =
-    record { tie = k.tie; of_need = k.of_need; referred = λ e. let s = same e in let o = k.referred e in omega arith; looked = k.looked }
+    record {
+      tie = k.tie;
+      of_need = k.of_need;
+      referred = λ e. let s = same e in let o = k.referred e in omega arith;
+      looked = k.looked;
+    }
 
 -- The actor's next job hasn't referred to anything yet.
-pub next_begins : (p : Plan) (w : PointState) (a : ActorName) (before : List Task) (j i : ℕ) → ((e : ℕ) → count_of (w.referred i) e ≡ 0) → ((e : ℕ) → count_of (w.looked i) e ≡ 0) → HoldsTruly p w a before j [] [] false → HoldsTruly p w a before i [] [] false
+pub next_begins : (p : Plan) (w : PointState) (a : ActorName) (before : List Task) (j i : ℕ) →
+    ((e : ℕ) → count_of (w.referred i) e ≡ 0) → ((e : ℕ) → count_of (w.looked i) e ≡ 0) →
+    HoldsTruly p w a before j [] [] false → HoldsTruly p w a before i [] [] false
 next_begins p w a before j i r l k =
     record {
       tie = k.tie;

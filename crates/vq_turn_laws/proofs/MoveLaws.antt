@@ -31,7 +31,8 @@ module _ (p : Plan) (w : PointState) (a : ActorName) where
   passes : (b : Bool) (want : Want) (x : Place) → b ≡ true → Advances (waits b want x)
   passes b want x h = subst (λ c. Advances (waits c want x)) (sym h) (goes (forward x))
 
-  collects_or : (o : Option Event) (x : Place) (others : Did) → Makes others → Makes (option_map_or (λ e. Ends (Moved e) x) o others)
+  collects_or : (o : Option Event) (x : Place) (others : Did) → Makes others →
+      Makes (option_map_or (λ e. Ends (Moved e) x) o others)
   collects_or None x others m = m
   collects_or (Some e) x others m = made e x
 
@@ -46,12 +47,16 @@ module _ (p : Plan) (w : PointState) (a : ActorName) where
   makes_event (AwaitBound e) m r x = absurd (cc)
   makes_event (AwaitNeeds ns) m r x = absurd r
   makes_event (Submit j) m r x = made (Submits j) (forward x)
-  makes_event (Take e t) m r x = collects_or (collected p w t) x (moves (taken w e t) x) (made (taken w e t) (forward x))
+  makes_event (Take e t) m r x = collects_or (collected p w t) x (moves (taken w e t) x)
+      (made (taken w e t) (forward x))
   makes_event (Release j) m r x = made (Releases j) (forward x)
-  makes_event (Bind e) m r x = subst (λ o. Makes (option_map_or (λ f. Ends (Blocked (Next f)) x) o (moves (Binds e (point_of w e)) x))) (sym r) (made (Binds e (point_of w e)) (forward x))
+  makes_event (Bind e) m r x = subst
+      (λ o. Makes (option_map_or (λ f. Ends (Blocked (Next f)) x) o (moves (Binds e (point_of w e)) x))) (sym r)
+      (made (Binds e (point_of w e)) (forward x))
   makes_event (Start j) m r x = made (Starts j) (forward x)
   makes_event (Apply j c) m r x = made (Applies j c) (forward x)
-  makes_event (Signal e) m r x = subst (λ b. Makes (if b then moves (Signals e) x else Ends (Blocked (Bound e)) x)) (sym r) (made (Signals e) (forward x))
+  makes_event (Signal e) m r x = subst (λ b. Makes (if b then moves (Signals e) x else Ends (Blocked (Bound e)) x))
+      (sym r) (made (Signals e) (forward x))
   makes_event (Compare t v) m r x = absurd (cc)
   makes_event (Answer j asks) m r x = made (AnswersAs j (answer_by asks x.seen)) (record (forward x) { seen = [] })
   makes_event (Finish j) m r x = made (Finishes j) (forward x)
@@ -69,13 +74,17 @@ module _ (p : Plan) (w : PointState) (a : ActorName) where
   advances other r x = advanced (does p w a x other) (makes_event other refl r x)
 
   -- An actor that isn't blocked up to a task that makes an event, moves.
-  pub turn_moves : (front : List Task) (t : Task) (back : List Task) (x : Place) → Each (IsReady p w) front → IsReady p w t → is_mover t ≡ true → (e : Event) × ((turn_from p w a x (front ++ t ∷ back)).outcome ≡ Moved e)
+  pub turn_moves : (front : List Task) (t : Task) (back : List Task) (x : Place) → Each (IsReady p w) front →
+      IsReady p w t → is_mover t ≡ true → (e : Event) × ((turn_from p w a x (front ++ t ∷ back)).outcome ≡ Moved e)
   turn_moves [] t back x f r k = by_made (does p w a x t) (makes_event t k r x)
     where
       by_made : (d : Did) → Makes d → (e : Event) × ((and_then d (λ y. turn_from p w a y back)).outcome ≡ Moved e)
       by_made d (made e y) = (e, refl)
-  turn_moves (u ∷ front) t back x f r k = by_step (does p w a x u) (advances u f.0 x) (λ y. turn_moves front t back y f.1 r k)
+  turn_moves (u ∷ front) t back x f r k = by_step (does p w a x u) (advances u f.0 x)
+      (λ y. turn_moves front t back y f.1 r k)
     where
-      by_step : (d : Did) → Advances d → ((y : Place) → (e : Event) × ((turn_from p w a y (front ++ t ∷ back)).outcome ≡ Moved e)) → (e : Event) × ((and_then d (λ y. turn_from p w a y (front ++ t ∷ back))).outcome ≡ Moved e)
+      by_step : (d : Did) → Advances d →
+          ((y : Place) → (e : Event) × ((turn_from p w a y (front ++ t ∷ back)).outcome ≡ Moved e)) →
+          (e : Event) × ((and_then d (λ y. turn_from p w a y (front ++ t ∷ back))).outcome ≡ Moved e)
       by_step d (goes y) g = g y
       by_step d (makes e y) g = (e, refl)

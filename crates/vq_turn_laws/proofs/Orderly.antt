@@ -17,7 +17,8 @@ from_one [] a = tt
 from_one (m ∷ ms) a = ((let x = a 0 m (omega arith) in omega arith), from_one ms (λ i d l. a (suc i) d (omega arith)))
 
 pub plan_parts : (p : Plan) → IsPlan p → KeepsParts p
-plan_parts p i = subst KeepsParts (sym i.lowered) (keeps_parts p.script (λ j b is. from_one b.waits (read_whole p.script i.of_script j b is)))
+plan_parts p i = subst KeepsParts (sym i.lowered)
+    (keeps_parts p.script (λ j b is. from_one b.waits (read_whole p.script i.of_script j b is)))
 
 pub plan_orderly : (p : Plan) → IsPlan p → IsLawful p → IsOrderly p
 plan_orderly p i l =

@@ -19,7 +19,8 @@ abbrev pub InPart : Plan → ActorName → List Task → List Task → List Task
 InPart p a before [] left = Unit {0}
 InPart p a before (t ∷ ts) left = Asks p a before t (ts ++ left) × InPart p a (t ∷ before) ts left
 
-pub joined : (p : Plan) (a : ActorName) (before xs ys : List Task) → InPart p a before xs ys → InOrder p a (onto xs before) ys → InOrder p a before (xs ++ ys)
+pub joined : (p : Plan) (a : ActorName) (before xs ys : List Task) → InPart p a before xs ys →
+    InOrder p a (onto xs before) ys → InOrder p a before (xs ++ ys)
 joined p a before [] ys h o = o
 joined p a before (t ∷ ts) ys h o = (h.0, joined p a (t ∷ before) ts ys h.1 o)
 
@@ -27,9 +28,11 @@ pub together : (xs ys zs : List Task) → (xs ++ ys) ++ zs ≡ xs ++ (ys ++ zs)
 together [] ys zs = refl
 together (x ∷ xs) ys zs = ap (λ us. x ∷ us) (together xs ys zs)
 
-pub parts : (p : Plan) (a : ActorName) (before xs ys left : List Task) → InPart p a before xs (ys ++ left) → InPart p a (onto xs before) ys left → InPart p a before (xs ++ ys) left
+pub parts : (p : Plan) (a : ActorName) (before xs ys left : List Task) → InPart p a before xs (ys ++ left) →
+    InPart p a (onto xs before) ys left → InPart p a before (xs ++ ys) left
 parts p a before [] ys left h k = k
-parts p a before (t ∷ ts) ys left h k = (subst (λ us. Asks p a before t us) (sym (together ts ys left)) h.0, parts p a (t ∷ before) ts ys left h.1 k)
+parts p a before (t ∷ ts) ys left h k =
+    (subst (λ us. Asks p a before t us) (sym (together ts ys left)) h.0, parts p a (t ∷ before) ts ys left h.1 k)
 
 pub onto_append : (xs ys before : List Task) → onto (xs ++ ys) before ≡ onto ys (onto xs before)
 onto_append [] ys before = refl
@@ -88,7 +91,8 @@ module _ (p : Plan) (a : ActorName) (j : ℕ) (b : IsBatch p j) where
   waits_part [] before left = tt
   waits_part (e ∷ es) before left = (tt, waits_part es (AwaitBound e ∷ before) left)
 
-  takes_part : (es : List ℕ) → ((e : ℕ) → has es e ≡ true → has (signals_of p j) e ≡ true) → (before left : List Task) → AsksBatch p before j → Among (Release j) left → InPart p a before (map (λ e. Take e (chain_or p e)) es) left
+  takes_part : (es : List ℕ) → ((e : ℕ) → has es e ≡ true → has (signals_of p j) e ≡ true) → (before left : List Task) →
+      AsksBatch p before j → Among (Release j) left → InPart p a before (map (λ e. Take e (chain_or p e)) es) left
   takes_part [] f before left k r = tt
   takes_part (e ∷ es) f before left k r = (
     record {
@@ -99,10 +103,13 @@ module _ (p : Plan) (a : ActorName) (j : ℕ) (b : IsBatch p j) where
       moves = λ h. k;
       release = λ h. among_right (Release j) (map (λ e. Take e (chain_or p e)) es) left r;
     },
-    takes_part es (λ x m. f x (has_there e es x m)) (Take e (chain_or p e) ∷ before) left (batch_more p (Take e (chain_or p e) ∷ []) before j k) r,
+    takes_part es (λ x m. f x (has_there e es x m)) (Take e (chain_or p e) ∷ before) left
+        (batch_more p (Take e (chain_or p e) ∷ []) before j k) r,
   )
 
-  binds_part : (es : List ℕ) → ((e : ℕ) → has es e ≡ true → has (signals_of p j) e ≡ true) → (before left : List Task) → Among (Release j) before → ((e : ℕ) → has es e ≡ true → (t : ℕ) × Among (Take e t) before) → InPart p a before (map Bind es) left
+  binds_part : (es : List ℕ) → ((e : ℕ) → has es e ≡ true → has (signals_of p j) e ≡ true) → (before left : List Task) →
+      Among (Release j) before → ((e : ℕ) → has es e ≡ true → (t : ℕ) × Among (Take e t) before) →
+      InPart p a before (map Bind es) left
   binds_part [] f before left r g = tt
   binds_part (e ∷ es) f before left r g = (
     record {
@@ -114,11 +121,14 @@ module _ (p : Plan) (a : ActorName) (j : ℕ) (b : IsBatch p j) where
       released = λ h. r;
       taken = g e (has_here e es);
     },
-    binds_part es (λ x m. f x (has_there e es x m)) (Bind e ∷ before) left (inr r) (λ x m. let old = g x (has_there e es x m) in (old.0, inr old.1)),
+    binds_part es (λ x m. f x (has_there e es x m)) (Bind e ∷ before) left (inr r)
+        (λ x m. let old = g x (has_there e es x m) in (old.0, inr old.1)),
   )
 
   -- A batch that is moved: what is known of it before, and what stands before it.
-  pub moves_part : (before left : List Task) → Among (AwaitSubmitted j) before ⊎ Among (Submit j) before → ((i : ℕ) → has (earlier_in_queue p j) i ≡ true → Among (Release i) before) → InPart p a before (moves_batch p j) left
+  pub moves_part : (before left : List Task) → Among (AwaitSubmitted j) before ⊎ Among (Submit j) before →
+      ((i : ℕ) → has (earlier_in_queue p j) i ≡ true → Among (Release i) before) →
+      InPart p a before (moves_batch p j) left
   moves_part before left sub earlier =
       let ws : List Task = map AwaitBound (awaited_at p j AtEnd) in
       let ts : List Task = takes p j in
@@ -137,36 +147,59 @@ module _ (p : Plan) (a : ActorName) (j : ℕ) (b : IsBatch p j) where
       }
       in
       let take_of : (e : ℕ) → has (signals_of p j) e ≡ true → (t : ℕ) × Among (Take e t) (onto ts (onto ws before)) =
-      λ e m. (chain_or p e, among_turned (Take e (chain_or p e)) ts (onto ws before) (among_map (λ x. Take x (chain_or p x)) (signals_of p j) e m))
+      λ e m. (
+        chain_or p e,
+        among_turned (Take e (chain_or p e)) ts (onto ws before)
+            (among_map (λ x. Take x (chain_or p x)) (signals_of p j) e m),
+      )
       in
       let first : InPart p a before (ws ++ ts) (one ++ (bs ++ left)) =
-      parts p a before ws ts (one ++ (bs ++ left)) (waits_part (awaited_at p j AtEnd) before (ts ++ (one ++ (bs ++ left)))) (takes_part (signals_of p j) (λ e m. m) (onto ws before) (one ++ (bs ++ left)) at_takes (inl refl))
+      parts p a before ws ts (one ++ (bs ++ left))
+      (waits_part (awaited_at p j AtEnd) before (ts ++ (one ++ (bs ++ left))))
+      (takes_part (signals_of p j) (λ e m. m) (onto ws before) (one ++ (bs ++ left)) at_takes (inl refl))
       in
-      let at_release : AsksRelease p (onto ts (onto ws before)) j = record { moves = batch_more p ts (onto ws before) j at_takes; taken = take_of } in
+      let at_release : AsksRelease p
+      (onto ts (onto ws before)) j = record { moves = batch_more p ts (onto ws before) j at_takes; taken = take_of }
+      in
       let same : onto ts (onto ws before) ≡ onto (ws ++ ts) before = sym (onto_append ws ts before) in
       let second : InPart p a before (ws ++ ts ++ one) (bs ++ left) =
       parts p a before (ws ++ ts) one (bs ++ left) first (subst (λ us. AsksRelease p us j) same at_release, tt)
       in
-      let after : onto (ws ++ ts ++ one) before ≡ Release j ∷ onto ts (onto ws before) = onto_append (ws ++ ts) one before ∙ ap (λ us. Release j ∷ us) (onto_append ws ts before) in
+      let after : onto (ws ++ ts ++ one) before ≡ Release j ∷ onto ts (onto ws before) = onto_append
+      (ws ++ ts) one before ∙ ap (λ us. Release j ∷ us) (onto_append ws ts before) in
       let third : InPart p a (onto (ws ++ ts ++ one) before) bs left =
-      subst (λ us. InPart p a us bs left) (sym after) (binds_part (signals_of p j) (λ e m. m) (Release j ∷ onto ts (onto ws before)) left (inl refl) (λ e m. let old = take_of e m in (old.0, inr old.1)))
+      subst (λ us. InPart p a us bs left) (sym after)
+      (binds_part (signals_of p j) (λ e m. m) (Release j ∷ onto ts (onto ws before)) left (inl refl)
+      (λ e m. let old = take_of e m in (old.0, inr old.1)))
       in
       parts p a before (ws ++ ts ++ one) bs left second third
 
-  pub submits_part : (before left : List Task) → ((i : ℕ) → has (earlier_in_queue p j) i ≡ true → Among (Release i) before) → InPart p a before (submits_batch p j) left
-  submits_part before left earlier = (tt, moves_part (AwaitSubmitted j ∷ before) left (inl (inl refl)) (λ i m. inr (earlier i m)))
+  pub submits_part : (before left : List Task) →
+      ((i : ℕ) → has (earlier_in_queue p j) i ≡ true → Among (Release i) before) →
+      InPart p a before (submits_batch p j) left
+  submits_part before left earlier =
+      (tt, moves_part (AwaitSubmitted j ∷ before) left (inl (inl refl)) (λ i m. inr (earlier i m)))
 
   pub has_release : (before : List Task) → Among (Release j) (onto (submits_batch p j) before)
-  has_release before = among_turned (Release j) (submits_batch p j) before (inr (among_left (Release j) (map AwaitBound (awaited_at p j AtEnd) ++ takes p j ++ Release j ∷ []) (map Bind (signals_of p j)) (among_right (Release j) (map AwaitBound (awaited_at p j AtEnd) ++ takes p j) (Release j ∷ []) (inl refl))))
+  has_release before = among_turned (Release j) (submits_batch p j) before
+      (inr (among_left (Release j) (map AwaitBound (awaited_at p j AtEnd) ++ takes p j ++ Release j ∷ [])
+      (map Bind (signals_of p j))
+      (among_right (Release j) (map AwaitBound (awaited_at p j AtEnd) ++ takes p j) (Release j ∷ []) (inl refl))))
 
 -- Batches one after another, of which each stands behind the earlier ones of its queue.
-pub submits_in_order : (p : Plan) (a : ActorName) (js : List ℕ) → AreRising js → ((j : ℕ) → has js j ≡ true → IsBatch p j) → (before : List Task) → ((j i : ℕ) → has js j ≡ true → has (earlier_in_queue p j) i ≡ true → i < j × ((has js i ≡ true) ⊎ Among (Release i) before)) → InOrder p a before (flat_map (submits_batch p) js)
+pub submits_in_order : (p : Plan) (a : ActorName) (js : List ℕ) → AreRising js →
+    ((j : ℕ) → has js j ≡ true → IsBatch p j) → (before : List Task) →
+    ((j i : ℕ) → has js j ≡ true → has (earlier_in_queue p j) i ≡ true →
+    i < j × ((has js i ≡ true) ⊎ Among (Release i) before)) → InOrder p a before (flat_map (submits_batch p) js)
 submits_in_order p a [] rising batches before earlier = tt
 submits_in_order p a (j ∷ js) rising batches before earlier =
     let b = batches j (has_here j js) in
-    let first : (i : ℕ) → has (earlier_in_queue p j) i ≡ true → Among (Release i) before = λ i m. before_first i (earlier j i (has_here j js) m) in
-    let rest = submits_in_order p a js rising.1 (λ k m. batches k (has_there j js k m)) (onto (submits_batch p j) before) (λ k i m n. later k i (earlier k i (has_there j js k m) n)) in
-    joined p a before (submits_batch p j) (flat_map (submits_batch p) js) (submits_part p a j b before (flat_map (submits_batch p) js) first) rest
+    let first : (i : ℕ) → has (earlier_in_queue p j) i ≡ true → Among (Release i) before = λ i m. before_first i
+    (earlier j i (has_here j js) m) in
+    let rest = submits_in_order p a js rising.1 (λ k m. batches k (has_there j js k m))
+    (onto (submits_batch p j) before) (λ k i m n. later k i (earlier k i (has_there j js k m) n)) in
+    joined p a before (submits_batch p j) (flat_map (submits_batch p) js)
+    (submits_part p a j b before (flat_map (submits_batch p) js) first) rest
   where
     before_first : (i : ℕ) → i < j × ((has (j ∷ js) i ≡ true) ⊎ Among (Release i) before) → Among (Release i) before
     before_first i h = elim h.1 [
@@ -178,13 +211,15 @@ submits_in_order p a (j ∷ js) rising batches before earlier =
       | inr m ↦ m
     ]
 
-    later : (k i : ℕ) → i < k × ((has (j ∷ js) i ≡ true) ⊎ Among (Release i) before) → i < k × ((has js i ≡ true) ⊎ Among (Release i) (onto (submits_batch p j) before))
+    later : (k i : ℕ) → i < k × ((has (j ∷ js) i ≡ true) ⊎ Among (Release i) before) →
+        i < k × ((has js i ≡ true) ⊎ Among (Release i) (onto (submits_batch p j) before))
     later k i h = (
       h.0,
       elim h.1 [
         | inl m ↦
             elim (has_cases j js i m) [
-              | inl e ↦ inr (subst (λ (n : ℕ). Among (Release n) (onto (submits_batch p j) before)) e (has_release p a j (batches j (has_here j js)) before))
+              | inl e ↦ inr (subst (λ (n : ℕ). Among (Release n) (onto (submits_batch p j) before)) e
+                  (has_release p a j (batches j (has_here j js)) before))
               | inr r ↦ inl r
             ]
         | inr m ↦ inr (among_onto (Release i) (submits_batch p j) before m)

@@ -1,12 +1,11 @@
 -- All programs of a plan are in order.
-use Rattle.vq_model.proofs.Numbers.{has-range_cases}
-use Rattle.vq_model.proofs.Filters.{filter-has_cases}
-use Rattle.vq_model.proofs.Filters.{filter-has}
-use Rattle.std.proofs.Common.{◌≡◌, ℕ, ◌<◌, Bool, true, false, not, [], ◌++◌, length}
-use Rattle.std.proofs.Common.{filter, Option, Some, None, refl, sym, subst, ap, ◌∙◌, inl, arith, nat_lt}
+use Rattle.std.proofs.Common.{◌≡◌, ℕ, ◌<◌, Bool, true, false, not, [], ◌++◌, length, filter, Option, Some, None, refl}
+use Rattle.std.proofs.Common.{sym, subst, ap, ◌∙◌, inl, arith, nat_lt}
 use Rattle.std.specs.List.{range_with_len, slice_get}
 use Rattle.std.specs.Option.{option_map, option_map_or, option_to_list}
 use Rattle.std.proofs.lemmas.Bool.{and_from, false≢true, eq-eqb, lt-ltb, ltb-true}
+use Rattle.vq_model.proofs.Numbers.{has-range_cases, has_range}
+use Rattle.vq_model.proofs.Filters.{filter-has_cases, filter-has}
 use Rattle.vq_model.specs.declared.script.ActorName.{ActorName}
 use Rattle.vq_model.specs.declared.script.ActorName.TheVariants.{Host as HostActor, Submit as SubmitActor}
 use Rattle.vq_model.specs.declared.script.ActorName.TheVariants.{Ring as RingActor}
@@ -18,7 +17,6 @@ use Rattle.vq_model.specs.Plan.{Plan, has, of_job, same_lane, is_host_lane, chai
 use Rattle.vq_model.specs.Plan.{question, is_silent, previous, host_before, idle_after}
 use Rattle.vq_model.specs.WellFormed.{IsWellFormed, KeepsHostOrder}
 use Rattle.vq_model.proofs.Lists.{has_here, has-append_left}
-use Rattle.vq_model.proofs.Numbers.{has_range}
 use Rattle.vq_model.proofs.Gets.{get_some}
 use Rattle.vq_model.specs.Checks.{is_immediate_lane}
 use Rattle.vq_model.specs.ValidScripts.{is_immediate_queue}
@@ -35,7 +33,8 @@ module _ (p : Plan) (wf : IsWellFormed p) (host : KeepsHostOrder p) (parts : Kee
   chain_known : (j e : ℕ) → has (signals_of p j) e ≡ true → chain_of p e ≡ Some (chain_or p e)
   chain_known j e m = by_op (slice_get p.ops e) (wf.of_job e j m)
     where
-      by_op : (o : Option Op) → option_map (λ x. x.job) o ≡ Some j → option_map (λ x. x.chain) o ≡ Some (option_map_or (λ t. t) (option_map (λ x. x.chain) o) 0)
+      by_op : (o : Option Op) → option_map (λ x. x.job) o ≡ Some j →
+          option_map (λ x. x.chain) o ≡ Some (option_map_or (λ t. t) (option_map (λ x. x.chain) o) 0)
       by_op None s = absurd (let z = s in cc)
       by_op (Some x) s = refl
 
@@ -46,23 +45,33 @@ module _ (p : Plan) (wf : IsWellFormed p) (host : KeepsHostOrder p) (parts : Kee
       by_lane HostLane h = absurd (let z = h in cc)
       by_lane (QueueLane r) h = refl
 
-      by_job : (o : Option PlanJob) → option_map_or (λ x. x.lane) o HostLane ≡ QueueLane q → option_map_or (λ x. is_host_lane x.lane) o false ≡ false
+      by_job : (o : Option PlanJob) → option_map_or (λ x. x.lane) o HostLane ≡ QueueLane q →
+          option_map_or (λ x. is_host_lane x.lane) o false ≡ false
       by_job None h = refl
       by_job (Some x) h = by_lane x.lane h
 
   in_jobs : (q j : ℕ) → lane_of_job p j ≡ QueueLane q → j < length p.jobs → has (jobs_of_lane p (QueueLane q)) j ≡ true
-  in_jobs q j h l = filter-has (λ i. of_job (λ x. same_lane (QueueLane q) x.lane) false p i) (range_with_len 0 (length p.jobs)) j (has_range (length p.jobs) 0 j (omega arith) (omega arith)) (by_job (slice_get p.jobs j) h)
+  in_jobs q j h l = filter-has (λ i. of_job (λ x. same_lane (QueueLane q) x.lane) false p i)
+      (range_with_len 0 (length p.jobs)) j (has_range (length p.jobs) 0 j (omega arith) (omega arith))
+      (by_job (slice_get p.jobs j) h)
     where
-      by_job : (o : Option PlanJob) → option_map_or (λ x. x.lane) o HostLane ≡ QueueLane q → option_map_or (λ x. same_lane (QueueLane q) x.lane) o false ≡ true
+      by_job : (o : Option PlanJob) → option_map_or (λ x. x.lane) o HostLane ≡ QueueLane q →
+          option_map_or (λ x. same_lane (QueueLane q) x.lane) o false ≡ true
       by_job None h = absurd (let z = h in cc)
       by_job (Some x) h = ap (same_lane (QueueLane q)) h ∙ eq-eqb q q refl
 
   exists : (lane : Lane) (j : ℕ) → has (jobs_of_lane p lane) j ≡ true → j < length p.jobs
-  exists lane j m = let x = (has-range_cases (length p.jobs) 0 j (filter-has_cases (λ i. of_job (λ x. same_lane lane x.lane) false p i) (range_with_len 0 (length p.jobs)) j m).0).1 in omega arith
+  exists lane j m = let x =
+      (has-range_cases (length p.jobs) 0 j
+      (filter-has_cases (λ i. of_job (λ x. same_lane lane x.lane) false p i)
+      (range_with_len 0 (length p.jobs)) j m).0).1 in omega arith
 
   before_job : (i j : ℕ) → previous p j ≡ Some i → i < j
   before_job i j h =
-      wf.finished_first i j (has-append_left (option_to_list (previous p j) ++ option_to_list (host_before p j)) (idle_after p j) i (has-append_left (option_to_list (previous p j)) (option_to_list (host_before p j)) i (ap (λ o. has (option_to_list o) i) h ∙ has_here i [])))
+      wf.finished_first i j
+      (has-append_left (option_to_list (previous p j) ++ option_to_list (host_before p j)) (idle_after p j) i
+      (has-append_left (option_to_list (previous p j)) (option_to_list (host_before p j)) i
+      (ap (λ o. has (option_to_list o) i) h ∙ has_here i [])))
 
   quiet : (j : ℕ) → is_host_step p j ≡ false → is_silent (question p j) ≡ true
   quiet j h = by_test (is_silent (question p j)) refl
@@ -89,7 +98,8 @@ module _ (p : Plan) (wf : IsWellFormed p) (host : KeepsHostOrder p) (parts : Kee
       }
 
   pub ring_in_order : (q : ℕ) → InOrder p (RingActor q) [] (program p (RingActor q))
-  ring_in_order q = runs_in_order p q (jobs_of_lane p (QueueLane q)) [] (lane_rises p wf (QueueLane q)) refl (runs_batches q) [] (λ i m. absurd (false≢true m)) (λ e. refl)
+  ring_in_order q = runs_in_order p q (jobs_of_lane p (QueueLane q)) [] (lane_rises p wf (QueueLane q)) refl
+      (runs_batches q) [] (λ i m. absurd (false≢true m)) (λ e. refl)
 
   batch_known : (j : ℕ) → j < length p.jobs → is_host_step p j ≡ false → IsBatch p j
   batch_known j l h =
@@ -100,10 +110,13 @@ module _ (p : Plan) (wf : IsWellFormed p) (host : KeepsHostOrder p) (parts : Kee
         chains = chain_known j;
       }
 
-  earlier_is : (q j i : ℕ) → lane_of_job p j ≡ QueueLane q → has (earlier_in_queue p j) i ≡ true → (i < j) × (has (jobs_of_lane p (QueueLane q)) i ≡ true)
+  earlier_is : (q j i : ℕ) → lane_of_job p j ≡ QueueLane q → has (earlier_in_queue p j) i ≡ true →
+      (i < j) × (has (jobs_of_lane p (QueueLane q)) i ≡ true)
   earlier_is q j i h m = by_job (slice_get p.jobs j) h m
     where
-      by_job : (o : Option PlanJob) → option_map_or (λ x. x.lane) o HostLane ≡ QueueLane q → has (option_map_or (λ x. filter (λ k. nat_lt k j) (jobs_of_lane p x.lane)) o []) i ≡ true → (i < j) × (has (jobs_of_lane p (QueueLane q)) i ≡ true)
+      by_job : (o : Option PlanJob) → option_map_or (λ x. x.lane) o HostLane ≡ QueueLane q →
+          has (option_map_or (λ x. filter (λ k. nat_lt k j) (jobs_of_lane p x.lane)) o []) i ≡ true →
+          (i < j) × (has (jobs_of_lane p (QueueLane q)) i ≡ true)
       by_job None h m = absurd (false≢true m)
       by_job (Some x) h m =
           let r = filter-has_cases (λ k. nat_lt k j) (jobs_of_lane p x.lane) i m in
@@ -115,21 +128,25 @@ module _ (p : Plan) (wf : IsWellFormed p) (host : KeepsHostOrder p) (parts : Kee
       (λ j m. batch_known j (exists (QueueLane q) j m) (not_host q j (in_queue p wf q j m))) []
       (λ j i m n. let r = earlier_is q j i (in_queue p wf q j m) n in (r.0, inl r.1))
 
-  moved_lane : (j : ℕ) → is_moved p j ≡ true → (q : ℕ) × (lane_of_job p j ≡ QueueLane q) × (is_immediate_queue p.script q ≡ true)
+  moved_lane : (j : ℕ) → is_moved p j ≡ true →
+      (q : ℕ) × (lane_of_job p j ≡ QueueLane q) × (is_immediate_queue p.script q ≡ true)
   moved_lane j h = by_job (slice_get p.jobs j) h
     where
-      by_lane : (l : Lane) → is_immediate_lane p l ≡ true → (q : ℕ) × (l ≡ QueueLane q) × (is_immediate_queue p.script q ≡ true)
+      by_lane : (l : Lane) → is_immediate_lane p l ≡ true →
+          (q : ℕ) × (l ≡ QueueLane q) × (is_immediate_queue p.script q ≡ true)
       by_lane HostLane h = absurd (false≢true h)
       by_lane (QueueLane q) h = (q, refl, h)
 
-      by_job : (o : Option PlanJob) → option_map_or (λ x. is_immediate_lane p x.lane) o false ≡ true → (q : ℕ) × (option_map_or (λ x. x.lane) o HostLane ≡ QueueLane q) × (is_immediate_queue p.script q ≡ true)
+      by_job : (o : Option PlanJob) → option_map_or (λ x. is_immediate_lane p x.lane) o false ≡ true →
+          (q : ℕ) × (option_map_or (λ x. x.lane) o HostLane ≡ QueueLane q) × (is_immediate_queue p.script q ≡ true)
       by_job None h = absurd (false≢true h)
       by_job (Some x) h = by_lane x.lane h
 
   is_moved_in : (q i : ℕ) → lane_of_job p i ≡ QueueLane q → is_immediate_queue p.script q ≡ true → is_moved p i ≡ true
   is_moved_in q i h m = by_job (slice_get p.jobs i) h
     where
-      by_job : (o : Option PlanJob) → option_map_or (λ x. x.lane) o HostLane ≡ QueueLane q → option_map_or (λ x. is_immediate_lane p x.lane) o false ≡ true
+      by_job : (o : Option PlanJob) → option_map_or (λ x. x.lane) o HostLane ≡ QueueLane q →
+          option_map_or (λ x. is_immediate_lane p x.lane) o false ≡ true
       by_job None h = absurd (let z = h in cc)
       by_job (Some x) h = ap (is_immediate_lane p) h ∙ m
 
@@ -139,7 +156,8 @@ module _ (p : Plan) (wf : IsWellFormed p) (host : KeepsHostOrder p) (parts : Kee
         steps = λ j l h. record {
           exists = l;
           host = h;
-          job_before = λ i e. let less = before_job i j e in (less, step_of_lane i (omega arith) (parts.lane i j e ∙ host_lane p wf j h));
+          job_before = λ i e. let less = before_job i j e in
+              (less, step_of_lane i (omega arith) (parts.lane i j e ∙ host_lane p wf j h));
           at_start = wf.host_waits j h;
           commands = parts.commands j h;
           ops = λ e m. wf.of_job e j m;
@@ -157,7 +175,8 @@ module _ (p : Plan) (wf : IsWellFormed p) (host : KeepsHostOrder p) (parts : Kee
       step_of_lane : (i : ℕ) → i < length p.jobs → lane_of_job p i ≡ HostLane → is_host_step p i ≡ true
       step_of_lane i l h = by_job (slice_get p.jobs i) refl h
         where
-          by_job : (o : Option PlanJob) → slice_get p.jobs i ≡ o → option_map_or (λ x. x.lane) o HostLane ≡ HostLane → option_map_or (λ x. is_host_lane x.lane) o false ≡ true
+          by_job : (o : Option PlanJob) → slice_get p.jobs i ≡ o → option_map_or (λ x. x.lane) o HostLane ≡ HostLane →
+              option_map_or (λ x. is_host_lane x.lane) o false ≡ true
           by_job None is h = let x = get_some p.jobs i l in absurd (let z = sym is ∙ x.1 in cc)
           by_job (Some x) is h = ap is_host_lane h
 
@@ -165,7 +184,8 @@ module _ (p : Plan) (wf : IsWellFormed p) (host : KeepsHostOrder p) (parts : Kee
   host_order = host_in_order p host_known
 
 -- Each actor's program is in order.
-pub in_order : (p : Plan) → IsWellFormed p → KeepsHostOrder p → KeepsParts p → (a : ActorName) → InOrder p a [] (program p a)
+pub in_order : (p : Plan) → IsWellFormed p → KeepsHostOrder p → KeepsParts p → (a : ActorName) →
+    InOrder p a [] (program p a)
 in_order p wf host parts HostActor = host_order p wf host parts
 in_order p wf host parts (SubmitActor q) = submit_in_order p wf host parts q
 in_order p wf host parts (RingActor q) = ring_in_order p wf host parts q

@@ -24,10 +24,10 @@ use Rattle.vq_turn_laws.specs.Holdings.{needs_held, AtIndex, bit, is_holding, Ho
 use Rattle.vq_turn_laws.specs.Orders.{Within, InJob, AsksWait}
 use Rattle.vq_turn_laws.specs.Places.{IsDone, IsLeft}
 use Rattle.vq_turn_laws.specs.Tasks.{Each}
+use Rattle.vq_history_laws.specs.Measure.{one}
 use Rattle.vq_turn_laws.proofs.PlaceLaws.{each_among}
 use Rattle.vq_turn_laws.proofs.WaitParts.{within_any}
 use Rattle.vq_turn_laws.proofs.Guards.{next_split}
-use Rattle.vq_history_laws.specs.Measure.{one}
 use Rattle.vq_history_laws.proofs.Cited.{count_cons}
 
 -- Counting
@@ -36,7 +36,8 @@ pub counted_any : {A : Type 0} (test : A → Bool) (xs : List A) → 0 < count_b
 counted_any test [] l = absurd (omega arith)
 counted_any test (x ∷ xs) l = by_test (test x) refl (counted_any test xs)
   where
-    by_test : (b : Bool) → test x ≡ b → (0 < count_by test xs → list_any test xs ≡ true) → (test x || list_any test xs) ≡ true
+    by_test : (b : Bool) → test x ≡ b → (0 < count_by test xs → list_any test xs ≡ true) →
+        (test x || list_any test xs) ≡ true
     by_test true e f = ap (λ b. b || list_any test xs) e
     by_test false e f =
         let u = count_cons test x xs in
@@ -47,7 +48,8 @@ pub none_counted : {A : Type 0} (test : A → Bool) (xs : List A) → count_by t
 none_counted test [] l = refl
 none_counted test (x ∷ xs) l = by_test (test x) refl (none_counted test xs)
   where
-    by_test : (b : Bool) → test x ≡ b → (count_by test xs ≡ 0 → list_any test xs ≡ false) → (test x || list_any test xs) ≡ false
+    by_test : (b : Bool) → test x ≡ b → (count_by test xs ≡ 0 → list_any test xs ≡ false) →
+        (test x || list_any test xs) ≡ false
     by_test true e f =
         let u = count_cons test x xs in
         let v : one (test x) ≡ 1 = ap one e in
@@ -69,10 +71,13 @@ pub record IsPendingAt (p : Plan) (w : PointState) (n : Need) (e q : ℕ) : Type
   pub bound : w.bound e ≡ true
   pub point : point_of w e ≡ q
 
-pub found_pending : (p : Plan) (w : PointState) (n : Need) (e q : ℕ) → found p w n.chain n.value ≡ Some (Pending e q) → IsPendingAt p w n e q
+pub found_pending : (p : Plan) (w : PointState) (n : Need) (e q : ℕ) → found p w n.chain n.value ≡ Some (Pending e q) →
+    IsPendingAt p w n e q
 found_pending p w n e q h = by_value (nat_le n.value (initial p n.chain)) h
   where
-    by_op : (f : ℕ) → resolver p n.chain n.value ≡ Some f → (b : Bool) → w.past f ≡ b → (c : Bool) → w.bound f ≡ c → (if b then Some Past else if c then Some (Pending f (point_of w f)) else Some (NotYet f)) ≡ Some (Pending e q) → IsPendingAt p w n e q
+    by_op : (f : ℕ) → resolver p n.chain n.value ≡ Some f → (b : Bool) → w.past f ≡ b → (c : Bool) → w.bound f ≡ c →
+        (if b then Some Past else if c then Some (Pending f (point_of w f)) else Some (NotYet f)) ≡ Some (Pending e q) →
+        IsPendingAt p w n e q
     by_op f r true s c t h = absurd (let x = h in cc)
     by_op f r false s false t h = absurd (let x = h in cc)
     by_op f r false s true t h =
@@ -85,11 +90,13 @@ found_pending p w n e q h = by_value (nat_le n.value (initial p n.chain)) h
           point = subst (λ (z : ℕ). point_of w z ≡ q) same at;
         }
 
-    by_resolver : (o : Option ℕ) → resolver p n.chain n.value ≡ o → found_by w o ≡ Some (Pending e q) → IsPendingAt p w n e q
+    by_resolver : (o : Option ℕ) → resolver p n.chain n.value ≡ o → found_by w o ≡ Some (Pending e q) →
+        IsPendingAt p w n e q
     by_resolver None r h = absurd (let x = h in cc)
     by_resolver (Some f) r h = by_op f r (w.past f) refl (w.bound f) refl h
 
-    by_value : (b : Bool) → (if b then Some Past else found_by w (resolver p n.chain n.value)) ≡ Some (Pending e q) → IsPendingAt p w n e q
+    by_value : (b : Bool) → (if b then Some Past else found_by w (resolver p n.chain n.value)) ≡ Some (Pending e q) →
+        IsPendingAt p w n e q
     by_value true h = absurd (let x = h in cc)
     by_value false h = by_resolver (resolver p n.chain n.value) refl h
 
@@ -107,7 +114,8 @@ module _ (p : Plan) (e : ℕ) (hs : List Holding) where
   held_few k (n ∷ ns) =
       let u = count_cons (resolves p e) n ns in
       let r = held_few (k + 1) ns in
-      let s : bit (is_some (held_for k hs) && resolves p e n) ≤ one (resolves p e n) = small (is_some (held_for k hs)) (resolves p e n) in
+      let s : bit (is_some (held_for k hs) && resolves p e n) ≤ one (resolves p e n) = small (is_some (held_for k hs))
+      (resolves p e n) in
       omega arith
     where
       small : (b c : Bool) → bit (b && c) ≤ one c
@@ -117,18 +125,21 @@ module _ (p : Plan) (e : ℕ) (hs : List Holding) where
       small false false = omega arith
 
   -- a need without a reference is one more
-  pub held_fewer : (k : ℕ) (ns : List Need) (i : ℕ) (n : Need) → AtIndex k ns i n → held_for i hs ≡ None → resolves p e n ≡ true → needs_held p e hs k ns < count_by (resolves p e) ns
+  pub held_fewer : (k : ℕ) (ns : List Need) (i : ℕ) (n : Need) → AtIndex k ns i n → held_for i hs ≡ None →
+      resolves p e n ≡ true → needs_held p e hs k ns < count_by (resolves p e) ns
   held_fewer k [] i n m f r = absurd m
   held_fewer k (x ∷ xs) i n (inl s) f r =
       let u = count_cons (resolves p e) x xs in
       let rest = held_few (k + 1) xs in
       let up : one (resolves p e x) ≡ 1 = ap one (ap (resolves p e) s.1 ∙ r) in
-      let down : bit (is_some (held_for k hs) && resolves p e x) ≡ 0 = ap (λ (b : Bool). bit (b && resolves p e x)) (ap (λ (z : ℕ). is_some (held_for z hs)) s.0 ∙ ap is_some f) in
+      let down : bit (is_some (held_for k hs) && resolves p e x) ≡ 0 = ap (λ (b : Bool). bit (b && resolves p e x))
+      (ap (λ (z : ℕ). is_some (held_for z hs)) s.0 ∙ ap is_some f) in
       omega arith
   held_fewer k (x ∷ xs) i n (inr m) f r =
       let u = count_cons (resolves p e) x xs in
       let rest = held_fewer (k + 1) xs i n m f r in
-      let s : bit (is_some (held_for k hs) && resolves p e x) ≤ one (resolves p e x) = small (is_some (held_for k hs)) (resolves p e x) in
+      let s : bit (is_some (held_for k hs) && resolves p e x) ≤ one (resolves p e x) = small (is_some (held_for k hs))
+      (resolves p e x) in
       omega arith
     where
       small : (b c : Bool) → bit (b && c) ≤ one c
@@ -138,42 +149,59 @@ module _ (p : Plan) (e : ℕ) (hs : List Holding) where
       small false false = omega arith
 
   -- a need with a reference is counted
-  pub held_counts : (k : ℕ) (ns : List Need) (i : ℕ) (n : Need) → AtIndex k ns i n → is_some (held_for i hs) ≡ true → resolves p e n ≡ true → 0 < needs_held p e hs k ns
+  pub held_counts : (k : ℕ) (ns : List Need) (i : ℕ) (n : Need) → AtIndex k ns i n → is_some (held_for i hs) ≡ true →
+      resolves p e n ≡ true → 0 < needs_held p e hs k ns
   held_counts k [] i n m f r = absurd m
   held_counts k (x ∷ xs) i n (inl s) f r =
-      let up : bit (is_some (held_for k hs) && resolves p e x) ≡ 1 = ap bit (and_from (is_some (held_for k hs)) (resolves p e x) (ap (λ (z : ℕ). is_some (held_for z hs)) s.0 ∙ f) (ap (resolves p e) s.1 ∙ r)) in
+      let up : bit (is_some (held_for k hs) && resolves p e x) ≡ 1 = ap bit
+      (and_from (is_some (held_for k hs)) (resolves p e x) (ap (λ (z : ℕ). is_some (held_for z hs)) s.0 ∙ f)
+      (ap (resolves p e) s.1 ∙ r)) in
       omega arith
   held_counts k (x ∷ xs) i n (inr m) f r = let rest = held_counts (k + 1) xs i n m f r in omega arith
 
-module _ (p : Plan) (a : ActorName) (w : PointState) (before after : List Task) (d : Each (IsDone w) before) (left : Each (IsLeft w) after) where
+module _ (p : Plan) (a : ActorName) (w : PointState) (before after : List Task) (d : Each (IsDone w) before)
+    (left : Each (IsLeft w) after) where
   -- the job of a wait is the actor's next one
   pub is_next : (j : ℕ) (source : List Need) → InJob p a before after j source → next_job p w a ≡ Some j
   is_next j source k =
       ap (λ o. option_map_or (λ lane. next w.machine.progress.finished (jobs_of_lane p lane)) o None) k.of_actor
       ∙ (ap (next w.machine.progress.finished) k.behind.whole
-      ∙ next_split w.machine.progress.finished k.behind.front j k.behind.back (λ y m. each_among (IsDone w) before (Finish y) d (k.behind.earlier y m)) (each_among (IsLeft w) after (Finish j) left k.unfinished))
+      ∙ next_split w.machine.progress.finished k.behind.front j k.behind.back
+      (λ y m. each_among (IsDone w) before (Finish y) d (k.behind.earlier y m))
+      (each_among (IsLeft w) after (Finish j) left k.unfinished))
 
   pub needs_are_now : (j : ℕ) (source : List Need) → InJob p a before after j source → source ≡ needs_now p w j
   needs_are_now j source k =
       elim k.stage [
-        | inl x ↦ x.1 ∙ sym (ap (λ (b : Bool). if b then filter (λ n. nat_lt 1 n.from) (needs p j) else needs_at p j (At 1)) (each_among (IsLeft w) after (Start j) left x.0))
-        | inr x ↦ x.1 ∙ sym (ap (λ (b : Bool). if b then filter (λ n. nat_lt 1 n.from) (needs p j) else needs_at p j (At 1)) (each_among (IsDone w) before (Start j) d x.0))
+        | inl x ↦ x.1 ∙ sym (ap
+            (λ (b : Bool). if b then filter (λ n. nat_lt 1 n.from) (needs p j) else needs_at p j (At 1))
+            (each_among (IsLeft w) after (Start j) left x.0))
+        | inr x ↦ x.1 ∙ sym (ap
+            (λ (b : Bool). if b then filter (λ n. nat_lt 1 n.from) (needs p j) else needs_at p j (At 1))
+            (each_among (IsDone w) before (Start j) d x.0))
       ]
 
   module _ (ns : List Need) (holding : List Holding) (k : AsksWait p a before ns after) where
-    pub can_unref : (met : Bool) (h : Holding) (hs : List Holding) → holding ≡ h ∷ hs → HoldsTruly p w a before k.job ns holding met → CanUnrefer w a h.point h.op
+    pub can_unref : (met : Bool) (h : Holding) (hs : List Holding) → holding ≡ h ∷ hs →
+        HoldsTruly p w a before k.job ns holding met → CanUnrefer w a h.point h.op
     can_unref met h hs is t =
         let u = t.tie h.point h.op in
-        let c : count_by (is_holding h.point h.op) holding ≡ one (is_holding h.point h.op h) + count_by (is_holding h.point h.op) hs = ap (count_by (is_holding h.point h.op)) is ∙ count_cons (is_holding h.point h.op) h hs in
-        let o : one (is_holding h.point h.op h) ≡ 1 = ap one (and_from (h.point == h.point) (h.op == h.op) (eq-eqb h.point h.point refl) (eq-eqb h.op h.op refl)) in
+        let c : count_by (is_holding h.point h.op) holding ≡ one (is_holding h.point h.op h) + count_by
+        (is_holding h.point h.op) hs = ap (count_by (is_holding h.point h.op)) is ∙ count_cons
+        (is_holding h.point h.op) h hs in
+        let o : one (is_holding h.point h.op h) ≡ 1 = ap one
+        (and_from (h.point == h.point) (h.op == h.op) (eq-eqb h.point h.point refl) (eq-eqb h.op h.op refl)) in
         counted_any (is_reference a h.point h.op) w.held (omega arith)
 
-    pub can_look : (i : ℕ) (n : Need) (h : Holding) → AtIndex 0 ns i n → held_for i holding ≡ Some h → HoldsTruly p w a before k.job ns holding false → w.machine.progress.made h.op ≡ true → CanLook p w a h.point h.op
+    pub can_look : (i : ℕ) (n : Need) (h : Holding) → AtIndex 0 ns i n → held_for i holding ≡ Some h →
+        HoldsTruly p w a before k.job ns holding false → w.machine.progress.made h.op ≡ true →
+        CanLook p w a h.point h.op
     can_look i n h at is t made =
         let u = t.tie h.point h.op in
         let c = holds_counted holding is in
         let few = t.looked h.op in
-        let counts = held_counts p h.op holding 0 ns i n at (ap is_some is) (resolves_it p n h.op (t.of_need refl i h is n at)) in
+        let counts = held_counts p h.op holding 0 ns i n at (ap is_some is)
+        (resolves_it p n h.op (t.of_need refl i h is n at)) in
         record {
           job = k.job;
           is_next = is_next k.job k.source k.in_job;
@@ -186,15 +214,23 @@ module _ (p : Plan) (a : ActorName) (w : PointState) (before after : List Task) 
         holds_counted [] s = absurd (let x = s in cc)
         holds_counted (x ∷ xs) s = by_test (x.need == i) refl (holds_counted xs) s
           where
-            by_test : (b : Bool) → (x.need == i) ≡ b → (held_for i xs ≡ Some h → 0 < count_by (is_holding h.point h.op) xs) → (if b then Some x else held_for i xs) ≡ Some h → 0 < count_by (is_holding h.point h.op) (x ∷ xs)
+            by_test : (b : Bool) → (x.need == i) ≡ b →
+                (held_for i xs ≡ Some h → 0 < count_by (is_holding h.point h.op) xs) →
+                (if b then Some x else held_for i xs) ≡ Some h → 0 < count_by (is_holding h.point h.op) (x ∷ xs)
             by_test true e f q =
                 let same : x ≡ h = let z = q in cc in
                 let c = count_cons (is_holding h.point h.op) x xs in
-                let o : one (is_holding h.point h.op x) ≡ 1 = ap (λ (z : Holding). one (is_holding h.point h.op z)) same ∙ ap one (and_from (h.point == h.point) (h.op == h.op) (eq-eqb h.point h.point refl) (eq-eqb h.op h.op refl)) in
+                let o : one (is_holding h.point h.op x) ≡ 1 = ap (λ (z : Holding). one (is_holding h.point h.op z)) same
+                ∙ ap one (and_from (h.point == h.point) (h.op == h.op) (eq-eqb h.point h.point refl)
+                (eq-eqb h.op h.op refl)) in
                 omega arith
             by_test false e f q = let c = count_cons (is_holding h.point h.op) x xs in let r = f q in omega arith
 
-    pub can_refer : (i : ℕ) (n : Need) (e q : ℕ) → AtIndex 0 ns i n → held_for i holding ≡ None → HoldsTruly p w a before k.job ns holding false → ((r : ℕ) → w.point_of e ≡ Some r → w.past e ≡ false → w.carried r ≡ Some e) → (w.bound e ≡ true → is_some (w.point_of e) ≡ true) → found p w n.chain n.value ≡ Some (Pending e q) → CanRefer p w a q e
+    pub can_refer : (i : ℕ) (n : Need) (e q : ℕ) → AtIndex 0 ns i n → held_for i holding ≡ None →
+        HoldsTruly p w a before k.job ns holding false →
+        ((r : ℕ) → w.point_of e ≡ Some r → w.past e ≡ false → w.carried r ≡ Some e) →
+        (w.bound e ≡ true → is_some (w.point_of e) ≡ true) → found p w n.chain n.value ≡ Some (Pending e q) →
+        CanRefer p w a q e
     can_refer i n e q at is t pending taken f =
         let x = found_pending p w n e q f in
         let r = resolves_it p n e x.resolves in
@@ -207,11 +243,13 @@ module _ (p : Plan) (a : ActorName) (w : PointState) (before after : List Task) 
           carries = by_point (w.point_of e) refl (taken x.bound) x.point x.unpast;
           bound = x.bound;
           released = by_host (is_host_step p k.job) refl;
-          needed = subst (λ us. list_any (resolves p e) us ≡ true) (needs_are_now k.job k.source k.in_job) (within_any (resolves p e) k.source n (k.inside n (index_within 0 ns i n at)) r);
+          needed = subst (λ us. list_any (resolves p e) us ≡ true) (needs_are_now k.job k.source k.in_job)
+              (within_any (resolves p e) k.source n (k.inside n (index_within 0 ns i n at)) r);
           wanted = omega arith;
         }
       where
-        by_point : (o : Option ℕ) → w.point_of e ≡ o → is_some o ≡ true → option_map_or (λ z. z) o 0 ≡ q → w.past e ≡ false → w.carried q ≡ Some e
+        by_point : (o : Option ℕ) → w.point_of e ≡ o → is_some o ≡ true → option_map_or (λ z. z) o 0 ≡ q →
+            w.past e ≡ false → w.carried q ≡ Some e
         by_point None s g v u = absurd (false≢true g)
         by_point (Some y) s g v u = subst (λ (z : ℕ). w.carried z ≡ Some e) v (pending y s u)
 
@@ -220,17 +258,24 @@ module _ (p : Plan) (a : ActorName) (w : PointState) (before after : List Task) 
         by_host false h = each_among (IsDone w) before (AwaitReleased k.job) d (k.in_job.released h)
 
   -- Between waits an actor holds nothing, so that its job may finish.
-  pub none_referring : (j : ℕ) (ns : List Need) (met : Bool) → HoldsTruly p w a before j ns [] met → list_any (λ (r : Reference). same_actor a r.actor) w.held ≡ false
+  pub none_referring : (j : ℕ) (ns : List Need) (met : Bool) → HoldsTruly p w a before j ns [] met →
+      list_any (λ (r : Reference). same_actor a r.actor) w.held ≡ false
   none_referring j ns met t = none_of w.held (λ q e. t.tie q e)
     where
-      none_of : (rs : List Reference) → ((q e : ℕ) → count_by (is_reference a q e) rs ≡ 0) → list_any (λ (r : Reference). same_actor a r.actor) rs ≡ false
+      none_of : (rs : List Reference) → ((q e : ℕ) → count_by (is_reference a q e) rs ≡ 0) →
+          list_any (λ (r : Reference). same_actor a r.actor) rs ≡ false
       none_of [] f = refl
-      none_of (r ∷ rs) f = or_from (same_actor a r.actor) (list_any (λ (x : Reference). same_actor a x.actor) rs) (by_same (same_actor a r.actor) refl) (none_of rs (λ q e. let u = count_cons (is_reference a q e) r rs in let v = f q e in omega arith))
+      none_of (r ∷ rs) f = or_from (same_actor a r.actor) (list_any (λ (x : Reference). same_actor a x.actor) rs)
+          (by_same (same_actor a r.actor) refl)
+          (none_of rs (λ q e. let u = count_cons (is_reference a q e) r rs in let v = f q e in omega arith))
         where
           by_same : (b : Bool) → same_actor a r.actor ≡ b → b ≡ false
           by_same false h = refl
           by_same true h =
               let u = count_cons (is_reference a r.point r.op) r rs in
               let v = f r.point r.op in
-              let o : one (is_reference a r.point r.op r) ≡ 1 = ap one (and_from (same_actor a r.actor && (r.point == r.point)) (r.op == r.op) (and_from (same_actor a r.actor) (r.point == r.point) h (eq-eqb r.point r.point refl)) (eq-eqb r.op r.op refl)) in
+              let o : one (is_reference a r.point r.op r) ≡ 1 = ap one
+              (and_from (same_actor a r.actor && (r.point == r.point)) (r.op == r.op)
+              (and_from (same_actor a r.actor) (r.point == r.point) h (eq-eqb r.point r.point refl))
+              (eq-eqb r.op r.op refl)) in
               absurd (omega arith)

@@ -64,7 +64,11 @@ pushed_has xs x y m =
     ]
 
 -- the signals of a job, each behind the earlier ones
-pub signals_each : (p : Plan) (a : ActorName) (j : ℕ) → ((e : ℕ) → has (signals_of p j) e ≡ true → chain_of p e ≡ Some (chain_or p e)) → (es front : List ℕ) → signals_of p j ≡ front ++ es → (before left : List Task) → Among (Start j) before → Among (Finish j) left → ((c : ℕ) → has (commands_of p j) c ≡ true → Among (Apply j c) before) → Waited p before j AtEnd → ((e : ℕ) → has front e ≡ true → Among (Signal e) before) → InPart p a before (map Signal es) left
+pub signals_each : (p : Plan) (a : ActorName) (j : ℕ) →
+    ((e : ℕ) → has (signals_of p j) e ≡ true → chain_of p e ≡ Some (chain_or p e)) → (es front : List ℕ) →
+    signals_of p j ≡ front ++ es → (before left : List Task) → Among (Start j) before → Among (Finish j) left →
+    ((c : ℕ) → has (commands_of p j) c ≡ true → Among (Apply j c) before) → Waited p before j AtEnd →
+    ((e : ℕ) → has front e ≡ true → Among (Signal e) before) → InPart p a before (map Signal es) left
 signals_each p a j chains [] front whole before left st fin cs w done = tt
 signals_each p a j chains (e ∷ es) front whole before left st fin cs w done = (
   record {
@@ -77,7 +81,9 @@ signals_each p a j chains (e ∷ es) front whole before left st fin cs w done = 
     next = record { front = front; back = es; whole = whole; earlier = done };
     needs = w;
   },
-  signals_each p a j chains es (front ++ e ∷ []) (whole ∙ push front e es) (Signal e ∷ before) left (inr st) fin (λ c m. inr (cs c m)) (record { any = λ h. inr (w.any h); all = λ h n m. inr (w.all h n m) }) (λ f m. elim (pushed_has front e f m) [ inl o ↦ inr (done f o) | inr s ↦ inl (ap Signal s) ]),
+  signals_each p a j chains es (front ++ e ∷ []) (whole ∙ push front e es) (Signal e ∷ before) left (inr st) fin
+      (λ c m. inr (cs c m)) (record { any = λ h. inr (w.any h); all = λ h n m. inr (w.all h n m) })
+      (λ f m. elim (pushed_has front e f m) [ inl o ↦ inr (done f o) | inr s ↦ inl (ap Signal s) ]),
 )
 
 -- the needs from a place on, after the start
@@ -110,10 +116,12 @@ module _ (p : Plan) (a : ActorName) (lane : Lane) (j : ℕ) (b : RunsBatch p lan
   held_rest : (n : Need) → Within n (filter rest_of (needs p j)) → Within n held
   held_rest n w =
       let x = within_filter rest_of (needs p j) n w in
-      filter_within is_held (needs p j) n x.0 (and_parts (nat_lt 1 n.from) (nat_lt (length (commands_of p j)) n.from) x.1).0
+      filter_within is_held (needs p j) n x.0
+      (and_parts (nat_lt 1 n.from) (nat_lt (length (commands_of p j)) n.from) x.1).0
 
   -- one place more
-  upto_next : (m : ℕ) (before : List Task) → Upto before 1 → Upto before m → Upto (onto (waits_where p j (at_place (m + 1))) before) (m + 1)
+  upto_next : (m : ℕ) (before : List Task) → Upto before 1 → Upto before m →
+      Upto (onto (waits_where p j (at_place (m + 1))) before) (m + 1)
   upto_next m before ones u n w l =
       elim (cases_lt m n.from) [
         | inr le ↦ among_onto (wait n) (waits_where p j (at_place (m + 1))) before (u n w le)
@@ -121,7 +129,11 @@ module _ (p : Plan) (a : ActorName) (lane : Lane) (j : ℕ) (b : RunsBatch p lan
           | inr small ↦ among_onto (wait n) (waits_where p j (at_place (m + 1))) before (ones n w (omega arith))
           | inl big ↦
               let same : n.from ≡ m + 1 = omega arith in
-              among_turned (wait n) (waits_where p j (at_place (m + 1))) before (among_waits (filter (at_place (m + 1)) (needs p j)) n (filter_within (at_place (m + 1)) (needs p j) n w (and_from (nat_lt 1 (m + 1)) (eqb n.from (m + 1)) (lt-ltb 1 (m + 1) big) (eq-eqb n.from (m + 1) same))))
+              among_turned (wait n) (waits_where p j (at_place (m + 1))) before
+              (among_waits (filter (at_place (m + 1)) (needs p j)) n
+              (filter_within (at_place (m + 1)) (needs p j) n w
+              (and_from (nat_lt 1 (m + 1)) (eqb n.from (m + 1)) (lt-ltb 1 (m + 1) big)
+              (eq-eqb n.from (m + 1) same))))
         ]
       ]
 
@@ -136,11 +148,13 @@ module _ (p : Plan) (a : ActorName) (lane : Lane) (j : ℕ) (b : RunsBatch p lan
   done_more m n h =
       elim (or_cases (nat_le n.from 1) (nat_le n.from m) h) [
         | inl l ↦ or_left (nat_le n.from 1) (nat_le n.from (m + 1)) l
-        | inr l ↦ let x = leb-true n.from m l in or_right (nat_le n.from 1) (nat_le n.from (m + 1)) (le-leb n.from (m + 1) (omega arith))
+        | inr l ↦ let x = leb-true n.from m l in or_right (nat_le n.from 1) (nat_le n.from (m + 1))
+            (le-leb n.from (m + 1) (omega arith))
       ]
 
   done_at : (m : ℕ) (n : Need) → at_place (m + 1) n ≡ true → done_by (m + 1) n ≡ true
-  done_at m n h = let x = eqb-true n.from (m + 1) (and_parts (nat_lt 1 (m + 1)) (n.from == (m + 1)) h).1 in or_right (nat_le n.from 1) (nat_le n.from (m + 1)) (le-leb n.from (m + 1) (omega arith))
+  done_at m n h = let x = eqb-true n.from (m + 1) (and_parts (nat_lt 1 (m + 1)) (n.from == (m + 1)) h).1 in or_right
+      (nat_le n.from 1) (nat_le n.from (m + 1)) (le-leb n.from (m + 1) (omega arith))
 
   done_apart : (m : ℕ) (n : Need) → done_by m n ≡ true → at_place (m + 1) n ≡ true → ⊥
   done_apart m n h k =
@@ -152,28 +166,38 @@ module _ (p : Plan) (a : ActorName) (lane : Lane) (j : ℕ) (b : RunsBatch p lan
         | inr l ↦ let z = leb-true n.from m l in omega arith
       ]
 
-  room_next : (m : ℕ) (before : List Task) → Room before m → Room (onto (waits_where p j (at_place (m + 1))) before) (m + 1)
+  room_next : (m : ℕ) (before : List Task) → Room before m →
+      Room (onto (waits_where p j (at_place (m + 1))) before) (m + 1)
   room_next m before r e =
       let x = waited_waits p e (filter (at_place (m + 1)) (needs p j)) before in
       let y = count_filter (at_place (m + 1)) (resolves p e) (needs p j) in
-      let z = count_both (λ n. done_by m n && resolves p e n) (λ n. at_place (m + 1) n && resolves p e n) (λ n. done_by (m + 1) n && resolves p e n) (λ n. bits_both (done_by m n) (at_place (m + 1) n) (done_by (m + 1) n) (resolves p e n) (done_more m n) (done_at m n) (done_apart m n)) (needs p j) in
+      let z = count_both (λ n. done_by m n && resolves p e n) (λ n. at_place (m + 1) n && resolves p e n)
+      (λ n. done_by (m + 1) n && resolves p e n)
+      (λ n. bits_both (done_by m n) (at_place (m + 1) n) (done_by (m + 1) n) (resolves p e n) (done_more m n)
+      (done_at m n) (done_apart m n)) (needs p j) in
       let o = r e in
       omega arith
 
-  room_here : (m : ℕ) (before : List Task) → Room before m → HasRoom p a j held before (filter (at_place (m + 1)) (needs p j))
+  room_here : (m : ℕ) (before : List Task) → Room before m →
+      HasRoom p a j held before (filter (at_place (m + 1)) (needs p j))
   room_here m before r e =
       let x = waited_waits p e (filter (at_place (m + 1)) (needs p j)) before in
       let y = room_next m before r e in
-      let z = count_below (λ n. done_by (m + 1) n && resolves p e n) (resolves p e) (λ n. bits_below (done_by (m + 1) n) true (resolves p e n) (λ q. refl)) (needs p j) in
+      let z = count_below (λ n. done_by (m + 1) n && resolves p e n) (resolves p e)
+      (λ n. bits_below (done_by (m + 1) n) true (resolves p e n) (λ q. refl)) (needs p j) in
       omega arith
 
-  room_command : (m c : ℕ) (before : List Task) → Room before m → Room (onto (waits_where p j (at_place (m + 1)) ++ Apply j c ∷ []) before) (m + 1)
+  room_command : (m c : ℕ) (before : List Task) → Room before m →
+      Room (onto (waits_where p j (at_place (m + 1)) ++ Apply j c ∷ []) before) (m + 1)
   room_command m c before r e =
-      let x : waited_since p e (onto (waits_where p j (at_place (m + 1)) ++ Apply j c ∷ []) before) ≡ waited_since p e (onto (waits_where p j (at_place (m + 1))) before) = ap (waited_since p e) (onto_append (waits_where p j (at_place (m + 1))) (Apply j c ∷ []) before) in
+      let x : waited_since p e (onto (waits_where p j (at_place (m + 1)) ++ Apply j c ∷ []) before) ≡ waited_since p e
+      (onto (waits_where p j (at_place (m + 1))) before) = ap (waited_since p e)
+      (onto_append (waits_where p j (at_place (m + 1))) (Apply j c ∷ []) before) in
       let y = room_next m before r e in
       omega arith
 
-  room_commands : (cs : List ℕ) (m : ℕ) (before : List Task) → Room before m → Room (onto (flat_map (runs_command p j) (enumerate_from (m + 1) cs)) before) (m + length cs)
+  room_commands : (cs : List ℕ) (m : ℕ) (before : List Task) → Room before m →
+      Room (onto (flat_map (runs_command p j) (enumerate_from (m + 1) cs)) before) (m + length cs)
   room_commands [] m before r = subst (λ (z : ℕ). Room before z) (plus_none m) r
     where
       plus_none : (n : ℕ) → n ≡ n + 0
@@ -181,24 +205,32 @@ module _ (p : Plan) (a : ActorName) (lane : Lane) (j : ℕ) (b : RunsBatch p lan
   room_commands (c ∷ cs) m before r =
       let rest : List Task = flat_map (runs_command p j) (enumerate_from (m + 1 + 1) cs) in
       let one_ : List Task = waits_where p j (at_place (m + 1)) ++ Apply j c ∷ [] in
-      let deep : Room (onto rest (onto one_ before)) (m + 1 + length cs) = room_commands cs (m + 1) (onto one_ before) (room_command m c before r) in
-      subst (λ us. Room us (m + length (c ∷ cs))) (sym (onto_append one_ rest before)) (subst (λ (z : ℕ). Room (onto rest (onto one_ before)) z) (plus_one m (length cs)) deep)
+      let deep : Room (onto rest (onto one_ before)) (m + 1 + length cs) = room_commands cs (m + 1) (onto one_ before)
+      (room_command m c before r) in
+      subst (λ us. Room us (m + length (c ∷ cs))) (sym (onto_append one_ rest before))
+      (subst (λ (z : ℕ). Room (onto rest (onto one_ before)) z) (plus_one m (length cs)) deep)
     where
       plus_one : (n k : ℕ) → n + 1 + k ≡ n + suc k
       plus_one n k = omega arith
 
-  commands_part : (cs front : List ℕ) (m : ℕ) → length front ≡ m → commands_of p j ≡ front ++ cs → (before left : List Task) → InJob p a before left j held → Among (Start j) before → ((d : ℕ) → has front d ≡ true → Among (Apply j d) before) → Upto before 1 → Upto before m → Room before m → InPart p a before (flat_map (runs_command p j) (enumerate_from (m + 1) cs)) left
+  commands_part : (cs front : List ℕ) (m : ℕ) → length front ≡ m → commands_of p j ≡ front ++ cs →
+      (before left : List Task) → InJob p a before left j held → Among (Start j) before →
+      ((d : ℕ) → has front d ≡ true → Among (Apply j d) before) → Upto before 1 → Upto before m → Room before m →
+      InPart p a before (flat_map (runs_command p j) (enumerate_from (m + 1) cs)) left
   commands_part [] front m len whole before left k st done ones upto room = tt
   commands_part (c ∷ cs) front m len whole before left k st done ones upto room =
       let ws : List Task = waits_where p j (at_place (m + 1)) in
       let one : List Task = Apply j c ∷ [] in
       let rest : List Task = flat_map (runs_command p j) (enumerate_from (m + 1 + 1) cs) in
       let up : Upto (onto ws before) (m + 1) = upto_next m before ones upto in
-      let where_is : position_or_len (λ d. d == c) (commands_of p j) ≡ m = ap (λ xs. position_or_len (λ d. d == c) xs) whole ∙ (position front c cs (rising_apart front c cs (subst AreRising whole b.commands)) ∙ len) in
+      let where_is : position_or_len (λ d. d == c) (commands_of p j) ≡ m = ap
+      (λ xs. position_or_len (λ d. d == c) xs) whole ∙
+      (position front c cs (rising_apart front c cs (subst AreRising whole b.commands)) ∙ len) in
       let waited : Waited p (onto ws before) j (stage_of p j c) = record {
         any = λ h. absurd (false≢true (sym b.all ∙ h));
         all = λ h n w.
-            let x = within_filter (λ (z : Need). nat_le z.from (suc (position_or_len (λ d. d == c) (commands_of p j)))) (needs p j) n w in
+            let x = within_filter (λ (z : Need). nat_le z.from (suc (position_or_len (λ d. d == c) (commands_of p j))))
+            (needs p j) n w in
             let l = leb-true n.from (suc (position_or_len (λ d. d == c) (commands_of p j))) x.1 in
             up n x.0 (omega arith);
       }
@@ -206,13 +238,24 @@ module _ (p : Plan) (a : ActorName) (lane : Lane) (j : ℕ) (b : RunsBatch p lan
       let applies : AsksApply p (onto ws before) j c (rest ++ left) = record {
         started = among_onto (Start j) ws before st;
         unfinished = among_right (Finish j) rest left k.unfinished;
-        next = record { front = front; back = cs; whole = whole; earlier = λ d m'. among_onto (Apply j d) ws before (done d m') };
+        next = record {
+          front = front;
+          back = cs;
+          whole = whole;
+          earlier = λ d m'. among_onto (Apply j d) ws before
+              (done d m');
+        };
         needs = waited;
       }
       in
       parts p a before (ws ++ one) rest left
-      (parts p a before ws one (rest ++ left) (waits_each p a j held (filter (at_place (m + 1)) (needs p j)) before (one ++ (rest ++ left)) (later p a j held before one (rest ++ left) (later p a j held before rest left k)) (held_place (m + 1)) (room_here m before room)) (applies, tt))
-      (commands_part cs (front ++ c ∷ []) (m + 1) (pushed_length front c ∙ ap (λ n. n + 1) len) (whole ∙ push front c cs) (onto (ws ++ one) before) left (more p a j held (ws ++ one) before left k) (among_onto (Start j) (ws ++ one) before st) (λ d m'. elim (pushed_has front c d m') [
+      (parts p a before ws one (rest ++ left)
+      (waits_each p a j held (filter (at_place (m + 1)) (needs p j)) before (one ++ (rest ++ left))
+      (later p a j held before one (rest ++ left) (later p a j held before rest left k)) (held_place (m + 1))
+      (room_here m before room)) (applies, tt))
+      (commands_part cs (front ++ c ∷ []) (m + 1) (pushed_length front c ∙ ap (λ n. n + 1) len)
+      (whole ∙ push front c cs) (onto (ws ++ one) before) left (more p a j held (ws ++ one) before left k)
+      (among_onto (Start j) (ws ++ one) before st) (λ d m'. elim (pushed_has front c d m') [
         | inl o ↦ among_onto (Apply j d) (ws ++ one) before (done d o)
         | inr e ↦ among_turned (Apply j d) (ws ++ one) before (among_right (Apply j d) ws one (inl (ap (Apply j) e)))
       ]) (upto_more (ws ++ one) before 1 ones) (upto_two ws one before (m + 1) up) (room_command m c before room))
@@ -221,24 +264,32 @@ module _ (p : Plan) (a : ActorName) (lane : Lane) (j : ℕ) (b : RunsBatch p lan
       upto_two [] ys before k u = upto_more ys before k u
       upto_two (x ∷ xs) ys before k u = upto_two xs ys (x ∷ before) k u
 
-  among_apply : (cs : List ℕ) (k c : ℕ) → has cs c ≡ true → Among (Apply j c) (flat_map (runs_command p j) (enumerate_from k cs))
+  among_apply : (cs : List ℕ) (k c : ℕ) → has cs c ≡ true →
+      Among (Apply j c) (flat_map (runs_command p j) (enumerate_from k cs))
   among_apply [] k c m = absurd (false≢true m)
   among_apply (d ∷ cs) k c m =
       let ws : List Task = waits_where p j (at_place k) in
       let rest : List Task = flat_map (runs_command p j) (enumerate_from (k + 1) cs) in
       elim (has_cases d cs c m) [
-        | inl e ↦ among_left (Apply j c) (ws ++ Apply j d ∷ []) rest (among_right (Apply j c) ws (Apply j d ∷ []) (inl (ap (Apply j) e)))
+        | inl e ↦ among_left (Apply j c) (ws ++ Apply j d ∷ []) rest
+            (among_right (Apply j c) ws (Apply j d ∷ []) (inl (ap (Apply j) e)))
         | inr r ↦ among_right (Apply j c) (ws ++ Apply j d ∷ []) rest (among_apply cs (k + 1) c r)
       ]
 
-  among_held : (cs : List ℕ) (k : ℕ) (n : Need) → Within n (needs p j) → 1 < n.from → k ≤ n.from → n.from < k + length cs → Among (wait n) (flat_map (runs_command p j) (enumerate_from k cs))
+  among_held : (cs : List ℕ) (k : ℕ) (n : Need) → Within n (needs p j) → 1 < n.from → k ≤ n.from →
+      n.from < k + length cs → Among (wait n) (flat_map (runs_command p j) (enumerate_from k cs))
   among_held [] k n w one low high = absurd (omega arith)
   among_held (d ∷ cs) k n w one low high =
       let ws : List Task = waits_where p j (at_place k) in
       let rest : List Task = flat_map (runs_command p j) (enumerate_from (k + 1) cs) in
       elim (cases_eq n.from k) [
-        | inl e ↦ among_left (wait n) (ws ++ Apply j d ∷ []) rest (among_left (wait n) ws (Apply j d ∷ []) (among_waits (filter (at_place k) (needs p j)) n (filter_within (at_place k) (needs p j) n w (and_from (nat_lt 1 k) (eqb n.from k) (lt-ltb 1 k (omega arith)) (eq-eqb n.from k e)))))
-        | inr ne ↦ among_right (wait n) (ws ++ Apply j d ∷ []) rest (among_held cs (k + 1) n w one (omega arith) (omega arith))
+        | inl e ↦ among_left (wait n) (ws ++ Apply j d ∷ []) rest
+            (among_left (wait n) ws (Apply j d ∷ [])
+            (among_waits (filter (at_place k) (needs p j)) n
+            (filter_within (at_place k) (needs p j) n w
+            (and_from (nat_lt 1 k) (eqb n.from k) (lt-ltb 1 k (omega arith)) (eq-eqb n.from k e)))))
+        | inr ne ↦ among_right (wait n) (ws ++ Apply j d ∷ []) rest
+            (among_held cs (k + 1) n w one (omega arith) (omega arith))
       ]
 
   rest_apart : (n : Need) → done_by (0 + length (commands_of p j)) n ≡ true → rest_of n ≡ true → ⊥
@@ -251,7 +302,10 @@ module _ (p : Plan) (a : ActorName) (lane : Lane) (j : ℕ) (b : RunsBatch p lan
         | inr l ↦ let z = leb-true n.from (0 + length (commands_of p j)) l in omega arith
       ]
 
-  pub runs_part : (before left : List Task) → InJob p a (AwaitReleased j ∷ before) (Start j ∷ Finish j ∷ []) j (needs_at p j (At 1)) → ((i : ℕ) → previous p j ≡ Some i → Among (Finish i) before) → ((e : ℕ) → waited_since p e before ≡ 0) → InPart p a before (runs_batch p j) left
+  pub runs_part : (before left : List Task) →
+      InJob p a (AwaitReleased j ∷ before) (Start j ∷ Finish j ∷ []) j (needs_at p j (At 1)) →
+      ((i : ℕ) → previous p j ≡ Some i → Among (Finish i) before) → ((e : ℕ) → waited_since p e before ≡ 0) →
+      InPart p a before (runs_batch p j) left
   runs_part before left at lane_done clear =
       let rel : List Task = AwaitReleased j ∷ [] in
       let ws : List Task = waits_where p j (λ n. n.from == 1) in
@@ -271,7 +325,9 @@ module _ (p : Plan) (a : ActorName) (lane : Lane) (j : ℕ) (b : RunsBatch p lan
       let f3 : Among (Finish j) (cs ++ (rs ++ (es ++ fs))) = among_right (Finish j) cs (rs ++ (es ++ fs)) f4 in
       let ones2 : Upto b2 1 = λ n w l.
       let one = b.places n w in
-      among_turned (wait n) ws b1 (among_waits (filter (λ (z : Need). z.from == 1) (needs p j)) n (filter_within (λ (z : Need). z.from == 1) (needs p j) n w (eq-eqb n.from 1 (omega arith))))
+      among_turned (wait n) ws b1
+      (among_waits (filter (λ (z : Need). z.from == 1) (needs p j)) n
+      (filter_within (λ (z : Need). z.from == 1) (needs p j) n w (eq-eqb n.from 1 (omega arith))))
       in
       let in_first : InJob p a b1 ((ss ++ (cs ++ (rs ++ (es ++ fs)))) ++ left) j (needs_at p j (At 1)) = record {
         lane = at.lane;
@@ -285,7 +341,9 @@ module _ (p : Plan) (a : ActorName) (lane : Lane) (j : ℕ) (b : RunsBatch p lan
       let held_at : (t l : List Task) → Among (Finish j) l → InJob p a (onto t b3) l j held = λ t l f. record {
         lane = at.lane;
         of_actor = at.of_actor;
-        behind = behind_more (jobs_of_lane p at.lane) j Finish t b3 (behind_more (jobs_of_lane p at.lane) j Finish ss b2 (behind_more (jobs_of_lane p at.lane) j Finish ws b1 at.behind));
+        behind = behind_more (jobs_of_lane p at.lane) j Finish t b3
+            (behind_more (jobs_of_lane p at.lane) j Finish ss b2
+            (behind_more (jobs_of_lane p at.lane) j Finish ws b1 at.behind));
         unfinished = f;
         released = λ h. among_onto (AwaitReleased j) t b3 (inr (among_onto (AwaitReleased j) ws b1 (at.released h)));
         stage = inr (among_onto (Start j) t b3 (inl refl), refl);
@@ -302,23 +360,34 @@ module _ (p : Plan) (a : ActorName) (lane : Lane) (j : ℕ) (b : RunsBatch p lan
           | inr le ↦ among_onto (wait n) rs b4 (upto4 n w le)
           | inl lt ↦ elim (cases_lt 1 n.from) [
             | inr small ↦ among_onto (wait n) rs b4 (among_onto (wait n) cs b3 (inr (ones2 n w small)))
-            | inl big ↦ among_turned (wait n) rs b4 (among_waits (filter rest_of (needs p j)) n (filter_within rest_of (needs p j) n w (and_from (nat_lt 1 n.from) (nat_lt (length (commands_of p j)) n.from) (lt-ltb 1 n.from big) (lt-ltb (length (commands_of p j)) n.from lt))))
+            | inl big ↦ among_turned (wait n) rs b4
+                (among_waits (filter rest_of (needs p j)) n
+                (filter_within rest_of (needs p j) n w
+                (and_from (nat_lt 1 n.from) (nat_lt (length (commands_of p j)) n.from) (lt-ltb 1 n.from big)
+                (lt-ltb (length (commands_of p j)) n.from lt))))
           ]
         ];
       }
       in
-      let apply4 : (c : ℕ) → has (commands_of p j) c ≡ true → Among (Apply j c) b4 = λ c m. among_turned (Apply j c) cs b3 (among_apply (commands_of p j) 1 c m) in
+      let apply4 : (c : ℕ) → has (commands_of p j) c ≡ true → Among (Apply j c) b4 = λ c m. among_turned
+      (Apply j c) cs b3 (among_apply (commands_of p j) 1 c m) in
       let room3 : Room b3 0 = λ e.
       let c = clear e in
       let x = waited_waits p e (filter (λ (z : Need). z.from == 1) (needs p j)) b1 in
       let y = count_filter (λ (z : Need). z.from == 1) (resolves p e) (needs p j) in
-      let z = count_below (λ n. (n.from == 1) && resolves p e n) (λ n. done_by 0 n && resolves p e n) (λ n. bits_below (n.from == 1) (done_by 0 n) (resolves p e n) (λ h. let s = eqb-true n.from 1 h in or_left (nat_le n.from 1) (nat_le n.from 0) (le-leb n.from 1 (omega arith)))) (needs p j) in
+      let z = count_below (λ n. (n.from == 1) && resolves p e n) (λ n. done_by 0 n && resolves p e n)
+      (λ n. bits_below (n.from == 1) (done_by 0 n) (resolves p e n)
+      (λ h. let s = eqb-true n.from 1 h in or_left (nat_le n.from 1) (nat_le n.from 0)
+      (le-leb n.from 1 (omega arith)))) (needs p j) in
       omega arith
       in
       let room4 : HasRoom p a j held b4 (filter rest_of (needs p j)) = λ e.
       let x = room_commands (commands_of p j) 0 b3 room3 e in
       let y = count_filter rest_of (resolves p e) (needs p j) in
-      let z = count_both (λ n. done_by (0 + length (commands_of p j)) n && resolves p e n) (λ n. rest_of n && resolves p e n) (resolves p e) (λ n. bits_both (done_by (0 + length (commands_of p j)) n) (rest_of n) true (resolves p e n) (λ h. refl) (λ h. refl) (rest_apart n)) (needs p j) in
+      let z = count_both (λ n. done_by (0 + length (commands_of p j)) n && resolves p e n)
+      (λ n. rest_of n && resolves p e n) (resolves p e)
+      (λ n. bits_both (done_by (0 + length (commands_of p j)) n) (rest_of n) true (resolves p e n) (λ h. refl)
+      (λ h. refl) (rest_apart n)) (needs p j) in
       omega arith
       in
       let starts : AsksStart p b2 j = record {
@@ -326,7 +395,8 @@ module _ (p : Plan) (a : ActorName) (lane : Lane) (j : ℕ) (b : RunsBatch p lan
         lane = λ i h. among_onto (Finish i) ws b1 (inr (lane_done i h));
         needs = record {
           any = λ h. absurd (false≢true (sym b.all ∙ h));
-          all = λ h n w. let x = within_filter (λ (z : Need). nat_le z.from 1) (needs p j) n w in ones2 n x.0 (leb-true n.from 1 x.1);
+          all = λ h n w. let x = within_filter (λ (z : Need). nat_le z.from 1) (needs p j) n w in ones2 n x.0
+              (leb-true n.from 1 x.1);
         };
         idle = λ i m. absurd (false≢true (ap (λ xs. has xs i) (sym b.idle) ∙ m));
         batches = λ h. absurd (false≢true (sym b.host ∙ h));
@@ -337,25 +407,41 @@ module _ (p : Plan) (a : ActorName) (lane : Lane) (j : ℕ) (b : RunsBatch p lan
         started = among_onto (Start j) es b5 (among_onto (Start j) rs b4 (among_onto (Start j) cs b3 (inl refl)));
         commands = λ c m. among_onto (Apply j c) es b5 (among_onto (Apply j c) rs b4 (apply4 c m));
         signals = λ e m. among_turned (Signal e) es b5 (among_map Signal (signals_of p j) e m);
-        needs = record { any = λ h. absurd (false≢true (sym b.all ∙ h)); all = λ h n w. among_onto (wait n) es b5 (all5.all h n w) };
+        needs = record {
+          any = λ h. absurd (false≢true (sym b.all ∙ h));
+          all = λ h n w. among_onto (wait n) es b5
+              (all5.all h n w);
+        };
         answered = λ h. absurd (false≢true (sym h ∙ b.silent));
       }
       in
       let part6 : InPart p a b5 (es ++ fs) left = parts p a b5 es fs left
-      (signals_each p a j b.chains (signals_of p j) [] refl b5 (fs ++ left) (among_onto (Start j) rs b4 (among_onto (Start j) cs b3 (inl refl))) (inl refl) (λ c m. among_onto (Apply j c) rs b4 (apply4 c m)) all5 (λ e m. absurd (false≢true m)))
+      (signals_each p a j b.chains (signals_of p j) [] refl b5 (fs ++ left)
+      (among_onto (Start j) rs b4 (among_onto (Start j) cs b3 (inl refl))) (inl refl)
+      (λ c m. among_onto (Apply j c) rs b4 (apply4 c m)) all5 (λ e m. absurd (false≢true m)))
       (finishes, tt)
       in
       let part5 : InPart p a b4 (rs ++ (es ++ fs)) left = parts p a b4 rs (es ++ fs) left
-      (waits_each p a j held (filter rest_of (needs p j)) b4 ((es ++ fs) ++ left) (held_at cs ((es ++ fs) ++ left) (among_left (Finish j) (es ++ fs) left f5)) held_rest room4)
+      (waits_each p a j held (filter rest_of (needs p j)) b4 ((es ++ fs) ++ left)
+      (held_at cs ((es ++ fs) ++ left) (among_left (Finish j) (es ++ fs) left f5)) held_rest room4)
       part6
       in
       let part4 : InPart p a b3 (cs ++ (rs ++ (es ++ fs))) left = parts p a b3 cs (rs ++ (es ++ fs)) left
-      (commands_part (commands_of p j) [] 0 refl refl b3 ((rs ++ (es ++ fs)) ++ left) (held_at [] ((rs ++ (es ++ fs)) ++ left) (among_left (Finish j) (rs ++ (es ++ fs)) left f4)) (inl refl) (λ d m. absurd (false≢true m)) (λ n w l. inr (ones2 n w l)) (λ n w l. inr (ones2 n w (omega arith))) room3)
+      (commands_part (commands_of p j) [] 0 refl refl b3 ((rs ++ (es ++ fs)) ++ left)
+      (held_at [] ((rs ++ (es ++ fs)) ++ left) (among_left (Finish j) (rs ++ (es ++ fs)) left f4)) (inl refl)
+      (λ d m. absurd (false≢true m)) (λ n w l. inr (ones2 n w l)) (λ n w l. inr (ones2 n w (omega arith))) room3)
       part5
       in
       let part3 : InPart p a b2 (ss ++ (cs ++ (rs ++ (es ++ fs)))) left = (starts, part4) in
-      let part2 : InPart p a b1 (ws ++ (ss ++ (cs ++ (rs ++ (es ++ fs))))) left = parts p a b1 ws (ss ++ (cs ++ (rs ++ (es ++ fs)))) left
-      (waits_each p a j (needs_at p j (At 1)) (filter (λ (z : Need). z.from == 1) (needs p j)) b1 ((ss ++ (cs ++ (rs ++ (es ++ fs)))) ++ left) in_first (λ n w. let x = within_filter (λ (z : Need). z.from == 1) (needs p j) n w in let e = eqb-true n.from 1 x.1 in filter_within (λ (z : Need). nat_le z.from 1) (needs p j) n x.0 (le-leb n.from 1 (omega arith))) (λ e. let c = clear e in let x = filter_few (λ (z : Need). z.from == 1) (resolves p e) (needs p j) in omega arith))
+      let part2 : InPart p a b1 (ws ++ (ss ++ (cs ++ (rs ++ (es ++ fs))))) left = parts p a b1 ws
+      (ss ++ (cs ++ (rs ++ (es ++ fs)))) left
+      (waits_each p a j (needs_at p j (At 1)) (filter (λ (z : Need). z.from == 1) (needs p j)) b1
+      ((ss ++ (cs ++ (rs ++ (es ++ fs)))) ++ left) in_first
+      (λ n w. let x = within_filter (λ (z : Need). z.from == 1)
+      (needs p j) n w in let e = eqb-true n.from 1 x.1 in filter_within (λ (z : Need). nat_le z.from 1)
+      (needs p j) n x.0 (le-leb n.from 1 (omega arith)))
+      (λ e. let c = clear e in let x = filter_few (λ (z : Need). z.from == 1) (resolves p e)
+      (needs p j) in omega arith))
       part3
       in
       subst (λ us. InPart p a before us left) (sym (seven rel ws ss cs rs es fs)) (tt, part2)
@@ -363,19 +449,31 @@ module _ (p : Plan) (a : ActorName) (lane : Lane) (j : ℕ) (b : RunsBatch p lan
 pub has_finish : (p : Plan) (j : ℕ) (before : List Task) → Among (Finish j) (onto (runs_batch p j) before)
 has_finish p j before =
     among_turned (Finish j) (runs_batch p j) before
-    (among_right (Finish j) (AwaitReleased j ∷ [] ++ waits_where p j (λ n. n.from == 1) ++ Start j ∷ [] ++ flat_map (runs_command p j) (enumerate_from 1 (commands_of p j)) ++ waits_where p j (λ n. nat_lt 1 n.from && nat_lt (length (commands_of p j)) n.from) ++ map Signal (signals_of p j)) (Finish j ∷ []) (inl refl))
+    (among_right (Finish j)
+    (AwaitReleased j ∷ [] ++ waits_where p j (λ n. n.from == 1) ++ Start j ∷ [] ++ flat_map (runs_command p j)
+    (enumerate_from 1 (commands_of p j)) ++ waits_where p j
+    (λ n. nat_lt 1 n.from && nat_lt (length (commands_of p j)) n.from) ++ map Signal (signals_of p j))
+    (Finish j ∷ []) (inl refl))
 
 runs_clear : (p : Plan) (j : ℕ) (before : List Task) (e : ℕ) → waited_since p e (onto (runs_batch p j) before) ≡ 0
 runs_clear p j before e =
-    ap (waited_since p e) (onto_append (AwaitReleased j ∷ [] ++ waits_where p j (λ n. n.from == 1) ++ Start j ∷ [] ++ flat_map (runs_command p j) (enumerate_from 1 (commands_of p j)) ++ waits_where p j (λ n. nat_lt 1 n.from && nat_lt (length (commands_of p j)) n.from) ++ map Signal (signals_of p j)) (Finish j ∷ []) before)
+    ap (waited_since p e)
+    (onto_append (AwaitReleased j ∷ [] ++ waits_where p j (λ n. n.from == 1) ++ Start j ∷ [] ++ flat_map
+    (runs_command p j) (enumerate_from 1 (commands_of p j)) ++ waits_where p j
+    (λ n. nat_lt 1 n.from && nat_lt (length (commands_of p j)) n.from) ++ map Signal (signals_of p j))
+    (Finish j ∷ []) before)
 
 -- The batches of a queue one after another.
-pub runs_in_order : (p : Plan) (q : ℕ) (js front : List ℕ) → AreRising js → jobs_of_lane p (QueueLane q) ≡ front ++ js → ((j : ℕ) → has js j ≡ true → RunsBatch p (QueueLane q) j) → (before : List Task) → ((i : ℕ) → has front i ≡ true → Among (Finish i) before) → ((e : ℕ) → waited_since p e before ≡ 0) → InOrder p (RingActor q) before (flat_map (runs_batch p) js)
+pub runs_in_order : (p : Plan) (q : ℕ) (js front : List ℕ) → AreRising js → jobs_of_lane p (QueueLane q) ≡ front ++ js →
+    ((j : ℕ) → has js j ≡ true → RunsBatch p (QueueLane q) j) → (before : List Task) →
+    ((i : ℕ) → has front i ≡ true → Among (Finish i) before) → ((e : ℕ) → waited_since p e before ≡ 0) →
+    InOrder p (RingActor q) before (flat_map (runs_batch p) js)
 runs_in_order p q [] front rising whole batches before done clear = tt
 runs_in_order p q (j ∷ js) front rising whole batches before done clear =
     let b = batches j (has_here j js) in
     let lane_done : (i : ℕ) → previous p j ≡ Some i → Among (Finish i) before = λ i h. earlier i (b.job_before i h) in
-    let at : InJob p (RingActor q) (AwaitReleased j ∷ before) (Start j ∷ Finish j ∷ []) j (needs_at p j (At 1)) = record {
+    let at : InJob p (RingActor q) (AwaitReleased j ∷ before) (Start j ∷ Finish j ∷ []) j
+    (needs_at p j (At 1)) = record {
       lane = QueueLane q;
       of_actor = refl;
       behind = record { front = front; back = js; whole = whole; earlier = λ i m. inr (done i m) };
@@ -386,7 +484,8 @@ runs_in_order p q (j ∷ js) front rising whole batches before done clear =
     in
     joined p (RingActor q) before (runs_batch p j) (flat_map (runs_batch p) js)
     (runs_part p (RingActor q) (QueueLane q) j b before (flat_map (runs_batch p) js) at lane_done clear)
-    (runs_in_order p q js (front ++ j ∷ []) rising.1 (whole ∙ push front j js) (λ k m. batches k (has_there j js k m)) (onto (runs_batch p j) before) (λ i m. elim (pushed_has front j i m) [
+    (runs_in_order p q js (front ++ j ∷ []) rising.1 (whole ∙ push front j js) (λ k m. batches k (has_there j js k m))
+    (onto (runs_batch p j) before) (λ i m. elim (pushed_has front j i m) [
       | inl o ↦ among_onto (Finish i) (runs_batch p j) before (done i o)
       | inr e ↦ subst (λ (n : ℕ). Among (Finish n) (onto (runs_batch p j) before)) e (has_finish p j before)
     ]) (runs_clear p j before))

@@ -6,8 +6,9 @@ use Rattle.vq_model.specs.declared.plan.Need.{Need}
 use Rattle.vq_model.specs.Plan.{Plan}
 use Rattle.vq_points.specs.Points.{PointState}
 use Rattle.vq_turns.specs.declared.task.Task.{Task}
-use Rattle.vq_turns.specs.declared.task.Task.TheVariants.{AwaitSubmitted, AwaitReleased, AwaitFinished, AwaitBound, AwaitNeeds}
-use Rattle.vq_turns.specs.declared.task.Task.TheVariants.{Submit, Take, Release, Bind, Start, Apply, Signal, Compare, Answer, Finish}
+use Rattle.vq_turns.specs.declared.task.Task.TheVariants.{AwaitSubmitted, AwaitReleased, AwaitFinished, AwaitBound}
+use Rattle.vq_turns.specs.declared.task.Task.TheVariants.{AwaitNeeds, Submit, Take, Release, Bind, Start, Apply, Signal}
+use Rattle.vq_turns.specs.declared.task.Task.TheVariants.{Compare, Answer, Finish}
 use Rattle.vq_turns.specs.declared.look.Holding.{Holding}
 use Rattle.vq_turns.specs.declared.look.Seen.{Seen}
 use Rattle.vq_turns.specs.Turns.{Place}
@@ -61,13 +62,17 @@ sees_prop p w j [] (x ∷ xs) = Prim.hlevel props
 sees_prop p w j ((t, v) ∷ qs) [] = Prim.hlevel props
 sees_prop p w j ((t, v) ∷ qs) (x ∷ xs) = let rest = sees_prop p w j qs xs in Prim.hlevel props
 
-holds_prop : (p : Plan) (w : PointState) (a : ActorName) (before : List Task) (j : ℕ) (ns : List Need) (holding : List Holding) (met : Bool) → IsProp (HoldsTruly p w a before j ns holding met)
+holds_prop : (p : Plan) (w : PointState) (a : ActorName) (before : List Task) (j : ℕ) (ns : List Need)
+    (holding : List Holding) (met : Bool) → IsProp (HoldsTruly p w a before j ns holding met)
 holds_prop p w a before j ns holding met = Prim.hlevel props
 
-stands_prop : (p : Plan) (w : PointState) (a : ActorName) (before after : List Task) (holding : List Holding) (met : Bool) → IsProp (Stands p w a before after holding met)
-stands_prop p w a before after holding met = Prim.hlevel (props, each_prop (IsDone w) (done_prop w), each_prop (IsLeft w) (left_prop w), holds_prop)
+stands_prop : (p : Plan) (w : PointState) (a : ActorName) (before after : List Task) (holding : List Holding)
+    (met : Bool) → IsProp (Stands p w a before after holding met)
+stands_prop p w a before after holding met = Prim.hlevel
+    (props, each_prop (IsDone w) (done_prop w), each_prop (IsLeft w) (left_prop w), holds_prop)
 
-saw_prop : (p : Plan) (w : PointState) (before after : List Task) (seen : List Seen) → IsProp (SawTruly p w before after seen)
+saw_prop : (p : Plan) (w : PointState) (before after : List Task) (seen : List Seen) →
+    IsProp (SawTruly p w before after seen)
 saw_prop p w before after seen = Prim.hlevel (props, sees_prop)
 
 pub true_for_prop : (p : Plan) (w : PointState) (a : ActorName) (x : Place) → IsProp (IsTrueFor p w a x)

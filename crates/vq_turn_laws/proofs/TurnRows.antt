@@ -35,7 +35,8 @@ script modes jobs =
     record {
       version = 2;
       buffers = record { line = 1; name = 88 ∷ []; size = 4 } ∷ [];
-      semaphores = record { line = 2; name = 65 ∷ []; kind = Timeline 0 } ∷ record { line = 2; name = 66 ∷ []; kind = Timeline 0 } ∷ [];
+      semaphores = record { line = 2; name = 65 ∷ []; kind = Timeline 0 } ∷ record
+          { line = 2; name = 66 ∷ []; kind = Timeline 0 } ∷ [];
       queues = queues_of modes;
       jobs = jobs;
       scheduled = false;
@@ -56,7 +57,8 @@ abbrev fill : CommandLine
 fill = record { line = 6; command = Fill 0 0 (Count 4) 1 }
 
 abbrev pub batch : ℕ → ℕ → List Mark → List CommandLine → List Mark → Job
-batch line q waits commands signals = Batch (record { line = line; queue = q; waits = waits; commands = commands; signals = signals; fence = None })
+batch line q waits commands signals = Batch
+    (record { line = line; queue = q; waits = waits; commands = commands; signals = signals; fence = None })
 
 abbrev host : ℕ → HostStep → Job
 host line step = Host (record { line = line; step = step })
@@ -69,46 +71,66 @@ abbrev three_signals : Script
 three_signals =
     script
     (Threaded ∷ Threaded ∷ [])
-    (batch 5 0 [] (fill ∷ []) (signal 1 ∷ []) ∷ batch 9 1 (wait 1 1 ∷ []) [] [] ∷ batch 12 0 [] [] (signal 2 ∷ []) ∷ batch 15 0 [] [] (signal 3 ∷ []) ∷ [])
+    (batch 5 0 [] (fill ∷ []) (signal 1 ∷ []) ∷ batch 9 1 (wait 1 1 ∷ []) [] [] ∷ batch 12 0 [] []
+    (signal 2 ∷ []) ∷ batch 15 0 [] [] (signal 3 ∷ []) ∷ [])
 
 three_signals_played : played
     three_signals
-    (HostActor ∷ times 3 (SubmitActor 0) ++ HostActor ∷ SubmitActor 1 ∷ RingActor 1 ∷ times 4 (RingActor 0) ++ HostActor ∷ times 4 (SubmitActor 0) ++ times 2 (RingActor 1) ++ HostActor ∷ times 2 (SubmitActor 0))
-    ≡ Moved (Submit 0) ∷ Moved (Take 0 0 true) ∷ Moved (Release 0) ∷ Moved (Bind 0 0) ∷ Moved (Submit 1) ∷ Moved (Release 1) ∷ Moved (Refer (RingActor 1) 0 0) ∷ Moved (Start 0) ∷ Moved (Apply 0 0) ∷ Moved (Signal 0) ∷ Moved (Finish 0) ∷ Moved (Submit 2) ∷ Moved (Complete 0) ∷ Moved (Take 1 1 true) ∷ Moved (Release 2) ∷ Moved (Bind 1 1) ∷ Moved (Look (RingActor 1) 0 0) ∷ Moved (Unref (RingActor 1) 0 0) ∷ Moved (Submit 3) ∷ Moved (Free 0) ∷ Moved (Take 2 0 false) ∷ []
+    (HostActor ∷ times 3 (SubmitActor 0) ++ HostActor ∷ SubmitActor 1 ∷ RingActor 1 ∷ times 4
+    (RingActor 0) ++ HostActor ∷ times 4 (SubmitActor 0) ++ times 2 (RingActor 1) ++ HostActor ∷ times 2
+    (SubmitActor 0))
+    ≡ Moved (Submit 0) ∷ Moved (Take 0 0 true) ∷ Moved (Release 0) ∷ Moved (Bind 0 0) ∷ Moved (Submit 1) ∷ Moved
+    (Release 1) ∷ Moved (Refer (RingActor 1) 0 0) ∷ Moved (Start 0) ∷ Moved (Apply 0 0) ∷ Moved (Signal 0) ∷ Moved
+    (Finish 0) ∷ Moved (Submit 2) ∷ Moved (Complete 0) ∷ Moved (Take 1 1 true) ∷ Moved (Release 2) ∷ Moved
+    (Bind 1 1) ∷ Moved (Look (RingActor 1) 0 0) ∷ Moved (Unref (RingActor 1) 0 0) ∷ Moved (Submit 3) ∷ Moved
+    (Free 0) ∷ Moved (Take 2 0 false) ∷ []
 three_signals_played = refl
 
 -- A ring without a released batch is blocked; one turn on an empty schedule is none.
-blocked_ring : played (script (Threaded ∷ []) (batch 4 0 [] [] [] ∷ [])) (RingActor 0 ∷ SubmitActor 0 ∷ []) ≡ Blocked (Released 0) ∷ Blocked (Submitted 0) ∷ []
+blocked_ring : played (script (Threaded ∷ []) (batch 4 0 [] [] [] ∷ [])) (RingActor 0 ∷ SubmitActor 0 ∷ []) ≡ Blocked
+    (Released 0) ∷ Blocked (Submitted 0) ∷ []
 blocked_ring = refl
 
 no_turns : played (script (Threaded ∷ []) (batch 4 0 [] [] [] ∷ [])) [] ≡ []
 no_turns = refl
 
 -- The host moves the batches of an immediate queue.
-immediate : played (script (Immediate ∷ []) (batch 3 0 [] (fill ∷ []) [] ∷ [])) (times 2 HostActor ++ times 4 (RingActor 0))
+immediate : played (script (Immediate ∷ []) (batch 3 0 [] (fill ∷ []) [] ∷ []))
+    (times 2 HostActor ++ times 4 (RingActor 0))
     ≡ Moved (Submit 0) ∷ Moved (Release 0) ∷ Moved (Start 0) ∷ Moved (Apply 0 0) ∷ Moved (Finish 0) ∷ Ended ∷ []
 immediate = refl
 
 -- The host signals and reads.
-host_reads : played (script [] (host 2 (HostSignal (record { semaphore = 0; value = 1 })) ∷ host 3 (Read 0) ∷ [])) (times 11 HostActor)
-    ≡ Moved (Start 0) ∷ Moved (Take 0 0 true) ∷ Moved (Bind 0 0) ∷ Moved (Signal 0) ∷ Moved (Finish 0) ∷ Moved (Start 1) ∷ Moved (Complete 0) ∷ Moved (Free 0) ∷ Moved (Answer 1 (Value 1)) ∷ Moved (Finish 1) ∷ Ended ∷ []
+host_reads : played (script [] (host 2 (HostSignal (record { semaphore = 0; value = 1 })) ∷ host 3 (Read 0) ∷ []))
+    (times 11 HostActor)
+    ≡ Moved (Start 0) ∷ Moved (Take 0 0 true) ∷ Moved (Bind 0 0) ∷ Moved (Signal 0) ∷ Moved (Finish 0) ∷ Moved
+    (Start 1) ∷ Moved (Complete 0) ∷ Moved (Free 0) ∷ Moved (Answer 1 (Value 1)) ∷ Moved (Finish 1) ∷ Ended ∷ []
 host_reads = refl
 
 -- The host serves a deferred queue.
-deferred : played (script (Deferred ∷ []) (batch 3 0 [] [] (signal 1 ∷ []) ∷ [])) (times 5 HostActor ++ times 4 (RingActor 0))
-    ≡ Moved (Submit 0) ∷ Moved (Take 0 0 true) ∷ Moved (Release 0) ∷ Moved (Bind 0 0) ∷ Ended ∷ Moved (Start 0) ∷ Moved (Signal 0) ∷ Moved (Finish 0) ∷ Ended ∷ []
+deferred : played (script (Deferred ∷ []) (batch 3 0 [] [] (signal 1 ∷ []) ∷ []))
+    (times 5 HostActor ++ times 4 (RingActor 0))
+    ≡ Moved (Submit 0) ∷ Moved (Take 0 0 true) ∷ Moved (Release 0) ∷ Moved (Bind 0 0) ∷ Ended ∷ Moved (Start 0) ∷ Moved
+    (Signal 0) ∷ Moved (Finish 0) ∷ Ended ∷ []
 deferred = refl
 
 -- A held wait: the ring starts and applies a command, and then waits.
 held : played
-    (script (Threaded ∷ Threaded ∷ []) (batch 7 0 (wait 1 2 ∷ []) (fill ∷ fill ∷ []) [] ∷ batch 12 1 [] (fill ∷ []) (signal 1 ∷ []) ∷ []))
+    (script (Threaded ∷ Threaded ∷ [])
+    (batch 7 0 (wait 1 2 ∷ []) (fill ∷ fill ∷ []) [] ∷ batch 12 1 [] (fill ∷ []) (signal 1 ∷ []) ∷ []))
     (times 2 HostActor ++ times 3 (SubmitActor 1) ++ SubmitActor 0 ∷ times 4 (RingActor 0))
-    ≡ Moved (Submit 0) ∷ Moved (Submit 1) ∷ Moved (Take 0 0 true) ∷ Moved (Release 1) ∷ Moved (Bind 0 0) ∷ Moved (Release 0) ∷ Moved (Start 0) ∷ Moved (Apply 0 0) ∷ Moved (Refer (RingActor 0) 0 0) ∷ Blocked (Signaled 0) ∷ []
+    ≡ Moved (Submit 0) ∷ Moved (Submit 1) ∷ Moved (Take 0 0 true) ∷ Moved (Release 1) ∷ Moved (Bind 0 0) ∷ Moved
+    (Release 0) ∷ Moved (Start 0) ∷ Moved (Apply 0 0) ∷ Moved (Refer (RingActor 0) 0 0) ∷ Blocked (Signaled 0) ∷ []
 held = refl
 
 -- A wait for any of two pairs: nothing ever reaches the first, and the second is met by collection or by a look.
 waits_any : played
-    (script (Threaded ∷ []) (batch 4 0 [] [] (signal 1 ∷ []) ∷ host 8 (WaitAny (record { semaphore = 1; value = 1 } ∷ record { semaphore = 0; value = 1 } ∷ [])) ∷ []))
+    (script (Threaded ∷ [])
+    (batch 4 0 [] [] (signal 1 ∷ []) ∷ host 8
+    (WaitAny (record { semaphore = 1; value = 1 } ∷ record { semaphore = 0; value = 1 } ∷ [])) ∷ []))
     (times 2 HostActor ++ times 3 (SubmitActor 0) ++ times 2 HostActor ++ times 3 (RingActor 0) ++ times 6 HostActor)
-    ≡ Moved (Submit 0) ∷ Blocked (Bound 0) ∷ Moved (Take 0 0 true) ∷ Moved (Release 0) ∷ Moved (Bind 0 0) ∷ Moved (Refer HostActor 0 0) ∷ Blocked (Signaled 0) ∷ Moved (Start 0) ∷ Moved (Signal 0) ∷ Moved (Finish 0) ∷ Moved (Look HostActor 0 0) ∷ Moved (Unref HostActor 0 0) ∷ Moved (Start 1) ∷ Moved (Answer 1 Reached) ∷ Moved (Finish 1) ∷ Ended ∷ []
+    ≡ Moved (Submit 0) ∷ Blocked (Bound 0) ∷ Moved (Take 0 0 true) ∷ Moved (Release 0) ∷ Moved (Bind 0 0) ∷ Moved
+    (Refer HostActor 0 0) ∷ Blocked (Signaled 0) ∷ Moved (Start 0) ∷ Moved (Signal 0) ∷ Moved (Finish 0) ∷ Moved
+    (Look HostActor 0 0) ∷ Moved (Unref HostActor 0 0) ∷ Moved (Start 1) ∷ Moved (Answer 1 Reached) ∷ Moved
+    (Finish 1) ∷ Ended ∷ []
 waits_any = refl

@@ -1,10 +1,8 @@
 -- Waits in a program, and what is known of a job while tasks go by.
-use Rattle.vq_history_laws.proofs.Cited.{count_cons}
-use Rattle.std.proofs.lemmas.Bool.{and_parts}
+use Rattle.std.proofs.lemmas.Bool.{and_parts, or_cases, or_left, or_parts, eq-eqb, and_from, false≢true}
 use Rattle.std.proofs.Common.{◌≡◌, ℕ, ◌<◌, ◌≤◌, ◌+◌, Bool, true, false, eqb, List, [], ◌∷◌, ◌++◌, length, map, filter}
 use Rattle.std.proofs.Common.{refl, sym, subst, ap, ◌∙◌, inl, inr, ◌||◌, not, cond, arith, if◌then◌else◌, ◌==◌}
 use Rattle.std.specs.List.{count_by, list_any, list_all, position_or_len, prefix_len}
-use Rattle.std.proofs.lemmas.Bool.{or_cases, or_left, or_parts, eq-eqb, and_from, false≢true}
 use Rattle.vq_model.specs.declared.script.ActorName.{ActorName}
 use Rattle.vq_model.specs.declared.plan.Need.{Need}
 use Rattle.vq_model.specs.Plan.{Plan, has}
@@ -15,30 +13,36 @@ use Rattle.vq_turns.specs.declared.task.Task.{Task}
 use Rattle.vq_turns.specs.declared.task.Task.TheVariants.{AwaitReleased, AwaitNeeds, Start, Finish}
 use Rattle.vq_turn_laws.specs.Orders.{waited_since, Within, Behind, InJob, AsksWait}
 use Rattle.vq_turn_laws.specs.Tasks.{onto, Among}
+use Rattle.vq_history_laws.proofs.Cited.{count_cons}
 use Rattle.vq_turn_laws.proofs.ProgramLaws.{InPart, among_onto, among_right}
 
 -- Needs in lists
 
-pub within_filter : (test : Need → Bool) (ns : List Need) (n : Need) → Within n (filter test ns) → Within n ns × (test n ≡ true)
+pub within_filter : (test : Need → Bool) (ns : List Need) (n : Need) → Within n (filter test ns) →
+    Within n ns × (test n ≡ true)
 within_filter test [] n h = absurd h
 within_filter test (m ∷ ms) n h = by_test (test m) refl h (within_filter test ms n)
   where
-    by_test : (b : Bool) → test m ≡ b → Within n (if b then m ∷ filter test ms else filter test ms) → (Within n (filter test ms) → Within n ms × (test n ≡ true)) → Within n (m ∷ ms) × (test n ≡ true)
+    by_test : (b : Bool) → test m ≡ b → Within n (if b then m ∷ filter test ms else filter test ms) →
+        (Within n (filter test ms) → Within n ms × (test n ≡ true)) → Within n (m ∷ ms) × (test n ≡ true)
     by_test true e (inl s) f = (inl s, subst (λ (z : Need). test z ≡ true) s e)
     by_test true e (inr r) f = let x = f r in (inr x.0, x.1)
     by_test false e r f = let x = f r in (inr x.0, x.1)
 
-pub filter_within : (test : Need → Bool) (ns : List Need) (n : Need) → Within n ns → test n ≡ true → Within n (filter test ns)
+pub filter_within : (test : Need → Bool) (ns : List Need) (n : Need) → Within n ns → test n ≡ true →
+    Within n (filter test ns)
 filter_within test [] n h t = absurd h
 filter_within test (m ∷ ms) n h t = by_test (test m) refl h (λ r. filter_within test ms n r t)
   where
-    by_test : (b : Bool) → test m ≡ b → Within n (m ∷ ms) → (Within n ms → Within n (filter test ms)) → Within n (if b then m ∷ filter test ms else filter test ms)
+    by_test : (b : Bool) → test m ≡ b → Within n (m ∷ ms) → (Within n ms → Within n (filter test ms)) →
+        Within n (if b then m ∷ filter test ms else filter test ms)
     by_test true e (inl s) f = inl s
     by_test true e (inr r) f = inr (f r)
     by_test false e (inl s) f = absurd (false≢true (sym e ∙ (ap test s ∙ t)))
     by_test false e (inr r) f = f r
 
-pub any_within : (test : Need → Bool) (ns : List Need) → list_any test ns ≡ true → (n : Need) × Within n ns × (test n ≡ true)
+pub any_within : (test : Need → Bool) (ns : List Need) → list_any test ns ≡ true →
+    (n : Need) × Within n ns × (test n ≡ true)
 any_within test [] h = absurd (false≢true h)
 any_within test (m ∷ ms) h =
     elim (or_cases (test m) (list_any test ms) h) [
@@ -46,7 +50,8 @@ any_within test (m ∷ ms) h =
       | inr r ↦ let x = any_within test ms r in (x.0, inr x.1, x.2)
     ]
 
-pub within_any : (test : Need → Bool) (ns : List Need) (n : Need) → Within n ns → test n ≡ true → list_any test ns ≡ true
+pub within_any : (test : Need → Bool) (ns : List Need) (n : Need) → Within n ns → test n ≡ true →
+    list_any test ns ≡ true
 within_any test [] n h t = absurd h
 within_any test (m ∷ ms) n (inl e) t = or_left (test m) (list_any test ms) (ap test e ∙ t)
 within_any test (m ∷ ms) n (inr r) t = right (test m) (within_any test ms n r t)
@@ -55,9 +60,11 @@ within_any test (m ∷ ms) n (inr r) t = right (test m) (within_any test ms n r 
     right true h = refl
     right false h = h
 
-pub all_within : (test : Need → Bool) (ns : List Need) → ((n : Need) → Within n ns → test n ≡ true) → list_all test ns ≡ true
+pub all_within : (test : Need → Bool) (ns : List Need) → ((n : Need) → Within n ns → test n ≡ true) →
+    list_all test ns ≡ true
 all_within test [] f = refl
-all_within test (m ∷ ms) f = and_from (test m) (list_all test ms) (f m (inl refl)) (all_within test ms (λ n w. f n (inr w)))
+all_within test (m ∷ ms) f = and_from (test m) (list_all test ms) (f m (inl refl))
+    (all_within test ms (λ n w. f n (inr w)))
 
 pub all_of : (test : Need → Bool) (ns : List Need) (n : Need) → list_all test ns ≡ true → Within n ns → test n ≡ true
 all_of test [] n h w = absurd w
@@ -87,19 +94,28 @@ rising_apart (x ∷ xs) c back r =
     differ true e h = absurd (false≢true (sym e))
     differ false e h = h
 
-pub position : (front : List ℕ) (c : ℕ) (back : List ℕ) → has front c ≡ false → position_or_len (λ d. d == c) (front ++ c ∷ back) ≡ length front
+pub position : (front : List ℕ) (c : ℕ) (back : List ℕ) → has front c ≡ false →
+    position_or_len (λ d. d == c) (front ++ c ∷ back) ≡ length front
 position [] c back h = ap (λ b. cond (not b) (1 + prefix_len (λ d. not (d == c)) back) 0) (eq-eqb c c refl)
 position (x ∷ xs) c back h =
     let parts = or_parts (eqb x c) (has xs c) h in
     let rest : position_or_len (λ d. d == c) (xs ++ c ∷ back) ≡ length xs = position xs c back parts.1 in
-    let here : position_or_len (λ d. d == c) (x ∷ (xs ++ c ∷ back)) ≡ 1 + position_or_len (λ d. d == c) (xs ++ c ∷ back) = ap (λ b. cond (not b) (1 + position_or_len (λ d. d == c) (xs ++ c ∷ back)) 0) parts.0 in
+    let here : position_or_len (λ d. d == c) (x ∷ (xs ++ c ∷ back)) ≡ 1 + position_or_len (λ d. d == c)
+    (xs ++ c ∷ back) = ap (λ b. cond (not b) (1 + position_or_len (λ d. d == c) (xs ++ c ∷ back)) 0) parts.0 in
     omega arith
 
 -- What stands before grows, and what stands behind too.
 
-pub behind_more : (xs : List ℕ) (x : ℕ) (task : ℕ → Task) (ts before : List Task) → Behind xs x task before → Behind xs x task (onto ts before)
+pub behind_more : (xs : List ℕ) (x : ℕ) (task : ℕ → Task) (ts before : List Task) → Behind xs x task before →
+    Behind xs x task (onto ts before)
 behind_more xs x task ts before k =
-    record { front = k.front; back = k.back; whole = k.whole; earlier = λ y m. among_onto (task y) ts before (k.earlier y m) }
+    record {
+      front = k.front;
+      back = k.back;
+      whole = k.whole;
+      earlier = λ y m. among_onto (task y) ts before
+          (k.earlier y m);
+    }
 
 module _ (p : Plan) (a : ActorName) (j : ℕ) (source : List Need) where
   pub later : (before ys left : List Task) → InJob p a before left j source → InJob p a before (ys ++ left) j source
@@ -118,7 +134,13 @@ module _ (p : Plan) (a : ActorName) (j : ℕ) (source : List Need) where
       record {
         lane = k.lane;
         of_actor = k.of_actor;
-        behind = record { front = k.behind.front; back = k.behind.back; whole = k.behind.whole; earlier = λ y m. among_onto (Finish y) ts before (k.behind.earlier y m) };
+        behind = record {
+          front = k.behind.front;
+          back = k.behind.back;
+          whole = k.behind.whole;
+          earlier = λ y m.
+              among_onto (Finish y) ts before (k.behind.earlier y m);
+        };
         unfinished = k.unfinished;
         released = λ h. among_onto (AwaitReleased j) ts before (k.released h);
         stage = elim k.stage [ inl m ↦ inl m | inr m ↦ inr (among_onto (Start j) ts before m.0, m.1) ];
@@ -128,12 +150,19 @@ module _ (p : Plan) (a : ActorName) (j : ℕ) (source : List Need) where
   abbrev pub HasRoom : List Task → List Need → Type 0
   HasRoom before ns = (e : ℕ) → waited_since p e before + count_by (resolves p e) ns ≤ needs_resolved p j e
 
-  pub one_wait : (before left : List Task) (ns : List Need) → InJob p a before left j source → ((n : Need) → Within n ns → Within n source) → HasRoom before ns → AsksWait p a before ns left
+  pub one_wait : (before left : List Task) (ns : List Need) → InJob p a before left j source →
+      ((n : Need) → Within n ns → Within n source) → HasRoom before ns → AsksWait p a before ns left
   one_wait before left ns k f r = record { job = j; source = source; in_job = k; inside = f; room = r }
 
-  pub waits_each : (ns : List Need) (before left : List Task) → InJob p a before left j source → ((n : Need) → Within n ns → Within n source) → HasRoom before ns → InPart p a before (map wait ns) left
+  pub waits_each : (ns : List Need) (before left : List Task) → InJob p a before left j source →
+      ((n : Need) → Within n ns → Within n source) → HasRoom before ns → InPart p a before (map wait ns) left
   waits_each [] before left k f r = tt
   waits_each (n ∷ ns) before left k f r = (
-    one_wait before (map wait ns ++ left) (n ∷ []) (later before (map wait ns) left k) (λ m w. elim w [ inl e ↦ f m (inl e) | inr o ↦ absurd o ]) (λ e. let x = count_cons (resolves p e) n ns in let y = count_cons (resolves p e) n [] in let z = r e in omega arith),
-    waits_each ns (wait n ∷ before) left (more (wait n ∷ []) before left k) (λ m w. f m (inr w)) (λ e. let x = count_cons (resolves p e) n ns in let y = count_cons (resolves p e) n [] in let z = r e in omega arith),
+    one_wait before (map wait ns ++ left) (n ∷ []) (later before (map wait ns) left k)
+        (λ m w. elim w [ inl e ↦ f m (inl e) | inr o ↦ absurd o ])
+        (λ e. let x = count_cons (resolves p e) n ns in let y = count_cons
+        (resolves p e) n [] in let z = r e in omega arith),
+    waits_each ns (wait n ∷ before) left (more (wait n ∷ []) before left k) (λ m w. f m (inr w))
+        (λ e. let x = count_cons (resolves p e) n ns in let y = count_cons
+        (resolves p e) n [] in let z = r e in omega arith),
   )

@@ -1,5 +1,6 @@
 -- A whole turn, the opening, and the turns of others.
-use Rattle.std.proofs.Common.{◌≡◌, ℕ, suc, ◌+◌, Bool, true, false, if◌then◌else◌, List, [], ◌∷◌, drop, Option, Some, None, refl, subst, arith}
+use Rattle.std.proofs.Common.{◌≡◌, ℕ, suc, ◌+◌, Bool, true, false, if◌then◌else◌, List, [], ◌∷◌, drop, Option, Some}
+use Rattle.std.proofs.Common.{None, refl, subst, arith}
 use Rattle.std.specs.List.{enumerate_from}
 use Rattle.std.specs.Option.{option_map_or}
 use Rattle.std.proofs.lemmas.Bool.{false≢true}
@@ -10,8 +11,9 @@ use Rattle.vq_model.specs.declared.plan.Event.TheVariants.{Look, Bind as Binds, 
 use Rattle.vq_model.specs.Plan.{Plan}
 use Rattle.vq_points.specs.Points.{PointState, CanCome, after_event, opening_points}
 use Rattle.vq_turns.specs.declared.task.Task.{Task}
-use Rattle.vq_turns.specs.declared.task.Task.TheVariants.{AwaitSubmitted, AwaitReleased, AwaitFinished, AwaitBound, AwaitNeeds}
-use Rattle.vq_turns.specs.declared.task.Task.TheVariants.{Submit, Take, Release, Bind, Start, Apply, Signal, Compare, Answer, Finish}
+use Rattle.vq_turns.specs.declared.task.Task.TheVariants.{AwaitSubmitted, AwaitReleased, AwaitFinished, AwaitBound}
+use Rattle.vq_turns.specs.declared.task.Task.TheVariants.{AwaitNeeds, Submit, Take, Release, Bind, Start, Apply, Signal}
+use Rattle.vq_turns.specs.declared.task.Task.TheVariants.{Compare, Answer, Finish}
 use Rattle.vq_turns.specs.declared.look.Holding.{Holding}
 use Rattle.vq_turns.specs.declared.look.Found.{Found}
 use Rattle.vq_turns.specs.declared.look.Found.TheVariants.{Past, Pending, NotYet}
@@ -19,8 +21,9 @@ use Rattle.vq_turns.specs.declared.outcome.Want.{Want}
 use Rattle.vq_turns.specs.declared.outcome.Want.TheVariants.{Bound, Next, Signaled}
 use Rattle.vq_turns.specs.declared.outcome.Outcome.TheVariants.{Moved, Blocked}
 use Rattle.vq_turns.specs.Programs.{program}
-use Rattle.vq_turns.specs.Turns.{Place, Did, GoesOn, Ends, first_place, waits, moves, collected, taken, unbound_before, point_of}
-use Rattle.vq_turns.specs.Turns.{seeing, past_value, held_for, gives_back, by_found, one_need, awaits_needs, found, does, and_then, turn_from, turn_of}
+use Rattle.vq_turns.specs.Turns.{Place, Did, GoesOn, Ends, first_place, waits, moves, collected, taken, unbound_before}
+use Rattle.vq_turns.specs.Turns.{point_of, seeing, past_value, held_for, gives_back, by_found, one_need, awaits_needs}
+use Rattle.vq_turns.specs.Turns.{found, does, and_then, turn_from, turn_of}
 use Rattle.vq_turn_laws.specs.Holdings.{HoldsTruly}
 use Rattle.vq_turn_laws.specs.Places.{IsLeft}
 use Rattle.vq_turn_laws.specs.PlanParts.{IsActor, IsOrderly}
@@ -82,12 +85,16 @@ opening_true p a =
 
 -- Others
 
-pub others_true : (p : Plan) → IsOrderly p → (w : PointState) → Reached p w → (a b : ActorName) → IsActor p a → IsActor p b → (a ≡ b → ⊥) → (x : Place) → IsTrueFor p w a x → (e : Event) → CanCome p w e → IsEventOf p b e → IsTrueFor p (after_event p w e) a x
+pub others_true : (p : Plan) → IsOrderly p → (w : PointState) → Reached p w → (a b : ActorName) → IsActor p a →
+    IsActor p b → (a ≡ b → ⊥) → (x : Place) → IsTrueFor p w a x → (e : Event) → CanCome p w e → IsEventOf p b e →
+    IsTrueFor p (after_event p w e) a x
 others_true p o w r a b first second two x h e can of_other =
     let c = cut_at p o a x.done in
     record {
-      stands = stands_for_others p o w r a b first second two (done_of x.done (program p a)) (drop x.done (program p a)) x.holding x.met c h.stands e can of_other;
-      saw = saw_still p o w r a (done_of x.done (program p a)) h.stands.done (drop x.done (program p a)) x.seen c h.saw e can;
+      stands = stands_for_others p o w r a b first second two (done_of x.done (program p a))
+          (drop x.done (program p a)) x.holding x.met c h.stands e can of_other;
+      saw = saw_still p o w r a (done_of x.done (program p a)) h.stands.done
+          (drop x.done (program p a)) x.seen c h.saw e can;
     }
 
 -- Whole turns
@@ -102,7 +109,8 @@ module _ (p : Plan) (w : PointState) (a : ActorName) (x : Place) where
   waits_forward true want = refl
   waits_forward false want = tt
 
-  collects_forward : (z : Option Event) (others : Did) → GoesForward x others → GoesForward x (option_map_or (λ e. Ends (Moved e) x) z others)
+  collects_forward : (z : Option Event) (others : Did) → GoesForward x others →
+      GoesForward x (option_map_or (λ e. Ends (Moved e) x) z others)
   collects_forward None others f = f
   collects_forward (Some e) others f = tt
 
@@ -110,30 +118,38 @@ module _ (p : Plan) (w : PointState) (a : ActorName) (x : Place) where
   back_forward [] = refl
   back_forward (g ∷ gs) = tt
 
-  looked_forward : (b : Bool) (g : Holding) (others : Did) → GoesForward x others → GoesForward x (if b then Ends (Moved (Look a g.point g.op)) (record x { met = true }) else others)
+  looked_forward : (b : Bool) (g : Holding) (others : Did) → GoesForward x others →
+      GoesForward x (if b then Ends (Moved (Look a g.point g.op)) (record x { met = true }) else others)
   looked_forward true g others f = tt
   looked_forward false g others f = f
 
-  found_forward : (k : ℕ) (next_need : Option Want → Did) → ((v : Option Want) → GoesForward x (next_need v)) → (want : Option Want) (z : Option Found) → GoesForward x (by_found a x k next_need want z)
+  found_forward : (k : ℕ) (next_need : Option Want → Did) → ((v : Option Want) → GoesForward x (next_need v)) →
+      (want : Option Want) (z : Option Found) → GoesForward x (by_found a x k next_need want z)
   found_forward k next_need f want None = f want
   found_forward k next_need f want (Some Past) = back_forward x.holding
   found_forward k next_need f want (Some (Pending e q)) = tt
   found_forward k next_need f want (Some (NotYet e)) = f (Some (Bound e))
 
-  need_forward : (k : ℕ) (need : Need) (next_need : Option Want → Did) → ((v : Option Want) → GoesForward x (next_need v)) → (want : Option Want) (z : Option Holding) → GoesForward x (one_need p w a x k need z next_need want)
+  need_forward : (k : ℕ) (need : Need) (next_need : Option Want → Did) →
+      ((v : Option Want) → GoesForward x (next_need v)) → (want : Option Want) (z : Option Holding) →
+      GoesForward x (one_need p w a x k need z next_need want)
   need_forward k need next_need f want None = found_forward k next_need f want (found p w need.chain need.value)
-  need_forward k need next_need f want (Some g) = looked_forward (w.machine.progress.made g.op) g (next_need (Some (Signaled g.op))) (f (Some (Signaled g.op)))
+  need_forward k need next_need f want (Some g) = looked_forward (w.machine.progress.made g.op) g
+      (next_need (Some (Signaled g.op))) (f (Some (Signaled g.op)))
 
   needs_forward : (qs : List (ℕ × Need)) (want : Option Want) → GoesForward x (awaits_needs p w a x qs want)
   needs_forward [] None = tt
   needs_forward [] (Some v) = tt
-  needs_forward ((k, need) ∷ qs) want = need_forward k need (awaits_needs p w a x qs) (needs_forward qs) want (held_for k x.holding)
+  needs_forward ((k, need) ∷ qs) want = need_forward k need (awaits_needs p w a x qs) (needs_forward qs) want
+      (held_for k x.holding)
 
-  wait_forward : (ns : List Need) (b : Bool) → GoesForward x (if b then gives_back a x x.holding else awaits_needs p w a x (enumerate_from 0 ns) None)
+  wait_forward : (ns : List Need) (b : Bool) →
+      GoesForward x (if b then gives_back a x x.holding else awaits_needs p w a x (enumerate_from 0 ns) None)
   wait_forward ns true = back_forward x.holding
   wait_forward ns false = needs_forward (enumerate_from 0 ns) None
 
-  bind_forward : (e : ℕ) (z : Option ℕ) → GoesForward x (option_map_or (λ f. Ends (Blocked (Next f)) x) z (moves (Binds e (point_of w e)) x))
+  bind_forward : (e : ℕ) (z : Option ℕ) →
+      GoesForward x (option_map_or (λ f. Ends (Blocked (Next f)) x) z (moves (Binds e (point_of w e)) x))
   bind_forward e None = tt
   bind_forward e (Some f) = tt
 
@@ -159,13 +175,18 @@ module _ (p : Plan) (w : PointState) (a : ActorName) (x : Place) where
   does_forward (Finish j) = tt
 
 module _ (p : Plan) (o : IsOrderly p) (w : PointState) (r : Reached p w) (a : ActorName) where
-  turns_true : (ts : List Task) (x : Place) → drop x.done (program p a) ≡ ts → IsTrueFor p w a x → IsTrueTurn p w a (turn_from p w a x ts).outcome (turn_from p w a x ts).place
+  turns_true : (ts : List Task) (x : Place) → drop x.done (program p a) ≡ ts → IsTrueFor p w a x →
+      IsTrueTurn p w a (turn_from p w a x ts).outcome (turn_from p w a x ts).place
   turns_true [] x s h = h
   turns_true (t ∷ ts) x s h =
       let n = next_at x.done (program p a) t ts s in
       by_did (does p w a x t) (does_true p o w r a x h t n.0) (does_forward p w a x t) n.1 (turns_true ts)
     where
-      by_did : (d : Did) → IsTrueDid p w a d → GoesForward x d → drop (suc x.done) (program p a) ≡ ts → ((y : Place) → drop y.done (program p a) ≡ ts → IsTrueFor p w a y → IsTrueTurn p w a (turn_from p w a y ts).outcome (turn_from p w a y ts).place) → IsTrueTurn p w a (and_then d (λ y. turn_from p w a y ts)).outcome (and_then d (λ y. turn_from p w a y ts)).place
+      by_did : (d : Did) → IsTrueDid p w a d → GoesForward x d → drop (suc x.done) (program p a) ≡ ts →
+          ((y : Place) → drop y.done (program p a) ≡ ts → IsTrueFor p w a y →
+          IsTrueTurn p w a (turn_from p w a y ts).outcome (turn_from p w a y ts).place) →
+          IsTrueTurn p w a (and_then d (λ y. turn_from p w a y ts)).outcome
+          (and_then d (λ y. turn_from p w a y ts)).place
       by_did (GoesOn y) k f rest g =
           let same : suc x.done ≡ y.done = let z = f in omega arith in
           g y (subst (λ (m : ℕ). drop m (program p a) ≡ ts) same rest) k

@@ -1,12 +1,12 @@
 -- What a task asks of its actor's other tasks: some stand before it, and some are left. This project's own.
-use Rattle.std.specs.Prelude.{ℕ, ◌≡◌, ◌<◌, ◌≤◌, ◌+◌, nat_lt, true, false, List, [], ◌∷◌, ◌++◌, length}
-use Rattle.std.specs.Prelude.{filter, count_by, Some, ◌⊎◌}
+use Rattle.std.specs.Prelude.{ℕ, ◌≡◌, ◌<◌, ◌≤◌, ◌+◌, nat_lt, true, false, List, [], ◌∷◌, ◌++◌, length, filter, count_by}
+use Rattle.std.specs.Prelude.{Some, ◌⊎◌}
 use Rattle.vq_model.specs.declared.script.ActorName.{ActorName}
 use Rattle.vq_model.specs.declared.plan.Lane.{Lane}
 use Rattle.vq_model.specs.declared.plan.Need.{Need}
 use Rattle.vq_model.specs.declared.plan.Question.{Question}
-use Rattle.vq_model.specs.Plan.{Plan, has, signals_of, commands_of, job_of, chain_of, is_host_step, is_batch}
-use Rattle.vq_model.specs.Plan.{needs, asked, question, is_silent, waits_for_any, previous, idle_after}
+use Rattle.vq_model.specs.Plan.{Plan, has, signals_of, commands_of, job_of, chain_of, is_host_step, is_batch, needs}
+use Rattle.vq_model.specs.Plan.{asked, question, is_silent, waits_for_any, previous, idle_after}
 use Rattle.vq_model.specs.Edges.{Stage, At, AtEnd, awaited_at, needs_at, stage_of}
 use Rattle.vq_points.specs.Points.{resolves, needs_resolved, earlier_in_queue, jobs_of_lane, lane_of_actor}
 use Rattle.vq_turns.specs.declared.task.Task.{Task}

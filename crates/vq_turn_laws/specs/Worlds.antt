@@ -6,8 +6,8 @@ use Rattle.vq_model.specs.declared.plan.Event.TheVariants.{Signal}
 use Rattle.vq_model.specs.Plan.{Plan, has, chain_of, value, initial}
 use Rattle.vq_model.specs.Machine.{was_since}
 use Rattle.vq_points.specs.Points.{PointState, count_of, jobs_of_lane, opening_points, HistoryFrom}
-use Rattle.vq_history_laws.specs.Histories.{points_after}
 use Rattle.vq_turns.specs.declared.look.Seen.{Seen}
+use Rattle.vq_history_laws.specs.Histories.{points_after}
 
 -- something holds in each world that a history leads to
 abbrev pub InEachWorld : Plan → (PointState → Type 0) → Type 0

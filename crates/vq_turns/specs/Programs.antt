@@ -1,7 +1,7 @@
 -- The program of each actor: the tasks that it does, one after another. This project's own, over
 -- Vulkan 1.3, "Queue Submission".
-use Rattle.std.specs.Prelude.{ℕ, ◌==◌, nat_lt, Bool, true, false, ◌&&◌, if◌then◌else◌, List, [], ◌∷◌, ◌++◌}
-use Rattle.std.specs.Prelude.{length, map, filter}
+use Rattle.std.specs.Prelude.{ℕ, ◌==◌, nat_lt, Bool, true, false, ◌&&◌, if◌then◌else◌, List, [], ◌∷◌, ◌++◌, length, map}
+use Rattle.std.specs.Prelude.{filter}
 use Rattle.std.specs.List.{slice_get, flat_map, range_with_len, enumerate_from}
 use Rattle.std.specs.Option.{option_map_or}
 use Rattle.vq_model.specs.declared.script.ActorName.{ActorName}
@@ -18,8 +18,8 @@ use Rattle.vq_model.specs.Checks.{is_immediate_batch}
 use Rattle.vq_points.specs.Points.{jobs_of_lane}
 use Rattle.vq_turns.specs.declared.task.Task.{Task}
 use Rattle.vq_turns.specs.declared.task.Task.TheVariants.{AwaitSubmitted, AwaitReleased, AwaitFinished, AwaitBound}
-use Rattle.vq_turns.specs.declared.task.Task.TheVariants.{AwaitNeeds, Submit, Take, Release, Bind, Start, Apply}
-use Rattle.vq_turns.specs.declared.task.Task.TheVariants.{Signal, Compare, Answer, Finish}
+use Rattle.vq_turns.specs.declared.task.Task.TheVariants.{AwaitNeeds, Submit, Take, Release, Bind, Start, Apply, Signal}
+use Rattle.vq_turns.specs.declared.task.Task.TheVariants.{Compare, Answer, Finish}
 
 -- the waits for those needs of a job that pass a test, in line order, each by itself
 abbrev pub waits_where : Plan → ℕ → (Need → Bool) → List Task

@@ -1,6 +1,6 @@
 -- The outcome of a turn, and the turns of a schedule. This project's own.
-use Rattle.std.specs.Prelude.{ℕ, ◌+◌, ◌==◌, nat_lt, nat_le, Bool, true, false, not, ◌&&◌, if◌then◌else◌}
-use Rattle.std.specs.Prelude.{List, [], ◌∷◌, ◌++◌, map, filter, find, drop, Option, Some, None}
+use Rattle.std.specs.Prelude.{ℕ, ◌+◌, ◌==◌, nat_lt, nat_le, Bool, true, false, not, ◌&&◌, if◌then◌else◌, List, [], ◌∷◌}
+use Rattle.std.specs.Prelude.{◌++◌, map, filter, find, drop, Option, Some, None}
 use Rattle.std.specs.List.{list_any, list_all, filter_map, enumerate_from}
 use Rattle.std.specs.Option.{option_map_or}
 use Rattle.vq_model.specs.declared.script.ActorName.{ActorName}
@@ -21,8 +21,8 @@ use Rattle.vq_model.specs.SlowRun.{greatest}
 use Rattle.vq_points.specs.Points.{PointState, after_event, is_pending, smaller_ops}
 use Rattle.vq_turns.specs.declared.task.Task.{Task}
 use Rattle.vq_turns.specs.declared.task.Task.TheVariants.{AwaitSubmitted, AwaitReleased, AwaitFinished, AwaitBound}
-use Rattle.vq_turns.specs.declared.task.Task.TheVariants.{AwaitNeeds, Submit, Take, Release, Bind, Start, Apply}
-use Rattle.vq_turns.specs.declared.task.Task.TheVariants.{Signal, Compare, Answer, Finish}
+use Rattle.vq_turns.specs.declared.task.Task.TheVariants.{AwaitNeeds, Submit, Take, Release, Bind, Start, Apply, Signal}
+use Rattle.vq_turns.specs.declared.task.Task.TheVariants.{Compare, Answer, Finish}
 use Rattle.vq_turns.specs.declared.look.Found.{Found}
 use Rattle.vq_turns.specs.declared.look.Found.TheVariants.{Past, Pending, NotYet}
 use Rattle.vq_turns.specs.declared.look.Holding.{Holding}
