@@ -23,11 +23,11 @@ use Rattle.vq_turns.specs.declared.outcome.Outcome.TheVariants.{Moved}
 use Rattle.vq_turns.specs.Programs.{program}
 use Rattle.vq_turns.specs.Turns.{Place, forward, held_for, holding_also, without_first, seeing, found, collected}
 use Rattle.vq_turns.specs.Turns.{to_complete, to_free, taken, taken_of, unbound_before, point_of, past_value, answer_by}
-use Rattle.vq_turn_laws.specs.Holdings.{AtIndex}
 use Rattle.vq_turn_laws.specs.Places.{IsDone}
 use Rattle.vq_turn_laws.specs.PlanParts.{IsOrderly}
 use Rattle.vq_turn_laws.specs.Tasks.{Among, IsOf, IsEventOf, is_waiting, is_asking}
 use Rattle.vq_turn_laws.specs.TruePlaces.{Stands, SawTruly, IsTrueFor, IsTrueTurn}
+use Rattle.vq_turn_laws.proofs.References.{at_index}
 use Rattle.vq_turn_laws.proofs.CutFacts.{IsCut, cut_at}
 use Rattle.vq_turn_laws.proofs.Cuts.{done_of, next_cut, next_left}
 use Rattle.vq_turn_laws.proofs.Reached.{Reached}
@@ -251,11 +251,11 @@ module _ (p : Plan) (o : IsOrderly p) (w : PointState) (r : Reached p w) (a : Ac
         (saw p o w r a x (AwaitNeeds ns) n h) e can
 
     -- A reference to a pending operation.
-    pub call_refer : x.met ≡ false → (i : ℕ) (need : Need) (e q : ℕ) → AtIndex 0 ns i need →
+    pub call_refer : x.met ≡ false → (i : ℕ) (need : Need) (e q : ℕ) → slice_get ns i ≡ Some need →
         held_for i x.holding ≡ None → found p w need.chain need.value ≡ Some (Pending e q) →
         IsTrueTurn p w a (Moved (Refer a q e)) (holding_also x i e q)
     call_refer m i need e q at none f =
-        let d = stands_referred p o w r a ts ns us c x.holding (unmet m) i need e q at none f in (
+        let d = stands_referred p o w r a ts ns us c x.holding (unmet m) i need e q (at_index ns i need at) none f in (
           d.0,
           refl,
           stays_here p o w r a x (AwaitNeeds ns) n h (after_event p w (Refer a q e)) (holding_also x i e q) refl
@@ -265,11 +265,11 @@ module _ (p : Plan) (o : IsOrderly p) (w : PointState) (r : Reached p w) (a : Ac
         )
 
     -- A look that sees its signal.
-    pub call_look : x.met ≡ false → (i : ℕ) (need : Need) (g : Holding) → AtIndex 0 ns i need →
+    pub call_look : x.met ≡ false → (i : ℕ) (need : Need) (g : Holding) → slice_get ns i ≡ Some need →
         held_for i x.holding ≡ Some g → w.machine.progress.made g.op ≡ true →
         IsTrueTurn p w a (Moved (Look a g.point g.op)) (record x { met = true })
     call_look m i need g at is made =
-        let d = stands_seen p o w r a ts ns us c x.holding (unmet m) i need g at is made in (
+        let d = stands_seen p o w r a ts ns us c x.holding (unmet m) i need g (at_index ns i need at) is made in (
           d.0,
           refl,
           stays_here p o w r a x (AwaitNeeds ns) n h (after_event p w (Look a g.point g.op))
@@ -277,11 +277,11 @@ module _ (p : Plan) (o : IsOrderly p) (w : PointState) (r : Reached p w) (a : Ac
         )
 
     -- A value that is past ends the waiting.
-    pub call_met : x.met ≡ false → (i : ℕ) (need : Need) → AtIndex 0 ns i need →
+    pub call_met : x.met ≡ false → (i : ℕ) (need : Need) → slice_get ns i ≡ Some need →
         found p w need.chain need.value ≡ Some Past → IsTrueFor p w a (record x { met = true })
     call_met m i need at f =
         stays_here p o w r a x (AwaitNeeds ns) n h w (record x { met = true }) refl
-        (stands_met p o w r a ts ns us c x.holding (unmet m) i need at f) (saw p o w r a x (AwaitNeeds ns) n h)
+        (stands_met p o w r a ts ns us c x.holding (unmet m) i need (at_index ns i need at) f) (saw p o w r a x (AwaitNeeds ns) n h)
 
     -- Where the waiting has ended and nothing is held, the actor goes on.
     pub call_over : x.met ≡ true → x.holding ≡ [] → IsTrueFor p w a (record (forward x) { holding = []; met = false })

@@ -8,5 +8,4 @@ pub use Rattle.vq_turn_laws.proofs.Reached.{Reached, reached}
 pub use Rattle.vq_turn_laws.proofs.StandLaws.{is_plain}
 pub use Rattle.vq_turn_laws.proofs.TrueProofs.{true_for_prop}
 pub use Rattle.vq_turn_laws.proofs.TurnLaws.{does_true}
-pub use Rattle.vq_turn_laws.proofs.WaitLaws.{at_index}
 pub use Rattle.vq_turn_laws.proofs.WholeTurns.{opening_true, others_true, turn_true}

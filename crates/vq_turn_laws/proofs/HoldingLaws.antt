@@ -1,6 +1,6 @@
 -- What an actor holds stays so, through its own references and looks and through the events of others.
-use Rattle.std.proofs.Common.{◌≡◌, ℕ, ◌<◌, ◌≤◌, ◌+◌, ◌&&◌, Bool, true, false, if◌then◌else◌, List, [], ◌∷◌, Option}
-use Rattle.std.proofs.Common.{Some, None, is_some, refl, sym, subst, ap, ◌∙◌, inl, inr, arith, nat_lt, ◌==◌}
+use Rattle.std.proofs.Common.{◌≡◌, ℕ, ◌<◌, ◌+◌, ◌&&◌, Bool, true, false, if◌then◌else◌, List, [], ◌∷◌, Option, Some}
+use Rattle.std.proofs.Common.{None, is_some, refl, sym, subst, ap, ◌∙◌, inl, inr, arith, nat_lt, ◌==◌}
 use Rattle.std.specs.List.{list_any, count_by}
 use Rattle.std.specs.Option.{option_map_or}
 use Rattle.std.proofs.lemmas.Bool.{and_parts, or_cases, false≢true, eq-eqb, eqb-true, ne_eqb, cases_eq, cond-true}
@@ -19,11 +19,11 @@ use Rattle.vq_turns.specs.declared.task.Task.{Task}
 use Rattle.vq_turns.specs.declared.task.Task.TheVariants.{AwaitNeeds}
 use Rattle.vq_turns.specs.declared.look.Holding.{Holding as Held}
 use Rattle.vq_turns.specs.Turns.{held_for, with_holding}
-use Rattle.vq_turn_laws.specs.Holdings.{needs_held, AtIndex, bit, is_holding, HoldsTruly}
+use Rattle.vq_turn_laws.specs.Holdings.{needs_held, bit, is_holding, HoldsTruly}
 use Rattle.vq_turn_laws.specs.Orders.{waited_since}
 use Rattle.vq_history_laws.specs.Measure.{one}
 use Rattle.vq_history_laws.proofs.Cited.{count_cons}
-use Rattle.vq_turn_laws.proofs.References.{same_self, held_few, held_counts}
+use Rattle.vq_turn_laws.proofs.References.{AtIndex, at_index, index_at, index_low, same_self, held_few, held_counts}
 
 -- Lists of what is held
 
@@ -59,11 +59,6 @@ with_there h (x ∷ xs) k n = by_test (nat_lt h.need x.need) (with_there h xs k 
         held_for k (if b then h ∷ x ∷ xs else x ∷ with_holding h xs) ≡ held_for k (x ∷ xs)
     by_test true r = ap (λ (b : Bool). if b then Some h else held_for k (x ∷ xs)) (ne_eqb h.need k (λ e. n (sym e)))
     by_test false r = ap (λ o. if x.need == k then Some x else o) r
-
-index_low : (k : ℕ) (ns : List Need) (i : ℕ) (n : Need) → AtIndex k ns i n → k ≤ i
-index_low k [] i n m = absurd m
-index_low k (x ∷ xs) i n (inl e) = let s = e.0 in omega arith
-index_low k (x ∷ xs) i n (inr m) = let r = index_low (k + 1) xs i n m in omega arith
 
 same_index : (k : ℕ) (ns : List Need) (i : ℕ) (m n : Need) → AtIndex k ns i m → AtIndex k ns i n → m ≡ n
 same_index k [] i m n a b = absurd a
@@ -179,7 +174,7 @@ module _ (p : Plan) (w : PointState) (a : ActorName) (before : List Task) (j : �
           | inl s ↦
               let same : new ≡ h = let z = sym (with_here new holding none) ∙ subst
               (λ (y : ℕ). held_for y (with_holding new holding) ≡ Some h) s is in cc in
-              let one_need : n ≡ x = same_index 0 ns i n x at (subst (λ (y : ℕ). AtIndex 0 ns y x) s at') in
+              let one_need : n ≡ x = same_index 0 ns i n x at (subst (λ (y : ℕ). AtIndex 0 ns y x) s (at_index ns k x at')) in
               ap (λ (z : Need). resolver p z.chain z.value) (sym one_need) ∙ (res ∙ ap (λ (z : Held). Some z.op) same)
           | inr d ↦ t.of_need refl k h (sym (with_there new holding k d) ∙ is) x at'
         ];
@@ -221,7 +216,7 @@ module _ (p : Plan) (w : PointState) (a : ActorName) (before : List Task) (j : �
             elim (cases_eq h.op f) [
               | inl s ↦
                   let counts = held_counts p f holding 0 ns i n at (ap is_some is)
-                  (ap (λ o. option_map_or (λ z. z == f) o false) (t.of_need refl i h is n at) ∙ eq-eqb h.op f s) in
+                  (ap (λ o. option_map_or (λ z. z == f) o false) (t.of_need refl i h is n (index_at ns i n at)) ∙ eq-eqb h.op f s) in
                   let one_ : one (h.op == f) ≡ 1 = ap one (eq-eqb h.op f s) in
                   omega arith
               | inr d ↦ let none : one (h.op == f) ≡ 0 = ap one (ne_eqb h.op f d) in omega arith
@@ -261,7 +256,7 @@ pub leaves_wait : (p : Plan) (w : PointState) (a : ActorName) (before : List Tas
 leaves_wait p w a before j ns t =
     record {
       tie = t.tie;
-      of_need = λ m k h is n at. absurd at;
+      of_need = λ m k h is n at. absurd (let z = at in cc);
       referred = λ f. let o = t.referred f in omega arith;
       looked = λ f. let o = t.looked f in omega arith;
     }
@@ -368,7 +363,7 @@ pub next_begins : (p : Plan) (w : PointState) (a : ActorName) (before : List Tas
 next_begins p w a before j i r l k =
     record {
       tie = k.tie;
-      of_need = λ m x h is n at. absurd at;
+      of_need = λ m x h is n at. absurd (let z = at in cc);
       referred = λ e. let x = r e in omega arith;
       looked = λ e. let x = l e in omega arith;
     }

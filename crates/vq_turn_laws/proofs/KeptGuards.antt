@@ -19,7 +19,8 @@ use Rattle.vq_turns.specs.declared.task.Task.TheVariants.{Bind}
 use Rattle.vq_turns.specs.declared.look.Found.TheVariants.{Pending}
 use Rattle.vq_turns.specs.declared.look.Holding.{Holding}
 use Rattle.vq_turns.specs.Turns.{point_of, unbound_before, to_complete, to_free, collected, found, held_for}
-use Rattle.vq_turn_laws.specs.Holdings.{HoldsTruly, AtIndex}
+use Rattle.vq_turn_laws.specs.Holdings.{HoldsTruly}
+use Rattle.vq_turn_laws.proofs.References.{AtIndex}
 use Rattle.vq_turn_laws.specs.Orders.{AsksBind, AsksWait}
 use Rattle.vq_turn_laws.specs.Places.{IsDone, IsLeft}
 use Rattle.vq_turn_laws.specs.PlanParts.{lane_of_job}

@@ -1,8 +1,8 @@
 -- The guards of references, from what an actor holds.
-use Rattle.std.proofs.Common.{◌≡◌, ℕ, ◌<◌, ◌≤◌, ◌+◌, ◌||◌, ◌&&◌, Bool, true, false, if◌then◌else◌, List, [], ◌∷◌}
-use Rattle.std.proofs.Common.{Option, Some, None, is_some, refl, sym, subst, ap, ◌∙◌, inl, inr, arith, nat_le, nat_lt}
-use Rattle.std.proofs.Common.{filter, ◌==◌}
-use Rattle.std.specs.List.{list_any, count_by}
+use Rattle.std.specs.List.{slice_get, list_any, count_by}
+use Rattle.std.proofs.Common.{◌⊎◌, zero, suc, ◌≡◌, ℕ, ◌<◌, ◌≤◌, ◌+◌, ◌||◌, ◌&&◌, Bool, true, false, if◌then◌else◌, List}
+use Rattle.std.proofs.Common.{[], ◌∷◌, Option, Some, None, is_some, refl, sym, subst, ap, ◌∙◌, inl, inr, arith, nat_le}
+use Rattle.std.proofs.Common.{nat_lt, filter, ◌==◌}
 use Rattle.std.specs.Option.{option_map_or}
 use Rattle.std.proofs.lemmas.Bool.{and_from, or_from, false≢true, eq-eqb}
 use Rattle.vq_model.specs.declared.script.ActorName.{ActorName}
@@ -20,7 +20,7 @@ use Rattle.vq_turns.specs.declared.task.Task.TheVariants.{AwaitReleased, Start, 
 use Rattle.vq_turns.specs.declared.look.Found.TheVariants.{Past, Pending, NotYet}
 use Rattle.vq_turns.specs.declared.look.Holding.{Holding}
 use Rattle.vq_turns.specs.Turns.{point_of, found_by, found, held_for}
-use Rattle.vq_turn_laws.specs.Holdings.{needs_held, AtIndex, bit, is_holding, HoldsTruly}
+use Rattle.vq_turn_laws.specs.Holdings.{needs_held, bit, is_holding, HoldsTruly}
 use Rattle.vq_turn_laws.specs.Orders.{Within, InJob, AsksWait}
 use Rattle.vq_turn_laws.specs.Places.{IsDone, IsLeft}
 use Rattle.vq_turn_laws.specs.Tasks.{Each}
@@ -102,6 +102,37 @@ found_pending p w n e q h = by_value (nat_le n.value (initial p n.chain)) h
 
 resolves_it : (p : Plan) (n : Need) (e : ℕ) → resolver p n.chain n.value ≡ Some e → resolves p e n ≡ true
 resolves_it p n e r = ap (λ o. option_map_or (λ z. z == e) o false) r ∙ eq-eqb e e refl
+
+-- a need stands in a list at an index, where the first one has this index
+abbrev pub AtIndex : ℕ → List Need → ℕ → Need → Type 0
+AtIndex k [] i n = ⊥
+AtIndex k (m ∷ ms) i n = ((k ≡ i) × (m ≡ n)) ⊎ AtIndex (k + 1) ms i n
+
+pub index_low : (k : ℕ) (ns : List Need) (i : ℕ) (n : Need) → AtIndex k ns i n → k ≤ i
+index_low k [] i n m = absurd m
+index_low k (x ∷ xs) i n (inl e) = let s = e.0 in omega arith
+index_low k (x ∷ xs) i n (inr m) = let r = index_low (k + 1) xs i n m in omega arith
+
+pub at_index : (ns : List Need) (i : ℕ) (n : Need) → slice_get ns i ≡ Some n → AtIndex 0 ns i n
+at_index ns i n h = let none : 0 + i ≡ i = omega arith in subst (λ (z : ℕ). AtIndex 0 ns z n) none (from_index ns i 0 h)
+  where
+    from_index : (ms : List Need) (i k : ℕ) → slice_get ms i ≡ Some n → AtIndex k ms (k + i) n
+    from_index [] i k h = absurd (let z = h in cc)
+    from_index (m ∷ ms) zero k h = inl ((omega arith), (let z = h in cc))
+    from_index (m ∷ ms) (suc i) k h = inr
+        (subst (λ (z : ℕ). AtIndex (k + 1) ms z n) (omega arith) (from_index ms i (k + 1) h))
+
+pub index_at : (ns : List Need) (i : ℕ) (n : Need) → AtIndex 0 ns i n → slice_get ns i ≡ Some n
+index_at ns i n h =
+    let none : i ≡ 0 + i = omega arith in from_index ns i 0 (subst (λ (z : ℕ). AtIndex 0 ns z n) none h)
+  where
+    from_index : (ms : List Need) (d k : ℕ) → AtIndex k ms (k + d) n → slice_get ms d ≡ Some n
+    from_index [] d k h = absurd h
+    from_index (m ∷ ms) zero k (inl e) = ap Some e.1
+    from_index (m ∷ ms) zero k (inr r) = absurd (let low = index_low (k + 1) ms (k + 0) n r in omega arith)
+    from_index (m ∷ ms) (suc d) k (inl e) = absurd (let same = e.0 in omega arith)
+    from_index (m ∷ ms) (suc d) k (inr r) =
+        from_index ms d (k + 1) (subst (λ (z : ℕ). AtIndex (k + 1) ms z n) (omega arith) r)
 
 pub index_within : (k : ℕ) (ns : List Need) (i : ℕ) (n : Need) → AtIndex k ns i n → Within n ns
 index_within k [] i n h = h
@@ -201,7 +232,7 @@ module _ (p : Plan) (a : ActorName) (w : PointState) (before after : List Task) 
         let c = holds_counted holding is in
         let few = t.looked h.op in
         let counts = held_counts p h.op holding 0 ns i n at (ap is_some is)
-        (resolves_it p n h.op (t.of_need refl i h is n at)) in
+        (resolves_it p n h.op (t.of_need refl i h is n (index_at ns i n at))) in
         record {
           job = k.job;
           is_next = is_next k.job k.source k.in_job;

@@ -94,7 +94,7 @@ module _ (p : Plan) (w : PointState) (a : ActorName) where
       enters_wait p v a (Finish i ∷ before) j (waited_now left)
       (record {
         tie = m.tie;
-        of_need = λ k x y z n at. absurd at;
+        of_need = λ k x y z n at. absurd (let u = at in cc);
         referred = λ e. let z = none e in omega arith;
         looked = λ e. let z = none e in let y = few e in omega arith;
       })

@@ -23,11 +23,11 @@ use Rattle.vq_turns.specs.Programs.{program}
 use Rattle.vq_turns.specs.Turns.{Place, Did, GoesOn, Ends, forward, waits, moves, collected, taken, unbound_before}
 use Rattle.vq_turns.specs.Turns.{point_of, seeing, past_value, held_for, gives_back, by_found, one_need, awaits_needs}
 use Rattle.vq_turns.specs.Turns.{found, does}
-use Rattle.vq_turn_laws.specs.Holdings.{AtIndex}
 use Rattle.vq_turn_laws.specs.Places.{IsDone}
 use Rattle.vq_turn_laws.specs.PlanParts.{IsOrderly}
 use Rattle.vq_turn_laws.specs.Tasks.{is_waiting, is_asking}
 use Rattle.vq_turn_laws.specs.TruePlaces.{IsTrueFor, IsTrueDid}
+use Rattle.vq_turn_laws.proofs.References.{AtIndex, index_at}
 use Rattle.vq_turn_laws.proofs.CallLaws.{goes_on, collects, call_submit, call_release, call_take, call_bind, call_start}
 use Rattle.vq_turn_laws.proofs.CallLaws.{call_apply, call_signal, call_finish, call_answer, call_compare, call_refer}
 use Rattle.vq_turn_laws.proofs.CallLaws.{call_look, call_met, call_over, call_unref}
@@ -37,12 +37,12 @@ use Rattle.vq_turn_laws.proofs.StandLaws.{is_plain}
 -- pairs of an index and the need there
 abbrev AllAt : List Need → List (ℕ × Need) → Type 0
 AllAt ns [] = Unit {0}
-AllAt ns ((k, n) ∷ qs) = AtIndex 0 ns k n × AllAt ns qs
+AllAt ns ((k, n) ∷ qs) = (slice_get ns k ≡ Some n) × AllAt ns qs
 
 all_at : (ns : List Need) (k : ℕ) (ms : List Need) → ((i : ℕ) (n : Need) → AtIndex k ms i n → AtIndex 0 ns i n) →
     AllAt ns (enumerate_from k ms)
 all_at ns k [] f = tt
-all_at ns k (m ∷ ms) f = (f k m (inl (refl, refl)), all_at ns (k + 1) ms (λ i n at. f i n (inr at)))
+all_at ns k (m ∷ ms) f = (index_at ns k m (f k m (inl (refl, refl))), all_at ns (k + 1) ms (λ i n at. f i n (inr at)))
 
 module _ (p : Plan) (o : IsOrderly p) (w : PointState) (r : Reached p w) (a : ActorName) (x : Place)
     (h : IsTrueFor p w a x) where
@@ -74,7 +74,7 @@ module _ (p : Plan) (o : IsOrderly p) (w : PointState) (r : Reached p w) (a : Ac
     met_true m = over_true x (ap (λ (b : Bool). record x { met = b }) m) h x.holding refl
 
     module _ (m : x.met ≡ false) where
-      looked_true : (g : Holding) (k : ℕ) (need : Need) → AtIndex 0 ns k need → held_for k x.holding ≡ Some g →
+      looked_true : (g : Holding) (k : ℕ) (need : Need) → slice_get ns k ≡ Some need → held_for k x.holding ≡ Some g →
           (next_need : Option Want → Did) → ((v : Option Want) → IsTrueDid p w a (next_need v)) → (b : Bool) →
           w.machine.progress.made g.op ≡ b →
           IsTrueDid p w a (if b then Ends (Moved (Look a g.point g.op)) (record x { met = true }) else next_need
@@ -82,7 +82,7 @@ module _ (p : Plan) (o : IsOrderly p) (w : PointState) (r : Reached p w) (a : Ac
       looked_true g k need at is next_need f true made = call_look p o w r a x ns n h m k need g at is made
       looked_true g k need at is next_need f false made = f (Some (Signaled g.op))
 
-      found_true : (k : ℕ) (need : Need) → AtIndex 0 ns k need → held_for k x.holding ≡ None →
+      found_true : (k : ℕ) (need : Need) → slice_get ns k ≡ Some need → held_for k x.holding ≡ None →
           (next_need : Option Want → Did) → ((v : Option Want) → IsTrueDid p w a (next_need v)) →
           (want : Option Want) (z : Option Found) → found p w need.chain need.value ≡ z →
           IsTrueDid p w a (by_found a x k next_need want z)
@@ -93,7 +93,7 @@ module _ (p : Plan) (o : IsOrderly p) (w : PointState) (r : Reached p w) (a : Ac
           (Some (Pending e q)) s = call_refer p o w r a x ns n h m k need e q at none s
       found_true k need at none next_need f want (Some (NotYet e)) s = f (Some (Bound e))
 
-      need_true : (k : ℕ) (need : Need) → AtIndex 0 ns k need → (next_need : Option Want → Did) →
+      need_true : (k : ℕ) (need : Need) → slice_get ns k ≡ Some need → (next_need : Option Want → Did) →
           ((v : Option Want) → IsTrueDid p w a (next_need v)) → (want : Option Want) (z : Option Holding) →
           held_for k x.holding ≡ z → IsTrueDid p w a (one_need p w a x k need z next_need want)
       need_true k need at next_need f want None s = found_true k need at s next_need f want

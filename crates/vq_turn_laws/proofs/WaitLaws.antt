@@ -1,7 +1,7 @@
 -- While an actor waits for needs: its references, looks and returns may come, and its place stays true.
-use Rattle.std.proofs.Common.{◌≡◌, ℕ, zero, suc, ◌≤◌, ◌+◌, Bool, true, false, if◌then◌else◌, nat_le, List, [], ◌∷◌}
-use Rattle.std.proofs.Common.{Option, Some, None, refl, sym, subst, ap, ◌∙◌, inl, inr, arith}
-use Rattle.std.specs.List.{list_any, slice_get}
+use Rattle.std.proofs.Common.{◌≡◌, ℕ, ◌≤◌, Bool, true, false, if◌then◌else◌, nat_le, List, [], ◌∷◌, Option, Some, None}
+use Rattle.std.proofs.Common.{refl, sym, subst, ap, ◌∙◌, inl, inr, arith}
+use Rattle.std.specs.List.{list_any}
 use Rattle.std.proofs.lemmas.Bool.{false≢true, leb-true, le-leb}
 use Rattle.vq_model.specs.declared.script.ActorName.{ActorName}
 use Rattle.vq_model.specs.declared.plan.Need.{Need}
@@ -18,11 +18,12 @@ use Rattle.vq_turns.specs.declared.task.Task.TheVariants.{AwaitNeeds, Finish}
 use Rattle.vq_turns.specs.declared.look.Holding.{Holding}
 use Rattle.vq_turns.specs.declared.look.Found.TheVariants.{Past, Pending, NotYet}
 use Rattle.vq_turns.specs.Turns.{held_for, with_holding, found, found_by, point_of}
-use Rattle.vq_turn_laws.specs.Holdings.{AtIndex, HoldsTruly}
+use Rattle.vq_turn_laws.specs.Holdings.{HoldsTruly}
 use Rattle.vq_turn_laws.specs.Orders.{AsksWait}
 use Rattle.vq_turn_laws.specs.PlanParts.{IsOrderly}
 use Rattle.vq_turn_laws.specs.Tasks.{Among, IsOf, finishes}
 use Rattle.vq_turn_laws.specs.TruePlaces.{Stands}
+use Rattle.vq_turn_laws.proofs.References.{AtIndex, index_at, is_next, can_look, can_unref, found_pending, index_within}
 use Rattle.vq_turn_laws.proofs.CutFacts.{IsCut, job_is_next}
 use Rattle.vq_turn_laws.proofs.HoldingLaws.{after_refer, after_look, after_unref, meets, leaves_wait, enters_wait}
 use Rattle.vq_turn_laws.proofs.KeptGuards.{refers_kept}
@@ -30,7 +31,6 @@ use Rattle.vq_turn_laws.proofs.LeftLaws.{true_for_others}
 use Rattle.vq_turn_laws.proofs.PlaceLaws.{reached_stays}
 use Rattle.vq_turn_laws.proofs.StartLaws.{from_initial}
 use Rattle.vq_turn_laws.proofs.Reached.{Reached, reached_rises}
-use Rattle.vq_turn_laws.proofs.References.{is_next, can_look, can_unref, found_pending, index_within}
 use Rattle.vq_turn_laws.proofs.WaitParts.{within_any}
 
 among_finish : (ts : List Task) (j : ℕ) → Among (Finish j) ts → has (finishes ts) j ≡ true
@@ -40,16 +40,6 @@ among_finish (Finish i ∷ ts) j (inl e) = let same : i ≡ j = let z = e in cc 
 among_finish (Finish i ∷ ts) j (inr m) = has_there i (finishes ts) j (among_finish ts j m)
 among_finish (other ∷ ts) j (inl e) = absurd (let z = e in cc)
 among_finish (other ∷ ts) j (inr m) = among_finish ts j m
-
--- a need by its index
-pub at_index : (ns : List Need) (i : ℕ) (n : Need) → slice_get ns i ≡ Some n → AtIndex 0 ns i n
-at_index ns i n h = let none : 0 + i ≡ i = omega arith in subst (λ (z : ℕ). AtIndex 0 ns z n) none (from_index ns i 0 h)
-  where
-    from_index : (ms : List Need) (i k : ℕ) → slice_get ms i ≡ Some n → AtIndex k ms (k + i) n
-    from_index [] i k h = absurd (let z = h in cc)
-    from_index (m ∷ ms) zero k h = inl ((omega arith), (let z = h in cc))
-    from_index (m ∷ ms) (suc i) k h = inr
-        (subst (λ (z : ℕ). AtIndex (k + 1) ms z n) (omega arith) (from_index ms i (k + 1) h))
 
 module _ (p : Plan) (w : PointState) (a : ActorName) (before : List Task) (ns : List Need) (left : List Task)
     (c : IsCut p a before (AwaitNeeds ns ∷ left)) where
@@ -197,7 +187,7 @@ module _ (p : Plan) (o : IsOrderly p) (w : PointState) (r : Reached p w) where
         let can = can_look p a w before left s.done s.left.1 ns holding own_asks i n h at is t made in
         let held = after_look p w a before own_asks.job ns holding t i n h at is (own_waits_next holding false s) in
         let met = within_any (is_reached w.machine.progress.payload) ns n (index_within 0 ns i n at)
-        (made_reaches n h.op (t.of_need refl i h is n at) made) in
+        (made_reaches n h.op (t.of_need refl i h is n (index_at ns i n at)) made) in
         (can, still_waits holding false s (Look a h.point h.op) can (λ u own. own) holding true held (λ m. met))
 
     -- A value that is past ends the waiting without an event.

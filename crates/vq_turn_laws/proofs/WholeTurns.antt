@@ -64,7 +64,7 @@ nothing_yet : (p : Plan) (a : ActorName) (j : ℕ) → HoldsTruly p (opening_poi
 nothing_yet p a j =
     record {
       tie = λ q e. refl;
-      of_need = λ m k h is n at. absurd at;
+      of_need = λ m k h is n at. absurd (let z = at in cc);
       referred = λ e. omega arith;
       looked = λ e. omega arith;
     }
