@@ -2,5 +2,6 @@
 pub use Rattle.vq_history_laws.proofs.Counts.{count_cons}
 pub use Rattle.vq_history_laws.proofs.HistoryProofs.{can_come_prop, history_prop}
 pub use Rattle.vq_history_laws.proofs.Kept.{keeps_after, keeps_opening, next_exists, uncarried}
+pub use Rattle.vq_history_laws.proofs.Longer.{history_push, world_push}
 pub use Rattle.vq_history_laws.proofs.Measure.{history_bounded, history_counted, history_reaches, Reaches}
 pub use Rattle.vq_history_laws.proofs.Measure.{measure_small, rises}

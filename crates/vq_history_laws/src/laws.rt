@@ -1,5 +1,5 @@
 //! Laws over histories of events. The functions do nothing: their contracts are the laws.
-ghost use Rattle.std.specs.Prelude.{◌≡◌, ◌≤◌, ◌+◌, List, length};
+ghost use Rattle.std.specs.Prelude.{◌≡◌, ◌≤◌, ◌+◌, ◌++◌, ◌∷◌, [], List, length};
 ghost use Rattle.vq_model.specs.Plan.{Plan};
 ghost use Rattle.vq_model.specs.WellFormed.{IsWellFormed, KeepsHostOrder};
 ghost use Rattle.vq_model.specs.declared.plan.Event.{Event};
@@ -12,6 +12,15 @@ ghost use Rattle.vq_history_laws.specs.Measure.{measure};
 pub fn histories_keep_facts()
     ensures { (p : Plan) → (events : List Event) → HistoryFrom p (opening_points p) events →
         KeepsFacts p (points_after p events) }
+{}
+
+/// A history with one event more, that may come, is a history, and leads to what the event leaves.
+pub fn histories_go_on()
+    ensures history { (p : Plan) → (events : List Event) → HistoryFrom p (opening_points p) events →
+        (x : Event) → CanCome p (points_after p events) x →
+        HistoryFrom p (opening_points p) (events ++ x ∷ []) }
+    ensures world { (p : Plan) → (events : List Event) → (x : Event) →
+        points_after p (events ++ x ∷ []) ≡ after_event p (points_after p events) x }
 {}
 
 /// Each event of a history does one act of the plan more.

@@ -1,6 +1,7 @@
 pub mod Cited
 mod Apart
 mod CallLaws
+mod CountedWaits
 mod CutFacts
 mod Cuts
 mod Finishes
