@@ -1,4 +1,5 @@
 pub mod Cited
+mod AllPlaces
 mod Apart
 mod CallLaws
 mod CountedWaits

@@ -1,10 +1,11 @@
 -- What an actor's place says of a world, whole: all that the guard of the actor's next event needs, beside what
 -- each world of a history keeps. This project's own.
-use Rattle.std.specs.Prelude.{ℕ, ◌≡◌, Bool, true, false, List, [], ◌∷◌, take, drop}
+use Rattle.std.specs.Prelude.{ℕ, ◌≡◌, Bool, true, false, if◌then◌else◌, List, [], ◌∷◌, take, drop}
 use Rattle.std.specs.List.{list_any}
 use Rattle.vq_model.specs.declared.script.ActorName.{ActorName}
 use Rattle.vq_model.specs.Plan.{Plan}
 use Rattle.vq_model.specs.Machine.{is_reached}
+use Rattle.vq_model.specs.Canonical.{same_actor}
 use Rattle.vq_points.specs.Points.{PointState, CanCome, after_event}
 use Rattle.vq_turns.specs.declared.task.Task.{Task}
 use Rattle.vq_turns.specs.declared.look.Holding.{Holding}
@@ -15,6 +16,7 @@ use Rattle.vq_turns.specs.declared.outcome.Outcome.TheVariants.{Moved}
 use Rattle.vq_turns.specs.Turns.{Place, Did, GoesOn, Ends}
 use Rattle.vq_turn_laws.specs.Holdings.{HoldsTruly}
 use Rattle.vq_turn_laws.specs.Places.{IsDone, IsLeft}
+use Rattle.vq_turn_laws.specs.PlanParts.{IsActor}
 use Rattle.vq_turn_laws.specs.Tasks.{IsEventOf, Each, finishes, waited_now, is_waiting, compared_now, is_asking, onto}
 use Rattle.vq_turn_laws.specs.Worlds.{Sees}
 
@@ -51,3 +53,13 @@ IsTrueTurn p w a other y = IsTrueFor p w a y
 abbrev pub IsTrueDid : Plan → PointState → ActorName → Did → Type 0
 IsTrueDid p w a (GoesOn y) = IsTrueFor p w a y
 IsTrueDid p w a (Ends outcome y) = IsTrueTurn p w a outcome y
+
+-- The places of all actors
+
+-- the places of a plan's actors are true
+abbrev pub AreTrueFor : Plan → PointState → (ActorName → Place) → Type 0
+AreTrueFor p w places = (a : ActorName) → IsActor p a → IsTrueFor p w a (places a)
+
+-- the places of all actors after one of them went to another place
+abbrev pub with_place : (ActorName → Place) → ActorName → Place → ActorName → Place
+with_place places b y a = if same_actor a b then y else places a

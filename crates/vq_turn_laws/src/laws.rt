@@ -11,13 +11,13 @@ ghost use Rattle.vq_points.specs.Points.{PointState, CanCome, after_event, openi
 ghost use Rattle.vq_turns.specs.declared.task.Task.{Task};
 ghost use Rattle.vq_turns.specs.declared.outcome.Outcome.TheVariants.{Moved};
 ghost use Rattle.vq_turns.specs.Programs.{program};
-ghost use Rattle.vq_turns.specs.Turns.{Place, first_place, does, turn_from, turn_of};
+ghost use Rattle.vq_turns.specs.Turns.{Place, first_place, does, turn_from, turn_of, world_after};
 ghost use Rattle.vq_turn_laws.specs.Tasks.{Each, Among, AreApart, IsOf, IsEventOf, is_mover};
 ghost use Rattle.vq_turn_laws.specs.Places.{IsDone, IsReady};
 ghost use Rattle.vq_turn_laws.specs.Orders.{InOrder};
 ghost use Rattle.vq_turn_laws.specs.PlanParts.{IsActor, IsOrderly};
 ghost use Rattle.vq_turn_laws.specs.Worlds.{InEachWorld};
-ghost use Rattle.vq_turn_laws.specs.TruePlaces.{IsTrueFor, IsTrueDid, IsTrueTurn};
+ghost use Rattle.vq_turn_laws.specs.TruePlaces.{IsTrueFor, IsTrueDid, IsTrueTurn, AreTrueFor, with_place};
 
 /// Each lawful plan of a script that was read keeps what the laws on programs and places ask of a plan.
 pub fn lawful_plans_are_orderly()
@@ -66,6 +66,14 @@ pub fn others_keep_places_true()
     ensures { (p : Plan) → IsPlan p → IsLawful p → InEachWorld p (λ w. (a b : ActorName) →
         IsActor p a → IsActor p b → ¬ (a ≡ b) → (x : Place) → IsTrueFor p w a x →
         (e : Event) → CanCome p w e → IsEventOf p b e → IsTrueFor p (after_event p w e) a x) }
+{}
+
+/// A turn of one actor leaves the places of all actors true.
+pub fn turns_keep_all_places_true()
+    ensures { (p : Plan) → IsPlan p → IsLawful p → InEachWorld p (λ w. (places : ActorName → Place) →
+        AreTrueFor p w places → (a : ActorName) → IsActor p a →
+        AreTrueFor p (world_after p w (turn_of p w a (places a)).outcome)
+        (with_place places a (turn_of p w a (places a)).place)) }
 {}
 
 /// An actor that isn't blocked before a task that makes an event, nor in it, moves.
