@@ -32,7 +32,7 @@ module _ (p : Plan) (o : IsOrderly p) (w : PointState) (r : Reached p w) (places
       AreTrueFor p (world_after p w outcome) (with_place places b y)
   by_outcome (Moved x) y t =
       own_or_other (after_event p w x) y t.2
-          (λ a first two. others_true p o w r a b first second two (places a) (all a first) x t.0 t.1)
+      (λ a first two. others_true p o w r a b first second two (places a) (all a first) x t.0 t.1)
   by_outcome (Blocked want) y t = own_or_other w y t (λ a first two. all a first)
   by_outcome Ended y t = own_or_other w y t (λ a first two. all a first)
 

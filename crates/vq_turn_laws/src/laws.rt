@@ -16,7 +16,7 @@ ghost use Rattle.vq_turn_laws.specs.Tasks.{Each, Among, AreApart, IsOf, IsEventO
 ghost use Rattle.vq_turn_laws.specs.Places.{IsDone, IsReady};
 ghost use Rattle.vq_turn_laws.specs.Orders.{InOrder};
 ghost use Rattle.vq_turn_laws.specs.PlanParts.{IsActor, IsOrderly};
-ghost use Rattle.vq_turn_laws.specs.Worlds.{InEachWorld};
+ghost use Rattle.vq_turn_laws.specs.Worlds.{InEachWorld, KeepsMade, KeepsStarts, RefersInTurn, RisesIn};
 ghost use Rattle.vq_turn_laws.specs.TruePlaces.{IsTrueFor, IsTrueDid, IsTrueTurn, AreTrueFor, with_place};
 
 /// Each lawful plan of a script that was read keeps what the laws on programs and places ask of a plan.
@@ -42,6 +42,17 @@ pub fn programs_are_apart()
 pub fn what_is_done_stays_done()
     ensures { (p : Plan) → IsPlan p → IsLawful p → InEachWorld p (λ w. (x : Event) → CanCome p w x →
         (t : Task) → IsDone w t → IsDone (after_event p w x) t) }
+{}
+
+/// What each world keeps: signaled operations are bound and past ones signaled; where something was referred
+/// to for a job, the jobs before it in its lane are finished; the payloads at the start of a job lie between the
+/// initial ones and those now; and a signal that may come raises its payload.
+pub fn worlds_keep()
+    ensures made { (p : Plan) → IsPlan p → IsLawful p → InEachWorld p KeepsMade }
+    ensures in_turn { (p : Plan) → IsPlan p → IsLawful p → InEachWorld p (RefersInTurn p) }
+    ensures starts { (p : Plan) → IsPlan p → IsLawful p → InEachWorld p (KeepsStarts p) }
+    ensures rises { (p : Plan) → IsPlan p → IsLawful p → InEachWorld p (λ w. (x : Event) →
+        CanCome p w x → RisesIn p w x) }
 {}
 
 /// At the opening each actor's first place is true.
