@@ -281,7 +281,8 @@ module _ (p : Plan) (o : IsOrderly p) (w : PointState) (r : Reached p w) (a : Ac
         found p w need.chain need.value ≡ Some Past → IsTrueFor p w a (record x { met = true })
     call_met m i need at f =
         stays_here p o w r a x (AwaitNeeds ns) n h w (record x { met = true }) refl
-        (stands_met p o w r a ts ns us c x.holding (unmet m) i need (at_index ns i need at) f) (saw p o w r a x (AwaitNeeds ns) n h)
+        (stands_met p o w r a ts ns us c x.holding (unmet m) i need (at_index ns i need at) f)
+        (saw p o w r a x (AwaitNeeds ns) n h)
 
     -- Where the waiting has ended and nothing is held, the actor goes on.
     pub call_over : x.met ≡ true → x.holding ≡ [] → IsTrueFor p w a (record (forward x) { holding = []; met = false })

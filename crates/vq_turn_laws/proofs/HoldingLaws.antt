@@ -174,7 +174,8 @@ module _ (p : Plan) (w : PointState) (a : ActorName) (before : List Task) (j : �
           | inl s ↦
               let same : new ≡ h = let z = sym (with_here new holding none) ∙ subst
               (λ (y : ℕ). held_for y (with_holding new holding) ≡ Some h) s is in cc in
-              let one_need : n ≡ x = same_index 0 ns i n x at (subst (λ (y : ℕ). AtIndex 0 ns y x) s (at_index ns k x at')) in
+              let one_need : n ≡ x = same_index 0 ns i n x at
+              (subst (λ (y : ℕ). AtIndex 0 ns y x) s (at_index ns k x at')) in
               ap (λ (z : Need). resolver p z.chain z.value) (sym one_need) ∙ (res ∙ ap (λ (z : Held). Some z.op) same)
           | inr d ↦ t.of_need refl k h (sym (with_there new holding k d) ∙ is) x at'
         ];
@@ -216,7 +217,8 @@ module _ (p : Plan) (w : PointState) (a : ActorName) (before : List Task) (j : �
             elim (cases_eq h.op f) [
               | inl s ↦
                   let counts = held_counts p f holding 0 ns i n at (ap is_some is)
-                  (ap (λ o. option_map_or (λ z. z == f) o false) (t.of_need refl i h is n (index_at ns i n at)) ∙ eq-eqb h.op f s) in
+                  (ap (λ o. option_map_or (λ z. z == f) o false) (t.of_need refl i h is n (index_at ns i n at))
+                  ∙ eq-eqb h.op f s) in
                   let one_ : one (h.op == f) ≡ 1 = ap one (eq-eqb h.op f s) in
                   omega arith
               | inr d ↦ let none : one (h.op == f) ≡ 0 = ap one (ne_eqb h.op f d) in omega arith

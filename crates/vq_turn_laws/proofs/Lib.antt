@@ -27,6 +27,7 @@ mod Resolvers
 mod RingOrder
 mod Rooms
 mod SawLaws
+mod SceneLaws
 mod SeenLaws
 mod StandLaws
 mod StartLaws

@@ -5,3 +5,4 @@ pub mod Holdings
 pub mod PlanParts
 pub mod Worlds
 pub mod TruePlaces
+pub mod Scenes

@@ -7,17 +7,19 @@ ghost use Rattle.vq_model.specs.Checks.{IsLawful};
 ghost use Rattle.vq_model.specs.LoweringFaults.{IsPlan};
 ghost use Rattle.vq_model.specs.declared.plan.Event.{Event};
 ghost use Rattle.vq_model.specs.declared.script.ActorName.{ActorName};
-ghost use Rattle.vq_points.specs.Points.{PointState, CanCome, after_event, opening_points};
+ghost use Rattle.vq_points.specs.Points.{PointState, CanCome, after_event, opening_points, HistoryFrom};
 ghost use Rattle.vq_turns.specs.declared.task.Task.{Task};
 ghost use Rattle.vq_turns.specs.declared.outcome.Outcome.TheVariants.{Moved};
 ghost use Rattle.vq_turns.specs.Programs.{program};
 ghost use Rattle.vq_turns.specs.Turns.{Place, first_place, does, turn_from, turn_of, world_after};
+ghost use Rattle.vq_turns.specs.Turns.{Scene, first_scene, plays, played_from};
 ghost use Rattle.vq_turn_laws.specs.Tasks.{Each, Among, AreApart, IsOf, IsEventOf, is_mover};
 ghost use Rattle.vq_turn_laws.specs.Places.{IsDone, IsReady};
 ghost use Rattle.vq_turn_laws.specs.Orders.{InOrder};
 ghost use Rattle.vq_turn_laws.specs.PlanParts.{IsActor, IsOrderly};
 ghost use Rattle.vq_turn_laws.specs.Worlds.{InEachWorld, KeepsMade, KeepsStarts, RefersInTurn, RisesIn};
 ghost use Rattle.vq_turn_laws.specs.TruePlaces.{IsTrueFor, IsTrueDid, IsTrueTurn, AreTrueFor, with_place};
+ghost use Rattle.vq_turn_laws.specs.Scenes.{IsPlayer, ArePlayers, IsTrueScene, HasPlayed, events_made};
 
 /// Each lawful plan of a script that was read keeps what the laws on programs and places ask of a plan.
 pub fn lawful_plans_are_orderly()
@@ -85,6 +87,18 @@ pub fn turns_keep_all_places_true()
         AreTrueFor p w places → (a : ActorName) → IsActor p a →
         AreTrueFor p (world_after p w (turn_of p w a (places a)).outcome)
         (with_place places a (turn_of p w a (places a)).place)) }
+{}
+
+/// A schedule of players begins with true places, each turn keeps all places true, and the events of its turns
+/// are a history. The host's turns are those of the deferred queues too.
+pub fn schedules_make_histories()
+    ensures opening { (p : Plan) → IsTrueScene p (first_scene (opening_points p)) }
+    ensures turn { (p : Plan) → IsPlan p → IsLawful p → InEachWorld p (λ w. (s : Scene) → s.world ≡ w →
+        IsTrueScene p s → (a : ActorName) → IsPlayer p a →
+        HasPlayed p w (plays p s a).0 (plays p s a).1) }
+    ensures history { (p : Plan) → IsPlan p → IsLawful p → (turns : List ActorName) →
+        ArePlayers p turns → HistoryFrom p (opening_points p)
+        (events_made (played_from p (first_scene (opening_points p)) turns)) }
 {}
 
 /// An actor that isn't blocked before a task that makes an event, nor in it, moves.
