@@ -1,6 +1,6 @@
 -- What scripts of the forms that are built so far don't have. Each of these falls alone, with the form
 -- that it leaves out, so each law names only those that it rests on. This project's own.
-use Rattle.std.specs.Prelude.{ℕ, ◌≡◌, true, false, [], Some, All}
+use Rattle.std.specs.Prelude.{ℕ, ◌≡◌, true, [], Some, All}
 use Rattle.std.specs.List.{slice_get}
 use Rattle.vq_model.specs.declared.script.Script.{Script}
 use Rattle.vq_model.specs.declared.script.Batch.{Batch}
@@ -21,11 +21,6 @@ HasNoImmediateWait s = (j : ℕ) (b : Batch) → slice_get s.jobs j ≡ Some (Ba
 abbrev pub HasWholeWaits : Script → Type 0
 HasWholeWaits s = (j : ℕ) (b : Batch) → slice_get s.jobs j ≡ Some (BatchJob b) →
     All (λ m. m.from ≡ 1) b.waits
-
--- no schedule stands in it
-pub record IsUnscheduled (s : Script) : Type 0 where
-  pub unscheduled : s.scheduled ≡ false
-  pub turns : s.turns ≡ []
 
 -- it is of the first version
 abbrev pub IsOfFirstVersion : Script → Type 0

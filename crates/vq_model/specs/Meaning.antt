@@ -64,6 +64,9 @@ is_built before SignalTimelineLine = true
 is_built before SignalBinaryLine = true
 is_built before BatchFenceLine = true
 is_built before EndLine = true
+is_built before ScheduleLine = true
+is_built before TurnLine = true
+is_built before TurnsLine = true
 is_built before other = false
 
 -- `version 2` may stand first; in version 2 waits may hold back a part of the commands

@@ -13,7 +13,10 @@ use Rattle.vq_model.specs.declared.script.HostStep.TheVariants.{FenceWait, Fence
 use Rattle.vq_model.specs.declared.script.CommandLine.{CommandLine}
 use Rattle.vq_model.specs.declared.script.Pair.{Pair}
 use Rattle.vq_model.specs.declared.script.Mark.{Mark}
-use Rattle.vq_model.specs.Context.{is_fence, is_immediate}
+use Rattle.vq_model.specs.declared.script.ActorName.{ActorName}
+use Rattle.vq_model.specs.declared.script.ActorName.TheVariants.{Host as HostActor, Submit as SubmitActor}
+use Rattle.vq_model.specs.declared.script.ActorName.TheVariants.{Ring as RingActor}
+use Rattle.vq_model.specs.Context.{is_fence, is_immediate, is_threaded}
 use Rattle.vq_model.specs.Limits.{limits_of}
 use Rattle.vq_model.specs.Ranges.{Fits}
 use Rattle.vq_model.specs.Signals.{Signaling, all_signals, kind_of, is_timeline_at}
@@ -107,3 +110,26 @@ HasRisingLines s = AreRising (flat_map job_lines s.jobs)
 -- whether a queue of a script is immediate
 abbrev pub is_immediate_queue : Script → ℕ → Bool
 is_immediate_queue s q = option_map_or (λ x. is_immediate x.mode) (slice_get s.queues q) false
+
+-- whether a queue of a script is threaded
+abbrev pub is_threaded_queue : Script → ℕ → Bool
+is_threaded_queue s q = option_map_or (λ x. is_threaded x.mode) (slice_get s.queues q) false
+
+-- An actor of a script: the host, the thread that submits to a threaded queue, the device's side of
+-- a queue.
+abbrev pub IsActor : Script → ActorName → Type 0
+IsActor s HostActor = Unit {0}
+IsActor s (SubmitActor q) = is_threaded_queue s q ≡ true
+IsActor s (RingActor q) = q < length s.queues
+
+-- The turns of a schedule are taken by actors of its script, and are few; a script without a schedule
+-- has none.
+pub record HasValidTurns (s : Script) : Type 0 where
+  pub actors : All (λ t. IsActor s t.actor) s.turns
+  pub few : length s.turns ≤ (limits_of s.version).turns
+  pub none : s.scheduled ≡ false → s.turns ≡ []
+
+-- No schedule stands in a script.
+pub record IsUnscheduled (s : Script) : Type 0 where
+  pub unscheduled : s.scheduled ≡ false
+  pub turns : s.turns ≡ []

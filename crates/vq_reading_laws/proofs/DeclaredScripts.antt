@@ -19,12 +19,17 @@ use Rattle.vq_model.specs.declared.script.Mark.{Mark}
 use Rattle.vq_model.specs.declared.script.HostLine.{HostLine}
 use Rattle.vq_model.specs.declared.script.HostStep.{HostStep}
 use Rattle.vq_model.specs.declared.script.HostStep.TheVariants.{Signal}
-use Rattle.vq_model.specs.Context.{is_immediate, is_fence, is_timeline}
+use Rattle.vq_model.specs.declared.script.Turn.{Turn}
+use Rattle.vq_model.specs.declared.script.ActorName.{ActorName}
+use Rattle.vq_model.specs.declared.script.ActorName.TheVariants.{Host as HostActor, Submit as SubmitActor, Ring as RingActor}
+use Rattle.vq_model.specs.declared.script.Mode.TheVariants.{Threaded}
+use Rattle.vq_model.specs.Context.{is_immediate, is_fence, is_timeline, is_threaded}
+use Rattle.vq_reading_laws.proofs.KeptTurns.{IsTurnOf}
 use Rattle.vq_model.specs.ScriptOfLines.{first_of_list}
 use Rattle.vq_model.specs.Signals.{kind_of, Signaling, all_signals, job_signals, step_signals, of_mark}
-use Rattle.vq_model.specs.ValidScripts.{IsValidMark, IsValidFence, IsValidBatch, IsValidStep, is_immediate_queue, HasValidBatches, HasValidSteps}
+use Rattle.vq_model.specs.ValidScripts.{IsValidMark, IsValidFence, IsValidBatch, IsValidStep, is_immediate_queue, IsActor, HasValidBatches, HasValidSteps}
 use Rattle.vq_model.proofs.Gets.{get-map, get_within}
-use Rattle.vq_reading_laws.proofs.LineFacts.{IsMarkOf}
+use Rattle.vq_reading_laws.proofs.LineFacts.{IsMarkOf, IsActorOf}
 use Rattle.std.specs.Prelude.{All}
 use Rattle.std.proofs.lemmas.List.Elements.{All-head, All-tail}
 
@@ -151,6 +156,28 @@ module _ (s : Script) where
         | inl e ↦ e
         | inr held ↦ absurd (false≢true (sym (held_here b.queue held) ∙ h))
       ]
+
+  -- the actors of turns
+  valid_actor : (a : ActorName) → IsActorOf declared_in.modes a → IsActor s a
+  valid_actor HostActor h = tt
+  valid_actor (SubmitActor q) h =
+      by_queue (slice_get s.queues q) (sym (get-map (λ (x : Queue). x.mode) s.queues q) ∙ h)
+    where
+      by_queue : (o : Option Queue) → option_map (λ (x : Queue). x.mode) o ≡ Some Threaded →
+          option_map_or (λ x. is_threaded x.mode) o false ≡ true
+      by_queue None e = absurd (let c : None ≡ Some Threaded = e in cc)
+      by_queue (Some x) e =
+          let same : Threaded ≡ x.mode = cc in
+          subst (λ (m : Mode). is_threaded m ≡ true) same refl
+  valid_actor (RingActor q) h =
+      let n = length-map s.queues (λ (x : Queue). x.mode) in omega arith
+
+  pub valid_turns : (turns : List Turn) → Every (IsTurnOf declared_in) turns →
+      All (λ t. IsActor s t.actor) turns
+  valid_turns turns a =
+      of_every (λ (t : Turn). IsActor s t.actor) turns
+      (all_weaker (IsTurnOf declared_in) (λ (t : Turn). IsActor s t.actor) turns
+      (λ t h. valid_actor t.actor h) a)
 
 -- The signals of valid batches and of valid host steps name semaphores that exist.
 module _ (s : Script) where

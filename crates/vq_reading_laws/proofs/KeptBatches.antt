@@ -1,15 +1,15 @@
 -- Batches of what is declared keep what a batch keeps.
 use Rattle.std.proofs.Common.{◌≡◌, ℕ, suc, ◌+◌, Bool, true, false, cond, not, List, [], ◌∷◌, take, refl, ap, arith, ◌++◌, map, Some, ◌-◌, ◌≤◌, ◌⊎◌, length, ◌<◌, inl, inr, sym, ◌∙◌, subst}
-use Rattle.std.specs.List.{position_or_len, AllByRecursion as Every, slice_get, filter_map, flat_map}
+use Rattle.std.specs.List.{position_or_len, AllByRecursion as Every, slice_get, filter_map}
 use Rattle.vq_model.specs.declared.statement.Line.{Line}
-use Rattle.vq_model.specs.Context.{is_end, is_command, count, some, version_of}
-use Rattle.vq_model.specs.ScriptOfLines.{batch_lines, wait_of, command_of, signal_of, fence_of, first_of_list, jobs_of, is_schedule, turns_at}
+use Rattle.vq_model.specs.Context.{is_end, is_command, count, version_of}
+use Rattle.vq_model.specs.ScriptOfLines.{batch_lines, wait_of, command_of, signal_of, fence_of, first_of_list, jobs_of}
 use Rattle.std.specs.Prelude.{All, sum}
 use Rattle.std.proofs.lemmas.List.Elements.{All-nil, All-cons}
 use Rattle.vq_model.specs.declared.script.Pair.{Pair}
 use Rattle.vq_model.specs.declared.script.Mark.{Mark}
 use Rattle.vq_reading_laws.proofs.LineFacts.{IsMarkOf}
-use Rattle.vq_reading_laws.proofs.Standing.{Declarations, IsHeld, Where, is_outside, is_inside, where_after, Stands, StandsWait, AllStand}
+use Rattle.vq_reading_laws.proofs.Standing.{Declarations, IsHeld, Where, is_outside, is_inside, in_schedule, where_after, Stands, StandsWait, AllStand}
 use Rattle.vq_model.specs.declared.script.SemaphoreKind.TheVariants.{Fence}
 use Rattle.vq_model.specs.declared.script.CommandLine.{CommandLine}
 use Rattle.vq_model.specs.Ranges.{Fits}
@@ -20,8 +20,7 @@ use Rattle.vq_model.specs.Limits.{is_job}
 use Rattle.vq_model.specs.Lowering.{commands_in}
 use Rattle.std.proofs.lemmas.List.Sums.{sum_by-cons}
 use Rattle.vq_model.specs.declared.statement.Statement.{Statement}
-use Rattle.std.proofs.lemmas.Bool.{or_from}
-use Rattle.vq_model.specs.declared.statement.Statement.TheVariants.{DeclareBuffer, DeclareSemaphore, DeclareQueue, BeginBatch, AddWait, AddCommand, AddSignal, AddFence, EndBatch}
+use Rattle.vq_model.specs.declared.statement.Statement.TheVariants.{DeclareBuffer, DeclareSemaphore, DeclareQueue, BeginBatch, AddWait, AddCommand, AddSignal, AddFence, EndBatch, BeginSchedule, TakeTurns}
 use Rattle.vq_model.specs.declared.script.Command.{Command}
 use Rattle.vq_reading_laws.proofs.LinePushes.{a_line}
 
@@ -105,10 +104,12 @@ KeepJobs d (BatchJob b ∷ jobs) = KeepsJob d b × KeepJobs d jobs
 abbrev OpenKept : Declarations → Where → List Line → Type 0
 OpenKept d is_outside lines = Unit {0}
 OpenKept d (is_inside q w g k) lines = KeepsOpen d q w g (batch_lines lines)
+OpenKept d in_schedule lines = Unit {0}
 
 abbrev open_commands : Where → List Line → List CommandLine
 open_commands is_outside lines = []
 open_commands (is_inside q w g k) lines = filter_map command_of (batch_lines lines)
+open_commands in_schedule lines = []
 
 -- what the jobs of lines keep
 pub record JobsKept (d : Declarations) (was : Where) (lines : List Line) : Type 0 where
@@ -194,10 +195,11 @@ module _ (d : Declarations) where
       }
 
   -- lines that add no job and no command
-  jobs_kept_declared : (n : ℕ) (s : Statement) (lines : List Line) →
+  jobs_kept_declared : (n : ℕ) (was next : Where) (s : Statement) (lines : List Line) →
       jobs_of (a_line n s ∷ lines) ≡ jobs_of lines → is_job s ≡ false → is_command s ≡ false →
-      JobsKept d is_outside lines → JobsKept d is_outside (a_line n s ∷ lines)
-  jobs_kept_declared n s lines same no_job no_command k =
+      OpenKept d was (a_line n s ∷ lines) → open_commands was (a_line n s ∷ lines) ≡ [] →
+      JobsKept d next lines → JobsKept d was (a_line n s ∷ lines)
+  jobs_kept_declared n was next s lines same no_job no_command opened none k =
       let j = count_cons is_job (a_line n s) lines ∙ ap (λ (b : Bool). cond b 1 0
       + count is_job lines) no_job in
       let c = count_cons is_command (a_line n s) lines ∙ ap (λ (b : Bool). cond b 1 0
@@ -206,9 +208,10 @@ module _ (d : Declarations) where
       let kc = k.few_commands in
       let lj = ap length same in
       let lc = ap (λ (js : List Job). sum (map commands_in js)) same in
+      let ln = ap length none in
       record {
         all = subst (KeepJobs d) (sym same) k.all;
-        opened = tt;
+        opened = opened;
         few_jobs = omega arith;
         few_commands = omega arith;
       }
@@ -287,11 +290,11 @@ module _ (d : Declarations) where
       Stands d was s → JobsKept d (where_after was s) lines →
       JobsKept d was (a_line n s ∷ lines)
   jobs_kept_more n is_outside (DeclareBuffer name size) lines h k =
-      jobs_kept_declared n (DeclareBuffer name size) lines refl refl refl k
+      jobs_kept_declared n is_outside is_outside (DeclareBuffer name size) lines refl refl refl tt refl k
   jobs_kept_more n is_outside (DeclareSemaphore name kind) lines h k =
-      jobs_kept_declared n (DeclareSemaphore name kind) lines refl refl refl k
+      jobs_kept_declared n is_outside is_outside (DeclareSemaphore name kind) lines refl refl refl tt refl k
   jobs_kept_more n is_outside (DeclareQueue name mode) lines h k =
-      jobs_kept_declared n (DeclareQueue name mode) lines refl refl refl k
+      jobs_kept_declared n is_outside is_outside (DeclareQueue name mode) lines refl refl refl tt refl k
   jobs_kept_more n is_outside (BeginBatch q) lines h k = jobs_kept_begin n q lines h k
   jobs_kept_more n (is_inside q w g p) (AddWait pair from) lines h k =
       jobs_kept_inside n q w g p (w + 1) g 1 (AddWait pair from) lines refl refl refl
@@ -306,6 +309,11 @@ module _ (d : Declarations) where
       jobs_kept_inside n q w g p w g 4 (AddFence f) lines refl refl refl
       (open_fence n q w g f (batch_lines lines) h.0 k.opened) (omega arith) k
   jobs_kept_more n (is_inside q w g p) EndBatch lines h k = jobs_kept_end n q w g p lines k
+  jobs_kept_more n is_outside BeginSchedule lines h k =
+      jobs_kept_declared n is_outside in_schedule BeginSchedule lines refl refl refl tt refl k
+  jobs_kept_more n in_schedule (TakeTurns actor count) lines h k =
+      jobs_kept_declared n in_schedule in_schedule (TakeTurns actor count) lines refl refl refl tt
+      refl k
   jobs_kept_more n was s lines h k = absurd h
 
   pub jobs_kept : (was : Where) (lines : List Line) → AllStand d was lines → JobsKept d was lines
@@ -318,11 +326,13 @@ module _ (d : Declarations) where
         few_jobs = omega arith;
         few_commands = omega arith;
       }
+  jobs_kept in_schedule [] a =
+      record { all = tt; opened = tt; few_jobs = omega arith; few_commands = omega arith }
   jobs_kept was (line ∷ lines) a =
       jobs_kept_more line.number was line.statement lines a.0
       (jobs_kept (where_after was line.statement) lines a.1)
 
-  -- lines that stand name no version, and have no schedule
+  -- lines that stand name no version
   pub no_version : (lines : List Line) → AllStand d is_outside lines → version_of lines ≡ 1
   no_version [] a = refl
   no_version (line ∷ lines) a = by_statement line.number line.statement a.0
@@ -333,44 +343,5 @@ module _ (d : Declarations) where
       by_statement n (DeclareSemaphore name kind) h = refl
       by_statement n (DeclareQueue name mode) h = refl
       by_statement n (BeginBatch q) h = refl
+      by_statement n BeginSchedule h = refl
       by_statement n s h = absurd h
-
-  -- .. and no schedule and no turns
-  record IsPlainLine (line : Line) : Type 0 where
-    no_schedule : is_schedule line.statement ≡ false
-    no_turns : turns_at line ≡ []
-
-  is_plain_line : (n : ℕ) (was : Where) (s : Statement) → Stands d was s →
-      IsPlainLine (a_line n s)
-  is_plain_line n is_outside (DeclareBuffer name size) h =
-      record { no_schedule = refl; no_turns = refl }
-  is_plain_line n is_outside (DeclareSemaphore name kind) h =
-      record { no_schedule = refl; no_turns = refl }
-  is_plain_line n is_outside (DeclareQueue name mode) h =
-      record { no_schedule = refl; no_turns = refl }
-  is_plain_line n is_outside (BeginBatch q) h = record { no_schedule = refl; no_turns = refl }
-  is_plain_line n (is_inside q w g k) (AddWait pair from) h =
-      record { no_schedule = refl; no_turns = refl }
-  is_plain_line n (is_inside q w g k) (AddCommand c) h =
-      record { no_schedule = refl; no_turns = refl }
-  is_plain_line n (is_inside q w g k) (AddSignal pair) h =
-      record { no_schedule = refl; no_turns = refl }
-  is_plain_line n (is_inside q w g k) (AddFence f) h =
-      record { no_schedule = refl; no_turns = refl }
-  is_plain_line n (is_inside q w g k) EndBatch h = record { no_schedule = refl; no_turns = refl }
-  is_plain_line n was s h = absurd h
-
-  pub no_schedule : (was : Where) (lines : List Line) → AllStand d was lines →
-      some is_schedule lines ≡ false
-  no_schedule was [] a = refl
-  no_schedule was (line ∷ lines) a =
-      or_from (is_schedule line.statement) (some is_schedule lines)
-      (is_plain_line line.number was line.statement a.0).no_schedule
-      (no_schedule (where_after was line.statement) lines a.1)
-
-  pub no_turns : (was : Where) (lines : List Line) → AllStand d was lines →
-      flat_map turns_at lines ≡ []
-  no_turns was [] a = refl
-  no_turns was (line ∷ lines) a = λ i.
-      (is_plain_line line.number was line.statement a.0).no_turns i
-      ++ no_turns (where_after was line.statement) lines a.1 i

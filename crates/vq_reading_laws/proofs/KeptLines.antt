@@ -1,9 +1,12 @@
 -- What is kept from line to line.
-use Rattle.std.proofs.Common.{◌≡◌, ℕ, ◌<◌, ◌≤◌, true, List, length, map, [], refl, arith, ◌+◌, ◌⊎◌, ◌∷◌, ◌++◌, inl, inr, subst, cond, length-append, sym, ap, ◌∙◌}
+use Rattle.std.proofs.Common.{◌≡◌, ℕ, ◌<◌, ◌≤◌, true, List, length, map, [], refl, arith, ◌+◌, ◌⊎◌, ◌∷◌, ◌++◌, Bool, false, ◌||◌, inl, inr, subst, cond, length-append, sym, ap, ◌∙◌}
 use Rattle.std.specs.Prelude.{sum}
 use Rattle.vq_model.specs.declared.statement.Line.{Line}
-use Rattle.vq_model.specs.Context.{buffers, semaphores, queues, is_command, count, section, buffer_of, semaphore_of, queue_of}
+use Rattle.vq_model.specs.Context.{buffers, semaphores, queues, is_command, count, section, buffer_of, semaphore_of, queue_of, some, turns_of}
 use Rattle.vq_model.specs.Limits.{is_job}
+use Rattle.vq_model.specs.ScriptOfLines.{is_schedule}
+use Rattle.vq_model.specs.declared.statement.Form.{Form}
+use Rattle.vq_model.specs.declared.statement.Form.TheVariants.{Scheduled}
 use Rattle.vq_model.specs.Plan.{has}
 use Rattle.vq_model.specs.WellFormed.{AreRising}
 use Rattle.vq_reading_laws.proofs.CommandRanges.{sizes_before}
@@ -20,16 +23,16 @@ use Rattle.vq_model.specs.declared.script.Buffer.{Buffer}
 use Rattle.vq_model.specs.declared.script.Semaphore.{Semaphore}
 use Rattle.vq_model.specs.declared.script.Queue.{Queue}
 use Rattle.vq_model.specs.Reading.{with_line}
-use Rattle.vq_reading_laws.proofs.LinePushes.{a_line, count_push}
-use Rattle.vq_reading_laws.proofs.LineFacts.{Said}
+use Rattle.vq_reading_laws.proofs.LinePushes.{a_line, count_push, some_push}
+use Rattle.vq_reading_laws.proofs.LineFacts.{Said, turns_before}
 use Rattle.vq_model.specs.declared.statement.Section.{Section}
-use Rattle.vq_model.specs.declared.statement.Section.TheVariants.{Outside, InBatch}
-use Rattle.vq_model.specs.declared.statement.Statement.TheVariants.{DeclareBuffer, DeclareSemaphore, DeclareQueue, BeginBatch, AddWait, AddCommand, AddSignal, AddFence, EndBatch}
+use Rattle.vq_model.specs.declared.statement.Section.TheVariants.{Outside, InBatch, InSchedule}
+use Rattle.vq_model.specs.declared.statement.Statement.TheVariants.{DeclareBuffer, DeclareSemaphore, DeclareQueue, BeginBatch, AddWait, AddCommand, AddSignal, AddFence, EndBatch, BeginSchedule, TakeTurns}
 
 -- What is kept from line to line
 
--- What the lines keep that were read, where the next line has this number.
-pub record LinesKept (next : ℕ) (before : List Line) : Type 0 where
+-- What the lines of a text of a form keep that were read, where the next line has this number.
+pub record LinesKept (form : Form) (next : ℕ) (before : List Line) : Type 0 where
   pub stand : AllStand (declared_by before) is_outside before
   pub leads : Lead before (where_of before)
   pub few_buffers : length (buffers before) ≤ 64
@@ -38,11 +41,13 @@ pub record LinesKept (next : ℕ) (before : List Line) : Type 0 where
   pub few_queues : length (queues before) ≤ 8
   pub few_jobs : count is_job before ≤ 4096
   pub few_commands : count is_command before ≤ 8192
+  pub few_turns : turns_before before ≤ 65536
+  pub planned : some is_schedule before ≡ true → form ≡ Scheduled
   pub rising : AreRising (map (λ l. l.number) before)
   pub numbered : (m : ℕ) → has (map (λ l. l.number) before) m ≡ true → m < next
 
-pub kept_first : LinesKept 1 []
-kept_first =
+pub kept_first : (form : Form) → LinesKept form 1 []
+kept_first form =
     record {
       stand = tt;
       leads = refl;
@@ -52,13 +57,16 @@ kept_first =
       few_queues = omega arith;
       few_jobs = omega arith;
       few_commands = omega arith;
+      few_turns = omega arith;
+      planned = λ h. absurd (false≢true h);
       rising = tt;
       numbered = λ m h. absurd (false≢true h);
     }
 
 -- a line without words changes nothing
-pub kept_on : (n : ℕ) (before : List Line) → LinesKept n before → LinesKept (n + 1) before
-kept_on n before k =
+pub kept_on : (form : Form) (n : ℕ) (before : List Line) → LinesKept form n before →
+    LinesKept form (n + 1) before
+kept_on form n before k =
     record {
       stand = k.stand;
       leads = k.leads;
@@ -68,6 +76,8 @@ kept_on n before k =
       few_queues = k.few_queues;
       few_jobs = k.few_jobs;
       few_commands = k.few_commands;
+      few_turns = k.few_turns;
+      planned = k.planned;
       rising = k.rising;
       numbered = λ m h. let l = k.numbered m h in omega arith;
     }
@@ -91,7 +101,14 @@ rising_push (x ∷ xs) n r below = (
         last (inl e) = subst (λ (z : ℕ). x < z) e (below x (has_here x xs))
         last (inr e) = absurd (false≢true e)
 
-module _ (before : List Line) (n : ℕ) (s : Statement) where
+-- some line passes a test, or one line more
+either_passes : {A : Type 0} (a b : Bool) → (a || (b || false)) ≡ true → (a ≡ true → A) →
+    (b ≡ true → A) → A
+either_passes true b h f g = f refl
+either_passes false true h f g = g refl
+either_passes false false h f g = absurd (false≢true h)
+
+module _ (form : Form) (before : List Line) (n : ℕ) (s : Statement) where
   -- what is declared, one line more
   buffers_more : buffers (with_line before n s)
       ≡ buffers before ++ filter_map buffer_of (a_line n s ∷ [])
@@ -130,16 +147,18 @@ module _ (before : List Line) (n : ℕ) (s : Statement) where
       }
 
   -- one line more, which passes no limit
-  kept_push : LinesKept n before → Said before (section before) s →
+  kept_push : LinesKept form n before → Said form before (section before) s →
+      (is_schedule s ≡ true → form ≡ Scheduled) → turns_before before + turns_of s ≤ 65536 →
       length (buffers before) + length (filter_map buffer_of (a_line n s ∷ [])) ≤ 64 →
       sum (sizes_before before)
       + sum (map (λ b. b.size) (filter_map buffer_of (a_line n s ∷ []))) ≤ 1048576 →
       length (semaphores before) + length (filter_map semaphore_of (a_line n s ∷ [])) ≤ 256 →
       length (queues before) + length (filter_map queue_of (a_line n s ∷ [])) ≤ 8 →
       count is_job before + cond (is_job s) 1 0 ≤ 4096 →
-      count is_command before + cond (is_command s) 1 0 ≤ 8192 → LinesKept (n + 1) (with_line before n s)
-  kept_push k said b z t q j c =
-      let here = said_stands before (where_of before) s k.leads said in
+      count is_command before + cond (is_command s) 1 0 ≤ 8192 →
+      LinesKept form (n + 1) (with_line before n s)
+  kept_push k said planned u b z t q j c =
+      let here = said_stands form before (where_of before) s k.leads said in
       let lb = ap length buffers_more
       ∙ length-append (buffers before) (filter_map buffer_of (a_line n s ∷ [])) in
       let lt = ap length semaphores_more
@@ -153,6 +172,7 @@ module _ (before : List Line) (n : ℕ) (s : Statement) where
       (map (λ b. b.size) (filter_map buffer_of (a_line n s ∷ []))) in
       let lj = count_push is_job before n s in
       let lc = count_push is_command before n s in
+      let lu = turns_more in
       record {
         stand =
             all_stand_push (declared_by (with_line before n s)) is_outside before n s
@@ -169,12 +189,23 @@ module _ (before : List Line) (n : ℕ) (s : Statement) where
         few_queues = omega arith;
         few_jobs = omega arith;
         few_commands = omega arith;
+        few_turns = omega arith;
+        planned = λ h. either_passes (some is_schedule before) (is_schedule s)
+            (sym (some_push before n s is_schedule) ∙ h) k.planned planned;
         rising =
             subst AreRising (sym numbers)
             (rising_push (map (λ (l : Line). l.number) before) n k.rising k.numbered);
         numbered = λ m h. below m (subst (λ (ns : List ℕ). has ns m ≡ true) numbers h);
       }
     where
+      turns_more : turns_before (with_line before n s) ≡ turns_before before + turns_of s
+      turns_more =
+          ap sum (map-append (λ (l : Line). turns_of l.statement) before (a_line n s ∷ []))
+          ∙ (sum_by-append (λ (x : ℕ). x) (map (λ (l : Line). turns_of l.statement) before)
+          (turns_of s ∷ [])
+          ∙ ap (λ (k : ℕ). turns_before before + k)
+          (sum_by-cons (λ (x : ℕ). x) (turns_of s) [] ∙ omega arith))
+
       numbers : map (λ (l : Line). l.number) (with_line before n s)
           ≡ map (λ (l : Line). l.number) before ++ n ∷ []
       numbers = map-append (λ (l : Line). l.number) before (a_line n s ∷ [])
@@ -190,9 +221,10 @@ module _ (before : List Line) (n : ℕ) (s : Statement) where
           last (inr e) = absurd (false≢true e)
 
 -- A line without a fault keeps all this.
-pub kept_more : (before : List Line) (n : ℕ) (s : Statement) → LinesKept n before →
-    Said before (section before) s → LinesKept (n + 1) (with_line before n s)
-kept_more before n s k said = by_section (section before) s refl said
+pub kept_more : (form : Form) (before : List Line) (n : ℕ) (s : Statement) →
+    LinesKept form n before → Said form before (section before) s →
+    LinesKept form (n + 1) (with_line before n s)
+kept_more form before n s k said = by_section (section before) s refl said
   where
     kb : length (buffers before) ≤ 64
     kb = k.few_buffers
@@ -212,43 +244,57 @@ kept_more before n s k said = by_section (section before) s refl said
     kc : count is_command before ≤ 8192
     kc = k.few_commands
 
-    again : (was : Section) (s : Statement) → section before ≡ was → Said before was s →
-        Said before (section before) s
-    again was s e h = subst (λ (x : Section). Said before x s) (sym e) h
+    ku : turns_before before ≤ 65536
+    ku = k.few_turns
 
-    by_section : (was : Section) (s : Statement) → section before ≡ was → Said before was s →
-        LinesKept (n + 1) (with_line before n s)
+    no : false ≡ true → form ≡ Scheduled
+    no h = absurd (false≢true h)
+
+    again : (was : Section) (s : Statement) → section before ≡ was → Said form before was s →
+        Said form before (section before) s
+    again was s e h = subst (λ (x : Section). Said form before x s) (sym e) h
+
+    by_section : (was : Section) (s : Statement) → section before ≡ was → Said form before was s →
+        LinesKept form (n + 1) (with_line before n s)
     by_section Outside (DeclareBuffer name size) e h =
         let l = h.0 in
         let m = h.1 in
         let u = sum_by-cons (λ (x : ℕ). x) size [] in
-        kept_push before n (DeclareBuffer name size) k (again Outside (DeclareBuffer name size) e h)
+        kept_push form before n (DeclareBuffer name size) k (again Outside (DeclareBuffer name size) e h) no (omega arith)
         (omega arith) (omega arith) (omega arith) (omega arith) (omega arith) (omega arith)
     by_section Outside (DeclareSemaphore name kind) e h =
-        kept_push before n (DeclareSemaphore name kind) k
-        (again Outside (DeclareSemaphore name kind) e h) (omega arith) (omega arith) (omega arith)
+        kept_push form before n (DeclareSemaphore name kind) k
+        (again Outside (DeclareSemaphore name kind) e h) no (omega arith) (omega arith) (omega arith) (omega arith)
         (omega arith) (omega arith) (omega arith)
     by_section Outside (DeclareQueue name mode) e h =
-        kept_push before n (DeclareQueue name mode) k (again Outside (DeclareQueue name mode) e h)
+        kept_push form before n (DeclareQueue name mode) k (again Outside (DeclareQueue name mode) e h) no (omega arith)
         (omega arith) (omega arith) (omega arith) (omega arith) (omega arith) (omega arith)
     by_section Outside (BeginBatch q) e h =
         let m = h.1 in
-        kept_push before n (BeginBatch q) k (again Outside (BeginBatch q) e h) (omega arith)
+        kept_push form before n (BeginBatch q) k (again Outside (BeginBatch q) e h) no (omega arith) (omega arith)
         (omega arith) (omega arith) (omega arith) (omega arith) (omega arith)
     by_section InBatch (AddWait pair from) e h =
-        kept_push before n (AddWait pair from) k (again InBatch (AddWait pair from) e h)
+        kept_push form before n (AddWait pair from) k (again InBatch (AddWait pair from) e h) no (omega arith)
         (omega arith) (omega arith) (omega arith) (omega arith) (omega arith) (omega arith)
     by_section InBatch (AddCommand c) e h =
         let l = h.few in
-        kept_push before n (AddCommand c) k (again InBatch (AddCommand c) e h) (omega arith)
+        kept_push form before n (AddCommand c) k (again InBatch (AddCommand c) e h) no (omega arith) (omega arith)
         (omega arith) (omega arith) (omega arith) (omega arith) (omega arith)
     by_section InBatch (AddSignal pair) e h =
-        kept_push before n (AddSignal pair) k (again InBatch (AddSignal pair) e h) (omega arith)
+        kept_push form before n (AddSignal pair) k (again InBatch (AddSignal pair) e h) no (omega arith) (omega arith)
         (omega arith) (omega arith) (omega arith) (omega arith) (omega arith)
     by_section InBatch (AddFence f) e h =
-        kept_push before n (AddFence f) k (again InBatch (AddFence f) e h) (omega arith)
+        kept_push form before n (AddFence f) k (again InBatch (AddFence f) e h) no (omega arith) (omega arith)
         (omega arith) (omega arith) (omega arith) (omega arith) (omega arith)
     by_section InBatch EndBatch e h =
-        kept_push before n EndBatch k (again InBatch EndBatch e h) (omega arith) (omega arith)
+        kept_push form before n EndBatch k (again InBatch EndBatch e h) no (omega arith) (omega arith) (omega arith)
+        (omega arith) (omega arith) (omega arith) (omega arith)
+    by_section Outside BeginSchedule e h =
+        kept_push form before n BeginSchedule k (again Outside BeginSchedule e h) (λ t. h)
+        (omega arith) (omega arith) (omega arith) (omega arith) (omega arith) (omega arith)
+        (omega arith)
+    by_section InSchedule (TakeTurns actor count) e h =
+        kept_push form before n (TakeTurns actor count) k
+        (again InSchedule (TakeTurns actor count) e h) no h.1 (omega arith) (omega arith)
         (omega arith) (omega arith) (omega arith) (omega arith)
     by_section was s e h = absurd h

@@ -4,6 +4,7 @@ mod DeclaredScripts
 mod FirstFaults
 mod KeptBatches
 mod KeptLines
+mod KeptTurns
 mod LineFacts
 mod LinePushes
 mod LinesRise

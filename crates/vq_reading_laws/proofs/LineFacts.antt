@@ -2,8 +2,11 @@
 use Rattle.std.proofs.Common.{List, map, ◌≡◌, false, Some, ℕ, ◌<◌, ◌+◌, ◌≤◌, length, Bool, true, cond, [], ◌∷◌, find, subst, ◌++◌, ◌==◌, refl, Option, None, arith, not, suc, zero, ap, ◌&&◌, ◌||◌, option_map, sym, ◌∙◌}
 use Rattle.vq_model.specs.declared.statement.Line.{Line}
 use Rattle.vq_model.specs.declared.script.SemaphoreKind.{SemaphoreKind}
-use Rattle.vq_model.specs.Context.{semaphores, queues, is_timeline, is_fence, open_batch, some, is_batch_immediate, is_wait, count, is_command, is_signal, buffers, version_of, is_binary, section, has_begun, is_batch_fence, queue_at, buffer_at, timeline_at, binary_at, fence_at}
+use Rattle.vq_model.specs.Context.{semaphores, queues, is_timeline, is_fence, open_batch, some, is_batch_immediate, is_wait, count, is_command, is_signal, buffers, version_of, is_binary, section, has_begun, is_batch_fence, queue_at, buffer_at, timeline_at, binary_at, fence_at, threaded_at, is_threaded, turns_of}
 use Rattle.vq_model.specs.declared.script.Mode.{Mode}
+use Rattle.vq_model.specs.declared.script.Mode.TheVariants.{Immediate, Deferred, Threaded}
+use Rattle.vq_model.specs.declared.script.ActorName.{ActorName}
+use Rattle.vq_model.specs.declared.script.ActorName.TheVariants.{Host as HostActor, Submit as SubmitActor, Ring as RingActor}
 use Rattle.std.specs.List.{slice_get, list_all, position, position_or_len}
 use Rattle.vq_model.specs.declared.script.Pair.{Pair}
 use Rattle.std.specs.Prelude.{nat_lt, sum}
@@ -14,15 +17,17 @@ use Rattle.vq_reading_laws.proofs.CommandRanges.{sizes_before, fits_in_range}
 use Rattle.vq_model.specs.declared.statement.Section.{Section}
 use Rattle.vq_model.specs.declared.statement.Section.TheVariants.{Outside, InBatch, InSchedule}
 use Rattle.vq_model.specs.declared.statement.Statement.{Statement}
-use Rattle.vq_model.specs.declared.statement.Statement.TheVariants.{DeclareBuffer, DeclareSemaphore, DeclareQueue, BeginBatch, AddWait, AddCommand, AddSignal, AddFence, EndBatch}
+use Rattle.vq_model.specs.declared.statement.Statement.TheVariants.{DeclareBuffer, DeclareSemaphore, DeclareQueue, BeginBatch, AddWait, AddCommand, AddSignal, AddFence, EndBatch, BeginSchedule, TakeTurns}
 use Rattle.vq_model.specs.declared.script.SemaphoreKind.TheVariants.{Fence, Timeline, Binary}
 use Rattle.vq_model.specs.Limits.{is_job, limits_of, passes_limit}
 use Rattle.vq_model.specs.declared.statement.LineForm.{LineForm}
-use Rattle.vq_model.specs.declared.statement.LineForm.TheVariants.{BufferLine, TimelineLine, BinaryLine, FenceLine, QueueLine, SubmitLine, WaitTimelineLine, WaitBinaryLine, FillWholeLine, FillLine, UpdateLine, CopyLine, SignalTimelineLine, SignalBinaryLine, BatchFenceLine, EndLine}
+use Rattle.vq_model.specs.declared.statement.LineForm.TheVariants.{BufferLine, TimelineLine, BinaryLine, FenceLine, QueueLine, SubmitLine, WaitTimelineLine, WaitBinaryLine, FillWholeLine, FillLine, UpdateLine, CopyLine, SignalTimelineLine, SignalBinaryLine, BatchFenceLine, EndLine, ScheduleLine, TurnLine, TurnsLine}
+use Rattle.std.proofs.lemmas.List.{length-map}
 use Rattle.std.proofs.lemmas.Bool.{and_parts, ltb-true, false≢true, ltb-false, or_parts}
 use Rattle.vq_model.specs.declared.statement.Form.{Form}
 use Rattle.vq_model.specs.Forms.{forms_outside, forms_in_batch, forms_in_schedule, held_forms, schedule_forms, places}
-use Rattle.vq_model.specs.Meaning.{first_forms, is_built, where_built, of_two, of_three, of_four, of_five, matches, open_places, hex_bytes, statement_of, meaning, form_of, forms_at, small_numeral, binary_pair}
+use Rattle.std.specs.Prelude.{codes, drop}
+use Rattle.vq_model.specs.Meaning.{first_forms, is_built, where_built, of_two, of_three, of_four, of_five, matches, open_places, hex_bytes, statement_of, meaning, form_of, forms_at, small_numeral, binary_pair, actor_at, is_marked}
 use Rattle.vq_model.specs.declared.statement.Form.TheVariants.{Plain, Scheduled}
 use Rattle.vq_model.specs.declared.script.Queue.{Queue}
 use Rattle.vq_reading_laws.proofs.Meanings.{passes, built_found, first_fails}
@@ -75,21 +80,34 @@ pub record SaidSignal (before : List Line) (pair : Pair) : Type 0 where
   pub few : count is_signal (open_batch before) < 16
   pub parts : KeepsParts before 3
 
+-- an actor of queues of these modes
+abbrev pub IsActorOf : List Mode → ActorName → Type 0
+IsActorOf modes HostActor = Unit {0}
+IsActorOf modes (SubmitActor q) = slice_get modes q ≡ Some Threaded
+IsActorOf modes (RingActor q) = q < length modes
+
+-- the turns that lines take
+abbrev pub turns_before : List Line → ℕ
+turns_before before = sum (map (λ line. turns_of line.statement) before)
+
 -- What a statement keeps, by the part of the text in which it stands: the forms that are built so
 -- far.
-abbrev pub Said : List Line → Section → Statement → Type 0
-Said before Outside (DeclareBuffer name size) =
+abbrev pub Said : Form → List Line → Section → Statement → Type 0
+Said form before Outside (DeclareBuffer name size) =
     (length (buffers before) < 64) × (sum (sizes_before before) + size ≤ 1048576)
-Said before Outside (DeclareSemaphore name kind) = length (semaphores before) < 256
-Said before Outside (DeclareQueue name mode) = length (queues before) < 8
-Said before Outside (BeginBatch q) = (q < length (queues before)) × (count is_job before < 4096)
-Said before InBatch (AddWait pair from) = SaidWait before pair from
-Said before InBatch (AddCommand c) = SaidCommand before c
-Said before InBatch (AddSignal pair) = SaidSignal before pair
-Said before InBatch (AddFence f) =
+Said form before Outside (DeclareSemaphore name kind) = length (semaphores before) < 256
+Said form before Outside (DeclareQueue name mode) = length (queues before) < 8
+Said form before Outside (BeginBatch q) = (q < length (queues before)) × (count is_job before < 4096)
+Said form before InBatch (AddWait pair from) = SaidWait before pair from
+Said form before InBatch (AddCommand c) = SaidCommand before c
+Said form before InBatch (AddSignal pair) = SaidSignal before pair
+Said form before InBatch (AddFence f) =
     (slice_get (kinds_before before) f ≡ Some Fence) × KeepsParts before 4
-Said before InBatch EndBatch = Unit {0}
-Said before was other = ⊥
+Said form before InBatch EndBatch = Unit {0}
+Said form before Outside BeginSchedule = form ≡ Scheduled
+Said form before InSchedule (TakeTurns actor count) =
+    IsActorOf (modes_before before) actor × (turns_before before + count ≤ 65536)
+Said form before was other = ⊥
 
 -- whether a form that is built may stand in a part of the text
 abbrev pub belongs : Section → LineForm → Bool
@@ -103,12 +121,17 @@ belongs Outside SignalTimelineLine = false
 belongs Outside SignalBinaryLine = false
 belongs Outside BatchFenceLine = false
 belongs Outside EndLine = false
+belongs Outside TurnLine = false
+belongs Outside TurnsLine = false
 belongs InBatch BufferLine = false
 belongs InBatch TimelineLine = false
 belongs InBatch BinaryLine = false
 belongs InBatch FenceLine = false
 belongs InBatch (QueueLine mode) = false
 belongs InBatch SubmitLine = false
+belongs InBatch ScheduleLine = false
+belongs InBatch TurnLine = false
+belongs InBatch TurnsLine = false
 belongs InSchedule BufferLine = false
 belongs InSchedule TimelineLine = false
 belongs InSchedule BinaryLine = false
@@ -125,6 +148,7 @@ belongs InSchedule SignalTimelineLine = false
 belongs InSchedule SignalBinaryLine = false
 belongs InSchedule BatchFenceLine = false
 belongs InSchedule EndLine = false
+belongs InSchedule ScheduleLine = false
 belongs was other = true
 
 -- what is found is one of those that all pass a test
@@ -165,6 +189,33 @@ forms_belong form before InBatch = in_batch (version_of before == 2)
     in_batch true = refl
     in_batch false = refl
 forms_belong form before InSchedule = refl
+
+-- whether a form stands in texts with a schedule or in all
+abbrev suits_text : Form → LineForm → Bool
+suits_text Plain ScheduleLine = false
+suits_text form other = true
+
+forms_suit_text : (form : Form) (before : List Line) (was : Section) →
+    list_all (suits_text form) (forms_in form before was) ≡ true
+forms_suit_text form before Outside = outside form before
+  where
+    outside : (form : Form) (before : List Line) →
+        list_all (suits_text form) (first_forms before ++ forms_outside ++ schedule_forms form)
+        ≡ true
+    outside Plain [] = refl
+    outside Plain (line ∷ lines) = refl
+    outside Scheduled [] = refl
+    outside Scheduled (line ∷ lines) = refl
+forms_suit_text form before InBatch = in_batch form (version_of before == 2)
+  where
+    in_batch : (form : Form) (b : Bool) →
+        list_all (suits_text form) (cond b (held_forms 2) [] ++ forms_in_batch) ≡ true
+    in_batch Plain true = refl
+    in_batch Plain false = refl
+    in_batch Scheduled true = refl
+    in_batch Scheduled false = refl
+forms_suit_text Plain before InSchedule = refl
+forms_suit_text Scheduled before InSchedule = refl
 
 -- what is built is built
 pub where_it_is_built : (before : List Line) (o : Option LineForm) (f : LineForm) →
@@ -220,50 +271,53 @@ of_five_says f (Some b) o n w v s h = of_four_says (f b) o n w v s h
 
 -- A statement of a form that is built, by the part of the text in which it stands and by the part
 -- of the batch to which its form belongs.
-data Shape (before : List Line) : Section → ℕ → Statement → Type 0 where
-  a_buffer : (name : List ℕ) (size : ℕ) → Shape before Outside 0 (DeclareBuffer name size)
+data Shape (form : Form) (before : List Line) : Section → ℕ → Statement → Type 0 where
+  a_buffer : (name : List ℕ) (size : ℕ) → Shape form before Outside 0 (DeclareBuffer name size)
   a_semaphore : (name : List ℕ) (kind : SemaphoreKind) →
-      Shape before Outside 0 (DeclareSemaphore name kind)
-  a_queue : (name : List ℕ) (mode : Mode) → Shape before Outside 0 (DeclareQueue name mode)
-  a_batch : (q : ℕ) → q < length (queues before) → Shape before Outside 0 (BeginBatch q)
+      Shape form before Outside 0 (DeclareSemaphore name kind)
+  a_queue : (name : List ℕ) (mode : Mode) → Shape form before Outside 0 (DeclareQueue name mode)
+  a_batch : (q : ℕ) → q < length (queues before) → Shape form before Outside 0 (BeginBatch q)
   a_wait : (pair : Pair) → is_batch_immediate before ≡ false → IsMarkOf (kinds_before before) pair →
-      Shape before InBatch 1 (AddWait pair 1)
-  a_command : (c : Command) → Shape before InBatch 2 (AddCommand c)
+      Shape form before InBatch 1 (AddWait pair 1)
+  a_command : (c : Command) → Shape form before InBatch 2 (AddCommand c)
   a_signal : (pair : Pair) → IsMarkOf (kinds_before before) pair →
-      Shape before InBatch 3 (AddSignal pair)
+      Shape form before InBatch 3 (AddSignal pair)
   a_fence : (f : ℕ) → slice_get (kinds_before before) f ≡ Some Fence →
-      Shape before InBatch 4 (AddFence f)
-  an_end : Shape before InBatch 5 EndBatch
+      Shape form before InBatch 4 (AddFence f)
+  an_end : Shape form before InBatch 5 EndBatch
+  a_schedule : form ≡ Scheduled → Shape form before Outside 0 BeginSchedule
+  some_turns : (actor : ActorName) (count : ℕ) → IsActorOf (modes_before before) actor →
+      Shape form before InSchedule 0 (TakeTurns actor count)
 
 -- a position is where an item stands that passes
-at_position : (test : Semaphore → Bool) (xs : List Semaphore) →
+at_position : {X : Type 0} (test : X → Bool) (xs : List X) →
     position_or_len test xs < length xs →
-    (x : Semaphore) × (slice_get xs (position_or_len test xs) ≡ Some x) × (test x ≡ true)
+    (x : X) × (slice_get xs (position_or_len test xs) ≡ Some x) × (test x ≡ true)
 at_position test [] l = absurd (omega arith)
-at_position test (x ∷ xs) l = by_test (test x) refl l (at_position test xs)
+at_position {X} test (x ∷ xs) l = by_test (test x) refl l (at_position test xs)
   where
     by_test : (b : Bool) → test x ≡ b → cond (not b) (1 + position_or_len test xs) 0 < suc (length xs) →
-        (position_or_len test xs < length xs → (y : Semaphore)
+        (position_or_len test xs < length xs → (y : X)
         × (slice_get xs (position_or_len test xs) ≡ Some y) × (test y ≡ true)) →
-        (y : Semaphore) × (slice_get (x ∷ xs) (cond (not b) (1 + position_or_len test xs) 0) ≡ Some y)
+        (y : X) × (slice_get (x ∷ xs) (cond (not b) (1 + position_or_len test xs) 0) ≡ Some y)
         × (test y ≡ true)
     by_test true e m later = (x, refl, e)
     by_test false e m later =
         let n : suc (position_or_len test xs) ≡ 1 + position_or_len test xs = omega arith in
-        subst (λ (k : ℕ). (y : Semaphore) × (slice_get (x ∷ xs) k ≡ Some y) × (test y ≡ true)) n
+        subst (λ (k : ℕ). (y : X) × (slice_get (x ∷ xs) k ≡ Some y) × (test y ≡ true)) n
         (later (omega arith))
 
 -- what stands at the position that is found
-found_at : (test : Semaphore → Bool) (xs : List Semaphore) (t : ℕ) → position test xs ≡ Some t →
-    (x : Semaphore) × (slice_get xs t ≡ Some x) × (test x ≡ true)
-found_at test xs t h = by_test (nat_lt (position_or_len test xs) (length xs)) refl h
+found_at : {X : Type 0} (test : X → Bool) (xs : List X) (t : ℕ) → position test xs ≡ Some t →
+    (x : X) × (slice_get xs t ≡ Some x) × (test x ≡ true)
+found_at {X} test xs t h = by_test (nat_lt (position_or_len test xs) (length xs)) refl h
   where
     by_test : (b : Bool) → nat_lt (position_or_len test xs) (length xs) ≡ b →
         cond b (Some (position_or_len test xs)) None ≡ Some t →
-        (x : Semaphore) × (slice_get xs t ≡ Some x) × (test x ≡ true)
+        (x : X) × (slice_get xs t ≡ Some x) × (test x ≡ true)
     by_test true e h =
         let same : position_or_len test xs ≡ t = cc in
-        subst (λ (k : ℕ). (x : Semaphore) × (slice_get xs k ≡ Some x) × (test x ≡ true)) same
+        subst (λ (k : ℕ). (x : X) × (slice_get xs k ≡ Some x) × (test x ≡ true)) same
         (at_position test xs (ltb-true (position_or_len test xs) (length xs) e))
     by_test false e h = absurd (cc)
 
@@ -293,7 +347,22 @@ fence_is Fence e = refl
 same_statement : (a b : Statement) → Some a ≡ Some b → a ≡ b
 same_statement a b e = cc
 
-module _ (before : List Line) where
+same_actor : (a b : ActorName) → Some a ≡ Some b → a ≡ b
+same_actor a b e = cc
+
+-- the mode of a queue
+mode_at : (xs : List Queue) (q : ℕ) (x : Queue) → slice_get xs q ≡ Some x →
+    slice_get (map (λ y. y.mode) xs) q ≡ Some x.mode
+mode_at [] q x e = absurd (let c : None ≡ Some x = e in cc)
+mode_at (y ∷ xs) zero x e = let same : y ≡ x = cc in ap (λ (z : Queue). Some z.mode) same
+mode_at (y ∷ xs) (suc q) x e = mode_at xs q x e
+
+threaded_is : (m : Mode) → is_threaded m ≡ true → m ≡ Threaded
+threaded_is Immediate e = absurd (false≢true e)
+threaded_is Deferred e = absurd (false≢true e)
+threaded_is Threaded e = refl
+
+module _ (form : Form) (before : List Line) where
   -- a timeline's name and a value
   timeline_mark : (name : List ℕ) (t v : ℕ) → timeline_at before name ≡ Some t →
       IsMarkOf (kinds_before before) (record { semaphore = t; value = v })
@@ -329,149 +398,222 @@ module _ (before : List Line) where
       kind_at (semaphores before) t f.0 f.1 ∙ ap Some (fence_is f.0.kind k.1)
 
   buffer_shape : (name : List ℕ) (o : Option ℕ) (s : Statement) →
-      option_map (λ n. DeclareBuffer name n) o ≡ Some s → Shape before Outside 0 s
+      option_map (λ n. DeclareBuffer name n) o ≡ Some s → Shape form before Outside 0 s
   buffer_shape name None s h = absurd (cc)
   buffer_shape name (Some n) s h =
-      subst (Shape before Outside 0) (same_statement (DeclareBuffer name n) s h) (a_buffer name n)
+      subst (Shape form before Outside 0) (same_statement (DeclareBuffer name n) s h) (a_buffer name n)
 
   timeline_shape : (name : List ℕ) (o : Option ℕ) (s : Statement) →
-      option_map (λ v. DeclareSemaphore name (Timeline v)) o ≡ Some s → Shape before Outside 0 s
+      option_map (λ v. DeclareSemaphore name (Timeline v)) o ≡ Some s → Shape form before Outside 0 s
   timeline_shape name None s h = absurd (cc)
   timeline_shape name (Some v) s h =
-      subst (Shape before Outside 0) (same_statement (DeclareSemaphore name (Timeline v)) s h)
+      subst (Shape form before Outside 0) (same_statement (DeclareSemaphore name (Timeline v)) s h)
       (a_semaphore name (Timeline v))
 
   batch_shape : (queue : List ℕ) (o : Option ℕ) (s : Statement) → queue_at before queue ≡ o →
-      option_map (λ q. BeginBatch q) o ≡ Some s → Shape before Outside 0 s
+      option_map (λ q. BeginBatch q) o ≡ Some s → Shape form before Outside 0 s
   batch_shape queue None s e h = absurd (let c : None ≡ Some s = h in cc)
   batch_shape queue (Some q) s e h =
       let l = position_within (λ x. bytes_eq queue x.name) (queues before) q e in
-      subst (Shape before Outside 0) (same_statement (BeginBatch q) s h) (a_batch q l)
+      subst (Shape form before Outside 0) (same_statement (BeginBatch q) s h) (a_batch q l)
 
-  command_shape : (s : Statement) → (c : Command) × (AddCommand c ≡ s) → Shape before InBatch 2 s
-  command_shape s c = subst (Shape before InBatch 2) c.1 (a_command c.0)
+  command_shape : (s : Statement) → (c : Command) × (AddCommand c ≡ s) → Shape form before InBatch 2 s
+  command_shape s c = subst (Shape form before InBatch 2) c.1 (a_command c.0)
 
   -- a wait of a timeline, of a binary semaphore
   wait_shape : (name : List ℕ) (t v : Option ℕ) (s : Statement) →
       is_batch_immediate before ≡ false → timeline_at before name ≡ t →
       option_map (λ p. AddWait p 1) (of_two (λ x y. record { semaphore = x; value = y }) t v)
-      ≡ Some s → Shape before InBatch 1 s
+      ≡ Some s → Shape form before InBatch 1 s
   wait_shape name None v s i e h = absurd (cc)
   wait_shape name (Some t) None s i e h = absurd (cc)
   wait_shape name (Some t) (Some v) s i e h =
-      subst (Shape before InBatch 1)
+      subst (Shape form before InBatch 1)
       (same_statement (AddWait (record { semaphore = t; value = v }) 1) s h)
       (a_wait (record { semaphore = t; value = v }) i (timeline_mark name t v e))
 
   binary_wait_shape : (name : List ℕ) (t : Option ℕ) (s : Statement) →
       is_batch_immediate before ≡ false → binary_at before name ≡ t →
-      option_map (λ x. AddWait (binary_pair x) 1) t ≡ Some s → Shape before InBatch 1 s
+      option_map (λ x. AddWait (binary_pair x) 1) t ≡ Some s → Shape form before InBatch 1 s
   binary_wait_shape name None s i e h = absurd (let c : None ≡ Some s = h in cc)
   binary_wait_shape name (Some t) s i e h =
-      subst (Shape before InBatch 1) (same_statement (AddWait (binary_pair t) 1) s h)
+      subst (Shape form before InBatch 1) (same_statement (AddWait (binary_pair t) 1) s h)
       (a_wait (binary_pair t) i (binary_mark name t e))
 
   -- a signal of a timeline, of a binary semaphore
   signal_shape : (name : List ℕ) (t v : Option ℕ) (s : Statement) → timeline_at before name ≡ t →
       option_map (λ p. AddSignal p) (of_two (λ x y. record { semaphore = x; value = y }) t v)
-      ≡ Some s → Shape before InBatch 3 s
+      ≡ Some s → Shape form before InBatch 3 s
   signal_shape name None v s e h = absurd (cc)
   signal_shape name (Some t) None s e h = absurd (cc)
   signal_shape name (Some t) (Some v) s e h =
-      subst (Shape before InBatch 3)
+      subst (Shape form before InBatch 3)
       (same_statement (AddSignal (record { semaphore = t; value = v })) s h)
       (a_signal (record { semaphore = t; value = v }) (timeline_mark name t v e))
 
   binary_signal_shape : (name : List ℕ) (t : Option ℕ) (s : Statement) →
       binary_at before name ≡ t →
-      option_map (λ x. AddSignal (binary_pair x)) t ≡ Some s → Shape before InBatch 3 s
+      option_map (λ x. AddSignal (binary_pair x)) t ≡ Some s → Shape form before InBatch 3 s
   binary_signal_shape name None s e h = absurd (let c : None ≡ Some s = h in cc)
   binary_signal_shape name (Some t) s e h =
-      subst (Shape before InBatch 3) (same_statement (AddSignal (binary_pair t)) s h)
+      subst (Shape form before InBatch 3) (same_statement (AddSignal (binary_pair t)) s h)
       (a_signal (binary_pair t) (binary_mark name t e))
 
   fence_shape : (name : List ℕ) (t : Option ℕ) (s : Statement) → fence_at before name ≡ t →
-      option_map (λ f. AddFence f) t ≡ Some s → Shape before InBatch 4 s
+      option_map (λ f. AddFence f) t ≡ Some s → Shape form before InBatch 4 s
   fence_shape name None s e h = absurd (let c : None ≡ Some s = h in cc)
   fence_shape name (Some t) s e h =
-      subst (Shape before InBatch 4) (same_statement (AddFence t) s h)
+      subst (Shape form before InBatch 4) (same_statement (AddFence t) s h)
       (a_fence t (fence_kind name t e))
+
+  -- an actor's name
+  actor_is : (word : List ℕ) (o : Option ActorName) (a : ActorName) → actor_at before word ≡ o →
+      o ≡ Some a → IsActorOf (modes_before before) a
+  actor_is word o a e h = by_host (bytes_eq word (codes "host")) refl (e ∙ h)
+    where
+      name : List ℕ
+      name = drop 2 word
+
+      by_submit : (o : Option ℕ) → threaded_at before name ≡ o →
+          option_map (λ q. SubmitActor q) o ≡ Some a → IsActorOf (modes_before before) a
+      by_submit None i g = absurd (let c : None ≡ Some a = g in cc)
+      by_submit (Some q) i g =
+          subst (IsActorOf (modes_before before)) (same_actor (SubmitActor q) a g)
+          (let f = found_at (λ x. bytes_eq name x.name && is_threaded x.mode) (queues before) q i in
+          let k = and_parts (bytes_eq name f.0.name) (is_threaded f.0.mode) f.2 in
+          mode_at (queues before) q f.0 f.1 ∙ ap Some (threaded_is f.0.mode k.1))
+
+      by_ring : (o : Option ℕ) → queue_at before name ≡ o →
+          option_map (λ q. RingActor q) o ≡ Some a → IsActorOf (modes_before before) a
+      by_ring None i g = absurd (let c : None ≡ Some a = g in cc)
+      by_ring (Some q) i g =
+          let l = position_within (λ x. bytes_eq name x.name) (queues before) q i in
+          let same = length-map (queues before) (λ (x : Queue). x.mode) in
+          subst (IsActorOf (modes_before before)) (same_actor (RingActor q) a g) (omega arith)
+
+      of_queue : Bool → Option ActorName
+      of_queue b =
+          cond b (option_map (λ q. SubmitActor q) (threaded_at before name))
+          (option_map (λ q. RingActor q) (queue_at before name))
+
+      by_mark : (b : Bool) → of_queue b ≡ Some a →
+          IsActorOf (modes_before before) a
+      by_mark true g = by_submit (threaded_at before name) refl g
+      by_mark false g = by_ring (queue_at before name) refl g
+
+      by_host : (b : Bool) → bytes_eq word (codes "host") ≡ b → actor_at before word ≡ Some a →
+          IsActorOf (modes_before before) a
+      by_host true i g =
+          subst (IsActorOf (modes_before before))
+          (same_actor HostActor a
+          (sym (ap (λ (b : Bool). cond b (Some HostActor) (of_queue (is_marked 83 word))) i) ∙ g)) tt
+      by_host false i g =
+          by_mark (is_marked 83 word)
+          (sym (ap (λ (b : Bool). cond b (Some HostActor) (of_queue (is_marked 83 word))) i) ∙ g)
+
+  turn_shape : (word : List ℕ) (o : Option ActorName) (s : Statement) → actor_at before word ≡ o →
+      option_map (λ a. TakeTurns a 1) o ≡ Some s → Shape form before InSchedule 0 s
+  turn_shape word None s e h = absurd (let c : None ≡ Some s = h in cc)
+  turn_shape word (Some a) s e h =
+      subst (Shape form before InSchedule 0) (same_statement (TakeTurns a 1) s h)
+      (some_turns a 1 (actor_is word (Some a) a e refl))
+
+  turns_shape : (word : List ℕ) (o : Option ActorName) (n : Option ℕ) (s : Statement) →
+      actor_at before word ≡ o → of_two (λ a m. TakeTurns a m) o n ≡ Some s →
+      Shape form before InSchedule 0 s
+  turns_shape word None n s e h = absurd (let c : None ≡ Some s = h in cc)
+  turns_shape word (Some a) None s e h = absurd (let c : None ≡ Some s = h in cc)
+  turns_shape word (Some a) (Some n) s e h =
+      subst (Shape form before InSchedule 0) (same_statement (TakeTurns a n) s h)
+      (some_turns a n (actor_is word (Some a) a e refl))
+
+  schedule_shape : (f : Form) → form ≡ f → suits_text f ScheduleLine ≡ true → (s : Statement) →
+      Some BeginSchedule ≡ Some s → Shape form before Outside 0 s
+  schedule_shape Plain e t s h = absurd (false≢true t)
+  schedule_shape Scheduled e t s h =
+      subst (Shape form before Outside 0) (same_statement BeginSchedule s h) (a_schedule e)
 
   -- the words of a form that is built and stands where it may
   shape : (was : Section) (f : LineForm) (words : List (List ℕ)) (s : Statement) →
-      belongs was f ≡ true → is_built before f ≡ true →
-      statement_of before f words ≡ Some s → Shape before was (part_of_form f) s
-  shape Outside BufferLine (name ∷ size ∷ []) s g b h = buffer_shape name (numeral size) s h
-  shape Outside TimelineLine (name ∷ value ∷ []) s g b h = timeline_shape name (numeral value) s h
-  shape Outside BinaryLine (name ∷ []) s g b h =
-      subst (Shape before Outside 0) (same_statement (DeclareSemaphore name Binary) s h)
+      belongs was f ≡ true → suits_text form f ≡ true → is_built before f ≡ true →
+      statement_of before f words ≡ Some s → Shape form before was (part_of_form f) s
+  shape Outside BufferLine (name ∷ size ∷ []) s g t b h = buffer_shape name (numeral size) s h
+  shape Outside TimelineLine (name ∷ value ∷ []) s g t b h = timeline_shape name (numeral value) s h
+  shape Outside BinaryLine (name ∷ []) s g t b h =
+      subst (Shape form before Outside 0) (same_statement (DeclareSemaphore name Binary) s h)
       (a_semaphore name Binary)
-  shape Outside FenceLine (name ∷ []) s g b h =
-      subst (Shape before Outside 0) (same_statement (DeclareSemaphore name Fence) s h)
+  shape Outside FenceLine (name ∷ []) s g t b h =
+      subst (Shape form before Outside 0) (same_statement (DeclareSemaphore name Fence) s h)
       (a_semaphore name Fence)
-  shape Outside (QueueLine mode) (name ∷ []) s g b h =
-      subst (Shape before Outside 0) (same_statement (DeclareQueue name mode) s h)
+  shape Outside (QueueLine mode) (name ∷ []) s g t b h =
+      subst (Shape form before Outside 0) (same_statement (DeclareQueue name mode) s h)
       (a_queue name mode)
-  shape Outside SubmitLine (queue ∷ []) s g b h = batch_shape queue (queue_at before queue) s refl h
-  shape InBatch WaitTimelineLine (name ∷ value ∷ []) s g b h =
+  shape Outside SubmitLine (queue ∷ []) s g t b h = batch_shape queue (queue_at before queue) s refl h
+  shape InBatch WaitTimelineLine (name ∷ value ∷ []) s g t b h =
       wait_shape name (timeline_at before name) (numeral value) s
       (not_held (is_batch_immediate before) b) refl h
     where
       not_held : (b : Bool) → not b ≡ true → b ≡ false
       not_held true h = absurd (false≢true h)
       not_held false h = refl
-  shape InBatch WaitBinaryLine (name ∷ []) s g b h =
+  shape InBatch WaitBinaryLine (name ∷ []) s g t b h =
       binary_wait_shape name (binary_at before name) s (not_held (is_batch_immediate before) b) refl h
     where
       not_held : (b : Bool) → not b ≡ true → b ≡ false
       not_held true h = absurd (false≢true h)
       not_held false h = refl
-  shape InBatch FillWholeLine (buffer ∷ offset ∷ word ∷ []) s g b h =
+  shape InBatch FillWholeLine (buffer ∷ offset ∷ word ∷ []) s g t b h =
       command_shape s
       (of_three_says (λ x y z. Fill x y Whole z) (buffer_at before buffer) (numeral offset)
       (small_numeral word) s h)
-  shape InBatch FillLine (buffer ∷ offset ∷ size ∷ word ∷ []) s g b h =
+  shape InBatch FillLine (buffer ∷ offset ∷ size ∷ word ∷ []) s g t b h =
       command_shape s
       (of_four_says (λ x y z u. Fill x y (Count z) u) (buffer_at before buffer) (numeral offset)
       (numeral size) (small_numeral word) s h)
-  shape InBatch UpdateLine (buffer ∷ offset ∷ digits ∷ []) s g b h =
+  shape InBatch UpdateLine (buffer ∷ offset ∷ digits ∷ []) s g t b h =
       command_shape s
       (of_two_says (λ x y. Update x y (hex_bytes digits)) (buffer_at before buffer) (numeral offset)
       s h)
-  shape InBatch CopyLine (source ∷ from ∷ target ∷ to ∷ size ∷ []) s g b h =
+  shape InBatch CopyLine (source ∷ from ∷ target ∷ to ∷ size ∷ []) s g t b h =
       command_shape s
       (of_five_says (λ x y z u k. Copy x y z u k) (buffer_at before source) (numeral from)
       (buffer_at before target) (numeral to) (numeral size) s h)
-  shape InBatch SignalTimelineLine (name ∷ value ∷ []) s g b h =
+  shape InBatch SignalTimelineLine (name ∷ value ∷ []) s g t b h =
       signal_shape name (timeline_at before name) (numeral value) s refl h
-  shape InBatch SignalBinaryLine (name ∷ []) s g b h =
+  shape InBatch SignalBinaryLine (name ∷ []) s g t b h =
       binary_signal_shape name (binary_at before name) s refl h
-  shape InBatch BatchFenceLine (name ∷ []) s g b h = fence_shape name (fence_at before name) s refl h
-  shape InBatch EndLine [] s g b h =
-      subst (Shape before InBatch 5) (same_statement EndBatch s h) an_end
-  shape InSchedule BufferLine words s g b h = absurd (false≢true g)
-  shape InSchedule TimelineLine words s g b h = absurd (false≢true g)
-  shape InSchedule BinaryLine words s g b h = absurd (false≢true g)
-  shape InSchedule FenceLine words s g b h = absurd (false≢true g)
-  shape InSchedule (QueueLine mode) words s g b h = absurd (false≢true g)
-  shape InSchedule SubmitLine words s g b h = absurd (false≢true g)
-  shape InSchedule WaitTimelineLine words s g b h = absurd (false≢true g)
-  shape InSchedule WaitBinaryLine words s g b h = absurd (false≢true g)
-  shape InSchedule FillWholeLine words s g b h = absurd (false≢true g)
-  shape InSchedule FillLine words s g b h = absurd (false≢true g)
-  shape InSchedule UpdateLine words s g b h = absurd (false≢true g)
-  shape InSchedule CopyLine words s g b h = absurd (false≢true g)
-  shape InSchedule SignalTimelineLine words s g b h = absurd (false≢true g)
-  shape InSchedule SignalBinaryLine words s g b h = absurd (false≢true g)
-  shape InSchedule BatchFenceLine words s g b h = absurd (false≢true g)
-  shape InSchedule EndLine words s g b h = absurd (false≢true g)
-  shape was f words s g b h = absurd (cc)
+  shape InBatch BatchFenceLine (name ∷ []) s g t b h = fence_shape name (fence_at before name) s refl h
+  shape InBatch EndLine [] s g t b h =
+      subst (Shape form before InBatch 5) (same_statement EndBatch s h) an_end
+  shape Outside ScheduleLine [] s g t b h = schedule_shape form refl t s h
+  shape InSchedule TurnLine (actor ∷ []) s g t b h =
+      turn_shape actor (actor_at before actor) s refl h
+  shape InSchedule TurnsLine (actor ∷ count ∷ []) s g t b h =
+      turns_shape actor (actor_at before actor) (numeral count) s refl h
+  shape InSchedule BufferLine words s g t b h = absurd (false≢true g)
+  shape InSchedule TimelineLine words s g t b h = absurd (false≢true g)
+  shape InSchedule BinaryLine words s g t b h = absurd (false≢true g)
+  shape InSchedule FenceLine words s g t b h = absurd (false≢true g)
+  shape InSchedule (QueueLine mode) words s g t b h = absurd (false≢true g)
+  shape InSchedule SubmitLine words s g t b h = absurd (false≢true g)
+  shape InSchedule WaitTimelineLine words s g t b h = absurd (false≢true g)
+  shape InSchedule WaitBinaryLine words s g t b h = absurd (false≢true g)
+  shape InSchedule FillWholeLine words s g t b h = absurd (false≢true g)
+  shape InSchedule FillLine words s g t b h = absurd (false≢true g)
+  shape InSchedule UpdateLine words s g t b h = absurd (false≢true g)
+  shape InSchedule CopyLine words s g t b h = absurd (false≢true g)
+  shape InSchedule SignalTimelineLine words s g t b h = absurd (false≢true g)
+  shape InSchedule SignalBinaryLine words s g t b h = absurd (false≢true g)
+  shape InSchedule BatchFenceLine words s g t b h = absurd (false≢true g)
+  shape InSchedule EndLine words s g t b h = absurd (false≢true g)
+  shape InSchedule ScheduleLine words s g t b h = absurd (false≢true g)
+  shape was f words s g t b h = absurd (cc)
 
   -- what a statement keeps that is in order and in range, doesn't overlap itself and passes no
   -- limit
-  says : (was : Section) (part : ℕ) (s : Statement) → Shape before was part s →
+  says : (was : Section) (part : ℕ) (s : Statement) → Shape form before was part s →
       KeepsParts before part → is_in_range before s ≡ true → overlaps before s ≡ false →
-      passes_limit (limits_of (version_of before)) before s ≡ false → Said before was s
+      passes_limit (limits_of (version_of before)) before s ≡ false → Said form before was s
   says was part s (a_buffer name size) q r o l =
       let limits =
       or_parts (not (nat_lt (length (buffers before)) 64))
@@ -503,6 +645,9 @@ module _ (before : List Line) where
       record { mark = m; few = below (count is_signal (open_batch before)) 16 l; parts = q }
   says was part s (a_fence f e) q r o l = (e, q)
   says was part s an_end q r o l = tt
+  says was part s (a_schedule e) q r o l = e
+  says was part s (some_turns actor count is) q r o l =
+      (is, ltb-false 65536 (turns_before before + count) l)
 
   -- a line that is in order belongs to no earlier part than a line before it
   in_parts : (f : LineForm) → is_out_of_order before f ≡ false → KeepsParts before (part_of_form f)
@@ -515,10 +660,10 @@ module _ (before : List Line) where
       (some (λ s. nat_lt (part_of_form f) (part_of s)) (open_batch before)) front.0).1
 
   -- What a line without a fault says.
-  pub said_of : (form : Form) (words : List (List ℕ)) (s : Statement) →
+  pub said_of : (words : List (List ℕ)) (s : Statement) →
       fault_of form before words ≡ None →
-      meaning form before words ≡ Some s → Said before (section before) s
-  said_of form words s h m =
+      meaning form before words ≡ Some s → Said form before (section before) s
+  said_of words s h m =
       let one =
       first_fails (has_fault form before words) Syntax
       (Order ∷ Number ∷ Name ∷ Twice ∷ Range ∷ Overlap ∷ Limit ∷ []) h in
@@ -551,13 +696,16 @@ module _ (before : List Line) where
           is_in_range before s ≡ true → overlaps before s ≡ false →
           passes_limit (limits_of (version_of before)) before s ≡ false →
           option_map_or (is_out_of_order before) (form_of form before words) false ≡ false →
-          Said before (section before) s
+          Said form before (section before) s
       by_form None e h r o l d = absurd (cc)
       by_form (Some f) e h r o l d =
           says (section before) (part_of_form f) s
           (shape (section before) f (map (λ x. x.1) (open_places (places f) words)) s
           (found_belongs (matches words) (belongs (section before)) (forms_at form before) f
           (forms_belong form before (section before))
+          (built_found before (find (matches words) (forms_at form before)) f e))
+          (found_belongs (matches words) (suits_text form) (forms_at form before) f
+          (forms_suit_text form before (section before))
           (built_found before (find (matches words) (forms_at form before)) f e))
           (where_it_is_built before (find (matches words) (forms_at form before)) f e) h)
           (in_parts f (sym (ap (λ (o : Option LineForm). option_map_or (is_out_of_order before) o

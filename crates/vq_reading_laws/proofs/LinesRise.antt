@@ -9,10 +9,10 @@ use Rattle.std.specs.List.{filter_map, flat_map}
 use Rattle.std.specs.Option.{option_to_list}
 use Rattle.vq_model.specs.declared.statement.Line.{Line}
 use Rattle.vq_model.specs.ScriptOfLines.{wait_of, command_of, signal_of, fence_of, first_of_list, batch_lines, jobs_of}
-use Rattle.vq_reading_laws.proofs.Standing.{Where, is_outside, is_inside, Declarations, where_after, Stands, AllStand, declared_by}
+use Rattle.vq_reading_laws.proofs.Standing.{Where, is_outside, is_inside, in_schedule, Declarations, where_after, Stands, AllStand, declared_by}
 use Rattle.vq_model.specs.ValidScripts.{job_lines, HasRisingLines}
 use Rattle.vq_model.specs.declared.statement.Statement.{Statement}
-use Rattle.vq_model.specs.declared.statement.Statement.TheVariants.{DeclareBuffer, DeclareSemaphore, DeclareQueue, BeginBatch, AddWait, AddCommand, AddSignal, AddFence, EndBatch}
+use Rattle.vq_model.specs.declared.statement.Statement.TheVariants.{DeclareBuffer, DeclareSemaphore, DeclareQueue, BeginBatch, AddWait, AddCommand, AddSignal, AddFence, EndBatch, BeginSchedule, TakeTurns}
 use Rattle.vq_model.specs.Context.{is_end}
 use Rattle.vq_reading_laws.proofs.LinePushes.{a_line}
 use Rattle.vq_reading_laws.proofs.KeptBatches.{batch_lines_cons}
@@ -91,6 +91,7 @@ batch_numbers ls =
 abbrev open_numbers : Where → List Line → List ℕ
 open_numbers is_outside lines = []
 open_numbers (is_inside q w g k) lines = batch_numbers (batch_lines lines)
+open_numbers in_schedule lines = []
 
 -- the lines of what these lines add to the jobs
 abbrev script_numbers : Where → List Line → List ℕ
@@ -218,6 +219,10 @@ module _ (d : Declarations) where
       (script_numbers (is_inside q w g p) (a_line n EndBatch ∷ lines))
       (ap (λ (ls : List Line). batch_numbers ls ++ flat_map job_lines (jobs_of lines))
       (batch_lines_cons (a_line n EndBatch) lines))
+  adds_line n is_outside BeginSchedule lines h a =
+      adds_none n (flat_map job_lines (jobs_of lines)) (flat_map job_lines (jobs_of lines)) refl
+  adds_line n in_schedule (TakeTurns actor count) lines h a =
+      adds_none n (flat_map job_lines (jobs_of lines)) (flat_map job_lines (jobs_of lines)) refl
   adds_line n was s lines h a = absurd h
 
   -- The numbers of lines that rise, as the script has them.
@@ -230,6 +235,7 @@ module _ (d : Declarations) where
       RisesWithin (script_numbers was lines) (map (λ l. l.number) lines)
   rises_within is_outside [] a r = record { rising = tt; within = λ y h. h }
   rises_within (is_inside q w g k) [] a r = record { rising = tt; within = λ y h. h }
+  rises_within in_schedule [] a r = record { rising = tt; within = λ y h. h }
   rises_within was (line ∷ lines) a r =
       let later = rises_within (where_after was line.statement) lines a.1 r.1 in
       let more = adds_line line.number was line.statement lines a.0 a.1 in

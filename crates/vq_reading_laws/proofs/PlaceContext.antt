@@ -1,17 +1,18 @@
 -- What the context says of the place of a line.
 use Rattle.std.proofs.Common.{◌≡◌, ℕ, ◌<◌, List, length, Some, ◌≤◌, Bool, true, false, ◌||◌, refl, sym, arith, ◌+◌, cond, [], ◌∷◌, ◌++◌, length-append, Option, ap, ◌∙◌, zero, suc, map, subst}
 use Rattle.std.specs.Prelude.{nat_lt}
-use Rattle.vq_model.specs.declared.statement.Section.TheVariants.{InBatch, Outside}
+use Rattle.vq_model.specs.declared.statement.Section.TheVariants.{InBatch, Outside, InSchedule}
 use Rattle.vq_model.specs.declared.statement.Line.{Line}
+use Rattle.vq_model.specs.declared.statement.Form.{Form}
 use Rattle.vq_model.specs.Context.{section, queues, last_queue, open_batch, is_wait, is_signal, count, some, section_after, queue_of, queue_after, is_submit, is_end, is_immediate, is_immediate_at}
 use Rattle.vq_model.specs.LineFaults.{part_of}
-use Rattle.vq_reading_laws.proofs.Standing.{Where, is_outside, is_inside, declared_by, where_after, Stands, IsHeld}
+use Rattle.vq_reading_laws.proofs.Standing.{Where, is_outside, is_inside, in_schedule, declared_by, where_after, Stands, IsHeld}
 use Rattle.std.proofs.lemmas.Bool.{ltb-true, lt-ltb, ltb-false}
 use Rattle.std.specs.List.{filter_map, slice_get}
 use Rattle.std.proofs.lemmas.List.Elements.{filter_map-append}
 use Rattle.vq_model.specs.declared.statement.Section.{Section}
 use Rattle.vq_model.specs.declared.statement.Statement.{Statement}
-use Rattle.vq_model.specs.declared.statement.Statement.TheVariants.{BeginBatch, DeclareBuffer, DeclareSemaphore, DeclareQueue, AddWait, AddCommand, AddSignal, AddFence, EndBatch}
+use Rattle.vq_model.specs.declared.statement.Statement.TheVariants.{BeginBatch, DeclareBuffer, DeclareSemaphore, DeclareQueue, AddWait, AddCommand, AddSignal, AddFence, EndBatch, BeginSchedule, TakeTurns}
 use Rattle.vq_model.specs.Reading.{with_line}
 use Rattle.vq_reading_laws.proofs.LinePushes.{a_line, count_push, section_push, last_queue_push, some_push, open_push}
 use Rattle.std.proofs.lemmas.List.{length-map}
@@ -34,6 +35,7 @@ pub record LeadInside (before : List Line) (q w g k : ℕ) : Type 0 where
 abbrev pub Lead : List Line → Where → Type 0
 Lead before is_outside = section before ≡ Outside
 Lead before (is_inside q w g k) = LeadInside before q w g k
+Lead before in_schedule = section before ≡ InSchedule
 
 -- parts up to k, and one more
 parts_join : (j k p : ℕ) → k ≤ p → (nat_lt j k || (nat_lt j p || false)) ≡ nat_lt j p
@@ -129,6 +131,9 @@ lead_more before n (is_inside q w g k) (AddFence f) t h =
     inside_more before n (AddFence f) q w g k w g 4 t refl refl refl (omega arith) (omega arith)
     refl h.1
 lead_more before n (is_inside q w g k) EndBatch t h = section_push before n EndBatch
+lead_more before n is_outside BeginSchedule t h = section_push before n BeginSchedule
+lead_more before n in_schedule (TakeTurns actor count) t h =
+    section_push before n (TakeTurns actor count) ∙ t
 lead_more before n was s t h = absurd h
 
 -- no part is above one that all lines keep
@@ -146,11 +151,12 @@ queue_held (x ∷ qs) (suc q) l h =
     record { mode = r.mode; is = r.is; held = r.held }
 
 -- What a line without a fault says stands where the lines lead.
-pub said_stands : (before : List Line) (was : Where) (s : Statement) → Lead before was →
-    Said before (section before) s → Stands (declared_by before) was s
-said_stands before is_outside s t h = outside s (subst (λ (x : Section). Said before x s) t h)
+pub said_stands : (form : Form) (before : List Line) (was : Where) (s : Statement) →
+    Lead before was → Said form before (section before) s → Stands (declared_by before) was s
+said_stands form before is_outside s t h =
+    outside s (subst (λ (x : Section). Said form before x s) t h)
   where
-    outside : (s : Statement) → Said before Outside s → Stands (declared_by before) is_outside s
+    outside : (s : Statement) → Said form before Outside s → Stands (declared_by before) is_outside s
     outside (DeclareBuffer name size) h = tt
     outside (DeclareSemaphore name kind) h = tt
     outside (DeclareQueue name mode) h = tt
@@ -158,9 +164,17 @@ said_stands before is_outside s t h = outside s (subst (λ (x : Section). Said b
         let same = length-map (queues before) (λ (x : Queue). x.mode) in
         let l = h.0 in
         omega arith
+    outside BeginSchedule h = tt
     outside s h = absurd h
-said_stands before (is_inside q w g k) s t h =
-    inside s (subst (λ (x : Section). Said before x s) t.part h)
+said_stands form before in_schedule s t h =
+    scheduled s (subst (λ (x : Section). Said form before x s) t h)
+  where
+    scheduled : (s : Statement) → Said form before InSchedule s →
+        Stands (declared_by before) in_schedule s
+    scheduled (TakeTurns actor count) h = h.0
+    scheduled s h = absurd h
+said_stands form before (is_inside q w g k) s t h =
+    inside s (subst (λ (x : Section). Said form before x s) t.part h)
   where
     held : option_map_or (is_immediate_at before) (last_queue before) false ≡ false →
         IsHeld (modes_before before) q
@@ -171,7 +185,7 @@ said_stands before (is_inside q w g k) s t h =
     kept : (j : ℕ) → some (λ s. nat_lt j (part_of s)) (open_batch before) ≡ false → k ≤ j
     kept j h = parts_kept j k (sym (t.parts j) ∙ h)
 
-    inside : (s : Statement) → Said before InBatch s →
+    inside : (s : Statement) → Said form before InBatch s →
         Stands (declared_by before) (is_inside q w g k) s
     inside (AddWait pair from) h =
         let few = h.few in

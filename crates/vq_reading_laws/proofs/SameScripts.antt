@@ -1,5 +1,5 @@
 -- What a script keeps is kept by each that is the same up to line numbers.
-use Rattle.std.proofs.Common.{◌≡◌, List, [], ◌∷◌, map, refl, ℕ, ap, length, ◌∙◌, sym, subst, ◌≤◌, true, false, Option, Some, None, option_map, arith}
+use Rattle.std.proofs.Common.{◌≡◌, Bool, List, [], ◌∷◌, map, refl, ℕ, ap, length, ◌∙◌, sym, subst, ◌≤◌, true, false, Option, Some, None, option_map, arith}
 use Rattle.std.specs.Prelude.{All, sum}
 use Rattle.std.proofs.lemmas.List.Elements.{All-nil, All-cons, All-head, All-tail, All-map}
 use Rattle.vq_model.specs.declared.script.Batch.{Batch}
@@ -21,10 +21,15 @@ use Rattle.vq_model.specs.declared.script.SemaphoreKind.{SemaphoreKind}
 use Rattle.vq_model.specs.declared.script.Queue.{Queue}
 use Rattle.vq_model.specs.declared.script.Mark.{Mark}
 use Rattle.vq_model.specs.declared.script.Pair.{Pair}
-use Rattle.vq_model.specs.Context.{is_immediate, is_fence, is_timeline}
+use Rattle.vq_model.specs.Context.{is_immediate, is_threaded, is_fence, is_timeline}
 use Rattle.vq_model.specs.Signals.{kind_of, is_timeline_at}
-use Rattle.vq_model.specs.ValidScripts.{IsValid, KeepsLimits, IsValidMark, IsValidFence, IsValidBatch, IsValidStep, IsTimelinePair, HasValidBatches, HasValidSteps, is_immediate_queue, is_fence_at, sizes_of}
-use Rattle.vq_model.specs.Built.{HasNoHostStep, HasNoImmediateWait, HasWholeWaits, IsUnscheduled, IsOfFirstVersion}
+use Rattle.vq_model.specs.ValidScripts.{IsValid, KeepsLimits, IsValidMark, IsValidFence, IsValidBatch, IsValidStep, IsTimelinePair, HasValidBatches, HasValidSteps, HasValidTurns, IsActor, is_immediate_queue, is_fence_at, sizes_of}
+use Rattle.vq_model.specs.Limits.{limits_of}
+use Rattle.vq_model.specs.declared.script.Mode.{Mode}
+use Rattle.vq_model.specs.declared.script.Turn.{Turn}
+use Rattle.vq_model.specs.declared.script.ActorName.{ActorName}
+use Rattle.vq_model.specs.declared.script.ActorName.TheVariants.{Host as HostActor, Submit as SubmitActor, Ring as RingActor}
+use Rattle.vq_model.specs.Built.{HasNoHostStep, HasNoImmediateWait, HasWholeWaits, IsOfFirstVersion}
 use Rattle.vq_model.proofs.Gets.{get-map}
 use Rattle.vq_model.proofs.Options.{some_of}
 use Rattle.vq_reading_laws.proofs.DeclaredScripts.{valid_signals}
@@ -169,25 +174,29 @@ module _ (a s : Script) (same : SameButLines a s) where
           ∙ (ap (λ (z : Script). option_map (λ y. y.kind) (slice_get z.semaphores t)) same
           ∙ sym (without s))
 
-  modes_same : (q : ℕ) → is_immediate_queue a q ≡ is_immediate_queue s q
-  modes_same q =
+  queue_same : (test : Mode → Bool) (q : ℕ) →
+      option_map_or (λ x. test x.mode) (slice_get a.queues q) false
+      ≡ option_map_or (λ x. test x.mode) (slice_get s.queues q) false
+  queue_same test q =
       without a
-      ∙ (ap (λ (z : Script). option_map_or (λ y. is_immediate y.mode) (slice_get z.queues q) false)
+      ∙ (ap (λ (z : Script). option_map_or (λ y. test y.mode) (slice_get z.queues q) false)
       same
       ∙ sym (without s))
     where
-      without : (x : Script) → is_immediate_queue x q
-          ≡ option_map_or (λ y. is_immediate y.mode)
-          (slice_get (map queue_without_line x.queues) q) false
+      without : (x : Script) → option_map_or (λ y. test y.mode) (slice_get x.queues q) false
+          ≡ option_map_or (λ y. test y.mode) (slice_get (map queue_without_line x.queues) q) false
       without x =
           by_item (slice_get x.queues q)
-          ∙ ap (λ (o : Option Queue). option_map_or (λ y. is_immediate y.mode) o false)
+          ∙ ap (λ (o : Option Queue). option_map_or (λ y. test y.mode) o false)
           (sym (get-map queue_without_line x.queues q))
         where
-          by_item : (o : Option Queue) → option_map_or (λ y. is_immediate y.mode) o false
-              ≡ option_map_or (λ y. is_immediate y.mode) (option_map queue_without_line o) false
+          by_item : (o : Option Queue) → option_map_or (λ y. test y.mode) o false
+              ≡ option_map_or (λ y. test y.mode) (option_map queue_without_line o) false
           by_item None = refl
           by_item (Some y) = refl
+
+  modes_same : (q : ℕ) → is_immediate_queue a q ≡ is_immediate_queue s q
+  modes_same q = queue_same is_immediate q
 
   semaphores_same : length a.semaphores ≡ length s.semaphores
   semaphores_same =
@@ -361,13 +370,31 @@ module _ (a s : Script) (same : SameButLines a s) where
       (subst (All (λ m. m.from ≡ 1)) c.waits
       (All-map (λ m. m.from ≡ 1) mark_without_line c.first.waits (v j c.first c.at)))
 
-  pub same_unscheduled : IsUnscheduled a → IsUnscheduled s
-  same_unscheduled h =
+  actor_same : (x : ActorName) → IsActor a x → IsActor s x
+  actor_same HostActor h = tt
+  actor_same (SubmitActor q) h = sym (queue_same is_threaded q) ∙ h
+  actor_same (RingActor q) h =
+      let n = queues_same in omega arith
+
+  pub same_turns : HasValidTurns a → HasValidTurns s
+  same_turns v =
+      let turns : map turn_without_line a.turns ≡ map turn_without_line s.turns =
+      ap (λ (z : Script). z.turns) same in
+      let one = length-map a.turns turn_without_line in
+      let two = length-map s.turns turn_without_line in
+      let both = ap length turns in
+      let few = v.few in
       record {
-        unscheduled = sym (ap (λ (z : Script). z.scheduled) same) ∙ h.unscheduled;
-        turns =
-            map_empty turn_without_line s.turns
-            (sym (ap (λ (z : Script). z.turns) same) ∙ ap (map turn_without_line) h.turns);
+        actors = all_unmapped (λ (t : Turn). IsActor s t.actor) turn_without_line s.turns
+            (subst (All (λ (t : Turn). IsActor s t.actor)) turns
+            (All-map (λ (t : Turn). IsActor s t.actor) turn_without_line a.turns
+            (all_so (λ (t : Turn). IsActor a t.actor) (λ (t : Turn). IsActor s t.actor) a.turns
+            (λ t h. actor_same t.actor h) v.actors)));
+        few = subst (λ (n : ℕ). length s.turns ≤ (limits_of n).turns)
+            (ap (λ (z : Script). z.version) same) (omega arith);
+        none = λ h. map_empty turn_without_line s.turns
+            (sym turns ∙ ap (map turn_without_line)
+            (v.none (ap (λ (z : Script). z.scheduled) same ∙ h)));
       }
 
   pub same_version : IsOfFirstVersion a → IsOfFirstVersion s

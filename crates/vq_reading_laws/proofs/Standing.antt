@@ -4,17 +4,20 @@ use Rattle.vq_model.specs.declared.script.SemaphoreKind.{SemaphoreKind}
 use Rattle.vq_model.specs.declared.script.Mode.{Mode}
 use Rattle.vq_model.specs.declared.statement.Line.{Line}
 use Rattle.vq_reading_laws.proofs.CommandRanges.{sizes_before}
-use Rattle.vq_reading_laws.proofs.LineFacts.{kinds_before, modes_before, IsMarkOf}
+use Rattle.vq_reading_laws.proofs.LineFacts.{kinds_before, modes_before, IsMarkOf, IsActorOf}
 use Rattle.std.specs.List.{slice_index_or, slice_get}
 use Rattle.vq_model.specs.Ranges.{IsWithin, Fits, fill_size}
 use Rattle.vq_model.specs.declared.script.Command.{Command}
 use Rattle.vq_model.specs.declared.script.Command.TheVariants.{Fill, Update, Copy}
 use Rattle.vq_model.specs.declared.script.FillSize.TheVariants.{Whole, Count}
 use Rattle.vq_model.specs.declared.statement.Statement.{Statement}
-use Rattle.vq_model.specs.declared.statement.Statement.TheVariants.{BeginBatch, AddWait, AddCommand, AddSignal, AddFence, EndBatch, DeclareBuffer, DeclareSemaphore, DeclareQueue}
+use Rattle.vq_model.specs.declared.statement.Statement.TheVariants.{BeginBatch, AddWait, AddCommand, AddSignal, AddFence, EndBatch, DeclareBuffer, DeclareSemaphore, DeclareQueue, BeginSchedule, TakeTurns}
 use Rattle.vq_model.specs.Context.{is_immediate}
 use Rattle.vq_model.specs.declared.script.Pair.{Pair}
 use Rattle.vq_model.specs.declared.script.SemaphoreKind.TheVariants.{Fence}
+use Rattle.vq_model.specs.declared.script.ActorName.{ActorName}
+use Rattle.vq_model.specs.declared.script.ActorName.TheVariants.{Host as HostActor, Submit as SubmitActor, Ring as RingActor}
+use Rattle.vq_model.specs.declared.script.Mode.TheVariants.{Threaded}
 use Rattle.vq_model.specs.Reading.{with_line}
 use Rattle.std.proofs.lemmas.List.Sums.{fold-append}
 
@@ -109,15 +112,17 @@ get_longer (y ∷ xs) ys (suc k) x e = get_longer xs ys k x e
 -- Lines in their places
 
 -- Where a line stands: outside a batch, or in one of this queue, after so many waits and signals,
--- the last line of this part.
+-- the last line of this part; or in the schedule.
 pub data Where : Type 0 where
   is_outside : Where
   is_inside : (queue waits signals part : ℕ) → Where
+  in_schedule : Where
 
 -- where a statement leads
 abbrev pub where_after : Where → Statement → Where
 where_after was (BeginBatch q) = is_inside q 0 0 0
 where_after was EndBatch = is_outside
+where_after was BeginSchedule = in_schedule
 where_after (is_inside q w g k) (AddWait pair from) = is_inside q (w + 1) g 1
 where_after (is_inside q w g k) (AddCommand c) = is_inside q w g 2
 where_after (is_inside q w g k) (AddSignal pair) = is_inside q w (g + 1) 3
@@ -151,6 +156,8 @@ Stands d (is_inside q w g k) (AddCommand c) = Fits d.sizes c × (k ≤ 2)
 Stands d (is_inside q w g k) (AddSignal pair) = IsMarkOf d.kinds pair × (g < 16) × (k ≤ 3)
 Stands d (is_inside q w g k) (AddFence f) = (slice_get d.kinds f ≡ Some Fence) × (k ≤ 4)
 Stands d (is_inside q w g k) EndBatch = Unit {0}
+Stands d is_outside BeginSchedule = Unit {0}
+Stands d in_schedule (TakeTurns actor count) = IsActorOf d.modes actor
 Stands d was other = ⊥
 
 -- each of these lines stands in its place, from this place on
@@ -185,6 +192,13 @@ module _ (d e : Declarations) (g : Grows d e) where
   queue_grows q l =
       let n = ap length g.modes_are ∙ length-append d.modes g.more_modes in omega arith
 
+  actor_grows : (actor : ActorName) → IsActorOf d.modes actor → IsActorOf e.modes actor
+  actor_grows HostActor h = tt
+  actor_grows (SubmitActor q) h =
+      subst (λ (ms : List Mode). slice_get ms q ≡ Some Threaded) (sym g.modes_are)
+      (get_longer d.modes g.more_modes q Threaded h)
+  actor_grows (RingActor q) h = queue_grows q h
+
   fits_grows : (c : Command) → Fits d.sizes c → Fits e.sizes c
   fits_grows c f =
       subst (λ (ns : List ℕ). Fits ns c) (sym g.sizes_are)
@@ -211,6 +225,8 @@ module _ (d e : Declarations) (g : Grows d e) where
     h.1,
   )
   stands_grows (is_inside q w n k) EndBatch h = tt
+  stands_grows is_outside BeginSchedule h = tt
+  stands_grows in_schedule (TakeTurns actor count) h = actor_grows actor h
   stands_grows was s h = absurd h
 
   pub all_grow : (was : Where) (lines : List Line) → AllStand d was lines → AllStand e was lines

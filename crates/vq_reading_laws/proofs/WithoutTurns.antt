@@ -1,11 +1,16 @@
 -- What a script keeps doesn't depend on the turns of its schedule.
-use Rattle.std.proofs.Common.{List}
+use Rattle.std.proofs.Common.{◌≡◌, ◌≤◌, ◌⊎◌, List, [], length, inl, inr, sym, ◌∙◌, subst, arith}
+use Rattle.std.specs.Prelude.{All}
+use Rattle.std.proofs.lemmas.List.Elements.{All-nil}
 use Rattle.vq_model.specs.declared.script.Script.{Script}
 use Rattle.vq_model.specs.declared.script.Turn.{Turn}
 use Rattle.vq_model.specs.declared.script.Mark.{Mark}
 use Rattle.vq_model.specs.declared.script.HostStep.{HostStep}
 use Rattle.vq_model.specs.declared.script.HostStep.TheVariants.{Signal, WaitAll, WaitAny, PollAll, PollAny, Read, FenceWait, FencePoll, FenceReset, Idle}
-use Rattle.vq_model.specs.ValidScripts.{IsValid, IsValidMark, IsValidFence, IsValidStep, HasValidBatches, HasValidSteps}
+use Rattle.vq_model.specs.ValidScripts.{IsValid, IsValidMark, IsValidFence, IsValidStep, IsActor, HasValidBatches, HasValidSteps, HasValidTurns}
+use Rattle.vq_model.specs.Limits.{limits_of}
+use Rattle.vq_model.specs.declared.script.ActorName.{ActorName}
+use Rattle.vq_model.specs.declared.script.ActorName.TheVariants.{Host as HostActor, Submit as SubmitActor, Ring as RingActor}
 
 module _ (s : Script) (turns : List Turn) where
   abbrev with_turns : Script
@@ -58,3 +63,26 @@ module _ (s : Script) (turns : List Turn) where
           commands = v.limits.commands;
         };
       }
+
+  -- Its turns are valid where they are moved out too.
+  actor : (x : ActorName) → IsActor with_turns x → IsActor s x
+  actor HostActor h = tt
+  actor (SubmitActor q) h = h
+  actor (RingActor q) h = h
+
+  pub turns_without : (s.turns ≡ turns) ⊎ (s.turns ≡ []) → HasValidTurns with_turns → HasValidTurns s
+  turns_without kept v = elim kept [
+    | inl same ↦ record {
+      actors = subst (λ (ts : List Turn). All (λ t. IsActor s t.actor) ts) (sym same)
+          (λ i d l. actor _ (v.actors i d l));
+      few = subst (λ (ts : List Turn). length ts ≤ (limits_of s.version).turns) (sym same) v.few;
+      none = λ h. same ∙ v.none h;
+    }
+    | inr moved ↦ record {
+      actors = subst (λ (ts : List Turn). All (λ t. IsActor s t.actor) ts) (sym moved)
+          (All-nil (λ (t : Turn). IsActor s t.actor));
+      few = subst (λ (ts : List Turn). length ts ≤ (limits_of s.version).turns) (sym moved)
+          (omega arith);
+      none = λ h. moved;
+    }
+  ]

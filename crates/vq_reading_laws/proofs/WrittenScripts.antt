@@ -1,15 +1,16 @@
 -- What is known of a script that can be written, and of one that was read.
-use Rattle.std.proofs.Common.{◌≡◌, List, [], refl, sym, ◌∙◌, inl, inr, subst}
+use Rattle.std.proofs.Common.{◌≡◌, ℕ, Bool, true, false, cond, List, refl, sym, ap, ◌∙◌}
 use Rattle.vq_model.specs.declared.script.Script.{Script}
-use Rattle.vq_model.specs.declared.script.Turn.{Turn}
+use Rattle.vq_model.specs.declared.statement.Form.TheVariants.{Plain, Scheduled}
+use Rattle.vq_model.specs.Canonical.{form_of_script}
 use Rattle.vq_model.specs.Reading.{StandsFor}
 use Rattle.vq_model.specs.SameScript.{IsScript, IsRead}
-use Rattle.vq_model.specs.ValidScripts.{IsValid, HasValidBatches, HasValidSteps, HasRisingLines}
-use Rattle.vq_model.specs.Built.{HasNoHostStep, HasNoImmediateWait, HasWholeWaits, IsUnscheduled, IsOfFirstVersion}
-use Rattle.vq_reading_laws.proofs.ScriptFacts.{text_valid, text_batches, text_steps, text_hostless, text_unwaited, text_whole, text_unscheduled, text_version}
-use Rattle.vq_reading_laws.proofs.SameScripts.{same_valid, same_batches, same_steps, same_hostless, same_unwaited, same_whole, same_unscheduled, same_version}
+use Rattle.vq_model.specs.ValidScripts.{IsValid, HasValidBatches, HasValidSteps, HasValidTurns, HasRisingLines, IsUnscheduled}
+use Rattle.vq_model.specs.Built.{HasNoHostStep, HasNoImmediateWait, HasWholeWaits, IsOfFirstVersion}
+use Rattle.vq_reading_laws.proofs.ScriptFacts.{text_valid, text_batches, text_steps, text_hostless, text_unwaited, text_whole, text_turns, text_form, text_version}
+use Rattle.vq_reading_laws.proofs.SameScripts.{same_valid, same_batches, same_steps, same_hostless, same_unwaited, same_whole, same_turns, same_version}
 use Rattle.vq_reading_laws.proofs.LinesRise.{text_lines_rise}
-use Rattle.vq_reading_laws.proofs.WithoutTurns.{valid_without, batches_without, steps_without}
+use Rattle.vq_reading_laws.proofs.WithoutTurns.{valid_without, batches_without, steps_without, turns_without}
 
 module _ (s : Script) (i : IsScript s) where
   -- The batches of a script that can be written, and its host steps, name what exists, ..
@@ -26,8 +27,12 @@ module _ (s : Script) (i : IsScript s) where
       (text_steps i.text i.form i.written i.stands)
       (text_valid i.text i.form i.written i.stands)
 
+  -- The turns of its schedule are of its actors.
+  pub written_turns : HasValidTurns s
+  written_turns = same_turns i.written s i.same (text_turns i.text i.form i.written i.stands)
+
   -- So far no such script has a host step, a wait in a batch of an immediate queue, a wait that
-  -- holds back a part of a batch, a schedule, or a version.
+  -- holds back a part of a batch, or a version.
   pub written_hostless : HasNoHostStep s
   written_hostless =
       same_hostless i.written s i.same (text_hostless i.text i.form i.written i.stands)
@@ -38,10 +43,6 @@ module _ (s : Script) (i : IsScript s) where
 
   pub written_whole : HasWholeWaits s
   written_whole = same_whole i.written s i.same (text_whole i.text i.form i.written i.stands)
-
-  pub written_unscheduled : IsUnscheduled s
-  written_unscheduled =
-      same_unscheduled i.written s i.same (text_unscheduled i.text i.form i.written i.stands)
 
   pub written_version : IsOfFirstVersion s
   written_version = same_version i.written s i.same (text_version i.text i.form i.written i.stands)
@@ -74,17 +75,21 @@ module _ (s : Script) (i : IsRead s) where
   pub read_lines_rise : HasRisingLines s
   read_lines_rise = text_lines_rise i.text i.form before_moving i.stands
 
-  -- So far it has no turns that could be moved, so it can be written.
-  pub read_written : IsScript s
-  read_written =
-      let none : i.turns ≡ [] = (text_unscheduled i.text i.form before_moving i.stands).turns in
-      let own : s.turns ≡ i.turns =
-      elim i.kept_or_moved [ inl kept ↦ kept | inr moved ↦ moved ∙ sym none ] in
-      let P : List Turn → Type 0 = λ turns. StandsFor i.text i.form (record s { turns = turns }) in
-      record {
-        text = i.text;
-        form = i.form;
-        written = s;
-        stands = subst P (sym own) i.stands;
-        same = refl;
-      }
+  -- .. and the turns that are left in it are of its actors.
+  pub read_turns : HasValidTurns s
+  read_turns =
+      turns_without s i.turns i.kept_or_moved
+      (text_turns i.text i.form before_moving i.stands)
+
+-- A script that a text stands for has a schedule where the text's form asks for one, and no turns
+-- where it has none.
+pub plain_unscheduled : (text : List ℕ) (s : Script) → StandsFor text Plain s → IsUnscheduled s
+plain_unscheduled text s h =
+    let none : s.scheduled ≡ false = by_flag s.scheduled refl (text_form text Plain s h) in
+    record { unscheduled = none; turns = (text_turns text Plain s h).none none }
+  where
+    by_flag : (b : Bool) → s.scheduled ≡ b → form_of_script s ≡ Plain → s.scheduled ≡ false
+    by_flag false e f = e
+    by_flag true e f =
+        let c : Scheduled ≡ Plain = sym (ap (λ (b : Bool). cond b Scheduled Plain) e) ∙ f in
+        absurd (cc)

@@ -4,9 +4,11 @@ ghost use Rattle.std.specs.Prelude.{◌≤◌, ◌↔◌, ℕ, List, [], length,
 ghost use Rattle.vq_model.specs.Text.{lines_of};
 ghost use Rattle.vq_model.specs.declared.script.Script.{Script};
 ghost use Rattle.vq_model.specs.SameScript.{IsScript, IsRead};
-ghost use Rattle.vq_model.specs.ValidScripts.{IsValid, HasValidBatches, HasValidSteps, HasRisingLines};
-ghost use Rattle.vq_model.specs.Built.{HasNoHostStep, HasNoImmediateWait, HasWholeWaits, IsUnscheduled};
-ghost use Rattle.vq_model.specs.Built.{IsOfFirstVersion};
+ghost use Rattle.vq_model.specs.ValidScripts.{IsValid, HasValidBatches, HasValidSteps, HasValidTurns, HasRisingLines};
+ghost use Rattle.vq_model.specs.ValidScripts.{IsUnscheduled};
+ghost use Rattle.vq_model.specs.Built.{HasNoHostStep, HasNoImmediateWait, HasWholeWaits, IsOfFirstVersion};
+ghost use Rattle.vq_model.specs.Canonical.{form_of_script};
+ghost use Rattle.vq_model.specs.declared.statement.Form.TheVariants.{Plain};
 ghost use Rattle.vq_model.specs.declared.statement.Form.{Form};
 ghost use Rattle.vq_model.specs.declared.statement.Line.{Line};
 ghost use Rattle.vq_model.specs.declared.statement.Statement.{Statement};
@@ -22,29 +24,41 @@ pub fn lines_are_few()
 {}
 
 /// A script that can be written is valid: its signals name semaphores that exist, its commands fit
-/// their buffers, it stays within the limits, and its batches and host steps name what exists, of the
-/// kinds that their places need.
+/// their buffers, it stays within the limits, its batches and host steps name what exists, of the
+/// kinds that their places need, and the turns of its schedule are taken by its actors.
 pub fn scripts_are_valid()
     ensures valid { (s : Script) → IsScript s → IsValid s }
     ensures batches { (s : Script) → IsScript s → HasValidBatches s }
     ensures steps { (s : Script) → IsScript s → HasValidSteps s }
+    ensures turns { (s : Script) → IsScript s → HasValidTurns s }
 {}
 
 /// What no script that can be written has so far: a host step, a wait in a batch of an immediate queue,
-/// a wait that holds back a part of a batch only, a schedule, a version. Each of these falls alone, with
-/// the form of lines that brings it.
+/// a wait that holds back a part of a batch only, a version. Each of these falls alone, with the form of
+/// lines that brings it.
 pub fn scripts_are_of_built_forms()
     ensures hostless { (s : Script) → IsScript s → HasNoHostStep s }
     ensures unwaited { (s : Script) → IsScript s → HasNoImmediateWait s }
     ensures whole { (s : Script) → IsScript s → HasWholeWaits s }
-    ensures unscheduled { (s : Script) → IsScript s → IsUnscheduled s }
     ensures version { (s : Script) → IsScript s → IsOfFirstVersion s }
 {}
 
-/// The lines of a script that was read rise in its order. It can be written, so it is valid too.
-pub fn lines_rise()
+/// A script that was read is valid, also where its turns were moved out of it, and its lines rise in
+/// its order.
+pub fn read_scripts_are_valid()
+    ensures valid { (s : Script) → IsRead s → IsValid s }
+    ensures batches { (s : Script) → IsRead s → HasValidBatches s }
+    ensures steps { (s : Script) → IsRead s → HasValidSteps s }
+    ensures turns { (s : Script) → IsRead s → HasValidTurns s }
     ensures rise { (s : Script) → IsRead s → HasRisingLines s }
-    ensures written { (s : Script) → IsRead s → IsScript s }
+{}
+
+/// A script that a text stands for has a schedule exactly where the text's form asks for one. In the
+/// form without a schedule it has no turns.
+pub fn texts_tell_their_form()
+    ensures form { (text : List ℕ) → (form : Form) → (s : Script) → StandsFor text form s →
+        form_of_script s ≡ form }
+    ensures plain { (text : List ℕ) → (s : Script) → StandsFor text Plain s → IsUnscheduled s }
 {}
 
 /// A line without a fault has a meaning.

@@ -1,4 +1,4 @@
-use Rattle.vq_reading_laws.proofs.WrittenScripts.{written_hostless, written_unwaited, written_whole, written_unscheduled, written_version}
+use Rattle.vq_reading_laws.proofs.WrittenScripts.{written_hostless, written_unwaited, written_whole, written_version}
 use Rattle.vq_reading_laws.proofs.laws.scripts_are_of_built_forms.Goals as goal
 
 pub returns-clause-hostless : goal.returns-clause-hostless
@@ -9,9 +9,6 @@ returns-clause-unwaited c = written_unwaited
 
 pub returns-clause-whole : goal.returns-clause-whole
 returns-clause-whole c = written_whole
-
-pub returns-clause-unscheduled : goal.returns-clause-unscheduled
-returns-clause-unscheduled c = written_unscheduled
 
 pub returns-clause-version : goal.returns-clause-version
 returns-clause-version c = written_version
