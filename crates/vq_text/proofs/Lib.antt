@@ -1,1 +1,2 @@
+mod JoinedTurns
 mod PrintedLines

@@ -1,7 +1,7 @@
 -- The lines of a canonical text, one after another.
-use Rattle.std.proofs.Common.{◌≡◌, ℕ, ◌/◌, ◌%◌, ◌<◌, ◌^◌, List, [], ◌∷◌, ◌++◌, map, codes, refl, sym, ap, ◌∙◌, ap₂, arith, append_assoc, length, slice_index_or, false, zero, suc, cond, Result, Ok, Err, Some}
+use Rattle.std.proofs.Common.{◌≡◌, ℕ, ◌/◌, ◌%◌, ◌<◌, ◌^◌, List, [], ◌∷◌, ◌++◌, map, codes, refl, sym, ap, ◌∙◌, ap₂, arith, append_assoc, length, slice_index_or, true, zero, suc, cond, Result, Ok, Err, Some}
 use Rattle.std.specs.Result.{OnOk, is_ok}
-use Rattle.std.proofs.lemmas.Bool.{cond-false}
+use Rattle.std.proofs.lemmas.Bool.{cond-true}
 use Rattle.std.proofs.lemmas.List.{append-nil}
 use Rattle.std.proofs.lemmas.Grind.{flat_map-append}
 use Rattle.std.specs.List.{flat_map, slice_get, All}
@@ -11,12 +11,13 @@ use Rattle.vq_model.specs.declared.script.Batch.{Batch}
 use Rattle.vq_model.specs.declared.script.Buffer.{Buffer}
 use Rattle.vq_model.specs.declared.script.Semaphore.{Semaphore}
 use Rattle.vq_model.specs.declared.script.Mark.{Mark}
+use Rattle.vq_model.specs.declared.script.Turn.{Turn}
 use Rattle.vq_model.specs.declared.script.Queue.{Queue}
 use Rattle.vq_model.specs.declared.script.CommandLine.{CommandLine}
 use Rattle.vq_model.specs.declared.script.Job.{Job}
 use Rattle.vq_model.specs.declared.script.Job.TheVariants.{Host, Batch as BatchJob}
-use Rattle.vq_model.specs.Built.{HasNoHostStep, HasWholeWaits, IsUnscheduled, IsOfFirstVersion}
-use Rattle.vq_model.specs.Canonical.{hex_digits, fill_word, queue_name, buffer_words, queue_words, semaphore_words, mark_words, from_words, wait_words, command_words, signal_words, fence_lines, job_words, version_words, schedule_words, line_text, canonical_text}
+use Rattle.vq_model.specs.Built.{HasNoHostStep, HasWholeWaits, IsOfFirstVersion}
+use Rattle.vq_model.specs.Canonical.{hex_digits, fill_word, queue_name, buffer_words, queue_words, semaphore_words, mark_words, from_words, wait_words, command_words, signal_words, fence_lines, job_words, version_words, schedule_words, turns_words, joined_turns, line_text, canonical_text}
 
 -- what follows from what a call gives
 pub on_ok : {E P Q : Type 0} (r : Result (Unit {0}) E) → OnOk r P → (P → Q) → OnOk r Q
@@ -111,28 +112,25 @@ whole_wait s m e =
     ap (λ (n : ℕ). codes "wait" ∷ mark_words s m ++ from_words n) e
     ∙ ap (λ words. codes "wait" ∷ words) (append-nil (mark_words s m))
 
-no_schedule : (s : Script) → s.scheduled ≡ false → schedule_words s ≡ []
-no_schedule s e = cond-false s.scheduled _ [] e
-
--- The text of a script of the first version without a schedule: its buffers, its semaphores and fences,
--- its queues and its jobs.
-script_text : (s : Script) → IsOfFirstVersion s → IsUnscheduled s →
+-- The text of a script of the first version: its buffers, its semaphores and fences, its queues, its
+-- jobs and its schedule.
+script_text : (s : Script) → IsOfFirstVersion s →
     canonical_text s
     ≡ flat_map (λ b. line_text (buffer_words b)) s.buffers
     ++ flat_map (λ x. line_text (semaphore_words x)) s.semaphores
     ++ flat_map (λ q. line_text (queue_words q)) s.queues
     ++ flat_map (λ j. flat_map line_text (job_words s j)) s.jobs
-script_text s first is =
+    ++ flat_map line_text (schedule_words s)
+script_text s first =
     let buffers = map buffer_words s.buffers in
     let semaphores = map semaphore_words s.semaphores in
     let queues = map queue_words s.queues in
     let jobs = flat_map (job_words s) s.jobs in
     ap (λ version. flat_map line_text (version_words version ++ buffers ++ semaphores ++ queues
     ++ jobs ++ schedule_words s)) first
-    ∙ ap (λ schedule. flat_map line_text (buffers ++ semaphores ++ queues ++ jobs ++ schedule))
-    (no_schedule s is.unscheduled)
-    ∙ ap (flat_map line_text) (append-nil (buffers ++ semaphores ++ queues ++ jobs))
-    ∙ flat_map-append line_text (buffers ++ semaphores ++ queues) jobs
+    ∙ flat_map-append line_text (buffers ++ semaphores ++ queues ++ jobs) (schedule_words s)
+    ∙ ap (λ text. text ++ flat_map line_text (schedule_words s))
+    (flat_map-append line_text (buffers ++ semaphores ++ queues) jobs
     ∙ ap₂ (λ front back. front ++ back)
     (flat_map-append line_text (buffers ++ semaphores) queues
     ∙ ap₂ (λ front back. front ++ back)
@@ -140,7 +138,7 @@ script_text s first is =
     ∙ ap₂ (λ front back. front ++ back) (flat_map-map line_text buffer_words s.buffers)
     (flat_map-map line_text semaphore_words s.semaphores))
     (flat_map-map line_text queue_words s.queues))
-    (flat_map-flat_map line_text (job_words s) s.jobs)
+    (flat_map-flat_map line_text (job_words s) s.jobs))
 
 -- a list with the word of a fill
 pub word_text : (n : ℕ) (old prefixed new bytes : List ℕ) → bytes ≡ to_be_bytes w32 n →
@@ -184,23 +182,41 @@ batch_added s b name waits signals commands n ws cs ss old first waited filled s
     (e4 ∙ ap (λ xs. filled ++ signal_lines xs) ss) e5 e6
     ∙ ap (λ text. old ++ text) (sym (batch_text s b))
 
--- the declarations and the jobs of such a script, one after another
-pub text_added : (s : Script) → IsOfFirstVersion s → IsUnscheduled s → (bs : List Buffer) (xs : List Semaphore)
+-- the declarations, the jobs and the schedule of such a script, one after another
+pub text_added : (s : Script) → IsOfFirstVersion s → (bs : List Buffer) (xs : List Semaphore)
     (qs : List Queue) (js : List Job) → bs ≡ s.buffers → xs ≡ s.semaphores → qs ≡ s.queues →
-    js ≡ s.jobs → (none buffers semaphores queues new : List ℕ) → none ≡ [] →
+    js ≡ s.jobs → (none buffers semaphores queues jobs new : List ℕ) → none ≡ [] →
     buffers ≡ none ++ flat_map (λ b. line_text (buffer_words b)) bs →
     semaphores ≡ buffers ++ flat_map (λ x. line_text (semaphore_words x)) xs →
     queues ≡ semaphores ++ flat_map (λ q. line_text (queue_words q)) qs →
-    new ≡ queues ++ flat_map (λ j. flat_map line_text (job_words s j)) js →
+    jobs ≡ queues ++ flat_map (λ j. flat_map line_text (job_words s j)) js →
+    new ≡ jobs ++ flat_map line_text (schedule_words s) →
     new ≡ canonical_text s
-text_added s first is bs xs qs js b x q j none buffers semaphores queues new e1 e2 e3 e4 e5 =
+text_added s first bs xs qs js b x q j none buffers semaphores queues jobs new e1 e2 e3 e4 e5 e6 =
     let buffer_lines : List Buffer → List ℕ = flat_map (λ y. line_text (buffer_words y)) in
     let semaphore_lines : List Semaphore → List ℕ
     = flat_map (λ y. line_text (semaphore_words y)) in
     let queue_lines : List Queue → List ℕ = flat_map (λ y. line_text (queue_words y)) in
     let job_lines : List Job → List ℕ = flat_map (λ y. flat_map line_text (job_words s y)) in
-    e5 ∙ ap₂ (λ front back. front ++ job_lines back)
+    e6 ∙ ap (λ front. front ++ flat_map line_text (schedule_words s))
+    (e5 ∙ ap₂ (λ front back. front ++ job_lines back)
     (e4 ∙ ap₂ (λ front back. front ++ queue_lines back)
     (e3 ∙ ap₂ (λ front back. front ++ semaphore_lines back)
-    (e2 ∙ ap₂ (λ front back. front ++ buffer_lines back) e1 b) x) q) j
-    ∙ sym (script_text s first is)
+    (e2 ∙ ap₂ (λ front back. front ++ buffer_lines back) e1 b) x) q) j)
+    ∙ sym (script_text s first)
+
+-- a list with the lines of a schedule
+pub schedule_added : (s : Script) → s.scheduled ≡ true → (turns : List Turn) → turns ≡ s.turns →
+    (old begun new : List ℕ) → begun ≡ old ++ codes "schedule\n" →
+    new ≡ begun ++ flat_map (λ t. line_text (turns_words s t)) (joined_turns turns) →
+    new ≡ old ++ flat_map line_text (schedule_words s)
+schedule_added s is turns same old begun new e1 e2 =
+    let lines = map (turns_words s) (joined_turns s.turns) in
+    let words : schedule_words s ≡ (codes "schedule" ∷ []) ∷ lines =
+    cond-true s.scheduled ((codes "schedule" ∷ []) ∷ lines) [] is in
+    e2 ∙ ap₂ (λ front ts. front ++ flat_map (λ t. line_text (turns_words s t)) (joined_turns ts)) e1 same
+    ∙ append_assoc old (codes "schedule\n")
+    (flat_map (λ t. line_text (turns_words s t)) (joined_turns s.turns))
+    ∙ ap (λ text. old ++ (line_text (codes "schedule" ∷ []) ++ text))
+    (sym (flat_map-map line_text (turns_words s) (joined_turns s.turns)))
+    ∙ ap (λ (ws : List (List (List ℕ))). old ++ flat_map line_text ws) (sym words)

@@ -11,7 +11,7 @@ use std::alloc::{AllocError, Global};
 use vq_model::script::{Batch, Job, Mark, Script, SemaphoreKind};
 
 /// The name of a queue, empty for a queue that isn't declared.
-fn queue_name(script: &Script, queue: u32) -> &[u8]
+pub(crate) fn queue_name(script: &Script, queue: u32) -> &[u8]
     ensures { result.now ≡ queue_name script.now queue }
 {
     match script.queues.as_slice().get(queue as usize) {

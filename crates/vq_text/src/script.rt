@@ -5,13 +5,16 @@ ghost use Rattle.vq_model.specs.Canonical.{canonical_text};
 
 use crate::batches::push_jobs;
 use crate::declarations::{push_buffers, push_queues, push_semaphores};
+use crate::schedule::push_schedule;
 use std::alloc::{AllocError, Global};
 use vq_model::script::Script;
 
 /// The canonical text of a script: one space between words, no comment, and a line feed after each
 /// line. The buffers come first, then the timelines, binary semaphores and fences, then the queues,
-/// then the batches. A batch is its `submit` line, its waits, its commands, its signals, its fence
-/// where it names one, and `end`. Numerals are decimal; the word of a fill is `0x` and eight
+/// then the batches, then the schedule where there is one. A batch is its `submit` line, its waits,
+/// its commands, its signals, its fence where it names one, and `end`. A schedule is the line
+/// `schedule` and its turns: neighbouring turns of one actor are one line, with their count where it
+/// is above 1. Numerals are decimal; the word of a fill is `0x` and eight
 /// lower-case digits, and the bytes of an update are lower-case digits.
 /// The error is want of memory.
 ///
@@ -25,5 +28,6 @@ pub fn print(alloc: Global, script: &Script) -> Result<Vec<u8>, AllocError>
     push_semaphores(alloc, &mut out, script.semaphores.as_slice())?;
     push_queues(&mut out, script.queues.as_slice())?;
     push_jobs(alloc, &mut out, script, script.jobs.as_slice())?;
+    push_schedule(alloc, &mut out, script)?;
     Ok(out)
 }
