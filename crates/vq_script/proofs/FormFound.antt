@@ -1,5 +1,5 @@
--- The form of a line's words: what the place of the line adds to the forms is not built.
-use Rattle.std.proofs.Common.{◌≡◌, ℕ, Bool, true, false, not, cond, List, [], ◌∷◌, ◌++◌, map, Option, Some, None, refl, sym, ap, ◌∙◌, subst}
+-- The form of a line's words, by what is kept of the lines before it.
+use Rattle.std.proofs.Common.{◌≡◌, ℕ, Bool, true, false, not, cond, List, [], ◌∷◌, ◌++◌, map, Option, Some, None, refl, sym, ap, subst}
 use Rattle.std.specs.Prelude.{find, codes, ◌&&◌, nat_lt}
 use Rattle.std.specs.List.{list_all}
 use Rattle.std.specs.Str.{bytes_eq}
@@ -10,88 +10,113 @@ use Rattle.vq_model.specs.declared.statement.Line.{Line}
 use Rattle.vq_model.specs.declared.statement.Form.{Form}
 use Rattle.vq_model.specs.declared.statement.Form.TheVariants.{Plain, Scheduled}
 use Rattle.vq_model.specs.declared.statement.LineForm.{LineForm}
-use Rattle.vq_model.specs.declared.statement.LineForm.TheVariants.{VersionLine, ScheduleLine}
+use Rattle.vq_model.specs.declared.statement.LineForm.TheVariants.{VersionLine}
 use Rattle.vq_model.specs.declared.statement.Section.TheVariants.{Outside, InBatch}
 use Rattle.vq_model.specs.Context.{section, version_of}
-use Rattle.vq_model.specs.Forms.{Slot, Fixed, Pairs, places, forms_outside, forms_in_batch, held_forms}
+use Rattle.vq_model.specs.Forms.{Slot, Fixed, Pairs, places, forms_outside, forms_in_batch, forms_in_schedule, held_forms, schedule_forms}
 use Rattle.vq_model.specs.LineFaults.{part_of_form}
-use Rattle.vq_model.specs.Meaning.{is_built, matches, where_built, form_of, are_as_many, agree, open_places}
+use Rattle.vq_model.specs.Meaning.{matches, where_built, form_of, are_as_many, agree, open_places}
 use Rattle.vq_reading_laws.proofs.Cited.{found_belongs, found_passes}
 use Rattle.vq_script.specs.Holds.{Holds, Kept, section_of}
-use Rattle.vq_script.specs.OpenWords.{is_no_actor}
-use Rattle.vq_script.specs.SaidLines.{AreFound, Stands, end_with_pairs, open_kinds}
+use Rattle.vq_script.specs.SaidLines.{AreFound, Stands, end_with_pairs, is_turn_form, open_kinds}
 use Rattle.vq_script.specs.Table.{forms_of}
 
--- a last form that isn't built changes nothing
-without_last : (before : List Line) (words : List (List ℕ)) (forms : List LineForm) (f : LineForm) → is_built before f ≡ false →
-    where_built before (find (matches words) (forms ++ f ∷ [])) ≡ where_built before (find (matches words) forms)
-without_last before words [] f h = by_test (matches words f)
-  where
-    by_test : (b : Bool) → where_built before (cond b (Some f) None) ≡ None
-    by_test true = ap (λ b. cond b (Some f) None) h
-    by_test false = refl
-without_last before words (g ∷ forms) f h = by_test (matches words g) (without_last before words forms f h)
-  where
-    by_test : (b : Bool) → where_built before (find (matches words) (forms ++ f ∷ [])) ≡ where_built before (find (matches words) forms) →
-        where_built before (cond b (Some g) (find (matches words) (forms ++ f ∷ []))) ≡ where_built before (cond b (Some g) (find (matches words) forms))
-    by_test true e = refl
-    by_test false e = e
+-- what is found of the forms before and with a line that begins a schedule, where words match or not
+abbrev built_of : Form → List (List ℕ) → Option LineForm
+built_of form words = where_built [] (find (matches words) (forms_outside ++ schedule_forms form))
+
+abbrev built_after : Form → List (List ℕ) → Bool → Option LineForm
+built_after form words b =
+    where_built [] (cond b (Some VersionLine) (find (matches words) (forms_outside ++ schedule_forms form)))
 
 -- `version 2` has no other form
-version_alone : (words : List (List ℕ)) → where_built [] (cond (matches words VersionLine) (Some VersionLine) (find (matches words) forms_outside)) ≡ where_built [] (find (matches words) forms_outside)
-version_alone [] = refl
-version_alone (a ∷ []) = refl
-version_alone (a ∷ b ∷ c ∷ words) = refl
-version_alone (a ∷ b ∷ []) = by_test (bytes_eq a (codes "version")) refl
+version_alone : (form : Form) (words : List (List ℕ)) →
+    built_after form words (matches words VersionLine) ≡ built_of form words
+version_alone form [] = refl
+version_alone form (a ∷ []) = refl
+version_alone form (a ∷ b ∷ c ∷ words) = refl
+version_alone form (a ∷ b ∷ []) = by_test (bytes_eq a (codes "version")) refl
   where
-    is_version : a ≡ codes "version" → where_built [] (cond (matches (a ∷ b ∷ []) VersionLine) (Some VersionLine) (find (matches (a ∷ b ∷ [])) forms_outside)) ≡ where_built [] (find (matches (a ∷ b ∷ [])) forms_outside)
-    is_version e = subst (λ (a : List ℕ). where_built [] (cond (matches (a ∷ b ∷ []) VersionLine) (Some VersionLine) (find (matches (a ∷ b ∷ [])) forms_outside)) ≡ where_built [] (find (matches (a ∷ b ∷ [])) forms_outside)) (sym e) (by_second (bytes_eq b (codes "2") && true))
-      where
-        by_second : (t : Bool) → where_built [] (cond t (Some VersionLine) (find (matches (codes "version" ∷ b ∷ [])) forms_outside)) ≡ where_built [] (find (matches (codes "version" ∷ b ∷ [])) forms_outside)
-        by_second true = refl
-        by_second false = refl
+    by_second : (form : Form) (t : Bool) →
+        built_after form (codes "version" ∷ b ∷ []) t ≡ built_of form (codes "version" ∷ b ∷ [])
+    by_second Plain true = refl
+    by_second Plain false = refl
+    by_second Scheduled true = refl
+    by_second Scheduled false = refl
 
-    by_test : (t : Bool) → bytes_eq a (codes "version") ≡ t → where_built [] (cond (matches (a ∷ b ∷ []) VersionLine) (Some VersionLine) (find (matches (a ∷ b ∷ [])) forms_outside)) ≡ where_built [] (find (matches (a ∷ b ∷ [])) forms_outside)
-    by_test true e = is_version ((bytes_eq-Decides a (codes "version")).0 e)
-    by_test false e = ap (λ t. where_built [] (cond (t && (bytes_eq b (codes "2") && true)) (Some VersionLine) (find (matches (a ∷ b ∷ [])) forms_outside))) e
+    by_test : (t : Bool) → bytes_eq a (codes "version") ≡ t →
+        built_after form (a ∷ b ∷ []) (matches (a ∷ b ∷ []) VersionLine) ≡ built_of form (a ∷ b ∷ [])
+    by_test true e =
+        subst (λ (a : List ℕ). built_after form (a ∷ b ∷ []) (matches (a ∷ b ∷ []) VersionLine)
+        ≡ built_of form (a ∷ b ∷ [])) (sym ((bytes_eq-Decides a (codes "version")).0 e))
+        (by_second form (bytes_eq b (codes "2") && true))
+    by_test false e =
+        ap (λ t. built_after form (a ∷ b ∷ []) (t && (bytes_eq b (codes "2") && true))) e
 
 -- the form of a line outside a batch
-pub form_outside_is : (form : Form) (before : List Line) (words : List (List ℕ)) → section before ≡ Outside → form_of form before words ≡ where_built before (find (matches words) forms_outside)
-form_outside_is Plain [] words h = version_alone words
-form_outside_is Scheduled [] words h = without_last [] words (VersionLine ∷ forms_outside) ScheduleLine refl ∙ version_alone words
-form_outside_is Plain (l ∷ before) words h = rw h refl
-form_outside_is Scheduled (l ∷ before) words h = rw h (without_last (l ∷ before) words forms_outside ScheduleLine refl)
+pub form_outside_is : (form : Form) (before : List Line) (words : List (List ℕ)) →
+    section before ≡ Outside → form_of form before words
+    ≡ where_built before (find (matches words) (forms_outside ++ schedule_forms form))
+form_outside_is form [] words h = version_alone form words
+form_outside_is form (l ∷ before) words h = rw h refl
 
 -- the form of a line in a batch
 pub form_in_batch_is : (form : Form) (before : List Line) (words : List (List ℕ)) → section before ≡ InBatch → version_of before ≡ 1 → form_of form before words ≡ where_built before (find (matches words) forms_in_batch)
 form_in_batch_is form before words h v = rw h (ap (λ n. where_built before (find (matches words) (held_forms n ++ forms_in_batch))) v)
 
 -- the form of a line's words
-pub form_is : (form : Form) (lines : List Line) (words : List (List ℕ)) (k : Kept) (batch : Option Batch) →
-    Holds lines k batch →
-    form_of form lines words ≡ where_built lines (find (matches words) (forms_of (section_of batch)))
-form_is form lines words k None h = form_outside_is form lines words h.part
+pub form_is : (form : Form) (lines : List Line) (words : List (List ℕ)) (k : Kept)
+    (batch : Option Batch) → Holds lines k batch →
+    form_of form lines words
+    ≡ where_built lines (find (matches words) (forms_of form (section_of k.scheduled batch)))
+form_is form lines words k None h = by_flag k.scheduled h.part
+  where
+    by_flag : (b : Bool) → section lines ≡ section_of b None →
+        form_of form lines words
+        ≡ where_built lines (find (matches words) (forms_of form (section_of b None)))
+    by_flag false e = form_outside_is form lines words e
+    by_flag true e = rw e refl
 form_is form lines words k (Some b) h = form_in_batch_is form lines words h.part h.declares.version
 
+not_true : (b : Bool) → not b ≡ true → b ≡ false
+not_true true h = absurd (cc)
+not_true false h = refl
+
+-- no line outside a batch is part of one, or takes turns
+none_inside : (form : Form) →
+    list_all (λ g. not (nat_lt 0 (part_of_form g))) (forms_outside ++ schedule_forms form) ≡ true
+none_inside Plain = refl
+none_inside Scheduled = refl
+
+no_turns : (form : Form) →
+    list_all (λ g. not (is_turn_form g)) (forms_outside ++ schedule_forms form) ≡ true
+no_turns Plain = refl
+no_turns Scheduled = refl
+
 -- the form that is found stands there
-pub form_stands : (words : List (List ℕ)) (batch : Option Batch) (f : LineForm) →
-    find (matches words) (forms_of (section_of batch)) ≡ Some f → Stands f batch
-form_stands words None f e =
+pub form_stands : (form : Form) (words : List (List ℕ)) (scheduled : Bool) (batch : Option Batch)
+    (f : LineForm) →
+    find (matches words) (forms_of form (section_of scheduled batch)) ≡ Some f →
+    Stands f scheduled batch
+form_stands form words false None f e =
+    let forms = forms_outside ++ schedule_forms form in
     record {
       inside = not_true _ (found_belongs (matches words) (λ g. not (nat_lt 0 (part_of_form g)))
-          forms_outside f refl e);
-      no_actor = found_belongs (matches words) (λ g. list_all is_no_actor (open_kinds (places g)))
-          forms_outside f refl e;
+          forms f (none_inside form) e);
+      turns = not_true _ (found_belongs (matches words) (λ g. not (is_turn_form g)) forms f
+          (no_turns form) e);
     }
-  where
-    not_true : (b : Bool) → not b ≡ true → b ≡ false
-    not_true true h = absurd (cc)
-    not_true false h = refl
-form_stands words (Some b) f e =
+form_stands form words true None f e =
+    record {
+      inside = not_true _ (found_belongs (matches words) (λ g. not (nat_lt 0 (part_of_form g)))
+          forms_in_schedule f refl e);
+      turns = found_belongs (matches words) is_turn_form forms_in_schedule f refl e;
+    }
+form_stands form words scheduled (Some b) f e =
     record {
       inside = found_belongs (matches words) (λ g. nat_lt 0 (part_of_form g)) forms_in_batch f refl e;
-      no_actor = found_belongs (matches words) (λ g. list_all is_no_actor (open_kinds (places g)))
-          forms_in_batch f refl e;
+      turns = not_true _ (found_belongs (matches words) (λ g. not (is_turn_form g)) forms_in_batch f
+          refl e);
     }
 
 -- words that match stand at the open places

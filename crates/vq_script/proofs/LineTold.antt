@@ -20,22 +20,23 @@ use Rattle.vq_model.specs.declared.statement.FaultKind.{FaultKind}
 use Rattle.vq_model.specs.declared.statement.FaultKind.TheVariants.{Syntax, Order, Number, Name, Twice, Range, Overlap, Limit}
 use Rattle.vq_model.specs.declared.statement.Line.{Line}
 use Rattle.vq_model.specs.declared.statement.LineForm.{LineForm}
-use Rattle.vq_model.specs.declared.statement.LineForm.TheVariants.{BufferLine, TimelineLine, BinaryLine, FenceLine, QueueLine, HostWaitAllLine, HostWaitAnyLine, HostPollAllLine, HostPollAnyLine, FillWholeLine, FillLine, UpdateLine, CopyLine, SubmitLine, WaitTimelineLine, WaitBinaryLine, SignalTimelineLine, SignalBinaryLine, BatchFenceLine, EndLine}
+use Rattle.vq_model.specs.declared.statement.LineForm.TheVariants.{BufferLine, TimelineLine, BinaryLine, FenceLine, QueueLine, HostWaitAllLine, HostWaitAnyLine, HostPollAllLine, HostPollAnyLine, FillWholeLine, FillLine, UpdateLine, CopyLine, SubmitLine, WaitTimelineLine, WaitBinaryLine, SignalTimelineLine, SignalBinaryLine, BatchFenceLine, EndLine, ScheduleLine, TurnLine, TurnsLine}
 use Rattle.vq_model.specs.declared.statement.Statement.{Statement}
+use Rattle.vq_model.specs.declared.statement.Statement.TheVariants.{TakeTurns}
+use Rattle.vq_model.specs.declared.script.ActorName.{ActorName}
 use Rattle.vq_model.specs.Context.{has_begun, is_batch_immediate, is_immediate, is_immediate_at, count, open_batch, is_command}
 use Rattle.vq_model.specs.Forms.{Slot, HexDigits, Numeral, NewName, BufferName, TimelineName, BinaryName, FenceName, QueueName, Actor, places}
 use Rattle.vq_model.specs.LineFaults.{is_shaped, is_numeric, is_known, is_new, is_declaration, part_of_form, is_batch_fence_form, is_out_of_order, is_command_in_range, is_in_range, overlaps}
 use Rattle.vq_model.specs.Limits.{passes_limit, limits_of}
-use Rattle.vq_model.specs.Meaning.{is_built, hex_bytes, is_hex, small_numeral, of_two, of_three, of_four, of_five, statement_of}
+use Rattle.vq_model.specs.Meaning.{is_built, actor_at, hex_bytes, is_hex, small_numeral, of_two, of_three, of_four, of_five, statement_of}
 use Rattle.vq_model.specs.Text.{numeral}
 use Rattle.vq_reading_laws.proofs.Cited.{below}
 use Rattle.vq_script.specs.declared.said.Said.{Said}
-use Rattle.vq_script.specs.declared.said.Said.TheVariants.{Buffer as SaysBuffer, Semaphore as SaysSemaphore, Queue as SaysQueue, Submit, Wait, FillWhole, Fill, Update, Copy, Signal, Fence, End}
+use Rattle.vq_script.specs.declared.said.Said.TheVariants.{Buffer as SaysBuffer, Semaphore as SaysSemaphore, Queue as SaysQueue, Submit, Wait, FillWhole, Fill, Update, Copy, Signal, Fence, End, Schedule, Turns}
 use Rattle.vq_script.specs.Faults.{first_fault, statement_at}
 use Rattle.vq_script.specs.Holds.{Holds, Declares, Kept, last_part, named_fence, open_jobs}
-use Rattle.vq_script.specs.LineTests.{number_of, is_built_in, is_immediate_in, is_late, is_known_in, is_new_in, word_fault, is_command_in, is_in_range_in, passes_in, said_fault, later_fault}
-use Rattle.vq_script.specs.OpenWords.{is_no_actor}
-use Rattle.vq_script.specs.SaidLines.{AreOf, AreFound, Stands, Suits, MayKeep, MayCommand, IsNewName, end_with_pairs, open_kinds, statement_in, part_in, copied, new_name, is_batch_line, named_in, placed, are_one_each}
+use Rattle.vq_script.specs.LineTests.{number_of, threaded_of, actor_in, is_built_in, is_immediate_in, is_late, is_known_in, is_new_in, word_fault, is_command_in, is_in_range_in, passes_in, said_fault, later_fault}
+use Rattle.vq_script.specs.SaidLines.{AreOf, AreFound, Stands, Suits, MayKeep, MayCommand, IsNewName, end_with_pairs, open_kinds, statement_in, part_in, copied, new_name, is_batch_line, is_schedule_line, named_in, placed, are_one_each}
 
 -- Syntax
 
@@ -106,23 +107,25 @@ late_by lines k batch form h = λ i.
 
 -- Name and Twice
 
+actor_by : (lines : List Line) (k : Kept) (word : List ℕ) → Declares lines k →
+    actor_at lines word ≡ actor_in k word
+unfolding number_of threaded_of
+actor_by lines k word d = rw d.all_queues refl
+
 known_by : (lines : List Line) (k : Kept) (words : List (Slot × List ℕ)) → Declares lines k →
-    list_all is_no_actor (map (λ x. x.0) words) ≡ true →
     list_all (is_known lines) words ≡ list_all (is_known_in k) words
 unfolding number_of
-known_by lines k [] d a = refl
-known_by lines k ((place, word) ∷ words) d a =
-    let parts = and_parts (is_no_actor place) (list_all is_no_actor (map (λ x. x.0) words)) a in
-    λ i. at_place place parts.0 i && known_by lines k words d parts.1 i
+known_by lines k [] d = refl
+known_by lines k ((place, word) ∷ words) d = λ i. at_place place i && known_by lines k words d i
   where
-    at_place : (p : Slot) → is_no_actor p ≡ true → is_known lines (p, word) ≡ is_known_in k (p, word)
-    at_place BufferName n = rw d.all_buffers refl
-    at_place TimelineName n = rw d.all_semaphores refl
-    at_place BinaryName n = rw d.all_semaphores refl
-    at_place FenceName n = rw d.all_semaphores refl
-    at_place QueueName n = rw d.all_queues refl
-    at_place Actor n = absurd (cc)
-    at_place other n = refl
+    at_place : (p : Slot) → is_known lines (p, word) ≡ is_known_in k (p, word)
+    at_place BufferName = rw d.all_buffers refl
+    at_place TimelineName = rw d.all_semaphores refl
+    at_place BinaryName = rw d.all_semaphores refl
+    at_place FenceName = rw d.all_semaphores refl
+    at_place QueueName = rw d.all_queues refl
+    at_place Actor = ap (λ (o : Option ActorName). is_some o) (actor_by lines k word d)
+    at_place other = refl
 
 new_by : (lines : List Line) (k : Kept) (words : List (Slot × List ℕ)) → Declares lines k →
     list_all (is_new lines) words ≡ list_all (is_new_in k) words
@@ -153,7 +156,7 @@ module _ (lines : List Line) (k : Kept) (batch : Option Batch) (h : Holds lines 
       (cond (not known) (Some Name) (later_fault lines k words said))
 
   -- the first kind of a line's faults
-  first_by : (form : LineForm) (words : List (Slot × List ℕ)) → Stands form batch →
+  first_by : (form : LineForm) (words : List (Slot × List ℕ)) → Stands form k.scheduled batch →
       AreFound form words →
       first_fault lines (form, words)
       ≡ option_or (word_fault k batch form words)
@@ -177,20 +180,17 @@ module _ (lines : List Line) (k : Kept) (batch : Option Batch) (h : Holds lines 
           (read_fault words (statement_at lines (form, words)) (list_all is_numeric words)
           (list_all (is_known_in k) words))
       by_built true e =
-          let kinds = are (built_found k batch form e) in
-          let none : list_all is_no_actor (map (λ x. x.0) words) ≡ true =
-          ap (list_all is_no_actor) kinds ∙ stands.no_actor in
           (λ i. cond (not (built i) || not (list_all is_shaped words)) (Some Syntax)
           (cond (late_by lines k batch form h i) (Some Order)
           (cond (not (list_all is_numeric words)) (Some Number)
-          (cond (not (known_by lines k words h.declares none i)) (Some Name)
+          (cond (not (known_by lines k words h.declares i)) (Some Name)
           (cond (not (new_by lines k words h.declares i)) (Some Twice) statement_kinds)))))
           ∙ words_first _ _ (read_fault words (statement_at lines (form, words))
           (list_all is_numeric words) (list_all (is_known_in k) words))
       by_built false e = rw (built ∙ e, e) refl
 
   -- the same, by what the tests of words say
-  pub words_by : (form : LineForm) (words : List (Slot × List ℕ)) → Stands form batch →
+  pub words_by : (form : LineForm) (words : List (Slot × List ℕ)) → Stands form k.scheduled batch →
       AreFound form words → (o : Option FaultKind) → word_fault k batch form words ≡ o →
       first_fault lines (form, words)
       ≡ option_or o (read_fault words (statement_at lines (form, words)) (list_all is_numeric words)
@@ -243,6 +243,7 @@ module _ (lines : List Line) (k : Kept) (batch : Option Batch) (h : Holds lines 
   limit_by (Update b o digits) s = rw h.all_commands (rw h.inside.all_commands refl)
   limit_by (Copy x from t to n) s = rw h.all_commands (rw h.inside.all_commands refl)
   limit_by (Signal pair) s = rw h.inside.all_signals refl
+  limit_by (Turns actor count) s = rw h.declares.turn_count refl
   limit_by other s = refl
 
   -- the first kind of the faults that a line has whose words are read
@@ -373,7 +374,7 @@ module _ (k : Kept) (form : LineForm) (words : List (Slot × List ℕ)) (are : A
       }
 
   -- what a line without a fault says
-  pub may_keep : (batch : Option Batch) (said : Said) → Stands form batch → Suits form words said →
+  pub may_keep : (batch : Option Batch) (said : Said) → Stands form k.scheduled batch → Suits form words said →
       Passes k batch form words → PassesLater k batch words (statement_in said) →
       MayKeep k batch said
   may_keep None (SaysBuffer name size) st su p l =
@@ -388,7 +389,10 @@ module _ (k : Kept) (form : LineForm) (words : List (Slot × List ℕ)) (are : A
       (is_new_name None name.now p l.fresh su.copies, below (length k.semaphores) (limits_of 1).semaphores l.limited)
   may_keep None (SaysQueue name mode) st su p l =
       (is_new_name None name.now p l.fresh su.copies, below (length k.queues) (limits_of 1).queues l.limited)
-  may_keep None (Submit q) st su p l = tt
+  may_keep None (Submit q) st su p l = sym (su.turns ∙ st.turns)
+  may_keep None Schedule st su p l = tt
+  may_keep None (Turns actor count) st su p l =
+      ltb-false (limits_of 1).turns (length k.turns + count) l.limited
   may_keep None other st su p l =
       absurd (let c : nat_lt 0 (part_in other) ≡ false = ap (nat_lt 0) su.part ∙ st.inside in cc)
   may_keep (Some b) (Wait pair) st su p l =
@@ -412,18 +416,19 @@ module _ (k : Kept) (form : LineForm) (words : List (Slot × List ℕ)) (are : A
   may_keep (Some b) other st su p l =
       absurd (let c : nat_lt 0 (part_in other) ≡ true = ap (nat_lt 0) su.part ∙ st.inside in cc)
 
--- the forms that are built are declarations, commands and the other lines of batches
+-- the forms that are built are declarations, commands, lines of the schedule and the other lines of
+-- batches
 pub batch_line_left : (k : Kept) (batch : Option Batch) (form : LineForm) →
     is_built_in k batch form ≡ true → is_declaration form ≡ false →
-    (part_of_form form == 2) ≡ false → is_batch_line form ≡ true
-batch_line_left k batch SubmitLine b d p = refl
-batch_line_left k batch WaitTimelineLine b d p = refl
-batch_line_left k batch WaitBinaryLine b d p = refl
-batch_line_left k batch SignalTimelineLine b d p = refl
-batch_line_left k batch SignalBinaryLine b d p = refl
-batch_line_left k batch BatchFenceLine b d p = refl
-batch_line_left k batch EndLine b d p = refl
-batch_line_left k batch other b d p = absurd (cc)
+    (part_of_form form == 2) ≡ false → is_schedule_line form ≡ false → is_batch_line form ≡ true
+batch_line_left k batch SubmitLine b d p c = refl
+batch_line_left k batch WaitTimelineLine b d p c = refl
+batch_line_left k batch WaitBinaryLine b d p c = refl
+batch_line_left k batch SignalTimelineLine b d p c = refl
+batch_line_left k batch SignalBinaryLine b d p c = refl
+batch_line_left k batch BatchFenceLine b d p c = refl
+batch_line_left k batch EndLine b d p c = refl
+batch_line_left k batch other b d p c = absurd (cc)
 
 pair_said : (f : Pair → Statement) (a b : Option ℕ) →
     of_two (λ t v. f (record { semaphore = t; value = v })) a b
@@ -452,6 +457,11 @@ named_by lines k batch CopyLine (source ∷ from ∷ target ∷ to ∷ size ∷ 
 named_by lines k batch SignalTimelineLine (name ∷ value ∷ []) d b = rw d.all_semaphores (pair_said _ _ _)
 named_by lines k batch SignalBinaryLine (name ∷ []) d b = rw d.all_semaphores refl
 named_by lines k batch BatchFenceLine (name ∷ []) d b = rw d.all_semaphores refl
+named_by lines k batch TurnLine (actor ∷ []) d b =
+    ap (λ (o : Option ActorName). option_map (λ a. TakeTurns a 1) o) (sym (actor_by lines k actor d))
+named_by lines k batch TurnsLine (actor ∷ count ∷ []) d b =
+    ap (λ (o : Option ActorName). of_two (λ a n. TakeTurns a n) o (numeral count))
+    (sym (actor_by lines k actor d))
 named_by lines k batch BufferLine (name ∷ size ∷ []) d b = refl
 named_by lines k batch TimelineLine (name ∷ value ∷ []) d b = refl
 named_by lines k batch form words d b = cc
@@ -566,6 +576,9 @@ named_said k batch SignalTimelineLine (name ∷ value ∷ []) b o =
 named_said k batch SignalBinaryLine (name ∷ []) b o = some_one _ (number_of k BinaryName name)
 named_said k batch BatchFenceLine (name ∷ []) b o = some_one _ (number_of k FenceName name)
 named_said k batch EndLine [] b o = refl
+named_said k batch ScheduleLine [] b o = refl
+named_said k batch TurnLine (actor ∷ []) b o = some_one _ (actor_in k actor)
+named_said k batch TurnsLine (actor ∷ count ∷ []) b o = some_two _ (actor_in k actor) (numeral count)
 named_said k batch form texts b o = absurd (cc)
 
 -- the same, of words at the open places of a form
@@ -593,7 +606,7 @@ said_by_lines lines k batch form words s d b e =
 -- The first kind of the faults of a line whose words aren't all read, and of one whose words are.
 
 pub unread_first : (lines : List Line) (k : Kept) (batch : Option Batch) → Holds lines k batch →
-    (form : LineForm) (words : List (Slot × List ℕ)) → Stands form batch → AreFound form words →
+    (form : LineForm) (words : List (Slot × List ℕ)) → Stands form k.scheduled batch → AreFound form words →
     word_fault k batch form words ≡ None → None ≡ named_in k form (map (λ x. x.1) words) →
     first_fault lines (form, words) ≡ Some (cond (list_all is_numeric words) Name Number)
 unread_first lines k batch h form words stands found none said =
@@ -611,7 +624,7 @@ unread_first lines k batch h form words stands found none said =
     by_numeric false kn e = refl
 
 pub read_first : (lines : List Line) (k : Kept) (batch : Option Batch) → Holds lines k batch →
-    (form : LineForm) (words : List (Slot × List ℕ)) → Stands form batch → AreFound form words →
+    (form : LineForm) (words : List (Slot × List ℕ)) → Stands form k.scheduled batch → AreFound form words →
     word_fault k batch form words ≡ None → (s : Statement) →
     Some s ≡ named_in k form (map (λ x. x.1) words) →
     first_fault lines (form, words) ≡ later_fault lines k words (Some s)

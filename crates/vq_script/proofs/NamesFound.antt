@@ -21,11 +21,13 @@ use Rattle.vq_model.specs.declared.script.Semaphore.{Semaphore}
 use Rattle.vq_model.specs.declared.script.SemaphoreKind.{SemaphoreKind}
 use Rattle.vq_model.specs.declared.script.SemaphoreKind.TheVariants.{Timeline, Binary, Fence}
 use Rattle.vq_model.specs.declared.script.Queue.{Queue}
-use Rattle.vq_model.specs.Context.{is_timeline, is_binary, is_fence}
+use Rattle.vq_model.specs.declared.script.Mode.{Mode}
+use Rattle.vq_model.specs.declared.script.Mode.TheVariants.{Immediate, Deferred, Threaded}
+use Rattle.vq_model.specs.Context.{is_timeline, is_binary, is_fence, is_threaded}
 use Rattle.vq_model.specs.Forms.{Slot, BufferName, TimelineName, BinaryName, FenceName, QueueName}
 use Rattle.vq_script.specs.declared.named_item.NamedItem.{NamedItem}
 use Rattle.vq_script.specs.declared.named_item.NamedItem.TheVariants.{Buffer as BufferAt, Timeline as TimelineAt, Binary as BinaryAt, Fence as FenceAt, Queue as QueueAt}
-use Rattle.vq_script.specs.Names.{item_of, semaphore_item, number_in, number_in_lists, names_buffer, names_timeline, names_binary, names_fence, names_queue, is_taken}
+use Rattle.vq_script.specs.Names.{item_of, semaphore_item, number_in, number_in_lists, names_buffer, names_timeline, names_binary, names_fence, names_queue, names_threaded, threaded_in, is_taken}
 
 -- the first place that passes is in the list where any element passes
 any_within : {X : Type 0} (p : X → Bool) (xs : List X) → nat_lt (position_or_len p xs) (length xs) ≡ list_any p xs
@@ -143,65 +145,63 @@ found_without passes reads old new k d xs put none fresh was name =
         ∙ sym (none_found (passes name) xs free)
     by_test false e = ap reads (after_put old new k d put name false e) ∙ was name
 
--- semaphores of a kind, by the test of the kind
+-- items of a kind, by their names and the test of the kind
 
-abbrev names_kind : (SemaphoreKind → Bool) → List ℕ → Semaphore → Bool
-names_kind is_kind name s = bytes_eq name s.name && is_kind s.kind
+abbrev names_kind : {X : Type 0} → (X → List ℕ) → (X → Bool) → List ℕ → X → Bool
+names_kind named is_kind name x = bytes_eq name (named x) && is_kind x
+
+abbrev is_named : {X : Type 0} → (X → List ℕ) → List ℕ → X → Bool
+is_named named name x = bytes_eq name (named x)
 
 abbrev has_name : List ℕ → Semaphore → Bool
 has_name name s = bytes_eq name s.name
 
--- none of a kind has a name that no semaphore has
-none_of_kind : (is_kind : SemaphoreKind → Bool) (name : List ℕ) (xs : List Semaphore) →
-    list_any (has_name name) xs ≡ false → list_any (names_kind is_kind name) xs ≡ false
-none_of_kind is_kind name [] h = refl
-none_of_kind is_kind name (x ∷ xs) h =
-    let parts = or_parts (has_name name x) (list_any (has_name name) xs) h in
-    λ t. (parts.0 t && is_kind x.kind) || none_of_kind is_kind name xs parts.1 t
+-- none of a kind has a name that no item has
+none_of_kind : {X : Type 0} (named : X → List ℕ) (is_kind : X → Bool) (name : List ℕ) (xs : List X) →
+    list_any (is_named named name) xs ≡ false → list_any (names_kind named is_kind name) xs ≡ false
+none_of_kind named is_kind name [] h = refl
+none_of_kind named is_kind name (x ∷ xs) h =
+    let parts = or_parts (is_named named name x) (list_any (is_named named name) xs) h in
+    λ t. (parts.0 t && is_kind x) || none_of_kind named is_kind name xs parts.1 t
 
--- one semaphore more, whose name is new, is found if it is of the kind
-kind_found : (is_kind : SemaphoreKind → Bool) (reads : Option NamedItem → Option ℕ) →
-    ((kind : SemaphoreKind) (n : ℕ) →
-    reads (Some (semaphore_item kind n)) ≡ cond (is_kind kind) (Some n) None) →
-    (old new : BTreeMap (Vec ℕ) NamedItem) (k : Vec ℕ) (d : NamedItem) (n : ℕ)
-    (xs : List Semaphore) (x : Semaphore) → Updates key_cmp old new k (Some d) →
-    k.items ≡ x.name → d ≡ semaphore_item x.kind n → n ≡ length xs →
-    list_any (has_name k.items) xs ≡ false →
-    ((name : List ℕ) → reads (item_of old name) ≡ position (names_kind is_kind name) xs) →
+-- one item more, whose name is new, is found if it is of the kind
+kind_found : {X : Type 0} (named : X → List ℕ) (is_kind : X → Bool)
+    (reads : Option NamedItem → Option ℕ) (old new : BTreeMap (Vec ℕ) NamedItem) (k : Vec ℕ)
+    (d : NamedItem) (xs : List X) (x : X) → Updates key_cmp old new k (Some d) →
+    k.items ≡ named x → reads (Some d) ≡ cond (is_kind x) (Some (length xs)) None →
+    list_any (is_named named k.items) xs ≡ false →
+    ((name : List ℕ) → reads (item_of old name) ≡ position (names_kind named is_kind name) xs) →
     (name : List ℕ) →
-    reads (item_of new name) ≡ position (names_kind is_kind name) (xs ++ x ∷ [])
-kind_found is_kind reads read old new k d n xs x put named item last fresh was name =
-    by_kind (is_kind x.kind) refl
+    reads (item_of new name) ≡ position (names_kind named is_kind name) (xs ++ x ∷ [])
+kind_found named is_kind reads old new k d xs x put same item fresh was name =
+    by_kind (is_kind x) refl
   where
-    free : list_any (names_kind is_kind k.items) xs ≡ false
-    free = none_of_kind is_kind k.items xs fresh
+    free : list_any (names_kind named is_kind k.items) xs ≡ false
+    free = none_of_kind named is_kind k.items xs fresh
 
-    and_true : (other : List ℕ) → is_kind x.kind ≡ true →
-        names_kind is_kind other x ≡ bytes_eq other k.items
+    and_true : (other : List ℕ) → is_kind x ≡ true →
+        names_kind named is_kind other x ≡ bytes_eq other k.items
     and_true other e =
-        ap (λ b. bytes_eq other x.name && b) e ∙ true_right (bytes_eq other x.name)
-        ∙ ap (bytes_eq other) (sym named)
+        ap (λ b. bytes_eq other (named x) && b) e ∙ true_right (bytes_eq other (named x))
+        ∙ ap (bytes_eq other) (sym same)
       where
         true_right : (b : Bool) → (b && true) ≡ b
         true_right true = refl
         true_right false = refl
 
-    by_kind : (b : Bool) → is_kind x.kind ≡ b →
-        reads (item_of new name) ≡ position (names_kind is_kind name) (xs ++ x ∷ [])
+    by_kind : (b : Bool) → is_kind x ≡ b →
+        reads (item_of new name) ≡ position (names_kind named is_kind name) (xs ++ x ∷ [])
     by_kind true e =
-        found_with (names_kind is_kind) reads old new k d xs x put
-        (λ other. and_true other e)
-        (ap (λ (i : NamedItem). reads (Some i)) item ∙ read x.kind n
-        ∙ ap (λ b. cond b (Some n) None) e ∙ ap (λ (m : ℕ). Some m) last)
+        found_with (names_kind named is_kind) reads old new k d xs x put
+        (λ other. and_true other e) (item ∙ ap (λ b. cond b (Some (length xs)) None) e)
         free was name
     by_kind false e =
-        found_without (names_kind is_kind) reads old new k d xs put
-        (ap (λ (i : NamedItem). reads (Some i)) item ∙ read x.kind n
-        ∙ ap (λ b. cond b (Some n) None) e)
+        found_without (names_kind named is_kind) reads old new k d xs put
+        (item ∙ ap (λ b. cond b (Some (length xs)) None) e)
         free was name
-        ∙ sym (same_found (names_kind is_kind name) xs x (and_false (bytes_eq name x.name) e))
+        ∙ sym (same_found (names_kind named is_kind name) xs x (and_false (bytes_eq name (named x)) e))
       where
-        and_false : (b : Bool) → is_kind x.kind ≡ false → (b && is_kind x.kind) ≡ false
+        and_false : (b : Bool) → is_kind x ≡ false → (b && is_kind x) ≡ false
         and_false true i = i
         and_false false i = refl
 
@@ -235,6 +235,17 @@ reads_fence (Timeline v) n = refl
 reads_fence Binary n = refl
 reads_fence Fence n = refl
 
+no_threaded : (kind : SemaphoreKind) (n : ℕ) → threaded_in (Some (semaphore_item kind n)) ≡ None
+no_threaded (Timeline v) n = refl
+no_threaded Binary n = refl
+no_threaded Fence n = refl
+
+reads_threaded : (n : ℕ) (mode : Mode) →
+    threaded_in (Some (QueueAt n mode)) ≡ cond (is_threaded mode) (Some n) None
+reads_threaded n Immediate = refl
+reads_threaded n Deferred = refl
+reads_threaded n Threaded = refl
+
 -- a name that is not taken is new in each list
 free_parts : (buffers : List Buffer) (semaphores : List Semaphore) (queues : List Queue)
     (name : List ℕ) → is_taken buffers semaphores queues name ≡ false →
@@ -258,7 +269,7 @@ some_item (Some (BufferAt n)) = refl
 some_item (Some (TimelineAt n)) = refl
 some_item (Some (BinaryAt n)) = refl
 some_item (Some (FenceAt n)) = refl
-some_item (Some (QueueAt n)) = refl
+some_item (Some (QueueAt n mode)) = refl
 
 -- some semaphore or fence has a name where one of some kind has it
 any_kind : (name : List ℕ) (xs : List Semaphore) →
@@ -303,6 +314,11 @@ taken_found buffers semaphores queues name d b t i f q =
     ∙ ap (λ c. list_any (names_buffer name) buffers || c || list_any (names_queue name) queues)
     (any_kind name semaphores)
 
+-- Threaded queues have their names in the map.
+abbrev pub HasThreaded : BTreeMap (Vec ℕ) NamedItem → List Queue → Type 0
+HasThreaded names queues = (name : List ℕ) →
+    threaded_in (item_of names name) ≡ position (names_threaded name) queues
+
 -- What is declared has its names in the map.
 abbrev pub HasNames : BTreeMap (Vec ℕ) NamedItem → List Buffer → List Semaphore → List Queue → Type 0
 HasNames names buffers semaphores queues = (place : Slot) (name : List ℕ) →
@@ -329,12 +345,20 @@ module _ (old new : BTreeMap (Vec ℕ) NamedItem) (k : Vec ℕ) (d : NamedItem)
       free.2 (was QueueName)
 
   other_semaphores : (is_kind : SemaphoreKind → Bool) (place : Slot) →
-      number_in place (Some d) ≡ None → ((name : List ℕ) →
-      number_in place (item_of old name) ≡ position (names_kind is_kind name) semaphores) →
-      (name : List ℕ) →
-      number_in place (item_of new name) ≡ position (names_kind is_kind name) semaphores
-  other_semaphores is_kind place none h = found_without (names_kind is_kind) (number_in place) old new
-      k d semaphores put none (none_of_kind is_kind k.items semaphores free.1) h
+      number_in place (Some d) ≡ None → ((name : List ℕ) → number_in place (item_of old name)
+      ≡ position (names_kind (λ s. s.name) (λ s. is_kind s.kind) name) semaphores) →
+      (name : List ℕ) → number_in place (item_of new name)
+      ≡ position (names_kind (λ s. s.name) (λ s. is_kind s.kind) name) semaphores
+  other_semaphores is_kind place none h =
+      found_without (names_kind (λ s. s.name) (λ s. is_kind s.kind)) (number_in place) old new
+      k d semaphores put none
+      (none_of_kind (λ s. s.name) (λ s. is_kind s.kind) k.items semaphores free.1) h
+
+  -- .. and the threaded queues
+  pub others_threaded : threaded_in (Some d) ≡ None → HasThreaded old queues → HasThreaded new queues
+  others_threaded none h =
+      found_without names_threaded threaded_in old new k d queues put none
+      (none_of_kind (λ q. q.name) (λ q. is_threaded q.mode) k.items queues free.2) h
 
   -- a buffer more
   pub buffer_named : (n : ℕ) (x : Buffer) → d ≡ BufferAt n → k.items ≡ x.name →
@@ -358,7 +382,7 @@ module _ (old new : BTreeMap (Vec ℕ) NamedItem) (k : Vec ℕ) (d : NamedItem)
   buffer_named n x is named last other name = refl
 
   -- a queue more
-  pub queue_named : (n : ℕ) (x : Queue) → d ≡ QueueAt n → k.items ≡ x.name →
+  pub queue_named : (n : ℕ) (x : Queue) → d ≡ QueueAt n x.mode → k.items ≡ x.name →
       n ≡ length queues → HasNames new buffers semaphores (queues ++ x ∷ [])
   queue_named n x is named last BufferName name =
       other_buffers (ap (λ (i : NamedItem). number_in BufferName (Some i)) is) name
@@ -378,20 +402,45 @@ module _ (old new : BTreeMap (Vec ℕ) NamedItem) (k : Vec ℕ) (d : NamedItem)
       free.2 (was QueueName) name
   queue_named n x is named last other name = refl
 
+  pub queue_threaded : (n : ℕ) (x : Queue) → d ≡ QueueAt n x.mode → k.items ≡ x.name →
+      n ≡ length queues → HasThreaded old queues → HasThreaded new (queues ++ x ∷ [])
+  queue_threaded n x is named last h =
+      kind_found (λ q. q.name) (λ q. is_threaded q.mode) threaded_in old new k d queues x put named
+      (ap (λ (i : NamedItem). threaded_in (Some i)) is ∙ reads_threaded n x.mode
+      ∙ ap (λ (m : ℕ). cond (is_threaded x.mode) (Some m) None) last)
+      free.2 h
+
+  -- the kind of a semaphore or a fence more
+  kind_named : (is_kind : SemaphoreKind → Bool) (place : Slot) → ((kind : SemaphoreKind) (n : ℕ) →
+      number_in place (Some (semaphore_item kind n)) ≡ cond (is_kind kind) (Some n) None) →
+      (n : ℕ) (x : Semaphore) → d ≡ semaphore_item x.kind n → k.items ≡ x.name →
+      n ≡ length semaphores → ((name : List ℕ) → number_in place (item_of old name)
+      ≡ position (names_kind (λ s. s.name) (λ s. is_kind s.kind) name) semaphores) →
+      (name : List ℕ) → number_in place (item_of new name)
+      ≡ position (names_kind (λ s. s.name) (λ s. is_kind s.kind) name) (semaphores ++ x ∷ [])
+  kind_named is_kind place read n x is named last h =
+      kind_found (λ s. s.name) (λ s. is_kind s.kind) (number_in place) old new k d semaphores x put
+      named
+      (ap (λ (i : NamedItem). number_in place (Some i)) is ∙ read x.kind n
+      ∙ ap (λ (m : ℕ). cond (is_kind x.kind) (Some m) None) last)
+      free.1 h
+
+  pub semaphore_threaded : (n : ℕ) (x : Semaphore) → d ≡ semaphore_item x.kind n →
+      HasThreaded old queues → HasThreaded new queues
+  semaphore_threaded n x is h =
+      others_threaded (ap (λ (i : NamedItem). threaded_in (Some i)) is ∙ no_threaded x.kind n) h
+
   -- a semaphore or a fence more
   pub semaphore_named : (n : ℕ) (x : Semaphore) → d ≡ semaphore_item x.kind n → k.items ≡ x.name →
       n ≡ length semaphores → HasNames new buffers (semaphores ++ x ∷ []) queues
   semaphore_named n x is named last BufferName name =
       other_buffers (ap (λ (i : NamedItem). number_in BufferName (Some i)) is ∙ no_buffer x.kind n) name
   semaphore_named n x is named last TimelineName name =
-      kind_found is_timeline (number_in TimelineName) reads_timeline old new k d n semaphores x put
-      named is last free.1 (was TimelineName) name
+      kind_named is_timeline TimelineName reads_timeline n x is named last (was TimelineName) name
   semaphore_named n x is named last BinaryName name =
-      kind_found is_binary (number_in BinaryName) reads_binary old new k d n semaphores x put
-      named is last free.1 (was BinaryName) name
+      kind_named is_binary BinaryName reads_binary n x is named last (was BinaryName) name
   semaphore_named n x is named last FenceName name =
-      kind_found is_fence (number_in FenceName) reads_fence old new k d n semaphores x put
-      named is last free.1 (was FenceName) name
+      kind_named is_fence FenceName reads_fence n x is named last (was FenceName) name
   semaphore_named n x is named last QueueName name =
       other_queues (ap (λ (i : NamedItem). number_in QueueName (Some i)) is ∙ no_queue x.kind n) name
   semaphore_named n x is named last other name = refl

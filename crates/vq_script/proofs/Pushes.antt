@@ -1,14 +1,17 @@
 -- What the parser knows, with the line of one statement more.
-use Rattle.std.proofs.Common.{◌≡◌, ℕ, ◌+◌, Bool, true, false, ◌||◌, cond, List, [], ◌∷◌, ◌++◌, length, map, Option, Some, None, arith, refl, sym, ap, subst, ◌∙◌, nat_lt}
+use Rattle.std.proofs.Common.{◌≡◌, ℕ, ◌+◌, Bool, true, false, ◌||◌, cond, List, [], ◌∷◌, ◌++◌, length, map, Option, Some, None, arith, refl, sym, ap, subst, ◌∙◌, nat_lt, replicate}
+use Rattle.std.specs.Prelude.{sum}
 use Rattle.std.specs.List.{filter_map, flat_map, fold, cons_option}
 use Rattle.std.specs.Option.{option_or}
-use Rattle.std.proofs.lemmas.List.{append_assoc, append-nil, length-append, map-append}
+use Rattle.std.proofs.lemmas.List.{append_assoc, append-nil, length-append, length-replicate, map-append}
 use Rattle.std.proofs.lemmas.List.Sums.{fold-append}
 use Rattle.std.proofs.lemmas.Grind.{flat_map-append}
 use Rattle.std.proofs.lemmas.Bool.{le-ltb}
 use Rattle.vq_model.specs.declared.statement.Line.{Line}
 use Rattle.vq_model.specs.declared.statement.Statement.{Statement}
-use Rattle.vq_model.specs.declared.statement.Statement.TheVariants.{DeclareBuffer, DeclareSemaphore, DeclareQueue, BeginBatch, AddWait, AddCommand, AddSignal, AddFence, EndBatch}
+use Rattle.vq_model.specs.declared.statement.Statement.TheVariants.{DeclareBuffer, DeclareSemaphore, DeclareQueue, BeginBatch, AddWait, AddCommand, AddSignal, AddFence, EndBatch, BeginSchedule, TakeTurns}
+use Rattle.vq_model.specs.declared.script.ActorName.{ActorName}
+use Rattle.vq_model.specs.declared.script.Turn.{Turn}
 use Rattle.vq_model.specs.declared.script.Buffer.{Buffer}
 use Rattle.vq_model.specs.declared.script.Semaphore.{Semaphore}
 use Rattle.vq_model.specs.declared.script.SemaphoreKind.{SemaphoreKind}
@@ -20,17 +23,17 @@ use Rattle.vq_model.specs.declared.script.Pair.{Pair}
 use Rattle.vq_model.specs.declared.script.Command.{Command}
 use Rattle.vq_model.specs.declared.script.Job.{Job}
 use Rattle.vq_model.specs.declared.script.Job.TheVariants.{Batch as BatchJob}
-use Rattle.vq_model.specs.Context.{section, section_after, buffer_of, semaphore_of, queue_of, count, some, open_batch, last_queue, is_command, is_wait, is_signal, is_batch_fence, is_submit, is_end, version_of}
+use Rattle.vq_model.specs.Context.{section, section_after, buffer_of, semaphore_of, queue_of, count, some, open_batch, last_queue, is_command, is_wait, is_signal, is_batch_fence, is_submit, is_end, version_of, turns_of}
 use Rattle.vq_model.specs.Limits.{is_job}
 use Rattle.vq_model.specs.LineFaults.{part_of}
 use Rattle.vq_model.specs.Reading.{with_line}
 use Rattle.vq_model.specs.ScriptOfLines.{batch_lines, jobs_of, job_at, is_schedule, turns_at, mark, command_of, wait_of, signal_of, fence_of, first_of_list}
 use Rattle.vq_model.specs.declared.statement.Section.{Section}
 use Rattle.vq_model.specs.declared.statement.Section.TheVariants.{Outside, InBatch}
-use Rattle.vq_script.specs.Holds.{Holds, Declares, FillBatch, Kept, held_from, last_part, with_buffer, with_semaphore, with_queue, with_command, with_batch}
-use Rattle.vq_script.proofs.LineMore.{numbered, after_last_cut, after_last_more, before_first_more, count_more, some_more, version_more, given_none, given_one, later_part}
+use Rattle.vq_script.specs.Holds.{Holds, Declares, FillBatch, Kept, held_from, last_part, with_buffer, with_semaphore, with_queue, with_command, with_batch, with_schedule, with_turns, section_of}
+use Rattle.vq_script.proofs.LineMore.{numbered, or_false, after_last_cut, after_last_more, before_first_more, count_more, some_more, version_more, given_none, given_one, later_part}
 use Rattle.vq_script.specs.declared.said.Said.{Said}
-use Rattle.vq_script.specs.declared.said.Said.TheVariants.{Buffer as SaysBuffer, Semaphore as SaysSemaphore, Queue as SaysQueue, Submit, Wait, FillWhole, Fill, Update, Copy, Signal, Fence, End}
+use Rattle.vq_script.specs.declared.said.Said.TheVariants.{Buffer as SaysBuffer, Semaphore as SaysSemaphore, Queue as SaysQueue, Submit, Wait, FillWhole, Fill, Update, Copy, Signal, Fence, End, Schedule, Turns}
 use Rattle.vq_script.specs.SaidLines.{MayKeep, statement_in, after, waiting, commanding, signaling, fenced, started}
 use Rattle.vq_script.proofs.BatchMore.{fill_nothing, fill_started, fill_more, fill_wait, fill_command, fill_signal, fill_fence}
 
@@ -47,20 +50,44 @@ section_more lines l was h =
 
 -- What is declared
 
--- no schedule begins, and no version is named, with one line more
+-- no schedule begins, no turns are taken, and no version is named, with one line more
 record SaysLittle (s : Statement) : Type 0 where
   version : (n : ℕ) → version_of (numbered n s ∷ []) ≡ 1
   schedule : is_schedule s ≡ false
   turns : (n : ℕ) → turns_at (numbered n s) ≡ []
+  count : turns_of s ≡ 0
 
-no_schedule_more : (lines : List Line) (l : Line) → some is_schedule lines ≡ false →
-    is_schedule l.statement ≡ false → some is_schedule (lines ++ l ∷ []) ≡ false
-no_schedule_more lines l h i = some_more is_schedule lines l ∙ (λ t. h t || i t)
+-- the turns that lines take
+abbrev turn_sum : List Line → ℕ
+turn_sum lines = sum (map (λ (l : Line). turns_of l.statement) lines)
 
-no_turns_more : (lines : List Line) (l : Line) → flat_map turns_at lines ≡ [] →
-    turns_at l ≡ [] → flat_map turns_at (lines ++ l ∷ []) ≡ []
-no_turns_more lines l h i =
-    flat_map-append turns_at lines (l ∷ []) ∙ (λ t. h t ++ (i t ++ []))
+schedule_more : (lines : List Line) (l : Line) (b : Bool) → some is_schedule lines ≡ b →
+    is_schedule l.statement ≡ false → some is_schedule (lines ++ l ∷ []) ≡ b
+schedule_more lines l b h i =
+    some_more is_schedule lines l ∙ (λ t. h t || i t) ∙ or_false b
+
+turns_more : (lines : List Line) (l : Line) (ts us : List Turn) → flat_map turns_at lines ≡ ts →
+    turns_at l ≡ us → flat_map turns_at (lines ++ l ∷ []) ≡ ts ++ us
+turns_more lines l ts us h i =
+    flat_map-append turns_at lines (l ∷ []) ∙ (λ t. h t ++ append-nil (turns_at l) t)
+    ∙ ap (λ (vs : List Turn). ts ++ vs) i
+
+same_turns : (lines : List Line) (l : Line) (ts : List Turn) → flat_map turns_at lines ≡ ts →
+    turns_at l ≡ [] → flat_map turns_at (lines ++ l ∷ []) ≡ ts
+same_turns lines l ts h i = turns_more lines l ts [] h i ∙ append-nil ts
+
+turn_sum_more : (lines : List Line) (l : Line) (m : ℕ) → turn_sum lines ≡ m →
+    turn_sum (lines ++ l ∷ []) ≡ m + turns_of l.statement
+turn_sum_more lines l m h =
+    ap sum (map-append (λ (x : Line). turns_of x.statement) lines (l ∷ []))
+    ∙ fold-append (λ a x. a + x) 0 (map (λ (x : Line). turns_of x.statement) lines)
+    (turns_of l.statement ∷ [])
+    ∙ ap (λ a. a + turns_of l.statement) h
+
+same_turn_sum : (lines : List Line) (l : Line) (m : ℕ) → turn_sum lines ≡ m →
+    turns_of l.statement ≡ 0 → turn_sum (lines ++ l ∷ []) ≡ m
+same_turn_sum lines l m h none =
+    let more = turn_sum_more lines l m h in omega arith
 
 -- a line that declares nothing
 record DeclaresNone (s : Statement) : Type 0 where
@@ -79,8 +106,10 @@ declares_none lines n s k h none =
       all_semaphores = given_none semaphore_of lines (numbered n s) k.semaphores (none.semaphore n)
           h.all_semaphores;
       all_queues = given_none queue_of lines (numbered n s) k.queues (none.queue n) h.all_queues;
-      no_schedule = no_schedule_more lines (numbered n s) h.no_schedule none.little.schedule;
-      no_turns = no_turns_more lines (numbered n s) h.no_turns (none.little.turns n);
+      schedule = schedule_more lines (numbered n s) k.scheduled h.schedule none.little.schedule;
+      all_turns = same_turns lines (numbered n s) k.turns h.all_turns (none.little.turns n);
+      turn_count = same_turn_sum lines (numbered n s) (length k.turns) h.turn_count
+          none.little.count;
     }
 
 declares_buffer : (lines : List Line) (n : ℕ) (name : List ℕ) (size : ℕ) (k : Kept) →
@@ -99,8 +128,9 @@ declares_buffer lines n name size k h =
           ∙ ap (λ m. m + size) h.all_bytes;
       all_semaphores = given_none semaphore_of lines l k.semaphores refl h.all_semaphores;
       all_queues = given_none queue_of lines l k.queues refl h.all_queues;
-      no_schedule = no_schedule_more lines l h.no_schedule refl;
-      no_turns = no_turns_more lines l h.no_turns refl;
+      schedule = schedule_more lines l k.scheduled h.schedule refl;
+      all_turns = same_turns lines l k.turns h.all_turns refl;
+      turn_count = same_turn_sum lines l (length k.turns) h.turn_count refl;
     }
 
 declares_semaphore : (lines : List Line) (n : ℕ) (name : List ℕ) (kind : SemaphoreKind)
@@ -116,8 +146,9 @@ declares_semaphore lines n name kind k h =
       all_bytes = h.all_bytes;
       all_semaphores = given_one semaphore_of lines l k.semaphores x refl h.all_semaphores;
       all_queues = given_none queue_of lines l k.queues refl h.all_queues;
-      no_schedule = no_schedule_more lines l h.no_schedule refl;
-      no_turns = no_turns_more lines l h.no_turns refl;
+      schedule = schedule_more lines l k.scheduled h.schedule refl;
+      all_turns = same_turns lines l k.turns h.all_turns refl;
+      turn_count = same_turn_sum lines l (length k.turns) h.turn_count refl;
     }
 
 declares_queue : (lines : List Line) (n : ℕ) (name : List ℕ) (mode : Mode) (k : Kept) →
@@ -133,15 +164,15 @@ declares_queue lines n name mode k h =
       all_bytes = h.all_bytes;
       all_semaphores = given_none semaphore_of lines l k.semaphores refl h.all_semaphores;
       all_queues = given_one queue_of lines l k.queues x refl h.all_queues;
-      no_schedule = no_schedule_more lines l h.no_schedule refl;
-      no_turns = no_turns_more lines l h.no_turns refl;
+      schedule = schedule_more lines l k.scheduled h.schedule refl;
+      all_turns = same_turns lines l k.turns h.all_turns refl;
+      turn_count = same_turn_sum lines l (length k.turns) h.turn_count refl;
     }
 
 -- Lines that declare
 
 -- a statement that is part of no batch and begins no job
 record StandsOutside (s : Statement) : Type 0 where
-  after : section_after Outside s ≡ Outside
   cut : (is_submit s || is_end s) ≡ false
   part : part_of s ≡ 0
   wait : is_wait s ≡ false
@@ -167,12 +198,18 @@ one_counted test lines l m h one =
 nothing : (b : Bool) → b ≡ false → 0 ≡ 0 + cond b 1 0
 nothing b h = ap (λ (x : Bool). 0 + cond x 1 0) (sym h)
 
+-- no batch is open
+none_open : {A : Type 0} → false ≡ true → A
+none_open h = absurd (cc)
+
 holds_outside : (lines : List Line) (n : ℕ) (s : Statement) (k next : Kept) → Holds lines k None →
-    StandsOutside s → Declares (with_line lines n s) next → next.jobs ≡ k.jobs →
+    StandsOutside s → section_after (section_of k.scheduled None) s ≡ section_of next.scheduled None →
+    Declares (with_line lines n s) next → next.jobs ≡ k.jobs →
     next.commands ≡ k.commands → Holds (with_line lines n s) next None
-holds_outside lines n s k next h out declares jobs commands =
+holds_outside lines n s k next h out part declares jobs commands =
     record {
-      part = section_more lines (numbered n s) Outside h.part ∙ out.after;
+      part = section_more lines (numbered n s) (section_of k.scheduled None) h.part ∙ part;
+      unscheduled = λ is. none_open is;
       declares = declares;
       all_jobs = same_count is_job lines (numbered n s) (length next.jobs + 0)
           (h.all_jobs ∙ ap (λ (js : List Job). length js + 0) (sym jobs)) out.job;
@@ -194,7 +231,6 @@ holds_outside lines n s k next h out declares jobs commands =
 outside_buffer : (name : List ℕ) (size : ℕ) → StandsOutside (DeclareBuffer name size)
 outside_buffer name size =
     record {
-      after = refl;
       cut = refl;
       part = refl;
       wait = refl;
@@ -210,7 +246,6 @@ outside_semaphore : (name : List ℕ) (kind : SemaphoreKind) →
     StandsOutside (DeclareSemaphore name kind)
 outside_semaphore name kind =
     record {
-      after = refl;
       cut = refl;
       part = refl;
       wait = refl;
@@ -225,7 +260,6 @@ outside_semaphore name kind =
 outside_queue : (name : List ℕ) (mode : Mode) → StandsOutside (DeclareQueue name mode)
 outside_queue name mode =
     record {
-      after = refl;
       cut = refl;
       part = refl;
       wait = refl;
@@ -243,7 +277,7 @@ holds_buffer : (lines : List Line) (n : ℕ) (name : List ℕ) (size : ℕ) (k :
     (with_buffer k (record { line = n; name = name; size = size })) None
 holds_buffer lines n name size k h =
     holds_outside lines n (DeclareBuffer name size) k
-    (with_buffer k (record { line = n; name = name; size = size })) h (outside_buffer name size)
+    (with_buffer k (record { line = n; name = name; size = size })) h (outside_buffer name size) refl
     (declares_buffer lines n name size k h.declares) refl refl
 
 holds_semaphore : (lines : List Line) (n : ℕ) (name : List ℕ) (kind : SemaphoreKind)
@@ -253,7 +287,7 @@ holds_semaphore : (lines : List Line) (n : ℕ) (name : List ℕ) (kind : Semaph
 holds_semaphore lines n name kind k h =
     holds_outside lines n (DeclareSemaphore name kind) k
     (with_semaphore k (record { line = n; name = name; kind = kind })) h
-    (outside_semaphore name kind) (declares_semaphore lines n name kind k h.declares) refl refl
+    (outside_semaphore name kind) refl (declares_semaphore lines n name kind k h.declares) refl refl
 
 holds_queue : (lines : List Line) (n : ℕ) (name : List ℕ) (mode : Mode) (k : Kept) →
     Holds lines k None →
@@ -261,8 +295,89 @@ holds_queue : (lines : List Line) (n : ℕ) (name : List ℕ) (mode : Mode) (k :
     (with_queue k (record { line = n; name = name; mode = mode })) None
 holds_queue lines n name mode k h =
     holds_outside lines n (DeclareQueue name mode) k
-    (with_queue k (record { line = n; name = name; mode = mode })) h (outside_queue name mode)
+    (with_queue k (record { line = n; name = name; mode = mode })) h (outside_queue name mode) refl
     (declares_queue lines n name mode k h.declares) refl refl
+
+-- Lines of the schedule
+
+outside_schedule : StandsOutside BeginSchedule
+outside_schedule =
+    record {
+      cut = refl;
+      part = refl;
+      wait = refl;
+      command = refl;
+      signal = refl;
+      fence = refl;
+      held = refl;
+      job = refl;
+      none = λ n rest. refl;
+    }
+
+outside_turns : (actor : ActorName) (count : ℕ) → StandsOutside (TakeTurns actor count)
+outside_turns actor count =
+    record {
+      cut = refl;
+      part = refl;
+      wait = refl;
+      command = refl;
+      signal = refl;
+      fence = refl;
+      held = refl;
+      job = refl;
+      none = λ n rest. refl;
+    }
+
+declares_schedule : (lines : List Line) (n : ℕ) (k : Kept) → Declares lines k →
+    Declares (with_line lines n BeginSchedule) (with_schedule k)
+declares_schedule lines n k h =
+    let l = numbered n BeginSchedule in
+    record {
+      version = version_more lines l h.version refl;
+      all_buffers = given_none buffer_of lines l k.buffers refl h.all_buffers;
+      all_bytes = h.all_bytes;
+      all_semaphores = given_none semaphore_of lines l k.semaphores refl h.all_semaphores;
+      all_queues = given_none queue_of lines l k.queues refl h.all_queues;
+      schedule = some_more is_schedule lines l ∙ or_true (some is_schedule lines);
+      all_turns = same_turns lines l k.turns h.all_turns refl;
+      turn_count = same_turn_sum lines l (length k.turns) h.turn_count refl;
+    }
+  where
+    or_true : (b : Bool) → (b || true) ≡ true
+    or_true true = refl
+    or_true false = refl
+
+declares_turns : (lines : List Line) (n : ℕ) (actor : ActorName) (count : ℕ) (k : Kept) →
+    Declares lines k → Declares (with_line lines n (TakeTurns actor count)) (with_turns k n actor count)
+declares_turns lines n actor count k h =
+    let l = numbered n (TakeTurns actor count) in
+    let turns : List Turn = replicate count (record { line = n; actor = actor }) in
+    let long : length (k.turns ++ turns) ≡ length k.turns + count =
+    length-append k.turns turns
+    ∙ ap (λ (m : ℕ). length k.turns + m) (length-replicate count (record { line = n; actor = actor })) in
+    record {
+      version = version_more lines l h.version refl;
+      all_buffers = given_none buffer_of lines l k.buffers refl h.all_buffers;
+      all_bytes = h.all_bytes;
+      all_semaphores = given_none semaphore_of lines l k.semaphores refl h.all_semaphores;
+      all_queues = given_none queue_of lines l k.queues refl h.all_queues;
+      schedule = schedule_more lines l k.scheduled h.schedule refl;
+      all_turns = turns_more lines l k.turns turns h.all_turns refl;
+      turn_count = turn_sum_more lines l (length k.turns) h.turn_count ∙ sym long;
+    }
+
+holds_schedule : (lines : List Line) (n : ℕ) (k : Kept) → Holds lines k None →
+    Holds (with_line lines n BeginSchedule) (with_schedule k) None
+holds_schedule lines n k h =
+    holds_outside lines n BeginSchedule k (with_schedule k) h outside_schedule refl
+    (declares_schedule lines n k h.declares) refl refl
+
+holds_turns : (lines : List Line) (n : ℕ) (actor : ActorName) (count : ℕ) (k : Kept) →
+    Holds lines k None →
+    Holds (with_line lines n (TakeTurns actor count)) (with_turns k n actor count) None
+holds_turns lines n actor count k h =
+    holds_outside lines n (TakeTurns actor count) k (with_turns k n actor count) h
+    (outside_turns actor count) refl (declares_turns lines n actor count k h.declares) refl refl
 
 -- Lines of a batch
 
@@ -280,18 +395,19 @@ queue_more lines l was h =
 none_begun : (queue : ℕ) → DeclaresNone (BeginBatch queue)
 none_begun queue =
     record {
-      little = record { version = λ n. refl; schedule = refl; turns = λ n. refl };
+      little = record { version = λ n. refl; schedule = refl; turns = λ n. refl; count = refl };
       buffer = λ n. refl;
       semaphore = λ n. refl;
       queue = λ n. refl;
     }
 
 holds_submit : (lines : List Line) (n queue : ℕ) (k : Kept) → Holds lines k None →
-    Holds (with_line lines n (BeginBatch queue)) k (Some (started n queue))
-holds_submit lines n queue k h =
+    k.scheduled ≡ false → Holds (with_line lines n (BeginBatch queue)) k (Some (started n queue))
+holds_submit lines n queue k h before =
     let l = numbered n (BeginBatch queue) in
     record {
-      part = section_more lines l Outside h.part;
+      part = section_more lines l (section_of k.scheduled None) h.part;
+      unscheduled = λ is. before;
       declares = declares_none lines n (BeginBatch queue) k h.declares (none_begun queue);
       all_jobs = one_counted is_job lines l (length k.jobs + 0) h.all_jobs refl
           ∙ (let long : length k.jobs + 0 + 1 ≡ length k.jobs + 1 = omega arith in long);
@@ -334,6 +450,7 @@ holds_inside lines n s k commands b c h stands queue fills counted goes =
     let l = numbered n s in
     record {
       part = section_more lines l InBatch h.part ∙ stands.after;
+      unscheduled = λ is. h.unscheduled refl;
       declares = (
           let d = declares_none lines n s k h.declares stands.declares in
           record {
@@ -342,8 +459,9 @@ holds_inside lines n s k commands b c h stands queue fills counted goes =
             all_bytes = d.all_bytes;
             all_semaphores = d.all_semaphores;
             all_queues = d.all_queues;
-            no_schedule = d.no_schedule;
-            no_turns = d.no_turns;
+            schedule = d.schedule;
+            all_turns = d.all_turns;
+            turn_count = d.turn_count;
           }
           );
       all_jobs = same_count is_job lines l (length k.jobs + 1) h.all_jobs stands.job;
@@ -368,7 +486,7 @@ inside_wait pair =
       none = λ n rest. refl;
       queue = λ was. refl;
       declares = record {
-        little = record { version = λ n. refl; schedule = refl; turns = λ n. refl };
+        little = record { version = λ n. refl; schedule = refl; turns = λ n. refl; count = refl };
         buffer = λ n. refl;
         semaphore = λ n. refl;
         queue = λ n. refl;
@@ -385,7 +503,7 @@ inside_command command =
       none = λ n rest. refl;
       queue = λ was. refl;
       declares = record {
-        little = record { version = λ n. refl; schedule = refl; turns = λ n. refl };
+        little = record { version = λ n. refl; schedule = refl; turns = λ n. refl; count = refl };
         buffer = λ n. refl;
         semaphore = λ n. refl;
         queue = λ n. refl;
@@ -402,7 +520,7 @@ inside_signal pair =
       none = λ n rest. refl;
       queue = λ was. refl;
       declares = record {
-        little = record { version = λ n. refl; schedule = refl; turns = λ n. refl };
+        little = record { version = λ n. refl; schedule = refl; turns = λ n. refl; count = refl };
         buffer = λ n. refl;
         semaphore = λ n. refl;
         queue = λ n. refl;
@@ -419,7 +537,7 @@ inside_fence fence =
       none = λ n rest. refl;
       queue = λ was. refl;
       declares = record {
-        little = record { version = λ n. refl; schedule = refl; turns = λ n. refl };
+        little = record { version = λ n. refl; schedule = refl; turns = λ n. refl; count = refl };
         buffer = λ n. refl;
         semaphore = λ n. refl;
         queue = λ n. refl;
@@ -493,7 +611,7 @@ holds_fence lines n fence b k h none =
 none_ended : DeclaresNone EndBatch
 none_ended =
     record {
-      little = record { version = λ n. refl; schedule = refl; turns = λ n. refl };
+      little = record { version = λ n. refl; schedule = refl; turns = λ n. refl; count = refl };
       buffer = λ n. refl;
       semaphore = λ n. refl;
       queue = λ n. refl;
@@ -519,7 +637,9 @@ holds_end : (lines : List Line) (n : ℕ) (b : Batch) (k : Kept) → Holds lines
 holds_end lines n b k h =
     let l = numbered n EndBatch in
     record {
-      part = section_more lines l InBatch h.part;
+      part = section_more lines l InBatch h.part
+          ∙ ap (λ (b : Bool). section_of b None) (sym (h.unscheduled refl));
+      unscheduled = λ is. none_open is;
       declares = (
           let d = declares_none lines n EndBatch k h.declares none_ended in
           record {
@@ -528,8 +648,9 @@ holds_end lines n b k h =
             all_bytes = d.all_bytes;
             all_semaphores = d.all_semaphores;
             all_queues = d.all_queues;
-            no_schedule = d.no_schedule;
-            no_turns = d.no_turns;
+            schedule = d.schedule;
+            all_turns = d.all_turns;
+            turn_count = d.turn_count;
           }
           );
       all_jobs = same_count is_job lines l (length k.jobs + 1) h.all_jobs refl
@@ -554,7 +675,9 @@ pub holds_after : (lines : List Line) (n : ℕ) (said : Said) (k : Kept) (batch 
 holds_after lines n (SaysBuffer name size) k None h m = holds_buffer lines n name.now size k h
 holds_after lines n (SaysSemaphore name kind) k None h m = holds_semaphore lines n name.now kind k h
 holds_after lines n (SaysQueue name mode) k None h m = holds_queue lines n name.now mode k h
-holds_after lines n (Submit q) k None h m = holds_submit lines n q k h
+holds_after lines n (Submit q) k None h m = holds_submit lines n q k h m
+holds_after lines n Schedule k None h m = holds_schedule lines n k h
+holds_after lines n (Turns actor count) k None h m = holds_turns lines n actor count k h
 holds_after lines n other k None h m = absurd m
 holds_after lines n (Wait pair) k (Some b) h m = holds_wait lines n pair b k h m
 holds_after lines n (FillWhole x o w) k (Some b) h m = holds_command lines n _ b k h m.in_order

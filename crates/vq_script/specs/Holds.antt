@@ -1,6 +1,6 @@
 -- What the parser keeps of the lines that it has read.
-use Rattle.std.specs.Prelude.{ℕ, ◌≡◌, ◌+◌, ◌≤◌, Bool, nat_lt, false, List, [], ◌∷◌, ◌++◌, length, map, sum, Option}
-use Rattle.std.specs.Prelude.{Some, None, is_some, if◌then◌else◌}
+use Rattle.std.specs.Prelude.{ℕ, ◌≡◌, ◌+◌, ◌≤◌, Bool, nat_lt, true, false, List, [], ◌∷◌, ◌++◌, length, map, sum, Option}
+use Rattle.std.specs.Prelude.{Some, None, is_some, if◌then◌else◌, replicate}
 use Rattle.std.specs.List.{filter_map, flat_map}
 use Rattle.std.specs.Option.{option_or}
 use Rattle.vq_model.specs.declared.script.Buffer.{Buffer}
@@ -10,14 +10,16 @@ use Rattle.vq_model.specs.declared.script.Batch.{Batch}
 use Rattle.vq_model.specs.declared.script.CommandLine.{CommandLine}
 use Rattle.vq_model.specs.declared.script.Mark.{Mark}
 use Rattle.vq_model.specs.declared.script.Job.{Job}
+use Rattle.vq_model.specs.declared.script.ActorName.{ActorName}
+use Rattle.vq_model.specs.declared.script.Turn.{Turn}
 use Rattle.vq_model.specs.declared.script.Job.TheVariants.{Batch as BatchJob}
 use Rattle.vq_model.specs.declared.statement.Line.{Line}
 use Rattle.vq_model.specs.declared.statement.Statement.{Statement}
 use Rattle.vq_model.specs.declared.statement.Statement.TheVariants.{AddWait}
 use Rattle.vq_model.specs.declared.statement.Section.{Section}
-use Rattle.vq_model.specs.declared.statement.Section.TheVariants.{Outside, InBatch}
+use Rattle.vq_model.specs.declared.statement.Section.TheVariants.{Outside, InBatch, InSchedule}
 use Rattle.vq_model.specs.Context.{section, version_of, buffers, semaphores, queues, count, some, open_batch}
-use Rattle.vq_model.specs.Context.{last_queue, is_command, is_wait, is_signal, is_batch_fence}
+use Rattle.vq_model.specs.Context.{last_queue, is_command, is_wait, is_signal, is_batch_fence, turns_of}
 use Rattle.vq_model.specs.Limits.{is_job}
 use Rattle.vq_model.specs.LineFaults.{part_of}
 use Rattle.vq_model.specs.ScriptOfLines.{batch_lines, wait_of, command_of, signal_of, fence_of, first_of_list, jobs_of}
@@ -36,6 +38,9 @@ pub record Kept : Type 0 where
   pub jobs : List Job
   -- the commands of all batches together
   pub commands : ℕ
+  -- whether the schedule has begun, and its turns
+  pub scheduled : Bool
+  pub turns : List Turn
 
 abbrev pub kept : Known → Kept
 kept known =
@@ -46,6 +51,8 @@ kept known =
       queues = known.queues.items;
       jobs = known.jobs.items;
       commands = known.commands;
+      scheduled = known.scheduled;
+      turns = known.turns.items;
     }
 
 -- what is kept after a line more
@@ -65,6 +72,13 @@ with_command k = record k { commands = k.commands + 1 }
 abbrev pub with_batch : Kept → Batch → Kept
 with_batch k b = record k { jobs = k.jobs ++ BatchJob b ∷ [] }
 
+abbrev pub with_schedule : Kept → Kept
+with_schedule k = record k { scheduled = true }
+
+abbrev pub with_turns : Kept → ℕ → ActorName → ℕ → Kept
+with_turns k n actor count =
+    record k { turns = k.turns ++ replicate count (record { line = n; actor = actor }) }
+
 -- The open batch
 
 -- an open batch, as if it ended here
@@ -83,10 +97,11 @@ abbrev pub open_so_far : Option OpenBatch → Option Batch
 open_so_far None = None
 open_so_far (Some b) = Some (batch_so_far b)
 
--- the part of the text in which the next line stands
-abbrev pub section_of : Option Batch → Section
-section_of None = Outside
-section_of (Some b) = InBatch
+-- the part of the text in which the next line stands, by whether the schedule has begun
+abbrev pub section_of : Bool → Option Batch → Section
+section_of scheduled (Some b) = InBatch
+section_of true None = InSchedule
+section_of false None = Outside
 
 abbrev pub waits_of : Option Batch → List Mark
 waits_of None = []
@@ -149,15 +164,16 @@ jobs_with (Some b) rest =
     }
     ) ∷ jobs_of rest
 
--- Lines declare what is kept of them, in version 1 and without a schedule.
+-- Lines declare and schedule what is kept of them, in version 1.
 pub record Declares (lines : List Line) (k : Kept) : Type 0 where
   pub version : version_of lines ≡ 1
   pub all_buffers : buffers lines ≡ k.buffers
   pub all_bytes : sum (map (λ b. b.size) k.buffers) ≡ k.bytes
   pub all_semaphores : semaphores lines ≡ k.semaphores
   pub all_queues : queues lines ≡ k.queues
-  pub no_schedule : some is_schedule lines ≡ false
-  pub no_turns : flat_map turns_at lines ≡ []
+  pub schedule : some is_schedule lines ≡ k.scheduled
+  pub all_turns : flat_map turns_at lines ≡ k.turns
+  pub turn_count : sum (map (λ line. turns_of line.statement) lines) ≡ length k.turns
 
 -- The lines of the open batch so far are those of this batch.
 pub record FillBatch (inside : List Line) (batch : Option Batch) : Type 0 where
@@ -171,7 +187,9 @@ pub record FillBatch (inside : List Line) (batch : Option Batch) : Type 0 where
 
 -- Lines say what is kept of them, and leave this batch open.
 pub record Holds (lines : List Line) (k : Kept) (batch : Option Batch) : Type 0 where
-  pub part : section lines ≡ section_of batch
+  pub part : section lines ≡ section_of k.scheduled batch
+  -- no batch is open in the schedule
+  pub unscheduled : is_some batch ≡ true → k.scheduled ≡ false
   pub declares : Declares lines k
   pub all_jobs : count is_job lines ≡ length k.jobs + open_jobs batch
   pub all_commands : count is_command lines ≡ k.commands

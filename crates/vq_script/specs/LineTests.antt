@@ -1,8 +1,9 @@
 -- The tests of a line, over what the parser keeps of the lines before it.
 use Rattle.std.specs.Prelude.{ℕ, ◌+◌, Bool, true, false, ◌&&◌, ◌||◌, not, cond, length, nat_lt, is_some, List, []}
-use Rattle.std.specs.Prelude.{Option, Some, None}
-use Rattle.std.specs.List.{list_all, slice_get}
-use Rattle.std.specs.Option.{option_map_or}
+use Rattle.std.specs.Prelude.{Option, Some, None, codes, drop, if◌then◌else◌}
+use Rattle.std.specs.List.{list_all, position, slice_get}
+use Rattle.std.specs.Option.{option_map, option_map_or}
+use Rattle.std.specs.Str.{bytes_eq}
 use Rattle.vq_model.specs.declared.script.Batch.{Batch}
 use Rattle.vq_model.specs.declared.script.Command.{Command}
 use Rattle.vq_model.specs.declared.script.Command.TheVariants.{Fill, Update, Copy}
@@ -15,15 +16,19 @@ use Rattle.vq_model.specs.declared.statement.LineForm.TheVariants.{WaitTimelineL
 use Rattle.vq_model.specs.declared.statement.Statement.{Statement}
 use Rattle.vq_model.specs.declared.statement.Statement.TheVariants.{AddWait, AddCommand, AddSignal, BeginBatch}
 use Rattle.vq_model.specs.declared.statement.Statement.TheVariants.{DeclareBuffer, DeclareSemaphore, DeclareQueue}
+use Rattle.vq_model.specs.declared.statement.Statement.TheVariants.{TakeTurns}
+use Rattle.vq_model.specs.declared.script.ActorName.{ActorName}
+use Rattle.vq_model.specs.declared.script.ActorName.TheVariants.{Host as HostActor, Submit as SubmitActor}
+use Rattle.vq_model.specs.declared.script.ActorName.TheVariants.{Ring as RingActor}
 use Rattle.vq_model.specs.Context.{is_immediate}
-use Rattle.vq_model.specs.Forms.{Slot, NewName, BufferName, TimelineName, BinaryName, FenceName, QueueName}
+use Rattle.vq_model.specs.Forms.{Slot, NewName, BufferName, TimelineName, BinaryName, FenceName, QueueName, Actor}
 use Rattle.vq_model.specs.Limits.{limits_of, passes_limit}
 use Rattle.vq_model.specs.LineFaults.{is_shaped, is_declaration, part_of_form, is_batch_fence_form, is_in_range}
 use Rattle.vq_model.specs.LineFaults.{overlaps}
-use Rattle.vq_model.specs.Meaning.{is_built}
+use Rattle.vq_model.specs.Meaning.{is_built, is_marked}
 use Rattle.vq_model.specs.Ranges.{is_aligned}
 use Rattle.vq_script.specs.Holds.{Kept, last_part, named_fence, waits_of, commands_of, signals_of}
-use Rattle.vq_script.specs.Names.{number_in_lists, is_taken}
+use Rattle.vq_script.specs.Names.{names_threaded, number_in_lists, is_taken}
 
 -- Syntax
 
@@ -51,13 +56,24 @@ is_late k batch form =
 unfoldable pub number_of : Kept → Slot → List ℕ → Option ℕ
 number_of k place name = number_in_lists k.buffers k.semaphores k.queues place name
 
--- no form with an actor is read yet
+-- the number of the threaded queue that has this name
+unfoldable pub threaded_of : Kept → List ℕ → Option ℕ
+threaded_of k name = position (names_threaded name) k.queues
+
+-- the actor of a word
+abbrev pub actor_in : Kept → List ℕ → Option ActorName
+actor_in k word =
+    if bytes_eq word (codes "host") then Some HostActor
+    else if is_marked 83 word then option_map (λ q. SubmitActor q) (threaded_of k (drop 2 word))
+    else option_map (λ q. RingActor q) (number_of k QueueName (drop 2 word))
+
 abbrev pub is_known_in : Kept → Slot × List ℕ → Bool
 is_known_in k (BufferName, word) = is_some (number_of k BufferName word)
 is_known_in k (TimelineName, word) = is_some (number_of k TimelineName word)
 is_known_in k (BinaryName, word) = is_some (number_of k BinaryName word)
 is_known_in k (FenceName, word) = is_some (number_of k FenceName word)
 is_known_in k (QueueName, word) = is_some (number_of k QueueName word)
+is_known_in k (Actor, word) = is_some (actor_in k word)
 is_known_in k (other, word) = true
 
 abbrev pub is_new_in : Kept → Slot × List ℕ → Bool
@@ -94,6 +110,7 @@ abbrev pub is_in_range_in : Kept → Statement → Bool
 is_in_range_in k (DeclareBuffer name size) = nat_lt 0 size
 is_in_range_in k (AddCommand command) = is_command_in k command
 is_in_range_in k (AddWait pair from) = nat_lt 0 from && nat_lt from 66
+is_in_range_in k (TakeTurns actor count) = nat_lt 0 count
 is_in_range_in k other = true
 
 -- Limit
@@ -111,6 +128,7 @@ passes_in k b (AddCommand command) =
     not (nat_lt k.commands (limits_of 1).commands)
     || not (nat_lt (length (commands_of b)) (limits_of 1).batch_commands)
 passes_in k b (AddSignal pair) = not (nat_lt (length (signals_of b)) (limits_of 1).signals)
+passes_in k b (TakeTurns actor count) = nat_lt (limits_of 1).turns (length k.turns + count)
 passes_in k b other = false
 
 -- the first kind of the faults that words which are read, and what they say, have

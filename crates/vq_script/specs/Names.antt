@@ -11,7 +11,8 @@ use Rattle.vq_model.specs.declared.script.Semaphore.{Semaphore}
 use Rattle.vq_model.specs.declared.script.SemaphoreKind.{SemaphoreKind}
 use Rattle.vq_model.specs.declared.script.SemaphoreKind.TheVariants.{Timeline, Binary, Fence}
 use Rattle.vq_model.specs.declared.script.Queue.{Queue}
-use Rattle.vq_model.specs.Context.{is_timeline, is_binary, is_fence}
+use Rattle.vq_model.specs.declared.script.Mode.TheVariants.{Threaded}
+use Rattle.vq_model.specs.Context.{is_timeline, is_binary, is_fence, is_threaded}
 use Rattle.vq_model.specs.Forms.{Slot, BufferName, TimelineName, BinaryName, FenceName, QueueName}
 use Rattle.vq_script.specs.declared.named_item.NamedItem.{NamedItem}
 use Rattle.vq_script.specs.declared.named_item.NamedItem.TheVariants.{Buffer as BufferAt, Timeline as TimelineAt}
@@ -34,8 +35,13 @@ number_in BufferName (Some (BufferAt n)) = Some n
 number_in TimelineName (Some (TimelineAt n)) = Some n
 number_in BinaryName (Some (BinaryAt n)) = Some n
 number_in FenceName (Some (FenceAt n)) = Some n
-number_in QueueName (Some (QueueAt n)) = Some n
+number_in QueueName (Some (QueueAt n mode)) = Some n
 number_in place other = None
+
+-- .. if it is a threaded queue
+abbrev pub threaded_in : Option NamedItem → Option ℕ
+threaded_in (Some (QueueAt n Threaded)) = Some n
+threaded_in other = None
 
 -- whether a buffer, a queue, or a semaphore or fence of a kind has this name
 abbrev pub names_buffer : List ℕ → Buffer → Bool
@@ -52,6 +58,9 @@ names_fence name s = bytes_eq name s.name && is_fence s.kind
 
 abbrev pub names_queue : List ℕ → Queue → Bool
 names_queue name q = bytes_eq name q.name
+
+abbrev pub names_threaded : List ℕ → Queue → Bool
+names_threaded name q = bytes_eq name q.name && is_threaded q.mode
 
 -- the number of what has this name, of the kind that a place needs
 abbrev pub number_in_lists : List Buffer → List Semaphore → List Queue → Slot → List ℕ → Option ℕ

@@ -1,6 +1,6 @@
 -- The words at the open places of a line, wherever they lie.
-use Rattle.std.specs.Prelude.{ℕ, Bool, true, false, List, map, [], ◌∷◌}
-use Rattle.vq_model.specs.Forms.{Slot, Fixed, Actor}
+use Rattle.std.specs.Prelude.{ℕ, List, map, [], ◌∷◌}
+use Rattle.vq_model.specs.Forms.{Slot, Fixed}
 use Rattle.vq_script.specs.Table.{place_of}
 use Rattle.vq_script.specs.declared.open_words.OpenWord.{OpenWord}
 
@@ -14,8 +14,3 @@ opens words = map open_of words
 abbrev pub opened : Slot → List ℕ → List (Slot × List ℕ)
 opened (Fixed text) given = []
 opened place given = (place, given) ∷ []
-
--- a place that isn't an actor's
-abbrev pub is_no_actor : Slot → Bool
-is_no_actor Actor = false
-is_no_actor other = true

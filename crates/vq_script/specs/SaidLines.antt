@@ -1,7 +1,6 @@
 -- What a line says, before it is kept, and what is kept after it.
 use Rattle.std.specs.Prelude.{ℕ, cond, ◌≡◌, ◌+◌, ◌<◌, ◌≤◌, ◌^◌, Bool, true, false, nat_lt, List, [], ◌∷◌, ◌++◌, length}
 use Rattle.std.specs.Prelude.{Option, Some, None, is_some, map, ⊤}
-use Rattle.std.specs.List.{list_all}
 use Rattle.std.specs.Option.{option_map}
 use Rattle.vq_model.specs.declared.script.Batch.{Batch}
 use Rattle.vq_model.specs.declared.script.Command.{Command}
@@ -13,11 +12,11 @@ use Rattle.vq_model.specs.declared.statement.LineForm.TheVariants.{BufferLine, T
 use Rattle.vq_model.specs.declared.statement.LineForm.TheVariants.{QueueLine, UpdateLine, SubmitLine, WaitTimelineLine}
 use Rattle.vq_model.specs.declared.statement.LineForm.TheVariants.{WaitBinaryLine, SignalTimelineLine, SignalBinaryLine}
 use Rattle.vq_model.specs.declared.statement.LineForm.TheVariants.{BatchFenceLine, EndLine, FillWholeLine, FillLine}
-use Rattle.vq_model.specs.declared.statement.LineForm.TheVariants.{CopyLine}
+use Rattle.vq_model.specs.declared.statement.LineForm.TheVariants.{CopyLine, ScheduleLine, TurnLine, TurnsLine}
 use Rattle.vq_model.specs.declared.statement.Statement.{Statement}
 use Rattle.vq_model.specs.declared.statement.Statement.TheVariants.{AddWait, AddCommand, AddSignal, AddFence}
 use Rattle.vq_model.specs.declared.statement.Statement.TheVariants.{BeginBatch, EndBatch, DeclareBuffer}
-use Rattle.vq_model.specs.declared.statement.Statement.TheVariants.{DeclareSemaphore, DeclareQueue}
+use Rattle.vq_model.specs.declared.statement.Statement.TheVariants.{DeclareSemaphore, DeclareQueue, BeginSchedule, TakeTurns}
 use Rattle.vq_model.specs.Forms.{Slot, NewName, BufferName, TimelineName, BinaryName, FenceName, QueueName, HexDigits}
 use Rattle.vq_model.specs.Forms.{Fixed, Pairs, places}
 use Rattle.vq_model.specs.Limits.{limits_of}
@@ -29,11 +28,11 @@ use Rattle.vq_model.specs.Text.{is_name, numeral}
 use Rattle.vq_script.specs.declared.said.Said.{Said}
 use Rattle.vq_script.specs.declared.said.Said.TheVariants.{Buffer, Semaphore, Queue, Submit, Wait, FillWhole}
 use Rattle.vq_script.specs.declared.said.Said.TheVariants.{Fill as SaidFill, Update as SaidUpdate, Copy as SaidCopy}
-use Rattle.vq_script.specs.declared.said.Said.TheVariants.{Signal, Fence, End}
+use Rattle.vq_script.specs.declared.said.Said.TheVariants.{Signal, Fence, End, Schedule, Turns}
 use Rattle.vq_script.specs.Holds.{Kept, last_part, with_buffer, with_semaphore, with_queue, with_command, with_batch}
-use Rattle.vq_script.specs.LineTests.{number_of}
+use Rattle.vq_script.specs.Holds.{with_schedule, with_turns}
+use Rattle.vq_script.specs.LineTests.{number_of, actor_in}
 use Rattle.vq_script.specs.Names.{is_taken}
-use Rattle.vq_script.specs.OpenWords.{is_no_actor}
 
 abbrev pub statement_in : Said → Statement
 statement_in (Buffer name size) = DeclareBuffer name.now size
@@ -48,6 +47,8 @@ statement_in (SaidCopy s from t to n) = AddCommand (Copy s from t to n)
 statement_in (Signal pair) = AddSignal pair
 statement_in (Fence f) = AddFence f
 statement_in End = EndBatch
+statement_in Schedule = BeginSchedule
+statement_in (Turns actor count) = TakeTurns actor count
 
 -- The words of a form
 
@@ -81,10 +82,21 @@ end_with_pairs (place ∷ more) = end_with_pairs more
 abbrev pub AreFound : LineForm → List (Slot × List ℕ) → Type 0
 AreFound form words = end_with_pairs (places form) ≡ false → AreOf form words
 
--- A form stands where a batch is open, or where none is. No form with an actor is read yet.
-pub record Stands (form : LineForm) (batch : Option Batch) : Type 0 where
+-- whether a form is one of the schedule's turns
+abbrev pub is_turn_form : LineForm → Bool
+is_turn_form TurnLine = true
+is_turn_form TurnsLine = true
+is_turn_form other = false
+
+-- whether turns stand where the next line stands
+abbrev pub takes_turns : Bool → Option Batch → Bool
+takes_turns scheduled None = scheduled
+takes_turns scheduled (Some b) = false
+
+-- A form stands where a batch is open, or where none is; in the schedule, or before it.
+pub record Stands (form : LineForm) (scheduled : Bool) (batch : Option Batch) : Type 0 where
   pub inside : nat_lt 0 (part_of_form form) ≡ is_some batch
-  pub no_actor : list_all is_no_actor (open_kinds (places form)) ≡ true
+  pub turns : is_turn_form form ≡ takes_turns scheduled batch
 
 -- the part of a batch to which a line belongs
 abbrev pub part_in : Said → ℕ
@@ -97,6 +109,11 @@ part_in (Signal pair) = 3
 part_in (Fence f) = 4
 part_in End = 5
 part_in other = 0
+
+-- whether turns are taken
+abbrev pub turns_in : Said → Bool
+turns_in (Turns actor count) = true
+turns_in other = false
 
 -- the word that is kept as it stands, with its place: a name that is declared, or digits
 abbrev pub copied_in : Said → Option (Slot × List ℕ)
@@ -148,6 +165,9 @@ named_in k SignalTimelineLine (name ∷ value ∷ []) =
 named_in k SignalBinaryLine (name ∷ []) =
     option_map (λ s. AddSignal (binary_pair s)) (number_of k BinaryName name)
 named_in k BatchFenceLine (name ∷ []) = option_map (λ f. AddFence f) (number_of k FenceName name)
+named_in k TurnLine (actor ∷ []) = option_map (λ a. TakeTurns a 1) (actor_in k actor)
+named_in k TurnsLine (actor ∷ turns ∷ []) =
+    of_two (λ a n. TakeTurns a n) (actor_in k actor) (numeral turns)
 named_in k form words = statement_of [] form words
 
 -- words are read, and say this
@@ -165,9 +185,17 @@ is_batch_line BatchFenceLine = true
 is_batch_line EndLine = true
 is_batch_line other = false
 
+-- the forms of the schedule, and the form that begins it
+abbrev pub is_schedule_line : LineForm → Bool
+is_schedule_line ScheduleLine = true
+is_schedule_line TurnLine = true
+is_schedule_line TurnsLine = true
+is_schedule_line other = false
+
 -- A line says something that suits its form and its words.
 pub record Suits (form : LineForm) (words : List (Slot × List ℕ)) (said : Said) : Type 0 where
   pub part : part_in said ≡ part_of_form form
+  pub turns : turns_in said ≡ is_turn_form form
   pub copies : copied_in said ≡ copied form (map (λ x. x.1) words)
 
 -- offsets and sizes that have 32 bits
@@ -196,7 +224,9 @@ MayKeep k None (Buffer name size) =
 MayKeep k None (Semaphore name kind) =
     IsNewName k name.now × (length k.semaphores < (limits_of 1).semaphores)
 MayKeep k None (Queue name mode) = IsNewName k name.now × (length k.queues < (limits_of 1).queues)
-MayKeep k None (Submit queue) = ⊤
+MayKeep k None (Submit queue) = k.scheduled ≡ false
+MayKeep k None Schedule = ⊤
+MayKeep k None (Turns actor count) = length k.turns + count ≤ (limits_of 1).turns
 MayKeep k (Some b) (Wait pair) = nat_lt 1 (last_part (Some b)) ≡ false
 MayKeep k (Some b) (FillWhole buffer o w) = MayCommand k b
 MayKeep k (Some b) (SaidFill buffer o n w) = MayCommand k b
@@ -251,4 +281,6 @@ after n (AddCommand command) k (Some b) = (with_command k, Some (commanding b n 
 after n (AddSignal pair) k (Some b) = (k, Some (signaling b n pair))
 after n (AddFence fence) k (Some b) = (k, Some (fenced b n fence))
 after n EndBatch k batch = ended k batch
+after n BeginSchedule k batch = (with_schedule k, batch)
+after n (TakeTurns actor count) k batch = (with_turns k n actor count, batch)
 after n other k batch = (k, batch)

@@ -1,9 +1,10 @@
 -- The places of the code's table, as the places of the definitions.
-use Rattle.std.specs.Prelude.{ℕ, List, map, Bool, true, false, [], ◌∷◌}
+use Rattle.std.specs.Prelude.{ℕ, List, map, Bool, true, false, [], ◌∷◌, ◌++◌}
 use Rattle.std.specs.Str.{bytes_eq}
 use Rattle.vq_model.specs.Forms.{Slot, Fixed, NewName, BufferName, TimelineName, BinaryName, FenceName, QueueName}
 use Rattle.vq_model.specs.Forms.{Numeral, SmallNumeral, HexDigits, Actor, Pairs, forms_outside, forms_in_batch}
-use Rattle.vq_model.specs.Forms.{forms_in_schedule}
+use Rattle.vq_model.specs.Forms.{forms_in_schedule, schedule_forms}
+use Rattle.vq_model.specs.declared.statement.Form.{Form}
 use Rattle.vq_model.specs.declared.statement.LineForm.{LineForm}
 use Rattle.vq_model.specs.declared.statement.Section.{Section}
 use Rattle.vq_model.specs.declared.statement.Section.TheVariants.{Outside, InBatch, InSchedule}
@@ -29,11 +30,11 @@ place_of PairTokens = Pairs
 abbrev pub places_of : List Token → List Slot
 places_of tokens = map place_of tokens
 
--- the forms of a part of a text, in version 1 and without a schedule
-abbrev pub forms_of : Section → List LineForm
-forms_of Outside = forms_outside
-forms_of InBatch = forms_in_batch
-forms_of InSchedule = forms_in_schedule
+-- the forms of a part of a text, in version 1
+abbrev pub forms_of : Form → Section → List LineForm
+forms_of form Outside = forms_outside ++ schedule_forms form
+forms_of form InBatch = forms_in_batch
+forms_of form InSchedule = forms_in_schedule
 
 -- pairs alone are left
 abbrev pub are_pairs : List Slot → Bool

@@ -12,7 +12,7 @@ use crate::open_batch::OpenBatch;
 use crate::said::Said;
 use std::alloc::{AllocError, Global};
 use vq_model::list::Bytes;
-use vq_model::script::{Buffer, Command, FillSize, Job, Queue, Semaphore};
+use vq_model::script::{Buffer, Command, FillSize, Job, Queue, Semaphore, Turn};
 
 impl Known {
     /// Adds what a line without a fault says.
@@ -137,6 +137,17 @@ impl Known {
                 Ok(())
             }
             Said::End => self.end_batch(),
+            Said::Schedule => {
+                self.scheduled = true;
+                Ok(())
+            }
+            Said::Turns { actor, count } => {
+                let turn = Turn {
+                    line: number,
+                    actor,
+                };
+                self.add_turns(turn, count)
+            }
         }
     }
 

@@ -2,19 +2,20 @@
 ghost use Rattle.std.specs.Prelude.{◌≡◌, ◌+◌, ◌<◌, ◌≤◌, ◌||◌, ◌++◌, ◌∷◌, [], ℕ, List, nat_lt, length, false, is_some};
 ghost use Rattle.std.specs.Prelude.{not, OnOk};
 ghost use Rattle.std.specs.Option.{option_map_or};
-ghost use Rattle.std.specs.List.{slice_get};
+ghost use Rattle.std.specs.List.{position, slice_get};
 ghost use Rattle.vq_model.specs.Forms.{Slot};
 ghost use Rattle.vq_model.specs.Limits.{limits_of};
-ghost use Rattle.vq_script.specs.Names.{item_of, number_in, number_in_lists, is_taken};
+ghost use Rattle.vq_script.specs.Names.{item_of, number_in, number_in_lists, is_taken, names_threaded, threaded_in};
 
 use crate::limits;
 use crate::named_item::{NamedItem, semaphore_item};
+use crate::names::{after_mark, is_marked};
 use crate::open_batch::OpenBatch;
 use crate::table::Token;
 use std::alloc::{AllocError, Global};
 use std::collections::BTreeMap;
 use vq_model::list::List;
-use vq_model::script::{Buffer, Job, Mode, Queue, Script, Semaphore};
+use vq_model::script::{ActorName, Buffer, Job, Mode, Queue, Script, Semaphore, Turn};
 use vq_model::statement::Section;
 
 /// What the lines so far declare and submit.
@@ -30,8 +31,12 @@ pub struct Known {
     pub jobs: Vec<Job>,
     /// The commands of all batches together.
     pub commands: u32,
-    /// The batch that is open.
+    /// The batch that is open. None is open in the schedule.
     pub batch: Option<OpenBatch>,
+    /// Whether the schedule has begun.
+    pub scheduled: bool,
+    /// The turns of the schedule so far.
+    pub turns: Vec<Turn>,
     /// What each declared name stands for.
     names: BTreeMap<Vec<u8>, NamedItem>,
     ghost few_bytes: { bytes ≤ (limits_of 1).bytes },
@@ -40,6 +45,9 @@ pub struct Known {
     ghost few_queues: { length queues.items ≤ (limits_of 1).queues },
     ghost all_names: { (place : Slot) (name : List ℕ) → number_in place (item_of names name)
         ≡ number_in_lists buffers.items semaphores.items queues.items place name },
+    ghost few_turns: { length turns.items ≤ (limits_of 1).turns },
+    ghost threaded_names: { (name : List ℕ) → threaded_in (item_of names name)
+        ≡ position (names_threaded name) queues.items },
 }
 
 impl Known {
@@ -49,8 +57,8 @@ impl Known {
     ghost use Rattle.vq_model.specs.declared.statement.Line.{Line};
     ghost use Rattle.vq_script.specs.Holds.{Holds, Keeps, kept, last_part, named_fence, waits_of, commands_of};
     ghost use Rattle.vq_script.specs.Holds.{signals_of, open_so_far, section_of, with_buffer, with_semaphore};
-    ghost use Rattle.vq_script.specs.Holds.{with_queue};
-    ghost use Rattle.vq_script.specs.LineTests.{is_immediate_in, number_of, size_in};
+    ghost use Rattle.vq_script.specs.Holds.{with_queue, with_turns};
+    ghost use Rattle.vq_script.specs.LineTests.{is_immediate_in, number_of, threaded_of, actor_in, size_in};
     ghost use Rattle.vq_script.specs.Table.{place_of};
 
     /// What no lines declare and submit.
@@ -65,12 +73,14 @@ impl Known {
             jobs: Vec::new(alloc),
             commands: 0,
             batch: None,
+            scheduled: false,
+            turns: Vec::new(alloc),
             names: BTreeMap::new(alloc),
         }
     }
 
     /// The script of lines outside a batch.
-    pub fn into_script(self, alloc: Global) -> Script
+    pub fn into_script(self) -> Script
         ensures { (lines : List Line) → Holds lines (kept self) None → result ≡ script_of lines }
     {
         Script {
@@ -79,16 +89,17 @@ impl Known {
             semaphores: List::of(self.semaphores),
             queues: List::of(self.queues),
             jobs: List::of(self.jobs),
-            scheduled: false,
-            turns: List::of(Vec::new(alloc)),
+            scheduled: self.scheduled,
+            turns: List::of(self.turns),
         }
     }
 
     /// The part of the text in which the next line stands.
     pub fn section(&self) -> Section
-        ensures { result ≡ section_of (open_so_far self.now.batch) }
+        ensures { result ≡ section_of self.now.scheduled (open_so_far self.now.batch) }
     {
         match self.batch {
+            None if self.scheduled => Section::InSchedule,
             None => Section::Outside,
             Some(_) => Section::InBatch,
         }
@@ -100,6 +111,30 @@ impl Known {
         ensures { result ≡ number_of (kept self.now) (place_of place) name.now }
     {
         self.names.get(name)?.number(place)
+    }
+
+    /// The number of the threaded queue that has this name.
+    #[tactic(auto, unfolding(crate::specs::LineTests::threaded_of))]
+    fn threaded(&self, name: &[u8]) -> Option<u32>
+        ensures { result ≡ threaded_of (kept self.now) name.now }
+    {
+        self.names.get(name)?.threaded()
+    }
+
+    /// The actor of the schedule that a word names: the host, or after a letter and a colon the
+    /// thread of a threaded queue or the device's side of a queue.
+    pub fn actor(&self, word: &[u8]) -> Option<ActorName>
+        ensures { result ≡ actor_in (kept self.now) word.now }
+    {
+        if word == b"host".as_slice() {
+            return Some(ActorName::Host);
+        }
+        let name = after_mark(word);
+        if is_marked(b'S', word) {
+            Some(ActorName::Submit(self.threaded(name)?))
+        } else {
+            Some(ActorName::Ring(self.number_of(Token::QueueToken, name)?))
+        }
     }
 
     /// Whether something that is declared has this name.
@@ -250,10 +285,33 @@ impl Known {
         ensures open { self.new.batch ≡ self.old.batch }
     {
         let name = Vec::from_slice(alloc, queue.name.as_slice())?;
-        let item = NamedItem::Queue(self.queues.len() as u32);
+        let item = NamedItem::Queue(self.queues.len() as u32, queue.mode);
         self.queues.reserve(1)?;
         self.names.insert(name, item)?;
         self.queues.push_reserved(queue);
+        Ok(())
+    }
+
+    /// Adds turns of one actor, of which there are so few. For want of memory some of them may stand.
+    pub fn add_turns(&mut self, turn: Turn, count: u64) -> Result<(), AllocError>
+        requires room { length self.old.turns.items + count ≤ (limits_of 1).turns }
+        ensures added { OnOk result (kept self.new
+            ≡ with_turns (kept self.old) turn.line turn.actor count) }
+        ensures open { self.new.batch ≡ self.old.batch }
+    {
+        for _ in 0..count {
+            self.add_turn(turn)?;
+        }
+        Ok(())
+    }
+
+    /// Adds a turn.
+    fn add_turn(&mut self, turn: Turn) -> Result<(), AllocError>
+        requires room { length self.old.turns.items < (limits_of 1).turns }
+        ensures added { OnOk result (kept self.new ≡ with_turns (kept self.old) turn.line turn.actor 1) }
+        ensures open { self.new.batch ≡ self.old.batch }
+    {
+        self.turns.push(turn)?;
         Ok(())
     }
 }

@@ -26,3 +26,6 @@ pub const BATCH_WAITS: usize = 16;
 
 /// The most signals of one batch.
 pub const BATCH_SIGNALS: usize = 16;
+
+/// The most turns of a schedule.
+pub const TURNS: usize = 65_536;

@@ -42,6 +42,9 @@ fn is_built(known: &Known, form: LineForm) -> bool
         LineForm::SignalBinaryLine => true,
         LineForm::BatchFenceLine => true,
         LineForm::EndLine => true,
+        LineForm::ScheduleLine => true,
+        LineForm::TurnLine => true,
+        LineForm::TurnsLine => true,
         _ => false,
     }
 }
@@ -119,6 +122,7 @@ fn is_in_range(known: &Known, said: &Said<'_>) -> bool
             is_within(known, source, source_offset, size)
                 && is_within(known, target, target_offset, size)
         }
+        Said::Turns { count, .. } => 0 < count,
         _ => true,
     }
 }
@@ -158,6 +162,8 @@ fn passes_limit(known: &Known, said: &Said<'_>) -> bool
         Said::Signal { .. } => known.has_all_signals(),
         Said::Fence { .. } => false,
         Said::End => false,
+        Said::Schedule => false,
+        Said::Turns { count, .. } => count > (limits::TURNS - known.turns.len()) as u64,
     }
 }
 
@@ -200,7 +206,7 @@ pub fn said_by<'a>(
     words: &[OpenWord<'a>],
 ) -> Result<Said<'a>, FaultKind>
     requires found { AreFound form (opens words.now) }
-    requires stands { Stands form (open_so_far known.now.batch) }
+    requires stands { Stands form known.now.scheduled (open_so_far known.now.batch) }
     ensures told { (lines : List Line) → Keeps lines known.now →
         Tells lines (form, opens words.now) statement_in result }
     ensures may { IfOk result (May (kept known.now) (open_so_far known.now.batch)) }

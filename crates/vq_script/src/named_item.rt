@@ -1,20 +1,20 @@
 //! What a declared name stands for.
 ghost use Rattle.std.specs.Prelude.{◌≡◌, Some};
-ghost use Rattle.vq_script.specs.Names.{semaphore_item, number_in};
+ghost use Rattle.vq_script.specs.Names.{semaphore_item, number_in, threaded_in};
 ghost use Rattle.vq_script.specs.Table.{place_of};
 
 use crate::table::Token;
-use vq_model::script::SemaphoreKind;
+use vq_model::script::{Mode, SemaphoreKind};
 
-/// A buffer, a timeline or binary semaphore, a fence or a queue, by its number. Semaphores and
-/// fences are counted together.
+/// A buffer, a timeline or binary semaphore, a fence or a queue with its mode, by its number.
+/// Semaphores and fences are counted together.
 #[derive(Clone, Copy)]
 pub enum NamedItem {
     Buffer(u32),
     Timeline(u32),
     Binary(u32),
     Fence(u32),
-    Queue(u32),
+    Queue(u32, Mode),
 }
 
 impl NamedItem {
@@ -27,7 +27,17 @@ impl NamedItem {
             (Token::TimelineToken, NamedItem::Timeline(number)) => Some(number),
             (Token::BinaryToken, NamedItem::Binary(number)) => Some(number),
             (Token::FenceToken, NamedItem::Fence(number)) => Some(number),
-            (Token::QueueToken, NamedItem::Queue(number)) => Some(number),
+            (Token::QueueToken, NamedItem::Queue(number, _)) => Some(number),
+            _ => None,
+        }
+    }
+
+    /// The number of the item, if it is a threaded queue.
+    pub fn threaded(self) -> Option<u32>
+        ensures { result ≡ threaded_in (Some self) }
+    {
+        match self {
+            NamedItem::Queue(number, Mode::Threaded) => Some(number),
             _ => None,
         }
     }

@@ -1,6 +1,7 @@
 //! Names.
-ghost use Rattle.std.specs.Prelude.{◌≡◌, ◌||◌, true, IfOk};
+ghost use Rattle.std.specs.Prelude.{◌≡◌, ◌||◌, true, IfOk, drop};
 ghost use Rattle.std.specs.List.{list_all};
+ghost use Rattle.vq_model.specs.Meaning.{is_marked};
 ghost use Rattle.vq_model.specs.Text.{is_name, is_letter, is_digit};
 
 use std::alloc::{AllocError, Global};
@@ -40,5 +41,25 @@ pub fn owned_name(alloc: Global, word: &[u8]) -> Result<Name, AllocError>
     match str::from_utf8(word) {
         Ok(text) => Ok(Name::of(String::from_str(alloc, text)?)),
         Err(_) => unreachable!(),
+    }
+}
+
+/// Whether a word begins with this letter and a colon.
+pub fn is_marked(letter: u8, word: &[u8]) -> bool
+    ensures { result ≡ is_marked letter word.now }
+{
+    match word {
+        [first, second, ..] => *first == letter && *second == b':',
+        _ => false,
+    }
+}
+
+/// What follows the first two bytes of a word.
+pub fn after_mark(word: &[u8]) -> &[u8]
+    ensures { result.now ≡ drop 2 word.now }
+{
+    match word {
+        [_, _, name @ ..] => name,
+        _ => &[],
     }
 }

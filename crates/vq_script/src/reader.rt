@@ -19,7 +19,7 @@ use crate::table::form_of;
 use crate::words::{are_plain, find_words};
 use std::alloc::Global;
 use vq_model::script::Script;
-use vq_model::statement::{FaultKind, Form, LineForm};
+use vq_model::statement::{FaultKind, Form, LineForm, Section};
 
 /// Reads a line of a form, whose words these are.
 fn read_open(
@@ -30,7 +30,7 @@ fn read_open(
     words: &[OpenWord<'_>],
 ) -> Result<(), ScriptFault>
     requires found { AreFound form (opens words.now) }
-    requires stands { Stands form (open_so_far known.old.batch) }
+    requires stands { Stands form known.old.scheduled (open_so_far known.old.batch) }
     ensures { (lines : List Line) → Keeps lines known.old →
         Takes lines number (form, opens words.now) result known.new }
 {
@@ -46,12 +46,13 @@ fn read_open(
 /// Reads the words of a line. A line without words says nothing.
 fn read_words<'a>(
     alloc: Global,
+    form: Form,
     known: &mut Known,
     number: u32,
     words: &[&'a [u8]],
     open: &mut Vec<OpenWord<'a>>,
 ) -> Result<(), ScriptFault>
-    ensures { (form : Form) (lines : List Line) → Keeps lines known.old →
+    ensures { (lines : List Line) → Keeps lines known.old →
         Reads form lines number (texts words.now) result known.new }
 {
     if words.is_empty() {
@@ -63,44 +64,49 @@ fn read_words<'a>(
             kind: FaultKind::Syntax,
         });
     }
-    let Some(form) = form_of(known.section(), words) else {
+    let Some(found) = form_of(form, known.section(), words) else {
         return Err(ScriptFault::At {
             line: number,
             kind: FaultKind::Syntax,
         });
     };
-    find_open(form, words, open)?;
-    read_open(alloc, known, number, form, open)
+    find_open(found, words, open)?;
+    read_open(alloc, known, number, found, open)
 }
 
 /// Reads a line. Its words take the place of those of the line before.
 fn read_line<'a>(
     alloc: Global,
+    form: Form,
     known: &mut Known,
     number: u32,
     line: &'a [u8],
     words: &mut Vec<&'a [u8]>,
     open: &mut Vec<OpenWord<'a>>,
 ) -> Result<(), ScriptFault>
-    ensures { (form : Form) (lines : List Line) → Keeps lines known.old →
+    ensures { (lines : List Line) → Keeps lines known.old →
         Reads form lines number (words_of line.now) result known.new }
 {
     find_words(line, words)?;
-    read_words(alloc, known, number, words, open)
+    read_words(alloc, form, known, number, words, open)
 }
 
 /// The script, where the text may end here. The line after the last is Syntax where a batch is
-/// open, or where the form asks for a schedule.
-fn finish(alloc: Global, form: Form, known: Known, number: u32) -> Result<Script, ScriptFault>
+/// open, or where the form asks for a schedule and none has begun.
+fn finish(form: Form, known: Known, number: u32) -> Result<Script, ScriptFault>
     ensures { (lines : List Line) → Keeps lines known →
         Gives result (script_from (read_lines form lines number [])) }
 {
-    match (form, &known.batch) {
-        (Form::Plain, None) => Ok(known.into_script(alloc)),
-        _ => Err(ScriptFault::At {
+    match (form, known.section()) {
+        (_, Section::InBatch) => Err(ScriptFault::At {
             line: number,
             kind: FaultKind::Syntax,
         }),
+        (Form::Scheduled, Section::Outside) => Err(ScriptFault::At {
+            line: number,
+            kind: FaultKind::Syntax,
+        }),
+        _ => Ok(known.into_script()),
     }
 }
 
@@ -138,11 +144,19 @@ pub fn is_short(bytes: &[u8]) -> bool
 /// - `fence FENCE` in a batch: the fence that it signals; one a batch at most;
 /// - `end`: the last line of the batch.
 ///
+/// and in the form `Scheduled`, after all these,
+///
+/// - `schedule`: what follows are turns;
+/// - `ACTOR`, `ACTOR COUNT`: one turn of the actor, or COUNT turns, one at least; 65,536 turns at
+///   most. An actor is `host`, `S:QUEUE` for the thread that submits to a threaded queue, or
+///   `R:QUEUE` for the device's side of a queue.
+///
 /// Fills, updates and copies are the commands of the batch; 64 a batch at most, and 8,192 in all.
 /// In a batch the waits come first, then the commands, then the signals, then the fence. Buffers,
 /// semaphores, fences and queues are declared before the first batch, each by a name of its own;
 /// timelines, binary semaphores and fences are 256 together at most. The script has the same
-/// declarations and batches, each with the number of its line, counted from 1.
+/// declarations, batches and turns, each with the number of its line, counted from 1; COUNT turns of a
+/// line are as many turns of the script. It has a schedule exactly where the form is `Scheduled`.
 ///
 /// The format is this project's own. The ranges of commands are those of Vulkan 1.3, "Clear
 /// Commands" and "Copy Commands".
@@ -151,8 +165,8 @@ pub fn is_short(bytes: &[u8]) -> bool
 ///
 /// `At` is the first line with a fault and the first kind of that line's faults, in the order of
 /// `FaultKind`; the line after the last is `Syntax` where a batch is open, or where the form is
-/// `Scheduled`, since no schedule is read yet. So are deferred queues, host steps and waits of
-/// immediate queues. `Memory` comes where memory runs out.
+/// `Scheduled` and there is no schedule. Deferred queues, host steps and waits of immediate queues are
+/// `Syntax` too. `Memory` comes where memory runs out.
 pub fn parse(alloc: Global, bytes: &[u8], form: Form) -> Result<Script, ScriptFault>
     requires { length (lines_of bytes.now) < 2 ^ 32 - 1 }
     ensures exact { Gives result (read_script bytes.now form) }
@@ -165,9 +179,9 @@ pub fn parse(alloc: Global, bytes: &[u8], form: Form) -> Result<Script, ScriptFa
     let mut number: u32 = 1;
     let mut rest = bytes;
     while let Some((line, after)) = next_line(rest) {
-        read_line(alloc, &mut known, number, line, &mut words, &mut open)?;
+        read_line(alloc, form, &mut known, number, line, &mut words, &mut open)?;
         rest = after;
         number += 1;
     }
-    finish(alloc, form, known, number)
+    finish(form, known, number)
 }

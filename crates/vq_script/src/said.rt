@@ -2,7 +2,7 @@
 ghost use Rattle.std.specs.Prelude.{◌≡◌, true, IfSome};
 ghost use Rattle.vq_script.specs.Holds.{Kept, kept, open_so_far};
 ghost use Rattle.vq_script.specs.OpenWords.{opens};
-ghost use Rattle.vq_script.specs.SaidLines.{AreOf, Says, Suits, is_batch_line};
+ghost use Rattle.vq_script.specs.SaidLines.{AreOf, Says, Suits, is_batch_line, is_schedule_line};
 ghost use Rattle.vq_script.specs.LineTests.{is_built_in};
 ghost use Rattle.vq_model.specs.LineFaults.{is_declaration, part_of_form};
 
@@ -10,7 +10,7 @@ use crate::known::Known;
 use crate::numerals::{is_hex, numeral, small_numeral};
 use crate::open_words::OpenWord;
 use crate::table::{Token, is_declaration, part_of_form};
-use vq_model::script::{Mode, Pair, SemaphoreKind};
+use vq_model::script::{ActorName, Mode, Pair, SemaphoreKind};
 use vq_model::statement::LineForm;
 
 /// What a line says. Its numbers may be too large yet.
@@ -64,6 +64,11 @@ pub enum Said<'a> {
         fence: u32,
     },
     End,
+    Schedule,
+    Turns {
+        actor: ActorName,
+        count: u64,
+    },
 }
 
 /// What a line says that declares, where its numbers are read.
@@ -182,6 +187,38 @@ fn batch_line<'a>(known: &Known, form: LineForm, words: &[OpenWord<'a>]) -> Opti
     }
 }
 
+/// What a line of the schedule says, or the line that begins it, where its numbers and names are
+/// read. An actor alone takes one turn.
+fn schedule_line<'a>(known: &Known, form: LineForm, words: &[OpenWord<'a>]) -> Option<Said<'a>>
+    requires of { AreOf form (opens words.now) }
+    requires part { is_schedule_line form ≡ true }
+    ensures says { Says (kept known.now) form (opens words.now) result }
+    ensures suits { IfSome result (Suits form (opens words.now)) }
+{
+    match (form, words) {
+        (LineForm::ScheduleLine, []) => Some(Said::Schedule),
+        (LineForm::TurnLine, [actor]) => Some(Said::Turns {
+            actor: known.actor(actor.word)?,
+            count: 1,
+        }),
+        (LineForm::TurnsLine, [actor, count]) => Some(Said::Turns {
+            actor: known.actor(actor.word)?,
+            count: numeral(count.word)?,
+        }),
+        _ => unreachable!(),
+    }
+}
+
+/// Whether a form is of the schedule, or begins it.
+fn is_schedule_line(form: LineForm) -> bool
+    ensures { result ≡ is_schedule_line form }
+{
+    matches!(
+        form,
+        LineForm::ScheduleLine | LineForm::TurnLine | LineForm::TurnsLine
+    )
+}
+
 #[tactic(auto, using(crate::proofs::LineTold::batch_line_left))]
 /// What a line of a form says, where its numbers and names are read.
 pub fn statement_of<'a>(known: &Known, form: LineForm, words: &[OpenWord<'a>]) -> Option<Said<'a>>
@@ -194,6 +231,8 @@ pub fn statement_of<'a>(known: &Known, form: LineForm, words: &[OpenWord<'a>]) -
         declaration(form, words)
     } else if part_of_form(form) == 2 {
         command(known, form, words)
+    } else if is_schedule_line(form) {
+        schedule_line(known, form, words)
     } else {
         batch_line(known, form, words)
     }

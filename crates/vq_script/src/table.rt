@@ -1,7 +1,8 @@
 //! The forms of lines as a table: for each form what stands at its places.
 ghost use Rattle.std.specs.Prelude.{◌≡◌, find};
 ghost use Rattle.std.specs.Str.{bytes_eq};
-ghost use Rattle.vq_model.specs.Forms.{places};
+ghost use Rattle.vq_model.specs.Forms.{places, schedule_forms};
+ghost use Rattle.vq_model.specs.declared.statement.Form.TheVariants.{Plain};
 ghost use Rattle.vq_model.specs.LineFaults.{part_of_form, is_declaration};
 ghost use Rattle.vq_model.specs.Meaning.{agree, are_as_many, matches};
 ghost use Rattle.vq_script.specs.Table.{place_of, places_of, forms_of, are_pairs, agrees};
@@ -19,7 +20,7 @@ use vq_model::statement::LineForm::{
     HostWaitAnyLine, QueueLine, ScheduleLine, SignalBinaryLine, SignalTimelineLine, SubmitLine,
     TimelineLine, TurnLine, TurnsLine, UpdateLine, VersionLine, WaitBinaryLine, WaitTimelineLine,
 };
-use vq_model::statement::{LineForm, Section};
+use vq_model::statement::{Form, LineForm, Section};
 
 /// What stands at a place of a line.
 #[derive(Clone, Copy)]
@@ -93,9 +94,9 @@ pub fn places(form: LineForm) -> &'static [Token]
     }
 }
 
-/// The forms of a part of a text.
+/// The forms of a part of a text, but for the line that begins a schedule.
 fn forms_of(section: Section) -> &'static [LineForm]
-    ensures { result.now ≡ forms_of section }
+    ensures { result.now ≡ forms_of Plain section }
 {
     match section {
         Section::Outside => &[
@@ -131,6 +132,16 @@ fn forms_of(section: Section) -> &'static [LineForm]
             EndLine,
         ],
         Section::InSchedule => &[TurnLine, TurnsLine],
+    }
+}
+
+/// The line that begins a schedule stands in a text with one alone.
+fn schedule_forms(form: Form) -> &'static [LineForm]
+    ensures { result.now ≡ schedule_forms form }
+{
+    match form {
+        Form::Plain => &[],
+        Form::Scheduled => &[ScheduleLine],
     }
 }
 
@@ -223,14 +234,27 @@ fn matches(words: &[&[u8]], form: LineForm) -> bool
     agree(places(form), words) && are_as_many(places(form), words)
 }
 
-/// The form of a line's words in a part of a text.
-pub fn form_of(section: Section, words: &[&[u8]]) -> Option<LineForm>
-    ensures { result ≡ find (matches (texts words.now)) (forms_of section) }
+/// The first of these forms that words match.
+fn first_match(forms: &[LineForm], words: &[&[u8]]) -> Option<LineForm>
+    ensures { result ≡ find (matches (texts words.now)) forms.now }
 {
-    for form in forms_of(section) {
+    for form in forms {
         if matches(words, *form) {
             return Some(*form);
         }
     }
     None
+}
+
+/// The form of a line's words in a part of a text of this form.
+pub fn form_of(form: Form, section: Section, words: &[&[u8]]) -> Option<LineForm>
+    ensures { result ≡ find (matches (texts words.now)) (forms_of form section) }
+{
+    if let Some(found) = first_match(forms_of(section), words) {
+        return Some(found);
+    }
+    match section {
+        Section::Outside => first_match(schedule_forms(form), words),
+        _ => None,
+    }
 }

@@ -15,7 +15,7 @@ returns-in_err-read_line-clause-exact c =
     subst (λ (r : Result Script ScriptFault). Gives r (read_script c.args.bytes.now c.args.form)) (sym same)
     (gives_fault c.args.bytes.now c.args.form now.read c.loop-line.number c.in-Some.line.now
     (lines_of c.loop-line.rest.now) (lines_of c.in-Some.after.now) c.in_err-read_line.field-0.0 _
-    c.in-Some.ensures.0 now.same (c.in_err-read_line.ensures c.args.form now.read now.keeps))
+    c.in-Some.ensures.0 now.same (c.in_err-read_line.ensures now.read now.keeps))
 
 pub returns-in_err-read_line-clause-fault : goal.returns-in_err-read_line-clause-fault
 returns-in_err-read_line-clause-fault c =
@@ -25,13 +25,13 @@ returns-in_err-read_line-clause-fault c =
     (is_first c.args.bytes.now c.args.form c.in_err-read_line.field-0.0
     (gives_fault c.args.bytes.now c.args.form now.read c.loop-line.number c.in-Some.line.now
     (lines_of c.loop-line.rest.now) (lines_of c.in-Some.after.now) c.in_err-read_line.field-0.0 _
-    c.in-Some.ensures.0 now.same (c.in_err-read_line.ensures c.args.form now.read now.keeps)))
+    c.in-Some.ensures.0 now.same (c.in_err-read_line.ensures now.read now.keeps)))
 
 pub loop-line-preserved : goal.loop-line-preserved
 loop-line-preserved c =
     let now = c.loop-line.invariant in
     let next = c.in-Some.ensures.0 in
-    let got = c.in_ok-read_line.ensures c.args.form now.read now.keeps in
+    let got = c.in_ok-read_line.ensures now.read now.keeps in
     let long : length (lines_of c.loop-line.rest.now) ≡ suc (length (lines_of c.in-Some.after.now)) = ap length next in
     let counted = now.counted in
     record {

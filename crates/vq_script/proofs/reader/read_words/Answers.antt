@@ -18,35 +18,35 @@ some_word [] h = absurd (cc)
 some_word (w ∷ words) h = omega arith
 
 pub returns-in_default : goal.returns-in_default
-returns-in_default c = λ form lines h. (
+returns-in_default c = λ lines h. (
   refl,
-  reads_none form lines c.args.number (texts c.args.words.now) _
+  reads_none c.args.form lines c.args.number (texts c.args.words.now) _
       (some_word c.args.words.now (sym c.if-is_empty.ensures)) (sym c.if-not-are_plain.ensures)
-      (form_is form lines (texts c.args.words.now) _ _ h)
-      (sym (c.in_default.ensures ∙ ap (λ s. find (matches (texts c.args.words.now)) (forms_of s))
+      (form_is c.args.form lines (texts c.args.words.now) _ _ h)
+      (sym (c.in_default.ensures ∙ ap (λ s. find (matches (texts c.args.words.now)) (forms_of c.args.form s))
       c.section.ensures)),
 )
 
 pub read_open-requires-clause-found : goal.read_open-requires-clause-found
 read_open-requires-clause-found c =
-    subst (λ (ws : List (Slot × List ℕ)). AreFound c.in-Some.form ws)
+    subst (λ (ws : List (Slot × List ℕ)). AreFound c.in-Some.found ws)
     (sym (ap opens c.deref.ensures.value ∙ c.in_ok-find_open.ensures))
-    (words_found (texts c.args.words.now) (forms_of c.section.result) c.in-Some.form
+    (words_found (texts c.args.words.now) (forms_of c.args.form c.section.result) c.in-Some.found
     (sym c.in-Some.ensures))
 
 pub read_open-requires-clause-stands : goal.read_open-requires-clause-stands
 read_open-requires-clause-stands c =
-    form_stands (texts c.args.words.now) (open_so_far c.args.known.now.batch) c.in-Some.form
-    (sym (c.in-Some.ensures ∙ ap (λ s. find (matches (texts c.args.words.now)) (forms_of s))
+    form_stands c.args.form (texts c.args.words.now) c.args.known.now.scheduled (open_so_far c.args.known.now.batch) c.in-Some.found
+    (sym (c.in-Some.ensures ∙ ap (λ s. find (matches (texts c.args.words.now)) (forms_of c.args.form s))
     c.section.ensures))
 
 pub returns : goal.returns
-returns c = λ form lines h.
-    reads_form form lines c.args.number (texts c.args.words.now) _ c.in-Some.form
+returns c = λ lines h.
+    reads_form c.args.form lines c.args.number (texts c.args.words.now) _ c.in-Some.found
     c.read_open.result c.read_open.new.known
     (some_word c.args.words.now (sym c.if-is_empty.ensures)) (sym c.if-not-are_plain.ensures)
-    (form_is form lines (texts c.args.words.now) _ _ h)
-    (sym (c.in-Some.ensures ∙ ap (λ s. find (matches (texts c.args.words.now)) (forms_of s))
+    (form_is c.args.form lines (texts c.args.words.now) _ _ h)
+    (sym (c.in-Some.ensures ∙ ap (λ s. find (matches (texts c.args.words.now)) (forms_of c.args.form s))
     c.section.ensures))
-    (subst (λ (ws : List (Slot × List ℕ)). Takes lines c.args.number (c.in-Some.form, ws) c.read_open.result c.read_open.new.known)
+    (subst (λ (ws : List (Slot × List ℕ)). Takes lines c.args.number (c.in-Some.found, ws) c.read_open.result c.read_open.new.known)
     (ap opens c.deref.ensures.value ∙ c.in_ok-find_open.ensures) (c.read_open.ensures lines h))

@@ -14,6 +14,6 @@ returns c = λ lines h.
       semaphores = (c.of-2.ensures ∙ sym h.declares.all_semaphores) i;
       queues = (c.of-3.ensures ∙ sym h.declares.all_queues) i;
       jobs = ended i;
-      scheduled = sym h.declares.no_schedule i;
-      turns = (c.of-5.ensures ∙ c.new.ensures.items ∙ sym h.declares.no_turns) i;
+      scheduled = sym h.declares.schedule i;
+      turns = (c.of-5.ensures ∙ sym h.declares.all_turns) i;
     }
