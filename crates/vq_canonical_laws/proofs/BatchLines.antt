@@ -6,7 +6,7 @@ use Rattle.std.specs.Option.{option_map_or}
 use Rattle.std.specs.Str.{bytes_eq}
 use Rattle.std.specs.Fmt.{decimal}
 use Rattle.std.proofs.lemmas.Bool.{and_from, or_from}
-use Rattle.vq_model.specs.declared.statement.Form.TheVariants.{Plain}
+use Rattle.vq_model.specs.declared.statement.Form.{Form}
 use Rattle.vq_model.specs.declared.statement.Section.TheVariants.{InBatch}
 use Rattle.vq_model.specs.declared.statement.Statement.TheVariants.{AddWait, AddSignal, AddFence, EndBatch}
 use Rattle.vq_model.specs.declared.statement.Line.{Line}
@@ -29,14 +29,14 @@ use Rattle.vq_canonical_laws.proofs.NamedParts.{AreNamed, name_word, position_of
 use Rattle.vq_canonical_laws.proofs.ScriptParts.{Parts, MayItem, MayEnd, TakesValue, Say, part_of_batch, place_of}
 use Rattle.vq_canonical_laws.proofs.LineWords.{declared_script, ReadsAs, words_plain, words_of_three, words_of_two, not_over, form_inside, in_part}
 
-module _ (before : List Line) (p : Parts) (h : Say before p) (named : AreNamed p) where
+module _ (form : Form) (before : List Line) (p : Parts) (h : Say before p) (named : AreNamed p) where
   -- the end of a batch
-  pub end_reads : MayEnd p → ReadsAs before (codes "end" ∷ []) EndBatch
+  pub end_reads : MayEnd p → ReadsAs form before (codes "end" ∷ []) EndBatch
   end_reads m =
-      let tests : PassesTests Plain before (codes "end" ∷ []) EndLine EndBatch =
+      let tests : PassesTests form before (codes "end" ∷ []) EndLine EndBatch =
       record {
         found =
-            form_inside before (codes "end" ∷ []) (Some EndLine)
+            form_inside form before (codes "end" ∷ []) (Some EndLine)
             (h.part ∙ ap part_of_batch m.inside) h.version refl;
         plain = refl;
         shaped = refl;
@@ -56,7 +56,7 @@ module _ (before : List Line) (p : Parts) (h : Say before p) (named : AreNamed p
       } in
       record {
         are_words = refl;
-        reads = λ n. read_tested Plain before n (codes "end") [] EndLine EndBatch tests;
+        reads = λ n. read_tested form before n (codes "end") [] EndLine EndBatch tests;
       }
 
   -- Waits, signals and fences
@@ -81,17 +81,17 @@ module _ (before : List Line) (p : Parts) (h : Say before p) (named : AreNamed p
 
   wait_timeline_reads : (name : List ℕ) (t v : ℕ) → is_name name ≡ true →
       timeline_at before name ≡ Some t → v < 2 ^ 64 → PassesAsWait →
-      ReadsAs before (codes "wait" ∷ name ∷ decimal v ∷ [])
+      ReadsAs form before (codes "wait" ∷ name ∷ decimal v ∷ [])
       (AddWait (record { semaphore = t; value = v }) 1)
   wait_timeline_reads name t v is known small passes =
       let words : are_text_words (codes "wait" ∷ name ∷ decimal v ∷ []) ≡ true =
       words_of_three (codes "wait") name (decimal v) refl (name_word name is)
       (decimal_word v small) in
-      let tests : PassesTests Plain before (codes "wait" ∷ name ∷ decimal v ∷ [])
+      let tests : PassesTests form before (codes "wait" ∷ name ∷ decimal v ∷ [])
       WaitTimelineLine (AddWait (record { semaphore = t; value = v }) 1) =
       record {
         found =
-            form_inside before (codes "wait" ∷ name ∷ decimal v ∷ []) (Some WaitTimelineLine)
+            form_inside form before (codes "wait" ∷ name ∷ decimal v ∷ []) (Some WaitTimelineLine)
             passes.part h.version refl
             ∙ (λ i. cond (not (passes.later i)) (Some WaitTimelineLine) None);
         plain = words_plain (codes "wait" ∷ name ∷ decimal v ∷ []) words;
@@ -111,21 +111,21 @@ module _ (before : List Line) (p : Parts) (h : Say before p) (named : AreNamed p
       record {
         are_words = words;
         reads =
-            λ n. read_tested Plain before n (codes "wait") (name ∷ decimal v ∷ [])
+            λ n. read_tested form before n (codes "wait") (name ∷ decimal v ∷ [])
             WaitTimelineLine (AddWait (record { semaphore = t; value = v }) 1) tests;
       }
 
   wait_binary_reads : (name : List ℕ) (t : ℕ) → is_name name ≡ true →
       binary_at before name ≡ Some t → PassesAsWait →
-      ReadsAs before (codes "wait" ∷ name ∷ []) (AddWait (binary_pair t) 1)
+      ReadsAs form before (codes "wait" ∷ name ∷ []) (AddWait (binary_pair t) 1)
   wait_binary_reads name t is known passes =
       let words : are_text_words (codes "wait" ∷ name ∷ []) ≡ true =
       words_of_two (codes "wait") name refl (name_word name is) in
-      let tests : PassesTests Plain before (codes "wait" ∷ name ∷ []) WaitBinaryLine
+      let tests : PassesTests form before (codes "wait" ∷ name ∷ []) WaitBinaryLine
       (AddWait (binary_pair t) 1) =
       record {
         found =
-            form_inside before (codes "wait" ∷ name ∷ []) (Some WaitBinaryLine) passes.part
+            form_inside form before (codes "wait" ∷ name ∷ []) (Some WaitBinaryLine) passes.part
             h.version refl
             ∙ (λ i. cond (not (passes.later i)) (Some WaitBinaryLine) None);
         plain = words_plain (codes "wait" ∷ name ∷ []) words;
@@ -142,7 +142,7 @@ module _ (before : List Line) (p : Parts) (h : Say before p) (named : AreNamed p
       record {
         are_words = words;
         reads =
-            λ n. read_tested Plain before n (codes "wait") (name ∷ []) WaitBinaryLine
+            λ n. read_tested form before n (codes "wait") (name ∷ []) WaitBinaryLine
             (AddWait (binary_pair t) 1) tests;
       }
 
@@ -164,17 +164,17 @@ module _ (before : List Line) (p : Parts) (h : Say before p) (named : AreNamed p
 
   signal_timeline_reads : (name : List ℕ) (t v : ℕ) → is_name name ≡ true →
       timeline_at before name ≡ Some t → v < 2 ^ 64 → PassesAsSignal →
-      ReadsAs before (codes "signal" ∷ name ∷ decimal v ∷ [])
+      ReadsAs form before (codes "signal" ∷ name ∷ decimal v ∷ [])
       (AddSignal (record { semaphore = t; value = v }))
   signal_timeline_reads name t v is known small passes =
       let words : are_text_words (codes "signal" ∷ name ∷ decimal v ∷ []) ≡ true =
       words_of_three (codes "signal") name (decimal v) refl (name_word name is)
       (decimal_word v small) in
-      let tests : PassesTests Plain before (codes "signal" ∷ name ∷ decimal v ∷ [])
+      let tests : PassesTests form before (codes "signal" ∷ name ∷ decimal v ∷ [])
       SignalTimelineLine (AddSignal (record { semaphore = t; value = v })) =
       record {
         found =
-            form_inside before (codes "signal" ∷ name ∷ decimal v ∷ [])
+            form_inside form before (codes "signal" ∷ name ∷ decimal v ∷ [])
             (Some SignalTimelineLine) passes.part h.version refl;
         plain = words_plain (codes "signal" ∷ name ∷ decimal v ∷ []) words;
         shaped = and_from (is_name name) true is refl;
@@ -193,21 +193,21 @@ module _ (before : List Line) (p : Parts) (h : Say before p) (named : AreNamed p
       record {
         are_words = words;
         reads =
-            λ n. read_tested Plain before n (codes "signal") (name ∷ decimal v ∷ [])
+            λ n. read_tested form before n (codes "signal") (name ∷ decimal v ∷ [])
             SignalTimelineLine (AddSignal (record { semaphore = t; value = v })) tests;
       }
 
   signal_binary_reads : (name : List ℕ) (t : ℕ) → is_name name ≡ true →
       binary_at before name ≡ Some t → PassesAsSignal →
-      ReadsAs before (codes "signal" ∷ name ∷ []) (AddSignal (binary_pair t))
+      ReadsAs form before (codes "signal" ∷ name ∷ []) (AddSignal (binary_pair t))
   signal_binary_reads name t is known passes =
       let words : are_text_words (codes "signal" ∷ name ∷ []) ≡ true =
       words_of_two (codes "signal") name refl (name_word name is) in
-      let tests : PassesTests Plain before (codes "signal" ∷ name ∷ []) SignalBinaryLine
+      let tests : PassesTests form before (codes "signal" ∷ name ∷ []) SignalBinaryLine
       (AddSignal (binary_pair t)) =
       record {
         found =
-            form_inside before (codes "signal" ∷ name ∷ []) (Some SignalBinaryLine) passes.part
+            form_inside form before (codes "signal" ∷ name ∷ []) (Some SignalBinaryLine) passes.part
             h.version refl;
         plain = words_plain (codes "signal" ∷ name ∷ []) words;
         shaped = and_from (is_name name) true is refl;
@@ -223,7 +223,7 @@ module _ (before : List Line) (p : Parts) (h : Say before p) (named : AreNamed p
       record {
         are_words = words;
         reads =
-            λ n. read_tested Plain before n (codes "signal") (name ∷ []) SignalBinaryLine
+            λ n. read_tested form before n (codes "signal") (name ∷ []) SignalBinaryLine
             (AddSignal (binary_pair t)) tests;
       }
 
@@ -251,12 +251,12 @@ module _ (before : List Line) (p : Parts) (h : Say before p) (named : AreNamed p
 
   -- a wait
   pub wait_reads : (pair : Pair) (from : ℕ) → MayItem p (AddWait pair from) →
-      ReadsAs before (wait_words (declared_script p) (mark 0 pair from)) (AddWait pair from)
+      ReadsAs form before (wait_words (declared_script p) (mark 0 pair from)) (AddWait pair from)
   wait_reads pair from m =
       let known = m.fits.known in
       let x = known.semaphore in
       let name = named.semaphore_names pair.semaphore x known.there in
-      subst (λ (z : Option Semaphore × ℕ). ReadsAs before
+      subst (λ (z : Option Semaphore × ℕ). ReadsAs form before
       (codes "wait" ∷ marked_words (option_map_or (λ y. y.name) z.0 []) pair.value
       (option_map_or (λ y. y.kind) z.0 Binary) ++ from_words z.1) (AddWait pair z.1))
       (λ i. (sym known.there i, sym m.fits.at_once i))
@@ -265,13 +265,13 @@ module _ (before : List Line) (p : Parts) (h : Say before p) (named : AreNamed p
       by_kind : (x : Semaphore) → is_name x.name ≡ true →
           slice_get p.semaphores pair.semaphore ≡ Some x → PassesAsWait →
           (kind : SemaphoreKind) → x.kind ≡ kind → TakesValue kind pair.value →
-          ReadsAs before (codes "wait" ∷ marked_words x.name pair.value kind ++ from_words 1)
+          ReadsAs form before (codes "wait" ∷ marked_words x.name pair.value kind ++ from_words 1)
           (AddWait pair 1)
       by_kind x is there passes (Timeline initial) e takes =
           wait_timeline_reads x.name pair.semaphore pair.value is
           (timeline_there pair.semaphore x there (ap is_timeline e)) takes passes
       by_kind x is there passes Binary e takes =
-          subst (λ (v : ℕ). ReadsAs before (codes "wait" ∷ x.name ∷ [])
+          subst (λ (v : ℕ). ReadsAs form before (codes "wait" ∷ x.name ∷ [])
           (AddWait (record { semaphore = pair.semaphore; value = v }) 1)) (sym takes)
           (wait_binary_reads x.name pair.semaphore is
           (binary_there pair.semaphore x there (ap is_binary e)) passes)
@@ -279,12 +279,12 @@ module _ (before : List Line) (p : Parts) (h : Say before p) (named : AreNamed p
 
   -- a signal
   pub signal_reads : (pair : Pair) → MayItem p (AddSignal pair) →
-      ReadsAs before (signal_words (declared_script p) (mark 0 pair 1)) (AddSignal pair)
+      ReadsAs form before (signal_words (declared_script p) (mark 0 pair 1)) (AddSignal pair)
   signal_reads pair m =
       let known = m.fits.known in
       let x = known.semaphore in
       let name = named.semaphore_names pair.semaphore x known.there in
-      subst (λ (z : Option Semaphore). ReadsAs before
+      subst (λ (z : Option Semaphore). ReadsAs form before
       (codes "signal" ∷ marked_words (option_map_or (λ y. y.name) z []) pair.value
       (option_map_or (λ y. y.kind) z Binary)) (AddSignal pair)) (sym known.there)
       (by_kind x name.0 known.there (signal_passes pair m) x.kind refl known.takes)
@@ -292,12 +292,12 @@ module _ (before : List Line) (p : Parts) (h : Say before p) (named : AreNamed p
       by_kind : (x : Semaphore) → is_name x.name ≡ true →
           slice_get p.semaphores pair.semaphore ≡ Some x → PassesAsSignal →
           (kind : SemaphoreKind) → x.kind ≡ kind → TakesValue kind pair.value →
-          ReadsAs before (codes "signal" ∷ marked_words x.name pair.value kind) (AddSignal pair)
+          ReadsAs form before (codes "signal" ∷ marked_words x.name pair.value kind) (AddSignal pair)
       by_kind x is there passes (Timeline initial) e takes =
           signal_timeline_reads x.name pair.semaphore pair.value is
           (timeline_there pair.semaphore x there (ap is_timeline e)) takes passes
       by_kind x is there passes Binary e takes =
-          subst (λ (v : ℕ). ReadsAs before (codes "signal" ∷ x.name ∷ [])
+          subst (λ (v : ℕ). ReadsAs form before (codes "signal" ∷ x.name ∷ [])
           (AddSignal (record { semaphore = pair.semaphore; value = v }))) (sym takes)
           (signal_binary_reads x.name pair.semaphore is
           (binary_there pair.semaphore x there (ap is_binary e)) passes)
@@ -305,7 +305,7 @@ module _ (before : List Line) (p : Parts) (h : Say before p) (named : AreNamed p
 
   -- a fence
   pub batch_fence_reads : (f : ℕ) → MayItem p (AddFence f) →
-      ReadsAs before
+      ReadsAs form before
       (fence_words (declared_script p) (mark 0 (record { semaphore = f; value = 0 }) 1))
       (AddFence f)
   batch_fence_reads f m =
@@ -314,11 +314,11 @@ module _ (before : List Line) (p : Parts) (h : Say before p) (named : AreNamed p
       let known = fence_there f x m.fits.there (ap is_fence m.fits.fence) in
       let words : are_text_words (codes "fence" ∷ x.name ∷ []) ≡ true =
       words_of_two (codes "fence") x.name refl (name_word x.name name.0) in
-      let tests : PassesTests Plain before (codes "fence" ∷ x.name ∷ []) BatchFenceLine
+      let tests : PassesTests form before (codes "fence" ∷ x.name ∷ []) BatchFenceLine
       (AddFence f) =
       record {
         found =
-            form_inside before (codes "fence" ∷ x.name ∷ []) (Some BatchFenceLine)
+            form_inside form before (codes "fence" ∷ x.name ∷ []) (Some BatchFenceLine)
             (h.part ∙ ap part_of_batch m.inside) h.version refl;
         plain = words_plain (codes "fence" ∷ x.name ∷ []) words;
         shaped = and_from (is_name x.name) true name.0 refl;
@@ -335,11 +335,11 @@ module _ (before : List Line) (p : Parts) (h : Say before p) (named : AreNamed p
         apart = refl;
         limited = refl;
       } in
-      subst (λ (z : Option Semaphore). ReadsAs before
+      subst (λ (z : Option Semaphore). ReadsAs form before
       (codes "fence" ∷ option_map_or (λ y. y.name) z [] ∷ []) (AddFence f)) (sym m.fits.there)
       (record {
         are_words = words;
         reads =
-            λ n. read_tested Plain before n (codes "fence") (x.name ∷ []) BatchFenceLine
+            λ n. read_tested form before n (codes "fence") (x.name ∷ []) BatchFenceLine
             (AddFence f) tests;
       })

@@ -1,7 +1,16 @@
 -- The canonical text of a script that can be written stands for it, up to line numbers.
-use Rattle.std.proofs.Common.{◌≡◌, ℕ, true, List, map, Ok, Bool, false, None, ap, ◌∙◌, ◌+◌, cond, [], ◌∷◌, Err, refl, subst, ◌++◌, append-nil, Option, sym}
+use Rattle.std.proofs.Common.{◌≡◌, ℕ, true, List, map, Ok, Bool, false, None, ap, ◌∙◌, ◌+◌, cond, [], ◌∷◌, Err, refl, subst, ◌++◌, append-nil, Option, sym, ◌≤◌, length, inl, inr, arith, codes}
+use Rattle.std.specs.List.{AllByRecursion as Every, list_any}
+use Rattle.vq_model.specs.Text.{words_of}
+use Rattle.vq_canonical_laws.proofs.ScheduleTold.{begins_schedule, schedule_told}
+use Rattle.std.proofs.lemmas.List.{map-append}
+use Rattle.std.proofs.lemmas.List.Folds.{list_all-append}
+use Rattle.vq_model.specs.declared.script.Turn.{Turn}
+use Rattle.vq_canonical_laws.proofs.ScheduleParts.{IsActorIn, schedule_begins, schedule_script, scheduled_script}
+use Rattle.vq_canonical_laws.proofs.ScheduleReads.{schedule_reads, all_turns_read}
+use Rattle.vq_canonical_laws.proofs.JoinedTurns.{expanded, expanded_joined, are_joined}
 use Rattle.std.specs.List.{list_all, join_with_byte, flat_map}
-use Rattle.vq_model.specs.declared.statement.Form.TheVariants.{Plain}
+use Rattle.vq_model.specs.declared.statement.Form.TheVariants.{Plain, Scheduled}
 use Rattle.vq_model.specs.declared.statement.Statement.{Statement}
 use Rattle.vq_model.specs.declared.statement.Line.{Line}
 use Rattle.vq_model.specs.Reading.{read_lines, with_line, read_statement, go_on, StandsFor, read_script}
@@ -20,14 +29,14 @@ use Rattle.vq_canonical_laws.proofs.CanonicalOrder.{Leads, buffer_statements, se
 use Rattle.vq_canonical_laws.proofs.NamedParts.{AreNamed, named_more, nothing_named}
 use Rattle.vq_canonical_laws.proofs.LineWords.{words_at}
 use Rattle.vq_canonical_laws.proofs.WrittenLines.{line_reads}
-use Rattle.vq_model.specs.declared.statement.Statement.TheVariants.{DeclareBuffer, DeclareSemaphore, DeclareQueue}
+use Rattle.vq_model.specs.declared.statement.Statement.TheVariants.{DeclareBuffer, DeclareSemaphore, DeclareQueue, BeginSchedule}
 use Rattle.vq_model.specs.declared.script.Buffer.{Buffer}
-use Rattle.vq_model.specs.Canonical.{buffer_words, semaphore_words, queue_words, canonical_lines, job_words, canonical_text, form_of_script, line_text}
+use Rattle.vq_model.specs.Canonical.{buffer_words, semaphore_words, queue_words, job_words, schedule_words, turns_words, joined_turns, canonical_text, form_of_script, line_text}
 use Rattle.vq_model.specs.declared.script.Semaphore.{Semaphore}
 use Rattle.vq_model.specs.declared.script.Queue.{Queue}
 use Rattle.vq_canonical_laws.proofs.BatchItems.{HasItems}
 use Rattle.vq_model.specs.declared.script.Script.{Script}
-use Rattle.vq_model.specs.SameScript.{SameButLines, without_lines, IsScript}
+use Rattle.vq_model.specs.SameScript.{SameButLines, without_lines, turn_without_line, IsScript, IsRead}
 use Rattle.vq_model.specs.ScriptOfLines.{script_of}
 use Rattle.vq_model.specs.Text.{lines_of}
 use Rattle.vq_canonical_laws.proofs.OrderedReads.{said_script, HasParts, text_has_parts}
@@ -36,15 +45,18 @@ use Rattle.vq_canonical_laws.proofs.CanonicalLaws.{lines_same}
 
 -- Reading statements
 
--- lines that are read
-record AreRead (before : List Line) (n : ℕ) (p : Parts) (statements : List Statement) (q : Parts)
-    : Type 0 where
+-- lines that are read before others, in a text of a form
+record AreRead (form : Form) (before : List Line) (n : ℕ) (p : Parts) (statements : List Statement)
+    (q : Parts) (rest : List (List ℕ)) : Type 0 where
   are_words : list_all are_text_words (words_along p statements) ≡ true
   all : List Line
-  reads : read_lines Plain before n (map (join_with_byte 32) (words_along p statements)) ≡ Ok all
+  next : ℕ
+  reads : read_lines form before n (map (join_with_byte 32) (words_along p statements) ++ rest)
+      ≡ read_lines form all next rest
   say : Say all q
+  names : AreNamed q
 
--- lines that say no open batch may end
+-- lines that say no open batch may end, in a text without a schedule
 may_end : (before : List Line) (p : Parts) → Say before p → p.batch ≡ None →
     ends_early Plain before ≡ false
 may_end before p h none = ap ends (h.part ∙ ap part_of_batch none)
@@ -54,39 +66,40 @@ may_end before p h none = ap ends (h.part ∙ ap part_of_batch none)
     ends other = false
 
 -- Statements that may follow each other are read from their canonical words.
-statements_read : (before : List Line) (n : ℕ) (p : Parts) (statements : List Statement)
-    (q : Parts) → Say before p → AreNamed p → Leads p statements q → q.batch ≡ None →
-    AreRead before n p statements q
-statements_read before n p [] q h named l closed =
+statements_read : (form : Form) (before : List Line) (n : ℕ) (p : Parts) (statements : List Statement)
+    (q : Parts) (rest : List (List ℕ)) → Say before p → AreNamed p → Leads p statements q →
+    AreRead form before n p statements q rest
+statements_read form before n p [] q rest h named l =
     record {
       are_words = refl;
       all = before;
-      reads =
-          ap (λ (b : Bool). cond {A = Result (List Line) (ℕ × FaultKind)} b (Err (n, Syntax))
-          (Ok before))
-          (may_end before q (subst (Say before) l h) closed);
+      next = n;
+      reads = refl;
       say = subst (Say before) l h;
+      names = subst AreNamed l named;
     }
-statements_read before n p (s ∷ statements) q h named l closed =
-    let line = line_reads before p h named s l.0 in
+statements_read form before n p (s ∷ statements) q rest h named l =
+    let line = line_reads form before p h named s l.0 in
     let now : List Line = with_line before n s in
-    let rest =
-    statements_read now (n + 1) (after p s) statements q (say_more before n p h s l.0)
-    (named_more p s named l.0) l.1 closed in
+    let more =
+    statements_read form now (n + 1) (after p s) statements q rest (say_more before n p h s l.0)
+    (named_more p s named l.0) l.1 in
     record {
       are_words =
           and_from (are_text_words (words_at p s))
           (list_all are_text_words (words_along (after p s) statements))
-          line.are_words rest.are_words;
-      all = rest.all;
+          line.are_words more.are_words;
+      all = more.all;
+      next = more.next;
       reads =
           ap (λ (r : Result (List Line) FaultKind). go_on n
-          (λ ls. read_lines Plain ls (n + 1)
-          (map (join_with_byte 32) (words_along (after p s) statements))) r)
-          (ap (read_statement Plain before n) (words_back (words_at p s) line.are_words)
+          (λ ls. read_lines form ls (n + 1)
+          (map (join_with_byte 32) (words_along (after p s) statements) ++ rest)) r)
+          (ap (read_statement form before n) (words_back (words_at p s) line.are_words)
           ∙ line.reads n)
-          ∙ rest.reads;
-      say = rest.say;
+          ∙ more.reads;
+      say = more.say;
+      names = more.names;
     }
 
 -- The canonical lines
@@ -114,6 +127,10 @@ queues_along p [] = refl
 queues_along p (q ∷ qs) =
     ap (λ (ws : List (List (List ℕ))). queue_words q ∷ ws)
     (queues_along (after p (DeclareQueue q.name q.mode)) qs)
+
+-- whether a line of a text begins a schedule
+abbrev tells_schedule : List ℕ → Bool
+tells_schedule text = list_any begins_schedule (map words_of (lines_of text))
 
 -- the statements of parts, in the canonical order
 abbrev statements_of : Parts → List Statement
@@ -160,8 +177,10 @@ module _ (p : Parts) (o : IsOrdered p) (items : HasItems p) (none : p.batch ≡ 
       ++ queue_statements p.queues)
       (flat_map job_statements p.jobs) queues_lead jobs_lead
 
-  -- The words of these statements are the canonical lines.
-  words_canonical : words_along no_parts (statements_of p) ≡ canonical_lines (script_of_parts p)
+  -- The words of these statements are the canonical lines before a schedule.
+  words_canonical : words_along no_parts (statements_of p)
+      ≡ map buffer_words p.buffers ++ map semaphore_words p.semaphores ++ map queue_words p.queues
+      ++ flat_map (job_words (script_of_parts p)) (map a_job p.jobs)
   words_canonical =
       words_append no_parts declared
       (buffer_statements p.buffers ++ semaphore_statements p.semaphores
@@ -177,42 +196,151 @@ module _ (p : Parts) (o : IsOrdered p) (items : HasItems p) (none : p.batch ≡ 
       (semaphore_statements p.semaphores) o.buffers_first i
       ++ queues_along (declarations p.buffers p.semaphores []) p.queues i
       ++ flat_map (job_words (script_of_parts p)) (map a_job p.jobs))
-      ∙ ((λ i.
+      ∙ (λ i.
       buffers_along no_parts p.buffers i
       ++ semaphores_along (declarations p.buffers [] []) p.semaphores i
       ++ map queue_words p.queues
-      ++ flat_map (job_words (script_of_parts p)) (map a_job p.jobs))
-      ∙ sym (append-nil
-      (map buffer_words p.buffers ++ map semaphore_words p.semaphores ++ map queue_words p.queues
-      ++ flat_map (job_words (script_of_parts p)) (map a_job p.jobs))))))
+      ++ flat_map (job_words (script_of_parts p)) (map a_job p.jobs))))
+
+  module _ (scheduled : Bool) (turns : List Turn) where
+    -- the lines of the schedule
+    abbrev schedule_lines : List (List (List ℕ))
+    schedule_lines = schedule_words (scheduled_script p scheduled turns)
+
+    -- What is known where all words are words of a text.
+    module _ (first : list_all are_text_words (words_along no_parts (statements_of p)) ≡ true)
+        (second : list_all are_text_words schedule_lines ≡ true) where
+      all_words : list_all are_text_words (words_along no_parts (statements_of p) ++ schedule_lines)
+          ≡ true
+      all_words =
+          list_all-append are_text_words (words_along no_parts (statements_of p)) schedule_lines
+          ∙ and_from (list_all are_text_words (words_along no_parts (statements_of p)))
+          (list_all are_text_words schedule_lines) first second
+
+      -- The lines of the canonical text are those of the statements, and those of the schedule.
+      lines_whole : lines_of (canonical_text (scheduled_script p scheduled turns))
+          ≡ map (join_with_byte 32) (words_along no_parts (statements_of p) ++ schedule_lines)
+      lines_whole =
+          ap (λ (ws : List (List (List ℕ))). lines_of (flat_map line_text (ws ++ schedule_lines)))
+          (sym words_canonical)
+          ∙ lines_back (words_along no_parts (statements_of p) ++ schedule_lines) all_words
+
+      lines_canonical : lines_of (canonical_text (scheduled_script p scheduled turns))
+          ≡ map (join_with_byte 32) (words_along no_parts (statements_of p))
+          ++ map (join_with_byte 32) schedule_lines
+      lines_canonical =
+          lines_whole
+          ∙ map-append (join_with_byte 32) (words_along no_parts (statements_of p)) schedule_lines
+
+      -- They tell whether there is a schedule.
+      lines_tell : tells_schedule (canonical_text (scheduled_script p scheduled turns))
+          ≡ list_any begins_schedule schedule_lines
+      lines_tell =
+          ap (λ (ls : List (List ℕ)). list_any begins_schedule (map words_of ls)) lines_whole
+          ∙ schedule_told no_parts p (statements_of p) schedule_lines ordered_leads all_words
 
 -- A script is read back from its canonical text, up to line numbers.
 abbrev ReadsBack : Script → Type 0
 ReadsBack s =
     (read : Script) × StandsFor (canonical_text s) (form_of_script s) read × SameButLines read s
+    × (cond (tells_schedule (canonical_text s)) Scheduled Plain ≡ form_of_script s)
 
 -- the script of what was read
 abbrev of_lines : Result (List Line) (ℕ × FaultKind) → Result Script (ℕ × FaultKind)
 of_lines (Ok lines) = Ok (script_of lines)
 of_lines (Err fault) = Err fault
 
--- the canonical text of parts
-parts_read_back : (p : Parts) → IsOrdered p → HasItems p → p.batch ≡ None →
-    (read : Script) × StandsFor (canonical_text (script_of_parts p)) Plain read
-    × (without_lines read ≡ script_of_parts p)
-parts_read_back p o items none =
-    let r =
-    statements_read [] 1 no_parts (statements_of p) p say_nothing nothing_named
-    (ordered_leads p o items none) none in
-    let lines : lines_of (canonical_text (script_of_parts p))
-    ≡ map (join_with_byte 32) (words_along no_parts (statements_of p)) =
-    ap (λ (ws : List (List (List ℕ))). lines_of (flat_map line_text ws))
-    (sym (words_canonical p o items none))
-    ∙ lines_back (words_along no_parts (statements_of p)) r.are_words in (
-      script_of r.all,
-      ap of_lines (ap (read_lines Plain [] 1) lines ∙ r.reads),
-      said_script r.all p r.say none,
-    )
+-- the canonical text of parts and turns
+abbrev PartsReadBack : Parts → Bool → List Turn → Type 0
+PartsReadBack p scheduled turns =
+    (read : Script)
+    × StandsFor (canonical_text (scheduled_script p scheduled turns)) (cond scheduled Scheduled Plain)
+    read
+    × (without_lines read ≡ scheduled_script p scheduled turns)
+    × (tells_schedule (canonical_text (scheduled_script p scheduled turns)) ≡ scheduled)
+
+module _ (p : Parts) (o : IsOrdered p) (items : HasItems p) (none : p.batch ≡ None) where
+  -- without a schedule
+  plain_read_back : (turns : List Turn) → turns ≡ [] → PartsReadBack p false turns
+  plain_read_back turns empty =
+      let r =
+      statements_read Plain [] 1 no_parts (statements_of p) p [] say_nothing nothing_named
+      (ordered_leads p o items none) in
+      let ends : read_lines Plain r.all r.next [] ≡ Ok r.all =
+      ap (λ (b : Bool). cond {A = Result (List Line) (ℕ × FaultKind)} b (Err (r.next, Syntax))
+      (Ok r.all)) (may_end r.all p r.say none) in (
+        script_of r.all,
+        ap of_lines
+            (ap (read_lines Plain [] 1)
+            (lines_canonical p o items none false turns r.are_words refl)
+            ∙ (r.reads ∙ ends)),
+        said_script r.all p r.say none ∙ ap (scheduled_script p false) (sym empty),
+        lines_tell p o items none false turns r.are_words refl,
+      )
+
+  -- with one
+  scheduled_read_back : (turns : List Turn) → map turn_without_line turns ≡ turns →
+      Every (λ t. IsActorIn p.queues t.actor) turns → length turns ≤ 65536 →
+      PartsReadBack p true turns
+  scheduled_read_back turns lineless actors few =
+      let s0 : Script = scheduled_script p true turns in
+      let js = joined_turns turns in
+      let back : List (List (List ℕ)) = schedule_words s0 in
+      let whole : expanded js ≡ turns = expanded_joined turns ∙ lineless in
+      let long = ap length whole in
+      let r =
+      statements_read Scheduled [] 1 no_parts (statements_of p) p (map (join_with_byte 32) back)
+      say_nothing nothing_named (ordered_leads p o items none) in
+      let begins = schedule_reads r.all p r.say none in
+      let now : List Line = with_line r.all r.next BeginSchedule in
+      let t =
+      all_turns_read Scheduled now (r.next + 1) p [] turns js
+      (schedule_begins r.all r.next p r.say none) r.names (are_joined p.queues turns actors)
+      (omega arith) in
+      let rest : read_lines Scheduled r.all r.next (map (join_with_byte 32) back) ≡ Ok t.all =
+      ap (λ (x : Result (List Line) FaultKind). go_on r.next
+      (λ ls. read_lines Scheduled ls (r.next + 1)
+      (map (join_with_byte 32) (map (turns_words s0) js))) x)
+      (ap (read_statement Scheduled r.all r.next)
+      (words_back (codes "schedule" ∷ []) begins.are_words) ∙ begins.reads r.next)
+      ∙ t.reads in (
+        script_of t.all,
+        ap of_lines
+            (ap (read_lines Scheduled [] 1)
+            (lines_canonical p o items none true turns r.are_words t.are_words)
+            ∙ (r.reads ∙ rest)),
+        schedule_script t.all p (expanded js) t.say ∙ ap (scheduled_script p true) whole,
+        lines_tell p o items none true turns r.are_words t.are_words,
+      )
+
+-- a script of parts and turns is read back
+has_read_back : (s : Script) → HasParts s → ReadsBack s
+has_read_back s has = by_schedule has.scheduled refl
+  where
+    p : Parts
+    p = has.said
+
+    turn_back : PartsReadBack p has.scheduled has.turns → ReadsBack s
+    turn_back back =
+        let text : canonical_text (scheduled_script p has.scheduled has.turns) ≡ canonical_text s =
+        ap canonical_text (sym has.same) ∙ ap (flat_map line_text) (lines_same s) in
+        let form : cond has.scheduled Scheduled Plain ≡ form_of_script s =
+        ap (λ (x : Script). form_of_script x) (sym has.same) in (
+          back.0,
+          subst (λ (z : List ℕ × Form). StandsFor z.0 z.1 back.0) (λ k. (text k, form k)) back.1,
+          back.2 ∙ sym has.same,
+          ap (λ (x : List ℕ). cond (tells_schedule x) Scheduled Plain) (sym text)
+              ∙ (ap (λ (b : Bool). cond b Scheduled Plain) back.3 ∙ form),
+        )
+
+    by_schedule : (b : Bool) → has.scheduled ≡ b → ReadsBack s
+    by_schedule false e =
+        turn_back (subst (λ (x : Bool). PartsReadBack p x has.turns) (sym e)
+        (plain_read_back p has.ordered has.items has.closed has.turns (has.none e)))
+    by_schedule true e =
+        turn_back (subst (λ (x : Bool). PartsReadBack p x has.turns) (sym e)
+        (scheduled_read_back p has.ordered has.items has.closed has.turns has.lineless has.actors
+        has.few))
 
 -- the parts of a script that can be written
 written_parts : (s : Script) → IsScript s → HasParts s
@@ -223,33 +351,30 @@ written_parts s i =
       ordered = has.ordered;
       items = has.items;
       closed = has.closed;
+      scheduled = has.scheduled;
+      turns = has.turns;
+      lineless = has.lineless;
+      actors = has.actors;
+      few = has.few;
+      none = has.none;
       same = sym i.same ∙ has.same;
     }
 
--- it is read without a schedule
-written_form : (s : Script) → IsScript s → Plain ≡ form_of_script s
-written_form s i = ap (λ (x : Script). form_of_script x) (sym (written_parts s i).same)
-
 -- The canonical text of a script that can be written stands for it, up to line numbers.
-pub canonical_reads_back : (s : Script) → IsScript s → ReadsBack s
+pub canonical_reads_back : (s : Script) → IsScript s →
+    (read : Script) × StandsFor (canonical_text s) (form_of_script s) read × SameButLines read s
 canonical_reads_back s i =
-    let has = written_parts s i in
-    let back = parts_read_back has.said has.ordered has.items has.closed in
-    let text : canonical_text (script_of_parts has.said) ≡ canonical_text s =
-    ap canonical_text (sym has.same) ∙ ap (flat_map line_text) (lines_same s) in (
-      back.0,
-      subst (λ (z : List ℕ × Form). StandsFor z.0 z.1 back.0)
-          (λ k. (text k, written_form s i k)) back.1,
-      back.2 ∙ sym has.same,
-    )
+    let back = has_read_back s (written_parts s i) in (back.0, back.1, back.2)
 
 -- Scripts that can be written and have the same canonical text are the same up to line numbers.
 pub canonical_tells_apart : (a b : Script) → IsScript a → IsScript b →
     canonical_text a ≡ canonical_text b → SameButLines a b
 canonical_tells_apart a b i j e =
-    let of_a = canonical_reads_back a i in
-    let of_b = canonical_reads_back b j in
-    let form : form_of_script a ≡ form_of_script b = sym (written_form a i) ∙ written_form b j in
+    let of_a = has_read_back a (written_parts a i) in
+    let of_b = has_read_back b (written_parts b j) in
+    let form : form_of_script a ≡ form_of_script b =
+    sym of_a.3
+    ∙ (ap (λ (x : List ℕ). cond (tells_schedule x) Scheduled Plain) e ∙ of_b.3) in
     let read : of_a.0 ≡ of_b.0 =
     same_script of_a.0 of_b.0
     (sym of_a.1 ∙ ((λ k. read_script (e k) (form k)) ∙ of_b.1)) in
@@ -257,3 +382,45 @@ canonical_tells_apart a b i j e =
   where
     same_script : (x y : Script) → ◌≡◌ {A = Result Script (ℕ × FaultKind)} (Ok x) (Ok y) → x ≡ y
     same_script x y h = cc
+
+-- A script that was read can be written, also where its turns were moved out of it.
+pub read_is_written : (s : Script) → IsRead s → IsScript s
+read_is_written s i =
+    elim i.kept_or_moved [
+      | inl kept ↦ record {
+        text = i.text;
+        form = i.form;
+        written = s;
+        stands = subst (λ (ts : List Turn). StandsFor i.text i.form (record s { turns = ts }))
+            (sym kept) i.stands;
+        same = refl;
+      }
+      | inr moved ↦ written moved
+    ]
+  where
+    written : s.turns ≡ [] → IsScript s
+    written moved =
+        let has = text_has_parts i.text i.form (record s { turns = i.turns }) i.stands in
+        let same : without_lines s ≡ scheduled_script has.said has.scheduled [] =
+        ap (λ (ts : List Turn). record (without_lines s) { turns = map turn_without_line ts }) moved
+        ∙ ap (λ (x : Script). record x { turns = [] }) has.same in
+        let back = has_read_back s (record {
+          said = has.said;
+          ordered = has.ordered;
+          items = has.items;
+          closed = has.closed;
+          scheduled = has.scheduled;
+          turns = [];
+          lineless = refl;
+          actors = tt;
+          few = omega arith;
+          none = λ f. refl;
+          same = same;
+        }) in
+        record {
+          text = canonical_text s;
+          form = form_of_script s;
+          written = back.0;
+          stands = back.1;
+          same = back.2;
+        }

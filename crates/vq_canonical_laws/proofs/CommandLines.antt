@@ -5,7 +5,7 @@ use Rattle.std.specs.List.{slice_get, flat_map}
 use Rattle.std.specs.Option.{option_map_or}
 use Rattle.std.specs.Fmt.{decimal}
 use Rattle.std.proofs.lemmas.Bool.{and_parts, and_from, or_from, ltb-true}
-use Rattle.vq_model.specs.declared.statement.Form.TheVariants.{Plain}
+use Rattle.vq_model.specs.declared.statement.Form.{Form}
 use Rattle.vq_model.specs.declared.statement.Section.TheVariants.{InBatch}
 use Rattle.vq_model.specs.declared.statement.Statement.TheVariants.{AddCommand}
 use Rattle.vq_model.specs.declared.statement.Line.{Line}
@@ -29,7 +29,7 @@ use Rattle.vq_canonical_laws.proofs.NamedParts.{AreNamed, name_word}
 use Rattle.vq_canonical_laws.proofs.ScriptParts.{Told, Parts, MayItem, Say, part_of_batch, size_in, is_within_in, count_commands, commands_of}
 use Rattle.vq_canonical_laws.proofs.LineWords.{declared_script, ReadsAs, words_plain, words_of_three, not_over, form_inside, in_part}
 
-module _ (before : List Line) (p : Parts) (h : Say before p) (named : AreNamed p) where
+module _ (form : Form) (before : List Line) (p : Parts) (h : Say before p) (named : AreNamed p) where
   -- a buffer that has bytes is there
   buffer_there : (bs : List Buffer) (b : ℕ) → 0 < size_in bs b →
       (x : Buffer) × (slice_get bs b ≡ Some x)
@@ -94,7 +94,7 @@ module _ (before : List Line) (p : Parts) (h : Say before p) (named : AreNamed p
 
   -- a fill of the rest of a buffer
   fill_whole_reads : (b o w : ℕ) → MayItem p (AddCommand (Fill b o Whole w)) →
-      ReadsAs before (command_words (declared_script p) (Fill b o Whole w))
+      ReadsAs form before (command_words (declared_script p) (Fill b o Whole w))
       (AddCommand (Fill b o Whole w))
   fill_whole_reads b o w m =
       let l = ltb-true o (size_in p.buffers b)
@@ -109,11 +109,11 @@ module _ (before : List Line) (p : Parts) (h : Say before p) (named : AreNamed p
       (name_word (name_of b) name.0)
       (words_of_three (decimal o) (codes "whole") (fill_word w) (decimal_word o so) refl
       (fill_word_word w sw)) in
-      let tests : PassesTests Plain before (command_words (declared_script p) (Fill b o Whole w))
+      let tests : PassesTests form before (command_words (declared_script p) (Fill b o Whole w))
       FillWholeLine (AddCommand (Fill b o Whole w)) =
       record {
         found =
-            form_inside before (command_words (declared_script p) (Fill b o Whole w))
+            form_inside form before (command_words (declared_script p) (Fill b o Whole w))
             (Some FillWholeLine) all.part h.version refl;
         plain = words_plain (command_words (declared_script p) (Fill b o Whole w)) words;
         shaped = and_from (is_name (name_of b)) true name.0 refl;
@@ -132,14 +132,14 @@ module _ (before : List Line) (p : Parts) (h : Say before p) (named : AreNamed p
       record {
         are_words = words;
         reads =
-            λ k. read_tested Plain before k (codes "fill")
+            λ k. read_tested form before k (codes "fill")
             (name_of b ∷ decimal o ∷ codes "whole" ∷ fill_word w ∷ []) FillWholeLine
             (AddCommand (Fill b o Whole w)) tests;
       }
 
   -- a fill
   fill_reads : (b o n w : ℕ) → MayItem p (AddCommand (Fill b o (Count n) w)) →
-      ReadsAs before (command_words (declared_script p) (Fill b o (Count n) w))
+      ReadsAs form before (command_words (declared_script p) (Fill b o (Count n) w))
       (AddCommand (Fill b o (Count n) w))
   fill_reads b o n w m =
       let range =
@@ -156,12 +156,12 @@ module _ (before : List Line) (p : Parts) (h : Say before p) (named : AreNamed p
       (name_word (name_of b) name.0)
       (words_of_three (decimal o) (decimal n) (fill_word w) (decimal_word o so) (decimal_word n sn)
       (fill_word_word w sw)) in
-      let tests : PassesTests Plain before
+      let tests : PassesTests form before
       (command_words (declared_script p) (Fill b o (Count n) w)) FillLine
       (AddCommand (Fill b o (Count n) w)) =
       record {
         found =
-            form_inside before (command_words (declared_script p) (Fill b o (Count n) w))
+            form_inside form before (command_words (declared_script p) (Fill b o (Count n) w))
             (Some FillLine) all.part h.version
             (ap (λ (t : Bool). cond (t && true) (Some FillWholeLine) (Some FillLine))
             (decimal_not_whole n sn));
@@ -183,14 +183,14 @@ module _ (before : List Line) (p : Parts) (h : Say before p) (named : AreNamed p
       record {
         are_words = words;
         reads =
-            λ k. read_tested Plain before k (codes "fill")
+            λ k. read_tested form before k (codes "fill")
             (name_of b ∷ decimal o ∷ decimal n ∷ fill_word w ∷ []) FillLine
             (AddCommand (Fill b o (Count n) w)) tests;
       }
 
   -- an update
   update_reads : (b o : ℕ) (bytes : List ℕ) → MayItem p (AddCommand (Update b o bytes)) →
-      ReadsAs before (command_words (declared_script p) (Update b o bytes))
+      ReadsAs form before (command_words (declared_script p) (Update b o bytes))
       (AddCommand (Update b o bytes))
   update_reads b o bytes m =
       let range =
@@ -208,11 +208,11 @@ module _ (before : List Line) (p : Parts) (h : Say before p) (named : AreNamed p
       words_of_three (name_of b) (decimal o) (flat_map (hex_digits 2) bytes)
       (name_word (name_of b) name.0) (decimal_word o so)
       (byte_digits_word bytes some_bytes.1) in
-      let tests : PassesTests Plain before (command_words (declared_script p) (Update b o bytes))
+      let tests : PassesTests form before (command_words (declared_script p) (Update b o bytes))
       UpdateLine (AddCommand (Update b o bytes)) =
       record {
         found =
-            form_inside before (command_words (declared_script p) (Update b o bytes))
+            form_inside form before (command_words (declared_script p) (Update b o bytes))
             (Some UpdateLine) all.part h.version refl;
         plain = words_plain (command_words (declared_script p) (Update b o bytes)) words;
         shaped = and_from (is_name (name_of b)) true name.0 refl;
@@ -230,14 +230,14 @@ module _ (before : List Line) (p : Parts) (h : Say before p) (named : AreNamed p
       record {
         are_words = words;
         reads =
-            λ k. read_tested Plain before k (codes "update")
+            λ k. read_tested form before k (codes "update")
             (name_of b ∷ decimal o ∷ flat_map (hex_digits 2) bytes ∷ []) UpdateLine
             (AddCommand (Update b o bytes)) tests;
       }
 
   -- a copy
   copy_reads : (s from t to n : ℕ) → MayItem p (AddCommand (Copy s from t to n)) →
-      ReadsAs before (command_words (declared_script p) (Copy s from t to n))
+      ReadsAs form before (command_words (declared_script p) (Copy s from t to n))
       (AddCommand (Copy s from t to n))
   copy_reads s from t to n m =
       let range =
@@ -256,11 +256,11 @@ module _ (before : List Line) (p : Parts) (h : Say before p) (named : AreNamed p
       (are_text_words (name_of t ∷ decimal to ∷ decimal n ∷ [])) (decimal_word from sf)
       (words_of_three (name_of t) (decimal to) (decimal n) (name_word (name_of t) target.0)
       (decimal_word to st) (decimal_word n sn))) in
-      let tests : PassesTests Plain before (command_words (declared_script p) (Copy s from t to n))
+      let tests : PassesTests form before (command_words (declared_script p) (Copy s from t to n))
       CopyLine (AddCommand (Copy s from t to n)) =
       record {
         found =
-            form_inside before (command_words (declared_script p) (Copy s from t to n))
+            form_inside form before (command_words (declared_script p) (Copy s from t to n))
             (Some CopyLine) all.part h.version refl;
         plain = words_plain (command_words (declared_script p) (Copy s from t to n)) words;
         shaped =
@@ -282,14 +282,14 @@ module _ (before : List Line) (p : Parts) (h : Say before p) (named : AreNamed p
       record {
         are_words = words;
         reads =
-            λ k. read_tested Plain before k (codes "copy")
+            λ k. read_tested form before k (codes "copy")
             (name_of s ∷ decimal from ∷ name_of t ∷ decimal to ∷ decimal n ∷ []) CopyLine
             (AddCommand (Copy s from t to n)) tests;
       }
 
   -- a command
   pub command_reads : (c : Command) → MayItem p (AddCommand c) →
-      ReadsAs before (command_words (declared_script p) c) (AddCommand c)
+      ReadsAs form before (command_words (declared_script p) c) (AddCommand c)
   command_reads (Fill b o Whole w) m = fill_whole_reads b o w m
   command_reads (Fill b o (Count n) w) m = fill_reads b o n w m
   command_reads (Update b o bytes) m = update_reads b o bytes m

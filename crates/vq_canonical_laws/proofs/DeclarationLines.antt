@@ -8,7 +8,7 @@ use Rattle.vq_model.specs.LineFaults.{part_of}
 use Rattle.vq_canonical_laws.proofs.ScriptParts.{Told, Parts, Say, has_jobs, part_of_batch, OpenLines, MayBuffer, MaySemaphore, MayQueue, MayBegin, sizes_in, count_jobs, is_named}
 use Rattle.std.proofs.lemmas.Bool.{or_from, and_from, lt-ltb}
 use Rattle.std.specs.Fmt.{decimal}
-use Rattle.vq_model.specs.declared.statement.Form.TheVariants.{Plain}
+use Rattle.vq_model.specs.declared.statement.Form.{Form}
 use Rattle.vq_model.specs.declared.statement.Statement.TheVariants.{DeclareBuffer, DeclareSemaphore, DeclareQueue, BeginBatch}
 use Rattle.vq_model.specs.declared.statement.LineForm.TheVariants.{BufferLine, TimelineLine, BinaryLine, FenceLine, QueueLine, SubmitLine}
 use Rattle.vq_model.specs.declared.script.SemaphoreKind.TheVariants.{Timeline, Binary, Fence}
@@ -53,7 +53,7 @@ declaration_in_order before f =
 
 -- The lines
 
-module _ (before : List Line) (p : Parts) (h : Say before p) (named : AreNamed p) where
+module _ (form : Form) (before : List Line) (p : Parts) (h : Say before p) (named : AreNamed p) where
   -- what the name of a declaration passes
   record IsNewName (name : List ℕ) : Type 0 where
     word : is_text_word name ≡ true
@@ -71,7 +71,7 @@ module _ (before : List Line) (p : Parts) (h : Say before p) (named : AreNamed p
 
   -- a buffer
   pub buffer_reads : (name : List ℕ) (size : ℕ) → MayBuffer p name size →
-      ReadsAs before (codes "buffer" ∷ name ∷ decimal size ∷ []) (DeclareBuffer name size)
+      ReadsAs form before (codes "buffer" ∷ name ∷ decimal size ∷ []) (DeclareBuffer name size)
   buffer_reads name size m =
       let l = m.bytes in
       let small : size < 2 ^ 64 = omega arith in
@@ -82,11 +82,11 @@ module _ (before : List Line) (p : Parts) (h : Say before p) (named : AreNamed p
       let sum_is = ap sum (sizes_said before p h) in
       let words : are_text_words (codes "buffer" ∷ name ∷ decimal size ∷ []) ≡ true =
       words_of_three (codes "buffer") name (decimal size) refl new.word (decimal_word size small) in
-      let tests : PassesTests Plain before (codes "buffer" ∷ name ∷ decimal size ∷ []) BufferLine
+      let tests : PassesTests form before (codes "buffer" ∷ name ∷ decimal size ∷ []) BufferLine
       (DeclareBuffer name size) =
       record {
         found =
-            form_outside before (codes "buffer" ∷ name ∷ decimal size ∷ []) (Some BufferLine)
+            form_outside form before (codes "buffer" ∷ name ∷ decimal size ∷ []) (Some BufferLine)
             first.part refl refl;
         plain = words_plain (codes "buffer" ∷ name ∷ decimal size ∷ []) words;
         shaped = new.shaped;
@@ -106,13 +106,13 @@ module _ (before : List Line) (p : Parts) (h : Say before p) (named : AreNamed p
       record {
         are_words = words;
         reads =
-            λ n. read_tested Plain before n (codes "buffer") (name ∷ decimal size ∷ []) BufferLine
+            λ n. read_tested form before n (codes "buffer") (name ∷ decimal size ∷ []) BufferLine
             (DeclareBuffer name size) tests;
       }
 
   -- a timeline
   pub timeline_reads : (name : List ℕ) (value : ℕ) → MaySemaphore p name (Timeline value) →
-      ReadsAs before (codes "timeline" ∷ name ∷ decimal value ∷ [])
+      ReadsAs form before (codes "timeline" ∷ name ∷ decimal value ∷ [])
       (DeclareSemaphore name (Timeline value))
   timeline_reads name value m =
       let first = is_first before p h m.outside m.first in
@@ -123,11 +123,11 @@ module _ (before : List Line) (p : Parts) (h : Say before p) (named : AreNamed p
       let words : are_text_words (codes "timeline" ∷ name ∷ decimal value ∷ []) ≡ true =
       words_of_three (codes "timeline") name (decimal value) refl new.word
       (decimal_word value small) in
-      let tests : PassesTests Plain before (codes "timeline" ∷ name ∷ decimal value ∷ [])
+      let tests : PassesTests form before (codes "timeline" ∷ name ∷ decimal value ∷ [])
       TimelineLine (DeclareSemaphore name (Timeline value)) =
       record {
         found =
-            form_outside before (codes "timeline" ∷ name ∷ decimal value ∷ [])
+            form_outside form before (codes "timeline" ∷ name ∷ decimal value ∷ [])
             (Some TimelineLine) first.part refl refl;
         plain = words_plain (codes "timeline" ∷ name ∷ decimal value ∷ []) words;
         shaped = new.shaped;
@@ -144,13 +144,13 @@ module _ (before : List Line) (p : Parts) (h : Say before p) (named : AreNamed p
       record {
         are_words = words;
         reads =
-            λ n. read_tested Plain before n (codes "timeline") (name ∷ decimal value ∷ [])
+            λ n. read_tested form before n (codes "timeline") (name ∷ decimal value ∷ [])
             TimelineLine (DeclareSemaphore name (Timeline value)) tests;
       }
 
   -- a binary semaphore
   pub binary_reads : (name : List ℕ) → MaySemaphore p name Binary →
-      ReadsAs before (codes "binary" ∷ name ∷ []) (DeclareSemaphore name Binary)
+      ReadsAs form before (codes "binary" ∷ name ∷ []) (DeclareSemaphore name Binary)
   binary_reads name m =
       let first = is_first before p h m.outside m.first in
       let new = new_name name m.named m.fresh in
@@ -158,11 +158,11 @@ module _ (before : List Line) (p : Parts) (h : Say before p) (named : AreNamed p
       let length_is = semaphore_count_said before p h in
       let words : are_text_words (codes "binary" ∷ name ∷ []) ≡ true =
       words_of_two (codes "binary") name refl new.word in
-      let tests : PassesTests Plain before (codes "binary" ∷ name ∷ []) BinaryLine
+      let tests : PassesTests form before (codes "binary" ∷ name ∷ []) BinaryLine
       (DeclareSemaphore name Binary) =
       record {
         found =
-            form_outside before (codes "binary" ∷ name ∷ []) (Some BinaryLine) first.part refl refl;
+            form_outside form before (codes "binary" ∷ name ∷ []) (Some BinaryLine) first.part refl refl;
         plain = words_plain (codes "binary" ∷ name ∷ []) words;
         shaped = new.shaped;
         in_order = declaration_in_order before first;
@@ -177,13 +177,13 @@ module _ (before : List Line) (p : Parts) (h : Say before p) (named : AreNamed p
       record {
         are_words = words;
         reads =
-            λ n. read_tested Plain before n (codes "binary") (name ∷ []) BinaryLine
+            λ n. read_tested form before n (codes "binary") (name ∷ []) BinaryLine
             (DeclareSemaphore name Binary) tests;
       }
 
   -- a fence
   pub fence_reads : (name : List ℕ) → MaySemaphore p name Fence →
-      ReadsAs before (codes "fence" ∷ name ∷ []) (DeclareSemaphore name Fence)
+      ReadsAs form before (codes "fence" ∷ name ∷ []) (DeclareSemaphore name Fence)
   fence_reads name m =
       let first = is_first before p h m.outside m.first in
       let new = new_name name m.named m.fresh in
@@ -191,11 +191,11 @@ module _ (before : List Line) (p : Parts) (h : Say before p) (named : AreNamed p
       let length_is = semaphore_count_said before p h in
       let words : are_text_words (codes "fence" ∷ name ∷ []) ≡ true =
       words_of_two (codes "fence") name refl new.word in
-      let tests : PassesTests Plain before (codes "fence" ∷ name ∷ []) FenceLine
+      let tests : PassesTests form before (codes "fence" ∷ name ∷ []) FenceLine
       (DeclareSemaphore name Fence) =
       record {
         found =
-            form_outside before (codes "fence" ∷ name ∷ []) (Some FenceLine) first.part refl refl;
+            form_outside form before (codes "fence" ∷ name ∷ []) (Some FenceLine) first.part refl refl;
         plain = words_plain (codes "fence" ∷ name ∷ []) words;
         shaped = new.shaped;
         in_order = declaration_in_order before first;
@@ -210,15 +210,15 @@ module _ (before : List Line) (p : Parts) (h : Say before p) (named : AreNamed p
       record {
         are_words = words;
         reads =
-            λ n. read_tested Plain before n (codes "fence") (name ∷ []) FenceLine
+            λ n. read_tested form before n (codes "fence") (name ∷ []) FenceLine
             (DeclareSemaphore name Fence) tests;
       }
 
   -- a queue
   pub queue_reads : (name : List ℕ) (mode : Mode) → MayQueue p name mode →
       is_text_word (mode_word mode) ≡ true →
-      form_of Plain before (codes "queue" ∷ name ∷ mode_word mode ∷ []) ≡ Some (QueueLine mode) →
-      ReadsAs before (codes "queue" ∷ name ∷ mode_word mode ∷ []) (DeclareQueue name mode)
+      form_of form before (codes "queue" ∷ name ∷ mode_word mode ∷ []) ≡ Some (QueueLine mode) →
+      ReadsAs form before (codes "queue" ∷ name ∷ mode_word mode ∷ []) (DeclareQueue name mode)
   queue_reads name mode m word found =
       let first = is_first before p h m.outside m.first in
       let new = new_name name m.named m.fresh in
@@ -226,7 +226,7 @@ module _ (before : List Line) (p : Parts) (h : Say before p) (named : AreNamed p
       let length_is = queue_count_said before p h in
       let words : are_text_words (codes "queue" ∷ name ∷ mode_word mode ∷ []) ≡ true =
       words_of_three (codes "queue") name (mode_word mode) refl new.word word in
-      let tests : PassesTests Plain before (codes "queue" ∷ name ∷ mode_word mode ∷ [])
+      let tests : PassesTests form before (codes "queue" ∷ name ∷ mode_word mode ∷ [])
       (QueueLine mode) (DeclareQueue name mode) =
       record {
         found = found;
@@ -244,13 +244,13 @@ module _ (before : List Line) (p : Parts) (h : Say before p) (named : AreNamed p
       record {
         are_words = words;
         reads =
-            λ n. read_tested Plain before n (codes "queue") (name ∷ mode_word mode ∷ [])
+            λ n. read_tested form before n (codes "queue") (name ∷ mode_word mode ∷ [])
             (QueueLine mode) (DeclareQueue name mode) tests;
       }
 
   -- the start of a batch
   pub submit_reads : (q : ℕ) → (m : MayBegin p q) →
-      ReadsAs before (codes "submit" ∷ m.queue.name ∷ []) (BeginBatch q)
+      ReadsAs form before (codes "submit" ∷ m.queue.name ∷ []) (BeginBatch q)
   submit_reads q m =
       let known = named.queue_names q m.queue m.there in
       let is_it : queue_at before m.queue.name ≡ Some q =
@@ -262,11 +262,11 @@ module _ (before : List Line) (p : Parts) (h : Say before p) (named : AreNamed p
       subst (λ (b : Option Told). OpenLines b (open_batch before)) m.outside h.opened in
       let words : are_text_words (codes "submit" ∷ m.queue.name ∷ []) ≡ true =
       words_of_two (codes "submit") m.queue.name refl (name_word m.queue.name known.0) in
-      let tests : PassesTests Plain before (codes "submit" ∷ m.queue.name ∷ []) SubmitLine
+      let tests : PassesTests form before (codes "submit" ∷ m.queue.name ∷ []) SubmitLine
       (BeginBatch q) =
       record {
         found =
-            form_outside before (codes "submit" ∷ m.queue.name ∷ []) (Some SubmitLine)
+            form_outside form before (codes "submit" ∷ m.queue.name ∷ []) (Some SubmitLine)
             (h.part ∙ ap part_of_batch m.outside) refl refl;
         plain = words_plain (codes "submit" ∷ m.queue.name ∷ []) words;
         shaped = and_from (is_name m.queue.name) true known.0 refl;
@@ -282,6 +282,6 @@ module _ (before : List Line) (p : Parts) (h : Say before p) (named : AreNamed p
       record {
         are_words = words;
         reads =
-            λ n. read_tested Plain before n (codes "submit") (m.queue.name ∷ []) SubmitLine
+            λ n. read_tested form before n (codes "submit") (m.queue.name ∷ []) SubmitLine
             (BeginBatch q) tests;
       }

@@ -1,5 +1,5 @@
 -- A line without a fault says a statement that may follow what the lines before say.
-use Rattle.std.proofs.Common.{◌≡◌, Option, Some, None, refl, false, List, [], ◌∷◌, sym, Bool, true, not, ℕ, ◌^◌, ◌<◌, ◌++◌, cond, ◌+◌, ◌==◌, ◌&&◌, ◌||◌, length, find, option_map, ap, ◌∙◌, subst, arith}
+use Rattle.std.proofs.Common.{◌≡◌, Option, Some, None, refl, false, List, [], ◌∷◌, sym, Bool, true, not, ℕ, ◌^◌, ◌<◌, ◌++◌, cond, ◌+◌, ◌==◌, ◌&&◌, ◌||◌, length, find, option_map, ap, ◌∙◌, subst, arith, ◌⊎◌, inl, inr}
 use Rattle.vq_model.specs.declared.statement.Section.TheVariants.{Outside, InBatch, InSchedule}
 use Rattle.vq_canonical_laws.proofs.ScriptParts.{Told, part_of_batch, has_jobs, TakesValue, Parts, May, Say, HasValue, IsBuiltMode, IsMarked, sizes_in, HasNumerals, count_jobs, count_commands, commands_of, place_of}
 use Rattle.std.proofs.lemmas.Bool.{false≢true, or_parts, and_parts, ltb-true, ltb-false}
@@ -8,7 +8,7 @@ use Rattle.vq_model.specs.declared.script.SemaphoreKind.{SemaphoreKind}
 use Rattle.vq_model.specs.declared.script.SemaphoreKind.TheVariants.{Timeline, Binary, Fence}
 use Rattle.vq_model.specs.Context.{is_timeline, is_binary, is_fence, section, buffers, semaphores, queues, buffer_at, timeline_at, binary_at, fence_at, queue_at, is_declared, has_begun, open_batch, is_batch_immediate, is_wait, is_command, is_signal, is_batch_fence, count, some, version_of}
 use Rattle.vq_model.specs.declared.statement.LineForm.{LineForm}
-use Rattle.vq_model.specs.declared.statement.LineForm.TheVariants.{WaitTimelineLine, WaitBinaryLine, FillWholeLine, FillLine, UpdateLine, CopyLine, SignalTimelineLine, SignalBinaryLine, BatchFenceLine, EndLine, BufferLine, TimelineLine, BinaryLine, FenceLine, QueueLine, SubmitLine}
+use Rattle.vq_model.specs.declared.statement.LineForm.TheVariants.{WaitTimelineLine, WaitBinaryLine, FillWholeLine, FillLine, UpdateLine, CopyLine, SignalTimelineLine, SignalBinaryLine, BatchFenceLine, EndLine, BufferLine, TimelineLine, BinaryLine, FenceLine, QueueLine, SubmitLine, ScheduleLine, TurnLine, TurnsLine}
 use Rattle.std.specs.List.{list_all, list_any}
 use Rattle.vq_model.specs.declared.statement.Form.{Form}
 use Rattle.vq_model.specs.declared.statement.Form.TheVariants.{Plain, Scheduled}
@@ -18,7 +18,7 @@ use Rattle.vq_model.specs.Meaning.{first_forms, matches, is_built, forms_at, mea
 use Rattle.std.specs.Prelude.{nat_lt, is_some, sum, count_by}
 use Rattle.std.specs.Str.{bytes_eq}
 use Rattle.vq_model.specs.declared.statement.Section.{Section}
-use Rattle.vq_model.specs.declared.statement.Statement.TheVariants.{DeclareBuffer, DeclareSemaphore, DeclareQueue, BeginBatch, AddWait, AddCommand, AddSignal, AddFence, EndBatch}
+use Rattle.vq_model.specs.declared.statement.Statement.TheVariants.{DeclareBuffer, DeclareSemaphore, DeclareQueue, BeginBatch, AddWait, AddCommand, AddSignal, AddFence, EndBatch, BeginSchedule}
 use Rattle.vq_model.specs.declared.script.Mode.{Mode}
 use Rattle.vq_model.specs.declared.script.Mode.TheVariants.{Immediate, Threaded}
 use Rattle.vq_model.specs.declared.script.Pair.{Pair}
@@ -93,6 +93,8 @@ stands_outside SignalTimelineLine = false
 stands_outside SignalBinaryLine = false
 stands_outside BatchFenceLine = false
 stands_outside EndLine = false
+stands_outside TurnLine = false
+stands_outside TurnsLine = false
 stands_outside other = true
 
 abbrev stands_inside : LineForm → Bool
@@ -102,6 +104,9 @@ stands_inside BinaryLine = false
 stands_inside FenceLine = false
 stands_inside (QueueLine mode) = false
 stands_inside SubmitLine = false
+stands_inside ScheduleLine = false
+stands_inside TurnLine = false
+stands_inside TurnsLine = false
 stands_inside other = true
 
 all_outside : (form : Form) (before : List Line) →
@@ -117,6 +122,10 @@ all_inside true = refl
 all_inside false = refl
 
 -- What a line may say
+
+-- a statement may follow, or it begins the schedule
+abbrev pub MayFollow : Parts → Statement → Type 0
+MayFollow p s = May p s ⊎ ((s ≡ BeginSchedule) × (p.batch ≡ None))
 
 module _ (form : Form) (before : List Line) (p : Parts) (h : Say before p) where
   -- before the first batch
@@ -584,14 +593,19 @@ module _ (form : Form) (before : List Line) (p : Parts) (h : Say before p) where
   -- by the form, outside a batch
   outside_may : (f : LineForm) (words : List (List ℕ)) (s : Statement) →
       Outside ≡ part_of_batch p.batch → stands_outside f ≡ true → is_built before f ≡ true →
-      matches words f ≡ true → PassesTests form before words f s → May p s
-  outside_may BufferLine words s e g b m t = buffer_may words s e m t
-  outside_may TimelineLine words s e g b m t = timeline_may words s e m t
-  outside_may BinaryLine words s e g b m t = binary_may words s e m t
-  outside_may FenceLine words s e g b m t = fence_may words s e m t
-  outside_may (QueueLine Immediate) words s e g b m t = queue_may Immediate tt words s e m t
-  outside_may (QueueLine Threaded) words s e g b m t = queue_may Threaded tt words s e m t
-  outside_may SubmitLine words s e g b m t = submit_may words s e m t
+      matches words f ≡ true → PassesTests form before words f s → MayFollow p s
+  outside_may BufferLine words s e g b m t = inl (buffer_may words s e m t)
+  outside_may TimelineLine words s e g b m t = inl (timeline_may words s e m t)
+  outside_may BinaryLine words s e g b m t = inl (binary_may words s e m t)
+  outside_may FenceLine words s e g b m t = inl (fence_may words s e m t)
+  outside_may (QueueLine Immediate) words s e g b m t = inl (queue_may Immediate tt words s e m t)
+  outside_may (QueueLine Threaded) words s e g b m t = inl (queue_may Threaded tt words s e m t)
+  outside_may SubmitLine words s e g b m t = inl (submit_may words s e m t)
+  outside_may ScheduleLine (a ∷ []) s e g b m t =
+      inr (sym (same_statement BeginSchedule s t.said), outside_batch p.batch e)
+  outside_may ScheduleLine words s e g b m t = absurd (false≢true m)
+  outside_may TurnLine words s e g b m t = absurd (false≢true g)
+  outside_may TurnsLine words s e g b m t = absurd (false≢true g)
   outside_may WaitTimelineLine words s e g b m t = absurd (false≢true g)
   outside_may WaitBinaryLine words s e g b m t = absurd (false≢true g)
   outside_may FillWholeLine words s e g b m t = absurd (false≢true g)
@@ -624,28 +638,31 @@ module _ (form : Form) (before : List Line) (p : Parts) (h : Say before p) where
   inside_may FenceLine words s e g b m t = absurd (false≢true g)
   inside_may (QueueLine mode) words s e g b m t = absurd (false≢true g)
   inside_may SubmitLine words s e g b m t = absurd (false≢true g)
+  inside_may ScheduleLine words s e g b m t = absurd (false≢true g)
+  inside_may TurnLine words s e g b m t = absurd (false≢true g)
+  inside_may TurnsLine words s e g b m t = absurd (false≢true g)
   inside_may f words s e g b m t = absurd (false≢true b)
 
   -- by the part of the text
   line_may : (was : Section) (f : LineForm) (words : List (List ℕ)) (s : Statement) →
       was ≡ part_of_batch p.batch → find (matches words) (forms_in form before was) ≡ Some f →
       is_built before f ≡ true → matches words f ≡ true → PassesTests form before words f s →
-      May p s
+      MayFollow p s
   line_may Outside f words s e found b m t =
       outside_may f words s e
       (found_belongs (matches words) stands_outside
       (first_forms before ++ forms_outside ++ schedule_forms form) f
       (all_outside form before) found) b m t
   line_may InBatch f words s e found b m t =
-      inside_may f words s e
+      inl (inside_may f words s e
       (found_belongs (matches words) stands_inside
       (held_forms (version_of before) ++ forms_in_batch) f
-      (all_inside (version_of before == 2)) found) b m t
+      (all_inside (version_of before == 2)) found) b m t)
   line_may InSchedule f words s e found b m t = absurd (no_schedule p.batch e)
 
-  -- A line without a fault says a statement that may follow.
+  -- A line without a fault says a statement that may follow, or begins the schedule.
   pub may_follow : (words : List (List ℕ)) (s : Statement) → fault_of form before words ≡ None →
-      meaning form before words ≡ Some s → May p s
+      meaning form before words ≡ Some s → MayFollow p s
   may_follow words s e m =
       let t = tests_passed form before words s e m in
       let found = built_found before (find (matches words) (forms_at form before)) t.0 t.1.found in

@@ -7,6 +7,8 @@ mod CanonicalReads
 mod CommandLines
 mod DeclarationLines
 mod FollowingLines
+mod FollowingTurns
+mod JoinedTurns
 mod LineTests
 mod LineWords
 mod NamedParts
@@ -15,6 +17,9 @@ mod OrderedDeclarations
 mod OrderedReads
 mod PartsSaid
 mod SaidContext
+mod ScheduleParts
+mod ScheduleReads
+mod ScheduleTold
 mod ScriptParts
 mod SilentStatements
 mod StatementPushes

@@ -7,7 +7,7 @@ use Rattle.vq_model.specs.declared.statement.Statement.{Statement}
 use Rattle.vq_model.specs.declared.statement.Statement.TheVariants.{DeclareBuffer, DeclareSemaphore, DeclareQueue, BeginBatch, AddWait, AddCommand, AddSignal, AddFence, EndBatch}
 use Rattle.vq_model.specs.ScriptOfLines.{mark}
 use Rattle.vq_model.specs.Canonical.{buffer_words, semaphore_words, queue_words, wait_words, command_words, signal_words, fence_words, queue_name}
-use Rattle.vq_model.specs.declared.statement.Form.TheVariants.{Plain}
+use Rattle.vq_model.specs.declared.statement.Form.{Form}
 use Rattle.vq_model.specs.declared.statement.Line.{Line}
 use Rattle.vq_model.specs.Reading.{with_line, read_statement}
 use Rattle.vq_canonical_laws.proofs.WrittenTexts.{are_text_words, is_word_byte, is_text_word, all_weaker, word_to_plain}
@@ -18,7 +18,7 @@ use Rattle.vq_model.specs.declared.statement.Section.{Section}
 use Rattle.vq_model.specs.declared.statement.Section.TheVariants.{Outside, InBatch}
 use Rattle.vq_model.specs.declared.statement.LineForm.{LineForm}
 use Rattle.vq_model.specs.declared.statement.LineForm.TheVariants.{VersionLine}
-use Rattle.vq_model.specs.Forms.{forms_outside, forms_in_batch, held_forms}
+use Rattle.vq_model.specs.Forms.{forms_outside, forms_in_batch, held_forms, schedule_forms}
 use Rattle.vq_model.specs.Context.{section, version_of, open_batch, some}
 use Rattle.vq_model.specs.Meaning.{matches, where_built, form_of, first_forms}
 use Rattle.vq_reading_laws.proofs.Cited.{forms_in}
@@ -46,9 +46,10 @@ words_at p EndBatch = codes "end" ∷ []
 words_at p other = []
 
 -- A statement's canonical words are words, and read as this statement.
-pub record ReadsAs (before : List Line) (words : List (List ℕ)) (s : Statement) : Type 0 where
+pub record ReadsAs (form : Form) (before : List Line) (words : List (List ℕ)) (s : Statement)
+    : Type 0 where
   pub are_words : are_text_words words ≡ true
-  pub reads : (n : ℕ) → read_statement Plain before n words ≡ Ok (with_line before n s)
+  pub reads : (n : ℕ) → read_statement form before n words ≡ Ok (with_line before n s)
 
 -- words are plain
 pub words_plain : (words : List (List ℕ)) → are_text_words words ≡ true →
@@ -84,31 +85,31 @@ not_past a b l = false_from_ne_true (nat_lt a b) (λ e. let m = ltb-true a b e i
 
 -- The forms
 
-module _ (before : List Line) (words : List (List ℕ)) where
+module _ (form : Form) (before : List Line) (words : List (List ℕ)) where
   -- the form of words in a part of the text
-  form_in : (was : Section) → section before ≡ was →
-      form_of Plain before words ≡ where_built before
-      (find (matches words) (forms_in Plain before was))
+  pub form_in : (was : Section) → section before ≡ was →
+      form_of form before words ≡ where_built before
+      (find (matches words) (forms_in form before was))
   form_in was e =
-      ap (λ (w : Section). where_built before (find (matches words) (forms_in Plain before w))) e
+      ap (λ (w : Section). where_built before (find (matches words) (forms_in form before w))) e
 
   -- outside a batch; no line but the first may name the version
   pub form_outside : (o : Option LineForm) → section before ≡ Outside →
-      matches words VersionLine ≡ false → find (matches words) (forms_outside ++ []) ≡ o →
-      form_of Plain before words ≡ where_built before o
+      matches words VersionLine ≡ false → find (matches words) (forms_outside ++ schedule_forms form) ≡ o →
+      form_of form before words ≡ where_built before o
   form_outside o e unnamed h =
       form_in Outside e ∙ ap (where_built before) (by_lines before ∙ h)
     where
-      by_lines : (ls : List Line) → find (matches words) (first_forms ls ++ forms_outside ++ [])
-          ≡ find (matches words) (forms_outside ++ [])
+      by_lines : (ls : List Line) → find (matches words) (first_forms ls ++ forms_outside ++ schedule_forms form)
+          ≡ find (matches words) (forms_outside ++ schedule_forms form)
       by_lines [] =
-          ap (λ (b : Bool). cond b (Some VersionLine) (find (matches words) (forms_outside ++ [])))
+          ap (λ (b : Bool). cond b (Some VersionLine) (find (matches words) (forms_outside ++ schedule_forms form)))
           unnamed
       by_lines (l ∷ ls) = refl
 
   -- in a batch of version 1
   pub form_inside : (o : Option LineForm) → section before ≡ InBatch → version_of before ≡ 1 →
-      find (matches words) forms_in_batch ≡ o → form_of Plain before words ≡ where_built before o
+      find (matches words) forms_in_batch ≡ o → form_of form before words ≡ where_built before o
   form_inside o e version h =
       form_in InBatch e
       ∙ (ap (λ (v : ℕ). where_built before (find (matches words) (held_forms v ++ forms_in_batch)))

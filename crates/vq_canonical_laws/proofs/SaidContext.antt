@@ -38,7 +38,7 @@ position_or_len_same p g h (x ∷ xs) =
     λ i. cond (not (h x i)) (1 + position_or_len_same p g h xs i) 0
 
 -- .. if it finds one
-position_same : {A : Type 0} (p : A → Bool) (g : A → A) → ((x : A) → p (g x) ≡ p x) →
+pub position_same : {A : Type 0} (p : A → Bool) (g : A → A) → ((x : A) → p (g x) ≡ p x) →
     (xs : List A) →
     position p (map g xs) ≡ position p xs
 position_same p g h xs = λ i.

@@ -4,6 +4,7 @@ use Rattle.std.specs.Prelude.{codes}
 use Rattle.std.specs.Option.{option_map_or}
 use Rattle.vq_model.specs.declared.statement.Statement.{Statement}
 use Rattle.vq_model.specs.declared.statement.Statement.TheVariants.{DeclareBuffer, DeclareSemaphore, DeclareQueue, BeginBatch, AddWait, AddCommand, AddSignal, AddFence, EndBatch}
+use Rattle.vq_model.specs.declared.statement.Form.{Form}
 use Rattle.vq_model.specs.declared.statement.Line.{Line}
 use Rattle.vq_model.specs.declared.statement.LineForm.TheVariants.{QueueLine}
 use Rattle.vq_model.specs.declared.script.SemaphoreKind.TheVariants.{Timeline, Binary, Fence}
@@ -16,29 +17,29 @@ use Rattle.vq_canonical_laws.proofs.DeclarationLines.{is_first, buffer_reads, ti
 use Rattle.vq_canonical_laws.proofs.BatchLines.{wait_reads, signal_reads, batch_fence_reads, end_reads}
 use Rattle.vq_canonical_laws.proofs.CommandLines.{command_reads}
 
-module _ (before : List Line) (p : Parts) (h : Say before p) (named : AreNamed p) where
+module _ (form : Form) (before : List Line) (p : Parts) (h : Say before p) (named : AreNamed p) where
   -- The canonical words of a statement that may follow read as this statement.
-  pub line_reads : (s : Statement) → May p s → ReadsAs before (words_at p s) s
-  line_reads (DeclareBuffer name size) m = buffer_reads before p h named name size m
-  line_reads (DeclareSemaphore name (Timeline value)) m = timeline_reads before p h named name value m
-  line_reads (DeclareSemaphore name Binary) m = binary_reads before p h named name m
-  line_reads (DeclareSemaphore name Fence) m = fence_reads before p h named name m
+  pub line_reads : (s : Statement) → May p s → ReadsAs form before (words_at p s) s
+  line_reads (DeclareBuffer name size) m = buffer_reads form before p h named name size m
+  line_reads (DeclareSemaphore name (Timeline value)) m = timeline_reads form before p h named name value m
+  line_reads (DeclareSemaphore name Binary) m = binary_reads form before p h named name m
+  line_reads (DeclareSemaphore name Fence) m = fence_reads form before p h named name m
   line_reads (DeclareQueue name Immediate) m =
-      queue_reads before p h named name Immediate m refl
-      (form_outside before (codes "queue" ∷ name ∷ codes "immediate" ∷ [])
+      queue_reads form before p h named name Immediate m refl
+      (form_outside form before (codes "queue" ∷ name ∷ codes "immediate" ∷ [])
       (Some (QueueLine Immediate)) (is_first before p h m.outside m.first).part refl refl)
   line_reads (DeclareQueue name Threaded) m =
-      queue_reads before p h named name Threaded m refl
-      (form_outside before (codes "queue" ∷ name ∷ codes "threaded" ∷ [])
+      queue_reads form before p h named name Threaded m refl
+      (form_outside form before (codes "queue" ∷ name ∷ codes "threaded" ∷ [])
       (Some (QueueLine Threaded)) (is_first before p h m.outside m.first).part refl refl)
   line_reads (DeclareQueue name Deferred) m = absurd m.built
   line_reads (BeginBatch q) m =
-      subst (λ (z : Option Queue). ReadsAs before
+      subst (λ (z : Option Queue). ReadsAs form before
       (codes "submit" ∷ option_map_or (λ x. x.name) z [] ∷ []) (BeginBatch q)) (sym m.there)
-      (submit_reads before p h named q m)
-  line_reads (AddWait pair from) m = wait_reads before p h named pair from m
-  line_reads (AddCommand c) m = command_reads before p h named c m
-  line_reads (AddSignal pair) m = signal_reads before p h named pair m
-  line_reads (AddFence f) m = batch_fence_reads before p h named f m
-  line_reads EndBatch m = end_reads before p h named m
+      (submit_reads form before p h named q m)
+  line_reads (AddWait pair from) m = wait_reads form before p h named pair from m
+  line_reads (AddCommand c) m = command_reads form before p h named c m
+  line_reads (AddSignal pair) m = signal_reads form before p h named pair m
+  line_reads (AddFence f) m = batch_fence_reads form before p h named f m
+  line_reads EndBatch m = end_reads form before p h named m
   line_reads s m = absurd m

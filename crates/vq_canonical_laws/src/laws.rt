@@ -1,7 +1,7 @@
 //! Laws over canonical texts. The functions do nothing: their contracts are the laws.
 ghost use Rattle.std.specs.Prelude.{◌≡◌};
 ghost use Rattle.vq_model.specs.declared.script.Script.{Script};
-ghost use Rattle.vq_model.specs.SameScript.{SameButLines, IsScript};
+ghost use Rattle.vq_model.specs.SameScript.{SameButLines, IsRead, IsScript};
 ghost use Rattle.vq_model.specs.Canonical.{canonical_text, form_of_script};
 ghost use Rattle.vq_model.specs.Reading.{StandsFor};
 
@@ -22,4 +22,9 @@ pub fn canonical_text_reads_back()
 pub fn canonical_text_tells_scripts_apart()
     ensures { (a b : Script) → IsScript a → IsScript b → canonical_text a ≡ canonical_text b →
         SameButLines a b }
+{}
+
+/// A script that was read can be written, also where its turns were moved out of it.
+pub fn read_scripts_can_be_written()
+    ensures { (s : Script) → IsRead s → IsScript s }
 {}
