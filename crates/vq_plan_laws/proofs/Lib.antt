@@ -4,6 +4,7 @@ mod UnwaitedPlans
 mod FaultLaws
 mod HostPlans
 mod LastBefore
+mod MovedTurns
 mod Owners
 mod PlacesAlike
 mod PlanChains

@@ -1,5 +1,5 @@
 //! Laws over the plans of scripts. The functions do nothing: their contracts are the laws.
-ghost use Rattle.std.specs.Prelude.{◌≡◌, ◌&&◌, not, ℕ, List, Some, None, ◌+◌, true, false, take, count_by, suc};
+ghost use Rattle.std.specs.Prelude.{◌≡◌, ◌&&◌, not, ℕ, List, Some, None, ◌+◌, true, false, take, count_by, suc, []};
 ghost use Rattle.std.specs.List.{list_all, slice_get};
 ghost use Rattle.vq_model.specs.Plan.{Plan, has, value};
 ghost use Rattle.vq_model.specs.Edges.{must_finish, AtEnd, HasNoHeldWait};
@@ -9,6 +9,10 @@ ghost use Rattle.vq_model.specs.SlowRun.{is_ready, payload_after, final};
 ghost use Rattle.vq_model.specs.LoweringFaults.{LoweringFault, lowering_fault, IsFirstFaultyUse, HasNoFaultyUse};
 ghost use Rattle.vq_model.specs.LoweringFaults.{IsPlan};
 ghost use Rattle.vq_model.specs.declared.script.Script.{Script};
+ghost use Rattle.vq_model.specs.declared.script.Turn.{Turn};
+ghost use Rattle.vq_model.specs.declared.statement.Form.{Form};
+ghost use Rattle.vq_model.specs.Reading.{StandsFor};
+ghost use Rattle.vq_model.specs.SameScript.{IsRead};
 ghost use Rattle.vq_model.specs.Signals.{Signaling, all_signals, signals_semaphore, value_at, is_timeline_at};
 ghost use Rattle.vq_model.specs.Checks.{IsEffectiveReset, IsFenceBusyAt, IsNotPendingAt, NoLine};
 ghost use Rattle.vq_model.specs.Lowering.{effective_resets, plan_of};
@@ -88,4 +92,16 @@ pub fn plans_of_built_forms()
     ensures resettable { (p : Plan) → IsPlan p → NoLine (IsFenceBusyAt p) }
     ensures pending { (p : Plan) → IsPlan p → NoLine (IsNotPendingAt p) }
     ensures unheld { (p : Plan) → IsPlan p → HasNoHeldWait p }
+{}
+
+/// No part of a plan but its script depends on the turns of a schedule. So where a script was read, and
+/// its turns are moved out of it or changed, it has the same fault of lowering or the same plan; with no
+/// turns left it still counts as read.
+pub fn plans_ignore_turns()
+    ensures read { (text : List ℕ) → (form : Form) → (s : Script) → StandsFor text form s →
+        IsRead s × IsRead (record s { turns = [] }) }
+    ensures fault { (s : Script) → (turns : List Turn) →
+        lowering_fault (record s { turns = turns }) ≡ lowering_fault s }
+    ensures plan { (s : Script) → (turns : List Turn) → plan_of (record s { turns = turns })
+        ≡ record (plan_of s) { script = record s { turns = turns } } }
 {}

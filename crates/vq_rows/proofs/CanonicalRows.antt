@@ -7,7 +7,7 @@ use Rattle.vq_model.specs.Canonical.{canonical_text}
 use Rattle.vq_model.specs.declared.statement.Form.{Form}
 use Rattle.vq_model.specs.Reading.{read_script}
 use Rattle.std.specs.Fmt.{digits}
-use Rattle.vq_model.specs.declared.statement.Form.TheVariants.{Plain}
+use Rattle.vq_model.specs.declared.statement.Form.TheVariants.{Plain, Scheduled}
 
 abbrev printed : Result Script (ℕ × FaultKind) → List ℕ
 printed (Ok script) = canonical_text script
@@ -41,3 +41,11 @@ marks :
     ++ codes "fence F\nend\nsubmit P\nend\n"
 unfolding digits
 marks = refl
+
+-- neighbouring turns of one actor are one line
+turns_joined :
+    reprinted Scheduled
+    (codes "queue P threaded\nschedule # note\nhost\nhost 0x2\n\nS:P\nR:P 1\nR:P")
+    ≡ codes "queue P threaded\nschedule\nhost 3\nS:P\nR:P 2\n"
+unfolding digits
+turns_joined = refl

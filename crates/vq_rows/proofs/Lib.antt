@@ -9,6 +9,7 @@ mod QueueRows
 mod RefusedRows
 mod ResetRows
 mod Rows
+mod ScheduleRows
 mod ScriptRows
 mod TextRows
 mod TimelineRows

@@ -1,6 +1,6 @@
 -- A text whose one wait is reached by no signal: its plan is one of a script that was read, and the wait is named
 -- unreachable. So the premises of the law that no run reaches such a wait are met.
-use Rattle.std.proofs.Common.{ℕ, List, [], ◌∷◌, false, None, ◌≡◌, refl, inl}
+use Rattle.std.proofs.Common.{ℕ, List, [], ◌∷◌, false, None, refl, inl}
 use Rattle.std.specs.Prelude.{codes}
 use Rattle.vq_model.specs.declared.script.Script.{Script}
 use Rattle.vq_model.specs.declared.script.Mode.TheVariants.{Threaded}

@@ -11,6 +11,8 @@ mod point_tests;
 #[cfg(test)]
 mod port_tests;
 #[cfg(test)]
+mod schedule_tests;
+#[cfg(test)]
 mod script_tests;
 #[cfg(test)]
 mod timeline_tests;
