@@ -1,10 +1,11 @@
 -- What other crates may cite of this one. All other files of proofs are private to it.
 pub use Rattle.vq_points.proofs.Binds.{bind_keeps}
 pub use Rattle.vq_points.proofs.Carriers.{waiting_count}
-pub use Rattle.vq_points.proofs.Completions.{complete_keeps, least_pending}
+pub use Rattle.vq_points.proofs.Completions.{IsLeast, complete_keeps, least_pending}
 pub use Rattle.vq_points.proofs.Freeings.{free_keeps}
 pub use Rattle.vq_points.proofs.HeldPoints.{entries_count}
 pub use Rattle.vq_points.proofs.NewTimelines.{new_keeps}
-pub use Rattle.vq_points.proofs.PointFacts.{Links, Waits}
-pub use Rattle.vq_points.proofs.PointHistories.{at_opening, one_event}
 pub use Rattle.vq_points.proofs.Takes.{take_keeps}
+pub use Rattle.vq_points.proofs.PointFacts.{Latest, Links, Waits, held_at, none_held, held_point, fewer_held, same_held, still_held}
+pub use Rattle.vq_points.proofs.PointHistories.{one_event, at_opening, keeps_point_law}
+pub use Rattle.vq_points.proofs.PendingLaws.{keeps_pending_law}

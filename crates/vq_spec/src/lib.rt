@@ -20,7 +20,7 @@ mod uses;
 pub use order::{SlowOrder, slow_order};
 pub use plan::Plan;
 pub use reached::{all_reached, any_reached, is_reached};
-pub use slow::{SlowRun, apply_in_order, slow_run};
+pub use slow::{SlowRun, apply_in_order, slow_run, zero_buffers};
 pub use text::buffers_text;
 pub use vq_model::plan::{Answer, AnswerLine, Event, Lane, Need, Op, PlanFault, PlanJob, Question};
 pub use vq_transfer::Buffers;

@@ -37,8 +37,10 @@ fn sizes_of(alloc: Global, script: &Script) -> Result<Vec<u32>, AllocError>
     Ok(sizes)
 }
 
-/// Buffers of the sizes that a script declares, all bytes zero.
-fn zero_buffers(alloc: Global, script: &Script) -> Result<Buffers, AllocError>
+/// Buffers of the sizes that a script declares, all bytes zero. The error is want of memory.
+///
+/// Source: this project's rule.
+pub fn zero_buffers(alloc: Global, script: &Script) -> Result<Buffers, AllocError>
     requires { IsRead script.now }
     ensures { IfOk result (λ buffers. buffers ≡ zeros_of (sizes_of script.now)) }
 {

@@ -1,4 +1,5 @@
 ghost use Rattle.std.specs.Prelude.{◌≡◌, ◌↔◌, ℕ, ◌^◌, ◌<◌, ◌≤◌, length, None, IsErr, IfOk, IfErr, OnOk, OnErr};
+ghost use Rattle.std.specs.List.{slice_get};
 ghost use Rattle.std.specs.List.Sorted.{IsPartitionPoint};
 ghost use Rattle.std.specs.Option.{option_map};
 ghost use Rattle.vq_points.specs.Timeline.{KeepsLists, AreRisingFrom, new_timeline, point_at, past_value};
@@ -227,5 +228,37 @@ impl TimelineCore {
         ensures { result ≡ length self.now.free }
     {
         self.free.len() as u32
+    }
+
+    /// The free point that is used next: the one freed last, if any point is free.
+    pub fn first_free(&self) -> Option<u32>
+        ensures { result ≡ slice_get self.now.free 0 }
+    {
+        match self.free.last() {
+            Some(point) => Some(*point),
+            None => None,
+        }
+    }
+
+    /// The point of an operation, if it has or had one.
+    pub fn point_at(&self, index: u32) -> Option<u32>
+        requires { index < length self.now.values }
+        ensures { result ≡ point_at self.now index }
+    {
+        self.points[index as usize]
+    }
+
+    /// How many operations are bound.
+    pub fn bound(&self) -> u32
+        ensures { result ≡ self.now.bound }
+    {
+        self.bound
+    }
+
+    /// How many operations are completed.
+    pub fn completed(&self) -> u32
+        ensures { result ≡ self.now.completed }
+    {
+        self.completed
     }
 }

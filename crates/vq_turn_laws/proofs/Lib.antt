@@ -1,6 +1,7 @@
 pub mod Cited
 mod AllPlaces
 mod Apart
+mod Asked
 mod CallLaws
 mod CountedWaits
 mod CutFacts
