@@ -1,0 +1,148 @@
+-- A turn, task by task.
+use Rattle.std.proofs.Common.{◌≡◌, ℕ, zero, suc, ◌+◌, ◌<◌, List, [], ◌∷◌, ◌++◌, length, drop, get_or, All, Some, None}
+use Rattle.std.proofs.Common.{refl, sym, ap, subst, ◌∙◌, arith, append-nil}
+use Rattle.std.specs.List.{slice_get}
+use Rattle.std.proofs.Math.Seq.{drop-length}
+use Rattle.std.proofs.lemmas.List.Elements.{All-head, All-tail}
+use Rattle.vq_model.specs.Plan.{Plan}
+use Rattle.vq_points.specs.Points.{PointState}
+use Rattle.vq_turns.specs.declared.task.Task.{Task}
+use Rattle.vq_turns.specs.declared.outcome.Want.{Want}
+use Rattle.vq_turns.specs.declared.outcome.Outcome.{Outcome}
+use Rattle.vq_turns.specs.declared.outcome.Outcome.TheVariants.{Ended}
+use Rattle.vq_turns.specs.Programs.{program}
+use Rattle.vq_turns.specs.Turns.{Place, Turned, Ends, does, and_then, turn_from, turn_of, world_after}
+use Rattle.vq_actor.specs.declared.doing.Doing.{Doing}
+use Rattle.vq_actor.specs.declared.doing.Doing.TheVariants.{GoesOn, Stays, Leaves}
+use Rattle.vq_actor.specs.Meanings.{Meaning, Keeps, IsNext, next_task}
+use Rattle.vq_actor.specs.Actors.{IsTurn, events_by}
+use Rattle.vq_actor.specs.Positions.{MayBeDone}
+use Rattle.vq_actor.specs.Doings.{DidTo, did_of, outcome_of, world_left}
+use Rattle.vq_actor.proofs.Keeping.{keeps_itself, keeps_along, shown_before, unchanged}
+
+-- Lists
+
+pub drop_at : {A : Type 0} (xs : List A) (k : ℕ) (x : A) → slice_get xs k ≡ Some x → drop k xs ≡ x ∷ drop (suc k) xs
+drop_at [] k x e = absurd (cc)
+drop_at (y ∷ xs) zero x e = cc
+drop_at (y ∷ xs) (suc k) x e = drop_at xs k x e
+
+none_at : {A : Type 0} (xs : List A) → slice_get xs (length xs) ≡ None
+none_at [] = refl
+none_at (x ∷ xs) = none_at xs
+
+pub at_index : {A : Type 0} (xs : List A) (k : ℕ) (d : A) → k < length xs → d ≡ get_or xs k d → slice_get xs k ≡ Some d
+at_index [] k d le e = absurd (omega arith)
+at_index (x ∷ xs) zero d le e = ap Some (sym e)
+at_index (x ∷ xs) (suc k) d le e = at_index xs k d (omega arith) e
+
+pub all_at : {A : Type 0} (P : A → Type 0) (xs : List A) (k : ℕ) (x : A) → All P xs → slice_get xs k ≡ Some x → P x
+all_at P [] k x h e = absurd (cc)
+all_at P (y ∷ xs) zero x h e = let same : y ≡ x = cc in subst P same (All-head P y xs h)
+all_at P (y ∷ xs) (suc k) x h e = all_at P xs k x (All-tail P y xs h) e
+
+-- Steps
+
+-- How far a turn has come: so many tasks are done, and from here on it comes to what the whole does.
+pub record Going (a m : Meaning) (tasks : List Task) (k : ℕ) : Type 0 where
+  pub kept : Keeps a m
+  pub events : m.events ≡ a.events
+  pub done : m.place.done ≡ k
+  pub state : (w : PointState) → a.state ≡ Some w → m.state ≡ Some w
+  pub turn : (w : PointState) → a.state ≡ Some w →
+      turn_of a.plan w a.actor a.place ≡ turn_from a.plan w a.actor m.place (drop k tasks)
+
+pub begins : (a : Meaning) (tasks : List Task) (k : ℕ) → tasks ≡ program a.plan a.actor → a.place.done ≡ k →
+    Going a a tasks k
+begins a tasks k e at =
+    record {
+      kept = keeps_itself a;
+      events = refl;
+      done = at;
+      state = λ w is. is;
+      turn = λ w is.
+          ap (λ (i : ℕ). turn_from a.plan w a.actor a.place (drop i (program a.plan a.actor))) at
+          ∙ ap (λ ts. turn_from a.plan w a.actor a.place (drop k ts)) (sym e);
+    }
+
+-- the next task of an access that is so far
+pub next_at : (a m : Meaning) (tasks : List Task) (k : ℕ) → tasks ≡ program a.plan a.actor → Going a m tasks k →
+    next_task m ≡ slice_get tasks k
+next_at a m tasks k e h =
+    ap (λ p. slice_get (program p m.actor) m.place.done) h.kept.plan
+    ∙ (ap (λ b. slice_get (program a.plan b) m.place.done) h.kept.actor
+    ∙ (ap (λ (i : ℕ). slice_get (program a.plan a.actor) i) h.done ∙ ap (λ ts. slice_get ts k) (sym e)))
+
+module _ (a : Meaning) (m : Meaning) (tasks : List Task) (k : ℕ) (t : Task) (h : Going a m tasks k)
+    (at : slice_get tasks k ≡ Some t) where
+  pub is_next : tasks ≡ program a.plan a.actor → IsNext m t
+  is_next e = next_at a m tasks k e h ∙ at
+
+  pub may_be_done : All (MayBeDone a.plan) tasks → MayBeDone m.plan t
+  may_be_done r =
+      subst (λ (p : Plan). MayBeDone p t) (sym h.kept.plan) (all_at (MayBeDone a.plan) tasks k t r at)
+
+  module _ (n : Meaning) (shows : Want → ℕ × ℕ → Type 0) (y : Place) where
+    module _ (did : Doing) (d : DidTo m n y t shows did) where
+      unfolds : (w : PointState) → a.state ≡ Some w →
+          turn_of a.plan w a.actor a.place
+          ≡ and_then (did_of did n.place) (λ z. turn_from a.plan w a.actor z (drop (suc k) tasks))
+      unfolds w is =
+          let rest : Place → Turned = λ z. turn_from a.plan w a.actor z (drop (suc k) tasks) in
+          h.turn w is
+          ∙ (ap (λ ts. turn_from a.plan w a.actor m.place ts) (drop_at tasks k t at)
+          ∙ (ap (λ p. and_then (does p w a.actor m.place t) rest) (sym h.kept.plan)
+          ∙ (ap (λ b. and_then (does m.plan w b m.place t) rest) (sym h.kept.actor)
+          ∙ (ap (λ x. and_then x rest) (d.state w (h.state w is)).0
+          ∙ ap (λ z. and_then (did_of did z) rest) (sym d.place)))))
+
+      ends : (o : Outcome) → outcome_of did ≡ Some o → ((z : Place) → did_of did z ≡ Ends o z) →
+          ((p : Plan) (w : PointState) → world_left p w did ≡ world_after p w o) →
+          n.events ≡ m.events ++ events_by o → IsTurn a n shows o
+      ends o is_outcome is_end leaves events =
+          record {
+            kept = keeps_along a m n h.kept d.kept;
+            events = events ∙ ap (λ xs. xs ++ events_by o) h.events;
+            named = λ w is. (
+              sym (unfolds w is
+                  ∙ ap (λ x. and_then x (λ z. turn_from a.plan w a.actor z (drop (suc k) tasks))) (is_end n.place)),
+              (d.state w (h.state w is)).1
+                  ∙ (ap Some (leaves m.plan w) ∙ ap (λ p. Some (world_after p w o)) h.kept.plan),
+            );
+            shown = λ want x.
+                shown_before a.steps m.steps (shows want) h.kept.steps (d.shown want (is_outcome ∙ ap Some x));
+            ended = λ x. absurd (d.unended (is_outcome ∙ ap Some x));
+          }
+
+    pub goes_on : y.done ≡ k + 1 → DidTo m n y t shows GoesOn → Going a n tasks (k + 1)
+    goes_on further d =
+        record {
+          kept = keeps_along a m n h.kept d.kept;
+          events = d.events ∙ (append-nil m.events ∙ h.events);
+          done = ap (λ (z : Place). z.done) d.place ∙ further;
+          state = λ w is. (d.state w (h.state w is)).1;
+          turn = λ w is.
+              let e : suc k ≡ k + 1 = omega arith in
+              unfolds GoesOn d w is ∙ ap (λ i. turn_from a.plan w a.actor n.place (drop i tasks)) e;
+        }
+
+    pub stays : (o : Outcome) → DidTo m n y t shows (Stays o) → IsTurn a n shows o
+    stays o d = ends (Stays o) d o refl (λ z. refl) (λ p w. refl) d.events
+
+    pub leaves : (o : Outcome) → DidTo m n y t shows (Leaves o) → IsTurn a n shows o
+    leaves o d = ends (Leaves o) d o refl (λ z. refl) (λ p w. refl) d.events
+
+-- no task is left
+pub is_over : (a m : Meaning) (tasks : List Task) (shows : Want → ℕ × ℕ → Type 0) →
+    tasks ≡ program a.plan a.actor → Going a m tasks (length tasks) → IsTurn a m shows Ended
+is_over a m tasks shows e h =
+    record {
+      kept = h.kept;
+      events = unchanged a.events m.events [] h.events refl;
+      named = λ w is. (
+        sym (h.turn w is ∙ ap (λ ts. turn_from a.plan w a.actor m.place ts) (drop-length tasks)),
+        h.state w is,
+      );
+      shown = λ want x. absurd (cc);
+      ended = λ x. next_at a m tasks (length tasks) e h ∙ none_at tasks;
+    }

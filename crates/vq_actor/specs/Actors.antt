@@ -1,0 +1,46 @@
+-- An actor and its turns. This project's own.
+use Rattle.std.specs.Prelude.{ℕ, ◌≡◌, List, [], ◌∷◌, ◌++◌, Some, None}
+use Rattle.vq_model.specs.declared.plan.Event.{Event}
+use Rattle.vq_model.specs.Plan.{Plan}
+use Rattle.vq_model.specs.declared.script.ActorName.{ActorName}
+use Rattle.vq_points.specs.Points.{PointState}
+use Rattle.vq_turns.specs.declared.task.Task.{Task}
+use Rattle.vq_turns.specs.declared.outcome.Want.{Want}
+use Rattle.vq_turns.specs.declared.outcome.Outcome.{Outcome}
+use Rattle.vq_turns.specs.declared.outcome.Outcome.TheVariants.{Moved, Blocked, Ended}
+use Rattle.vq_turns.specs.Programs.{program}
+use Rattle.vq_turns.specs.Turns.{Place, first_place, turn_of, world_after}
+use Rattle.vq_actor.specs.Meanings.{Meaning, Keeps, IsShownSince, next_task}
+
+-- an actor: its name, the tasks of its program, and its place in them
+pub record Acting : Type 0 where
+  pub name : ActorName
+  pub tasks : List Task
+  pub place : Place
+
+-- the actor of a plan before its first turn
+abbrev pub acting_at_first : Plan → ActorName → Acting
+acting_at_first p a = record { name = a; tasks = program p a; place = first_place }
+
+-- An actor is the one that an access serves: it has the access's program and place.
+pub record IsServed (x : Acting) (m : Meaning) : Type 0 where
+  pub name : x.name ≡ m.actor
+  pub tasks : x.tasks ≡ program m.plan m.actor
+  pub place : x.place ≡ m.place
+
+-- the event that an outcome adds to those that were made
+abbrev pub events_by : Outcome → List Event
+events_by (Moved event) = event ∷ []
+events_by other = []
+
+-- A turn. Where the state is told, its outcome and the place after it are those of its definition, and the
+-- state after it is that after the outcome's event. A want is shown since the turn's start. It is `Ended`
+-- only where no task is left.
+pub record IsTurn (old new : Meaning) (shows : Want → ℕ × ℕ → Type 0) (outcome : Outcome) : Type 0 where
+  pub kept : Keeps old new
+  pub events : new.events ≡ old.events ++ events_by outcome
+  pub named : (w : PointState) → old.state ≡ Some w →
+      (record { outcome = outcome; place = new.place } ≡ turn_of old.plan w old.actor old.place)
+      × (new.state ≡ Some (world_after old.plan w outcome))
+  pub shown : (want : Want) → outcome ≡ Blocked want → IsShownSince old.steps (shows want)
+  pub ended : outcome ≡ Ended → next_task new ≡ None

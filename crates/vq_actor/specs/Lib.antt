@@ -1,0 +1,10 @@
+pub mod Actors
+pub mod Answers
+pub mod Collections
+pub mod Doings
+pub mod Meanings
+pub mod Positions
+pub mod ProgramParts
+pub mod Trackers
+pub mod Waits
+pub mod Wants

@@ -1,0 +1,28 @@
+-- The wants for which each call may make no event. This project's own.
+use Rattle.std.specs.Prelude.{ℕ, ◌≡◌, true, Some}
+use Rattle.vq_model.specs.Plan.{Plan, has, chain_of, job_of}
+use Rattle.vq_points.specs.Points.{smaller_ops}
+use Rattle.vq_turns.specs.declared.outcome.Want.{Want}
+use Rattle.vq_turns.specs.declared.outcome.Want.TheVariants.{Next, Released, Exchange, Listed}
+
+-- another actor has changed the word of a point
+abbrev pub IsExchange : Want → Type 0
+IsExchange (Exchange e found) = Unit {0}
+IsExchange other = ⊥
+
+abbrev pub IsExchangeOf : ℕ → Want → Type 0
+IsExchangeOf e (Exchange f found) = f ≡ e
+IsExchangeOf e other = ⊥
+
+-- an operation stands before another one in its chain
+pub record IsBefore (p : Plan) (f e : ℕ) : Type 0 where
+  pub chain : ℕ
+  pub in_chain : chain_of p e ≡ Some chain
+  pub smaller : has (smaller_ops p chain e) f ≡ true
+
+-- An operation isn't bound: one before it isn't, its job isn't released, or its lists are in use.
+abbrev pub HoldsBackBind : Plan → ℕ → Want → Type 0
+HoldsBackBind p e (Next f) = IsBefore p f e
+HoldsBackBind p e (Released j) = job_of p e ≡ Some j
+HoldsBackBind p e (Listed f) = f ≡ e
+HoldsBackBind p e other = ⊥

@@ -1,0 +1,10 @@
+//! What one task of a turn comes to.
+use vq_turns::outcome::Outcome;
+
+/// The turn goes on with the next task, or it has its outcome, and the task stays or is done.
+#[derive(Clone, Copy)]
+pub(crate) enum Doing {
+    GoesOn,
+    Stays(Outcome),
+    Leaves(Outcome),
+}

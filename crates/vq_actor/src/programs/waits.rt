@@ -1,0 +1,75 @@
+//! The tasks for needs, one for each.
+ghost use Rattle.std.specs.Prelude.{◌≡◌, ◌++◌, [], ◌∷◌, filter, map, OnOk, IfOk};
+ghost use Rattle.vq_turns.specs.declared.task.Task.{Task};
+ghost use Rattle.vq_actor.specs.ProgramParts.{is_within, wait_where};
+
+use std::alloc::{AllocError, Global};
+use vq_model::list::List;
+use vq_model::plan::Need;
+use vq_turns::task::Task;
+
+/// Which needs of a job: those that hold it back as a whole, those from a later place, those from behind so
+/// many commands, or all.
+#[derive(Clone, Copy)]
+pub(crate) enum Within {
+    Start,
+    Place(usize),
+    Behind(usize),
+    Whole,
+}
+
+impl Within {
+    /// Whether a need is one of these.
+    fn has(self, need: &Need) -> bool
+        ensures { result ≡ is_within self need.now }
+    {
+        let from = need.from as usize;
+        match self {
+            Within::Start => from == 1,
+            Within::Place(place) => 1 < place && from == place,
+            Within::Behind(commands) => 1 < from && commands < from,
+            Within::Whole => true,
+        }
+    }
+}
+
+/// A list of one need.
+fn one(alloc: Global, need: Need) -> Result<List<Need>, AllocError>
+    ensures { IfOk result (λ needs. needs ≡ need ∷ []) }
+{
+    let mut needs = Vec::with_capacity(alloc, 1)?;
+    needs.push(need)?;
+    Ok(List::of(needs))
+}
+
+/// Adds a wait for a need, where it is one of these.
+fn push_wait(
+    alloc: Global,
+    tasks: &mut Vec<Task>,
+    within: Within,
+    need: &Need,
+) -> Result<(), AllocError>
+    ensures { OnOk result (tasks.new.items ≡ tasks.old.items ++ wait_where within need.now) }
+{
+    if within.has(need) {
+        let needs = one(alloc, *need)?;
+        tasks.push(Task::AwaitNeeds { needs })?;
+    }
+    Ok(())
+}
+
+/// Adds waits for those of the needs, each by itself.
+pub(crate) fn push_waits(
+    alloc: Global,
+    tasks: &mut Vec<Task>,
+    within: Within,
+    needs: &[Need],
+) -> Result<(), AllocError>
+    ensures { OnOk result (tasks.new.items ≡ tasks.old.items
+        ++ map (λ n. Task.AwaitNeeds (n ∷ [])) (filter (is_within within) needs.now)) }
+{
+    for need in needs {
+        push_wait(alloc, tasks, within, need)?;
+    }
+    Ok(())
+}
