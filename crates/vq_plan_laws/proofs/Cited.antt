@@ -6,7 +6,8 @@ pub use Rattle.vq_plan_laws.proofs.HostPlans.{host_order}
 pub use Rattle.vq_plan_laws.proofs.LastBefore.{HasNone, IsLast, last_cases}
 pub use Rattle.vq_plan_laws.proofs.MovedTurns.{kept_read, moved_read, same_fault, same_plan}
 pub use Rattle.vq_plan_laws.proofs.Owners.{owner}
-pub use Rattle.vq_plan_laws.proofs.PlacesAlike.{needs_alike, reached_earlier, ready_whole, same_before, same_reached, same_sure}
+pub use Rattle.vq_plan_laws.proofs.PlacesAlike.{needs_alike, reached_earlier, ready_whole, same_before}
+pub use Rattle.vq_plan_laws.proofs.PlacesAlike.{same_reached, same_sure}
 pub use Rattle.vq_plan_laws.proofs.PlanChains.{chain_is, op_value_is}
 pub use Rattle.vq_plan_laws.proofs.PlanCommands.{length-batch_commands}
 pub use Rattle.vq_plan_laws.proofs.PlanLanes.{count_jobs, count_ops}

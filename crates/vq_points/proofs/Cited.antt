@@ -5,7 +5,8 @@ pub use Rattle.vq_points.proofs.Completions.{IsLeast, complete_keeps, least_pend
 pub use Rattle.vq_points.proofs.Freeings.{free_keeps}
 pub use Rattle.vq_points.proofs.HeldPoints.{entries_count}
 pub use Rattle.vq_points.proofs.NewTimelines.{new_keeps}
-pub use Rattle.vq_points.proofs.Takes.{take_keeps}
-pub use Rattle.vq_points.proofs.PointFacts.{Latest, Links, Waits, held_at, none_held, held_point, fewer_held, same_held, still_held}
-pub use Rattle.vq_points.proofs.PointHistories.{one_event, at_opening, keeps_point_law}
 pub use Rattle.vq_points.proofs.PendingLaws.{keeps_pending_law}
+pub use Rattle.vq_points.proofs.PointFacts.{Latest, Links, Waits, fewer_held, held_at, held_point, none_held}
+pub use Rattle.vq_points.proofs.PointFacts.{same_held, still_held}
+pub use Rattle.vq_points.proofs.PointHistories.{at_opening, keeps_point_law, one_event}
+pub use Rattle.vq_points.proofs.Takes.{take_keeps}
