@@ -1,0 +1,17 @@
+mod Tests
+mod Courses
+mod Ops
+mod LaneNext
+mod Jobs
+mod Holds
+mod GuardLaws
+mod TableLaws
+mod LaneLaws
+mod TimelineTables
+mod NoteLaws
+mod Pushes
+mod EventParts
+mod Standing
+mod Collecting
+mod OpeningLaws
+mod Histories

@@ -1,0 +1,69 @@
+-- The other tables, and what the world says of them. This project's own.
+use Rattle.std.specs.Prelude.{ℕ, Bool, List, length, count_by, ◌≡◌, ◌<◌, ◌≤◌, ◌==◌, true, false, Option, None, not, []}
+use Rattle.std.specs.List.{slice_index_or, range_with_len}
+use Rattle.vq_model.specs.Plan.{Plan, has, commands_of, signals_of}
+use Rattle.vq_points.specs.Points.{PointState, Reference}
+use Rattle.vq_points.specs.Timeline.{Timeline, KeepsLists, new_timeline}
+use Rattle.vq_core_laws.specs.Firsts.{AreFirst}
+use Rattle.vq_core_laws.specs.TimelineOf.{IsTimelineOf}
+use Rattle.vq_core.specs.declared.table.JobState.{JobState}
+use Rattle.vq_core.specs.declared.table.PointSlot.{PointSlot}
+
+-- a job of which nothing is done
+abbrev pub idle : JobState
+idle = record { released = false; started = false; finished = false; commands = 0; signals = 0 }
+
+-- a point that carries nothing
+abbrev pub no_slot : PointSlot
+no_slot = record { carried = None; waits = false; references = 0 }
+
+-- so many of the first jobs are submitted, and no others
+pub record AreSubmitted (jobs : ℕ) (submitted : ℕ → Bool) (n : ℕ) : Type 0 where
+  pub within : n ≤ jobs
+  pub before : (j : ℕ) → j < n → submitted j ≡ true
+  pub after : (j : ℕ) → n ≤ j → submitted j ≡ false
+
+pub record IsJobState (p : Plan) (released started finished made : ℕ → Bool) (applied : List ℕ) (j : ℕ) (s : JobState)
+    : Type 0 where
+  pub is_released : s.released ≡ released j
+  pub is_started : s.started ≡ started j
+  pub is_finished : s.finished ≡ finished j
+  pub first_commands : AreFirst (has applied) (commands_of p j) s.commands
+  pub first_signals : AreFirst made (signals_of p j) s.signals
+
+pub record AreJobs (p : Plan) (released started finished made : ℕ → Bool) (applied : List ℕ) (xs : List JobState)
+    : Type 0 where
+  pub count : length xs ≡ length p.jobs
+  pub each : (j : ℕ) → IsJobState p released started finished made applied j (slice_index_or xs j idle)
+
+pub record IsSlot (carried : ℕ → Option ℕ) (waiting : ℕ → Bool) (held : List Reference) (q : ℕ) (s : PointSlot) : Type 0
+  where
+    pub is_carried : s.carried ≡ carried q
+    pub is_waiting : s.waits ≡ waiting q
+    pub references : s.references ≡ count_by (λ r. r.point == q) held
+
+pub record ArePoints (size : ℕ) (carried : ℕ → Option ℕ) (waiting : ℕ → Bool) (held : List Reference)
+    (xs : List PointSlot) : Type 0 where
+  pub count : length xs ≡ size
+  pub each : (q : ℕ) → IsSlot carried waiting held q (slice_index_or xs q no_slot)
+
+-- for each operation whether it is made
+pub record AreMade (size : ℕ) (made : ℕ → Bool) (xs : List Bool) : Type 0 where
+  pub count : length xs ≡ size
+  pub each : (e : ℕ) → slice_index_or xs e false ≡ made e
+
+pub record ArePayloads (size : ℕ) (payload : ℕ → ℕ) (xs : List ℕ) : Type 0 where
+  pub count : length xs ≡ size
+  pub each : (t : ℕ) → slice_index_or xs t 0 ≡ payload t
+
+abbrev pub no_timeline : Timeline
+no_timeline = new_timeline 0 []
+
+pub record AreTimelines (p : Plan) (w : PointState) (xs : List Timeline) : Type 0 where
+  pub count : length xs ≡ length p.chains
+  pub each : (t : ℕ) → t < length xs → IsTimelineOf p w t (slice_index_or xs t no_timeline)
+  pub kept : (t : ℕ) → t < length xs → KeepsLists (slice_index_or xs t no_timeline)
+
+-- how many jobs aren't finished
+abbrev pub jobs_left : Plan → (ℕ → Bool) → ℕ
+jobs_left p finished = count_by (λ j. not (finished j)) (range_with_len 0 (length p.jobs))

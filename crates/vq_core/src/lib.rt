@@ -1,0 +1,18 @@
+//! All that a run of a plan has come to, event by event, with the history: which event may come next,
+//! and what it leaves. One place keeps every guard; who makes events, in which thread and under which
+//! lock, is left to others.
+#![tactic(auto)]
+
+mod asking;
+mod events;
+mod guards;
+mod holding;
+mod lanes;
+mod needs;
+mod notes;
+mod opening;
+mod progress;
+mod state;
+mod table;
+
+pub use state::{Core, CoreParts};

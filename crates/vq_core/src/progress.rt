@@ -1,0 +1,126 @@
+//! What jobs have come to: their commands, their signals and their waits.
+ghost use Rattle.std.specs.Prelude.{◌≡◌, ◌<◌, ◌||◌, ◌+◌, ◌-◌, ◌↔◌, All, IsTrue, length, nat_lt, true, false};
+ghost use Rattle.std.specs.List.{list_all, slice_get};
+ghost use Rattle.std.specs.Option.{option_to_list};
+ghost use Rattle.vq_model.specs.Edges.{At, AtEnd};
+ghost use Rattle.vq_model.specs.Machine.{next, are_reached, is_reached};
+ghost use Rattle.vq_model.specs.Plan.{has, commands_of, signals_of, needs};
+ghost use Rattle.vq_points.specs.Points.{earlier_in_queue, are_needs_pending, resolves};
+ghost use Rattle.vq_spec.specs.SlowProgress.{payload_in};
+ghost use Rattle.vq_core.specs.CoreState.{world};
+ghost use Rattle.vq_core.specs.Tables.{IsJobState};
+
+use crate::state::Core;
+use crate::table::JobState;
+use vq_spec::{Need, Plan, all_reached, is_reached};
+
+/// An element of a list, if it has so many.
+fn element(items: &[u32], place: usize) -> Option<u32>
+    ensures { result ≡ slice_get items.now place }
+{
+    match items.get(place) {
+        Some(item) => Some(*item),
+        None => None,
+    }
+}
+
+/// Whether a need is reached, if it holds back what comes after so many commands.
+fn is_passed(payloads: &[u64], need: Need, done: usize) -> bool
+    requires { need.chain < length payloads.now }
+    ensures { result ≡ (nat_lt done (need.from - 1) || is_reached (payload_in payloads.now) need) }
+{
+    done < need.from.saturating_sub(1) as usize || is_reached(payloads, need)
+}
+
+/// Whether all needs are reached that hold back what comes after so many commands.
+fn reached_after(payloads: &[u64], needs: &[Need], done: usize) -> bool
+    requires { All (λ n. n.chain < length payloads.now) needs.now }
+    ensures { result ≡ list_all (λ n. nat_lt done (n.from - 1) || is_reached (payload_in payloads.now) n) needs.now }
+{
+    for need in needs {
+        if !is_passed(payloads, *need, done) {
+            return false;
+        }
+    }
+    true
+}
+
+impl Core {
+    /// What a job has come to.
+    pub(crate) fn job_state(&self, job: u32) -> JobState
+        ensures { IsJobState self.now.plan (world self.now).released (world self.now).machine.progress.started
+            (world self.now).machine.progress.finished (world self.now).machine.progress.made
+            (world self.now).machine.progress.applied job result }
+    {
+        self.jobs.at(job, JobState::idle())
+    }
+
+    /// Whether a job is the first of its lane that isn't released.
+    pub(crate) fn is_turn(&self, job: u32) -> bool
+        requires { job < length self.now.plan.jobs }
+        ensures { IsTrue result ↔ (((world self.now).released job ≡ false)
+            × (list_all (world self.now).released (earlier_in_queue self.now.plan job) ≡ true)) }
+    {
+        let lane = self.plan().job(job).lane.number();
+        match self.lanes.next_released(lane) {
+            Some(next) => next == job,
+            None => false,
+        }
+    }
+
+    /// Whether all commands of a job are applied.
+    pub(crate) fn commands_done(&self, job: u32) -> bool
+        requires { job < length self.now.plan.jobs }
+        ensures { result ≡ list_all (has (world self.now).machine.progress.applied) (commands_of self.now.plan job) }
+    {
+        self.job_state(job).commands == self.plan().job(job).commands.len()
+    }
+
+    /// The first command of a job that isn't applied.
+    pub(crate) fn next_command(&self, job: u32) -> Option<u32>
+        requires { job < length self.now.plan.jobs }
+        ensures { result ≡ next (has (world self.now).machine.progress.applied) (commands_of self.now.plan job) }
+    {
+        element(
+            self.plan().job(job).commands.as_slice(),
+            self.job_state(job).commands,
+        )
+    }
+
+    /// Whether all signals of a job are made.
+    pub(crate) fn signals_done(&self, job: u32) -> bool
+        requires { job < length self.now.plan.jobs }
+        ensures { result ≡ list_all (world self.now).machine.progress.made (signals_of self.now.plan job) }
+    {
+        self.job_state(job).signals == self.plan().job(job).signals.len()
+    }
+
+    /// The first signal operation of a job that isn't made.
+    pub(crate) fn next_signal(&self, job: u32) -> Option<u32>
+        requires { job < length self.now.plan.jobs }
+        ensures { result ≡ next (world self.now).machine.progress.made (signals_of self.now.plan job) }
+    {
+        element(
+            self.plan().job(job).signals.as_slice(),
+            self.job_state(job).signals,
+        )
+    }
+
+    /// Whether all needs of a job are reached that hold back what comes after so many commands.
+    pub(crate) fn is_reached_after(&self, job: u32, done: usize) -> bool
+        requires { job < length self.now.plan.jobs }
+        ensures { result ≡ are_reached self.now.plan (world self.now).machine.progress.payload job (At (done + 1)) }
+    {
+        let needs = self.plan().job(job).needs.as_slice();
+        reached_after(self.payloads.as_slice(), needs, done)
+    }
+
+    /// Whether all needs of a job are reached.
+    pub(crate) fn is_reached_at_end(&self, job: u32) -> bool
+        requires { job < length self.now.plan.jobs }
+        ensures { result ≡ are_reached self.now.plan (world self.now).machine.progress.payload job AtEnd }
+    {
+        let needs = self.plan().job(job).needs.as_slice();
+        all_reached(self.payloads.as_slice(), needs)
+    }
+}

@@ -1,0 +1,102 @@
+-- A test that becomes true at one more place counts one more.
+use Rattle.std.proofs.Common.{◌≡◌, ℕ, zero, suc, ◌+◌, ◌<◌, ◌≤◌, ◌||◌, Bool, true, false, cond, List, [], ◌∷◌, Option,
+    Some, None, is_some, refl, sym, ap, ◌∙◌, inl, inr, arith}
+use Rattle.std.specs.List.{count_by, range_with_len, list_any}
+use Rattle.std.proofs.lemmas.List.FromFn.{length-range_with_len}
+use Rattle.std.proofs.lemmas.List.Sums.{sum_by-cons, count_by-le-length}
+use Rattle.std.proofs.lemmas.Bool.{cases_eq, false≢true}
+use Rattle.vq_model.specs.Machine.{put}
+use Rattle.vq_model.proofs.Puts.{put_here, put_there}
+
+abbrev pub one : Bool → ℕ
+one b = cond {A = ℕ} b 1 0
+
+module _ (f : ℕ → Bool) (g : ℕ → Bool) (k : ℕ) (old : f k ≡ false) (new : g k ≡ true) (kept : (i : ℕ) → (i ≡ k →
+    ⊥) → g i ≡ f i) where
+  behind : (a n : ℕ) → k < a → count_by g (range_with_len a n) ≡ count_by f (range_with_len a n)
+  behind a zero l = refl
+  behind a (suc n) l =
+      let rest : count_by g (range_with_len (a + 1) n) ≡ count_by f (range_with_len (a + 1) n) = behind (a + 1) n
+          (omega arith) in
+      let here : one (g a) ≡ one (f a) = ap one (kept a (λ e. omega arith)) in
+      let x = sum_by-cons (λ i. one (g i)) a (range_with_len (a + 1) n) in
+      let y = sum_by-cons (λ i. one (f i)) a (range_with_len (a + 1) n) in
+      omega arith
+
+  pub count_raised : (a n : ℕ) → a ≤ k → k < a + n →
+      count_by g (range_with_len a n) ≡ count_by f (range_with_len a n) + 1
+  count_raised a zero le lt = absurd (omega arith)
+  count_raised a (suc n) le lt =
+      let x = sum_by-cons (λ i. one (g i)) a (range_with_len (a + 1) n) in
+      let y = sum_by-cons (λ i. one (f i)) a (range_with_len (a + 1) n) in
+      elim (cases_eq a k) [
+        | inl e ↦
+            let rest : count_by g (range_with_len (a + 1) n) ≡ count_by f (range_with_len (a + 1) n) = behind (a + 1)
+                n (omega arith) in
+            let up : one (g a) ≡ 1 = ap one (ap g e ∙ new) in
+            let down : one (f a) ≡ 0 = ap one (ap f e ∙ old) in
+            omega arith
+        | inr n' ↦
+            let rest : count_by g (range_with_len (a + 1) n) ≡ count_by f (range_with_len (a + 1) n) + 1 =
+                count_raised (a + 1) n (omega arith) (omega arith) in
+            let here : one (g a) ≡ one (f a) = ap one (kept a n') in
+            omega arith
+      ]
+
+pub put_counts : (f : ℕ → Bool) (k n : ℕ) → k < n → f k ≡ false →
+    count_by (put f k true) (range_with_len 0 n) ≡ count_by f (range_with_len 0 n) + 1
+put_counts f k n l old = count_raised f (put f k true) k old (put_here f k true) (λ i d. put_there f k true i d) 0 n
+    (omega arith) (omega arith)
+
+pub put_some_counts : {A : Type 0} (f : ℕ → Option A) (k n : ℕ) (x : A) → k < n → f k ≡ None →
+    count_by (λ i. is_some (put f k (Some x) i)) (range_with_len 0 n) ≡ count_by (λ i. is_some (f i)) (range_with_len
+    0 n) + 1
+put_some_counts f k n x l old = count_raised (λ i. is_some (f i)) (λ i. is_some (put f k (Some x) i)) k (ap is_some
+    old) (ap is_some (put_here f k (Some x))) (λ i d. ap is_some (put_there f k (Some x) i d)) 0 n (omega arith)
+    (omega arith)
+
+-- where a test fails at a place, fewer than all pass it
+pub count_below : (f : ℕ → Bool) (k n : ℕ) → k < n → f k ≡ false → count_by f (range_with_len 0 n) < n
+count_below f k n l old =
+    let up = put_counts f k n l old in
+    let most = count_by-le-length (put f k true) (range_with_len 0 n) in
+    let size = length-range_with_len 0 n in
+    omega arith
+
+pub count_cons : {A : Type 0} (test : A → Bool) (x : A) (xs : List A) →
+    count_by test (x ∷ xs) ≡ one (test x) + count_by test xs
+count_cons test x xs = sum_by-cons (λ y. one (test y)) x xs
+
+pub counted_any : {A : Type 0} (test : A → Bool) (xs : List A) → 0 < count_by test xs → list_any test xs ≡ true
+counted_any test [] l = absurd (omega arith)
+counted_any test (x ∷ xs) l = by_test (test x) refl (counted_any test xs)
+  where
+    by_test : (b : Bool) → test x ≡ b → (0 < count_by test xs → list_any test xs ≡ true) →
+        (test x || list_any test xs) ≡ true
+    by_test true e f = ap (λ b. b || list_any test xs) e
+    by_test false e f =
+        let u = count_cons test x xs in
+        let v : one (test x) ≡ 0 = ap one e in
+        ap (λ b. b || list_any test xs) e ∙ f (omega arith)
+
+pub none_counted : {A : Type 0} (test : A → Bool) (xs : List A) → count_by test xs ≡ 0 → list_any test xs ≡ false
+none_counted test [] l = refl
+none_counted test (x ∷ xs) l = by_test (test x) refl (none_counted test xs)
+  where
+    by_test : (b : Bool) → test x ≡ b → (count_by test xs ≡ 0 → list_any test xs ≡ false) →
+        (test x || list_any test xs) ≡ false
+    by_test true e f =
+        let u = count_cons test x xs in
+        let v : one (test x) ≡ 1 = ap one e in
+        absurd (omega arith)
+    by_test false e f =
+        let u = count_cons test x xs in
+        let v : one (test x) ≡ 0 = ap one e in
+        ap (λ b. b || list_any test xs) e ∙ f (omega arith)
+
+pub any_counted : {A : Type 0} (test : A → Bool) (xs : List A) → list_any test xs ≡ true → 0 < count_by test xs
+any_counted test xs h = by_count (count_by test xs) refl
+  where
+    by_count : (n : ℕ) → count_by test xs ≡ n → 0 < n
+    by_count zero e = absurd (false≢true (sym (none_counted test xs e) ∙ h))
+    by_count (suc n) e = omega arith
