@@ -1,2 +1,5 @@
-pub mod Traces
+pub mod CoreAccesses
+pub mod Casts
+pub mod Seats
 pub mod SpacedWords
+pub mod Traces

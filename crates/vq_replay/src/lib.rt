@@ -2,8 +2,13 @@
 //! came to.
 #![tactic(auto)]
 
+mod core_access;
+mod looks;
 mod played;
+mod seat;
+mod seated;
 mod trace;
+mod troupe;
 mod words;
 
 pub use played::Played;

@@ -1,0 +1,43 @@
+-- Numbers that are out of range.
+use Rattle.std.proofs.Common.{◌≡◌, ℕ, zero, suc, ◌<◌, ◌≤◌, Bool, true, false, List, [], ◌∷◌, length, Option, Some,
+    None, is_some}
+use Rattle.std.proofs.Common.{refl, sym, ap, ◌∙◌, arith}
+use Rattle.std.specs.List.{slice_get}
+use Rattle.std.specs.Option.{option_map_or}
+use Rattle.std.proofs.lemmas.Bool.{false≢true}
+use Rattle.vq_model.specs.Plan.{Plan, has, chain_of}
+use Rattle.vq_model.specs.LoweringFaults.{IsPlan}
+use Rattle.vq_plan_laws.proofs.Cited.{plan_well_formed}
+use Rattle.vq_turn_laws.proofs.Cited.{plan_orderly, reached}
+use Rattle.vq_core.specs.CoreState.{Course, IsCourse, world}
+
+-- an operation that isn't there has no point, and isn't bound
+module _ (c : Course) (i : IsCourse c) (e : ℕ) (beyond : length c.plan.ops ≤ e) where
+  pub pointless : (world c).point_of e ≡ None
+  pointless = by_point ((world c).point_of e) refl
+    where
+      by_point : (o : Option ℕ) → (world c).point_of e ≡ o → (world c).point_of e ≡ None
+      by_point None h = h
+      by_point (Some q) h =
+          let r = reached c.plan (plan_orderly c.plan i.read i.lawful) c.history i.history_from in
+          let within = r.facts.ops.exists e (ap is_some h) in
+          absurd (omega arith)
+
+  pub unbound : (world c).bound e ≡ false
+  unbound = by_test ((world c).bound e) refl
+    where
+      by_test : (b : Bool) → (world c).bound e ≡ b → (world c).bound e ≡ false
+      by_test false h = h
+      by_test true h =
+          let r = reached c.plan (plan_orderly c.plan i.read i.lawful) c.history i.history_from in
+          let taken = r.facts.ops.bound_taken e h in
+          absurd (false≢true (sym (ap is_some pointless) ∙ taken))
+
+-- the chain of an operation is there
+pub chain_there : (p : Plan) → IsPlan p → (e t : ℕ) → chain_of p e ≡ Some t → t < length p.chains
+chain_there p i e t is = by_get p.chains t ((plan_well_formed p i).in_chain e t is)
+  where
+    by_get : (xs : List (List ℕ)) (k : ℕ) → has (option_map_or (λ x. x) (slice_get xs k) []) e ≡ true → k < length xs
+    by_get [] k h = absurd (false≢true h)
+    by_get (x ∷ xs) zero h = omega arith
+    by_get (x ∷ xs) (suc k) h = let m = by_get xs k h in omega arith

@@ -1,0 +1,52 @@
+-- What an access over a core means, and what its calls need of a true place. This project's own.
+use Rattle.std.specs.Prelude.{ℕ, ◌≡◌, false, List, [], ◌∷◌, ◌++◌, Some}
+use Rattle.std.specs.Borrow.{GName}
+use Rattle.vq_model.specs.declared.script.ActorName.{ActorName}
+use Rattle.vq_model.specs.declared.plan.Event.{Event}
+use Rattle.vq_points.specs.Points.{PointState}
+use Rattle.vq_turns.specs.declared.outcome.Want.{Want}
+use Rattle.vq_turns.specs.declared.outcome.Want.TheVariants.{Submitted, Released, Bound, Next, Signaled, Finished}
+use Rattle.vq_turns.specs.declared.outcome.Want.TheVariants.{MemoryTurn, Exchange, Listed}
+use Rattle.vq_turns.specs.Turns.{Place}
+use Rattle.vq_actor.specs.Meanings.{Meaning, Recent, Other, Collected, FoundAt}
+use Rattle.vq_core.specs.CoreState.{Course, world}
+use Rattle.vq_replay.specs.declared.core_access.Last.{Last}
+use Rattle.vq_replay.specs.declared.core_access.Last.TheVariants as last_as
+
+-- the thing that a want names isn't so; over a core no other actor comes between
+abbrev pub IsNotSo : PointState → Want → Type 0
+IsNotSo w (Submitted j) = w.submitted j ≡ false
+IsNotSo w (Released j) = w.released j ≡ false
+IsNotSo w (Bound e) = w.bound e ≡ false
+IsNotSo w (Next e) = w.bound e ≡ false
+IsNotSo w (Signaled e) = w.machine.progress.made e ≡ false
+IsNotSo w (Finished j) = w.machine.progress.finished j ≡ false
+IsNotSo w MemoryTurn = ⊥
+IsNotSo w (Exchange e found) = ⊥
+IsNotSo w (Listed e) = ⊥
+
+abbrev pub recent_of : Last → Recent
+recent_of last_as.Other = Other
+recent_of (last_as.Collected t) = Collected t
+recent_of (last_as.FoundAt k e q) = FoundAt k e q
+
+-- an access of an actor over a core with this plan and history
+abbrev pub meaning_of : List GName → Course → ActorName → Place → Recent → Meaning
+meaning_of lenders c a x recent =
+    record {
+      plan = c.plan;
+      actor = a;
+      place = x;
+      recent = recent;
+      state = Some (world c);
+      events = c.history;
+      steps = (0, 0);
+      lenders = lenders;
+    }
+
+abbrev pub shown_by : Course → Want → ℕ × ℕ → Type 0
+shown_by c want since = IsNotSo (world c) want
+
+-- one event more
+abbrev pub with_event : Course → Event → Course
+with_event c event = record c { history = c.history ++ event ∷ [] }

@@ -1,0 +1,97 @@
+//! An actor with the place that an access over a core keeps for it.
+ghost use Rattle.std.specs.Prelude.{◌≡◌, length};
+ghost use Rattle.vq_actor.specs.Actors.{Acting, IsServed, IsTurn};
+ghost use Rattle.vq_replay.specs.Casts.{IsCast, TookTurn};
+
+use crate::core_access::CoreAccess;
+use crate::seat::{Awaiting, Seat};
+use std::marker::Model;
+use vq_actor::{Access, HostActor, RingActor, SubmitActor};
+use vq_core::Core;
+use vq_model::script::ActorName;
+use vq_turns::outcome::Outcome;
+
+/// An actor of any kind.
+pub(crate) trait TakesTurns {
+    ghost acting: { Self → Acting };
+
+    fn task_count(&self) -> usize
+        ensures { result ≡ length (acting self.now).tasks };
+
+    fn turn<A: Access>(&mut self, access: &mut A) -> Outcome
+        requires { IsServed (acting self.old) (A.meaning access.old) }
+        ensures turn { IsTurn (A.meaning access.old) (A.meaning access.new) (A.shows access.new) result }
+        ensures served { IsServed (acting self.new) (A.meaning access.new) }
+        ensures name { (acting self.new).name ≡ (acting self.old).name }
+        ensures tasks { (acting self.new).tasks ≡ (acting self.old).tasks };
+}
+
+impl TakesTurns for HostActor {
+    ghost acting = { λ a. a };
+
+    fn task_count(&self) -> usize {
+        HostActor::task_count(self)
+    }
+
+    fn turn<A: Access>(&mut self, access: &mut A) -> Outcome {
+        HostActor::turn(self, access)
+    }
+}
+
+impl TakesTurns for SubmitActor {
+    ghost acting = { λ a. a };
+
+    fn task_count(&self) -> usize {
+        SubmitActor::task_count(self)
+    }
+
+    fn turn<A: Access>(&mut self, access: &mut A) -> Outcome {
+        SubmitActor::turn(self, access)
+    }
+}
+
+impl TakesTurns for RingActor {
+    ghost acting = { λ a. a };
+
+    fn task_count(&self) -> usize {
+        RingActor::task_count(self)
+    }
+
+    fn turn<A: Access>(&mut self, access: &mut A) -> Outcome {
+        RingActor::turn(self, access)
+    }
+}
+
+/// An actor with its name and its place.
+#[derive(Drop)]
+pub(crate) struct Seated<T: TakesTurns> {
+    name: ActorName,
+    actor: T,
+    seat: Seat,
+}
+
+impl<T: TakesTurns> Model for Seated<T> {
+    ghost use Rattle.std.specs.Prelude.{◌≡◌};
+    ghost use Rattle.vq_actor.specs.Actors.{Acting};
+    ghost use Rattle.vq_replay.specs.Seats.{place_at};
+
+    ghost Value = { Acting };
+
+    ghost view = { λ a. T.acting a.actor };
+
+    ghost invariant = { λ a. ((T.acting a.actor).name ≡ a.name) × ((T.acting a.actor).place ≡ place_at a.seat) };
+}
+
+impl<T: TakesTurns> Seated<T> {
+    /// One turn over a core.
+    pub(crate) fn turn(&mut self, core: &mut Core) -> Outcome
+        requires { IsCast core.old self.old }
+        ensures { TookTurn core.old core.new self.old self.new result }
+    {
+        let _short = self.actor.task_count();
+        let mut access = CoreAccess::new(core, self.name, self.seat);
+        let outcome = self.actor.turn(&mut access);
+        self.seat = access.seat();
+        outcome
+    }
+}
