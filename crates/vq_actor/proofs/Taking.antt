@@ -1,6 +1,22 @@
 -- A take begins with a collection.
-use Rattle.std.proofs.Common.{◌≡◌, ℕ, [], ◌∷◌, ◌++◌, append-nil, Option, Some, None, Result, Ok, Err, sym, subst, ap,
-    ◌∙◌}
+use Rattle.std.proofs.Common.{
+  ◌≡◌,
+  ℕ,
+  [],
+  ◌∷◌,
+  ◌++◌,
+  append-nil,
+  Option,
+  Some,
+  None,
+  Result,
+  Ok,
+  Err,
+  sym,
+  subst,
+  ap,
+  ◌∙◌,
+}
 use Rattle.std.specs.Option.{option_map_or}
 use Rattle.vq_model.specs.declared.plan.Event.{Event}
 use Rattle.vq_points.specs.Points.{PointState, after_event}

@@ -1,6 +1,31 @@
 -- Facts that the events' proofs share.
-use Rattle.std.proofs.Common.{◌≡◌, ℕ, ◌+◌, ◌<◌, ◌≤◌, not, Bool, true, false, if◌then◌else◌, List, length, get_or,
-    Option, Some, None, is_some, refl, sym, ap, ◌∙◌, inl, inr, subst, arith}
+use Rattle.std.proofs.Common.{
+  ◌≡◌,
+  ℕ,
+  ◌+◌,
+  ◌<◌,
+  ◌≤◌,
+  not,
+  Bool,
+  true,
+  false,
+  if◌then◌else◌,
+  List,
+  length,
+  get_or,
+  Option,
+  Some,
+  None,
+  is_some,
+  refl,
+  sym,
+  ap,
+  ◌∙◌,
+  inl,
+  inr,
+  subst,
+  arith,
+}
 use Rattle.std.specs.Prelude.{nat_lt, count_by, Result, Ok, Err, IsOk, IsErr, OnOk, IsSome}
 use Rattle.std.specs.List.{slice_get, range_with_len}
 use Rattle.std.proofs.lemmas.Bool.{and_parts, ltb-true, cases_lt, cases_eq, false≢true, cond-false}
@@ -38,7 +63,7 @@ pub small_place : (p : Plan) (released finished : ℕ → Bool) (held : List Ref
 small_place p released finished held xs are j x at n here l =
     let k = own p released finished held xs are j x at in
     let r = rising_at_least (get_or xs (lane_number x.lane) no_lane).jobs (subst AreRising (sym k.jobs) (lane_rises p
-        x.lane)) n j here in
+    x.lane)) n j here in
     omega arith
 
 pub timeline_read : (xs : List Timeline) (t : ℕ) (l : Timeline) → t < length xs → l ≡ get_or xs t l →
@@ -62,12 +87,12 @@ module _ (a : Inside) (k : IsCore a) where
       behind : a.submitted < j → ⊥
       behind m =
           let done = list_all_has (λ i. if is_host_step a.ordered i then (points_after a.ordered
-              a.history.items).machine.progress.finished i else (points_after a.ordered a.history.items).submitted i)
-              (written_before a.ordered j) a.submitted g.in_order (range-has j 0 a.submitted (omega arith) (omega
-              arith)) in
+          a.history.items).machine.progress.finished i else (points_after a.ordered a.history.items).submitted i)
+          (written_before a.ordered j) a.submitted g.in_order (range-has j 0 a.submitted (omega arith) (omega
+          arith)) in
           let batch = cond-false (is_host_step a.ordered a.submitted) ((points_after a.ordered
-              a.history.items).machine.progress.finished a.submitted) ((points_after a.ordered
-              a.history.items).submitted a.submitted) ((inside_facts a k).batches a.submitted) in
+          a.history.items).machine.progress.finished a.submitted) ((points_after a.ordered
+          a.history.items).submitted a.submitted) ((inside_facts a k).batches a.submitted) in
           false≢true (sym (k.tells.submitted.after a.submitted (omega arith)) ∙ (sym batch ∙ done))
 
   -- no more points are made than there are operations, and fewer while one has none
@@ -75,7 +100,7 @@ module _ (a : Inside) (k : IsCore a) where
   points_few =
       let few = (inside_keeps a k).points.few in
       let most = count_by-le-length (λ e. is_some ((points_after a.ordered a.history.items).point_of e))
-          (range_with_len 0 (length a.ordered.ops)) in
+      (range_with_len 0 (length a.ordered.ops)) in
       let size = length-range_with_len 0 (length a.ordered.ops) in
       omega arith
 
@@ -84,7 +109,7 @@ module _ (a : Inside) (k : IsCore a) where
   points_room e none l =
       let few = (inside_keeps a k).points.few in
       let most = count_below (λ e. is_some ((points_after a.ordered a.history.items).point_of e)) e (length
-          a.ordered.ops) l (ap is_some none) in
+      a.ordered.ops) l (ap is_some none) in
       omega arith
 
   pub free_point_below : (e q : ℕ) → CanTake a.ordered (points_after a.ordered a.history.items) e q false →
@@ -92,7 +117,7 @@ module _ (a : Inside) (k : IsCore a) where
   free_point_below e q g =
       let first = first_of_free ((points_after a.ordered a.history.items).free g.chain) q g.point in
       free_below a.ordered (inside_facts a k) (points_after a.ordered a.history.items) (inside_keeps a k) g.chain q
-          (ap (λ zs. has zs q) first.1 ∙ has_here q first.0)
+      (ap (λ zs. has zs q) first.1 ∙ has_here q first.0)
 
 -- a result that isn't an error
 pub is_ok : {A E : Type 0} (r : Result A E) → (IsErr r → ⊥) → IsOk r
@@ -112,8 +137,12 @@ pub signal_tells : (p : Plan) (w : PointState) (b : Inside) (e t : ℕ) → chai
     Tells p (record w { machine = record w.machine { progress = with_signal p w.machine.progress e (Some t) } }) b →
     Tells p (after_event p w (Signal e)) b
 signal_tells p w b e t of h =
-    subst (λ (o : Option ℕ). Tells p (record w { machine = record w.machine { progress = with_signal p
-        w.machine.progress e o } }) b) (sym of) h
+    subst (λ (o : Option ℕ). Tells p (record w {
+      machine = record w.machine {
+        progress = with_signal p
+            w.machine.progress e o;
+      };
+    }) b) (sym of) h
 
 -- a bound operation has a point
 pub bound_point : (p : Plan) (w : PointState) (t i e : ℕ) (l : Timeline) → IsTimelineOf p w t l → KeepsLists l →

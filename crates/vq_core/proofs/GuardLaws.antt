@@ -1,11 +1,46 @@
 -- When events may come, by what the core looks at.
-use Rattle.std.proofs.Common.{◌≡◌, ℕ, suc, ◌+◌, ◌<◌, ◌&&◌, ◌||◌, ◌==◌, not, Bool, true, false, if◌then◌else◌, length,
-    Some, None, is_some, sym, ap, ◌∙◌, inl, inr, subst, arith}
+use Rattle.std.proofs.Common.{
+  ◌≡◌,
+  ℕ,
+  suc,
+  ◌+◌,
+  ◌<◌,
+  ◌&&◌,
+  ◌||◌,
+  ◌==◌,
+  not,
+  Bool,
+  true,
+  false,
+  if◌then◌else◌,
+  length,
+  Some,
+  None,
+  is_some,
+  sym,
+  ap,
+  ◌∙◌,
+  inl,
+  inr,
+  subst,
+  arith,
+}
 use Rattle.std.specs.Prelude.{nat_lt, nat_eq, IsTrue, ◌↔◌}
 use Rattle.std.specs.List.{slice_get, list_all, list_any, position_or_len}
 use Rattle.std.specs.Option.{option_to_list}
-use Rattle.std.proofs.lemmas.Bool.{cases_eq, cases_lt, eq-eqb, eqb-true, false≢true, and_parts, and_from, cond-false,
-    lt-ltb, ltb-true, not-true}
+use Rattle.std.proofs.lemmas.Bool.{
+  cases_eq,
+  cases_lt,
+  eq-eqb,
+  eqb-true,
+  false≢true,
+  and_parts,
+  and_from,
+  cond-false,
+  lt-ltb,
+  ltb-true,
+  not-true,
+}
 use Rattle.vq_model.specs.declared.script.ActorName.{ActorName}
 use Rattle.vq_model.specs.declared.plan.Answer.{Answer}
 use Rattle.vq_model.specs.declared.plan.Answer.TheVariants.{Reached, Timeout, NotReady, Value}
@@ -13,15 +48,46 @@ use Rattle.vq_model.specs.declared.plan.Op.{Op}
 use Rattle.vq_model.specs.declared.plan.Question.TheVariants.{Silent}
 use Rattle.vq_model.specs.Edges.{At, stage_of}
 use Rattle.vq_model.specs.Machine.{next, are_reached, CanAnswer, CanApply, may_answer}
-use Rattle.vq_model.specs.Plan.{has, job_of, chain_of, is_batch, is_host_step, commands_of, signals_of, of_job,
-    previous, idle_after, is_silent, chain}
+use Rattle.vq_model.specs.Plan.{
+  has,
+  job_of,
+  chain_of,
+  is_batch,
+  is_host_step,
+  commands_of,
+  signals_of,
+  of_job,
+  previous,
+  idle_after,
+  is_silent,
+  chain,
+}
 use Rattle.vq_model.specs.Canonical.{same_actor}
 use Rattle.vq_model.proofs.Lists.{list_all_has, list_all_from}
 use Rattle.vq_model.proofs.Numbers.{has-range_cases, range-has}
 use Rattle.vq_model.proofs.Searches.{find_member}
-use Rattle.vq_points.specs.Points.{CanSubmit, CanTake, CanRelease, CanBind, CanRefer, CanLook, CanComplete,
-    CanStartNow, CanSignalNow, CanFinishNow, next_job, written_before, needs_resolved, needs_now, resolves, count_of,
-    actor_of_lane, earlier_in_queue, are_needs_pending, smaller_ops}
+use Rattle.vq_points.specs.Points.{
+  CanSubmit,
+  CanTake,
+  CanRelease,
+  CanBind,
+  CanRefer,
+  CanLook,
+  CanComplete,
+  CanStartNow,
+  CanSignalNow,
+  CanFinishNow,
+  next_job,
+  written_before,
+  needs_resolved,
+  needs_now,
+  resolves,
+  count_of,
+  actor_of_lane,
+  earlier_in_queue,
+  are_needs_pending,
+  smaller_ops,
+}
 use Rattle.vq_points.specs.Timeline.{Timeline, KeepsLists}
 use Rattle.vq_core_laws.specs.Firsts.{AreFirst}
 use Rattle.vq_core_laws.specs.TimelineOf.{IsTimelineOf}
@@ -60,7 +126,7 @@ module _ (s : Course) (k : IsCourse s) where
             in_order = list_all_from (λ i. if is_host_step s.plan i then (world s).machine.progress.finished i else
                 (world s).submitted i) (written_before s.plan j)
                 (λ i m. for_batch i ((world s).machine.progress.finished i) ((world s).submitted i)
-                    ∙ are.before i (let r = (has-range_cases j 0 i m).1 in omega arith));
+                ∙ are.before i (let r = (has-range_cases j 0 i m).1 in omega arith));
           }
 
       from : CanSubmit s.plan (world s) j → IsTrue (nat_eq j n)
@@ -75,17 +141,24 @@ module _ (s : Course) (k : IsCourse s) where
           behind : n < j → ⊥
           behind m =
               let done = list_all_has (λ i. if is_host_step s.plan i then (world s).machine.progress.finished i else
-                  (world s).submitted i) (written_before s.plan j) n g.in_order (range-has j 0 n (omega arith) (omega
-                  arith)) in
+              (world s).submitted i) (written_before s.plan j) n g.in_order (range-has j 0 n (omega arith) (omega
+              arith)) in
               false≢true (sym (are.after n (omega arith))
-                  ∙ (sym (for_batch n ((world s).machine.progress.finished n) ((world s).submitted n)) ∙ done))
+              ∙ (sym (for_batch n ((world s).machine.progress.finished n) ((world s).submitted n)) ∙ done))
 
   pub release_iff : (j : ℕ) (b : Bool) → j < length s.plan.jobs → ReleaseTurn s.plan (world s) j →
       b ≡ list_all (λ e. is_some ((world s).point_of e)) (signals_of s.plan j) →
       IsTrue b ↔ CanRelease s.plan (world s) j
   release_iff j b l t is = (
-    (λ h. record { batch = batch j l; submitted = t.submitted; waiting = t.waiting; in_order = t.in_order; needs =
-        t.needs; taken = sym is ∙ h }),
+    (λ h. record {
+      batch = batch j l;
+      submitted = t.submitted;
+      waiting = t.waiting;
+      in_order = t.in_order;
+      needs =
+          t.needs;
+      taken = sym is ∙ h;
+    }),
     (λ g. is ∙ g.taken),
   )
 
@@ -105,9 +178,9 @@ module _ (s : Course) (k : IsCourse s) where
     turned : (j : ℕ) → Turned j ≡ true → ReleaseTurn s.plan (world s) j
     turned j h =
         let a = and_parts ((world s).submitted j && not ((world s).released j) && list_all (world s).released
-            (earlier_in_queue s.plan j)) (are_needs_pending s.plan (world s) j) h in
+        (earlier_in_queue s.plan j)) (are_needs_pending s.plan (world s) j) h in
         let b = and_parts ((world s).submitted j && not ((world s).released j)) (list_all (world s).released
-            (earlier_in_queue s.plan j)) a.0 in
+        (earlier_in_queue s.plan j)) a.0 in
         let c = and_parts ((world s).submitted j) (not ((world s).released j)) b.0 in
         record { submitted = c.0; waiting = not-true ((world s).released j) c.1; in_order = b.1; needs = a.1 }
 
@@ -128,10 +201,10 @@ module _ (s : Course) (k : IsCourse s) where
         in_turn =
             for_batch o.job ((world s).machine.progress.started o.job) (Turned o.job)
             ∙ and_from ((world s).submitted o.job && not ((world s).released o.job) && list_all (world s).released
-                (earlier_in_queue s.plan o.job)) (are_needs_pending s.plan (world s) o.job)
+            (earlier_in_queue s.plan o.job)) (are_needs_pending s.plan (world s) o.job)
             (and_from ((world s).submitted o.job && not ((world s).released o.job)) (list_all (world s).released
-                (earlier_in_queue s.plan o.job)) (and_from ((world s).submitted o.job) (not ((world s).released
-                o.job)) t.submitted (ap not t.waiting)) t.in_order) t.needs;
+            (earlier_in_queue s.plan o.job)) (and_from ((world s).submitted o.job) (not ((world s).released
+            o.job)) t.submitted (ap not t.waiting)) t.in_order) t.needs;
         point = iff.0 h;
       }),
       (λ g. iff.1 (subst (λ (t : ℕ). IsPointInTurn (world s) t q fresh) (own_chain g.chain g.in_chain) g.point)),
@@ -140,7 +213,7 @@ module _ (s : Course) (k : IsCourse s) where
     pub bind_released : (q : ℕ) → CanBind s.plan (world s) e q → (world s).released o.job ≡ true
     bind_released q g =
         subst (λ (j : ℕ). (world s).released j ≡ true) (own_job g.job g.of_job) (sym (for_batch g.job ((world
-            s).machine.progress.started g.job) ((world s).released g.job)) ∙ g.ready)
+        s).machine.progress.started g.job) ((world s).released g.job)) ∙ g.ready)
 
     module _ (l : Timeline) (is : IsTimelineOf s.plan (world s) o.chain l) (kept : KeepsLists l) where
       pub bind_iff : (q : ℕ) → (world s).carried q ≡ Some e → (world s).released o.job ≡ true →
@@ -166,9 +239,9 @@ module _ (s : Course) (k : IsCourse s) where
           from g =
               eq-eqb o.index l.bound
               (turn_place s.plan facts (world s) keeps o.chain l is kept o.index e (here s.plan facts e o at) (world
-                  s).bound l.bound is.bound g.unbound
+              s).bound l.bound is.bound g.unbound
               (ap (λ (t : ℕ). list_all (world s).bound (smaller_ops s.plan t e)) (sym (own_chain g.chain g.in_chain))
-                  ∙ g.in_order))
+              ∙ g.in_order))
 
       pub complete_iff : (world s).bound e ≡ true → (world s).machine.progress.made e ≡ true →
           IsTrue (nat_eq o.index l.completed) ↔ CanComplete s.plan (world s) e
@@ -192,10 +265,10 @@ module _ (s : Course) (k : IsCourse s) where
           from g =
               eq-eqb o.index l.completed
               (turn_place s.plan facts (world s) keeps o.chain l is kept o.index e (here s.plan facts e o at) (world
-                  s).past l.completed is.completed
+              s).past l.completed is.completed
               (not-true ((world s).past e) (and_parts ((world s).bound e) (not ((world s).past e)) g.pending).1)
               (ap (λ (t : ℕ). list_all (world s).past (smaller_ops s.plan t e)) (sym (own_chain g.chain g.in_chain))
-                  ∙ g.in_order))
+              ∙ g.in_order))
 
     signal_job : (g : CanSignalNow s.plan (world s) e) → g.job ≡ o.job
     signal_job g =
@@ -236,7 +309,7 @@ module _ (s : Course) (k : IsCourse s) where
     pub refer_released : CanRefer s.plan (world s) a q e → (world s).released j ≡ true
     refer_released g =
         subst (λ (j : ℕ). (world s).released j ≡ true) (refer_job g) (sym (ap (λ b. b || (world s).released g.job)
-            (facts.batches g.job)) ∙ g.released)
+        (facts.batches g.job)) ∙ g.released)
 
     pub refer_needed : CanRefer s.plan (world s) a q e → 0 < needs_resolved s.plan j e
     refer_needed g =
@@ -300,8 +373,8 @@ module _ (s : Course) (k : IsCourse s) where
     next_stage n c first is =
         let place = sym (next_is (has (world s).machine.progress.applied) (commands_of s.plan j) n first) ∙ is in
         let same = rising_once (commands_of s.plan j) (facts.formed.commands j) (position_or_len (λ d. d == c)
-            (commands_of s.plan j)) n c (at_place (commands_of s.plan j) c (find_member (λ x. not (has (world
-            s).machine.progress.applied x)) (commands_of s.plan j) c is)) place in
+        (commands_of s.plan j)) n c (at_place (commands_of s.plan j) c (find_member (λ x. not (has (world
+        s).machine.progress.applied x)) (commands_of s.plan j) c is)) place in
         let e : suc n ≡ n + 1 = omega arith in
         ap (λ (k : ℕ). At (suc k)) same ∙ ap (λ (k : ℕ). At k) e
 
@@ -313,7 +386,7 @@ module _ (s : Course) (k : IsCourse s) where
         IsTrue b ↔ CanApply s.plan (world s).machine.progress j c
     apply_iff c n b started open_ is first ready =
         let same = ready ∙ ap (are_reached s.plan (world s).machine.progress.payload j) (sym (next_stage n c first
-            is)) in (
+        is)) in (
           (λ h. record { started = started; unfinished = open_; next = is; ready = sym same ∙ h }),
           (λ g. same ∙ g.ready),
         )
@@ -325,8 +398,13 @@ module _ (s : Course) (k : IsCourse s) where
     finish_iff b r made iff = (
       (λ h. record {
         step = record {
-          done = record { started = r.started; unfinished = r.unfinished; commands = r.commands; signals = made;
-              ready = r.ready };
+          done = record {
+            started = r.started;
+            unfinished = r.unfinished;
+            commands = r.commands;
+            signals = made;
+            ready = r.ready;
+          };
           answered = ap (λ q. is_silent q || is_some ((world s).machine.answer j)) (facts.silent j);
         };
         unreferring = iff.0 h;

@@ -1,6 +1,27 @@
 -- What histories lead to, and the core before the first event.
-use Rattle.std.proofs.Common.{◌≡◌, ℕ, ◌<◌, ◌≤◌, ◌∷◌, [], not, Bool, true, false, List, length, map, refl, sym, ap,
-    ◌∙◌, inl, inr, subst, arith}
+use Rattle.std.proofs.Common.{
+  ◌≡◌,
+  ℕ,
+  ◌<◌,
+  ◌≤◌,
+  ◌∷◌,
+  [],
+  not,
+  Bool,
+  true,
+  false,
+  List,
+  length,
+  map,
+  refl,
+  sym,
+  ap,
+  ◌∙◌,
+  inl,
+  inr,
+  subst,
+  arith,
+}
 use Rattle.std.specs.Prelude.{IsTrue, ◌↔◌, nat_eq, count_by}
 use Rattle.std.specs.List.{list_any, range_with_len}
 use Rattle.std.specs.Vec.{vec_capacity}
@@ -40,7 +61,7 @@ module _ (s : Course) (k : IsCourse s) where
   leads =
       let f = plan_facts s k in
       history_leads s.plan f.formed f.hosts f.order.chains (opening_points s.plan) s.history (follows_opening s.plan)
-          k.history_from
+      k.history_from
 
   pub is_run : Run s.plan (steps_of s.history)
   is_run = leads.run

@@ -1,6 +1,29 @@
 -- What an actor holds, by counts.
-use Rattle.std.proofs.Common.{◌≡◌, ℕ, zero, suc, ◌<◌, ◌&&◌, ◌==◌, Bool, true, false, List, [], ◌∷◌, Some, None, refl,
-    sym, ap, ◌∙◌, inl, inr, subst, arith}
+use Rattle.std.proofs.Common.{
+  ◌≡◌,
+  ℕ,
+  zero,
+  suc,
+  ◌<◌,
+  ◌&&◌,
+  ◌==◌,
+  Bool,
+  true,
+  false,
+  List,
+  [],
+  ◌∷◌,
+  Some,
+  None,
+  refl,
+  sym,
+  ap,
+  ◌∙◌,
+  inl,
+  inr,
+  subst,
+  arith,
+}
 use Rattle.std.specs.Prelude.{nat_lt, count_by, IsTrue, ◌↔◌, nat_eq}
 use Rattle.std.specs.List.{list_any}
 use Rattle.std.proofs.lemmas.Bool.{false≢true, and_parts, and_from, or_cases, or_left, or_right, eqb-true, eq-eqb}
@@ -22,8 +45,12 @@ pub passing : {A : Type 0} (test : A → Bool) (xs : List A) → list_any test x
 passing test [] h = absurd (false≢true h)
 passing test (x ∷ xs) h = elim (or_cases (test x) (list_any test xs) h) [
   | inl t ↦ record { one = x; passes = t; among = λ other o. or_left (other x) (list_any other xs) o }
-  | inr t ↦ let r = passing test xs t in record { one = r.one; passes = r.passes; among = λ other o. or_right (other
-      x) (list_any other xs) (r.among other o) }
+  | inr t ↦ let r = passing test xs t in record {
+    one = r.one;
+    passes = r.passes;
+    among = λ other o. or_right (other
+        x) (list_any other xs) (r.among other o);
+  }
 ]
 
 same_tests : (a b : Bool) → (a ≡ true → b ≡ true) → (b ≡ true → a ≡ true) → a ≡ b
@@ -62,7 +89,7 @@ module _ (s : Course) (k : IsCourse s) (a : ActorName) (q e : ℕ) where
   held_is n c is =
       ap (nat_lt 0) is ∙ (counts_any (λ (r : Reference). same_actor a r.actor && (r.op == e)) (world s).held
       ∙ same_tests (list_any (λ (r : Reference). same_actor a r.actor && (r.op == e)) (world s).held) (holds (world
-          s) a q e) to from)
+      s) a q e) to from)
     where
       from : holds (world s) a q e ≡ true → list_any (λ (r : Reference). same_actor a r.actor && (r.op == e)) (world
           s).held ≡ true
@@ -71,7 +98,7 @@ module _ (s : Course) (k : IsCourse s) (a : ActorName) (q e : ℕ) where
           let both = and_parts (same_actor a x.one.actor && (q == x.one.point)) (e == x.one.op) x.passes in
           x.among (λ r. same_actor a r.actor && (r.op == e))
           (and_from (same_actor a x.one.actor) (x.one.op == e) (and_parts (same_actor a x.one.actor) (q ==
-              x.one.point) both.0).0
+          x.one.point) both.0).0
           (eq-eqb x.one.op e (sym (eqb-true e x.one.op both.1))))
 
       to : list_any (λ (r : Reference). same_actor a r.actor && (r.op == e)) (world s).held ≡ true →
@@ -83,8 +110,8 @@ module _ (s : Course) (k : IsCourse s) (a : ActorName) (q e : ℕ) where
           let own : holds (world s) a x.one.point e ≡ true =
           x.among (is_reference a x.one.point e)
           (and_from (same_actor a x.one.actor && (x.one.point == x.one.point)) (e == x.one.op) (and_from (same_actor
-              a x.one.actor) (x.one.point == x.one.point) both.0 (eq-eqb x.one.point x.one.point refl)) (eq-eqb e
-              x.one.op (sym op))) in
+          a x.one.actor) (x.one.point == x.one.point) both.0 (eq-eqb x.one.point x.one.point refl)) (eq-eqb e
+          x.one.op (sym op))) in
           let w = world_keeps s k in
           let first = w.points.carries x.one.point e (w.links.held_carries a x.one.point e own) in
           let second = w.points.carries q e c in

@@ -1,11 +1,47 @@
 -- The parts of a job, and what is done of them.
-use Rattle.std.proofs.Common.{if◌then◌else◌, ◌≡◌, ◌+◌, ◌-◌, ℕ, ◌<◌, ◌||◌, ◌&&◌, Bool, true, false, List, [], ◌∷◌,
-    length, get_or, filter, Some, refl, sym, ap, ◌∙◌, arith, inl, inr, subst}
+use Rattle.std.proofs.Common.{
+  if◌then◌else◌,
+  ◌≡◌,
+  ◌+◌,
+  ◌-◌,
+  ℕ,
+  ◌<◌,
+  ◌||◌,
+  ◌&&◌,
+  Bool,
+  true,
+  false,
+  List,
+  [],
+  ◌∷◌,
+  length,
+  get_or,
+  filter,
+  Some,
+  refl,
+  sym,
+  ap,
+  ◌∙◌,
+  arith,
+  inl,
+  inr,
+  subst,
+}
 use Rattle.std.specs.Prelude.{nat_lt, nat_le, nat_eq, All}
 use Rattle.std.specs.List.{slice_get, list_all, list_any}
 use Rattle.std.specs.Option.{option_map_or}
-use Rattle.std.proofs.lemmas.Bool.{cases_eq, eq-eqb, ne_eqb, cond-true, cond-false, cases_lt, lt-ltb, le-ltb, le-leb,
-    lt-leb}
+use Rattle.std.proofs.lemmas.Bool.{
+  cases_eq,
+  eq-eqb,
+  ne_eqb,
+  cond-true,
+  cond-false,
+  cases_lt,
+  lt-ltb,
+  le-ltb,
+  le-leb,
+  lt-leb,
+}
 use Rattle.vq_model.specs.declared.plan.PlanJob.{PlanJob}
 use Rattle.vq_model.specs.declared.plan.Need.{Need}
 use Rattle.vq_model.specs.Edges.{Stage, At, AtEnd, needs_at}
@@ -61,47 +97,47 @@ module _ (p : Plan) (j : ℕ) (x : PlanJob) (at : slice_get p.jobs j ≡ Some x)
   filtered_all k test (n ∷ xs) = elim (cases_lt (k + 1) n.from) [
     | inl l ↦
         ap (list_all test) (cond-false (nat_le n.from (k + 1)) (n ∷ filter (λ n. nat_le n.from (k + 1)) xs) (filter
-            (λ n. nat_le n.from (k + 1)) xs) (lt-leb n.from (k + 1) l))
+        (λ n. nat_le n.from (k + 1)) xs) (lt-leb n.from (k + 1) l))
         ∙ (filtered_all k test xs ∙ sym (ap (λ b. (b || test n) && list_all (λ n. nat_lt k (n.from - 1) || test n)
-            xs) (lt-ltb k (n.from - 1) (omega arith))))
+        xs) (lt-ltb k (n.from - 1) (omega arith))))
     | inr l ↦
         ap (list_all test) (cond-true (nat_le n.from (k + 1)) (n ∷ filter (λ n. nat_le n.from (k + 1)) xs) (filter (λ
-            n. nat_le n.from (k + 1)) xs) (le-leb n.from (k + 1) l))
+        n. nat_le n.from (k + 1)) xs) (le-leb n.from (k + 1) l))
         ∙ (ap (λ b. test n && b) (filtered_all k test xs)
-            ∙ sym (ap (λ b. (b || test n) && list_all (λ n. nat_lt k (n.from - 1) || test n) xs) (le-ltb k (n.from -
-            1) (omega arith))))
+        ∙ sym (ap (λ b. (b || test n) && list_all (λ n. nat_lt k (n.from - 1) || test n) xs) (le-ltb k (n.from -
+        1) (omega arith))))
   ]
 
   module _ (f : Facts p) (payload : ℕ → ℕ) (ps : List ℕ) (are : ArePayloads (length p.script.semaphores) payload ps)
-      where
-    pub chains_there : All (λ (n : Need). n.chain < length ps) x.needs
-    chains_there = λ k d l.
-        let below = subst (λ (ns : List Need). All (λ (n : Need). n.chain < length p.script.semaphores) ns) needs_are
-            (f.semaphores.needs_chain j) k d l in
-        let count = are.count in
-        omega arith
+    where
+      pub chains_there : All (λ (n : Need). n.chain < length ps) x.needs
+      chains_there = λ k d l.
+          let below = subst (λ (ns : List Need). All (λ (n : Need). n.chain < length p.script.semaphores) ns) needs_are
+          (f.semaphores.needs_chain j) k d l in
+          let count = are.count in
+          omega arith
 
-    same_payloads : payload_in ps ≡ payload
-    same_payloads = λ i t. are.each t i
+      same_payloads : payload_in ps ≡ payload
+      same_payloads = λ i t. are.each t i
 
-    -- a batch waits for all its needs
-    for_all : (k : Stage) → are_reached p payload j k ≡ list_all (is_reached payload) (needs_at p j k)
-    for_all k =
-        ap (λ b. if b then list_any (is_reached payload) (needs_at p j k) else list_all (is_reached payload)
-            (needs_at p j k)) (f.formed.waits_for_all j (f.batches j))
+      -- a batch waits for all its needs
+      for_all : (k : Stage) → are_reached p payload j k ≡ list_all (is_reached payload) (needs_at p j k)
+      for_all k =
+          ap (λ b. if b then list_any (is_reached payload) (needs_at p j k) else list_all (is_reached payload)
+          (needs_at p j k)) (f.formed.waits_for_all j (f.batches j))
 
-    pub reached_at_end : list_all (is_reached (payload_in ps)) x.needs ≡ are_reached p payload j AtEnd
-    reached_at_end =
-        ap (λ (g : ℕ → ℕ). list_all (is_reached g) x.needs) same_payloads
-        ∙ (ap (list_all (is_reached payload)) (sym needs_are) ∙ sym (for_all AtEnd))
+      pub reached_at_end : list_all (is_reached (payload_in ps)) x.needs ≡ are_reached p payload j AtEnd
+      reached_at_end =
+          ap (λ (g : ℕ → ℕ). list_all (is_reached g) x.needs) same_payloads
+          ∙ (ap (list_all (is_reached payload)) (sym needs_are) ∙ sym (for_all AtEnd))
 
-    pub reached_after : (k : ℕ) → list_all (λ n. nat_lt k (n.from - 1) || is_reached (payload_in ps) n) x.needs ≡
-        are_reached p payload j (At (k + 1))
-    reached_after k =
-        ap (λ (g : ℕ → ℕ). list_all (λ n. nat_lt k (n.from - 1) || is_reached g n) x.needs) same_payloads
-        ∙ (sym (filtered_all k (is_reached payload) x.needs)
-        ∙ (ap (λ (ns : List Need). list_all (is_reached payload) (filter (λ n. nat_le n.from (k + 1)) ns)) (sym
-            needs_are) ∙ sym (for_all (At (k + 1)))))
+      pub reached_after : (k : ℕ) → list_all (λ n. nat_lt k (n.from - 1) || is_reached (payload_in ps) n) x.needs ≡
+          are_reached p payload j (At (k + 1))
+      reached_after k =
+          ap (λ (g : ℕ → ℕ). list_all (λ n. nat_lt k (n.from - 1) || is_reached g n) x.needs) same_payloads
+          ∙ (sym (filtered_all k (is_reached payload) x.needs)
+          ∙ (ap (λ (ns : List Need). list_all (is_reached payload) (filter (λ n. nat_le n.from (k + 1)) ns)) (sym
+          needs_are) ∙ sym (for_all (At (k + 1)))))
 
 -- operations and chains that a plan names exist
 
@@ -117,7 +153,7 @@ signal_exists p f j e h = op_exists p e j (f.formed.of_job e j h)
 pub signals_exist : (p : Plan) → Facts p → (j : ℕ) → All (λ (e : ℕ). e < length p.ops) (signals_of p j)
 signals_exist p f j = λ k d l.
     subst (λ (e : ℕ). e < length p.ops) (get_or_default (signals_of p j) k 0 d l) (signal_exists p f j (get_or
-        (signals_of p j) k 0) (has_at (signals_of p j) k l))
+    (signals_of p j) k 0) (has_at (signals_of p j) k l))
 
 pub resolver_exists : (p : Plan) → Facts p → (t v e : ℕ) → resolver p t v ≡ Some e → e < length p.ops
 resolver_exists p f t v e h = op_within p e t (f.formed.of_chain e t (find_member (λ x. nat_le v (value p x)) (chain

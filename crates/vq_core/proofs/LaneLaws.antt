@@ -1,6 +1,31 @@
 -- What changes of one lane leave of the lanes' table.
-use Rattle.std.proofs.Common.{◌≡◌, ℕ, zero, suc, ◌+◌, ◌<◌, ◌==◌, ◌&&◌, Bool, true, false, List, ◌∷◌, length, get_or,
-    set, Some, refl, sym, ap, ◌∙◌, inl, inr, subst, arith}
+use Rattle.std.proofs.Common.{
+  ◌≡◌,
+  ℕ,
+  zero,
+  suc,
+  ◌+◌,
+  ◌<◌,
+  ◌==◌,
+  ◌&&◌,
+  Bool,
+  true,
+  false,
+  List,
+  ◌∷◌,
+  length,
+  get_or,
+  set,
+  Some,
+  refl,
+  sym,
+  ap,
+  ◌∙◌,
+  inl,
+  inr,
+  subst,
+  arith,
+}
 use Rattle.std.specs.Prelude.{count_by}
 use Rattle.std.specs.List.{slice_get, list_any}
 use Rattle.std.proofs.lemmas.Bool.{false≢true, eqb-true, eq-eqb, ne_eqb, and_parts, cases_eq, cases_lt}
@@ -16,8 +41,21 @@ use Rattle.vq_model.specs.Plan.{Plan}
 use Rattle.vq_model.proofs.Gets.{get_within, get_some}
 use Rattle.vq_points.specs.Points.{Reference, jobs_of_lane, actor_of_lane, without_first, is_reference}
 use Rattle.vq_core_laws.specs.Firsts.{AreFirst, StandOnce}
-use Rattle.vq_core_laws.proofs.Cited.{Facts, put_next, put_other, stands, place_in, lane_once, lane_has, in_lane,
-    same_actor_is, same_actor_self, rising_less, lane_rises, lane_at_is}
+use Rattle.vq_core_laws.proofs.Cited.{
+  Facts,
+  put_next,
+  put_other,
+  stands,
+  place_in,
+  lane_once,
+  lane_has,
+  in_lane,
+  same_actor_is,
+  same_actor_self,
+  rising_less,
+  lane_rises,
+  lane_at_is,
+}
 use Rattle.vq_core.specs.declared.lanes.LaneState.{LaneState}
 use Rattle.vq_core.specs.Lanes.{AreLanes, IsLane, lane_named, no_lane}
 use Rattle.vq_core.proofs.LaneNext.{named, own}
@@ -58,8 +96,10 @@ module _ (p : Plan) (f : Facts p) (released finished : ℕ →
 
     pub lane_released : slice_get (get_or xs (lane_number x.lane) no_lane).jobs (get_or xs (lane_number x.lane)
         no_lane).released ≡ Some j → AreLanes p (put released j true) finished held (set xs (lane_number x.lane)
-        (record (get_or xs (lane_number x.lane) no_lane) { released = (get_or xs (lane_number x.lane)
-        no_lane).released + 1 }))
+        (record (get_or xs (lane_number x.lane) no_lane) {
+          released = (get_or xs (lane_number x.lane)
+              no_lane).released + 1;
+        }))
     lane_released next =
         let s = get_or xs (lane_number x.lane) no_lane in
         record {
@@ -67,20 +107,33 @@ module _ (p : Plan) (f : Facts p) (released finished : ℕ →
           each = set_each (λ n y. IsLane p released finished held (lane_named n) y) (λ n y. IsLane p (put released j
               true) finished held (lane_named n) y) xs no_lane (record s { released = s.released + 1 }) (lane_number
               x.lane) lane_within are.each
-              (subst (λ (l : Lane). IsLane p (put released j true) finished held l (record s { released = s.released
-                  + 1 })) (sym (named x.lane))
-              (record { jobs = old.jobs; first_released = put_next released s.jobs s.released j old.first_released
-                  (subst StandOnce (sym old.jobs) (lane_once p x.lane)) next; first_finished = old.first_finished;
-                  references = old.references }))
-              (λ n d y h. record { jobs = h.jobs; first_released = put_other released y.jobs y.released j
-                  h.first_released (λ i e. not_in n d i (ap (λ js. slice_get js i) (sym h.jobs)
-                  ∙ e)); first_finished = h.first_finished; references = h.references });
+              (subst (λ (l : Lane). IsLane p (put released j true) finished held l (record s {
+                released = s.released
+                    + 1;
+              })) (sym (named x.lane))
+              (record {
+                jobs = old.jobs;
+                first_released = put_next released s.jobs s.released j old.first_released
+                    (subst StandOnce (sym old.jobs) (lane_once p x.lane)) next;
+                first_finished = old.first_finished;
+                references = old.references;
+              }))
+              (λ n d y h. record {
+                jobs = h.jobs;
+                first_released = put_other released y.jobs y.released j
+                    h.first_released (λ i e. not_in n d i (ap (λ js. slice_get js i) (sym h.jobs)
+                    ∙ e));
+                first_finished = h.first_finished;
+                references = h.references;
+              });
         }
 
     pub lane_finished : slice_get (get_or xs (lane_number x.lane) no_lane).jobs (get_or xs (lane_number x.lane)
         no_lane).finished ≡ Some j → AreLanes p released (put finished j true) held (set xs (lane_number x.lane)
-        (record (get_or xs (lane_number x.lane) no_lane) { finished = (get_or xs (lane_number x.lane)
-        no_lane).finished + 1 }))
+        (record (get_or xs (lane_number x.lane) no_lane) {
+          finished = (get_or xs (lane_number x.lane)
+              no_lane).finished + 1;
+        }))
     lane_finished next =
         let s = get_or xs (lane_number x.lane) no_lane in
         record {
@@ -88,14 +141,25 @@ module _ (p : Plan) (f : Facts p) (released finished : ℕ →
           each = set_each (λ n y. IsLane p released finished held (lane_named n) y) (λ n y. IsLane p released (put
               finished j true) held (lane_named n) y) xs no_lane (record s { finished = s.finished + 1 })
               (lane_number x.lane) lane_within are.each
-              (subst (λ (l : Lane). IsLane p released (put finished j true) held l (record s { finished = s.finished
-                  + 1 })) (sym (named x.lane))
-              (record { jobs = old.jobs; first_released = old.first_released; first_finished = put_next finished
-                  s.jobs s.finished j old.first_finished (subst StandOnce (sym old.jobs) (lane_once p x.lane)) next;
-                  references = old.references }))
-              (λ n d y h. record { jobs = h.jobs; first_released = h.first_released; first_finished = put_other
-                  finished y.jobs y.finished j h.first_finished (λ i e. not_in n d i (ap (λ js. slice_get js i) (sym
-                  h.jobs) ∙ e)); references = h.references });
+              (subst (λ (l : Lane). IsLane p released (put finished j true) held l (record s {
+                finished = s.finished
+                    + 1;
+              })) (sym (named x.lane))
+              (record {
+                jobs = old.jobs;
+                first_released = old.first_released;
+                first_finished = put_next finished
+                    s.jobs s.finished j old.first_finished (subst StandOnce (sym old.jobs) (lane_once p x.lane)) next;
+                references = old.references;
+              }))
+              (λ n d y h. record {
+                jobs = h.jobs;
+                first_released = h.first_released;
+                first_finished = put_other
+                    finished y.jobs y.finished j h.first_finished (λ i e. not_in n d i (ap (λ js. slice_get js i) (sym
+                    h.jobs) ∙ e));
+                references = h.references;
+              });
         }
 
     -- the references that the lane's actor holds are these, and those of all others stay
@@ -112,11 +176,20 @@ module _ (p : Plan) (f : Facts p) (released finished : ℕ →
               finished new (lane_named n) y) xs no_lane (record s { held = n }) (lane_number x.lane) lane_within
               are.each
               (subst (λ (l : Lane). IsLane p released finished new l (record s { held = n })) (sym (named x.lane))
-              (record { jobs = old.jobs; first_released = old.first_released; first_finished = old.first_finished;
-                  references = is }))
-              (λ k d y h. record { jobs = h.jobs; first_released = h.first_released; first_finished =
-                  h.first_finished; references = h.references
-                  ∙ sym (same (lane_named k) (λ e. d (named_once k x.lane e))) });
+              (record {
+                jobs = old.jobs;
+                first_released = old.first_released;
+                first_finished = old.first_finished;
+                references = is;
+              }))
+              (λ k d y h. record {
+                jobs = h.jobs;
+                first_released = h.first_released;
+                first_finished =
+                    h.first_finished;
+                references = h.references
+                    ∙ sym (same (lane_named k) (λ e. d (named_once k x.lane e)));
+              });
         }
 
     -- the job that is finished is the first of its lane that wasn't
@@ -146,7 +219,7 @@ module _ (p : Plan) (f : Facts p) (released finished : ℕ →
                 let less = rising_less (jobs_of_lane p x.lane) (lane_rises p x.lane) s.finished i y.0 j y.1 is m in
                 let mine = lane_at_is p x.lane j (in_lane p x.lane j (stands (jobs_of_lane p x.lane) i j is)) in
                 let other = lane_at_is p x.lane y.0 (in_lane p x.lane y.0 (stands (jobs_of_lane p x.lane) s.finished
-                    y.0 y.1)) in
+                y.0 y.1)) in
                 false≢true (sym (first.after s.finished y.0 y.1 (omega arith)) ∙ before y.0 less (other ∙ sym mine))
 
 -- References of one actor
@@ -165,17 +238,24 @@ apart l m n = by_test (same_actor (actor_of_lane l) (actor_of_lane m)) refl
     by_test true h = absurd (n (actor_once l m (same_actor_is (actor_of_lane l) (actor_of_lane m) h)))
 
 pub others_more : (m : Lane) (q e : ℕ) (rs : List Reference) (l : Lane) → (l ≡ m → ⊥) →
-    count_by (λ (r : Reference). same_actor (actor_of_lane l) r.actor) (record { actor = actor_of_lane m; point = q;
-    op = e } ∷ rs) ≡ count_by (λ (r : Reference). same_actor (actor_of_lane l) r.actor) rs
-others_more m q e rs l n = count_other (λ (r : Reference). same_actor (actor_of_lane l) r.actor) (record { actor =
-    actor_of_lane m; point = q; op = e }) rs (apart l m n)
+    count_by (λ (r : Reference). same_actor (actor_of_lane l) r.actor) (record {
+      actor = actor_of_lane m;
+      point = q;
+      op = e;
+    } ∷ rs) ≡ count_by (λ (r : Reference). same_actor (actor_of_lane l) r.actor) rs
+others_more m q e rs l n = count_other (λ (r : Reference). same_actor (actor_of_lane l) r.actor) (record {
+  actor =
+      actor_of_lane m;
+  point = q;
+  op = e;
+}) rs (apart l m n)
 
 pub actor_less : (a : ActorName) (q e : ℕ) (rs : List Reference) → list_any (is_reference a q e) rs ≡ true →
     count_by (λ (r : Reference). same_actor a r.actor) (without_first (is_reference a q e) rs) + 1 ≡ count_by (λ (r :
     Reference). same_actor a r.actor) rs
 actor_less a q e rs h =
     count_less (is_reference a q e) (λ (r : Reference). same_actor a r.actor) rs h (λ r t. (and_parts (same_actor a
-        r.actor) (q == r.point) (and_parts (same_actor a r.actor && (q == r.point)) (e == r.op) t).0).0)
+    r.actor) (q == r.point) (and_parts (same_actor a r.actor && (q == r.point)) (e == r.op) t).0).0)
 
 pub others_less : (m : Lane) (q e : ℕ) (rs : List Reference) (l : Lane) → (l ≡ m → ⊥) →
     count_by (λ (r : Reference). same_actor (actor_of_lane l) r.actor) (without_first (is_reference (actor_of_lane m)
@@ -183,7 +263,7 @@ pub others_less : (m : Lane) (q e : ℕ) (rs : List Reference) (l : Lane) → (l
 others_less m q e rs l n =
     count_same (is_reference (actor_of_lane m) q e) (λ (r : Reference). same_actor (actor_of_lane l) r.actor) rs (λ r t.
     let actor = same_actor_is (actor_of_lane m) r.actor (and_parts (same_actor (actor_of_lane m) r.actor) (q ==
-        r.point) (and_parts (same_actor (actor_of_lane m) r.actor && (q == r.point)) (e == r.op) t).0).0 in
+    r.point) (and_parts (same_actor (actor_of_lane m) r.actor && (q == r.point)) (e == r.op) t).0).0 in
     ap (same_actor (actor_of_lane l)) (sym actor) ∙ apart l m n)
 
 pub point_more : (a : ActorName) (q e : ℕ) (rs : List Reference) →
@@ -207,11 +287,11 @@ pub point_less : (a : ActorName) (q e : ℕ) (rs : List Reference) → list_any 
     Reference). r.point == q) rs
 point_less a q e rs h =
     count_less (is_reference a q e) (λ (r : Reference). r.point == q) rs h (λ r t. eq-eqb r.point q (sym (point_is a
-        q e r t)))
+    q e r t)))
 
 pub points_less : (a : ActorName) (q e : ℕ) (rs : List Reference) (k : ℕ) → (k ≡ q → ⊥) →
     count_by (λ (r : Reference). r.point == k) (without_first (is_reference a q e) rs) ≡ count_by (λ (r : Reference).
     r.point == k) rs
 points_less a q e rs k n =
     count_same (is_reference a q e) (λ (r : Reference). r.point == k) rs (λ r t. ne_eqb r.point k (λ h. n (sym h
-        ∙ sym (point_is a q e r t))))
+    ∙ sym (point_is a q e r t))))

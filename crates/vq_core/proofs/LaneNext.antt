@@ -1,6 +1,28 @@
 -- The next job of a lane, and the next one to be released.
-use Rattle.std.proofs.Common.{◌≡◌, ℕ, suc, ◌+◌, Bool, true, false, List, [], filter, get_or, Option, Some, None, ◌<◌,
-    length, refl, sym, ap, ◌∙◌, subst, arith}
+use Rattle.std.proofs.Common.{
+  ◌≡◌,
+  ℕ,
+  suc,
+  ◌+◌,
+  Bool,
+  true,
+  false,
+  List,
+  [],
+  filter,
+  get_or,
+  Option,
+  Some,
+  None,
+  ◌<◌,
+  length,
+  refl,
+  sym,
+  ap,
+  ◌∙◌,
+  subst,
+  arith,
+}
 use Rattle.std.specs.Prelude.{nat_lt, IfSome}
 use Rattle.std.specs.List.{slice_get, list_all}
 use Rattle.std.specs.Option.{option_map_or}
@@ -25,14 +47,14 @@ module _ (p : Plan) (released finished : ℕ →
   lane_next =
       let k = are.each n in
       sym (next_is finished (get_or xs n no_lane).jobs (get_or xs n no_lane).finished k.first_finished)
-          ∙ ap (next finished) k.jobs
+      ∙ ap (next finished) k.jobs
 
   pub lane_unreleased : slice_get (get_or xs n no_lane).jobs (get_or xs n no_lane).released ≡ next released
       (jobs_of_lane p (lane_named n))
   lane_unreleased =
       let k = are.each n in
       sym (next_is released (get_or xs n no_lane).jobs (get_or xs n no_lane).released k.first_released)
-          ∙ ap (next released) k.jobs
+      ∙ ap (next released) k.jobs
 
 -- the lane of a job, by its number
 pub named : (l : Lane) → lane_named (lane_number l) ≡ l
@@ -58,16 +80,16 @@ module _ (p : Plan) (released finished : ℕ →
       no_lane).released ≡ Some j → (released j ≡ false) × (list_all released (earlier_in_queue p j) ≡ true)
   is_turn h =
       let r = turn_first released (get_or xs (lane_number x.lane) no_lane).jobs (get_or xs (lane_number x.lane)
-          no_lane).released own.first_released rises j h in
+      no_lane).released own.first_released rises j h in
       (r.0, ap (list_all released) (sym earlier_is) ∙ r.1)
 
   pub has_turn : released j ≡ false → list_all released (earlier_in_queue p j) ≡ true →
       slice_get (get_or xs (lane_number x.lane) no_lane).jobs (get_or xs (lane_number x.lane) no_lane).released ≡ Some j
   has_turn idle all =
       first_turn released (get_or xs (lane_number x.lane) no_lane).jobs (get_or xs (lane_number x.lane)
-          no_lane).released own.first_released rises j
+      no_lane).released own.first_released rises j
       (subst (λ js. has js j ≡ true) (sym own.jobs) (lane_has p j x (get_within p.jobs j x at) at)) idle (ap
-          (list_all released) earlier_is ∙ all)
+      (list_all released) earlier_is ∙ all)
 
 pub next_exists : (p : Plan) (w : PointState) (a : ActorName) (o : Option ℕ) → o ≡ next_job p w a →
     IfSome o (λ (j : ℕ). j < length p.jobs)

@@ -1,16 +1,63 @@
 -- What changes leave of the notes on references.
-use Rattle.std.proofs.Common.{◌≡◌, ℕ, zero, suc, ◌+◌, ◌-◌, ◌<◌, ◌==◌, ◌&&◌, not, Bool, true, false, List, [], ◌∷◌,
-    length, get_or, set, Option, Some, None, refl, sym, ap, ◌∙◌, inl, inr, subst, arith}
+use Rattle.std.proofs.Common.{
+  ◌≡◌,
+  ℕ,
+  zero,
+  suc,
+  ◌+◌,
+  ◌-◌,
+  ◌<◌,
+  ◌==◌,
+  ◌&&◌,
+  not,
+  Bool,
+  true,
+  false,
+  List,
+  [],
+  ◌∷◌,
+  length,
+  get_or,
+  set,
+  Option,
+  Some,
+  None,
+  refl,
+  sym,
+  ap,
+  ◌∙◌,
+  inl,
+  inr,
+  subst,
+  arith,
+}
 use Rattle.std.specs.Prelude.{count_by}
 use Rattle.std.specs.List.{slice_get, list_any, position_or_len}
 use Rattle.std.specs.Option.{option_map_or}
-use Rattle.std.proofs.lemmas.Bool.{false≢true, eqb-true, eq-eqb, ne_eqb, and_parts, and_from, cases_eq, cases_lt,
-    or_cases, or_left, or_right, cond-true, cond-false}
+use Rattle.std.proofs.lemmas.Bool.{
+  false≢true,
+  eqb-true,
+  eq-eqb,
+  ne_eqb,
+  and_parts,
+  and_from,
+  cases_eq,
+  cases_lt,
+  or_cases,
+  or_left,
+  or_right,
+  cond-true,
+  cond-false,
+}
 use Rattle.std.proofs.lemmas.List.{length-set, get_or-set_same, get_or-set_other}
 use Rattle.std.proofs.lemmas.List.Sums.{sum_by-cons}
 use Rattle.vq_model.specs.declared.script.ActorName.{ActorName}
-use Rattle.vq_model.specs.declared.script.ActorName.TheVariants.{Host as HostActor, Submit as SubmitActor, Ring as
-    RingActor}
+use Rattle.vq_model.specs.declared.script.ActorName.TheVariants.{
+  Host as HostActor,
+  Submit as SubmitActor,
+  Ring as
+      RingActor,
+}
 use Rattle.vq_model.specs.declared.plan.Lane.{Lane}
 use Rattle.vq_model.specs.declared.plan.Lane.TheVariants.{Host as HostLane, Queue as QueueLane}
 use Rattle.vq_model.specs.declared.plan.Need.{Need}
@@ -21,8 +68,16 @@ use Rattle.vq_model.specs.Plan.{Plan, needs, resolver}
 use Rattle.vq_model.proofs.Gets.{get_within, get_some, slice_get_past}
 use Rattle.vq_model.proofs.Puts.{put_here, put_there}
 use Rattle.vq_model.proofs.Searches.{find_member}
-use Rattle.vq_points.specs.Points.{Reference, jobs_of_lane, actor_of_lane, resolves, needs_resolved, count_of,
-    is_reference, without_first}
+use Rattle.vq_points.specs.Points.{
+  Reference,
+  jobs_of_lane,
+  actor_of_lane,
+  resolves,
+  needs_resolved,
+  count_of,
+  is_reference,
+  without_first,
+}
 use Rattle.vq_core_laws.proofs.Cited.{one, counted_any, in_lane, next_put, next_none, same_actor_is, same_actor_self}
 use Rattle.vq_core.specs.declared.notes.Note.{Note}
 use Rattle.vq_core.specs.Notes.{AreNotes, IsNote, place_in, next_by, held_by, no_note}
@@ -46,8 +101,11 @@ passes_at test (x ∷ xs) h = by_test (test x) refl (passes_at test xs)
           passes = e;
         }
     by_test false e f =
-        let r = f (elim (or_cases (test x) (list_any test xs) h) [ inl t ↦ absurd (false≢true (sym e
-            ∙ t)) | inr t ↦ t ]) in
+        let r = f (elim (or_cases (test x) (list_any test xs) h) [
+          | inl t ↦ absurd (false≢true (sym e
+              ∙ t))
+          | inr t ↦ t
+        ]) in
         record {
           need = r.need;
           at = ap (slice_get (x ∷ xs)) (cond-true (not (test x)) (1 + position_or_len test xs) 0 (ap not e)
@@ -133,9 +191,9 @@ module _ (p : Plan) (finished : ℕ → Bool) (held : List Reference) (referred 
         one_each = λ i. elim (cases_eq i j) [
           | inl s ↦
               ap (λ (k : ℕ). length (get_or (set rows j row) k [])) s
-                  ∙ (ap length (get_or-set_same rows j row [] within)
-                  ∙ (length-set (get_or rows j []) (place_in p j e) n ∙ (are.one_each j
-                  ∙ ap (λ (k : ℕ). length (needs p k)) (sym s))))
+              ∙ (ap length (get_or-set_same rows j row [] within)
+              ∙ (length-set (get_or rows j []) (place_in p j e) n ∙ (are.one_each j
+              ∙ ap (λ (k : ℕ). length (needs p k)) (sym s))))
           | inr d ↦ ap length (get_or-set_other rows j i row [] d) ∙ are.one_each i
         ];
         each = λ i g l. elim (cases_eq i j) [
@@ -143,7 +201,7 @@ module _ (p : Plan) (finished : ℕ → Bool) (held : List Reference) (referred 
               []) (place_in p k g) no_note)) (sym s) (same_row g (subst (λ (k : ℕ). 0 < needs_resolved p k g) s l))
           | inr d ↦
               subst (λ (r : List Note). IsNote p finished new referred' looked' i g (get_or r (place_in p i g)
-                  no_note)) (sym (get_or-set_other rows j i row [] d))
+              no_note)) (sym (get_or-set_other rows j i row [] d))
               (others i g (λ s t. d s) (get_or (get_or rows i []) (place_in p i g) no_note) (are.each i g l))
         ];
       }
@@ -155,14 +213,14 @@ module _ (p : Plan) (finished : ℕ → Bool) (held : List Reference) (referred 
           IsNote p finished new referred' looked' j g (get_or (get_or (set rows j row) j []) (place_in p j g) no_note)
       same_row g l =
           subst (λ (r : List Note). IsNote p finished new referred' looked' j g (get_or r (place_in p j g) no_note))
-              (sym (get_or-set_same rows j row [] within))
+          (sym (get_or-set_same rows j row [] within))
           (elim (cases_eq g e) [
             | inl s ↦ subst (λ (k : ℕ). IsNote p finished new referred' looked' j k (get_or row (place_in p j k)
                 no_note)) (sym s) (subst (IsNote p finished new referred' looked' j e) (sym (get_or-set_same (get_or
                 rows j []) (place_in p j e) n no_note note_within)) own)
             | inr d ↦
                 subst (IsNote p finished new referred' looked' j g) (sym (get_or-set_other (get_or rows j [])
-                    (place_in p j e) (place_in p j g) n no_note (places_apart p j e g some l d)))
+                (place_in p j e) (place_in p j g) n no_note (places_apart p j e g some l d)))
                 (others j g (λ s t. d t) (get_or (get_or rows j []) (place_in p j g) no_note) (are.each j g l))
           ])
 
@@ -171,8 +229,8 @@ module _ (p : Plan) (finished : ℕ → Bool) (held : List Reference) (referred 
   counted_here : (notes : ℕ → List ℕ) → count_of (put notes j (e ∷ notes j) j) e ≡ count_of (notes j) e + 1
   counted_here notes =
       ap (λ zs. count_of zs e) (put_here notes j (e ∷ notes j))
-          ∙ (let c = sum_by-cons (λ k. one (k == e)) e (notes j) in let o : one (e == e) ≡ 1 = ap one (eq-eqb e e
-          refl) in omega arith)
+      ∙ (let c = sum_by-cons (λ k. one (k == e)) e (notes j) in let o : one (e == e) ≡ 1 = ap one (eq-eqb e e
+      refl) in omega arith)
 
   counted_there : (notes : ℕ → List ℕ) (i g : ℕ) → (i ≡ j → g ≡ e → ⊥) →
       count_of (put notes j (e ∷ notes j) i) g ≡ count_of (notes i) g
@@ -181,7 +239,7 @@ module _ (p : Plan) (finished : ℕ → Bool) (held : List Reference) (referred 
         ap (λ (k : ℕ). count_of (put notes j (e ∷ notes j) k) g) s
         ∙ (ap (λ zs. count_of zs g) (put_here notes j (e ∷ notes j))
         ∙ ((let c = sum_by-cons (λ k. one (k == g)) e (notes j) in let o : one (e == g) ≡ 0 = ap one (ne_eqb e g (λ
-            h. n s (sym h))) in omega arith)
+        h. n s (sym h))) in omega arith)
         ∙ ap (λ (k : ℕ). count_of (notes k) g) (sym s)))
     | inr d ↦ ap (λ zs. count_of zs g) (put_there notes j (e ∷ notes j) i d)
   ]
@@ -207,19 +265,28 @@ module _ (p : Plan) (finished : ℕ → Bool) (held : List Reference) (referred 
           absurd (n k (sym (eqb-true e g both.1)))
 
   pub notes_referred : (q : ℕ) → AreNotes p finished (record { actor = a; point = q; op = e } ∷ held) (put referred j
-      (e ∷ referred j)) looked (set rows j (set (get_or rows j []) (place_in p j e) (record v { referred = v.referred
-      + 1; held = v.held + 1 })))
+      (e ∷ referred j)) looked (set rows j (set (get_or rows j []) (place_in p j e) (record v {
+        referred = v.referred
+            + 1;
+        held = v.held + 1;
+      })))
   notes_referred q =
       notes_put (record { actor = a; point = q; op = e } ∷ held) (put referred j (e ∷ referred j)) looked (record v {
-          referred = v.referred + 1; held = v.held + 1 })
+        referred = v.referred + 1;
+        held = v.held + 1;
+      })
       (record {
         references = ap (λ (n : ℕ). n + 1) x.references ∙ sym (counted_here referred);
         looks = x.looks;
         next_held = λ b h.
             let same = own_actor b h in
             ap (λ (n : ℕ). n + 1) (x.next_held a is_next)
-            ∙ (sym (count_more (λ (r : Reference). same_actor a r.actor && (r.op == e)) (record { actor = a; point =
-                q; op = e }) held (and_from (same_actor a a) (e == e) (same_actor_self a) (eq-eqb e e refl)))
+            ∙ (sym (count_more (λ (r : Reference). same_actor a r.actor && (r.op == e)) (record {
+              actor = a;
+              point =
+                  q;
+              op = e;
+            }) held (and_from (same_actor a a) (e == e) (same_actor_self a) (eq-eqb e e refl)))
             ∙ ap (λ (c : ActorName). held_by (record { actor = a; point = q; op = e } ∷ held) c e) (sym same));
         other_held = λ none. absurd (none a is_next);
       })
@@ -259,7 +326,7 @@ module _ (p : Plan) (finished : ℕ → Bool) (held : List Reference) (referred 
         (λ r t.
         let k = parts r t in
         and_from (same_actor a r.actor) (r.op == e) (ap (same_actor a) (sym k.0)
-            ∙ same_actor_self a) (eq-eqb r.op e (sym k.1)))
+        ∙ same_actor_self a) (eq-eqb r.op e (sym k.1)))
 
     pub some_held : 0 < v.held
     some_held = let h = held_once in let n = x.next_held a is_next in omega arith
@@ -286,7 +353,7 @@ module _ (p : Plan) (finished : ℕ → Bool) (held : List Reference) (referred 
               r.actor && (r.op == g)) held (λ r t.
               let z = parts r t in
               ap (λ (c : ActorName). same_actor b c && (r.op == g)) (sym z.0)
-                  ∙ (ap (λ (o : ℕ). same_actor b a && (o == g)) (sym z.1) ∙ not_counted i g n b h)));
+              ∙ (ap (λ (o : ℕ). same_actor b a && (o == g)) (sym z.1) ∙ not_counted i g n b h)));
           other_held = k.other_held;
         })
 
@@ -303,17 +370,17 @@ module _ (p : Plan) (finished : ℕ → Bool) (held : List Reference) (referred 
       weaker [] h = h
       weaker (r ∷ rs) h = elim (or_cases (same_actor (actor_of_lane x.lane) r.actor && (r.op == g)) (list_any (λ (r :
           Reference). same_actor (actor_of_lane x.lane) r.actor && (r.op == g)) rs) h) [
-        | inl t ↦ or_left (same_actor (actor_of_lane x.lane) r.actor) (list_any (λ (r : Reference). same_actor
-            (actor_of_lane x.lane) r.actor) rs) (and_parts (same_actor (actor_of_lane x.lane) r.actor) (r.op == g) t).0
-        | inr t ↦ or_right (same_actor (actor_of_lane x.lane) r.actor) (list_any (λ (r : Reference). same_actor
-            (actor_of_lane x.lane) r.actor) rs) (weaker rs t)
-      ]
+            | inl t ↦ or_left (same_actor (actor_of_lane x.lane) r.actor) (list_any (λ (r : Reference). same_actor
+                (actor_of_lane x.lane) r.actor) rs) (and_parts (same_actor (actor_of_lane x.lane) r.actor) (r.op == g) t).0
+            | inr t ↦ or_right (same_actor (actor_of_lane x.lane) r.actor) (list_any (λ (r : Reference). same_actor
+                (actor_of_lane x.lane) r.actor) rs) (weaker rs t)
+          ]
 
       by_count : (n : ℕ) → held_by held (actor_of_lane x.lane) g ≡ n → n ≡ 0
       by_count zero e = refl
       by_count (suc n) e =
           absurd (false≢true (sym none ∙ weaker held (counted_any (λ (r : Reference). same_actor (actor_of_lane
-              x.lane) r.actor && (r.op == g)) held (omega arith))))
+          x.lane) r.actor && (r.op == g)) held (omega arith))))
 
   -- the next job of an actor, where it isn't the one that is finished, stays
   stays : (b : ActorName) (k : ℕ) → next_by p finished b ≡ Some k → (k ≡ j → ⊥) →
@@ -355,7 +422,7 @@ module _ (p : Plan) (finished : ℕ → Bool) (held : List Reference) (referred 
               let mine = next_actor p finished b j x at (e ∙ ap Some t) in
               let lane = next_actor p (put finished j true) b i y.0 y.1 h in
               only b lane (λ z. let u = sym e ∙ z in let v : m ≡ i = cc in d v)
-                  ∙ sym (ap (λ (c : ActorName). held_by held c g) mine ∙ nothing g)
+              ∙ sym (ap (λ (c : ActorName). held_by held c g) mine ∙ nothing g)
           | inr t ↦ absurd (let z = sym (stays b m e t) ∙ h in let v : m ≡ i = cc in d v)
         ]
       ]
@@ -368,7 +435,7 @@ module _ (p : Plan) (finished : ℕ → Bool) (held : List Reference) (referred 
           | inl t ↦
               let mine = next_actor p finished (actor_of_lane y.0.lane) j x at (e ∙ ap Some t) in
               k.next_held (actor_of_lane y.0.lane) (e ∙ ap Some s)
-                  ∙ (ap (λ (c : ActorName). held_by held c g) mine ∙ nothing g)
+              ∙ (ap (λ (c : ActorName). held_by held c g) mine ∙ nothing g)
           | inr t ↦ absurd (idle (actor_of_lane y.0.lane) (stays (actor_of_lane y.0.lane) m e t ∙ ap Some s))
         ]
         | inr d ↦ only (actor_of_lane y.0.lane) refl (λ z. let u = sym e ∙ z in let v : m ≡ i = cc in d v)

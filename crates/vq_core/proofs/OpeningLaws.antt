@@ -1,12 +1,50 @@
 -- The tables before the first event.
-use Rattle.std.proofs.Common.{◌≡◌, ℕ, zero, suc, ◌+◌, ◌<◌, ◌≤◌, ◌++◌, ◌∷◌, [], Bool, true, false, List, length,
-    get_or, set, map, take, filter, replicate, Some, None, refl, sym, ap, ◌∙◌, inl, inr, subst, arith}
+use Rattle.std.proofs.Common.{
+  ◌≡◌,
+  ℕ,
+  zero,
+  suc,
+  ◌+◌,
+  ◌<◌,
+  ◌≤◌,
+  ◌++◌,
+  ◌∷◌,
+  [],
+  Bool,
+  true,
+  false,
+  List,
+  length,
+  get_or,
+  set,
+  map,
+  take,
+  filter,
+  replicate,
+  Some,
+  None,
+  refl,
+  sym,
+  ap,
+  ◌∙◌,
+  inl,
+  inr,
+  subst,
+  arith,
+}
 use Rattle.std.specs.Prelude.{sum, count_by, ◌||◌}
 use Rattle.std.specs.List.{slice_get, range_with_len}
 use Rattle.std.specs.Option.{option_map_or}
 use Rattle.std.proofs.lemmas.Bool.{cases_lt, cases_eq, cond-true, cond-false, ne_eqb}
-use Rattle.std.proofs.lemmas.List.{get_or_past, get_or_push, get_or_append_left, length-replicate, get_or-set_same,
-    get_or-set_other, length-set}
+use Rattle.std.proofs.lemmas.List.{
+  get_or_past,
+  get_or_push,
+  get_or_append_left,
+  length-replicate,
+  get_or-set_same,
+  get_or-set_other,
+  length-set,
+}
 use Rattle.vq_model.specs.declared.plan.Lane.{Lane}
 use Rattle.vq_model.specs.declared.plan.PlanJob.{PlanJob}
 use Rattle.vq_model.specs.Lanes.{lane_number, KeepsLanes, KeepsSemaphores}
@@ -15,8 +53,18 @@ use Rattle.vq_model.proofs.Gets.{slice_get_past}
 use Rattle.vq_model.proofs.Lists.{has_here, has_there}
 use Rattle.std.proofs.lemmas.List.Sums.{sum_by-cons, count_by-le-length}
 use Rattle.vq_points.specs.Points.{opening_points, jobs_of_lane}
-use Rattle.vq_core_laws.proofs.Cited.{ordered_once, op_within, count_raised, place_in as place_of, same_lane_is,
-    same_lane_self, in_lane, InLane, lane_at_is, opening_timeline}
+use Rattle.vq_core_laws.proofs.Cited.{
+  ordered_once,
+  op_within,
+  count_raised,
+  place_in as place_of,
+  same_lane_is,
+  same_lane_self,
+  in_lane,
+  InLane,
+  lane_at_is,
+  opening_timeline,
+}
 use Rattle.vq_core.specs.declared.lanes.LaneState.{LaneState}
 use Rattle.vq_core.specs.declared.notes.Note.{Note}
 use Rattle.vq_core.specs.Lanes.{AreLanes, lane_named, no_lane}
@@ -67,7 +115,7 @@ payloads_open p semaphores xs n each =
             let a = semaphores.initials in
             let b = semaphores.chains in
             get_or_past xs t 0 (omega arith) ∙ sym (ap (λ o. option_map_or (λ x. x) o 0) (slice_get_past p.initials t
-                (omega arith)))
+            (omega arith)))
       ];
     }
 
@@ -83,7 +131,11 @@ notes_open p rows n each =
             ∙ ap length (sym (ap (λ o. option_map_or (λ (x : PlanJob). x.needs) o []) (slice_get_past p.jobs j l)))
       ];
       each = λ j e some. subst (IsNote p unmarked [] nothing nothing j e) (sym (empty j (place_in p j e))) (record {
-          references = refl; looks = refl; next_held = λ a h. refl; other_held = λ h. refl });
+        references = refl;
+        looks = refl;
+        next_held = λ a h. refl;
+        other_held = λ h. refl;
+      });
     }
   where
     empty : (j k : ℕ) → get_or (get_or rows j []) k no_note ≡ no_note
@@ -116,16 +168,16 @@ filter_push test a (suc n) = by_test (test a) refl (filter_push test (a + 1) n)
         suc n) ∷ [])
     by_test true e r =
         cond-true (test a) (a ∷ filter test (range_with_len (a + 1) (suc n))) (filter test (range_with_len (a + 1)
-            (suc n))) e
+        (suc n))) e
         ∙ (ap (λ zs. a ∷ zs) (r ∙ ap (λ (k : ℕ). filter test (range_with_len (a + 1) n) ++ filter test (k ∷ [])) here)
         ∙ ap (λ zs. zs ++ filter test ((a + suc n) ∷ [])) (sym (cond-true (test a) (a ∷ filter test (range_with_len
-            (a + 1) n)) (filter test (range_with_len (a + 1) n)) e)))
+        (a + 1) n)) (filter test (range_with_len (a + 1) n)) e)))
     by_test false e r =
         cond-false (test a) (a ∷ filter test (range_with_len (a + 1) (suc n))) (filter test (range_with_len (a + 1)
-            (suc n))) e
+        (suc n))) e
         ∙ (r ∙ ap (λ (k : ℕ). filter test (range_with_len (a + 1) n) ++ filter test (k ∷ [])) here
         ∙ ap (λ zs. zs ++ filter test ((a + suc n) ∷ [])) (sym (cond-false (test a) (a ∷ filter test (range_with_len
-            (a + 1) n)) (filter test (range_with_len (a + 1) n)) e)))
+        (a + 1) n)) (filter test (range_with_len (a + 1) n)) e)))
 
 append_none : (xs : List ℕ) → xs ++ [] ≡ xs
 append_none [] = refl
@@ -146,11 +198,13 @@ module _ (p : Plan) (n : ℕ) (x : PlanJob) (at : slice_get p.jobs n ≡ Some x)
       let z : 0 + n ≡ n = omega arith in
       ap (are_in_lane p k) e ∙ (filter_push (λ j. of_job (λ y. same_lane (lane_named k) y.lane) false p j) 0 n
       ∙ ap (λ (i : ℕ). are_in_lane p k n ++ filter (λ j. of_job (λ y. same_lane (lane_named k) y.lane) false p j) (i
-          ∷ [])) z)
+      ∷ [])) z)
 
   pub lanes_more : (xs : List LaneState) → HasLanesUpTo p n xs → lane_number x.lane < length xs →
-      HasLanesUpTo p (n + 1) (set xs (lane_number x.lane) (record (get_or xs (lane_number x.lane) no_lane) { jobs =
-      (get_or xs (lane_number x.lane) no_lane).jobs ++ n ∷ [] }))
+      HasLanesUpTo p (n + 1) (set xs (lane_number x.lane) (record (get_or xs (lane_number x.lane) no_lane) {
+        jobs =
+            (get_or xs (lane_number x.lane) no_lane).jobs ++ n ∷ [];
+      }))
   lanes_more xs up within =
       record {
         jobs = λ k l. elim (cases_eq k (lane_number x.lane)) [
@@ -169,8 +223,10 @@ module _ (p : Plan) (n : ℕ) (x : PlanJob) (at : slice_get p.jobs n ≡ Some x)
       }
     where
       new : LaneState
-      new = record (get_or xs (lane_number x.lane) no_lane) { jobs = (get_or xs (lane_number x.lane) no_lane).jobs ++
-          n ∷ [] }
+      new = record (get_or xs (lane_number x.lane) no_lane) {
+        jobs = (get_or xs (lane_number x.lane) no_lane).jobs ++
+            n ∷ [];
+      }
 
       kept : (part : LaneState → ℕ) → part new ≡ part (get_or xs (lane_number x.lane) no_lane) → ((k : ℕ) →
           part (get_or xs k no_lane) ≡ 0) → (k : ℕ) → part (get_or (set xs (lane_number x.lane) new) k no_lane) ≡ 0
@@ -178,7 +234,7 @@ module _ (p : Plan) (n : ℕ) (x : PlanJob) (at : slice_get p.jobs n ≡ Some x)
         | inl s ↦
             ap (λ (i : ℕ). part (get_or (set xs (lane_number x.lane) new) i no_lane)) s
             ∙ (ap part (get_or-set_same xs (lane_number x.lane) new no_lane within) ∙ (same
-                ∙ zeros (lane_number x.lane)))
+            ∙ zeros (lane_number x.lane)))
         | inr d ↦ ap part (get_or-set_other xs (lane_number x.lane) k new no_lane d) ∙ zeros k
       ]
 
@@ -186,14 +242,14 @@ module _ (p : Plan) (n : ℕ) (x : PlanJob) (at : slice_get p.jobs n ≡ Some x)
       own_more =
           one_more (lane_number x.lane)
           ∙ ap (λ zs. are_in_lane p (lane_number x.lane) n ++ zs) (cond-true (of_job (λ y. same_lane (lane_named
-              (lane_number x.lane)) y.lane) false p n) (n ∷ []) [] (in_own (lane_number x.lane)
-              ∙ (ap (λ (l : Lane). same_lane l x.lane) (named x.lane) ∙ same_lane_self x.lane)))
+          (lane_number x.lane)) y.lane) false p n) (n ∷ []) [] (in_own (lane_number x.lane)
+          ∙ (ap (λ (l : Lane). same_lane l x.lane) (named x.lane) ∙ same_lane_self x.lane)))
 
       other_more : (k : ℕ) → (k ≡ lane_number x.lane → ⊥) → are_in_lane p k (n + 1) ≡ are_in_lane p k n
       other_more k d =
           one_more k
           ∙ (ap (λ zs. are_in_lane p k n ++ zs) (cond-false (of_job (λ y. same_lane (lane_named k) y.lane) false p n)
-              (n ∷ []) [] (by_test (same_lane (lane_named k) x.lane) refl))
+          (n ∷ []) [] (by_test (same_lane (lane_named k) x.lane) refl))
           ∙ append_none (are_in_lane p k n))
         where
           by_test : (b : Bool) → same_lane (lane_named k) x.lane ≡ b →
@@ -248,10 +304,10 @@ once_few : (n : ℕ) (xs : List ℕ) → StandOnce xs → ((x : ℕ) → has xs 
 once_few n [] once below = omega arith
 once_few n (x ∷ xs) once below =
     let rest = once_few n xs (λ i k y a b. suc_same i k (once (suc i) (suc k) y a b)) (λ y m. below y (has_there x xs
-        y m)) in
+    y m)) in
     let l = below x (has_here x xs) in
     let up = count_raised (has xs) (has (x ∷ xs)) x (by_test (has xs x) refl) (has_here x xs) (λ i d. ap (λ b. b ||
-        has xs i) (ne_eqb x i (λ e. d (sym e)))) 0 n (omega arith) (omega arith) in
+    has xs i) (ne_eqb x i (λ e. d (sym e)))) 0 n (omega arith) (omega arith) in
     omega arith
   where
     suc_same : (i k : ℕ) → suc i ≡ suc k → i ≡ k
@@ -264,7 +320,7 @@ once_few n (x ∷ xs) once below =
 pub chain_few : (p : Plan) → IsWellFormed p → (t : ℕ) → length (chain p t) ≤ length p.ops
 chain_few p wf t =
     let few = once_few (length p.ops) (chain p t) (ordered_once p (chain p t) (wf.chain_order t)) (λ e m. op_within p
-        e t (wf.of_chain e t m)) in
+    e t (wf.of_chain e t m)) in
     let most = count_by-le-length (has (chain p t)) (range_with_len 0 (length p.ops)) in
     let size = length-range_with_len 0 (length p.ops) in
     omega arith
@@ -282,9 +338,11 @@ pub timelines_more : (p : Plan) (ls : List Timeline) (n : ℕ) (l : Timeline) �
 timelines_more p ls n l size each is kept k b = elim (cases_eq k n) [
   | inl s ↦
       let at = get_or_push ls l no_timeline n size in
-      let here = ap (λ (i : ℕ). get_or (ls ++ l ∷ []) i no_timeline) s ∙ at in
-      (here ∙ (is ∙ ap (λ (i : ℕ). new_timeline (initial p i) (map (value p) (chain p i))) (sym s)), subst KeepsLists
-          (sym here) kept)
+      let here = ap (λ (i : ℕ). get_or (ls ++ l ∷ []) i no_timeline) s ∙ at in (
+        here ∙ (is ∙ ap (λ (i : ℕ). new_timeline (initial p i) (map (value p) (chain p i))) (sym s)),
+        subst KeepsLists
+            (sym here) kept,
+      )
   | inr d ↦
       let m : k < n = grind arith in
       let at = get_or_append_left ls (l ∷ []) no_timeline k (omega arith) in

@@ -47,7 +47,7 @@ module _ (a : Inside) (k : IsCore a) where
         Tells a.ordered (after_event a.ordered (points_after a.ordered a.history.items) x) b → IsCore b
     core_next b o h c t =
         let there = subst (λ (w : PointState). Tells a.ordered w b) (sym (ap (points_after a.ordered) h
-            ∙ points_push a.ordered a.history.items x)) t in
+        ∙ points_push a.ordered a.history.items x)) t in
         let came = subst (HistoryFrom a.ordered (opening_points a.ordered)) (sym h) longer in
         record {
           read = subst IsPlan (sym o) k.read;

@@ -1,6 +1,34 @@
 -- What a change of one item leaves of the tables.
-use Rattle.std.proofs.Common.{◌≡◌, ℕ, ◌+◌, ◌<◌, ◌==◌, ◌++◌, Bool, true, false, not, List, [], ◌∷◌, length, get_or,
-    set, cond, Option, Some, None, refl, sym, ap, ◌∙◌, inl, inr, subst, arith}
+use Rattle.std.proofs.Common.{
+  ◌≡◌,
+  ℕ,
+  ◌+◌,
+  ◌<◌,
+  ◌==◌,
+  ◌++◌,
+  Bool,
+  true,
+  false,
+  not,
+  List,
+  [],
+  ◌∷◌,
+  length,
+  get_or,
+  set,
+  cond,
+  Option,
+  Some,
+  None,
+  refl,
+  sym,
+  ap,
+  ◌∙◌,
+  inl,
+  inr,
+  subst,
+  arith,
+}
 use Rattle.std.specs.Prelude.{count_by}
 use Rattle.std.specs.List.{slice_get, list_any, cons_option}
 use Rattle.std.proofs.lemmas.Bool.{cases_eq, false≢true, or_cases, cond-true, cond-false}
@@ -17,8 +45,18 @@ use Rattle.vq_core_laws.specs.Firsts.{AreFirst}
 use Rattle.vq_core_laws.proofs.Cited.{Facts, one, put_next, put_other, rising_once, stands, count_cons, count_raised}
 use Rattle.vq_core.specs.declared.table.JobState.{JobState}
 use Rattle.vq_core.specs.declared.table.PointSlot.{PointSlot}
-use Rattle.vq_core.specs.Tables.{AreSubmitted, AreJobs, IsJobState, ArePoints, IsSlot, AreMade, ArePayloads,
-    jobs_left, idle, no_slot}
+use Rattle.vq_core.specs.Tables.{
+  AreSubmitted,
+  AreJobs,
+  IsJobState,
+  ArePoints,
+  IsSlot,
+  AreMade,
+  ArePayloads,
+  jobs_left,
+  idle,
+  no_slot,
+}
 
 -- one item is put
 pub set_each : {A : Type 0} (P Q : ℕ → A → Type 0) (xs : List A) (d v : A) (j : ℕ) → j < length xs → ((k : ℕ) →
@@ -52,46 +90,86 @@ module _ (p : Plan) (released started finished made : ℕ →
   count = length-set xs j v ∙ are.count
 
   module _ (x : IsJobState p released started finished made applied j v) where
-    pub jobs_released : AreJobs p (put released j true) started finished made applied (set xs j (record v { released
-        = true }))
+    pub jobs_released : AreJobs p (put released j true) started finished made applied (set xs j (record v {
+      released
+          = true;
+    }))
     jobs_released =
         record {
           count = length-set xs j (record v { released = true }) ∙ are.count;
           each = set_each (IsJobState p released started finished made applied) (IsJobState p (put released j true)
               started finished made applied) xs idle (record v { released = true }) j within are.each
-              (record { is_released = sym (put_here released j true); is_started = x.is_started; is_finished =
-                  x.is_finished; first_commands = x.first_commands; first_signals = x.first_signals })
-              (λ k n s h. record { is_released = h.is_released
-                  ∙ sym (put_there released j true k n); is_started = h.is_started; is_finished = h.is_finished;
-                  first_commands = h.first_commands; first_signals = h.first_signals });
+              (record {
+                is_released = sym (put_here released j true);
+                is_started = x.is_started;
+                is_finished =
+                    x.is_finished;
+                first_commands = x.first_commands;
+                first_signals = x.first_signals;
+              })
+              (λ k n s h. record {
+                is_released = h.is_released
+                    ∙ sym (put_there released j true k n);
+                is_started = h.is_started;
+                is_finished = h.is_finished;
+                first_commands = h.first_commands;
+                first_signals = h.first_signals;
+              });
         }
 
-    pub jobs_started : AreJobs p released (put started j true) finished made applied (set xs j (record v { started =
-        true }))
+    pub jobs_started : AreJobs p released (put started j true) finished made applied (set xs j (record v {
+      started =
+          true;
+    }))
     jobs_started =
         record {
           count = length-set xs j (record v { started = true }) ∙ are.count;
           each = set_each (IsJobState p released started finished made applied) (IsJobState p released (put started j
               true) finished made applied) xs idle (record v { started = true }) j within are.each
-              (record { is_released = x.is_released; is_started = sym (put_here started j true); is_finished =
-                  x.is_finished; first_commands = x.first_commands; first_signals = x.first_signals })
-              (λ k n s h. record { is_released = h.is_released; is_started = h.is_started
-                  ∙ sym (put_there started j true k n); is_finished = h.is_finished; first_commands =
-                  h.first_commands; first_signals = h.first_signals });
+              (record {
+                is_released = x.is_released;
+                is_started = sym (put_here started j true);
+                is_finished =
+                    x.is_finished;
+                first_commands = x.first_commands;
+                first_signals = x.first_signals;
+              })
+              (λ k n s h. record {
+                is_released = h.is_released;
+                is_started = h.is_started
+                    ∙ sym (put_there started j true k n);
+                is_finished = h.is_finished;
+                first_commands =
+                    h.first_commands;
+                first_signals = h.first_signals;
+              });
         }
 
-    pub jobs_finished : AreJobs p released started (put finished j true) made applied (set xs j (record v { finished
-        = true }))
+    pub jobs_finished : AreJobs p released started (put finished j true) made applied (set xs j (record v {
+      finished
+          = true;
+    }))
     jobs_finished =
         record {
           count = length-set xs j (record v { finished = true }) ∙ are.count;
           each = set_each (IsJobState p released started finished made applied) (IsJobState p released started (put
               finished j true) made applied) xs idle (record v { finished = true }) j within are.each
-              (record { is_released = x.is_released; is_started = x.is_started; is_finished = sym (put_here finished
-                  j true); first_commands = x.first_commands; first_signals = x.first_signals })
-              (λ k n s h. record { is_released = h.is_released; is_started = h.is_started; is_finished =
-                  h.is_finished ∙ sym (put_there finished j true k n); first_commands = h.first_commands;
-                  first_signals = h.first_signals });
+              (record {
+                is_released = x.is_released;
+                is_started = x.is_started;
+                is_finished = sym (put_here finished
+                    j true);
+                first_commands = x.first_commands;
+                first_signals = x.first_signals;
+              })
+              (λ k n s h. record {
+                is_released = h.is_released;
+                is_started = h.is_started;
+                is_finished =
+                    h.is_finished ∙ sym (put_there finished j true k n);
+                first_commands = h.first_commands;
+                first_signals = h.first_signals;
+              });
         }
 
     -- a command more, the next one of its job
@@ -102,15 +180,26 @@ module _ (p : Plan) (released started finished made : ℕ →
           count = length-set xs j (record v { commands = v.commands + 1 }) ∙ are.count;
           each = set_each (IsJobState p released started finished made applied) (IsJobState p released started
               finished made (applied ++ c ∷ [])) xs idle (record v { commands = v.commands + 1 }) j within are.each
-              (record { is_released = x.is_released; is_started = x.is_started; is_finished = x.is_finished;
-                  first_commands = pushed_first (commands_of p j) (v.commands + 1) (put_next (has applied)
-                  (commands_of p j) v.commands c x.first_commands (rising_once (commands_of p j) (f.formed.commands
-                  j)) is); first_signals = x.first_signals })
-              (λ k n s h. record { is_released = h.is_released; is_started = h.is_started; is_finished =
-                  h.is_finished; first_commands = pushed_first (commands_of p k) s.commands (put_other (has applied)
-                  (commands_of p k) s.commands c h.first_commands (λ i e. n (f.formed.one_job c k j (stands
-                  (commands_of p k) i c e) (stands (commands_of p j) v.commands c is)))); first_signals =
-                  h.first_signals });
+              (record {
+                is_released = x.is_released;
+                is_started = x.is_started;
+                is_finished = x.is_finished;
+                first_commands = pushed_first (commands_of p j) (v.commands + 1) (put_next (has applied)
+                    (commands_of p j) v.commands c x.first_commands (rising_once (commands_of p j) (f.formed.commands
+                    j)) is);
+                first_signals = x.first_signals;
+              })
+              (λ k n s h. record {
+                is_released = h.is_released;
+                is_started = h.is_started;
+                is_finished =
+                    h.is_finished;
+                first_commands = pushed_first (commands_of p k) s.commands (put_other (has applied)
+                    (commands_of p k) s.commands c h.first_commands (λ i e. n (f.formed.one_job c k j (stands
+                    (commands_of p k) i c e) (stands (commands_of p j) v.commands c is))));
+                first_signals =
+                    h.first_signals;
+              });
         }
       where
         same : (d : ℕ) → has (applied ++ c ∷ []) d ≡ put (has applied) c true d
@@ -134,8 +223,12 @@ module _ (p : Plan) (released started finished made : ℕ →
 
         pushed_first : (cs : List ℕ) (n : ℕ) → AreFirst (put (has applied) c true) cs n →
             AreFirst (has (applied ++ c ∷ [])) cs n
-        pushed_first cs n g = record { within = g.within; before = λ i y e b. same y
-            ∙ g.before i y e b; after = λ i y e b. same y ∙ g.after i y e b }
+        pushed_first cs n g = record {
+          within = g.within;
+          before = λ i y e b. same y
+              ∙ g.before i y e b;
+          after = λ i y e b. same y ∙ g.after i y e b;
+        }
 
     -- a signal more
     pub jobs_signaled : Facts p → (e : ℕ) → slice_get (signals_of p j) v.signals ≡ Some e →
@@ -145,13 +238,24 @@ module _ (p : Plan) (released started finished made : ℕ →
           count = length-set xs j (record v { signals = v.signals + 1 }) ∙ are.count;
           each = set_each (IsJobState p released started finished made applied) (IsJobState p released started
               finished (put made e true) applied) xs idle (record v { signals = v.signals + 1 }) j within are.each
-              (record { is_released = x.is_released; is_started = x.is_started; is_finished = x.is_finished;
-                  first_commands = x.first_commands; first_signals = put_next made (signals_of p j) v.signals e
-                  x.first_signals (rising_once (signals_of p j) (f.formed.signals j)) is })
-              (λ k n s h. record { is_released = h.is_released; is_started = h.is_started; is_finished =
-                  h.is_finished; first_commands = h.first_commands; first_signals = put_other made (signals_of p k)
-                  s.signals e h.first_signals (λ i g. n (one_job e k j (f.formed.of_job e k (stands (signals_of p k)
-                  i e g)) (f.formed.of_job e j (stands (signals_of p j) v.signals e is)))) });
+              (record {
+                is_released = x.is_released;
+                is_started = x.is_started;
+                is_finished = x.is_finished;
+                first_commands = x.first_commands;
+                first_signals = put_next made (signals_of p j) v.signals e
+                    x.first_signals (rising_once (signals_of p j) (f.formed.signals j)) is;
+              })
+              (λ k n s h. record {
+                is_released = h.is_released;
+                is_started = h.is_started;
+                is_finished =
+                    h.is_finished;
+                first_commands = h.first_commands;
+                first_signals = put_other made (signals_of p k)
+                    s.signals e h.first_signals (λ i g. n (one_job e k j (f.formed.of_job e k (stands (signals_of p k)
+                    i e g)) (f.formed.of_job e j (stands (signals_of p j) v.signals e is))));
+              });
         }
       where
         one_job : (e k j : ℕ) → job_of p e ≡ Some k → job_of p e ≡ Some j → k ≡ j
@@ -183,17 +287,27 @@ module _ (size : ℕ) (carried : ℕ → Option ℕ) (waiting : ℕ →
   inside : q < length xs
   inside = let n = are.count in omega arith
 
-  pub slot_taken : (e : ℕ) → ArePoints size (put carried q (Some e)) waiting held (set xs q (record v { carried =
-      Some e }))
+  pub slot_taken : (e : ℕ) → ArePoints size (put carried q (Some e)) waiting held (set xs q (record v {
+    carried =
+        Some e;
+  }))
   slot_taken e =
       record {
         count = length-set xs q (record v { carried = Some e }) ∙ are.count;
         each = set_each (IsSlot carried waiting held) (IsSlot (put carried q (Some e)) waiting held) xs no_slot
             (record v { carried = Some e }) q inside are.each
-            (record { is_carried = sym (put_here carried q (Some e)); is_waiting = x.is_waiting; references =
-                x.references })
-            (λ k n s h. record { is_carried = h.is_carried
-                ∙ sym (put_there carried q (Some e) k n); is_waiting = h.is_waiting; references = h.references });
+            (record {
+              is_carried = sym (put_here carried q (Some e));
+              is_waiting = x.is_waiting;
+              references =
+                  x.references;
+            })
+            (λ k n s h. record {
+              is_carried = h.is_carried
+                  ∙ sym (put_there carried q (Some e) k n);
+              is_waiting = h.is_waiting;
+              references = h.references;
+            });
       }
 
   pub slot_completed : ArePoints size carried (put waiting q true) held (set xs q (record v { waits = true }))
@@ -202,24 +316,42 @@ module _ (size : ℕ) (carried : ℕ → Option ℕ) (waiting : ℕ →
         count = length-set xs q (record v { waits = true }) ∙ are.count;
         each = set_each (IsSlot carried waiting held) (IsSlot carried (put waiting q true) held) xs no_slot (record v
             { waits = true }) q inside are.each
-            (record { is_carried = x.is_carried; is_waiting = sym (put_here waiting q true); references =
-                x.references })
-            (λ k n s h. record { is_carried = h.is_carried; is_waiting = h.is_waiting
-                ∙ sym (put_there waiting q true k n); references = h.references });
+            (record {
+              is_carried = x.is_carried;
+              is_waiting = sym (put_here waiting q true);
+              references =
+                  x.references;
+            })
+            (λ k n s h. record {
+              is_carried = h.is_carried;
+              is_waiting = h.is_waiting
+                  ∙ sym (put_there waiting q true k n);
+              references = h.references;
+            });
       }
 
-  pub slot_freed : ArePoints size (put carried q None) (put waiting q false) held (set xs q (record v { carried =
-      None; waits = false }))
+  pub slot_freed : ArePoints size (put carried q None) (put waiting q false) held (set xs q (record v {
+    carried =
+        None;
+    waits = false;
+  }))
   slot_freed =
       record {
         count = length-set xs q (record v { carried = None; waits = false }) ∙ are.count;
         each = set_each (IsSlot carried waiting held) (IsSlot (put carried q None) (put waiting q false) held) xs
             no_slot (record v { carried = None; waits = false }) q inside are.each
-            (record { is_carried = sym (put_here carried q None); is_waiting = sym (put_here waiting q false);
-                references = x.references })
-            (λ k n s h. record { is_carried = h.is_carried
-                ∙ sym (put_there carried q None k n); is_waiting = h.is_waiting
-                ∙ sym (put_there waiting q false k n); references = h.references });
+            (record {
+              is_carried = sym (put_here carried q None);
+              is_waiting = sym (put_here waiting q false);
+              references = x.references;
+            })
+            (λ k n s h. record {
+              is_carried = h.is_carried
+                  ∙ sym (put_there carried q None k n);
+              is_waiting = h.is_waiting
+                  ∙ sym (put_there waiting q false k n);
+              references = h.references;
+            });
       }
 
   -- the references to this point are these, and those to all others stay
@@ -229,11 +361,17 @@ module _ (size : ℕ) (carried : ℕ → Option ℕ) (waiting : ℕ →
   slot_referred new n is same =
       record {
         count = length-set xs q (record v { references = n }) ∙ are.count;
-        each = set_each (IsSlot carried waiting held) (IsSlot carried waiting new) xs no_slot (record v { references
-            = n }) q inside are.each
+        each = set_each (IsSlot carried waiting held) (IsSlot carried waiting new) xs no_slot (record v {
+          references
+              = n;
+        }) q inside are.each
             (record { is_carried = x.is_carried; is_waiting = x.is_waiting; references = is })
-            (λ k d s h. record { is_carried = h.is_carried; is_waiting = h.is_waiting; references = h.references
-                ∙ sym (same k d) });
+            (λ k d s h. record {
+              is_carried = h.is_carried;
+              is_waiting = h.is_waiting;
+              references = h.references
+                  ∙ sym (same k d);
+            });
       }
 
 -- Counting references
@@ -258,14 +396,17 @@ count_less first test (r ∷ rs) h f = by_test (first r) refl (count_less first 
         count_by test (cond (first r) rs (r ∷ without_first first rs)) + 1 ≡ count_by test (r ∷ rs)
     by_test true e g =
         ap (λ (us : List Reference). count_by test us + 1) (cond-true (first r) rs (r ∷ without_first first rs) e) ∙
-            sym (count_more test r rs (f r e))
+        sym (count_more test r rs (f r e))
     by_test false e g =
-        let rest = g (elim (or_cases (first r) (list_any first rs) h) [ inl t ↦ absurd (false≢true (sym e
-            ∙ t)) | inr t ↦ t ]) f in
+        let rest = g (elim (or_cases (first r) (list_any first rs) h) [
+          | inl t ↦ absurd (false≢true (sym e
+              ∙ t))
+          | inr t ↦ t
+        ]) f in
         let a = count_cons test r (without_first first rs) in
         let b = count_cons test r rs in
         ap (λ (us : List Reference). count_by test us + 1) (cond-false (first r) rs (r ∷ without_first first rs) e) ∙
-            (omega arith)
+        (omega arith)
 
 pub count_same : (first test : Reference → Bool) (rs : List Reference) → ((r : Reference) → first r ≡ true →
     test r ≡ false) → count_by test (without_first first rs) ≡ count_by test rs
@@ -287,7 +428,7 @@ pub left_next : (p : Plan) (finished : ℕ → Bool) (j : ℕ) → j < length p.
     jobs_left p finished ≡ jobs_left p (put finished j true) + 1
 left_next p finished j l open_ =
     count_raised (λ i. not (put finished j true i)) (λ i. not (finished i)) j (ap not (put_here finished j true)) (ap
-        not open_) (λ i n. ap not (sym (put_there finished j true i n))) 0 (length p.jobs) (omega arith) (omega arith)
+    not open_) (λ i n. ap not (sym (put_there finished j true i n))) 0 (length p.jobs) (omega arith) (omega arith)
 
 -- Bytes
 
@@ -309,7 +450,7 @@ bytes_push p cs c x is = push cs (zeros p)
             (cons_option (command_at p d) (command_list p ds)) m)
         by_command None e f =
             ap (λ o. after_all (cons_option o (command_list p (ds ++ c ∷ []))) m) e ∙ (f m
-                ∙ sym (ap (λ o. effect x (after_all (cons_option o (command_list p ds)) m)) e))
+            ∙ sym (ap (λ o. effect x (after_all (cons_option o (command_list p ds)) m)) e))
         by_command (Some y) e f =
             ap (λ o. after_all (cons_option o (command_list p (ds ++ c ∷ []))) m) e ∙ (f (effect y m)
-                ∙ sym (ap (λ o. effect x (after_all (cons_option o (command_list p ds)) m)) e))
+            ∙ sym (ap (λ o. effect x (after_all (cons_option o (command_list p ds)) m)) e))

@@ -1,6 +1,25 @@
 -- What changes of one timeline leave of the timelines.
-use Rattle.std.proofs.Common.{◌≡◌, ℕ, ◌<◌, ◌&&◌, ◌==◌, Bool, false, Option, List, length, get_or, set, sym, ap, ◌∙◌,
-    inl, inr, subst, arith}
+use Rattle.std.proofs.Common.{
+  ◌≡◌,
+  ℕ,
+  ◌<◌,
+  ◌&&◌,
+  ◌==◌,
+  Bool,
+  false,
+  Option,
+  List,
+  length,
+  get_or,
+  set,
+  sym,
+  ap,
+  ◌∙◌,
+  inl,
+  inr,
+  subst,
+  arith,
+}
 use Rattle.std.proofs.lemmas.Bool.{cases_eq}
 use Rattle.std.proofs.lemmas.List.{length-set, get_or-set_same, get_or-set_other}
 use Rattle.vq_model.specs.Plan.{Plan, chain, chain_of}
@@ -21,16 +40,16 @@ timelines_next p w v ls t l are within new kept others =
       each = λ s b. elim (cases_eq s t) [
         | inl e ↦
             subst (λ (i : ℕ). IsTimelineOf p v i (get_or (set ls t l) i no_timeline)) (sym e) (subst (IsTimelineOf p
-                v t) (sym (get_or-set_same ls t l no_timeline within)) new)
+            v t) (sym (get_or-set_same ls t l no_timeline within)) new)
         | inr d ↦
             let n = length-set ls t l in
             subst (IsTimelineOf p v s) (sym (get_or-set_other ls t s l no_timeline d)) (others s d (get_or ls s
-                no_timeline) (are.kept s (omega arith)) (are.each s (omega arith)))
+            no_timeline) (are.kept s (omega arith)) (are.each s (omega arith)))
       ];
       kept = λ s b. elim (cases_eq s t) [
         | inl e ↦
             subst (λ (i : ℕ). KeepsLists (get_or (set ls t l) i no_timeline)) (sym e) (subst KeepsLists (sym
-                (get_or-set_same ls t l no_timeline within)) kept)
+            (get_or-set_same ls t l no_timeline within)) kept)
         | inr d ↦
             let n = length-set ls t l in
             subst KeepsLists (sym (get_or-set_other ls t s l no_timeline d)) (are.kept s (omega arith))

@@ -1,6 +1,32 @@
 -- A test that becomes true at one more place counts one more.
-use Rattle.std.proofs.Common.{◌≡◌, ℕ, zero, suc, ◌+◌, ◌<◌, ◌≤◌, ◌||◌, Bool, true, false, cond, List, [], ◌∷◌, Option,
-    Some, None, is_some, refl, sym, ap, ◌∙◌, inl, inr, arith}
+use Rattle.std.proofs.Common.{
+  ◌≡◌,
+  ℕ,
+  zero,
+  suc,
+  ◌+◌,
+  ◌<◌,
+  ◌≤◌,
+  ◌||◌,
+  Bool,
+  true,
+  false,
+  cond,
+  List,
+  [],
+  ◌∷◌,
+  Option,
+  Some,
+  None,
+  is_some,
+  refl,
+  sym,
+  ap,
+  ◌∙◌,
+  inl,
+  inr,
+  arith,
+}
 use Rattle.std.specs.List.{count_by, range_with_len, list_any}
 use Rattle.std.proofs.lemmas.List.FromFn.{length-range_with_len}
 use Rattle.std.proofs.lemmas.List.Sums.{sum_by-cons, count_by-le-length}
@@ -17,7 +43,7 @@ module _ (f : ℕ → Bool) (g : ℕ → Bool) (k : ℕ) (old : f k ≡ false) (
   behind a zero l = refl
   behind a (suc n) l =
       let rest : count_by g (range_with_len (a + 1) n) ≡ count_by f (range_with_len (a + 1) n) = behind (a + 1) n
-          (omega arith) in
+      (omega arith) in
       let here : one (g a) ≡ one (f a) = ap one (kept a (λ e. omega arith)) in
       let x = sum_by-cons (λ i. one (g i)) a (range_with_len (a + 1) n) in
       let y = sum_by-cons (λ i. one (f i)) a (range_with_len (a + 1) n) in
@@ -32,13 +58,13 @@ module _ (f : ℕ → Bool) (g : ℕ → Bool) (k : ℕ) (old : f k ≡ false) (
       elim (cases_eq a k) [
         | inl e ↦
             let rest : count_by g (range_with_len (a + 1) n) ≡ count_by f (range_with_len (a + 1) n) = behind (a + 1)
-                n (omega arith) in
+            n (omega arith) in
             let up : one (g a) ≡ 1 = ap one (ap g e ∙ new) in
             let down : one (f a) ≡ 0 = ap one (ap f e ∙ old) in
             omega arith
         | inr n' ↦
             let rest : count_by g (range_with_len (a + 1) n) ≡ count_by f (range_with_len (a + 1) n) + 1 =
-                count_raised (a + 1) n (omega arith) (omega arith) in
+            count_raised (a + 1) n (omega arith) (omega arith) in
             let here : one (g a) ≡ one (f a) = ap one (kept a n') in
             omega arith
       ]

@@ -1,11 +1,49 @@
 -- Lists of which a first part is done.
-use Rattle.std.proofs.Common.{◌≡◌, ℕ, zero, suc, ◌+◌, ◌<◌, ◌≤◌, Bool, true, false, not, ◌&&◌, List, [], ◌∷◌, length,
-    Option, Some, None, refl, sym, ap, ◌∙◌, ◌⊎◌, inl, inr, subst, arith, find}
+use Rattle.std.proofs.Common.{
+  ◌≡◌,
+  ℕ,
+  zero,
+  suc,
+  ◌+◌,
+  ◌<◌,
+  ◌≤◌,
+  Bool,
+  true,
+  false,
+  not,
+  ◌&&◌,
+  List,
+  [],
+  ◌∷◌,
+  length,
+  Option,
+  Some,
+  None,
+  refl,
+  sym,
+  ap,
+  ◌∙◌,
+  ◌⊎◌,
+  inl,
+  inr,
+  subst,
+  arith,
+  find,
+}
 use Rattle.vq_model.proofs.Filters.{filter-has, filter-has_cases}
 use Rattle.std.specs.Prelude.{nat_lt, filter}
 use Rattle.std.specs.List.{slice_get, list_all}
-use Rattle.std.proofs.lemmas.Bool.{cond-true, cond-false, false≢true, cases_eq, cases_lt, and_from, and_parts,
-    lt-ltb, ltb-true}
+use Rattle.std.proofs.lemmas.Bool.{
+  cond-true,
+  cond-false,
+  false≢true,
+  cases_eq,
+  cases_lt,
+  and_from,
+  and_parts,
+  lt-ltb,
+  ltb-true,
+}
 use Rattle.vq_model.specs.Machine.{next, put}
 use Rattle.vq_model.specs.WellFormed.{AreRising}
 use Rattle.vq_model.specs.Plan.{has}
@@ -40,7 +78,7 @@ next_is done (x ∷ xs) zero f =
     cond-true (not (done x)) (Some x) (next done xs) (ap not (f.after 0 x refl (omega arith)))
 next_is done (x ∷ xs) (suc n) f =
     cond-false (not (done x)) (Some x) (next done xs) (ap not (f.before 0 x refl (omega arith)))
-        ∙ next_is done xs n (rest_first done x xs n f)
+    ∙ next_is done xs n (rest_first done x xs n f)
 
 -- the next one is done too
 pub put_next : (done : ℕ → Bool) (xs : List ℕ) (n x : ℕ) → AreFirst done xs n → StandOnce xs →
@@ -76,7 +114,7 @@ all_done done [] n f e = refl
 all_done done (x ∷ xs) zero f e = absurd (omega arith)
 all_done done (x ∷ xs) (suc n) f e =
     and_from (done x) (list_all done xs) (f.before 0 x refl (omega arith)) (all_done done xs n (rest_first done x xs
-        n f) (omega arith))
+    n f) (omega arith))
 
 pub done_all : (done : ℕ → Bool) (xs : List ℕ) (n : ℕ) → AreFirst done xs n → list_all done xs ≡ true → n ≡ length xs
 done_all done [] n f h = let w = f.within in omega arith
@@ -139,12 +177,15 @@ module _ (done : ℕ → Bool) (xs : List ℕ) (n : ℕ) (f : AreFirst done xs n
               let less = rising_less xs r n m.0 x.0 j x.1 m.1 l in
               let there = filter-has (λ i. nat_lt i j) xs x.0 (stands xs n x.0 x.1) (lt-ltb x.0 j less) in
               false≢true (sym (f.after n x.0 x.1 (omega arith))
-                  ∙ list_all_has done (filter (λ i. nat_lt i j) xs) x.0 all there)
+              ∙ list_all_has done (filter (λ i. nat_lt i j) xs) x.0 all there)
 
   pub turn_first : (j : ℕ) → slice_get xs n ≡ Some j →
       (done j ≡ false) × (list_all done (filter (λ i. nat_lt i j) xs) ≡ true)
-  turn_first j here = (f.after n j here (omega arith), list_all_from done (filter (λ i. nat_lt i j) xs) (λ x m. one x
-      (filter-has_cases (λ i. nat_lt i j) xs x m)))
+  turn_first j here = (
+    f.after n j here (omega arith),
+    list_all_from done (filter (λ i. nat_lt i j) xs) (λ x m. one x
+        (filter-has_cases (λ i. nat_lt i j) xs x m)),
+  )
     where
       one : (x : ℕ) → (has xs x ≡ true) × (nat_lt x j ≡ true) → done x ≡ true
       one x h =

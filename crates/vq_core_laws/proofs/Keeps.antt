@@ -1,14 +1,57 @@
 -- What the world of a history keeps.
-use Rattle.std.proofs.Common.{◌≡◌, ℕ, ◌<◌, ◌≤◌, ◌+◌, Bool, true, false, ◌&&◌, List, [], ◌∷◌, length, Option, Some,
-    None, is_some, refl, sym, ap, ◌∙◌, inl, inr, subst, arith, ◌==◌, ◌++◌, fold, cond}
+use Rattle.std.proofs.Common.{
+  ◌≡◌,
+  ℕ,
+  ◌<◌,
+  ◌≤◌,
+  ◌+◌,
+  Bool,
+  true,
+  false,
+  ◌&&◌,
+  List,
+  [],
+  ◌∷◌,
+  length,
+  Option,
+  Some,
+  None,
+  is_some,
+  refl,
+  sym,
+  ap,
+  ◌∙◌,
+  inl,
+  inr,
+  subst,
+  arith,
+  ◌==◌,
+  ◌++◌,
+  fold,
+  cond,
+}
 use Rattle.std.specs.List.{slice_get, range_with_len, list_any, list_all, count_by}
 use Rattle.std.specs.Option.{option_map_or, option_to_list}
 use Rattle.std.proofs.lemmas.Bool.{false≢true, cases_eq, cases_lt, and_parts, or_cases, or_left, or_right, eqb-true}
 use Rattle.vq_model.specs.declared.script.ActorName.{ActorName}
 use Rattle.vq_model.specs.declared.plan.PlanJob.{PlanJob}
 use Rattle.vq_model.specs.declared.plan.Event.{Event}
-use Rattle.vq_model.specs.declared.plan.Event.TheVariants.{Submit, Take, Release, Bind, Refer, Look, Unref, Complete,
-    Free, Start, Apply, Signal, Finish, Answer}
+use Rattle.vq_model.specs.declared.plan.Event.TheVariants.{
+  Submit,
+  Take,
+  Release,
+  Bind,
+  Refer,
+  Look,
+  Unref,
+  Complete,
+  Free,
+  Start,
+  Apply,
+  Signal,
+  Finish,
+  Answer,
+}
 use Rattle.vq_model.specs.Canonical.{same_actor}
 use Rattle.vq_model.specs.Lanes.{lane_at}
 use Rattle.vq_model.specs.Machine.{put, with_signal, next}
@@ -19,9 +62,26 @@ use Rattle.vq_model.proofs.Lists.{has_here}
 use Rattle.vq_model.proofs.Options.{some_of}
 use Rattle.vq_points.specs.HistoryLaws.{last_take}
 use Rattle.vq_model.proofs.Puts.{put_here, put_there, put_cases, put_keeps}
-use Rattle.vq_points.specs.Points.{count_of, with_note, PointState, Reference, CanCome, CanFinishNow, CanStartNow,
-    CanRefer, after_event, holds, is_reference, next_job, needs_resolved, opening_points, HistoryFrom, jobs_of_lane,
-    actor_of_lane, without_first}
+use Rattle.vq_points.specs.Points.{
+  count_of,
+  with_note,
+  PointState,
+  Reference,
+  CanCome,
+  CanFinishNow,
+  CanStartNow,
+  CanRefer,
+  after_event,
+  holds,
+  is_reference,
+  next_job,
+  needs_resolved,
+  opening_points,
+  HistoryFrom,
+  jobs_of_lane,
+  actor_of_lane,
+  without_first,
+}
 use Rattle.vq_points.proofs.Cited.{Links, one_event, at_opening, still_held}
 use Rattle.vq_history_laws.specs.Histories.{points_after}
 use Rattle.vq_core_laws.proofs.Counts.{put_some_counts, one, count_cons}
@@ -89,7 +149,7 @@ module _ (p : Plan) (f : Facts p) (w : PointState) (k : Keeps p w) where
           by_previous : (l : ℕ) → previous p j ≡ Some l → w.machine.progress.finished l ≡ true
           by_previous l is =
               (and_parts (w.machine.progress.finished l) (list_all w.machine.progress.finished []) (subst (λ (o :
-                  Option ℕ). list_all w.machine.progress.finished (option_to_list o) ≡ true) is g.lane)).0
+              Option ℕ). list_all w.machine.progress.finished (option_to_list o) ≡ true) is g.lane)).0
 
   take_points : (e q n : ℕ) → w.point_of e ≡ None → e < length p.ops → (t : ℕ) × (chain_of p e ≡ Some t) → q < n →
       w.points ≤ n → n ≤ w.points + 1 → KeepsCarried p n (put w.point_of e (Some q)) (put w.carried q (Some e))
@@ -100,24 +160,24 @@ module _ (p : Plan) (f : Facts p) (w : PointState) (k : Keeps p w) where
         made = λ x r is. elim (cases_eq x e) [
           | inl s ↦
               let same : q ≡ r = let a = sym (put_here w.point_of e (Some q))
-                  ∙ (ap (put w.point_of e (Some q)) (sym s) ∙ is) in cc in
+              ∙ (ap (put w.point_of e (Some q)) (sym s) ∙ is) in cc in
               omega arith
           | inr d ↦ let old = k.points.made x r (sym (put_there w.point_of e (Some q) x d) ∙ is) in omega arith
         ];
         carries = λ r x is. elim (cases_eq r q) [
           | inl s ↦
               let same : e ≡ x = let a = sym (put_here w.carried q (Some e))
-                  ∙ (ap (put w.carried q (Some e)) (sym s) ∙ is) in cc in
+              ∙ (ap (put w.carried q (Some e)) (sym s) ∙ is) in cc in
               ap (put w.point_of e (Some q)) (sym same) ∙ put_here w.point_of e (Some q) ∙ ap Some (sym s)
           | inr d ↦
               let old = k.points.carries r x (sym (put_there w.carried q (Some e) r d) ∙ is) in
               put_there w.point_of e (Some q) x (λ s. let z = sym without ∙ (ap w.point_of (sym s)
-                  ∙ old) in absurd (cc)) ∙ old
+              ∙ old) in absurd (cc)) ∙ old
         ];
         chain = λ r x is. elim (cases_eq r q) [
           | inl s ↦
               let same : e ≡ x = let a = sym (put_here w.carried q (Some e))
-                  ∙ (ap (put w.carried q (Some e)) (sym s) ∙ is) in cc in
+              ∙ (ap (put w.carried q (Some e)) (sym s) ∙ is) in cc in
               subst (λ (z : ℕ). (t : ℕ) × (chain_of p z ≡ Some t)) same of
           | inr d ↦ k.points.chain r x (sym (put_there w.carried q (Some e) r d) ∙ is)
         ];
@@ -144,22 +204,25 @@ module _ (p : Plan) (f : Facts p) (w : PointState) (k : Keeps p w) where
       (j : ℕ) × (next_job p w b ≡ Some j) × (0 < needs_resolved p j x)
   refer_references a q e g b r x h = elim (or_cases (is_reference b r x (record { actor = a; point = q; op = e }))
       (list_any (is_reference b r x) w.held) h) [
-    | inl t ↦
-        let both = and_parts (same_actor b a && (r == q)) (x == e) t in
-        let actor = same_actor_is b a (and_parts (same_actor b a) (r == q) both.0).0 in
-        let op = eqb-true x e both.1 in
-        let more : 0 < needs_resolved p g.job e = (let m = g.wanted in omega arith) in
-        (g.job, ap (next_job p w) actor ∙ g.is_next, subst (λ (z : ℕ). 0 < needs_resolved p g.job z) (sym op) more)
-    | inr t ↦ k.references b r x t
-  ]
+        | inl t ↦
+            let both = and_parts (same_actor b a && (r == q)) (x == e) t in
+            let actor = same_actor_is b a (and_parts (same_actor b a) (r == q) both.0).0 in
+            let op = eqb-true x e both.1 in
+            let more : 0 < needs_resolved p g.job e = (let m = g.wanted in omega arith) in
+            (g.job, ap (next_job p w) actor ∙ g.is_next, subst (λ (z : ℕ). 0 < needs_resolved p g.job z) (sym op) more)
+        | inr t ↦ k.references b r x t
+      ]
 
   finish_references : (j : ℕ) → CanFinishNow p w j → KeepsReferences p (after_event p w (Finish j))
   finish_references j g a q e h =
       let r = k.references a q e h in
       let n = next_of p w a r.0 r.1 in
-      let other : r.0 ≡ j → ⊥ = λ s. own s n in
-      (r.0, ap (λ o. option_map_or (λ lane. next (put w.machine.progress.finished j true) (jobs_of_lane p lane)) o
-          None) n.of_actor ∙ next_put w.machine.progress.finished (jobs_of_lane p n.lane) r.0 j n.is_next other, r.2)
+      let other : r.0 ≡ j → ⊥ = λ s. own s n in (
+        r.0,
+        ap (λ o. option_map_or (λ lane. next (put w.machine.progress.finished j true) (jobs_of_lane p lane)) o
+            None) n.of_actor ∙ next_put w.machine.progress.finished (jobs_of_lane p n.lane) r.0 j n.is_next other,
+        r.2,
+      )
     where
       any_actor : (rs : List Reference) → list_any (is_reference a q e) rs ≡ true →
           list_any (λ r. same_actor a r.actor) rs ≡ true
@@ -175,9 +238,9 @@ module _ (p : Plan) (f : Facts p) (w : PointState) (k : Keeps p w) where
           let at = ap (slice_get p.jobs) (sym s) ∙ n.of_lane.at in
           let actor = ap actor_of_lane n.of_lane.lane_is ∙ n.actor_is in
           let same : (λ (r : Reference). of_job (λ x. same_actor (actor_of_lane x.lane) r.actor) false p j) ≡ (λ (r :
-              Reference). same_actor a r.actor) =
+          Reference). same_actor a r.actor) =
           λ i r. (ap (λ o. option_map_or (λ (x : PlanJob). same_actor (actor_of_lane x.lane) r.actor) o false) at
-              ∙ ap (λ b. same_actor b r.actor) actor) i in
+          ∙ ap (λ b. same_actor b r.actor) actor) i in
           false≢true (sym g.unreferring ∙ (ap (λ t. list_any t w.held) same ∙ any_actor w.held h))
 
   -- a point that isn't made yet was never taken
@@ -198,14 +261,22 @@ module _ (p : Plan) (f : Facts p) (w : PointState) (k : Keeps p w) where
     where
       with_links : (x : Event) → CanCome p w x → Links p (x ∷ k.before) (after_event p w x) →
           Keeps p (after_event p w x)
-      with_links (Submit j) g l = record { turns = k.turns; points = k.points; references = k.references; before =
-          Submit j ∷ k.before; links = l }
+      with_links (Submit j) g l = record {
+        turns = k.turns;
+        points = k.points;
+        references = k.references;
+        before =
+            Submit j ∷ k.before;
+        links = l;
+      }
       with_links (Take e q true) g l =
           let n = g.point.1 in
           record {
             turns = k.turns;
-            points = take_points e q (w.points + 1) g.without (op_within p e g.chain g.in_chain) (g.chain,
-                g.in_chain) (omega arith) (omega arith) (omega arith);
+            points = take_points e q (w.points + 1) g.without (op_within p e g.chain g.in_chain) (
+              g.chain,
+              g.in_chain,
+            ) (omega arith) (omega arith) (omega arith);
             references = k.references;
             before = Take e q true ∷ k.before;
             links = l;
@@ -220,14 +291,38 @@ module _ (p : Plan) (f : Facts p) (w : PointState) (k : Keeps p w) where
             before = Take e q false ∷ k.before;
             links = l;
           }
-      with_links (Release j) g l = record { turns = k.turns; points = k.points; references = k.references; before =
-          Release j ∷ k.before; links = l }
-      with_links (Bind e q) g l = record { turns = k.turns; points = k.points; references = k.references; before =
-          Bind e q ∷ k.before; links = l }
-      with_links (Refer a q e) g l = record { turns = k.turns; points = k.points; references = refer_references a q e
-          g; before = Refer a q e ∷ k.before; links = l }
-      with_links (Look a q e) g l = record { turns = k.turns; points = k.points; references = k.references; before =
-          Look a q e ∷ k.before; links = l }
+      with_links (Release j) g l = record {
+        turns = k.turns;
+        points = k.points;
+        references = k.references;
+        before =
+            Release j ∷ k.before;
+        links = l;
+      }
+      with_links (Bind e q) g l = record {
+        turns = k.turns;
+        points = k.points;
+        references = k.references;
+        before =
+            Bind e q ∷ k.before;
+        links = l;
+      }
+      with_links (Refer a q e) g l = record {
+        turns = k.turns;
+        points = k.points;
+        references = refer_references a q e
+            g;
+        before = Refer a q e ∷ k.before;
+        links = l;
+      }
+      with_links (Look a q e) g l = record {
+        turns = k.turns;
+        points = k.points;
+        references = k.references;
+        before =
+            Look a q e ∷ k.before;
+        links = l;
+      }
       with_links (Unref a q e) g l =
           record {
             turns = k.turns;
@@ -236,23 +331,62 @@ module _ (p : Plan) (f : Facts p) (w : PointState) (k : Keeps p w) where
             before = Unref a q e ∷ k.before;
             links = l;
           }
-      with_links (Complete e) g l = record { turns = k.turns; points = k.points; references = k.references; before =
-          Complete e ∷ k.before; links = l }
-      with_links (Free q) g l = record { turns = k.turns; points = free_points q; references = k.references; before =
-          Free q ∷ k.before; links = l }
-      with_links (Start j) g l = record { turns = start_turns j g; points = k.points; references = k.references;
-          before = Start j ∷ k.before; links = l }
-      with_links (Apply j c) g l = record { turns = k.turns; points = k.points; references = k.references; before =
-          Apply j c ∷ k.before; links = l }
+      with_links (Complete e) g l = record {
+        turns = k.turns;
+        points = k.points;
+        references = k.references;
+        before =
+            Complete e ∷ k.before;
+        links = l;
+      }
+      with_links (Free q) g l = record {
+        turns = k.turns;
+        points = free_points q;
+        references = k.references;
+        before =
+            Free q ∷ k.before;
+        links = l;
+      }
+      with_links (Start j) g l = record {
+        turns = start_turns j g;
+        points = k.points;
+        references = k.references;
+        before = Start j ∷ k.before;
+        links = l;
+      }
+      with_links (Apply j c) g l = record {
+        turns = k.turns;
+        points = k.points;
+        references = k.references;
+        before =
+            Apply j c ∷ k.before;
+        links = l;
+      }
       with_links (Signal e) g l = by_chain (chain_of p e) l
         where
-          by_chain : (o : Option ℕ) → Links p (Signal e ∷ k.before) (record w { machine = record w.machine { progress
-              = with_signal p w.machine.progress e o } }) →
+          by_chain : (o : Option ℕ) → Links p (Signal e ∷ k.before) (record w {
+            machine = record w.machine {
+              progress
+                  = with_signal p w.machine.progress e o;
+            };
+          }) →
               Keeps p (record w { machine = record w.machine { progress = with_signal p w.machine.progress e o } })
-          by_chain None l = record { turns = k.turns; points = k.points; references = k.references; before = Signal e
-              ∷ k.before; links = l }
-          by_chain (Some t) l = record { turns = k.turns; points = k.points; references = k.references; before =
-              Signal e ∷ k.before; links = l }
+          by_chain None l = record {
+            turns = k.turns;
+            points = k.points;
+            references = k.references;
+            before = Signal e
+                ∷ k.before;
+            links = l;
+          }
+          by_chain (Some t) l = record {
+            turns = k.turns;
+            points = k.points;
+            references = k.references;
+            before =
+                Signal e ∷ k.before;
+            links = l;
+          }
       with_links (Finish j) g l =
           record {
             turns = record {
@@ -268,14 +402,24 @@ module _ (p : Plan) (f : Facts p) (w : PointState) (k : Keeps p w) where
             before = Finish j ∷ k.before;
             links = l;
           }
-      with_links (Answer j a) g l = record { turns = k.turns; points = k.points; references = k.references; before =
-          Answer j a ∷ k.before; links = l }
+      with_links (Answer j a) g l = record {
+        turns = k.turns;
+        points = k.points;
+        references = k.references;
+        before =
+            Answer j a ∷ k.before;
+        links = l;
+      }
 
 pub keeps_opening : (p : Plan) → Keeps p (opening_points p)
 keeps_opening p =
     record {
-      turns = record { in_turn = λ i j s. absurd (false≢true s); exists = λ j s. absurd (false≢true s); was_started =
-          λ j s. absurd (false≢true s) };
+      turns = record {
+        in_turn = λ i j s. absurd (false≢true s);
+        exists = λ j s. absurd (false≢true s);
+        was_started =
+            λ j s. absurd (false≢true s);
+      };
       points = record {
         made = λ e q s. let z = s in absurd (cc);
         carries = λ q e s. let z = s in absurd (cc);
@@ -372,7 +516,8 @@ noted_few p xs j e = let h = from xs (opening_points p) in omega arith
         small false = omega arith
 
     signal_same : (w : PointState) (f : ℕ) (o : Option ℕ) →
-        count_of ((record w { machine = record w.machine { progress = with_signal p w.machine.progress f o }
+        count_of ((record w {
+          machine = record w.machine { progress = with_signal p w.machine.progress f o };
         }).referred j) e ≤ count_of (w.referred j) e + 1
     signal_same w f None = omega arith
     signal_same w f (Some t) = omega arith

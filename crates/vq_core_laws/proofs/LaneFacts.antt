@@ -1,12 +1,37 @@
 -- Lanes, their actors, and the next job of each.
-use Rattle.std.proofs.Common.{◌≡◌, ℕ, ◌<◌, Bool, true, false, not, List, [], ◌∷◌, length, Option, Some, None, refl,
-    sym, ap, ◌∙◌, inl, inr, arith}
+use Rattle.std.proofs.Common.{
+  ◌≡◌,
+  ℕ,
+  ◌<◌,
+  Bool,
+  true,
+  false,
+  not,
+  List,
+  [],
+  ◌∷◌,
+  length,
+  Option,
+  Some,
+  None,
+  refl,
+  sym,
+  ap,
+  ◌∙◌,
+  inl,
+  inr,
+  arith,
+}
 use Rattle.std.specs.List.{slice_get, range_with_len}
 use Rattle.std.specs.Option.{option_map_or}
 use Rattle.std.proofs.lemmas.Bool.{cond-true, cond-false, false≢true, eq-eqb, eqb-true, cases_eq}
 use Rattle.vq_model.specs.declared.script.ActorName.{ActorName}
-use Rattle.vq_model.specs.declared.script.ActorName.TheVariants.{Host as HostActor, Submit as SubmitActor, Ring as
-    RingActor}
+use Rattle.vq_model.specs.declared.script.ActorName.TheVariants.{
+  Host as HostActor,
+  Submit as SubmitActor,
+  Ring as
+      RingActor,
+}
 use Rattle.vq_model.specs.declared.plan.Lane.{Lane}
 use Rattle.vq_model.specs.declared.plan.Lane.TheVariants.{Host as HostLane, Queue as QueueLane}
 use Rattle.vq_model.specs.declared.plan.PlanJob.{PlanJob}
@@ -66,7 +91,7 @@ pub record InLane (p : Plan) (lane : Lane) (j : ℕ) : Type 0 where
 pub in_lane : (p : Plan) (lane : Lane) (j : ℕ) → has (jobs_of_lane p lane) j ≡ true → InLane p lane j
 in_lane p lane j m =
     let c = filter-has_cases (λ j. of_job (λ x. same_lane lane x.lane) false p j) (range_with_len 0 (length p.jobs))
-        j m in
+    j m in
     let r = has-range_cases (length p.jobs) 0 j c.0 in
     let l = r.1 in
     by_job (slice_get p.jobs j) refl c.1 (omega arith)
@@ -80,7 +105,7 @@ pub lane_has : (p : Plan) (j : ℕ) (x : PlanJob) → j < length p.jobs → slic
     has (jobs_of_lane p x.lane) j ≡ true
 lane_has p j x l e =
     filter-has (λ j. of_job (λ y. same_lane x.lane y.lane) false p j) (range_with_len 0 (length p.jobs)) j (range-has
-        (length p.jobs) 0 j (omega arith) (omega arith))
+    (length p.jobs) 0 j (omega arith) (omega arith))
     (ap (λ o. option_map_or (λ y. same_lane x.lane y.lane) o false) e ∙ same_lane_self x.lane)
 
 pub lane_at_is : (p : Plan) (lane : Lane) (j : ℕ) → InLane p lane j → lane_at p j ≡ lane_number lane
@@ -96,11 +121,23 @@ pub record IsNextOf (p : Plan) (w : PointState) (a : ActorName) (j : ℕ) : Type
 
 pub next_of : (p : Plan) (w : PointState) (a : ActorName) (j : ℕ) → next_job p w a ≡ Some j → IsNextOf p w a j
 next_of p w HostActor j h =
-    record { lane = HostLane; of_actor = refl; actor_is = refl; is_next = h; of_lane = in_lane p HostLane j
-        (find_member (λ x. not (w.machine.progress.finished x)) (jobs_of_lane p HostLane) j h) }
+    record {
+      lane = HostLane;
+      of_actor = refl;
+      actor_is = refl;
+      is_next = h;
+      of_lane = in_lane p HostLane j
+          (find_member (λ x. not (w.machine.progress.finished x)) (jobs_of_lane p HostLane) j h);
+    }
 next_of p w (RingActor q) j h =
-    record { lane = QueueLane q; of_actor = refl; actor_is = refl; is_next = h; of_lane = in_lane p (QueueLane q) j
-        (find_member (λ x. not (w.machine.progress.finished x)) (jobs_of_lane p (QueueLane q)) j h) }
+    record {
+      lane = QueueLane q;
+      of_actor = refl;
+      actor_is = refl;
+      is_next = h;
+      of_lane = in_lane p (QueueLane q) j
+          (find_member (λ x. not (w.machine.progress.finished x)) (jobs_of_lane p (QueueLane q)) j h);
+    }
 next_of p w (SubmitActor q) j h = absurd (let z : None ≡ Some j = h in cc)
 
 -- the next one stays where another one is done

@@ -1,6 +1,34 @@
 -- What the proofs of this crate need of a lawful plan.
-use Rattle.std.proofs.Common.{◌≡◌, ℕ, zero, suc, ◌+◌, ◌<◌, Bool, true, false, List, [], ◌∷◌, map, Option, Some, None,
-    option_map, refl, sym, ap, ◌∙◌, ◌⊎◌, inl, inr, subst, arith, ◌==◌, not}
+use Rattle.std.proofs.Common.{
+  ◌≡◌,
+  ℕ,
+  zero,
+  suc,
+  ◌+◌,
+  ◌<◌,
+  Bool,
+  true,
+  false,
+  List,
+  [],
+  ◌∷◌,
+  map,
+  Option,
+  Some,
+  None,
+  option_map,
+  refl,
+  sym,
+  ap,
+  ◌∙◌,
+  ◌⊎◌,
+  inl,
+  inr,
+  subst,
+  arith,
+  ◌==◌,
+  not,
+}
 use Rattle.std.specs.List.{slice_get, position_or_len}
 use Rattle.std.specs.Option.{option_map_or}
 use Rattle.std.proofs.lemmas.Bool.{cond-true, cond-false, false≢true, eqb-true, or_cases}
@@ -23,8 +51,16 @@ use Rattle.vq_model.proofs.Lists.{has_cases}
 use Rattle.vq_model.proofs.Options.{some_of}
 use Rattle.vq_points.specs.Timeline.{AreRisingFrom}
 use Rattle.vq_reading_laws.proofs.Cited.{read_hostless}
-use Rattle.vq_plan_laws.proofs.Cited.{plan_well_formed, plan_lanes, plan_semaphores, plan_hosts, part_is, chain_is,
-    op_is, op_chain_is}
+use Rattle.vq_plan_laws.proofs.Cited.{
+  plan_well_formed,
+  plan_lanes,
+  plan_semaphores,
+  plan_hosts,
+  part_is,
+  chain_is,
+  op_is,
+  op_chain_is,
+}
 use Rattle.vq_order_laws.proofs.Cited.{plan_has_sure_order}
 use Rattle.vq_core_laws.specs.Firsts.{StandOnce}
 use Rattle.vq_core_laws.proofs.Firsts.{stands}
@@ -74,7 +110,7 @@ at_place (y ∷ xs) x h = by_test (y == x) refl (at_place xs x)
     by_test false e f =
         let rest = f (elim (or_cases (y == x) (has xs x) h) [ inl t ↦ absurd (false≢true (sym e ∙ t)) | inr t ↦ t ]) in
         ap (slice_get (y ∷ xs)) (cond-true (not (y == x)) (1 + position_or_len (λ k. k == x) xs) 0 (ap not e)
-            ∙ one_more (position_or_len (λ k. k == x) xs)) ∙ rest
+        ∙ one_more (position_or_len (λ k. k == x) xs)) ∙ rest
       where
         one_more : (n : ℕ) → 1 + n ≡ suc n
         one_more n = omega arith
@@ -90,7 +126,7 @@ module _ (s : Script) (wf : IsWellFormed (plan_of s)) (sem : KeepsSemaphores (pl
       let member = subst (λ (xs : List ℕ). has xs e ≡ true) is (wf.in_chain e t of) in
       subst (λ (x : Op). slice_get (chain (plan_of s) x.chain) x.index ≡ Some e) f.2
       (ap (λ (xs : List ℕ). slice_get xs (position_or_len (λ k. k == e) (chain_ops s t))) is
-          ∙ at_place (chain_ops s t) e member)
+      ∙ at_place (chain_ops s t) e member)
 
 pub facts : (p : Plan) → IsPlan p → IsLawful p → Facts p
 facts p i l =

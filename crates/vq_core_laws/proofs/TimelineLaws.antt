@@ -1,13 +1,70 @@
 -- The lists of timelines follow the world, event by event.
-use Rattle.std.proofs.Common.{◌≡◌, ℕ, suc, ◌+◌, ◌-◌, ◌<◌, Bool, true, false, not, ◌&&◌, ◌||◌, List, [], ◌∷◌, ◌++◌,
-    length, map, filter, take, drop, set, get_or, Option, Some, None, refl, sym, ap, ◌∙◌, inl, inr, subst, arith, ◌==◌}
+use Rattle.std.proofs.Common.{
+  ◌≡◌,
+  ℕ,
+  suc,
+  ◌+◌,
+  ◌-◌,
+  ◌<◌,
+  Bool,
+  true,
+  false,
+  not,
+  ◌&&◌,
+  ◌||◌,
+  List,
+  [],
+  ◌∷◌,
+  ◌++◌,
+  length,
+  map,
+  filter,
+  take,
+  drop,
+  set,
+  get_or,
+  Option,
+  Some,
+  None,
+  refl,
+  sym,
+  ap,
+  ◌∙◌,
+  inl,
+  inr,
+  subst,
+  arith,
+  ◌==◌,
+}
 use Rattle.std.specs.Prelude.{slice_range, nat_lt}
 use Rattle.std.specs.List.{slice_get, list_all}
 use Rattle.std.specs.Option.{option_map_or}
-use Rattle.std.proofs.lemmas.Bool.{cond-true, cond-false, false≢true, eq-eqb, eqb-true, ne_eqb, cases_eq, cases_lt,
-    and_from, or_parts, or_from, or_right, ltb-true, lt-ltb}
-use Rattle.std.proofs.lemmas.List.{get_or-replicate, get_or-set_same, get_or-set_other, get_or-take, get_or-drop,
-    get_or_past, length-map, length-take}
+use Rattle.std.proofs.lemmas.Bool.{
+  cond-true,
+  cond-false,
+  false≢true,
+  eq-eqb,
+  eqb-true,
+  ne_eqb,
+  cases_eq,
+  cases_lt,
+  and_from,
+  or_parts,
+  or_from,
+  or_right,
+  ltb-true,
+  lt-ltb,
+}
+use Rattle.std.proofs.lemmas.List.{
+  get_or-replicate,
+  get_or-set_same,
+  get_or-set_other,
+  get_or-take,
+  get_or-drop,
+  get_or_past,
+  length-map,
+  length-take,
+}
 use Rattle.vq_model.specs.Machine.{put}
 use Rattle.vq_model.specs.Plan.{Plan, chain, chain_of, value, initial, has}
 use Rattle.vq_model.proofs.Filters.{filter-has, filter-has_cases}
@@ -15,9 +72,28 @@ use Rattle.vq_model.proofs.Gets.{get_some, get_within}
 use Rattle.vq_model.proofs.Lists.{has_here, has_cases, has-append, list_all_has, list_all_from}
 use Rattle.vq_model.proofs.Puts.{put_here, put_there}
 use Rattle.vq_points.specs.Points.{PointState, CanTake, after_event, at_option, opening_points, smaller_ops}
-use Rattle.vq_points.specs.Timeline.{Timeline, KeepsLists, point_at, new_timeline, take_from, after_take, after_bind,
-    after_complete, complete_from, after_free, all_points, points_of, entries_from, taken, pending, IsAbsent,
-    MayTake, MayBind, MayFree, Entry}
+use Rattle.vq_points.specs.Timeline.{
+  Timeline,
+  KeepsLists,
+  point_at,
+  new_timeline,
+  take_from,
+  after_take,
+  after_bind,
+  after_complete,
+  complete_from,
+  after_free,
+  all_points,
+  points_of,
+  entries_from,
+  taken,
+  pending,
+  IsAbsent,
+  MayTake,
+  MayBind,
+  MayFree,
+  Entry,
+}
 use Rattle.vq_model.specs.declared.plan.Event.TheVariants.{Take, Bind, Complete, Free}
 use Rattle.vq_points.proofs.Cited.{least_pending, IsLeast, Latest}
 use Rattle.vq_core_laws.specs.Firsts.{AreFirst, StandOnce}
@@ -105,7 +181,7 @@ module _ (p : Plan) (f : Facts p) (w : PointState) (k : Keeps p w) where
             let w2 = kept.one_each in
             let w3 = count in
             ap (λ (n : ℕ). get_or (set l.points i (Some q)) n None) s
-                ∙ get_or-set_same l.points i (Some q) None (omega arith)
+            ∙ get_or-set_same l.points i (Some q) None (omega arith)
             ∙ sym (ap (put w.point_of e (Some q)) (sym same) ∙ put_here w.point_of e (Some q))
         | inr d ↦
             get_or-set_other l.points i j (Some q) None d ∙ (is.points j x h
@@ -118,7 +194,7 @@ module _ (p : Plan) (f : Facts p) (w : PointState) (k : Keeps p w) where
           let same : g.chain ≡ t = let c = sym g.in_chain ∙ of in cc in
           let none : l.free ≡ [] = is.free ∙ (ap w.free (sym same) ∙ g.point.0) in
           subst (λ (fs : List ℕ). IsTimelineOf p (after_event p w (Take e q true)) t (take_from l i w.points fs))
-              (sym none)
+          (sym none)
           (record {
             initial_value = is.initial_value;
             values = is.values;
@@ -141,13 +217,13 @@ module _ (p : Plan) (f : Facts p) (w : PointState) (k : Keeps p w) where
           let is_free : has (w.free t) q ≡ true = ap (λ zs. has zs q) first.1 ∙ has_here q rest in
           let gone : has rest q ≡ false = (subst (Latest k.before) first.1 (k.links.free_order t)).1 in
           let left : filter (λ r. not (r == q)) (w.free t) ≡ rest = ap (filter (λ r. not (r == q))) first.1
-              ∙ without_head q rest gone in
+          ∙ without_head q rest gone in
           let freed : rest ≡ at_option {A = ℕ → List ℕ} (λ t f. put f t (filter (λ r. not (r == q)) (f t))) (chain_of
-              p e) w.free t =
+          p e) w.free t =
           sym (ap (λ o. at_option {A = ℕ → List ℕ} (λ t f. put f t (filter (λ r. not (r == q)) (f t))) o w.free t) of
-              ∙ (put_here w.free t (filter (λ r. not (r == q)) (w.free t)) ∙ left)) in
+          ∙ (put_here w.free t (filter (λ r. not (r == q)) (w.free t)) ∙ left)) in
           subst (λ (fs : List ℕ). IsTimelineOf p (after_event p w (Take e q false)) t (take_from l i w.points fs))
-              (sym whole)
+          (sym whole)
           (record {
             initial_value = is.initial_value;
             values = is.values;
@@ -161,14 +237,14 @@ module _ (p : Plan) (f : Facts p) (w : PointState) (k : Keeps p w) where
           without_head : (q : ℕ) (rest : List ℕ) → has rest q ≡ false → filter (λ r. not (r == q)) (q ∷ rest) ≡ rest
           without_head q rest h =
               cond-false (not (q == q)) (q ∷ filter (λ r. not (r == q)) rest) (filter (λ r. not (r == q)) rest) (ap
-                  not (eq-eqb q q refl)) ∙ all_stay rest h
+              not (eq-eqb q q refl)) ∙ all_stay rest h
             where
               all_stay : (xs : List ℕ) → has xs q ≡ false → filter (λ r. not (r == q)) xs ≡ xs
               all_stay [] h = refl
               all_stay (x ∷ xs) h =
                   let parts = or_parts (x == q) (has xs q) h in
                   cond-true (not (x == q)) (x ∷ filter (λ r. not (r == q)) xs) (filter (λ r. not (r == q)) xs) (ap
-                      not parts.0) ∙ ap (λ zs. x ∷ zs) (all_stay xs parts.1)
+                  not parts.0) ∙ ap (λ zs. x ∷ zs) (all_stay xs parts.1)
 
     pub other_take : (s e q : ℕ) (fresh : Bool) → CanTake p w e q fresh → chain_of p e ≡ Some s → (t ≡ s → ⊥) →
         IsTimelineOf p (after_event p w (Take e q fresh)) t l
@@ -209,7 +285,7 @@ module _ (p : Plan) (f : Facts p) (w : PointState) (k : Keeps p w) where
     entries_below n (Some r ∷ xs) b =
         let l = b 0 r refl in
         or_from (r == w.points) (has (points_of (entries_from (n + 1) xs)) w.points) (ne_eqb r w.points (λ e. omega
-            arith)) (entries_below (n + 1) xs (λ j q h. b (suc j) q h))
+        arith)) (entries_below (n + 1) xs (λ j q h. b (suc j) q h))
 
     points_below : (j q : ℕ) → get_or l.points j None ≡ Some q → q < w.points
     points_below j q h = elim (cases_lt j (length (chain p t))) [
@@ -231,7 +307,7 @@ module _ (p : Plan) (f : Facts p) (w : PointState) (k : Keeps p w) where
         (has-append (l.free ++ points_of (taken l)) (points_of (pending l)) w.points
         ∙ or_from (has (l.free ++ points_of (taken l)) w.points) (has (points_of (pending l)) w.points)
         (has-append l.free (points_of (taken l)) w.points
-            ∙ or_from (has l.free w.points) (has (points_of (taken l)) w.points) free_not taken_not)
+        ∙ or_from (has l.free w.points) (has (points_of (taken l)) w.points) free_not taken_not)
         pending_not) waiting_not
       where
         free_not : has l.free w.points ≡ false
@@ -256,7 +332,7 @@ module _ (p : Plan) (f : Facts p) (w : PointState) (k : Keeps p w) where
               | inr m ↦
                   let z = length-take (l.bound - l.completed) (drop l.completed l.points) in
                   let none = get_or_past (take (l.bound - l.completed) (drop l.completed l.points)) j None (omega
-                      arith) in
+                  arith) in
                   let c = sym none ∙ h in
                   absurd (cc)
             ]
@@ -292,9 +368,9 @@ module _ (p : Plan) (f : Facts p) (w : PointState) (k : Keeps p w) where
               let x = get_some (chain p t) n (omega arith) in
               let less = chain_places p (initial p t) (chain p t) (f.order.chains t) n i x.0 e x.1 here m in
               let member = filter-has (λ g. nat_lt (value p g) (value p e)) (chain p t) x.0 (stands (chain p t) n x.0
-                  x.1) (lt-ltb (value p x.0) (value p e) less) in
+              x.1) (lt-ltb (value p x.0) (value p e) less) in
               false≢true (sym (first.after n x.0 x.1 (omega arith))
-                  ∙ list_all_has done (smaller_ops p t e) x.0 all member)
+              ∙ list_all_has done (smaller_ops p t e) x.0 all member)
 
       pub smaller_done : (done : ℕ → Bool) → AreFirst done (chain p t) i → list_all done (smaller_ops p t e) ≡ true
       smaller_done done first = list_all_from done (smaller_ops p t e) (λ x m. one x (filter-has_cases (λ g. nat_lt
@@ -313,7 +389,7 @@ module _ (p : Plan) (f : Facts p) (w : PointState) (k : Keeps p w) where
                       absurd (omega arith)
                   | inr d ↦
                       let more = chain_places p (initial p t) (chain p t) (f.order.chains t) i at.0 e x here at.1
-                          (grind arith) in
+                      (grind arith) in
                       absurd (omega arith)
                 ]
               ]
@@ -364,8 +440,11 @@ module _ (p : Plan) (f : Facts p) (w : PointState) (k : Keeps p w) where
           least : (x : Entry) × IsLeast l x
           least = least_pending l kept some
 
-          is_after : after_complete l ≡ record l { completed = l.completed + 1; waiting = l.waiting ++ least.0.point
-              ∷ [] }
+          is_after : after_complete l ≡ record l {
+            completed = l.completed + 1;
+            waiting = l.waiting ++ least.0.point
+                ∷ [];
+          }
           is_after = ap (complete_from l) least.1.first
 
           of_e : w.point_of e ≡ Some least.0.point
@@ -379,22 +458,22 @@ module _ (p : Plan) (f : Facts p) (w : PointState) (k : Keeps p w) where
               t) (chain_of p e) false) (w.carried x) false)
           more x =
               subst (λ (o : Option ℕ). (has l.waiting x || has (least.0.point ∷ []) x) ≡ (at_option {A = ℕ →
-                  Bool} (λ q f. put f q true) o w.waiting x && option_map_or (λ e. option_map_or (λ s. s == t)
-                  (chain_of p e) false) (w.carried x) false)) (sym of_e)
+              Bool} (λ q f. put f q true) o w.waiting x && option_map_or (λ e. option_map_or (λ s. s == t)
+              (chain_of p e) false) (w.carried x) false)) (sym of_e)
               (elim (cases_eq x least.0.point) [
                 | inl h ↦
                     or_right (has l.waiting x) (has (least.0.point ∷ []) x) (ap (has (least.0.point ∷ [])) h
-                        ∙ has_here least.0.point [])
+                    ∙ has_here least.0.point [])
                     ∙ sym (and_from (put w.waiting least.0.point true x) (option_map_or (λ e. option_map_or (λ s. s
-                        == t) (chain_of p e) false) (w.carried x) false)
+                    == t) (chain_of p e) false) (w.carried x) false)
                     (ap (put w.waiting least.0.point true) h ∙ put_here w.waiting least.0.point true)
                     (carries_it p t e (w.carried x) (ap w.carried h ∙ carries) (chain_at t i e here)))
                 | inr d ↦
                     ap (λ b. has l.waiting x || b) (or_from (least.0.point == x) false (ne_eqb least.0.point x (λ h.
-                        d (sym h))) refl)
+                    d (sym h))) refl)
                     ∙ (or_none (has l.waiting x)
                     ∙ (is.waiting x ∙ ap (λ b. b && option_map_or (λ e. option_map_or (λ s. s == t) (chain_of p e)
-                        false) (w.carried x) false) (sym (put_there w.waiting least.0.point true x d))))
+                    false) (w.carried x) false) (sym (put_there w.waiting least.0.point true x d))))
               ])
             where
               or_none : (b : Bool) → (b || false) ≡ b
@@ -435,7 +514,7 @@ module _ (p : Plan) (f : Facts p) (w : PointState) (k : Keeps p w) where
               let c = ap w.carried j ∙ k.links.pending e q h unpast in
               let none = carries_not p t s e (w.carried x) c of n in
               ap (λ b. w.waiting x && b) none ∙ (and_none (w.waiting x)
-                  ∙ sym (ap (λ b. put w.waiting q true x && b) none ∙ and_none (put w.waiting q true x)))
+              ∙ sym (ap (λ b. put w.waiting q true x && b) none ∙ and_none (put w.waiting q true x)))
           | inr d ↦ ap (λ b. b && option_map_or (λ e. option_map_or (λ s. s == t) (chain_of p e) false) (w.carried x)
               false) (sym (put_there w.waiting q true x d))
         ]
@@ -451,15 +530,15 @@ module _ (p : Plan) (f : Facts p) (w : PointState) (k : Keeps p w) where
         w.carried q None x) false) ≡ waits_on p w t x
     freed_carries e q c x d =
         ap (λ b. b && option_map_or (λ e. option_map_or (λ s. s == t) (chain_of p e) false) (put w.carried q None x)
-            false) (put_there w.waiting q false x d)
+        false) (put_there w.waiting q false x d)
         ∙ ap (λ o. w.waiting x && option_map_or (λ e. option_map_or (λ s. s == t) (chain_of p e) false) o false)
-            (put_there w.carried q None x d)
+        (put_there w.carried q None x d)
 
     freed_gone : (q x : ℕ) → x ≡ q → (put w.waiting q false x && option_map_or (λ e. option_map_or (λ s. s == t)
         (chain_of p e) false) (put w.carried q None x) false) ≡ false
     freed_gone q x h =
         ap (λ b. b && option_map_or (λ e. option_map_or (λ s. s == t) (chain_of p e) false) (put w.carried q None x)
-            false) (ap (put w.waiting q false) h ∙ put_here w.waiting q false)
+        false) (ap (put w.waiting q false) h ∙ put_here w.waiting q false)
 
     pub own_free : (e q : ℕ) → w.waiting q ≡ true → w.carried q ≡ Some e → chain_of p e ≡ Some t →
         (MayFree l q) × IsTimelineOf p (after_event p w (Free q)) t (after_free l q)
@@ -479,7 +558,7 @@ module _ (p : Plan) (f : Facts p) (w : PointState) (k : Keeps p w) where
         free =
             ap (λ zs. q ∷ zs) is.free
             ∙ sym (ap (λ o. at_option {A = ℕ → List ℕ} (λ t f. put f t (q ∷ f t)) o w.free t) (ap (λ o. option_map_or
-                (chain_of p) o None) c ∙ of) ∙ put_here w.free t (q ∷ w.free t));
+            (chain_of p) o None) c ∙ of) ∙ put_here w.free t (q ∷ w.free t));
       },
     )
       where
@@ -493,7 +572,7 @@ module _ (p : Plan) (f : Facts p) (w : PointState) (k : Keeps p w) where
                 (filter (λ p. not (p == q)) zs) (ap not j)) ∙ r
             by_test false j r =
                 ap (λ us. has us x) (cond-true (not (z == q)) (z ∷ filter (λ p. not (p == q)) zs) (filter (λ p. not
-                    (p == q)) zs) (ap not j))
+                (p == q)) zs) (ap not j))
                 ∙ or_from (z == x) (has (filter (λ p. not (p == q)) zs) x) (ap (λ (n : ℕ). z == n) h ∙ j) r
 
         stays : (x : ℕ) → (x ≡ q → ⊥) → (zs : List ℕ) → has (filter (λ p. not (p == q)) zs) x ≡ has zs x
@@ -504,11 +583,11 @@ module _ (p : Plan) (f : Facts p) (w : PointState) (k : Keeps p w) where
                 has (filter (λ p. not (p == q)) (z ∷ zs)) x ≡ has (z ∷ zs) x
             by_test true j r =
                 ap (λ us. has us x) (cond-false (not (z == q)) (z ∷ filter (λ p. not (p == q)) zs) (filter (λ p. not
-                    (p == q)) zs) (ap not j))
+                (p == q)) zs) (ap not j))
                 ∙ (r ∙ ap (λ b. b || has zs x) (sym (ne_eqb z x (λ h. d (sym h ∙ eqb-true z q j)))))
             by_test false j r =
                 ap (λ us. has us x) (cond-true (not (z == q)) (z ∷ filter (λ p. not (p == q)) zs) (filter (λ p. not
-                    (p == q)) zs) (ap not j))
+                (p == q)) zs) (ap not j))
                 ∙ ap (λ b. (z == x) || b) r
 
     pub other_free : (s e q : ℕ) → w.waiting q ≡ true → w.carried q ≡ Some e → chain_of p e ≡ Some s → (t ≡ s →
@@ -523,13 +602,13 @@ module _ (p : Plan) (f : Facts p) (w : PointState) (k : Keeps p w) where
           waiting = λ x. elim (cases_eq x q) [
             | inl h ↦
                 is.waiting x ∙ (ap (λ b. w.waiting x && b) (carries_not p t s e (w.carried x) (ap w.carried h
-                    ∙ c) of n) ∙ and_none (w.waiting x)) ∙ sym (freed_gone q x h)
+                ∙ c) of n) ∙ and_none (w.waiting x)) ∙ sym (freed_gone q x h)
             | inr d ↦ is.waiting x ∙ sym (freed_carries e q c x d)
           ];
           free =
               is.free
               ∙ sym (ap (λ o. at_option {A = ℕ → List ℕ} (λ t f. put f t (q ∷ f t)) o w.free t) (ap (λ o.
-                  option_map_or (chain_of p) o None) c ∙ of) ∙ put_there w.free s (q ∷ w.free s) t n);
+              option_map_or (chain_of p) o None) c ∙ of) ∙ put_there w.free s (q ∷ w.free s) t n);
         }
       where
         and_none : (b : Bool) → (b && false) ≡ false

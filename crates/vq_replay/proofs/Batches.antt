@@ -1,6 +1,22 @@
 -- Where no job is a host step, all programs have tasks of batches alone.
-use Rattle.std.proofs.Common.{◌≡◌, ℕ, Bool, true, false, if◌then◌else◌, List, [], ◌∷◌, ◌++◌, map, filter, refl, sym,
-    subst, All}
+use Rattle.std.proofs.Common.{
+  ◌≡◌,
+  ℕ,
+  Bool,
+  true,
+  false,
+  if◌then◌else◌,
+  List,
+  [],
+  ◌∷◌,
+  ◌++◌,
+  map,
+  filter,
+  refl,
+  sym,
+  subst,
+  All,
+}
 use Rattle.std.proofs.Common.{nat_lt, ◌&&◌, ◌==◌, length}
 use Rattle.std.specs.List.{flat_map, range_with_len, enumerate_from}
 use Rattle.std.specs.Option.{option_map_or}
@@ -47,7 +63,7 @@ module _ (p : Plan) where
       All-append P (waits ++ takes p j ++ release) (map Bind (signals_of p j))
       (All-append P (waits ++ takes p j) release
       (All-append P waits (takes p j) (of_map AwaitBound (awaited_at p j AtEnd) (λ e. refl)) taken) (one (Release j)
-          refl))
+      refl))
       (of_map Bind (signals_of p j) (λ e. refl))
 
   of_submits : (j : ℕ) → All P (submits_batch p j)
@@ -70,11 +86,11 @@ module _ (p : Plan) where
       let waited = All-append P first early (one (AwaitReleased j) refl) (of_waits j (λ n. n.from == 1)) in
       let started = All-append P (first ++ early) start waited (one (Start j) refl) in
       let run = All-append P (first ++ early ++ start) body started (of_flat (runs_command p j) (enumerate_from 1
-          commands) (of_command j)) in
+      commands) (of_command j)) in
       let left = All-append P (first ++ early ++ start ++ body) late run (of_waits j (λ n. nat_lt 1 n.from && nat_lt
-          (length commands) n.from)) in
+      (length commands) n.from)) in
       let signaled = All-append P (first ++ early ++ start ++ body ++ late) signals left (of_map Signal (signals_of p
-          j) (λ e. refl)) in
+      j) (λ e. refl)) in
       All-append P (first ++ early ++ start ++ body ++ late ++ signals) (Finish j ∷ []) signaled (one (Finish j) refl)
 
   module _ (hostless : (j : ℕ) → is_host_step p j ≡ false) where
@@ -82,7 +98,7 @@ module _ (p : Plan) where
     of_host j = subst (λ (b : Bool). All P (if b then does_step p j else Submit j ∷ (if is_immediate_batch p j then
         moves_batch p j else []))) (sym (hostless j))
         (All-cons P (Submit j) (if is_immediate_batch p j then moves_batch p j else []) refl (by_mode
-            (is_immediate_batch p j)))
+        (is_immediate_batch p j)))
       where
         by_mode : (b : Bool) → All P (if b then moves_batch p j else [])
         by_mode true = of_moves j

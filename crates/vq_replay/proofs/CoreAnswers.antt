@@ -1,7 +1,22 @@
 -- What the calls over a core answer.
 use Rattle.std.proofs.Common.{◌≡◌, ℕ, zero, suc, ◌+◌, ◌<◌, Bool, true, false, List, [], ◌∷◌, ◌++◌, Option, Some, None}
-use Rattle.std.proofs.Common.{Result, Ok, Err, if◌then◌else◌, find, not, refl, sym, subst, ap, ◌∙◌, ◌^◌, arith,
-    length, append-nil}
+use Rattle.std.proofs.Common.{
+  Result,
+  Ok,
+  Err,
+  if◌then◌else◌,
+  find,
+  not,
+  refl,
+  sym,
+  subst,
+  ap,
+  ◌∙◌,
+  ◌^◌,
+  arith,
+  length,
+  append-nil,
+}
 use Rattle.std.proofs.lemmas.List.Sums.{fold-append}
 use Rattle.std.specs.Borrow.{GName}
 use Rattle.std.specs.List.{slice_get}
@@ -83,8 +98,11 @@ module _ (l : List GName) (c : Course) (a : ActorName) (x : Place) (r : Recent) 
         kept = same_moment d y Other (ap (λ (z : Course). z.plan) after);
         events = events_same d event after;
         place = at;
-        state = λ v is. (e ∙ ap expected (some_same (world c) v is), ap Some (world_of d event after
-            ∙ ap (λ z. after_event c.plan z event) (some_same (world c) v is)));
+        state = λ v is. (
+          e ∙ ap expected (some_same (world c) v is),
+          ap Some (world_of d event after
+              ∙ ap (λ z. after_event c.plan z event) (some_same (world c) v is)),
+        );
         named = named;
         shown = tt;
       }
@@ -123,18 +141,23 @@ place_forward k (Met q e) = refl
 module _ (l : List GName) (c : Course) (a : ActorName) (x : Seat) (r : Recent) where
   pub made_next : (d : Course) (expected : PointState → Result Event Want) (Names : Event →
       Type 0) (event : Event) → d ≡ with_event c event → Ok event ≡ expected (world c) → Names event →
-      AnswersTry (meaning_of l c a (place_at x) r) (meaning_of l d a (place_at (record { done = x.done + 1; awaiting
-      = x.awaiting })) Other) (forward (place_at x)) expected Names (shown_by d) (Ok event)
+      AnswersTry (meaning_of l c a (place_at x) r) (meaning_of l d a (place_at (record {
+        done = x.done + 1;
+        awaiting
+            = x.awaiting;
+      })) Other) (forward (place_at x)) expected Names (shown_by d) (Ok event)
   made_next d expected Names event after e named =
       made l c a (place_at x) r d (place_with (x.done + 1) x.awaiting) (forward (place_at x)) expected Names event
-          after (place_forward x.done x.awaiting) e named
+      after (place_forward x.done x.awaiting) e named
 
   pub event_next : (d : Course) (event : Event) → d ≡ with_event c event →
-      AnswersEvent (meaning_of l c a (place_at x) r) (meaning_of l d a (place_at (record { done = x.done + 1;
-      awaiting = x.awaiting })) Other) (forward (place_at x)) event event
+      AnswersEvent (meaning_of l c a (place_at x) r) (meaning_of l d a (place_at (record {
+        done = x.done + 1;
+        awaiting = x.awaiting;
+      })) Other) (forward (place_at x)) event event
   event_next d event after =
       event_made l c a (place_at x) r d (place_with (x.done + 1) x.awaiting) (forward (place_at x)) event after
-          (place_forward x.done x.awaiting)
+      (place_forward x.done x.awaiting)
 
 -- Positions
 
@@ -260,8 +283,11 @@ module _ (l : List GName) (c : Course) (a : ActorName) (x : Place) (r : Recent) 
         events = events_same l c a x r d event after;
         place = refl;
         recent = refl;
-        state = λ v same. (sym is ∙ ap (λ z. collected c.plan z t) (some_same (world c) v same), ap Some (world_of l
-            c a x r d event after ∙ ap (λ z. after_event c.plan z event) (some_same (world c) v same)));
+        state = λ v same. (
+          sym is ∙ ap (λ z. collected c.plan z t) (some_same (world c) v same),
+          ap Some (world_of l
+              c a x r d event after ∙ ap (λ z. after_event c.plan z event) (some_same (world c) v same)),
+        );
         named = λ other e. subst (IsCollection c.plan t) (some_event event other e) k;
       }
 

@@ -1,6 +1,23 @@
 -- An access whose place is true of its core: its next event may come, and the place behind it is true.
-use Rattle.std.proofs.Common.{◌≡◌, ℕ, ◌<◌, ◌^◌, ◌+◌, true, false, List, length, drop, Some, None, ap₂, refl, sym,
-    subst, ap}
+use Rattle.std.proofs.Common.{
+  ◌≡◌,
+  ℕ,
+  ◌<◌,
+  ◌^◌,
+  ◌+◌,
+  true,
+  false,
+  List,
+  length,
+  drop,
+  Some,
+  None,
+  ap₂,
+  refl,
+  sym,
+  subst,
+  ap,
+}
 use Rattle.std.proofs.Common.{◌∙◌, ◌∷◌, []}
 use Rattle.std.specs.List.{slice_get}
 use Rattle.std.proofs.Math.Logic.{∥∥₁_elim}
@@ -14,8 +31,17 @@ use Rattle.vq_model.specs.declared.plan.Need.{Need}
 use Rattle.vq_model.specs.Plan.{Plan}
 use Rattle.vq_points.specs.Points.{PointState, after_event, opening_points}
 use Rattle.vq_turns.specs.Programs.{program}
-use Rattle.vq_turns.specs.Turns.{Place, forward, taken, collected, found, unbound_before, point_of, held_for,
-    holding_also}
+use Rattle.vq_turns.specs.Turns.{
+  Place,
+  forward,
+  taken,
+  collected,
+  found,
+  unbound_before,
+  point_of,
+  held_for,
+  holding_also,
+}
 use Rattle.vq_turns.specs.Turns.{without_first}
 use Rattle.vq_turns.specs.declared.look.Found.TheVariants.{Past, Pending}
 use Rattle.vq_turns.specs.declared.look.Holding.{Holding}
@@ -28,8 +54,15 @@ use Rattle.vq_turn_laws.specs.TruePlaces.{IsTrueFor, IsTrueTurn}
 use Rattle.vq_turn_laws.specs.Places.{IsDone}
 use Rattle.vq_turn_laws.specs.Tasks.{is_waiting, is_asking}
 use Rattle.vq_turn_laws.proofs.Cited.{plan_orderly, Reached, reached, true_for_prop, is_plain, goes_on, collects}
-use Rattle.vq_turn_laws.proofs.Cited.{call_submit, call_release, call_take, call_bind, call_start, call_apply,
-    call_signal}
+use Rattle.vq_turn_laws.proofs.Cited.{
+  call_submit,
+  call_release,
+  call_take,
+  call_bind,
+  call_start,
+  call_apply,
+  call_signal,
+}
 use Rattle.vq_turn_laws.proofs.Cited.{call_finish, call_refer, call_look, call_unref, call_met, call_over}
 use Rattle.vq_replay.specs.Seats.{AreOfBatches, place_at, place_with}
 use Rattle.vq_replay.specs.declared.seat.Seat.{Seat}
@@ -145,7 +178,7 @@ module _ (c : Course) (i : IsCourse c) (a : ActorName) (x : Place) (t : ∥ IsTr
       ∥ IsTrueFor c.plan (world c) a (record (forward x) { holding = []; met = false }) ∥₁
   past_on ns n m k need at f none =
       ∣ call_over c.plan orderly (world c) at_world a (record x { met = true }) ns n (call_met c.plan orderly (world
-          c) at_world a x ns n here m k need at f) refl none ∣₁
+      c) at_world a x ns n here m k need at f) refl none ∣₁
 
 -- At positions
 
@@ -165,7 +198,7 @@ module _ (c : Course) (i : IsCourse c) (a : ActorName) (x : Seat) (t : ∥ IsTru
       ∥ IsTrueFor d.plan (world d) a (place_with (x.done + 1) x.awaiting) ∥₁
   stands_next d event e turn =
       stands_after c i a (place_at x) t d event (forward (place_at x)) (place_with (x.done + 1) x.awaiting) e (sym
-          (place_forward x.done x.awaiting)) turn
+      (place_forward x.done x.awaiting)) turn
 
   -- Waits
 
@@ -179,9 +212,13 @@ module _ (c : Course) (i : IsCourse c) (a : ActorName) (x : Seat) (t : ∥ IsTru
       let k = held_first x m.need (record { need = m.need; point = q; op = e }) m.held in
       let held = holds_unseen x m.need q e k m.waiting m.held in
       let after : looked_at (place_at x) ≡ place_with x.done (Met q e) = ap (λ (h : Awaiting). looked_at (place_with
-          x.done h)) held in
-      let turn = turns_look c i a (place_at x) t m.needs m.is_next m.waiting 0 n.0 (record { need = 0; point = q; op
-          = e }) n.1 (held_now x q e held) made in
+      x.done h)) held in
+      let turn = turns_look c i a (place_at x) t m.needs m.is_next m.waiting 0 n.0 (record {
+        need = 0;
+        point = q;
+        op
+            = e;
+      }) n.1 (held_now x q e held) made in
       (after, subst (λ (y : Place). IsTrueTurn c.plan (world c) a (Moved (Look a q e)) y) after turn)
 
   -- A reference to the point that was found.
@@ -195,9 +232,9 @@ module _ (c : Course) (i : IsCourse c) (a : ActorName) (x : Seat) (t : ∥ IsTru
       let held = holds_nothing x (need_found s) k m.waiting m.without in
       let after : holding_also (place_at x) (need_found s) e q ≡ place_with x.done (Held q e) =
       ap (λ (n : ℕ). holding_also (place_at x) n e q) k
-          ∙ ap (λ (h : Awaiting). holding_also (place_with x.done h) 0 e q) held in
+      ∙ ap (λ (h : Awaiting). holding_also (place_with x.done h) 0 e q) held in
       let turn = turns_refer c i a (place_at x) t m.needs m.is_next m.waiting (need_found s) m.need e q m.at
-          m.without (m.pending (world c) refl) in
+      m.without (m.pending (world c) refl) in
       (after, subst (λ (y : Place). IsTrueTurn c.plan (world c) a (Moved (Refer a q e)) y) after turn)
 
   -- The reference is given back, and the actor goes on.
@@ -210,9 +247,11 @@ module _ (c : Course) (i : IsCourse c) (a : ActorName) (x : Seat) (t : ∥ IsTru
       let seen = holds_seen x h m.rest m.met m.held in
       let back : without_first (place_at x) m.rest ≡ place_with (x.done + 1) Nothing =
       ap (without_first (place_at x)) seen.0 ∙ ap (λ (g : Awaiting). without_first (place_with x.done g) []) seen.1 in
-      let turn = turns_unref c i a (place_at x) t m.needs m.is_next m.met h m.rest m.held in
-      (ap (given_back (place_at x)) m.held ∙ back, subst (λ (y : Place). IsTrueTurn c.plan (world c) a (Moved (Unref
-          a q e)) y) back turn)
+      let turn = turns_unref c i a (place_at x) t m.needs m.is_next m.met h m.rest m.held in (
+        ap (given_back (place_at x)) m.held ∙ back,
+        subst (λ (y : Place). IsTrueTurn c.plan (world c) a (Moved (Unref
+            a q e)) y) back turn,
+      )
 
   -- A need that is past: nothing is held, and the actor goes on.
   pub goes_past : (s : Recent) (l : List GName) (k chain value : ℕ) → AreOfBatches (program c.plan a) →
@@ -227,7 +266,7 @@ module _ (c : Course) (i : IsCourse c) (a : ActorName) (x : Seat) (t : ∥ IsTru
       let on = past_on c i a (place_at x) t m.needs m.is_next m.waiting k m.need m.at here_past none in
       let behind : record (forward (place_at x)) { holding = []; met = false } ≡ place_with (x.done + 1) x.awaiting =
       ap (λ (h : Awaiting). record (forward (place_with x.done h)) { holding = []; met = false }) held
-          ∙ ap (place_with (x.done + 1)) (sym held) in
+      ∙ ap (place_with (x.done + 1)) (sym held) in
       let found_at : place_found (place_at x) Past ≡ place_with (x.done + 1) x.awaiting =
       ap (λ (h : Awaiting). place_found (place_with x.done h) Past) held ∙ ap (place_with (x.done + 1)) (sym held) in
       (found_at, subst (λ (y : Place). ∥ IsTrueFor c.plan (world c) a y ∥₁) behind on)

@@ -1,6 +1,23 @@
 -- A turn of one actor leaves the places of all true.
-use Rattle.std.proofs.Common.{◌≡◌, ℕ, zero, suc, ◌<◌, ◌==◌, false, if◌then◌else◌, List, [], ◌∷◌, length, set, refl,
-    sym, subst, ap}
+use Rattle.std.proofs.Common.{
+  ◌≡◌,
+  ℕ,
+  zero,
+  suc,
+  ◌<◌,
+  ◌==◌,
+  false,
+  if◌then◌else◌,
+  List,
+  [],
+  ◌∷◌,
+  length,
+  set,
+  refl,
+  sym,
+  subst,
+  ap,
+}
 use Rattle.std.proofs.Common.{◌∙◌, inl, inr, arith}
 use Rattle.std.specs.List.{slice_index_or}
 use Rattle.std.proofs.lemmas.Bool.{cases_eq, cond-true, cond-false, eq-eqb, ne_eqb}
@@ -22,8 +39,18 @@ use Rattle.vq_actor.specs.Actors.{Acting}
 use Rattle.vq_core.specs.CoreState.{Course, IsCourse, world}
 use Rattle.vq_replay.specs.CoreAccesses.{with_event}
 use Rattle.vq_replay.specs.Seats.{AreOfBatches}
-use Rattle.vq_replay.specs.Casts.{IsCast, TookTurn, IsPart, IsTroupe, PlayedOne, cast, places_of, at_queue, no_actor,
-    course_after}
+use Rattle.vq_replay.specs.Casts.{
+  IsCast,
+  TookTurn,
+  IsPart,
+  IsTroupe,
+  PlayedOne,
+  cast,
+  places_of,
+  at_queue,
+  no_actor,
+  course_after,
+}
 use Rattle.vq_replay.proofs.Serving as serving
 
 -- an outcome leaves the plan, and of the world what its event leaves
@@ -77,7 +104,7 @@ module _ (c d : Course) (i : IsCourse c) (places : ActorName →
       subst (λ (p : Plan). AreTrueFor p (world d) (with_place places a y)) same
       (subst (λ (w : PointState). AreTrueFor c.plan w (with_place places a y)) there
       (subst (λ (t : Turned). AreTrueFor c.plan (world_after c.plan (world c) t.outcome) (with_place places a
-          t.place)) (sym turned) truly))
+      t.place)) (sym turned) truly))
 
 same_places : (f g : ActorName → Place) → ((a : ActorName) → f a ≡ g a) → f ≡ g
 same_places f g h = λ i a. h a i
@@ -177,9 +204,9 @@ module _ (c : Course) (i : IsCourse c) (host : Acting) (submits rings : List Act
         × PlayedOne (cast c host submits rings) (cast d host (set submits q y) rings) (SubmitActor q) o
     submit_played q within apart y k =
         let turned : record { outcome = o; place = y.place } ≡ turn_of c.plan (world c) (SubmitActor q) (at_queue
-            submits q).place =
+        submits q).place =
         k.turned ∙ ap (λ (a : ActorName). turn_of c.plan (world c) a (at_queue submits q).place) (t.submit_parts q
-            within).is in
+        within).is in
         let own = at_own submits q y within in (
           record {
             host_part = other_part c d o HostActor host k.course t.host_part;
@@ -216,9 +243,9 @@ module _ (c : Course) (i : IsCourse c) (host : Acting) (submits rings : List Act
         × PlayedOne (cast c host submits rings) (cast d host submits (set rings q y)) (RingActor q) o
     ring_played q within y k =
         let turned : record { outcome = o; place = y.place } ≡ turn_of c.plan (world c) (RingActor q) (at_queue rings
-            q).place =
+        q).place =
         k.turned ∙ ap (λ (a : ActorName). turn_of c.plan (world c) a (at_queue rings q).place) (t.ring_parts q
-            within).is in
+        within).is in
         let own = at_own rings q y within in (
           record {
             host_part = other_part c d o HostActor host k.course t.host_part;

@@ -47,8 +47,11 @@ held_one r f = record { need = 0; point = r; op = f }
 pub holds_unseen : (x : Seat) (k q e : ℕ) → k ≡ 0 → (place_at x).met ≡ false →
     held_for k (place_at x).holding ≡ Some (record { need = k; point = q; op = e }) → x.awaiting ≡ Held q e
 holds_unseen x k q e first met is =
-    by_held x.awaiting met (subst (λ (n : ℕ). held_for n (place_at x).holding ≡ Some (record { need = n; point = q;
-        op = e })) first is)
+    by_held x.awaiting met (subst (λ (n : ℕ). held_for n (place_at x).holding ≡ Some (record {
+      need = n;
+      point = q;
+      op = e;
+    })) first is)
   where
     same : (r f : ℕ) → Some (held_one r f) ≡ Some (held_one q e) → Held r f ≡ Held q e
     same r f z =

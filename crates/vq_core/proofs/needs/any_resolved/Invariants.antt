@@ -7,4 +7,4 @@ use Rattle.vq_core.proofs.needs.any_resolved.Given as goal
 abbrev pub invariant-loop-need : goal.invariant-loop-need
 invariant-loop-need l =
     list_any (λ n. (if l.started then nat_lt 1 n.from else nat_le n.from 1) && resolves l.plan l.op n) (take
-        l.need-index l.needs) ≡ false
+    l.need-index l.needs) ≡ false

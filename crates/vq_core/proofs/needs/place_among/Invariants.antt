@@ -6,4 +6,4 @@ use Rattle.vq_core.proofs.needs.place_among.Given as goal
 abbrev pub invariant-loop-need : goal.invariant-loop-need
 invariant-loop-need l =
     (l.place ≡ l.need-index) × (position_or_len (resolves l.plan l.op) l.needs ≡ l.place + position_or_len (resolves
-        l.plan l.op) (drop l.need-index l.needs))
+    l.plan l.op) (drop l.need-index l.needs))

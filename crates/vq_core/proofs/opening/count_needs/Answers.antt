@@ -6,5 +6,5 @@ use Rattle.vq_core.proofs.opening.count_needs.Goals as goal
 pub loop-job-preserved : goal.loop-job-preserved
 loop-job-preserved c =
     (c.in-Some.ensures {u = tt}).1 ∙ ((λ i. c.loop-job.invariant i + c.len-needs.ensures i)
-        ∙ sym (needs_more (λ (x : PlanJob). length x.needs) c.args.plan.now.jobs c.loop-job.job c.job.result.now
-        c.job.ensures))
+    ∙ sym (needs_more (λ (x : PlanJob). length x.needs) c.args.plan.now.jobs c.loop-job.job c.job.result.now
+    c.job.ensures))

@@ -8,7 +8,10 @@ pub returns : goal.returns
 returns c =
     let p = c.args.plan.now in
     let n = c.loop-job.invariant.0 in
-    let size : length c.loop-job.rows.items ≡ length p.jobs = omega (arith, c.jobs-job-end.ensures,
-        c.loop-job.auto.job-end) in
+    let size : length c.loop-job.rows.items ≡ length p.jobs = omega (
+      arith,
+      c.jobs-job-end.ensures,
+      c.loop-job.auto.job-end,
+    ) in
     subst (AreNotes p unmarked [] nothing nothing) (sym c.of-2.ensures) (notes_open p c.loop-job.rows.items size (λ j
-        l. c.loop-job.invariant.1 j (omega arith)))
+    l. c.loop-job.invariant.1 j (omega arith)))

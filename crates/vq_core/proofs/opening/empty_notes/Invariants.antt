@@ -6,4 +6,4 @@ use Rattle.vq_core.proofs.opening.empty_notes.Given as goal
 abbrev pub invariant-loop-job : goal.invariant-loop-job
 invariant-loop-job l =
     (length l.rows.items ≡ l.job) × ((k : ℕ) → k < l.job →
-        get_or l.rows.items k [] ≡ replicate (length (needs l.plan k)) no_note)
+    get_or l.rows.items k [] ≡ replicate (length (needs l.plan k)) no_note)

@@ -7,7 +7,10 @@ pub returns : goal.returns
 returns c =
     let p = c.args.plan.now in
     let n = c.loop-chain.invariant.0 in
-    let size : length c.loop-chain.payloads.items ≡ length p.chains = omega (arith, c.chains-chain-end.ensures,
-        c.loop-chain.auto.chain-end) in
+    let size : length c.loop-chain.payloads.items ≡ length p.chains = omega (
+      arith,
+      c.chains-chain-end.ensures,
+      c.loop-chain.auto.chain-end,
+    ) in
     payloads_open p (plan_semaphores p c.requires) c.loop-chain.payloads.items size (λ t l. c.loop-chain.invariant.1
-        t (omega arith))
+    t (omega arith))

@@ -39,10 +39,12 @@ loop-job-preserved c =
     let n = c.loop-job.invariant.0 in
     let more = lanes_more p c.loop-job.job x c.job.ensures c.loop-job.lanes c.loop-job.invariant.1 (omega arith) in
     let is = c.in_ok-push.ensures {u = tt} ∙ ap (λ (k : ℕ). set c.loop-job.lanes k (record (get_or c.loop-job.lanes k
-        no_lane) { jobs = (get_or c.loop-job.lanes k no_lane).jobs ++ c.loop-job.job ∷ [] })) c.number.ensures in (
+    no_lane) { jobs = (get_or c.loop-job.lanes k no_lane).jobs ++ c.loop-job.job ∷ [] })) c.number.ensures in (
       ap length is ∙ (length-set c.loop-job.lanes (lane_number x.lane) (record (get_or c.loop-job.lanes (lane_number
-          x.lane) no_lane) { jobs = (get_or c.loop-job.lanes (lane_number x.lane) no_lane).jobs ++ c.loop-job.job ∷
-          [] }) ∙ n),
+          x.lane) no_lane) {
+            jobs = (get_or c.loop-job.lanes (lane_number x.lane) no_lane).jobs ++ c.loop-job.job ∷
+                [];
+          }) ∙ n),
       subst (HasLanesUpTo p (c.loop-job.job + 1)) (sym is) more,
     )
 
@@ -54,4 +56,4 @@ returns c =
     let jobs = c.jobs-job-end.ensures in
     let all : c.loop-job.job ≡ length p.jobs = omega arith in
     lanes_open p (plan_lanes p c.requires) c.loop-job.lanes c.loop-job.invariant.0 (subst (λ (n : ℕ). HasLanesUpTo p
-        n c.loop-job.lanes) all c.loop-job.invariant.1)
+    n c.loop-job.lanes) all c.loop-job.invariant.1)

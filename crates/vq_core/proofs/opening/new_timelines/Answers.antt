@@ -35,7 +35,7 @@ loop-chain-preserved c =
     let l = c.in_ok-new.field-0 in
     let values = c.as_slice.ensures.value ∙ c.in_ok-values.ensures {u = tt} in
     let made : l ≡ new_timeline (initial p t) (map (value p) (chain p t)) = (c.in_ok-new.ensures {u = tt}).made
-        ∙ (λ i. new_timeline (c.initial.ensures i) (values i)) in
+    ∙ (λ i. new_timeline (c.initial.ensures i) (values i)) in
     let items = (c.in_ok-push.ensures {u = tt}).items in
     let size = length-append ls (l ∷ []) in
     let before = c.loop-chain.invariant.0 in (
@@ -50,6 +50,9 @@ pub returns : goal.returns
 returns c =
     let p = c.args.plan.now in
     let n = c.loop-chain.invariant.0 in
-    let size : length c.loop-chain.timelines.items ≡ length p.chains = omega (arith, c.chains-chain-end.ensures,
-        c.loop-chain.auto.chain-end) in
+    let size : length c.loop-chain.timelines.items ≡ length p.chains = omega (
+      arith,
+      c.chains-chain-end.ensures,
+      c.loop-chain.auto.chain-end,
+    ) in
     timelines_open p c.loop-chain.timelines.items size (λ k l. c.loop-chain.invariant.1 k (omega arith))

@@ -7,5 +7,5 @@ use Rattle.vq_core.proofs.opening.new_timelines.Given as goal
 abbrev pub invariant-loop-chain : goal.invariant-loop-chain
 invariant-loop-chain l =
     (length l.timelines.items ≡ l.chain) × ((k : ℕ) → k < l.chain →
-        (get_or l.timelines.items k no_timeline ≡ new_timeline (initial l.plan k) (map (value l.plan) (chain l.plan
-        k))) × KeepsLists (get_or l.timelines.items k no_timeline))
+    (get_or l.timelines.items k no_timeline ≡ new_timeline (initial l.plan k) (map (value l.plan) (chain l.plan
+    k))) × KeepsLists (get_or l.timelines.items k no_timeline))

@@ -9,4 +9,4 @@ op-requires c =
     let size = ap length c.chain-op-items.ensures in
     let test = c.loop-op-test.true in
     subst (λ (xs : List ℕ). get_or xs c.loop-op.op-index 0 < length p.ops) (sym c.chain-op-items.ensures) (chain_op p
-        (plan_well_formed p c.requires.plan) c.args.t c.loop-op.op-index (omega arith))
+    (plan_well_formed p c.requires.plan) c.args.t c.loop-op.op-index (omega arith))

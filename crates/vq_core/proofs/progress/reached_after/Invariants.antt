@@ -8,4 +8,4 @@ use Rattle.vq_core.proofs.progress.reached_after.Given as goal
 abbrev pub invariant-loop-need : goal.invariant-loop-need
 invariant-loop-need l =
     list_all (λ n. nat_lt l.done (n.from - 1) || is_reached (payload_in l.payloads) n) (take l.need-index l.needs) ≡
-        true
+    true

@@ -29,14 +29,14 @@ command-line-requires c =
     let t = k.tells in
     let x = Apply c.args.job c.args.command in
     let g = subst (λ (s : Course). CanApply s.plan (world s).machine.progress c.args.job c.args.command) (sym
-        c.self.view_is) c.requires in
+    c.self.view_is) c.requires in
     let f = inside_facts a k in
     let member = find_member (λ y. not (has w.machine.progress.applied y)) (commands_of p c.args.job) c.args.command
-        g.next in
+    g.next in
     let fits = f.formed.fits c.args.command c.args.job member in
     let line = some_of (λ (y : CommandLine). y.command) (slice_get p.commands c.args.command) fits.0 fits.1 in
     subst (λ (q : Plan). c.args.command < length q.commands) (sym c.plan.ensures.value) (get_within p.commands
-        c.args.command line.0 line.1)
+    c.args.command line.0 line.1)
 
 pub apply-requires : goal.apply-requires
 apply-requires c =
@@ -47,18 +47,18 @@ apply-requires c =
     let t = k.tells in
     let x = Apply c.args.job c.args.command in
     let g = subst (λ (s : Course). CanApply s.plan (world s).machine.progress c.args.job c.args.command) (sym
-        c.self.view_is) c.requires in
+    c.self.view_is) c.requires in
     let f = inside_facts a k in
     let member = find_member (λ y. not (has w.machine.progress.applied y)) (commands_of p c.args.job) c.args.command
-        g.next in
+    g.next in
     let fits = f.formed.fits c.args.command c.args.job member in
     let line = subst (λ (q : Plan). slice_get q.commands c.args.command ≡ Some c.command-line.result.now)
-        c.plan.ensures.value c.command-line.ensures in
+    c.plan.ensures.value c.command-line.ensures in
     let command : command_at p c.args.command ≡ Some c.command-line.result.now.command = ap (option_map (λ (y :
-        CommandLine). y.command)) line in
+    CommandLine). y.command)) line in
     let same : fits.0 ≡ c.command-line.result.now.command = (let z = sym fits.1 ∙ command in cc) in
     subst (λ (zs : List ℕ). FitsBuffers zs c.command-line.result.now.command) (sym t.sizes) (subst (FitsBuffers
-        p.sizes) same fits.2)
+    p.sizes) same fits.2)
 
 pub overflow_add-state : goal.overflow_add-state
 overflow_add-state c =
@@ -69,18 +69,18 @@ overflow_add-state c =
     let t = k.tells in
     let x = Apply c.args.job c.args.command in
     let g = subst (λ (s : Course). CanApply s.plan (world s).machine.progress c.args.job c.args.command) (sym
-        c.self.view_is) c.requires in
+    c.self.view_is) c.requires in
     let f = inside_facts a k in
     let member = find_member (λ y. not (has w.machine.progress.applied y)) (commands_of p c.args.job) c.args.command
-        g.next in
+    g.next in
     let fits = f.formed.fits c.args.command c.args.job member in
     let is = c.at-state.ensures ∙ ap (get_or a.jobs c.args.job) c.idle.ensures in
     let state = subst (IsJobState p w.released w.machine.progress.started w.machine.progress.finished
-        w.machine.progress.made w.machine.progress.applied c.args.job) (sym is) (t.jobs.each c.args.job) in
+    w.machine.progress.made w.machine.progress.applied c.args.job) (sym is) (t.jobs.each c.args.job) in
     let here = sym (next_is (has w.machine.progress.applied) (commands_of p c.args.job) c.at-state.result.commands
-        state.first_commands) ∙ g.next in
+    state.first_commands) ∙ g.next in
     let least = rising_at_least (commands_of p c.args.job) (f.formed.commands c.args.job) c.at-state.result.commands
-        c.args.command here in
+    c.args.command here in
     let small = c.ranges.command.fits in
     omega arith
 
@@ -93,7 +93,7 @@ put-requires c =
     let t = k.tells in
     let x = Apply c.args.job c.args.command in
     let g = subst (λ (s : Course). CanApply s.plan (world s).machine.progress c.args.job c.args.command) (sym
-        c.self.view_is) c.requires in
+    c.self.view_is) c.requires in
     let exists = (inside_keeps a k).turns.exists c.args.job g.started in
     let n = t.jobs.count in
     omega arith
@@ -107,7 +107,7 @@ push_reserved-requires c =
     let t = k.tells in
     let x = Apply c.args.job c.args.command in
     let g = subst (λ (s : Course). CanApply s.plan (world s).machine.progress c.args.job c.args.command) (sym
-        c.self.view_is) c.requires in
+    c.self.view_is) c.requires in
     let size = a.history.ok.0 in
     let room = more_room a k x g in
     omega arith
@@ -121,21 +121,21 @@ invariant_of-self c =
     let t = k.tells in
     let x = Apply c.args.job c.args.command in
     let g = subst (λ (s : Course). CanApply s.plan (world s).machine.progress c.args.job c.args.command) (sym
-        c.self.view_is) c.requires in
+    c.self.view_is) c.requires in
     let f = inside_facts a k in
     let member = find_member (λ y. not (has w.machine.progress.applied y)) (commands_of p c.args.job) c.args.command
-        g.next in
+    g.next in
     let fits = f.formed.fits c.args.command c.args.job member in
     let exists = (inside_keeps a k).turns.exists c.args.job g.started in
     let is = c.at-state.ensures ∙ ap (get_or a.jobs c.args.job) c.idle.ensures in
     let state = subst (IsJobState p w.released w.machine.progress.started w.machine.progress.finished
-        w.machine.progress.made w.machine.progress.applied c.args.job) (sym is) (t.jobs.each c.args.job) in
+    w.machine.progress.made w.machine.progress.applied c.args.job) (sym is) (t.jobs.each c.args.job) in
     let here = sym (next_is (has w.machine.progress.applied) (commands_of p c.args.job) c.at-state.result.commands
-        state.first_commands) ∙ g.next in
+    state.first_commands) ∙ g.next in
     let line = subst (λ (q : Plan). slice_get q.commands c.args.command ≡ Some c.command-line.result.now)
-        c.plan.ensures.value c.command-line.ensures in
+    c.plan.ensures.value c.command-line.ensures in
     let command : command_at p c.args.command ≡ Some c.command-line.result.now.command = ap (option_map (λ (y :
-        CommandLine). y.command)) line in
+    CommandLine). y.command)) line in
     let same : fits.0 ≡ c.command-line.result.now.command = (let z = sym fits.1 ∙ command in cc) in
     core_next a k x g _ refl c.push_reserved.ensures.items (let e = c.push_reserved.ensures.capacity in omega arith)
     (record {
@@ -143,7 +143,7 @@ invariant_of-self c =
       jobs = subst (AreJobs p w.released w.machine.progress.started w.machine.progress.finished
           w.machine.progress.made (w.machine.progress.applied ++ c.args.command ∷ [])) (sym c.put.ensures)
           (jobs_applied p w.released w.machine.progress.started w.machine.progress.finished w.machine.progress.made
-              w.machine.progress.applied a.jobs t.jobs c.args.job exists c.at-state.result state f c.args.command here);
+          w.machine.progress.applied a.jobs t.jobs c.args.job exists c.at-state.result state f c.args.command here);
       made = t.made;
       points = t.points;
       slots = t.slots;

@@ -9,4 +9,4 @@ use Rattle.vq_core.proofs.state.Core.are_pending.Given as goal
 abbrev pub invariant-loop-need : goal.invariant-loop-need
 invariant-loop-need l =
     list_all (λ n. nat_le n.value (initial l.self.plan n.chain) || option_map_or (world l.self).bound (resolver
-        l.self.plan n.chain n.value) false) (take l.need-index l.needs) ≡ true
+    l.self.plan n.chain n.value) false) (take l.need-index l.needs) ≡ true

@@ -27,7 +27,7 @@ bind-requires c =
     let keeps = inside_keeps a k in
     let o = c.op-chain.result in
     let at = subst (λ (s : Course). slice_get s.plan.ops c.args.op ≡ Some o) (sym c.self.view_is)
-        c.op-chain.ensures.op in
+    c.op-chain.ensures.op in
     let of = of_chain p f c.args.op o at in
     let there = chain_exists p f c.args.op o at in
     let chains = t.timelines.count in
@@ -36,12 +36,12 @@ bind-requires c =
     let kept = t.timelines.kept o.chain (omega arith) in
     let place = here p f c.args.op o at in
     let same = timeline_read a.timelines.items o.chain c.index_mut-timeline.result.now (omega arith)
-        c.index_mut-timeline.ensures.value in
+    c.index_mut-timeline.ensures.value in
     let chain_is : g.chain ≡ o.chain = (let z = sym g.in_chain ∙ of in cc) in
     let next = turn_place p f w keeps o.chain l is kept o.index c.args.op place w.bound l.bound is.bound g.unbound
-        (ap (λ (n : ℕ). list_all w.bound (smaller_ops p n c.args.op)) (sym chain_is) ∙ g.in_order) in
+    (ap (λ (n : ℕ). list_all w.bound (smaller_ops p n c.args.op)) (sym chain_is) ∙ g.in_order) in
     subst (λ (m : Timeline). MayBind m o.index c.args.point) (sym same) (may_bind p f w keeps o.chain l is kept
-        o.index c.args.op place c.args.point g.carries next)
+    o.index c.args.op place c.args.point g.carries next)
 
 pub unwrap-requires : goal.unwrap-requires
 unwrap-requires c =
@@ -56,7 +56,7 @@ unwrap-requires c =
     let keeps = inside_keeps a k in
     let o = c.op-chain.result in
     let at = subst (λ (s : Course). slice_get s.plan.ops c.args.op ≡ Some o) (sym c.self.view_is)
-        c.op-chain.ensures.op in
+    c.op-chain.ensures.op in
     let of = of_chain p f c.args.op o at in
     let there = chain_exists p f c.args.op o at in
     let chains = t.timelines.count in
@@ -65,10 +65,10 @@ unwrap-requires c =
     let kept = t.timelines.kept o.chain (omega arith) in
     let place = here p f c.args.op o at in
     let same = timeline_read a.timelines.items o.chain c.index_mut-timeline.result.now (omega arith)
-        c.index_mut-timeline.ensures.value in
+    c.index_mut-timeline.ensures.value in
     let chain_is : g.chain ≡ o.chain = (let z = sym g.in_chain ∙ of in cc) in
     let next = turn_place p f w keeps o.chain l is kept o.index c.args.op place w.bound l.bound is.bound g.unbound
-        (ap (λ (n : ℕ). list_all w.bound (smaller_ops p n c.args.op)) (sym chain_is) ∙ g.in_order) in
+    (ap (λ (n : ℕ). list_all w.bound (smaller_ops p n c.args.op)) (sym chain_is) ∙ g.in_order) in
     let now = ap (λ (m : Timeline). m.bound) same in
     let ok = is_ok c.bind.result (λ h. let less = c.bind.ensures.refused.0 h in omega arith) in
     ok
@@ -99,7 +99,7 @@ invariant_of-self c =
     let keeps = inside_keeps a k in
     let o = c.op-chain.result in
     let at = subst (λ (s : Course). slice_get s.plan.ops c.args.op ≡ Some o) (sym c.self.view_is)
-        c.op-chain.ensures.op in
+    c.op-chain.ensures.op in
     let of = of_chain p f c.args.op o at in
     let there = chain_exists p f c.args.op o at in
     let chains = t.timelines.count in
@@ -108,10 +108,10 @@ invariant_of-self c =
     let kept = t.timelines.kept o.chain (omega arith) in
     let place = here p f c.args.op o at in
     let same = timeline_read a.timelines.items o.chain c.index_mut-timeline.result.now (omega arith)
-        c.index_mut-timeline.ensures.value in
+    c.index_mut-timeline.ensures.value in
     let chain_is : g.chain ≡ o.chain = (let z = sym g.in_chain ∙ of in cc) in
     let next = turn_place p f w keeps o.chain l is kept o.index c.args.op place w.bound l.bound is.bound g.unbound
-        (ap (λ (n : ℕ). list_all w.bound (smaller_ops p n c.args.op)) (sym chain_is) ∙ g.in_order) in
+    (ap (λ (n : ℕ). list_all w.bound (smaller_ops p n c.args.op)) (sym chain_is) ∙ g.in_order) in
     let now = ap (λ (m : Timeline). m.bound) same in
     let ok = is_ok c.bind.result (λ h. let less = c.bind.ensures.refused.0 h in omega arith) in
     let after : c.bind.new.self ≡ after_bind l = on_ok c.bind.result ok c.bind.ensures.ok ∙ ap after_bind same in
@@ -126,7 +126,7 @@ invariant_of-self c =
       timelines = timelines_next p w (after_event p w x) a.timelines.items o.chain c.bind.new.self t.timelines (omega
           arith)
           (subst (IsTimelineOf p (after_event p w x) o.chain) (sym after) (own_bind p f w keeps o.chain l is kept
-              o.index c.args.op place c.args.point next)) c.bind.ensures.kept
+          o.index c.args.op place c.args.point next)) c.bind.ensures.kept
           (λ s d m km im. other_bind p f w keeps s m im km o.chain c.args.op c.args.point of d);
       lanes = t.lanes;
       notes = t.notes;

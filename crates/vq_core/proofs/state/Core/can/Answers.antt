@@ -8,4 +8,4 @@ use Rattle.vq_core.proofs.state.Core.can.Goals as goal
 pub returns-in-Apply : goal.returns-in-Apply
 returns-in-Apply c =
     subst (λ (x : Event). IsTrue c.can_apply.result ↔ CanCome c.args.self.now.plan (world c.args.self.now) x) (sym
-        c.in-Apply.is) c.can_apply.ensures
+    c.in-Apply.is) c.can_apply.ensures

@@ -11,7 +11,7 @@ returns c =
     let exists : c.args.job < length c.args.self.now.plan.jobs = omega arith in
     let is = sym c.next_command.ensures ∙ (c.in-Some.is ∙ ap Some c.if-next-command.false) in
     apply_iff c.args.self.now c.plan.ensures.course c.args.job exists c.args.command c.job_state.result.commands
-        c.is_reached_after.result
+    c.is_reached_after.result
     (sym c.is_started.ensures ∙ c.if-not-is_started.false)
     (sym c.is_finished.ensures ∙ c.if-is_finished.false) is c.job_state.ensures.first_commands
-        c.is_reached_after.ensures
+    c.is_reached_after.ensures

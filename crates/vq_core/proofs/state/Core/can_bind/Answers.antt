@@ -11,14 +11,14 @@ use Rattle.vq_core.proofs.state.Core.can_bind.Goals as goal
 pub returns-then-not-is_released : goal.returns-then-not-is_released
 returns-then-not-is_released c =
     never (λ g. false≢true (sym c.if-not-is_released.true ∙ (c.is_released.ensures
-        ∙ bind_released c.args.self.now c.plan.ensures.course c.args.op c.op-chain.result c.op-chain.ensures.op
-        c.args.point g)))
+    ∙ bind_released c.args.self.now c.plan.ensures.course c.args.op c.op-chain.result c.op-chain.ensures.op
+    c.args.point g)))
 
 pub returns : goal.returns
 returns c =
     subst (λ (n : ℕ). IsTrue (nat_eq c.op-chain.result.index n) ↔ CanBind c.args.self.now.plan (world
-        c.args.self.now) c.args.op c.args.point) (sym c.bound.ensures)
+    c.args.self.now) c.args.op c.args.point) (sym c.bound.ensures)
     (bind_iff c.args.self.now c.plan.ensures.course c.args.op c.op-chain.result c.op-chain.ensures.op
-        c.timeline.result.now c.timeline.ensures.lists c.timeline.ensures.kept c.args.point
+    c.timeline.result.now c.timeline.ensures.lists c.timeline.ensures.kept c.args.point
     (confirmed c.carries.result c.carries.ensures.carries c.if-not-carries.false)
     (sym c.is_released.ensures ∙ c.if-not-is_released.false))

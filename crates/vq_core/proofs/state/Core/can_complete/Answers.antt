@@ -9,8 +9,8 @@ use Rattle.vq_core.proofs.state.Core.can_complete.Goals as goal
 pub returns : goal.returns
 returns c =
     subst (λ (n : ℕ). IsTrue (nat_eq c.op-chain.result.index n) ↔ CanComplete c.args.self.now.plan (world
-        c.args.self.now) c.args.op) (sym c.completed.ensures)
+    c.args.self.now) c.args.op) (sym c.completed.ensures)
     (complete_iff c.args.self.now c.plan.ensures.course c.args.op c.op-chain.result c.op-chain.ensures.op
-        c.timeline.result.now c.timeline.ensures.lists c.timeline.ensures.kept
+    c.timeline.result.now c.timeline.ensures.lists c.timeline.ensures.kept
     (sym c.is_bound.ensures ∙ c.if-not-is_bound.false)
     (sym c.is_signaled.ensures ∙ c.if-not-is_signaled.false))

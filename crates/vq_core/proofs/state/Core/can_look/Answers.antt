@@ -8,4 +8,4 @@ returns-then-needs_resolved-eq0 c =
     let is = c.needs_resolved.ensures in
     let zero = c.if-needs_resolved-eq0.true in
     never (λ g. let more = look_needed c.args.self.now c.next_job.ensures.course c.args.actor c.args.point c.args.op
-        c.in-Some.job (sym c.next_job.ensures.job ∙ c.in-Some.is) g in omega arith)
+    c.in-Some.job (sym c.next_job.ensures.job ∙ c.in-Some.is) g in omega arith)

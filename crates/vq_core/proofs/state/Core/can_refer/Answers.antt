@@ -7,15 +7,15 @@ use Rattle.vq_core.proofs.state.Core.can_refer.Goals as goal
 pub returns-then-not-is_released : goal.returns-then-not-is_released
 returns-then-not-is_released c =
     never (λ g. false≢true (sym c.if-not-is_released.true ∙ (c.is_released.ensures
-        ∙ refer_released c.args.self.now c.next_job.ensures.course c.args.actor c.args.point c.args.op c.in-Some.job
-        (sym c.next_job.ensures.job ∙ c.in-Some.is) g)))
+    ∙ refer_released c.args.self.now c.next_job.ensures.course c.args.actor c.args.point c.args.op c.in-Some.job
+    (sym c.next_job.ensures.job ∙ c.in-Some.is) g)))
 
 pub returns-then-needed-eq0 : goal.returns-then-needed-eq0
 returns-then-needed-eq0 c =
     let is = c.needs_resolved-needed.ensures in
     let zero = c.if-needed-eq0.true in
     never (λ g. let more = refer_needed c.args.self.now c.next_job.ensures.course c.args.actor c.args.point c.args.op
-        c.in-Some.job (sym c.next_job.ensures.job ∙ c.in-Some.is) g in omega arith)
+    c.in-Some.job (sym c.next_job.ensures.job ∙ c.in-Some.is) g in omega arith)
 
 pub returns : goal.returns
 returns c =
@@ -23,7 +23,7 @@ returns c =
     let some = c.if-needed-eq0.false in
     let note = c.note.ensures (omega arith) in
     refer_iff c.args.self.now c.next_job.ensures.course c.args.actor c.args.point c.args.op c.in-Some.job (sym
-        c.next_job.ensures.job ∙ c.in-Some.is) c.note.result.referred c.needs_resolved-needed.result
+    c.next_job.ensures.job ∙ c.in-Some.is) c.note.result.referred c.needs_resolved-needed.result
     (confirmed c.carries.result c.carries.ensures.carries c.if-not-carries.false)
     (sym c.is_bound.ensures ∙ c.if-not-is_bound.false)
     (sym c.is_released.ensures ∙ c.if-not-is_released.false)

@@ -12,7 +12,7 @@ returns-then-not-is_released c =
     let test = c.if-job-jobs.false in
     let exists : c.args.job < length c.args.self.now.plan.jobs = omega arith in
     never (λ g. false≢true (sym c.if-not-is_released.true ∙ (c.is_released.ensures
-        ∙ start_released c.args.self.now c.plan.ensures.course c.args.job exists g)))
+    ∙ start_released c.args.self.now c.plan.ensures.course c.args.job exists g)))
 
 pub returns : goal.returns
 returns c =

@@ -10,4 +10,4 @@ returns-then-job-jobs c =
     let test = c.if-job-jobs.true in
     let exists : c.args.job < length c.args.self.now.plan.jobs = omega arith in
     submit_iff c.args.self.now c.plan.ensures.course c.args.job c.submitted_count.result c.submitted_count.ensures
-        exists
+    exists

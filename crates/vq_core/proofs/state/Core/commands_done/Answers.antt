@@ -13,5 +13,5 @@ returns c =
     let at = subst (λ (p : Plan). slice_get p.jobs j ≡ Some c.job.result.now) c.plan.ensures.value c.job.ensures in
     let size = c.len.ensures ∙ ap length (sym (commands_are p j c.job.result.now at)) in
     ap (nat_eq c.job_state.result.commands) size
-        ∙ all_test (has (world c.args.self.now).machine.progress.applied) (commands_of p j)
-        c.job_state.result.commands c.job_state.ensures.first_commands
+    ∙ all_test (has (world c.args.self.now).machine.progress.applied) (commands_of p j)
+    c.job_state.result.commands c.job_state.ensures.first_commands

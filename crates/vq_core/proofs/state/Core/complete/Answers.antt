@@ -31,7 +31,7 @@ unwrap-point-requires c =
     let keeps = inside_keeps a k in
     let o = c.op-chain.result in
     let at = subst (λ (s : Course). slice_get s.plan.ops c.args.op ≡ Some o) (sym c.self.view_is)
-        c.op-chain.ensures.op in
+    c.op-chain.ensures.op in
     let of = of_chain p f c.args.op o at in
     let there = chain_exists p f c.args.op o at in
     let chains = t.timelines.count in
@@ -58,7 +58,7 @@ complete_first-requires c =
     let keeps = inside_keeps a k in
     let o = c.op-chain.result in
     let at = subst (λ (s : Course). slice_get s.plan.ops c.args.op ≡ Some o) (sym c.self.view_is)
-        c.op-chain.ensures.op in
+    c.op-chain.ensures.op in
     let of = of_chain p f c.args.op o at in
     let there = chain_exists p f c.args.op o at in
     let chains = t.timelines.count in
@@ -67,14 +67,14 @@ complete_first-requires c =
     let kept = t.timelines.kept o.chain (omega arith) in
     let place = here p f c.args.op o at in
     let same = timeline_read a.timelines.items o.chain c.index_mut-timeline.result.now (omega arith)
-        c.index_mut-timeline.ensures.value in
+    c.index_mut-timeline.ensures.value in
     let bound = (and_parts (w.bound c.args.op) (not (w.past c.args.op)) g.pending).0 in
     let unpast = not-true (w.past c.args.op) (and_parts (w.bound c.args.op) (not (w.past c.args.op)) g.pending).1 in
     let had = bound_point p w o.chain o.index c.args.op l is kept place bound in
     let read = c.point_of.ensures ∙ sym (ap (λ (s : Course). (world s).point_of c.args.op) c.self.view_is) ∙ had.1 in
     let chain_is : g.chain ≡ o.chain = (let z = sym g.in_chain ∙ of in cc) in
     let next = turn_place p f w keeps o.chain l is kept o.index c.args.op place w.past l.completed is.completed
-        unpast (ap (λ (n : ℕ). list_all w.past (smaller_ops p n c.args.op)) (sym chain_is) ∙ g.in_order) in
+    unpast (ap (λ (n : ℕ). list_all w.past (smaller_ops p n c.args.op)) (sym chain_is) ∙ g.in_order) in
     let whole = own_complete p f w keeps o.chain l is kept o.index c.args.op place next bound unpast in
     subst (λ (m : Timeline). m.completed < m.bound) (sym same) whole.0
 
@@ -91,7 +91,7 @@ put-requires c =
     let keeps = inside_keeps a k in
     let o = c.op-chain.result in
     let at = subst (λ (s : Course). slice_get s.plan.ops c.args.op ≡ Some o) (sym c.self.view_is)
-        c.op-chain.ensures.op in
+    c.op-chain.ensures.op in
     let of = of_chain p f c.args.op o at in
     let there = chain_exists p f c.args.op o at in
     let chains = t.timelines.count in
@@ -135,7 +135,7 @@ invariant_of-self c =
     let keeps = inside_keeps a k in
     let o = c.op-chain.result in
     let at = subst (λ (s : Course). slice_get s.plan.ops c.args.op ≡ Some o) (sym c.self.view_is)
-        c.op-chain.ensures.op in
+    c.op-chain.ensures.op in
     let of = of_chain p f c.args.op o at in
     let there = chain_exists p f c.args.op o at in
     let chains = t.timelines.count in
@@ -144,23 +144,23 @@ invariant_of-self c =
     let kept = t.timelines.kept o.chain (omega arith) in
     let place = here p f c.args.op o at in
     let same = timeline_read a.timelines.items o.chain c.index_mut-timeline.result.now (omega arith)
-        c.index_mut-timeline.ensures.value in
+    c.index_mut-timeline.ensures.value in
     let bound = (and_parts (w.bound c.args.op) (not (w.past c.args.op)) g.pending).0 in
     let unpast = not-true (w.past c.args.op) (and_parts (w.bound c.args.op) (not (w.past c.args.op)) g.pending).1 in
     let had = bound_point p w o.chain o.index c.args.op l is kept place bound in
     let read = c.point_of.ensures ∙ sym (ap (λ (s : Course). (world s).point_of c.args.op) c.self.view_is) ∙ had.1 in
     let chain_is : g.chain ≡ o.chain = (let z = sym g.in_chain ∙ of in cc) in
     let next = turn_place p f w keeps o.chain l is kept o.index c.args.op place w.past l.completed is.completed
-        unpast (ap (λ (n : ℕ). list_all w.past (smaller_ops p n c.args.op)) (sym chain_is) ∙ g.in_order) in
+    unpast (ap (λ (n : ℕ). list_all w.past (smaller_ops p n c.args.op)) (sym chain_is) ∙ g.in_order) in
     let whole = own_complete p f w keeps o.chain l is kept o.index c.args.op place next bound unpast in
     let point : w.point_of c.args.op ≡ Some c.unwrap-point.result = had.1 ∙ (sym read ∙ c.unwrap-point.ensures) in
     let below = keeps.points.made c.args.op c.unwrap-point.result point in
     let few = points_few a k in
     let after : c.complete_first.new.self ≡ after_complete l = c.complete_first.ensures.after
-        ∙ ap after_complete same in
+    ∙ ap after_complete same in
     let slot_is = c.at-slot.ensures ∙ ap (get_or a.slots c.unwrap-point.result) c.empty.ensures in
     let slot = subst (IsSlot w.carried w.waiting w.held c.unwrap-point.result) (sym slot_is) (t.slots.each
-        c.unwrap-point.result) in
+    c.unwrap-point.result) in
     let point_exists : c.unwrap-point.result < length p.ops = omega arith in
     core_next a k x g _ refl c.push_reserved.ensures.items (let e = c.push_reserved.ensures.capacity in omega arith)
     (record {
@@ -171,9 +171,9 @@ invariant_of-self c =
       slots = subst (λ (o : Option ℕ). ArePoints (length p.ops) w.carried (at_option {A = ℕ →
           Bool} (λ q f. put f q true) o w.waiting) w.held c.put.new.self) (sym point)
           (subst (ArePoints (length p.ops) w.carried (put w.waiting c.unwrap-point.result true) w.held) (sym
-              c.put.ensures)
+          c.put.ensures)
           (slot_completed (length p.ops) w.carried w.waiting w.held a.slots t.slots c.unwrap-point.result
-              point_exists c.at-slot.result slot));
+          point_exists c.at-slot.result slot));
       payloads = t.payloads;
       timelines = timelines_next p w (after_event p w x) a.timelines.items o.chain c.complete_first.new.self
           t.timelines (omega arith)

@@ -1,5 +1,21 @@
-use Rattle.std.proofs.Common.{◌≡◌, ◌<◌, ◌+◌, ◌∙◌, ℕ, true, false, Some, length, get_or, set, refl, sym, ap, subst,
-    arith}
+use Rattle.std.proofs.Common.{
+  ◌≡◌,
+  ◌<◌,
+  ◌+◌,
+  ◌∙◌,
+  ℕ,
+  true,
+  false,
+  Some,
+  length,
+  get_or,
+  set,
+  refl,
+  sym,
+  ap,
+  subst,
+  arith,
+}
 use Rattle.std.specs.List.{slice_get, list_any}
 use Rattle.std.specs.Option.{option_map_or}
 use Rattle.vq_model.specs.declared.plan.Event.TheVariants.{Finish}
@@ -50,7 +66,7 @@ finish-requires-clause-exists c =
     let exists = keeps.turns.exists c.args.job started in
     let job = c.job.result.now in
     let at = subst (λ (q : Plan). slice_get q.jobs c.args.job ≡ Some job) (c.plan.ensures.value
-        ∙ ap (λ (s : Course). s.plan) (sym c.self.view_is)) c.job.ensures in
+    ∙ ap (λ (s : Course). s.plan) (sym c.self.view_is)) c.job.ensures in
     subst (λ (n : ℕ). n < length a.lanes) (sym c.number-lane.ensures)
     (lane_within p f w.released w.machine.progress.finished w.held a.lanes t.lanes c.args.job job at)
 
@@ -70,12 +86,12 @@ finish-requires-clause-small c =
     let exists = keeps.turns.exists c.args.job started in
     let job = c.job.result.now in
     let at = subst (λ (q : Plan). slice_get q.jobs c.args.job ≡ Some job) (c.plan.ensures.value
-        ∙ ap (λ (s : Course). s.plan) (sym c.self.view_is)) c.job.ensures in
+    ∙ ap (λ (s : Course). s.plan) (sym c.self.view_is)) c.job.ensures in
     let turn = finished_place p f w.released w.machine.progress.finished w.held a.lanes t.lanes c.args.job job at
-        open_ (λ i b e. keeps.turns.in_turn i c.args.job started b e) in
+    open_ (λ i b e. keeps.turns.in_turn i c.args.job started b e) in
     subst (λ (n : ℕ). (get_or a.lanes n no_lane).finished + 1 < 18446744073709551616) (sym c.number-lane.ensures)
     (small_place p w.released w.machine.progress.finished w.held a.lanes t.lanes c.args.job job at (get_or a.lanes
-        (lane_number job.lane) no_lane).finished turn c.ranges.job.fits)
+    (lane_number job.lane) no_lane).finished turn c.ranges.job.fits)
 
 pub overflow_sub-self : goal.overflow_sub-self
 overflow_sub-self c =
@@ -93,7 +109,7 @@ overflow_sub-self c =
     let exists = keeps.turns.exists c.args.job started in
     let job = c.job.result.now in
     let at = subst (λ (q : Plan). slice_get q.jobs c.args.job ≡ Some job) (c.plan.ensures.value
-        ∙ ap (λ (s : Course). s.plan) (sym c.self.view_is)) c.job.ensures in
+    ∙ ap (λ (s : Course). s.plan) (sym c.self.view_is)) c.job.ensures in
     let less = left_next p w.machine.progress.finished c.args.job exists open_ in
     let left = t.left in
     omega arith
@@ -127,32 +143,34 @@ invariant_of-self c =
     let exists = keeps.turns.exists c.args.job started in
     let job = c.job.result.now in
     let at = subst (λ (q : Plan). slice_get q.jobs c.args.job ≡ Some job) (c.plan.ensures.value
-        ∙ ap (λ (s : Course). s.plan) (sym c.self.view_is)) c.job.ensures in
+    ∙ ap (λ (s : Course). s.plan) (sym c.self.view_is)) c.job.ensures in
     let turn = finished_place p f w.released w.machine.progress.finished w.held a.lanes t.lanes c.args.job job at
-        open_ (λ i b e. keeps.turns.in_turn i c.args.job started b e) in
+    open_ (λ i b e. keeps.turns.in_turn i c.args.job started b e) in
     let less = left_next p w.machine.progress.finished c.args.job exists open_ in
     let left = t.left in
     let is = c.at-state.ensures ∙ ap (get_or a.jobs c.args.job) c.idle.ensures in
     let state = subst (IsJobState p w.released w.machine.progress.started w.machine.progress.finished
-        w.machine.progress.made w.machine.progress.applied c.args.job) (sym is) (t.jobs.each c.args.job) in
+    w.machine.progress.made w.machine.progress.applied c.args.job) (sym is) (t.jobs.each c.args.job) in
     let none : list_any (λ (r : Reference). same_actor (actor_of_lane job.lane) r.actor) w.held ≡ false = (λ i.
-        list_any (λ (r : Reference). option_map_or (λ (y : PlanJob). same_actor (actor_of_lane y.lane) r.actor) (sym
-        at i) false) w.held) ∙ g.unreferring in
+    list_any (λ (r : Reference). option_map_or (λ (y : PlanJob). same_actor (actor_of_lane y.lane) r.actor) (sym
+    at i) false) w.held) ∙ g.unreferring in
     core_next a k x g _ refl c.push_reserved.ensures.items (let e = c.push_reserved.ensures.capacity in omega arith)
     (record {
       submitted = t.submitted;
       jobs = subst (AreJobs p w.released w.machine.progress.started (put w.machine.progress.finished c.args.job true)
           w.machine.progress.made w.machine.progress.applied) (sym c.put.ensures)
           (jobs_finished p w.released w.machine.progress.started w.machine.progress.finished w.machine.progress.made
-              w.machine.progress.applied a.jobs t.jobs c.args.job exists c.at-state.result state);
+          w.machine.progress.applied a.jobs t.jobs c.args.job exists c.at-state.result state);
       made = t.made;
       points = t.points;
       slots = t.slots;
       payloads = t.payloads;
       timelines = timelines_by p w (after_event p w x) a.timelines.items refl refl refl refl refl refl t.timelines;
       lanes = subst (AreLanes p w.released (put w.machine.progress.finished c.args.job true) w.held) (sym
-          (c.finish.ensures ∙ ap (λ (n : ℕ). set a.lanes n (record (get_or a.lanes n no_lane) { finished = (get_or
-          a.lanes n no_lane).finished + 1 })) c.number-lane.ensures))
+          (c.finish.ensures ∙ ap (λ (n : ℕ). set a.lanes n (record (get_or a.lanes n no_lane) {
+            finished = (get_or
+                a.lanes n no_lane).finished + 1;
+          })) c.number-lane.ensures))
           (lane_finished p f w.released w.machine.progress.finished w.held a.lanes t.lanes c.args.job job at turn);
       notes = notes_finished p w.machine.progress.finished w.held w.referred w.looked a.notes t.notes c.args.job job
           at none;

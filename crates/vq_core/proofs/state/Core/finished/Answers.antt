@@ -10,5 +10,5 @@ pub returns : goal.returns
 returns c =
     let s = course_of c.self.inside in
     subst (λ (s : Course). IsTrue (nat_eq c.self.inside.left 0) ↔ AreFinished s.plan (world s).machine.progress)
-        c.self.view_is
+    c.self.view_is
     (left_iff s.plan (world s).machine.progress.finished c.self.inside.left c.self.invariant.tells.left)

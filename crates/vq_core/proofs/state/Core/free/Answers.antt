@@ -27,7 +27,7 @@ unwrap-op-requires c =
     let g = subst (λ (s : Course). CanFree (world s) c.args.point) (sym c.self.view_is) c.requires in
     let waits = (inside_keeps a k).links.waits c.args.point g.waiting in
     let read = c.carried.ensures ∙ sym (ap (λ (s : Course). (world s).carried c.args.point) c.self.view_is)
-        ∙ waits.carried in
+    ∙ waits.carried in
     some_of_option c.carried.result waits.op read
 
 pub op-chain-requires : goal.op-chain-requires
@@ -41,11 +41,11 @@ op-chain-requires c =
     let g = subst (λ (s : Course). CanFree (world s) c.args.point) (sym c.self.view_is) c.requires in
     let waits = (inside_keeps a k).links.waits c.args.point g.waiting in
     let read = c.carried.ensures ∙ sym (ap (λ (s : Course). (world s).carried c.args.point) c.self.view_is)
-        ∙ waits.carried in
+    ∙ waits.carried in
     let carried : w.carried c.args.point ≡ Some c.unwrap-op.result = waits.carried ∙ (sym read ∙ c.unwrap-op.ensures) in
     let f = (inside_keeps a k).points.chain c.args.point c.unwrap-op.result carried in
     subst (λ (s : Course). c.unwrap-op.result < length s.plan.ops) c.self.view_is (op_within p c.unwrap-op.result f.0
-        f.1)
+    f.1)
 
 pub free-requires : goal.free-requires
 free-requires c =
@@ -58,13 +58,13 @@ free-requires c =
     let g = subst (λ (s : Course). CanFree (world s) c.args.point) (sym c.self.view_is) c.requires in
     let waits = (inside_keeps a k).links.waits c.args.point g.waiting in
     let read = c.carried.ensures ∙ sym (ap (λ (s : Course). (world s).carried c.args.point) c.self.view_is)
-        ∙ waits.carried in
+    ∙ waits.carried in
     let carried : w.carried c.args.point ≡ Some c.unwrap-op.result = waits.carried ∙ (sym read ∙ c.unwrap-op.ensures) in
     let f = inside_facts a k in
     let keeps = inside_keeps a k in
     let o = c.op-chain.result in
     let at = subst (λ (s : Course). slice_get s.plan.ops c.unwrap-op.result ≡ Some o) (sym c.self.view_is)
-        c.op-chain.ensures.op in
+    c.op-chain.ensures.op in
     let of = of_chain p f c.unwrap-op.result o at in
     let there = chain_exists p f c.unwrap-op.result o at in
     let chains = t.timelines.count in
@@ -73,10 +73,10 @@ free-requires c =
     let kept = t.timelines.kept o.chain (omega arith) in
     let place = here p f c.unwrap-op.result o at in
     let same = timeline_read a.timelines.items o.chain c.index_mut-timeline.result.now (omega arith)
-        c.index_mut-timeline.ensures.value in
+    c.index_mut-timeline.ensures.value in
     let whole = own_free p f w keeps o.chain l is kept c.unwrap-op.result c.args.point g.waiting carried of in
     let below = keeps.points.made c.unwrap-op.result c.args.point (keeps.points.carries c.args.point
-        c.unwrap-op.result carried) in
+    c.unwrap-op.result carried) in
     let few = points_few a k in
     subst (λ (m : Timeline). MayFree m c.args.point) (sym same) whole.0
 
@@ -91,13 +91,13 @@ put-requires c =
     let g = subst (λ (s : Course). CanFree (world s) c.args.point) (sym c.self.view_is) c.requires in
     let waits = (inside_keeps a k).links.waits c.args.point g.waiting in
     let read = c.carried.ensures ∙ sym (ap (λ (s : Course). (world s).carried c.args.point) c.self.view_is)
-        ∙ waits.carried in
+    ∙ waits.carried in
     let carried : w.carried c.args.point ≡ Some c.unwrap-op.result = waits.carried ∙ (sym read ∙ c.unwrap-op.ensures) in
     let f = inside_facts a k in
     let keeps = inside_keeps a k in
     let o = c.op-chain.result in
     let at = subst (λ (s : Course). slice_get s.plan.ops c.unwrap-op.result ≡ Some o) (sym c.self.view_is)
-        c.op-chain.ensures.op in
+    c.op-chain.ensures.op in
     let of = of_chain p f c.unwrap-op.result o at in
     let there = chain_exists p f c.unwrap-op.result o at in
     let chains = t.timelines.count in
@@ -106,10 +106,10 @@ put-requires c =
     let kept = t.timelines.kept o.chain (omega arith) in
     let place = here p f c.unwrap-op.result o at in
     let same = timeline_read a.timelines.items o.chain c.index_mut-timeline.result.now (omega arith)
-        c.index_mut-timeline.ensures.value in
+    c.index_mut-timeline.ensures.value in
     let whole = own_free p f w keeps o.chain l is kept c.unwrap-op.result c.args.point g.waiting carried of in
     let below = keeps.points.made c.unwrap-op.result c.args.point (keeps.points.carries c.args.point
-        c.unwrap-op.result carried) in
+    c.unwrap-op.result carried) in
     let few = points_few a k in
     let n = t.slots.count in
     omega arith
@@ -138,13 +138,13 @@ invariant_of-self c =
     let g = subst (λ (s : Course). CanFree (world s) c.args.point) (sym c.self.view_is) c.requires in
     let waits = (inside_keeps a k).links.waits c.args.point g.waiting in
     let read = c.carried.ensures ∙ sym (ap (λ (s : Course). (world s).carried c.args.point) c.self.view_is)
-        ∙ waits.carried in
+    ∙ waits.carried in
     let carried : w.carried c.args.point ≡ Some c.unwrap-op.result = waits.carried ∙ (sym read ∙ c.unwrap-op.ensures) in
     let f = inside_facts a k in
     let keeps = inside_keeps a k in
     let o = c.op-chain.result in
     let at = subst (λ (s : Course). slice_get s.plan.ops c.unwrap-op.result ≡ Some o) (sym c.self.view_is)
-        c.op-chain.ensures.op in
+    c.op-chain.ensures.op in
     let of = of_chain p f c.unwrap-op.result o at in
     let there = chain_exists p f c.unwrap-op.result o at in
     let chains = t.timelines.count in
@@ -153,13 +153,13 @@ invariant_of-self c =
     let kept = t.timelines.kept o.chain (omega arith) in
     let place = here p f c.unwrap-op.result o at in
     let same = timeline_read a.timelines.items o.chain c.index_mut-timeline.result.now (omega arith)
-        c.index_mut-timeline.ensures.value in
+    c.index_mut-timeline.ensures.value in
     let whole = own_free p f w keeps o.chain l is kept c.unwrap-op.result c.args.point g.waiting carried of in
     let below = keeps.points.made c.unwrap-op.result c.args.point (keeps.points.carries c.args.point
-        c.unwrap-op.result carried) in
+    c.unwrap-op.result carried) in
     let few = points_few a k in
     let after : c.free.new.self ≡ after_free l c.args.point = c.free.ensures.after
-        ∙ ap (λ (m : Timeline). after_free m c.args.point) same in
+    ∙ ap (λ (m : Timeline). after_free m c.args.point) same in
     let slot_is = c.at-slot.ensures ∙ ap (get_or a.slots c.args.point) c.empty.ensures in
     let slot = subst (IsSlot w.carried w.waiting w.held c.args.point) (sym slot_is) (t.slots.each c.args.point) in
     let point_exists : c.args.point < length p.ops = omega arith in
@@ -172,13 +172,13 @@ invariant_of-self c =
       slots = subst (ArePoints (length p.ops) (put w.carried c.args.point None) (put w.waiting c.args.point false)
           w.held) (sym c.put.ensures)
           (slot_freed (length p.ops) w.carried w.waiting w.held a.slots t.slots c.args.point point_exists
-              c.at-slot.result slot);
+          c.at-slot.result slot);
       payloads = t.payloads;
       timelines = timelines_next p w (after_event p w x) a.timelines.items o.chain c.free.new.self t.timelines (omega
           arith)
           (subst (IsTimelineOf p (after_event p w x) o.chain) (sym after) whole.1) c.free.ensures.kept
           (λ s d m km im. other_free p f w keeps s m im km o.chain c.unwrap-op.result c.args.point g.waiting carried
-              of d);
+          of d);
       lanes = t.lanes;
       notes = t.notes;
       buffers = t.buffers;

@@ -8,6 +8,6 @@ pub is_bound-requires : goal.is_bound-requires
 is_bound-requires c =
     let p = c.args.self.now.plan in
     let found = subst (λ (q : Plan). resolver q c.args.need.chain c.args.need.value ≡ Some c.in-Some.op)
-        c.plan-plan.ensures.value (sym c.resolver.ensures.value ∙ c.in-Some.is) in
+    c.plan-plan.ensures.value (sym c.resolver.ensures.value ∙ c.in-Some.is) in
     resolver_exists p (plan_facts c.args.self.now c.plan-plan.ensures.course) c.args.need.chain c.args.need.value
-        c.in-Some.op found
+    c.in-Some.op found

@@ -11,14 +11,14 @@ pub timeline-requires : goal.timeline-requires
 timeline-requires c =
     let s = c.args.self.now in
     let at = subst (λ (p : Plan). slice_get p.ops c.args.op ≡ Some c.op-chain.result) c.plan.ensures.value
-        c.op-chain.ensures in
+    c.op-chain.ensures in
     chain_exists s.plan (plan_facts s c.plan.ensures.course) c.args.op c.op-chain.result at
 
 pub returns : goal.returns
 returns c =
     let s = c.args.self.now in
     let at = subst (λ (p : Plan). slice_get p.ops c.args.op ≡ Some c.op-chain.result) c.plan.ensures.value
-        c.op-chain.ensures in
+    c.op-chain.ensures in
     ap (nat_lt c.op-chain.result.index) c.completed.ensures
     ∙ first_is s.plan (plan_facts s c.plan.ensures.course) c.args.op c.op-chain.result at (world s).past
-        c.timeline.result.now.completed c.timeline.ensures.lists.completed
+    c.timeline.result.now.completed c.timeline.ensures.lists.completed

@@ -19,13 +19,13 @@ reached_after-requires c =
     let j = c.args.job in
     let x = c.job.result.now in
     let at = subst (λ (p : Plan). slice_get p.jobs j ≡ Some x) (c.plan.ensures.value
-        ∙ ap (λ (s : Course). s.plan) (sym c.self.view_is)) c.job.ensures in
+    ∙ ap (λ (s : Course). s.plan) (sym c.self.view_is)) c.job.ensures in
     let f = subst (λ (s : Course). Facts s.plan) (sym c.self.view_is) (plan_facts c.args.self.now
-        c.plan.ensures.course) in
+    c.plan.ensures.course) in
     let there = chains_there s.plan j x at f (world s).machine.progress.payload c.self.inside.payloads.items
-        c.self.invariant.tells.payloads in
+    c.self.invariant.tells.payloads in
     subst (λ (ns : List Need). All (λ (n : Need). n.chain < length c.as_slice.result.now) ns) (sym
-        c.as_slice-needs.ensures)
+    c.as_slice-needs.ensures)
     (subst (λ (ps : List ℕ). All (λ (n : Need). n.chain < length ps) x.needs) (sym c.as_slice.ensures.value) there)
 
 pub returns : goal.returns
@@ -34,15 +34,15 @@ returns c =
     let j = c.args.job in
     let x = c.job.result.now in
     let at = subst (λ (p : Plan). slice_get p.jobs j ≡ Some x) (c.plan.ensures.value
-        ∙ ap (λ (s : Course). s.plan) (sym c.self.view_is)) c.job.ensures in
+    ∙ ap (λ (s : Course). s.plan) (sym c.self.view_is)) c.job.ensures in
     let f = subst (λ (s : Course). Facts s.plan) (sym c.self.view_is) (plan_facts c.args.self.now
-        c.plan.ensures.course) in
+    c.plan.ensures.course) in
     let same : list_all (λ n. nat_lt c.args.done (n.from - 1) || is_reached (payload_in c.as_slice.result.now) n)
-        c.as_slice-needs.result.now ≡ list_all (λ n. nat_lt c.args.done (n.from - 1) || is_reached (payload_in
-        c.self.inside.payloads.items) n) x.needs =
+    c.as_slice-needs.result.now ≡ list_all (λ n. nat_lt c.args.done (n.from - 1) || is_reached (payload_in
+    c.self.inside.payloads.items) n) x.needs =
     λ i. list_all (λ n. nat_lt c.args.done (n.from - 1) || is_reached (payload_in (c.as_slice.ensures.value i)) n)
-        (c.as_slice-needs.ensures i) in
+    (c.as_slice-needs.ensures i) in
     subst (λ (s : Course). c.reached_after.result ≡ are_reached s.plan (world s).machine.progress.payload j (At
-        (c.args.done + 1))) c.self.view_is
+    (c.args.done + 1))) c.self.view_is
     (c.reached_after.ensures ∙ (same ∙ reached_after s.plan j x at f (world s).machine.progress.payload
-        c.self.inside.payloads.items c.self.invariant.tells.payloads c.args.done))
+    c.self.inside.payloads.items c.self.invariant.tells.payloads c.args.done))

@@ -19,13 +19,13 @@ all_reached-requires c =
     let j = c.args.job in
     let x = c.job.result.now in
     let at = subst (λ (p : Plan). slice_get p.jobs j ≡ Some x) (c.plan.ensures.value
-        ∙ ap (λ (s : Course). s.plan) (sym c.self.view_is)) c.job.ensures in
+    ∙ ap (λ (s : Course). s.plan) (sym c.self.view_is)) c.job.ensures in
     let f = subst (λ (s : Course). Facts s.plan) (sym c.self.view_is) (plan_facts c.args.self.now
-        c.plan.ensures.course) in
+    c.plan.ensures.course) in
     let there = chains_there s.plan j x at f (world s).machine.progress.payload c.self.inside.payloads.items
-        c.self.invariant.tells.payloads in
+    c.self.invariant.tells.payloads in
     subst (λ (ns : List Need). All (λ (n : Need). n.chain < length c.as_slice.result.now) ns) (sym
-        c.as_slice-needs.ensures)
+    c.as_slice-needs.ensures)
     (subst (λ (ps : List ℕ). All (λ (n : Need). n.chain < length ps) x.needs) (sym c.as_slice.ensures.value) there)
 
 pub returns : goal.returns
@@ -34,13 +34,13 @@ returns c =
     let j = c.args.job in
     let x = c.job.result.now in
     let at = subst (λ (p : Plan). slice_get p.jobs j ≡ Some x) (c.plan.ensures.value
-        ∙ ap (λ (s : Course). s.plan) (sym c.self.view_is)) c.job.ensures in
+    ∙ ap (λ (s : Course). s.plan) (sym c.self.view_is)) c.job.ensures in
     let f = subst (λ (s : Course). Facts s.plan) (sym c.self.view_is) (plan_facts c.args.self.now
-        c.plan.ensures.course) in
+    c.plan.ensures.course) in
     let same : list_all (is_reached (payload_in c.as_slice.result.now)) c.as_slice-needs.result.now ≡ list_all
-        (is_reached (payload_in c.self.inside.payloads.items)) x.needs =
+    (is_reached (payload_in c.self.inside.payloads.items)) x.needs =
     λ i. list_all (is_reached (payload_in (c.as_slice.ensures.value i))) (c.as_slice-needs.ensures i) in
     subst (λ (s : Course). c.all_reached.result ≡ are_reached s.plan (world s).machine.progress.payload j AtEnd)
-        c.self.view_is
+    c.self.view_is
     (c.all_reached.ensures ∙ (same ∙ reached_at_end s.plan j x at f (world s).machine.progress.payload
-        c.self.inside.payloads.items c.self.invariant.tells.payloads))
+    c.self.inside.payloads.items c.self.invariant.tells.payloads))

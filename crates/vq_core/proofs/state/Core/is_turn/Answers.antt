@@ -18,17 +18,17 @@ returns-in-Some c =
     let x = c.job.result.now in
     let n = c.in-Some.next in
     let at = subst (λ (p : Plan). slice_get p.jobs j ≡ Some x) (c.plan.ensures.value
-        ∙ ap (λ (s : Course). s.plan) (sym c.self.view_is)) c.job.ensures in
+    ∙ ap (λ (s : Course). s.plan) (sym c.self.view_is)) c.job.ensures in
     let found = sym c.in-Some.is ∙ (c.next_released.ensures
-        ∙ ap (λ (l : ℕ). slice_get (get_or c.self.inside.lanes l no_lane).jobs (get_or c.self.inside.lanes l
-        no_lane).released) c.number-lane.ensures) in
+    ∙ ap (λ (l : ℕ). slice_get (get_or c.self.inside.lanes l no_lane).jobs (get_or c.self.inside.lanes l
+    no_lane).released) c.number-lane.ensures) in
     subst (λ (s : Course). IsTrue (nat_eq n j) ↔ (((world s).released j ≡ false)
-        × (list_all (world s).released (earlier_in_queue s.plan j) ≡ true))) c.self.view_is
+    × (list_all (world s).released (earlier_in_queue s.plan j) ≡ true))) c.self.view_is
     (some_iff n j
     (λ e. is_turn s.plan w.released w.machine.progress.finished w.held c.self.inside.lanes
-        c.self.invariant.tells.lanes j x at (sym found ∙ e))
+    c.self.invariant.tells.lanes j x at (sym found ∙ e))
     (λ q. found ∙ has_turn s.plan w.released w.machine.progress.finished w.held c.self.inside.lanes
-        c.self.invariant.tells.lanes j x at q.0 q.1))
+    c.self.invariant.tells.lanes j x at q.0 q.1))
 
 pub returns-in-None : goal.returns-in-None
 returns-in-None c =
@@ -37,12 +37,12 @@ returns-in-None c =
     let j = c.args.job in
     let x = c.job.result.now in
     let at = subst (λ (p : Plan). slice_get p.jobs j ≡ Some x) (c.plan.ensures.value
-        ∙ ap (λ (s : Course). s.plan) (sym c.self.view_is)) c.job.ensures in
+    ∙ ap (λ (s : Course). s.plan) (sym c.self.view_is)) c.job.ensures in
     let found = sym c.in-None.is ∙ (c.next_released.ensures
-        ∙ ap (λ (l : ℕ). slice_get (get_or c.self.inside.lanes l no_lane).jobs (get_or c.self.inside.lanes l
-        no_lane).released) c.number-lane.ensures) in
+    ∙ ap (λ (l : ℕ). slice_get (get_or c.self.inside.lanes l no_lane).jobs (get_or c.self.inside.lanes l
+    no_lane).released) c.number-lane.ensures) in
     subst (λ (s : Course). IsTrue false ↔ (((world s).released j ≡ false)
-        × (list_all (world s).released (earlier_in_queue s.plan j) ≡ true))) c.self.view_is
+    × (list_all (world s).released (earlier_in_queue s.plan j) ≡ true))) c.self.view_is
     (none_iff j
     (λ q. found ∙ has_turn s.plan w.released w.machine.progress.finished w.held c.self.inside.lanes
-        c.self.invariant.tells.lanes j x at q.0 q.1))
+    c.self.invariant.tells.lanes j x at q.0 q.1))

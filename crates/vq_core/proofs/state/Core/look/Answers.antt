@@ -20,7 +20,7 @@ overflow_add-note c =
     let t = k.tells in
     let x = Look c.args.actor c.args.point c.args.op in
     let g = subst (λ (s : Course). CanLook s.plan (world s) c.args.actor c.args.point c.args.op) (sym c.self.view_is)
-        c.requires in
+    c.requires in
     let f = inside_facts a k in
     let keeps = inside_keeps a k in
     let actor = c.args.actor in
@@ -28,7 +28,7 @@ overflow_add-note c =
     let e = c.args.op in
     let j = c.unwrap-job.result in
     let next = sym (c.next_job.ensures.job ∙ sym (ap (λ (s : Course). next_job s.plan (world s) actor)
-        c.self.view_is)) ∙ c.unwrap-job.ensures in
+    c.self.view_is)) ∙ c.unwrap-job.ensures in
     let holds = g.holds in
     let held_for = keeps.references actor q e holds in
     let own_job : held_for.0 ≡ j = (let z = sym held_for.1 ∙ next in cc) in
@@ -36,7 +36,7 @@ overflow_add-note c =
     let place = c.place_of_need-place.ensures ∙ sym (ap (λ (s : Course). place_in s.plan j e) c.self.view_is) in
     let note_is = c.at-note.ensures ∙ ap (λ (n : ℕ). get_or (get_or a.notes j []) n no_note) place in
     let note = subst (IsNote p w.machine.progress.finished w.held w.referred w.looked j e) (sym note_is)
-        (t.notes.each j e some) in
+    (t.notes.each j e some) in
     let owner : g.job ≡ j = (let z = sym g.is_next ∙ next in cc) in
     let fewer = subst (λ (i : ℕ). count_of (w.looked i) e < count_of (w.referred i) e) owner g.fewer in
     let seen = note.looks in
@@ -53,7 +53,7 @@ put-requires-clause-place c =
     let t = k.tells in
     let x = Look c.args.actor c.args.point c.args.op in
     let g = subst (λ (s : Course). CanLook s.plan (world s) c.args.actor c.args.point c.args.op) (sym c.self.view_is)
-        c.requires in
+    c.requires in
     let f = inside_facts a k in
     let keeps = inside_keeps a k in
     let actor = c.args.actor in
@@ -61,7 +61,7 @@ put-requires-clause-place c =
     let e = c.args.op in
     let j = c.unwrap-job.result in
     let next = sym (c.next_job.ensures.job ∙ sym (ap (λ (s : Course). next_job s.plan (world s) actor)
-        c.self.view_is)) ∙ c.unwrap-job.ensures in
+    c.self.view_is)) ∙ c.unwrap-job.ensures in
     let holds = g.holds in
     let held_for = keeps.references actor q e holds in
     let own_job : held_for.0 ≡ j = (let z = sym held_for.1 ∙ next in cc) in
@@ -69,9 +69,9 @@ put-requires-clause-place c =
     let place = c.place_of_need-place.ensures ∙ sym (ap (λ (s : Course). place_in s.plan j e) c.self.view_is) in
     let note_is = c.at-note.ensures ∙ ap (λ (n : ℕ). get_or (get_or a.notes j []) n no_note) place in
     let note = subst (IsNote p w.machine.progress.finished w.held w.referred w.looked j e) (sym note_is)
-        (t.notes.each j e some) in
+    (t.notes.each j e some) in
     subst (λ (n : ℕ). n < length (get_or a.notes j [])) (sym place) (note_within p w.machine.progress.finished w.held
-        w.referred w.looked a.notes t.notes actor j e next some c.at-note.result note)
+    w.referred w.looked a.notes t.notes actor j e next some c.at-note.result note)
 
 pub push_reserved-requires : goal.push_reserved-requires
 push_reserved-requires c =
@@ -82,7 +82,7 @@ push_reserved-requires c =
     let t = k.tells in
     let x = Look c.args.actor c.args.point c.args.op in
     let g = subst (λ (s : Course). CanLook s.plan (world s) c.args.actor c.args.point c.args.op) (sym c.self.view_is)
-        c.requires in
+    c.requires in
     let size = a.history.ok.0 in
     let room = more_room a k x g in
     omega arith
@@ -96,7 +96,7 @@ invariant_of-self c =
     let t = k.tells in
     let x = Look c.args.actor c.args.point c.args.op in
     let g = subst (λ (s : Course). CanLook s.plan (world s) c.args.actor c.args.point c.args.op) (sym c.self.view_is)
-        c.requires in
+    c.requires in
     let f = inside_facts a k in
     let keeps = inside_keeps a k in
     let actor = c.args.actor in
@@ -104,7 +104,7 @@ invariant_of-self c =
     let e = c.args.op in
     let j = c.unwrap-job.result in
     let next = sym (c.next_job.ensures.job ∙ sym (ap (λ (s : Course). next_job s.plan (world s) actor)
-        c.self.view_is)) ∙ c.unwrap-job.ensures in
+    c.self.view_is)) ∙ c.unwrap-job.ensures in
     let holds = g.holds in
     let held_for = keeps.references actor q e holds in
     let own_job : held_for.0 ≡ j = (let z = sym held_for.1 ∙ next in cc) in
@@ -112,7 +112,7 @@ invariant_of-self c =
     let place = c.place_of_need-place.ensures ∙ sym (ap (λ (s : Course). place_in s.plan j e) c.self.view_is) in
     let note_is = c.at-note.ensures ∙ ap (λ (n : ℕ). get_or (get_or a.notes j []) n no_note) place in
     let note = subst (IsNote p w.machine.progress.finished w.held w.referred w.looked j e) (sym note_is)
-        (t.notes.each j e some) in
+    (t.notes.each j e some) in
     core_next a k x g _ refl c.push_reserved.ensures.items (let e = c.push_reserved.ensures.capacity in omega arith)
     (record {
       submitted = t.submitted;
@@ -126,10 +126,11 @@ invariant_of-self c =
       notes = subst (λ (o : Option ℕ). AreNotes p w.machine.progress.finished w.held w.referred (with_note w.looked o
           e) c.put.new.self) (sym next)
           (subst (AreNotes p w.machine.progress.finished w.held w.referred (put w.looked j (e ∷ w.looked j))) (sym
-              (c.put.ensures ∙ ap (λ (n : ℕ). set a.notes j (set (get_or a.notes j []) n (record c.at-note.result {
-              looked = c.at-note.result.looked + 1 }))) place))
+          (c.put.ensures ∙ ap (λ (n : ℕ). set a.notes j (set (get_or a.notes j []) n (record c.at-note.result {
+            looked = c.at-note.result.looked + 1;
+          }))) place))
           (notes_looked p w.machine.progress.finished w.held w.referred w.looked a.notes t.notes actor j e next some
-              c.at-note.result note));
+          c.at-note.result note));
       buffers = t.buffers;
       sizes = t.sizes;
       left = t.left;

@@ -11,7 +11,7 @@ pub returns-clause-value : goal.returns-clause-value
 returns-clause-value c =
     let p = c.args.self.now.plan in
     let at = subst (λ (p : Plan). slice_get p.jobs c.args.job ≡ Some c.job.result.now) c.plan.ensures.value
-        c.job.ensures in
+    c.job.ensures in
     c.as_slice.ensures ∙ sym (needs_are p c.args.job c.job.result.now at)
 
 pub returns-clause-exist : goal.returns-clause-exist

@@ -13,5 +13,5 @@ returns c =
     let at = subst (λ (p : Plan). slice_get p.jobs j ≡ Some c.job.result.now) c.plan.ensures.value c.job.ensures in
     let items = c.as_slice.ensures ∙ sym (commands_are p j c.job.result.now at) in
     c.element.ensures ∙ (ap (λ (xs : List ℕ). slice_get xs c.job_state.result.commands) items
-        ∙ sym (next_is (has (world c.args.self.now).machine.progress.applied) (commands_of p j)
-        c.job_state.result.commands c.job_state.ensures.first_commands))
+    ∙ sym (next_is (has (world c.args.self.now).machine.progress.applied) (commands_of p j)
+    c.job_state.result.commands c.job_state.ensures.first_commands))

@@ -12,7 +12,7 @@ returns-in-Host-clause-job c =
     let s = course_of c.self.inside in
     let w = world s in
     let is = c.next.ensures ∙ lane_next s.plan w.released w.machine.progress.finished w.held c.self.inside.lanes
-        c.self.invariant.tells.lanes 0 in
+    c.self.invariant.tells.lanes 0 in
     subst (λ (s : Course). c.next.result ≡ next_job s.plan (world s) c.args.actor) c.self.view_is
     (is ∙ ap (next_job s.plan w) (sym c.in-Host.is))
 
@@ -23,7 +23,7 @@ returns-in-Ring-clause-job c =
     let n = c.in-Ring.queue + 1 in
     let e : n ≡ suc c.in-Ring.queue = omega arith in
     let is = c.next-in-Ring.ensures ∙ lane_next s.plan w.released w.machine.progress.finished w.held
-        c.self.inside.lanes c.self.invariant.tells.lanes n
+    c.self.inside.lanes c.self.invariant.tells.lanes n
     ∙ ap (λ (n : ℕ). next w.machine.progress.finished (jobs_of_lane s.plan (lane_named n))) e in
     subst (λ (s : Course). c.next-in-Ring.result ≡ next_job s.plan (world s) c.args.actor) c.self.view_is
     (is ∙ ap (next_job s.plan w) (sym c.in-Ring.is))
@@ -35,4 +35,4 @@ returns-in-Host-clause-exists c =
 pub returns-in-Ring-clause-exists : goal.returns-in-Ring-clause-exists
 returns-in-Ring-clause-exists c =
     next_exists c.args.self.now.plan (world c.args.self.now) c.args.actor c.next-in-Ring.result
-        (returns-in-Ring-clause-job c)
+    (returns-in-Ring-clause-job c)

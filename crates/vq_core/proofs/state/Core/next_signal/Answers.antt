@@ -13,5 +13,5 @@ returns c =
     let at = subst (λ (p : Plan). slice_get p.jobs j ≡ Some c.job.result.now) c.plan.ensures.value c.job.ensures in
     let items = c.as_slice.ensures ∙ sym (signals_are p j c.job.result.now at) in
     c.element.ensures ∙ (ap (λ (xs : List ℕ). slice_get xs c.job_state.result.signals) items
-        ∙ sym (next_is (world c.args.self.now).machine.progress.made (signals_of p j) c.job_state.result.signals
-        c.job_state.ensures.first_signals))
+    ∙ sym (next_is (world c.args.self.now).machine.progress.made (signals_of p j) c.job_state.result.signals
+    c.job_state.ensures.first_signals))

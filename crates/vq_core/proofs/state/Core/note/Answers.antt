@@ -13,9 +13,9 @@ returns c =
     let place = c.place_of_need-place.ensures ∙ sym (ap (λ (s : Course). place_in s.plan j e) c.self.view_is) in
     let is = c.at.ensures ∙ ap (λ (k : ℕ). get_or (get_or c.self.inside.notes j []) k no_note) place in
     subst (λ (s : Course). 0 < needs_resolved s.plan j e →
-        IsNote s.plan (world s).machine.progress.finished (world s).held (world s).referred (world s).looked j e
-        c.at.result) c.self.view_is
+    IsNote s.plan (world s).machine.progress.finished (world s).held (world s).referred (world s).looked j e
+    c.at.result) c.self.view_is
     (λ more. subst (λ (n : Note). IsNote c.self.inside.ordered (world (course_of
-        c.self.inside)).machine.progress.finished (world (course_of c.self.inside)).held (world (course_of
-        c.self.inside)).referred (world (course_of c.self.inside)).looked j e n) (sym is)
-        (c.self.invariant.tells.notes.each j e more))
+    c.self.inside)).machine.progress.finished (world (course_of c.self.inside)).held (world (course_of
+    c.self.inside)).referred (world (course_of c.self.inside)).looked j e n) (sym is)
+    (c.self.invariant.tells.notes.each j e more))

@@ -12,9 +12,9 @@ returns-clause-op c = subst (λ (p : Plan). slice_get p.ops c.args.op ≡ Some c
 pub returns-clause-chain : goal.returns-clause-chain
 returns-clause-chain c =
     chain_exists c.args.self.now.plan (plan_facts c.args.self.now c.plan.ensures.course) c.args.op c.op.result
-        (returns-clause-op c)
+    (returns-clause-op c)
 
 pub returns-clause-job : goal.returns-clause-job
 returns-clause-job c =
     job_exists c.args.self.now.plan (plan_facts c.args.self.now c.plan.ensures.course) c.args.op c.op.result
-        (returns-clause-op c)
+    (returns-clause-op c)

@@ -1,5 +1,23 @@
-use Rattle.std.proofs.Common.{◌≡◌, ◌<◌, ◌+◌, ◌∷◌, [], ◌∙◌, ◌==◌, ℕ, Option, Some, length, get_or, set, refl, sym, ap,
-    subst, arith}
+use Rattle.std.proofs.Common.{
+  ◌≡◌,
+  ◌<◌,
+  ◌+◌,
+  ◌∷◌,
+  [],
+  ◌∙◌,
+  ◌==◌,
+  ℕ,
+  Option,
+  Some,
+  length,
+  get_or,
+  set,
+  refl,
+  sym,
+  ap,
+  subst,
+  arith,
+}
 use Rattle.std.specs.Prelude.{count_by}
 use Rattle.std.specs.List.{slice_get}
 use Rattle.vq_model.specs.declared.script.ActorName.{ActorName}
@@ -9,8 +27,16 @@ use Rattle.vq_model.specs.Canonical.{same_actor}
 use Rattle.vq_model.specs.Lanes.{lane_number}
 use Rattle.vq_model.specs.Machine.{put}
 use Rattle.vq_model.specs.Plan.{Plan}
-use Rattle.vq_points.specs.Points.{Reference, CanRefer, after_event, next_job, actor_of_lane, with_note, count_of,
-    needs_resolved}
+use Rattle.vq_points.specs.Points.{
+  Reference,
+  CanRefer,
+  after_event,
+  next_job,
+  actor_of_lane,
+  with_note,
+  count_of,
+  needs_resolved,
+}
 use Rattle.vq_history_laws.specs.Histories.{points_after}
 use Rattle.vq_core_laws.proofs.Cited.{noted_few, carried_below}
 use Rattle.vq_core.specs.CoreState.{Course, world}
@@ -35,7 +61,7 @@ overflow_add-note c =
     let t = k.tells in
     let x = Refer c.args.actor c.args.point c.args.op in
     let g = subst (λ (s : Course). CanRefer s.plan (world s) c.args.actor c.args.point c.args.op) (sym
-        c.self.view_is) c.requires in
+    c.self.view_is) c.requires in
     let f = inside_facts a k in
     let keeps = inside_keeps a k in
     let actor = c.args.actor in
@@ -43,14 +69,14 @@ overflow_add-note c =
     let e = c.args.op in
     let j = c.unwrap-job.result in
     let next = sym (c.next_job.ensures.job ∙ sym (ap (λ (s : Course). next_job s.plan (world s) actor)
-        c.self.view_is)) ∙ c.unwrap-job.ensures in
+    c.self.view_is)) ∙ c.unwrap-job.ensures in
     let owner : g.job ≡ j = (let z = sym g.is_next ∙ next in cc) in
     let wanted = subst (λ (i : ℕ). count_of (w.referred i) e < needs_resolved p i e) owner g.wanted in
     let some : 0 < needs_resolved p j e = omega arith in
     let place = c.place_of_need-place.ensures ∙ sym (ap (λ (s : Course). place_in s.plan j e) c.self.view_is) in
     let note_is = c.at-note.ensures ∙ ap (λ (n : ℕ). get_or (get_or a.notes j []) n no_note) place in
     let note = subst (IsNote p w.machine.progress.finished w.held w.referred w.looked j e) (sym note_is)
-        (t.notes.each j e some) in
+    (t.notes.each j e some) in
     let made = note.references in
     let count = noted_few p a.history.items j e in
     let few = few_events a k x g in
@@ -65,7 +91,7 @@ overflow_add-note-2 c =
     let t = k.tells in
     let x = Refer c.args.actor c.args.point c.args.op in
     let g = subst (λ (s : Course). CanRefer s.plan (world s) c.args.actor c.args.point c.args.op) (sym
-        c.self.view_is) c.requires in
+    c.self.view_is) c.requires in
     let f = inside_facts a k in
     let keeps = inside_keeps a k in
     let actor = c.args.actor in
@@ -73,14 +99,14 @@ overflow_add-note-2 c =
     let e = c.args.op in
     let j = c.unwrap-job.result in
     let next = sym (c.next_job.ensures.job ∙ sym (ap (λ (s : Course). next_job s.plan (world s) actor)
-        c.self.view_is)) ∙ c.unwrap-job.ensures in
+    c.self.view_is)) ∙ c.unwrap-job.ensures in
     let owner : g.job ≡ j = (let z = sym g.is_next ∙ next in cc) in
     let wanted = subst (λ (i : ℕ). count_of (w.referred i) e < needs_resolved p i e) owner g.wanted in
     let some : 0 < needs_resolved p j e = omega arith in
     let place = c.place_of_need-place.ensures ∙ sym (ap (λ (s : Course). place_in s.plan j e) c.self.view_is) in
     let note_is = c.at-note.ensures ∙ ap (λ (n : ℕ). get_or (get_or a.notes j []) n no_note) place in
     let note = subst (IsNote p w.machine.progress.finished w.held w.referred w.looked j e) (sym note_is)
-        (t.notes.each j e some) in
+    (t.notes.each j e some) in
     let held = inside_held a k in
     let few = few_events a k x g in
     let is = note.next_held actor next in
@@ -96,7 +122,7 @@ put-requires-clause-place c =
     let t = k.tells in
     let x = Refer c.args.actor c.args.point c.args.op in
     let g = subst (λ (s : Course). CanRefer s.plan (world s) c.args.actor c.args.point c.args.op) (sym
-        c.self.view_is) c.requires in
+    c.self.view_is) c.requires in
     let f = inside_facts a k in
     let keeps = inside_keeps a k in
     let actor = c.args.actor in
@@ -104,16 +130,16 @@ put-requires-clause-place c =
     let e = c.args.op in
     let j = c.unwrap-job.result in
     let next = sym (c.next_job.ensures.job ∙ sym (ap (λ (s : Course). next_job s.plan (world s) actor)
-        c.self.view_is)) ∙ c.unwrap-job.ensures in
+    c.self.view_is)) ∙ c.unwrap-job.ensures in
     let owner : g.job ≡ j = (let z = sym g.is_next ∙ next in cc) in
     let wanted = subst (λ (i : ℕ). count_of (w.referred i) e < needs_resolved p i e) owner g.wanted in
     let some : 0 < needs_resolved p j e = omega arith in
     let place = c.place_of_need-place.ensures ∙ sym (ap (λ (s : Course). place_in s.plan j e) c.self.view_is) in
     let note_is = c.at-note.ensures ∙ ap (λ (n : ℕ). get_or (get_or a.notes j []) n no_note) place in
     let note = subst (IsNote p w.machine.progress.finished w.held w.referred w.looked j e) (sym note_is)
-        (t.notes.each j e some) in
+    (t.notes.each j e some) in
     subst (λ (n : ℕ). n < length (get_or a.notes j [])) (sym place) (note_within p w.machine.progress.finished w.held
-        w.referred w.looked a.notes t.notes actor j e next some c.at-note.result note)
+    w.referred w.looked a.notes t.notes actor j e next some c.at-note.result note)
 
 pub refer-requires-clause-exists : goal.refer-requires-clause-exists
 refer-requires-clause-exists c =
@@ -124,7 +150,7 @@ refer-requires-clause-exists c =
     let t = k.tells in
     let x = Refer c.args.actor c.args.point c.args.op in
     let g = subst (λ (s : Course). CanRefer s.plan (world s) c.args.actor c.args.point c.args.op) (sym
-        c.self.view_is) c.requires in
+    c.self.view_is) c.requires in
     let f = inside_facts a k in
     let keeps = inside_keeps a k in
     let actor = c.args.actor in
@@ -132,10 +158,10 @@ refer-requires-clause-exists c =
     let e = c.args.op in
     let j = c.unwrap-job.result in
     let next = sym (c.next_job.ensures.job ∙ sym (ap (λ (s : Course). next_job s.plan (world s) actor)
-        c.self.view_is)) ∙ c.unwrap-job.ensures in
+    c.self.view_is)) ∙ c.unwrap-job.ensures in
     let job = c.job.result.now in
     let at = subst (λ (r : Plan). slice_get r.jobs j ≡ Some job) (c.plan.ensures.value
-        ∙ ap (λ (s : Course). s.plan) (sym c.self.view_is)) c.job.ensures in
+    ∙ ap (λ (s : Course). s.plan) (sym c.self.view_is)) c.job.ensures in
     let lane = own p w.released w.machine.progress.finished w.held a.lanes t.lanes j job at in
     let who = next_actor p w.machine.progress.finished actor j job at next in
     subst (λ (n : ℕ). n < length a.lanes) (sym c.number-lane.ensures)
@@ -150,7 +176,7 @@ refer-requires-clause-small c =
     let t = k.tells in
     let x = Refer c.args.actor c.args.point c.args.op in
     let g = subst (λ (s : Course). CanRefer s.plan (world s) c.args.actor c.args.point c.args.op) (sym
-        c.self.view_is) c.requires in
+    c.self.view_is) c.requires in
     let f = inside_facts a k in
     let keeps = inside_keeps a k in
     let actor = c.args.actor in
@@ -158,10 +184,10 @@ refer-requires-clause-small c =
     let e = c.args.op in
     let j = c.unwrap-job.result in
     let next = sym (c.next_job.ensures.job ∙ sym (ap (λ (s : Course). next_job s.plan (world s) actor)
-        c.self.view_is)) ∙ c.unwrap-job.ensures in
+    c.self.view_is)) ∙ c.unwrap-job.ensures in
     let job = c.job.result.now in
     let at = subst (λ (r : Plan). slice_get r.jobs j ≡ Some job) (c.plan.ensures.value
-        ∙ ap (λ (s : Course). s.plan) (sym c.self.view_is)) c.job.ensures in
+    ∙ ap (λ (s : Course). s.plan) (sym c.self.view_is)) c.job.ensures in
     let lane = own p w.released w.machine.progress.finished w.held a.lanes t.lanes j job at in
     let who = next_actor p w.machine.progress.finished actor j job at next in
     let held = inside_held a k in
@@ -180,7 +206,7 @@ overflow_add-slot c =
     let t = k.tells in
     let x = Refer c.args.actor c.args.point c.args.op in
     let g = subst (λ (s : Course). CanRefer s.plan (world s) c.args.actor c.args.point c.args.op) (sym
-        c.self.view_is) c.requires in
+    c.self.view_is) c.requires in
     let f = inside_facts a k in
     let keeps = inside_keeps a k in
     let actor = c.args.actor in
@@ -188,7 +214,7 @@ overflow_add-slot c =
     let e = c.args.op in
     let j = c.unwrap-job.result in
     let next = sym (c.next_job.ensures.job ∙ sym (ap (λ (s : Course). next_job s.plan (world s) actor)
-        c.self.view_is)) ∙ c.unwrap-job.ensures in
+    c.self.view_is)) ∙ c.unwrap-job.ensures in
     let held = inside_held a k in
     let few = few_events a k x g in
     let slot_is = c.at-slot.ensures ∙ ap (get_or a.slots q) c.empty.ensures in
@@ -206,7 +232,7 @@ put-requires-2 c =
     let t = k.tells in
     let x = Refer c.args.actor c.args.point c.args.op in
     let g = subst (λ (s : Course). CanRefer s.plan (world s) c.args.actor c.args.point c.args.op) (sym
-        c.self.view_is) c.requires in
+    c.self.view_is) c.requires in
     let f = inside_facts a k in
     let keeps = inside_keeps a k in
     let actor = c.args.actor in
@@ -214,7 +240,7 @@ put-requires-2 c =
     let e = c.args.op in
     let j = c.unwrap-job.result in
     let next = sym (c.next_job.ensures.job ∙ sym (ap (λ (s : Course). next_job s.plan (world s) actor)
-        c.self.view_is)) ∙ c.unwrap-job.ensures in
+    c.self.view_is)) ∙ c.unwrap-job.ensures in
     let below = carried_below p f w keeps q e g.carries in
     let points = points_few a k in
     let n = t.slots.count in
@@ -229,7 +255,7 @@ push_reserved-requires c =
     let t = k.tells in
     let x = Refer c.args.actor c.args.point c.args.op in
     let g = subst (λ (s : Course). CanRefer s.plan (world s) c.args.actor c.args.point c.args.op) (sym
-        c.self.view_is) c.requires in
+    c.self.view_is) c.requires in
     let size = a.history.ok.0 in
     let room = more_room a k x g in
     omega arith
@@ -243,7 +269,7 @@ invariant_of-self c =
     let t = k.tells in
     let x = Refer c.args.actor c.args.point c.args.op in
     let g = subst (λ (s : Course). CanRefer s.plan (world s) c.args.actor c.args.point c.args.op) (sym
-        c.self.view_is) c.requires in
+    c.self.view_is) c.requires in
     let f = inside_facts a k in
     let keeps = inside_keeps a k in
     let actor = c.args.actor in
@@ -251,17 +277,17 @@ invariant_of-self c =
     let e = c.args.op in
     let j = c.unwrap-job.result in
     let next = sym (c.next_job.ensures.job ∙ sym (ap (λ (s : Course). next_job s.plan (world s) actor)
-        c.self.view_is)) ∙ c.unwrap-job.ensures in
+    c.self.view_is)) ∙ c.unwrap-job.ensures in
     let owner : g.job ≡ j = (let z = sym g.is_next ∙ next in cc) in
     let wanted = subst (λ (i : ℕ). count_of (w.referred i) e < needs_resolved p i e) owner g.wanted in
     let some : 0 < needs_resolved p j e = omega arith in
     let place = c.place_of_need-place.ensures ∙ sym (ap (λ (s : Course). place_in s.plan j e) c.self.view_is) in
     let note_is = c.at-note.ensures ∙ ap (λ (n : ℕ). get_or (get_or a.notes j []) n no_note) place in
     let note = subst (IsNote p w.machine.progress.finished w.held w.referred w.looked j e) (sym note_is)
-        (t.notes.each j e some) in
+    (t.notes.each j e some) in
     let job = c.job.result.now in
     let at = subst (λ (r : Plan). slice_get r.jobs j ≡ Some job) (c.plan.ensures.value
-        ∙ ap (λ (s : Course). s.plan) (sym c.self.view_is)) c.job.ensures in
+    ∙ ap (λ (s : Course). s.plan) (sym c.self.view_is)) c.job.ensures in
     let lane = own p w.released w.machine.progress.finished w.held a.lanes t.lanes j job at in
     let who = next_actor p w.machine.progress.finished actor j job at next in
     let slot_is = c.at-slot.ensures ∙ ap (get_or a.slots q) c.empty.ensures in
@@ -270,8 +296,8 @@ invariant_of-self c =
     let points = points_few a k in
     let point_exists : q < length p.ops = omega arith in
     let more = subst (λ (b : ActorName). count_by (λ (r : Reference). same_actor (actor_of_lane job.lane) r.actor)
-        (record { actor = b; point = q; op = e } ∷ w.held) ≡ count_by (λ (r : Reference). same_actor (actor_of_lane
-        job.lane) r.actor) w.held + 1) (sym who) (actor_more (actor_of_lane job.lane) q e w.held) in
+    (record { actor = b; point = q; op = e } ∷ w.held) ≡ count_by (λ (r : Reference). same_actor (actor_of_lane
+    job.lane) r.actor) w.held + 1) (sym who) (actor_more (actor_of_lane job.lane) q e w.held) in
     core_next a k x g _ refl c.push_reserved.ensures.items (let e = c.push_reserved.ensures.capacity in omega arith)
     (record {
       submitted = t.submitted;
@@ -281,27 +307,40 @@ invariant_of-self c =
       slots = subst (ArePoints (length p.ops) w.carried w.waiting (record { actor = actor; point = q; op = e } ∷
           w.held)) (sym c.put-2.ensures)
           (slot_referred (length p.ops) w.carried w.waiting w.held a.slots t.slots q point_exists c.at-slot.result
-              slot (record { actor = actor; point = q; op = e } ∷ w.held) (c.at-slot.result.references + 1) (ap (λ (n
-              : ℕ). n + 1) slot.references ∙ sym (point_more actor q e w.held)) (points_more actor q e w.held));
+          slot (record { actor = actor; point = q; op = e } ∷ w.held) (c.at-slot.result.references + 1) (ap (λ (n
+          : ℕ). n + 1) slot.references ∙ sym (point_more actor q e w.held)) (points_more actor q e w.held));
       payloads = t.payloads;
       timelines = timelines_by p w (after_event p w x) a.timelines.items refl refl refl refl refl refl t.timelines;
       lanes = subst (AreLanes p w.released w.machine.progress.finished (record { actor = actor; point = q; op = e } ∷
-          w.held)) (sym (c.refer.ensures ∙ ap (λ (n : ℕ). set a.lanes n (record (get_or a.lanes n no_lane) { held =
-          (get_or a.lanes n no_lane).held + 1 })) c.number-lane.ensures))
-          (lane_referred p f w.released w.machine.progress.finished w.held a.lanes t.lanes j job at (record { actor =
-              actor; point = q; op = e } ∷ w.held) ((get_or a.lanes (lane_number job.lane) no_lane).held + 1) (ap (λ
-              (n : ℕ). n + 1) lane.references ∙ sym more)
+          w.held)) (sym (c.refer.ensures ∙ ap (λ (n : ℕ). set a.lanes n (record (get_or a.lanes n no_lane) {
+            held =
+                (get_or a.lanes n no_lane).held + 1;
+          })) c.number-lane.ensures))
+          (lane_referred p f w.released w.machine.progress.finished w.held a.lanes t.lanes j job at (record {
+            actor =
+                actor;
+            point = q;
+            op = e;
+          } ∷ w.held) ((get_or a.lanes (lane_number job.lane) no_lane).held + 1) (ap (λ
+          (n : ℕ). n + 1) lane.references ∙ sym more)
           (λ l d. subst (λ (b : ActorName). count_by (λ (r : Reference). same_actor (actor_of_lane l) r.actor)
-              (record { actor = b; point = q; op = e } ∷ w.held) ≡ count_by (λ (r : Reference). same_actor
-              (actor_of_lane l) r.actor) w.held) (sym who) (others_more job.lane q e w.held l d)));
-      notes = subst (λ (o : Option ℕ). AreNotes p w.machine.progress.finished (record { actor = actor; point = q; op
-          = e } ∷ w.held) (with_note w.referred o e) w.looked c.put.new.self) (sym next)
+          (record { actor = b; point = q; op = e } ∷ w.held) ≡ count_by (λ (r : Reference). same_actor
+          (actor_of_lane l) r.actor) w.held) (sym who) (others_more job.lane q e w.held l d)));
+      notes = subst (λ (o : Option ℕ). AreNotes p w.machine.progress.finished (record {
+        actor = actor;
+        point = q;
+        op
+            = e;
+      } ∷ w.held) (with_note w.referred o e) w.looked c.put.new.self) (sym next)
           (subst (AreNotes p w.machine.progress.finished (record { actor = actor; point = q; op = e } ∷ w.held) (put
-              w.referred j (e ∷ w.referred j)) w.looked) (sym (c.put.ensures
-              ∙ ap (λ (n : ℕ). set a.notes j (set (get_or a.notes j []) n (record c.at-note.result { referred =
-              c.at-note.result.referred + 1; held = c.at-note.result.held + 1 }))) place))
+          w.referred j (e ∷ w.referred j)) w.looked) (sym (c.put.ensures
+          ∙ ap (λ (n : ℕ). set a.notes j (set (get_or a.notes j []) n (record c.at-note.result {
+            referred =
+                c.at-note.result.referred + 1;
+            held = c.at-note.result.held + 1;
+          }))) place))
           (notes_referred p w.machine.progress.finished w.held w.referred w.looked a.notes t.notes actor j e next
-              some c.at-note.result note q));
+          some c.at-note.result note q));
       buffers = t.buffers;
       sizes = t.sizes;
       left = t.left;

@@ -29,7 +29,7 @@ release-requires-clause-exists c =
     let g = subst (λ (s : Course). CanRelease s.plan (world s) c.args.job) (sym c.self.view_is) c.requires in
     let job = c.job.result.now in
     let at = subst (λ (q : Plan). slice_get q.jobs c.args.job ≡ Some job) (c.plan.ensures.value
-        ∙ ap (λ (s : Course). s.plan) (sym c.self.view_is)) c.job.ensures in
+    ∙ ap (λ (s : Course). s.plan) (sym c.self.view_is)) c.job.ensures in
     subst (λ (n : ℕ). n < length a.lanes) (sym c.number-lane.ensures)
     (lane_within p (inside_facts a k) w.released w.machine.progress.finished w.held a.lanes t.lanes c.args.job job at)
 
@@ -44,12 +44,12 @@ release-requires-clause-small c =
     let g = subst (λ (s : Course). CanRelease s.plan (world s) c.args.job) (sym c.self.view_is) c.requires in
     let job = c.job.result.now in
     let at = subst (λ (q : Plan). slice_get q.jobs c.args.job ≡ Some job) (c.plan.ensures.value
-        ∙ ap (λ (s : Course). s.plan) (sym c.self.view_is)) c.job.ensures in
+    ∙ ap (λ (s : Course). s.plan) (sym c.self.view_is)) c.job.ensures in
     let turn = has_turn p w.released w.machine.progress.finished w.held a.lanes t.lanes c.args.job job at g.waiting
-        g.in_order in
+    g.in_order in
     subst (λ (n : ℕ). (get_or a.lanes n no_lane).released + 1 < 18446744073709551616) (sym c.number-lane.ensures)
     (small_place p w.released w.machine.progress.finished w.held a.lanes t.lanes c.args.job job at (get_or a.lanes
-        (lane_number job.lane) no_lane).released turn c.ranges.job.fits)
+    (lane_number job.lane) no_lane).released turn c.ranges.job.fits)
 
 pub put-requires : goal.put-requires
 put-requires c =
@@ -89,12 +89,12 @@ invariant_of-self c =
     let exists = batch_exists p c.args.job g.batch in
     let is = c.at-state.ensures ∙ ap (get_or a.jobs c.args.job) c.idle.ensures in
     let state = subst (IsJobState p w.released w.machine.progress.started w.machine.progress.finished
-        w.machine.progress.made w.machine.progress.applied c.args.job) (sym is) (t.jobs.each c.args.job) in
+    w.machine.progress.made w.machine.progress.applied c.args.job) (sym is) (t.jobs.each c.args.job) in
     let job = c.job.result.now in
     let at = subst (λ (q : Plan). slice_get q.jobs c.args.job ≡ Some job) (c.plan.ensures.value
-        ∙ ap (λ (s : Course). s.plan) (sym c.self.view_is)) c.job.ensures in
+    ∙ ap (λ (s : Course). s.plan) (sym c.self.view_is)) c.job.ensures in
     let turn = has_turn p w.released w.machine.progress.finished w.held a.lanes t.lanes c.args.job job at g.waiting
-        g.in_order in
+    g.in_order in
     core_next a k x g _ refl c.push_reserved.ensures.items (let e = c.push_reserved.ensures.capacity in omega arith)
     (record {
       submitted = t.submitted;
@@ -102,17 +102,19 @@ invariant_of-self c =
           x).machine.progress.started (after_event p w x).machine.progress.finished w.machine.progress.made
           w.machine.progress.applied xs) (sym c.put.ensures)
           (jobs_released p w.released w.machine.progress.started w.machine.progress.finished w.machine.progress.made
-              w.machine.progress.applied a.jobs t.jobs c.args.job exists c.at-state.result state);
+          w.machine.progress.applied a.jobs t.jobs c.args.job exists c.at-state.result state);
       made = t.made;
       points = t.points;
       slots = t.slots;
       payloads = t.payloads;
       timelines = timelines_by p w (after_event p w x) a.timelines.items refl refl refl refl refl refl t.timelines;
       lanes = subst (AreLanes p (put w.released c.args.job true) w.machine.progress.finished w.held) (sym
-          (c.release.ensures ∙ ap (λ (n : ℕ). set a.lanes n (record (get_or a.lanes n no_lane) { released = (get_or
-          a.lanes n no_lane).released + 1 })) c.number-lane.ensures))
+          (c.release.ensures ∙ ap (λ (n : ℕ). set a.lanes n (record (get_or a.lanes n no_lane) {
+            released = (get_or
+                a.lanes n no_lane).released + 1;
+          })) c.number-lane.ensures))
           (lane_released p (inside_facts a k) w.released w.machine.progress.finished w.held a.lanes t.lanes
-              c.args.job job at turn);
+          c.args.job job at turn);
       notes = t.notes;
       buffers = t.buffers;
       sizes = t.sizes;

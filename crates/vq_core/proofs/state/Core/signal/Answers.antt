@@ -31,7 +31,7 @@ index_mut-requires c =
     let f = inside_facts a k in
     let o = c.op-chain.result in
     let at = subst (λ (s : Course). slice_get s.plan.ops c.args.op ≡ Some o) (sym c.self.view_is)
-        c.op-chain.ensures.op in
+    c.op-chain.ensures.op in
     let of = of_chain p f c.args.op o at in
     let there = chain_exists p f c.args.op o at in
     let chains = f.semaphores.chains in
@@ -51,7 +51,7 @@ put-requires c =
     let f = inside_facts a k in
     let o = c.op-chain.result in
     let at = subst (λ (s : Course). slice_get s.plan.ops c.args.op ≡ Some o) (sym c.self.view_is)
-        c.op-chain.ensures.op in
+    c.op-chain.ensures.op in
     let of = of_chain p f c.args.op o at in
     let there = chain_exists p f c.args.op o at in
     let chains = f.semaphores.chains in
@@ -72,23 +72,23 @@ overflow_add-state c =
     let f = inside_facts a k in
     let o = c.op-chain.result in
     let at = subst (λ (s : Course). slice_get s.plan.ops c.args.op ≡ Some o) (sym c.self.view_is)
-        c.op-chain.ensures.op in
+    c.op-chain.ensures.op in
     let of = of_chain p f c.args.op o at in
     let there = chain_exists p f c.args.op o at in
     let chains = f.semaphores.chains in
     let payloads = t.payloads.count in
     let owner : g.job ≡ o.job = (let z = sym (f.formed.of_job c.args.op g.job (find_member (λ y. not
-        (w.machine.progress.made y)) (signals_of p g.job) c.args.op g.next)) ∙ op_job p f c.args.op o at in cc) in
+    (w.machine.progress.made y)) (signals_of p g.job) c.args.op g.next)) ∙ op_job p f c.args.op o at in cc) in
     let next_is_op = subst (λ (j : ℕ). next w.machine.progress.made (signals_of p j) ≡ Some c.args.op) owner g.next in
     let started = subst (λ (j : ℕ). w.machine.progress.started j ≡ true) owner g.started in
     let exists = (inside_keeps a k).turns.exists o.job started in
     let is = c.at-state.ensures ∙ ap (get_or a.jobs o.job) c.idle.ensures in
     let state = subst (IsJobState p w.released w.machine.progress.started w.machine.progress.finished
-        w.machine.progress.made w.machine.progress.applied o.job) (sym is) (t.jobs.each o.job) in
+    w.machine.progress.made w.machine.progress.applied o.job) (sym is) (t.jobs.each o.job) in
     let here = sym (next_is w.machine.progress.made (signals_of p o.job) c.at-state.result.signals
-        state.first_signals) ∙ next_is_op in
+    state.first_signals) ∙ next_is_op in
     let least = rising_at_least (signals_of p o.job) (f.formed.signals o.job) c.at-state.result.signals c.args.op
-        here in
+    here in
     let small = c.ranges.op.fits in
     omega arith
 
@@ -104,13 +104,13 @@ put-requires-2 c =
     let f = inside_facts a k in
     let o = c.op-chain.result in
     let at = subst (λ (s : Course). slice_get s.plan.ops c.args.op ≡ Some o) (sym c.self.view_is)
-        c.op-chain.ensures.op in
+    c.op-chain.ensures.op in
     let of = of_chain p f c.args.op o at in
     let there = chain_exists p f c.args.op o at in
     let chains = f.semaphores.chains in
     let payloads = t.payloads.count in
     let owner : g.job ≡ o.job = (let z = sym (f.formed.of_job c.args.op g.job (find_member (λ y. not
-        (w.machine.progress.made y)) (signals_of p g.job) c.args.op g.next)) ∙ op_job p f c.args.op o at in cc) in
+    (w.machine.progress.made y)) (signals_of p g.job) c.args.op g.next)) ∙ op_job p f c.args.op o at in cc) in
     let next_is_op = subst (λ (j : ℕ). next w.machine.progress.made (signals_of p j) ≡ Some c.args.op) owner g.next in
     let started = subst (λ (j : ℕ). w.machine.progress.started j ≡ true) owner g.started in
     let exists = (inside_keeps a k).turns.exists o.job started in
@@ -142,23 +142,27 @@ invariant_of-self c =
     let f = inside_facts a k in
     let o = c.op-chain.result in
     let at = subst (λ (s : Course). slice_get s.plan.ops c.args.op ≡ Some o) (sym c.self.view_is)
-        c.op-chain.ensures.op in
+    c.op-chain.ensures.op in
     let of = of_chain p f c.args.op o at in
     let there = chain_exists p f c.args.op o at in
     let chains = f.semaphores.chains in
     let payloads = t.payloads.count in
     let owner : g.job ≡ o.job = (let z = sym (f.formed.of_job c.args.op g.job (find_member (λ y. not
-        (w.machine.progress.made y)) (signals_of p g.job) c.args.op g.next)) ∙ op_job p f c.args.op o at in cc) in
+    (w.machine.progress.made y)) (signals_of p g.job) c.args.op g.next)) ∙ op_job p f c.args.op o at in cc) in
     let next_is_op = subst (λ (j : ℕ). next w.machine.progress.made (signals_of p j) ≡ Some c.args.op) owner g.next in
     let started = subst (λ (j : ℕ). w.machine.progress.started j ≡ true) owner g.started in
     let exists = (inside_keeps a k).turns.exists o.job started in
     let is = c.at-state.ensures ∙ ap (get_or a.jobs o.job) c.idle.ensures in
     let state = subst (IsJobState p w.released w.machine.progress.started w.machine.progress.finished
-        w.machine.progress.made w.machine.progress.applied o.job) (sym is) (t.jobs.each o.job) in
+    w.machine.progress.made w.machine.progress.applied o.job) (sym is) (t.jobs.each o.job) in
     let here = sym (next_is w.machine.progress.made (signals_of p o.job) c.at-state.result.signals
-        state.first_signals) ∙ next_is_op in
-    let v = record w { machine = record w.machine { progress = with_signal p w.machine.progress c.args.op (Some
-        o.chain) } } in
+    state.first_signals) ∙ next_is_op in
+    let v = record w {
+      machine = record w.machine {
+        progress = with_signal p w.machine.progress c.args.op (Some
+            o.chain);
+      };
+    } in
     let value_is : value p c.args.op ≡ o.value = ap (λ y. option_map_or (λ (z : Op). z.value) y 0) at in
     core_next a k x g _ refl c.push_reserved.ensures.items (let e = c.push_reserved.ensures.capacity in omega arith)
     (signal_tells p w _ c.args.op o.chain of (record {
@@ -166,7 +170,7 @@ invariant_of-self c =
       jobs = subst (AreJobs p w.released w.machine.progress.started w.machine.progress.finished (put
           w.machine.progress.made c.args.op true) w.machine.progress.applied) (sym c.put-2.ensures)
           (jobs_signaled p w.released w.machine.progress.started w.machine.progress.finished w.machine.progress.made
-              w.machine.progress.applied a.jobs t.jobs o.job exists c.at-state.result state f c.args.op here);
+          w.machine.progress.applied a.jobs t.jobs o.job exists c.at-state.result state f c.args.op here);
       made = subst (AreMade (length p.ops) (put w.machine.progress.made c.args.op true)) (sym c.put.ensures)
           (made_next (length p.ops) w.machine.progress.made a.made c.args.op t.made (op_within p c.args.op o.chain of));
       points = t.points;

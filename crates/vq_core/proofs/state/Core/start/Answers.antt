@@ -48,7 +48,7 @@ invariant_of-self c =
     let exists = g.exists in
     let is = c.at-state.ensures ∙ ap (get_or a.jobs c.args.job) c.idle.ensures in
     let state = subst (IsJobState p w.released w.machine.progress.started w.machine.progress.finished
-        w.machine.progress.made w.machine.progress.applied c.args.job) (sym is) (t.jobs.each c.args.job) in
+    w.machine.progress.made w.machine.progress.applied c.args.job) (sym is) (t.jobs.each c.args.job) in
     core_next a k x g _ refl c.push_reserved.ensures.items (let e = c.push_reserved.ensures.capacity in omega arith)
     (record {
       submitted = t.submitted;
@@ -56,7 +56,7 @@ invariant_of-self c =
           x).machine.progress.started (after_event p w x).machine.progress.finished w.machine.progress.made
           w.machine.progress.applied xs) (sym c.put.ensures)
           (jobs_started p w.released w.machine.progress.started w.machine.progress.finished w.machine.progress.made
-              w.machine.progress.applied a.jobs t.jobs c.args.job exists c.at-state.result state);
+          w.machine.progress.applied a.jobs t.jobs c.args.job exists c.at-state.result state);
       made = t.made;
       points = t.points;
       slots = t.slots;

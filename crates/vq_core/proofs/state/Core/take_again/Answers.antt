@@ -25,12 +25,12 @@ take-requires c =
     let t = k.tells in
     let x = Take c.args.op c.args.point false in
     let g = subst (λ (s : Course). CanTake s.plan (world s) c.args.op c.args.point false) (sym c.self.view_is)
-        c.requires in
+    c.requires in
     let f = inside_facts a k in
     let keeps = inside_keeps a k in
     let o = c.op-chain.result in
     let at = subst (λ (s : Course). slice_get s.plan.ops c.args.op ≡ Some o) (sym c.self.view_is)
-        c.op-chain.ensures.op in
+    c.op-chain.ensures.op in
     let of = of_chain p f c.args.op o at in
     let there = chain_exists p f c.args.op o at in
     let chains = t.timelines.count in
@@ -40,9 +40,9 @@ take-requires c =
     let place = here p f c.args.op o at in
     let made = t.points in
     let may = subst (MayTake l o.index) (sym made) (may_take p f w keeps o.chain l is kept o.index c.args.op place
-        g.without) in
+    g.without) in
     subst (λ (m : Timeline). MayTake m o.index a.points) (sym (timeline_read a.timelines.items o.chain
-        c.index_mut-timeline.result.now (omega arith) c.index_mut-timeline.ensures.value)) may
+    c.index_mut-timeline.result.now (omega arith) c.index_mut-timeline.ensures.value)) may
 
 pub put-requires : goal.put-requires
 put-requires c =
@@ -53,12 +53,12 @@ put-requires c =
     let t = k.tells in
     let x = Take c.args.op c.args.point false in
     let g = subst (λ (s : Course). CanTake s.plan (world s) c.args.op c.args.point false) (sym c.self.view_is)
-        c.requires in
+    c.requires in
     let f = inside_facts a k in
     let keeps = inside_keeps a k in
     let o = c.op-chain.result in
     let at = subst (λ (s : Course). slice_get s.plan.ops c.args.op ≡ Some o) (sym c.self.view_is)
-        c.op-chain.ensures.op in
+    c.op-chain.ensures.op in
     let of = of_chain p f c.args.op o at in
     let there = chain_exists p f c.args.op o at in
     let chains = t.timelines.count in
@@ -68,7 +68,7 @@ put-requires c =
     let place = here p f c.args.op o at in
     let made = t.points in
     let may = subst (MayTake l o.index) (sym made) (may_take p f w keeps o.chain l is kept o.index c.args.op place
-        g.without) in
+    g.without) in
     let q = free_point_below a k c.args.op c.args.point g in
     let below = keeps.points.few in
     let count = points_few a k in
@@ -84,7 +84,7 @@ push_reserved-requires c =
     let t = k.tells in
     let x = Take c.args.op c.args.point false in
     let g = subst (λ (s : Course). CanTake s.plan (world s) c.args.op c.args.point false) (sym c.self.view_is)
-        c.requires in
+    c.requires in
     let size = a.history.ok.0 in
     let room = more_room a k x g in
     omega arith
@@ -98,12 +98,12 @@ invariant_of-self c =
     let t = k.tells in
     let x = Take c.args.op c.args.point false in
     let g = subst (λ (s : Course). CanTake s.plan (world s) c.args.op c.args.point false) (sym c.self.view_is)
-        c.requires in
+    c.requires in
     let f = inside_facts a k in
     let keeps = inside_keeps a k in
     let o = c.op-chain.result in
     let at = subst (λ (s : Course). slice_get s.plan.ops c.args.op ≡ Some o) (sym c.self.view_is)
-        c.op-chain.ensures.op in
+    c.op-chain.ensures.op in
     let of = of_chain p f c.args.op o at in
     let there = chain_exists p f c.args.op o at in
     let chains = t.timelines.count in
@@ -113,7 +113,7 @@ invariant_of-self c =
     let place = here p f c.args.op o at in
     let made = t.points in
     let may = subst (MayTake l o.index) (sym made) (may_take p f w keeps o.chain l is kept o.index c.args.op place
-        g.without) in
+    g.without) in
     let q = free_point_below a k c.args.op c.args.point g in
     let below = keeps.points.few in
     let count = points_few a k in
@@ -121,9 +121,9 @@ invariant_of-self c =
     let slot = subst (IsSlot w.carried w.waiting w.held c.args.point) (sym slot_is) (t.slots.each c.args.point) in
     let point_exists : c.args.point < length p.ops = (let n = t.slots.count in omega arith) in
     let same = timeline_read a.timelines.items o.chain c.index_mut-timeline.result.now (omega arith)
-        c.index_mut-timeline.ensures.value in
+    c.index_mut-timeline.ensures.value in
     let after : c.take.new.self ≡ after_take l o.index w.points = c.take.ensures.after
-        ∙ (λ i. after_take (same i) o.index (made i)) in
+    ∙ (λ i. after_take (same i) o.index (made i)) in
     core_next a k x g _ refl c.push_reserved.ensures.items (let e = c.push_reserved.ensures.capacity in omega arith)
     (record {
       submitted = t.submitted;
@@ -133,12 +133,12 @@ invariant_of-self c =
       slots = subst (ArePoints (length p.ops) (put w.carried c.args.point (Some c.args.op)) w.waiting w.held) (sym
           c.put.ensures)
           (slot_taken (length p.ops) w.carried w.waiting w.held a.slots t.slots c.args.point point_exists
-              c.at-slot.result slot c.args.op);
+          c.at-slot.result slot c.args.op);
       payloads = t.payloads;
       timelines = timelines_next p w (after_event p w x) a.timelines.items o.chain c.take.new.self t.timelines (omega
           arith)
           (subst (IsTimelineOf p (after_event p w x) o.chain) (sym after) (reused_take p f w keeps o.chain l is kept
-              o.index c.args.op place c.args.point g of)) c.take.ensures.kept
+          o.index c.args.op place c.args.point g of)) c.take.ensures.kept
           (λ s d m km im. other_take p f w keeps s m im km o.chain c.args.op c.args.point false g of d);
       lanes = t.lanes;
       notes = t.notes;

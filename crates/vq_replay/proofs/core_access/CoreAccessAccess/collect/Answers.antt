@@ -18,7 +18,7 @@ invariant_of-self c =
     let v = c.apply.new.self in
     let event = c.in-Some.event in
     let turn = turns_collect d c.keeps.ensures x.actor (place_at x.seat) x.stands c.requires.task c.requires.is_next
-        c.args.chain event (sym c.collected.ensures ∙ c.in-Some.is) in
+    c.args.chain event (sym c.collected.ensures ∙ c.in-Some.is) in
     record {
       small = small_after d v event c.apply.ensures x.actor x.small;
       batches = batches_after d v event c.apply.ensures x.actor x.batches;

@@ -29,9 +29,9 @@ returns-in-Past c =
     let r = recent_of x.last in
     let past = c.found-found.ensures ∙ ap Some c.in-Past.is in
     let on = goes_past d c.keeps.ensures x.actor x.seat x.stands r l c.args.need c.args.chain c.args.value x.batches
-        c.requires past in
+    c.requires past in
     let y = place_with (x.seat.done + 1) x.seat.awaiting in
     subst (λ (f : Found). AnswersFind (meaning_of l d x.actor (place_at x.seat) r) (meaning_of l d x.actor y Other)
-        c.args.need c.args.chain c.args.value (shown_by d) f) (sym c.in-Past.is)
+    c.args.need c.args.chain c.args.value (shown_by d) f) (sym c.in-Past.is)
     (finds l d x.actor (place_at x.seat) r y c.args.need c.args.chain c.args.value Past past on.0 (λ e yet. absurd
-        (cc)))
+    (cc)))

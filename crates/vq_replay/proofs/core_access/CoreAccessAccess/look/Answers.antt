@@ -20,7 +20,7 @@ apply-requires c =
     let x = c.args.self.now in
     let d = x.core.now in
     let l = looks_at d c.keeps.ensures x.actor x.seat x.stands (recent_of x.last) (x.core.ghost_name ∷ [])
-        c.args.actor c.args.point c.args.op x.batches c.requires (sym c.if-not-is_signaled.ensures) in
+    c.args.actor c.args.point c.args.op x.batches c.requires (sym c.if-not-is_signaled.ensures) in
     subst (λ (b : ActorName). CanCome d.plan (world d) (Look b c.args.point c.args.op)) (sym c.requires.actor) l.1.0
 
 pub invariant_of-self-2 : goal.invariant_of-self-2
@@ -31,9 +31,9 @@ invariant_of-self-2 c =
     let event = Look c.args.actor c.args.point c.args.op in
     let y = place_with x.seat.done (Met c.args.point c.args.op) in
     let l = looks_at d c.keeps.ensures x.actor x.seat x.stands (recent_of x.last) (x.core.ghost_name ∷ [])
-        c.args.actor c.args.point c.args.op x.batches c.requires (sym c.if-not-is_signaled.ensures) in
+    c.args.actor c.args.point c.args.op x.batches c.requires (sym c.if-not-is_signaled.ensures) in
     let turn = subst (λ (b : ActorName). IsTrueTurn d.plan (world d) x.actor (Moved (Look b c.args.point c.args.op))
-        y) (sym c.requires.actor) l.1 in
+    y) (sym c.requires.actor) l.1 in
     record {
       small = small_after d v event c.apply.ensures x.actor x.small;
       batches = batches_after d v event c.apply.ensures x.actor x.batches;
@@ -46,8 +46,8 @@ returns-clause-answer c =
     let d = x.core.now in
     let event = Look c.args.actor c.args.point c.args.op in
     let l = looks_at d c.keeps.ensures x.actor x.seat x.stands (recent_of x.last) (x.core.ghost_name ∷ [])
-        c.args.actor c.args.point c.args.op x.batches c.requires (sym c.if-not-is_signaled.ensures) in
+    c.args.actor c.args.point c.args.op x.batches c.requires (sym c.if-not-is_signaled.ensures) in
     made (x.core.ghost_name ∷ []) d x.actor (place_at x.seat) (recent_of x.last) c.apply.new.self (place_with
-        x.seat.done (Met c.args.point c.args.op)) (looked_at (place_at x.seat))
+    x.seat.done (Met c.args.point c.args.op)) (looked_at (place_at x.seat))
     (λ w. signaled_or w event c.args.op) (Is event) event c.apply.ensures (sym l.0) (signaled_ok (world d) event
-        c.args.op c.if-not-is_signaled.ensures) refl
+    c.args.op c.if-not-is_signaled.ensures) refl

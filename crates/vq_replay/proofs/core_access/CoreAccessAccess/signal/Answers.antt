@@ -29,7 +29,7 @@ invariant_of-self-2 c =
     let v = c.apply.new.self in
     let event = Signal c.args.op in
     let turn = turns_signal d c.keeps.ensures x.actor (place_at x.seat) x.stands c.args.op (sym
-        c.if-not-is_bound.ensures) c.requires in
+    c.if-not-is_bound.ensures) c.requires in
     record {
       small = small_after d v event c.apply.ensures x.actor x.small;
       batches = batches_after d v event c.apply.ensures x.actor x.batches;

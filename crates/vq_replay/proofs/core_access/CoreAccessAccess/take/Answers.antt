@@ -22,7 +22,7 @@ taken-event-requires c =
     let d = x.core.now in
     subst (λ (t : ℕ). chain_of d.plan c.args.op ≡ Some t) (sym c.emptied_chain.ensures)
     (take_chain d.plan (orderly d c.keeps.ensures x.actor (place_at x.seat) x.stands) x.actor (place_at x.seat).done
-        c.args.op (emptied (recent_of x.last)) c.requires.is_next)
+    c.args.op (emptied (recent_of x.last)) c.requires.is_next)
 
 pub apply-requires : goal.apply-requires
 apply-requires c =
@@ -30,14 +30,14 @@ apply-requires c =
     let d = x.core.now in
     let is = c.taken-event.ensures ∙ ap (taken (world d) c.args.op) c.emptied_chain.ensures in
     let turn = turns_take d c.keeps.ensures x.actor (place_at x.seat) x.stands c.args.op (emptied (recent_of x.last))
-        c.requires.is_next in
+    c.requires.is_next in
     subst (λ (e : Event). CanCome d.plan (world d) e) (sym is) turn.0
 
 pub overflow_add-self : goal.overflow_add-self
 overflow_add-self c =
     let x = c.args.self.now in
     let r = room (program x.core.now.plan x.actor) x.seat (Next c.args.op (emptied (recent_of x.last)))
-        c.requires.is_next x.small in
+    c.requires.is_next x.small in
     omega arith
 
 pub invariant_of-self : goal.invariant_of-self
@@ -49,7 +49,7 @@ invariant_of-self c =
     let event = c.taken-event.result in
     let is = c.taken-event.ensures ∙ ap (taken (world d) c.args.op) c.emptied_chain.ensures in
     let turn = turns_take d c.keeps.ensures x.actor p x.stands c.args.op (emptied (recent_of x.last))
-        c.requires.is_next in
+    c.requires.is_next in
     record {
       small = small_after d v event c.apply.ensures x.actor x.small;
       batches = batches_after d v event c.apply.ensures x.actor x.batches;

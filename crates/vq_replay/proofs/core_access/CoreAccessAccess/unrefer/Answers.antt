@@ -22,7 +22,7 @@ apply-requires c =
     let x = c.args.self.now in
     let d = x.core.now in
     let l = gives_up d c.keeps.ensures x.actor x.seat x.stands (recent_of x.last) (x.core.ghost_name ∷ [])
-        c.args.actor c.args.point c.args.op c.requires in
+    c.args.actor c.args.point c.args.op c.requires in
     subst (λ (b : ActorName). CanCome d.plan (world d) (Unref b c.args.point c.args.op)) (sym c.requires.actor) l.1.0
 
 pub invariant_of-self : goal.invariant_of-self
@@ -33,9 +33,9 @@ invariant_of-self c =
     let event = Unref c.args.actor c.args.point c.args.op in
     let y = place_with (x.seat.done + 1) (Nothing) in
     let l = gives_up d c.keeps.ensures x.actor x.seat x.stands (recent_of x.last) (x.core.ghost_name ∷ [])
-        c.args.actor c.args.point c.args.op c.requires in
+    c.args.actor c.args.point c.args.op c.requires in
     let turn = subst (λ (b : ActorName). IsTrueTurn d.plan (world d) x.actor (Moved (Unref b c.args.point c.args.op))
-        y) (sym c.requires.actor) l.1 in
+    y) (sym c.requires.actor) l.1 in
     record {
       small = small_after d v event c.apply.ensures x.actor x.small;
       batches = batches_after d v event c.apply.ensures x.actor x.batches;
@@ -54,7 +54,7 @@ returns-clause-answer c =
     let d = x.core.now in
     let event = Unref c.args.actor c.args.point c.args.op in
     let l = gives_up d c.keeps.ensures x.actor x.seat x.stands (recent_of x.last) (x.core.ghost_name ∷ [])
-        c.args.actor c.args.point c.args.op c.requires in
+    c.args.actor c.args.point c.args.op c.requires in
     made (x.core.ghost_name ∷ []) d x.actor (place_at x.seat) (recent_of x.last) c.apply.new.self (place_with
-        (x.seat.done + 1) (Nothing)) (given_back (place_at x.seat) (place_at x.seat).holding)
+    (x.seat.done + 1) (Nothing)) (given_back (place_at x.seat) (place_at x.seat).holding)
     (λ w. Ok event) (Is event) event c.apply.ensures (sym l.0) refl refl

@@ -9,8 +9,8 @@ turn-requires c =
     let a = c.self.inside in
     let d = a.core in
     let within : c.args.queue < length a.rings.items = within_queues c.args.queue (length a.rings.items) (length
-        c.args.self.now.course.plan.script.queues) c.requires (c.self.invariant.ring_count
-        ∙ ap (λ (z : Cast). length z.course.plan.script.queues) c.self.view_is) in
+    c.args.self.now.course.plan.script.queues) c.requires (c.self.invariant.ring_count
+    ∙ ap (λ (z : Cast). length z.course.plan.script.queues) c.self.view_is) in
     subst (IsCast d) (at_any a.rings.items c.args.queue c.index_mut.result.now c.index_mut.ensures.value within)
     (ring_cast d c.keeps.ensures a.host a.submits.items a.rings.items c.self.invariant c.args.queue within)
 
@@ -20,9 +20,9 @@ invariant_of-self c =
     let d = a.core in
     let e = c.turn.new.core in
     let within : c.args.queue < length a.rings.items = within_queues c.args.queue (length a.rings.items) (length
-        c.args.self.now.course.plan.script.queues) c.requires (c.self.invariant.ring_count
-        ∙ ap (λ (z : Cast). length z.course.plan.script.queues) c.self.view_is) in
+    c.args.self.now.course.plan.script.queues) c.requires (c.self.invariant.ring_count
+    ∙ ap (λ (z : Cast). length z.course.plan.script.queues) c.self.view_is) in
     let at = at_any a.rings.items c.args.queue c.index_mut.result.now c.index_mut.ensures.value within in
     (ring_played d c.keeps.ensures a.host a.submits.items a.rings.items c.self.invariant e c.turn.result c.args.queue
-        within c.turn.new.self
+    within c.turn.new.self
     (subst (λ (x : Acting). TookTurn d e x c.turn.new.self c.turn.result) (sym at) c.turn.ensures)).0
