@@ -2,6 +2,10 @@ mod Batches
 mod Beyond
 mod CoreAnswers
 mod Hostless
+mod Openings
+mod QueueCounts
+mod Scenes
+mod Schedules
 mod Serving
 mod Troupes
 mod Waiting

@@ -106,7 +106,7 @@ module _ (c d : Course) (i : IsCourse c) (places : ActorName →
       (subst (λ (t : Turned). AreTrueFor c.plan (world_after c.plan (world c) t.outcome) (with_place places a
       t.place)) (sym turned) truly))
 
-same_places : (f g : ActorName → Place) → ((a : ActorName) → f a ≡ g a) → f ≡ g
+pub same_places : (f g : ActorName → Place) → ((a : ActorName) → f a ≡ g a) → f ≡ g
 same_places f g h = λ i a. h a i
 
 -- The host

@@ -2,9 +2,11 @@
 //! came to.
 #![tactic(auto)]
 
+mod actors;
 mod core_access;
 mod looks;
 mod played;
+mod schedule;
 mod seat;
 mod seated;
 mod trace;
@@ -12,4 +14,5 @@ mod troupe;
 mod words;
 
 pub use played::Played;
+pub use schedule::{Replayed, replay};
 pub use trace::push_turns;

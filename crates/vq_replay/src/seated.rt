@@ -1,5 +1,6 @@
 //! An actor with the place that an access over a core keeps for it.
 ghost use Rattle.std.specs.Prelude.{◌≡◌, length};
+ghost use Rattle.vq_turns.specs.Turns.{first_place};
 ghost use Rattle.vq_actor.specs.Actors.{Acting, IsServed, IsTurn};
 ghost use Rattle.vq_replay.specs.Casts.{IsCast, TookTurn};
 
@@ -83,6 +84,19 @@ impl<T: TakesTurns> Model for Seated<T> {
 }
 
 impl<T: TakesTurns> Seated<T> {
+    /// An actor before its first turn.
+    pub(crate) fn at_first(name: ActorName, actor: T) -> Seated<T>
+        requires name { (T.acting actor).name ≡ name }
+        requires place { (T.acting actor).place ≡ first_place }
+        ensures { result ≡ T.acting actor }
+    {
+        let seat = Seat {
+            done: 0,
+            awaiting: Awaiting::Nothing,
+        };
+        Seated { name, actor, seat }
+    }
+
     /// One turn over a core.
     pub(crate) fn turn(&mut self, core: &mut Core) -> Outcome
         requires { IsCast core.old self.old }

@@ -1,16 +1,19 @@
 //! All actors of a plan over one core.
-ghost use Rattle.std.specs.Prelude.{◌≡◌, ◌<◌, length, false};
-ghost use Rattle.vq_model.specs.ValidScripts.{is_immediate_queue};
+ghost use Rattle.std.specs.Prelude.{◌≡◌, ◌<◌, ◌≤◌, [], IfOk, length, false};
+ghost use Rattle.vq_model.specs.ValidScripts.{IsActor, is_immediate_queue};
 ghost use Rattle.vq_model.specs.declared.script.ActorName.{ActorName as Name};
 ghost use Rattle.vq_turns.specs.Programs.{is_deferred_queue};
-ghost use Rattle.vq_replay.specs.Casts.{PlayedOne};
+ghost use Rattle.vq_replay.specs.Casts.{HostPlayed, IsStill, PlayedOne, Plays, first_places, places};
 
+use crate::actors::{host_actor, ring_actors, submit_actors};
 use crate::looks::keeps;
 use crate::seated::Seated;
+use std::alloc::{AllocError, Global};
 use std::marker::Model;
 use vq_actor::{HostActor, RingActor, SubmitActor};
 use vq_core::Core;
-use vq_model::script::Mode;
+use vq_model::script::{ActorName, Mode};
+use vq_order::Ordered;
 use vq_turns::outcome::Outcome;
 
 /// A core with the host, and the submit actor and the ring of each queue.
@@ -33,6 +36,25 @@ impl Model for Troupe {
 }
 
 impl Troupe {
+    /// All actors before their first turns, over a core without events. It takes the memory for all turns; the
+    /// error is that there is none.
+    pub(crate) fn new(alloc: Global, ordered: Ordered) -> Result<Troupe, AllocError>
+        ensures course { IfOk result (λ x. x.course ≡ record { plan = ordered; history = [] }) }
+        ensures first { IfOk result (λ x. places x ≡ first_places) }
+    {
+        let host = host_actor(alloc, &ordered)?;
+        let submits = submit_actors(alloc, &ordered)?;
+        let rings = ring_actors(alloc, &ordered)?;
+        let core = Core::new(alloc, ordered)?;
+        keeps(&core);
+        Ok(Troupe {
+            core,
+            host,
+            submits,
+            rings,
+        })
+    }
+
     /// A turn of the host over its own program.
     fn host_turn(&mut self) -> Outcome
         ensures { PlayedOne self.old self.new Name.Host result }
@@ -67,5 +89,48 @@ impl Troupe {
     {
         let queues = self.core.ordered().plan().script().queues.as_slice();
         queues[queue as usize].mode == Mode::Deferred
+    }
+
+    /// A turn of the host from a queue on: deferred queues come first, in order, and then its own program,
+    /// at whose end the host is blocked as the last deferred queue is.
+    fn host_from(&mut self, queue: u32, last: Outcome) -> Outcome
+        requires within { queue ≤ length self.old.course.plan.script.queues }
+        requires still { IsStill last }
+        ensures { HostPlayed self.old self.new queue last result }
+    {
+        keeps(&self.core);
+        if queue as usize == self.submits.as_slice().len() {
+            return match self.host_turn() {
+                Outcome::Ended => last,
+                other => other,
+            };
+        }
+        if !self.is_deferred(queue) {
+            return self.host_from(queue + 1, last);
+        }
+        match self.submit_turn(queue) {
+            Outcome::Moved(event) => Outcome::Moved(event),
+            Outcome::Blocked(want) => self.host_from(queue + 1, Outcome::Blocked(want)),
+            Outcome::Ended => self.host_from(queue + 1, last),
+        }
+    }
+
+    /// A turn of an actor.
+    pub(crate) fn play(&mut self, actor: ActorName) -> Outcome
+        requires { IsActor self.old.course.plan.script actor }
+        ensures { Plays self.old self.new actor result }
+    {
+        match actor {
+            ActorName::Host => self.host_from(0, Outcome::Ended),
+            ActorName::Submit(queue) => self.submit_turn(queue),
+            ActorName::Ring(queue) => self.ring_turn(queue),
+        }
+    }
+
+    /// The core after the turns.
+    pub(crate) fn into_core(self) -> Core
+        ensures { result ≡ self.course }
+    {
+        self.core
     }
 }

@@ -1,0 +1,46 @@
+//! A schedule, turn by turn.
+ghost use Rattle.std.specs.Prelude.{◌≡◌, ◌<◌, ◌^◌, All, IfOk, length};
+ghost use Rattle.vq_model.specs.ValidScripts.{IsActor};
+ghost use Rattle.vq_replay.specs.Traces.{events_of, played_turns};
+
+use crate::played::Played;
+use crate::troupe::Troupe;
+use std::alloc::{AllocError, Global};
+use vq_core::Core;
+use vq_model::script::Turn;
+use vq_order::Ordered;
+
+/// What a schedule came to: its turns, and the core after them.
+///
+/// Source: this project's rule.
+#[derive(Drop)]
+pub struct Replayed {
+    pub played: Vec<Played>,
+    pub core: Core,
+}
+
+/// Plays the turns of a schedule, in order and numbered from 1, over a new core. The error is that there is no
+/// memory.
+///
+/// Source: this project's rule.
+pub fn replay(alloc: Global, ordered: Ordered, turns: &[Turn]) -> Result<Replayed, AllocError>
+    requires few { length turns.now < 2 ^ 32 }
+    requires actors { All (λ t. IsActor ordered.script t.actor) turns.now }
+    ensures played { IfOk result (λ r. r.played.items ≡ played_turns ordered turns.now) }
+    ensures core { IfOk result (λ r. r.core
+        ≡ record { plan = ordered; history = events_of (played_turns ordered turns.now) }) }
+{
+    let mut troupe = Troupe::new(alloc, ordered)?;
+    let mut played = Vec::new(alloc);
+    for turn in 0..turns.len() {
+        let actor = turns[turn].actor;
+        let outcome = troupe.play(actor);
+        played.push(Played {
+            number: turn as u32 + 1,
+            actor,
+            outcome,
+        })?;
+    }
+    let core = troupe.into_core();
+    Ok(Replayed { played, core })
+}
