@@ -2,6 +2,8 @@
 ghost use Rattle.std.specs.Prelude.{◌≡◌, ◌<◌, ◌≤◌, ◌==◌, ◌↔◌, [], IsTrue, IfSome, IfOk, Some, length};
 ghost use Rattle.std.specs.List.{slice_get, list_any};
 ghost use Rattle.vq_model.specs.Machine.{Run, AreFinished};
+ghost use Rattle.vq_model.specs.Memory.{HasSizes};
+ghost use Rattle.vq_model.specs.ValidScripts.{sizes_of};
 ghost use Rattle.vq_model.specs.SlowRun.{bytes_after, final};
 ghost use Rattle.vq_points.specs.HistoryLaws.{PointLaw, PendingLaw};
 ghost use Rattle.vq_points.specs.Points.{HistoryFrom, opening_points, steps_of, next_job};
@@ -294,6 +296,7 @@ impl Core {
     pub fn buffers(&self) -> &Buffers
         ensures bytes { result.now ≡ bytes_after self.now.plan (world self.now).machine.progress.applied }
         ensures ends { AreFinished self.now.plan (world self.now).machine.progress → result.now ≡ final self.now.plan }
+        ensures sizes { HasSizes (sizes_of self.now.plan.script) result.now }
     {
         &self.buffers
     }

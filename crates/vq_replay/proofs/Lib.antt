@@ -7,5 +7,6 @@ mod QueueCounts
 mod Scenes
 mod Schedules
 mod Serving
+mod TraceEnds
 mod Troupes
 mod Waiting

@@ -1,8 +1,8 @@
 -- The text of played turns. The format is this project's own.
-use Rattle.std.specs.Prelude.{ℕ, Bool, List, [], ◌∷◌, ◌+◌, ◌++◌, codes, length, map, filter, not, if◌then◌else◌}
+use Rattle.std.specs.Prelude.{ℕ, Bool, List, [], ◌∷◌, ◌+◌, ◌++◌, codes, map, if◌then◌else◌}
 use Rattle.std.specs.Prelude.{Option, Some, None, zero}
 use Rattle.std.specs.Fmt.{decimal}
-use Rattle.std.specs.List.{slice_get, flat_map, filter_map, range_with_len}
+use Rattle.std.specs.List.{slice_get, flat_map, filter_map}
 use Rattle.std.specs.Option.{option_map_or}
 use Rattle.vq_model.specs.declared.script.ActorName.{ActorName}
 use Rattle.vq_model.specs.declared.script.Turn.{Turn}
@@ -15,6 +15,7 @@ use Rattle.vq_model.specs.SlowRun.{bytes_after}
 use Rattle.vq_model.specs.OutputText.{answer_words, answers_of, buffers_text, line_feed}
 use Rattle.vq_model.specs.Canonical.{actor_word, semaphore_name, line_text}
 use Rattle.vq_points.specs.Points.{opening_points}
+use Rattle.vq_core.specs.Tables.{jobs_left}
 use Rattle.vq_turns.specs.declared.outcome.Outcome.{Outcome}
 use Rattle.vq_turns.specs.declared.outcome.Outcome.TheVariants.{Moved, Blocked, Ended}
 use Rattle.vq_turns.specs.Turns.{first_scene, played_from}
@@ -87,10 +88,6 @@ outcome_words p Ended = codes "." ∷ []
 abbrev pub turn_line : Plan → Played → List ℕ
 turn_line p x = line_text (decimal x.number ∷ actor_word p.script x.actor ∷ outcome_words p x.outcome)
 
--- how many jobs aren't finished
-abbrev pub jobs_left : Plan → State → ℕ
-jobs_left p s = length (filter (λ j. not (s.progress.finished j)) (range_with_len 0 (length p.jobs)))
-
 -- the answers and the buffers of a state in which all jobs are finished
 abbrev pub finished_text : Plan → State → List ℕ
 finished_text p s =
@@ -104,4 +101,4 @@ end_text p s left = codes "unfinished " ++ decimal left ++ line_feed
 
 -- the text of played turns that led to a state
 abbrev pub trace_text : Plan → List Played → State → List ℕ
-trace_text p played s = flat_map (turn_line p) played ++ end_text p s (jobs_left p s)
+trace_text p played s = flat_map (turn_line p) played ++ end_text p s (jobs_left p s.progress.finished)

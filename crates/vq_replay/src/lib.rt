@@ -9,10 +9,12 @@ mod played;
 mod schedule;
 mod seat;
 mod seated;
+mod text;
 mod trace;
 mod troupe;
 mod words;
 
 pub use played::Played;
 pub use schedule::{Replayed, replay};
+pub use text::trace_text;
 pub use trace::push_turns;

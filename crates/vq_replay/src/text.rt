@@ -1,0 +1,55 @@
+//! The text of a schedule that was played.
+ghost use Rattle.std.specs.Prelude.{◌≡◌, ◌++◌, codes, IfOk, OnOk};
+ghost use Rattle.std.specs.Fmt.{decimal};
+ghost use Rattle.vq_model.specs.OutputText.{line_feed};
+ghost use Rattle.vq_core.specs.CoreState.{world};
+ghost use Rattle.vq_replay.specs.Traces.{finished_text, trace_text};
+
+use crate::looks::keeps;
+use crate::schedule::Replayed;
+use crate::trace::push_turns;
+use std::alloc::{AllocError, Global};
+use vq_core::Core;
+use vq_spec::buffers_text;
+
+/// Adds the end of a trace that leaves so many jobs.
+fn push_unfinished(alloc: Global, out: &mut Vec<u8>, left: u32) -> Result<(), AllocError>
+    ensures { OnOk result (out.new.items ≡ out.old.items ++ (codes "unfinished " ++ decimal left ++ line_feed)) }
+{
+    out.extend_from_slice(b"unfinished ")?;
+    out.extend_from_slice(left.to_string(alloc)?.as_bytes())?;
+    out.push(b'\n')?;
+    Ok(())
+}
+
+/// Adds the end of a trace that leaves no job: the buffers. Nothing is answered, as scripts have no host steps.
+fn push_finished(alloc: Global, out: &mut Vec<u8>, core: &Core) -> Result<(), AllocError>
+    ensures { OnOk result (out.new.items
+        ≡ out.old.items ++ finished_text core.now.plan (world core.now).machine) }
+{
+    keeps(core);
+    out.extend_from_slice(b"finished\n")?;
+    let buffers = buffers_text(alloc, core.ordered().plan(), core.buffers())?;
+    out.extend_from_slice(buffers.as_slice())?;
+    Ok(())
+}
+
+/// The text of a schedule that was played: a line for each turn, and then what it leaves: the buffers, or how
+/// many jobs aren't finished. The error is want of memory.
+///
+/// Source: this project's rule.
+pub fn trace_text(alloc: Global, replayed: &Replayed) -> Result<Vec<u8>, AllocError>
+    ensures { IfOk result (λ text. text.items ≡ trace_text replayed.now.core.plan
+        replayed.now.played.items (world replayed.now.core).machine) }
+{
+    let mut text = Vec::new(alloc);
+    let plan = replayed.core.ordered().plan();
+    push_turns(alloc, &mut text, plan, replayed.played.as_slice())?;
+    let left = replayed.core.left();
+    if left == 0 {
+        push_finished(alloc, &mut text, &replayed.core)?;
+    } else {
+        push_unfinished(alloc, &mut text, left)?;
+    }
+    Ok(text)
+}
