@@ -1,7 +1,7 @@
 -- What a run leaves in the sink, from the outcome of its input and from what writing it left.
-use Rattle.std.proofs.Common.{◌≡◌, ℕ, ◌<◌, ◌≤◌, true, List, length, Option, Some, None, IfSome, refl, subst, sym, arith}
+use Rattle.std.proofs.Common.{◌≡◌, ℕ, ◌<◌, ◌≤◌, List, length, Option, Some, None, IfSome, refl, subst, sym, arith, ap, ◌∙◌}
 use Rattle.std.specs.Prelude.{Ok, Err, OnSome, []}
-use Rattle.vq_model.specs.declared.statement.Form.TheVariants.{Plain}
+use Rattle.std.proofs.lemmas.List.Elements.{All-nil}
 use Rattle.vq_model.specs.declared.script.Script.{Script}
 use Rattle.vq_model.specs.declared.plan.PlanFault.{PlanFault}
 use Rattle.vq_model.specs.declared.plan.PlanFault.TheVariants.{NoSignal, SignaledTwice, FenceUsed, Memory as NoMemoryToLower}
@@ -14,14 +14,21 @@ use Rattle.vq_model.specs.LoweringFaults.{lowering_fault, IsFirstLoweringFault, 
 use Rattle.vq_model.specs.Plan.{Plan}
 use Rattle.vq_model.specs.Outputs.{IsOutput}
 use Rattle.vq_model.specs.Checks.{IsLawful, IsFirstPlanFault, Checks}
-use Rattle.vq_plan_laws.proofs.Cited.{hostless_output}
-use Rattle.vq_model.specs.Refusals.{too_long, line_refusal}
+use Rattle.vq_model.specs.declared.statement.Form.TheVariants.{Plain, Scheduled}
+use Rattle.vq_model.specs.declared.script.Turn.{Turn}
+use Rattle.vq_model.specs.SameScript.{IsRead}
+use Rattle.vq_model.specs.ValidScripts.{IsActor}
+use Rattle.vq_reading_laws.proofs.Cited.{read_turns}
+use Rattle.vq_main.specs.Tasks.{form_of, planned, turns_for}
+use Rattle.vq_plan_laws.proofs.Cited.{hostless_output, kept_read, moved_read}
+use Rattle.vq_model.specs.Refusals.{too_long, line_refusal, plan_refusal, order_refusal}
 use Rattle.vq_order_laws.proofs.Cited.{lawful_without_fault}
 use Rattle.vq_main.specs.declared.task.Task.{Task}
-use Rattle.vq_main.specs.declared.task.Task.TheVariants.{Run, Check}
+use Rattle.vq_main.specs.declared.task.Task.TheVariants.{Run, Check, Replay}
 use Rattle.vq_main.specs.declared.status.Status.{Status}
 use Rattle.vq_main.specs.declared.status.Status.TheVariants.{Done, BadWords, Refused, ReadFault, WriteFault, Memory}
 use Rattle.vq_main.specs.Outcomes.{IsOutcome, is_too_long, has_faulty_line, has_no_plan, is_unlawful, gives_answer, Ends, AnswersTask, TaskText, RefusesPlan, RefusesOrder, ReadsToEnd, IsLawfulInput, IsDoneOrMemory, input_limit}
+use Rattle.vq_main.specs.Outcomes.{IsReadFor, ArePlayable, IsTrace}
 use Rattle.vq_main.specs.Writes.{SinkMoment, WroteAll, Writes, wrote_all, wrote_part}
 
 -- a whole outcome was written
@@ -78,23 +85,24 @@ no_lowering_fault script (FenceUsed n) none some = cc
 no_lowering_fault script NoMemoryToLower none some = some
 
 -- a lawful input is not refused
-not_refused : (task : Task) (input text : List ℕ) → IsLawfulInput input → IsOutcome task input Refused text → ⊥
+not_refused : (task : Task) (input text : List ℕ) → IsLawfulInput task input → IsOutcome task input Refused text → ⊥
 not_refused task input text l (is_too_long long) = let short = l.short in omega arith
 not_refused task input text l (has_faulty_line n kind short fault) = let stands = l.stands in cc
 not_refused task input text l (has_no_plan script fault short stands refused) =
     let other = l.stands in
     let same : l.script ≡ script = cc in
-    no_lowering_fault script fault (subst (λ s. lowering_fault s ≡ None) same l.lowers) refused
+    no_lowering_fault (planned task script) fault
+    (subst (λ s. lowering_fault (planned task s) ≡ None) same l.lowers) refused
 not_refused task input text l (is_unlawful script fault short stands lowers refused) =
     let other = l.stands in
     let same : l.script ≡ script = cc in
-    lawful_without_fault (plan_of script) fault
-    (subst (λ s. IsLawful (plan_of s)) same l.lawful) refused
+    lawful_without_fault (plan_of (planned task script)) fault
+    (subst (λ s. IsLawful (plan_of (planned task s))) same l.lawful) refused
 
 -- a lawful input is run, unless the source or the sink fails
 pub lawful_ends : (task : Task) (input : List ℕ) (result : Status) (before now : SinkMoment) →
     Ends task input result before now → (result ≡ ReadFault → ⊥) → (result ≡ WriteFault → ⊥) →
-    IsLawfulInput input → IsDoneOrMemory result
+    IsLawfulInput task input → IsDoneOrMemory result
 lawful_ends task input Done before now e r w l = tt
 lawful_ends task input Memory before now e r w l = tt
 lawful_ends task input BadWords before now e r w l = e
@@ -102,63 +110,93 @@ lawful_ends task input ReadFault before now e r w l = r refl
 lawful_ends task input WriteFault before now e r w l = w refl
 lawful_ends task input Refused before now e r w l = not_refused task input e.0 l e.1
 
--- a script was refused for a fault of its lowering
-pub refused_outcome : (task : Task) (input : List ℕ) (script : Script) (fault : PlanFault) (text : List ℕ) → length input ≤ input_limit →
-    StandsFor input Plain script → Lowers script (Err fault) → RefusesPlan fault text → IsOutcome task input Refused text
-refused_outcome task input script (NoSignal n) text short stands l r =
-    subst (λ t. IsOutcome task input Refused t) (sym r) (has_no_plan script (NoSignal n) short stands l)
-refused_outcome task input script (SignaledTwice n) text short stands l r =
-    subst (λ t. IsOutcome task input Refused t) (sym r) (has_no_plan script (SignaledTwice n) short stands l)
-refused_outcome task input script (FenceUsed n) text short stands l r =
-    subst (λ t. IsOutcome task input Refused t) (sym r) (has_no_plan script (FenceUsed n) short stands l)
-refused_outcome task input script NoMemoryToLower text short stands l r = absurd r
+-- What was read for a task
+
+module _ (task : Task) (input : List ℕ) (s : Script) (turns : List Turn) (r : IsReadFor task input s turns) where
+  pub read_for : IsRead s
+  read_for = subst IsRead (sym r.made) (by_task task r.stands)
+    where
+      by_task : (t : Task) → StandsFor input (form_of t) r.script → IsRead (planned t r.script)
+      by_task Run h = kept_read input Plain r.script h
+      by_task Check h = kept_read input Plain r.script h
+      by_task Replay h = moved_read input Scheduled r.script h
+
+  pub playable : ArePlayable s turns
+  playable =
+      subst (λ z. ArePlayable z turns) (sym r.made)
+      (subst (ArePlayable (planned task r.script)) (sym r.moved) (by_task task r.stands))
+    where
+      by_task : (t : Task) → StandsFor input (form_of t) r.script →
+          ArePlayable (planned t r.script) (turns_for t r.script)
+      by_task Run h = record { few = omega arith; actors = All-nil (λ t. IsActor r.script t.actor) }
+      by_task Check h = record { few = omega arith; actors = All-nil (λ t. IsActor r.script t.actor) }
+      by_task Replay h =
+          let valid = read_turns r.script (kept_read input Scheduled r.script h) in
+          let few = valid.few in
+          record { few = omega arith; actors = valid.actors }
+
+  -- the script was refused for a fault of its lowering
+  refused : (fault : PlanFault) (text : List ℕ) → length input ≤ input_limit →
+      IsFirstLoweringFault s fault → text ≡ plan_refusal fault → IsOutcome task input Refused text
+  refused fault text short f is =
+      subst (λ t. IsOutcome task input Refused t) (sym is)
+      (has_no_plan r.script fault short r.stands (subst (λ z. IsFirstLoweringFault z fault) r.made f))
+
+  pub refused_outcome : (fault : PlanFault) (text : List ℕ) → length input ≤ input_limit →
+      Lowers s (Err fault) → RefusesPlan fault text → IsOutcome task input Refused text
+  refused_outcome (NoSignal n) text short l is = refused (NoSignal n) text short l is
+  refused_outcome (SignaledTwice n) text short l is = refused (SignaledTwice n) text short l is
+  refused_outcome (FenceUsed n) text short l is = refused (FenceUsed n) text short l is
+  refused_outcome NoMemoryToLower text short l is = absurd is
 
 -- what is written for a task of a plan of batches answers it
-answers_task : (task : Task) (p : Plan) (text : List ℕ) → IsPlan p → TaskText task p text →
-    AnswersTask task p text
-answers_task Run p text i text_is = subst (IsOutput p) (sym text_is) (hostless_output p i)
-answers_task Check p text i text_is = text_is
+answers_task : (task : Task) (p : Plan) (script : Script) (turns : List Turn) (text : List ℕ) → IsPlan p →
+    turns ≡ turns_for task script → TaskText task p turns text → AnswersTask task p script.turns text
+answers_task Run p script turns text i same text_is = subst (IsOutput p) (sym text_is) (hostless_output p i)
+answers_task Check p script turns text i same text_is = text_is
+answers_task Replay p script turns text i same text_is = subst (λ ts. IsTrace p ts text) same text_is
 
--- a plan was checked, and its task done
-pub task_outcome : (task : Task) (input : List ℕ) (p : Plan) (text : List ℕ) →
-    length input ≤ input_limit → StandsFor input Plain p.script → Lowers p.script (Ok p) →
-    IsPlan p → IsLawful p → TaskText task p text → IsOutcome task input Done text
-task_outcome task input p text short stands l i lawful text_is =
-    gives_answer p.script text short stands l.0 (subst IsLawful l.1 lawful)
-    (subst (λ q. AnswersTask task q text) l.1 (answers_task task p text i text_is))
+-- What comes of a plan that was read for a task
 
--- a plan was refused for its first fault
-pub unlawful_outcome : (task : Task) (input : List ℕ) (p : Plan) (fault : OrderFault)
-    (text : List ℕ) → length input ≤ input_limit → StandsFor input Plain p.script →
-    Lowers p.script (Ok p) → Checks p (Err fault) → RefusesOrder fault text →
-    IsOutcome task input Refused text
-unlawful_outcome task input p (Unreachable n) text short stands l f r =
-    subst (λ t. IsOutcome task input Refused t) (sym r)
-    (is_unlawful p.script (Unreachable n) short stands l.0
-    (subst (λ q. IsFirstPlanFault q (Unreachable n)) l.1 f))
-unlawful_outcome task input p (Unordered a b) text short stands l f r =
-    subst (λ t. IsOutcome task input Refused t) (sym r)
-    (is_unlawful p.script (Unordered a b) short stands l.0
-    (subst (λ q. IsFirstPlanFault q (Unordered a b)) l.1 f))
-unlawful_outcome task input p (FenceBusy n) text short stands l f r =
-    subst (λ t. IsOutcome task input Refused t) (sym r)
-    (is_unlawful p.script (FenceBusy n) short stands l.0
-    (subst (λ q. IsFirstPlanFault q (FenceBusy n)) l.1 f))
-unlawful_outcome task input p (NotPending n) text short stands l f r =
-    subst (λ t. IsOutcome task input Refused t) (sym r)
-    (is_unlawful p.script (NotPending n) short stands l.0
-    (subst (λ q. IsFirstPlanFault q (NotPending n)) l.1 f))
-unlawful_outcome task input p (Race a b) text short stands l f r =
-    subst (λ t. IsOutcome task input Refused t) (sym r)
-    (is_unlawful p.script (Race a b) short stands l.0
-    (subst (λ q. IsFirstPlanFault q (Race a b)) l.1 f))
-unlawful_outcome task input p NoMemoryToCheck text short stands l f r = absurd r
+module _ (task : Task) (input : List ℕ) (p : Plan) (turns : List Turn) (short : length input ≤ input_limit)
+    (r : IsReadFor task input p.script turns) (l : Lowers p.script (Ok p)) where
+  pub plan_is : IsPlan p
+  plan_is = record { of_script = read_for task input p.script turns r; faultless = l.0; lowered = l.1 }
+
+  lowers : lowering_fault (planned task r.script) ≡ None
+  lowers = subst (λ z. lowering_fault z ≡ None) r.made l.0
+
+  same_plan : p ≡ plan_of (planned task r.script)
+  same_plan = l.1 ∙ ap plan_of r.made
+
+  -- it was checked, and its task done
+  pub task_outcome : (text : List ℕ) → IsLawful p → TaskText task p turns text → IsOutcome task input Done text
+  task_outcome text lawful is =
+      gives_answer r.script text short r.stands lowers (subst IsLawful same_plan lawful)
+      (subst (λ q. AnswersTask task q r.script.turns text) same_plan
+      (answers_task task p r.script turns text plan_is r.moved is))
+
+  -- it was refused for its first fault
+  unlawful : (fault : OrderFault) (text : List ℕ) → IsFirstPlanFault p fault → text ≡ order_refusal fault →
+      IsOutcome task input Refused text
+  unlawful fault text f is =
+      subst (λ t. IsOutcome task input Refused t) (sym is)
+      (is_unlawful r.script fault short r.stands lowers (subst (λ q. IsFirstPlanFault q fault) same_plan f))
+
+  pub unlawful_outcome : (fault : OrderFault) (text : List ℕ) → Checks p (Err fault) → RefusesOrder fault text →
+      IsOutcome task input Refused text
+  unlawful_outcome (Unreachable n) text f is = unlawful (Unreachable n) text f is
+  unlawful_outcome (Unordered a b) text f is = unlawful (Unordered a b) text f is
+  unlawful_outcome (FenceBusy n) text f is = unlawful (FenceBusy n) text f is
+  unlawful_outcome (NotPending n) text f is = unlawful (NotPending n) text f is
+  unlawful_outcome (Race a b) text f is = unlawful (Race a b) text f is
+  unlawful_outcome NoMemoryToCheck text f is = absurd is
 
 -- the plan of a script that was lowered is one of this script
-pub lowered_stands : (input : List ℕ) (script : Script) (p : Plan) →
-    StandsFor input Plain script → Lowers script (Ok p) → StandsFor input Plain p.script
-lowered_stands input script p stands l =
-    subst (λ q. StandsFor input Plain q.script) (sym l.1) stands
+pub lowered_read : (task : Task) (input : List ℕ) (script : Script) (turns : List Turn) (p : Plan) →
+    IsReadFor task input script turns → Lowers script (Ok p) → IsReadFor task input p.script turns
+lowered_read task input script turns p r l =
+    subst (λ q. IsReadFor task input q.script turns) (sym l.1) r
 
 pub lowered_again : (script : Script) (p : Plan) → Lowers script (Ok p) → Lowers p.script (Ok p)
 lowered_again script p l =
@@ -166,7 +204,7 @@ lowered_again script p l =
 
 -- a faulty line was refused
 pub faulty_outcome : (task : Task) (input : List ℕ) (n : ℕ) (kind : FaultKind) (text : List ℕ) →
-    length input ≤ input_limit → IsFirstFault input Plain n kind → text ≡ line_refusal n kind →
+    length input ≤ input_limit → IsFirstFault input (form_of task) n kind → text ≡ line_refusal n kind →
     IsOutcome task input Refused text
 faulty_outcome task input n kind text short fault text_is =
     subst (λ t. IsOutcome task input Refused t) (sym text_is) (has_faulty_line n kind short fault)

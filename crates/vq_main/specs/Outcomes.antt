@@ -1,8 +1,8 @@
 -- What a run of the program may write, and with which status it ends. This project's own.
-use Rattle.std.specs.Prelude.{ℕ, ◌≡◌, ◌<◌, ◌≤◌, List, [], ◌++◌, length, Option, Some, None, IfSome, OnSome, codes}
-use Rattle.vq_model.specs.declared.statement.Form.TheVariants.{Plain}
+use Rattle.std.specs.Prelude.{ℕ, ◌≡◌, ◌<◌, ◌≤◌, ◌^◌, All, List, [], ◌++◌, length, Option, Some, None, IfSome, OnSome, codes}
 use Rattle.vq_model.specs.declared.statement.FaultKind.{FaultKind}
 use Rattle.vq_model.specs.declared.script.Script.{Script}
+use Rattle.vq_model.specs.declared.script.Turn.{Turn}
 use Rattle.vq_model.specs.declared.plan.PlanFault.{PlanFault}
 use Rattle.vq_model.specs.declared.plan.PlanFault.TheVariants.{Memory as NoMemoryToLower}
 use Rattle.vq_model.specs.declared.plan.OrderFault.{OrderFault}
@@ -12,13 +12,20 @@ use Rattle.vq_model.specs.Plan.{Plan}
 use Rattle.vq_model.specs.Lowering.{plan_of}
 use Rattle.vq_model.specs.LoweringFaults.{lowering_fault, IsFirstLoweringFault}
 use Rattle.vq_model.specs.Checks.{IsLawful, IsFirstPlanFault}
-use Rattle.vq_model.specs.SlowRun.{final}
+use Rattle.vq_model.specs.SlowRun.{bytes_after, final}
 use Rattle.vq_model.specs.OutputText.{line_feed, buffers_text}
 use Rattle.vq_model.specs.Outputs.{IsOutput}
 use Rattle.vq_model.specs.Refusals.{too_long, bad_words, line_refusal, plan_refusal, order_refusal}
+use Rattle.vq_model.specs.Machine.{AreFinished, Run as IsRunOf}
+use Rattle.vq_model.specs.ValidScripts.{IsActor}
+use Rattle.vq_points.specs.HistoryLaws.{PointLaw, PendingLaw}
+use Rattle.vq_history_laws.specs.Histories.{points_after}
+use Rattle.vq_points.specs.Points.{HistoryFrom, opening_points, steps_of}
+use Rattle.vq_replay.specs.Traces.{events_of, played_turns, trace_text}
+use Rattle.vq_main.specs.Tasks.{form_of, planned, turns_for}
 use Rattle.vq_main.specs.Writes.{SinkMoment, WroteAll, WrotePart, WroteNothing}
 use Rattle.vq_main.specs.declared.task.Task.{Task}
-use Rattle.vq_main.specs.declared.task.Task.TheVariants.{Run, Check}
+use Rattle.vq_main.specs.declared.task.Task.TheVariants.{Run, Check, Replay}
 use Rattle.vq_main.specs.declared.status.Status.{Status}
 use Rattle.vq_main.specs.declared.status.Status.TheVariants.{Done, BadWords, Refused, ReadFault, WriteFault, Memory}
 
@@ -30,10 +37,25 @@ is_lawful_text = codes "lawful" ++ line_feed
 abbrev pub input_limit : ℕ
 input_limit = 4194304
 
--- What a task writes for a lawful plan: an output of the plan, or that it is lawful.
-abbrev pub AnswersTask : Task → Plan → List ℕ → Type 0
-AnswersTask Run p text = IsOutput p text
-AnswersTask Check p text = text ≡ is_lawful_text
+-- The text of a schedule's turns over one core of a lawful plan. The events of the turns that moved are a
+-- history of the plan: without those that show nothing of the machine they are a run of it, and they keep the
+-- point law and the pending law. Where all jobs are finished, the bytes are those that the plan leaves.
+pub record IsTrace (p : Plan) (turns : List Turn) (text : List ℕ) : Type 0 where
+  pub spelled : text ≡ trace_text p (played_turns p turns)
+      (points_after p (events_of (played_turns p turns))).machine
+  pub history : HistoryFrom p (opening_points p) (events_of (played_turns p turns))
+  pub run : IsRunOf p (steps_of (events_of (played_turns p turns)))
+  pub point_law : PointLaw p (events_of (played_turns p turns))
+  pub pending_law : PendingLaw p (events_of (played_turns p turns))
+  pub bytes : AreFinished p (points_after p (events_of (played_turns p turns))).machine.progress →
+      bytes_after p (points_after p (events_of (played_turns p turns))).machine.progress.applied ≡ final p
+
+-- What a task writes for a lawful plan and the turns of a schedule: an output of the plan, that it is lawful,
+-- or the trace of the turns.
+abbrev pub AnswersTask : Task → Plan → List Turn → List ℕ → Type 0
+AnswersTask Run p turns text = IsOutput p text
+AnswersTask Check p turns text = text ≡ is_lawful_text
+AnswersTask Replay p turns text = IsTrace p turns text
 
 -- What a task may answer for an input, with the text that it writes.
 pub data IsOutcome (task : Task) (input : List ℕ) : Status → List ℕ → Type 0 where
@@ -41,20 +63,21 @@ pub data IsOutcome (task : Task) (input : List ℕ) : Status → List ℕ → Ty
   is_too_long : input_limit < length input → IsOutcome task input Refused too_long
   -- a line is faulty: the first one of the text, by its first kind
   has_faulty_line : (n : ℕ) (kind : FaultKind) → length input ≤ input_limit →
-      IsFirstFault input Plain n kind → IsOutcome task input Refused (line_refusal n kind)
+      IsFirstFault input (form_of task) n kind → IsOutcome task input Refused (line_refusal n kind)
   -- the script that the input stands for has no plan
   has_no_plan : (script : Script) (fault : PlanFault) → length input ≤ input_limit →
-      StandsFor input Plain script → IsFirstLoweringFault script fault →
+      StandsFor input (form_of task) script → IsFirstLoweringFault (planned task script) fault →
       IsOutcome task input Refused (plan_refusal fault)
   -- its plan is not lawful
   is_unlawful : (script : Script) (fault : OrderFault) → length input ≤ input_limit →
-      StandsFor input Plain script → lowering_fault script ≡ None →
-      IsFirstPlanFault (plan_of script) fault →
+      StandsFor input (form_of task) script → lowering_fault (planned task script) ≡ None →
+      IsFirstPlanFault (plan_of (planned task script)) fault →
       IsOutcome task input Refused (order_refusal fault)
   -- the script is lawful, and the text answers the task
   gives_answer : (script : Script) (text : List ℕ) → length input ≤ input_limit →
-      StandsFor input Plain script → lowering_fault script ≡ None → IsLawful (plan_of script) →
-      AnswersTask task (plan_of script) text → IsOutcome task input Done text
+      StandsFor input (form_of task) script → lowering_fault (planned task script) ≡ None →
+      IsLawful (plan_of (planned task script)) →
+      AnswersTask task (plan_of (planned task script)) script.turns text → IsOutcome task input Done text
 
 -- a text refuses a script for a fault of its lowering; want of memory refuses nothing
 abbrev pub RefusesPlan : PlanFault → List ℕ → Type 0
@@ -67,9 +90,22 @@ RefusesOrder NoMemoryToCheck text = ⊥
 RefusesOrder fault text = text ≡ order_refusal fault
 
 -- the text that is written for a task of a plan of batches, which has one output
-abbrev pub TaskText : Task → Plan → List ℕ → Type 0
-TaskText Run p text = text ≡ buffers_text p.script.buffers (final p)
-TaskText Check p text = text ≡ is_lawful_text
+abbrev pub TaskText : Task → Plan → List Turn → List ℕ → Type 0
+TaskText Run p turns text = text ≡ buffers_text p.script.buffers (final p)
+TaskText Check p turns text = text ≡ is_lawful_text
+TaskText Replay p turns text = IsTrace p turns text
+
+-- turns that can be played over a plan of a script: they are few, and each actor is one of the script
+pub record ArePlayable (s : Script) (turns : List Turn) : Type 0 where
+  pub few : length turns < 2 ^ 32
+  pub actors : All (λ t. IsActor s t.actor) turns
+
+-- A script was read from an input for a task, and its turns were moved out where the task plays them.
+pub record IsReadFor (task : Task) (input : List ℕ) (s : Script) (turns : List Turn) : Type 0 where
+  pub script : Script
+  pub stands : StandsFor input (form_of task) script
+  pub made : s ≡ planned task script
+  pub moved : turns ≡ turns_for task script
 
 -- What a run for a task wrote to the sink, by the status that it ended with: a whole text; a part
 -- of one, where the writing failed; else nothing.
@@ -100,13 +136,13 @@ ReadsToEnd Refused before now =
     IfSome before (λ input. length input ≤ input_limit → now ≡ Some [])
 ReadsToEnd other before now = Unit {0}
 
--- An input stands for a lawful script.
-pub record IsLawfulInput (input : List ℕ) : Type 0 where
+-- An input stands for a lawful script of the form that a task reads.
+pub record IsLawfulInput (task : Task) (input : List ℕ) : Type 0 where
   pub short : length input ≤ input_limit
   pub script : Script
-  pub stands : StandsFor input Plain script
-  pub lowers : lowering_fault script ≡ None
-  pub lawful : IsLawful (plan_of script)
+  pub stands : StandsFor input (form_of task) script
+  pub lowers : lowering_fault (planned task script) ≡ None
+  pub lawful : IsLawful (plan_of (planned task script))
 
 -- a run ended with its whole text written, or for want of memory
 abbrev pub IsDoneOrMemory : Status → Type 0

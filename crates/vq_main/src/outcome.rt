@@ -1,18 +1,22 @@
 //! What the program writes for an input.
 ghost use Rattle.std.specs.Prelude.{◌≡◌, ◌≤◌, IfOk, Ok, length};
 ghost use Rattle.vq_model.specs.LoweringFaults.{Lowers};
-ghost use Rattle.vq_model.specs.Reading.{StandsFor};
 ghost use Rattle.vq_model.specs.OutputText.{buffers_text};
 ghost use Rattle.vq_model.specs.Refusals.{at_line, at_lines, line_refusal};
 ghost use Rattle.vq_model.specs.SlowRun.{final};
-ghost use Rattle.vq_model.specs.declared.statement.Form.TheVariants.{Plain};
-ghost use Rattle.vq_main.specs.Outcomes.{IsOutcome, RefusesOrder, RefusesPlan, TaskText, input_limit};
+ghost use Rattle.vq_main.specs.Outcomes.{ArePlayable, IsOutcome, IsReadFor, IsTrace};
+ghost use Rattle.vq_main.specs.Outcomes.{RefusesOrder, RefusesPlan, TaskText, input_limit};
+ghost use Rattle.vq_main.specs.Tasks.{planned, turns_for};
 
 use crate::status::Status;
 use crate::task::Task;
 use std::alloc::{AllocError, Global};
+use std::mem::replace;
+use vq_model::list::List;
+use vq_model::script::Turn;
 use vq_order::{OrderFault, Ordered, check};
-use vq_script::{FaultKind, Form, Script, ScriptFault, parse};
+use vq_replay::{replay, trace_text};
+use vq_script::{FaultKind, Script, ScriptFault, parse};
 use vq_spec::{Plan, PlanFault, apply_in_order, buffers_text};
 
 /// A status with the text that goes with it.
@@ -106,22 +110,47 @@ fn final_text(alloc: Global, ordered: &Ordered) -> Result<Vec<u8>, AllocError>
     buffers_text(alloc, ordered.plan(), &buffers)
 }
 
+/// The trace of turns over a lawful plan.
+fn replay_text(alloc: Global, ordered: Ordered, turns: &[Turn]) -> Result<Vec<u8>, AllocError>
+    requires { ArePlayable ordered.script turns.now }
+    ensures { IfOk result (λ text. IsTrace ordered turns.now text.items) }
+{
+    let replayed = replay(alloc, ordered, turns)?;
+    let _history = replayed.core.history();
+    let _buffers = replayed.core.buffers();
+    let text = trace_text(alloc, &replayed)?;
+    Ok(text)
+}
+
 /// What answers a task for a plan that is lawful.
-fn task_text(alloc: Global, task: Task, ordered: &Ordered) -> Result<Vec<u8>, AllocError>
-    ensures { IfOk result (λ text. TaskText task ordered.now text.items) }
+fn task_text(
+    alloc: Global,
+    task: Task,
+    ordered: Ordered,
+    turns: &[Turn],
+) -> Result<Vec<u8>, AllocError>
+    requires { ArePlayable ordered.script turns.now }
+    ensures { IfOk result (λ text. TaskText task ordered turns.now text.items) }
 {
     match task {
-        Task::Run => final_text(alloc, ordered),
+        Task::Run => final_text(alloc, &ordered),
         Task::Check => Vec::from_slice(alloc, b"lawful\n"),
+        Task::Replay => replay_text(alloc, ordered, turns),
     }
 }
 
 /// What is written for a plan that is lawful.
-fn of_lawful(alloc: Global, task: Task, ordered: &Ordered) -> Result<Outcome, AllocError>
+fn of_lawful(
+    alloc: Global,
+    task: Task,
+    ordered: Ordered,
+    turns: &[Turn],
+) -> Result<Outcome, AllocError>
+    requires { ArePlayable ordered.script turns.now }
     ensures { IfOk result (λ outcome. (outcome.status ≡ Status.Done)
-        × TaskText task ordered.now outcome.text.items) }
+        × TaskText task ordered turns.now outcome.text.items) }
 {
-    Ok(Outcome::done(task_text(alloc, task, ordered)?))
+    Ok(Outcome::done(task_text(alloc, task, ordered, turns)?))
 }
 
 /// What is written for a plan that isn't.
@@ -132,29 +161,61 @@ fn of_unlawful(alloc: Global, fault: OrderFault) -> Result<Outcome, AllocError>
     Ok(Outcome::refused(order_refusal(alloc, fault)?))
 }
 
-/// What is written for the plan of a script that an input stands for.
-fn of_plan(alloc: Global, task: Task, plan: Plan, input: &[u8]) -> Result<Outcome, AllocError>
+/// What is written for the plan of a script that was read from an input.
+fn of_plan(
+    alloc: Global,
+    task: Task,
+    plan: Plan,
+    turns: &[Turn],
+    input: &[u8],
+) -> Result<Outcome, AllocError>
     requires short { length input.now ≤ input_limit }
-    requires stands { StandsFor input.now Plain plan.script }
+    requires read { IsReadFor task input.now plan.script turns.now }
     requires lowers { Lowers plan.script (Ok plan) }
     ensures { IfOk result (λ outcome. IsOutcome task input.now outcome.status outcome.text.items) }
 {
     match check(alloc, plan) {
-        Ok(ordered) => of_lawful(alloc, task, &ordered),
+        Ok(ordered) => of_lawful(alloc, task, ordered, turns),
         Err(fault) => of_unlawful(alloc, fault),
     }
 }
 
-/// What is written for a script that an input stands for.
-fn of_script(alloc: Global, task: Task, script: Script, input: &[u8]) -> Result<Outcome, AllocError>
+/// What is written for a script that was read from an input.
+fn of_script(
+    alloc: Global,
+    task: Task,
+    script: Script,
+    turns: &[Turn],
+    input: &[u8],
+) -> Result<Outcome, AllocError>
     requires short { length input.now ≤ input_limit }
-    requires stands { StandsFor input.now Plain script }
+    requires read { IsReadFor task input.now script turns.now }
     ensures { IfOk result (λ outcome. IsOutcome task input.now outcome.status outcome.text.items) }
 {
     match Plan::lower(alloc, script) {
-        Ok(plan) => of_plan(alloc, task, plan, input),
+        Ok(plan) => of_plan(alloc, task, plan, turns, input),
         Err(fault) => Ok(Outcome::refused(plan_refusal(alloc, fault)?)),
     }
+}
+
+/// A script of which a plan is made, and the turns that are played over it.
+#[derive(Drop)]
+struct Planned {
+    script: Script,
+    turns: List<Turn>,
+}
+
+/// Moves the turns out of a script where they are played.
+fn move_turns(alloc: Global, task: Task, script: Script) -> Planned
+    ensures script { result.script ≡ planned task script }
+    ensures turns { result.turns ≡ turns_for task script }
+{
+    let mut script = script;
+    let turns = match task {
+        Task::Run | Task::Check => List::of(Vec::new(alloc)),
+        Task::Replay => replace(&mut script.turns, List::of(Vec::new(alloc))),
+    };
+    Planned { script, turns }
 }
 
 /// What is written for an input.
@@ -162,8 +223,11 @@ pub fn of_input(alloc: Global, task: Task, input: &[u8]) -> Result<Outcome, Allo
     requires { length input.now ≤ input_limit }
     ensures { IfOk result (λ outcome. IsOutcome task input.now outcome.status outcome.text.items) }
 {
-    match parse(alloc, input, Form::Plain) {
-        Ok(script) => of_script(alloc, task, script, input),
+    match parse(alloc, input, task.form()) {
+        Ok(script) => {
+            let planned = move_turns(alloc, task, script);
+            of_script(alloc, task, planned.script, planned.turns.as_slice(), input)
+        }
         Err(ScriptFault::Memory) => Err(AllocError),
         Err(ScriptFault::At { line, kind }) => {
             Ok(Outcome::refused(line_refusal(alloc, line, kind)?))

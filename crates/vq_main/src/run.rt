@@ -64,8 +64,9 @@ fn answer<S: Source, K: Sink>(alloc: Global, task: Task, source: &mut S, sink: &
 
 /// Does what the words ask for with the script that the source holds, and writes the answer.
 ///
-/// Without words the script is run. With `--check` alone it is only said whether it is lawful. Other
-/// words are `BadWords`, and nothing is read then. Else the source is read to its end. An input above
+/// Without words the script is run. With `--check` alone it is only said whether it is lawful. With
+/// `--replay` alone the script has a schedule, which is played turn by turn. Other words are `BadWords`,
+/// and nothing is read then. Else the source is read to its end. An input above
 /// 4,194,304 bytes, a faulty line, a script without a plan and an unlawful plan are `Refused`, with
 /// the line of the first fault; else the text is one that a run of the script may give, or `lawful`.
 /// `ReadFault` comes only where the source counted a fault in this call, `WriteFault` only where the
@@ -88,7 +89,7 @@ pub fn run<S: Source, K: Sink>(
 
     // A lawful script is run, or said to be lawful, unless the source or the sink fails.
     ensures lawful { (task : Task) → task_of (map string_bytes words.now) ≡ Some task →
-        IfSome (S.left source.old) (λ input. IsLawfulInput input →
+        IfSome (S.left source.old) (λ input. IsLawfulInput task input →
         ¬ Rose (S.faults source.old) (S.faults source.new) →
         ¬ Rose (K.faults sink.old) (K.faults sink.new) → IsDoneOrMemory result) }
 

@@ -41,6 +41,33 @@ fn check(alloc: Global) -> Result<Vec<String>, AllocError> {
     Ok(vec![in alloc; String::from_str(alloc, "--check")?]?)
 }
 
+/// The word `--replay`.
+fn replay(alloc: Global) -> Result<Vec<String>, AllocError> {
+    Ok(vec![in alloc; String::from_str(alloc, "--replay")?]?)
+}
+
+#[test]
+fn schedules_are_replayed(rt: HostRuntime) -> Result<(), Fail> {
+    let words = replay(rt.alloc())?;
+    each_ends(
+        &rt,
+        rt.alloc(),
+        words.as_slice(),
+        Status::Done,
+        &[
+            (
+                "queue Q threaded\nsubmit Q\nend\nschedule\nR:Q\n",
+                "1 R:Q -\nunfinished 1\n",
+            ),
+            (
+                "buffer X 4\nqueue Q immediate\nsubmit Q\nfill X 0 4 7\nend\nschedule\nhost 2\nR:Q 4\n",
+                "1 host submit 3\n2 host release 3\n3 R:Q start 3\n4 R:Q apply 4\n5 R:Q finish 3\n6 R:Q .\n\
+                 finished\nbuffer X 4\n07000000\nend\n",
+            ),
+        ],
+    )
+}
+
 #[test]
 fn scripts_are_run(rt: HostRuntime) -> Result<(), Fail> {
     each_ends(

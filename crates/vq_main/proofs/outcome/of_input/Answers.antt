@@ -1,5 +1,7 @@
 use Rattle.std.proofs.Common.{arith, subst, sym}
 use Rattle.vq_reading_laws.proofs.Cited.{few_lines}
+use Rattle.vq_model.specs.declared.statement.Form.{Form}
+use Rattle.vq_model.specs.Reading.{IsFirstFault}
 use Rattle.vq_main.specs.declared.outcome.Outcome.{Outcome}
 use Rattle.vq_main.specs.Outcomes.{IsOutcome}
 use Rattle.vq_main.proofs.Endings.{faulty_outcome}
@@ -12,5 +14,6 @@ pub returns-in_ok-line_refusal-in-Err-At : goal.returns-in_ok-line_refusal-in-Er
 returns-in_ok-line_refusal-in-Err-At c =
     let fault = rw c.in-Err-At.field-0-is at c.in-Err-At.ensures.fault in
     let text_is = rw c.in-Err-At.field-0-is at c.in_ok-line_refusal-in-Err-At.ensures in
+    let here = subst (λ (f : Form). IsFirstFault c.args.input.now f c.in-Err-At.line c.in-Err-At.kind) c.form.ensures fault in
     subst (λ (o : Outcome). IsOutcome c.args.task c.args.input.now o.status o.text.items)
-    (sym c.refused.ensures) (faulty_outcome _ _ _ _ _ c.requires fault text_is)
+    (sym c.refused.ensures) (faulty_outcome _ _ _ _ _ c.requires here text_is)

@@ -8,5 +8,5 @@ pub returns-in_ok-plan_refusal-in-Err : goal.returns-in_ok-plan_refusal-in-Err
 returns-in_ok-plan_refusal-in-Err c =
     subst (λ (o : Outcome). IsOutcome c.args.task c.args.input.now o.status o.text.items)
     (sym c.refused.ensures)
-    (refused_outcome _ _ _ _ _ c.requires.short c.requires.stands c.in-Err.ensures
+    (refused_outcome _ _ _ _ c.requires.read _ _ c.requires.short c.in-Err.ensures
     c.in_ok-plan_refusal-in-Err.ensures)
