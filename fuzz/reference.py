@@ -1,15 +1,18 @@
 """A second reading of docs/LANGUAGE.md and docs/ONE_RESULT.md: what vq writes for an input, and with which status.
 
-It shares nothing with the program but the pages. `answer(data)` gives (status, text). It is plain and slow: needs are
-looked up by scans, what happens before what is a set of jobs for each job, and nothing is kept that can be counted
-again.
+It shares nothing with the program but the pages. `answer(data)` gives (status, text); `replay(data)` gives them for
+`--replay`, with the turns of turns.py. It is plain and slow: needs are looked up by scans, what happens before what is a
+set of jobs for each job, and nothing is kept that can be counted again.
 """
 import re
+
+from turns import Scene
 
 LIMIT = 4_194_304
 NAME = re.compile(rb'[A-Za-z_][A-Za-z0-9_]{0,15}')
 DECIMAL = re.compile(rb'[0-9]{1,20}')
 HEXADECIMAL = re.compile(rb'0x[0-9a-fA-F]{1,16}')
+ACTOR = re.compile(rb'host|[SR]:[A-Za-z_][A-Za-z0-9_]{0,15}')
 DIGITS = re.compile(rb'([0-9a-fA-F]{2})*')
 # The forms of lines by their section: a word as it stands, or what its place takes. Forms with
 # `unbuilt` are forms of the language that are not built.
@@ -34,6 +37,10 @@ INSIDE = [
     ('signal', [b'signal', 'binary name']),
     ('batch_fence', [b'fence', 'fence name']),
     ('end', [b'end']),
+]
+SCHEDULE = [
+    ('turns', ['actor']),
+    ('turns', ['actor', 'numeral']),
 ]
 DECLARATIONS = ('buffer', 'timeline', 'binary', 'fence', 'queue')
 PARTS = {'wait': 1, 'fill_whole': 2, 'fill': 2, 'update': 2, 'copy': 2, 'signal': 3, 'batch_fence': 4, 'end': 5}
@@ -71,7 +78,9 @@ class Batch:
 
 
 class Reader:
-    def __init__(self):
+    def __init__(self, scheduled=False):
+        self.scheduled = scheduled
+        self.turns_given = None
         self.names = {}
         self.buffers = []
         self.semaphores = []
@@ -95,7 +104,7 @@ class Reader:
             raise Fault('syntax')
         at = list(zip(places, words))
         if any(isinstance(place, str) and (place == 'new' or place.endswith(' name')) and not NAME.fullmatch(word)
-               for place, word in at):
+               or place == 'actor' and not ACTOR.fullmatch(word) for place, word in at):
             raise Fault('syntax')
         if form in DECLARATIONS and (self.jobs or self.batch):
             raise Fault('order')
@@ -109,6 +118,10 @@ class Reader:
             if place == 'digits' and not DIGITS.fullmatch(word):
                 raise Fault('number')
         for place, word in at:
+            if place == 'actor' and word != b'host':
+                found, queue = self.names.get(word[2:], ('', 0))
+                if found != 'queue' or word[:1] == b'S' and self.queues[queue] != b'threaded':
+                    raise Fault('name')
             if isinstance(place, str) and place.endswith(' name') and self.names.get(word, ('', 0))[0] != place[:-5]:
                 raise Fault('name')
         if any(place == 'new' and word in self.names for place, word in at):
@@ -118,11 +131,30 @@ class Reader:
             self.part = PARTS.get(form, 0)
 
     def form(self, words):
-        for form, places in INSIDE if self.batch else OUTSIDE:
+        for form, places in self.forms():
             if len(places) == len(words) and all(
                     word == place for place, word in zip(places, words) if isinstance(place, bytes)):
                 return form, places
         return None, []
+
+    def forms(self):
+        if self.batch:
+            return INSIDE
+        if self.turns_given is not None:
+            return SCHEDULE
+        return OUTSIDE + ([('schedule', [b'schedule'])] if self.scheduled else [])
+
+    def schedule(self, _):
+        self.turns_given = []
+
+    def turns(self, words):
+        count = numeral(words[1]) if len(words) == 2 else 1
+        if count == 0:
+            raise Fault('range')
+        if len(self.turns_given) + count > 65536:
+            raise Fault('limit')
+        who, _, name = words[0].decode().partition(':')
+        self.turns_given += [(who, self.names[name.encode()][1] if name else None)] * count
 
     def buffer(self, words):
         size = numeral(words[2])
@@ -238,6 +270,7 @@ class Plan:
     def __init__(self, reader):
         self.reader = reader
         self.jobs = reader.jobs
+        self.names = [name.decode() for name, (kind, _) in reader.names.items() if kind in ('timeline', 'binary', 'fence')]
         kinds = [kind for kind, _ in reader.semaphores]
         self.initial = [value for _, value in reader.semaphores]
         self.chains = [[] for _ in kinds]
@@ -360,25 +393,44 @@ class Plan:
         return held
 
 
-def answer(data):
+def read(data, scheduled):
+    """The reader and the plan of a lawful script, or its refusal."""
     if len(data) > LIMIT:
-        return 2, b'error: too long\n'
-    reader = Reader()
+        raise Refusal('too long')
+    reader = Reader(scheduled)
     lines = lines_of(data)
     number = 0
     try:
         for number, line in enumerate(lines, 1):
             reader.read(line, number)
         number = len(lines) + 1
-        if reader.batch:
+        if reader.batch or scheduled and reader.turns_given is None:
             raise Fault('syntax')
-        plan = Plan(reader)
+        return reader, Plan(reader)
     except Fault as fault:
-        return 2, f'error: {fault}: line {number}\n'.encode()
-    except Refusal as refusal:
-        return 2, f'error: {refusal}\n'.encode()
+        raise Refusal(f'{fault}: line {number}')
+
+
+def buffers_text(reader, plan):
     text = []
     for (name, size), held in zip(reader.buffers, plan.final()):
         text.append(b'buffer ' + name + b' %d\n' % size)
         text.extend(held[row:row + 16].hex().encode() + b'\n' for row in range(0, size, 16))
-    return 0, b''.join(text) + b'end\n'
+    return b''.join(text) + b'end\n'
+
+
+def answer(data):
+    try:
+        return 0, buffers_text(*read(data, False))
+    except Refusal as refusal:
+        return 2, f'error: {refusal}\n'.encode()
+
+
+def replay(data):
+    try:
+        reader, plan = read(data, True)
+    except Refusal as refusal:
+        return 2, f'error: {refusal}\n'.encode()
+    names = {queue: name.decode() for name, (kind, queue) in reader.names.items() if kind == 'queue'}
+    text, finished = Scene(plan, reader.queues).trace(reader.turns_given, names)
+    return 0, text + (buffers_text(reader, plan) if finished else b'')
