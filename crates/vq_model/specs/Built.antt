@@ -4,13 +4,8 @@ use Rattle.std.specs.Prelude.{ℕ, ◌≡◌, true, [], Some, All}
 use Rattle.std.specs.List.{slice_get}
 use Rattle.vq_model.specs.declared.script.Script.{Script}
 use Rattle.vq_model.specs.declared.script.Batch.{Batch}
-use Rattle.vq_model.specs.declared.script.Job.TheVariants.{Host, Batch as BatchJob}
-use Rattle.vq_model.specs.declared.script.HostLine.{HostLine}
+use Rattle.vq_model.specs.declared.script.Job.TheVariants.{Batch as BatchJob}
 use Rattle.vq_model.specs.ValidScripts.{is_immediate_queue}
-
--- no job is a step of the host
-abbrev pub HasNoHostStep : Script → Type 0
-HasNoHostStep s = (j : ℕ) (h : HostLine) → slice_get s.jobs j ≡ Some (Host h) → ⊥
 
 -- no batch of an immediate queue waits
 abbrev pub HasNoImmediateWait : Script → Type 0

@@ -44,8 +44,8 @@ use Rattle.vq_model.specs.Text.{is_name, numeral}
 
 -- The form of a line
 
--- The forms that are built so far; a line of another form is Syntax. No queue is deferred, and a
--- batch of an immediate queue waits for nothing.
+-- The forms that are built so far; a line of another form is Syntax. No text has a version, no queue
+-- is deferred, and a batch of an immediate queue waits for nothing.
 abbrev pub is_built : List Line → LineForm → Bool
 is_built before BufferLine = true
 is_built before TimelineLine = true
@@ -54,6 +54,16 @@ is_built before FenceLine = true
 is_built before (QueueLine Immediate) = true
 is_built before (QueueLine Threaded) = true
 is_built before SubmitLine = true
+is_built before HostSignalLine = true
+is_built before HostWaitAllLine = true
+is_built before HostWaitAnyLine = true
+is_built before HostPollAllLine = true
+is_built before HostPollAnyLine = true
+is_built before HostReadLine = true
+is_built before HostFenceWaitLine = true
+is_built before HostFencePollLine = true
+is_built before HostFenceResetLine = true
+is_built before HostIdleLine = true
 is_built before WaitTimelineLine = not (is_batch_immediate before)
 is_built before WaitBinaryLine = not (is_batch_immediate before)
 is_built before FillWholeLine = true

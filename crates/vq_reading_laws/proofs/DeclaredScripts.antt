@@ -18,7 +18,9 @@ use Rattle.vq_model.specs.declared.script.Mode.{Mode}
 use Rattle.vq_model.specs.declared.script.Mark.{Mark}
 use Rattle.vq_model.specs.declared.script.HostLine.{HostLine}
 use Rattle.vq_model.specs.declared.script.HostStep.{HostStep}
-use Rattle.vq_model.specs.declared.script.HostStep.TheVariants.{Signal}
+use Rattle.vq_model.specs.declared.script.HostStep.TheVariants.{Signal, WaitAll, WaitAny, PollAll, PollAny, Read, FenceWait, FencePoll, FenceReset, Idle}
+use Rattle.vq_model.specs.declared.script.Pair.{Pair}
+use Rattle.vq_reading_laws.proofs.NamedSemaphores.{IsOfKind, IsPairOf, IsStepOf}
 use Rattle.vq_model.specs.declared.script.Turn.{Turn}
 use Rattle.vq_model.specs.declared.script.ActorName.{ActorName}
 use Rattle.vq_model.specs.declared.script.ActorName.TheVariants.{Host as HostActor, Submit as SubmitActor, Ring as RingActor}
@@ -27,7 +29,7 @@ use Rattle.vq_model.specs.Context.{is_immediate, is_fence, is_timeline, is_threa
 use Rattle.vq_reading_laws.proofs.KeptTurns.{IsTurnOf}
 use Rattle.vq_model.specs.ScriptOfLines.{first_of_list}
 use Rattle.vq_model.specs.Signals.{kind_of, Signaling, all_signals, job_signals, step_signals, of_mark}
-use Rattle.vq_model.specs.ValidScripts.{IsValidMark, IsValidFence, IsValidBatch, IsValidStep, is_immediate_queue, IsActor, HasValidBatches, HasValidSteps}
+use Rattle.vq_model.specs.ValidScripts.{IsValidMark, IsValidFence, IsValidBatch, IsValidStep, IsTimelinePair, is_immediate_queue, IsActor, HasValidBatches, HasValidSteps}
 use Rattle.vq_model.proofs.Gets.{get-map, get_within}
 use Rattle.vq_reading_laws.proofs.LineFacts.{IsMarkOf, IsActorOf}
 use Rattle.std.specs.Prelude.{All}
@@ -39,16 +41,19 @@ use Rattle.std.proofs.lemmas.List.Elements.{All-head, All-tail}
 pub job_kept : (d : Declarations) (jobs : List Job) (j : ℕ) (b : Batch) → KeepJobs d jobs →
     slice_get jobs j ≡ Some (BatchJob b) → KeepsJob d b
 job_kept d [] j b k e = absurd (let c : None ≡ Some (BatchJob b) = e in cc)
-job_kept d (Host h ∷ jobs) j b k e = absurd k
+job_kept d (Host h ∷ jobs) zero b k e = absurd (cc)
+job_kept d (Host h ∷ jobs) (suc j) b k e = job_kept d jobs j b k.1 e
 job_kept d (BatchJob c ∷ jobs) zero b k e = let same : c ≡ b = cc in subst (KeepsJob d) same k.0
 job_kept d (BatchJob c ∷ jobs) (suc j) b k e = job_kept d jobs j b k.1 e
 
-pub no_host : (d : Declarations) (jobs : List Job) (j : ℕ) (h : _) → KeepJobs d jobs →
-    slice_get jobs j ≡ Some (Host h) → ⊥
-no_host d [] j h k e = let c : None ≡ Some (Host h) = e in cc
-no_host d (Host x ∷ jobs) j h k e = k
-no_host d (BatchJob c ∷ jobs) zero h k e = cc
-no_host d (BatchJob c ∷ jobs) (suc j) h k e = no_host d jobs j h k.1 e
+pub step_kept : (d : Declarations) (jobs : List Job) (j : ℕ) (h : HostLine) → KeepJobs d jobs →
+    slice_get jobs j ≡ Some (Host h) → IsStepOf d.kinds h.step
+step_kept d [] j h k e = absurd (let c : None ≡ Some (Host h) = e in cc)
+step_kept d (Host x ∷ jobs) zero h k e =
+    let same : x ≡ h = cc in subst (λ (y : HostLine). IsStepOf d.kinds y.step) same k.0
+step_kept d (Host x ∷ jobs) (suc j) h k e = step_kept d jobs j h k.1 e
+step_kept d (BatchJob c ∷ jobs) zero h k e = absurd (cc)
+step_kept d (BatchJob c ∷ jobs) (suc j) h k e = step_kept d jobs j h k.1 e
 
 pub all_at : {X : Type 0} (P : X → Type 0) (xs : List X) (k : ℕ) (x : X) → Every P xs →
     slice_get xs k ≡ Some x → P x
@@ -129,6 +134,32 @@ module _ (s : Script) where
         few_waits = omega arith;
         few_signals = omega arith;
       }
+
+  -- a step of the host names timelines and fences
+  kind_named : (test : SemaphoreKind → Bool) (t : ℕ) → IsOfKind test declared_in.kinds t →
+      option_map_or test (kind_of s t) false ≡ true
+  kind_named test t k =
+      ap (λ (o : Option SemaphoreKind). option_map_or test o false) (kind_here t k.kind k.is)
+      ∙ k.tested
+
+  valid_pairs : (pairs : List Pair) → Every (IsPairOf declared_in.kinds) pairs →
+      All (IsTimelinePair s) pairs
+  valid_pairs pairs a =
+      of_every (IsTimelinePair s) pairs
+      (all_weaker (IsPairOf declared_in.kinds) (IsTimelinePair s) pairs
+      (λ pair h. kind_named is_timeline pair.semaphore h) a)
+
+  pub valid_step : (step : HostStep) → IsStepOf declared_in.kinds step → IsValidStep s step
+  valid_step (Signal pair) h = kind_named is_timeline pair.semaphore h
+  valid_step (WaitAll pairs) h = valid_pairs pairs h
+  valid_step (WaitAny pairs) h = valid_pairs pairs h
+  valid_step (PollAll pairs) h = valid_pairs pairs h
+  valid_step (PollAny pairs) h = valid_pairs pairs h
+  valid_step (Read t) h = kind_named is_timeline t h
+  valid_step (FenceWait f) h = kind_named is_fence f h
+  valid_step (FencePoll f) h = kind_named is_fence f h
+  valid_step (FenceReset f) h = kind_named is_fence f h
+  valid_step Idle h = tt
 
   -- a queue that isn't immediate
   held_here : (q : ℕ) → IsHeld declared_in.modes q → is_immediate_queue s q ≡ false

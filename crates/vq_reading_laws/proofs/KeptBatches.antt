@@ -9,6 +9,7 @@ use Rattle.std.proofs.lemmas.List.Elements.{All-nil, All-cons}
 use Rattle.vq_model.specs.declared.script.Pair.{Pair}
 use Rattle.vq_model.specs.declared.script.Mark.{Mark}
 use Rattle.vq_reading_laws.proofs.LineFacts.{IsMarkOf}
+use Rattle.vq_reading_laws.proofs.NamedSemaphores.{IsStepOf}
 use Rattle.vq_reading_laws.proofs.Standing.{Declarations, IsHeld, Where, is_outside, is_inside, in_schedule, where_after, Stands, StandsWait, AllStand}
 use Rattle.vq_model.specs.declared.script.SemaphoreKind.TheVariants.{Fence}
 use Rattle.vq_model.specs.declared.script.CommandLine.{CommandLine}
@@ -20,7 +21,8 @@ use Rattle.vq_model.specs.Limits.{is_job}
 use Rattle.vq_model.specs.Lowering.{commands_in}
 use Rattle.std.proofs.lemmas.List.Sums.{sum_by-cons}
 use Rattle.vq_model.specs.declared.statement.Statement.{Statement}
-use Rattle.vq_model.specs.declared.statement.Statement.TheVariants.{DeclareBuffer, DeclareSemaphore, DeclareQueue, BeginBatch, AddWait, AddCommand, AddSignal, AddFence, EndBatch, BeginSchedule, TakeTurns}
+use Rattle.vq_model.specs.declared.statement.Statement.TheVariants.{DeclareBuffer, DeclareSemaphore, DeclareQueue, BeginBatch, AddWait, AddCommand, AddSignal, AddFence, EndBatch, BeginSchedule, TakeTurns, TakeHostStep}
+use Rattle.vq_model.specs.declared.script.HostStep.{HostStep}
 use Rattle.vq_model.specs.declared.script.Command.{Command}
 use Rattle.vq_reading_laws.proofs.LinePushes.{a_line}
 
@@ -97,7 +99,7 @@ pub record KeepsJob (d : Declarations) (b : Batch) : Type 0 where
 
 abbrev pub KeepJobs : Declarations → List Job → Type 0
 KeepJobs d [] = Unit {0}
-KeepJobs d (Host h ∷ jobs) = ⊥
+KeepJobs d (Host h ∷ jobs) = IsStepOf d.kinds h.step × KeepJobs d jobs
 KeepJobs d (BatchJob b ∷ jobs) = KeepsJob d b × KeepJobs d jobs
 
 -- the batch that is open at a place
@@ -269,6 +271,22 @@ module _ (d : Declarations) where
         few_commands = omega arith;
       }
 
+  -- a step of the host: a job without commands
+  jobs_kept_step : (n : ℕ) (step : HostStep) (lines : List Line) → IsStepOf d.kinds step →
+      JobsKept d is_outside lines → JobsKept d is_outside (a_line n (TakeHostStep step) ∷ lines)
+  jobs_kept_step n step lines h k =
+      let j = count_cons is_job (a_line n (TakeHostStep step)) lines in
+      let c = count_cons is_command (a_line n (TakeHostStep step)) lines in
+      let kj = k.few_jobs in
+      let kc = k.few_commands in
+      let t = sum_by-cons (λ (x : ℕ). x) 0 (map commands_in (jobs_of lines)) in
+      record {
+        all = (h, k.all);
+        opened = tt;
+        few_jobs = omega arith;
+        few_commands = omega arith;
+      }
+
   -- a batch ends
   jobs_kept_end : (n q w g k : ℕ) (lines : List Line) → JobsKept d is_outside lines →
       JobsKept d (is_inside q w g k) (a_line n EndBatch ∷ lines)
@@ -309,6 +327,7 @@ module _ (d : Declarations) where
       jobs_kept_inside n q w g p w g 4 (AddFence f) lines refl refl refl
       (open_fence n q w g f (batch_lines lines) h.0 k.opened) (omega arith) k
   jobs_kept_more n (is_inside q w g p) EndBatch lines h k = jobs_kept_end n q w g p lines k
+  jobs_kept_more n is_outside (TakeHostStep step) lines h k = jobs_kept_step n step lines h k
   jobs_kept_more n is_outside BeginSchedule lines h k =
       jobs_kept_declared n is_outside in_schedule BeginSchedule lines refl refl refl tt refl k
   jobs_kept_more n in_schedule (TakeTurns actor count) lines h k =
@@ -343,5 +362,6 @@ module _ (d : Declarations) where
       by_statement n (DeclareSemaphore name kind) h = refl
       by_statement n (DeclareQueue name mode) h = refl
       by_statement n (BeginBatch q) h = refl
+      by_statement n (TakeHostStep step) h = refl
       by_statement n BeginSchedule h = refl
       by_statement n s h = absurd h

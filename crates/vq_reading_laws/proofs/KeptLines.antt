@@ -27,7 +27,7 @@ use Rattle.vq_reading_laws.proofs.LinePushes.{a_line, count_push, some_push}
 use Rattle.vq_reading_laws.proofs.LineFacts.{Said, turns_before}
 use Rattle.vq_model.specs.declared.statement.Section.{Section}
 use Rattle.vq_model.specs.declared.statement.Section.TheVariants.{Outside, InBatch, InSchedule}
-use Rattle.vq_model.specs.declared.statement.Statement.TheVariants.{DeclareBuffer, DeclareSemaphore, DeclareQueue, BeginBatch, AddWait, AddCommand, AddSignal, AddFence, EndBatch, BeginSchedule, TakeTurns}
+use Rattle.vq_model.specs.declared.statement.Statement.TheVariants.{DeclareBuffer, DeclareSemaphore, DeclareQueue, BeginBatch, AddWait, AddCommand, AddSignal, AddFence, EndBatch, BeginSchedule, TakeTurns, TakeHostStep}
 
 -- What is kept from line to line
 
@@ -289,6 +289,11 @@ kept_more form before n s k said = by_section (section before) s refl said
     by_section InBatch EndBatch e h =
         kept_push form before n EndBatch k (again InBatch EndBatch e h) no (omega arith) (omega arith) (omega arith)
         (omega arith) (omega arith) (omega arith) (omega arith)
+    by_section Outside (TakeHostStep step) e h =
+        let m = h.1 in
+        kept_push form before n (TakeHostStep step) k (again Outside (TakeHostStep step) e h) no
+        (omega arith) (omega arith) (omega arith) (omega arith) (omega arith) (omega arith)
+        (omega arith)
     by_section Outside BeginSchedule e h =
         kept_push form before n BeginSchedule k (again Outside BeginSchedule e h) (λ t. h)
         (omega arith) (omega arith) (omega arith) (omega arith) (omega arith) (omega arith)

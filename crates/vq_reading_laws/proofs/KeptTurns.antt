@@ -6,7 +6,7 @@ use Rattle.std.proofs.lemmas.List.Sums.{sum_by-cons}
 use Rattle.std.proofs.lemmas.Bool.{false≢true, or_parts}
 use Rattle.vq_model.specs.declared.statement.Line.{Line}
 use Rattle.vq_model.specs.declared.statement.Statement.{Statement}
-use Rattle.vq_model.specs.declared.statement.Statement.TheVariants.{DeclareBuffer, DeclareSemaphore, DeclareQueue, BeginBatch, AddWait, AddCommand, AddSignal, AddFence, EndBatch, BeginSchedule, TakeTurns}
+use Rattle.vq_model.specs.declared.statement.Statement.TheVariants.{DeclareBuffer, DeclareSemaphore, DeclareQueue, BeginBatch, AddWait, AddCommand, AddSignal, AddFence, EndBatch, BeginSchedule, TakeTurns, TakeHostStep}
 use Rattle.vq_model.specs.declared.script.Turn.{Turn}
 use Rattle.vq_model.specs.Context.{some, turns_of}
 use Rattle.vq_model.specs.ScriptOfLines.{is_schedule, turns_at}
@@ -68,6 +68,7 @@ module _ (d : Declarations) where
   leads_into is_outside (DeclareSemaphore name kind) h = refl
   leads_into is_outside (DeclareQueue name mode) h = refl
   leads_into is_outside (BeginBatch q) h = refl
+  leads_into is_outside (TakeHostStep step) h = refl
   leads_into is_outside BeginSchedule h = refl
   leads_into (is_inside q w g k) (AddWait pair from) h = refl
   leads_into (is_inside q w g k) (AddCommand c) h = refl

@@ -9,6 +9,7 @@ mod LineFacts
 mod LinePushes
 mod LinesRise
 mod Meanings
+mod NamedSemaphores
 mod PlaceContext
 mod ReadLines
 mod ScriptFacts

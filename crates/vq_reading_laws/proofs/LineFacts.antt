@@ -17,21 +17,23 @@ use Rattle.vq_reading_laws.proofs.CommandRanges.{sizes_before, fits_in_range}
 use Rattle.vq_model.specs.declared.statement.Section.{Section}
 use Rattle.vq_model.specs.declared.statement.Section.TheVariants.{Outside, InBatch, InSchedule}
 use Rattle.vq_model.specs.declared.statement.Statement.{Statement}
-use Rattle.vq_model.specs.declared.statement.Statement.TheVariants.{DeclareBuffer, DeclareSemaphore, DeclareQueue, BeginBatch, AddWait, AddCommand, AddSignal, AddFence, EndBatch, BeginSchedule, TakeTurns}
+use Rattle.vq_model.specs.declared.statement.Statement.TheVariants.{DeclareBuffer, DeclareSemaphore, DeclareQueue, BeginBatch, AddWait, AddCommand, AddSignal, AddFence, EndBatch, BeginSchedule, TakeTurns, TakeHostStep}
+use Rattle.vq_model.specs.declared.script.HostStep.{HostStep}
+use Rattle.vq_model.specs.declared.script.HostStep.TheVariants.{WaitAll, WaitAny, PollAll, PollAny, Read, FenceWait, FencePoll, FenceReset, Idle}
+use Rattle.vq_reading_laws.proofs.NamedSemaphores.{found_at, kind_at, kinds_before, IsStepOf, SaysStep, timeline_named, fence_named, says_pair, says_pairs, says_name}
 use Rattle.vq_model.specs.declared.script.SemaphoreKind.TheVariants.{Fence, Timeline, Binary}
-use Rattle.vq_model.specs.Limits.{is_job, limits_of, passes_limit}
+use Rattle.vq_model.specs.Limits.{is_job, limits_of, passes_limit, pairs_of}
 use Rattle.vq_model.specs.declared.statement.LineForm.{LineForm}
-use Rattle.vq_model.specs.declared.statement.LineForm.TheVariants.{BufferLine, TimelineLine, BinaryLine, FenceLine, QueueLine, SubmitLine, WaitTimelineLine, WaitBinaryLine, FillWholeLine, FillLine, UpdateLine, CopyLine, SignalTimelineLine, SignalBinaryLine, BatchFenceLine, EndLine, ScheduleLine, TurnLine, TurnsLine}
+use Rattle.vq_model.specs.declared.statement.LineForm.TheVariants.{BufferLine, TimelineLine, BinaryLine, FenceLine, QueueLine, SubmitLine, WaitTimelineLine, WaitBinaryLine, FillWholeLine, FillLine, UpdateLine, CopyLine, SignalTimelineLine, SignalBinaryLine, BatchFenceLine, EndLine, ScheduleLine, TurnLine, TurnsLine, HostSignalLine, HostWaitAllLine, HostWaitAnyLine, HostPollAllLine, HostPollAnyLine, HostReadLine, HostFenceWaitLine, HostFencePollLine, HostFenceResetLine, HostIdleLine}
 use Rattle.std.proofs.lemmas.List.{length-map}
 use Rattle.std.proofs.lemmas.Bool.{and_parts, ltb-true, false≢true, ltb-false, or_parts}
 use Rattle.vq_model.specs.declared.statement.Form.{Form}
 use Rattle.vq_model.specs.Forms.{forms_outside, forms_in_batch, forms_in_schedule, held_forms, schedule_forms, places}
 use Rattle.std.specs.Prelude.{codes, drop}
-use Rattle.vq_model.specs.Meaning.{first_forms, is_built, where_built, of_two, of_three, of_four, of_five, matches, open_places, hex_bytes, statement_of, meaning, form_of, forms_at, small_numeral, binary_pair, actor_at, is_marked}
+use Rattle.vq_model.specs.Meaning.{first_forms, is_built, where_built, of_two, of_three, of_four, of_five, matches, open_places, hex_bytes, statement_of, meaning, form_of, forms_at, small_numeral, binary_pair, actor_at, is_marked, pairs_at}
 use Rattle.vq_model.specs.declared.statement.Form.TheVariants.{Plain, Scheduled}
 use Rattle.vq_model.specs.declared.script.Queue.{Queue}
 use Rattle.vq_reading_laws.proofs.Meanings.{passes, built_found, first_fails}
-use Rattle.vq_model.specs.declared.script.Semaphore.{Semaphore}
 use Rattle.std.specs.Option.{option_map_or, option_and_then}
 use Rattle.std.specs.Str.{bytes_eq}
 use Rattle.vq_model.specs.declared.statement.FaultKind.TheVariants.{Syntax, Order, Number, Name, Twice, Range, Overlap, Limit}
@@ -41,10 +43,7 @@ use Rattle.vq_model.specs.Text.{numeral}
 
 -- What a line says
 
--- the kinds of the semaphores, and the modes of the queues, that lines declare
-abbrev pub kinds_before : List Line → List SemaphoreKind
-kinds_before before = map (λ s. s.kind) (semaphores before)
-
+-- the modes of the queues that lines declare
 abbrev pub modes_before : List Line → List Mode
 modes_before before = map (λ q. q.mode) (queues before)
 
@@ -104,6 +103,8 @@ Said form before InBatch (AddSignal pair) = SaidSignal before pair
 Said form before InBatch (AddFence f) =
     (slice_get (kinds_before before) f ≡ Some Fence) × KeepsParts before 4
 Said form before InBatch EndBatch = Unit {0}
+Said form before Outside (TakeHostStep step) =
+    IsStepOf (kinds_before before) step × (count is_job before < 4096)
 Said form before Outside BeginSchedule = form ≡ Scheduled
 Said form before InSchedule (TakeTurns actor count) =
     IsActorOf (modes_before before) actor × (turns_before before + count ≤ 65536)
@@ -129,6 +130,16 @@ belongs InBatch BinaryLine = false
 belongs InBatch FenceLine = false
 belongs InBatch (QueueLine mode) = false
 belongs InBatch SubmitLine = false
+belongs InBatch HostSignalLine = false
+belongs InBatch HostWaitAllLine = false
+belongs InBatch HostWaitAnyLine = false
+belongs InBatch HostPollAllLine = false
+belongs InBatch HostPollAnyLine = false
+belongs InBatch HostReadLine = false
+belongs InBatch HostFenceWaitLine = false
+belongs InBatch HostFencePollLine = false
+belongs InBatch HostFenceResetLine = false
+belongs InBatch HostIdleLine = false
 belongs InBatch ScheduleLine = false
 belongs InBatch TurnLine = false
 belongs InBatch TurnsLine = false
@@ -138,6 +149,16 @@ belongs InSchedule BinaryLine = false
 belongs InSchedule FenceLine = false
 belongs InSchedule (QueueLine mode) = false
 belongs InSchedule SubmitLine = false
+belongs InSchedule HostSignalLine = false
+belongs InSchedule HostWaitAllLine = false
+belongs InSchedule HostWaitAnyLine = false
+belongs InSchedule HostPollAllLine = false
+belongs InSchedule HostPollAnyLine = false
+belongs InSchedule HostReadLine = false
+belongs InSchedule HostFenceWaitLine = false
+belongs InSchedule HostFencePollLine = false
+belongs InSchedule HostFenceResetLine = false
+belongs InSchedule HostIdleLine = false
 belongs InSchedule WaitTimelineLine = false
 belongs InSchedule WaitBinaryLine = false
 belongs InSchedule FillWholeLine = false
@@ -285,48 +306,11 @@ data Shape (form : Form) (before : List Line) : Section → ℕ → Statement �
   a_fence : (f : ℕ) → slice_get (kinds_before before) f ≡ Some Fence →
       Shape form before InBatch 4 (AddFence f)
   an_end : Shape form before InBatch 5 EndBatch
+  a_step : (step : HostStep) → IsStepOf (kinds_before before) step →
+      Shape form before Outside 0 (TakeHostStep step)
   a_schedule : form ≡ Scheduled → Shape form before Outside 0 BeginSchedule
   some_turns : (actor : ActorName) (count : ℕ) → IsActorOf (modes_before before) actor →
       Shape form before InSchedule 0 (TakeTurns actor count)
-
--- a position is where an item stands that passes
-at_position : {X : Type 0} (test : X → Bool) (xs : List X) →
-    position_or_len test xs < length xs →
-    (x : X) × (slice_get xs (position_or_len test xs) ≡ Some x) × (test x ≡ true)
-at_position test [] l = absurd (omega arith)
-at_position {X} test (x ∷ xs) l = by_test (test x) refl l (at_position test xs)
-  where
-    by_test : (b : Bool) → test x ≡ b → cond (not b) (1 + position_or_len test xs) 0 < suc (length xs) →
-        (position_or_len test xs < length xs → (y : X)
-        × (slice_get xs (position_or_len test xs) ≡ Some y) × (test y ≡ true)) →
-        (y : X) × (slice_get (x ∷ xs) (cond (not b) (1 + position_or_len test xs) 0) ≡ Some y)
-        × (test y ≡ true)
-    by_test true e m later = (x, refl, e)
-    by_test false e m later =
-        let n : suc (position_or_len test xs) ≡ 1 + position_or_len test xs = omega arith in
-        subst (λ (k : ℕ). (y : X) × (slice_get (x ∷ xs) k ≡ Some y) × (test y ≡ true)) n
-        (later (omega arith))
-
--- what stands at the position that is found
-found_at : {X : Type 0} (test : X → Bool) (xs : List X) (t : ℕ) → position test xs ≡ Some t →
-    (x : X) × (slice_get xs t ≡ Some x) × (test x ≡ true)
-found_at {X} test xs t h = by_test (nat_lt (position_or_len test xs) (length xs)) refl h
-  where
-    by_test : (b : Bool) → nat_lt (position_or_len test xs) (length xs) ≡ b →
-        cond b (Some (position_or_len test xs)) None ≡ Some t →
-        (x : X) × (slice_get xs t ≡ Some x) × (test x ≡ true)
-    by_test true e h =
-        let same : position_or_len test xs ≡ t = cc in
-        subst (λ (k : ℕ). (x : X) × (slice_get xs k ≡ Some x) × (test x ≡ true)) same
-        (at_position test xs (ltb-true (position_or_len test xs) (length xs) e))
-    by_test false e h = absurd (cc)
-
--- its kind
-kind_at : (xs : List Semaphore) (t : ℕ) (x : Semaphore) → slice_get xs t ≡ Some x →
-    slice_get (map (λ s. s.kind) xs) t ≡ Some x.kind
-kind_at [] t x e = absurd (let c : None ≡ Some x = e in cc)
-kind_at (y ∷ xs) zero x e = let same : y ≡ x = cc in ap (λ (s : Semaphore). Some s.kind) same
-kind_at (y ∷ xs) (suc t) x e = kind_at xs t x e
 
 -- the kinds by their tests
 timeline_no_fence : (k : SemaphoreKind) → is_timeline k ≡ true → is_fence k ≡ false
@@ -466,6 +450,9 @@ module _ (form : Form) (before : List Line) where
       subst (Shape form before InBatch 4) (same_statement (AddFence t) s h)
       (a_fence t (fence_kind name t e))
 
+  step_shape : (s : Statement) → SaysStep before s → Shape form before Outside 0 s
+  step_shape s said = subst (Shape form before Outside 0) said.2 (a_step said.0 said.1)
+
   -- an actor's name
   actor_is : (word : List ℕ) (o : Option ActorName) (a : ActorName) → actor_at before word ≡ o →
       o ≡ Some a → IsActorOf (modes_before before) a
@@ -549,6 +536,26 @@ module _ (form : Form) (before : List Line) where
       subst (Shape form before Outside 0) (same_statement (DeclareQueue name mode) s h)
       (a_queue name mode)
   shape Outside SubmitLine (queue ∷ []) s g t b h = batch_shape queue (queue_at before queue) s refl h
+  shape Outside HostSignalLine (name ∷ value ∷ []) s g t b h =
+      step_shape s (says_pair before name (timeline_at before name) (numeral value) s refl h)
+  shape Outside HostWaitAllLine words s g t b h =
+      step_shape s (says_pairs before WaitAll words (pairs_at before words) s (λ qs a. a) refl h)
+  shape Outside HostWaitAnyLine words s g t b h =
+      step_shape s (says_pairs before WaitAny words (pairs_at before words) s (λ qs a. a) refl h)
+  shape Outside HostPollAllLine words s g t b h =
+      step_shape s (says_pairs before PollAll words (pairs_at before words) s (λ qs a. a) refl h)
+  shape Outside HostPollAnyLine words s g t b h =
+      step_shape s (says_pairs before PollAny words (pairs_at before words) s (λ qs a. a) refl h)
+  shape Outside HostReadLine (name ∷ []) s g t b h =
+      step_shape s
+      (says_name before Read (timeline_at before name) s (timeline_named before name) h)
+  shape Outside HostFenceWaitLine (name ∷ []) s g t b h =
+      step_shape s (says_name before FenceWait (fence_at before name) s (fence_named before name) h)
+  shape Outside HostFencePollLine (name ∷ []) s g t b h =
+      step_shape s (says_name before FencePoll (fence_at before name) s (fence_named before name) h)
+  shape Outside HostFenceResetLine (name ∷ []) s g t b h =
+      step_shape s (says_name before FenceReset (fence_at before name) s (fence_named before name) h)
+  shape Outside HostIdleLine [] s g t b h = step_shape s (Idle, tt, same_statement (TakeHostStep Idle) s h)
   shape InBatch WaitTimelineLine (name ∷ value ∷ []) s g t b h =
       wait_shape name (timeline_at before name) (numeral value) s
       (not_held (is_batch_immediate before) b) refl h
@@ -596,6 +603,16 @@ module _ (form : Form) (before : List Line) where
   shape InSchedule FenceLine words s g t b h = absurd (false≢true g)
   shape InSchedule (QueueLine mode) words s g t b h = absurd (false≢true g)
   shape InSchedule SubmitLine words s g t b h = absurd (false≢true g)
+  shape InSchedule HostSignalLine words s g t b h = absurd (false≢true g)
+  shape InSchedule HostWaitAllLine words s g t b h = absurd (false≢true g)
+  shape InSchedule HostWaitAnyLine words s g t b h = absurd (false≢true g)
+  shape InSchedule HostPollAllLine words s g t b h = absurd (false≢true g)
+  shape InSchedule HostPollAnyLine words s g t b h = absurd (false≢true g)
+  shape InSchedule HostReadLine words s g t b h = absurd (false≢true g)
+  shape InSchedule HostFenceWaitLine words s g t b h = absurd (false≢true g)
+  shape InSchedule HostFencePollLine words s g t b h = absurd (false≢true g)
+  shape InSchedule HostFenceResetLine words s g t b h = absurd (false≢true g)
+  shape InSchedule HostIdleLine words s g t b h = absurd (false≢true g)
   shape InSchedule WaitTimelineLine words s g t b h = absurd (false≢true g)
   shape InSchedule WaitBinaryLine words s g t b h = absurd (false≢true g)
   shape InSchedule FillWholeLine words s g t b h = absurd (false≢true g)
@@ -645,6 +662,10 @@ module _ (form : Form) (before : List Line) where
       record { mark = m; few = below (count is_signal (open_batch before)) 16 l; parts = q }
   says was part s (a_fence f e) q r o l = (e, q)
   says was part s an_end q r o l = tt
+  says was part s (a_step step is) q r o l =
+      let limits =
+      or_parts (not (nat_lt (count is_job before) 4096)) (nat_lt 16 (length (pairs_of step))) l in
+      (is, below (count is_job before) 4096 limits.0)
   says was part s (a_schedule e) q r o l = e
   says was part s (some_turns actor count is) q r o l =
       (is, ltb-false 65536 (turns_before before + count) l)

@@ -12,7 +12,7 @@ use Rattle.vq_model.specs.ScriptOfLines.{wait_of, command_of, signal_of, fence_o
 use Rattle.vq_reading_laws.proofs.Standing.{Where, is_outside, is_inside, in_schedule, Declarations, where_after, Stands, AllStand, declared_by}
 use Rattle.vq_model.specs.ValidScripts.{job_lines, HasRisingLines}
 use Rattle.vq_model.specs.declared.statement.Statement.{Statement}
-use Rattle.vq_model.specs.declared.statement.Statement.TheVariants.{DeclareBuffer, DeclareSemaphore, DeclareQueue, BeginBatch, AddWait, AddCommand, AddSignal, AddFence, EndBatch, BeginSchedule, TakeTurns}
+use Rattle.vq_model.specs.declared.statement.Statement.TheVariants.{DeclareBuffer, DeclareSemaphore, DeclareQueue, BeginBatch, AddWait, AddCommand, AddSignal, AddFence, EndBatch, BeginSchedule, TakeTurns, TakeHostStep}
 use Rattle.vq_model.specs.Context.{is_end}
 use Rattle.vq_reading_laws.proofs.LinePushes.{a_line}
 use Rattle.vq_reading_laws.proofs.KeptBatches.{batch_lines_cons}
@@ -219,6 +219,8 @@ module _ (d : Declarations) where
       (script_numbers (is_inside q w g p) (a_line n EndBatch ∷ lines))
       (ap (λ (ls : List Line). batch_numbers ls ++ flat_map job_lines (jobs_of lines))
       (batch_lines_cons (a_line n EndBatch) lines))
+  adds_line n is_outside (TakeHostStep step) lines h a =
+      adds_first n (script_numbers is_outside lines)
   adds_line n is_outside BeginSchedule lines h a =
       adds_none n (flat_map job_lines (jobs_of lines)) (flat_map job_lines (jobs_of lines)) refl
   adds_line n in_schedule (TakeTurns actor count) lines h a =

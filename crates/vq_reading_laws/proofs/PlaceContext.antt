@@ -12,7 +12,7 @@ use Rattle.std.specs.List.{filter_map, slice_get}
 use Rattle.std.proofs.lemmas.List.Elements.{filter_map-append}
 use Rattle.vq_model.specs.declared.statement.Section.{Section}
 use Rattle.vq_model.specs.declared.statement.Statement.{Statement}
-use Rattle.vq_model.specs.declared.statement.Statement.TheVariants.{BeginBatch, DeclareBuffer, DeclareSemaphore, DeclareQueue, AddWait, AddCommand, AddSignal, AddFence, EndBatch, BeginSchedule, TakeTurns}
+use Rattle.vq_model.specs.declared.statement.Statement.TheVariants.{BeginBatch, DeclareBuffer, DeclareSemaphore, DeclareQueue, AddWait, AddCommand, AddSignal, AddFence, EndBatch, BeginSchedule, TakeTurns, TakeHostStep}
 use Rattle.vq_model.specs.Reading.{with_line}
 use Rattle.vq_reading_laws.proofs.LinePushes.{a_line, count_push, section_push, last_queue_push, some_push, open_push}
 use Rattle.std.proofs.lemmas.List.{length-map}
@@ -131,6 +131,8 @@ lead_more before n (is_inside q w g k) (AddFence f) t h =
     inside_more before n (AddFence f) q w g k w g 4 t refl refl refl (omega arith) (omega arith)
     refl h.1
 lead_more before n (is_inside q w g k) EndBatch t h = section_push before n EndBatch
+lead_more before n is_outside (TakeHostStep step) t h =
+    section_push before n (TakeHostStep step) ∙ t
 lead_more before n is_outside BeginSchedule t h = section_push before n BeginSchedule
 lead_more before n in_schedule (TakeTurns actor count) t h =
     section_push before n (TakeTurns actor count) ∙ t
@@ -164,6 +166,7 @@ said_stands form before is_outside s t h =
         let same = length-map (queues before) (λ (x : Queue). x.mode) in
         let l = h.0 in
         omega arith
+    outside (TakeHostStep step) h = h.0
     outside BeginSchedule h = tt
     outside s h = absurd h
 said_stands form before in_schedule s t h =

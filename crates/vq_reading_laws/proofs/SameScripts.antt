@@ -29,7 +29,7 @@ use Rattle.vq_model.specs.declared.script.Mode.{Mode}
 use Rattle.vq_model.specs.declared.script.Turn.{Turn}
 use Rattle.vq_model.specs.declared.script.ActorName.{ActorName}
 use Rattle.vq_model.specs.declared.script.ActorName.TheVariants.{Host as HostActor, Submit as SubmitActor, Ring as RingActor}
-use Rattle.vq_model.specs.Built.{HasNoHostStep, HasNoImmediateWait, HasWholeWaits, IsOfFirstVersion}
+use Rattle.vq_model.specs.Built.{HasNoImmediateWait, HasWholeWaits, IsOfFirstVersion}
 use Rattle.vq_model.proofs.Gets.{get-map}
 use Rattle.vq_model.proofs.Options.{some_of}
 use Rattle.vq_reading_laws.proofs.DeclaredScripts.{valid_signals}
@@ -325,16 +325,7 @@ module _ (a s : Script) (same : SameButLines a s) where
           subst (IsValidStep s) step (step_same x.step (v j x i))
       by_job (BatchJob c) i f = absurd (cc)
 
-  -- the forms that aren't built
-  pub same_hostless : HasNoHostStep a → HasNoHostStep s
-  same_hostless v j h e = let y = job_same j (Host h) e in by_job y.first y.at y.alike
-    where
-      by_job : (y : Job) → slice_get a.jobs j ≡ Some y →
-          job_without_lines y ≡ job_without_lines (Host h) → ⊥
-      by_job (Host x) i f = v j x i
-      by_job (BatchJob c) i f = absurd (cc)
-
-  -- a batch of the first script with the same queue and waits, but for their lines
+  -- the forms that aren't built: a batch of the first script with the same queue and waits, but for their lines
   record SameWaits (j : ℕ) (b : Batch) : Type 0 where
     first : Batch
     at : slice_get a.jobs j ≡ Some (BatchJob first)

@@ -1,5 +1,5 @@
 -- The script for which lines stand that were read.
-use Rattle.std.proofs.Common.{◌≡◌, ℕ, Bool, true, false, cond, List, Some, arith, refl, sym, ap, ◌∙◌, subst}
+use Rattle.std.proofs.Common.{◌≡◌, ℕ, Bool, true, false, cond, List, Some, None, arith, refl, sym, ap, ◌∙◌, subst}
 use Rattle.std.specs.List.{slice_get, flat_map}
 use Rattle.std.proofs.lemmas.Bool.{false≢true}
 use Rattle.vq_model.specs.declared.statement.Line.{Line}
@@ -16,14 +16,14 @@ use Rattle.vq_model.specs.declared.statement.Form.TheVariants.{Plain, Scheduled}
 use Rattle.vq_model.specs.Ranges.{Fits}
 use Rattle.vq_model.specs.Lowering.{batch_commands}
 use Rattle.vq_model.specs.ValidScripts.{IsValid, HasValidBatches, HasValidSteps, HasValidTurns}
-use Rattle.vq_model.specs.Built.{HasNoHostStep, HasNoImmediateWait, HasWholeWaits, IsOfFirstVersion}
+use Rattle.vq_model.specs.Built.{HasNoImmediateWait, HasWholeWaits, IsOfFirstVersion}
 use Rattle.vq_reading_laws.proofs.CommandRanges.{sizes_before}
 use Rattle.vq_reading_laws.proofs.Standing.{declared_by, is_outside, is_inside, in_schedule, Where, where_of}
 use Rattle.vq_reading_laws.proofs.KeptLines.{LinesKept}
 use Rattle.vq_reading_laws.proofs.KeptBatches.{IsCommandOf, JobsKept, jobs_kept, no_version}
 use Rattle.vq_reading_laws.proofs.KeptTurns.{is_at_schedule, turns_counted, turns_kept, led_into, no_turns}
 use Rattle.vq_reading_laws.proofs.PlaceContext.{Lead}
-use Rattle.vq_reading_laws.proofs.DeclaredScripts.{job_kept, no_host, all_at, valid_batch, whole_waits, immediate_waits, valid_signals, valid_turns}
+use Rattle.vq_reading_laws.proofs.DeclaredScripts.{job_kept, step_kept, all_at, valid_batch, valid_step, whole_waits, immediate_waits, valid_signals, valid_turns}
 use Rattle.vq_model.specs.declared.statement.Form.{Form}
 use Rattle.vq_model.specs.Reading.{StandsFor}
 use Rattle.vq_model.specs.declared.script.Script.{Script}
@@ -39,7 +39,7 @@ module _ (form : Form) (next : ℕ) (lines : List Line) (k : LinesKept form next
   job_fits : (job : Job) (n : ℕ) (x : CommandLine) (j : ℕ) → slice_get (jobs_of lines) j ≡ Some job →
       slice_get (batch_commands job) n ≡ Some x → Fits (sizes_before lines) x.command
   job_fits (Host h) n x j e f =
-      absurd (no_host (declared_by lines) (jobs_of lines) j h kept_jobs.all e)
+      absurd (let c : None ≡ Some x = f in cc)
   job_fits (BatchJob b) n x j e f =
       all_at (IsCommandOf (declared_by lines)) b.commands n x
       (job_kept (declared_by lines) (jobs_of lines) j b kept_jobs.all e).parts.commands_of f
@@ -49,10 +49,12 @@ module _ (form : Form) (next : ℕ) (lines : List Line) (k : LinesKept form next
       valid_batch (script_of lines) b
       (job_kept (declared_by lines) (jobs_of lines) j b kept_jobs.all e)
 
-  -- no form stands that isn't built
-  pub lines_hostless : HasNoHostStep (script_of lines)
-  lines_hostless j h e = no_host (declared_by lines) (jobs_of lines) j h kept_jobs.all e
+  pub lines_steps : HasValidSteps (script_of lines)
+  lines_steps j h e =
+      valid_step (script_of lines) h.step
+      (step_kept (declared_by lines) (jobs_of lines) j h kept_jobs.all e)
 
+  -- no form stands that isn't built
   pub lines_unwaited : HasNoImmediateWait (script_of lines)
   lines_unwaited j b e =
       immediate_waits (script_of lines) b
@@ -101,10 +103,6 @@ module _ (form : Form) (next : ℕ) (lines : List Line) (k : LinesKept form next
   pub lines_version : IsOfFirstVersion (script_of lines)
   lines_version = no_version (declared_by lines) lines k.stand
 
-  -- so host steps are valid, as there are none
-  pub lines_steps : HasValidSteps (script_of lines)
-  lines_steps j h e = absurd (lines_hostless j h e)
-
   pub lines_valid : IsValid (script_of lines)
   lines_valid =
       let kj = kept_jobs.few_jobs in
@@ -141,11 +139,6 @@ module _ (text : List ℕ) (form : Form) (s : Script) (h : StandsFor text form s
   text_steps =
       subst HasValidSteps of_lines.whole
       (lines_steps form of_lines.next of_lines.lines of_lines.kept)
-
-  pub text_hostless : HasNoHostStep s
-  text_hostless =
-      subst HasNoHostStep of_lines.whole
-      (lines_hostless form of_lines.next of_lines.lines of_lines.kept)
 
   pub text_unwaited : HasNoImmediateWait s
   text_unwaited =

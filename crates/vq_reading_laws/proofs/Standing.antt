@@ -1,18 +1,21 @@
 -- Lines that stand where they may, by what all lines declare.
-use Rattle.std.proofs.Common.{ℕ, List, ◌≡◌, ◌++◌, zero, suc, ◌<◌, [], ◌∷◌, length, refl, arith, length-append, sym, subst, append-nil, append_assoc, Some, None, ◌+◌, fold, false, ◌≤◌, ap, ◌∙◌}
+use Rattle.std.proofs.Common.{ℕ, Bool, List, ◌≡◌, ◌++◌, zero, suc, ◌<◌, [], ◌∷◌, length, refl, arith, length-append, sym, subst, append-nil, append_assoc, Some, None, ◌+◌, fold, false, ◌≤◌, ap, ◌∙◌}
 use Rattle.vq_model.specs.declared.script.SemaphoreKind.{SemaphoreKind}
 use Rattle.vq_model.specs.declared.script.Mode.{Mode}
 use Rattle.vq_model.specs.declared.statement.Line.{Line}
 use Rattle.vq_reading_laws.proofs.CommandRanges.{sizes_before}
-use Rattle.vq_reading_laws.proofs.LineFacts.{kinds_before, modes_before, IsMarkOf, IsActorOf}
-use Rattle.std.specs.List.{slice_index_or, slice_get}
+use Rattle.vq_reading_laws.proofs.LineFacts.{modes_before, IsMarkOf, IsActorOf}
+use Rattle.vq_reading_laws.proofs.NamedSemaphores.{kinds_before, IsOfKind, IsPairOf, IsStepOf}
+use Rattle.std.specs.List.{slice_index_or, slice_get, AllByRecursion as Every}
 use Rattle.vq_model.specs.Ranges.{IsWithin, Fits, fill_size}
 use Rattle.vq_model.specs.declared.script.Command.{Command}
 use Rattle.vq_model.specs.declared.script.Command.TheVariants.{Fill, Update, Copy}
 use Rattle.vq_model.specs.declared.script.FillSize.TheVariants.{Whole, Count}
 use Rattle.vq_model.specs.declared.statement.Statement.{Statement}
-use Rattle.vq_model.specs.declared.statement.Statement.TheVariants.{BeginBatch, AddWait, AddCommand, AddSignal, AddFence, EndBatch, DeclareBuffer, DeclareSemaphore, DeclareQueue, BeginSchedule, TakeTurns}
-use Rattle.vq_model.specs.Context.{is_immediate}
+use Rattle.vq_model.specs.declared.statement.Statement.TheVariants.{BeginBatch, AddWait, AddCommand, AddSignal, AddFence, EndBatch, DeclareBuffer, DeclareSemaphore, DeclareQueue, BeginSchedule, TakeTurns, TakeHostStep}
+use Rattle.vq_model.specs.declared.script.HostStep.{HostStep}
+use Rattle.vq_model.specs.declared.script.HostStep.TheVariants.{Signal, WaitAll, WaitAny, PollAll, PollAny, Read, FenceWait, FencePoll, FenceReset, Idle}
+use Rattle.vq_model.specs.Context.{is_immediate, is_timeline, is_fence}
 use Rattle.vq_model.specs.declared.script.Pair.{Pair}
 use Rattle.vq_model.specs.declared.script.SemaphoreKind.TheVariants.{Fence}
 use Rattle.vq_model.specs.declared.script.ActorName.{ActorName}
@@ -156,6 +159,7 @@ Stands d (is_inside q w g k) (AddCommand c) = Fits d.sizes c × (k ≤ 2)
 Stands d (is_inside q w g k) (AddSignal pair) = IsMarkOf d.kinds pair × (g < 16) × (k ≤ 3)
 Stands d (is_inside q w g k) (AddFence f) = (slice_get d.kinds f ≡ Some Fence) × (k ≤ 4)
 Stands d (is_inside q w g k) EndBatch = Unit {0}
+Stands d is_outside (TakeHostStep step) = IsStepOf d.kinds step
 Stands d is_outside BeginSchedule = Unit {0}
 Stands d in_schedule (TakeTurns actor count) = IsActorOf d.modes actor
 Stands d was other = ⊥
@@ -199,6 +203,33 @@ module _ (d e : Declarations) (g : Grows d e) where
       (get_longer d.modes g.more_modes q Threaded h)
   actor_grows (RingActor q) h = queue_grows q h
 
+  kind_grows : (test : SemaphoreKind → Bool) (t : ℕ) → IsOfKind test d.kinds t →
+      IsOfKind test e.kinds t
+  kind_grows test t k =
+      record {
+        kind = k.kind;
+        is =
+            subst (λ (ks : List SemaphoreKind). slice_get ks t ≡ Some k.kind) (sym g.kinds_are)
+            (get_longer d.kinds g.more_kinds t k.kind k.is);
+        tested = k.tested;
+      }
+
+  pairs_grow : (pairs : List Pair) → Every (IsPairOf d.kinds) pairs → Every (IsPairOf e.kinds) pairs
+  pairs_grow [] a = tt
+  pairs_grow (pair ∷ pairs) a = (kind_grows is_timeline pair.semaphore a.0, pairs_grow pairs a.1)
+
+  step_grows : (step : HostStep) → IsStepOf d.kinds step → IsStepOf e.kinds step
+  step_grows (Signal pair) h = kind_grows is_timeline pair.semaphore h
+  step_grows (WaitAll pairs) h = pairs_grow pairs h
+  step_grows (WaitAny pairs) h = pairs_grow pairs h
+  step_grows (PollAll pairs) h = pairs_grow pairs h
+  step_grows (PollAny pairs) h = pairs_grow pairs h
+  step_grows (Read t) h = kind_grows is_timeline t h
+  step_grows (FenceWait f) h = kind_grows is_fence f h
+  step_grows (FencePoll f) h = kind_grows is_fence f h
+  step_grows (FenceReset f) h = kind_grows is_fence f h
+  step_grows Idle h = tt
+
   fits_grows : (c : Command) → Fits d.sizes c → Fits e.sizes c
   fits_grows c f =
       subst (λ (ns : List ℕ). Fits ns c) (sym g.sizes_are)
@@ -225,6 +256,7 @@ module _ (d e : Declarations) (g : Grows d e) where
     h.1,
   )
   stands_grows (is_inside q w n k) EndBatch h = tt
+  stands_grows is_outside (TakeHostStep step) h = step_grows step h
   stands_grows is_outside BeginSchedule h = tt
   stands_grows in_schedule (TakeTurns actor count) h = actor_grows actor h
   stands_grows was s h = absurd h
