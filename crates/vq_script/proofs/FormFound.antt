@@ -3,19 +3,19 @@ use Rattle.std.proofs.Common.{◌≡◌, ℕ, Bool, true, false, not, cond, List
 use Rattle.std.specs.Prelude.{find, codes, ◌&&◌, nat_lt}
 use Rattle.std.specs.List.{list_all}
 use Rattle.std.specs.Str.{bytes_eq}
-use Rattle.std.proofs.lemmas.Bool.{and_parts}
+use Rattle.std.proofs.lemmas.Bool.{and_parts, false≢true}
 use Rattle.std.proofs.lemmas.Slice.Eq.{bytes_eq-Decides}
 use Rattle.vq_model.specs.declared.script.Batch.{Batch}
 use Rattle.vq_model.specs.declared.statement.Line.{Line}
 use Rattle.vq_model.specs.declared.statement.Form.{Form}
 use Rattle.vq_model.specs.declared.statement.Form.TheVariants.{Plain, Scheduled}
 use Rattle.vq_model.specs.declared.statement.LineForm.{LineForm}
-use Rattle.vq_model.specs.declared.statement.LineForm.TheVariants.{VersionLine}
+use Rattle.vq_model.specs.declared.statement.LineForm.TheVariants.{VersionLine, HostWaitAllLine, HostWaitAnyLine, HostPollAllLine, HostPollAnyLine}
 use Rattle.vq_model.specs.declared.statement.Section.TheVariants.{Outside, InBatch}
 use Rattle.vq_model.specs.Context.{section, version_of}
-use Rattle.vq_model.specs.Forms.{Slot, Fixed, Pairs, places, forms_outside, forms_in_batch, forms_in_schedule, held_forms, schedule_forms}
+use Rattle.vq_model.specs.Forms.{Slot, Fixed, Pairs, TimelineName, Numeral, places, forms_outside, forms_in_batch, forms_in_schedule, held_forms, schedule_forms}
 use Rattle.vq_model.specs.LineFaults.{part_of_form}
-use Rattle.vq_model.specs.Meaning.{matches, where_built, form_of, are_as_many, agree, open_places}
+use Rattle.vq_model.specs.Meaning.{matches, where_built, form_of, are_as_many, agree, open_places, pair_places}
 use Rattle.vq_reading_laws.proofs.Cited.{found_belongs, found_passes}
 use Rattle.vq_script.specs.Holds.{Holds, Kept, section_of}
 use Rattle.vq_script.specs.SaidLines.{AreFound, Stands, end_with_pairs, is_turn_form, open_kinds}
@@ -132,9 +132,34 @@ are_of (Fixed text ∷ more) (w ∷ words) m p = are_of more words m p
 are_of (place ∷ more) [] m p = absurd (cc)
 are_of (place ∷ more) (w ∷ words) m p = ap (λ (ks : List Slot). place ∷ ks) (are_of more words m p)
 
+-- pairs that are found are those of their words
+pairs_again : (words : List (List ℕ)) →
+    pair_places words ≡ pair_places (map (λ x. x.1) (pair_places words))
+pairs_again [] = refl
+pairs_again (name ∷ []) = refl
+pairs_again (name ∷ value ∷ words) =
+    ap (λ (ps : List (Slot × List ℕ)). (TimelineName, name) ∷ (Numeral, value) ∷ ps)
+    (pairs_again words)
+
+pairs_found : (f : LineForm) (words : List (List ℕ)) → are_as_many (places f) words ≡ true →
+    end_with_pairs (places f) ≡ true →
+    open_places (places f) words ≡ pair_places (map (λ x. x.1) (open_places (places f) words))
+pairs_found HostWaitAllLine (a ∷ b ∷ c ∷ words) m e = pairs_again words
+pairs_found HostWaitAllLine words m e = absurd (cc)
+pairs_found HostWaitAnyLine (a ∷ b ∷ c ∷ words) m e = pairs_again words
+pairs_found HostWaitAnyLine words m e = absurd (cc)
+pairs_found HostPollAllLine (a ∷ b ∷ c ∷ words) m e = pairs_again words
+pairs_found HostPollAllLine words m e = absurd (cc)
+pairs_found HostPollAnyLine (a ∷ b ∷ c ∷ words) m e = pairs_again words
+pairs_found HostPollAnyLine words m e = absurd (cc)
+pairs_found other words m e = absurd (false≢true e)
+
 pub words_found : (words : List (List ℕ)) (forms : List LineForm) (f : LineForm) →
     find (matches words) forms ≡ Some f → AreFound f (open_places (places f) words)
 words_found words forms f e =
-    are_of (places f) words
-    (and_parts (are_as_many (places f) words) (agree (places f) words)
-    (found_passes (matches words) forms f e)).0
+    let many = (and_parts (are_as_many (places f) words) (agree (places f) words)
+    (found_passes (matches words) forms f e)).0 in
+    record {
+      each = are_of (places f) words many;
+      pairs = pairs_found f words many;
+    }

@@ -3,7 +3,7 @@ use Rattle.std.proofs.Common.{◌≡◌, ℕ, ◌+◌, Bool, true, false, cond, 
 use Rattle.std.specs.List.{list_all, list_any, count_by, slice_get}
 use Rattle.std.specs.Option.{option_map, option_map_or, option_or}
 use Rattle.std.specs.Str.{bytes_eq}
-use Rattle.std.proofs.lemmas.Bool.{and_parts, or_parts, ltb-false}
+use Rattle.std.proofs.lemmas.Bool.{and_parts, or_parts, ltb-false, false≢true}
 use Rattle.std.proofs.lemmas.Bool.Decides.{nat_tests}
 use Rattle.std.proofs.lemmas.List.Sums.{sum_by-cons}
 use Rattle.vq_model.specs.declared.script.Batch.{Batch}
@@ -20,23 +20,25 @@ use Rattle.vq_model.specs.declared.statement.FaultKind.{FaultKind}
 use Rattle.vq_model.specs.declared.statement.FaultKind.TheVariants.{Syntax, Order, Number, Name, Twice, Range, Overlap, Limit}
 use Rattle.vq_model.specs.declared.statement.Line.{Line}
 use Rattle.vq_model.specs.declared.statement.LineForm.{LineForm}
-use Rattle.vq_model.specs.declared.statement.LineForm.TheVariants.{BufferLine, TimelineLine, BinaryLine, FenceLine, QueueLine, HostWaitAllLine, HostWaitAnyLine, HostPollAllLine, HostPollAnyLine, FillWholeLine, FillLine, UpdateLine, CopyLine, SubmitLine, WaitTimelineLine, WaitBinaryLine, SignalTimelineLine, SignalBinaryLine, BatchFenceLine, EndLine, ScheduleLine, TurnLine, TurnsLine}
+use Rattle.vq_model.specs.declared.statement.LineForm.TheVariants.{BufferLine, TimelineLine, BinaryLine, FenceLine, QueueLine, HostSignalLine, HostWaitAllLine, HostWaitAnyLine, HostPollAllLine, HostPollAnyLine, HostReadLine, HostFenceWaitLine, HostFencePollLine, HostFenceResetLine, HostIdleLine, FillWholeLine, FillLine, UpdateLine, CopyLine, SubmitLine, WaitTimelineLine, WaitBinaryLine, SignalTimelineLine, SignalBinaryLine, BatchFenceLine, EndLine, ScheduleLine, TurnLine, TurnsLine}
 use Rattle.vq_model.specs.declared.statement.Statement.{Statement}
-use Rattle.vq_model.specs.declared.statement.Statement.TheVariants.{TakeTurns}
+use Rattle.vq_model.specs.declared.statement.Statement.TheVariants.{TakeTurns, TakeHostStep}
+use Rattle.vq_model.specs.declared.script.HostStep.TheVariants.{WaitAll, WaitAny, PollAll, PollAny}
 use Rattle.vq_model.specs.declared.script.ActorName.{ActorName}
 use Rattle.vq_model.specs.Context.{has_begun, is_batch_immediate, is_immediate, is_immediate_at, count, open_batch, is_command}
 use Rattle.vq_model.specs.Forms.{Slot, HexDigits, Numeral, NewName, BufferName, TimelineName, BinaryName, FenceName, QueueName, Actor, places}
 use Rattle.vq_model.specs.LineFaults.{is_shaped, is_numeric, is_known, is_new, is_declaration, part_of_form, is_batch_fence_form, is_out_of_order, is_command_in_range, is_in_range, overlaps}
-use Rattle.vq_model.specs.Limits.{passes_limit, limits_of}
-use Rattle.vq_model.specs.Meaning.{is_built, actor_at, hex_bytes, is_hex, small_numeral, of_two, of_three, of_four, of_five, statement_of}
+use Rattle.vq_model.specs.Limits.{passes_limit, limits_of, pairs_of, is_job}
+use Rattle.vq_model.specs.Meaning.{is_built, actor_at, hex_bytes, is_hex, small_numeral, of_two, of_three, of_four, of_five, statement_of, pair_at, pairs_at, pair_places}
 use Rattle.vq_model.specs.Text.{numeral}
 use Rattle.vq_reading_laws.proofs.Cited.{below}
 use Rattle.vq_script.specs.declared.said.Said.{Said}
-use Rattle.vq_script.specs.declared.said.Said.TheVariants.{Buffer as SaysBuffer, Semaphore as SaysSemaphore, Queue as SaysQueue, Submit, Wait, FillWhole, Fill, Update, Copy, Signal, Fence, End, Schedule, Turns}
+use Rattle.vq_script.specs.declared.said.Said.TheVariants.{Buffer as SaysBuffer, Semaphore as SaysSemaphore, Queue as SaysQueue, Submit, Wait, FillWhole, Fill, Update, Copy, Signal, Fence, End, Host, Schedule, Turns}
 use Rattle.vq_script.specs.Faults.{first_fault, statement_at}
 use Rattle.vq_script.specs.Holds.{Holds, Declares, Kept, last_part, named_fence, open_jobs}
 use Rattle.vq_script.specs.LineTests.{number_of, threaded_of, actor_in, is_built_in, is_immediate_in, is_late, is_known_in, is_new_in, word_fault, is_command_in, is_in_range_in, passes_in, said_fault, later_fault}
-use Rattle.vq_script.specs.SaidLines.{AreOf, AreFound, Stands, Suits, MayKeep, MayCommand, IsNewName, end_with_pairs, open_kinds, statement_in, part_in, copied, new_name, is_batch_line, is_schedule_line, named_in, placed, are_one_each}
+use Rattle.vq_script.specs.SaidLines.{AreFound, Stands, Suits, MayKeep, MayCommand, IsNewName, end_with_pairs, open_kinds, statement_in, part_in, copied, new_name, is_batch_line, is_schedule_line, is_host_line, named_in, placed, are_one_each, IsWhollyRead}
+use Rattle.vq_script.specs.SaidSteps.{pair_in, pairs_in, step_in}
 
 -- Syntax
 
@@ -59,15 +61,6 @@ built_by lines k batch (QueueLine Immediate) h s = refl
 built_by lines k batch (QueueLine Deferred) h s = refl
 built_by lines k batch (QueueLine Threaded) h s = refl
 built_by lines k batch other h s = refl
-
--- a form that is built doesn't end with pairs
-pub built_found : (k : Kept) (batch : Option Batch) (form : LineForm) →
-    is_built_in k batch form ≡ true → end_with_pairs (places form) ≡ false
-built_found k batch HostWaitAllLine b = absurd (cc)
-built_found k batch HostWaitAnyLine b = absurd (cc)
-built_found k batch HostPollAllLine b = absurd (cc)
-built_found k batch HostPollAnyLine b = absurd (cc)
-built_found k batch other b = refl
 
 -- Order
 
@@ -209,7 +202,7 @@ module _ (lines : List Line) (k : Kept) (batch : Option Batch) (h : Holds lines 
   command_by (CopyCommand s from t to n) = rw h.declares.all_buffers refl
 
   range_by : (said : Said) →
-      is_in_range lines (statement_in said) ≡ is_in_range_in k (statement_in said)
+      is_in_range lines (statement_in k said) ≡ is_in_range_in k (statement_in k said)
   range_by (FillWhole b o w) = command_by (FillCommand b o Whole w)
   range_by (Fill b o n w) = command_by (FillCommand b o (Count n) w)
   range_by (Update b o digits) = command_by (UpdateCommand b o (hex_bytes digits.now))
@@ -219,24 +212,27 @@ module _ (lines : List Line) (k : Kept) (batch : Option Batch) (h : Holds lines 
 
   -- Overlap and Limit
 
-  overlap_by : (said : Said) → overlaps lines (statement_in said) ≡ overlaps [] (statement_in said)
+  overlap_by : (said : Said) → overlaps lines (statement_in k said) ≡ overlaps [] (statement_in k said)
   overlap_by (Copy s from t to n) = refl
   overlap_by other = refl
 
+  -- outside a batch all jobs are kept
+  jobs_by : (b : Option Batch) → false ≡ is_some b → count is_job lines ≡ length k.jobs + open_jobs b →
+      not (nat_lt (count is_job lines) (limits_of 1).jobs)
+      ≡ not (nat_lt (length k.jobs) (limits_of 1).jobs)
+  jobs_by None e all =
+      ap (λ (n : ℕ). not (nat_lt n (limits_of 1).jobs))
+      (let same : count is_job lines ≡ length k.jobs = omega arith in same)
+  jobs_by (Some b) e all = absurd (cc)
+
   limit_by : (said : Said) → nat_lt 0 (part_in said) ≡ is_some batch →
-      passes_limit (limits_of 1) lines (statement_in said) ≡ passes_in k batch (statement_in said)
+      passes_limit (limits_of 1) lines (statement_in k said) ≡ passes_in k batch (statement_in k said)
   limit_by (SaysBuffer name size) s = rw h.declares.all_buffers (rw h.declares.all_bytes refl)
   limit_by (SaysSemaphore name kind) s = rw h.declares.all_semaphores refl
   limit_by (SaysQueue name mode) s = rw h.declares.all_queues refl
-  limit_by (Submit q) s = rw h.all_jobs (no_batch batch s)
-    where
-      no_batch : (b : Option Batch) → false ≡ is_some b →
-          not (nat_lt (length k.jobs + open_jobs b) (limits_of 1).jobs)
-          ≡ not (nat_lt (length k.jobs) (limits_of 1).jobs)
-      no_batch None e =
-          ap (λ (n : ℕ). not (nat_lt n (limits_of 1).jobs))
-          (let same : length k.jobs + 0 ≡ length k.jobs = omega arith in same)
-      no_batch (Some b) e = absurd (cc)
+  limit_by (Submit q) s = jobs_by batch s h.all_jobs
+  limit_by (Host step) s = λ i. jobs_by batch s h.all_jobs i
+      || nat_lt (limits_of 1).pairs (length (pairs_of (step_in k step)))
   limit_by (Wait pair) s = rw h.inside.all_waits refl
   limit_by (FillWhole b o w) s = rw h.all_commands (rw h.inside.all_commands refl)
   limit_by (Fill b o n w) s = rw h.all_commands (rw h.inside.all_commands refl)
@@ -249,8 +245,8 @@ module _ (lines : List Line) (k : Kept) (batch : Option Batch) (h : Holds lines 
   -- the first kind of the faults that a line has whose words are read
   pub later_by : (words : List (Slot × List ℕ)) (said : Said) →
       nat_lt 0 (part_in said) ≡ is_some batch →
-      later_fault lines k words (Some (statement_in said))
-      ≡ said_fault k batch words (statement_in said)
+      later_fault lines k words (Some (statement_in k said))
+      ≡ said_fault k batch words (statement_in k said)
   later_by words said s = λ i.
       cond (not (list_all (is_new_in k) words)) (Some Twice)
       (cond (not (range_by said i)) (Some Range)
@@ -284,21 +280,27 @@ new_passes test ((p, word) ∷ words) rest x are e all =
 
 -- what is copied passes what all words pass
 copy_passes : (test : Slot × List ℕ → Bool) (form : LineForm) (words : List (Slot × List ℕ))
-    (x : Slot × List ℕ) → AreOf form words → Some x ≡ copied form (map (λ y. y.1) words) →
+    (x : Slot × List ℕ) → AreFound form words → Some x ≡ copied form (map (λ y. y.1) words) →
     list_all test words ≡ true → test x ≡ true
-copy_passes test BufferLine words x are e all = new_passes test words (Numeral ∷ []) x are e all
-copy_passes test TimelineLine words x are e all = new_passes test words (Numeral ∷ []) x are e all
-copy_passes test BinaryLine words x are e all = new_passes test words [] x are e all
-copy_passes test FenceLine words x are e all = new_passes test words [] x are e all
-copy_passes test (QueueLine mode) words x are e all = new_passes test words [] x are e all
-copy_passes test UpdateLine ((p, b) ∷ (q, offset) ∷ (r, digits) ∷ []) x are e all =
+copy_passes test BufferLine words x found e all =
+    new_passes test words (Numeral ∷ []) x (found.each refl) e all
+copy_passes test TimelineLine words x found e all =
+    new_passes test words (Numeral ∷ []) x (found.each refl) e all
+copy_passes test BinaryLine words x found e all =
+    new_passes test words [] x (found.each refl) e all
+copy_passes test FenceLine words x found e all =
+    new_passes test words [] x (found.each refl) e all
+copy_passes test (QueueLine mode) words x found e all =
+    new_passes test words [] x (found.each refl) e all
+copy_passes test UpdateLine ((p, b) ∷ (q, offset) ∷ (r, digits) ∷ []) x found e all =
+    let are = found.each refl in
     let place : r ≡ HexDigits = cc in
     let same : x ≡ (HexDigits, digits) = cc in
     let first = and_parts (test (p, b)) (test (q, offset) && (test (r, digits) && true)) all in
     let second = and_parts (test (q, offset)) (test (r, digits) && true) first.1 in
     subst (λ (y : Slot × List ℕ). test y ≡ true) ((λ i. (place i, digits)) ∙ sym same)
     (and_parts (test (r, digits)) true second.1).0
-copy_passes test other words x are e all = absurd (cc)
+copy_passes test other words x found e all = absurd (cc)
 
 -- only one form is of the part of fences
 fence_form : (form : LineForm) → 4 ≡ part_of_form form → is_batch_fence_form form ≡ true
@@ -350,14 +352,14 @@ passed_later k batch words s n e =
       limited = (cond_none (passes_in k batch s) Limit None (cond_none (overlaps [] s) Overlap _ six.1).1).0;
     }
 
-module _ (k : Kept) (form : LineForm) (words : List (Slot × List ℕ)) (are : AreOf form words) where
+module _ (k : Kept) (form : LineForm) (words : List (Slot × List ℕ)) (found : AreFound form words) where
   -- a name that is declared
   is_new_name : (batch : Option Batch) (name : List ℕ) → Passes k batch form words →
       list_all (is_new_in k) words ≡ true →
       Some (NewName, name) ≡ copied form (map (λ y. y.1) words) → IsNewName k name
   is_new_name batch name p fresh e = (
-    copy_passes is_shaped form words (NewName, name) are e p.shaped,
-    not_true _ (copy_passes (is_new_in k) form words (NewName, name) are e fresh),
+    copy_passes is_shaped form words (NewName, name) found e p.shaped,
+    not_true _ (copy_passes (is_new_in k) form words (NewName, name) found e fresh),
   )
 
   -- a command
@@ -374,10 +376,10 @@ module _ (k : Kept) (form : LineForm) (words : List (Slot × List ℕ)) (are : A
       }
 
   -- what a line without a fault says
-  pub may_keep : (batch : Option Batch) (said : Said) → Stands form k.scheduled batch → Suits form words said →
-      Passes k batch form words → PassesLater k batch words (statement_in said) →
-      MayKeep k batch said
-  may_keep None (SaysBuffer name size) st su p l =
+  pub may_keep : (batch : Option Batch) (said : Said) → Stands form k.scheduled batch →
+      Suits form words said → IsWhollyRead k said → Passes k batch form words →
+      PassesLater k batch words (statement_in k said) → MayKeep k batch said
+  may_keep None (SaysBuffer name size) st su r p l =
       let limits =
       or_parts (not (nat_lt (length k.buffers) (limits_of 1).buffers))
       (nat_lt (limits_of 1).bytes (k.bytes + size)) l.limited in (
@@ -385,50 +387,52 @@ module _ (k : Kept) (form : LineForm) (words : List (Slot × List ℕ)) (are : A
         below (length k.buffers) (limits_of 1).buffers limits.0,
         ltb-false (limits_of 1).bytes (k.bytes + size) limits.1,
       )
-  may_keep None (SaysSemaphore name kind) st su p l =
+  may_keep None (SaysSemaphore name kind) st su r p l =
       (is_new_name None name.now p l.fresh su.copies, below (length k.semaphores) (limits_of 1).semaphores l.limited)
-  may_keep None (SaysQueue name mode) st su p l =
+  may_keep None (SaysQueue name mode) st su r p l =
       (is_new_name None name.now p l.fresh su.copies, below (length k.queues) (limits_of 1).queues l.limited)
-  may_keep None (Submit q) st su p l = sym (su.turns ∙ st.turns)
-  may_keep None Schedule st su p l = tt
-  may_keep None (Turns actor count) st su p l =
+  may_keep None (Submit q) st su r p l = sym (su.turns ∙ st.turns)
+  may_keep None (Host step) st su r p l = r
+  may_keep None Schedule st su r p l = tt
+  may_keep None (Turns actor count) st su r p l =
       ltb-false (limits_of 1).turns (length k.turns + count) l.limited
-  may_keep None other st su p l =
+  may_keep None other st su r p l =
       absurd (let c : nat_lt 0 (part_in other) ≡ false = ap (nat_lt 0) su.part ∙ st.inside in cc)
-  may_keep (Some b) (Wait pair) st su p l =
+  may_keep (Some b) (Wait pair) st su r p l =
       subst (λ (n : ℕ). nat_lt n (last_part (Some b)) ≡ false) (sym su.part) p.in_order
-  may_keep (Some b) (FillWhole x o w) st su p l = may_command b (FillWhole x o w) p refl su.part l.limited
-  may_keep (Some b) (Fill x o n w) st su p l = may_command b (Fill x o n w) p refl su.part l.limited
-  may_keep (Some b) (Update x o digits) st su p l = (
+  may_keep (Some b) (FillWhole x o w) st su r p l = may_command b (FillWhole x o w) p refl su.part l.limited
+  may_keep (Some b) (Fill x o n w) st su r p l = may_command b (Fill x o n w) p refl su.part l.limited
+  may_keep (Some b) (Update x o digits) st su r p l = (
     may_command b (Update x o digits) p refl su.part l.limited,
-    copy_passes is_numeric form words (HexDigits, digits.now) are su.copies l.numeric,
+    copy_passes is_numeric form words (HexDigits, digits.now) found su.copies l.numeric,
   )
-  may_keep (Some b) (Copy s from t to n) st su p l = may_command b (Copy s from t to n) p refl su.part l.limited
-  may_keep (Some b) (Signal pair) st su p l =
+  may_keep (Some b) (Copy s from t to n) st su r p l = may_command b (Copy s from t to n) p refl su.part l.limited
+  may_keep (Some b) (Signal pair) st su r p l =
       subst (λ (n : ℕ). nat_lt n (last_part (Some b)) ≡ false) (sym su.part) p.in_order
-  may_keep (Some b) (Fence f) st su p l =
+  may_keep (Some b) (Fence f) st su r p l =
       no_fence b.fence (sym (ap (λ t. t && is_some b.fence) (fence_form form su.part)) ∙ p.one_fence)
     where
       no_fence : (x : Option Mark) → is_some x ≡ false → x ≡ None
       no_fence None e = refl
       no_fence (Some m) e = absurd (cc)
-  may_keep (Some b) End st su p l = tt
-  may_keep (Some b) other st su p l =
+  may_keep (Some b) End st su r p l = tt
+  may_keep (Some b) other st su r p l =
       absurd (let c : nat_lt 0 (part_in other) ≡ true = ap (nat_lt 0) su.part ∙ st.inside in cc)
 
--- the forms that are built are declarations, commands, lines of the schedule and the other lines of
--- batches
+-- the forms that are built are declarations, commands, lines of the schedule, steps of the host and
+-- the other lines of batches
 pub batch_line_left : (k : Kept) (batch : Option Batch) (form : LineForm) →
     is_built_in k batch form ≡ true → is_declaration form ≡ false →
-    (part_of_form form == 2) ≡ false → is_schedule_line form ≡ false → is_batch_line form ≡ true
-batch_line_left k batch SubmitLine b d p c = refl
-batch_line_left k batch WaitTimelineLine b d p c = refl
-batch_line_left k batch WaitBinaryLine b d p c = refl
-batch_line_left k batch SignalTimelineLine b d p c = refl
-batch_line_left k batch SignalBinaryLine b d p c = refl
-batch_line_left k batch BatchFenceLine b d p c = refl
-batch_line_left k batch EndLine b d p c = refl
-batch_line_left k batch other b d p c = absurd (cc)
+    (part_of_form form == 2) ≡ false → is_schedule_line form ≡ false → is_host_line form ≡ false →
+    is_batch_line form ≡ true
+batch_line_left k batch SubmitLine b d p c h = refl
+batch_line_left k batch WaitTimelineLine b d p c h = refl
+batch_line_left k batch WaitBinaryLine b d p c h = refl
+batch_line_left k batch SignalTimelineLine b d p c h = refl
+batch_line_left k batch SignalBinaryLine b d p c h = refl
+batch_line_left k batch BatchFenceLine b d p c h = refl
+batch_line_left k batch EndLine b d p c h = refl
+batch_line_left k batch other b d p c h = absurd (cc)
 
 pair_said : (f : Pair → Statement) (a b : Option ℕ) →
     of_two (λ t v. f (record { semaphore = t; value = v })) a b
@@ -441,6 +445,19 @@ pair_said f (Some t) (Some v) = refl
 abbrev are_digits : LineForm → List (List ℕ) → Bool
 are_digits UpdateLine (buffer ∷ offset ∷ digits ∷ []) = is_hex digits
 are_digits form words = true
+
+-- the pairs of a step of the host
+pair_by : (lines : List Line) (k : Kept) (name value : List ℕ) → Declares lines k →
+    pair_in k name value ≡ pair_at lines name value
+unfolding number_of
+pair_by lines k name value d = rw d.all_semaphores refl
+
+pairs_by : (lines : List Line) (k : Kept) (words : List (List ℕ)) → Declares lines k →
+    pairs_in k words ≡ pairs_at lines words
+pairs_by lines k [] d = refl
+pairs_by lines k (name ∷ []) d = refl
+pairs_by lines k (name ∷ value ∷ words) d = λ i.
+    of_two (λ p ps. p ∷ ps) (pair_by lines k name value d i) (pairs_by lines k words d i)
 
 -- what is said by what is kept is what is said after the lines
 named_by : (lines : List Line) (k : Kept) (batch : Option Batch) (form : LineForm)
@@ -457,6 +474,19 @@ named_by lines k batch CopyLine (source ∷ from ∷ target ∷ to ∷ size ∷ 
 named_by lines k batch SignalTimelineLine (name ∷ value ∷ []) d b = rw d.all_semaphores (pair_said _ _ _)
 named_by lines k batch SignalBinaryLine (name ∷ []) d b = rw d.all_semaphores refl
 named_by lines k batch BatchFenceLine (name ∷ []) d b = rw d.all_semaphores refl
+named_by lines k batch HostSignalLine (name ∷ value ∷ []) d b = rw d.all_semaphores refl
+named_by lines k batch HostWaitAllLine words d b =
+    ap (option_map (λ ps. TakeHostStep (WaitAll ps))) (pairs_by lines k words d)
+named_by lines k batch HostWaitAnyLine words d b =
+    ap (option_map (λ ps. TakeHostStep (WaitAny ps))) (pairs_by lines k words d)
+named_by lines k batch HostPollAllLine words d b =
+    ap (option_map (λ ps. TakeHostStep (PollAll ps))) (pairs_by lines k words d)
+named_by lines k batch HostPollAnyLine words d b =
+    ap (option_map (λ ps. TakeHostStep (PollAny ps))) (pairs_by lines k words d)
+named_by lines k batch HostReadLine (name ∷ []) d b = rw d.all_semaphores refl
+named_by lines k batch HostFenceWaitLine (name ∷ []) d b = rw d.all_semaphores refl
+named_by lines k batch HostFencePollLine (name ∷ []) d b = rw d.all_semaphores refl
+named_by lines k batch HostFenceResetLine (name ∷ []) d b = rw d.all_semaphores refl
 named_by lines k batch TurnLine (actor ∷ []) d b =
     ap (λ (o : Option ActorName). option_map (λ a. TakeTurns a 1) o) (sym (actor_by lines k actor d))
 named_by lines k batch TurnsLine (actor ∷ count ∷ []) d b =
@@ -547,49 +577,112 @@ some_number : {B : Type 0} (f : ℕ → B) (a : Option ℕ) →
 some_number f None = refl
 some_number f (Some x) = refl
 
+some_mapped : {A B : Type 0} (f : A → B) (a : Option A) → is_some (option_map f a) ≡ is_some a
+some_mapped f None = refl
+some_mapped f (Some x) = refl
+
+-- pairs are read where all their numbers and names are
+pairs_said : (k : Kept) (texts : List (List ℕ)) →
+    is_some (pairs_in k texts)
+    ≡ (list_all is_numeric (pair_places texts) && list_all (is_known_in k) (pair_places texts))
+pairs_said k [] = refl
+pairs_said k (name ∷ []) = refl
+pairs_said k (name ∷ value ∷ texts) =
+    some_pairs (number_of k TimelineName name) (numeral value) (pairs_in k texts)
+    (list_all is_numeric (pair_places texts)) (list_all (is_known_in k) (pair_places texts))
+    (pairs_said k texts)
+  where
+    and_none : (b c : Bool) → false ≡ ((b && c) && false)
+    and_none true true = refl
+    and_none true false = refl
+    and_none false c = refl
+
+    some_pairs : (a b : Option ℕ) (ps : Option (List Pair)) (n kn : Bool) →
+        is_some ps ≡ (n && kn) →
+        is_some (of_two (λ (p : Pair) (more : List Pair). p ∷ more)
+        (of_two (λ t v. record { semaphore = t; value = v }) a b) ps)
+        ≡ ((is_some b && n) && (is_some a && kn))
+    some_pairs None b ps n kn e = and_none (is_some b) n
+    some_pairs (Some t) None ps n kn e = refl
+    some_pairs (Some t) (Some v) ps n kn e = some_mapped _ ps ∙ e
+
+pairs_named : (k : Kept) (form : LineForm) (texts : List (List ℕ)) →
+    end_with_pairs (places form) ≡ true →
+    is_some (named_in k form texts)
+    ≡ (list_all is_numeric (pair_places texts) && list_all (is_known_in k) (pair_places texts))
+pairs_named k HostWaitAllLine texts e = some_mapped _ (pairs_in k texts) ∙ pairs_said k texts
+pairs_named k HostWaitAnyLine texts e = some_mapped _ (pairs_in k texts) ∙ pairs_said k texts
+pairs_named k HostPollAllLine texts e = some_mapped _ (pairs_in k texts) ∙ pairs_said k texts
+pairs_named k HostPollAnyLine texts e = some_mapped _ (pairs_in k texts) ∙ pairs_said k texts
+pairs_named k other texts e = absurd (false≢true e)
+
 -- a line says something where all its numbers and names are read
 named_said : (k : Kept) (batch : Option Batch) (form : LineForm) (texts : List (List ℕ)) →
-    is_built_in k batch form ≡ true → are_one_each (open_kinds (places form)) texts ≡ true →
+    is_built_in k batch form ≡ true → end_with_pairs (places form) ≡ false →
+    are_one_each (open_kinds (places form)) texts ≡ true →
     is_some (named_in k form texts)
     ≡ (list_all is_numeric (placed (open_kinds (places form)) texts)
     && list_all (is_known_in k) (placed (open_kinds (places form)) texts))
-named_said k batch BufferLine (name ∷ size ∷ []) b o = some_number _ (numeral size)
-named_said k batch TimelineLine (name ∷ value ∷ []) b o = some_number _ (numeral value)
-named_said k batch BinaryLine (name ∷ []) b o = refl
-named_said k batch FenceLine (name ∷ []) b o = refl
-named_said k batch (QueueLine mode) (name ∷ []) b o = refl
-named_said k batch SubmitLine (queue ∷ []) b o = some_one _ (number_of k QueueName queue)
-named_said k batch WaitTimelineLine (name ∷ value ∷ []) b o =
+named_said k batch BufferLine (name ∷ size ∷ []) b e o = some_number _ (numeral size)
+named_said k batch TimelineLine (name ∷ value ∷ []) b e o = some_number _ (numeral value)
+named_said k batch BinaryLine (name ∷ []) b e o = refl
+named_said k batch FenceLine (name ∷ []) b e o = refl
+named_said k batch (QueueLine mode) (name ∷ []) b e o = refl
+named_said k batch SubmitLine (queue ∷ []) b e o = some_one _ (number_of k QueueName queue)
+named_said k batch WaitTimelineLine (name ∷ value ∷ []) b e o =
     some_two _ (number_of k TimelineName name) (numeral value)
-named_said k batch WaitBinaryLine (name ∷ []) b o = some_one _ (number_of k BinaryName name)
-named_said k batch FillWholeLine (buffer ∷ offset ∷ word ∷ []) b o =
+named_said k batch WaitBinaryLine (name ∷ []) b e o = some_one _ (number_of k BinaryName name)
+named_said k batch FillWholeLine (buffer ∷ offset ∷ word ∷ []) b e o =
     some_three _ (number_of k BufferName buffer) (numeral offset) (small_numeral word)
-named_said k batch FillLine (buffer ∷ offset ∷ size ∷ word ∷ []) b o =
+named_said k batch FillLine (buffer ∷ offset ∷ size ∷ word ∷ []) b e o =
     some_four _ (number_of k BufferName buffer) (numeral offset) (numeral size) (small_numeral word)
-named_said k batch UpdateLine (buffer ∷ offset ∷ digits ∷ []) b o =
+named_said k batch UpdateLine (buffer ∷ offset ∷ digits ∷ []) b e o =
     some_update (is_hex digits) (number_of k BufferName buffer) (numeral offset) _
-named_said k batch CopyLine (source ∷ from ∷ target ∷ to ∷ size ∷ []) b o =
+named_said k batch CopyLine (source ∷ from ∷ target ∷ to ∷ size ∷ []) b e o =
     some_copy _ (number_of k BufferName source) (numeral from) (number_of k BufferName target)
     (numeral to) (numeral size)
-named_said k batch SignalTimelineLine (name ∷ value ∷ []) b o =
+named_said k batch SignalTimelineLine (name ∷ value ∷ []) b e o =
     some_two _ (number_of k TimelineName name) (numeral value)
-named_said k batch SignalBinaryLine (name ∷ []) b o = some_one _ (number_of k BinaryName name)
-named_said k batch BatchFenceLine (name ∷ []) b o = some_one _ (number_of k FenceName name)
-named_said k batch EndLine [] b o = refl
-named_said k batch ScheduleLine [] b o = refl
-named_said k batch TurnLine (actor ∷ []) b o = some_one _ (actor_in k actor)
-named_said k batch TurnsLine (actor ∷ count ∷ []) b o = some_two _ (actor_in k actor) (numeral count)
-named_said k batch form texts b o = absurd (cc)
+named_said k batch SignalBinaryLine (name ∷ []) b e o = some_one _ (number_of k BinaryName name)
+named_said k batch BatchFenceLine (name ∷ []) b e o = some_one _ (number_of k FenceName name)
+named_said k batch EndLine [] b e o = refl
+named_said k batch HostSignalLine (name ∷ value ∷ []) b e o =
+    some_mapped _ (pair_in k name value)
+    ∙ some_two _ (number_of k TimelineName name) (numeral value)
+named_said k batch HostWaitAllLine texts b e o = absurd (false≢true (sym e))
+named_said k batch HostWaitAnyLine texts b e o = absurd (false≢true (sym e))
+named_said k batch HostPollAllLine texts b e o = absurd (false≢true (sym e))
+named_said k batch HostPollAnyLine texts b e o = absurd (false≢true (sym e))
+named_said k batch HostReadLine (name ∷ []) b e o = some_one _ (number_of k TimelineName name)
+named_said k batch HostFenceWaitLine (name ∷ []) b e o = some_one _ (number_of k FenceName name)
+named_said k batch HostFencePollLine (name ∷ []) b e o = some_one _ (number_of k FenceName name)
+named_said k batch HostFenceResetLine (name ∷ []) b e o = some_one _ (number_of k FenceName name)
+named_said k batch HostIdleLine [] b e o = refl
+named_said k batch ScheduleLine [] b e o = refl
+named_said k batch TurnLine (actor ∷ []) b e o = some_one _ (actor_in k actor)
+named_said k batch TurnsLine (actor ∷ count ∷ []) b e o = some_two _ (actor_in k actor) (numeral count)
+named_said k batch form texts b e o = absurd (cc)
 
 -- the same, of words at the open places of a form
 pub all_read : (k : Kept) (batch : Option Batch) (form : LineForm)
-    (words : List (Slot × List ℕ)) → AreOf form words → is_built_in k batch form ≡ true →
+    (words : List (Slot × List ℕ)) → AreFound form words → is_built_in k batch form ≡ true →
     (list_all is_numeric words && list_all (is_known_in k) words)
     ≡ is_some (named_in k form (map (λ x. x.1) words))
-all_read k batch form words are b =
-    let p = placed_is words (open_kinds (places form)) are in
-    (λ i. list_all is_numeric (p.1 i) && list_all (is_known_in k) (p.1 i))
-    ∙ sym (named_said k batch form (map (λ x. x.1) words) b p.0)
+all_read k batch form words found b = by_pairs (end_with_pairs (places form)) refl
+  where
+    texts : List (List ℕ)
+    texts = map (λ (x : Slot × List ℕ). x.1) words
+
+    by_pairs : (t : Bool) → end_with_pairs (places form) ≡ t →
+        (list_all is_numeric words && list_all (is_known_in k) words) ≡ is_some (named_in k form texts)
+    by_pairs true e =
+        let p : words ≡ pair_places texts = found.pairs e in
+        (λ i. list_all is_numeric (p i) && list_all (is_known_in k) (p i))
+        ∙ sym (pairs_named k form texts e)
+    by_pairs false e =
+        let p = placed_is words (open_kinds (places form)) (found.each e) in
+        (λ i. list_all is_numeric (p.1 i) && list_all (is_known_in k) (p.1 i))
+        ∙ sym (named_said k batch form texts b e p.0)
 
 -- .. and then it says the same after the lines
 pub said_by_lines : (lines : List Line) (k : Kept) (batch : Option Batch) (form : LineForm)
@@ -611,10 +704,9 @@ pub unread_first : (lines : List Line) (k : Kept) (batch : Option Batch) → Hol
     first_fault lines (form, words) ≡ Some (cond (list_all is_numeric words) Name Number)
 unread_first lines k batch h form words stands found none said =
     let p = passed k batch form words none in
-    let are = found (built_found k batch form p.built) in
     words_by lines k batch h form words stands found None none
     ∙ by_numeric (list_all is_numeric words) (list_all (is_known_in k) words)
-    (all_read k batch form words are p.built ∙ ap (λ (o : Option Statement). is_some o) (sym said))
+    (all_read k batch form words found p.built ∙ ap (λ (o : Option Statement). is_some o) (sym said))
   where
     by_numeric : (n kn : Bool) → (n && kn) ≡ false →
         read_fault lines k batch h words (statement_at lines (form, words)) n kn
@@ -630,9 +722,8 @@ pub read_first : (lines : List Line) (k : Kept) (batch : Option Batch) → Holds
     first_fault lines (form, words) ≡ later_fault lines k words (Some s)
 read_first lines k batch h form words stands found none s said =
     let p = passed k batch form words none in
-    let are = found (built_found k batch form p.built) in
     let both = and_parts (list_all is_numeric words) (list_all (is_known_in k) words)
-    (all_read k batch form words are p.built ∙ ap (λ (o : Option Statement). is_some o) (sym said)) in
+    (all_read k batch form words found p.built ∙ ap (λ (o : Option Statement). is_some o) (sym said)) in
     first_by lines k batch h form words stands found
     ∙ (λ i. option_or (none i) (read_fault lines k batch h words
     (said_by_lines lines k batch form (map (λ x. x.1) words) s h.declares p.built said i) (both.0 i)
@@ -640,9 +731,9 @@ read_first lines k batch h form words stands found none s said =
 
 -- its numbers are read
 pub read_numeric : (k : Kept) (batch : Option Batch) (form : LineForm)
-    (words : List (Slot × List ℕ)) (s : Statement) → AreOf form words →
+    (words : List (Slot × List ℕ)) (s : Statement) → AreFound form words →
     is_built_in k batch form ≡ true → Some s ≡ named_in k form (map (λ x. x.1) words) →
     list_all is_numeric words ≡ true
-read_numeric k batch form words s are b said =
+read_numeric k batch form words s found b said =
     (and_parts (list_all is_numeric words) (list_all (is_known_in k) words)
-    (all_read k batch form words are b ∙ ap (λ (o : Option Statement). is_some o) (sym said))).0
+    (all_read k batch form words found b ∙ ap (λ (o : Option Statement). is_some o) (sym said))).0

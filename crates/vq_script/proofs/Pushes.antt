@@ -9,7 +9,9 @@ use Rattle.std.proofs.lemmas.Grind.{flat_map-append}
 use Rattle.std.proofs.lemmas.Bool.{le-ltb}
 use Rattle.vq_model.specs.declared.statement.Line.{Line}
 use Rattle.vq_model.specs.declared.statement.Statement.{Statement}
-use Rattle.vq_model.specs.declared.statement.Statement.TheVariants.{DeclareBuffer, DeclareSemaphore, DeclareQueue, BeginBatch, AddWait, AddCommand, AddSignal, AddFence, EndBatch, BeginSchedule, TakeTurns}
+use Rattle.vq_model.specs.declared.statement.Statement.TheVariants.{DeclareBuffer, DeclareSemaphore, DeclareQueue, BeginBatch, AddWait, AddCommand, AddSignal, AddFence, EndBatch, BeginSchedule, TakeTurns, TakeHostStep}
+use Rattle.vq_model.specs.declared.script.HostLine.{HostLine}
+use Rattle.vq_model.specs.declared.script.HostStep.{HostStep}
 use Rattle.vq_model.specs.declared.script.ActorName.{ActorName}
 use Rattle.vq_model.specs.declared.script.Turn.{Turn}
 use Rattle.vq_model.specs.declared.script.Buffer.{Buffer}
@@ -22,7 +24,7 @@ use Rattle.vq_model.specs.declared.script.Mark.{Mark}
 use Rattle.vq_model.specs.declared.script.Pair.{Pair}
 use Rattle.vq_model.specs.declared.script.Command.{Command}
 use Rattle.vq_model.specs.declared.script.Job.{Job}
-use Rattle.vq_model.specs.declared.script.Job.TheVariants.{Batch as BatchJob}
+use Rattle.vq_model.specs.declared.script.Job.TheVariants.{Host as HostJob, Batch as BatchJob}
 use Rattle.vq_model.specs.Context.{section, section_after, buffer_of, semaphore_of, queue_of, count, some, open_batch, last_queue, is_command, is_wait, is_signal, is_batch_fence, is_submit, is_end, version_of, turns_of}
 use Rattle.vq_model.specs.Limits.{is_job}
 use Rattle.vq_model.specs.LineFaults.{part_of}
@@ -30,11 +32,12 @@ use Rattle.vq_model.specs.Reading.{with_line}
 use Rattle.vq_model.specs.ScriptOfLines.{batch_lines, jobs_of, job_at, is_schedule, turns_at, mark, command_of, wait_of, signal_of, fence_of, first_of_list}
 use Rattle.vq_model.specs.declared.statement.Section.{Section}
 use Rattle.vq_model.specs.declared.statement.Section.TheVariants.{Outside, InBatch}
-use Rattle.vq_script.specs.Holds.{Holds, Declares, FillBatch, Kept, held_from, last_part, with_buffer, with_semaphore, with_queue, with_command, with_batch, with_schedule, with_turns, section_of}
+use Rattle.vq_script.specs.Holds.{Holds, Declares, FillBatch, Kept, held_from, last_part, with_buffer, with_semaphore, with_queue, with_command, with_batch, with_step, with_schedule, with_turns, section_of}
 use Rattle.vq_script.proofs.LineMore.{numbered, or_false, after_last_cut, after_last_more, before_first_more, count_more, some_more, version_more, given_none, given_one, later_part}
 use Rattle.vq_script.specs.declared.said.Said.{Said}
-use Rattle.vq_script.specs.declared.said.Said.TheVariants.{Buffer as SaysBuffer, Semaphore as SaysSemaphore, Queue as SaysQueue, Submit, Wait, FillWhole, Fill, Update, Copy, Signal, Fence, End, Schedule, Turns}
+use Rattle.vq_script.specs.declared.said.Said.TheVariants.{Buffer as SaysBuffer, Semaphore as SaysSemaphore, Queue as SaysQueue, Submit, Wait, FillWhole, Fill, Update, Copy, Signal, Fence, End, Host, Schedule, Turns}
 use Rattle.vq_script.specs.SaidLines.{MayKeep, statement_in, after, waiting, commanding, signaling, fenced, started}
+use Rattle.vq_script.specs.SaidSteps.{step_in}
 use Rattle.vq_script.proofs.BatchMore.{fill_nothing, fill_started, fill_more, fill_wait, fill_command, fill_signal, fill_fence}
 
 -- a line that begins a batch or ends it
@@ -667,15 +670,63 @@ holds_end lines n b k h =
           ∙ sym (append_assoc k.jobs (BatchJob b ∷ []) (jobs_of rest));
     }
 
+-- A step of the host
+
+none_stepped : (step : HostStep) → DeclaresNone (TakeHostStep step)
+none_stepped step =
+    record {
+      little = record { version = λ n. refl; schedule = refl; turns = λ n. refl; count = refl };
+      buffer = λ n. refl;
+      semaphore = λ n. refl;
+      queue = λ n. refl;
+    }
+
+holds_step : (lines : List Line) (n : ℕ) (step : HostStep) (k : Kept) → Holds lines k None →
+    Holds (with_line lines n (TakeHostStep step)) (with_step k (record { line = n; step = step })) None
+holds_step lines n step k h =
+    let l = numbered n (TakeHostStep step) in
+    let x : HostLine = record { line = n; step = step } in
+    record {
+      part = section_more lines l (section_of k.scheduled None) h.part;
+      unscheduled = λ is. none_open is;
+      declares = (
+          let d = declares_none lines n (TakeHostStep step) k h.declares (none_stepped step) in
+          record {
+            version = d.version;
+            all_buffers = d.all_buffers;
+            all_bytes = d.all_bytes;
+            all_semaphores = d.all_semaphores;
+            all_queues = d.all_queues;
+            schedule = d.schedule;
+            all_turns = d.all_turns;
+            turn_count = d.turn_count;
+          }
+          );
+      all_jobs = one_counted is_job lines l (length k.jobs + 0) h.all_jobs refl
+          ∙ (
+          let long = length-append k.jobs (HostJob x ∷ []) in
+          let same : length k.jobs + 0 + 1 ≡ length (k.jobs ++ HostJob x ∷ []) + 0 = omega arith in same
+          );
+      all_commands = same_count is_command lines l k.commands h.all_commands refl;
+      of_queue = tt;
+      inside = subst (λ (ls : List Line). FillBatch ls None)
+          (sym (after_last_more cuts lines l refl))
+          (fill_more (open_batch lines) l None None h.inside refl refl refl refl
+          (λ m. later_part m 0 0 (omega arith)) (λ m le. le-ltb m 0 (omega arith)));
+      jobs = λ rest. ap jobs_of (append_assoc lines (l ∷ []) rest) ∙ h.jobs (l ∷ rest)
+          ∙ sym (append_assoc k.jobs (HostJob x ∷ []) (jobs_of rest));
+    }
+
 -- What a line says that may be kept, with what is kept after it.
 pub holds_after : (lines : List Line) (n : ℕ) (said : Said) (k : Kept) (batch : Option Batch) →
     Holds lines k batch → MayKeep k batch said →
-    Holds (with_line lines n (statement_in said)) (after n (statement_in said) k batch).0
-    (after n (statement_in said) k batch).1
+    Holds (with_line lines n (statement_in k said)) (after n (statement_in k said) k batch).0
+    (after n (statement_in k said) k batch).1
 holds_after lines n (SaysBuffer name size) k None h m = holds_buffer lines n name.now size k h
 holds_after lines n (SaysSemaphore name kind) k None h m = holds_semaphore lines n name.now kind k h
 holds_after lines n (SaysQueue name mode) k None h m = holds_queue lines n name.now mode k h
 holds_after lines n (Submit q) k None h m = holds_submit lines n q k h m
+holds_after lines n (Host step) k None h m = holds_step lines n (step_in k step) k h
 holds_after lines n Schedule k None h m = holds_schedule lines n k h
 holds_after lines n (Turns actor count) k None h m = holds_turns lines n actor count k h
 holds_after lines n other k None h m = absurd m

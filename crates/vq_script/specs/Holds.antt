@@ -13,7 +13,8 @@ use Rattle.vq_model.specs.declared.script.Mark.{Mark}
 use Rattle.vq_model.specs.declared.script.Job.{Job}
 use Rattle.vq_model.specs.declared.script.ActorName.{ActorName}
 use Rattle.vq_model.specs.declared.script.Turn.{Turn}
-use Rattle.vq_model.specs.declared.script.Job.TheVariants.{Batch as BatchJob}
+use Rattle.vq_model.specs.declared.script.Job.TheVariants.{Host, Batch as BatchJob}
+use Rattle.vq_model.specs.declared.script.HostLine.{HostLine}
 use Rattle.vq_model.specs.declared.statement.Line.{Line}
 use Rattle.vq_model.specs.declared.statement.Statement.{Statement}
 use Rattle.vq_model.specs.declared.statement.Statement.TheVariants.{AddWait}
@@ -35,7 +36,7 @@ pub record Kept : Type 0 where
   pub bytes : ℕ
   pub semaphores : List Semaphore
   pub queues : List Queue
-  -- the batches that have ended
+  -- the steps of the host, and the batches that have ended
   pub jobs : List Job
   -- the commands of all batches together
   pub commands : ℕ
@@ -72,6 +73,9 @@ with_command k = record k { commands = k.commands + 1 }
 
 abbrev pub with_batch : Kept → Batch → Kept
 with_batch k b = record k { jobs = k.jobs ++ BatchJob b ∷ [] }
+
+abbrev pub with_step : Kept → HostLine → Kept
+with_step k h = record k { jobs = k.jobs ++ Host h ∷ [] }
 
 abbrev pub with_schedule : Kept → Kept
 with_schedule k = record k { scheduled = true }

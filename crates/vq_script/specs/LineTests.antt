@@ -16,13 +16,13 @@ use Rattle.vq_model.specs.declared.statement.LineForm.TheVariants.{WaitTimelineL
 use Rattle.vq_model.specs.declared.statement.Statement.{Statement}
 use Rattle.vq_model.specs.declared.statement.Statement.TheVariants.{AddWait, AddCommand, AddSignal, BeginBatch}
 use Rattle.vq_model.specs.declared.statement.Statement.TheVariants.{DeclareBuffer, DeclareSemaphore, DeclareQueue}
-use Rattle.vq_model.specs.declared.statement.Statement.TheVariants.{TakeTurns}
+use Rattle.vq_model.specs.declared.statement.Statement.TheVariants.{TakeTurns, TakeHostStep}
 use Rattle.vq_model.specs.declared.script.ActorName.{ActorName}
 use Rattle.vq_model.specs.declared.script.ActorName.TheVariants.{Host as HostActor, Submit as SubmitActor}
 use Rattle.vq_model.specs.declared.script.ActorName.TheVariants.{Ring as RingActor}
 use Rattle.vq_model.specs.Context.{is_immediate}
 use Rattle.vq_model.specs.Forms.{Slot, NewName, BufferName, TimelineName, BinaryName, FenceName, QueueName, Actor}
-use Rattle.vq_model.specs.Limits.{limits_of, passes_limit}
+use Rattle.vq_model.specs.Limits.{limits_of, passes_limit, pairs_of}
 use Rattle.vq_model.specs.LineFaults.{is_shaped, is_declaration, part_of_form, is_batch_fence_form, is_in_range}
 use Rattle.vq_model.specs.LineFaults.{overlaps}
 use Rattle.vq_model.specs.Meaning.{is_built, is_marked}
@@ -123,6 +123,9 @@ passes_in k b (DeclareSemaphore name kind) =
     not (nat_lt (length k.semaphores) (limits_of 1).semaphores)
 passes_in k b (DeclareQueue name mode) = not (nat_lt (length k.queues) (limits_of 1).queues)
 passes_in k b (BeginBatch queue) = not (nat_lt (length k.jobs) (limits_of 1).jobs)
+passes_in k b (TakeHostStep step) =
+    not (nat_lt (length k.jobs) (limits_of 1).jobs)
+    || nat_lt (limits_of 1).pairs (length (pairs_of step))
 passes_in k b (AddWait pair from) = not (nat_lt (length (waits_of b)) (limits_of 1).waits)
 passes_in k b (AddCommand command) =
     not (nat_lt k.commands (limits_of 1).commands)

@@ -14,3 +14,7 @@ opens words = map open_of words
 abbrev pub opened : Slot → List ℕ → List (Slot × List ℕ)
 opened (Fixed text) given = []
 opened place given = (place, given) ∷ []
+
+-- the words alone
+abbrev pub texts_of : List OpenWord → List (List ℕ)
+texts_of words = map (λ x. x.1) (opens words)

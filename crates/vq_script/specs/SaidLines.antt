@@ -1,6 +1,6 @@
 -- What a line says, before it is kept, and what is kept after it.
-use Rattle.std.specs.Prelude.{ℕ, cond, ◌≡◌, ◌+◌, ◌<◌, ◌≤◌, ◌^◌, Bool, true, false, nat_lt, List, [], ◌∷◌, ◌++◌, length}
-use Rattle.std.specs.Prelude.{Option, Some, None, is_some, map, ⊤}
+use Rattle.std.specs.Prelude.{ℕ, cond, ◌≡◌, ◌||◌, ◌+◌, ◌<◌, ◌≤◌, ◌^◌, Bool, true, false, nat_lt, List, [], ◌∷◌, ◌++◌}
+use Rattle.std.specs.Prelude.{Option, Some, None, is_some, map, length, ⊤}
 use Rattle.std.specs.Option.{option_map}
 use Rattle.vq_model.specs.declared.script.Batch.{Batch}
 use Rattle.vq_model.specs.declared.script.Command.{Command}
@@ -13,43 +13,53 @@ use Rattle.vq_model.specs.declared.statement.LineForm.TheVariants.{QueueLine, Up
 use Rattle.vq_model.specs.declared.statement.LineForm.TheVariants.{WaitBinaryLine, SignalTimelineLine, SignalBinaryLine}
 use Rattle.vq_model.specs.declared.statement.LineForm.TheVariants.{BatchFenceLine, EndLine, FillWholeLine, FillLine}
 use Rattle.vq_model.specs.declared.statement.LineForm.TheVariants.{CopyLine, ScheduleLine, TurnLine, TurnsLine}
+use Rattle.vq_model.specs.declared.statement.LineForm.TheVariants.{HostSignalLine, HostWaitAllLine, HostWaitAnyLine}
+use Rattle.vq_model.specs.declared.statement.LineForm.TheVariants.{HostPollAllLine, HostPollAnyLine, HostReadLine}
+use Rattle.vq_model.specs.declared.statement.LineForm.TheVariants.{HostFenceWaitLine, HostFencePollLine}
+use Rattle.vq_model.specs.declared.statement.LineForm.TheVariants.{HostFenceResetLine, HostIdleLine}
+use Rattle.vq_model.specs.declared.script.HostStep.TheVariants.{Signal as HostSignal, WaitAll, WaitAny, PollAll}
+use Rattle.vq_model.specs.declared.script.HostStep.TheVariants.{PollAny, Read, FenceWait, FencePoll, FenceReset}
 use Rattle.vq_model.specs.declared.statement.Statement.{Statement}
 use Rattle.vq_model.specs.declared.statement.Statement.TheVariants.{AddWait, AddCommand, AddSignal, AddFence}
 use Rattle.vq_model.specs.declared.statement.Statement.TheVariants.{BeginBatch, EndBatch, DeclareBuffer}
 use Rattle.vq_model.specs.declared.statement.Statement.TheVariants.{DeclareSemaphore, DeclareQueue}
-use Rattle.vq_model.specs.declared.statement.Statement.TheVariants.{BeginSchedule, TakeTurns}
+use Rattle.vq_model.specs.declared.statement.Statement.TheVariants.{BeginSchedule, TakeTurns, TakeHostStep}
 use Rattle.vq_model.specs.Forms.{Slot, NewName, BufferName, TimelineName, BinaryName, FenceName, QueueName, HexDigits}
 use Rattle.vq_model.specs.Forms.{Fixed, Pairs, places}
 use Rattle.vq_model.specs.Limits.{limits_of}
 use Rattle.vq_model.specs.LineFaults.{part_of_form}
 use Rattle.vq_model.specs.Meaning.{is_hex, hex_bytes, small_numeral, binary_pair, of_two, of_three, of_four, of_five}
-use Rattle.vq_model.specs.Meaning.{statement_of}
+use Rattle.vq_model.specs.Meaning.{statement_of, pair_places}
 use Rattle.vq_model.specs.ScriptOfLines.{mark}
 use Rattle.vq_model.specs.Text.{is_name, numeral}
 use Rattle.vq_script.specs.declared.said.Said.{Said}
 use Rattle.vq_script.specs.declared.said.Said.TheVariants.{Buffer, Semaphore, Queue, Submit, Wait, FillWhole}
 use Rattle.vq_script.specs.declared.said.Said.TheVariants.{Fill as SaidFill, Update as SaidUpdate, Copy as SaidCopy}
-use Rattle.vq_script.specs.declared.said.Said.TheVariants.{Signal, Fence, End, Schedule, Turns}
+use Rattle.vq_script.specs.declared.said.Said.TheVariants.{Signal, Fence, End, Host, Schedule, Turns}
 use Rattle.vq_script.specs.Holds.{Kept, last_part, with_buffer, with_semaphore, with_queue, with_command, with_batch}
-use Rattle.vq_script.specs.Holds.{with_schedule, with_turns}
+use Rattle.vq_script.specs.Holds.{with_step, with_schedule, with_turns}
 use Rattle.vq_script.specs.LineTests.{number_of, actor_in}
 use Rattle.vq_script.specs.Names.{is_taken}
+use Rattle.vq_script.specs.SaidSteps.{pair_in, pairs_in, step_in, IsReadStep}
+use Rattle.vq_script.specs.declared.host_steps.SaidStep.{SaidStep}
 
-abbrev pub statement_in : Said → Statement
-statement_in (Buffer name size) = DeclareBuffer name.now size
-statement_in (Semaphore name kind) = DeclareSemaphore name.now kind
-statement_in (Queue name mode) = DeclareQueue name.now mode
-statement_in (Submit queue) = BeginBatch queue
-statement_in (Wait pair) = AddWait pair 1
-statement_in (FillWhole b o w) = AddCommand (Fill b o Whole w)
-statement_in (SaidFill b o n w) = AddCommand (Fill b o (Count n) w)
-statement_in (SaidUpdate b o digits) = AddCommand (Update b o (hex_bytes digits.now))
-statement_in (SaidCopy s from t to n) = AddCommand (Copy s from t to n)
-statement_in (Signal pair) = AddSignal pair
-statement_in (Fence f) = AddFence f
-statement_in End = EndBatch
-statement_in Schedule = BeginSchedule
-statement_in (Turns actor count) = TakeTurns actor count
+-- the statement that is said, where names stand for what is kept
+abbrev pub statement_in : Kept → Said → Statement
+statement_in k (Buffer name size) = DeclareBuffer name.now size
+statement_in k (Semaphore name kind) = DeclareSemaphore name.now kind
+statement_in k (Queue name mode) = DeclareQueue name.now mode
+statement_in k (Submit queue) = BeginBatch queue
+statement_in k (Wait pair) = AddWait pair 1
+statement_in k (FillWhole b o w) = AddCommand (Fill b o Whole w)
+statement_in k (SaidFill b o n w) = AddCommand (Fill b o (Count n) w)
+statement_in k (SaidUpdate b o digits) = AddCommand (Update b o (hex_bytes digits.now))
+statement_in k (SaidCopy s from t to n) = AddCommand (Copy s from t to n)
+statement_in k (Signal pair) = AddSignal pair
+statement_in k (Fence f) = AddFence f
+statement_in k End = EndBatch
+statement_in k (Host step) = TakeHostStep (step_in k step)
+statement_in k Schedule = BeginSchedule
+statement_in k (Turns actor count) = TakeTurns actor count
 
 -- The words of a form
 
@@ -73,15 +83,16 @@ are_one_each [] [] = true
 are_one_each (place ∷ places) (text ∷ texts) = are_one_each places texts
 are_one_each places texts = false
 
--- places that end with pairs; no form with such places is read yet
+-- places that end with pairs
 abbrev pub end_with_pairs : List Slot → Bool
 end_with_pairs [] = false
 end_with_pairs (Pairs ∷ []) = true
 end_with_pairs (place ∷ more) = end_with_pairs more
 
--- the same, where the form doesn't end with pairs
-abbrev pub AreFound : LineForm → List (Slot × List ℕ) → Type 0
-AreFound form words = end_with_pairs (places form) ≡ false → AreOf form words
+-- Words are found at the open places of a form: one at each, or pairs where it ends with them.
+pub record AreFound (form : LineForm) (words : List (Slot × List ℕ)) : Type 0 where
+  pub each : end_with_pairs (places form) ≡ false → AreOf form words
+  pub pairs : end_with_pairs (places form) ≡ true → words ≡ pair_places (map (λ x. x.1) words)
 
 -- whether a form is one of the schedule's turns
 abbrev pub is_turn_form : LineForm → Bool
@@ -166,6 +177,20 @@ named_in k SignalTimelineLine (name ∷ value ∷ []) =
 named_in k SignalBinaryLine (name ∷ []) =
     option_map (λ s. AddSignal (binary_pair s)) (number_of k BinaryName name)
 named_in k BatchFenceLine (name ∷ []) = option_map (λ f. AddFence f) (number_of k FenceName name)
+named_in k HostSignalLine (name ∷ value ∷ []) =
+    option_map (λ p. TakeHostStep (HostSignal p)) (pair_in k name value)
+named_in k HostWaitAllLine words = option_map (λ ps. TakeHostStep (WaitAll ps)) (pairs_in k words)
+named_in k HostWaitAnyLine words = option_map (λ ps. TakeHostStep (WaitAny ps)) (pairs_in k words)
+named_in k HostPollAllLine words = option_map (λ ps. TakeHostStep (PollAll ps)) (pairs_in k words)
+named_in k HostPollAnyLine words = option_map (λ ps. TakeHostStep (PollAny ps)) (pairs_in k words)
+named_in k HostReadLine (name ∷ []) =
+    option_map (λ t. TakeHostStep (Read t)) (number_of k TimelineName name)
+named_in k HostFenceWaitLine (name ∷ []) =
+    option_map (λ f. TakeHostStep (FenceWait f)) (number_of k FenceName name)
+named_in k HostFencePollLine (name ∷ []) =
+    option_map (λ f. TakeHostStep (FencePoll f)) (number_of k FenceName name)
+named_in k HostFenceResetLine (name ∷ []) =
+    option_map (λ f. TakeHostStep (FenceReset f)) (number_of k FenceName name)
 named_in k TurnLine (actor ∷ []) = option_map (λ a. TakeTurns a 1) (actor_in k actor)
 named_in k TurnsLine (actor ∷ turns ∷ []) =
     of_two (λ a n. TakeTurns a n) (actor_in k actor) (numeral turns)
@@ -173,7 +198,18 @@ named_in k form words = statement_of [] form words
 
 -- words are read, and say this
 abbrev pub Says : Kept → LineForm → List (Slot × List ℕ) → Option Said → Type 0
-Says k form words said = option_map statement_in said ≡ named_in k form (map (λ x. x.1) words)
+Says k form words said =
+    option_map (statement_in k) said ≡ named_in k form (map (λ x. x.1) words)
+
+-- .. of the host
+abbrev pub SaysStep : Kept → LineForm → List (Slot × List ℕ) → Option SaidStep → Type 0
+SaysStep k form words said =
+    option_map (λ x. TakeHostStep (step_in k x)) said ≡ named_in k form (map (λ x. x.1) words)
+
+-- each pair of what is said is read
+abbrev pub IsWhollyRead : Kept → Said → Type 0
+IsWhollyRead k (Host step) = IsReadStep k step
+IsWhollyRead k other = ⊤
 
 -- the forms of a batch, but for its commands, and the form that begins it
 abbrev pub is_batch_line : LineForm → Bool
@@ -185,6 +221,22 @@ is_batch_line SignalBinaryLine = true
 is_batch_line BatchFenceLine = true
 is_batch_line EndLine = true
 is_batch_line other = false
+
+-- the steps of the host with lists of pairs, and the other ones
+abbrev pub is_pairs_line : LineForm → Bool
+is_pairs_line form = end_with_pairs (places form)
+
+abbrev pub is_step_line : LineForm → Bool
+is_step_line HostSignalLine = true
+is_step_line HostReadLine = true
+is_step_line HostFenceWaitLine = true
+is_step_line HostFencePollLine = true
+is_step_line HostFenceResetLine = true
+is_step_line HostIdleLine = true
+is_step_line other = false
+
+abbrev pub is_host_line : LineForm → Bool
+is_host_line form = is_pairs_line form || is_step_line form
 
 -- the forms of the schedule, and the form that begins it
 abbrev pub is_schedule_line : LineForm → Bool
@@ -226,6 +278,7 @@ MayKeep k None (Semaphore name kind) =
     IsNewName k name.now × (length k.semaphores < (limits_of 1).semaphores)
 MayKeep k None (Queue name mode) = IsNewName k name.now × (length k.queues < (limits_of 1).queues)
 MayKeep k None (Submit queue) = k.scheduled ≡ false
+MayKeep k None (Host step) = IsReadStep k step
 MayKeep k None Schedule = ⊤
 MayKeep k None (Turns actor count) = length k.turns + count ≤ (limits_of 1).turns
 MayKeep k (Some b) (Wait pair) = nat_lt 1 (last_part (Some b)) ≡ false
@@ -282,6 +335,7 @@ after n (AddCommand command) k (Some b) = (with_command k, Some (commanding b n 
 after n (AddSignal pair) k (Some b) = (k, Some (signaling b n pair))
 after n (AddFence fence) k (Some b) = (k, Some (fenced b n fence))
 after n EndBatch k batch = ended k batch
+after n (TakeHostStep step) k batch = (with_step k (record { line = n; step = step }), batch)
 after n BeginSchedule k batch = (with_schedule k, batch)
 after n (TakeTurns actor count) k batch = (with_turns k n actor count, batch)
 after n other k batch = (k, batch)

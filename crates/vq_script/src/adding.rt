@@ -2,9 +2,10 @@
 ghost use Rattle.std.specs.Prelude.{◌≡◌, ◌<◌, OnOk, true, is_some};
 ghost use Rattle.vq_model.specs.Limits.{limits_of};
 ghost use Rattle.vq_model.specs.declared.statement.Statement.TheVariants.{AddCommand};
-ghost use Rattle.vq_script.specs.Holds.{kept, open_so_far};
+ghost use Rattle.vq_script.specs.Holds.{kept, open_so_far, with_step};
 ghost use Rattle.vq_script.specs.SaidLines.{May, after, ended, statement_in};
 
+use crate::host_steps::owned_step;
 use crate::known::Known;
 use crate::names::owned_name;
 use crate::numerals::hex_bytes;
@@ -12,14 +13,14 @@ use crate::open_batch::OpenBatch;
 use crate::said::Said;
 use std::alloc::{AllocError, Global};
 use vq_model::list::Bytes;
-use vq_model::script::{Buffer, Command, FillSize, Job, Queue, Semaphore, Turn};
+use vq_model::script::{Buffer, Command, FillSize, HostLine, Job, Queue, Semaphore, Turn};
 
 impl Known {
     /// Adds what a line without a fault says.
     pub fn add(&mut self, alloc: Global, number: u32, said: Said<'_>) -> Result<(), AllocError>
         requires { May (kept self.old) (open_so_far self.old.batch) said }
         ensures { OnOk result ((kept self.new, open_so_far self.new.batch)
-            ≡ after number (statement_in said.entry) (kept self.old) (open_so_far self.old.batch)) }
+            ≡ after number (statement_in (kept self.old) said.entry) (kept self.old) (open_so_far self.old.batch)) }
     {
         match said {
             Said::Buffer { name, size } => {
@@ -137,6 +138,10 @@ impl Known {
                 Ok(())
             }
             Said::End => self.end_batch(),
+            Said::Host { step } => {
+                let step = owned_step(alloc, self, step)?;
+                self.add_step(HostLine { line: number, step })
+            }
             Said::Schedule => {
                 self.scheduled = true;
                 Ok(())
@@ -163,6 +168,15 @@ impl Known {
         };
         batch.add_command(number, command)?;
         self.commands += 1;
+        Ok(())
+    }
+
+    /// Adds a step of the host.
+    fn add_step(&mut self, line: HostLine) -> Result<(), AllocError>
+        ensures added { OnOk result (kept self.new ≡ with_step (kept self.old) line) }
+        ensures open { self.new.batch ≡ self.old.batch }
+    {
+        self.jobs.push(Job::Host(line))?;
         Ok(())
     }
 

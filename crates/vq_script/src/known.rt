@@ -27,7 +27,7 @@ pub struct Known {
     /// Timelines, binary semaphores and fences.
     pub semaphores: Vec<Semaphore>,
     pub queues: Vec<Queue>,
-    /// The batches that have ended.
+    /// The steps of the host, and the batches that have ended.
     pub jobs: Vec<Job>,
     /// The commands of all batches together.
     pub commands: u32,
@@ -176,7 +176,7 @@ impl Known {
         }
     }
 
-    /// Whether a batch has begun.
+    /// Whether a batch has begun, or a step of the host has come.
     pub fn has_begun(&self) -> bool
         ensures { result ≡ (is_some (open_so_far self.now.batch)
             || nat_lt 0 (length self.now.jobs.items)) }

@@ -27,5 +27,8 @@ pub const BATCH_WAITS: usize = 16;
 /// The most signals of one batch.
 pub const BATCH_SIGNALS: usize = 16;
 
+/// The most pairs of one host step.
+pub const STEP_PAIRS: usize = 16;
+
 /// The most turns of a schedule.
 pub const TURNS: usize = 65_536;

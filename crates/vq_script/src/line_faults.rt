@@ -5,11 +5,11 @@ ghost use Rattle.vq_model.specs.LineFaults.{is_numeric, overlaps};
 ghost use Rattle.vq_model.specs.declared.statement.FaultKind.TheVariants.{Name, Number};
 ghost use Rattle.vq_model.specs.declared.statement.Line.{Line};
 ghost use Rattle.vq_script.specs.Faults.{Tells};
-ghost use Rattle.vq_script.specs.Holds.{Keeps, kept, open_so_far};
+ghost use Rattle.vq_script.specs.Holds.{Keeps, Kept, kept, open_so_far};
 ghost use Rattle.vq_script.specs.LineTests.{is_built_in, is_late, is_within_in, size_in, is_in_range_in, passes_in};
 ghost use Rattle.vq_script.specs.LineTests.{word_fault, said_fault};
 ghost use Rattle.vq_script.specs.OpenWords.{opens};
-ghost use Rattle.vq_script.specs.SaidLines.{AreFound, IsSmall, May, Stands, statement_in};
+ghost use Rattle.vq_script.specs.SaidLines.{AreFound, IsWhollyRead, IsSmall, May, Stands, statement_in};
 
 use crate::known::Known;
 use crate::limits;
@@ -21,7 +21,8 @@ use vq_model::ranges::is_aligned;
 use vq_model::script::Mode;
 use vq_model::statement::{FaultKind, LineForm};
 
-/// Whether lines of a form are read so far: no queue is deferred, and a batch of an immediate queue waits for nothing.
+/// Whether lines of a form are read so far: no text has a version, no queue is deferred, and a batch of an immediate
+/// queue waits for nothing.
 fn is_built(known: &Known, form: LineForm) -> bool
     ensures { result ≡ is_built_in (kept known.now) (open_so_far known.now.batch) form }
 {
@@ -32,6 +33,16 @@ fn is_built(known: &Known, form: LineForm) -> bool
         LineForm::FenceLine => true,
         LineForm::QueueLine(mode) => mode != Mode::Deferred,
         LineForm::SubmitLine => true,
+        LineForm::HostSignalLine => true,
+        LineForm::HostWaitAllLine => true,
+        LineForm::HostWaitAnyLine => true,
+        LineForm::HostPollAllLine => true,
+        LineForm::HostPollAnyLine => true,
+        LineForm::HostReadLine => true,
+        LineForm::HostFenceWaitLine => true,
+        LineForm::HostFencePollLine => true,
+        LineForm::HostFenceResetLine => true,
+        LineForm::HostIdleLine => true,
         LineForm::WaitTimelineLine => !known.is_batch_immediate(),
         LineForm::WaitBinaryLine => !known.is_batch_immediate(),
         LineForm::FillWholeLine => true,
@@ -49,8 +60,8 @@ fn is_built(known: &Known, form: LineForm) -> bool
     }
 }
 
-/// Whether a form is out of order: a declaration after the first batch, a line of an earlier part of the batch, or a
-/// second fence.
+/// Whether a form is out of order: a declaration after the first batch or step of the host, a line of an earlier part
+/// of the batch, or a second fence.
 fn is_late(known: &Known, form: LineForm) -> bool
     ensures { result ≡ is_late (kept known.now) (open_so_far known.now.batch) form }
 {
@@ -87,7 +98,7 @@ fn is_within(known: &Known, buffer: u32, offset: u64, size: u64) -> bool
 /// Whether the sizes and offsets of what a line says are in range.
 #[tactic(auto, using(crate::proofs::DigitsRead::hex_length, crate::proofs::DigitsRead::hex_limit))]
 fn is_in_range(known: &Known, said: &Said<'_>) -> bool
-    ensures exact { result ≡ is_in_range_in (kept known.now) (statement_in said.now) }
+    ensures exact { result ≡ is_in_range_in (kept known.now) (statement_in (kept known.now) said.now) }
     ensures small { IsTrue result → IsSmall said.now }
 {
     match *said {
@@ -129,7 +140,7 @@ fn is_in_range(known: &Known, said: &Said<'_>) -> bool
 
 /// Whether the two ranges of a copy share a byte of one buffer.
 fn overlaps(said: &Said<'_>) -> bool
-    ensures { result ≡ overlaps [] (statement_in said.now) }
+    ensures { (k : Kept) → result ≡ overlaps [] (statement_in k said.now) }
 {
     match *said {
         Said::Copy {
@@ -145,7 +156,9 @@ fn overlaps(said: &Said<'_>) -> bool
 
 /// Whether what a line says takes a quantity past its limit.
 fn passes_limit(known: &Known, said: &Said<'_>) -> bool
-    ensures { result ≡ passes_in (kept known.now) (open_so_far known.now.batch) (statement_in said.now) }
+    requires read { IsWhollyRead (kept known.now) said.now }
+    ensures exact { result ≡ passes_in (kept known.now) (open_so_far known.now.batch)
+        (statement_in (kept known.now) said.now) }
 {
     match *said {
         Said::Buffer { size, .. } => {
@@ -154,6 +167,9 @@ fn passes_limit(known: &Known, said: &Said<'_>) -> bool
         Said::Semaphore { .. } => known.semaphores.len() >= limits::SEMAPHORES,
         Said::Queue { .. } => known.queues.len() >= limits::QUEUES,
         Said::Submit { .. } => known.jobs.len() >= limits::JOBS,
+        Said::Host { step } => {
+            known.jobs.len() >= limits::JOBS || step.pair_count() > limits::STEP_PAIRS
+        }
         Said::Wait { .. } => known.has_all_waits(),
         Said::FillWhole { .. } => known.has_all_commands(),
         Said::Fill { .. } => known.has_all_commands(),
@@ -169,8 +185,9 @@ fn passes_limit(known: &Known, said: &Said<'_>) -> bool
 
 /// The first kind of the faults that a line has whose words are read.
 fn said_fault(known: &Known, words: &[OpenWord<'_>], said: &Said<'_>) -> Option<FaultKind>
+    requires read { IsWhollyRead (kept known.now) said.now }
     ensures exact { result ≡ said_fault (kept known.now) (open_so_far known.now.batch) (opens words.now)
-        (statement_in said.now) }
+        (statement_in (kept known.now) said.now) }
     ensures small { result ≡ None → IsSmall said.now }
 {
     if !are_new(known, words) {
@@ -203,12 +220,12 @@ fn unread_fault(words: &[OpenWord<'_>]) -> FaultKind
 pub fn said_by<'a>(
     known: &Known,
     form: LineForm,
-    words: &[OpenWord<'a>],
+    words: &'a [OpenWord<'a>],
 ) -> Result<Said<'a>, FaultKind>
     requires found { AreFound form (opens words.now) }
     requires stands { Stands form known.now.scheduled (open_so_far known.now.batch) }
     ensures told { (lines : List Line) → Keeps lines known.now →
-        Tells lines (form, opens words.now) statement_in result }
+        Tells lines (form, opens words.now) (statement_in (kept known.now)) result }
     ensures may { IfOk result (May (kept known.now) (open_so_far known.now.batch)) }
 {
     if let Some(kind) = word_fault(known, form, words) {

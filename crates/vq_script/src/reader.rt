@@ -130,7 +130,15 @@ pub fn is_short(bytes: &[u8]) -> bool
 /// - `fence NAME`: a fence, unsignaled;
 /// - `queue NAME immediate`, `queue NAME threaded`: a queue that is submitted to by the host, or by
 ///   a thread of its own; 8 queues at most;
-/// - `submit QUEUE`: the first line of a batch; 4,096 batches at most;
+/// - `submit QUEUE`: the first line of a batch; 4,096 batches and host steps at most;
+/// - `host signal TIMELINE VALUE`: the host signals a timeline;
+/// - `host wait all TIMELINE VALUE ..`, `host wait any ..`: the host waits until all of these payloads
+///   are reached, or one; 16 pairs at most;
+/// - `host poll all TIMELINE VALUE ..`, `host poll any ..`: it asks whether they are, without waiting;
+/// - `host read TIMELINE`: it asks for a payload;
+/// - `host fence wait FENCE`, `host fence poll FENCE`, `host fence reset FENCE`: it waits for a fence,
+///   asks for it, resets it;
+/// - `host idle`: it waits until each batch before this line is complete;
 /// - `wait TIMELINE VALUE`, `wait SEMAPHORE`: what the whole batch waits for, a payload of a
 ///   timeline or the signal of a binary semaphore; 16 waits a batch at most, and none of an
 ///   immediate queue;
@@ -153,10 +161,11 @@ pub fn is_short(bytes: &[u8]) -> bool
 ///
 /// Fills, updates and copies are the commands of the batch; 64 a batch at most, and 8,192 in all.
 /// In a batch the waits come first, then the commands, then the signals, then the fence. Buffers,
-/// semaphores, fences and queues are declared before the first batch, each by a name of its own;
-/// timelines, binary semaphores and fences are 256 together at most. The script has the same
-/// declarations, batches and turns, each with the number of its line, counted from 1; COUNT turns of a
-/// line are as many turns of the script. It has a schedule exactly where the form is `Scheduled`.
+/// semaphores, fences and queues are declared before the first batch or host step, each by a name of
+/// its own; timelines, binary semaphores and fences are 256 together at most. The script has the same
+/// declarations, batches, host steps and turns, each with the number of its line, counted from 1; COUNT
+/// turns of a line are as many turns of the script. It has a schedule exactly where the form is
+/// `Scheduled`.
 ///
 /// The format is this project's own. The ranges of commands are those of Vulkan 1.3, "Clear
 /// Commands" and "Copy Commands".
@@ -165,8 +174,8 @@ pub fn is_short(bytes: &[u8]) -> bool
 ///
 /// `At` is the first line with a fault and the first kind of that line's faults, in the order of
 /// `FaultKind`; the line after the last is `Syntax` where a batch is open, or where the form is
-/// `Scheduled` and there is no schedule. Deferred queues, host steps and waits of immediate queues are
-/// `Syntax` too. `Memory` comes where memory runs out.
+/// `Scheduled` and there is no schedule. Deferred queues and waits of immediate queues are `Syntax`
+/// too. `Memory` comes where memory runs out.
 pub fn parse(alloc: Global, bytes: &[u8], form: Form) -> Result<Script, ScriptFault>
     requires { length (lines_of bytes.now) < 2 ^ 32 - 1 }
     ensures exact { Gives result (read_script bytes.now form) }

@@ -2,10 +2,12 @@
 ghost use Rattle.std.specs.Prelude.{◌≡◌, true, IfSome};
 ghost use Rattle.vq_script.specs.Holds.{Kept, kept, open_so_far};
 ghost use Rattle.vq_script.specs.OpenWords.{opens};
-ghost use Rattle.vq_script.specs.SaidLines.{AreOf, Says, Suits, is_batch_line, is_schedule_line};
+ghost use Rattle.vq_script.specs.SaidLines.{AreOf, AreFound, IsWhollyRead, Says, Suits};
+ghost use Rattle.vq_script.specs.SaidLines.{is_batch_line, is_schedule_line, is_host_line};
 ghost use Rattle.vq_script.specs.LineTests.{is_built_in};
 ghost use Rattle.vq_model.specs.LineFaults.{is_declaration, part_of_form};
 
+use crate::host_steps::{SaidStep, is_pairs_line, is_step_line, pairs_line, step_line};
 use crate::known::Known;
 use crate::numerals::{is_hex, numeral, small_numeral};
 use crate::open_words::OpenWord;
@@ -64,6 +66,9 @@ pub enum Said<'a> {
         fence: u32,
     },
     End,
+    Host {
+        step: SaidStep<'a>,
+    },
     Schedule,
     Turns {
         actor: ActorName,
@@ -219,13 +224,41 @@ fn is_schedule_line(form: LineForm) -> bool
     )
 }
 
+/// What a line of the host says, where its numbers and names are read.
+fn host_line<'a>(known: &Known, form: LineForm, words: &'a [OpenWord<'a>]) -> Option<Said<'a>>
+    requires found { AreFound form (opens words.now) }
+    requires part { is_host_line form ≡ true }
+    ensures says { Says (kept known.now) form (opens words.now) result }
+    ensures suits { IfSome result (Suits form (opens words.now)) }
+    ensures read { IfSome result (IsWhollyRead (kept known.now)) }
+{
+    let step = if is_pairs_line(form) {
+        pairs_line(known, form, words)?
+    } else {
+        step_line(known, form, words)?
+    };
+    Some(Said::Host { step })
+}
+
+/// Whether a form is a step of the host.
+fn is_host_line(form: LineForm) -> bool
+    ensures { result ≡ is_host_line form }
+{
+    is_pairs_line(form) || is_step_line(form)
+}
+
 #[tactic(auto, using(crate::proofs::LineTold::batch_line_left))]
 /// What a line of a form says, where its numbers and names are read.
-pub fn statement_of<'a>(known: &Known, form: LineForm, words: &[OpenWord<'a>]) -> Option<Said<'a>>
-    requires of { AreOf form (opens words.now) }
+pub fn statement_of<'a>(
+    known: &Known,
+    form: LineForm,
+    words: &'a [OpenWord<'a>],
+) -> Option<Said<'a>>
+    requires found { AreFound form (opens words.now) }
     requires built { is_built_in (kept known.now) (open_so_far known.now.batch) form ≡ true }
     ensures says { Says (kept known.now) form (opens words.now) result }
     ensures suits { IfSome result (Suits form (opens words.now)) }
+    ensures read { IfSome result (IsWhollyRead (kept known.now)) }
 {
     if is_declaration(form) {
         declaration(form, words)
@@ -233,6 +266,8 @@ pub fn statement_of<'a>(known: &Known, form: LineForm, words: &[OpenWord<'a>]) -
         command(known, form, words)
     } else if is_schedule_line(form) {
         schedule_line(known, form, words)
+    } else if is_host_line(form) {
+        host_line(known, form, words)
     } else {
         batch_line(known, form, words)
     }

@@ -1,7 +1,7 @@
 use Rattle.std.proofs.Common.{Option, sym, subst}
 use Rattle.vq_model.specs.declared.script.Batch.{Batch}
 use Rattle.vq_model.specs.Reading.{with_line}
-use Rattle.vq_script.specs.Holds.{Holds, Kept}
+use Rattle.vq_script.specs.Holds.{Holds, Kept, kept}
 use Rattle.vq_script.specs.SaidLines.{statement_in}
 use Rattle.vq_script.proofs.Pushes.{holds_after}
 use Rattle.vq_script.proofs.reader.read_open.Goals as goal
@@ -9,7 +9,7 @@ use Rattle.vq_script.proofs.reader.read_open.Goals as goal
 pub returns-in_ok-add-in-Ok : goal.returns-in_ok-add-in-Ok
 returns-in_ok-add-in-Ok c = λ lines h.
     let told = c.in-Ok.ensures.told lines h in
-    let s = statement_in c.in-Ok.said in (
+    let s = statement_in (kept c.args.known.now) c.in-Ok.said in (
       s,
       told.0,
       told.1,

@@ -1,0 +1,61 @@
+-- What a line says of a step of the host, and the step.
+use Rattle.std.specs.Prelude.{ℕ, ◌≡◌, true, is_some, List, [], ◌∷◌, Option, Some, ⊤}
+use Rattle.std.specs.Option.{unwrap_or}
+use Rattle.vq_model.specs.declared.script.Pair.{Pair}
+use Rattle.vq_model.specs.declared.script.HostStep.{HostStep}
+use Rattle.vq_model.specs.declared.script.HostStep.TheVariants.{Signal, WaitAll, WaitAny, PollAll, PollAny, Read}
+use Rattle.vq_model.specs.declared.script.HostStep.TheVariants.{FenceWait, FencePoll, FenceReset, Idle}
+use Rattle.vq_model.specs.Forms.{TimelineName}
+use Rattle.vq_model.specs.Meaning.{of_two}
+use Rattle.vq_model.specs.Text.{numeral}
+use Rattle.vq_script.specs.declared.open_words.OpenWord.{OpenWord}
+use Rattle.vq_script.specs.declared.host_steps.SaidStep.{SaidStep}
+use Rattle.vq_script.specs.declared.host_steps.SaidStep.TheVariants.{Signal as SaysSignal, WaitAll as SaysWaitAll}
+use Rattle.vq_script.specs.declared.host_steps.SaidStep.TheVariants.{WaitAny as SaysWaitAny, PollAll as SaysPollAll}
+use Rattle.vq_script.specs.declared.host_steps.SaidStep.TheVariants.{PollAny as SaysPollAny, Read as SaysRead}
+use Rattle.vq_script.specs.declared.host_steps.SaidStep.TheVariants.{FenceWait as SaysFenceWait}
+use Rattle.vq_script.specs.declared.host_steps.SaidStep.TheVariants.{FencePoll as SaysFencePoll}
+use Rattle.vq_script.specs.declared.host_steps.SaidStep.TheVariants.{FenceReset as SaysFenceReset, Idle as SaysIdle}
+use Rattle.vq_script.specs.Holds.{Kept}
+use Rattle.vq_script.specs.LineTests.{number_of}
+use Rattle.vq_script.specs.OpenWords.{texts_of}
+
+-- the pair of a timeline's name and a numeral
+abbrev pub pair_in : Kept → List ℕ → List ℕ → Option Pair
+pair_in k name value =
+    of_two (λ t v. record { semaphore = t; value = v }) (number_of k TimelineName name) (numeral value)
+
+-- the pairs of words
+abbrev pub pairs_in : Kept → List (List ℕ) → Option (List Pair)
+pairs_in k (name ∷ value ∷ words) =
+    of_two (λ p ps. p ∷ ps) (pair_in k name value) (pairs_in k words)
+pairs_in k words = Some []
+
+-- the pairs of words that are read
+abbrev pub read_pairs : Kept → List OpenWord → List Pair
+read_pairs k words = unwrap_or (pairs_in k (texts_of words)) []
+
+-- the step that a line says
+abbrev pub step_in : Kept → SaidStep → HostStep
+step_in k (SaysSignal pair) = Signal pair
+step_in k (SaysWaitAll words) = WaitAll (read_pairs k words.now)
+step_in k (SaysWaitAny words) = WaitAny (read_pairs k words.now)
+step_in k (SaysPollAll words) = PollAll (read_pairs k words.now)
+step_in k (SaysPollAny words) = PollAny (read_pairs k words.now)
+step_in k (SaysRead t) = Read t
+step_in k (SaysFenceWait f) = FenceWait f
+step_in k (SaysFencePoll f) = FencePoll f
+step_in k (SaysFenceReset f) = FenceReset f
+step_in k SaysIdle = Idle
+
+-- the pairs of words are read
+abbrev pub AreRead : Kept → List OpenWord → Type 0
+AreRead k words = is_some (pairs_in k (texts_of words)) ≡ true
+
+-- .. of a step
+abbrev pub IsReadStep : Kept → SaidStep → Type 0
+IsReadStep k (SaysWaitAll words) = AreRead k words.now
+IsReadStep k (SaysWaitAny words) = AreRead k words.now
+IsReadStep k (SaysPollAll words) = AreRead k words.now
+IsReadStep k (SaysPollAny words) = AreRead k words.now
+IsReadStep k other = ⊤

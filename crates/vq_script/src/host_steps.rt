@@ -1,0 +1,194 @@
+//! What a line says of a step of the host, before it is kept: its pairs are words yet.
+ghost use Rattle.std.specs.Prelude.{◌≡◌, true, is_some, length, IfOk, IfSome, Some};
+ghost use Rattle.vq_model.specs.Limits.{pairs_of};
+ghost use Rattle.vq_script.specs.Holds.{Kept, kept};
+ghost use Rattle.vq_script.specs.OpenWords.{opens, texts_of};
+ghost use Rattle.vq_script.specs.SaidLines.{AreOf, is_step_line, is_pairs_line, SaysStep};
+ghost use Rattle.vq_script.specs.SaidSteps.{pair_in, pairs_in, step_in, IsReadStep};
+
+use crate::known::Known;
+use crate::numerals::numeral;
+use crate::open_words::OpenWord;
+use crate::table::Token;
+use std::alloc::{AllocError, Global};
+use vq_model::list::List;
+use vq_model::script::{HostStep, Pair};
+use vq_model::statement::LineForm;
+
+/// What a line says that the host does. A list of pairs is the words of which it is read, a name and a
+/// numeral for each pair.
+#[derive(Clone, Copy)]
+pub enum SaidStep<'a> {
+    Signal(Pair),
+    WaitAll(&'a [OpenWord<'a>]),
+    WaitAny(&'a [OpenWord<'a>]),
+    PollAll(&'a [OpenWord<'a>]),
+    PollAny(&'a [OpenWord<'a>]),
+    Read(u32),
+    FenceWait(u32),
+    FencePoll(u32),
+    FenceReset(u32),
+    Idle,
+}
+
+impl SaidStep<'_> {
+    /// How many pairs are in the list of pairs.
+    pub fn pair_count(&self) -> usize
+        ensures { (k : Kept) → IsReadStep k self.now → result ≡ length (pairs_of (step_in k self.now)) }
+    {
+        match *self {
+            SaidStep::WaitAll(words) => words.len() / 2,
+            SaidStep::WaitAny(words) => words.len() / 2,
+            SaidStep::PollAll(words) => words.len() / 2,
+            SaidStep::PollAny(words) => words.len() / 2,
+            _ => 0,
+        }
+    }
+}
+
+/// The pair of a timeline's name and a numeral, where both are read.
+fn pair(known: &Known, timeline: &[u8], value: &[u8]) -> Option<Pair>
+    ensures { result ≡ pair_in (kept known.now) timeline.now value.now }
+{
+    Some(Pair {
+        semaphore: known.number_of(Token::TimelineToken, timeline)?,
+        value: numeral(value)?,
+    })
+}
+
+/// Whether the pairs of these words are read.
+#[tactic(auto, using(crate::proofs::PairsRead::few_words))]
+fn are_read(known: &Known, words: &[OpenWord<'_>]) -> bool
+    ensures { result ≡ is_some (pairs_in (kept known.now) (texts_of words.now)) }
+{
+    let mut rest = words;
+    while let [timeline, value, after @ ..] = rest {
+        if pair(known, timeline.word, value.word).is_none() {
+            return false;
+        }
+        rest = after;
+    }
+    true
+}
+
+/// The pairs of words that are read.
+fn owned_pairs(
+    alloc: Global,
+    known: &Known,
+    words: &[OpenWord<'_>],
+) -> Result<List<Pair>, AllocError>
+    requires { is_some (pairs_in (kept known.now) (texts_of words.now)) ≡ true }
+    ensures { IfOk result (λ pairs. pairs_in (kept known.now) (texts_of words.now) ≡ Some pairs) }
+{
+    let mut pairs = Vec::new(alloc);
+    let mut rest = words;
+    while let [timeline, value, after @ ..] = rest {
+        let Some(pair) = pair(known, timeline.word, value.word) else {
+            unreachable!()
+        };
+        pairs.push(pair)?;
+        rest = after;
+    }
+    Ok(List::of(pairs))
+}
+
+/// The step that a line without a fault says.
+pub fn owned_step(alloc: Global, known: &Known, step: SaidStep<'_>) -> Result<HostStep, AllocError>
+    requires { IsReadStep (kept known.now) step }
+    ensures { IfOk result (λ owned. owned ≡ step_in (kept known.now) step.entry) }
+{
+    Ok(match step {
+        SaidStep::Signal(pair) => HostStep::Signal(pair),
+        SaidStep::WaitAll(words) => HostStep::WaitAll(owned_pairs(alloc, known, words)?),
+        SaidStep::WaitAny(words) => HostStep::WaitAny(owned_pairs(alloc, known, words)?),
+        SaidStep::PollAll(words) => HostStep::PollAll(owned_pairs(alloc, known, words)?),
+        SaidStep::PollAny(words) => HostStep::PollAny(owned_pairs(alloc, known, words)?),
+        SaidStep::Read(timeline) => HostStep::Read(timeline),
+        SaidStep::FenceWait(fence) => HostStep::FenceWait(fence),
+        SaidStep::FencePoll(fence) => HostStep::FencePoll(fence),
+        SaidStep::FenceReset(fence) => HostStep::FenceReset(fence),
+        SaidStep::Idle => HostStep::Idle,
+    })
+}
+
+/// Whether a form is a step of the host with a list of pairs.
+pub fn is_pairs_line(form: LineForm) -> bool
+    ensures { result ≡ is_pairs_line form }
+{
+    matches!(
+        form,
+        LineForm::HostWaitAllLine
+            | LineForm::HostWaitAnyLine
+            | LineForm::HostPollAllLine
+            | LineForm::HostPollAnyLine
+    )
+}
+
+/// What a line with pairs says, where its numbers and names are read.
+pub fn pairs_line<'a>(
+    known: &Known,
+    form: LineForm,
+    words: &'a [OpenWord<'a>],
+) -> Option<SaidStep<'a>>
+    requires { is_pairs_line form ≡ true }
+    ensures says { SaysStep (kept known.now) form (opens words.now) result }
+    ensures read { IfSome result (IsReadStep (kept known.now)) }
+{
+    if !are_read(known, words) {
+        return None;
+    }
+    match form {
+        LineForm::HostWaitAllLine => Some(SaidStep::WaitAll(words)),
+        LineForm::HostWaitAnyLine => Some(SaidStep::WaitAny(words)),
+        LineForm::HostPollAllLine => Some(SaidStep::PollAll(words)),
+        LineForm::HostPollAnyLine => Some(SaidStep::PollAny(words)),
+        _ => unreachable!(),
+    }
+}
+
+/// Whether a form is a step of the host without a list of pairs.
+pub fn is_step_line(form: LineForm) -> bool
+    ensures { result ≡ is_step_line form }
+{
+    matches!(
+        form,
+        LineForm::HostSignalLine
+            | LineForm::HostReadLine
+            | LineForm::HostFenceWaitLine
+            | LineForm::HostFencePollLine
+            | LineForm::HostFenceResetLine
+            | LineForm::HostIdleLine
+    )
+}
+
+/// What another line of the host says, where its numbers and names are read.
+pub fn step_line<'a>(known: &Known, form: LineForm, words: &[OpenWord<'a>]) -> Option<SaidStep<'a>>
+    requires of { AreOf form (opens words.now) }
+    requires step { is_step_line form ≡ true }
+    ensures says { SaysStep (kept known.now) form (opens words.now) result }
+    ensures read { IfSome result (IsReadStep (kept known.now)) }
+{
+    match (form, words) {
+        (LineForm::HostSignalLine, [timeline, value]) => {
+            Some(SaidStep::Signal(pair(known, timeline.word, value.word)?))
+        }
+        (LineForm::HostReadLine, [timeline]) => Some(SaidStep::Read(known.number_of(
+            Token::TimelineToken,
+            timeline.word,
+        )?)),
+        (LineForm::HostFenceWaitLine, [fence]) => Some(SaidStep::FenceWait(known.number_of(
+            Token::FenceToken,
+            fence.word,
+        )?)),
+        (LineForm::HostFencePollLine, [fence]) => Some(SaidStep::FencePoll(known.number_of(
+            Token::FenceToken,
+            fence.word,
+        )?)),
+        (LineForm::HostFenceResetLine, [fence]) => Some(SaidStep::FenceReset(known.number_of(
+            Token::FenceToken,
+            fence.word,
+        )?)),
+        (LineForm::HostIdleLine, []) => Some(SaidStep::Idle),
+        _ => unreachable!(),
+    }
+}
