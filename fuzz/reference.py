@@ -1,12 +1,17 @@
 """A second reading of docs/LANGUAGE.md and docs/ONE_RESULT.md: what vq writes for an input, and with which status.
 
-It shares nothing with the program but the pages. `answer(data)` gives (status, text); `replay(data)` gives them for
-`--replay`, with the turns of turns.py. It is plain and slow: needs are looked up by scans, what happens before what is a
-set of jobs for each job, and nothing is kept that can be counted again.
+It shares nothing with the program but the pages. `answer(data)` gives (status, text), where the text is that of the slow
+run; `is_output(data, text)` says of any text whether it is one that the script may give; `replay(data)` gives (status,
+text) for `--replay`, with the turns of turns.py. This file reads lines; what they ask for is lowering.py, what comes
+before what is order.py, and what answers may be is windows.py. All is plain and slow: needs are looked up by scans, what
+happens before what is a set of jobs for each job, and nothing is kept that can be counted again.
 """
 import re
 
-from turns import Scene
+from lowering import Plan, Refusal
+from order import Order, final_buffers
+from turns import Game
+from windows import Windows
 
 LIMIT = 4_194_304
 NAME = re.compile(rb'[A-Za-z_][A-Za-z0-9_]{0,15}')
@@ -14,8 +19,8 @@ DECIMAL = re.compile(rb'[0-9]{1,20}')
 HEXADECIMAL = re.compile(rb'0x[0-9a-fA-F]{1,16}')
 ACTOR = re.compile(rb'host|[SR]:[A-Za-z_][A-Za-z0-9_]{0,15}')
 DIGITS = re.compile(rb'([0-9a-fA-F]{2})*')
-# The forms of lines by their section: a word as it stands, or what its place takes. Forms with
-# `unbuilt` are forms of the language that are not built.
+# The forms of lines by their section: a word as it stands, or what its place takes. `pairs` stands for one or more
+# timelines, each with a numeral. Forms with `unbuilt` are forms of the language that are not built.
 OUTSIDE = [
     ('buffer', [b'buffer', 'new', 'numeral']),
     ('timeline', [b'timeline', 'new', 'numeral']),
@@ -25,6 +30,16 @@ OUTSIDE = [
     ('unbuilt', [b'queue', 'new', b'deferred']),
     ('queue', [b'queue', 'new', b'threaded']),
     ('submit', [b'submit', 'queue name']),
+    ('host signal', [b'host', b'signal', 'timeline name', 'numeral']),
+    ('host wait all', [b'host', b'wait', b'all', 'pairs']),
+    ('host wait any', [b'host', b'wait', b'any', 'pairs']),
+    ('host poll all', [b'host', b'poll', b'all', 'pairs']),
+    ('host poll any', [b'host', b'poll', b'any', 'pairs']),
+    ('host read', [b'host', b'read', 'timeline name']),
+    ('host fence wait', [b'host', b'fence', b'wait', 'fence name']),
+    ('host fence poll', [b'host', b'fence', b'poll', 'fence name']),
+    ('host fence reset', [b'host', b'fence', b'reset', 'fence name']),
+    ('host idle', [b'host', b'idle']),
 ]
 INSIDE = [
     ('wait', [b'wait', 'timeline name', 'numeral']),
@@ -47,11 +62,7 @@ PARTS = {'wait': 1, 'fill_whole': 2, 'fill': 2, 'update': 2, 'copy': 2, 'signal'
 
 
 class Fault(Exception):
-    pass
-
-
-class Refusal(Exception):
-    pass
+    """The kind of the first fault of a line."""
 
 
 def numeral(word):
@@ -72,9 +83,19 @@ def lines_of(data):
 
 
 class Batch:
+    kind = 'batch'
+
     def __init__(self, line, queue):
         self.line, self.queue = line, queue
         self.waits, self.commands, self.signals, self.fence = [], [], [], None
+
+
+class Step:
+    """A line of the host: its first words, and its semaphores with their values, None where the line gives none."""
+    queue = None
+
+    def __init__(self, line, kind, pairs):
+        self.line, self.kind, self.pairs = line, kind, pairs
 
 
 class Reader:
@@ -126,12 +147,30 @@ class Reader:
                 raise Fault('name')
         if any(place == 'new' and word in self.names for place, word in at):
             raise Fault('twice')
-        getattr(self, form)(words)
+        if form.startswith('host '):
+            self.step(form, words)
+        else:
+            getattr(self, form)(words)
         if self.batch:
             self.part = PARTS.get(form, 0)
 
+    def read_all(self, data):
+        """Reads a text whole; raises the Refusal of its first faulty line."""
+        lines = lines_of(data)
+        number = 0
+        try:
+            for number, line in enumerate(lines, 1):
+                self.read(line, number)
+            number = len(lines) + 1
+            if self.batch or self.scheduled and self.turns_given is None:
+                raise Fault('syntax')
+        except Fault as fault:
+            raise Refusal(f'{fault}: line {number}')
+
     def form(self, words):
         for form, places in self.forms():
+            if places[-1] == 'pairs':
+                places = places[:-1] + ['timeline name', 'numeral'] * max(1, (len(words) - len(places) + 1) // 2)
             if len(places) == len(words) and all(
                     word == place for place, word in zip(places, words) if isinstance(place, bytes)):
                 return form, places
@@ -191,6 +230,17 @@ class Reader:
             raise Fault('limit')
         self.batch = Batch(self.number, self.names[words[1]][1])
 
+    def step(self, kind, words):
+        """A line of the host: behind its kind a name alone, or names each with a value, or nothing."""
+        words = words[len(kind.split()):]
+        if len(words) == 1:
+            pairs = [(words[0], None)]
+        else:
+            pairs = [(name, numeral(value)) for name, value in zip(words[::2], words[1::2])]
+        if len(self.jobs) == 4096 or len(pairs) > 16:
+            raise Fault('limit')
+        self.jobs.append(Step(self.number, kind, [(self.names[name][1], value) for name, value in pairs]))
+
     def mark(self, words):
         return self.number, self.names[words[1]][1], numeral(words[2]) if len(words) == 3 else None
 
@@ -233,7 +283,8 @@ class Reader:
 
     def update(self, words):
         (buffer, held), offset, written = self.place(words[1]), numeral(words[2]), bytes.fromhex(words[3].decode())
-        if offset >= held or offset % 4 or not written or len(written) % 4 or len(written) > 65536 or offset + len(written) > held:
+        size = len(written)
+        if offset >= held or offset % 4 or size % 4 or not 0 < size <= 65536 or offset + size > held:
             raise Fault('range')
         self.command('write', buffer, offset, written)
 
@@ -251,186 +302,64 @@ class Reader:
         self.batch = None
 
 
-def touched(command):
-    """The ranges that a command writes and reads, as (buffer, first byte, byte after the last)."""
-    if command[0] == 'write':
-        _, buffer, offset, written = command
-        return (buffer, offset, offset + len(written)), None
-    _, source, start, target, place, size = command
-    return (target, place, place + size), (source, start, start + size)
+class Script:
+    """A lawful script, with its plan and its order."""
+
+    def __init__(self, data, scheduled):
+        """Raises the Refusal of one that isn't lawful."""
+        if len(data) > LIMIT:
+            raise Refusal('too long')
+        self.reader = Reader(scheduled)
+        self.reader.read_all(data)
+        self.plan = Plan(self.reader)
+        self.order = Order(self.plan)
+        self.windows = Windows(self.plan, self.order)
+
+    def buffers_text(self):
+        text = []
+        held = final_buffers(self.plan, self.order, [size for _, size in self.reader.buffers])
+        for (name, size), content in zip(self.reader.buffers, held):
+            text.append(b'buffer ' + name + b' %d\n' % size)
+            text.extend(content[row:row + 16].hex().encode() + b'\n' for row in range(0, size, 16))
+        return b''.join(text) + b'end\n'
+
+    def text(self, answers):
+        """The text with these answers, by the number of the step."""
+        lines = [f'{self.plan.jobs[h].line} {answers[h]}\n' for h in sorted(answers)]
+        return ''.join(lines).encode() + self.buffers_text()
 
 
-def share(first, second):
-    return bool(first and second and first[0] == second[0] and set(range(*first[1:])) & set(range(*second[1:])))
-
-
-class Plan:
-    """Jobs with what they wait for and signal, each chain as (value, line, job, number of the signal)."""
-
-    def __init__(self, reader):
-        self.reader = reader
-        self.jobs = reader.jobs
-        self.names = [name.decode() for name, (kind, _) in reader.names.items() if kind in ('timeline', 'binary', 'fence')]
-        kinds = [kind for kind, _ in reader.semaphores]
-        self.initial = [value for _, value in reader.semaphores]
-        self.chains = [[] for _ in kinds]
-        signaled = [0] * len(kinds)
-        waited = [0] * len(kinds)
-        self.needs, self.signals, self.ops = [], [], []
-        for j, batch in enumerate(self.jobs):
-            needs = []
-            for line, semaphore, value in batch.waits:
-                if kinds[semaphore] == 'binary':
-                    if signaled[semaphore] <= waited[semaphore]:
-                        raise Refusal(f'no signal: line {line}')
-                    waited[semaphore] += 1
-                    value = signaled[semaphore]
-                needs.append((line, semaphore, value))
-            self.needs.append(needs)
-            ops = []
-            for line, semaphore, value in batch.signals + ([batch.fence] if batch.fence else []):
-                if kinds[semaphore] == 'binary':
-                    if signaled[semaphore] > waited[semaphore]:
-                        raise Refusal(f'signaled twice: line {line}')
-                if kinds[semaphore] == 'fence' and signaled[semaphore]:
-                    raise Refusal(f'fence used: line {line}')
-                if kinds[semaphore] != 'timeline':
-                    signaled[semaphore] += 1
-                    value = signaled[semaphore]
-                self.chains[semaphore].append((value, line, j, len(self.ops)))
-                ops.append((semaphore, value))
-                self.ops.append(j)
-            self.signals.append(ops)
-        for chain in self.chains:
-            chain.sort(key=lambda op: (op[0], op[3]))
-        self.kinds = kinds
-        self.slow_run()
-        self.paths()
-        for kind, pairs in (('unordered', self.unordered()), ('race', self.races())):
-            if pairs:
-                second, first = min((second, first) for first, second in pairs)
-                raise Refusal(f'{kind}: lines {first} and {second}')
-
-    def slow_run(self):
-        payload = list(self.initial)
-        self.order, done = [], set()
-        last = {}
-        self.previous = []
-        for j, batch in enumerate(self.jobs):
-            self.previous.append(last.get(batch.queue))
-            last[batch.queue] = j
-        while True:
-            ready = [j for j in range(len(self.jobs)) if j not in done
-                     and (self.previous[j] is None or self.previous[j] in done)
-                     and all(payload[t] >= value for _, t, value in self.needs[j])]
-            if not ready:
-                break
-            self.order.append(ready[0])
-            done.add(ready[0])
-            for t, value in self.signals[ready[0]]:
-                payload[t] = max(payload[t], value)
-        unreached = [line for j in range(len(self.jobs)) if j not in done
-                     for line, t, value in self.needs[j] if payload[t] < value]
-        if unreached:
-            raise Refusal(f'unreachable: line {min(unreached)}')
-
-    def paths(self):
-        """The jobs that happen before each job, and the numbers of the signals sure to be made before it ends."""
-        place = {j: number for number, j in enumerate(self.order)}
-        self.before, self.sure = {}, {}
-        # A path to a job leads through jobs that stand earlier in the slow run, so those have all theirs.
-        for j in self.order:
-            awaited = [next(op for op in self.chains[t] if op[0] >= value)
-                       for _, t, value in self.needs[j] if value > self.initial[t]]
-            hops = {i for i in [self.previous[j]] + [job for _, _, job, _ in awaited]
-                    if i is not None and place[i] < place[j]}
-            self.before[j] = hops.union(*(self.before[i] for i in hops))
-            self.sure[j] = {e for e, job in enumerate(self.ops) if job == self.previous[j]}
-            for _, _, job, by in awaited:
-                if job in hops:
-                    self.sure[j].update(e for e in range(by + 1) if self.ops[e] == job)
-            self.sure[j].update(*(self.sure[i] for i in hops))
-
-    def unordered(self):
-        """The pairs of lines of signals, and of a binary wait and the next signal, that no order is sure for."""
-        pairs = []
-        for kind, initial, chain in zip(self.kinds, self.initial, self.chains):
-            if kind == 'timeline':
-                pairs += [(line, line) for value, line, _, _ in chain if value <= initial]
-                for (value, line, _, e), (greater, other, job, _) in zip(chain, chain[1:]):
-                    if value == greater:
-                        pairs.append((line, other))
-                    if e not in self.sure[job]:
-                        pairs.append((min(line, other), max(line, other)))
-        for i, needs in enumerate(self.needs):
-            for line, t, _ in needs:
-                if self.kinds[t] == 'binary':
-                    later = [(other, j) for _, other, j, _ in self.chains[t] if other > line]
-                    if later:
-                        other, j = min(later)
-                        if i != j and i not in self.before[j]:
-                            pairs.append((line, other))
-        return pairs
-
-    def races(self):
-        """The pairs of lines of commands with a byte in common that one of them writes, neither job before the other."""
-        commands = [(line, j, *touched(command)) for j, batch in enumerate(self.jobs) for line, command in batch.commands]
-        return [(line, other) for number, (line, i, writes, reads) in enumerate(commands)
-                for other, j, others, read in commands[number + 1:]
-                if i != j and i not in self.before[j] and j not in self.before[i]
-                and (share(writes, others) or share(writes, read) or share(others, reads))]
-
-    def final(self):
-        held = [bytearray(size) for _, size in self.reader.buffers]
-        for j in self.order:
-            for _, command in self.jobs[j].commands:
-                if command[0] == 'write':
-                    _, buffer, offset, written = command
-                    held[buffer][offset:offset + len(written)] = written
-                else:
-                    _, source, start, target, place, size = command
-                    held[target][place:place + size] = held[source][start:start + size]
-        return held
-
-
-def read(data, scheduled):
-    """The reader and the plan of a lawful script, or its refusal."""
-    if len(data) > LIMIT:
-        raise Refusal('too long')
-    reader = Reader(scheduled)
-    lines = lines_of(data)
-    number = 0
-    try:
-        for number, line in enumerate(lines, 1):
-            reader.read(line, number)
-        number = len(lines) + 1
-        if reader.batch or scheduled and reader.turns_given is None:
-            raise Fault('syntax')
-        return reader, Plan(reader)
-    except Fault as fault:
-        raise Refusal(f'{fault}: line {number}')
-
-
-def buffers_text(reader, plan):
-    text = []
-    for (name, size), held in zip(reader.buffers, plan.final()):
-        text.append(b'buffer ' + name + b' %d\n' % size)
-        text.extend(held[row:row + 16].hex().encode() + b'\n' for row in range(0, size, 16))
-    return b''.join(text) + b'end\n'
+def refused(refusal):
+    return 2, f'error: {refusal}\n'.encode()
 
 
 def answer(data):
+    """The status and the text of the slow run, which is the only text where no step of the host looks at what goes on."""
     try:
-        return 0, buffers_text(*read(data, False))
+        script = Script(data, False)
     except Refusal as refusal:
-        return 2, f'error: {refusal}\n'.encode()
+        return refused(refusal)
+    return 0, script.text(script.windows.slow_answers())
+
+
+def is_output(data, text):
+    """None where a run of the script may write this text, or why not."""
+    try:
+        script = Script(data, False)
+    except Refusal as refusal:
+        return None if text == refused(refusal)[1] else f'the script is refused: {refusal}'
+    buffers = script.buffers_text()
+    if not text.endswith(buffers):
+        return f'the buffers are {buffers!r}'
+    return script.windows.misfit(text[:len(text) - len(buffers)])
 
 
 def replay(data):
     try:
-        reader, plan = read(data, True)
+        script = Script(data, True)
     except Refusal as refusal:
-        return 2, f'error: {refusal}\n'.encode()
-    names = {queue: name.decode() for name, (kind, queue) in reader.names.items() if kind == 'queue'}
-    text, finished = Scene(plan, reader.queues).trace(reader.turns_given, names)
-    return 0, text + (buffers_text(reader, plan) if finished else b'')
+        return refused(refusal)
+    names = {queue: name.decode() for name, (kind, queue) in script.reader.names.items() if kind == 'queue'}
+    game = Game(script.plan)
+    text = game.trace(script.reader.turns_given, names)
+    return 0, text + (script.text(game.host.answers) if not game.left() else b'')

@@ -1,0 +1,61 @@
+"""The turns of those who move and run batches: a part of the second reading of docs/TURNS.md."""
+from scene import BLOCKED, ENDED
+from waiting import Waiter
+
+
+class Submitter:
+    """Moves the batches of a queue to the device: their waits are pending, their signals have points and are bound."""
+
+    def __init__(self, scene, queue):
+        self.scene = scene
+        self.batches = [j for j, job in enumerate(scene.plan.jobs) if job.queue == queue]
+
+    def turn(self):
+        scene = self.scene
+        left = [j for j in self.batches if not scene.is_bound_whole(j)]
+        if not left:
+            return ENDED
+        job, j = scene.plan.jobs[left[0]], left[0]
+        if j not in scene.submitted:
+            return BLOCKED
+        if j not in scene.released and not self.is_pending(job):
+            return BLOCKED
+        for e in job.signals:
+            if e not in scene.point:
+                return scene.collect(scene.plan.ops[e].chain) or scene.take(e)
+        if j not in scene.released:
+            return scene.release(j)
+        e = next(e for e in job.signals if e not in scene.bound)
+        return BLOCKED if scene.unbound_before(e) else scene.bind(e)
+
+    def is_pending(self, job):
+        """Whether all that a batch waits for can be found."""
+        awaited = [self.scene.plan.awaited_signal(t, value) for _, t, value in job.needs]
+        return all(e is None or e in self.scene.bound for e in awaited)
+
+
+class Ring:
+    """Runs the released batches of a queue."""
+
+    def __init__(self, scene, queue):
+        self.scene = scene
+        self.batches = [j for j, job in enumerate(scene.plan.jobs) if job.queue == queue]
+        self.waiter = Waiter(scene, queue)
+
+    def turn(self):
+        scene = self.scene
+        left = [j for j in self.batches if j not in scene.finished]
+        if not left:
+            return ENDED
+        job, j = scene.plan.jobs[left[0]], left[0]
+        if j not in scene.released:
+            return BLOCKED
+        if j not in scene.started:
+            return self.waiter.wait(j) or scene.start(j)
+        if scene.applied[j] < len(job.commands):
+            return scene.apply(j)
+        for e in job.signals:
+            if e not in scene.made:
+                return scene.signal(e) if e in scene.bound else BLOCKED
+        self.waiter.forget()
+        return scene.finish(j)

@@ -1,0 +1,68 @@
+"""The turns of the host: a part of the second reading of docs/TURNS.md.
+
+The host goes through the jobs in the order of the script. It submits each batch and moves those of immediate queues, and
+does its own steps whole.
+"""
+from batch_turns import Submitter
+from scene import BLOCKED, ENDED
+from waiting import Waiter
+from windows import answer_of
+
+
+class Host:
+    def __init__(self, scene):
+        self.scene = scene
+        self.waiter = Waiter(scene, 'host')
+        self.submits = [Submitter(scene, queue) for queue in range(len(scene.plan.modes))]
+        # The numbers of the chains that its present step asks for, as far as they were looked at.
+        self.seen = []
+        self.answers = {}
+
+    def turn(self):
+        scene = self.scene
+        for j, job in enumerate(scene.plan.jobs):
+            if job.queue is None:
+                if j not in scene.finished:
+                    return self.step(j, job)
+            elif j not in scene.submitted:
+                return scene.submit(j)
+            elif scene.plan.modes[job.queue] == b'immediate' and not scene.is_bound_whole(j):
+                return self.submits[job.queue].turn()
+        return ENDED
+
+    def step(self, j, job):
+        if j not in self.scene.started:
+            return self.waiter.wait(j) or self.wait_idle(job) or self.scene.start(j)
+        for e in job.signals:
+            if e not in self.scene.made:
+                return self.signal(e)
+        if job.is_asked and j not in self.answers:
+            return self.look_at_all(job) or self.answer(j, job)
+        self.waiter.forget()
+        self.seen = []
+        return self.scene.finish(j)
+
+    def wait_idle(self, job):
+        return BLOCKED if any(i not in self.scene.finished for i in job.idle_after) else None
+
+    def signal(self, e):
+        """A signal of the host goes through a point too."""
+        scene = self.scene
+        if e not in scene.point:
+            return scene.collect(scene.plan.ops[e].chain) or scene.take(e)
+        if e not in scene.bound:
+            return BLOCKED if scene.unbound_before(e) else scene.bind(e)
+        return scene.signal(e)
+
+    def look_at_all(self, job):
+        """Collects each chain that is asked for, in order, and keeps its number; nothing where all are looked at."""
+        for t, _ in job.asked[len(self.seen):]:
+            text = self.scene.collect(t)
+            if text:
+                return text
+            self.seen.append(self.scene.past_value(t))
+        return None
+
+    def answer(self, j, job):
+        self.answers[j] = answer_of(job, self.seen)
+        return f'answer {self.scene.line(j)} {self.answers[j]}'

@@ -1,0 +1,157 @@
+"""A second reading of what comes before what: the slow run, the jobs before each job, the signals that are sure for it."""
+from lowering import Refusal
+
+
+class Order:
+    """The order of a lawful plan; the plan is refused where it has none."""
+
+    def __init__(self, plan):
+        self.plan = plan
+        self.slow, stuck = slow_run(plan)
+        unreached = [line for j in stuck for line in unreached_lines(plan.jobs[j], final_numbers(plan, self.slow))]
+        if unreached:
+            raise Refusal(f'unreachable: line {min(unreached)}')
+        self.find_paths()
+        self.refuse_pairs('unordered', self.unordered())
+        busy = [plan.jobs[h].line for h, e in plan.resets if e not in self.sure[h]]
+        if busy:
+            raise Refusal(f'fence busy: line {min(busy)}')
+        self.refuse_pairs('race', self.races())
+
+    def refuse_pairs(self, kind, pairs):
+        """Refuses the least of pairs of lines: by the later line, then by the earlier one."""
+        if pairs:
+            second, first = min((max(pair), min(pair)) for pair in pairs)
+            raise Refusal(f'{kind}: lines {first} and {second}')
+
+    def edges(self, j):
+        """The jobs that must have come some way before this one starts, each with those of its signals made by then."""
+        job = self.plan.jobs[j]
+        for i in [job.previous, job.host_before, *job.idle_after]:
+            if i is not None:
+                yield i, self.plan.jobs[i].signals
+        # One of several pairs may do, so a wait for any of them is no promise of any.
+        for _, t, value in [] if job.any else job.needs:
+            e = self.plan.awaited_signal(t, value)
+            if e is not None:
+                i = self.plan.ops[e].job
+                yield i, [signal for signal in self.plan.jobs[i].signals if signal <= e]
+
+    def find_paths(self):
+        """The jobs that happen before each job, and the signals that are sure to be made when it starts."""
+        place = {j: number for number, j in enumerate(self.slow)}
+        self.before, self.sure = {}, {}
+        # A path to a job leads through jobs that stand earlier in the slow run, so those have all theirs.
+        for j in self.slow:
+            self.before[j], self.sure[j] = set(), set()
+            for i, made in self.edges(j):
+                if place[i] < place[j]:
+                    self.before[j] |= {i} | self.before[i]
+                    self.sure[j] |= set(made) | self.sure[i]
+
+    def unordered(self):
+        """The pairs of lines of signals, and of a binary wait and the next signal, that no order is sure for."""
+        plan, pairs = self.plan, []
+        for kind, initial, chain in zip(plan.kinds, plan.initial, plan.chains):
+            if kind == 'timeline':
+                pairs += [(plan.ops[e].line,) * 2 for e in chain if plan.ops[e].value <= initial]
+                for e, after in zip(chain, chain[1:]):
+                    first, second = plan.ops[e], plan.ops[after]
+                    if first.value == second.value or e not in self.sure[second.job]:
+                        pairs.append((first.line, second.line))
+        return pairs + self.overtaken()
+
+    def overtaken(self):
+        """The binary waits whose next signal may be made before they are done."""
+        plan, pairs = self.plan, []
+        for i, job in enumerate(plan.jobs):
+            for line, t, _ in job.needs:
+                later = [(plan.ops[e].line, plan.ops[e].job) for e in plan.chains[t] if plan.ops[e].line > line]
+                if plan.kinds[t] == 'binary' and later:
+                    other, j = min(later)
+                    if i != j and i not in self.before[j]:
+                        pairs.append((line, other))
+        return pairs
+
+    def races(self):
+        """The pairs of lines of commands with a byte in common that one of them writes, neither job before the other."""
+        commands = [(line, j, *touched(command)) for j, job in enumerate(self.plan.jobs) for line, command in job.commands]
+        return [(line, other) for number, (line, i, writes, reads) in enumerate(commands)
+                for other, j, others, read in commands[number + 1:]
+                if i != j and i not in self.before[j] and j not in self.before[i]
+                and (share(writes, others) or share(writes, read) or share(others, reads))]
+
+
+def slow_run(plan):
+    """Again and again the lowest job that can start is done whole: the order, and the jobs that are left over."""
+    numbers, order, done, left = list(plan.initial), [], set(), list(range(len(plan.jobs)))
+    while True:
+        j = next((j for j in left if can_start(plan.jobs[j], done, numbers)), None)
+        if j is None:
+            return order, left
+        order.append(j)
+        done.add(j)
+        left.remove(j)
+        raise_numbers(plan, j, numbers)
+
+
+def can_start(job, done, numbers):
+    return (all(i is None or i in done for i in [job.previous, job.host_before, *job.idle_after])
+            and is_reached(job, numbers))
+
+
+def is_reached(job, numbers):
+    """Whether what a job waits for is there."""
+    reached = [numbers[t] >= value for _, t, value in job.needs]
+    return any(reached) if job.any else all(reached)
+
+
+def unreached_lines(job, numbers):
+    """The lines of needs that aren't reached. A wait for any of several pairs is unreached as a whole, or not at all."""
+    if job.any:
+        return [] if is_reached(job, numbers) else [job.line]
+    return [line for line, t, value in job.needs if numbers[t] < value]
+
+
+def raise_numbers(plan, j, numbers):
+    for e in plan.jobs[j].signals:
+        op = plan.ops[e]
+        numbers[op.chain] = max(numbers[op.chain], op.value)
+
+
+def final_numbers(plan, order):
+    numbers = list(plan.initial)
+    for j in order:
+        raise_numbers(plan, j, numbers)
+    return numbers
+
+
+def touched(command):
+    """The ranges that a command writes and reads, as (buffer, first byte, byte after the last)."""
+    if command[0] == 'write':
+        _, buffer, offset, written = command
+        return (buffer, offset, offset + len(written)), None
+    _, source, start, target, place, size = command
+    return (target, place, place + size), (source, start, start + size)
+
+
+def share(first, second):
+    return bool(first and second and first[0] == second[0] and max(first[1], second[1]) < min(first[2], second[2]))
+
+
+def final_buffers(plan, order, sizes):
+    """The bytes of the buffers after all commands, in the order of the slow run."""
+    held = [bytearray(size) for size in sizes]
+    for j in order.slow:
+        for _, command in plan.jobs[j].commands:
+            do(held, command)
+    return held
+
+
+def do(held, command):
+    if command[0] == 'write':
+        _, buffer, offset, written = command
+        held[buffer][offset:offset + len(written)] = written
+    else:
+        _, source, start, target, place, size = command
+        held[target][place:place + size] = held[source][start:start + size]
