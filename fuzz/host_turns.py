@@ -1,12 +1,11 @@
 """The turns of the host: a part of the second reading of docs/TURNS.md.
 
-The host goes through the jobs in the order of the script. It submits each batch and moves those of immediate queues, and
-does its own steps whole.
+The host goes through the jobs in the order of the script. It submits each batch, moves those of immediate queues, and
+does each of its own steps whole before it goes on.
 """
 from batch_turns import Submitter
 from scene import BLOCKED, ENDED
 from waiting import Waiter
-from windows import answer_of
 
 
 class Host:
@@ -64,5 +63,5 @@ class Host:
         return None
 
     def answer(self, j, job):
-        self.answers[j] = answer_of(job, self.seen)
+        self.answers[j] = job.answer(self.seen)
         return f'answer {self.scene.line(j)} {self.answers[j]}'

@@ -1,4 +1,4 @@
-"""A second reading of what a script asks for: its jobs, what each waits for and asks, and the chain of each semaphore."""
+"""A second reading of what a script asks for: its jobs, what each waits for and asks, and each semaphore's signals."""
 
 
 class Refusal(Exception):
@@ -34,12 +34,21 @@ class Job:
         """Whether the step has a line of answer."""
         return self.queue is None and self.kind not in ('host signal', 'host fence reset')
 
+    def answer(self, numbers):
+        """The answer of a step that found these numbers of the chains that it asks for."""
+        if self.kind == 'host read':
+            return f'value {numbers[0]}'
+        reached = [number >= value for number, (_, value) in zip(numbers, self.asked)]
+        if any(reached) if self.kind == 'host poll any' else all(reached):
+            return 'ok'
+        return 'not-ready' if self.kind == 'host fence poll' else 'timeout'
+
 
 class Plan:
     """All jobs in the order of their lines, all signals, and for each semaphore the chain of its signals by value."""
 
     def __init__(self, reader):
-        semaphores = [(name, kind) for name, (kind, _) in reader.names.items() if kind in ('timeline', 'binary', 'fence')]
+        semaphores = [(name, kind) for name, (kind, _) in reader.names.items() if kind not in ('buffer', 'queue')]
         self.names = [name.decode() for name, _ in semaphores]
         self.kinds = [kind for _, kind in semaphores]
         self.initial = [value for _, value in reader.semaphores]
@@ -140,5 +149,5 @@ class Plan:
         return next((e for e in self.chains[t] if self.ops[e].value >= value), None)
 
     def awaited_signal(self, t, value):
-        """The signal that a pair needs; None where the initial value is enough, or where no signal reaches the value."""
+        """The signal that a pair needs: None where the initial value is enough, or where nothing reaches the value."""
         return self.resolver(t, value) if value > self.initial[t] else None

@@ -1,4 +1,4 @@
-"""A second reading of what comes before what: the slow run, the jobs before each job, the signals that are sure for it."""
+"""A second reading of what comes before what: the slow run, the jobs before each job, the signals sure for it."""
 from lowering import Refusal
 
 
@@ -74,8 +74,9 @@ class Order:
         return pairs
 
     def races(self):
-        """The pairs of lines of commands with a byte in common that one of them writes, neither job before the other."""
-        commands = [(line, j, *touched(command)) for j, job in enumerate(self.plan.jobs) for line, command in job.commands]
+        """The lines of two commands with a byte in common that one of them writes, neither job before the other."""
+        commands = [(line, j, *touched(command)) for j, job in enumerate(self.plan.jobs)
+                    for line, command in job.commands]
         return [(line, other) for number, (line, i, writes, reads) in enumerate(commands)
                 for other, j, others, read in commands[number + 1:]
                 if i != j and i not in self.before[j] and j not in self.before[i]
@@ -107,7 +108,7 @@ def is_reached(job, numbers):
 
 
 def unreached_lines(job, numbers):
-    """The lines of needs that aren't reached. A wait for any of several pairs is unreached as a whole, or not at all."""
+    """The lines of needs that aren't reached. A wait for any of several pairs is unreached whole, or not at all."""
     if job.any:
         return [] if is_reached(job, numbers) else [job.line]
     return [line for line, t, value in job.needs if numbers[t] < value]

@@ -1,10 +1,10 @@
 """A second reading of docs/LANGUAGE.md and docs/ONE_RESULT.md: what vq writes for an input, and with which status.
 
-It shares nothing with the program but the pages. `answer(data)` gives (status, text), where the text is that of the slow
-run; `is_output(data, text)` says of any text whether it is one that the script may give; `replay(data)` gives (status,
-text) for `--replay`, with the turns of turns.py. This file reads lines; what they ask for is lowering.py, what comes
-before what is order.py, and what answers may be is windows.py. All is plain and slow: needs are looked up by scans, what
-happens before what is a set of jobs for each job, and nothing is kept that can be counted again.
+It shares nothing with the program but the pages. `answer(data)` gives (status, text), the text being that of the slow
+run; `is_output(data, text)` says of any text whether the script may give it; `replay(data)` gives (status, text) for
+`--replay`, with the turns of turns.py. This file reads lines; what they ask for is in lowering.py, what comes before
+what in order.py, and what the answers may be in windows.py. All is plain and slow: needs are looked up by scans, what
+happens before what is a set of jobs for each job, and little is kept that can be counted again.
 """
 import re
 
@@ -334,7 +334,7 @@ def refused(refusal):
 
 
 def answer(data):
-    """The status and the text of the slow run, which is the only text where no step of the host looks at what goes on."""
+    """The status and the text of the slow run: the only text where no step of the host looks at what goes on."""
     try:
         script = Script(data, False)
     except Refusal as refusal:
@@ -343,7 +343,7 @@ def answer(data):
 
 
 def is_output(data, text):
-    """None where a run of the script may write this text, or why not."""
+    """None where the script may give this text, or why not."""
     try:
         script = Script(data, False)
     except Refusal as refusal:

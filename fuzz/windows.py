@@ -46,7 +46,7 @@ class Windows:
         return tuple(max(value, self.greatest(t, ops)) for t, value in enumerate(shown))
 
     def after(self, h, answer, shown):
-        """What may be shown when a step was answered so, one for each choice of the pair that was reached; or nothing."""
+        """What may be shown when a step was answered so, for each choice of the pair that was reached; or nothing."""
         job = self.plan.jobs[h]
         if job.kind == 'host read':
             return self.after_value(h, answer, shown)
@@ -97,9 +97,9 @@ class Windows:
         """The windows of the chains that a step looks at, for each choice of pairs that was left."""
         job = self.plan.jobs[h]
         pairs = job.asked or [(t, value) for _, t, value in job.needs]
-        return ' or '.join(
-            ', '.join(f'{self.plan.names[t]} {value} by {self.low(h, t, shown)} to {self.ceiling(h, t)}' for t, value in pairs)
-            for shown in sorted(possible))
+        return ' or '.join(', '.join(
+            f'{self.plan.names[t]} is {self.low(h, t, shown)} to {self.ceiling(h, t)} and asked for {value}'
+            for t, value in pairs) for shown in sorted(possible))
 
     # The answers of the slow run, where each job is done whole at once.
 
@@ -108,7 +108,7 @@ class Windows:
         for j in self.order.slow:
             job = self.plan.jobs[j]
             if job.is_asked:
-                answers[j] = answer_of(job, [numbers[t] for t, _ in job.asked])
+                answers[j] = job.answer([numbers[t] for t, _ in job.asked])
             for e in job.signals:
                 op = self.plan.ops[e]
                 numbers[op.chain] = op.value
@@ -119,13 +119,3 @@ def least(choices):
     """The choices that show least. What fits behind one that shows more fits behind them too."""
     return {each for each in choices
             if not any(other != each and all(a <= b for a, b in zip(other, each)) for other in choices)}
-
-
-def answer_of(job, numbers):
-    """The answer of a step that found these numbers of the chains that it asks for."""
-    if job.kind == 'host read':
-        return f'value {numbers[0]}'
-    reached = [number >= value for number, (_, value) in zip(numbers, job.asked)]
-    if (any(reached) if job.kind == 'host poll any' else all(reached)):
-        return 'ok'
-    return 'not-ready' if job.kind == 'host fence poll' else 'timeout'
