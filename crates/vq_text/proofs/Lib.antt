@@ -1,2 +1,3 @@
 mod JoinedTurns
 mod PrintedLines
+mod PrintedSteps

@@ -16,7 +16,7 @@ use Rattle.vq_model.specs.declared.script.Queue.{Queue}
 use Rattle.vq_model.specs.declared.script.CommandLine.{CommandLine}
 use Rattle.vq_model.specs.declared.script.Job.{Job}
 use Rattle.vq_model.specs.declared.script.Job.TheVariants.{Host, Batch as BatchJob}
-use Rattle.vq_model.specs.Built.{HasNoHostStep, HasWholeWaits, IsOfFirstVersion}
+use Rattle.vq_model.specs.Built.{HasWholeWaits, IsOfFirstVersion}
 use Rattle.vq_model.specs.Canonical.{hex_digits, fill_word, queue_name, buffer_words, queue_words, semaphore_words, mark_words, from_words, wait_words, command_words, signal_words, fence_lines, job_words, version_words, schedule_words, turns_words, joined_turns, line_text, canonical_text}
 
 -- what follows from what a call gives
@@ -85,15 +85,15 @@ batch_text s b =
     (flat_map-map line_text command b.commands))
     (flat_map-map line_text (signal_words s) b.signals))))
 
--- a batch whose waits hold it back as a whole
+-- a host step, or a batch whose waits hold it back as a whole
 abbrev pub IsWholeJob : Job → Type 0
-IsWholeJob (Host h) = ⊥
+IsWholeJob (Host h) = Unit {0}
 IsWholeJob (BatchJob b) = All (λ m. m.from ≡ 1) b.waits
 
--- each job of a script without host steps is one, where each wait holds back its whole batch
-pub whole_job : (s : Script) (jobs : List Job) → jobs ≡ s.jobs → HasNoHostStep s →
+-- each job of a script is one, where each wait holds back its whole batch
+pub whole_job : (s : Script) (jobs : List Job) → jobs ≡ s.jobs →
     HasWholeWaits s → (j : ℕ) (job : Job) → j < length jobs → IsWholeJob (slice_index_or jobs j job)
-whole_job s jobs e hostless whole j job l =
+whole_job s jobs e whole j job l =
     by_job (slice_index_or jobs j job) (ap (λ (xs : List Job). slice_get xs j) (sym e) ∙ at jobs j l)
   where
     at : (xs : List Job) (k : ℕ) → k < length xs → slice_get xs k ≡ Some (slice_index_or xs k job)
@@ -102,7 +102,7 @@ whole_job s jobs e hostless whole j job l =
     at (x ∷ xs) (suc k) l = at xs k (omega arith)
 
     by_job : (x : Job) → slice_get s.jobs j ≡ Some x → IsWholeJob x
-    by_job (Host h) f = hostless j h f
+    by_job (Host h) f = tt
     by_job (BatchJob b) f = whole j b f
 
 -- the words of a wait that holds back the whole batch

@@ -1,11 +1,12 @@
-//! The lines of a canonical text that are batches.
+//! The lines of a canonical text that are jobs.
 ghost use Rattle.std.specs.Prelude.{◌≡◌, ◌++◌, ◌∷◌, [], OnOk, All};
 ghost use Rattle.std.specs.List.{flat_map};
-ghost use Rattle.vq_model.specs.Built.{HasNoHostStep, HasWholeWaits};
+ghost use Rattle.vq_model.specs.Built.{HasWholeWaits};
 ghost use Rattle.vq_model.specs.Canonical.{semaphore_name, semaphore_kind, queue_name, mark_words, wait_words};
 ghost use Rattle.vq_model.specs.Canonical.{signal_words, fence_lines, job_words, line_text};
 
 use crate::commands::push_commands;
+use crate::host_steps::push_step;
 use crate::words::{push_name_line, push_number_line};
 use std::alloc::{AllocError, Global};
 use vq_model::script::{Batch, Job, Mark, Script, SemaphoreKind};
@@ -21,7 +22,7 @@ pub(crate) fn queue_name(script: &Script, queue: u32) -> &[u8]
 }
 
 /// The name of a semaphore or fence, empty for one that isn't declared.
-fn semaphore_name(script: &Script, semaphore: u32) -> &[u8]
+pub(crate) fn semaphore_name(script: &Script, semaphore: u32) -> &[u8]
     ensures { result.now ≡ semaphore_name script.now semaphore }
 {
     match script.semaphores.as_slice().get(semaphore as usize) {
@@ -136,7 +137,7 @@ fn push_batch(
     out.extend_from_slice(b"end\n")
 }
 
-/// Adds the lines of batches.
+/// Adds the lines of jobs.
 pub(crate) fn push_jobs(
     alloc: Global,
     out: &mut Vec<u8>,
@@ -144,16 +145,15 @@ pub(crate) fn push_jobs(
     jobs: &[Job],
 ) -> Result<(), AllocError>
     requires written { jobs.now ≡ script.now.jobs }
-    requires hostless { HasNoHostStep script.now }
     requires whole { HasWholeWaits script.now }
     ensures { OnOk result (out.new.items ≡ out.old.items
         ++ flat_map (λ j. flat_map line_text (job_words script.now j)) jobs.now) }
 {
     for job in jobs {
-        let Job::Batch(batch) = job else {
-            unreachable!()
-        };
-        push_batch(alloc, out, script, batch)?;
+        match job {
+            Job::Host(step) => push_step(alloc, out, script, &step.step)?,
+            Job::Batch(batch) => push_batch(alloc, out, script, batch)?,
+        }
     }
     Ok(())
 }

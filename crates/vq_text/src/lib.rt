@@ -4,6 +4,7 @@
 mod batches;
 mod commands;
 mod declarations;
+mod host_steps;
 mod schedule;
 mod script;
 mod words;

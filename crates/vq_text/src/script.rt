@@ -11,11 +11,11 @@ use vq_model::script::Script;
 
 /// The canonical text of a script: one space between words, no comment, and a line feed after each
 /// line. The buffers come first, then the timelines, binary semaphores and fences, then the queues,
-/// then the batches, then the schedule where there is one. A batch is its `submit` line, its waits,
-/// its commands, its signals, its fence where it names one, and `end`. A schedule is the line
-/// `schedule` and its turns: neighbouring turns of one actor are one line, with their count where it
-/// is above 1. Numerals are decimal; the word of a fill is `0x` and eight
-/// lower-case digits, and the bytes of an update are lower-case digits.
+/// then the batches and the host steps, in their order, then the schedule where there is one. A batch
+/// is its `submit` line, its waits, its commands, its signals, its fence where it names one, and
+/// `end`; a host step is one line. A schedule is the line `schedule` and its turns: neighbouring turns
+/// of one actor are one line, with their count where it is above 1. Numerals are decimal; the word of
+/// a fill is `0x` and eight lower-case digits, and the bytes of an update are lower-case digits.
 /// The error is want of memory.
 ///
 /// Source: this project's own.

@@ -1,12 +1,9 @@
-use Rattle.vq_reading_laws.proofs.Cited.{written_hostless, written_whole, written_version}
+use Rattle.vq_reading_laws.proofs.Cited.{written_whole, written_version}
 use Rattle.vq_text.proofs.PrintedLines.{text_added}
 use Rattle.vq_text.proofs.script.print.Goals as goal
 
 pub push_jobs-requires-clause-written : goal.push_jobs-requires-clause-written
 push_jobs-requires-clause-written c = c.as_slice-4.ensures
-
-pub push_jobs-requires-clause-hostless : goal.push_jobs-requires-clause-hostless
-push_jobs-requires-clause-hostless c = written_hostless c.args.script.now c.requires
 
 pub push_jobs-requires-clause-whole : goal.push_jobs-requires-clause-whole
 push_jobs-requires-clause-whole c = written_whole c.args.script.now c.requires
