@@ -228,7 +228,7 @@ module _ (form : Form) (before : List Line) (p : Parts) (h : Say before p) (name
       }
 
   -- a semaphore's name finds it
-  timeline_there : (t : ℕ) (x : Semaphore) → slice_get p.semaphores t ≡ Some x →
+  pub timeline_there : (t : ℕ) (x : Semaphore) → slice_get p.semaphores t ≡ Some x →
       is_timeline x.kind ≡ true → timeline_at before x.name ≡ Some t
   timeline_there t x there is =
       timeline_at_said before p h x.name
@@ -242,7 +242,7 @@ module _ (form : Form) (before : List Line) (p : Parts) (h : Say before p) (name
       ∙ position_of_both (λ y. bytes_eq x.name y.name) (λ y. is_binary y.kind) p.semaphores t x
       (named.semaphore_names t x there).1 there is
 
-  fence_there : (t : ℕ) (x : Semaphore) → slice_get p.semaphores t ≡ Some x →
+  pub fence_there : (t : ℕ) (x : Semaphore) → slice_get p.semaphores t ≡ Some x →
       is_fence x.kind ≡ true → fence_at before x.name ≡ Some t
   fence_there t x there is =
       fence_at_said before p h x.name

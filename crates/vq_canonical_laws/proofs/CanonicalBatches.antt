@@ -1,4 +1,4 @@
--- The canonical lines of batches are those of their statements, one after another.
+-- The canonical lines of jobs are those of their statements, one after another.
 use Rattle.std.proofs.Common.{◌≡◌, Bool, false, List, [], ◌∷◌, Option, None, refl, ◌∙◌, ℕ, true, sym, ◌++◌, ap, append_assoc, append-nil, map, Some, subst}
 use Rattle.std.specs.List.{filter_map, list_any, cons_option, flat_map, list_all}
 use Rattle.std.proofs.lemmas.Bool.{or_parts, false≢true}
@@ -6,7 +6,7 @@ use Rattle.vq_model.specs.declared.statement.Statement.{Statement}
 use Rattle.std.specs.Prelude.{nat_lt, codes}
 use Rattle.vq_model.specs.declared.statement.Statement.TheVariants.{AddCommand, AddSignal, AddFence, AddWait, EndBatch}
 use Rattle.vq_model.specs.LineFaults.{part_of}
-use Rattle.vq_canonical_laws.proofs.ScriptParts.{command_in, signal_in, fence_in, Parts, after, Told, parts, wait_in, a_job, MayItem}
+use Rattle.vq_canonical_laws.proofs.ScriptParts.{ToldStep, ToldBatch, ToldJob, command_in, signal_in, fence_in, Parts, after, Told, parts, wait_in, a_job, MayItem}
 use Rattle.vq_model.specs.Context.{is_batch_fence}
 use Rattle.vq_canonical_laws.proofs.LineWords.{words_at, declared_script}
 use Rattle.vq_canonical_laws.proofs.CanonicalOrder.{Leads, job_statements, declarations}
@@ -21,7 +21,7 @@ use Rattle.vq_model.specs.declared.script.CommandLine.{CommandLine}
 use Rattle.vq_model.specs.declared.script.Command.{Command}
 use Rattle.vq_model.specs.declared.script.Pair.{Pair}
 use Rattle.vq_model.specs.ScriptOfLines.{mark, first_of_list}
-use Rattle.vq_model.specs.Canonical.{job_words, wait_words, command_words, signal_words, fence_words, fence_lines, queue_name}
+use Rattle.vq_model.specs.Canonical.{job_words, wait_words, command_words, signal_words, fence_words, fence_lines, queue_name, step_words}
 use Rattle.vq_canonical_laws.proofs.BatchItems.{is_item, AllItems}
 
 -- Statements in the order of a batch's parts
@@ -232,16 +232,16 @@ module _ (bs : List Buffer) (ss : List Semaphore) (qs : List Queue) where
   end_line = (codes "end" ∷ []) ∷ []
 
   -- The rest of a batch leads out of it, and its lines are the canonical ones.
-  record IsAlong (jobs : List Told) (q : ℕ) (told rest : List Statement) (r : Parts)
+  record IsAlong (jobs : List ToldJob) (q : ℕ) (told rest : List Statement) (r : Parts)
       : Type 0 where
-    more : List Told
+    more : List ToldJob
     ends : r ≡ parts bs ss qs more None
     lines : item_lines (told ++ rest) ++ end_line
         ≡ item_lines told
         ++ words_along (parts bs ss qs jobs (Some (q, told))) (rest ++ EndBatch ∷ [])
 
   -- one line of it
-  along_step : (jobs : List Told) (q : ℕ) (told rest : List Statement) (s : Statement)
+  along_step : (jobs : List ToldJob) (q : ℕ) (told rest : List Statement) (s : Statement)
       (w : List (List ℕ)) (r : Parts) → IsAlong jobs q (told ++ s ∷ []) rest r →
       item_lines (told ++ s ∷ []) ≡ item_lines told ++ w ∷ [] →
       words_along (parts bs ss qs jobs (Some (q, told))) (s ∷ rest ++ EndBatch ∷ [])
@@ -262,7 +262,7 @@ module _ (bs : List Buffer) (ss : List Semaphore) (qs : List Queue) where
       }
 
   -- what an item finds told
-  told_is : (jobs : List Told) (q : ℕ) (told : List Statement) (s : Statement)
+  told_is : (jobs : List ToldJob) (q : ℕ) (told : List Statement) (s : Statement)
       (m : MayItem (parts bs ss qs jobs (Some (q, told))) s) → m.told ≡ (q, told)
   told_is jobs q told s m = same_told m.told (q, told) (sym m.inside)
     where
@@ -270,13 +270,13 @@ module _ (bs : List Buffer) (ss : List Semaphore) (qs : List Queue) where
       same_told a b e = cc
 
   -- the rest of a batch
-  items_along : (jobs : List Told) (q : ℕ) (told rest : List Statement) (r : Parts) →
+  items_along : (jobs : List ToldJob) (q : ℕ) (told rest : List Statement) (r : Parts) →
       list_all is_item rest ≡ true →
       Leads (parts bs ss qs jobs (Some (q, told))) (rest ++ EndBatch ∷ []) r →
       IsAlong jobs q told rest r
   items_along jobs q told [] r a l =
       record {
-        more = jobs ++ (q, told) ∷ [];
+        more = jobs ++ ToldBatch (q, told) ∷ [];
         ends = sym l.1;
         lines = ap (λ (xs : List Statement). item_lines xs ++ end_line) (append-nil told);
       }
@@ -305,18 +305,22 @@ module _ (bs : List Buffer) (ss : List Semaphore) (qs : List Queue) where
       (items_along jobs q (told ++ AddFence f ∷ []) rest r a l.1) (fence_push told f h) refl
   items_along jobs q told (s ∷ rest) r a l = absurd (false≢true a)
 
-  -- Batches in the canonical order are written in the canonical lines.
-  pub jobs_along : (before jobs : List Told) (r : Parts) → AllItems jobs →
+  -- Jobs in the canonical order are written in the canonical lines.
+  pub jobs_along : (before jobs : List ToldJob) (r : Parts) → AllItems jobs →
       Leads (parts bs ss qs before None) (flat_map job_statements jobs) r →
       words_along (parts bs ss qs before None) (flat_map job_statements jobs)
       ≡ flat_map (job_words whole) (map a_job jobs)
   jobs_along before [] r a l = refl
-  jobs_along before (t ∷ jobs) r a l =
+  jobs_along before (ToldStep step ∷ jobs) r a l =
+      ap (λ (ls : Lines). (codes "host" ∷ step_words whole step) ∷ ls)
+      (jobs_along (before ++ ToldStep step ∷ []) jobs r a l.1)
+  jobs_along before (ToldBatch t ∷ jobs) r a l =
       let cut =
-      leads_split (parts bs ss qs before None) r (job_statements t) (flat_map job_statements jobs)
+      leads_split (parts bs ss qs before None) r (job_statements (ToldBatch t))
+      (flat_map job_statements jobs)
       l in
       let along = items_along before t.0 [] t.1 cut.0 a.0 cut.1.1 in
-      words_append (parts bs ss qs before None) cut.0 (job_statements t)
+      words_append (parts bs ss qs before None) cut.0 (job_statements (ToldBatch t))
       (flat_map job_statements jobs) cut.1
       ∙ (λ i.
       ap (λ (ls : Lines). (codes "submit" ∷ queue_name whole t.0 ∷ []) ∷ ls) (sym along.lines) i

@@ -1,8 +1,8 @@
 -- Chains of statements, and the canonical order of the parts of a script.
 use Rattle.std.proofs.Common.{◌≡◌, List, [], ◌∷◌, ◌++◌, sym, subst, refl, map, Option, Some, None}
 use Rattle.vq_model.specs.declared.statement.Statement.{Statement}
-use Rattle.vq_canonical_laws.proofs.ScriptParts.{Parts, after, May, Told, parts, no_parts}
-use Rattle.vq_model.specs.declared.statement.Statement.TheVariants.{DeclareBuffer, DeclareSemaphore, DeclareQueue, BeginBatch, EndBatch}
+use Rattle.vq_canonical_laws.proofs.ScriptParts.{ToldStep, ToldBatch, ToldJob, Parts, after, May, Told, parts, no_parts}
+use Rattle.vq_model.specs.declared.statement.Statement.TheVariants.{DeclareBuffer, DeclareSemaphore, DeclareQueue, BeginBatch, EndBatch, TakeHostStep}
 use Rattle.vq_model.specs.declared.script.Buffer.{Buffer}
 use Rattle.vq_model.specs.declared.script.Semaphore.{Semaphore}
 use Rattle.vq_model.specs.declared.script.Queue.{Queue}
@@ -28,7 +28,7 @@ leads_push p q statements s l m = leads_on p q (after q s) statements (s ∷ [])
 
 -- The canonical order
 
--- the statements of buffers, semaphores, queues, of a batch, of the open batch, of all batches
+-- the statements of buffers, semaphores, queues, of a job, of the open batch, of all jobs
 abbrev pub buffer_statements : List Buffer → List Statement
 buffer_statements bs = map (λ b. DeclareBuffer b.name b.size) bs
 
@@ -38,21 +38,22 @@ semaphore_statements ss = map (λ s. DeclareSemaphore s.name s.kind) ss
 abbrev pub queue_statements : List Queue → List Statement
 queue_statements qs = map (λ q. DeclareQueue q.name q.mode) qs
 
-abbrev pub job_statements : Told → List Statement
-job_statements t = BeginBatch t.0 ∷ t.1 ++ EndBatch ∷ []
+abbrev pub job_statements : ToldJob → List Statement
+job_statements (ToldStep step) = TakeHostStep step ∷ []
+job_statements (ToldBatch t) = BeginBatch t.0 ∷ t.1 ++ EndBatch ∷ []
 
 abbrev pub open_statements : Option Told → List Statement
 open_statements None = []
 open_statements (Some t) = BeginBatch t.0 ∷ t.1
 
-abbrev pub batch_statements : List Told → Option Told → List Statement
+abbrev pub batch_statements : List ToldJob → Option Told → List Statement
 batch_statements jobs batch = flat_map job_statements jobs ++ open_statements batch
 
--- parts without batches
+-- parts without jobs
 abbrev pub declarations : List Buffer → List Semaphore → List Queue → Parts
 declarations bs ss qs = parts bs ss qs [] None
 
--- The parts can be said in this order: buffers, semaphores, queues, batches.
+-- The parts can be said in this order: buffers, semaphores, queues, jobs.
 pub record IsOrdered (p : Parts) : Type 0 where
   pub buffers_first : Leads no_parts (buffer_statements p.buffers) (declarations p.buffers [] [])
   pub semaphores_next : Leads (declarations p.buffers [] []) (semaphore_statements p.semaphores)

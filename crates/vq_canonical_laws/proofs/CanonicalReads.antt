@@ -143,7 +143,7 @@ module _ (p : Parts) (o : IsOrdered p) (items : HasItems p) (none : p.batch ≡ 
   abbrev declared : Parts
   declared = declarations p.buffers p.semaphores p.queues
 
-  -- the batches follow the declarations, ..
+  -- the jobs follow the declarations, ..
   jobs_lead : Leads declared (flat_map job_statements p.jobs) p
   jobs_lead =
       subst (λ (xs : List Statement). Leads declared xs p)

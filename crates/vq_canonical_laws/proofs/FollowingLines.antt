@@ -1,7 +1,7 @@
 -- A line without a fault says a statement that may follow what the lines before say.
 use Rattle.std.proofs.Common.{◌≡◌, Option, Some, None, refl, false, List, [], ◌∷◌, sym, Bool, true, not, ℕ, ◌^◌, ◌<◌, ◌++◌, cond, ◌+◌, ◌==◌, ◌&&◌, ◌||◌, length, find, option_map, ap, ◌∙◌, subst, arith, ◌⊎◌, inl, inr}
 use Rattle.vq_model.specs.declared.statement.Section.TheVariants.{Outside, InBatch, InSchedule}
-use Rattle.vq_canonical_laws.proofs.ScriptParts.{Told, part_of_batch, has_jobs, TakesValue, Parts, May, Say, HasValue, IsBuiltMode, IsMarked, sizes_in, HasNumerals, count_jobs, count_commands, commands_of, place_of}
+use Rattle.vq_canonical_laws.proofs.ScriptParts.{ToldJob, Told, part_of_batch, has_jobs, TakesValue, Parts, May, Say, HasValue, IsBuiltMode, IsMarked, sizes_in, HasNumerals, count_jobs, count_commands, commands_of, place_of}
 use Rattle.std.proofs.lemmas.Bool.{false≢true, or_parts, and_parts, ltb-true, ltb-false}
 use Rattle.vq_model.specs.declared.statement.Statement.{Statement}
 use Rattle.vq_model.specs.declared.script.SemaphoreKind.{SemaphoreKind}
@@ -9,6 +9,7 @@ use Rattle.vq_model.specs.declared.script.SemaphoreKind.TheVariants.{Timeline, B
 use Rattle.vq_model.specs.Context.{is_timeline, is_binary, is_fence, section, buffers, semaphores, queues, buffer_at, timeline_at, binary_at, fence_at, queue_at, is_declared, has_begun, open_batch, is_batch_immediate, is_wait, is_command, is_signal, is_batch_fence, count, some, version_of}
 use Rattle.vq_model.specs.declared.statement.LineForm.{LineForm}
 use Rattle.vq_model.specs.declared.statement.LineForm.TheVariants.{WaitTimelineLine, WaitBinaryLine, FillWholeLine, FillLine, UpdateLine, CopyLine, SignalTimelineLine, SignalBinaryLine, BatchFenceLine, EndLine, BufferLine, TimelineLine, BinaryLine, FenceLine, QueueLine, SubmitLine, ScheduleLine, TurnLine, TurnsLine}
+use Rattle.vq_model.specs.declared.statement.LineForm.TheVariants.{HostSignalLine, HostWaitAllLine, HostWaitAnyLine, HostPollAllLine, HostPollAnyLine, HostReadLine, HostFenceWaitLine, HostFencePollLine, HostFenceResetLine, HostIdleLine}
 use Rattle.std.specs.List.{list_all, list_any}
 use Rattle.vq_model.specs.declared.statement.Form.{Form}
 use Rattle.vq_model.specs.declared.statement.Form.TheVariants.{Plain, Scheduled}
@@ -30,6 +31,7 @@ use Rattle.vq_model.specs.Limits.{is_job, limits_of, passes_limit}
 use Rattle.vq_model.specs.LineFaults.{fault_of, is_in_range, overlaps, part_of, waits_too_far}
 use Rattle.vq_reading_laws.proofs.Cited.{found_passes, built_found, found_belongs, where_it_is_built, forms_in, below}
 use Rattle.vq_canonical_laws.proofs.WrittenNumbers.{numeral_below, small_numeral_below, hex_bytes_below}
+use Rattle.vq_canonical_laws.proofs.FollowingSteps.{host_may}
 use Rattle.vq_canonical_laws.proofs.LineTests.{PassesTests, tests_passed}
 use Rattle.vq_canonical_laws.proofs.NamedParts.{position_passes}
 use Rattle.vq_canonical_laws.proofs.SaidContext.{sizes_said, buffer_count_said, semaphore_count_said, queue_count_said, timeline_at_said, binary_at_said, fence_at_said, queue_at_said, declared_said, range_said, overlap_said, some_said, count_said, immediate_said}
@@ -51,8 +53,8 @@ no_schedule : (b : Option Told) → InSchedule ≡ part_of_batch b → ⊥
 no_schedule None e = cc
 no_schedule (Some t) e = cc
 
--- no batch has begun
-no_jobs : (jobs : List Told) (b : Option Told) → has_jobs jobs b ≡ false → jobs ≡ []
+-- no job has begun
+no_jobs : (jobs : List ToldJob) (b : Option Told) → has_jobs jobs b ≡ false → jobs ≡ []
 no_jobs [] b e = refl
 no_jobs (t ∷ jobs) b e = absurd (false≢true (sym e))
 
@@ -104,6 +106,16 @@ stands_inside BinaryLine = false
 stands_inside FenceLine = false
 stands_inside (QueueLine mode) = false
 stands_inside SubmitLine = false
+stands_inside HostSignalLine = false
+stands_inside HostWaitAllLine = false
+stands_inside HostWaitAnyLine = false
+stands_inside HostPollAllLine = false
+stands_inside HostPollAnyLine = false
+stands_inside HostReadLine = false
+stands_inside HostFenceWaitLine = false
+stands_inside HostFencePollLine = false
+stands_inside HostFenceResetLine = false
+stands_inside HostIdleLine = false
 stands_inside ScheduleLine = false
 stands_inside TurnLine = false
 stands_inside TurnsLine = false
@@ -128,7 +140,7 @@ abbrev pub MayFollow : Parts → Statement → Type 0
 MayFollow p s = May p s ⊎ ((s ≡ BeginSchedule) × (p.batch ≡ None))
 
 module _ (form : Form) (before : List Line) (p : Parts) (h : Say before p) where
-  -- before the first batch
+  -- before the first job
   first_parts : Outside ≡ part_of_batch p.batch →
       ((has_begun before || some (λ x. nat_lt 0 (part_of x)) (open_batch before)) || false)
       ≡ false →
@@ -601,6 +613,26 @@ module _ (form : Form) (before : List Line) (p : Parts) (h : Say before p) where
   outside_may (QueueLine Immediate) words s e g b m t = inl (queue_may Immediate tt words s e m t)
   outside_may (QueueLine Threaded) words s e g b m t = inl (queue_may Threaded tt words s e m t)
   outside_may SubmitLine words s e g b m t = inl (submit_may words s e m t)
+  outside_may HostSignalLine words s e g b m t =
+      inl (host_may before p h form HostSignalLine words s (outside_batch p.batch e) refl m t)
+  outside_may HostWaitAllLine words s e g b m t =
+      inl (host_may before p h form HostWaitAllLine words s (outside_batch p.batch e) refl m t)
+  outside_may HostWaitAnyLine words s e g b m t =
+      inl (host_may before p h form HostWaitAnyLine words s (outside_batch p.batch e) refl m t)
+  outside_may HostPollAllLine words s e g b m t =
+      inl (host_may before p h form HostPollAllLine words s (outside_batch p.batch e) refl m t)
+  outside_may HostPollAnyLine words s e g b m t =
+      inl (host_may before p h form HostPollAnyLine words s (outside_batch p.batch e) refl m t)
+  outside_may HostReadLine words s e g b m t =
+      inl (host_may before p h form HostReadLine words s (outside_batch p.batch e) refl m t)
+  outside_may HostFenceWaitLine words s e g b m t =
+      inl (host_may before p h form HostFenceWaitLine words s (outside_batch p.batch e) refl m t)
+  outside_may HostFencePollLine words s e g b m t =
+      inl (host_may before p h form HostFencePollLine words s (outside_batch p.batch e) refl m t)
+  outside_may HostFenceResetLine words s e g b m t =
+      inl (host_may before p h form HostFenceResetLine words s (outside_batch p.batch e) refl m t)
+  outside_may HostIdleLine words s e g b m t =
+      inl (host_may before p h form HostIdleLine words s (outside_batch p.batch e) refl m t)
   outside_may ScheduleLine (a ∷ []) s e g b m t =
       inr (sym (same_statement BeginSchedule s t.said), outside_batch p.batch e)
   outside_may ScheduleLine words s e g b m t = absurd (false≢true m)
@@ -638,6 +670,16 @@ module _ (form : Form) (before : List Line) (p : Parts) (h : Say before p) where
   inside_may FenceLine words s e g b m t = absurd (false≢true g)
   inside_may (QueueLine mode) words s e g b m t = absurd (false≢true g)
   inside_may SubmitLine words s e g b m t = absurd (false≢true g)
+  inside_may HostSignalLine words s e g b m t = absurd (false≢true g)
+  inside_may HostWaitAllLine words s e g b m t = absurd (false≢true g)
+  inside_may HostWaitAnyLine words s e g b m t = absurd (false≢true g)
+  inside_may HostPollAllLine words s e g b m t = absurd (false≢true g)
+  inside_may HostPollAnyLine words s e g b m t = absurd (false≢true g)
+  inside_may HostReadLine words s e g b m t = absurd (false≢true g)
+  inside_may HostFenceWaitLine words s e g b m t = absurd (false≢true g)
+  inside_may HostFencePollLine words s e g b m t = absurd (false≢true g)
+  inside_may HostFenceResetLine words s e g b m t = absurd (false≢true g)
+  inside_may HostIdleLine words s e g b m t = absurd (false≢true g)
   inside_may ScheduleLine words s e g b m t = absurd (false≢true g)
   inside_may TurnLine words s e g b m t = absurd (false≢true g)
   inside_may TurnsLine words s e g b m t = absurd (false≢true g)

@@ -7,7 +7,9 @@ mod CanonicalReads
 mod CommandLines
 mod DeclarationLines
 mod FollowingLines
+mod FollowingSteps
 mod FollowingTurns
+mod HostLines
 mod JoinedTurns
 mod LineTests
 mod LineWords

@@ -4,9 +4,9 @@ use Rattle.vq_model.specs.declared.script.Script.{Script}
 use Rattle.vq_canonical_laws.proofs.ScriptParts.{Parts, parts, script_of_parts, a_buffer, a_semaphore, a_queue, Told, Say}
 use Rattle.std.specs.Prelude.{codes, nat_lt}
 use Rattle.vq_model.specs.declared.statement.Statement.{Statement}
-use Rattle.vq_model.specs.declared.statement.Statement.TheVariants.{DeclareBuffer, DeclareSemaphore, DeclareQueue, BeginBatch, AddWait, AddCommand, AddSignal, AddFence, EndBatch}
+use Rattle.vq_model.specs.declared.statement.Statement.TheVariants.{DeclareBuffer, DeclareSemaphore, DeclareQueue, BeginBatch, AddWait, AddCommand, AddSignal, AddFence, EndBatch, TakeHostStep}
 use Rattle.vq_model.specs.ScriptOfLines.{mark}
-use Rattle.vq_model.specs.Canonical.{buffer_words, semaphore_words, queue_words, wait_words, command_words, signal_words, fence_words, queue_name}
+use Rattle.vq_model.specs.Canonical.{buffer_words, semaphore_words, queue_words, wait_words, command_words, signal_words, fence_words, queue_name, step_words}
 use Rattle.vq_model.specs.declared.statement.Form.{Form}
 use Rattle.vq_model.specs.declared.statement.Line.{Line}
 use Rattle.vq_model.specs.Reading.{with_line, read_statement}
@@ -43,6 +43,7 @@ words_at p (AddSignal pair) = signal_words (declared_script p) (mark 0 pair 1)
 words_at p (AddFence f) =
     fence_words (declared_script p) (mark 0 (record { semaphore = f; value = 0 }) 1)
 words_at p EndBatch = codes "end" ∷ []
+words_at p (TakeHostStep step) = codes "host" ∷ step_words (declared_script p) step
 words_at p other = []
 
 -- A statement's canonical words are words, and read as this statement.

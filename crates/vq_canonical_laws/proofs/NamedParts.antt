@@ -13,7 +13,7 @@ use Rattle.vq_model.specs.declared.script.Buffer.{Buffer}
 use Rattle.vq_model.specs.declared.script.Semaphore.{Semaphore}
 use Rattle.vq_model.specs.declared.script.Queue.{Queue}
 use Rattle.vq_model.specs.declared.statement.Statement.{Statement}
-use Rattle.vq_model.specs.declared.statement.Statement.TheVariants.{DeclareBuffer, DeclareSemaphore, DeclareQueue, BeginBatch, AddWait, AddCommand, AddSignal, AddFence, EndBatch}
+use Rattle.vq_model.specs.declared.statement.Statement.TheVariants.{DeclareBuffer, DeclareSemaphore, DeclareQueue, BeginBatch, AddWait, AddCommand, AddSignal, AddFence, EndBatch, TakeHostStep}
 
 -- Names are words
 
@@ -301,4 +301,6 @@ named_more p (AddCommand c) n m = same_names p (after p (AddCommand c)) n refl r
 named_more p (AddSignal pair) n m = same_names p (after p (AddSignal pair)) n refl refl refl
 named_more p (AddFence f) n m = same_names p (after p (AddFence f)) n refl refl refl
 named_more p EndBatch n m = same_names p (after p EndBatch) n refl refl refl
+named_more p (TakeHostStep step) n m =
+    same_names p (after p (TakeHostStep step)) n refl refl refl
 named_more p s n m = absurd m

@@ -1,19 +1,20 @@
--- One more line of a batch, in the canonical order.
+-- One more line of a job, in the canonical order.
 use Rattle.std.proofs.Common.{◌≡◌, ℕ, List, [], ◌∷◌, ◌++◌, append_assoc, append-nil, Some, None, sym, ap, ◌∙◌, subst, Option, refl}
 use Rattle.std.specs.List.{flat_map}
 use Rattle.std.proofs.lemmas.Grind.{flat_map-append}
 use Rattle.vq_model.specs.declared.statement.Statement.{Statement}
-use Rattle.vq_model.specs.declared.statement.Statement.TheVariants.{BeginBatch, EndBatch, DeclareBuffer, DeclareSemaphore, DeclareQueue, AddWait, AddCommand, AddSignal, AddFence}
+use Rattle.vq_model.specs.declared.statement.Statement.TheVariants.{BeginBatch, EndBatch, DeclareBuffer, DeclareSemaphore, DeclareQueue, AddWait, AddCommand, AddSignal, AddFence, TakeHostStep}
+use Rattle.vq_model.specs.declared.script.HostStep.{HostStep}
 use Rattle.vq_model.specs.declared.script.Buffer.{Buffer}
 use Rattle.vq_model.specs.declared.script.Semaphore.{Semaphore}
 use Rattle.vq_model.specs.declared.script.Queue.{Queue}
-use Rattle.vq_canonical_laws.proofs.ScriptParts.{Told, Parts, parts, after, May, MayEnd, with_item, a_buffer, a_semaphore, a_queue, after_item, MayBuffer, MaySemaphore, MayQueue, MayItem, with_batch}
+use Rattle.vq_canonical_laws.proofs.ScriptParts.{ToldJob, Told, Parts, parts, after, May, MayEnd, with_item, a_buffer, a_semaphore, a_queue, after_item, MayBuffer, MaySemaphore, MayQueue, MayItem, with_batch, MayStep, ToldStep, ToldBatch}
 use Rattle.vq_canonical_laws.proofs.CanonicalOrder.{Leads, leads_push, job_statements, batch_statements, declarations, IsOrdered}
 use Rattle.vq_canonical_laws.proofs.OrderedDeclarations.{ordered_buffer, ordered_semaphore, ordered_queue}
 
 -- One more line of a batch
 
-module _ (bs : List Buffer) (ss : List Semaphore) (qs : List Queue) (jobs : List Told) where
+module _ (bs : List Buffer) (ss : List Semaphore) (qs : List Queue) (jobs : List ToldJob) where
   -- a batch begins
   ordered_begin : (q : ℕ) → IsOrdered (parts bs ss qs jobs None) →
       May (parts bs ss qs jobs None) (BeginBatch q) →
@@ -50,7 +51,8 @@ module _ (bs : List Buffer) (ss : List Semaphore) (qs : List Queue) (jobs : List
 
   -- a batch ends
   ordered_end : (t : Told) → IsOrdered (parts bs ss qs jobs (Some t)) →
-      MayEnd (parts bs ss qs jobs (Some t)) → IsOrdered (parts bs ss qs (jobs ++ t ∷ []) None)
+      MayEnd (parts bs ss qs jobs (Some t)) →
+      IsOrdered (parts bs ss qs (jobs ++ ToldBatch t ∷ []) None)
   ordered_end t o m =
       record {
         buffers_first = o.buffers_first;
@@ -58,22 +60,41 @@ module _ (bs : List Buffer) (ss : List Semaphore) (qs : List Queue) (jobs : List
         queues_next = o.queues_next;
         batches_last =
             subst (λ (xs : List Statement). Leads (declarations bs ss qs) xs
-            (parts bs ss qs (jobs ++ t ∷ []) None))
+            (parts bs ss qs (jobs ++ ToldBatch t ∷ []) None))
             (append_assoc (flat_map job_statements jobs) (BeginBatch t.0 ∷ t.1) (EndBatch ∷ [])
-            ∙ sym (append-nil (flat_map job_statements (jobs ++ t ∷ []))
-            ∙ (flat_map-append job_statements jobs (t ∷ [])
+            ∙ sym (append-nil (flat_map job_statements (jobs ++ ToldBatch t ∷ []))
+            ∙ (flat_map-append job_statements jobs (ToldBatch t ∷ [])
             ∙ ap (λ (xs : List Statement). flat_map job_statements jobs ++ xs)
-            (append-nil (job_statements t)))))
+            (append-nil (job_statements (ToldBatch t))))))
             (leads_push (declarations bs ss qs) (parts bs ss qs jobs (Some t))
             (batch_statements jobs (Some t)) EndBatch o.batches_last m);
       }
 
+  -- a step of the host
+  ordered_step : (step : HostStep) → IsOrdered (parts bs ss qs jobs None) →
+      MayStep (parts bs ss qs jobs None) step →
+      IsOrdered (parts bs ss qs (jobs ++ ToldStep step ∷ []) None)
+  ordered_step step o m =
+      record {
+        buffers_first = o.buffers_first;
+        semaphores_next = o.semaphores_next;
+        queues_next = o.queues_next;
+        batches_last =
+            subst (λ (xs : List Statement). Leads (declarations bs ss qs) xs
+            (parts bs ss qs (jobs ++ ToldStep step ∷ []) None))
+            (append_assoc (flat_map job_statements jobs) [] (TakeHostStep step ∷ [])
+            ∙ sym (append-nil (flat_map job_statements (jobs ++ ToldStep step ∷ []))
+            ∙ flat_map-append job_statements jobs (ToldStep step ∷ [])))
+            (leads_push (declarations bs ss qs) (parts bs ss qs jobs None)
+            (batch_statements jobs None) (TakeHostStep step) o.batches_last m);
+      }
+
 module _ (p : Parts) (o : IsOrdered p) where
-  -- before the first batch
+  -- before the first job
   ordered_first : (cs : List Buffer) (ts : List Semaphore) (rs : List Queue) → p.jobs ≡ [] →
       p.batch ≡ None → IsOrdered (declarations cs ts rs) → IsOrdered (parts cs ts rs p.jobs p.batch)
   ordered_first cs ts rs first outside k =
-      subst (λ (z : List Told × Option Told). IsOrdered (parts cs ts rs z.0 z.1))
+      subst (λ (z : List ToldJob × Option Told). IsOrdered (parts cs ts rs z.0 z.1))
       (λ i. (sym first i, sym outside i)) k
 
   -- a statement of a batch
@@ -138,4 +159,9 @@ module _ (p : Parts) (o : IsOrdered p) where
       (parts p.buffers p.semaphores p.queues (with_batch p.jobs b) None)) (sym m.inside)
       (ordered_end p.buffers p.semaphores p.queues p.jobs m.told (subst IsOrdered same o)
       (subst MayEnd same m))
+  ordered_more (TakeHostStep step) m =
+      let same : p ≡ parts p.buffers p.semaphores p.queues p.jobs None =
+      λ i. parts p.buffers p.semaphores p.queues p.jobs (m.outside i) in
+      ordered_step p.buffers p.semaphores p.queues p.jobs step (subst IsOrdered same o)
+      (subst (λ (x : Parts). MayStep x step) same m)
   ordered_more s m = absurd m

@@ -1,10 +1,11 @@
 -- One more statement, and the parts that the lines say then.
 use Rattle.std.proofs.Common.{◌≡◌, ℕ, ◌+◌, Bool, true, false, cond, ◌||◌, List, [], ◌∷◌, ◌++◌, append_assoc, append-nil, length-append, map, Some, None, refl, sym, ap, ◌∙◌, subst, arith, Option}
-use Rattle.std.specs.Prelude.{sum, nat_lt, count_by}
+use Rattle.std.specs.Prelude.{sum, nat_lt}
 use Rattle.std.proofs.lemmas.List.{map-append}
 use Rattle.std.proofs.lemmas.List.Sums.{sum_by-append, sum_by-cons}
 use Rattle.vq_model.specs.declared.statement.Statement.{Statement}
-use Rattle.vq_model.specs.declared.statement.Statement.TheVariants.{BeginBatch, EndBatch, DeclareBuffer, DeclareSemaphore, DeclareQueue, AddWait, AddCommand, AddSignal, AddFence}
+use Rattle.vq_model.specs.declared.statement.Statement.TheVariants.{BeginBatch, EndBatch, DeclareBuffer, DeclareSemaphore, DeclareQueue, AddWait, AddCommand, AddSignal, AddFence, TakeHostStep}
+use Rattle.vq_model.specs.declared.script.HostStep.{HostStep}
 use Rattle.vq_model.specs.declared.statement.Line.{Line}
 use Rattle.vq_model.specs.declared.script.Buffer.{Buffer}
 use Rattle.vq_model.specs.declared.script.Queue.{Queue}
@@ -18,13 +19,22 @@ use Rattle.vq_model.specs.Limits.{is_job}
 use Rattle.vq_model.specs.LineFaults.{part_of}
 use Rattle.vq_model.specs.SameScript.{buffer_without_line, semaphore_without_line, queue_without_line, job_without_lines}
 use Rattle.vq_reading_laws.proofs.Cited.{a_line, count_push, section_push, last_queue_push, some_push, open_push, batch_lines_cons}
-use Rattle.vq_canonical_laws.proofs.ScriptParts.{Told, parts, a_job, commands_of, statements_in, continued, Say, has_jobs, no_parts, Parts, a_buffer, a_semaphore, a_queue, with_item, with_batch, after, after_item, May, MayItem}
+use Rattle.vq_canonical_laws.proofs.ScriptParts.{ToldJob, Told, parts, a_job, a_batch, ToldStep, ToldBatch, commands_told, commands_of, statements_in, continued, Say, has_jobs, no_parts, Parts, a_buffer, a_semaphore, a_queue, with_item, with_batch, after, after_item, May, MayItem}
 use Rattle.vq_canonical_laws.proofs.StatementPushes.{version_push, buffers_push, semaphores_push, queues_push, turns_push, jobs_push}
 use Rattle.vq_canonical_laws.proofs.SilentStatements.{or_false, or_true, or_nothing, or_same, one_of, IsSilent, wait_silent, command_silent, signal_silent, fence_silent, declared}
 use Rattle.vq_canonical_laws.proofs.ToldBatches.{job_told}
 
+-- the commands of jobs and one more
+commands_push : (jobs : List ToldJob) (job : ToldJob) →
+    commands_of (jobs ++ job ∷ []) ≡ commands_of jobs + commands_told job
+commands_push jobs job =
+    ap sum (map-append commands_told jobs (job ∷ []))
+    ∙ (sum_by-append (λ (x : ℕ). x) (map commands_told jobs) (commands_told job ∷ [])
+    ∙ ap (λ (k : ℕ). commands_of jobs + k) (sum_by-cons (λ (x : ℕ). x) (commands_told job) []
+    ∙ omega arith))
+
 module _ (before : List Line) (n : ℕ) (bs : List Buffer) (ss : List Semaphore) (qs : List Queue)
-    (jobs : List Told) where
+    (jobs : List ToldJob) where
   -- a statement is added to the open batch
   added : (s : Statement) (q : ℕ) (told : List Statement) → IsSilent n s →
       Say before (parts bs ss qs jobs (Some (q, told))) →
@@ -71,7 +81,7 @@ module _ (before : List Line) (n : ℕ) (bs : List Buffer) (ss : List Semaphore)
             ∙ ap (λ (us : List Turn). us ++ []) quiet.no_turn;
       }
     where
-      same_begun : (js : List Told) → has_jobs js (Some (q, told))
+      same_begun : (js : List ToldJob) → has_jobs js (Some (q, told))
           ≡ has_jobs js (Some (q, told ++ s ∷ []))
       same_begun [] = refl
       same_begun (t ∷ js) = refl
@@ -80,7 +90,7 @@ module _ (before : List Line) (n : ℕ) (bs : List Buffer) (ss : List Semaphore)
           continued (Some (q, told)) (a_line n s ∷ more)
           ≡ continued (Some (q, told ++ s ∷ [])) more
       goes_on more = λ i.
-          a_job (
+          a_batch (
             q,
             (ap (λ (ls : List Line). told ++ statements_in ls)
                 (batch_lines_cons (a_line n s) more
@@ -120,25 +130,20 @@ module _ (before : List Line) (n : ℕ) (bs : List Buffer) (ss : List Semaphore)
         no_turns = turns_push before n (BeginBatch q) h.no_turns;
       }
     where
-      has_some : (js : List Told) → has_jobs js (Some (q, [])) ≡ true
+      has_some : (js : List ToldJob) → has_jobs js (Some (q, [])) ≡ true
       has_some [] = refl
       has_some (t ∷ js) = refl
 
   -- a batch ends
   ends : (q : ℕ) (told : List Statement) → Say before (parts bs ss qs jobs (Some (q, told))) →
-      Say (with_line before n EndBatch) (parts bs ss qs (jobs ++ (q, told) ∷ []) None)
+      Say (with_line before n EndBatch) (parts bs ss qs (jobs ++ ToldBatch (q, told) ∷ []) None)
   ends q told h =
       let jc = count_push is_job before n EndBatch in
       let jh = h.job_count in
       let cc = count_push is_command before n EndBatch in
       let ch = h.command_count in
-      let l = length-append jobs ((q, told) ∷ []) in
-      let m : commands_of (jobs ++ (q, told) ∷ []) ≡ commands_of jobs + count_by is_command told =
-      ap sum (map-append (λ (t : Told). count_by is_command t.1) jobs ((q, told) ∷ []))
-      ∙ (sum_by-append (λ (x : ℕ). x) (map (λ t. count_by is_command t.1) jobs)
-      (count_by is_command told ∷ [])
-      ∙ ap (λ (k : ℕ). commands_of jobs + k) (sum_by-cons (λ (x : ℕ). x)
-      (count_by is_command told) [] ∙ omega arith)) in
+      let l = length-append jobs (ToldBatch (q, told) ∷ []) in
+      let m = commands_push jobs (ToldBatch (q, told)) in
       record {
         part = section_push before n EndBatch;
         version = version_push before n EndBatch refl h.version;
@@ -155,32 +160,75 @@ module _ (before : List Line) (n : ℕ) (bs : List Buffer) (ss : List Semaphore)
         jobs_are = λ more. jobs_push before n EndBatch more
             ∙ (h.jobs_are (a_line n EndBatch ∷ more)
             ∙ (ap (λ (js : List Job). map a_job jobs ++ js) (closes more)
-            ∙ (sym (append_assoc (map a_job jobs) (a_job (q, told) ∷ [])
+            ∙ (sym (append_assoc (map a_job jobs) (a_batch (q, told) ∷ [])
             (map job_without_lines (jobs_of more)))
             ∙ ap (λ (js : List Job). js ++ map job_without_lines (jobs_of more))
-            (sym (map-append a_job jobs ((q, told) ∷ []))))));
+            (sym (map-append a_job jobs (ToldBatch (q, told) ∷ []))))));
         unscheduled =
             some_push before n EndBatch is_schedule
             ∙ (or_nothing (some is_schedule before) ∙ h.unscheduled);
         no_turns = turns_push before n EndBatch h.no_turns;
       }
     where
-      same_begun : (js : List Told) → has_jobs js (Some (q, told))
-          ≡ has_jobs (js ++ (q, told) ∷ []) None
+      same_begun : (js : List ToldJob) → has_jobs js (Some (q, told))
+          ≡ has_jobs (js ++ ToldBatch (q, told) ∷ []) None
       same_begun [] = refl
       same_begun (t ∷ js) = refl
 
       closes : (more : List Line) →
           continued (Some (q, told)) (a_line n EndBatch ∷ more)
-          ≡ a_job (q, told) ∷ map job_without_lines (jobs_of more)
+          ≡ a_batch (q, told) ∷ map job_without_lines (jobs_of more)
       closes more = λ i.
-          a_job (
+          a_batch (
             q,
             (ap (λ (ls : List Line). told ++ statements_in ls)
                 (batch_lines_cons (a_line n EndBatch) more)
                 ∙ append-nil told) i,
           )
           ∷ map job_without_lines (jobs_of more)
+
+  -- the host takes a step
+  steps : (step : HostStep) → Say before (parts bs ss qs jobs None) →
+      Say (with_line before n (TakeHostStep step)) (parts bs ss qs (jobs ++ ToldStep step ∷ []) None)
+  steps step h =
+      let s = TakeHostStep step in
+      let jc = count_push is_job before n s in
+      let jh = h.job_count in
+      let cc = count_push is_command before n s in
+      let ch = h.command_count in
+      let l = length-append jobs (ToldStep step ∷ []) in
+      let m = commands_push jobs (ToldStep step) in
+      record {
+        part = section_push before n s ∙ h.part;
+        version = version_push before n s refl h.version;
+        buffers_are = buffers_push before n s bs h.buffers_are ∙ append-nil bs;
+        semaphores_are = semaphores_push before n s ss h.semaphores_are ∙ append-nil ss;
+        queues_are = queues_push before n s qs h.queues_are ∙ append-nil qs;
+        begun = some_push before n s (λ t. is_submit t || is_host_step t)
+            ∙ (or_true (has_begun before) ∙ sym (has_some jobs));
+        opened = subst (λ (ls : List Line). some (λ t. nat_lt 0 (part_of t)) ls ≡ false)
+            (sym (open_push before n s))
+            (some_push (open_batch before) n s (λ t. nat_lt 0 (part_of t))
+            ∙ or_false (some (λ t. nat_lt 0 (part_of t)) (open_batch before))
+            (nat_lt 0 (part_of s)) h.opened refl);
+        open_queue = tt;
+        job_count = omega arith;
+        command_count = omega arith;
+        jobs_are = λ more. jobs_push before n s more
+            ∙ (h.jobs_are (a_line n s ∷ more)
+            ∙ (sym (append_assoc (map a_job jobs) (a_job (ToldStep step) ∷ [])
+            (map job_without_lines (jobs_of more)))
+            ∙ ap (λ (js : List Job). js ++ map job_without_lines (jobs_of more))
+            (sym (map-append a_job jobs (ToldStep step ∷ [])))));
+        unscheduled =
+            some_push before n s is_schedule
+            ∙ (or_nothing (some is_schedule before) ∙ h.unscheduled);
+        no_turns = turns_push before n s h.no_turns;
+      }
+    where
+      has_some : (js : List ToldJob) → has_jobs (js ++ ToldStep step ∷ []) None ≡ true
+      has_some [] = refl
+      has_some (t ∷ js) = refl
 
 -- No lines say no parts.
 pub say_nothing : Say [] no_parts
@@ -202,11 +250,11 @@ say_nothing =
     }
 
 module _ (before : List Line) (n : ℕ) (p : Parts) (h : Say before p) where
-  -- before the first batch
+  -- before the first job
   unbegun : p.jobs ≡ [] → p.batch ≡ None →
       Say before (parts p.buffers p.semaphores p.queues [] None)
   unbegun first outside =
-      subst (λ (z : List Told × Option Told). Say before
+      subst (λ (z : List ToldJob × Option Told). Say before
       (parts p.buffers p.semaphores p.queues z.0 z.1)) (λ i. (first i, outside i)) h
 
   -- .. and back
@@ -214,7 +262,7 @@ module _ (before : List Line) (n : ℕ) (p : Parts) (h : Say before p) where
       p.jobs ≡ [] → p.batch ≡ None → Say (with_line before n s) (parts cs ts rs [] None) →
       Say (with_line before n s) (parts cs ts rs p.jobs p.batch)
   back s cs ts rs first outside k =
-      subst (λ (z : List Told × Option Told). Say (with_line before n s) (parts cs ts rs z.0 z.1))
+      subst (λ (z : List ToldJob × Option Told). Say (with_line before n s) (parts cs ts rs z.0 z.1))
       (λ i. (sym first i, sym outside i)) k
 
   -- a statement of a batch
@@ -298,4 +346,8 @@ module _ (before : List Line) (n : ℕ) (p : Parts) (h : Say before p) where
       (ends before n p.buffers p.semaphores p.queues p.jobs m.told.0 m.told.1
       (subst (λ (b : Option Told). Say before (parts p.buffers p.semaphores p.queues p.jobs b))
       m.inside h))
+  say_more (TakeHostStep step) m =
+      steps before n p.buffers p.semaphores p.queues p.jobs step
+      (subst (λ (b : Option Told). Say before (parts p.buffers p.semaphores p.queues p.jobs b))
+      m.outside h)
   say_more s m = absurd m

@@ -8,7 +8,7 @@ use Rattle.std.proofs.lemmas.List.Folds.{list_any-append}
 use Rattle.vq_model.specs.declared.script.Command.TheVariants.{Fill, Update, Copy}
 use Rattle.vq_model.specs.declared.script.SemaphoreKind.TheVariants.{Timeline, Binary, Fence}
 use Rattle.vq_model.specs.declared.statement.Statement.{Statement}
-use Rattle.vq_model.specs.declared.statement.Statement.TheVariants.{DeclareBuffer, DeclareSemaphore, DeclareQueue, BeginBatch, AddWait, AddCommand, AddSignal, AddFence, EndBatch}
+use Rattle.vq_model.specs.declared.statement.Statement.TheVariants.{DeclareBuffer, DeclareSemaphore, DeclareQueue, BeginBatch, AddWait, AddCommand, AddSignal, AddFence, EndBatch, TakeHostStep}
 use Rattle.vq_model.specs.Text.{words_of}
 use Rattle.vq_canonical_laws.proofs.CanonicalBatches.{words_along}
 use Rattle.vq_canonical_laws.proofs.CanonicalOrder.{Leads}
@@ -36,6 +36,7 @@ none_begins p (AddCommand (Copy s from t to n)) m = refl
 none_begins p (AddSignal pair) m = refl
 none_begins p (AddFence f) m = refl
 none_begins p EndBatch m = refl
+none_begins p (TakeHostStep step) m = refl
 none_begins p s m = absurd m
 
 none_along : (p q : Parts) (statements : List Statement) → Leads p statements q →

@@ -5,16 +5,18 @@ use Rattle.vq_model.specs.declared.statement.Statement.{Statement}
 use Rattle.vq_model.specs.declared.script.Buffer.{Buffer}
 use Rattle.vq_model.specs.declared.script.Semaphore.{Semaphore}
 use Rattle.vq_model.specs.declared.script.Queue.{Queue}
-use Rattle.vq_model.specs.Context.{buffers, semaphores, queues, is_immediate, is_command, is_wait, is_signal, is_batch_fence, some, section, version_of, has_begun, open_batch, last_queue, count}
+use Rattle.vq_model.specs.Context.{buffers, semaphores, queues, is_immediate, is_timeline, is_fence, is_command, is_wait, is_signal, is_batch_fence, some, section, version_of, has_begun, open_batch, last_queue, count}
 use Rattle.vq_model.specs.declared.script.SemaphoreKind.{SemaphoreKind}
 use Rattle.vq_model.specs.declared.script.Mode.{Mode}
-use Rattle.vq_model.specs.declared.statement.Statement.TheVariants.{AddWait, AddCommand, AddSignal, AddFence, DeclareBuffer, DeclareSemaphore, DeclareQueue, BeginBatch, EndBatch}
+use Rattle.vq_model.specs.declared.statement.Statement.TheVariants.{AddWait, AddCommand, AddSignal, AddFence, DeclareBuffer, DeclareSemaphore, DeclareQueue, BeginBatch, EndBatch, TakeHostStep}
 use Rattle.vq_model.specs.declared.script.Mark.{Mark}
 use Rattle.vq_model.specs.ScriptOfLines.{mark, first_of_list, batch_lines, jobs_of, is_schedule, turns_at}
 use Rattle.vq_model.specs.declared.script.CommandLine.{CommandLine}
-use Rattle.std.specs.List.{filter_map, list_any, slice_get, flat_map}
+use Rattle.std.specs.List.{filter_map, list_any, slice_get, flat_map, AllByRecursion as Every}
 use Rattle.vq_model.specs.declared.script.Job.{Job}
-use Rattle.vq_model.specs.declared.script.Job.TheVariants.{Batch as BatchJob}
+use Rattle.vq_model.specs.declared.script.Job.TheVariants.{Host, Batch as BatchJob}
+use Rattle.vq_model.specs.declared.script.HostStep.{HostStep}
+use Rattle.vq_model.specs.declared.script.HostStep.TheVariants.{Signal, WaitAll, WaitAny, PollAll, PollAny, Read, FenceWait, FencePoll, FenceReset, Idle}
 use Rattle.vq_model.specs.declared.script.Script.{Script}
 use Rattle.std.specs.Str.{bytes_eq}
 use Rattle.std.specs.Option.{option_map_or}
@@ -41,17 +43,22 @@ use Rattle.vq_model.specs.Limits.{is_job}
 abbrev pub Told : Type 0
 Told = ℕ × List Statement
 
+-- a job as its lines tell it: a step of the host, or a batch
+pub data ToldJob : Type 0 where
+  ToldStep : HostStep → ToldJob
+  ToldBatch : Told → ToldJob
+
 -- The parts of a script that lines say so far, without line numbers: what is declared, the
--- batches, and the open one.
+-- jobs, and the open batch.
 pub record Parts : Type 0 where
   pub buffers : List Buffer
   pub semaphores : List Semaphore
   pub queues : List Queue
-  pub jobs : List Told
+  pub jobs : List ToldJob
   pub batch : Option Told
 
 -- these parts
-abbrev pub parts : List Buffer → List Semaphore → List Queue → List Told → Option Told → Parts
+abbrev pub parts : List Buffer → List Semaphore → List Queue → List ToldJob → Option Told → Parts
 parts bs ss qs jobs batch =
     record { buffers = bs; semaphores = ss; queues = qs; jobs = jobs; batch = batch }
 
@@ -83,8 +90,8 @@ fence_in (AddFence f) = Some (mark 0 (record { semaphore = f; value = 0 }) 1)
 fence_in other = None
 
 -- the batch that is told
-abbrev pub a_job : Told → Job
-a_job t =
+abbrev pub a_batch : Told → Job
+a_batch t =
     BatchJob (
     record {
       line = 0;
@@ -95,6 +102,11 @@ a_job t =
       fence = first_of_list (filter_map fence_in t.1);
     }
     )
+
+-- the job that is told
+abbrev pub a_job : ToldJob → Job
+a_job (ToldStep step) = Host (record { line = 0; step = step })
+a_job (ToldBatch t) = a_batch t
 
 -- the script of parts
 abbrev pub script_of_parts : Parts → Script
@@ -116,10 +128,10 @@ abbrev pub with_item : Option Told → Statement → Option Told
 with_item None s = None
 with_item (Some t) s = Some (t.0, t.1 ++ s ∷ [])
 
--- the batches with the open one
-abbrev pub with_batch : List Told → Option Told → List Told
+-- the jobs with the open batch
+abbrev pub with_batch : List ToldJob → Option Told → List ToldJob
 with_batch jobs None = jobs
-with_batch jobs (Some t) = jobs ++ t ∷ []
+with_batch jobs (Some t) = jobs ++ ToldBatch t ∷ []
 
 -- the parts with one statement more in the open batch
 abbrev pub after_item : Parts → Statement → Parts
@@ -139,6 +151,8 @@ after p (AddCommand command) = after_item p (AddCommand command)
 after p (AddSignal pair) = after_item p (AddSignal pair)
 after p (AddFence f) = after_item p (AddFence f)
 after p EndBatch = parts p.buffers p.semaphores p.queues (with_batch p.jobs p.batch) None
+after p (TakeHostStep step) =
+    parts p.buffers p.semaphores p.queues (p.jobs ++ ToldStep step ∷ []) None
 after p other = p
 
 -- some buffer, semaphore or queue has this name
@@ -179,9 +193,13 @@ abbrev pub place_of : Statement → ℕ
 place_of (AddWait pair from) = from
 place_of other = 0
 
--- the commands of batches
-abbrev pub commands_of : List Told → ℕ
-commands_of jobs = sum (map (λ t. count_by is_command t.1) jobs)
+-- the commands of a job, and of jobs
+abbrev pub commands_told : ToldJob → ℕ
+commands_told (ToldStep step) = 0
+commands_told (ToldBatch t) = count_by is_command t.1
+
+abbrev pub commands_of : List ToldJob → ℕ
+commands_of jobs = sum (map commands_told jobs)
 
 -- a command's offsets, sizes, word and bytes are numbers that a line can hold
 abbrev pub HasNumerals : Command → Type 0
@@ -230,6 +248,40 @@ pub record MayBegin (p : Parts) (q : ℕ) : Type 0 where
   pub outside : p.batch ≡ None
   pub queue : Queue
   pub there : slice_get p.queues q ≡ Some queue
+  pub few : length p.jobs < 4096
+
+-- a semaphore whose kind passes a test
+pub record IsOfKindIn (test : SemaphoreKind → Bool) (ss : List Semaphore) (t : ℕ) : Type 0 where
+  pub semaphore : Semaphore
+  pub there : slice_get ss t ≡ Some semaphore
+  pub tested : test semaphore.kind ≡ true
+
+-- a pair of a timeline and a value that a line can hold
+abbrev pub IsTimed : List Semaphore → Pair → Type 0
+IsTimed ss pair = IsOfKindIn is_timeline ss pair.semaphore × (pair.value < 2 ^ 64)
+
+-- such pairs, one at least, and as many as a step may have
+pub record AreTimed (ss : List Semaphore) (pairs : List Pair) : Type 0 where
+  pub all : Every (IsTimed ss) pairs
+  pub some_pairs : 0 < length pairs
+  pub few : length pairs ≤ 16
+
+-- a step of the host names timelines and fences, each where its form needs one
+abbrev pub StepFits : List Semaphore → HostStep → Type 0
+StepFits ss (Signal pair) = IsTimed ss pair
+StepFits ss (WaitAll pairs) = AreTimed ss pairs
+StepFits ss (WaitAny pairs) = AreTimed ss pairs
+StepFits ss (PollAll pairs) = AreTimed ss pairs
+StepFits ss (PollAny pairs) = AreTimed ss pairs
+StepFits ss (Read t) = IsOfKindIn is_timeline ss t
+StepFits ss (FenceWait f) = IsOfKindIn is_fence ss f
+StepFits ss (FencePoll f) = IsOfKindIn is_fence ss f
+StepFits ss (FenceReset f) = IsOfKindIn is_fence ss f
+StepFits ss Idle = Unit {0}
+
+pub record MayStep (p : Parts) (step : HostStep) : Type 0 where
+  pub outside : p.batch ≡ None
+  pub fits : StepFits p.semaphores step
   pub few : length p.jobs < 4096
 
 -- a semaphore takes a value as a mark of a wait or a signal: a timeline one of 64 bits, a binary
@@ -300,6 +352,7 @@ May p (AddCommand command) = MayItem p (AddCommand command)
 May p (AddSignal pair) = MayItem p (AddSignal pair)
 May p (AddFence f) = MayItem p (AddFence f)
 May p EndBatch = MayEnd p
+May p (TakeHostStep step) = MayStep p step
 May p other = ⊥
 
 -- Lines that say parts
@@ -309,19 +362,19 @@ abbrev pub part_of_batch : Option Told → Section
 part_of_batch None = Outside
 part_of_batch (Some t) = InBatch
 
--- a batch has begun
-abbrev pub has_jobs : List Told → Option Told → Bool
+-- a job has begun
+abbrev pub has_jobs : List ToldJob → Option Told → Bool
 has_jobs (t ∷ jobs) batch = true
 has_jobs [] (Some t) = true
 has_jobs [] None = false
 
--- batches, the open one too
-abbrev pub count_jobs : List Told → Option Told → ℕ
+-- jobs, the open batch too
+abbrev pub count_jobs : List ToldJob → Option Told → ℕ
 count_jobs jobs None = length jobs
 count_jobs jobs (Some t) = length jobs + 1
 
--- commands of batches, of the open one too
-abbrev pub count_commands : List Told → Option Told → ℕ
+-- commands of jobs, of the open batch too
+abbrev pub count_commands : List ToldJob → Option Told → ℕ
 count_commands jobs None = commands_of jobs
 count_commands jobs (Some t) = commands_of jobs + count_by is_command t.1
 
@@ -343,7 +396,7 @@ OpenQueue (Some t) queue = queue ≡ Some t.0
 abbrev pub continued : Option Told → List Line → List Job
 continued None more = map job_without_lines (jobs_of more)
 continued (Some t) more =
-    a_job (t.0, t.1 ++ statements_in (batch_lines more)) ∷ map job_without_lines (jobs_of more)
+    a_batch (t.0, t.1 ++ statements_in (batch_lines more)) ∷ map job_without_lines (jobs_of more)
 
 -- These lines say these parts, and nothing else.
 pub record Say (before : List Line) (p : Parts) : Type 0 where

@@ -3,7 +3,7 @@ use Rattle.std.proofs.Common.{◌≡◌, List, [], ◌∷◌, map, Option, Some,
 use Rattle.std.specs.List.{filter_map, cons_option}
 use Rattle.vq_model.specs.declared.statement.Statement.{Statement}
 use Rattle.vq_model.specs.declared.statement.Line.{Line}
-use Rattle.vq_canonical_laws.proofs.ScriptParts.{statements_in, wait_in, command_in, signal_in, fence_in, a_job}
+use Rattle.vq_canonical_laws.proofs.ScriptParts.{statements_in, wait_in, command_in, signal_in, fence_in, a_batch}
 use Rattle.vq_model.specs.declared.statement.Statement.TheVariants.{AddWait, AddCommand, AddSignal, AddFence}
 use Rattle.vq_model.specs.ScriptOfLines.{wait_of, command_of, signal_of, fence_of, first_of_list, batch_of}
 use Rattle.vq_model.specs.SameScript.{mark_without_line, command_without_line, job_without_lines}
@@ -52,7 +52,7 @@ first_same (m ∷ ms) = refl
 
 -- the batch of lines
 pub job_told : (n q : ℕ) (lines : List Line) → job_without_lines (BatchJob (batch_of n q lines))
-    ≡ a_job (q, statements_in lines)
+    ≡ a_batch (q, statements_in lines)
 job_told n q lines = λ i.
     BatchJob (
     record {

@@ -3,7 +3,7 @@ use Rattle.std.proofs.Common.{List, [], ◌∷◌, Option, Some, refl, sym, subs
 use Rattle.std.specs.Prelude.{codes}
 use Rattle.std.specs.Option.{option_map_or}
 use Rattle.vq_model.specs.declared.statement.Statement.{Statement}
-use Rattle.vq_model.specs.declared.statement.Statement.TheVariants.{DeclareBuffer, DeclareSemaphore, DeclareQueue, BeginBatch, AddWait, AddCommand, AddSignal, AddFence, EndBatch}
+use Rattle.vq_model.specs.declared.statement.Statement.TheVariants.{DeclareBuffer, DeclareSemaphore, DeclareQueue, BeginBatch, AddWait, AddCommand, AddSignal, AddFence, EndBatch, TakeHostStep}
 use Rattle.vq_model.specs.declared.statement.Form.{Form}
 use Rattle.vq_model.specs.declared.statement.Line.{Line}
 use Rattle.vq_model.specs.declared.statement.LineForm.TheVariants.{QueueLine}
@@ -16,6 +16,7 @@ use Rattle.vq_canonical_laws.proofs.LineWords.{words_at, ReadsAs, form_outside}
 use Rattle.vq_canonical_laws.proofs.DeclarationLines.{is_first, buffer_reads, timeline_reads, binary_reads, fence_reads, queue_reads, submit_reads}
 use Rattle.vq_canonical_laws.proofs.BatchLines.{wait_reads, signal_reads, batch_fence_reads, end_reads}
 use Rattle.vq_canonical_laws.proofs.CommandLines.{command_reads}
+use Rattle.vq_canonical_laws.proofs.HostLines.{step_reads}
 
 module _ (form : Form) (before : List Line) (p : Parts) (h : Say before p) (named : AreNamed p) where
   -- The canonical words of a statement that may follow read as this statement.
@@ -42,4 +43,5 @@ module _ (form : Form) (before : List Line) (p : Parts) (h : Say before p) (name
   line_reads (AddSignal pair) m = signal_reads form before p h named pair m
   line_reads (AddFence f) m = batch_fence_reads form before p h named f m
   line_reads EndBatch m = end_reads form before p h named m
+  line_reads (TakeHostStep step) m = step_reads form before p h named step m
   line_reads s m = absurd m
