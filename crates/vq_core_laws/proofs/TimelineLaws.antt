@@ -69,7 +69,7 @@ use Rattle.vq_model.specs.Machine.{put}
 use Rattle.vq_model.specs.Plan.{Plan, chain, chain_of, value, initial, has}
 use Rattle.vq_model.proofs.Filters.{filter-has, filter-has_cases}
 use Rattle.vq_model.proofs.Gets.{get_some, get_within}
-use Rattle.vq_model.proofs.Lists.{has_here, has_cases, has-append, list_all_has, list_all_from}
+use Rattle.vq_model.proofs.Lists.{has_here, has-append, list_all_has, list_all_from}
 use Rattle.vq_model.proofs.Puts.{put_here, put_there}
 use Rattle.vq_points.specs.Points.{PointState, CanTake, after_event, at_option, opening_points, smaller_ops}
 use Rattle.vq_points.specs.Timeline.{
