@@ -9,7 +9,6 @@ use Rattle.std.proofs.Common.{
   Bool,
   true,
   false,
-  if◌then◌else◌,
   List,
   length,
   get_or,
@@ -28,7 +27,7 @@ use Rattle.std.proofs.Common.{
 }
 use Rattle.std.specs.Prelude.{nat_lt, count_by, Result, Ok, Err, IsOk, IsErr, OnOk, IsSome}
 use Rattle.std.specs.List.{slice_get, range_with_len}
-use Rattle.std.proofs.lemmas.Bool.{and_parts, ltb-true, cases_lt, cases_eq, false≢true, cond-false}
+use Rattle.std.proofs.lemmas.Bool.{and_parts, ltb-true, cases_lt, false≢true}
 use Rattle.std.proofs.lemmas.List.{get_or_read}
 use Rattle.std.proofs.lemmas.List.FromFn.{length-range_with_len}
 use Rattle.std.proofs.lemmas.List.Sums.{count_by-le-length}
@@ -36,9 +35,8 @@ use Rattle.vq_model.specs.declared.plan.PlanJob.{PlanJob}
 use Rattle.vq_model.specs.Lanes.{lane_number}
 use Rattle.vq_model.specs.Plan.{Plan, is_batch, is_host_step, has, chain, chain_of}
 use Rattle.vq_model.specs.WellFormed.{AreRising}
-use Rattle.vq_model.proofs.Lists.{list_all_has, has_here}
-use Rattle.vq_model.proofs.Numbers.{range-has}
-use Rattle.vq_points.specs.Points.{PointState, Reference, CanSubmit, CanTake, written_before, after_event}
+use Rattle.vq_model.proofs.Lists.{has_here}
+use Rattle.vq_points.specs.Points.{PointState, Reference, CanSubmit, CanTake, after_event}
 use Rattle.vq_model.specs.declared.plan.Event.TheVariants.{Signal}
 use Rattle.vq_model.specs.Machine.{with_signal}
 use Rattle.vq_points.specs.Timeline.{Timeline, KeepsLists}
@@ -49,8 +47,9 @@ use Rattle.vq_core.specs.declared.lanes.LaneState.{LaneState}
 use Rattle.vq_core.specs.declared.state.Core.TheInside.{Inside}
 use Rattle.vq_core.specs.Kept.{IsCore, Tells}
 use Rattle.vq_core.specs.Lanes.{AreLanes, no_lane}
-use Rattle.vq_core.specs.Tables.{no_timeline}
+use Rattle.vq_core.specs.Tables.{no_timeline, batches_before}
 use Rattle.vq_core.proofs.LaneNext.{own}
+use Rattle.vq_core.proofs.SubmitLaws.{next_batch, submit_batches}
 use Rattle.vq_core.proofs.Pushes.{inside_facts, inside_keeps}
 
 pub batch_exists : (p : Plan) (j : ℕ) → is_batch p j ≡ true → j < length p.jobs
@@ -75,25 +74,11 @@ module _ (a : Inside) (k : IsCore a) where
   w = points_after a.ordered a.history.items
 
   -- the batch that is submitted is the first that wasn't
-  pub submit_turn : (j : ℕ) → CanSubmit a.ordered (points_after a.ordered a.history.items) j → j ≡ a.submitted
-  submit_turn j g = elim (cases_lt j a.submitted) [
-    | inl m ↦ absurd (false≢true (sym g.waiting ∙ k.tells.submitted.before j m))
-    | inr m ↦ elim (cases_eq j a.submitted) [
-      | inl e ↦ e
-      | inr d ↦ absurd (behind (grind arith))
-    ]
-  ]
-    where
-      behind : a.submitted < j → ⊥
-      behind m =
-          let done = list_all_has (λ i. if is_host_step a.ordered i then (points_after a.ordered
-          a.history.items).machine.progress.finished i else (points_after a.ordered a.history.items).submitted i)
-          (written_before a.ordered j) a.submitted g.in_order (range-has j 0 a.submitted (omega arith) (omega
-          arith)) in
-          let batch = cond-false (is_host_step a.ordered a.submitted) ((points_after a.ordered
-          a.history.items).machine.progress.finished a.submitted) ((points_after a.ordered
-          a.history.items).submitted a.submitted) ((inside_facts a k).batches a.submitted) in
-          false≢true (sym (k.tells.submitted.after a.submitted (omega arith)) ∙ (sym batch ∙ done))
+  pub submit_turn : (j : ℕ) → CanSubmit a.ordered (points_after a.ordered a.history.items) j →
+      batches_before a.ordered j ≡ a.submitted
+  submit_turn j g =
+      next_batch a.ordered (points_after a.ordered a.history.items) a.submitted k.tells.submitted j g.batch g.waiting
+      (submit_batches a.ordered (points_after a.ordered a.history.items) j g) (batch_exists a.ordered j g.batch)
 
   -- no more points are made than there are operations, and fewer while one has none
   pub points_few : (points_after a.ordered a.history.items).points ≤ length a.ordered.ops

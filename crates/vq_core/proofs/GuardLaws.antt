@@ -12,7 +12,6 @@ use Rattle.std.proofs.Common.{
   Bool,
   true,
   false,
-  if◌then◌else◌,
   length,
   Some,
   None,
@@ -20,8 +19,6 @@ use Rattle.std.proofs.Common.{
   sym,
   ap,
   ◌∙◌,
-  inl,
-  inr,
   subst,
   arith,
 }
@@ -29,13 +26,11 @@ use Rattle.std.specs.Prelude.{nat_lt, nat_eq, IsTrue, ◌↔◌}
 use Rattle.std.specs.List.{slice_get, list_all, list_any, position_or_len}
 use Rattle.std.specs.Option.{option_to_list}
 use Rattle.std.proofs.lemmas.Bool.{
-  cases_eq,
-  cases_lt,
   eq-eqb,
   eqb-true,
-  false≢true,
   and_parts,
   and_from,
+  cond-true,
   cond-false,
   lt-ltb,
   ltb-true,
@@ -43,9 +38,7 @@ use Rattle.std.proofs.lemmas.Bool.{
 }
 use Rattle.vq_model.specs.declared.script.ActorName.{ActorName}
 use Rattle.vq_model.specs.declared.plan.Answer.{Answer}
-use Rattle.vq_model.specs.declared.plan.Answer.TheVariants.{Reached, Timeout, NotReady, Value}
 use Rattle.vq_model.specs.declared.plan.Op.{Op}
-use Rattle.vq_model.specs.declared.plan.Question.TheVariants.{Silent}
 use Rattle.vq_model.specs.Edges.{At, stage_of}
 use Rattle.vq_model.specs.Machine.{next, are_reached, CanAnswer, CanApply, may_answer}
 use Rattle.vq_model.specs.Plan.{
@@ -60,11 +53,10 @@ use Rattle.vq_model.specs.Plan.{
   previous,
   idle_after,
   is_silent,
+  question,
   chain,
 }
 use Rattle.vq_model.specs.Canonical.{same_actor}
-use Rattle.vq_model.proofs.Lists.{list_all_has, list_all_from}
-use Rattle.vq_model.proofs.Numbers.{has-range_cases, range-has}
 use Rattle.vq_model.proofs.Searches.{find_member}
 use Rattle.vq_points.specs.Points.{
   CanSubmit,
@@ -78,7 +70,6 @@ use Rattle.vq_points.specs.Points.{
   CanSignalNow,
   CanFinishNow,
   next_job,
-  written_before,
   needs_resolved,
   needs_now,
   resolves,
@@ -86,6 +77,7 @@ use Rattle.vq_points.specs.Points.{
   actor_of_lane,
   earlier_in_queue,
   are_needs_pending,
+  may_bind,
   smaller_ops,
 }
 use Rattle.vq_points.specs.Timeline.{Timeline, KeepsLists}
@@ -93,8 +85,16 @@ use Rattle.vq_core_laws.specs.Firsts.{AreFirst}
 use Rattle.vq_core_laws.specs.TimelineOf.{IsTimelineOf}
 use Rattle.vq_core_laws.proofs.Cited.{Facts, Keeps, turn_place, smaller_done, rising_once, at_place, next_is}
 use Rattle.vq_core.specs.CoreState.{Course, world, IsCourse}
-use Rattle.vq_core.specs.GuardParts.{ReleaseTurn, IsPointInTurn, HasCommandsDone}
-use Rattle.vq_core.specs.Tables.{AreSubmitted}
+use Rattle.vq_core.specs.GuardParts.{
+  ReleaseTurn,
+  IsPointInTurn,
+  HasCommandsDone,
+  may_take,
+  may_start,
+  are_batches_submitted,
+  are_steps_finished,
+}
+use Rattle.vq_core.proofs.SubmitLaws.{both_before, submit_steps}
 use Rattle.vq_core.proofs.Courses.{plan_facts, world_keeps}
 use Rattle.vq_core.proofs.Ops.{here, of_chain, of_job as op_job}
 
@@ -105,53 +105,24 @@ module _ (s : Course) (k : IsCourse s) where
   keeps : Keeps s.plan (world s)
   keeps = world_keeps s k
 
-  -- there are no host steps yet
-  for_batch : {A : Type 0} (j : ℕ) (x y : A) → (if is_host_step s.plan j then x else y) ≡ y
-  for_batch j x y = cond-false (is_host_step s.plan j) x y (facts.batches j)
+  pub submit_iff : (j : ℕ) (b : Bool) → is_batch s.plan j ≡ true → (world s).submitted j ≡ false →
+      are_batches_submitted s.plan (world s) j ≡ true → b ≡ are_steps_finished s.plan (world s) j →
+      IsTrue b ↔ CanSubmit s.plan (world s) j
+  submit_iff j b batch idle all is = (
+    (λ h. record {
+      batch = batch;
+      waiting = idle;
+      in_order = both_before s.plan (world s) j all (sym is ∙ h);
+    }),
+    (λ g. is ∙ submit_steps s.plan (world s) j g),
+  )
 
-  batch : (j : ℕ) → j < length s.plan.jobs → is_batch s.plan j ≡ true
-  batch j l = and_from (nat_lt j (length s.plan.jobs)) (not (is_host_step s.plan j)) (lt-ltb j (length s.plan.jobs)
-      l) (ap not (facts.batches j))
-
-  pub submit_iff : (j n : ℕ) → AreSubmitted (length s.plan.jobs) (world s).submitted n → j < length s.plan.jobs →
-      IsTrue (nat_eq j n) ↔ CanSubmit s.plan (world s) j
-  submit_iff j n are l = (to, from)
-    where
-      to : IsTrue (nat_eq j n) → CanSubmit s.plan (world s) j
-      to h =
-          let same = eqb-true j n h in
-          record {
-            batch = batch j l;
-            waiting = are.after j (omega arith);
-            in_order = list_all_from (λ i. if is_host_step s.plan i then (world s).machine.progress.finished i else
-                (world s).submitted i) (written_before s.plan j)
-                (λ i m. for_batch i ((world s).machine.progress.finished i) ((world s).submitted i)
-                ∙ are.before i (let r = (has-range_cases j 0 i m).1 in omega arith));
-          }
-
-      from : CanSubmit s.plan (world s) j → IsTrue (nat_eq j n)
-      from g = elim (cases_lt j n) [
-        | inl m ↦ absurd (false≢true (sym g.waiting ∙ are.before j m))
-        | inr m ↦ elim (cases_eq j n) [
-          | inl e ↦ eq-eqb j n e
-          | inr d ↦ absurd (behind (grind arith))
-        ]
-      ]
-        where
-          behind : n < j → ⊥
-          behind m =
-              let done = list_all_has (λ i. if is_host_step s.plan i then (world s).machine.progress.finished i else
-              (world s).submitted i) (written_before s.plan j) n g.in_order (range-has j 0 n (omega arith) (omega
-              arith)) in
-              false≢true (sym (are.after n (omega arith))
-              ∙ (sym (for_batch n ((world s).machine.progress.finished n) ((world s).submitted n)) ∙ done))
-
-  pub release_iff : (j : ℕ) (b : Bool) → j < length s.plan.jobs → ReleaseTurn s.plan (world s) j →
+  pub release_iff : (j : ℕ) (b : Bool) → is_batch s.plan j ≡ true → ReleaseTurn s.plan (world s) j →
       b ≡ list_all (λ e. is_some ((world s).point_of e)) (signals_of s.plan j) →
       IsTrue b ↔ CanRelease s.plan (world s) j
-  release_iff j b l t is = (
+  release_iff j b batch t is = (
     (λ h. record {
-      batch = batch j l;
+      batch = batch;
       submitted = t.submitted;
       waiting = t.waiting;
       in_order = t.in_order;
@@ -162,6 +133,45 @@ module _ (s : Course) (k : IsCourse s) where
     (λ g. is ∙ g.taken),
   )
 
+  -- a batch's turn, as a test
+  module _ (j : ℕ) where
+    abbrev is_turned : Bool
+    is_turned = (world s).submitted j && not ((world s).released j) && list_all (world s).released
+        (earlier_in_queue s.plan j) && are_needs_pending s.plan (world s) j
+
+    turned : is_turned ≡ true → ReleaseTurn s.plan (world s) j
+    turned h =
+        let a = and_parts ((world s).submitted j && not ((world s).released j) && list_all (world s).released
+        (earlier_in_queue s.plan j)) (are_needs_pending s.plan (world s) j) h in
+        let b = and_parts ((world s).submitted j && not ((world s).released j)) (list_all (world s).released
+        (earlier_in_queue s.plan j)) a.0 in
+        let c = and_parts ((world s).submitted j) (not ((world s).released j)) b.0 in
+        record { submitted = c.0; waiting = not-true ((world s).released j) c.1; in_order = b.1; needs = a.1 }
+
+    turn_test : ReleaseTurn s.plan (world s) j → is_turned ≡ true
+    turn_test t =
+        and_from ((world s).submitted j && not ((world s).released j) && list_all (world s).released
+        (earlier_in_queue s.plan j)) (are_needs_pending s.plan (world s) j)
+        (and_from ((world s).submitted j && not ((world s).released j)) (list_all (world s).released
+        (earlier_in_queue s.plan j)) (and_from ((world s).submitted j) (not ((world s).released j)) t.submitted (ap
+        not t.waiting)) t.in_order) t.needs
+
+    pub step_takes : (b : Bool) → is_host_step s.plan j ≡ true → b ≡ (world s).machine.progress.started j →
+        IsTrue b ↔ (may_take s.plan (world s) j ≡ true)
+    step_takes b host is =
+        let same = cond-true (is_host_step s.plan j) ((world s).machine.progress.started j) is_turned host in (
+          (λ h. same ∙ (sym is ∙ h)),
+          (λ g. is ∙ (sym same ∙ g)),
+        )
+
+    pub batch_takes : (b : Bool) → is_host_step s.plan j ≡ false → IsTrue b ↔ ReleaseTurn s.plan (world s) j →
+        IsTrue b ↔ (may_take s.plan (world s) j ≡ true)
+    batch_takes b host iff =
+        let same = cond-false (is_host_step s.plan j) ((world s).machine.progress.started j) is_turned host in (
+          (λ h. same ∙ turn_test (iff.0 h)),
+          (λ g. iff.1 (turned (sym same ∙ g))),
+        )
+
   -- Events of one operation
 
   module _ (e : ℕ) (o : Op) (at : slice_get s.plan.ops e ≡ Some o) where
@@ -171,26 +181,14 @@ module _ (s : Course) (k : IsCourse s) where
     own_chain : (t : ℕ) → chain_of s.plan e ≡ Some t → t ≡ o.chain
     own_chain t is = let z = sym is ∙ of_chain s.plan facts e o at in cc
 
-    abbrev Turned : ℕ → Bool
-    Turned j = (world s).submitted j && not ((world s).released j) && list_all (world s).released (earlier_in_queue
-        s.plan j) && are_needs_pending s.plan (world s) j
-
-    turned : (j : ℕ) → Turned j ≡ true → ReleaseTurn s.plan (world s) j
-    turned j h =
-        let a = and_parts ((world s).submitted j && not ((world s).released j) && list_all (world s).released
-        (earlier_in_queue s.plan j)) (are_needs_pending s.plan (world s) j) h in
-        let b = and_parts ((world s).submitted j && not ((world s).released j)) (list_all (world s).released
-        (earlier_in_queue s.plan j)) a.0 in
-        let c = and_parts ((world s).submitted j) (not ((world s).released j)) b.0 in
-        record { submitted = c.0; waiting = not-true ((world s).released j) c.1; in_order = b.1; needs = a.1 }
-
-    pub take_turn : (q : ℕ) (fresh : Bool) → CanTake s.plan (world s) e q fresh → ReleaseTurn s.plan (world s) o.job
+    pub take_turn : (q : ℕ) (fresh : Bool) → CanTake s.plan (world s) e q fresh →
+        may_take s.plan (world s) o.job ≡ true
     take_turn q fresh g =
-        subst (ReleaseTurn s.plan (world s)) (own_job g.job g.of_job)
-        (turned g.job (sym (for_batch g.job ((world s).machine.progress.started g.job) (Turned g.job)) ∙ g.in_turn))
+        subst (λ (j : ℕ). may_take s.plan (world s) j ≡ true) (own_job g.job g.of_job) g.in_turn
 
-    pub take_iff : (q : ℕ) (fresh b : Bool) → (world s).point_of e ≡ None → ReleaseTurn s.plan (world s) o.job →
-        IsTrue b ↔ IsPointInTurn (world s) o.chain q fresh → IsTrue b ↔ CanTake s.plan (world s) e q fresh
+    pub take_iff : (q : ℕ) (fresh b : Bool) → (world s).point_of e ≡ None →
+        may_take s.plan (world s) o.job ≡ true → IsTrue b ↔ IsPointInTurn (world s) o.chain q fresh →
+        IsTrue b ↔ CanTake s.plan (world s) e q fresh
     take_iff q fresh b none t iff = (
       (λ h. record {
         job = o.job;
@@ -198,25 +196,17 @@ module _ (s : Course) (k : IsCourse s) where
         chain = o.chain;
         in_chain = of_chain s.plan facts e o at;
         without = none;
-        in_turn =
-            for_batch o.job ((world s).machine.progress.started o.job) (Turned o.job)
-            ∙ and_from ((world s).submitted o.job && not ((world s).released o.job) && list_all (world s).released
-            (earlier_in_queue s.plan o.job)) (are_needs_pending s.plan (world s) o.job)
-            (and_from ((world s).submitted o.job && not ((world s).released o.job)) (list_all (world s).released
-            (earlier_in_queue s.plan o.job)) (and_from ((world s).submitted o.job) (not ((world s).released
-            o.job)) t.submitted (ap not t.waiting)) t.in_order) t.needs;
+        in_turn = t;
         point = iff.0 h;
       }),
       (λ g. iff.1 (subst (λ (t : ℕ). IsPointInTurn (world s) t q fresh) (own_chain g.chain g.in_chain) g.point)),
     )
 
-    pub bind_released : (q : ℕ) → CanBind s.plan (world s) e q → (world s).released o.job ≡ true
-    bind_released q g =
-        subst (λ (j : ℕ). (world s).released j ≡ true) (own_job g.job g.of_job) (sym (for_batch g.job ((world
-        s).machine.progress.started g.job) ((world s).released g.job)) ∙ g.ready)
+    pub bind_ready : (q : ℕ) → CanBind s.plan (world s) e q → may_bind s.plan (world s) o.job ≡ true
+    bind_ready q g = subst (λ (j : ℕ). may_bind s.plan (world s) j ≡ true) (own_job g.job g.of_job) g.ready
 
     module _ (l : Timeline) (is : IsTimelineOf s.plan (world s) o.chain l) (kept : KeepsLists l) where
-      pub bind_iff : (q : ℕ) → (world s).carried q ≡ Some e → (world s).released o.job ≡ true →
+      pub bind_iff : (q : ℕ) → (world s).carried q ≡ Some e → may_bind s.plan (world s) o.job ≡ true →
           IsTrue (nat_eq o.index l.bound) ↔ CanBind s.plan (world s) e q
       bind_iff q c r = (to, from)
         where
@@ -230,7 +220,7 @@ module _ (s : Course) (k : IsCourse s) where
                 in_chain = of_chain s.plan facts e o at;
                 carries = c;
                 unbound = is.bound.after o.index e (here s.plan facts e o at) (omega arith);
-                ready = for_batch o.job ((world s).machine.progress.started o.job) ((world s).released o.job) ∙ r;
+                ready = r;
                 in_order = smaller_done s.plan facts (world s) keeps o.chain l is kept o.index e (here s.plan facts e
                     o at) (world s).bound (subst (AreFirst (world s).bound (chain s.plan o.chain)) (sym same) is.bound);
               }
@@ -306,10 +296,10 @@ module _ (s : Course) (k : IsCourse s) where
     refer_job : (g : CanRefer s.plan (world s) a q e) → g.job ≡ j
     refer_job g = let z = sym g.is_next ∙ is_next in cc
 
-    pub refer_released : CanRefer s.plan (world s) a q e → (world s).released j ≡ true
-    refer_released g =
-        subst (λ (j : ℕ). (world s).released j ≡ true) (refer_job g) (sym (ap (λ b. b || (world s).released g.job)
-        (facts.batches g.job)) ∙ g.released)
+    pub refer_let : CanRefer s.plan (world s) a q e →
+        (is_host_step s.plan j || (world s).released j) ≡ true
+    refer_let g =
+        subst (λ (j : ℕ). (is_host_step s.plan j || (world s).released j) ≡ true) (refer_job g) g.released
 
     pub refer_needed : CanRefer s.plan (world s) a q e → 0 < needs_resolved s.plan j e
     refer_needed g =
@@ -317,7 +307,8 @@ module _ (s : Course) (k : IsCourse s) where
         subst (λ (j : ℕ). 0 < needs_resolved s.plan j e) (refer_job g) more
 
     pub refer_iff : (r n : ℕ) → (world s).carried q ≡ Some e → (world s).bound e ≡ true →
-        (world s).released j ≡ true → list_any (resolves s.plan e) (needs_now s.plan (world s) j) ≡ true →
+        (is_host_step s.plan j || (world s).released j) ≡ true →
+        list_any (resolves s.plan e) (needs_now s.plan (world s) j) ≡ true →
         r ≡ count_of ((world s).referred j) e → n ≡ needs_resolved s.plan j e →
         IsTrue (nat_lt r n) ↔ CanRefer s.plan (world s) a q e
     refer_iff r n c b rel need ir ineed = (
@@ -326,7 +317,7 @@ module _ (s : Course) (k : IsCourse s) where
         is_next = is_next;
         carries = c;
         bound = b;
-        released = ap (λ b. b || (world s).released j) (facts.batches j) ∙ rel;
+        released = rel;
         needed = need;
         wanted = (let l = ltb-true r n h in omega arith);
       }),
@@ -343,11 +334,11 @@ module _ (s : Course) (k : IsCourse s) where
   -- Jobs
 
   module _ (j : ℕ) (l : j < length s.plan.jobs) where
-    pub start_released : CanStartNow s.plan (world s) j → (world s).released j ≡ true
-    start_released g = sym (for_batch j (list_all (λ i. is_host_step s.plan i || (world s).submitted i)
-        (written_before s.plan j)) ((world s).released j)) ∙ g.released
+    pub start_let : CanStartNow s.plan (world s) j → may_start s.plan (world s) j ≡ true
+    start_let g = g.released
 
-    pub start_iff : (b : Bool) → (world s).machine.progress.started j ≡ false → (world s).released j ≡ true →
+    pub start_iff : (b : Bool) → (world s).machine.progress.started j ≡ false →
+        may_start s.plan (world s) j ≡ true →
         list_all (world s).machine.progress.finished (option_to_list (previous s.plan j)) ≡ true →
         list_all (world s).machine.progress.finished (idle_after s.plan j) ≡ true →
         b ≡ are_reached s.plan (world s).machine.progress.payload j (At (0 + 1)) →
@@ -361,8 +352,7 @@ module _ (s : Course) (k : IsCourse s) where
             lane = prev;
             ready = sym same ∙ h;
             idle = after;
-            released = for_batch j (list_all (λ i. is_host_step s.plan i || (world s).submitted i) (written_before
-                s.plan j)) ((world s).released j) ∙ rel;
+            released = rel;
           }),
           (λ g. same ∙ g.ready),
         )
@@ -393,9 +383,10 @@ module _ (s : Course) (k : IsCourse s) where
 
     pub finish_iff : (b : Bool) → HasCommandsDone s.plan (world s) j →
         list_all (world s).machine.progress.made (signals_of s.plan j) ≡ true →
+        (is_silent (question s.plan j) || is_some ((world s).machine.answer j)) ≡ true →
         IsTrue b ↔ (list_any (λ r. of_job (λ x. same_actor (actor_of_lane x.lane) r.actor) false s.plan j) (world
         s).held ≡ false) → IsTrue b ↔ CanFinishNow s.plan (world s) j
-    finish_iff b r made iff = (
+    finish_iff b r made settled iff = (
       (λ h. record {
         step = record {
           done = record {
@@ -405,7 +396,7 @@ module _ (s : Course) (k : IsCourse s) where
             signals = made;
             ready = r.ready;
           };
-          answered = ap (λ q. is_silent q || is_some ((world s).machine.answer j)) (facts.silent j);
+          answered = settled;
         };
         unreferring = iff.0 h;
       }),
@@ -415,12 +406,14 @@ module _ (s : Course) (k : IsCourse s) where
   pub finish_exists : (j : ℕ) → CanFinishNow s.plan (world s) j → j < length s.plan.jobs
   finish_exists j g = keeps.turns.exists j g.step.done.started
 
-  -- nothing is asked, so nothing is answered
-  pub no_answer : (j : ℕ) (a : Answer) → CanAnswer s.plan (world s).machine j a → ⊥
-  no_answer j a g = none a (sym (ap (λ q. may_answer s.plan (world s).machine j q a) (facts.silent j)) ∙ g.allowed)
-    where
-      none : (a : Answer) → may_answer s.plan (world s).machine j Silent a ≡ true → ⊥
-      none Reached h = false≢true h
-      none Timeout h = false≢true h
-      none NotReady h = false≢true h
-      none (Value n) h = false≢true h
+  pub answer_exists : (j : ℕ) (a : Answer) → CanAnswer s.plan (world s).machine j a → j < length s.plan.jobs
+  answer_exists j a g = keeps.turns.exists j g.started
+
+  pub answer_iff : (j : ℕ) (a : Answer) (b : Bool) → (world s).machine.progress.started j ≡ true →
+      is_some ((world s).machine.answer j) ≡ false →
+      b ≡ may_answer s.plan (world s).machine j (question s.plan j) a →
+      IsTrue b ↔ CanAnswer s.plan (world s).machine j a
+  answer_iff j a b started unanswered is = (
+    (λ h. record { started = started; unanswered = unanswered; allowed = sym is ∙ h }),
+    (λ g. is ∙ g.allowed),
+  )

@@ -4,6 +4,7 @@ use Rattle.std.proofs.Common.{
   ℕ,
   ◌<◌,
   ◌≤◌,
+  ◌&&◌,
   ◌∷◌,
   [],
   not,
@@ -25,7 +26,7 @@ use Rattle.std.proofs.Common.{
 use Rattle.std.specs.Prelude.{IsTrue, ◌↔◌, nat_eq, count_by}
 use Rattle.std.specs.List.{list_any, range_with_len}
 use Rattle.std.specs.Vec.{vec_capacity}
-use Rattle.std.proofs.lemmas.Bool.{false≢true, or_parts, or_from}
+use Rattle.std.proofs.lemmas.Bool.{false≢true, or_parts, or_from, le-ltb}
 use Rattle.std.proofs.lemmas.List.{length-map}
 use Rattle.vq_model.specs.declared.plan.Event.{Event}
 use Rattle.vq_model.proofs.Lists.{has_here, has_there, has_cases}
@@ -34,7 +35,7 @@ use Rattle.vq_model.specs.Checks.{IsLawful}
 use Rattle.vq_model.specs.LoweringFaults.{IsPlan}
 use Rattle.vq_model.specs.Machine.{State, Run, IsFinished, AreFinished, state_after}
 use Rattle.vq_model.specs.Memory.{zeros_of}
-use Rattle.vq_model.specs.Plan.{Plan, has}
+use Rattle.vq_model.specs.Plan.{Plan, has, is_batch}
 use Rattle.vq_model.specs.SlowRun.{bytes_after, final}
 use Rattle.vq_model.specs.ValidScripts.{sizes_of}
 use Rattle.vq_model.proofs.Numbers.{range-has, has-range_cases}
@@ -49,7 +50,7 @@ use Rattle.vq_core.specs.declared.state.Core.TheInside.{Inside}
 use Rattle.vq_core.specs.CoreState.{Course, world, IsCourse}
 use Rattle.vq_core.specs.Kept.{IsCore, Tells, course_of}
 use Rattle.vq_core.specs.Opening.{unmarked}
-use Rattle.vq_core.specs.Tables.{AreSubmitted, jobs_left}
+use Rattle.vq_core.specs.Tables.{AreSubmitted, batches_before, jobs_left}
 use Rattle.vq_core.proofs.Courses.{plan_facts}
 use Rattle.vq_core.proofs.Holds.{none_iff_zero}
 
@@ -95,7 +96,7 @@ any_has test (y ∷ xs) x h m =
       | inr t ↦ any_has test xs x parts.1 t
     ]
 
-any_from : (test : ℕ → Bool) (xs : List ℕ) → ((x : ℕ) → has xs x ≡ true → test x ≡ false) → list_any test xs ≡ false
+pub any_from : (test : ℕ → Bool) (xs : List ℕ) → ((x : ℕ) → has xs x ≡ true → test x ≡ false) → list_any test xs ≡ false
 any_from test [] f = refl
 any_from test (x ∷ xs) f = or_from (test x) (list_any test xs) (f x (has_here x xs)) (any_from test xs (λ y m. f y
     (has_there x xs y m)))
@@ -123,8 +124,17 @@ count_all (x ∷ xs) = let c = count_cons (λ (j : ℕ). true) x xs in let r = c
 pub all_left : (p : Plan) → length p.jobs ≡ jobs_left p unmarked
 all_left p = sym (count_all (range_with_len 0 (length p.jobs)) ∙ length-range_with_len 0 (length p.jobs))
 
-pub none_submitted : (n : ℕ) → AreSubmitted n unmarked 0
-none_submitted n = record { within = omega arith; before = λ j l. absurd (omega arith); after = λ j l. refl }
+pub none_submitted : (p : Plan) → AreSubmitted p unmarked 0
+none_submitted p =
+    record {
+      within = omega arith;
+      each = λ j. sym (ap (λ b. is_batch p j && b) (le-ltb (batches_before p j) 0 (omega arith)) ∙ and_no (is_batch p
+          j));
+    }
+  where
+    and_no : (b : Bool) → (b && false) ≡ false
+    and_no true = refl
+    and_no false = refl
 
 pub plan_sizes : (p : Plan) → IsPlan p → sizes_of p.script ≡ p.sizes
 plan_sizes p i = sym (ap (λ (q : Plan). q.sizes) i.lowered)

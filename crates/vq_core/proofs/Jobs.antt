@@ -44,9 +44,9 @@ use Rattle.std.proofs.lemmas.Bool.{
 }
 use Rattle.vq_model.specs.declared.plan.PlanJob.{PlanJob}
 use Rattle.vq_model.specs.declared.plan.Need.{Need}
-use Rattle.vq_model.specs.Edges.{Stage, At, AtEnd, needs_at}
+use Rattle.vq_model.specs.Edges.{Stage, At, needs_at}
 use Rattle.vq_model.specs.Machine.{are_reached, is_reached}
-use Rattle.vq_model.specs.Plan.{Plan, commands_of, signals_of, needs, has, chain, value, resolver}
+use Rattle.vq_model.specs.Plan.{Plan, commands_of, signals_of, needs, asked, waits_for_any, has, chain, value, resolver}
 use Rattle.vq_model.proofs.Searches.{find_member}
 use Rattle.std.proofs.lemmas.List.{get_or_default}
 use Rattle.vq_spec.proofs.Cited.{has_at, op_exists}
@@ -90,6 +90,9 @@ module _ (p : Plan) (j : ℕ) (x : PlanJob) (at : slice_get p.jobs j ≡ Some x)
   pub needs_are : needs p j ≡ x.needs
   needs_are = ap (λ o. option_map_or (λ (y : PlanJob). y.needs) o []) at
 
+  pub asked_are : asked p j ≡ x.asked
+  asked_are = ap (λ o. option_map_or (λ (y : PlanJob). y.asked) o []) at
+
   -- all needs that pass a test pass another one where each of all needs fails the first or passes the second
   pub filtered_all : (k : ℕ) (test : Need → Bool) (xs : List Need) →
       list_all test (filter (λ n. nat_le n.from (k + 1)) xs) ≡ list_all (λ n. nat_lt k (n.from - 1) || test n) xs
@@ -120,24 +123,50 @@ module _ (p : Plan) (j : ℕ) (x : PlanJob) (at : slice_get p.jobs j ≡ Some x)
       same_payloads : payload_in ps ≡ payload
       same_payloads = λ i t. are.each t i
 
-      -- a batch waits for all its needs
-      for_all : (k : Stage) → are_reached p payload j k ≡ list_all (is_reached payload) (needs_at p j k)
-      for_all k =
-          ap (λ b. if b then list_any (is_reached payload) (needs_at p j k) else list_all (is_reached payload)
-          (needs_at p j k)) (f.formed.waits_for_all j (f.batches j))
+      pub asked_there : All (λ (n : Need). n.chain < length ps) x.asked
+      asked_there = λ k d l.
+          let below = subst (λ (ns : List Need). All (λ (n : Need). n.chain < length p.script.semaphores) ns) asked_are
+          (f.asked_chain j) k d l in
+          let count = are.count in
+          omega arith
 
-      pub reached_at_end : list_all (is_reached (payload_in ps)) x.needs ≡ are_reached p payload j AtEnd
-      reached_at_end =
-          ap (λ (g : ℕ → ℕ). list_all (is_reached g) x.needs) same_payloads
-          ∙ (ap (list_all (is_reached payload)) (sym needs_are) ∙ sym (for_all AtEnd))
+      pub all_reached : list_all (is_reached (payload_in ps)) x.needs ≡ list_all (is_reached payload) (needs p j)
+      all_reached = λ i. list_all (is_reached (same_payloads i)) (sym needs_are i)
 
-      pub reached_after : (k : ℕ) → list_all (λ n. nat_lt k (n.from - 1) || is_reached (payload_in ps) n) x.needs ≡
-          are_reached p payload j (At (k + 1))
-      reached_after k =
+      pub any_reached : list_any (is_reached (payload_in ps)) x.needs ≡ list_any (is_reached payload) (needs p j)
+      any_reached = λ i. list_any (is_reached (same_payloads i)) (sym needs_are i)
+
+      pub all_asked : list_all (is_reached (payload_in ps)) x.asked ≡ list_all (is_reached payload) (asked p j)
+      all_asked = λ i. list_all (is_reached (same_payloads i)) (sym asked_are i)
+
+      pub any_asked : list_any (is_reached (payload_in ps)) x.asked ≡ list_any (is_reached payload) (asked p j)
+      any_asked = λ i. list_any (is_reached (same_payloads i)) (sym asked_are i)
+
+      pub all_after : (k : ℕ) → list_all (λ n. nat_lt k (n.from - 1) || is_reached (payload_in ps) n) x.needs ≡
+          list_all (is_reached payload) (needs_at p j (At (k + 1)))
+      all_after k =
           ap (λ (g : ℕ → ℕ). list_all (λ n. nat_lt k (n.from - 1) || is_reached g n) x.needs) same_payloads
           ∙ (sym (filtered_all k (is_reached payload) x.needs)
-          ∙ (ap (λ (ns : List Need). list_all (is_reached payload) (filter (λ n. nat_le n.from (k + 1)) ns)) (sym
-          needs_are) ∙ sym (for_all (At (k + 1)))))
+          ∙ ap (λ (ns : List Need). list_all (is_reached payload) (filter (λ n. nat_le n.from (k + 1)) ns)) (sym
+          needs_are))
+
+      pub any_after : (k : ℕ) → list_any (λ n. nat_le n.from (k + 1) && is_reached (payload_in ps) n) x.needs ≡
+          list_any (is_reached payload) (needs_at p j (At (k + 1)))
+      any_after k =
+          ap (λ (g : ℕ → ℕ). list_any (λ n. nat_le n.from (k + 1) && is_reached g n) x.needs) same_payloads
+          ∙ (filtered_any (λ n. nat_le n.from (k + 1)) (is_reached payload) x.needs
+          ∙ ap (λ (ns : List Need). list_any (is_reached payload) (filter (λ n. nat_le n.from (k + 1)) ns)) (sym
+          needs_are))
+
+-- the needs of a job are reached where all are, or one where it waits for any
+module _ (p : Plan) (payload : ℕ → ℕ) (j : ℕ) (k : Stage) where
+  pub for_any : waits_for_any p j ≡ true → are_reached p payload j k ≡ list_any (is_reached payload) (needs_at p j k)
+  for_any h = cond-true (waits_for_any p j) (list_any (is_reached payload) (needs_at p j k)) (list_all (is_reached
+      payload) (needs_at p j k)) h
+
+  pub for_all : waits_for_any p j ≡ false → are_reached p payload j k ≡ list_all (is_reached payload) (needs_at p j k)
+  for_all h = cond-false (waits_for_any p j) (list_any (is_reached payload) (needs_at p j k)) (list_all (is_reached
+      payload) (needs_at p j k)) h
 
 -- operations and chains that a plan names exist
 

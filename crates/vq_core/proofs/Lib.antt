@@ -1,4 +1,5 @@
 mod Tests
+mod SubmitLaws
 mod Courses
 mod Ops
 mod LaneNext
@@ -15,3 +16,4 @@ mod Standing
 mod Collecting
 mod OpeningLaws
 mod Histories
+mod AnswerLaws

@@ -20,6 +20,7 @@ use Rattle.std.proofs.Common.{
   Option,
   Some,
   None,
+  is_some,
   refl,
   sym,
   ap,
@@ -36,17 +37,19 @@ use Rattle.std.proofs.lemmas.List.{get_or-set_same, get_or-set_other, length-set
 use Rattle.vq_model.specs.declared.script.Command.{Command}
 use Rattle.vq_model.specs.Machine.{put}
 use Rattle.vq_model.specs.Memory.{Memory, after_all, effect}
-use Rattle.vq_model.specs.Plan.{Plan, has, commands_of, signals_of, command_at, job_of}
+use Rattle.vq_model.specs.declared.plan.Answer.{Answer}
+use Rattle.vq_model.specs.Plan.{Plan, has, commands_of, signals_of, command_at, job_of, question, asked}
 use Rattle.vq_model.specs.SlowRun.{bytes_after, command_list, zeros}
 use Rattle.vq_model.proofs.Lists.{has-append_left, has-append_right, has-append_cases, has_here, has_cases}
 use Rattle.vq_model.proofs.Puts.{put_here, put_there}
 use Rattle.vq_points.specs.Points.{Reference, without_first}
 use Rattle.vq_core_laws.specs.Firsts.{AreFirst}
 use Rattle.vq_core_laws.proofs.Cited.{Facts, one, put_next, put_other, rising_once, stands, count_cons, count_raised}
+use Rattle.vq_core.specs.declared.answers.AnswerState.{AnswerState}
+use Rattle.vq_core.specs.AnswerStates.{AreAnswerStates, IsAnswerState, not_asked, is_asked_reached, payload_read}
 use Rattle.vq_core.specs.declared.table.JobState.{JobState}
 use Rattle.vq_core.specs.declared.table.PointSlot.{PointSlot}
 use Rattle.vq_core.specs.Tables.{
-  AreSubmitted,
   AreJobs,
   IsJobState,
   ArePoints,
@@ -67,18 +70,6 @@ set_each P Q xs d v j l all here there k = elim (cases_eq k j) [
       subst (λ (i : ℕ). Q i (get_or (set xs j v) i d)) (sym s) (subst (Q j) (sym (get_or-set_same xs j v d l)) here)
   | inr n ↦ subst (Q k) (sym (get_or-set_other xs j k v d n)) (there k n (get_or xs k d) (all k))
 ]
-
-pub submitted_next : (jobs : ℕ) (submitted : ℕ → Bool) (n j : ℕ) → AreSubmitted jobs submitted n → j ≡ n →
-    j < jobs → AreSubmitted jobs (put submitted j true) (n + 1)
-submitted_next jobs submitted n j are e l =
-    record {
-      within = omega arith;
-      before = λ i b. elim (cases_eq i j) [
-        | inl s ↦ ap (put submitted j true) s ∙ put_here submitted j true
-        | inr d ↦ put_there submitted j true i d ∙ are.before i (grind arith)
-      ];
-      after = λ i b. put_there submitted j true i (λ s. omega arith) ∙ are.after i (omega arith);
-    }
 
 module _ (p : Plan) (released started finished made : ℕ →
     Bool) (applied : List ℕ) (xs : List JobState) (are : AreJobs p released started finished made applied xs) (j : ℕ)
@@ -278,6 +269,62 @@ payload_next size payload xs t v are l =
       each = set_each (λ k n. n ≡ payload k) (λ k n. n ≡ put payload t v k) xs 0 v t (let n = are.count in omega
           arith) are.each (sym (put_here payload t v)) (λ k n b h. h ∙ sym (put_there payload t v k n));
     }
+
+-- Answers
+
+module _ (p : Plan) (started : ℕ → Bool) (answer : ℕ → Option Answer) (at_start : ℕ → ℕ →
+    ℕ) (xs : List AnswerState) (are : AreAnswerStates p started answer at_start xs) (j : ℕ) (l : j < length p.jobs)
+    (s : AnswerState) (x : IsAnswerState p started answer at_start j s) where
+  -- a job starts
+  pub answers_started : (payload : ℕ → ℕ) (reached : Bool) (n : ℕ) →
+      reached ≡ is_asked_reached (question p j) payload (asked p j) → n ≡ payload_read (question p j) payload →
+      AreAnswerStates p (put started j true) answer (put at_start j payload) (set xs j (record s {
+        reached = reached;
+        payload = n;
+      }))
+  answers_started payload reached n r v =
+      record {
+        count = length-set xs j (record s { reached = reached; payload = n }) ∙ are.count;
+        each = set_each (IsAnswerState p started answer at_start) (IsAnswerState p (put started j true) answer (put
+            at_start j payload)) xs not_asked (record s { reached = reached; payload = n }) j (let n = are.count in
+            omega arith) are.each
+            (record {
+              is_answered = x.is_answered;
+              was_reached = λ h. r ∙ ap (λ (f : ℕ → ℕ). is_asked_reached (question p j) f (asked p j)) (sym
+                  (put_here at_start j payload));
+              was_payload = λ h. v ∙ ap (λ (f : ℕ → ℕ). payload_read (question p j) f) (sym (put_here at_start j
+                  payload));
+            })
+            (λ k d y h. record {
+              is_answered = h.is_answered;
+              was_reached = λ b. h.was_reached (sym (put_there started j true k d) ∙ b)
+                  ∙ ap (λ (f : ℕ → ℕ). is_asked_reached (question p k) f (asked p k)) (sym (put_there at_start j
+                  payload k d));
+              was_payload = λ b. h.was_payload (sym (put_there started j true k d) ∙ b)
+                  ∙ ap (λ (f : ℕ → ℕ). payload_read (question p k) f) (sym (put_there at_start j payload k d));
+            });
+      }
+
+  -- a job is answered
+  pub answers_given : (a : Answer) → AreAnswerStates p started (put answer j (Some a)) at_start (set xs j (record s {
+    answered = true;
+  }))
+  answers_given a =
+      record {
+        count = length-set xs j (record s { answered = true }) ∙ are.count;
+        each = set_each (IsAnswerState p started answer at_start) (IsAnswerState p started (put answer j (Some a))
+            at_start) xs not_asked (record s { answered = true }) j (let n = are.count in omega arith) are.each
+            (record {
+              is_answered = ap is_some (sym (put_here answer j (Some a)));
+              was_reached = x.was_reached;
+              was_payload = x.was_payload;
+            })
+            (λ k d y h. record {
+              is_answered = h.is_answered ∙ ap is_some (sym (put_there answer j (Some a) k d));
+              was_reached = h.was_reached;
+              was_payload = h.was_payload;
+            });
+      }
 
 -- Points
 

@@ -11,15 +11,19 @@ use Rattle.vq_core.specs.declared.state.Core.TheInside.{Inside}
 use Rattle.vq_core.specs.CoreState.{Course}
 use Rattle.vq_core.specs.Lanes.{AreLanes}
 use Rattle.vq_core.specs.Notes.{AreNotes}
-use Rattle.vq_core.specs.Tables.{AreSubmitted, AreJobs, ArePoints, AreMade, ArePayloads, AreTimelines, jobs_left}
+use Rattle.vq_core.specs.AnswerStates.{AreAnswerStates}
+use Rattle.vq_core.specs.Tables.{AreEarlier, AreSubmitted, AreJobs, ArePoints, AreMade, ArePayloads, AreTimelines}
+use Rattle.vq_core.specs.Tables.{jobs_left}
 
 abbrev pub course_of : Inside → Course
 course_of a = record { plan = a.ordered; history = a.history.items }
 
 pub record Tells (p : Plan) (w : PointState) (a : Inside) : Type 0 where
-  pub submitted : AreSubmitted (length p.jobs) w.submitted a.submitted
+  pub earlier : AreEarlier p a.earlier
+  pub submitted : AreSubmitted p w.submitted a.submitted
   pub jobs : AreJobs p w.released w.machine.progress.started w.machine.progress.finished w.machine.progress.made
       w.machine.progress.applied a.jobs
+  pub answers : AreAnswerStates p w.machine.progress.started w.machine.answer w.machine.at_start a.answers
   pub made : AreMade (length p.ops) w.machine.progress.made a.made
   pub points : a.points ≡ w.points
   pub slots : ArePoints (length p.ops) w.carried w.waiting w.held a.slots

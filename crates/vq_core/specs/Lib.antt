@@ -1,6 +1,7 @@
 pub mod Lanes
 pub mod Notes
 pub mod Tables
+pub mod AnswerStates
 pub mod CoreState
 pub mod Kept
 pub mod GuardParts

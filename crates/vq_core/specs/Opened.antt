@@ -9,11 +9,14 @@ use Rattle.vq_history_laws.specs.Histories.{acts}
 use Rattle.vq_core.specs.declared.opening.Opening.{Opening}
 use Rattle.vq_core.specs.Lanes.{AreLanes}
 use Rattle.vq_core.specs.Notes.{AreNotes}
-use Rattle.vq_core.specs.Opening.{nothing, unmarked}
-use Rattle.vq_core.specs.Tables.{AreJobs, AreMade, ArePoints, ArePayloads, AreTimelines}
+use Rattle.vq_core.specs.AnswerStates.{AreAnswerStates}
+use Rattle.vq_core.specs.Opening.{nothing, unmarked, no_answers, no_payloads}
+use Rattle.vq_core.specs.Tables.{AreEarlier, AreJobs, AreMade, ArePoints, ArePayloads, AreTimelines}
 
 pub record IsOpening (p : Plan) (x : Opening) : Type 0 where
+  pub earlier : AreEarlier p x.marks.earlier
   pub jobs : AreJobs p unmarked unmarked unmarked unmarked [] x.marks.jobs
+  pub answers : AreAnswerStates p unmarked no_answers no_payloads x.marks.answers
   pub made : AreMade (length p.ops) unmarked x.marks.made
   pub slots : ArePoints (length p.ops) (λ q. None) unmarked [] x.marks.slots
   pub payloads : ArePayloads (length p.script.semaphores) (initial p) x.chains.payloads.items

@@ -1,6 +1,7 @@
 -- The tables before the first event. This project's own.
-use Rattle.std.specs.Prelude.{ℕ, Bool, false, List, [], length, map, sum, filter, ◌≡◌, ◌<◌}
+use Rattle.std.specs.Prelude.{ℕ, Bool, false, List, [], length, map, sum, filter, ◌≡◌, ◌<◌, Option, None}
 use Rattle.std.specs.List.{slice_index_or, range_with_len}
+use Rattle.vq_model.specs.declared.plan.Answer.{Answer}
 use Rattle.vq_model.specs.Plan.{Plan, of_job, same_lane}
 use Rattle.vq_core.specs.declared.lanes.LaneState.{LaneState}
 use Rattle.vq_core.specs.Lanes.{lane_named, no_lane}
@@ -11,6 +12,13 @@ unmarked j = false
 
 abbrev pub nothing : ℕ → List ℕ
 nothing j = []
+
+-- nothing is answered, and nothing was started
+abbrev pub no_answers : ℕ → Option Answer
+no_answers j = None
+
+abbrev pub no_payloads : ℕ → ℕ → ℕ
+no_payloads j t = 0
 
 -- how many needs all jobs have
 abbrev pub needs_of : Plan → ℕ

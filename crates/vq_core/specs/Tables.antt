@@ -1,8 +1,9 @@
 -- The other tables, and what the world says of them. This project's own.
-use Rattle.std.specs.Prelude.{ℕ, Bool, List, length, count_by, ◌≡◌, ◌<◌, ◌≤◌, ◌==◌, true, false, Option, None, not, []}
+use Rattle.std.specs.Prelude.{ℕ, Bool, List, length, count_by, ◌≡◌, ◌<◌, ◌≤◌, ◌==◌, false, Option, None, not, []}
+use Rattle.std.specs.Prelude.{nat_lt, ◌&&◌}
 use Rattle.std.specs.List.{slice_index_or, range_with_len}
-use Rattle.vq_model.specs.Plan.{Plan, has, commands_of, signals_of}
-use Rattle.vq_points.specs.Points.{PointState, Reference}
+use Rattle.vq_model.specs.Plan.{Plan, has, commands_of, signals_of, is_batch}
+use Rattle.vq_points.specs.Points.{PointState, Reference, written_before}
 use Rattle.vq_points.specs.Timeline.{Timeline, KeepsLists, new_timeline}
 use Rattle.vq_core_laws.specs.Firsts.{AreFirst}
 use Rattle.vq_core_laws.specs.TimelineOf.{IsTimelineOf}
@@ -17,11 +18,19 @@ idle = record { released = false; started = false; finished = false; commands = 
 abbrev pub no_slot : PointSlot
 no_slot = record { carried = None; waits = false; references = 0 }
 
--- so many of the first jobs are submitted, and no others
-pub record AreSubmitted (jobs : ℕ) (submitted : ℕ → Bool) (n : ℕ) : Type 0 where
-  pub within : n ≤ jobs
-  pub before : (j : ℕ) → j < n → submitted j ≡ true
-  pub after : (j : ℕ) → n ≤ j → submitted j ≡ false
+-- how many batches are written before a job
+abbrev pub batches_before : Plan → ℕ → ℕ
+batches_before p j = count_by (is_batch p) (written_before p j)
+
+-- for each job how many batches are written before it
+pub record AreEarlier (p : Plan) (xs : List ℕ) : Type 0 where
+  pub count : length xs ≡ length p.jobs
+  pub each : (j : ℕ) → j < length p.jobs → slice_index_or xs j 0 ≡ batches_before p j
+
+-- So many of the first batches are submitted, and no others.
+pub record AreSubmitted (p : Plan) (submitted : ℕ → Bool) (n : ℕ) : Type 0 where
+  pub within : n ≤ length p.jobs
+  pub each : (j : ℕ) → submitted j ≡ (is_batch p j && nat_lt (batches_before p j) n)
 
 pub record IsJobState (p : Plan) (released started finished made : ℕ → Bool) (applied : List ℕ) (j : ℕ) (s : JobState)
     : Type 0 where

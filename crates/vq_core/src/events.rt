@@ -6,6 +6,7 @@ ghost use Rattle.vq_points.specs.Points.{CanUnrefer, CanComplete, CanFree, CanSt
 ghost use Rattle.vq_points.specs.Points.{CanFinishNow};
 ghost use Rattle.vq_core.specs.CoreState.{world};
 
+use crate::answers::AnswerState;
 use crate::notes::Note;
 use crate::state::Core;
 use crate::table::{JobState, PointSlot};
@@ -89,6 +90,17 @@ impl Core {
         requires { CanStartNow self.old.plan (world self.old) job }
         ensures { self.new ≡ record self.old { history = self.old.history ++ Event.Start job ∷ [] } }
     {
+        let reached = self.is_asked_reached(job);
+        let payload = self.payload_read(job);
+        let asking = self.answers.at(job, AnswerState::not_asked());
+        self.answers.put(
+            job,
+            AnswerState {
+                reached,
+                payload,
+                ..asking
+            },
+        );
         let state = self.jobs.at(job, JobState::idle());
         self.jobs.put(
             job,
@@ -284,13 +296,19 @@ impl Core {
         self.history.push_reserved(Event::Finish { job });
     }
 
-    // Nothing is answered as long as scripts have no host steps.
-    fn answer(&mut self, _job: u32, _answer: Answer)
-        requires { CanAnswer self.old.plan (world self.old).machine _job _answer }
-        ensures { self.new ≡ record self.old { history = self.old.history ++ Event.Answer _job _answer ∷ [] } }
+    fn answer(&mut self, job: u32, answer: Answer)
+        requires { CanAnswer self.old.plan (world self.old).machine job answer }
+        ensures { self.new ≡ record self.old { history = self.old.history ++ Event.Answer job answer ∷ [] } }
     {
-        let _ = self.plan();
-        unreachable!()
+        let asking = self.answers.at(job, AnswerState::not_asked());
+        self.answers.put(
+            job,
+            AnswerState {
+                answered: true,
+                ..asking
+            },
+        );
+        self.history.push_reserved(Event::Answer { job, answer });
     }
 
     /// What an event leaves, which may come: the history has it as its last. It takes no memory.

@@ -1,23 +1,30 @@
 //! Which event may come next.
-ghost use Rattle.std.specs.Prelude.{◌↔◌, ◌<◌, IsTrue, length};
+ghost use Rattle.std.specs.Prelude.{◌↔◌, ◌≡◌, ◌<◌, IsTrue, length, true};
 ghost use Rattle.vq_model.specs.Machine.{CanAnswer, CanApply};
 ghost use Rattle.vq_points.specs.Points.{CanCome, CanSubmit, CanTake, CanRelease, CanBind, CanRefer, CanLook};
 ghost use Rattle.vq_points.specs.Points.{CanUnrefer, CanComplete, CanFree, CanStartNow, CanSignalNow};
 ghost use Rattle.vq_points.specs.Points.{CanFinishNow};
 ghost use Rattle.vq_core.specs.CoreState.{world};
-ghost use Rattle.vq_core.specs.GuardParts.{ReleaseTurn, IsPointInTurn, HasCommandsDone};
+ghost use Rattle.vq_core.specs.GuardParts.{ReleaseTurn, IsPointInTurn, HasCommandsDone, may_take};
 
 use crate::state::Core;
 use vq_model::script::ActorName;
 use vq_spec::{Answer, Event, Op};
 
 impl Core {
-    // A batch is submitted after all jobs that are written before it. With host steps one counts them
-    // too, as they are finished: a step is finished after all jobs before it, and before all behind it.
     fn can_submit(&self, job: u32) -> bool
         ensures { IsTrue result ↔ CanSubmit self.now.plan (world self.now) job }
     {
-        job < self.plan().jobs() && job == self.submitted_count()
+        if !self.is_batch(job) {
+            return false;
+        }
+        if self.is_submitted(job) {
+            return false;
+        }
+        if !self.batches_submitted(job) {
+            return false;
+        }
+        self.steps_finished(job)
     }
 
     fn can_take(&self, op: u32, point: u32, fresh: bool) -> bool
@@ -30,7 +37,7 @@ impl Core {
         if self.point_of(op).is_some() {
             return false;
         }
-        if !self.may_take_for(job) {
+        if !self.may_take(job) {
             return false;
         }
         self.is_point_in_turn(chain, point, fresh)
@@ -39,10 +46,10 @@ impl Core {
     fn can_release(&self, job: u32) -> bool
         ensures { IsTrue result ↔ CanRelease self.now.plan (world self.now) job }
     {
-        if job >= self.plan().jobs() {
+        if !self.is_batch(job) {
             return false;
         }
-        if !self.may_take_for(job) {
+        if !self.is_release_turn(job) {
             return false;
         }
         self.signals_taken(job)
@@ -63,7 +70,7 @@ impl Core {
         if !self.carries(point, op) {
             return false;
         }
-        if !self.is_released(job) {
+        if !self.may_bind(job) {
             return false;
         }
         index == self.timeline(chain).bound()
@@ -81,7 +88,7 @@ impl Core {
         if !self.is_bound(op) {
             return false;
         }
-        if !self.is_released(job) {
+        if !self.may_refer(job) {
             return false;
         }
         if !self.is_needed_now(job, op) {
@@ -138,7 +145,6 @@ impl Core {
         !self.is_referenced(point)
     }
 
-    // With host steps, one starts after all batches that are written before it are submitted.
     fn can_start(&self, job: u32) -> bool
         ensures { IsTrue result ↔ CanStartNow self.now.plan (world self.now) job }
     {
@@ -148,7 +154,7 @@ impl Core {
         if self.is_started(job) {
             return false;
         }
-        if !self.is_released(job) {
+        if !self.may_start(job) {
             return false;
         }
         if !self.previous_finished(job) {
@@ -200,7 +206,6 @@ impl Core {
         }
     }
 
-    // With host steps, a question is answered first.
     fn can_finish(&self, job: u32) -> bool
         ensures { IsTrue result ↔ CanFinishNow self.now.plan (world self.now) job }
     {
@@ -213,21 +218,41 @@ impl Core {
         if !self.signals_done(job) {
             return false;
         }
+        if !self.is_settled(job) {
+            return false;
+        }
         self.holds_none(job)
     }
 
-    // As long as scripts have no host steps, no job asks. With them, its question and the payloads at its
-    // start decide.
-    fn can_answer(&self, _job: u32, _answer: Answer) -> bool
-        ensures { IsTrue result ↔ CanAnswer self.now.plan (world self.now).machine _job _answer }
+    fn can_answer(&self, job: u32, answer: Answer) -> bool
+        ensures { IsTrue result ↔ CanAnswer self.now.plan (world self.now).machine job answer }
     {
-        let _ = self.plan();
-        false
+        if job >= self.plan().jobs() {
+            return false;
+        }
+        if !self.is_started(job) {
+            return false;
+        }
+        if self.answer_state(job).answered {
+            return false;
+        }
+        self.may_answer(job, answer)
+    }
+
+    // Whether a point may be taken for a job: a batch's turn has come, or a host step is started.
+    fn may_take(&self, job: u32) -> bool
+        requires { job < length self.now.plan.jobs }
+        ensures { IsTrue result ↔ (may_take self.now.plan (world self.now) job ≡ true) }
+    {
+        if self.is_host_step(job) {
+            return self.is_started(job);
+        }
+        self.is_release_turn(job)
     }
 
     // Whether a batch's turn has come: it is submitted, each earlier batch of its queue is released and
     // it isn't, and its needs are pending.
-    fn may_take_for(&self, job: u32) -> bool
+    fn is_release_turn(&self, job: u32) -> bool
         requires { job < length self.now.plan.jobs }
         ensures { IsTrue result ↔ ReleaseTurn self.now.plan (world self.now) job }
     {
@@ -269,7 +294,7 @@ impl Core {
     }
 
     /// Whether an event may come next. One that names a job, an operation, a command, a point or an
-    /// actor that there isn't may not. Nothing is answered as long as scripts have no host steps.
+    /// actor that there isn't may not.
     pub fn can(&self, event: &Event) -> bool
         ensures { IsTrue result ↔ CanCome self.now.plan (world self.now) event.now }
     {

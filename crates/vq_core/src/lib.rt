@@ -3,7 +3,9 @@
 //! lock, is left to others.
 #![tactic(auto)]
 
+mod answers;
 mod asking;
+mod batches;
 mod events;
 mod guards;
 mod holding;

@@ -80,11 +80,18 @@ fn any_resolved(plan: &Plan, needs: &[Need], op: u32, started: bool) -> bool
 }
 
 impl Core {
-    /// What a job waits for: for all of it, since there are no host steps yet.
+    /// Whether one of its needs is enough for a job.
+    pub(crate) fn waits_for_any(&self, job: u32) -> bool
+        requires { job < length self.now.plan.jobs }
+        ensures { result ≡ waits_for_any self.now.plan job }
+    {
+        self.plan().job(job).any
+    }
+
+    /// What a job waits for.
     pub(crate) fn needs(&self, job: u32) -> &[Need]
         requires { job < length self.now.plan.jobs }
         ensures value { result.now ≡ needs self.now.plan job }
-        ensures all { waits_for_any self.now.plan job ≡ false }
         ensures exist { All (λ n. n.chain < length self.now.plan.chains) result.now }
     {
         self.plan().job(job).needs.as_slice()
@@ -129,11 +136,15 @@ impl Core {
         true
     }
 
-    /// Whether each need of a job has a pending or a past signal, or was reached from the beginning.
+    /// Whether each need of a job has a pending or a past signal, or was reached from the beginning; it
+    /// isn't asked where one need is enough.
     pub(crate) fn needs_pending(&self, job: u32) -> bool
         requires { job < length self.now.plan.jobs }
         ensures { result ≡ are_needs_pending self.now.plan (world self.now) job }
     {
+        if self.waits_for_any(job) {
+            return true;
+        }
         self.are_pending(self.needs(job))
     }
 

@@ -4,16 +4,20 @@ ghost use Rattle.std.specs.Vec.{vec_capacity};
 ghost use Rattle.vq_model.specs.Checks.{IsLawful};
 ghost use Rattle.vq_model.specs.LoweringFaults.{IsPlan};
 ghost use Rattle.vq_model.specs.Memory.{zeros_of};
-ghost use Rattle.vq_model.specs.Plan.{chain, initial, value};
+ghost use Rattle.vq_model.specs.Plan.{chain, initial, value, is_batch};
 ghost use Rattle.vq_model.specs.ValidScripts.{sizes_of};
 ghost use Rattle.vq_points.specs.Points.{opening_points};
 ghost use Rattle.vq_history_laws.specs.Histories.{acts};
+ghost use Rattle.vq_history_laws.specs.Measure.{one};
 ghost use Rattle.vq_core.specs.Lanes.{AreLanes};
 ghost use Rattle.vq_core.specs.Notes.{AreNotes};
 ghost use Rattle.vq_core.specs.Opened.{IsOpening};
-ghost use Rattle.vq_core.specs.Opening.{needs_of, nothing, unmarked};
-ghost use Rattle.vq_core.specs.Tables.{AreJobs, AreMade, ArePoints, ArePayloads, AreTimelines};
+ghost use Rattle.vq_core.specs.AnswerStates.{AreAnswerStates};
+ghost use Rattle.vq_core.specs.Opening.{needs_of, nothing, unmarked, no_answers, no_payloads};
+ghost use Rattle.vq_core.specs.Tables.{AreEarlier, AreJobs, AreMade, ArePoints, ArePayloads, AreTimelines};
 
+use crate::answers::AnswerState;
+use crate::batches::is_host;
 use crate::lanes::LaneTable;
 use crate::notes::{Note, NoteRow, NoteTable};
 use crate::table::{JobState, PointSlot, Table};
@@ -66,6 +70,35 @@ pub(crate) fn idle_jobs(alloc: Global, plan: &Plan) -> Result<Table<JobState>, A
 {
     let jobs = vec![in alloc; JobState::idle(); plan.jobs() as usize]?;
     Ok(Table::of(jobs))
+}
+
+/// For each job how many batches are written before it.
+pub(crate) fn count_earlier(alloc: Global, plan: &Plan) -> Result<Table<u32>, AllocError>
+    ensures { IfOk result (AreEarlier plan.now) }
+{
+    let mut earlier = Vec::new(alloc);
+    let mut count: u32 = 0;
+    for job in 0..plan.jobs() {
+        earlier.push(count)?;
+        count += batches_at(plan, job);
+    }
+    Ok(Table::of(earlier))
+}
+
+/// How many batches a job is: one or none.
+fn batches_at(plan: &Plan, job: u32) -> u32
+    requires { job < length plan.now.jobs }
+    ensures { result ≡ one (is_batch plan.now job) }
+{
+    if is_host(plan.job(job).lane) { 0 } else { 1 }
+}
+
+/// No job asks anything.
+pub(crate) fn none_asked(alloc: Global, plan: &Plan) -> Result<Table<AnswerState>, AllocError>
+    ensures { IfOk result (λ xs. AreAnswerStates plan.now unmarked no_answers no_payloads xs) }
+{
+    let answers = vec![in alloc; AnswerState::not_asked(); plan.jobs() as usize]?;
+    Ok(Table::of(answers))
 }
 
 /// Points that carry nothing, as many as there are operations.
@@ -150,21 +183,33 @@ pub(crate) fn empty_notes(alloc: Global, plan: &Plan) -> Result<NoteTable, Alloc
 /// What jobs and points have come to before the first event.
 #[derive(Drop)]
 pub(crate) struct Marks {
+    pub(crate) earlier: Table<u32>,
     pub(crate) jobs: Table<JobState>,
+    pub(crate) answers: Table<AnswerState>,
     pub(crate) made: Table<bool>,
     pub(crate) slots: Table<PointSlot>,
 }
 
 /// Nothing is done.
 fn open_marks(alloc: Global, plan: &Plan) -> Result<Marks, AllocError>
+    ensures earlier { IfOk result (λ x. AreEarlier plan.now x.earlier) }
     ensures jobs { IfOk result (λ x. AreJobs plan.now unmarked unmarked unmarked unmarked [] x.jobs) }
+    ensures answers { IfOk result (λ x. AreAnswerStates plan.now unmarked no_answers no_payloads x.answers) }
     ensures made { IfOk result (λ x. AreMade (length plan.now.ops) unmarked x.made) }
     ensures slots { IfOk result (λ x. ArePoints (length plan.now.ops) (λ q. None) unmarked [] x.slots) }
 {
+    let earlier = count_earlier(alloc, plan)?;
     let jobs = idle_jobs(alloc, plan)?;
+    let answers = none_asked(alloc, plan)?;
     let made = none_made(alloc, plan)?;
     let slots = empty_points(alloc, plan)?;
-    Ok(Marks { jobs, made, slots })
+    Ok(Marks {
+        earlier,
+        jobs,
+        answers,
+        made,
+        slots,
+    })
 }
 
 /// What chains have come to before the first event.

@@ -1,8 +1,9 @@
 //! What jobs have come to: their commands, their signals and their waits.
-ghost use Rattle.std.specs.Prelude.{◌≡◌, ◌<◌, ◌||◌, ◌+◌, ◌-◌, ◌↔◌, All, IsTrue, length, nat_lt, true, false};
-ghost use Rattle.std.specs.List.{list_all, slice_get};
+ghost use Rattle.std.specs.Prelude.{◌≡◌, ◌<◌, ◌||◌, ◌&&◌, ◌+◌, ◌-◌, ◌↔◌, All, IsTrue, length, nat_lt, nat_le, true};
+ghost use Rattle.std.specs.Prelude.{false};
+ghost use Rattle.std.specs.List.{list_all, list_any, slice_get};
 ghost use Rattle.std.specs.Option.{option_to_list};
-ghost use Rattle.vq_model.specs.Edges.{At, AtEnd};
+ghost use Rattle.vq_model.specs.Edges.{At, AtEnd, needs_at};
 ghost use Rattle.vq_model.specs.Machine.{next, are_reached, is_reached};
 ghost use Rattle.vq_model.specs.Plan.{has, commands_of, signals_of, needs};
 ghost use Rattle.vq_points.specs.Points.{earlier_in_queue, are_needs_pending, resolves};
@@ -12,7 +13,7 @@ ghost use Rattle.vq_core.specs.Tables.{IsJobState};
 
 use crate::state::Core;
 use crate::table::JobState;
-use vq_spec::{Need, Plan, all_reached, is_reached};
+use vq_spec::{Need, Plan, all_reached, any_reached, is_reached};
 
 /// An element of a list, if it has so many.
 fn element(items: &[u32], place: usize) -> Option<u32>
@@ -43,6 +44,27 @@ fn reached_after(payloads: &[u64], needs: &[Need], done: usize) -> bool
         }
     }
     true
+}
+
+/// Whether a need is reached that holds back what comes after so many commands.
+fn is_let_through(payloads: &[u64], need: Need, done: usize) -> bool
+    requires { need.chain < length payloads.now }
+    ensures { result ≡ (nat_le need.from (done + 1) && is_reached (payload_in payloads.now) need) }
+{
+    need.from.saturating_sub(1) as usize <= done && is_reached(payloads, need)
+}
+
+/// Whether one of the needs is reached that hold back what comes after so many commands.
+fn one_reached_after(payloads: &[u64], needs: &[Need], done: usize) -> bool
+    requires { All (λ n. n.chain < length payloads.now) needs.now }
+    ensures { result ≡ list_any (λ n. nat_le n.from (done + 1) && is_reached (payload_in payloads.now) n) needs.now }
+{
+    for need in needs {
+        if is_let_through(payloads, *need, done) {
+            return true;
+        }
+    }
+    false
 }
 
 impl Core {
@@ -107,20 +129,63 @@ impl Core {
     }
 
     /// Whether all needs of a job are reached that hold back what comes after so many commands.
-    pub(crate) fn is_reached_after(&self, job: u32, done: usize) -> bool
+    fn all_after(&self, job: u32, done: usize) -> bool
         requires { job < length self.now.plan.jobs }
-        ensures { result ≡ are_reached self.now.plan (world self.now).machine.progress.payload job (At (done + 1)) }
+        ensures { result ≡ list_all (is_reached (world self.now).machine.progress.payload)
+            (needs_at self.now.plan job (At (done + 1))) }
     {
         let needs = self.plan().job(job).needs.as_slice();
         reached_after(self.payloads.as_slice(), needs, done)
     }
 
+    /// Whether one need of a job is reached that holds back what comes after so many commands.
+    fn any_after(&self, job: u32, done: usize) -> bool
+        requires { job < length self.now.plan.jobs }
+        ensures { result ≡ list_any (is_reached (world self.now).machine.progress.payload)
+            (needs_at self.now.plan job (At (done + 1))) }
+    {
+        let needs = self.plan().job(job).needs.as_slice();
+        one_reached_after(self.payloads.as_slice(), needs, done)
+    }
+
+    /// Whether the needs of a job are reached that hold back what comes after so many commands: all, or one
+    /// where one is enough.
+    pub(crate) fn is_reached_after(&self, job: u32, done: usize) -> bool
+        requires { job < length self.now.plan.jobs }
+        ensures { result ≡ are_reached self.now.plan (world self.now).machine.progress.payload job (At (done + 1)) }
+    {
+        if self.waits_for_any(job) {
+            return self.any_after(job, done);
+        }
+        self.all_after(job, done)
+    }
+
     /// Whether all needs of a job are reached.
+    fn all_at_end(&self, job: u32) -> bool
+        requires { job < length self.now.plan.jobs }
+        ensures { result ≡ list_all (is_reached (world self.now).machine.progress.payload) (needs self.now.plan job) }
+    {
+        let needs = self.plan().job(job).needs.as_slice();
+        all_reached(self.payloads.as_slice(), needs)
+    }
+
+    /// Whether one need of a job is reached.
+    fn any_at_end(&self, job: u32) -> bool
+        requires { job < length self.now.plan.jobs }
+        ensures { result ≡ list_any (is_reached (world self.now).machine.progress.payload) (needs self.now.plan job) }
+    {
+        let needs = self.plan().job(job).needs.as_slice();
+        any_reached(self.payloads.as_slice(), needs)
+    }
+
+    /// Whether the needs of a job are reached: all, or one where one is enough.
     pub(crate) fn is_reached_at_end(&self, job: u32) -> bool
         requires { job < length self.now.plan.jobs }
         ensures { result ≡ are_reached self.now.plan (world self.now).machine.progress.payload job AtEnd }
     {
-        let needs = self.plan().job(job).needs.as_slice();
-        all_reached(self.payloads.as_slice(), needs)
+        if self.waits_for_any(job) {
+            return self.any_at_end(job);
+        }
+        self.all_at_end(job)
     }
 }

@@ -12,8 +12,9 @@ ghost use Rattle.vq_points.specs.Timeline.{KeepsLists};
 ghost use Rattle.vq_core_laws.specs.TimelineOf.{IsTimelineOf};
 ghost use Rattle.vq_core.specs.CoreState.{IsCourse, world};
 ghost use Rattle.vq_core.specs.Opened.{IsOpening};
-ghost use Rattle.vq_core.specs.Tables.{AreSubmitted, jobs_left};
+ghost use Rattle.vq_core.specs.Tables.{jobs_left};
 
+use crate::answers::AnswerState;
 use crate::lanes::LaneTable;
 use crate::notes::NoteTable;
 use crate::opening::{Opening, open};
@@ -33,9 +34,12 @@ use vq_timeline_core::TimelineCore;
 pub struct Core {
     pub(crate) ordered: Ordered,
     pub(crate) history: Vec<Event>,
-    // How many jobs are submitted: they are in the order of the script.
+    // For each job how many batches are written before it.
+    pub(crate) earlier: Table<u32>,
+    // How many batches are submitted: they are in the order of the script.
     pub(crate) submitted: u32,
     pub(crate) jobs: Table<JobState>,
+    pub(crate) answers: Table<AnswerState>,
     // For each signal operation whether it is made.
     pub(crate) made: Table<bool>,
     // How many points were made.
@@ -96,8 +100,10 @@ impl Core {
         Core {
             ordered,
             history: journal.history,
+            earlier: marks.earlier,
             submitted: 0,
             jobs: marks.jobs,
+            answers: marks.answers,
             made: marks.made,
             points: 0,
             slots: marks.slots,
@@ -149,14 +155,11 @@ impl Core {
     pub fn is_submitted(&self, job: u32) -> bool
         ensures { result ≡ (world self.now).submitted job }
     {
-        job < self.submitted
-    }
-
-    /// How many jobs are submitted.
-    pub(crate) fn submitted_count(&self) -> u32
-        ensures { AreSubmitted (length self.now.plan.jobs) (world self.now).submitted result }
-    {
-        self.submitted
+        let earlier = self.earlier.at(job, 0);
+        if !self.is_batch(job) {
+            return false;
+        }
+        earlier < self.submitted
     }
 
     /// Whether a job is released.

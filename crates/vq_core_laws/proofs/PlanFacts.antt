@@ -56,10 +56,9 @@ use Rattle.vq_model.specs.declared.script.Pair.{Pair}
 use Rattle.vq_model.specs.declared.plan.Op.{Op}
 use Rattle.vq_model.specs.declared.plan.Need.{Need}
 use Rattle.vq_model.specs.declared.plan.Question.TheVariants.{Silent, Value as AsksValue}
-use Rattle.vq_model.specs.Plan.{Plan, has, chain, value, is_host_step, question, is_host_lane, asked}
+use Rattle.vq_model.specs.Plan.{Plan, has, chain, value, question, asked}
 use Rattle.vq_model.specs.Context.{is_timeline, is_fence}
 use Rattle.vq_model.specs.ValidScripts.{IsValidStep, IsTimelinePair, HasValidSteps}
-use Rattle.vq_model.specs.Built.{HasNoHostStep}
 use Rattle.vq_model.specs.Checks.{IsLawful}
 use Rattle.vq_model.specs.Lanes.{KeepsLanes, KeepsSemaphores}
 use Rattle.vq_model.specs.Lowering.{plan_of, plan_job, of_pair, step_asked, step_question, fence_value}
@@ -72,7 +71,7 @@ use Rattle.std.proofs.lemmas.List.Elements.{All-map, All-cons, All-nil}
 use Rattle.vq_model.proofs.Lists.{has_cases}
 use Rattle.vq_model.proofs.Options.{some_of}
 use Rattle.vq_points.specs.Timeline.{AreRisingFrom}
-use Rattle.vq_reading_laws.proofs.Cited.{read_hostless, read_steps, kind_exists}
+use Rattle.vq_reading_laws.proofs.Cited.{read_steps, kind_exists}
 use Rattle.vq_plan_laws.proofs.Cited.{
   plan_well_formed,
   plan_lanes,
@@ -96,9 +95,6 @@ pub record Facts (p : Plan) : Type 0 where
   -- what a host step asks for is of chains that exist
   pub asked_chain : (j : ℕ) → All (λ n. n.chain < length p.script.semaphores) (asked p j)
   pub read_chain : (j t : ℕ) → question p j ≡ AsksValue t → t < length p.script.semaphores
-  -- these two fall with the first host step that can be written
-  pub batches : (j : ℕ) → is_host_step p j ≡ false
-  pub silent : (j : ℕ) → question p j ≡ Silent
   -- an operation stands in its chain at its place
   pub place : (e : ℕ) (o : Op) → slice_get p.ops e ≡ Some o → slice_get (chain p o.chain) o.index ≡ Some e
 
@@ -158,25 +154,6 @@ module _ (s : Script) (w : HasValidSteps s) where
       by_job (Some (Host x)) e h = of_step x.step (w j x e) h
       by_job (Some (Batch b)) e h = absurd (let z : Silent ≡ AsksValue t = h in cc)
 
-module _ (s : Script) (w : HasNoHostStep s) where
-  silent_question : (j : ℕ) → question (plan_of s) j ≡ Silent
-  silent_question j = part_is (λ x. x.question) Silent s j ∙ by_job (slice_get s.jobs j) refl
-    where
-      by_job : (o : Option Job) → slice_get s.jobs j ≡ o →
-          option_map_or (λ job. (plan_job s (j, job)).question) o Silent ≡ Silent
-      by_job None e = refl
-      by_job (Some (Host h)) e = absurd (w j h e)
-      by_job (Some (Batch b)) e = refl
-
-  no_host : (j : ℕ) → is_host_step (plan_of s) j ≡ false
-  no_host j = part_is (λ x. is_host_lane x.lane) false s j ∙ by_job (slice_get s.jobs j) refl
-    where
-      by_job : (o : Option Job) → slice_get s.jobs j ≡ o →
-          option_map_or (λ job. is_host_lane (plan_job s (j, job)).lane) o false ≡ false
-      by_job None e = refl
-      by_job (Some (Host h)) e = absurd (w j h e)
-      by_job (Some (Batch b)) e = refl
-
 -- a number of a list stands at its place
 pub at_place : (xs : List ℕ) (x : ℕ) → has xs x ≡ true → slice_get xs (position_or_len (λ k. k == x) xs) ≡ Some x
 at_place [] x h = absurd (false≢true h)
@@ -211,7 +188,6 @@ module _ (s : Script) (wf : IsWellFormed (plan_of s)) (sem : KeepsSemaphores (pl
 
 pub facts : (p : Plan) → IsPlan p → IsLawful p → Facts p
 facts p i l =
-    let hostless = read_hostless p.script i.of_script in
     let steps = read_steps p.script i.of_script in
     let wf = plan_well_formed p i in
     let sem = plan_semaphores p i in
@@ -225,9 +201,6 @@ facts p i l =
           i.lowered) (asked_exist p.script steps);
       read_chain = subst (λ (q : Plan). (j t : ℕ) → question q j ≡ AsksValue t → t < length q.script.semaphores) (sym
           i.lowered) (read_exists p.script steps);
-      batches = subst (λ (q : Plan). (j : ℕ) → is_host_step q j ≡ false) (sym i.lowered) (no_host p.script hostless);
-      silent = subst (λ (q : Plan). (j : ℕ) → question q j ≡ Silent) (sym i.lowered) (silent_question p.script
-          hostless);
       place = subst (λ (q : Plan). IsWellFormed q → KeepsSemaphores q → (e : ℕ) (o : Op) →
           slice_get q.ops e ≡ Some o → slice_get (chain q o.chain) o.index ≡ Some e) (sym i.lowered) (place_of_op
           p.script) wf sem;

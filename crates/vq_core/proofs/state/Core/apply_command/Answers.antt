@@ -139,11 +139,13 @@ invariant_of-self c =
     let same : fits.0 ≡ c.command-line.result.now.command = (let z = sym fits.1 ∙ command in cc) in
     core_next a k x g _ refl c.push_reserved.ensures.items (let e = c.push_reserved.ensures.capacity in omega arith)
     (record {
+      earlier = t.earlier;
       submitted = t.submitted;
       jobs = subst (AreJobs p w.released w.machine.progress.started w.machine.progress.finished
           w.machine.progress.made (w.machine.progress.applied ++ c.args.command ∷ [])) (sym c.put.ensures)
           (jobs_applied p w.released w.machine.progress.started w.machine.progress.finished w.machine.progress.made
           w.machine.progress.applied a.jobs t.jobs c.args.job exists c.at-state.result state f c.args.command here);
+      answers = t.answers;
       made = t.made;
       points = t.points;
       slots = t.slots;

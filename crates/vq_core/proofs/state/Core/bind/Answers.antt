@@ -117,8 +117,10 @@ invariant_of-self c =
     let after : c.bind.new.self ≡ after_bind l = on_ok c.bind.result ok c.bind.ensures.ok ∙ ap after_bind same in
     core_next a k x g _ refl c.push_reserved.ensures.items (let e = c.push_reserved.ensures.capacity in omega arith)
     (record {
+      earlier = t.earlier;
       submitted = t.submitted;
       jobs = t.jobs;
+      answers = t.answers;
       made = t.made;
       points = t.points;
       slots = t.slots;

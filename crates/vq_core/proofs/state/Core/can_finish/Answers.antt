@@ -19,4 +19,5 @@ returns c =
     let exists : c.args.job < length c.args.self.now.plan.jobs = omega arith in
     finish_iff c.args.self.now c.plan.ensures.course c.args.job exists c.holds_none.result
     (confirmed c.is_running.result c.is_running.ensures c.if-not-is_running.false)
-    (sym c.signals_done.ensures ∙ c.if-not-signals_done.false) c.holds_none.ensures
+    (sym c.signals_done.ensures ∙ c.if-not-signals_done.false) (sym c.is_settled.ensures ∙ c.if-not-is_settled.false)
+    c.holds_none.ensures

@@ -164,8 +164,10 @@ invariant_of-self c =
     let point_exists : c.unwrap-point.result < length p.ops = omega arith in
     core_next a k x g _ refl c.push_reserved.ensures.items (let e = c.push_reserved.ensures.capacity in omega arith)
     (record {
+      earlier = t.earlier;
       submitted = t.submitted;
       jobs = t.jobs;
+      answers = t.answers;
       made = t.made;
       points = t.points;
       slots = subst (λ (o : Option ℕ). ArePoints (length p.ops) w.carried (at_option {A = ℕ →

@@ -156,11 +156,13 @@ invariant_of-self c =
     at i) false) w.held) ∙ g.unreferring in
     core_next a k x g _ refl c.push_reserved.ensures.items (let e = c.push_reserved.ensures.capacity in omega arith)
     (record {
+      earlier = t.earlier;
       submitted = t.submitted;
       jobs = subst (AreJobs p w.released w.machine.progress.started (put w.machine.progress.finished c.args.job true)
           w.machine.progress.made w.machine.progress.applied) (sym c.put.ensures)
           (jobs_finished p w.released w.machine.progress.started w.machine.progress.finished w.machine.progress.made
           w.machine.progress.applied a.jobs t.jobs c.args.job exists c.at-state.result state);
+      answers = t.answers;
       made = t.made;
       points = t.points;
       slots = t.slots;

@@ -1,46 +1,17 @@
-use Rattle.std.proofs.Common.{◌≡◌, ◌<◌, ℕ, List, length, sym, ap, ◌∙◌, subst, Some}
-use Rattle.std.specs.Prelude.{All}
-use Rattle.std.specs.List.{slice_get, list_all}
-use Rattle.vq_model.specs.declared.plan.Need.{Need}
+use Rattle.std.proofs.Common.{◌∙◌, sym}
 use Rattle.vq_model.specs.Edges.{AtEnd}
-use Rattle.vq_model.specs.Machine.{are_reached, is_reached}
-use Rattle.vq_model.specs.Plan.{Plan}
-use Rattle.vq_spec.specs.SlowProgress.{payload_in}
-use Rattle.vq_core.specs.CoreState.{Course, world}
-use Rattle.vq_core.specs.Kept.{course_of}
-use Rattle.vq_core.proofs.Courses.{plan_facts}
-use Rattle.vq_core_laws.proofs.Cited.{Facts}
-use Rattle.vq_core.proofs.Jobs.{chains_there, reached_at_end}
+use Rattle.vq_core.specs.CoreState.{world}
+use Rattle.vq_core.proofs.Jobs.{for_all, for_any}
 use Rattle.vq_core.proofs.state.Core.is_reached_at_end.Goals as goal
 
-pub all_reached-requires : goal.all_reached-requires
-all_reached-requires c =
-    let s = course_of c.self.inside in
-    let j = c.args.job in
-    let x = c.job.result.now in
-    let at = subst (λ (p : Plan). slice_get p.jobs j ≡ Some x) (c.plan.ensures.value
-    ∙ ap (λ (s : Course). s.plan) (sym c.self.view_is)) c.job.ensures in
-    let f = subst (λ (s : Course). Facts s.plan) (sym c.self.view_is) (plan_facts c.args.self.now
-    c.plan.ensures.course) in
-    let there = chains_there s.plan j x at f (world s).machine.progress.payload c.self.inside.payloads.items
-    c.self.invariant.tells.payloads in
-    subst (λ (ns : List Need). All (λ (n : Need). n.chain < length c.as_slice.result.now) ns) (sym
-    c.as_slice-needs.ensures)
-    (subst (λ (ps : List ℕ). All (λ (n : Need). n.chain < length ps) x.needs) (sym c.as_slice.ensures.value) there)
+pub returns-then-waits_for_any : goal.returns-then-waits_for_any
+returns-then-waits_for_any c =
+    let s = c.args.self.now in
+    c.any_at_end.ensures ∙ sym (for_any s.plan (world s).machine.progress.payload c.args.job AtEnd
+    (sym c.waits_for_any.ensures ∙ c.if-waits_for_any.true))
 
 pub returns : goal.returns
 returns c =
-    let s = course_of c.self.inside in
-    let j = c.args.job in
-    let x = c.job.result.now in
-    let at = subst (λ (p : Plan). slice_get p.jobs j ≡ Some x) (c.plan.ensures.value
-    ∙ ap (λ (s : Course). s.plan) (sym c.self.view_is)) c.job.ensures in
-    let f = subst (λ (s : Course). Facts s.plan) (sym c.self.view_is) (plan_facts c.args.self.now
-    c.plan.ensures.course) in
-    let same : list_all (is_reached (payload_in c.as_slice.result.now)) c.as_slice-needs.result.now ≡ list_all
-    (is_reached (payload_in c.self.inside.payloads.items)) x.needs =
-    λ i. list_all (is_reached (payload_in (c.as_slice.ensures.value i))) (c.as_slice-needs.ensures i) in
-    subst (λ (s : Course). c.all_reached.result ≡ are_reached s.plan (world s).machine.progress.payload j AtEnd)
-    c.self.view_is
-    (c.all_reached.ensures ∙ (same ∙ reached_at_end s.plan j x at f (world s).machine.progress.payload
-    c.self.inside.payloads.items c.self.invariant.tells.payloads))
+    let s = c.args.self.now in
+    c.all_at_end.ensures ∙ sym (for_all s.plan (world s).machine.progress.payload c.args.job AtEnd
+    (sym c.waits_for_any.ensures ∙ c.if-waits_for_any.false))

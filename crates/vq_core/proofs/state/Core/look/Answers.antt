@@ -115,8 +115,10 @@ invariant_of-self c =
     (t.notes.each j e some) in
     core_next a k x g _ refl c.push_reserved.ensures.items (let e = c.push_reserved.ensures.capacity in omega arith)
     (record {
+      earlier = t.earlier;
       submitted = t.submitted;
       jobs = t.jobs;
+      answers = t.answers;
       made = t.made;
       points = t.points;
       slots = t.slots;

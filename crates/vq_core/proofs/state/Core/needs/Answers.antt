@@ -19,8 +19,3 @@ returns-clause-exist c =
     let p = c.args.self.now.plan in
     subst (λ (ns : List Need). All (λ (n : Need). n.chain < length p.chains) ns) (sym (returns-clause-value c))
     (needs_exist p (plan_facts c.args.self.now c.plan.ensures.course) c.args.job)
-
-pub returns-clause-all : goal.returns-clause-all
-returns-clause-all c =
-    let f = plan_facts c.args.self.now c.plan.ensures.course in
-    f.formed.waits_for_all c.args.job (f.batches c.args.job)

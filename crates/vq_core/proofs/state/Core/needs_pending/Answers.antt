@@ -12,5 +12,6 @@ returns c =
     let p = c.args.self.now.plan in
     let test : Need → Bool = λ n. nat_le n.value (initial p n.chain) || option_map_or (world c.args.self.now).bound
     (resolver p n.chain n.value) false in
+    let all = sym c.waits_for_any.ensures ∙ c.if-waits_for_any.false in
     c.are_pending.ensures ∙ (ap (list_all test) c.needs.ensures.value
-    ∙ ap (λ b. b || list_all test (needs p c.args.job)) (sym c.needs.ensures.all))
+    ∙ ap (λ b. b || list_all test (needs p c.args.job)) (sym all))

@@ -12,8 +12,10 @@ invariant_of-result c =
     let zeros = r.buffers ∙ ap zeros_of sizes in
     core_open _ c.plan.ensures.read c.plan.ensures.lawful r.history r.room r.few
     (record {
-      submitted = none_submitted (length p.jobs);
+      earlier = r.earlier;
+      submitted = none_submitted p;
       jobs = r.jobs;
+      answers = r.answers;
       made = r.made;
       points = refl;
       slots = r.slots;

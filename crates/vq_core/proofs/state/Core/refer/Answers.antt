@@ -300,8 +300,10 @@ invariant_of-self c =
     job.lane) r.actor) w.held + 1) (sym who) (actor_more (actor_of_lane job.lane) q e w.held) in
     core_next a k x g _ refl c.push_reserved.ensures.items (let e = c.push_reserved.ensures.capacity in omega arith)
     (record {
+      earlier = t.earlier;
       submitted = t.submitted;
       jobs = t.jobs;
+      answers = t.answers;
       made = t.made;
       points = t.points;
       slots = subst (ArePoints (length p.ops) w.carried w.waiting (record { actor = actor; point = q; op = e } ∷

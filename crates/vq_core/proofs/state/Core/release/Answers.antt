@@ -97,12 +97,14 @@ invariant_of-self c =
     g.in_order in
     core_next a k x g _ refl c.push_reserved.ensures.items (let e = c.push_reserved.ensures.capacity in omega arith)
     (record {
+      earlier = t.earlier;
       submitted = t.submitted;
       jobs = subst (λ (xs : List JobState). AreJobs p (after_event p w x).released (after_event p w
           x).machine.progress.started (after_event p w x).machine.progress.finished w.machine.progress.made
           w.machine.progress.applied xs) (sym c.put.ensures)
           (jobs_released p w.released w.machine.progress.started w.machine.progress.finished w.machine.progress.made
           w.machine.progress.applied a.jobs t.jobs c.args.job exists c.at-state.result state);
+      answers = t.answers;
       made = t.made;
       points = t.points;
       slots = t.slots;

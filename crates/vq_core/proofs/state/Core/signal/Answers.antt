@@ -166,11 +166,13 @@ invariant_of-self c =
     let value_is : value p c.args.op ≡ o.value = ap (λ y. option_map_or (λ (z : Op). z.value) y 0) at in
     core_next a k x g _ refl c.push_reserved.ensures.items (let e = c.push_reserved.ensures.capacity in omega arith)
     (signal_tells p w _ c.args.op o.chain of (record {
+      earlier = t.earlier;
       submitted = t.submitted;
       jobs = subst (AreJobs p w.released w.machine.progress.started w.machine.progress.finished (put
           w.machine.progress.made c.args.op true) w.machine.progress.applied) (sym c.put-2.ensures)
           (jobs_signaled p w.released w.machine.progress.started w.machine.progress.finished w.machine.progress.made
           w.machine.progress.applied a.jobs t.jobs o.job exists c.at-state.result state f c.args.op here);
+      answers = t.answers;
       made = subst (AreMade (length p.ops) (put w.machine.progress.made c.args.op true)) (sym c.put.ensures)
           (made_next (length p.ops) w.machine.progress.made a.made c.args.op t.made (op_within p c.args.op o.chain of));
       points = t.points;

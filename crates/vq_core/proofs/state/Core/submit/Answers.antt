@@ -1,11 +1,11 @@
-use Rattle.std.proofs.Common.{length, refl, sym, subst, arith}
+use Rattle.std.proofs.Common.{refl, sym, subst, arith}
 use Rattle.vq_model.specs.declared.plan.Event.TheVariants.{Submit}
 use Rattle.vq_points.specs.Points.{CanSubmit, after_event}
 use Rattle.vq_history_laws.specs.Histories.{points_after}
 use Rattle.vq_core.specs.CoreState.{Course, world}
 use Rattle.vq_core.proofs.EventParts.{batch_exists, submit_turn}
 use Rattle.vq_core.proofs.Pushes.{inside_facts, more_room, core_next}
-use Rattle.vq_core.proofs.TableLaws.{submitted_next}
+use Rattle.vq_core.proofs.SubmitLaws.{submitted_next, batches_most}
 use Rattle.vq_core.proofs.TimelineTables.{timelines_by}
 use Rattle.vq_core.proofs.state.Core.submit.Goals as goal
 
@@ -22,6 +22,7 @@ overflow_add-self c =
     let few = (inside_facts a k).lanes.few_jobs in
     let exists = batch_exists p j g.batch in
     let turn = submit_turn a k j g in
+    let most = batches_most p j in
     omega arith
 
 pub push_reserved-requires : goal.push_reserved-requires
@@ -52,8 +53,10 @@ invariant_of-self c =
     let turn = submit_turn a k j g in
     core_next a k x g _ refl c.push_reserved.ensures.items (let e = c.push_reserved.ensures.capacity in omega arith)
     (record {
-      submitted = submitted_next (length p.jobs) w.submitted a.submitted j t.submitted turn exists;
+      earlier = t.earlier;
+      submitted = submitted_next p w.submitted a.submitted j t.submitted g.batch turn exists;
       jobs = t.jobs;
+      answers = t.answers;
       made = t.made;
       points = t.points;
       slots = t.slots;

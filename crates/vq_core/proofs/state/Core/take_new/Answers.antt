@@ -154,8 +154,10 @@ invariant_of-self c =
     ∙ (λ i. after_take (same i) o.index (made i)) in
     core_next a k x g _ refl c.push_reserved.ensures.items (let e = c.push_reserved.ensures.capacity in omega arith)
     (record {
+      earlier = t.earlier;
       submitted = t.submitted;
       jobs = t.jobs;
+      answers = t.answers;
       made = t.made;
       points = ap (λ (n : ℕ). n + 1) t.points;
       slots = subst (ArePoints (length p.ops) (put w.carried c.args.point (Some c.args.op)) w.waiting w.held) (sym

@@ -289,8 +289,10 @@ invariant_of-self c =
     same_actor (actor_of_lane job.lane) r.actor) (without_first (is_reference actor q e) w.held) = omega arith in
     core_next a k x g _ refl c.push_reserved.ensures.items (let e = c.push_reserved.ensures.capacity in omega arith)
     (record {
+      earlier = t.earlier;
       submitted = t.submitted;
       jobs = t.jobs;
+      answers = t.answers;
       made = t.made;
       points = t.points;
       slots = subst (ArePoints (length p.ops) w.carried w.waiting (without_first (is_reference actor q e) w.held))
