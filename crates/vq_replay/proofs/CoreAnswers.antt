@@ -1,25 +1,8 @@
 -- What the calls over a core answer.
-use Rattle.std.proofs.Common.{◌≡◌, ℕ, zero, suc, ◌+◌, ◌<◌, Bool, true, false, List, [], ◌∷◌, ◌++◌, Option, Some, None}
-use Rattle.std.proofs.Common.{
-  Result,
-  Ok,
-  Err,
-  if◌then◌else◌,
-  find,
-  not,
-  refl,
-  sym,
-  subst,
-  ap,
-  ◌∙◌,
-  ◌^◌,
-  arith,
-  length,
-  append-nil,
-}
+use Rattle.std.proofs.Common.{◌≡◌, ℕ, Bool, true, false, List, [], ◌∷◌, ◌++◌, Option, Some, None}
+use Rattle.std.proofs.Common.{Result, Ok, Err, if◌then◌else◌, find, not, refl, sym, subst, ap, ◌∙◌, arith, append-nil}
 use Rattle.std.proofs.lemmas.List.Sums.{fold-append}
 use Rattle.std.specs.Borrow.{GName}
-use Rattle.std.specs.List.{slice_get}
 use Rattle.std.specs.Option.{option_map_or, unwrap_or}
 use Rattle.vq_model.specs.declared.script.ActorName.{ActorName}
 use Rattle.vq_model.specs.declared.plan.Event.{Event}
@@ -27,29 +10,20 @@ use Rattle.vq_points.specs.Points.{PointState, after_event, opening_points, is_p
 use Rattle.vq_turns.specs.declared.look.Found.{Found}
 use Rattle.vq_turns.specs.declared.outcome.Want.{Want}
 use Rattle.vq_turns.specs.Turns.{Place, forward, taken, taken_of, unbound_before, point_of, collected, to_free, found}
+use Rattle.vq_turns.specs.Turns.{past_value, seeing}
 use Rattle.vq_model.specs.declared.plan.Event.TheVariants.{Bind as Binds, Complete, Free}
 use Rattle.vq_model.specs.Plan.{Plan, has, chain, chain_of}
-use Rattle.vq_actor.specs.Meanings.{Recent, Other, Collected, Keeps}
+use Rattle.vq_actor.specs.Meanings.{Recent, Other, Collected, FoundAt, Keeps}
 use Rattle.vq_turns.specs.declared.look.Found.TheVariants.{NotYet}
 use Rattle.vq_model.proofs.Lists.{has_here, has-append_right}
 use Rattle.vq_actor.specs.Answers.{AnswersLook, AnswersTry, AnswersEvent, bound_first, signaled_or, bound_or}
-use Rattle.vq_actor.specs.Collections.{AnswersCollect, IsCollection}
+use Rattle.vq_actor.specs.Collections.{AnswersCollect, AnswersPast, IsCollection}
 use Rattle.vq_actor.specs.Waits.{AnswersFind, place_found, recent_found}
 use Rattle.vq_actor.specs.Wants.{IsBefore}
 use Rattle.vq_actor.specs.Collections.{IsTakeOf}
 use Rattle.vq_turns.specs.declared.outcome.Want.TheVariants.{Bound, Signaled, Next}
-use Rattle.vq_replay.specs.Seats.{place_at, place_with}
-use Rattle.vq_replay.specs.declared.seat.Awaiting.{Awaiting}
-use Rattle.vq_replay.specs.declared.seat.Awaiting.TheVariants.{Nothing, Held, Met}
-use Rattle.vq_replay.specs.declared.seat.Seat.{Seat}
 use Rattle.vq_core.specs.CoreState.{Course, world}
-use Rattle.vq_replay.specs.CoreAccesses.{IsNotSo, meaning_of, shown_by, with_event}
-
--- a place below the length of a list
-pub below : {A : Type 0} (xs : List A) (k : ℕ) (x : A) → slice_get xs k ≡ Some x → k < length xs
-below [] k x e = absurd (cc)
-below (y ∷ xs) zero x e = omega arith
-below (y ∷ xs) (suc k) x e = let h = below xs k x e in omega arith
+use Rattle.vq_replay.specs.CoreAccesses.{IsEmptied, IsNotSo, meaning_of, shown_by, with_event}
 
 some_same : (w v : PointState) → Some w ≡ Some v → w ≡ v
 some_same w v e = cc
@@ -131,50 +105,6 @@ module _ (l : List GName) (c : Course) (a : ActorName) (x : Place) (r : Recent) 
         state = λ v is. ap Some (world_of d event after
             ∙ ap (λ z. after_event c.plan z event) (some_same (world c) v is));
       }
-
--- the place of a position whose next task is done
-pub place_forward : (k : ℕ) (held : Awaiting) → place_with (k + 1) held ≡ forward (place_with k held)
-place_forward k Nothing = refl
-place_forward k (Held q e) = refl
-place_forward k (Met q e) = refl
-
-module _ (l : List GName) (c : Course) (a : ActorName) (x : Seat) (r : Recent) where
-  pub made_next : (d : Course) (expected : PointState → Result Event Want) (Names : Event →
-      Type 0) (event : Event) → d ≡ with_event c event → Ok event ≡ expected (world c) → Names event →
-      AnswersTry (meaning_of l c a (place_at x) r) (meaning_of l d a (place_at (record {
-        done = x.done + 1;
-        awaiting
-            = x.awaiting;
-      })) Other) (forward (place_at x)) expected Names (shown_by d) (Ok event)
-  made_next d expected Names event after e named =
-      made l c a (place_at x) r d (place_with (x.done + 1) x.awaiting) (forward (place_at x)) expected Names event
-      after (place_forward x.done x.awaiting) e named
-
-  pub event_next : (d : Course) (event : Event) → d ≡ with_event c event →
-      AnswersEvent (meaning_of l c a (place_at x) r) (meaning_of l d a (place_at (record {
-        done = x.done + 1;
-        awaiting = x.awaiting;
-      })) Other) (forward (place_at x)) event event
-  event_next d event after =
-      event_made l c a (place_at x) r d (place_with (x.done + 1) x.awaiting) (forward (place_at x)) event after
-      (place_forward x.done x.awaiting)
-
--- Positions
-
-pub done_at : (x : Seat) → (place_at x).done ≡ x.done
-done_at x = by_held x.awaiting
-  where
-    by_held : (held : Awaiting) → (place_with x.done held).done ≡ x.done
-    by_held Nothing = refl
-    by_held (Held q e) = refl
-    by_held (Met q e) = refl
-
--- one task more can be counted
-pub room : {A : Type 0} (xs : List A) (x : Seat) (t : A) → slice_get xs (place_at x).done ≡ Some t →
-    length xs < 2 ^ 64 → x.done + 1 < 2 ^ 64
-room xs x t e s =
-    let b = below xs x.done t (subst (λ (k : ℕ). slice_get xs k ≡ Some t) (done_at x) e) in
-    omega arith
 
 -- Expected events
 
@@ -318,6 +248,33 @@ module _ (l : List GName) (c : Course) (a : ActorName) (x : Place) (r : Recent) 
         true_of_state = λ u same. ap (λ z. found c.plan z t v) (sym (some_same (world c) u same)) ∙ is;
         shown = λ e yet s le. isnt e yet;
       }
+
+  -- The past value of a chain.
+  pub past_found : (y : Place) (t v past : ℕ) → past ≡ past_value c.plan (world c) t → y ≡ seeing x v past →
+      AnswersPast (meaning_of l c a x r) (meaning_of l c a y Other) t v past
+  past_found y t v past is at =
+      record {
+        kept = same_moment l c a x r c y Other refl;
+        state = refl;
+        events = refl;
+        place = at;
+        true_of_state = λ u same. is ∙ ap (λ z. past_value c.plan z t) (some_same (world c) u same);
+      }
+
+-- Recent calls
+
+-- after other calls than a collection that found nothing
+pub other_emptied : (c : Course) → IsEmptied c Other
+other_emptied c t e = absurd (cc)
+
+pub found_emptied : (c : Course) (k e q : ℕ) → IsEmptied c (FoundAt k e q)
+found_emptied c k e q t z = absurd (cc)
+
+-- after a collection that found nothing
+pub now_emptied : (c : Course) (u : ℕ) → collected c.plan (world c) u ≡ None → IsEmptied c (Collected u)
+now_emptied c u none t e =
+    let same : u ≡ t = cc in
+    subst (λ (v : ℕ). collected c.plan (world c) v ≡ None) same none
 
 pub none_of : (o : Option ℕ) → ((q : ℕ) → o ≡ Some q → ⊥) → o ≡ None
 none_of None h = refl

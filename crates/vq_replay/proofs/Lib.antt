@@ -1,12 +1,12 @@
-mod Batches
+mod AnswersKept
 mod Beyond
 mod CoreAnswers
-mod Hostless
+mod Holding
 mod Openings
+mod PastValues
 mod QueueCounts
 mod Scenes
 mod Schedules
 mod Serving
 mod TraceEnds
 mod Troupes
-mod Waiting

@@ -6,15 +6,12 @@ use Rattle.vq_model.specs.declared.script.ActorName.{ActorName}
 use Rattle.vq_model.specs.declared.script.ActorName.TheVariants.{Host as HostActor, Submit as SubmitActor}
 use Rattle.vq_model.specs.declared.script.ActorName.TheVariants.{Ring as RingActor}
 use Rattle.vq_model.specs.Plan.{Plan}
-use Rattle.vq_model.specs.LoweringFaults.{IsPlan}
 use Rattle.vq_points.specs.Points.{opening_points}
 use Rattle.vq_turns.specs.Turns.{first_place}
 use Rattle.vq_turn_laws.specs.TruePlaces.{AreTrueFor}
 use Rattle.vq_turn_laws.proofs.Cited.{opening_true}
 use Rattle.vq_actor.specs.Actors.{Acting, acting_at_first}
 use Rattle.vq_replay.specs.Casts.{AreFirst, IsPart, IsTroupe, at_queue, cast, first_places, no_actor, places_of}
-use Rattle.vq_replay.proofs.Batches.{all_of_batches}
-use Rattle.vq_replay.proofs.Hostless.{hostless}
 use Rattle.vq_replay.proofs.Troupes.{same_places}
 
 first_part : (p : Plan) (a : ActorName) (x : Acting) → x ≡ acting_at_first p a → IsPart p a x
@@ -48,16 +45,15 @@ module _ (p : Plan) (host : Acting) (submits rings : List Acting) (n : ℕ) (own
       let within : q < n = omega arith in
       first_part p (name q) (at_queue xs q) (h.each q within)
 
-  pub opens : IsPlan p → n ≡ length p.script.queues →
+  pub opens : n ≡ length p.script.queues →
       IsTroupe (cast (record { plan = p; history = [] }) host submits rings)
-  opens i all =
+  opens all =
       record {
         host_part = first_part p HostActor host own;
         submit_count = s.count ∙ all;
         submit_parts = parts SubmitActor submits s;
         ring_count = r.count ∙ all;
         ring_parts = parts RingActor rings r;
-        batches = all_of_batches p (hostless p i);
         stands =
             subst (AreTrueFor p (opening_points p)) (sym first_are) (λ a part. opening_true p a);
       }

@@ -5,6 +5,9 @@ use Rattle.std.proofs.Common.{
   ◌<◌,
   ◌^◌,
   ◌+◌,
+  ◌-◌,
+  ◌≤◌,
+  Bool,
   true,
   false,
   List,
@@ -18,7 +21,7 @@ use Rattle.std.proofs.Common.{
   subst,
   ap,
 }
-use Rattle.std.proofs.Common.{◌∙◌, ◌∷◌, []}
+use Rattle.std.proofs.Common.{◌∙◌, ◌∷◌, [], arith}
 use Rattle.std.specs.List.{slice_get}
 use Rattle.std.proofs.Math.Logic.{∥∥₁_elim}
 use Rattle.std.proofs.lemmas.List.Sums.{fold-append}
@@ -26,7 +29,8 @@ use Rattle.vq_model.specs.declared.script.ActorName.{ActorName}
 use Rattle.vq_model.specs.declared.plan.Event.{Event}
 use Rattle.vq_model.specs.declared.plan.Event.TheVariants.{Submit as Submits, Release as Releases, Bind as Binds}
 use Rattle.vq_model.specs.declared.plan.Event.TheVariants.{Start as Starts, Apply as Applies, Signal as Signals}
-use Rattle.vq_model.specs.declared.plan.Event.TheVariants.{Finish as Finishes, Refer, Look, Unref}
+use Rattle.vq_model.specs.declared.plan.Event.TheVariants.{Finish as Finishes, Answer as AnswersAs, Refer, Look, Unref}
+use Rattle.vq_model.specs.declared.plan.Question.{Question}
 use Rattle.vq_model.specs.declared.plan.Need.{Need}
 use Rattle.vq_model.specs.Plan.{Plan}
 use Rattle.vq_points.specs.Points.{PointState, after_event, opening_points}
@@ -42,12 +46,12 @@ use Rattle.vq_turns.specs.Turns.{
   held_for,
   holding_also,
 }
-use Rattle.vq_turns.specs.Turns.{without_first}
+use Rattle.vq_turns.specs.Turns.{without_first, answer_by, seeing, past_value}
 use Rattle.vq_turns.specs.declared.look.Found.TheVariants.{Past, Pending}
 use Rattle.vq_turns.specs.declared.look.Holding.{Holding}
 use Rattle.vq_turns.specs.declared.task.Task.{Task}
 use Rattle.vq_turns.specs.declared.task.Task.TheVariants.{AwaitNeeds, Submit, Take, Release, Bind, Start, Apply, Signal}
-use Rattle.vq_turns.specs.declared.task.Task.TheVariants.{Finish}
+use Rattle.vq_turns.specs.declared.task.Task.TheVariants.{Compare, Answer, Finish}
 use Rattle.vq_turns.specs.declared.outcome.Outcome.TheVariants.{Moved}
 use Rattle.vq_turn_laws.specs.PlanParts.{IsOrderly}
 use Rattle.vq_turn_laws.specs.TruePlaces.{IsTrueFor, IsTrueTurn}
@@ -64,52 +68,43 @@ use Rattle.vq_turn_laws.proofs.Cited.{
   call_signal,
 }
 use Rattle.vq_turn_laws.proofs.Cited.{call_finish, call_refer, call_look, call_unref, call_met, call_over}
-use Rattle.vq_replay.specs.Seats.{AreOfBatches, place_at, place_with}
-use Rattle.vq_replay.specs.declared.seat.Seat.{Seat}
+use Rattle.vq_turn_laws.proofs.Cited.{call_answer, call_compare, next_left}
+use Rattle.vq_replay.specs.Seats.{HoldsForNeeds, IsSeated}
 use Rattle.vq_core.specs.CoreState.{Course, IsCourse, world}
-use Rattle.vq_replay.specs.CoreAccesses.{with_event, meaning_of}
-use Rattle.vq_replay.specs.declared.seat.Awaiting.{Awaiting}
-use Rattle.vq_replay.specs.declared.seat.Awaiting.TheVariants.{Nothing, Held, Met}
-use Rattle.vq_actor.specs.Meanings.{Recent}
-use Rattle.vq_actor.specs.Waits.{MayLook, MayRefer, MayUnrefer, MayFind, looked_at, need_found, given_back, place_found}
-use Rattle.std.specs.Borrow.{GName}
-use Rattle.vq_replay.proofs.CoreAnswers.{place_forward}
-use Rattle.vq_replay.proofs.Waiting.{waits_for_one, first_of_one, first_need, held_first, held_now}
-use Rattle.vq_replay.proofs.Waiting.{holds_nothing, holds_unseen, holds_seen}
+use Rattle.vq_replay.specs.CoreAccesses.{with_event}
+use Rattle.vq_actor.specs.Answers.{answered}
+use Rattle.vq_actor.specs.Trackers.{Tracked, FitsIn}
+use Rattle.vq_actor.specs.Waits.{looked_at, given_back, met_at}
+use Rattle.vq_actor.proofs.Cited.{fits_short, fits_still, fits_forward, fits_answer, fits_see, fits_pass}
+use Rattle.vq_actor.proofs.Cited.{fits_give_back}
+use Rattle.vq_replay.proofs.Holding.{nothing_held, held_also, held_behind, need_of}
 
 -- one event more leads to the world after it
 pub world_after : (c d : Course) (event : Event) → d ≡ with_event c event → world d ≡ after_event c.plan (world c) event
 world_after c d event e =
     ap world e ∙ fold-append (after_event c.plan) (opening_points c.plan) c.history (event ∷ [])
 
+at_most : (m n : ℕ) → m ≡ n → m ≤ n
+at_most m n e = omega arith
+
 pub plan_after : (c d : Course) (event : Event) → d ≡ with_event c event → c.plan ≡ d.plan
 plan_after c d event e = sym (ap (λ (z : Course). z.plan) e)
 
-pub small_after : (c d : Course) (event : Event) → d ≡ with_event c event → (a : ActorName) →
-    length (program c.plan a) < 2 ^ 64 → length (program d.plan a) < 2 ^ 64
-small_after c d event e a s = subst (λ (p : Plan). length (program p a) < 2 ^ 64) (plan_after c d event e) s
+module _ (c : Course) (i : IsCourse c) (a : ActorName) (seat : Tracked) (s : IsSeated c a seat) where
+  abbrev x : Place
+  x = seat.place
 
-pub batches_after : (c d : Course) (event : Event) → d ≡ with_event c event → (a : ActorName) →
-    AreOfBatches (program c.plan a) → AreOfBatches (program d.plan a)
-batches_after c d event e a s = subst (λ (p : Plan). AreOfBatches (program p a)) (plan_after c d event e) s
+  abbrev tasks : List Task
+  tasks = program c.plan a
 
-module _ (c : Course) (i : IsCourse c) (a : ActorName) (x : Place) (t : ∥ IsTrueFor c.plan (world c) a x ∥₁) where
   pub here : IsTrueFor c.plan (world c) a x
-  here = ∥∥₁_elim t (true_for_prop c.plan (world c) a x) (λ z. z)
+  here = ∥∥₁_elim s.stands (true_for_prop c.plan (world c) a x) (λ z. z)
 
   pub orderly : IsOrderly c.plan
   orderly = plan_orderly c.plan i.read i.lawful
 
   pub at_world : Reached c.plan (world c)
   at_world = reached c.plan orderly c.history i.history_from
-
-  -- the place that a turn's event leads to is true
-  pub stands_after : (d : Course) (event : Event) (y z : Place) → d ≡ with_event c event → y ≡ z →
-      IsTrueTurn c.plan (world c) a (Moved event) y → ∥ IsTrueFor d.plan (world d) a z ∥₁
-  stands_after d event y z e same turn =
-      ∣ subst (λ (p : Plan). IsTrueFor p (world d) a z) (plan_after c d event e)
-      (subst (λ (w : PointState). IsTrueFor c.plan w a z) (sym (world_after c d event e))
-      (subst (λ (u : Place). IsTrueFor c.plan (after_event c.plan (world c) event) a u) same turn.2)) ∣₁
 
   -- The turns of tasks
 
@@ -154,119 +149,151 @@ module _ (c : Course) (i : IsCourse c) (a : ActorName) (x : Place) (t : ∥ IsTr
   turns_refer ns n m k need e q at none f = call_refer c.plan orderly (world c) at_world a x ns n here m k need e q
       at none f
 
-  pub turns_look : (ns : List Need) → IsNextTask (AwaitNeeds ns) → x.met ≡ false →
-      (k : ℕ) (need : Need) (g : Holding) → slice_get ns k ≡ Some need → held_for k x.holding ≡ Some g →
-      (world c).machine.progress.made g.op ≡ true → Turns (Look a g.point g.op) (record x { met = true })
-  turns_look ns n m k need g at is made = call_look c.plan orderly (world c) at_world a x ns n here m k need g at is
-      made
+  pub turns_look : (ns : List Need) → IsNextTask (AwaitNeeds ns) → x.met ≡ false → (k q e : ℕ) →
+      held_for k x.holding ≡ Some (record { need = k; point = q; op = e }) → (world c).machine.progress.made e ≡ true →
+      Turns (Look a q e) (looked_at x)
+  turns_look ns n m k q e is made =
+      let need = need_of tasks x ns n k q e is s.for_needs in
+      call_look c.plan orderly (world c) at_world a x ns n here m k need.0 (record { need = k; point = q; op = e })
+      need.1 is made
 
   pub turns_unref : (ns : List Need) → IsNextTask (AwaitNeeds ns) → x.met ≡ true →
       (g : Holding) (hs : List Holding) → x.holding ≡ g ∷ hs → Turns (Unref a g.point g.op) (without_first x hs)
   turns_unref ns n m g hs e = call_unref c.plan orderly (world c) at_world a x ns n here m g hs e
 
-  -- Looks that find their thing so
+  pub turns_answer : (j : ℕ) (q : Question) → IsNextTask (Answer j q) →
+      Turns (AnswersAs j (answer_by q x.seen)) (answered x)
+  turns_answer j q n = call_answer c.plan orderly (world c) at_world a x j q n here
 
-  pub looks_on : (u : Task) → IsNextTask u → is_plain u ≡ true →
-      is_waiting (u ∷ drop (x.done + 1) (program c.plan a)) ≡ false →
-      is_asking (u ∷ drop (x.done + 1) (program c.plan a)) ≡ false → IsDone (world c) u →
-      ∥ IsTrueFor c.plan (world c) a (forward x) ∥₁
-  looks_on u n plain w k done = ∣ goes_on c.plan orderly (world c) at_world a x u n here plain w k done ∣₁
+  -- the place that a turn's event leads to is true
+  pub seated_after : (d : Course) (event : Event) (y : Tracked) (z : Place) → d ≡ with_event c event → y.place ≡ z →
+      FitsIn tasks y → HoldsForNeeds tasks z → Turns event z → IsSeated d a y
+  seated_after d event y z e same fits held turn =
+      let plan = plan_after c d event e in
+      record {
+        fits = subst (λ (p : Plan). FitsIn (program p a) y) plan fits;
+        for_needs = subst (λ (p : Plan). HoldsForNeeds (program p a) y.place) plan
+            (subst (HoldsForNeeds tasks) (sym same) held);
+        stands = ∣ subst (λ (p : Plan). IsTrueFor p (world d) a y.place) plan
+            (subst (λ (w : PointState). IsTrueFor c.plan w a y.place) (sym (world_after c d event e))
+            (subst (λ (u : Place). IsTrueFor c.plan (after_event c.plan (world c) event) a u) (sym same) turn.2)) ∣₁;
+      }
 
-  -- a need that is past, where nothing is held
-  pub past_on : (ns : List Need) → IsNextTask (AwaitNeeds ns) → x.met ≡ false → (k : ℕ) (need : Need) →
-      slice_get ns k ≡ Some need → found c.plan (world c) need.chain need.value ≡ Some Past → x.holding ≡ [] →
-      ∥ IsTrueFor c.plan (world c) a (record (forward x) { holding = []; met = false }) ∥₁
-  past_on ns n m k need at f none =
-      ∣ call_over c.plan orderly (world c) at_world a (record x { met = true }) ns n (call_met c.plan orderly (world
-      c) at_world a x ns n here m k need at f) refl none ∣₁
+  -- a look leads to another place of the same world
+  seated_at : (y : Tracked) (z : Place) → y.place ≡ z → FitsIn tasks y → HoldsForNeeds tasks z →
+      IsTrueFor c.plan (world c) a z → IsSeated c a y
+  seated_at y z same fits held stands =
+      record {
+        fits = fits;
+        for_needs = subst (HoldsForNeeds tasks) (sym same) held;
+        stands = ∣ subst (IsTrueFor c.plan (world c) a) (sym same) stands ∣₁;
+      }
 
--- At positions
+  module _ (u : Task) (n : IsNextTask u) where
+    -- one task more can be counted
+    pub counts : x.done < 2 ^ 64 - 1
+    counts = fits_short tasks seat u n s.fits
 
-module _ (c : Course) (i : IsCourse c) (a : ActorName) (x : Seat) (t : ∥ IsTrueFor c.plan (world c) a (place_at x)
-    ∥₁) where
-  pub looks_next : (u : Task) → slice_get (program c.plan a) (place_at x).done ≡ Some u → is_plain u ≡ true →
-      is_waiting (u ∷ drop ((place_at x).done + 1) (program c.plan a)) ≡ false →
-      is_asking (u ∷ drop ((place_at x).done + 1) (program c.plan a)) ≡ false → IsDone (world c) u →
-      ∥ IsTrueFor c.plan (world c) a (place_with (x.done + 1) x.awaiting) ∥₁
-  looks_next u n plain w k done =
-      subst (λ (y : Place). ∥ IsTrueFor c.plan (world c) a y ∥₁) (sym (place_forward x.done x.awaiting))
-      (looks_on c i a (place_at x) t u n plain w k done)
+    -- between waits nothing is held
+    held_none : is_waiting (u ∷ drop (x.done + 1) tasks) ≡ false → x.holding ≡ []
+    held_none w = (subst (λ (ts : List Task). is_waiting ts ≡ false → (x.holding ≡ []) × (x.met ≡ false)) (next_left
+        x.done tasks u n) here.stands.between w).0
 
-  -- the place behind a task that makes its event
-  pub stands_next : (d : Course) (event : Event) → d ≡ with_event c event →
-      IsTrueTurn c.plan (world c) a (Moved event) (forward (place_at x)) →
-      ∥ IsTrueFor d.plan (world d) a (place_with (x.done + 1) x.awaiting) ∥₁
-  stands_next d event e turn =
-      stands_after c i a (place_at x) t d event (forward (place_at x)) (place_with (x.done + 1) x.awaiting) e (sym
-      (place_forward x.done x.awaiting)) turn
+    -- Collection on a chain, before a task.
+    pub seated_collected : (d : Course) (event : Event) → d ≡ with_event c event → Turns event x → IsSeated d a seat
+    seated_collected d event e turn = seated_after d event seat x e refl s.fits s.for_needs turn
+
+    module _ (w : is_waiting (u ∷ drop (x.done + 1) tasks) ≡ false) where
+      -- The event of a task that is no wait.
+      pub seated_next : (d : Course) (event : Event) (y : Tracked) → d ≡ with_event c event →
+          y ≡ record seat { place = forward x } → Turns event (forward x) → IsSeated d a y
+      seated_next d event y e same turn =
+          seated_after d event y (forward x) e (ap (λ (z : Tracked). z.place) same)
+          (fits_forward tasks seat u n s.fits y same) (nothing_held tasks (forward x) (held_none w)) turn
+
+      pub seated_answered : (d : Course) (event : Event) (y : Tracked) → d ≡ with_event c event →
+          y ≡ record seat { place = answered x } → Turns event (answered x) → IsSeated d a y
+      seated_answered d event y e same turn =
+          seated_after d event y (answered x) e (ap (λ (z : Tracked). z.place) same)
+          (fits_answer tasks seat u n s.fits y same) (nothing_held tasks (answered x) (held_none w)) turn
+
+      -- A look that finds its thing so.
+      pub seated_looked : (y : Tracked) → y ≡ record seat { place = forward x } → is_plain u ≡ true →
+          is_asking (u ∷ drop (x.done + 1) tasks) ≡ false → IsDone (world c) u → IsSeated c a y
+      seated_looked y same plain k done =
+          seated_at y (forward x) (ap (λ (z : Tracked). z.place) same) (fits_forward tasks seat u n s.fits y same)
+          (nothing_held tasks (forward x) (held_none w))
+          (goes_on c.plan orderly (world c) at_world a x u n here plain w k done)
+
+  -- A comparison with a chain's past value.
+  pub seated_seen : (chain v : ℕ) (n : IsNextTask (Compare chain v)) → collected c.plan (world c) chain ≡ None →
+      (y : Tracked) → y ≡ record seat { place = seeing x v (past_value c.plan (world c) chain) } → IsSeated c a y
+  seated_seen chain v n none y same =
+      let past = past_value c.plan (world c) chain in
+      seated_at y (seeing x v past) (ap (λ (z : Tracked). z.place) same)
+      (fits_see tasks seat (Compare chain v) n s.fits chain v past refl y same)
+      (nothing_held tasks (seeing x v past) (held_none (Compare chain v) n refl))
+      (call_compare c.plan orderly (world c) at_world a x chain v none n here)
 
   -- Waits
 
-  -- A look at the reference that is held: its event may come, and what the place becomes is true.
-  pub looks_at : (s : Recent) (l : List GName) (b : ActorName) (q e : ℕ) → AreOfBatches (program c.plan a) →
-      MayLook (meaning_of l c a (place_at x) s) b q e → (world c).machine.progress.made e ≡ true →
-      (looked_at (place_at x) ≡ place_with x.done (Met q e))
-      × IsTrueTurn c.plan (world c) a (Moved (Look a q e)) (place_with x.done (Met q e))
-  looks_at s l b q e alone m made =
-      let n = first_of_one m.needs (waits_for_one (program c.plan a) alone (place_at x).done m.needs m.is_next) in
-      let k = held_first x m.need (record { need = m.need; point = q; op = e }) m.held in
-      let held = holds_unseen x m.need q e k m.waiting m.held in
-      let after : looked_at (place_at x) ≡ place_with x.done (Met q e) = ap (λ (h : Awaiting). looked_at (place_with
-      x.done h)) held in
-      let turn = turns_look c i a (place_at x) t m.needs m.is_next m.waiting 0 n.0 (record {
-        need = 0;
-        point = q;
-        op
-            = e;
-      }) n.1 (held_now x q e held) made in
-      (after, subst (λ (y : Place). IsTrueTurn c.plan (world c) a (Moved (Look a q e)) y) after turn)
+  module _ (ns : List Need) (n : IsNextTask (AwaitNeeds ns)) where
+    wait : Task
+    wait = AwaitNeeds ns
 
-  -- A reference to the point that was found.
-  pub refers_to : (s : Recent) (l : List GName) (b : ActorName) (q e : ℕ) → AreOfBatches (program c.plan a) →
-      (m : MayRefer (meaning_of l c a (place_at x) s) b q e) →
-      (holding_also (place_at x) (need_found s) e q ≡ place_with x.done (Held q e))
-      × IsTrueTurn c.plan (world c) a (Moved (Refer a q e)) (place_with x.done (Held q e))
-  refers_to s l b q e alone m =
-      let one = waits_for_one (program c.plan a) alone (place_at x).done m.needs m.is_next in
-      let k : need_found s ≡ 0 = first_need m.needs one (need_found s) m.need m.at in
-      let held = holds_nothing x (need_found s) k m.waiting m.without in
-      let after : holding_also (place_at x) (need_found s) e q ≡ place_with x.done (Held q e) =
-      ap (λ (n : ℕ). holding_also (place_at x) n e q) k
-      ∙ ap (λ (h : Awaiting). holding_also (place_with x.done h) 0 e q) held in
-      let turn = turns_refer c i a (place_at x) t m.needs m.is_next m.waiting (need_found s) m.need e q m.at
-      m.without (m.pending (world c) refl) in
-      (after, subst (λ (y : Place). IsTrueTurn c.plan (world c) a (Moved (Refer a q e)) y) after turn)
+    -- A reference to the point that was found.
+    pub seated_referred : x.met ≡ false → (k : ℕ) (need : Need) (e q : ℕ) → slice_get ns k ≡ Some need →
+        (d : Course) (y : Tracked) → d ≡ with_event c (Refer a q e) →
+        y ≡ record seat { place = holding_also x k e q } → Turns (Refer a q e) (holding_also x k e q) →
+        IsSeated d a y
+    seated_referred m k need e q at d y after same turn =
+        let fits = fits_still tasks seat (AwaitNeeds ns) n s.fits y (ap (λ (z : Tracked). z.slots) same) (ap
+        (λ (z : Tracked). z.room) same) (ap (λ (z : Tracked). z.place.done) same)
+        (at_most (length y.place.seen) (length x.seen) (ap (λ (z : Tracked). length z.place.seen) same)) in
+        seated_after d (Refer a q e) y (holding_also x k e q) after (ap (λ (z : Tracked). z.place) same) fits
+        (held_also tasks x ns n k e q need at s.for_needs) turn
 
-  -- The reference is given back, and the actor goes on.
-  pub gives_up : (s : Recent) (l : List GName) (b : ActorName) (q e : ℕ) →
-      (m : MayUnrefer (meaning_of l c a (place_at x) s) b q e) →
-      (given_back (place_at x) (place_at x).holding ≡ place_with (x.done + 1) Nothing)
-      × IsTrueTurn c.plan (world c) a (Moved (Unref a q e)) (place_with (x.done + 1) Nothing)
-  gives_up s l b q e m =
-      let h : Holding = record { need = m.need; point = q; op = e } in
-      let seen = holds_seen x h m.rest m.met m.held in
-      let back : without_first (place_at x) m.rest ≡ place_with (x.done + 1) Nothing =
-      ap (without_first (place_at x)) seen.0 ∙ ap (λ (g : Awaiting). without_first (place_with x.done g) []) seen.1 in
-      let turn = turns_unref c i a (place_at x) t m.needs m.is_next m.met h m.rest m.held in (
-        ap (given_back (place_at x)) m.held ∙ back,
-        subst (λ (y : Place). IsTrueTurn c.plan (world c) a (Moved (Unref
-            a q e)) y) back turn,
-      )
+    -- A look at a reference, which ends the waiting.
+    pub seated_met : (d : Course) (event : Event) (y : Tracked) → d ≡ with_event c event →
+        y ≡ record seat { place = looked_at x } → Turns event (looked_at x) → IsSeated d a y
+    seated_met d event y after same turn =
+        let fits = fits_still tasks seat (AwaitNeeds ns) n s.fits y (ap (λ (z : Tracked). z.slots) same) (ap
+        (λ (z : Tracked). z.room) same) (ap (λ (z : Tracked). z.place.done) same)
+        (at_most (length y.place.seen) (length x.seen) (ap (λ (z : Tracked). length z.place.seen) same)) in
+        seated_after d event y (looked_at x) after (ap (λ (z : Tracked). z.place) same) fits s.for_needs turn
 
-  -- A need that is past: nothing is held, and the actor goes on.
-  pub goes_past : (s : Recent) (l : List GName) (k chain value : ℕ) → AreOfBatches (program c.plan a) →
-      MayFind (meaning_of l c a (place_at x) s) k chain value → found c.plan (world c) chain value ≡ Some Past →
-      (place_found (place_at x) Past ≡ place_with (x.done + 1) x.awaiting)
-      × ∥ IsTrueFor c.plan (world c) a (place_with (x.done + 1) x.awaiting) ∥₁
-  goes_past s l k chain value alone m past =
-      let one = waits_for_one (program c.plan a) alone (place_at x).done m.needs m.is_next in
-      let held = holds_nothing x k (first_need m.needs one k m.need m.at) m.waiting m.without in
-      let none : (place_at x).holding ≡ [] = ap (λ (h : Awaiting). (place_with x.done h).holding) held in
-      let here_past = ap₂ (found c.plan (world c)) m.chain m.value ∙ past in
-      let on = past_on c i a (place_at x) t m.needs m.is_next m.waiting k m.need m.at here_past none in
-      let behind : record (forward (place_at x)) { holding = []; met = false } ≡ place_with (x.done + 1) x.awaiting =
-      ap (λ (h : Awaiting). record (forward (place_with x.done h)) { holding = []; met = false }) held
-      ∙ ap (place_with (x.done + 1)) (sym held) in
-      let found_at : place_found (place_at x) Past ≡ place_with (x.done + 1) x.awaiting =
-      ap (λ (h : Awaiting). place_found (place_with x.done h) Past) held ∙ ap (place_with (x.done + 1)) (sym held) in
-      (found_at, subst (λ (y : Place). ∥ IsTrueFor c.plan (world c) a y ∥₁) behind on)
+    -- The first reference is given back; after the last one the actor goes on.
+    pub seated_returned : (g : Holding) (hs : List Holding) → x.holding ≡ g ∷ hs → (d : Course) (event : Event)
+        (y : Tracked) → d ≡ with_event c event → y ≡ record seat { place = given_back x x.holding } →
+        Turns event (without_first x hs) → IsSeated d a y
+    seated_returned g hs held d event y after same turn =
+        seated_after d event y (without_first x hs) after (ap (λ (z : Tracked). z.place) same
+        ∙ ap (given_back x) held) (fits_give_back tasks seat (AwaitNeeds ns) n s.fits y same) (by_rest hs held) turn
+      where
+        by_rest : (fs : List Holding) → x.holding ≡ g ∷ fs → HoldsForNeeds tasks (without_first x fs)
+        by_rest [] e = nothing_held tasks (without_first x []) refl
+        by_rest (f ∷ fs) e = held_behind tasks x ns n g f fs e s.for_needs
+
+    -- A need that is past: what is held has to be given back, and where nothing is the actor goes on.
+    pub seated_past : x.met ≡ false → (k : ℕ) (need : Need) → slice_get ns k ≡ Some need →
+        found c.plan (world c) need.chain need.value ≡ Some Past → (y : Tracked) →
+        y ≡ record seat { place = met_at x x.holding } → IsSeated c a y
+    seated_past m k need at f y same = by_holding x.holding refl
+      where
+        met_now : IsTrueFor c.plan (world c) a (looked_at x)
+        met_now = call_met c.plan orderly (world c) at_world a x ns n here m k need at f
+
+        is_at : (hs : List Holding) → x.holding ≡ hs → y.place ≡ met_at x hs
+        is_at hs e = ap (λ (z : Tracked). z.place) same ∙ ap (met_at x) e
+
+        by_holding : (hs : List Holding) → x.holding ≡ hs → IsSeated c a y
+        by_holding [] e =
+            let behind : record (forward x) { holding = []; met = false } ≡ forward x =
+            ap₂ (λ (hs : List Holding) (b : Bool). record (forward x) { holding = hs; met = b }) (sym e) (sym m) in
+            seated_at y (forward x) (is_at [] e) (fits_pass tasks seat (AwaitNeeds ns) n s.fits y same)
+            (nothing_held tasks (forward x) e)
+            (subst (IsTrueFor c.plan (world c) a) behind
+            (call_over c.plan orderly (world c) at_world a (looked_at x) ns n met_now refl e))
+        by_holding (h ∷ hs) e =
+            seated_at y (looked_at x) (is_at (h ∷ hs) e) (fits_pass tasks seat (AwaitNeeds ns) n s.fits y same)
+            s.for_needs met_now

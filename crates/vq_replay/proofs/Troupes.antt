@@ -38,7 +38,6 @@ use Rattle.vq_turn_laws.proofs.Cited.{all_true, plan_orderly, reached}
 use Rattle.vq_actor.specs.Actors.{Acting}
 use Rattle.vq_core.specs.CoreState.{Course, IsCourse, world}
 use Rattle.vq_replay.specs.CoreAccesses.{with_event}
-use Rattle.vq_replay.specs.Seats.{AreOfBatches}
 use Rattle.vq_replay.specs.Casts.{
   IsCast,
   TookTurn,
@@ -66,11 +65,10 @@ world_kept c Ended = refl
 
 -- An actor of the troupe is one of the core's plan, with a true place.
 pub cast_of : (c : Course) (name : ActorName) (x : Acting) → IsPart c.plan name x →
-    AreOfBatches (program c.plan name) → IsTrueFor c.plan (world c) name x.place → IsCast c x
-cast_of c name x part batches stands =
+    IsTrueFor c.plan (world c) name x.place → IsCast c x
+cast_of c name x part stands =
     record {
       tasks = part.tasks ∙ ap (program c.plan) (sym part.is);
-      batches = subst (λ (a : ActorName). AreOfBatches (program c.plan a)) (sym part.is) batches;
       stands = subst (λ (a : ActorName). IsTrueFor c.plan (world c) a x.place) (sym part.is) stands;
     }
 
@@ -114,15 +112,15 @@ same_places f g h = λ i a. h a i
 module _ (c : Course) (i : IsCourse c) (host : Acting) (submits rings : List Acting) (t : IsTroupe (cast c host
     submits rings)) where
   pub host_cast : IsCast c host
-  host_cast = cast_of c HostActor host t.host_part (t.batches HostActor) (t.stands HostActor tt)
+  host_cast = cast_of c HostActor host t.host_part (t.stands HostActor tt)
 
   pub submit_cast : (q : ℕ) → q < length submits → is_immediate_queue c.plan.script q ≡ false →
       IsCast c (at_queue submits q)
-  submit_cast q within apart = cast_of c (SubmitActor q) (at_queue submits q) (t.submit_parts q within) (t.batches
-      (SubmitActor q)) (t.stands (SubmitActor q) apart)
+  submit_cast q within apart = cast_of c (SubmitActor q) (at_queue submits q) (t.submit_parts q within)
+      (t.stands (SubmitActor q) apart)
 
   pub ring_cast : (q : ℕ) → q < length rings → IsCast c (at_queue rings q)
-  ring_cast q within = cast_of c (RingActor q) (at_queue rings q) (t.ring_parts q within) (t.batches (RingActor q))
+  ring_cast q within = cast_of c (RingActor q) (at_queue rings q) (t.ring_parts q within)
       (t.stands (RingActor q) tt)
 
   module _ (d : Course) (o : Outcome) where
@@ -136,10 +134,6 @@ module _ (c : Course) (i : IsCourse c) (host : Acting) (submits rings : List Act
       | inr n ↦ ap (λ (a : Acting). a.place) (get_or-set_other xs q k y no_actor n)
           ∙ sym (cond-false (k == q) y.place (at_queue xs k).place (ne_eqb k q n))
     ]
-
-    all_batches : d ≡ course_after c o → (a : ActorName) → AreOfBatches (program d.plan a)
-    all_batches e a = subst (λ (p : Plan). AreOfBatches (program p a)) (sym (ap (λ (z : Course). z.plan) e
-        ∙ plan_kept c o)) (t.batches a)
 
     count_kept : d ≡ course_after c o → (n : ℕ) → n ≡ length c.plan.script.queues → n ≡ length d.plan.script.queues
     count_kept e n h = h ∙ ap (λ (p : Plan). length p.script.queues) (sym (ap (λ (z : Course). z.plan) e
@@ -166,7 +160,6 @@ module _ (c : Course) (i : IsCourse c) (host : Acting) (submits rings : List Act
             submit_parts = λ q w. other_part c d o (SubmitActor q) (at_queue submits q) k.course (t.submit_parts q w);
             ring_count = count_kept k.course (length rings) t.ring_count;
             ring_parts = λ q w. other_part c d o (RingActor q) (at_queue rings q) k.course (t.ring_parts q w);
-            batches = all_batches k.course;
             stands = subst (AreTrueFor d.plan (world d)) (sym (host_moved y)) (true_after c d i (places_of host
                 submits rings) t.stands HostActor tt o y.place turned k.course);
           },
@@ -216,7 +209,6 @@ module _ (c : Course) (i : IsCourse c) (host : Acting) (submits rings : List Act
                 j) k.course (t.submit_parts j w));
             ring_count = count_kept k.course (length rings) t.ring_count;
             ring_parts = λ j w. other_part c d o (RingActor j) (at_queue rings j) k.course (t.ring_parts j w);
-            batches = all_batches k.course;
             stands = subst (AreTrueFor d.plan (world d)) (sym (submit_moved q y within)) (true_after c d i (places_of
                 host submits rings) t.stands (SubmitActor q) apart o y.place turned k.course);
           },
@@ -255,7 +247,6 @@ module _ (c : Course) (i : IsCourse c) (host : Acting) (submits rings : List Act
             ring_parts = parts_set RingActor rings q y within (part_kept c d o (RingActor q) (at_queue rings q) y
                 (t.ring_parts q within) k) (λ j w. other_part c d o (RingActor j) (at_queue rings j) k.course
                 (t.ring_parts j w));
-            batches = all_batches k.course;
             stands = subst (AreTrueFor d.plan (world d)) (sym (ring_moved q y within)) (true_after c d i (places_of
                 host submits rings) t.stands (RingActor q) tt o y.place turned k.course);
           },

@@ -16,7 +16,6 @@ use Rattle.vq_actor.specs.Actors.{Acting, acting_at_first}
 use Rattle.vq_core.specs.CoreState.{Course, world}
 use Rattle.vq_replay.specs.declared.played.Played.{Played}
 use Rattle.vq_replay.specs.CoreAccesses.{with_event}
-use Rattle.vq_replay.specs.Seats.{AreOfBatches}
 use Rattle.vq_replay.specs.Traces.{actors_of, events_of, numbered_from, played_turns}
 
 -- what an outcome leaves of a core
@@ -27,7 +26,6 @@ course_after c other = c
 -- An actor is one of the core's plan, and its place is true of the core.
 pub record IsCast (c : Course) (x : Acting) : Type 0 where
   pub tasks : x.tasks ≡ program c.plan x.name
-  pub batches : AreOfBatches (program c.plan x.name)
   pub stands : IsTrueFor c.plan (world c) x.name x.place
 
 -- A turn of an actor: its outcome and the place after it are those of the definition, the core has one event
@@ -87,7 +85,6 @@ pub record IsTroupe (x : Cast) : Type 0 where
   pub submit_parts : (q : ℕ) → q < length x.submits → IsPart x.course.plan (SubmitActor q) (at_queue x.submits q)
   pub ring_count : length x.rings ≡ length x.course.plan.script.queues
   pub ring_parts : (q : ℕ) → q < length x.rings → IsPart x.course.plan (RingActor q) (at_queue x.rings q)
-  pub batches : (a : ActorName) → AreOfBatches (program x.course.plan a)
   pub stands : AreTrueFor x.course.plan (world x.course) (places x)
 
 -- A turn of one actor: its outcome and the place after it are those of the definition, the core has one event

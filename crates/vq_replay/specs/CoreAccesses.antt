@@ -1,5 +1,5 @@
 -- What an access over a core means, and what its calls need of a true place. This project's own.
-use Rattle.std.specs.Prelude.{ℕ, ◌≡◌, false, List, [], ◌∷◌, ◌++◌, Some}
+use Rattle.std.specs.Prelude.{ℕ, ◌≡◌, false, List, [], ◌∷◌, ◌++◌, Some, None}
 use Rattle.std.specs.Borrow.{GName}
 use Rattle.vq_model.specs.declared.script.ActorName.{ActorName}
 use Rattle.vq_model.specs.declared.plan.Event.{Event}
@@ -7,7 +7,7 @@ use Rattle.vq_points.specs.Points.{PointState}
 use Rattle.vq_turns.specs.declared.outcome.Want.{Want}
 use Rattle.vq_turns.specs.declared.outcome.Want.TheVariants.{Submitted, Released, Bound, Next, Signaled, Finished}
 use Rattle.vq_turns.specs.declared.outcome.Want.TheVariants.{MemoryTurn, Exchange, Listed}
-use Rattle.vq_turns.specs.Turns.{Place}
+use Rattle.vq_turns.specs.Turns.{Place, collected}
 use Rattle.vq_actor.specs.Meanings.{Meaning, Recent, Other, Collected, FoundAt}
 use Rattle.vq_core.specs.CoreState.{Course, world}
 use Rattle.vq_replay.specs.declared.core_access.Last.{Last}
@@ -24,6 +24,10 @@ IsNotSo w (Finished j) = w.machine.progress.finished j ≡ false
 IsNotSo w MemoryTurn = ⊥
 IsNotSo w (Exchange e found) = ⊥
 IsNotSo w (Listed e) = ⊥
+
+-- Where the last call was a collection that found nothing, there is nothing to collect on its chain.
+abbrev pub IsEmptied : Course → Recent → Type 0
+IsEmptied c recent = (t : ℕ) → recent ≡ Collected t → collected c.plan (world c) t ≡ None
 
 abbrev pub recent_of : Last → Recent
 recent_of last_as.Other = Other

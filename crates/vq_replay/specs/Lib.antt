@@ -1,3 +1,4 @@
+pub mod Answered
 pub mod CoreAccesses
 pub mod Casts
 pub mod Seats

@@ -1,35 +1,31 @@
--- The place of an actor of batches, whose waits are for one need each. This project's own.
-use Rattle.std.specs.Prelude.{ℕ, ◌≡◌, Bool, true, false, List, [], ◌∷◌, All}
+-- The place of an actor as an access over a core keeps it. This project's own.
+use Rattle.std.specs.Prelude.{◌≡◌, ◌<◌, List, All, length, Some}
+use Rattle.std.specs.List.{slice_get}
+use Rattle.vq_model.specs.declared.script.ActorName.{ActorName}
 use Rattle.vq_model.specs.declared.plan.Need.{Need}
 use Rattle.vq_turns.specs.declared.task.Task.{Task}
-use Rattle.vq_turns.specs.declared.task.Task.TheVariants.{AwaitNeeds, Compare, Answer}
+use Rattle.vq_turns.specs.declared.task.Task.TheVariants.{AwaitNeeds}
+use Rattle.vq_turns.specs.Programs.{program}
 use Rattle.vq_turns.specs.Turns.{Place}
-use Rattle.vq_replay.specs.declared.seat.Awaiting.{Awaiting}
-use Rattle.vq_replay.specs.declared.seat.Awaiting.TheVariants.{Nothing, Held, Met}
-use Rattle.vq_replay.specs.declared.seat.Seat.{Seat}
+use Rattle.vq_turn_laws.specs.TruePlaces.{IsTrueFor}
+use Rattle.vq_actor.specs.Actors.{Acting}
+use Rattle.vq_actor.specs.Trackers.{Tracked, FitsIn}
+use Rattle.vq_core.specs.CoreState.{Course, world}
 
--- so many tasks are done, and this is held for the need that is waited for
-abbrev pub place_with : ℕ → Awaiting → Place
-place_with done Nothing = record { done = done; holding = []; met = false; seen = [] }
-place_with done (Held q e) =
-    record { done = done; holding = record { need = 0; point = q; op = e } ∷ []; met = false; seen = [] }
-place_with done (Met q e) =
-    record { done = done; holding = record { need = 0; point = q; op = e } ∷ []; met = true; seen = [] }
+-- Where a wait is next, each reference is held for one of its needs.
+abbrev pub HoldsForNeeds : List Task → Place → Type 0
+HoldsForNeeds tasks x =
+    (ns : List Need) → slice_get tasks x.done ≡ Some (AwaitNeeds ns) → All (λ h. h.need < length ns) x.holding
 
-abbrev pub place_at : Seat → Place
-place_at x = place_with x.done x.awaiting
+-- An access keeps the place of an actor of this name, with room for all that its tasks may add.
+pub record IsSeatOf (x : Acting) (name : ActorName) (seat : Tracked) : Type 0 where
+  pub is : x.name ≡ name
+  pub place : x.place ≡ seat.place
+  pub fits : FitsIn x.tasks seat
+  pub for_needs : HoldsForNeeds x.tasks seat.place
 
--- the tasks of batches: a wait is for one need, and nothing is compared or answered
-abbrev pub is_one : List Need → Bool
-is_one [] = false
-is_one (n ∷ []) = true
-is_one (n ∷ m ∷ ns) = false
-
-abbrev pub is_of_batch : Task → Bool
-is_of_batch (AwaitNeeds ns) = is_one ns
-is_of_batch (Compare t v) = false
-is_of_batch (Answer j asks) = false
-is_of_batch other = true
-
-abbrev pub AreOfBatches : List Task → Type 0
-AreOfBatches tasks = All (λ t. is_of_batch t ≡ true) tasks
+-- An access keeps the place of an actor of a core's plan, and the place is true of the core.
+pub record IsSeated (c : Course) (a : ActorName) (seat : Tracked) : Type 0 where
+  pub fits : FitsIn (program c.plan a) seat
+  pub for_needs : HoldsForNeeds (program c.plan a) seat.place
+  pub stands : ∥ IsTrueFor c.plan (world c) a seat.place ∥₁

@@ -21,7 +21,9 @@ fn queue_count(ordered: &Ordered) -> u32
 pub(crate) fn host_actor(alloc: Global, ordered: &Ordered) -> Result<Seated<HostActor>, AllocError>
     ensures { IfOk result (λ x. x ≡ acting_at_first ordered.now Name.Host) }
 {
-    Ok(Seated::at_first(ActorName::Host, HostActor::new(alloc, ordered)?))
+    let actor = HostActor::new(alloc, ordered)?;
+    let seat = actor.tracker(alloc)?;
+    Ok(Seated::at_first(ActorName::Host, actor, seat))
 }
 
 /// The submit actor of each queue.
@@ -34,7 +36,8 @@ pub(crate) fn submit_actors(
     let mut actors = Vec::new(alloc);
     for queue in 0..queue_count(ordered) {
         let actor = SubmitActor::new(alloc, ordered, queue)?;
-        actors.push(Seated::at_first(ActorName::Submit(queue), actor))?;
+        let seat = actor.tracker(alloc)?;
+        actors.push(Seated::at_first(ActorName::Submit(queue), actor, seat))?;
     }
     Ok(actors)
 }
@@ -49,7 +52,8 @@ pub(crate) fn ring_actors(
     let mut actors = Vec::new(alloc);
     for queue in 0..queue_count(ordered) {
         let actor = RingActor::new(alloc, ordered, queue)?;
-        actors.push(Seated::at_first(ActorName::Ring(queue), actor))?;
+        let seat = actor.tracker(alloc)?;
+        actors.push(Seated::at_first(ActorName::Ring(queue), actor, seat))?;
     }
     Ok(actors)
 }

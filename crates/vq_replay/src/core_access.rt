@@ -1,15 +1,14 @@
 //! The access round a core.
-ghost use Rattle.std.specs.Prelude.{◌≡◌, ◌<◌, ◌^◌, length};
-ghost use Rattle.vq_turns.specs.Programs.{program};
-ghost use Rattle.vq_turn_laws.specs.TruePlaces.{IsTrueFor};
+ghost use Rattle.std.specs.Prelude.{◌≡◌};
 ghost use Rattle.vq_actor.specs.Collections.{emptied};
-ghost use Rattle.vq_replay.specs.CoreAccesses.{recent_of};
-ghost use Rattle.vq_replay.specs.Seats.{place_at, AreOfBatches};
-ghost use Rattle.vq_core.specs.CoreState.{world};
+ghost use Rattle.vq_actor.specs.Waits.{need_found};
+ghost use Rattle.vq_replay.specs.CoreAccesses.{IsEmptied, recent_of};
+ghost use Rattle.vq_replay.specs.Seats.{IsSeated};
 
-use crate::looks::{collected, found, is_bound, keeps, point_of, taken, unbound_before};
-use crate::seat::{Awaiting, Seat};
-use vq_actor::{Access, Step};
+use crate::looks::{
+    collected, found, is_bound, keeps, past_value, point_of, taken, unbound_before,
+};
+use vq_actor::{Access, Step, Tracker};
 use vq_core::Core;
 use vq_model::plan::{Answer, Event};
 use vq_model::script::ActorName;
@@ -38,25 +37,34 @@ fn emptied_chain(last: Last) -> u32
     }
 }
 
+/// The need for which a pending operation was found last, 0 after another call.
+fn need_found(last: Last) -> usize
+    ensures { result ≡ need_found (recent_of last) }
+{
+    match last {
+        Last::FoundAt { need, .. } => need,
+        Last::Other => 0,
+        Last::Collected { .. } => 0,
+    }
+}
+
 /// A core with the place of one actor.
 #[derive(Drop)]
 pub struct CoreAccess<'a> {
     core: &'a mut Core,
+    seat: &'a mut Tracker,
     actor: ActorName,
-    seat: Seat,
     last: Last,
-    ghost small: { length (program core.now.plan actor) < 2 ^ 64 },
-    ghost batches: { AreOfBatches (program core.now.plan actor) },
-    ghost stands: { ∥ IsTrueFor core.now.plan (world core.now) actor (place_at seat) ∥₁ },
+    ghost seated: { IsSeated core.now actor seat.now },
+    ghost emptied: { IsEmptied core.now (recent_of last) },
 }
 
 impl<'a> Access for CoreAccess<'a> {
     ghost use Rattle.std.specs.Prelude.{[], ◌∷◌};
-    ghost use Rattle.vq_replay.specs.Seats.{place_at};
     ghost use Rattle.vq_replay.specs.CoreAccesses.{meaning_of, recent_of, shown_by};
 
-    ghost meaning = { λ x. meaning_of (x.core.ghost_name ∷ []) x.core.now x.actor
-        (place_at x.seat) (recent_of x.last) };
+    ghost meaning = { λ x. meaning_of (x.core.ghost_name ∷ x.seat.ghost_name ∷ []) x.core.now x.actor
+        x.seat.now.place (recent_of x.last) };
 
     ghost shows = { λ x. shown_by x.core.now };
 
@@ -69,7 +77,7 @@ impl<'a> Access for CoreAccess<'a> {
         keeps(self.core);
         let is = self.core.is_submitted(job);
         if is {
-            self.seat.done += 1;
+            self.seat.forward();
         }
         is
     }
@@ -79,7 +87,7 @@ impl<'a> Access for CoreAccess<'a> {
         keeps(self.core);
         let is = self.core.is_released(job);
         if is {
-            self.seat.done += 1;
+            self.seat.forward();
         }
         is
     }
@@ -89,7 +97,7 @@ impl<'a> Access for CoreAccess<'a> {
         keeps(self.core);
         let is = self.core.is_finished(job);
         if is {
-            self.seat.done += 1;
+            self.seat.forward();
         }
         is
     }
@@ -99,7 +107,7 @@ impl<'a> Access for CoreAccess<'a> {
         keeps(self.core);
         let is = is_bound(self.core, op);
         if is {
-            self.seat.done += 1;
+            self.seat.forward();
         }
         is
     }
@@ -110,7 +118,7 @@ impl<'a> Access for CoreAccess<'a> {
         match found {
             Found::Past => {
                 self.last = Last::Other;
-                self.seat.done += 1;
+                self.seat.pass();
             }
             Found::Pending { op, point } => self.last = Last::FoundAt { need, op, point },
             Found::NotYet { .. } => self.last = Last::Other,
@@ -119,8 +127,11 @@ impl<'a> Access for CoreAccess<'a> {
     }
 
     fn past(&mut self, chain: u32, wanted: u64) -> u64 {
-        let _ = (chain, wanted);
-        unreachable!()
+        self.last = Last::Other;
+        keeps(self.core);
+        let past = past_value(self.core, chain);
+        self.seat.see(wanted, past);
+        past
     }
 
     fn submit(&mut self, job: u32) -> Event {
@@ -128,7 +139,7 @@ impl<'a> Access for CoreAccess<'a> {
         keeps(self.core);
         self.core.apply(event);
         self.last = Last::Other;
-        self.seat.done += 1;
+        self.seat.forward();
         event
     }
 
@@ -152,7 +163,7 @@ impl<'a> Access for CoreAccess<'a> {
         let event = taken(self.core, op, emptied_chain(self.last));
         self.core.apply(event);
         self.last = Last::Other;
-        self.seat.done += 1;
+        self.seat.forward();
         Ok(event)
     }
 
@@ -161,7 +172,7 @@ impl<'a> Access for CoreAccess<'a> {
         keeps(self.core);
         self.core.apply(event);
         self.last = Last::Other;
-        self.seat.done += 1;
+        self.seat.forward();
         Ok(event)
     }
 
@@ -174,7 +185,7 @@ impl<'a> Access for CoreAccess<'a> {
         let event = Event::Bind { op, point };
         keeps(self.core);
         self.core.apply(event);
-        self.seat.done += 1;
+        self.seat.forward();
         Ok(event)
     }
 
@@ -182,8 +193,8 @@ impl<'a> Access for CoreAccess<'a> {
         let event = Event::Refer { actor, point, op };
         keeps(self.core);
         self.core.apply(event);
+        self.seat.refer(need_found(self.last), point, op);
         self.last = Last::Other;
-        self.seat.awaiting = Awaiting::Held { point, op };
         Ok(event)
     }
 
@@ -195,7 +206,7 @@ impl<'a> Access for CoreAccess<'a> {
         let event = Event::Look { actor, point, op };
         keeps(self.core);
         self.core.apply(event);
-        self.seat.awaiting = Awaiting::Met { point, op };
+        self.seat.meet();
         Ok(event)
     }
 
@@ -204,10 +215,7 @@ impl<'a> Access for CoreAccess<'a> {
         keeps(self.core);
         self.core.apply(event);
         self.last = Last::Other;
-        self.seat = Seat {
-            done: self.seat.done + 1,
-            awaiting: Awaiting::Nothing,
-        };
+        self.seat.give_back();
         Ok(event)
     }
 
@@ -216,7 +224,7 @@ impl<'a> Access for CoreAccess<'a> {
         keeps(self.core);
         self.core.apply(event);
         self.last = Last::Other;
-        self.seat.done += 1;
+        self.seat.forward();
         event
     }
 
@@ -225,7 +233,7 @@ impl<'a> Access for CoreAccess<'a> {
         keeps(self.core);
         self.core.apply(event);
         self.last = Last::Other;
-        self.seat.done += 1;
+        self.seat.forward();
         Ok(event)
     }
 
@@ -237,7 +245,7 @@ impl<'a> Access for CoreAccess<'a> {
         let event = Event::Signal { op };
         keeps(self.core);
         self.core.apply(event);
-        self.seat.done += 1;
+        self.seat.forward();
         Ok(event)
     }
 
@@ -246,13 +254,17 @@ impl<'a> Access for CoreAccess<'a> {
         keeps(self.core);
         self.core.apply(event);
         self.last = Last::Other;
-        self.seat.done += 1;
+        self.seat.forward();
         event
     }
 
     fn answer(&mut self, job: u32, answer: Answer) -> Event {
-        let _ = (job, answer);
-        unreachable!()
+        let event = Event::Answer { job, answer };
+        keeps(self.core);
+        self.core.apply(event);
+        self.last = Last::Other;
+        self.seat.answer();
+        event
     }
 }
 
@@ -262,26 +274,18 @@ impl<'a> CoreAccess<'a> {
     ghost use Rattle.vq_replay.specs.CoreAccesses.{meaning_of};
 
     /// An access of an actor at its place.
-    pub(crate) fn new(core: &'a mut Core, actor: ActorName, seat: Seat) -> CoreAccess<'a>
-        requires small { length (program core.old.plan actor) < 2 ^ 64 }
-        requires batches { AreOfBatches (program core.old.plan actor) }
-        requires stands { IsTrueFor core.old.plan (world core.old) actor (place_at seat) }
+    pub(crate) fn new(core: &'a mut Core, seat: &'a mut Tracker, actor: ActorName) -> CoreAccess<'a>
+        requires { IsSeated core.old actor seat.old }
         ensures meaning { ⟦<CoreAccess<'a> as Access>⟧.meaning result ≡ meaning_of
-            (core.entry.ghost_name ∷ []) core.old actor (place_at seat) Other }
-        ensures keeps { result.core.ghost_name ≡ core.entry.ghost_name }
+            (core.entry.ghost_name ∷ seat.entry.ghost_name ∷ []) core.old actor seat.old.place Other }
+        ensures keeps_core { result.core.ghost_name ≡ core.entry.ghost_name }
+        ensures keeps_seat { result.seat.ghost_name ≡ seat.entry.ghost_name }
     {
         CoreAccess {
             core,
-            actor,
             seat,
+            actor,
             last: Last::Other,
         }
-    }
-
-    /// The place that it keeps.
-    pub(crate) fn seat(&self) -> Seat
-        ensures { place_at result ≡ (⟦<CoreAccess<'a> as Access>⟧.meaning self.now).place }
-    {
-        self.seat
     }
 }

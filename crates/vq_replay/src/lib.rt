@@ -3,11 +3,12 @@
 #![tactic(auto)]
 
 mod actors;
+mod answer_text;
+mod answers;
 mod core_access;
 mod looks;
 mod played;
 mod schedule;
-mod seat;
 mod seated;
 mod text;
 mod trace;

@@ -1,7 +1,7 @@
 //! Looks at a core, for numbers that may be out of range.
 ghost use Rattle.std.specs.Prelude.{◌≡◌, ◌||◌, Some, nat_le, is_some, true};
 ghost use Rattle.vq_model.specs.Plan.{initial, resolver, chain_of};
-ghost use Rattle.vq_turns.specs.Turns.{collected, found, taken, unbound_before};
+ghost use Rattle.vq_turns.specs.Turns.{collected, found, past_value, taken, unbound_before};
 ghost use Rattle.vq_core.specs.CoreState.{IsCourse, world};
 
 use vq_core::Core;
@@ -54,6 +54,16 @@ pub(crate) fn found(core: &Core, chain: u32, value: u64) -> Found
         return Found::Past;
     }
     core.found(chain, value)
+}
+
+/// The past value of a chain, 0 for a chain that isn't there.
+pub(crate) fn past_value(core: &Core, chain: u32) -> u64
+    ensures { result ≡ past_value core.now.plan (world core.now) chain }
+{
+    if chain >= core.ordered().plan().chains() {
+        return 0;
+    }
+    core.timeline(chain).past()
 }
 
 /// What a collection on a chain makes.

@@ -1,13 +1,13 @@
 //! An actor with the place that an access over a core keeps for it.
-ghost use Rattle.std.specs.Prelude.{◌≡◌, length};
+ghost use Rattle.std.specs.Prelude.{◌≡◌};
 ghost use Rattle.vq_turns.specs.Turns.{first_place};
 ghost use Rattle.vq_actor.specs.Actors.{Acting, IsServed, IsTurn};
+ghost use Rattle.vq_actor.specs.Trackers.{FitsIn};
 ghost use Rattle.vq_replay.specs.Casts.{IsCast, TookTurn};
 
 use crate::core_access::CoreAccess;
-use crate::seat::{Awaiting, Seat};
 use std::marker::Model;
-use vq_actor::{Access, HostActor, RingActor, SubmitActor};
+use vq_actor::{Access, HostActor, RingActor, SubmitActor, Tracker};
 use vq_core::Core;
 use vq_model::script::ActorName;
 use vq_turns::outcome::Outcome;
@@ -15,9 +15,6 @@ use vq_turns::outcome::Outcome;
 /// An actor of any kind.
 pub(crate) trait TakesTurns {
     ghost acting: { Self → Acting };
-
-    fn task_count(&self) -> usize
-        ensures { result ≡ length (acting self.now).tasks };
 
     fn turn<A: Access>(&mut self, access: &mut A) -> Outcome
         requires { IsServed (acting self.old) (A.meaning access.old) }
@@ -30,10 +27,6 @@ pub(crate) trait TakesTurns {
 impl TakesTurns for HostActor {
     ghost acting = { λ a. a };
 
-    fn task_count(&self) -> usize {
-        HostActor::task_count(self)
-    }
-
     fn turn<A: Access>(&mut self, access: &mut A) -> Outcome {
         HostActor::turn(self, access)
     }
@@ -42,10 +35,6 @@ impl TakesTurns for HostActor {
 impl TakesTurns for SubmitActor {
     ghost acting = { λ a. a };
 
-    fn task_count(&self) -> usize {
-        SubmitActor::task_count(self)
-    }
-
     fn turn<A: Access>(&mut self, access: &mut A) -> Outcome {
         SubmitActor::turn(self, access)
     }
@@ -53,10 +42,6 @@ impl TakesTurns for SubmitActor {
 
 impl TakesTurns for RingActor {
     ghost acting = { λ a. a };
-
-    fn task_count(&self) -> usize {
-        RingActor::task_count(self)
-    }
 
     fn turn<A: Access>(&mut self, access: &mut A) -> Outcome {
         RingActor::turn(self, access)
@@ -68,32 +53,29 @@ impl TakesTurns for RingActor {
 pub(crate) struct Seated<T: TakesTurns> {
     name: ActorName,
     actor: T,
-    seat: Seat,
+    seat: Tracker,
 }
 
 impl<T: TakesTurns> Model for Seated<T> {
-    ghost use Rattle.std.specs.Prelude.{◌≡◌};
     ghost use Rattle.vq_actor.specs.Actors.{Acting};
-    ghost use Rattle.vq_replay.specs.Seats.{place_at};
+    ghost use Rattle.vq_replay.specs.Seats.{IsSeatOf};
 
     ghost Value = { Acting };
 
     ghost view = { λ a. T.acting a.actor };
 
-    ghost invariant = { λ a. ((T.acting a.actor).name ≡ a.name) × ((T.acting a.actor).place ≡ place_at a.seat) };
+    ghost invariant = { λ a. IsSeatOf (T.acting a.actor) a.name a.seat };
 }
 
 impl<T: TakesTurns> Seated<T> {
-    /// An actor before its first turn.
-    pub(crate) fn at_first(name: ActorName, actor: T) -> Seated<T>
+    /// An actor before its first turn, with its place for an access.
+    pub(crate) fn at_first(name: ActorName, actor: T, seat: Tracker) -> Seated<T>
         requires name { (T.acting actor).name ≡ name }
         requires place { (T.acting actor).place ≡ first_place }
+        requires seat { seat.place ≡ first_place }
+        requires fits { FitsIn (T.acting actor).tasks seat }
         ensures { result ≡ T.acting actor }
     {
-        let seat = Seat {
-            done: 0,
-            awaiting: Awaiting::Nothing,
-        };
         Seated { name, actor, seat }
     }
 
@@ -102,10 +84,7 @@ impl<T: TakesTurns> Seated<T> {
         requires { IsCast core.old self.old }
         ensures { TookTurn core.old core.new self.old self.new result }
     {
-        let _short = self.actor.task_count();
-        let mut access = CoreAccess::new(core, self.name, self.seat);
-        let outcome = self.actor.turn(&mut access);
-        self.seat = access.seat();
-        outcome
+        let mut access = CoreAccess::new(core, &mut self.seat, self.name);
+        self.actor.turn(&mut access)
     }
 }

@@ -5,7 +5,7 @@ ghost use Rattle.vq_model.specs.OutputText.{line_feed};
 ghost use Rattle.vq_core.specs.CoreState.{world};
 ghost use Rattle.vq_replay.specs.Traces.{finished_text, trace_text};
 
-use crate::looks::keeps;
+use crate::answers::push_answers;
 use crate::schedule::Replayed;
 use crate::trace::push_turns;
 use std::alloc::{AllocError, Global};
@@ -22,20 +22,20 @@ fn push_unfinished(alloc: Global, out: &mut Vec<u8>, left: u32) -> Result<(), Al
     Ok(())
 }
 
-/// Adds the end of a trace that leaves no job: the buffers. Nothing is answered, as scripts have no host steps.
+/// Adds the end of a trace that leaves no job: what was answered, and the buffers.
 fn push_finished(alloc: Global, out: &mut Vec<u8>, core: &Core) -> Result<(), AllocError>
     ensures { OnOk result (out.new.items
         ≡ out.old.items ++ finished_text core.now.plan (world core.now).machine) }
 {
-    keeps(core);
     out.extend_from_slice(b"finished\n")?;
+    push_answers(alloc, out, core)?;
     let buffers = buffers_text(alloc, core.ordered().plan(), core.buffers())?;
     out.extend_from_slice(buffers.as_slice())?;
     Ok(())
 }
 
-/// The text of a schedule that was played: a line for each turn, and then what it leaves: the buffers, or how
-/// many jobs aren't finished. The error is want of memory.
+/// The text of a schedule that was played: a line for each turn, and then what it leaves: the answers and
+/// the buffers, or how many jobs aren't finished. The error is want of memory.
 ///
 /// Source: this project's rule.
 pub fn trace_text(alloc: Global, replayed: &Replayed) -> Result<Vec<u8>, AllocError>

@@ -1,42 +1,40 @@
-use Rattle.std.proofs.Common.{[], ◌∷◌, Ok, refl, arith}
+use Rattle.std.proofs.Common.{[], ◌∷◌, Ok, refl, ap}
 use Rattle.vq_model.specs.declared.plan.Event.TheVariants.{Apply}
 use Rattle.vq_turns.specs.declared.task.Task.TheVariants.{Apply as Next}
-use Rattle.vq_turns.specs.Programs.{program}
+use Rattle.vq_turns.specs.Turns.{forward}
 use Rattle.vq_actor.specs.Answers.{Is}
-use Rattle.vq_replay.specs.Seats.{place_at}
+use Rattle.vq_actor.specs.Trackers.{Tracked}
 use Rattle.vq_replay.specs.CoreAccesses.{recent_of}
-use Rattle.vq_replay.proofs.CoreAnswers.{made_next, room}
-use Rattle.vq_replay.proofs.Serving.{turns_apply, small_after, batches_after, stands_next}
+use Rattle.vq_replay.proofs.CoreAnswers.{made, other_emptied}
+use Rattle.vq_replay.proofs.Serving.{turns_apply, counts, seated_next}
 use Rattle.vq_replay.proofs.core_access.CoreAccessAccess.apply.Goals as goal
 
 pub apply-requires : goal.apply-requires
 apply-requires c =
     let x = c.args.self.now in
-    (turns_apply x.core.now c.keeps.ensures x.actor (place_at x.seat) x.stands c.args.job c.args.command c.requires).0
+    (turns_apply x.core.now c.keeps.ensures x.actor x.seat.now x.seated c.args.job c.args.command c.requires).0
 
-pub overflow_add-self : goal.overflow_add-self
-overflow_add-self c =
+pub forward-requires : goal.forward-requires
+forward-requires c =
     let x = c.args.self.now in
-    let r = room (program x.core.now.plan x.actor) x.seat (Next c.args.job c.args.command) c.requires x.small in
-    omega arith
+    counts x.core.now c.keeps.ensures x.actor x.seat.now x.seated (Next c.args.job c.args.command) c.requires
 
 pub invariant_of-self : goal.invariant_of-self
 invariant_of-self c =
     let x = c.args.self.now in
-    let p = place_at x.seat in
     let d = x.core.now in
-    let v = c.apply.new.self in
     let event = Apply c.args.job c.args.command in
-    let turn = turns_apply d c.keeps.ensures x.actor p x.stands c.args.job c.args.command c.requires in
+    let turn = turns_apply d c.keeps.ensures x.actor x.seat.now x.seated c.args.job c.args.command c.requires in
     record {
-      small = small_after d v event c.apply.ensures x.actor x.small;
-      batches = batches_after d v event c.apply.ensures x.actor x.batches;
-      stands = stands_next d c.keeps.ensures x.actor x.seat x.stands v event c.apply.ensures turn;
+      seated = seated_next d c.keeps.ensures x.actor x.seat.now x.seated (Next c.args.job c.args.command) c.requires
+          refl c.apply.new.self event c.forward.new.self c.apply.ensures c.forward.ensures turn;
+      emptied = other_emptied c.apply.new.self;
     }
 
 pub returns-clause-answer : goal.returns-clause-answer
 returns-clause-answer c =
     let x = c.args.self.now in
     let event = Apply c.args.job c.args.command in
-    made_next (x.core.ghost_name ∷ []) x.core.now x.actor x.seat (recent_of x.last)
-    c.apply.new.self (λ w. Ok event) (Is event) event c.apply.ensures refl refl
+    made (x.core.ghost_name ∷ x.seat.ghost_name ∷ []) x.core.now x.actor x.seat.now.place (recent_of x.last)
+    c.apply.new.self c.forward.new.self.place (forward x.seat.now.place) (λ w. Ok event) (Is event) event
+    c.apply.ensures (ap (λ (t : Tracked). t.place) c.forward.ensures) refl refl

@@ -1,33 +1,30 @@
-use Rattle.std.proofs.Common.{[], ◌∷◌, refl, sym, ◌∙◌}
-use Rattle.vq_replay.specs.Seats.{place_at}
+use Rattle.std.proofs.Common.{[], ◌∷◌, sym, ◌∙◌}
 use Rattle.vq_replay.specs.CoreAccesses.{recent_of}
-use Rattle.vq_replay.proofs.CoreAnswers.{collection_made}
-use Rattle.vq_replay.proofs.Serving.{turns_collect, small_after, batches_after, stands_after}
+use Rattle.vq_replay.proofs.CoreAnswers.{collection_made, other_emptied}
+use Rattle.vq_replay.proofs.Serving.{turns_collect, seated_collected}
 use Rattle.vq_replay.proofs.core_access.CoreAccessAccess.collect.Goals as goal
 
 pub apply-requires : goal.apply-requires
 apply-requires c =
     let x = c.args.self.now in
-    (turns_collect x.core.now c.keeps.ensures x.actor (place_at x.seat) x.stands c.requires.task c.requires.is_next
+    (turns_collect x.core.now c.keeps.ensures x.actor x.seat.now x.seated c.requires.task c.requires.is_next
     c.args.chain c.in-Some.event (sym c.collected.ensures ∙ c.in-Some.is)).0
 
 pub invariant_of-self : goal.invariant_of-self
 invariant_of-self c =
     let x = c.args.self.now in
     let d = x.core.now in
-    let v = c.apply.new.self in
     let event = c.in-Some.event in
-    let turn = turns_collect d c.keeps.ensures x.actor (place_at x.seat) x.stands c.requires.task c.requires.is_next
+    let turn = turns_collect d c.keeps.ensures x.actor x.seat.now x.seated c.requires.task c.requires.is_next
     c.args.chain event (sym c.collected.ensures ∙ c.in-Some.is) in
     record {
-      small = small_after d v event c.apply.ensures x.actor x.small;
-      batches = batches_after d v event c.apply.ensures x.actor x.batches;
-      stands = stands_after d c.keeps.ensures x.actor (place_at x.seat) x.stands v event (place_at x.seat) (place_at
-          x.seat) c.apply.ensures refl turn;
+      seated = seated_collected d c.keeps.ensures x.actor x.seat.now x.seated c.requires.task c.requires.is_next
+          c.apply.new.self event c.apply.ensures turn;
+      emptied = other_emptied c.apply.new.self;
     }
 
 pub returns-in-Some : goal.returns-in-Some
 returns-in-Some c =
     let x = c.args.self.now in
-    collection_made (x.core.ghost_name ∷ []) x.core.now x.actor (place_at x.seat) (recent_of x.last)
+    collection_made (x.core.ghost_name ∷ x.seat.ghost_name ∷ []) x.core.now x.actor x.seat.now.place (recent_of x.last)
     c.apply.new.self c.args.chain c.in-Some.event c.apply.ensures (sym c.collected.ensures ∙ c.in-Some.is)

@@ -1,53 +1,68 @@
-use Rattle.std.proofs.Common.{[], ◌∷◌, Ok, refl, sym, subst}
+use Rattle.std.proofs.Common.{[], ◌∷◌, Ok, ℕ, ◌≡◌, ◌<◌, None, refl, sym, subst, ap, ◌∙◌}
 use Rattle.vq_model.specs.declared.script.ActorName.{ActorName}
 use Rattle.vq_model.specs.declared.plan.Event.TheVariants.{Refer}
 use Rattle.vq_points.specs.Points.{CanCome}
-use Rattle.vq_turns.specs.declared.outcome.Outcome.TheVariants.{Moved}
-use Rattle.vq_turn_laws.specs.TruePlaces.{IsTrueTurn}
+use Rattle.vq_turns.specs.declared.task.Task.TheVariants.{AwaitNeeds}
+use Rattle.vq_turns.specs.Programs.{program}
+use Rattle.vq_turns.specs.Turns.{held_for, holding_also}
 use Rattle.vq_actor.specs.Answers.{Is}
+use Rattle.vq_actor.specs.Trackers.{Tracked}
 use Rattle.vq_actor.specs.Waits.{need_found}
-use Rattle.vq_replay.specs.declared.seat.Awaiting.TheVariants.{Held}
-use Rattle.vq_replay.specs.Seats.{place_at, place_with}
-use Rattle.vq_replay.specs.CoreAccesses.{recent_of}
+use Rattle.vq_actor.proofs.Cited.{fits_need}
 use Rattle.vq_core.specs.CoreState.{world}
-use Rattle.vq_turns.specs.Turns.{holding_also}
-use Rattle.vq_replay.proofs.CoreAnswers.{made}
-use Rattle.vq_replay.proofs.Serving.{refers_to, small_after, batches_after, stands_after}
+use Rattle.vq_replay.specs.CoreAccesses.{recent_of, with_event}
+use Rattle.vq_replay.proofs.CoreAnswers.{made, other_emptied}
+use Rattle.vq_replay.proofs.Serving.{turns_refer, seated_referred}
 use Rattle.vq_replay.proofs.core_access.CoreAccessAccess.refer.Goals as goal
 
 pub apply-requires : goal.apply-requires
 apply-requires c =
     let x = c.args.self.now in
     let d = x.core.now in
-    let l = refers_to d c.keeps.ensures x.actor x.seat x.stands (recent_of x.last) (x.core.ghost_name ∷ [])
-    c.args.actor c.args.point c.args.op x.batches c.requires in
-    subst (λ (b : ActorName). CanCome d.plan (world d) (Refer b c.args.point c.args.op)) (sym c.requires.actor) l.1.0
+    let m = c.requires in
+    subst (λ (b : ActorName). CanCome d.plan (world d) (Refer b c.args.point c.args.op)) (sym m.actor)
+    (turns_refer d c.keeps.ensures x.actor x.seat.now x.seated m.needs m.is_next m.waiting (need_found (recent_of
+    x.last)) m.need c.args.op c.args.point m.at m.without (m.pending (world d) refl)).0
+
+pub refer-requires-clause-slot : goal.refer-requires-clause-slot
+refer-requires-clause-slot c =
+    let x = c.args.self.now in
+    let m = c.requires in
+    subst (λ (k : ℕ). k < x.seat.now.slots) (sym c.need_found.ensures)
+    (fits_need (program x.core.now.plan x.actor) x.seat.now (AwaitNeeds m.needs) m.is_next x.seated.fits m.needs
+    (need_found (recent_of x.last)) m.need refl m.at)
+
+pub refer-requires-clause-free : goal.refer-requires-clause-free
+refer-requires-clause-free c =
+    let x = c.args.self.now in
+    subst (λ (k : ℕ). held_for k x.seat.now.place.holding ≡ None) (sym c.need_found.ensures) c.requires.without
 
 pub invariant_of-self : goal.invariant_of-self
 invariant_of-self c =
     let x = c.args.self.now in
     let d = x.core.now in
-    let v = c.apply.new.self in
-    let event = Refer c.args.actor c.args.point c.args.op in
-    let y = place_with x.seat.done (Held c.args.point c.args.op) in
-    let l = refers_to d c.keeps.ensures x.actor x.seat x.stands (recent_of x.last) (x.core.ghost_name ∷ [])
-    c.args.actor c.args.point c.args.op x.batches c.requires in
-    let turn = subst (λ (b : ActorName). IsTrueTurn d.plan (world d) x.actor (Moved (Refer b c.args.point c.args.op))
-    y) (sym c.requires.actor) l.1 in
+    let m = c.requires in
+    let k = need_found (recent_of x.last) in
+    let turn = turns_refer d c.keeps.ensures x.actor x.seat.now x.seated m.needs m.is_next m.waiting k m.need
+    c.args.op c.args.point m.at m.without (m.pending (world d) refl) in
     record {
-      small = small_after d v event c.apply.ensures x.actor x.small;
-      batches = batches_after d v event c.apply.ensures x.actor x.batches;
-      stands = stands_after d c.keeps.ensures x.actor (place_at x.seat) x.stands v event y y c.apply.ensures refl turn;
+      seated = seated_referred d c.keeps.ensures x.actor x.seat.now x.seated m.needs m.is_next m.waiting k m.need
+          c.args.op c.args.point m.at c.apply.new.self c.refer.new.self (subst (λ (b : ActorName). c.apply.new.self ≡
+          with_event d (Refer b c.args.point c.args.op)) m.actor c.apply.ensures) (c.refer.ensures ∙ ap (λ (n : ℕ).
+          at_need x.seat.now n c.args.op c.args.point) c.need_found.ensures) turn;
+      emptied = other_emptied c.apply.new.self;
     }
+  where
+    at_need : Tracked → ℕ → ℕ → ℕ → Tracked
+    at_need y n e q = record y { place = holding_also y.place n e q }
 
 pub returns-clause-answer : goal.returns-clause-answer
 returns-clause-answer c =
     let x = c.args.self.now in
     let d = x.core.now in
+    let p = x.seat.now.place in
     let event = Refer c.args.actor c.args.point c.args.op in
-    let l = refers_to d c.keeps.ensures x.actor x.seat x.stands (recent_of x.last) (x.core.ghost_name ∷ [])
-    c.args.actor c.args.point c.args.op x.batches c.requires in
-    made (x.core.ghost_name ∷ []) d x.actor (place_at x.seat) (recent_of x.last) c.apply.new.self (place_with
-    x.seat.done (Held c.args.point c.args.op)) (holding_also (place_at x.seat) (need_found (recent_of x.last))
-    c.args.op c.args.point)
-    (λ w. Ok event) (Is event) event c.apply.ensures (sym l.0) refl refl
+    made (x.core.ghost_name ∷ x.seat.ghost_name ∷ []) d x.actor p (recent_of x.last) c.apply.new.self
+    c.refer.new.self.place (holding_also p (need_found (recent_of x.last)) c.args.op c.args.point) (λ w. Ok event)
+    (Is event) event c.apply.ensures (ap (λ (t : Tracked). t.place) c.refer.ensures
+    ∙ ap (λ (n : ℕ). holding_also p n c.args.op c.args.point) c.need_found.ensures) refl refl

@@ -1,5 +1,4 @@
 use Rattle.std.proofs.Common.{length, refl, sym, subst}
-use Rattle.vq_model.specs.LoweringFaults.{IsPlan}
 use Rattle.vq_core.specs.CoreState.{Course}
 use Rattle.vq_replay.specs.Casts.{IsTroupe, cast}
 use Rattle.vq_replay.proofs.Openings.{first_are, opens}
@@ -11,10 +10,9 @@ invariant_of-result c =
     let h = c.in_ok-host.host in
     let s = c.in_ok-submits.submits.items in
     let r = c.in_ok-rings.rings.items in
-    let plan = subst (λ (d : Course). IsPlan d.plan) (c.in_ok-core.ensures {u = tt}) c.keeps.ensures.read in
     subst (λ (d : Course). IsTroupe (cast d h s r)) (sym (c.in_ok-core.ensures {u = tt}))
     (opens p h s r (length p.script.queues) (c.in_ok-host.ensures {u = tt}) (c.in_ok-submits.ensures {u = tt})
-    (c.in_ok-rings.ensures {u = tt}) plan refl)
+    (c.in_ok-rings.ensures {u = tt}) refl)
 
 pub returns-clause-first : goal.returns-clause-first
 returns-clause-first c =
