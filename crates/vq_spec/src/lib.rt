@@ -1,6 +1,7 @@
 //! Plans: what a script asks for, job by job, and what it means.
 #![tactic(auto)]
 
+mod answers;
 mod chains;
 mod edges;
 mod heads;
@@ -17,6 +18,7 @@ mod slow;
 mod text;
 mod uses;
 
+pub use answers::answer_text;
 pub use order::{SlowOrder, slow_order};
 pub use plan::Plan;
 pub use reached::{all_reached, any_reached, is_reached};
