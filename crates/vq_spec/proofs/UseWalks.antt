@@ -14,20 +14,22 @@ use Rattle.vq_model.specs.declared.script.Script.{Script}
 use Rattle.vq_model.specs.declared.script.SemaphoreKind.{SemaphoreKind}
 use Rattle.vq_model.specs.declared.script.Mark.{Mark}
 use Rattle.vq_model.specs.declared.script.Batch.{Batch}
+use Rattle.vq_model.specs.declared.script.HostStep.{HostStep}
+use Rattle.vq_model.specs.declared.script.HostStep.TheVariants.{FenceReset}
 use Rattle.vq_model.specs.declared.script.Job.{Job}
 use Rattle.vq_model.specs.declared.script.Job.TheVariants.{Host, Batch as BatchJob}
 use Rattle.vq_model.specs.declared.plan.PlanFault.{PlanFault}
 use Rattle.vq_model.specs.declared.plan.PlanFault.TheVariants.{NoSignal as NoSignalAt, SignaledTwice as SignaledTwiceAt, FenceUsed as FenceUsedAt}
-use Rattle.vq_model.specs.Context.{is_timeline}
-use Rattle.vq_model.specs.LoweringFaults.{Use, Waited as IsWaited, Signaled as IsSignaled, Named as IsNamed, UseLine, LoweringFault, NoSignal, SignaledTwice, FenceUsed, count_uses, is_signaled, is_waited, is_named, last_use, fault_of_use, use_fault, use_of_mark, uses_of, uses, fault_from, lowering_fault}
+use Rattle.vq_model.specs.Context.{is_fence, is_timeline}
+use Rattle.vq_model.specs.LoweringFaults.{Use, Waited as IsWaited, Signaled as IsSignaled, Named as IsNamed, Reset as IsReset, UseLine, LoweringFault, NoSignal, SignaledTwice, FenceUsed, count_uses, is_signaled, is_waited, is_named, last_use, fault_of_use, use_fault, use_of_mark, step_uses, uses_of, uses, fault_from, lowering_fault}
 use Rattle.vq_model.specs.SameScript.{IsRead}
 use Rattle.vq_model.specs.Signals.{kind_of, is_timeline_at, is_counted_at}
-use Rattle.vq_model.specs.ValidScripts.{is_fence_at, IsValidMark, IsValidFence, IsValidBatch}
+use Rattle.vq_model.specs.ValidScripts.{is_fence_at, IsValidMark, IsValidFence, IsValidBatch, IsValidStep}
 use Rattle.vq_model.proofs.Gets.{get_some}
-use Rattle.vq_reading_laws.proofs.Cited.{read_batches, read_hostless}
+use Rattle.vq_reading_laws.proofs.Cited.{kind_exists, read_batches, read_steps}
 use Rattle.vq_spec.specs.declared.uses.Usage.{Usage}
-use Rattle.vq_spec.specs.declared.uses.Usage.TheVariants.{Waited, Signaled, Named}
-use Rattle.vq_spec.specs.Walks.{fault_after, walk_counted, walk_mark, walk_marks, walk_batch, walk_jobs, and_then, never_used, Walks, FindsFault}
+use Rattle.vq_spec.specs.declared.uses.Usage.TheVariants.{Waited, Signaled, Named, Reset}
+use Rattle.vq_spec.specs.Walks.{fault_after, walk_counted, walk_mark, walk_marks, walk_batch, walk_step, walk_jobs, and_then, never_used, Walks, FindsFault}
 
 -- Uses, as the definitions name them
 
@@ -35,6 +37,7 @@ abbrev as_use : Usage → Use
 as_use Waited = IsWaited
 as_use Signaled = IsSignaled
 as_use Named = IsNamed
+as_use Reset = IsReset
 
 abbrev plan_fault : ℕ × LoweringFault → PlanFault
 plan_fault (line, NoSignal) = NoSignalAt line
@@ -49,9 +52,10 @@ abbrev left : Option Use → ℕ
 left (Some IsSignaled) = 1
 left other = 0
 
--- waits and signals are of semaphores, a fence is named
+-- waits and signals are of semaphores; a fence is named and reset
 abbrev Suits : Script → ℕ → Usage → Type 0
 Suits s t Named = is_fence_at s t ≡ true
+Suits s t Reset = is_fence_at s t ≡ true
 Suits s t other = is_fence_at s t ≡ false
 
 -- What is kept of earlier uses: the last use of each semaphore. Of signals there is one more than of
@@ -63,6 +67,14 @@ record Tracks (s : Script) (last : List (Option Usage)) (earlier : List UseLine)
   turns : (t : ℕ) → is_fence_at s t ≡ false →
       count_uses is_signaled t earlier
       ≡ count_uses is_waited t earlier + left (last_use t earlier)
+
+-- a fence that a host step names exists
+pub fence_exists : (s : Script) (f : ℕ) → is_fence_at s f ≡ true → f < length s.semaphores
+fence_exists s f e = kind_exists s is_fence f e
+
+pub reset_exists : (s : Script) (step : HostStep) → IsValidStep s step → (f : ℕ) →
+    step ≡ FenceReset f → f < length s.semaphores
+reset_exists s step v f e = fence_exists s f (subst (IsValidStep s) e v)
 
 -- One use
 
@@ -107,6 +119,7 @@ fault_is earlier t Waited line o e turns = by_last o e
         (omega arith))
     by_last (Some Waited) e = none (ap left e)
     by_last (Some Named) e = none (ap left e)
+    by_last (Some Reset) e = none (ap left e)
     by_last None e = none (ap left e)
 fault_is earlier t Signaled line o e turns =
     ap (λ u. option_map (λ k. plan_fault (line, k))
@@ -119,6 +132,7 @@ fault_is earlier t Signaled line o e turns =
     by_last (Some Signaled) = refl
     by_last (Some Waited) = refl
     by_last (Some Named) = refl
+    by_last (Some Reset) = refl
     by_last None = refl
 fault_is earlier t Named line o e turns =
     ap (λ u. option_map (λ k. plan_fault (line, k))
@@ -131,7 +145,9 @@ fault_is earlier t Named line o e turns =
     by_last (Some Signaled) = refl
     by_last (Some Waited) = refl
     by_last (Some Named) = refl
+    by_last (Some Reset) = refl
     by_last None = refl
+fault_is earlier t Reset line o e turns = refl
 
 module _ (s : Script) where
   -- one use more, which is not faulty
@@ -199,6 +215,7 @@ module _ (s : Script) where
               omega arith
           by_last (Some Waited) e none = absurd (let c : Some (NoSignalAt line) ≡ None = none in cc)
           by_last (Some Named) e none = absurd (let c : Some (NoSignalAt line) ≡ None = none in cc)
+          by_last (Some Reset) e none = absurd (let c : Some (NoSignalAt line) ≡ None = none in cc)
           by_last None e none = absurd (let c : Some (NoSignalAt line) ≡ None = none in cc)
       own_turns Signaled q f none signaled waited a b = by_last (get_or last t None) refl none
         where
@@ -216,8 +233,10 @@ module _ (s : Script) where
               (let c : Some (SignaledTwiceAt line) ≡ None = none in cc)
           by_last (Some Waited) e none = some (Some Waited) e refl
           by_last (Some Named) e none = some (Some Named) e refl
+          by_last (Some Reset) e none = some (Some Reset) e refl
           by_last None e none = some None e refl
       own_turns Named q f none signaled waited a b = absurd (false≢true (sym f ∙ q))
+      own_turns Reset q f none signaled waited a b = absurd (false≢true (sym f ∙ q))
 
       turns : (u : ℕ) → is_fence_at s u ≡ false → (t ≡ u) ⊎ (t ≢ u) →
           count_uses is_signaled u (earlier ++ one_use line t usage ∷ [])
@@ -282,57 +301,55 @@ module _ (s : Script) where
 
   -- a use of a binary semaphore or a fence
   follows_counted : (last : List (Option Usage)) (earlier : List UseLine) (usage : Usage)
-      (m : Mark) → Tracks s last earlier → m.semaphore < length s.semaphores →
-      Suits s m.semaphore usage →
-      Follows earlier
-      (record { line = m.line; semaphore = m.semaphore; kind = as_use usage } ∷ [])
-      (walk_counted last usage m)
-  follows_counted last earlier usage m k inside suits =
-      by_fault (fault_after (get_or last m.semaphore None) usage m.line) refl
+      (t line : ℕ) → Tracks s last earlier → t < length s.semaphores → Suits s t usage →
+      Follows earlier (one_use line t usage ∷ []) (walk_counted last usage t line)
+  follows_counted last earlier usage t line k inside suits =
+      by_fault (fault_after (get_or last t None) usage line) refl
     where
-      counts : (u : Usage) → Suits s m.semaphore u → u ≡ Waited →
-          count_uses is_signaled m.semaphore earlier
-          ≡ count_uses is_waited m.semaphore earlier + left (last_use m.semaphore earlier)
-      counts Waited q e = k.turns m.semaphore q
-      counts Signaled q e = k.turns m.semaphore q
+      counts : (u : Usage) → Suits s t u → u ≡ Waited →
+          count_uses is_signaled t earlier
+          ≡ count_uses is_waited t earlier + left (last_use t earlier)
+      counts Waited q e = k.turns t q
+      counts Signaled q e = k.turns t q
       counts Named q e = absurd (let c : Named ≡ Waited = e in cc)
+      counts Reset q e = absurd (let c : Reset ≡ Waited = e in cc)
 
-      agrees : option_map (λ k. plan_fault (m.line, k)) (use_fault earlier (one_use m.line m.semaphore usage))
-          ≡ fault_after (get_or last m.semaphore None) usage m.line
-      agrees = fault_is earlier m.semaphore usage m.line (get_or last m.semaphore None)
-          (k.same m.semaphore inside) (counts usage suits)
+      agrees : option_map (λ k. plan_fault (line, k)) (use_fault earlier (one_use line t usage))
+          ≡ fault_after (get_or last t None) usage line
+      agrees = fault_is earlier t usage line (get_or last t None)
+          (k.same t inside) (counts usage suits)
 
       found : (fault : PlanFault) (o : Option LoweringFault) →
-          option_map (λ k. plan_fault (m.line, k)) o ≡ Some fault →
-          (kind : LoweringFault) × (fault ≡ plan_fault (m.line, kind)) × (o ≡ Some kind)
+          option_map (λ k. plan_fault (line, k)) o ≡ Some fault →
+          (kind : LoweringFault) × (fault ≡ plan_fault (line, kind)) × (o ≡ Some kind)
       found fault None e = absurd (let c : None ≡ Some fault = e in cc)
       found fault (Some kind) e = (
         kind,
-        let c : Some (plan_fault (m.line, kind)) ≡ Some fault = e in cc,
+        let c : Some (plan_fault (line, kind)) ≡ Some fault = e in cc,
         refl,
       )
 
-      free : (o : Option LoweringFault) → option_map (λ k. plan_fault (m.line, k)) o ≡ None →
+      free : (o : Option LoweringFault) → option_map (λ k. plan_fault (line, k)) o ≡ None →
           o ≡ None
       free None e = refl
       free (Some kind) e = absurd
-          (let c : Some (plan_fault (m.line, kind)) ≡ None = e in cc)
+          (let c : Some (plan_fault (line, kind)) ≡ None = e in cc)
 
       by_fault : (o : Option PlanFault) →
-          fault_after (get_or last m.semaphore None) usage m.line ≡ o →
-          Follows earlier (one_use m.line m.semaphore usage ∷ [])
-          (option_map_or (λ fault. Err fault) o (Ok (set last m.semaphore (Some usage))))
+          fault_after (get_or last t None) usage line ≡ o →
+          Follows earlier (one_use line t usage ∷ [])
+          (option_map_or (λ fault. Err fault) o (Ok (set last t (Some usage))))
       by_fault None e = (
-        tracks_more last earlier m.line m.semaphore usage k inside suits e,
-        λ rest. ap (λ o. option_map_or (λ k. Some (m.line, k)) o
-            (fault_from (earlier ++ one_use m.line m.semaphore usage ∷ []) rest)) (free (use_fault earlier (one_use m.line m.semaphore usage)) (agrees ∙ e)),
+        tracks_more last earlier line t usage k inside suits e,
+        λ rest. ap (λ o. option_map_or (λ k. Some (line, k)) o
+            (fault_from (earlier ++ one_use line t usage ∷ []) rest)) (free (use_fault earlier (one_use line t usage)) (agrees ∙ e)),
       )
       by_fault (Some fault) e =
-          let it = found fault (use_fault earlier (one_use m.line m.semaphore usage)) (agrees ∙ e) in (
-            (m.line, it.0),
+          let it = found fault (use_fault earlier (one_use line t usage)) (agrees ∙ e) in (
+            (line, it.0),
             it.1,
-            λ rest. ap (λ o. option_map_or (λ k. Some (m.line, k)) o
-                (fault_from (earlier ++ one_use m.line m.semaphore usage ∷ []) rest)) it.2,
+            λ rest. ap (λ o. option_map_or (λ k. Some (line, k)) o
+                (fault_from (earlier ++ one_use line t usage ∷ []) rest)) it.2,
           )
 
   follows_mark : (last : List (Option Usage)) (earlier : List UseLine) (usage : Usage) (m : Mark) →
@@ -351,7 +368,7 @@ module _ (s : Script) where
           (λ o. option_map_or (λ k. not (is_timeline k)) o false) e ∙ ap not t in
           subst (λ (z : Bool × Bool). Follows earlier
           (cond z.0 (record { line = m.line; semaphore = m.semaphore; kind = as_use usage } ∷ []) [])
-          (cond z.1 (Ok last) (walk_counted last usage m)))
+          (cond z.1 (Ok last) (walk_counted last usage m.semaphore m.line)))
           (λ i. (sym counted i, sym timeline i)) (follows_none last earlier k)
       by_kind kind e false t =
           let timeline : is_timeline_at s m.semaphore ≡ false = ap
@@ -360,9 +377,9 @@ module _ (s : Script) where
           (λ o. option_map_or (λ k. not (is_timeline k)) o false) e ∙ ap not t in
           subst (λ (z : Bool × Bool). Follows earlier
           (cond z.0 (record { line = m.line; semaphore = m.semaphore; kind = as_use usage } ∷ []) [])
-          (cond z.1 (Ok last) (walk_counted last usage m)))
+          (cond z.1 (Ok last) (walk_counted last usage m.semaphore m.line)))
           (λ i. (sym counted i, sym timeline i))
-          (follows_counted last earlier usage m k inside suits)
+          (follows_counted last earlier usage m.semaphore m.line k inside suits)
 
       by_semaphore : (x : _) × (slice_get s.semaphores m.semaphore ≡ Some x) →
           Follows earlier (use_of_mark s (as_use usage) m) (walk_mark s last usage m)
@@ -425,13 +442,26 @@ module _ (s : Script) where
       suited_fence None f = tt
       suited_fence (Some m) f = let w = f m refl in (w.exists, w.kind, tt)
 
+  -- of host steps, a reset is a use
+  follows_step : (last : List (Option Usage)) (earlier : List UseLine) (line : ℕ)
+      (step : HostStep) → Tracks s last earlier → IsValidStep s step →
+      Follows earlier (step_uses line step) (walk_step last line step)
+  follows_step last earlier line (FenceReset f) k v =
+      follows_counted last earlier Reset f line k (fence_exists s f v) v
+  follows_step last earlier line other k v = follows_none last earlier k
+
   follows_jobs : (last : List (Option Usage)) (earlier : List UseLine) (jobs : List Job) →
       Tracks s last earlier →
       ((j : ℕ) (b : Batch) → slice_get jobs j ≡ Some (BatchJob b) → IsValidBatch s b) →
-      ((j : ℕ) (h : HostLine) → slice_get jobs j ≡ Some (Host h) → ⊥) →
+      ((j : ℕ) (h : HostLine) → slice_get jobs j ≡ Some (Host h) → IsValidStep s h.step) →
       Follows earlier (flat_map (uses_of s) jobs) (walk_jobs s last jobs)
   follows_jobs last earlier [] k v w = follows_none last earlier k
-  follows_jobs last earlier (Host h ∷ jobs) k v w = absurd (w 0 h refl)
+  follows_jobs last earlier (Host h ∷ jobs) k v w =
+      follows_both earlier (uses_of s (Host h)) (flat_map (uses_of s) jobs)
+      (walk_step last h.line h.step) (λ next. walk_jobs s next jobs)
+      (follows_step last earlier h.line h.step k (w 0 h refl))
+      (λ next t. follows_jobs next (earlier ++ uses_of s (Host h)) jobs t
+      (λ j c e. v (suc j) c e) (λ j h e. w (suc j) h e))
   follows_jobs last earlier (BatchJob b ∷ jobs) k v w =
       follows_both earlier (uses_of s (BatchJob b)) (flat_map (uses_of s) jobs)
       (walk_batch s last b) (λ next. walk_jobs s next jobs)
@@ -464,7 +494,7 @@ pub finds : (s : Script) → IsRead s → (r : Result (Unit {0}) PlanFault) →
     Walks (walk_jobs s first s.jobs) r last → FindsFault s r
 finds s i r last first is seen = by_walk (walk_jobs s (never_used (length s.semaphores)) s.jobs) refl
     (follows_jobs s (never_used (length s.semaphores)) [] s.jobs (tracks_none s)
-    (read_batches s i) (read_hostless s i))
+    (read_batches s i) (read_steps s i))
   where
     walk : Walks (walk_jobs s (never_used (length s.semaphores)) s.jobs) r last
     walk = subst (λ from. Walks (walk_jobs s from s.jobs) r last) is seen

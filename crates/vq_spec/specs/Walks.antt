@@ -6,6 +6,8 @@ use Rattle.std.specs.Option.{option_map_or, option_to_list}
 use Rattle.vq_model.specs.declared.script.Script.{Script}
 use Rattle.vq_model.specs.declared.script.Mark.{Mark}
 use Rattle.vq_model.specs.declared.script.Batch.{Batch}
+use Rattle.vq_model.specs.declared.script.HostStep.{HostStep}
+use Rattle.vq_model.specs.declared.script.HostStep.TheVariants.{FenceReset}
 use Rattle.vq_model.specs.declared.script.Job.{Job}
 use Rattle.vq_model.specs.declared.script.Job.TheVariants.{Host, Batch as BatchJob}
 use Rattle.vq_model.specs.declared.plan.PlanFault.{PlanFault}
@@ -13,7 +15,7 @@ use Rattle.vq_model.specs.declared.plan.PlanFault.TheVariants.{NoSignal, Signale
 use Rattle.vq_model.specs.LoweringFaults.{lowering_fault, IsFirstLoweringFault}
 use Rattle.vq_model.specs.Signals.{is_timeline_at}
 use Rattle.vq_spec.specs.declared.uses.Usage.{Usage}
-use Rattle.vq_spec.specs.declared.uses.Usage.TheVariants.{Waited, Signaled, Named}
+use Rattle.vq_spec.specs.declared.uses.Usage.TheVariants.{Waited, Signaled, Named, Reset}
 
 -- One use
 
@@ -25,22 +27,22 @@ abbrev pub was_named : Option Usage → Bool
 was_named (Some Named) = true
 was_named other = false
 
--- what is wrong with a use after the last one of the same semaphore
+-- what is wrong with a use after the last one of the same semaphore; a reset is never faulty
 abbrev pub fault_after : Option Usage → Usage → ℕ → Option PlanFault
 fault_after last Waited line = if was_signaled last then None else Some (NoSignal line)
 fault_after last Signaled line = if was_signaled last then Some (SignaledTwice line) else None
 fault_after last Named line = if was_named last then Some (FenceUsed line) else None
+fault_after last Reset line = None
 
 -- the last uses after one more, or its fault
-abbrev pub walk_counted : List (Option Usage) → Usage → Mark → Result (List (Option Usage)) PlanFault
-walk_counted last usage m =
-    option_map_or (λ fault. Err fault)
-    (fault_after (slice_index_or last m.semaphore None) usage m.line)
-    (Ok (slice_set last m.semaphore (Some usage)))
+abbrev pub walk_counted : List (Option Usage) → Usage → ℕ → ℕ → Result (List (Option Usage)) PlanFault
+walk_counted last usage t line =
+    option_map_or (λ fault. Err fault) (fault_after (slice_index_or last t None) usage line)
+    (Ok (slice_set last t (Some usage)))
 
 abbrev pub walk_mark : Script → List (Option Usage) → Usage → Mark → Result (List (Option Usage)) PlanFault
 walk_mark s last usage m =
-    if is_timeline_at s m.semaphore then Ok last else walk_counted last usage m
+    if is_timeline_at s m.semaphore then Ok last else walk_counted last usage m.semaphore m.line
 
 -- Several uses
 
@@ -60,9 +62,14 @@ walk_batch s last b =
     and_then (walk_marks s waited Signaled b.signals) (λ signaled.
     walk_marks s signaled Named (option_to_list b.fence)))
 
+abbrev pub walk_step : List (Option Usage) → ℕ → HostStep → Result (List (Option Usage)) PlanFault
+walk_step last line (FenceReset f) = walk_counted last Reset f line
+walk_step last line other = Ok last
+
 abbrev pub walk_jobs : Script → List (Option Usage) → List Job → Result (List (Option Usage)) PlanFault
 walk_jobs s last [] = Ok last
-walk_jobs s last (Host h ∷ jobs) = walk_jobs s last jobs
+walk_jobs s last (Host h ∷ jobs) =
+    and_then (walk_step last h.line h.step) (λ next. walk_jobs s next jobs)
 walk_jobs s last (BatchJob b ∷ jobs) = and_then (walk_batch s last b) (λ next. walk_jobs s next jobs)
 
 -- no use of so many semaphores

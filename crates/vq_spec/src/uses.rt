@@ -1,17 +1,18 @@
 //! The uses of binary semaphores and fences, and the first that is faulty.
-ghost use Rattle.std.specs.Prelude.{◌≡◌, ◌<◌, All, IfOk, length};
+ghost use Rattle.std.specs.Prelude.{◌≡◌, ◌<◌, ℕ, All, IfOk, length};
 ghost use Rattle.std.specs.Option.{option_map_or};
 ghost use Rattle.vq_model.specs.SameScript.{IsRead};
+ghost use Rattle.vq_model.specs.declared.script.HostStep.TheVariants.{FenceReset};
 ghost use Rattle.vq_model.specs.ValidScripts.{HasValidBatches, IsValidBatch};
-ghost use Rattle.vq_spec.specs.Walks.{was_signaled, was_named, fault_after, Walks, walk_mark, walk_marks, walk_batch};
-ghost use Rattle.vq_spec.specs.Walks.{walk_jobs, FindsFault, never_used};
+ghost use Rattle.vq_spec.specs.Walks.{was_signaled, was_named, fault_after, Walks, walk_counted, walk_mark, walk_marks};
+ghost use Rattle.vq_spec.specs.Walks.{walk_batch, walk_step, walk_jobs, FindsFault, never_used};
 
 use std::alloc::{AllocError, Global};
 use vq_model::list::List;
 use vq_model::plan::PlanFault;
-use vq_model::script::{Batch, Job, Mark, Script};
+use vq_model::script::{Batch, HostLine, HostStep, Job, Mark, Script};
 
-/// How a batch uses a binary semaphore or a fence.
+/// How a job uses a binary semaphore or a fence.
 #[derive(Clone, Copy, Debug, PartialEq, Eq)]
 pub(crate) enum Usage {
     /// It waits for a signal.
@@ -20,6 +21,8 @@ pub(crate) enum Usage {
     Signaled,
     /// It names the fence.
     Named,
+    /// It resets the fence.
+    Reset,
 }
 
 /// Whether the last use was a signal.
@@ -37,7 +40,7 @@ fn was_named(last: Option<Usage>) -> bool
 }
 
 /// What is wrong with a use at a line after the last one. As long as none was faulty, signals and
-/// waits take turns: a signal is left exactly where the last use was one.
+/// waits take turns: a signal is left exactly where the last use was one. A reset is never faulty.
 pub(crate) fn fault_after(last: Option<Usage>, usage: Usage, line: u32) -> Option<PlanFault>
     ensures { result ≡ fault_after last usage line }
 {
@@ -49,7 +52,25 @@ pub(crate) fn fault_after(last: Option<Usage>, usage: Usage, line: u32) -> Optio
     }
 }
 
-/// Takes one use. A timeline may be used in any way.
+/// Takes one use of a binary semaphore or a fence.
+fn use_counted(
+    last: &mut [Option<Usage>],
+    usage: Usage,
+    semaphore: u32,
+    line: u32,
+) -> Result<(), PlanFault>
+    requires { semaphore < length last.old }
+    ensures { Walks (walk_counted last.old usage semaphore line) result last.new }
+{
+    let place = semaphore as usize;
+    if let Some(fault) = fault_after(last[place], usage, line) {
+        return Err(fault);
+    }
+    last[place] = Some(usage);
+    Ok(())
+}
+
+/// Takes the use of a mark. A timeline may be used in any way.
 fn use_mark(
     script: &Script,
     last: &mut [Option<Usage>],
@@ -60,15 +81,11 @@ fn use_mark(
     requires kept { length last.old ≡ length script.now.semaphores }
     ensures { Walks (walk_mark script.now last.old usage mark.now) result last.new }
 {
-    let place = mark.semaphore as usize;
-    if script.semaphores.as_slice()[place].kind.is_timeline() {
+    let semaphore = &script.semaphores.as_slice()[mark.semaphore as usize];
+    if semaphore.kind.is_timeline() {
         return Ok(());
     }
-    if let Some(fault) = fault_after(last[place], usage, mark.line) {
-        return Err(fault);
-    }
-    last[place] = Some(usage);
-    Ok(())
+    use_counted(last, usage, mark.semaphore, mark.line)
 }
 
 /// Takes uses of one kind, in order.
@@ -102,6 +119,17 @@ fn use_batch(script: &Script, last: &mut [Option<Usage>], batch: &Batch) -> Resu
     }
 }
 
+/// Takes the use of a host step: of all steps only a reset is one.
+fn use_step(last: &mut [Option<Usage>], host: &HostLine) -> Result<(), PlanFault>
+    requires { (f : ℕ) → host.now.step ≡ FenceReset f → f < length last.old }
+    ensures { Walks (walk_step last.old host.now.line host.now.step) result last.new }
+{
+    match &host.step {
+        HostStep::FenceReset(fence) => use_counted(last, Usage::Reset, *fence, host.line),
+        _ => Ok(()),
+    }
+}
+
 /// Takes the uses of all jobs.
 fn use_jobs(script: &Script, last: &mut [Option<Usage>]) -> Result<(), PlanFault>
     requires read { IsRead script.now }
@@ -111,7 +139,7 @@ fn use_jobs(script: &Script, last: &mut [Option<Usage>]) -> Result<(), PlanFault
     for job in script.jobs.as_slice() {
         match job {
             Job::Batch(batch) => use_batch(script, last, batch)?,
-            Job::Host(_) => unreachable!(),
+            Job::Host(host) => use_step(last, host)?,
         }
     }
     Ok(())
