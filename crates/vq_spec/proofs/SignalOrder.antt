@@ -11,6 +11,8 @@ use Rattle.std.proofs.lemmas.List.FromFn.{length-map-range_with_len}
 use Rattle.std.proofs.lemmas.List.Sums.{count_by-le-length}
 use Rattle.vq_model.specs.declared.script.Script.{Script}
 use Rattle.vq_model.specs.declared.script.Mark.{Mark}
+use Rattle.vq_model.specs.declared.script.Pair.{Pair}
+use Rattle.vq_model.specs.declared.script.HostLine.{HostLine}
 use Rattle.vq_model.specs.declared.script.HostStep.{HostStep}
 use Rattle.vq_model.specs.declared.script.HostStep.TheVariants.{Signal}
 use Rattle.vq_model.specs.declared.script.Batch.{Batch}
@@ -447,3 +449,37 @@ module _ (s : Script) (j : ℕ) (b : Batch) (at : slice_get s.jobs j ≡ Some (B
       ∙ ap (λ n. length (signals_before s j) + n)
       (length-map (b.signals ++ option_to_list b.fence) (of_mark j)
       ∙ length-append b.signals (option_to_list b.fence)))
+
+-- The signals of a host step
+
+no_signal : (j line : ℕ) (t : HostStep) → ((x : Pair) → t ≡ Signal x → ⊥) → step_signals j line t ≡ []
+no_signal j line (Signal x) n = absurd (n x refl)
+no_signal j line other n = refl
+
+module _ (s : Script) (j : ℕ) (h : HostLine) (at : slice_get s.jobs j ≡ Some (Host h)) where
+  pub step_signal : (x : Pair) → h.step ≡ Signal x → slice_get (all_signals s) (length (signals_before s j))
+      ≡ Some (record { job = j; line = h.line; semaphore = x.semaphore; value = x.value })
+  step_signal x e =
+      let z : length (signals_before s j) ≡ length (signals_before s j) + 0 = omega arith in
+      ap (slice_get (all_signals s)) z
+      ∙ next_signal s j (Host h) at 0
+      (record { job = j; line = h.line; semaphore = x.semaphore; value = x.value })
+      (ap (λ t. slice_get (step_signals j h.line t) 0) e)
+
+  pub step_count : length (signals_before s (j + 1))
+      ≡ length (signals_before s j) + length (step_signals j h.line h.step)
+  step_count =
+      ap length (signals_before-push s j (Host h) at)
+      ∙ length-append (signals_before s j) (job_signals (j, Host h))
+
+  pub one_more : (x : Pair) → h.step ≡ Signal x →
+      length (signals_before s (j + 1)) ≡ length (signals_before s j) + 1
+  one_more x e = step_count
+      ∙ ap (λ t. length (signals_before s j) + length (step_signals j h.line t)) e
+
+  pub none_more : ((x : Pair) → h.step ≡ Signal x → ⊥) →
+      length (signals_before s (j + 1)) ≡ length (signals_before s j)
+  none_more n =
+      let a = step_count in
+      let b = ap length (no_signal j h.line h.step n) in
+      omega arith

@@ -4,12 +4,12 @@ ghost use Rattle.std.specs.List.{slice_get, range_with_len};
 ghost use Rattle.vq_model.specs.SameScript.{IsRead};
 ghost use Rattle.vq_model.specs.Signals.{all_signals, of_mark};
 ghost use Rattle.vq_spec.specs.Counts.{AreSignals, signals_before, value_by};
-ghost use Rattle.vq_model.specs.declared.script.Job.TheVariants.{Batch as BatchJob};
+ghost use Rattle.vq_model.specs.declared.script.Job.TheVariants.{Host, Batch as BatchJob};
 
 use std::alloc::{AllocError, Global};
 use vq_model::list::List;
 use vq_model::plan::Op;
-use vq_model::script::{Batch, Mark, Script};
+use vq_model::script::{Batch, HostLine, HostStep, Mark, Script};
 
 /// The signal operations so far, their places in their chains still 0, and how many of them each
 /// semaphore has.
@@ -100,5 +100,32 @@ impl Signals {
             Some(fence) => self.push(script, job, fence),
             None => Ok(()),
         }
+    }
+
+    /// Adds the signal of a host step, if it makes one.
+    pub(crate) fn push_step(
+        &mut self,
+        script: &Script,
+        job: u32,
+        host: &HostLine,
+    ) -> Result<(), AllocError>
+        requires read { IsRead script.now }
+        requires at { slice_get script.now.jobs job ≡ Some (Host host.now) }
+        requires kept { AreSignals script.now self.old }
+        requires first { length self.old.ops.items ≡ length (signals_before script.now job) }
+        ensures kept { OnOk result (AreSignals script.now self.new) }
+        ensures more { OnOk result (length self.new.ops.items
+            ≡ length (signals_before script.now (job + 1))) }
+    {
+        let HostStep::Signal(pair) = &host.step else {
+            return Ok(());
+        };
+        let mark = Mark {
+            line: host.line,
+            semaphore: pair.semaphore,
+            value: pair.value,
+            from: 1,
+        };
+        self.push(script, job, &mark)
     }
 }
