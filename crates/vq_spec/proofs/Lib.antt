@@ -3,6 +3,8 @@ mod GatheredChains
 mod HexLines
 mod KeptTables
 mod Initials
+mod FenceStates
+mod HostJobs
 mod Lowered
 mod ChainOrder
 mod Commands

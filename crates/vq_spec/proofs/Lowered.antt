@@ -8,12 +8,10 @@ use Rattle.std.proofs.lemmas.List.FromFn.{length-enumerate_from}
 use Rattle.std.proofs.lemmas.Grind.{flat_map-append}
 use Rattle.vq_model.specs.declared.script.Script.{Script}
 use Rattle.vq_model.specs.declared.script.Job.{Job}
-use Rattle.vq_model.specs.declared.script.Job.TheVariants.{Host}
-use Rattle.vq_model.specs.declared.script.HostLine.{HostLine}
 use Rattle.vq_model.specs.Lowering.{batch_commands, commands_in, plan_of, plan_job}
 use Rattle.vq_model.specs.SameScript.{IsRead}
 use Rattle.vq_plan_laws.proofs.Cited.{length-batch_commands}
-use Rattle.vq_reading_laws.proofs.Cited.{read_valid, read_hostless}
+use Rattle.vq_reading_laws.proofs.Cited.{read_valid}
 
 -- Numbers
 
@@ -76,11 +74,6 @@ pub read_job : (jobs seen : List Job) (j : ℕ) (r job : Job) → seen ≡ jobs 
     r ≡ get_or seen j r → r ≡ job → slice_get jobs j ≡ Some job
 read_job jobs seen j r job e l read is =
     slice_get_read jobs (length jobs) j r refl l (read ∙ ap (λ xs. get_or xs j r) e) ∙ ap Some is
-
--- no job of a script that was read is a host step so far
-pub no_host_step : (s : Script) → IsRead s → (j : ℕ) (x : HostLine) →
-    slice_get s.jobs j ≡ Some (Host x) → ⊥
-no_host_step s i j x e = read_hostless s i j x e
 
 -- a job of the script, by its place
 pub few_in : (s : Script) → IsRead s → (j : ℕ) (job : Job) → slice_get s.jobs j ≡ Some job →

@@ -1,6 +1,6 @@
 -- One job more is lowered.
 use Rattle.vq_model.specs.declared.script.HostLine.{HostLine}
-use Rattle.std.proofs.Common.{◌≡◌, ℕ, zero, suc, ◌+◌, ◌-◌, ◌<◌, ◌≤◌, Bool, false, cond, List, [], ◌∷◌, ◌++◌, length, get_or, map, take, All, Option, Some, None, refl, sym, ap, ◌∙◌, arith}
+use Rattle.std.proofs.Common.{◌≡◌, ℕ, suc, ◌+◌, ◌-◌, ◌^◌, ◌<◌, ◌≤◌, Bool, true, false, subst, cond, List, [], ◌∷◌, ◌++◌, length, get_or, map, take, All, Option, Some, None, refl, sym, ap, ◌∙◌, arith}
 use Rattle.std.proofs.Math.ListN.{set}
 use Rattle.std.specs.List.{count_by, sum_by, slice_get, range_with_len, enumerate_from, flat_map, AllByRecursion}
 use Rattle.std.proofs.lemmas.Bool.{eq-eqb, ne_eqb}
@@ -13,19 +13,23 @@ use Rattle.vq_model.specs.declared.script.Mark.{Mark}
 use Rattle.vq_model.specs.declared.script.Batch.{Batch}
 use Rattle.vq_model.specs.declared.script.Job.{Job}
 use Rattle.vq_model.specs.declared.script.Job.TheVariants.{Host, Batch as BatchJob}
+use Rattle.vq_model.specs.declared.script.HostStep.TheVariants.{FenceWait, FencePoll, FenceReset}
 use Rattle.vq_model.specs.declared.plan.Need.{Need}
-use Rattle.vq_model.specs.declared.plan.Lane.TheVariants.{Host as HostLane, Queue as QueueLane}
+use Rattle.vq_model.specs.declared.plan.PlanJob.{PlanJob}
+use Rattle.vq_model.specs.declared.plan.Lane.TheVariants.{Queue as QueueLane}
 use Rattle.vq_model.specs.declared.plan.Question.TheVariants.{Silent}
-use Rattle.vq_model.specs.Lowering.{batch_commands, commands_in, plan_job, lane_of, last_from, last_before, of_wait}
-use Rattle.vq_model.specs.Plan.{same_lane}
+use Rattle.vq_model.specs.Lowering.{batch_commands, commands_in, plan_job, last_from, last_before, of_wait}
+use Rattle.vq_model.specs.Context.{is_fence}
 use Rattle.vq_model.specs.SameScript.{IsRead}
 use Rattle.vq_model.specs.Signals.{job_signals, all_signals, signals_semaphore}
-use Rattle.vq_model.specs.ValidScripts.{IsValidBatch, IsValidMark}
+use Rattle.vq_model.specs.ValidScripts.{is_fence_at, IsValidBatch, IsValidMark, IsValidStep}
 use Rattle.vq_plan_laws.proofs.Cited.{length-batch_commands}
 use Rattle.vq_model.proofs.Gets.{get_within}
-use Rattle.vq_reading_laws.proofs.Cited.{read_batches, read_hostless}
+use Rattle.vq_reading_laws.proofs.Cited.{kind_exists, read_batches, read_steps}
 use Rattle.vq_spec.specs.declared.lowering.Lowered.{Lowered}
-use Rattle.vq_spec.specs.Counts.{signals_before, AreSignals, AreLowered, need_by, value_by, batch_job, in_queue, last_of_queues}
+use Rattle.vq_spec.specs.Counts.{signals_before, AreSignals, AreLowered, need_by, value_by, batch_job, in_queue, is_step, last_of_queues}
+use Rattle.vq_spec.specs.Fences.{after_batch, after_step}
+use Rattle.vq_spec.proofs.FenceStates.{states_length, resets_few, fences_batch, fences_step}
 use Rattle.vq_spec.proofs.Lowered.{commands_push, few_up_to}
 use Rattle.vq_spec.proofs.Ranges.{take_push, enumerate-append, map_range-set, get_map_range}
 use Rattle.vq_spec.proofs.SignalOrder.{signals_before-push, earlier_count, take_before, job_ops_are, count_at}
@@ -52,14 +56,19 @@ last_before-push s j job at test =
     ∙ (last_from-push 0 test (take j s.jobs) job None
     ∙ ap (λ k. cond (test job) (Some k) (last_before s j test)) e)
 
--- no batch comes after a host step
-no_host : (n j : ℕ) (jobs : List Job) →
-    ((i : ℕ) (h : HostLine) → slice_get jobs i ≡ Some (Host h) → ⊥) →
-    last_from n (λ x. same_lane HostLane (lane_of x)) (take j jobs) None ≡ None
-no_host n zero jobs w = refl
-no_host n (suc j) [] w = refl
-no_host n (suc j) (Host h ∷ jobs) w = absurd (w 0 h refl)
-no_host n (suc j) (BatchJob b ∷ jobs) w = no_host (n + 1) j jobs (λ i h e. w (suc i) h e)
+-- One job more
+
+module _ (s : Script) (j : ℕ) (job : Job) (at : slice_get s.jobs j ≡ Some job) where
+  jobs_push : map (plan_job s) (enumerate_from 0 (take (j + 1) s.jobs))
+      ≡ map (plan_job s) (enumerate_from 0 (take j s.jobs)) ++ plan_job s (j, job) ∷ []
+  jobs_push =
+      let inside = get_within s.jobs j job at in
+      let e : 0 + length (take j s.jobs) ≡ j = omega
+      (arith, length-take-le j s.jobs (omega arith)) in
+      ap (λ jobs. map (plan_job s) (enumerate_from 0 jobs)) (take_push s.jobs j job at)
+      ∙ (ap (map (plan_job s)) (enumerate-append 0 (take j s.jobs) (job ∷ [])
+      ∙ ap (λ n. enumerate_from 0 (take j s.jobs) ++ (n, job) ∷ []) e)
+      ∙ map-append (plan_job s) (enumerate_from 0 (take j s.jobs)) ((j, job) ∷ []))
 
 -- Commands
 
@@ -113,21 +122,20 @@ module _ (s : Script) (i : IsRead s) (j : ℕ) (b : Batch) (at : slice_get s.job
       each (m ∷ ms) v = λ t. wait_is m v.0 t ∷ each ms v.1 t
 
   -- the job of the plan, by its parts
-  job_is : (previous : Option ℕ) (needs : List Need) (commands signals : List ℕ) →
-      previous ≡ last_before s j (in_queue b.queue) →
+  job_is : (previous host : Option ℕ) (needs : List Need) (commands signals : List ℕ) →
+      previous ≡ last_before s j (in_queue b.queue) → host ≡ last_before s j is_step →
       needs ≡ map (need_by s x.signals.counts.items) b.waits →
       commands ≡ range_with_len x.commands (length b.commands) →
       signals ≡ range_with_len (length (signals_before s j)) (length (job_signals (j, BatchJob b))) →
-      batch_job b previous needs commands signals ≡ plan_job s (j, BatchJob b)
-  job_is previous needs commands signals e_previous e_needs e_commands e_signals =
+      batch_job b previous host needs commands signals ≡ plan_job s (j, BatchJob b)
+  job_is previous host needs commands signals e_previous e_host e_needs e_commands e_signals =
       let e : x.commands ≡ sum_by commands_in (take j s.jobs) = k.commands
       ∙ commands_total (take j s.jobs) in
-      let host = no_host 0 j s.jobs (read_hostless s i) in
       λ t. record {
         line = b.line;
         lane = QueueLane b.queue;
         previous = e_previous t;
-        host_before = sym host t;
+        host_before = e_host t;
         any = false;
         needs = (e_needs ∙ needs_are) t;
         asked = [];
@@ -136,17 +144,6 @@ module _ (s : Script) (i : IsRead s) (j : ℕ) (b : Batch) (at : slice_get s.job
         signals = (e_signals ∙ sym (job_ops_are s j (BatchJob b) at)) t;
         question = Silent;
       }
-
-  jobs_push : map (plan_job s) (enumerate_from 0 (take (j + 1) s.jobs))
-      ≡ map (plan_job s) (enumerate_from 0 (take j s.jobs)) ++ plan_job s (j, BatchJob b) ∷ []
-  jobs_push =
-      let inside = get_within s.jobs j (BatchJob b) at in
-      let e : 0 + length (take j s.jobs) ≡ j = omega
-      (arith, length-take-le j s.jobs (omega arith)) in
-      ap (λ jobs. map (plan_job s) (enumerate_from 0 jobs)) (take_push s.jobs j (BatchJob b) at)
-      ∙ (ap (map (plan_job s)) (enumerate-append 0 (take j s.jobs) (BatchJob b ∷ [])
-      ∙ ap (λ n. enumerate_from 0 (take j s.jobs) ++ (n, BatchJob b) ∷ []) e)
-      ∙ map-append (plan_job s) (enumerate_from 0 (take j s.jobs)) ((j, BatchJob b) ∷ []))
 
   last_push : last_of_queues s (j + 1) ≡ set (last_of_queues s j) b.queue (Some j)
   last_push =
@@ -174,19 +171,74 @@ module _ (s : Script) (i : IsRead s) (j : ℕ) (b : Batch) (at : slice_get s.job
       needs ≡ map (need_by s x.signals.counts.items) b.waits →
       commands ≡ range_with_len x.commands (length b.commands) →
       signals ≡ range_with_len (length (signals_before s j)) (length (job_signals (j, BatchJob b))) →
-      new.jobs.items ≡ x.jobs.items ++ batch_job b previous needs commands signals ∷ [] → new.commands ≡ x.commands + length b.commands →
-      new.last.items ≡ set x.last.items b.queue (Some j) → AreSignals s new.signals →
+      new.jobs.items ≡ x.jobs.items ++ batch_job b previous x.host needs commands signals ∷ [] →
+      new.commands ≡ x.commands + length b.commands →
+      new.last.items ≡ set x.last.items b.queue (Some j) → new.host ≡ x.host →
+      new.fences.items ≡ after_batch x.fences.items b → AreSignals s new.signals →
       length new.signals.ops.items ≡ length (signals_before s (j + 1)) → AreLowered s (j + 1) new
-  lowered_push new previous d needs commands signals e_previous e_needs e_commands e_signals new_jobs new_commands new_last new_signals new_count =
+  lowered_push new previous d needs commands signals e_previous e_needs e_commands e_signals new_jobs
+      new_commands new_last new_host new_fences new_signals new_count =
       let count = ap length (commands_push s.jobs j (BatchJob b) at) in
       let sum = length-append (flat_map batch_commands (take j s.jobs)) b.commands in
       let was = k.commands in
       record {
         jobs = new_jobs ∙ ((λ t. k.jobs t
-            ++ job_is previous needs commands signals (e_previous ∙ previous_is d) e_needs e_commands
-            e_signals t ∷ []) ∙ sym jobs_push);
+            ++ job_is previous x.host needs commands signals (e_previous ∙ previous_is d) k.host
+            e_needs e_commands e_signals t ∷ []) ∙ sym (jobs_push s j (BatchJob b) at));
         commands = omega arith;
         last = new_last ∙ (ap (λ ls. set ls b.queue (Some j)) k.last ∙ sym last_push);
+        host = new_host ∙ (k.host ∙ sym (last_before-push s j (BatchJob b) at is_step));
+        fences = new_fences
+            ∙ fences_batch s j x.fences.items k.fences b at (λ m e. (is_valid.fence m e).exists);
+        signals = new_signals;
+        operations = new_count;
+      }
+
+-- A host step
+
+module _ (s : Script) (i : IsRead s) (j : ℕ) (h : HostLine) (at : slice_get s.jobs j ≡ Some (Host h))
+    (x : Lowered) (k : AreLowered s j x) where
+  step_is_valid : IsValidStep s h.step
+  step_is_valid = read_steps s i j h at
+
+  fences_length : length x.fences.items ≡ length s.semaphores
+  fences_length = states_length s j x.fences.items k.fences
+
+  fence_within : (f : ℕ) → is_fence_at s f ≡ true → f < length x.fences.items
+  fence_within f e = let l = kind_exists s is_fence f e in let n = fences_length in omega arith
+
+  pub waited_exist : (f : ℕ) → h.step ≡ FenceWait f → f < length x.fences.items
+  waited_exist f e = fence_within f (subst (IsValidStep s) e step_is_valid)
+
+  pub polled_exist : (f : ℕ) → h.step ≡ FencePoll f → f < length x.fences.items
+  polled_exist f e = fence_within f (subst (IsValidStep s) e step_is_valid)
+
+  pub reset_within : (f : ℕ) → h.step ≡ FenceReset f → f < length x.fences.items
+  reset_within f e = fence_within f (subst (IsValidStep s) e step_is_valid)
+
+  pub few_fence_resets : All (λ y. y.resets < 2 ^ 32) x.fences.items
+  few_fence_resets =
+      let inside = get_within s.jobs j (Host h) at in
+      resets_few s j x.fences.items k.fences i (omega arith)
+
+  pub lowered_step : (new : Lowered) (job : PlanJob) → job ≡ plan_job s (j, Host h) →
+      new.jobs.items ≡ x.jobs.items ++ job ∷ [] → new.commands ≡ x.commands →
+      new.last.items ≡ x.last.items → new.host ≡ Some j →
+      new.fences.items ≡ after_step x.fences.items h.step → AreSignals s new.signals →
+      length new.signals.ops.items ≡ length (signals_before s (j + 1)) → AreLowered s (j + 1) new
+  lowered_step new job e_job new_jobs new_commands new_last new_host new_fences new_signals new_count =
+      let count = ap length (commands_push s.jobs j (Host h) at) in
+      let sum = length-append (flat_map batch_commands (take j s.jobs)) (batch_commands (Host h)) in
+      let was = k.commands in
+      record {
+        jobs = new_jobs ∙ ((λ t. k.jobs t ++ e_job t ∷ []) ∙ sym (jobs_push s j (Host h) at));
+        commands = omega arith;
+        last = new_last ∙ (k.last ∙ λ t. map
+            (λ q. sym (last_before-push s j (Host h) at (in_queue q)) t)
+            (range_with_len 0 (length s.queues)));
+        host = new_host ∙ sym (last_before-push s j (Host h) at is_step);
+        fences = new_fences ∙ fences_step s j x.fences.items k.fences h at
+            (λ f e. let l = reset_within f e in let n = fences_length in omega arith);
         signals = new_signals;
         operations = new_count;
       }

@@ -8,15 +8,19 @@ use Rattle.std.proofs.lemmas.List.FromFn.{map-range_with_len_more}
 use Rattle.vq_model.specs.declared.script.Script.{Script}
 use Rattle.vq_model.specs.declared.script.Semaphore.{Semaphore}
 use Rattle.vq_model.specs.declared.script.Mark.{Mark}
+use Rattle.vq_model.specs.declared.script.Pair.{Pair}
+use Rattle.vq_model.specs.declared.script.HostStep.{HostStep}
+use Rattle.vq_model.specs.declared.script.HostStep.TheVariants.{WaitAll, WaitAny, FenceWait}
 use Rattle.vq_model.specs.declared.script.Job.{Job}
 use Rattle.vq_model.specs.declared.script.Job.TheVariants.{Host, Batch as BatchJob}
 use Rattle.vq_model.specs.declared.plan.Need.{Need}
 use Rattle.vq_model.specs.declared.plan.PlanJob.{PlanJob}
-use Rattle.vq_model.specs.Lowering.{plan_of, plan_job, of_wait}
+use Rattle.vq_model.specs.Lowering.{plan_of, plan_job, of_pair, of_wait, step_needs}
+use Rattle.vq_model.specs.Context.{is_fence, is_timeline}
 use Rattle.vq_model.specs.Plan.{Plan, has, value, chain, chain_of, resolver, initial, job_of}
 use Rattle.vq_model.specs.SameScript.{IsRead}
 use Rattle.vq_model.specs.Signals.{initial_value}
-use Rattle.vq_model.specs.ValidScripts.{IsValidMark}
+use Rattle.vq_model.specs.ValidScripts.{IsTimelinePair, IsValidMark, IsValidStep}
 use Rattle.vq_model.specs.WellFormed.{IsWellFormed}
 use Rattle.vq_model.proofs.Lists.{has_cases}
 use Rattle.vq_model.proofs.Searches.{find_passes}
@@ -24,12 +28,11 @@ use Rattle.vq_model.proofs.Gets.{get-map}
 use Rattle.vq_plan_laws.proofs.Cited.{job_is}
 use Rattle.vq_model.proofs.Options.{some_of}
 use Rattle.vq_model.proofs.Searches.{find_member}
-use Rattle.vq_reading_laws.proofs.Cited.{read_batches}
+use Rattle.vq_reading_laws.proofs.Cited.{kind_exists, read_batches, read_steps}
 use Rattle.vq_spec.specs.declared.chains.Chain.{Chain}
 use Rattle.vq_spec.specs.declared.edges.JobWaits.{JobWaits}
 use Rattle.vq_spec.specs.ChainParts.{AreChains, first_with}
 use Rattle.vq_spec.specs.Jobs.{resolving, waits_by, waits_of}
-use Rattle.vq_spec.proofs.Lowered.{no_host_step}
 use Rattle.vq_spec.proofs.PlanChains.{chain_read, resolver_is}
 use Rattle.vq_spec.proofs.Ranges.{take_push}
 
@@ -119,8 +122,8 @@ resolving_push p now new ns i n at h a =
     (filter (λ m. ltb (initial p m.chain) m.value) (n ∷ [])))))
 
 -- one operation more
-pub jobs_push : (f : ℕ → Option ℕ) (front now new : List ℕ) (es : List ℕ) (i : ℕ) (e : ℕ)
-    (o : Option ℕ) → slice_get es i ≡ Some e → now ≡ front ++ filter_map f (take i es) → o ≡ f e →
+pub jobs_push : {X : Type 0} (f : X → Option ℕ) (front now new : List ℕ) (es : List X) (i : ℕ)
+    (e : X) (o : Option ℕ) → slice_get es i ≡ Some e → now ≡ front ++ filter_map f (take i es) → o ≡ f e →
     new ≡ now ++ option_to_list o → new ≡ front ++ filter_map f (take (i + 1) es)
 jobs_push f front now new es i e o at h is a =
     a
@@ -157,11 +160,30 @@ waits_are p j job at = ap of at
       edges = firsts o ++ filter_map (job_of p) (awaited o);
     }
 
+-- what a host step waits for exists
+module _ (s : Script) (j line : ℕ) where
+  pairs_exist : (pairs : List Pair) → All (IsTimelinePair s) pairs →
+      All (λ n. n.chain < length s.semaphores) (map (of_pair line) pairs)
+  pairs_exist [] v k d l = absurd (omega arith)
+  pairs_exist (x ∷ xs) v zero d l = kind_exists s is_timeline x.semaphore (v 0 x (omega arith))
+  pairs_exist (x ∷ xs) v (suc k) d l =
+      pairs_exist xs (λ n e m. v (suc n) e (omega arith)) k d (omega arith)
+
+  step_needs_exist : (t : HostStep) → IsValidStep s t →
+      All (λ n. n.chain < length s.semaphores) (step_needs s j line t)
+  step_needs_exist (WaitAll pairs) v k d l = pairs_exist pairs v k d l
+  step_needs_exist (WaitAny pairs) v k d l = pairs_exist pairs v k d l
+  step_needs_exist (FenceWait f) v zero d l = kind_exists s is_fence f v
+  step_needs_exist (FenceWait f) v (suc k) d l = absurd (omega arith)
+  step_needs_exist other v k d l = absurd (omega arith)
+
 module _ (s : Script) (i : IsRead s) (j : ℕ) (job : PlanJob)
     (at : slice_get (plan_of s).jobs j ≡ Some job) where
   needs_exist_at : (x : Job) → slice_get s.jobs j ≡ Some x → plan_job s (j, x) ≡ job →
       All (λ n. n.chain < length s.semaphores) job.needs
-  needs_exist_at (Host h) e q = absurd (no_host_step s i j h e)
+  needs_exist_at (Host h) e q =
+      subst (λ (x : PlanJob). All (λ n. n.chain < length s.semaphores) x.needs) q
+      (step_needs_exist s j h.line h.step (read_steps s i j h e))
   needs_exist_at (BatchJob b) e q =
       subst (λ (x : PlanJob). All (λ n. n.chain < length s.semaphores) x.needs) q
       (needs_of b.waits (read_batches s i j b e).waits)

@@ -483,3 +483,10 @@ module _ (s : Script) (j : ℕ) (h : HostLine) (at : slice_get s.jobs j ≡ Some
       let a = step_count in
       let b = ap length (no_signal j h.line h.step n) in
       omega arith
+
+  pub step_ops_are : (first last : ℕ) → first ≡ length (signals_before s j) →
+      last ≡ length (signals_before s (j + 1)) → range_with_len first (last - first) ≡ job_ops s j
+  step_ops_are first last a b =
+      let count : last - first ≡ length (step_signals j h.line h.step) =
+      let c = step_count in omega arith in
+      (λ i. range_with_len (a i) (count i)) ∙ sym (job_ops_are s j (Host h) at)

@@ -1,5 +1,5 @@
 -- What lowering keeps of the jobs before one.
-use Rattle.std.specs.Prelude.{ℕ, List, ◌≡◌, ◌≤◌, map, take, length, count_by, if◌then◌else◌, Option, None, Bool, false}
+use Rattle.std.specs.Prelude.{ℕ, List, ◌≡◌, ◌≤◌, map, take, length, count_by, if◌then◌else◌, Option, Bool, false}
 use Rattle.std.specs.Prelude.{[]}
 use Rattle.std.specs.List.{flat_map, enumerate_from, range_with_len, slice_index}
 use Rattle.vq_model.specs.declared.script.Script.{Script}
@@ -10,10 +10,11 @@ use Rattle.vq_model.specs.declared.plan.PlanJob.{PlanJob}
 use Rattle.vq_model.specs.declared.plan.Question.TheVariants.{Silent}
 use Rattle.vq_model.specs.declared.plan.Op.{Op}
 use Rattle.vq_model.specs.declared.plan.Need.{Need}
-use Rattle.vq_model.specs.declared.plan.Lane.TheVariants.{Queue as QueueLane}
+use Rattle.vq_model.specs.declared.plan.Lane.TheVariants.{Host as HostLane, Queue as QueueLane}
 use Rattle.vq_model.specs.Lowering.{batch_commands, plan_job, lane_of, last_before}
 use Rattle.vq_model.specs.Plan.{same_lane}
 use Rattle.vq_model.specs.Signals.{Signaling, job_signals, all_signals, signals_semaphore, value_at, is_timeline_at}
+use Rattle.vq_spec.specs.Fences.{AreFences}
 use Rattle.vq_spec.specs.declared.lowering.Lowered.{Lowered}
 use Rattle.vq_spec.specs.declared.signals.Signals.{Signals}
 
@@ -75,14 +76,17 @@ in_queue q job = same_lane (QueueLane q) (lane_of job)
 abbrev pub last_of_queues : Script → ℕ → List (Option ℕ)
 last_of_queues s j = map (λ q. last_before s j (in_queue q)) (range_with_len 0 (length s.queues))
 
+abbrev pub is_step : Job → Bool
+is_step job = same_lane HostLane (lane_of job)
+
 -- the job of a batch, by what the jobs before it say
-abbrev pub batch_job : Batch → Option ℕ → List Need → List ℕ → List ℕ → PlanJob
-batch_job b previous needs commands signals =
+abbrev pub batch_job : Batch → Option ℕ → Option ℕ → List Need → List ℕ → List ℕ → PlanJob
+batch_job b previous host_before needs commands signals =
     record {
       line = b.line;
       lane = QueueLane b.queue;
       previous = previous;
-      host_before = None;
+      host_before = host_before;
       any = false;
       needs = needs;
       asked = [];
@@ -97,5 +101,7 @@ pub record AreLowered (s : Script) (j : ℕ) (x : Lowered) : Type 0 where
   pub jobs : x.jobs.items ≡ map (plan_job s) (enumerate_from 0 (take j s.jobs))
   pub commands : x.commands ≡ length (flat_map batch_commands (take j s.jobs))
   pub last : x.last.items ≡ last_of_queues s j
+  pub host : x.host ≡ last_before s j is_step
+  pub fences : AreFences s j x.fences.items
   pub signals : AreSignals s x.signals
   pub operations : length x.signals.ops.items ≡ length (signals_before s j)

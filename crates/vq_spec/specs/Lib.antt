@@ -1,5 +1,6 @@
 pub mod ChainParts
 pub mod Counts
+pub mod Fences
 pub mod Jobs
 pub mod PlanTables
 pub mod Places

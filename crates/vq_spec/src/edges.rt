@@ -25,7 +25,7 @@ pub(crate) struct JobWaits {
 }
 
 /// Adds a number, if there is one.
-fn push_some(numbers: &mut Vec<u32>, number: Option<u32>) -> Result<(), AllocError>
+pub(crate) fn push_some(numbers: &mut Vec<u32>, number: Option<u32>) -> Result<(), AllocError>
     ensures { OnOk result (numbers.new.items ≡ numbers.old.items ++ option_to_list number) }
 {
     if let Some(number) = number {

@@ -4,8 +4,10 @@
 mod answers;
 mod chains;
 mod edges;
+mod fences;
 mod heads;
 mod hexadecimal;
+mod host_steps;
 mod lowering;
 mod order;
 mod payloads;

@@ -4,16 +4,19 @@ ghost use Rattle.std.specs.List.{flat_map, range_with_len, slice_get};
 ghost use Rattle.vq_model.specs.Lowering.{batch_commands, plan_of};
 ghost use Rattle.vq_model.specs.LoweringFaults.{lowering_fault};
 ghost use Rattle.vq_model.specs.SameScript.{IsRead};
+ghost use Rattle.vq_model.specs.declared.script.Job.TheVariants.{Host, Batch as BatchJob};
 ghost use Rattle.vq_spec.specs.Counts.{AreLowered, batch_job, need_by};
 
 use crate::chains::{Chain, lower_chains, place_ops};
 use crate::edges::{JobWaits, lower_waits};
+use crate::fences::{FenceState, no_fences, take_batch, take_step};
+use crate::host_steps::{push_signals, step_job};
 use crate::places::{CommandAt, lower_places};
 use crate::signals::{Signals, value_of};
 use std::alloc::{AllocError, Global};
 use vq_model::list::List;
 use vq_model::plan::{Lane, Need, Op, PlanJob, Question};
-use vq_model::script::{Batch, Job, Mark, Script};
+use vq_model::script::{Batch, HostLine, Job, Mark, Script};
 
 /// What a plan keeps beside its script.
 #[derive(Drop)]
@@ -36,6 +39,10 @@ pub(crate) struct Lowered {
     pub(crate) commands: u32,
     /// The last job of each queue.
     pub(crate) last: Vec<Option<u32>>,
+    /// The last host step.
+    pub(crate) host: Option<u32>,
+    /// What the jobs say of each fence.
+    pub(crate) fences: Vec<FenceState>,
     pub(crate) signals: Signals,
 }
 
@@ -96,17 +103,18 @@ fn batch_job(
     alloc: Global,
     batch: &Batch,
     previous: Option<u32>,
+    host_before: Option<u32>,
     needs: List<Need>,
     commands: List<u32>,
     signals: List<u32>,
 ) -> PlanJob
-    ensures { result ≡ batch_job batch.now previous needs commands signals }
+    ensures { result ≡ batch_job batch.now previous host_before needs commands signals }
 {
     PlanJob {
         line: batch.line,
         lane: Lane::Queue(batch.queue),
         previous,
-        host_before: None,
+        host_before,
         any: false,
         needs,
         asked: none(alloc),
@@ -138,20 +146,25 @@ impl Lowered {
             jobs: Vec::new(alloc),
             commands: 0,
             last: no_jobs(alloc, queues)?,
+            host: None,
+            fences: no_fences(alloc, script.semaphores.as_slice().len())?,
             signals: Signals::new(alloc, script)?,
         })
     }
 
-    /// Adds the next job.
-    fn push(&mut self, alloc: Global, script: &Script, j: u32) -> Result<(), AllocError>
+    /// Adds the job of a batch.
+    fn push_batch(
+        &mut self,
+        alloc: Global,
+        script: &Script,
+        j: u32,
+        batch: &Batch,
+    ) -> Result<(), AllocError>
         requires read { IsRead script.now }
-        requires exists { j < length script.now.jobs }
+        requires at { slice_get script.now.jobs j ≡ Some (BatchJob batch.now) }
         requires kept { AreLowered script.now j self.old }
         ensures { OnOk result (AreLowered script.now (j + 1) self.new) }
     {
-        let Job::Batch(batch) = &script.jobs.as_slice()[j as usize] else {
-            unreachable!()
-        };
         let counts = self.signals.counts.as_slice();
         let needs = lower_needs(alloc, script, counts, batch.waits.as_slice())?;
         let first = self.signals.ops.len() as u32;
@@ -161,11 +174,54 @@ impl Lowered {
         let commands = numbers(alloc, self.commands, count)?;
         let queue = batch.queue as usize;
         let previous = self.last[queue];
-        let job = batch_job(alloc, batch, previous, needs, commands, signals);
+        let job = batch_job(alloc, batch, previous, self.host, needs, commands, signals);
         self.jobs.push(job)?;
         self.last[queue] = Some(j);
         self.commands += count;
+        take_batch(&mut self.fences, batch);
         Ok(())
+    }
+
+    /// Adds the job of a host step.
+    fn push_step(
+        &mut self,
+        alloc: Global,
+        script: &Script,
+        j: u32,
+        host: &HostLine,
+    ) -> Result<(), AllocError>
+        requires read { IsRead script.now }
+        requires at { slice_get script.now.jobs j ≡ Some (Host host.now) }
+        requires kept { AreLowered script.now j self.old }
+        ensures { OnOk result (AreLowered script.now (j + 1) self.new) }
+    {
+        let signals = push_signals(alloc, &mut self.signals, script, j, host)?;
+        let states = self.fences.as_slice();
+        let job = step_job(
+            alloc,
+            states,
+            self.last.as_slice(),
+            self.host,
+            host,
+            signals,
+        )?;
+        self.jobs.push(job)?;
+        self.host = Some(j);
+        take_step(&mut self.fences, &host.step);
+        Ok(())
+    }
+
+    /// Adds the next job.
+    fn push(&mut self, alloc: Global, script: &Script, j: u32) -> Result<(), AllocError>
+        requires read { IsRead script.now }
+        requires exists { j < length script.now.jobs }
+        requires kept { AreLowered script.now j self.old }
+        ensures { OnOk result (AreLowered script.now (j + 1) self.new) }
+    {
+        match &script.jobs.as_slice()[j as usize] {
+            Job::Host(host) => self.push_step(alloc, script, j, host),
+            Job::Batch(batch) => self.push_batch(alloc, script, j, batch),
+        }
     }
 }
 
