@@ -62,7 +62,7 @@ pub run_keeps : (p : Plan) → IsWellFormed p → KeepsChains p → (xs : List S
 run_keeps p w ch xs r = keep_run p w ch (opening_state p) xs (holds_at_opening p) r
 
 -- and so does each that a run without answers leads to
-keep_progress_run : (p : Plan) → IsWellFormed p → KeepsChains p → (s : Progress) (xs : List Step) → Invariant p s → ProgressFrom p s xs → Invariant p (fold (after_progress p) s xs)
+pub keep_progress_run : (p : Plan) → IsWellFormed p → KeepsChains p → (s : Progress) (xs : List Step) → Invariant p s → ProgressFrom p s xs → Invariant p (fold (after_progress p) s xs)
 keep_progress_run p w ch s [] k r = k
 keep_progress_run p w ch s (x ∷ xs) k r = keep_progress_run p w ch (after_progress p s x) xs (keep_progress p w ch s x k r.0) r.1
 

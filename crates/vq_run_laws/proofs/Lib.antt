@@ -14,6 +14,7 @@ mod PlacesReached
 mod ProgressRuns
 mod RunFacts
 mod SinceStart
+mod SlowAnswers
 mod SlowSteps
 mod StateFacts
 mod Swaps

@@ -41,19 +41,19 @@ greatest_below p done n m (e ∷ es) l f = by_test (is_of p done e) refl (λ k h
         subst (λ z. z ≤ m) (sym a) (r n l)
 
 -- steps that may come from here on, after which all jobs are finished
-abbrev Result : Plan → Progress → List Step → Type 0
+abbrev pub Result : Plan → Progress → List Step → Type 0
 Result p s steps = ProgressFrom p s steps × AreFinished p (fold (after_progress p) s steps)
 
 -- these jobs are done, and nothing else has happened
-record Slow (p : Plan) (done : List ℕ) (s : Progress) : Type 0 where
-  facts : Invariant p s
-  raised : Raised p s.payload s.made
-  finished_done : (i : ℕ) → has done i ≡ true → s.finished i ≡ true
-  started_done : (i : ℕ) → s.started i ≡ true → has done i ≡ true
+pub record Slow (p : Plan) (done : List ℕ) (s : Progress) : Type 0 where
+  pub facts : Invariant p s
+  pub raised : Raised p s.payload s.made
+  pub finished_done : (i : ℕ) → has done i ≡ true → s.finished i ≡ true
+  pub started_done : (i : ℕ) → s.started i ≡ true → has done i ≡ true
 
 -- a job runs that had all its needs reached
 record Runs (p : Plan) (done : List ℕ) (j : ℕ) (s : Progress) : Type 0 where
-  facts : Invariant p s
+  pub facts : Invariant p s
   raised : Raised p s.payload s.made
   finished_done : (i : ℕ) → has done i ≡ true → s.finished i ≡ true
   started_done : (i : ℕ) → s.started i ≡ true → (has done i ≡ true) ⊎ (i ≡ j)
@@ -63,7 +63,7 @@ record Runs (p : Plan) (done : List ℕ) (j : ℕ) (s : Progress) : Type 0 where
 
 module _ (p : Plan) (w : IsWellFormed p) (ch : KeepsChains p) where
   -- payloads have reached what the done jobs signal
-  numbers : (done : List ℕ) (s : Progress) → Slow p done s → (t : ℕ) → payload_after p done t ≤ s.payload t
+  pub numbers : (done : List ℕ) (s : Progress) → Slow p done s → (t : ℕ) → payload_after p done t ≤ s.payload t
   numbers done s k t = greatest_below p done (initial p t) (s.payload t) (chain p t) first each
     where
       first : initial p t ≤ s.payload t
@@ -272,7 +272,7 @@ module _ (p : Plan) (w : IsWellFormed p) (ch : KeepsChains p) where
         r : Result p (after_progress p s (StartStep j)) (map ApplyStep (commands_of p j) ++ (map SignalStep (signals_of p j) ++ (FinishStep j ∷ steps)))
         r = apply_steps (commands_of p j) [] (after_progress p s (StartStep j)) steps refl (w.commands j) after (λ c h. absurd (false≢true h)) unapplied unmade rest
 
-  walk : (rest done : List ℕ) → ReadyEach p done rest → ((i : ℕ) → i < length p.jobs → has (done ++ rest) i ≡ true) → (s : Progress) → Slow p done s → Result p s (steps_of_jobs p rest)
+  pub walk : (rest done : List ℕ) → ReadyEach p done rest → ((i : ℕ) → i < length p.jobs → has (done ++ rest) i ≡ true) → (s : Progress) → Slow p done s → Result p s (steps_of_jobs p rest)
   walk [] done r all s k = (tt, λ i l. k.finished_done i (ap (λ zs. has zs i) (sym (append-nil done)) ∙ all i l))
   walk (j ∷ js) done r all s k = start_step done j s (steps_of_jobs p js) r.0 r.1 k (λ t m. walk js (done ++ j ∷ []) r.2 (λ i l. ap (λ zs. has zs i) (append_assoc done (j ∷ []) js) ∙ all i l) t m)
 

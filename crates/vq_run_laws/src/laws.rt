@@ -13,6 +13,7 @@ ghost use Rattle.vq_model.specs.Races.{HasSureOrder};
 ghost use Rattle.vq_model.specs.Edges.{HasNoHeldWait, AtEnd};
 ghost use Rattle.vq_model.specs.HappensBefore.{HappensBeforeCommand, HappensBefore};
 ghost use Rattle.vq_run_laws.specs.RunFacts.{HasOneProgress, IsSureInTime, SlowRunIsRun, MakesAsPayloadsSay};
+ghost use Rattle.vq_run_laws.specs.SlowAnswers.{AnswersSlowly};
 ghost use Rattle.vq_run_laws.specs.RunFacts.{MakesNoneAfter, ReadsPayloads, HistoriesAreRuns, RunsGiveOutputs};
 
 /// Every finished run leaves the bytes of the slow run, whatever the order of its steps. So does every
@@ -80,6 +81,14 @@ pub fn run_gives_output()
     ensures ordered { (p : Plan) → IsWellFormed p → KeepsHostOrder p → HasSureOrder p →
         RunsGiveOutputs p }
     ensures lawful { (p : Plan) → IsPlan p → IsLawful p → RunsGiveOutputs p }
+{}
+
+/// The slow run may be answered by the payloads that the jobs before each step leave: then its text is
+/// one of the plan's outputs.
+pub fn slow_run_has_answers()
+    ensures ordered { (p : Plan) → IsWellFormed p → KeepsHostOrder p → HasSureOrder p →
+        AnswersSlowly p }
+    ensures lawful { (p : Plan) → IsPlan p → IsLawful p → AnswersSlowly p }
 {}
 
 /// What a read may give is what the payload was in some state from the job's start to now.
