@@ -1,10 +1,10 @@
 -- What the parts of a check give is what the check gives.
-use Rattle.std.proofs.Common.{◌≡◌, Err, Option, Some, None, subst}
+use Rattle.std.proofs.Common.{◌≡◌, ℕ, Err, Option, Some, None, subst}
 use Rattle.vq_model.specs.declared.plan.OrderFault.{OrderFault}
 use Rattle.vq_model.specs.declared.plan.OrderFault.TheVariants.{Unreachable, Unordered, FenceBusy, NotPending, Race, Memory}
-use Rattle.vq_model.specs.Checks.{Checks, IsFirstPlanFault, IsLawful, IsRaceAt, IsUnordered, NoLines}
+use Rattle.vq_model.specs.Checks.{Checks, IsFenceBusyAt, IsFirstPlanFault, IsLawful, IsLeast, IsRaceAt, IsUnordered, NoLine, NoLines}
 use Rattle.vq_model.specs.Plan.{Plan}
-use Rattle.vq_plan_laws.proofs.Cited.{never_busy, never_ahead}
+use Rattle.vq_plan_laws.proofs.Cited.{never_ahead}
 use Rattle.vq_order.specs.declared.lines.Lines.{Lines}
 use Rattle.vq_order.specs.Checked.{KeepsPlanOr}
 use Rattle.vq_order.specs.LeastLines.{AreLeastOrNone}
@@ -18,24 +18,32 @@ fault_is p (NotPending n) h = h
 fault_is p (Race a b) h = h
 fault_is p Memory h = h
 
-module _ (p o : Plan) (same : o ≡ p) (complete : IsComplete p) (unordered : NoLines (IsUnordered o)) (x : Option Lines) (race : AreLeastOrNone (IsRaceAt o) x) where
-  -- A plan of which the slow run leaves no job, with no signals in no sure order and no race, is
-  -- lawful: the other faults need steps that can't be written so far.
-  pub lawful_plan : x ≡ None → IsLawful p
-  lawful_plan none =
-      record {
-        reachable = complete.reachable;
-        ordered = subst (λ (q : Plan). NoLines (IsUnordered q)) same unordered;
-        resettable = never_busy p complete.plan;
-        pending = never_ahead p complete.plan;
-        race_free = subst (λ (z : Plan × Option Lines). AreLeastOrNone (IsRaceAt z.0) z.1) (λ i. (same i, none i)) race;
-      }
-
-  pub race_first : (l : Lines) → x ≡ Some l → IsFirstPlanFault p (Race l.first l.second)
-  race_first l some = (
+module _ (p o : Plan) (same : o ≡ p) (complete : IsComplete p) (unordered : NoLines (IsUnordered o)) where
+  pub busy_first : (n : ℕ) → IsLeast (IsFenceBusyAt o) n → IsFirstPlanFault p (FenceBusy n)
+  busy_first n busy = (
     complete.reachable,
     subst (λ (q : Plan). NoLines (IsUnordered q)) same unordered,
-    never_busy p complete.plan,
-    never_ahead p complete.plan,
-    subst (λ (z : Plan × Option Lines). AreLeastOrNone (IsRaceAt z.0) z.1) (λ i. (same i, some i)) race,
+    subst (λ (q : Plan). IsLeast (IsFenceBusyAt q) n) same busy,
   )
+
+  module _ (busy : NoLine (IsFenceBusyAt o)) (x : Option Lines) (race : AreLeastOrNone (IsRaceAt o) x) where
+    -- A plan of which the slow run leaves no job, with no signals in no sure order, no reset of a busy
+    -- fence and no race, is lawful: the fault that is left needs waits that can't be written so far.
+    pub lawful_plan : x ≡ None → IsLawful p
+    lawful_plan none =
+        record {
+          reachable = complete.reachable;
+          ordered = subst (λ (q : Plan). NoLines (IsUnordered q)) same unordered;
+          resettable = subst (λ (q : Plan). NoLine (IsFenceBusyAt q)) same busy;
+          pending = never_ahead p complete.plan;
+          race_free = subst (λ (z : Plan × Option Lines). AreLeastOrNone (IsRaceAt z.0) z.1) (λ i. (same i, none i)) race;
+        }
+
+    pub race_first : (l : Lines) → x ≡ Some l → IsFirstPlanFault p (Race l.first l.second)
+    race_first l some = (
+      complete.reachable,
+      subst (λ (q : Plan). NoLines (IsUnordered q)) same unordered,
+      subst (λ (q : Plan). NoLine (IsFenceBusyAt q)) same busy,
+      never_ahead p complete.plan,
+      subst (λ (z : Plan × Option Lines). AreLeastOrNone (IsRaceAt z.0) z.1) (λ i. (same i, some i)) race,
+    )

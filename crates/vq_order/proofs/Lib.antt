@@ -6,6 +6,7 @@ mod WindowLaws
 mod RaceLaws
 mod LineSearches
 mod Firsts
+mod BusyLaws
 mod CheckLaws
 mod NeedChains
 mod UnorderedLaws

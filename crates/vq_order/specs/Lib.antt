@@ -3,6 +3,7 @@ pub mod Counts
 pub mod LeastLines
 pub mod UnorderedLines
 pub mod Unreached
+pub mod Busy
 pub mod Accessed
 pub mod CellRanges
 pub mod Swept

@@ -2,6 +2,7 @@
 ghost use Rattle.vq_model.specs.Checks.{Checks};
 ghost use Rattle.vq_order.specs.Checked.{KeepsPlanOr};
 
+use crate::busy::first_busy;
 use crate::clocked::Clocked;
 use crate::complete_run::CompleteRun;
 use crate::lines::Lines;
@@ -30,18 +31,22 @@ fn clocked(alloc: Global, plan: Plan) -> Result<Clocked, OrderFault>
 ///
 /// The errors come in this order, each with the least line, or with the least pair of lines by the
 /// second and then by the first: `Unreachable`, where the slow run leaves a job, with a wait that is
-/// then unreached; `Unordered`, where signals of one semaphore stand in no sure order; `Race`, where
-/// commands of two jobs conflict and neither happens before the other. `FenceBusy` and `NotPending`
-/// don't come of scripts that can be written so far. `Memory` is want of memory.
+/// then unreached; `Unordered`, where signals of one semaphore stand in no sure order; `FenceBusy`,
+/// where a fence is reset whose last naming isn't sure to be signaled; `Race`, where commands of two
+/// jobs conflict and neither happens before the other. `NotPending` doesn't come of scripts that can
+/// be written so far. `Memory` is want of memory.
 ///
-/// Source: Vulkan 1.3, "Semaphore Signaling", "Semaphore Waiting", "Execution and Memory
-/// Dependencies". That the slow run decides what can be reached is this project's rule.
+/// Source: Vulkan 1.3, "Semaphore Signaling", "Semaphore Waiting", vkResetFences, "Execution and
+/// Memory Dependencies". That the slow run decides what can be reached is this project's rule.
 pub fn check(alloc: Global, plan: Plan) -> Result<Ordered, OrderFault>
     ensures { Checks plan result }
 {
     let order = clocked(alloc, plan)?;
     if let Some(Lines { first, second }) = first_unordered(&order) {
         return Err(OrderFault::Unordered { first, second });
+    }
+    if let Some(line) = first_busy(alloc, &order)? {
+        return Err(OrderFault::FenceBusy { line });
     }
     if let Some(Lines { first, second }) = first_race(alloc, &order)? {
         return Err(OrderFault::Race { first, second });

@@ -1,6 +1,7 @@
 //! The order that a plan puts on its jobs, and what a plan is refused for.
 #![tactic(auto)]
 
+mod busy;
 mod checking;
 mod clocked;
 mod clocks;
