@@ -1,5 +1,5 @@
 pub mod Cited
-mod HostlessPlans
+mod AskedChains
 mod UnwaitedPlans
 mod FaultLaws
 mod HostPlans

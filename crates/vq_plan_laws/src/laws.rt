@@ -5,7 +5,7 @@ ghost use Rattle.vq_model.specs.Plan.{Plan, has, value};
 ghost use Rattle.vq_model.specs.Edges.{must_finish, AtEnd, HasNoHeldWait};
 ghost use Rattle.vq_model.specs.WellFormed.{IsWellFormed, KeepsHostOrder};
 ghost use Rattle.vq_model.specs.Machine.{are_reached};
-ghost use Rattle.vq_model.specs.SlowRun.{is_ready, payload_after, final};
+ghost use Rattle.vq_model.specs.SlowRun.{is_ready, payload_after};
 ghost use Rattle.vq_model.specs.LoweringFaults.{LoweringFault, lowering_fault, IsFirstFaultyUse, HasNoFaultyUse};
 ghost use Rattle.vq_model.specs.LoweringFaults.{IsPlan};
 ghost use Rattle.vq_model.specs.declared.script.Script.{Script};
@@ -14,12 +14,10 @@ ghost use Rattle.vq_model.specs.declared.statement.Form.{Form};
 ghost use Rattle.vq_model.specs.Reading.{StandsFor};
 ghost use Rattle.vq_model.specs.SameScript.{IsRead};
 ghost use Rattle.vq_model.specs.Signals.{Signaling, all_signals, signals_semaphore, value_at, is_timeline_at};
-ghost use Rattle.vq_model.specs.Checks.{IsEffectiveReset, IsFenceBusyAt, IsNotPendingAt, NoLine};
+ghost use Rattle.vq_model.specs.Checks.{IsEffectiveReset, IsNotPendingAt, NoLine};
 ghost use Rattle.vq_model.specs.Lowering.{effective_resets, plan_of};
 ghost use Rattle.vq_model.specs.ValidScripts.{IsValid};
 ghost use Rattle.vq_model.specs.Lanes.{KeepsLanes, KeepsSemaphores, HasLinesInOrder};
-ghost use Rattle.vq_model.specs.OutputText.{buffers_text};
-ghost use Rattle.vq_model.specs.Outputs.{IsOutput};
 
 /// Places of waits don't touch the slow run: a job is ready when all its needs are reached.
 pub fn slow_run_ignores_places()
@@ -82,14 +80,9 @@ pub fn plans_are_in_order()
     ensures lines { (p : Plan) → IsPlan p → HasLinesInOrder p }
 {}
 
-/// The plan of a script of batches alone asks nothing: it has one output, the text of the buffers
-/// that the slow run leaves. No fence is reset, no batch of an immediate queue waits, and no wait
-/// holds back a part of a batch only.
+/// What the plan of a script of the forms that are built so far doesn't have: a wait in a batch of an
+/// immediate queue, a wait that holds back a part of a batch only.
 pub fn plans_of_built_forms()
-    ensures output { (p : Plan) → IsPlan p → IsOutput p (buffers_text p.script.buffers (final p)) }
-    ensures only_output { (p : Plan) → IsPlan p → (text : List ℕ) → IsOutput p text →
-        text ≡ buffers_text p.script.buffers (final p) }
-    ensures resettable { (p : Plan) → IsPlan p → NoLine (IsFenceBusyAt p) }
     ensures pending { (p : Plan) → IsPlan p → NoLine (IsNotPendingAt p) }
     ensures unheld { (p : Plan) → IsPlan p → HasNoHeldWait p }
 {}
