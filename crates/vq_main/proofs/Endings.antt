@@ -20,14 +20,14 @@ use Rattle.vq_model.specs.SameScript.{IsRead}
 use Rattle.vq_model.specs.ValidScripts.{IsActor}
 use Rattle.vq_reading_laws.proofs.Cited.{read_turns}
 use Rattle.vq_main.specs.Tasks.{form_of, planned, turns_for}
-use Rattle.vq_plan_laws.proofs.Cited.{hostless_output, kept_read, moved_read}
+use Rattle.vq_plan_laws.proofs.Cited.{kept_read, moved_read}
 use Rattle.vq_model.specs.Refusals.{too_long, line_refusal, plan_refusal, order_refusal}
 use Rattle.vq_order_laws.proofs.Cited.{lawful_without_fault}
 use Rattle.vq_main.specs.declared.task.Task.{Task}
 use Rattle.vq_main.specs.declared.task.Task.TheVariants.{Run, Check, Replay}
 use Rattle.vq_main.specs.declared.status.Status.{Status}
 use Rattle.vq_main.specs.declared.status.Status.TheVariants.{Done, BadWords, Refused, ReadFault, WriteFault, Memory}
-use Rattle.vq_main.specs.Outcomes.{IsOutcome, is_too_long, has_faulty_line, has_no_plan, is_unlawful, gives_answer, Ends, AnswersTask, TaskText, RefusesPlan, RefusesOrder, ReadsToEnd, IsLawfulInput, IsDoneOrMemory, input_limit}
+use Rattle.vq_main.specs.Outcomes.{IsOutcome, is_too_long, has_faulty_line, has_no_plan, is_unlawful, gives_answer, Ends, AnswersTask, RefusesPlan, RefusesOrder, ReadsToEnd, IsLawfulInput, IsDoneOrMemory, input_limit}
 use Rattle.vq_main.specs.Outcomes.{IsReadFor, ArePlayable, IsTrace}
 use Rattle.vq_main.specs.Writes.{SinkMoment, WroteAll, Writes, wrote_all, wrote_part}
 
@@ -149,13 +149,6 @@ module _ (task : Task) (input : List ℕ) (s : Script) (turns : List Turn) (r : 
   refused_outcome (FenceUsed n) text short l is = refused (FenceUsed n) text short l is
   refused_outcome NoMemoryToLower text short l is = absurd is
 
--- what is written for a task of a plan of batches answers it
-answers_task : (task : Task) (p : Plan) (script : Script) (turns : List Turn) (text : List ℕ) → IsPlan p →
-    turns ≡ turns_for task script → TaskText task p turns text → AnswersTask task p script.turns text
-answers_task Run p script turns text i same text_is = subst (IsOutput p) (sym text_is) (hostless_output p i)
-answers_task Check p script turns text i same text_is = text_is
-answers_task Replay p script turns text i same text_is = subst (λ ts. IsTrace p ts text) same text_is
-
 -- What comes of a plan that was read for a task
 
 module _ (task : Task) (input : List ℕ) (p : Plan) (turns : List Turn) (short : length input ≤ input_limit)
@@ -170,11 +163,17 @@ module _ (task : Task) (input : List ℕ) (p : Plan) (turns : List Turn) (short 
   same_plan = l.1 ∙ ap plan_of r.made
 
   -- it was checked, and its task done
-  pub task_outcome : (text : List ℕ) → IsLawful p → TaskText task p turns text → IsOutcome task input Done text
+  pub task_outcome : (text : List ℕ) → IsLawful p → AnswersTask task p turns text → IsOutcome task input Done text
   task_outcome text lawful is =
       gives_answer r.script text short r.stands lowers (subst IsLawful same_plan lawful)
-      (subst (λ q. AnswersTask task q r.script.turns text) same_plan
-      (answers_task task p r.script turns text plan_is r.moved is))
+      (subst (λ q. AnswersTask task q r.script.turns text) same_plan (by_task task r.moved is))
+    where
+      -- the turns that a task plays are those of the script that was read
+      by_task : (t : Task) → turns ≡ turns_for t r.script → AnswersTask t p turns text →
+          AnswersTask t p r.script.turns text
+      by_task Run same done = done
+      by_task Check same done = done
+      by_task Replay same done = subst (λ ts. IsTrace p ts text) same done
 
   -- it was refused for its first fault
   unlawful : (fault : OrderFault) (text : List ℕ) → IsFirstPlanFault p fault → text ≡ order_refusal fault →

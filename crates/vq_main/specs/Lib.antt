@@ -1,3 +1,4 @@
 pub mod Tasks
 pub mod Writes
 pub mod Outcomes
+pub mod Walked

@@ -13,7 +13,7 @@ use Rattle.vq_model.specs.Lowering.{plan_of}
 use Rattle.vq_model.specs.LoweringFaults.{lowering_fault, IsFirstLoweringFault}
 use Rattle.vq_model.specs.Checks.{IsLawful, IsFirstPlanFault}
 use Rattle.vq_model.specs.SlowRun.{bytes_after, final}
-use Rattle.vq_model.specs.OutputText.{line_feed, buffers_text}
+use Rattle.vq_model.specs.OutputText.{line_feed}
 use Rattle.vq_model.specs.Outputs.{IsOutput}
 use Rattle.vq_model.specs.Refusals.{too_long, bad_words, line_refusal, plan_refusal, order_refusal}
 use Rattle.vq_model.specs.Machine.{AreFinished, Run as IsRunOf}
@@ -88,12 +88,6 @@ RefusesPlan fault text = text ≡ plan_refusal fault
 abbrev pub RefusesOrder : OrderFault → List ℕ → Type 0
 RefusesOrder NoMemoryToCheck text = ⊥
 RefusesOrder fault text = text ≡ order_refusal fault
-
--- the text that is written for a task of a plan of batches, which has one output
-abbrev pub TaskText : Task → Plan → List Turn → List ℕ → Type 0
-TaskText Run p turns text = text ≡ buffers_text p.script.buffers (final p)
-TaskText Check p turns text = text ≡ is_lawful_text
-TaskText Replay p turns text = IsTrace p turns text
 
 -- turns that can be played over a plan of a script: they are few, and each actor is one of the script
 pub record ArePlayable (s : Script) (turns : List Turn) : Type 0 where

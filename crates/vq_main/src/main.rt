@@ -8,6 +8,7 @@ mod status;
 mod task;
 #[cfg(test)]
 mod tests;
+mod walk;
 
 use run::run;
 use status::Status;

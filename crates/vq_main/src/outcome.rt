@@ -1,15 +1,14 @@
 //! What the program writes for an input.
 ghost use Rattle.std.specs.Prelude.{◌≡◌, ◌≤◌, IfOk, Ok, length};
 ghost use Rattle.vq_model.specs.LoweringFaults.{Lowers};
-ghost use Rattle.vq_model.specs.OutputText.{buffers_text};
 ghost use Rattle.vq_model.specs.Refusals.{at_line, at_lines, line_refusal};
-ghost use Rattle.vq_model.specs.SlowRun.{final};
 ghost use Rattle.vq_main.specs.Outcomes.{ArePlayable, IsOutcome, IsReadFor, IsTrace};
-ghost use Rattle.vq_main.specs.Outcomes.{RefusesOrder, RefusesPlan, TaskText, input_limit};
+ghost use Rattle.vq_main.specs.Outcomes.{AnswersTask, RefusesOrder, RefusesPlan, input_limit};
 ghost use Rattle.vq_main.specs.Tasks.{planned, turns_for};
 
 use crate::status::Status;
 use crate::task::Task;
+use crate::walk::walked_text;
 use std::alloc::{AllocError, Global};
 use std::mem::replace;
 use vq_model::list::List;
@@ -17,7 +16,7 @@ use vq_model::script::Turn;
 use vq_order::{OrderFault, Ordered, check};
 use vq_replay::{replay, trace_text};
 use vq_script::{FaultKind, Script, ScriptFault, parse};
-use vq_spec::{Plan, PlanFault, apply_in_order, buffers_text};
+use vq_spec::{Plan, PlanFault};
 
 /// A status with the text that goes with it.
 #[derive(Drop)]
@@ -101,15 +100,6 @@ fn order_refusal(alloc: Global, fault: OrderFault) -> Result<Vec<u8>, AllocError
     }
 }
 
-/// The text of a lawful plan's final buffers. The order of its slow run is known, so it isn't made again.
-fn final_text(alloc: Global, ordered: &Ordered) -> Result<Vec<u8>, AllocError>
-    ensures { IfOk result (λ text.
-        text.items ≡ buffers_text ordered.now.script.buffers (final ordered.now)) }
-{
-    let buffers = apply_in_order(alloc, ordered.plan(), ordered.slow_order())?;
-    buffers_text(alloc, ordered.plan(), &buffers)
-}
-
 /// The trace of turns over a lawful plan.
 fn replay_text(alloc: Global, ordered: Ordered, turns: &[Turn]) -> Result<Vec<u8>, AllocError>
     requires { ArePlayable ordered.script turns.now }
@@ -130,10 +120,10 @@ fn task_text(
     turns: &[Turn],
 ) -> Result<Vec<u8>, AllocError>
     requires { ArePlayable ordered.script turns.now }
-    ensures { IfOk result (λ text. TaskText task ordered turns.now text.items) }
+    ensures { IfOk result (λ text. AnswersTask task ordered turns.now text.items) }
 {
     match task {
-        Task::Run => final_text(alloc, &ordered),
+        Task::Run => walked_text(alloc, &ordered),
         Task::Check => Vec::from_slice(alloc, b"lawful\n"),
         Task::Replay => replay_text(alloc, ordered, turns),
     }
@@ -148,7 +138,7 @@ fn of_lawful(
 ) -> Result<Outcome, AllocError>
     requires { ArePlayable ordered.script turns.now }
     ensures { IfOk result (λ outcome. (outcome.status ≡ Status.Done)
-        × TaskText task ordered turns.now outcome.text.items) }
+        × AnswersTask task ordered turns.now outcome.text.items) }
 {
     Ok(Outcome::done(task_text(alloc, task, ordered, turns)?))
 }

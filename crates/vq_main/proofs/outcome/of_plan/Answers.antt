@@ -1,7 +1,7 @@
 use Rattle.std.proofs.Common.{subst, sym}
 use Rattle.std.proofs.lemmas.Result.{IfOk-weaker}
 use Rattle.vq_main.specs.declared.outcome.Outcome.{Outcome}
-use Rattle.vq_main.specs.Outcomes.{ArePlayable, IsOutcome, TaskText}
+use Rattle.vq_main.specs.Outcomes.{AnswersTask, ArePlayable, IsOutcome}
 use Rattle.vq_main.proofs.Endings.{playable, task_outcome, unlawful_outcome}
 use Rattle.vq_main.proofs.outcome.of_plan.Goals as goal
 
@@ -16,7 +16,7 @@ returns-in-Ok c =
     IfOk-weaker c.of_lawful.result _ _ (λ (o : Outcome) said. subst
     (λ s. IsOutcome c.args.task c.args.input.now s o.text.items) (sym said.0)
     (task_outcome _ _ _ _ c.requires.short c.requires.read c.requires.lowers _
-    c.in-Ok.ensures.1 (subst (λ p. TaskText c.args.task p c.args.turns.now o.text.items) same said.1)))
+    c.in-Ok.ensures.1 (subst (λ p. AnswersTask c.args.task p c.args.turns.now o.text.items) same said.1)))
     c.of_lawful.ensures
 
 pub returns-in-Err : goal.returns-in-Err
