@@ -1,87 +1,23 @@
 -- What the proofs of this crate need of a lawful plan.
-use Rattle.std.proofs.Common.{
-  ◌≡◌,
-  ℕ,
-  zero,
-  suc,
-  ◌+◌,
-  ◌<◌,
-  Bool,
-  true,
-  false,
-  List,
-  [],
-  ◌∷◌,
-  map,
-  length,
-  get_or,
-  All,
-  Option,
-  Some,
-  None,
-  option_map,
-  refl,
-  sym,
-  ap,
-  ◌∙◌,
-  ◌⊎◌,
-  inl,
-  inr,
-  subst,
-  arith,
-  ◌==◌,
-  not,
-}
+use Rattle.std.proofs.Common.{◌≡◌, ℕ, zero, suc, ◌+◌, ◌<◌, Bool, true, false, List, [], ◌∷◌, map, length, All, Some, None, option_map, refl, sym, ap, ◌∙◌, ◌⊎◌, inl, inr, subst, arith, ◌==◌, not}
 use Rattle.std.specs.List.{slice_get, position_or_len}
-use Rattle.std.specs.Option.{option_map_or}
 use Rattle.std.proofs.lemmas.Bool.{cond-true, cond-false, false≢true, eqb-true, or_cases}
 use Rattle.vq_model.specs.declared.script.Script.{Script}
-use Rattle.vq_model.specs.declared.script.Job.{Job}
-use Rattle.vq_model.specs.declared.script.Job.TheVariants.{Host, Batch}
-use Rattle.vq_model.specs.declared.script.HostLine.{HostLine}
-use Rattle.vq_model.specs.declared.script.HostStep.{HostStep}
-use Rattle.vq_model.specs.declared.script.HostStep.TheVariants.{
-  Signal as Signals,
-  WaitAll,
-  WaitAny,
-  PollAll,
-  PollAny,
-  Read,
-  FenceWait,
-  FencePoll,
-  FenceReset,
-  Idle,
-}
-use Rattle.vq_model.specs.declared.script.Pair.{Pair}
 use Rattle.vq_model.specs.declared.plan.Op.{Op}
-use Rattle.vq_model.specs.declared.plan.Need.{Need}
-use Rattle.vq_model.specs.declared.plan.Question.TheVariants.{Silent, Value as AsksValue}
+use Rattle.vq_model.specs.declared.plan.Question.TheVariants.{Value as AsksValue}
 use Rattle.vq_model.specs.Plan.{Plan, has, chain, value, question, asked}
-use Rattle.vq_model.specs.Context.{is_timeline, is_fence}
-use Rattle.vq_model.specs.ValidScripts.{IsValidStep, IsTimelinePair, HasValidSteps}
 use Rattle.vq_model.specs.Checks.{IsLawful}
 use Rattle.vq_model.specs.Lanes.{KeepsLanes, KeepsSemaphores}
-use Rattle.vq_model.specs.Lowering.{plan_of, plan_job, of_pair, step_asked, step_question, fence_value}
+use Rattle.vq_model.specs.Lowering.{plan_of}
 use Rattle.vq_model.specs.LoweringFaults.{IsPlan}
 use Rattle.vq_model.specs.Races.{HasSureOrder}
 use Rattle.vq_model.specs.Signals.{chain_ops, op_at, all_signals}
 use Rattle.vq_model.specs.Sure.{KeepsRising, RisesFrom}
 use Rattle.vq_model.specs.WellFormed.{IsWellFormed, KeepsHostOrder, AreInOrder}
-use Rattle.std.proofs.lemmas.List.Elements.{All-map, All-cons, All-nil}
 use Rattle.vq_model.proofs.Lists.{has_cases}
 use Rattle.vq_model.proofs.Options.{some_of}
 use Rattle.vq_points.specs.Timeline.{AreRisingFrom}
-use Rattle.vq_reading_laws.proofs.Cited.{read_steps, kind_exists}
-use Rattle.vq_plan_laws.proofs.Cited.{
-  plan_well_formed,
-  plan_lanes,
-  plan_semaphores,
-  plan_hosts,
-  part_is,
-  chain_is,
-  op_is,
-  op_chain_is,
-}
+use Rattle.vq_plan_laws.proofs.Cited.{plan_asked, plan_reads, plan_well_formed, plan_lanes, plan_semaphores, plan_hosts, chain_is, op_is, op_chain_is}
 use Rattle.vq_order_laws.proofs.Cited.{plan_has_sure_order}
 use Rattle.vq_core_laws.specs.Firsts.{StandOnce}
 use Rattle.vq_core_laws.proofs.Firsts.{stands}
@@ -97,62 +33,6 @@ pub record Facts (p : Plan) : Type 0 where
   pub read_chain : (j t : ℕ) → question p j ≡ AsksValue t → t < length p.script.semaphores
   -- an operation stands in its chain at its place
   pub place : (e : ℕ) (o : Op) → slice_get p.ops e ≡ Some o → slice_get (chain p o.chain) o.index ≡ Some e
-
-module _ (s : Script) (w : HasValidSteps s) where
-  abbrev Exists : Need → Type 0
-  Exists n = n.chain < length s.semaphores
-
-  step_asked_exist : (j : ℕ) (h : HostLine) → IsValidStep s h.step → All Exists (step_asked s j h.line h.step)
-  step_asked_exist j h valid = of_step h.step valid
-    where
-      of_pairs : (pairs : List Pair) → All (IsTimelinePair s) pairs → All Exists (map (of_pair h.line) pairs)
-      of_pairs pairs a =
-          All-map Exists (of_pair h.line) pairs
-          (λ i d l. kind_exists s is_timeline (get_or pairs i d).semaphore (a i d l))
-
-      of_step : (t : HostStep) → IsValidStep s t → All Exists (step_asked s j h.line t)
-      of_step (PollAll pairs) a = of_pairs pairs a
-      of_step (PollAny pairs) a = of_pairs pairs a
-      of_step (FencePoll f) a =
-          All-cons Exists (record { line = h.line; chain = f; value = fence_value s j f; from = 1 }) []
-          (kind_exists s is_fence f a) (All-nil Exists)
-      of_step (Read t) a =
-          All-cons Exists (record { line = h.line; chain = t; value = 0; from = 1 }) []
-          (kind_exists s is_timeline t a) (All-nil Exists)
-      of_step other a = All-nil Exists
-
-  asked_exist : (j : ℕ) → All Exists (asked (plan_of s) j)
-  asked_exist j = subst (All Exists) (sym (part_is (λ x. x.asked) [] s j)) (by_job (slice_get s.jobs j) refl)
-    where
-      by_job : (o : Option Job) → slice_get s.jobs j ≡ o →
-          All Exists (option_map_or (λ job. (plan_job s (j, job)).asked) o [])
-      by_job None e = All-nil Exists
-      by_job (Some (Host h)) e = step_asked_exist j h (w j h e)
-      by_job (Some (Batch b)) e = All-nil Exists
-
-  read_exists : (j t : ℕ) → question (plan_of s) j ≡ AsksValue t → t < length s.semaphores
-  read_exists j t is =
-      by_job (slice_get s.jobs j) refl (sym (part_is (λ x. x.question) Silent s j) ∙ is)
-    where
-      of_step : (x : HostStep) → IsValidStep s x → step_question x ≡ AsksValue t → t < length s.semaphores
-      of_step (Read u) valid e =
-          let same : u ≡ t = cc in
-          subst (λ (z : ℕ). z < length s.semaphores) same (kind_exists s is_timeline u valid)
-      of_step (Signals pair) valid e = absurd (let z = e in cc)
-      of_step (WaitAll pairs) valid e = absurd (let z = e in cc)
-      of_step (WaitAny pairs) valid e = absurd (let z = e in cc)
-      of_step (PollAll pairs) valid e = absurd (let z = e in cc)
-      of_step (PollAny pairs) valid e = absurd (let z = e in cc)
-      of_step (FenceWait f) valid e = absurd (let z = e in cc)
-      of_step (FencePoll f) valid e = absurd (let z = e in cc)
-      of_step (FenceReset f) valid e = absurd (let z = e in cc)
-      of_step Idle valid e = absurd (let z = e in cc)
-
-      by_job : (o : Option Job) → slice_get s.jobs j ≡ o →
-          option_map_or (λ job. (plan_job s (j, job)).question) o Silent ≡ AsksValue t → t < length s.semaphores
-      by_job None e h = absurd (let z : Silent ≡ AsksValue t = h in cc)
-      by_job (Some (Host x)) e h = of_step x.step (w j x e) h
-      by_job (Some (Batch b)) e h = absurd (let z : Silent ≡ AsksValue t = h in cc)
 
 -- a number of a list stands at its place
 pub at_place : (xs : List ℕ) (x : ℕ) → has xs x ≡ true → slice_get xs (position_or_len (λ k. k == x) xs) ≡ Some x
@@ -188,7 +68,6 @@ module _ (s : Script) (wf : IsWellFormed (plan_of s)) (sem : KeepsSemaphores (pl
 
 pub facts : (p : Plan) → IsPlan p → IsLawful p → Facts p
 facts p i l =
-    let steps = read_steps p.script i.of_script in
     let wf = plan_well_formed p i in
     let sem = plan_semaphores p i in
     record {
@@ -197,10 +76,8 @@ facts p i l =
       semaphores = sem;
       hosts = plan_hosts p i;
       order = plan_has_sure_order p i l;
-      asked_chain = subst (λ (q : Plan). (j : ℕ) → All (λ n. n.chain < length q.script.semaphores) (asked q j)) (sym
-          i.lowered) (asked_exist p.script steps);
-      read_chain = subst (λ (q : Plan). (j t : ℕ) → question q j ≡ AsksValue t → t < length q.script.semaphores) (sym
-          i.lowered) (read_exists p.script steps);
+      asked_chain = plan_asked p i;
+      read_chain = plan_reads p i;
       place = subst (λ (q : Plan). IsWellFormed q → KeepsSemaphores q → (e : ℕ) (o : Op) →
           slice_get q.ops e ≡ Some o → slice_get (chain q o.chain) o.index ≡ Some e) (sym i.lowered) (place_of_op
           p.script) wf sem;

@@ -8,12 +8,11 @@ ghost use Rattle.vq_points.specs.Points.{PointState, after_event};
 ghost use Rattle.vq_core.specs.CoreState.{world};
 ghost use Rattle.vq_replay.specs.Answered.{AreAnswers};
 
-use crate::answer_text::answer_text;
 use crate::words::line_of_job;
 use std::alloc::{AllocError, Global};
 use vq_core::Core;
 use vq_model::plan::{Answer, AnswerLine, Event};
-use vq_spec::Plan;
+use vq_spec::{Plan, answer_text};
 
 /// No answer for each of so many jobs.
 fn no_answers(alloc: Global, jobs: u32) -> Result<Vec<Option<Answer>>, AllocError>

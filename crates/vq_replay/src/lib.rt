@@ -3,7 +3,6 @@
 #![tactic(auto)]
 
 mod actors;
-mod answer_text;
 mod answers;
 mod core_access;
 mod looks;
