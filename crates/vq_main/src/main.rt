@@ -2,6 +2,8 @@
 //! the final buffers to standard output.
 #![tactic(auto)]
 
+#[cfg(test)]
+mod host_tests;
 mod outcome;
 mod run;
 mod status;

@@ -22,7 +22,7 @@ fn answers(
 }
 
 /// Runs each input, and compares the text that is written and how the run ends.
-fn each_ends(
+pub(crate) fn each_ends(
     rt: &impl Abort,
     alloc: Global,
     words: &[String],
@@ -42,7 +42,7 @@ fn check(alloc: Global) -> Result<Vec<String>, AllocError> {
 }
 
 /// The word `--replay`.
-fn replay(alloc: Global) -> Result<Vec<String>, AllocError> {
+pub(crate) fn replay(alloc: Global) -> Result<Vec<String>, AllocError> {
     Ok(vec![in alloc; String::from_str(alloc, "--replay")?]?)
 }
 
@@ -154,7 +154,7 @@ fn faulty_lines_are_refused(rt: HostRuntime) -> Result<(), Fail> {
                 "timeline A 0\nqueue P immediate\nsubmit P\nwait A 0\nend\n",
                 "error: syntax: line 4\n",
             ),
-            ("host idle\n", "error: syntax: line 1\n"),
+            ("host idle A\n", "error: syntax: line 1\n"),
         ],
     )
 }
