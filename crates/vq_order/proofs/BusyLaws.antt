@@ -1,5 +1,5 @@
 -- Resets of fences that may be in use, found by the last uses of fences.
-use Rattle.std.proofs.Common.{◌≡◌, ℕ, zero, suc, ◌∷◌, ◌+◌, ◌<◌, ◌≤◌, ◌≢◌, Bool, true, false, eqb, List, [], length, get_or, set, Option, Some, None, refl, sym, ap, ◌∙◌, ◌⊎◌, inl, inr, subst, arith, option_map}
+use Rattle.std.proofs.Common.{◌≡◌, ℕ, ◌+◌, ◌<◌, ◌≤◌, ◌≢◌, true, false, eqb, List, [], length, get_or, set, Option, Some, None, refl, sym, ap, ◌∙◌, ◌⊎◌, inl, inr, subst, arith, option_map}
 use Rattle.std.specs.List.{slice_get}
 use Rattle.std.specs.Option.{option_map_or, is_some}
 use Rattle.vq_order.specs.Unreached.{IsLeastOrNone}
@@ -7,7 +7,6 @@ use Rattle.std.proofs.lemmas.Bool.{cases_eq, cases_lt, false≢true, eqb-true, e
 use Rattle.std.proofs.lemmas.List.{get_or-set_same, get_or-set_other, length-set}
 use Rattle.vq_model.specs.declared.script.Script.{Script}
 use Rattle.vq_model.specs.declared.script.Mark.{Mark}
-use Rattle.vq_model.specs.declared.script.Batch.{Batch}
 use Rattle.vq_model.specs.declared.script.HostLine.{HostLine}
 use Rattle.vq_model.specs.declared.script.HostStep.{HostStep}
 use Rattle.vq_model.specs.declared.script.HostStep.TheVariants.{FenceReset}
@@ -19,10 +18,9 @@ use Rattle.vq_model.specs.SameScript.{IsRead}
 use Rattle.vq_model.specs.Context.{is_fence}
 use Rattle.vq_model.specs.ValidScripts.{IsValidStep, is_fence_at}
 use Rattle.vq_model.specs.Sure.{IsSure}
-use Rattle.vq_model.specs.Checks.{names_at, resets_at, IsFenceBusyAt, IsEffectiveReset, IsLeast}
+use Rattle.vq_model.specs.Checks.{names_at, resets_at, IsFenceBusyAt, IsLeast}
 use Rattle.vq_model.specs.Plan.{Plan, has, job_of, line_of_job, signals_of}
 use Rattle.vq_model.specs.declared.plan.PlanJob.{PlanJob}
-use Rattle.vq_model.specs.ValidScripts.{job_lines}
 use Rattle.vq_model.proofs.Lists.{has_here}
 use Rattle.vq_model.proofs.Gets.{get_within}
 use Rattle.vq_reading_laws.proofs.Cited.{read_batches, read_steps, read_lines_rise, kind_exists}
@@ -352,26 +350,25 @@ module _ (p : Plan) (i : IsPlan p) where
 
     pub busy_here : (f naming : ℕ) → reset_by job ≡ Some f → IsLastNaming p.script f naming j →
         IsInUse p f naming j → (line : ℕ) → line ≡ line_of_job p j → IsBusyOrNone p j (Some line)
-    busy_here f naming e last x line l =
-        (
-          record {
-            job = j;
-            fence = f;
-            naming = naming;
-            effective = record {
-              earlier = last.earlier;
-              names = last.names;
-              resets = resets_here p.script j job at f ∙ resets_is job f e;
-              between = last.between;
-            };
-            op = x.op;
-            in_chain = x.in_chain;
-            of_job = x.of_job;
-            unsure = x.unsure;
-            named = l;
-          },
-          refl,
-        )
+    busy_here f naming e last x line l = (
+      record {
+        job = j;
+        fence = f;
+        naming = naming;
+        effective = record {
+          earlier = last.earlier;
+          names = last.names;
+          resets = resets_here p.script j job at f ∙ resets_is job f e;
+          between = last.between;
+        };
+        op = x.op;
+        in_chain = x.in_chain;
+        of_job = x.of_job;
+        unsure = x.unsure;
+        named = l;
+      },
+      refl,
+    )
 
 -- no fence is named yet
 pub none_named : (s : Script) (named : List (Option ℕ)) → length named ≡ length s.semaphores →

@@ -1,4 +1,4 @@
-use Rattle.std.proofs.Common.{◌≡◌, ◌<◌, ◌∙◌, ap, refl, sym, arith, length, None, Option, ℕ, subst, false}
+use Rattle.std.proofs.Common.{◌∙◌, ap, refl, sym, arith, length, Option, ℕ, subst}
 use Rattle.std.specs.Option.{option_map_or}
 use Rattle.std.proofs.lemmas.Bool.{false≢true}
 use Rattle.vq_order.specs.Busy.{IsBusyOrNone, IsLastOrNone}

@@ -1,4 +1,4 @@
-use Rattle.std.proofs.Common.{◌≡◌, ◌∙◌, ◌+◌, ap, arith, drop, length, List, Option, ℕ, rules, subst, sym}
+use Rattle.std.proofs.Common.{◌≡◌, ◌∙◌, ◌+◌, ap, arith, drop, length, rules, subst, sym}
 use Rattle.vq_spec.proofs.Cited.{whole_new}
 use Rattle.vq_order.specs.Busy.{AreLastNamings}
 use Rattle.vq_order.proofs.BusyLaws.{found_least, jobs_count, none_at_all, none_found}

@@ -1,8 +1,8 @@
-use Rattle.std.proofs.Common.{◌≡◌, ◌∙◌, Some, ap, get_or, length, refl, sym, arith, subst, true, take, List, ℕ}
+use Rattle.std.proofs.Common.{◌≡◌, ◌∙◌, Some, ap, get_or, refl, sym, arith, subst, true, take, List, ℕ}
 use Rattle.std.specs.Option.{option_map}
 use Rattle.std.proofs.lemmas.Bool.{false≢true}
 use Rattle.std.proofs.lemmas.List.{take_all}
-use Rattle.vq_model.specs.Plan.{chain_of, has}
+use Rattle.vq_model.specs.Plan.{has}
 use Rattle.vq_order.proofs.BusyLaws.{of_signal, signal_exists, signal_here}
 use Rattle.vq_order.proofs.busy.is_in_use.Goals as goal
 

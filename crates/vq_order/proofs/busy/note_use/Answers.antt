@@ -1,4 +1,4 @@
-use Rattle.std.proofs.Common.{◌≡◌, ◌∙◌, sym, arith}
+use Rattle.std.proofs.Common.{◌∙◌, sym, arith}
 use Rattle.vq_order.proofs.BusyLaws.{after_naming, after_none, after_reset, named_exists, reset_exists, script_job}
 use Rattle.vq_order.proofs.busy.note_use.Goals as goal
 

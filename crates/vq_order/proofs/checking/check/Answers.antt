@@ -1,6 +1,6 @@
 use Rattle.std.proofs.Common.{◌∙◌, sym, subst}
 use Rattle.std.proofs.lemmas.Result.{err_from_is_err_and}
-use Rattle.vq_model.specs.Checks.{IsFenceBusyAt, IsLawful, NoLine}
+use Rattle.vq_model.specs.Checks.{IsFenceBusyAt, IsLawful}
 use Rattle.vq_order.specs.Unreached.{IsLeastOrNone}
 use Rattle.vq_order.proofs.CheckLaws.{busy_first, fault_is, lawful_plan, race_first}
 use Rattle.vq_order.proofs.checking.check.Goals as goal
