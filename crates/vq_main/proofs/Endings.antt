@@ -12,7 +12,6 @@ use Rattle.vq_model.specs.Reading.{StandsFor, IsFirstFault}
 use Rattle.vq_model.specs.Lowering.{plan_of}
 use Rattle.vq_model.specs.LoweringFaults.{lowering_fault, IsFirstLoweringFault, IsPlan, Lowers}
 use Rattle.vq_model.specs.Plan.{Plan}
-use Rattle.vq_model.specs.Outputs.{IsOutput}
 use Rattle.vq_model.specs.Checks.{IsLawful, IsFirstPlanFault, Checks}
 use Rattle.vq_model.specs.declared.statement.Form.TheVariants.{Plain, Scheduled}
 use Rattle.vq_model.specs.declared.script.Turn.{Turn}

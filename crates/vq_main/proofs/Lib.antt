@@ -1,3 +1,2 @@
 mod Endings
 mod Traced
-mod Walks

@@ -1,4 +1,3 @@
 pub mod Tasks
 pub mod Writes
 pub mod Outcomes
-pub mod Walked

@@ -3,6 +3,8 @@
 #![tactic(auto)]
 
 #[cfg(test)]
+mod gate_tests;
+#[cfg(test)]
 mod host_tests;
 mod outcome;
 mod run;
@@ -10,13 +12,13 @@ mod status;
 mod task;
 #[cfg(test)]
 mod tests;
-mod walk;
 
 use run::run;
 use status::Status;
 use std::process::ExitCode;
 use std::{env, io};
 use vq_port::{StdSink, StdSource, write_whole};
+use vq_rings::OpenGate;
 
 /// The words of the command line, without the program's name.
 fn words(rt: &HostRuntime) -> io::Result<Vec<String>> {
@@ -31,7 +33,14 @@ fn main(rt: HostRuntime) -> ExitCode {
     let mut source = StdSource::new(rt.stdin());
     let mut sink = StdSink::new(rt.stdout());
     let status = match words(&rt) {
-        Ok(words) => run(rt.alloc(), words.as_slice(), &mut source, &mut sink),
+        Ok(words) => run(
+            &rt,
+            rt.alloc(),
+            words.as_slice(),
+            &mut source,
+            &mut sink,
+            &OpenGate,
+        ),
         Err(error) if error.kind() == io::ErrorKind::OutOfMemory => Status::Memory,
         // A word that is no text.
         Err(_) => match write_whole(&mut sink, b"error: words\n") {

@@ -1,22 +1,29 @@
 //! What the program writes for an input.
-ghost use Rattle.std.specs.Prelude.{◌≡◌, ◌≤◌, IfOk, Ok, length};
+ghost use Rattle.std.specs.Prelude.{◌≡◌, ◌≤◌, ◌++◌, IfOk, Ok, length};
 ghost use Rattle.vq_model.specs.LoweringFaults.{Lowers};
+ghost use Rattle.vq_model.specs.Memory.{HasSizes};
+ghost use Rattle.vq_model.specs.OutputText.{answer_text, buffers_text};
+ghost use Rattle.vq_model.specs.Outputs.{IsOutput};
 ghost use Rattle.vq_model.specs.Refusals.{at_line, at_lines, line_refusal};
+ghost use Rattle.vq_model.specs.ValidScripts.{sizes_of};
 ghost use Rattle.vq_main.specs.Outcomes.{ArePlayable, IsOutcome, IsReadFor, IsTrace};
 ghost use Rattle.vq_main.specs.Outcomes.{AnswersTask, RefusesOrder, RefusesPlan, input_limit};
 ghost use Rattle.vq_main.specs.Tasks.{planned, turns_for};
 
 use crate::status::Status;
 use crate::task::Task;
-use crate::walk::walked_text;
 use std::alloc::{AllocError, Global};
+use std::marker::Sync;
 use std::mem::replace;
+use std::sync::Wait;
+use std::thread::Threads;
 use vq_model::list::List;
 use vq_model::script::Turn;
 use vq_order::{OrderFault, Ordered, check};
 use vq_replay::{replay, trace_text};
+use vq_rings::{Gate, Report, execute};
 use vq_script::{FaultKind, Script, ScriptFault, parse};
-use vq_spec::{Plan, PlanFault};
+use vq_spec::{Plan, PlanFault, answer_text, buffers_text};
 
 /// A status with the text that goes with it.
 #[derive(Drop)]
@@ -100,6 +107,32 @@ fn order_refusal(alloc: Global, fault: OrderFault) -> Result<Vec<u8>, AllocError
     }
 }
 
+/// The answers of a run, and the buffers that it leaves.
+fn report_text(alloc: Global, report: &Report) -> Result<Vec<u8>, AllocError>
+    requires { HasSizes (sizes_of report.now.ordered.script) report.now.buffers }
+    ensures { IfOk result (λ text. text.items
+        ≡ answer_text report.now.answers.items
+        ++ buffers_text report.now.ordered.script.buffers report.now.buffers) }
+{
+    let mut text = answer_text(alloc, report.answers.as_slice())?;
+    let buffers = buffers_text(alloc, report.ordered.plan(), &report.buffers)?;
+    text.extend_from_slice(buffers.as_slice())?;
+    Ok(text)
+}
+
+/// What a lawful plan writes where its queues run on threads. The error is want of memory.
+fn run_text<R: Threads + Wait + Sync, G: Gate>(
+    rt: &R,
+    alloc: Global,
+    ordered: Ordered,
+    gate: &G,
+) -> Result<Vec<u8>, AllocError>
+    ensures { IfOk result (λ text. IsOutput ordered text.items) }
+{
+    let report = execute(rt, alloc, ordered, gate)?;
+    report_text(alloc, &report)
+}
+
 /// The trace of turns over a lawful plan.
 fn replay_text(alloc: Global, ordered: Ordered, turns: &[Turn]) -> Result<Vec<u8>, AllocError>
     requires { ArePlayable ordered.script turns.now }
@@ -113,34 +146,39 @@ fn replay_text(alloc: Global, ordered: Ordered, turns: &[Turn]) -> Result<Vec<u8
 }
 
 /// What answers a task for a plan that is lawful.
-fn task_text(
+fn task_text<R: Threads + Wait + Sync, G: Gate>(
+    rt: &R,
     alloc: Global,
     task: Task,
     ordered: Ordered,
     turns: &[Turn],
+    gate: &G,
 ) -> Result<Vec<u8>, AllocError>
     requires { ArePlayable ordered.script turns.now }
     ensures { IfOk result (λ text. AnswersTask task ordered turns.now text.items) }
 {
     match task {
-        Task::Run => walked_text(alloc, &ordered),
+        Task::Run => run_text(rt, alloc, ordered, gate),
         Task::Check => Vec::from_slice(alloc, b"lawful\n"),
         Task::Replay => replay_text(alloc, ordered, turns),
     }
 }
 
 /// What is written for a plan that is lawful.
-fn of_lawful(
+fn of_lawful<R: Threads + Wait + Sync, G: Gate>(
+    rt: &R,
     alloc: Global,
     task: Task,
     ordered: Ordered,
     turns: &[Turn],
+    gate: &G,
 ) -> Result<Outcome, AllocError>
     requires { ArePlayable ordered.script turns.now }
     ensures { IfOk result (λ outcome. (outcome.status ≡ Status.Done)
         × AnswersTask task ordered turns.now outcome.text.items) }
 {
-    Ok(Outcome::done(task_text(alloc, task, ordered, turns)?))
+    let text = task_text(rt, alloc, task, ordered, turns, gate)?;
+    Ok(Outcome::done(text))
 }
 
 /// What is written for a plan that isn't.
@@ -152,12 +190,14 @@ fn of_unlawful(alloc: Global, fault: OrderFault) -> Result<Outcome, AllocError>
 }
 
 /// What is written for the plan of a script that was read from an input.
-fn of_plan(
+fn of_plan<R: Threads + Wait + Sync, G: Gate>(
+    rt: &R,
     alloc: Global,
     task: Task,
     plan: Plan,
     turns: &[Turn],
     input: &[u8],
+    gate: &G,
 ) -> Result<Outcome, AllocError>
     requires short { length input.now ≤ input_limit }
     requires read { IsReadFor task input.now plan.script turns.now }
@@ -165,25 +205,27 @@ fn of_plan(
     ensures { IfOk result (λ outcome. IsOutcome task input.now outcome.status outcome.text.items) }
 {
     match check(alloc, plan) {
-        Ok(ordered) => of_lawful(alloc, task, ordered, turns),
+        Ok(ordered) => of_lawful(rt, alloc, task, ordered, turns, gate),
         Err(fault) => of_unlawful(alloc, fault),
     }
 }
 
 /// What is written for a script that was read from an input.
-fn of_script(
+fn of_script<R: Threads + Wait + Sync, G: Gate>(
+    rt: &R,
     alloc: Global,
     task: Task,
     script: Script,
     turns: &[Turn],
     input: &[u8],
+    gate: &G,
 ) -> Result<Outcome, AllocError>
     requires short { length input.now ≤ input_limit }
     requires read { IsReadFor task input.now script turns.now }
     ensures { IfOk result (λ outcome. IsOutcome task input.now outcome.status outcome.text.items) }
 {
     match Plan::lower(alloc, script) {
-        Ok(plan) => of_plan(alloc, task, plan, turns, input),
+        Ok(plan) => of_plan(rt, alloc, task, plan, turns, input, gate),
         Err(fault) => Ok(Outcome::refused(plan_refusal(alloc, fault)?)),
     }
 }
@@ -209,14 +251,20 @@ fn move_turns(alloc: Global, task: Task, script: Script) -> Planned
 }
 
 /// What is written for an input.
-pub fn of_input(alloc: Global, task: Task, input: &[u8]) -> Result<Outcome, AllocError>
+pub fn of_input<R: Threads + Wait + Sync, G: Gate>(
+    rt: &R,
+    alloc: Global,
+    task: Task,
+    input: &[u8],
+    gate: &G,
+) -> Result<Outcome, AllocError>
     requires { length input.now ≤ input_limit }
     ensures { IfOk result (λ outcome. IsOutcome task input.now outcome.status outcome.text.items) }
 {
     match parse(alloc, input, task.form()) {
         Ok(script) => {
-            let planned = move_turns(alloc, task, script);
-            of_script(alloc, task, planned.script, planned.turns.as_slice(), input)
+            let Planned { script, turns } = move_turns(alloc, task, script);
+            of_script(rt, alloc, task, script, turns.as_slice(), input, gate)
         }
         Err(ScriptFault::Memory) => Err(AllocError),
         Err(ScriptFault::At { line, kind }) => {

@@ -10,7 +10,11 @@ use crate::outcome::of_input;
 use crate::status::Status;
 use crate::task::{Task, task_of};
 use std::alloc::Global;
+use std::marker::Sync;
+use std::sync::Wait;
+use std::thread::Threads;
 use vq_port::{ReadFault, Sink, Source, read_whole, write_whole};
+use vq_rings::Gate;
 
 /// The most bytes of an input.
 const INPUT_LIMIT: usize = 4_194_304;
@@ -38,7 +42,14 @@ fn refuse_words<K: Sink>(sink: &mut K) -> Status
 }
 
 /// Answers what the source holds.
-fn answer<S: Source, K: Sink>(alloc: Global, task: Task, source: &mut S, sink: &mut K) -> Status
+fn answer<R: Threads + Wait + Sync, S: Source, K: Sink, G: Gate>(
+    rt: &R,
+    alloc: Global,
+    task: Task,
+    source: &mut S,
+    sink: &mut K,
+    gate: &G,
+) -> Status
     ensures headline { IfSome (S.left source.old) (λ input.
         Ends task input result
         (moment K.written K.room K.faults sink.old)
@@ -55,7 +66,7 @@ fn answer<S: Source, K: Sink>(alloc: Global, task: Task, source: &mut S, sink: &
         Err(ReadFault::Failed) => Status::ReadFault,
         Err(ReadFault::Memory) => Status::Memory,
         Err(ReadFault::TooLong) => write(sink, b"error: too long\n", Status::Refused),
-        Ok(input) => match of_input(alloc, task, input.as_slice()) {
+        Ok(input) => match of_input(rt, alloc, task, input.as_slice(), gate) {
             Ok(outcome) => write(sink, outcome.text.as_slice(), outcome.status),
             Err(_) => Status::Memory,
         },
@@ -64,19 +75,22 @@ fn answer<S: Source, K: Sink>(alloc: Global, task: Task, source: &mut S, sink: &
 
 /// Does what the words ask for with the script that the source holds, and writes the answer.
 ///
-/// Without words the script is run. With `--check` alone it is only said whether it is lawful. With
-/// `--replay` alone the script has a schedule, which is played turn by turn. Other words are `BadWords`,
-/// and nothing is read then. Else the source is read to its end. An input above
+/// Without words the script is run on threads, and the gate is called before each turn. With `--check`
+/// alone it is only said whether it is lawful. With `--replay` alone the script has a schedule, which is
+/// played turn by turn. Only a script that is run needs threads, waits for them or calls the gate. Other
+/// words are `BadWords`, and nothing is read then. Else the source is read to its end. An input above
 /// 4,194,304 bytes, a faulty line, a script without a plan and an unlawful plan are `Refused`, with
 /// the line of the first fault; else the text is one that a run of the script may give, or `lawful`.
 /// `ReadFault` comes only where the source counted a fault in this call, `WriteFault` only where the
 /// sink did; `Memory` is want of memory. The whole text is written at once, at the end. Source: this
 /// project's own.
-pub fn run<S: Source, K: Sink>(
+pub fn run<R: Threads + Wait + Sync, S: Source, K: Sink, G: Gate>(
+    rt: &R,
     alloc: Global,
     words: &[String],
     source: &mut S,
     sink: &mut K,
+    gate: &G,
 ) -> Status
     // Whatever script it meets, it writes the first fault of its words or script, or only what the
     // specification's machine for that script may give; every other ending is a counted fault of
@@ -110,7 +124,7 @@ pub fn run<S: Source, K: Sink>(
         ReadsToEnd result (S.left source.old) (S.left source.new) }
 {
     match task_of(words) {
-        Some(task) => answer(alloc, task, source, sink),
+        Some(task) => answer(rt, alloc, task, source, sink, gate),
         None => refuse_words(sink),
     }
 }

@@ -1,36 +1,55 @@
 use super::*;
 use std::alloc::{AllocError, Global};
+use std::marker::Sync;
 use std::process::Abort;
+use std::sync::Wait;
 use std::test::Fail;
+use std::thread::Threads;
 use vq_port::{MemorySink, MemorySource, SteadySink, SteadySource};
+use vq_rings::Gate;
 
 const FILL: &str = "buffer X 8\nqueue Q immediate\nsubmit Q\nfill X 0 8 0x01020304\nend\n";
 
 const FILLED: &str = "buffer X 8\n0403020104030201\nend\n";
 
+/// Whether a run over memory, with this gate, writes this text and ends so.
+pub(crate) fn answers_at<R: Threads + Wait + Sync, G: Gate>(
+    rt: &R,
+    alloc: Global,
+    words: &[String],
+    input: &[u8],
+    text: &[u8],
+    status: Status,
+    gate: &G,
+) -> Result<bool, AllocError> {
+    let mut sink = MemorySink::new(alloc, 4096, Vec::new(alloc))?;
+    let mut source = MemorySource::new(input.to_vec(alloc)?, 4096, Vec::new(alloc));
+    let ended = run(rt, alloc, words, &mut source, &mut sink, gate);
+    Ok(ended == status && sink.written() == text)
+}
+
 /// Whether a run over memory writes this text and ends so.
-fn answers(
+fn answers<R: Threads + Wait + Sync>(
+    rt: &R,
     alloc: Global,
     words: &[String],
     input: &[u8],
     text: &[u8],
     status: Status,
 ) -> Result<bool, AllocError> {
-    let mut sink = MemorySink::new(alloc, 4096, Vec::new(alloc))?;
-    let mut source = MemorySource::new(input.to_vec(alloc)?, 4096, Vec::new(alloc));
-    Ok(run(alloc, words, &mut source, &mut sink) == status && sink.written() == text)
+    answers_at(rt, alloc, words, input, text, status, &OpenGate)
 }
 
 /// Runs each input, and compares the text that is written and how the run ends.
-pub(crate) fn each_ends(
-    rt: &impl Abort,
+pub(crate) fn each_ends<R: Threads + Wait + Abort + Sync>(
+    rt: &R,
     alloc: Global,
     words: &[String],
     status: Status,
     rows: &[(&str, &str)],
 ) -> Result<(), Fail> {
     for (input, text) in rows {
-        let is_right = answers(alloc, words, input.as_bytes(), text.as_bytes(), status)?;
+        let is_right = answers(rt, alloc, words, input.as_bytes(), text.as_bytes(), status)?;
         assert!(rt; is_right, "{input:?}");
     }
     Ok(())
@@ -341,10 +360,20 @@ fn updated(alloc: Global) -> Result<Vec<u8>, AllocError> {
 fn updates_have_a_greatest_size(rt: HostRuntime) -> Result<(), Fail> {
     let alloc = rt.alloc();
     let (most, text) = (update(alloc, 65_536)?, updated(alloc)?);
-    assert!(rt; answers(alloc, &[], most.as_slice(), text.as_slice(), Status::Done)?);
+    assert!(rt;
+        answers(
+            &rt,
+            alloc,
+            &[],
+            most.as_slice(),
+            text.as_slice(),
+            Status::Done
+        )?
+    );
     let more = update(alloc, 65_540)?;
     assert!(rt;
         answers(
+            &rt,
             alloc,
             &[],
             more.as_slice(),
@@ -356,7 +385,8 @@ fn updates_have_a_greatest_size(rt: HostRuntime) -> Result<(), Fail> {
 }
 
 /// Whether a run with a fault at one read and at one write writes this text and ends so.
-fn fails(
+fn fails<R: Threads + Wait + Sync>(
+    rt: &R,
     alloc: Global,
     reads: u32,
     writes: u32,
@@ -366,7 +396,8 @@ fn fails(
     let mut sink = MemorySink::new(alloc, 8, vec![in alloc; writes]?)?;
     let input = FILL.as_bytes().to_vec(alloc)?;
     let mut source = MemorySource::new(input, 4096, vec![in alloc; reads]?);
-    Ok(run(alloc, &[], &mut source, &mut sink) == status && sink.written() == text.as_bytes())
+    let ended = run(rt, alloc, &[], &mut source, &mut sink, &OpenGate);
+    Ok(ended == status && sink.written() == text.as_bytes())
 }
 
 #[test]
@@ -380,7 +411,7 @@ fn faults_of_reading_and_writing_end_a_run(rt: HostRuntime) -> Result<(), Fail> 
         (0, 5, FILLED, Status::Done),
     ] {
         assert!(rt;
-            fails(rt.alloc(), reads, writes, text, status)?,
+            fails(&rt, rt.alloc(), reads, writes, text, status)?,
             "at read {reads}, write {writes}"
         );
     }
@@ -388,12 +419,18 @@ fn faults_of_reading_and_writing_end_a_run(rt: HostRuntime) -> Result<(), Fail> 
 }
 
 /// Whether a run with one word or two says that the words are wrong.
-fn refuses_words(alloc: Global, first: &str, second: Option<&str>) -> Result<bool, AllocError> {
+fn refuses_words<R: Threads + Wait + Sync>(
+    rt: &R,
+    alloc: Global,
+    first: &str,
+    second: Option<&str>,
+) -> Result<bool, AllocError> {
     let mut words = vec![in alloc; String::from_str(alloc, first)?]?;
     if let Some(word) = second {
         words.push(String::from_str(alloc, word)?)?;
     }
     answers(
+        rt,
         alloc,
         words.as_slice(),
         FILL.as_bytes(),
@@ -413,7 +450,7 @@ fn words_are_refused(rt: HostRuntime) -> Result<(), Fail> {
         ("", Some("--check")),
     ] {
         assert!(rt;
-            refuses_words(rt.alloc(), first, second)?,
+            refuses_words(&rt, rt.alloc(), first, second)?,
             "{first:?}, then {second:?}"
         );
     }
@@ -424,10 +461,11 @@ fn words_are_refused(rt: HostRuntime) -> Result<(), Fail> {
 fn long_inputs_are_refused(rt: HostRuntime) -> Result<(), Fail> {
     let alloc = rt.alloc();
     let most = vec![in alloc; b'#'; 4_194_304]?;
-    assert!(rt; answers(alloc, &[], most.as_slice(), b"end\n", Status::Done)?);
+    assert!(rt; answers(&rt, alloc, &[], most.as_slice(), b"end\n", Status::Done)?);
     let more = vec![in alloc; b'#'; 4_194_305]?;
     assert!(rt;
         answers(
+            &rt,
             alloc,
             &[],
             more.as_slice(),
@@ -742,19 +780,25 @@ end
 }
 
 /// Whether a run over steady ports, with this room, is done and leaves this.
-fn is_told(alloc: Global, room: usize, told: Option<&[u8]>) -> Result<bool, AllocError> {
+fn is_told<R: Threads + Wait + Sync>(
+    rt: &R,
+    alloc: Global,
+    room: usize,
+    told: Option<&[u8]>,
+) -> Result<bool, AllocError> {
     let mut sink = SteadySink::with_room(alloc, room)?;
     let mut source = SteadySource::new(FILL.as_bytes().to_vec(alloc)?);
-    Ok(run(alloc, &[], &mut source, &mut sink) == Status::Done && sink.written() == told)
+    let ended = run(rt, alloc, &[], &mut source, &mut sink, &OpenGate);
+    Ok(ended == Status::Done && sink.written() == told)
 }
 
 #[test]
 fn steady_ports_never_fail_a_run(rt: HostRuntime) -> Result<(), Fail> {
     let alloc = rt.alloc();
     let room = FILLED.len();
-    assert!(rt; is_told(alloc, 8_388_608, Some(FILLED.as_bytes()))?);
+    assert!(rt; is_told(&rt, alloc, 8_388_608, Some(FILLED.as_bytes()))?);
     // A room that the text fills, and one that it overflows.
-    assert!(rt; is_told(alloc, room, Some(FILLED.as_bytes()))?);
-    assert!(rt; is_told(alloc, room - 1, None)?);
+    assert!(rt; is_told(&rt, alloc, room, Some(FILLED.as_bytes()))?);
+    assert!(rt; is_told(&rt, alloc, room - 1, None)?);
     Ok(())
 }

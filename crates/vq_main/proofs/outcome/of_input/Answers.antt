@@ -8,10 +8,10 @@ use Rattle.vq_main.proofs.Endings.{faulty_outcome}
 use Rattle.vq_main.proofs.outcome.of_input.Goals as goal
 
 pub parse-requires : goal.parse-requires
-parse-requires c = let few = few_lines c.args.input.now in omega arith
+parse-requires g c = let few = few_lines c.args.input.now in omega arith
 
 pub returns-in_ok-line_refusal-in-Err-At : goal.returns-in_ok-line_refusal-in-Err-At
-returns-in_ok-line_refusal-in-Err-At c =
+returns-in_ok-line_refusal-in-Err-At g c =
     let fault = rw c.in-Err-At.field-0-is at c.in-Err-At.ensures.fault in
     let text_is = rw c.in-Err-At.field-0-is at c.in_ok-line_refusal-in-Err-At.ensures in
     let here = subst (λ (f : Form). IsFirstFault c.args.input.now f c.in-Err-At.line c.in-Err-At.kind) c.form.ensures fault in

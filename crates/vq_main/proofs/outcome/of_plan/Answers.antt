@@ -6,12 +6,17 @@ use Rattle.vq_main.proofs.Endings.{playable, task_outcome, unlawful_outcome}
 use Rattle.vq_main.proofs.outcome.of_plan.Goals as goal
 
 pub of_lawful-requires : goal.of_lawful-requires
-of_lawful-requires c =
+of_lawful-requires g c = (
+  search,
+  (
+    search,
     subst (λ p. ArePlayable p.script c.args.turns.now) (sym c.in-Ok.ensures.0)
-    (playable _ _ _ _ c.requires.read)
+        (playable _ _ _ _ c.requires.read),
+  ),
+)
 
 pub returns-in-Ok : goal.returns-in-Ok
-returns-in-Ok c =
+returns-in-Ok g c =
     let same = c.in-Ok.ensures.0 in
     IfOk-weaker c.of_lawful.result _ _ (λ (o : Outcome) said. subst
     (λ s. IsOutcome c.args.task c.args.input.now s o.text.items) (sym said.0)
@@ -20,7 +25,7 @@ returns-in-Ok c =
     c.of_lawful.ensures
 
 pub returns-in-Err : goal.returns-in-Err
-returns-in-Err c =
+returns-in-Err g c =
     IfOk-weaker c.of_unlawful.result _ _ (λ (o : Outcome) said. subst
     (λ s. IsOutcome c.args.task c.args.input.now s o.text.items) (sym said.0)
     (unlawful_outcome _ _ _ _ c.requires.short c.requires.read c.requires.lowers _ _
