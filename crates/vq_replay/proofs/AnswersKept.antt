@@ -1,5 +1,5 @@
 -- The answers that a history gave, by job.
-use Rattle.std.proofs.Common.{◌≡◌, ℕ, zero, suc, ◌+◌, ◌<◌, ◌≤◌, List, [], ◌∷◌, ◌++◌, map, length, take, Option, Some}
+use Rattle.std.proofs.Common.{◌≡◌, ℕ, zero, suc, ◌+◌, ◌<◌, ◌≤◌, List, [], ◌∷◌, ◌++◌, map, length, take, Option, Some, None}
 use Rattle.std.proofs.Common.{get_or, set, slice_set, option_map, filter_map, map-id, refl, sym, subst, ap, ap₂}
 use Rattle.std.proofs.Common.{◌∙◌, arith}
 use Rattle.std.specs.List.{cons_option, range_with_len}
@@ -19,7 +19,7 @@ use Rattle.vq_model.specs.Machine.{put}
 use Rattle.vq_model.specs.Plan.{Plan}
 use Rattle.vq_model.proofs.Puts.{put_here, put_there}
 use Rattle.vq_points.specs.Points.{PointState, after_event}
-use Rattle.vq_replay.specs.Answered.{AreAnswers}
+use Rattle.vq_replay.specs.Answered.{AreAnswers, IsRoom}
 
 module _ {A : Type 0} (f : ℕ → A) (x : A) where
   -- a change below a range, and one behind it
@@ -119,3 +119,17 @@ line_more p w j lines more given k is e =
   where
     f : ℕ → Option AnswerLine
     f i = option_map (answer_at p i) (w.machine.answer i)
+
+-- room for the answers of so many jobs
+pub room_for : (n room : ℕ) (given : List (Option Answer)) (lines : List AnswerLine) →
+    given ≡ map (λ j. None) (range_with_len 0 n) → lines ≡ [] → n ≤ room →
+    (length given ≡ n) × IsRoom given lines room
+room_for n room given lines is empty fits =
+    let count = ap length is ∙ length-map-range_with_len {X = Option Answer} (λ j. None) 0 n in (
+      count,
+      record {
+        unanswered = is ∙ ap (λ (k : ℕ). map (λ j. None) (range_with_len 0 k)) (sym count);
+        empty = empty;
+        each = omega arith;
+      },
+    )

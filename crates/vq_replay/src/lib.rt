@@ -14,7 +14,9 @@ mod trace;
 mod troupe;
 mod words;
 
+pub use answers::AnswerRoom;
 pub use played::Played;
 pub use schedule::{Replayed, replay};
 pub use text::trace_text;
 pub use trace::push_turns;
+pub use troupe::Troupe;

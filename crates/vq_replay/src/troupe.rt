@@ -16,9 +16,12 @@ use vq_model::script::{ActorName, Mode};
 use vq_order::Ordered;
 use vq_turns::outcome::Outcome;
 
-/// A core with the host, and the submit actor and the ring of each queue.
+/// A core with the host, and the submit actor and the ring of each queue, each at its place in its program. All
+/// places are true of the core: what an actor has done stands in the core's history.
+///
+/// Source: this project's rule.
 #[derive(Drop)]
-pub(crate) struct Troupe {
+pub struct Troupe {
     core: Core,
     host: Seated<HostActor>,
     submits: Vec<Seated<SubmitActor>>,
@@ -38,7 +41,9 @@ impl Model for Troupe {
 impl Troupe {
     /// All actors before their first turns, over a core without events. It takes the memory for all turns; the
     /// error is that there is none.
-    pub(crate) fn new(alloc: Global, ordered: Ordered) -> Result<Troupe, AllocError>
+    ///
+    /// Source: this project's rule.
+    pub fn new(alloc: Global, ordered: Ordered) -> Result<Troupe, AllocError>
         ensures course { IfOk result (λ x. x.course ≡ record { plan = ordered; history = [] }) }
         ensures first { IfOk result (λ x. places x ≡ first_places) }
     {
@@ -115,8 +120,13 @@ impl Troupe {
         }
     }
 
-    /// A turn of an actor.
-    pub(crate) fn play(&mut self, actor: ActorName) -> Outcome
+    /// A turn of an actor of the plan: the event that it made, or why it made none, as the definition of turns
+    /// says. It takes no memory. The submit actors of deferred queues have no turns of their own: a turn of the
+    /// host serves them, in the order of the queues, before it goes on with the host's own program. Where nothing
+    /// of an actor is left to do, the turn has ended, and so has each later one.
+    ///
+    /// Source: this project's rule.
+    pub fn play(&mut self, actor: ActorName) -> Outcome
         requires { IsActor self.old.course.plan.script actor }
         ensures { Plays self.old self.new actor result }
     {
@@ -127,8 +137,19 @@ impl Troupe {
         }
     }
 
-    /// The core after the turns.
-    pub(crate) fn into_core(self) -> Core
+    /// The core, as the turns so far left it.
+    ///
+    /// Source: this project's rule.
+    pub fn core(&self) -> &Core
+        ensures { result.now ≡ self.now.course }
+    {
+        &self.core
+    }
+
+    /// The core after the turns, without the actors.
+    ///
+    /// Source: this project's rule.
+    pub fn into_core(self) -> Core
         ensures { result ≡ self.course }
     {
         self.core

@@ -3,7 +3,7 @@ use Rattle.vq_model.specs.declared.plan.Event.{Event}
 use Rattle.vq_history_laws.specs.Histories.{points_after}
 use Rattle.vq_replay.specs.Answered.{AreAnswers}
 use Rattle.vq_replay.proofs.AnswersKept.{noted_next}
-use Rattle.vq_replay.proofs.answers.answers_by_job.Goals as goal
+use Rattle.vq_replay.proofs.answers.note_all.Goals as goal
 
 pub loop-event-preserved : goal.loop-event-preserved
 loop-event-preserved c =
