@@ -3,6 +3,7 @@ pub use Rattle.vq_run_laws.proofs.HistoryRuns.{Follows, Leads, follows_opening, 
 pub use Rattle.vq_run_laws.proofs.KeptSteps.{made_below}
 pub use Rattle.vq_run_laws.proofs.NextDone.{next_in}
 pub use Rattle.vq_run_laws.proofs.OneResult.{one_result}
+pub use Rattle.vq_run_laws.proofs.OutputRuns.{run_gives_output}
 pub use Rattle.vq_run_laws.proofs.Payloads.{above_initial, made_reached}
 pub use Rattle.vq_run_laws.proofs.SlowAnswers.{answers_slowly}
 pub use Rattle.vq_run_laws.proofs.StateFacts.{Invariant, RaisedTo}
