@@ -11,7 +11,9 @@ use vq_model::script::ActorName;
 use vq_order::Ordered;
 
 /// How many queues a plan has.
-fn queue_count(ordered: &Ordered) -> u32
+///
+/// Source: this project's own.
+pub fn queue_count(ordered: &Ordered) -> u32
     ensures { result ≡ length ordered.now.script.queues }
 {
     ordered.plan().script().queues.as_slice().len() as u32

@@ -14,6 +14,7 @@ mod trace;
 mod troupe;
 mod words;
 
+pub use actors::queue_count;
 pub use answers::AnswerRoom;
 pub use played::Played;
 pub use schedule::{Replayed, replay};

@@ -1,0 +1,3 @@
+mod CrewLists
+mod Reports
+mod Together

@@ -1,0 +1,106 @@
+//! All that a run needs, made before it begins.
+ghost use Rattle.std.specs.Prelude.{◌≡◌, ◌++◌, ◌<◌, ◌≤◌, [], length, IfOk, OnOk};
+ghost use Rattle.vq_model.specs.ValidScripts.{is_threaded_queue};
+ghost use Rattle.vq_rings.specs.Crews.{actors, rings_below, submits_below};
+
+use std::alloc::{AllocError, Global};
+use vq_model::script::{ActorName, Mode, Script};
+use vq_order::Ordered;
+use vq_replay::{AnswerRoom, Troupe, queue_count};
+
+/// What the caller knows of an actor whose turns it may have to take.
+#[derive(Clone, Copy)]
+pub(crate) struct Hand {
+    /// The caller takes its turns.
+    pub(crate) mine: bool,
+    pub(crate) ended: bool,
+    /// How many turns it had.
+    pub(crate) turn: u64,
+}
+
+/// All that a run needs: no memory is taken after this was made. Its type names no plan.
+#[derive(Drop)]
+pub(crate) struct Opened {
+    pub(crate) troupe: Troupe,
+    pub(crate) answers: AnswerRoom,
+    /// Who takes turns, the host first.
+    pub(crate) names: Vec<ActorName>,
+    /// For each name a hand.
+    pub(crate) hands: Vec<Hand>,
+}
+
+impl Opened {
+    /// A run before its first turn. The error is want of memory.
+    pub(crate) fn new(alloc: Global, ordered: Ordered) -> Result<Opened, AllocError>
+        ensures course { IfOk result (λ o. o.troupe.course ≡ record { plan = ordered; history = [] }) }
+        ensures answers { IfOk result (λ o. o.answers ≡ length ordered.jobs) }
+        ensures names { IfOk result (λ o. o.names.items ≡ actors ordered.script) }
+        ensures hands { IfOk result (λ o. length o.hands.items ≡ length o.names.items) }
+    {
+        let answers = AnswerRoom::new(alloc, ordered.plan())?;
+        let names = all_names(alloc, &ordered)?;
+        let hands = all_hands(alloc, names.as_slice().len())?;
+        let troupe = Troupe::new(alloc, ordered)?;
+        Ok(Opened {
+            troupe,
+            answers,
+            names,
+            hands,
+        })
+    }
+}
+
+/// A hand for each of so many actors. The caller takes the turns of the first.
+fn all_hands(alloc: Global, count: usize) -> Result<Vec<Hand>, AllocError>
+    ensures { IfOk result (λ hands. length hands.items ≡ count) }
+{
+    let hand = Hand {
+        mine: false,
+        ended: false,
+        turn: 0,
+    };
+    vec![in alloc; hand; count]
+}
+
+/// The names of a plan's actors, the host first.
+fn all_names(alloc: Global, ordered: &Ordered) -> Result<Vec<ActorName>, AllocError>
+    ensures { IfOk result (λ names. names.items ≡ actors ordered.now.script) }
+{
+    let queues = queue_count(ordered);
+    let mut names = Vec::new(alloc);
+    names.push(ActorName::Host)?;
+    push_submits(&mut names, ordered.plan().script(), queues)?;
+    push_rings(&mut names, queues)?;
+    Ok(names)
+}
+
+/// Whether a queue is submitted to by a thread of its own.
+fn is_threaded(script: &Script, queue: u32) -> bool
+    requires { queue < length script.now.queues }
+    ensures { result ≡ is_threaded_queue script.now queue }
+{
+    script.queues.as_slice()[queue as usize].mode == Mode::Threaded
+}
+
+/// Adds the submitting thread of each threaded queue among so many.
+fn push_submits(names: &mut Vec<ActorName>, script: &Script, queues: u32) -> Result<(), AllocError>
+    requires { queues ≤ length script.now.queues }
+    ensures { OnOk result (names.new.items ≡ names.old.items ++ submits_below script.now queues) }
+{
+    for queue in 0..queues {
+        if is_threaded(script, queue) {
+            names.push(ActorName::Submit(queue))?;
+        }
+    }
+    Ok(())
+}
+
+/// Adds the ring of each of so many queues.
+fn push_rings(names: &mut Vec<ActorName>, queues: u32) -> Result<(), AllocError>
+    ensures { OnOk result (names.new.items ≡ names.old.items ++ rings_below queues) }
+{
+    for queue in 0..queues {
+        names.push(ActorName::Ring(queue))?;
+    }
+    Ok(())
+}
