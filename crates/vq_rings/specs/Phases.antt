@@ -5,7 +5,7 @@ use Rattle.vq_model.specs.declared.script.Script.{Script}
 use Rattle.vq_model.specs.Plan.{Plan}
 use Rattle.vq_model.specs.Machine.{AreFinished}
 use Rattle.vq_turns.specs.declared.outcome.Outcome.{Outcome}
-use Rattle.vq_core.specs.CoreState.{world}
+use Rattle.vq_core.specs.CoreState.{Course, world}
 use Rattle.vq_replay.specs.Casts.{Cast, Plays}
 use Rattle.vq_rings.specs.declared.locked.Phase.{Phase}
 use Rattle.vq_rings.specs.declared.locked.Phase.TheVariants.{Running, Over}
@@ -50,6 +50,11 @@ abbrev pub Shares : Option Cast → ActorName → Option Outcome → Option Cast
 Shares (Some before) a (Some outcome) (Some now) = Plays before now a outcome
 Shares None a None None = Unit {0}
 Shares before a outcome now = ⊥
+
+-- there is a core, and it is this
+abbrev pub IsCoreOf : Option Cast → Course → Type 0
+IsCoreOf (Some x) c = c ≡ x.course
+IsCoreOf None c = ⊥
 
 -- there is a core, and all its jobs are finished
 abbrev pub HasFinished : Option Cast → Type 0

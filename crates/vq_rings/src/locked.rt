@@ -3,7 +3,7 @@ ghost use Rattle.std.specs.Prelude.{◌≡◌, ◌↔◌, IsTrue, IfSome, IfNone
 ghost use Rattle.vq_model.specs.Machine.{AreFinished};
 ghost use Rattle.vq_model.specs.ValidScripts.{IsActor};
 ghost use Rattle.vq_core.specs.CoreState.{world};
-ghost use Rattle.vq_rings.specs.Phases.{HasFinished, Shares};
+ghost use Rattle.vq_rings.specs.Phases.{HasFinished, IsCoreOf, Shares};
 
 use std::marker::{Brand, Model, PhantomData};
 use std::mem;
@@ -86,7 +86,7 @@ impl<J: Named> Locked<J> {
 
     /// Takes the core out where all its jobs are finished. The run is over from then on.
     pub(crate) fn take_finished(&mut self) -> Option<Core>
-        ensures taken { IfSome result (λ c. IfSome self.old (λ t. c ≡ t.course) × (self.new ≡ None)) }
+        ensures taken { IfSome result (λ c. IsCoreOf self.old c × (self.new ≡ None)) }
         ensures plan { IfSome result (λ c. c.plan ≡ J.plan) }
         ensures finished { IfSome result (λ c. AreFinished c.plan (world c).machine.progress) }
         ensures not_yet { IfNone result (self.new ≡ self.old) }
