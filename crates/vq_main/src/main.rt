@@ -7,6 +7,8 @@ mod gate_tests;
 #[cfg(test)]
 mod host_tests;
 mod outcome;
+#[cfg(test)]
+mod port_tests;
 mod run;
 mod status;
 mod task;

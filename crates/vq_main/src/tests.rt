@@ -5,12 +5,13 @@ use std::process::Abort;
 use std::sync::Wait;
 use std::test::Fail;
 use std::thread::Threads;
-use vq_port::{MemorySink, MemorySource, SteadySink, SteadySource};
+use vq_port::{MemorySink, MemorySource};
 use vq_rings::Gate;
 
-const FILL: &str = "buffer X 8\nqueue Q immediate\nsubmit Q\nfill X 0 8 0x01020304\nend\n";
+pub(crate) const FILL: &str =
+    "buffer X 8\nqueue Q immediate\nsubmit Q\nfill X 0 8 0x01020304\nend\n";
 
-const FILLED: &str = "buffer X 8\n0403020104030201\nend\n";
+pub(crate) const FILLED: &str = "buffer X 8\n0403020104030201\nend\n";
 
 /// Whether a run over memory, with this gate, writes this text and ends so.
 pub(crate) fn answers_at<R: Threads + Wait + Sync, G: Gate>(
@@ -384,40 +385,6 @@ fn updates_have_a_greatest_size(rt: HostRuntime) -> Result<(), Fail> {
     Ok(())
 }
 
-/// Whether a run with a fault at one read and at one write writes this text and ends so.
-fn fails<R: Threads + Wait + Sync>(
-    rt: &R,
-    alloc: Global,
-    reads: u32,
-    writes: u32,
-    text: &str,
-    status: Status,
-) -> Result<bool, AllocError> {
-    let mut sink = MemorySink::new(alloc, 8, vec![in alloc; writes]?)?;
-    let input = FILL.as_bytes().to_vec(alloc)?;
-    let mut source = MemorySource::new(input, 4096, vec![in alloc; reads]?);
-    let ended = run(rt, alloc, &[], &mut source, &mut sink, &OpenGate);
-    Ok(ended == status && sink.written() == text.as_bytes())
-}
-
-#[test]
-fn faults_of_reading_and_writing_end_a_run(rt: HostRuntime) -> Result<(), Fail> {
-    for (reads, writes, text, status) in [
-        (1, 0, "", Status::ReadFault),
-        (2, 0, "", Status::ReadFault),
-        (3, 0, FILLED, Status::Done),
-        (0, 1, "", Status::WriteFault),
-        (0, 2, "buffer X", Status::WriteFault),
-        (0, 5, FILLED, Status::Done),
-    ] {
-        assert!(rt;
-            fails(&rt, rt.alloc(), reads, writes, text, status)?,
-            "at read {reads}, write {writes}"
-        );
-    }
-    Ok(())
-}
-
 /// Whether a run with one word or two says that the words are wrong.
 fn refuses_words<R: Threads + Wait + Sync>(
     rt: &R,
@@ -777,28 +744,4 @@ end
             ),
         ],
     )
-}
-
-/// Whether a run over steady ports, with this room, is done and leaves this.
-fn is_told<R: Threads + Wait + Sync>(
-    rt: &R,
-    alloc: Global,
-    room: usize,
-    told: Option<&[u8]>,
-) -> Result<bool, AllocError> {
-    let mut sink = SteadySink::with_room(alloc, room)?;
-    let mut source = SteadySource::new(FILL.as_bytes().to_vec(alloc)?);
-    let ended = run(rt, alloc, &[], &mut source, &mut sink, &OpenGate);
-    Ok(ended == Status::Done && sink.written() == told)
-}
-
-#[test]
-fn steady_ports_never_fail_a_run(rt: HostRuntime) -> Result<(), Fail> {
-    let alloc = rt.alloc();
-    let room = FILLED.len();
-    assert!(rt; is_told(&rt, alloc, 8_388_608, Some(FILLED.as_bytes()))?);
-    // A room that the text fills, and one that it overflows.
-    assert!(rt; is_told(&rt, alloc, room, Some(FILLED.as_bytes()))?);
-    assert!(rt; is_told(&rt, alloc, room - 1, None)?);
-    Ok(())
 }
