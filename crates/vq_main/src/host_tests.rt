@@ -1,8 +1,11 @@
+//! Scripts with steps of the host: their answers, their faults and their replays.
+
 use crate::status::Status;
 use crate::tests::{each_ends, replay};
+use std::alloc::{AllocError, Global};
 use std::test::Fail;
 
-/// Three queues, three frames in flight, four frames.
+/// Three queues and three frames in flight: the first three frames of four.
 const FRAMES: &str = "buffer I0 16
 buffer I1 16
 buffer I2 16
@@ -70,9 +73,13 @@ copy W 0 O2 0 16
 signal TD 3
 fence F2
 end
-host fence wait F0
-host fence reset F0
-submit U
+";
+
+/// The wait for the first frame's fence, and its reset.
+const FIRST_FRAME_IS_OVER: &str = "host fence wait F0\nhost fence reset F0\n";
+
+/// The fourth frame, which uses the first frame's buffers and its fence again.
+const FOURTH_FRAME: &str = "submit U
 update I0 0 04040404040404040404040404040404
 signal TU 4
 end
@@ -93,7 +100,7 @@ host idle
 host read TD
 ";
 
-/// What they leave.
+/// What the four frames leave.
 const FRAMES_DONE: &str = "68 ok
 87 ok
 88 value 4
@@ -114,15 +121,24 @@ buffer O2 16
 end
 ";
 
+/// Four frames, with these lines before the fourth.
+fn frames(alloc: Global, before_fourth: &str) -> Result<String, AllocError> {
+    let mut text = String::from_str(alloc, FRAMES)?;
+    text.push_str(before_fourth)?;
+    text.push_str(FOURTH_FRAME)?;
+    Ok(text)
+}
+
 #[test]
 fn host_steps_are_answered(rt: HostRuntime) -> Result<(), Fail> {
+    let four_frames = frames(rt.alloc(), FIRST_FRAME_IS_OVER)?;
     each_ends(
         &rt,
         rt.alloc(),
         &[],
         Status::Done,
         &[
-            (FRAMES, FRAMES_DONE),
+            (four_frames.as_str(), FRAMES_DONE),
             // a wait that several signals reach, and a read after all of them
             (
                 "timeline A 0
@@ -272,6 +288,7 @@ host wait all A 1 A 2
 
 #[test]
 fn host_steps_are_refused(rt: HostRuntime) -> Result<(), Fail> {
+    let four_frames = frames(rt.alloc(), "")?;
     each_ends(
         &rt,
         rt.alloc(),
@@ -297,96 +314,7 @@ host signal A 18446744073709551615
                 "error: unordered: lines 3 and 3\n",
             ),
             // the frames without the wait and the reset of their first fence
-            (
-                "buffer I0 16
-buffer I1 16
-buffer I2 16
-buffer W 16
-buffer O0 16
-buffer O1 16
-buffer O2 16
-timeline TU 0
-timeline TG 0
-timeline TD 0
-fence F0
-fence F1
-fence F2
-queue U threaded
-queue G threaded
-queue D threaded
-submit U
-update I0 0 01010101010101010101010101010101
-signal TU 1
-end
-submit G
-wait TU 1
-wait TD 0
-copy I0 0 W 0 16
-fill W 0 4 1
-signal TG 1
-end
-submit D
-wait TG 1
-copy W 0 O0 0 16
-signal TD 1
-fence F0
-end
-submit U
-update I1 0 02020202020202020202020202020202
-signal TU 2
-end
-submit G
-wait TU 2
-wait TD 1
-copy I1 0 W 0 16
-fill W 0 4 2
-signal TG 2
-end
-submit D
-wait TG 2
-copy W 0 O1 0 16
-signal TD 2
-fence F1
-end
-submit U
-update I2 0 03030303030303030303030303030303
-signal TU 3
-end
-submit G
-wait TU 3
-wait TD 2
-copy I2 0 W 0 16
-fill W 0 4 3
-signal TG 3
-end
-submit D
-wait TG 3
-copy W 0 O2 0 16
-signal TD 3
-fence F2
-end
-submit U
-update I0 0 04040404040404040404040404040404
-signal TU 4
-end
-submit G
-wait TU 4
-wait TD 3
-copy I0 0 W 0 16
-fill W 0 4 4
-signal TG 4
-end
-submit D
-wait TG 4
-copy W 0 O0 0 16
-signal TD 4
-fence F0
-end
-host idle
-host read TD
-",
-                "error: fence used: line 83\n",
-            ),
+            (four_frames.as_str(), "error: fence used: line 83\n"),
             // a reset of a fence that may be in use
             (
                 "buffer X 4
