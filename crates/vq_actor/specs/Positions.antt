@@ -1,5 +1,6 @@
 -- An actor's position as a place. Steps of proofs.
-use Rattle.std.specs.Prelude.{ℕ, ◌≡◌, ◌+◌, ◌≤◌, ◌<◌, Bool, true, false, if◌then◌else◌, List, [], ◌∷◌, Option, Some}
+use Rattle.std.specs.Prelude.{ℕ, ◌≡◌, ◌+◌, ◌≤◌, ◌<◌, Bool, true, false, if◌then◌else◌, List}
+use Rattle.std.specs.Prelude.{[], ◌∷◌, Option, Some}
 use Rattle.std.specs.Prelude.{None, All, length, drop}
 use Rattle.std.specs.Prelude.{count_by, set}
 use Rattle.std.specs.List.{slice_get}

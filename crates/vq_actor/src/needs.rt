@@ -1,5 +1,6 @@
 //! Tasks that wait for needs: for each of several, or for any of them.
-ghost use Rattle.std.specs.Prelude.{◌≡◌, ◌<◌, ◌≤◌, [], true, false, length, Some, None, IfOk, IfErr, MatchBool};
+ghost use Rattle.std.specs.Prelude.{◌≡◌, ◌<◌, ◌≤◌, [], true, false, length, Some, None, IfOk, IfErr};
+ghost use Rattle.std.specs.Prelude.{MatchBool};
 ghost use Rattle.std.specs.List.{slice_get};
 ghost use Rattle.vq_turns.specs.declared.task.Task.{Task};
 ghost use Rattle.vq_model.specs.declared.plan.Need.{Need};

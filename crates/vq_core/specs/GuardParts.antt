@@ -1,5 +1,6 @@
 -- Parts of what is asked of events. This project's own.
-use Rattle.std.specs.Prelude.{ℕ, Bool, ◌≡◌, true, false, MatchBool, [], Some, not, ◌&&◌, ◌||◌, if◌then◌else◌}
+use Rattle.std.specs.Prelude.{ℕ, Bool, ◌≡◌, true, false, MatchBool, [], Some, not, ◌&&◌, ◌||◌}
+use Rattle.std.specs.Prelude.{if◌then◌else◌}
 use Rattle.std.specs.List.{list_all, slice_get}
 use Rattle.vq_model.specs.Edges.{AtEnd}
 use Rattle.vq_model.specs.Machine.{are_reached}

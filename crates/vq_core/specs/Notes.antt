@@ -1,5 +1,6 @@
 -- The notes on references, and what the world says of them. This project's own.
-use Rattle.std.specs.Prelude.{ℕ, Bool, List, [], length, count_by, ◌≡◌, ◌<◌, ◌&&◌, ◌==◌, Option, Some, None}
+use Rattle.std.specs.Prelude.{ℕ, Bool, List, [], length, count_by, ◌≡◌, ◌<◌, ◌&&◌, ◌==◌, Option}
+use Rattle.std.specs.Prelude.{Some, None}
 use Rattle.std.specs.List.{slice_index_or, position_or_len}
 use Rattle.std.specs.Option.{option_map_or}
 use Rattle.vq_model.specs.declared.script.ActorName.{ActorName}

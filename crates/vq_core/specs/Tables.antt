@@ -1,5 +1,6 @@
 -- The other tables, and what the world says of them. This project's own.
-use Rattle.std.specs.Prelude.{ℕ, Bool, List, length, count_by, ◌≡◌, ◌<◌, ◌≤◌, ◌==◌, false, Option, None, not, []}
+use Rattle.std.specs.Prelude.{ℕ, Bool, List, length, count_by, ◌≡◌, ◌<◌, ◌≤◌, ◌==◌, false, Option}
+use Rattle.std.specs.Prelude.{None, not, []}
 use Rattle.std.specs.Prelude.{nat_lt, ◌&&◌}
 use Rattle.std.specs.List.{slice_index_or, range_with_len}
 use Rattle.vq_model.specs.Plan.{Plan, has, commands_of, signals_of, is_batch}

@@ -1,5 +1,6 @@
 //! What host steps ask, and what they may be answered.
-ghost use Rattle.std.specs.Prelude.{◌≡◌, ◌<◌, ◌==◌, ◌||◌, ◌&&◌, length, nat_lt, is_some, true, ℕ};
+ghost use Rattle.std.specs.Prelude.{◌≡◌, ◌<◌, ◌==◌, ◌||◌, ◌&&◌, length, nat_lt, is_some, true};
+ghost use Rattle.std.specs.Prelude.{ℕ};
 ghost use Rattle.std.specs.List.{list_any, list_all};
 ghost use Rattle.vq_model.specs.Machine.{may_answer, is_reached};
 ghost use Rattle.vq_model.specs.Plan.{question, asked, chain as ops_of, value as value_of, is_silent};

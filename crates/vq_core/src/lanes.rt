@@ -1,5 +1,6 @@
 //! The jobs of each lane, and how far they have come.
-ghost use Rattle.std.specs.Prelude.{◌≡◌, ◌<◌, ◌+◌, ◌-◌, ◌^◌, ◌++◌, ◌∷◌, [], length, replicate, IfOk, OnOk};
+ghost use Rattle.std.specs.Prelude.{◌≡◌, ◌<◌, ◌+◌, ◌-◌, ◌^◌, ◌++◌, ◌∷◌, [], length};
+ghost use Rattle.std.specs.Prelude.{replicate, IfOk, OnOk};
 ghost use Rattle.std.specs.List.{slice_index_or, slice_get};
 ghost use Rattle.std.proofs.Math.ListN.{set};
 ghost use Rattle.vq_core.specs.Lanes.{no_lane};

@@ -1,5 +1,6 @@
 //! The needs of jobs, and the operations that resolve them.
-ghost use Rattle.std.specs.Prelude.{◌≡◌, ◌<◌, ◌||◌, ◌&&◌, All, if◌then◌else◌, length, nat_lt, nat_le, count_by};
+ghost use Rattle.std.specs.Prelude.{◌≡◌, ◌<◌, ◌||◌, ◌&&◌, All, if◌then◌else◌, length, nat_lt};
+ghost use Rattle.std.specs.Prelude.{nat_le, count_by};
 ghost use Rattle.std.specs.Prelude.{is_some, false};
 ghost use Rattle.std.specs.List.{list_all, list_any, position_or_len};
 ghost use Rattle.std.specs.Option.{option_map_or, option_to_list};

@@ -1,5 +1,6 @@
 //! What jobs have come to: their commands, their signals and their waits.
-ghost use Rattle.std.specs.Prelude.{◌≡◌, ◌<◌, ◌||◌, ◌&&◌, ◌+◌, ◌-◌, ◌↔◌, All, IsTrue, length, nat_lt, nat_le, true};
+ghost use Rattle.std.specs.Prelude.{◌≡◌, ◌<◌, ◌||◌, ◌&&◌, ◌+◌, ◌-◌, ◌↔◌, All, IsTrue};
+ghost use Rattle.std.specs.Prelude.{length, nat_lt, nat_le, true};
 ghost use Rattle.std.specs.Prelude.{false};
 ghost use Rattle.std.specs.List.{list_all, list_any, slice_get};
 ghost use Rattle.std.specs.Option.{option_to_list};

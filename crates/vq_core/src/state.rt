@@ -1,5 +1,6 @@
 //! The core: a plan, what has happened, and what that has come to.
-ghost use Rattle.std.specs.Prelude.{◌≡◌, ◌<◌, ◌≤◌, ◌==◌, ◌↔◌, [], IsTrue, IfSome, IfOk, Some, length};
+ghost use Rattle.std.specs.Prelude.{◌≡◌, ◌<◌, ◌≤◌, ◌==◌, ◌↔◌, [], IsTrue, IfSome, IfOk, Some};
+ghost use Rattle.std.specs.Prelude.{length};
 ghost use Rattle.std.specs.List.{slice_get, list_any};
 ghost use Rattle.vq_model.specs.Machine.{Run, AreFinished};
 ghost use Rattle.vq_model.specs.Memory.{HasSizes};

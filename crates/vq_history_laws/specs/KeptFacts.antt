@@ -1,5 +1,6 @@
 -- What each world of a history keeps of its points, its jobs and its references. This project's own.
-use Rattle.std.specs.Prelude.{ℕ, ◌≡◌, ◌<◌, ◌≤◌, Bool, true, false, List, length, Option, Some, is_some}
+use Rattle.std.specs.Prelude.{ℕ, ◌≡◌, ◌<◌, ◌≤◌, Bool, true, false, List, length, Option, Some}
+use Rattle.std.specs.Prelude.{is_some}
 use Rattle.vq_model.specs.declared.plan.Answer.{Answer}
 use Rattle.vq_model.specs.Plan.{Plan, has, chain_of, is_batch, is_silent, question}
 use Rattle.vq_points.specs.Points.{PointState, Reference, smaller_ops, needs_resolved, count_of}

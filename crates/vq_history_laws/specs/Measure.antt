@@ -1,5 +1,6 @@
 -- How much of a plan has been done: each event does one act more. This project's own.
-use Rattle.std.specs.Prelude.{ℕ, zero, suc, ◌+◌, ◌-◌, ◌==◌, Bool, false, not, cond, ◌&&◌, List, length, Option, Some}
+use Rattle.std.specs.Prelude.{ℕ, zero, suc, ◌+◌, ◌-◌, ◌==◌, Bool, false, not, cond, ◌&&◌, List}
+use Rattle.std.specs.Prelude.{length, Option, Some}
 use Rattle.std.specs.Prelude.{None, is_some}
 use Rattle.std.specs.Option.{option_map_or}
 use Rattle.vq_model.specs.Plan.{Plan, has}

@@ -1,16 +1,10 @@
 -- What scripts of the forms that are built so far don't have. Each of these falls alone, with the form
 -- that it leaves out, so each law names only those that it rests on. This project's own.
-use Rattle.std.specs.Prelude.{ℕ, ◌≡◌, true, [], Some, All}
+use Rattle.std.specs.Prelude.{ℕ, ◌≡◌, Some, All}
 use Rattle.std.specs.List.{slice_get}
 use Rattle.vq_model.specs.declared.script.Script.{Script}
 use Rattle.vq_model.specs.declared.script.Batch.{Batch}
 use Rattle.vq_model.specs.declared.script.Job.TheVariants.{Batch as BatchJob}
-use Rattle.vq_model.specs.ValidScripts.{is_immediate_queue}
-
--- no batch of an immediate queue waits
-abbrev pub HasNoImmediateWait : Script → Type 0
-HasNoImmediateWait s = (j : ℕ) (b : Batch) → slice_get s.jobs j ≡ Some (BatchJob b) →
-    is_immediate_queue s b.queue ≡ true → b.waits ≡ []
 
 -- each wait holds back the whole of its batch
 abbrev pub HasWholeWaits : Script → Type 0

@@ -1,5 +1,6 @@
 -- The canonical text of a script. The format is this project's own.
-use Rattle.std.specs.Prelude.{ℕ, List, [], zero, suc, ◌/◌, ◌%◌, ◌∷◌, ◌+◌, ◌++◌, codes, ◌==◌, if◌then◌else◌, nat_lt}
+use Rattle.std.specs.Prelude.{ℕ, List, [], zero, suc, ◌/◌, ◌%◌, ◌∷◌, ◌+◌, ◌++◌, codes, ◌==◌}
+use Rattle.std.specs.Prelude.{if◌then◌else◌, nat_lt}
 use Rattle.std.specs.Prelude.{Option, Some, None, map, Bool, true, false}
 use Rattle.std.specs.List.{slice_get, flat_map, join_with_byte}
 use Rattle.std.specs.Option.{option_map_or}

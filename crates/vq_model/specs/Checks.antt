@@ -2,7 +2,8 @@
 -- Vulkan 1.3, "Semaphore Signaling", "Semaphore Waiting", "Fences", "Execution and Memory
 -- Dependencies". The names of the faults, their order and the lines that they name are this
 -- project's own.
-use Rattle.std.specs.Prelude.{ℕ, ◌≤◌, ◌≡◌, ◌<◌, ◌⊎◌, Bool, not, if◌then◌else◌, true, Some, ◌+◌, ◌≢◌, false, ◌||◌, []}
+use Rattle.std.specs.Prelude.{ℕ, ◌≤◌, ◌≡◌, ◌<◌, ◌⊎◌, Bool, not, if◌then◌else◌, true, Some}
+use Rattle.std.specs.Prelude.{◌+◌, ◌≢◌, false, ◌||◌, []}
 use Rattle.std.specs.Prelude.{Result, Ok, Err}
 use Rattle.std.specs.List.{list_any, slice_get}
 use Rattle.std.specs.Option.{option_map_or}

@@ -1,6 +1,7 @@
 -- What the lines before a line say: the part of the text, what is declared, the open batch.
 -- The context is always the list of the earlier lines. The format is this project's own.
-use Rattle.std.specs.Prelude.{List, fold, Option, Some, None, ℕ, Bool, ◌||◌, true, false, ◌&&◌, [], ◌∷◌, count_by}
+use Rattle.std.specs.Prelude.{List, fold, Option, Some, None, ℕ, Bool, ◌||◌, true, false, ◌&&◌, [], ◌∷◌}
+use Rattle.std.specs.Prelude.{count_by}
 use Rattle.std.specs.List.{filter_map, list_any, position, slice_get, after_last}
 use Rattle.std.specs.Str.{bytes_eq}
 use Rattle.std.specs.Option.{option_map_or}
@@ -186,14 +187,6 @@ queue_after was other = was
 
 abbrev pub last_queue : List Line → Option ℕ
 last_queue before = fold (λ was line. queue_after was line.statement) None before
-
--- whether this queue is immediate
-abbrev pub is_immediate_at : List Line → ℕ → Bool
-is_immediate_at before q = option_map_or (λ x. is_immediate x.mode) (slice_get (queues before) q) false
-
--- whether the open batch is of an immediate queue
-abbrev pub is_batch_immediate : List Line → Bool
-is_batch_immediate before = option_map_or (is_immediate_at before) (last_queue before) false
 
 -- how many turns a line of the schedule gives
 abbrev pub turns_of : Statement → ℕ

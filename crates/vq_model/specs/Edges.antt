@@ -1,6 +1,7 @@
 -- What a job waits for: the jobs with an edge to it, and to a place in it.
 -- Vulkan 1.3, "Semaphore Waiting", "Queue Submission"; vkDeviceWaitIdle.
-use Rattle.std.specs.Prelude.{ℕ, List, ◌++◌, suc, ◌==◌, nat_le, filter, Bool, ◌≡◌, true, nat_lt, if◌then◌else◌, [], ◌<◌}
+use Rattle.std.specs.Prelude.{ℕ, List, ◌++◌, suc, ◌==◌, nat_le, filter, Bool, ◌≡◌, true, nat_lt}
+use Rattle.std.specs.Prelude.{if◌then◌else◌, [], ◌<◌}
 use Rattle.std.specs.Prelude.{false, Some}
 use Rattle.std.specs.Option.{option_to_list}
 use Rattle.std.specs.List.{position_or_len, list_all, filter_map, slice_get}

@@ -1,7 +1,8 @@
 -- The faults of a line: one test for each kind, and the order of the kinds.
 -- The kinds and their order are this project's own; the ranges and alignments that are asked of
 -- commands are those of Vulkan 1.3, "Clear Commands" and "Copy Commands".
-use Rattle.std.specs.Prelude.{ℕ, Bool, true, List, is_some, not, false, nat_lt, ◌&&◌, ◌||◌, ◌+◌, length, [], ◌∷◌, find}
+use Rattle.std.specs.Prelude.{ℕ, Bool, true, List, is_some, not, false, nat_lt, ◌&&◌, ◌||◌, ◌+◌, length}
+use Rattle.std.specs.Prelude.{[], ◌∷◌, find}
 use Rattle.std.specs.Prelude.{Option, map}
 use Rattle.std.specs.List.{list_all}
 use Rattle.std.specs.Option.{option_map_or}

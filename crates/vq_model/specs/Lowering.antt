@@ -1,7 +1,8 @@
 -- The plan of a script.
 -- Vulkan 1.3, "Queue Submission" (batches), "Semaphores" (binary: a wait needs its signal submitted
 -- earlier), "Fences".
-use Rattle.std.specs.Prelude.{ℕ, ◌==◌, Bool, false, ◌+◌, ◌&&◌, ◌||◌, if◌then◌else◌, List, [], ◌∷◌, take, nat_lt}
+use Rattle.std.specs.Prelude.{ℕ, ◌==◌, Bool, false, ◌+◌, ◌&&◌, ◌||◌, if◌then◌else◌, List, []}
+use Rattle.std.specs.Prelude.{◌∷◌, take, nat_lt}
 use Rattle.std.specs.Prelude.{count_by, map, length, Option, Some, None, fold, filter}
 use Rattle.std.specs.Option.{option_map_or}
 use Rattle.std.specs.List.{range_with_len, slice_get, filter_map, flat_map, enumerate_from}

@@ -1,7 +1,8 @@
 -- What lowering refuses, by the uses of a semaphore or a fence that are written before. Vulkan 1.3,
 -- "Semaphores" (binary), "Fences": a binary semaphore is unsignaled when it is signaled, its wait
 -- has a signal submitted earlier, and a fence that is named is not in use.
-use Rattle.std.specs.Prelude.{ℕ, if◌then◌else◌, List, [], ◌∷◌, ◌++◌, Bool, true, false, ◌==◌, ◌&&◌, count_by, fold}
+use Rattle.std.specs.Prelude.{ℕ, if◌then◌else◌, List, [], ◌∷◌, ◌++◌, Bool, true, false, ◌==◌}
+use Rattle.std.specs.Prelude.{◌&&◌, count_by, fold}
 use Rattle.std.specs.Prelude.{Option, Some, None, nat_le, ◌≡◌, ◌≤◌, Result, Ok, Err}
 use Rattle.std.specs.List.{flat_map, list_any}
 use Rattle.std.specs.Option.{option_to_list, option_map_or}

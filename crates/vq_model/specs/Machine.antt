@@ -2,8 +2,10 @@
 -- allowed order.
 -- Vulkan 1.3, "Semaphores" (signal and wait operations), "Host Operations on Semaphores" (waits,
 -- signals and reads of the host), "Fences", "Queue Submission".
-use Rattle.std.specs.Prelude.{ℕ, Bool, List, Option, ◌==◌, if◌then◌else◌, false, [], None, true, Some, ◌∷◌, ◌++◌}
-use Rattle.std.specs.Prelude.{nat_le, ◌&&◌, not, find, ◌≡◌, ◌<◌, length, ◌||◌, is_some, nat_lt, fold, filter}
+use Rattle.std.specs.Prelude.{ℕ, Bool, List, Option, ◌==◌, if◌then◌else◌, false, [], None, true, Some}
+use Rattle.std.specs.Prelude.{◌∷◌, ◌++◌}
+use Rattle.std.specs.Prelude.{nat_le, ◌&&◌, not, find, ◌≡◌, ◌<◌, length, ◌||◌, is_some, nat_lt, fold}
+use Rattle.std.specs.Prelude.{filter}
 use Rattle.std.specs.List.{list_any, list_all}
 use Rattle.vq_model.specs.declared.plan.Answer.{Answer}
 use Rattle.vq_model.specs.declared.plan.Need.{Need}

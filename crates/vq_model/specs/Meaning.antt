@@ -1,7 +1,9 @@
 -- What the words of a line say: their form, the words at its open places, and the statement.
 -- The format is this project's own.
-use Rattle.std.specs.Prelude.{Bool, true, List, [], ◌∷◌, ◌+◌, ◌++◌, ℕ, ◌%◌, ◌==◌, nat_lt, false, ◌&&◌, length}
-use Rattle.std.specs.Prelude.{if◌then◌else◌, Option, Some, None, find, ◌||◌, drop, codes, ◌^◌, ◌*◌, map, not}
+use Rattle.std.specs.Prelude.{Bool, true, List, [], ◌∷◌, ◌+◌, ◌++◌, ℕ, ◌%◌, ◌==◌, nat_lt, false}
+use Rattle.std.specs.Prelude.{◌&&◌, length}
+use Rattle.std.specs.Prelude.{if◌then◌else◌, Option, Some, None, find, ◌||◌, drop, codes, ◌^◌, ◌*◌}
+use Rattle.std.specs.Prelude.{map, not}
 use Rattle.std.specs.Str.{bytes_eq}
 use Rattle.std.specs.Option.{option_map, option_and_then}
 use Rattle.std.specs.List.{list_all}
@@ -38,46 +40,19 @@ use Rattle.vq_model.specs.declared.script.Command.TheVariants.{Fill, Update, Cop
 use Rattle.vq_model.specs.declared.script.FillSize.TheVariants.{Whole, Count}
 use Rattle.vq_model.specs.Forms.{forms_outside, forms_in_batch, forms_in_schedule, held_forms, schedule_forms, Slot}
 use Rattle.vq_model.specs.Forms.{Pairs, word, Fixed, places, TimelineName, Numeral}
-use Rattle.vq_model.specs.Context.{section, is_batch_immediate, version_of, queue_at, threaded_at, timeline_at}
+use Rattle.vq_model.specs.Context.{section, version_of, queue_at, threaded_at, timeline_at}
 use Rattle.vq_model.specs.Context.{buffer_at, binary_at, fence_at}
 use Rattle.vq_model.specs.Text.{is_name, numeral}
 
 -- The form of a line
 
--- The forms that are built so far; a line of another form is Syntax. No text has a version, no queue
--- is deferred, and a batch of an immediate queue waits for nothing.
-abbrev pub is_built : List Line → LineForm → Bool
-is_built before BufferLine = true
-is_built before TimelineLine = true
-is_built before BinaryLine = true
-is_built before FenceLine = true
-is_built before (QueueLine Immediate) = true
-is_built before (QueueLine Threaded) = true
-is_built before SubmitLine = true
-is_built before HostSignalLine = true
-is_built before HostWaitAllLine = true
-is_built before HostWaitAnyLine = true
-is_built before HostPollAllLine = true
-is_built before HostPollAnyLine = true
-is_built before HostReadLine = true
-is_built before HostFenceWaitLine = true
-is_built before HostFencePollLine = true
-is_built before HostFenceResetLine = true
-is_built before HostIdleLine = true
-is_built before WaitTimelineLine = not (is_batch_immediate before)
-is_built before WaitBinaryLine = not (is_batch_immediate before)
-is_built before FillWholeLine = true
-is_built before FillLine = true
-is_built before UpdateLine = true
-is_built before CopyLine = true
-is_built before SignalTimelineLine = true
-is_built before SignalBinaryLine = true
-is_built before BatchFenceLine = true
-is_built before EndLine = true
-is_built before ScheduleLine = true
-is_built before TurnLine = true
-is_built before TurnsLine = true
-is_built before other = false
+-- The forms that are built so far; a line of another form is Syntax. No text has a version, and no wait
+-- holds back a part of its batch.
+abbrev pub is_built : LineForm → Bool
+is_built VersionLine = false
+is_built HeldTimelineLine = false
+is_built HeldBinaryLine = false
+is_built other = true
 
 -- `version 2` may stand first; in version 2 waits may hold back a part of the commands
 abbrev pub first_forms : List Line → List LineForm
@@ -112,13 +87,13 @@ abbrev pub matches : List (List ℕ) → LineForm → Bool
 matches words form = are_as_many (places form) words && agree (places form) words
 
 -- a form, where it is built
-abbrev pub where_built : List Line → Option LineForm → Option LineForm
-where_built before None = None
-where_built before (Some form) = if is_built before form then Some form else None
+abbrev pub where_built : Option LineForm → Option LineForm
+where_built None = None
+where_built (Some form) = if is_built form then Some form else None
 
 -- the form of a line's words
 abbrev pub form_of : Form → List Line → List (List ℕ) → Option LineForm
-form_of form before words = where_built before (find (matches words) (forms_at form before))
+form_of form before words = where_built (find (matches words) (forms_at form before))
 
 -- The words at its places
 

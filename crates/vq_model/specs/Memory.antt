@@ -1,7 +1,8 @@
 -- Buffers as lists of bytes, and what transfer commands do to them.
 -- Vulkan 1.3, "Clear Commands" (vkCmdFillBuffer, vkCmdUpdateBuffer) and "Copy Commands"
 -- (vkCmdCopyBuffer).
-use Rattle.std.specs.Prelude.{ℕ, List, [], map, ◌≡◌, length, ◌%◌, slice_index, ◌+◌, ◌++◌, take, drop, ◌∷◌}
+use Rattle.std.specs.Prelude.{ℕ, List, [], map, ◌≡◌, length, ◌%◌, slice_index, ◌+◌, ◌++◌, take}
+use Rattle.std.specs.Prelude.{drop, ◌∷◌}
 use Rattle.std.specs.List.{slice_index_or, range_with_len, slice_range}
 use Rattle.std.specs.Int.{to_le_bytes, w32}
 use Rattle.std.proofs.Math.ListN.{set}

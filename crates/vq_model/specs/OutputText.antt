@@ -1,5 +1,6 @@
 -- The text of answers and of buffers. The format is this project's own.
-use Rattle.std.specs.Prelude.{ℕ, List, [], ◌∷◌, ◌+◌, ◌++◌, codes, length, nat_lt, if◌then◌else◌, ◌/◌, ◌%◌, ◌*◌}
+use Rattle.std.specs.Prelude.{ℕ, List, [], ◌∷◌, ◌+◌, ◌++◌, codes, length, nat_lt, if◌then◌else◌}
+use Rattle.std.specs.Prelude.{◌/◌, ◌%◌, ◌*◌}
 use Rattle.std.specs.Fmt.{decimal}
 use Rattle.std.specs.List.{flat_map, range_with_len, filter_map, slice_range}
 use Rattle.std.specs.Option.{option_map}

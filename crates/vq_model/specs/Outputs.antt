@@ -1,6 +1,7 @@
 -- What a run of a plan may write when its jobs run beside one another.
 -- Vulkan 1.3, "Host Operations on Semaphores", "Fences".
-use Rattle.std.specs.Prelude.{List, ◌∷◌, ℕ, Option, ◌≡◌, ◌<◌, Some, if◌then◌else◌, [], ◌≤◌, ◌⊎◌, true, ◌++◌, not}
+use Rattle.std.specs.Prelude.{List, ◌∷◌, ℕ, Option, ◌≡◌, ◌<◌, Some, if◌then◌else◌, []}
+use Rattle.std.specs.Prelude.{◌≤◌, ◌⊎◌, true, ◌++◌, not}
 use Rattle.std.specs.Prelude.{length, filter, map}
 use Rattle.std.specs.Option.{option_to_list}
 use Rattle.std.specs.List.{range_with_len}

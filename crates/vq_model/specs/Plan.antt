@@ -1,7 +1,8 @@
 -- A plan: jobs in lanes, and a chain of signal operations for each semaphore and each fence.
 -- Vulkan 1.3, "Semaphores" and "Fences" (payloads, signal and wait operations), "Queue Submission"
 -- (batches).
-use Rattle.std.specs.Prelude.{ℕ, List, ◌==◌, Bool, Option, None, [], false, true, nat_lt, not, ◌&&◌, length, nat_le}
+use Rattle.std.specs.Prelude.{ℕ, List, ◌==◌, Bool, Option, None, [], false, true, nat_lt, not, ◌&&◌, length}
+use Rattle.std.specs.Prelude.{nat_le}
 use Rattle.std.specs.Prelude.{find}
 use Rattle.std.specs.List.{list_any, slice_get}
 use Rattle.std.specs.Option.{option_map, option_map_or}

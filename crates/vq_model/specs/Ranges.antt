@@ -1,7 +1,8 @@
 -- The bytes of buffers that a transfer command reads and writes.
 -- Vulkan 1.3, "Clear Commands" (vkCmdFillBuffer, vkCmdUpdateBuffer) and "Copy Commands"
 -- (vkCmdCopyBuffer).
-use Rattle.std.specs.Prelude.{ℕ, ◌*◌, ◌-◌, ◌/◌, List, length, Option, Some, None, ◌+◌, ◌==◌, min, max, nat_lt, Bool}
+use Rattle.std.specs.Prelude.{ℕ, ◌*◌, ◌-◌, ◌/◌, List, length, Option, Some, None, ◌+◌, ◌==◌, min}
+use Rattle.std.specs.Prelude.{max, nat_lt, Bool}
 use Rattle.std.specs.Prelude.{◌&&◌, false, ◌%◌, true, ◌<◌, ◌≤◌, ◌≡◌, IfSome, ◌||◌}
 use Rattle.std.specs.List.{slice_index_or}
 use Rattle.std.specs.Option.{option_map_or}

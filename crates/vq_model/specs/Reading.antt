@@ -1,6 +1,7 @@
 -- A text, read: the script that it stands for, or its first line with a fault and the first kind of
 -- that line's faults. The format is this project's own.
-use Rattle.std.specs.Prelude.{ℕ, ◌+◌, List, [], ◌∷◌, ◌++◌, Option, Some, None, Result, Ok, Err, if◌then◌else◌, ◌≡◌}
+use Rattle.std.specs.Prelude.{ℕ, ◌+◌, List, [], ◌∷◌, ◌++◌, Option, Some, None, Result, Ok, Err}
+use Rattle.std.specs.Prelude.{if◌then◌else◌, ◌≡◌}
 use Rattle.std.specs.Prelude.{true, false, length}
 use Rattle.std.specs.Option.{option_map_or}
 use Rattle.vq_model.specs.declared.statement.Statement.{Statement}

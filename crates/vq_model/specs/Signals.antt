@@ -1,6 +1,7 @@
 -- The signal operations of a script, with their values and their chains.
 -- Vulkan 1.3, "Semaphores" (binary and timeline), "Fences".
-use Rattle.std.specs.Prelude.{ℕ, Option, Bool, false, not, List, [], ◌∷◌, ◌+◌, ◌++◌, map, ◌==◌, if◌then◌else◌, count_by}
+use Rattle.std.specs.Prelude.{ℕ, Option, Bool, false, not, List, [], ◌∷◌, ◌+◌, ◌++◌, map, ◌==◌}
+use Rattle.std.specs.Prelude.{if◌then◌else◌, count_by}
 use Rattle.std.specs.Prelude.{nat_le, length, filter, fold}
 use Rattle.std.specs.List.{slice_get, flat_map, enumerate_from, range_with_len, position_or_len}
 use Rattle.std.specs.Option.{option_map, option_map_or, option_to_list}

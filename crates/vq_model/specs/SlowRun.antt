@@ -1,6 +1,7 @@
 -- The slow run: again and again the lowest job that can be done is done whole. What it leaves in
 -- the buffers is what a script means. This project's own.
-use Rattle.std.specs.Prelude.{ℕ, max, List, fold, Bool, false, map, filter, not, ◌&&◌, length, find, Option, zero, suc}
+use Rattle.std.specs.Prelude.{ℕ, max, List, fold, Bool, false, map, filter, not, ◌&&◌, length, find, Option, zero}
+use Rattle.std.specs.Prelude.{suc}
 use Rattle.std.specs.Prelude.{[], ◌∷◌, ◌++◌, ◌≡◌}
 use Rattle.std.specs.Option.{option_map_or}
 use Rattle.std.specs.List.{range_with_len, filter_map, flat_map}

@@ -1,6 +1,7 @@
 -- The text of a script: its lines, the words of a line, names and numerals.
 -- The format is this project's own.
-use Rattle.std.specs.Prelude.{ℕ, ◌==◌, Bool, if◌then◌else◌, List, [], ◌∷◌, length, map, ◌||◌, nat_le, ◌&&◌, true, false}
+use Rattle.std.specs.Prelude.{ℕ, ◌==◌, Bool, if◌then◌else◌, List, [], ◌∷◌, length, map, ◌||◌}
+use Rattle.std.specs.Prelude.{nat_le, ◌&&◌, true, false}
 use Rattle.std.specs.Prelude.{filter, nat_lt, not, slice_index, ◌^◌, Option, Some, None, drop}
 use Rattle.std.specs.List.{slice_split, before_first, list_all}
 use Rattle.std.specs.Str.Lines.{strip_carriage_return}

@@ -1,6 +1,7 @@
 -- What each plan of a script keeps.
 -- This project's own.
-use Rattle.std.specs.Prelude.{ℕ, ◌≡◌, ◌<◌, true, List, [], ◌∷◌, ◌⊎◌, false, length, Some, ◌≤◌}
+use Rattle.std.specs.Prelude.{ℕ, ◌≡◌, ◌<◌, true, List, [], ◌∷◌, ◌⊎◌, false, length, Some}
+use Rattle.std.specs.Prelude.{◌≤◌}
 use Rattle.vq_model.specs.declared.script.Command.{Command}
 use Rattle.vq_model.specs.Plan.{has, Plan, value, command_at, needs, waits_for_any, commands_of, signals_of}
 use Rattle.vq_model.specs.Plan.{is_host_step, chain, job_of, chain_of, host_before, question, is_silent}

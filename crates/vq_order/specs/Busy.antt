@@ -1,6 +1,7 @@
 -- Resets of fences that may be in use, by the last use of each fence.
 -- Vulkan 1.3, vkResetFences: each fence is not used by a batch that is still pending.
-use Rattle.std.specs.Prelude.{ℕ, ◌≡◌, ◌≢◌, ◌<◌, ◌≤◌, List, true, false, length, Option, Some, None}
+use Rattle.std.specs.Prelude.{ℕ, ◌≡◌, ◌≢◌, ◌<◌, ◌≤◌, List, true, false, length, Option, Some}
+use Rattle.std.specs.Prelude.{None}
 use Rattle.std.specs.List.{slice_index_or}
 use Rattle.std.specs.Option.{option_map}
 use Rattle.vq_model.specs.declared.script.Script.{Script}

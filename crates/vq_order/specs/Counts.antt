@@ -1,5 +1,6 @@
 -- The first operations of a chain, those of which something holds, and the value after them.
-use Rattle.std.specs.Prelude.{ℕ, ◌≡◌, ◌≢◌, ◌<◌, ◌≤◌, ◌-◌, ◌==◌, if◌then◌else◌, List, length, get_or, Some}
+use Rattle.std.specs.Prelude.{ℕ, ◌≡◌, ◌≢◌, ◌<◌, ◌≤◌, ◌-◌, ◌==◌, if◌then◌else◌}
+use Rattle.std.specs.Prelude.{List, length, get_or, Some}
 use Rattle.vq_model.specs.HappensBefore.{HappensBefore}
 use Rattle.vq_model.specs.Plan.{Plan, chain, initial, value, job_of}
 

@@ -1,6 +1,7 @@
 -- What is kept of each cell of bytes while commands are gone through: the last job that wrote it,
 -- and jobs that have read it since.
-use Rattle.std.specs.Prelude.{ℕ, ◌≡◌, ◌<◌, ◌≤◌, ◌⊎◌, Bool, true, false, List, [], ◌∷◌, length, Option, Some, None}
+use Rattle.std.specs.Prelude.{ℕ, ◌≡◌, ◌<◌, ◌≤◌, ◌⊎◌, Bool, true, false, List, [], ◌∷◌}
+use Rattle.std.specs.Prelude.{length, Option, Some, None}
 use Rattle.std.specs.List.{slice_get}
 use Rattle.std.specs.List.Sorted.{IsNonDecreasing}
 use Rattle.vq_model.specs.HappensBefore.{HappensBefore}

@@ -1,7 +1,8 @@
 -- Signals in no sure order, by where they stand: at a place of a timeline's chain, or behind a wait of
 -- a binary semaphore.
 -- Vulkan 1.3, "Semaphore Signaling", "Semaphore Waiting". The lines that are named are this project's own.
-use Rattle.std.specs.Prelude.{ℕ, ◌≡◌, ◌≢◌, ◌<◌, ◌≤◌, ◌+◌, ◌⊎◌, true, length, min, max, Option, Some, None}
+use Rattle.std.specs.Prelude.{ℕ, ◌≡◌, ◌≢◌, ◌<◌, ◌≤◌, ◌+◌, ◌⊎◌, true, length, min, max}
+use Rattle.std.specs.Prelude.{Option, Some, None}
 use Rattle.std.specs.List.{slice_index_or}
 use Rattle.vq_model.specs.declared.plan.Need.{Need}
 use Rattle.vq_model.specs.declared.script.SemaphoreKind.TheVariants.{Binary}

@@ -1,7 +1,8 @@
 -- Vector clocks. A clock has a number for each lane. As the jobs of a lane run one after another,
 -- those that happen before a job are the first ones of each lane, and the number says where they end.
 -- Vulkan 1.3, "Implicit Synchronization Guarantees" (submission order).
-use Rattle.std.specs.Prelude.{ℕ, ◌++◌, ◌∷◌, ◌≡◌, ◌<◌, ◌≤◌, ◌+◌, ◌==◌, true, List, [], length, max, if◌then◌else◌}
+use Rattle.std.specs.Prelude.{ℕ, ◌++◌, ◌∷◌, ◌≡◌, ◌<◌, ◌≤◌, ◌+◌, ◌==◌, true, List}
+use Rattle.std.specs.Prelude.{[], length, max, if◌then◌else◌}
 use Rattle.std.specs.Prelude.{Option, Some, ◌⊎◌}
 use Rattle.std.specs.List.{slice_index_or, position_or_len}
 use Rattle.vq_model.specs.Plan.{Plan, has, job_of}

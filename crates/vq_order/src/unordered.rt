@@ -1,5 +1,6 @@
 //! Signals of one semaphore in no sure order.
-ghost use Rattle.std.specs.Prelude.{ℕ, ◌≡◌, ◌<◌, ◌≤◌, ◌+◌, ◌↔◌, ◌⊎◌, [], false, Some, IsTrue, length};
+ghost use Rattle.std.specs.Prelude.{ℕ, ◌≡◌, ◌<◌, ◌≤◌, ◌+◌, ◌↔◌, ◌⊎◌, [], false, Some};
+ghost use Rattle.std.specs.Prelude.{IsTrue, length};
 ghost use Rattle.std.specs.List.{slice_get, slice_index_or};
 ghost use Rattle.std.specs.Option.{option_map_or};
 ghost use Rattle.vq_model.specs.declared.script.SemaphoreKind.TheVariants.{Binary};

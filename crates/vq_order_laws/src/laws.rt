@@ -1,6 +1,7 @@
 //! Laws over the order of a plan: the slow run, what happens before what, and what is sure. The
 //! functions do nothing: their contracts are the laws.
-ghost use Rattle.std.specs.Prelude.{◌≡◌, ◌<◌, ◌++◌, ℕ, length, true, false, List, ◌∷◌, ◌⊎◌, [], None, ◌↔◌};
+ghost use Rattle.std.specs.Prelude.{◌≡◌, ◌<◌, ◌++◌, ℕ, length, true, false, List, ◌∷◌, ◌⊎◌};
+ghost use Rattle.std.specs.Prelude.{[], None, ◌↔◌};
 ghost use Rattle.vq_model.specs.Plan.{Plan, has, chain, initial, value};
 ghost use Rattle.vq_model.specs.WellFormed.{IsWellFormed};
 ghost use Rattle.vq_model.specs.SlowRun.{is_ready, slow_order, left_over};

@@ -1,5 +1,6 @@
 //! Laws over the plans of scripts. The functions do nothing: their contracts are the laws.
-ghost use Rattle.std.specs.Prelude.{◌≡◌, ◌&&◌, not, ℕ, List, Some, None, ◌+◌, true, false, take, count_by, suc, []};
+ghost use Rattle.std.specs.Prelude.{◌≡◌, ◌&&◌, not, ℕ, List, Some, None, ◌+◌, true, false, take};
+ghost use Rattle.std.specs.Prelude.{count_by, suc, []};
 ghost use Rattle.std.specs.List.{list_all, slice_get};
 ghost use Rattle.vq_model.specs.Plan.{Plan, has, value};
 ghost use Rattle.vq_model.specs.Edges.{must_finish, AtEnd, HasNoHeldWait};

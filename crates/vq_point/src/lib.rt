@@ -2,7 +2,8 @@
 //! whether its binary sync is signaled and whether it is held.
 #![tactic(auto)]
 
-ghost use Rattle.std.specs.Prelude.{◌≡◌, ◌≢◌, ◌↔◌, ◌⊎◌, ◌*◌, ◌/◌, ◌%◌, ◌^◌, ◌<◌, ◌≤◌, ◌==◌, Some, IsNone, IfSome};
+ghost use Rattle.std.specs.Prelude.{◌≡◌, ◌≢◌, ◌↔◌, ◌⊎◌, ◌*◌, ◌/◌, ◌%◌, ◌^◌};
+ghost use Rattle.std.specs.Prelude.{◌<◌, ◌≤◌, ◌==◌, Some, IsNone, IfSome};
 ghost use Rattle.std.specs.Prelude.{false};
 ghost use Rattle.vq_point.specs.Word.{bits_of, parts_of};
 

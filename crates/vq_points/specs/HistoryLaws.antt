@@ -1,6 +1,7 @@
 -- Laws on lists of events: the point law and the pending law. Events stand latest first where a law
 -- looks back. This project's own.
-use Rattle.std.specs.Prelude.{List, [], ◌∷◌, ℕ, ◌==◌, Bool, false, ◌&&◌, if◌then◌else◌, Option, Some, None, not, ◌||◌}
+use Rattle.std.specs.Prelude.{List, [], ◌∷◌, ℕ, ◌==◌, Bool, false, ◌&&◌, if◌then◌else◌, Option}
+use Rattle.std.specs.Prelude.{Some, None, not, ◌||◌}
 use Rattle.std.specs.Prelude.{◌+◌, ◌≡◌, ◌≢◌, true, nat_le}
 use Rattle.std.specs.List.{list_any, list_all}
 use Rattle.vq_model.specs.declared.plan.Event.{Event}

@@ -1,5 +1,6 @@
 -- The word of a point: 64 bits. The layout is this project's own.
-use Rattle.std.specs.Prelude.{ℕ, Bool, ◌≡◌, ◌^◌, ◌<◌, false, true, ◌+◌, ◌*◌, ◌/◌, ◌%◌, ◌==◌, nat_lt, ◌&&◌, ◌||◌}
+use Rattle.std.specs.Prelude.{ℕ, Bool, ◌≡◌, ◌^◌, ◌<◌, false, true, ◌+◌, ◌*◌, ◌/◌, ◌%◌}
+use Rattle.std.specs.Prelude.{◌==◌, nat_lt, ◌&&◌, ◌||◌}
 use Rattle.std.specs.Prelude.{if◌then◌else◌, Option, Some, None}
 
 -- What a point's word says: the operation that it carries, its references, whether it is signaled,

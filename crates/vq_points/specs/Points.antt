@@ -2,7 +2,8 @@
 -- and carries one signal operation at a time. The construction is this project's own, over Vulkan
 -- 1.3, "Semaphores" (binary and timeline).
 use Rattle.std.specs.Prelude.{ℕ, Bool, List, Option, false, [], None, length, filter, Some, nat_lt, nat_le, ◌||◌}
-use Rattle.std.specs.Prelude.{if◌then◌else◌, ◌==◌, count_by, ◌&&◌, not, ◌≡◌, true, MatchBool, is_some, ◌<◌, ◌∷◌, ◌+◌}
+use Rattle.std.specs.Prelude.{if◌then◌else◌, ◌==◌, count_by, ◌&&◌, not, ◌≡◌, true, MatchBool}
+use Rattle.std.specs.Prelude.{is_some, ◌<◌, ◌∷◌, ◌+◌}
 use Rattle.std.specs.List.{range_with_len, list_all, list_any, slice_get, filter_map}
 use Rattle.std.specs.Option.{option_map_or, option_to_list}
 use Rattle.vq_model.specs.declared.script.ActorName.{ActorName}

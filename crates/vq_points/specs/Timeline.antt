@@ -1,5 +1,6 @@
 -- The lists of one timeline. The construction is this project's own.
-use Rattle.std.specs.Prelude.{ℕ, List, map, ◌∷◌, ◌+◌, ◌++◌, ◌≡◌, ◌==◌, false, [], ◌<◌, ◌≤◌, ◌-◌, length, find, take}
+use Rattle.std.specs.Prelude.{ℕ, List, map, ◌∷◌, ◌+◌, ◌++◌, ◌≡◌, ◌==◌, false, [], ◌<◌}
+use Rattle.std.specs.Prelude.{◌≤◌, ◌-◌, length, find, take}
 use Rattle.std.specs.Prelude.{drop, Option, Some, None, if◌then◌else◌, Bool, not, filter, nat_le, true, replicate}
 use Rattle.std.specs.Prelude.{slice_range, slice_set}
 use Rattle.std.specs.List.{slice_index_or, list_any, range_with_len}

@@ -2,7 +2,8 @@
 -- What was written is `Some` of a list, or `None` where the sink doesn't tell it.
 -- `Appends`, `Stays` and `AppendsPart` speak of a call at whose end the bytes are told; they were then told at its
 -- start too.
-use Rattle.std.specs.Prelude.{◌≡◌, ℕ, ◌+◌, ◌<◌, ◌≤◌, List, ◌++◌, length, take, Some, IfSome, OnSome, IsSome, IsSomeAnd}
+use Rattle.std.specs.Prelude.{◌≡◌, ℕ, ◌+◌, ◌<◌, ◌≤◌, List, ◌++◌, length, take, Some, IfSome}
+use Rattle.std.specs.Prelude.{OnSome, IsSome, IsSomeAnd}
 use Rattle.std.specs.declared.option.Option.{Option}
 
 -- What was written grew by these bytes at its end.

@@ -1,4 +1,5 @@
-ghost use Rattle.std.specs.Prelude.{◌≡◌, ◌+◌, ◌^◌, ◌<◌, ◌≤◌, [], length, drop, Some, IfOk, OnOk, IfSome, OnSome};
+ghost use Rattle.std.specs.Prelude.{◌≡◌, ◌+◌, ◌^◌, ◌<◌, ◌≤◌, [], length, drop, Some, IfOk};
+ghost use Rattle.std.specs.Prelude.{OnOk, IfSome, OnSome};
 ghost use Rattle.std.specs.Prelude.{IsErrOf};
 ghost use Rattle.vq_port.specs.declared.read.ReadFault.TheVariants.{Failed, Memory};
 ghost use Rattle.vq_port.specs.Faults.{Rose};

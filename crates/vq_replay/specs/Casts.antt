@@ -1,5 +1,6 @@
 -- Actors over one core, each with its place. This project's own.
-use Rattle.std.specs.Prelude.{ℕ, ◌≡◌, ◌<◌, ◌-◌, if◌then◌else◌, List, [], ◌++◌, ◌+◌, length, filter, drop}
+use Rattle.std.specs.Prelude.{ℕ, ◌≡◌, ◌<◌, ◌-◌, if◌then◌else◌, List, [], ◌++◌, ◌+◌}
+use Rattle.std.specs.Prelude.{length, filter, drop}
 use Rattle.std.specs.List.{slice_index_or, range_with_len}
 use Rattle.vq_model.specs.declared.script.ActorName.{ActorName}
 use Rattle.vq_model.specs.declared.script.ActorName.TheVariants.{Host as HostActor, Submit as SubmitActor}

@@ -1,6 +1,7 @@
 -- The answers that a slow run may be given: each by the payloads that the jobs before it leave.
 -- Vulkan 1.3, "Host Operations on Semaphores", "Fences". The slow run is this project's own.
-use Rattle.std.specs.Prelude.{ℕ, ◌≡◌, ◌++◌, ◌∷◌, List, Option, Some, None, if◌then◌else◌, length}
+use Rattle.std.specs.Prelude.{ℕ, ◌≡◌, ◌++◌, ◌∷◌, List, Option, Some, None, if◌then◌else◌}
+use Rattle.std.specs.Prelude.{length}
 use Rattle.std.specs.List.{list_all, list_any, filter_map, range_with_len}
 use Rattle.std.specs.Option.{option_map}
 use Rattle.vq_model.specs.declared.plan.Answer.{Answer}

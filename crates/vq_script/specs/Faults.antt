@@ -1,6 +1,7 @@
 -- What the form of a line and the words at its places say, after lines before it: its statement, or the
 -- first kind of its faults. A line that isn't built is Syntax.
-use Rattle.std.specs.Prelude.{ℕ, ◌≡◌, Bool, ◌||◌, not, false, find, List, map, Option, Some, None, Result, Ok, Err}
+use Rattle.std.specs.Prelude.{ℕ, ◌≡◌, Bool, ◌||◌, not, false, find, List, map, Option, Some, None, Result}
+use Rattle.std.specs.Prelude.{Ok, Err}
 use Rattle.std.specs.List.{list_all}
 use Rattle.std.specs.Option.{option_map_or}
 use Rattle.vq_model.specs.declared.statement.FaultKind.{FaultKind}

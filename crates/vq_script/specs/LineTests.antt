@@ -1,5 +1,6 @@
 -- The tests of a line, over what the parser keeps of the lines before it.
-use Rattle.std.specs.Prelude.{ℕ, ◌+◌, Bool, true, false, ◌&&◌, ◌||◌, not, cond, length, nat_lt, is_some, List, []}
+use Rattle.std.specs.Prelude.{ℕ, ◌+◌, Bool, true, false, ◌&&◌, ◌||◌, not, cond, length, nat_lt, is_some}
+use Rattle.std.specs.Prelude.{List, []}
 use Rattle.std.specs.Prelude.{Option, Some, None, codes, drop, if◌then◌else◌}
 use Rattle.std.specs.List.{list_all, position, slice_get}
 use Rattle.std.specs.Option.{option_map, option_map_or}

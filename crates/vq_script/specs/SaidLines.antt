@@ -1,5 +1,6 @@
 -- What a line says, before it is kept, and what is kept after it.
-use Rattle.std.specs.Prelude.{ℕ, cond, ◌≡◌, ◌||◌, ◌+◌, ◌<◌, ◌≤◌, ◌^◌, Bool, true, false, nat_lt, List, [], ◌∷◌, ◌++◌}
+use Rattle.std.specs.Prelude.{ℕ, cond, ◌≡◌, ◌||◌, ◌+◌, ◌<◌, ◌≤◌, ◌^◌, Bool, true, false}
+use Rattle.std.specs.Prelude.{nat_lt, List, [], ◌∷◌, ◌++◌}
 use Rattle.std.specs.Prelude.{Option, Some, None, is_some, map, length, ⊤}
 use Rattle.std.specs.Option.{option_map}
 use Rattle.vq_model.specs.declared.script.Batch.{Batch}

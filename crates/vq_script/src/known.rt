@@ -1,5 +1,6 @@
 //! What the lines so far declare and submit.
-ghost use Rattle.std.specs.Prelude.{◌≡◌, ◌+◌, ◌<◌, ◌≤◌, ◌||◌, ◌++◌, ◌∷◌, [], ℕ, List, nat_lt, length, false, is_some};
+ghost use Rattle.std.specs.Prelude.{◌≡◌, ◌+◌, ◌<◌, ◌≤◌, ◌||◌, ◌++◌, ◌∷◌, [], ℕ};
+ghost use Rattle.std.specs.Prelude.{List, nat_lt, length, false, is_some};
 ghost use Rattle.std.specs.Prelude.{not, OnOk};
 ghost use Rattle.std.specs.Option.{option_map_or};
 ghost use Rattle.std.specs.List.{position, slice_get};

@@ -1,5 +1,6 @@
 //! A text, read line by line.
-ghost use Rattle.std.specs.Prelude.{◌≡◌, ◌<◌, ◌-◌, ◌^◌, IsTrue, nat_lt, List, [], length, IfOk, IfErr};
+ghost use Rattle.std.specs.Prelude.{◌≡◌, ◌<◌, ◌-◌, ◌^◌, IsTrue, nat_lt, List, [], length, IfOk};
+ghost use Rattle.std.specs.Prelude.{IfErr};
 ghost use Rattle.vq_model.specs.declared.statement.Line.{Line};
 ghost use Rattle.vq_model.specs.Text.{lines_of, words_of};
 ghost use Rattle.vq_model.specs.Reading.{read_lines, read_script, StandsFor};

@@ -1,5 +1,6 @@
 -- Chains as lists of operations behind their values.
-use Rattle.std.specs.Prelude.{ℕ, List, ◌≡◌, ◌<◌, ◌^◌, ◌==◌, ◌&&◌, ◌||◌, nat_lt, if◌then◌else◌, Option, Some, None, Bool}
+use Rattle.std.specs.Prelude.{ℕ, List, ◌≡◌, ◌<◌, ◌^◌, ◌==◌, ◌&&◌, ◌||◌, nat_lt}
+use Rattle.std.specs.Prelude.{if◌then◌else◌, Option, Some, None, Bool}
 use Rattle.std.specs.Prelude.{map, length, filter_map}
 use Rattle.std.specs.List.{enumerate_from, slice_get, prefix_len}
 use Rattle.std.specs.List.Sorted.{IsPermutation, IsSorted}

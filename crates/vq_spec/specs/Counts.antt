@@ -1,5 +1,6 @@
 -- What lowering keeps of the jobs before one.
-use Rattle.std.specs.Prelude.{ℕ, List, ◌≡◌, ◌≤◌, map, take, length, count_by, if◌then◌else◌, Option, Bool, false}
+use Rattle.std.specs.Prelude.{ℕ, List, ◌≡◌, ◌≤◌, map, take, length, count_by, if◌then◌else◌, Option}
+use Rattle.std.specs.Prelude.{Bool, false}
 use Rattle.std.specs.Prelude.{[]}
 use Rattle.std.specs.List.{flat_map, enumerate_from, range_with_len, slice_index}
 use Rattle.vq_model.specs.declared.script.Script.{Script}

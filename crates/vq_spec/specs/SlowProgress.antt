@@ -1,5 +1,6 @@
 -- What a slow run keeps on its way, beside the jobs that it has done. This project's own.
-use Rattle.std.specs.Prelude.{ℕ, ◌≡◌, ◌<◌, ◌≤◌, ◌+◌, Bool, true, false, List, length, get_or, min, Option, Some, None}
+use Rattle.std.specs.Prelude.{ℕ, ◌≡◌, ◌<◌, ◌≤◌, ◌+◌, Bool, true, false, List, length, get_or, min}
+use Rattle.std.specs.Prelude.{Option, Some, None}
 use Rattle.std.specs.Prelude.{◌⊎◌, ◌||◌}
 use Rattle.vq_model.specs.Plan.{Plan, has, chain, initial, value}
 use Rattle.vq_model.specs.Edges.{must_finish}

@@ -1,5 +1,6 @@
 //! What each job of a plan waits for: jobs that must be finished, and signals of others.
-ghost use Rattle.std.specs.Prelude.{◌≡◌, ◌<◌, ◌++◌, ◌∷◌, [], All, map, length, OnOk, IfOk, option_map};
+ghost use Rattle.std.specs.Prelude.{◌≡◌, ◌<◌, ◌++◌, ◌∷◌, [], All, map, length, OnOk, IfOk};
+ghost use Rattle.std.specs.Prelude.{option_map};
 ghost use Rattle.std.specs.List.{filter_map, range_with_len, slice_get};
 ghost use Rattle.std.specs.Option.{option_to_list};
 ghost use Rattle.vq_model.specs.Lowering.{plan_of};

@@ -1,5 +1,6 @@
 //! The jobs that host steps are lowered to.
-ghost use Rattle.std.specs.Prelude.{◌≡◌, ◌<◌, ◌+◌, ◌^◌, ◌∷◌, [], ℕ, All, IfOk, OnOk, Some, length, map};
+ghost use Rattle.std.specs.Prelude.{◌≡◌, ◌<◌, ◌+◌, ◌^◌, ◌∷◌, [], ℕ, All, IfOk, OnOk, Some};
+ghost use Rattle.std.specs.Prelude.{length, map};
 ghost use Rattle.std.specs.List.{filter_map, slice_get};
 ghost use Rattle.vq_model.specs.Lowering.{asks_any, job_ops, last_before, of_pair, plan_job, step_asked};
 ghost use Rattle.vq_model.specs.Lowering.{step_idle, step_needs, step_question};

@@ -1,5 +1,6 @@
 //! What a plan keeps beside its script.
-ghost use Rattle.std.specs.Prelude.{◌≡◌, ◌<◌, ◌+◌, ◌^◌, [], None, All, map, take, length, Some, IfOk, OnOk};
+ghost use Rattle.std.specs.Prelude.{◌≡◌, ◌<◌, ◌+◌, ◌^◌, [], None, All, map, take, length, Some, IfOk};
+ghost use Rattle.std.specs.Prelude.{OnOk};
 ghost use Rattle.std.specs.List.{flat_map, range_with_len, slice_get};
 ghost use Rattle.vq_model.specs.Lowering.{batch_commands, plan_of};
 ghost use Rattle.vq_model.specs.LoweringFaults.{lowering_fault};

@@ -1,5 +1,6 @@
 //! The bytes of all buffers.
-ghost use Rattle.std.specs.Prelude.{◌≡◌, ◌≢◌, ℕ, false, [], ◌+◌, ◌<◌, ◌≤◌, ◌^◌, ◌↔◌, IsTrue, IfOk, length, map};
+ghost use Rattle.std.specs.Prelude.{◌≡◌, ◌≢◌, ℕ, false, [], ◌+◌, ◌<◌, ◌≤◌, ◌^◌};
+ghost use Rattle.std.specs.Prelude.{◌↔◌, IsTrue, IfOk, length, map};
 ghost use Rattle.std.specs.List.{range_with_len, slice_index_or};
 ghost use Rattle.vq_model.specs.Memory.{effect, zeros_of, buffer};
 ghost use Rattle.vq_model.specs.Ranges.{Fits, IsWithin, share};

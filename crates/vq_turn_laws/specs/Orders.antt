@@ -1,5 +1,6 @@
 -- What a task asks of its actor's other tasks: some stand before it, and some are left. This project's own.
-use Rattle.std.specs.Prelude.{ℕ, ◌≡◌, ◌<◌, ◌≤◌, ◌+◌, nat_lt, true, false, List, [], ◌∷◌, ◌++◌, length, filter, count_by}
+use Rattle.std.specs.Prelude.{ℕ, ◌≡◌, ◌<◌, ◌≤◌, ◌+◌, nat_lt, true, false, List, [], ◌∷◌}
+use Rattle.std.specs.Prelude.{◌++◌, length, filter, count_by}
 use Rattle.std.specs.Prelude.{Some, ◌⊎◌}
 use Rattle.vq_model.specs.declared.script.ActorName.{ActorName}
 use Rattle.vq_model.specs.declared.plan.Lane.{Lane}

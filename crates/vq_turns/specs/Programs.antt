@@ -1,6 +1,7 @@
 -- The program of each actor: the tasks that it does, one after another. This project's own, over
 -- Vulkan 1.3, "Queue Submission".
-use Rattle.std.specs.Prelude.{ℕ, ◌==◌, nat_lt, Bool, true, false, ◌&&◌, if◌then◌else◌, List, [], ◌∷◌, ◌++◌, length, map}
+use Rattle.std.specs.Prelude.{ℕ, ◌==◌, nat_lt, Bool, true, false, ◌&&◌, if◌then◌else◌, List, []}
+use Rattle.std.specs.Prelude.{◌∷◌, ◌++◌, length, map}
 use Rattle.std.specs.Prelude.{filter}
 use Rattle.std.specs.List.{slice_get, flat_map, range_with_len, enumerate_from}
 use Rattle.std.specs.Option.{option_map_or}

@@ -1,5 +1,6 @@
 //! Cells: bytes that each command covers whole or not at all.
-ghost use Rattle.std.specs.Prelude.{◌≡◌, ◌<◌, ◌∷◌, ◌↔◌, ℕ, List, true, false, IsTrue, length, Some, None, [], IfOk};
+ghost use Rattle.std.specs.Prelude.{◌≡◌, ◌<◌, ◌∷◌, ◌↔◌, ℕ, List, true, false, IsTrue, length};
+ghost use Rattle.std.specs.Prelude.{Some, None, [], IfOk};
 ghost use Rattle.std.specs.Prelude.{OnOk};
 ghost use Rattle.vq_model.specs.Plan.{has};
 ghost use Rattle.vq_order.specs.Swept.{is_write, AtOrBefore, MayTouch, Touches, IsAfterSome, IsAfterAll, KeepsLater};
