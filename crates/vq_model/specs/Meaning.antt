@@ -3,7 +3,7 @@
 use Rattle.std.specs.Prelude.{Bool, true, List, [], ◌∷◌, ◌+◌, ◌++◌, ℕ, ◌%◌, ◌==◌, nat_lt, false}
 use Rattle.std.specs.Prelude.{◌&&◌, length}
 use Rattle.std.specs.Prelude.{if◌then◌else◌, Option, Some, None, find, ◌||◌, drop, codes, ◌^◌, ◌*◌}
-use Rattle.std.specs.Prelude.{map, not}
+use Rattle.std.specs.Prelude.{map}
 use Rattle.std.specs.Str.{bytes_eq}
 use Rattle.std.specs.Option.{option_map, option_and_then}
 use Rattle.std.specs.List.{list_all}
@@ -26,7 +26,6 @@ use Rattle.vq_model.specs.declared.statement.Section.TheVariants.{Outside, InBat
 use Rattle.vq_model.specs.declared.script.ActorName.{ActorName}
 use Rattle.vq_model.specs.declared.script.ActorName.TheVariants.{Host as HostActor, Submit as SubmitActor}
 use Rattle.vq_model.specs.declared.script.ActorName.TheVariants.{Ring as RingActor}
-use Rattle.vq_model.specs.declared.script.Mode.TheVariants.{Immediate, Threaded}
 use Rattle.vq_model.specs.declared.script.Pair.{Pair}
 use Rattle.vq_model.specs.declared.statement.Statement.{Statement}
 use Rattle.vq_model.specs.declared.statement.Statement.TheVariants.{HasVersion, DeclareBuffer, DeclareSemaphore}

@@ -1,6 +1,5 @@
 pub mod Cited
 mod AskedChains
-mod UnwaitedPlans
 mod FaultLaws
 mod HostPlans
 mod LastBefore

@@ -15,7 +15,7 @@ ghost use Rattle.vq_model.specs.declared.statement.Form.{Form};
 ghost use Rattle.vq_model.specs.Reading.{StandsFor};
 ghost use Rattle.vq_model.specs.SameScript.{IsRead};
 ghost use Rattle.vq_model.specs.Signals.{Signaling, all_signals, signals_semaphore, value_at, is_timeline_at};
-ghost use Rattle.vq_model.specs.Checks.{IsEffectiveReset, IsNotPendingAt, NoLine};
+ghost use Rattle.vq_model.specs.Checks.{IsEffectiveReset};
 ghost use Rattle.vq_model.specs.Lowering.{effective_resets, plan_of};
 ghost use Rattle.vq_model.specs.ValidScripts.{IsValid};
 ghost use Rattle.vq_model.specs.Lanes.{KeepsLanes, KeepsSemaphores, HasLinesInOrder};
@@ -81,10 +81,9 @@ pub fn plans_are_in_order()
     ensures lines { (p : Plan) → IsPlan p → HasLinesInOrder p }
 {}
 
-/// What the plan of a script of the forms that are built so far doesn't have: a wait in a batch of an
-/// immediate queue, a wait that holds back a part of a batch only.
+/// What the plan of a script of the forms that are built so far doesn't have: a wait that holds back a
+/// part of a batch only.
 pub fn plans_of_built_forms()
-    ensures pending { (p : Plan) → IsPlan p → NoLine (IsNotPendingAt p) }
     ensures unheld { (p : Plan) → IsPlan p → HasNoHeldWait p }
 {}
 

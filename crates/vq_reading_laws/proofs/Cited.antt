@@ -5,6 +5,6 @@ pub use Rattle.vq_reading_laws.proofs.LineFacts.{below, forms_in, found_belongs,
 pub use Rattle.vq_reading_laws.proofs.LinePushes.{a_line, count_push, last_queue_push, open_push, section_push, some_push}
 pub use Rattle.vq_reading_laws.proofs.Meanings.{built_found, first_fails, found_passes, has_meaning, passes}
 pub use Rattle.vq_reading_laws.proofs.DeclaredScripts.{kind_exists}
-pub use Rattle.vq_reading_laws.proofs.WrittenScripts.{read_batches, read_lines_rise, read_steps, read_turns, read_unwaited, read_valid, read_whole, written_turns, written_version, written_whole, plain_unscheduled}
+pub use Rattle.vq_reading_laws.proofs.WrittenScripts.{read_batches, read_lines_rise, read_steps, read_turns, read_valid, read_whole, written_turns, written_version, written_whole, plain_unscheduled}
 pub use Rattle.vq_reading_laws.proofs.ScriptFacts.{text_form}
 pub use Rattle.vq_reading_laws.proofs.TextFacts.{few_lines}

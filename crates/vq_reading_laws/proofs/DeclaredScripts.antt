@@ -1,10 +1,10 @@
 -- Scripts of what is declared keep what a script keeps.
-use Rattle.std.proofs.Common.{◌≡◌, ℕ, Bool, zero, suc, List, [], ◌∷◌, Some, None, subst, ◌<◌, true, false, length, map, Option, inl, inr, sym, ap, ◌∙◌, arith, ◌+◌, ◌++◌, refl}
+use Rattle.std.proofs.Common.{◌≡◌, ℕ, Bool, zero, suc, List, [], ◌∷◌, Some, None, subst, ◌<◌, true, false, length, map, Option, sym, ap, ◌∙◌, arith, ◌+◌, ◌++◌, refl}
 use Rattle.std.specs.List.{slice_get, AllByRecursion as Every, flat_map, enumerate_from}
 use Rattle.vq_model.specs.declared.script.Batch.{Batch}
 use Rattle.vq_model.specs.declared.script.Job.{Job}
 use Rattle.vq_model.specs.declared.script.Job.TheVariants.{Host, Batch as BatchJob}
-use Rattle.vq_reading_laws.proofs.Standing.{Declarations, IsHeld}
+use Rattle.vq_reading_laws.proofs.Standing.{Declarations}
 use Rattle.vq_reading_laws.proofs.KeptBatches.{KeepsJob, KeepJobs, of_every, pair_of, IsWaitOf, IsSignalOf, IsFenceOf, every_append, every_map}
 use Rattle.std.specs.Option.{option_map, option_map_or, option_to_list}
 use Rattle.std.proofs.lemmas.List.{length-map}
@@ -25,11 +25,11 @@ use Rattle.vq_model.specs.declared.script.Turn.{Turn}
 use Rattle.vq_model.specs.declared.script.ActorName.{ActorName}
 use Rattle.vq_model.specs.declared.script.ActorName.TheVariants.{Host as HostActor, Submit as SubmitActor, Ring as RingActor}
 use Rattle.vq_model.specs.declared.script.Mode.TheVariants.{Threaded}
-use Rattle.vq_model.specs.Context.{is_immediate, is_fence, is_timeline, is_threaded}
+use Rattle.vq_model.specs.Context.{is_fence, is_timeline, is_threaded}
 use Rattle.vq_reading_laws.proofs.KeptTurns.{IsTurnOf}
 use Rattle.vq_model.specs.ScriptOfLines.{first_of_list}
 use Rattle.vq_model.specs.Signals.{kind_of, Signaling, all_signals, job_signals, step_signals, of_mark}
-use Rattle.vq_model.specs.ValidScripts.{IsValidMark, IsValidFence, IsValidBatch, IsValidStep, IsTimelinePair, is_immediate_queue, IsActor, HasValidBatches, HasValidSteps}
+use Rattle.vq_model.specs.ValidScripts.{IsValidMark, IsValidFence, IsValidBatch, IsValidStep, IsTimelinePair, IsActor, HasValidBatches, HasValidSteps}
 use Rattle.vq_model.proofs.Gets.{get-map, get_within}
 use Rattle.vq_reading_laws.proofs.LineFacts.{IsMarkOf, IsActorOf}
 use Rattle.std.specs.Prelude.{All}
@@ -161,32 +161,12 @@ module _ (s : Script) where
   valid_step (FenceReset f) h = kind_named is_fence f h
   valid_step Idle h = tt
 
-  -- a queue that isn't immediate
-  held_here : (q : ℕ) → IsHeld declared_in.modes q → is_immediate_queue s q ≡ false
-  held_here q h =
-      by_queue (slice_get s.queues q) (sym (get-map (λ (x : Queue). x.mode) s.queues q) ∙ h.is)
-    where
-      by_queue : (o : Option Queue) → option_map (λ (x : Queue). x.mode) o ≡ Some h.mode →
-          option_map_or (λ x. is_immediate x.mode) o false ≡ false
-      by_queue None e = absurd (let c : None ≡ Some h.mode = e in cc)
-      by_queue (Some x) e =
-          let same : h.mode ≡ x.mode = cc in
-          subst (λ (m : Mode). is_immediate m ≡ false) same h.held
-
-  -- waits hold back whole batches, and none is of an immediate queue
+  -- waits hold back whole batches
   pub whole_waits : (b : Batch) → KeepsJob declared_in b → All (λ m. m.from ≡ 1) b.waits
   whole_waits b k =
       of_every (λ m. m.from ≡ 1) b.waits
       (all_weaker (IsWaitOf declared_in) (λ m. m.from ≡ 1) b.waits (λ m h. h.1)
       k.parts.waits_of)
-
-  pub immediate_waits : (b : Batch) → KeepsJob declared_in b →
-      is_immediate_queue s b.queue ≡ true → b.waits ≡ []
-  immediate_waits b k h =
-      elim k.parts.unheld [
-        | inl e ↦ e
-        | inr held ↦ absurd (false≢true (sym (held_here b.queue held) ∙ h))
-      ]
 
   -- the actors of turns
   valid_actor : (a : ActorName) → IsActorOf declared_in.modes a → IsActor s a

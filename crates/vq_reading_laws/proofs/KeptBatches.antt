@@ -1,5 +1,5 @@
 -- Batches of what is declared keep what a batch keeps.
-use Rattle.std.proofs.Common.{◌≡◌, ℕ, suc, ◌+◌, Bool, true, false, cond, not, List, [], ◌∷◌, take, refl, ap, arith, ◌++◌, map, Some, ◌-◌, ◌≤◌, ◌⊎◌, length, ◌<◌, inl, inr, sym, ◌∙◌, subst}
+use Rattle.std.proofs.Common.{◌≡◌, ℕ, suc, ◌+◌, Bool, true, false, cond, not, List, [], ◌∷◌, take, refl, ap, arith, ◌++◌, map, Some, ◌-◌, ◌≤◌, length, ◌<◌, sym, ◌∙◌, subst}
 use Rattle.std.specs.List.{position_or_len, AllByRecursion as Every, slice_get, filter_map}
 use Rattle.vq_model.specs.declared.statement.Line.{Line}
 use Rattle.vq_model.specs.Context.{is_end, is_command, count, version_of}
@@ -10,7 +10,7 @@ use Rattle.vq_model.specs.declared.script.Pair.{Pair}
 use Rattle.vq_model.specs.declared.script.Mark.{Mark}
 use Rattle.vq_reading_laws.proofs.LineFacts.{IsMarkOf}
 use Rattle.vq_reading_laws.proofs.NamedSemaphores.{IsStepOf}
-use Rattle.vq_reading_laws.proofs.Standing.{Declarations, IsHeld, Where, is_outside, is_inside, in_schedule, where_after, Stands, StandsWait, AllStand}
+use Rattle.vq_reading_laws.proofs.Standing.{Declarations, Where, is_outside, is_inside, in_schedule, where_after, Stands, StandsWait, AllStand}
 use Rattle.vq_model.specs.declared.script.SemaphoreKind.TheVariants.{Fence}
 use Rattle.vq_model.specs.declared.script.CommandLine.{CommandLine}
 use Rattle.vq_model.specs.Ranges.{Fits}
@@ -78,7 +78,6 @@ IsCommandOf d x = Fits d.sizes x.command
 pub record KeepsBatch (d : Declarations) (q w g : ℕ) (waits : List Mark) (commands : List CommandLine)
     (signals fences : List Mark) : Type 0 where
   pub waits_of : Every (IsWaitOf d) waits
-  pub unheld : (waits ≡ []) ⊎ IsHeld d.modes q
   pub commands_of : Every (IsCommandOf d) commands
   pub signals_of : Every (IsSignalOf d) signals
   pub fences_of : Every (IsFenceOf d) fences
@@ -131,7 +130,6 @@ module _ (d : Declarations) where
   open_none q w g =
       record {
         waits_of = tt;
-        unheld = inl refl;
         commands_of = tt;
         signals_of = tt;
         fences_of = tt;
@@ -148,7 +146,6 @@ module _ (d : Declarations) where
       let f = h.few in
       record {
         waits_of = ((h.mark, h.whole), o.waits_of);
-        unheld = inr h.held;
         commands_of = o.commands_of;
         signals_of = o.signals_of;
         fences_of = o.fences_of;
@@ -161,7 +158,6 @@ module _ (d : Declarations) where
   open_command n q w g c lines h o =
       record {
         waits_of = o.waits_of;
-        unheld = o.unheld;
         commands_of = (h, o.commands_of);
         signals_of = o.signals_of;
         fences_of = o.fences_of;
@@ -175,7 +171,6 @@ module _ (d : Declarations) where
       let l = o.few_signals in
       record {
         waits_of = o.waits_of;
-        unheld = o.unheld;
         commands_of = o.commands_of;
         signals_of = (h, o.signals_of);
         fences_of = o.fences_of;
@@ -188,7 +183,6 @@ module _ (d : Declarations) where
   open_fence n q w g f lines h o =
       record {
         waits_of = o.waits_of;
-        unheld = o.unheld;
         commands_of = o.commands_of;
         signals_of = o.signals_of;
         fences_of = ((h, refl), o.fences_of);

@@ -2,7 +2,7 @@
 use Rattle.std.proofs.Common.{List, map, ◌≡◌, false, Some, ℕ, ◌<◌, ◌+◌, ◌≤◌, length, Bool, true, cond, [], ◌∷◌, find, subst, ◌++◌, ◌==◌, refl, Option, None, arith, not, suc, zero, ap, ◌&&◌, ◌||◌, option_map, sym, ◌∙◌}
 use Rattle.vq_model.specs.declared.statement.Line.{Line}
 use Rattle.vq_model.specs.declared.script.SemaphoreKind.{SemaphoreKind}
-use Rattle.vq_model.specs.Context.{semaphores, queues, is_timeline, is_fence, open_batch, some, is_batch_immediate, is_wait, count, is_command, is_signal, buffers, version_of, is_binary, section, has_begun, is_batch_fence, queue_at, buffer_at, timeline_at, binary_at, fence_at, threaded_at, is_threaded, turns_of}
+use Rattle.vq_model.specs.Context.{semaphores, queues, is_timeline, is_fence, open_batch, some, is_wait, count, is_command, is_signal, buffers, version_of, is_binary, section, has_begun, is_batch_fence, queue_at, buffer_at, timeline_at, binary_at, fence_at, threaded_at, is_threaded, turns_of}
 use Rattle.vq_model.specs.declared.script.Mode.{Mode}
 use Rattle.vq_model.specs.declared.script.Mode.TheVariants.{Immediate, Deferred, Threaded}
 use Rattle.vq_model.specs.declared.script.ActorName.{ActorName}
@@ -62,7 +62,6 @@ KeepsParts before part = some (λ s. nat_lt part (part_of s)) (open_batch before
 -- what a wait says
 pub record SaidWait (before : List Line) (pair : Pair) (from : ℕ) : Type 0 where
   pub whole : from ≡ 1
-  pub held : is_batch_immediate before ≡ false
   pub mark : IsMarkOf (kinds_before before) pair
   pub few : count is_wait (open_batch before) < 16
   pub parts : KeepsParts before 1
@@ -239,15 +238,12 @@ forms_suit_text Plain before InSchedule = refl
 forms_suit_text Scheduled before InSchedule = refl
 
 -- what is built is built
-pub where_it_is_built : (before : List Line) (o : Option LineForm) (f : LineForm) →
-    where_built before o ≡ Some f → is_built before f ≡ true
-where_it_is_built before None f h = absurd (cc)
-where_it_is_built before (Some g) f h = by_test (is_built before g) refl h
+pub where_it_is_built : (o : Option LineForm) (f : LineForm) → where_built o ≡ Some f → is_built f ≡ true
+where_it_is_built None f h = absurd (cc)
+where_it_is_built (Some g) f h = by_test (is_built g) refl h
   where
-    by_test : (b : Bool) → is_built before g ≡ b → cond b (Some g) None ≡ Some f → is_built before f
-        ≡ true
-    by_test true e h =
-        let same : g ≡ f = cc in subst (λ (z : LineForm). is_built before z ≡ true) same e
+    by_test : (b : Bool) → is_built g ≡ b → cond b (Some g) None ≡ Some f → is_built f ≡ true
+    by_test true e h = let same : g ≡ f = cc in subst (λ (z : LineForm). is_built z ≡ true) same e
     by_test false e h = absurd (cc)
 
 -- a position is one of a list
@@ -298,7 +294,7 @@ data Shape (form : Form) (before : List Line) : Section → ℕ → Statement �
       Shape form before Outside 0 (DeclareSemaphore name kind)
   a_queue : (name : List ℕ) (mode : Mode) → Shape form before Outside 0 (DeclareQueue name mode)
   a_batch : (q : ℕ) → q < length (queues before) → Shape form before Outside 0 (BeginBatch q)
-  a_wait : (pair : Pair) → is_batch_immediate before ≡ false → IsMarkOf (kinds_before before) pair →
+  a_wait : (pair : Pair) → IsMarkOf (kinds_before before) pair →
       Shape form before InBatch 1 (AddWait pair 1)
   a_command : (c : Command) → Shape form before InBatch 2 (AddCommand c)
   a_signal : (pair : Pair) → IsMarkOf (kinds_before before) pair →
@@ -405,24 +401,22 @@ module _ (form : Form) (before : List Line) where
   command_shape s c = subst (Shape form before InBatch 2) c.1 (a_command c.0)
 
   -- a wait of a timeline, of a binary semaphore
-  wait_shape : (name : List ℕ) (t v : Option ℕ) (s : Statement) →
-      is_batch_immediate before ≡ false → timeline_at before name ≡ t →
+  wait_shape : (name : List ℕ) (t v : Option ℕ) (s : Statement) → timeline_at before name ≡ t →
       option_map (λ p. AddWait p 1) (of_two (λ x y. record { semaphore = x; value = y }) t v)
       ≡ Some s → Shape form before InBatch 1 s
-  wait_shape name None v s i e h = absurd (cc)
-  wait_shape name (Some t) None s i e h = absurd (cc)
-  wait_shape name (Some t) (Some v) s i e h =
+  wait_shape name None v s e h = absurd (cc)
+  wait_shape name (Some t) None s e h = absurd (cc)
+  wait_shape name (Some t) (Some v) s e h =
       subst (Shape form before InBatch 1)
       (same_statement (AddWait (record { semaphore = t; value = v }) 1) s h)
-      (a_wait (record { semaphore = t; value = v }) i (timeline_mark name t v e))
+      (a_wait (record { semaphore = t; value = v }) (timeline_mark name t v e))
 
-  binary_wait_shape : (name : List ℕ) (t : Option ℕ) (s : Statement) →
-      is_batch_immediate before ≡ false → binary_at before name ≡ t →
+  binary_wait_shape : (name : List ℕ) (t : Option ℕ) (s : Statement) → binary_at before name ≡ t →
       option_map (λ x. AddWait (binary_pair x) 1) t ≡ Some s → Shape form before InBatch 1 s
-  binary_wait_shape name None s i e h = absurd (let c : None ≡ Some s = h in cc)
-  binary_wait_shape name (Some t) s i e h =
+  binary_wait_shape name None s e h = absurd (let c : None ≡ Some s = h in cc)
+  binary_wait_shape name (Some t) s e h =
       subst (Shape form before InBatch 1) (same_statement (AddWait (binary_pair t) 1) s h)
-      (a_wait (binary_pair t) i (binary_mark name t e))
+      (a_wait (binary_pair t) (binary_mark name t e))
 
   -- a signal of a timeline, of a binary semaphore
   signal_shape : (name : List ℕ) (t v : Option ℕ) (s : Statement) → timeline_at before name ≡ t →
@@ -522,7 +516,7 @@ module _ (form : Form) (before : List Line) where
 
   -- the words of a form that is built and stands where it may
   shape : (was : Section) (f : LineForm) (words : List (List ℕ)) (s : Statement) →
-      belongs was f ≡ true → suits_text form f ≡ true → is_built before f ≡ true →
+      belongs was f ≡ true → suits_text form f ≡ true → is_built f ≡ true →
       statement_of before f words ≡ Some s → Shape form before was (part_of_form f) s
   shape Outside BufferLine (name ∷ size ∷ []) s g t b h = buffer_shape name (numeral size) s h
   shape Outside TimelineLine (name ∷ value ∷ []) s g t b h = timeline_shape name (numeral value) s h
@@ -557,18 +551,9 @@ module _ (form : Form) (before : List Line) where
       step_shape s (says_name before FenceReset (fence_at before name) s (fence_named before name) h)
   shape Outside HostIdleLine [] s g t b h = step_shape s (Idle, tt, same_statement (TakeHostStep Idle) s h)
   shape InBatch WaitTimelineLine (name ∷ value ∷ []) s g t b h =
-      wait_shape name (timeline_at before name) (numeral value) s
-      (not_held (is_batch_immediate before) b) refl h
-    where
-      not_held : (b : Bool) → not b ≡ true → b ≡ false
-      not_held true h = absurd (false≢true h)
-      not_held false h = refl
+      wait_shape name (timeline_at before name) (numeral value) s refl h
   shape InBatch WaitBinaryLine (name ∷ []) s g t b h =
-      binary_wait_shape name (binary_at before name) s (not_held (is_batch_immediate before) b) refl h
-    where
-      not_held : (b : Bool) → not b ≡ true → b ≡ false
-      not_held true h = absurd (false≢true h)
-      not_held false h = refl
+      binary_wait_shape name (binary_at before name) s refl h
   shape InBatch FillWholeLine (buffer ∷ offset ∷ word ∷ []) s g t b h =
       command_shape s
       (of_three_says (λ x y z. Fill x y Whole z) (buffer_at before buffer) (numeral offset)
@@ -641,10 +626,9 @@ module _ (form : Form) (before : List Line) where
   says was part s (a_semaphore name kind) q r o l = below (length (semaphores before)) 256 l
   says was part s (a_queue name mode) q r o l = below (length (queues before)) 8 l
   says was part s (a_batch n w) q r o l = (w, below (count is_job before) 4096 l)
-  says was part s (a_wait pair i m) q r o l =
+  says was part s (a_wait pair m) q r o l =
       record {
         whole = refl;
-        held = i;
         mark = m;
         few = below (count is_wait (open_batch before)) 16 l;
         parts = q;
@@ -724,10 +708,10 @@ module _ (form : Form) (before : List Line) where
           (shape (section before) f (map (λ x. x.1) (open_places (places f) words)) s
           (found_belongs (matches words) (belongs (section before)) (forms_at form before) f
           (forms_belong form before (section before))
-          (built_found before (find (matches words) (forms_at form before)) f e))
+          (built_found (find (matches words) (forms_at form before)) f e))
           (found_belongs (matches words) (suits_text form) (forms_at form before) f
           (forms_suit_text form before (section before))
-          (built_found before (find (matches words) (forms_at form before)) f e))
-          (where_it_is_built before (find (matches words) (forms_at form before)) f e) h)
+          (built_found (find (matches words) (forms_at form before)) f e))
+          (where_it_is_built (find (matches words) (forms_at form before)) f e) h)
           (in_parts f (sym (ap (λ (o : Option LineForm). option_map_or (is_out_of_order before) o
           false) e) ∙ d)) r o l

@@ -135,9 +135,9 @@ found_passes {A} p (x ∷ xs) y h = by_test (p x) refl (found_passes p xs y) h
     by_test false e rest h = rest h
 
 -- a form that is built is the one found
-pub built_found : (before : List Line) (o : Option LineForm) (f : LineForm) → where_built before o ≡ Some f → o ≡ Some f
-built_found before None f h = absurd (cc)
-built_found before (Some g) f h = by_test (is_built before g) h
+pub built_found : (o : Option LineForm) (f : LineForm) → where_built o ≡ Some f → o ≡ Some f
+built_found None f h = absurd (cc)
+built_found (Some g) f h = by_test (is_built g) h
   where
     by_test : (b : Bool) → cond b (Some g) None ≡ Some f → Some g ≡ Some f
     by_test true h = h
@@ -167,7 +167,7 @@ has_meaning form before words h =
   where
     found : (f : LineForm) → form_of form before words ≡ Some f → matches words f ≡ true
     found f e =
-        found_passes (matches words) (forms_at form before) f (built_found before (find (matches words) (forms_at form before)) f e)
+        found_passes (matches words) (forms_at form before) f (built_found (find (matches words) (forms_at form before)) f e)
 
     some_said : (o : Option Statement) → is_some o ≡ true → (s : Statement) × (o ≡ Some s)
     some_said None h = absurd (cc)

@@ -1,14 +1,14 @@
 -- What the context says of the place of a line.
-use Rattle.std.proofs.Common.{◌≡◌, ℕ, ◌<◌, List, length, Some, ◌≤◌, Bool, true, false, ◌||◌, refl, sym, arith, ◌+◌, cond, [], ◌∷◌, ◌++◌, length-append, Option, ap, ◌∙◌, zero, suc, map, subst}
+use Rattle.std.proofs.Common.{◌≡◌, ℕ, ◌<◌, List, length, Some, ◌≤◌, Bool, true, false, ◌||◌, refl, sym, arith, ◌+◌, cond, [], ◌∷◌, ◌++◌, length-append, Option, ap, ◌∙◌, subst}
 use Rattle.std.specs.Prelude.{nat_lt}
 use Rattle.vq_model.specs.declared.statement.Section.TheVariants.{InBatch, Outside, InSchedule}
 use Rattle.vq_model.specs.declared.statement.Line.{Line}
 use Rattle.vq_model.specs.declared.statement.Form.{Form}
-use Rattle.vq_model.specs.Context.{section, queues, last_queue, open_batch, is_wait, is_signal, count, some, section_after, queue_of, queue_after, is_submit, is_end, is_immediate, is_immediate_at}
+use Rattle.vq_model.specs.Context.{section, queues, last_queue, open_batch, is_wait, is_signal, count, some, section_after, queue_of, queue_after, is_submit, is_end}
 use Rattle.vq_model.specs.LineFaults.{part_of}
-use Rattle.vq_reading_laws.proofs.Standing.{Where, is_outside, is_inside, in_schedule, declared_by, where_after, Stands, IsHeld}
+use Rattle.vq_reading_laws.proofs.Standing.{Where, is_outside, is_inside, in_schedule, declared_by, where_after, Stands}
 use Rattle.std.proofs.lemmas.Bool.{ltb-true, lt-ltb, ltb-false}
-use Rattle.std.specs.List.{filter_map, slice_get}
+use Rattle.std.specs.List.{filter_map}
 use Rattle.std.proofs.lemmas.List.Elements.{filter_map-append}
 use Rattle.vq_model.specs.declared.statement.Section.{Section}
 use Rattle.vq_model.specs.declared.statement.Statement.{Statement}
@@ -17,8 +17,7 @@ use Rattle.vq_model.specs.Reading.{with_line}
 use Rattle.vq_reading_laws.proofs.LinePushes.{a_line, count_push, section_push, last_queue_push, some_push, open_push}
 use Rattle.std.proofs.lemmas.List.{length-map}
 use Rattle.vq_model.specs.declared.script.Queue.{Queue}
-use Rattle.std.specs.Option.{option_map_or}
-use Rattle.vq_reading_laws.proofs.LineFacts.{modes_before, Said}
+use Rattle.vq_reading_laws.proofs.LineFacts.{Said}
 
 -- What the context says of a place
 
@@ -142,16 +141,6 @@ lead_more before n was s t h = absurd h
 parts_kept : (j k : ℕ) → nat_lt j k ≡ false → k ≤ j
 parts_kept j k e = ltb-false j k e
 
--- a queue of a batch that isn't immediate
-queue_held : (qs : List Queue) (q : ℕ) → q < length qs →
-    option_map_or (λ x. is_immediate x.mode) (slice_get qs q) false ≡ false →
-    IsHeld (map (λ x. x.mode) qs) q
-queue_held [] q l h = absurd (omega arith)
-queue_held (x ∷ qs) zero l h = record { mode = x.mode; is = refl; held = h }
-queue_held (x ∷ qs) (suc q) l h =
-    let r = queue_held qs q (omega arith) h in
-    record { mode = r.mode; is = r.is; held = r.held }
-
 -- What a line without a fault says stands where the lines lead.
 pub said_stands : (form : Form) (before : List Line) (was : Where) (s : Statement) →
     Lead before was → Said form before (section before) s → Stands (declared_by before) was s
@@ -179,12 +168,6 @@ said_stands form before in_schedule s t h =
 said_stands form before (is_inside q w g k) s t h =
     inside s (subst (λ (x : Section). Said form before x s) t.part h)
   where
-    held : option_map_or (is_immediate_at before) (last_queue before) false ≡ false →
-        IsHeld (modes_before before) q
-    held h =
-        queue_held (queues before) q t.exists
-        (sym (ap (λ (o : Option ℕ). option_map_or (is_immediate_at before) o false) t.queue) ∙ h)
-
     kept : (j : ℕ) → some (λ s. nat_lt j (part_of s)) (open_batch before) ≡ false → k ≤ j
     kept j h = parts_kept j k (sym (t.parts j) ∙ h)
 
@@ -195,7 +178,6 @@ said_stands form before (is_inside q w g k) s t h =
         let same = t.waits in
         record {
           whole = h.whole;
-          held = held h.held;
           mark = h.mark;
           few = omega arith;
           parts = kept 1 h.parts;

@@ -1,5 +1,5 @@
 -- What a script keeps is kept by each that is the same up to line numbers.
-use Rattle.std.proofs.Common.{◌≡◌, Bool, List, [], ◌∷◌, map, refl, ℕ, ap, length, ◌∙◌, sym, subst, ◌≤◌, true, false, Option, Some, None, option_map, arith}
+use Rattle.std.proofs.Common.{◌≡◌, Bool, List, [], ◌∷◌, map, refl, ℕ, ap, length, ◌∙◌, sym, subst, ◌≤◌, false, Option, Some, None, option_map, arith}
 use Rattle.std.specs.Prelude.{All, sum}
 use Rattle.std.proofs.lemmas.List.Elements.{All-nil, All-cons, All-head, All-tail, All-map}
 use Rattle.vq_model.specs.declared.script.Batch.{Batch}
@@ -29,7 +29,7 @@ use Rattle.vq_model.specs.declared.script.Mode.{Mode}
 use Rattle.vq_model.specs.declared.script.Turn.{Turn}
 use Rattle.vq_model.specs.declared.script.ActorName.{ActorName}
 use Rattle.vq_model.specs.declared.script.ActorName.TheVariants.{Host as HostActor, Submit as SubmitActor, Ring as RingActor}
-use Rattle.vq_model.specs.Built.{HasNoImmediateWait, HasWholeWaits, IsOfFirstVersion}
+use Rattle.vq_model.specs.Built.{HasWholeWaits, IsOfFirstVersion}
 use Rattle.vq_model.proofs.Gets.{get-map}
 use Rattle.vq_model.proofs.Options.{some_of}
 use Rattle.vq_reading_laws.proofs.DeclaredScripts.{valid_signals}
@@ -345,14 +345,6 @@ module _ (a s : Script) (same : SameButLines a s) where
             queue = ap (λ (x : Job). (batch_or b x).queue) f;
             waits = ap (λ (x : Job). (batch_or b x).waits) f;
           }
-
-  pub same_unwaited : HasNoImmediateWait a → HasNoImmediateWait s
-  same_unwaited v j b e i =
-      let c = waits_same j b e in
-      let here : is_immediate_queue a c.first.queue ≡ true =
-      ap (is_immediate_queue a) c.queue ∙ (modes_same b.queue ∙ i) in
-      map_empty mark_without_line b.waits
-      (sym c.waits ∙ ap (map mark_without_line) (v j c.first c.at here))
 
   pub same_whole : HasWholeWaits a → HasWholeWaits s
   same_whole v j b e =

@@ -16,14 +16,14 @@ use Rattle.vq_model.specs.declared.statement.Form.TheVariants.{Plain, Scheduled}
 use Rattle.vq_model.specs.Ranges.{Fits}
 use Rattle.vq_model.specs.Lowering.{batch_commands}
 use Rattle.vq_model.specs.ValidScripts.{IsValid, HasValidBatches, HasValidSteps, HasValidTurns}
-use Rattle.vq_model.specs.Built.{HasNoImmediateWait, HasWholeWaits, IsOfFirstVersion}
+use Rattle.vq_model.specs.Built.{HasWholeWaits, IsOfFirstVersion}
 use Rattle.vq_reading_laws.proofs.CommandRanges.{sizes_before}
 use Rattle.vq_reading_laws.proofs.Standing.{declared_by, is_outside, is_inside, in_schedule, Where, where_of}
 use Rattle.vq_reading_laws.proofs.KeptLines.{LinesKept}
 use Rattle.vq_reading_laws.proofs.KeptBatches.{IsCommandOf, JobsKept, jobs_kept, no_version}
 use Rattle.vq_reading_laws.proofs.KeptTurns.{is_at_schedule, turns_counted, turns_kept, led_into, no_turns}
 use Rattle.vq_reading_laws.proofs.PlaceContext.{Lead}
-use Rattle.vq_reading_laws.proofs.DeclaredScripts.{job_kept, step_kept, all_at, valid_batch, valid_step, whole_waits, immediate_waits, valid_signals, valid_turns}
+use Rattle.vq_reading_laws.proofs.DeclaredScripts.{job_kept, step_kept, all_at, valid_batch, valid_step, whole_waits, valid_signals, valid_turns}
 use Rattle.vq_model.specs.declared.statement.Form.{Form}
 use Rattle.vq_model.specs.Reading.{StandsFor}
 use Rattle.vq_model.specs.declared.script.Script.{Script}
@@ -55,11 +55,6 @@ module _ (form : Form) (next : ℕ) (lines : List Line) (k : LinesKept form next
       (step_kept (declared_by lines) (jobs_of lines) j h kept_jobs.all e)
 
   -- no form stands that isn't built
-  pub lines_unwaited : HasNoImmediateWait (script_of lines)
-  lines_unwaited j b e =
-      immediate_waits (script_of lines) b
-      (job_kept (declared_by lines) (jobs_of lines) j b kept_jobs.all e)
-
   pub lines_whole : HasWholeWaits (script_of lines)
   lines_whole j b e =
       whole_waits (script_of lines) b
@@ -139,11 +134,6 @@ module _ (text : List ℕ) (form : Form) (s : Script) (h : StandsFor text form s
   text_steps =
       subst HasValidSteps of_lines.whole
       (lines_steps form of_lines.next of_lines.lines of_lines.kept)
-
-  pub text_unwaited : HasNoImmediateWait s
-  text_unwaited =
-      subst HasNoImmediateWait of_lines.whole
-      (lines_unwaited form of_lines.next of_lines.lines of_lines.kept)
 
   pub text_whole : HasWholeWaits s
   text_whole =

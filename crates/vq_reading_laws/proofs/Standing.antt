@@ -1,5 +1,5 @@
 -- Lines that stand where they may, by what all lines declare.
-use Rattle.std.proofs.Common.{ℕ, Bool, List, ◌≡◌, ◌++◌, zero, suc, ◌<◌, [], ◌∷◌, length, refl, arith, length-append, sym, subst, append-nil, append_assoc, Some, None, ◌+◌, fold, false, ◌≤◌, ap, ◌∙◌}
+use Rattle.std.proofs.Common.{ℕ, Bool, List, ◌≡◌, ◌++◌, zero, suc, ◌<◌, [], ◌∷◌, length, refl, arith, length-append, sym, subst, append-nil, append_assoc, Some, None, ◌+◌, fold, ◌≤◌, ap, ◌∙◌}
 use Rattle.vq_model.specs.declared.script.SemaphoreKind.{SemaphoreKind}
 use Rattle.vq_model.specs.declared.script.Mode.{Mode}
 use Rattle.vq_model.specs.declared.statement.Line.{Line}
@@ -15,7 +15,7 @@ use Rattle.vq_model.specs.declared.statement.Statement.{Statement}
 use Rattle.vq_model.specs.declared.statement.Statement.TheVariants.{BeginBatch, AddWait, AddCommand, AddSignal, AddFence, EndBatch, DeclareBuffer, DeclareSemaphore, DeclareQueue, BeginSchedule, TakeTurns, TakeHostStep}
 use Rattle.vq_model.specs.declared.script.HostStep.{HostStep}
 use Rattle.vq_model.specs.declared.script.HostStep.TheVariants.{Signal, WaitAll, WaitAny, PollAll, PollAny, Read, FenceWait, FencePoll, FenceReset, Idle}
-use Rattle.vq_model.specs.Context.{is_immediate, is_timeline, is_fence}
+use Rattle.vq_model.specs.Context.{is_timeline, is_fence}
 use Rattle.vq_model.specs.declared.script.Pair.{Pair}
 use Rattle.vq_model.specs.declared.script.SemaphoreKind.TheVariants.{Fence}
 use Rattle.vq_model.specs.declared.script.ActorName.{ActorName}
@@ -135,15 +135,8 @@ where_after was other = was
 abbrev pub where_of : List Line → Where
 where_of before = fold (λ was line. where_after was line.statement) is_outside before
 
--- a queue that isn't immediate
-pub record IsHeld (modes : List Mode) (q : ℕ) : Type 0 where
-  pub mode : Mode
-  pub is : slice_get modes q ≡ Some mode
-  pub held : is_immediate mode ≡ false
-
 pub record StandsWait (d : Declarations) (q w k : ℕ) (pair : Pair) (from : ℕ) : Type 0 where
   pub whole : from ≡ 1
-  pub held : IsHeld d.modes q
   pub mark : IsMarkOf d.kinds pair
   pub few : w < 16
   pub parts : k ≤ 1
@@ -180,16 +173,6 @@ module _ (d e : Declarations) (g : Grows d e) where
             (sym g.kinds_are) (get_longer d.kinds g.more_kinds pair.semaphore m.kind m.is);
         no_fence = m.no_fence;
         valueless = m.valueless;
-      }
-
-  held_grows : (q : ℕ) → IsHeld d.modes q → IsHeld e.modes q
-  held_grows q h =
-      record {
-        mode = h.mode;
-        is =
-            subst (λ (ms : List Mode). slice_get ms q ≡ Some h.mode) (sym g.modes_are)
-            (get_longer d.modes g.more_modes q h.mode h.is);
-        held = h.held;
       }
 
   queue_grows : (q : ℕ) → q < length d.modes → q < length e.modes
@@ -243,7 +226,6 @@ module _ (d e : Declarations) (g : Grows d e) where
   stands_grows (is_inside q w n k) (AddWait pair from) h =
       record {
         whole = h.whole;
-        held = held_grows q h.held;
         mark = mark_grows pair h.mark;
         few = h.few;
         parts = h.parts;

@@ -6,7 +6,7 @@ ghost use Rattle.vq_model.specs.declared.script.Script.{Script};
 ghost use Rattle.vq_model.specs.SameScript.{IsScript, IsRead};
 ghost use Rattle.vq_model.specs.ValidScripts.{IsValid, HasValidBatches, HasValidSteps, HasValidTurns, HasRisingLines};
 ghost use Rattle.vq_model.specs.ValidScripts.{IsUnscheduled};
-ghost use Rattle.vq_model.specs.Built.{HasNoImmediateWait, HasWholeWaits, IsOfFirstVersion};
+ghost use Rattle.vq_model.specs.Built.{HasWholeWaits, IsOfFirstVersion};
 ghost use Rattle.vq_model.specs.Canonical.{form_of_script};
 ghost use Rattle.vq_model.specs.declared.statement.Form.TheVariants.{Plain};
 ghost use Rattle.vq_model.specs.declared.statement.Form.{Form};
@@ -33,11 +33,9 @@ pub fn scripts_are_valid()
     ensures turns { (s : Script) → IsScript s → HasValidTurns s }
 {}
 
-/// What no script that can be written has so far: a wait in a batch of an immediate queue, a wait that
-/// holds back a part of a batch only, a version. Each of these falls alone, with the form of lines that
-/// brings it.
+/// What no script that can be written has so far: a wait that holds back a part of a batch only, a
+/// version. Each of these falls alone, with the form of lines that brings it.
 pub fn scripts_are_of_built_forms()
-    ensures unwaited { (s : Script) → IsScript s → HasNoImmediateWait s }
     ensures whole { (s : Script) → IsScript s → HasWholeWaits s }
     ensures version { (s : Script) → IsScript s → IsOfFirstVersion s }
 {}

@@ -1,8 +1,5 @@
-use Rattle.vq_reading_laws.proofs.WrittenScripts.{written_unwaited, written_whole, written_version}
+use Rattle.vq_reading_laws.proofs.WrittenScripts.{written_whole, written_version}
 use Rattle.vq_reading_laws.proofs.laws.scripts_are_of_built_forms.Goals as goal
-
-pub returns-clause-unwaited : goal.returns-clause-unwaited
-returns-clause-unwaited c = written_unwaited
 
 pub returns-clause-whole : goal.returns-clause-whole
 returns-clause-whole c = written_whole
