@@ -32,7 +32,7 @@ use Rattle.vq_turns.specs.declared.outcome.Outcome.{Outcome}
 use Rattle.vq_turns.specs.declared.outcome.Outcome.TheVariants.{Moved, Blocked, Ended}
 use Rattle.vq_turns.specs.Programs.{program}
 use Rattle.vq_turns.specs.Turns.{Place, Turned, turn_of, world_after}
-use Rattle.vq_turn_laws.specs.PlanParts.{IsActor}
+use Rattle.vq_turn_laws.specs.PlanParts.{HasOwnProgram}
 use Rattle.vq_turn_laws.specs.TruePlaces.{IsTrueFor, AreTrueFor, with_place}
 use Rattle.vq_turn_laws.proofs.Cited.{all_true, plan_orderly, reached}
 use Rattle.vq_actor.specs.Actors.{Acting}
@@ -90,7 +90,7 @@ other_part c d o name x e part =
 
 -- The places after a turn are true.
 module _ (c d : Course) (i : IsCourse c) (places : ActorName →
-    Place) (all : AreTrueFor c.plan (world c) places) (a : ActorName) (first : IsActor c.plan a) (o : Outcome) (y :
+    Place) (all : AreTrueFor c.plan (world c) places) (a : ActorName) (first : HasOwnProgram c.plan a) (o : Outcome) (y :
     Place) where
   pub true_after : record { outcome = o; place = y } ≡ turn_of c.plan (world c) a (places a) →
       d ≡ course_after c o → AreTrueFor d.plan (world d) (with_place places a y)

@@ -22,7 +22,6 @@ mod uses;
 
 pub use answers::answer_text;
 pub use order::{SlowOrder, slow_order};
-pub use payloads::{first_payloads, signal_all};
 pub use plan::Plan;
 pub use reached::{all_reached, any_reached, is_reached};
 pub use slow::{SlowRun, apply_in_order, slow_run, zero_buffers};

@@ -9,7 +9,7 @@ use std::alloc::{AllocError, Global};
 /// The payload of each chain before any signal. The error is want of memory.
 ///
 /// Source: Vulkan 1.3, VkSemaphoreTypeCreateInfo.
-pub fn first_payloads(alloc: Global, plan: &Plan) -> Result<Vec<u64>, AllocError>
+pub(crate) fn first_payloads(alloc: Global, plan: &Plan) -> Result<Vec<u64>, AllocError>
     requires { IsPlan plan.now }
     ensures { IfOk result (λ payloads. ArePayloads plan.now [] payloads.items) }
 {
@@ -38,7 +38,7 @@ fn signal(payloads: &mut [u64], plan: &Plan, op: u32)
 /// Raises the payloads of chains by all signals of a job.
 ///
 /// Source: Vulkan 1.3, "Semaphore Signaling".
-pub fn signal_all(payloads: &mut [u64], plan: &Plan, j: u32)
+pub(crate) fn signal_all(payloads: &mut [u64], plan: &Plan, j: u32)
     requires plan { IsPlan plan.now }
     requires exists { j < length plan.now.jobs }
     requires count { length payloads.old ≡ length plan.now.script.semaphores }

@@ -8,7 +8,7 @@ use Rattle.vq_points.specs.Points.{PointState, after_event}
 use Rattle.vq_turns.specs.declared.outcome.Outcome.{Outcome}
 use Rattle.vq_turns.specs.declared.outcome.Outcome.TheVariants.{Moved, Blocked, Ended}
 use Rattle.vq_turns.specs.Turns.{Place, turn_of, world_after}
-use Rattle.vq_turn_laws.specs.PlanParts.{IsActor, IsOrderly}
+use Rattle.vq_turn_laws.specs.PlanParts.{HasOwnProgram, IsOrderly}
 use Rattle.vq_turn_laws.specs.TruePlaces.{IsTrueFor, IsTrueTurn, AreTrueFor, with_place}
 use Rattle.vq_turn_laws.proofs.HoldingLaws.{same_name}
 use Rattle.vq_turn_laws.proofs.Reached.{Reached}
@@ -16,10 +16,10 @@ use Rattle.vq_turn_laws.proofs.References.{same_self}
 use Rattle.vq_turn_laws.proofs.WholeTurns.{others_true, turn_true}
 
 module _ (p : Plan) (o : IsOrderly p) (w : PointState) (r : Reached p w) (places : ActorName → Place)
-    (all : AreTrueFor p w places) (b : ActorName) (second : IsActor p b) where
+    (all : AreTrueFor p w places) (b : ActorName) (second : HasOwnProgram p b) where
   -- the actor's own place, and that of another one
   own_or_other : (v : PointState) (y : Place) → IsTrueFor p v b y →
-      ((a : ActorName) → IsActor p a → (a ≡ b → ⊥) → IsTrueFor p v a (places a)) →
+      ((a : ActorName) → HasOwnProgram p a → (a ≡ b → ⊥) → IsTrueFor p v a (places a)) →
       AreTrueFor p v (with_place places b y)
   own_or_other v y own other a first = by_name (same_actor a b) refl
     where

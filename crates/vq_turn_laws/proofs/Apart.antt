@@ -33,7 +33,7 @@ use Rattle.vq_turns.specs.declared.task.Task.TheVariants.{AwaitNeeds, Submit, Ta
 use Rattle.vq_turns.specs.declared.task.Task.TheVariants.{Compare, Answer, Finish}
 use Rattle.vq_turns.specs.Programs.{program, waits_where, takes, moves_batch, submits_batch, runs_command, runs_batch}
 use Rattle.vq_turns.specs.Programs.{host_waits, does_step, host_does}
-use Rattle.vq_turn_laws.specs.PlanParts.{lane_of_job, IsActor}
+use Rattle.vq_turn_laws.specs.PlanParts.{lane_of_job, HasOwnProgram}
 use Rattle.vq_turn_laws.specs.Tasks.{AreApart, Differ, compares, IsOf, Among}
 use Rattle.vq_turn_laws.proofs.ProgramLaws.{chain_or}
 
@@ -555,7 +555,7 @@ module _ (p : Plan) (wf : IsWellFormed p) where
         ]
       ]
 
-  owned : (a : ActorName) → IsActor p a → (t : Task) → Among t (program p a) → (x : Event) → IsOf x t → Owned p x a
+  owned : (a : ActorName) → HasOwnProgram p a → (t : Task) → Among t (program p a) → (x : Event) → IsOf x t → Owned p x a
   owned (SubmitActor q) act t m x h =
       let r = among_flat (submits_batch p) (jobs_of_lane p (QueueLane q)) t m in
       let k = (submits_tasks p wf r.0).kinds t r.2 x h in
@@ -616,7 +616,7 @@ module _ (p : Plan) (wf : IsWellFormed p) where
       by_host j false e m = by_moved j (of_job (λ y. is_immediate_lane p y.lane) false p j) refl m
 
   -- An event is that of a task in one program only.
-  pub programs_apart : (a b : ActorName) → IsActor p a → IsActor p b → (t u : Task) → Among t (program p a) →
+  pub programs_apart : (a b : ActorName) → HasOwnProgram p a → HasOwnProgram p b → (t u : Task) → Among t (program p a) →
       Among u (program p b) → (x : Event) → IsOf x t → IsOf x u → a ≡ b
   programs_apart a b i j t u m n x g h =
       let k = owned a i t m x g in

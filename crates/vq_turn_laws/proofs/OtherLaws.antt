@@ -16,7 +16,7 @@ use Rattle.vq_run_laws.proofs.Cited.{next_in}
 use Rattle.vq_turns.specs.declared.task.Task.{Task}
 use Rattle.vq_turns.specs.declared.look.Holding.{Holding}
 use Rattle.vq_turns.specs.Programs.{program}
-use Rattle.vq_turn_laws.specs.PlanParts.{IsActor, IsOrderly}
+use Rattle.vq_turn_laws.specs.PlanParts.{HasOwnProgram, IsOrderly}
 use Rattle.vq_turn_laws.specs.Tasks.{Among, IsOf, IsEventOf, finishes, waited_now}
 use Rattle.vq_turn_laws.specs.TruePlaces.{Stands}
 use Rattle.vq_turn_laws.proofs.Apart.{programs_apart}
@@ -57,8 +57,8 @@ leaves_references p w (Look a q e) h = absurd (false≢true (sym h))
 leaves_references p w (Unref a q e) h = absurd (false≢true (sym h))
 leaves_references p w other h = record { held = refl; referred = refl; looked = refl }
 
-module _ (p : Plan) (o : IsOrderly p) (w : PointState) (r : Reached p w) (a b : ActorName) (first : IsActor p a)
-    (second : IsActor p b) (two : a ≡ b → ⊥) where
+module _ (p : Plan) (o : IsOrderly p) (w : PointState) (r : Reached p w) (a b : ActorName) (first : HasOwnProgram p a)
+    (second : HasOwnProgram p b) (two : a ≡ b → ⊥) where
   -- two actors have two next jobs
   other_next : (j : ℕ) → next_job p w a ≡ Some j → next_job p w b ≡ Some j → ⊥
   other_next j x y = by_lanes (lane_of_actor a) refl (lane_of_actor b) refl x y

@@ -25,7 +25,7 @@ use Rattle.vq_turns.specs.Turns.{Place, HostPlace, HostTurned, Scene, first_plac
 use Rattle.vq_turns.specs.Turns.{serving, own_turn, after_served, host_turn_from, host_turn, turn_of, world_after}
 use Rattle.vq_turns.specs.Turns.{plays, played_from}
 use Rattle.vq_history_laws.specs.Histories.{points_after}
-use Rattle.vq_turn_laws.specs.PlanParts.{IsActor, IsOrderly}
+use Rattle.vq_turn_laws.specs.PlanParts.{HasOwnProgram, IsOrderly}
 use Rattle.vq_turn_laws.specs.Tasks.{IsEventOf}
 use Rattle.vq_turn_laws.specs.TruePlaces.{IsTrueFor, IsTrueTurn}
 use Rattle.vq_turn_laws.specs.Scenes.{HasPlayed, IsPlayer, ArePlayers, place_in, IsTrueScene, events_made}
@@ -55,7 +55,7 @@ IsHosts p HostActor = Unit {0}
 IsHosts p (SubmitActor q) = is_deferred_queue p q ≡ true
 IsHosts p (RingActor q) = ⊥
 
-hosts_actor : (p : Plan) (b : ActorName) → IsHosts p b → IsActor p b
+hosts_actor : (p : Plan) (b : ActorName) → IsHosts p b → HasOwnProgram p b
 hosts_actor p HostActor h = tt
 hosts_actor p (SubmitActor q) h = deferred_plays p q h
 hosts_actor p (RingActor q) h = tt
@@ -197,7 +197,7 @@ module _ (p : Plan) (o : IsOrderly p) (s : Scene) (r : Reached p s.world) (all :
 
   -- behind a turn of the host
   with_host : (v : PointState) (x : HostPlace) → HostTrue p v x →
-      ((a : ActorName) → IsActor p a → (IsHosts p a → ⊥) → IsTrueFor p v a (place_in p s a)) →
+      ((a : ActorName) → HasOwnProgram p a → (IsHosts p a → ⊥) → IsTrueFor p v a (place_in p s a)) →
       IsTrueScene p (record s { world = v; host = x })
   with_host v x h others HostActor first = h.own
   with_host v x h others (SubmitActor q) first = by_test (is_deferred_queue p q) refl
@@ -224,12 +224,12 @@ module _ (p : Plan) (o : IsOrderly p) (s : Scene) (r : Reached p s.world) (all :
   host_played Ended x d = with_host s.world x d (λ a first n. all a first)
 
   -- behind a turn of another actor
-  module _ (b : ActorName) (second : IsActor p b) (put : PointState → Place → Scene)
+  module _ (b : ActorName) (second : HasOwnProgram p b) (put : PointState → Place → Scene)
       (own : (v : PointState) (y : Place) → place_in p (put v y) b ≡ y)
       (others : (v : PointState) (y : Place) (a : ActorName) → (a ≡ b → ⊥) → place_in p (put v y) a ≡ place_in p s a)
       (at : (v : PointState) (y : Place) → (put v y).world ≡ v) where
     with_actor : (v : PointState) (y : Place) → IsTrueFor p v b y →
-        ((a : ActorName) → IsActor p a → (a ≡ b → ⊥) → IsTrueFor p v a (place_in p s a)) → IsTrueScene p (put v y)
+        ((a : ActorName) → HasOwnProgram p a → (a ≡ b → ⊥) → IsTrueFor p v a (place_in p s a)) → IsTrueScene p (put v y)
     with_actor v y t f a first = by_name (same_actor a b) refl
       where
         by_name : (c : Bool) → same_actor a b ≡ c → IsTrueFor p (put v y).world a (place_in p (put v y) a)

@@ -26,7 +26,7 @@ use Rattle.vq_turns.specs.Turns.{point_of, seeing, past_value, held_for, gives_b
 use Rattle.vq_turns.specs.Turns.{found, does, and_then, turn_from, turn_of}
 use Rattle.vq_turn_laws.specs.Holdings.{HoldsTruly}
 use Rattle.vq_turn_laws.specs.Places.{IsLeft}
-use Rattle.vq_turn_laws.specs.PlanParts.{IsActor, IsOrderly}
+use Rattle.vq_turn_laws.specs.PlanParts.{HasOwnProgram, IsOrderly}
 use Rattle.vq_turn_laws.specs.Tasks.{Each, IsEventOf, waited_now}
 use Rattle.vq_turn_laws.specs.TruePlaces.{IsTrueFor, IsTrueTurn, IsTrueDid}
 use Rattle.vq_turn_laws.proofs.CutFacts.{cut_at}
@@ -85,8 +85,8 @@ opening_true p a =
 
 -- Others
 
-pub others_true : (p : Plan) → IsOrderly p → (w : PointState) → Reached p w → (a b : ActorName) → IsActor p a →
-    IsActor p b → (a ≡ b → ⊥) → (x : Place) → IsTrueFor p w a x → (e : Event) → CanCome p w e → IsEventOf p b e →
+pub others_true : (p : Plan) → IsOrderly p → (w : PointState) → Reached p w → (a b : ActorName) → HasOwnProgram p a →
+    HasOwnProgram p b → (a ≡ b → ⊥) → (x : Place) → IsTrueFor p w a x → (e : Event) → CanCome p w e → IsEventOf p b e →
     IsTrueFor p (after_event p w e) a x
 others_true p o w r a b first second two x h e can of_other =
     let c = cut_at p o a x.done in

@@ -37,9 +37,9 @@ HasResolvers p =
     is_some (resolver p n.chain n.value) ≡ true
 
 -- A submit actor plays where the host doesn't move the batches of its queue itself.
-abbrev pub IsActor : Plan → ActorName → Type 0
-IsActor p (SubmitActor q) = is_immediate_queue p.script q ≡ false
-IsActor p other = Unit {0}
+abbrev pub HasOwnProgram : Plan → ActorName → Type 0
+HasOwnProgram p (SubmitActor q) = is_immediate_queue p.script q ≡ false
+HasOwnProgram p other = Unit {0}
 
 -- what each lawful plan of a script that was read keeps, as far as programs and places ask it
 pub record IsOrderly (p : Plan) : Type 0 where

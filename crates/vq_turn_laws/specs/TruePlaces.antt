@@ -16,7 +16,7 @@ use Rattle.vq_turns.specs.declared.outcome.Outcome.TheVariants.{Moved}
 use Rattle.vq_turns.specs.Turns.{Place, Did, GoesOn, Ends}
 use Rattle.vq_turn_laws.specs.Holdings.{HoldsTruly}
 use Rattle.vq_turn_laws.specs.Places.{IsDone, IsLeft}
-use Rattle.vq_turn_laws.specs.PlanParts.{IsActor}
+use Rattle.vq_turn_laws.specs.PlanParts.{HasOwnProgram}
 use Rattle.vq_turn_laws.specs.Tasks.{IsEventOf, Each, finishes, waited_now, is_waiting, compared_now, is_asking, onto}
 use Rattle.vq_turn_laws.specs.Worlds.{Sees}
 
@@ -58,7 +58,7 @@ IsTrueDid p w a (Ends outcome y) = IsTrueTurn p w a outcome y
 
 -- the places of a plan's actors are true
 abbrev pub AreTrueFor : Plan → PointState → (ActorName → Place) → Type 0
-AreTrueFor p w places = (a : ActorName) → IsActor p a → IsTrueFor p w a (places a)
+AreTrueFor p w places = (a : ActorName) → HasOwnProgram p a → IsTrueFor p w a (places a)
 
 -- the places of all actors after one of them went to another place
 abbrev pub with_place : (ActorName → Place) → ActorName → Place → ActorName → Place

@@ -16,7 +16,7 @@ ghost use Rattle.vq_turns.specs.Turns.{Scene, first_scene, plays, played_from};
 ghost use Rattle.vq_turn_laws.specs.Tasks.{Each, Among, AreApart, IsOf, IsEventOf, is_mover};
 ghost use Rattle.vq_turn_laws.specs.Places.{IsDone, IsReady};
 ghost use Rattle.vq_turn_laws.specs.Orders.{InOrder};
-ghost use Rattle.vq_turn_laws.specs.PlanParts.{IsActor, IsOrderly};
+ghost use Rattle.vq_turn_laws.specs.PlanParts.{HasOwnProgram, IsOrderly};
 ghost use Rattle.vq_turn_laws.specs.Worlds.{InEachWorld, KeepsMade, KeepsStarts, RefersInTurn, RisesIn};
 ghost use Rattle.vq_turn_laws.specs.TruePlaces.{IsTrueFor, IsTrueDid, IsTrueTurn, AreTrueFor, with_place};
 ghost use Rattle.vq_turn_laws.specs.Scenes.{IsPlayer, ArePlayers, IsTrueScene, HasPlayed, events_made};
@@ -35,7 +35,7 @@ pub fn programs_are_in_order()
 /// No two tasks of a program have an event in common, and no two actors' programs have.
 pub fn programs_are_apart()
     ensures own { (p : Plan) → IsPlan p → (a : ActorName) → AreApart (program p a) }
-    ensures others { (p : Plan) → IsPlan p → (a b : ActorName) → IsActor p a → IsActor p b →
+    ensures others { (p : Plan) → IsPlan p → (a b : ActorName) → HasOwnProgram p a → HasOwnProgram p b →
         (t u : Task) → Among t (program p a) → Among u (program p b) → (x : Event) →
         IsOf x t → IsOf x u → a ≡ b }
 {}
@@ -77,14 +77,14 @@ pub fn turns_keep_places_true()
 /// An event of one actor leaves the true places of the others true.
 pub fn others_keep_places_true()
     ensures { (p : Plan) → IsPlan p → IsLawful p → InEachWorld p (λ w. (a b : ActorName) →
-        IsActor p a → IsActor p b → ¬ (a ≡ b) → (x : Place) → IsTrueFor p w a x →
+        HasOwnProgram p a → HasOwnProgram p b → ¬ (a ≡ b) → (x : Place) → IsTrueFor p w a x →
         (e : Event) → CanCome p w e → IsEventOf p b e → IsTrueFor p (after_event p w e) a x) }
 {}
 
 /// A turn of one actor leaves the places of all actors true.
 pub fn turns_keep_all_places_true()
     ensures { (p : Plan) → IsPlan p → IsLawful p → InEachWorld p (λ w. (places : ActorName → Place) →
-        AreTrueFor p w places → (a : ActorName) → IsActor p a →
+        AreTrueFor p w places → (a : ActorName) → HasOwnProgram p a →
         AreTrueFor p (world_after p w (turn_of p w a (places a)).outcome)
         (with_place places a (turn_of p w a (places a)).place)) }
 {}
