@@ -1,6 +1,7 @@
 -- What other crates may cite of this one. All other files of proofs are private to it.
 pub use Rattle.vq_order_laws.proofs.ChainSignals.{signal_is}
 pub use Rattle.vq_order_laws.proofs.CountedChains.{numbers_rise}
+pub use Rattle.vq_order_laws.proofs.HostOrder.{sure_for_last}
 pub use Rattle.vq_order_laws.proofs.JobLines.{lines_across}
 pub use Rattle.vq_order_laws.proofs.LawfulOrder.{plan_has_sure_order}
 pub use Rattle.vq_order_laws.proofs.LawfulPlans.{lawful_without_fault}

@@ -20,8 +20,9 @@ use Rattle.vq_model.specs.declared.script.Job.{Job}
 use Rattle.vq_model.specs.declared.script.Job.TheVariants.{Host, Batch as BatchJob}
 use Rattle.vq_model.specs.declared.plan.Lane.TheVariants.{Host as HostLane}
 use Rattle.vq_model.specs.Lowering.{lane_of, plan_job, plan_of}
-use Rattle.vq_plan_laws.proofs.Cited.{HasNone, IsLast, last_cases, part_is, count_jobs}
-use Rattle.vq_model.proofs.Gets.{get-take, get-take_within, get_within}
+use Rattle.vq_model.specs.LoweringFaults.{IsPlan}
+use Rattle.vq_plan_laws.proofs.Cited.{HasNone, IsLast, last_cases, part_is, count_jobs, plan_hosts}
+use Rattle.vq_model.proofs.Gets.{get-take, get-take_within, get_some, get_within}
 
 module _ (p : Plan) (reach : left_over p ≡ []) where
   pub finished_hop : (i j : ℕ) → j < length p.jobs → has (must_finish p j) i ≡ true → IsHop p i j AtEnd
@@ -57,16 +58,36 @@ module _ (s : Script) where
       part_is (λ y. is_host_lane y.lane) false s j
       ∙ ap (λ (o : Option Job). option_map_or (λ job. is_host_lane (plan_job s (j, job)).lane) o false) e
 
-  step_exists : (j : ℕ) → is_host_step (plan_of s) j ≡ true → j < length (plan_of s).jobs
-  step_exists j h =
+  host_at : (j : ℕ) → is_host_step (plan_of s) j ≡ true →
+      (x : HostLine) × (slice_get s.jobs j ≡ Some (Host x))
+  host_at j h =
       by_job (slice_get s.jobs j) refl (sym (part_is (λ x. is_host_lane x.lane) false s j) ∙ h)
     where
       by_job : (o : Option Job) → slice_get s.jobs j ≡ o →
           option_map_or (λ job. is_host_lane (plan_job s (j, job)).lane) o false ≡ true →
-          j < length (plan_of s).jobs
+          (x : HostLine) × (slice_get s.jobs j ≡ Some (Host x))
       by_job None e g = absurd (false≢true g)
-      by_job (Some x) e g =
-          let l = get_within s.jobs j x e in let c = count_jobs s in omega arith
+      by_job (Some (Host x)) e g = (x, e)
+      by_job (Some (BatchJob b)) e g = absurd (false≢true g)
+
+  batch_at : (j : ℕ) → j < length (plan_of s).jobs → is_host_step (plan_of s) j ≡ false →
+      (b : Batch) × (slice_get s.jobs j ≡ Some (BatchJob b))
+  batch_at j l h =
+      let c = count_jobs s in
+      let x = get_some s.jobs j (omega arith) in
+      by_job x.0 x.1
+    where
+      by_job : (job : Job) → slice_get s.jobs j ≡ Some job →
+          (b : Batch) × (slice_get s.jobs j ≡ Some (BatchJob b))
+      by_job (Host x) e = absurd (false≢true (sym h ∙ host_step j x e))
+      by_job (BatchJob b) e = (b, e)
+
+  step_exists : (j : ℕ) → is_host_step (plan_of s) j ≡ true → j < length (plan_of s).jobs
+  step_exists j h =
+      let x = host_at j h in
+      let l = get_within s.jobs j (Host x.0) x.1 in
+      let c = count_jobs s in
+      omega arith
 
   abbrev is_host_job : Job → Bool
   is_host_job job = same_lane HostLane (lane_of job)
@@ -76,7 +97,7 @@ module _ (s : Script) where
     step : ℕ
     at_or_later : r ≤ step
     is_host : is_host_step (plan_of s) step ≡ true
-    first : has (must_finish (plan_of s) j) step ≡ true
+    is_last : host_before (plan_of s) j ≡ Some step
 
   last_step : (r j : ℕ) (x : HostLine) (b : Batch) → slice_get s.jobs r ≡ Some (Host x) →
       slice_get s.jobs j ≡ Some (BatchJob b) → r < j → HasLastStep r j
@@ -106,14 +127,7 @@ module _ (s : Script) where
             step = t.place;
             at_or_later = not_after;
             is_host = host_step t.place y.0 at;
-            first =
-                has-append_left
-                (option_to_list (previous (plan_of s) j)
-                ++ option_to_list (host_before (plan_of s) j)) (idle_after (plan_of s) j) t.place
-                (has-append_right (option_to_list (previous (plan_of s) j))
-                (option_to_list (host_before (plan_of s) j)) t.place
-                (ap (λ (o : Option ℕ). has (option_to_list o) t.place) before
-                ∙ has_here t.place []));
+            is_last = before;
           }
         where
           not_after : r ≤ t.place
@@ -122,16 +136,60 @@ module _ (s : Script) where
             | inr m ↦ m
           ]
 
-  -- What is sure for a host step is sure for each batch that is written after it.
-  pub sure_for_batch : left_over (plan_of s) ≡ [] → KeepsHostOrder (plan_of s) → (e r j : ℕ)
-      (x : HostLine) (b : Batch) → slice_get s.jobs r ≡ Some (Host x) →
-      slice_get s.jobs j ≡ Some (BatchJob b) → r < j → IsSure (plan_of s) e r →
-      IsSure (plan_of s) e j
-  sure_for_batch reach hosts e r j x b er ej l sure =
-      let h = last_step r j x b er ej l in
-      let w = get_within s.jobs j (BatchJob b) ej in
-      let c = count_jobs s in
-      passed_on
-      (sure_for_later (plan_of s) reach hosts step_exists e r h.step h.at_or_later
-      (host_step r x er) h.is_host sure)
-      (finished_hop (plan_of s) reach h.step j (omega arith) h.first)
+  -- a batch waits for the last host step before it
+  last_finished : (i j : ℕ) → host_before (plan_of s) j ≡ Some i →
+      has (must_finish (plan_of s) j) i ≡ true
+  last_finished i j e =
+      has-append_left
+      (option_to_list (previous (plan_of s) j) ++ option_to_list (host_before (plan_of s) j))
+      (idle_after (plan_of s) j) i
+      (has-append_right (option_to_list (previous (plan_of s) j))
+      (option_to_list (host_before (plan_of s) j)) i
+      (ap (λ (o : Option ℕ). has (option_to_list o) i) e ∙ has_here i []))
+
+  module _ (reach : left_over (plan_of s) ≡ []) (hosts : KeepsHostOrder (plan_of s)) where
+    -- What is sure for a host step is sure for the last one before a batch.
+    last_sure : (e r j : ℕ) (x : HostLine) (b : Batch) → slice_get s.jobs r ≡ Some (Host x) →
+        slice_get s.jobs j ≡ Some (BatchJob b) → r < j → IsSure (plan_of s) e r →
+        (h : ℕ) × (host_before (plan_of s) j ≡ Some h) × IsSure (plan_of s) e h
+    last_sure e r j x b er ej l sure =
+        let h = last_step r j x b er ej l in (
+          h.step,
+          h.is_last,
+          sure_for_later (plan_of s) reach hosts step_exists e r h.step h.at_or_later
+              (host_step r x er) h.is_host sure,
+        )
+
+    -- What is sure for a host step is sure for each batch that is written after it.
+    pub sure_for_batch : (e r j : ℕ) (x : HostLine) (b : Batch) →
+        slice_get s.jobs r ≡ Some (Host x) → slice_get s.jobs j ≡ Some (BatchJob b) → r < j →
+        IsSure (plan_of s) e r → IsSure (plan_of s) e j
+    sure_for_batch e r j x b er ej l sure =
+        let h = last_sure e r j x b er ej l sure in
+        let w = get_within s.jobs j (BatchJob b) ej in
+        let c = count_jobs s in
+        passed_on h.2
+        (finished_hop (plan_of s) reach h.0 j (omega arith) (last_finished h.0 j h.1))
+
+-- What is sure for a host step is sure for the last one before each batch that is written after it.
+pub sure_for_last : (p : Plan) → IsPlan p → left_over p ≡ [] → (e r j : ℕ) → j < length p.jobs →
+    is_host_step p j ≡ false → r < j → is_host_step p r ≡ true → IsSure p e r →
+    (h : ℕ) × (host_before p j ≡ Some h) × IsSure p e h
+sure_for_last p i reach e r j =
+    subst
+    (λ (q : Plan). left_over q ≡ [] → KeepsHostOrder q → j < length q.jobs →
+    is_host_step q j ≡ false → r < j → is_host_step q r ≡ true → IsSure q e r →
+    (h : ℕ) × (host_before q j ≡ Some h) × IsSure q e h)
+    (sym i.lowered) by_lines reach (plan_hosts p i)
+  where
+    s : Script
+    s = p.script
+
+    by_lines : left_over (plan_of s) ≡ [] → KeepsHostOrder (plan_of s) →
+        j < length (plan_of s).jobs → is_host_step (plan_of s) j ≡ false → r < j →
+        is_host_step (plan_of s) r ≡ true → IsSure (plan_of s) e r →
+        (h : ℕ) × (host_before (plan_of s) j ≡ Some h) × IsSure (plan_of s) e h
+    by_lines reach hosts l b m h sure =
+        let x = host_at s r h in
+        let y = batch_at s j l b in
+        last_sure s reach hosts e r j x.0 y.0 x.1 y.1 m sure
