@@ -7,6 +7,7 @@ mod RaceLaws
 mod LineSearches
 mod Firsts
 mod BusyLaws
+mod PendingLaws
 mod CheckLaws
 mod NeedChains
 mod UnorderedLaws

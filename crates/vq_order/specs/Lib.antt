@@ -4,6 +4,7 @@ pub mod LeastLines
 pub mod UnorderedLines
 pub mod Unreached
 pub mod Busy
+pub mod Pending
 pub mod Accessed
 pub mod CellRanges
 pub mod Swept

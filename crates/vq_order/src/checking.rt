@@ -7,6 +7,7 @@ use crate::clocked::Clocked;
 use crate::complete_run::CompleteRun;
 use crate::lines::Lines;
 use crate::ordered::Ordered;
+use crate::pending::first_not_pending;
 use crate::races::first_race;
 use crate::unordered::first_unordered;
 use crate::unreachable::least_unreached;
@@ -32,12 +33,14 @@ fn clocked(alloc: Global, plan: Plan) -> Result<Clocked, OrderFault>
 /// The errors come in this order, each with the least line, or with the least pair of lines by the
 /// second and then by the first: `Unreachable`, where the slow run leaves a job, with a wait that is
 /// then unreached; `Unordered`, where signals of one semaphore stand in no sure order; `FenceBusy`,
-/// where a fence is reset whose last naming isn't sure to be signaled; `Race`, where commands of two
-/// jobs conflict and neither happens before the other. `NotPending` doesn't come of scripts that can
-/// be written so far. `Memory` is want of memory.
+/// where a fence is reset whose last naming isn't sure to be signaled; `NotPending`, where a batch of
+/// an immediate queue waits for a signal that is neither of a host step or an immediate batch written
+/// before it, nor sure for such a host step; `Race`, where commands of two jobs conflict and neither
+/// happens before the other. `Memory` is want of memory.
 ///
 /// Source: Vulkan 1.3, "Semaphore Signaling", "Semaphore Waiting", vkResetFences, "Execution and
-/// Memory Dependencies". That the slow run decides what can be reached is this project's rule.
+/// Memory Dependencies". That the slow run decides what can be reached, and that an immediate queue
+/// can't hold back a batch, are this project's rules.
 pub fn check(alloc: Global, plan: Plan) -> Result<Ordered, OrderFault>
     ensures { Checks plan result }
 {
@@ -47,6 +50,9 @@ pub fn check(alloc: Global, plan: Plan) -> Result<Ordered, OrderFault>
     }
     if let Some(line) = first_busy(alloc, &order)? {
         return Err(OrderFault::FenceBusy { line });
+    }
+    if let Some(line) = first_not_pending(&order) {
+        return Err(OrderFault::NotPending { line });
     }
     if let Some(Lines { first, second }) = first_race(alloc, &order)? {
         return Err(OrderFault::Race { first, second });

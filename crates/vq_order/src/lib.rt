@@ -8,6 +8,7 @@ mod clocks;
 mod complete_run;
 mod lines;
 mod ordered;
+mod pending;
 mod races;
 mod searching;
 mod unordered;

@@ -1,8 +1,8 @@
 use Rattle.std.proofs.Common.{◌∙◌, sym, subst}
 use Rattle.std.proofs.lemmas.Result.{err_from_is_err_and}
-use Rattle.vq_model.specs.Checks.{IsFenceBusyAt, IsLawful}
+use Rattle.vq_model.specs.Checks.{IsFenceBusyAt, IsLawful, IsNotPendingAt}
 use Rattle.vq_order.specs.Unreached.{IsLeastOrNone}
-use Rattle.vq_order.proofs.CheckLaws.{busy_first, fault_is, lawful_plan, race_first}
+use Rattle.vq_order.proofs.CheckLaws.{busy_first, fault_is, lawful_plan, pending_first, race_first}
 use Rattle.vq_order.proofs.checking.check.Goals as goal
 
 pub returns-in_err-order : goal.returns-in_err-order
@@ -18,18 +18,32 @@ returns-in-Some-2 c =
 
 pub returns-in-Some-3 : goal.returns-in-Some-3
 returns-in-Some-3 c =
+    let o = c.in_ok-order.order in
     let k = c.in_ok-order.ensures in
-    let b = subst (IsLeastOrNone (IsFenceBusyAt c.in_ok-order.order)) c.in_default-2.is c.in_ok-line.ensures in
-    race_first c.args.plan c.in_ok-order.order k.0 k.1 c.in_default.ensures b c.in_ok-first.field-0 c.in_ok-first.ensures c.in-Some-3.field-0 c.in-Some-3.is
+    let b = subst (IsLeastOrNone (IsFenceBusyAt o)) c.in_default-2.is c.in_ok-line.ensures in
+    pending_first c.args.plan o k.0 k.1 c.in_default.ensures b c.in-Some-3.line
+    (subst (IsLeastOrNone (IsNotPendingAt o)) c.in-Some-3.is c.first_not_pending.ensures)
+
+pub returns-in-Some-4 : goal.returns-in-Some-4
+returns-in-Some-4 c =
+    let o = c.in_ok-order.order in
+    let k = c.in_ok-order.ensures in
+    let b = subst (IsLeastOrNone (IsFenceBusyAt o)) c.in_default-2.is c.in_ok-line.ensures in
+    let n = subst (IsLeastOrNone (IsNotPendingAt o)) c.in_default-3.is c.first_not_pending.ensures in
+    race_first c.args.plan o k.0 k.1 c.in_default.ensures b n c.in_ok-first.field-0 c.in_ok-first.ensures c.in-Some-4.field-0 c.in-Some-4.is
 
 pub of-requires : goal.of-requires
 of-requires c =
+    let o = c.in_ok-order.order in
     let k = c.in_ok-order.ensures in
-    let b = subst (IsLeastOrNone (IsFenceBusyAt c.in_ok-order.order)) c.in_default-2.is c.in_ok-line.ensures in
-    subst IsLawful (sym k.0) (lawful_plan c.args.plan c.in_ok-order.order k.0 k.1 c.in_default.ensures b c.in_ok-first.field-0 c.in_ok-first.ensures c.in_default-3.is)
+    let b = subst (IsLeastOrNone (IsFenceBusyAt o)) c.in_default-2.is c.in_ok-line.ensures in
+    let n = subst (IsLeastOrNone (IsNotPendingAt o)) c.in_default-3.is c.first_not_pending.ensures in
+    subst IsLawful (sym k.0) (lawful_plan c.args.plan o k.0 k.1 c.in_default.ensures b n c.in_ok-first.field-0 c.in_ok-first.ensures c.in_default-4.is)
 
 pub returns : goal.returns
 returns c =
+    let o = c.in_ok-order.order in
     let k = c.in_ok-order.ensures in
-    let b = subst (IsLeastOrNone (IsFenceBusyAt c.in_ok-order.order)) c.in_default-2.is c.in_ok-line.ensures in
-    (c.of.ensures ∙ k.0, lawful_plan c.args.plan c.in_ok-order.order k.0 k.1 c.in_default.ensures b c.in_ok-first.field-0 c.in_ok-first.ensures c.in_default-3.is)
+    let b = subst (IsLeastOrNone (IsFenceBusyAt o)) c.in_default-2.is c.in_ok-line.ensures in
+    let n = subst (IsLeastOrNone (IsNotPendingAt o)) c.in_default-3.is c.first_not_pending.ensures in
+    (c.of.ensures ∙ k.0, lawful_plan c.args.plan o k.0 k.1 c.in_default.ensures b n c.in_ok-first.field-0 c.in_ok-first.ensures c.in_default-4.is)
