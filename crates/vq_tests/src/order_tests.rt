@@ -1,6 +1,6 @@
-//! The order of a plan of two queues and two timelines.
+//! The order of a plan of two queues and two timelines, and waits on immediate queues.
 use std::alloc::Global;
-use vq_order::{Ordered, check};
+use vq_order::{OrderFault, Ordered, check};
 use vq_script::{Form, is_short, parse};
 use vq_spec::Plan;
 
@@ -25,18 +25,18 @@ wait A 5
 end
 ";
 
-/// The lawful plan of a text.
-fn checked(alloc: Global, text: &[u8]) -> Option<Ordered> {
+/// What a check says of a text that has a plan.
+fn checked(alloc: Global, text: &[u8]) -> Option<Result<Ordered, OrderFault>> {
     if !is_short(text) {
         return None;
     }
     let script = parse(alloc, text, Form::Plain).ok()?;
-    check(alloc, Plan::lower(alloc, script).ok()?).ok()
+    Some(check(alloc, Plan::lower(alloc, script).ok()?))
 }
 
 /// The lawful plan of the script, which has four jobs, three signal operations and two chains.
 fn ordered(alloc: Global) -> Option<Ordered> {
-    checked(alloc, SCRIPT)
+    checked(alloc, SCRIPT)?.ok()
 }
 
 /// Whether one job happens before another.
@@ -113,5 +113,101 @@ fn chains_are_between_floor_and_ceiling(rt: HostRuntime) {
         (3, 1, 4, 4),
     ] {
         assert!(rt; is_between(rt.alloc(), job, chain, floor, ceiling));
+    }
+}
+
+/// The fault of a text that has a plan; none within says that it is lawful.
+fn fault(alloc: Global, text: &[u8]) -> Option<Option<OrderFault>> {
+    Some(checked(alloc, text)?.err())
+}
+
+#[test]
+fn immediate_batches_wait_for_pending_signals(rt: HostRuntime) {
+    for (text, want) in [
+        // the signal is written after the wait
+        (
+            b"timeline A 0
+queue P immediate
+queue Q threaded
+submit P
+wait A 1
+end
+submit Q
+signal A 1
+end
+"
+            .as_slice(),
+            Some(OrderFault::NotPending { line: 5 }),
+        ),
+        // it is written before, but a thread may submit it late
+        (
+            b"timeline A 0
+queue P immediate
+queue Q threaded
+submit Q
+signal A 1
+end
+submit P
+wait A 1
+end
+",
+            Some(OrderFault::NotPending { line: 8 }),
+        ),
+        // the host waits for it between them
+        (
+            b"timeline A 0
+queue P immediate
+queue Q threaded
+submit Q
+signal A 1
+end
+host wait all A 1
+submit P
+wait A 1
+end
+",
+            None,
+        ),
+        // the host makes it
+        (
+            b"timeline A 0
+queue P immediate
+host signal A 1
+submit P
+wait A 1
+end
+",
+            None,
+        ),
+        // a batch of an immediate queue makes it
+        (
+            b"timeline A 0
+queue P immediate
+queue Q immediate
+submit Q
+signal A 1
+end
+submit P
+wait A 1
+end
+",
+            None,
+        ),
+        // a deferred queue can hold back a batch
+        (
+            b"timeline A 0
+queue P deferred
+queue Q threaded
+submit P
+wait A 1
+end
+submit Q
+signal A 1
+end
+",
+            None,
+        ),
+    ] {
+        assert!(rt; fault(rt.alloc(), text) == Some(want));
     }
 }

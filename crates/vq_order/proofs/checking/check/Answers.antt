@@ -16,34 +16,34 @@ returns-in-Some-2 c =
     busy_first c.args.plan c.in_ok-order.order k.0 k.1 c.in_default.ensures c.in-Some-2.line
     (subst (IsLeastOrNone (IsFenceBusyAt c.in_ok-order.order)) c.in-Some-2.is c.in_ok-line.ensures)
 
+pub returns-in-Some-first_not_pending : goal.returns-in-Some-first_not_pending
+returns-in-Some-first_not_pending c =
+    let o = c.in_ok-order.order in
+    let k = c.in_ok-order.ensures in
+    let b = subst (IsLeastOrNone (IsFenceBusyAt o)) c.in_default-2.is c.in_ok-line.ensures in
+    pending_first c.args.plan o k.0 k.1 c.in_default.ensures b c.in-Some-first_not_pending.line
+    (subst (IsLeastOrNone (IsNotPendingAt o)) c.in-Some-first_not_pending.is c.first_not_pending.ensures)
+
 pub returns-in-Some-3 : goal.returns-in-Some-3
 returns-in-Some-3 c =
     let o = c.in_ok-order.order in
     let k = c.in_ok-order.ensures in
     let b = subst (IsLeastOrNone (IsFenceBusyAt o)) c.in_default-2.is c.in_ok-line.ensures in
-    pending_first c.args.plan o k.0 k.1 c.in_default.ensures b c.in-Some-3.line
-    (subst (IsLeastOrNone (IsNotPendingAt o)) c.in-Some-3.is c.first_not_pending.ensures)
-
-pub returns-in-Some-4 : goal.returns-in-Some-4
-returns-in-Some-4 c =
-    let o = c.in_ok-order.order in
-    let k = c.in_ok-order.ensures in
-    let b = subst (IsLeastOrNone (IsFenceBusyAt o)) c.in_default-2.is c.in_ok-line.ensures in
-    let n = subst (IsLeastOrNone (IsNotPendingAt o)) c.in_default-3.is c.first_not_pending.ensures in
-    race_first c.args.plan o k.0 k.1 c.in_default.ensures b n c.in_ok-first.field-0 c.in_ok-first.ensures c.in-Some-4.field-0 c.in-Some-4.is
+    let n = subst (IsLeastOrNone (IsNotPendingAt o)) c.in_default-first_not_pending.is c.first_not_pending.ensures in
+    race_first c.args.plan o k.0 k.1 c.in_default.ensures b n c.in_ok-first.field-0 c.in_ok-first.ensures c.in-Some-3.field-0 c.in-Some-3.is
 
 pub of-requires : goal.of-requires
 of-requires c =
     let o = c.in_ok-order.order in
     let k = c.in_ok-order.ensures in
     let b = subst (IsLeastOrNone (IsFenceBusyAt o)) c.in_default-2.is c.in_ok-line.ensures in
-    let n = subst (IsLeastOrNone (IsNotPendingAt o)) c.in_default-3.is c.first_not_pending.ensures in
-    subst IsLawful (sym k.0) (lawful_plan c.args.plan o k.0 k.1 c.in_default.ensures b n c.in_ok-first.field-0 c.in_ok-first.ensures c.in_default-4.is)
+    let n = subst (IsLeastOrNone (IsNotPendingAt o)) c.in_default-first_not_pending.is c.first_not_pending.ensures in
+    subst IsLawful (sym k.0) (lawful_plan c.args.plan o k.0 k.1 c.in_default.ensures b n c.in_ok-first.field-0 c.in_ok-first.ensures c.in_default-3.is)
 
 pub returns : goal.returns
 returns c =
     let o = c.in_ok-order.order in
     let k = c.in_ok-order.ensures in
     let b = subst (IsLeastOrNone (IsFenceBusyAt o)) c.in_default-2.is c.in_ok-line.ensures in
-    let n = subst (IsLeastOrNone (IsNotPendingAt o)) c.in_default-3.is c.first_not_pending.ensures in
-    (c.of.ensures ∙ k.0, lawful_plan c.args.plan o k.0 k.1 c.in_default.ensures b n c.in_ok-first.field-0 c.in_ok-first.ensures c.in_default-4.is)
+    let n = subst (IsLeastOrNone (IsNotPendingAt o)) c.in_default-first_not_pending.is c.first_not_pending.ensures in
+    (c.of.ensures ∙ k.0, lawful_plan c.args.plan o k.0 k.1 c.in_default.ensures b n c.in_ok-first.field-0 c.in_ok-first.ensures c.in_default-3.is)
