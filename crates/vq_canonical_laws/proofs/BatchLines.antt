@@ -1,5 +1,5 @@
 -- The canonical lines of waits, signals and fences, and of the end of a batch, are read.
-use Rattle.std.proofs.Common.{◌≡◌, ℕ, ◌+◌, ◌^◌, ◌<◌, true, false, cond, not, ◌&&◌, ◌||◌, List, [], ◌∷◌, ◌++◌, Option, Some, None, option_map, refl, sym, ap, ◌∙◌, subst, arith}
+use Rattle.std.proofs.Common.{◌≡◌, ℕ, ◌+◌, ◌^◌, ◌<◌, true, false, not, ◌&&◌, ◌||◌, List, [], ◌∷◌, ◌++◌, Option, Some, option_map, refl, sym, ap, ◌∙◌, subst, arith}
 use Rattle.std.specs.Prelude.{nat_lt, is_some, codes}
 use Rattle.std.specs.List.{slice_get, list_any}
 use Rattle.std.specs.Option.{option_map_or}
@@ -16,13 +16,13 @@ use Rattle.vq_model.specs.declared.script.SemaphoreKind.{SemaphoreKind}
 use Rattle.vq_model.specs.declared.script.SemaphoreKind.TheVariants.{Timeline, Binary, Fence}
 use Rattle.vq_model.specs.declared.script.Pair.{Pair}
 use Rattle.vq_model.specs.Text.{is_name}
-use Rattle.vq_model.specs.Context.{section, timeline_at, binary_at, fence_at, is_timeline, is_binary, is_fence, open_batch, is_batch_immediate, is_wait, is_command, is_signal, is_batch_fence, count, some}
+use Rattle.vq_model.specs.Context.{section, timeline_at, binary_at, fence_at, is_timeline, is_binary, is_fence, open_batch, is_wait, is_command, is_signal, is_batch_fence, count, some}
 use Rattle.vq_model.specs.Meaning.{of_two, binary_pair}
 use Rattle.vq_model.specs.LineFaults.{part_of}
 use Rattle.vq_model.specs.ScriptOfLines.{mark}
 use Rattle.vq_model.specs.Canonical.{wait_words, signal_words, fence_words, marked_words, from_words}
 use Rattle.vq_canonical_laws.proofs.LineTests.{PassesTests, read_tested}
-use Rattle.vq_canonical_laws.proofs.SaidContext.{timeline_at_said, binary_at_said, fence_at_said, some_said, count_said, immediate_said}
+use Rattle.vq_canonical_laws.proofs.SaidContext.{timeline_at_said, binary_at_said, fence_at_said, some_said, count_said}
 use Rattle.vq_canonical_laws.proofs.WrittenTexts.{are_text_words}
 use Rattle.vq_canonical_laws.proofs.WrittenNumbers.{decimal_back, decimal_word}
 use Rattle.vq_canonical_laws.proofs.NamedParts.{AreNamed, name_word, position_of_both}
@@ -64,7 +64,6 @@ module _ (form : Form) (before : List Line) (p : Parts) (h : Say before p) (name
   -- what a wait passes beside its semaphore
   record PassesAsWait : Type 0 where
     part : section before ≡ InBatch
-    later : is_batch_immediate before ≡ false
     in_order : (some (λ s. nat_lt 1 (part_of s)) (open_batch before) || false) ≡ false
     limited : not (nat_lt (count is_wait (open_batch before)) 16) ≡ false
 
@@ -74,7 +73,6 @@ module _ (form : Form) (before : List Line) (p : Parts) (h : Say before p) (name
       let counted = count_said before p h m.told m.inside is_wait in
       record {
         part = h.part ∙ ap part_of_batch m.inside;
-        later = immediate_said before p h m.told m.inside ∙ m.fits.later;
         in_order = in_part before p h m.told m.inside 1 m.in_order;
         limited = not_over (count is_wait (open_batch before)) 16 (omega arith);
       }
@@ -92,8 +90,7 @@ module _ (form : Form) (before : List Line) (p : Parts) (h : Say before p) (name
       record {
         found =
             form_inside form before (codes "wait" ∷ name ∷ decimal v ∷ []) (Some WaitTimelineLine)
-            passes.part h.version refl
-            ∙ (λ i. cond (not (passes.later i)) (Some WaitTimelineLine) None);
+            passes.part h.version refl;
         plain = words_plain (codes "wait" ∷ name ∷ decimal v ∷ []) words;
         shaped = and_from (is_name name) true is refl;
         in_order = passes.in_order;
@@ -126,8 +123,7 @@ module _ (form : Form) (before : List Line) (p : Parts) (h : Say before p) (name
       record {
         found =
             form_inside form before (codes "wait" ∷ name ∷ []) (Some WaitBinaryLine) passes.part
-            h.version refl
-            ∙ (λ i. cond (not (passes.later i)) (Some WaitBinaryLine) None);
+            h.version refl;
         plain = words_plain (codes "wait" ∷ name ∷ []) words;
         shaped = and_from (is_name name) true is refl;
         in_order = passes.in_order;

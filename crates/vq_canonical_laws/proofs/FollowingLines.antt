@@ -1,12 +1,12 @@
 -- A line without a fault says a statement that may follow what the lines before say.
 use Rattle.std.proofs.Common.{◌≡◌, Option, Some, None, refl, false, List, [], ◌∷◌, sym, Bool, true, not, ℕ, ◌^◌, ◌<◌, ◌++◌, cond, ◌+◌, ◌==◌, ◌&&◌, ◌||◌, length, find, option_map, ap, ◌∙◌, subst, arith, ◌⊎◌, inl, inr}
 use Rattle.vq_model.specs.declared.statement.Section.TheVariants.{Outside, InBatch, InSchedule}
-use Rattle.vq_canonical_laws.proofs.ScriptParts.{ToldJob, Told, part_of_batch, has_jobs, TakesValue, Parts, May, Say, HasValue, IsBuiltMode, IsMarked, sizes_in, HasNumerals, count_jobs, count_commands, commands_of, place_of}
+use Rattle.vq_canonical_laws.proofs.ScriptParts.{ToldJob, Told, part_of_batch, has_jobs, TakesValue, Parts, May, Say, HasValue, IsMarked, sizes_in, HasNumerals, count_jobs, count_commands, commands_of, place_of}
 use Rattle.std.proofs.lemmas.Bool.{false≢true, or_parts, and_parts, ltb-true, ltb-false}
 use Rattle.vq_model.specs.declared.statement.Statement.{Statement}
 use Rattle.vq_model.specs.declared.script.SemaphoreKind.{SemaphoreKind}
 use Rattle.vq_model.specs.declared.script.SemaphoreKind.TheVariants.{Timeline, Binary, Fence}
-use Rattle.vq_model.specs.Context.{is_timeline, is_binary, is_fence, section, buffers, semaphores, queues, buffer_at, timeline_at, binary_at, fence_at, queue_at, is_declared, has_begun, open_batch, is_batch_immediate, is_wait, is_command, is_signal, is_batch_fence, count, some, version_of}
+use Rattle.vq_model.specs.Context.{is_timeline, is_binary, is_fence, section, buffers, semaphores, queues, buffer_at, timeline_at, binary_at, fence_at, queue_at, is_declared, has_begun, open_batch, is_wait, is_command, is_signal, is_batch_fence, count, some, version_of}
 use Rattle.vq_model.specs.declared.statement.LineForm.{LineForm}
 use Rattle.vq_model.specs.declared.statement.LineForm.TheVariants.{WaitTimelineLine, WaitBinaryLine, FillWholeLine, FillLine, UpdateLine, CopyLine, SignalTimelineLine, SignalBinaryLine, BatchFenceLine, EndLine, BufferLine, TimelineLine, BinaryLine, FenceLine, QueueLine, SubmitLine, ScheduleLine, TurnLine, TurnsLine}
 use Rattle.vq_model.specs.declared.statement.LineForm.TheVariants.{HostSignalLine, HostWaitAllLine, HostWaitAnyLine, HostPollAllLine, HostPollAnyLine, HostReadLine, HostFenceWaitLine, HostFencePollLine, HostFenceResetLine, HostIdleLine}
@@ -21,7 +21,6 @@ use Rattle.std.specs.Str.{bytes_eq}
 use Rattle.vq_model.specs.declared.statement.Section.{Section}
 use Rattle.vq_model.specs.declared.statement.Statement.TheVariants.{DeclareBuffer, DeclareSemaphore, DeclareQueue, BeginBatch, AddWait, AddCommand, AddSignal, AddFence, EndBatch, BeginSchedule}
 use Rattle.vq_model.specs.declared.script.Mode.{Mode}
-use Rattle.vq_model.specs.declared.script.Mode.TheVariants.{Immediate, Threaded}
 use Rattle.vq_model.specs.declared.script.Pair.{Pair}
 use Rattle.vq_model.specs.declared.script.Command.{Command}
 use Rattle.vq_model.specs.declared.script.Command.TheVariants.{Fill, Update, Copy}
@@ -34,7 +33,7 @@ use Rattle.vq_canonical_laws.proofs.WrittenNumbers.{numeral_below, small_numeral
 use Rattle.vq_canonical_laws.proofs.FollowingSteps.{host_may}
 use Rattle.vq_canonical_laws.proofs.LineTests.{PassesTests, tests_passed}
 use Rattle.vq_canonical_laws.proofs.NamedParts.{position_passes}
-use Rattle.vq_canonical_laws.proofs.SaidContext.{sizes_said, buffer_count_said, semaphore_count_said, queue_count_said, timeline_at_said, binary_at_said, fence_at_said, queue_at_said, declared_said, range_said, overlap_said, some_said, count_said, immediate_said}
+use Rattle.vq_canonical_laws.proofs.SaidContext.{sizes_said, buffer_count_said, semaphore_count_said, queue_count_said, timeline_at_said, binary_at_said, fence_at_said, queue_at_said, declared_said, range_said, overlap_said, some_said, count_said}
 
 -- Parts of the text
 
@@ -244,10 +243,10 @@ module _ (form : Form) (before : List Line) (p : Parts) (h : Say before p) where
   fence_may words s e m t = absurd (false≢true m)
 
   -- a queue
-  queue_may : (mode : Mode) → IsBuiltMode mode → (words : List (List ℕ)) (s : Statement) →
+  queue_may : (mode : Mode) → (words : List (List ℕ)) (s : Statement) →
       Outside ≡ part_of_batch p.batch → matches words (QueueLine mode) ≡ true →
       PassesTests form before words (QueueLine mode) s → May p s
-  queue_may mode built (a ∷ name ∷ c ∷ []) s e m t =
+  queue_may mode (a ∷ name ∷ c ∷ []) s e m t =
       let same : DeclareQueue name mode ≡ s = same_statement (DeclareQueue name mode) s t.said in
       let first = first_parts e t.in_order in
       let few =
@@ -264,9 +263,8 @@ module _ (form : Form) (before : List Line) (p : Parts) (h : Say before p) where
             ∙ not_true (is_declared before name)
             (and_parts (not (is_declared before name)) true t.fresh).0;
         few = omega arith;
-        built = built;
       })
-  queue_may mode built words s e m t = absurd (false≢true m)
+  queue_may mode words s e m t = absurd (false≢true m)
 
   -- the start of a batch
   submit_may : (words : List (List ℕ)) (s : Statement) → Outside ≡ part_of_batch p.batch →
@@ -331,11 +329,10 @@ module _ (form : Form) (before : List Line) (p : Parts) (h : Say before p) where
 
   -- a wait
   wait_may : (pair : Pair) (s : Statement) → InBatch ≡ part_of_batch p.batch →
-      not (is_batch_immediate before) ≡ true →
       (some (λ x. nat_lt 1 (part_of x)) (open_batch before) || false) ≡ false →
       passes_limit (limits_of (version_of before)) before s ≡ false →
       Some (AddWait pair 1) ≡ Some s → IsMarked p.semaphores pair → May p s
-  wait_may pair s e later order limited i known =
+  wait_may pair s e order limited i known =
       let same : AddWait pair 1 ≡ s = same_statement (AddWait pair 1) s i in
       let inside = inside_batch p.batch e in
       let few =
@@ -351,16 +348,13 @@ module _ (form : Form) (before : List Line) (p : Parts) (h : Say before p) where
         fits = record {
           known = known;
           at_once = refl;
-          later = sym (immediate_said before p h inside.0 inside.1)
-              ∙ not_true (is_batch_immediate before) later;
           few = omega arith;
         };
       })
 
   wait_timeline_may : (words : List (List ℕ)) (s : Statement) → InBatch ≡ part_of_batch p.batch →
-      is_built before WaitTimelineLine ≡ true → matches words WaitTimelineLine ≡ true →
-      PassesTests form before words WaitTimelineLine s → May p s
-  wait_timeline_may (a ∷ name ∷ value ∷ []) s e b m t =
+      matches words WaitTimelineLine ≡ true → PassesTests form before words WaitTimelineLine s → May p s
+  wait_timeline_may (a ∷ name ∷ value ∷ []) s e m t =
       by_places (timeline_at before name) (numeral value) refl refl t.said
     where
       by_places : (o v : Option ℕ) → timeline_at before name ≡ o → numeral value ≡ v →
@@ -369,21 +363,20 @@ module _ (form : Form) (before : List Line) (p : Parts) (h : Say before p) where
       by_places None v f g i = absurd (nothing_said s i)
       by_places (Some o) None f g i = absurd (nothing_said s i)
       by_places (Some o) (Some v) f g i =
-          wait_may (record { semaphore = o; value = v }) s e b t.in_order t.limited i
+          wait_may (record { semaphore = o; value = v }) s e t.in_order t.limited i
           (timeline_marked name o v f (numeral_below value v g))
-  wait_timeline_may words s e b m t = absurd (false≢true m)
+  wait_timeline_may words s e m t = absurd (false≢true m)
 
   wait_binary_may : (words : List (List ℕ)) (s : Statement) → InBatch ≡ part_of_batch p.batch →
-      is_built before WaitBinaryLine ≡ true → matches words WaitBinaryLine ≡ true →
-      PassesTests form before words WaitBinaryLine s → May p s
-  wait_binary_may (a ∷ name ∷ []) s e b m t = by_place (binary_at before name) refl t.said
+      matches words WaitBinaryLine ≡ true → PassesTests form before words WaitBinaryLine s → May p s
+  wait_binary_may (a ∷ name ∷ []) s e m t = by_place (binary_at before name) refl t.said
     where
       by_place : (o : Option ℕ) → binary_at before name ≡ o →
           option_map (λ x. AddWait (binary_pair x) 1) o ≡ Some s → May p s
       by_place None f i = absurd (nothing_said s i)
       by_place (Some o) f i =
-          wait_may (binary_pair o) s e b t.in_order t.limited i (binary_marked name o f)
-  wait_binary_may words s e b m t = absurd (false≢true m)
+          wait_may (binary_pair o) s e t.in_order t.limited i (binary_marked name o f)
+  wait_binary_may words s e m t = absurd (false≢true m)
 
   -- a signal
   signal_may : (pair : Pair) (s : Statement) → InBatch ≡ part_of_batch p.batch →
@@ -604,14 +597,13 @@ module _ (form : Form) (before : List Line) (p : Parts) (h : Say before p) where
 
   -- by the form, outside a batch
   outside_may : (f : LineForm) (words : List (List ℕ)) (s : Statement) →
-      Outside ≡ part_of_batch p.batch → stands_outside f ≡ true → is_built before f ≡ true →
+      Outside ≡ part_of_batch p.batch → stands_outside f ≡ true → is_built f ≡ true →
       matches words f ≡ true → PassesTests form before words f s → MayFollow p s
   outside_may BufferLine words s e g b m t = inl (buffer_may words s e m t)
   outside_may TimelineLine words s e g b m t = inl (timeline_may words s e m t)
   outside_may BinaryLine words s e g b m t = inl (binary_may words s e m t)
   outside_may FenceLine words s e g b m t = inl (fence_may words s e m t)
-  outside_may (QueueLine Immediate) words s e g b m t = inl (queue_may Immediate tt words s e m t)
-  outside_may (QueueLine Threaded) words s e g b m t = inl (queue_may Threaded tt words s e m t)
+  outside_may (QueueLine mode) words s e g b m t = inl (queue_may mode words s e m t)
   outside_may SubmitLine words s e g b m t = inl (submit_may words s e m t)
   outside_may HostSignalLine words s e g b m t =
       inl (host_may before p h form HostSignalLine words s (outside_batch p.batch e) refl m t)
@@ -652,10 +644,10 @@ module _ (form : Form) (before : List Line) (p : Parts) (h : Say before p) where
 
   -- .. and inside
   inside_may : (f : LineForm) (words : List (List ℕ)) (s : Statement) →
-      InBatch ≡ part_of_batch p.batch → stands_inside f ≡ true → is_built before f ≡ true →
+      InBatch ≡ part_of_batch p.batch → stands_inside f ≡ true → is_built f ≡ true →
       matches words f ≡ true → PassesTests form before words f s → May p s
-  inside_may WaitTimelineLine words s e g b m t = wait_timeline_may words s e b m t
-  inside_may WaitBinaryLine words s e g b m t = wait_binary_may words s e b m t
+  inside_may WaitTimelineLine words s e g b m t = wait_timeline_may words s e m t
+  inside_may WaitBinaryLine words s e g b m t = wait_binary_may words s e m t
   inside_may FillWholeLine words s e g b m t = fill_whole_may words s e m t
   inside_may FillLine words s e g b m t = fill_may words s e m t
   inside_may UpdateLine words s e g b m t = update_may words s e m t
@@ -688,7 +680,7 @@ module _ (form : Form) (before : List Line) (p : Parts) (h : Say before p) where
   -- by the part of the text
   line_may : (was : Section) (f : LineForm) (words : List (List ℕ)) (s : Statement) →
       was ≡ part_of_batch p.batch → find (matches words) (forms_in form before was) ≡ Some f →
-      is_built before f ≡ true → matches words f ≡ true → PassesTests form before words f s →
+      is_built f ≡ true → matches words f ≡ true → PassesTests form before words f s →
       MayFollow p s
   line_may Outside f words s e found b m t =
       outside_may f words s e
@@ -707,7 +699,7 @@ module _ (form : Form) (before : List Line) (p : Parts) (h : Say before p) where
       meaning form before words ≡ Some s → MayFollow p s
   may_follow words s e m =
       let t = tests_passed form before words s e m in
-      let found = built_found before (find (matches words) (forms_at form before)) t.0 t.1.found in
+      let found = built_found (find (matches words) (forms_at form before)) t.0 t.1.found in
       line_may (section before) t.0 words s h.part found
-      (where_it_is_built before (find (matches words) (forms_at form before)) t.0 t.1.found)
+      (where_it_is_built (find (matches words) (forms_at form before)) t.0 t.1.found)
       (found_passes (matches words) (forms_at form before) t.0 found) t.1

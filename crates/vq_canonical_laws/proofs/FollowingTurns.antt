@@ -179,7 +179,7 @@ module _ (before : List Line) (p : Parts) (turns : List Turn) (h : SaySchedule b
         meaning form before words ≡ Some s → Takes p.queues (length turns) s
     turns_follow words s e m =
         let t = tests_passed form before words s e m in
-        let found = built_found before (find (matches words) (forms_at form before)) t.0 t.1.found in
+        let found = built_found (find (matches words) (forms_at form before)) t.0 t.1.found in
         let here : find (matches words) forms_in_schedule ≡ Some t.0 =
         sym (ap (λ (was : Section). find (matches words) (forms_in form before was)) h.part)
         ∙ found in

@@ -89,17 +89,17 @@ not_past a b l = false_from_ne_true (nat_lt a b) (λ e. let m = ltb-true a b e i
 module _ (form : Form) (before : List Line) (words : List (List ℕ)) where
   -- the form of words in a part of the text
   pub form_in : (was : Section) → section before ≡ was →
-      form_of form before words ≡ where_built before
+      form_of form before words ≡ where_built
       (find (matches words) (forms_in form before was))
   form_in was e =
-      ap (λ (w : Section). where_built before (find (matches words) (forms_in form before w))) e
+      ap (λ (w : Section). where_built (find (matches words) (forms_in form before w))) e
 
   -- outside a batch; no line but the first may name the version
   pub form_outside : (o : Option LineForm) → section before ≡ Outside →
       matches words VersionLine ≡ false → find (matches words) (forms_outside ++ schedule_forms form) ≡ o →
-      form_of form before words ≡ where_built before o
+      form_of form before words ≡ where_built o
   form_outside o e unnamed h =
-      form_in Outside e ∙ ap (where_built before) (by_lines before ∙ h)
+      form_in Outside e ∙ ap where_built (by_lines before ∙ h)
     where
       by_lines : (ls : List Line) → find (matches words) (first_forms ls ++ forms_outside ++ schedule_forms form)
           ≡ find (matches words) (forms_outside ++ schedule_forms form)
@@ -110,12 +110,12 @@ module _ (form : Form) (before : List Line) (words : List (List ℕ)) where
 
   -- in a batch of version 1
   pub form_inside : (o : Option LineForm) → section before ≡ InBatch → version_of before ≡ 1 →
-      find (matches words) forms_in_batch ≡ o → form_of form before words ≡ where_built before o
+      find (matches words) forms_in_batch ≡ o → form_of form before words ≡ where_built o
   form_inside o e version h =
       form_in InBatch e
-      ∙ (ap (λ (v : ℕ). where_built before (find (matches words) (held_forms v ++ forms_in_batch)))
+      ∙ (ap (λ (v : ℕ). where_built (find (matches words) (held_forms v ++ forms_in_batch)))
       version
-      ∙ ap (where_built before) h)
+      ∙ ap where_built h)
 
 -- The open batch
 

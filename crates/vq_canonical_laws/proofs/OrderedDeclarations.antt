@@ -87,7 +87,6 @@ queues_as_well bs cs ss ts name more start (q ∷ qs) end apart l =
             (more q.name start (is_fresh bs ss start q.name m.fresh)
             (same_names name q.name one.0));
         few = m.few;
-        built = m.built;
       },
       queues_as_well bs cs ss ts name more (start ++ a_queue q.name q.mode ∷ []) qs end one.1 l.1,
     )

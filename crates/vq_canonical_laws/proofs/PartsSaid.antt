@@ -12,13 +12,13 @@ use Rattle.vq_model.specs.declared.script.Queue.{Queue}
 use Rattle.vq_model.specs.declared.script.Semaphore.{Semaphore}
 use Rattle.vq_model.specs.declared.script.Turn.{Turn}
 use Rattle.vq_model.specs.declared.script.Job.{Job}
-use Rattle.vq_model.specs.Context.{section, has_begun, open_batch, last_queue, is_submit, is_host_step, is_command, some}
+use Rattle.vq_model.specs.Context.{section, has_begun, open_batch, is_submit, is_host_step, is_command, some}
 use Rattle.vq_model.specs.ScriptOfLines.{batch_lines, jobs_of, is_schedule}
 use Rattle.vq_model.specs.Reading.{with_line}
 use Rattle.vq_model.specs.Limits.{is_job}
 use Rattle.vq_model.specs.LineFaults.{part_of}
 use Rattle.vq_model.specs.SameScript.{buffer_without_line, semaphore_without_line, queue_without_line, job_without_lines}
-use Rattle.vq_reading_laws.proofs.Cited.{a_line, count_push, section_push, last_queue_push, some_push, open_push, batch_lines_cons}
+use Rattle.vq_reading_laws.proofs.Cited.{a_line, count_push, section_push, some_push, open_push, batch_lines_cons}
 use Rattle.vq_canonical_laws.proofs.ScriptParts.{ToldJob, Told, parts, a_job, a_batch, ToldStep, ToldBatch, commands_told, commands_of, statements_in, continued, Say, has_jobs, no_parts, Parts, a_buffer, a_semaphore, a_queue, with_item, with_batch, after, after_item, May, MayItem}
 use Rattle.vq_canonical_laws.proofs.StatementPushes.{version_push, buffers_push, semaphores_push, queues_push, turns_push, jobs_push}
 use Rattle.vq_canonical_laws.proofs.SilentStatements.{or_false, or_true, or_nothing, or_same, one_of, IsSilent, wait_silent, command_silent, signal_silent, fence_silent, declared}
@@ -69,7 +69,6 @@ module _ (before : List Line) (n : ℕ) (bs : List Buffer) (ss : List Semaphore)
         opened = ap (λ (ls : List Line). statements_in ls) (open_push before n s ∙ closed)
             ∙ (map-append (λ (l : Line). l.statement) (open_batch before) (a_line n s ∷ [])
             ∙ ap (λ (us : List Statement). us ++ s ∷ []) h.opened);
-        open_queue = last_queue_push before n s ∙ (quiet.queue_stays (last_queue before) ∙ h.open_queue);
         job_count = omega arith;
         command_count = omega arith;
         jobs_are = λ more. jobs_push before n s more
@@ -117,7 +116,6 @@ module _ (before : List Line) (n : ℕ) (bs : List Buffer) (ss : List Semaphore)
         begun = some_push before n (BeginBatch q) (λ t. is_submit t || is_host_step t)
             ∙ (or_true (has_begun before) ∙ sym (has_some jobs));
         opened = ap (λ (ls : List Line). statements_in ls) (open_push before n (BeginBatch q));
-        open_queue = last_queue_push before n (BeginBatch q);
         job_count = omega arith;
         command_count = omega arith;
         jobs_are = λ more. jobs_push before n (BeginBatch q) more
@@ -154,7 +152,6 @@ module _ (before : List Line) (n : ℕ) (bs : List Buffer) (ss : List Semaphore)
             ∙ (or_nothing (has_begun before) ∙ (h.begun ∙ same_begun jobs));
         opened = subst (λ (ls : List Line). some (λ s. nat_lt 0 (part_of s)) ls ≡ false)
             (sym (open_push before n EndBatch)) refl;
-        open_queue = tt;
         job_count = omega arith;
         command_count = omega arith;
         jobs_are = λ more. jobs_push before n EndBatch more
@@ -211,7 +208,6 @@ module _ (before : List Line) (n : ℕ) (bs : List Buffer) (ss : List Semaphore)
             (some_push (open_batch before) n s (λ t. nat_lt 0 (part_of t))
             ∙ or_false (some (λ t. nat_lt 0 (part_of t)) (open_batch before))
             (nat_lt 0 (part_of s)) h.opened refl);
-        open_queue = tt;
         job_count = omega arith;
         command_count = omega arith;
         jobs_are = λ more. jobs_push before n s more
@@ -241,7 +237,6 @@ say_nothing =
       queues_are = refl;
       begun = refl;
       opened = refl;
-      open_queue = tt;
       job_count = refl;
       command_count = refl;
       jobs_are = λ more. refl;
@@ -283,7 +278,6 @@ module _ (before : List Line) (n : ℕ) (p : Parts) (h : Say before p) where
       (declared before n (DeclareBuffer name size)
       (record {
         stays = λ w. refl;
-        queue_stays = λ q. refl;
         version = refl;
         begins_none = refl;
         bounds_none = refl;
@@ -301,7 +295,6 @@ module _ (before : List Line) (n : ℕ) (p : Parts) (h : Say before p) where
       (declared before n (DeclareSemaphore name kind)
       (record {
         stays = λ w. refl;
-        queue_stays = λ q. refl;
         version = refl;
         begins_none = refl;
         bounds_none = refl;
@@ -320,7 +313,6 @@ module _ (before : List Line) (n : ℕ) (p : Parts) (h : Say before p) where
       (declared before n (DeclareQueue name mode)
       (record {
         stays = λ w. refl;
-        queue_stays = λ q. refl;
         version = refl;
         begins_none = refl;
         bounds_none = refl;

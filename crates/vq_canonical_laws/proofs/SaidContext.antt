@@ -1,19 +1,17 @@
 -- What the lines before a line are as context, in the words of the parts that they say.
-use Rattle.std.proofs.Common.{◌≡◌, Bool, ◌||◌, List, [], ◌∷◌, map, refl, ◌+◌, cond, not, Some, None, ℕ, ap, sym, ◌∙◌, false, ◌&&◌, length, Option, subst}
+use Rattle.std.proofs.Common.{◌≡◌, Bool, ◌||◌, List, [], ◌∷◌, map, refl, ◌+◌, cond, not, Some, None, ℕ, ap, sym, ◌∙◌, ◌&&◌, length, Option, subst}
 use Rattle.std.specs.List.{list_any, position_or_len, position}
 use Rattle.std.specs.Prelude.{nat_lt, count_by}
 use Rattle.std.proofs.lemmas.List.{length-map}
 use Rattle.vq_model.specs.declared.script.Buffer.{Buffer}
 use Rattle.vq_model.specs.SameScript.{buffer_without_line, semaphore_without_line, queue_without_line}
-use Rattle.vq_canonical_laws.proofs.ScriptParts.{sizes_in, statements_in, Told, Parts, Say, is_named, is_immediate_in, size_in, is_within_in, is_command_in, OpenLines, OpenQueue}
+use Rattle.vq_canonical_laws.proofs.ScriptParts.{sizes_in, statements_in, Told, Parts, Say, is_named, size_in, is_within_in, is_command_in, OpenLines}
 use Rattle.vq_model.specs.declared.statement.Statement.{Statement}
 use Rattle.vq_model.specs.declared.statement.Line.{Line}
-use Rattle.vq_model.specs.Context.{some, count, buffers, semaphores, queues, buffer_at, timeline_at, binary_at, fence_at, queue_at, is_declared, is_timeline, is_binary, is_fence, is_immediate, is_immediate_at, is_batch_immediate, last_queue, size_of, open_batch}
+use Rattle.vq_model.specs.Context.{some, count, buffers, semaphores, queues, buffer_at, timeline_at, binary_at, fence_at, queue_at, is_declared, is_timeline, is_binary, is_fence, size_of, open_batch}
 use Rattle.std.proofs.lemmas.List.Sums.{sum_by-cons}
-use Rattle.std.specs.Option.{option_map_or}
 use Rattle.std.specs.Str.{bytes_eq}
 use Rattle.vq_model.specs.declared.statement.Statement.TheVariants.{AddCommand}
-use Rattle.vq_model.specs.declared.script.Queue.{Queue}
 use Rattle.vq_model.specs.declared.script.Command.{Command}
 use Rattle.vq_model.specs.declared.script.Command.TheVariants.{Fill, Update, Copy}
 use Rattle.vq_model.specs.declared.script.FillSize.TheVariants.{Whole, Count}
@@ -171,12 +169,3 @@ module _ (before : List Line) (p : Parts) (h : Say before p) where
     pub count_said : (test : Statement → Bool) → count test (open_batch before)
         ≡ count_by test told.1
     count_said test = count_statements test (open_batch before) ∙ ap (count_by test) told_said
-
-    -- whether its queue is immediate
-    pub immediate_said : is_batch_immediate before ≡ is_immediate_in p.queues told.0
-    immediate_said =
-        ap (λ (q : Option ℕ). option_map_or (is_immediate_at before) q false)
-        (subst (λ (b : Option Told). OpenQueue b (last_queue before)) inside h.open_queue)
-        ∙ (sym (item_same (λ x. is_immediate x.mode) queue_without_line false (λ x. refl)
-        (queues before) told.0)
-        ∙ ap (λ (qs : List Queue). is_immediate_in qs told.0) h.queues_are)

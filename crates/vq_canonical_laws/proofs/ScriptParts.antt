@@ -5,7 +5,7 @@ use Rattle.vq_model.specs.declared.statement.Statement.{Statement}
 use Rattle.vq_model.specs.declared.script.Buffer.{Buffer}
 use Rattle.vq_model.specs.declared.script.Semaphore.{Semaphore}
 use Rattle.vq_model.specs.declared.script.Queue.{Queue}
-use Rattle.vq_model.specs.Context.{buffers, semaphores, queues, is_immediate, is_timeline, is_fence, is_command, is_wait, is_signal, is_batch_fence, some, section, version_of, has_begun, open_batch, last_queue, count}
+use Rattle.vq_model.specs.Context.{buffers, semaphores, queues, is_timeline, is_fence, is_command, is_wait, is_signal, is_batch_fence, some, section, version_of, has_begun, open_batch, count}
 use Rattle.vq_model.specs.declared.script.SemaphoreKind.{SemaphoreKind}
 use Rattle.vq_model.specs.declared.script.Mode.{Mode}
 use Rattle.vq_model.specs.declared.statement.Statement.TheVariants.{AddWait, AddCommand, AddSignal, AddFence, DeclareBuffer, DeclareSemaphore, DeclareQueue, BeginBatch, EndBatch, TakeHostStep}
@@ -27,7 +27,6 @@ use Rattle.vq_model.specs.declared.script.FillSize.TheVariants.{Whole, Count}
 use Rattle.vq_model.specs.Ranges.{is_aligned, overlaps_itself}
 use Rattle.vq_canonical_laws.proofs.WrittenNumbers.{AllBytes}
 use Rattle.vq_model.specs.declared.script.SemaphoreKind.TheVariants.{Timeline, Binary, Fence}
-use Rattle.vq_model.specs.declared.script.Mode.TheVariants.{Immediate, Deferred, Threaded}
 use Rattle.vq_model.specs.Text.{is_name}
 use Rattle.vq_model.specs.declared.script.Pair.{Pair}
 use Rattle.vq_model.specs.LineFaults.{part_of}
@@ -184,10 +183,6 @@ is_command_in bs (Update b o bytes) =
     && not (nat_lt 65536 (length bytes))
 is_command_in bs (Copy s from t to n) = is_within_in bs s from n && is_within_in bs t to n
 
--- whether a queue is immediate
-abbrev pub is_immediate_in : List Queue → ℕ → Bool
-is_immediate_in qs q = option_map_or (λ x. is_immediate x.mode) (slice_get qs q) false
-
 -- the place from which a wait holds back
 abbrev pub place_of : Statement → ℕ
 place_of (AddWait pair from) = from
@@ -213,12 +208,6 @@ abbrev pub HasValue : SemaphoreKind → Type 0
 HasValue (Timeline value) = value < 2 ^ 64
 HasValue other = Unit {0}
 
--- a mode that is built
-abbrev pub IsBuiltMode : Mode → Type 0
-IsBuiltMode Immediate = Unit {0}
-IsBuiltMode Threaded = Unit {0}
-IsBuiltMode Deferred = ⊥
-
 pub record MayBuffer (p : Parts) (name : List ℕ) (size : ℕ) : Type 0 where
   pub outside : p.batch ≡ None
   pub first : p.jobs ≡ []
@@ -242,7 +231,6 @@ pub record MayQueue (p : Parts) (name : List ℕ) (mode : Mode) : Type 0 where
   pub named : is_name name ≡ true
   pub fresh : is_named p.buffers p.semaphores p.queues name ≡ false
   pub few : length p.queues < 8
-  pub built : IsBuiltMode mode
 
 pub record MayBegin (p : Parts) (q : ℕ) : Type 0 where
   pub outside : p.batch ≡ None
@@ -300,7 +288,6 @@ pub record IsMarked (ss : List Semaphore) (pair : Pair) : Type 0 where
 pub record WaitFits (p : Parts) (t : Told) (pair : Pair) (from : ℕ) : Type 0 where
   pub known : IsMarked p.semaphores pair
   pub at_once : from ≡ 1
-  pub later : is_immediate_in p.queues t.0 ≡ false
   pub few : count_by is_wait t.1 < 16
 
 pub record CommandFits (p : Parts) (t : Told) (command : Command) : Type 0 where
@@ -387,11 +374,6 @@ abbrev pub OpenLines : Option Told → List Line → Type 0
 OpenLines None lines = some (λ s. nat_lt 0 (part_of s)) lines ≡ false
 OpenLines (Some t) lines = statements_in lines ≡ t.1
 
--- the queue of the open batch
-abbrev pub OpenQueue : Option Told → Option ℕ → Type 0
-OpenQueue None queue = Unit {0}
-OpenQueue (Some t) queue = queue ≡ Some t.0
-
 -- the jobs that further lines add: the open batch goes on with them
 abbrev pub continued : Option Told → List Line → List Job
 continued None more = map job_without_lines (jobs_of more)
@@ -407,7 +389,6 @@ pub record Say (before : List Line) (p : Parts) : Type 0 where
   pub queues_are : map queue_without_line (queues before) ≡ p.queues
   pub begun : has_begun before ≡ has_jobs p.jobs p.batch
   pub opened : OpenLines p.batch (open_batch before)
-  pub open_queue : OpenQueue p.batch (last_queue before)
   pub job_count : count is_job before ≡ count_jobs p.jobs p.batch
   pub command_count : count is_command before ≡ count_commands p.jobs p.batch
   pub jobs_are : (more : List Line) → map job_without_lines (jobs_of (before ++ more))

@@ -1,9 +1,9 @@
 -- Statements that begin and end no batch.
-use Rattle.std.proofs.Common.{◌≡◌, Bool, true, false, ◌||◌, refl, ℕ, cond, List, [], ◌∷◌, Option, ◌++◌, map, None, sym, ap, ◌∙◌, subst, arith}
+use Rattle.std.proofs.Common.{◌≡◌, Bool, true, false, ◌||◌, refl, ℕ, cond, List, [], ◌∷◌, ◌++◌, map, None, sym, ap, ◌∙◌, subst, arith}
 use Rattle.vq_model.specs.declared.statement.Section.{Section}
 use Rattle.vq_model.specs.declared.statement.Statement.{Statement}
 use Rattle.vq_model.specs.declared.statement.Line.{Line}
-use Rattle.vq_model.specs.Context.{section_after, version_of, queue_after, is_submit, is_end, is_host_step, buffer_of, semaphore_of, queue_of, section, has_begun, open_batch, is_command, some}
+use Rattle.vq_model.specs.Context.{section_after, version_of, is_submit, is_end, is_host_step, buffer_of, semaphore_of, queue_of, section, has_begun, open_batch, is_command, some}
 use Rattle.vq_model.specs.ScriptOfLines.{jobs_of, is_schedule, turns_at}
 use Rattle.vq_model.specs.Limits.{is_job}
 use Rattle.vq_reading_laws.proofs.Cited.{a_line, count_push, section_push, some_push, open_push}
@@ -52,7 +52,6 @@ one_of false h = refl
 -- A statement begins and ends nothing.
 pub record IsQuiet (n : ℕ) (s : Statement) : Type 0 where
   pub stays : (w : Section) → section_after w s ≡ w
-  pub queue_stays : (q : Option ℕ) → queue_after q s ≡ q
   pub version : version_of (a_line n s ∷ []) ≡ 1
   pub begins_none : (is_submit s || is_host_step s) ≡ false
   pub bounds_none : (is_submit s || is_end s) ≡ false
@@ -75,7 +74,6 @@ wait_silent n pair from =
     record {
       quiet = record {
         stays = λ w. refl;
-        queue_stays = λ q. refl;
         version = refl;
         begins_none = refl;
         bounds_none = refl;
@@ -95,7 +93,6 @@ command_silent n c =
     record {
       quiet = record {
         stays = λ w. refl;
-        queue_stays = λ q. refl;
         version = refl;
         begins_none = refl;
         bounds_none = refl;
@@ -115,7 +112,6 @@ signal_silent n pair =
     record {
       quiet = record {
         stays = λ w. refl;
-        queue_stays = λ q. refl;
         version = refl;
         begins_none = refl;
         bounds_none = refl;
@@ -135,7 +131,6 @@ fence_silent n f =
     record {
       quiet = record {
         stays = λ w. refl;
-        queue_stays = λ q. refl;
         version = refl;
         begins_none = refl;
         bounds_none = refl;
@@ -181,7 +176,6 @@ module _ (before : List Line) (n : ℕ) (s : Statement) (quiet : IsQuiet n s)
             (some_push (open_batch before) n s (λ t. nat_lt 0 (part_of t))
             ∙ or_false (some (λ t. nat_lt 0 (part_of t)) (open_batch before))
             (nat_lt 0 (part_of s)) h.opened no_part);
-        open_queue = tt;
         job_count = omega arith;
         command_count = omega arith;
         jobs_are = λ more. jobs_push before n s more

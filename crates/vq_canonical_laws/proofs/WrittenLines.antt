@@ -33,7 +33,10 @@ module _ (form : Form) (before : List Line) (p : Parts) (h : Say before p) (name
       queue_reads form before p h named name Threaded m refl
       (form_outside form before (codes "queue" ∷ name ∷ codes "threaded" ∷ [])
       (Some (QueueLine Threaded)) (is_first before p h m.outside m.first).part refl refl)
-  line_reads (DeclareQueue name Deferred) m = absurd m.built
+  line_reads (DeclareQueue name Deferred) m =
+      queue_reads form before p h named name Deferred m refl
+      (form_outside form before (codes "queue" ∷ name ∷ codes "deferred" ∷ [])
+      (Some (QueueLine Deferred)) (is_first before p h m.outside m.first).part refl refl)
   line_reads (BeginBatch q) m =
       subst (λ (z : Option Queue). ReadsAs form before
       (codes "submit" ∷ option_map_or (λ x. x.name) z [] ∷ []) (BeginBatch q)) (sym m.there)
