@@ -48,18 +48,18 @@ unplain_fault : (form : Form) (before : List Line) (words : List (List ℕ)) →
 unplain_fault form before words h = ap (λ b. fault_with before words b (form_of form before words)) h
 
 -- words of a form have the faults that the form and its places have
-found_fault : (before : List Line) (words : List (List ℕ)) (f : LineForm) → fault_with before words true (where_built before (Some f)) ≡ first_fault before (with_words words f)
-found_fault before words f = by_built (is_built before f) refl
+found_fault : (before : List Line) (words : List (List ℕ)) (f : LineForm) → fault_with before words true (where_built (Some f)) ≡ first_fault before (with_words words f)
+found_fault before words f = by_built (is_built f) refl
   where
-    by_built : (b : Bool) → is_built before f ≡ b → fault_with before words true (where_built before (Some f)) ≡ first_fault before (with_words words f)
+    by_built : (b : Bool) → is_built f ≡ b → fault_with before words true (where_built (Some f)) ≡ first_fault before (with_words words f)
     by_built true e = rw e refl
     by_built false e = rw e refl
 
 -- .. and say what these say, where they have none
-found_meaning : (before : List Line) (words : List (List ℕ)) (f : LineForm) → first_fault before (with_words words f) ≡ None → meaning_with before words (where_built before (Some f)) ≡ statement_at before (with_words words f)
-found_meaning before words f h = by_built (is_built before f) refl
+found_meaning : (before : List Line) (words : List (List ℕ)) (f : LineForm) → first_fault before (with_words words f) ≡ None → meaning_with before words (where_built (Some f)) ≡ statement_at before (with_words words f)
+found_meaning before words f h = by_built (is_built f) refl
   where
-    by_built : (b : Bool) → is_built before f ≡ b → meaning_with before words (where_built before (Some f)) ≡ statement_at before (with_words words f)
+    by_built : (b : Bool) → is_built f ≡ b → meaning_with before words (where_built (Some f)) ≡ statement_at before (with_words words f)
     by_built true e = rw e refl
     by_built false e = absurd (cc (rw e at h))
 
@@ -72,20 +72,20 @@ reads_unplain form lines n (word ∷ words) some h =
 -- words of no form
 pub reads_none : (form : Form) (lines : List Line) (n : ℕ) (words : List (List ℕ))
     (forms : List LineForm) → 0 < length words → list_all (list_all is_plain) words ≡ true →
-    form_of form lines words ≡ where_built lines (find (matches words) forms) →
+    form_of form lines words ≡ where_built (find (matches words) forms) →
     find (matches words) forms ≡ None → read_statement form lines n words ≡ Err Syntax
 reads_none form lines n [] forms some plain is none = absurd (omega arith)
 reads_none form lines n (word ∷ words) forms some plain is none =
     let ws = word ∷ words in
     let fault : fault_of form lines ws ≡ Some Syntax =
-    λ i. fault_with lines ws (plain i) ((is ∙ ap (where_built lines) none) i) in
+    λ i. fault_with lines ws (plain i) ((is ∙ ap where_built none) i) in
     λ i. without_fault (fault i) (option_map_or (with_line lines n) (meaning form lines ws) lines)
 
 -- a line that takes words of a form reads them
 pub reads_form : (form : Form) (lines : List Line) (n : ℕ) (words : List (List ℕ))
     (forms : List LineForm) (f : LineForm) (result : Result (Unit {0}) ScriptFault) (known : Known) →
     0 < length words → list_all (list_all is_plain) words ≡ true →
-    form_of form lines words ≡ where_built lines (find (matches words) forms) →
+    form_of form lines words ≡ where_built (find (matches words) forms) →
     find (matches words) forms ≡ Some f →
     Takes lines n (with_words words f) result known →
     Reads form lines n words result known
@@ -96,8 +96,8 @@ reads_form form lines n (word ∷ words) forms f result known some plain is foun
     ws : List (List ℕ)
     ws = word ∷ words
 
-    here : form_of form lines ws ≡ where_built lines (Some f)
-    here = is ∙ ap (where_built lines) found
+    here : form_of form lines ws ≡ where_built (Some f)
+    here = is ∙ ap where_built found
 
     faults : fault_of form lines ws ≡ first_fault lines (with_words ws f)
     faults = (λ i. fault_with lines ws (plain i) (here i)) ∙ found_fault lines ws f

@@ -15,7 +15,7 @@ use Rattle.vq_model.specs.declared.statement.Section.TheVariants.{Outside, InBat
 use Rattle.vq_model.specs.Context.{section, version_of}
 use Rattle.vq_model.specs.Forms.{Slot, Fixed, Pairs, TimelineName, Numeral, places, forms_outside, forms_in_batch, forms_in_schedule, held_forms, schedule_forms}
 use Rattle.vq_model.specs.LineFaults.{part_of_form}
-use Rattle.vq_model.specs.Meaning.{matches, where_built, form_of, are_as_many, agree, open_places, pair_places}
+use Rattle.vq_model.specs.Meaning.{is_built, matches, where_built, form_of, are_as_many, agree, open_places, pair_places}
 use Rattle.vq_reading_laws.proofs.Cited.{found_belongs, found_passes}
 use Rattle.vq_script.specs.Holds.{Holds, Kept, section_of}
 use Rattle.vq_script.specs.SaidLines.{AreFound, Stands, end_with_pairs, is_turn_form, open_kinds}
@@ -23,11 +23,11 @@ use Rattle.vq_script.specs.Table.{forms_of}
 
 -- what is found of the forms before and with a line that begins a schedule, where words match or not
 abbrev built_of : Form → List (List ℕ) → Option LineForm
-built_of form words = where_built [] (find (matches words) (forms_outside ++ schedule_forms form))
+built_of form words = where_built (find (matches words) (forms_outside ++ schedule_forms form))
 
 abbrev built_after : Form → List (List ℕ) → Bool → Option LineForm
 built_after form words b =
-    where_built [] (cond b (Some VersionLine) (find (matches words) (forms_outside ++ schedule_forms form)))
+    where_built (cond b (Some VersionLine) (find (matches words) (forms_outside ++ schedule_forms form)))
 
 -- `version 2` has no other form
 version_alone : (form : Form) (words : List (List ℕ)) →
@@ -56,24 +56,24 @@ version_alone form (a ∷ b ∷ []) = by_test (bytes_eq a (codes "version")) ref
 -- the form of a line outside a batch
 pub form_outside_is : (form : Form) (before : List Line) (words : List (List ℕ)) →
     section before ≡ Outside → form_of form before words
-    ≡ where_built before (find (matches words) (forms_outside ++ schedule_forms form))
+    ≡ where_built (find (matches words) (forms_outside ++ schedule_forms form))
 form_outside_is form [] words h = version_alone form words
 form_outside_is form (l ∷ before) words h = rw h refl
 
 -- the form of a line in a batch
-pub form_in_batch_is : (form : Form) (before : List Line) (words : List (List ℕ)) → section before ≡ InBatch → version_of before ≡ 1 → form_of form before words ≡ where_built before (find (matches words) forms_in_batch)
-form_in_batch_is form before words h v = rw h (ap (λ n. where_built before (find (matches words) (held_forms n ++ forms_in_batch))) v)
+pub form_in_batch_is : (form : Form) (before : List Line) (words : List (List ℕ)) → section before ≡ InBatch → version_of before ≡ 1 → form_of form before words ≡ where_built (find (matches words) forms_in_batch)
+form_in_batch_is form before words h v = rw h (ap (λ n. where_built (find (matches words) (held_forms n ++ forms_in_batch))) v)
 
 -- the form of a line's words
 pub form_is : (form : Form) (lines : List Line) (words : List (List ℕ)) (k : Kept)
     (batch : Option Batch) → Holds lines k batch →
     form_of form lines words
-    ≡ where_built lines (find (matches words) (forms_of form (section_of k.scheduled batch)))
+    ≡ where_built (find (matches words) (forms_of form (section_of k.scheduled batch)))
 form_is form lines words k None h = by_flag k.scheduled h.part
   where
     by_flag : (b : Bool) → section lines ≡ section_of b None →
         form_of form lines words
-        ≡ where_built lines (find (matches words) (forms_of form (section_of b None)))
+        ≡ where_built (find (matches words) (forms_of form (section_of b None)))
     by_flag false e = form_outside_is form lines words e
     by_flag true e = rw e refl
 form_is form lines words k (Some b) h = form_in_batch_is form lines words h.part h.declares.version
@@ -93,6 +93,10 @@ no_turns : (form : Form) →
 no_turns Plain = refl
 no_turns Scheduled = refl
 
+all_built : (form : Form) → list_all is_built (forms_outside ++ schedule_forms form) ≡ true
+all_built Plain = refl
+all_built Scheduled = refl
+
 -- the form that is found stands there
 pub form_stands : (form : Form) (words : List (List ℕ)) (scheduled : Bool) (batch : Option Batch)
     (f : LineForm) →
@@ -105,18 +109,21 @@ form_stands form words false None f e =
           forms f (none_inside form) e);
       turns = not_true _ (found_belongs (matches words) (λ g. not (is_turn_form g)) forms f
           (no_turns form) e);
+      built = found_belongs (matches words) is_built forms f (all_built form) e;
     }
 form_stands form words true None f e =
     record {
       inside = not_true _ (found_belongs (matches words) (λ g. not (nat_lt 0 (part_of_form g)))
           forms_in_schedule f refl e);
       turns = found_belongs (matches words) is_turn_form forms_in_schedule f refl e;
+      built = found_belongs (matches words) is_built forms_in_schedule f refl e;
     }
 form_stands form words scheduled (Some b) f e =
     record {
       inside = found_belongs (matches words) (λ g. nat_lt 0 (part_of_form g)) forms_in_batch f refl e;
       turns = not_true _ (found_belongs (matches words) (λ g. not (is_turn_form g)) forms_in_batch f
           refl e);
+      built = found_belongs (matches words) is_built forms_in_batch f refl e;
     }
 
 -- words that match stand at the open places

@@ -1,6 +1,6 @@
 -- What the parser keeps tells the tests of a line, and what a line without a fault says may be kept.
 use Rattle.std.proofs.Common.{◌≡◌, ℕ, ◌+◌, Bool, true, false, cond, not, ◌||◌, ◌&&◌, ◌==◌, List, [], ◌∷◌, length, map, Option, Some, None, is_some, refl, sym, ap, subst, ◌∙◌, nat_lt, arith}
-use Rattle.std.specs.List.{list_all, list_any, count_by, slice_get}
+use Rattle.std.specs.List.{list_all, list_any, count_by}
 use Rattle.std.specs.Option.{option_map, option_map_or, option_or}
 use Rattle.std.specs.Str.{bytes_eq}
 use Rattle.std.proofs.lemmas.Bool.{and_parts, or_parts, ltb-false, false≢true}
@@ -15,7 +15,6 @@ use Rattle.vq_model.specs.declared.script.Semaphore.{Semaphore}
 use Rattle.vq_model.specs.declared.script.Command.{Command}
 use Rattle.vq_model.specs.declared.script.Command.TheVariants.{Fill as FillCommand, Update as UpdateCommand, Copy as CopyCommand}
 use Rattle.vq_model.specs.declared.script.FillSize.TheVariants.{Whole, Count}
-use Rattle.vq_model.specs.declared.script.Mode.TheVariants.{Immediate, Deferred, Threaded}
 use Rattle.vq_model.specs.declared.statement.FaultKind.{FaultKind}
 use Rattle.vq_model.specs.declared.statement.FaultKind.TheVariants.{Syntax, Order, Number, Name, Twice, Range, Overlap, Limit}
 use Rattle.vq_model.specs.declared.statement.Line.{Line}
@@ -25,7 +24,7 @@ use Rattle.vq_model.specs.declared.statement.Statement.{Statement}
 use Rattle.vq_model.specs.declared.statement.Statement.TheVariants.{TakeTurns, TakeHostStep}
 use Rattle.vq_model.specs.declared.script.HostStep.TheVariants.{WaitAll, WaitAny, PollAll, PollAny}
 use Rattle.vq_model.specs.declared.script.ActorName.{ActorName}
-use Rattle.vq_model.specs.Context.{has_begun, is_batch_immediate, is_immediate, is_immediate_at, count, open_batch, is_command}
+use Rattle.vq_model.specs.Context.{has_begun, count, open_batch, is_command}
 use Rattle.vq_model.specs.Forms.{Slot, HexDigits, Numeral, NewName, BufferName, TimelineName, BinaryName, FenceName, QueueName, Actor, places}
 use Rattle.vq_model.specs.LineFaults.{is_shaped, is_numeric, is_known, is_new, is_declaration, part_of_form, is_batch_fence_form, is_out_of_order, is_command_in_range, is_in_range, overlaps}
 use Rattle.vq_model.specs.Limits.{passes_limit, limits_of, pairs_of, is_job}
@@ -36,31 +35,9 @@ use Rattle.vq_script.specs.declared.said.Said.{Said}
 use Rattle.vq_script.specs.declared.said.Said.TheVariants.{Buffer as SaysBuffer, Semaphore as SaysSemaphore, Queue as SaysQueue, Submit, Wait, FillWhole, Fill, Update, Copy, Signal, Fence, End, Host, Schedule, Turns}
 use Rattle.vq_script.specs.Faults.{first_fault, statement_at}
 use Rattle.vq_script.specs.Holds.{Holds, Declares, Kept, last_part, named_fence, open_jobs}
-use Rattle.vq_script.specs.LineTests.{number_of, threaded_of, actor_in, is_built_in, is_immediate_in, is_late, is_known_in, is_new_in, word_fault, is_command_in, is_in_range_in, passes_in, said_fault, later_fault}
+use Rattle.vq_script.specs.LineTests.{number_of, threaded_of, actor_in, is_late, is_known_in, is_new_in, word_fault, is_command_in, is_in_range_in, passes_in, said_fault, later_fault}
 use Rattle.vq_script.specs.SaidLines.{AreFound, Stands, Suits, MayKeep, MayCommand, IsNewName, end_with_pairs, open_kinds, statement_in, part_in, copied, new_name, is_batch_line, is_schedule_line, is_host_line, named_in, placed, are_one_each, IsWhollyRead}
 use Rattle.vq_script.specs.SaidSteps.{pair_in, pairs_in, step_in}
-
--- Syntax
-
--- the queue of the open batch is immediate
-immediate_by : (lines : List Line) (k : Kept) (batch : Option Batch) → Holds lines k batch →
-    true ≡ is_some batch → is_batch_immediate lines ≡ is_immediate_in k batch
-immediate_by lines k None h s = absurd (cc)
-immediate_by lines k (Some b) h s =
-    ap (λ (q : Option ℕ). option_map_or (is_immediate_at lines) q false) h.of_queue
-    ∙ ap (λ (qs : List Queue). option_map_or (λ q. is_immediate q.mode) (slice_get qs b.queue) false)
-    h.declares.all_queues
-
--- the form is built
-built_by : (lines : List Line) (k : Kept) (batch : Option Batch) (form : LineForm) →
-    Holds lines k batch → nat_lt 0 (part_of_form form) ≡ is_some batch →
-    is_built lines form ≡ is_built_in k batch form
-built_by lines k batch WaitTimelineLine h s = ap not (immediate_by lines k batch h s)
-built_by lines k batch WaitBinaryLine h s = ap not (immediate_by lines k batch h s)
-built_by lines k batch (QueueLine Immediate) h s = refl
-built_by lines k batch (QueueLine Deferred) h s = refl
-built_by lines k batch (QueueLine Threaded) h s = refl
-built_by lines k batch other h s = refl
 
 -- Order
 
@@ -149,17 +126,20 @@ module _ (lines : List Line) (k : Kept) (batch : Option Batch) (h : Holds lines 
       (cond (not known) (Some Name) (later_fault lines k words said))
 
   -- the first kind of a line's faults
-  first_by : (form : LineForm) (words : List (Slot × List ℕ)) → Stands form k.scheduled batch →
-      AreFound form words →
+  first_by : (form : LineForm) (words : List (Slot × List ℕ)) → is_built form ≡ true →
       first_fault lines (form, words)
       ≡ option_or (word_fault k batch form words)
       (read_fault words (statement_at lines (form, words)) (list_all is_numeric words)
       (list_all (is_known_in k) words))
-  first_by form words stands are = by_built (is_built_in k batch form) refl
+  first_by form words built =
+      (λ i. cond (not (built i) || not (list_all is_shaped words)) (Some Syntax)
+      (cond (late_by lines k batch form h i) (Some Order)
+      (cond (not (list_all is_numeric words)) (Some Number)
+      (cond (not (known_by lines k words h.declares i)) (Some Name)
+      (cond (not (new_by lines k words h.declares i)) (Some Twice) statement_kinds)))))
+      ∙ words_first _ _ (read_fault words (statement_at lines (form, words))
+      (list_all is_numeric words) (list_all (is_known_in k) words))
     where
-      built : is_built lines form ≡ is_built_in k batch form
-      built = built_by lines k batch form h stands.inside
-
       statement_kinds : Option FaultKind
       statement_kinds =
           cond (option_map_or (λ s. not (is_in_range lines s)) (statement_at lines (form, words)) false) (Some Range)
@@ -167,29 +147,14 @@ module _ (lines : List Line) (k : Kept) (batch : Option Batch) (h : Holds lines 
           (cond (option_map_or (passes_limit (limits_of 1) lines) (statement_at lines (form, words)) false)
           (Some Limit) None))
 
-      by_built : (b : Bool) → is_built_in k batch form ≡ b →
-          first_fault lines (form, words)
-          ≡ option_or (word_fault k batch form words)
-          (read_fault words (statement_at lines (form, words)) (list_all is_numeric words)
-          (list_all (is_known_in k) words))
-      by_built true e =
-          (λ i. cond (not (built i) || not (list_all is_shaped words)) (Some Syntax)
-          (cond (late_by lines k batch form h i) (Some Order)
-          (cond (not (list_all is_numeric words)) (Some Number)
-          (cond (not (known_by lines k words h.declares i)) (Some Name)
-          (cond (not (new_by lines k words h.declares i)) (Some Twice) statement_kinds)))))
-          ∙ words_first _ _ (read_fault words (statement_at lines (form, words))
-          (list_all is_numeric words) (list_all (is_known_in k) words))
-      by_built false e = rw (built ∙ e, e) refl
-
   -- the same, by what the tests of words say
-  pub words_by : (form : LineForm) (words : List (Slot × List ℕ)) → Stands form k.scheduled batch →
-      AreFound form words → (o : Option FaultKind) → word_fault k batch form words ≡ o →
+  pub words_by : (form : LineForm) (words : List (Slot × List ℕ)) → is_built form ≡ true →
+      (o : Option FaultKind) → word_fault k batch form words ≡ o →
       first_fault lines (form, words)
       ≡ option_or o (read_fault words (statement_at lines (form, words)) (list_all is_numeric words)
       (list_all (is_known_in k) words))
-  words_by form words stands are o e =
-      first_by form words stands are
+  words_by form words built o e =
+      first_by form words built
       ∙ ap (λ (x : Option FaultKind). option_or x (read_fault words (statement_at lines (form, words))
       (list_all is_numeric words) (list_all (is_known_in k) words))) e
 
@@ -313,24 +278,21 @@ pub record Passes (k : Kept) (batch : Option Batch) (form : LineForm) (words : L
   pub shaped : list_all is_shaped words ≡ true
   pub in_order : nat_lt (part_of_form form) (last_part batch) ≡ false
   pub one_fence : (is_batch_fence_form form && is_some (named_fence batch)) ≡ false
-  pub built : is_built_in k batch form ≡ true
 
 pub passed : (k : Kept) (batch : Option Batch) (form : LineForm) (words : List (Slot × List ℕ)) →
     word_fault k batch form words ≡ None → Passes k batch form words
 passed k batch form words w =
-    let one = cond_none (not (is_built_in k batch form) || not (list_all is_shaped words)) Syntax _ w in
+    let one = cond_none (not (list_all is_shaped words)) Syntax _ w in
     let two = cond_none (is_late k batch form) Order _ one.1 in
-    let syntax = or_parts (not (is_built_in k batch form)) (not (list_all is_shaped words)) one.0 in
     let order =
     or_parts ((is_declaration form && (is_some batch || nat_lt 0 (length k.jobs)))
     || nat_lt (part_of_form form) (last_part batch))
     (is_batch_fence_form form && is_some (named_fence batch)) two.0 in
     record {
-      shaped = not_false _ syntax.1;
+      shaped = not_false _ one.0;
       in_order = (or_parts (is_declaration form && (is_some batch || nat_lt 0 (length k.jobs)))
           (nat_lt (part_of_form form) (last_part batch)) order.0).1;
       one_fence = order.1;
-      built = not_false _ syntax.0;
     }
 
 -- the tests that come after words are read, where they find no fault
@@ -421,18 +383,18 @@ module _ (k : Kept) (form : LineForm) (words : List (Slot × List ℕ)) (found :
 
 -- the forms that are built are declarations, commands, lines of the schedule, steps of the host and
 -- the other lines of batches
-pub batch_line_left : (k : Kept) (batch : Option Batch) (form : LineForm) →
-    is_built_in k batch form ≡ true → is_declaration form ≡ false →
+pub batch_line_left : (form : LineForm) →
+    is_built form ≡ true → is_declaration form ≡ false →
     (part_of_form form == 2) ≡ false → is_schedule_line form ≡ false → is_host_line form ≡ false →
     is_batch_line form ≡ true
-batch_line_left k batch SubmitLine b d p c h = refl
-batch_line_left k batch WaitTimelineLine b d p c h = refl
-batch_line_left k batch WaitBinaryLine b d p c h = refl
-batch_line_left k batch SignalTimelineLine b d p c h = refl
-batch_line_left k batch SignalBinaryLine b d p c h = refl
-batch_line_left k batch BatchFenceLine b d p c h = refl
-batch_line_left k batch EndLine b d p c h = refl
-batch_line_left k batch other b d p c h = absurd (cc)
+batch_line_left SubmitLine b d p c h = refl
+batch_line_left WaitTimelineLine b d p c h = refl
+batch_line_left WaitBinaryLine b d p c h = refl
+batch_line_left SignalTimelineLine b d p c h = refl
+batch_line_left SignalBinaryLine b d p c h = refl
+batch_line_left BatchFenceLine b d p c h = refl
+batch_line_left EndLine b d p c h = refl
+batch_line_left other b d p c h = absurd (cc)
 
 pair_said : (f : Pair → Statement) (a b : Option ℕ) →
     of_two (λ t v. f (record { semaphore = t; value = v })) a b
@@ -460,41 +422,41 @@ pairs_by lines k (name ∷ value ∷ words) d = λ i.
     of_two (λ p ps. p ∷ ps) (pair_by lines k name value d i) (pairs_by lines k words d i)
 
 -- what is said by what is kept is what is said after the lines
-named_by : (lines : List Line) (k : Kept) (batch : Option Batch) (form : LineForm)
-    (words : List (List ℕ)) → Declares lines k → is_built_in k batch form ≡ true →
+named_by : (lines : List Line) (k : Kept) (form : LineForm) (words : List (List ℕ)) →
+    Declares lines k → is_built form ≡ true →
     named_in k form words ≡ cond (are_digits form words) (statement_of lines form words) None
 unfolding number_of
-named_by lines k batch SubmitLine (queue ∷ []) d b = rw d.all_queues refl
-named_by lines k batch WaitTimelineLine (name ∷ value ∷ []) d b = rw d.all_semaphores (pair_said _ _ _)
-named_by lines k batch WaitBinaryLine (name ∷ []) d b = rw d.all_semaphores refl
-named_by lines k batch FillWholeLine (buffer ∷ offset ∷ word ∷ []) d b = rw d.all_buffers refl
-named_by lines k batch FillLine (buffer ∷ offset ∷ size ∷ word ∷ []) d b = rw d.all_buffers refl
-named_by lines k batch UpdateLine (buffer ∷ offset ∷ digits ∷ []) d b = rw d.all_buffers refl
-named_by lines k batch CopyLine (source ∷ from ∷ target ∷ to ∷ size ∷ []) d b = rw d.all_buffers refl
-named_by lines k batch SignalTimelineLine (name ∷ value ∷ []) d b = rw d.all_semaphores (pair_said _ _ _)
-named_by lines k batch SignalBinaryLine (name ∷ []) d b = rw d.all_semaphores refl
-named_by lines k batch BatchFenceLine (name ∷ []) d b = rw d.all_semaphores refl
-named_by lines k batch HostSignalLine (name ∷ value ∷ []) d b = rw d.all_semaphores refl
-named_by lines k batch HostWaitAllLine words d b =
+named_by lines k SubmitLine (queue ∷ []) d b = rw d.all_queues refl
+named_by lines k WaitTimelineLine (name ∷ value ∷ []) d b = rw d.all_semaphores (pair_said _ _ _)
+named_by lines k WaitBinaryLine (name ∷ []) d b = rw d.all_semaphores refl
+named_by lines k FillWholeLine (buffer ∷ offset ∷ word ∷ []) d b = rw d.all_buffers refl
+named_by lines k FillLine (buffer ∷ offset ∷ size ∷ word ∷ []) d b = rw d.all_buffers refl
+named_by lines k UpdateLine (buffer ∷ offset ∷ digits ∷ []) d b = rw d.all_buffers refl
+named_by lines k CopyLine (source ∷ from ∷ target ∷ to ∷ size ∷ []) d b = rw d.all_buffers refl
+named_by lines k SignalTimelineLine (name ∷ value ∷ []) d b = rw d.all_semaphores (pair_said _ _ _)
+named_by lines k SignalBinaryLine (name ∷ []) d b = rw d.all_semaphores refl
+named_by lines k BatchFenceLine (name ∷ []) d b = rw d.all_semaphores refl
+named_by lines k HostSignalLine (name ∷ value ∷ []) d b = rw d.all_semaphores refl
+named_by lines k HostWaitAllLine words d b =
     ap (option_map (λ ps. TakeHostStep (WaitAll ps))) (pairs_by lines k words d)
-named_by lines k batch HostWaitAnyLine words d b =
+named_by lines k HostWaitAnyLine words d b =
     ap (option_map (λ ps. TakeHostStep (WaitAny ps))) (pairs_by lines k words d)
-named_by lines k batch HostPollAllLine words d b =
+named_by lines k HostPollAllLine words d b =
     ap (option_map (λ ps. TakeHostStep (PollAll ps))) (pairs_by lines k words d)
-named_by lines k batch HostPollAnyLine words d b =
+named_by lines k HostPollAnyLine words d b =
     ap (option_map (λ ps. TakeHostStep (PollAny ps))) (pairs_by lines k words d)
-named_by lines k batch HostReadLine (name ∷ []) d b = rw d.all_semaphores refl
-named_by lines k batch HostFenceWaitLine (name ∷ []) d b = rw d.all_semaphores refl
-named_by lines k batch HostFencePollLine (name ∷ []) d b = rw d.all_semaphores refl
-named_by lines k batch HostFenceResetLine (name ∷ []) d b = rw d.all_semaphores refl
-named_by lines k batch TurnLine (actor ∷ []) d b =
+named_by lines k HostReadLine (name ∷ []) d b = rw d.all_semaphores refl
+named_by lines k HostFenceWaitLine (name ∷ []) d b = rw d.all_semaphores refl
+named_by lines k HostFencePollLine (name ∷ []) d b = rw d.all_semaphores refl
+named_by lines k HostFenceResetLine (name ∷ []) d b = rw d.all_semaphores refl
+named_by lines k TurnLine (actor ∷ []) d b =
     ap (λ (o : Option ActorName). option_map (λ a. TakeTurns a 1) o) (sym (actor_by lines k actor d))
-named_by lines k batch TurnsLine (actor ∷ count ∷ []) d b =
+named_by lines k TurnsLine (actor ∷ count ∷ []) d b =
     ap (λ (o : Option ActorName). of_two (λ a n. TakeTurns a n) o (numeral count))
     (sym (actor_by lines k actor d))
-named_by lines k batch BufferLine (name ∷ size ∷ []) d b = refl
-named_by lines k batch TimelineLine (name ∷ value ∷ []) d b = refl
-named_by lines k batch form words d b = cc
+named_by lines k BufferLine (name ∷ size ∷ []) d b = refl
+named_by lines k TimelineLine (name ∷ value ∷ []) d b = refl
+named_by lines k form words d b = cc
 
 -- Whether a line's words are read
 
@@ -617,58 +579,58 @@ pairs_named k HostPollAnyLine texts e = some_mapped _ (pairs_in k texts) ∙ pai
 pairs_named k other texts e = absurd (false≢true e)
 
 -- a line says something where all its numbers and names are read
-named_said : (k : Kept) (batch : Option Batch) (form : LineForm) (texts : List (List ℕ)) →
-    is_built_in k batch form ≡ true → end_with_pairs (places form) ≡ false →
+named_said : (k : Kept) (form : LineForm) (texts : List (List ℕ)) →
+    is_built form ≡ true → end_with_pairs (places form) ≡ false →
     are_one_each (open_kinds (places form)) texts ≡ true →
     is_some (named_in k form texts)
     ≡ (list_all is_numeric (placed (open_kinds (places form)) texts)
     && list_all (is_known_in k) (placed (open_kinds (places form)) texts))
-named_said k batch BufferLine (name ∷ size ∷ []) b e o = some_number _ (numeral size)
-named_said k batch TimelineLine (name ∷ value ∷ []) b e o = some_number _ (numeral value)
-named_said k batch BinaryLine (name ∷ []) b e o = refl
-named_said k batch FenceLine (name ∷ []) b e o = refl
-named_said k batch (QueueLine mode) (name ∷ []) b e o = refl
-named_said k batch SubmitLine (queue ∷ []) b e o = some_one _ (number_of k QueueName queue)
-named_said k batch WaitTimelineLine (name ∷ value ∷ []) b e o =
+named_said k BufferLine (name ∷ size ∷ []) b e o = some_number _ (numeral size)
+named_said k TimelineLine (name ∷ value ∷ []) b e o = some_number _ (numeral value)
+named_said k BinaryLine (name ∷ []) b e o = refl
+named_said k FenceLine (name ∷ []) b e o = refl
+named_said k (QueueLine mode) (name ∷ []) b e o = refl
+named_said k SubmitLine (queue ∷ []) b e o = some_one _ (number_of k QueueName queue)
+named_said k WaitTimelineLine (name ∷ value ∷ []) b e o =
     some_two _ (number_of k TimelineName name) (numeral value)
-named_said k batch WaitBinaryLine (name ∷ []) b e o = some_one _ (number_of k BinaryName name)
-named_said k batch FillWholeLine (buffer ∷ offset ∷ word ∷ []) b e o =
+named_said k WaitBinaryLine (name ∷ []) b e o = some_one _ (number_of k BinaryName name)
+named_said k FillWholeLine (buffer ∷ offset ∷ word ∷ []) b e o =
     some_three _ (number_of k BufferName buffer) (numeral offset) (small_numeral word)
-named_said k batch FillLine (buffer ∷ offset ∷ size ∷ word ∷ []) b e o =
+named_said k FillLine (buffer ∷ offset ∷ size ∷ word ∷ []) b e o =
     some_four _ (number_of k BufferName buffer) (numeral offset) (numeral size) (small_numeral word)
-named_said k batch UpdateLine (buffer ∷ offset ∷ digits ∷ []) b e o =
+named_said k UpdateLine (buffer ∷ offset ∷ digits ∷ []) b e o =
     some_update (is_hex digits) (number_of k BufferName buffer) (numeral offset) _
-named_said k batch CopyLine (source ∷ from ∷ target ∷ to ∷ size ∷ []) b e o =
+named_said k CopyLine (source ∷ from ∷ target ∷ to ∷ size ∷ []) b e o =
     some_copy _ (number_of k BufferName source) (numeral from) (number_of k BufferName target)
     (numeral to) (numeral size)
-named_said k batch SignalTimelineLine (name ∷ value ∷ []) b e o =
+named_said k SignalTimelineLine (name ∷ value ∷ []) b e o =
     some_two _ (number_of k TimelineName name) (numeral value)
-named_said k batch SignalBinaryLine (name ∷ []) b e o = some_one _ (number_of k BinaryName name)
-named_said k batch BatchFenceLine (name ∷ []) b e o = some_one _ (number_of k FenceName name)
-named_said k batch EndLine [] b e o = refl
-named_said k batch HostSignalLine (name ∷ value ∷ []) b e o =
+named_said k SignalBinaryLine (name ∷ []) b e o = some_one _ (number_of k BinaryName name)
+named_said k BatchFenceLine (name ∷ []) b e o = some_one _ (number_of k FenceName name)
+named_said k EndLine [] b e o = refl
+named_said k HostSignalLine (name ∷ value ∷ []) b e o =
     some_mapped _ (pair_in k name value)
     ∙ some_two _ (number_of k TimelineName name) (numeral value)
-named_said k batch HostWaitAllLine texts b e o = absurd (false≢true (sym e))
-named_said k batch HostWaitAnyLine texts b e o = absurd (false≢true (sym e))
-named_said k batch HostPollAllLine texts b e o = absurd (false≢true (sym e))
-named_said k batch HostPollAnyLine texts b e o = absurd (false≢true (sym e))
-named_said k batch HostReadLine (name ∷ []) b e o = some_one _ (number_of k TimelineName name)
-named_said k batch HostFenceWaitLine (name ∷ []) b e o = some_one _ (number_of k FenceName name)
-named_said k batch HostFencePollLine (name ∷ []) b e o = some_one _ (number_of k FenceName name)
-named_said k batch HostFenceResetLine (name ∷ []) b e o = some_one _ (number_of k FenceName name)
-named_said k batch HostIdleLine [] b e o = refl
-named_said k batch ScheduleLine [] b e o = refl
-named_said k batch TurnLine (actor ∷ []) b e o = some_one _ (actor_in k actor)
-named_said k batch TurnsLine (actor ∷ count ∷ []) b e o = some_two _ (actor_in k actor) (numeral count)
-named_said k batch form texts b e o = absurd (cc)
+named_said k HostWaitAllLine texts b e o = absurd (false≢true (sym e))
+named_said k HostWaitAnyLine texts b e o = absurd (false≢true (sym e))
+named_said k HostPollAllLine texts b e o = absurd (false≢true (sym e))
+named_said k HostPollAnyLine texts b e o = absurd (false≢true (sym e))
+named_said k HostReadLine (name ∷ []) b e o = some_one _ (number_of k TimelineName name)
+named_said k HostFenceWaitLine (name ∷ []) b e o = some_one _ (number_of k FenceName name)
+named_said k HostFencePollLine (name ∷ []) b e o = some_one _ (number_of k FenceName name)
+named_said k HostFenceResetLine (name ∷ []) b e o = some_one _ (number_of k FenceName name)
+named_said k HostIdleLine [] b e o = refl
+named_said k ScheduleLine [] b e o = refl
+named_said k TurnLine (actor ∷ []) b e o = some_one _ (actor_in k actor)
+named_said k TurnsLine (actor ∷ count ∷ []) b e o = some_two _ (actor_in k actor) (numeral count)
+named_said k form texts b e o = absurd (cc)
 
 -- the same, of words at the open places of a form
-pub all_read : (k : Kept) (batch : Option Batch) (form : LineForm)
-    (words : List (Slot × List ℕ)) → AreFound form words → is_built_in k batch form ≡ true →
+pub all_read : (k : Kept) (form : LineForm)
+    (words : List (Slot × List ℕ)) → AreFound form words → is_built form ≡ true →
     (list_all is_numeric words && list_all (is_known_in k) words)
     ≡ is_some (named_in k form (map (λ x. x.1) words))
-all_read k batch form words found b = by_pairs (end_with_pairs (places form)) refl
+all_read k form words found b = by_pairs (end_with_pairs (places form)) refl
   where
     texts : List (List ℕ)
     texts = map (λ (x : Slot × List ℕ). x.1) words
@@ -682,14 +644,14 @@ all_read k batch form words found b = by_pairs (end_with_pairs (places form)) re
     by_pairs false e =
         let p = placed_is words (open_kinds (places form)) (found.each e) in
         (λ i. list_all is_numeric (p.1 i) && list_all (is_known_in k) (p.1 i))
-        ∙ sym (named_said k batch form texts b e p.0)
+        ∙ sym (named_said k form texts b e p.0)
 
 -- .. and then it says the same after the lines
-pub said_by_lines : (lines : List Line) (k : Kept) (batch : Option Batch) (form : LineForm)
-    (words : List (List ℕ)) (s : Statement) → Declares lines k → is_built_in k batch form ≡ true →
+pub said_by_lines : (lines : List Line) (k : Kept) (form : LineForm)
+    (words : List (List ℕ)) (s : Statement) → Declares lines k → is_built form ≡ true →
     Some s ≡ named_in k form words → statement_of lines form words ≡ Some s
-said_by_lines lines k batch form words s d b e =
-    by_digits (are_digits form words) (e ∙ named_by lines k batch form words d b)
+said_by_lines lines k form words s d b e =
+    by_digits (are_digits form words) (e ∙ named_by lines k form words d b)
   where
     by_digits : (t : Bool) → Some s ≡ cond t (statement_of lines form words) None →
         statement_of lines form words ≡ Some s
@@ -699,14 +661,13 @@ said_by_lines lines k batch form words s d b e =
 -- The first kind of the faults of a line whose words aren't all read, and of one whose words are.
 
 pub unread_first : (lines : List Line) (k : Kept) (batch : Option Batch) → Holds lines k batch →
-    (form : LineForm) (words : List (Slot × List ℕ)) → Stands form k.scheduled batch → AreFound form words →
+    (form : LineForm) (words : List (Slot × List ℕ)) → is_built form ≡ true → AreFound form words →
     word_fault k batch form words ≡ None → None ≡ named_in k form (map (λ x. x.1) words) →
     first_fault lines (form, words) ≡ Some (cond (list_all is_numeric words) Name Number)
-unread_first lines k batch h form words stands found none said =
-    let p = passed k batch form words none in
-    words_by lines k batch h form words stands found None none
+unread_first lines k batch h form words built found none said =
+    words_by lines k batch h form words built None none
     ∙ by_numeric (list_all is_numeric words) (list_all (is_known_in k) words)
-    (all_read k batch form words found p.built ∙ ap (λ (o : Option Statement). is_some o) (sym said))
+    (all_read k form words found built ∙ ap (λ (o : Option Statement). is_some o) (sym said))
   where
     by_numeric : (n kn : Bool) → (n && kn) ≡ false →
         read_fault lines k batch h words (statement_at lines (form, words)) n kn
@@ -716,24 +677,23 @@ unread_first lines k batch h form words stands found none said =
     by_numeric false kn e = refl
 
 pub read_first : (lines : List Line) (k : Kept) (batch : Option Batch) → Holds lines k batch →
-    (form : LineForm) (words : List (Slot × List ℕ)) → Stands form k.scheduled batch → AreFound form words →
+    (form : LineForm) (words : List (Slot × List ℕ)) → is_built form ≡ true → AreFound form words →
     word_fault k batch form words ≡ None → (s : Statement) →
     Some s ≡ named_in k form (map (λ x. x.1) words) →
     first_fault lines (form, words) ≡ later_fault lines k words (Some s)
-read_first lines k batch h form words stands found none s said =
-    let p = passed k batch form words none in
+read_first lines k batch h form words built found none s said =
     let both = and_parts (list_all is_numeric words) (list_all (is_known_in k) words)
-    (all_read k batch form words found p.built ∙ ap (λ (o : Option Statement). is_some o) (sym said)) in
-    first_by lines k batch h form words stands found
+    (all_read k form words found built ∙ ap (λ (o : Option Statement). is_some o) (sym said)) in
+    first_by lines k batch h form words built
     ∙ (λ i. option_or (none i) (read_fault lines k batch h words
-    (said_by_lines lines k batch form (map (λ x. x.1) words) s h.declares p.built said i) (both.0 i)
+    (said_by_lines lines k form (map (λ x. x.1) words) s h.declares built said i) (both.0 i)
     (both.1 i)))
 
 -- its numbers are read
-pub read_numeric : (k : Kept) (batch : Option Batch) (form : LineForm)
+pub read_numeric : (k : Kept) (form : LineForm)
     (words : List (Slot × List ℕ)) (s : Statement) → AreFound form words →
-    is_built_in k batch form ≡ true → Some s ≡ named_in k form (map (λ x. x.1) words) →
+    is_built form ≡ true → Some s ≡ named_in k form (map (λ x. x.1) words) →
     list_all is_numeric words ≡ true
-read_numeric k batch form words s found b said =
+read_numeric k form words s found b said =
     (and_parts (list_all is_numeric words) (list_all (is_known_in k) words)
-    (all_read k batch form words found b ∙ ap (λ (o : Option Statement). is_some o) (sym said))).0
+    (all_read k form words found b ∙ ap (λ (o : Option Statement). is_some o) (sym said))).0

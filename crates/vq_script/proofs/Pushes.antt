@@ -25,7 +25,7 @@ use Rattle.vq_model.specs.declared.script.Pair.{Pair}
 use Rattle.vq_model.specs.declared.script.Command.{Command}
 use Rattle.vq_model.specs.declared.script.Job.{Job}
 use Rattle.vq_model.specs.declared.script.Job.TheVariants.{Host as HostJob, Batch as BatchJob}
-use Rattle.vq_model.specs.Context.{section, section_after, buffer_of, semaphore_of, queue_of, count, some, open_batch, last_queue, is_command, is_wait, is_signal, is_batch_fence, is_submit, is_end, version_of, turns_of}
+use Rattle.vq_model.specs.Context.{section, section_after, buffer_of, semaphore_of, queue_of, count, some, open_batch, is_command, is_wait, is_signal, is_batch_fence, is_submit, is_end, version_of, turns_of}
 use Rattle.vq_model.specs.Limits.{is_job}
 use Rattle.vq_model.specs.LineFaults.{part_of}
 use Rattle.vq_model.specs.Reading.{with_line}
@@ -218,7 +218,6 @@ holds_outside lines n s k next h out part declares jobs commands =
           (h.all_jobs ∙ ap (λ (js : List Job). length js + 0) (sym jobs)) out.job;
       all_commands = same_count is_command lines (numbered n s) next.commands
           (h.all_commands ∙ sym commands) out.command;
-      of_queue = tt;
       inside = subst (λ (ls : List Line). FillBatch ls None)
           (sym (after_last_more cuts lines (numbered n s) out.cut))
           (fill_more (open_batch lines) (numbered n s) None None h.inside
@@ -384,17 +383,6 @@ holds_turns lines n actor count k h =
 
 -- Lines of a batch
 
--- the queue of the batch that was begun last
-abbrev queue_after : Option ℕ → Statement → Option ℕ
-queue_after was (BeginBatch q) = Some q
-queue_after was other = was
-
-queue_more : (lines : List Line) (l : Line) (was : Option ℕ) → last_queue lines ≡ was →
-    last_queue (lines ++ l ∷ []) ≡ queue_after was l.statement
-queue_more lines l was h =
-    fold-append (λ queue (x : Line). queue_after queue x.statement) None lines (l ∷ [])
-    ∙ ap (λ queue. queue_after queue l.statement) h
-
 none_begun : (queue : ℕ) → DeclaresNone (BeginBatch queue)
 none_begun queue =
     record {
@@ -415,7 +403,6 @@ holds_submit lines n queue k h before =
       all_jobs = one_counted is_job lines l (length k.jobs + 0) h.all_jobs refl
           ∙ (let long : length k.jobs + 0 + 1 ≡ length k.jobs + 1 = omega arith in long);
       all_commands = same_count is_command lines l k.commands h.all_commands refl;
-      of_queue = queue_more lines l (last_queue lines) refl;
       inside = subst (λ (ls : List Line). FillBatch ls (Some (started n queue)))
           (sym (after_last_cut cuts lines l refl)) (fill_started n queue);
       jobs = λ rest. ap jobs_of (append_assoc lines (l ∷ []) rest) ∙ h.jobs (l ∷ rest);
@@ -440,16 +427,15 @@ record StandsInside (s : Statement) : Type 0 where
   end : is_end s ≡ false
   job : is_job s ≡ false
   none : (n : ℕ) (rest : List Line) → job_at (numbered n s) rest ≡ None
-  queue : (was : Option ℕ) → queue_after was s ≡ was
   declares : DeclaresNone s
 
 holds_inside : (lines : List Line) (n : ℕ) (s : Statement) (k : Kept) (commands : ℕ)
-    (b c : Batch) → Holds lines k (Some b) → StandsInside s → b.queue ≡ c.queue →
+    (b c : Batch) → Holds lines k (Some b) → StandsInside s →
     FillBatch (open_batch lines ++ numbered n s ∷ []) (Some c) →
     count is_command (with_line lines n s) ≡ commands →
     ((more : List Line) → going b (numbered n s ∷ more) ≡ going c more) →
     Holds (with_line lines n s) (record k { commands = commands }) (Some c)
-holds_inside lines n s k commands b c h stands queue fills counted goes =
+holds_inside lines n s k commands b c h stands fills counted goes =
     let l = numbered n s in
     record {
       part = section_more lines l InBatch h.part ∙ stands.after;
@@ -469,8 +455,6 @@ holds_inside lines n s k commands b c h stands queue fills counted goes =
           );
       all_jobs = same_count is_job lines l (length k.jobs + 1) h.all_jobs stands.job;
       all_commands = counted;
-      of_queue = queue_more lines l (last_queue lines) refl ∙ stands.queue (last_queue lines)
-          ∙ h.of_queue ∙ ap (λ (q : ℕ). Some q) queue;
       inside = subst (λ (ls : List Line). FillBatch ls (Some c))
           (sym (after_last_more cuts lines l stands.cut)) fills;
       jobs = λ rest. ap jobs_of (append_assoc lines (l ∷ []) rest) ∙ h.jobs (l ∷ rest)
@@ -487,7 +471,6 @@ inside_wait pair =
       end = refl;
       job = refl;
       none = λ n rest. refl;
-      queue = λ was. refl;
       declares = record {
         little = record { version = λ n. refl; schedule = refl; turns = λ n. refl; count = refl };
         buffer = λ n. refl;
@@ -504,7 +487,6 @@ inside_command command =
       end = refl;
       job = refl;
       none = λ n rest. refl;
-      queue = λ was. refl;
       declares = record {
         little = record { version = λ n. refl; schedule = refl; turns = λ n. refl; count = refl };
         buffer = λ n. refl;
@@ -521,7 +503,6 @@ inside_signal pair =
       end = refl;
       job = refl;
       none = λ n rest. refl;
-      queue = λ was. refl;
       declares = record {
         little = record { version = λ n. refl; schedule = refl; turns = λ n. refl; count = refl };
         buffer = λ n. refl;
@@ -538,7 +519,6 @@ inside_fence fence =
       end = refl;
       job = refl;
       none = λ n rest. refl;
-      queue = λ was. refl;
       declares = record {
         little = record { version = λ n. refl; schedule = refl; turns = λ n. refl; count = refl };
         buffer = λ n. refl;
@@ -552,7 +532,7 @@ holds_wait : (lines : List Line) (n : ℕ) (pair : Pair) (b : Batch) (k : Kept) 
     Holds (with_line lines n (AddWait pair 1)) k (Some (waiting b n pair))
 holds_wait lines n pair b k h fits =
     holds_inside lines n (AddWait pair 1) k k.commands b (waiting b n pair) h (inside_wait pair)
-    refl (fill_wait (open_batch lines) n pair b h.inside fits)
+    (fill_wait (open_batch lines) n pair b h.inside fits)
     (same_count is_command lines (numbered n (AddWait pair 1)) k.commands h.all_commands refl)
     goes
   where
@@ -567,7 +547,7 @@ holds_command : (lines : List Line) (n : ℕ) (command : Command) (b : Batch) (k
     Holds (with_line lines n (AddCommand command)) (with_command k) (Some (commanding b n command))
 holds_command lines n command b k h fits =
     holds_inside lines n (AddCommand command) k (k.commands + 1) b (commanding b n command) h
-    (inside_command command) refl (fill_command (open_batch lines) n command b h.inside fits)
+    (inside_command command) (fill_command (open_batch lines) n command b h.inside fits)
     (one_counted is_command lines (numbered n (AddCommand command)) k.commands h.all_commands refl)
     goes
   where
@@ -583,7 +563,7 @@ holds_signal : (lines : List Line) (n : ℕ) (pair : Pair) (b : Batch) (k : Kept
     Holds (with_line lines n (AddSignal pair)) k (Some (signaling b n pair))
 holds_signal lines n pair b k h fits =
     holds_inside lines n (AddSignal pair) k k.commands b (signaling b n pair) h
-    (inside_signal pair) refl (fill_signal (open_batch lines) n pair b h.inside fits)
+    (inside_signal pair) (fill_signal (open_batch lines) n pair b h.inside fits)
     (same_count is_command lines (numbered n (AddSignal pair)) k.commands h.all_commands refl)
     goes
   where
@@ -598,7 +578,7 @@ holds_fence : (lines : List Line) (n fence : ℕ) (b : Batch) (k : Kept) →
     Holds (with_line lines n (AddFence fence)) k (Some (fenced b n fence))
 holds_fence lines n fence b k h none =
     holds_inside lines n (AddFence fence) k k.commands b (fenced b n fence) h
-    (inside_fence fence) refl (fill_fence (open_batch lines) n fence b h.inside)
+    (inside_fence fence) (fill_fence (open_batch lines) n fence b h.inside)
     (same_count is_command lines (numbered n (AddFence fence)) k.commands h.all_commands refl)
     goes
   where
@@ -662,7 +642,6 @@ holds_end lines n b k h =
           let same : length k.jobs + 1 ≡ length (k.jobs ++ BatchJob b ∷ []) + 0 = omega arith in same
           );
       all_commands = same_count is_command lines l k.commands h.all_commands refl;
-      of_queue = tt;
       inside = subst (λ (ls : List Line). FillBatch ls None)
           (sym (after_last_cut cuts lines l refl)) fill_nothing;
       jobs = λ rest. ap jobs_of (append_assoc lines (l ∷ []) rest) ∙ h.jobs (l ∷ rest)
@@ -708,7 +687,6 @@ holds_step lines n step k h =
           let same : length k.jobs + 0 + 1 ≡ length (k.jobs ++ HostJob x ∷ []) + 0 = omega arith in same
           );
       all_commands = same_count is_command lines l k.commands h.all_commands refl;
-      of_queue = tt;
       inside = subst (λ (ls : List Line). FillBatch ls None)
           (sym (after_last_more cuts lines l refl))
           (fill_more (open_batch lines) l None None h.inside refl refl refl refl

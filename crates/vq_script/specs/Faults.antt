@@ -32,7 +32,7 @@ statement_at before line = statement_of before line.0 (map (λ x. x.1) line.1)
 
 -- whether a line has a fault of a kind
 abbrev pub has_fault_at : List Line → OpenLine → FaultKind → Bool
-has_fault_at before line Syntax = not (is_built before line.0) || not (list_all is_shaped line.1)
+has_fault_at before line Syntax = not (is_built line.0) || not (list_all is_shaped line.1)
 has_fault_at before line Order = is_out_of_order before line.0
 has_fault_at before line Number = not (list_all is_numeric line.1)
 has_fault_at before line Name = not (list_all (is_known before) line.1)

@@ -21,7 +21,7 @@ use Rattle.vq_model.specs.declared.statement.Statement.TheVariants.{AddWait}
 use Rattle.vq_model.specs.declared.statement.Section.{Section}
 use Rattle.vq_model.specs.declared.statement.Section.TheVariants.{Outside, InBatch, InSchedule}
 use Rattle.vq_model.specs.Context.{section, version_of, buffers, semaphores, queues, count, some, open_batch}
-use Rattle.vq_model.specs.Context.{last_queue, is_command, is_wait, is_signal, is_batch_fence, turns_of}
+use Rattle.vq_model.specs.Context.{is_command, is_wait, is_signal, is_batch_fence, turns_of}
 use Rattle.vq_model.specs.Limits.{is_job}
 use Rattle.vq_model.specs.LineFaults.{part_of}
 use Rattle.vq_model.specs.ScriptOfLines.{batch_lines, wait_of, command_of, signal_of, fence_of, first_of_list, jobs_of}
@@ -144,11 +144,6 @@ last_part batch =
     last_part_by (nat_lt 0 (length (waits_of batch))) (nat_lt 0 (length (commands_of batch)))
     (nat_lt 0 (length (signals_of batch))) (is_some (named_fence batch))
 
--- the queue of the batch that was begun last is that of the open batch
-abbrev pub IsOfQueue : Option ℕ → Option Batch → Type 0
-IsOfQueue queue None = Unit {0}
-IsOfQueue queue (Some b) = queue ≡ Some b.queue
-
 -- from which command on a wait holds back
 abbrev pub held_from : Statement → ℕ
 held_from (AddWait pair from) = from
@@ -198,7 +193,6 @@ pub record Holds (lines : List Line) (k : Kept) (batch : Option Batch) : Type 0 
   pub declares : Declares lines k
   pub all_jobs : count is_job lines ≡ length k.jobs + open_jobs batch
   pub all_commands : count is_command lines ≡ k.commands
-  pub of_queue : IsOfQueue (last_queue lines) batch
   pub inside : FillBatch (open_batch lines) batch
   pub jobs : (rest : List Line) → jobs_of (lines ++ rest) ≡ k.jobs ++ jobs_with batch rest
 

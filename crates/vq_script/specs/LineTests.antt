@@ -13,7 +13,6 @@ use Rattle.vq_model.specs.declared.statement.FaultKind.{FaultKind}
 use Rattle.vq_model.specs.declared.statement.FaultKind.TheVariants.{Syntax, Order, Twice, Range, Overlap, Limit}
 use Rattle.vq_model.specs.declared.statement.Line.{Line}
 use Rattle.vq_model.specs.declared.statement.LineForm.{LineForm}
-use Rattle.vq_model.specs.declared.statement.LineForm.TheVariants.{WaitTimelineLine, WaitBinaryLine}
 use Rattle.vq_model.specs.declared.statement.Statement.{Statement}
 use Rattle.vq_model.specs.declared.statement.Statement.TheVariants.{AddWait, AddCommand, AddSignal, BeginBatch}
 use Rattle.vq_model.specs.declared.statement.Statement.TheVariants.{DeclareBuffer, DeclareSemaphore, DeclareQueue}
@@ -21,27 +20,14 @@ use Rattle.vq_model.specs.declared.statement.Statement.TheVariants.{TakeTurns, T
 use Rattle.vq_model.specs.declared.script.ActorName.{ActorName}
 use Rattle.vq_model.specs.declared.script.ActorName.TheVariants.{Host as HostActor, Submit as SubmitActor}
 use Rattle.vq_model.specs.declared.script.ActorName.TheVariants.{Ring as RingActor}
-use Rattle.vq_model.specs.Context.{is_immediate}
 use Rattle.vq_model.specs.Forms.{Slot, NewName, BufferName, TimelineName, BinaryName, FenceName, QueueName, Actor}
 use Rattle.vq_model.specs.Limits.{limits_of, passes_limit, pairs_of}
 use Rattle.vq_model.specs.LineFaults.{is_shaped, is_declaration, part_of_form, is_batch_fence_form, is_in_range}
 use Rattle.vq_model.specs.LineFaults.{overlaps}
-use Rattle.vq_model.specs.Meaning.{is_built, is_marked}
+use Rattle.vq_model.specs.Meaning.{is_marked}
 use Rattle.vq_model.specs.Ranges.{is_aligned}
 use Rattle.vq_script.specs.Holds.{Kept, last_part, named_fence, waits_of, commands_of, signals_of}
 use Rattle.vq_script.specs.Names.{names_threaded, number_in_lists, is_taken}
-
--- Syntax
-
--- whether the open batch is of an immediate queue
-abbrev pub is_immediate_in : Kept → Option Batch → Bool
-is_immediate_in k None = false
-is_immediate_in k (Some b) = option_map_or (λ q. is_immediate q.mode) (slice_get k.queues b.queue) false
-
-abbrev pub is_built_in : Kept → Option Batch → LineForm → Bool
-is_built_in k batch WaitTimelineLine = not (is_immediate_in k batch)
-is_built_in k batch WaitBinaryLine = not (is_immediate_in k batch)
-is_built_in k batch other = is_built [] other
 
 -- Order
 
@@ -81,10 +67,10 @@ abbrev pub is_new_in : Kept → Slot × List ℕ → Bool
 is_new_in k (NewName, word) = not (is_taken k.buffers k.semaphores k.queues word)
 is_new_in k (other, word) = true
 
--- the first kind of the faults that words have before they are read
+-- the first kind of the faults that the words of a form that is built have before they are read
 abbrev pub word_fault : Kept → Option Batch → LineForm → List (Slot × List ℕ) → Option FaultKind
 word_fault k batch form words =
-    cond (not (is_built_in k batch form) || not (list_all is_shaped words)) (Some Syntax)
+    cond (not (list_all is_shaped words)) (Some Syntax)
     (cond (is_late k batch form) (Some Order) None)
 
 -- Range

@@ -30,7 +30,7 @@ use Rattle.vq_model.specs.Forms.{Fixed, Pairs, places}
 use Rattle.vq_model.specs.Limits.{limits_of}
 use Rattle.vq_model.specs.LineFaults.{part_of_form}
 use Rattle.vq_model.specs.Meaning.{is_hex, hex_bytes, small_numeral, binary_pair, of_two, of_three, of_four, of_five}
-use Rattle.vq_model.specs.Meaning.{statement_of, pair_places}
+use Rattle.vq_model.specs.Meaning.{is_built, statement_of, pair_places}
 use Rattle.vq_model.specs.ScriptOfLines.{mark}
 use Rattle.vq_model.specs.Text.{is_name, numeral}
 use Rattle.vq_script.specs.declared.said.Said.{Said}
@@ -106,10 +106,11 @@ abbrev pub takes_turns : Bool → Option Batch → Bool
 takes_turns scheduled None = scheduled
 takes_turns scheduled (Some b) = false
 
--- A form stands where a batch is open, or where none is; in the schedule, or before it.
+-- A form that is built stands where a batch is open, or where none is; in the schedule, or before it.
 pub record Stands (form : LineForm) (scheduled : Bool) (batch : Option Batch) : Type 0 where
   pub inside : nat_lt 0 (part_of_form form) ≡ is_some batch
   pub turns : is_turn_form form ≡ takes_turns scheduled batch
+  pub built : is_built form ≡ true
 
 -- the part of a batch to which a line belongs
 abbrev pub part_in : Said → ℕ

@@ -16,7 +16,7 @@ use crate::table::Token;
 use std::alloc::{AllocError, Global};
 use std::collections::BTreeMap;
 use vq_model::list::List;
-use vq_model::script::{ActorName, Buffer, Job, Mode, Queue, Script, Semaphore, Turn};
+use vq_model::script::{ActorName, Buffer, Job, Queue, Script, Semaphore, Turn};
 use vq_model::statement::Section;
 
 /// What the lines so far declare and submit.
@@ -53,13 +53,12 @@ pub struct Known {
 
 impl Known {
     ghost use Rattle.std.specs.Prelude.{None};
-    ghost use Rattle.vq_model.specs.Context.{is_immediate};
     ghost use Rattle.vq_model.specs.ScriptOfLines.{script_of};
     ghost use Rattle.vq_model.specs.declared.statement.Line.{Line};
     ghost use Rattle.vq_script.specs.Holds.{Holds, Keeps, kept, last_part, named_fence, waits_of, commands_of};
     ghost use Rattle.vq_script.specs.Holds.{signals_of, open_so_far, section_of, with_buffer, with_semaphore};
     ghost use Rattle.vq_script.specs.Holds.{with_queue, with_turns};
-    ghost use Rattle.vq_script.specs.LineTests.{is_immediate_in, number_of, threaded_of, actor_in, size_in};
+    ghost use Rattle.vq_script.specs.LineTests.{number_of, threaded_of, actor_in, size_in};
     ghost use Rattle.vq_script.specs.Table.{place_of};
 
     /// What no lines declare and submit.
@@ -153,27 +152,6 @@ impl Known {
         match self.buffers.get(buffer as usize) {
             Some(buffer) => buffer.size,
             None => 0,
-        }
-    }
-
-    /// Whether the open batch is of an immediate queue.
-    pub fn is_batch_immediate(&self) -> bool
-        ensures { result ≡ is_immediate_in (kept self.now) (open_so_far self.now.batch) }
-    {
-        match &self.batch {
-            None => false,
-            Some(batch) => self.is_immediate(batch.queue),
-        }
-    }
-
-    /// Whether a queue is immediate.
-    fn is_immediate(&self, queue: u32) -> bool
-        ensures { result ≡ option_map_or (λ q. is_immediate q.mode)
-            (slice_get self.now.queues.items queue) false }
-    {
-        match self.queues.get(queue as usize) {
-            Some(queue) => queue.mode == Mode::Immediate,
-            None => false,
         }
     }
 

@@ -6,7 +6,7 @@ ghost use Rattle.vq_model.specs.declared.statement.FaultKind.TheVariants.{Name, 
 ghost use Rattle.vq_model.specs.declared.statement.Line.{Line};
 ghost use Rattle.vq_script.specs.Faults.{Tells};
 ghost use Rattle.vq_script.specs.Holds.{Keeps, Kept, kept, open_so_far};
-ghost use Rattle.vq_script.specs.LineTests.{is_built_in, is_late, is_within_in, size_in, is_in_range_in, passes_in};
+ghost use Rattle.vq_script.specs.LineTests.{is_late, is_within_in, size_in, is_in_range_in, passes_in};
 ghost use Rattle.vq_script.specs.LineTests.{word_fault, said_fault};
 ghost use Rattle.vq_script.specs.OpenWords.{opens};
 ghost use Rattle.vq_script.specs.SaidLines.{AreFound, IsWhollyRead, IsSmall, May, Stands, statement_in};
@@ -18,47 +18,7 @@ use crate::place_faults::{are_new, are_numeric, are_shaped};
 use crate::said::{Said, statement_of};
 use crate::table::{is_declaration, part_of_form};
 use vq_model::ranges::is_aligned;
-use vq_model::script::Mode;
 use vq_model::statement::{FaultKind, LineForm};
-
-/// Whether lines of a form are read so far: no text has a version, no queue is deferred, and a batch of an immediate
-/// queue waits for nothing.
-fn is_built(known: &Known, form: LineForm) -> bool
-    ensures { result ≡ is_built_in (kept known.now) (open_so_far known.now.batch) form }
-{
-    match form {
-        LineForm::BufferLine => true,
-        LineForm::TimelineLine => true,
-        LineForm::BinaryLine => true,
-        LineForm::FenceLine => true,
-        LineForm::QueueLine(mode) => mode != Mode::Deferred,
-        LineForm::SubmitLine => true,
-        LineForm::HostSignalLine => true,
-        LineForm::HostWaitAllLine => true,
-        LineForm::HostWaitAnyLine => true,
-        LineForm::HostPollAllLine => true,
-        LineForm::HostPollAnyLine => true,
-        LineForm::HostReadLine => true,
-        LineForm::HostFenceWaitLine => true,
-        LineForm::HostFencePollLine => true,
-        LineForm::HostFenceResetLine => true,
-        LineForm::HostIdleLine => true,
-        LineForm::WaitTimelineLine => !known.is_batch_immediate(),
-        LineForm::WaitBinaryLine => !known.is_batch_immediate(),
-        LineForm::FillWholeLine => true,
-        LineForm::FillLine => true,
-        LineForm::UpdateLine => true,
-        LineForm::CopyLine => true,
-        LineForm::SignalTimelineLine => true,
-        LineForm::SignalBinaryLine => true,
-        LineForm::BatchFenceLine => true,
-        LineForm::EndLine => true,
-        LineForm::ScheduleLine => true,
-        LineForm::TurnLine => true,
-        LineForm::TurnsLine => true,
-        _ => false,
-    }
-}
 
 /// Whether a form is out of order: a declaration after the first batch or step of the host, a line of an earlier part
 /// of the batch, or a second fence.
@@ -74,7 +34,7 @@ fn is_late(known: &Known, form: LineForm) -> bool
 fn word_fault(known: &Known, form: LineForm, words: &[OpenWord<'_>]) -> Option<FaultKind>
     ensures { result ≡ word_fault (kept known.now) (open_so_far known.now.batch) form (opens words.now) }
 {
-    if !is_built(known, form) || !are_shaped(words) {
+    if !are_shaped(words) {
         return Some(FaultKind::Syntax);
     }
     if is_late(known, form) {

@@ -129,8 +129,9 @@ pub fn is_short(bytes: &[u8]) -> bool
 /// - `timeline NAME VALUE`: a timeline semaphore with this initial payload;
 /// - `binary NAME`: a binary semaphore, unsignaled;
 /// - `fence NAME`: a fence, unsignaled;
-/// - `queue NAME immediate`, `queue NAME threaded`: a queue that is submitted to by the host, or by
-///   a thread of its own; 8 queues at most;
+/// - `queue NAME immediate`, `queue NAME deferred`, `queue NAME threaded`: a queue that is submitted
+///   to by the host, which hands each batch over at once or holds batches back, or by a thread of its
+///   own; 8 queues at most;
 /// - `submit QUEUE`: the first line of a batch; 4,096 batches and host steps at most;
 /// - `host signal TIMELINE VALUE`: the host signals a timeline;
 /// - `host wait all TIMELINE VALUE ..`, `host wait any ..`: the host waits until all of these payloads
@@ -141,8 +142,7 @@ pub fn is_short(bytes: &[u8]) -> bool
 ///   asks for it, resets it;
 /// - `host idle`: it waits until each batch before this line is complete;
 /// - `wait TIMELINE VALUE`, `wait SEMAPHORE`: what the whole batch waits for, a payload of a
-///   timeline or the signal of a binary semaphore; 16 waits a batch at most, and none of an
-///   immediate queue;
+///   timeline or the signal of a binary semaphore; 16 waits a batch at most;
 /// - `fill BUFFER OFFSET SIZE WORD`, `fill BUFFER OFFSET whole WORD`: writes a word again and
 ///   again;
 /// - `update BUFFER OFFSET DIGITS`: writes 1 to 65,536 bytes, of two hexadecimal digits each;
@@ -175,8 +175,8 @@ pub fn is_short(bytes: &[u8]) -> bool
 ///
 /// `At` is the first line with a fault and the first kind of that line's faults, in the order of
 /// `FaultKind`; the line after the last is `Syntax` where a batch is open, or where the form is
-/// `Scheduled` and there is no schedule. Deferred queues and waits of immediate queues are `Syntax`
-/// too. `Memory` comes where memory runs out.
+/// `Scheduled` and there is no schedule. Versions, and waits that hold back a part of their batch,
+/// are `Syntax` too. `Memory` comes where memory runs out.
 pub fn parse(alloc: Global, bytes: &[u8], form: Form) -> Result<Script, ScriptFault>
     requires { length (lines_of bytes.now) < 2 ^ 32 - 1 }
     ensures exact { Gives result (read_script bytes.now form) }

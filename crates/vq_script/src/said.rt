@@ -1,11 +1,11 @@
 //! What a line says, before it is kept: nothing is copied yet.
 ghost use Rattle.std.specs.Prelude.{◌≡◌, true, IfSome};
-ghost use Rattle.vq_script.specs.Holds.{Kept, kept, open_so_far};
+ghost use Rattle.vq_script.specs.Holds.{Kept, kept};
 ghost use Rattle.vq_script.specs.OpenWords.{opens};
 ghost use Rattle.vq_script.specs.SaidLines.{AreOf, AreFound, IsWhollyRead, Says, Suits};
 ghost use Rattle.vq_script.specs.SaidLines.{is_batch_line, is_schedule_line, is_host_line};
-ghost use Rattle.vq_script.specs.LineTests.{is_built_in};
 ghost use Rattle.vq_model.specs.LineFaults.{is_declaration, part_of_form};
+ghost use Rattle.vq_model.specs.Meaning.{is_built};
 
 use crate::host_steps::{SaidStep, is_pairs_line, is_step_line, pairs_line, step_line};
 use crate::known::Known;
@@ -255,7 +255,7 @@ pub fn statement_of<'a>(
     words: &'a [OpenWord<'a>],
 ) -> Option<Said<'a>>
     requires found { AreFound form (opens words.now) }
-    requires built { is_built_in (kept known.now) (open_so_far known.now.batch) form ≡ true }
+    requires built { is_built form ≡ true }
     ensures says { Says (kept known.now) form (opens words.now) result }
     ensures suits { IfSome result (Suits form (opens words.now)) }
     ensures read { IfSome result (IsWhollyRead (kept known.now)) }
