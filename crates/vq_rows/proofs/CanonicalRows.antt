@@ -42,6 +42,13 @@ marks :
 unfolding digits
 marks = refl
 
+-- a deferred queue, and a wait on an immediate one
+modes :
+    reprinted Plain
+    (codes "queue P deferred # late\nqueue Q immediate\nbinary S\nsubmit Q\nwait  S\nend")
+    ≡ codes "binary S\nqueue P deferred\nqueue Q immediate\nsubmit Q\nwait S\nend\n"
+modes = refl
+
 -- neighbouring turns of one actor are one line
 turns_joined :
     reprinted Scheduled

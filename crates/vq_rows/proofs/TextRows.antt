@@ -65,6 +65,13 @@ two_queues :
     ≡ Ok ((13 ∷ 12 ∷ 11 ∷ 10 ∷ 13 ∷ 12 ∷ 11 ∷ 10 ∷ []) ∷ (13 ∷ 12 ∷ 11 ∷ 10 ∷ 13 ∷ 12 ∷ 11 ∷ 10 ∷ []) ∷ [])
 two_queues = refl
 
+a_wait_on_an_immediate_queue :
+    bytes_of
+    (codes "buffer X 4\ntimeline A 0\nqueue P deferred\nqueue Q immediate\nsubmit P\n"
+    ++ codes "fill X 0 4 1\nsignal A 1\nend\nsubmit Q\nwait A 1\nfill X 0 4 2\nend\n")
+    ≡ Ok ((2 ∷ 0 ∷ 0 ∷ 0 ∷ []) ∷ [])
+a_wait_on_an_immediate_queue = refl
+
 no_word_is_reserved :
     bytes_of
     (codes "buffer host 4\nqueue submit immediate\nsubmit submit\nfill host 0 4 1\nend\n")
@@ -128,11 +135,14 @@ a_schedule_in_a_plain_text = refl
 no_schedule : scheduled (codes "queue Q immediate\n") ≡ Err (2, Syntax)
 no_schedule = refl
 
-a_wait_on_an_immediate_queue :
+a_version : bytes_of (codes "version 2\nbuffer X 4\n") ≡ Err (1, Syntax)
+a_version = refl
+
+a_wait_from_a_later_command :
     bytes_of
-    (codes "timeline A 0\nqueue Q immediate\nqueue P threaded\nsubmit Q\nwait A 0\n")
-    ≡ Err (5, Syntax)
-a_wait_on_an_immediate_queue = refl
+    (codes "timeline A 0\nqueue Q immediate\nsubmit Q\nwait A 0 from 1\nend\n")
+    ≡ Err (4, Syntax)
+a_wait_from_a_later_command = refl
 
 a_large_mark : bytes_of (codes "buffer X 0X4\n") ≡ Err (1, Number)
 a_large_mark = refl
