@@ -166,12 +166,9 @@ fn faulty_lines_are_refused(rt: HostRuntime) -> Result<(), Fail> {
             ("queue Q immediate\nsubmit Q\n\r", "error: syntax: line 4\n"),
             // a byte that may not stand in a line, forms that are not built
             ("buffer X 4\nbuffer Y\u{e9} 4\n", "error: syntax: line 2\n"),
+            ("buffer X 4\nversion 2\n", "error: syntax: line 2\n"),
             (
-                "queue P immediate\nqueue Q deferred\n",
-                "error: syntax: line 2\n",
-            ),
-            (
-                "timeline A 0\nqueue P immediate\nsubmit P\nwait A 0\nend\n",
+                "timeline A 0\nqueue P deferred\nsubmit P\nwait A 0 from 1\nend\n",
                 "error: syntax: line 4\n",
             ),
             ("host idle A\n", "error: syntax: line 1\n"),

@@ -60,7 +60,7 @@ fn has_declarations(script: &Script) -> bool {
         && (binary.line, binary.kind) == (3, SemaphoreKind::Binary)
         && (fence.line, fence.kind) == (4, SemaphoreKind::Fence)
         && (first.line, first.mode) == (5, Mode::Immediate)
-        && (second.line, second.mode) == (7, Mode::Threaded)
+        && (second.line, second.mode) == (7, Mode::Deferred)
 }
 
 fn mark(line: u32, semaphore: u32, value: u64) -> Mark {
@@ -81,14 +81,15 @@ fn has_marks(script: &Script) -> bool {
         && batch.waits.as_slice() == [mark(9, 0, 7), mark(10, 1, 0)].as_slice()
         && batch.signals.as_slice() == [mark(11, 0, 9), mark(12, 1, 0)].as_slice()
         && batch.fence == Some(mark(13, 2, 0))
+        && last.waits.as_slice() == [mark(16, 1, 0)].as_slice()
         && last.fence.is_none()
 }
 
 #[test]
 fn declarations_and_marks(rt: HostRuntime) {
     let lines =
-        "buffer X 8 # bytes / timeline T 0x5 / binary S / fence F / queue I immediate /  / queue Q threaded \r / \
-         submit Q / wait T 7 / wait S / signal T 9 / signal S / fence F / end / submit I / end";
+        "buffer X 8 # bytes / timeline T 0x5 / binary S / fence F / queue I immediate /  / queue Q deferred \r / \
+         submit Q / wait T 7 / wait S / signal T 9 / signal S / fence F / end / submit I / wait S / end";
     let script = script_of(rt.alloc(), lines).expect(&rt, "the text has no fault");
     assert!(rt; has_declarations(&script));
     assert!(rt; has_marks(&script));
@@ -159,8 +160,8 @@ fn commands(rt: HostRuntime) {
 fn kinds_of_faults(rt: HostRuntime) {
     let declared = "buffer X 8 / timeline T 0 / queue I immediate / queue Q threaded";
     let lines = [
-        ("queue D deferred", 6, FaultKind::Syntax),
-        ("submit I / wait T 1", 7, FaultKind::Syntax),
+        ("version 2", 6, FaultKind::Syntax),
+        ("submit I / wait T 1 from 1", 7, FaultKind::Syntax),
         ("submit Q / end / buffer Y 0y", 8, FaultKind::Order),
         ("submit Q / signal T 1 / wait T 1", 8, FaultKind::Order),
         ("buffer X 0y", 6, FaultKind::Number),
