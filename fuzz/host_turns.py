@@ -1,7 +1,8 @@
 """The turns of the host: a part of the second reading of docs/TURNS.md.
 
-The host goes through the jobs in the order of the script. It submits each batch, moves those of immediate queues, and
-does each of its own steps whole before it goes on.
+The host serves the deferred queues first, in order, where they have submitted batches to move. Then it goes through the
+jobs in the order of the script. It submits each batch, moves those of immediate queues, and does each of its own steps
+whole before it goes on.
 """
 from batch_turns import Submitter
 from scene import BLOCKED, ENDED
@@ -13,11 +14,22 @@ class Host:
         self.scene = scene
         self.waiter = Waiter(scene, 'host')
         self.submits = [Submitter(scene, queue) for queue in range(len(scene.plan.modes))]
+        self.deferred = [queue for queue, mode in enumerate(scene.plan.modes) if mode == b'deferred']
+        self.served = [j for j, job in enumerate(scene.plan.jobs) if job.queue in self.deferred]
         # The numbers of the chains that its present step asks for, as far as they were looked at.
         self.seen = []
         self.answers = {}
 
     def turn(self):
+        for queue in self.deferred:
+            text = self.submits[queue].turn()
+            if text not in (BLOCKED, ENDED):
+                return text
+        text = self.own_turn()
+        # At its end the host isn't done as long as a deferred queue has batches that aren't bound whole.
+        return BLOCKED if text == ENDED and any(not self.scene.is_bound_whole(j) for j in self.served) else text
+
+    def own_turn(self):
         scene = self.scene
         for j, job in enumerate(scene.plan.jobs):
             if job.queue is None:

@@ -18,7 +18,7 @@ class Lawful:
     def __init__(self, dice):
         self.dice = dice
         self.is_hosted = dice.random() < 0.7
-        self.modes = {name: dice.choice(['threaded'] * 3 + ['immediate']) for name in 'PQRT'[:dice.randrange(2, 5)]}
+        self.modes = {name: dice.choice(['threaded'] * 3 + ['immediate', 'deferred']) for name in 'PQRT'[:dice.randrange(2, 5)]}
         self.tops = {'A': dice.choice([0, 0, 3]), 'B': dice.choice([0, 0, 5]), SILENT: dice.choice([0, 2])}
         self.sizes = dict(zip('XYZ', dice.choices([4, 8, 8, 12], k=dice.randrange(1, 4))))
         declared = [f'queue {name} {mode}' for name, mode in self.modes.items()]
@@ -40,7 +40,7 @@ class Lawful:
             kept = dict(self.tops), dict(self.signaled), dict(self.fences)
             made = self.steps() if self.is_hosted and self.dice.random() < 0.55 else [self.batch()]
             found = kind(*answer(''.join(self.text(self.jobs + made)).encode()))
-            if found == 'run' or self.dice.random() < (0.2 if found in ('race', 'fence busy') else 0.02):
+            if found == 'run' or self.dice.random() < (0.2 if found in ('race', 'fence busy', 'not pending') else 0.02):
                 break
             self.tops, self.signaled, self.fences = kept
             made = [[f'submit {self.queue()}', 'end']]
@@ -60,13 +60,14 @@ class Lawful:
             if dice.random() < 0.4 and name != SILENT:
                 signals.append(f'signal {name} {self.raised(name)}')
         for name in self.signaled:
-            if self.signaled[name] and self.modes[queue] == 'threaded' and dice.random() < 0.5:
+            if self.signaled[name] and dice.random() < (0.5 if self.modes[queue] != 'immediate' else 0.1):
                 waits.append(f'wait {name}')
                 self.signaled[name] = False
             if not self.signaled[name] and dice.random() < 0.3:
                 signals.append(f'signal {name}')
                 self.signaled[name] = True
-        if self.modes[queue] == 'immediate':
+        # Such a queue can't hold a batch back, so most of its waits must name what is surely pending.
+        if self.modes[queue] == 'immediate' and dice.random() < 0.5:
             waits = []
         dice.shuffle(waits)
         dice.shuffle(signals)
@@ -152,7 +153,7 @@ class Lawful:
         name = self.dice.choice('AB')
         made, value = self.ahead(name), self.raised(name)
         batch = self.batch()
-        if self.modes[batch[0].split()[1]] == 'threaded':
+        if self.modes[batch[0].split()[1]] != 'immediate' or self.dice.random() < 0.1:
             batch.insert(1, f'wait {name} {value}')
             batch = [line for line in batch if not line.startswith(f'signal {name} ')]
         asked = self.questions() if self.dice.random() < 0.3 else []

@@ -3,20 +3,27 @@ from lowering import Refusal
 
 
 class Order:
-    """The order of a lawful plan; the plan is refused where it has none."""
+    """The order of a plan, as far as its slow run comes."""
 
     def __init__(self, plan):
         self.plan = plan
-        self.slow, stuck = slow_run(plan)
-        unreached = [line for j in stuck for line in unreached_lines(plan.jobs[j], final_numbers(plan, self.slow))]
-        if unreached:
-            raise Refusal(f'unreachable: line {min(unreached)}')
+        self.slow, self.stuck = slow_run(plan)
         self.find_paths()
+
+    def refuse(self):
+        """Raises the Refusal of a plan that isn't lawful."""
+        plan = self.plan
+        numbers = final_numbers(plan, self.slow)
+        self.refuse_line('unreachable', [line for j in self.stuck for line in unreached_lines(plan.jobs[j], numbers)])
         self.refuse_pairs('unordered', self.unordered())
-        busy = [plan.jobs[h].line for h, e in plan.resets if e not in self.sure[h]]
-        if busy:
-            raise Refusal(f'fence busy: line {min(busy)}')
+        self.refuse_line('fence busy', [plan.jobs[h].line for h, e in plan.resets if e not in self.sure[h]])
+        self.refuse_line('not pending', self.not_pending())
         self.refuse_pairs('race', self.races())
+
+    def refuse_line(self, kind, lines):
+        """Refuses the least of some lines."""
+        if lines:
+            raise Refusal(f'{kind}: line {min(lines)}')
 
     def refuse_pairs(self, kind, pairs):
         """Refuses the least of pairs of lines: by the later line, then by the earlier one."""
@@ -72,6 +79,24 @@ class Order:
                     if i != j and i not in self.before[j]:
                         pairs.append((line, other))
         return pairs
+
+    def not_pending(self):
+        """The lines of waits in batches of immediate queues whose signal may not be pending when they are submitted."""
+        plan = self.plan
+        hosts = [h for h, job in enumerate(plan.jobs) if job.queue is None]
+        at_once = hosts + [i for i, job in enumerate(plan.jobs) if job.queue is not None
+                           and plan.modes[job.queue] == b'immediate']
+        found = []
+        for j, job in enumerate(plan.jobs):
+            if job.queue is None or plan.modes[job.queue] != b'immediate':
+                continue
+            for line, t, value in job.needs:
+                e = plan.awaited_signal(t, value)
+                if e is None or plan.ops[e].job < j and plan.ops[e].job in at_once:
+                    continue
+                if not any(e in self.sure[h] for h in hosts if h < j):
+                    found.append(line)
+        return found
 
     def races(self):
         """The lines of two commands with a byte in common that one of them writes, neither job before the other."""

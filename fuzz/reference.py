@@ -20,14 +20,14 @@ HEXADECIMAL = re.compile(rb'0x[0-9a-fA-F]{1,16}')
 ACTOR = re.compile(rb'host|[SR]:[A-Za-z_][A-Za-z0-9_]{0,15}')
 DIGITS = re.compile(rb'([0-9a-fA-F]{2})*')
 # The forms of lines by their section: a word as it stands, or what its place takes. `pairs` stands for one or more
-# timelines, each with a numeral. Forms with `unbuilt` are forms of the language that are not built.
+# timelines, each with a numeral.
 OUTSIDE = [
     ('buffer', [b'buffer', 'new', 'numeral']),
     ('timeline', [b'timeline', 'new', 'numeral']),
     ('binary', [b'binary', 'new']),
     ('fence', [b'fence', 'new']),
     ('queue', [b'queue', 'new', b'immediate']),
-    ('unbuilt', [b'queue', 'new', b'deferred']),
+    ('queue', [b'queue', 'new', b'deferred']),
     ('queue', [b'queue', 'new', b'threaded']),
     ('submit', [b'submit', 'queue name']),
     ('host signal', [b'host', b'signal', 'timeline name', 'numeral']),
@@ -119,9 +119,7 @@ class Reader:
         if any(not 32 <= byte <= 126 and byte != 9 for byte in line):
             raise Fault('syntax')
         form, places = self.form(words)
-        if form is None or form == 'unbuilt':
-            raise Fault('syntax')
-        if form == 'wait' and self.queues[self.batch.queue] == b'immediate':
+        if form is None:
             raise Fault('syntax')
         at = list(zip(places, words))
         if any(isinstance(place, str) and (place == 'new' or place.endswith(' name')) and not NAME.fullmatch(word)
@@ -313,6 +311,7 @@ class Script:
         self.reader.read_all(data)
         self.plan = Plan(self.reader)
         self.order = Order(self.plan)
+        self.order.refuse()
         self.windows = Windows(self.plan, self.order)
 
     def buffers_text(self):

@@ -78,7 +78,7 @@ def outside(dice):
     if form < 0.25:
         return [dice.choice(['binary', 'fence']), pick(dice, 'STFG')]
     if form < 0.35:
-        return ['queue', pick(dice, 'PQR'), dice.choice(['immediate'] * 4 + ['threaded'] * 8 + ['deferred', 'soon'])]
+        return ['queue', pick(dice, 'PQR'), dice.choice(['immediate'] * 4 + ['threaded'] * 7 + ['deferred', 'deferred', 'soon'])]
     if form < 0.5:
         return host(dice)
     return ['submit', pick(dice, 'PQ')] if form < 0.9 else odd(dice)
@@ -123,7 +123,8 @@ def batch(dice):
 def queues(dice):
     """Batches of timelines that wait and signal, most of which can be run in some order."""
     declared = ['timeline A 0\n', 'timeline B %d\n' % dice.choice([0, 0, 1, 3]), 'binary S\n', 'fence F\n', 'fence G\n',
-                'queue P threaded\n', 'queue Q threaded\n', 'queue R %s\n' % dice.choice(['threaded', 'immediate']),
+                'queue P %s\n' % dice.choice(['threaded'] * 4 + ['deferred']), 'queue Q threaded\n',
+                'queue R %s\n' % dice.choice(['threaded', 'immediate', 'deferred']),
                 'buffer X 16\n', 'buffer Y 0x18\n']
     dice.shuffle(declared)
     text = declared if dice.random() < 0.9 else declared[1:]
