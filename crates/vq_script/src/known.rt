@@ -2,8 +2,7 @@
 ghost use Rattle.std.specs.Prelude.{◌≡◌, ◌+◌, ◌<◌, ◌≤◌, ◌||◌, ◌++◌, ◌∷◌, [], ℕ};
 ghost use Rattle.std.specs.Prelude.{List, nat_lt, length, false, is_some};
 ghost use Rattle.std.specs.Prelude.{not, OnOk};
-ghost use Rattle.std.specs.Option.{option_map_or};
-ghost use Rattle.std.specs.List.{position, slice_get};
+ghost use Rattle.std.specs.List.{position};
 ghost use Rattle.vq_model.specs.Forms.{Slot};
 ghost use Rattle.vq_model.specs.Limits.{limits_of};
 ghost use Rattle.vq_script.specs.Names.{item_of, number_in, number_in_lists, is_taken, names_threaded, threaded_in};
