@@ -8,21 +8,6 @@ ghost use Rattle.vq_order.specs.Unreached.{IsLeastOrNone};
 use crate::clocked::Clocked;
 use crate::lines::{Lines, lower};
 use vq_model::plan::{Lane, Need};
-use vq_model::script::Mode;
-
-/// Whether a job is a batch of an immediate queue.
-fn is_immediate(order: &Clocked, j: u32) -> bool
-    requires exists { j < length order.now.jobs }
-    ensures { result ≡ is_immediate_batch order.now j }
-{
-    match order.job(j).lane {
-        Lane::Host => false,
-        Lane::Queue(queue) => match order.plan().script().queues.as_slice().get(queue as usize) {
-            Some(queue) => matches!(queue.mode, Mode::Immediate),
-            None => false,
-        },
-    }
-}
 
 /// Whether a job is a host step or a batch of an immediate queue, written before another.
 fn is_made_before(order: &Clocked, i: u32, j: u32) -> bool
@@ -32,7 +17,7 @@ fn is_made_before(order: &Clocked, i: u32, j: u32) -> bool
     if i < j {
         match order.job(i).lane {
             Lane::Host => true,
-            Lane::Queue(_) => is_immediate(order, i),
+            Lane::Queue(_) => order.plan().is_immediate(i),
         }
     } else {
         false
@@ -93,7 +78,7 @@ fn ahead_in(order: &Clocked, j: u32) -> Option<Lines>
     requires exists { j < length order.now.jobs }
     ensures { AreLeastOrNone (IsAheadIn order.now j) result }
 {
-    if !is_immediate(order, j) {
+    if !order.plan().is_immediate(j) {
         return None;
     }
     let mut lowest = None;

@@ -1,6 +1,7 @@
 //! The plan of a script.
 ghost use Rattle.std.specs.Prelude.{◌≡◌, ◌<◌, ◌↔◌, ℕ, length, Some, IsNone};
 ghost use Rattle.std.specs.List.{slice_get};
+ghost use Rattle.vq_model.specs.Checks.{is_immediate_batch};
 ghost use Rattle.vq_model.specs.Edges.{AtEnd, awaited_at, edges_to, must_finish};
 ghost use Rattle.vq_model.specs.LoweringFaults.{IsPlan, Lowers};
 ghost use Rattle.vq_model.specs.Plan.{chain, chain_of, initial, resolver, value};
@@ -12,8 +13,8 @@ use crate::uses::find_fault;
 use std::alloc::Global;
 use std::marker::Model;
 use vq_model::list::List;
-use vq_model::plan::{Op, PlanFault, PlanJob};
-use vq_model::script::{CommandLine, Job, Script};
+use vq_model::plan::{Lane, Op, PlanFault, PlanJob};
+use vq_model::script::{CommandLine, Job, Mode, Script};
 
 /// A script's jobs in lanes, with what each waits for, its commands and its signals.
 #[derive(Drop)]
@@ -78,6 +79,22 @@ impl Plan {
         ensures { slice_get self.now.jobs j ≡ Some result.now }
     {
         &self.tables.jobs[j as usize]
+    }
+
+    /// Whether a job is a batch of an immediate queue, which the host moves as soon as it has submitted it.
+    ///
+    /// Source: this project's rule.
+    pub fn is_immediate(&self, j: u32) -> bool
+        requires { j < length self.now.jobs }
+        ensures { result ≡ is_immediate_batch self.now j }
+    {
+        match self.job(j).lane {
+            Lane::Host => false,
+            Lane::Queue(queue) => match self.script().queues.as_slice().get(queue as usize) {
+                Some(queue) => matches!(queue.mode, Mode::Immediate),
+                None => false,
+            },
+        }
     }
 
     /// How many signal operations there are.

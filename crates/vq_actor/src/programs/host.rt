@@ -14,7 +14,6 @@ use crate::programs::waits::{Within, push_waits};
 use std::alloc::{AllocError, Global};
 use vq_model::list::List;
 use vq_model::plan::{Lane, Need, Question};
-use vq_model::script::Mode;
 use vq_spec::Plan;
 use vq_turns::task::Task;
 
@@ -94,20 +93,6 @@ fn push_step(alloc: Global, tasks: &mut Vec<Task>, plan: &Plan, j: u32) -> Resul
     Ok(())
 }
 
-/// Whether a job is a batch of an immediate queue.
-fn is_immediate(plan: &Plan, j: u32) -> bool
-    requires exists { j < length plan.now.jobs }
-    ensures { result ≡ is_immediate_batch plan.now j }
-{
-    match plan.job(j).lane {
-        Lane::Host => false,
-        Lane::Queue(queue) => match plan.script().queues.as_slice().get(queue as usize) {
-            Some(queue) => matches!(queue.mode, Mode::Immediate),
-            None => false,
-        },
-    }
-}
-
 /// Adds the tasks of a batch that the host does.
 fn push_batch(tasks: &mut Vec<Task>, plan: &Plan, j: u32) -> Result<(), AllocError>
     requires read { IsPlan plan.now }
@@ -116,7 +101,7 @@ fn push_batch(tasks: &mut Vec<Task>, plan: &Plan, j: u32) -> Result<(), AllocErr
         ++ Task.Submit j ∷ (if is_immediate_batch plan.now j then moves_batch plan.now j else [])) }
 {
     tasks.push(Task::Submit { job: j })?;
-    if is_immediate(plan, j) {
+    if plan.is_immediate(j) {
         return push_moves(tasks, plan, j);
     }
     Ok(())
