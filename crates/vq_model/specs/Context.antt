@@ -180,14 +180,6 @@ has_begun before = some (λ s. is_submit s || is_host_step s) before
 abbrev pub open_batch : List Line → List Line
 open_batch before = after_last (λ line. is_submit line.statement || is_end line.statement) before
 
--- the queue of the last batch that was begun
-abbrev pub queue_after : Option ℕ → Statement → Option ℕ
-queue_after was (BeginBatch q) = Some q
-queue_after was other = was
-
-abbrev pub last_queue : List Line → Option ℕ
-last_queue before = fold (λ was line. queue_after was line.statement) None before
-
 -- how many turns a line of the schedule gives
 abbrev pub turns_of : Statement → ℕ
 turns_of (TakeTurns actor count) = count

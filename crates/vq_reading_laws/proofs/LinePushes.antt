@@ -1,11 +1,11 @@
 -- What lines say with one line more.
-use Rattle.std.proofs.Common.{◌≡◌, ℕ, ◌+◌, ◌-◌, Bool, true, false, cond, not, List, [], ◌∷◌, ◌++◌, length, length-append, drop, ap, ◌∙◌, arith, ◌||◌, Option, None}
+use Rattle.std.proofs.Common.{◌≡◌, ℕ, ◌+◌, ◌-◌, Bool, true, false, cond, not, List, [], ◌∷◌, ◌++◌, length, length-append, drop, ap, ◌∙◌, arith, ◌||◌}
 use Rattle.std.specs.List.{after_last, suffix_len, prefix_len}
 use Rattle.std.proofs.lemmas.List.{reverse-append, drop-append-le, drop_all}
 use Rattle.vq_model.specs.declared.statement.Statement.{Statement}
 use Rattle.vq_model.specs.declared.statement.Line.{Line}
 use Rattle.std.proofs.lemmas.List.Sums.{sum_by-append, sum_by-cons, fold-append}
-use Rattle.vq_model.specs.Context.{count, section, section_after, last_queue, queue_after, open_batch, is_submit, is_end, some}
+use Rattle.vq_model.specs.Context.{count, section, section_after, open_batch, is_submit, is_end, some}
 use Rattle.vq_model.specs.Reading.{with_line}
 use Rattle.std.proofs.lemmas.List.Folds.{list_any-append}
 use Rattle.vq_model.specs.declared.statement.Section.TheVariants.{Outside}
@@ -48,12 +48,6 @@ module _ (before : List Line) (n : ℕ) (s : Statement) where
   pub section_push : section (with_line before n s) ≡ section_after (section before) s
   section_push =
       fold-append (λ was (l : Line). section_after was l.statement) Outside before
-      (a_line n s ∷ [])
-
-  -- the queue of the last batch
-  pub last_queue_push : last_queue (with_line before n s) ≡ queue_after (last_queue before) s
-  last_queue_push =
-      fold-append (λ (was : Option ℕ) (l : Line). queue_after was l.statement) None before
       (a_line n s ∷ [])
 
   -- whether some line is such a statement

@@ -1,10 +1,10 @@
 -- What the context says of the place of a line.
-use Rattle.std.proofs.Common.{◌≡◌, ℕ, ◌<◌, List, length, Some, ◌≤◌, Bool, true, false, ◌||◌, refl, sym, arith, ◌+◌, cond, [], ◌∷◌, ◌++◌, length-append, Option, ap, ◌∙◌, subst}
+use Rattle.std.proofs.Common.{◌≡◌, ℕ, ◌<◌, List, length, ◌≤◌, Bool, true, false, ◌||◌, refl, sym, arith, ◌+◌, cond, [], ◌∷◌, ◌++◌, length-append, ap, ◌∙◌, subst}
 use Rattle.std.specs.Prelude.{nat_lt}
 use Rattle.vq_model.specs.declared.statement.Section.TheVariants.{InBatch, Outside, InSchedule}
 use Rattle.vq_model.specs.declared.statement.Line.{Line}
 use Rattle.vq_model.specs.declared.statement.Form.{Form}
-use Rattle.vq_model.specs.Context.{section, queues, last_queue, open_batch, is_wait, is_signal, count, some, section_after, queue_of, queue_after, is_submit, is_end}
+use Rattle.vq_model.specs.Context.{section, queues, open_batch, is_wait, is_signal, count, some, section_after, queue_of, is_submit, is_end}
 use Rattle.vq_model.specs.LineFaults.{part_of}
 use Rattle.vq_reading_laws.proofs.Standing.{Where, is_outside, is_inside, in_schedule, declared_by, where_after, Stands}
 use Rattle.std.proofs.lemmas.Bool.{ltb-true, lt-ltb, ltb-false}
@@ -14,7 +14,7 @@ use Rattle.vq_model.specs.declared.statement.Section.{Section}
 use Rattle.vq_model.specs.declared.statement.Statement.{Statement}
 use Rattle.vq_model.specs.declared.statement.Statement.TheVariants.{BeginBatch, DeclareBuffer, DeclareSemaphore, DeclareQueue, AddWait, AddCommand, AddSignal, AddFence, EndBatch, BeginSchedule, TakeTurns, TakeHostStep}
 use Rattle.vq_model.specs.Reading.{with_line}
-use Rattle.vq_reading_laws.proofs.LinePushes.{a_line, count_push, section_push, last_queue_push, some_push, open_push}
+use Rattle.vq_reading_laws.proofs.LinePushes.{a_line, count_push, section_push, some_push, open_push}
 use Rattle.std.proofs.lemmas.List.{length-map}
 use Rattle.vq_model.specs.declared.script.Queue.{Queue}
 use Rattle.vq_reading_laws.proofs.LineFacts.{Said}
@@ -24,7 +24,6 @@ use Rattle.vq_reading_laws.proofs.LineFacts.{Said}
 -- What lines say that lead into a batch.
 pub record LeadInside (before : List Line) (q w g k : ℕ) : Type 0 where
   pub part : section before ≡ InBatch
-  pub queue : last_queue before ≡ Some q
   pub exists : q < length (queues before)
   pub waits : count is_wait (open_batch before) ≡ w
   pub signals : count is_signal (open_batch before) ≡ g
@@ -58,11 +57,11 @@ none_below j = by_test (nat_lt j 0) refl
 module _ (before : List Line) (n : ℕ) (s : Statement) where
   -- what a line more of an open batch leads to
   inside_more : (q w g k v h p : ℕ) → LeadInside before q w g k →
-      section_after InBatch s ≡ InBatch → queue_after (Some q) s ≡ Some q →
+      section_after InBatch s ≡ InBatch →
       (is_submit s || is_end s) ≡ false → v ≡ w + cond (is_wait s) 1 0 →
       h ≡ g + cond (is_signal s) 1 0 → part_of s ≡ p → k ≤ p →
       LeadInside (with_line before n s) q v h p
-  inside_more q w g k v h p t stays same opens waits signals part l =
+  inside_more q w g k v h p t stays opens waits signals part l =
       let opened : open_batch (with_line before n s) ≡ open_batch before ++ a_line n s ∷ [] =
       open_push before n s
       ∙ ap (λ (b : Bool). cond b [] (open_batch before ++ a_line n s ∷ [])) opens in
@@ -75,8 +74,6 @@ module _ (before : List Line) (n : ℕ) (s : Statement) where
       let ts = t.signals in
       record {
         part = section_push before n s ∙ (ap (λ (x : Section). section_after x s) t.part ∙ stays);
-        queue =
-            last_queue_push before n s ∙ (ap (λ (x : Option ℕ). queue_after x s) t.queue ∙ same);
         exists = omega arith;
         waits = ap (count is_wait) opened ∙ (cw ∙ omega arith);
         signals = ap (count is_signal) opened ∙ (cs ∙ omega arith);
@@ -98,7 +95,6 @@ module _ (before : List Line) (n : ℕ) (s : Statement) where
       ∙ length-append (queues before) (filter_map queue_of (a_line n s ∷ [])) in
       record {
         part = section_push before n s ∙ ap (section_after (section before)) e;
-        queue = last_queue_push before n s ∙ ap (queue_after (last_queue before)) e;
         exists = omega arith;
         waits = ap (count is_wait) opened;
         signals = ap (count is_signal) opened;
@@ -118,16 +114,16 @@ lead_more before n is_outside (BeginBatch q) t h =
     let same = length-map (queues before) (λ (x : Queue). x.mode) in
     inside_first before n (BeginBatch q) q refl (omega arith)
 lead_more before n (is_inside q w g k) (AddWait pair from) t h =
-    inside_more before n (AddWait pair from) q w g k (w + 1) g 1 t refl refl refl refl
+    inside_more before n (AddWait pair from) q w g k (w + 1) g 1 t refl refl refl
     (omega arith) refl h.parts
 lead_more before n (is_inside q w g k) (AddCommand c) t h =
-    inside_more before n (AddCommand c) q w g k w g 2 t refl refl refl (omega arith) (omega arith)
+    inside_more before n (AddCommand c) q w g k w g 2 t refl refl (omega arith) (omega arith)
     refl h.1
 lead_more before n (is_inside q w g k) (AddSignal pair) t h =
-    inside_more before n (AddSignal pair) q w g k w (g + 1) 3 t refl refl refl (omega arith) refl
+    inside_more before n (AddSignal pair) q w g k w (g + 1) 3 t refl refl (omega arith) refl
     refl h.2
 lead_more before n (is_inside q w g k) (AddFence f) t h =
-    inside_more before n (AddFence f) q w g k w g 4 t refl refl refl (omega arith) (omega arith)
+    inside_more before n (AddFence f) q w g k w g 4 t refl refl (omega arith) (omega arith)
     refl h.1
 lead_more before n (is_inside q w g k) EndBatch t h = section_push before n EndBatch
 lead_more before n is_outside (TakeHostStep step) t h =
