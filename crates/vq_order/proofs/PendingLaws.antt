@@ -1,5 +1,5 @@
 -- Waits of immediate batches whose signals may come late, found by the needs of each batch.
-use Rattle.std.proofs.Common.{◌≡◌, ◌↔◌, IsTrue, ℕ, ◌<◌, ◌||◌, Bool, true, false, nat_le, length, Option, Some, None, refl, sym, ap, ◌∙◌, inl, inr, subst, arith}
+use Rattle.std.proofs.Common.{◌≡◌, ◌↔◌, IsTrue, ℕ, ◌<◌, Bool, true, false, nat_le, length, Option, Some, None, refl, sym, ◌∙◌, inl, inr, subst, arith}
 use Rattle.std.specs.List.{slice_get}
 use Rattle.std.specs.Option.{option_map_or}
 use Rattle.std.proofs.lemmas.Bool.{false≢true}
@@ -8,7 +8,7 @@ use Rattle.vq_model.specs.declared.plan.Lane.TheVariants.{Host as HostLane, Queu
 use Rattle.vq_model.specs.declared.plan.PlanJob.{PlanJob}
 use Rattle.vq_model.specs.Checks.{IsLeast, IsNotPendingAt, NoLine, is_immediate_batch, is_immediate_lane}
 use Rattle.vq_model.specs.LoweringFaults.{IsPlan}
-use Rattle.vq_model.specs.Plan.{Plan, chain, host_before, is_host_lane, is_host_step, job_of, needs, resolver, value}
+use Rattle.vq_model.specs.Plan.{Plan, chain, host_before, is_host_lane, is_host_step, needs, resolver, value}
 use Rattle.vq_model.specs.Sure.{IsSure}
 use Rattle.vq_model.proofs.Gets.{get_within}
 use Rattle.vq_model.proofs.Searches.{find_member}
@@ -17,7 +17,6 @@ use Rattle.vq_plan_laws.proofs.Cited.{plan_hosts, plan_well_formed}
 use Rattle.vq_order.specs.declared.lines.Lines.{Lines}
 use Rattle.vq_order.specs.LeastLines.{AreLeastOrNone, IsOfFirst}
 use Rattle.vq_order.specs.Pending.{IsAheadIn, IsSureBefore}
-use Rattle.vq_order.specs.Unreached.{IsLeastOrNone}
 use Rattle.vq_order.specs.VectorClocks.{IsComplete}
 use Rattle.vq_order.proofs.UnorderedLaws.{op_here, waiter_exists}
 

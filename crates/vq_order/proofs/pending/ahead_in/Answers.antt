@@ -1,4 +1,4 @@
-use Rattle.std.proofs.Common.{◌≡◌, ℕ, ◌+◌, length, get_or, Option, ap, sym, ◌∙◌, subst, arith}
+use Rattle.std.proofs.Common.{◌+◌, length, get_or, Option, ap, sym, ◌∙◌, subst, arith}
 use Rattle.vq_model.specs.declared.plan.Need.{Need}
 use Rattle.vq_model.specs.Checks.{is_immediate_batch}
 use Rattle.vq_model.specs.Plan.{Plan, needs}
