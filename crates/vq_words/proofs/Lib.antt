@@ -1,0 +1,2 @@
+mod ByWord
+mod Leaves

@@ -1,0 +1,35 @@
+use Rattle.std.proofs.Common.{rules, ◌≡◌, ◌∙◌, ap, sym, subst, map, string_bytes, true, codes}
+use Rattle.clap.specs.Faults.{is_simple_and_free}
+use Rattle.clap.specs.Matches.{found_of}
+use Rattle.clap.specs.Simple.{app_of, is_simple}
+use Rattle.clap.specs.Walk.{rows_of}
+use Rattle.clap.proofs.WalkLemmas.{first_value-rows, one_text-rows}
+use Rattle.vq_words.specs.Grammar.{Gives, task_of}
+use Rattle.vq_words.specs.Options.{has_clap_form, task_by}
+use Rattle.vq_words.proofs.Leaves.{answered, failed, gives}
+use Rattle.vq_words.proofs.read.read_words.Goals as goal
+
+pub returns-in-Ok-try_get_matches_from : goal.returns-in-Ok-try_get_matches_from
+returns-in-Ok-try_get_matches_from c =
+    let form : has_clap_form (map string_bytes c.args.words.now) ≡ true = search rules in
+    let found = found_of c.in-Ok-try_get_matches_from.matches in
+    let check = one_text-rows found (codes "check") in
+    let replay = one_text-rows found (codes "replay") in
+    let said = answered (app_of c.in-Ok.command) (map string_bytes c.args.words.now) (rows_of found) c.get_flag-check.result c.get_flag-replay.result
+    c.in-Ok.ensures form
+    (c.in-Ok-try_get_matches_from.ensures.kinds (ap is_simple_and_free c.in-Ok.ensures))
+    (c.in-Ok-try_get_matches_from.ensures.matches (ap is_simple c.in-Ok.ensures)).0
+    (λ e. c.get_flag-check.ensures.value (check ∙ e))
+    (λ e. c.get_flag-check.ensures.other (check ∙ e))
+    (λ e. c.get_flag-replay.ensures.value (replay ∙ e))
+    (λ e. c.get_flag-replay.ensures.other (replay ∙ e)) in
+    let number = c.get_str.ensures ∙ first_value-rows found (codes "generate") in
+    let asked = c.task_by.ensures ∙ ap (task_by c.get_flag-check.result c.get_flag-replay.result) number ∙ said in
+    subst (λ r. Gives r (task_of (map string_bytes c.args.words.now))) (sym c.ok_or.ensures.value) (gives c.task_by.result _ asked)
+
+pub returns : goal.returns
+returns c =
+    let form : has_clap_form (map string_bytes c.args.words.now) ≡ true = search rules in
+    failed (app_of c.in-Ok.command) (map string_bytes c.args.words.now) c.in-Err.error c.in-Ok.ensures form
+    (c.in-Err.ensures.kinds (ap is_simple_and_free c.in-Ok.ensures))
+    (λ e. c.in_default-kind.not-OutOfMemory (c.kind.ensures ∙ e))

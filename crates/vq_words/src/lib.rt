@@ -1,0 +1,12 @@
+//! The words of the command line, read with `clap`.
+#![tactic(auto)]
+
+mod command;
+mod read;
+mod rounds;
+mod task;
+#[cfg(test)]
+mod tests;
+
+pub use read::read_words;
+pub use task::{Task, WordsFault};

@@ -1,0 +1,62 @@
+//! The words of the command line, read.
+ghost use Rattle.std.specs.Prelude.{◌≡◌, map, option_map, string_bytes};
+ghost use Rattle.vq_words.specs.Grammar.{Gives, task_of};
+ghost use Rattle.vq_words.specs.Options.{has_clap_form, task_by};
+
+use crate::command::command;
+use crate::rounds::number_of_rounds;
+use crate::task::{Task, WordsFault};
+use clap::error::ErrorKind;
+use std::alloc::Global;
+
+/// Whether the list has two words at most, of which none is `--`.
+fn has_clap_form(words: &[String]) -> bool
+    ensures { result ≡ has_clap_form (map string_bytes words.now) }
+{
+    match words {
+        [] => true,
+        [word] => word.as_str() != "--",
+        [word, number] => word.as_str() != "--" && number.as_str() != "--",
+        [_, _, _, ..] => false,
+    }
+}
+
+/// The task that the options given ask for; none for two options, and for a number outside its form.
+fn task_by(check: bool, replay: bool, number: Option<&str>) -> Option<Task>
+    ensures { result ≡ task_by check replay (option_map (λ s. s.now) number.entry) }
+{
+    match (check, replay, number) {
+        (false, false, None) => Some(Task::Run),
+        (true, false, None) => Some(Task::Check),
+        (false, true, None) => Some(Task::Replay),
+        (false, false, Some(word)) => Some(Task::Generate(number_of_rounds(word.as_bytes())?)),
+        _ => None,
+    }
+}
+
+/// Reads the words of the command line, without the program's name.
+///
+/// The words are none, `--check` alone, `--replay` alone, `--generate` and N, or `--generate=N` as one
+/// word, where N is one to three decimal digits that write a number from 1 to 500. `Bad` comes for every
+/// other list, and `Memory` where memory is wanting. Source: this project's own.
+pub fn read_words(alloc: Global, words: &[String]) -> Result<Task, WordsFault>
+    ensures { Gives result (task_of (map string_bytes words.now)) }
+{
+    if !has_clap_form(words) {
+        return Err(WordsFault::Bad);
+    }
+    let Ok(command) = command(alloc) else {
+        return Err(WordsFault::Memory);
+    };
+    match command.try_get_matches_from(words) {
+        Ok(matches) => {
+            let check = matches.get_flag("check");
+            let replay = matches.get_flag("replay");
+            task_by(check, replay, matches.get_str("generate")).ok_or(WordsFault::Bad)
+        }
+        Err(error) => match error.kind() {
+            ErrorKind::OutOfMemory => Err(WordsFault::Memory),
+            _ => Err(WordsFault::Bad),
+        },
+    }
+}

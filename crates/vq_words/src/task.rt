@@ -1,0 +1,23 @@
+//! What the words of the command line ask for.
+
+/// What a run is asked for. Source: this project's own.
+#[derive(Clone, Copy, Debug, PartialEq, Eq)]
+pub enum Task {
+    /// Without words: the script is run, and its answers and buffers are written.
+    Run,
+    /// `--check`: it is written whether the script is lawful, and nothing is started.
+    Check,
+    /// `--replay`: the schedule of the script is played, and the trace of its turns is written.
+    Replay,
+    /// `--generate N` or `--generate=N`: a script of so many rounds is written, from 1 to 500.
+    Generate(u32),
+}
+
+/// Why words are not read. Source: this project's own.
+#[derive(Clone, Copy, Debug, PartialEq, Eq)]
+pub enum WordsFault {
+    /// The words are outside the grammar.
+    Bad,
+    /// Memory for reading them is wanting.
+    Memory,
+}
