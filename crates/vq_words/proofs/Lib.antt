@@ -1,2 +1,3 @@
+mod AllWords
 mod ByWord
-mod Leaves
+mod Strays

@@ -8,6 +8,7 @@ use Rattle.vq_words.specs.declared.task.Task.{Task}
 use Rattle.vq_words.specs.declared.task.Task.TheVariants.{Run, Check, Replay}
 use Rattle.vq_words.specs.Grammar.{generated}
 
+-- two flags, and an option with one value
 abbrev pub check_option : Rule
 check_option = record (new_rule (codes "check")) { long = Some (codes "check"); action = Some SetTrue }
 
@@ -19,11 +20,13 @@ generate_option = record (new_rule (codes "generate")) { long = Some (codes "gen
 
 -- the program without options, whose words are read from the first on, and without help
 abbrev pub without_options : App
-without_options = on_top (λ s. record s { no_binary_name = true; disable_help_flag = true }) (new_app (codes "vq"))
+without_options =
+    on_top (λ s. record s { no_binary_name = true; disable_help_flag = true }) (new_app (codes "vq"))
 
 abbrev pub vq_options : App
 vq_options = with_rule (with_rule (with_rule without_options check_option) replay_option) generate_option
 
+-- the word is not `--`, which ends the options
 abbrev pub is_no_stop : List ℕ → Bool
 is_no_stop word = not (bytes_eq word (codes "--"))
 
@@ -34,7 +37,7 @@ has_clap_form (word ∷ []) = is_no_stop word
 has_clap_form (word ∷ number ∷ []) = is_no_stop word && is_no_stop number
 has_clap_form (word ∷ number ∷ more ∷ words) = false
 
--- the task by the two flags and the value of `--generate`, of which one at most is given
+-- the task by the two flags and the value of `--generate`, where one of them at most is given
 abbrev pub task_by : Bool → Bool → Option (List ℕ) → Option Task
 task_by false false None = Some Run
 task_by true false None = Some Check

@@ -6,7 +6,7 @@ use Rattle.clap.specs.Walk.{rows_of}
 use Rattle.clap.proofs.WalkLemmas.{first_value-rows, one_text-rows}
 use Rattle.vq_words.specs.Grammar.{Gives, task_of}
 use Rattle.vq_words.specs.Options.{has_clap_form, task_by}
-use Rattle.vq_words.proofs.Leaves.{answered, failed, gives}
+use Rattle.vq_words.proofs.AllWords.{answered, failed, gives}
 use Rattle.vq_words.proofs.read.read_words.Goals as goal
 
 pub returns-in-Ok-try_get_matches_from : goal.returns-in-Ok-try_get_matches_from

@@ -1,28 +1,21 @@
--- What `clap` makes of the words, against the task that they ask for.
-use Rattle.std.proofs.Common.{◌≡◌, ◌≢◌, ◌∙◌, inl, inr, ◌==◌, ◌&&◌, true≢false, ◌∷◌, ◌++◌, ℕ, List, [], Option, Some, None, Bool, true, false, cond, refl, sym, ap, ap₂, subst, length, codes}
+-- What `clap` makes of words against the task that they ask for; words that name no option.
+use Rattle.std.proofs.Common.{◌≡◌, ◌∙◌, ◌==◌, ◌∷◌, ◌++◌, ℕ, List, [], Option, Some, None, Bool, true, false, cond, refl, sym, ap, subst, length, codes}
 use Rattle.std.proofs.lemmas.Bool.{eqb-true}
 use Rattle.std.proofs.lemmas.Slice.Eq.{bytes_eq-Decides}
-use Rattle.std.specs.Option.{is_some, ok_or, option_map_or}
-use Rattle.std.specs.Prelude.{if◌then◌else◌, not, option_and_then, slice_get, unwrap_or}
+use Rattle.std.specs.Option.{is_some, option_map_or}
+use Rattle.std.specs.Prelude.{if◌then◌else◌, option_and_then, slice_get, unwrap_or}
 use Rattle.std.specs.Str.{bytes_eq, chars}
-use Rattle.clap.specs.Faults.{bundle_fault, bundle_step_fault, check_fault, defaults_fault, entered_fault, fault_of, flag_word_fault, flags_fault, is_simple_and_free, long_fault, settle_fault, step_fault, turn_fault, walk_fault}
-use Rattle.clap.specs.Kinds.{HasKind, Kinds, or_else}
+use Rattle.clap.specs.Faults.{bundle_fault, bundle_step_fault, check_fault, defaults_fault, entered_fault, fault_of, flag_word_fault, flags_fault, long_fault, settle_fault, step_fault, turn_fault, walk_fault}
+use Rattle.clap.specs.Kinds.{Kinds, or_else}
 use Rattle.clap.specs.Lexer.{long_of, short_of}
-use Rattle.clap.specs.Simple.{App, Shape, built, entered, matches_of}
+use Rattle.clap.specs.Simple.{Shape, built, entered, matches_of}
 use Rattle.clap.specs.Walk.{Held, Row, Rule, Step, Text, Waiting, Walk, after_flag, after_step, arg_by_long, bundle_met, bundle_step, finished, first_of, idle, long_or_other, nothing_held, one_of, option, plain, settled, short_or_plain, trailing, walk_from}
-use Rattle.clap.specs.Values.{kind_of}
-use Rattle.clap.specs.declared.error.Error.{Error}
-use Rattle.clap.specs.declared.error.kind.ErrorKind.TheVariants.{OutOfMemory}
 use Rattle.clap.proofs.OnLiterals.{clap_on_literals}
-use Rattle.vq_words.specs.Grammar.{Gives, behind, generated, task_of}
-use Rattle.vq_words.specs.Options.{has_clap_form, task_by, vq_options}
+use Rattle.vq_words.specs.Grammar.{behind, generated, task_of}
+use Rattle.vq_words.specs.Options.{task_by, vq_options}
 use Rattle.vq_words.specs.declared.task.Task.{Task}
 use Rattle.vq_words.specs.declared.task.Task.TheVariants.{Check, Replay}
-use Rattle.vq_words.specs.declared.task.WordsFault.TheVariants.{Bad}
-use Rattle.vq_words.proofs.ByWord.{by_word, long_is, not_none, option_in, rules, short_is}
-
-pub is_free : is_simple_and_free vq_options ≡ true
-is_free = refl
+use Rattle.vq_words.proofs.ByWord.{long_is, not_none, option_in, rules, short_is}
 
 abbrev pub flag_text : Bool → Text
 flag_text b = cond b (codes "true") (codes "false")
@@ -36,14 +29,14 @@ Tells (k ∷ ks) rows task = task ≡ None
 abbrev pub Says : List Text → Type 0
 Says words = Tells (fault_of vq_options words) (matches_of vq_options words) (task_of words)
 
-abbrev shape : Shape
+abbrev pub shape : Shape
 shape = (built vq_options).top
 
-abbrev HasFault : Kinds → Type 0
+abbrev pub HasFault : Kinds → Type 0
 HasFault [] = ⊥
 HasFault (k ∷ ks) = Unit {0}
 
-either : (f g : Kinds) → HasFault f → HasFault (or_else f g)
+pub either : (f g : Kinds) → HasFault f → HasFault (or_else f g)
 either [] g h = absurd h
 either (k ∷ ks) g h = tt
 
@@ -77,7 +70,7 @@ idle_long (Some p) word rows none =
     either (long_fault rules false (arg_by_long rules p.0) p.1 h) _ (subst (λ (a : Option Rule). HasFault (long_fault rules false a p.1 h)) (sym none) tt)
 
 -- where no option waits for a value, it is a fault
-idle_stray : (word : Text) (rows : List Row) → bytes_eq word (codes "--") ≡ false → option_in word ≡ None
+pub idle_stray : (word : Text) (rows : List Row) → bytes_eq word (codes "--") ≡ false → option_in word ≡ None
     → HasFault (turn_fault shape [] (walk_from (record { rows = rows; pending = None; skip = 0 })) word)
 idle_stray word rows free none =
     let h : Held = record { rows = rows; pending = None; skip = 0 } in
@@ -85,7 +78,7 @@ idle_stray word rows free none =
     HasFault (or_else (if b then [] else flag_word_fault rules false (long_of word) word h) (step_fault shape 1 met.0 met.1)))
     (sym free) (idle_long (long_of word) word rows none)
 
-by_fault : (words : List Text) → HasFault (walk_fault shape [] (walk_from nothing_held) words) → task_of words ≡ None → Says words
+pub by_fault : (words : List Text) → HasFault (walk_fault shape [] (walk_from nothing_held) words) → task_of words ≡ None → Says words
 by_fault words found none = go (walk_fault shape [] (walk_from nothing_held) words) _ found
   where
     go : (f g : Kinds) → HasFault f → Tells (or_else f g) (matches_of vq_options words) (task_of words)
@@ -103,7 +96,7 @@ behind_is (b ∷ beginning) (c ∷ word) rest e = go (b == c) refl e (behind_is 
     go true is found more = ap (λ (y : ℕ). y ∷ word) (sym (eqb-true b c is)) ∙ ap (λ (ys : Text). b ∷ ys) (more found)
     go false is found more = absurd (not_none rest (sym found))
 
-stray_asks : (word : Text) → option_in word ≡ None → task_of (word ∷ []) ≡ None
+pub stray_asks : (word : Text) → option_in word ≡ None → task_of (word ∷ []) ≡ None
 stray_asks word none = go _ _ _ refl refl refl
   where
     is_not : (known : Text) (rule : Rule) → word ≡ known → option_in known ≡ Some rule → ⊥
@@ -117,7 +110,7 @@ stray_asks word none = go _ _ _ refl refl refl
     go false false None ea eb eo = refl
 
 -- and before a number neither
-stray_asks_before : (word number : Text) → option_in word ≡ None → task_of (word ∷ number ∷ []) ≡ None
+pub stray_asks_before : (word number : Text) → option_in word ≡ None → task_of (word ∷ number ∷ []) ≡ None
 stray_asks_before word number none = go _ refl
   where
     go : (a : Bool) → bytes_eq word (codes "--generate") ≡ a → (if a then generated number else None) ≡ None
@@ -178,104 +171,9 @@ value_long (Some p) word e none =
     (subst (λ (a : Option Rule). HasFault (long_fault rules false a p.1 waiting_held)) (sym none) tt) (ap generated (long_is word p.0 p.1 e))
 
 -- it is the value, and no number of rounds where it begins with a hyphen
-value_stray : (word : Text) → bytes_eq word (codes "--") ≡ false → option_in word ≡ None → Says (codes "--generate" ∷ word ∷ [])
+pub value_stray : (word : Text) → bytes_eq word (codes "--") ≡ false → option_in word ≡ None → Says (codes "--generate" ∷ word ∷ [])
 unfolding clap_on_literals
 value_stray word free none =
     subst (λ (b : Bool). let met = if b then (waiting_held, trailing 1) else long_or_other rules waiting word (long_of word) waiting_held in
     Ends word (if b then [] else flag_word_fault rules false (long_of word) word waiting_held) met.0 met.1)
     (sym free) (value_long (long_of word) word refl none)
-
--- ---- all lists
-
--- the walk behind a first word that is taken
-abbrev Second : Text → Text → Type 0
-Second first word = bytes_eq word (codes "--") ≡ false → Says (first ∷ word ∷ [])
-
-after_check : (word : Text) → Second (codes "--check") word
-unfolding clap_on_literals
-after_check word = by_word (Second (codes "--check")) word
-    (λ f. refl) (λ x f. refl) (λ f. (true, true, refl, refl, refl)) (λ x f. refl) (λ f. refl) (λ x f. (true, false, refl, refl, refl))
-    (λ none f. by_fault (codes "--check" ∷ word ∷ []) (either _ [] (idle_stray word _ f none)) refl)
-
-after_replay : (word : Text) → Second (codes "--replay") word
-unfolding clap_on_literals
-after_replay word = by_word (Second (codes "--replay")) word
-    (λ f. (true, true, refl, refl, refl)) (λ x f. refl) (λ f. refl) (λ x f. refl) (λ f. refl) (λ x f. (false, true, refl, refl, refl))
-    (λ none f. by_fault (codes "--replay" ∷ word ∷ []) (either _ [] (idle_stray word _ f none)) refl)
-
-after_number : (n word : Text) → Second (codes "--generate=" ++ n) word
-unfolding clap_on_literals
-after_number n word = by_word (Second (codes "--generate=" ++ n)) word
-    (λ f. (true, false, refl, refl, refl)) (λ x f. refl) (λ f. (false, true, refl, refl, refl)) (λ x f. refl) (λ f. refl) (λ x f. refl)
-    (λ none f. by_fault ((codes "--generate=" ++ n) ∷ word ∷ []) (either _ [] (idle_stray word _ f none)) refl)
-
-after_generate : (word : Text) → Second (codes "--generate") word
-unfolding clap_on_literals
-after_generate word = by_word (Second (codes "--generate")) word
-    (λ f. refl) (λ x f. refl) (λ f. refl) (λ x f. refl) (λ f. refl) (λ x f. refl) (λ none f. value_stray word f none)
-
-alone : (word : Text) → bytes_eq word (codes "--") ≡ false → Says (word ∷ [])
-unfolding clap_on_literals
-alone word = by_word (λ w. bytes_eq w (codes "--") ≡ false → Says (w ∷ [])) word
-    (λ f. (true, false, refl, refl, refl)) (λ x f. refl) (λ f. (false, true, refl, refl, refl)) (λ x f. refl) (λ f. refl) (λ x f. (false, false, refl, refl, refl))
-    (λ none f. by_fault (word ∷ []) (either _ [] (idle_stray word [] f none)) (stray_asks word none))
-
-pair : (first word : Text) → bytes_eq first (codes "--") ≡ false → bytes_eq word (codes "--") ≡ false → Says (first ∷ word ∷ [])
-unfolding clap_on_literals
-pair first word = by_word (λ w. bytes_eq w (codes "--") ≡ false → bytes_eq word (codes "--") ≡ false → Says (w ∷ word ∷ [])) first
-    (λ f. after_check word) (λ x f g. refl) (λ f. after_replay word) (λ x f g. refl) (λ f. after_generate word) (λ x f. after_number x word)
-    (λ none f g. by_fault (first ∷ word ∷ []) (either _ _ (idle_stray first [] f none)) (stray_asks_before first word none))
-
-no_stop : (b : Bool) → not b ≡ true → b ≡ false
-no_stop true e = sym e
-no_stop false e = refl
-
-both_free : (a b : Bool) → (a && b) ≡ true → (a ≡ true) × (b ≡ true)
-both_free true b e = (refl, e)
-both_free false b e = absurd (true≢false (sym e))
-
-pub says : (words : List Text) → has_clap_form words ≡ true → Says words
-unfolding clap_on_literals
-says [] form = (false, false, refl, refl, refl)
-says (word ∷ []) form = alone word (no_stop _ form)
-says (first ∷ word ∷ []) form =
-    let free = both_free _ _ form in
-    pair first word (no_stop _ free.0) (no_stop _ free.1)
-says (first ∷ word ∷ more ∷ words) form = absurd (true≢false (sym form))
-
--- ---- what is read of an answer
-
-flag_is : (o : Option Text) (r b : Bool) → (o ≡ Some (codes "true") → r ≡ true) → (o ≡ Some (codes "false") → r ≡ false) → o ≡ Some (flag_text b) → r ≡ b
-flag_is o r true set clear is = set is
-flag_is o r false set clear is = clear is
-
--- the two flags of the answer and its value ask for what the words ask for
-pub answered : (app : App) (words : List Text) (rows : List Row) (check replay : Bool) → app ≡ vq_options → has_clap_form words ≡ true
-    → fault_of app words ≡ [] → rows ≡ matches_of app words
-    → (one_of (codes "check") rows ≡ Some (codes "true") → check ≡ true) → (one_of (codes "check") rows ≡ Some (codes "false") → check ≡ false)
-    → (one_of (codes "replay") rows ≡ Some (codes "true") → replay ≡ true) → (one_of (codes "replay") rows ≡ Some (codes "false") → replay ≡ false)
-    → task_by check replay (first_of (codes "generate") rows) ≡ task_of words
-answered app words rows check replay is form free found check_yes check_no replay_yes replay_no =
-    let rows_are : matches_of vq_options words ≡ rows = sym (found ∙ ap (λ (a : App). matches_of a words) is) in
-    let none : fault_of vq_options words ≡ [] = sym (ap (λ (a : App). fault_of a words) is) ∙ free in
-    let told : Tells [] rows (task_of words) =
-    subst (λ (p : Kinds × List Row). Tells p.0 p.1 (task_of words)) (λ i. (none i, rows_are i)) (says words form) in
-    let check_is = flag_is _ check told.0 check_yes check_no told.2 in
-    let replay_is = flag_is _ replay told.1 replay_yes replay_no told.3 in
-    ap₂ (λ (a b : Bool). task_by a b (first_of (codes "generate") rows)) check_is replay_is ∙ told.4
-
--- a fault other than want of memory comes where the words ask for nothing
-pub failed : (app : App) (words : List Text) (error : Error) → app ≡ vq_options → has_clap_form words ≡ true → HasKind (fault_of app words) error
-    → kind_of error ≢ OutOfMemory → task_of words ≡ None
-failed app words error is form has memory =
-    go (fault_of vq_options words) (subst (λ (a : App). HasKind (fault_of a words) error) is has) (says words form)
-  where
-    go : (kinds : Kinds) → HasKind kinds error → Tells kinds (matches_of vq_options words) (task_of words) → task_of words ≡ None
-    go kinds (inl e) told = absurd (memory e)
-    go [] (inr none) told = absurd none
-    go (k ∷ ks) (inr among) told = told
-
--- the answer where there is a task, and where there is none
-pub gives : (task asked : Option Task) → task ≡ asked → Gives (ok_or task Bad) asked
-gives None asked e = sym e
-gives (Some task) asked e = sym e
