@@ -1,6 +1,6 @@
 -- What a run leaves in the sink, from the outcome of its input and from what writing it left.
 use Rattle.std.proofs.Common.{◌≡◌, ℕ, ◌<◌, ◌≤◌, List, length, Option, Some, None, IfSome, refl, subst, sym, arith, ap, ◌∙◌}
-use Rattle.std.specs.Prelude.{Ok, Err, OnSome, []}
+use Rattle.std.specs.Prelude.{Result, Ok, Err, IfOk, OnSome, []}
 use Rattle.std.proofs.lemmas.List.Elements.{All-nil}
 use Rattle.vq_model.specs.declared.script.Script.{Script}
 use Rattle.vq_model.specs.declared.plan.PlanFault.{PlanFault}
@@ -18,17 +18,22 @@ use Rattle.vq_model.specs.declared.script.Turn.{Turn}
 use Rattle.vq_model.specs.SameScript.{IsRead}
 use Rattle.vq_model.specs.ValidScripts.{IsActor}
 use Rattle.vq_reading_laws.proofs.Cited.{read_turns}
-use Rattle.vq_main.specs.Tasks.{form_of, planned, turns_for}
+use Rattle.vq_main.specs.Tasks.{form_of, planned, turns_for, RunsThreads}
+use Rattle.vq_model.specs.Outputs.{IsOutput}
 use Rattle.vq_plan_laws.proofs.Cited.{kept_read, moved_read}
 use Rattle.vq_model.specs.Refusals.{too_long, line_refusal, plan_refusal, order_refusal}
 use Rattle.vq_order_laws.proofs.Cited.{lawful_without_fault}
-use Rattle.vq_main.specs.declared.task.Task.{Task}
-use Rattle.vq_main.specs.declared.task.Task.TheVariants.{Run, Check, Replay}
+use Rattle.vq_words.specs.declared.task.Task.{Task}
+use Rattle.vq_words.specs.declared.task.Task.TheVariants.{Run, Check, Replay, Generate}
 use Rattle.vq_main.specs.declared.status.Status.{Status}
 use Rattle.vq_main.specs.declared.status.Status.TheVariants.{Done, BadWords, Refused, ReadFault, WriteFault, Memory}
 use Rattle.vq_main.specs.Outcomes.{IsOutcome, is_too_long, has_faulty_line, has_no_plan, is_unlawful, gives_answer, Ends, AnswersTask, RefusesPlan, RefusesOrder, ReadsToEnd, IsLawfulInput, IsDoneOrMemory, input_limit}
-use Rattle.vq_main.specs.Outcomes.{IsReadFor, ArePlayable, IsTrace}
-use Rattle.vq_main.specs.Writes.{SinkMoment, WroteAll, Writes, wrote_all, wrote_part}
+use Rattle.vq_main.specs.Outcomes.{IsReadFor, ArePlayable, IsTrace, IsLawfulPlan, IsReading, WritesNothing}
+use Rattle.vq_port.specs.Faults.{Rose}
+use Rattle.vq_port.specs.declared.read.ReadFault.{ReadFault as Unread}
+use Rattle.vq_port.specs.declared.read.ReadFault.TheVariants.{Failed, TooLong, Memory as NoMemoryToRead}
+use Rattle.vq_main.specs.declared.outcome.Outcome.{Outcome}
+use Rattle.vq_main.specs.Writes.{SinkMoment, WroteAll, Writes, wrote_all, wrote_part, EndsWith, EndsUnread}
 
 -- a whole outcome was written
 whole_ends : (task : Task) (input : List ℕ) (status : Status) (text : List ℕ) (before now : SinkMoment) →
@@ -49,21 +54,114 @@ outcome_ends task input status result text before now o (wrote_all same a) =
 outcome_ends task input status result text before now o (wrote_part same a rose) =
     subst (λ s. Ends task input s before now) (sym same) (status, text, o, a)
 
--- the same for an input that the source told
-pub told_ends : (task : Task) (left : Option (List ℕ)) (bytes : List ℕ) (status result : Status) (text : List ℕ) (before now : SinkMoment) →
-    IfSome left (λ all. bytes ≡ all) → IsOutcome task bytes status text → Writes text status result before now →
-    IfSome left (λ input. Ends task input result before now)
-told_ends task None bytes status result text before now same o w = tt
-told_ends task (Some input) bytes status result text before now same o w =
-    subst (λ all. Ends task all result before now) same (outcome_ends task bytes status result text before now o w)
+-- Endings by what an input came to
 
--- an input that is too long
-pub too_long_ends : (task : Task) (left : Option (List ℕ)) (result : Status) (before now : SinkMoment) →
-    IfSome left (λ all. input_limit < length all) → Writes too_long Refused result before now →
+-- A fault of writing was counted: an outcome has no such status of its own.
+writing_rose : (task : Task) (input text : List ℕ) (status result : Status) (before now : SinkMoment) →
+    IsOutcome task input status text → Writes text status result before now → result ≡ WriteFault →
+    Rose before.faults now.faults
+writing_rose task input text status result before now o (wrote_part same part rose) e = rose
+writing_rose task input text status result before now o (wrote_all same all) e =
+    absurd (not_failed status o (sym same ∙ e))
+  where
+    not_failed : (s : Status) → IsOutcome task input s text → s ≡ WriteFault → ⊥
+    not_failed Done o e = cc
+    not_failed Refused o e = cc
+    not_failed Memory o e = cc
+    not_failed BadWords o e = cc
+    not_failed ReadFault o e = cc
+    not_failed WriteFault o e = elim o [ ]
+
+module _ {E : Type 0} (task : Task) (input : List ℕ) (result : Status) (before now : SinkMoment) where
+  pub came_to : (outcome : Result Outcome E) → IfOk outcome (λ o. IsOutcome task input o.status o.text.items) →
+      EndsWith outcome result before now → Ends task input result before now
+  came_to (Ok o) is w = outcome_ends task input o.status result o.text.items before now is w
+  came_to (Err e) is w = subst (λ s. Ends task input s before now) (sym w.0) w.1
+
+  pub came_to_rose : (outcome : Result Outcome E) → IfOk outcome (λ o. IsOutcome task input o.status o.text.items) →
+      EndsWith outcome result before now → result ≡ WriteFault → Rose before.faults now.faults
+  came_to_rose (Ok o) is w e = writing_rose task input o.text.items o.status result before now is w e
+  came_to_rose (Err x) is w e = absurd (let same = w.0 in cc)
+
+-- the words are not to blame
+pub ends_not_bad : (task : Task) (input : List ℕ) (result : Status) (before now : SinkMoment) →
+    Ends task input result before now → result ≡ BadWords → ⊥
+ends_not_bad task input result before now e is = subst (λ s. Ends task input s before now) is e
+
+-- what leaves the sink as it was
+pub ends_nothing : (task : Task) (input : List ℕ) (result : Status) (before now : SinkMoment) →
+    Ends task input result before now → WritesNothing result before now
+ends_nothing task input Done before now e = tt
+ends_nothing task input Refused before now e = tt
+ends_nothing task input WriteFault before now e = tt
+ends_nothing task input ReadFault before now e = e
+ends_nothing task input Memory before now e = e
+ends_nothing task input BadWords before now e = tt
+
+-- for an input that the source told
+pub told_ends : (task : Task) (left : Option (List ℕ)) (bytes : List ℕ) (result : Status) (before now : SinkMoment) →
+    IfSome left (λ all. bytes ≡ all) → Ends task bytes result before now →
     IfSome left (λ input. Ends task input result before now)
-too_long_ends task None result before now long w = tt
-too_long_ends task (Some input) result before now long w =
-    outcome_ends task input Refused result too_long before now (is_too_long long) w
+told_ends task None bytes result before now same e = tt
+told_ends task (Some input) bytes result before now same e =
+    subst (λ all. Ends task all result before now) same e
+
+-- Endings of a source that wasn't read whole
+
+module _ (result : Status) (before now : SinkMoment) where
+  pub unread_ends : (task : Task) (left : Option (List ℕ)) (fault : Unread) →
+      (fault ≡ TooLong → IfSome left (λ all. input_limit < length all)) → EndsUnread fault result before now →
+      IfSome left (λ input. Ends task input result before now)
+  unread_ends task None fault long w = tt
+  unread_ends task (Some input) Failed long w = subst (λ s. Ends task input s before now) (sym w.0) w.1
+  unread_ends task (Some input) NoMemoryToRead long w =
+      subst (λ s. Ends task input s before now) (sym w.0) w.1
+  unread_ends task (Some input) TooLong long w =
+      outcome_ends task input Refused result too_long before now (is_too_long (long refl)) w
+
+  -- a long input is refused, or its refusal not written
+  long_not : (s : Status) → Writes too_long Refused result before now → (Refused ≡ s → ⊥) →
+      (WriteFault ≡ s → ⊥) → result ≡ s → ⊥
+  long_not s (wrote_all same all) r w e = r (sym same ∙ e)
+  long_not s (wrote_part same part rose) r w e = w (sym same ∙ e)
+
+  pub unread_not_bad : (fault : Unread) → EndsUnread fault result before now → result ≡ BadWords → ⊥
+  unread_not_bad Failed w e = let same = w.0 in cc
+  unread_not_bad NoMemoryToRead w e = let same = w.0 in cc
+  unread_not_bad TooLong w e = long_not BadWords w (λ x. cc) (λ x. cc) e
+
+  pub unread_failed : (fault : Unread) → EndsUnread fault result before now → result ≡ ReadFault → fault ≡ Failed
+  unread_failed Failed w e = refl
+  unread_failed NoMemoryToRead w e = absurd (let same = w.0 in cc)
+  unread_failed TooLong w e = absurd (long_not ReadFault w (λ x. cc) (λ x. cc) e)
+
+  pub unread_rose : (fault : Unread) → EndsUnread fault result before now → result ≡ WriteFault →
+      Rose before.faults now.faults
+  unread_rose Failed w e = absurd (let same = w.0 in cc)
+  unread_rose NoMemoryToRead w e = absurd (let same = w.0 in cc)
+  unread_rose TooLong (wrote_all same all) e = absurd (let f = sym same ∙ e in cc)
+  unread_rose TooLong (wrote_part same part rose) e = rose
+
+  pub unread_nothing : (fault : Unread) → EndsUnread fault result before now → WritesNothing result before now
+  unread_nothing Failed w = subst (λ s. WritesNothing s before now) (sym w.0) w.1
+  unread_nothing NoMemoryToRead w = subst (λ s. WritesNothing s before now) (sym w.0) w.1
+  unread_nothing TooLong (wrote_all same all) = subst (λ s. WritesNothing s before now) (sym same) tt
+  unread_nothing TooLong (wrote_part same part rose) = subst (λ s. WritesNothing s before now) (sym same) tt
+
+  pub unread_to_end : (left after : Option (List ℕ)) (fault : Unread) →
+      (fault ≡ TooLong → IfSome left (λ all. input_limit < length all)) → EndsUnread fault result before now →
+      ReadsToEnd result left after
+  unread_to_end left after Failed long w = subst (λ s. ReadsToEnd s left after) (sym w.0) tt
+  unread_to_end left after NoMemoryToRead long w = subst (λ s. ReadsToEnd s left after) (sym w.0) tt
+  unread_to_end left after TooLong long (wrote_part same part rose) =
+      subst (λ s. ReadsToEnd s left after) (sym same) tt
+  unread_to_end left after TooLong long (wrote_all same all) =
+      subst (λ s. ReadsToEnd s left after) (sym same) (too_long_told left (long refl))
+    where
+      too_long_told : (l : Option (List ℕ)) → IfSome l (λ all. input_limit < length all) →
+          ReadsToEnd Refused l after
+      too_long_told None h = tt
+      too_long_told (Some input) h = λ short. absurd (omega arith)
 
 -- a source that was read whole was read to its end
 pub read_to_end : (result : Status) (before now : Option (List ℕ)) → OnSome before (now ≡ Some []) →
@@ -118,6 +216,7 @@ module _ (task : Task) (input : List ℕ) (s : Script) (turns : List Turn) (r : 
       by_task : (t : Task) → StandsFor input (form_of t) r.script → IsRead (planned t r.script)
       by_task Run h = kept_read input Plain r.script h
       by_task Check h = kept_read input Plain r.script h
+      by_task (Generate rounds) h = kept_read input Plain r.script h
       by_task Replay h = moved_read input Scheduled r.script h
 
   pub playable : ArePlayable s turns
@@ -129,6 +228,8 @@ module _ (task : Task) (input : List ℕ) (s : Script) (turns : List Turn) (r : 
           ArePlayable (planned t r.script) (turns_for t r.script)
       by_task Run h = record { few = omega arith; actors = All-nil (λ t. IsActor r.script t.actor) }
       by_task Check h = record { few = omega arith; actors = All-nil (λ t. IsActor r.script t.actor) }
+      by_task (Generate rounds) h =
+          record { few = omega arith; actors = All-nil (λ t. IsActor r.script t.actor) }
       by_task Replay h =
           let valid = read_turns r.script (kept_read input Scheduled r.script h) in
           let few = valid.few in
@@ -172,6 +273,7 @@ module _ (task : Task) (input : List ℕ) (p : Plan) (turns : List Turn) (short 
           AnswersTask t p r.script.turns text
       by_task Run same done = done
       by_task Check same done = done
+      by_task (Generate rounds) same done = done
       by_task Replay same done = subst (λ ts. IsTrace p ts text) same done
 
   -- it was refused for its first fault
@@ -189,6 +291,23 @@ module _ (task : Task) (input : List ℕ) (p : Plan) (turns : List Turn) (short 
   unlawful_outcome (NotPending n) text f is = unlawful (NotPending n) text f is
   unlawful_outcome (Race a b) text f is = unlawful (Race a b) text f is
   unlawful_outcome NoMemoryToCheck text f is = absurd is
+
+-- What comes of a lawful plan that an input stands for
+
+module _ (task : Task) (input : List ℕ) (p : Plan) (turns : List Turn) (l : IsLawfulPlan task input p turns) where
+  pub lawful_playable : ArePlayable p.script turns
+  lawful_playable = playable task input p.script turns l.read
+
+  pub lawful_done : (text : List ℕ) → AnswersTask task p turns text → IsOutcome task input Done text
+  lawful_done text is = task_outcome task input p turns l.short l.read l.lowers text l.lawful is
+
+-- the text of a run answers the tasks that run a script
+pub runs_answer : (task : Task) (p : Plan) (turns : List Turn) (text : List ℕ) → RunsThreads task →
+    IsOutput p text → AnswersTask task p turns text
+runs_answer Run p turns text r o = o
+runs_answer (Generate rounds) p turns text r o = o
+runs_answer Check p turns text r o = absurd r
+runs_answer Replay p turns text r o = absurd r
 
 -- the plan of a script that was lowered is one of this script
 pub lowered_read : (task : Task) (input : List ℕ) (script : Script) (turns : List Turn) (p : Plan) →

@@ -1,6 +1,5 @@
 -- What a run of the program may write, and with which status it ends. This project's own.
-use Rattle.std.specs.Prelude.{ℕ, ◌≡◌, ◌<◌, ◌≤◌, ◌^◌, All, List, [], ◌++◌, length, Option}
-use Rattle.std.specs.Prelude.{Some, None, IfSome, OnSome, codes}
+use Rattle.std.specs.Prelude.{ℕ, ◌≡◌, ◌<◌, ◌≤◌, ◌^◌, All, List, [], ◌++◌, length, Option, Some, None, Ok, IfSome, OnSome, codes}
 use Rattle.vq_model.specs.declared.statement.FaultKind.{FaultKind}
 use Rattle.vq_model.specs.declared.script.Script.{Script}
 use Rattle.vq_model.specs.declared.script.Turn.{Turn}
@@ -11,7 +10,7 @@ use Rattle.vq_model.specs.declared.plan.OrderFault.TheVariants.{Memory as NoMemo
 use Rattle.vq_model.specs.Reading.{StandsFor, IsFirstFault}
 use Rattle.vq_model.specs.Plan.{Plan}
 use Rattle.vq_model.specs.Lowering.{plan_of}
-use Rattle.vq_model.specs.LoweringFaults.{lowering_fault, IsFirstLoweringFault}
+use Rattle.vq_model.specs.LoweringFaults.{lowering_fault, IsFirstLoweringFault, Lowers}
 use Rattle.vq_model.specs.Checks.{IsLawful, IsFirstPlanFault}
 use Rattle.vq_model.specs.SlowRun.{bytes_after, final}
 use Rattle.vq_model.specs.OutputText.{line_feed}
@@ -25,8 +24,10 @@ use Rattle.vq_points.specs.Points.{HistoryFrom, opening_points, steps_of}
 use Rattle.vq_replay.specs.Traces.{events_of, played_turns, trace_text}
 use Rattle.vq_main.specs.Tasks.{form_of, planned, turns_for}
 use Rattle.vq_main.specs.Writes.{SinkMoment, WroteAll, WrotePart, WroteNothing}
-use Rattle.vq_main.specs.declared.task.Task.{Task}
-use Rattle.vq_main.specs.declared.task.Task.TheVariants.{Run, Check, Replay}
+use Rattle.vq_words.specs.declared.task.Task.{Task}
+use Rattle.vq_words.specs.declared.task.Task.TheVariants.{Run, Check, Replay, Generate}
+use Rattle.vq_main.specs.declared.reading.Reading.{Reading}
+use Rattle.vq_main.specs.declared.reading.Reading.TheVariants.{Lawful, Refused as RefusedReading}
 use Rattle.vq_main.specs.declared.status.Status.{Status}
 use Rattle.vq_main.specs.declared.status.Status.TheVariants.{Done, BadWords, Refused, ReadFault, WriteFault, Memory}
 
@@ -57,6 +58,7 @@ abbrev pub AnswersTask : Task → Plan → List Turn → List ℕ → Type 0
 AnswersTask Run p turns text = IsOutput p text
 AnswersTask Check p turns text = text ≡ is_lawful_text
 AnswersTask Replay p turns text = IsTrace p turns text
+AnswersTask (Generate rounds) p turns text = IsOutput p text
 
 -- What a task may answer for an input, with the text that it writes.
 pub data IsOutcome (task : Task) (input : List ℕ) : Status → List ℕ → Type 0 where
@@ -102,6 +104,18 @@ pub record IsReadFor (task : Task) (input : List ℕ) (s : Script) (turns : List
   pub made : s ≡ planned task script
   pub moved : turns ≡ turns_for task script
 
+-- A lawful plan of a script that was read from an input for a task, and the turns that the task plays.
+pub record IsLawfulPlan (task : Task) (input : List ℕ) (p : Plan) (turns : List Turn) : Type 0 where
+  pub short : length input ≤ input_limit
+  pub read : IsReadFor task input p.script turns
+  pub lowers : Lowers p.script (Ok p)
+  pub lawful : IsLawful p
+
+-- what an input comes to before its task is done: such a plan, or the text that refuses the input
+abbrev pub IsReading : Task → List ℕ → Reading → Type 0
+IsReading task input (Lawful ordered turns) = IsLawfulPlan task input ordered turns
+IsReading task input (RefusedReading text) = IsOutcome task input Refused text.items
+
 -- What a run for a task wrote to the sink, by the status that it ended with: a whole text; a part
 -- of one, where the writing failed; else nothing.
 abbrev pub Ends : Task → List ℕ → Status → SinkMoment → SinkMoment → Type 0
@@ -117,10 +131,11 @@ Ends task input Memory before now = WroteNothing before now
 Ends task input BadWords before now = ⊥
 
 -- What a run with words outside the grammar wrote to the sink: the line that refuses them, or a
--- part of it.
+-- part of it; nothing for want of memory to read them.
 abbrev pub EndsForWords : Status → SinkMoment → SinkMoment → Type 0
 EndsForWords BadWords before now = WroteAll bad_words before now
 EndsForWords WriteFault before now = WrotePart bad_words before now
+EndsForWords Memory before now = WroteNothing before now
 EndsForWords other before now = ⊥
 
 -- Where a run answers by its input, and the source tells what it has left, the input was read to its

@@ -1,21 +1,36 @@
--- What the words of the command line ask for. This project's own.
-use Rattle.std.specs.Prelude.{ℕ, List, [], ◌∷◌, Option, Some, None, codes, if◌then◌else◌}
-use Rattle.std.specs.Str.{bytes_eq}
+-- What the tasks of the command line read and play. This project's own.
+use Rattle.std.specs.Prelude.{ℕ, Bool, true, false, Unit, ⊥, List, [], Option, Some, None}
 use Rattle.vq_model.specs.declared.statement.Form.{Form}
 use Rattle.vq_model.specs.declared.statement.Form.TheVariants.{Plain, Scheduled}
 use Rattle.vq_model.specs.declared.script.Script.{Script}
 use Rattle.vq_model.specs.declared.script.Turn.{Turn}
-use Rattle.vq_main.specs.declared.task.Task.{Task}
-use Rattle.vq_main.specs.declared.task.Task.TheVariants.{Run, Check, Replay}
+use Rattle.vq_model.specs.Canonical.{canonical_text}
+use Rattle.vq_generator.specs.Generated.{generated_script}
+use Rattle.vq_words.specs.declared.task.Task.{Task}
+use Rattle.vq_words.specs.declared.task.Task.TheVariants.{Run, Check, Replay, Generate}
 
--- no words, or `--check` or `--replay` alone
-abbrev pub task_of : List (List ℕ) → Option Task
-task_of [] = Some Run
-task_of (word ∷ []) =
-    if bytes_eq word (codes "--check") then Some Check
-    else if bytes_eq word (codes "--replay") then Some Replay
-    else None
-task_of (word ∷ more ∷ words) = None
+-- a task that starts no thread
+abbrev pub IsStill : Task → Type 0
+IsStill Check = Unit {0}
+IsStill Replay = Unit {0}
+IsStill other = ⊥
+
+-- a task that runs a script on threads
+abbrev pub RunsThreads : Task → Type 0
+RunsThreads Run = Unit {0}
+RunsThreads (Generate rounds) = Unit {0}
+RunsThreads other = ⊥
+
+-- Words ask for a task that reads the source: no other words, and no script that the program makes itself.
+abbrev pub reads_source : Option Task → Bool
+reads_source None = false
+reads_source (Some (Generate rounds)) = false
+reads_source (Some other) = true
+
+-- the input of a task: the script that the program makes itself, or else what the source has
+abbrev pub input_of : Task → Option (List ℕ) → Option (List ℕ)
+input_of (Generate rounds) left = Some (canonical_text (generated_script rounds))
+input_of other left = left
 
 -- the form of the scripts that a task reads
 abbrev pub form_of : Task → Form

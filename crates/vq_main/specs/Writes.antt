@@ -1,9 +1,13 @@
 -- What writing a text at the end of a run leaves. This project's own.
-use Rattle.std.specs.Prelude.{ℕ, ◌≡◌, List, length, Option}
+use Rattle.std.specs.Prelude.{ℕ, ◌≡◌, List, length, Option, Result, Ok, Err}
+use Rattle.vq_port.specs.declared.read.ReadFault.{ReadFault as Unread}
+use Rattle.vq_port.specs.declared.read.ReadFault.TheVariants.{Failed, TooLong, Memory as NoMemoryToRead}
 use Rattle.vq_port.specs.Faults.{Rose}
 use Rattle.vq_port.specs.Writing.{Appends, AppendsPart, Stays, StillTells}
 use Rattle.vq_main.specs.declared.status.Status.{Status}
-use Rattle.vq_main.specs.declared.status.Status.TheVariants.{WriteFault}
+use Rattle.vq_main.specs.declared.status.Status.TheVariants.{Refused, ReadFault, WriteFault, Memory}
+use Rattle.vq_main.specs.declared.outcome.Outcome.{Outcome}
+use Rattle.vq_model.specs.Refusals.{too_long}
 
 -- a sink at one moment: the bytes written to it, where it tells them; how many more it is sure to
 -- tell; and its count of faults
@@ -36,3 +40,14 @@ pub data Writes (text : List ℕ) (meant result : Status) (before now : SinkMome
   wrote_all : result ≡ meant → WroteAll text before now → Writes text meant result before now
   wrote_part : result ≡ WriteFault → WrotePart text before now → Rose before.faults now.faults →
       Writes text meant result before now
+
+-- A run ended with what an input came to; for want of memory with nothing.
+abbrev pub EndsWith : {E : Type 0} → Result Outcome E → Status → SinkMoment → SinkMoment → Type 0
+EndsWith (Ok outcome) result before now = Writes outcome.text.items outcome.status result before now
+EndsWith (Err e) result before now = (result ≡ Memory) × WroteNothing before now
+
+-- A run ended whose input wasn't read whole: with nothing, or with the line that refuses a long one.
+abbrev pub EndsUnread : Unread → Status → SinkMoment → SinkMoment → Type 0
+EndsUnread Failed result before now = (result ≡ ReadFault) × WroteNothing before now
+EndsUnread NoMemoryToRead result before now = (result ≡ Memory) × WroteNothing before now
+EndsUnread TooLong result before now = Writes too_long Refused result before now

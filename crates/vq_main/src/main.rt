@@ -2,6 +2,7 @@
 //! the final buffers to standard output.
 #![tactic(auto)]
 
+mod ending;
 #[cfg(test)]
 mod gate_tests;
 #[cfg(test)]
@@ -9,8 +10,11 @@ mod host_tests;
 mod outcome;
 #[cfg(test)]
 mod port_tests;
+mod reading;
+mod refusals;
 mod run;
 mod status;
+mod still;
 mod task;
 #[cfg(test)]
 mod tests;

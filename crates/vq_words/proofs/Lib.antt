@@ -1,3 +1,4 @@
+mod FewRounds
 mod AllWords
 mod ByWord
 mod Strays

@@ -1,5 +1,5 @@
 -- What the words of the command line ask for. This project's own.
-use Rattle.std.specs.Prelude.{◌≡◌, ℕ, ◌==◌, ◌&&◌, Bool, Result, Ok, Err, List, [], ◌∷◌, length, Option, Some, None, codes}
+use Rattle.std.specs.Prelude.{◌≡◌, ◌≤◌, ℕ, ◌==◌, ◌&&◌, Bool, Result, Ok, Err, List, [], ◌∷◌, length, Option, Some, None, codes}
 use Rattle.std.specs.Prelude.{if◌then◌else◌, nat_lt, nat_le, option_and_then, option_map}
 use Rattle.std.specs.Char.{digit_value}
 use Rattle.std.specs.List.{list_all}
@@ -40,6 +40,11 @@ task_of (word ∷ []) =
 task_of (word ∷ number ∷ []) =
     if bytes_eq word (codes "--generate") then generated number else None
 task_of (word ∷ number ∷ more ∷ words) = None
+
+-- a task that makes a script makes one of 1 to 500 rounds
+abbrev pub HasFewRounds : Task → Type 0
+HasFewRounds (Generate rounds) = (1 ≤ rounds) × (rounds ≤ 500)
+HasFewRounds other = Unit {0}
 
 -- a task where the words ask for it, and `Bad` where they ask for none
 abbrev pub Gives : Result Task WordsFault → Option Task → Type 0

@@ -1,6 +1,6 @@
 //! The words of the command line, read.
-ghost use Rattle.std.specs.Prelude.{◌≡◌, map, option_map, string_bytes};
-ghost use Rattle.vq_words.specs.Grammar.{Gives, task_of};
+ghost use Rattle.std.specs.Prelude.{◌≡◌, IfOk, map, option_map, string_bytes};
+ghost use Rattle.vq_words.specs.Grammar.{Gives, HasFewRounds, task_of};
 ghost use Rattle.vq_words.specs.Options.{has_clap_form, task_by};
 
 use crate::command::command;
@@ -40,7 +40,8 @@ fn task_by(check: bool, replay: bool, number: Option<&str>) -> Option<Task>
 /// word, where N is one to three decimal digits that write a number from 1 to 500. `Bad` comes for every
 /// other list, and `Memory` where memory is wanting. Source: this project's own.
 pub fn read_words(alloc: Global, words: &[String]) -> Result<Task, WordsFault>
-    ensures { Gives result (task_of (map string_bytes words.now)) }
+    ensures asked { Gives result (task_of (map string_bytes words.now)) }
+    ensures rounds { IfOk result HasFewRounds }
 {
     if !has_clap_form(words) {
         return Err(WordsFault::Bad);

@@ -6,6 +6,7 @@ use Rattle.clap.specs.Walk.{rows_of}
 use Rattle.clap.proofs.WalkLemmas.{first_value-rows, one_text-rows}
 use Rattle.vq_words.specs.Grammar.{Gives, task_of}
 use Rattle.vq_words.specs.Options.{has_clap_form, task_by}
+use Rattle.vq_words.proofs.FewRounds.{few_given}
 use Rattle.vq_words.proofs.AllWords.{answered, failed, gives}
 use Rattle.vq_words.proofs.read.read_words.Goals as goal
 
@@ -25,11 +26,16 @@ returns-in-Ok-try_get_matches_from c =
     (λ e. c.get_flag-replay.ensures.other (replay ∙ e)) in
     let number = c.get_str.ensures ∙ first_value-rows found (codes "generate") in
     let asked = c.task_by.ensures ∙ ap (task_by c.get_flag-check.result c.get_flag-replay.result) number ∙ said in
-    subst (λ r. Gives r (task_of (map string_bytes c.args.words.now))) (sym c.ok_or.ensures.value) (gives c.task_by.result _ asked)
+    let given = subst (λ r. Gives r (task_of (map string_bytes c.args.words.now))) (sym c.ok_or.ensures.value) (gives c.task_by.result _ asked) in
+    record { asked = given; rounds = few_given (map string_bytes c.args.words.now) c.ok_or.result given }
 
 pub returns : goal.returns
 returns c =
     let form : has_clap_form (map string_bytes c.args.words.now) ≡ true = search rules in
-    failed (app_of c.in-Ok.command) (map string_bytes c.args.words.now) c.in-Err.error c.in-Ok.ensures form
-    (c.in-Err.ensures.kinds (ap is_simple_and_free c.in-Ok.ensures))
-    (λ e. c.in_default-kind.not-OutOfMemory (c.kind.ensures ∙ e))
+    record {
+      asked =
+          failed (app_of c.in-Ok.command) (map string_bytes c.args.words.now) c.in-Err.error c.in-Ok.ensures form
+          (c.in-Err.ensures.kinds (ap is_simple_and_free c.in-Ok.ensures))
+          (λ e. c.in_default-kind.not-OutOfMemory (c.kind.ensures ∙ e));
+      rounds = tt;
+    }
