@@ -1,0 +1,223 @@
+"""Scripts that are measured: large ones, ones that are hard to check, and the script of --generate."""
+# How many queues the script of --generate has.
+QUEUES = 4
+
+
+def comments_and_blanks():
+    """4 MB of comments and lines without words."""
+    line = '# nothing is said here, and the line after it is blank\n\n  \t \n'
+    return (line * (4 * 1024 * 1024 // len(line))).encode()
+
+
+def many_batches():
+    """4,096 batches with two fills each."""
+    parts = ['buffer X 1024\nqueue Q immediate\n']
+    for batch in range(4096):
+        parts.append(f'submit Q\nfill X {batch % 128 * 4} 8 {batch}\nfill X 512 512 0x{batch:08x}\nend\n')
+    return ''.join(parts).encode()
+
+
+def largest_text():
+    """64 buffers of 16 KiB, each filled and printed."""
+    names = [f'B{number:02}' for number in range(64)]
+    parts = [f'buffer {name} 16384\n' for name in names] + ['queue Q immediate\n']
+    for number, name in enumerate(names):
+        parts.append(f'submit Q\nfill {name} 0 16384 0x{0x01020304 * (number + 1) % 2 ** 32:08x}\nend\n')
+    return ''.join(parts).encode()
+
+
+def scattered_names():
+    """64 buffers of long names, and 8,192 fills that name them in turn."""
+    names = [f'buffer_number_{number:02}' for number in range(64)]
+    parts = [f'buffer {name} 64\n' for name in names] + ['queue Q immediate\n']
+    for batch in range(128):
+        parts.append('submit Q\n')
+        parts.extend(f'fill {name} 0 64 {batch}\n' for name in names)
+        parts.append('end\n')
+    return ''.join(parts).encode()
+
+
+def largest_updates():
+    """31 updates of 65,536 bytes, which make 4 MB of digits."""
+    parts = ['buffer X 1048576\nqueue Q immediate\nsubmit Q\n']
+    for number in range(31):
+        parts.append(f'update X {number % 16 * 65536} {bytes([number, 255 - number, 7, 0xab]).hex() * 16384}\n')
+    return ''.join(parts + ['end\n']).encode()
+
+
+def small_copies():
+    """8,192 copies of 4 bytes inside a buffer and between two."""
+    parts = ['buffer X 65536\nbuffer Y 65536\nqueue Q immediate\n']
+    for batch in range(128):
+        parts.append('submit Q\n')
+        parts.extend(f'copy X {number * 7} {"XY"[number % 2]} {batch * 64 + 4096 + number * 7} 4\n' for number in range(64))
+        parts.append('end\n')
+    return ''.join(parts).encode()
+
+
+def many_marks():
+    """256 timelines, and 4,096 batches with 16 waits and 16 signals each, as far as 4 MB reach."""
+    names = [f'T{number:03}' for number in range(256)]
+    parts = [f'timeline {name} 0\n' for name in names] + [f'queue Q{queue} threaded\n' for queue in range(8)]
+    size, values = sum(map(len, parts)), [0] * 256
+    for batch in range(4096):
+        lines = [f'submit Q{batch % 8}\n']
+        lines += [f'wait {names[number]} {values[number]}\n' for number in ((batch * 7 + place * 11) % 256 for place in range(16))]
+        for number in ((batch * 16 + place) % 256 for place in range(16)):
+            values[number] += 10_000_000_000_000_000
+            lines.append(f'signal {names[number]} {values[number]}\n')
+        lines.append('end\n')
+        size += sum(map(len, lines))
+        if size > 4_194_304:
+            break
+        parts += lines
+    return ''.join(parts).encode()
+
+
+def backward_chain():
+    """4,096 jobs on 8 queues: each waits for the job that is written after it, as far as lanes allow.
+
+    The queues stand one after another, 512 jobs each; the k-th job of a queue waits for the k-th job of the next
+    queue, so the run takes a job of the last queue, then one of the queue before, and so on.
+    """
+    parts = [f'timeline T{queue} 0\n' for queue in range(8)] + [f'queue Q{queue} threaded\n' for queue in range(8)]
+    for queue in range(8):
+        for number in range(512):
+            parts.append(f'submit Q{queue}\n')
+            if queue < 7:
+                parts.append(f'wait T{queue + 1} {number + 1}\n')
+            parts.append(f'signal T{queue} {number + 1}\nend\n')
+    return ''.join(parts).encode()
+
+
+def batches_of(commands):
+    """The commands in lists of 64, which is as many as a batch may have."""
+    return [commands[first:first + 64] for first in range(0, len(commands), 64)]
+
+
+def row_of(declarations, commands):
+    """A script of commands on 4 queues, in batches that one timeline puts in a row."""
+    parts = declarations + ['timeline T 0\n'] + [f'queue Q{queue} threaded\n' for queue in range(4)]
+    for batch, lines in enumerate(batches_of(commands)):
+        parts.append(f'submit Q{batch % 4}\n')
+        if batch > 0:
+            parts.append(f'wait T {batch}\n')
+        parts += [*lines, f'signal T {batch + 1}\nend\n']
+    return ''.join(parts)
+
+
+def in_a_row(count):
+    """So many fills of the same bytes, in a row."""
+    return row_of(['buffer X 64\n'], [f'fill X 0 64 {number}\n' for number in range(count)])
+
+
+def last_two(command):
+    """Two batches that wait for all before them, and race."""
+    return ''.join(f'submit Q{queue}\nwait T 128\n{command} {queue}\nend\n' for queue in range(2))
+
+
+def unordered(declarations, commands):
+    """A script of commands in batches on 8 queues in turn; nothing orders the batches but their queues."""
+    parts = declarations + [f'queue Q{queue} threaded\n' for queue in range(8)]
+    for number, batch in enumerate(batches_of(commands)):
+        parts += [f'submit Q{number % 8}\n', *batch, 'end\n']
+    return ''.join(parts)
+
+
+def ordered_commands():
+    """8,192 fills of the same bytes on 4 queues, in 128 batches, each of which waits for the one before it."""
+    return in_a_row(8192).encode()
+
+
+def disjoint_commands():
+    """8,192 fills in 64 buffers on 8 queues, unordered, no two of which share a byte."""
+    buffers = [f'buffer B{number:02} 16384\n' for number in range(64)]
+    fills = [f'fill B{number % 64:02} {number // 64 * 128} 128 {number}\n' for number in range(8192)]
+    return unordered(buffers, fills).encode()
+
+
+def common_reads():
+    """8,192 copies of the same bytes on 8 queues, unordered, each to bytes of its own."""
+    copies = [f'copy X 0 Y {number * 64} 64\n' for number in range(8192)]
+    return unordered(['buffer X 64\nbuffer Y 524288\n'], copies).encode()
+
+
+def last_race():
+    """8,192 fills of the same bytes, all in a row but for the last two, which both wait for the rest and race."""
+    return (in_a_row(8190) + last_two('fill X 0 64')).encode()
+
+
+def overlapping(count):
+    """So many fills of 256 KiB that overlap everywhere."""
+    return [f'fill X {number * 16 % 262144} 262144 {number}\n' for number in range(count)]
+
+
+def overlapping_fills():
+    """8,192 fills of 256 KiB that overlap everywhere, in a row."""
+    return row_of(['buffer X 524288\n'], overlapping(8192)).encode()
+
+
+def overlapping_copies():
+    """8,192 copies of 256 KiB that overlap everywhere, in a row."""
+    copies = [f'copy X {number * 16 % 262144} Y {(number * 16 + 8) % 262144} 262144\n' for number in range(8192)]
+    return row_of(['buffer X 524288\nbuffer Y 524288\n'], copies).encode()
+
+
+def overlapping_race():
+    """The same fills, but for the last two, which race."""
+    return (row_of(['buffer X 524288\n'], overlapping(8190)) + last_two('fill X 100 400')).encode()
+
+
+def rounds_of_batches(batches, declared):
+    """Batches on 4 queues in turn, each of which waits for the batches before it of all other queues."""
+    parts = declared + [f'timeline T{queue} 0\n' for queue in range(4)] + [f'queue Q{queue} threaded\n' for queue in range(4)]
+    for batch in range(batches):
+        queue, number = batch % 4, batch // 4
+        parts.append(f'submit Q{queue}\n')
+        parts += [f'wait T{other} {number}\n' for other in range(4) if other != queue]
+        parts.append(f'fill X {queue * 4} 4 {number}\nsignal T{queue} {number + 1}\nend\n')
+    return parts
+
+
+def scheduled(parts, turns):
+    """A script with these turns, one to a line."""
+    return ''.join(parts + ['schedule\n'] + [f'{actor}\n' for actor in turns]).encode()
+
+
+def turns_in_turn():
+    """65,536 turns over 4,096 batches of four queues: the host, then each submit actor and each ring in turn."""
+    actors = ['host'] + [f'{kind}:Q{queue}' for queue in range(4) for kind in 'SR']
+    return scheduled(rounds_of_batches(4096, ['buffer X 16\n']), [actors[turn % 9] for turn in range(65536)])
+
+
+def turns_of_one_queue():
+    """65,536 turns over 4,096 batches of one queue with a command and a signal each, which they finish."""
+    parts = ['buffer X 16\ntimeline T 0\nqueue Q threaded\n']
+    parts += [f'submit Q\nfill X 0 16 {batch}\nsignal T {batch + 1}\nend\n' for batch in range(4096)]
+    return scheduled(parts, (['host'] + ['S:Q'] * 5 + ['R:Q'] * 5) * 4096 + ['R:Q'] * (65536 - 11 * 4096))
+
+
+def blocked_turns():
+    """65,536 turns of a ring before anything is released, over 4,096 batches."""
+    return scheduled(rounds_of_batches(4096, ['buffer X 16\n']), ['R:Q0'] * 65536)
+
+
+def batch_of_round(r, q):
+    """The batch of a queue in a round."""
+    source = f'B{(q + 1) % QUEUES}{(r - 1) % 2}'
+    target = f'B{q}{r % 2}'
+    lines = [f'submit Q{q}']
+    lines += [f'wait T{other} {r - 1}' for other in range(QUEUES) if other != q]
+    lines += [f'copy {source} 0 {target} 0 64', f'fill {target} {r % 16 * 4} 4 0x{QUEUES * r + q:08x}']
+    return lines + [f'signal T{q} {r}', 'end']
+
+
+def generated(rounds):
+    """The script of --generate, of so many rounds."""
+    lines = [f'buffer B{q}{half} 64' for q in range(QUEUES) for half in range(2)]
+    lines += [f'timeline T{q} 0' for q in range(QUEUES)]
+    lines += [f'queue Q{q} threaded' for q in range(QUEUES)]
+    for r in range(1, rounds + 1):
+        for q in range(QUEUES):
+            lines += batch_of_round(r, q)
+    return ('\n'.join(lines) + '\n').encode()
