@@ -360,6 +360,19 @@ written_parts s i =
       same = sym i.same ∙ has.same;
     }
 
+-- A script without a schedule can be written where its parts can be said in the canonical order.
+pub ordered_is_written : (s : Script) (p : Parts) → without_lines s ≡ script_of_parts p → IsOrdered p →
+    HasItems p → p.batch ≡ None → IsScript s
+ordered_is_written s p same o items none =
+    let back = plain_read_back p o items none [] refl in
+    record {
+      text = canonical_text (script_of_parts p);
+      form = Plain;
+      written = back.0;
+      stands = back.1;
+      same = back.2 ∙ sym same;
+    }
+
 -- The canonical text of a script that can be written stands for it, up to line numbers.
 pub canonical_reads_back : (s : Script) → IsScript s →
     (read : Script) × StandsFor (canonical_text s) (form_of_script s) read × SameButLines read s

@@ -4,8 +4,12 @@ mod CanonicalBatches
 mod CanonicalLaws
 mod CanonicalOrder
 mod CanonicalReads
+pub mod Cited
 mod CommandLines
 mod DeclarationLines
+mod FittingBatches
+mod FittingDeclarations
+mod FittingScripts
 mod FollowingLines
 mod FollowingSteps
 mod FollowingTurns

@@ -25,7 +25,7 @@ use Rattle.vq_canonical_laws.proofs.SilentStatements.{or_false, or_true, or_noth
 use Rattle.vq_canonical_laws.proofs.ToldBatches.{job_told}
 
 -- the commands of jobs and one more
-commands_push : (jobs : List ToldJob) (job : ToldJob) →
+pub commands_push : (jobs : List ToldJob) (job : ToldJob) →
     commands_of (jobs ++ job ∷ []) ≡ commands_of jobs + commands_told job
 commands_push jobs job =
     ap sum (map-append commands_told jobs (job ∷ []))

@@ -1,32 +1,29 @@
 -- What lines say so far, as the parts of a script, and what each further statement asks of them:
 -- the forms that are built so far.
-use Rattle.std.proofs.Common.{ℕ, List, Option, Some, None, false, [], map, ◌∷◌, ◌++◌, Bool, ◌||◌, ◌+◌, not, ◌&&◌, length, ◌^◌, ◌<◌, ◌≡◌, ◌≤◌, true}
+use Rattle.std.proofs.Common.{ℕ, List, Option, Some, None, false, [], map, ◌∷◌, ◌++◌, Bool, ◌||◌, ◌+◌, length, ◌<◌, ◌≡◌, ◌≤◌, true}
 use Rattle.vq_model.specs.declared.statement.Statement.{Statement}
 use Rattle.vq_model.specs.declared.script.Buffer.{Buffer}
 use Rattle.vq_model.specs.declared.script.Semaphore.{Semaphore}
 use Rattle.vq_model.specs.declared.script.Queue.{Queue}
-use Rattle.vq_model.specs.Context.{buffers, semaphores, queues, is_timeline, is_fence, is_command, is_wait, is_signal, is_batch_fence, some, section, version_of, has_begun, open_batch, count}
+use Rattle.vq_model.specs.Context.{buffers, semaphores, queues, is_command, is_wait, is_signal, is_batch_fence, some, section, version_of, has_begun, open_batch, count}
 use Rattle.vq_model.specs.declared.script.SemaphoreKind.{SemaphoreKind}
 use Rattle.vq_model.specs.declared.script.Mode.{Mode}
 use Rattle.vq_model.specs.declared.statement.Statement.TheVariants.{AddWait, AddCommand, AddSignal, AddFence, DeclareBuffer, DeclareSemaphore, DeclareQueue, BeginBatch, EndBatch, TakeHostStep}
 use Rattle.vq_model.specs.declared.script.Mark.{Mark}
 use Rattle.vq_model.specs.ScriptOfLines.{mark, first_of_list, batch_lines, jobs_of, is_schedule, turns_at}
 use Rattle.vq_model.specs.declared.script.CommandLine.{CommandLine}
-use Rattle.std.specs.List.{filter_map, list_any, slice_get, flat_map, AllByRecursion as Every}
+use Rattle.std.specs.List.{filter_map, list_any, slice_get, flat_map}
 use Rattle.vq_model.specs.declared.script.Job.{Job}
 use Rattle.vq_model.specs.declared.script.Job.TheVariants.{Host, Batch as BatchJob}
 use Rattle.vq_model.specs.declared.script.HostStep.{HostStep}
-use Rattle.vq_model.specs.declared.script.HostStep.TheVariants.{Signal, WaitAll, WaitAny, PollAll, PollAny, Read, FenceWait, FencePoll, FenceReset, Idle}
 use Rattle.vq_model.specs.declared.script.Script.{Script}
 use Rattle.std.specs.Str.{bytes_eq}
 use Rattle.std.specs.Option.{option_map_or}
 use Rattle.std.specs.Prelude.{nat_lt, sum, count_by}
 use Rattle.vq_model.specs.declared.script.Command.{Command}
-use Rattle.vq_model.specs.declared.script.Command.TheVariants.{Fill, Update, Copy}
-use Rattle.vq_model.specs.declared.script.FillSize.TheVariants.{Whole, Count}
-use Rattle.vq_model.specs.Ranges.{is_aligned, overlaps_itself}
-use Rattle.vq_canonical_laws.proofs.WrittenNumbers.{AllBytes}
-use Rattle.vq_model.specs.declared.script.SemaphoreKind.TheVariants.{Timeline, Binary, Fence}
+use Rattle.vq_model.specs.Ranges.{overlaps_itself}
+pub use Rattle.vq_canonical_laws.specs.FormatRules.{sizes_in, size_in, is_within_in, is_command_in, HasNumerals, HasValue, IsOfKindIn, IsTimed, AreTimed, StepFits, TakesValue, IsMarked}
+use Rattle.vq_model.specs.declared.script.SemaphoreKind.TheVariants.{Fence}
 use Rattle.vq_model.specs.Text.{is_name}
 use Rattle.vq_model.specs.declared.script.Pair.{Pair}
 use Rattle.vq_model.specs.LineFaults.{part_of}
@@ -161,27 +158,6 @@ is_named bs ss qs name =
     || list_any (λ s. bytes_eq name s.name) ss
     || list_any (λ q. bytes_eq name q.name) qs
 
--- the sizes of buffers
-abbrev pub sizes_in : List Buffer → List ℕ
-sizes_in bs = map (λ b. b.size) bs
-
--- the size of a buffer, 0 where there is none
-abbrev pub size_in : List Buffer → ℕ → ℕ
-size_in bs b = option_map_or (λ x. x.size) (slice_get bs b) 0
-
--- bytes that begin in a buffer, at least one, and end in it
-abbrev pub is_within_in : List Buffer → ℕ → ℕ → ℕ → Bool
-is_within_in bs b offset size =
-    nat_lt offset (size_in bs b) && nat_lt 0 size && not (nat_lt (size_in bs b) (offset + size))
-
--- a command lies in its buffers, at multiples of 4 where it has to
-abbrev pub is_command_in : List Buffer → Command → Bool
-is_command_in bs (Fill b o Whole w) = nat_lt o (size_in bs b) && is_aligned o
-is_command_in bs (Fill b o (Count n) w) = is_within_in bs b o n && is_aligned o && is_aligned n
-is_command_in bs (Update b o bytes) =
-    is_within_in bs b o (length bytes) && is_aligned o && is_aligned (length bytes)
-    && not (nat_lt 65536 (length bytes))
-is_command_in bs (Copy s from t to n) = is_within_in bs s from n && is_within_in bs t to n
 
 -- the place from which a wait holds back
 abbrev pub place_of : Statement → ℕ
@@ -195,18 +171,6 @@ commands_told (ToldBatch t) = count_by is_command t.1
 
 abbrev pub commands_of : List ToldJob → ℕ
 commands_of jobs = sum (map commands_told jobs)
-
--- a command's offsets, sizes, word and bytes are numbers that a line can hold
-abbrev pub HasNumerals : Command → Type 0
-HasNumerals (Fill b o Whole w) = (o < 2 ^ 64) × (w < 2 ^ 32)
-HasNumerals (Fill b o (Count n) w) = (o < 2 ^ 64) × (n < 2 ^ 64) × (w < 2 ^ 32)
-HasNumerals (Update b o bytes) = (o < 2 ^ 64) × AllBytes bytes
-HasNumerals (Copy s from t to n) = (from < 2 ^ 64) × (to < 2 ^ 64) × (n < 2 ^ 64)
-
--- so does a timeline's first value
-abbrev pub HasValue : SemaphoreKind → Type 0
-HasValue (Timeline value) = value < 2 ^ 64
-HasValue other = Unit {0}
 
 pub record MayBuffer (p : Parts) (name : List ℕ) (size : ℕ) : Type 0 where
   pub outside : p.batch ≡ None
@@ -238,52 +202,10 @@ pub record MayBegin (p : Parts) (q : ℕ) : Type 0 where
   pub there : slice_get p.queues q ≡ Some queue
   pub few : length p.jobs < 4096
 
--- a semaphore whose kind passes a test
-pub record IsOfKindIn (test : SemaphoreKind → Bool) (ss : List Semaphore) (t : ℕ) : Type 0 where
-  pub semaphore : Semaphore
-  pub there : slice_get ss t ≡ Some semaphore
-  pub tested : test semaphore.kind ≡ true
-
--- a pair of a timeline and a value that a line can hold
-abbrev pub IsTimed : List Semaphore → Pair → Type 0
-IsTimed ss pair = IsOfKindIn is_timeline ss pair.semaphore × (pair.value < 2 ^ 64)
-
--- such pairs, one at least, and as many as a step may have
-pub record AreTimed (ss : List Semaphore) (pairs : List Pair) : Type 0 where
-  pub all : Every (IsTimed ss) pairs
-  pub some_pairs : 0 < length pairs
-  pub few : length pairs ≤ 16
-
--- a step of the host names timelines and fences, each where its form needs one
-abbrev pub StepFits : List Semaphore → HostStep → Type 0
-StepFits ss (Signal pair) = IsTimed ss pair
-StepFits ss (WaitAll pairs) = AreTimed ss pairs
-StepFits ss (WaitAny pairs) = AreTimed ss pairs
-StepFits ss (PollAll pairs) = AreTimed ss pairs
-StepFits ss (PollAny pairs) = AreTimed ss pairs
-StepFits ss (Read t) = IsOfKindIn is_timeline ss t
-StepFits ss (FenceWait f) = IsOfKindIn is_fence ss f
-StepFits ss (FencePoll f) = IsOfKindIn is_fence ss f
-StepFits ss (FenceReset f) = IsOfKindIn is_fence ss f
-StepFits ss Idle = Unit {0}
-
 pub record MayStep (p : Parts) (step : HostStep) : Type 0 where
   pub outside : p.batch ≡ None
   pub fits : StepFits p.semaphores step
   pub few : length p.jobs < 4096
-
--- a semaphore takes a value as a mark of a wait or a signal: a timeline one of 64 bits, a binary
--- semaphore none
-abbrev pub TakesValue : SemaphoreKind → ℕ → Type 0
-TakesValue (Timeline initial) value = value < 2 ^ 64
-TakesValue Binary value = value ≡ 0
-TakesValue Fence value = ⊥
-
--- a pair names a semaphore that takes its value
-pub record IsMarked (ss : List Semaphore) (pair : Pair) : Type 0 where
-  pub semaphore : Semaphore
-  pub there : slice_get ss pair.semaphore ≡ Some semaphore
-  pub takes : TakesValue semaphore.kind pair.value
 
 pub record WaitFits (p : Parts) (t : Told) (pair : Pair) (from : ℕ) : Type 0 where
   pub known : IsMarked p.semaphores pair

@@ -16,6 +16,7 @@ use Rattle.std.specs.Str.{bytes_eq}
 use Rattle.std.proofs.lemmas.Slice.Eq.{bytes_eq-Decides}
 use Rattle.std.proofs.lemmas.Str.{digit_value-digit_char}
 use Rattle.vq_model.specs.Canonical.{fill_word, hex_digits}
+pub use Rattle.vq_canonical_laws.specs.FormatRules.{AllBytes}
 
 -- Digits
 
@@ -247,11 +248,6 @@ module _ (w : ℕ) (small : w < 2 ^ 32) where
       (hex_char_is_word_byte (w % 16) (omega arith)) refl)))))))
 
 -- Bytes of two digits each
-
--- each of these is below 256
-abbrev pub AllBytes : List ℕ → Type 0
-AllBytes [] = Unit {0}
-AllBytes (b ∷ bytes) = (b < 256) × AllBytes bytes
 
 -- What hexadecimal digits stand for are bytes.
 pub hex_bytes_below : (digits : List ℕ) → is_hex digits ≡ true → AllBytes (hex_bytes digits)

@@ -4,6 +4,7 @@ ghost use Rattle.vq_model.specs.declared.script.Script.{Script};
 ghost use Rattle.vq_model.specs.SameScript.{SameButLines, IsRead, IsScript};
 ghost use Rattle.vq_model.specs.Canonical.{canonical_text, form_of_script};
 ghost use Rattle.vq_model.specs.Reading.{StandsFor};
+ghost use Rattle.vq_canonical_laws.specs.FormatRules.{KeepsRules};
 
 /// Scripts that are the same up to line numbers have the same canonical text.
 pub fn canonical_text_ignores_lines()
@@ -27,4 +28,9 @@ pub fn canonical_text_tells_scripts_apart()
 /// A script that was read can be written, also where its turns were moved out of it.
 pub fn read_scripts_can_be_written()
     ensures { (s : Script) → IsRead s → IsScript s }
+{}
+
+/// A script without a schedule that keeps the rules of the format can be written.
+pub fn ruled_scripts_can_be_written()
+    ensures { (s : Script) → KeepsRules s → IsScript s }
 {}

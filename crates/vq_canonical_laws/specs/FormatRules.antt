@@ -1,0 +1,186 @@
+-- The rules of the format for a script without a schedule: what makes it one that can be written.
+-- The format is this project's own.
+use Rattle.std.specs.Prelude.{ℕ, ◌≡◌, ◌<◌, ◌≤◌, ◌^◌, ◌+◌, Bool, true, false, not, ◌&&◌, nat_lt, List, [], ◌∷◌, ◌++◌, length, map, Option, Some, None}
+use Rattle.std.specs.List.{AllByRecursion as Every, list_any, slice_get}
+use Rattle.std.specs.Option.{option_map_or}
+use Rattle.std.specs.Str.{bytes_eq}
+use Rattle.vq_model.specs.declared.script.Buffer.{Buffer}
+use Rattle.vq_model.specs.declared.script.Semaphore.{Semaphore}
+use Rattle.vq_model.specs.declared.script.SemaphoreKind.{SemaphoreKind}
+use Rattle.vq_model.specs.declared.script.SemaphoreKind.TheVariants.{Timeline, Binary, Fence}
+use Rattle.vq_model.specs.declared.script.Mode.{Mode}
+use Rattle.vq_model.specs.declared.script.Mode.TheVariants.{Immediate, Deferred, Threaded}
+use Rattle.vq_model.specs.declared.script.Pair.{Pair}
+use Rattle.vq_model.specs.declared.script.Mark.{Mark}
+use Rattle.vq_model.specs.declared.script.Command.{Command}
+use Rattle.vq_model.specs.declared.script.Command.TheVariants.{Fill, Update, Copy}
+use Rattle.vq_model.specs.declared.script.FillSize.TheVariants.{Whole, Count}
+use Rattle.vq_model.specs.declared.script.HostStep.{HostStep}
+use Rattle.vq_model.specs.declared.script.HostStep.TheVariants.{Signal, WaitAll, WaitAny, PollAll, PollAny, Read}
+use Rattle.vq_model.specs.declared.script.HostStep.TheVariants.{FenceWait, FencePoll, FenceReset, Idle}
+use Rattle.vq_model.specs.declared.script.Batch.{Batch}
+use Rattle.vq_model.specs.declared.script.Job.{Job}
+use Rattle.vq_model.specs.declared.script.Job.TheVariants.{Host, Batch as BatchJob}
+use Rattle.vq_model.specs.declared.script.Script.{Script}
+use Rattle.vq_model.specs.Text.{is_name}
+use Rattle.vq_model.specs.Context.{is_timeline, is_fence}
+use Rattle.vq_model.specs.Ranges.{is_aligned, overlaps_itself}
+use Rattle.vq_model.specs.SameScript.{without_lines}
+use Rattle.vq_model.specs.ValidScripts.{KeepsLimits, IsUnscheduled}
+use Rattle.vq_model.specs.Built.{HasNoImmediateWait, IsOfFirstVersion}
+
+-- Numbers that a line can hold
+
+-- each of these is below 256
+abbrev pub AllBytes : List ℕ → Type 0
+AllBytes [] = Unit {0}
+AllBytes (b ∷ bytes) = (b < 256) × AllBytes bytes
+
+-- a command's offsets, sizes, word and bytes are such numbers
+abbrev pub HasNumerals : Command → Type 0
+HasNumerals (Fill b o Whole w) = (o < 2 ^ 64) × (w < 2 ^ 32)
+HasNumerals (Fill b o (Count n) w) = (o < 2 ^ 64) × (n < 2 ^ 64) × (w < 2 ^ 32)
+HasNumerals (Update b o bytes) = (o < 2 ^ 64) × AllBytes bytes
+HasNumerals (Copy s from t to n) = (from < 2 ^ 64) × (to < 2 ^ 64) × (n < 2 ^ 64)
+
+-- so is a timeline's first value
+abbrev pub HasValue : SemaphoreKind → Type 0
+HasValue (Timeline value) = value < 2 ^ 64
+HasValue other = Unit {0}
+
+-- Declarations
+
+-- names that may be declared one after another, after others: each is a name, and a new one
+abbrev pub are_new : List (List ℕ) → List (List ℕ) → Bool
+are_new before [] = true
+are_new before (name ∷ names) =
+    is_name name && not (list_any (bytes_eq name) before) && are_new (before ++ name ∷ []) names
+
+-- the names of a script, in the order of their declarations
+abbrev pub names_of : Script → List (List ℕ)
+names_of s =
+    map (λ b. b.name) s.buffers ++ map (λ x. x.name) s.semaphores ++ map (λ q. q.name) s.queues
+
+-- a mode that is built
+abbrev pub IsBuiltMode : Mode → Type 0
+IsBuiltMode Immediate = Unit {0}
+IsBuiltMode Threaded = Unit {0}
+IsBuiltMode Deferred = ⊥
+
+-- Commands
+
+-- the sizes of buffers
+abbrev pub sizes_in : List Buffer → List ℕ
+sizes_in bs = map (λ b. b.size) bs
+
+-- the size of a buffer, 0 where there is none
+abbrev pub size_in : List Buffer → ℕ → ℕ
+size_in bs b = option_map_or (λ x. x.size) (slice_get bs b) 0
+
+-- bytes that begin in a buffer, at least one, and end in it
+abbrev pub is_within_in : List Buffer → ℕ → ℕ → ℕ → Bool
+is_within_in bs b offset size =
+    nat_lt offset (size_in bs b) && nat_lt 0 size && not (nat_lt (size_in bs b) (offset + size))
+
+-- a command lies in its buffers, at multiples of 4 where it has to
+abbrev pub is_command_in : List Buffer → Command → Bool
+is_command_in bs (Fill b o Whole w) = nat_lt o (size_in bs b) && is_aligned o
+is_command_in bs (Fill b o (Count n) w) = is_within_in bs b o n && is_aligned o && is_aligned n
+is_command_in bs (Update b o bytes) =
+    is_within_in bs b o (length bytes) && is_aligned o && is_aligned (length bytes)
+    && not (nat_lt 65536 (length bytes))
+is_command_in bs (Copy s from t to n) = is_within_in bs s from n && is_within_in bs t to n
+
+-- a command of a batch: it lies in its buffers, and a copy doesn't overlap itself
+pub record IsCommandOf (bs : List Buffer) (c : Command) : Type 0 where
+  pub range : is_command_in bs c ≡ true
+  pub apart : overlaps_itself (sizes_in bs) c ≡ false
+  pub numerals : HasNumerals c
+
+-- Semaphores
+
+-- a semaphore whose kind passes a test
+pub record IsOfKindIn (test : SemaphoreKind → Bool) (ss : List Semaphore) (t : ℕ) : Type 0 where
+  pub semaphore : Semaphore
+  pub there : slice_get ss t ≡ Some semaphore
+  pub tested : test semaphore.kind ≡ true
+
+-- a pair of a timeline and a value that a line can hold
+abbrev pub IsTimed : List Semaphore → Pair → Type 0
+IsTimed ss pair = IsOfKindIn is_timeline ss pair.semaphore × (pair.value < 2 ^ 64)
+
+-- such pairs, one at least, and as many as a step may have
+pub record AreTimed (ss : List Semaphore) (pairs : List Pair) : Type 0 where
+  pub all : Every (IsTimed ss) pairs
+  pub some_pairs : 0 < length pairs
+  pub few : length pairs ≤ 16
+
+-- a step of the host names timelines and fences, each where its form needs one
+abbrev pub StepFits : List Semaphore → HostStep → Type 0
+StepFits ss (Signal pair) = IsTimed ss pair
+StepFits ss (WaitAll pairs) = AreTimed ss pairs
+StepFits ss (WaitAny pairs) = AreTimed ss pairs
+StepFits ss (PollAll pairs) = AreTimed ss pairs
+StepFits ss (PollAny pairs) = AreTimed ss pairs
+StepFits ss (Read t) = IsOfKindIn is_timeline ss t
+StepFits ss (FenceWait f) = IsOfKindIn is_fence ss f
+StepFits ss (FencePoll f) = IsOfKindIn is_fence ss f
+StepFits ss (FenceReset f) = IsOfKindIn is_fence ss f
+StepFits ss Idle = Unit {0}
+
+-- a semaphore takes a value as a mark of a wait or a signal: a timeline one of 64 bits, a binary
+-- semaphore none
+abbrev pub TakesValue : SemaphoreKind → ℕ → Type 0
+TakesValue (Timeline initial) value = value < 2 ^ 64
+TakesValue Binary value = value ≡ 0
+TakesValue Fence value = ⊥
+
+-- a pair names a semaphore that takes its value
+pub record IsMarked (ss : List Semaphore) (pair : Pair) : Type 0 where
+  pub semaphore : Semaphore
+  pub there : slice_get ss pair.semaphore ≡ Some semaphore
+  pub takes : TakesValue semaphore.kind pair.value
+
+-- the pair of a mark
+abbrev pub pair_of : Mark → Pair
+pair_of m = record { semaphore = m.semaphore; value = m.value }
+
+-- a wait or a signal that names no place within its batch
+abbrev pub IsWholeMark : List Semaphore → Mark → Type 0
+IsWholeMark ss m = IsMarked ss (pair_of m) × (m.from ≡ 1)
+
+-- the fence of a batch, where it names one
+abbrev pub IsFenceOf : List Semaphore → Option Mark → Type 0
+IsFenceOf ss None = Unit {0}
+IsFenceOf ss (Some m) = IsOfKindIn is_fence ss m.semaphore × (m.value ≡ 0) × (m.from ≡ 1)
+
+-- Jobs
+
+-- a batch of a script
+pub record BatchFits (s : Script) (b : Batch) : Type 0 where
+  pub queue : b.queue < length s.queues
+  pub waits : Every (IsWholeMark s.semaphores) b.waits
+  pub commands : Every (λ c. IsCommandOf s.buffers c.command) b.commands
+  pub signals : Every (IsWholeMark s.semaphores) b.signals
+  pub fence : IsFenceOf s.semaphores b.fence
+  pub few_waits : length b.waits ≤ 16
+  pub few_commands : length b.commands ≤ 64
+  pub few_signals : length b.signals ≤ 16
+
+abbrev pub JobFits : Script → Job → Type 0
+JobFits s (Host h) = StepFits s.semaphores h.step
+JobFits s (BatchJob b) = BatchFits s b
+
+-- A script of the first version without a schedule keeps the rules of the format. It has no numbers of
+-- lines.
+pub record KeepsRules (s : Script) : Type 0 where
+  pub version : IsOfFirstVersion s
+  pub lineless : without_lines s ≡ s
+  pub unscheduled : IsUnscheduled s
+  pub names : are_new [] (names_of s) ≡ true
+  pub some_bytes : Every (λ b. 0 < b.size) s.buffers
+  pub values : Every (λ x. HasValue x.kind) s.semaphores
+  pub modes : Every (λ q. IsBuiltMode q.mode) s.queues
+  pub jobs : Every (JobFits s) s.jobs
+  pub at_once : HasNoImmediateWait s
+  pub limits : KeepsLimits s
