@@ -1,0 +1,3 @@
+mod GeneratedRows
+mod GeneratedScripts
+mod RoundLists
