@@ -18,7 +18,7 @@ use Rattle.vq_model.specs.declared.statement.Statement.TheVariants.{AddWait, Add
 use Rattle.vq_model.specs.Context.{is_wait, is_command, is_signal, is_fence, is_batch_fence}
 use Rattle.vq_model.specs.LineFaults.{part_of}
 use Rattle.vq_canonical_laws.specs.FormatRules.{pair_of, IsWholeMark, IsCommandOf, IsFenceOf, BatchFits}
-use Rattle.vq_canonical_laws.proofs.ScriptParts.{ToldJob, ToldBatch, Told, Parts, parts, after, May, place_of, commands_of, is_immediate_in}
+use Rattle.vq_canonical_laws.proofs.ScriptParts.{ToldJob, ToldBatch, Told, Parts, parts, after, May, place_of, commands_of}
 use Rattle.vq_canonical_laws.proofs.CanonicalOrder.{Leads, leads_on, leads_push, job_statements}
 use Rattle.vq_canonical_laws.proofs.LineWords.{not_past}
 
@@ -148,9 +148,9 @@ module _ (bs : List Buffer) (ss : List Semaphore) (qs : List Queue) (jobs : List
 
   -- waits
   waits_follow : (ws : List Mark) (c m : ℕ) → Every (IsWholeMark ss) ws →
-      is_immediate_in qs q ≡ false → Room jobs 1 [] (length ws) c m →
+      Room jobs 1 [] (length ws) c m →
       Follow (λ n told. Room jobs 1 told n c m) [] (map wait_statement ws)
-  waits_follow ws c m fits later room =
+  waits_follow ws c m fits room =
       items_follow wait_statement (IsWholeMark ss) (λ n told. Room jobs 1 told n c m)
       (λ told x. refl) one [] ws fits room
     where
@@ -167,7 +167,6 @@ module _ (bs : List Buffer) (ss : List Semaphore) (qs : List Queue) (jobs : List
               fits = record {
                 known = fits.0;
                 at_once = fits.1;
-                later = later;
                 few = omega arith;
               };
             },
@@ -293,11 +292,11 @@ queue_there (x ∷ qs) (suc q) l = queue_there qs q (omega arith)
 
 -- A batch that keeps the rules may follow jobs.
 pub batch_follows : (s : Script) (jobs : List ToldJob) (b : Batch) → BatchFits s b →
-    (is_immediate_in s.queues b.queue ≡ true → b.waits ≡ []) → length jobs < 4096 →
+    length jobs < 4096 →
     commands_of jobs + length b.commands ≤ 8192 →
     Leads (parts s.buffers s.semaphores s.queues jobs None) (job_statements (ToldBatch (batch_told b)))
     (parts s.buffers s.semaphores s.queues (jobs ++ ToldBatch (batch_told b) ∷ []) None)
-batch_follows s jobs b fits at_once few all =
+batch_follows s jobs b fits few all =
     let there = queue_there s.queues b.queue fits.queue in
     let a = fits.few_waits in
     let c = fits.few_commands in
@@ -310,7 +309,9 @@ batch_follows s jobs b fits at_once few all =
       all_commands = omega arith;
       few_signals = omega arith;
     } in
-    let first = waited (is_immediate_in s.queues b.queue) refl room in
+    let first =
+    waits_follow s.buffers s.semaphores s.queues jobs b.queue b.waits (length b.commands)
+    (length b.signals) fits.waits room in
     let second =
     commands_follow bs ss qs jobs b.queue (waits_told b) b.commands (length b.signals) fits.commands
     (next_part jobs 1 2 (waits_told b) 0 (length b.commands) (length b.signals) (omega arith) first.1) in
@@ -350,19 +351,3 @@ batch_follows s jobs b fits at_once few all =
 
     within : List Statement → Parts
     within told = parts s.buffers s.semaphores s.queues jobs (Some (b.queue, told))
-
-    waited : (immediate : Bool) → is_immediate_in s.queues b.queue ≡ immediate →
-        Room jobs 1 [] (length b.waits) (length b.commands) (length b.signals) →
-        Follow s.buffers s.semaphores s.queues jobs b.queue
-        (λ n t. Room jobs 1 t n (length b.commands) (length b.signals)) [] (waits_told b)
-    waited false e room =
-        waits_follow s.buffers s.semaphores s.queues jobs b.queue b.waits (length b.commands)
-        (length b.signals) fits.waits e room
-    waited true e room =
-        let none : [] ≡ b.waits = sym (at_once e) in
-        subst (λ (ws : List Mark). Follow s.buffers s.semaphores s.queues jobs b.queue
-        (λ n t. Room jobs 1 t n (length b.commands) (length b.signals)) [] (map wait_statement ws)) none (
-          refl,
-          subst (λ (ws : List Mark). Room jobs 1 [] (length ws) (length b.commands)
-              (length b.signals)) (sym none) room,
-        )

@@ -13,7 +13,7 @@ use Rattle.vq_model.specs.declared.statement.Statement.{Statement}
 use Rattle.vq_model.specs.declared.statement.Statement.TheVariants.{DeclareBuffer, DeclareSemaphore, DeclareQueue}
 use Rattle.vq_model.specs.Text.{is_name}
 use Rattle.vq_model.specs.SameScript.{buffer_without_line, semaphore_without_line, queue_without_line}
-use Rattle.vq_canonical_laws.specs.FormatRules.{are_new, sizes_in, HasValue, IsBuiltMode}
+use Rattle.vq_canonical_laws.specs.FormatRules.{are_new, sizes_in, HasValue}
 use Rattle.vq_canonical_laws.proofs.ScriptParts.{Parts, after, May}
 use Rattle.vq_canonical_laws.proofs.CanonicalOrder.{Leads, buffer_statements, semaphore_statements, queue_statements, declarations}
 
@@ -166,15 +166,15 @@ semaphores_follow bs ss rest fits new few =
         )
 
 pub queues_follow : (bs : List Buffer) (ss : List Semaphore) (qs : List Queue) →
-    Every (λ q. (queue_without_line q ≡ q) × IsBuiltMode q.mode) qs →
+    Every (λ q. queue_without_line q ≡ q) qs →
     are_new (map (λ b. b.name) bs ++ map (λ x. x.name) ss) (map (λ q. q.name) qs ++ []) ≡ true →
     length qs ≤ 8 →
     Leads (declarations bs ss []) (queue_statements qs) (declarations bs ss qs)
 queues_follow bs ss qs fits new few =
     (all_follow (λ q. DeclareQueue q.name q.mode) (λ q. q.name)
-    (λ q. (queue_without_line q ≡ q) × IsBuiltMode q.mode) (λ rs. declarations bs ss rs) front []
+    (λ q. queue_without_line q ≡ q) (λ rs. declarations bs ss rs) front []
     (λ before rs. length before + length rs ≤ 8)
-    (λ before q fit. ap (λ (r : Queue). declarations bs ss (before ++ r ∷ [])) fit.0) one [] qs fits
+    (λ before q fit. ap (λ (r : Queue). declarations bs ss (before ++ r ∷ [])) fit) one [] qs fits
     (subst (λ (ns : List (List ℕ)). are_new ns (map (λ q. q.name) qs ++ []) ≡ true)
     (sym (append-nil front)) new) (omega arith)).0
   where
@@ -182,7 +182,7 @@ queues_follow bs ss qs fits new few =
     front = map (λ b. b.name) bs ++ map (λ x. x.name) ss
 
     one : (before : List Queue) (q : Queue) (rs : List Queue) →
-        (queue_without_line q ≡ q) × IsBuiltMode q.mode → is_name q.name ≡ true →
+        queue_without_line q ≡ q → is_name q.name ≡ true →
         list_any (bytes_eq q.name)
         (map (λ b. b.name) bs ++ map (λ x. x.name) ss ++ map (λ r. r.name) before) ≡ false →
         length before + length (q ∷ rs) ≤ 8 →
@@ -209,7 +209,6 @@ queues_follow bs ss qs fits new few =
                 (sym (any_map (bytes_eq q.name) (λ (x : Semaphore). x.name) ss) ∙ two.1))
                 (sym (any_map (bytes_eq q.name) (λ (r : Queue). r.name) before) ∙ both.1);
             few = omega arith;
-            built = fit.1;
           },
           omega arith,
         )

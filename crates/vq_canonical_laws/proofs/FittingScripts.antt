@@ -20,8 +20,8 @@ use Rattle.vq_model.specs.Context.{is_command}
 use Rattle.vq_model.specs.Lowering.{commands_in}
 use Rattle.vq_model.specs.ScriptOfLines.{first_of_list}
 use Rattle.vq_model.specs.SameScript.{IsScript, without_lines, buffer_without_line, semaphore_without_line, queue_without_line, turn_without_line, mark_without_line, command_without_line, job_without_lines}
-use Rattle.vq_canonical_laws.specs.FormatRules.{are_new, IsWholeMark, IsFenceOf, BatchFits, JobFits, KeepsRules, HasValue, IsBuiltMode}
-use Rattle.vq_canonical_laws.proofs.ScriptParts.{ToldJob, ToldStep, ToldBatch, Parts, parts, a_job, script_of_parts, wait_in, command_in, signal_in, fence_in, commands_of, is_immediate_in}
+use Rattle.vq_canonical_laws.specs.FormatRules.{are_new, IsWholeMark, IsFenceOf, BatchFits, JobFits, KeepsRules, HasValue}
+use Rattle.vq_canonical_laws.proofs.ScriptParts.{ToldJob, ToldStep, ToldBatch, Parts, parts, a_job, script_of_parts, wait_in, command_in, signal_in, fence_in, commands_of}
 use Rattle.vq_canonical_laws.proofs.PartsSaid.{commands_push}
 use Rattle.vq_canonical_laws.proofs.BatchItems.{is_item, AllItems}
 use Rattle.vq_canonical_laws.proofs.CanonicalOrder.{Leads, leads_on, job_statements}
@@ -225,11 +225,6 @@ jobs_items (BatchJob b ∷ jobs) = (told_items b, jobs_items jobs)
 
 -- The jobs
 
--- a batch of an immediate queue waits for nothing
-abbrev IsAtOnce : List Queue → Job → Type 0
-IsAtOnce qs (Host h) = Unit {0}
-IsAtOnce qs (BatchJob b) = is_immediate_in qs b.queue ≡ true → b.waits ≡ []
-
 module _ (s : Script) where
   jobs_are : (jobs : List Job) → Every (JobFits s) jobs →
       map a_job (map told_of jobs) ≡ map job_without_lines jobs
@@ -243,12 +238,12 @@ module _ (s : Script) where
   with_jobs jobs = parts s.buffers s.semaphores s.queues jobs None
 
   jobs_follow : (before : List ToldJob) (jobs : List Job) → Every (JobFits s) jobs →
-      Every (IsAtOnce s.queues) jobs → length before + length jobs ≤ 4096 →
+      length before + length jobs ≤ 4096 →
       commands_of before + sum (map commands_in jobs) ≤ 8192 →
       Leads (with_jobs before) (flat_map job_statements (map told_of jobs))
       (with_jobs (before ++ map told_of jobs))
-  jobs_follow before [] fits once few all = ap with_jobs (sym (append-nil before))
-  jobs_follow before (Host h ∷ jobs) fits once few all =
+  jobs_follow before [] fits few all = ap with_jobs (sym (append-nil before))
+  jobs_follow before (Host h ∷ jobs) fits few all =
       let told = ToldStep h.step in
       let long = length-append before (told ∷ []) in
       let more = commands_push before told in
@@ -257,9 +252,9 @@ module _ (s : Script) where
         subst (λ (js : List ToldJob). Leads (with_jobs (before ++ told ∷ []))
             (flat_map job_statements (map told_of jobs)) (with_jobs js))
             (append_assoc before (told ∷ []) (map told_of jobs))
-            (jobs_follow (before ++ told ∷ []) jobs fits.1 once.1 (omega arith) (omega arith)),
+            (jobs_follow (before ++ told ∷ []) jobs fits.1 (omega arith) (omega arith)),
       )
-  jobs_follow before (BatchJob b ∷ jobs) fits once few all =
+  jobs_follow before (BatchJob b ∷ jobs) fits few all =
       let told = ToldBatch (batch_told b) in
       let long = length-append before (told ∷ []) in
       let more : commands_of (before ++ told ∷ []) ≡ commands_of before + count_by is_command (batch_told b).1 =
@@ -269,11 +264,11 @@ module _ (s : Script) where
       leads_on (with_jobs before) (with_jobs (before ++ told ∷ []))
       (with_jobs (before ++ told ∷ map told_of jobs)) (job_statements told)
       (flat_map job_statements (map told_of jobs))
-      (batch_follows s before b fits.0 once.0 (omega arith) (omega arith))
+      (batch_follows s before b fits.0 (omega arith) (omega arith))
       (subst (λ (js : List ToldJob). Leads (with_jobs (before ++ told ∷ []))
       (flat_map job_statements (map told_of jobs)) (with_jobs js))
       (append_assoc before (told ∷ []) (map told_of jobs))
-      (jobs_follow (before ++ told ∷ []) jobs fits.1 once.1 (omega arith) (omega arith)))
+      (jobs_follow (before ++ told ∷ []) jobs fits.1 (omega arith) (omega arith)))
 
 -- A script that keeps the rules can be written.
 pub ruled_is_written : (s : Script) → KeepsRules s → IsScript s
@@ -292,16 +287,14 @@ ruled_is_written s rules =
     rules.values) first.1 rules.limits.semaphores in
     let third =
     queues_follow s.buffers s.semaphores s.queues
-    (each_both (λ q. queue_without_line q ≡ q) (λ q. IsBuiltMode q.mode) s.queues
     (each_same queue_without_line s.queues (ap (λ (x : Script). x.queues) rules.lineless))
-    rules.modes)
     (subst (λ (ns : List (List ℕ)). are_new (buffer_names ++ semaphore_names) ns ≡ true)
     (sym (append-nil queue_names)) second.1) rules.limits.queues in
     let none : commands_of [] ≡ 0 = refl in
     let few = rules.limits.jobs in
     let all = rules.limits.commands in
     let fourth =
-    jobs_follow s [] s.jobs rules.jobs at_once (omega arith) (omega arith) in
+    jobs_follow s [] s.jobs rules.jobs (omega arith) (omega arith) in
     ordered_is_written s (with_jobs s (map told_of s.jobs)) same
     (record {
       buffers_first = first.0;
@@ -321,22 +314,3 @@ ruled_is_written s rules =
 
     queue_names : List (List ℕ)
     queue_names = map (λ q. q.name) s.queues
-
-    at_once : Every (IsAtOnce s.queues) s.jobs
-    at_once = each_there (IsAtOnce s.queues) s.jobs of_job
-      where
-        of_job : (k : ℕ) (j : Job) → slice_get s.jobs k ≡ Some j → IsAtOnce s.queues j
-        of_job k (Host h) e = tt
-        of_job k (BatchJob b) e = rules.at_once k b e
-
-    same : without_lines s ≡ script_of_parts (with_jobs s (map told_of s.jobs))
-    same = λ i.
-        record {
-          version = rules.version i;
-          buffers = (rules.lineless i).buffers;
-          semaphores = (rules.lineless i).semaphores;
-          queues = (rules.lineless i).queues;
-          jobs = sym (jobs_are s s.jobs rules.jobs) i;
-          scheduled = rules.unscheduled.unscheduled i;
-          turns = map turn_without_line (rules.unscheduled.turns i);
-        }

@@ -8,8 +8,6 @@ use Rattle.vq_model.specs.declared.script.Buffer.{Buffer}
 use Rattle.vq_model.specs.declared.script.Semaphore.{Semaphore}
 use Rattle.vq_model.specs.declared.script.SemaphoreKind.{SemaphoreKind}
 use Rattle.vq_model.specs.declared.script.SemaphoreKind.TheVariants.{Timeline, Binary, Fence}
-use Rattle.vq_model.specs.declared.script.Mode.{Mode}
-use Rattle.vq_model.specs.declared.script.Mode.TheVariants.{Immediate, Deferred, Threaded}
 use Rattle.vq_model.specs.declared.script.Pair.{Pair}
 use Rattle.vq_model.specs.declared.script.Mark.{Mark}
 use Rattle.vq_model.specs.declared.script.Command.{Command}
@@ -27,7 +25,7 @@ use Rattle.vq_model.specs.Context.{is_timeline, is_fence}
 use Rattle.vq_model.specs.Ranges.{is_aligned, overlaps_itself}
 use Rattle.vq_model.specs.SameScript.{without_lines}
 use Rattle.vq_model.specs.ValidScripts.{KeepsLimits, IsUnscheduled}
-use Rattle.vq_model.specs.Built.{HasNoImmediateWait, IsOfFirstVersion}
+use Rattle.vq_model.specs.Built.{IsOfFirstVersion}
 
 -- Numbers that a line can hold
 
@@ -60,12 +58,6 @@ are_new before (name ∷ names) =
 abbrev pub names_of : Script → List (List ℕ)
 names_of s =
     map (λ b. b.name) s.buffers ++ map (λ x. x.name) s.semaphores ++ map (λ q. q.name) s.queues
-
--- a mode that is built
-abbrev pub IsBuiltMode : Mode → Type 0
-IsBuiltMode Immediate = Unit {0}
-IsBuiltMode Threaded = Unit {0}
-IsBuiltMode Deferred = ⊥
 
 -- Commands
 
@@ -180,7 +172,5 @@ pub record KeepsRules (s : Script) : Type 0 where
   pub names : are_new [] (names_of s) ≡ true
   pub some_bytes : Every (λ b. 0 < b.size) s.buffers
   pub values : Every (λ x. HasValue x.kind) s.semaphores
-  pub modes : Every (λ q. IsBuiltMode q.mode) s.queues
   pub jobs : Every (JobFits s) s.jobs
-  pub at_once : HasNoImmediateWait s
   pub limits : KeepsLimits s

@@ -5,7 +5,5 @@ mod declarations;
 pub mod laws;
 mod rounds;
 mod script;
-#[cfg(test)]
-mod tests;
 
 pub use script::generate;

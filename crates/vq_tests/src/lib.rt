@@ -3,6 +3,8 @@
 #![tactic(auto)]
 
 #[cfg(test)]
+mod generator_tests;
+#[cfg(test)]
 mod host_tests;
 #[cfg(test)]
 mod order_tests;

@@ -1,8 +1,8 @@
 //! Generated texts of one round and of the most, where there is memory.
 ghost use Rattle.std.specs.Prelude.{◌≤◌};
 
-use crate::generate;
 use std::alloc::Global;
+use vq_generator::generate;
 
 const ONE_ROUND: &[u8] = b"buffer B00 64
 buffer B01 64
