@@ -7,7 +7,6 @@ use Rattle.std.proofs.lemmas.List.Folds.{list_all-append}
 use Rattle.std.proofs.lemmas.List.Sums.{sum_by-cons}
 use Rattle.std.proofs.lemmas.Bool.{and_from}
 use Rattle.std.proofs.lemmas.List.Elements.{filter_map-append}
-use Rattle.vq_model.specs.declared.script.Queue.{Queue}
 use Rattle.vq_model.specs.declared.script.Mark.{Mark}
 use Rattle.vq_model.specs.declared.script.CommandLine.{CommandLine}
 use Rattle.vq_model.specs.declared.script.Batch.{Batch}
@@ -314,3 +313,15 @@ ruled_is_written s rules =
 
     queue_names : List (List ℕ)
     queue_names = map (λ q. q.name) s.queues
+
+    same : without_lines s ≡ script_of_parts (with_jobs s (map told_of s.jobs))
+    same = λ i.
+        record {
+          version = rules.version i;
+          buffers = (rules.lineless i).buffers;
+          semaphores = (rules.lineless i).semaphores;
+          queues = (rules.lineless i).queues;
+          jobs = sym (jobs_are s s.jobs rules.jobs) i;
+          scheduled = rules.unscheduled.unscheduled i;
+          turns = map turn_without_line (rules.unscheduled.turns i);
+        }

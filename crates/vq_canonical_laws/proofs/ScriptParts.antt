@@ -18,7 +18,6 @@ use Rattle.vq_model.specs.declared.script.Job.TheVariants.{Host, Batch as BatchJ
 use Rattle.vq_model.specs.declared.script.HostStep.{HostStep}
 use Rattle.vq_model.specs.declared.script.Script.{Script}
 use Rattle.std.specs.Str.{bytes_eq}
-use Rattle.std.specs.Option.{option_map_or}
 use Rattle.std.specs.Prelude.{nat_lt, sum, count_by}
 use Rattle.vq_model.specs.declared.script.Command.{Command}
 use Rattle.vq_model.specs.Ranges.{overlaps_itself}
@@ -157,7 +156,6 @@ is_named bs ss qs name =
     list_any (λ b. bytes_eq name b.name) bs
     || list_any (λ s. bytes_eq name s.name) ss
     || list_any (λ q. bytes_eq name q.name) qs
-
 
 -- the place from which a wait holds back
 abbrev pub place_of : Statement → ℕ

@@ -1,20 +1,19 @@
 -- Each generated script keeps the rules of the format, so it can be written.
-use Rattle.std.proofs.Common.{ℕ, zero, suc, ◌≡◌, ◌<◌, ◌≤◌, ◌≢◌, ◌+◌, ◌-◌, ◌*◌, ◌%◌, ◌^◌, Bool, true, false, not, ◌&&◌, ◌==◌, List, [], ◌∷◌, ◌++◌, length, length-append, map, refl, sym, ap, ◌∙◌, arith, sum, flat_map, filter, cond}
+use Rattle.std.proofs.Common.{ℕ, zero, suc, ◌≡◌, ◌<◌, ◌≤◌, ◌≢◌, ◌+◌, ◌-◌, ◌*◌, ◌%◌, ◌^◌, Bool, true, false, not, ◌&&◌, ◌==◌, List, [], ◌∷◌, ◌++◌, length, length-append, map, refl, ap, ◌∙◌, arith, sum, flat_map, filter, cond}
 use Rattle.std.specs.Prelude.{nat_lt}
 use Rattle.std.specs.List.{AllByRecursion as Every, range_with_len}
 use Rattle.std.proofs.lemmas.List.{length-map, map-append}
 use Rattle.std.proofs.lemmas.List.Sums.{length-filter, count_by-le-length, sum_by-append}
-use Rattle.std.proofs.lemmas.Bool.{and_from, lt-ltb, eq-eqb, false≢true, false_from_ne_true, eqb-true, ltb-true}
+use Rattle.std.proofs.lemmas.Bool.{and_from, lt-ltb, eq-eqb, false_from_ne_true, eqb-true, ltb-true}
 use Rattle.vq_model.specs.declared.script.Buffer.{Buffer}
 use Rattle.vq_model.specs.declared.script.Semaphore.{Semaphore}
 use Rattle.vq_model.specs.declared.script.Job.{Job}
 use Rattle.vq_model.specs.Lowering.{commands_in}
 use Rattle.vq_model.specs.Ranges.{is_aligned}
 use Rattle.vq_model.specs.SameScript.{IsScript, job_without_lines}
-use Rattle.vq_model.specs.ValidScripts.{is_immediate_queue}
-use Rattle.vq_canonical_laws.specs.FormatRules.{KeepsRules, JobFits, IsWholeMark, IsCommandOf, is_within_in, size_in, HasValue, IsBuiltMode}
+use Rattle.vq_canonical_laws.specs.FormatRules.{KeepsRules, JobFits, IsWholeMark, IsCommandOf, is_within_in, size_in, HasValue}
 use Rattle.vq_canonical_laws.proofs.Cited.{ruled_is_written}
-use Rattle.vq_generator.specs.Generated.{buffer_names, timeline_names, queue_names, small_buffer, timeline_from_zero, threaded_queue, generated_script, generated_round, generated_batch, mark_at, others, buffer_in_round, copy_of_round, fill_of_round}
+use Rattle.vq_generator.specs.Generated.{buffer_names, timeline_names, small_buffer, timeline_from_zero, generated_script, generated_round, generated_batch, mark_at, others, buffer_in_round, copy_of_round, fill_of_round}
 
 -- What is declared
 
@@ -49,14 +48,6 @@ marks_fit : (value : ℕ) (ts : List ℕ) → value < 2 ^ 64 → Every (λ t. t 
     Every (IsWholeMark generated_timelines) (map (mark_at value) ts)
 marks_fit value [] v h = tt
 marks_fit value (t ∷ ts) v h = (mark_fits value t v h.0, marks_fit value ts v h.1)
-
--- no queue is immediate
-none_immediate : (n q : ℕ) → is_immediate_queue (generated_script n) q ≡ false
-none_immediate n zero = refl
-none_immediate n (suc zero) = refl
-none_immediate n (suc (suc zero)) = refl
-none_immediate n (suc (suc (suc zero))) = refl
-none_immediate n (suc (suc (suc (suc q)))) = refl
 
 -- what is made of each of some names
 all_made : {A : Type 0} (P : A → Type 0) (made : List ℕ → A) (names : List (List ℕ)) →
@@ -208,9 +199,7 @@ generated_keeps_rules n last =
       names = refl;
       some_bytes = all_made (λ b. 0 < b.size) small_buffer buffer_names (λ name. omega arith);
       values = all_made (λ x. HasValue x.kind) timeline_from_zero timeline_names (λ name. omega arith);
-      modes = all_made (λ q. IsBuiltMode q.mode) threaded_queue queue_names (λ name. tt);
       jobs = rounds_fit n 1 n (omega arith) (omega arith);
-      at_once = λ j b there immediate. absurd (false≢true (sym (none_immediate n b.queue) ∙ immediate));
       limits = record {
         buffers = omega arith;
         bytes = omega arith;
