@@ -19,10 +19,7 @@ use vq_words::Task;
 #[derive(Drop)]
 pub enum Reading {
     /// A lawful plan, and the turns that the task plays over it.
-    Lawful {
-        ordered: Ordered,
-        turns: List<Turn>,
-    },
+    Lawful { ordered: Ordered, turns: List<Turn> },
     /// The text that refuses the input.
     Refused(Vec<u8>),
 }

@@ -58,7 +58,10 @@ fn run_source<R: Threads + Wait + Sync, S: Source, K: Sink, G: Gate>(
     ensures to_end { ReadsToEnd result (S.left source.old) (S.left source.new) }
 {
     match read_whole(alloc, source, INPUT_LIMIT) {
-        Ok(input) => end_with(sink, run_outcome(rt, alloc, Task::Run, input.as_slice(), gate)),
+        Ok(input) => end_with(
+            sink,
+            run_outcome(rt, alloc, Task::Run, input.as_slice(), gate),
+        ),
         Err(fault) => end_unread(sink, fault),
     }
 }

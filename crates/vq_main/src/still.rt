@@ -19,12 +19,7 @@ use vq_words::Task;
 /// an unlawful plan are `Refused`, with the line of the first fault. `ReadFault` comes only where the source
 /// counted a fault in this call, `WriteFault` only where the sink did; `Memory` is want of memory, and
 /// `BadWords` never comes. The whole text is written at once, at the end. Source: this project's own.
-pub fn still<S: Source, K: Sink>(
-    alloc: Global,
-    task: &Task,
-    source: &mut S,
-    sink: &mut K,
-) -> Status
+pub fn still<S: Source, K: Sink>(alloc: Global, task: &Task, source: &mut S, sink: &mut K) -> Status
     requires { IsStill task.now }
     // It writes the first fault of the script, or what answers the task.
     ensures headline { IfSome (S.left source.old) (λ input.

@@ -136,7 +136,7 @@ submit Q
 signal A 1
 end
 "
-            .as_slice(),
+                .as_slice(),
             Some(OrderFault::NotPending { line: 5 }),
         ),
         // it is written before, but a thread may submit it late
