@@ -110,12 +110,12 @@ kept_below test (t ∷ ts) h = by_test (test t) (kept_below test ts h.1)
     by_test true rest = (h.0, rest)
     by_test false rest = rest
 
-others_below : (q : ℕ) → Every (λ t. t < 4) (others q)
+pub others_below : (q : ℕ) → Every (λ t. t < 4) (others q)
 others_below q =
     kept_below (λ other. not (other == q)) (range_with_len 0 4)
     (omega arith, (omega arith, (omega arith, (omega arith, tt))))
 
-few_others : (r q : ℕ) → length (map (mark_at (r - 1)) (others q)) ≤ 16
+pub few_others : (r q : ℕ) → length (map (mark_at (r - 1)) (others q)) ≤ 16
 few_others r q =
     let same = length-map (others q) (mark_at (r - 1)) in
     let counted = length-filter (λ other. not (other == q)) (range_with_len 0 4) in
@@ -147,7 +147,7 @@ round_fits n r first last = (
 
 -- The rounds
 
-every_append : {A : Type 0} (P : A → Type 0) (xs ys : List A) → Every P xs → Every P ys →
+pub every_append : {A : Type 0} (P : A → Type 0) (xs ys : List A) → Every P xs → Every P ys →
     Every P (xs ++ ys)
 every_append P [] ys h k = k
 every_append P (x ∷ xs) ys h k = (h.0, every_append P xs ys h.1 k)
@@ -170,7 +170,7 @@ rounds_lineless a (suc m) =
     ∙ ap (λ (js : List Job). generated_round a ++ js) (rounds_lineless (a + 1) m)
 
 -- four batches in each, and eight commands
-batches_counted : (a m : ℕ) → length (flat_map generated_round (range_with_len a m)) ≡ 4 * m
+pub batches_counted : (a m : ℕ) → length (flat_map generated_round (range_with_len a m)) ≡ 4 * m
 batches_counted a zero = refl
 batches_counted a (suc m) =
     let rest = batches_counted (a + 1) m in

@@ -1,3 +1,5 @@
+pub mod Cited
 mod GeneratedRows
 mod GeneratedScripts
 mod RoundLists
+mod ShortTexts

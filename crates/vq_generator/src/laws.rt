@@ -1,5 +1,5 @@
 //! Laws over generated scripts. The functions do nothing: their contracts are the laws.
-ghost use Rattle.std.specs.Prelude.{ℕ, ◌≤◌};
+ghost use Rattle.std.specs.Prelude.{ℕ, ◌≤◌, length};
 ghost use Rattle.vq_model.specs.SameScript.{IsScript, SameButLines};
 ghost use Rattle.vq_model.specs.declared.script.Script.{Script};
 ghost use Rattle.vq_model.specs.declared.statement.Form.TheVariants.{Plain};
@@ -18,4 +18,9 @@ pub fn generated_texts_read_back()
     ensures { (n : ℕ) → 1 ≤ n → n ≤ 500 →
         (read : Script) × StandsFor (canonical_text (generated_script n)) Plain read
         × SameButLines read (generated_script n) }
+{}
+
+/// The text of each generated script is far shorter than an input may be.
+pub fn generated_texts_are_short()
+    ensures { (n : ℕ) → n ≤ 500 → length (canonical_text (generated_script n)) ≤ 4194304 }
 {}
