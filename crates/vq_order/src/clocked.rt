@@ -1,6 +1,7 @@
 //! Plans with vector clocks: which job is before which, and which signals are sure.
 ghost use Rattle.std.specs.Prelude.{◌≡◌, ◌<◌, ◌↔◌, IsTrue, Some, length, IfOk};
 ghost use Rattle.std.specs.List.{slice_get};
+ghost use Rattle.vq_model.specs.Checks.{is_immediate_batch};
 ghost use Rattle.vq_model.specs.HappensBefore.{HappensBefore};
 ghost use Rattle.vq_model.specs.Plan.{chain, initial};
 ghost use Rattle.vq_model.specs.Signals.{kind_of};
@@ -97,6 +98,14 @@ impl Clocked {
         ensures complete { IsComplete self.now }
     {
         self.plan().job(j)
+    }
+
+    /// Whether a job is a batch of an immediate queue.
+    pub(crate) fn is_immediate(&self, j: u32) -> bool
+        requires { j < length self.now.jobs }
+        ensures { result ≡ is_immediate_batch self.now j }
+    {
+        self.plan().is_immediate(j)
     }
 
     /// A signal operation.

@@ -17,7 +17,7 @@ fn is_made_before(order: &Clocked, i: u32, j: u32) -> bool
     if i < j {
         match order.job(i).lane {
             Lane::Host => true,
-            Lane::Queue(_) => order.plan().is_immediate(i),
+            Lane::Queue(_) => order.is_immediate(i),
         }
     } else {
         false
@@ -78,7 +78,7 @@ fn ahead_in(order: &Clocked, j: u32) -> Option<Lines>
     requires exists { j < length order.now.jobs }
     ensures { AreLeastOrNone (IsAheadIn order.now j) result }
 {
-    if !order.plan().is_immediate(j) {
+    if !order.is_immediate(j) {
         return None;
     }
     let mut lowest = None;

@@ -1,7 +1,6 @@
-use Rattle.std.proofs.Common.{◌+◌, length, get_or, Option, ap, sym, ◌∙◌, subst, arith}
+use Rattle.std.proofs.Common.{◌+◌, length, get_or, Option, sym, ◌∙◌, subst, arith}
 use Rattle.vq_model.specs.declared.plan.Need.{Need}
-use Rattle.vq_model.specs.Checks.{is_immediate_batch}
-use Rattle.vq_model.specs.Plan.{Plan, needs}
+use Rattle.vq_model.specs.Plan.{needs}
 use Rattle.vq_plan_laws.proofs.Cited.{plan_semaphores}
 use Rattle.vq_order.specs.declared.lines.Lines.{Lines}
 use Rattle.vq_order.specs.LeastLines.{AreLeastOrNone, IsOfFirst, IsOfNeed}
@@ -34,5 +33,5 @@ returns c =
     let a = c.loop-need.auto.need-index-end in
     let b = c.loop-need-test.false in
     let R = IsOfFirst (IsOfNeed p (IsAhead p c.args.j) c.args.j) (length (needs p c.args.j)) in
-    lines_same R (IsAheadIn p c.args.j) (λ a b x. (sym (c.is_immediate.ensures ∙ ap (λ (q : Plan). is_immediate_batch q c.args.j) c.plan.ensures.value) ∙ c.if-not-is_immediate.false, x)) (λ a b x. x.1) c.loop-need.lowest
+    lines_same R (IsAheadIn p c.args.j) (λ a b x. (sym c.is_immediate.ensures ∙ c.if-not-is_immediate.false, x)) (λ a b x. x.1) c.loop-need.lowest
     (all_first (IsOfNeed p (IsAhead p c.args.j) c.args.j) c.loop-need.need-index (length (needs p c.args.j)) (omega arith) (omega arith) c.loop-need.lowest c.loop-need.invariant)
