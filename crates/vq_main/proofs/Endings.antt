@@ -18,7 +18,10 @@ use Rattle.vq_model.specs.declared.script.Turn.{Turn}
 use Rattle.vq_model.specs.SameScript.{IsRead}
 use Rattle.vq_model.specs.ValidScripts.{IsActor}
 use Rattle.vq_reading_laws.proofs.Cited.{read_turns}
-use Rattle.vq_main.specs.Tasks.{form_of, planned, turns_for, RunsThreads}
+use Rattle.vq_words.specs.declared.task.WordsFault.{WordsFault}
+use Rattle.vq_words.specs.declared.task.WordsFault.TheVariants.{Bad, Memory as NoMemoryForWords}
+use Rattle.vq_words.specs.Grammar.{Gives}
+use Rattle.vq_main.specs.Tasks.{form_of, input_of, planned, turns_for, RunsThreads}
 use Rattle.vq_model.specs.Outputs.{IsOutput}
 use Rattle.vq_plan_laws.proofs.Cited.{kept_read, moved_read}
 use Rattle.vq_model.specs.Refusals.{too_long, line_refusal, plan_refusal, order_refusal}
@@ -28,12 +31,12 @@ use Rattle.vq_words.specs.declared.task.Task.TheVariants.{Run, Check, Replay, Ge
 use Rattle.vq_main.specs.declared.status.Status.{Status}
 use Rattle.vq_main.specs.declared.status.Status.TheVariants.{Done, BadWords, Refused, ReadFault, WriteFault, Memory}
 use Rattle.vq_main.specs.Outcomes.{IsOutcome, is_too_long, has_faulty_line, has_no_plan, is_unlawful, gives_answer, Ends, AnswersTask, RefusesPlan, RefusesOrder, ReadsToEnd, IsLawfulInput, IsDoneOrMemory, input_limit}
-use Rattle.vq_main.specs.Outcomes.{IsReadFor, ArePlayable, IsTrace, IsLawfulPlan, IsReading, WritesNothing}
+use Rattle.vq_main.specs.Outcomes.{IsReadFor, ArePlayable, IsTrace, IsLawfulPlan, EndsForWords, WritesNothing}
 use Rattle.vq_port.specs.Faults.{Rose}
 use Rattle.vq_port.specs.declared.read.ReadFault.{ReadFault as Unread}
 use Rattle.vq_port.specs.declared.read.ReadFault.TheVariants.{Failed, TooLong, Memory as NoMemoryToRead}
 use Rattle.vq_main.specs.declared.outcome.Outcome.{Outcome}
-use Rattle.vq_main.specs.Writes.{SinkMoment, WroteAll, Writes, wrote_all, wrote_part, EndsWith, EndsUnread}
+use Rattle.vq_main.specs.Writes.{SinkMoment, WroteAll, WroteNothing, Writes, wrote_all, wrote_part, EndsWith, EndsUnread}
 
 -- a whole outcome was written
 whole_ends : (task : Task) (input : List ℕ) (status : Status) (text : List ℕ) (before now : SinkMoment) →
@@ -73,15 +76,34 @@ writing_rose task input text status result before now o (wrote_all same all) e =
     not_failed WriteFault o e = elim o [ ]
 
 module _ {E : Type 0} (task : Task) (input : List ℕ) (result : Status) (before now : SinkMoment) where
-  pub came_to : (outcome : Result Outcome E) → IfOk outcome (λ o. IsOutcome task input o.status o.text.items) →
-      EndsWith outcome result before now → Ends task input result before now
-  came_to (Ok o) is w = outcome_ends task input o.status result o.text.items before now is w
-  came_to (Err e) is w = subst (λ s. Ends task input s before now) (sym w.0) w.1
+  pub came_to : (came : Result Outcome E) → IfOk came (λ o. IsOutcome task input o.status o.text.items) →
+      EndsWith came result before now → Ends task input result before now
+  came_to (Ok o) is w = outcome_ends task input o.status result o.text.items before now is (w.outcome o refl)
+  came_to (Err e) is w =
+      let nothing = w.memory e refl in subst (λ s. Ends task input s before now) (sym nothing.0) nothing.1
 
-  pub came_to_rose : (outcome : Result Outcome E) → IfOk outcome (λ o. IsOutcome task input o.status o.text.items) →
-      EndsWith outcome result before now → result ≡ WriteFault → Rose before.faults now.faults
-  came_to_rose (Ok o) is w e = writing_rose task input o.text.items o.status result before now is w e
-  came_to_rose (Err x) is w e = absurd (let same = w.0 in cc)
+  pub came_to_rose : (came : Result Outcome E) → IfOk came (λ o. IsOutcome task input o.status o.text.items) →
+      EndsWith came result before now → result ≡ WriteFault → Rose before.faults now.faults
+  came_to_rose (Ok o) is w e =
+      writing_rose task input o.text.items o.status result before now is (w.outcome o refl) e
+  came_to_rose (Err x) is w e = absurd (let same = (w.memory x refl).0 in cc)
+
+  pub came_to_unfailed : (came : Result Outcome E) → IfOk came (λ o. IsOutcome task input o.status o.text.items) →
+      EndsWith came result before now → result ≡ ReadFault → ⊥
+  came_to_unfailed (Ok o) is w e = by_writing (w.outcome o refl)
+    where
+      not_failed : (s : Status) → IsOutcome task input s o.text.items → s ≡ ReadFault → ⊥
+      not_failed Done o e = cc
+      not_failed Refused o e = cc
+      not_failed Memory o e = cc
+      not_failed BadWords o e = cc
+      not_failed WriteFault o e = cc
+      not_failed ReadFault o e = elim o [ ]
+
+      by_writing : Writes o.text.items o.status result before now → ⊥
+      by_writing (wrote_part same part rose) = let f = sym same ∙ e in cc
+      by_writing (wrote_all same all) = not_failed o.status is (sym same ∙ e)
+  came_to_unfailed (Err x) is w e = let same = (w.memory x refl).0 in cc
 
 -- the words are not to blame
 pub ends_not_bad : (task : Task) (input : List ℕ) (result : Status) (before now : SinkMoment) →
@@ -113,55 +135,31 @@ module _ (result : Status) (before now : SinkMoment) where
       (fault ≡ TooLong → IfSome left (λ all. input_limit < length all)) → EndsUnread fault result before now →
       IfSome left (λ input. Ends task input result before now)
   unread_ends task None fault long w = tt
-  unread_ends task (Some input) Failed long w = subst (λ s. Ends task input s before now) (sym w.0) w.1
+  unread_ends task (Some input) Failed long w =
+      let nothing = w.failed refl in subst (λ s. Ends task input s before now) (sym nothing.0) nothing.1
   unread_ends task (Some input) NoMemoryToRead long w =
-      subst (λ s. Ends task input s before now) (sym w.0) w.1
+      let nothing = w.memory refl in subst (λ s. Ends task input s before now) (sym nothing.0) nothing.1
   unread_ends task (Some input) TooLong long w =
-      outcome_ends task input Refused result too_long before now (is_too_long (long refl)) w
-
-  -- a long input is refused, or its refusal not written
-  long_not : (s : Status) → Writes too_long Refused result before now → (Refused ≡ s → ⊥) →
-      (WriteFault ≡ s → ⊥) → result ≡ s → ⊥
-  long_not s (wrote_all same all) r w e = r (sym same ∙ e)
-  long_not s (wrote_part same part rose) r w e = w (sym same ∙ e)
-
-  pub unread_not_bad : (fault : Unread) → EndsUnread fault result before now → result ≡ BadWords → ⊥
-  unread_not_bad Failed w e = let same = w.0 in cc
-  unread_not_bad NoMemoryToRead w e = let same = w.0 in cc
-  unread_not_bad TooLong w e = long_not BadWords w (λ x. cc) (λ x. cc) e
+      outcome_ends task input Refused result too_long before now (is_too_long (long refl)) (w.long refl)
 
   pub unread_failed : (fault : Unread) → EndsUnread fault result before now → result ≡ ReadFault → fault ≡ Failed
   unread_failed Failed w e = refl
-  unread_failed NoMemoryToRead w e = absurd (let same = w.0 in cc)
-  unread_failed TooLong w e = absurd (long_not ReadFault w (λ x. cc) (λ x. cc) e)
+  unread_failed NoMemoryToRead w e = absurd (let same = (w.memory refl).0 in cc)
+  unread_failed TooLong w e = absurd (by_writing (w.long refl))
+    where
+      by_writing : Writes too_long Refused result before now → ⊥
+      by_writing (wrote_all same all) = let f = sym same ∙ e in cc
+      by_writing (wrote_part same part rose) = let f = sym same ∙ e in cc
 
   pub unread_rose : (fault : Unread) → EndsUnread fault result before now → result ≡ WriteFault →
       Rose before.faults now.faults
-  unread_rose Failed w e = absurd (let same = w.0 in cc)
-  unread_rose NoMemoryToRead w e = absurd (let same = w.0 in cc)
-  unread_rose TooLong (wrote_all same all) e = absurd (let f = sym same ∙ e in cc)
-  unread_rose TooLong (wrote_part same part rose) e = rose
-
-  pub unread_nothing : (fault : Unread) → EndsUnread fault result before now → WritesNothing result before now
-  unread_nothing Failed w = subst (λ s. WritesNothing s before now) (sym w.0) w.1
-  unread_nothing NoMemoryToRead w = subst (λ s. WritesNothing s before now) (sym w.0) w.1
-  unread_nothing TooLong (wrote_all same all) = subst (λ s. WritesNothing s before now) (sym same) tt
-  unread_nothing TooLong (wrote_part same part rose) = subst (λ s. WritesNothing s before now) (sym same) tt
-
-  pub unread_to_end : (left after : Option (List ℕ)) (fault : Unread) →
-      (fault ≡ TooLong → IfSome left (λ all. input_limit < length all)) → EndsUnread fault result before now →
-      ReadsToEnd result left after
-  unread_to_end left after Failed long w = subst (λ s. ReadsToEnd s left after) (sym w.0) tt
-  unread_to_end left after NoMemoryToRead long w = subst (λ s. ReadsToEnd s left after) (sym w.0) tt
-  unread_to_end left after TooLong long (wrote_part same part rose) =
-      subst (λ s. ReadsToEnd s left after) (sym same) tt
-  unread_to_end left after TooLong long (wrote_all same all) =
-      subst (λ s. ReadsToEnd s left after) (sym same) (too_long_told left (long refl))
+  unread_rose Failed w e = absurd (let same = (w.failed refl).0 in cc)
+  unread_rose NoMemoryToRead w e = absurd (let same = (w.memory refl).0 in cc)
+  unread_rose TooLong w e = by_writing (w.long refl)
     where
-      too_long_told : (l : Option (List ℕ)) → IfSome l (λ all. input_limit < length all) →
-          ReadsToEnd Refused l after
-      too_long_told None h = tt
-      too_long_told (Some input) h = λ short. absurd (omega arith)
+      by_writing : Writes too_long Refused result before now → Rose before.faults now.faults
+      by_writing (wrote_all same all) = absurd (let f = sym same ∙ e in cc)
+      by_writing (wrote_part same part rose) = rose
 
 -- a source that was read whole was read to its end
 pub read_to_end : (result : Status) (before now : Option (List ℕ)) → OnSome before (now ≡ Some []) →
@@ -206,6 +204,35 @@ lawful_ends task input BadWords before now e r w l = e
 lawful_ends task input ReadFault before now e r w l = r refl
 lawful_ends task input WriteFault before now e r w l = w refl
 lawful_ends task input Refused before now e r w l = not_refused task input e.0 l e.1
+
+-- for an input that the source told
+pub told_lawful : (task : Task) (left : Option (List ℕ)) (result : Status) (before now : SinkMoment) (A B : Type 0) →
+    IfSome left (λ input. Ends task input result before now) →
+    (result ≡ ReadFault → A) → (result ≡ WriteFault → B) →
+    IfSome left (λ input. IsLawfulInput task input → (A → ⊥) → (B → ⊥) → IsDoneOrMemory result)
+told_lawful task None result before now A B e r w = tt
+told_lawful task (Some input) result before now A B e r w =
+    λ lawful quiet silent. lawful_ends task input result before now e (λ is. quiet (r is)) (λ is. silent (w is)) lawful
+
+-- what holds of a task holds of the one that the words ask for
+pub for_asked : (P : Task → List ℕ → Type 0) (task asked : Task) → task ≡ asked → (left : Option (List ℕ)) →
+    IfSome (input_of task left) (P task) → IfSome (input_of asked left) (P asked)
+for_asked P task asked same left h = subst (λ t. IfSome (input_of t left) (P t)) same h
+
+-- Words that ask for a task weren't read for want of memory: nothing is written.
+pub words_end : (task : Task) (asked : Option Task) (input : Option (List ℕ)) (fault : WordsFault) (result : Status)
+    (before now : SinkMoment) → Gives (Err fault) asked → asked ≡ Some task →
+    (fault ≡ NoMemoryForWords → result ≡ Memory) → EndsForWords result before now →
+    IfSome input (λ all. Ends task all result before now)
+words_end task asked input Bad result before now none some memory w = absurd (cc)
+words_end task asked input NoMemoryForWords result before now g some memory w = by_input input
+  where
+    nothing : WroteNothing before now
+    nothing = subst (λ s. EndsForWords s before now) (memory refl) w
+
+    by_input : (i : Option (List ℕ)) → IfSome i (λ all. Ends task all result before now)
+    by_input None = tt
+    by_input (Some all) = subst (λ s. Ends task all s before now) (sym (memory refl)) nothing
 
 -- What was read for a task
 

@@ -1,5 +1,5 @@
 -- What the tasks of the command line read and play. This project's own.
-use Rattle.std.specs.Prelude.{ℕ, Bool, true, false, Unit, ⊥, List, [], Option, Some, None}
+use Rattle.std.specs.Prelude.{ℕ, Bool, true, false, List, [], Option, Some, None}
 use Rattle.vq_model.specs.declared.statement.Form.{Form}
 use Rattle.vq_model.specs.declared.statement.Form.TheVariants.{Plain, Scheduled}
 use Rattle.vq_model.specs.declared.script.Script.{Script}
@@ -27,9 +27,13 @@ reads_source None = false
 reads_source (Some (Generate rounds)) = false
 reads_source (Some other) = true
 
+-- the text of the script of so many rounds that the program makes itself
+unfoldable pub generated_text : ℕ → List ℕ
+generated_text rounds = canonical_text (generated_script rounds)
+
 -- the input of a task: the script that the program makes itself, or else what the source has
 abbrev pub input_of : Task → Option (List ℕ) → Option (List ℕ)
-input_of (Generate rounds) left = Some (canonical_text (generated_script rounds))
+input_of (Generate rounds) left = Some (generated_text rounds)
 input_of other left = left
 
 -- the form of the scripts that a task reads

@@ -42,12 +42,12 @@ pub data Writes (text : List ℕ) (meant result : Status) (before now : SinkMome
       Writes text meant result before now
 
 -- A run ended with what an input came to; for want of memory with nothing.
-abbrev pub EndsWith : {E : Type 0} → Result Outcome E → Status → SinkMoment → SinkMoment → Type 0
-EndsWith (Ok outcome) result before now = Writes outcome.text.items outcome.status result before now
-EndsWith (Err e) result before now = (result ≡ Memory) × WroteNothing before now
+pub record EndsWith {E : Type 0} (came : Result Outcome E) (result : Status) (before now : SinkMoment) : Type 0 where
+  pub outcome : (o : Outcome) → came ≡ Ok o → Writes o.text.items o.status result before now
+  pub memory : (e : E) → came ≡ Err e → (result ≡ Memory) × WroteNothing before now
 
 -- A run ended whose input wasn't read whole: with nothing, or with the line that refuses a long one.
-abbrev pub EndsUnread : Unread → Status → SinkMoment → SinkMoment → Type 0
-EndsUnread Failed result before now = (result ≡ ReadFault) × WroteNothing before now
-EndsUnread NoMemoryToRead result before now = (result ≡ Memory) × WroteNothing before now
-EndsUnread TooLong result before now = Writes too_long Refused result before now
+pub record EndsUnread (fault : Unread) (result : Status) (before now : SinkMoment) : Type 0 where
+  pub failed : fault ≡ Failed → (result ≡ ReadFault) × WroteNothing before now
+  pub memory : fault ≡ NoMemoryToRead → (result ≡ Memory) × WroteNothing before now
+  pub long : fault ≡ TooLong → Writes too_long Refused result before now

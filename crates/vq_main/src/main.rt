@@ -7,6 +7,8 @@ mod ending;
 mod gate_tests;
 #[cfg(test)]
 mod host_tests;
+#[cfg(test)]
+mod mode_tests;
 mod outcome;
 #[cfg(test)]
 mod port_tests;

@@ -29,7 +29,7 @@ pub struct Outcome {
 
 impl Outcome {
     /// This text, and that all went well.
-    fn done(text: Vec<u8>) -> Outcome
+    pub(crate) fn done(text: Vec<u8>) -> Outcome
         ensures { result ≡ record { status = Status.Done; text = text } }
     {
         Outcome {
@@ -39,7 +39,7 @@ impl Outcome {
     }
 
     /// This text, and that the input is refused.
-    fn refused(text: Vec<u8>) -> Outcome
+    pub(crate) fn refused(text: Vec<u8>) -> Outcome
         ensures { result ≡ record { status = Status.Refused; text = text } }
     {
         Outcome {

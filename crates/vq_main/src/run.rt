@@ -3,9 +3,7 @@ ghost use Rattle.std.specs.Prelude.{◌≡◌, ◌≤◌, map, string_bytes, fal
 ghost use Rattle.vq_port.specs.Faults.{Rose};
 ghost use Rattle.vq_words.specs.declared.task.Task.{Task};
 ghost use Rattle.vq_words.specs.Grammar.{task_of};
-ghost use Rattle.vq_model.specs.Canonical.{canonical_text};
-ghost use Rattle.vq_generator.specs.Generated.{generated_script};
-ghost use Rattle.vq_main.specs.Tasks.{input_of, reads_source};
+ghost use Rattle.vq_main.specs.Tasks.{generated_text, input_of, reads_source};
 ghost use Rattle.vq_main.specs.Writes.{moment};
 ghost use Rattle.vq_main.specs.Outcomes.{Ends, EndsForWords, IsOutcome, ReadsToEnd, WritesNothing};
 ghost use Rattle.vq_main.specs.Outcomes.{IsDoneOrMemory, IsLawfulInput};
@@ -29,6 +27,7 @@ fn refuse_words<K: Sink>(sink: &mut K, fault: WordsFault) -> Status
         (moment K.written K.room K.faults sink.old)
         (moment K.written K.room K.faults sink.new) }
     ensures bad_words { result ≡ Status.BadWords → fault ≡ WordsFault.Bad }
+    ensures memory { fault ≡ WordsFault.Memory → result ≡ Status.Memory }
     ensures write_fault { result ≡ Status.WriteFault → Rose (K.faults sink.old) (K.faults sink.new) }
 {
     match fault {
@@ -75,13 +74,10 @@ fn generated_outcome<R: Threads + Wait + Sync, G: Gate>(
 ) -> Result<Outcome, AllocError>
     requires few { 1 ≤ rounds }
     requires many { rounds ≤ 500 }
-    ensures { IfOk result (λ outcome. IsOutcome (Task.Generate rounds) (canonical_text (generated_script rounds))
+    ensures { IfOk result (λ outcome. IsOutcome (Task.Generate rounds) (generated_text rounds)
         outcome.status outcome.text.items) }
 {
     let text = generate(alloc, rounds)?;
-    if text.len() > INPUT_LIMIT {
-        return Ok(Outcome::refused(Vec::from_slice(alloc, b"error: too long\n")?));
-    }
     run_outcome(rt, alloc, Task::Generate(rounds), text.as_slice(), gate)
 }
 
@@ -95,7 +91,7 @@ fn run_generated<R: Threads + Wait + Sync, K: Sink, G: Gate>(
 ) -> Status
     requires few { 1 ≤ rounds }
     requires many { rounds ≤ 500 }
-    ensures headline { Ends (Task.Generate rounds) (canonical_text (generated_script rounds)) result
+    ensures headline { Ends (Task.Generate rounds) (generated_text rounds) result
         (moment K.written K.room K.faults sink.old)
         (moment K.written K.room K.faults sink.new) }
     ensures no_bad_words { result ≡ Status.BadWords → ⊥ }
@@ -164,7 +160,8 @@ pub fn run<R: Threads + Wait + Sync, S: Source, K: Sink, G: Gate>(
     match read_words(alloc, words) {
         Ok(Task::Run) => run_source(rt, alloc, source, sink, gate),
         Ok(Task::Generate(rounds)) => run_generated(rt, alloc, rounds, sink, gate),
-        Ok(task) => still(alloc, &task, source, sink),
+        Ok(Task::Check) => still(alloc, &Task::Check, source, sink),
+        Ok(Task::Replay) => still(alloc, &Task::Replay, source, sink),
         Err(fault) => refuse_words(sink, fault),
     }
 }
