@@ -52,7 +52,7 @@ class Order:
         for j in self.slow:
             self.before[j], self.sure[j] = set(), set()
             for i, made in self.edges(j):
-                if place[i] < place[j]:
+                if i in place and place[i] < place[j]:
                     self.before[j] |= {i} | self.before[i]
                     self.sure[j] |= set(made) | self.sure[i]
 
