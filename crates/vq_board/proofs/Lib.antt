@@ -1,0 +1,4 @@
+mod Copied
+mod Dealt
+mod Hands
+mod Limits

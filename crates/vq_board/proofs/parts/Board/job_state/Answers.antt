@@ -1,0 +1,21 @@
+use Rattle.std.proofs.Common.{arith, ap, sym, refl, subst, ◌∙◌}
+use Rattle.vq_board_laws.specs.Steps.{looks}
+use Rattle.vq_board_laws.proofs.Cited.{looks_at_job, state_of_number}
+use Rattle.vq_board_laws.specs.Knowledge.{state_at}
+use Rattle.vq_board.specs.Hands.{InHand}
+use Rattle.vq_board.specs.Named.{view}
+use Rattle.vq_board.proofs.parts.Board.job_state.Goals as goal
+
+pub load-word-requires : goal.load-word-requires
+load-word-requires c = (c.requires.board.0, omega (arith, c.args.self.now.sized, c.requires.exists), looks_at_job _ _ _ _ _)
+
+pub invariant_of-pass : goal.invariant_of-pass
+invariant_of-pass c =
+    let told = (c.load-word.ensures.2 c.args.job refl).2 in
+    record { running = c.args.pass.now.running ∙ sym (ap (λ m. m.0.runs) told); hand = subst InHand (sym told) c.args.pass.now.hand }
+
+pub returns : goal.returns
+returns c =
+    let told = c.load-word.ensures.2 c.args.job refl in
+    let same = c.state_of.ensures ∙ (ap state_at told.1 ∙ state_of_number told.0) in
+    (c.load-word.ensures.0, refl, ap (λ m. m.0) told.2 ∙ ap (looks (view c.args.pass.now) c.args.job) (sym same))

@@ -1,0 +1,42 @@
+use Rattle.std.proofs.Common.{arith, ◌≡◌, ℕ, ◌<◌, ◌^◌, map, List, [], ◌∷◌, ◌++◌, length, sym, ap, ◌∙◌, subst, refl}
+use Rattle.std.proofs.lemmas.Grind.{common_steps}
+use Rattle.atomic_table.specs.Table.{opening}
+use Rattle.vq_model.specs.Memory.{zeros_of}
+use Rattle.vq_model.specs.Plan.{Plan}
+use Rattle.vq_board_laws.specs.declared.view.LoggedBuffers.{LoggedBuffers}
+use Rattle.vq_board_laws.specs.Words.{word_count}
+use Rattle.vq_board_laws.specs.Rule.{Kept, fresh}
+use Rattle.vq_board_laws.proofs.Cited.{opens}
+use Rattle.vq_board.specs.Copies.{command_of}
+use Rattle.vq_board.proofs.Limits.{few_sizes}
+use Rattle.vq_board.proofs.parts.Board.open.Goals as goal
+
+pub new-requires-2 : goal.new-requires-2
+new-requires-2 c =
+    let p : Plan = c.args.plan.now in
+    let ws : List ℕ = c.as_slice.result.now in
+    let x : LoggedBuffers = record { buffers = c.in_ok-buffers.buffers; filled = 0 } in
+    let one : c.push.new.self.items ≡ x ∷ [] = c.in_ok-push.ensures.items ∙ ap (λ (xs : List LoggedBuffers). xs ++ x ∷ []) c.new-slots.ensures.items in
+    subst (λ (xs : List LoggedBuffers). Kept p (opening ws xs (fresh p 0))) (sym one)
+    (opens p ws x c.requires.plan c.requires.lawful (grind (arith, common_steps)) (λ i. grind (arith, common_steps)) refl
+    (c.in_ok-buffers.ensures ∙ ap zeros_of (c.sizes.ensures ∙ c.in_ok-commands.ensures.sizes)))
+
+pub new-requires : goal.new-requires
+new-requires c =
+    let sizes = ap length (c.sizes.ensures ∙ c.in_ok-commands.ensures.sizes) in
+    let few = few_sizes c.args.plan.now c.requires.plan in
+    omega arith
+
+pub invariant_of-board : goal.invariant_of-board
+invariant_of-board c =
+    let ok = c.in-Ok.ensures.ok in
+    let key : c.in-Ok.table.shared.key ≡ c.args.plan.now = ok.5 in
+    let wide : length c.as_slice.result.now ≡ word_count c.args.plan.now = grind (arith, common_steps) in
+    record {
+      sized = ok.0 ∙ (wide ∙ ap word_count (sym key));
+      one_slot = ok.1 ∙ (ap length c.in_ok-push.ensures.items ∙ ap (λ (xs : List LoggedBuffers). length (xs ++ record { buffers = c.in_ok-buffers.buffers; filled = 0 } ∷ [])) c.new-slots.ensures.items);
+      planned = c.of-2.ensures ∙ sym key;
+      few = subst (λ (p : Plan). length p.commands < 2 ^ 32) (sym key) c.word_count.ensures.few;
+      copied = c.in_ok-commands.ensures.commands ∙ ap (λ (p : Plan). map command_of p.commands) (sym key);
+      sizes = c.in_ok-commands.ensures.sizes ∙ ap (λ (p : Plan). p.sizes) (sym key);
+    }

@@ -1,0 +1,62 @@
+-- The board and its passes, as contracts name them. This project's own.
+use Rattle.std.specs.Prelude.{ℕ, List, ◌≡◌, ◌+◌, Some, map, length}
+use Rattle.std.specs.List.{slice_get, range_with_len}
+use Rattle.vq_model.specs.Plan.{Plan}
+use Rattle.vq_board_laws.specs.declared.view.View.{View}
+use Rattle.vq_board_laws.specs.declared.view.Role.{Role}
+use Rattle.vq_board_laws.specs.declared.view.Role.TheVariants.{Host, Submit, Ring, Shelf}
+use Rattle.vq_board_laws.specs.Roles.{role_number, threaded_queues}
+use Rattle.vq_board_laws.specs.Rule.{fresh}
+use Rattle.vq_model.specs.Memory.{Memory}
+use Rattle.vq_board.specs.declared.parts.Board.{Board}
+use Rattle.vq_board.specs.declared.parts.Closed.{Closed}
+use Rattle.vq_board.specs.declared.parts.Pass.{Pass}
+use Rattle.vq_board.specs.declared.parts.Passes.{Passes}
+
+abbrev pub plan_of : Board → Plan
+plan_of b = b.table.shared.key
+
+abbrev pub view : Pass → View
+view x = x.seat.me.0
+
+abbrev pub role_of : Pass → Role
+role_of x = x.role
+
+-- the pass is one of the board's
+abbrev pub IsOf : Board → Pass → Type 0
+IsOf b x = (x.seat.table_id ≡ b.table.shared.table_id) × ((view x).plan ≡ plan_of b)
+
+-- the same pass, with another view
+abbrev pub Turns : Pass → Pass → View → Type 0
+Turns x y v = (y.seat.table_id ≡ x.seat.table_id) × (role_of y ≡ role_of x) × (view y ≡ v)
+
+-- a pass of the board that has done nothing, with the number of its role
+abbrev pub IsFresh : Board → Pass → Type 0
+IsFresh b x = IsOf b x × (view x ≡ fresh (plan_of b) (role_number (plan_of b) (role_of x)))
+
+-- fresh passes with these roles, in order
+abbrev pub AreFresh : Board → List Pass → List Role → Type 0
+AreFresh b xs roles =
+    (map role_of xs ≡ roles) × ((k : ℕ) (x : Pass) → slice_get xs k ≡ Some x → IsFresh b x)
+
+-- the host's pass has done nothing but to be cut so many times
+abbrev pub IsCut : Board → Pass → ℕ → Type 0
+IsCut b x n =
+    IsOf b x × (role_of x ≡ Host) × (view x ≡ record (fresh (plan_of b) 0) { given = n })
+
+-- all passes of a board
+pub record AreDealt (b : Board) (xs : Passes) : Type 0 where
+  pub host :
+      IsCut b xs.host
+      (length (threaded_queues (plan_of b)) + length (plan_of b).script.queues + length (plan_of b).chains)
+  pub submits : AreFresh b xs.submits.items (map Submit (threaded_queues (plan_of b)))
+  pub rings :
+      AreFresh b xs.rings.items (map Ring (range_with_len 0 (length (plan_of b).script.queues)))
+  pub shelves : AreFresh b xs.shelves.items (map Shelf (range_with_len 0 (length (plan_of b).chains)))
+
+-- the plan of a board that is closed, and the bytes of its buffers
+abbrev pub plan_of_closed : Closed → Plan
+plan_of_closed c = c.plan.value
+
+abbrev pub bytes_of : Closed → Memory
+bytes_of c = c.buffers

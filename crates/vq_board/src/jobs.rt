@@ -1,0 +1,108 @@
+//! The steps on the word of a job.
+ghost use Rattle.std.specs.Prelude.{◌≡◌, ◌<◌, length};
+ghost use Rattle.vq_board_laws.specs.Knowledge.{state_at};
+ghost use Rattle.vq_board_laws.specs.May.{MaySubmit, MayRelease, MayStart, MayFinish};
+ghost use Rattle.vq_board_laws.specs.Steps.{looks, submits, releases, starts, finishes};
+ghost use Rattle.vq_board.specs.Named.{plan_of, view, role_of, IsOf, Turns};
+
+use crate::parts::{Board, Pass};
+use crate::plays::{Finish, Look, Release, Start, Submit};
+use vq_board_laws::view::{JobState, Role};
+
+/// The state of a job with this word.
+fn state_of(word: u64) -> JobState
+    ensures { result ≡ state_at word }
+{
+    match word {
+        0 => JobState::Waiting,
+        1 => JobState::Submitted,
+        2 => JobState::Released,
+        3 => JobState::Started,
+        _ => JobState::Finished,
+    }
+}
+
+impl Pass {
+    /// Whose pass this is.
+    ///
+    /// Source: this project's rule.
+    pub fn role(&self) -> Role
+        ensures { result ≡ role_of self.now }
+    {
+        self.role
+    }
+}
+
+impl Board {
+    /// How far a job is. The pass knows it from then on.
+    ///
+    /// Source: this project's rule.
+    pub fn job_state(&self, pass: &mut Pass, job: u32) -> JobState
+        requires board { IsOf self.now pass.old }
+        requires exists { job < length (plan_of self.now).jobs }
+        ensures { Turns pass.old pass.new (looks (view pass.old) job result) }
+    {
+        let word = self
+            .table
+            .shared
+            .load::<Look>(&mut pass.seat, 4 * job as usize + 2);
+        state_of(word)
+    }
+
+    /// The host submits the next batch of the script.
+    ///
+    /// Source: Vulkan 1.3, "Queue Submission". That a batch is submitted once all host steps before
+    /// it are finished is this project's rule.
+    pub fn submit(&self, pass: &mut Pass, job: u32)
+        requires board { IsOf self.now pass.old }
+        requires may { MaySubmit (plan_of self.now) (view pass.old) job }
+        ensures { Turns pass.old pass.new (submits (view pass.old) job) }
+    {
+        self.table
+            .shared
+            .store::<Submit>(&mut pass.seat, 4 * job as usize + 2, 1);
+    }
+
+    /// Hands the next batch of a queue to the device.
+    ///
+    /// Source: this project's rule.
+    pub fn release(&self, pass: &mut Pass, job: u32)
+        requires board { IsOf self.now pass.old }
+        requires may { MayRelease (plan_of self.now) (view pass.old) job }
+        ensures { Turns pass.old pass.new (releases (view pass.old) job) }
+    {
+        self.table
+            .shared
+            .store::<Release>(&mut pass.seat, 4 * job as usize + 2, 2);
+    }
+
+    /// Starts a job, which the pass runs from then on.
+    ///
+    /// Source: Vulkan 1.3, "Semaphore Waiting". That the jobs of a lane run one after another is this
+    /// project's rule.
+    pub fn start(&self, pass: &mut Pass, job: u32)
+        requires board { IsOf self.now pass.old }
+        requires may { MayStart (plan_of self.now) (view pass.old) job }
+        ensures { Turns pass.old pass.new (starts (view pass.old) job) }
+    {
+        pass.runs = Some(job);
+        self.table
+            .shared
+            .store::<Start>(&mut pass.seat, 4 * job as usize + 2, 3);
+    }
+
+    /// Finishes the job that the pass runs.
+    ///
+    /// Source: this project's rule.
+    pub fn finish(&self, pass: &mut Pass, job: u32)
+        requires board { IsOf self.now pass.old }
+        requires exists { job < length (plan_of self.now).jobs }
+        requires may { MayFinish (plan_of self.now) (view pass.old) job }
+        ensures { Turns pass.old pass.new (finishes (view pass.old) job) }
+    {
+        pass.runs = None;
+        self.table
+            .shared
+            .store::<Finish>(&mut pass.seat, 4 * job as usize + 2, 4);
+    }
+}

@@ -1,0 +1,85 @@
+//! The steps on the turn over the buffers and on the log.
+ghost use Rattle.std.specs.Prelude.{◌≡◌, ◌≢◌, ℕ, List, ◌+◌, ◌<◌, ◌^◌, length, map, Some, None, IfSome, IfNone};
+ghost use Rattle.vq_model.specs.Memory.{Memory, effect};
+ghost use Rattle.vq_model.specs.Ranges.{Fits};
+ghost use Rattle.vq_board_laws.specs.May.{MayEnter};
+ghost use Rattle.vq_board_laws.specs.Steps.{takes_turn, misses_turn, gives_turn, enters};
+ghost use Rattle.vq_board.specs.Named.{plan_of, view, IsOf, Turns};
+
+use crate::parts::{Board, Held, Pass};
+use crate::plays::{Enter, GiveTurn, TakeTurn};
+use vq_board_laws::view::LoggedBuffers;
+use vq_model::script::Command;
+
+/// Applies a command that fits, and counts it.
+fn apply(memory: &mut LoggedBuffers, command: &Command)
+    requires fits { Fits (map length memory.old.buffers) command.now }
+    requires few { memory.old.filled < 2 ^ 32 }
+    ensures bytes { memory.new.buffers ≡ effect command.now memory.old.buffers }
+    ensures sizes { map length memory.new.buffers ≡ map length memory.old.buffers }
+    ensures filled { memory.new.filled ≡ memory.old.filled + 1 }
+{
+    memory.buffers.apply(command);
+    memory.filled += 1;
+}
+
+impl Board {
+    /// Takes the turn over the buffers for the job that the pass runs. It is `None` only where this
+    /// step found the turn taken.
+    ///
+    /// Source: this project's rule.
+    pub fn take_memory(&self, pass: &mut Pass) -> Option<Held>
+        requires board { IsOf self.now pass.old }
+        requires runs { (j : ℕ) × ((view pass.old).runs ≡ Some j) }
+        requires turnless { (view pass.old).held ≡ None }
+        ensures taken { IfSome result (λ _. (n : ℕ) × (bytes : Memory)
+            × Turns pass.old pass.new (takes_turn (view pass.old) n bytes)) }
+        ensures missed { IfNone result ((n : ℕ) × (n ≢ 0)
+            × Turns pass.old pass.new (misses_turn (view pass.old) n)) }
+    {
+        let Some(job) = pass.runs else { unreachable!() };
+        let found = self
+            .table
+            .shared
+            .compare_exchange::<TakeTurn>(&mut pass.seat, 0, 0, job as u64 + 1);
+        if found == 0 {
+            Some(Held { private: () })
+        } else {
+            None
+        }
+    }
+
+    /// Applies the next command of the job that the pass runs to the buffers, and enters it in the
+    /// log.
+    ///
+    /// Source: Vulkan 1.3, "Clear Commands" and "Copy Commands". The log is this project's rule.
+    pub fn enter(&self, pass: &mut Pass, held: &mut Held, command: u32)
+        requires board { IsOf self.now pass.old }
+        requires exists { command < length (plan_of self.now).commands }
+        requires may { MayEnter (plan_of self.now) (view pass.old) command }
+        ensures { (n : ℕ) × (bytes : Memory) × ((view pass.old).held ≡ Some n)
+            × Turns pass.old pass.new (enters (view pass.old) command n bytes) }
+    {
+        let _ = held;
+        let memory = pass.seat.slot_mut(&self.table.shared, 0);
+        let filled = memory.filled;
+        apply(memory, self.commands.command(command));
+        self.table.shared.store::<Enter>(
+            &mut pass.seat,
+            4 * filled as usize + 5,
+            command as u64 + 1,
+        );
+    }
+
+    /// Gives the turn over the buffers back.
+    ///
+    /// Source: this project's rule.
+    pub fn give_memory(&self, pass: &mut Pass, held: Held)
+        requires board { IsOf self.now pass.old }
+        requires holds { (n : ℕ) × ((view pass.old).held ≡ Some n) }
+        ensures { Turns pass.old pass.new (gives_turn (view pass.old)) }
+    {
+        let Held { private: () } = held;
+        self.table.shared.store::<GiveTurn>(&mut pass.seat, 0, 0);
+    }
+}

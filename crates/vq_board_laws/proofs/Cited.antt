@@ -1,0 +1,8 @@
+-- What other crates may cite of this one. All other files of proofs are private to it.
+pub use Rattle.vq_board_laws.proofs.EnterSteps.{enters_command}
+pub use Rattle.vq_board_laws.proofs.Endings.{ends_whole}
+pub use Rattle.vq_board_laws.proofs.Frames.{so_of}
+pub use Rattle.vq_board_laws.proofs.JobSteps.{batch_exists, looks_at_job, releases_job, state_of_number, submits_job}
+pub use Rattle.vq_board_laws.proofs.Opens.{deals, opens}
+pub use Rattle.vq_board_laws.proofs.RunSteps.{finishes_job, starts_job}
+pub use Rattle.vq_board_laws.proofs.TurnSteps.{gives_memory, takes_memory_as}

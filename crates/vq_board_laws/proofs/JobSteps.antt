@@ -1,0 +1,171 @@
+-- The steps on a job's word keep the rule: the look, submit, release, start and finish.
+use Rattle.std.proofs.Common.{◌≡◌, ◌≢◌, ℕ, zero, suc, ◌<◌, ◌≤◌, Bool, true, false, List, [], ◌∷◌, ◌++◌, length, set, get_or, refl, ap, sym, ◌∙◌, subst, arith, inl, inr, ⊎_elim, Option, Some, None, ltb, take, drop, not}
+use mathlib.Core.Option.{some, none}
+use lib.ListN.{get_elem?}
+use lib.Seq.{set-get_or}
+use native.Mathlib.Decide.{dec_le}
+use Rattle.std.specs.List.{list_all}
+use Rattle.std.specs.Option.{option_to_list}
+use Rattle.std.proofs.lemmas.Bool.{lt-ltb, le-ltb, false≢true, and_from, and_parts, cases_Bool, ltb-true}
+use Rattle.atomic_table.specs.Table.{State, step, keeps, Allows}
+use Rattle.vq_model.specs.Plan.{Plan, has, is_batch, is_host_step, previous, host_before, idle_after, commands_of, signals_of, job_of}
+use Rattle.vq_model.specs.Edges.{AtEnd, At, must_finish}
+use Rattle.vq_model.specs.LoweringFaults.{IsPlan}
+use Rattle.vq_model.specs.Machine.{put, are_reached, can_start, CanStart, StartStep, FinishStep, IsDone}
+use Rattle.vq_model.proofs.Lists.{has_here, has_there, has_cases, has-append_cases, list_all_from}
+use Rattle.vq_model.proofs.Puts.{put_here, put_there}
+use Rattle.vq_plan_laws.proofs.Cited.{plan_well_formed, plan_hosts, reached_earlier}
+use Rattle.vq_board_laws.specs.declared.view.View.{View}
+use Rattle.vq_board_laws.specs.declared.view.LoggedBuffers.{LoggedBuffers}
+use Rattle.vq_board_laws.specs.declared.view.JobState.{JobState}
+use Rattle.vq_board_laws.specs.declared.view.JobState.TheVariants.{Waiting, Submitted, Released, Started, Finished}
+use Rattle.vq_board_laws.specs.declared.view.Fact.TheVariants.{Job}
+use Rattle.vq_board_laws.specs.Roles.{runner, submitter}
+use Rattle.vq_board_laws.specs.Words.{Words, words_of, job_word, made_of, log_of, payload_of, shown}
+use Rattle.vq_board_laws.specs.Knowledge.{AreSo, Knows, state_number, state_at}
+use Rattle.vq_board_laws.specs.Jobs.{OwnPhases, OwnJobs}
+use Rattle.vq_board_laws.specs.Rule.{IsReached, Rule, Kept}
+use Rattle.vq_board_laws.specs.May.{MaySubmit, MayRelease, MayStart, MayFinish}
+use Rattle.vq_board_laws.specs.Steps.{Mine, looks, submits, releases, starts, finishes, looked, submitted, released, started, finished}
+use Rattle.vq_board_laws.proofs.Columns.{put_each}
+use Rattle.vq_board_laws.proofs.Frames.{facts_stay, so_of, knowledge_stays, jobs_stay, log_stays, ownership_stays, points_stay, references_stay}
+use Rattle.vq_board_laws.proofs.Runs.{reach_further}
+use Rattle.vq_board_laws.proofs.Needs.{needs_reached}
+use Rattle.vq_board_laws.proofs.JobParts.{kept_job, so_job, log_rejob, jobs_early}
+
+-- A look
+
+number_of_state : (n : ℕ) → n ≤ 4 → n ≡ state_number (state_at n)
+number_of_state zero h = refl
+number_of_state (suc zero) h = refl
+number_of_state (suc (suc zero)) h = refl
+number_of_state (suc (suc (suc zero))) h = refl
+number_of_state (suc (suc (suc (suc zero)))) h = refl
+number_of_state (suc (suc (suc (suc (suc n))))) h = absurd (omega arith)
+
+pub state_of_number : (s : JobState) → state_at (state_number s) ≡ s
+state_of_number Waiting = refl
+state_of_number Submitted = refl
+state_of_number Released = refl
+state_of_number Started = refl
+state_of_number Finished = refl
+
+pub looks_at_job : (p : Plan) (slots id : ℕ) (m : Mine) (j : ℕ) → Allows (Kept p) slots id m (job_word j) (λ n. n) (looked (step slots (job_word j) 0 0 none) m)
+looks_at_job p slots id m j s k deep at fits =
+    let d : Words = words_of s.words in
+    let r = k.rule in
+    let v : View = m.0 in
+    let n : ℕ = d.job j in
+    let w : View = looks v j (state_at n) in
+    let number = number_of_state n (r.jobs.ranged j) in (
+      w,
+      keeps,
+      tt,
+      record {
+        plan = k.plan;
+        lawful = k.lawful;
+        count = ap length (set-get_or s.words (job_word j) 0) ∙ k.count;
+        rule = subst (λ (ws : List ℕ). Rule p (words_of ws) s.homes (set s.views id w)) (sym (set-get_or s.words (job_word j) 0)) record {
+          knowledge = knowledge_stays d d s.views id w (λ f h. h) r.knowledge (omega arith, r.knowledge id v at);
+          run = r.run;
+          jobs = jobs_stay p d.job (made_of d) (log_of p d) s.views id v w r.jobs at refl;
+          log = log_stays p d.job d.place d.turn (log_of p d) s.homes s.views id v w r.log at refl;
+          ownership = ownership_stays p d.count s.views id v w r.ownership at refl;
+          points = points_stay p d.op d.point d.count s.views id v w r.points at refl;
+          references = references_stay d.point s.views id v w r.references at refl;
+        };
+      },
+      λ i same. let is : j ≡ i = omega arith in (state_at n, number, ap (λ (z : ℕ). (looks v z (state_at n), m.1)) is),
+    )
+
+-- Submit and release
+
+pub batch_exists : (p : Plan) (j : ℕ) → is_batch p j ≡ true → j < length p.jobs
+batch_exists p j h = ltb-true j (length p.jobs) (and_parts (ltb j (length p.jobs)) (not (is_host_step p j)) h).0
+
+module _ (p : Plan) (s : State LoggedBuffers View) (id j x : ℕ) (v w : View) (k : Kept p s) (at : get_elem? s.views id ≡ some v) where
+  -- what a word that rises by less than a start shows
+  shown_early : (words_of s.words).job j < x → x ≤ 2 → IsReached p (shown p (record (words_of s.words) { job = put (words_of s.words).job j x }))
+  shown_early up low =
+      let d : Words = words_of s.words in
+      let same : (t : ℕ) → 2 ≤ t → (a : ℕ) → ltb t (d.job a) ≡ ltb t (put d.job j x a) = λ t l. put_each d.job j x (λ a y. ltb t (d.job a) ≡ ltb t y) (le-ltb t (d.job j) (omega arith) ∙ sym (le-ltb t x (omega arith))) (λ a ne. refl) in
+      subst (IsReached p) (λ i. record {
+        payload = payload_of p (made_of d);
+        started = λ a. same 2 (omega arith) a i;
+        finished = λ a. same 3 (omega arith) a i;
+        made = made_of d;
+        applied = log_of p d;
+      }) k.rule.run
+
+pub submits_job : (p : Plan) (slots id : ℕ) (m : Mine) (j : ℕ) → MaySubmit p m.0 j → Allows (Kept p) slots id m (job_word j) (λ _. 1) (λ _. submitted (step slots (job_word j) 1 0 none) m 1)
+submits_job p slots id m j may s k deep at fits =
+    let d : Words = words_of s.words in
+    let r = k.rule in
+    let v : View = m.0 in
+    let w : View = submits v j in
+    let o = (r.jobs.own id v at).1 in
+    let known = r.knowledge id v at in
+    let inside : j < length p.jobs = batch_exists p j may.batch in
+    let zero_word : d.job j ≡ 0 = elim (dec_le 1 (d.job j)) [ yes h ↦ absurd (false≢true (sym may.new ∙ o.submitted_all may.host j may.batch h)) | no h ↦ omega arith ] in
+    let up : d.job j < 1 = omega arith in (
+      w,
+      keeps,
+      tt,
+      kept_job p s j 1 (set s.views id w) k inside record {
+        knowledge = knowledge_stays d (record d { job = put d.job j 1 }) s.views id w (so_job d j 1 (omega arith)) r.knowledge
+            (subst (λ (z : ℕ). 1 ≤ z) (sym (put_here d.job j 1)) (omega arith), facts_stay d (record d { job = put d.job j 1 }) v.known (so_job d j 1 (omega arith)) known);
+        run = shown_early p s id j 1 v w k at up (omega arith);
+        jobs = jobs_early p d.job (made_of d) (log_of p d) j 1 s.views id v w r.jobs r.ownership.roles at up (omega arith) refl
+            record {
+              submitted_all = λ h. put_each d.job j 1 (λ b y. is_batch p b ≡ true → 0 < y → has (j ∷ v.submitted) b ≡ true) (λ _ _. has_here j v.submitted) (λ b ne c g. has_there j v.submitted b (o.submitted_all h b c g));
+              released_all = put_each d.job j 1 (λ b y. is_batch p b ≡ true → submitter p b ≡ v.role → 1 < y → has v.released b ≡ true) (λ _ _ h. absurd (omega arith)) (λ b ne. o.released_all b);
+            }
+            (λ role submitted released ne u. record {
+              submitted_all = λ h. absurd (ne (h ∙ sym may.host));
+              released_all = put_each d.job j 1 (λ b y. is_batch p b ≡ true → submitter p b ≡ role → 1 < y → has released b ≡ true) (λ _ _ h. absurd (omega arith)) (λ b ne. u.released_all b);
+            })
+            (λ i batch l h. so_of d v.known (Job i Finished) known (may.before i l h));
+        log = log_rejob p d.job d.place d.turn (log_of p d) s.homes s.views id j 1 w r.log (λ h. absurd (let t = (r.log.taken j h).0 in omega arith)) (r.log.holding id v at);
+        ownership = ownership_stays p d.count s.views id v w r.ownership at refl;
+        points = points_stay p d.op d.point d.count s.views id v w r.points at refl;
+        references = references_stay d.point s.views id v w r.references at refl;
+      },
+      λ i same. let is : j ≡ i = omega arith in ap (λ (z : ℕ). (submits v z, m.1)) is,
+    )
+
+pub releases_job : (p : Plan) (slots id : ℕ) (m : Mine) (j : ℕ) → MayRelease p m.0 j → Allows (Kept p) slots id m (job_word j) (λ _. 2) (λ _. released (step slots (job_word j) 2 0 none) m 2)
+releases_job p slots id m j may s k deep at fits =
+    let d : Words = words_of s.words in
+    let r = k.rule in
+    let v : View = m.0 in
+    let w : View = releases v j in
+    let o = (r.jobs.own id v at).1 in
+    let known = r.knowledge id v at in
+    let least : 1 ≤ d.job j = so_of d v.known (Job j Submitted) known may.submitted in
+    let inside : j < length p.jobs = batch_exists p j may.batch in
+    let one_word : d.job j ≡ 1 = elim (dec_le 2 (d.job j)) [ yes h ↦ absurd (false≢true (sym may.new ∙ o.released_all j may.batch may.submitter h)) | no h ↦ omega arith ] in
+    let up : d.job j < 2 = omega arith in (
+      w,
+      keeps,
+      tt,
+      kept_job p s j 2 (set s.views id w) k inside record {
+        knowledge = knowledge_stays d (record d { job = put d.job j 2 }) s.views id w (so_job d j 2 (omega arith)) r.knowledge
+            (subst (λ (z : ℕ). 2 ≤ z) (sym (put_here d.job j 2)) (omega arith), facts_stay d (record d { job = put d.job j 2 }) v.known (so_job d j 2 (omega arith)) known);
+        run = shown_early p s id j 2 v w k at up (omega arith);
+        jobs = jobs_early p d.job (made_of d) (log_of p d) j 2 s.views id v w r.jobs r.ownership.roles at up (omega arith) refl
+            record {
+              submitted_all = λ h. put_each d.job j 2 (λ b y. is_batch p b ≡ true → 0 < y → has v.submitted b ≡ true) (λ c _. o.submitted_all h j c (omega arith)) (λ b ne. o.submitted_all h b);
+              released_all = put_each d.job j 2 (λ b y. is_batch p b ≡ true → submitter p b ≡ v.role → 1 < y → has (j ∷ v.released) b ≡ true) (λ _ _ _. has_here j v.released) (λ b ne c l g. has_there j v.released b (o.released_all b c l g));
+            }
+            (λ role submitted released ne u. record {
+              submitted_all = λ h. put_each d.job j 2 (λ b y. is_batch p b ≡ true → 0 < y → has submitted b ≡ true) (λ c _. u.submitted_all h j c (omega arith)) (λ b ne. u.submitted_all h b);
+              released_all = put_each d.job j 2 (λ b y. is_batch p b ≡ true → submitter p b ≡ role → 1 < y → has released b ≡ true) (λ _ l _. absurd (ne (sym l ∙ may.submitter))) (λ b ne. u.released_all b);
+            })
+            (λ i batch l h. r.jobs.waited i j batch (omega arith) l h);
+        log = log_rejob p d.job d.place d.turn (log_of p d) s.homes s.views id j 2 w r.log (λ h. absurd (let t = (r.log.taken j h).0 in omega arith)) (r.log.holding id v at);
+        ownership = ownership_stays p d.count s.views id v w r.ownership at refl;
+        points = points_stay p d.op d.point d.count s.views id v w r.points at refl;
+        references = references_stay d.point s.views id v w r.references at refl;
+      },
+      λ i same. let is : j ≡ i = omega arith in ap (λ (z : ℕ). (releases v z, m.1)) is,
+    )

@@ -1,0 +1,152 @@
+-- The log of commands: its filled places, its room, and what its commands leave in the buffers.
+use Rattle.std.proofs.Common.{◌≡◌, ◌≢◌, ◌⊎◌, ℕ, zero, suc, ◌-◌, ◌<◌, ◌≤◌, Bool, true, false, cond, eqb, not, find, List, [], ◌∷◌, ◌++◌, length, map, Option, Some, None, take, drop, refl, ap, sym, ◌∙◌, subst, arith, ⊎_elim, inl, inr, ne_eqb, eq-eqb, length-append, append-nil}
+use mathlib.Core.Logic.{dite}
+use native.Mathlib.Decide.{ℕ_discrete}
+use Rattle.std.specs.Prelude.{fold}
+use Rattle.std.specs.List.{slice_get, filter_map, cons_option}
+use Rattle.std.specs.Option.{option_map_or}
+use Rattle.std.proofs.lemmas.Bool.{cond-true, cond-false, false≢true, eqb-true, not-true}
+use Rattle.std.proofs.lemmas.List.Elements.{filter_map-append}
+use Rattle.vq_model.specs.declared.script.Command.{Command}
+use Rattle.vq_model.specs.declared.script.CommandLine.{CommandLine}
+use Rattle.vq_model.specs.Memory.{Memory, HasSizes, effect, after_all}
+use Rattle.vq_model.specs.Plan.{Plan, has, commands_of, command_at}
+use Rattle.vq_model.specs.SlowRun.{bytes_after, zeros}
+use Rattle.vq_model.specs.WellFormed.{AreRising, IsWellFormed}
+use Rattle.vq_model.specs.Machine.{Progress, Step, put, next, CanProgress, ProgressFrom, after_progress, opening_progress, with_signal, StartStep, ApplyStep, SignalStep, FinishStep, AnswerStep}
+use Rattle.vq_model.proofs.Lists.{AreDistinct, has_here, has_there, has_cases, has-append, has-append_cases, distinct_push, pushed}
+use Rattle.vq_model.proofs.Puts.{put_here, put_there}
+use Rattle.vq_model.proofs.Searches.{find_member, find_passes}
+use Rattle.vq_model.proofs.Gets.{get_within}
+use Rattle.vq_model.proofs.Options.{some_of}
+use Rattle.vq_board_laws.specs.Words.{filled}
+use Rattle.vq_board_laws.specs.Rule.{IsReached}
+
+-- Filled places
+
+short : (b : Bool) (c : ℕ) → length (cond b [] (c ∷ [])) ≤ 1
+short true c = omega arith
+short false c = omega arith
+
+pub filled_short : (place : ℕ → ℕ) (n : ℕ) → length (filled place n) ≤ n
+filled_short place zero = omega arith
+filled_short place (suc n) =
+    let rest = filled_short place n in
+    let one = short (eqb (place n) 0) (place n - 1) in
+    omega (arith, length-append (filled place n) (cond (eqb (place n) 0) [] ((place n - 1) ∷ [])))
+
+same_below : (place : ℕ → ℕ) (k x n : ℕ) → n ≤ k → filled (put place k x) n ≡ filled place n
+same_below place k x zero h = refl
+same_below place k x (suc n) h = let here : put place k x n ≡ place n = put_there place k x n (λ (e : n ≡ k). omega arith) in
+    λ i. same_below place k x n (omega arith) i ++ cond (eqb (here i) 0) [] ((here i - 1) ∷ [])
+
+pub nothing_filled : (place : ℕ → ℕ) (n : ℕ) → ((i : ℕ) → place i ≡ 0) → filled place n ≡ []
+nothing_filled place zero h = refl
+nothing_filled place (suc n) h = (λ i. nothing_filled place n h i ++ cond (eqb (h n i) 0) [] ((h n i - 1) ∷ []))
+
+-- the first empty place is filled, and none after it is
+pub filled_put : (place : ℕ → ℕ) (k c n : ℕ) → k < n → ((i : ℕ) → k ≤ i → place i ≡ 0) → filled (put place k (suc c)) n ≡ filled place n ++ c ∷ []
+filled_put place k c zero h later = absurd (omega arith)
+filled_put place k c (suc n) h later =
+    let empty : place n ≡ 0 = later n (omega arith) in
+    let old : filled place (suc n) ≡ filled place n = (λ i. filled place n ++ cond (eqb (empty i) 0) [] ((empty i - 1) ∷ [])) ∙ append-nil (filled place n) in
+    dite (ℕ_discrete n k)
+    (λ is. let here : put place k (suc c) n ≡ suc c = subst (λ (z : ℕ). put place k (suc c) z ≡ suc c) (sym is) (put_here place k (suc c)) in
+    let minus : suc c - 1 ≡ c = omega arith in
+    let some_word : eqb (suc c) 0 ≡ false = ne_eqb (suc c) 0 (λ e. omega arith) in
+    (λ i. same_below place k (suc c) n (omega arith) i ++ cond (eqb (here i) 0) [] ((here i - 1) ∷ [])) ∙ ((λ i. filled place n ++ cond (some_word i) [] (minus i ∷ [])) ∙ ap (λ (xs : List ℕ). xs ++ c ∷ []) (sym old)))
+    (λ ne. let here : put place k (suc c) n ≡ 0 = put_there place k (suc c) n ne ∙ empty in
+    (λ i. filled (put place k (suc c)) n ++ cond (eqb (here i) 0) [] ((here i - 1) ∷ [])) ∙ (append-nil (filled (put place k (suc c)) n) ∙ (filled_put place k c n (omega arith) later ∙ ap (λ (xs : List ℕ). xs ++ c ∷ []) (sym old))))
+
+-- Room: distinct numbers below n are at most n
+
+abbrev erase : ℕ → List ℕ → List ℕ
+erase n [] = []
+erase n (x ∷ xs) = cond (eqb x n) xs (x ∷ erase n xs)
+
+erase_has : (n y : ℕ) (xs : List ℕ) → AreDistinct xs → has (erase n xs) y ≡ true → (has xs y ≡ true) × (y ≢ n)
+erase_has n y [] h m = absurd (false≢true m)
+erase_has n y (x ∷ xs) h m = by_test (eqb x n) refl (erase_has n y xs h.1) m
+  where
+    by_test : (b : Bool) → eqb x n ≡ b → (has (erase n xs) y ≡ true → (has xs y ≡ true) × (y ≢ n)) → has (cond b xs (x ∷ erase n xs)) y ≡ true → (has (x ∷ xs) y ≡ true) × (y ≢ n)
+    by_test true e f t = (has_there x xs y t, λ same. false≢true (sym h.0 ∙ (ap (has xs) (eqb-true x n e ∙ sym same) ∙ t)))
+    by_test false e f t = elim (has_cases x (erase n xs) y t) [
+      | inl is ↦ (subst (λ (z : ℕ). has (x ∷ xs) z ≡ true) is (has_here x xs), λ (same : y ≡ n). let u = eq-eqb x n (is ∙ same) in cc)
+      | inr i ↦ let u = f i in (has_there x xs y u.0, u.1)
+    ]
+
+unless : (b : Bool) → ¬ (b ≡ true) → b ≡ false
+unless true h = absurd (h refl)
+unless false h = refl
+
+erase_distinct : (n : ℕ) (xs : List ℕ) → AreDistinct xs → AreDistinct (erase n xs)
+erase_distinct n [] h = tt
+erase_distinct n (x ∷ xs) h = by_test (eqb x n) (erase_distinct n xs h.1)
+  where
+    by_test : (b : Bool) → AreDistinct (erase n xs) → AreDistinct (cond b xs (x ∷ erase n xs))
+    by_test true rest = h.1
+    by_test false rest = (unless (has (erase n xs) x) (λ m. false≢true (sym h.0 ∙ (erase_has n x xs h.1 m).0)), rest)
+
+erase_length : (n : ℕ) (xs : List ℕ) → length xs ≤ suc (length (erase n xs))
+erase_length n [] = omega arith
+erase_length n (x ∷ xs) = by_test (eqb x n) (erase_length n xs)
+  where
+    by_test : (b : Bool) → length xs ≤ suc (length (erase n xs)) → length (x ∷ xs) ≤ suc (length (cond b xs (x ∷ erase n xs)))
+    by_test true h = omega arith
+    by_test false h = omega arith
+
+pigeons : (n : ℕ) (xs : List ℕ) → AreDistinct xs → ((x : ℕ) → has xs x ≡ true → x < n) → length xs ≤ n
+pigeons zero [] h below = omega arith
+pigeons zero (x ∷ xs) h below = let t = below x (has_here x xs) in absurd (omega arith)
+pigeons (suc n) xs h below =
+    let rest = pigeons n (erase n xs) (erase_distinct n xs h) (λ x m. let t = erase_has n x xs h m in let b = below x t.0 in let ne = t.1 in omega arith) in
+    let l = erase_length n xs in omega arith
+
+pub command_exists : (p : Plan) → IsWellFormed p → (j c : ℕ) → has (commands_of p j) c ≡ true → c < length p.commands
+command_exists p w j c h =
+    let f = w.fits c j h in
+    let o = some_of (λ (x : CommandLine). x.command) (slice_get p.commands c) f.0 f.1 in
+    get_within p.commands c o.0 o.1
+
+-- what a run applies: each command once, and commands of the plan
+record Applied (p : Plan) (log : List ℕ) : Type 0 where
+  distinct : AreDistinct log
+  exists : (c : ℕ) → has log c ≡ true → c < length p.commands
+
+applied_after : (p : Plan) → IsWellFormed p → (s : Progress) (e : Step) → Applied p s.applied → CanProgress p s e → Applied p (after_progress p s e).applied
+applied_after p w s (StartStep j) h can = h
+applied_after p w s (ApplyStep c) h can =
+    let job = can.0 in
+    let member = find_member (λ x. not (has s.applied x)) (commands_of p job) c can.1.next in
+    record {
+      distinct = distinct_push s.applied c h.distinct (not-true (has s.applied c) (find_passes (λ x. not (has s.applied x)) (commands_of p job) c can.1.next));
+      exists = λ x m. elim (pushed s.applied c x m) [ inl t ↦ h.exists x t | inr is ↦ subst (λ (z : ℕ). z < length p.commands) is (command_exists p w job c member) ];
+    }
+applied_after p w s (SignalStep e) h can = subst (λ (o : Option ℕ). Applied p (with_signal p s e o).applied) (sym can.in_chain) h
+applied_after p w s (FinishStep j) h can = h
+applied_after p w s (AnswerStep j a) h can = absurd can
+
+applied_run : (p : Plan) → IsWellFormed p → (s : Progress) (es : List Step) → Applied p s.applied → ProgressFrom p s es → Applied p (fold (after_progress p) s es).applied
+applied_run p w s [] h r = h
+applied_run p w s (e ∷ es) h r = applied_run p w (after_progress p s e) es (applied_after p w s e h r.0) r.1
+
+-- while a command isn't applied, the log has room
+pub has_room : (p : Plan) (s : Progress) (j c : ℕ) → IsWellFormed p → IsReached p s → has (commands_of p j) c ≡ true → has s.applied c ≡ false → length s.applied < length p.commands
+has_room p s j c w r member new =
+    let h : Applied p s.applied = subst (λ (z : Progress). Applied p z.applied) r.leads (applied_run p w (opening_progress p) r.steps record { distinct = tt; exists = λ x m. absurd (false≢true m) } r.run) in
+    let n = pigeons (length p.commands) (c ∷ s.applied) (new, h.distinct)
+    (λ x t. elim (has_cases c s.applied x t) [ inl is ↦ subst (λ (z : ℕ). z < length p.commands) is (command_exists p w j c member) | inr m ↦ h.exists x m ]) in
+    omega arith
+
+-- Bytes
+
+after_both : (cs ds : List Command) (m : Memory) → after_all (cs ++ ds) m ≡ after_all ds (after_all cs m)
+after_both [] ds m = refl
+after_both (c ∷ cs) ds m = after_both cs ds (effect c m)
+
+-- one command more in the log
+pub bytes_push : (p : Plan) (log : List ℕ) (c : ℕ) (x : Command) → command_at p c ≡ Some x → bytes_after p (log ++ c ∷ []) ≡ effect x (bytes_after p log)
+bytes_push p log c x is =
+    ap (λ (cs : List Command). after_all cs (zeros p)) (filter_map-append (command_at p) log (c ∷ []))
+    ∙ (after_both (filter_map (command_at p) log) (filter_map (command_at p) (c ∷ [])) (zeros p)
+    ∙ ap (λ (o : Option Command). after_all (cons_option o []) (bytes_after p log)) is)

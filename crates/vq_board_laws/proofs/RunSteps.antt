@@ -1,0 +1,263 @@
+-- The start and the finish of a job keep the rule.
+use Rattle.std.proofs.Common.{◌≡◌, ◌≢◌, ℕ, zero, suc, ◌<◌, ◌≤◌, Bool, true, false, List, [], ◌∷◌, ◌++◌, length, set, refl, ap, sym, ◌∙◌, subst, arith, inl, inr, ⊎_elim, Option, Some, None, ltb, take, drop, not, ◌&&◌}
+use mathlib.Core.Option.{some, none}
+use lib.ListN.{get_elem?}
+use native.Mathlib.Decide.{dec_le}
+use Rattle.std.specs.List.{list_all}
+use Rattle.std.specs.Option.{option_to_list}
+use Rattle.std.proofs.lemmas.Bool.{lt-ltb, le-ltb, ltb-true, false≢true, and_from, cases_Bool}
+use Rattle.atomic_table.specs.Table.{State, step, keeps, Allows}
+use Rattle.vq_model.specs.Plan.{Plan, has, is_batch, is_host_step, previous, host_before, idle_after, commands_of, signals_of, job_of}
+use Rattle.vq_model.specs.Edges.{AtEnd, At, must_finish}
+use Rattle.vq_model.specs.LoweringFaults.{IsPlan}
+use Rattle.vq_model.specs.Machine.{put, are_reached, can_start, CanStart, StartStep, FinishStep, IsDone}
+use Rattle.vq_model.proofs.Lists.{has_here, has_there, has_cases, has-append_cases, list_all_from}
+use Rattle.vq_model.proofs.Puts.{put_here, put_there}
+use Rattle.vq_plan_laws.proofs.Cited.{plan_well_formed, plan_hosts, reached_earlier}
+use Rattle.vq_board_laws.specs.declared.view.View.{View}
+use Rattle.vq_board_laws.specs.declared.view.LoggedBuffers.{LoggedBuffers}
+use Rattle.vq_board_laws.specs.declared.view.JobState.TheVariants.{Submitted, Released, Started, Finished}
+use Rattle.vq_board_laws.specs.declared.view.Fact.TheVariants.{Job}
+use Rattle.vq_board_laws.specs.Roles.{runner}
+use Rattle.vq_board_laws.specs.Words.{Words, words_of, job_word, made_of, log_of, payload_of, shown}
+use Rattle.vq_board_laws.specs.Knowledge.{AreSo, Knows}
+use Rattle.vq_board_laws.specs.Jobs.{Jobs, OwnJobs}
+use Rattle.vq_board_laws.specs.Log.{Log, Holding}
+use Rattle.vq_board_laws.specs.Rule.{IsReached, Rule, Kept}
+use Rattle.vq_board_laws.specs.May.{MayStart, MayFinish}
+use Rattle.vq_board_laws.specs.Steps.{Mine, starts, finishes, started, finished}
+use Rattle.vq_board_laws.proofs.Columns.{put_each}
+use Rattle.vq_board_laws.proofs.Frames.{facts_stay, so_of, knowledge_stays, ownership_stays, points_stay, references_stay}
+use Rattle.vq_board_laws.proofs.Runs.{reach_further}
+use Rattle.vq_board_laws.proofs.Needs.{needs_reached}
+use Rattle.vq_board_laws.proofs.JobParts.{kept_job, so_job, log_rejob, jobs_late}
+
+-- Small facts
+
+in_option : (o : Option ℕ) (i : ℕ) → has (option_to_list o) i ≡ true → o ≡ Some i
+in_option None i h = absurd (false≢true h)
+in_option (Some x) i h = elim (has_cases x [] i h) [ inl e ↦ ap Some e | inr m ↦ absurd (false≢true m) ]
+
+-- a job is a batch, or a step of the host
+batch_of : (p : Plan) (j : ℕ) → j < length p.jobs → is_host_step p j ≡ false → is_batch p j ≡ true
+batch_of p j inside e = and_from (ltb j (length p.jobs)) (not (is_host_step p j)) (lt-ltb j (length p.jobs) inside) (ap not e)
+
+batch_is_none : (p : Plan) (j : ℕ) → is_batch p j ≡ true → is_host_step p j ≡ false
+batch_is_none p j h = by_test (is_host_step p j) (ltb j (length p.jobs)) refl h
+  where
+    by_test : (b c : Bool) → is_host_step p j ≡ b → (c && not b) ≡ true → is_host_step p j ≡ false
+    by_test true true e t = absurd (false≢true t)
+    by_test true false e t = absurd (false≢true t)
+    by_test false c e t = e
+
+unless : (b : Bool) → ¬ (b ≡ true) → b ≡ false
+unless true h = absurd (h refl)
+unless false h = refl
+
+all_taken : {A : Type 0} (xs : List A) → take (length xs) xs ≡ xs
+all_taken [] = refl
+all_taken (x ∷ xs) = ap (λ ys. x ∷ ys) (all_taken xs)
+
+nothing_taken : (xs : List ℕ) (c : ℕ) → has (take 0 xs) c ≡ true → ⊥
+nothing_taken [] c h = false≢true h
+nothing_taken (x ∷ xs) c h = false≢true h
+
+nothing_dropped : (xs : List ℕ) → drop 0 xs ≡ xs
+nothing_dropped [] = refl
+nothing_dropped (x ∷ xs) = refl
+
+-- Start
+
+module _ (p : Plan) (s : State LoggedBuffers View) (id j : ℕ) (v : View) (k : Kept p s) (at : get_elem? s.views id ≡ some v) (may : MayStart p v j) where
+  abbrev d : Words
+  d = words_of s.words
+
+  -- the job hasn't started
+  low : d.job j < 3
+  low = elim (dec_le 3 (d.job j)) [
+    | yes h ↦ absurd (false≢true (sym may.new ∙ (k.rule.jobs.own id v at).0.begun_all j may.runner h))
+    | no h ↦ omega arith
+  ]
+
+  -- a batch is released
+  ready : is_batch p j ≡ true → 1 < d.job j
+  ready batch = let h : 2 ≤ d.job j = so_of d v.known (Job j Released) (k.rule.knowledge id v at) (may.released (batch_is_none p j batch)) in omega arith
+
+  reached : are_reached p (payload_of p (made_of d)) j AtEnd ≡ true
+  reached = needs_reached p d v.known j (k.rule.knowledge id v at) may.all_reached may.one_reached
+
+  known_finished : (i : ℕ) → Knows v.known (Job i Finished) → ltb 3 (d.job i) ≡ true
+  known_finished i h = lt-ltb 3 (d.job i) (let g : 4 ≤ d.job i = so_of d v.known (Job i Finished) (k.rule.knowledge id v at) h in omega arith)
+
+  before_finished : (i : ℕ) → host_before p j ≡ Some i → ltb 3 (d.job i) ≡ true
+  before_finished i e =
+      let t = (plan_hosts p k.plan).before_batch i j e in
+      let batch = batch_of p j may.exists t.2 in
+      lt-ltb 3 (d.job i) (k.rule.jobs.waited i j batch (let g = ready batch in omega arith) t.0 t.1)
+
+  can_begin : CanStart p (shown p d) j
+  can_begin = record {
+    exists = may.exists;
+    waiting = le-ltb 2 (d.job j) (let l = low in omega arith);
+    ready = and_from (list_all (shown p d).finished (must_finish p j)) (are_reached p (payload_of p (made_of d)) j (At 1))
+        (list_all_from (shown p d).finished (must_finish p j) (λ i h. elim (has-append_cases (option_to_list (previous p j) ++ option_to_list (host_before p j)) (idle_after p j) i h) [
+          | inl m ↦ elim (has-append_cases (option_to_list (previous p j)) (option_to_list (host_before p j)) i m) [
+            | inl n ↦ known_finished i (may.previous i (in_option (previous p j) i n))
+            | inr n ↦ before_finished i (in_option (host_before p j) i n)
+          ]
+          | inr m ↦ known_finished i (may.idle_after i m)
+        ]))
+        (reached_earlier p (plan_well_formed p k.plan) (payload_of p (made_of d)) j 0 reached);
+  }
+
+  started_shown : IsReached p (shown p (record d { job = put d.job j 3 }))
+  started_shown = reach_further p (shown p d) (shown p (record d { job = put d.job j 3 })) (StartStep j) k.rule.run can_begin (λ i. record {
+    payload = payload_of p (made_of d);
+    started = λ a. put_each d.job j 3 (λ b y. put (shown p d).started j true b ≡ ltb 2 y) (put_here (shown p d).started j true) (λ b ne. put_there (shown p d).started j true b ne) a i;
+    finished = λ a. put_each d.job j 3 (λ b y. ltb 3 (d.job b) ≡ ltb 3 y) (le-ltb 3 (d.job j) (let l = low in omega arith)) (λ b ne. refl) a i;
+    made = made_of d;
+    applied = log_of p d;
+  })
+
+  -- of a job that hasn't started nothing is applied and nothing is made
+  none_applied : (c : ℕ) → has (commands_of p j) c ≡ true → has (log_of p d) c ≡ false
+  none_applied c m = unless (has (log_of p d) c) (λ h.
+      let t = k.rule.jobs.applied_begun c h in
+      let same : t.0 ≡ j = (plan_well_formed p k.plan).one_job c t.0 j t.1 m in
+      let is : d.job t.0 ≡ d.job j = ap d.job same in
+      let l = low in let g = t.2 in omega arith)
+
+  none_made : (e : ℕ) → has (signals_of p j) e ≡ true → made_of d e ≡ false
+  none_made e m = unless (made_of d e) (λ h. let g = k.rule.jobs.made_begun e j h ((plan_well_formed p k.plan).of_job e j m) in let l = low in omega arith)
+
+  started_jobs : Jobs p (put d.job j 3) (made_of d) (log_of p d) (set s.views id (starts v j))
+  started_jobs =
+      let own = (k.rule.jobs.own id v at).0 in
+      jobs_late p d.job (made_of d) (log_of p d) j 3 s.views id v (starts v j) k.rule.jobs k.rule.ownership.roles at may.runner (let l = low in omega arith) (omega arith) ready refl
+      record {
+        begun_all = put_each d.job j 3 (λ b y. runner p b ≡ v.role → 2 < y → has (j ∷ v.begun) b ≡ true) (λ _ _. has_here j v.begun) (λ b ne l h. has_there j v.begun b (own.begun_all b l h));
+        runs_one = λ a e. let same : j ≡ a = cc in subst (λ (z : ℕ). (runner p z ≡ v.role) × (put d.job j 3 z ≡ 3) × (z < length p.jobs)) same (may.runner, put_here d.job j 3, may.exists);
+        entered_commands = λ a c e h. absurd (nothing_taken (commands_of p a) c h);
+        later_commands = λ a c e h. let same : j ≡ a = cc in none_applied c (subst (λ (z : ℕ). has (commands_of p z) c ≡ true) (sym same) (ap (λ (xs : List ℕ). has xs c) (sym (nothing_dropped (commands_of p a))) ∙ h));
+        made_signals = λ a e r h. absurd (nothing_taken (signals_of p a) e h);
+        later_signals = λ a e r h. let same : j ≡ a = cc in none_made e (subst (λ (z : ℕ). has (signals_of p z) e ≡ true) (sym same) (ap (λ (xs : List ℕ). has xs e) (sym (nothing_dropped (signals_of p a))) ∙ h));
+      }
+      (λ _. reached)
+
+  started_log : Log p (put d.job j 3) d.place d.turn (log_of p d) s.homes (set s.views id (starts v j))
+  started_log =
+      let h = k.rule.log.holding id v at in
+      log_rejob p d.job d.place d.turn (log_of p d) s.homes s.views id j 3 (starts v j) k.rule.log (λ _. refl) record {
+        counted = h.counted;
+        folded = h.folded;
+        job = λ n e. let t = h.job n e in absurd (let a = t.1 in let b = may.idle in cc);
+        own = λ a e named.
+            let same : j ≡ a = cc in
+            let is : d.job a ≡ d.job j = ap d.job (sym same) in
+            let t = (k.rule.log.taken a named).0 in
+            let l = low in absurd (omega arith);
+      }
+
+pub starts_job : (p : Plan) (slots id : ℕ) (m : Mine) (j : ℕ) → MayStart p m.0 j → Allows (Kept p) slots id m (job_word j) (λ _. 3) (λ _. started (step slots (job_word j) 3 0 none) m 3)
+starts_job p slots id m j may s k deep at fits =
+    let d : Words = words_of s.words in
+    let r = k.rule in
+    let v : View = m.0 in
+    let w : View = starts v j in
+    let up : d.job j ≤ 3 = (let l = low p s id j v k at may in omega arith) in (
+      w,
+      keeps,
+      tt,
+      kept_job p s j 3 (set s.views id w) k may.exists record {
+        knowledge = knowledge_stays d (record d { job = put d.job j 3 }) s.views id w (so_job d j 3 up) r.knowledge
+            (subst (λ (z : ℕ). 3 ≤ z) (sym (put_here d.job j 3)) (omega arith), facts_stay d (record d { job = put d.job j 3 }) v.known (so_job d j 3 up) (r.knowledge id v at));
+        run = started_shown p s id j v k at may;
+        jobs = started_jobs p s id j v k at may;
+        log = started_log p s id j v k at may;
+        ownership = ownership_stays p d.count s.views id v w r.ownership at refl;
+        points = points_stay p d.op d.point d.count s.views id v w r.points at refl;
+        references = references_stay d.point s.views id v w r.references at refl;
+      },
+      λ i same. let is : j ≡ i = omega arith in ap (λ (z : ℕ). (starts v z, m.1)) is,
+    )
+
+-- Finish
+
+module _ (p : Plan) (s : State LoggedBuffers View) (id j : ℕ) (v : View) (k : Kept p s) (at : get_elem? s.views id ≡ some v) (may : MayFinish p v j) where
+  abbrev now : Words
+  now = words_of s.words
+
+  runs : (runner p j ≡ v.role) × (now.job j ≡ 3) × (j < length p.jobs)
+  runs = (k.rule.jobs.own id v at).0.runs_one j may.runs
+
+  can_end : IsDone p (shown p now) j
+  can_end =
+      let own = (k.rule.jobs.own id v at).0 in
+      let cs : take v.entered (commands_of p j) ≡ commands_of p j = ap (λ n. take n (commands_of p j)) may.commands ∙ all_taken (commands_of p j) in
+      let es : take v.signaled (signals_of p j) ≡ signals_of p j = ap (λ n. take n (signals_of p j)) may.signals ∙ all_taken (signals_of p j) in
+      record {
+        started = lt-ltb 2 (now.job j) (let t = runs.1 in omega arith);
+        unfinished = le-ltb 3 (now.job j) (let t = runs.1 in omega arith);
+        commands = list_all_from (has (log_of p now)) (commands_of p j) (λ c h. own.entered_commands j c may.runs (ap (λ (xs : List ℕ). has xs c) cs ∙ h));
+        signals = list_all_from (made_of now) (signals_of p j) (λ e h. own.made_signals j e may.runs (ap (λ (xs : List ℕ). has xs e) es ∙ h));
+        ready = k.rule.jobs.reached j (let t = runs.1 in omega arith);
+      }
+
+  finished_shown : IsReached p (shown p (record now { job = put now.job j 4 }))
+  finished_shown = reach_further p (shown p now) (shown p (record now { job = put now.job j 4 })) (FinishStep j) k.rule.run can_end (λ i. record {
+    payload = payload_of p (made_of now);
+    started = λ a. put_each now.job j 4 (λ b y. ltb 2 (now.job b) ≡ ltb 2 y) (lt-ltb 2 (now.job j) (let t = runs.1 in omega arith)) (λ b ne. refl) a i;
+    finished = λ a. put_each now.job j 4 (λ b y. put (shown p now).finished j true b ≡ ltb 3 y) (put_here (shown p now).finished j true) (λ b ne. put_there (shown p now).finished j true b ne) a i;
+    made = made_of now;
+    applied = log_of p now;
+  })
+
+  finished_jobs : Jobs p (put now.job j 4) (made_of now) (log_of p now) (set s.views id (finishes v j))
+  finished_jobs =
+      let own = (k.rule.jobs.own id v at).0 in
+      jobs_late p now.job (made_of now) (log_of p now) j 4 s.views id v (finishes v j) k.rule.jobs k.rule.ownership.roles at runs.0 (let t = runs.1 in omega arith) (omega arith) (λ _. let t = runs.1 in omega arith) refl
+      record {
+        begun_all = put_each now.job j 4 (λ b y. runner p b ≡ v.role → 2 < y → has v.begun b ≡ true) (λ l _. own.begun_all j l (let t = runs.1 in omega arith)) (λ b ne. own.begun_all b);
+        runs_one = λ a e. absurd cc;
+        entered_commands = λ a c e. absurd cc;
+        later_commands = λ a c e. absurd cc;
+        made_signals = λ a b e. absurd cc;
+        later_signals = λ a b e. absurd cc;
+      }
+      (λ _. k.rule.jobs.reached j (let t = runs.1 in omega arith))
+
+  finished_log : Log p (put now.job j 4) now.place now.turn (log_of p now) s.homes (set s.views id (finishes v j))
+  finished_log =
+      let h = k.rule.log.holding id v at in
+      log_rejob p now.job now.place now.turn (log_of p now) s.homes s.views id j 4 (finishes v j) k.rule.log
+      (λ named. absurd (let t = h.own j may.runs named in let a = t.1 in let b = may.turnless in cc))
+      record {
+        counted = h.counted;
+        folded = h.folded;
+        job = λ n e. absurd (let b = may.turnless in cc);
+        own = λ a e named. absurd cc;
+      }
+
+pub finishes_job : (p : Plan) (slots id : ℕ) (m : Mine) (j : ℕ) → MayFinish p m.0 j → Allows (Kept p) slots id m (job_word j) (λ _. 4) (λ _. finished (step slots (job_word j) 4 0 none) m 4)
+finishes_job p slots id m j may s k deep at fits =
+    let d : Words = words_of s.words in
+    let r = k.rule in
+    let v : View = m.0 in
+    let w : View = finishes v j in
+    let own = runs p s id j v k at may in
+    let up : d.job j ≤ 4 = (let t = own.1 in omega arith) in (
+      w,
+      keeps,
+      tt,
+      kept_job p s j 4 (set s.views id w) k own.2 record {
+        knowledge = knowledge_stays d (record d { job = put d.job j 4 }) s.views id w (so_job d j 4 up) r.knowledge
+            (subst (λ (z : ℕ). 4 ≤ z) (sym (put_here d.job j 4)) (omega arith), facts_stay d (record d { job = put d.job j 4 }) v.known (so_job d j 4 up) (r.knowledge id v at));
+        run = finished_shown p s id j v k at may;
+        jobs = finished_jobs p s id j v k at may;
+        log = finished_log p s id j v k at may;
+        ownership = ownership_stays p d.count s.views id v w r.ownership at refl;
+        points = points_stay p d.op d.point d.count s.views id v w r.points at refl;
+        references = references_stay d.point s.views id v w r.references at refl;
+      },
+      λ i same. let is : j ≡ i = omega arith in ap (λ (z : ℕ). (finishes v z, m.1)) is,
+    )

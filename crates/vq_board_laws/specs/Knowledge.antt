@@ -1,0 +1,51 @@
+-- What a pass knows: facts that stay so. This project's own.
+use Rattle.std.specs.Prelude.{ℕ, zero, suc, List, [], ◌∷◌, ◌≡◌, ◌≢◌, ◌≤◌, ◌+◌, ◌⊎◌, true}
+use mathlib.Core.Option.{some}
+use lib.ListN.{get_elem?}
+use Rattle.vq_board_laws.specs.declared.view.View.{View}
+use Rattle.vq_board_laws.specs.declared.view.JobState.{JobState}
+use Rattle.vq_board_laws.specs.declared.view.JobState.TheVariants.{Waiting, Submitted, Released, Started, Finished}
+use Rattle.vq_board_laws.specs.declared.view.Fact.{Fact}
+use Rattle.vq_board_laws.specs.declared.view.Fact.TheVariants.{Job, Taken, Bound, BoundTo, Made, Past}
+use Rattle.vq_board_laws.specs.Words.{Words, Carries, made_of}
+
+-- the word of a job in this state, and the state of a job with this word
+abbrev pub state_number : JobState → ℕ
+state_number Waiting = 0
+state_number Submitted = 1
+state_number Released = 2
+state_number Started = 3
+state_number Finished = 4
+
+abbrev pub state_at : ℕ → JobState
+state_at zero = Waiting
+state_at (suc zero) = Submitted
+state_at (suc (suc zero)) = Released
+state_at (suc (suc (suc zero))) = Started
+state_at (suc (suc (suc (suc n)))) = Finished
+
+-- a fact, said of the words
+abbrev pub IsSo : Words → Fact → Type 0
+IsSo d (Job j s) = state_number s ≤ d.job j
+IsSo d (Taken e) = (d.op e ≢ 0) ⊎ ((q : ℕ) × Carries (d.point q) e)
+IsSo d (Bound e) = d.op e ≢ 0
+IsSo d (BoundTo e q) = (d.op e ≡ q + 2) ⊎ (d.op e ≡ 1)
+IsSo d (Made e) = made_of d e ≡ true
+IsSo d (Past e) = d.op e ≡ 1
+
+abbrev pub AreSo : Words → List Fact → Type 0
+AreSo d [] = Unit {0}
+AreSo d (f ∷ fs) = IsSo d f × AreSo d fs
+
+-- the fact is on the list of those known
+abbrev pub Knows : List Fact → Fact → Type 0
+Knows [] f = ⊥
+Knows (g ∷ fs) f = (g ≡ f) ⊎ Knows fs f
+
+-- what holds of each pass, at its place in the list
+abbrev pub Each : (ℕ → View → Type 0) → List View → Type 0
+Each Q views = (i : ℕ) (v : View) → get_elem? views i ≡ some v → Q i v
+
+-- what each pass knows is so
+abbrev pub Knowledge : Words → List View → Type 0
+Knowledge d views = Each (λ i v. AreSo d v.known) views

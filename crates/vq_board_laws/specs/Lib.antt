@@ -1,0 +1,12 @@
+pub mod Roles
+pub mod Words
+pub mod Knowledge
+pub mod Jobs
+pub mod Log
+pub mod Ownership
+pub mod Points
+pub mod References
+pub mod Rule
+pub mod May
+pub mod Steps
+pub mod Ends

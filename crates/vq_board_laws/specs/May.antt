@@ -1,0 +1,81 @@
+-- What a pass knows and has done where it may make a step. This project's own; what a job waits for
+-- is in Vulkan 1.3, "Semaphore Waiting" and "Queue Submission".
+use Rattle.std.specs.Prelude.{ℕ, List, [], ◌≡◌, ◌<◌, ◌≤◌, ◌⊎◌, Some, None, true, false, length, All}
+use Rattle.std.specs.List.{slice_get}
+use Rattle.vq_model.specs.declared.plan.Need.{Need}
+use Rattle.vq_model.specs.Lanes.{lane_at}
+use Rattle.vq_model.specs.Plan.{Plan, has, previous, idle_after, needs, waits_for_any, commands_of, signals_of}
+use Rattle.vq_model.specs.Plan.{is_batch, is_host_step, initial, chain, value}
+use Rattle.vq_board_laws.specs.declared.view.View.{View}
+use Rattle.vq_board_laws.specs.declared.view.Fact.{Fact}
+use Rattle.vq_board_laws.specs.declared.view.Fact.TheVariants.{Job, Made}
+use Rattle.vq_board_laws.specs.declared.view.JobState.TheVariants.{Submitted, Released, Finished}
+use Rattle.vq_board_laws.specs.Knowledge.{Knows}
+use Rattle.vq_board_laws.specs.Roles.{runner, submitter}
+
+-- the host may submit the batch: it is the next one in the script, and all host steps before it are
+-- known finished
+pub record MaySubmit (p : Plan) (v : View) (j : ℕ) : Type 0 where
+  pub host : v.role ≡ 0
+  pub batch : is_batch p j ≡ true
+  pub new : has v.submitted j ≡ false
+  pub next : (i : ℕ) → i < j → is_batch p i ≡ true → has v.submitted i ≡ true
+  pub before : (i : ℕ) → i < j → is_host_step p i ≡ true → Knows v.known (Job i Finished)
+
+-- the pass may release the batch: it is the next one of its queue, and known submitted
+pub record MayRelease (p : Plan) (v : View) (j : ℕ) : Type 0 where
+  pub submitter : submitter p j ≡ v.role
+  pub batch : is_batch p j ≡ true
+  pub new : has v.released j ≡ false
+  pub next : (i : ℕ) → i < j → lane_at p i ≡ lane_at p j → has v.released i ≡ true
+  pub submitted : Knows v.known (Job j Submitted)
+
+-- an operation of the need's chain that reaches it, and that the pass knows made
+pub record KnowsReaching (p : Plan) (known : List Fact) (n : Need) : Type 0 where
+  pub op : ℕ
+  pub in_chain : has (chain p n.chain) op ≡ true
+  pub reaches : n.value ≤ value p op
+  pub made : Knows known (Made op)
+
+-- the pass knows the need reached
+abbrev pub KnowsReached : Plan → List Fact → Need → Type 0
+KnowsReached p known n = (n.value ≤ initial p n.chain) ⊎ KnowsReaching p known n
+
+-- one of the needs is known reached
+pub record KnowsOneReached (p : Plan) (known : List Fact) (ns : List Need) : Type 0 where
+  pub place : ℕ
+  pub need : Need
+  pub is : slice_get ns place ≡ Some need
+  pub reached : KnowsReached p known need
+
+-- the pass may start the job: it runs none and hasn't started this one; it knows released the batch,
+-- finished the job before it in its lane and those that an idle step waits for, and reached each
+-- need, or one where the job waits for any
+pub record MayStart (p : Plan) (v : View) (j : ℕ) : Type 0 where
+  pub exists : j < length p.jobs
+  pub runner : runner p j ≡ v.role
+  pub idle : v.runs ≡ None
+  pub new : has v.begun j ≡ false
+  pub released : is_host_step p j ≡ false → Knows v.known (Job j Released)
+  pub previous : (i : ℕ) → previous p j ≡ Some i → Knows v.known (Job i Finished)
+  pub idle_after : (i : ℕ) → has (idle_after p j) i ≡ true → Knows v.known (Job i Finished)
+  pub all_reached : waits_for_any p j ≡ false → All (KnowsReached p v.known) (needs p j)
+  pub one_reached : waits_for_any p j ≡ true → KnowsOneReached p v.known (needs p j)
+
+-- the pass may enter the command: it has the turn, and this is the next command of the job that it
+-- runs
+pub record MayEnter (p : Plan) (v : View) (c : ℕ) : Type 0 where
+  pub filled : ℕ
+  pub held : v.held ≡ Some filled
+  pub job : ℕ
+  pub runs : v.runs ≡ Some job
+  pub next : slice_get (commands_of p job) v.entered ≡ Some c
+
+-- the pass may finish the job that it runs: all its commands and signals are made, and it has no turn
+-- and no reference
+pub record MayFinish (p : Plan) (v : View) (j : ℕ) : Type 0 where
+  pub runs : v.runs ≡ Some j
+  pub commands : v.entered ≡ length (commands_of p j)
+  pub signals : v.signaled ≡ length (signals_of p j)
+  pub turnless : v.held ≡ None
+  pub without_reference : v.refs ≡ []

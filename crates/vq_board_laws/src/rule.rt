@@ -1,0 +1,15 @@
+//! The rule of the board's table.
+use crate::view::{LoggedBuffers, View};
+use atomic_table::TableRule;
+use vq_spec::Plan;
+
+/// The rule of the board. Source: this project's rule.
+pub struct Ruled;
+
+impl TableRule<LoggedBuffers, View, Plan> for Ruled {
+    ghost use Rattle.vq_board_laws.specs.Rule.{Kept, fresh};
+
+    ghost holds = { Kept };
+
+    ghost first = { λ p. fresh p 0 };
+}
