@@ -1,4 +1,6 @@
+pub mod Cited
 mod Copied
 mod Dealt
 mod Hands
 mod Limits
+mod Shared
