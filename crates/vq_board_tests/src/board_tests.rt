@@ -7,36 +7,15 @@ ghost use Rattle.vq_board_laws.specs.Rule.{fresh};
 ghost use Rattle.vq_board.specs.Named.{plan_of, view, role_of, IsOf, IsFresh, IsCut};
 ghost use Rattle.vq_board_tests.specs.Batches.{IsPlain, IsAlone, IsReady, IsRunning, AllFresh};
 
+use crate::plans::ordered;
 use std::alloc::Global;
 use std::sync::Wait;
 use std::thread;
 use std::thread::{Threads, join};
 use vq_board::{Board, Closed, JobState, Pass, Passes, Role};
 use vq_model::script::{Mode, Script};
-use vq_order::{Ordered, check};
-use vq_script::{Form, is_short, parse};
+use vq_order::Ordered;
 use vq_spec::{Lane, Plan, PlanJob};
-
-/// Each of two queues, of which the host submits to both, fills 4 bytes of its own.
-const SCRIPT: &[u8] = b"buffer X 8
-queue P immediate
-queue Q immediate
-submit P
-fill X 0 4 7
-end
-submit Q
-fill X 4 4 9
-end
-";
-
-/// The lawful plan of the script.
-fn ordered(alloc: Global) -> Option<Ordered> {
-    if !is_short(SCRIPT) {
-        return None;
-    }
-    let script = parse(alloc, SCRIPT, Form::Plain).ok()?;
-    check(alloc, Plan::lower(alloc, script).ok()?).ok()
-}
 
 /// Whether a job is a batch of the queue with this command alone, and waits for nothing.
 fn is_plain(job: &PlanJob, queue: u32, command: u32) -> bool

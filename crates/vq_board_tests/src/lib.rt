@@ -4,3 +4,5 @@
 
 #[cfg(test)]
 mod board_tests;
+#[cfg(test)]
+mod plans;
