@@ -211,7 +211,12 @@ fn work<R: Wait>(rt: &R, board: &Board, mut pass: Pass, j: u32) -> bool
 }
 
 /// Each batch is run by its ring's pass, in a thread of its own.
-fn work_both<R: Threads + Wait + Sync>(rt: &R, board: &Board, first: Pass, second: Pass) -> (bool, bool)
+fn work_both<R: Threads + Wait + Sync>(
+    rt: &R,
+    board: &Board,
+    first: Pass,
+    second: Pass,
+) -> (bool, bool)
     requires first { IsReady board.now first 0 }
     requires second { IsReady board.now second 1 }
 {
