@@ -1,7 +1,6 @@
 -- The commands that are copied out of a plan.
-use Rattle.std.proofs.Common.{◌≡◌, ℕ, zero, suc, ◌+◌, ◌<◌, List, [], ◌∷◌, ◌++◌, ◌-◌, ◌≤◌, ◌⊎◌, inl, inr, length, map, take, get_or, Some, None, refl, sym, ap, ◌∙◌, subst, arith, true, add-one}
+use Rattle.std.proofs.Common.{◌≡◌, ℕ, zero, suc, ◌+◌, ◌<◌, List, [], ◌∷◌, ◌++◌, ◌-◌, ◌≤◌, ◌⊎◌, inl, inr, length, map, take, get_or, Some, None, refl, sym, ap, ◌∙◌, subst, arith}
 use Rattle.std.specs.List.{slice_get, flat_map}
-use Rattle.std.specs.Option.{option_map}
 use Rattle.std.proofs.lemmas.Bool.{cases_lt}
 use Rattle.vq_model.specs.declared.script.Command.{Command}
 use Rattle.vq_model.specs.declared.script.Job.{Job}

@@ -1,11 +1,11 @@
 -- The passes that are dealt, in the order of their roles.
-use Rattle.std.proofs.Common.{◌≡◌, ℕ, zero, suc, ◌+◌, ◌-◌, ◌<◌, ◌≤◌, Bool, true, false, List, [], ◌∷◌, ◌++◌, length, map, filter, Some, None, refl, sym, ap, ◌∙◌, subst, arith, ◌⊎◌, inl, inr, length-append, append-nil}
+use Rattle.std.proofs.Common.{◌≡◌, ℕ, zero, suc, ◌+◌, ◌-◌, ◌<◌, ◌≤◌, Bool, true, false, List, [], ◌∷◌, ◌++◌, length, filter, Some, None, refl, ap, ◌∙◌, subst, arith, ◌⊎◌, inl, inr, length-append, append-nil}
 use Rattle.std.specs.List.{slice_get, range_with_len}
 use Rattle.std.proofs.lemmas.Bool.{cond-true, cond-false}
 use Rattle.vq_model.specs.Plan.{Plan}
 use Rattle.vq_board_laws.specs.declared.view.Role.{Role}
-use Rattle.vq_board_laws.specs.declared.view.Role.TheVariants.{Host, Submit, Ring, Shelf}
-use Rattle.vq_board_laws.specs.Roles.{is_threaded, threaded_before, threaded_queues, role_number, role_count}
+use Rattle.vq_board_laws.specs.declared.view.Role.TheVariants.{Submit}
+use Rattle.vq_board_laws.specs.Roles.{is_threaded, threaded_before, role_number, role_count}
 use Rattle.vq_board.specs.declared.parts.Board.{Board}
 use Rattle.vq_board.specs.declared.parts.Pass.{Pass}
 use Rattle.vq_board.specs.Named.{role_of, IsFresh, AreFresh}

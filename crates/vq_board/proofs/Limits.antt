@@ -1,5 +1,5 @@
 -- A plan has few queues and few buffers.
-use Rattle.std.proofs.Common.{◌≡◌, ◌<◌, ◌^◌, length, map, ap, ◌∙◌, arith}
+use Rattle.std.proofs.Common.{◌<◌, ◌^◌, length, ap, arith}
 use Rattle.std.proofs.lemmas.List.{length-map}
 use Rattle.vq_model.specs.LoweringFaults.{IsPlan}
 use Rattle.vq_model.specs.Plan.{Plan}

@@ -1,5 +1,6 @@
 //! The steps on the turn over the buffers and on the log.
-ghost use Rattle.std.specs.Prelude.{◌≡◌, ◌≢◌, ℕ, List, ◌+◌, ◌<◌, ◌^◌, length, map, Some, None, IfSome, IfNone};
+ghost use Rattle.std.specs.Prelude.{◌≡◌, ◌≢◌, ℕ, List, ◌+◌, ◌<◌, ◌^◌};
+ghost use Rattle.std.specs.Prelude.{length, map, Some, None, IfSome, IfNone};
 ghost use Rattle.vq_model.specs.Memory.{Memory, effect};
 ghost use Rattle.vq_model.specs.Ranges.{Fits};
 ghost use Rattle.vq_board_laws.specs.May.{MayEnter};

@@ -17,7 +17,7 @@ use Rattle.vq_board_laws.specs.declared.view.View.{View}
 use Rattle.vq_board_laws.specs.declared.view.LoggedBuffers.{LoggedBuffers}
 use Rattle.vq_board_laws.specs.declared.view.Fact.TheVariants.{Job}
 use Rattle.vq_board_laws.specs.declared.view.JobState.TheVariants.{Finished}
-use Rattle.vq_board_laws.specs.Words.{Words, words_of, shown}
+use Rattle.vq_board_laws.specs.Words.{Words, words_of}
 use Rattle.vq_board_laws.specs.Rule.{Kept}
 use Rattle.vq_board_laws.specs.Ends.{KnowsAllFinished, IsFoldOfRun}
 use Rattle.vq_board_laws.proofs.Frames.{so_of}

@@ -1,17 +1,15 @@
 -- Entering a command in the log keeps the rule.
-use Rattle.std.proofs.Common.{◌≡◌, ◌≢◌, ℕ, suc, ◌+◌, ◌<◌, ◌≤◌, Bool, true, false, List, [], ◌∷◌, ◌++◌, length, set, refl, ap, sym, ◌∙◌, subst, arith, inl, inr, Option, Some, None, take, drop, length-set, length-append, zero}
+use Rattle.std.proofs.Common.{◌≡◌, ◌≢◌, ℕ, suc, ◌+◌, ◌<◌, Bool, true, false, List, [], ◌∷◌, ◌++◌, length, set, refl, ap, sym, ◌∙◌, subst, arith, inl, inr, Some, take, drop, length-set, length-append, zero}
 use mathlib.Core.Option.{some, none}
 use lib.ListN.{get_elem?}
-use Rattle.std.specs.List.{slice_get}
 use Rattle.std.proofs.lemmas.Bool.{lt-ltb, le-ltb, false≢true}
 use Rattle.atomic_table.specs.Table.{State, step, keeps, Allows}
 use Rattle.vq_model.specs.declared.script.Command.{Command}
-use Rattle.vq_model.specs.Memory.{Memory, effect}
-use Rattle.vq_model.specs.Plan.{Plan, has, commands_of, command_at, job_of}
-use Rattle.vq_model.specs.SlowRun.{bytes_after}
+use Rattle.vq_model.specs.Memory.{effect}
+use Rattle.vq_model.specs.Plan.{Plan, has, commands_of, command_at}
 use Rattle.vq_model.specs.Machine.{put, CanApply, ApplyStep}
-use Rattle.vq_model.proofs.Lists.{has_here, has_there, has_cases, has-append_cases, has-append_left, has-append_right, pushed}
-use Rattle.vq_model.proofs.Puts.{put_here, put_there}
+use Rattle.vq_model.proofs.Lists.{has_here, has_there, has-append_left, has-append_right, pushed}
+use Rattle.vq_model.proofs.Puts.{put_there}
 use Rattle.vq_plan_laws.proofs.Cited.{plan_well_formed, reached_earlier}
 use Rattle.vq_board_laws.specs.declared.view.View.{View}
 use Rattle.vq_board_laws.specs.declared.view.LoggedBuffers.{LoggedBuffers}
@@ -19,8 +17,8 @@ use Rattle.vq_board_laws.specs.declared.view.Fact.{Fact}
 use Rattle.vq_board_laws.specs.declared.view.Fact.TheVariants.{Job, Taken, Bound, BoundTo, Made, Past}
 use Rattle.vq_board_laws.specs.Roles.{runner}
 use Rattle.vq_board_laws.specs.Words.{Words, words_of, place_word, made_of, log_of, payload_of, shown}
-use Rattle.vq_board_laws.specs.Knowledge.{IsSo, AreSo}
-use Rattle.vq_board_laws.specs.Jobs.{Jobs, OwnJobs, OwnPhases}
+use Rattle.vq_board_laws.specs.Knowledge.{IsSo}
+use Rattle.vq_board_laws.specs.Jobs.{Jobs, OwnPhases}
 use Rattle.vq_board_laws.specs.Log.{Log, Holding}
 use Rattle.vq_board_laws.specs.Rule.{IsReached, Rule, Kept}
 use Rattle.vq_board_laws.specs.May.{MayEnter}
@@ -32,7 +30,7 @@ use Rattle.vq_board_laws.proofs.Runs.{reach_further}
 use Rattle.vq_board_laws.proofs.JobParts.{RunFields, run_fields, OwnRun}
 use Rattle.vq_board_laws.proofs.Logs.{filled_put, has_room, bytes_push}
 use Rattle.vq_board_laws.proofs.Taken.{next_at, taken_has, taken_more, drop_next, later_greater}
-use Rattle.vq_board_laws.proofs.TurnSteps.{one_runner, one_holder}
+use Rattle.vq_board_laws.proofs.TurnSteps.{one_holder}
 
 so_place : (d : Words) (n x : ℕ) (f : Fact) → IsSo d f → IsSo (record d { place = put d.place n x }) f
 so_place d n x (Job j s) h = h

@@ -1,11 +1,10 @@
 -- The parts of the rule where a job's word changes.
-use Rattle.std.proofs.Common.{◌≡◌, ◌≢◌, ℕ, suc, ◌<◌, ◌≤◌, Bool, true, false, List, [], length, set, refl, ap, sym, ◌∙◌, subst, arith, Option, Some, None, length-set, ltb}
+use Rattle.std.proofs.Common.{◌≡◌, ◌≢◌, ℕ, suc, ◌<◌, ◌≤◌, Bool, true, List, [], length, set, refl, ap, sym, ◌∙◌, subst, arith, Option, None, length-set}
 use mathlib.Core.Option.{some}
 use mathlib.Core.Option as maybe
 use lib.ListN.{get_elem?}
-use Rattle.std.proofs.lemmas.Bool.{le-ltb}
 use Rattle.atomic_table.specs.Table.{State}
-use Rattle.vq_model.specs.Plan.{Plan, has, is_batch, is_host_step, commands_of}
+use Rattle.vq_model.specs.Plan.{Plan, has, is_batch, is_host_step}
 use Rattle.vq_model.specs.Edges.{AtEnd}
 use Rattle.vq_model.specs.Machine.{put, are_reached}
 use Rattle.vq_model.proofs.Puts.{put_there}

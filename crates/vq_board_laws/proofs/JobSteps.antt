@@ -1,36 +1,28 @@
 -- The steps on a job's word keep the rule: the look, submit, release, start and finish.
-use Rattle.std.proofs.Common.{◌≡◌, ◌≢◌, ℕ, zero, suc, ◌<◌, ◌≤◌, Bool, true, false, List, [], ◌∷◌, ◌++◌, length, set, get_or, refl, ap, sym, ◌∙◌, subst, arith, inl, inr, ⊎_elim, Option, Some, None, ltb, take, drop, not}
+use Rattle.std.proofs.Common.{◌≡◌, ℕ, zero, suc, ◌<◌, ◌≤◌, true, List, ◌∷◌, length, set, refl, ap, sym, ◌∙◌, subst, arith, ltb, not}
 use mathlib.Core.Option.{some, none}
 use lib.ListN.{get_elem?}
 use lib.Seq.{set-get_or}
 use native.Mathlib.Decide.{dec_le}
-use Rattle.std.specs.List.{list_all}
-use Rattle.std.specs.Option.{option_to_list}
-use Rattle.std.proofs.lemmas.Bool.{lt-ltb, le-ltb, false≢true, and_from, and_parts, cases_Bool, ltb-true}
+use Rattle.std.proofs.lemmas.Bool.{le-ltb, false≢true, and_parts, ltb-true}
 use Rattle.atomic_table.specs.Table.{State, step, keeps, Allows}
-use Rattle.vq_model.specs.Plan.{Plan, has, is_batch, is_host_step, previous, host_before, idle_after, commands_of, signals_of, job_of}
-use Rattle.vq_model.specs.Edges.{AtEnd, At, must_finish}
-use Rattle.vq_model.specs.LoweringFaults.{IsPlan}
-use Rattle.vq_model.specs.Machine.{put, are_reached, can_start, CanStart, StartStep, FinishStep, IsDone}
-use Rattle.vq_model.proofs.Lists.{has_here, has_there, has_cases, has-append_cases, list_all_from}
-use Rattle.vq_model.proofs.Puts.{put_here, put_there}
-use Rattle.vq_plan_laws.proofs.Cited.{plan_well_formed, plan_hosts, reached_earlier}
+use Rattle.vq_model.specs.Plan.{Plan, has, is_batch, is_host_step}
+use Rattle.vq_model.specs.Machine.{put}
+use Rattle.vq_model.proofs.Lists.{has_here, has_there}
+use Rattle.vq_model.proofs.Puts.{put_here}
 use Rattle.vq_board_laws.specs.declared.view.View.{View}
 use Rattle.vq_board_laws.specs.declared.view.LoggedBuffers.{LoggedBuffers}
 use Rattle.vq_board_laws.specs.declared.view.JobState.{JobState}
 use Rattle.vq_board_laws.specs.declared.view.JobState.TheVariants.{Waiting, Submitted, Released, Started, Finished}
 use Rattle.vq_board_laws.specs.declared.view.Fact.TheVariants.{Job}
-use Rattle.vq_board_laws.specs.Roles.{runner, submitter}
+use Rattle.vq_board_laws.specs.Roles.{submitter}
 use Rattle.vq_board_laws.specs.Words.{Words, words_of, job_word, made_of, log_of, payload_of, shown}
-use Rattle.vq_board_laws.specs.Knowledge.{AreSo, Knows, state_number, state_at}
-use Rattle.vq_board_laws.specs.Jobs.{OwnPhases, OwnJobs}
+use Rattle.vq_board_laws.specs.Knowledge.{state_number, state_at}
 use Rattle.vq_board_laws.specs.Rule.{IsReached, Rule, Kept}
-use Rattle.vq_board_laws.specs.May.{MaySubmit, MayRelease, MayStart, MayFinish}
-use Rattle.vq_board_laws.specs.Steps.{Mine, looks, submits, releases, starts, finishes, looked, submitted, released, started, finished}
+use Rattle.vq_board_laws.specs.May.{MaySubmit, MayRelease}
+use Rattle.vq_board_laws.specs.Steps.{Mine, looks, submits, releases, looked, submitted, released}
 use Rattle.vq_board_laws.proofs.Columns.{put_each}
 use Rattle.vq_board_laws.proofs.Frames.{facts_stay, so_of, knowledge_stays, jobs_stay, log_stays, ownership_stays, points_stay, references_stay}
-use Rattle.vq_board_laws.proofs.Runs.{reach_further}
-use Rattle.vq_board_laws.proofs.Needs.{needs_reached}
 use Rattle.vq_board_laws.proofs.JobParts.{kept_job, so_job, log_rejob, jobs_early}
 
 -- A look

@@ -1,20 +1,19 @@
 -- The log of commands: its filled places, its room, and what its commands leave in the buffers.
-use Rattle.std.proofs.Common.{◌≡◌, ◌≢◌, ◌⊎◌, ℕ, zero, suc, ◌-◌, ◌<◌, ◌≤◌, Bool, true, false, cond, eqb, not, find, List, [], ◌∷◌, ◌++◌, length, map, Option, Some, None, take, drop, refl, ap, sym, ◌∙◌, subst, arith, ⊎_elim, inl, inr, ne_eqb, eq-eqb, length-append, append-nil}
+use Rattle.std.proofs.Common.{◌≡◌, ◌≢◌, ℕ, zero, suc, ◌-◌, ◌<◌, ◌≤◌, Bool, true, false, cond, eqb, not, List, [], ◌∷◌, ◌++◌, length, Option, Some, refl, ap, sym, ◌∙◌, subst, arith, inl, inr, ne_eqb, eq-eqb, length-append, append-nil}
 use mathlib.Core.Logic.{dite}
 use native.Mathlib.Decide.{ℕ_discrete}
 use Rattle.std.specs.Prelude.{fold}
 use Rattle.std.specs.List.{slice_get, filter_map, cons_option}
-use Rattle.std.specs.Option.{option_map_or}
-use Rattle.std.proofs.lemmas.Bool.{cond-true, cond-false, false≢true, eqb-true, not-true}
+use Rattle.std.proofs.lemmas.Bool.{false≢true, eqb-true, not-true}
 use Rattle.std.proofs.lemmas.List.Elements.{filter_map-append}
 use Rattle.vq_model.specs.declared.script.Command.{Command}
 use Rattle.vq_model.specs.declared.script.CommandLine.{CommandLine}
-use Rattle.vq_model.specs.Memory.{Memory, HasSizes, effect, after_all}
+use Rattle.vq_model.specs.Memory.{Memory, effect, after_all}
 use Rattle.vq_model.specs.Plan.{Plan, has, commands_of, command_at}
 use Rattle.vq_model.specs.SlowRun.{bytes_after, zeros}
-use Rattle.vq_model.specs.WellFormed.{AreRising, IsWellFormed}
-use Rattle.vq_model.specs.Machine.{Progress, Step, put, next, CanProgress, ProgressFrom, after_progress, opening_progress, with_signal, StartStep, ApplyStep, SignalStep, FinishStep, AnswerStep}
-use Rattle.vq_model.proofs.Lists.{AreDistinct, has_here, has_there, has_cases, has-append, has-append_cases, distinct_push, pushed}
+use Rattle.vq_model.specs.WellFormed.{IsWellFormed}
+use Rattle.vq_model.specs.Machine.{Progress, Step, put, CanProgress, ProgressFrom, after_progress, opening_progress, with_signal, StartStep, ApplyStep, SignalStep, FinishStep, AnswerStep}
+use Rattle.vq_model.proofs.Lists.{AreDistinct, has_here, has_there, has_cases, distinct_push, pushed}
 use Rattle.vq_model.proofs.Puts.{put_here, put_there}
 use Rattle.vq_model.proofs.Searches.{find_member, find_passes}
 use Rattle.vq_model.proofs.Gets.{get_within}

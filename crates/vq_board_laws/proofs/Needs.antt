@@ -1,8 +1,6 @@
 -- What a pass knows reached is reached, and where it may start a job the machine can.
-use Rattle.std.proofs.Common.{◌≡◌, ℕ, ◌<◌, ◌≤◌, Bool, true, false, List, [], ◌∷◌, map, filter, Option, Some, None, refl, sym, ap, ◌∙◌, subst, arith, ⊎_elim, inl, inr, max, zero, suc, All, leb}
-use Rattle.std.specs.Prelude.{fold}
+use Rattle.std.proofs.Common.{◌≡◌, ℕ, ◌≤◌, Bool, true, false, List, [], ◌∷◌, map, filter, Some, None, refl, sym, ap, ◌∙◌, subst, arith, ⊎_elim, inl, inr, max, zero, suc, All}
 use Rattle.std.specs.List.{slice_get, list_all, list_any}
-use Rattle.std.specs.Option.{option_to_list}
 use Rattle.std.proofs.lemmas.Bool.{le-leb, false≢true, cond-true, cond-false, and_from, or_left, or_right}
 use Rattle.vq_model.specs.declared.plan.Need.{Need}
 use Rattle.vq_model.specs.Plan.{Plan, has, value, initial, chain, needs, waits_for_any}
@@ -13,7 +11,7 @@ use Rattle.vq_model.proofs.Lists.{has_here, has_there, has_cases}
 use Rattle.vq_board_laws.specs.declared.view.Fact.{Fact}
 use Rattle.vq_board_laws.specs.declared.view.Fact.TheVariants.{Made}
 use Rattle.vq_board_laws.specs.Words.{Words, made_of, payload_of}
-use Rattle.vq_board_laws.specs.Knowledge.{AreSo, Knows}
+use Rattle.vq_board_laws.specs.Knowledge.{AreSo}
 use Rattle.vq_board_laws.specs.May.{KnowsReached, KnowsReaching, KnowsOneReached}
 use Rattle.vq_board_laws.proofs.Frames.{so_of}
 

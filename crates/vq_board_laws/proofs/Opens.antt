@@ -1,11 +1,10 @@
 -- The opening keeps the rule, and so does a split of the first pass.
-use Rattle.std.proofs.Common.{◌≡◌, ◌≢◌, ◌⊎◌, ℕ, zero, suc, ◌+◌, ◌-◌, ◌*◌, ◌<◌, ◌≤◌, Bool, true, false, List, [], ◌∷◌, ◌++◌, length, map, filter, set, get_or, refl, ap, sym, ◌∙◌, subst, arith, ⊎_elim, inl, inr, length-set, length-append, Option, Some, None}
+use Rattle.std.proofs.Common.{◌≡◌, ◌≢◌, ℕ, ◌+◌, ◌*◌, ◌<◌, ◌≤◌, Bool, true, false, List, [], ◌∷◌, ◌++◌, length, map, filter, set, get_or, refl, ap, sym, ◌∙◌, subst, arith, ⊎_elim, length-set, length-append, None}
 use mathlib.Core.Option.{some, some-injective}
 use lib.ListN.{get_elem?}
-use Rattle.std.specs.Prelude.{sum_by, ◌==◌}
 use Rattle.std.proofs.lemmas.Bool.{le-ltb, false≢true}
 use Rattle.std.proofs.lemmas.List.Sums.{sum_by-cons}
-use Rattle.atomic_table.specs.Table.{State, opening, Splits}
+use Rattle.atomic_table.specs.Table.{opening, Splits}
 use Rattle.atomic_table.proofs.Lists.{set_here, at_longer}
 use Rattle.vq_model.specs.Checks.{IsLawful}
 use Rattle.vq_model.specs.LoweringFaults.{IsPlan}
@@ -15,16 +14,15 @@ use Rattle.vq_points.specs.PointWord.{parts}
 use Rattle.vq_board_laws.specs.declared.view.View.{View}
 use Rattle.vq_board_laws.specs.declared.view.LoggedBuffers.{LoggedBuffers}
 use Rattle.vq_board_laws.specs.Roles.{role_count, share_of}
-use Rattle.vq_board_laws.specs.Words.{Words, words_of, word_count, Carries, is_made, made_of, log_of, payload_of, shown}
-use Rattle.vq_board_laws.specs.Knowledge.{AreSo, Each, Knowledge}
-use Rattle.vq_board_laws.specs.Jobs.{Jobs, OwnJobs, OwnPhases, OwnsNoJobs}
-use Rattle.vq_board_laws.specs.Log.{Log, Holding}
-use Rattle.vq_board_laws.specs.Ownership.{Ownership}
-use Rattle.vq_board_laws.specs.Points.{Points, OwnShelf, Lists, reference}
-use Rattle.vq_board_laws.specs.References.{References, refs_to}
-use Rattle.vq_board_laws.specs.Rule.{IsReached, Rule, Kept, fresh}
+use Rattle.vq_board_laws.specs.Words.{Words, words_of, word_count, Carries, is_made, made_of, log_of, payload_of}
+use Rattle.vq_board_laws.specs.Knowledge.{AreSo, Each}
+use Rattle.vq_board_laws.specs.Jobs.{OwnsNoJobs}
+use Rattle.vq_board_laws.specs.Log.{Holding}
+use Rattle.vq_board_laws.specs.Points.{OwnShelf, Lists, reference}
+use Rattle.vq_board_laws.specs.References.{refs_to}
+use Rattle.vq_board_laws.specs.Rule.{Kept, fresh}
 use Rattle.vq_board_laws.proofs.Views.{at_inside, at_one, at_end, each_pass, sum_moves, sum_more}
-use Rattle.vq_board_laws.proofs.Frames.{Owners, owners_stay, job_fields, JobFields, OwnsJobFields}
+use Rattle.vq_board_laws.proofs.Frames.{Owners, owners_stay, job_fields, OwnsJobFields}
 use Rattle.vq_board_laws.proofs.Logs.{nothing_filled}
 
 -- Where nothing has happened

@@ -1,29 +1,28 @@
 -- The start and the finish of a job keep the rule.
-use Rattle.std.proofs.Common.{◌≡◌, ◌≢◌, ℕ, zero, suc, ◌<◌, ◌≤◌, Bool, true, false, List, [], ◌∷◌, ◌++◌, length, set, refl, ap, sym, ◌∙◌, subst, arith, inl, inr, ⊎_elim, Option, Some, None, ltb, take, drop, not, ◌&&◌}
+use Rattle.std.proofs.Common.{◌≡◌, ℕ, ◌<◌, ◌≤◌, Bool, true, false, List, [], ◌∷◌, ◌++◌, length, set, refl, ap, sym, ◌∙◌, subst, arith, inl, inr, Option, Some, None, ltb, take, drop, not, ◌&&◌}
 use mathlib.Core.Option.{some, none}
 use lib.ListN.{get_elem?}
 use native.Mathlib.Decide.{dec_le}
 use Rattle.std.specs.List.{list_all}
 use Rattle.std.specs.Option.{option_to_list}
-use Rattle.std.proofs.lemmas.Bool.{lt-ltb, le-ltb, ltb-true, false≢true, and_from, cases_Bool}
+use Rattle.std.proofs.lemmas.Bool.{lt-ltb, le-ltb, false≢true, and_from}
 use Rattle.atomic_table.specs.Table.{State, step, keeps, Allows}
-use Rattle.vq_model.specs.Plan.{Plan, has, is_batch, is_host_step, previous, host_before, idle_after, commands_of, signals_of, job_of}
+use Rattle.vq_model.specs.Plan.{Plan, has, is_batch, is_host_step, previous, host_before, idle_after, commands_of, signals_of}
 use Rattle.vq_model.specs.Edges.{AtEnd, At, must_finish}
-use Rattle.vq_model.specs.LoweringFaults.{IsPlan}
-use Rattle.vq_model.specs.Machine.{put, are_reached, can_start, CanStart, StartStep, FinishStep, IsDone}
+use Rattle.vq_model.specs.Machine.{put, are_reached, CanStart, StartStep, FinishStep, IsDone}
 use Rattle.vq_model.proofs.Lists.{has_here, has_there, has_cases, has-append_cases, list_all_from}
 use Rattle.vq_model.proofs.Puts.{put_here, put_there}
 use Rattle.vq_plan_laws.proofs.Cited.{plan_well_formed, plan_hosts, reached_earlier}
 use Rattle.vq_board_laws.specs.declared.view.View.{View}
 use Rattle.vq_board_laws.specs.declared.view.LoggedBuffers.{LoggedBuffers}
-use Rattle.vq_board_laws.specs.declared.view.JobState.TheVariants.{Submitted, Released, Started, Finished}
+use Rattle.vq_board_laws.specs.declared.view.JobState.TheVariants.{Released, Finished}
 use Rattle.vq_board_laws.specs.declared.view.Fact.TheVariants.{Job}
 use Rattle.vq_board_laws.specs.Roles.{runner}
 use Rattle.vq_board_laws.specs.Words.{Words, words_of, job_word, made_of, log_of, payload_of, shown}
-use Rattle.vq_board_laws.specs.Knowledge.{AreSo, Knows}
-use Rattle.vq_board_laws.specs.Jobs.{Jobs, OwnJobs}
-use Rattle.vq_board_laws.specs.Log.{Log, Holding}
-use Rattle.vq_board_laws.specs.Rule.{IsReached, Rule, Kept}
+use Rattle.vq_board_laws.specs.Knowledge.{Knows}
+use Rattle.vq_board_laws.specs.Jobs.{Jobs}
+use Rattle.vq_board_laws.specs.Log.{Log}
+use Rattle.vq_board_laws.specs.Rule.{IsReached, Kept}
 use Rattle.vq_board_laws.specs.May.{MayStart, MayFinish}
 use Rattle.vq_board_laws.specs.Steps.{Mine, starts, finishes, started, finished}
 use Rattle.vq_board_laws.proofs.Columns.{put_each}

@@ -1,5 +1,5 @@
 -- What the commands of the log leave has the sizes of the plan's buffers.
-use Rattle.std.proofs.Common.{◌≡◌, ℕ, ◌<◌, ◌≤◌, true, List, [], ◌∷◌, length, map, Option, Some, None, refl, ap, sym, ◌∙◌, subst, ◌⊎◌, inl, inr, arith, get_or}
+use Rattle.std.proofs.Common.{◌≡◌, ℕ, ◌<◌, ◌≤◌, true, List, [], ◌∷◌, length, map, Option, ap, sym, ◌∙◌, subst, ◌⊎◌, inl, inr, arith, get_or}
 use Rattle.std.specs.List.{filter_map, cons_option, slice_index_or, range_with_len}
 use Rattle.std.proofs.lemmas.Bool.{cases_lt}
 use Rattle.std.proofs.lemmas.List.{length-map, get_or-map, get_or_past, same_lists, get_or_default}

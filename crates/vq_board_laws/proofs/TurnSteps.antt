@@ -1,23 +1,19 @@
 -- Taking and giving the turn over the buffers keeps the rule.
-use Rattle.std.proofs.Common.{◌≡◌, ◌≢◌, ℕ, suc, ◌+◌, ◌<◌, ◌≤◌, eqb, true, List, [], ◌∷◌, length, map, set, refl, ap, sym, ◌∙◌, subst, arith, length-set, Option, Some, None}
+use Rattle.std.proofs.Common.{◌≡◌, ◌≢◌, ℕ, suc, ◌+◌, ◌<◌, ◌≤◌, eqb, List, [], ◌∷◌, length, map, set, refl, ap, sym, ◌∙◌, subst, arith, length-set, Some, None}
 use mathlib.Core.Option.{some, none}
 use mathlib.Core.Option as maybe
 use lib.ListN.{get_elem?}
 use prog.Atomic.{either}
-use Rattle.std.specs.List.{slice_get, filter_map}
 use Rattle.atomic_table.specs.Table.{State, step, Act, keeps, takes, gives, Valid, stepped, carried_after, Allows}
 use Rattle.atomic_table.proofs.Lists.{exchanged}
 use Rattle.vq_model.specs.Memory.{Memory}
-use Rattle.vq_model.specs.Plan.{Plan, has, commands_of}
-use Rattle.vq_model.specs.SlowRun.{bytes_after}
+use Rattle.vq_model.specs.Plan.{Plan}
 use Rattle.vq_board_laws.specs.declared.view.View.{View}
 use Rattle.vq_board_laws.specs.declared.view.LoggedBuffers.{LoggedBuffers}
 use Rattle.vq_board_laws.specs.declared.view.Fact.{Fact}
 use Rattle.vq_board_laws.specs.declared.view.Fact.TheVariants.{Job, Taken, Bound, BoundTo, Made, Past}
-use Rattle.vq_board_laws.specs.Roles.{runner}
 use Rattle.vq_board_laws.specs.Words.{Words, words_of, turn_word, made_of, log_of}
 use Rattle.vq_board_laws.specs.Knowledge.{IsSo, AreSo}
-use Rattle.vq_board_laws.specs.Jobs.{Jobs, OwnJobs}
 use Rattle.vq_board_laws.specs.Log.{Log, Holding, AtHome}
 use Rattle.vq_board_laws.specs.Rule.{Rule, Kept}
 use Rattle.vq_board_laws.specs.Steps.{Mine, takes_turn, misses_turn, gives_turn, took_turn, gave_turn}

@@ -1,5 +1,6 @@
 -- Jobs on the board: what each pass knows exactly of its own. This project's own.
-use Rattle.std.specs.Prelude.{ℕ, Bool, true, false, List, [], ◌≡◌, ◌<◌, ◌≤◌, Option, Some, None, length, take, drop}
+use Rattle.std.specs.Prelude.{ℕ, Bool, true, false, List, [], ◌≡◌, ◌<◌}
+use Rattle.std.specs.Prelude.{◌≤◌, Option, Some, None, length, take, drop}
 use Rattle.vq_model.specs.Plan.{Plan, has, commands_of, signals_of, job_of, is_batch, is_host_step}
 use Rattle.vq_model.specs.Edges.{AtEnd}
 use Rattle.vq_model.specs.Machine.{are_reached}

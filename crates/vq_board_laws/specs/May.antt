@@ -1,6 +1,7 @@
 -- What a pass knows and has done where it may make a step. This project's own; what a job waits for
 -- is in Vulkan 1.3, "Semaphore Waiting" and "Queue Submission".
-use Rattle.std.specs.Prelude.{ℕ, List, [], ◌≡◌, ◌<◌, ◌≤◌, ◌⊎◌, Some, None, true, false, length, All}
+use Rattle.std.specs.Prelude.{ℕ, List, [], ◌≡◌, ◌<◌, ◌≤◌, ◌⊎◌}
+use Rattle.std.specs.Prelude.{Some, None, true, false, length, All}
 use Rattle.std.specs.List.{slice_get}
 use Rattle.vq_model.specs.declared.plan.Need.{Need}
 use Rattle.vq_model.specs.Lanes.{lane_at}

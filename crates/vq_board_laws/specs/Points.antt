@@ -1,5 +1,6 @@
 -- Points on the board, and the operations that they carry. This project's own.
-use Rattle.std.specs.Prelude.{ℕ, List, [], ◌∷◌, ◌≡◌, ◌≢◌, ◌≤◌, ◌+◌, ◌⊎◌, length, true, false, Some}
+use Rattle.std.specs.Prelude.{ℕ, List, [], ◌∷◌, ◌≡◌, ◌≢◌, ◌≤◌}
+use Rattle.std.specs.Prelude.{◌+◌, ◌⊎◌, length, true, false, Some}
 use Rattle.vq_model.specs.Plan.{Plan, has, chain_of}
 use Rattle.vq_points.specs.PointWord.{parts}
 use Rattle.vq_board_laws.specs.declared.view.View.{View}

@@ -1,11 +1,9 @@
 -- What a pass knows and has after each kind of step, and what the step tells its caller. This
 -- project's own.
-use Rattle.std.specs.Prelude.{ℕ, suc, List, [], ◌∷◌, ◌≡◌, ◌≢◌, ◌<◌, ◌≤◌, ◌+◌, Some, None, length, map}
+use Rattle.std.specs.Prelude.{ℕ, suc, [], ◌∷◌, ◌≡◌, ◌≢◌, ◌≤◌, Some, None, length, map}
 use Rattle.atomic_table.specs.Table as Table
 use Rattle.atomic_table.specs.Table.{Me}
 use Rattle.vq_model.specs.Memory.{Memory}
-use Rattle.vq_model.specs.Ranges.{Fits}
-use Rattle.vq_model.specs.Plan.{Plan}
 use Rattle.vq_board_laws.specs.declared.view.View.{View}
 use Rattle.vq_board_laws.specs.declared.view.OwnStep.{OwnStep}
 use Rattle.vq_board_laws.specs.declared.view.LoggedBuffers.{LoggedBuffers}

@@ -1,5 +1,6 @@
 -- The words of the board by kind, and the progress that they show. This project's own.
-use Rattle.std.specs.Prelude.{ℕ, zero, suc, Bool, List, [], ◌∷◌, ◌++◌, ◌+◌, ◌-◌, ◌*◌, ◌==◌, ◌&&◌, ◌||◌, ◌≡◌, max, true}
+use Rattle.std.specs.Prelude.{ℕ, zero, suc, Bool, List, [], ◌∷◌, ◌++◌, ◌+◌}
+use Rattle.std.specs.Prelude.{◌-◌, ◌*◌, ◌==◌, ◌&&◌, ◌||◌, ◌≡◌, max, true}
 use Rattle.std.specs.Prelude.{if◌then◌else◌, nat_lt, slice_index, length, map, filter}
 use Rattle.vq_model.specs.Plan.{Plan, value, initial, chain}
 use Rattle.vq_model.specs.Machine.{Progress}

@@ -1,5 +1,4 @@
 use Rattle.std.proofs.Common.{sym, ap, ◌∙◌}
-use Rattle.vq_model.specs.Plan.{Plan}
 use Rattle.vq_model.specs.SlowRun.{final}
 use Rattle.vq_board_laws.proofs.Cited.{ends_whole}
 use Rattle.vq_board.proofs.parts.Board.close.Goals as goal

@@ -1,7 +1,6 @@
-use Rattle.std.proofs.Common.{◌≡◌, ◌+◌, ◌<◌, arith, ap, sym, ◌∙◌, refl, subst}
-use Rattle.vq_model.specs.Plan.{Plan}
+use Rattle.std.proofs.Common.{◌≡◌, arith, ap}
 use Rattle.vq_board_laws.specs.declared.view.View.{View}
-use Rattle.vq_board_laws.specs.Roles.{role_count, role_number}
+use Rattle.vq_board_laws.specs.Roles.{role_count}
 use Rattle.vq_board_laws.proofs.Cited.{deals}
 use Rattle.vq_board.proofs.parts.Board.cut.Goals as goal
 

@@ -1,6 +1,6 @@
-use Rattle.std.proofs.Common.{arith, ◌≡◌, ℕ, suc, ◌+◌, ◌≤◌, List, ◌∷◌, length, map, ap, sym, refl, ◌∙◌, subst, Some}
+use Rattle.std.proofs.Common.{arith, ◌≡◌, ℕ, suc, List, ◌∷◌, length, map, ap, sym, refl, ◌∙◌, subst, Some}
 use Rattle.atomic_table.specs.Table.{rest}
-use Rattle.vq_model.specs.Memory.{Memory, effect}
+use Rattle.vq_model.specs.Memory.{effect}
 use Rattle.vq_model.specs.Plan.{Plan}
 use Rattle.vq_board_laws.specs.declared.view.LoggedBuffers.{LoggedBuffers}
 use Rattle.vq_board_laws.specs.May.{MayEnter}

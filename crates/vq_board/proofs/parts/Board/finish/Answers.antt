@@ -1,4 +1,4 @@
-use Rattle.std.proofs.Common.{arith, ap, sym, refl, subst, ◌∙◌}
+use Rattle.std.proofs.Common.{arith, ap, sym, refl, subst}
 use Rattle.vq_board_laws.proofs.Cited.{finishes_job}
 use Rattle.vq_board.specs.Hands.{InHand}
 use Rattle.vq_board.proofs.parts.Board.finish.Goals as goal
