@@ -4,7 +4,7 @@ use mathlib.Core.Logic.{dite}
 use native.Mathlib.Decide.{ℕ_discrete}
 use Rattle.vq_model.specs.Machine.{put}
 use Rattle.vq_model.proofs.Puts.{put_here, put_there}
-use Rattle.vq_board_laws.specs.Words.{words_of, job_word, place_word, turn_word}
+use Rattle.vq_board_laws.specs.Words.{words_of, job_word, op_word, point_word, place_word, turn_word, count_word}
 
 -- what holds at the place that is changed and at all others holds everywhere
 pub put_each : {A : Type 0} (f : ℕ → A) (k : ℕ) (x : A) (P : ℕ → A → Type 0) → P k x → ((i : ℕ) → i ≢ k → P i (f i)) → (i : ℕ) → P i (put f k x i)
@@ -44,4 +44,34 @@ turn_set ws x room = λ i. record {
   place = λ k. get_or-set_other ws 0 (4 * k + 5) x 0 (λ e. omega arith) i;
   turn = get_or-set_same ws 0 x 0 room i;
   count = get_or-set_other ws 0 1 x 0 (λ e. omega arith) i;
+}
+
+pub op_set : (ws : List ℕ) (j x : ℕ) → op_word j < length ws → words_of (set ws (op_word j) x) ≡ record (words_of ws) { op = put (words_of ws).op j x }
+op_set ws j x room = λ i. record {
+  job = λ k. get_or-set_other ws (4 * j + 3) (4 * k + 2) x 0 (λ e. omega arith) i;
+  op = λ k. column_set ws 3 j x room k i;
+  point = λ k. get_or-set_other ws (4 * j + 3) (4 * k + 4) x 0 (λ e. omega arith) i;
+  place = λ k. get_or-set_other ws (4 * j + 3) (4 * k + 5) x 0 (λ e. omega arith) i;
+  turn = get_or-set_other ws (4 * j + 3) 0 x 0 (λ e. omega arith) i;
+  count = get_or-set_other ws (4 * j + 3) 1 x 0 (λ e. omega arith) i;
+}
+
+pub point_set : (ws : List ℕ) (j x : ℕ) → point_word j < length ws → words_of (set ws (point_word j) x) ≡ record (words_of ws) { point = put (words_of ws).point j x }
+point_set ws j x room = λ i. record {
+  job = λ k. get_or-set_other ws (4 * j + 4) (4 * k + 2) x 0 (λ e. omega arith) i;
+  op = λ k. get_or-set_other ws (4 * j + 4) (4 * k + 3) x 0 (λ e. omega arith) i;
+  point = λ k. column_set ws 4 j x room k i;
+  place = λ k. get_or-set_other ws (4 * j + 4) (4 * k + 5) x 0 (λ e. omega arith) i;
+  turn = get_or-set_other ws (4 * j + 4) 0 x 0 (λ e. omega arith) i;
+  count = get_or-set_other ws (4 * j + 4) 1 x 0 (λ e. omega arith) i;
+}
+
+pub count_set : (ws : List ℕ) (x : ℕ) → 1 < length ws → words_of (set ws count_word x) ≡ record (words_of ws) { count = x }
+count_set ws x room = λ i. record {
+  job = λ k. get_or-set_other ws 1 (4 * k + 2) x 0 (λ e. omega arith) i;
+  op = λ k. get_or-set_other ws 1 (4 * k + 3) x 0 (λ e. omega arith) i;
+  point = λ k. get_or-set_other ws 1 (4 * k + 4) x 0 (λ e. omega arith) i;
+  place = λ k. get_or-set_other ws 1 (4 * k + 5) x 0 (λ e. omega arith) i;
+  turn = get_or-set_other ws 1 0 x 0 (λ e. omega arith) i;
+  count = get_or-set_same ws 1 x 0 room i;
 }

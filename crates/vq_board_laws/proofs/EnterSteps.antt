@@ -1,54 +1,41 @@
 -- Entering a command in the log keeps the rule.
-use Rattle.std.proofs.Common.{◌≡◌, ◌≢◌, ℕ, suc, ◌+◌, ◌<◌, Bool, true, false, List, [], ◌∷◌, ◌++◌, length, set, refl, ap, sym, ◌∙◌, subst, arith, inl, inr, Some, take, drop, length-set, length-append, zero}
+use Rattle.std.proofs.Common.{◌≡◌, ◌≢◌, ℕ, suc, ◌+◌, ◌<◌, true, false, List, [], ◌∷◌, ◌++◌, length, set, refl, ap, sym, ◌∙◌, subst, arith, inl, inr, Some, take, drop, length-set, length-append}
 use mathlib.Core.Option.{some, none}
 use lib.ListN.{get_elem?}
-use Rattle.std.proofs.lemmas.Bool.{lt-ltb, le-ltb, false≢true}
+use Rattle.std.proofs.lemmas.Bool.{lt-ltb, le-ltb, false_from_ne_true, false≢true}
 use Rattle.atomic_table.specs.Table.{State, step, keeps, Allows}
 use Rattle.vq_model.specs.declared.script.Command.{Command}
 use Rattle.vq_model.specs.Memory.{effect}
 use Rattle.vq_model.specs.Plan.{Plan, has, commands_of, command_at}
-use Rattle.vq_model.specs.Machine.{put, CanApply, ApplyStep}
+use Rattle.vq_model.specs.Machine.{Progress, State as MachineState, put, CanApply, ApplyStep, after_progress, after_step}
 use Rattle.vq_model.proofs.Lists.{has_here, has_there, has-append_left, has-append_right, pushed}
 use Rattle.vq_model.proofs.Puts.{put_there}
 use Rattle.vq_plan_laws.proofs.Cited.{plan_well_formed, reached_earlier}
 use Rattle.vq_board_laws.specs.declared.view.View.{View}
 use Rattle.vq_board_laws.specs.declared.view.LoggedBuffers.{LoggedBuffers}
-use Rattle.vq_board_laws.specs.declared.view.Fact.{Fact}
-use Rattle.vq_board_laws.specs.declared.view.Fact.TheVariants.{Job, Taken, Bound, BoundTo, Made, Past}
 use Rattle.vq_board_laws.specs.Roles.{runner}
 use Rattle.vq_board_laws.specs.Words.{Words, words_of, place_word, made_of, log_of, payload_of, shown}
-use Rattle.vq_board_laws.specs.Knowledge.{IsSo}
 use Rattle.vq_board_laws.specs.Jobs.{Jobs, OwnPhases}
 use Rattle.vq_board_laws.specs.Log.{Log, Holding}
-use Rattle.vq_board_laws.specs.Rule.{IsReached, Rule, Kept}
+use Rattle.vq_board_laws.specs.Reached.{IsReached}
+use Rattle.vq_board_laws.specs.Rule.{Rule, Kept}
 use Rattle.vq_board_laws.specs.May.{MayEnter}
 use Rattle.vq_board_laws.specs.Steps.{Mine, enters, entered}
 use Rattle.vq_board_laws.proofs.Columns.{place_set}
-use Rattle.vq_board_laws.proofs.Views.{each_pass, same_length, other_role}
-use Rattle.vq_board_laws.proofs.Frames.{facts_stay, knowledge_stays, ownership_stays, points_stay, references_stay}
-use Rattle.vq_board_laws.proofs.Runs.{reach_further}
-use Rattle.vq_board_laws.proofs.JobParts.{RunFields, run_fields, OwnRun}
+use Rattle.vq_board_laws.proofs.Frames.{facts_stay, so_unread, knowledge_stays, ownership_stays, points_stay, references_stay}
+use Rattle.vq_board_laws.proofs.JobParts.{RunFields, run_fields, runs_none, OwnRun}
 use Rattle.vq_board_laws.proofs.Logs.{filled_put, has_room, bytes_push}
-use Rattle.vq_board_laws.proofs.Taken.{next_at, taken_has, taken_more, drop_next, later_greater}
+use Rattle.vq_board_laws.proofs.Runs.{end_state, reach_further}
+use Rattle.vq_board_laws.proofs.Since.{since_rises}
+use Rattle.vq_board_laws.proofs.Taken.{next_at, taken_has, taken_more, drop_next, dropped_has, later_greater}
 use Rattle.vq_board_laws.proofs.TurnSteps.{one_holder}
-
-so_place : (d : Words) (n x : ℕ) (f : Fact) → IsSo d f → IsSo (record d { place = put d.place n x }) f
-so_place d n x (Job j s) h = h
-so_place d n x (Taken e) h = h
-so_place d n x (Bound e) h = h
-so_place d n x (BoundTo e q) h = h
-so_place d n x (Made e) h = h
-so_place d n x (Past e) h = h
-
-unless : (b : Bool) → ¬ (b ≡ true) → b ≡ false
-unless true h = absurd (h refl)
-unless false h = refl
+use Rattle.vq_board_laws.proofs.Views.{each_pass, same_length, other_role}
 
 -- what isn't c and isn't in the log isn't in the log with c
 not_pushed : (log : List ℕ) (c y : ℕ) → has log y ≡ false → c ≢ y → has (log ++ c ∷ []) y ≡ false
-not_pushed log c y absent ne = unless (has (log ++ c ∷ []) y) (λ h. elim (pushed log c y h) [ inl m ↦ false≢true (sym absent ∙ m) | inr e ↦ ne e ])
+not_pushed log c y absent ne = false_from_ne_true (has (log ++ c ∷ []) y) (λ h. elim (pushed log c y h) [ inl m ↦ false≢true (sym absent ∙ m) | inr e ↦ ne e ])
 
-module _ (p : Plan) (s : State LoggedBuffers View) (id c : ℕ) (v : View) (x : LoggedBuffers) (y : Command) (k : Kept p s) (at : get_elem? s.views id ≡ some v) (may : MayEnter p v c) (command : command_at p c ≡ Some y) (bytes : x.buffers ≡ effect y v.bytes) where
+module _ (p : Plan) (s : State LoggedBuffers View) (id c : ℕ) (v : View) (k : Kept p s) (at : get_elem? s.views id ≡ some v) (may : MayEnter p v c) where
   abbrev d : Words
   d = words_of s.words
 
@@ -79,8 +66,8 @@ module _ (p : Plan) (s : State LoggedBuffers View) (id c : ℕ) (v : View) (x : 
   new : has log c ≡ false
   new = own.later_commands j c may.runs (subst (λ (cs : List ℕ). has cs c ≡ true) (sym (drop_next (commands_of p j) v.entered c may.next)) (has_here c (drop (suc v.entered) (commands_of p j))))
 
-  room : n < length p.commands
-  room = let r = has_room p (shown p d) j c (plan_well_formed p k.plan) k.rule.run in_job new in let e = count in omega arith
+  pub room : n < length p.commands
+  room = let r = has_room p (shown p d) d.job s.views j c (plan_well_formed p k.plan) k.rule.run in_job new in let e = count in omega arith
 
   abbrev d' : Words
   d' = record d { place = put d.place n (suc c) }
@@ -95,17 +82,11 @@ module _ (p : Plan) (s : State LoggedBuffers View) (id c : ℕ) (v : View) (x : 
     runs_one = o.runs_one;
     entered_commands = λ a b e h. has-append_left log (c ∷ []) b (o.entered_commands a b e h);
     later_commands = λ a b e h. not_pushed log c b (o.later_commands a b e h) (λ is.
-        let same : j ≡ a = (plan_well_formed p k.plan).one_job c j a in_job (subst (λ (z : ℕ). has (commands_of p a) z ≡ true) (sym is) (dropped (commands_of p a) t.3 b h)) in
+        let same : j ≡ a = (plan_well_formed p k.plan).one_job c j a in_job (subst (λ (z : ℕ). has (commands_of p a) z ≡ true) (sym is) (dropped_has (commands_of p a) t.3 b h)) in
         ne (sym (o.runs_one a e).0 ∙ (ap (runner p) (sym same) ∙ runs.0)));
     made_signals = o.made_signals;
     later_signals = o.later_signals;
   }
-    where
-      dropped : (xs : List ℕ) (m z : ℕ) → has (drop m xs) z ≡ true → has xs z ≡ true
-      dropped [] zero z h = h
-      dropped [] (suc m) z h = h
-      dropped (w ∷ xs) zero z h = h
-      dropped (w ∷ xs) (suc m) z h = has_there w xs z (dropped xs m z h)
 
   own_next : OwnRun p d.job (made_of d) log' (v.role, v.begun, v.runs, suc v.entered, v.signaled)
   own_next = record {
@@ -127,62 +108,10 @@ module _ (p : Plan) (s : State LoggedBuffers View) (id c : ℕ) (v : View) (x : 
     later_signals = own.later_signals;
   }
 
-  abbrev w : View
-  w = enters v c n x.buffers
-
-  entered_jobs : Jobs p d.job (made_of d) log' (set s.views id w)
-  entered_jobs = record {
-    own = each_pass (λ i z. OwnRun p d.job (made_of d) log' (run_fields z) × OwnPhases p d.job z.role z.submitted z.released) s.views id w
-        (own_next, (k.rule.jobs.own id v at).1)
-        (λ i u ne e. (own_else i (run_fields u) (other_role i id u v (k.rule.ownership.roles i u e) (k.rule.ownership.roles id v at) ne) (k.rule.jobs.own i u e).0, (k.rule.jobs.own i u e).1));
-    absent = λ role h.
-        let a = k.rule.jobs.absent role (same_length s.views id role w h) in (
-          record {
-            begun_all = a.0.begun_all;
-            runs_one = a.0.runs_one;
-            entered_commands = λ b e g. absurd cc;
-            later_commands = λ b e g. absurd cc;
-            made_signals = λ b e g. absurd cc;
-            later_signals = λ b e g. absurd cc;
-          },
-          a.1,
-        );
-    waited = k.rule.jobs.waited;
-    ranged = k.rule.jobs.ranged;
-    applied_begun = λ b h. elim (pushed log c b h) [
-      | inl m ↦ k.rule.jobs.applied_begun b m
-      | inr is ↦ (j, subst (λ (z : ℕ). has (commands_of p j) z ≡ true) is in_job, (let t = runs.1 in omega arith))
-    ];
-    made_begun = k.rule.jobs.made_begun;
-    reached = k.rule.jobs.reached;
-  }
-
   length_longer : length log' ≡ suc (length log)
   length_longer = omega (arith, length-append log (c ∷ []))
 
-  entered_log : Log p d.job d'.place d.turn log' s.homes (set s.views id w)
-  entered_log =
-      let h = k.rule.log.holding id v at in
-      record {
-        later = λ i l. put_there d.place n (suc c) i (λ (e : i ≡ n). let a = count in let b = length_longer in omega arith) ∙ k.rule.log.later i (let b = length_longer in omega arith);
-        free = λ free. absurd (let t = (h.job n may.held).2 in omega arith);
-        taken = k.rule.log.taken;
-        holding = each_pass (λ i z. Holding p d.turn log' z.runs z.held z.bytes) s.views id w
-            record {
-              counted = λ a e. let is : suc n ≡ a = cc in sym is ∙ (let b = count in let g = length_longer in omega arith);
-              folded = λ a e. bytes ∙ (ap (effect y) (h.folded n may.held) ∙ sym (bytes_push p log c y command));
-              job = λ a e. h.job n may.held;
-              own = λ a e named. (suc n, refl);
-            }
-            (λ i u ne e. record {
-              counted = λ a g. absurd (one_holder p s k id i n a v u at e ne may.held g);
-              folded = λ a g. absurd (one_holder p s k id i n a v u at e ne may.held g);
-              job = λ a g. absurd (one_holder p s k id i n a v u at e ne may.held g);
-              own = (k.rule.log.holding i u e).own;
-            });
-      }
-
-  can_apply : CanApply p (shown p d) j c
+  pub can_apply : CanApply p (shown p d) j c
   can_apply = record {
     started = lt-ltb 2 (d.job j) (let t = runs.1 in omega arith);
     unfinished = le-ltb 3 (d.job j) (let t = runs.1 in omega arith);
@@ -190,30 +119,85 @@ module _ (p : Plan) (s : State LoggedBuffers View) (id c : ℕ) (v : View) (x : 
     ready = reached_earlier p (plan_well_formed p k.plan) (payload_of p (made_of d)) j _ (k.rule.jobs.reached j (let t = runs.1 in omega arith));
   }
 
-  entered_shown : IsReached p (shown p d')
-  entered_shown = reach_further p (shown p d) (shown p d') (ApplyStep c) k.rule.run (j, can_apply) (λ i. record {
-    payload = payload_of p (made_of d);
-    started = (shown p d).started;
-    finished = (shown p d).finished;
-    made = made_of d;
-    applied = sym longer i;
-  })
+  -- the words after the step show what the machine has after it
+  pub entered_shows : after_progress p (shown p d) (ApplyStep c) ≡ shown p d'
+  entered_shows = λ i. record { payload = payload_of p (made_of d); started = (shown p d).started; finished = (shown p d).finished; made = made_of d; applied = sym longer i }
 
-  entered_kept : Kept p record { words = set s.words (place_word n) (suc c); homes = s.homes; views = set s.views id w }
-  entered_kept = record {
-    plan = k.plan;
-    lawful = k.lawful;
-    count = length-set s.words (place_word n) (suc c) ∙ k.count;
-    rule = subst (λ (e : Words). Rule p e s.homes (set s.views id w)) (sym (place_set s.words n (suc c) (let a = room in let b = k.count in omega arith))) record {
-      knowledge = knowledge_stays d d' s.views id w (so_place d n (suc c)) k.rule.knowledge (facts_stay d d' v.known (so_place d n (suc c)) (k.rule.knowledge id v at));
-      run = entered_shown;
-      jobs = subst (λ (l : List ℕ). Jobs p d.job (made_of d) l (set s.views id w)) (sym longer) entered_jobs;
-      log = subst (λ (l : List ℕ). Log p d.job d'.place d.turn l s.homes (set s.views id w)) (sym longer) entered_log;
-      ownership = ownership_stays p d.count s.views id v w k.rule.ownership at refl;
-      points = points_stay p d.op d.point d.count s.views id v w k.rule.points at refl;
-      references = references_stay d.point s.views id v w k.rule.references at refl;
-    };
-  }
+  -- the machine before the step
+  abbrev end : MachineState
+  end = end_state p (shown p d) d.job s.views k.rule.run
+
+  module _ (x : LoggedBuffers) (y : Command) (command : command_at p c ≡ Some y) (bytes : x.buffers ≡ effect y v.bytes) where
+    abbrev w : View
+    w = enters v c n x.buffers
+
+    entered_jobs : Jobs p d.job (made_of d) log' (set s.views id w)
+    entered_jobs = record {
+      own = each_pass (λ i z. OwnRun p d.job (made_of d) log' (run_fields z) × OwnPhases p d.job z.role z.submitted z.released) s.views id w
+          (own_next, (k.rule.jobs.own id v at).1)
+          (λ i u ne e. (own_else i (run_fields u) (other_role i id u v (k.rule.ownership.roles i u e) (k.rule.ownership.roles id v at) ne) (k.rule.jobs.own i u e).0, (k.rule.jobs.own i u e).1));
+      absent = λ role h. let a = k.rule.jobs.absent role (same_length s.views id role w h) in (runs_none p d.job (made_of d) log' role [] 0 0 a.0.begun_all, a.1);
+      waited = k.rule.jobs.waited;
+      lane = k.rule.jobs.lane;
+      ranged = k.rule.jobs.ranged;
+      applied_begun = λ b h. elim (pushed log c b h) [
+        | inl m ↦ k.rule.jobs.applied_begun b m
+        | inr is ↦ (j, subst (λ (z : ℕ). has (commands_of p j) z ≡ true) is in_job, (let t = runs.1 in omega arith))
+      ];
+      made_begun = k.rule.jobs.made_begun;
+      reached = k.rule.jobs.reached;
+    }
+
+    entered_log : Log p d.job d'.place d.turn log' s.homes (set s.views id w)
+    entered_log =
+        let h = k.rule.log.holding id v at in
+        record {
+          later = λ i l. put_there d.place n (suc c) i (λ (e : i ≡ n). let a = count in let b = length_longer in omega arith) ∙ k.rule.log.later i (let b = length_longer in omega arith);
+          free = λ free. absurd (let t = (h.job n may.held).2 in omega arith);
+          taken = k.rule.log.taken;
+          holding = each_pass (λ i z. Holding p d.turn log' z.runs z.held z.bytes) s.views id w
+              record {
+                counted = λ a e. let is : suc n ≡ a = cc in sym is ∙ (let b = count in let g = length_longer in omega arith);
+                folded = λ a e. bytes ∙ (ap (effect y) (h.folded n may.held) ∙ sym (bytes_push p log c y command));
+                job = λ a e. h.job n may.held;
+                own = λ a e named. (suc n, refl);
+              }
+              (λ i u ne e. record {
+                counted = λ a g. absurd (one_holder p s k id i n a v u at e ne may.held g);
+                folded = λ a g. absurd (one_holder p s k id i n a v u at e ne may.held g);
+                job = λ a g. absurd (one_holder p s k id i n a v u at e ne may.held g);
+                own = (k.rule.log.holding i u e).own;
+              });
+        }
+
+    entered_shown : IsReached p (shown p d') d.job (set s.views id w)
+    entered_shown =
+        let r = k.rule.run in
+        reach_further p (shown p d) (shown p d') (ApplyStep c) d.job d.job s.views id w r
+        (j, subst (λ (z : Progress). CanApply p z j c) (sym r.leads) can_apply)
+        (ap (λ (z : Progress). after_progress p z (ApplyStep c)) r.leads ∙ entered_shows)
+        (λ h. r.answers id v at h)
+        (λ i u ne h a same. same)
+        (since_rises p end (after_step p end (ApplyStep c)) v.runs v.unmade refl (λ a. omega arith) (r.since id v at))
+        (λ i u ne e. since_rises p end (after_step p end (ApplyStep c)) u.runs u.unmade refl (λ a. omega arith))
+        (λ h. r.told id v at h)
+        (λ i u ne h e o. o)
+
+    entered_kept : Kept p record { words = set s.words (place_word n) (suc c); homes = s.homes; views = set s.views id w }
+    entered_kept = record {
+      plan = k.plan;
+      lawful = k.lawful;
+      count = length-set s.words (place_word n) (suc c) ∙ k.count;
+      rule = subst (λ (e : Words). Rule p e s.homes (set s.views id w)) (sym (place_set s.words n (suc c) (let a = room in let b = k.count in omega arith))) record {
+        knowledge = knowledge_stays d d' s.views id w (so_unread d d'.place d.turn d.count) k.rule.knowledge (facts_stay d d' v.known (so_unread d d'.place d.turn d.count) (k.rule.knowledge id v at));
+        run = entered_shown;
+        jobs = subst (λ (l : List ℕ). Jobs p d.job (made_of d) l (set s.views id w)) (sym longer) entered_jobs;
+        log = subst (λ (l : List ℕ). Log p d.job d'.place d.turn l s.homes (set s.views id w)) (sym longer) entered_log;
+        ownership = ownership_stays p d.count s.views id v w k.rule.ownership at refl;
+        points = points_stay p d.op d.point d.count s.views id v w k.rule.points at refl;
+        references = references_stay d.point s.views id v w k.rule.references at refl;
+      };
+    }
 
 abbrev in_hand : LoggedBuffers → List (ℕ × LoggedBuffers) → LoggedBuffers
 in_hand other [] = other
@@ -227,13 +211,13 @@ enters_held p slots id c v x y may command bytes s k deep at fits =
       enters v c n x.buffers,
       keeps,
       tt,
-      entered_kept p s id c v x y k at may command bytes,
+      entered_kept p s id c v k at may x y command bytes,
       λ i e z is is' is''.
           let n_is : n ≡ i = omega arith in
           let c_is : c ≡ e = omega arith in
           let x_is : x ≡ z = ap (in_hand x) is'' in (
             (λ t. (enters v (c_is t) (n_is t) (x_is t).buffers, (0, x) ∷ [])),
-            (let a = room p s id c v x y k at may command bytes in let same : length v.plan.commands ≡ length p.commands = ap (λ (q : Plan). length q.commands) plan in omega arith),
+            (let a = room p s id c v k at may in let same : length v.plan.commands ≡ length p.commands = ap (λ (q : Plan). length q.commands) plan in omega arith),
           ),
     )
 

@@ -69,6 +69,18 @@ phase_fields v = (v.role, v.submitted, v.released)
 abbrev pub OwnRun : Plan → (ℕ → ℕ) → (ℕ → Bool) → List ℕ → RunFields → Type 0
 OwnRun p job made log t = OwnJobs p job made log t.0 t.1 t.2 t.3 t.4
 
+-- of a role that runs no job nothing is said but that what it runs has begun
+pub runs_none : (p : Plan) (job : ℕ → ℕ) (made : ℕ → Bool) (log : List ℕ) (role : ℕ) (begun : List ℕ) (entered signaled : ℕ) → ((j : ℕ) → runner p j ≡ role → 2 < job j → has begun j ≡ true)
+    → OwnRun p job made log (role, begun, None, entered, signaled)
+runs_none p job made log role begun entered signaled all = record {
+  begun_all = all;
+  runs_one = λ j e. absurd cc;
+  entered_commands = λ j c e. absurd cc;
+  later_commands = λ j c e. absurd cc;
+  made_signals = λ j c e. absurd cc;
+  later_signals = λ j c e. absurd cc;
+}
+
 module _ (p : Plan) (job : ℕ → ℕ) (made : ℕ → Bool) (log : List ℕ) (j x : ℕ) where
   -- the jobs that a role runs, where the word of a job that hasn't begun rises
   own_early : job j < x → x ≤ 2 → (t : RunFields) → OwnRun p job made log t → OwnRun p (put job j x) made log t
@@ -96,6 +108,7 @@ module _ (p : Plan) (job : ℕ → ℕ) (made : ℕ → Bool) (log : List ℕ) (
             (λ i u ne e. (own_early up low (run_fields u) (k.own i u e).0, others u.role u.submitted u.released (other_role i id u v (roles i u e) (roles id v at) ne) (k.own i u e).1));
         absent = λ role h. let t = away views id v w role at (roles id v at) h in let a = k.absent role t.0 in (own_early up low (role, [], None, 0, 0) a.0, others role [] [] t.1 a.1);
         waited = λ i. put_each job j x (λ b y. is_batch p b ≡ true → 0 < y → i < b → is_host_step p i ≡ true → 3 < put job j x i) (λ b _ l h. more i (before i b l h)) (λ b ne c g l h. more i (k.waited i b c g l h));
+        lane = λ i. put_each job j x (λ b y. is_host_step p i ≡ true → is_host_step p b ≡ true → i < b → 2 < y → 3 < put job j x i) (λ _ _ _ h. absurd (omega arith)) (λ b ne g h l t. more i (k.lane i b g h l t));
         ranged = put_each job j x (λ a y. y ≤ 4) (omega arith) (λ a ne. k.ranged a);
         applied_begun = λ c h. let t = k.applied_begun c h in (t.0, t.1, rises t.0 t.2);
         made_begun = λ e a h o. rises a (k.made_begun e a h o);
@@ -124,9 +137,10 @@ module _ (p : Plan) (job : ℕ → ℕ) (made : ℕ → Bool) (log : List ℕ) (
   pub jobs_late : (views : List View) (id : ℕ) (v w : View) → Jobs p job made log views → Each (λ i z. z.role ≡ i) views → get_elem? views id ≡ some v → runner p j ≡ v.role → job j ≤ x → x ≤ 4
       → (is_batch p j ≡ true → 1 < job j) → phase_fields w ≡ phase_fields v
       → OwnRun p (put job j x) made log (v.role, w.begun, w.runs, w.entered, w.signaled)
+      → (2 < x → (i : ℕ) → is_host_step p i ≡ true → is_host_step p j ≡ true → i < j → 3 < job i)
       → (2 < x → are_reached p (payload_of p made) j AtEnd ≡ true)
       → Jobs p (put job j x) made log (set views id w)
-  jobs_late views id v w k roles at runs up low ready same mine reached =
+  jobs_late views id v w k roles at runs up low ready same mine lane reached =
       let rises : (a : ℕ) → 2 < job a → 2 < put job j x a = put_each job j x (λ a y. 2 < job a → 2 < y) (λ h. omega arith) (λ a ne h. h) in
       let more : (a : ℕ) → 3 < job a → 3 < put job j x a = put_each job j x (λ a y. 3 < job a → 3 < y) (λ h. omega arith) (λ a ne h. h) in
       let apart : (role : ℕ) → role ≢ v.role → (a : ℕ) → runner p a ≡ role → a ≢ j = λ role ne a l g. ne (sym l ∙ (ap (runner p) g ∙ runs)) in
@@ -137,6 +151,7 @@ module _ (p : Plan) (job : ℕ → ℕ) (made : ℕ → Bool) (log : List ℕ) (
             (λ i u ne e. (own_else (run_fields u) (apart u.role (other_role i id u v (roles i u e) (roles id v at) ne)) (k.own i u e).0, phases_late ready u.role u.submitted u.released (k.own i u e).1));
         absent = λ role h. let t = away views id v w role at (roles id v at) h in let a = k.absent role t.0 in (own_else (role, [], None, 0, 0) (apart role t.1) a.0, phases_late ready role [] [] a.1);
         waited = λ i. put_each job j x (λ b y. is_batch p b ≡ true → 0 < y → i < b → is_host_step p i ≡ true → 3 < put job j x i) (λ b _ l h. more i (k.waited i j b (let g = ready b in omega arith) l h)) (λ b ne c g l h. more i (k.waited i b c g l h));
+        lane = λ i. put_each job j x (λ b y. is_host_step p i ≡ true → is_host_step p b ≡ true → i < b → 2 < y → 3 < put job j x i) (λ g h l t. more i (lane t i g h l)) (λ b ne g h l t. more i (k.lane i b g h l t));
         ranged = put_each job j x (λ a y. y ≤ 4) low (λ a ne. k.ranged a);
         applied_begun = λ c h. let t = k.applied_begun c h in (t.0, t.1, rises t.0 t.2);
         made_begun = λ e a h o. rises a (k.made_begun e a h o);

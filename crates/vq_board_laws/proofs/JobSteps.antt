@@ -1,13 +1,12 @@
--- The steps on a job's word keep the rule: the look, submit, release, start and finish.
-use Rattle.std.proofs.Common.{◌≡◌, ℕ, zero, suc, ◌<◌, ◌≤◌, true, List, ◌∷◌, length, set, refl, ap, sym, ◌∙◌, subst, arith, ltb, not}
+-- The steps on a job's word before its start keep the rule: the look, submit and release.
+use Rattle.std.proofs.Common.{◌≡◌, ℕ, zero, suc, ◌<◌, ◌≤◌, true, ◌∷◌, length, set, refl, ap, sym, ◌∙◌, subst, arith, ltb, not}
 use mathlib.Core.Option.{some, none}
 use lib.ListN.{get_elem?}
-use lib.Seq.{set-get_or}
 use native.Mathlib.Decide.{dec_le}
 use Rattle.std.proofs.lemmas.Bool.{le-ltb, false≢true, and_parts, ltb-true}
 use Rattle.atomic_table.specs.Table.{State, step, keeps, Allows}
 use Rattle.vq_model.specs.Plan.{Plan, has, is_batch, is_host_step}
-use Rattle.vq_model.specs.Machine.{put}
+use Rattle.vq_model.specs.Machine.{put, Progress}
 use Rattle.vq_model.proofs.Lists.{has_here, has_there}
 use Rattle.vq_model.proofs.Puts.{put_here}
 use Rattle.vq_board_laws.specs.declared.view.View.{View}
@@ -18,12 +17,14 @@ use Rattle.vq_board_laws.specs.declared.view.Fact.TheVariants.{Job}
 use Rattle.vq_board_laws.specs.Roles.{submitter}
 use Rattle.vq_board_laws.specs.Words.{Words, words_of, job_word, made_of, log_of, payload_of, shown}
 use Rattle.vq_board_laws.specs.Knowledge.{state_number, state_at}
-use Rattle.vq_board_laws.specs.Rule.{IsReached, Rule, Kept}
+use Rattle.vq_board_laws.specs.Reached.{IsReached}
+use Rattle.vq_board_laws.specs.Rule.{Kept}
 use Rattle.vq_board_laws.specs.May.{MaySubmit, MayRelease}
 use Rattle.vq_board_laws.specs.Steps.{Mine, looks, submits, releases, looked, submitted, released}
 use Rattle.vq_board_laws.proofs.Columns.{put_each}
-use Rattle.vq_board_laws.proofs.Frames.{facts_stay, so_of, knowledge_stays, jobs_stay, log_stays, ownership_stays, points_stay, references_stay}
+use Rattle.vq_board_laws.proofs.Frames.{facts_stay, kept_load, so_of, knowledge_stays, ownership_stays, points_stay, references_stay}
 use Rattle.vq_board_laws.proofs.JobParts.{kept_job, so_job, log_rejob, jobs_early}
+use Rattle.vq_board_laws.proofs.Runs.{order_stays, reached_fields, reached_stays}
 
 -- A look
 
@@ -53,20 +54,7 @@ looks_at_job p slots id m j s k deep at fits =
       w,
       keeps,
       tt,
-      record {
-        plan = k.plan;
-        lawful = k.lawful;
-        count = ap length (set-get_or s.words (job_word j) 0) ∙ k.count;
-        rule = subst (λ (ws : List ℕ). Rule p (words_of ws) s.homes (set s.views id w)) (sym (set-get_or s.words (job_word j) 0)) record {
-          knowledge = knowledge_stays d d s.views id w (λ f h. h) r.knowledge (omega arith, r.knowledge id v at);
-          run = r.run;
-          jobs = jobs_stay p d.job (made_of d) (log_of p d) s.views id v w r.jobs at refl;
-          log = log_stays p d.job d.place d.turn (log_of p d) s.homes s.views id v w r.log at refl;
-          ownership = ownership_stays p d.count s.views id v w r.ownership at refl;
-          points = points_stay p d.op d.point d.count s.views id v w r.points at refl;
-          references = references_stay d.point s.views id v w r.references at refl;
-        };
-      },
+      kept_load p s (job_word j) id v w k at refl refl refl refl refl (omega arith, r.knowledge id v at) (reached_stays p (shown p d) d.job d.job s.views id v w r.run at refl (λ told o. o)),
       λ i same. let is : j ≡ i = omega arith in (state_at n, number, ap (λ (z : ℕ). (looks v z (state_at n), m.1)) is),
     )
 
@@ -75,19 +63,36 @@ looks_at_job p slots id m j s k deep at fits =
 pub batch_exists : (p : Plan) (j : ℕ) → is_batch p j ≡ true → j < length p.jobs
 batch_exists p j h = ltb-true j (length p.jobs) (and_parts (ltb j (length p.jobs)) (not (is_host_step p j)) h).0
 
+-- a word that rises by less than a start shows the same
+pub early_shows : (p : Plan) (d : Words) (j x : ℕ) → d.job j < x → x ≤ 2 → shown p d ≡ shown p (record d { job = put d.job j x })
+early_shows p d j x up low =
+    let same : (t : ℕ) → 2 ≤ t → (a : ℕ) → ltb t (d.job a) ≡ ltb t (put d.job j x a) = λ t l. put_each d.job j x (λ a y. ltb t (d.job a) ≡ ltb t y) (le-ltb t (d.job j) (omega arith) ∙ sym (le-ltb t x (omega arith))) (λ a ne. refl) in λ i. record {
+      payload = payload_of p (made_of d);
+      started = λ a. same 2 (omega arith) a i;
+      finished = λ a. same 3 (omega arith) a i;
+      made = made_of d;
+      applied = log_of p d;
+    }
+
+module _ (p : Plan) (s : State LoggedBuffers View) (id j : ℕ) (v : View) (k : Kept p s) (at : get_elem? s.views id ≡ some v) where
+  -- the batch that the host may submit is waiting, and the one that a pass may release is submitted
+  pub submit_finds : MaySubmit p v j → (words_of s.words).job j ≡ 0
+  submit_finds may = elim (dec_le 1 ((words_of s.words).job j)) [ yes h ↦ absurd (false≢true (sym may.new ∙ (k.rule.jobs.own id v at).1.submitted_all may.host j may.batch h)) | no h ↦ omega arith ]
+
+  pub release_finds : MayRelease p v j → (words_of s.words).job j ≡ 1
+  release_finds may =
+      let least : 1 ≤ (words_of s.words).job j = so_of (words_of s.words) v.known (Job j Submitted) (k.rule.knowledge id v at) may.submitted in
+      elim (dec_le 2 ((words_of s.words).job j)) [ yes h ↦ absurd (false≢true (sym may.new ∙ (k.rule.jobs.own id v at).1.released_all j may.batch may.submitter h)) | no h ↦ omega arith ]
+
 module _ (p : Plan) (s : State LoggedBuffers View) (id j x : ℕ) (v w : View) (k : Kept p s) (at : get_elem? s.views id ≡ some v) where
-  -- what a word that rises by less than a start shows
-  shown_early : (words_of s.words).job j < x → x ≤ 2 → IsReached p (shown p (record (words_of s.words) { job = put (words_of s.words).job j x }))
-  shown_early up low =
+  -- the run that the words show stays where the word rises by less than a start
+  shown_early : (words_of s.words).job j < x → x ≤ 2 → reached_fields w ≡ reached_fields v → IsReached p (shown p (record (words_of s.words) { job = put (words_of s.words).job j x })) (put (words_of s.words).job j x) (set s.views id w)
+  shown_early up low fields =
       let d : Words = words_of s.words in
-      let same : (t : ℕ) → 2 ≤ t → (a : ℕ) → ltb t (d.job a) ≡ ltb t (put d.job j x a) = λ t l. put_each d.job j x (λ a y. ltb t (d.job a) ≡ ltb t y) (le-ltb t (d.job j) (omega arith) ∙ sym (le-ltb t x (omega arith))) (λ a ne. refl) in
-      subst (IsReached p) (λ i. record {
-        payload = payload_of p (made_of d);
-        started = λ a. same 2 (omega arith) a i;
-        finished = λ a. same 3 (omega arith) a i;
-        made = made_of d;
-        applied = log_of p d;
-      }) k.rule.run
+      let job' : ℕ → ℕ = put d.job j x in
+      let more : (a : ℕ) → 2 < d.job a → 2 < job' a = put_each d.job j x (λ a y. 2 < d.job a → 2 < y) (λ h. absurd (omega arith)) (λ a ne h. h) in
+      let less : (a : ℕ) → 3 < job' a → 3 < d.job a = put_each d.job j x (λ a y. 3 < y → 3 < d.job a) (λ h. absurd (omega arith)) (λ a ne h. h) in
+      subst (λ (z : Progress). IsReached p z job' (set s.views id w)) (early_shows p d j x up low) (reached_stays p (shown p d) d.job job' s.views id v w k.rule.run at fields (order_stays p d.job job' more less))
 
 pub submits_job : (p : Plan) (slots id : ℕ) (m : Mine) (j : ℕ) → MaySubmit p m.0 j → Allows (Kept p) slots id m (job_word j) (λ _. 1) (λ _. submitted (step slots (job_word j) 1 0 none) m 1)
 submits_job p slots id m j may s k deep at fits =
@@ -98,7 +103,7 @@ submits_job p slots id m j may s k deep at fits =
     let o = (r.jobs.own id v at).1 in
     let known = r.knowledge id v at in
     let inside : j < length p.jobs = batch_exists p j may.batch in
-    let zero_word : d.job j ≡ 0 = elim (dec_le 1 (d.job j)) [ yes h ↦ absurd (false≢true (sym may.new ∙ o.submitted_all may.host j may.batch h)) | no h ↦ omega arith ] in
+    let zero_word = submit_finds p s id j v k at may in
     let up : d.job j < 1 = omega arith in (
       w,
       keeps,
@@ -106,7 +111,7 @@ submits_job p slots id m j may s k deep at fits =
       kept_job p s j 1 (set s.views id w) k inside record {
         knowledge = knowledge_stays d (record d { job = put d.job j 1 }) s.views id w (so_job d j 1 (omega arith)) r.knowledge
             (subst (λ (z : ℕ). 1 ≤ z) (sym (put_here d.job j 1)) (omega arith), facts_stay d (record d { job = put d.job j 1 }) v.known (so_job d j 1 (omega arith)) known);
-        run = shown_early p s id j 1 v w k at up (omega arith);
+        run = shown_early p s id j 1 v w k at up (omega arith) refl;
         jobs = jobs_early p d.job (made_of d) (log_of p d) j 1 s.views id v w r.jobs r.ownership.roles at up (omega arith) refl
             record {
               submitted_all = λ h. put_each d.job j 1 (λ b y. is_batch p b ≡ true → 0 < y → has (j ∷ v.submitted) b ≡ true) (λ _ _. has_here j v.submitted) (λ b ne c g. has_there j v.submitted b (o.submitted_all h b c g));
@@ -133,9 +138,8 @@ releases_job p slots id m j may s k deep at fits =
     let w : View = releases v j in
     let o = (r.jobs.own id v at).1 in
     let known = r.knowledge id v at in
-    let least : 1 ≤ d.job j = so_of d v.known (Job j Submitted) known may.submitted in
     let inside : j < length p.jobs = batch_exists p j may.batch in
-    let one_word : d.job j ≡ 1 = elim (dec_le 2 (d.job j)) [ yes h ↦ absurd (false≢true (sym may.new ∙ o.released_all j may.batch may.submitter h)) | no h ↦ omega arith ] in
+    let one_word = release_finds p s id j v k at may in
     let up : d.job j < 2 = omega arith in (
       w,
       keeps,
@@ -143,7 +147,7 @@ releases_job p slots id m j may s k deep at fits =
       kept_job p s j 2 (set s.views id w) k inside record {
         knowledge = knowledge_stays d (record d { job = put d.job j 2 }) s.views id w (so_job d j 2 (omega arith)) r.knowledge
             (subst (λ (z : ℕ). 2 ≤ z) (sym (put_here d.job j 2)) (omega arith), facts_stay d (record d { job = put d.job j 2 }) v.known (so_job d j 2 (omega arith)) known);
-        run = shown_early p s id j 2 v w k at up (omega arith);
+        run = shown_early p s id j 2 v w k at up (omega arith) refl;
         jobs = jobs_early p d.job (made_of d) (log_of p d) j 2 s.views id v w r.jobs r.ownership.roles at up (omega arith) refl
             record {
               submitted_all = λ h. put_each d.job j 2 (λ b y. is_batch p b ≡ true → 0 < y → has v.submitted b ≡ true) (λ c _. o.submitted_all h j c (omega arith)) (λ b ne. o.submitted_all h b);

@@ -4,7 +4,7 @@ use mathlib.Core.Logic.{dite}
 use native.Mathlib.Decide.{ℕ_discrete}
 use Rattle.std.specs.Prelude.{fold}
 use Rattle.std.specs.List.{slice_get, filter_map, cons_option}
-use Rattle.std.proofs.lemmas.Bool.{false≢true, eqb-true, not-true}
+use Rattle.std.proofs.lemmas.Bool.{false_from_ne_true, false≢true, eqb-true, not-true}
 use Rattle.std.proofs.lemmas.List.Elements.{filter_map-append}
 use Rattle.vq_model.specs.declared.script.Command.{Command}
 use Rattle.vq_model.specs.declared.script.CommandLine.{CommandLine}
@@ -12,14 +12,15 @@ use Rattle.vq_model.specs.Memory.{Memory, effect, after_all}
 use Rattle.vq_model.specs.Plan.{Plan, has, commands_of, command_at}
 use Rattle.vq_model.specs.SlowRun.{bytes_after, zeros}
 use Rattle.vq_model.specs.WellFormed.{IsWellFormed}
-use Rattle.vq_model.specs.Machine.{Progress, Step, put, CanProgress, ProgressFrom, after_progress, opening_progress, with_signal, StartStep, ApplyStep, SignalStep, FinishStep, AnswerStep}
+use Rattle.vq_model.specs.Machine.{Progress, State, Step, put, CanStep, RunFrom, after_step, opening_state, with_signal, StartStep, ApplyStep, SignalStep, FinishStep, AnswerStep}
 use Rattle.vq_model.proofs.Lists.{AreDistinct, has_here, has_there, has_cases, distinct_push, pushed}
 use Rattle.vq_model.proofs.Puts.{put_here, put_there}
 use Rattle.vq_model.proofs.Searches.{find_member, find_passes}
 use Rattle.vq_model.proofs.Gets.{get_within}
 use Rattle.vq_model.proofs.Options.{some_of}
 use Rattle.vq_board_laws.specs.Words.{filled}
-use Rattle.vq_board_laws.specs.Rule.{IsReached}
+use Rattle.vq_board_laws.specs.declared.view.View.{View}
+use Rattle.vq_board_laws.specs.Reached.{IsReached}
 
 -- Filled places
 
@@ -74,17 +75,13 @@ erase_has n y (x ∷ xs) h m = by_test (eqb x n) refl (erase_has n y xs h.1) m
       | inr i ↦ let u = f i in (has_there x xs y u.0, u.1)
     ]
 
-unless : (b : Bool) → ¬ (b ≡ true) → b ≡ false
-unless true h = absurd (h refl)
-unless false h = refl
-
 erase_distinct : (n : ℕ) (xs : List ℕ) → AreDistinct xs → AreDistinct (erase n xs)
 erase_distinct n [] h = tt
 erase_distinct n (x ∷ xs) h = by_test (eqb x n) (erase_distinct n xs h.1)
   where
     by_test : (b : Bool) → AreDistinct (erase n xs) → AreDistinct (cond b xs (x ∷ erase n xs))
     by_test true rest = h.1
-    by_test false rest = (unless (has (erase n xs) x) (λ m. false≢true (sym h.0 ∙ (erase_has n x xs h.1 m).0)), rest)
+    by_test false rest = (false_from_ne_true (has (erase n xs) x) (λ m. false≢true (sym h.0 ∙ (erase_has n x xs h.1 m).0)), rest)
 
 erase_length : (n : ℕ) (xs : List ℕ) → length xs ≤ suc (length (erase n xs))
 erase_length n [] = omega arith
@@ -112,27 +109,28 @@ record Applied (p : Plan) (log : List ℕ) : Type 0 where
   distinct : AreDistinct log
   exists : (c : ℕ) → has log c ≡ true → c < length p.commands
 
-applied_after : (p : Plan) → IsWellFormed p → (s : Progress) (e : Step) → Applied p s.applied → CanProgress p s e → Applied p (after_progress p s e).applied
+applied_after : (p : Plan) → IsWellFormed p → (s : State) (e : Step) → Applied p s.progress.applied → CanStep p s e → Applied p (after_step p s e).progress.applied
 applied_after p w s (StartStep j) h can = h
 applied_after p w s (ApplyStep c) h can =
     let job = can.0 in
-    let member = find_member (λ x. not (has s.applied x)) (commands_of p job) c can.1.next in
+    let log : List ℕ = s.progress.applied in
+    let member = find_member (λ x. not (has log x)) (commands_of p job) c can.1.next in
     record {
-      distinct = distinct_push s.applied c h.distinct (not-true (has s.applied c) (find_passes (λ x. not (has s.applied x)) (commands_of p job) c can.1.next));
-      exists = λ x m. elim (pushed s.applied c x m) [ inl t ↦ h.exists x t | inr is ↦ subst (λ (z : ℕ). z < length p.commands) is (command_exists p w job c member) ];
+      distinct = distinct_push log c h.distinct (not-true (has log c) (find_passes (λ x. not (has log x)) (commands_of p job) c can.1.next));
+      exists = λ x m. elim (pushed log c x m) [ inl t ↦ h.exists x t | inr is ↦ subst (λ (z : ℕ). z < length p.commands) is (command_exists p w job c member) ];
     }
-applied_after p w s (SignalStep e) h can = subst (λ (o : Option ℕ). Applied p (with_signal p s e o).applied) (sym can.in_chain) h
+applied_after p w s (SignalStep e) h can = subst (λ (o : Option ℕ). Applied p (with_signal p s.progress e o).applied) (sym can.in_chain) h
 applied_after p w s (FinishStep j) h can = h
-applied_after p w s (AnswerStep j a) h can = absurd can
+applied_after p w s (AnswerStep j a) h can = h
 
-applied_run : (p : Plan) → IsWellFormed p → (s : Progress) (es : List Step) → Applied p s.applied → ProgressFrom p s es → Applied p (fold (after_progress p) s es).applied
+applied_run : (p : Plan) → IsWellFormed p → (s : State) (es : List Step) → Applied p s.progress.applied → RunFrom p s es → Applied p (fold (after_step p) s es).progress.applied
 applied_run p w s [] h r = h
-applied_run p w s (e ∷ es) h r = applied_run p w (after_progress p s e) es (applied_after p w s e h r.0) r.1
+applied_run p w s (e ∷ es) h r = applied_run p w (after_step p s e) es (applied_after p w s e h r.0) r.1
 
 -- while a command isn't applied, the log has room
-pub has_room : (p : Plan) (s : Progress) (j c : ℕ) → IsWellFormed p → IsReached p s → has (commands_of p j) c ≡ true → has s.applied c ≡ false → length s.applied < length p.commands
-has_room p s j c w r member new =
-    let h : Applied p s.applied = subst (λ (z : Progress). Applied p z.applied) r.leads (applied_run p w (opening_progress p) r.steps record { distinct = tt; exists = λ x m. absurd (false≢true m) } r.run) in
+pub has_room : (p : Plan) (s : Progress) (job : ℕ → ℕ) (views : List View) (j c : ℕ) → IsWellFormed p → IsReached p s job views → has (commands_of p j) c ≡ true → has s.applied c ≡ false → length s.applied < length p.commands
+has_room p s job views j c w r member new =
+    let h : Applied p s.applied = subst (λ (z : Progress). Applied p z.applied) r.leads (applied_run p w (opening_state p) r.steps record { distinct = tt; exists = λ x m. absurd (false≢true m) } r.run) in
     let n = pigeons (length p.commands) (c ∷ s.applied) (new, h.distinct)
     (λ x t. elim (has_cases c s.applied x t) [ inl is ↦ subst (λ (z : ℕ). z < length p.commands) is (command_exists p w j c member) | inr m ↦ h.exists x m ]) in
     omega arith

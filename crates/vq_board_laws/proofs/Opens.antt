@@ -1,5 +1,5 @@
 -- The opening keeps the rule, and so does a split of the first pass.
-use Rattle.std.proofs.Common.{◌≡◌, ◌≢◌, ℕ, ◌+◌, ◌*◌, ◌<◌, ◌≤◌, Bool, true, false, List, [], ◌∷◌, ◌++◌, length, map, filter, set, get_or, refl, ap, sym, ◌∙◌, subst, arith, ⊎_elim, length-set, length-append, None}
+use Rattle.std.proofs.Common.{◌≡◌, ◌≢◌, ℕ, ◌+◌, ◌*◌, ◌<◌, ◌≤◌, Bool, true, false, List, [], ◌∷◌, ◌++◌, length, map, set, get_or, refl, ap, sym, ◌∙◌, subst, arith, ⊎_elim, inr, length-set, length-append, None}
 use mathlib.Core.Option.{some, some-injective}
 use lib.ListN.{get_elem?}
 use Rattle.std.proofs.lemmas.Bool.{le-ltb, false≢true}
@@ -8,63 +8,58 @@ use Rattle.atomic_table.specs.Table.{opening, Splits}
 use Rattle.atomic_table.proofs.Lists.{set_here, at_longer}
 use Rattle.vq_model.specs.Checks.{IsLawful}
 use Rattle.vq_model.specs.LoweringFaults.{IsPlan}
+use Rattle.vq_model.specs.Machine.{opening_state, state_after}
 use Rattle.vq_model.specs.Plan.{Plan, has, value, initial, chain}
 use Rattle.vq_model.specs.SlowRun.{zeros, greatest, bytes_after}
+use Rattle.vq_model.proofs.Filters.{filter_empty}
 use Rattle.vq_points.specs.PointWord.{parts}
 use Rattle.vq_board_laws.specs.declared.view.View.{View}
 use Rattle.vq_board_laws.specs.declared.view.LoggedBuffers.{LoggedBuffers}
 use Rattle.vq_board_laws.specs.Roles.{role_count, share_of}
-use Rattle.vq_board_laws.specs.Words.{Words, words_of, word_count, Carries, is_made, made_of, log_of, payload_of}
+use Rattle.vq_board_laws.specs.Words.{Words, words_of, word_count, Carries, made_of, log_of, payload_of, shown}
 use Rattle.vq_board_laws.specs.Knowledge.{AreSo, Each}
 use Rattle.vq_board_laws.specs.Jobs.{OwnsNoJobs}
 use Rattle.vq_board_laws.specs.Log.{Holding}
 use Rattle.vq_board_laws.specs.Points.{OwnShelf, Lists, reference}
 use Rattle.vq_board_laws.specs.References.{refs_to}
+use Rattle.vq_board_laws.specs.Reached.{IsReached, SinceStart, InOrder, answer_told}
 use Rattle.vq_board_laws.specs.Rule.{Kept, fresh}
-use Rattle.vq_board_laws.proofs.Views.{at_inside, at_one, at_end, each_pass, sum_moves, sum_more}
 use Rattle.vq_board_laws.proofs.Frames.{Owners, owners_stay, job_fields, OwnsJobFields}
+use Rattle.vq_board_laws.proofs.JobParts.{runs_none}
 use Rattle.vq_board_laws.proofs.Logs.{nothing_filled}
+use Rattle.vq_board_laws.proofs.MadeWords.{unbound_value}
+use Rattle.vq_board_laws.proofs.PointBits.{no_word}
+use Rattle.vq_board_laws.proofs.Since.{since_nothing}
+use Rattle.vq_board_laws.proofs.Views.{at_inside, at_one, at_end, each_pass, sum_moves, sum_more}
 
 -- Where nothing has happened
 
 idle_jobs : (p : Plan) (job : ℕ → ℕ) (made : ℕ → Bool) (log : List ℕ) (role : ℕ) → ((j : ℕ) → job j ≡ 0) → OwnsNoJobs p job made log role
 idle_jobs p job made log role zeros = (
-  record {
-    begun_all = λ j l h. absurd (let z = zeros j in omega arith);
-    runs_one = λ j e. absurd cc;
-    entered_commands = λ j c e. absurd cc;
-    later_commands = λ j c e. absurd cc;
-    made_signals = λ j c e. absurd cc;
-    later_signals = λ j c e. absurd cc;
-  },
+  runs_none p job made log role [] 0 0 (λ j l h. absurd (let z = zeros j in omega arith)),
   record { submitted_all = λ h j b g. absurd (let z = zeros j in omega arith); released_all = λ j b l g. absurd (let z = zeros j in omega arith) },
 )
 
 idle_holding : (p : Plan) (turn : ℕ) (log : List ℕ) → Holding p turn log None None []
 idle_holding p turn log = record { counted = λ n e. absurd cc; folded = λ n e. absurd cc; job = λ n e. absurd cc; own = λ j e h. absurd cc }
 
-zero_carries : (n e : ℕ) → n ≡ 0 → ¬ Carries n e
-zero_carries n e z c = let h : (parts n).held ≡ true = c.held in let g : (parts n).held ≡ false = ap (λ m. (parts m).held) z in false≢true (sym g ∙ h)
+untold : (p : Plan) (job : ℕ → ℕ) → ((j : ℕ) → job j ≡ 0) → InOrder p job []
+untold p job zeros = record { falling = tt; asks = λ j h. absurd (false≢true h); begun = λ j h. absurd (false≢true h); finished = λ j h. absurd (let z = zeros j in omega arith) }
 
 idle_shelf : (p : Plan) (op point : ℕ → ℕ) (role : ℕ) → ((e : ℕ) → op e ≡ 0) → ((q : ℕ) → point q ≡ 0) → OwnShelf p op point role [] [] [] []
 idle_shelf p op point role ops points = record {
   free = λ q m. absurd (false≢true m);
   taken = λ q e h. absurd h;
-  complete = λ q e l c. absurd (zero_carries (point q) e (points q) c);
+  complete = λ q e l c. absurd (no_word (point q) e (points q) c);
   single = λ q r e h. absurd h;
   bound_all = λ e l h. absurd (h (ops e));
+  bound_only = λ e m. absurd (false≢true m);
   past_all = λ e l h. absurd (let z = ops e in omega arith);
+  past_only = λ e m. absurd (false≢true m);
 }
 
-none_made : (op point : ℕ → ℕ) (e : ℕ) → op e ≡ 0 → is_made op point e ≡ false
-none_made op point e is = rw is refl
-
-none_filtered : (made : ℕ → Bool) (es : List ℕ) → ((e : ℕ) → made e ≡ false) → filter made es ≡ []
-none_filtered made [] h = refl
-none_filtered made (e ∷ es) h = rw (h e) (none_filtered made es h)
-
 none_paid : (p : Plan) (made : ℕ → Bool) → ((e : ℕ) → made e ≡ false) → payload_of p made ≡ initial p
-none_paid p made h = λ i t. ap (λ (es : List ℕ). greatest (initial p t) (map (value p) es)) (none_filtered made (chain p t) h) i
+none_paid p made h = λ i t. ap (λ (es : List ℕ). greatest (initial p t) (map (value p) es)) (filter_empty made (chain p t) (λ e _. h e)) i
 
 -- The opening
 
@@ -76,7 +71,7 @@ opens p ws x plan lawful count nothing none_yet bytes =
     let ops : (e : ℕ) → d.op e ≡ 0 = λ e. nothing (4 * e + 3) in
     let points : (q : ℕ) → d.point q ≡ 0 = λ q. nothing (4 * q + 4) in
     let log : log_of p d ≡ [] = nothing_filled d.place (length p.commands) (λ i. nothing (4 * i + 5)) in
-    let made : (e : ℕ) → made_of d e ≡ false = λ e. none_made d.op d.point e (ops e) in
+    let made : (e : ℕ) → made_of d e ≡ false = λ e. unbound_value d.op d.point e (ops e) in
     let each : (Q : ℕ → View → Type 0) → Q 0 v → Each Q (v ∷ []) = λ Q h i u e. let t = at_one v u i e in subst (λ (z : ℕ × View). Q z.0 z.1) (λ k. (sym t.0 k, t.1 k)) h in
     record {
       plan = plan;
@@ -87,6 +82,9 @@ opens p ws x plan lawful count nothing none_yet bytes =
         run = record {
           steps = [];
           run = tt;
+          answers = each (λ i u. i ≡ 0 → (j : ℕ) → None ≡ answer_told u.told j) (λ h j. refl);
+          since = each (λ i u. SinceStart p (opening_state p) u.runs u.unmade) (since_nothing p (opening_state p) []);
+          told = each (λ i u. i ≡ 0 → InOrder p d.job u.told) (λ h. untold p d.job jobs);
           leads = λ i. record {
             payload = sym (none_paid p (made_of d) made) i;
             started = λ j. sym (le-ltb 2 (d.job j) (let z = jobs j in omega arith)) i;
@@ -99,6 +97,7 @@ opens p ws x plan lawful count nothing none_yet bytes =
           own = each (λ i u. OwnsJobFields p d.job (made_of d) (log_of p d) (job_fields u)) (idle_jobs p d.job (made_of d) (log_of p d) 0 jobs);
           absent = λ role h. idle_jobs p d.job (made_of d) (log_of p d) role jobs;
           waited = λ i j b h. absurd (let z = jobs j in omega arith);
+          lane = λ i j h g l b. absurd (let z = jobs j in omega arith);
           ranged = λ j. let z = jobs j in omega arith;
           applied_begun = λ c h. absurd (false≢true (ap (λ (l : List ℕ). has l c) (sym log) ∙ h));
           made_begun = λ e j h. absurd (false≢true (sym (made e) ∙ h));
@@ -122,10 +121,11 @@ opens p ws x plan lawful count nothing none_yet bytes =
         };
         points = record {
           carried = λ e q h. absurd (let z = ops e in omega arith);
-          home = λ q e c. absurd (zero_carries (d.point q) e (points q) c);
-          past_set = λ q e c. absurd (zero_carries (d.point q) e (points q) c);
-          clear = λ q e c. absurd (zero_carries (d.point q) e (points q) c);
+          home = λ q e c. absurd (no_word (d.point q) e (points q) c);
+          past_set = λ q e c. absurd (no_word (d.point q) e (points q) c);
+          clear = λ q e c. absurd (no_word (d.point q) e (points q) c);
           unmade = λ q h. points q;
+          words = λ q. let z = points q in (omega arith, inr z);
           shelves = each (λ i u. OwnShelf p d.op d.point u.role u.owned u.carrying u.bound u.past) (idle_shelf p d.op d.point 0 ops points);
           absent = λ role h. idle_shelf p d.op d.point role ops points;
         };
@@ -159,6 +159,17 @@ owners_more views id v left right at same none_owned h i k q z u e f m n =
     λ i y g has_q. ⊎_elim (λ a. a) (λ (b : (i ≡ length (set views id left)) × (right ≡ y)). absurd (false≢true (sym (ap (λ (xs : List ℕ). has xs q) (ap (λ (y : View). y.owned) (sym b.1) ∙ none_owned)) ∙ has_q))) (at_end (set views id left) right y i g) in
     stay i k q z u (old i z e m) (old k u f n) m n
 
+reached_more : (p : Plan) (d : Words) (views : List View) (id : ℕ) (v : View) → IsReached p (shown p d) d.job views → get_elem? views id ≡ some v → 0 < length views
+    → IsReached p (shown p d) d.job (set views id record v { given = v.given + 1 } ++ fresh v.plan (v.given + 1) ∷ [])
+reached_more p d views id v r at some_pass = record {
+  steps = r.steps;
+  run = r.run;
+  leads = r.leads;
+  answers = each_more (λ i z. i ≡ 0 → (j : ℕ) → (state_after p r.steps).answer j ≡ answer_told z.told j) views id record v { given = v.given + 1 } (fresh v.plan (v.given + 1)) (r.answers id v at) (λ i u _ e. r.answers i u e) (λ h. absurd (omega arith));
+  since = each_more (λ i z. SinceStart p (state_after p r.steps) z.runs z.unmade) views id record v { given = v.given + 1 } (fresh v.plan (v.given + 1)) (r.since id v at) (λ i u _ e. r.since i u e) (since_nothing p (state_after p r.steps) []);
+  told = each_more (λ i z. i ≡ 0 → InOrder p d.job z.told) views id record v { given = v.given + 1 } (fresh v.plan (v.given + 1)) (r.told id v at) (λ i u _ e. r.told i u e) (λ h. absurd (omega arith));
+}
+
 pub deals : (p : Plan) (id : ℕ) (v : View) → v.role ≡ 0 → v.given + 1 < role_count v.plan → Splits (Kept p) id v (record v { given = v.given + 1 }) (fresh v.plan (v.given + 1))
 deals p id v host some_left s k at =
     let r = k.rule in
@@ -175,11 +186,12 @@ deals p id v host some_left s k at =
       count = k.count;
       rule = record {
         knowledge = each_more (λ i z. AreSo d z.known) s.views id left right (r.knowledge id v at) (λ i z _ e. r.knowledge i z e) tt;
-        run = r.run;
+        run = reached_more p d s.views id v r.run at (omega arith);
         jobs = record {
           own = each_more (λ i z. OwnsJobFields p d.job (made_of d) (log_of p d) (job_fields z)) s.views id left right (r.jobs.own id v at) (λ i z _ e. r.jobs.own i z e) (r.jobs.absent (v.given + 1) (omega arith));
           absent = λ role h. r.jobs.absent role (omega arith);
           waited = r.jobs.waited;
+          lane = r.jobs.lane;
           ranged = r.jobs.ranged;
           applied_begun = r.jobs.applied_begun;
           made_begun = r.jobs.made_begun;
@@ -207,6 +219,7 @@ deals p id v host some_left s k at =
           past_set = r.points.past_set;
           clear = r.points.clear;
           unmade = r.points.unmade;
+          words = r.points.words;
           shelves = each_more (λ i z. OwnShelf p d.op d.point z.role z.owned z.carrying z.bound z.past) s.views id left right (r.points.shelves id v at) (λ i z _ e. r.points.shelves i z e) (r.points.absent (v.given + 1) (omega arith));
           absent = λ role h. r.points.absent role (omega arith);
         };

@@ -11,43 +11,32 @@ use Rattle.vq_model.specs.Plan.{Plan}
 use Rattle.vq_board_laws.specs.declared.view.View.{View}
 use Rattle.vq_board_laws.specs.declared.view.LoggedBuffers.{LoggedBuffers}
 use Rattle.vq_board_laws.specs.declared.view.Fact.{Fact}
-use Rattle.vq_board_laws.specs.declared.view.Fact.TheVariants.{Job, Taken, Bound, BoundTo, Made, Past}
-use Rattle.vq_board_laws.specs.Words.{Words, words_of, turn_word, made_of, log_of}
-use Rattle.vq_board_laws.specs.Knowledge.{IsSo, AreSo}
+use Rattle.vq_board_laws.specs.Words.{Words, words_of, turn_word, made_of, log_of, shown}
+use Rattle.vq_board_laws.specs.Knowledge.{AreSo}
 use Rattle.vq_board_laws.specs.Log.{Log, Holding, AtHome}
 use Rattle.vq_board_laws.specs.Rule.{Rule, Kept}
 use Rattle.vq_board_laws.specs.Steps.{Mine, takes_turn, misses_turn, gives_turn, took_turn, gave_turn}
 use Rattle.vq_board_laws.proofs.Columns.{turn_set}
-use Rattle.vq_board_laws.proofs.Views.{each_pass, other_role}
-use Rattle.vq_board_laws.proofs.Frames.{facts_stay, knowledge_stays, jobs_stay, log_stays, ownership_stays, points_stay, references_stay, job_fields, owner_fields, point_fields}
+use Rattle.vq_board_laws.proofs.Frames.{Homes, facts_stay, so_unread, knowledge_stays, jobs_stay, log_stays, ownership_stays, points_stay, references_stay, job_fields, owner_fields, point_fields}
 use Rattle.vq_board_laws.proofs.Logs.{filled_short}
+use Rattle.vq_board_laws.proofs.Runs.{reached_stays, reached_fields}
 use Rattle.vq_board_laws.proofs.Sizes.{log_sizes}
-
-abbrev Homes : Type 0
-Homes = List (maybe.Option LoggedBuffers)
-
-so_turn : (d : Words) (x : ℕ) (f : Fact) → IsSo d f → IsSo (record d { turn = x }) f
-so_turn d x (Job j s) h = h
-so_turn d x (Taken e) h = h
-so_turn d x (Bound e) h = h
-so_turn d x (BoundTo e q) h = h
-so_turn d x (Made e) h = h
-so_turn d x (Past e) h = h
+use Rattle.vq_board_laws.proofs.Views.{each_pass, other_role}
 
 -- Where the turn changes, what is left to show is of the log and the turn.
 pub keeps_turn : (p : Plan) (s : State LoggedBuffers View) (id x : ℕ) (homes : Homes) (v w : View) → Kept p s → get_elem? s.views id ≡ some v
-    → w.known ≡ v.known → job_fields w ≡ job_fields v → owner_fields w ≡ owner_fields v → point_fields w ≡ point_fields v → w.refs ≡ v.refs
+    → w.known ≡ v.known → job_fields w ≡ job_fields v → owner_fields w ≡ owner_fields v → point_fields w ≡ point_fields v → w.refs ≡ v.refs → reached_fields w ≡ reached_fields v
     → Log p (words_of s.words).job (words_of s.words).place x (log_of p (words_of s.words)) homes (set s.views id w)
     → Kept p record { words = set s.words turn_word x; homes = homes; views = set s.views id w }
-keeps_turn p s id x homes v w k at known jobs owner points refs log =
+keeps_turn p s id x homes v w k at known jobs owner points refs reached log =
     let d : Words = words_of s.words in
     let r = k.rule in record {
       plan = k.plan;
       lawful = k.lawful;
       count = length-set s.words turn_word x ∙ k.count;
       rule = subst (λ (e : Words). Rule p e homes (set s.views id w)) (sym (turn_set s.words x (let c = k.count in omega arith))) record {
-        knowledge = knowledge_stays d (record d { turn = x }) s.views id w (so_turn d x) r.knowledge (facts_stay d (record d { turn = x }) w.known (so_turn d x) (subst (λ (fs : List Fact). AreSo d fs) (sym known) (r.knowledge id v at)));
-        run = r.run;
+        knowledge = knowledge_stays d (record d { turn = x }) s.views id w (so_unread d d.place x d.count) r.knowledge (facts_stay d (record d { turn = x }) w.known (so_unread d d.place x d.count) (subst (λ (fs : List Fact). AreSo d fs) (sym known) (r.knowledge id v at)));
+        run = reached_stays p (shown p d) d.job d.job s.views id v w r.run at reached (λ told o. o);
         jobs = jobs_stay p d.job (made_of d) (log_of p d) s.views id v w r.jobs at jobs;
         log = log;
         ownership = ownership_stays p d.count s.views id v w r.ownership at owner;
@@ -125,14 +114,14 @@ takes_memory p slots id m j runs turnless s k deep at fits =
       takes_turn v x.filled x.buffers,
       takes 0 x,
       subst (λ (hs : Homes). get_elem? hs 0 ≡ some (some x)) (sym home.home) refl,
-      keeps_turn p s id (suc j) (set s.homes 0 none) v (takes_turn v x.filled x.buffers) k at refl refl refl refl refl (taken_log p s id j v k at runs turnless is),
+      keeps_turn p s id (suc j) (set s.homes 0 none) v (takes_turn v x.filled x.buffers) k at refl refl refl refl refl refl (taken_log p s id j v k at runs turnless is),
       ((λ _. (x, refl, room, sizes)), λ ne. absurd (ne is)),
     ))
     (λ ne. (
       misses_turn v n,
       keeps,
       tt,
-      keeps_turn p s id n s.homes v (misses_turn v n) k at refl refl refl refl refl (log_stays p d.job d.place n (log_of p d) s.homes s.views id v (misses_turn v n) k.rule.log at refl),
+      keeps_turn p s id n s.homes v (misses_turn v n) k at refl refl refl refl refl refl (log_stays p d.job d.place n (log_of p d) s.homes s.views id v (misses_turn v n) k.rule.log at refl),
       ((λ is. absurd (ne is)), λ _. refl),
     ))
 
@@ -146,7 +135,7 @@ gives_held p slots id v x one held bytes s k deep at fits =
       gives_turn v,
       gives,
       tt,
-      keeps_turn p s id 0 (set s.homes 0 (some x)) v (gives_turn v) k at refl refl refl refl refl record {
+      keeps_turn p s id 0 (set s.homes 0 (some x)) v (gives_turn v) k at refl refl refl refl refl refl record {
         later = k.rule.log.later;
         free = λ h. record { value = x; home = one_home s.homes (some x) (deep ∙ one); filled = own.counted x.filled held; bytes = bytes ∙ own.folded x.filled held };
         taken = λ i h. absurd (omega arith);

@@ -48,6 +48,9 @@ pub record Jobs (p : Plan) (job : ℕ → ℕ) (made : ℕ → Bool) (log : List
   -- the host steps before a submitted batch are finished
   pub waited : (i j : ℕ) → is_batch p j ≡ true → 0 < job j → i < j → is_host_step p i ≡ true →
       3 < job i
+  -- the host's steps run one after another
+  pub lane : (i j : ℕ) → is_host_step p i ≡ true → is_host_step p j ≡ true → i < j → 2 < job j →
+      3 < job i
   pub ranged : (j : ℕ) → job j ≤ 4
   -- what is applied or made is of a job that has begun
   pub applied_begun : (c : ℕ) → has log c ≡ true →

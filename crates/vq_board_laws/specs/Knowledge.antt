@@ -1,8 +1,11 @@
 -- What a pass knows: facts that stay so. This project's own.
 use Rattle.std.specs.Prelude.{ℕ, zero, suc, List, [], ◌∷◌}
-use Rattle.std.specs.Prelude.{◌≡◌, ◌≢◌, ◌≤◌, ◌+◌, ◌⊎◌, true}
+use Rattle.std.specs.Prelude.{◌≡◌, ◌≢◌, ◌≤◌, ◌+◌, ◌⊎◌, true, Some}
 use mathlib.Core.Option.{some}
 use lib.ListN.{get_elem?}
+use Rattle.vq_model.specs.Plan.{Plan, job_of, chain_of, initial, value}
+use Rattle.vq_model.specs.Sure.{IsSure}
+use Rattle.vq_model.specs.Windows.{IsMadeWith, IsGreatest}
 use Rattle.vq_board_laws.specs.declared.view.View.{View}
 use Rattle.vq_board_laws.specs.declared.view.JobState.{JobState}
 use Rattle.vq_board_laws.specs.declared.view.JobState.TheVariants.{Waiting, Submitted, Released, Started, Finished}
@@ -42,6 +45,27 @@ AreSo d (f ∷ fs) = IsSo d f × AreSo d fs
 abbrev pub Knows : List Fact → Fact → Type 0
 Knows [] f = ⊥
 Knows (g ∷ fs) f = (g ≡ f) ⊎ Knows fs f
+
+-- The operation is known made: a step showed it made or completed, it is made with one that is known
+-- made, or its job, or one for which it is sure, is known finished.
+pub data KnowsMade (p : Plan) (known : List Fact) : ℕ → Type 0 where
+  shown : {e : ℕ} → Knows known (Made e) → KnowsMade p known e
+  completed : {e : ℕ} → Knows known (Past e) → KnowsMade p known e
+  made_with : {e f : ℕ} → KnowsMade p known e → IsMadeWith p e f → KnowsMade p known f
+  of_finished : {e j : ℕ} → Knows known (Job j Finished) → job_of p e ≡ Some j →
+      KnowsMade p known e
+  before_finished : {e j : ℕ} → Knows known (Job j Finished) → IsSure p e j → KnowsMade p known e
+
+-- what a chain's payload has come to, as far as is known: its initial value, or what an operation of
+-- it that is known made sets
+abbrev pub IsKnownValue : Plan → List Fact → ℕ → ℕ → Type 0
+IsKnownValue p known t n =
+    (n ≡ initial p t)
+    ⊎ ((e : ℕ) × (chain_of p e ≡ Some t) × (value p e ≡ n) × KnowsMade p known e)
+
+-- the payload that is known: the greatest of these
+abbrev pub IsKnownPayload : Plan → List Fact → ℕ → ℕ → Type 0
+IsKnownPayload p known t n = IsGreatest (IsKnownValue p known t) n
 
 -- what holds of each pass, at its place in the list
 abbrev pub Each : (ℕ → View → Type 0) → List View → Type 0

@@ -1,6 +1,8 @@
 pub mod Roles
 pub mod Words
 pub mod Knowledge
+pub mod Reached
+pub mod RunLaws
 pub mod Jobs
 pub mod Log
 pub mod Ownership
@@ -8,5 +10,9 @@ pub mod Points
 pub mod References
 pub mod Rule
 pub mod May
+pub mod MayPoints
+pub mod Shows
 pub mod Steps
+pub mod PointSteps
 pub mod Ends
+pub mod MachineSteps

@@ -1,6 +1,6 @@
 -- Points on the board, and the operations that they carry. This project's own.
 use Rattle.std.specs.Prelude.{ℕ, List, [], ◌∷◌, ◌≡◌, ◌≢◌, ◌≤◌}
-use Rattle.std.specs.Prelude.{◌+◌, ◌⊎◌, length, true, false, Some}
+use Rattle.std.specs.Prelude.{◌+◌, ◌<◌, ◌^◌, ◌⊎◌, length, true, false, Some}
 use Rattle.vq_model.specs.Plan.{Plan, has, chain_of}
 use Rattle.vq_points.specs.PointWord.{parts}
 use Rattle.vq_board_laws.specs.declared.view.View.{View}
@@ -35,7 +35,13 @@ pub record OwnShelf (p : Plan) (op point : ℕ → ℕ) (role : ℕ) (owned : Li
       Lists carrying (reference q e)
   pub single : (q r e : ℕ) → Lists carrying (reference q e) → Lists carrying (reference r e) → q ≡ r
   pub bound_all : (e : ℕ) → IsOfShelf p e role → op e ≢ 0 → has bound e ≡ true
+  pub bound_only : (e : ℕ) → has bound e ≡ true → IsOfShelf p e role × (op e ≢ 0)
   pub past_all : (e : ℕ) → IsOfShelf p e role → op e ≡ 1 → has past e ≡ true
+  pub past_only : (e : ℕ) → has past e ≡ true → op e ≡ 1
+
+-- the word of a point: no bit above its parts is set, and one that isn't held is 0
+abbrev pub IsWord : ℕ → Type 0
+IsWord n = (n < 2 ^ 50) × (((parts n).held ≡ true) ⊎ (n ≡ 0))
 
 pub record Points (p : Plan) (op point : ℕ → ℕ) (count : ℕ) (views : List View) : Type 0 where
   -- an operation that is bound is carried by its point
@@ -46,5 +52,6 @@ pub record Points (p : Plan) (op point : ℕ → ℕ) (count : ℕ) (views : Lis
   pub past_set : (q e : ℕ) → Carries (point q) e → op e ≡ 1 → (parts (point q)).signaled ≡ true
   pub clear : (q e : ℕ) → Carries (point q) e → op e ≡ 0 → (parts (point q)).signaled ≡ false
   pub unmade : (q : ℕ) → count ≤ q → point q ≡ 0
+  pub words : (q : ℕ) → IsWord (point q)
   pub shelves : Each (λ i v. OwnShelf p op point v.role v.owned v.carrying v.bound v.past) views
   pub absent : (role : ℕ) → length views ≤ role → OwnShelf p op point role [] [] [] []

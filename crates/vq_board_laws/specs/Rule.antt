@@ -5,29 +5,23 @@ use mathlib.Core.Option as maybe
 use Rattle.atomic_table.specs.Table.{State}
 use Rattle.vq_model.specs.Checks.{IsLawful}
 use Rattle.vq_model.specs.LoweringFaults.{IsPlan}
-use Rattle.vq_model.specs.Machine.{Progress, Step, ProgressRun, progress_after}
 use Rattle.vq_model.specs.Plan.{Plan}
 use Rattle.vq_board_laws.specs.declared.view.View.{View}
 use Rattle.vq_board_laws.specs.declared.view.LoggedBuffers.{LoggedBuffers}
 use Rattle.vq_board_laws.specs.Words.{Words, words_of, word_count, made_of, log_of, shown}
 use Rattle.vq_board_laws.specs.Knowledge.{Knowledge}
+use Rattle.vq_board_laws.specs.Reached.{IsReached}
 use Rattle.vq_board_laws.specs.Jobs.{Jobs}
 use Rattle.vq_board_laws.specs.Log.{Log}
 use Rattle.vq_board_laws.specs.Ownership.{Ownership}
 use Rattle.vq_board_laws.specs.Points.{Points}
 use Rattle.vq_board_laws.specs.References.{References}
 
--- A run of the machine leads to this progress. It has no answers, and a job may finish unanswered.
-pub record IsReached (p : Plan) (s : Progress) : Type 0 where
-  pub steps : List Step
-  pub run : ProgressRun p steps
-  pub leads : progress_after p steps ≡ s
-
 -- the seven parts of the rule
 pub record Rule (p : Plan) (d : Words) (homes : List (maybe.Option LoggedBuffers)) (views : List View)
     : Type 0 where
   pub knowledge : Knowledge d views
-  pub run : IsReached p (shown p d)
+  pub run : IsReached p (shown p d) d.job views
   pub jobs : Jobs p d.job (made_of d) (log_of p d) views
   pub log : Log p d.job d.place d.turn (log_of p d) homes views
   pub ownership : Ownership p d.count views
@@ -62,5 +56,7 @@ fresh p role =
       bound = [];
       past = [];
       refs = [];
+      unmade = [];
+      told = [];
       steps = [];
     }

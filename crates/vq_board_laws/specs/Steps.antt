@@ -47,6 +47,7 @@ starts v j =
       runs = Some j;
       entered = 0;
       signaled = 0;
+      unmade = [];
       steps = own_step (job_word j) 3 ∷ v.steps;
     }
 

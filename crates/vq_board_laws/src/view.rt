@@ -1,5 +1,6 @@
 //! What a pass of the board knows and has done, as contracts see it.
 use std::collections::LinkedList;
+use vq_model::plan::Answer;
 use vq_spec::Plan;
 use vq_transfer::Buffers;
 
@@ -14,6 +15,17 @@ pub enum JobState {
     Released,
     Started,
     Finished,
+}
+
+/// What the word of an operation says. Source: this project's rule.
+#[derive(Clone, Copy, Debug, PartialEq, Eq)]
+pub enum OpState {
+    /// It isn't bound to a point yet.
+    Unbound,
+    /// It is bound to a point, whose number is below the plan's number of operations.
+    Bound { point: u32 },
+    /// It is completed.
+    Past,
 }
 
 /// What a pass may know. No value of it is made. Source: this project's rule.
@@ -37,6 +49,13 @@ pub enum Fact {
 pub struct Reference {
     pub point: u32,
     pub op: u32,
+}
+
+/// A host step with the answer that the host gave it. Source: this project's rule.
+#[derive(Clone, Copy)]
+pub struct Told {
+    pub job: u32,
+    pub answer: Answer,
 }
 
 /// An atomic step of a pass: on which word it was, and the number found there, or at a store the
@@ -78,6 +97,10 @@ pub struct View {
     pub past: LinkedList<u32>,
     /// The references that it holds.
     pub refs: LinkedList<Reference>,
+    /// The operations that its steps showed unmade since it started the job that it runs.
+    pub unmade: LinkedList<u32>,
+    /// The host steps that it answered, with the last one first.
+    pub told: LinkedList<Told>,
     /// Its steps, with the last one first. No part of the rule reads them.
     pub steps: LinkedList<OwnStep>,
 }
