@@ -13,7 +13,7 @@ use Rattle.vq_model.specs.Ranges.{Fits}
 use Rattle.vq_model.proofs.Gets.{get-append, get-append_left, get-map}
 use Rattle.vq_model.proofs.Options.{some_of}
 use Rattle.vq_reading_laws.proofs.Cited.{read_valid}
-use Rattle.vq_board.specs.Copies.{command_of, AllFit}
+use Rattle.vq_board.specs.Copied.{command_of, AllFit}
 
 pub get_is : {A : Type 0} (xs : List A) (i : ℕ) (x : A) → i < length xs → x ≡ get_or xs i x → slice_get xs i ≡ Some x
 get_is [] i x l e = absurd (omega arith)

@@ -1,6 +1,9 @@
 pub mod Cited
 mod Copied
 mod Dealt
+mod Firsts
 mod Hands
 mod Limits
+mod OpNumbers
+mod Placed
 mod Shared

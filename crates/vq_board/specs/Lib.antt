@@ -1,3 +1,5 @@
-pub mod Copies
+pub mod Copied
+pub mod Firsts
 pub mod Hands
 pub mod Named
+pub mod Answers

@@ -2,6 +2,7 @@
 use Rattle.std.specs.Prelude.{ℕ, List, ◌≡◌, ◌+◌, Some, map, length}
 use Rattle.std.specs.List.{slice_get, range_with_len}
 use Rattle.vq_model.specs.Plan.{Plan}
+use Rattle.vq_board_laws.specs.declared.view.Told.{Told}
 use Rattle.vq_board_laws.specs.declared.view.View.{View}
 use Rattle.vq_board_laws.specs.declared.view.Role.{Role}
 use Rattle.vq_board_laws.specs.declared.view.Role.TheVariants.{Host, Submit, Ring, Shelf}
@@ -21,6 +22,10 @@ view x = x.seat.me.0
 
 abbrev pub role_of : Pass → Role
 role_of x = x.role
+
+-- of each chain, how many of the first operations its own steps showed made
+abbrev pub counts_of : Pass → List ℕ
+counts_of x = x.first_made.items
 
 -- the pass is one of the board's
 abbrev pub IsOf : Board → Pass → Type 0
@@ -54,9 +59,13 @@ pub record AreDealt (b : Board) (xs : Passes) : Type 0 where
       AreFresh b xs.rings.items (map Ring (range_with_len 0 (length (plan_of b).script.queues)))
   pub shelves : AreFresh b xs.shelves.items (map Shelf (range_with_len 0 (length (plan_of b).chains)))
 
--- the plan of a board that is closed, and the bytes of its buffers
+-- the plan of a board that is closed, and the bytes of its buffers,
 abbrev pub plan_of_closed : Closed → Plan
 plan_of_closed c = c.plan.value
+
+-- and the answers that the host told
+abbrev pub told_of : Closed → List Told
+told_of c = (view c.host.value).told
 
 abbrev pub bytes_of : Closed → Memory
 bytes_of c = c.buffers

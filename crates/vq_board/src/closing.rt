@@ -1,41 +1,52 @@
 //! The end of a board.
 ghost use Rattle.std.specs.Prelude.{◌≡◌};
 ghost use Rattle.vq_model.specs.SlowRun.{final};
-ghost use Rattle.vq_board_laws.specs.Ends.{KnowsAllFinished, IsFoldOfRun};
-ghost use Rattle.vq_board.specs.Named.{plan_of, view, IsOf, plan_of_closed, bytes_of};
+ghost use Rattle.vq_board_laws.specs.Ends.{KnowsAllFinished, IsFoldOfRun, IsToldOutput};
+ghost use Rattle.vq_board.specs.Named.{plan_of, view, IsOf, plan_of_closed, told_of, bytes_of};
 
 use crate::parts::{Board, Closed, Pass};
+use std::snapshot::Snapshot;
 use vq_board_laws::view::LoggedBuffers;
-use vq_run_laws::laws::one_result;
+use vq_run_laws::laws::{one_result, run_gives_output};
 use vq_transfer::Buffers;
 
 impl Board {
-    /// Ends the board, where the pass knows every job finished. It takes no memory.
+    /// Ends the board, where the host's pass knows every job finished. It takes no memory.
     ///
     /// Source: this project's rule.
     pub fn close(self, host: Pass) -> Closed
         requires board { IsOf self host }
+        requires host { (view host).role ≡ 0 }
         requires all { KnowsAllFinished (plan_of self) (view host) }
         ensures plan { plan_of_closed result ≡ plan_of self }
-        ensures folded { IsFoldOfRun (plan_of self) (bytes_of result) }
+        ensures told { told_of result ≡ (view host).told }
+        ensures folded { IsFoldOfRun (plan_of self) (told_of result) (bytes_of result) }
         ensures whole { bytes_of result ≡ final (plan_of self) }
+        ensures output { IsToldOutput (plan_of self) (told_of result) (bytes_of result) }
     {
         let Board {
             table,
-            commands: _,
+            copies: _,
             plan,
         } = self;
+        let host_now = Snapshot::of(&host);
         let Pass {
             seat,
             role: _,
             runs: _,
+            first_made: _,
         } = host;
-        // does nothing; its contract says that all runs leave the same bytes
+        // these do nothing; their contracts say that all runs leave the same bytes, and an output
         one_result();
+        run_gives_output();
         let mut closed = table.close_with(seat);
         let LoggedBuffers { buffers, filled: _ } = closed.take(0);
         closed.free();
-        Closed { buffers, plan }
+        Closed {
+            buffers,
+            plan,
+            host: host_now,
+        }
     }
 }
 

@@ -23,21 +23,23 @@ fn is_threaded(script: &Script, queue: u32) -> bool
 }
 
 impl Board {
-    /// Cuts the pass of the next role off the host's.
-    fn cut(&self, host: &mut Pass, role: Role) -> Pass
+    /// Cuts the pass of the next role off the host's. The error is want of memory.
+    fn cut(&self, alloc: Global, host: &mut Pass, role: Role) -> Result<Pass, AllocError>
         requires host { IsCut self.now host.old (view host.old).given }
         requires next { role_number (plan_of self.now) role ≡ (view host.old).given + 1 }
         requires within { role_number (plan_of self.now) role < role_count (plan_of self.now) }
-        ensures host { IsCut self.now host.new ((view host.old).given + 1) }
-        ensures fresh { IsFresh self.now result }
-        ensures role { role_of result ≡ role }
+        ensures host { OnOk result (IsCut self.now host.new ((view host.old).given + 1)) }
+        ensures fresh { IfOk result (λ x. IsFresh self.now x) }
+        ensures role { IfOk result (λ x. role_of x ≡ role) }
     {
+        let first_made = vec![in alloc; 0u32; host.first_made.len()]?;
         let seat = self.table.shared.split_seat::<Deal>(&mut host.seat);
-        Pass {
+        Ok(Pass {
             seat,
             role,
             runs: None,
-        }
+            first_made,
+        })
     }
 
     /// The passes of the threaded queues.
@@ -59,7 +61,7 @@ impl Board {
         let mut passes = Vec::with_capacity(alloc, queues as usize)?;
         for queue in 0..queues {
             if is_threaded(script, queue) {
-                passes.push(self.cut(host, Role::Submit(queue)))?;
+                passes.push(self.cut(alloc, host, Role::Submit(queue))?)?;
             }
         }
         Ok(passes)
@@ -81,7 +83,7 @@ impl Board {
     {
         let mut passes = Vec::with_capacity(alloc, queues as usize)?;
         for queue in 0..queues {
-            passes.push(self.cut(host, Role::Ring(queue)))?;
+            passes.push(self.cut(alloc, host, Role::Ring(queue))?)?;
         }
         Ok(passes)
     }
@@ -104,7 +106,7 @@ impl Board {
     {
         let mut passes = Vec::with_capacity(alloc, chains as usize)?;
         for chain in 0..chains {
-            passes.push(self.cut(host, Role::Shelf(chain)))?;
+            passes.push(self.cut(alloc, host, Role::Shelf(chain))?)?;
         }
         Ok(passes)
     }

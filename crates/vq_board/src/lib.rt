@@ -1,15 +1,19 @@
-//! The board: jobs, the log of their commands and the turn over the buffers, as words that actors
-//! change in single atomic steps. Each actor steps with a pass, from its own thread.
+//! The board: jobs, signal operations and points, the log of commands and the turn over the buffers, as
+//! words that actors change in single atomic steps. Each actor steps with a pass, from its own thread.
 #![tactic(auto)]
 
+mod answers;
 mod closing;
-mod commands;
+mod copies;
 mod dealing;
 mod jobs;
 mod memory;
+mod notes;
 mod opening;
+mod ops;
 mod parts;
 mod plays;
+mod points;
 
-pub use parts::{Board, Closed, Held, Pass, Passes};
-pub use vq_board_laws::view::{JobState, Role};
+pub use parts::{Board, Closed, Held, InUse, Lost, Pass, Passes, Referred, Unbound};
+pub use vq_board_laws::view::{JobState, OpState, Role};

@@ -64,7 +64,7 @@ impl Board {
         let _ = held;
         let memory = pass.seat.slot_mut(&self.table.shared, 0);
         let filled = memory.filled;
-        apply(memory, self.commands.command(command));
+        apply(memory, self.copies.command(command));
         self.table.shared.store::<Enter>(
             &mut pass.seat,
             4 * filled as usize + 5,

@@ -5,11 +5,12 @@ ghost use Rattle.vq_model.specs.LoweringFaults.{IsPlan};
 ghost use Rattle.vq_board_laws.specs.Words.{word_count};
 ghost use Rattle.vq_board.specs.Named.{plan_of, IsCut, AreDealt};
 
-use crate::commands::Commands;
+use crate::copies::Copies;
 use crate::parts::{Board, Pass, Passes};
 use atomic_table::Table;
 use std::alloc::{AllocError, Global};
 use std::snapshot::Snapshot;
+use vq_board_laws::laws::runs_keep;
 use vq_board_laws::view::{LoggedBuffers, Role};
 use vq_order::Ordered;
 use vq_spec::Plan;
@@ -19,6 +20,7 @@ use vq_transfer::Buffers;
 fn word_count(plan: &Plan) -> usize
     ensures words { result ≡ word_count plan.now }
     ensures few { length plan.now.commands < 2 ^ 32 }
+    ensures few_ops { length plan.now.ops < 2 ^ 32 }
 {
     let most = plan.jobs().max(plan.ops().max(plan.commands()));
     4 * (most as usize + 1) + 2
@@ -32,9 +34,12 @@ impl Board {
         ensures plan { IfOk result (λ t. plan_of t.0 ≡ plan.now) }
         ensures host { IfOk result (λ t. IsCut t.0 t.1 0) }
     {
+        // does nothing; its contract says what all runs of the plan keep
+        runs_keep();
+        let first_made = vec![in alloc; 0u32; plan.chains() as usize]?;
         let words = vec![in alloc; 0u64; word_count(plan)]?;
-        let commands = Commands::of(alloc, plan)?;
-        let buffers = Buffers::new(alloc, commands.sizes())?;
+        let copies = Copies::of(alloc, plan)?;
+        let buffers = Buffers::new(alloc, copies.sizes())?;
         let mut slots = Vec::new(alloc);
         slots.push(LoggedBuffers { buffers, filled: 0 })?;
         let Ok((table, seat)) = Table::new(alloc, words.as_slice(), slots, plan) else {
@@ -42,23 +47,23 @@ impl Board {
         };
         let board = Board {
             table,
-            commands,
+            copies,
             plan: Snapshot::of(plan),
         };
         let host = Pass {
             seat,
             role: Role::Host,
             runs: None,
+            first_made,
         };
         Ok((board, host))
     }
 
-    /// The board of a plan without signal operations, with its passes. The error is want of memory;
+    /// The board of a plan, with its passes. The error is want of memory;
     /// no other call takes memory.
     ///
     /// Source: this project's rule.
     pub fn new(alloc: Global, ordered: &Ordered) -> Result<(Board, Passes), AllocError>
-        requires without_ops { length ordered.now.ops ≡ 0 }
         ensures plan { IfOk result (λ t. plan_of t.0 ≡ ordered.now) }
         ensures passes { IfOk result (λ t. AreDealt t.0 t.1) }
     {

@@ -1,11 +1,14 @@
 //! The board and its passes.
-ghost use Rattle.std.specs.Prelude.{◌≡◌, ◌^◌, ◌<◌, length, map};
+ghost use Rattle.std.specs.Prelude.{ℕ, ◌≡◌, ◌^◌, ◌<◌, length, map};
+ghost use Rattle.vq_model.specs.Plan.{chain};
 ghost use Rattle.vq_model.specs.SlowRun.{final};
+ghost use Rattle.vq_board_laws.specs.RunLaws.{RunLaws, run_laws_prop};
 ghost use Rattle.vq_board_laws.specs.Words.{word_count};
-ghost use Rattle.vq_board.specs.Copies.{command_of};
+ghost use Rattle.vq_board.specs.Copied.{command_of};
+ghost use Rattle.vq_board.specs.Firsts.{AreCounted, AreCounted-prop, StandInChains};
 ghost use Rattle.vq_board.specs.Hands.{InHand, Hand-prop};
 
-use crate::commands::Commands;
+use crate::copies::Copies;
 use atomic_table::{Seat, Table};
 use std::alloc::Global;
 use std::snapshot::Snapshot;
@@ -14,31 +17,66 @@ use vq_board_laws::view::{LoggedBuffers, Role, View};
 use vq_spec::Plan;
 use vq_transfer::Buffers;
 
-/// The words and the buffers of a plan. Job j has the word 4 j + 2 and place i of the log the word
-/// 4 i + 5; operations and points have the words between them. The word 0 is the turn over the
-/// buffers. Source: this project's rule.
+/// The words and the buffers of a plan. Job j has the word 4 j + 2, operation e the word 4 e + 3, point
+/// q the word 4 q + 4 and place i of the log the word 4 i + 5. The word 0 is the turn over the buffers,
+/// and the word 1 the count of points. Source: this project's rule.
 #[derive(Drop)]
 pub struct Board {
     pub(crate) table: Table<LoggedBuffers, View, Plan, Ruled, Global>,
-    pub(crate) commands: Commands,
+    pub(crate) copies: Copies,
     pub(crate) plan: Snapshot<Plan>,
     ghost sized: { table.shared.table_id.words ≡ word_count table.shared.key },
     ghost one_slot: { table.shared.table_id.slots ≡ 1 },
     ghost planned: { plan.value ≡ table.shared.key },
     ghost few: { length table.shared.key.commands < 2 ^ 32 },
-    ghost copied: { commands.commands ≡ map command_of table.shared.key.commands },
-    ghost sizes: { commands.sizes ≡ table.shared.key.sizes },
+    ghost few_ops: { length table.shared.key.ops < 2 ^ 32 },
+    ghost laws: { RunLaws table.shared.key } by { run_laws_prop table.shared.key },
+    ghost copied: { copies.commands ≡ map command_of table.shared.key.commands },
+    ghost sizes: { copies.sizes ≡ table.shared.key.sizes },
+    ghost ops: { copies.ops ≡ table.shared.key.ops },
+    ghost placed: { StandInChains table.shared.key },
+    ghost short: { (t : ℕ) → length (chain table.shared.key t) < 2 ^ 32 },
 }
 
-/// What one actor knows of a board and has done on it. It takes the actor's steps. Source: this
-/// project's rule.
+/// What one actor knows of a board and has done on it. It takes the actor's steps. Of each chain it
+/// counts how many of the first operations its own steps showed made. Source: this project's rule.
 #[derive(Drop)]
 pub struct Pass {
     pub(crate) seat: Seat<LoggedBuffers, View>,
     pub(crate) role: Role,
     pub(crate) runs: Option<u32>,
+    pub(crate) first_made: Vec<u32>,
     ghost running: { runs ≡ seat.me.0.runs },
     ghost hand: { InHand seat.me } by { Hand-prop seat.me.0.held seat.me.0.bytes seat.me.0.plan seat.me.1 },
+    ghost firsts: { AreCounted first_made.items seat.me } by { AreCounted-prop first_made.items seat.me },
+}
+
+/// An operation isn't bound to a point yet. Source: this project's rule.
+#[derive(Clone, Copy, Debug, PartialEq, Eq)]
+pub struct Unbound;
+
+/// The word of a point was changed by others meanwhile: this was found. Source: this project's rule.
+#[derive(Clone, Copy, Debug, PartialEq, Eq)]
+pub struct Lost {
+    pub found: u64,
+}
+
+/// The point has a reference, or its word was changed by others meanwhile: this was found. Source:
+/// this project's rule.
+#[derive(Clone, Copy, Debug, PartialEq, Eq)]
+pub struct InUse {
+    pub found: u64,
+}
+
+/// What came of the wish for a reference. Source: this project's rule.
+#[derive(Clone, Copy, Debug, PartialEq, Eq)]
+pub enum Referred {
+    /// The pass holds it.
+    Held,
+    /// The point carries another operation, or none: this word was found.
+    MovedOn { found: u64 },
+    /// The word was changed by others meanwhile, and still carries the operation: this was found.
+    Lost { found: u64 },
 }
 
 /// The turn over the buffers. Source: this project's rule.
@@ -58,10 +96,12 @@ pub struct Passes {
 }
 
 /// What a board leaves once every job is finished: the buffers, with the bytes of the slow run of its
-/// plan. Source: this project's rule.
+/// plan. Clauses also see the host's pass as it was, with the answers that it told. Source: this
+/// project's rule.
 #[derive(Drop)]
 pub struct Closed {
     pub(crate) buffers: Buffers,
     pub(crate) plan: Snapshot<Plan>,
+    pub(crate) host: Snapshot<Pass>,
     ghost whole: { buffers ≡ final plan.value },
 }

@@ -3,6 +3,8 @@ ghost use Rattle.std.specs.Prelude.{◌+◌};
 ghost use Rattle.vq_board_laws.specs.Rule.{fresh};
 ghost use Rattle.vq_board_laws.specs.Steps.{looked, submitted, released, started, finished};
 ghost use Rattle.vq_board_laws.specs.Steps.{took_turn, gave_turn, entered};
+ghost use Rattle.vq_board_laws.specs.PointSteps.{recalled, saw, made_point, assigned, bound_op, signaled};
+ghost use Rattle.vq_board_laws.specs.PointSteps.{completed, retired, referred, unreferred, answered};
 
 use atomic_table::{Play, Split};
 use vq_board_laws::view::{LoggedBuffers, View};
@@ -53,6 +55,72 @@ pub(crate) struct Enter;
 
 impl Play<LoggedBuffers, View> for Enter {
     ghost then = { entered };
+}
+
+pub(crate) struct Recall;
+
+impl Play<LoggedBuffers, View> for Recall {
+    ghost then = { recalled };
+}
+
+pub(crate) struct See;
+
+impl Play<LoggedBuffers, View> for See {
+    ghost then = { saw };
+}
+
+pub(crate) struct Make;
+
+impl Play<LoggedBuffers, View> for Make {
+    ghost then = { made_point };
+}
+
+pub(crate) struct Assign;
+
+impl Play<LoggedBuffers, View> for Assign {
+    ghost then = { assigned };
+}
+
+pub(crate) struct Bind;
+
+impl Play<LoggedBuffers, View> for Bind {
+    ghost then = { bound_op };
+}
+
+pub(crate) struct Signal;
+
+impl Play<LoggedBuffers, View> for Signal {
+    ghost then = { signaled };
+}
+
+pub(crate) struct Complete;
+
+impl Play<LoggedBuffers, View> for Complete {
+    ghost then = { completed };
+}
+
+pub(crate) struct Retire;
+
+impl Play<LoggedBuffers, View> for Retire {
+    ghost then = { retired };
+}
+
+pub(crate) struct Refer;
+
+impl Play<LoggedBuffers, View> for Refer {
+    ghost then = { referred };
+}
+
+pub(crate) struct Unrefer;
+
+impl Play<LoggedBuffers, View> for Unrefer {
+    ghost then = { unreferred };
+}
+
+pub(crate) struct Answers;
+
+impl Play<LoggedBuffers, View> for Answers {
+    ghost then = { answered };
 }
 
 /// A fresh pass is cut off the first one.

@@ -4,6 +4,7 @@ use Rattle.vq_model.specs.Memory.{effect}
 use Rattle.vq_model.specs.Plan.{Plan}
 use Rattle.vq_board_laws.specs.declared.view.LoggedBuffers.{LoggedBuffers}
 use Rattle.vq_board_laws.specs.May.{MayEnter}
+use Rattle.vq_board.specs.Firsts.{AreCounted}
 use Rattle.vq_board.specs.Hands.{InHand, Hand}
 use Rattle.vq_board_laws.proofs.Cited.{enters_command}
 use Rattle.vq_board.proofs.Copied.{copied_at}
@@ -36,7 +37,7 @@ store-requires c =
           omega (arith, c.args.self.now.sized)
           ),
       enters_command p _ _ c.args.command (m.0, (0, y) ∷ rest m.1) y c.command.result.now (ap (λ (ts : List (ℕ × LoggedBuffers)). (0, y) ∷ ts) h.1) may_here
-          (copied_at p c.args.self.now.commands.commands c.args.command c.command.result.now c.args.self.now.copied c.command.ensures.value)
+          (copied_at p c.args.self.now.copies.commands c.args.command c.command.result.now c.args.self.now.copied c.command.ensures.value)
           (c.apply.ensures.bytes ∙ ap (effect c.command.result.now) bytes),
     )
 
@@ -67,4 +68,5 @@ invariant_of-pass c =
     record {
       running = c.args.pass.now.running ∙ sym (ap (λ m. m.0.runs) told.0);
       hand = subst InHand (sym told.0) (subst (λ (ts : List (ℕ × LoggedBuffers)). Hand (Some (suc x.filled)) y.buffers m.0.plan ((0, y) ∷ ts)) (sym h.1) (refl, more, refl, omega arith, sizes));
+      firsts = subst (AreCounted c.args.pass.now.first_made.items) (sym told.0) c.args.pass.now.firsts;
     }

@@ -2,8 +2,10 @@ use Rattle.std.proofs.Common.{arith, ap, sym, refl, subst, ◌∙◌}
 use Rattle.vq_board_laws.specs.Steps.{looks}
 use Rattle.vq_board_laws.proofs.Cited.{looks_at_job, state_of_number}
 use Rattle.vq_board_laws.specs.Knowledge.{state_at}
+use Rattle.vq_board.specs.Firsts.{AreCounted}
 use Rattle.vq_board.specs.Hands.{InHand}
 use Rattle.vq_board.specs.Named.{view}
+use Rattle.vq_board.proofs.Firsts.{firsts_next}
 use Rattle.vq_board.proofs.parts.Board.job_state.Goals as goal
 
 pub load-word-requires : goal.load-word-requires
@@ -12,7 +14,7 @@ load-word-requires c = (c.requires.board.0, omega (arith, c.args.self.now.sized,
 pub invariant_of-pass : goal.invariant_of-pass
 invariant_of-pass c =
     let told = (c.load-word.ensures.2 c.args.job refl).2 in
-    record { running = c.args.pass.now.running ∙ sym (ap (λ m. m.0.runs) told); hand = subst InHand (sym told) c.args.pass.now.hand }
+    record { running = c.args.pass.now.running ∙ sym (ap (λ m. m.0.runs) told); hand = subst InHand (sym told) c.args.pass.now.hand; firsts = subst (AreCounted c.args.pass.now.first_made.items) (sym told) (firsts_next _ _ _ _ c.args.pass.now.firsts) }
 
 pub returns : goal.returns
 returns c =

@@ -1,6 +1,8 @@
 use Rattle.std.proofs.Common.{arith, ap, sym, refl, subst, ◌∙◌}
 use Rattle.vq_board_laws.proofs.Cited.{batch_exists, releases_job}
+use Rattle.vq_board.specs.Firsts.{AreCounted}
 use Rattle.vq_board.specs.Hands.{InHand}
+use Rattle.vq_board.proofs.Firsts.{firsts_next}
 use Rattle.vq_board.proofs.parts.Board.release.Goals as goal
 
 pub store-requires : goal.store-requires
@@ -9,7 +11,7 @@ store-requires c = (c.requires.board.0, omega (arith, c.args.self.now.sized, bat
 pub invariant_of-pass : goal.invariant_of-pass
 invariant_of-pass c =
     let told = c.store.ensures.2 c.args.job refl in
-    record { running = c.args.pass.now.running ∙ sym (ap (λ m. m.0.runs) told); hand = subst InHand (sym told) c.args.pass.now.hand }
+    record { running = c.args.pass.now.running ∙ sym (ap (λ m. m.0.runs) told); hand = subst InHand (sym told) c.args.pass.now.hand; firsts = subst (AreCounted c.args.pass.now.first_made.items) (sym told) (firsts_next _ _ _ _ c.args.pass.now.firsts) }
 
 pub returns : goal.returns
 returns c = (c.store.ensures.0, refl, ap (λ m. m.0) (c.store.ensures.2 c.args.job refl))

@@ -1,8 +1,8 @@
 use Rattle.std.proofs.Common.{◌++◌, ◌∷◌, [], List, map, take, sym, ap, ◌∙◌}
 use Rattle.vq_model.specs.declared.script.CommandLine.{CommandLine}
-use Rattle.vq_board.specs.Copies.{command_of}
+use Rattle.vq_board.specs.Copied.{command_of}
 use Rattle.vq_board.proofs.Copied.{take_next, map_push}
-use Rattle.vq_board.proofs.commands.commands_of.Goals as goal
+use Rattle.vq_board.proofs.copies.commands_of.Goals as goal
 
 pub loop-c-preserved : goal.loop-c-preserved
 loop-c-preserved c =

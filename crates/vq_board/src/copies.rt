@@ -1,30 +1,33 @@
-//! What the calls need of a plan: its commands, copied, and the sizes of its buffers.
+//! What the calls need of a plan, copied: its commands, the sizes of its buffers and its operations.
 ghost use Rattle.std.specs.Prelude.{◌≡◌, ◌<◌, length, map, IfOk, Some};
 ghost use Rattle.std.specs.List.{slice_get};
 ghost use Rattle.vq_model.specs.LoweringFaults.{IsPlan};
 ghost use Rattle.vq_model.specs.Ranges.{Fits};
 ghost use Rattle.vq_model.specs.ValidScripts.{sizes_of};
-ghost use Rattle.vq_board.specs.Copies.{command_of};
+ghost use Rattle.vq_board.specs.Copied.{command_of};
 
 use std::alloc::{AllocError, Global};
 use std::marker::Model;
 use vq_model::list::Bytes;
+use vq_model::plan::Op;
 use vq_model::script::{Command, Script};
 use vq_spec::Plan;
 
-/// The commands of a plan, each of which fits its buffers, and their sizes.
+/// The commands of a plan, each of which fits its buffers, their sizes, and its operations.
 #[derive(Drop)]
-pub(crate) struct Commands {
+pub(crate) struct Copies {
     commands: Vec<Command>,
     sizes: Vec<u32>,
+    ops: Vec<Op>,
 }
 
-impl Model for Commands {
-    ghost use Rattle.vq_board.specs.Copies.{Copies, AllFit};
+impl Model for Copies {
+    ghost use Rattle.vq_board.specs.Copied.{Copied, AllFit};
 
-    ghost Value = { Copies };
+    ghost Value = { Copied };
 
-    ghost view = { λ a. record { commands = a.commands.items; sizes = a.sizes.items } };
+    ghost view = { λ a.
+        record { commands = a.commands.items; sizes = a.sizes.items; ops = a.ops.items } };
 
     ghost invariant = { λ a. AllFit a.sizes.items a.commands.items };
 }
@@ -93,16 +96,33 @@ fn commands_of(alloc: Global, plan: &Plan) -> Result<Vec<Command>, AllocError>
     Ok(commands)
 }
 
-impl Commands {
-    /// The commands of a plan. The error is want of memory.
-    pub(crate) fn of(alloc: Global, plan: &Plan) -> Result<Commands, AllocError>
+/// The operations of a plan.
+fn ops_of(alloc: Global, plan: &Plan) -> Result<Vec<Op>, AllocError>
+    ensures { IfOk result (λ v. v.items ≡ plan.now.ops) }
+{
+    let mut ops = Vec::with_capacity(alloc, plan.ops() as usize)?;
+    for e in 0..plan.ops() {
+        ops.push(plan.op(e))?;
+    }
+    Ok(ops)
+}
+
+impl Copies {
+    /// The copies of a plan. The error is want of memory.
+    pub(crate) fn of(alloc: Global, plan: &Plan) -> Result<Copies, AllocError>
         requires { IsPlan plan.now }
         ensures commands { IfOk result (λ a. a.commands ≡ map command_of plan.now.commands) }
         ensures sizes { IfOk result (λ a. a.sizes ≡ plan.now.sizes) }
+        ensures ops { IfOk result (λ a. a.ops ≡ plan.now.ops) }
     {
         let commands = commands_of(alloc, plan)?;
         let sizes = sizes_of(alloc, plan.script())?;
-        Ok(Commands { commands, sizes })
+        let ops = ops_of(alloc, plan)?;
+        Ok(Copies {
+            commands,
+            sizes,
+            ops,
+        })
     }
 
     /// The sizes of the buffers.
@@ -119,5 +139,15 @@ impl Commands {
         ensures fits { Fits self.now.sizes result.now }
     {
         &self.commands[c as usize]
+    }
+
+    /// An operation, where there is one with this number.
+    pub(crate) fn op(&self, e: u32) -> Option<Op>
+        ensures { result ≡ slice_get self.now.ops e }
+    {
+        match self.ops.as_slice().get(e as usize) {
+            Some(op) => Some(*op),
+            None => None,
+        }
     }
 }

@@ -2,7 +2,7 @@ use Rattle.std.proofs.Common.{sym, ap, ◌∙◌}
 use Rattle.vq_model.specs.Plan.{Plan}
 use Rattle.vq_model.specs.ValidScripts.{sizes_of}
 use Rattle.vq_board.proofs.Copied.{all_fit}
-use Rattle.vq_board.proofs.commands.Commands.of.Goals as goal
+use Rattle.vq_board.proofs.copies.Copies.of.Goals as goal
 
 pub invariant_of-result : goal.invariant_of-result
 invariant_of-result c =

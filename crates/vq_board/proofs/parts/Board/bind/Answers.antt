@@ -1,0 +1,17 @@
+use Rattle.std.proofs.Common.{arith, ap, sym, refl, subst, ◌∙◌}
+use Rattle.vq_board_laws.proofs.Cited.{binds_op}
+use Rattle.vq_board.specs.Firsts.{AreCounted}
+use Rattle.vq_board.specs.Hands.{InHand}
+use Rattle.vq_board.proofs.Firsts.{firsts_next}
+use Rattle.vq_board.proofs.parts.Board.bind.Goals as goal
+
+pub store-requires : goal.store-requires
+store-requires c = (c.requires.board.0, omega (arith, c.args.self.now.sized, c.requires.exists), binds_op _ _ _ _ _ _ c.requires.may c.requires.exists)
+
+pub invariant_of-pass : goal.invariant_of-pass
+invariant_of-pass c =
+    let told = c.store.ensures.2 c.args.op c.args.point refl refl in
+    record { running = c.args.pass.now.running ∙ sym (ap (λ m. m.0.runs) told); hand = subst InHand (sym told) c.args.pass.now.hand; firsts = subst (AreCounted c.args.pass.now.first_made.items) (sym told) (firsts_next _ _ _ _ (firsts_next _ _ _ _ c.args.pass.now.firsts)) }
+
+pub returns : goal.returns
+returns c = (c.store.ensures.0, refl, ap (λ m. m.0) (c.store.ensures.2 c.args.op c.args.point refl refl))

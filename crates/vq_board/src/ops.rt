@@ -1,0 +1,105 @@
+//! The steps on the word of an operation, and its signal.
+ghost use Rattle.std.specs.Prelude.{◌≡◌, ◌≢◌, ℕ, ◌+◌, ◌<◌, ◌^◌, length, IfOk, IfErr};
+ghost use Rattle.vq_board_laws.specs.declared.view.OpState.TheVariants.{Unbound as UnboundOp};
+ghost use Rattle.vq_board_laws.specs.declared.view.OpState.TheVariants.{Bound as BoundOp, Past as PastOp};
+ghost use Rattle.vq_board_laws.specs.MayPoints.{MayBind, MaySignal, MayComplete};
+ghost use Rattle.vq_board_laws.specs.PointSteps.{op_number, recalls, binds, signals, completes};
+ghost use Rattle.vq_board.specs.Named.{plan_of, view, IsOf, Turns};
+
+use crate::parts::{Board, Pass, Unbound};
+use crate::plays::{Bind, Complete, Recall, Signal};
+use vq_board_laws::view::OpState;
+
+/// The bit of a point's word that says whether it is signaled.
+const SIGNALED: u64 = 1 << 48;
+
+/// The state of an operation with this word.
+fn state_of(word: u64) -> OpState
+    requires { word < 2 ^ 32 + 2 }
+    ensures { op_number result ≡ word }
+{
+    match word {
+        0 => OpState::Unbound,
+        1 => OpState::Past,
+        _ => OpState::Bound {
+            point: (word - 2) as u32,
+        },
+    }
+}
+
+impl Board {
+    /// How far an operation is. The pass knows it from then on.
+    ///
+    /// Source: this project's rule.
+    pub fn recall(&self, pass: &mut Pass, op: u32) -> OpState
+        requires board { IsOf self.now pass.old }
+        requires exists { op < length (plan_of self.now).ops }
+        ensures pass { Turns pass.old pass.new (recalls (view pass.old) op result) }
+        ensures point { (q : ℕ) → result ≡ BoundOp q → q < length (plan_of self.now).ops }
+        ensures unsignaled { MaySignal (plan_of self.now) (view pass.old) op → result ≢ PastOp }
+    {
+        let word = self
+            .table
+            .shared
+            .load::<Recall>(&mut pass.seat, 4 * op as usize + 3);
+        let state = state_of(word);
+        self.note_state(pass, op, state);
+        state
+    }
+
+    /// Binds an operation to the point that carries it. The pass is that of the chain's shelf.
+    ///
+    /// Source: this project's rule.
+    pub fn bind(&self, pass: &mut Pass, op: u32, point: u32)
+        requires board { IsOf self.now pass.old }
+        requires exists { op < length (plan_of self.now).ops }
+        requires may { MayBind (plan_of self.now) (view pass.old) op point }
+        ensures { Turns pass.old pass.new (binds (view pass.old) op point) }
+    {
+        self.table
+            .shared
+            .store::<Bind>(&mut pass.seat, 4 * op as usize + 3, point as u64 + 2);
+    }
+
+    /// Makes the next signal of the job that the pass runs. The error comes only where the operation
+    /// was found unbound; then nothing is changed.
+    ///
+    /// Source: Vulkan 1.3, "Semaphore Signaling". Points are this project's rule.
+    pub fn signal(&self, pass: &mut Pass, op: u32) -> Result<(), Unbound>
+        requires board { IsOf self.now pass.old }
+        requires exists { op < length (plan_of self.now).ops }
+        requires may { MaySignal (plan_of self.now) (view pass.old) op }
+        ensures signaled { IfOk result (λ _. (q n : ℕ)
+            × Turns pass.old pass.new (signals (recalls (view pass.old) op (BoundOp q)) op q n)) }
+        ensures unbound { IfErr result (λ _.
+            Turns pass.old pass.new (recalls (view pass.old) op UnboundOp)) }
+    {
+        match self.recall(pass, op) {
+            OpState::Unbound => Err(Unbound),
+            OpState::Bound { point } => {
+                self.table
+                    .shared
+                    .fetch_add::<Signal>(&mut pass.seat, 4 * point as usize + 4, SIGNALED);
+                self.note_made(pass, op);
+                Ok(())
+            }
+            // an operation that isn't signaled isn't completed
+            OpState::Past => unreachable!(),
+        }
+    }
+
+    /// Completes the least pending operation of the shelf's chain, which is signaled.
+    ///
+    /// Source: this project's rule.
+    pub fn complete(&self, pass: &mut Pass, op: u32)
+        requires board { IsOf self.now pass.old }
+        requires exists { op < length (plan_of self.now).ops }
+        requires may { MayComplete (plan_of self.now) (view pass.old) op }
+        ensures { Turns pass.old pass.new (completes (view pass.old) op) }
+    {
+        self.table
+            .shared
+            .store::<Complete>(&mut pass.seat, 4 * op as usize + 3, 1);
+        self.note_made(pass, op);
+    }
+}
