@@ -1,0 +1,4 @@
+mod Chains
+mod Handing
+mod RingSteps
+mod Shares

@@ -1,8 +1,8 @@
--- Batches of the board's tests, and passes that are fresh.
+-- Batches of one command each, and the passes that run them.
 use Rattle.std.specs.Prelude.{ℕ, List, [], ◌∷◌, ◌≡◌, ◌<◌, Some, None, true, false, length}
 use Rattle.std.specs.List.{slice_get}
 use Rattle.vq_model.specs.Plan.{Plan, previous, idle_after, needs, waits_for_any, commands_of, signals_of}
-use Rattle.vq_model.specs.Plan.{is_batch, is_host_step}
+use Rattle.vq_model.specs.Plan.{is_batch, is_host_step, question, is_silent}
 use Rattle.vq_model.specs.declared.plan.PlanJob.{PlanJob}
 use Rattle.vq_model.specs.declared.plan.Lane.TheVariants.{Queue}
 use Rattle.vq_board_laws.specs.declared.view.Role.TheVariants.{Ring}
@@ -20,6 +20,7 @@ pub record IsPlain (x : PlanJob) (q c : ℕ) : Type 0 where
   pub any : x.any ≡ false
   pub commands : x.commands ≡ c ∷ []
   pub signals : x.signals ≡ []
+  pub silent : is_silent x.question ≡ true
 
 -- so is this job of the plan, and the host releases it
 pub record IsAlone (p : Plan) (j q c : ℕ) : Type 0 where
@@ -35,9 +36,7 @@ pub record IsAlone (p : Plan) (j q c : ℕ) : Type 0 where
   pub any : waits_for_any p j ≡ false
   pub commands : commands_of p j ≡ c ∷ []
   pub signals : signals_of p j ≡ []
-
-abbrev pub AllFresh : Board → List Pass → Type 0
-AllFresh b xs = (k : ℕ) (x : Pass) → slice_get xs k ≡ Some x → IsFresh b x
+  pub silent : is_silent (question p j) ≡ true
 
 -- the pass is that of the ring that is to run the job, and fresh
 abbrev pub IsReady : Board → Pass → ℕ → Type 0

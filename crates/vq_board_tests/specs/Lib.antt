@@ -1,1 +1,5 @@
 pub mod Batches
+pub mod Dealing
+pub mod Holders
+pub mod ThreeSignals
+pub mod FourBatches

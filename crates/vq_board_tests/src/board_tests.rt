@@ -5,9 +5,11 @@ ghost use Rattle.vq_board_laws.specs.declared.view.Role.TheVariants.{Ring};
 ghost use Rattle.vq_board_laws.specs.Roles.{role_number};
 ghost use Rattle.vq_board_laws.specs.Rule.{fresh};
 ghost use Rattle.vq_board.specs.Named.{plan_of, view, role_of, IsOf, IsFresh, IsCut};
-ghost use Rattle.vq_board_tests.specs.Batches.{IsPlain, IsAlone, IsReady, IsRunning, AllFresh};
+ghost use Rattle.vq_board_tests.specs.Batches.{IsPlain, IsAlone, IsReady, IsRunning};
+ghost use Rattle.vq_board_tests.specs.Dealing.{AllFresh};
 
-use crate::plans::ordered;
+use crate::passes::dealt;
+use crate::plans::two_batches;
 use std::alloc::Global;
 use std::sync::Wait;
 use std::thread;
@@ -15,7 +17,7 @@ use std::thread::{Threads, join};
 use vq_board::{Board, Closed, JobState, Pass, Passes, Role};
 use vq_model::script::{Mode, Script};
 use vq_order::Ordered;
-use vq_spec::{Lane, Plan, PlanJob};
+use vq_spec::{Lane, Plan, PlanJob, Question};
 
 /// Whether a job is a batch of the queue with this command alone, and waits for nothing.
 fn is_plain(job: &PlanJob, queue: u32, command: u32) -> bool
@@ -28,6 +30,9 @@ fn is_plain(job: &PlanJob, queue: u32, command: u32) -> bool
         return false;
     }
     if job.idle_after.len() != 0 || job.needs.len() != 0 || job.signals.len() != 0 {
+        return false;
+    }
+    if !matches!(job.question, Question::Silent) {
         return false;
     }
     match job.commands.as_slice() {
@@ -47,7 +52,7 @@ fn is_hosted(script: &Script, queue: u32) -> bool
 }
 
 /// Whether job j is a batch of queue j with command j alone, which the host releases.
-fn is_alone(plan: &Plan, j: u32) -> bool
+pub(crate) fn is_alone(plan: &Plan, j: u32) -> bool
     ensures { result ≡ true → IsAlone plan.now j j j }
 {
     if j >= plan.jobs() || j >= plan.commands() {
@@ -61,21 +66,13 @@ fn hand_over(board: &Board, host: &mut Pass)
     requires host { (n : ℕ) × IsCut board.now host.old n }
     requires first { IsAlone (plan_of board.now) 0 0 0 }
     requires second { IsAlone (plan_of board.now) 1 1 1 }
-    ensures { IsOf board.now host.new }
+    ensures board { IsOf board.now host.new }
+    ensures role { (view host.new).role ≡ 0 }
 {
     board.submit(host, 0);
     board.release(host, 0);
     board.submit(host, 1);
     board.release(host, 1);
-}
-
-/// The last pass of a list of fresh ones.
-fn last(board: &Board, passes: &mut Vec<Pass>) -> Option<Pass>
-    requires { AllFresh board.now passes.old.items }
-    ensures pass { IfSome result (λ x. IsFresh board.now x) }
-    ensures left { AllFresh board.now passes.new.items }
-{
-    passes.pop()
 }
 
 /// Starts the batch that the ring's pass is to run, where it is released.
@@ -125,20 +122,6 @@ fn take_turns(board: &Board, first: &mut Pass, second: &mut Pass) -> bool
     board.take_memory(second).is_some()
 }
 
-/// The pass of the last ring, where that is this queue's.
-fn ring(board: &Board, rings: &mut Vec<Pass>, queue: u32) -> Option<Pass>
-    requires { AllFresh board.now rings.old.items }
-    ensures pass { IfSome result (λ x. IsFresh board.now x) }
-    ensures role { IfSome result (λ x. role_of x ≡ Ring queue) }
-    ensures left { AllFresh board.now rings.new.items }
-{
-    let pass = last(board, rings)?;
-    match pass.role() {
-        Role::Ring(own) => { if own == queue { Some(pass) } else { None } }
-        _ => None,
-    }
-}
-
 /// The passes of both rings, each of which has started its batch.
 fn start_both(board: &Board, mut rings: Vec<Pass>) -> Option<(Pass, Pass)>
     requires fresh { AllFresh board.now rings.items }
@@ -147,8 +130,8 @@ fn start_both(board: &Board, mut rings: Vec<Pass>) -> Option<(Pass, Pass)>
     ensures first { IfSome result (λ t. IsRunning board.now t.0 0) }
     ensures second { IfSome result (λ t. IsRunning board.now t.1 1) }
 {
-    let mut second = ring(board, &mut rings, 1)?;
-    let mut first = ring(board, &mut rings, 0)?;
+    let mut second = dealt(board, &mut rings, Role::Ring(1))?;
+    let mut first = dealt(board, &mut rings, Role::Ring(0))?;
     if start(board, &mut first, 0) && start(board, &mut second, 1) {
         Some((first, second))
     } else {
@@ -163,11 +146,9 @@ fn opened(alloc: Global, ordered: &Ordered) -> Option<(Board, Pass, Vec<Pass>)>
     requires second { IsAlone ordered.now 1 1 1 }
     ensures plan { IfSome result (λ t. plan_of t.0 ≡ ordered.now) }
     ensures host { IfSome result (λ t. IsOf t.0 t.1) }
+    ensures role { IfSome result (λ t. (view t.1).role ≡ 0) }
     ensures rings { IfSome result (λ t. AllFresh t.0 t.2.items) }
 {
-    if ordered.plan().ops() != 0 {
-        return None;
-    }
     let Ok((board, passes)) = Board::new(alloc, ordered) else {
         return None;
     };
@@ -183,7 +164,7 @@ fn opened(alloc: Global, ordered: &Ordered) -> Option<(Board, Pass, Vec<Pass>)>
 
 /// Whether the turn is had by one pass at a time.
 fn turns_are_taken(alloc: Global) -> Option<bool> {
-    let ordered = ordered(alloc)?;
+    let ordered = two_batches(alloc)?;
     if !is_alone(ordered.plan(), 0) || !is_alone(ordered.plan(), 1) {
         return None;
     }
@@ -198,7 +179,7 @@ fn one_pass_has_the_turn(rt: HostRuntime) {
 }
 
 /// Starts and runs the batch of the ring's pass, where it is released. It says whether it did.
-fn work<R: Wait>(rt: &R, board: &Board, mut pass: Pass, j: u32) -> bool
+pub(crate) fn work<R: Wait>(rt: &R, board: &Board, mut pass: Pass, j: u32) -> bool
     requires fresh { IsFresh board.now pass }
     requires ring { role_of pass ≡ Ring j }
     requires alone { IsAlone (plan_of board.now) j j j }
@@ -211,23 +192,25 @@ fn work<R: Wait>(rt: &R, board: &Board, mut pass: Pass, j: u32) -> bool
 }
 
 /// Each batch is run by its ring's pass, in a thread of its own.
-fn work_both<R: Threads + Wait + Sync>(
+pub(crate) fn work_both<R: Threads + Wait + Sync>(
     rt: &R,
     board: &Board,
     first: Pass,
+    j: u32,
     second: Pass,
+    k: u32,
 ) -> (bool, bool)
-    requires first { IsReady board.now first 0 }
-    requires second { IsReady board.now second 1 }
+    requires first { IsReady board.now first j }
+    requires second { IsReady board.now second k }
 {
     join(
         rt,
         || -> bool
-            requires { IsReady board.now first 0 }
-        { work(rt, board, first, 0) },
+            requires { IsReady board.now first j }
+        { work(rt, board, first, j) },
         || -> bool
-            requires { IsReady board.now second 1 }
-        { work(rt, board, second, 1) },
+            requires { IsReady board.now second k }
+        { work(rt, board, second, k) },
     )
 }
 
@@ -237,18 +220,19 @@ fn run_both<R: Threads + Wait + Sync>(rt: &R, board: &Board, mut rings: Vec<Pass
     requires first { IsAlone (plan_of board.now) 0 0 0 }
     requires second { IsAlone (plan_of board.now) 1 1 1 }
 {
-    let Some(second) = ring(board, &mut rings, 1) else {
+    let Some(second) = dealt(board, &mut rings, Role::Ring(1)) else {
         return false;
     };
-    let Some(first) = ring(board, &mut rings, 0) else {
+    let Some(first) = dealt(board, &mut rings, Role::Ring(0)) else {
         return false;
     };
-    work_both(rt, board, first, second) == (true, true)
+    work_both(rt, board, first, 0, second, 1) == (true, true)
 }
 
 /// The board is closed, where both batches are found finished.
 fn closed(board: Board, mut host: Pass) -> Option<Closed>
     requires host { IsOf board host }
+    requires role { (view host).role ≡ 0 }
     requires jobs { length (plan_of board).jobs ≡ 2 }
 {
     if board.job_state(&mut host, 0) != JobState::Finished
@@ -261,7 +245,7 @@ fn closed(board: Board, mut host: Pass) -> Option<Closed>
 
 /// Whether the board, after both batches ran, has the bytes of both.
 fn runs_whole<R: Threads + Wait + Sync>(rt: &R, alloc: Global) -> Option<bool> {
-    let ordered = ordered(alloc)?;
+    let ordered = two_batches(alloc)?;
     let plan = ordered.plan();
     if plan.jobs() != 2 || !is_alone(plan, 0) || !is_alone(plan, 1) {
         return None;

@@ -3,7 +3,7 @@ use Rattle.std.specs.List.{slice_get}
 use Rattle.std.specs.Option.{option_to_list}
 use Rattle.vq_model.proofs.Gets.{get-append_left, get_within}
 use Rattle.vq_board.specs.declared.parts.Pass.{Pass}
-use Rattle.vq_board_tests.proofs.board_tests.last.Goals as goal
+use Rattle.vq_board_tests.proofs.passes.last.Goals as goal
 
 pub returns-clause-left : goal.returns-clause-left
 returns-clause-left c = λ k x e.

@@ -1,0 +1,32 @@
+-- The chain of the tests on points: its operations, in order.
+use Rattle.std.proofs.Common.{◌≡◌, ℕ, zero, suc, ◌<◌, ◌≤◌, List, [], ◌∷◌, length, Some, None, ap, sym, ◌∙◌, arith}
+use Rattle.std.specs.List.{slice_get}
+use Rattle.std.specs.Option.{option_map_or}
+use Rattle.vq_model.proofs.Gets.{slice_get_past}
+use Rattle.vq_model.proofs.Options.{same_some}
+use Rattle.vq_model.specs.Plan.{Plan, chain}
+use Rattle.vq_board_laws.specs.MayPoints.{IsSmaller}
+use Rattle.vq_board_tests.specs.ThreeSignals.{HasSignals}
+
+-- an operation's place in the chain is its number
+place_is : (k e : ℕ) → slice_get (0 ∷ 1 ∷ 2 ∷ []) k ≡ Some e → k ≡ e
+place_is zero e s = same_some 0 e s
+place_is (suc zero) e s = same_some 1 e s
+place_is (suc (suc zero)) e s = same_some 2 e s
+place_is (suc (suc (suc k))) e s = absurd (let c : None ≡ Some e = s in cc)
+
+no_second : (p : Plan) (t k e : ℕ) → HasSignals p → slice_get (chain p (suc t)) k ≡ Some e → ⊥
+no_second p t k e h s =
+    let past = slice_get_past p.chains (suc t) (omega (arith, h.alone)) in
+    let none : slice_get (chain p (suc t)) k ≡ None = ap (λ o. slice_get (option_map_or (λ x. x) o []) k) past in
+    absurd (let c : None ≡ Some e = sym none ∙ s in cc)
+
+-- of two operations of a chain the smaller one has the smaller number
+pub smaller : (p : Plan) (f e : ℕ) → HasSignals p → IsSmaller p f e → f < e
+smaller p f e h s = from s.of_chain s.first s.second s.smaller s.greater s.order
+  where
+    from : (t k l : ℕ) → slice_get (chain p t) k ≡ Some f → slice_get (chain p t) l ≡ Some e → k < l → f < e
+    from zero k l a b less =
+        let first = place_is k f (sym (ap (λ xs. slice_get xs k) h.its_chain) ∙ a) in
+        let second = place_is l e (sym (ap (λ xs. slice_get xs l) h.its_chain) ∙ b) in omega arith
+    from (suc t) k l a b less = absurd (no_second p t l e h b)

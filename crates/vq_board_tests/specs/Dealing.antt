@@ -1,0 +1,15 @@
+-- Passes as the board deals them.
+use Rattle.std.specs.Prelude.{ℕ, List, ◌≡◌, Some}
+use Rattle.std.specs.List.{slice_get}
+use Rattle.vq_board_laws.specs.declared.view.Role.{Role}
+use Rattle.vq_board.specs.declared.parts.Board.{Board}
+use Rattle.vq_board.specs.declared.parts.Pass.{Pass}
+use Rattle.vq_board.specs.Named.{role_of, IsFresh}
+
+abbrev pub AllFresh : Board → List Pass → Type 0
+AllFresh b xs = (k : ℕ) (x : Pass) → slice_get xs k ≡ Some x → IsFresh b x
+
+-- the pass of the role, which has done nothing
+pub record IsNew (b : Board) (x : Pass) (r : Role) : Type 0 where
+  pub fresh : IsFresh b x
+  pub role : role_of x ≡ r

@@ -1,0 +1,111 @@
+//! References to one point, taken and given back by two passes at once.
+ghost use Rattle.std.specs.Prelude.{◌≡◌, true, [], ◌∷◌};
+ghost use Rattle.vq_board_laws.specs.Points.{reference};
+ghost use Rattle.vq_board.specs.Named.{plan_of};
+ghost use Rattle.vq_board_tests.specs.Holders.{HasReferences};
+ghost use Rattle.vq_board_tests.specs.ThreeSignals.{IsOfThreeSignals};
+
+use crate::actors::{both_rings, opened, shelf};
+use crate::shelves::take_first;
+use std::alloc::Global;
+use std::sync::Wait;
+use std::thread::{Threads, join};
+use vq_board::{Board, Pass, Passes, Referred};
+use vq_point::PointWord;
+
+/// Takes a reference to point 0 for operation 0, as soon as no one changes the point's word meanwhile. It
+/// says whether it did.
+fn refer<R: Wait>(rt: &R, board: &Board, pass: &mut Pass, queue: u32) -> bool
+    requires plan { IsOfThreeSignals (plan_of board.now) }
+    requires without { HasReferences board.now pass.old queue [] }
+    ensures { result ≡ true → HasReferences board.now pass.new queue (reference 0 0 ∷ []) }
+{
+    for _ in rt.forever() {
+        match board.refer(pass, 0, 0) {
+            Referred::Held => return true,
+            Referred::MovedOn { found: _ } => return false,
+            Referred::Lost { found: _ } => {}
+        }
+    }
+    unreachable!()
+}
+
+/// Gives the reference back, as soon as no one changes the point's word meanwhile.
+fn unrefer<R: Wait>(rt: &R, board: &Board, pass: &mut Pass, queue: u32)
+    requires plan { IsOfThreeSignals (plan_of board.now) }
+    requires held { HasReferences board.now pass.old queue (reference 0 0 ∷ []) }
+    ensures { HasReferences board.now pass.new queue [] }
+{
+    for _ in rt.forever() {
+        if board.unrefer(pass, 0, 0).is_ok() {
+            return;
+        }
+    }
+    unreachable!()
+}
+
+/// Takes a reference and gives it back, again and again. It says whether each was had.
+fn refer_often<R: Wait>(rt: &R, board: &Board, mut pass: Pass, queue: u32) -> bool
+    requires plan { IsOfThreeSignals (plan_of board.now) }
+    requires without { HasReferences board.now pass queue [] }
+{
+    for _ in 0..100_000u32 {
+        if !refer(rt, board, &mut pass, queue) {
+            return false;
+        }
+        unrefer(rt, board, &mut pass, queue);
+    }
+    true
+}
+
+/// Two passes take references to the point and give them back, each in a thread of its own.
+fn refer_both<R: Threads + Wait + Sync>(
+    rt: &R,
+    board: &Board,
+    first: Pass,
+    second: Pass,
+) -> (bool, bool)
+    requires plan { IsOfThreeSignals (plan_of board.now) }
+    requires first { HasReferences board.now first 0 [] }
+    requires second { HasReferences board.now second 1 [] }
+{
+    join(
+        rt,
+        || -> bool
+            requires plan { IsOfThreeSignals (plan_of board.now) }
+            requires first { HasReferences board.now first 0 [] }
+        { refer_often(rt, board, first, 0) },
+        || -> bool
+            requires plan { IsOfThreeSignals (plan_of board.now) }
+            requires second { HasReferences board.now second 1 [] }
+        { refer_often(rt, board, second, 1) },
+    )
+}
+
+/// What the point's word says once each pass has given back what it took.
+fn word_after<R: Threads + Wait + Sync>(rt: &R, alloc: Global) -> Option<PointWord> {
+    let (board, passes) = opened(alloc)?;
+    let Passes {
+        host: _,
+        submits: _,
+        rings,
+        shelves,
+    } = passes;
+    let (first, second) = both_rings(&board, rings)?;
+    let mut shelf = shelf(&board, shelves)?;
+    if !take_first(&board, &mut shelf) || refer_both(rt, &board, first, second) != (true, true) {
+        return None;
+    }
+    Some(board.look(&mut shelf, 0))
+}
+
+#[test]
+fn references_are_given_back(rt: HostRuntime) {
+    let word = PointWord {
+        op: 0,
+        refs: 0,
+        signaled: false,
+        held: true,
+    };
+    assert!(rt; word_after(&rt, rt.alloc()) == Some(word));
+}
