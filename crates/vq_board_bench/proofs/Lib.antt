@@ -1,0 +1,4 @@
+mod Below
+mod OnePoint
+mod RowSteps
+mod Workers

@@ -1,0 +1,194 @@
+//! Bare atomic steps, on a table whose rule says nothing.
+ghost use Rattle.std.specs.Prelude.{◌≡◌, ◌<◌, IfOk};
+
+use crate::kind::BareStep;
+use atomic_table::{Play, Seat, Split, Table, TableRule};
+use std::alloc::{AllocError, Global};
+
+/// A rule that holds of every table.
+pub(crate) struct Anything;
+
+impl TableRule<u64, u64, u64> for Anything {
+    ghost use Rattle.vq_board_bench.specs.Bare.{anything};
+
+    ghost holds = { anything };
+
+    ghost first = { λ key. key };
+}
+
+/// A step that tells nothing.
+struct Silent;
+
+impl Play<u64, u64> for Silent {
+    ghost use Rattle.vq_board_bench.specs.Bare.{nothing};
+
+    ghost then = { nothing };
+}
+
+/// A second seat is cut off the first.
+struct Cut;
+
+impl Split<u64> for Cut {
+    ghost left = { λ v. v };
+
+    ghost right = { λ v. v };
+}
+
+/// One reference, in the word of a point.
+pub(crate) const REFERENCE: u64 = 1 << 32;
+
+/// A table with three words or more, and no slot.
+#[derive(Drop)]
+pub(crate) struct Bare {
+    pub(crate) table: Table<u64, u64, u64, Anything, Global>,
+    ghost wide: { 2 < table.shared.table_id.words },
+}
+
+pub(crate) type BareSeat = Seat<u64, u64>;
+
+impl Bare {
+    /// A table with so many words that are 0, and two seats.
+    pub(crate) fn new(alloc: Global, count: usize) -> Result<(Bare, BareSeat, BareSeat), AllocError>
+        requires { 2 < count }
+        ensures first { IfOk result (λ t. t.1.table_id ≡ t.0.table.shared.table_id) }
+        ensures second { IfOk result (λ t. t.2.table_id ≡ t.0.table.shared.table_id) }
+        ensures words { IfOk result (λ t. t.0.table.shared.table_id.words ≡ count) }
+    {
+        let words = vec![in alloc; 0u64; count]?;
+        let (table, mut first) = Table::of_words(alloc, words.as_slice(), &0)?;
+        let second = table.shared.split_seat::<Cut>(&mut first);
+        Ok((Bare { table }, first, second))
+    }
+
+    pub(crate) fn load(&self, seat: &mut BareSeat, word: usize) -> u64
+        requires seat { seat.old.table_id ≡ self.now.table.shared.table_id }
+        requires word { word < self.now.table.shared.table_id.words }
+        ensures { seat.new.table_id ≡ seat.old.table_id }
+    {
+        self.table.shared.load::<Silent>(seat, word)
+    }
+
+    pub(crate) fn store(&self, seat: &mut BareSeat, word: usize, value: u64)
+        requires seat { seat.old.table_id ≡ self.now.table.shared.table_id }
+        requires word { word < self.now.table.shared.table_id.words }
+        ensures { seat.new.table_id ≡ seat.old.table_id }
+    {
+        self.table.shared.store::<Silent>(seat, word, value);
+    }
+
+    pub(crate) fn exchange(&self, seat: &mut BareSeat, word: usize, old: u64, new: u64) -> u64
+        requires seat { seat.old.table_id ≡ self.now.table.shared.table_id }
+        requires word { word < self.now.table.shared.table_id.words }
+        ensures { seat.new.table_id ≡ seat.old.table_id }
+    {
+        self.table
+            .shared
+            .compare_exchange::<Silent>(seat, word, old, new)
+    }
+
+    pub(crate) fn add(&self, seat: &mut BareSeat, word: usize, value: u64) -> u64
+        requires seat { seat.old.table_id ≡ self.now.table.shared.table_id }
+        requires word { word < self.now.table.shared.table_id.words }
+        ensures { seat.new.table_id ≡ seat.old.table_id }
+    {
+        self.table.shared.fetch_add::<Silent>(seat, word, value)
+    }
+
+    /// Loads so often. It says whether each load found 0.
+    fn loads(&self, seat: &mut BareSeat, rounds: u64) -> bool
+        requires { seat.old.table_id ≡ self.now.table.shared.table_id }
+    {
+        for _ in 0..rounds / 4 {
+            if self.load(seat, 2) != 0
+                || self.load(seat, 2) != 0
+                || self.load(seat, 2) != 0
+                || self.load(seat, 2) != 0
+            {
+                return false;
+            }
+        }
+        true
+    }
+
+    /// Stores so often.
+    fn stores(&self, seat: &mut BareSeat, rounds: u64) -> bool
+        requires { seat.old.table_id ≡ self.now.table.shared.table_id }
+    {
+        for round in 0..rounds {
+            self.store(seat, 2, round);
+        }
+        true
+    }
+
+    /// Exchanges 0 for 1 and 1 for 0 so often. It says whether each exchange found what it wanted.
+    fn exchanges(&self, seat: &mut BareSeat, rounds: u64) -> bool
+        requires { seat.old.table_id ≡ self.now.table.shared.table_id }
+    {
+        let mut old = 0;
+        let mut new = 1;
+        for _ in 0..rounds {
+            if self.exchange(seat, 2, old, new) != old {
+                return false;
+            }
+            (old, new) = (new, old);
+        }
+        true
+    }
+
+    /// Adds so often.
+    fn adds(&self, seat: &mut BareSeat, rounds: u64) -> bool
+        requires { seat.old.table_id ≡ self.now.table.shared.table_id }
+    {
+        let mut last = 0;
+        for _ in 0..rounds {
+            last = self.add(seat, 2, 3);
+        }
+        last != 1
+    }
+
+    /// Loads the word, and exchanges it for what it comes to by one reference more and one less in
+    /// turns, so often.
+    fn references(&self, seat: &mut BareSeat, rounds: u64) -> bool
+        requires { seat.old.table_id ≡ self.now.table.shared.table_id }
+    {
+        let mut holds = false;
+        for _ in 0..rounds {
+            let loaded = self.load(seat, 2);
+            let wanted = if holds {
+                loaded.wrapping_sub(REFERENCE)
+            } else {
+                loaded.wrapping_add(REFERENCE)
+            };
+            if self.exchange(seat, 2, loaded, wanted) == loaded {
+                holds = !holds;
+            }
+        }
+        true
+    }
+
+    /// Exchanges 0 for 1, and where that hits stores 0, so often.
+    fn turns(&self, seat: &mut BareSeat, rounds: u64) -> bool
+        requires { seat.old.table_id ≡ self.now.table.shared.table_id }
+    {
+        for _ in 0..rounds {
+            if self.exchange(seat, 2, 0, 1) == 0 {
+                self.store(seat, 2, 0);
+            }
+        }
+        true
+    }
+
+    /// Makes so many steps of a kind. It says whether they came out as wanted.
+    pub(crate) fn steps(&self, mut seat: BareSeat, step: BareStep, rounds: u64) -> bool
+        requires { seat.table_id ≡ self.now.table.shared.table_id }
+    {
+        match step {
+            BareStep::Load => self.loads(&mut seat, rounds),
+            BareStep::Store => self.stores(&mut seat, rounds),
+            BareStep::Exchange => self.exchanges(&mut seat, rounds),
+            BareStep::Add => self.adds(&mut seat, rounds),
+            BareStep::Reference => self.references(&mut seat, rounds),
+            BareStep::Turn => self.turns(&mut seat, rounds),
+        }
+    }
+}

@@ -1,0 +1,159 @@
+//! Steps of a board, again and again.
+ghost use Rattle.std.specs.Prelude.{◌≡◌, true, false, IfSome};
+ghost use Rattle.vq_board_bench.specs.Idle.{IsWorker, IsReferring};
+
+use crate::kind::BoardStep;
+use std::mem::size_of;
+use vq_board::{Board, JobState, OpState, Pass, Referred};
+
+// What a thread carries of a board.
+const _: () = prove!(size_of::<Pass>() == 40);
+
+/// Takes the turn, where it is free, and gives it back.
+fn turn(board: &Board, pass: &mut Pass)
+    requires { IsWorker board.now pass.old }
+    ensures { IsWorker board.now pass.new }
+{
+    if let Some(held) = board.take_memory(pass) {
+        board.give_memory(pass, held);
+    }
+}
+
+/// Takes a reference. It says whether the pass has it, or nothing where the point carries another
+/// operation.
+fn refer(board: &Board, pass: &mut Pass) -> Option<bool>
+    requires { IsReferring board.now pass.old false }
+    ensures { IfSome result (λ holds. IsReferring board.now pass.new holds) }
+{
+    match board.refer(pass, 0, 0) {
+        Referred::Held => Some(true),
+        Referred::Lost { found: _ } => Some(false),
+        Referred::MovedOn { found: _ } => None,
+    }
+}
+
+/// Gives a reference back. It says whether the pass still has it.
+fn unrefer(board: &Board, pass: &mut Pass) -> bool
+    requires { IsReferring board.now pass.old true }
+    ensures { IsReferring board.now pass.new result }
+{
+    match board.unrefer(pass, 0, 0) {
+        Ok(()) => false,
+        Err(_) => true,
+    }
+}
+
+/// Takes a reference, or gives it back where the pass has it.
+fn reference(board: &Board, pass: &mut Pass, holds: bool) -> Option<bool>
+    requires { IsReferring board.now pass.old holds }
+    ensures { IfSome result (λ h. IsReferring board.now pass.new h) }
+{
+    if holds {
+        Some(unrefer(board, pass))
+    } else {
+        refer(board, pass)
+    }
+}
+
+/// Whether the first job is started.
+fn job(board: &Board, pass: &mut Pass) -> bool
+    requires { IsWorker board.now pass.old }
+    ensures { IsWorker board.now pass.new }
+{
+    board.job_state(pass, 0) == JobState::Started
+}
+
+/// Whether the first operation is unbound.
+fn recall(board: &Board, pass: &mut Pass) -> bool
+    requires { IsWorker board.now pass.old }
+    ensures { IsWorker board.now pass.new }
+{
+    board.recall(pass, 0) == OpState::Unbound
+}
+
+/// Whether the first point carries something unsignaled.
+fn look(board: &Board, pass: &mut Pass) -> bool
+    requires { IsWorker board.now pass.old }
+    ensures { IsWorker board.now pass.new }
+{
+    let word = board.look(pass, 0);
+    word.held && !word.signaled
+}
+
+/// Asks so often how far the first job is, four times a round. It says whether it was always started.
+fn jobs(board: &Board, pass: &mut Pass, steps: u64) -> bool
+    requires { IsWorker board.now pass.old }
+{
+    for _ in 0..steps / 4 {
+        if !job(board, pass) || !job(board, pass) || !job(board, pass) || !job(board, pass) {
+            return false;
+        }
+    }
+    true
+}
+
+/// Asks so often how far the first operation is. It says whether it was always unbound.
+fn recalls(board: &Board, pass: &mut Pass, steps: u64) -> bool
+    requires { IsWorker board.now pass.old }
+{
+    for _ in 0..steps / 4 {
+        if !recall(board, pass)
+            || !recall(board, pass)
+            || !recall(board, pass)
+            || !recall(board, pass)
+        {
+            return false;
+        }
+    }
+    true
+}
+
+/// Looks at the first point so often. It says whether it always carried something unsignaled.
+fn looks(board: &Board, pass: &mut Pass, steps: u64) -> bool
+    requires { IsWorker board.now pass.old }
+{
+    for _ in 0..steps / 4 {
+        if !look(board, pass) || !look(board, pass) || !look(board, pass) || !look(board, pass) {
+            return false;
+        }
+    }
+    true
+}
+
+/// Takes the turn, where it is free, and gives it back, so often.
+fn turns(board: &Board, pass: &mut Pass, rounds: u64) -> bool
+    requires { IsWorker board.now pass.old }
+{
+    for _ in 0..rounds {
+        turn(board, pass);
+    }
+    true
+}
+
+/// Takes a reference and gives it back in turns, so often. It says whether the point still carried the
+/// operation each time.
+fn references(board: &Board, pass: &mut Pass, rounds: u64) -> bool
+    requires { IsReferring board.now pass.old false }
+{
+    let mut holds = false;
+    for _ in 0..rounds {
+        let Some(now_holds) = reference(board, pass, holds) else {
+            return false;
+        };
+        holds = now_holds;
+    }
+    true
+}
+
+/// Makes so many steps of a kind. It says whether they came out as wanted.
+pub(crate) fn steps(board: &Board, mut pass: Pass, step: BoardStep, rounds: u64) -> bool
+    requires { IsReferring board.now pass false }
+{
+    match step {
+        BoardStep::Job => jobs(board, &mut pass, rounds),
+        BoardStep::Recall => recalls(board, &mut pass, rounds),
+        BoardStep::Look => looks(board, &mut pass, rounds),
+        BoardStep::Reference => references(board, &mut pass, rounds),
+        BoardStep::Turn => turns(board, &mut pass, rounds),
+    }
+}
