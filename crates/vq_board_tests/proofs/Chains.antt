@@ -1,11 +1,12 @@
--- The chain of the tests on points: its operations, in order.
-use Rattle.std.proofs.Common.{◌≡◌, ℕ, zero, suc, ◌<◌, ◌≤◌, List, [], ◌∷◌, length, Some, None, ap, sym, ◌∙◌, arith}
+-- The chains of the tests: their operations, in order.
+use Rattle.std.proofs.Common.{◌≡◌, ℕ, zero, suc, ◌<◌, ◌≤◌, [], ◌∷◌, length, Some, None, ap, sym, ◌∙◌, arith}
 use Rattle.std.specs.List.{slice_get}
-use Rattle.std.specs.Option.{option_map_or}
+use Rattle.std.specs.Option.{option_map, option_map_or}
 use Rattle.vq_model.proofs.Gets.{slice_get_past}
 use Rattle.vq_model.proofs.Options.{same_some}
-use Rattle.vq_model.specs.Plan.{Plan, chain}
+use Rattle.vq_model.specs.Plan.{Plan, chain, chain_of, value}
 use Rattle.vq_board_laws.specs.MayPoints.{IsSmaller}
+use Rattle.vq_board_tests.specs.Reads.{IsOfReads}
 use Rattle.vq_board_tests.specs.ThreeSignals.{HasSignals}
 
 -- an operation's place in the chain is its number
@@ -15,9 +16,9 @@ place_is (suc zero) e s = same_some 1 e s
 place_is (suc (suc zero)) e s = same_some 2 e s
 place_is (suc (suc (suc k))) e s = absurd (let c : None ≡ Some e = s in cc)
 
-no_second : (p : Plan) (t k e : ℕ) → HasSignals p → slice_get (chain p (suc t)) k ≡ Some e → ⊥
-no_second p t k e h s =
-    let past = slice_get_past p.chains (suc t) (omega (arith, h.alone)) in
+no_second : (p : Plan) (t k e : ℕ) → length p.chains ≡ 1 → slice_get (chain p (suc t)) k ≡ Some e → ⊥
+no_second p t k e alone s =
+    let past = slice_get_past p.chains (suc t) (omega arith) in
     let none : slice_get (chain p (suc t)) k ≡ None = ap (λ o. slice_get (option_map_or (λ x. x) o []) k) past in
     absurd (let c : None ≡ Some e = sym none ∙ s in cc)
 
@@ -29,4 +30,21 @@ smaller p f e h s = from s.of_chain s.first s.second s.smaller s.greater s.order
     from zero k l a b less =
         let first = place_is k f (sym (ap (λ xs. slice_get xs k) h.its_chain) ∙ a) in
         let second = place_is l e (sym (ap (λ xs. slice_get xs l) h.its_chain) ∙ b) in omega arith
-    from (suc t) k l a b less = absurd (no_second p t l e h b)
+    from (suc t) k l a b less = absurd (no_second p t l e h.alone b)
+
+-- the only operation has no smaller one
+pub none_smaller : (p : Plan) (f e : ℕ) → IsOfReads p → ¬ IsSmaller p f e
+none_smaller p f e h s = from s.of_chain s.first s.second s.greater s.order
+  where
+    from : (t k l : ℕ) → slice_get (chain p t) l ≡ Some e → k < l → ⊥
+    from zero k zero b less = omega arith
+    from zero k (suc l) b less = let c : None ≡ Some e = sym (ap (λ xs. slice_get xs (suc l)) h.all) ∙ b in cc
+    from (suc t) k l b less = no_second p t l e h.alone b
+
+-- nor any operation a greater value
+pub value_within : (p : Plan) → IsOfReads p → (e : ℕ) → chain_of p e ≡ Some 0 → value p e ≤ 1
+value_within p h zero is = let v = h.its_value in omega arith
+value_within p h (suc e) is =
+    let past = slice_get_past p.ops (suc e) (omega (arith, h.ops)) in
+    let none : chain_of p (suc e) ≡ None = ap (option_map (λ o. o.chain)) past in
+    absurd (let c : None ≡ Some 0 = sym none ∙ is in cc)

@@ -1,4 +1,3 @@
 mod Chains
-mod Handing
 mod RingSteps
 mod Shares

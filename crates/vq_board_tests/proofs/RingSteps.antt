@@ -1,5 +1,5 @@
 -- What the passes of rings may do in the tests.
-use Rattle.std.proofs.Common.{◌≡◌, ℕ, ◌<◌, List, [], length, ap, sym, arith}
+use Rattle.std.proofs.Common.{◌≡◌, ℕ, List, [], length, ap, sym, arith}
 use Rattle.vq_model.specs.Plan.{Plan}
 use Rattle.vq_model.specs.declared.plan.Lane.TheVariants.{Queue}
 use Rattle.vq_board_laws.specs.declared.view.Reference.{Reference}

@@ -1,5 +1,6 @@
 pub mod Batches
 pub mod Dealing
-pub mod Holders
-pub mod ThreeSignals
 pub mod FourBatches
+pub mod Holders
+pub mod Reads
+pub mod ThreeSignals

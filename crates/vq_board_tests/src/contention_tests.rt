@@ -1,50 +1,53 @@
-//! Four passes, each in a thread of its own, contend for the turn over the buffers.
-ghost use Rattle.std.specs.Prelude.{◌≡◌, ◌+◌, ◌<◌, length, true, IfSome};
-ghost use Rattle.vq_board.specs.Named.{plan_of, view, IsOf};
-ghost use Rattle.vq_board_tests.specs.Batches.{IsReady};
+//! Four batches on four queues, each with three commands, whose rings contend for the turn.
+ghost use Rattle.std.specs.Prelude.{◌≡◌, [], ◌∷◌, length, true, IfSome};
+ghost use Rattle.vq_board.specs.Named.{plan_of};
+ghost use Rattle.vq_board_tests.specs.Batches.{IsAlone, HasHandedOn, IsReady};
 ghost use Rattle.vq_board_tests.specs.Dealing.{AllFresh};
-ghost use Rattle.vq_board_tests.specs.FourBatches.{AreAlone, HasHanded};
+ghost use Rattle.vq_board_tests.specs.FourBatches.{AreFour, AreReady};
 
-use crate::board_tests::{is_alone, work_both};
+use crate::alone::{all_finished, hand_on, is_alone, work};
 use crate::passes::dealt;
 use crate::plans::four_batches;
 use std::alloc::Global;
 use std::sync::Wait;
 use std::thread::{Threads, join};
-use vq_board::{Board, Closed, JobState, Pass, Passes, Role};
-use vq_order::Ordered;
+use vq_board::{Board, Closed, Pass, Passes, Role};
 use vq_spec::Plan;
 
-/// Whether the jobs are four batches of which each has a queue and a command of its own.
-fn are_alone(plan: &Plan) -> bool
-    ensures { result ≡ true → AreAlone plan.now }
+/// Whether the plan is that of the script.
+fn are_four(plan: &Plan) -> bool
+    ensures { result ≡ true → AreFour plan.now }
 {
-    plan.jobs() == 4
-        && is_alone(plan, 0)
-        && is_alone(plan, 1)
-        && is_alone(plan, 2)
-        && is_alone(plan, 3)
+    if plan.jobs() != 4 || !is_alone(plan, 0, &[0, 1, 2]) || !is_alone(plan, 1, &[3, 4, 5]) {
+        return false;
+    }
+    is_alone(plan, 2, &[6, 7, 8]) && is_alone(plan, 3, &[9, 10, 11])
 }
 
-/// The host submits and releases the next batch.
-fn hand_over(board: &Board, host: &mut Pass, j: u32)
-    requires alone { AreAlone (plan_of board.now) }
-    requires next { j < 4 }
-    requires host { HasHanded board.now host.old j }
-    ensures { HasHanded board.now host.new (j + 1) }
+/// The host submits and releases all batches.
+fn hand_all_on(board: &Board, host: &mut Pass)
+    requires plan { AreFour (plan_of board.now) }
+    requires host { HasHandedOn board.now host.old 0 }
+    ensures { HasHandedOn board.now host.new 4 }
 {
-    board.submit(host, j);
-    board.release(host, j);
+    hand_on(board, host, 0, &[0, 1, 2]);
+    hand_on(board, host, 1, &[3, 4, 5]);
+    hand_on(board, host, 2, &[6, 7, 8]);
+    hand_on(board, host, 3, &[9, 10, 11]);
 }
 
-/// The board of the script, the host's pass, which has handed on all batches, and the rings' passes.
-fn opened(alloc: Global, ordered: &Ordered) -> Option<(Board, Pass, Vec<Pass>)>
-    requires alone { AreAlone ordered.now }
-    ensures plan { IfSome result (λ t. plan_of t.0 ≡ ordered.now) }
-    ensures host { IfSome result (λ t. HasHanded t.0 t.1 4) }
+/// The board of the script, the host's pass, which has handed all batches on, and the passes of the
+/// rings.
+fn opened(alloc: Global) -> Option<(Board, Pass, Vec<Pass>)>
+    ensures plan { IfSome result (λ t. AreFour (plan_of t.0)) }
+    ensures host { IfSome result (λ t. HasHandedOn t.0 t.1 4) }
     ensures rings { IfSome result (λ t. AllFresh t.0 t.2.items) }
 {
-    let Ok((board, passes)) = Board::new(alloc, ordered) else {
+    let ordered = four_batches(alloc)?;
+    if !are_four(ordered.plan()) {
+        return None;
+    }
+    let Ok((board, passes)) = Board::new(alloc, &ordered) else {
         return None;
     };
     let Passes {
@@ -53,85 +56,106 @@ fn opened(alloc: Global, ordered: &Ordered) -> Option<(Board, Pass, Vec<Pass>)>
         rings,
         shelves: _,
     } = passes;
-    hand_over(&board, &mut host, 0);
-    hand_over(&board, &mut host, 1);
-    hand_over(&board, &mut host, 2);
-    hand_over(&board, &mut host, 3);
+    hand_all_on(&board, &mut host);
     Some((board, host, rings))
 }
 
-/// Each batch is run by its ring's pass, in a thread of its own.
-fn work_all<R: Threads + Wait + Sync>(
+/// Two batches are run by their rings' passes, each in a thread of its own. It says whether both were.
+fn work_two<R: Threads + Wait + Sync>(
     rt: &R,
     board: &Board,
     first: Pass,
+    j: u32,
+    firsts: &[u32],
     second: Pass,
-    third: Pass,
-    fourth: Pass,
+    k: u32,
+    seconds: &[u32],
 ) -> bool
-    requires first { IsReady board.now first 0 }
-    requires second { IsReady board.now second 1 }
-    requires third { IsReady board.now third 2 }
-    requires fourth { IsReady board.now fourth 3 }
+    requires first { IsReady board.now first j firsts.now }
+    requires second { IsReady board.now second k seconds.now }
 {
-    join(
+    let done = join(
         rt,
-        || -> (bool, bool)
-            requires first { IsReady board.now first 0 }
-            requires second { IsReady board.now second 1 }
-        { work_both(rt, board, first, 0, second, 1) },
-        || -> (bool, bool)
-            requires third { IsReady board.now third 2 }
-            requires fourth { IsReady board.now fourth 3 }
-        { work_both(rt, board, third, 2, fourth, 3) },
-    ) == ((true, true), (true, true))
+        || -> bool
+            requires { IsReady board.now first j firsts.now }
+        { work(rt, board, first, j, firsts) },
+        || -> bool
+            requires { IsReady board.now second k seconds.now }
+        { work(rt, board, second, k, seconds) },
+    );
+    done == (true, true)
 }
 
-/// Runs all batches. It says whether all were run.
-fn run_all<R: Threads + Wait + Sync>(rt: &R, board: &Board, mut rings: Vec<Pass>) -> Option<bool>
+/// The passes of four rings, the first two and the others.
+fn all_rings(board: &Board, mut rings: Vec<Pass>) -> Option<((Pass, Pass), (Pass, Pass))>
     requires fresh { AllFresh board.now rings.items }
-    requires alone { AreAlone (plan_of board.now) }
+    requires plan { AreFour (plan_of board.now) }
+    ensures { IfSome result (λ t. AreReady board.now t) }
 {
     let fourth = dealt(board, &mut rings, Role::Ring(3))?;
     let third = dealt(board, &mut rings, Role::Ring(2))?;
     let second = dealt(board, &mut rings, Role::Ring(1))?;
     let first = dealt(board, &mut rings, Role::Ring(0))?;
-    Some(work_all(rt, board, first, second, third, fourth))
+    Some(((first, second), (third, fourth)))
+}
+
+/// All batches are run, each in a thread of its own. It says whether all were.
+fn work_all<R: Threads + Wait + Sync>(
+    rt: &R,
+    board: &Board,
+    rings: ((Pass, Pass), (Pass, Pass)),
+) -> bool
+    requires { AreReady board.now rings }
+{
+    let ((first, second), (third, fourth)) = rings;
+    let done = join(
+        rt,
+        || -> bool
+            requires first { IsReady board.now first 0 (0 ∷ 1 ∷ 2 ∷ []) }
+            requires second { IsReady board.now second 1 (3 ∷ 4 ∷ 5 ∷ []) }
+        { work_two(rt, board, first, 0, &[0, 1, 2], second, 1, &[3, 4, 5]) },
+        || -> bool
+            requires third { IsReady board.now third 2 (6 ∷ 7 ∷ 8 ∷ []) }
+            requires fourth { IsReady board.now fourth 3 (9 ∷ 10 ∷ 11 ∷ []) }
+        { work_two(rt, board, third, 2, &[6, 7, 8], fourth, 3, &[9, 10, 11]) },
+    );
+    done == (true, true)
 }
 
 /// The board is closed, where all batches are found finished.
 fn closed(board: Board, mut host: Pass) -> Option<Closed>
-    requires host { IsOf board host }
-    requires role { (view host).role ≡ 0 }
+    requires host { HasHandedOn board host 4 }
     requires jobs { length (plan_of board).jobs ≡ 4 }
 {
-    if board.job_state(&mut host, 0) != JobState::Finished
-        || board.job_state(&mut host, 1) != JobState::Finished
-        || board.job_state(&mut host, 2) != JobState::Finished
-        || board.job_state(&mut host, 3) != JobState::Finished
-    {
-        return None;
+    if all_finished(&board, &mut host, 4) {
+        Some(board.close(host))
+    } else {
+        None
     }
-    Some(board.close(host))
+}
+
+/// Whether these are the bytes from 1 to 48.
+fn are_counted(bytes: &[u8]) -> bool {
+    for (i, byte) in bytes.iter().enumerate() {
+        if usize::from(*byte) != i + 1 {
+            return false;
+        }
+    }
+    bytes.len() == 48
 }
 
 /// Whether the board, after all batches ran, has the bytes of all.
-fn runs_whole<R: Threads + Wait + Sync>(rt: &R, alloc: Global) -> Option<bool> {
-    let ordered = four_batches(alloc)?;
-    if !are_alone(ordered.plan()) {
-        return None;
-    }
-    let (board, host, rings) = opened(alloc, &ordered)?;
-    if run_all(rt, &board, rings) != Some(true) {
+fn runs_all<R: Threads + Wait + Sync>(rt: &R, alloc: Global) -> Option<bool> {
+    let (board, host, rings) = opened(alloc)?;
+    let rings = all_rings(&board, rings)?;
+    if !work_all(rt, &board, rings) {
         return None;
     }
     let closed = closed(board, host)?;
-    let buffers = closed.buffers();
-    let bytes = [1u8, 0, 0, 0, 2, 0, 0, 0, 3, 0, 0, 0, 4, 0, 0, 0];
-    Some(buffers.count() == 1 && buffers.bytes(0) == bytes.as_slice())
+    Some(closed.buffers().count() == 1 && are_counted(closed.buffers().bytes(0)))
 }
 
 #[test]
-fn four_passes_contend_for_the_turn(rt: HostRuntime) {
-    assert!(rt; runs_whole(&rt, rt.alloc()) == Some(true));
+fn four_batches_leave_their_bytes(rt: HostRuntime) {
+    assert!(rt; runs_all(&rt, rt.alloc()) == Some(true));
 }

@@ -5,15 +5,22 @@
 #[cfg(test)]
 mod actors;
 #[cfg(test)]
+mod alone;
+#[cfg(test)]
+mod answers_tests;
+#[cfg(test)]
 mod board_tests;
 #[cfg(test)]
 mod contention_tests;
+pub mod host_steps;
 #[cfg(test)]
 mod passes;
 #[cfg(test)]
 mod plans;
 #[cfg(test)]
 mod points_tests;
+#[cfg(test)]
+mod reads;
 #[cfg(test)]
 mod references_tests;
 pub mod rings;

@@ -20,7 +20,7 @@ fn is_threaded(script: &Script, queue: u32) -> bool
 }
 
 /// Whether two lists of numbers are the same.
-fn is_same(left: &[u32], right: &[u32]) -> bool
+pub(crate) fn is_same(left: &[u32], right: &[u32]) -> bool
     ensures { result ≡ true → left.now ≡ right.now }
 {
     left == right

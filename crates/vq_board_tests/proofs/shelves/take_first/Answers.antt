@@ -1,4 +1,4 @@
-use Rattle.std.proofs.Common.{arith, ap, ◌≡◌, ℕ, length, List}
+use Rattle.std.proofs.Common.{arith, ap, ℕ, length, List}
 use Rattle.vq_board.specs.Named.{plan_of, view}
 use Rattle.vq_board_tests.proofs.Shares.{may_make}
 use Rattle.vq_board_tests.proofs.shelves.take_first.Goals as goal

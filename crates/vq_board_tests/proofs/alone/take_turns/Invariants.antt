@@ -1,0 +1,10 @@
+use Rattle.std.proofs.Common.{◌≡◌}
+use Rattle.vq_board.specs.Named.{view}
+use Rattle.vq_board_tests.specs.Batches.{IsRunning}
+use Rattle.vq_board_tests.proofs.alone.take_turns.Given as goal
+
+abbrev pub invariant-loop : goal.invariant-loop
+invariant-loop g l = record {
+  running : IsRunning l.board l.pass l.j;
+  entered : (view l.pass).entered ≡ (view l.fn.pass).entered;
+}
