@@ -1,5 +1,5 @@
 -- How many of each chain's first operations a pass knows made. This project's own.
-use Rattle.std.specs.Prelude.{ℕ, Bool, false, true, List, [], ◌∷◌, ◌≡◌, ◌==◌, ◌||◌}
+use Rattle.std.specs.Prelude.{ℕ, Bool, false, true, List, [], ◌∷◌, ◌≡◌, ◌==◌, ◌||◌, ◌&&◌}
 use Rattle.std.specs.Prelude.{◌<◌, ◌≤◌, ◌+◌, Some, length, slice_index, slice_set, if◌then◌else◌}
 use Rattle.std.specs.List.{slice_get}
 use Rattle.std.specs.Option.{option_map_or}
@@ -9,9 +9,12 @@ use Rattle.std.proofs.Math.Bool.{Bool-set}
 use Rattle.atomic_table.specs.Table.{Me}
 use Rattle.vq_model.specs.declared.plan.Op.{Op}
 use Rattle.vq_model.specs.Plan.{Plan, chain}
+use Rattle.vq_point.specs.declared.PointWord.{PointWord}
 use Rattle.vq_board_laws.specs.declared.view.Fact.{Fact}
 use Rattle.vq_board_laws.specs.declared.view.Fact.TheVariants.{Made, Past}
 use Rattle.vq_board_laws.specs.declared.view.LoggedBuffers.{LoggedBuffers}
+use Rattle.vq_board_laws.specs.declared.view.OpState.{OpState}
+use Rattle.vq_board_laws.specs.declared.view.OpState.TheVariants.{Past as PastOp}
 use Rattle.vq_board_laws.specs.declared.view.View.{View}
 use Rattle.vq_board_laws.specs.Knowledge.{KnowsMade}
 
@@ -50,6 +53,15 @@ raised counts o =
 
 abbrev pub counted : List Op → ℕ → List ℕ → List ℕ
 counted ops e counts = option_map_or (raised counts) (slice_get ops e) counts
+
+-- so after a look at an operation that is past, and at a point that is signaled
+abbrev pub counted_state : List Op → ℕ → OpState → List ℕ → List ℕ
+counted_state ops e PastOp counts = counted ops e counts
+counted_state ops e other counts = counts
+
+abbrev pub counted_word : List Op → PointWord → List ℕ → List ℕ
+counted_word ops word counts =
+    if word.held && word.signaled then counted ops word.op counts else counts
 
 -- each operation stands at its place in its chain
 abbrev pub StandInChains : Plan → Type 0

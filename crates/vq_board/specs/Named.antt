@@ -31,9 +31,15 @@ counts_of x = x.first_made.items
 abbrev pub IsOf : Board → Pass → Type 0
 IsOf b x = (x.seat.table_id ≡ b.table.shared.table_id) × ((view x).plan ≡ plan_of b)
 
--- the same pass, with another view
+-- the same pass, with another view and these counts,
+abbrev pub TurnsWith : Pass → Pass → View → List ℕ → Type 0
+TurnsWith x y v counts =
+    (y.seat.table_id ≡ x.seat.table_id) × (role_of y ≡ role_of x) × (view y ≡ v)
+    × (counts_of y ≡ counts)
+
+-- or with another view alone
 abbrev pub Turns : Pass → Pass → View → Type 0
-Turns x y v = (y.seat.table_id ≡ x.seat.table_id) × (role_of y ≡ role_of x) × (view y ≡ v)
+Turns x y v = TurnsWith x y v (counts_of x)
 
 -- a pass of the board that has done nothing, with the number of its role
 abbrev pub IsFresh : Board → Pass → Type 0

@@ -3,8 +3,8 @@
 ghost use Rattle.std.specs.Prelude.{◌≡◌, ◌<◌, ◌≤◌, length, slice_index, true};
 ghost use Rattle.vq_model.specs.Plan.{chain as operations_of};
 ghost use Rattle.vq_board_laws.specs.declared.view.OpState.TheVariants.{Past as PastOp};
-ghost use Rattle.vq_board.specs.Firsts.{shows_made, counted, KnowsFirst};
-ghost use Rattle.vq_board.specs.Named.{plan_of, view, counts_of, IsOf, Turns};
+ghost use Rattle.vq_board.specs.Firsts.{shows_made, counted, counted_state, counted_word, KnowsFirst};
+ghost use Rattle.vq_board.specs.Named.{plan_of, view, counts_of, IsOf, TurnsWith};
 
 use crate::parts::{Board, Pass};
 use vq_board_laws::view::OpState;
@@ -29,8 +29,8 @@ impl Board {
     pub(crate) fn note_made(&self, pass: &mut Pass, op: u32)
         requires board { IsOf self.now pass.old }
         requires made { shows_made (view pass.old).known op ≡ true }
-        ensures pass { Turns pass.old pass.new (view pass.old) }
-        ensures counted { counts_of pass.new ≡ counted (plan_of self.now).ops op (counts_of pass.old) }
+        ensures { TurnsWith pass.old pass.new (view pass.old)
+            (counted (plan_of self.now).ops op (counts_of pass.old)) }
     {
         let Some(op) = self.copies.op(op) else {
             return;
@@ -45,7 +45,8 @@ impl Board {
     pub(crate) fn note_state(&self, pass: &mut Pass, op: u32, state: OpState)
         requires board { IsOf self.now pass.old }
         requires made { state ≡ PastOp → shows_made (view pass.old).known op ≡ true }
-        ensures { Turns pass.old pass.new (view pass.old) }
+        ensures { TurnsWith pass.old pass.new (view pass.old)
+            (counted_state (plan_of self.now).ops op state (counts_of pass.old)) }
     {
         match state {
             OpState::Past => self.note_made(pass, op),
@@ -58,7 +59,8 @@ impl Board {
         requires board { IsOf self.now pass.old }
         requires made { word.held ≡ true → word.signaled ≡ true →
             shows_made (view pass.old).known word.op ≡ true }
-        ensures { Turns pass.old pass.new (view pass.old) }
+        ensures { TurnsWith pass.old pass.new (view pass.old)
+            (counted_word (plan_of self.now).ops word (counts_of pass.old)) }
     {
         if word.held && word.signaled {
             self.note_made(pass, word.op);

@@ -4,7 +4,8 @@ ghost use Rattle.vq_board_laws.specs.declared.view.OpState.TheVariants.{Unbound 
 ghost use Rattle.vq_board_laws.specs.declared.view.OpState.TheVariants.{Bound as BoundOp, Past as PastOp};
 ghost use Rattle.vq_board_laws.specs.MayPoints.{MayBind, MaySignal, MayComplete};
 ghost use Rattle.vq_board_laws.specs.PointSteps.{op_number, recalls, binds, signals, completes};
-ghost use Rattle.vq_board.specs.Named.{plan_of, view, IsOf, Turns};
+ghost use Rattle.vq_board.specs.Firsts.{counted, counted_state};
+ghost use Rattle.vq_board.specs.Named.{plan_of, view, counts_of, IsOf, Turns, TurnsWith};
 
 use crate::parts::{Board, Pass, Unbound};
 use crate::plays::{Bind, Complete, Recall, Signal};
@@ -34,7 +35,8 @@ impl Board {
     pub fn recall(&self, pass: &mut Pass, op: u32) -> OpState
         requires board { IsOf self.now pass.old }
         requires exists { op < length (plan_of self.now).ops }
-        ensures pass { Turns pass.old pass.new (recalls (view pass.old) op result) }
+        ensures pass { TurnsWith pass.old pass.new (recalls (view pass.old) op result)
+            (counted_state (plan_of self.now).ops op result (counts_of pass.old)) }
         ensures point { (q : ℕ) → result ≡ BoundOp q → q < length (plan_of self.now).ops }
         ensures unsignaled { MaySignal (plan_of self.now) (view pass.old) op → result ≢ PastOp }
     {
@@ -70,7 +72,8 @@ impl Board {
         requires exists { op < length (plan_of self.now).ops }
         requires may { MaySignal (plan_of self.now) (view pass.old) op }
         ensures signaled { IfOk result (λ _. (q n : ℕ)
-            × Turns pass.old pass.new (signals (recalls (view pass.old) op (BoundOp q)) op q n)) }
+            × TurnsWith pass.old pass.new (signals (recalls (view pass.old) op (BoundOp q)) op q n)
+            (counted (plan_of self.now).ops op (counts_of pass.old))) }
         ensures unbound { IfErr result (λ _.
             Turns pass.old pass.new (recalls (view pass.old) op UnboundOp)) }
     {
@@ -95,7 +98,8 @@ impl Board {
         requires board { IsOf self.now pass.old }
         requires exists { op < length (plan_of self.now).ops }
         requires may { MayComplete (plan_of self.now) (view pass.old) op }
-        ensures { Turns pass.old pass.new (completes (view pass.old) op) }
+        ensures { TurnsWith pass.old pass.new (completes (view pass.old) op)
+            (counted (plan_of self.now).ops op (counts_of pass.old)) }
     {
         self.table
             .shared

@@ -8,7 +8,8 @@ ghost use Rattle.vq_board_laws.specs.Points.{reference, Lists, IsWord};
 ghost use Rattle.vq_board_laws.specs.PointSteps.{carries, sees, makes, assigns, retires, refers, unrefers};
 ghost use Rattle.vq_board_laws.specs.PointSteps.{misses_point};
 ghost use Rattle.vq_board_laws.specs.Words.{Carries};
-ghost use Rattle.vq_board.specs.Named.{plan_of, view, IsOf, Turns};
+ghost use Rattle.vq_board.specs.Firsts.{counted_word};
+ghost use Rattle.vq_board.specs.Named.{plan_of, view, counts_of, IsOf, Turns, TurnsWith};
 ghost use Rattle.vq_board.specs.Answers.{IsInUse, IsReferred, IsLost};
 
 use crate::parts::{Board, InUse, Lost, Pass, Referred};
@@ -102,7 +103,8 @@ impl Board {
     pub fn look(&self, pass: &mut Pass, point: u32) -> PointWord
         requires board { IsOf self.now pass.old }
         requires exists { point < length (plan_of self.now).ops }
-        ensures pass { Turns pass.old pass.new (sees (view pass.old) point (bits_of result)) }
+        ensures pass { TurnsWith pass.old pass.new (sees (view pass.old) point (bits_of result))
+            (counted_word (plan_of self.now).ops result (counts_of pass.old)) }
         ensures referred { (e : ℕ) → Lists (view pass.old).refs (reference point e) →
             (result.held ≡ true) × (result.op ≡ e) }
     {

@@ -46,6 +46,11 @@ abbrev pub Knows : List Fact → Fact → Type 0
 Knows [] f = ⊥
 Knows (g ∷ fs) f = (g ≡ f) ⊎ Knows fs f
 
+-- the job is known at least so far
+abbrev pub KnowsSoFar : List Fact → ℕ → JobState → Type 0
+KnowsSoFar known j least =
+    (s : JobState) × (state_number least ≤ state_number s) × Knows known (Job j s)
+
 -- The operation is known made: a step showed it made or completed, it is made with one that is known
 -- made, or its job, or one for which it is sure, is known finished.
 pub data KnowsMade (p : Plan) (known : List Fact) : ℕ → Type 0 where

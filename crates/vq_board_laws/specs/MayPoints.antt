@@ -5,9 +5,8 @@ use Rattle.std.specs.List.{slice_get}
 use Rattle.vq_model.specs.declared.plan.Lane.{Lane}
 use Rattle.vq_model.specs.Plan.{Plan, has, chain, job_of, commands_of, signals_of, is_host_step}
 use Rattle.vq_board_laws.specs.declared.view.View.{View}
-use Rattle.vq_board_laws.specs.declared.view.Fact.TheVariants.{Job}
 use Rattle.vq_board_laws.specs.declared.view.JobState.TheVariants.{Released, Started}
-use Rattle.vq_board_laws.specs.Knowledge.{Knows, KnowsMade}
+use Rattle.vq_board_laws.specs.Knowledge.{KnowsMade, KnowsSoFar}
 use Rattle.vq_board_laws.specs.Points.{reference, Lists, IsOfShelf}
 use Rattle.vq_board_laws.specs.Roles.{role_number, runner_of, share_of}
 
@@ -34,15 +33,15 @@ pub record MayAssign (p : Plan) (v : View) (q e : ℕ) : Type 0 where
   pub unbound : has v.bound e ≡ false
 
 -- the shelf's pass may bind the operation to the point that carries it: all smaller ones of the chain
--- are bound, and its job is known released, or started if it is a host step
+-- are bound, and its job is known released or further, or started if it is a host step
 pub record MayBind (p : Plan) (v : View) (e q : ℕ) : Type 0 where
   pub carries : Lists v.carrying (reference q e)
   pub unbound : has v.bound e ≡ false
   pub smaller : (f : ℕ) → IsSmaller p f e → has v.bound f ≡ true
   pub released : (j : ℕ) → job_of p e ≡ Some j → is_host_step p j ≡ false →
-      Knows v.known (Job j Released)
+      KnowsSoFar v.known j Released
   pub started : (j : ℕ) → job_of p e ≡ Some j → is_host_step p j ≡ true →
-      Knows v.known (Job j Started)
+      KnowsSoFar v.known j Started
 
 -- the pass may signal the operation: it runs its job, all commands of the job are made, and this is
 -- the job's next signal

@@ -27,4 +27,4 @@ invariant_of-pass c =
     record { running = c.args.pass.now.running ∙ sym (ap (λ m. m.0.runs) told); hand = subst InHand (sym told) c.args.pass.now.hand; firsts = subst (AreCounted c.args.pass.now.first_made.items) (sym told) c.args.pass.now.firsts }
 
 pub returns : goal.returns
-returns c = (c.compare_exchange.ensures.0, refl, ap (λ m. m.0) (c.compare_exchange.ensures.2 c.args.job c.args.answer refl c.operands-code.ensures.first c.operands-code.ensures.second))
+returns c = (c.compare_exchange.ensures.0, refl, ap (λ m. m.0) (c.compare_exchange.ensures.2 c.args.job c.args.answer refl c.operands-code.ensures.first c.operands-code.ensures.second), refl)

@@ -14,4 +14,4 @@ invariant_of-pass c =
     record { running = c.args.pass.now.running ∙ sym (ap (λ m. m.0.runs) told); hand = subst InHand (sym told) c.args.pass.now.hand; firsts = subst (AreCounted c.args.pass.now.first_made.items) (sym told) (firsts_next _ _ _ _ c.args.pass.now.firsts) }
 
 pub returns : goal.returns
-returns c = (c.store.ensures.0, refl, ap (λ m. m.0) (c.store.ensures.2 c.args.point c.args.op refl refl))
+returns c = (c.store.ensures.0, refl, ap (λ m. m.0) (c.store.ensures.2 c.args.point c.args.op refl refl), refl)

@@ -21,5 +21,5 @@ note_made-requires-clause-made c = subst (λ m. shows_made m.0.known c.args.op �
 
 pub returns : goal.returns
 returns c =
-    let noted = c.note_made.ensures.pass in
-    (noted.0 ∙ c.store.ensures.0, noted.1, noted.2 ∙ ap (λ m. m.0) (c.store.ensures.2 c.args.op refl))
+    let noted = c.note_made.ensures in
+    (noted.0 ∙ c.store.ensures.0, noted.1, noted.2 ∙ ap (λ m. m.0) (c.store.ensures.2 c.args.op refl), noted.3)

@@ -51,7 +51,7 @@ returns c =
     let h = hand_is t.0 x m.1 t.1 c.slot_mut-memory.ensures.value in
     let filled : x.filled ≡ may.filled = ap (λ (z : LoggedBuffers). z.filled) (sym h.0) ∙ t.2 in
     let told = c.store.ensures.2 x.filled c.args.command y refl (omega arith) (ap (λ (ts : List (ℕ × LoggedBuffers)). (0, y) ∷ ts) h.1) in
-    (x.filled, y.buffers, may.held ∙ ap (λ (n : ℕ). Some n) (sym filled), (c.store.ensures.0, refl, ap (λ m. m.0) told.0))
+    (x.filled, y.buffers, may.held ∙ ap (λ (n : ℕ). Some n) (sym filled), (c.store.ensures.0, refl, ap (λ m. m.0) told.0, refl))
 
 pub invariant_of-pass : goal.invariant_of-pass
 invariant_of-pass c =

@@ -20,4 +20,4 @@ pub returns : goal.returns
 returns c =
     let told = c.load-word.ensures.2 c.args.job refl in
     let same = c.state_of.ensures ∙ (ap state_at told.1 ∙ state_of_number told.0) in
-    (c.load-word.ensures.0, refl, ap (λ m. m.0) told.2 ∙ ap (looks (view c.args.pass.now) c.args.job) (sym same))
+    (c.load-word.ensures.0, refl, ap (λ m. m.0) told.2 ∙ ap (looks (view c.args.pass.now) c.args.job) (sym same), refl)

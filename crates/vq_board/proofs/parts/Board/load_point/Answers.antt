@@ -15,7 +15,7 @@ invariant_of-pass c =
     record { running = c.args.pass.now.running ∙ sym (ap (λ m. m.0.runs) told); hand = subst InHand (sym told) c.args.pass.now.hand; firsts = subst (AreCounted c.args.pass.now.first_made.items) (sym told) (firsts_more _ (point_facts c.load.result ++ moved_on c.args.point c.load.result c.args.pass.now.seat.me.0.known) _ _ c.args.pass.now.firsts) }
 
 pub returns-clause-pass : goal.returns-clause-pass
-returns-clause-pass c = (c.load.ensures.0, refl, ap (λ m. m.0) (c.load.ensures.2 c.args.point refl).0)
+returns-clause-pass c = (c.load.ensures.0, refl, ap (λ m. m.0) (c.load.ensures.2 c.args.point refl).0, refl)
 
 pub returns-clause-word : goal.returns-clause-word
 returns-clause-word c = (c.load.ensures.2 c.args.point refl).1

@@ -14,7 +14,7 @@ invariant_of-pass c =
     record { running = c.args.pass.now.running ∙ sym (ap (λ m. m.0.runs) told); hand = subst InHand (sym told) c.args.pass.now.hand; firsts = subst (AreCounted c.args.pass.now.first_made.items) (sym told) c.args.pass.now.firsts }
 
 pub returns-clause-pass : goal.returns-clause-pass
-returns-clause-pass c = (c.fetch_add.ensures.0, refl, ap (λ m. m.0) c.fetch_add.ensures.2.0)
+returns-clause-pass c = (c.fetch_add.ensures.0, refl, ap (λ m. m.0) c.fetch_add.ensures.2.0, refl)
 
 pub returns-clause-exists : goal.returns-clause-exists
 returns-clause-exists c = let low = c.fetch_add.ensures.2.1 in let same = ap (λ (p : Plan). length p.ops) c.requires.board.1 in omega arith

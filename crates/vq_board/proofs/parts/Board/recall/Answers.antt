@@ -43,7 +43,7 @@ returns-clause-pass c =
     let told = c.load-word.ensures.2 c.args.op refl in
     let same = op_number_is told.0 _ (sym told.1 ∙ sym c.state_of-state.ensures) in
     let noted = c.note_state.ensures in
-    (noted.0 ∙ c.load-word.ensures.0, noted.1, noted.2 ∙ (ap (λ m. m.0) told.2 ∙ ap (recalls (view c.args.pass.now) c.args.op) same))
+    (noted.0 ∙ c.load-word.ensures.0, noted.1, noted.2 ∙ (ap (λ m. m.0) told.2 ∙ ap (recalls (view c.args.pass.now) c.args.op) same), noted.3)
 
 pub returns-clause-point : goal.returns-clause-point
 returns-clause-point c = λ q e.

@@ -43,14 +43,14 @@ returns-then-found-loaded c =
     let told = (c.compare_exchange-found.ensures.2 c.args.point refl).0 is in
     let carry = carried c.load_point-loaded.result c.args.op (sym c.carries.ensures ∙ c.if-not-carries.false) in
     let op = ap (λ (n : ℕ). (parts n).op) is ∙ carry.op in
-    (c.load_point-loaded.result, carry, (c.compare_exchange-found.ensures.0 ∙ seen.0, seen.1, ap (λ m. m.0) told ∙ (λ i. refers (seen.2 i) c.args.point (op i) (is i))))
+    (c.load_point-loaded.result, carry, (c.compare_exchange-found.ensures.0 ∙ seen.0, seen.1, ap (λ m. m.0) told ∙ (λ i. refers (seen.2 i) c.args.point (op i) (is i)), seen.3))
 
 pub returns-then-carries : goal.returns-then-carries
 returns-then-carries c =
     let seen = c.load_point-loaded.ensures.pass in
     let told = (c.compare_exchange-found.ensures.2 c.args.point refl).1 c.if-found-loaded.false in (
       carried c.compare_exchange-found.result c.args.op (sym c.carries-else-found-loaded.ensures ∙ c.if-carries.true),
-      (c.load_point-loaded.result, c.if-found-loaded.false, (c.compare_exchange-found.ensures.0 ∙ seen.0, seen.1, ap (λ m. m.0) told ∙ ap (λ (v : View). misses_point v c.args.point c.compare_exchange-found.result) seen.2)),
+      (c.load_point-loaded.result, c.if-found-loaded.false, (c.compare_exchange-found.ensures.0 ∙ seen.0, seen.1, ap (λ m. m.0) told ∙ ap (λ (v : View). misses_point v c.args.point c.compare_exchange-found.result) seen.2, seen.3)),
     )
 
 pub returns-else-carries : goal.returns-else-carries
@@ -58,5 +58,5 @@ returns-else-carries c =
     let seen = c.load_point-loaded.ensures.pass in
     let told = (c.compare_exchange-found.ensures.2 c.args.point refl).1 c.if-found-loaded.false in (
       not_carried c.compare_exchange-found.result c.args.op (sym c.carries-else-found-loaded.ensures ∙ c.if-carries.false),
-      inr (c.load_point-loaded.result, c.if-found-loaded.false, (c.compare_exchange-found.ensures.0 ∙ seen.0, seen.1, ap (λ m. m.0) told ∙ ap (λ (v : View). misses_point v c.args.point c.compare_exchange-found.result) seen.2)),
+      inr (c.load_point-loaded.result, c.if-found-loaded.false, (c.compare_exchange-found.ensures.0 ∙ seen.0, seen.1, ap (λ m. m.0) told ∙ ap (λ (v : View). misses_point v c.args.point c.compare_exchange-found.result) seen.2, seen.3)),
     )

@@ -35,10 +35,10 @@ returns-then-found-loaded-clause-freed c =
     let is = c.if-found-loaded.true in
     let none_left : (parts c.load_point-loaded.result).refs ≡ 0 = grind arith in
     let told = (c.compare_exchange-found.ensures.2 c.args.point refl).0 is in
-    (c.load_point-loaded.result, none_left, (c.compare_exchange-found.ensures.0 ∙ seen.0, seen.1, ap (λ m. m.0) told ∙ (λ i. retires (seen.2 i) c.args.point (is i))))
+    (c.load_point-loaded.result, none_left, (c.compare_exchange-found.ensures.0 ∙ seen.0, seen.1, ap (λ m. m.0) told ∙ (λ i. retires (seen.2 i) c.args.point (is i)), seen.3))
 
 pub returns-else-found-loaded-clause-in_use : goal.returns-else-found-loaded-clause-in_use
 returns-else-found-loaded-clause-in_use c =
     let seen = c.load_point-loaded.ensures.pass in
     let told = (c.compare_exchange-found.ensures.2 c.args.point refl).1 c.if-found-loaded.false in
-    inr (c.load_point-loaded.result, c.if-found-loaded.false, (c.compare_exchange-found.ensures.0 ∙ seen.0, seen.1, ap (λ m. m.0) told ∙ ap (λ (v : View). misses_point v c.args.point c.compare_exchange-found.result) seen.2))
+    inr (c.load_point-loaded.result, c.if-found-loaded.false, (c.compare_exchange-found.ensures.0 ∙ seen.0, seen.1, ap (λ m. m.0) told ∙ ap (λ (v : View). misses_point v c.args.point c.compare_exchange-found.result) seen.2, seen.3))

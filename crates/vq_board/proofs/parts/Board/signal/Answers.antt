@@ -8,9 +8,9 @@ use Rattle.vq_board_laws.specs.Knowledge.{Knows}
 use Rattle.vq_board_laws.specs.MayPoints.{MaySignal}
 use Rattle.vq_board_laws.specs.PointSteps.{recalls, signals}
 use Rattle.vq_board_laws.proofs.Cited.{signals_op}
-use Rattle.vq_board.specs.Firsts.{AreCounted, shows_made}
+use Rattle.vq_board.specs.Firsts.{AreCounted, shows_made, counted, counted_state}
 use Rattle.vq_board.specs.Hands.{InHand}
-use Rattle.vq_board.specs.Named.{view}
+use Rattle.vq_board.specs.Named.{view, counts_of}
 use Rattle.vq_board.proofs.Firsts.{firsts_next, just_made}
 use Rattle.vq_board.proofs.parts.Board.signal.Goals as goal
 
@@ -58,5 +58,5 @@ returns-in-Bound-clause-signaled c =
     let t = still c.args.self.now.table.shared.key (view c.args.pass.now) (view c.recall.new.pass) c.args.op c.in-Bound.point c.recall.result c.requires.may c.recall.ensures.pass.2 c.in-Bound.is in
     let plan = ap (λ (v : View). v.plan) t.2 ∙ c.requires.board.1 in
     let told = c.fetch_add.ensures.2 c.in-Bound.point c.args.op refl (subst (λ (p : Plan). MaySignal p (view c.recall.new.pass) c.args.op) (sym plan) t.0) in
-    let noted = c.note_made.ensures.pass in
-    (c.in-Bound.point, c.fetch_add.result, (noted.0 ∙ (c.fetch_add.ensures.0 ∙ c.recall.ensures.pass.0), noted.1 ∙ c.recall.ensures.pass.1, noted.2 ∙ (ap (λ m. m.0) told ∙ ap (λ (v : View). signals v c.args.op c.in-Bound.point c.fetch_add.result) t.2)))
+    let noted = c.note_made.ensures in
+    (c.in-Bound.point, c.fetch_add.result, (noted.0 ∙ (c.fetch_add.ensures.0 ∙ c.recall.ensures.pass.0), noted.1 ∙ c.recall.ensures.pass.1, noted.2 ∙ (ap (λ m. m.0) told ∙ ap (λ (v : View). signals v c.args.op c.in-Bound.point c.fetch_add.result) t.2), noted.3 ∙ ap (counted c.args.self.now.table.shared.key.ops c.args.op) (c.recall.ensures.pass.3 ∙ ap (λ (s : OpState). counted_state c.args.self.now.table.shared.key.ops c.args.op s (counts_of c.args.pass.now)) c.in-Bound.is)))

@@ -32,10 +32,10 @@ returns-then-found-loaded-clause-given c =
     let is = c.if-found-loaded.true in
     let told = (c.compare_exchange-found.ensures.2 c.args.point refl).0 is in
     let op = ap (λ (n : ℕ). (parts n).op) is ∙ (c.load_point-loaded.ensures.referred c.args.op c.requires.holds).op in
-    (c.load_point-loaded.result, (c.compare_exchange-found.ensures.0 ∙ seen.0, seen.1, ap (λ m. m.0) told ∙ (λ i. unrefers (seen.2 i) c.args.point (op i) (is i))))
+    (c.load_point-loaded.result, (c.compare_exchange-found.ensures.0 ∙ seen.0, seen.1, ap (λ m. m.0) told ∙ (λ i. unrefers (seen.2 i) c.args.point (op i) (is i)), seen.3))
 
 pub returns-else-found-loaded-clause-lost : goal.returns-else-found-loaded-clause-lost
 returns-else-found-loaded-clause-lost c =
     let seen = c.load_point-loaded.ensures.pass in
     let told = (c.compare_exchange-found.ensures.2 c.args.point refl).1 c.if-found-loaded.false in
-    (c.load_point-loaded.result, c.if-found-loaded.false, (c.compare_exchange-found.ensures.0 ∙ seen.0, seen.1, ap (λ m. m.0) told ∙ ap (λ (v : View). misses_point v c.args.point c.compare_exchange-found.result) seen.2))
+    (c.load_point-loaded.result, c.if-found-loaded.false, (c.compare_exchange-found.ensures.0 ∙ seen.0, seen.1, ap (λ m. m.0) told ∙ ap (λ (v : View). misses_point v c.args.point c.compare_exchange-found.result) seen.2, seen.3))
