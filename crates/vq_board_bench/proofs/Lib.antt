@@ -1,4 +1,5 @@
 mod Below
 mod OnePoint
+mod ReadSteps
 mod RowSteps
 mod Workers

@@ -81,7 +81,7 @@ module _ (p : Plan) (row : IsRow p) (j : ℕ) (exists : j < length p.jobs) where
         carries = subst (λ (rs : List Reference). Lists rs (reference q j)) (sym shelf.carrying) (inl refl);
         unbound = subst (λ (xs : List ℕ). has xs j ≡ false) (sym shelf.bound) (not_below j j (omega arith));
         smaller = λ f less. subst (λ (xs : List ℕ). has xs f ≡ true) (sym shelf.bound) (has_below j f (smaller_below f less));
-        released = λ i e step. inl (ap (λ (k : ℕ). Job k Released) (is_job i e));
+        released = λ i e step. (Released, omega arith, inl (ap (λ (k : ℕ). Job k Released) (is_job i e)));
         started = λ i e step. absurd (false≢true (sym (row.linked j exists).step ∙ (ap (is_host_step p) (is_job i e) ∙ step)));
       }
 

@@ -1,3 +1,4 @@
 pub mod Bare
 pub mod Idle
+pub mod Reads
 pub mod Rows

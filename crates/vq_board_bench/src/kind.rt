@@ -30,6 +30,10 @@ pub(crate) enum Kind {
     Row { whole: bool },
     /// So is a bare table.
     BareRow { whole: bool },
+    /// A board is opened and a row of the host's reads taken through its steps, or none of them.
+    Reads { whole: bool },
+    /// So is a bare table.
+    BareReads { whole: bool },
 }
 
 impl Kind {
@@ -51,6 +55,10 @@ impl Kind {
             "open" => Some(Kind::Row { whole: false }),
             "bare-run" => Some(Kind::BareRow { whole: true }),
             "bare-open" => Some(Kind::BareRow { whole: false }),
+            "answer" => Some(Kind::Reads { whole: true }),
+            "open-answers" => Some(Kind::Reads { whole: false }),
+            "bare-answer" => Some(Kind::BareReads { whole: true }),
+            "bare-open-answers" => Some(Kind::BareReads { whole: false }),
             _ => None,
         }
     }

@@ -3,10 +3,13 @@
 #![tactic(auto)]
 
 mod bare;
+mod bare_reading;
 mod bare_row;
 mod kind;
 mod opened;
 mod pairs;
+mod reading;
+mod reads;
 mod row;
 mod rows;
 mod steps;
@@ -16,7 +19,7 @@ use bare::Bare;
 use kind::Kind;
 use opened::opened;
 use pairs::{bare_pair, board_pair};
-use rows::{bare_rows, rows};
+use rows::{bare_reads, bare_rows, reads, rows};
 use std::alloc::Global;
 use std::process::ExitCode;
 use std::thread::Threads;
@@ -26,8 +29,9 @@ use steps::steps;
 const USAGE: &str = "usage: vq_board_bench KIND ROUNDS [pairs]
     bare-load, bare-store, bare-cas, bare-add, bare-refer, bare-turn,
     job_state, recall, look, refer, turn
-usage: vq_board_bench KIND ROUNDS BATCHES
-    bare-open, bare-run, open, run";
+usage: vq_board_bench KIND ROUNDS SIZE
+    bare-open, bare-run, open, run,
+    bare-open-answers, bare-answer, open-answers, answer";
 
 /// Makes so many steps of a kind in one thread. It says whether they came out as wanted.
 fn alone(alloc: Global, kind: Kind, rounds: u64) -> Option<bool> {
@@ -40,7 +44,7 @@ fn alone(alloc: Global, kind: Kind, rounds: u64) -> Option<bool> {
             let (board, pass, _) = opened(alloc)?;
             Some(steps(&board, pass, step, rounds))
         }
-        Kind::BareRow { .. } | Kind::Row { .. } => None,
+        _ => None,
     }
 }
 
@@ -55,16 +59,18 @@ fn in_pairs<R: Threads + Sync>(rt: &R, alloc: Global, kind: Kind, rounds: u64) -
             let (board, first, second) = opened(alloc)?;
             Some(board_pair(rt, &board, first, second, step, rounds))
         }
-        Kind::BareRow { .. } | Kind::Row { .. } => None,
+        _ => None,
     }
 }
 
-/// Takes rows of so many batches so often. It says whether they came out as wanted.
-fn in_rows(alloc: Global, kind: Kind, batches: u32, rounds: u64) -> Option<bool> {
+/// Takes rows of so many batches or reads so often. It says whether they came out as wanted.
+fn in_rows(alloc: Global, kind: Kind, size: u32, rounds: u64) -> Option<bool> {
     match kind {
         Kind::Bare(_) | Kind::Board(_) => None,
-        Kind::BareRow { whole } => bare_rows(alloc, batches, whole, rounds),
-        Kind::Row { whole } => rows(alloc, batches, whole, rounds),
+        Kind::BareRow { whole } => bare_rows(alloc, size, whole, rounds),
+        Kind::Row { whole } => rows(alloc, size, whole, rounds),
+        Kind::BareReads { whole } => bare_reads(alloc, size, whole, rounds),
+        Kind::Reads { whole } => reads(alloc, size, whole, rounds),
     }
 }
 

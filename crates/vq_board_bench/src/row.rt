@@ -30,7 +30,7 @@ fn is_only(list: &[u32], number: u32) -> bool
 }
 
 /// Whether there is no job before a job, or the one with the number before it.
-fn is_next(previous: Option<u32>, j: u32) -> bool
+pub(crate) fn is_next(previous: Option<u32>, j: u32) -> bool
     ensures { result ≡ true → (i : ℕ) → previous ≡ Some i → i + 1 ≡ j }
 {
     match previous {
