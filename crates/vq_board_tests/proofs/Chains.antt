@@ -2,10 +2,11 @@
 use Rattle.std.proofs.Common.{◌≡◌, ℕ, zero, suc, ◌<◌, ◌≤◌, [], ◌∷◌, length, Some, None, ap, sym, ◌∙◌, arith}
 use Rattle.std.specs.List.{slice_get}
 use Rattle.std.specs.Option.{option_map, option_map_or}
-use Rattle.vq_model.proofs.Gets.{slice_get_past}
+use Rattle.vq_model.proofs.Gets.{slice_get_past, get_within}
 use Rattle.vq_model.proofs.Options.{same_some}
 use Rattle.vq_model.specs.Plan.{Plan, chain, chain_of, value}
 use Rattle.vq_board_laws.specs.MayPoints.{IsSmaller}
+use Rattle.vq_board_tests.specs.HostSteps.{AreSingle}
 use Rattle.vq_board_tests.specs.Reads.{IsOfReads}
 use Rattle.vq_board_tests.specs.ThreeSignals.{HasSignals}
 
@@ -32,16 +33,19 @@ smaller p f e h s = from s.of_chain s.first s.second s.smaller s.greater s.order
         let second = place_is l e (sym (ap (λ xs. slice_get xs l) h.its_chain) ∙ b) in omega arith
     from (suc t) k l a b less = absurd (no_second p t l e h.alone b)
 
--- the only operation has no smaller one
-pub none_smaller : (p : Plan) (f e : ℕ) → IsOfReads p → ¬ IsSmaller p f e
-none_smaller p f e h s = from s.of_chain s.first s.second s.greater s.order
-  where
-    from : (t k l : ℕ) → slice_get (chain p t) l ≡ Some e → k < l → ⊥
-    from zero k zero b less = omega arith
-    from zero k (suc l) b less = let c : None ≡ Some e = sym (ap (λ xs. slice_get xs (suc l)) h.all) ∙ b in cc
-    from (suc t) k l b less = no_second p t l e h.alone b
+-- where no chain has two operations none is smaller than another
+pub none_smaller : (p : Plan) (f e : ℕ) → AreSingle p → ¬ IsSmaller p f e
+none_smaller p f e single s =
+    let few = single s.of_chain in
+    let within = get_within (chain p s.of_chain) s.second e s.greater in
+    let order = s.order in omega arith
 
--- nor any operation a greater value
+-- past the last chain there are no operations
+pub single_past : (p : Plan) (t : ℕ) → length p.chains ≤ t → length (chain p t) < 2
+single_past p t past =
+    let none = ap (λ o. length (option_map_or (λ x. x) o [])) (slice_get_past p.chains t past) in omega arith
+
+-- no operation of the test of answers has a value above 1
 pub value_within : (p : Plan) → IsOfReads p → (e : ℕ) → chain_of p e ≡ Some 0 → value p e ≤ 1
 value_within p h zero is = let v = h.its_value in omega arith
 value_within p h (suc e) is =

@@ -1,3 +1,5 @@
+mod Binds
 mod Chains
 mod RingSteps
 mod Shares
+mod Waits

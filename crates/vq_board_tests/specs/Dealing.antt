@@ -4,10 +4,14 @@ use Rattle.std.specs.List.{slice_get}
 use Rattle.vq_board_laws.specs.declared.view.Role.{Role}
 use Rattle.vq_board.specs.declared.parts.Board.{Board}
 use Rattle.vq_board.specs.declared.parts.Pass.{Pass}
-use Rattle.vq_board.specs.Named.{role_of, IsFresh}
+use Rattle.vq_board.specs.Named.{role_of, IsCut, IsFresh}
 
 abbrev pub AllFresh : Board → List Pass → Type 0
 AllFresh b xs = (k : ℕ) (x : Pass) → slice_get xs k ≡ Some x → IsFresh b x
+
+-- the host's pass, which has done nothing but to deal the others
+abbrev pub IsDealer : Board → Pass → Type 0
+IsDealer b x = (n : ℕ) × IsCut b x n
 
 -- the pass of the role, which has done nothing
 pub record IsNew (b : Board) (x : Pass) (r : Role) : Type 0 where

@@ -7,6 +7,7 @@ use Rattle.vq_model.specs.Plan.{is_batch, is_host_step, question, is_silent, cha
 use Rattle.vq_model.specs.declared.plan.Lane.TheVariants.{Queue}
 use Rattle.vq_model.specs.declared.plan.Need.{Need}
 use Rattle.vq_model.specs.declared.plan.PlanJob.{PlanJob}
+use Rattle.vq_board_laws.specs.declared.view.Role.{Role}
 use Rattle.vq_board_laws.specs.declared.view.Role.TheVariants.{Submit, Ring}
 use Rattle.vq_board_laws.specs.Roles.{runner, submitter, role_number}
 
@@ -19,12 +20,13 @@ pub record IsBatch (x : PlanJob) (q : ℕ) (commands signals : List ℕ) : Type 
   pub its_signals : x.signals ≡ signals
   pub silent : is_silent x.question ≡ true
 
--- so is this job of the plan, and the queue is threaded
-pub record HasBatch (p : Plan) (j q : ℕ) (commands signals : List ℕ) : Type 0 where
+-- so is this job of the plan, and the pass of this role hands it on
+pub record HasBatch (p : Plan) (j q : ℕ) (hands_on : Role) (commands signals : List ℕ)
+    : Type 0 where
   pub exists : j < length p.jobs
   pub lane : lane_at p j ≡ q + 1
   pub runner : runner p j ≡ role_number p (Ring q)
-  pub submitter : submitter p j ≡ role_number p (Submit q)
+  pub submitter : submitter p j ≡ role_number p hands_on
   pub batch : is_batch p j ≡ true
   pub step : is_host_step p j ≡ false
   pub idle_after : idle_after p j ≡ []
@@ -46,9 +48,9 @@ pub record IsSignal (p : Plan) (e t j : ℕ) : Type 0 where
   pub its_job : job_of p e ≡ Some j
 
 pub record HasBatches (p : Plan) : Type 0 where
-  pub first : HasBatch p 0 0 (0 ∷ []) (0 ∷ [])
-  pub waiting : HasBatch p 1 1 [] []
-  pub second : HasBatch p 2 0 [] (1 ∷ [])
+  pub first : HasBatch p 0 0 (Submit 0) (0 ∷ []) (0 ∷ [])
+  pub waiting : HasBatch p 1 1 (Submit 1) [] []
+  pub second : HasBatch p 2 0 (Submit 0) [] (1 ∷ [])
   pub begins : previous p 0 ≡ None
   pub first_needs : needs p 0 ≡ []
   pub waits : WaitsFor p 1 0 1

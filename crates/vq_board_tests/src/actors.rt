@@ -1,12 +1,12 @@
 //! The board of the tests on points, and its passes.
-ghost use Rattle.std.specs.Prelude.{◌≡◌, [], IfSome};
-ghost use Rattle.vq_board_laws.specs.declared.view.Role.TheVariants.{Submit, Ring, Shelf};
-ghost use Rattle.vq_board.specs.Named.{plan_of, role_of, IsFresh};
-ghost use Rattle.vq_board_tests.specs.Dealing.{AllFresh};
+ghost use Rattle.std.specs.Prelude.{[], IfSome};
+ghost use Rattle.vq_board_laws.specs.declared.view.Role.TheVariants.{Ring};
+ghost use Rattle.vq_board.specs.Named.{plan_of};
+ghost use Rattle.vq_board_tests.specs.Dealing.{AllFresh, IsNew};
 ghost use Rattle.vq_board_tests.specs.Holders.{HasSubmitted, HasReleased, HasPoints};
 ghost use Rattle.vq_board_tests.specs.ThreeSignals.{IsOfThreeSignals};
 
-use crate::passes::dealt;
+use crate::passes::{board_of, dealt};
 use crate::plans::three_signals;
 use crate::three_signals::is_of_three_signals;
 use std::alloc::Global;
@@ -24,10 +24,7 @@ pub(crate) fn opened(alloc: Global) -> Option<(Board, Passes)>
     if !is_of_three_signals(ordered.plan()) {
         return None;
     }
-    let Ok((board, passes)) = Board::new(alloc, &ordered) else {
-        return None;
-    };
-    Some((board, passes))
+    board_of(alloc, &ordered)
 }
 
 /// The passes of P's and Q's threads that submit.
@@ -44,10 +41,8 @@ pub(crate) fn both_submits(board: &Board, mut submits: Vec<Pass>) -> Option<(Pas
 /// The passes of P's and Q's rings.
 pub(crate) fn both_rings(board: &Board, mut rings: Vec<Pass>) -> Option<(Pass, Pass)>
     requires { AllFresh board.now rings.items }
-    ensures first { IfSome result (λ t. IsFresh board.now t.0) }
-    ensures first_role { IfSome result (λ t. role_of t.0 ≡ Ring 0) }
-    ensures second { IfSome result (λ t. IsFresh board.now t.1) }
-    ensures second_role { IfSome result (λ t. role_of t.1 ≡ Ring 1) }
+    ensures first { IfSome result (λ t. IsNew board.now t.0 (Ring 0)) }
+    ensures second { IfSome result (λ t. IsNew board.now t.1 (Ring 1)) }
 {
     let second = dealt(board, &mut rings, Role::Ring(1))?;
     let first = dealt(board, &mut rings, Role::Ring(0))?;

@@ -1,5 +1,5 @@
 //! Batches that have nothing to do with other jobs, handed on by the host and run by their rings.
-ghost use Rattle.std.specs.Prelude.{◌≡◌, ℕ, ◌+◌, ◌<◌, true, false, length, Some};
+ghost use Rattle.std.specs.Prelude.{◌≡◌, ◌+◌, ◌<◌, true, false, length, Some};
 ghost use Rattle.std.specs.List.{slice_get};
 ghost use Rattle.vq_model.specs.Plan.{commands_of};
 ghost use Rattle.vq_model.specs.ValidScripts.{is_threaded_queue};
@@ -32,7 +32,7 @@ fn is_plain(job: &PlanJob, queue: u32, commands: &[u32]) -> bool
 }
 
 /// Whether the host hands the batches of a queue to the device.
-fn is_hosted(script: &Script, queue: u32) -> bool
+pub(crate) fn is_hosted(script: &Script, queue: u32) -> bool
     ensures { result ≡ true → is_threaded_queue script.now queue ≡ false }
 {
     match script.queues.as_slice().get(queue as usize) {

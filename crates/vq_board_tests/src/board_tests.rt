@@ -1,11 +1,11 @@
 //! Two batches on two queues, each with one command, over a board.
 ghost use Rattle.std.specs.Prelude.{◌≡◌, [], ◌∷◌, length, IfSome};
-ghost use Rattle.vq_board.specs.Named.{plan_of, view};
+ghost use Rattle.vq_board.specs.Named.{plan_of};
 ghost use Rattle.vq_board_tests.specs.Batches.{IsAlone, HasHandedOn, IsReady, IsRunning};
 ghost use Rattle.vq_board_tests.specs.Dealing.{AllFresh};
 
 use crate::alone::{all_finished, hand_on, is_alone, start, work};
-use crate::passes::dealt;
+use crate::passes::{board_of, dealt};
 use crate::plans::two_batches;
 use std::alloc::Global;
 use std::sync::Wait;
@@ -26,9 +26,7 @@ fn opened(alloc: Global) -> Option<(Board, Pass, Vec<Pass>)>
     if plan.jobs() != 2 || !is_alone(plan, 0, &[0]) || !is_alone(plan, 1, &[1]) {
         return None;
     }
-    let Ok((board, passes)) = Board::new(alloc, &ordered) else {
-        return None;
-    };
+    let (board, passes) = board_of(alloc, &ordered)?;
     let Passes {
         mut host,
         submits: _,

@@ -1,12 +1,12 @@
 //! Four batches on four queues, each with three commands, whose rings contend for the turn.
 ghost use Rattle.std.specs.Prelude.{◌≡◌, [], ◌∷◌, length, true, IfSome};
 ghost use Rattle.vq_board.specs.Named.{plan_of};
-ghost use Rattle.vq_board_tests.specs.Batches.{IsAlone, HasHandedOn, IsReady};
+ghost use Rattle.vq_board_tests.specs.Batches.{HasHandedOn, IsReady};
 ghost use Rattle.vq_board_tests.specs.Dealing.{AllFresh};
 ghost use Rattle.vq_board_tests.specs.FourBatches.{AreFour, AreReady};
 
 use crate::alone::{all_finished, hand_on, is_alone, work};
-use crate::passes::dealt;
+use crate::passes::{board_of, dealt};
 use crate::plans::four_batches;
 use std::alloc::Global;
 use std::sync::Wait;
@@ -47,9 +47,7 @@ fn opened(alloc: Global) -> Option<(Board, Pass, Vec<Pass>)>
     if !are_four(ordered.plan()) {
         return None;
     }
-    let Ok((board, passes)) = Board::new(alloc, &ordered) else {
-        return None;
-    };
+    let (board, passes) = board_of(alloc, &ordered)?;
     let Passes {
         mut host,
         submits: _,

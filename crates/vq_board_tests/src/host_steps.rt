@@ -1,10 +1,13 @@
-//! The host's steps of the test of answers, and the shelf's between them.
-ghost use Rattle.std.specs.Prelude.{◌≡◌, true};
+//! The host's steps of the tests of answers and of waits, and the shelf's between them.
+ghost use Rattle.std.specs.Prelude.{◌≡◌, ◌+◌, true};
 ghost use Rattle.vq_board_laws.specs.declared.view.Fact.TheVariants.{Made};
 ghost use Rattle.vq_board_laws.specs.declared.view.Role.TheVariants.{Shelf};
 ghost use Rattle.vq_board_laws.specs.Knowledge.{Knows};
-ghost use Rattle.vq_board.specs.Named.{plan_of, view, role_of, IsFresh};
-ghost use Rattle.vq_board_tests.specs.Reads.{IsOfReads, HasFinished, IsAtStep};
+ghost use Rattle.vq_board.specs.Named.{plan_of, view};
+ghost use Rattle.vq_board_tests.specs.Dealing.{IsNew};
+ghost use Rattle.vq_board_tests.specs.HostSteps.{HasHostStep, HasSignal, AreSingle};
+ghost use Rattle.vq_board_tests.specs.HostSteps.{HasFinished, IsAtStep};
+ghost use Rattle.vq_board_tests.specs.Reads.{IsOfReads};
 
 use vq_board::{Board, JobState, OpState, Pass};
 use vq_model::plan::Answer;
@@ -24,41 +27,54 @@ pub fn read_first(board: &Board, host: &mut Pass) -> bool
     true
 }
 
-/// The host starts the step that signals the timeline.
-pub fn start_signal(board: &Board, host: &mut Pass)
-    requires plan { IsOfReads (plan_of board.now) }
-    requires host { HasFinished board.now host.old 1 }
-    ensures { IsAtStep board.now host.new 1 }
+/// The host starts its next step.
+pub fn start_step(board: &Board, host: &mut Pass, step: u32)
+    requires step { HasHostStep (plan_of board.now) step }
+    requires host { HasFinished board.now host.old step }
+    ensures { IsAtStep board.now host.new step }
 {
-    board.start(host, 1);
+    board.start(host, step);
 }
 
-/// The shelf gives the signal a point, as soon as its step is started.
-pub fn bind(board: &Board, shelf: &mut Pass) -> bool
-    requires plan { IsOfReads (plan_of board.now) }
-    requires fresh { IsFresh board.now shelf.old }
-    requires role { role_of shelf.old ≡ Shelf 0 }
+/// The shelf gives the signal the point with its number, as soon as its step is started.
+pub fn bind(board: &Board, shelf: &mut Pass, step: u32, op: u32) -> bool
+    requires step { HasSignal (plan_of board.now) step op }
+    requires single { AreSingle (plan_of board.now) }
+    requires shelf { IsNew board.now shelf.old (Shelf op) }
 {
-    if board.make(shelf) != 0 || board.job_state(shelf, 1) != JobState::Started {
+    if board.make(shelf) != op || board.job_state(shelf, step) != JobState::Started {
         return false;
     }
-    board.assign(shelf, 0, 0);
-    board.bind(shelf, 0, 0);
+    board.assign(shelf, op, op);
+    board.bind(shelf, op, op);
     true
 }
 
-/// The host signals the timeline.
-pub fn signal(board: &Board, host: &mut Pass) -> bool
-    requires plan { IsOfReads (plan_of board.now) }
-    requires host { IsAtStep board.now host.old 1 }
-    ensures host { result ≡ true → HasFinished board.now host.new 2 }
-    ensures made { result ≡ true → Knows (view host.new).known (Made 0) }
+/// The host makes its step's signal, and finishes the step.
+pub fn signal(board: &Board, host: &mut Pass, step: u32, op: u32) -> bool
+    requires step { HasSignal (plan_of board.now) step op }
+    requires host { IsAtStep board.now host.old step }
+    ensures host { result ≡ true → HasFinished board.now host.new (step + 1) }
+    ensures made { result ≡ true → Knows (view host.new).known (Made op) }
 {
-    if board.signal(host, 0).is_err() {
+    if board.signal(host, op).is_err() {
         return false;
     }
-    board.finish(host, 1);
+    board.finish(host, step);
     true
+}
+
+/// The host makes its next step, whose signal the shelf gives a point in between.
+pub fn make_signal(board: &Board, host: &mut Pass, shelf: &mut Pass, step: u32, op: u32) -> bool
+    requires step { HasSignal (plan_of board.now) step op }
+    requires single { AreSingle (plan_of board.now) }
+    requires host { HasFinished board.now host.old step }
+    requires shelf { IsNew board.now shelf.old (Shelf op) }
+    ensures host { result ≡ true → HasFinished board.now host.new (step + 1) }
+    ensures made { result ≡ true → Knows (view host.new).known (Made op) }
+{
+    start_step(board, host, step);
+    bind(board, shelf, step, op) && signal(board, host, step, op)
 }
 
 /// The host reads the timeline again: it is 1.

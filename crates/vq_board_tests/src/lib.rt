@@ -12,6 +12,8 @@ mod answers_tests;
 mod board_tests;
 #[cfg(test)]
 mod contention_tests;
+#[cfg(test)]
+mod host_jobs;
 pub mod host_steps;
 #[cfg(test)]
 mod passes;
@@ -28,3 +30,8 @@ pub mod shelves;
 pub mod submitting;
 #[cfg(test)]
 mod three_signals;
+#[cfg(test)]
+mod two_waits;
+pub mod waiting;
+#[cfg(test)]
+mod waits_tests;

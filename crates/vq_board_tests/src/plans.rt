@@ -71,6 +71,18 @@ host signal A 1
 host read A
 ";
 
+/// The host signals two timelines, and a batch that it submits waits for both.
+const TWO_WAITS: &[u8] = b"timeline A 0
+timeline B 0
+queue P immediate
+host signal A 1
+host signal B 1
+submit P
+wait A 1
+wait B 1
+end
+";
+
 /// The plan of a text that has a lawful one.
 fn checked(alloc: Global, text: &[u8]) -> Option<Ordered> {
     if !is_short(text) {
@@ -98,4 +110,9 @@ pub(crate) fn three_signals(alloc: Global) -> Option<Ordered> {
 /// The lawful plan of two reads with a signal between them.
 pub(crate) fn two_reads(alloc: Global) -> Option<Ordered> {
     checked(alloc, TWO_READS)
+}
+
+/// The lawful plan of two host signals and a batch that waits for both.
+pub(crate) fn two_waits(alloc: Global) -> Option<Ordered> {
+    checked(alloc, TWO_WAITS)
 }

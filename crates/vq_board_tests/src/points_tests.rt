@@ -2,7 +2,8 @@
 ghost use Rattle.std.specs.Prelude.{◌≡◌, true, [], ◌∷◌};
 ghost use Rattle.vq_board_laws.specs.declared.view.Role.TheVariants.{Ring};
 ghost use Rattle.vq_board_laws.specs.Points.{reference};
-ghost use Rattle.vq_board.specs.Named.{plan_of, role_of, IsFresh};
+ghost use Rattle.vq_board.specs.Named.{plan_of};
+ghost use Rattle.vq_board_tests.specs.Dealing.{IsNew};
 ghost use Rattle.vq_board_tests.specs.Holders.{HasSubmitted, HasReleased, HasPoints, HasReferences};
 ghost use Rattle.vq_board_tests.specs.Holders.{HasFirst, HasBoth, IsToBind};
 ghost use Rattle.vq_board_tests.specs.ThreeSignals.{IsOfThreeSignals};
@@ -53,8 +54,7 @@ fn hand_second_on(board: &Board, host: &mut Pass, submitter: &mut Pass, shelf: &
 /// P's ring runs the first batch, while Q's holds a reference to point 0.
 fn run_first(board: &Board, first: &mut Pass, second: &mut Pass) -> bool
     requires plan { IsOfThreeSignals (plan_of board.now) }
-    requires fresh { IsFresh board.now first.old }
-    requires role { role_of first.old ≡ Ring 0 }
+    requires first { IsNew board.now first.old (Ring 0) }
     requires without { HasReferences board.now second.old 1 [] }
     ensures { result ≡ true → HasReferences board.now second.new 1 (reference 0 0 ∷ []) }
 {

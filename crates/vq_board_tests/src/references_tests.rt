@@ -9,7 +9,7 @@ use crate::actors::{both_rings, opened, shelf};
 use crate::shelves::take_first;
 use std::alloc::Global;
 use std::sync::Wait;
-use std::thread::{Threads, join};
+use std::thread::{Threads, join, yield_now};
 use vq_board::{Board, Pass, Passes, Referred};
 use vq_point::PointWord;
 
@@ -44,15 +44,24 @@ fn unrefer<R: Wait>(rt: &R, board: &Board, pass: &mut Pass, queue: u32)
     unreachable!()
 }
 
-/// Takes a reference and gives it back, again and again. It says whether each was had.
+/// Lets another thread run, once every so many rounds.
+fn give_way(round: u32) {
+    if round % 1000 == 0 {
+        yield_now();
+    }
+}
+
+/// Takes a reference and gives it back, again and again. It says whether each was had. Now and then
+/// another thread runs meanwhile, on one processor too.
 fn refer_often<R: Wait>(rt: &R, board: &Board, mut pass: Pass, queue: u32) -> bool
     requires plan { IsOfThreeSignals (plan_of board.now) }
     requires without { HasReferences board.now pass queue [] }
 {
-    for _ in 0..100_000u32 {
+    for round in 0..100_000u32 {
         if !refer(rt, board, &mut pass, queue) {
             return false;
         }
+        give_way(round);
         unrefer(rt, board, &mut pass, queue);
     }
     true

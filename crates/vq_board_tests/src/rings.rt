@@ -1,8 +1,9 @@
 //! The steps of the rings' passes.
-ghost use Rattle.std.specs.Prelude.{◌≡◌, true, [], ◌∷◌, Some, None};
+ghost use Rattle.std.specs.Prelude.{◌≡◌, true, [], ◌∷◌};
 ghost use Rattle.vq_board_laws.specs.declared.view.Role.TheVariants.{Ring};
 ghost use Rattle.vq_board_laws.specs.Points.{reference};
-ghost use Rattle.vq_board.specs.Named.{plan_of, view, role_of, IsOf, IsFresh};
+ghost use Rattle.vq_board.specs.Named.{plan_of};
+ghost use Rattle.vq_board_tests.specs.Dealing.{IsNew};
 ghost use Rattle.vq_board_tests.specs.Holders.{HasReferences, IsToSignal};
 ghost use Rattle.vq_board_tests.specs.ThreeSignals.{IsOfThreeSignals};
 
@@ -43,8 +44,7 @@ pub fn finds_it_moved_on(board: &Board, ring: &mut Pass) -> bool
 /// P's ring starts its first batch, and makes its command.
 pub fn fill_first(board: &Board, ring: &mut Pass) -> bool
     requires plan { IsOfThreeSignals (plan_of board.now) }
-    requires fresh { IsFresh board.now ring.old }
-    requires role { role_of ring.old ≡ Ring 0 }
+    requires ring { IsNew board.now ring.old (Ring 0) }
     ensures { result ≡ true → IsToSignal board.now ring.new }
 {
     if board.job_state(ring, 0) != JobState::Released {

@@ -1,6 +1,5 @@
 //! The steps of the shelf.
 ghost use Rattle.std.specs.Prelude.{◌≡◌, true, [], ◌∷◌};
-ghost use Rattle.vq_board_laws.specs.Points.{reference};
 ghost use Rattle.vq_board.specs.Named.{plan_of};
 ghost use Rattle.vq_board_tests.specs.Holders.{HasPoints, HasFirst, HasBoth, IsToBind};
 ghost use Rattle.vq_board_tests.specs.ThreeSignals.{IsOfThreeSignals};

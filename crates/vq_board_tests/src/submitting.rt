@@ -1,6 +1,5 @@
 //! The host's submissions, and the batches that the submitting threads hand on.
-ghost use Rattle.std.specs.Prelude.{◌≡◌, ◌<◌, ◌+◌, true, false, [], ◌∷◌};
-ghost use Rattle.vq_point.specs.declared.PointWord.{PointWord as PointParts};
+ghost use Rattle.std.specs.Prelude.{◌≡◌, ◌<◌, ◌+◌, true, [], ◌∷◌};
 ghost use Rattle.vq_board.specs.Named.{plan_of};
 ghost use Rattle.vq_board_tests.specs.Holders.{HasSubmitted, HasReleased};
 ghost use Rattle.vq_board_tests.specs.ThreeSignals.{IsOfThreeSignals};

@@ -1,8 +1,8 @@
 //! Whether a plan is that of the tests on points.
-ghost use Rattle.std.specs.Prelude.{◌≡◌, ◌<◌, length, Some, [], ◌∷◌, true, None};
-ghost use Rattle.std.specs.List.{slice_get};
+ghost use Rattle.std.specs.Prelude.{◌≡◌, ◌<◌, length, [], true, None};
 ghost use Rattle.vq_model.specs.Plan.{needs, previous};
 ghost use Rattle.vq_model.specs.ValidScripts.{is_threaded_queue};
+ghost use Rattle.vq_board_laws.specs.declared.view.Role.TheVariants.{Submit};
 ghost use Rattle.vq_board_tests.specs.ThreeSignals.{IsBatch, HasBatch, WaitsFor, IsSignal};
 ghost use Rattle.vq_board_tests.specs.ThreeSignals.{HasBatches, HasSignals, IsOfThreeSignals};
 
@@ -27,7 +27,7 @@ pub(crate) fn is_same(left: &[u32], right: &[u32]) -> bool
 }
 
 /// Whether a job is a batch of the queue with these commands and signals.
-fn is_batch(job: &PlanJob, queue: u32, commands: &[u32], signals: &[u32]) -> bool
+pub(crate) fn is_batch(job: &PlanJob, queue: u32, commands: &[u32], signals: &[u32]) -> bool
     ensures { result ≡ true → IsBatch job.now queue commands.now signals.now }
 {
     let Lane::Queue(own) = job.lane else {
@@ -44,7 +44,8 @@ fn is_batch(job: &PlanJob, queue: u32, commands: &[u32], signals: &[u32]) -> boo
 
 /// Whether job j is a batch of the threaded queue with these commands and signals.
 fn has_batch(plan: &Plan, j: u32, queue: u32, commands: &[u32], signals: &[u32]) -> bool
-    ensures { result ≡ true → HasBatch plan.now j queue commands.now signals.now }
+    ensures { result ≡ true →
+        HasBatch plan.now j queue (Submit queue) commands.now signals.now }
 {
     if j >= plan.jobs() {
         return false;
@@ -72,7 +73,7 @@ fn waits_for(plan: &Plan, j: u32, chain: u32, value: u64) -> bool
 }
 
 /// Whether job j is the first of its lane.
-fn begins(plan: &Plan, j: u32) -> bool
+pub(crate) fn begins(plan: &Plan, j: u32) -> bool
     requires { j < length plan.now.jobs }
     ensures { result ≡ true → previous plan.now j ≡ None }
 {
@@ -93,7 +94,7 @@ fn has_batches(plan: &Plan) -> bool
 }
 
 /// Whether operation e is a signal of the chain by the job.
-fn is_signal(plan: &Plan, e: u32, chain: u32, job: u32) -> bool
+pub(crate) fn is_signal(plan: &Plan, e: u32, chain: u32, job: u32) -> bool
     requires { e < length plan.now.ops }
     ensures { result ≡ true → IsSignal plan.now e chain job }
 {

@@ -1,4 +1,4 @@
-use Rattle.std.proofs.Common.{◌≡◌, ℕ, ◌<◌, length, Some, take}
+use Rattle.std.proofs.Common.{◌≡◌, ℕ, ◌<◌, length, Some}
 use Rattle.std.specs.List.{slice_get}
 use Rattle.vq_board_tests.proofs.alone.all_exist.Given as goal
 

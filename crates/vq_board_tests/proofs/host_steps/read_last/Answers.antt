@@ -16,7 +16,7 @@ answer-requires-clause-may c =
       asks = search rules;
       unanswered = search rules;
       shows = subst (λ (q : Question). ShowsBy p (view c.start.new.pass) 2 q (Value 1)) (sym k.last.question) record {
-        known = inr (0, k.its_chain, k.its_value, shown (search rules));
+        known = inr (0, k.signal.op.its_chain, k.its_value, shown (search rules));
         next = inl (value_within p k);
       };
     }
