@@ -2,6 +2,7 @@
 ghost use Rattle.std.specs.Prelude.{◌≡◌, ◌≢◌, ℕ, ◌+◌, ◌<◌, ◌^◌, ◌⊎◌};
 ghost use Rattle.std.specs.Prelude.{length, true, false, IfOk, IfErr};
 ghost use Rattle.vq_point.specs.Word.{bits_of};
+ghost use Rattle.vq_model.specs.Plan.{has};
 ghost use Rattle.vq_points.specs.PointWord.{parts};
 ghost use Rattle.vq_board_laws.specs.MayPoints.{MayMake, MayAssign, MayRetire, MayRefer};
 ghost use Rattle.vq_board_laws.specs.Points.{reference, Lists, IsWord};
@@ -61,6 +62,8 @@ impl Board {
         ensures word { IsWord result }
         ensures referred { (e : ℕ) → Lists (view pass.old).refs (reference point e) →
             Carries result e }
+        ensures carried { (e : ℕ) → Lists (view pass.old).carrying (reference point e) →
+            Carries result e }
     {
         self.table
             .shared
@@ -76,6 +79,7 @@ impl Board {
         requires may { MayMake (plan_of self.now) (view pass.old) }
         ensures pass { Turns pass.old pass.new (makes (view pass.old) result) }
         ensures exists { result < length (plan_of self.now).ops }
+        ensures fresh { has (view pass.old).owned result ≡ false }
     {
         self.table.shared.fetch_add::<Make>(&mut pass.seat, 1, 1) as u32
     }
@@ -106,6 +110,8 @@ impl Board {
         ensures pass { TurnsWith pass.old pass.new (sees (view pass.old) point (bits_of result))
             (counted_word (plan_of self.now).ops result (counts_of pass.old)) }
         ensures referred { (e : ℕ) → Lists (view pass.old).refs (reference point e) →
+            (result.held ≡ true) × (result.op ≡ e) }
+        ensures carried { (e : ℕ) → Lists (view pass.old).carrying (reference point e) →
             (result.held ≡ true) × (result.op ≡ e) }
     {
         let parts = decoded(self.load_point(pass, point));

@@ -86,5 +86,6 @@ looks_at_point p slots id m q laws s k deep at fits =
         ap (λ (z : ℕ). (sees v z n, m.1)) q_is,
         r.points.words q,
         λ e listed. r.references.carried id v at q e (subst (λ (z : ℕ). Lists v.refs (reference z e)) (sym q_is) listed),
+        λ e listed. ((r.points.shelves id v at).taken q e (subst (λ (z : ℕ). Lists v.carrying (reference z e)) (sym q_is) listed)).2,
       ),
     )

@@ -1,5 +1,5 @@
 -- The making of a point keeps the rule.
-use Rattle.std.proofs.Common.{◌≡◌, ◌≢◌, ℕ, suc, ◌+◌, ◌%◌, ◌^◌, ◌<◌, ◌≤◌, true, List, length, set, refl, ap, sym, ◌∙◌, subst, arith, ⊎_elim, length-set}
+use Rattle.std.proofs.Common.{◌≡◌, ◌≢◌, ℕ, suc, Bool, ◌+◌, ◌%◌, ◌^◌, ◌<◌, ◌≤◌, true, false, List, length, set, refl, ap, sym, ◌∙◌, subst, arith, ⊎_elim, length-set}
 use mathlib.Core.Option.{some, none}
 use mathlib.Core.Logic.{dite}
 use native.Mathlib.Decide.{ℕ_discrete}
@@ -87,6 +87,11 @@ module _ (p : Plan) (n : ℕ) (views : List View) (id : ℕ) (v : View) (k : Own
         absent = λ role l. h.absent role (same_length views id role w l);
       }
 
+-- what would be below itself isn't so
+not_above : (n : ℕ) (b : Bool) → (b ≡ true → n < n) → b ≡ false
+not_above n true below = absurd (let l = below refl in omega arith)
+not_above n false below = refl
+
 pub makes_point : (p : Plan) (slots id : ℕ) (m : Mine) → MayMake p m.0 → length p.ops < 2 ^ 32 → Allows (Kept p) slots id m count_word (λ n. (n + 1) % 2 ^ 64) (made_point (step slots count_word 1 0 none) m)
 makes_point p slots id m less small s k deep at fits =
     let d : Words = words_of s.words in
@@ -114,5 +119,5 @@ makes_point p slots id m less small s k deep at fits =
           references = references_stay d.point s.views id v after r.references at refl;
         };
       },
-      (refl, subst (λ (z : Plan). n < length z.ops) (sym plan) room),
+      (refl, subst (λ (z : Plan). n < length z.ops) (sym plan) room, not_above n (has v.owned n) (r.ownership.owned id v at n)),
     )

@@ -1,8 +1,9 @@
 -- What a pass knows and has after each kind of step on points and operations, and what the step tells
 -- its caller. This project's own.
 use Rattle.std.specs.Prelude.{ℕ, suc, Bool, List, [], ◌∷◌, ◌++◌, length, filter, not}
-use Rattle.std.specs.Prelude.{◌+◌, ◌^◌, ◌<◌, ◌==◌, ◌&&◌, ◌≡◌, ◌≢◌, if◌then◌else◌}
+use Rattle.std.specs.Prelude.{◌+◌, ◌^◌, ◌<◌, ◌==◌, ◌&&◌, ◌≡◌, ◌≢◌, false, if◌then◌else◌}
 use Rattle.atomic_table.specs.Table as Table
+use Rattle.vq_model.specs.Plan.{has}
 use Rattle.vq_model.specs.declared.plan.Answer.{Answer}
 use Rattle.vq_model.specs.declared.plan.Answer.TheVariants.{Reached, Timeout, NotReady, Value}
 use Rattle.vq_points.specs.PointWord.{parts}
@@ -171,9 +172,11 @@ saw st m n m' =
     (q : ℕ) → st.word ≡ point_word q →
     (m' ≡ (sees m.0 q n, m.1)) × IsWord n
     × ((e : ℕ) → Lists m.0.refs (reference q e) → Carries n e)
+    × ((e : ℕ) → Lists m.0.carrying (reference q e) → Carries n e)
 
 abbrev pub made_point : Table.Step LoggedBuffers → Mine → ℕ → Mine → Type 0
-made_point st m n m' = (m' ≡ (makes m.0 n, m.1)) × (n < length m.0.plan.ops)
+made_point st m n m' =
+    (m' ≡ (makes m.0 n, m.1)) × (n < length m.0.plan.ops) × (has m.0.owned n ≡ false)
 
 abbrev pub assigned : Table.Step LoggedBuffers → Mine → ℕ → Mine → Type 0
 assigned st m n m' =

@@ -56,7 +56,7 @@ pub record HasSignal (p : Plan) (j e : ℕ) : Type 0 where
 abbrev pub AreSingle : Plan → Type 0
 AreSingle p = (t : ℕ) → length (chain p t) < 2
 
--- the host's pass has finished the first n jobs, and no other has it begun or submitted
+-- the host's pass has finished the first n jobs and begun no other, and has submitted no batch
 pub record HasFinished (b : Board) (x : Pass) (n : ℕ) : Type 0 where
   pub board : IsOf b x
   pub role : (view x).role ≡ 0

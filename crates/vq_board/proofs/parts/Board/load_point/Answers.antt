@@ -22,3 +22,6 @@ returns-clause-word c = (c.load.ensures.2 c.args.point refl).1
 
 pub returns-clause-referred : goal.returns-clause-referred
 returns-clause-referred c = (c.load.ensures.2 c.args.point refl).2
+
+pub returns-clause-carried : goal.returns-clause-carried
+returns-clause-carried c = (c.load.ensures.2 c.args.point refl).3

@@ -18,3 +18,6 @@ returns-clause-pass c = (c.fetch_add.ensures.0, refl, ap (λ m. m.0) c.fetch_add
 
 pub returns-clause-exists : goal.returns-clause-exists
 returns-clause-exists c = let low = c.fetch_add.ensures.2.1 in let same = ap (λ (p : Plan). length p.ops) c.requires.board.1 in omega arith
+
+pub returns-clause-fresh : goal.returns-clause-fresh
+returns-clause-fresh c = c.fetch_add.ensures.2.2
