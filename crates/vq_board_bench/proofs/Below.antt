@@ -1,25 +1,14 @@
--- The numbers below another, and lists of facts.
-use Rattle.std.proofs.Common.{ℕ, zero, suc, ◌≡◌, ◌<◌, ◌≤◌, ◌+◌, eqb, Bool, true, false, List, [], ◌∷◌, ◌++◌, Some, length, refl, sym, ap, subst, inl, inr, arith}
-use Rattle.std.specs.Prelude.{if◌then◌else◌, sum_by, count_by, cond}
-use Rattle.std.specs.List.{slice_get}
-use Rattle.std.specs.Option.{option_map}
+-- The numbers below another, and the points of the same numbers.
+use Rattle.std.proofs.Common.{ℕ, zero, suc, ◌≡◌, ◌<◌, ◌≤◌, ◌≢◌, eqb, Bool, true, false, not, cond, List, [], ◌∷◌, length, refl, sym, ap, subst, ◌∙◌, ⊎_elim, inl, inr, arith}
 use mathlib.Core.Logic.{dite}
 use native.Mathlib.Decide.{ℕ_discrete}
-use Rattle.std.proofs.lemmas.Bool.{or_from, ne_eqb, eq-eqb, false≢true}
-use Rattle.std.proofs.lemmas.List.Sums.{sum_by-cons}
-use Rattle.vq_model.specs.Plan.{Plan, has, chain_of}
-use Rattle.vq_model.specs.declared.plan.Op.{Op}
+use Rattle.std.proofs.lemmas.Bool.{or_from, ne_eqb, eqb-true, false≢true}
+use Rattle.vq_model.specs.Plan.{has}
 use Rattle.vq_model.proofs.Lists.{has_here, has_there, has_cases}
-use Rattle.vq_points.specs.PointWord.{parts}
-use Rattle.vq_board_laws.specs.declared.view.Fact.{Fact}
-use Rattle.vq_board_laws.specs.declared.view.Fact.TheVariants.{Taken, Made}
-use Rattle.vq_board_laws.specs.declared.view.Role.TheVariants.{Shelf}
-use Rattle.vq_board_laws.specs.declared.view.View.{View}
-use Rattle.vq_board_laws.specs.Knowledge.{Knows}
-use Rattle.vq_board_laws.specs.Roles.{role_number, share_of}
-use Rattle.vq_board_laws.specs.PointSteps.{point_facts, moved_on, sees}
-use Rattle.vq_board_laws.specs.Words.{Carries}
-use Rattle.vq_board_bench.specs.Rows.{below}
+use Rattle.vq_board_laws.specs.declared.view.Reference.{Reference}
+use Rattle.vq_board_laws.specs.Points.{reference, Lists}
+use Rattle.vq_board_laws.specs.PointSteps.{without_point}
+use Rattle.vq_board_bench.specs.Rows.{below, pairs}
 
 pub has_below : (n i : ℕ) → i < n → has (below n) i ≡ true
 has_below zero i h = absurd (omega arith)
@@ -32,49 +21,37 @@ pub not_below : (n i : ℕ) → n ≤ i → has (below n) i ≡ false
 not_below zero i h = refl
 not_below (suc n) i h = or_from (eqb n i) (has (below n) i) (ne_eqb n i (λ e. omega arith)) (not_below n i (omega arith))
 
+pub length_below : (n : ℕ) → length (below n) ≡ n
+length_below zero = refl
+length_below (suc n) = ap suc (length_below n)
+
 -- the only element
 pub only : (x y : ℕ) → has (x ∷ []) y ≡ true → x ≡ y
 only x y h = elim (has_cases x [] y h) [ inl e ↦ e | inr e ↦ absurd (false≢true e) ]
 
-pub knows_behind : (fs gs : List Fact) (f : Fact) → Knows gs f → Knows (fs ++ gs) f
-knows_behind [] gs f h = h
-knows_behind (x ∷ fs) gs f h = inr (knows_behind fs gs f h)
+-- the points below n carry the operations of their numbers, and no others
+pub pairs_list : (n i : ℕ) → i < n → Lists (pairs n) (reference i i)
+pairs_list zero i h = absurd (omega arith)
+pairs_list (suc n) i h =
+    dite (ℕ_discrete n i)
+    (λ e. inl (ap (λ (k : ℕ). reference k k) e))
+    (λ ne. inr (pairs_list n i (omega arith)))
 
-pub knows_before : (fs gs : List Fact) (f : Fact) → Knows fs f → Knows (fs ++ gs) f
-knows_before [] gs f h = absurd h
-knows_before (x ∷ fs) gs f (inl e) = inl e
-knows_before (x ∷ fs) gs f (inr h) = inr (knows_before fs gs f h)
+pub point_beyond : (n q e : ℕ) → n ≤ q → ¬ Lists (pairs n) (reference q e)
+point_beyond zero q e h l = l
+point_beyond (suc n) q e h (inl same) = let at : n ≡ q = ap (λ (r : Reference). r.point) same in absurd (omega arith)
+point_beyond (suc n) q e h (inr l) = point_beyond n q e (omega arith) l
 
--- the word of a point that carries an operation shows it taken
-pub shows_taken : (n e : ℕ) → Carries n e → Knows (point_facts n) (Taken e)
-shows_taken n e c =
-    subst (λ (b : Bool). Knows (if b then (if (parts n).signaled then Made (parts n).op ∷ Taken (parts n).op ∷ [] else Taken (parts n).op ∷ []) else []) (Taken e)) (sym c.held) (by_signal (parts n).signaled)
+pub op_beyond : (n q e : ℕ) → n ≤ e → ¬ Lists (pairs n) (reference q e)
+op_beyond zero q e h l = l
+op_beyond (suc n) q e h (inl same) = let at : n ≡ e = ap (λ (r : Reference). r.op) same in absurd (omega arith)
+op_beyond (suc n) q e h (inr l) = op_beyond n q e (omega arith) l
+
+-- freeing a point leaves the others
+pub still_listed : (q : ℕ) (t : Reference) (rs : List Reference) → t.point ≢ q → Lists rs t → Lists (without_point q rs) t
+still_listed q t [] ne m = absurd m
+still_listed q t (x ∷ xs) ne m = by_test (eqb x.point q) refl (still_listed q t xs ne) m
   where
-    by_signal : (b : Bool) → Knows (if b then Made (parts n).op ∷ Taken (parts n).op ∷ [] else Taken (parts n).op ∷ []) (Taken e)
-    by_signal true = inr (inl (ap Taken c.op))
-    by_signal false = inl (ap Taken c.op)
-
--- a look at a point forgets nothing, and shows what the point carries
-pub sees_known : (v : View) (q n : ℕ) (f : Fact) → Knows v.known f → Knows (sees v q n).known f
-sees_known v q n f h = knows_behind (point_facts n ++ moved_on q n v.known) v.known f h
-
-pub sees_taken : (v : View) (q n e : ℕ) → Carries n e → Knows (sees v q n).known (Taken e)
-sees_taken v q n e c =
-    knows_before (point_facts n ++ moved_on q n v.known) v.known (Taken e) (knows_before (point_facts n) (moved_on q n v.known) (Taken e) (shows_taken n e c))
-
--- operations of the first chain, counted
-count_first : (f : ℕ → ℕ) (n : ℕ) (os : List Op) → n ≤ length os → ((j : ℕ) → j < n → option_map (λ o. o.chain) (slice_get os j) ≡ Some 0) → n ≤ count_by (λ o. eqb (f o.chain) (f 0)) os
-count_first f zero os few h = omega arith
-count_first f (suc n) [] few h = absurd (omega arith)
-count_first f (suc n) (o ∷ os) few h =
-    let here : option_map (λ (x : Op). x.chain) (slice_get (o ∷ os) 0) ≡ Some 0 = h 0 (omega arith) in
-    let same : o.chain ≡ 0 = cc in
-    let count : Op → ℕ = λ x. cond {A = ℕ} (eqb (f x.chain) (f 0)) 1 0 in
-    let one : count o ≡ 1 = ap (λ (b : Bool). cond {A = ℕ} b 1 0) (eq-eqb (f o.chain) (f 0) (ap f same)) in
-    let all : sum_by count (o ∷ os) ≡ count o + sum_by count os = sum_by-cons count o os in
-    let rest : n ≤ sum_by count os = count_first f n os (omega arith) (λ j l. h (suc j) (omega arith)) in
-    omega arith
-
--- the first chain's shelf may own as many points as there are such operations
-pub shares_first : (p : Plan) (n : ℕ) → n ≤ length p.ops → ((j : ℕ) → j < n → chain_of p j ≡ Some 0) → n ≤ share_of p (role_number p (Shelf 0))
-shares_first p n few h = count_first (λ t. role_number p (Shelf t)) n p.ops few h
+    by_test : (b : Bool) → eqb x.point q ≡ b → (Lists xs t → Lists (without_point q xs) t) → Lists (x ∷ xs) t → Lists (cond (not b) (x ∷ without_point q xs) (without_point q xs)) t
+    by_test true is rest n = ⊎_elim (λ (e : x ≡ t). absurd (ne (ap (λ (z : Reference). z.point) (sym e) ∙ eqb-true x.point q is))) rest n
+    by_test false is rest n = ⊎_elim (λ (e : x ≡ t). inl e) (λ h. inr (rest h)) n

@@ -1,5 +1,10 @@
 mod Below
+mod Facts
+mod HostRowSteps
+mod MakeSteps
 mod OnePoint
 mod ReadSteps
-mod RowSteps
+mod RingSteps
+mod Shared
+mod ShelfRowSteps
 mod Workers

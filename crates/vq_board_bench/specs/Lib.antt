@@ -1,4 +1,5 @@
 pub mod Bare
 pub mod Idle
+pub mod Making
 pub mod Reads
 pub mod Rows

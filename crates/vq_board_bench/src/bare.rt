@@ -1,6 +1,7 @@
 //! Bare atomic steps, on a table whose rule says nothing.
 ghost use Rattle.std.specs.Prelude.{◌≡◌, ◌<◌, IfOk};
 
+use crate::following::TRIES;
 use crate::kind::BareStep;
 use atomic_table::{Play, Seat, Split, Table, TableRule};
 use std::alloc::{AllocError, Global};
@@ -92,6 +93,19 @@ impl Bare {
         ensures { seat.new.table_id ≡ seat.old.table_id }
     {
         self.table.shared.fetch_add::<Silent>(seat, word, value)
+    }
+
+    /// Waits until the thread with the other seat has come here too. It says whether that came.
+    pub(crate) fn meet(&self, mut seat: BareSeat) -> bool
+        requires { seat.table_id ≡ self.now.table.shared.table_id }
+    {
+        self.add(&mut seat, 2, 1);
+        for _ in 0..TRIES {
+            if self.load(&mut seat, 2) == 2 {
+                return true;
+            }
+        }
+        false
     }
 
     /// Loads so often. It says whether each load found 0.

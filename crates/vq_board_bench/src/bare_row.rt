@@ -1,84 +1,153 @@
-//! The bare steps that a row of batches makes.
-ghost use Rattle.std.specs.Prelude.{◌≡◌, ◌+◌, ◌*◌, ◌≤◌, ◌<◌, length, map};
-ghost use Rattle.vq_model.specs.Ranges.{Fits};
+//! The bare steps that a row of batches makes, one kind after another.
+ghost use Rattle.std.specs.Prelude.{◌≡◌, ◌+◌, ◌*◌, ◌<◌, ◌≤◌, IfSome};
 
 use crate::bare::{Bare, BareSeat, REFERENCE};
+use crate::following::TRIES;
 use std::alloc::Global;
-use vq_model::script::{Command, FillSize};
-use vq_spec::Buffers;
 
-/// A batch's steps by the passes of the host and the shelf, until the ring may start it.
-fn before(bare: &Bare, seat: &mut BareSeat, j: u32)
-    requires seat { seat.old.table_id ≡ bare.now.table.shared.table_id }
-    requires words { 4 * j + 5 < bare.now.table.shared.table_id.words }
-    ensures { seat.new.table_id ≡ seat.old.table_id }
-{
-    let first = 4 * j as usize;
-    bare.store(seat, first + 2, 1);
-    bare.add(seat, 1, 1);
-    bare.store(seat, first + 4, u64::from(j));
-    let free = bare.load(seat, first + 4);
-    bare.exchange(seat, first + 4, free, free ^ REFERENCE);
-    let referred = bare.load(seat, first + 4);
-    bare.exchange(seat, first + 4, referred, referred ^ REFERENCE);
-    bare.store(seat, first + 2, 2);
-    bare.load(seat, first + 2);
-    bare.store(seat, first + 3, u64::from(j));
+/// The bit of a point's word that says whether it is signaled.
+pub(crate) const SIGNALED: u64 = 1 << 48;
+
+/// The bit that says whether it carries an operation.
+pub(crate) const HELD: u64 = 1 << 49;
+
+/// A bare table with the words of so many batches, the first of which have a command each and a signal.
+#[derive(Drop)]
+pub(crate) struct BareBatches {
+    pub(crate) bare: Bare,
+    pub(crate) count: u32,
+    pub(crate) commands: u32,
+    pub(crate) signals: u32,
+    ghost words: { 4 * count + 5 < bare.table.shared.table_id.words },
+    ghost few: { signals ≤ count },
 }
 
-/// A batch's steps by the ring's pass.
-fn inside(bare: &Bare, seat: &mut BareSeat, j: u32, buffers: &mut Buffers, command: &Command)
-    requires seat { seat.old.table_id ≡ bare.now.table.shared.table_id }
-    requires words { 4 * j + 5 < bare.now.table.shared.table_id.words }
-    requires fits { Fits (map length buffers.old) command.now }
-    ensures seat { seat.new.table_id ≡ seat.old.table_id }
-    ensures fits { Fits (map length buffers.new) command.now }
+/// A table for a row, and two seats.
+pub(crate) fn opened_bare_row(
+    alloc: Global,
+    count: u32,
+    commands: u32,
+    signals: u32,
+) -> Option<(BareBatches, BareSeat, BareSeat)>
+    requires { signals ≤ count }
+    ensures first { IfSome result (λ t. t.1.table_id ≡ t.0.bare.table.shared.table_id) }
+    ensures second { IfSome result (λ t. t.2.table_id ≡ t.0.bare.table.shared.table_id) }
 {
-    let first = 4 * j as usize;
-    bare.load(seat, first + 2);
-    bare.store(seat, first + 2, 3);
-    bare.exchange(seat, 0, 0, 1);
-    buffers.apply(command);
-    bare.store(seat, first + 5, u64::from(j));
-    bare.store(seat, 0, 0);
-    bare.load(seat, first + 3);
-    bare.add(seat, first + 4, 1);
-    bare.store(seat, first + 2, 4);
-}
-
-/// A batch's steps by the shelf's pass, behind the ring's.
-fn behind(bare: &Bare, seat: &mut BareSeat, j: u32)
-    requires seat { seat.old.table_id ≡ bare.now.table.shared.table_id }
-    requires words { 4 * j + 5 < bare.now.table.shared.table_id.words }
-    ensures { seat.new.table_id ≡ seat.old.table_id }
-{
-    let first = 4 * j as usize;
-    bare.load(seat, first + 2);
-    bare.store(seat, first + 3, 1);
-    let loaded = bare.load(seat, first + 4);
-    bare.exchange(seat, first + 4, loaded, 0);
-}
-
-/// Makes the bare steps of the first batches, on a table for so many.
-pub(crate) fn bare_row(alloc: Global, batches: u32, count: u32) -> Option<bool>
-    requires { count ≤ batches }
-{
-    let words = 4 * (batches as usize + 1) + 2;
-    let (bare, mut seat, _) = Bare::new(alloc, words).ok()?;
-    let mut buffers = Buffers::new(alloc, &[8]).ok()?;
-    let command = Command::Fill {
-        buffer: 0,
-        offset: 0,
-        size: FillSize::Count(4),
-        word: 7,
+    let words = 4 * (count as usize + 1) + 2;
+    let (bare, first, second) = Bare::new(alloc, words).ok()?;
+    let batches = BareBatches {
+        bare,
+        count,
+        commands,
+        signals,
     };
-    if !buffers.fits(&command) {
-        return None;
+    Some((batches, first, second))
+}
+
+/// The word of a job; those of the operation, the point and the command behind it.
+pub(crate) fn word_of(j: u32) -> usize
+    ensures { result ≡ 4 * j + 2 }
+{
+    4 * j as usize + 2
+}
+
+impl BareBatches {
+    /// Stores the same in the words of the jobs.
+    pub(crate) fn store_jobs(&self, seat: &mut BareSeat, state: u64)
+        requires { seat.old.table_id ≡ self.now.bare.table.shared.table_id }
+        ensures { seat.new.table_id ≡ seat.old.table_id }
+    {
+        for j in 0..self.count {
+            self.bare.store(seat, word_of(j), state);
+        }
     }
-    for j in 0..count {
-        before(&bare, &mut seat, j);
-        inside(&bare, &mut seat, j, &mut buffers, &command);
-        behind(&bare, &mut seat, j);
+
+    /// Loads the words of the jobs with signals. It says whether each is this.
+    pub(crate) fn load_jobs(&self, seat: &mut BareSeat, state: u64) -> bool
+        requires { seat.old.table_id ≡ self.now.bare.table.shared.table_id }
+        ensures { seat.new.table_id ≡ seat.old.table_id }
+    {
+        for j in 0..self.signals {
+            if self.bare.load(seat, word_of(j)) != state {
+                return false;
+            }
+        }
+        true
     }
-    Some(true)
+
+    /// Adds to the count of points for each signal.
+    pub(crate) fn make(&self, seat: &mut BareSeat) -> bool
+        requires { seat.old.table_id ≡ self.now.bare.table.shared.table_id }
+        ensures { seat.new.table_id ≡ seat.old.table_id }
+    {
+        for j in 0..self.signals {
+            if self.bare.add(seat, 1, 1) != u64::from(j) {
+                return false;
+            }
+        }
+        true
+    }
+
+    /// Stores in the words of the points.
+    pub(crate) fn assign(&self, seat: &mut BareSeat)
+        requires { seat.old.table_id ≡ self.now.bare.table.shared.table_id }
+        ensures { seat.new.table_id ≡ seat.old.table_id }
+    {
+        for j in 0..self.signals {
+            self.bare.store(seat, word_of(j) + 2, u64::from(j) + HELD);
+        }
+    }
+
+    /// Loads the words of the points.
+    pub(crate) fn find(&self, seat: &mut BareSeat) -> bool
+        requires { seat.old.table_id ≡ self.now.bare.table.shared.table_id }
+        ensures { seat.new.table_id ≡ seat.old.table_id }
+    {
+        for j in 0..self.signals {
+            if self.bare.load(seat, word_of(j) + 2) != u64::from(j) + HELD {
+                return false;
+            }
+        }
+        true
+    }
+
+    /// Stores in the words of the operations, the number of the point or 1.
+    pub(crate) fn store_ops(&self, seat: &mut BareSeat, past: bool)
+        requires { seat.old.table_id ≡ self.now.bare.table.shared.table_id }
+        ensures { seat.new.table_id ≡ seat.old.table_id }
+    {
+        for j in 0..self.signals {
+            let value = if past { 1 } else { u64::from(j) + 2 };
+            self.bare.store(seat, word_of(j) + 1, value);
+        }
+    }
+
+    /// Exchanges the word of a point for 0, as soon as there is no reference in it.
+    fn free(&self, seat: &mut BareSeat, j: u32) -> bool
+        requires seat { seat.old.table_id ≡ self.now.bare.table.shared.table_id }
+        requires exists { j < self.now.signals }
+        ensures { seat.new.table_id ≡ seat.old.table_id }
+    {
+        for _ in 0..TRIES {
+            let loaded = self.bare.load(seat, word_of(j) + 2);
+            if loaded / REFERENCE & u64::from(u16::MAX) == 0
+                && self.bare.exchange(seat, word_of(j) + 2, loaded, 0) == loaded
+            {
+                return true;
+            }
+        }
+        false
+    }
+
+    /// The same of all points.
+    pub(crate) fn retire(&self, seat: &mut BareSeat) -> bool
+        requires { seat.old.table_id ≡ self.now.bare.table.shared.table_id }
+    {
+        for j in 0..self.signals {
+            if !self.free(seat, j) {
+                return false;
+            }
+        }
+        true
+    }
 }

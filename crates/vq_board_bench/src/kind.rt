@@ -26,14 +26,14 @@ pub(crate) enum BoardStep {
 pub(crate) enum Kind {
     Bare(BareStep),
     Board(BoardStep),
-    /// A board is opened and a row of batches taken through all steps, or none of them.
-    Row { whole: bool },
-    /// So is a bare table.
-    BareRow { whole: bool },
     /// A board is opened and a row of the host's reads taken through its steps, or none of them.
     Reads { whole: bool },
     /// So is a bare table.
     BareReads { whole: bool },
+    /// A board is opened and points made by two shelves in two threads, or none.
+    Makes { whole: bool },
+    /// So is a bare table.
+    BareMakes { whole: bool },
 }
 
 impl Kind {
@@ -51,14 +51,94 @@ impl Kind {
             "look" => Some(Kind::Board(BoardStep::Look)),
             "refer" => Some(Kind::Board(BoardStep::Reference)),
             "turn" => Some(Kind::Board(BoardStep::Turn)),
-            "run" => Some(Kind::Row { whole: true }),
-            "open" => Some(Kind::Row { whole: false }),
-            "bare-run" => Some(Kind::BareRow { whole: true }),
-            "bare-open" => Some(Kind::BareRow { whole: false }),
             "answer" => Some(Kind::Reads { whole: true }),
             "open-answers" => Some(Kind::Reads { whole: false }),
             "bare-answer" => Some(Kind::BareReads { whole: true }),
             "bare-open-answers" => Some(Kind::BareReads { whole: false }),
+            "make" => Some(Kind::Makes { whole: true }),
+            "open-makes" => Some(Kind::Makes { whole: false }),
+            "bare-make" => Some(Kind::BareMakes { whole: true }),
+            "bare-open-makes" => Some(Kind::BareMakes { whole: false }),
+            _ => None,
+        }
+    }
+}
+
+/// What the batches of a row have, and whether their script is a wide one.
+#[derive(Clone, Copy)]
+pub(crate) struct Form {
+    pub(crate) command: bool,
+    pub(crate) signal: bool,
+    pub(crate) wide: bool,
+}
+
+impl Form {
+    /// The form with this name.
+    pub(crate) fn named(name: &str) -> Option<Form> {
+        let (command, signal, wide) = match name {
+            "idle" => (false, false, false),
+            "command" => (true, false, false),
+            "signal" => (false, true, false),
+            "whole" => (true, true, false),
+            "wide" => (true, true, true),
+            _ => return None,
+        };
+        Some(Form {
+            command,
+            signal,
+            wide,
+        })
+    }
+}
+
+/// How far a row of batches is taken: all of them through one kind of step, then all through the next.
+#[derive(Clone, Copy, PartialEq, Eq, PartialOrd, Ord)]
+pub(crate) enum Phase {
+    Opened,
+    Submitted,
+    /// The shelf has made the points.
+    Made,
+    Assigned,
+    /// The host has looked at the points.
+    Found,
+    Released,
+    /// The shelf has seen the batches released.
+    Known,
+    Bound,
+    /// The ring has run the batches.
+    Run,
+    /// The shelf has seen them finished.
+    Seen,
+    Completed,
+    Retired,
+}
+
+/// The phases whose steps change words that another thread can look at, but for the last.
+pub(crate) const FOLLOWED: [Phase; 6] = [
+    Phase::Submitted,
+    Phase::Assigned,
+    Phase::Released,
+    Phase::Bound,
+    Phase::Run,
+    Phase::Completed,
+];
+
+impl Phase {
+    /// The phase with this name.
+    pub(crate) fn named(name: &str) -> Option<Phase> {
+        match name {
+            "opened" => Some(Phase::Opened),
+            "submitted" => Some(Phase::Submitted),
+            "made" => Some(Phase::Made),
+            "assigned" => Some(Phase::Assigned),
+            "found" => Some(Phase::Found),
+            "released" => Some(Phase::Released),
+            "known" => Some(Phase::Known),
+            "bound" => Some(Phase::Bound),
+            "run" => Some(Phase::Run),
+            "seen" => Some(Phase::Seen),
+            "completed" => Some(Phase::Completed),
+            "retired" => Some(Phase::Retired),
             _ => None,
         }
     }

@@ -3,23 +3,36 @@
 #![tactic(auto)]
 
 mod bare;
+mod bare_following;
+mod bare_making;
+mod bare_phases;
 mod bare_reading;
 mod bare_row;
+mod bare_running;
+mod batches;
+mod ending;
+mod following;
+mod handing;
 mod kind;
+mod making;
 mod opened;
 mod pairs;
+mod phases;
 mod reading;
 mod reads;
 mod row;
 mod rows;
+mod running;
+mod shares;
 mod steps;
-mod whole;
 
 use bare::Bare;
-use kind::Kind;
+use bare_making::bare_makes;
+use kind::{Form, Kind, Phase};
+use making::makes;
 use opened::opened;
 use pairs::{bare_pair, board_pair};
-use rows::{bare_reads, bare_rows, reads, rows};
+use rows::{Row, bare_reads, reads};
 use std::alloc::Global;
 use std::process::ExitCode;
 use std::thread::Threads;
@@ -30,8 +43,12 @@ const USAGE: &str = "usage: vq_board_bench KIND ROUNDS [pairs]
     bare-load, bare-store, bare-cas, bare-add, bare-refer, bare-turn,
     job_state, recall, look, refer, turn
 usage: vq_board_bench KIND ROUNDS SIZE
-    bare-open, bare-run, open, run,
-    bare-open-answers, bare-answer, open-answers, answer";
+    bare-open-answers, bare-answer, open-answers, answer,
+    bare-open-makes, bare-make, open-makes, make
+usage: vq_board_bench [bare-]row FORM PHASE ROUNDS SIZE [beside]
+    forms: idle, command, signal, whole, wide
+    phases: opened, submitted, made, assigned, found, released,
+        known, bound, run, seen, completed, retired";
 
 /// Makes so many steps of a kind in one thread. It says whether they came out as wanted.
 fn alone(alloc: Global, kind: Kind, rounds: u64) -> Option<bool> {
@@ -63,19 +80,53 @@ fn in_pairs<R: Threads + Sync>(rt: &R, alloc: Global, kind: Kind, rounds: u64) -
     }
 }
 
-/// Takes rows of so many batches or reads so often. It says whether they came out as wanted.
-fn in_rows(alloc: Global, kind: Kind, size: u32, rounds: u64) -> Option<bool> {
+/// Takes rows of so many reads or points so often. It says whether they came out as wanted.
+fn in_rows<R: Threads + Sync>(
+    rt: &R,
+    alloc: Global,
+    kind: Kind,
+    size: u32,
+    rounds: u64,
+) -> Option<bool> {
     match kind {
         Kind::Bare(_) | Kind::Board(_) => None,
-        Kind::BareRow { whole } => bare_rows(alloc, size, whole, rounds),
-        Kind::Row { whole } => rows(alloc, size, whole, rounds),
         Kind::BareReads { whole } => bare_reads(alloc, size, whole, rounds),
         Kind::Reads { whole } => reads(alloc, size, whole, rounds),
+        Kind::BareMakes { whole } => bare_makes(rt, alloc, size, whole, rounds),
+        Kind::Makes { whole } => makes(rt, alloc, size, whole, rounds),
     }
 }
 
-/// Does what the words ask for.
-fn run<R: Threads + Sync>(rt: &R, alloc: Global, words: &[String]) -> Option<bool> {
+/// Takes a row of batches up to a phase so often, as the words after the first two say.
+fn in_phases<R: Threads + Sync>(
+    rt: &R,
+    alloc: Global,
+    bare: bool,
+    words: &[String],
+) -> Option<bool> {
+    let (form, phase, rounds, size) = match words {
+        [form, phase, rounds, size] | [form, phase, rounds, size, _] => (form, phase, rounds, size),
+        _ => return None,
+    };
+    let row = Row {
+        form: Form::named(form.as_str())?,
+        last: Phase::named(phase.as_str())?,
+        beside: match words.get(4) {
+            Some(word) => word.as_str() == "beside",
+            None => false,
+        },
+        batches: size.as_str().parse::<u32>().ok()?,
+    };
+    let rounds = rounds.as_str().parse::<u64>().ok()?;
+    if bare {
+        row.take_bare(rt, alloc, rounds)
+    } else {
+        row.take(rt, alloc, rounds)
+    }
+}
+
+/// Makes the steps that the words ask for.
+fn made<R: Threads + Sync>(rt: &R, alloc: Global, words: &[String]) -> Option<bool> {
     let (Some(name), Some(rounds)) = (words.get(1), words.get(2)) else {
         return None;
     };
@@ -86,10 +137,22 @@ fn run<R: Threads + Sync>(rt: &R, alloc: Global, words: &[String]) -> Option<boo
             if word.as_str() == "pairs" {
                 in_pairs(rt, alloc, kind, rounds)
             } else {
-                in_rows(alloc, kind, word.as_str().parse::<u32>().ok()?, rounds)
+                in_rows(rt, alloc, kind, word.as_str().parse::<u32>().ok()?, rounds)
             }
         }
         None => alone(alloc, kind, rounds),
+    }
+}
+
+/// Does what the words ask for.
+fn run<R: Threads + Sync>(rt: &R, alloc: Global, words: &[String]) -> Option<bool> {
+    match words {
+        [_, name, rest @ ..] => match name.as_str() {
+            "row" => in_phases(rt, alloc, false, rest),
+            "bare-row" => in_phases(rt, alloc, true, rest),
+            _ => made(rt, alloc, words),
+        },
+        _ => None,
     }
 }
 

@@ -5,7 +5,9 @@ ghost use Rattle.vq_model.specs.ValidScripts.{is_threaded_queue};
 ghost use Rattle.vq_board_laws.specs.declared.view.Role.TheVariants.{Ring, Shelf};
 ghost use Rattle.vq_board.specs.Named.{plan_of, role_of, IsOf, IsFresh, IsCut};
 ghost use Rattle.vq_board_bench.specs.Idle.{IsPlain, IsIdle, IsReferring, AllFresh};
+ghost use Rattle.vq_board_bench.specs.Making.{HasShare};
 
+use crate::shares::has_share;
 use std::alloc::Global;
 use vq_board::{Board, JobState, Pass, Passes, Role};
 use vq_model::script::{Mode, Script};
@@ -73,8 +75,9 @@ fn is_idle(plan: &Plan, j: u32) -> bool
 fn is_signaled(plan: &Plan) -> bool
     ensures exists { result ≡ true → 0 < length plan.now.ops }
     ensures chain { result ≡ true → chain_of plan.now 0 ≡ Some 0 }
+    ensures share { result ≡ true → HasShare plan.now 0 1 }
 {
-    plan.ops() != 0 && plan.op(0).chain == 0
+    plan.ops() != 0 && plan.op(0).chain == 0 && has_share(plan, 0, 1)
 }
 
 /// The host submits and releases the first two batches.
@@ -91,7 +94,7 @@ fn hand_over(board: &Board, host: &mut Pass)
 }
 
 /// The last pass of a list of fresh ones.
-fn last(board: &Board, passes: &mut Vec<Pass>) -> Option<Pass>
+pub(crate) fn last(board: &Board, passes: &mut Vec<Pass>) -> Option<Pass>
     requires { AllFresh board.now passes.old.items }
     ensures pass { IfSome result (λ x. IsFresh board.now x) }
     ensures left { AllFresh board.now passes.new.items }
@@ -136,6 +139,7 @@ fn give_point(board: &Board, shelf: &mut Pass) -> bool
     requires role { role_of shelf.old ≡ Shelf 0 }
     requires exists { 0 < length (plan_of board.now).ops }
     requires chain { chain_of (plan_of board.now) 0 ≡ Some 0 }
+    requires share { HasShare (plan_of board.now) 0 1 }
 {
     let point = board.make(shelf);
     board.assign(shelf, point, 0);
@@ -164,6 +168,7 @@ fn handed(alloc: Global, ordered: &Ordered) -> Option<(Board, Vec<Pass>)>
     requires second { IsIdle ordered.now 1 1 }
     requires exists { 0 < length ordered.now.ops }
     requires chain { chain_of ordered.now 0 ≡ Some 0 }
+    requires share { HasShare ordered.now 0 1 }
     ensures plan { IfSome result (λ t. plan_of t.0 ≡ ordered.now) }
     ensures rings { IfSome result (λ t. AllFresh t.0 t.1.items) }
 {

@@ -1,5 +1,5 @@
 //! A row of the host's reads, each taken through its three steps of a board.
-ghost use Rattle.std.specs.Prelude.{◌≡◌, ◌<◌, ◌≤◌, suc, length};
+ghost use Rattle.std.specs.Prelude.{◌<◌, ◌≤◌, suc, length};
 ghost use Rattle.vq_board.specs.Named.{plan_of, view, IsOf};
 ghost use Rattle.vq_board_bench.specs.Reads.{IsOfReads, IsReader};
 

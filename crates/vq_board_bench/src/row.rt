@@ -1,30 +1,52 @@
-//! A plan of batches in a row on one queue, each with one command and one signal.
-ghost use Rattle.std.specs.Prelude.{◌≡◌, ℕ, [], ◌∷◌, ◌+◌, ◌<◌, length, true, Some};
+//! A plan of batches in a row on one queue, the first of which have a command and a signal each.
+ghost use Rattle.std.specs.Prelude.{◌≡◌, ℕ, [], ◌+◌, ◌<◌, ◌≤◌, length, true, Some};
 ghost use Rattle.std.specs.List.{slice_get};
-ghost use Rattle.vq_board_bench.specs.Rows.{IsLink, IsLinked, IsRow};
+ghost use Rattle.vq_model.specs.Plan.{chain, chain_of, job_of};
+ghost use Rattle.vq_board_bench.specs.Rows.{IsOneOfFirst, IsLink, IsLinked, IsRow};
 
+use crate::kind::Form;
 use crate::opened::is_hosted;
+use crate::shares::has_share;
 use std::alloc::{AllocError, Global};
 use vq_spec::{Lane, Plan, PlanJob, Question};
 
-/// The script of so many batches.
-pub(crate) fn row_text(alloc: Global, batches: u32) -> Result<String, AllocError> {
+/// The script of so many batches on the first of two queues. A wide one has as many queues and
+/// timelines as a script may have, which nothing uses.
+pub(crate) fn row_text(alloc: Global, batches: u32, form: Form) -> Result<String, AllocError> {
     let mut text = String::new(alloc);
-    text.push_str("buffer X 8\ntimeline A 0\nqueue P immediate\n")?;
+    text.push_str("buffer X 8\ntimeline A 0\n")?;
+    if form.wide {
+        for k in 0..255u32 {
+            text.push_str(format!(in alloc; "timeline B{k} 0\n")?.as_str())?;
+        }
+    }
+    text.push_str("queue P immediate\nqueue Q immediate\n")?;
+    if form.wide {
+        for k in 0..6u32 {
+            text.push_str(format!(in alloc; "queue R{k} immediate\n")?.as_str())?;
+        }
+    }
     for j in 0..batches {
-        let value = u64::from(j) + 1;
-        let batch = format!(in alloc; "submit P\nfill X 0 4 7\nsignal A {value}\nend\n")?;
-        text.push_str(batch.as_str())?;
+        text.push_str("submit P\n")?;
+        if form.command {
+            text.push_str("fill X 0 4 7\n")?;
+        }
+        if form.signal {
+            let value = u64::from(j) + 1;
+            text.push_str(format!(in alloc; "signal A {value}\n")?.as_str())?;
+        }
+        text.push_str("end\n")?;
     }
     Ok(text)
 }
 
-/// Whether a list has this number alone.
-fn is_only(list: &[u32], number: u32) -> bool
-    ensures { result ≡ true → list.now ≡ number ∷ [] }
+/// Whether a list has the number of one of the first batches alone, or nothing for another batch.
+fn is_one_of_first(list: &[u32], count: u32, j: u32) -> bool
+    ensures { result ≡ true → IsOneOfFirst list.now count j }
 {
     match list {
-        [only] => *only == number,
+        [] => j >= count,
+        [only] => j < count && *only == j,
         _ => false,
     }
 }
@@ -39,10 +61,10 @@ pub(crate) fn is_next(previous: Option<u32>, j: u32) -> bool
     }
 }
 
-/// Whether a job is a batch of the first queue behind the one before it, with the command and the
-/// signal of its own number.
-fn is_link(job: &PlanJob, j: u32) -> bool
-    ensures { result ≡ true → IsLink job.now j }
+/// Whether a job is a batch of the first queue behind the one before it, with a command where it is
+/// one of the first so many, and a signal likewise.
+fn is_link(job: &PlanJob, commands: u32, signals: u32, j: u32) -> bool
+    ensures { result ≡ true → IsLink job.now commands signals j }
 {
     let Lane::Queue(queue) = job.lane else {
         return false;
@@ -54,23 +76,30 @@ fn is_link(job: &PlanJob, j: u32) -> bool
         return false;
     };
     is_next(job.previous, j)
-        && is_only(job.commands.as_slice(), j)
-        && is_only(job.signals.as_slice(), j)
+        && is_one_of_first(job.commands.as_slice(), commands, j)
+        && is_one_of_first(job.signals.as_slice(), signals, j)
+}
+
+/// Whether the operation of this number is of the first chain and of the job of the same number.
+fn is_own(plan: &Plan, j: u32) -> bool
+    requires { j < length plan.now.ops }
+    ensures chain { result ≡ true → chain_of plan.now j ≡ Some 0 }
+    ensures job { result ≡ true → job_of plan.now j ≡ Some j }
+{
+    let op = plan.op(j);
+    op.chain == 0 && op.job == j
 }
 
 /// Whether so is this job of a plan, with the host to release it and the first chain for its signal.
-fn is_linked(plan: &Plan, j: u32) -> bool
-    requires { j < length plan.now.jobs }
-    ensures { result ≡ true → IsLinked plan.now j }
+fn is_linked(plan: &Plan, commands: u32, signals: u32, j: u32) -> bool
+    requires exists { j < length plan.now.jobs }
+    requires ops { signals ≤ length plan.now.ops }
+    ensures { result ≡ true → IsLinked plan.now commands signals j }
 {
-    if j >= plan.commands() || j >= plan.ops() {
+    if j < signals && !is_own(plan, j) {
         return false;
     }
-    let op = plan.op(j);
-    if op.chain != 0 || op.job != j {
-        return false;
-    }
-    is_hosted(plan.script(), 0) && is_link(plan.job(j), j)
+    is_hosted(plan.script(), 0) && is_link(plan.job(j), commands, signals, j)
 }
 
 /// Whether each number of a list is that of its place.
@@ -85,14 +114,32 @@ fn is_rising(list: &[u32]) -> bool
     true
 }
 
-/// Whether the jobs of a plan are in a row.
-pub(crate) fn is_row(plan: &Plan) -> bool
-    ensures { result ≡ true → IsRow plan.now }
+/// Whether so are all chains of a plan.
+fn are_rising(plan: &Plan) -> bool
+    ensures { result ≡ true → (t i e : ℕ) → slice_get (chain plan.now t) i ≡ Some e → e ≡ i }
 {
-    for j in 0..plan.jobs() {
-        if !is_linked(plan, j) {
+    for t in 0..plan.chains() {
+        if !is_rising(plan.chain(t)) {
             return false;
         }
     }
-    plan.chains() == 1 && is_rising(plan.chain(0))
+    true
+}
+
+/// Whether the jobs of a plan are in a row, the first so many of them with a command, and with a signal.
+pub(crate) fn is_row(plan: &Plan, commands: u32, signals: u32) -> bool
+    ensures { result ≡ true → IsRow plan.now (length plan.now.jobs) commands signals }
+{
+    if commands > plan.commands() || signals > plan.ops() || signals > plan.jobs() {
+        return false;
+    }
+    if !has_share(plan, 0, signals) {
+        return false;
+    }
+    for j in 0..plan.jobs() {
+        if !is_linked(plan, commands, signals, j) {
+            return false;
+        }
+    }
+    are_rising(plan)
 }

@@ -1,40 +1,112 @@
 //! Rows of batches and of reads, again and again.
+ghost use Rattle.std.specs.Prelude.{◌≤◌};
+ghost use Rattle.vq_board_bench.specs.Rows.{IsRow};
+
 use crate::bare_reading::bare_reading;
-use crate::bare_row::bare_row;
+use crate::bare_row::opened_bare_row;
+use crate::batches::opened_row;
+use crate::kind::{Form, Phase};
 use crate::opened::checked;
 use crate::reading::reading;
 use crate::reads::{is_of_reads, reads_text};
 use crate::row::{is_row, row_text};
-use crate::whole::row;
 use std::alloc::Global;
+use std::thread::Threads;
+use vq_order::Ordered;
 
-/// Opens so many boards for a row of so many batches, and takes the whole row through all steps, or
-/// none of it. It says whether all came out as wanted.
-pub(crate) fn rows(alloc: Global, batches: u32, whole: bool, rounds: u64) -> Option<bool> {
-    let text = row_text(alloc, batches).ok()?;
-    let ordered = checked(alloc, text.as_str().as_bytes())?;
-    if !is_row(ordered.plan()) {
-        return None;
-    }
-    let count = if whole { ordered.plan().jobs() } else { 0 };
-    for _ in 0..rounds {
-        if !row(alloc, &ordered, count)? {
-            return Some(false);
-        }
-    }
-    Some(true)
+/// A row of so many batches, and how far it is taken.
+#[derive(Clone, Copy)]
+pub(crate) struct Row {
+    pub(crate) form: Form,
+    pub(crate) last: Phase,
+    /// Whether another thread looks at the words meanwhile.
+    pub(crate) beside: bool,
+    pub(crate) batches: u32,
 }
 
-/// Makes so many bare tables for a row of so many batches, and the bare steps of the whole row, or
-/// none of them.
-pub(crate) fn bare_rows(alloc: Global, batches: u32, whole: bool, rounds: u64) -> Option<bool> {
-    let count = if whole { batches } else { 0 };
-    for _ in 0..rounds {
-        if !bare_row(alloc, batches, count)? {
-            return Some(false);
-        }
+impl Row {
+    /// How many of the batches have a command.
+    fn commands(&self) -> u32 {
+        if self.form.command { self.batches } else { 0 }
     }
-    Some(true)
+
+    /// How many of them have a signal.
+    fn signals(&self) -> u32
+        ensures { result ≤ self.now.batches }
+    {
+        if self.form.signal { self.batches } else { 0 }
+    }
+
+    /// Opens a board of the row, and takes the batches through the kinds of step.
+    fn once<R: Threads + Sync>(
+        &self,
+        rt: &R,
+        alloc: Global,
+        ordered: &Ordered,
+        commands: u32,
+        signals: u32,
+    ) -> Option<bool>
+        requires { IsRow ordered.now self.now.batches commands signals }
+    {
+        let (batches, workers) = opened_row(alloc, ordered, self.batches, commands, signals)?;
+        Some(if self.beside {
+            batches.take_beside(rt, workers, self.last)
+        } else {
+            batches.take_alone(workers, self.last)
+        })
+    }
+
+    /// Does so with so many boards. It says whether all came out as wanted.
+    pub(crate) fn take<R: Threads + Sync>(
+        &self,
+        rt: &R,
+        alloc: Global,
+        rounds: u64,
+    ) -> Option<bool> {
+        let text = row_text(alloc, self.batches, self.form).ok()?;
+        let ordered = checked(alloc, text.as_str().as_bytes())?;
+        let (commands, signals) = (self.commands(), self.signals());
+        let plan = ordered.plan();
+        if plan.jobs() != self.batches || !is_row(plan, commands, signals) {
+            return None;
+        }
+        for _ in 0..rounds {
+            if !self.once(rt, alloc, &ordered, commands, signals)? {
+                return Some(false);
+            }
+        }
+        Some(true)
+    }
+
+    /// Makes a bare table for the row, and the bare steps.
+    fn bare_once<R: Threads + Sync>(&self, rt: &R, alloc: Global) -> Option<bool> {
+        let (batches, first, second) = opened_bare_row(
+            alloc,
+            self.batches,
+            self.commands(),
+            self.signals(),
+        )?;
+        Some(if self.beside {
+            batches.take_beside(rt, alloc, first, second, self.last)
+        } else {
+            batches.take(alloc, first, self.last)
+        })
+    }
+
+    /// Does so with so many tables.
+    pub(crate) fn take_bare<R: Threads + Sync>(
+        &self,
+        rt: &R,
+        alloc: Global,
+        rounds: u64,
+    ) -> Option<bool> {
+        for _ in 0..rounds {
+            if !self.bare_once(rt, alloc)? {
+                return Some(false);
+            }
+        }
+        Some(true)
+    }
 }
 
 /// Opens so many boards for a row of so many of the host's reads, and takes the whole row through its

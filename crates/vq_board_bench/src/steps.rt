@@ -1,5 +1,5 @@
 //! Steps of a board, again and again.
-ghost use Rattle.std.specs.Prelude.{◌≡◌, true, false, IfSome};
+ghost use Rattle.std.specs.Prelude.{true, false, IfSome};
 ghost use Rattle.vq_board_bench.specs.Idle.{IsWorker, IsReferring};
 
 use crate::kind::BoardStep;

@@ -1,0 +1,9 @@
+use Rattle.std.proofs.Common.{arith}
+use Rattle.vq_board.specs.Named.{plan_of, view}
+use Rattle.vq_board_bench.proofs.ShelfRowSteps.{may_complete}
+use Rattle.vq_board_bench.proofs.batches.Batches.complete.Goals as goal
+
+pub complete-requires-clause-may : goal.complete-requires-clause-may
+complete-requires-clause-may c =
+    let x = c.args.self.now in
+    may_complete (plan_of x.board) x.count x.commands x.signals x.row c.loop-j.j (view c.loop-j.shelf) (omega arith) c.loop-j.invariant.1

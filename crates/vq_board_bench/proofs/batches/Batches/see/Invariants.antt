@@ -1,0 +1,6 @@
+use Rattle.vq_board.specs.Named.{plan_of, view, IsOf}
+use Rattle.vq_board_bench.specs.Rows.{IsEnding}
+use Rattle.vq_board_bench.proofs.batches.Batches.see.Given as goal
+
+abbrev pub invariant-loop-j : goal.invariant-loop-j
+invariant-loop-j l = IsOf l.self.board l.shelf × IsEnding (plan_of l.self.board) (view l.shelf) l.self.signals l.j 0 0

@@ -1,8 +1,0 @@
-use Rattle.std.proofs.Common.{rules}
-use Rattle.vq_board.specs.Named.{plan_of, view}
-use Rattle.vq_board_bench.proofs.RowSteps.{may_start}
-use Rattle.vq_board_bench.proofs.whole.start.Goals as goal
-
-pub start-requires-clause-may : goal.start-requires-clause-may
-start-requires-clause-may c =
-    may_start (plan_of c.args.board.now) c.requires.row c.args.j c.requires.exists (view c.args.ring.now) (view c.job_state.new.pass) c.job_state.result c.requires.ring c.job_state.ensures.2 (search rules)
