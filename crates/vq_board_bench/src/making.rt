@@ -12,16 +12,18 @@ use vq_board::{Board, Pass, Passes, Role};
 use vq_order::Ordered;
 use vq_spec::Plan;
 
+/// Adds a batch on each of two queues, which signal a timeline of their own.
+fn push_two(alloc: Global, text: &mut String, value: u64) -> Result<(), AllocError> {
+    text.push_str(format!(in alloc; "submit P\nsignal A {value}\nend\n")?.as_str())?;
+    text.push_str(format!(in alloc; "submit Q\nsignal B {value}\nend\n")?.as_str())
+}
+
 /// The script of two queues, each with so many batches, which signal a timeline of their own.
 fn makes_text(alloc: Global, count: u32) -> Result<String, AllocError> {
     let mut text = String::new(alloc);
     text.push_str("timeline A 0\ntimeline B 0\nqueue P immediate\nqueue Q immediate\n")?;
     for j in 0..count {
-        let value = u64::from(j) + 1;
-        let first = format!(in alloc; "submit P\nsignal A {value}\nend\n")?;
-        text.push_str(first.as_str())?;
-        let second = format!(in alloc; "submit Q\nsignal B {value}\nend\n")?;
-        text.push_str(second.as_str())?;
+        push_two(alloc, &mut text, u64::from(j) + 1)?;
     }
     Ok(text)
 }
@@ -115,6 +117,25 @@ fn making<R: Threads + Sync>(rt: &R, alloc: Global, ordered: &Ordered, count: u3
     make_pair(rt, alloc, &board, first, second, count)
 }
 
+/// Opens so many boards of the plan, and makes so many points with each of its two shelves.
+fn makes_of<R: Threads + Sync>(
+    rt: &R,
+    alloc: Global,
+    ordered: &Ordered,
+    points: u32,
+    rounds: u64,
+) -> Option<bool> {
+    if !has_shares(ordered.plan(), points) {
+        return None;
+    }
+    for _ in 0..rounds {
+        if !making(rt, alloc, ordered, points)? {
+            return Some(false);
+        }
+    }
+    Some(true)
+}
+
 /// Opens so many boards of two chains with so many operations each, and makes a point for each
 /// operation, or none, with the shelves of the chains in two threads. It says whether all came out as
 /// wanted.
@@ -126,15 +147,12 @@ pub(crate) fn makes<R: Threads + Sync>(
     rounds: u64,
 ) -> Option<bool> {
     let text = makes_text(alloc, count).ok()?;
-    let ordered = checked(alloc, text.as_str().as_bytes())?;
     let points = if whole { count } else { 0 };
-    if !has_shares(ordered.plan(), points) {
-        return None;
-    }
-    for _ in 0..rounds {
-        if !making(rt, alloc, &ordered, points)? {
-            return Some(false);
-        }
-    }
-    Some(true)
+    makes_of(
+        rt,
+        alloc,
+        &checked(alloc, text.as_str().as_bytes())?,
+        points,
+        rounds,
+    )
 }

@@ -190,17 +190,24 @@ fn handed(alloc: Global, ordered: &Ordered) -> Option<(Board, Vec<Pass>)>
     }
 }
 
+/// The board of the plan, where that is the script's, with its first point and these passes.
+fn opened_of(alloc: Global, ordered: &Ordered) -> Option<(Board, Pass, Pass)>
+    ensures first { IfSome result (λ t. IsReferring t.0 t.1 false) }
+    ensures second { IfSome result (λ t. IsReferring t.0 t.2 false) }
+{
+    let plan = ordered.plan();
+    if !is_idle(plan, 0) || !is_idle(plan, 1) || !is_signaled(plan) {
+        return None;
+    }
+    let (board, rings) = handed(alloc, ordered)?;
+    let (first, second) = workers(&board, rings)?;
+    Some((board, first, second))
+}
+
 /// A board whose first point carries the first operation, and two passes that run a batch each.
 pub(crate) fn opened(alloc: Global) -> Option<(Board, Pass, Pass)>
     ensures first { IfSome result (λ t. IsReferring t.0 t.1 false) }
     ensures second { IfSome result (λ t. IsReferring t.0 t.2 false) }
 {
-    let ordered = checked(alloc, SCRIPT)?;
-    let plan = ordered.plan();
-    if !is_idle(plan, 0) || !is_idle(plan, 1) || !is_signaled(plan) {
-        return None;
-    }
-    let (board, rings) = handed(alloc, &ordered)?;
-    let (first, second) = workers(&board, rings)?;
-    Some((board, first, second))
+    opened_of(alloc, &checked(alloc, SCRIPT)?)
 }

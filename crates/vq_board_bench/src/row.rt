@@ -10,32 +10,39 @@ use crate::shares::has_share;
 use std::alloc::{AllocError, Global};
 use vq_spec::{Lane, Plan, PlanJob, Question};
 
-/// The script of so many batches on the first of two queues. A wide one has as many queues and
-/// timelines as a script may have, which nothing uses.
-pub(crate) fn row_text(alloc: Global, batches: u32, form: Form) -> Result<String, AllocError> {
-    let mut text = String::new(alloc);
+/// Adds the declarations of a timeline and two queues. A wide script has as many queues and timelines
+/// as one may have, which nothing uses.
+fn push_declarations(alloc: Global, text: &mut String, wide: bool) -> Result<(), AllocError> {
+    let (timelines, queues) = if wide { (255u32, 6u32) } else { (0, 0) };
     text.push_str("buffer X 8\ntimeline A 0\n")?;
-    if form.wide {
-        for k in 0..255u32 {
-            text.push_str(format!(in alloc; "timeline B{k} 0\n")?.as_str())?;
-        }
+    for k in 0..timelines {
+        text.push_str(format!(in alloc; "timeline B{k} 0\n")?.as_str())?;
     }
     text.push_str("queue P immediate\nqueue Q immediate\n")?;
-    if form.wide {
-        for k in 0..6u32 {
-            text.push_str(format!(in alloc; "queue R{k} immediate\n")?.as_str())?;
-        }
+    for k in 0..queues {
+        text.push_str(format!(in alloc; "queue R{k} immediate\n")?.as_str())?;
     }
+    Ok(())
+}
+
+/// Adds a batch on the first queue.
+fn push_batch(alloc: Global, text: &mut String, form: Form, value: u64) -> Result<(), AllocError> {
+    text.push_str("submit P\n")?;
+    if form.command {
+        text.push_str("fill X 0 4 7\n")?;
+    }
+    if form.signal {
+        text.push_str(format!(in alloc; "signal A {value}\n")?.as_str())?;
+    }
+    text.push_str("end\n")
+}
+
+/// The script of so many batches on the first of two queues.
+pub(crate) fn row_text(alloc: Global, batches: u32, form: Form) -> Result<String, AllocError> {
+    let mut text = String::new(alloc);
+    push_declarations(alloc, &mut text, form.wide)?;
     for j in 0..batches {
-        text.push_str("submit P\n")?;
-        if form.command {
-            text.push_str("fill X 0 4 7\n")?;
-        }
-        if form.signal {
-            let value = u64::from(j) + 1;
-            text.push_str(format!(in alloc; "signal A {value}\n")?.as_str())?;
-        }
-        text.push_str("end\n")?;
+        push_batch(alloc, &mut text, form, u64::from(j) + 1)?;
     }
     Ok(text)
 }

@@ -56,6 +56,27 @@ impl Row {
         })
     }
 
+    /// Does so with so many boards of the plan, where its batches are in such a row.
+    fn take_all<R: Threads + Sync>(
+        &self,
+        rt: &R,
+        alloc: Global,
+        ordered: &Ordered,
+        rounds: u64,
+    ) -> Option<bool> {
+        let (commands, signals) = (self.commands(), self.signals());
+        let plan = ordered.plan();
+        if plan.jobs() != self.batches || !is_row(plan, commands, signals) {
+            return None;
+        }
+        for _ in 0..rounds {
+            if !self.once(rt, alloc, ordered, commands, signals)? {
+                return Some(false);
+            }
+        }
+        Some(true)
+    }
+
     /// Does so with so many boards. It says whether all came out as wanted.
     pub(crate) fn take<R: Threads + Sync>(
         &self,
@@ -64,18 +85,12 @@ impl Row {
         rounds: u64,
     ) -> Option<bool> {
         let text = row_text(alloc, self.batches, self.form).ok()?;
-        let ordered = checked(alloc, text.as_str().as_bytes())?;
-        let (commands, signals) = (self.commands(), self.signals());
-        let plan = ordered.plan();
-        if plan.jobs() != self.batches || !is_row(plan, commands, signals) {
-            return None;
-        }
-        for _ in 0..rounds {
-            if !self.once(rt, alloc, &ordered, commands, signals)? {
-                return Some(false);
-            }
-        }
-        Some(true)
+        self.take_all(
+            rt,
+            alloc,
+            &checked(alloc, text.as_str().as_bytes())?,
+            rounds,
+        )
     }
 
     /// Makes a bare table for the row, and the bare steps.
@@ -109,21 +124,32 @@ impl Row {
     }
 }
 
-/// Opens so many boards for a row of so many of the host's reads, and takes the whole row through its
-/// steps, or none of it. It says whether all came out as wanted.
-pub(crate) fn reads(alloc: Global, reads: u32, whole: bool, rounds: u64) -> Option<bool> {
-    let text = reads_text(alloc, reads).ok()?;
-    let ordered = checked(alloc, text.as_str().as_bytes())?;
-    if !is_of_reads(ordered.plan()) {
+/// Opens so many boards of the plan, where it is of reads, and takes them through their steps, or none
+/// of them.
+fn reads_of(alloc: Global, ordered: &Ordered, whole: bool, rounds: u64) -> Option<bool> {
+    let plan = ordered.plan();
+    if !is_of_reads(plan) {
         return None;
     }
-    let count = if whole { ordered.plan().jobs() } else { 0 };
+    let count = if whole { plan.jobs() } else { 0 };
     for _ in 0..rounds {
-        if !reading(alloc, &ordered, count)? {
+        if !reading(alloc, ordered, count)? {
             return Some(false);
         }
     }
     Some(true)
+}
+
+/// Opens so many boards for a row of so many of the host's reads, and takes the whole row through its
+/// steps, or none of it. It says whether all came out as wanted.
+pub(crate) fn reads(alloc: Global, reads: u32, whole: bool, rounds: u64) -> Option<bool> {
+    let text = reads_text(alloc, reads).ok()?;
+    reads_of(
+        alloc,
+        &checked(alloc, text.as_str().as_bytes())?,
+        whole,
+        rounds,
+    )
 }
 
 /// Makes so many bare tables for a row of so many reads, and the bare steps of the whole row, or none

@@ -1,5 +1,5 @@
 -- Batches that have nothing to do with other jobs, and the passes that hand them on and run them.
-use Rattle.std.specs.Prelude.{ℕ, List, [], ◌≡◌, ◌<◌, ◌≤◌, Some, None, true, false, length}
+use Rattle.std.specs.Prelude.{ℕ, List, [], ◌∷◌, ◌≡◌, ◌<◌, ◌≤◌, Some, None, true, false, length}
 use Rattle.std.specs.List.{slice_get}
 use Rattle.vq_model.specs.Plan.{Plan, has, previous, idle_after, needs, waits_for_any, commands_of, signals_of}
 use Rattle.vq_model.specs.Plan.{is_batch, is_host_step, question, is_silent}
@@ -41,6 +41,12 @@ pub record IsAlone (p : Plan) (j : ℕ) (its_commands : List ℕ) : Type 0 where
   pub exist : AllExist p its_commands
   pub signals : signals_of p j ≡ []
   pub silent : is_silent (question p j) ≡ true
+
+-- two such batches, each with the command of its number, are all jobs
+pub record AreTwo (p : Plan) : Type 0 where
+  pub jobs : length p.jobs ≡ 2
+  pub first : IsAlone p 0 (0 ∷ [])
+  pub second : IsAlone p 1 (1 ∷ [])
 
 -- the host's pass has submitted and released the first n jobs, which are batches
 pub record HasHandedOn (b : Board) (x : Pass) (n : ℕ) : Type 0 where

@@ -11,6 +11,21 @@ use crate::plans::three_signals;
 use crate::three_signals::is_of_three_signals;
 use std::alloc::Global;
 use vq_board::{Board, Pass, Passes, Role};
+use vq_order::Ordered;
+
+/// The board of the plan, where that is the script's, with its passes.
+fn opened_of(alloc: Global, ordered: &Ordered) -> Option<(Board, Passes)>
+    ensures plan { IfSome result (λ t. IsOfThreeSignals (plan_of t.0)) }
+    ensures host { IfSome result (λ t. HasSubmitted t.0 t.1.host 0) }
+    ensures submits { IfSome result (λ t. AllFresh t.0 t.1.submits.items) }
+    ensures rings { IfSome result (λ t. AllFresh t.0 t.1.rings.items) }
+    ensures shelves { IfSome result (λ t. AllFresh t.0 t.1.shelves.items) }
+{
+    if !is_of_three_signals(ordered.plan()) {
+        return None;
+    }
+    board_of(alloc, ordered)
+}
 
 /// The board with its passes: of the host, of the threads that submit, of the rings and of the shelf.
 pub(crate) fn opened(alloc: Global) -> Option<(Board, Passes)>
@@ -20,11 +35,7 @@ pub(crate) fn opened(alloc: Global) -> Option<(Board, Passes)>
     ensures rings { IfSome result (λ t. AllFresh t.0 t.1.rings.items) }
     ensures shelves { IfSome result (λ t. AllFresh t.0 t.1.shelves.items) }
 {
-    let ordered = three_signals(alloc)?;
-    if !is_of_three_signals(ordered.plan()) {
-        return None;
-    }
-    board_of(alloc, &ordered)
+    opened_of(alloc, &three_signals(alloc)?)
 }
 
 /// The passes of P's and Q's threads that submit.

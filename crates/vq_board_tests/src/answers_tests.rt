@@ -11,6 +11,19 @@ use crate::plans::two_reads;
 use crate::reads::is_of_reads;
 use std::alloc::Global;
 use vq_board::{Board, Closed, Passes, Role};
+use vq_order::Ordered;
+
+/// The board of the plan, where that is the script's, with its passes.
+fn opened_of(alloc: Global, ordered: &Ordered) -> Option<(Board, Passes)>
+    ensures plan { IfSome result (λ t. IsOfReads (plan_of t.0)) }
+    ensures host { IfSome result (λ t. HasFinished t.0 t.1.host 0) }
+    ensures shelves { IfSome result (λ t. AllFresh t.0 t.1.shelves.items) }
+{
+    if !is_of_reads(ordered.plan()) {
+        return None;
+    }
+    board_of(alloc, ordered)
+}
 
 /// The board of the script, with its passes.
 fn opened(alloc: Global) -> Option<(Board, Passes)>
@@ -18,11 +31,7 @@ fn opened(alloc: Global) -> Option<(Board, Passes)>
     ensures host { IfSome result (λ t. HasFinished t.0 t.1.host 0) }
     ensures shelves { IfSome result (λ t. AllFresh t.0 t.1.shelves.items) }
 {
-    let ordered = two_reads(alloc)?;
-    if !is_of_reads(ordered.plan()) {
-        return None;
-    }
-    board_of(alloc, &ordered)
+    opened_of(alloc, &two_reads(alloc)?)
 }
 
 /// The host's steps are made, one after another, and the board is closed.

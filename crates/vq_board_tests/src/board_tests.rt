@@ -1,8 +1,8 @@
 //! Two batches on two queues, each with one command, over a board.
-ghost use Rattle.std.specs.Prelude.{◌≡◌, [], ◌∷◌, length, IfSome};
+ghost use Rattle.std.specs.Prelude.{◌≡◌, [], ◌∷◌, true, IfSome};
 ghost use Rattle.vq_board.specs.Named.{plan_of};
-ghost use Rattle.vq_board_tests.specs.Batches.{IsAlone, HasHandedOn, IsReady, IsRunning};
-ghost use Rattle.vq_board_tests.specs.Dealing.{AllFresh};
+ghost use Rattle.vq_board_tests.specs.Batches.{AreTwo, HasHandedOn, IsReady, IsRunning};
+ghost use Rattle.vq_board_tests.specs.Dealing.{AllFresh, IsDealer};
 
 use crate::alone::{all_finished, hand_on, is_alone, start, work};
 use crate::passes::{board_of, dealt};
@@ -11,38 +11,63 @@ use std::alloc::Global;
 use std::sync::Wait;
 use std::thread::{Threads, join};
 use vq_board::{Board, Closed, Pass, Passes, Role};
+use vq_order::Ordered;
+use vq_spec::Plan;
 
-/// The board of the script, the host's pass, which has handed both batches on, and the passes of the
-/// rings.
-fn opened(alloc: Global) -> Option<(Board, Pass, Vec<Pass>)>
-    ensures first { IfSome result (λ t. IsAlone (plan_of t.0) 0 (0 ∷ [])) }
-    ensures second { IfSome result (λ t. IsAlone (plan_of t.0) 1 (1 ∷ [])) }
-    ensures jobs { IfSome result (λ t. length (plan_of t.0).jobs ≡ 2) }
-    ensures host { IfSome result (λ t. HasHandedOn t.0 t.1 2) }
-    ensures rings { IfSome result (λ t. AllFresh t.0 t.2.items) }
+/// Whether the plan is that of the script.
+fn are_two(plan: &Plan) -> bool
+    ensures { result ≡ true → AreTwo plan.now }
 {
-    let ordered = two_batches(alloc)?;
-    let plan = ordered.plan();
-    if plan.jobs() != 2 || !is_alone(plan, 0, &[0]) || !is_alone(plan, 1, &[1]) {
-        return None;
-    }
-    let (board, passes) = board_of(alloc, &ordered)?;
+    plan.jobs() == 2 && is_alone(plan, 0, &[0]) && is_alone(plan, 1, &[1])
+}
+
+/// The host's pass, which has handed both batches on, and the passes of the rings.
+fn handed(board: &Board, passes: Passes) -> (Pass, Vec<Pass>)
+    requires plan { AreTwo (plan_of board.now) }
+    requires host { IsDealer board.now passes.host }
+    requires rings { AllFresh board.now passes.rings.items }
+    ensures host { HasHandedOn board.now result.0 2 }
+    ensures rings { AllFresh board.now result.1.items }
+{
     let Passes {
         mut host,
         submits: _,
         rings,
         shelves: _,
     } = passes;
-    hand_on(&board, &mut host, 0, &[0]);
-    hand_on(&board, &mut host, 1, &[1]);
+    hand_on(board, &mut host, 0, &[0]);
+    hand_on(board, &mut host, 1, &[1]);
+    (host, rings)
+}
+
+/// The board of the plan, where that is the script's, and these passes.
+fn opened_of(alloc: Global, ordered: &Ordered) -> Option<(Board, Pass, Vec<Pass>)>
+    ensures plan { IfSome result (λ t. AreTwo (plan_of t.0)) }
+    ensures host { IfSome result (λ t. HasHandedOn t.0 t.1 2) }
+    ensures rings { IfSome result (λ t. AllFresh t.0 t.2.items) }
+{
+    if !are_two(ordered.plan()) {
+        return None;
+    }
+    let (board, passes) = board_of(alloc, ordered)?;
+    let (host, rings) = handed(&board, passes);
     Some((board, host, rings))
+}
+
+/// The board of the script, the host's pass, which has handed both batches on, and the passes of the
+/// rings.
+fn opened(alloc: Global) -> Option<(Board, Pass, Vec<Pass>)>
+    ensures plan { IfSome result (λ t. AreTwo (plan_of t.0)) }
+    ensures host { IfSome result (λ t. HasHandedOn t.0 t.1 2) }
+    ensures rings { IfSome result (λ t. AllFresh t.0 t.2.items) }
+{
+    opened_of(alloc, &two_batches(alloc)?)
 }
 
 /// The passes of both rings.
 fn both_rings(board: &Board, mut rings: Vec<Pass>) -> Option<(Pass, Pass)>
     requires fresh { AllFresh board.now rings.items }
-    requires first { IsAlone (plan_of board.now) 0 (0 ∷ []) }
-    requires second { IsAlone (plan_of board.now) 1 (1 ∷ []) }
+    requires plan { AreTwo (plan_of board.now) }
     ensures first { IfSome result (λ t. IsReady board.now t.0 0 (0 ∷ [])) }
     ensures second { IfSome result (λ t. IsReady board.now t.1 1 (1 ∷ [])) }
 {
@@ -105,7 +130,7 @@ fn work_both<R: Threads + Wait + Sync>(
 /// The board is closed, where all batches are found finished.
 fn closed(board: Board, mut host: Pass) -> Option<Closed>
     requires host { HasHandedOn board host 2 }
-    requires jobs { length (plan_of board).jobs ≡ 2 }
+    requires plan { AreTwo (plan_of board) }
 {
     if all_finished(&board, &mut host, 2) {
         Some(board.close(host))

@@ -2,7 +2,7 @@
 ghost use Rattle.std.specs.Prelude.{◌≡◌, [], ◌∷◌, length, true, IfSome};
 ghost use Rattle.vq_board.specs.Named.{plan_of};
 ghost use Rattle.vq_board_tests.specs.Batches.{HasHandedOn, IsReady};
-ghost use Rattle.vq_board_tests.specs.Dealing.{AllFresh};
+ghost use Rattle.vq_board_tests.specs.Dealing.{AllFresh, IsDealer};
 ghost use Rattle.vq_board_tests.specs.FourBatches.{AreFour, AreReady};
 
 use crate::alone::{all_finished, hand_on, is_alone, work};
@@ -12,6 +12,7 @@ use std::alloc::Global;
 use std::sync::Wait;
 use std::thread::{Threads, join};
 use vq_board::{Board, Closed, Pass, Passes, Role};
+use vq_order::Ordered;
 use vq_spec::Plan;
 
 /// Whether the plan is that of the script.
@@ -36,6 +37,38 @@ fn hand_all_on(board: &Board, host: &mut Pass)
     hand_on(board, host, 3, &[9, 10, 11]);
 }
 
+/// The host's pass, which has handed all batches on, and the passes of the rings.
+fn handed(board: &Board, passes: Passes) -> (Pass, Vec<Pass>)
+    requires plan { AreFour (plan_of board.now) }
+    requires host { IsDealer board.now passes.host }
+    requires rings { AllFresh board.now passes.rings.items }
+    ensures host { HasHandedOn board.now result.0 4 }
+    ensures rings { AllFresh board.now result.1.items }
+{
+    let Passes {
+        mut host,
+        submits: _,
+        rings,
+        shelves: _,
+    } = passes;
+    hand_all_on(board, &mut host);
+    (host, rings)
+}
+
+/// The board of the plan, where that is the script's, and these passes.
+fn opened_of(alloc: Global, ordered: &Ordered) -> Option<(Board, Pass, Vec<Pass>)>
+    ensures plan { IfSome result (λ t. AreFour (plan_of t.0)) }
+    ensures host { IfSome result (λ t. HasHandedOn t.0 t.1 4) }
+    ensures rings { IfSome result (λ t. AllFresh t.0 t.2.items) }
+{
+    if !are_four(ordered.plan()) {
+        return None;
+    }
+    let (board, passes) = board_of(alloc, ordered)?;
+    let (host, rings) = handed(&board, passes);
+    Some((board, host, rings))
+}
+
 /// The board of the script, the host's pass, which has handed all batches on, and the passes of the
 /// rings.
 fn opened(alloc: Global) -> Option<(Board, Pass, Vec<Pass>)>
@@ -43,19 +76,7 @@ fn opened(alloc: Global) -> Option<(Board, Pass, Vec<Pass>)>
     ensures host { IfSome result (λ t. HasHandedOn t.0 t.1 4) }
     ensures rings { IfSome result (λ t. AllFresh t.0 t.2.items) }
 {
-    let ordered = four_batches(alloc)?;
-    if !are_four(ordered.plan()) {
-        return None;
-    }
-    let (board, passes) = board_of(alloc, &ordered)?;
-    let Passes {
-        mut host,
-        submits: _,
-        rings,
-        shelves: _,
-    } = passes;
-    hand_all_on(&board, &mut host);
-    Some((board, host, rings))
+    opened_of(alloc, &four_batches(alloc)?)
 }
 
 /// Two batches are run by their rings' passes, each in a thread of its own. It says whether both were.

@@ -14,6 +14,20 @@ use crate::two_waits::is_of_two_waits;
 use crate::waiting::{finish_waiting, hand_on_waiting, refer_to_both, start_waiting};
 use std::alloc::Global;
 use vq_board::{Board, Pass, Passes, Role};
+use vq_order::Ordered;
+
+/// The board of the plan, where that is the script's, with its passes.
+fn opened_of(alloc: Global, ordered: &Ordered) -> Option<(Board, Passes)>
+    ensures plan { IfSome result (λ t. IsOfTwoWaits (plan_of t.0)) }
+    ensures host { IfSome result (λ t. HasFinished t.0 t.1.host 0) }
+    ensures rings { IfSome result (λ t. AllFresh t.0 t.1.rings.items) }
+    ensures shelves { IfSome result (λ t. AllFresh t.0 t.1.shelves.items) }
+{
+    if !is_of_two_waits(ordered.plan()) {
+        return None;
+    }
+    board_of(alloc, ordered)
+}
 
 /// The board of the script, with its passes.
 fn opened(alloc: Global) -> Option<(Board, Passes)>
@@ -22,11 +36,7 @@ fn opened(alloc: Global) -> Option<(Board, Passes)>
     ensures rings { IfSome result (λ t. AllFresh t.0 t.1.rings.items) }
     ensures shelves { IfSome result (λ t. AllFresh t.0 t.1.shelves.items) }
 {
-    let ordered = two_waits(alloc)?;
-    if !is_of_two_waits(ordered.plan()) {
-        return None;
-    }
-    board_of(alloc, &ordered)
+    opened_of(alloc, &two_waits(alloc)?)
 }
 
 /// The passes of both shelves.

@@ -1,7 +1,7 @@
 use Rattle.std.proofs.Common.{subst}
 use Rattle.vq_model.specs.Plan.{Plan}
 use Rattle.vq_board_bench.specs.Making.{HasShare}
-use Rattle.vq_board_bench.proofs.opened.opened.Goals as goal
+use Rattle.vq_board_bench.proofs.opened.opened_of.Goals as goal
 
 pub handed-requires-clause-share : goal.handed-requires-clause-share
 handed-requires-clause-share c =

@@ -1,7 +1,7 @@
 use Rattle.std.proofs.Common.{◌∙◌, subst, sym}
 use Rattle.std.proofs.lemmas.Option.{IfSome_then}
 use Rattle.vq_board_tests.specs.ThreeSignals.{IsOfThreeSignals}
-use Rattle.vq_board_tests.proofs.actors.opened.Goals as goal
+use Rattle.vq_board_tests.proofs.actors.opened_of.Goals as goal
 
 pub returns-clause-plan : goal.returns-clause-plan
 returns-clause-plan c =
