@@ -42,7 +42,7 @@ use steps::steps;
 const USAGE: &str = "usage: vq_board_bench KIND ROUNDS [pairs]
     bare-load, bare-store, bare-cas, bare-add, bare-refer, bare-turn,
     job_state, recall, look, refer, turn
-usage: vq_board_bench KIND ROUNDS SIZE
+usage: vq_board_bench KIND ROUNDS SIZE [beside]
     bare-open-answers, bare-answer, open-answers, answer,
     bare-open-makes, bare-make, open-makes, make
 usage: vq_board_bench [bare-]row FORM PHASE ROUNDS SIZE [beside]
@@ -86,12 +86,13 @@ fn in_rows<R: Threads + Sync>(
     alloc: Global,
     kind: Kind,
     size: u32,
+    beside: bool,
     rounds: u64,
 ) -> Option<bool> {
     match kind {
         Kind::Bare(_) | Kind::Board(_) => None,
-        Kind::BareReads { whole } => bare_reads(alloc, size, whole, rounds),
-        Kind::Reads { whole } => reads(alloc, size, whole, rounds),
+        Kind::BareReads { whole } => bare_reads(rt, alloc, size, whole, beside, rounds),
+        Kind::Reads { whole } => reads(rt, alloc, size, whole, beside, rounds),
         Kind::BareMakes { whole } => bare_makes(rt, alloc, size, whole, rounds),
         Kind::Makes { whole } => makes(rt, alloc, size, whole, rounds),
     }
@@ -137,7 +138,14 @@ fn made<R: Threads + Sync>(rt: &R, alloc: Global, words: &[String]) -> Option<bo
             if word.as_str() == "pairs" {
                 in_pairs(rt, alloc, kind, rounds)
             } else {
-                in_rows(rt, alloc, kind, word.as_str().parse::<u32>().ok()?, rounds)
+                in_rows(
+                    rt,
+                    alloc,
+                    kind,
+                    word.as_str().parse::<u32>().ok()?,
+                    words.len() == 5,
+                    rounds,
+                )
             }
         }
         None => alone(alloc, kind, rounds),

@@ -2,12 +2,12 @@
 ghost use Rattle.std.specs.Prelude.{◌≤◌};
 ghost use Rattle.vq_board_bench.specs.Rows.{IsRow};
 
-use crate::bare_reading::bare_reading;
+use crate::bare_reading::{bare_reading, bare_reading_beside};
 use crate::bare_row::opened_bare_row;
 use crate::batches::opened_row;
 use crate::kind::{Form, Phase};
 use crate::opened::checked;
-use crate::reading::reading;
+use crate::reading::{reading, reading_beside};
 use crate::reads::{is_of_reads, reads_text};
 use crate::row::{is_row, row_text};
 use std::alloc::Global;
@@ -125,15 +125,27 @@ impl Row {
 }
 
 /// Opens so many boards of the plan, where it is of reads, and takes them through their steps, or none
-/// of them.
-fn reads_of(alloc: Global, ordered: &Ordered, whole: bool, rounds: u64) -> Option<bool> {
+/// of them, beside another thread or alone.
+fn reads_of<R: Threads + Sync>(
+    rt: &R,
+    alloc: Global,
+    ordered: &Ordered,
+    whole: bool,
+    beside: bool,
+    rounds: u64,
+) -> Option<bool> {
     let plan = ordered.plan();
     if !is_of_reads(plan) {
         return None;
     }
     let count = if whole { plan.jobs() } else { 0 };
     for _ in 0..rounds {
-        if !reading(alloc, ordered, count)? {
+        let done = if beside {
+            reading_beside(rt, alloc, ordered, count)?
+        } else {
+            reading(alloc, ordered, count)?
+        };
+        if !done {
             return Some(false);
         }
     }
@@ -142,22 +154,37 @@ fn reads_of(alloc: Global, ordered: &Ordered, whole: bool, rounds: u64) -> Optio
 
 /// Opens so many boards for a row of so many of the host's reads, and takes the whole row through its
 /// steps, or none of it. It says whether all came out as wanted.
-pub(crate) fn reads(alloc: Global, reads: u32, whole: bool, rounds: u64) -> Option<bool> {
+pub(crate) fn reads<R: Threads + Sync>(
+    rt: &R,
+    alloc: Global,
+    reads: u32,
+    whole: bool,
+    beside: bool,
+    rounds: u64,
+) -> Option<bool> {
     let text = reads_text(alloc, reads).ok()?;
-    reads_of(
-        alloc,
-        &checked(alloc, text.as_str().as_bytes())?,
-        whole,
-        rounds,
-    )
+    let ordered = checked(alloc, text.as_str().as_bytes())?;
+    reads_of(rt, alloc, &ordered, whole, beside, rounds)
 }
 
 /// Makes so many bare tables for a row of so many reads, and the bare steps of the whole row, or none
 /// of them.
-pub(crate) fn bare_reads(alloc: Global, reads: u32, whole: bool, rounds: u64) -> Option<bool> {
+pub(crate) fn bare_reads<R: Threads + Sync>(
+    rt: &R,
+    alloc: Global,
+    reads: u32,
+    whole: bool,
+    beside: bool,
+    rounds: u64,
+) -> Option<bool> {
     let count = if whole { reads } else { 0 };
     for _ in 0..rounds {
-        if !bare_reading(alloc, reads, count)? {
+        let done = if beside {
+            bare_reading_beside(rt, alloc, reads, count)?
+        } else {
+            bare_reading(alloc, reads, count)?
+        };
+        if !done {
             return Some(false);
         }
     }
