@@ -120,6 +120,10 @@ def number_fault(page, number, reader, line, words):
             page.mark(number, f'`{word.decode()}` is above 2^32 - 1')
         elif place == 'digits' and not re.fullmatch(rb'([0-9a-fA-F]{2})*', word):
             page.mark(number, 'digits in pairs belong here, two for each byte')
+    if b'update' in words[:1] and numeral(words[2]) is not None:
+        page.rule('the bytes of an update are hexadecimal digits alone, without `0x`, two for each byte')
+        page.mend('write them so, as `0aff00b1` for four bytes')
+        return
     page.rule('a number is decimal, or `0x` and hexadecimal digits; the word of a fill has 32 bits')
     page.mend('write such a number')
 
@@ -139,7 +143,15 @@ def name(page, number, reader, line, words):
         elif place == 'actor' and word[:1] == b'S' and reader.queues[reader.names[text][1]] != b'threaded':
             page.mark(number, f'`{text.decode()}` is not threaded, so the host submits its batches')
     page.rule('each place takes names of one kind, declared above')
-    page.mend('declare it above the first batch, or correct the name')
+    kind = reader.names.get(words[1], (None, 0))[0] if len(words) > 1 else None
+    if words[0] in (b'wait', b'signal') and kind == 'timeline':
+        page.mend(f'a timeline has a value: `{words[0].decode()} {words[1].decode()} VALUE`')
+    elif words[0] in (b'wait', b'signal') and kind == 'binary':
+        page.mend(f'a binary semaphore has no value: `{words[0].decode()} {words[1].decode()}`')
+    elif words[0][:2] == b'S:' and words[0][2:] in reader.names:
+        page.mend('write `host`: its turns hand on the batches of this queue')
+    else:
+        page.mend('declare it above the first batch, or correct the name')
 
 
 def twice(page, number, reader, line, words):
@@ -163,6 +175,10 @@ def out_of_range(page, number, reader, line, words):
     for name, start, size in ranges(form, words):
         page.note(f'the line names {size} bytes of `{name}` from byte {start} on' +
                   (f', to {start + size - 1}' if size else ''))
+    if form == 'turns':
+        page.rule('a line of turns has at least one')
+        page.mend('take the line out, or raise the count')
+        return
     page.rule('an offset lies in its buffer, and so does the range; of `fill` and `update` both are multiples of 4; an '
               'update has at most 65,536 bytes')
     page.mend('count the bytes; `fill B OFFSET whole WORD` fills up to the end')

@@ -117,6 +117,8 @@ def blocking(asked, j, numbers):
         e = plan.resolver(t, value)
         if e is None:
             most = max([plan.initial[t]] + [plan.ops[x].value for x in plan.chains[t]])
+            if plan.kinds[t] == 'fence':
+                return line, f'no batch above names {plan.names[t]} since its last reset, or none at all', None
             return line, f'nothing brings {plan.names[t]} to {value}: it comes to {most} at most', None
         return line, f'waits for {asked.signal(e)}', plan.ops[e].job
     for i, why in asked.links(j):
@@ -144,17 +146,35 @@ def unordered(asked, page, first, second):
         page.mend('let the second batch come after the one that waits: it waits for a signal of that, or stands in its queue')
         return
     e, after = sorted((at[first], at[second]), key=lambda e: (plan.ops[e].value, plan.ops[e].line))
-    page.mark(plan.ops[e].line, 'is to come first')
-    page.mark(plan.ops[after].line, 'may come before it')
-    later = plan.ops[after].job
-    asked.note_before(later)
-    if plan.ops[e].job == later:
+    rising = f'the payload of a timeline rises, so its signals stand in a sure order; {ORDERS}'
+    sooner, later = plan.ops[e].job, plan.ops[after].job
+    low, high, name = plan.ops[e], plan.ops[after], plan.names[plan.ops[e].chain]
+    if sooner == later:
+        page.mark(low.line, f'sets {name} to {low.value}')
+        page.mark(high.line, f'sets {name} to {high.value}, in the same batch')
         page.note('one batch makes both, and for other queues nothing orders the signals of a batch')
-    elif plan.ops[e].job in asked.order.before.get(later, ()):
-        page.note(f'{asked.called(later)} waits for an earlier signal of {asked.called(plan.ops[e].job)}, which makes '
-                  'this one behind it')
-    page.rule(f'the payload of a timeline rises, so its signals stand in a sure order; {ORDERS}')
-    page.mend(f'let {asked.called(later)} wait for {asked.signal(e)}, or give each queue a timeline of its own')
+        page.rule(rising)
+        page.mend(f'signal {name} {high.value} alone: it reaches each wait for {low.value} too')
+    elif low.value == high.value:
+        page.mark(low.line, f'sets {name} to {low.value}')
+        page.mark(high.line, f'sets {name} to {high.value} too, and is to raise it')
+        page.rule(rising)
+        page.mend(f'signal a value above {low.value} in line {high.line}, behind a wait for {name} {low.value}')
+    elif later in asked.order.before.get(sooner, ()):
+        page.mark(high.line, f'sets {name} to {high.value} before')
+        page.mark(low.line, f'sets {name} back to {low.value}')
+        page.note(f'{asked.called(later)} comes before {asked.called(sooner)}')
+        page.rule(rising)
+        page.mend(f'signal a value above {high.value} in line {low.line}')
+    else:
+        page.mark(low.line, 'is to come first')
+        page.mark(high.line, 'may come before it')
+        asked.note_before(later)
+        if sooner in asked.order.before.get(later, ()):
+            page.note(f'{asked.called(later)} waits for an earlier signal of {asked.called(sooner)}, which makes '
+                      'this one behind it')
+        page.rule(rising)
+        page.mend(f'let {asked.called(later)} wait for {asked.signal(e)}, or give each queue a timeline of its own')
 
 
 def fence_busy(asked, page, line):
@@ -207,5 +227,52 @@ def race(asked, page, first, second):
               f'both touch bytes {start} to {end - 1} of {asked.buffers[buffer]}')
     asked.note_before(i)
     asked.note_before(j)
+    note_idle_waits(asked, page, i, j)
     page.rule(f'of two commands that share a byte and one of which writes it, one batch comes before the other; {ORDERS}')
-    page.mend('let the batch that is to come first signal a timeline, and the other one wait for that value')
+    page.mend(wait_between(asked, i, j) or wait_between(asked, j, i) or fence_between(asked, i, j) or
+              f'let {asked.called(i)} signal a timeline, and {asked.called(j)} wait for that value, or the other way round')
+
+
+def note_idle_waits(asked, page, i, j):
+    """Says which waits of two jobs, and which host lines between them, order nothing."""
+    plan = asked.plan
+    for k in (i, j):
+        for line, t, value in plan.jobs[k].needs:
+            if plan.kinds[t] == 'timeline' and value <= plan.initial[t]:
+                page.mark(line, f'orders nothing: {plan.names[t]} begins with {plan.initial[t]}')
+    for h in range(i + 1, j):
+        job = plan.jobs[h]
+        if job.queue is None and job.any and len(job.needs) > 1:
+            page.mark(job.line, 'orders nothing: any of its pairs may have ended it')
+        elif job.queue is None and job.kind in ('host poll all', 'host poll any', 'host read', 'host fence poll'):
+            page.mark(job.line, 'orders nothing, whatever it answers')
+
+
+def wait_between(asked, i, j):
+    """The wait that puts job j behind job i, where a timeline's signal is there for it."""
+    plan, before = asked.plan, asked.order.before
+    for op in plan.ops:
+        p = op.job
+        if (p != i and i not in before[p]) or p == j or j in before[p] or plan.kinds[op.chain] != 'timeline':
+            continue
+        held = f'{plan.names[op.chain]} {op.value}'
+        less = [line for line, t, _ in plan.jobs[j].needs if t == op.chain]
+        if plan.modes[plan.jobs[j].queue] == b'immediate':
+            if p > j:
+                continue
+            return f'write `host wait all {held}` before {asked.called(j)}: line {op.line} signals that'
+        if less:
+            return f'wait for {held} at line {less[0]}: line {op.line} signals that'
+        return f'write `wait {held}` in {asked.called(j)}: line {op.line} signals that'
+    return None
+
+
+def fence_between(asked, i, j):
+    """The host's wait that puts job j behind job i, where a fence is there for it and isn't reset in between."""
+    plan, before = asked.plan, asked.order.before
+    for e, op in enumerate(plan.ops):
+        p = op.job
+        if (plan.kinds[op.chain] == 'fence' and (p == i or i in before[p]) and p < j
+                and not any(done == e and h < j for h, done in plan.resets)):
+            return f'write `host fence wait {plan.names[op.chain]}` before {asked.called(j)}'
+    return None

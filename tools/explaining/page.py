@@ -36,7 +36,7 @@ class Page:
             if before is not None and line > before + 1:
                 rows.append(f'{" " * wide} :')
             before = line
-            content = self.lines[line - 1] if line <= len(self.lines) else '(the end of the text)'
+            content = self.lines[line - 1].expandtabs() if line <= len(self.lines) else '(the end of the text)'
             rows.append(f'{line:{wide}} | {content}')
             held = len(content) - len(content.lstrip())
             for text in self.marks.get(line, []):

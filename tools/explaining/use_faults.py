@@ -9,7 +9,8 @@ RULES = {
     'fence used': 'a fence that a batch names is unsignaled and not in use (Vulkan, vkQueueSubmit)',
 }
 MENDS = {
-    'no signal': 'submit the batch that signals it first, or use a timeline, which may be waited for before',
+    'no signal': 'submit the batch that signals it first, or use a timeline, which may be waited for '
+                 'before it is signaled, and by many',
     'signaled twice': 'let a batch wait for it in between, or use two semaphores',
     'fence used': 'let the host wait for the fence and reset it in between (`host fence wait`, `host fence reset`), or '
                   'declare another fence',

@@ -16,11 +16,12 @@ use Rattle.vq_model.specs.declared.script.SemaphoreKind.{SemaphoreKind}
 use Rattle.vq_model.specs.declared.script.SemaphoreKind.TheVariants.{Timeline, Binary, Fence}
 use Rattle.vq_model.specs.declared.script.Pair.{Pair}
 use Rattle.vq_model.specs.Text.{is_name}
-use Rattle.vq_model.specs.Context.{section, timeline_at, binary_at, fence_at, is_timeline, is_binary, is_fence, open_batch, is_wait, is_command, is_signal, is_batch_fence, count, some}
+use Rattle.vq_model.specs.Context.{section, is_timeline, is_binary, is_fence, open_batch, is_wait, is_command, is_signal, is_batch_fence, count, some}
 use Rattle.vq_model.specs.Meaning.{of_two, binary_pair}
-use Rattle.vq_model.specs.LineFaults.{part_of}
 use Rattle.vq_model.specs.ScriptOfLines.{mark}
 use Rattle.vq_model.specs.Canonical.{wait_words, signal_words, fence_words, marked_words, from_words}
+use Rattle.vq_model.specs.Context.{number_at, part_of}
+use Rattle.vq_model.specs.Forms.{TimelineName, BinaryName, FenceName}
 use Rattle.vq_canonical_laws.proofs.LineTests.{PassesTests, read_tested}
 use Rattle.vq_canonical_laws.proofs.SaidContext.{timeline_at_said, binary_at_said, fence_at_said, some_said, count_said}
 use Rattle.vq_canonical_laws.proofs.WrittenTexts.{are_text_words}
@@ -78,7 +79,7 @@ module _ (form : Form) (before : List Line) (p : Parts) (h : Say before p) (name
       }
 
   wait_timeline_reads : (name : List ℕ) (t v : ℕ) → is_name name ≡ true →
-      timeline_at before name ≡ Some t → v < 2 ^ 64 → PassesAsWait →
+      number_at before TimelineName name ≡ Some t → v < 2 ^ 64 → PassesAsWait →
       ReadsAs form before (codes "wait" ∷ name ∷ decimal v ∷ [])
       (AddWait (record { semaphore = t; value = v }) 1)
   wait_timeline_reads name t v is known small passes =
@@ -113,7 +114,7 @@ module _ (form : Form) (before : List Line) (p : Parts) (h : Say before p) (name
       }
 
   wait_binary_reads : (name : List ℕ) (t : ℕ) → is_name name ≡ true →
-      binary_at before name ≡ Some t → PassesAsWait →
+      number_at before BinaryName name ≡ Some t → PassesAsWait →
       ReadsAs form before (codes "wait" ∷ name ∷ []) (AddWait (binary_pair t) 1)
   wait_binary_reads name t is known passes =
       let words : are_text_words (codes "wait" ∷ name ∷ []) ≡ true =
@@ -159,7 +160,7 @@ module _ (form : Form) (before : List Line) (p : Parts) (h : Say before p) (name
       }
 
   signal_timeline_reads : (name : List ℕ) (t v : ℕ) → is_name name ≡ true →
-      timeline_at before name ≡ Some t → v < 2 ^ 64 → PassesAsSignal →
+      number_at before TimelineName name ≡ Some t → v < 2 ^ 64 → PassesAsSignal →
       ReadsAs form before (codes "signal" ∷ name ∷ decimal v ∷ [])
       (AddSignal (record { semaphore = t; value = v }))
   signal_timeline_reads name t v is known small passes =
@@ -194,7 +195,7 @@ module _ (form : Form) (before : List Line) (p : Parts) (h : Say before p) (name
       }
 
   signal_binary_reads : (name : List ℕ) (t : ℕ) → is_name name ≡ true →
-      binary_at before name ≡ Some t → PassesAsSignal →
+      number_at before BinaryName name ≡ Some t → PassesAsSignal →
       ReadsAs form before (codes "signal" ∷ name ∷ []) (AddSignal (binary_pair t))
   signal_binary_reads name t is known passes =
       let words : are_text_words (codes "signal" ∷ name ∷ []) ≡ true =
@@ -225,21 +226,21 @@ module _ (form : Form) (before : List Line) (p : Parts) (h : Say before p) (name
 
   -- a semaphore's name finds it
   pub timeline_there : (t : ℕ) (x : Semaphore) → slice_get p.semaphores t ≡ Some x →
-      is_timeline x.kind ≡ true → timeline_at before x.name ≡ Some t
+      is_timeline x.kind ≡ true → number_at before TimelineName x.name ≡ Some t
   timeline_there t x there is =
       timeline_at_said before p h x.name
       ∙ position_of_both (λ y. bytes_eq x.name y.name) (λ y. is_timeline y.kind) p.semaphores t x
       (named.semaphore_names t x there).1 there is
 
   binary_there : (t : ℕ) (x : Semaphore) → slice_get p.semaphores t ≡ Some x →
-      is_binary x.kind ≡ true → binary_at before x.name ≡ Some t
+      is_binary x.kind ≡ true → number_at before BinaryName x.name ≡ Some t
   binary_there t x there is =
       binary_at_said before p h x.name
       ∙ position_of_both (λ y. bytes_eq x.name y.name) (λ y. is_binary y.kind) p.semaphores t x
       (named.semaphore_names t x there).1 there is
 
   pub fence_there : (t : ℕ) (x : Semaphore) → slice_get p.semaphores t ≡ Some x →
-      is_fence x.kind ≡ true → fence_at before x.name ≡ Some t
+      is_fence x.kind ≡ true → number_at before FenceName x.name ≡ Some t
   fence_there t x there is =
       fence_at_said before p h x.name
       ∙ position_of_both (λ y. bytes_eq x.name y.name) (λ y. is_fence y.kind) p.semaphores t x

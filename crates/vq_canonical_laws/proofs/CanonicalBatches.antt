@@ -5,7 +5,6 @@ use Rattle.std.proofs.lemmas.Bool.{or_parts, false≢true}
 use Rattle.vq_model.specs.declared.statement.Statement.{Statement}
 use Rattle.std.specs.Prelude.{nat_lt, codes}
 use Rattle.vq_model.specs.declared.statement.Statement.TheVariants.{AddCommand, AddSignal, AddFence, AddWait, EndBatch}
-use Rattle.vq_model.specs.LineFaults.{part_of}
 use Rattle.vq_canonical_laws.proofs.ScriptParts.{ToldStep, ToldBatch, ToldJob, command_in, signal_in, fence_in, Parts, after, Told, parts, wait_in, a_job, MayItem}
 use Rattle.vq_model.specs.Context.{is_batch_fence}
 use Rattle.vq_canonical_laws.proofs.LineWords.{words_at, declared_script}
@@ -22,6 +21,7 @@ use Rattle.vq_model.specs.declared.script.Command.{Command}
 use Rattle.vq_model.specs.declared.script.Pair.{Pair}
 use Rattle.vq_model.specs.ScriptOfLines.{mark, first_of_list}
 use Rattle.vq_model.specs.Canonical.{job_words, wait_words, command_words, signal_words, fence_words, fence_lines, queue_name, step_words}
+use Rattle.vq_model.specs.Context.{part_of}
 use Rattle.vq_canonical_laws.proofs.BatchItems.{is_item, AllItems}
 
 -- Statements in the order of a batch's parts

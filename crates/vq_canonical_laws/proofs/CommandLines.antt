@@ -5,6 +5,8 @@ use Rattle.std.specs.List.{slice_get, flat_map}
 use Rattle.std.specs.Option.{option_map_or}
 use Rattle.std.specs.Fmt.{decimal}
 use Rattle.std.proofs.lemmas.Bool.{and_parts, and_from, or_from, ltb-true}
+use Rattle.vq_model.specs.LineFaults.{is_within}
+use Rattle.vq_model.specs.Context.{size_in}
 use Rattle.vq_model.specs.declared.statement.Form.{Form}
 use Rattle.vq_model.specs.declared.statement.Section.TheVariants.{InBatch}
 use Rattle.vq_model.specs.declared.statement.Statement.TheVariants.{AddCommand}
@@ -15,18 +17,21 @@ use Rattle.vq_model.specs.declared.script.Command.{Command}
 use Rattle.vq_model.specs.declared.script.Command.TheVariants.{Fill, Update, Copy}
 use Rattle.vq_model.specs.declared.script.FillSize.TheVariants.{Whole, Count}
 use Rattle.vq_model.specs.Text.{is_name}
-use Rattle.vq_model.specs.Context.{section, buffer_at, open_batch, is_command, count, some, version_of}
+use Rattle.vq_model.specs.Context.{section, open_batch, is_command, count, some}
 use Rattle.vq_model.specs.Meaning.{of_two, of_three, of_four, of_five}
-use Rattle.vq_model.specs.Limits.{limits_of, passes_limit}
-use Rattle.vq_model.specs.LineFaults.{part_of, is_in_range, overlaps}
+use Rattle.vq_model.specs.LineFaults.{is_in_range, overlaps}
 use Rattle.vq_model.specs.Ranges.{is_aligned}
 use Rattle.vq_model.specs.Canonical.{command_words, buffer_name, fill_word, hex_digits}
+use Rattle.vq_model.specs.Context.{number_at, buffers, part_of}
+use Rattle.vq_model.specs.Earlier.{earlier}
+use Rattle.vq_model.specs.LineFaults.{passes_limit}
+use Rattle.vq_model.specs.Forms.{BufferName}
 use Rattle.vq_canonical_laws.proofs.LineTests.{PassesTests, read_tested}
 use Rattle.vq_canonical_laws.proofs.SaidContext.{buffer_at_said, range_said, overlap_said, count_said}
 use Rattle.vq_canonical_laws.proofs.WrittenTexts.{is_text_word, are_text_words}
 use Rattle.vq_canonical_laws.proofs.WrittenNumbers.{decimal_back, decimal_word, decimal_not_whole, fill_word_back, fill_word_word, byte_digits_back, byte_digits_hex, byte_digits_word}
 use Rattle.vq_canonical_laws.proofs.NamedParts.{AreNamed, name_word}
-use Rattle.vq_canonical_laws.proofs.ScriptParts.{Told, Parts, MayItem, Say, part_of_batch, size_in, is_within_in, count_commands, commands_of}
+use Rattle.vq_canonical_laws.proofs.ScriptParts.{Told, Parts, MayItem, Say, part_of_batch, count_commands, commands_of}
 use Rattle.vq_canonical_laws.proofs.LineWords.{declared_script, ReadsAs, words_plain, words_of_three, not_over, form_inside, in_part}
 
 module _ (form : Form) (before : List Line) (p : Parts) (h : Say before p) (named : AreNamed p) where
@@ -46,16 +51,16 @@ module _ (form : Form) (before : List Line) (p : Parts) (h : Say before p) (name
 
   -- the name of a buffer that has bytes
   has_name : (b : ℕ) → 0 < size_in p.buffers b →
-      (is_name (name_of b) ≡ true) × (buffer_at before (name_of b) ≡ Some b)
+      (is_name (name_of b) ≡ true) × (number_at before BufferName (name_of b) ≡ Some b)
   has_name b l =
       let x = buffer_there p.buffers b l in
       let known = named.buffer_names b x.0 x.1 in
       subst (λ (o : Option Buffer). (is_name (option_map_or (λ y. y.name) o []) ≡ true)
-      × (buffer_at before (option_map_or (λ y. y.name) o []) ≡ Some b)) (sym x.1)
+      × (number_at before BufferName (option_map_or (λ y. y.name) o []) ≡ Some b)) (sym x.1)
       (known.0, buffer_at_said before p h x.0.name ∙ known.1)
 
   -- bytes within a buffer that has bytes: at least one
-  within_some : (b o n : ℕ) → is_within_in p.buffers b o n ≡ true →
+  within_some : (b o n : ℕ) → is_within p.buffers b o n ≡ true →
       (0 < size_in p.buffers b) × (0 < n)
   within_some b o n r =
       let parts =
@@ -69,9 +74,9 @@ module _ (form : Form) (before : List Line) (p : Parts) (h : Say before p) (name
   record PassesAll (c : Command) : Type 0 where
     part : section before ≡ InBatch
     in_order : (some (λ s. nat_lt 2 (part_of s)) (open_batch before) || false) ≡ false
-    ranged : is_in_range before (AddCommand c) ≡ true
-    apart : overlaps before (AddCommand c) ≡ false
-    limited : passes_limit (limits_of (version_of before)) before (AddCommand c) ≡ false
+    ranged : is_in_range (earlier before) (AddCommand c) ≡ true
+    apart : overlaps (buffers before) (AddCommand c) ≡ false
+    limited : passes_limit (earlier before) (AddCommand c) ≡ false
 
   passes_all : (c : Command) → MayItem p (AddCommand c) → PassesAll c
   passes_all c m =
@@ -143,8 +148,8 @@ module _ (form : Form) (before : List Line) (p : Parts) (h : Say before p) (name
       (AddCommand (Fill b o (Count n) w))
   fill_reads b o n w m =
       let range =
-      and_parts (is_within_in p.buffers b o n && is_aligned o) (is_aligned n) m.fits.range in
-      let within = and_parts (is_within_in p.buffers b o n) (is_aligned o) range.0 in
+      and_parts (is_within p.buffers b o n && is_aligned o) (is_aligned n) m.fits.range in
+      let within = and_parts (is_within p.buffers b o n) (is_aligned o) range.0 in
       let name = has_name b (within_some b o n within.0).0 in
       let all = passes_all (Fill b o (Count n) w) m in
       let so = m.fits.numerals.0 in
@@ -194,12 +199,12 @@ module _ (form : Form) (before : List Line) (p : Parts) (h : Say before p) (name
       (AddCommand (Update b o bytes))
   update_reads b o bytes m =
       let range =
-      and_parts (is_within_in p.buffers b o (length bytes) && is_aligned o
+      and_parts (is_within p.buffers b o (length bytes) && is_aligned o
       && is_aligned (length bytes)) (not (nat_lt 65536 (length bytes))) m.fits.range in
       let even =
-      and_parts (is_within_in p.buffers b o (length bytes) && is_aligned o)
+      and_parts (is_within p.buffers b o (length bytes) && is_aligned o)
       (is_aligned (length bytes)) range.0 in
-      let within = and_parts (is_within_in p.buffers b o (length bytes)) (is_aligned o) even.0 in
+      let within = and_parts (is_within p.buffers b o (length bytes)) (is_aligned o) even.0 in
       let some_bytes = within_some b o (length bytes) within.0 in
       let name = has_name b some_bytes.0 in
       let all = passes_all (Update b o bytes) m in
@@ -241,7 +246,7 @@ module _ (form : Form) (before : List Line) (p : Parts) (h : Say before p) (name
       (AddCommand (Copy s from t to n))
   copy_reads s from t to n m =
       let range =
-      and_parts (is_within_in p.buffers s from n) (is_within_in p.buffers t to n) m.fits.range in
+      and_parts (is_within p.buffers s from n) (is_within p.buffers t to n) m.fits.range in
       let source = has_name s (within_some s from n range.0).0 in
       let target = has_name t (within_some t to n range.1).0 in
       let all = passes_all (Copy s from t to n) m in

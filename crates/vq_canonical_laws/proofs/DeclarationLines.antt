@@ -3,8 +3,7 @@ use Rattle.std.proofs.Common.{◌≡◌, false, List, [], Option, None, ap, ◌�
 use Rattle.std.specs.Prelude.{nat_lt, is_some, codes, sum}
 use Rattle.vq_model.specs.declared.statement.Section.TheVariants.{Outside}
 use Rattle.vq_model.specs.declared.statement.Line.{Line}
-use Rattle.vq_model.specs.Context.{section, has_begun, open_batch, some, buffers, semaphores, queues, queue_at, is_declared, count}
-use Rattle.vq_model.specs.LineFaults.{part_of}
+use Rattle.vq_model.specs.Context.{section, has_begun, open_batch, some, buffers, semaphores, queues, is_declared, count}
 use Rattle.vq_canonical_laws.proofs.ScriptParts.{Told, Parts, Say, has_jobs, part_of_batch, OpenLines, MayBuffer, MaySemaphore, MayQueue, MayBegin, sizes_in, count_jobs, is_named}
 use Rattle.std.proofs.lemmas.Bool.{or_from, and_from, lt-ltb}
 use Rattle.std.specs.Fmt.{decimal}
@@ -16,7 +15,8 @@ use Rattle.vq_model.specs.declared.script.Mode.{Mode}
 use Rattle.vq_model.specs.Text.{is_name}
 use Rattle.vq_model.specs.Forms.{mode_word}
 use Rattle.vq_model.specs.Meaning.{form_of}
-use Rattle.vq_model.specs.Limits.{is_job}
+use Rattle.vq_model.specs.Context.{number_at, is_job, part_of}
+use Rattle.vq_model.specs.Forms.{QueueName}
 use Rattle.vq_canonical_laws.proofs.LineTests.{PassesTests, read_tested}
 use Rattle.vq_canonical_laws.proofs.SaidContext.{sizes_said, buffer_count_said, semaphore_count_said, queue_count_said, queue_at_said, declared_said}
 use Rattle.vq_canonical_laws.proofs.WrittenTexts.{is_text_word, are_text_words}
@@ -253,7 +253,7 @@ module _ (form : Form) (before : List Line) (p : Parts) (h : Say before p) (name
       ReadsAs form before (codes "submit" ∷ m.queue.name ∷ []) (BeginBatch q)
   submit_reads q m =
       let known = named.queue_names q m.queue m.there in
-      let is_it : queue_at before m.queue.name ≡ Some q =
+      let is_it : number_at before QueueName m.queue.name ≡ Some q =
       queue_at_said before p h m.queue.name ∙ known.1 in
       let few = m.few in
       let jobs : count is_job before ≡ length p.jobs =

@@ -16,7 +16,7 @@ use Rattle.vq_model.specs.declared.script.Script.{Script}
 use Rattle.vq_model.specs.declared.statement.Statement.{Statement}
 use Rattle.vq_model.specs.declared.statement.Statement.TheVariants.{AddWait, AddCommand, AddSignal, AddFence, EndBatch}
 use Rattle.vq_model.specs.Context.{is_wait, is_command, is_signal, is_fence, is_batch_fence}
-use Rattle.vq_model.specs.LineFaults.{part_of}
+use Rattle.vq_model.specs.Context.{part_of}
 use Rattle.vq_canonical_laws.specs.FormatRules.{pair_of, IsWholeMark, IsCommandOf, IsFenceOf, BatchFits}
 use Rattle.vq_canonical_laws.proofs.ScriptParts.{ToldJob, ToldBatch, Told, Parts, parts, after, May, place_of, commands_of}
 use Rattle.vq_canonical_laws.proofs.CanonicalOrder.{Leads, leads_on, leads_push, job_statements}

@@ -6,7 +6,7 @@ use Rattle.std.proofs.lemmas.Bool.{false≢true, or_parts, and_parts, ltb-true, 
 use Rattle.vq_model.specs.declared.statement.Statement.{Statement}
 use Rattle.vq_model.specs.declared.script.SemaphoreKind.{SemaphoreKind}
 use Rattle.vq_model.specs.declared.script.SemaphoreKind.TheVariants.{Timeline, Binary, Fence}
-use Rattle.vq_model.specs.Context.{is_timeline, is_binary, is_fence, section, buffers, semaphores, queues, buffer_at, timeline_at, binary_at, fence_at, queue_at, is_declared, has_begun, open_batch, is_wait, is_command, is_signal, is_batch_fence, count, some, version_of}
+use Rattle.vq_model.specs.Context.{is_timeline, is_binary, is_fence, section, buffers, semaphores, queues, is_declared, has_begun, open_batch, is_wait, is_command, is_signal, is_batch_fence, count, some, version_of}
 use Rattle.vq_model.specs.declared.statement.LineForm.{LineForm}
 use Rattle.vq_model.specs.declared.statement.LineForm.TheVariants.{WaitTimelineLine, WaitBinaryLine, FillWholeLine, FillLine, UpdateLine, CopyLine, SignalTimelineLine, SignalBinaryLine, BatchFenceLine, EndLine, BufferLine, TimelineLine, BinaryLine, FenceLine, QueueLine, SubmitLine, ScheduleLine, TurnLine, TurnsLine}
 use Rattle.vq_model.specs.declared.statement.LineForm.TheVariants.{HostSignalLine, HostWaitAllLine, HostWaitAnyLine, HostPollAllLine, HostPollAnyLine, HostReadLine, HostFenceWaitLine, HostFencePollLine, HostFenceResetLine, HostIdleLine}
@@ -26,8 +26,12 @@ use Rattle.vq_model.specs.declared.script.Command.{Command}
 use Rattle.vq_model.specs.declared.script.Command.TheVariants.{Fill, Update, Copy}
 use Rattle.vq_model.specs.declared.script.FillSize.TheVariants.{Whole, Count}
 use Rattle.vq_model.specs.Text.{numeral, is_name}
-use Rattle.vq_model.specs.Limits.{is_job, limits_of, passes_limit}
-use Rattle.vq_model.specs.LineFaults.{fault_of, is_in_range, overlaps, part_of, waits_too_far}
+use Rattle.vq_model.specs.Context.{waits_too_far}
+use Rattle.vq_model.specs.LineFaults.{fault_of, is_in_range, overlaps}
+use Rattle.vq_model.specs.Context.{number_at, is_job, part_of}
+use Rattle.vq_model.specs.Earlier.{earlier}
+use Rattle.vq_model.specs.LineFaults.{passes_limit}
+use Rattle.vq_model.specs.Forms.{BufferName, TimelineName, BinaryName, FenceName, QueueName}
 use Rattle.vq_reading_laws.proofs.Cited.{found_passes, built_found, found_belongs, where_it_is_built, forms_in, below}
 use Rattle.vq_canonical_laws.proofs.WrittenNumbers.{numeral_below, small_numeral_below, hex_bytes_below}
 use Rattle.vq_canonical_laws.proofs.FollowingSteps.{host_may}
@@ -162,12 +166,12 @@ module _ (form : Form) (before : List Line) (p : Parts) (h : Say before p) where
       by_size (Some n) i =
           let same : DeclareBuffer name n ≡ s = same_statement (DeclareBuffer name n) s i in
           let first = first_parts e t.in_order in
-          let r : is_in_range before (DeclareBuffer name n) ≡ true =
-          subst (λ (z : Statement). is_in_range before z ≡ true) (sym same) t.ranged in
+          let r : is_in_range (earlier before) (DeclareBuffer name n) ≡ true =
+          subst (λ (z : Statement). is_in_range (earlier before) z ≡ true) (sym same) t.ranged in
           let limits =
           or_parts (not (nat_lt (length (buffers before)) 64))
           (nat_lt 1048576 (sum (sizes_in (buffers before)) + n))
-          (subst (λ (z : Statement). passes_limit (limits_of (version_of before)) before z ≡ false)
+          (subst (λ (z : Statement). passes_limit (earlier before) z ≡ false)
           (sym same) t.limited) in
           let few = below (length (buffers before)) 64 limits.0 in
           let bytes = ltb-false 1048576 (sum (sizes_in (buffers before)) + n) limits.1 in
@@ -193,7 +197,7 @@ module _ (form : Form) (before : List Line) (p : Parts) (h : Say before p) where
       ((has_begun before || some (λ x. nat_lt 0 (part_of x)) (open_batch before)) || false)
       ≡ false →
       is_name name ≡ true → not (is_declared before name) ≡ true →
-      passes_limit (limits_of (version_of before)) before s ≡ false →
+      passes_limit (earlier before) s ≡ false →
       Some (DeclareSemaphore name kind) ≡ Some s → HasValue kind → May p s
   semaphore_may name kind s e order named fresh limited i small =
       let same : DeclareSemaphore name kind ≡ s =
@@ -201,7 +205,7 @@ module _ (form : Form) (before : List Line) (p : Parts) (h : Say before p) where
       let first = first_parts e order in
       let few =
       below (length (semaphores before)) 256
-      (subst (λ (z : Statement). passes_limit (limits_of (version_of before)) before z ≡ false)
+      (subst (λ (z : Statement). passes_limit (earlier before) z ≡ false)
       (sym same) limited) in
       let length_is = semaphore_count_said before p h in
       subst (May p) same
@@ -251,7 +255,7 @@ module _ (form : Form) (before : List Line) (p : Parts) (h : Say before p) where
       let first = first_parts e t.in_order in
       let few =
       below (length (queues before)) 8
-      (subst (λ (z : Statement). passes_limit (limits_of (version_of before)) before z ≡ false)
+      (subst (λ (z : Statement). passes_limit (earlier before) z ≡ false)
       (sym same) t.limited) in
       let length_is = queue_count_said before p h in
       subst (May p) same
@@ -269,9 +273,9 @@ module _ (form : Form) (before : List Line) (p : Parts) (h : Say before p) where
   -- the start of a batch
   submit_may : (words : List (List ℕ)) (s : Statement) → Outside ≡ part_of_batch p.batch →
       matches words SubmitLine ≡ true → PassesTests form before words SubmitLine s → May p s
-  submit_may (a ∷ queue ∷ []) s e m t = by_queue (queue_at before queue) refl t.said
+  submit_may (a ∷ queue ∷ []) s e m t = by_queue (number_at before QueueName queue) refl t.said
     where
-      by_queue : (o : Option ℕ) → queue_at before queue ≡ o →
+      by_queue : (o : Option ℕ) → number_at before QueueName queue ≡ o →
           option_map (λ q. BeginBatch q) o ≡ Some s → May p s
       by_queue None f i = absurd (nothing_said s i)
       by_queue (Some q) f i =
@@ -281,7 +285,7 @@ module _ (form : Form) (before : List Line) (p : Parts) (h : Say before p) where
           (sym (queue_at_said before p h queue) ∙ f) in
           let few =
           below (count is_job before) 4096
-          (subst (λ (z : Statement). passes_limit (limits_of (version_of before)) before z ≡ false)
+          (subst (λ (z : Statement). passes_limit (earlier before) z ≡ false)
           (sym same) t.limited) in
           let none = outside_batch p.batch e in
           let jobs : count is_job before ≡ length p.jobs =
@@ -291,7 +295,7 @@ module _ (form : Form) (before : List Line) (p : Parts) (h : Say before p) where
   submit_may words s e m t = absurd (false≢true m)
 
   -- a timeline's mark, and a binary semaphore's
-  timeline_marked : (name : List ℕ) (t v : ℕ) → timeline_at before name ≡ Some t → v < 2 ^ 64 →
+  timeline_marked : (name : List ℕ) (t v : ℕ) → number_at before TimelineName name ≡ Some t → v < 2 ^ 64 →
       IsMarked p.semaphores (record { semaphore = t; value = v })
   timeline_marked name t v f l =
       let found =
@@ -305,7 +309,7 @@ module _ (form : Form) (before : List Line) (p : Parts) (h : Say before p) where
             (and_parts (bytes_eq name found.0.name) (is_timeline found.0.kind) found.2).1 l;
       }
 
-  binary_marked : (name : List ℕ) (t : ℕ) → binary_at before name ≡ Some t →
+  binary_marked : (name : List ℕ) (t : ℕ) → number_at before BinaryName name ≡ Some t →
       IsMarked p.semaphores (binary_pair t)
   binary_marked name t f =
       let found =
@@ -330,14 +334,14 @@ module _ (form : Form) (before : List Line) (p : Parts) (h : Say before p) where
   -- a wait
   wait_may : (pair : Pair) (s : Statement) → InBatch ≡ part_of_batch p.batch →
       (some (λ x. nat_lt 1 (part_of x)) (open_batch before) || false) ≡ false →
-      passes_limit (limits_of (version_of before)) before s ≡ false →
+      passes_limit (earlier before) s ≡ false →
       Some (AddWait pair 1) ≡ Some s → IsMarked p.semaphores pair → May p s
   wait_may pair s e order limited i known =
       let same : AddWait pair 1 ≡ s = same_statement (AddWait pair 1) s i in
       let inside = inside_batch p.batch e in
       let few =
       below (count is_wait (open_batch before)) 16
-      (subst (λ (z : Statement). passes_limit (limits_of (version_of before)) before z ≡ false)
+      (subst (λ (z : Statement). passes_limit (earlier before) z ≡ false)
       (sym same) limited) in
       let counted = count_said before p h inside.0 inside.1 is_wait in
       subst (May p) same
@@ -355,9 +359,9 @@ module _ (form : Form) (before : List Line) (p : Parts) (h : Say before p) where
   wait_timeline_may : (words : List (List ℕ)) (s : Statement) → InBatch ≡ part_of_batch p.batch →
       matches words WaitTimelineLine ≡ true → PassesTests form before words WaitTimelineLine s → May p s
   wait_timeline_may (a ∷ name ∷ value ∷ []) s e m t =
-      by_places (timeline_at before name) (numeral value) refl refl t.said
+      by_places (number_at before TimelineName name) (numeral value) refl refl t.said
     where
-      by_places : (o v : Option ℕ) → timeline_at before name ≡ o → numeral value ≡ v →
+      by_places : (o v : Option ℕ) → number_at before TimelineName name ≡ o → numeral value ≡ v →
           option_map (λ x. AddWait x 1)
           (of_two (λ y z. record { semaphore = y; value = z }) o v) ≡ Some s → May p s
       by_places None v f g i = absurd (nothing_said s i)
@@ -369,9 +373,9 @@ module _ (form : Form) (before : List Line) (p : Parts) (h : Say before p) where
 
   wait_binary_may : (words : List (List ℕ)) (s : Statement) → InBatch ≡ part_of_batch p.batch →
       matches words WaitBinaryLine ≡ true → PassesTests form before words WaitBinaryLine s → May p s
-  wait_binary_may (a ∷ name ∷ []) s e m t = by_place (binary_at before name) refl t.said
+  wait_binary_may (a ∷ name ∷ []) s e m t = by_place (number_at before BinaryName name) refl t.said
     where
-      by_place : (o : Option ℕ) → binary_at before name ≡ o →
+      by_place : (o : Option ℕ) → number_at before BinaryName name ≡ o →
           option_map (λ x. AddWait (binary_pair x) 1) o ≡ Some s → May p s
       by_place None f i = absurd (nothing_said s i)
       by_place (Some o) f i =
@@ -381,14 +385,14 @@ module _ (form : Form) (before : List Line) (p : Parts) (h : Say before p) where
   -- a signal
   signal_may : (pair : Pair) (s : Statement) → InBatch ≡ part_of_batch p.batch →
       (some (λ x. nat_lt 3 (part_of x)) (open_batch before) || false) ≡ false →
-      passes_limit (limits_of (version_of before)) before s ≡ false →
+      passes_limit (earlier before) s ≡ false →
       Some (AddSignal pair) ≡ Some s → IsMarked p.semaphores pair → May p s
   signal_may pair s e order limited i known =
       let same : AddSignal pair ≡ s = same_statement (AddSignal pair) s i in
       let inside = inside_batch p.batch e in
       let few =
       below (count is_signal (open_batch before)) 16
-      (subst (λ (z : Statement). passes_limit (limits_of (version_of before)) before z ≡ false)
+      (subst (λ (z : Statement). passes_limit (earlier before) z ≡ false)
       (sym same) limited) in
       let counted = count_said before p h inside.0 inside.1 is_signal in
       subst (May p) same
@@ -403,9 +407,9 @@ module _ (form : Form) (before : List Line) (p : Parts) (h : Say before p) where
       InBatch ≡ part_of_batch p.batch → matches words SignalTimelineLine ≡ true →
       PassesTests form before words SignalTimelineLine s → May p s
   signal_timeline_may (a ∷ name ∷ value ∷ []) s e m t =
-      by_places (timeline_at before name) (numeral value) refl refl t.said
+      by_places (number_at before TimelineName name) (numeral value) refl refl t.said
     where
-      by_places : (o v : Option ℕ) → timeline_at before name ≡ o → numeral value ≡ v →
+      by_places : (o v : Option ℕ) → number_at before TimelineName name ≡ o → numeral value ≡ v →
           option_map (λ x. AddSignal x)
           (of_two (λ y z. record { semaphore = y; value = z }) o v) ≡ Some s → May p s
       by_places None v f g i = absurd (nothing_said s i)
@@ -418,9 +422,9 @@ module _ (form : Form) (before : List Line) (p : Parts) (h : Say before p) where
   signal_binary_may : (words : List (List ℕ)) (s : Statement) → InBatch ≡ part_of_batch p.batch →
       matches words SignalBinaryLine ≡ true → PassesTests form before words SignalBinaryLine s →
       May p s
-  signal_binary_may (a ∷ name ∷ []) s e m t = by_place (binary_at before name) refl t.said
+  signal_binary_may (a ∷ name ∷ []) s e m t = by_place (number_at before BinaryName name) refl t.said
     where
-      by_place : (o : Option ℕ) → binary_at before name ≡ o →
+      by_place : (o : Option ℕ) → number_at before BinaryName name ≡ o →
           option_map (λ x. AddSignal (binary_pair x)) o ≡ Some s → May p s
       by_place None f i = absurd (nothing_said s i)
       by_place (Some o) f i =
@@ -431,9 +435,9 @@ module _ (form : Form) (before : List Line) (p : Parts) (h : Say before p) where
   batch_fence_may : (words : List (List ℕ)) (s : Statement) → InBatch ≡ part_of_batch p.batch →
       matches words BatchFenceLine ≡ true → PassesTests form before words BatchFenceLine s →
       May p s
-  batch_fence_may (a ∷ name ∷ []) s e m t = by_place (fence_at before name) refl t.said
+  batch_fence_may (a ∷ name ∷ []) s e m t = by_place (number_at before FenceName name) refl t.said
     where
-      by_place : (o : Option ℕ) → fence_at before name ≡ o →
+      by_place : (o : Option ℕ) → number_at before FenceName name ≡ o →
           option_map (λ x. AddFence x) o ≡ Some s → May p s
       by_place None f i = absurd (nothing_said s i)
       by_place (Some o) f i =
@@ -464,19 +468,19 @@ module _ (form : Form) (before : List Line) (p : Parts) (h : Say before p) where
   -- a command
   command_may : (c : Command) (s : Statement) → InBatch ≡ part_of_batch p.batch →
       (some (λ x. nat_lt 2 (part_of x)) (open_batch before) || false) ≡ false →
-      is_in_range before s ≡ true → overlaps before s ≡ false →
-      passes_limit (limits_of (version_of before)) before s ≡ false →
+      is_in_range (earlier before) s ≡ true → overlaps (buffers before) s ≡ false →
+      passes_limit (earlier before) s ≡ false →
       Some (AddCommand c) ≡ Some s → HasNumerals c → May p s
   command_may c s e order ranged apart limited i numerals =
       let same : AddCommand c ≡ s = same_statement (AddCommand c) s i in
-      let r : is_in_range before (AddCommand c) ≡ true =
-      subst (λ (z : Statement). is_in_range before z ≡ true) (sym same) ranged in
-      let o : overlaps before (AddCommand c) ≡ false =
-      subst (λ (z : Statement). overlaps before z ≡ false) (sym same) apart in
+      let r : is_in_range (earlier before) (AddCommand c) ≡ true =
+      subst (λ (z : Statement). is_in_range (earlier before) z ≡ true) (sym same) ranged in
+      let o : overlaps (buffers before) (AddCommand c) ≡ false =
+      subst (λ (z : Statement). overlaps (buffers before) z ≡ false) (sym same) apart in
       let limits =
       or_parts (not (nat_lt (count is_command before) 8192))
       (not (nat_lt (count is_command (open_batch before)) 64))
-      (subst (λ (z : Statement). passes_limit (limits_of (version_of before)) before z ≡ false)
+      (subst (λ (z : Statement). passes_limit (earlier before) z ≡ false)
       (sym same) limited) in
       let all = below (count is_command before) 8192 limits.0 in
       let few = below (count is_command (open_batch before)) 64 limits.1 in
@@ -503,7 +507,7 @@ module _ (form : Form) (before : List Line) (p : Parts) (h : Say before p) where
   fill_whole_may : (words : List (List ℕ)) (s : Statement) → InBatch ≡ part_of_batch p.batch →
       matches words FillWholeLine ≡ true → PassesTests form before words FillWholeLine s → May p s
   fill_whole_may (a ∷ buffer ∷ offset ∷ c ∷ word ∷ []) s e m t =
-      by_places (buffer_at before buffer) (numeral offset) (small_numeral word) refl refl t.said
+      by_places (number_at before BufferName buffer) (numeral offset) (small_numeral word) refl refl t.said
     where
       by_places : (b o w : Option ℕ) → numeral offset ≡ o → small_numeral word ≡ w →
           of_three (λ b o w. AddCommand (Fill b o Whole w)) b o w ≡ Some s → May p s
@@ -519,7 +523,7 @@ module _ (form : Form) (before : List Line) (p : Parts) (h : Say before p) where
   fill_may : (words : List (List ℕ)) (s : Statement) → InBatch ≡ part_of_batch p.batch →
       matches words FillLine ≡ true → PassesTests form before words FillLine s → May p s
   fill_may (a ∷ buffer ∷ offset ∷ size ∷ word ∷ []) s e m t =
-      by_places (buffer_at before buffer) (numeral offset) (numeral size) (small_numeral word) refl
+      by_places (number_at before BufferName buffer) (numeral offset) (numeral size) (small_numeral word) refl
       refl refl t.said
     where
       by_places : (b o n w : Option ℕ) → numeral offset ≡ o → numeral size ≡ n →
@@ -538,7 +542,7 @@ module _ (form : Form) (before : List Line) (p : Parts) (h : Say before p) where
   update_may : (words : List (List ℕ)) (s : Statement) → InBatch ≡ part_of_batch p.batch →
       matches words UpdateLine ≡ true → PassesTests form before words UpdateLine s → May p s
   update_may (a ∷ buffer ∷ offset ∷ digits ∷ []) s e m t =
-      by_places (buffer_at before buffer) (numeral offset) refl t.said
+      by_places (number_at before BufferName buffer) (numeral offset) refl t.said
     where
       hex : is_hex digits ≡ true
       hex =
@@ -558,7 +562,7 @@ module _ (form : Form) (before : List Line) (p : Parts) (h : Say before p) where
   copy_may : (words : List (List ℕ)) (s : Statement) → InBatch ≡ part_of_batch p.batch →
       matches words CopyLine ≡ true → PassesTests form before words CopyLine s → May p s
   copy_may (a ∷ source ∷ from ∷ target ∷ to ∷ size ∷ []) s e m t =
-      by_places (buffer_at before source) (numeral from) (buffer_at before target) (numeral to)
+      by_places (number_at before BufferName source) (numeral from) (number_at before BufferName target) (numeral to)
       (numeral size) refl refl refl t.said
     where
       by_places : (b o c q n : Option ℕ) → numeral from ≡ o → numeral to ≡ q → numeral size ≡ n →
@@ -581,7 +585,7 @@ module _ (form : Form) (before : List Line) (p : Parts) (h : Say before p) where
       let inside = inside_batch p.batch e in
       let near : waits_too_far (open_batch before) ≡ false =
       not_true (waits_too_far (open_batch before))
-      (subst (λ (z : Statement). is_in_range before z ≡ true) (sym same) t.ranged) in
+      (subst (λ (z : Statement). is_in_range (earlier before) z ≡ true) (sym same) t.ranged) in
       subst (May p) same
       (record {
         told = inside.0;

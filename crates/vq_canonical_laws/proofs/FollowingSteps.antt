@@ -13,11 +13,14 @@ use Rattle.vq_model.specs.declared.statement.Statement.TheVariants.{TakeHostStep
 use Rattle.vq_model.specs.declared.script.HostStep.{HostStep}
 use Rattle.vq_model.specs.declared.script.HostStep.TheVariants.{Signal, WaitAll, WaitAny, PollAll, PollAny, Read, FenceWait, FencePoll, FenceReset, Idle}
 use Rattle.vq_model.specs.declared.script.Pair.{Pair}
-use Rattle.vq_model.specs.Context.{is_timeline, is_fence, timeline_at, fence_at, count, version_of}
+use Rattle.vq_model.specs.Context.{is_timeline, is_fence, count}
 use Rattle.vq_model.specs.Forms.{places}
-use Rattle.vq_model.specs.Limits.{is_job, limits_of, pairs_of, passes_limit}
 use Rattle.vq_model.specs.Meaning.{agree, matches, of_two, pair_at, pair_places, pairs_at}
 use Rattle.vq_model.specs.Text.{numeral}
+use Rattle.vq_model.specs.Context.{number_at, is_job}
+use Rattle.vq_model.specs.Earlier.{earlier}
+use Rattle.vq_model.specs.LineFaults.{pairs_of, passes_limit}
+use Rattle.vq_model.specs.Forms.{TimelineName, FenceName}
 use Rattle.vq_reading_laws.proofs.Cited.{below}
 use Rattle.vq_canonical_laws.proofs.LineTests.{PassesTests}
 use Rattle.vq_canonical_laws.proofs.NamedParts.{position_passes}
@@ -46,10 +49,10 @@ are_pairs words = nat_lt 0 (length words) && (length words % 2 == 0)
 module _ (before : List Line) (p : Parts) (h : Say before p) where
   -- the pairs that words say
   abbrev said_pairs : List (List ℕ) → Option (List Pair)
-  said_pairs words = pairs_at before (map (λ x. x.1) (pair_places words))
+  said_pairs words = pairs_at (number_at before) (map (λ x. x.1) (pair_places words))
 
   -- what a name stands for
-  timeline_found : (name : List ℕ) (t : ℕ) → timeline_at before name ≡ Some t →
+  timeline_found : (name : List ℕ) (t : ℕ) → number_at before TimelineName name ≡ Some t →
       IsOfKindIn is_timeline p.semaphores t
   timeline_found name t e =
       let found =
@@ -61,7 +64,7 @@ module _ (before : List Line) (p : Parts) (h : Say before p) where
         tested = (and_parts (bytes_eq name found.0.name) (is_timeline found.0.kind) found.2).1;
       }
 
-  fence_found : (name : List ℕ) (t : ℕ) → fence_at before name ≡ Some t →
+  fence_found : (name : List ℕ) (t : ℕ) → number_at before FenceName name ≡ Some t →
       IsOfKindIn is_fence p.semaphores t
   fence_found name t e =
       let found =
@@ -74,7 +77,7 @@ module _ (before : List Line) (p : Parts) (h : Say before p) where
       }
 
   -- a pair
-  pair_found : (name value : List ℕ) (t v : Option ℕ) (pair : Pair) → timeline_at before name ≡ t →
+  pair_found : (name value : List ℕ) (t v : Option ℕ) (pair : Pair) → number_at before TimelineName name ≡ t →
       numeral value ≡ v → of_two (λ x y. record { semaphore = x; value = y }) t v ≡ Some pair →
       IsTimed p.semaphores pair
   pair_found name value None v pair e f i = absurd (let c : None ≡ Some pair = i in cc)
@@ -92,9 +95,9 @@ module _ (before : List Line) (p : Parts) (h : Say before p) where
   pairs_found (name ∷ []) pairs i =
       let same : [] ≡ pairs = cc in subst (Every (IsTimed p.semaphores)) same tt
   pairs_found (name ∷ value ∷ words) pairs i =
-      by_parts (pair_at before name value) (said_pairs words) refl refl i (pairs_found words)
+      by_parts (pair_at (number_at before) name value) (said_pairs words) refl refl i (pairs_found words)
     where
-      by_parts : (a : Option Pair) (b : Option (List Pair)) → pair_at before name value ≡ a →
+      by_parts : (a : Option Pair) (b : Option (List Pair)) → pair_at (number_at before) name value ≡ a →
           said_pairs words ≡ b → of_two (λ (x : Pair) (xs : List Pair). x ∷ xs) a b ≡ Some pairs →
           ((qs : List Pair) → said_pairs words ≡ Some qs → Every (IsTimed p.semaphores) qs) →
           Every (IsTimed p.semaphores) pairs
@@ -103,7 +106,7 @@ module _ (before : List Line) (p : Parts) (h : Say before p) where
       by_parts (Some a) (Some qs) e f i more =
           let same : a ∷ qs ≡ pairs = cc in
           subst (Every (IsTimed p.semaphores)) same (
-            pair_found name value (timeline_at before name) (numeral value) a refl refl e,
+            pair_found name value (number_at before TimelineName name) (numeral value) a refl refl e,
             more qs f,
           )
 
@@ -113,7 +116,7 @@ module _ (before : List Line) (p : Parts) (h : Say before p) where
   some_found [] pairs m i = absurd (false≢true m)
   some_found (name ∷ []) pairs m i = absurd (false≢true m)
   some_found (name ∷ value ∷ words) pairs m i =
-      by_parts (pair_at before name value) (said_pairs words) i
+      by_parts (pair_at (number_at before) name value) (said_pairs words) i
     where
       by_parts : (a : Option Pair) (b : Option (List Pair)) →
           of_two (λ (x : Pair) (xs : List Pair). x ∷ xs) a b ≡ Some pairs → 0 < length pairs
@@ -124,14 +127,14 @@ module _ (before : List Line) (p : Parts) (h : Say before p) where
           subst (λ (xs : List Pair). 0 < length xs) same (omega arith)
 
   module _ (s : Statement) (outside : p.batch ≡ None)
-      (limited : passes_limit (limits_of (version_of before)) before s ≡ false) where
+      (limited : passes_limit (earlier before) s ≡ false) where
     -- a step follows where its names fit
     step_follows : (step : HostStep) → TakeHostStep step ≡ s →
         (length (pairs_of step) ≤ 16 → StepFits p.semaphores step) → May p s
     step_follows step same fits =
         let limits =
         or_parts (not (nat_lt (count is_job before) 4096)) (nat_lt 16 (length (pairs_of step)))
-        (subst (λ (z : Statement). passes_limit (limits_of (version_of before)) before z ≡ false)
+        (subst (λ (z : Statement). passes_limit (earlier before) z ≡ false)
         (sym same) limited) in
         let few = below (count is_job before) 4096 limits.0 in
         let short = ltb-false 16 (length (pairs_of step)) limits.1 in
@@ -171,14 +174,14 @@ module _ (before : List Line) (p : Parts) (h : Say before p) where
     pub host_may : (f : LineForm) (words : List (List ℕ)) (s : Statement) → p.batch ≡ None →
         is_host_line f ≡ true → matches words f ≡ true → PassesTests form before words f s → May p s
     host_may HostSignalLine (a ∷ b ∷ name ∷ value ∷ []) s o g m t =
-        by_pair (pair_at before name value) refl t.said
+        by_pair (pair_at (number_at before) name value) refl t.said
       where
-        by_pair : (x : Option Pair) → pair_at before name value ≡ x →
+        by_pair : (x : Option Pair) → pair_at (number_at before) name value ≡ x →
             option_map (λ q. TakeHostStep (Signal q)) x ≡ Some s → May p s
         by_pair None e i = absurd (let c : None ≡ Some s = i in cc)
         by_pair (Some q) e i =
             step_follows s o t.limited (Signal q) (cc)
-            (λ l. pair_found name value (timeline_at before name) (numeral value) q refl refl e)
+            (λ l. pair_found name value (number_at before TimelineName name) (numeral value) q refl refl e)
     host_may HostSignalLine words s o g m t = absurd (false≢true m)
     host_may HostWaitAllLine (a ∷ b ∷ c ∷ words) s o g m t =
         pairs_follow s o t.limited (λ ps. WaitAll ps) words (λ ps. refl) (λ ps k. k)
@@ -197,19 +200,19 @@ module _ (before : List Line) (p : Parts) (h : Say before p) where
         (and_parts (are_pairs words) (agree (places HostPollAnyLine) (a ∷ b ∷ c ∷ words)) m).0 t.said
     host_may HostPollAnyLine words s o g m t = absurd (false≢true m)
     host_may HostReadLine (a ∷ b ∷ name ∷ []) s o g m t =
-        name_follows s o t.limited (λ x. Read x) (timeline_at before name)
+        name_follows s o t.limited (λ x. Read x) (number_at before TimelineName name)
         (λ x e. timeline_found name x e) t.said
     host_may HostReadLine words s o g m t = absurd (false≢true m)
     host_may HostFenceWaitLine (a ∷ b ∷ c ∷ name ∷ []) s o g m t =
-        name_follows s o t.limited (λ x. FenceWait x) (fence_at before name)
+        name_follows s o t.limited (λ x. FenceWait x) (number_at before FenceName name)
         (λ x e. fence_found name x e) t.said
     host_may HostFenceWaitLine words s o g m t = absurd (false≢true m)
     host_may HostFencePollLine (a ∷ b ∷ c ∷ name ∷ []) s o g m t =
-        name_follows s o t.limited (λ x. FencePoll x) (fence_at before name)
+        name_follows s o t.limited (λ x. FencePoll x) (number_at before FenceName name)
         (λ x e. fence_found name x e) t.said
     host_may HostFencePollLine words s o g m t = absurd (false≢true m)
     host_may HostFenceResetLine (a ∷ b ∷ c ∷ name ∷ []) s o g m t =
-        name_follows s o t.limited (λ x. FenceReset x) (fence_at before name)
+        name_follows s o t.limited (λ x. FenceReset x) (number_at before FenceName name)
         (λ x e. fence_found name x e) t.said
     host_may HostFenceResetLine words s o g m t = absurd (false≢true m)
     host_may HostIdleLine (a ∷ b ∷ []) s o g m t =

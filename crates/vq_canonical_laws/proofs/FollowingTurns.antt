@@ -16,14 +16,17 @@ use Rattle.vq_model.specs.declared.script.ActorName.{ActorName}
 use Rattle.vq_model.specs.declared.script.ActorName.TheVariants.{Host as HostActor, Submit as SubmitActor, Ring as RingActor}
 use Rattle.vq_model.specs.declared.script.Queue.{Queue}
 use Rattle.vq_model.specs.declared.script.Turn.{Turn}
-use Rattle.vq_model.specs.Context.{queues, queue_at, threaded_at, is_threaded, turns_of, version_of}
+use Rattle.vq_model.specs.Context.{queues, is_threaded, turns_of}
 use Rattle.vq_model.specs.Forms.{forms_in_schedule}
-use Rattle.vq_model.specs.Limits.{limits_of, passes_limit}
 use Rattle.vq_model.specs.LineFaults.{fault_of, is_in_range}
 use Rattle.vq_model.specs.Meaning.{actor_at, is_marked, of_two, matches, forms_at, meaning}
 use Rattle.vq_model.specs.SameScript.{queue_without_line, turn_without_line}
 use Rattle.vq_model.specs.ScriptOfLines.{turns_at}
 use Rattle.vq_model.specs.Text.{numeral}
+use Rattle.vq_model.specs.Context.{number_at}
+use Rattle.vq_model.specs.Earlier.{earlier}
+use Rattle.vq_model.specs.LineFaults.{passes_limit}
+use Rattle.vq_model.specs.Forms.{QueueName, ThreadedName}
 use Rattle.std.specs.List.{flat_map}
 use Rattle.vq_reading_laws.proofs.Cited.{found_passes, built_found, found_belongs, forms_in, turns_counted}
 use Rattle.vq_canonical_laws.proofs.LineTests.{PassesTests, tests_passed}
@@ -55,12 +58,12 @@ pub record Takes (qs : List Queue) (turns : ℕ) (s : Statement) : Type 0 where
 
 -- the queues of lines, and their turns
 module _ (before : List Line) (p : Parts) (turns : List Turn) (h : SaySchedule before p turns) where
-  pub queue_said : (name : List ℕ) → queue_at before name ≡ position (λ q. bytes_eq name q.name) p.queues
+  pub queue_said : (name : List ℕ) → number_at before QueueName name ≡ position (λ q. bytes_eq name q.name) p.queues
   queue_said name =
       sym (position_same (λ q. bytes_eq name q.name) queue_without_line (λ x. refl) (queues before))
       ∙ ap (position (λ q. bytes_eq name q.name)) h.queues_are
 
-  pub threaded_said : (name : List ℕ) → threaded_at before name
+  pub threaded_said : (name : List ℕ) → number_at before ThreadedName name
       ≡ position (λ q. bytes_eq name q.name && is_threaded q.mode) p.queues
   threaded_said name =
       sym (position_same (λ q. bytes_eq name q.name && is_threaded q.mode) queue_without_line
@@ -73,13 +76,13 @@ module _ (before : List Line) (p : Parts) (turns : List Turn) (h : SaySchedule b
       ∙ (sym (length-map (flat_map turns_at before) turn_without_line) ∙ ap length h.turns_are)
 
   -- the actor of a word
-  actor_said : (word : List ℕ) (a : ActorName) → actor_at before word ≡ Some a → IsActorIn p.queues a
+  actor_said : (word : List ℕ) (a : ActorName) → actor_at (number_at before) word ≡ Some a → IsActorIn p.queues a
   actor_said word a e = by_host (bytes_eq word (codes "host")) refl e
     where
       name : List ℕ
       name = drop 2 word
 
-      by_submit : (o : Option ℕ) → threaded_at before name ≡ o →
+      by_submit : (o : Option ℕ) → number_at before ThreadedName name ≡ o →
           option_map (λ q. SubmitActor q) o ≡ Some a → IsActorIn p.queues a
       by_submit None i g = absurd (let c : None ≡ Some a = g in cc)
       by_submit (Some q) i g =
@@ -92,7 +95,7 @@ module _ (before : List Line) (p : Parts) (turns : List Turn) (h : SaySchedule b
             (and_parts (bytes_eq name found.0.name) (is_threaded found.0.mode) found.2).1,
           )
 
-      by_ring : (o : Option ℕ) → queue_at before name ≡ o →
+      by_ring : (o : Option ℕ) → number_at before QueueName name ≡ o →
           option_map (λ q. RingActor q) o ≡ Some a → IsActorIn p.queues a
       by_ring None i g = absurd (let c : None ≡ Some a = g in cc)
       by_ring (Some q) i g =
@@ -102,14 +105,14 @@ module _ (before : List Line) (p : Parts) (turns : List Turn) (h : SaySchedule b
 
       of_queue : Bool → Option ActorName
       of_queue b =
-          cond b (option_map (λ q. SubmitActor q) (threaded_at before name))
-          (option_map (λ q. RingActor q) (queue_at before name))
+          cond b (option_map (λ q. SubmitActor q) (number_at before ThreadedName name))
+          (option_map (λ q. RingActor q) (number_at before QueueName name))
 
       by_mark : (b : Bool) → of_queue b ≡ Some a → IsActorIn p.queues a
-      by_mark true g = by_submit (threaded_at before name) refl g
-      by_mark false g = by_ring (queue_at before name) refl g
+      by_mark true g = by_submit (number_at before ThreadedName name) refl g
+      by_mark false g = by_ring (number_at before QueueName name) refl g
 
-      by_host : (b : Bool) → bytes_eq word (codes "host") ≡ b → actor_at before word ≡ Some a →
+      by_host : (b : Bool) → bytes_eq word (codes "host") ≡ b → actor_at (number_at before) word ≡ Some a →
           IsActorIn p.queues a
       by_host true i g =
           subst (IsActorIn p.queues)
@@ -122,14 +125,14 @@ module _ (before : List Line) (p : Parts) (turns : List Turn) (h : SaySchedule b
   module _ (form : Form) where
     -- turns in range, as few as there may be
     takes : (a : ActorName) (n : ℕ) (s : Statement) → IsActorIn p.queues a →
-        is_in_range before s ≡ true →
-        passes_limit (limits_of (version_of before)) before s ≡ false → TakeTurns a n ≡ s →
+        is_in_range (earlier before) s ≡ true →
+        passes_limit (earlier before) s ≡ false → TakeTurns a n ≡ s →
         Takes p.queues (length turns) s
     takes a n s exists ranged limited same =
-        let r : is_in_range before (TakeTurns a n) ≡ true =
-        subst (λ (z : Statement). is_in_range before z ≡ true) (sym same) ranged in
-        let l : passes_limit (limits_of (version_of before)) before (TakeTurns a n) ≡ false =
-        subst (λ (z : Statement). passes_limit (limits_of (version_of before)) before z ≡ false)
+        let r : is_in_range (earlier before) (TakeTurns a n) ≡ true =
+        subst (λ (z : Statement). is_in_range (earlier before) z ≡ true) (sym same) ranged in
+        let l : passes_limit (earlier before) (TakeTurns a n) ≡ false =
+        subst (λ (z : Statement). passes_limit (earlier before) z ≡ false)
         (sym same) limited in
         let few =
         ltb-false 65536 (sum (map (λ (line : Line). turns_of line.statement) before) + n) l in
@@ -145,9 +148,9 @@ module _ (before : List Line) (p : Parts) (turns : List Turn) (h : SaySchedule b
 
     turn_takes : (words : List (List ℕ)) (s : Statement) → matches words TurnLine ≡ true →
         PassesTests form before words TurnLine s → Takes p.queues (length turns) s
-    turn_takes (word ∷ []) s m t = by_actor (actor_at before word) refl t.said
+    turn_takes (word ∷ []) s m t = by_actor (actor_at (number_at before) word) refl t.said
       where
-        by_actor : (o : Option ActorName) → actor_at before word ≡ o →
+        by_actor : (o : Option ActorName) → actor_at (number_at before) word ≡ o →
             option_map (λ a. TakeTurns a 1) o ≡ Some s → Takes p.queues (length turns) s
         by_actor None e g = absurd (let c : None ≡ Some s = g in cc)
         by_actor (Some a) e g =
@@ -157,9 +160,9 @@ module _ (before : List Line) (p : Parts) (turns : List Turn) (h : SaySchedule b
     turns_take : (words : List (List ℕ)) (s : Statement) → matches words TurnsLine ≡ true →
         PassesTests form before words TurnsLine s → Takes p.queues (length turns) s
     turns_take (word ∷ count ∷ []) s m t =
-        by_actor (actor_at before word) (numeral count) refl t.said
+        by_actor (actor_at (number_at before) word) (numeral count) refl t.said
       where
-        by_actor : (o : Option ActorName) (n : Option ℕ) → actor_at before word ≡ o →
+        by_actor : (o : Option ActorName) (n : Option ℕ) → actor_at (number_at before) word ≡ o →
             of_two (λ a k. TakeTurns a k) o n ≡ Some s → Takes p.queues (length turns) s
         by_actor None n e g = absurd (let c : None ≡ Some s = g in cc)
         by_actor (Some a) None e g = absurd (let c : None ≡ Some s = g in cc)

@@ -16,12 +16,15 @@ use Rattle.vq_model.specs.declared.script.HostStep.TheVariants.{Signal, WaitAll,
 use Rattle.vq_model.specs.declared.script.Pair.{Pair}
 use Rattle.vq_model.specs.declared.script.Semaphore.{Semaphore}
 use Rattle.vq_model.specs.Canonical.{pair_words, semaphore_name, step_words}
-use Rattle.vq_model.specs.Context.{is_timeline, is_fence, timeline_at, fence_at, section, open_batch, some, count, version_of}
+use Rattle.vq_model.specs.Context.{is_timeline, is_fence, section, open_batch, some, count}
 use Rattle.vq_model.specs.Forms.{Slot, FenceName, places}
-use Rattle.vq_model.specs.Limits.{is_job, limits_of, pairs_of, passes_limit}
-use Rattle.vq_model.specs.LineFaults.{part_of, is_shaped, is_numeric, is_known, is_new, is_out_of_order}
+use Rattle.vq_model.specs.LineFaults.{is_shaped, is_numeric, is_known, is_new, is_out_of_order}
 use Rattle.vq_model.specs.Meaning.{form_of, of_two, open_places, pair_places, pairs_at, statement_of}
 use Rattle.vq_model.specs.Text.{is_name, numeral}
+use Rattle.vq_model.specs.Context.{number_at, is_declared, is_job, part_of}
+use Rattle.vq_model.specs.Earlier.{earlier}
+use Rattle.vq_model.specs.LineFaults.{pairs_of, passes_limit}
+use Rattle.vq_model.specs.Forms.{TimelineName}
 use Rattle.vq_canonical_laws.proofs.BatchLines.{timeline_there, fence_there}
 use Rattle.vq_canonical_laws.proofs.LineTests.{PassesTests, read_tested}
 use Rattle.vq_canonical_laws.proofs.LineWords.{declared_script, ReadsAs, words_plain, words_of_two, words_of_three, not_over, not_past, form_outside}
@@ -48,19 +51,19 @@ module _ (form : Form) (before : List Line) (p : Parts) (h : Say before p) (name
 
   -- it is a name, and finds what it is written for
   timeline_named : (t : ℕ) → IsOfKindIn is_timeline p.semaphores t →
-      (is_name (name_at t) ≡ true) × (timeline_at before (name_at t) ≡ Some t)
+      (is_name (name_at t) ≡ true) × (number_at before TimelineName (name_at t) ≡ Some t)
   timeline_named t k =
       subst (λ (z : Option Semaphore). (is_name (option_map_or (λ y. y.name) z []) ≡ true)
-      × (timeline_at before (option_map_or (λ y. y.name) z []) ≡ Some t)) (sym k.there) (
+      × (number_at before TimelineName (option_map_or (λ y. y.name) z []) ≡ Some t)) (sym k.there) (
         (named.semaphore_names t k.semaphore k.there).0,
         timeline_there form before p h named t k.semaphore k.there k.tested,
       )
 
   fence_named : (t : ℕ) → IsOfKindIn is_fence p.semaphores t →
-      (is_name (name_at t) ≡ true) × (fence_at before (name_at t) ≡ Some t)
+      (is_name (name_at t) ≡ true) × (number_at before FenceName (name_at t) ≡ Some t)
   fence_named t k =
       subst (λ (z : Option Semaphore). (is_name (option_map_or (λ y. y.name) z []) ≡ true)
-      × (fence_at before (option_map_or (λ y. y.name) z []) ≡ Some t)) (sym k.there) (
+      × (number_at before FenceName (option_map_or (λ y. y.name) z []) ≡ Some t)) (sym k.there) (
         (named.semaphore_names t k.semaphore k.there).0,
         fence_there form before p h named t k.semaphore k.there k.tested,
       )
@@ -69,7 +72,7 @@ module _ (form : Form) (before : List Line) (p : Parts) (h : Say before p) (name
   record PassesAsStep (step : HostStep) : Type 0 where
     part : section before ≡ Outside
     in_order : (some (λ s. nat_lt 0 (part_of s)) (open_batch before) || false) ≡ false
-    limited : passes_limit (limits_of (version_of before)) before (TakeHostStep step) ≡ false
+    limited : passes_limit (earlier before) (TakeHostStep step) ≡ false
 
   few_pairs : (step : HostStep) → StepFits p.semaphores step → length (pairs_of step) ≤ 16
   few_pairs (WaitAll pairs) f = f.few
@@ -181,10 +184,10 @@ module _ (form : Form) (before : List Line) (p : Parts) (h : Say before p) (name
       form_of form before (codes "host" ∷ codes "fence" ∷ word ∷ name_at t ∷ []) ≡ Some f) →
       open_places (places f) (codes "host" ∷ codes "fence" ∷ word ∷ name_at t ∷ [])
       ≡ (FenceName, name_at t) ∷ [] →
-      is_out_of_order before f
+      is_out_of_order (earlier before) f
       ≡ (some (λ s. nat_lt 0 (part_of s)) (open_batch before) || false) →
-      ((name : List ℕ) → statement_of before f (name ∷ [])
-      ≡ option_map (λ x. TakeHostStep (of x)) (fence_at before name)) →
+      ((name : List ℕ) → statement_of (number_at before) f (name ∷ [])
+      ≡ option_map (λ x. TakeHostStep (of x)) (number_at before FenceName name)) →
       ReadsAs form before (codes "host" ∷ codes "fence" ∷ word ∷ name_at t ∷ [])
       (TakeHostStep (of t))
   fence_reads f of word t is_word m kind found opened order says =
@@ -201,9 +204,9 @@ module _ (form : Form) (before : List Line) (p : Parts) (h : Say before p) (name
         shaped = ap (list_all is_shaped) opened ∙ and_from (is_name name) true known.0 refl;
         in_order = order ∙ passes.in_order;
         numeric = ap (list_all is_numeric) opened;
-        known = ap (list_all (is_known before)) opened ∙ (λ i. is_some (known.1 i) && true);
-        fresh = ap (list_all (is_new before)) opened;
-        said = ap (λ (os : List (Slot × List ℕ)). statement_of before f (map (λ x. x.1) os)) opened
+        known = ap (list_all (is_known (number_at before))) opened ∙ (λ i. is_some (known.1 i) && true);
+        fresh = ap (list_all (is_new (is_declared before))) opened;
+        said = ap (λ (os : List (Slot × List ℕ)). statement_of (number_at before) f (map (λ x. x.1) os)) opened
             ∙ (says name ∙ (λ i. option_map (λ x. TakeHostStep (of x)) (known.1 i)));
         ranged = refl;
         apart = refl;
@@ -257,9 +260,9 @@ module _ (form : Form) (before : List Line) (p : Parts) (h : Say before p) (name
     are_words : are_text_words (words_of_pairs pairs) ≡ true
     shaped : list_all is_shaped (pair_places (words_of_pairs pairs)) ≡ true
     numeric : list_all is_numeric (pair_places (words_of_pairs pairs)) ≡ true
-    known : list_all (is_known before) (pair_places (words_of_pairs pairs)) ≡ true
-    fresh : list_all (is_new before) (pair_places (words_of_pairs pairs)) ≡ true
-    said : pairs_at before (map (λ x. x.1) (pair_places (words_of_pairs pairs))) ≡ Some pairs
+    known : list_all (is_known (number_at before)) (pair_places (words_of_pairs pairs)) ≡ true
+    fresh : list_all (is_new (is_declared before)) (pair_places (words_of_pairs pairs)) ≡ true
+    said : pairs_at (number_at before) (map (λ x. x.1) (pair_places (words_of_pairs pairs))) ≡ Some pairs
 
   pairs_pass : (pairs : List Pair) → Every (IsTimed p.semaphores) pairs → PassAsPairs pairs
   pairs_pass [] a =
@@ -292,8 +295,8 @@ module _ (form : Form) (before : List Line) (p : Parts) (h : Say before p) (name
             and_from (is_some (numeral value)) (list_all is_numeric (pair_places words))
             (λ i. is_some (back i)) more.numeric;
         known =
-            and_from (is_some (timeline_at before name))
-            (list_all (is_known before) (pair_places words)) (λ i. is_some (one.1 i)) more.known;
+            and_from (is_some (number_at before TimelineName name))
+            (list_all (is_known (number_at before)) (pair_places words)) (λ i. is_some (one.1 i)) more.known;
         fresh = more.fresh;
         said = λ i.
             of_two (λ x xs. x ∷ xs)
@@ -320,10 +323,10 @@ module _ (form : Form) (before : List Line) (p : Parts) (h : Say before p) (name
       form_of form before (codes "host" ∷ word ∷ which ∷ words_of_pairs pairs) ≡ Some f) →
       open_places (places f) (codes "host" ∷ word ∷ which ∷ words_of_pairs pairs)
       ≡ pair_places (words_of_pairs pairs) →
-      is_out_of_order before f
+      is_out_of_order (earlier before) f
       ≡ (some (λ s. nat_lt 0 (part_of s)) (open_batch before) || false) →
-      ((words : List (List ℕ)) → statement_of before f words
-      ≡ option_map (λ ps. TakeHostStep (of ps)) (pairs_at before words)) →
+      ((words : List (List ℕ)) → statement_of (number_at before) f words
+      ≡ option_map (λ ps. TakeHostStep (of ps)) (pairs_at (number_at before) words)) →
       ReadsAs form before (codes "host" ∷ word ∷ which ∷ words_of_pairs pairs)
       (TakeHostStep (of pairs))
   pairs_read f of word which pairs is_word is_which m k found opened order says =
@@ -340,9 +343,9 @@ module _ (form : Form) (before : List Line) (p : Parts) (h : Say before p) (name
         shaped = ap (list_all is_shaped) opened ∙ k.shaped;
         in_order = order ∙ passes.in_order;
         numeric = ap (list_all is_numeric) opened ∙ k.numeric;
-        known = ap (list_all (is_known before)) opened ∙ k.known;
-        fresh = ap (list_all (is_new before)) opened ∙ k.fresh;
-        said = ap (λ (os : List (Slot × List ℕ)). statement_of before f (map (λ x. x.1) os)) opened
+        known = ap (list_all (is_known (number_at before))) opened ∙ k.known;
+        fresh = ap (list_all (is_new (is_declared before))) opened ∙ k.fresh;
+        said = ap (λ (os : List (Slot × List ℕ)). statement_of (number_at before) f (map (λ x. x.1) os)) opened
             ∙ (says (map (λ x. x.1) (pair_places some_words))
             ∙ (λ i. option_map (λ ps. TakeHostStep (of ps)) (k.said i)));
         ranged = refl;

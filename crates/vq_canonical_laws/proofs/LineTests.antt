@@ -7,15 +7,16 @@ use Rattle.vq_model.specs.declared.statement.Line.{Line}
 use Rattle.vq_model.specs.declared.statement.LineForm.{LineForm}
 use Rattle.vq_model.specs.Text.{is_plain}
 use Rattle.vq_model.specs.Forms.{places}
-use Rattle.vq_model.specs.Context.{version_of}
 use Rattle.vq_model.specs.Meaning.{open_places, statement_of, form_of, meaning}
-use Rattle.vq_model.specs.Limits.{limits_of, passes_limit}
 use Rattle.vq_model.specs.LineFaults.{is_shaped, is_numeric, is_known, is_new, is_out_of_order, is_in_range, overlaps, fails, has_fault, fault_of}
 use Rattle.std.specs.Option.{option_map_or, option_and_then}
 use Rattle.std.proofs.lemmas.Bool.{or_parts, or_from}
 use Rattle.vq_model.specs.declared.statement.FaultKind.TheVariants.{Syntax, Order, Number, Name, Twice, Range, Overlap, Limit}
 use Rattle.vq_reading_laws.proofs.Cited.{first_fails, passes}
 use Rattle.vq_model.specs.Reading.{with_line, without_fault, read_statement}
+use Rattle.vq_model.specs.Context.{number_at, is_declared, buffers}
+use Rattle.vq_model.specs.Earlier.{earlier}
+use Rattle.vq_model.specs.LineFaults.{passes_limit}
 
 -- A line's words pass all tests of a form, and say a statement.
 pub record PassesTests (form : Form) (before : List Line) (words : List (List ℕ)) (f : LineForm)
@@ -23,14 +24,14 @@ pub record PassesTests (form : Form) (before : List Line) (words : List (List �
   pub found : form_of form before words ≡ Some f
   pub plain : list_all (list_all is_plain) words ≡ true
   pub shaped : list_all is_shaped (open_places (places f) words) ≡ true
-  pub in_order : is_out_of_order before f ≡ false
+  pub in_order : is_out_of_order (earlier before) f ≡ false
   pub numeric : list_all is_numeric (open_places (places f) words) ≡ true
-  pub known : list_all (is_known before) (open_places (places f) words) ≡ true
-  pub fresh : list_all (is_new before) (open_places (places f) words) ≡ true
-  pub said : statement_of before f (map (λ x. x.1) (open_places (places f) words)) ≡ Some s
-  pub ranged : is_in_range before s ≡ true
-  pub apart : overlaps before s ≡ false
-  pub limited : passes_limit (limits_of (version_of before)) before s ≡ false
+  pub known : list_all (is_known (number_at before)) (open_places (places f) words) ≡ true
+  pub fresh : list_all (is_new (is_declared before)) (open_places (places f) words) ≡ true
+  pub said : statement_of (number_at before) f (map (λ x. x.1) (open_places (places f) words)) ≡ Some s
+  pub ranged : is_in_range (earlier before) s ≡ true
+  pub apart : overlaps (buffers before) s ≡ false
+  pub limited : passes_limit (earlier before) s ≡ false
 
 -- a line without a fault has a form, and passes its tests
 pub tests_passed : (form : Form) (before : List Line) (words : List (List ℕ)) (s : Statement) →
@@ -57,24 +58,24 @@ tests_passed form before words s h m =
     or_parts (not (list_all (list_all is_plain) words))
     (option_map_or (fails is_shaped words) (form_of form before words) true) one.0 in
     by_form (form_of form before words) refl syntax.0 syntax.1 two.0 three.0 four.0 five.0 m
-    (passes (is_in_range before s)
-    (sym (ap (λ (o : Option Statement). option_map_or (λ x. not (is_in_range before x)) o false) m)
+    (passes (is_in_range (earlier before) s)
+    (sym (ap (λ (o : Option Statement). option_map_or (λ x. not (is_in_range (earlier before) x)) o false) m)
     ∙ six.0))
-    (sym (ap (λ (o : Option Statement). option_map_or (overlaps before) o false) m) ∙ seven.0)
+    (sym (ap (λ (o : Option Statement). option_map_or (overlaps (buffers before)) o false) m) ∙ seven.0)
     (sym (ap (λ (o : Option Statement). option_map_or
-    (passes_limit (limits_of (version_of before)) before) o false) m) ∙ eight.0)
+    (passes_limit (earlier before)) o false) m) ∙ eight.0)
   where
     by_form : (o : Option LineForm) → form_of form before words ≡ o →
         not (list_all (list_all is_plain) words) ≡ false →
         option_map_or (fails is_shaped words) o true ≡ false →
-        option_map_or (is_out_of_order before) o false ≡ false →
+        option_map_or (is_out_of_order (earlier before)) o false ≡ false →
         option_map_or (fails is_numeric words) o false ≡ false →
-        option_map_or (fails (is_known before) words) o false ≡ false →
-        option_map_or (fails (is_new before) words) o false ≡ false →
-        option_and_then (λ f. statement_of before f (map (λ x. x.1) (open_places (places f) words)))
+        option_map_or (fails (is_known (number_at before)) words) o false ≡ false →
+        option_map_or (fails (is_new (is_declared before)) words) o false ≡ false →
+        option_and_then (λ f. statement_of (number_at before) f (map (λ x. x.1) (open_places (places f) words)))
         o ≡ Some s →
-        is_in_range before s ≡ true → overlaps before s ≡ false →
-        passes_limit (limits_of (version_of before)) before s ≡ false →
+        is_in_range (earlier before) s ≡ true → overlaps (buffers before) s ≡ false →
+        passes_limit (earlier before) s ≡ false →
         (f : LineForm) × PassesTests form before words f s
     by_form None e plain shaped order numeric known fresh said r o l = absurd (cc)
     by_form (Some f) e plain shaped order numeric known fresh said r o l = (
@@ -85,8 +86,8 @@ tests_passed form before words s h m =
         shaped = passes (list_all is_shaped (open_places (places f) words)) shaped;
         in_order = order;
         numeric = passes (list_all is_numeric (open_places (places f) words)) numeric;
-        known = passes (list_all (is_known before) (open_places (places f) words)) known;
-        fresh = passes (list_all (is_new before) (open_places (places f) words)) fresh;
+        known = passes (list_all (is_known (number_at before)) (open_places (places f) words)) known;
+        fresh = passes (list_all (is_new (is_declared before)) (open_places (places f) words)) fresh;
         said = said;
         ranged = r;
         apart = o;
@@ -104,7 +105,7 @@ module _ (form : Form) (before : List Line) (words : List (List ℕ)) (f : LineF
   -- what such a line says
   pub tests_say : meaning form before words ≡ Some s
   tests_say =
-      ap (option_and_then (λ g. statement_of before g
+      ap (option_and_then (λ g. statement_of (number_at before) g
       (map (λ x. x.1) (open_places (places g) words)))) t.found
       ∙ t.said
 
@@ -120,25 +121,25 @@ module _ (form : Form) (before : List Line) (words : List (List ℕ)) (f : LineF
       ∙ ap not t.shaped))
       (none_found (has_fault form before words) Order
       (Number ∷ Name ∷ Twice ∷ Range ∷ Overlap ∷ Limit ∷ [])
-      (ap (λ (o : Option LineForm). option_map_or (is_out_of_order before) o false) t.found
+      (ap (λ (o : Option LineForm). option_map_or (is_out_of_order (earlier before)) o false) t.found
       ∙ t.in_order)
       (none_found (has_fault form before words) Number (Name ∷ Twice ∷ Range ∷ Overlap ∷ Limit ∷ [])
       (ap (λ (o : Option LineForm). option_map_or (fails is_numeric words) o false) t.found
       ∙ ap not t.numeric)
       (none_found (has_fault form before words) Name (Twice ∷ Range ∷ Overlap ∷ Limit ∷ [])
-      (ap (λ (o : Option LineForm). option_map_or (fails (is_known before) words) o false) t.found
+      (ap (λ (o : Option LineForm). option_map_or (fails (is_known (number_at before)) words) o false) t.found
       ∙ ap not t.known)
       (none_found (has_fault form before words) Twice (Range ∷ Overlap ∷ Limit ∷ [])
-      (ap (λ (o : Option LineForm). option_map_or (fails (is_new before) words) o false) t.found
+      (ap (λ (o : Option LineForm). option_map_or (fails (is_new (is_declared before)) words) o false) t.found
       ∙ ap not t.fresh)
       (none_found (has_fault form before words) Range (Overlap ∷ Limit ∷ [])
-      (ap (λ (o : Option Statement). option_map_or (λ x. not (is_in_range before x)) o false)
+      (ap (λ (o : Option Statement). option_map_or (λ x. not (is_in_range (earlier before) x)) o false)
       tests_say ∙ ap not t.ranged)
       (none_found (has_fault form before words) Overlap (Limit ∷ [])
-      (ap (λ (o : Option Statement). option_map_or (overlaps before) o false) tests_say ∙ t.apart)
+      (ap (λ (o : Option Statement). option_map_or (overlaps (buffers before)) o false) tests_say ∙ t.apart)
       (none_found (has_fault form before words) Limit []
       (ap (λ (o : Option Statement). option_map_or
-      (passes_limit (limits_of (version_of before)) before) o false) tests_say ∙ t.limited)
+      (passes_limit (earlier before)) o false) tests_say ∙ t.limited)
       refl)))))))
 
 -- A line whose words pass the tests is read as its statement.

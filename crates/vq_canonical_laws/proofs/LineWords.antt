@@ -21,8 +21,8 @@ use Rattle.vq_model.specs.declared.statement.LineForm.TheVariants.{VersionLine}
 use Rattle.vq_model.specs.Forms.{forms_outside, forms_in_batch, held_forms, schedule_forms}
 use Rattle.vq_model.specs.Context.{section, version_of, open_batch, some}
 use Rattle.vq_model.specs.Meaning.{matches, where_built, form_of, first_forms}
+use Rattle.vq_model.specs.Context.{part_of}
 use Rattle.vq_reading_laws.proofs.Cited.{forms_in}
-use Rattle.vq_model.specs.LineFaults.{part_of}
 use Rattle.vq_canonical_laws.proofs.SaidContext.{some_said}
 
 -- The words of a statement

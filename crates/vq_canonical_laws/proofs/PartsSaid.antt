@@ -15,9 +15,8 @@ use Rattle.vq_model.specs.declared.script.Job.{Job}
 use Rattle.vq_model.specs.Context.{section, has_begun, open_batch, is_submit, is_host_step, is_command, some}
 use Rattle.vq_model.specs.ScriptOfLines.{batch_lines, jobs_of, is_schedule}
 use Rattle.vq_model.specs.Reading.{with_line}
-use Rattle.vq_model.specs.Limits.{is_job}
-use Rattle.vq_model.specs.LineFaults.{part_of}
 use Rattle.vq_model.specs.SameScript.{buffer_without_line, semaphore_without_line, queue_without_line, job_without_lines}
+use Rattle.vq_model.specs.Context.{is_job, part_of}
 use Rattle.vq_reading_laws.proofs.Cited.{a_line, count_push, section_push, some_push, open_push, batch_lines_cons}
 use Rattle.vq_canonical_laws.proofs.ScriptParts.{ToldJob, Told, parts, a_job, a_batch, ToldStep, ToldBatch, commands_told, commands_of, statements_in, continued, Say, has_jobs, no_parts, Parts, a_buffer, a_semaphore, a_queue, with_item, with_batch, after, after_item, May, MayItem}
 use Rattle.vq_canonical_laws.proofs.StatementPushes.{version_push, buffers_push, semaphores_push, queues_push, turns_push, jobs_push}

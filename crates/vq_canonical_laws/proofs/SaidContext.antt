@@ -3,12 +3,13 @@ use Rattle.std.proofs.Common.{◌≡◌, Bool, ◌||◌, List, [], ◌∷◌, ma
 use Rattle.std.specs.List.{list_any, position_or_len, position}
 use Rattle.std.specs.Prelude.{nat_lt, count_by}
 use Rattle.std.proofs.lemmas.List.{length-map}
+use Rattle.vq_model.specs.Context.{size_in}
 use Rattle.vq_model.specs.declared.script.Buffer.{Buffer}
 use Rattle.vq_model.specs.SameScript.{buffer_without_line, semaphore_without_line, queue_without_line}
-use Rattle.vq_canonical_laws.proofs.ScriptParts.{sizes_in, statements_in, Told, Parts, Say, is_named, size_in, is_within_in, is_command_in, OpenLines}
+use Rattle.vq_canonical_laws.proofs.ScriptParts.{sizes_in, statements_in, Told, Parts, Say, is_named, OpenLines}
 use Rattle.vq_model.specs.declared.statement.Statement.{Statement}
 use Rattle.vq_model.specs.declared.statement.Line.{Line}
-use Rattle.vq_model.specs.Context.{some, count, buffers, semaphores, queues, buffer_at, timeline_at, binary_at, fence_at, queue_at, is_declared, is_timeline, is_binary, is_fence, size_of, open_batch}
+use Rattle.vq_model.specs.Context.{some, count, buffers, semaphores, queues, is_declared, is_timeline, is_binary, is_fence, open_batch}
 use Rattle.std.proofs.lemmas.List.Sums.{sum_by-cons}
 use Rattle.std.specs.Str.{bytes_eq}
 use Rattle.vq_model.specs.declared.statement.Statement.TheVariants.{AddCommand}
@@ -17,6 +18,8 @@ use Rattle.vq_model.specs.declared.script.Command.TheVariants.{Fill, Update, Cop
 use Rattle.vq_model.specs.declared.script.FillSize.TheVariants.{Whole, Count}
 use Rattle.vq_model.specs.Ranges.{is_aligned, overlaps_itself}
 use Rattle.vq_model.specs.LineFaults.{is_within, is_command_in_range, overlaps}
+use Rattle.vq_model.specs.Context.{number_at}
+use Rattle.vq_model.specs.Forms.{BufferName, TimelineName, BinaryName, FenceName, QueueName}
 use Rattle.vq_canonical_laws.proofs.CanonicalLaws.{item_same}
 
 -- Lists up to what a test doesn't read
@@ -66,7 +69,7 @@ count_statements test (l ∷ lines) =
 
 module _ (before : List Line) (p : Parts) (h : Say before p) where
   -- the size of a buffer
-  pub size_said : (b : ℕ) → size_of before b ≡ size_in p.buffers b
+  pub size_said : (b : ℕ) → size_in (buffers before) b ≡ size_in p.buffers b
   size_said b =
       sym (item_same (λ x. x.size) buffer_without_line 0 (λ x. refl) (buffers before) b)
       ∙ ap (λ (bs : List Buffer). size_in bs b) h.buffers_are
@@ -88,35 +91,35 @@ module _ (before : List Line) (p : Parts) (h : Say before p) where
   queue_count_said = sym (length-map (queues before) queue_without_line) ∙ ap length h.queues_are
 
   -- look-ups by name
-  pub buffer_at_said : (name : List ℕ) → buffer_at before name
+  pub buffer_at_said : (name : List ℕ) → number_at before BufferName name
       ≡ position (λ b. bytes_eq name b.name) p.buffers
   buffer_at_said name =
       sym (position_same (λ b. bytes_eq name b.name) buffer_without_line (λ x. refl)
       (buffers before))
       ∙ ap (position (λ b. bytes_eq name b.name)) h.buffers_are
 
-  pub timeline_at_said : (name : List ℕ) → timeline_at before name
+  pub timeline_at_said : (name : List ℕ) → number_at before TimelineName name
       ≡ position (λ s. bytes_eq name s.name && is_timeline s.kind) p.semaphores
   timeline_at_said name =
       sym (position_same (λ s. bytes_eq name s.name && is_timeline s.kind) semaphore_without_line
       (λ x. refl) (semaphores before))
       ∙ ap (position (λ s. bytes_eq name s.name && is_timeline s.kind)) h.semaphores_are
 
-  pub binary_at_said : (name : List ℕ) → binary_at before name
+  pub binary_at_said : (name : List ℕ) → number_at before BinaryName name
       ≡ position (λ s. bytes_eq name s.name && is_binary s.kind) p.semaphores
   binary_at_said name =
       sym (position_same (λ s. bytes_eq name s.name && is_binary s.kind) semaphore_without_line
       (λ x. refl) (semaphores before))
       ∙ ap (position (λ s. bytes_eq name s.name && is_binary s.kind)) h.semaphores_are
 
-  pub fence_at_said : (name : List ℕ) → fence_at before name
+  pub fence_at_said : (name : List ℕ) → number_at before FenceName name
       ≡ position (λ s. bytes_eq name s.name && is_fence s.kind) p.semaphores
   fence_at_said name =
       sym (position_same (λ s. bytes_eq name s.name && is_fence s.kind) semaphore_without_line
       (λ x. refl) (semaphores before))
       ∙ ap (position (λ s. bytes_eq name s.name && is_fence s.kind)) h.semaphores_are
 
-  pub queue_at_said : (name : List ℕ) → queue_at before name
+  pub queue_at_said : (name : List ℕ) → number_at before QueueName name
       ≡ position (λ q. bytes_eq name q.name) p.queues
   queue_at_said name =
       sym (position_same (λ q. bytes_eq name q.name) queue_without_line (λ x. refl) (queues before))
@@ -136,13 +139,13 @@ module _ (before : List Line) (p : Parts) (h : Say before p) where
 
   -- whether bytes lie in a buffer
   within_said : (b offset size : ℕ) →
-      is_within before b offset size ≡ is_within_in p.buffers b offset size
+      is_within (buffers before) b offset size ≡ is_within p.buffers b offset size
   within_said b offset size = λ i.
       nat_lt offset (size_said b i) && nat_lt 0 size && not
       (nat_lt (size_said b i) (offset + size))
 
   -- whether a command is in range
-  pub range_said : (c : Command) → is_command_in_range before c ≡ is_command_in p.buffers c
+  pub range_said : (c : Command) → is_command_in_range (buffers before) c ≡ is_command_in_range p.buffers c
   range_said (Fill b o Whole w) = λ i. nat_lt o (size_said b i) && is_aligned o
   range_said (Fill b o (Count n) w) = λ i. within_said b o n i && is_aligned o && is_aligned n
   range_said (Update b o bytes) = λ i.
@@ -150,8 +153,8 @@ module _ (before : List Line) (p : Parts) (h : Say before p) where
       && not (nat_lt 65536 (length bytes))
   range_said (Copy s from t to n) = λ i. within_said s from n i && within_said t to n i
 
-  -- whether it overlaps itself
-  pub overlap_said : (c : Command) → overlaps before (AddCommand c)
+  -- whether it overlaps (buffers itself)
+  pub overlap_said : (c : Command) → overlaps (buffers before) (AddCommand c)
       ≡ overlaps_itself (sizes_in p.buffers) c
   overlap_said c = ap (λ (ns : List ℕ). overlaps_itself ns c) sizes_said
 

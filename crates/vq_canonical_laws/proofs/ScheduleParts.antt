@@ -14,10 +14,10 @@ use Rattle.vq_model.specs.declared.script.Turn.{Turn}
 use Rattle.vq_model.specs.declared.script.Queue.{Queue}
 use Rattle.vq_model.specs.declared.script.Script.{Script}
 use Rattle.vq_model.specs.Context.{buffers, semaphores, queues, section, version_of, open_batch, some, is_threaded}
-use Rattle.vq_model.specs.LineFaults.{part_of}
 use Rattle.vq_model.specs.Reading.{with_line}
 use Rattle.vq_model.specs.ScriptOfLines.{script_of, jobs_of, is_schedule, turns_at}
 use Rattle.vq_model.specs.SameScript.{without_lines, buffer_without_line, semaphore_without_line, queue_without_line, job_without_lines, turn_without_line}
+use Rattle.vq_model.specs.Context.{part_of}
 use Rattle.vq_reading_laws.proofs.Cited.{a_line, section_push, some_push, open_push}
 use Rattle.vq_canonical_laws.proofs.ScriptParts.{Told, Parts, Say, a_job, continued, OpenLines}
 use Rattle.vq_canonical_laws.proofs.SilentStatements.{or_false, or_true}

@@ -22,9 +22,10 @@ use Rattle.vq_model.specs.declared.script.Script.{Script}
 use Rattle.vq_model.specs.declared.script.Turn.{Turn}
 use Rattle.vq_model.specs.Canonical.{Turns, actor_word, turns_words}
 use Rattle.vq_model.specs.Context.{section, open_batch, some, is_threaded, turns_of}
-use Rattle.vq_model.specs.LineFaults.{part_of, ends_early}
+use Rattle.vq_model.specs.LineFaults.{ends_early}
 use Rattle.vq_model.specs.Meaning.{actor_at, is_actor, of_two}
 use Rattle.vq_model.specs.Reading.{with_line, read_statement, read_lines, go_on}
+use Rattle.vq_model.specs.Context.{number_at, part_of}
 use Rattle.vq_canonical_laws.proofs.FollowingTurns.{queue_said, threaded_said, turns_said}
 use Rattle.vq_canonical_laws.proofs.JoinedTurns.{AreOf, expanded}
 use Rattle.vq_canonical_laws.proofs.LineTests.{PassesTests, read_tested}
@@ -66,7 +67,7 @@ schedule_reads before p h closed =
 record IsActorWord (before : List Line) (word : List ℕ) (a : ActorName) : Type 0 where
   text : is_text_word word ≡ true
   shaped : is_actor word ≡ true
-  known : actor_at before word ≡ Some a
+  known : actor_at (number_at before) word ≡ Some a
 
 -- a name behind a letter and a colon is a word
 marked_word : (letter : ℕ) (name : List ℕ) → is_word_byte letter ≡ true → is_text_word name ≡ true →

@@ -21,16 +21,16 @@ use Rattle.std.specs.Str.{bytes_eq}
 use Rattle.std.specs.Prelude.{nat_lt, sum, count_by}
 use Rattle.vq_model.specs.declared.script.Command.{Command}
 use Rattle.vq_model.specs.Ranges.{overlaps_itself}
-pub use Rattle.vq_canonical_laws.specs.FormatRules.{sizes_in, size_in, is_within_in, is_command_in, HasNumerals, HasValue, IsOfKindIn, IsTimed, AreTimed, StepFits, TakesValue, IsMarked}
+use Rattle.vq_model.specs.LineFaults.{is_command_in_range}
+pub use Rattle.vq_canonical_laws.specs.FormatRules.{sizes_in, HasNumerals, HasValue, IsOfKindIn, IsTimed, AreTimed, StepFits, TakesValue, IsMarked}
 use Rattle.vq_model.specs.declared.script.SemaphoreKind.TheVariants.{Fence}
 use Rattle.vq_model.specs.Text.{is_name}
 use Rattle.vq_model.specs.declared.script.Pair.{Pair}
-use Rattle.vq_model.specs.LineFaults.{part_of}
 use Rattle.vq_model.specs.declared.statement.Section.{Section}
 use Rattle.vq_model.specs.declared.statement.Section.TheVariants.{Outside, InBatch}
 use Rattle.vq_model.specs.declared.statement.Line.{Line}
 use Rattle.vq_model.specs.SameScript.{job_without_lines, buffer_without_line, semaphore_without_line, queue_without_line}
-use Rattle.vq_model.specs.Limits.{is_job}
+use Rattle.vq_model.specs.Context.{is_job, part_of}
 
 -- Parts
 
@@ -211,7 +211,7 @@ pub record WaitFits (p : Parts) (t : Told) (pair : Pair) (from : ℕ) : Type 0 w
   pub few : count_by is_wait t.1 < 16
 
 pub record CommandFits (p : Parts) (t : Told) (command : Command) : Type 0 where
-  pub range : is_command_in p.buffers command ≡ true
+  pub range : is_command_in_range p.buffers command ≡ true
   pub apart : overlaps_itself (sizes_in p.buffers) command ≡ false
   pub numerals : HasNumerals command
   pub few : count_by is_command t.1 < 64

@@ -5,7 +5,6 @@ use Rattle.vq_model.specs.declared.statement.Statement.{Statement}
 use Rattle.vq_model.specs.declared.statement.Line.{Line}
 use Rattle.vq_model.specs.Context.{section_after, version_of, is_submit, is_end, is_host_step, buffer_of, semaphore_of, queue_of, section, has_begun, open_batch, is_command, some}
 use Rattle.vq_model.specs.ScriptOfLines.{jobs_of, is_schedule, turns_at}
-use Rattle.vq_model.specs.Limits.{is_job}
 use Rattle.vq_reading_laws.proofs.Cited.{a_line, count_push, section_push, some_push, open_push}
 use Rattle.std.specs.List.{filter_map}
 use Rattle.vq_model.specs.declared.statement.Statement.TheVariants.{AddWait, AddCommand, AddSignal, AddFence}
@@ -17,8 +16,8 @@ use Rattle.vq_model.specs.declared.script.Queue.{Queue}
 use Rattle.vq_model.specs.declared.script.Semaphore.{Semaphore}
 use Rattle.vq_model.specs.declared.script.Turn.{Turn}
 use Rattle.vq_model.specs.Reading.{with_line}
-use Rattle.vq_model.specs.LineFaults.{part_of}
 use Rattle.vq_model.specs.SameScript.{buffer_without_line, semaphore_without_line, queue_without_line, job_without_lines}
+use Rattle.vq_model.specs.Context.{is_job, part_of}
 use Rattle.vq_canonical_laws.proofs.ScriptParts.{parts, Say}
 use Rattle.vq_canonical_laws.proofs.StatementPushes.{version_push, buffers_push, semaphores_push, queues_push, turns_push, jobs_push}
 

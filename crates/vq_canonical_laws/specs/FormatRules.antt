@@ -2,7 +2,6 @@
 -- The format is this project's own.
 use Rattle.std.specs.Prelude.{ℕ, ◌≡◌, ◌<◌, ◌≤◌, ◌^◌, ◌+◌, Bool, true, false, not, ◌&&◌, nat_lt, List, [], ◌∷◌, ◌++◌, length, map, Option, Some, None}
 use Rattle.std.specs.List.{AllByRecursion as Every, list_any, slice_get}
-use Rattle.std.specs.Option.{option_map_or}
 use Rattle.std.specs.Str.{bytes_eq}
 use Rattle.vq_model.specs.declared.script.Buffer.{Buffer}
 use Rattle.vq_model.specs.declared.script.Semaphore.{Semaphore}
@@ -22,7 +21,9 @@ use Rattle.vq_model.specs.declared.script.Job.TheVariants.{Host, Batch as BatchJ
 use Rattle.vq_model.specs.declared.script.Script.{Script}
 use Rattle.vq_model.specs.Text.{is_name}
 use Rattle.vq_model.specs.Context.{is_timeline, is_fence}
-use Rattle.vq_model.specs.Ranges.{is_aligned, overlaps_itself}
+use Rattle.vq_model.specs.Limits.{limits_of}
+use Rattle.vq_model.specs.LineFaults.{is_command_in_range}
+use Rattle.vq_model.specs.Ranges.{overlaps_itself}
 use Rattle.vq_model.specs.SameScript.{without_lines}
 use Rattle.vq_model.specs.ValidScripts.{KeepsLimits, IsUnscheduled}
 use Rattle.vq_model.specs.Built.{IsOfFirstVersion}
@@ -65,27 +66,9 @@ names_of s =
 abbrev pub sizes_in : List Buffer → List ℕ
 sizes_in bs = map (λ b. b.size) bs
 
--- the size of a buffer, 0 where there is none
-abbrev pub size_in : List Buffer → ℕ → ℕ
-size_in bs b = option_map_or (λ x. x.size) (slice_get bs b) 0
-
--- bytes that begin in a buffer, at least one, and end in it
-abbrev pub is_within_in : List Buffer → ℕ → ℕ → ℕ → Bool
-is_within_in bs b offset size =
-    nat_lt offset (size_in bs b) && nat_lt 0 size && not (nat_lt (size_in bs b) (offset + size))
-
--- a command lies in its buffers, at multiples of 4 where it has to
-abbrev pub is_command_in : List Buffer → Command → Bool
-is_command_in bs (Fill b o Whole w) = nat_lt o (size_in bs b) && is_aligned o
-is_command_in bs (Fill b o (Count n) w) = is_within_in bs b o n && is_aligned o && is_aligned n
-is_command_in bs (Update b o bytes) =
-    is_within_in bs b o (length bytes) && is_aligned o && is_aligned (length bytes)
-    && not (nat_lt 65536 (length bytes))
-is_command_in bs (Copy s from t to n) = is_within_in bs s from n && is_within_in bs t to n
-
 -- a command of a batch: it lies in its buffers, and a copy doesn't overlap itself
 pub record IsCommandOf (bs : List Buffer) (c : Command) : Type 0 where
-  pub range : is_command_in bs c ≡ true
+  pub range : is_command_in_range bs c ≡ true
   pub apart : overlaps_itself (sizes_in bs) c ≡ false
   pub numerals : HasNumerals c
 
@@ -155,9 +138,9 @@ pub record BatchFits (s : Script) (b : Batch) : Type 0 where
   pub commands : Every (λ c. IsCommandOf s.buffers c.command) b.commands
   pub signals : Every (IsWholeMark s.semaphores) b.signals
   pub fence : IsFenceOf s.semaphores b.fence
-  pub few_waits : length b.waits ≤ 16
-  pub few_commands : length b.commands ≤ 64
-  pub few_signals : length b.signals ≤ 16
+  pub few_waits : length b.waits ≤ (limits_of s.version).waits
+  pub few_commands : length b.commands ≤ (limits_of s.version).batch_commands
+  pub few_signals : length b.signals ≤ (limits_of s.version).signals
 
 abbrev pub JobFits : Script → Job → Type 0
 JobFits s (Host h) = StepFits s.semaphores h.step

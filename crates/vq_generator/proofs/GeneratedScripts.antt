@@ -11,7 +11,9 @@ use Rattle.vq_model.specs.declared.script.Job.{Job}
 use Rattle.vq_model.specs.Lowering.{commands_in}
 use Rattle.vq_model.specs.Ranges.{is_aligned}
 use Rattle.vq_model.specs.SameScript.{IsScript, job_without_lines}
-use Rattle.vq_canonical_laws.specs.FormatRules.{KeepsRules, JobFits, IsWholeMark, IsCommandOf, is_within_in, size_in, HasValue}
+use Rattle.vq_canonical_laws.specs.FormatRules.{KeepsRules, JobFits, IsWholeMark, IsCommandOf, HasValue}
+use Rattle.vq_model.specs.LineFaults.{is_within}
+use Rattle.vq_model.specs.Context.{size_in}
 use Rattle.vq_canonical_laws.proofs.Cited.{ruled_is_written}
 use Rattle.vq_generator.specs.Generated.{buffer_names, timeline_names, small_buffer, timeline_from_zero, generated_script, generated_round, generated_batch, mark_at, others, buffer_in_round, copy_of_round, fill_of_round}
 
@@ -58,7 +60,7 @@ all_made P made (name ∷ names) h = (h name, all_made P made names h)
 -- The commands of a batch
 
 -- bytes of a buffer
-within : (b o n : ℕ) → b < 8 → 0 < n → o + n ≤ 64 → is_within_in generated_buffers b o n ≡ true
+within : (b o n : ℕ) → b < 8 → 0 < n → o + n ≤ 64 → is_within generated_buffers b o n ≡ true
 within b o n l some fits =
     ap (λ (size : ℕ). nat_lt o size && nat_lt 0 n && not (nat_lt size (o + n))) (size_of b l)
     ∙ and_from (nat_lt o 64 && nat_lt 0 n) (not (nat_lt 64 (o + n)))
@@ -77,8 +79,8 @@ copy_fits r q l =
     let source = buffer_in_round (r - 1) ((q + 1) % 4) in
     let target = buffer_in_round r q in
     record {
-      range = and_from (is_within_in generated_buffers source 0 64)
-          (is_within_in generated_buffers target 0 64)
+      range = and_from (is_within generated_buffers source 0 64)
+          (is_within generated_buffers target 0 64)
           (within source 0 64 (omega arith) (omega arith) (omega arith))
           (within target 0 64 (omega arith) (omega arith) (omega arith));
       apart = ap (λ (b : Bool). b && true) (apart target source (λ e. omega arith));
@@ -90,8 +92,8 @@ fill_fits r q last l =
     let target = buffer_in_round r q in
     let o = 4 * (r % 16) in
     record {
-      range = and_from (is_within_in generated_buffers target o 4 && is_aligned o) true
-          (and_from (is_within_in generated_buffers target o 4) (is_aligned o)
+      range = and_from (is_within generated_buffers target o 4 && is_aligned o) true
+          (and_from (is_within generated_buffers target o 4) (is_aligned o)
           (within target o 4 (omega arith) (omega arith) (omega arith)) (aligned (r % 16))) refl;
       apart = refl;
       numerals = (omega arith, omega arith, omega arith);

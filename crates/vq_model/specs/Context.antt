@@ -1,7 +1,7 @@
 -- What the lines before a line say: the part of the text, what is declared, the open batch.
 -- The context is always the list of the earlier lines. The format is this project's own.
 use Rattle.std.specs.Prelude.{List, fold, Option, Some, None, ℕ, Bool, ◌||◌, true, false, ◌&&◌, [], ◌∷◌}
-use Rattle.std.specs.Prelude.{count_by}
+use Rattle.std.specs.Prelude.{count_by, nat_lt, ◌+◌}
 use Rattle.std.specs.List.{filter_map, list_any, position, slice_get, after_last}
 use Rattle.std.specs.Str.{bytes_eq}
 use Rattle.std.specs.Option.{option_map_or}
@@ -13,6 +13,7 @@ use Rattle.vq_model.specs.declared.statement.Statement.TheVariants.{DeclareSemap
 use Rattle.vq_model.specs.declared.statement.Statement.TheVariants.{TakeHostStep, AddWait, AddCommand, AddSignal}
 use Rattle.vq_model.specs.declared.statement.Statement.TheVariants.{AddFence, TakeTurns}
 use Rattle.vq_model.specs.declared.statement.Line.{Line}
+use Rattle.vq_model.specs.Forms.{Slot, BufferName, TimelineName, BinaryName, FenceName, QueueName, ThreadedName}
 use Rattle.vq_model.specs.declared.script.Buffer.{Buffer}
 use Rattle.vq_model.specs.declared.script.Semaphore.{Semaphore}
 use Rattle.vq_model.specs.declared.script.Queue.{Queue}
@@ -71,11 +72,14 @@ abbrev pub queues : List Line → List Queue
 queues lines = filter_map queue_of lines
 
 -- some buffer, semaphore or queue has this name
+abbrev pub is_taken : List Buffer → List Semaphore → List Queue → List ℕ → Bool
+is_taken bs ss qs name =
+    list_any (λ b. bytes_eq name b.name) bs
+    || list_any (λ s. bytes_eq name s.name) ss
+    || list_any (λ q. bytes_eq name q.name) qs
+
 abbrev pub is_declared : List Line → List ℕ → Bool
-is_declared before name =
-    list_any (λ b. bytes_eq name b.name) (buffers before)
-    || list_any (λ s. bytes_eq name s.name) (semaphores before)
-    || list_any (λ q. bytes_eq name q.name) (queues before)
+is_declared before = is_taken (buffers before) (semaphores before) (queues before)
 
 -- Names
 
@@ -99,29 +103,25 @@ abbrev pub is_threaded : Mode → Bool
 is_threaded Threaded = true
 is_threaded other = false
 
--- the number of the buffer, timeline, binary semaphore, fence or queue of this name
-abbrev pub buffer_at : List Line → List ℕ → Option ℕ
-buffer_at before name = position (λ b. bytes_eq name b.name) (buffers before)
+-- the number of what has a name, among what is declared, of the kind that a place needs
+abbrev pub number_in : List Buffer → List Semaphore → List Queue → Slot → List ℕ → Option ℕ
+number_in bs ss qs BufferName name = position (λ b. bytes_eq name b.name) bs
+number_in bs ss qs TimelineName name =
+    position (λ s. bytes_eq name s.name && is_timeline s.kind) ss
+number_in bs ss qs BinaryName name = position (λ s. bytes_eq name s.name && is_binary s.kind) ss
+number_in bs ss qs FenceName name = position (λ s. bytes_eq name s.name && is_fence s.kind) ss
+number_in bs ss qs QueueName name = position (λ q. bytes_eq name q.name) qs
+number_in bs ss qs ThreadedName name =
+    position (λ q. bytes_eq name q.name && is_threaded q.mode) qs
+number_in bs ss qs place name = None
 
-abbrev pub timeline_at : List Line → List ℕ → Option ℕ
-timeline_at before name =
-    position (λ s. bytes_eq name s.name && is_timeline s.kind) (semaphores before)
+-- .. after these lines
+abbrev pub number_at : List Line → Slot → List ℕ → Option ℕ
+number_at before = number_in (buffers before) (semaphores before) (queues before)
 
-abbrev pub binary_at : List Line → List ℕ → Option ℕ
-binary_at before name = position (λ s. bytes_eq name s.name && is_binary s.kind) (semaphores before)
-
-abbrev pub fence_at : List Line → List ℕ → Option ℕ
-fence_at before name = position (λ s. bytes_eq name s.name && is_fence s.kind) (semaphores before)
-
-abbrev pub queue_at : List Line → List ℕ → Option ℕ
-queue_at before name = position (λ q. bytes_eq name q.name) (queues before)
-
-abbrev pub threaded_at : List Line → List ℕ → Option ℕ
-threaded_at before name = position (λ q. bytes_eq name q.name && is_threaded q.mode) (queues before)
-
--- the size of a buffer
-abbrev pub size_of : List Line → ℕ → ℕ
-size_of before b = option_map_or (λ x. x.size) (slice_get (buffers before) b) 0
+-- the size of a buffer, 0 where there is none
+abbrev pub size_in : List Buffer → ℕ → ℕ
+size_in bs b = option_map_or (λ x. x.size) (slice_get bs b) 0
 
 -- The version
 
@@ -164,6 +164,22 @@ abbrev pub is_batch_fence : Statement → Bool
 is_batch_fence (AddFence fence) = true
 is_batch_fence other = false
 
+abbrev pub is_job : Statement → Bool
+is_job s = is_submit s || is_host_step s
+
+-- the part of a batch to which a statement belongs; one of no batch has part 0
+abbrev pub part_of : Statement → ℕ
+part_of (AddWait pair from) = 1
+part_of (AddCommand command) = 2
+part_of (AddSignal pair) = 3
+part_of (AddFence fence) = 4
+part_of other = 0
+
+-- the command of its batch from which on a wait holds back
+abbrev pub held_from : Statement → ℕ
+held_from (AddWait pair from) = from
+held_from other = 0
+
 -- how many lines are such statements
 abbrev pub count : (Statement → Bool) → List Line → ℕ
 count test lines = count_by (λ line. test line.statement) lines
@@ -184,3 +200,8 @@ open_batch before = after_last (λ line. is_submit line.statement || is_end line
 abbrev pub turns_of : Statement → ℕ
 turns_of (TakeTurns actor count) = count
 turns_of other = 0
+
+-- a wait of a batch holds back no command of it, and not its signals either: it names a place past
+-- them
+abbrev pub waits_too_far : List Line → Bool
+waits_too_far batch = some (λ s. nat_lt (count is_command batch + 1) (held_from s)) batch

@@ -30,6 +30,8 @@ pub data Slot : Type 0 where
   BinaryName : Slot
   FenceName : Slot
   QueueName : Slot
+  -- .. of a threaded queue, after the mark of an actor
+  ThreadedName : Slot
   -- a numeral; one of 32 bits; an even number of hexadecimal digits
   Numeral : Slot
   SmallNumeral : Slot

@@ -2,8 +2,9 @@ pub mod Text
 pub mod Ranges
 pub mod Forms
 pub mod Context
-pub mod Meaning
 pub mod Limits
+pub mod Earlier
+pub mod Meaning
 pub mod LineFaults
 pub mod ScriptOfLines
 pub mod Reading

@@ -14,8 +14,13 @@ use Rattle.vq_model.specs.declared.statement.LineForm.TheVariants.{HeldTimelineL
 use Rattle.vq_model.specs.declared.statement.LineForm.TheVariants.{FillLine, UpdateLine, CopyLine, SignalTimelineLine}
 use Rattle.vq_model.specs.declared.statement.LineForm.TheVariants.{SignalBinaryLine, BatchFenceLine, EndLine}
 use Rattle.vq_model.specs.declared.statement.Statement.{Statement}
-use Rattle.vq_model.specs.declared.statement.Statement.TheVariants.{AddWait, AddCommand, AddSignal, AddFence}
+use Rattle.vq_model.specs.declared.statement.Statement.TheVariants.{AddWait, AddCommand}
 use Rattle.vq_model.specs.declared.statement.Statement.TheVariants.{DeclareBuffer, EndBatch, TakeTurns}
+use Rattle.vq_model.specs.declared.statement.Statement.TheVariants.{DeclareSemaphore, DeclareQueue, BeginBatch}
+use Rattle.vq_model.specs.declared.statement.Statement.TheVariants.{TakeHostStep, AddSignal}
+use Rattle.vq_model.specs.declared.script.HostStep.{HostStep}
+use Rattle.vq_model.specs.declared.script.HostStep.TheVariants.{WaitAll, WaitAny, PollAll, PollAny}
+use Rattle.vq_model.specs.declared.script.Pair.{Pair}
 use Rattle.vq_model.specs.declared.script.Command.{Command}
 use Rattle.vq_model.specs.declared.script.Command.TheVariants.{Fill, Update, Copy}
 use Rattle.vq_model.specs.declared.script.FillSize.TheVariants.{Whole, Count}
@@ -30,11 +35,11 @@ use Rattle.vq_model.specs.Text.{is_name, numeral, is_plain}
 use Rattle.vq_model.specs.Forms.{Slot, NewName, BufferName, TimelineName, BinaryName, FenceName, QueueName, Actor, word}
 use Rattle.vq_model.specs.Forms.{Numeral, SmallNumeral, HexDigits, places}
 use Rattle.vq_model.specs.Meaning.{is_actor, small_numeral, is_hex, actor_at, open_places, form_of, meaning}
-use Rattle.vq_model.specs.Context.{buffer_at, timeline_at, binary_at, fence_at, queue_at, is_declared, is_batch_fence}
-use Rattle.vq_model.specs.Context.{some, has_begun, open_batch, size_of, is_command, count, version_of, section}
-use Rattle.vq_model.specs.Context.{buffers}
+use Rattle.vq_model.specs.declared.script.Buffer.{Buffer}
+use Rattle.vq_model.specs.Context.{number_at, is_declared, buffers, size_in, section}
+use Rattle.vq_model.specs.Earlier.{Earlier, earlier}
 use Rattle.vq_model.specs.Ranges.{is_aligned, overlaps_itself}
-use Rattle.vq_model.specs.Limits.{limits_of, passes_limit}
+use Rattle.vq_model.specs.Limits.{update_bytes}
 
 -- Syntax, number, name, twice: words at places
 
@@ -57,19 +62,19 @@ is_numeric (HexDigits, word) = is_hex word
 is_numeric (other, word) = true
 
 -- Name: a name is declared, of the kind that its place needs
-abbrev pub is_known : List Line → Slot × List ℕ → Bool
-is_known before (BufferName, word) = is_some (buffer_at before word)
-is_known before (TimelineName, word) = is_some (timeline_at before word)
-is_known before (BinaryName, word) = is_some (binary_at before word)
-is_known before (FenceName, word) = is_some (fence_at before word)
-is_known before (QueueName, word) = is_some (queue_at before word)
-is_known before (Actor, word) = is_some (actor_at before word)
-is_known before (other, word) = true
+abbrev pub is_known : (Slot → List ℕ → Option ℕ) → Slot × List ℕ → Bool
+is_known number (BufferName, word) = is_some (number BufferName word)
+is_known number (TimelineName, word) = is_some (number TimelineName word)
+is_known number (BinaryName, word) = is_some (number BinaryName word)
+is_known number (FenceName, word) = is_some (number FenceName word)
+is_known number (QueueName, word) = is_some (number QueueName word)
+is_known number (Actor, word) = is_some (actor_at number word)
+is_known number (other, word) = true
 
 -- Twice: a declared name is new
-abbrev pub is_new : List Line → Slot × List ℕ → Bool
-is_new before (NewName, word) = not (is_declared before word)
-is_new before (other, word) = true
+abbrev pub is_new : (List ℕ → Bool) → Slot × List ℕ → Bool
+is_new taken (NewName, word) = not (taken word)
+is_new taken (other, word) = true
 
 -- some open place of a line fails a test
 abbrev pub fails : (Slot × List ℕ → Bool) → List (List ℕ) → LineForm → Bool
@@ -101,13 +106,6 @@ part_of_form BatchFenceLine = 4
 part_of_form EndLine = 5
 part_of_form other = 0
 
-abbrev pub part_of : Statement → ℕ
-part_of (AddWait pair from) = 1
-part_of (AddCommand command) = 2
-part_of (AddSignal pair) = 3
-part_of (AddFence fence) = 4
-part_of other = 0
-
 abbrev pub is_batch_fence_form : LineForm → Bool
 is_batch_fence_form BatchFenceLine = true
 is_batch_fence_form other = false
@@ -115,53 +113,70 @@ is_batch_fence_form other = false
 -- a declaration after the first `submit` or `host` line; a line of a batch that belongs to an
 -- earlier part than a line
 -- before it; a second fence of a batch
-abbrev pub is_out_of_order : List Line → LineForm → Bool
-is_out_of_order before form =
-    (is_declaration form && has_begun before)
-    || some (λ s. nat_lt (part_of_form form) (part_of s)) (open_batch before)
-    || (is_batch_fence_form form && some is_batch_fence (open_batch before))
+abbrev pub is_out_of_order : Earlier → LineForm → Bool
+is_out_of_order e form =
+    (is_declaration form && e.begun)
+    || e.later (part_of_form form)
+    || (is_batch_fence_form form && e.fenced)
 
 -- Range and overlap
 
 -- bytes that begin in a buffer, at least one, and end in it
-abbrev pub is_within : List Line → ℕ → ℕ → ℕ → Bool
-is_within before buffer offset size =
-    nat_lt offset (size_of before buffer) && nat_lt 0 size
-    && not (nat_lt (size_of before buffer) (offset + size))
+abbrev pub is_within : List Buffer → ℕ → ℕ → ℕ → Bool
+is_within bs buffer offset size =
+    nat_lt offset (size_in bs buffer) && nat_lt 0 size
+    && not (nat_lt (size_in bs buffer) (offset + size))
 
-abbrev pub is_command_in_range : List Line → Command → Bool
-is_command_in_range before (Fill b o Whole w) = nat_lt o (size_of before b) && is_aligned o
-is_command_in_range before (Fill b o (Count n) w) =
-    is_within before b o n && is_aligned o && is_aligned n
-is_command_in_range before (Update b o bytes) =
-    is_within before b o (length bytes) && is_aligned o && is_aligned (length bytes)
-    && not (nat_lt 65536 (length bytes))
-is_command_in_range before (Copy s from t to n) =
-    is_within before s from n && is_within before t to n
-
--- a wait of the batch holds back no command of it, and not its signals either: it names a place
--- past them
-abbrev pub waits_too_far : List Line → Bool
-waits_too_far batch = some (λ s. nat_lt (count is_command batch + 1) (place_of_wait s)) batch
-  where
-    place_of_wait : Statement → ℕ
-    place_of_wait (AddWait pair from) = from
-    place_of_wait other = 0
+abbrev pub is_command_in_range : List Buffer → Command → Bool
+is_command_in_range bs (Fill b o Whole w) = nat_lt o (size_in bs b) && is_aligned o
+is_command_in_range bs (Fill b o (Count n) w) =
+    is_within bs b o n && is_aligned o && is_aligned n
+is_command_in_range bs (Update b o bytes) =
+    is_within bs b o (length bytes) && is_aligned o && is_aligned (length bytes)
+    && not (nat_lt update_bytes (length bytes))
+is_command_in_range bs (Copy s from t to n) =
+    is_within bs s from n && is_within bs t to n
 
 -- sizes, offsets, places and counts are in range
-abbrev pub is_in_range : List Line → Statement → Bool
-is_in_range before (DeclareBuffer name size) = nat_lt 0 size
-is_in_range before (AddCommand command) = is_command_in_range before command
-is_in_range before (AddWait pair from) = nat_lt 0 from && nat_lt from 66
-is_in_range before EndBatch = not (waits_too_far (open_batch before))
-is_in_range before (TakeTurns actor count) = nat_lt 0 count
-is_in_range before other = true
+abbrev pub is_in_range : Earlier → Statement → Bool
+is_in_range e (DeclareBuffer name size) = nat_lt 0 size
+is_in_range e (AddCommand command) = is_command_in_range e.buffers command
+is_in_range e (AddWait pair from) = nat_lt 0 from && nat_lt from (e.most.batch_commands + 2)
+is_in_range e EndBatch = not e.too_far
+is_in_range e (TakeTurns actor count) = nat_lt 0 count
+is_in_range e other = true
 
 -- the two ranges of a copy share a byte of one buffer
-abbrev pub overlaps : List Line → Statement → Bool
-overlaps before (AddCommand command) =
-    overlaps_itself (map (λ b. b.size) (buffers before)) command
-overlaps before other = false
+abbrev pub overlaps : List Buffer → Statement → Bool
+overlaps bs (AddCommand command) = overlaps_itself (map (λ b. b.size) bs) command
+overlaps bs other = false
+
+-- Limit
+
+-- the pairs of a host step
+abbrev pub pairs_of : HostStep → List Pair
+pairs_of (WaitAll pairs) = pairs
+pairs_of (WaitAny pairs) = pairs
+pairs_of (PollAll pairs) = pairs
+pairs_of (PollAny pairs) = pairs
+pairs_of other = []
+
+-- the line takes a quantity past its limit
+abbrev pub passes_limit : Earlier → Statement → Bool
+passes_limit e (DeclareBuffer name size) =
+    not (nat_lt (length e.buffers) e.most.buffers) || nat_lt e.most.bytes (e.bytes + size)
+passes_limit e (DeclareSemaphore name kind) = not (nat_lt e.semaphores e.most.semaphores)
+passes_limit e (DeclareQueue name mode) = not (nat_lt e.queues e.most.queues)
+passes_limit e (BeginBatch queue) = not (nat_lt e.jobs e.most.jobs)
+passes_limit e (TakeHostStep step) =
+    not (nat_lt e.jobs e.most.jobs) || nat_lt e.most.pairs (length (pairs_of step))
+passes_limit e (AddWait pair from) = not (nat_lt e.open_waits e.most.waits)
+passes_limit e (AddCommand command) =
+    not (nat_lt e.commands e.most.commands)
+    || not (nat_lt e.open_commands e.most.batch_commands)
+passes_limit e (AddSignal pair) = not (nat_lt e.open_signals e.most.signals)
+passes_limit e (TakeTurns actor count) = nat_lt e.most.turns (e.turns + count)
+passes_limit e other = false
 
 -- The kinds
 
@@ -171,19 +186,19 @@ has_fault form before words Syntax =
     not (list_all (list_all is_plain) words)
     || option_map_or (fails is_shaped words) (form_of form before words) true
 has_fault form before words Order =
-    option_map_or (is_out_of_order before) (form_of form before words) false
+    option_map_or (is_out_of_order (earlier before)) (form_of form before words) false
 has_fault form before words Number =
     option_map_or (fails is_numeric words) (form_of form before words) false
 has_fault form before words Name =
-    option_map_or (fails (is_known before) words) (form_of form before words) false
+    option_map_or (fails (is_known (number_at before)) words) (form_of form before words) false
 has_fault form before words Twice =
-    option_map_or (fails (is_new before) words) (form_of form before words) false
+    option_map_or (fails (is_new (is_declared before)) words) (form_of form before words) false
 has_fault form before words Range =
-    option_map_or (λ s. not (is_in_range before s)) (meaning form before words) false
+    option_map_or (λ s. not (is_in_range (earlier before) s)) (meaning form before words) false
 has_fault form before words Overlap =
-    option_map_or (overlaps before) (meaning form before words) false
+    option_map_or (overlaps (buffers before)) (meaning form before words) false
 has_fault form before words Limit =
-    option_map_or (passes_limit (limits_of (version_of before)) before)
+    option_map_or (passes_limit (earlier before))
     (meaning form before words) false
 
 -- the kinds in their order

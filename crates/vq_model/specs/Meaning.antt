@@ -38,9 +38,9 @@ use Rattle.vq_model.specs.declared.script.HostStep.TheVariants.{PollAny, Read, F
 use Rattle.vq_model.specs.declared.script.Command.TheVariants.{Fill, Update, Copy}
 use Rattle.vq_model.specs.declared.script.FillSize.TheVariants.{Whole, Count}
 use Rattle.vq_model.specs.Forms.{forms_outside, forms_in_batch, forms_in_schedule, held_forms, schedule_forms, Slot}
-use Rattle.vq_model.specs.Forms.{Pairs, word, Fixed, places, TimelineName, Numeral}
-use Rattle.vq_model.specs.Context.{section, version_of, queue_at, threaded_at, timeline_at}
-use Rattle.vq_model.specs.Context.{buffer_at, binary_at, fence_at}
+use Rattle.vq_model.specs.Forms.{Pairs, word, Fixed, places, TimelineName, Numeral, BufferName, BinaryName}
+use Rattle.vq_model.specs.Forms.{FenceName, QueueName, ThreadedName}
+use Rattle.vq_model.specs.Context.{section, version_of, number_at}
 use Rattle.vq_model.specs.Text.{is_name, numeral}
 
 -- The form of a line
@@ -121,12 +121,12 @@ is_actor word =
     || ((is_marked 83 word || is_marked 82 word) && is_name (drop 2 word))
 
 -- the actor of a word
-abbrev pub actor_at : List Line → List ℕ → Option ActorName
-actor_at before word =
+abbrev pub actor_at : (Slot → List ℕ → Option ℕ) → List ℕ → Option ActorName
+actor_at number word =
     if bytes_eq word (codes "host") then Some HostActor
     else if is_marked 83 word then option_map (λ q. SubmitActor q)
-    (threaded_at before (drop 2 word))
-    else option_map (λ q. RingActor q) (queue_at before (drop 2 word))
+    (number ThreadedName (drop 2 word))
+    else option_map (λ q. RingActor q) (number QueueName (drop 2 word))
 
 -- a numeral of 32 bits
 abbrev pub small_numeral : List ℕ → Option ℕ
@@ -161,84 +161,84 @@ abbrev pub of_five : {A B C D E F : Type 0} → (A → B → C → D → E → F
 of_five f a b c d e = option_and_then (λ x. of_four (f x) b c d e) a
 
 -- the pair of a timeline's name and a numeral
-abbrev pub pair_at : List Line → List ℕ → List ℕ → Option Pair
-pair_at before name value =
-    of_two (λ t v. record { semaphore = t; value = v }) (timeline_at before name) (numeral value)
+abbrev pub pair_at : (Slot → List ℕ → Option ℕ) → List ℕ → List ℕ → Option Pair
+pair_at number name value =
+    of_two (λ t v. record { semaphore = t; value = v }) (number TimelineName name) (numeral value)
 
 -- the pairs of a host step
-abbrev pub pairs_at : List Line → List (List ℕ) → Option (List Pair)
-pairs_at before (name ∷ value ∷ words) =
-    of_two (λ p ps. p ∷ ps) (pair_at before name value) (pairs_at before words)
-pairs_at before words = Some []
+abbrev pub pairs_at : (Slot → List ℕ → Option ℕ) → List (List ℕ) → Option (List Pair)
+pairs_at number (name ∷ value ∷ words) =
+    of_two (λ p ps. p ∷ ps) (pair_at number name value) (pairs_at number words)
+pairs_at number words = Some []
 
 -- the pair of a binary semaphore, whose value is 0
 abbrev pub binary_pair : ℕ → Pair
 binary_pair s = record { semaphore = s; value = 0 }
 
--- What the words at a form's open places say.
-abbrev pub statement_of : List Line → LineForm → List (List ℕ) → Option Statement
-statement_of before VersionLine [] = Some (HasVersion 2)
-statement_of before BufferLine (name ∷ size ∷ []) =
+-- What the words at a form's open places say, where names have these numbers.
+abbrev pub statement_of : (Slot → List ℕ → Option ℕ) → LineForm → List (List ℕ) → Option Statement
+statement_of number VersionLine [] = Some (HasVersion 2)
+statement_of number BufferLine (name ∷ size ∷ []) =
     option_map (λ n. DeclareBuffer name n) (numeral size)
-statement_of before TimelineLine (name ∷ value ∷ []) =
+statement_of number TimelineLine (name ∷ value ∷ []) =
     option_map (λ v. DeclareSemaphore name (Timeline v)) (numeral value)
-statement_of before BinaryLine (name ∷ []) = Some (DeclareSemaphore name Binary)
-statement_of before FenceLine (name ∷ []) = Some (DeclareSemaphore name Fence)
-statement_of before (QueueLine mode) (name ∷ []) = Some (DeclareQueue name mode)
-statement_of before SubmitLine (queue ∷ []) = option_map (λ q. BeginBatch q) (queue_at before queue)
-statement_of before HostSignalLine (name ∷ value ∷ []) =
-    option_map (λ p. TakeHostStep (HostSignal p)) (pair_at before name value)
-statement_of before HostWaitAllLine words =
-    option_map (λ ps. TakeHostStep (WaitAll ps)) (pairs_at before words)
-statement_of before HostWaitAnyLine words =
-    option_map (λ ps. TakeHostStep (WaitAny ps)) (pairs_at before words)
-statement_of before HostPollAllLine words =
-    option_map (λ ps. TakeHostStep (PollAll ps)) (pairs_at before words)
-statement_of before HostPollAnyLine words =
-    option_map (λ ps. TakeHostStep (PollAny ps)) (pairs_at before words)
-statement_of before HostReadLine (name ∷ []) =
-    option_map (λ t. TakeHostStep (Read t)) (timeline_at before name)
-statement_of before HostFenceWaitLine (name ∷ []) =
-    option_map (λ f. TakeHostStep (FenceWait f)) (fence_at before name)
-statement_of before HostFencePollLine (name ∷ []) =
-    option_map (λ f. TakeHostStep (FencePoll f)) (fence_at before name)
-statement_of before HostFenceResetLine (name ∷ []) =
-    option_map (λ f. TakeHostStep (FenceReset f)) (fence_at before name)
-statement_of before HostIdleLine [] = Some (TakeHostStep Idle)
-statement_of before ScheduleLine [] = Some BeginSchedule
-statement_of before WaitTimelineLine (name ∷ value ∷ []) =
-    option_map (λ p. AddWait p 1) (pair_at before name value)
-statement_of before WaitBinaryLine (name ∷ []) =
-    option_map (λ s. AddWait (binary_pair s) 1) (binary_at before name)
-statement_of before HeldTimelineLine (name ∷ value ∷ place ∷ []) =
-    of_two (λ p k. AddWait p k) (pair_at before name value) (numeral place)
-statement_of before HeldBinaryLine (name ∷ place ∷ []) =
-    of_two (λ s k. AddWait (binary_pair s) k) (binary_at before name) (numeral place)
-statement_of before FillWholeLine (buffer ∷ offset ∷ word ∷ []) =
-    of_three (λ b o w. AddCommand (Fill b o Whole w)) (buffer_at before buffer) (numeral offset)
+statement_of number BinaryLine (name ∷ []) = Some (DeclareSemaphore name Binary)
+statement_of number FenceLine (name ∷ []) = Some (DeclareSemaphore name Fence)
+statement_of number (QueueLine mode) (name ∷ []) = Some (DeclareQueue name mode)
+statement_of number SubmitLine (queue ∷ []) = option_map (λ q. BeginBatch q) (number QueueName queue)
+statement_of number HostSignalLine (name ∷ value ∷ []) =
+    option_map (λ p. TakeHostStep (HostSignal p)) (pair_at number name value)
+statement_of number HostWaitAllLine words =
+    option_map (λ ps. TakeHostStep (WaitAll ps)) (pairs_at number words)
+statement_of number HostWaitAnyLine words =
+    option_map (λ ps. TakeHostStep (WaitAny ps)) (pairs_at number words)
+statement_of number HostPollAllLine words =
+    option_map (λ ps. TakeHostStep (PollAll ps)) (pairs_at number words)
+statement_of number HostPollAnyLine words =
+    option_map (λ ps. TakeHostStep (PollAny ps)) (pairs_at number words)
+statement_of number HostReadLine (name ∷ []) =
+    option_map (λ t. TakeHostStep (Read t)) (number TimelineName name)
+statement_of number HostFenceWaitLine (name ∷ []) =
+    option_map (λ f. TakeHostStep (FenceWait f)) (number FenceName name)
+statement_of number HostFencePollLine (name ∷ []) =
+    option_map (λ f. TakeHostStep (FencePoll f)) (number FenceName name)
+statement_of number HostFenceResetLine (name ∷ []) =
+    option_map (λ f. TakeHostStep (FenceReset f)) (number FenceName name)
+statement_of number HostIdleLine [] = Some (TakeHostStep Idle)
+statement_of number ScheduleLine [] = Some BeginSchedule
+statement_of number WaitTimelineLine (name ∷ value ∷ []) =
+    option_map (λ p. AddWait p 1) (pair_at number name value)
+statement_of number WaitBinaryLine (name ∷ []) =
+    option_map (λ s. AddWait (binary_pair s) 1) (number BinaryName name)
+statement_of number HeldTimelineLine (name ∷ value ∷ place ∷ []) =
+    of_two (λ p k. AddWait p k) (pair_at number name value) (numeral place)
+statement_of number HeldBinaryLine (name ∷ place ∷ []) =
+    of_two (λ s k. AddWait (binary_pair s) k) (number BinaryName name) (numeral place)
+statement_of number FillWholeLine (buffer ∷ offset ∷ word ∷ []) =
+    of_three (λ b o w. AddCommand (Fill b o Whole w)) (number BufferName buffer) (numeral offset)
     (small_numeral word)
-statement_of before FillLine (buffer ∷ offset ∷ size ∷ word ∷ []) =
-    of_four (λ b o n w. AddCommand (Fill b o (Count n) w)) (buffer_at before buffer)
+statement_of number FillLine (buffer ∷ offset ∷ size ∷ word ∷ []) =
+    of_four (λ b o n w. AddCommand (Fill b o (Count n) w)) (number BufferName buffer)
     (numeral offset) (numeral size) (small_numeral word)
-statement_of before UpdateLine (buffer ∷ offset ∷ digits ∷ []) =
-    of_two (λ b o. AddCommand (Update b o (hex_bytes digits))) (buffer_at before buffer)
+statement_of number UpdateLine (buffer ∷ offset ∷ digits ∷ []) =
+    of_two (λ b o. AddCommand (Update b o (hex_bytes digits))) (number BufferName buffer)
     (numeral offset)
-statement_of before CopyLine (source ∷ from ∷ target ∷ to ∷ size ∷ []) =
-    of_five (λ s so t o n. AddCommand (Copy s so t o n)) (buffer_at before source) (numeral from)
-    (buffer_at before target) (numeral to) (numeral size)
-statement_of before SignalTimelineLine (name ∷ value ∷ []) =
-    option_map (λ p. AddSignal p) (pair_at before name value)
-statement_of before SignalBinaryLine (name ∷ []) =
-    option_map (λ s. AddSignal (binary_pair s)) (binary_at before name)
-statement_of before BatchFenceLine (name ∷ []) = option_map (λ f. AddFence f) (fence_at before name)
-statement_of before EndLine [] = Some EndBatch
-statement_of before TurnLine (actor ∷ []) = option_map (λ a. TakeTurns a 1) (actor_at before actor)
-statement_of before TurnsLine (actor ∷ turns ∷ []) =
-    of_two (λ a n. TakeTurns a n) (actor_at before actor) (numeral turns)
-statement_of before form words = None
+statement_of number CopyLine (source ∷ from ∷ target ∷ to ∷ size ∷ []) =
+    of_five (λ s so t o n. AddCommand (Copy s so t o n)) (number BufferName source) (numeral from)
+    (number BufferName target) (numeral to) (numeral size)
+statement_of number SignalTimelineLine (name ∷ value ∷ []) =
+    option_map (λ p. AddSignal p) (pair_at number name value)
+statement_of number SignalBinaryLine (name ∷ []) =
+    option_map (λ s. AddSignal (binary_pair s)) (number BinaryName name)
+statement_of number BatchFenceLine (name ∷ []) = option_map (λ f. AddFence f) (number FenceName name)
+statement_of number EndLine [] = Some EndBatch
+statement_of number TurnLine (actor ∷ []) = option_map (λ a. TakeTurns a 1) (actor_at number actor)
+statement_of number TurnsLine (actor ∷ turns ∷ []) =
+    of_two (λ a n. TakeTurns a n) (actor_at number actor) (numeral turns)
+statement_of number form words = None
 
 -- What a line says after these lines, where its words are read.
 abbrev pub meaning : Form → List Line → List (List ℕ) → Option Statement
 meaning form before words =
-    option_and_then (λ f. statement_of before f (map (λ x. x.1) (open_places (places f) words)))
+    option_and_then (λ f. statement_of (number_at before) f (map (λ x. x.1) (open_places (places f) words)))
     (form_of form before words)

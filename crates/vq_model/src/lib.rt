@@ -2,6 +2,7 @@
 #![tactic(auto)]
 
 pub mod hexadecimal;
+pub mod limits;
 pub mod list;
 pub mod plan;
 pub mod ranges;

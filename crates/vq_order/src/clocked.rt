@@ -21,11 +21,20 @@ use vq_spec::Plan;
 
 /// A plan of which the slow run leaves no job, with two vector clocks for each job: the one says
 /// which jobs are before it, the other which signal operations are sure for it.
-#[derive(Drop)]
 pub(crate) struct Clocked {
     run: CompleteRun,
     before: Rows,
     sure: Rows,
+}
+
+impl Drop for Clocked {
+    fn drop(self) {
+        let Clocked {
+            run: _run,
+            before: _before,
+            sure: _sure,
+        } = self;
+    }
 }
 
 impl Model for Clocked {

@@ -13,11 +13,20 @@ use vq_spec::{Plan, SlowOrder};
 
 /// A plan of which the slow run leaves no job, with that run: its jobs in their order, and where
 /// each job stands.
-#[derive(Drop)]
 pub(crate) struct CompleteRun {
     plan: Plan,
     order: List<u32>,
     positions: Vec<u32>,
+}
+
+impl Drop for CompleteRun {
+    fn drop(self) {
+        let CompleteRun {
+            plan: _plan,
+            order: _order,
+            positions: _positions,
+        } = self;
+    }
 }
 
 impl Model for CompleteRun {

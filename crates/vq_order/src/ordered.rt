@@ -16,9 +16,14 @@ use std::marker::Model;
 use vq_spec::Plan;
 
 /// A lawful plan, with the order of its jobs and of its signals.
-#[derive(Drop)]
 pub struct Ordered {
     order: Clocked,
+}
+
+impl Drop for Ordered {
+    fn drop(self) {
+        let Ordered { order: _order } = self;
+    }
 }
 
 impl Model for Ordered {

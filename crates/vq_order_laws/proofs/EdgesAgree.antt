@@ -23,11 +23,11 @@ use Rattle.vq_order_laws.proofs.RisingChains.{rising_at}
 use Rattle.vq_order_laws.proofs.SlowFronts.{finished_earlier, signaled_earlier}
 
 -- where a job stands in the slow run
-abbrev stands : Plan → ℕ → ℕ
+abbrev pub stands : Plan → ℕ → ℕ
 stands p j = place (slow_order p) j
 
 -- what is sure for a job is signaled by one that stands earlier
-sure_stands : (p : Plan) (e i j : ℕ) → job_of p e ≡ Some i → IsSure p e j → stands p i < stands p j
+pub sure_stands : (p : Plan) (e i j : ℕ) → job_of p e ≡ Some i → IsSure p e j → stands p i < stands p j
 sure_stands p e i j at (finished_first f) =
     let same = same_some f.job i (sym f.of_job ∙ at) in
     let l = ltb-true (stands p f.job) (stands p j) f.earlier in

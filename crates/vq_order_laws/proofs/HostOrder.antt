@@ -193,3 +193,24 @@ sure_for_last p i reach e r j =
         let x = host_at s r h in
         let y = batch_at s j l b in
         last_sure s reach hosts e r j x.0 y.0 x.1 y.1 m sure
+
+-- A batch that is written after a host step waits for the last one before it, which is no earlier.
+pub host_is_last : (p : Plan) → IsPlan p → (r j : ℕ) → j < length p.jobs → is_host_step p j ≡ false → r < j →
+    is_host_step p r ≡ true → (h : ℕ) × (r ≤ h) × (is_host_step p h ≡ true) × (host_before p j ≡ Some h)
+host_is_last p i r j =
+    subst
+    (λ (q : Plan). j < length q.jobs → is_host_step q j ≡ false → r < j → is_host_step q r ≡ true →
+    (h : ℕ) × (r ≤ h) × (is_host_step q h ≡ true) × (host_before q j ≡ Some h))
+    (sym i.lowered) by_lines
+  where
+    s : Script
+    s = p.script
+
+    by_lines : j < length (plan_of s).jobs → is_host_step (plan_of s) j ≡ false → r < j →
+        is_host_step (plan_of s) r ≡ true →
+        (h : ℕ) × (r ≤ h) × (is_host_step (plan_of s) h ≡ true) × (host_before (plan_of s) j ≡ Some h)
+    by_lines l b m h =
+        let x = host_at s r h in
+        let y = batch_at s j l b in
+        let z = last_step s r j x.0 y.0 x.1 y.1 m in
+        (z.step, z.at_or_later, z.is_host, z.is_last)

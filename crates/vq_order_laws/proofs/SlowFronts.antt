@@ -34,7 +34,7 @@ ready_at p done (i ∷ rest) (x ∷ front) back j r e =
     (ready_at p (done ++ i ∷ []) rest front back j r.2 more)
 
 -- what a payload has reached that is above its initial value, an operation has set
-reached_by : (p : Plan) (done : List ℕ) (v n : ℕ) (es : List ℕ) → n < v →
+pub reached_by : (p : Plan) (done : List ℕ) (v n : ℕ) (es : List ℕ) → n < v →
     v ≤ greatest n (map (value p) (filter (is_of p done) es)) →
     (g : ℕ) × (has es g ≡ true) × (is_of p done g ≡ true) × (v ≤ value p g)
 reached_by p done v n [] l h = absurd (omega arith)

@@ -1,7 +1,7 @@
 -- Commands whose ranges were tested fit.
 use Rattle.std.proofs.Common.{ℕ, List, map, ◌≡◌, zero, suc, ◌<◌, [], ◌∷◌, length, refl, arith, ◌+◌, Bool, true, false, not, ◌&&◌}
 use Rattle.vq_model.specs.declared.statement.Line.{Line}
-use Rattle.vq_model.specs.Context.{buffers, size_of}
+use Rattle.vq_model.specs.Context.{buffers}
 use Rattle.std.specs.List.{slice_get, slice_index_or}
 use Rattle.std.specs.Option.{option_map_or}
 use Rattle.vq_model.specs.declared.script.Buffer.{Buffer}
@@ -12,6 +12,7 @@ use Rattle.vq_model.specs.Ranges.{IsWithin, Fits, is_aligned, overlaps_itself}
 use Rattle.vq_model.specs.declared.script.Command.{Command}
 use Rattle.vq_model.specs.declared.script.Command.TheVariants.{Fill, Update, Copy}
 use Rattle.vq_model.specs.declared.script.FillSize.TheVariants.{Whole, Count}
+use Rattle.vq_model.specs.Context.{size_in}
 
 -- the sizes of the buffers that lines declare
 abbrev pub sizes_before : List Line → List ℕ
@@ -28,17 +29,17 @@ size_is (x ∷ bs) zero l = (omega arith, refl)
 size_is (x ∷ bs) (suc b) l = let r = size_is bs b l in let q = r.0 in (omega arith, r.1)
 
 -- bytes within a buffer
-within : (before : List Line) (b o n : ℕ) → is_within before b o n ≡ true →
+within : (before : List Line) (b o n : ℕ) → is_within (buffers before) b o n ≡ true →
     IsWithin (sizes_before before) (record { buffer = b; start = o; size = n })
 within before b o n h =
     let parts =
-    and_parts (nat_lt o (size_of before b) && nat_lt 0 n)
-    (not (nat_lt (size_of before b) (o + n))) h in
-    let front = and_parts (nat_lt o (size_of before b)) (nat_lt 0 n) parts.0 in
-    let some = ltb-true o (size_of before b) front.0 in
+    and_parts (nat_lt o (size_in (buffers before) b) && nat_lt 0 n)
+    (not (nat_lt (size_in (buffers before) b) (o + n))) h in
+    let front = and_parts (nat_lt o (size_in (buffers before) b)) (nat_lt 0 n) parts.0 in
+    let some = ltb-true o (size_in (buffers before) b) front.0 in
     let ends =
-    ltb-false (size_of before b) (o + n)
-    (not_true (nat_lt (size_of before b) (o + n)) parts.1) in
+    ltb-false (size_in (buffers before) b) (o + n)
+    (not_true (nat_lt (size_in (buffers before) b) (o + n)) parts.1) in
     let size = size_is (buffers before) b (omega arith) in
     let same = size.1 in
     record { exists = size.0; ends = omega arith }
@@ -48,11 +49,11 @@ within before b o n h =
     not_true false h = refl
 
 -- A command in range that doesn't overlap itself fits its buffers.
-pub fits_in_range : (before : List Line) (c : Command) → is_command_in_range before c ≡ true →
+pub fits_in_range : (before : List Line) (c : Command) → is_command_in_range (buffers before) c ≡ true →
     overlaps_itself (sizes_before before) c ≡ false → Fits (sizes_before before) c
 fits_in_range before (Fill b o Whole w) h k =
-    let parts = and_parts (nat_lt o (size_of before b)) (is_aligned o) h in
-    let some = ltb-true o (size_of before b) parts.0 in
+    let parts = and_parts (nat_lt o (size_in (buffers before) b)) (is_aligned o) h in
+    let some = ltb-true o (size_in (buffers before) b) parts.0 in
     let size = size_is (buffers before) b (omega arith) in
     let same = size.1 in
     record {
@@ -63,8 +64,8 @@ fits_in_range before (Fill b o Whole w) h k =
       apart = k;
     }
 fits_in_range before (Fill b o (Count n) w) h k =
-    let parts = and_parts (is_within before b o n && is_aligned o) (is_aligned n) h in
-    let front = and_parts (is_within before b o n) (is_aligned o) parts.0 in
+    let parts = and_parts (is_within (buffers before) b o n && is_aligned o) (is_aligned n) h in
+    let front = and_parts (is_within (buffers before) b o n) (is_aligned o) parts.0 in
     record {
       written = within before b o n front.0;
       read = tt;
@@ -78,12 +79,12 @@ fits_in_range before (Fill b o (Count n) w) h k =
     both false b h k = h
 fits_in_range before (Update b o bytes) h k =
     let parts =
-    and_parts (is_within before b o (length bytes) && is_aligned o && is_aligned (length bytes))
+    and_parts (is_within (buffers before) b o (length bytes) && is_aligned o && is_aligned (length bytes))
     (not (nat_lt 65536 (length bytes))) h in
     let front =
-    and_parts (is_within before b o (length bytes) && is_aligned o) (is_aligned (length bytes))
+    and_parts (is_within (buffers before) b o (length bytes) && is_aligned o) (is_aligned (length bytes))
     parts.0 in
-    let first = and_parts (is_within before b o (length bytes)) (is_aligned o) front.0 in
+    let first = and_parts (is_within (buffers before) b o (length bytes)) (is_aligned o) front.0 in
     record {
       written = within before b o (length bytes) first.0;
       read = tt;
@@ -96,7 +97,7 @@ fits_in_range before (Update b o bytes) h k =
     both true b h k = k
     both false b h k = h
 fits_in_range before (Copy s from t to n) h k =
-    let parts = and_parts (is_within before s from n) (is_within before t to n) h in
+    let parts = and_parts (is_within (buffers before) s from n) (is_within (buffers before) t to n) h in
     record {
       written = within before t to n parts.1;
       read =

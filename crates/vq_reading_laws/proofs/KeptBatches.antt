@@ -17,13 +17,13 @@ use Rattle.vq_model.specs.Ranges.{Fits}
 use Rattle.vq_model.specs.declared.script.Batch.{Batch}
 use Rattle.vq_model.specs.declared.script.Job.{Job}
 use Rattle.vq_model.specs.declared.script.Job.TheVariants.{Host, Batch as BatchJob}
-use Rattle.vq_model.specs.Limits.{is_job}
 use Rattle.vq_model.specs.Lowering.{commands_in}
 use Rattle.std.proofs.lemmas.List.Sums.{sum_by-cons}
 use Rattle.vq_model.specs.declared.statement.Statement.{Statement}
 use Rattle.vq_model.specs.declared.statement.Statement.TheVariants.{DeclareBuffer, DeclareSemaphore, DeclareQueue, BeginBatch, AddWait, AddCommand, AddSignal, AddFence, EndBatch, BeginSchedule, TakeTurns, TakeHostStep}
 use Rattle.vq_model.specs.declared.script.HostStep.{HostStep}
 use Rattle.vq_model.specs.declared.script.Command.{Command}
+use Rattle.vq_model.specs.Context.{is_job}
 use Rattle.vq_reading_laws.proofs.LinePushes.{a_line}
 
 -- the lines of a batch, line by line

@@ -3,7 +3,6 @@ use Rattle.std.proofs.Common.{◌≡◌, ℕ, ◌<◌, ◌≤◌, true, List, le
 use Rattle.std.specs.Prelude.{sum}
 use Rattle.vq_model.specs.declared.statement.Line.{Line}
 use Rattle.vq_model.specs.Context.{buffers, semaphores, queues, is_command, count, section, buffer_of, semaphore_of, queue_of, some, turns_of}
-use Rattle.vq_model.specs.Limits.{is_job}
 use Rattle.vq_model.specs.ScriptOfLines.{is_schedule}
 use Rattle.vq_model.specs.declared.statement.Form.{Form}
 use Rattle.vq_model.specs.declared.statement.Form.TheVariants.{Scheduled}
@@ -28,6 +27,7 @@ use Rattle.vq_reading_laws.proofs.LineFacts.{Said, turns_before}
 use Rattle.vq_model.specs.declared.statement.Section.{Section}
 use Rattle.vq_model.specs.declared.statement.Section.TheVariants.{Outside, InBatch, InSchedule}
 use Rattle.vq_model.specs.declared.statement.Statement.TheVariants.{DeclareBuffer, DeclareSemaphore, DeclareQueue, BeginBatch, AddWait, AddCommand, AddSignal, AddFence, EndBatch, BeginSchedule, TakeTurns, TakeHostStep}
+use Rattle.vq_model.specs.Context.{is_job}
 
 -- What is kept from line to line
 

@@ -2,7 +2,8 @@
 use Rattle.std.proofs.Common.{List, map, ◌≡◌, false, Some, ℕ, ◌<◌, ◌+◌, ◌≤◌, length, Bool, true, cond, [], ◌∷◌, find, subst, ◌++◌, ◌==◌, refl, Option, None, arith, not, suc, zero, ap, ◌&&◌, ◌||◌, option_map, sym, ◌∙◌}
 use Rattle.vq_model.specs.declared.statement.Line.{Line}
 use Rattle.vq_model.specs.declared.script.SemaphoreKind.{SemaphoreKind}
-use Rattle.vq_model.specs.Context.{semaphores, queues, is_timeline, is_fence, open_batch, some, is_wait, count, is_command, is_signal, buffers, version_of, is_binary, section, has_begun, is_batch_fence, queue_at, buffer_at, timeline_at, binary_at, fence_at, threaded_at, is_threaded, turns_of}
+use Rattle.vq_model.specs.Earlier.{earlier}
+use Rattle.vq_model.specs.Context.{semaphores, queues, is_timeline, is_fence, open_batch, some, is_wait, count, is_command, is_signal, buffers, version_of, is_binary, section, has_begun, is_batch_fence, is_threaded, turns_of}
 use Rattle.vq_model.specs.declared.script.Mode.{Mode}
 use Rattle.vq_model.specs.declared.script.Mode.TheVariants.{Immediate, Deferred, Threaded}
 use Rattle.vq_model.specs.declared.script.ActorName.{ActorName}
@@ -10,7 +11,7 @@ use Rattle.vq_model.specs.declared.script.ActorName.TheVariants.{Host as HostAct
 use Rattle.std.specs.List.{slice_get, list_all, position, position_or_len}
 use Rattle.vq_model.specs.declared.script.Pair.{Pair}
 use Rattle.std.specs.Prelude.{nat_lt, sum}
-use Rattle.vq_model.specs.LineFaults.{part_of, fault_of, has_fault, part_of_form, is_out_of_order, is_declaration, is_batch_fence_form, is_in_range, overlaps}
+use Rattle.vq_model.specs.LineFaults.{fault_of, has_fault, part_of_form, is_out_of_order, is_declaration, is_batch_fence_form, is_in_range, overlaps}
 use Rattle.vq_model.specs.declared.script.Command.{Command}
 use Rattle.vq_model.specs.Ranges.{Fits}
 use Rattle.vq_reading_laws.proofs.CommandRanges.{sizes_before, fits_in_range}
@@ -22,7 +23,6 @@ use Rattle.vq_model.specs.declared.script.HostStep.{HostStep}
 use Rattle.vq_model.specs.declared.script.HostStep.TheVariants.{WaitAll, WaitAny, PollAll, PollAny, Read, FenceWait, FencePoll, FenceReset, Idle}
 use Rattle.vq_reading_laws.proofs.NamedSemaphores.{found_at, kind_at, kinds_before, IsStepOf, SaysStep, timeline_named, fence_named, says_pair, says_pairs, says_name}
 use Rattle.vq_model.specs.declared.script.SemaphoreKind.TheVariants.{Fence, Timeline, Binary}
-use Rattle.vq_model.specs.Limits.{is_job, limits_of, passes_limit, pairs_of}
 use Rattle.vq_model.specs.declared.statement.LineForm.{LineForm}
 use Rattle.vq_model.specs.declared.statement.LineForm.TheVariants.{BufferLine, TimelineLine, BinaryLine, FenceLine, QueueLine, SubmitLine, WaitTimelineLine, WaitBinaryLine, FillWholeLine, FillLine, UpdateLine, CopyLine, SignalTimelineLine, SignalBinaryLine, BatchFenceLine, EndLine, ScheduleLine, TurnLine, TurnsLine, HostSignalLine, HostWaitAllLine, HostWaitAnyLine, HostPollAllLine, HostPollAnyLine, HostReadLine, HostFenceWaitLine, HostFencePollLine, HostFenceResetLine, HostIdleLine}
 use Rattle.std.proofs.lemmas.List.{length-map}
@@ -40,6 +40,9 @@ use Rattle.vq_model.specs.declared.statement.FaultKind.TheVariants.{Syntax, Orde
 use Rattle.vq_model.specs.declared.script.Command.TheVariants.{Fill, Update, Copy}
 use Rattle.vq_model.specs.declared.script.FillSize.TheVariants.{Whole, Count}
 use Rattle.vq_model.specs.Text.{numeral}
+use Rattle.vq_model.specs.Context.{number_at, is_job, part_of}
+use Rattle.vq_model.specs.LineFaults.{pairs_of, passes_limit}
+use Rattle.vq_model.specs.Forms.{BufferName, TimelineName, BinaryName, FenceName, QueueName, ThreadedName}
 
 -- What a line says
 
@@ -344,7 +347,7 @@ threaded_is Threaded e = refl
 
 module _ (form : Form) (before : List Line) where
   -- a timeline's name and a value
-  timeline_mark : (name : List ℕ) (t v : ℕ) → timeline_at before name ≡ Some t →
+  timeline_mark : (name : List ℕ) (t v : ℕ) → number_at before TimelineName name ≡ Some t →
       IsMarkOf (kinds_before before) (record { semaphore = t; value = v })
   timeline_mark name t v e =
       let f = found_at (λ s. bytes_eq name s.name && is_timeline s.kind) (semaphores before) t e in
@@ -357,7 +360,7 @@ module _ (form : Form) (before : List Line) where
       }
 
   -- a binary semaphore's name
-  binary_mark : (name : List ℕ) (t : ℕ) → binary_at before name ≡ Some t →
+  binary_mark : (name : List ℕ) (t : ℕ) → number_at before BinaryName name ≡ Some t →
       IsMarkOf (kinds_before before) (binary_pair t)
   binary_mark name t e =
       let f = found_at (λ s. bytes_eq name s.name && is_binary s.kind) (semaphores before) t e in
@@ -370,7 +373,7 @@ module _ (form : Form) (before : List Line) where
       }
 
   -- a fence's name
-  fence_kind : (name : List ℕ) (t : ℕ) → fence_at before name ≡ Some t →
+  fence_kind : (name : List ℕ) (t : ℕ) → number_at before FenceName name ≡ Some t →
       slice_get (kinds_before before) t ≡ Some Fence
   fence_kind name t e =
       let f = found_at (λ s. bytes_eq name s.name && is_fence s.kind) (semaphores before) t e in
@@ -390,7 +393,7 @@ module _ (form : Form) (before : List Line) where
       subst (Shape form before Outside 0) (same_statement (DeclareSemaphore name (Timeline v)) s h)
       (a_semaphore name (Timeline v))
 
-  batch_shape : (queue : List ℕ) (o : Option ℕ) (s : Statement) → queue_at before queue ≡ o →
+  batch_shape : (queue : List ℕ) (o : Option ℕ) (s : Statement) → number_at before QueueName queue ≡ o →
       option_map (λ q. BeginBatch q) o ≡ Some s → Shape form before Outside 0 s
   batch_shape queue None s e h = absurd (let c : None ≡ Some s = h in cc)
   batch_shape queue (Some q) s e h =
@@ -401,7 +404,7 @@ module _ (form : Form) (before : List Line) where
   command_shape s c = subst (Shape form before InBatch 2) c.1 (a_command c.0)
 
   -- a wait of a timeline, of a binary semaphore
-  wait_shape : (name : List ℕ) (t v : Option ℕ) (s : Statement) → timeline_at before name ≡ t →
+  wait_shape : (name : List ℕ) (t v : Option ℕ) (s : Statement) → number_at before TimelineName name ≡ t →
       option_map (λ p. AddWait p 1) (of_two (λ x y. record { semaphore = x; value = y }) t v)
       ≡ Some s → Shape form before InBatch 1 s
   wait_shape name None v s e h = absurd (cc)
@@ -411,7 +414,7 @@ module _ (form : Form) (before : List Line) where
       (same_statement (AddWait (record { semaphore = t; value = v }) 1) s h)
       (a_wait (record { semaphore = t; value = v }) (timeline_mark name t v e))
 
-  binary_wait_shape : (name : List ℕ) (t : Option ℕ) (s : Statement) → binary_at before name ≡ t →
+  binary_wait_shape : (name : List ℕ) (t : Option ℕ) (s : Statement) → number_at before BinaryName name ≡ t →
       option_map (λ x. AddWait (binary_pair x) 1) t ≡ Some s → Shape form before InBatch 1 s
   binary_wait_shape name None s e h = absurd (let c : None ≡ Some s = h in cc)
   binary_wait_shape name (Some t) s e h =
@@ -419,7 +422,7 @@ module _ (form : Form) (before : List Line) where
       (a_wait (binary_pair t) (binary_mark name t e))
 
   -- a signal of a timeline, of a binary semaphore
-  signal_shape : (name : List ℕ) (t v : Option ℕ) (s : Statement) → timeline_at before name ≡ t →
+  signal_shape : (name : List ℕ) (t v : Option ℕ) (s : Statement) → number_at before TimelineName name ≡ t →
       option_map (λ p. AddSignal p) (of_two (λ x y. record { semaphore = x; value = y }) t v)
       ≡ Some s → Shape form before InBatch 3 s
   signal_shape name None v s e h = absurd (cc)
@@ -430,14 +433,14 @@ module _ (form : Form) (before : List Line) where
       (a_signal (record { semaphore = t; value = v }) (timeline_mark name t v e))
 
   binary_signal_shape : (name : List ℕ) (t : Option ℕ) (s : Statement) →
-      binary_at before name ≡ t →
+      number_at before BinaryName name ≡ t →
       option_map (λ x. AddSignal (binary_pair x)) t ≡ Some s → Shape form before InBatch 3 s
   binary_signal_shape name None s e h = absurd (let c : None ≡ Some s = h in cc)
   binary_signal_shape name (Some t) s e h =
       subst (Shape form before InBatch 3) (same_statement (AddSignal (binary_pair t)) s h)
       (a_signal (binary_pair t) (binary_mark name t e))
 
-  fence_shape : (name : List ℕ) (t : Option ℕ) (s : Statement) → fence_at before name ≡ t →
+  fence_shape : (name : List ℕ) (t : Option ℕ) (s : Statement) → number_at before FenceName name ≡ t →
       option_map (λ f. AddFence f) t ≡ Some s → Shape form before InBatch 4 s
   fence_shape name None s e h = absurd (let c : None ≡ Some s = h in cc)
   fence_shape name (Some t) s e h =
@@ -448,14 +451,14 @@ module _ (form : Form) (before : List Line) where
   step_shape s said = subst (Shape form before Outside 0) said.2 (a_step said.0 said.1)
 
   -- an actor's name
-  actor_is : (word : List ℕ) (o : Option ActorName) (a : ActorName) → actor_at before word ≡ o →
+  actor_is : (word : List ℕ) (o : Option ActorName) (a : ActorName) → actor_at (number_at before) word ≡ o →
       o ≡ Some a → IsActorOf (modes_before before) a
   actor_is word o a e h = by_host (bytes_eq word (codes "host")) refl (e ∙ h)
     where
       name : List ℕ
       name = drop 2 word
 
-      by_submit : (o : Option ℕ) → threaded_at before name ≡ o →
+      by_submit : (o : Option ℕ) → number_at before ThreadedName name ≡ o →
           option_map (λ q. SubmitActor q) o ≡ Some a → IsActorOf (modes_before before) a
       by_submit None i g = absurd (let c : None ≡ Some a = g in cc)
       by_submit (Some q) i g =
@@ -464,7 +467,7 @@ module _ (form : Form) (before : List Line) where
           let k = and_parts (bytes_eq name f.0.name) (is_threaded f.0.mode) f.2 in
           mode_at (queues before) q f.0 f.1 ∙ ap Some (threaded_is f.0.mode k.1))
 
-      by_ring : (o : Option ℕ) → queue_at before name ≡ o →
+      by_ring : (o : Option ℕ) → number_at before QueueName name ≡ o →
           option_map (λ q. RingActor q) o ≡ Some a → IsActorOf (modes_before before) a
       by_ring None i g = absurd (let c : None ≡ Some a = g in cc)
       by_ring (Some q) i g =
@@ -474,15 +477,15 @@ module _ (form : Form) (before : List Line) where
 
       of_queue : Bool → Option ActorName
       of_queue b =
-          cond b (option_map (λ q. SubmitActor q) (threaded_at before name))
-          (option_map (λ q. RingActor q) (queue_at before name))
+          cond b (option_map (λ q. SubmitActor q) (number_at before ThreadedName name))
+          (option_map (λ q. RingActor q) (number_at before QueueName name))
 
       by_mark : (b : Bool) → of_queue b ≡ Some a →
           IsActorOf (modes_before before) a
-      by_mark true g = by_submit (threaded_at before name) refl g
-      by_mark false g = by_ring (queue_at before name) refl g
+      by_mark true g = by_submit (number_at before ThreadedName name) refl g
+      by_mark false g = by_ring (number_at before QueueName name) refl g
 
-      by_host : (b : Bool) → bytes_eq word (codes "host") ≡ b → actor_at before word ≡ Some a →
+      by_host : (b : Bool) → bytes_eq word (codes "host") ≡ b → actor_at (number_at before) word ≡ Some a →
           IsActorOf (modes_before before) a
       by_host true i g =
           subst (IsActorOf (modes_before before))
@@ -492,7 +495,7 @@ module _ (form : Form) (before : List Line) where
           by_mark (is_marked 83 word)
           (sym (ap (λ (b : Bool). cond b (Some HostActor) (of_queue (is_marked 83 word))) i) ∙ g)
 
-  turn_shape : (word : List ℕ) (o : Option ActorName) (s : Statement) → actor_at before word ≡ o →
+  turn_shape : (word : List ℕ) (o : Option ActorName) (s : Statement) → actor_at (number_at before) word ≡ o →
       option_map (λ a. TakeTurns a 1) o ≡ Some s → Shape form before InSchedule 0 s
   turn_shape word None s e h = absurd (let c : None ≡ Some s = h in cc)
   turn_shape word (Some a) s e h =
@@ -500,7 +503,7 @@ module _ (form : Form) (before : List Line) where
       (some_turns a 1 (actor_is word (Some a) a e refl))
 
   turns_shape : (word : List ℕ) (o : Option ActorName) (n : Option ℕ) (s : Statement) →
-      actor_at before word ≡ o → of_two (λ a m. TakeTurns a m) o n ≡ Some s →
+      actor_at (number_at before) word ≡ o → of_two (λ a m. TakeTurns a m) o n ≡ Some s →
       Shape form before InSchedule 0 s
   turns_shape word None n s e h = absurd (let c : None ≡ Some s = h in cc)
   turns_shape word (Some a) None s e h = absurd (let c : None ≡ Some s = h in cc)
@@ -517,7 +520,7 @@ module _ (form : Form) (before : List Line) where
   -- the words of a form that is built and stands where it may
   shape : (was : Section) (f : LineForm) (words : List (List ℕ)) (s : Statement) →
       belongs was f ≡ true → suits_text form f ≡ true → is_built f ≡ true →
-      statement_of before f words ≡ Some s → Shape form before was (part_of_form f) s
+      statement_of (number_at before) f words ≡ Some s → Shape form before was (part_of_form f) s
   shape Outside BufferLine (name ∷ size ∷ []) s g t b h = buffer_shape name (numeral size) s h
   shape Outside TimelineLine (name ∷ value ∷ []) s g t b h = timeline_shape name (numeral value) s h
   shape Outside BinaryLine (name ∷ []) s g t b h =
@@ -529,59 +532,59 @@ module _ (form : Form) (before : List Line) where
   shape Outside (QueueLine mode) (name ∷ []) s g t b h =
       subst (Shape form before Outside 0) (same_statement (DeclareQueue name mode) s h)
       (a_queue name mode)
-  shape Outside SubmitLine (queue ∷ []) s g t b h = batch_shape queue (queue_at before queue) s refl h
+  shape Outside SubmitLine (queue ∷ []) s g t b h = batch_shape queue (number_at before QueueName queue) s refl h
   shape Outside HostSignalLine (name ∷ value ∷ []) s g t b h =
-      step_shape s (says_pair before name (timeline_at before name) (numeral value) s refl h)
+      step_shape s (says_pair before name (number_at before TimelineName name) (numeral value) s refl h)
   shape Outside HostWaitAllLine words s g t b h =
-      step_shape s (says_pairs before WaitAll words (pairs_at before words) s (λ qs a. a) refl h)
+      step_shape s (says_pairs before WaitAll words (pairs_at (number_at before) words) s (λ qs a. a) refl h)
   shape Outside HostWaitAnyLine words s g t b h =
-      step_shape s (says_pairs before WaitAny words (pairs_at before words) s (λ qs a. a) refl h)
+      step_shape s (says_pairs before WaitAny words (pairs_at (number_at before) words) s (λ qs a. a) refl h)
   shape Outside HostPollAllLine words s g t b h =
-      step_shape s (says_pairs before PollAll words (pairs_at before words) s (λ qs a. a) refl h)
+      step_shape s (says_pairs before PollAll words (pairs_at (number_at before) words) s (λ qs a. a) refl h)
   shape Outside HostPollAnyLine words s g t b h =
-      step_shape s (says_pairs before PollAny words (pairs_at before words) s (λ qs a. a) refl h)
+      step_shape s (says_pairs before PollAny words (pairs_at (number_at before) words) s (λ qs a. a) refl h)
   shape Outside HostReadLine (name ∷ []) s g t b h =
       step_shape s
-      (says_name before Read (timeline_at before name) s (timeline_named before name) h)
+      (says_name before Read (number_at before TimelineName name) s (timeline_named before name) h)
   shape Outside HostFenceWaitLine (name ∷ []) s g t b h =
-      step_shape s (says_name before FenceWait (fence_at before name) s (fence_named before name) h)
+      step_shape s (says_name before FenceWait (number_at before FenceName name) s (fence_named before name) h)
   shape Outside HostFencePollLine (name ∷ []) s g t b h =
-      step_shape s (says_name before FencePoll (fence_at before name) s (fence_named before name) h)
+      step_shape s (says_name before FencePoll (number_at before FenceName name) s (fence_named before name) h)
   shape Outside HostFenceResetLine (name ∷ []) s g t b h =
-      step_shape s (says_name before FenceReset (fence_at before name) s (fence_named before name) h)
+      step_shape s (says_name before FenceReset (number_at before FenceName name) s (fence_named before name) h)
   shape Outside HostIdleLine [] s g t b h = step_shape s (Idle, tt, same_statement (TakeHostStep Idle) s h)
   shape InBatch WaitTimelineLine (name ∷ value ∷ []) s g t b h =
-      wait_shape name (timeline_at before name) (numeral value) s refl h
+      wait_shape name (number_at before TimelineName name) (numeral value) s refl h
   shape InBatch WaitBinaryLine (name ∷ []) s g t b h =
-      binary_wait_shape name (binary_at before name) s refl h
+      binary_wait_shape name (number_at before BinaryName name) s refl h
   shape InBatch FillWholeLine (buffer ∷ offset ∷ word ∷ []) s g t b h =
       command_shape s
-      (of_three_says (λ x y z. Fill x y Whole z) (buffer_at before buffer) (numeral offset)
+      (of_three_says (λ x y z. Fill x y Whole z) (number_at before BufferName buffer) (numeral offset)
       (small_numeral word) s h)
   shape InBatch FillLine (buffer ∷ offset ∷ size ∷ word ∷ []) s g t b h =
       command_shape s
-      (of_four_says (λ x y z u. Fill x y (Count z) u) (buffer_at before buffer) (numeral offset)
+      (of_four_says (λ x y z u. Fill x y (Count z) u) (number_at before BufferName buffer) (numeral offset)
       (numeral size) (small_numeral word) s h)
   shape InBatch UpdateLine (buffer ∷ offset ∷ digits ∷ []) s g t b h =
       command_shape s
-      (of_two_says (λ x y. Update x y (hex_bytes digits)) (buffer_at before buffer) (numeral offset)
+      (of_two_says (λ x y. Update x y (hex_bytes digits)) (number_at before BufferName buffer) (numeral offset)
       s h)
   shape InBatch CopyLine (source ∷ from ∷ target ∷ to ∷ size ∷ []) s g t b h =
       command_shape s
-      (of_five_says (λ x y z u k. Copy x y z u k) (buffer_at before source) (numeral from)
-      (buffer_at before target) (numeral to) (numeral size) s h)
+      (of_five_says (λ x y z u k. Copy x y z u k) (number_at before BufferName source) (numeral from)
+      (number_at before BufferName target) (numeral to) (numeral size) s h)
   shape InBatch SignalTimelineLine (name ∷ value ∷ []) s g t b h =
-      signal_shape name (timeline_at before name) (numeral value) s refl h
+      signal_shape name (number_at before TimelineName name) (numeral value) s refl h
   shape InBatch SignalBinaryLine (name ∷ []) s g t b h =
-      binary_signal_shape name (binary_at before name) s refl h
-  shape InBatch BatchFenceLine (name ∷ []) s g t b h = fence_shape name (fence_at before name) s refl h
+      binary_signal_shape name (number_at before BinaryName name) s refl h
+  shape InBatch BatchFenceLine (name ∷ []) s g t b h = fence_shape name (number_at before FenceName name) s refl h
   shape InBatch EndLine [] s g t b h =
       subst (Shape form before InBatch 5) (same_statement EndBatch s h) an_end
   shape Outside ScheduleLine [] s g t b h = schedule_shape form refl t s h
   shape InSchedule TurnLine (actor ∷ []) s g t b h =
-      turn_shape actor (actor_at before actor) s refl h
+      turn_shape actor (actor_at (number_at before) actor) s refl h
   shape InSchedule TurnsLine (actor ∷ count ∷ []) s g t b h =
-      turns_shape actor (actor_at before actor) (numeral count) s refl h
+      turns_shape actor (actor_at (number_at before) actor) (numeral count) s refl h
   shape InSchedule BufferLine words s g t b h = absurd (false≢true g)
   shape InSchedule TimelineLine words s g t b h = absurd (false≢true g)
   shape InSchedule BinaryLine words s g t b h = absurd (false≢true g)
@@ -614,8 +617,8 @@ module _ (form : Form) (before : List Line) where
   -- what a statement keeps that is in order and in range, doesn't overlap itself and passes no
   -- limit
   says : (was : Section) (part : ℕ) (s : Statement) → Shape form before was part s →
-      KeepsParts before part → is_in_range before s ≡ true → overlaps before s ≡ false →
-      passes_limit (limits_of (version_of before)) before s ≡ false → Said form before was s
+      KeepsParts before part → is_in_range (earlier before) s ≡ true → overlaps (buffers before) s ≡ false →
+      passes_limit (earlier before) s ≡ false → Said form before was s
   says was part s (a_buffer name size) q r o l =
       let limits =
       or_parts (not (nat_lt (length (buffers before)) 64))
@@ -655,7 +658,7 @@ module _ (form : Form) (before : List Line) where
       (is, ltb-false 65536 (turns_before before + count) l)
 
   -- a line that is in order belongs to no earlier part than a line before it
-  in_parts : (f : LineForm) → is_out_of_order before f ≡ false → KeepsParts before (part_of_form f)
+  in_parts : (f : LineForm) → is_out_of_order (earlier before) f ≡ false → KeepsParts before (part_of_form f)
   in_parts f h =
       let front =
       or_parts ((is_declaration f && has_begun before)
@@ -687,20 +690,20 @@ module _ (form : Form) (before : List Line) where
       let seven = first_fails (has_fault form before words) Overlap (Limit ∷ []) six.1 in
       let eight = first_fails (has_fault form before words) Limit [] seven.1 in
       by_form (form_of form before words) refl m
-      (passes (is_in_range before s)
-      (sym (ap (λ (o : Option Statement). option_map_or (λ x. not (is_in_range before x)) o
+      (passes (is_in_range (earlier before) s)
+      (sym (ap (λ (o : Option Statement). option_map_or (λ x. not (is_in_range (earlier before) x)) o
       false) m) ∙ six.0))
-      (sym (ap (λ (o : Option Statement). option_map_or (overlaps before) o false) m) ∙ seven.0)
+      (sym (ap (λ (o : Option Statement). option_map_or (overlaps (buffers before)) o false) m) ∙ seven.0)
       (sym (ap (λ (o : Option Statement). option_map_or
-      (passes_limit (limits_of (version_of before)) before) o false) m) ∙ eight.0) two.0
+      (passes_limit (earlier before)) o false) m) ∙ eight.0) two.0
     where
       by_form : (o : Option LineForm) → form_of form before words ≡ o →
           option_and_then
-          (λ f. statement_of before f (map (λ x. x.1) (open_places (places f) words))) o
+          (λ f. statement_of (number_at before) f (map (λ x. x.1) (open_places (places f) words))) o
           ≡ Some s →
-          is_in_range before s ≡ true → overlaps before s ≡ false →
-          passes_limit (limits_of (version_of before)) before s ≡ false →
-          option_map_or (is_out_of_order before) (form_of form before words) false ≡ false →
+          is_in_range (earlier before) s ≡ true → overlaps (buffers before) s ≡ false →
+          passes_limit (earlier before) s ≡ false →
+          option_map_or (is_out_of_order (earlier before)) (form_of form before words) false ≡ false →
           Said form before (section before) s
       by_form None e h r o l d = absurd (cc)
       by_form (Some f) e h r o l d =
@@ -713,5 +716,5 @@ module _ (form : Form) (before : List Line) where
           (forms_suit_text form before (section before))
           (built_found (find (matches words) (forms_at form before)) f e))
           (where_it_is_built (find (matches words) (forms_at form before)) f e) h)
-          (in_parts f (sym (ap (λ (o : Option LineForm). option_map_or (is_out_of_order before) o
+          (in_parts f (sym (ap (λ (o : Option LineForm). option_map_or (is_out_of_order (earlier before)) o
           false) e) ∙ d)) r o l

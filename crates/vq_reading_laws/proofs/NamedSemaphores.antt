@@ -12,9 +12,11 @@ use Rattle.vq_model.specs.declared.script.SemaphoreKind.{SemaphoreKind}
 use Rattle.vq_model.specs.declared.script.Pair.{Pair}
 use Rattle.vq_model.specs.declared.script.HostStep.{HostStep}
 use Rattle.vq_model.specs.declared.script.HostStep.TheVariants.{Signal, WaitAll, WaitAny, PollAll, PollAny, Read, FenceWait, FencePoll, FenceReset, Idle}
-use Rattle.vq_model.specs.Context.{semaphores, is_timeline, is_fence, timeline_at, fence_at}
+use Rattle.vq_model.specs.Context.{semaphores, is_timeline, is_fence}
 use Rattle.vq_model.specs.Meaning.{of_two, pairs_at}
 use Rattle.vq_model.specs.Text.{numeral}
+use Rattle.vq_model.specs.Context.{number_at}
+use Rattle.vq_model.specs.Forms.{TimelineName, FenceName}
 
 -- a position is where an item stands that passes
 at_position : {X : Type 0} (test : X → Bool) (xs : List X) →
@@ -96,30 +98,30 @@ module _ (before : List Line) where
       let k = and_parts (bytes_eq name f.0.name) (test f.0.kind) f.2 in
       record { kind = f.0.kind; is = kind_at (semaphores before) t f.0 f.1; tested = k.1 }
 
-  pub timeline_named : (name : List ℕ) (t : ℕ) → timeline_at before name ≡ Some t →
+  pub timeline_named : (name : List ℕ) (t : ℕ) → number_at before TimelineName name ≡ Some t →
       IsOfKind is_timeline (kinds_before before) t
   timeline_named name t e = named is_timeline name t e
 
-  pub fence_named : (name : List ℕ) (t : ℕ) → fence_at before name ≡ Some t →
+  pub fence_named : (name : List ℕ) (t : ℕ) → number_at before FenceName name ≡ Some t →
       IsOfKind is_fence (kinds_before before) t
   fence_named name t e = named is_fence name t e
 
   -- pairs name timelines
-  pairs_named : (words : List (List ℕ)) (pairs : List Pair) → pairs_at before words ≡ Some pairs →
+  pairs_named : (words : List (List ℕ)) (pairs : List Pair) → pairs_at (number_at before) words ≡ Some pairs →
       Every (IsPairOf (kinds_before before)) pairs
   pairs_named [] pairs h =
       let same : [] ≡ pairs = cc in subst (Every (IsPairOf (kinds_before before))) same tt
   pairs_named (name ∷ []) pairs h =
       let same : [] ≡ pairs = cc in subst (Every (IsPairOf (kinds_before before))) same tt
   pairs_named (name ∷ value ∷ words) pairs h =
-      by_parts (timeline_at before name) (numeral value) (pairs_at before words) refl refl h
+      by_parts (number_at before TimelineName name) (numeral value) (pairs_at (number_at before) words) refl refl h
       (pairs_named words)
     where
-      by_parts : (t v : Option ℕ) (ps : Option (List Pair)) → timeline_at before name ≡ t →
-          pairs_at before words ≡ ps →
+      by_parts : (t v : Option ℕ) (ps : Option (List Pair)) → number_at before TimelineName name ≡ t →
+          pairs_at (number_at before) words ≡ ps →
           of_two (λ (p : Pair) (more : List Pair). p ∷ more)
           (of_two (λ x y. record { semaphore = x; value = y }) t v) ps ≡ Some pairs →
-          ((qs : List Pair) → pairs_at before words ≡ Some qs →
+          ((qs : List Pair) → pairs_at (number_at before) words ≡ Some qs →
           Every (IsPairOf (kinds_before before)) qs) →
           Every (IsPairOf (kinds_before before)) pairs
       by_parts None v ps e f h later = absurd (let c : None ≡ Some pairs = h in cc)
@@ -131,7 +133,7 @@ module _ (before : List Line) where
           subst (Every (IsPairOf (kinds_before before))) same (timeline_named name t e, later ps f)
 
   -- The words of a step of the host: a pair, pairs, a name of a timeline or a fence.
-  pub says_pair : (name : List ℕ) (t v : Option ℕ) (s : Statement) → timeline_at before name ≡ t →
+  pub says_pair : (name : List ℕ) (t v : Option ℕ) (s : Statement) → number_at before TimelineName name ≡ t →
       option_map (λ p. TakeHostStep (Signal p))
       (of_two (λ x y. record { semaphore = x; value = y }) t v) ≡ Some s → SaysStep before s
   says_pair name None v s e h = absurd (let c : None ≡ Some s = h in cc)
@@ -143,7 +145,7 @@ module _ (before : List Line) where
       (s : Statement) →
       ((qs : List Pair) → Every (IsPairOf (kinds_before before)) qs →
       IsStepOf (kinds_before before) (of qs)) →
-      pairs_at before words ≡ ps → option_map (λ qs. TakeHostStep (of qs)) ps ≡ Some s →
+      pairs_at (number_at before) words ≡ ps → option_map (λ qs. TakeHostStep (of qs)) ps ≡ Some s →
       SaysStep before s
   says_pairs of words None s is e h = absurd (let c : None ≡ Some s = h in cc)
   says_pairs of words (Some qs) s is e h = (of qs, is qs (pairs_named words qs e), cc)

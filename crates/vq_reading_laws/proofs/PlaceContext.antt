@@ -5,7 +5,6 @@ use Rattle.vq_model.specs.declared.statement.Section.TheVariants.{InBatch, Outsi
 use Rattle.vq_model.specs.declared.statement.Line.{Line}
 use Rattle.vq_model.specs.declared.statement.Form.{Form}
 use Rattle.vq_model.specs.Context.{section, queues, open_batch, is_wait, is_signal, count, some, section_after, queue_of, is_submit, is_end}
-use Rattle.vq_model.specs.LineFaults.{part_of}
 use Rattle.vq_reading_laws.proofs.Standing.{Where, is_outside, is_inside, in_schedule, declared_by, where_after, Stands}
 use Rattle.std.proofs.lemmas.Bool.{ltb-true, lt-ltb, ltb-false}
 use Rattle.std.specs.List.{filter_map}
@@ -17,6 +16,7 @@ use Rattle.vq_model.specs.Reading.{with_line}
 use Rattle.vq_reading_laws.proofs.LinePushes.{a_line, count_push, section_push, some_push, open_push}
 use Rattle.std.proofs.lemmas.List.{length-map}
 use Rattle.vq_model.specs.declared.script.Queue.{Queue}
+use Rattle.vq_model.specs.Context.{part_of}
 use Rattle.vq_reading_laws.proofs.LineFacts.{Said}
 
 -- What the context says of a place

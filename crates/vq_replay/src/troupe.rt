@@ -20,12 +20,22 @@ use vq_turns::outcome::Outcome;
 /// places are true of the core: what an actor has done stands in the core's history.
 ///
 /// Source: this project's rule.
-#[derive(Drop)]
 pub struct Troupe {
     core: Core,
     host: Seated<HostActor>,
     submits: Vec<Seated<SubmitActor>>,
     rings: Vec<Seated<RingActor>>,
+}
+
+impl Drop for Troupe {
+    fn drop(self) {
+        let Troupe {
+            core: _core,
+            host: _host,
+            submits: _submits,
+            rings: _rings,
+        } = self;
+    }
 }
 
 impl Model for Troupe {
@@ -152,6 +162,12 @@ impl Troupe {
     pub fn into_core(self) -> Core
         ensures { result ≡ self.course }
     {
-        self.core
+        let Troupe {
+            core,
+            host: _host,
+            submits: _submits,
+            rings: _rings,
+        } = self;
+        core
     }
 }

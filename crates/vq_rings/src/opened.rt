@@ -37,10 +37,13 @@ impl Opened {
         ensures names { IfOk result (λ o. o.names.items ≡ actors ordered.script) }
         ensures hands { IfOk result (λ o. length o.hands.items ≡ length o.names.items) }
     {
-        let answers = AnswerRoom::new(alloc, ordered.plan())?;
-        let names = all_names(alloc, &ordered)?;
-        let hands = all_hands(alloc, names.as_slice().len())?;
+        let crew = crew_of(alloc, &ordered)?;
         let troupe = Troupe::new(alloc, ordered)?;
+        let Crew {
+            answers,
+            names,
+            hands,
+        } = crew;
         Ok(Opened {
             troupe,
             answers,
@@ -48,6 +51,30 @@ impl Opened {
             hands,
         })
     }
+}
+
+/// What a run keeps beside its actors.
+#[derive(Drop)]
+struct Crew {
+    answers: AnswerRoom,
+    names: Vec<ActorName>,
+    hands: Vec<Hand>,
+}
+
+/// What a run keeps beside its actors. The plan is lent, since each way out would drop it.
+fn crew_of(alloc: Global, ordered: &Ordered) -> Result<Crew, AllocError>
+    ensures answers { IfOk result (λ c. c.answers ≡ length ordered.now.jobs) }
+    ensures names { IfOk result (λ c. c.names.items ≡ actors ordered.now.script) }
+    ensures hands { IfOk result (λ c. length c.hands.items ≡ length c.names.items) }
+{
+    let answers = AnswerRoom::new(alloc, ordered.plan())?;
+    let names = all_names(alloc, ordered)?;
+    let hands = all_hands(alloc, names.as_slice().len())?;
+    Ok(Crew {
+        answers,
+        names,
+        hands,
+    })
 }
 
 /// A hand for each of so many actors. The caller takes the turns of the first.

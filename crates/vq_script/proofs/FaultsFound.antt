@@ -11,9 +11,9 @@ use Rattle.vq_model.specs.declared.statement.FaultKind.{FaultKind}
 use Rattle.vq_model.specs.declared.statement.FaultKind.TheVariants.{Syntax, Order, Number, Name, Twice, Range, Overlap, Limit}
 use Rattle.vq_model.specs.Text.{is_plain}
 use Rattle.vq_model.specs.Forms.{places}
-use Rattle.vq_model.specs.Context.{version_of}
-use Rattle.vq_model.specs.Limits.{limits_of, passes_limit}
-use Rattle.vq_model.specs.LineFaults.{fails, is_shaped, is_numeric, is_known, is_new, is_out_of_order, is_in_range, overlaps, kinds, fault_of}
+use Rattle.vq_model.specs.Context.{number_at, is_declared, buffers}
+use Rattle.vq_model.specs.Earlier.{earlier}
+use Rattle.vq_model.specs.LineFaults.{fails, is_shaped, is_numeric, is_known, is_new, is_out_of_order, is_in_range, overlaps, passes_limit, kinds, fault_of}
 use Rattle.vq_model.specs.Meaning.{is_built, matches, where_built, form_of, statement_of, open_places, meaning}
 use Rattle.vq_model.specs.Reading.{read_statement, with_line, without_fault}
 use Rattle.vq_script.specs.declared.known.Known.{Known}
@@ -25,17 +25,17 @@ use Rattle.vq_script.specs.Reads.{Takes, Reads}
 -- what words say, where their bytes are plain or not and they have a form or none
 abbrev meaning_with : List Line → List (List ℕ) → Option LineForm → Option Statement
 meaning_with before words form =
-    option_and_then (λ f. statement_of before f (map (λ x. x.1) (open_places (places f) words))) form
+    option_and_then (λ f. statement_of (number_at before) f (map (λ x. x.1) (open_places (places f) words))) form
 
 abbrev has_fault_with : List Line → List (List ℕ) → Bool → Option LineForm → FaultKind → Bool
 has_fault_with before words plain form Syntax = not plain || option_map_or (fails is_shaped words) form true
-has_fault_with before words plain form Order = option_map_or (is_out_of_order before) form false
+has_fault_with before words plain form Order = option_map_or (is_out_of_order (earlier before)) form false
 has_fault_with before words plain form Number = option_map_or (fails is_numeric words) form false
-has_fault_with before words plain form Name = option_map_or (fails (is_known before) words) form false
-has_fault_with before words plain form Twice = option_map_or (fails (is_new before) words) form false
-has_fault_with before words plain form Range = option_map_or (λ s. not (is_in_range before s)) (meaning_with before words form) false
-has_fault_with before words plain form Overlap = option_map_or (overlaps before) (meaning_with before words form) false
-has_fault_with before words plain form Limit = option_map_or (passes_limit (limits_of (version_of before)) before) (meaning_with before words form) false
+has_fault_with before words plain form Name = option_map_or (fails (is_known (number_at before)) words) form false
+has_fault_with before words plain form Twice = option_map_or (fails (is_new (is_declared before)) words) form false
+has_fault_with before words plain form Range = option_map_or (λ s. not (is_in_range (earlier before) s)) (meaning_with before words form) false
+has_fault_with before words plain form Overlap = option_map_or (overlaps (buffers before)) (meaning_with before words form) false
+has_fault_with before words plain form Limit = option_map_or (passes_limit (earlier before)) (meaning_with before words form) false
 
 abbrev fault_with : List Line → List (List ℕ) → Bool → Option LineForm → Option FaultKind
 fault_with before words plain form = find (has_fault_with before words plain form) kinds

@@ -2,7 +2,6 @@
 use Rattle.std.proofs.Common.{◌≡◌, ℕ, ◌+◌, Bool, true, false, cond, not, ◌||◌, ◌&&◌, ◌==◌, List, [], ◌∷◌, length, map, Option, Some, None, is_some, refl, sym, ap, subst, ◌∙◌, nat_lt, arith}
 use Rattle.std.specs.List.{list_all, list_any, count_by}
 use Rattle.std.specs.Option.{option_map, option_map_or, option_or}
-use Rattle.std.specs.Str.{bytes_eq}
 use Rattle.std.proofs.lemmas.Bool.{and_parts, or_parts, ltb-false, false≢true}
 use Rattle.std.proofs.lemmas.Bool.Decides.{nat_tests}
 use Rattle.std.proofs.lemmas.List.Sums.{sum_by-cons}
@@ -10,34 +9,28 @@ use Rattle.vq_model.specs.declared.script.Batch.{Batch}
 use Rattle.vq_model.specs.declared.script.Buffer.{Buffer}
 use Rattle.vq_model.specs.declared.script.Mark.{Mark}
 use Rattle.vq_model.specs.declared.script.Pair.{Pair}
-use Rattle.vq_model.specs.declared.script.Queue.{Queue}
-use Rattle.vq_model.specs.declared.script.Semaphore.{Semaphore}
-use Rattle.vq_model.specs.declared.script.Command.{Command}
 use Rattle.vq_model.specs.declared.script.Command.TheVariants.{Fill as FillCommand, Update as UpdateCommand, Copy as CopyCommand}
-use Rattle.vq_model.specs.declared.script.FillSize.TheVariants.{Whole, Count}
 use Rattle.vq_model.specs.declared.statement.FaultKind.{FaultKind}
 use Rattle.vq_model.specs.declared.statement.FaultKind.TheVariants.{Syntax, Order, Number, Name, Twice, Range, Overlap, Limit}
 use Rattle.vq_model.specs.declared.statement.Line.{Line}
 use Rattle.vq_model.specs.declared.statement.LineForm.{LineForm}
 use Rattle.vq_model.specs.declared.statement.LineForm.TheVariants.{BufferLine, TimelineLine, BinaryLine, FenceLine, QueueLine, HostSignalLine, HostWaitAllLine, HostWaitAnyLine, HostPollAllLine, HostPollAnyLine, HostReadLine, HostFenceWaitLine, HostFencePollLine, HostFenceResetLine, HostIdleLine, FillWholeLine, FillLine, UpdateLine, CopyLine, SubmitLine, WaitTimelineLine, WaitBinaryLine, SignalTimelineLine, SignalBinaryLine, BatchFenceLine, EndLine, ScheduleLine, TurnLine, TurnsLine}
 use Rattle.vq_model.specs.declared.statement.Statement.{Statement}
-use Rattle.vq_model.specs.declared.statement.Statement.TheVariants.{TakeTurns, TakeHostStep}
-use Rattle.vq_model.specs.declared.script.HostStep.TheVariants.{WaitAll, WaitAny, PollAll, PollAny}
-use Rattle.vq_model.specs.declared.script.ActorName.{ActorName}
 use Rattle.vq_model.specs.Context.{has_begun, count, open_batch, is_command}
-use Rattle.vq_model.specs.Forms.{Slot, HexDigits, Numeral, NewName, BufferName, TimelineName, BinaryName, FenceName, QueueName, Actor, places}
-use Rattle.vq_model.specs.LineFaults.{is_shaped, is_numeric, is_known, is_new, is_declaration, part_of_form, is_batch_fence_form, is_out_of_order, is_command_in_range, is_in_range, overlaps}
-use Rattle.vq_model.specs.Limits.{passes_limit, limits_of, pairs_of, is_job}
-use Rattle.vq_model.specs.Meaning.{is_built, actor_at, hex_bytes, is_hex, small_numeral, of_two, of_three, of_four, of_five, statement_of, pair_at, pairs_at, pair_places}
+use Rattle.vq_model.specs.Forms.{Slot, HexDigits, Numeral, NewName, BufferName, TimelineName, BinaryName, FenceName, QueueName, places}
+use Rattle.vq_model.specs.LineFaults.{is_shaped, is_numeric, is_known, is_new, is_declaration, part_of_form, is_batch_fence_form, is_out_of_order, is_in_range, overlaps, passes_limit}
+use Rattle.vq_model.specs.Meaning.{actor_at, is_built, is_hex, of_five, of_four, of_three, of_two, pair_at, pair_places, pairs_at, small_numeral, statement_of}
 use Rattle.vq_model.specs.Text.{numeral}
 use Rattle.vq_reading_laws.proofs.Cited.{below}
 use Rattle.vq_script.specs.declared.said.Said.{Said}
 use Rattle.vq_script.specs.declared.said.Said.TheVariants.{Buffer as SaysBuffer, Semaphore as SaysSemaphore, Queue as SaysQueue, Submit, Wait, FillWhole, Fill, Update, Copy, Signal, Fence, End, Host, Schedule, Turns}
-use Rattle.vq_script.specs.Faults.{first_fault, statement_at}
-use Rattle.vq_script.specs.Holds.{Holds, Declares, Kept, last_part, named_fence, open_jobs}
-use Rattle.vq_script.specs.LineTests.{number_of, threaded_of, actor_in, is_late, is_known_in, is_new_in, word_fault, is_command_in, is_in_range_in, passes_in, said_fault, later_fault}
-use Rattle.vq_script.specs.SaidLines.{AreFound, Stands, Suits, MayKeep, MayCommand, IsNewName, end_with_pairs, open_kinds, statement_in, part_in, copied, new_name, is_batch_line, is_schedule_line, is_host_line, named_in, placed, are_one_each, IsWhollyRead}
-use Rattle.vq_script.specs.SaidSteps.{pair_in, pairs_in, step_in}
+use Rattle.vq_script.specs.Faults.{fault_by, said_at}
+use Rattle.vq_script.specs.Holds.{Holds, Declares, Kept, last_part, named_fence}
+use Rattle.vq_script.specs.LineTests.{number_of, word_fault, said_fault, earlier_in}
+use Rattle.vq_script.specs.SaidLines.{AreFound, Stands, Suits, MayKeep, MayCommand, IsNewName, end_with_pairs, open_kinds, statement_in, part_in, copied, new_name, is_batch_line, is_schedule_line, is_host_line, named_in, placed, are_one_each, IsWhollyRead, are_digits}
+use Rattle.vq_model.specs.Earlier.{Earlier, earlier}
+use Rattle.vq_model.specs.Context.{number_at, number_in as number_among, is_taken}
+use Rattle.std.specs.Prelude.{sum}
 
 -- Order
 
@@ -68,46 +61,37 @@ begun_by lines k (Some b) h =
     any_is_counted _ lines ∙ ap (nat_lt 0) h.all_jobs
     ∙ (let e : nat_lt 0 (length k.jobs + 1) ≡ true = grind (arith, nat_tests) in e)
 
-late_by : (lines : List Line) (k : Kept) (batch : Option Batch) (form : LineForm) →
-    Holds lines k batch → is_out_of_order lines form ≡ is_late k batch form
-late_by lines k batch form h = λ i.
-    (is_declaration form && begun_by lines k batch h i)
-    || h.inside.in_order (part_of_form form) i
-    || (is_batch_fence_form form && h.inside.fences i)
-
--- Name and Twice
-
-actor_by : (lines : List Line) (k : Kept) (word : List ℕ) → Declares lines k →
-    actor_at lines word ≡ actor_in k word
-unfolding number_of threaded_of
-actor_by lines k word d = rw d.all_queues refl
-
-known_by : (lines : List Line) (k : Kept) (words : List (Slot × List ℕ)) → Declares lines k →
-    list_all (is_known lines) words ≡ list_all (is_known_in k) words
+-- What the parser keeps answers as the lines do.
+number_by : (lines : List Line) (k : Kept) → Declares lines k → number_at lines ≡ number_of k
 unfolding number_of
-known_by lines k [] d = refl
-known_by lines k ((place, word) ∷ words) d = λ i. at_place place i && known_by lines k words d i
-  where
-    at_place : (p : Slot) → is_known lines (p, word) ≡ is_known_in k (p, word)
-    at_place BufferName = rw d.all_buffers refl
-    at_place TimelineName = rw d.all_semaphores refl
-    at_place BinaryName = rw d.all_semaphores refl
-    at_place FenceName = rw d.all_semaphores refl
-    at_place QueueName = rw d.all_queues refl
-    at_place Actor = ap (λ (o : Option ActorName). is_some o) (actor_by lines k word d)
-    at_place other = refl
+number_by lines k d = λ i place name.
+    number_among (d.all_buffers i) (d.all_semaphores i) (d.all_queues i) place name
 
-new_by : (lines : List Line) (k : Kept) (words : List (Slot × List ℕ)) → Declares lines k →
-    list_all (is_new lines) words ≡ list_all (is_new_in k) words
-new_by lines k [] d = refl
-new_by lines k ((place, word) ∷ words) d = λ i. at_place place i && new_by lines k words d i
-  where
-    at_place : (p : Slot) → is_new lines (p, word) ≡ is_new_in k (p, word)
-    at_place NewName =
-        λ i. not ((list_any (λ (b : Buffer). bytes_eq word b.name) (d.all_buffers i)
-        || list_any (λ (s : Semaphore). bytes_eq word s.name) (d.all_semaphores i))
-        || list_any (λ (q : Queue). bytes_eq word q.name) (d.all_queues i))
-    at_place other = refl
+pub earlier_by : (lines : List Line) (k : Kept) (batch : Option Batch) → Holds lines k batch →
+    earlier lines ≡ earlier_in k batch
+earlier_by lines k batch h =
+    let d = h.declares in
+    let bytes = ap (λ (bs : List Buffer). sum (map (λ b. b.size) bs)) d.all_buffers ∙ d.all_bytes in
+    let far = h.inside.whole_waits (count is_command (open_batch lines) + 1) (omega arith) in λ i.
+    record {
+      most = d.limits i;
+      number = number_by lines k d i;
+      taken = is_taken (d.all_buffers i) (d.all_semaphores i) (d.all_queues i);
+      buffers = d.all_buffers i;
+      bytes = bytes i;
+      semaphores = length (d.all_semaphores i);
+      queues = length (d.all_queues i);
+      jobs = h.all_jobs i;
+      commands = h.all_commands i;
+      turns = d.turn_count i;
+      open_waits = h.inside.all_waits i;
+      open_commands = h.inside.all_commands i;
+      open_signals = h.inside.all_signals i;
+      begun = begun_by lines k batch h i;
+      later = λ part. h.inside.in_order part i;
+      fenced = h.inside.fences i;
+      too_far = far i;
+    }
 
 -- The kinds that come before words are read come first.
 words_first : (a b : Bool) (later : Option FaultKind) →
@@ -117,107 +101,51 @@ words_first true b later = refl
 words_first false true later = refl
 words_first false false later = refl
 
-module _ (lines : List Line) (k : Kept) (batch : Option Batch) (h : Holds lines k batch) where
+module _ (e : Earlier) where
+  -- the kinds from words that are read on
+  abbrev later_fault : List (Slot × List ℕ) → Option Statement → Option FaultKind
+  later_fault words said =
+      cond (not (list_all (is_new e.taken) words)) (Some Twice)
+      (cond (option_map_or (λ s. not (is_in_range e s)) said false) (Some Range)
+      (cond (option_map_or (overlaps e.buffers) said false) (Some Overlap)
+      (cond (option_map_or (passes_limit e) said false) (Some Limit) None)))
+
   -- the kinds from numbers on, by whether all numbers and all names are read
   abbrev pub read_fault : List (Slot × List ℕ) → Option Statement → (numeric known : Bool) →
       Option FaultKind
   read_fault words said numeric known =
-      cond (not numeric) (Some Number)
-      (cond (not known) (Some Name) (later_fault lines k words said))
+      cond (not numeric) (Some Number) (cond (not known) (Some Name) (later_fault words said))
 
   -- the first kind of a line's faults
   first_by : (form : LineForm) (words : List (Slot × List ℕ)) → is_built form ≡ true →
-      first_fault lines (form, words)
-      ≡ option_or (word_fault k batch form words)
-      (read_fault words (statement_at lines (form, words)) (list_all is_numeric words)
-      (list_all (is_known_in k) words))
+      fault_by e (form, words)
+      ≡ option_or (word_fault e form words)
+      (read_fault words (said_at e (form, words)) (list_all is_numeric words)
+      (list_all (is_known e.number) words))
   first_by form words built =
       (λ i. cond (not (built i) || not (list_all is_shaped words)) (Some Syntax)
-      (cond (late_by lines k batch form h i) (Some Order)
-      (cond (not (list_all is_numeric words)) (Some Number)
-      (cond (not (known_by lines k words h.declares i)) (Some Name)
-      (cond (not (new_by lines k words h.declares i)) (Some Twice) statement_kinds)))))
-      ∙ words_first _ _ (read_fault words (statement_at lines (form, words))
-      (list_all is_numeric words) (list_all (is_known_in k) words))
-    where
-      statement_kinds : Option FaultKind
-      statement_kinds =
-          cond (option_map_or (λ s. not (is_in_range lines s)) (statement_at lines (form, words)) false) (Some Range)
-          (cond (option_map_or (overlaps lines) (statement_at lines (form, words)) false) (Some Overlap)
-          (cond (option_map_or (passes_limit (limits_of 1) lines) (statement_at lines (form, words)) false)
-          (Some Limit) None))
+      (cond (is_out_of_order e form) (Some Order)
+      (read_fault words (said_at e (form, words)) (list_all is_numeric words)
+      (list_all (is_known e.number) words))))
+      ∙ words_first _ _ (read_fault words (said_at e (form, words)) (list_all is_numeric words)
+      (list_all (is_known e.number) words))
 
   -- the same, by what the tests of words say
   pub words_by : (form : LineForm) (words : List (Slot × List ℕ)) → is_built form ≡ true →
-      (o : Option FaultKind) → word_fault k batch form words ≡ o →
-      first_fault lines (form, words)
-      ≡ option_or o (read_fault words (statement_at lines (form, words)) (list_all is_numeric words)
-      (list_all (is_known_in k) words))
-  words_by form words built o e =
+      (o : Option FaultKind) → word_fault e form words ≡ o →
+      fault_by e (form, words)
+      ≡ option_or o (read_fault words (said_at e (form, words)) (list_all is_numeric words)
+      (list_all (is_known e.number) words))
+  words_by form words built o is =
       first_by form words built
-      ∙ ap (λ (x : Option FaultKind). option_or x (read_fault words (statement_at lines (form, words))
-      (list_all is_numeric words) (list_all (is_known_in k) words))) e
-
-  -- Range
-
-  command_by : (c : Command) → is_command_in_range lines c ≡ is_command_in k c
-  command_by (FillCommand b o Whole w) = rw h.declares.all_buffers refl
-  command_by (FillCommand b o (Count n) w) = rw h.declares.all_buffers refl
-  command_by (UpdateCommand b o bytes) = rw h.declares.all_buffers refl
-  command_by (CopyCommand s from t to n) = rw h.declares.all_buffers refl
-
-  range_by : (said : Said) →
-      is_in_range lines (statement_in k said) ≡ is_in_range_in k (statement_in k said)
-  range_by (FillWhole b o w) = command_by (FillCommand b o Whole w)
-  range_by (Fill b o n w) = command_by (FillCommand b o (Count n) w)
-  range_by (Update b o digits) = command_by (UpdateCommand b o (hex_bytes digits.now))
-  range_by (Copy s from t to n) = command_by (CopyCommand s from t to n)
-  range_by End = ap not (h.inside.whole_waits (count is_command (open_batch lines) + 1) (omega arith))
-  range_by other = refl
-
-  -- Overlap and Limit
-
-  overlap_by : (said : Said) → overlaps lines (statement_in k said) ≡ overlaps [] (statement_in k said)
-  overlap_by (Copy s from t to n) = refl
-  overlap_by other = refl
-
-  -- outside a batch all jobs are kept
-  jobs_by : (b : Option Batch) → false ≡ is_some b → count is_job lines ≡ length k.jobs + open_jobs b →
-      not (nat_lt (count is_job lines) (limits_of 1).jobs)
-      ≡ not (nat_lt (length k.jobs) (limits_of 1).jobs)
-  jobs_by None e all =
-      ap (λ (n : ℕ). not (nat_lt n (limits_of 1).jobs))
-      (let same : count is_job lines ≡ length k.jobs = omega arith in same)
-  jobs_by (Some b) e all = absurd (cc)
-
-  limit_by : (said : Said) → nat_lt 0 (part_in said) ≡ is_some batch →
-      passes_limit (limits_of 1) lines (statement_in k said) ≡ passes_in k batch (statement_in k said)
-  limit_by (SaysBuffer name size) s = rw h.declares.all_buffers (rw h.declares.all_bytes refl)
-  limit_by (SaysSemaphore name kind) s = rw h.declares.all_semaphores refl
-  limit_by (SaysQueue name mode) s = rw h.declares.all_queues refl
-  limit_by (Submit q) s = jobs_by batch s h.all_jobs
-  limit_by (Host step) s = λ i. jobs_by batch s h.all_jobs i
-      || nat_lt (limits_of 1).pairs (length (pairs_of (step_in k step)))
-  limit_by (Wait pair) s = rw h.inside.all_waits refl
-  limit_by (FillWhole b o w) s = rw h.all_commands (rw h.inside.all_commands refl)
-  limit_by (Fill b o n w) s = rw h.all_commands (rw h.inside.all_commands refl)
-  limit_by (Update b o digits) s = rw h.all_commands (rw h.inside.all_commands refl)
-  limit_by (Copy x from t to n) s = rw h.all_commands (rw h.inside.all_commands refl)
-  limit_by (Signal pair) s = rw h.inside.all_signals refl
-  limit_by (Turns actor count) s = rw h.declares.turn_count refl
-  limit_by other s = refl
-
-  -- the first kind of the faults that a line has whose words are read
-  pub later_by : (words : List (Slot × List ℕ)) (said : Said) →
-      nat_lt 0 (part_in said) ≡ is_some batch →
-      later_fault lines k words (Some (statement_in k said))
-      ≡ said_fault k batch words (statement_in k said)
-  later_by words said s = λ i.
-      cond (not (list_all (is_new_in k) words)) (Some Twice)
-      (cond (not (range_by said i)) (Some Range)
-      (cond (overlap_by said i) (Some Overlap) (cond (limit_by said s i) (Some Limit) None)))
+      ∙ ap (λ (x : Option FaultKind). option_or x (read_fault words (said_at e (form, words))
+      (list_all is_numeric words) (list_all (is_known e.number) words))) is
 
 -- What may be kept
+
+-- whether a name is declared, by what is kept
+abbrev taken_of : Kept → List ℕ → Bool
+taken_of k = is_taken k.buffers k.semaphores k.queues
 
 cond_none : {A : Type 0} (b : Bool) (x : A) (more : Option A) → cond b (Some x) more ≡ None →
     (b ≡ false) × (more ≡ None)
@@ -280,10 +208,10 @@ pub record Passes (k : Kept) (batch : Option Batch) (form : LineForm) (words : L
   pub one_fence : (is_batch_fence_form form && is_some (named_fence batch)) ≡ false
 
 pub passed : (k : Kept) (batch : Option Batch) (form : LineForm) (words : List (Slot × List ℕ)) →
-    word_fault k batch form words ≡ None → Passes k batch form words
+    word_fault (earlier_in k batch) form words ≡ None → Passes k batch form words
 passed k batch form words w =
     let one = cond_none (not (list_all is_shaped words)) Syntax _ w in
-    let two = cond_none (is_late k batch form) Order _ one.1 in
+    let two = cond_none (is_out_of_order (earlier_in k batch) form) Order _ one.1 in
     let order =
     or_parts ((is_declaration form && (is_some batch || nat_lt 0 (length k.jobs)))
     || nat_lt (part_of_form form) (last_part batch))
@@ -299,41 +227,41 @@ passed k batch form words w =
 pub record PassesLater (k : Kept) (batch : Option Batch) (words : List (Slot × List ℕ))
     (s : Statement) : Type 0 where
   pub numeric : list_all is_numeric words ≡ true
-  pub fresh : list_all (is_new_in k) words ≡ true
-  pub limited : passes_in k batch s ≡ false
+  pub fresh : list_all (is_new (taken_of k)) words ≡ true
+  pub limited : passes_limit (earlier_in k batch) s ≡ false
 
 pub passed_later : (k : Kept) (batch : Option Batch) (words : List (Slot × List ℕ))
-    (s : Statement) → list_all is_numeric words ≡ true → said_fault k batch words s ≡ None →
+    (s : Statement) → list_all is_numeric words ≡ true → said_fault (earlier_in k batch) words s ≡ None →
     PassesLater k batch words s
 passed_later k batch words s n e =
-    let five = cond_none (not (list_all (is_new_in k) words)) Twice _ e in
-    let six = cond_none (not (is_in_range_in k s)) Range _ five.1 in
+    let five = cond_none (not (list_all (is_new (taken_of k)) words)) Twice _ e in
+    let six = cond_none (not (is_in_range (earlier_in k batch) s)) Range _ five.1 in
     record {
       numeric = n;
       fresh = not_false _ five.0;
-      limited = (cond_none (passes_in k batch s) Limit None (cond_none (overlaps [] s) Overlap _ six.1).1).0;
+      limited = (cond_none (passes_limit (earlier_in k batch) s) Limit None (cond_none (overlaps k.buffers s) Overlap _ six.1).1).0;
     }
 
 module _ (k : Kept) (form : LineForm) (words : List (Slot × List ℕ)) (found : AreFound form words) where
   -- a name that is declared
   is_new_name : (batch : Option Batch) (name : List ℕ) → Passes k batch form words →
-      list_all (is_new_in k) words ≡ true →
+      list_all (is_new (taken_of k)) words ≡ true →
       Some (NewName, name) ≡ copied form (map (λ y. y.1) words) → IsNewName k name
   is_new_name batch name p fresh e = (
     copy_passes is_shaped form words (NewName, name) found e p.shaped,
-    not_true _ (copy_passes (is_new_in k) form words (NewName, name) found e fresh),
+    not_true _ (copy_passes (is_new (taken_of k)) form words (NewName, name) found e fresh),
   )
 
   -- a command
   may_command : (b : Batch) (said : Said) → Passes k (Some b) form words → part_in said ≡ 2 →
       part_in said ≡ part_of_form form →
-      (not (nat_lt k.commands (limits_of 1).commands)
-      || not (nat_lt (length b.commands) (limits_of 1).batch_commands)) ≡ false → MayCommand k b
+      (not (nat_lt k.commands k.most.commands)
+      || not (nat_lt (length b.commands) k.most.batch_commands)) ≡ false → MayCommand k b
   may_command b said p two part l =
       record {
-        room = below k.commands (limits_of 1).commands (or_parts
-            (not (nat_lt k.commands (limits_of 1).commands))
-            (not (nat_lt (length b.commands) (limits_of 1).batch_commands)) l).0;
+        room = below k.commands k.most.commands (or_parts
+            (not (nat_lt k.commands k.most.commands))
+            (not (nat_lt (length b.commands) k.most.batch_commands)) l).0;
         in_order = subst (λ (n : ℕ). nat_lt n (last_part (Some b)) ≡ false) (sym part ∙ two) p.in_order;
       }
 
@@ -343,21 +271,21 @@ module _ (k : Kept) (form : LineForm) (words : List (Slot × List ℕ)) (found :
       PassesLater k batch words (statement_in k said) → MayKeep k batch said
   may_keep None (SaysBuffer name size) st su r p l =
       let limits =
-      or_parts (not (nat_lt (length k.buffers) (limits_of 1).buffers))
-      (nat_lt (limits_of 1).bytes (k.bytes + size)) l.limited in (
+      or_parts (not (nat_lt (length k.buffers) k.most.buffers))
+      (nat_lt k.most.bytes (k.bytes + size)) l.limited in (
         is_new_name None name.now p l.fresh su.copies,
-        below (length k.buffers) (limits_of 1).buffers limits.0,
-        ltb-false (limits_of 1).bytes (k.bytes + size) limits.1,
+        below (length k.buffers) k.most.buffers limits.0,
+        ltb-false k.most.bytes (k.bytes + size) limits.1,
       )
   may_keep None (SaysSemaphore name kind) st su r p l =
-      (is_new_name None name.now p l.fresh su.copies, below (length k.semaphores) (limits_of 1).semaphores l.limited)
+      (is_new_name None name.now p l.fresh su.copies, below (length k.semaphores) k.most.semaphores l.limited)
   may_keep None (SaysQueue name mode) st su r p l =
-      (is_new_name None name.now p l.fresh su.copies, below (length k.queues) (limits_of 1).queues l.limited)
+      (is_new_name None name.now p l.fresh su.copies, below (length k.queues) k.most.queues l.limited)
   may_keep None (Submit q) st su r p l = sym (su.turns ∙ st.turns)
   may_keep None (Host step) st su r p l = r
   may_keep None Schedule st su r p l = tt
   may_keep None (Turns actor count) st su r p l =
-      ltb-false (limits_of 1).turns (length k.turns + count) l.limited
+      ltb-false k.most.turns (length k.turns + count) l.limited
   may_keep None other st su r p l =
       absurd (let c : nat_lt 0 (part_in other) ≡ false = ap (nat_lt 0) su.part ∙ st.inside in cc)
   may_keep (Some b) (Wait pair) st su r p l =
@@ -395,68 +323,6 @@ batch_line_left SignalBinaryLine b d p c h = refl
 batch_line_left BatchFenceLine b d p c h = refl
 batch_line_left EndLine b d p c h = refl
 batch_line_left other b d p c h = absurd (cc)
-
-pair_said : (f : Pair → Statement) (a b : Option ℕ) →
-    of_two (λ t v. f (record { semaphore = t; value = v })) a b
-    ≡ option_map f (of_two (λ t v. record { semaphore = t; value = v }) a b)
-pair_said f None b = refl
-pair_said f (Some t) None = refl
-pair_said f (Some t) (Some v) = refl
-
--- whether a line's digits are read
-abbrev are_digits : LineForm → List (List ℕ) → Bool
-are_digits UpdateLine (buffer ∷ offset ∷ digits ∷ []) = is_hex digits
-are_digits form words = true
-
--- the pairs of a step of the host
-pair_by : (lines : List Line) (k : Kept) (name value : List ℕ) → Declares lines k →
-    pair_in k name value ≡ pair_at lines name value
-unfolding number_of
-pair_by lines k name value d = rw d.all_semaphores refl
-
-pairs_by : (lines : List Line) (k : Kept) (words : List (List ℕ)) → Declares lines k →
-    pairs_in k words ≡ pairs_at lines words
-pairs_by lines k [] d = refl
-pairs_by lines k (name ∷ []) d = refl
-pairs_by lines k (name ∷ value ∷ words) d = λ i.
-    of_two (λ p ps. p ∷ ps) (pair_by lines k name value d i) (pairs_by lines k words d i)
-
--- what is said by what is kept is what is said after the lines
-named_by : (lines : List Line) (k : Kept) (form : LineForm) (words : List (List ℕ)) →
-    Declares lines k → is_built form ≡ true →
-    named_in k form words ≡ cond (are_digits form words) (statement_of lines form words) None
-unfolding number_of
-named_by lines k SubmitLine (queue ∷ []) d b = rw d.all_queues refl
-named_by lines k WaitTimelineLine (name ∷ value ∷ []) d b = rw d.all_semaphores (pair_said _ _ _)
-named_by lines k WaitBinaryLine (name ∷ []) d b = rw d.all_semaphores refl
-named_by lines k FillWholeLine (buffer ∷ offset ∷ word ∷ []) d b = rw d.all_buffers refl
-named_by lines k FillLine (buffer ∷ offset ∷ size ∷ word ∷ []) d b = rw d.all_buffers refl
-named_by lines k UpdateLine (buffer ∷ offset ∷ digits ∷ []) d b = rw d.all_buffers refl
-named_by lines k CopyLine (source ∷ from ∷ target ∷ to ∷ size ∷ []) d b = rw d.all_buffers refl
-named_by lines k SignalTimelineLine (name ∷ value ∷ []) d b = rw d.all_semaphores (pair_said _ _ _)
-named_by lines k SignalBinaryLine (name ∷ []) d b = rw d.all_semaphores refl
-named_by lines k BatchFenceLine (name ∷ []) d b = rw d.all_semaphores refl
-named_by lines k HostSignalLine (name ∷ value ∷ []) d b = rw d.all_semaphores refl
-named_by lines k HostWaitAllLine words d b =
-    ap (option_map (λ ps. TakeHostStep (WaitAll ps))) (pairs_by lines k words d)
-named_by lines k HostWaitAnyLine words d b =
-    ap (option_map (λ ps. TakeHostStep (WaitAny ps))) (pairs_by lines k words d)
-named_by lines k HostPollAllLine words d b =
-    ap (option_map (λ ps. TakeHostStep (PollAll ps))) (pairs_by lines k words d)
-named_by lines k HostPollAnyLine words d b =
-    ap (option_map (λ ps. TakeHostStep (PollAny ps))) (pairs_by lines k words d)
-named_by lines k HostReadLine (name ∷ []) d b = rw d.all_semaphores refl
-named_by lines k HostFenceWaitLine (name ∷ []) d b = rw d.all_semaphores refl
-named_by lines k HostFencePollLine (name ∷ []) d b = rw d.all_semaphores refl
-named_by lines k HostFenceResetLine (name ∷ []) d b = rw d.all_semaphores refl
-named_by lines k TurnLine (actor ∷ []) d b =
-    ap (λ (o : Option ActorName). option_map (λ a. TakeTurns a 1) o) (sym (actor_by lines k actor d))
-named_by lines k TurnsLine (actor ∷ count ∷ []) d b =
-    ap (λ (o : Option ActorName). of_two (λ a n. TakeTurns a n) o (numeral count))
-    (sym (actor_by lines k actor d))
-named_by lines k BufferLine (name ∷ size ∷ []) d b = refl
-named_by lines k TimelineLine (name ∷ value ∷ []) d b = refl
-named_by lines k form words d b = cc
 
 -- Whether a line's words are read
 
@@ -545,13 +411,13 @@ some_mapped f (Some x) = refl
 
 -- pairs are read where all their numbers and names are
 pairs_said : (k : Kept) (texts : List (List ℕ)) →
-    is_some (pairs_in k texts)
-    ≡ (list_all is_numeric (pair_places texts) && list_all (is_known_in k) (pair_places texts))
+    is_some (pairs_at (number_of k) texts)
+    ≡ (list_all is_numeric (pair_places texts) && list_all (is_known (number_of k)) (pair_places texts))
 pairs_said k [] = refl
 pairs_said k (name ∷ []) = refl
 pairs_said k (name ∷ value ∷ texts) =
-    some_pairs (number_of k TimelineName name) (numeral value) (pairs_in k texts)
-    (list_all is_numeric (pair_places texts)) (list_all (is_known_in k) (pair_places texts))
+    some_pairs (number_of k TimelineName name) (numeral value) (pairs_at (number_of k) texts)
+    (list_all is_numeric (pair_places texts)) (list_all (is_known (number_of k)) (pair_places texts))
     (pairs_said k texts)
   where
     and_none : (b c : Bool) → false ≡ ((b && c) && false)
@@ -571,11 +437,11 @@ pairs_said k (name ∷ value ∷ texts) =
 pairs_named : (k : Kept) (form : LineForm) (texts : List (List ℕ)) →
     end_with_pairs (places form) ≡ true →
     is_some (named_in k form texts)
-    ≡ (list_all is_numeric (pair_places texts) && list_all (is_known_in k) (pair_places texts))
-pairs_named k HostWaitAllLine texts e = some_mapped _ (pairs_in k texts) ∙ pairs_said k texts
-pairs_named k HostWaitAnyLine texts e = some_mapped _ (pairs_in k texts) ∙ pairs_said k texts
-pairs_named k HostPollAllLine texts e = some_mapped _ (pairs_in k texts) ∙ pairs_said k texts
-pairs_named k HostPollAnyLine texts e = some_mapped _ (pairs_in k texts) ∙ pairs_said k texts
+    ≡ (list_all is_numeric (pair_places texts) && list_all (is_known (number_of k)) (pair_places texts))
+pairs_named k HostWaitAllLine texts e = some_mapped _ (pairs_at (number_of k) texts) ∙ pairs_said k texts
+pairs_named k HostWaitAnyLine texts e = some_mapped _ (pairs_at (number_of k) texts) ∙ pairs_said k texts
+pairs_named k HostPollAllLine texts e = some_mapped _ (pairs_at (number_of k) texts) ∙ pairs_said k texts
+pairs_named k HostPollAnyLine texts e = some_mapped _ (pairs_at (number_of k) texts) ∙ pairs_said k texts
 pairs_named k other texts e = absurd (false≢true e)
 
 -- a line says something where all its numbers and names are read
@@ -584,7 +450,7 @@ named_said : (k : Kept) (form : LineForm) (texts : List (List ℕ)) →
     are_one_each (open_kinds (places form)) texts ≡ true →
     is_some (named_in k form texts)
     ≡ (list_all is_numeric (placed (open_kinds (places form)) texts)
-    && list_all (is_known_in k) (placed (open_kinds (places form)) texts))
+    && list_all (is_known (number_of k)) (placed (open_kinds (places form)) texts))
 named_said k BufferLine (name ∷ size ∷ []) b e o = some_number _ (numeral size)
 named_said k TimelineLine (name ∷ value ∷ []) b e o = some_number _ (numeral value)
 named_said k BinaryLine (name ∷ []) b e o = refl
@@ -592,7 +458,8 @@ named_said k FenceLine (name ∷ []) b e o = refl
 named_said k (QueueLine mode) (name ∷ []) b e o = refl
 named_said k SubmitLine (queue ∷ []) b e o = some_one _ (number_of k QueueName queue)
 named_said k WaitTimelineLine (name ∷ value ∷ []) b e o =
-    some_two _ (number_of k TimelineName name) (numeral value)
+    some_mapped _ (pair_at (number_of k) name value)
+    ∙ some_two _ (number_of k TimelineName name) (numeral value)
 named_said k WaitBinaryLine (name ∷ []) b e o = some_one _ (number_of k BinaryName name)
 named_said k FillWholeLine (buffer ∷ offset ∷ word ∷ []) b e o =
     some_three _ (number_of k BufferName buffer) (numeral offset) (small_numeral word)
@@ -604,12 +471,13 @@ named_said k CopyLine (source ∷ from ∷ target ∷ to ∷ size ∷ []) b e o 
     some_copy _ (number_of k BufferName source) (numeral from) (number_of k BufferName target)
     (numeral to) (numeral size)
 named_said k SignalTimelineLine (name ∷ value ∷ []) b e o =
-    some_two _ (number_of k TimelineName name) (numeral value)
+    some_mapped _ (pair_at (number_of k) name value)
+    ∙ some_two _ (number_of k TimelineName name) (numeral value)
 named_said k SignalBinaryLine (name ∷ []) b e o = some_one _ (number_of k BinaryName name)
 named_said k BatchFenceLine (name ∷ []) b e o = some_one _ (number_of k FenceName name)
 named_said k EndLine [] b e o = refl
 named_said k HostSignalLine (name ∷ value ∷ []) b e o =
-    some_mapped _ (pair_in k name value)
+    some_mapped _ (pair_at (number_of k) name value)
     ∙ some_two _ (number_of k TimelineName name) (numeral value)
 named_said k HostWaitAllLine texts b e o = absurd (false≢true (sym e))
 named_said k HostWaitAnyLine texts b e o = absurd (false≢true (sym e))
@@ -621,14 +489,14 @@ named_said k HostFencePollLine (name ∷ []) b e o = some_one _ (number_of k Fen
 named_said k HostFenceResetLine (name ∷ []) b e o = some_one _ (number_of k FenceName name)
 named_said k HostIdleLine [] b e o = refl
 named_said k ScheduleLine [] b e o = refl
-named_said k TurnLine (actor ∷ []) b e o = some_one _ (actor_in k actor)
-named_said k TurnsLine (actor ∷ count ∷ []) b e o = some_two _ (actor_in k actor) (numeral count)
+named_said k TurnLine (actor ∷ []) b e o = some_one _ (actor_at (number_of k) actor)
+named_said k TurnsLine (actor ∷ count ∷ []) b e o = some_two _ (actor_at (number_of k) actor) (numeral count)
 named_said k form texts b e o = absurd (cc)
 
 -- the same, of words at the open places of a form
 pub all_read : (k : Kept) (form : LineForm)
     (words : List (Slot × List ℕ)) → AreFound form words → is_built form ≡ true →
-    (list_all is_numeric words && list_all (is_known_in k) words)
+    (list_all is_numeric words && list_all (is_known (number_of k)) words)
     ≡ is_some (named_in k form (map (λ x. x.1) words))
 all_read k form words found b = by_pairs (end_with_pairs (places form)) refl
   where
@@ -636,58 +504,58 @@ all_read k form words found b = by_pairs (end_with_pairs (places form)) refl
     texts = map (λ (x : Slot × List ℕ). x.1) words
 
     by_pairs : (t : Bool) → end_with_pairs (places form) ≡ t →
-        (list_all is_numeric words && list_all (is_known_in k) words) ≡ is_some (named_in k form texts)
+        (list_all is_numeric words && list_all (is_known (number_of k)) words) ≡ is_some (named_in k form texts)
     by_pairs true e =
         let p : words ≡ pair_places texts = found.pairs e in
-        (λ i. list_all is_numeric (p i) && list_all (is_known_in k) (p i))
+        (λ i. list_all is_numeric (p i) && list_all (is_known (number_of k)) (p i))
         ∙ sym (pairs_named k form texts e)
     by_pairs false e =
         let p = placed_is words (open_kinds (places form)) (found.each e) in
-        (λ i. list_all is_numeric (p.1 i) && list_all (is_known_in k) (p.1 i))
+        (λ i. list_all is_numeric (p.1 i) && list_all (is_known (number_of k)) (p.1 i))
         ∙ sym (named_said k form texts b e p.0)
-
--- .. and then it says the same after the lines
-pub said_by_lines : (lines : List Line) (k : Kept) (form : LineForm)
-    (words : List (List ℕ)) (s : Statement) → Declares lines k → is_built form ≡ true →
-    Some s ≡ named_in k form words → statement_of lines form words ≡ Some s
-said_by_lines lines k form words s d b e =
-    by_digits (are_digits form words) (e ∙ named_by lines k form words d b)
-  where
-    by_digits : (t : Bool) → Some s ≡ cond t (statement_of lines form words) None →
-        statement_of lines form words ≡ Some s
-    by_digits true i = sym i
-    by_digits false i = absurd (cc)
 
 -- The first kind of the faults of a line whose words aren't all read, and of one whose words are.
 
-pub unread_first : (lines : List Line) (k : Kept) (batch : Option Batch) → Holds lines k batch →
-    (form : LineForm) (words : List (Slot × List ℕ)) → is_built form ≡ true → AreFound form words →
-    word_fault k batch form words ≡ None → None ≡ named_in k form (map (λ x. x.1) words) →
-    first_fault lines (form, words) ≡ Some (cond (list_all is_numeric words) Name Number)
-unread_first lines k batch h form words built found none said =
-    words_by lines k batch h form words built None none
-    ∙ by_numeric (list_all is_numeric words) (list_all (is_known_in k) words)
+pub unread_first : (k : Kept) (batch : Option Batch) (form : LineForm)
+    (words : List (Slot × List ℕ)) → is_built form ≡ true → AreFound form words →
+    word_fault (earlier_in k batch) form words ≡ None →
+    None ≡ named_in k form (map (λ x. x.1) words) →
+    fault_by (earlier_in k batch) (form, words) ≡ Some (cond (list_all is_numeric words) Name Number)
+unread_first k batch form words built found none said =
+    words_by e form words built None none
+    ∙ by_numeric (list_all is_numeric words) (list_all (is_known (number_of k)) words)
     (all_read k form words found built ∙ ap (λ (o : Option Statement). is_some o) (sym said))
   where
-    by_numeric : (n kn : Bool) → (n && kn) ≡ false →
-        read_fault lines k batch h words (statement_at lines (form, words)) n kn
-        ≡ Some (cond n Name Number)
-    by_numeric true true e = absurd (cc)
-    by_numeric true false e = refl
-    by_numeric false kn e = refl
+    e : Earlier
+    e = earlier_in k batch
 
-pub read_first : (lines : List Line) (k : Kept) (batch : Option Batch) → Holds lines k batch →
-    (form : LineForm) (words : List (Slot × List ℕ)) → is_built form ≡ true → AreFound form words →
-    word_fault k batch form words ≡ None → (s : Statement) →
+    by_numeric : (n kn : Bool) → (n && kn) ≡ false →
+        read_fault e words (said_at e (form, words)) n kn ≡ Some (cond n Name Number)
+    by_numeric true true i = absurd (cc)
+    by_numeric true false i = refl
+    by_numeric false kn i = refl
+
+-- what is said where digits are read
+pub said_read : (k : Kept) (form : LineForm) (words : List (List ℕ)) (s : Statement) →
+    Some s ≡ named_in k form words → statement_of (number_of k) form words ≡ Some s
+said_read k form words s said = by_digits (are_digits form words) said
+  where
+    by_digits : (t : Bool) → Some s ≡ cond t (statement_of (number_of k) form words) None →
+        statement_of (number_of k) form words ≡ Some s
+    by_digits true i = sym i
+    by_digits false i = absurd (cc)
+
+pub read_first : (k : Kept) (batch : Option Batch) (form : LineForm)
+    (words : List (Slot × List ℕ)) → is_built form ≡ true → AreFound form words →
+    word_fault (earlier_in k batch) form words ≡ None → (s : Statement) →
     Some s ≡ named_in k form (map (λ x. x.1) words) →
-    first_fault lines (form, words) ≡ later_fault lines k words (Some s)
-read_first lines k batch h form words built found none s said =
-    let both = and_parts (list_all is_numeric words) (list_all (is_known_in k) words)
+    fault_by (earlier_in k batch) (form, words) ≡ said_fault (earlier_in k batch) words s
+read_first k batch form words built found none s said =
+    let both = and_parts (list_all is_numeric words) (list_all (is_known (number_of k)) words)
     (all_read k form words found built ∙ ap (λ (o : Option Statement). is_some o) (sym said)) in
-    first_by lines k batch h form words built
-    ∙ (λ i. option_or (none i) (read_fault lines k batch h words
-    (said_by_lines lines k form (map (λ x. x.1) words) s h.declares built said i) (both.0 i)
-    (both.1 i)))
+    first_by (earlier_in k batch) form words built
+    ∙ (λ i. option_or (none i) (read_fault (earlier_in k batch) words
+    (said_read k form (map (λ x. x.1) words) s said i) (both.0 i) (both.1 i)))
 
 -- its numbers are read
 pub read_numeric : (k : Kept) (form : LineForm)
@@ -695,5 +563,5 @@ pub read_numeric : (k : Kept) (form : LineForm)
     is_built form ≡ true → Some s ≡ named_in k form (map (λ x. x.1) words) →
     list_all is_numeric words ≡ true
 read_numeric k form words s found b said =
-    (and_parts (list_all is_numeric words) (list_all (is_known_in k) words)
+    (and_parts (list_all is_numeric words) (list_all (is_known (number_of k)) words)
     (all_read k form words found b ∙ ap (λ (o : Option Statement). is_some o) (sym said))).0

@@ -24,10 +24,11 @@ use Rattle.vq_model.specs.declared.script.Queue.{Queue}
 use Rattle.vq_model.specs.declared.script.Mode.{Mode}
 use Rattle.vq_model.specs.declared.script.Mode.TheVariants.{Immediate, Deferred, Threaded}
 use Rattle.vq_model.specs.Context.{is_timeline, is_binary, is_fence, is_threaded}
-use Rattle.vq_model.specs.Forms.{Slot, BufferName, TimelineName, BinaryName, FenceName, QueueName}
+use Rattle.vq_model.specs.Forms.{Slot, BufferName, TimelineName, BinaryName, FenceName, QueueName, ThreadedName}
 use Rattle.vq_script.specs.declared.named_item.NamedItem.{NamedItem}
 use Rattle.vq_script.specs.declared.named_item.NamedItem.TheVariants.{Buffer as BufferAt, Timeline as TimelineAt, Binary as BinaryAt, Fence as FenceAt, Queue as QueueAt}
-use Rattle.vq_script.specs.Names.{item_of, semaphore_item, number_in, number_in_lists, names_buffer, names_timeline, names_binary, names_fence, names_queue, names_threaded, threaded_in, is_taken}
+use Rattle.vq_script.specs.Names.{item_of, semaphore_item, number_in, names_buffer, names_timeline, names_binary, names_fence, names_queue, names_threaded}
+use Rattle.vq_model.specs.Context.{number_in as number_among, is_taken}
 
 -- the first place that passes is in the list where any element passes
 any_within : {X : Type 0} (p : X → Bool) (xs : List X) → nat_lt (position_or_len p xs) (length xs) ≡ list_any p xs
@@ -235,13 +236,13 @@ reads_fence (Timeline v) n = refl
 reads_fence Binary n = refl
 reads_fence Fence n = refl
 
-no_threaded : (kind : SemaphoreKind) (n : ℕ) → threaded_in (Some (semaphore_item kind n)) ≡ None
+no_threaded : (kind : SemaphoreKind) (n : ℕ) → number_in ThreadedName (Some (semaphore_item kind n)) ≡ None
 no_threaded (Timeline v) n = refl
 no_threaded Binary n = refl
 no_threaded Fence n = refl
 
 reads_threaded : (n : ℕ) (mode : Mode) →
-    threaded_in (Some (QueueAt n mode)) ≡ cond (is_threaded mode) (Some n) None
+    number_in ThreadedName (Some (QueueAt n mode)) ≡ cond (is_threaded mode) (Some n) None
 reads_threaded n Immediate = refl
 reads_threaded n Deferred = refl
 reads_threaded n Threaded = refl
@@ -314,15 +315,10 @@ taken_found buffers semaphores queues name d b t i f q =
     ∙ ap (λ c. list_any (names_buffer name) buffers || c || list_any (names_queue name) queues)
     (any_kind name semaphores)
 
--- Threaded queues have their names in the map.
-abbrev pub HasThreaded : BTreeMap (Vec ℕ) NamedItem → List Queue → Type 0
-HasThreaded names queues = (name : List ℕ) →
-    threaded_in (item_of names name) ≡ position (names_threaded name) queues
-
 -- What is declared has its names in the map.
 abbrev pub HasNames : BTreeMap (Vec ℕ) NamedItem → List Buffer → List Semaphore → List Queue → Type 0
 HasNames names buffers semaphores queues = (place : Slot) (name : List ℕ) →
-    number_in place (item_of names name) ≡ number_in_lists buffers semaphores queues place name
+    number_in place (item_of names name) ≡ number_among buffers semaphores queues place name
 
 module _ (old new : BTreeMap (Vec ℕ) NamedItem) (k : Vec ℕ) (d : NamedItem)
     (buffers : List Buffer) (semaphores : List Semaphore) (queues : List Queue)
@@ -355,10 +351,11 @@ module _ (old new : BTreeMap (Vec ℕ) NamedItem) (k : Vec ℕ) (d : NamedItem)
       (none_of_kind (λ s. s.name) (λ s. is_kind s.kind) k.items semaphores free.1) h
 
   -- .. and the threaded queues
-  pub others_threaded : threaded_in (Some d) ≡ None → HasThreaded old queues → HasThreaded new queues
-  others_threaded none h =
-      found_without names_threaded threaded_in old new k d queues put none
-      (none_of_kind (λ q. q.name) (λ q. is_threaded q.mode) k.items queues free.2) h
+  others_threaded : number_in ThreadedName (Some d) ≡ None → (name : List ℕ) →
+      number_in ThreadedName (item_of new name) ≡ position (names_threaded name) queues
+  others_threaded none =
+      found_without names_threaded (number_in ThreadedName) old new k d queues put none
+      (none_of_kind (λ q. q.name) (λ q. is_threaded q.mode) k.items queues free.2) (was ThreadedName)
 
   -- a buffer more
   pub buffer_named : (n : ℕ) (x : Buffer) → d ≡ BufferAt n → k.items ≡ x.name →
@@ -379,6 +376,8 @@ module _ (old new : BTreeMap (Vec ℕ) NamedItem) (k : Vec ℕ) (d : NamedItem)
       (ap (λ (i : NamedItem). number_in FenceName (Some i)) is) (was FenceName) name
   buffer_named n x is named last QueueName name =
       other_queues (ap (λ (i : NamedItem). number_in QueueName (Some i)) is) name
+  buffer_named n x is named last ThreadedName name =
+      others_threaded (ap (λ (i : NamedItem). number_in ThreadedName (Some i)) is) name
   buffer_named n x is named last other name = refl
 
   -- a queue more
@@ -400,15 +399,13 @@ module _ (old new : BTreeMap (Vec ℕ) NamedItem) (k : Vec ℕ) (d : NamedItem)
       (λ other. ap (bytes_eq other) (sym named))
       (ap (λ (i : NamedItem). number_in QueueName (Some i)) is ∙ ap (λ (m : ℕ). Some m) last)
       free.2 (was QueueName) name
-  queue_named n x is named last other name = refl
-
-  pub queue_threaded : (n : ℕ) (x : Queue) → d ≡ QueueAt n x.mode → k.items ≡ x.name →
-      n ≡ length queues → HasThreaded old queues → HasThreaded new (queues ++ x ∷ [])
-  queue_threaded n x is named last h =
-      kind_found (λ q. q.name) (λ q. is_threaded q.mode) threaded_in old new k d queues x put named
-      (ap (λ (i : NamedItem). threaded_in (Some i)) is ∙ reads_threaded n x.mode
+  queue_named n x is named last ThreadedName name =
+      kind_found (λ q. q.name) (λ q. is_threaded q.mode) (number_in ThreadedName) old new k d queues x
+      put named
+      (ap (λ (i : NamedItem). number_in ThreadedName (Some i)) is ∙ reads_threaded n x.mode
       ∙ ap (λ (m : ℕ). cond (is_threaded x.mode) (Some m) None) last)
-      free.2 h
+      free.2 (was ThreadedName) name
+  queue_named n x is named last other name = refl
 
   -- the kind of a semaphore or a fence more
   kind_named : (is_kind : SemaphoreKind → Bool) (place : Slot) → ((kind : SemaphoreKind) (n : ℕ) →
@@ -425,11 +422,6 @@ module _ (old new : BTreeMap (Vec ℕ) NamedItem) (k : Vec ℕ) (d : NamedItem)
       ∙ ap (λ (m : ℕ). cond (is_kind x.kind) (Some m) None) last)
       free.1 h
 
-  pub semaphore_threaded : (n : ℕ) (x : Semaphore) → d ≡ semaphore_item x.kind n →
-      HasThreaded old queues → HasThreaded new queues
-  semaphore_threaded n x is h =
-      others_threaded (ap (λ (i : NamedItem). threaded_in (Some i)) is ∙ no_threaded x.kind n) h
-
   -- a semaphore or a fence more
   pub semaphore_named : (n : ℕ) (x : Semaphore) → d ≡ semaphore_item x.kind n → k.items ≡ x.name →
       n ≡ length semaphores → HasNames new buffers (semaphores ++ x ∷ []) queues
@@ -443,4 +435,7 @@ module _ (old new : BTreeMap (Vec ℕ) NamedItem) (k : Vec ℕ) (d : NamedItem)
       kind_named is_fence FenceName reads_fence n x is named last (was FenceName) name
   semaphore_named n x is named last QueueName name =
       other_queues (ap (λ (i : NamedItem). number_in QueueName (Some i)) is ∙ no_queue x.kind n) name
+  semaphore_named n x is named last ThreadedName name =
+      others_threaded (ap (λ (i : NamedItem). number_in ThreadedName (Some i)) is ∙ no_threaded x.kind n)
+      name
   semaphore_named n x is named last other name = refl

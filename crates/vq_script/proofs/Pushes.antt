@@ -26,13 +26,12 @@ use Rattle.vq_model.specs.declared.script.Command.{Command}
 use Rattle.vq_model.specs.declared.script.Job.{Job}
 use Rattle.vq_model.specs.declared.script.Job.TheVariants.{Host as HostJob, Batch as BatchJob}
 use Rattle.vq_model.specs.Context.{section, section_after, buffer_of, semaphore_of, queue_of, count, some, open_batch, is_command, is_wait, is_signal, is_batch_fence, is_submit, is_end, version_of, turns_of}
-use Rattle.vq_model.specs.Limits.{is_job}
-use Rattle.vq_model.specs.LineFaults.{part_of}
+use Rattle.vq_model.specs.Context.{is_job, part_of, held_from}
 use Rattle.vq_model.specs.Reading.{with_line}
 use Rattle.vq_model.specs.ScriptOfLines.{batch_lines, jobs_of, job_at, is_schedule, turns_at, mark, command_of, wait_of, signal_of, fence_of, first_of_list}
 use Rattle.vq_model.specs.declared.statement.Section.{Section}
 use Rattle.vq_model.specs.declared.statement.Section.TheVariants.{Outside, InBatch}
-use Rattle.vq_script.specs.Holds.{Holds, Declares, FillBatch, Kept, held_from, last_part, with_buffer, with_semaphore, with_queue, with_command, with_batch, with_step, with_schedule, with_turns, section_of}
+use Rattle.vq_script.specs.Holds.{Holds, Declares, FillBatch, Kept, last_part, with_buffer, with_semaphore, with_queue, with_command, with_batch, with_step, with_schedule, with_turns, section_of}
 use Rattle.vq_script.proofs.LineMore.{numbered, or_false, after_last_cut, after_last_more, before_first_more, count_more, some_more, version_more, given_none, given_one, later_part}
 use Rattle.vq_script.specs.declared.said.Said.{Said}
 use Rattle.vq_script.specs.declared.said.Said.TheVariants.{Buffer as SaysBuffer, Semaphore as SaysSemaphore, Queue as SaysQueue, Submit, Wait, FillWhole, Fill, Update, Copy, Signal, Fence, End, Host, Schedule, Turns}
@@ -104,6 +103,7 @@ declares_none : (lines : List Line) (n : ℕ) (s : Statement) (k : Kept) → Dec
 declares_none lines n s k h none =
     record {
       version = version_more lines (numbered n s) h.version (none.little.version n);
+      limits = h.limits;
       all_buffers = given_none buffer_of lines (numbered n s) k.buffers (none.buffer n) h.all_buffers;
       all_bytes = h.all_bytes;
       all_semaphores = given_none semaphore_of lines (numbered n s) k.semaphores (none.semaphore n)
@@ -124,6 +124,7 @@ declares_buffer lines n name size k h =
     let b : Buffer = record { line = n; name = name; size = size } in
     record {
       version = version_more lines l h.version refl;
+      limits = h.limits;
       all_buffers = given_one buffer_of lines l k.buffers b refl h.all_buffers;
       all_bytes = ap (fold (λ a x. a + x) 0)
           (map-append (λ (x : Buffer). x.size) k.buffers (b ∷ []))
@@ -145,6 +146,7 @@ declares_semaphore lines n name kind k h =
     let x : Semaphore = record { line = n; name = name; kind = kind } in
     record {
       version = version_more lines l h.version refl;
+      limits = h.limits;
       all_buffers = given_none buffer_of lines l k.buffers refl h.all_buffers;
       all_bytes = h.all_bytes;
       all_semaphores = given_one semaphore_of lines l k.semaphores x refl h.all_semaphores;
@@ -163,6 +165,7 @@ declares_queue lines n name mode k h =
     let x : Queue = record { line = n; name = name; mode = mode } in
     record {
       version = version_more lines l h.version refl;
+      limits = h.limits;
       all_buffers = given_none buffer_of lines l k.buffers refl h.all_buffers;
       all_bytes = h.all_bytes;
       all_semaphores = given_none semaphore_of lines l k.semaphores refl h.all_semaphores;
@@ -336,6 +339,7 @@ declares_schedule lines n k h =
     let l = numbered n BeginSchedule in
     record {
       version = version_more lines l h.version refl;
+      limits = h.limits;
       all_buffers = given_none buffer_of lines l k.buffers refl h.all_buffers;
       all_bytes = h.all_bytes;
       all_semaphores = given_none semaphore_of lines l k.semaphores refl h.all_semaphores;
@@ -359,6 +363,7 @@ declares_turns lines n actor count k h =
     ∙ ap (λ (m : ℕ). length k.turns + m) (length-replicate count (record { line = n; actor = actor })) in
     record {
       version = version_more lines l h.version refl;
+      limits = h.limits;
       all_buffers = given_none buffer_of lines l k.buffers refl h.all_buffers;
       all_bytes = h.all_bytes;
       all_semaphores = given_none semaphore_of lines l k.semaphores refl h.all_semaphores;
@@ -444,6 +449,7 @@ holds_inside lines n s k commands b c h stands fills counted goes =
           let d = declares_none lines n s k h.declares stands.declares in
           record {
             version = d.version;
+            limits = d.limits;
             all_buffers = d.all_buffers;
             all_bytes = d.all_bytes;
             all_semaphores = d.all_semaphores;
@@ -627,6 +633,7 @@ holds_end lines n b k h =
           let d = declares_none lines n EndBatch k h.declares none_ended in
           record {
             version = d.version;
+            limits = d.limits;
             all_buffers = d.all_buffers;
             all_bytes = d.all_bytes;
             all_semaphores = d.all_semaphores;
@@ -672,6 +679,7 @@ holds_step lines n step k h =
           let d = declares_none lines n (TakeHostStep step) k h.declares (none_stepped step) in
           record {
             version = d.version;
+            limits = d.limits;
             all_buffers = d.all_buffers;
             all_bytes = d.all_bytes;
             all_semaphores = d.all_semaphores;

@@ -9,10 +9,9 @@ use Rattle.vq_model.specs.declared.statement.FaultKind.TheVariants.{Syntax, Orde
 use Rattle.vq_model.specs.declared.statement.FaultKind.TheVariants.{Limit}
 use Rattle.vq_model.specs.declared.statement.Statement.{Statement}
 use Rattle.vq_model.specs.declared.statement.Line.{Line}
-use Rattle.vq_model.specs.Context.{version_of}
-use Rattle.vq_model.specs.Limits.{limits_of, passes_limit}
+use Rattle.vq_model.specs.Earlier.{Earlier, earlier}
 use Rattle.vq_model.specs.LineFaults.{is_shaped, is_numeric, is_known, is_new, is_out_of_order, is_in_range, overlaps}
-use Rattle.vq_model.specs.LineFaults.{kinds}
+use Rattle.vq_model.specs.LineFaults.{kinds, passes_limit}
 use Rattle.vq_model.specs.Meaning.{is_built, statement_of}
 use Rattle.vq_model.specs.declared.statement.LineForm.{LineForm}
 use Rattle.vq_model.specs.Forms.{Slot, places}
@@ -26,30 +25,37 @@ OpenLine = LineForm × List (Slot × List ℕ)
 abbrev pub with_words : List (List ℕ) → LineForm → OpenLine
 with_words words form = (form, open_places (places form) words)
 
--- the statement of a line
-abbrev pub statement_at : List Line → OpenLine → Option Statement
-statement_at before line = statement_of before line.0 (map (λ x. x.1) line.1)
+-- the statement of a line, after lines that answer so
+abbrev pub said_at : Earlier → OpenLine → Option Statement
+said_at e line = statement_of e.number line.0 (map (λ x. x.1) line.1)
 
 -- whether a line has a fault of a kind
-abbrev pub has_fault_at : List Line → OpenLine → FaultKind → Bool
-has_fault_at before line Syntax = not (is_built line.0) || not (list_all is_shaped line.1)
-has_fault_at before line Order = is_out_of_order before line.0
-has_fault_at before line Number = not (list_all is_numeric line.1)
-has_fault_at before line Name = not (list_all (is_known before) line.1)
-has_fault_at before line Twice = not (list_all (is_new before) line.1)
-has_fault_at before line Range =
-    option_map_or (λ s. not (is_in_range before s)) (statement_at before line) false
-has_fault_at before line Overlap = option_map_or (overlaps before) (statement_at before line) false
-has_fault_at before line Limit =
-    option_map_or (passes_limit (limits_of (version_of before)) before)
-    (statement_at before line) false
+abbrev pub has_fault_at : Earlier → OpenLine → FaultKind → Bool
+has_fault_at e line Syntax = not (is_built line.0) || not (list_all is_shaped line.1)
+has_fault_at e line Order = is_out_of_order e line.0
+has_fault_at e line Number = not (list_all is_numeric line.1)
+has_fault_at e line Name = not (list_all (is_known e.number) line.1)
+has_fault_at e line Twice = not (list_all (is_new e.taken) line.1)
+has_fault_at e line Range = option_map_or (λ s. not (is_in_range e s)) (said_at e line) false
+has_fault_at e line Overlap = option_map_or (overlaps e.buffers) (said_at e line) false
+has_fault_at e line Limit = option_map_or (passes_limit e) (said_at e line) false
 
 -- the first kind of a line's faults
+abbrev pub fault_by : Earlier → OpenLine → Option FaultKind
+fault_by e line = find (has_fault_at e line) kinds
+
+-- the same after these lines
+abbrev pub statement_at : List Line → OpenLine → Option Statement
+statement_at before line = said_at (earlier before) line
+
 abbrev pub first_fault : List Line → OpenLine → Option FaultKind
-first_fault before line = find (has_fault_at before line) kinds
+first_fault before line = fault_by (earlier before) line
 
 -- A line has no fault, and its statement is what is made of the value; or it has this fault first.
+abbrev pub TellsBy : {A : Type 0} → Earlier → OpenLine → (A → Statement) → Result A FaultKind → Type 0
+TellsBy e line says (Ok value) =
+    (fault_by e line ≡ None) × (said_at e line ≡ Some (says value))
+TellsBy e line says (Err kind) = fault_by e line ≡ Some kind
+
 abbrev pub Tells : {A : Type 0} → List Line → OpenLine → (A → Statement) → Result A FaultKind → Type 0
-Tells before line says (Ok value) =
-    (first_fault before line ≡ None) × (statement_at before line ≡ Some (says value))
-Tells before line says (Err kind) = first_fault before line ≡ Some kind
+Tells before line says result = TellsBy (earlier before) line says result

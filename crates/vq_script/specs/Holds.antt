@@ -17,13 +17,13 @@ use Rattle.vq_model.specs.declared.script.Job.TheVariants.{Host, Batch as BatchJ
 use Rattle.vq_model.specs.declared.script.HostLine.{HostLine}
 use Rattle.vq_model.specs.declared.statement.Line.{Line}
 use Rattle.vq_model.specs.declared.statement.Statement.{Statement}
-use Rattle.vq_model.specs.declared.statement.Statement.TheVariants.{AddWait}
 use Rattle.vq_model.specs.declared.statement.Section.{Section}
 use Rattle.vq_model.specs.declared.statement.Section.TheVariants.{Outside, InBatch, InSchedule}
 use Rattle.vq_model.specs.Context.{section, version_of, buffers, semaphores, queues, count, some, open_batch}
 use Rattle.vq_model.specs.Context.{is_command, is_wait, is_signal, is_batch_fence, turns_of}
-use Rattle.vq_model.specs.Limits.{is_job}
-use Rattle.vq_model.specs.LineFaults.{part_of}
+use Rattle.vq_model.specs.Context.{is_job, part_of, held_from}
+use Rattle.vq_model.specs.Limits.{limits_of}
+use Rattle.vq_model.specs.declared.limits.Limits.{Limits}
 use Rattle.vq_model.specs.ScriptOfLines.{batch_lines, wait_of, command_of, signal_of, fence_of, first_of_list, jobs_of}
 use Rattle.vq_model.specs.ScriptOfLines.{is_schedule, turns_at}
 use Rattle.vq_script.specs.declared.known.Known.{Known}
@@ -31,6 +31,8 @@ use Rattle.vq_script.specs.declared.open_batch.OpenBatch.{OpenBatch}
 
 -- What lines declare and submit, but for a batch that is open.
 pub record Kept : Type 0 where
+  -- the limits of the version
+  pub most : Limits
   pub buffers : List Buffer
   -- the bytes of all buffers together
   pub bytes : ℕ
@@ -47,6 +49,7 @@ pub record Kept : Type 0 where
 abbrev pub kept : Known → Kept
 kept known =
     record {
+      most = known.limits;
       buffers = known.buffers.items;
       bytes = known.bytes;
       semaphores = known.semaphores.items;
@@ -144,11 +147,6 @@ last_part batch =
     last_part_by (nat_lt 0 (length (waits_of batch))) (nat_lt 0 (length (commands_of batch)))
     (nat_lt 0 (length (signals_of batch))) (is_some (named_fence batch))
 
--- from which command on a wait holds back
-abbrev pub held_from : Statement → ℕ
-held_from (AddWait pair from) = from
-held_from other = 0
-
 -- the jobs that follow, where the open batch goes on
 abbrev pub jobs_with : Option Batch → List Line → List Job
 jobs_with None rest = jobs_of rest
@@ -167,6 +165,7 @@ jobs_with (Some b) rest =
 -- Lines declare and schedule what is kept of them, in version 1.
 pub record Declares (lines : List Line) (k : Kept) : Type 0 where
   pub version : version_of lines ≡ 1
+  pub limits : limits_of (version_of lines) ≡ k.most
   pub all_buffers : buffers lines ≡ k.buffers
   pub all_bytes : sum (map (λ b. b.size) k.buffers) ≡ k.bytes
   pub all_semaphores : semaphores lines ≡ k.semaphores

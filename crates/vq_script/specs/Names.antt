@@ -1,6 +1,5 @@
 -- What a name of the map of names stands for.
-use Rattle.std.specs.Prelude.{ℕ, Bool, ◌||◌, ◌&&◌, List, Option, Some, None}
-use Rattle.std.specs.List.{list_any, position}
+use Rattle.std.specs.Prelude.{ℕ, Bool, ◌&&◌, List, Option, Some, None}
 use Rattle.std.specs.Str.{bytes_eq}
 use Rattle.std.specs.Ordering.{nat_cmp}
 use Rattle.std.specs.Cmp.Lexicographic.{slice_cmp}
@@ -13,7 +12,7 @@ use Rattle.vq_model.specs.declared.script.SemaphoreKind.TheVariants.{Timeline, B
 use Rattle.vq_model.specs.declared.script.Queue.{Queue}
 use Rattle.vq_model.specs.declared.script.Mode.TheVariants.{Threaded}
 use Rattle.vq_model.specs.Context.{is_timeline, is_binary, is_fence, is_threaded}
-use Rattle.vq_model.specs.Forms.{Slot, BufferName, TimelineName, BinaryName, FenceName, QueueName}
+use Rattle.vq_model.specs.Forms.{Slot, BufferName, TimelineName, BinaryName, FenceName, QueueName, ThreadedName}
 use Rattle.vq_script.specs.declared.named_item.NamedItem.{NamedItem}
 use Rattle.vq_script.specs.declared.named_item.NamedItem.TheVariants.{Buffer as BufferAt, Timeline as TimelineAt}
 use Rattle.vq_script.specs.declared.named_item.NamedItem.TheVariants.{Binary as BinaryAt, Fence as FenceAt}
@@ -36,12 +35,8 @@ number_in TimelineName (Some (TimelineAt n)) = Some n
 number_in BinaryName (Some (BinaryAt n)) = Some n
 number_in FenceName (Some (FenceAt n)) = Some n
 number_in QueueName (Some (QueueAt n mode)) = Some n
+number_in ThreadedName (Some (QueueAt n Threaded)) = Some n
 number_in place other = None
-
--- .. if it is a threaded queue
-abbrev pub threaded_in : Option NamedItem → Option ℕ
-threaded_in (Some (QueueAt n Threaded)) = Some n
-threaded_in other = None
 
 -- whether a buffer, a queue, or a semaphore or fence of a kind has this name
 abbrev pub names_buffer : List ℕ → Buffer → Bool
@@ -61,19 +56,3 @@ names_queue name q = bytes_eq name q.name
 
 abbrev pub names_threaded : List ℕ → Queue → Bool
 names_threaded name q = bytes_eq name q.name && is_threaded q.mode
-
--- the number of what has this name, of the kind that a place needs
-abbrev pub number_in_lists : List Buffer → List Semaphore → List Queue → Slot → List ℕ → Option ℕ
-number_in_lists buffers semaphores queues BufferName name = position (names_buffer name) buffers
-number_in_lists buffers semaphores queues TimelineName name = position (names_timeline name) semaphores
-number_in_lists buffers semaphores queues BinaryName name = position (names_binary name) semaphores
-number_in_lists buffers semaphores queues FenceName name = position (names_fence name) semaphores
-number_in_lists buffers semaphores queues QueueName name = position (names_queue name) queues
-number_in_lists buffers semaphores queues place name = None
-
--- whether something that is declared has this name
-abbrev pub is_taken : List Buffer → List Semaphore → List Queue → List ℕ → Bool
-is_taken buffers semaphores queues name =
-    list_any (λ b. bytes_eq name b.name) buffers
-    || list_any (λ s. bytes_eq name s.name) semaphores
-    || list_any (λ q. bytes_eq name q.name) queues

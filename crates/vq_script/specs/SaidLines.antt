@@ -27,7 +27,6 @@ use Rattle.vq_model.specs.declared.statement.Statement.TheVariants.{DeclareSemap
 use Rattle.vq_model.specs.declared.statement.Statement.TheVariants.{BeginSchedule, TakeTurns, TakeHostStep}
 use Rattle.vq_model.specs.Forms.{Slot, NewName, BufferName, TimelineName, BinaryName, FenceName, QueueName, HexDigits}
 use Rattle.vq_model.specs.Forms.{Fixed, Pairs, places}
-use Rattle.vq_model.specs.Limits.{limits_of}
 use Rattle.vq_model.specs.LineFaults.{part_of_form}
 use Rattle.vq_model.specs.Meaning.{is_hex, hex_bytes, small_numeral, binary_pair, of_two, of_three, of_four, of_five}
 use Rattle.vq_model.specs.Meaning.{is_built, statement_of, pair_places}
@@ -39,9 +38,9 @@ use Rattle.vq_script.specs.declared.said.Said.TheVariants.{Fill as SaidFill, Upd
 use Rattle.vq_script.specs.declared.said.Said.TheVariants.{Signal, Fence, End, Host, Schedule, Turns}
 use Rattle.vq_script.specs.Holds.{Kept, last_part, with_buffer, with_semaphore, with_queue, with_command, with_batch}
 use Rattle.vq_script.specs.Holds.{with_step, with_schedule, with_turns}
-use Rattle.vq_script.specs.LineTests.{number_of, actor_in}
-use Rattle.vq_script.specs.Names.{is_taken}
-use Rattle.vq_script.specs.SaidSteps.{pair_in, pairs_in, step_in, IsReadStep}
+use Rattle.vq_script.specs.LineTests.{number_of}
+use Rattle.vq_model.specs.Context.{is_taken}
+use Rattle.vq_script.specs.SaidSteps.{step_in, IsReadStep}
 use Rattle.vq_script.specs.declared.host_steps.SaidStep.{SaidStep}
 
 -- the statement that is said, where names stand for what is kept
@@ -151,52 +150,14 @@ copied (QueueLine mode) words = new_name words
 copied UpdateLine (buffer ∷ offset ∷ digits ∷ []) = Some (HexDigits, digits)
 copied other words = None
 
+-- whether a line's digits are read
+abbrev pub are_digits : LineForm → List (List ℕ) → Bool
+are_digits UpdateLine (buffer ∷ offset ∷ digits ∷ []) = is_hex digits
+are_digits form words = true
+
 -- What a line says, by what is kept, if its words are read.
 abbrev pub named_in : Kept → LineForm → List (List ℕ) → Option Statement
-named_in k SubmitLine (queue ∷ []) =
-    option_map (λ q. BeginBatch q) (number_of k QueueName queue)
-named_in k WaitTimelineLine (name ∷ value ∷ []) =
-    of_two (λ t v. AddWait (record { semaphore = t; value = v }) 1) (number_of k TimelineName name)
-    (numeral value)
-named_in k WaitBinaryLine (name ∷ []) =
-    option_map (λ s. AddWait (binary_pair s) 1) (number_of k BinaryName name)
-named_in k FillWholeLine (buffer ∷ offset ∷ word ∷ []) =
-    of_three (λ b o w. AddCommand (Fill b o Whole w)) (number_of k BufferName buffer)
-    (numeral offset) (small_numeral word)
-named_in k FillLine (buffer ∷ offset ∷ size ∷ word ∷ []) =
-    of_four (λ b o n w. AddCommand (Fill b o (Count n) w)) (number_of k BufferName buffer)
-    (numeral offset) (numeral size) (small_numeral word)
-named_in k UpdateLine (buffer ∷ offset ∷ digits ∷ []) =
-    cond (is_hex digits)
-    (of_two (λ b o. AddCommand (Update b o (hex_bytes digits))) (number_of k BufferName buffer)
-    (numeral offset)) None
-named_in k CopyLine (source ∷ from ∷ target ∷ to ∷ size ∷ []) =
-    of_five (λ s so t o n. AddCommand (Copy s so t o n)) (number_of k BufferName source)
-    (numeral from) (number_of k BufferName target) (numeral to) (numeral size)
-named_in k SignalTimelineLine (name ∷ value ∷ []) =
-    of_two (λ t v. AddSignal (record { semaphore = t; value = v })) (number_of k TimelineName name)
-    (numeral value)
-named_in k SignalBinaryLine (name ∷ []) =
-    option_map (λ s. AddSignal (binary_pair s)) (number_of k BinaryName name)
-named_in k BatchFenceLine (name ∷ []) = option_map (λ f. AddFence f) (number_of k FenceName name)
-named_in k HostSignalLine (name ∷ value ∷ []) =
-    option_map (λ p. TakeHostStep (HostSignal p)) (pair_in k name value)
-named_in k HostWaitAllLine words = option_map (λ ps. TakeHostStep (WaitAll ps)) (pairs_in k words)
-named_in k HostWaitAnyLine words = option_map (λ ps. TakeHostStep (WaitAny ps)) (pairs_in k words)
-named_in k HostPollAllLine words = option_map (λ ps. TakeHostStep (PollAll ps)) (pairs_in k words)
-named_in k HostPollAnyLine words = option_map (λ ps. TakeHostStep (PollAny ps)) (pairs_in k words)
-named_in k HostReadLine (name ∷ []) =
-    option_map (λ t. TakeHostStep (Read t)) (number_of k TimelineName name)
-named_in k HostFenceWaitLine (name ∷ []) =
-    option_map (λ f. TakeHostStep (FenceWait f)) (number_of k FenceName name)
-named_in k HostFencePollLine (name ∷ []) =
-    option_map (λ f. TakeHostStep (FencePoll f)) (number_of k FenceName name)
-named_in k HostFenceResetLine (name ∷ []) =
-    option_map (λ f. TakeHostStep (FenceReset f)) (number_of k FenceName name)
-named_in k TurnLine (actor ∷ []) = option_map (λ a. TakeTurns a 1) (actor_in k actor)
-named_in k TurnsLine (actor ∷ turns ∷ []) =
-    of_two (λ a n. TakeTurns a n) (actor_in k actor) (numeral turns)
-named_in k form words = statement_of [] form words
+named_in k form words = cond (are_digits form words) (statement_of (number_of k) form words) None
 
 -- words are read, and say this
 abbrev pub Says : Kept → LineForm → List (Slot × List ℕ) → Option Said → Type 0
@@ -269,20 +230,20 @@ IsNewName k name =
 
 -- one command more may be kept
 pub record MayCommand (k : Kept) (b : Batch) : Type 0 where
-  pub room : k.commands < (limits_of 1).commands
+  pub room : k.commands < k.most.commands
   pub in_order : nat_lt 2 (last_part (Some b)) ≡ false
 
 abbrev pub MayKeep : Kept → Option Batch → Said → Type 0
 MayKeep k None (Buffer name size) =
-    IsNewName k name.now × (length k.buffers < (limits_of 1).buffers)
-    × (k.bytes + size ≤ (limits_of 1).bytes)
+    IsNewName k name.now × (length k.buffers < k.most.buffers)
+    × (k.bytes + size ≤ k.most.bytes)
 MayKeep k None (Semaphore name kind) =
-    IsNewName k name.now × (length k.semaphores < (limits_of 1).semaphores)
-MayKeep k None (Queue name mode) = IsNewName k name.now × (length k.queues < (limits_of 1).queues)
+    IsNewName k name.now × (length k.semaphores < k.most.semaphores)
+MayKeep k None (Queue name mode) = IsNewName k name.now × (length k.queues < k.most.queues)
 MayKeep k None (Submit queue) = k.scheduled ≡ false
 MayKeep k None (Host step) = IsReadStep k step
 MayKeep k None Schedule = ⊤
-MayKeep k None (Turns actor count) = length k.turns + count ≤ (limits_of 1).turns
+MayKeep k None (Turns actor count) = length k.turns + count ≤ k.most.turns
 MayKeep k (Some b) (Wait pair) = nat_lt 1 (last_part (Some b)) ≡ false
 MayKeep k (Some b) (FillWhole buffer o w) = MayCommand k b
 MayKeep k (Some b) (SaidFill buffer o n w) = MayCommand k b

@@ -1,13 +1,11 @@
 -- What a line says of a step of the host, and the step.
-use Rattle.std.specs.Prelude.{ℕ, ◌≡◌, true, is_some, List, [], ◌∷◌, Option, Some, ⊤}
+use Rattle.std.specs.Prelude.{◌≡◌, true, is_some, List, [], ⊤}
 use Rattle.std.specs.Option.{unwrap_or}
 use Rattle.vq_model.specs.declared.script.Pair.{Pair}
 use Rattle.vq_model.specs.declared.script.HostStep.{HostStep}
 use Rattle.vq_model.specs.declared.script.HostStep.TheVariants.{Signal, WaitAll, WaitAny, PollAll, PollAny, Read}
 use Rattle.vq_model.specs.declared.script.HostStep.TheVariants.{FenceWait, FencePoll, FenceReset, Idle}
-use Rattle.vq_model.specs.Forms.{TimelineName}
-use Rattle.vq_model.specs.Meaning.{of_two}
-use Rattle.vq_model.specs.Text.{numeral}
+use Rattle.vq_model.specs.Meaning.{pairs_at}
 use Rattle.vq_script.specs.declared.open_words.OpenWord.{OpenWord}
 use Rattle.vq_script.specs.declared.host_steps.SaidStep.{SaidStep}
 use Rattle.vq_script.specs.declared.host_steps.SaidStep.TheVariants.{Signal as SaysSignal, WaitAll as SaysWaitAll}
@@ -20,20 +18,9 @@ use Rattle.vq_script.specs.Holds.{Kept}
 use Rattle.vq_script.specs.LineTests.{number_of}
 use Rattle.vq_script.specs.OpenWords.{texts_of}
 
--- the pair of a timeline's name and a numeral
-abbrev pub pair_in : Kept → List ℕ → List ℕ → Option Pair
-pair_in k name value =
-    of_two (λ t v. record { semaphore = t; value = v }) (number_of k TimelineName name) (numeral value)
-
--- the pairs of words
-abbrev pub pairs_in : Kept → List (List ℕ) → Option (List Pair)
-pairs_in k (name ∷ value ∷ words) =
-    of_two (λ p ps. p ∷ ps) (pair_in k name value) (pairs_in k words)
-pairs_in k words = Some []
-
 -- the pairs of words that are read
 abbrev pub read_pairs : Kept → List OpenWord → List Pair
-read_pairs k words = unwrap_or (pairs_in k (texts_of words)) []
+read_pairs k words = unwrap_or (pairs_at (number_of k) (texts_of words)) []
 
 -- the step that a line says
 abbrev pub step_in : Kept → SaidStep → HostStep
@@ -50,7 +37,7 @@ step_in k SaysIdle = Idle
 
 -- the pairs of words are read
 abbrev pub AreRead : Kept → List OpenWord → Type 0
-AreRead k words = is_some (pairs_in k (texts_of words)) ≡ true
+AreRead k words = is_some (pairs_at (number_of k) (texts_of words)) ≡ true
 
 -- .. of a step
 abbrev pub IsReadStep : Kept → SaidStep → Type 0

@@ -3,7 +3,7 @@ use Rattle.std.specs.Prelude.{ℕ, List, map, Bool, true, false, [], ◌∷◌, 
 use Rattle.std.specs.Str.{bytes_eq}
 use Rattle.vq_model.specs.Forms.{Slot, Fixed, NewName, BufferName, TimelineName, BinaryName, FenceName, QueueName}
 use Rattle.vq_model.specs.Forms.{Numeral, SmallNumeral, HexDigits, Actor, Pairs, forms_outside, forms_in_batch}
-use Rattle.vq_model.specs.Forms.{forms_in_schedule, schedule_forms}
+use Rattle.vq_model.specs.Forms.{forms_in_schedule, schedule_forms, ThreadedName}
 use Rattle.vq_model.specs.declared.statement.Form.{Form}
 use Rattle.vq_model.specs.declared.statement.LineForm.{LineForm}
 use Rattle.vq_model.specs.declared.statement.Section.{Section}
@@ -11,7 +11,7 @@ use Rattle.vq_model.specs.declared.statement.Section.TheVariants.{Outside, InBat
 use Rattle.vq_script.specs.declared.table.Token.{Token}
 use Rattle.vq_script.specs.declared.table.Token.TheVariants.{Word, Name, BufferToken, TimelineToken, BinaryToken}
 use Rattle.vq_script.specs.declared.table.Token.TheVariants.{FenceToken, QueueToken, Number, SmallNumber, Digits}
-use Rattle.vq_script.specs.declared.table.Token.TheVariants.{ActorToken, PairTokens}
+use Rattle.vq_script.specs.declared.table.Token.TheVariants.{ActorToken, PairTokens, ThreadedToken}
 
 abbrev pub place_of : Token → Slot
 place_of (Word text) = Fixed text.now
@@ -21,6 +21,7 @@ place_of TimelineToken = TimelineName
 place_of BinaryToken = BinaryName
 place_of FenceToken = FenceName
 place_of QueueToken = QueueName
+place_of ThreadedToken = ThreadedName
 place_of Number = Numeral
 place_of SmallNumber = SmallNumeral
 place_of Digits = HexDigits

@@ -1,6 +1,5 @@
 //! What is kept after a line more.
 ghost use Rattle.std.specs.Prelude.{◌≡◌, ◌<◌, OnOk, true, is_some};
-ghost use Rattle.vq_model.specs.Limits.{limits_of};
 ghost use Rattle.vq_model.specs.declared.statement.Statement.TheVariants.{AddCommand};
 ghost use Rattle.vq_script.specs.Holds.{kept, open_so_far, with_step};
 ghost use Rattle.vq_script.specs.SaidLines.{May, after, ended, statement_in};
@@ -159,7 +158,7 @@ impl Known {
     /// Adds a command to the open batch.
     fn add_command(&mut self, number: u32, command: Command) -> Result<(), AllocError>
         requires open { is_some (open_so_far self.old.batch) ≡ true }
-        requires room { self.old.commands < (limits_of 1).commands }
+        requires room { self.old.commands < self.old.limits.commands }
         ensures { OnOk result ((kept self.new, open_so_far self.new.batch)
             ≡ after number (AddCommand command) (kept self.old) (open_so_far self.old.batch)) }
     {

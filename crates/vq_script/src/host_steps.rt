@@ -1,10 +1,12 @@
 //! What a line says of a step of the host, before it is kept: its pairs are words yet.
 ghost use Rattle.std.specs.Prelude.{◌≡◌, true, is_some, length, IfOk, IfSome, Some};
-ghost use Rattle.vq_model.specs.Limits.{pairs_of};
+ghost use Rattle.vq_model.specs.LineFaults.{pairs_of};
+ghost use Rattle.vq_model.specs.Meaning.{pair_at, pairs_at};
+ghost use Rattle.vq_script.specs.LineTests.{number_of};
 ghost use Rattle.vq_script.specs.Holds.{Kept, kept};
 ghost use Rattle.vq_script.specs.OpenWords.{opens, texts_of};
 ghost use Rattle.vq_script.specs.SaidLines.{AreOf, is_step_line, is_pairs_line, SaysStep};
-ghost use Rattle.vq_script.specs.SaidSteps.{pair_in, pairs_in, step_in, IsReadStep};
+ghost use Rattle.vq_script.specs.SaidSteps.{step_in, IsReadStep};
 
 use crate::known::Known;
 use crate::numerals::numeral;
@@ -48,7 +50,7 @@ impl SaidStep<'_> {
 
 /// The pair of a timeline's name and a numeral, where both are read.
 fn pair(known: &Known, timeline: &[u8], value: &[u8]) -> Option<Pair>
-    ensures { result ≡ pair_in (kept known.now) timeline.now value.now }
+    ensures { result ≡ pair_at (number_of (kept known.now)) timeline.now value.now }
 {
     Some(Pair {
         semaphore: known.number_of(Token::TimelineToken, timeline)?,
@@ -59,7 +61,7 @@ fn pair(known: &Known, timeline: &[u8], value: &[u8]) -> Option<Pair>
 /// Whether the pairs of these words are read.
 #[tactic(auto, using(crate::proofs::PairsRead::few_words))]
 fn are_read(known: &Known, words: &[OpenWord<'_>]) -> bool
-    ensures { result ≡ is_some (pairs_in (kept known.now) (texts_of words.now)) }
+    ensures { result ≡ is_some (pairs_at (number_of (kept known.now)) (texts_of words.now)) }
 {
     let mut rest = words;
     while let [timeline, value, after @ ..] = rest {
@@ -77,8 +79,8 @@ fn owned_pairs(
     known: &Known,
     words: &[OpenWord<'_>],
 ) -> Result<List<Pair>, AllocError>
-    requires { is_some (pairs_in (kept known.now) (texts_of words.now)) ≡ true }
-    ensures { IfOk result (λ pairs. pairs_in (kept known.now) (texts_of words.now) ≡ Some pairs) }
+    requires { is_some (pairs_at (number_of (kept known.now)) (texts_of words.now)) ≡ true }
+    ensures { IfOk result (λ pairs. pairs_at (number_of (kept known.now)) (texts_of words.now) ≡ Some pairs) }
 {
     let mut pairs = Vec::new(alloc);
     let mut rest = words;

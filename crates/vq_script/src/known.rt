@@ -1,19 +1,18 @@
 //! What the lines so far declare and submit.
-ghost use Rattle.std.specs.Prelude.{◌≡◌, ◌+◌, ◌<◌, ◌≤◌, ◌||◌, ◌++◌, ◌∷◌, [], ℕ};
+ghost use Rattle.std.specs.Prelude.{◌≡◌, ◌+◌, ◌<◌, ◌≤◌, ◌^◌, ◌||◌, ◌++◌, ◌∷◌, [], ℕ};
 ghost use Rattle.std.specs.Prelude.{List, nat_lt, length, false, is_some};
 ghost use Rattle.std.specs.Prelude.{not, OnOk};
-ghost use Rattle.std.specs.List.{position};
 ghost use Rattle.vq_model.specs.Forms.{Slot};
-ghost use Rattle.vq_model.specs.Limits.{limits_of};
-ghost use Rattle.vq_script.specs.Names.{item_of, number_in, number_in_lists, is_taken, names_threaded, threaded_in};
+ghost use Rattle.vq_model.specs.Context.{number_in as number_among, is_taken};
+ghost use Rattle.vq_script.specs.Names.{item_of, number_in};
 
-use crate::limits;
 use crate::named_item::{NamedItem, semaphore_item};
 use crate::names::{after_mark, is_marked};
 use crate::open_batch::OpenBatch;
 use crate::table::Token;
 use std::alloc::{AllocError, Global};
 use std::collections::BTreeMap;
+use vq_model::limits::Limits;
 use vq_model::list::List;
 use vq_model::script::{ActorName, Buffer, Job, Queue, Script, Semaphore, Turn};
 use vq_model::statement::Section;
@@ -21,6 +20,8 @@ use vq_model::statement::Section;
 /// What the lines so far declare and submit.
 #[derive(Drop)]
 pub struct Known {
+    /// The limits of the version.
+    pub limits: Limits,
     pub buffers: Vec<Buffer>,
     /// The bytes of all buffers together.
     pub bytes: u32,
@@ -39,25 +40,30 @@ pub struct Known {
     pub turns: Vec<Turn>,
     /// What each declared name stands for.
     names: BTreeMap<Vec<u8>, NamedItem>,
-    ghost few_bytes: { bytes ≤ (limits_of 1).bytes },
-    ghost few_buffers: { length buffers.items ≤ (limits_of 1).buffers },
-    ghost few_semaphores: { length semaphores.items ≤ (limits_of 1).semaphores },
-    ghost few_queues: { length queues.items ≤ (limits_of 1).queues },
+    ghost small_bytes: { limits.bytes < 2 ^ 32 },
+    ghost small_buffers: { limits.buffers < 2 ^ 32 },
+    ghost small_semaphores: { limits.semaphores < 2 ^ 32 },
+    ghost small_queues: { limits.queues < 2 ^ 32 },
+    ghost small_commands: { limits.commands < 2 ^ 32 },
+    ghost few_bytes: { bytes ≤ limits.bytes },
+    ghost few_buffers: { length buffers.items ≤ limits.buffers },
+    ghost few_semaphores: { length semaphores.items ≤ limits.semaphores },
+    ghost few_queues: { length queues.items ≤ limits.queues },
     ghost all_names: { (place : Slot) (name : List ℕ) → number_in place (item_of names name)
-        ≡ number_in_lists buffers.items semaphores.items queues.items place name },
-    ghost few_turns: { length turns.items ≤ (limits_of 1).turns },
-    ghost threaded_names: { (name : List ℕ) → threaded_in (item_of names name)
-        ≡ position (names_threaded name) queues.items },
+        ≡ number_among buffers.items semaphores.items queues.items place name },
+    ghost few_turns: { length turns.items ≤ limits.turns },
 }
 
 impl Known {
     ghost use Rattle.std.specs.Prelude.{None};
+    ghost use Rattle.vq_model.specs.Context.{size_in};
+    ghost use Rattle.vq_model.specs.Meaning.{actor_at};
     ghost use Rattle.vq_model.specs.ScriptOfLines.{script_of};
     ghost use Rattle.vq_model.specs.declared.statement.Line.{Line};
-    ghost use Rattle.vq_script.specs.Holds.{Holds, Keeps, kept, last_part, named_fence, waits_of, commands_of};
+    ghost use Rattle.vq_script.specs.Holds.{Holds, Keeps, kept, last_part, named_fence, waits_of, commands_of, open_jobs};
     ghost use Rattle.vq_script.specs.Holds.{signals_of, open_so_far, section_of, with_buffer, with_semaphore};
     ghost use Rattle.vq_script.specs.Holds.{with_queue, with_turns};
-    ghost use Rattle.vq_script.specs.LineTests.{number_of, threaded_of, actor_in, size_in};
+    ghost use Rattle.vq_script.specs.LineTests.{number_of};
     ghost use Rattle.vq_script.specs.Table.{place_of};
 
     /// What no lines declare and submit.
@@ -65,6 +71,7 @@ impl Known {
         ensures { Keeps [] result }
     {
         Known {
+            limits: Limits::of(1),
             buffers: Vec::new(alloc),
             bytes: 0,
             semaphores: Vec::new(alloc),
@@ -112,25 +119,17 @@ impl Known {
         self.names.get(name)?.number(place)
     }
 
-    /// The number of the threaded queue that has this name.
-    #[tactic(auto, unfolding(crate::specs::LineTests::threaded_of))]
-    fn threaded(&self, name: &[u8]) -> Option<u32>
-        ensures { result ≡ threaded_of (kept self.now) name.now }
-    {
-        self.names.get(name)?.threaded()
-    }
-
     /// The actor of the schedule that a word names: the host, or after a letter and a colon the
     /// thread of a threaded queue or the device's side of a queue.
     pub fn actor(&self, word: &[u8]) -> Option<ActorName>
-        ensures { result ≡ actor_in (kept self.now) word.now }
+        ensures { result ≡ actor_at (number_of (kept self.now)) word.now }
     {
         if word == b"host".as_slice() {
             return Some(ActorName::Host);
         }
         let name = after_mark(word);
         if is_marked(b'S', word) {
-            Some(ActorName::Submit(self.threaded(name)?))
+            Some(ActorName::Submit(self.number_of(Token::ThreadedToken, name)?))
         } else {
             Some(ActorName::Ring(self.number_of(Token::QueueToken, name)?))
         }
@@ -146,7 +145,7 @@ impl Known {
 
     /// The size of a buffer.
     pub fn size_of(&self, buffer: u32) -> u32
-        ensures { result ≡ size_in (kept self.now) buffer }
+        ensures { result ≡ size_in self.now.buffers.items buffer }
     {
         match self.buffers.get(buffer as usize) {
             Some(buffer) => buffer.size,
@@ -160,6 +159,16 @@ impl Known {
             || nat_lt 0 (length self.now.jobs.items)) }
     {
         self.batch.is_some() || !self.jobs.is_empty()
+    }
+
+    /// The jobs so far, with the open batch.
+    pub fn job_count(&self) -> usize
+        ensures { result ≡ length self.now.jobs.items + open_jobs (open_so_far self.now.batch) }
+    {
+        match self.batch {
+            None => self.jobs.len(),
+            Some(_) => self.jobs.len() + 1,
+        }
     }
 
     /// The last part of the open batch of which there is a line, 0 where there is none.
@@ -182,46 +191,66 @@ impl Known {
         }
     }
 
+    /// The waits of the open batch.
+    fn open_waits(&self) -> usize
+        ensures { result ≡ length (waits_of (open_so_far self.now.batch)) }
+    {
+        match &self.batch {
+            None => 0,
+            Some(batch) => batch.waits.len(),
+        }
+    }
+
+    /// The commands of the open batch.
+    fn open_commands(&self) -> usize
+        ensures { result ≡ length (commands_of (open_so_far self.now.batch)) }
+    {
+        match &self.batch {
+            None => 0,
+            Some(batch) => batch.commands.len(),
+        }
+    }
+
+    /// The signals of the open batch.
+    fn open_signals(&self) -> usize
+        ensures { result ≡ length (signals_of (open_so_far self.now.batch)) }
+    {
+        match &self.batch {
+            None => 0,
+            Some(batch) => batch.signals.len(),
+        }
+    }
+
     /// Whether one wait more is too much.
     pub fn has_all_waits(&self) -> bool
         ensures { result ≡ not (nat_lt (length (waits_of (open_so_far self.now.batch)))
-            (limits_of 1).waits) }
+            self.now.limits.waits) }
     {
-        match &self.batch {
-            None => false,
-            Some(batch) => batch.waits.len() >= limits::BATCH_WAITS,
-        }
+        self.open_waits() >= self.limits.waits as usize
     }
 
     /// Whether one command more is too much, in all or in the open batch.
     pub fn has_all_commands(&self) -> bool
-        ensures { result ≡ (not (nat_lt self.now.commands (limits_of 1).commands)
+        ensures { result ≡ (not (nat_lt self.now.commands self.now.limits.commands)
             || not (nat_lt (length (commands_of (open_so_far self.now.batch)))
-            (limits_of 1).batch_commands)) }
+            self.now.limits.batch_commands)) }
     {
-        match &self.batch {
-            None => self.commands >= limits::COMMANDS,
-            Some(batch) => {
-                self.commands >= limits::COMMANDS || batch.commands.len() >= limits::BATCH_COMMANDS
-            }
-        }
+        self.commands >= self.limits.commands
+            || self.open_commands() >= self.limits.batch_commands as usize
     }
 
     /// Whether one signal more is too much.
     pub fn has_all_signals(&self) -> bool
         ensures { result ≡ not (nat_lt (length (signals_of (open_so_far self.now.batch)))
-            (limits_of 1).signals) }
+            self.now.limits.signals) }
     {
-        match &self.batch {
-            None => false,
-            Some(batch) => batch.signals.len() >= limits::BATCH_SIGNALS,
-        }
+        self.open_signals() >= self.limits.signals as usize
     }
 
     /// Declares a buffer, whose name is new. For want of memory all stays as it was.
     pub fn add_buffer(&mut self, alloc: Global, buffer: Buffer) -> Result<(), AllocError>
-        requires room { length self.old.buffers.items < (limits_of 1).buffers }
-        requires few_bytes { self.old.bytes + buffer.size ≤ (limits_of 1).bytes }
+        requires room { length self.old.buffers.items < self.old.limits.buffers }
+        requires few_bytes { self.old.bytes + buffer.size ≤ self.old.limits.bytes }
         requires fresh { is_taken self.old.buffers.items self.old.semaphores.items
             self.old.queues.items buffer.name ≡ false }
         ensures added { OnOk result (kept self.new ≡ with_buffer (kept self.old) buffer) }
@@ -240,7 +269,7 @@ impl Known {
     /// Declares a timeline, a binary semaphore or a fence, whose name is new. For want of memory
     /// all stays as it was.
     pub fn add_semaphore(&mut self, alloc: Global, semaphore: Semaphore) -> Result<(), AllocError>
-        requires room { length self.old.semaphores.items < (limits_of 1).semaphores }
+        requires room { length self.old.semaphores.items < self.old.limits.semaphores }
         requires fresh { is_taken self.old.buffers.items self.old.semaphores.items
             self.old.queues.items semaphore.name ≡ false }
         ensures added { OnOk result (kept self.new ≡ with_semaphore (kept self.old) semaphore) }
@@ -256,7 +285,7 @@ impl Known {
 
     /// Declares a queue, whose name is new. For want of memory all stays as it was.
     pub fn add_queue(&mut self, alloc: Global, queue: Queue) -> Result<(), AllocError>
-        requires room { length self.old.queues.items < (limits_of 1).queues }
+        requires room { length self.old.queues.items < self.old.limits.queues }
         requires fresh { is_taken self.old.buffers.items self.old.semaphores.items
             self.old.queues.items queue.name ≡ false }
         ensures added { OnOk result (kept self.new ≡ with_queue (kept self.old) queue) }
@@ -272,7 +301,7 @@ impl Known {
 
     /// Adds turns of one actor, of which there are so few. For want of memory some of them may stand.
     pub fn add_turns(&mut self, turn: Turn, count: u64) -> Result<(), AllocError>
-        requires room { length self.old.turns.items + count ≤ (limits_of 1).turns }
+        requires room { length self.old.turns.items + count ≤ self.old.limits.turns }
         ensures added { OnOk result (kept self.new
             ≡ with_turns (kept self.old) turn.line turn.actor count) }
         ensures open { self.new.batch ≡ self.old.batch }
@@ -285,7 +314,7 @@ impl Known {
 
     /// Adds a turn.
     fn add_turn(&mut self, turn: Turn) -> Result<(), AllocError>
-        requires room { length self.old.turns.items < (limits_of 1).turns }
+        requires room { length self.old.turns.items < self.old.limits.turns }
         ensures added { OnOk result (kept self.new ≡ with_turns (kept self.old) turn.line turn.actor 1) }
         ensures open { self.new.batch ≡ self.old.batch }
     {

@@ -1,29 +1,28 @@
 //! The first fault of a line: its words first, then what it says.
-ghost use Rattle.std.specs.Prelude.{◌≡◌, ◌<◌, ◌^◌, [], List, None, IsTrue, IfOk, cond};
+ghost use Rattle.std.specs.Prelude.{◌≡◌, ◌<◌, ◌^◌, List, None, IsTrue, IfOk, cond};
 ghost use Rattle.std.specs.List.{list_all};
-ghost use Rattle.vq_model.specs.LineFaults.{is_numeric, overlaps};
+ghost use Rattle.vq_model.specs.LineFaults.{is_numeric, is_out_of_order, is_within, is_in_range, overlaps, passes_limit};
 ghost use Rattle.vq_model.specs.declared.statement.FaultKind.TheVariants.{Name, Number};
 ghost use Rattle.vq_model.specs.declared.statement.Line.{Line};
 ghost use Rattle.vq_script.specs.Faults.{Tells};
 ghost use Rattle.vq_script.specs.Holds.{Keeps, Kept, kept, open_so_far};
-ghost use Rattle.vq_script.specs.LineTests.{is_late, is_within_in, size_in, is_in_range_in, passes_in};
-ghost use Rattle.vq_script.specs.LineTests.{word_fault, said_fault};
+ghost use Rattle.vq_script.specs.LineTests.{earlier_in, word_fault, said_fault};
 ghost use Rattle.vq_script.specs.OpenWords.{opens};
 ghost use Rattle.vq_script.specs.SaidLines.{AreFound, IsWhollyRead, IsSmall, May, Stands, statement_in};
 
 use crate::known::Known;
-use crate::limits;
 use crate::open_words::OpenWord;
 use crate::place_faults::{are_new, are_numeric, are_shaped};
 use crate::said::{Said, statement_of};
 use crate::table::{is_declaration, part_of_form};
+use vq_model::limits::UPDATE_BYTES;
 use vq_model::ranges::is_aligned;
 use vq_model::statement::{FaultKind, LineForm};
 
 /// Whether a form is out of order: a declaration after the first batch or step of the host, a line of an earlier part
 /// of the batch, or a second fence.
 fn is_late(known: &Known, form: LineForm) -> bool
-    ensures { result ≡ is_late (kept known.now) (open_so_far known.now.batch) form }
+    ensures { result ≡ is_out_of_order (earlier_in (kept known.now) (open_so_far known.now.batch)) form }
 {
     (is_declaration(form) && known.has_begun())
         || part_of_form(form) < known.last_part()
@@ -32,7 +31,8 @@ fn is_late(known: &Known, form: LineForm) -> bool
 
 /// The first kind of the faults that the words of a line have before they are read.
 fn word_fault(known: &Known, form: LineForm, words: &[OpenWord<'_>]) -> Option<FaultKind>
-    ensures { result ≡ word_fault (kept known.now) (open_so_far known.now.batch) form (opens words.now) }
+    ensures { result ≡ word_fault (earlier_in (kept known.now) (open_so_far known.now.batch)) form
+        (opens words.now) }
 {
     if !are_shaped(words) {
         return Some(FaultKind::Syntax);
@@ -43,12 +43,9 @@ fn word_fault(known: &Known, form: LineForm, words: &[OpenWord<'_>]) -> Option<F
     None
 }
 
-/// The most bytes of an update. Source: Vulkan 1.3, vkCmdUpdateBuffer.
-const UPDATE_BYTES: u64 = 65_536;
-
 /// Whether bytes begin in a buffer, are one at least, and end in it.
 fn is_within(known: &Known, buffer: u32, offset: u64, size: u64) -> bool
-    ensures exact { result ≡ is_within_in (kept known.now) buffer offset size }
+    ensures exact { result ≡ is_within known.now.buffers.items buffer offset size }
     ensures small { IsTrue result → (offset < 2 ^ 32) × (size < 2 ^ 32) }
 {
     let end = u64::from(known.size_of(buffer));
@@ -58,7 +55,8 @@ fn is_within(known: &Known, buffer: u32, offset: u64, size: u64) -> bool
 /// Whether the sizes and offsets of what a line says are in range.
 #[tactic(auto, using(crate::proofs::DigitsRead::hex_length, crate::proofs::DigitsRead::hex_limit))]
 fn is_in_range(known: &Known, said: &Said<'_>) -> bool
-    ensures exact { result ≡ is_in_range_in (kept known.now) (statement_in (kept known.now) said.now) }
+    ensures exact { result ≡ is_in_range (earlier_in (kept known.now) (open_so_far known.now.batch))
+        (statement_in (kept known.now) said.now) }
     ensures small { IsTrue result → IsSmall said.now }
 {
     match *said {
@@ -100,7 +98,7 @@ fn is_in_range(known: &Known, said: &Said<'_>) -> bool
 
 /// Whether the two ranges of a copy share a byte of one buffer.
 fn overlaps(said: &Said<'_>) -> bool
-    ensures { (k : Kept) → result ≡ overlaps [] (statement_in k said.now) }
+    ensures { (k : Kept) → result ≡ overlaps k.buffers (statement_in k said.now) }
 {
     match *said {
         Said::Copy {
@@ -117,18 +115,20 @@ fn overlaps(said: &Said<'_>) -> bool
 /// Whether what a line says takes a quantity past its limit.
 fn passes_limit(known: &Known, said: &Said<'_>) -> bool
     requires read { IsWhollyRead (kept known.now) said.now }
-    ensures exact { result ≡ passes_in (kept known.now) (open_so_far known.now.batch)
+    ensures exact { result ≡ passes_limit (earlier_in (kept known.now) (open_so_far known.now.batch))
         (statement_in (kept known.now) said.now) }
 {
     match *said {
         Said::Buffer { size, .. } => {
-            known.buffers.len() >= limits::BUFFERS || size > u64::from(limits::BYTES - known.bytes)
+            known.buffers.len() >= known.limits.buffers as usize
+                || size > u64::from(known.limits.bytes - known.bytes)
         }
-        Said::Semaphore { .. } => known.semaphores.len() >= limits::SEMAPHORES,
-        Said::Queue { .. } => known.queues.len() >= limits::QUEUES,
-        Said::Submit { .. } => known.jobs.len() >= limits::JOBS,
+        Said::Semaphore { .. } => known.semaphores.len() >= known.limits.semaphores as usize,
+        Said::Queue { .. } => known.queues.len() >= known.limits.queues as usize,
+        Said::Submit { .. } => known.job_count() >= known.limits.jobs as usize,
         Said::Host { step } => {
-            known.jobs.len() >= limits::JOBS || step.pair_count() > limits::STEP_PAIRS
+            known.job_count() >= known.limits.jobs as usize
+                || step.pair_count() > known.limits.pairs as usize
         }
         Said::Wait { .. } => known.has_all_waits(),
         Said::FillWhole { .. } => known.has_all_commands(),
@@ -139,14 +139,15 @@ fn passes_limit(known: &Known, said: &Said<'_>) -> bool
         Said::Fence { .. } => false,
         Said::End => false,
         Said::Schedule => false,
-        Said::Turns { count, .. } => count > (limits::TURNS - known.turns.len()) as u64,
+        Said::Turns { count, .. } => count
+            > (known.limits.turns as usize - known.turns.len()) as u64,
     }
 }
 
 /// The first kind of the faults that a line has whose words are read.
 fn said_fault(known: &Known, words: &[OpenWord<'_>], said: &Said<'_>) -> Option<FaultKind>
     requires read { IsWhollyRead (kept known.now) said.now }
-    ensures exact { result ≡ said_fault (kept known.now) (open_so_far known.now.batch) (opens words.now)
+    ensures exact { result ≡ said_fault (earlier_in (kept known.now) (open_so_far known.now.batch)) (opens words.now)
         (statement_in (kept known.now) said.now) }
     ensures small { result ≡ None → IsSmall said.now }
 {

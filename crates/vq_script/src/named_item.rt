@@ -1,6 +1,6 @@
 //! What a declared name stands for.
 ghost use Rattle.std.specs.Prelude.{◌≡◌, Some};
-ghost use Rattle.vq_script.specs.Names.{semaphore_item, number_in, threaded_in};
+ghost use Rattle.vq_script.specs.Names.{semaphore_item, number_in};
 ghost use Rattle.vq_script.specs.Table.{place_of};
 
 use crate::table::Token;
@@ -28,16 +28,7 @@ impl NamedItem {
             (Token::BinaryToken, NamedItem::Binary(number)) => Some(number),
             (Token::FenceToken, NamedItem::Fence(number)) => Some(number),
             (Token::QueueToken, NamedItem::Queue(number, _)) => Some(number),
-            _ => None,
-        }
-    }
-
-    /// The number of the item, if it is a threaded queue.
-    pub fn threaded(self) -> Option<u32>
-        ensures { result ≡ threaded_in (Some self) }
-    {
-        match self {
-            NamedItem::Queue(number, Mode::Threaded) => Some(number),
+            (Token::ThreadedToken, NamedItem::Queue(number, Mode::Threaded)) => Some(number),
             _ => None,
         }
     }

@@ -1,12 +1,11 @@
 //! The faults of single words: Syntax, Number and Twice.
 ghost use Rattle.std.specs.Prelude.{◌≡◌};
 ghost use Rattle.std.specs.List.{list_all};
+ghost use Rattle.vq_model.specs.Context.{is_taken};
 ghost use Rattle.vq_model.specs.Meaning.{is_actor};
-ghost use Rattle.vq_model.specs.LineFaults.{is_shaped, is_numeric};
+ghost use Rattle.vq_model.specs.LineFaults.{is_shaped, is_numeric, is_new};
 ghost use Rattle.vq_script.specs.Table.{place_of};
 ghost use Rattle.vq_script.specs.OpenWords.{opens};
-ghost use Rattle.vq_script.specs.Holds.{kept};
-ghost use Rattle.vq_script.specs.LineTests.{is_new_in};
 
 use crate::known::Known;
 use crate::names::is_name;
@@ -79,7 +78,8 @@ pub fn are_numeric(words: &[OpenWord<'_>]) -> bool
 
 /// Whether a name that a line declares is new.
 fn is_new(known: &Known, place: Token, word: &[u8]) -> bool
-    ensures { result ≡ is_new_in (kept known.now) (place_of place, word.now) }
+    ensures { result ≡ is_new (is_taken known.now.buffers.items known.now.semaphores.items known.now.queues.items)
+        (place_of place, word.now) }
 {
     match place {
         Token::Name => !known.is_declared(word),
@@ -89,7 +89,8 @@ fn is_new(known: &Known, place: Token, word: &[u8]) -> bool
 
 /// Whether each name that a line declares is new.
 pub fn are_new(known: &Known, words: &[OpenWord<'_>]) -> bool
-    ensures { result ≡ list_all (is_new_in (kept known.now)) (opens words.now) }
+    ensures { result ≡ list_all (is_new (is_taken known.now.buffers.items known.now.semaphores.items known.now.queues.items))
+        (opens words.now) }
 {
     for x in words {
         if !is_new(known, x.place, x.word) {

@@ -32,6 +32,8 @@ pub enum Token {
     BinaryToken,
     FenceToken,
     QueueToken,
+    /// Of an actor's word: no line has it.
+    ThreadedToken,
     Number,
     SmallNumber,
     Digits,

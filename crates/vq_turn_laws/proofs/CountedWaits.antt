@@ -16,7 +16,9 @@ use Rattle.vq_model.specs.declared.script.Job.{Job}
 use Rattle.vq_model.specs.declared.script.Job.TheVariants.{Host, Batch as BatchJob}
 use Rattle.vq_model.specs.declared.script.Batch.{Batch}
 use Rattle.vq_model.specs.declared.script.Script.{Script}
-use Rattle.vq_model.specs.Context.{is_end}
+use Rattle.vq_model.specs.Context.{is_end, version_of}
+use Rattle.vq_model.specs.Earlier.{earlier}
+use Rattle.vq_model.specs.Limits.{limits_of}
 use Rattle.vq_model.specs.Meaning.{meaning}
 use Rattle.vq_model.specs.LineFaults.{is_in_range, has_fault, fault_of, ends_early}
 use Rattle.vq_model.specs.Text.{words_of, lines_of}
@@ -40,9 +42,9 @@ counted_append : (xs ys : List Line) → AreCounted xs → AreCounted ys → Are
 counted_append [] ys a b = b
 counted_append (x ∷ xs) ys a b = (a.0, counted_append xs ys a.1 b)
 
-in_range_counted : (before : List Line) (s : Statement) → is_in_range before s ≡ true → IsCounted s
+in_range_counted : (before : List Line) (s : Statement) → is_in_range (earlier before) s ≡ true → IsCounted s
 in_range_counted before (AddWait pair from) h =
-    let more = ltb-true 0 from (and_parts (nat_lt 0 from) (nat_lt from 66) h).0 in omega arith
+    let more = ltb-true 0 from (and_parts (nat_lt 0 from) (nat_lt from ((limits_of (version_of before)).batch_commands + 2)) h).0 in omega arith
 in_range_counted before other h = tt
 
 -- a line without a fault says nothing out of range
@@ -57,9 +59,9 @@ says_counted form before words none s says =
     let four = first_fails (has_fault form before words) Name (Twice ∷ Range ∷ Overlap ∷ Limit ∷ []) three.1 in
     let five = first_fails (has_fault form before words) Twice (Range ∷ Overlap ∷ Limit ∷ []) four.1 in
     let six = first_fails (has_fault form before words) Range (Overlap ∷ Limit ∷ []) five.1 in
-    let fits : not (is_in_range before s) ≡ false = sym
-    (ap (λ o. option_map_or (λ x. not (is_in_range before x)) o false) says) ∙ six.0 in
-    in_range_counted before s (unless (is_in_range before s) fits)
+    let fits : not (is_in_range (earlier before) s) ≡ false = sym
+    (ap (λ o. option_map_or (λ x. not (is_in_range (earlier before) x)) o false) says) ∙ six.0 in
+    in_range_counted before s (unless (is_in_range (earlier before) s) fits)
   where
     unless : (b : Bool) → not b ≡ false → b ≡ true
     unless true h = refl

@@ -10,7 +10,7 @@ use Rattle.vq_model.specs.declared.script.ActorName.TheVariants.{Host as HostAct
 use Rattle.vq_model.specs.declared.script.ActorName.TheVariants.{Ring as RingActor}
 use Rattle.vq_model.specs.declared.plan.Need.{Need}
 use Rattle.vq_model.specs.declared.plan.Event.TheVariants.{Refer, Look, Unref}
-use Rattle.vq_model.specs.Plan.{Plan, resolver}
+use Rattle.vq_model.specs.Plan.{Plan, initial, resolver}
 use Rattle.vq_model.specs.Canonical.{same_actor}
 use Rattle.vq_model.proofs.Puts.{put_here, put_there}
 use Rattle.vq_points.specs.Points.{PointState, Reference, next_job, resolves, count_of, is_reference, holds, with_note}
@@ -158,10 +158,10 @@ module _ (p : Plan) (w : PointState) (a : ActorName) (before : List Task) (j : �
     (holding : List Held) where
   -- A reference more.
   pub after_refer : HoldsTruly p w a before j ns holding false → (i q e : ℕ) (n : Need) → AtIndex 0 ns i n →
-      held_for i holding ≡ None → resolver p n.chain n.value ≡ Some e → next_job p w a ≡ Some j →
-      HoldsTruly p (after_event p w (Refer a q e)) a before j ns
+      held_for i holding ≡ None → resolver p n.chain n.value ≡ Some e → initial p n.chain < n.value →
+      next_job p w a ≡ Some j → HoldsTruly p (after_event p w (Refer a q e)) a before j ns
       (with_holding (record { need = i; point = q; op = e }) holding) false
-  after_refer t i q e n at none res nxt =
+  after_refer t i q e n at none res over nxt =
       record {
         tie = λ f r.
             let u = count_cons (is_reference a f r) new_reference w.held in
@@ -178,6 +178,13 @@ module _ (p : Plan) (w : PointState) (a : ActorName) (before : List Task) (j : �
               (subst (λ (y : ℕ). AtIndex 0 ns y x) s (at_index ns k x at')) in
               ap (λ (z : Need). resolver p z.chain z.value) (sym one_need) ∙ (res ∙ ap (λ (z : Held). Some z.op) same)
           | inr d ↦ t.of_need refl k h (sym (with_there new holding k d) ∙ is) x at'
+        ];
+        above = λ m k h is x at'. elim (cases_eq k i) [
+          | inl s ↦
+              let one_need : n ≡ x = same_index 0 ns i n x at
+              (subst (λ (y : ℕ). AtIndex 0 ns y x) s (at_index ns k x at')) in
+              subst (λ (z : Need). initial p z.chain < z.value) one_need over
+          | inr d ↦ t.above refl k h (sym (with_there new holding k d) ∙ is) x at'
         ];
         referred = λ f.
             let c = noted_count p w w.referred a j e f nxt in
@@ -210,6 +217,7 @@ module _ (p : Plan) (w : PointState) (a : ActorName) (before : List Task) (j : �
       record {
         tie = t.tie;
         of_need = λ m. absurd (false≢true (sym m));
+        above = λ m. absurd (false≢true (sym m));
         referred = λ f. let o = t.referred f in let m = held_few p f holding 0 ns in omega arith;
         looked = λ f.
             let c = noted_count p w w.looked a j h.op f nxt in
@@ -231,6 +239,7 @@ module _ (p : Plan) (w : PointState) (a : ActorName) (before : List Task) (j : �
       record {
         tie = t.tie;
         of_need = λ m. absurd (false≢true (sym m));
+        above = λ m. absurd (false≢true (sym m));
         referred = λ f. let o = t.referred f in let m = held_few p f holding 0 ns in omega arith;
         looked = λ f. let o = t.looked f in omega arith;
       }
@@ -248,6 +257,7 @@ after_unref p w a before j ns h hs t held =
           let old = t.tie f r in
           omega arith;
       of_need = λ m. absurd (false≢true (sym m));
+      above = λ m. absurd (false≢true (sym m));
       referred = t.referred;
       looked = t.looked;
     }
@@ -259,6 +269,7 @@ leaves_wait p w a before j ns t =
     record {
       tie = t.tie;
       of_need = λ m k h is n at. absurd (let z = at in cc);
+      above = λ m k h is n at. absurd (let z = at in cc);
       referred = λ f. let o = t.referred f in omega arith;
       looked = λ f. let o = t.looked f in omega arith;
     }
@@ -270,6 +281,7 @@ enters_wait p w a before j ns t =
     record {
       tie = t.tie;
       of_need = λ m k h is. absurd (let z = is in cc);
+      above = λ m k h is. absurd (let z = is in cc);
       referred = λ f. let o = t.referred f in omega arith;
       looked = λ f. let o = t.looked f in let z = zero_held f 0 ns in omega arith;
     }
@@ -294,6 +306,7 @@ module _ (p : Plan) (w : PointState) (a b : ActorName) (before : List Task) (j :
             let old = t.tie f r in
             omega arith;
         of_need = t.of_need;
+        above = t.above;
         referred = λ f. let c = noted_away p w w.referred b e j f n in let o = t.referred f in omega arith;
         looked = λ f. let c = noted_away p w w.referred b e j f n in let o = t.looked f in omega arith;
       }
@@ -304,6 +317,7 @@ module _ (p : Plan) (w : PointState) (a b : ActorName) (before : List Task) (j :
       record {
         tie = t.tie;
         of_need = t.of_need;
+        above = t.above;
         referred = t.referred;
         looked = λ f. let c = noted_away p w w.looked b e j f n in let o = t.looked f in omega arith;
       }
@@ -320,6 +334,7 @@ module _ (p : Plan) (w : PointState) (a b : ActorName) (before : List Task) (j :
             let old = t.tie f r in
             omega arith;
         of_need = t.of_need;
+        above = t.above;
         referred = t.referred;
         looked = t.looked;
       }
@@ -338,6 +353,7 @@ same_references p w v a before j ns holding met h r l t =
     record {
       tie = λ q e. ap (count_by (is_reference a q e)) h ∙ t.tie q e;
       of_need = t.of_need;
+      above = t.above;
       referred = λ e. let x : count_of (v.referred j) e ≡ count_of (w.referred j) e = ap
           (λ (f : ℕ → List ℕ). count_of (f j) e) r in let o = t.referred e in omega arith;
       looked = λ e.
@@ -354,6 +370,7 @@ passes_task p w a t before j same k =
     record {
       tie = k.tie;
       of_need = k.of_need;
+      above = k.above;
       referred = λ e. let s = same e in let o = k.referred e in omega arith;
       looked = k.looked;
     }
@@ -366,6 +383,7 @@ next_begins p w a before j i r l k =
     record {
       tie = k.tie;
       of_need = λ m x h is n at. absurd (let z = at in cc);
+      above = λ m x h is n at. absurd (let z = at in cc);
       referred = λ e. let x = r e in omega arith;
       looked = λ e. let x = l e in omega arith;
     }

@@ -4,7 +4,7 @@ use Rattle.std.proofs.Common.{◌⊎◌, zero, suc, ◌≡◌, ℕ, ◌<◌, ◌
 use Rattle.std.proofs.Common.{[], ◌∷◌, Option, Some, None, is_some, refl, sym, subst, ap, ◌∙◌, inl, inr, arith, nat_le}
 use Rattle.std.proofs.Common.{nat_lt, filter, ◌==◌}
 use Rattle.std.specs.Option.{option_map_or}
-use Rattle.std.proofs.lemmas.Bool.{and_from, or_from, false≢true, eq-eqb}
+use Rattle.std.proofs.lemmas.Bool.{and_from, or_from, false≢true, eq-eqb, leb-false}
 use Rattle.vq_model.specs.declared.script.ActorName.{ActorName}
 use Rattle.vq_model.specs.declared.script.ActorName.TheVariants.{Host as HostActor, Submit as SubmitActor}
 use Rattle.vq_model.specs.declared.script.ActorName.TheVariants.{Ring as RingActor}
@@ -70,6 +70,17 @@ pub record IsPendingAt (p : Plan) (w : PointState) (n : Need) (e q : ℕ) : Type
   pub unpast : w.past e ≡ false
   pub bound : w.bound e ≡ true
   pub point : point_of w e ≡ q
+
+-- what is pending is above the initial value
+pub found_above : (p : Plan) (w : PointState) (n : Need) (e q : ℕ) → found p w n.chain n.value ≡ Some (Pending e q) →
+    initial p n.chain < n.value
+found_above p w n e q h = by_value (nat_le n.value (initial p n.chain)) refl h
+  where
+    by_value : (b : Bool) → nat_le n.value (initial p n.chain) ≡ b →
+        (if b then Some Past else found_by w (resolver p n.chain n.value)) ≡ Some (Pending e q) →
+        initial p n.chain < n.value
+    by_value true i h = absurd (let x = h in cc)
+    by_value false i h = leb-false n.value (initial p n.chain) i
 
 pub found_pending : (p : Plan) (w : PointState) (n : Need) (e q : ℕ) → found p w n.chain n.value ≡ Some (Pending e q) →
     IsPendingAt p w n e q

@@ -19,7 +19,7 @@ use Rattle.vq_turn_laws.specs.PlanParts.{HasResolvers}
 use Rattle.vq_turn_laws.proofs.WaitParts.{all_of}
 
 -- each job of a list that can be done in its order was ready
-ready_of : (p : Plan) (done js : List ℕ) (j : ℕ) → ReadyEach p done js → has js j ≡ true →
+pub ready_of : (p : Plan) (done js : List ℕ) (j : ℕ) → ReadyEach p done js → has js j ≡ true →
     (more : List ℕ) × (is_ready p more j ≡ true)
 ready_of p done [] j r m = absurd (false≢true m)
 ready_of p done (i ∷ is) j r m =
@@ -51,7 +51,7 @@ some_reaches p test (e ∷ es) n v l g = by_value (nat_le v (value p e)) refl (s
         ∙ by_test (test e) (leb-false v (value p e) i) g r
 
 -- a job with a need exists
-need_exists : (p : Plan) (j : ℕ) (n : Need) → Within n (needs p j) → j < length p.jobs
+pub need_exists : (p : Plan) (j : ℕ) (n : Need) → Within n (needs p j) → j < length p.jobs
 need_exists p j n w = by_job (slice_get p.jobs j) refl w
   where
     by_job : (o : Option PlanJob) → slice_get p.jobs j ≡ o → Within n (option_map_or (λ x. x.needs) o []) →

@@ -95,6 +95,7 @@ module _ (p : Plan) (w : PointState) (a : ActorName) where
       (record {
         tie = m.tie;
         of_need = λ k x y z n at. absurd (let u = at in cc);
+        above = λ k x y z n at. absurd (let u = at in cc);
         referred = λ e. let z = none e in omega arith;
         looked = λ e. let z = none e in let y = few e in omega arith;
       })

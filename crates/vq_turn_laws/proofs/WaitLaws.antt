@@ -23,7 +23,7 @@ use Rattle.vq_turn_laws.specs.Orders.{AsksWait}
 use Rattle.vq_turn_laws.specs.PlanParts.{IsOrderly}
 use Rattle.vq_turn_laws.specs.Tasks.{Among, IsOf, finishes}
 use Rattle.vq_turn_laws.specs.TruePlaces.{Stands}
-use Rattle.vq_turn_laws.proofs.References.{AtIndex, index_at, is_next, can_look, can_unref, found_pending, index_within}
+use Rattle.vq_turn_laws.proofs.References.{AtIndex, index_at, is_next, can_look, can_unref, found_above, found_pending, index_within}
 use Rattle.vq_turn_laws.proofs.CutFacts.{IsCut, job_is_next}
 use Rattle.vq_turn_laws.proofs.HoldingLaws.{after_refer, after_look, after_unref, meets, leaves_wait, enters_wait}
 use Rattle.vq_turn_laws.proofs.KeptGuards.{refers_kept}
@@ -170,7 +170,7 @@ module _ (p : Plan) (o : IsOrderly p) (w : PointState) (r : Reached p w) where
         let can = refers_kept p o.well_formed r.past w r.links r.facts a before left s.done s.left.1 ns holding own_asks
         i n e q at none t f in
         let held = after_refer p w a before own_asks.job ns holding t i q e n at none
-        (found_pending p w n e q f).resolves (own_waits_next holding false s) in (
+        (found_pending p w n e q f).resolves (found_above p w n e q f) (own_waits_next holding false s) in (
           can,
           still_waits holding false s (Refer a q e) can (λ u own. own)
               (with_holding (record { need = i; point = q; op = e }) holding) false held (λ m. absurd (false≢true m)),

@@ -65,6 +65,7 @@ nothing_yet p a j =
     record {
       tie = λ q e. refl;
       of_need = λ m k h is n at. absurd (let z = at in cc);
+      above = λ m k h is n at. absurd (let z = at in cc);
       referred = λ e. omega arith;
       looked = λ e. omega arith;
     }
@@ -100,7 +101,7 @@ others_true p o w r a b first second two x h e can of_other =
 -- Whole turns
 
 -- where a turn goes on it goes to the next task
-abbrev GoesForward : Place → Did → Type 0
+abbrev pub GoesForward : Place → Did → Type 0
 GoesForward x (GoesOn y) = y.done ≡ x.done + 1
 GoesForward x (Ends outcome y) = Unit {0}
 
@@ -157,7 +158,7 @@ module _ (p : Plan) (w : PointState) (a : ActorName) (x : Place) where
   signal_forward e true = tt
   signal_forward e false = tt
 
-  does_forward : (t : Task) → GoesForward x (does p w a x t)
+  pub does_forward : (t : Task) → GoesForward x (does p w a x t)
   does_forward (AwaitSubmitted j) = waits_forward (w.submitted j) _
   does_forward (AwaitReleased j) = waits_forward (w.released j) _
   does_forward (AwaitFinished j) = waits_forward (w.machine.progress.finished j) _

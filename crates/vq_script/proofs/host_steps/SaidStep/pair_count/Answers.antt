@@ -1,5 +1,5 @@
 use Rattle.std.proofs.Common.{◌≡◌, ℕ, ◌/◌, length, sym, subst}
-use Rattle.vq_model.specs.Limits.{pairs_of}
+use Rattle.vq_model.specs.LineFaults.{pairs_of}
 use Rattle.vq_script.specs.declared.host_steps.SaidStep.{SaidStep}
 use Rattle.vq_script.specs.Holds.{Kept}
 use Rattle.vq_script.specs.SaidSteps.{step_in, IsReadStep}

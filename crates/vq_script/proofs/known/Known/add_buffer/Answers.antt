@@ -1,7 +1,7 @@
 use Rattle.std.proofs.Common.{◌≡◌, ◌++◌, ◌∷◌, [], refl, sym, subst, ◌∙◌, List, ℕ, false, length, arith}
 use Rattle.vq_model.specs.declared.script.Buffer.{Buffer}
-use Rattle.vq_script.specs.Names.{is_taken}
-use Rattle.vq_script.proofs.NamesFound.{HasNames, buffer_named, others_threaded}
+use Rattle.vq_model.specs.Context.{is_taken}
+use Rattle.vq_script.proofs.NamesFound.{HasNames, buffer_named}
 use Rattle.vq_script.proofs.known.Known.add_buffer.Goals as goal
 
 pub invariant_of-self-2-clause-all_names : goal.invariant_of-self-2-clause-all_names
@@ -15,12 +15,3 @@ invariant_of-self-2-clause-all_names c =
     known.queues.items c.in_ok-insert.ensures.updates known.all_names
     (subst (λ (bs : List ℕ). is_taken known.buffers.items known.semaphores.items known.queues.items bs ≡ false)
     (sym key) c.requires.fresh) c.len.result c.args.buffer refl key last)
-
-pub invariant_of-self-2-clause-threaded_names : goal.invariant_of-self-2-clause-threaded_names
-invariant_of-self-2-clause-threaded_names c =
-    let known = c.args.self.now in
-    let key : c.in_ok-name.name.items ≡ c.args.buffer.name = c.in_ok-name.ensures.items ∙ c.as_slice.ensures in
-    others_threaded known.names c.insert.new.self c.in_ok-name.name _ known.buffers.items known.semaphores.items
-    known.queues.items c.in_ok-insert.ensures.updates known.all_names
-    (subst (λ (bs : List ℕ). is_taken known.buffers.items known.semaphores.items known.queues.items bs ≡ false)
-    (sym key) c.requires.fresh) refl known.threaded_names

@@ -1,7 +1,7 @@
 use Rattle.std.proofs.Common.{◌≡◌, ◌++◌, ◌∷◌, [], sym, subst, ◌∙◌, List, ℕ, false, length, arith}
 use Rattle.vq_model.specs.declared.script.Semaphore.{Semaphore}
-use Rattle.vq_script.specs.Names.{is_taken}
-use Rattle.vq_script.proofs.NamesFound.{HasNames, semaphore_named, semaphore_threaded}
+use Rattle.vq_model.specs.Context.{is_taken}
+use Rattle.vq_script.proofs.NamesFound.{HasNames, semaphore_named}
 use Rattle.vq_script.proofs.known.Known.add_semaphore.Goals as goal
 
 pub invariant_of-self-2-clause-all_names : goal.invariant_of-self-2-clause-all_names
@@ -15,12 +15,3 @@ invariant_of-self-2-clause-all_names c =
     known.queues.items c.in_ok-insert.ensures.updates known.all_names
     (subst (λ (bs : List ℕ). is_taken known.buffers.items known.semaphores.items known.queues.items bs ≡ false)
     (sym key) c.requires.fresh) c.len.result c.args.semaphore c.semaphore_item-item.ensures key last)
-
-pub invariant_of-self-2-clause-threaded_names : goal.invariant_of-self-2-clause-threaded_names
-invariant_of-self-2-clause-threaded_names c =
-    let known = c.args.self.now in
-    let key : c.in_ok-name.name.items ≡ c.args.semaphore.name = c.in_ok-name.ensures.items ∙ c.as_slice.ensures in
-    semaphore_threaded known.names c.insert.new.self c.in_ok-name.name _ known.buffers.items known.semaphores.items
-    known.queues.items c.in_ok-insert.ensures.updates known.all_names
-    (subst (λ (bs : List ℕ). is_taken known.buffers.items known.semaphores.items known.queues.items bs ≡ false)
-    (sym key) c.requires.fresh) c.len.result c.args.semaphore c.semaphore_item-item.ensures known.threaded_names
