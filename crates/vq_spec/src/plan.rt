@@ -90,10 +90,7 @@ impl Plan {
     {
         match self.job(j).lane {
             Lane::Host => false,
-            Lane::Queue(queue) => match self.script().queues.as_slice().get(queue as usize) {
-                Some(queue) => matches!(queue.mode, Mode::Immediate),
-                None => false,
-            },
+            Lane::Queue(queue) => self.script().is_immediate(queue),
         }
     }
 
