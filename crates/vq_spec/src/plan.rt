@@ -14,7 +14,7 @@ use std::alloc::Global;
 use std::marker::Model;
 use vq_model::list::List;
 use vq_model::plan::{Lane, Op, PlanFault, PlanJob};
-use vq_model::script::{CommandLine, Job, Mode, Script};
+use vq_model::script::{CommandLine, Job, Script};
 
 /// A script's jobs in lanes, with what each waits for, its commands and its signals.
 #[derive(Drop)]
