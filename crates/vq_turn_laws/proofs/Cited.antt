@@ -1,6 +1,7 @@
 -- What other crates may cite of this one. All other files of proofs are private to it.
 pub use Rattle.vq_turn_laws.proofs.Asked.{take_chain}
 pub use Rattle.vq_turn_laws.proofs.AllPlaces.{all_true}
+pub use Rattle.vq_turn_laws.proofs.BlockedLaws.{blocked_is_not_so, blocked_play_is_not_so}
 pub use Rattle.vq_turn_laws.proofs.CallLaws.{call_answer, call_apply, call_bind, call_compare, call_finish, call_look}
 pub use Rattle.vq_turn_laws.proofs.CallLaws.{call_met, call_over, call_refer, call_release, call_signal, call_start}
 pub use Rattle.vq_turn_laws.proofs.CallLaws.{call_submit, call_take, call_unref, collects, goes_on}

@@ -2,6 +2,7 @@ pub mod Cited
 mod AllPlaces
 mod Apart
 mod Asked
+mod BlockedLaws
 mod CallLaws
 mod CountedWaits
 mod CutFacts

@@ -9,10 +9,12 @@ ghost use Rattle.vq_model.specs.declared.plan.Event.{Event};
 ghost use Rattle.vq_model.specs.declared.script.ActorName.{ActorName};
 ghost use Rattle.vq_points.specs.Points.{PointState, CanCome, after_event, opening_points, HistoryFrom};
 ghost use Rattle.vq_turns.specs.declared.task.Task.{Task};
-ghost use Rattle.vq_turns.specs.declared.outcome.Outcome.TheVariants.{Moved};
+ghost use Rattle.vq_turns.specs.declared.outcome.Outcome.TheVariants.{Blocked, Moved};
+ghost use Rattle.vq_turns.specs.declared.outcome.Want.{Want};
 ghost use Rattle.vq_turns.specs.Programs.{program};
 ghost use Rattle.vq_turns.specs.Turns.{Place, first_place, does, turn_from, turn_of, world_after};
 ghost use Rattle.vq_turns.specs.Turns.{Scene, first_scene, plays, played_from};
+ghost use Rattle.vq_turns.specs.Wants.{IsNotSo};
 ghost use Rattle.vq_turn_laws.specs.Tasks.{Each, Among, AreApart, IsOf, IsEventOf, is_mover};
 ghost use Rattle.vq_turn_laws.specs.Places.{IsDone, IsReady};
 ghost use Rattle.vq_turn_laws.specs.Orders.{InOrder};
@@ -99,6 +101,16 @@ pub fn schedules_make_histories()
     ensures history { (p : Plan) → IsPlan p → IsLawful p → (turns : List ActorName) →
         ArePlayers p turns → HistoryFrom p (opening_points p)
         (events_made (played_from p (first_scene (opening_points p)) turns)) }
+{}
+
+/// A turn is blocked only where the thing that it names isn't so in that world, whatever the plan, the world
+/// and the place. So it is with one actor's turn, and with a turn in a scene, where the host serves the
+/// deferred queues too.
+pub fn blocked_turns_name_what_is_not_so()
+    ensures turn { (p : Plan) → (w : PointState) → (a : ActorName) → (x : Place) → (want : Want) →
+        (turn_of p w a x).outcome ≡ Blocked want → IsNotSo w want }
+    ensures scene { (p : Plan) → (s : Scene) → (a : ActorName) → (want : Want) →
+        (plays p s a).0 ≡ Blocked want → IsNotSo s.world want }
 {}
 
 /// An actor that isn't blocked before a task that makes an event, nor in it, moves.
