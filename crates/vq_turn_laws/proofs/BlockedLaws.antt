@@ -1,5 +1,6 @@
 -- A turn is blocked only where the thing that it names isn't so: a turn of one actor, and a turn in a scene.
-use Rattle.std.proofs.Common.{◌≡◌, ℕ, Bool, true, false, not, if◌then◌else◌, List, [], ◌∷◌, find, Option, Some, None, refl, subst}
+use Rattle.std.proofs.Common.{◌≡◌, ℕ, Bool, true, false, not, if◌then◌else◌, List, [], ◌∷◌, find, Option, Some, None}
+use Rattle.std.proofs.Common.{refl, subst}
 use Rattle.std.proofs.Common.{drop}
 use Rattle.std.specs.Prelude.{nat_le}
 use Rattle.std.specs.Option.{option_map_or}
@@ -24,10 +25,10 @@ use Rattle.vq_turns.specs.declared.outcome.Want.TheVariants.{Submitted, Released
 use Rattle.vq_turns.specs.declared.outcome.Outcome.{Outcome}
 use Rattle.vq_turns.specs.declared.outcome.Outcome.TheVariants.{Moved, Blocked, Ended}
 use Rattle.vq_turns.specs.Programs.{program, deferred_queues}
-use Rattle.vq_turns.specs.Turns.{Place, Did, Turned, GoesOn, Ends, waits, moves, does, turn_from, turn_of, collected, taken, point_of}
-use Rattle.vq_turns.specs.Turns.{gives_back, awaits_needs, one_need, by_found, found, found_by, held_for, unbound_before, and_then}
-use Rattle.vq_turns.specs.Turns.{seeing, past_value, HostPlace, HostTurned, Scene, own_turn, after_served}
-use Rattle.vq_turns.specs.Turns.{host_turn_from, host_turn, plays}
+use Rattle.vq_turns.specs.Turns.{Place, Did, Turned, GoesOn, Ends, waits, moves, does, turn_from, turn_of, collected}
+use Rattle.vq_turns.specs.Turns.{taken, point_of, gives_back, awaits_needs, one_need, by_found, found, found_by}
+use Rattle.vq_turns.specs.Turns.{held_for, unbound_before, and_then, seeing, past_value, HostPlace, HostTurned, Scene}
+use Rattle.vq_turns.specs.Turns.{own_turn, after_served, host_turn_from, host_turn, plays}
 use Rattle.vq_turns.specs.Wants.{IsNotSo}
 
 module _ (p : Plan) (w : PointState) (a : ActorName) where

@@ -1,6 +1,6 @@
 //! Laws over the programs of the actors and their places. The functions do nothing: their contracts are
 //! the laws.
-ghost use Rattle.std.specs.Prelude.{◌≡◌, [], ◌∷◌, ◌++◌, true, List, Some};
+ghost use Rattle.std.specs.Prelude.{◌≡◌, [], List, Some, None};
 ghost use Rattle.std.specs.List.{slice_get};
 ghost use Rattle.vq_model.specs.Plan.{Plan};
 ghost use Rattle.vq_model.specs.Checks.{IsLawful};
@@ -12,13 +12,14 @@ ghost use Rattle.vq_turns.specs.declared.task.Task.{Task};
 ghost use Rattle.vq_turns.specs.declared.outcome.Outcome.TheVariants.{Blocked, Moved};
 ghost use Rattle.vq_turns.specs.declared.outcome.Want.{Want};
 ghost use Rattle.vq_turns.specs.Programs.{program};
-ghost use Rattle.vq_turns.specs.Turns.{Place, first_place, does, turn_from, turn_of, world_after};
+ghost use Rattle.vq_turns.specs.Turns.{Place, first_place, does, turn_of, world_after};
 ghost use Rattle.vq_turns.specs.Turns.{Scene, first_scene, plays, played_from};
 ghost use Rattle.vq_turns.specs.Wants.{IsNotSo};
-ghost use Rattle.vq_turn_laws.specs.Tasks.{Each, Among, AreApart, IsOf, IsEventOf, is_mover};
-ghost use Rattle.vq_turn_laws.specs.Places.{IsDone, IsReady};
+ghost use Rattle.vq_turn_laws.specs.Tasks.{Among, AreApart, IsOf, IsEventOf};
+ghost use Rattle.vq_turn_laws.specs.Places.{IsDone};
 ghost use Rattle.vq_turn_laws.specs.Orders.{InOrder};
 ghost use Rattle.vq_turn_laws.specs.PlanParts.{HasOwnProgram, IsOrderly};
+ghost use Rattle.vq_turn_laws.specs.Running.{IsRunnerOf, RunInTurn};
 ghost use Rattle.vq_turn_laws.specs.Worlds.{InEachWorld, KeepsMade, KeepsStarts, RefersInTurn, RisesIn};
 ghost use Rattle.vq_turn_laws.specs.TruePlaces.{IsTrueFor, IsTrueDid, IsTrueTurn, AreTrueFor, with_place};
 ghost use Rattle.vq_turn_laws.specs.Scenes.{IsPlayer, ArePlayers, IsTrueScene, HasPlayed, events_made};
@@ -32,6 +33,13 @@ pub fn lawful_plans_are_orderly()
 /// left behind it.
 pub fn programs_are_in_order()
     ensures { (p : Plan) → IsPlan p → (a : ActorName) → InOrder p a [] (program p a) }
+{}
+
+/// Each actor's program runs one job of its lane after another: it starts the job, applies its commands in order,
+/// makes its signals in order, answers where the job asks, and finishes it, before it starts the next one.
+pub fn programs_run_in_turn()
+    ensures { (p : Plan) → IsPlan p → (a : ActorName) →
+        RunInTurn p (IsRunnerOf p a) None (program p a) }
 {}
 
 /// No two tasks of a program have an event in common, and no two actors' programs have.
@@ -111,12 +119,4 @@ pub fn blocked_turns_name_what_is_not_so()
         (turn_of p w a x).outcome ≡ Blocked want → IsNotSo w want }
     ensures scene { (p : Plan) → (s : Scene) → (a : ActorName) → (want : Want) →
         (plays p s a).0 ≡ Blocked want → IsNotSo s.world want }
-{}
-
-/// An actor that isn't blocked before a task that makes an event, nor in it, moves.
-pub fn unblocked_actors_move()
-    ensures { (p : Plan) → (w : PointState) → (a : ActorName) → (front : List Task) → (t : Task) →
-        (back : List Task) → (x : Place) → Each (IsReady p w) front → IsReady p w t →
-        is_mover t ≡ true →
-        (e : Event) × ((turn_from p w a x (front ++ t ∷ back)).outcome ≡ Moved e) }
 {}
