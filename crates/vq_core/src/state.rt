@@ -1,9 +1,11 @@
 //! The core: a plan, what has happened, and what that has come to.
-ghost use Rattle.std.specs.Prelude.{◌≡◌, ◌<◌, ◌≤◌, ◌==◌, ◌↔◌, [], IsTrue, IfSome, IfOk, Some};
+ghost use Rattle.std.specs.Prelude.{◌≡◌, ◌<◌, ◌≤◌, ◌==◌, ◌↔◌, ◌++◌, [], IsTrue, IfSome, IfOk, Some};
 ghost use Rattle.std.specs.Prelude.{length};
 ghost use Rattle.std.specs.List.{slice_get, list_any};
 ghost use Rattle.vq_model.specs.Machine.{Run, AreFinished};
 ghost use Rattle.vq_model.specs.Memory.{HasSizes};
+ghost use Rattle.vq_model.specs.OutputText.{answers_of, buffers_text};
+ghost use Rattle.vq_model.specs.Outputs.{IsOutput};
 ghost use Rattle.vq_model.specs.ValidScripts.{sizes_of};
 ghost use Rattle.vq_model.specs.SlowRun.{bytes_after, final};
 ghost use Rattle.vq_points.specs.HistoryLaws.{PointLaw, PendingLaw};
@@ -138,12 +140,16 @@ impl Core {
         self.left == 0
     }
 
-    /// The core's parts.
+    /// The core's parts. Where all jobs are finished, the answers of its history with the buffers are an output
+    /// of the plan.
     pub fn take_apart(self) -> CoreParts
         ensures ordered { result.ordered ≡ self.plan }
         ensures history { result.history ≡ self.history }
         ensures buffers { result.buffers ≡ bytes_after self.plan (world self).machine.progress.applied }
         ensures ends { AreFinished self.plan (world self).machine.progress → result.buffers ≡ final self.plan }
+        ensures output { AreFinished self.plan (world self).machine.progress → IsOutput self.plan
+            (answers_of self.plan (world self).machine
+            ++ buffers_text self.plan.script.buffers result.buffers) }
     {
         CoreParts {
             ordered: self.ordered,
@@ -296,11 +302,14 @@ impl Core {
     }
 
     /// The bytes after the commands that were applied, in their order: where all jobs are finished, those
-    /// that the plan leaves.
+    /// that the plan leaves. The answers of the history with them are an output of the plan then.
     pub fn buffers(&self) -> &Buffers
         ensures bytes { result.now ≡ bytes_after self.now.plan (world self.now).machine.progress.applied }
         ensures ends { AreFinished self.now.plan (world self.now).machine.progress → result.now ≡ final self.now.plan }
         ensures sizes { HasSizes (sizes_of self.now.plan.script) result.now }
+        ensures output { AreFinished self.now.plan (world self.now).machine.progress → IsOutput self.now.plan
+            (answers_of self.now.plan (world self.now).machine
+            ++ buffers_text self.now.plan.script.buffers result.now) }
     {
         &self.buffers
     }
