@@ -33,7 +33,6 @@ use vq_timeline_core::TimelineCore;
 /// A lawful plan, the events that came so far, and what they have come to. Each event came when it
 /// might: so the history is a run of the plan, and no point is used again too early. All memory is
 /// taken by `new`. Source: this project's rule.
-#[derive(Drop)]
 pub struct Core {
     pub(crate) ordered: Ordered,
     pub(crate) history: Vec<Event>,
@@ -56,6 +55,28 @@ pub struct Core {
     pub(crate) buffers: Buffers,
     // How many jobs aren't finished.
     pub(crate) left: u32,
+}
+
+impl Drop for Core {
+    fn drop(self) {
+        let Core {
+            ordered: _ordered,
+            history: _history,
+            earlier: _earlier,
+            submitted: _submitted,
+            jobs: _jobs,
+            answers: _answers,
+            made: _made,
+            points: _points,
+            slots: _slots,
+            payloads: _payloads,
+            timelines: _timelines,
+            lanes: _lanes,
+            notes: _notes,
+            buffers: _buffers,
+            left: _left,
+        } = self;
+    }
 }
 
 impl Model for Core {
@@ -151,10 +172,27 @@ impl Core {
             (answers_of self.plan (world self).machine
             ++ buffers_text self.plan.script.buffers result.buffers) }
     {
+        let Core {
+            ordered,
+            history,
+            buffers,
+            earlier: _earlier,
+            submitted: _submitted,
+            jobs: _jobs,
+            answers: _answers,
+            made: _made,
+            points: _points,
+            slots: _slots,
+            payloads: _payloads,
+            timelines: _timelines,
+            lanes: _lanes,
+            notes: _notes,
+            left: _left,
+        } = self;
         CoreParts {
-            ordered: self.ordered,
-            history: List::of(self.history),
-            buffers: self.buffers,
+            ordered,
+            history: List::of(history),
+            buffers,
         }
     }
 
