@@ -47,8 +47,7 @@ use Rattle.vq_points.specs.Points.{HistoryFrom, opening_points, steps_of}
 use Rattle.vq_points.proofs.Cited.{keeps_point_law, keeps_pending_law}
 use Rattle.vq_run_laws.proofs.Cited.{Leads, history_leads, follows_opening, one_result, run_gives_output}
 use Rattle.vq_history_laws.specs.Histories.{points_after, acts}
-use Rattle.vq_history_laws.proofs.Cited.{history_bounded}
-use Rattle.vq_core_laws.proofs.Cited.{count_cons}
+use Rattle.vq_history_laws.proofs.Cited.{history_bounded, count_cons}
 use Rattle.vq_core.specs.declared.state.Core.TheInside.{Inside}
 use Rattle.vq_core.specs.CoreState.{Course, world, IsCourse}
 use Rattle.vq_core.specs.Kept.{IsCore, Tells, course_of}
@@ -159,10 +158,6 @@ nought k = 0
 
 zeros_long : (size : ℕ) → length (map nought (range_with_len 0 size)) ≡ size
 zeros_long size = length-map (range_with_len 0 size) nought ∙ length-range_with_len 0 size
-
-pub zero_sizes : (sizes : List ℕ) → map length (zeros_of sizes) ≡ sizes
-zero_sizes [] = refl
-zero_sizes (x ∷ xs) = λ i. zeros_long x i ∷ zero_sizes xs i
 
 pub core_open : (b : Inside) → IsPlan b.ordered → IsLawful b.ordered → b.history.items ≡ [] →
     acts b.ordered ≤ vec_capacity b.history → acts b.ordered < 18446744073709551616 →

@@ -34,28 +34,15 @@ use Rattle.vq_model.specs.declared.script.ActorName.{ActorName}
 use Rattle.vq_model.specs.declared.plan.Lane.{Lane}
 use Rattle.vq_model.specs.declared.plan.Lane.TheVariants.{Host as HostLane, Queue as QueueLane}
 use Rattle.vq_model.specs.declared.plan.PlanJob.{PlanJob}
-use Rattle.vq_model.specs.Canonical.{same_actor}
 use Rattle.vq_model.specs.Lanes.{lane_number, lane_at}
 use Rattle.vq_model.specs.Machine.{put}
 use Rattle.vq_model.specs.Plan.{Plan}
 use Rattle.vq_model.proofs.Gets.{get_within, get_some}
+use Rattle.vq_model.specs.Naming.{same_actor}
+use Rattle.vq_model.proofs.Actors.{same_actor_is, same_actor_self}
 use Rattle.vq_points.specs.Points.{Reference, jobs_of_lane, actor_of_lane, without_first, is_reference}
 use Rattle.vq_core_laws.specs.Firsts.{AreFirst, StandOnce}
-use Rattle.vq_core_laws.proofs.Cited.{
-  Facts,
-  put_next,
-  put_other,
-  stands,
-  place_in,
-  lane_once,
-  lane_has,
-  in_lane,
-  same_actor_is,
-  same_actor_self,
-  rising_less,
-  lane_rises,
-  lane_at_is,
-}
+use Rattle.vq_core_laws.proofs.Cited.{Facts, put_next, put_other, stands, place_in, lane_once, lane_has, in_lane, rising_less, lane_rises, lane_at_is}
 use Rattle.vq_core.specs.declared.lanes.LaneState.{LaneState}
 use Rattle.vq_core.specs.Lanes.{AreLanes, IsLane, lane_named, no_lane}
 use Rattle.vq_core.proofs.LaneNext.{named, own}

@@ -31,6 +31,7 @@ use Rattle.vq_script.specs.SaidLines.{AreFound, Stands, Suits, MayKeep, MayComma
 use Rattle.vq_model.specs.Earlier.{Earlier, earlier}
 use Rattle.vq_model.specs.Context.{number_at, number_in as number_among, is_taken}
 use Rattle.std.specs.Prelude.{sum}
+use Rattle.vq_model.proofs.Bools.{not_true, not_false}
 
 -- Order
 
@@ -151,14 +152,6 @@ cond_none : {A : Type 0} (b : Bool) (x : A) (more : Option A) → cond b (Some x
     (b ≡ false) × (more ≡ None)
 cond_none true x more h = absurd (cc)
 cond_none false x more h = (refl, h)
-
-not_false : (b : Bool) → not b ≡ false → b ≡ true
-not_false true h = refl
-not_false false h = absurd (cc)
-
-not_true : (b : Bool) → not b ≡ true → b ≡ false
-not_true true h = absurd (cc)
-not_true false h = refl
 
 -- the first word of a declaration is a name that passes what all words pass
 new_passes : (test : Slot × List ℕ → Bool) (words : List (Slot × List ℕ)) (rest : List Slot)
