@@ -17,10 +17,18 @@ use vq_model::plan::{Lane, Op, PlanFault, PlanJob};
 use vq_model::script::{CommandLine, Job, Script};
 
 /// A script's jobs in lanes, with what each waits for, its commands and its signals.
-#[derive(Drop)]
 pub struct Plan {
     script: Script,
     tables: Tables,
+}
+
+impl Drop for Plan {
+    fn drop(self) {
+        let Plan {
+            script: _script,
+            tables: _tables,
+        } = self;
+    }
 }
 
 impl Model for Plan {

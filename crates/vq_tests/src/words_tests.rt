@@ -1,6 +1,7 @@
-use super::*;
+//! The words of the command line, and what they ask for.
 use std::alloc::{AllocError, Global};
 use std::test::Fail;
+use vq_words::{Task, WordsFault, read_words};
 
 /// What the words of a line ask for, with one blank between two words.
 fn read_line(alloc: Global, line: &str) -> Result<Result<Task, WordsFault>, AllocError> {
