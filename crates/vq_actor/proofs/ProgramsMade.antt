@@ -18,6 +18,7 @@ use Rattle.vq_model.specs.declared.plan.Need.{Need}
 use Rattle.vq_model.specs.declared.plan.PlanJob.{PlanJob}
 use Rattle.vq_model.specs.Plan.{Plan, has, needs, commands_of, signals_of, chain_of, idle_after, asked}
 use Rattle.vq_model.specs.Plan.{is_silent}
+use Rattle.vq_model.proofs.Numbers.{range_more}
 use Rattle.vq_turns.specs.declared.task.Task.{Task}
 use Rattle.vq_turns.specs.declared.task.Task.TheVariants.{AwaitReleased, AwaitFinished, AwaitNeeds, Start, Apply}
 use Rattle.vq_turns.specs.declared.task.Task.TheVariants.{Signal, Finish, Take, Bind, Compare, Answer}
@@ -31,18 +32,6 @@ use Rattle.vq_actor.specs.ProgramParts.{is_within, wait_where}
 -- a part is added, and then another one
 pub both : {A : Type 0} (s t u xs ys : List A) → t ≡ s ++ xs → u ≡ t ++ ys → u ≡ s ++ (xs ++ ys)
 both s t u xs ys e f = f ∙ (ap (λ zs. zs ++ ys) e ∙ append_assoc s xs ys)
-
-range_pushed : (a n : ℕ) → range_with_len a (suc n) ≡ range_with_len a n ++ (a + n) ∷ []
-range_pushed a zero = let e : a ≡ a + 0 = omega arith in ap (λ (k : ℕ). k ∷ []) e
-range_pushed a (suc n) =
-    let e : (a + 1) + n ≡ a + suc n = omega arith in
-    ap (λ ks. a ∷ ks) (range_pushed (a + 1) n ∙ ap (λ (k : ℕ). range_with_len (a + 1) n ++ k ∷ []) e)
-
-pub range_push : (n : ℕ) → range_with_len 0 (n + 1) ≡ range_with_len 0 n ++ n ∷ []
-range_push n =
-    let e : n + 1 ≡ suc n = omega arith in
-    let f : 0 + n ≡ n = omega arith in
-    ap (range_with_len 0) e ∙ (range_pushed 0 n ∙ ap (λ (k : ℕ). range_with_len 0 n ++ k ∷ []) f)
 
 taken : {A : Type 0} (xs : List A) (k : ℕ) (x : A) → slice_get xs k ≡ Some x →
     take (suc k) xs ≡ take k xs ++ x ∷ []
@@ -88,7 +77,7 @@ pub job_passed : (f : ℕ → List Task) (test : ℕ → Bool) (n : ℕ) (ts : L
     ts ≡ flat_map f (filter test (range_with_len 0 n)) → test n ≡ false →
     ts ≡ flat_map f (filter test (range_with_len 0 (n + 1)))
 job_passed f test n ts e isnt =
-    e ∙ sym (ap (λ js. flat_map f (filter test js)) (range_push n)
+    e ∙ sym (ap (λ js. flat_map f (filter test js)) (range_more n)
     ∙ ap (flat_map f) (filter-append test (range_with_len 0 n) (n ∷ [])
     ∙ (ap (λ b. filter test (range_with_len 0 n) ++ (if b then n ∷ [] else [])) isnt
     ∙ append-nil (filter test (range_with_len 0 n)))))
@@ -98,7 +87,7 @@ pub job_added : (f : ℕ → List Task) (test : ℕ → Bool) (n : ℕ) (ts us :
     us ≡ flat_map f (filter test (range_with_len 0 (n + 1)))
 job_added f test n ts us e is added =
     added ∙ (ap (λ vs. vs ++ f n) e
-    ∙ sym (ap (λ js. flat_map f (filter test js)) (range_push n)
+    ∙ sym (ap (λ js. flat_map f (filter test js)) (range_more n)
     ∙ (ap (flat_map f) (filter-append test (range_with_len 0 n) (n ∷ [])
     ∙ ap (λ b. filter test (range_with_len 0 n) ++ (if b then n ∷ [] else [])) is)
     ∙ flat_map_push f (filter test (range_with_len 0 n)) n)))
@@ -108,7 +97,7 @@ pub each_added : (f : ℕ → List Task) (n : ℕ) (ts us : List Task) →
     ts ≡ flat_map f (range_with_len 0 n) → us ≡ ts ++ f n → us ≡ flat_map f (range_with_len 0 (n + 1))
 each_added f n ts us e added =
     added ∙ (ap (λ vs. vs ++ f n) e
-    ∙ sym (ap (flat_map f) (range_push n) ∙ flat_map_push f (range_with_len 0 n) n))
+    ∙ sym (ap (flat_map f) (range_more n) ∙ flat_map_push f (range_with_len 0 n) n))
 
 -- Batches
 

@@ -3,6 +3,7 @@ use Rattle.std.proofs.Common.{◌≡◌, ℕ, zero, suc, ◌+◌, ◌-◌, ◌<�
 use Rattle.std.specs.List.{slice_get, range_with_len}
 use Rattle.std.proofs.lemmas.Bool.{cond-true, cond-false}
 use Rattle.vq_model.specs.Plan.{Plan}
+use Rattle.vq_model.proofs.Numbers.{range_push, range_more}
 use Rattle.vq_board_laws.specs.declared.view.Role.{Role}
 use Rattle.vq_board_laws.specs.declared.view.Role.TheVariants.{Submit}
 use Rattle.vq_board_laws.specs.Roles.{is_threaded, threaded_before, role_number, role_count}
@@ -26,13 +27,6 @@ fresh_push b xs x roles role h fresh is = (
   map_push role_of xs x ∙ (λ i. h.0 i ++ is i ∷ []),
   λ k y e. elim (at_end xs x y k e) [ inl g ↦ h.1 k y g | inr same ↦ subst (IsFresh b) same fresh ],
 )
-
-range_push : (a n : ℕ) → range_with_len a (suc n) ≡ range_with_len a n ++ (a + n) ∷ []
-range_push a zero = ap (λ k. k ∷ []) (let e : a ≡ a + 0 = omega arith in e)
-range_push a (suc n) = ap (λ ks. a ∷ ks) (range_push (a + 1) n ∙ ap (λ k. range_with_len (a + 1) n ++ k ∷ []) (let e : (a + 1) + n ≡ a + suc n = omega arith in e))
-
-pub range_more : (n : ℕ) → range_with_len 0 (n + 1) ≡ range_with_len 0 n ++ n ∷ []
-range_more n = ap (range_with_len 0) (let e : n + 1 ≡ suc n = omega arith in e) ∙ (range_push 0 n ∙ ap (λ k. range_with_len 0 n ++ k ∷ []) (let e : 0 + n ≡ n = omega arith in e))
 
 filter_push : (t : ℕ → Bool) (xs : List ℕ) (x : ℕ) → filter t (xs ++ x ∷ []) ≡ filter t xs ++ filter t (x ∷ [])
 filter_push t [] x = refl

@@ -16,17 +16,9 @@ use Rattle.vq_model.specs.Signals.{insert_op, value_at, all_signals, chain_ops, 
 use Rattle.vq_model.specs.WellFormed.{IsWellFormed}
 use Rattle.vq_model.proofs.Gets.{slice_get_past}
 use Rattle.vq_model.proofs.Options.{some_of}
-use Rattle.vq_model.proofs.Searches.{find_fails, find_passes}
+use Rattle.vq_model.proofs.Searches.{find_fails, find_passes, at_place}
 use Rattle.vq_plan_laws.proofs.Cited.{chain_is, count_ops, op_chain_is, op_is, plan_lanes, plan_semaphores, plan_well_formed}
 use Rattle.vq_board.specs.Firsts.{StandInChains}
-
--- a number of a list stands at its place
-at_place : (xs : List ℕ) (x : ℕ) → has xs x ≡ true → slice_get xs (position_or_len (λ k. k == x) xs) ≡ Some x
-at_place xs x h = sym (find_at (λ k. k == x) xs) ∙ by_found (find (λ k. k == x) xs) refl
-  where
-    by_found : (o : Option ℕ) → find (λ k. k == x) xs ≡ o → find (λ k. k == x) xs ≡ Some x
-    by_found None f = absurd (false≢true (sym (find_fails (λ k. k == x) xs x f h) ∙ eq-eqb x x refl))
-    by_found (Some r) f = f ∙ ap Some (eqb-true r x (find_passes (λ k. k == x) xs r f))
 
 module _ (s : Script) (wf : IsWellFormed (plan_of s)) (sem : KeepsSemaphores (plan_of s)) where
   stands : StandInChains (plan_of s)

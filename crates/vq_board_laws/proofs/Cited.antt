@@ -3,7 +3,7 @@ pub use Rattle.vq_board_laws.proofs.AnswerSteps.{answers_job}
 pub use Rattle.vq_board_laws.proofs.Endings.{ends_whole}
 pub use Rattle.vq_board_laws.proofs.EnterSteps.{enters_command}
 pub use Rattle.vq_board_laws.proofs.Frames.{so_of}
-pub use Rattle.vq_board_laws.proofs.JobSteps.{batch_exists, looks_at_job, releases_job, state_of_number, submits_job}
+pub use Rattle.vq_board_laws.proofs.JobSteps.{looks_at_job, releases_job, state_of_number, submits_job}
 pub use Rattle.vq_board_laws.proofs.LookSteps.{looks_at_point}
 pub use Rattle.vq_board_laws.proofs.MakeSteps.{makes_point}
 pub use Rattle.vq_board_laws.proofs.OpSteps.{binds_op, completes_op, op_number_is, recalls_op}

@@ -19,7 +19,7 @@ use Rattle.vq_model.specs.Machine.{Progress, State as MachineState, is_reached, 
 use Rattle.vq_model.specs.Plan.{Plan, has, asked, value, initial, chain, chain_of}
 use Rattle.vq_model.specs.Sure.{RisesFrom}
 use Rattle.vq_model.specs.WellFormed.{AreInOrder}
-use Rattle.vq_model.proofs.Lists.{has_cases, split_at}
+use Rattle.vq_model.proofs.Lists.{has_cases, split_at, any_has}
 use Rattle.vq_model.proofs.Searches.{find_fails}
 use Rattle.vq_order_laws.proofs.Cited.{plan_has_sure_order}
 use Rattle.vq_plan_laws.proofs.Cited.{plan_well_formed}
@@ -50,13 +50,6 @@ one_fails test (m ∷ ns) (suc i) n e t = by_first (test m) (one_fails test ns i
     by_first : (b : Bool) → list_all test ns ≡ false → (b && list_all test ns) ≡ false
     by_first true h = h
     by_first false h = refl
-
-any_has : (test : ℕ → Bool) (xs : List ℕ) (x : ℕ) → has xs x ≡ true → test x ≡ true → list_any test xs ≡ true
-any_has test [] x h t = absurd (false≢true h)
-any_has test (y ∷ xs) x h t = elim (has_cases y xs x h) [
-  | inl is ↦ or_left (test y) (list_any test xs) (ap test is ∙ t)
-  | inr m ↦ or_right (test y) (list_any test xs) (any_has test xs x m t)
-]
 
 -- the first of a list in order that reaches a value is the least that does
 first_least : (p : Plan) (n : ℕ) (xs : List ℕ) (r e : ℕ) → AreInOrder p xs → find (λ x. leb n (value p x)) xs ≡ Some r → has xs e ≡ true → n ≤ value p e → value p r ≤ value p e

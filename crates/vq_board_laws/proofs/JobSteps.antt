@@ -9,6 +9,7 @@ use Rattle.vq_model.specs.Plan.{Plan, has, is_batch, is_host_step}
 use Rattle.vq_model.specs.Machine.{put, Progress}
 use Rattle.vq_model.proofs.Lists.{has_here, has_there}
 use Rattle.vq_model.proofs.Puts.{put_here}
+use Rattle.vq_model.proofs.Plans.{batch_exists}
 use Rattle.vq_board_laws.specs.declared.view.View.{View}
 use Rattle.vq_board_laws.specs.declared.view.LoggedBuffers.{LoggedBuffers}
 use Rattle.vq_board_laws.specs.declared.view.JobState.{JobState}
@@ -59,9 +60,6 @@ looks_at_job p slots id m j s k deep at fits =
     )
 
 -- Submit and release
-
-pub batch_exists : (p : Plan) (j : ℕ) → is_batch p j ≡ true → j < length p.jobs
-batch_exists p j h = ltb-true j (length p.jobs) (and_parts (ltb j (length p.jobs)) (not (is_host_step p j)) h).0
 
 -- a word that rises by less than a start shows the same
 pub early_shows : (p : Plan) (d : Words) (j x : ℕ) → d.job j < x → x ≤ 2 → shown p d ≡ shown p (record d { job = put d.job j x })

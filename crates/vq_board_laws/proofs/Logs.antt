@@ -18,6 +18,7 @@ use Rattle.vq_model.proofs.Puts.{put_here, put_there}
 use Rattle.vq_model.proofs.Searches.{find_member, find_passes}
 use Rattle.vq_model.proofs.Gets.{get_within}
 use Rattle.vq_model.proofs.Options.{some_of}
+use Rattle.vq_model.proofs.Plans.{command_exists}
 use Rattle.vq_board_laws.specs.Words.{filled}
 use Rattle.vq_board_laws.specs.declared.view.View.{View}
 use Rattle.vq_board_laws.specs.Reached.{IsReached}
@@ -97,12 +98,6 @@ pigeons zero (x ∷ xs) h below = let t = below x (has_here x xs) in absurd (ome
 pigeons (suc n) xs h below =
     let rest = pigeons n (erase n xs) (erase_distinct n xs h) (λ x m. let t = erase_has n x xs h m in let b = below x t.0 in let ne = t.1 in omega arith) in
     let l = erase_length n xs in omega arith
-
-pub command_exists : (p : Plan) → IsWellFormed p → (j c : ℕ) → has (commands_of p j) c ≡ true → c < length p.commands
-command_exists p w j c h =
-    let f = w.fits c j h in
-    let o = some_of (λ (x : CommandLine). x.command) (slice_get p.commands c) f.0 f.1 in
-    get_within p.commands c o.0 o.1
 
 -- what a run applies: each command once, and commands of the plan
 record Applied (p : Plan) (log : List ℕ) : Type 0 where

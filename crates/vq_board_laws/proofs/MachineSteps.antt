@@ -5,6 +5,7 @@ use lib.ListN.{get_elem?}
 use Rattle.atomic_table.specs.Table.{State}
 use Rattle.vq_model.specs.Machine.{put, StartStep, ApplyStep, SignalStep, FinishStep}
 use Rattle.vq_model.specs.Plan.{Plan}
+use Rattle.vq_model.proofs.Plans.{batch_exists}
 use Rattle.vq_board_laws.specs.declared.view.View.{View}
 use Rattle.vq_board_laws.specs.declared.view.LoggedBuffers.{LoggedBuffers}
 use Rattle.vq_board_laws.specs.declared.view.Fact.TheVariants.{BoundTo}
@@ -20,7 +21,7 @@ use Rattle.vq_board_laws.specs.Rule.{Kept}
 use Rattle.vq_board_laws.proofs.Columns.{job_set, op_set, point_set, place_set, count_set, turn_set}
 use Rattle.vq_board_laws.proofs.EnterSteps.{room, can_apply, entered_shows}
 use Rattle.vq_board_laws.proofs.FewReferences.{few_references}
-use Rattle.vq_board_laws.proofs.JobSteps.{batch_exists, early_shows, submit_finds, release_finds}
+use Rattle.vq_board_laws.proofs.JobSteps.{early_shows, submit_finds, release_finds}
 use Rattle.vq_board_laws.proofs.MadeWords.{made_point, made_op, made_recounted, shown_remade}
 use Rattle.vq_board_laws.proofs.Needs.{knows_made}
 use Rattle.vq_board_laws.proofs.OpSteps.{bound_made}

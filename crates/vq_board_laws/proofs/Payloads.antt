@@ -7,7 +7,7 @@ use Rattle.vq_model.specs.Machine.{put}
 use Rattle.vq_model.specs.Plan.{Plan, has, value, initial, chain, chain_of}
 use Rattle.vq_model.specs.SlowRun.{greatest}
 use Rattle.vq_model.specs.WellFormed.{IsWellFormed}
-use Rattle.vq_model.proofs.Filters.{filter-has, filter-has_cases}
+use Rattle.vq_model.proofs.Filters.{filter-has, filter-has_cases, same_filter}
 use Rattle.vq_model.proofs.Lists.{has_here, has_there, has_cases}
 use Rattle.vq_model.proofs.Options.{same_some}
 use Rattle.vq_model.proofs.Puts.{put_here, put_there, put_cases}
@@ -76,12 +76,6 @@ module _ (p : Plan) (made : ℕ → Bool) (t : ℕ) where
   is_payload w = payload_has (IsPayload p t) (inl refl) (λ e h m. inr (e, w.of_chain e t h, refl))
 
 -- A signal
-
-same_filter : (f g : ℕ → Bool) (xs : List ℕ) → ((x : ℕ) → has xs x ≡ true → f x ≡ g x) → filter f xs ≡ filter g xs
-same_filter f g [] h = refl
-same_filter f g (x ∷ xs) h =
-    let here = h x (has_here x xs) in
-    let rest = same_filter f g xs (λ y i. h y (has_there x xs y i)) in λ i. cond (here i) (x ∷ rest i) (rest i)
 
 module _ (p : Plan) (w : IsWellFormed p) (made : ℕ → Bool) (e t : ℕ) (in_chain : chain_of p e ≡ Some t) (low : payload_of p made t < value p e) where
   abbrev more : ℕ → Bool

@@ -10,23 +10,9 @@ use Rattle.vq_model.specs.Windows.{itself, signaled_earlier, sure}
 use Rattle.vq_model.proofs.Lists.{has_cases, list_all_has}
 use Rattle.vq_model.proofs.Options.{same_some}
 use Rattle.vq_model.proofs.Puts.{put_cases, put_keeps}
-use Rattle.vq_run_laws.proofs.Cited.{next_in}
+use Rattle.vq_run_laws.proofs.Cited.{next_in, next_before}
 use Rattle.vq_run_laws.specs.RunFacts.{IsSureInTime, MakesAsPayloadsSay}
 use Rattle.vq_board_laws.specs.RunLaws.{MakesTogether, MakesBeforeFinish, RunLaws}
-
--- in a list that rises, what stands before the first that isn't done is done
-before_next : (done : ℕ → Bool) (xs : List ℕ) (c x : ℕ) → AreRising xs → next done xs ≡ Some c → has xs x ≡ true → x < c → done x ≡ true
-before_next done [] c x r h m l = absurd (false≢true m)
-before_next done (y ∷ xs) c x r h m l = by_test (done y) refl (before_next done xs c x r.1)
-  where
-    by_test : (b : Bool) → done y ≡ b → (next done xs ≡ Some c → has xs x ≡ true → x < c → done x ≡ true) → done x ≡ true
-    by_test true e rest =
-        let h' : next done xs ≡ Some c = sym (cond-false (not (done y)) (Some y) (next done xs) (ap not e)) ∙ h in
-        elim (has_cases y xs x m) [ inl is ↦ subst (λ (z : ℕ). done z ≡ true) is e | inr t ↦ rest h' t l ]
-    by_test false e rest =
-        let h' : Some y ≡ Some c = sym (cond-true (not (done y)) (Some y) (next done xs) (ap not e)) ∙ h in
-        let same : y ≡ c = cc in
-        elim (has_cases y xs x m) [ inl is ↦ absurd (omega arith) | inr t ↦ let above = r.0 x t in absurd (omega arith) ]
 
 record SignalsInOrder (p : Plan) (s : Progress) : Type 0 where
   earlier : (e f j : ℕ) → job_of p e ≡ Some j → job_of p f ≡ Some j → f < e → s.made e ≡ true → s.made f ≡ true
@@ -38,7 +24,7 @@ order_signaled p s e w k can = record {
     | inl is ↦
         let member = (next_in s.made (signals_of p can.job) e can.next).0 in
         let same : j ≡ can.job = same_some j can.job (sym of_f ∙ (ap (job_of p) is ∙ w.of_job e can.job member)) in
-        before_next s.made (signals_of p can.job) e g (w.signals can.job) can.next (subst (λ (i : ℕ). has (signals_of p i) g ≡ true) same (w.in_job g j of_g)) (omega arith)
+        next_before s.made (signals_of p can.job) e g (w.signals can.job) can.next (subst (λ (i : ℕ). has (signals_of p i) g ≡ true) same (w.in_job g j of_g)) (omega arith)
     | inr t ↦ k.earlier f g j of_f of_g l t
   ]);
   own = λ f j of_f done. put_keeps s.made e f (k.own f j of_f done);

@@ -15,8 +15,9 @@ use Rattle.vq_model.specs.declared.plan.PlanJob.{PlanJob}
 use Rattle.vq_model.specs.Plan.{Plan, has, is_batch, is_host_step, is_host_lane, is_silent, question, previous, host_before, idle_after, commands_of, signals_of}
 use Rattle.vq_model.specs.Edges.{AtEnd, At, must_finish}
 use Rattle.vq_model.specs.Machine.{Progress, State as MachineState, put, are_reached, CanStart, StartStep, FinishStep, IsDone, after_progress, after_step}
-use Rattle.vq_model.proofs.Lists.{has_here, has_there, has_cases, has-append_cases, list_all_from}
+use Rattle.vq_model.proofs.Lists.{has_here, has_there, has_cases, has-append_cases, list_all_from, in_option}
 use Rattle.vq_model.proofs.Puts.{put_here, put_there}
+use Rattle.vq_model.proofs.Plans.{batch_of, batch_no_step}
 use Rattle.vq_plan_laws.proofs.Cited.{plan_well_formed, plan_hosts, reached_earlier}
 use Rattle.vq_board_laws.specs.declared.view.Told.{Told}
 use Rattle.vq_board_laws.specs.declared.view.View.{View}
@@ -43,22 +44,6 @@ use Rattle.vq_board_laws.proofs.Since.{since_rises, since_nothing}
 use Rattle.vq_board_laws.proofs.Taken.{none_taken, none_dropped}
 
 -- Small facts
-
-in_option : (o : Option ℕ) (i : ℕ) → has (option_to_list o) i ≡ true → o ≡ Some i
-in_option None i h = absurd (false≢true h)
-in_option (Some x) i h = elim (has_cases x [] i h) [ inl e ↦ ap Some e | inr m ↦ absurd (false≢true m) ]
-
--- a job is a batch, or a step of the host
-batch_of : (p : Plan) (j : ℕ) → j < length p.jobs → is_host_step p j ≡ false → is_batch p j ≡ true
-batch_of p j inside e = and_from (ltb j (length p.jobs)) (not (is_host_step p j)) (lt-ltb j (length p.jobs) inside) (ap not e)
-
-batch_is_none : (p : Plan) (j : ℕ) → is_batch p j ≡ true → is_host_step p j ≡ false
-batch_is_none p j h = by_test (is_host_step p j) (ltb j (length p.jobs)) refl h
-  where
-    by_test : (b c : Bool) → is_host_step p j ≡ b → (c && not b) ≡ true → is_host_step p j ≡ false
-    by_test true true e t = absurd (false≢true t)
-    by_test true false e t = absurd (false≢true t)
-    by_test false c e t = e
 
 -- the jobs of the host's lane are run by the host's pass
 pub runner_of_host : (p : Plan) (j : ℕ) → is_host_step p j ≡ true → runner p j ≡ 0
@@ -87,7 +72,7 @@ module _ (p : Plan) (laws : RunLaws p) (s : State LoggedBuffers View) (id j : �
 
   -- a batch is released
   ready : is_batch p j ≡ true → 1 < d.job j
-  ready batch = let h : 2 ≤ d.job j = so_of d v.known (Job j Released) (k.rule.knowledge id v at) (may.released (batch_is_none p j batch)) in omega arith
+  ready batch = let h : 2 ≤ d.job j = so_of d v.known (Job j Released) (k.rule.knowledge id v at) (may.released (batch_no_step p j batch)) in omega arith
 
   reached : are_reached p (payload_of p (made_of d)) j AtEnd ≡ true
   reached = needs_reached p d s.views v.known j laws k.rule.run (k.rule.knowledge id v at) may.all_reached may.one_reached

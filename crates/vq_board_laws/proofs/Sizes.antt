@@ -11,6 +11,7 @@ use Rattle.vq_model.specs.Plan.{Plan, has, commands_of, command_at}
 use Rattle.vq_model.specs.SlowRun.{bytes_after, zeros}
 use Rattle.vq_model.specs.WellFormed.{IsWellFormed}
 use Rattle.vq_model.proofs.Lists.{has_here, has_there}
+use Rattle.vq_model.proofs.Sizes.{sizes_are}
 use Rattle.vq_memory_laws.proofs.Cited.{effect_sizes}
 use Rattle.vq_plan_laws.proofs.Cited.{plan_well_formed}
 use Rattle.vq_board_laws.specs.declared.view.View.{View}
@@ -28,16 +29,6 @@ zeros_fit sizes =
     at_buffer b (inr l) =
         let n : length (zeros_of sizes) ≡ length sizes = length-map sizes (λ size. map (λ k. 0) (range_with_len 0 size)) in
         ap length (get_or_past (zeros_of sizes) b [] (omega arith)) ∙ sym (get_or_past sizes b 0 l)
-
--- buffers that have these sizes have no others
-sizes_are : (sizes : List ℕ) (m : Memory) → HasSizes sizes m → map length m ≡ sizes
-sizes_are sizes m h = same_lists _ _ (length-map m length ∙ h.count) (λ k d l. at_place k d l)
-  where
-    at_place : (k d : ℕ) → k < length (map length m) → get_or (map length m) k d ≡ get_or sizes k d
-    at_place k d l =
-        let inside : k < length m = omega (arith, length-map m length) in
-        let count = h.count in
-        get_or-map length m k [] d inside ∙ (h.each k ∙ get_or_default sizes k 0 d (omega arith))
 
 -- commands of jobs leave the sizes
 run_sizes : (p : Plan) → IsWellFormed p → (cs : List ℕ) (m : Memory) → ((c : ℕ) → has cs c ≡ true → (j : ℕ) × (has (commands_of p j) c ≡ true)) → HasSizes p.sizes m → HasSizes p.sizes (after_all (filter_map (command_at p) cs) m)

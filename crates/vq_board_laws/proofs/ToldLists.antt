@@ -16,6 +16,7 @@ use Rattle.vq_model.specs.Machine.{State}
 use Rattle.vq_model.specs.OutputText.{answer_at, lines_answered}
 use Rattle.vq_model.specs.Plan.{Plan, question, is_silent}
 use Rattle.vq_model.proofs.Gets.{slice_get_past}
+use Rattle.vq_model.proofs.Numbers.{range_push}
 use Rattle.vq_board_laws.specs.declared.view.Told.{Told}
 use Rattle.vq_board_laws.specs.Reached.{answer_told, lines_told, AreFalling}
 
@@ -35,14 +36,10 @@ told_more x xs j h = dite (ℕ_discrete x.job j) (λ e. ap is_some (told_here x 
 
 -- The lines of all answers
 
-range_last : (a n : ℕ) → range_with_len a (suc n) ≡ range_with_len a n ++ (a + n) ∷ []
-range_last a zero = ap (λ k. k ∷ []) (omega arith)
-range_last a (suc n) = ap (λ ks. a ∷ ks) (range_last (a + 1) n ∙ ap (λ k. range_with_len (a + 1) n ++ k ∷ []) (omega arith))
-
 filter_last : (f : ℕ → Option AnswerLine) (n : ℕ) → filter_map f (range_with_len 0 (suc n)) ≡ filter_map f (range_with_len 0 n) ++ cons_option (f n) []
 filter_last f n =
     let same : 0 + n ≡ n = omega arith in
-    ap (filter_map f) (range_last 0 n ∙ ap (λ k. range_with_len 0 n ++ k ∷ []) same) ∙ filter_map-append f (range_with_len 0 n) (n ∷ [])
+    ap (filter_map f) (range_push 0 n ∙ ap (λ k. range_with_len 0 n ++ k ∷ []) same) ∙ filter_map-append f (range_with_len 0 n) (n ∷ [])
 
 -- what two functions give of the numbers below n is the same where they are
 filter_same : (f g : ℕ → Option AnswerLine) (n : ℕ) → ((j : ℕ) → j < n → f j ≡ g j) → filter_map f (range_with_len 0 n) ≡ filter_map g (range_with_len 0 n)

@@ -20,8 +20,9 @@ use Rattle.vq_model.specs.declared.script.CommandLine.{CommandLine}
 use Rattle.vq_model.specs.declared.script.Command.{Command}
 use Rattle.vq_model.specs.declared.script.Pair.{Pair}
 use Rattle.vq_model.specs.ScriptOfLines.{mark, first_of_list}
-use Rattle.vq_model.specs.Canonical.{job_words, wait_words, command_words, signal_words, fence_words, fence_lines, queue_name, step_words}
+use Rattle.vq_model.specs.Canonical.{job_words, wait_words, command_words, signal_words, fence_words, fence_lines, step_words}
 use Rattle.vq_model.specs.Context.{part_of}
+use Rattle.vq_model.specs.Naming.{queue_name}
 use Rattle.vq_canonical_laws.proofs.BatchItems.{is_item, AllItems}
 
 -- Statements in the order of a batch's parts

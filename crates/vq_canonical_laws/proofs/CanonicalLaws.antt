@@ -4,7 +4,7 @@ use Rattle.std.specs.List.{flat_map, slice_get}
 use Rattle.std.specs.Option.{option_map_or, option_map}
 use Rattle.vq_model.specs.declared.script.Script.{Script}
 use Rattle.vq_model.specs.SameScript.{without_lines, buffer_without_line, semaphore_without_line, queue_without_line, mark_without_line, job_without_lines, command_without_line, turn_without_line, SameButLines}
-use Rattle.vq_model.specs.Canonical.{buffer_name, semaphore_name, semaphore_kind, queue_name, pair_words, step_words, mark_words, marked_words, wait_words, from_words, signal_words, fence_lines, command_words, fill_size_word, fill_word, hex_digits, job_words, actor_word, joined_turns, with_turn, Turns, turns_words, schedule_words, version_words, buffer_words, semaphore_words, queue_words, canonical_lines, canonical_text, line_text}
+use Rattle.vq_model.specs.Canonical.{pair_words, step_words, mark_words, marked_words, wait_words, from_words, signal_words, fence_lines, command_words, fill_size_word, fill_word, hex_digits, job_words, joined_turns, with_turn, Turns, turns_words, schedule_words, version_words, buffer_words, semaphore_words, queue_words, canonical_lines, canonical_text, line_text}
 use Rattle.vq_model.specs.declared.script.SemaphoreKind.TheVariants.{Binary}
 use Rattle.vq_model.specs.declared.script.Pair.{Pair}
 use Rattle.std.specs.Fmt.{decimal}
@@ -19,6 +19,7 @@ use Rattle.vq_model.specs.declared.script.Job.TheVariants.{Host, Batch}
 use Rattle.vq_model.specs.declared.script.ActorName.{ActorName}
 use Rattle.vq_model.specs.declared.script.ActorName.TheVariants.{Host as HostActor, Submit as SubmitActor, Ring as RingActor}
 use Rattle.vq_model.specs.declared.script.Turn.{Turn}
+use Rattle.vq_model.specs.Naming.{buffer_name, semaphore_name, semaphore_kind, queue_name, actor_word}
 
 -- a part that a change leaves alone
 map_same : {A B : Type 0} (f : A → B) (g : A → A) → ((x : A) → f (g x) ≡ f x) → (xs : List A) → map f (map g xs) ≡ map f xs

@@ -21,11 +21,12 @@ use Rattle.vq_model.specs.Context.{section, open_batch, is_command, count, some}
 use Rattle.vq_model.specs.Meaning.{of_two, of_three, of_four, of_five}
 use Rattle.vq_model.specs.LineFaults.{is_in_range, overlaps}
 use Rattle.vq_model.specs.Ranges.{is_aligned}
-use Rattle.vq_model.specs.Canonical.{command_words, buffer_name, fill_word, hex_digits}
+use Rattle.vq_model.specs.Canonical.{command_words, fill_word, hex_digits}
 use Rattle.vq_model.specs.Context.{number_at, buffers, part_of}
 use Rattle.vq_model.specs.Earlier.{earlier}
 use Rattle.vq_model.specs.LineFaults.{passes_limit}
 use Rattle.vq_model.specs.Forms.{BufferName}
+use Rattle.vq_model.specs.Naming.{buffer_name}
 use Rattle.vq_canonical_laws.proofs.LineTests.{PassesTests, read_tested}
 use Rattle.vq_canonical_laws.proofs.SaidContext.{buffer_at_said, range_said, overlap_said, count_said}
 use Rattle.vq_canonical_laws.proofs.WrittenTexts.{is_text_word, are_text_words}

@@ -13,6 +13,7 @@ use Rattle.vq_model.specs.declared.statement.Statement.{Statement}
 use Rattle.vq_model.specs.declared.statement.Statement.TheVariants.{DeclareBuffer, DeclareSemaphore, DeclareQueue}
 use Rattle.vq_model.specs.Text.{is_name}
 use Rattle.vq_model.specs.SameScript.{buffer_without_line, semaphore_without_line, queue_without_line}
+use Rattle.vq_model.proofs.Bools.{not_true}
 use Rattle.vq_canonical_laws.specs.FormatRules.{are_new, sizes_in, HasValue}
 use Rattle.vq_canonical_laws.proofs.ScriptParts.{Parts, after, May}
 use Rattle.vq_canonical_laws.proofs.CanonicalOrder.{Leads, buffer_statements, semaphore_statements, queue_statements, declarations}
@@ -23,10 +24,6 @@ any_map : {A : Type 0} (test : List ℕ → Bool) (name : A → List ℕ) (xs : 
     list_any test (map name xs) ≡ list_any (λ x. test (name x)) xs
 any_map test name [] = refl
 any_map test name (x ∷ xs) = ap (λ (b : Bool). test (name x) || b) (any_map test name xs)
-
-fails : (b : Bool) → not b ≡ true → b ≡ false
-fails false e = refl
-fails true e = absurd (false≢true e)
 
 -- A list of declarations of one kind
 
@@ -52,7 +49,7 @@ module _ {A : Type 0} (f : A → Statement) (name : A → List ℕ) (Fits : A �
       (are_new (names ++ name x ∷ []) (map name xs ++ rest)) new in
       let this = and_parts (is_name (name x)) (not (list_any (bytes_eq (name x)) names)) more.0 in
       let first = one before x xs fits.0 this.0
-      (fails (list_any (bytes_eq (name x)) names) this.1) left in
+      (not_true (list_any (bytes_eq (name x)) names) this.1) left in
       let longer : names ++ name x ∷ [] ≡ front ++ map name (before ++ x ∷ []) =
       append_assoc front (map name before) (name x ∷ [])
       ∙ ap (λ (ns : List (List ℕ)). front ++ ns) (sym (map-append name before (x ∷ []))) in

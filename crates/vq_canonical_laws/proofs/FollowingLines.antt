@@ -32,7 +32,9 @@ use Rattle.vq_model.specs.Context.{number_at, is_job, part_of}
 use Rattle.vq_model.specs.Earlier.{earlier}
 use Rattle.vq_model.specs.LineFaults.{passes_limit}
 use Rattle.vq_model.specs.Forms.{BufferName, TimelineName, BinaryName, FenceName, QueueName}
-use Rattle.vq_reading_laws.proofs.Cited.{found_passes, built_found, found_belongs, where_it_is_built, forms_in, below}
+use Rattle.vq_model.proofs.Bools.{not_true}
+use Rattle.vq_model.proofs.Options.{same_some}
+use Rattle.vq_reading_laws.proofs.Cited.{found_passes, built_found, found_belongs, where_it_is_built, forms_in, below, fence_is}
 use Rattle.vq_canonical_laws.proofs.WrittenNumbers.{numeral_below, small_numeral_below, hex_bytes_below}
 use Rattle.vq_canonical_laws.proofs.FollowingSteps.{host_may}
 use Rattle.vq_canonical_laws.proofs.LineTests.{PassesTests, tests_passed}
@@ -61,13 +63,6 @@ no_jobs : (jobs : List ToldJob) (b : Option Told) → has_jobs jobs b ≡ false 
 no_jobs [] b e = refl
 no_jobs (t ∷ jobs) b e = absurd (false≢true (sym e))
 
-not_true : (b : Bool) → not b ≡ true → b ≡ false
-not_true true h = absurd (false≢true h)
-not_true false h = refl
-
-same_statement : (a b : Statement) → Some a ≡ Some b → a ≡ b
-same_statement a b e = cc
-
 nothing_said : (s : Statement) → None ≡ Some s → ⊥
 nothing_said s e = cc
 
@@ -79,10 +74,6 @@ timeline_takes k v e l = absurd (false≢true e)
 binary_takes : (k : SemaphoreKind) → is_binary k ≡ true → TakesValue k 0
 binary_takes Binary e = refl
 binary_takes k e = absurd (false≢true e)
-
-fence_is : (k : SemaphoreKind) → is_fence k ≡ true → k ≡ Fence
-fence_is Fence e = refl
-fence_is k e = absurd (false≢true e)
 
 -- The forms of a part of the text
 
@@ -164,7 +155,7 @@ module _ (form : Form) (before : List Line) (p : Parts) (h : Say before p) where
       by_size : (o : Option ℕ) → option_map (λ n. DeclareBuffer name n) o ≡ Some s → May p s
       by_size None i = absurd (nothing_said s i)
       by_size (Some n) i =
-          let same : DeclareBuffer name n ≡ s = same_statement (DeclareBuffer name n) s i in
+          let same : DeclareBuffer name n ≡ s = same_some (DeclareBuffer name n) s i in
           let first = first_parts e t.in_order in
           let r : is_in_range (earlier before) (DeclareBuffer name n) ≡ true =
           subst (λ (z : Statement). is_in_range (earlier before) z ≡ true) (sym same) t.ranged in
@@ -201,7 +192,7 @@ module _ (form : Form) (before : List Line) (p : Parts) (h : Say before p) where
       Some (DeclareSemaphore name kind) ≡ Some s → HasValue kind → May p s
   semaphore_may name kind s e order named fresh limited i small =
       let same : DeclareSemaphore name kind ≡ s =
-      same_statement (DeclareSemaphore name kind) s i in
+      same_some (DeclareSemaphore name kind) s i in
       let first = first_parts e order in
       let few =
       below (length (semaphores before)) 256
@@ -251,7 +242,7 @@ module _ (form : Form) (before : List Line) (p : Parts) (h : Say before p) where
       Outside ≡ part_of_batch p.batch → matches words (QueueLine mode) ≡ true →
       PassesTests form before words (QueueLine mode) s → May p s
   queue_may mode (a ∷ name ∷ c ∷ []) s e m t =
-      let same : DeclareQueue name mode ≡ s = same_statement (DeclareQueue name mode) s t.said in
+      let same : DeclareQueue name mode ≡ s = same_some (DeclareQueue name mode) s t.said in
       let first = first_parts e t.in_order in
       let few =
       below (length (queues before)) 8
@@ -279,7 +270,7 @@ module _ (form : Form) (before : List Line) (p : Parts) (h : Say before p) where
           option_map (λ q. BeginBatch q) o ≡ Some s → May p s
       by_queue None f i = absurd (nothing_said s i)
       by_queue (Some q) f i =
-          let same : BeginBatch q ≡ s = same_statement (BeginBatch q) s i in
+          let same : BeginBatch q ≡ s = same_some (BeginBatch q) s i in
           let found =
           position_passes (λ x. bytes_eq queue x.name) p.queues q
           (sym (queue_at_said before p h queue) ∙ f) in
@@ -337,7 +328,7 @@ module _ (form : Form) (before : List Line) (p : Parts) (h : Say before p) where
       passes_limit (earlier before) s ≡ false →
       Some (AddWait pair 1) ≡ Some s → IsMarked p.semaphores pair → May p s
   wait_may pair s e order limited i known =
-      let same : AddWait pair 1 ≡ s = same_statement (AddWait pair 1) s i in
+      let same : AddWait pair 1 ≡ s = same_some (AddWait pair 1) s i in
       let inside = inside_batch p.batch e in
       let few =
       below (count is_wait (open_batch before)) 16
@@ -388,7 +379,7 @@ module _ (form : Form) (before : List Line) (p : Parts) (h : Say before p) where
       passes_limit (earlier before) s ≡ false →
       Some (AddSignal pair) ≡ Some s → IsMarked p.semaphores pair → May p s
   signal_may pair s e order limited i known =
-      let same : AddSignal pair ≡ s = same_statement (AddSignal pair) s i in
+      let same : AddSignal pair ≡ s = same_some (AddSignal pair) s i in
       let inside = inside_batch p.batch e in
       let few =
       below (count is_signal (open_batch before)) 16
@@ -441,7 +432,7 @@ module _ (form : Form) (before : List Line) (p : Parts) (h : Say before p) where
           option_map (λ x. AddFence x) o ≡ Some s → May p s
       by_place None f i = absurd (nothing_said s i)
       by_place (Some o) f i =
-          let same : AddFence o ≡ s = same_statement (AddFence o) s i in
+          let same : AddFence o ≡ s = same_some (AddFence o) s i in
           let inside = inside_batch p.batch e in
           let order =
           or_parts (some (λ x. nat_lt 4 (part_of x)) (open_batch before))
@@ -472,7 +463,7 @@ module _ (form : Form) (before : List Line) (p : Parts) (h : Say before p) where
       passes_limit (earlier before) s ≡ false →
       Some (AddCommand c) ≡ Some s → HasNumerals c → May p s
   command_may c s e order ranged apart limited i numerals =
-      let same : AddCommand c ≡ s = same_statement (AddCommand c) s i in
+      let same : AddCommand c ≡ s = same_some (AddCommand c) s i in
       let r : is_in_range (earlier before) (AddCommand c) ≡ true =
       subst (λ (z : Statement). is_in_range (earlier before) z ≡ true) (sym same) ranged in
       let o : overlaps (buffers before) (AddCommand c) ≡ false =
@@ -581,7 +572,7 @@ module _ (form : Form) (before : List Line) (p : Parts) (h : Say before p) where
   end_may : (words : List (List ℕ)) (s : Statement) → InBatch ≡ part_of_batch p.batch →
       matches words EndLine ≡ true → PassesTests form before words EndLine s → May p s
   end_may (a ∷ []) s e m t =
-      let same : EndBatch ≡ s = same_statement EndBatch s t.said in
+      let same : EndBatch ≡ s = same_some EndBatch s t.said in
       let inside = inside_batch p.batch e in
       let near : waits_too_far (open_batch before) ≡ false =
       not_true (waits_too_far (open_batch before))
@@ -630,7 +621,7 @@ module _ (form : Form) (before : List Line) (p : Parts) (h : Say before p) where
   outside_may HostIdleLine words s e g b m t =
       inl (host_may before p h form HostIdleLine words s (outside_batch p.batch e) refl m t)
   outside_may ScheduleLine (a ∷ []) s e g b m t =
-      inr (sym (same_statement BeginSchedule s t.said), outside_batch p.batch e)
+      inr (sym (same_some BeginSchedule s t.said), outside_batch p.batch e)
   outside_may ScheduleLine words s e g b m t = absurd (false≢true m)
   outside_may TurnLine words s e g b m t = absurd (false≢true g)
   outside_may TurnsLine words s e g b m t = absurd (false≢true g)

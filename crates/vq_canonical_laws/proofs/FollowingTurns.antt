@@ -28,18 +28,13 @@ use Rattle.vq_model.specs.Earlier.{earlier}
 use Rattle.vq_model.specs.LineFaults.{passes_limit}
 use Rattle.vq_model.specs.Forms.{QueueName, ThreadedName}
 use Rattle.std.specs.List.{flat_map}
+use Rattle.vq_model.proofs.Options.{same_some}
 use Rattle.vq_reading_laws.proofs.Cited.{found_passes, built_found, found_belongs, forms_in, turns_counted}
 use Rattle.vq_canonical_laws.proofs.LineTests.{PassesTests, tests_passed}
 use Rattle.vq_canonical_laws.proofs.NamedParts.{position_passes}
 use Rattle.vq_canonical_laws.proofs.SaidContext.{position_same}
 use Rattle.vq_canonical_laws.proofs.ScriptParts.{Parts}
 use Rattle.vq_canonical_laws.proofs.ScheduleParts.{IsActorIn, SaySchedule}
-
-same_statement : (a b : Statement) → Some a ≡ Some b → a ≡ b
-same_statement a b e = cc
-
-same_actor : (a b : ActorName) → Some a ≡ Some b → a ≡ b
-same_actor a b e = cc
 
 -- whether a form takes turns
 abbrev takes_turns : LineForm → Bool
@@ -89,7 +84,7 @@ module _ (before : List Line) (p : Parts) (turns : List Turn) (h : SaySchedule b
           let found =
           position_passes (λ x. bytes_eq name x.name && is_threaded x.mode) p.queues q
           (sym (threaded_said name) ∙ i) in
-          subst (IsActorIn p.queues) (same_actor (SubmitActor q) a g) (
+          subst (IsActorIn p.queues) (same_some (SubmitActor q) a g) (
             found.0,
             found.1,
             (and_parts (bytes_eq name found.0.name) (is_threaded found.0.mode) found.2).1,
@@ -101,7 +96,7 @@ module _ (before : List Line) (p : Parts) (turns : List Turn) (h : SaySchedule b
       by_ring (Some q) i g =
           let found =
           position_passes (λ x. bytes_eq name x.name) p.queues q (sym (queue_said name) ∙ i) in
-          subst (IsActorIn p.queues) (same_actor (RingActor q) a g) (found.0, found.1)
+          subst (IsActorIn p.queues) (same_some (RingActor q) a g) (found.0, found.1)
 
       of_queue : Bool → Option ActorName
       of_queue b =
@@ -116,7 +111,7 @@ module _ (before : List Line) (p : Parts) (turns : List Turn) (h : SaySchedule b
           IsActorIn p.queues a
       by_host true i g =
           subst (IsActorIn p.queues)
-          (same_actor HostActor a
+          (same_some HostActor a
           (sym (ap (λ (b : Bool). cond b (Some HostActor) (of_queue (is_marked 83 word))) i) ∙ g)) tt
       by_host false i g =
           by_mark (is_marked 83 word)
@@ -154,7 +149,7 @@ module _ (before : List Line) (p : Parts) (turns : List Turn) (h : SaySchedule b
             option_map (λ a. TakeTurns a 1) o ≡ Some s → Takes p.queues (length turns) s
         by_actor None e g = absurd (let c : None ≡ Some s = g in cc)
         by_actor (Some a) e g =
-            takes a 1 s (actor_said word a e) t.ranged t.limited (same_statement (TakeTurns a 1) s g)
+            takes a 1 s (actor_said word a e) t.ranged t.limited (same_some (TakeTurns a 1) s g)
     turn_takes words s m t = absurd (false≢true m)
 
     turns_take : (words : List (List ℕ)) (s : Statement) → matches words TurnsLine ≡ true →
@@ -167,7 +162,7 @@ module _ (before : List Line) (p : Parts) (turns : List Turn) (h : SaySchedule b
         by_actor None n e g = absurd (let c : None ≡ Some s = g in cc)
         by_actor (Some a) None e g = absurd (let c : None ≡ Some s = g in cc)
         by_actor (Some a) (Some n) e g =
-            takes a n s (actor_said word a e) t.ranged t.limited (same_statement (TakeTurns a n) s g)
+            takes a n s (actor_said word a e) t.ranged t.limited (same_some (TakeTurns a n) s g)
     turns_take words s m t = absurd (false≢true m)
 
     by_form : (f : LineForm) (words : List (List ℕ)) (s : Statement) → takes_turns f ≡ true →

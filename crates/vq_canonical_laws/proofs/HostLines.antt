@@ -15,7 +15,7 @@ use Rattle.vq_model.specs.declared.script.HostStep.{HostStep}
 use Rattle.vq_model.specs.declared.script.HostStep.TheVariants.{Signal, WaitAll, WaitAny, PollAll, PollAny, Read, FenceWait, FencePoll, FenceReset, Idle}
 use Rattle.vq_model.specs.declared.script.Pair.{Pair}
 use Rattle.vq_model.specs.declared.script.Semaphore.{Semaphore}
-use Rattle.vq_model.specs.Canonical.{pair_words, semaphore_name, step_words}
+use Rattle.vq_model.specs.Canonical.{pair_words, step_words}
 use Rattle.vq_model.specs.Context.{is_timeline, is_fence, section, open_batch, some, count}
 use Rattle.vq_model.specs.Forms.{Slot, FenceName, places}
 use Rattle.vq_model.specs.LineFaults.{is_shaped, is_numeric, is_known, is_new, is_out_of_order}
@@ -25,6 +25,7 @@ use Rattle.vq_model.specs.Context.{number_at, is_declared, is_job, part_of}
 use Rattle.vq_model.specs.Earlier.{earlier}
 use Rattle.vq_model.specs.LineFaults.{pairs_of, passes_limit}
 use Rattle.vq_model.specs.Forms.{TimelineName}
+use Rattle.vq_model.specs.Naming.{semaphore_name}
 use Rattle.vq_canonical_laws.proofs.BatchLines.{timeline_there, fence_there}
 use Rattle.vq_canonical_laws.proofs.LineTests.{PassesTests, read_tested}
 use Rattle.vq_canonical_laws.proofs.LineWords.{declared_script, ReadsAs, words_plain, words_of_two, words_of_three, not_over, not_past, form_outside}

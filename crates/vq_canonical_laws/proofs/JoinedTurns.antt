@@ -6,16 +6,11 @@ use Rattle.vq_model.specs.declared.script.ActorName.{ActorName}
 use Rattle.vq_model.specs.declared.script.ActorName.TheVariants.{Host as HostActor, Submit as SubmitActor, Ring as RingActor}
 use Rattle.vq_model.specs.declared.script.Turn.{Turn}
 use Rattle.vq_model.specs.declared.script.Queue.{Queue}
-use Rattle.vq_model.specs.Canonical.{Turns, same_actor, with_turn, joined_turns}
+use Rattle.vq_model.specs.Canonical.{Turns, with_turn, joined_turns}
 use Rattle.vq_model.specs.SameScript.{turn_without_line}
+use Rattle.vq_model.specs.Naming.{same_actor}
+use Rattle.vq_model.proofs.Actors.{same_actor_is}
 use Rattle.vq_canonical_laws.proofs.ScheduleParts.{IsActorIn, a_turn}
-
--- actors that are the same are equal
-same_is : (a b : ActorName) → same_actor a b ≡ true → a ≡ b
-same_is HostActor HostActor h = refl
-same_is (SubmitActor q) (SubmitActor r) h = ap (λ (n : ℕ). SubmitActor n) (eqb-true q r h)
-same_is (RingActor q) (RingActor r) h = ap (λ (n : ℕ). RingActor n) (eqb-true q r h)
-same_is a b h = absurd (cc)
 
 -- the turns for which actors with counts stand
 abbrev pub expanded : List Turns → List Turn
@@ -31,7 +26,7 @@ expanded_with a ((b, n) ∷ js) = by_test (same_actor a b) refl
     by_test true e =
         let more : n + 1 ≡ suc n = omega arith in
         (λ i. replicate (more i) (a_turn b) ++ expanded js)
-        ∙ ap (λ (c : ActorName). a_turn c ∷ expanded ((b, n) ∷ js)) (sym (same_is a b e))
+        ∙ ap (λ (c : ActorName). a_turn c ∷ expanded ((b, n) ∷ js)) (sym (same_actor_is a b e))
     by_test false e = refl
 
 -- Joined turns stand for the turns, without their lines.

@@ -6,7 +6,7 @@ use Rattle.std.specs.Prelude.{codes, nat_lt}
 use Rattle.vq_model.specs.declared.statement.Statement.{Statement}
 use Rattle.vq_model.specs.declared.statement.Statement.TheVariants.{DeclareBuffer, DeclareSemaphore, DeclareQueue, BeginBatch, AddWait, AddCommand, AddSignal, AddFence, EndBatch, TakeHostStep}
 use Rattle.vq_model.specs.ScriptOfLines.{mark}
-use Rattle.vq_model.specs.Canonical.{buffer_words, semaphore_words, queue_words, wait_words, command_words, signal_words, fence_words, queue_name, step_words}
+use Rattle.vq_model.specs.Canonical.{buffer_words, semaphore_words, queue_words, wait_words, command_words, signal_words, fence_words, step_words}
 use Rattle.vq_model.specs.declared.statement.Form.{Form}
 use Rattle.vq_model.specs.declared.statement.Line.{Line}
 use Rattle.vq_model.specs.Reading.{with_line, read_statement}
@@ -22,6 +22,7 @@ use Rattle.vq_model.specs.Forms.{forms_outside, forms_in_batch, held_forms, sche
 use Rattle.vq_model.specs.Context.{section, version_of, open_batch, some}
 use Rattle.vq_model.specs.Meaning.{matches, where_built, form_of, first_forms}
 use Rattle.vq_model.specs.Context.{part_of}
+use Rattle.vq_model.specs.Naming.{queue_name}
 use Rattle.vq_reading_laws.proofs.Cited.{forms_in}
 use Rattle.vq_canonical_laws.proofs.SaidContext.{some_said}
 

@@ -1,9 +1,9 @@
 -- Names of parts: each is a name, and looking it up gives what has it.
-use Rattle.std.proofs.Common.{◌≡◌, ℕ, ◌≤◌, ◌==◌, true, not, ◌&&◌, ◌||◌, ap, inl, inr, arith, List, length, ◌+◌, Bool, false, cond, [], ◌∷◌, ◌++◌, length-append, Some, None, refl, ◌∙◌, zero, suc, ◌⊎◌, sym, ◌<◌, subst}
+use Rattle.std.proofs.Common.{◌≡◌, ℕ, ◌≤◌, ◌==◌, true, not, ◌&&◌, ◌||◌, ap, inl, inr, arith, List, length, ◌+◌, Bool, false, cond, [], ◌∷◌, ◌++◌, length-append, Some, None, refl, ◌∙◌, zero, suc, ◌⊎◌, sym, ◌<◌, subst, ne_eqb}
 use Rattle.std.specs.Prelude.{nat_le, nat_lt}
 use Rattle.std.proofs.lemmas.Bool.{and_parts, and_from, or_cases, le-leb, leb-true, eqb-true, ltb-true, lt-ltb, or_parts, eq-eqb, false≢true}
 use Rattle.vq_model.specs.Text.{is_letter, is_digit, is_name}
-use Rattle.vq_canonical_laws.proofs.WrittenTexts.{is_word_byte, differs, is_text_word, all_weaker}
+use Rattle.vq_canonical_laws.proofs.WrittenTexts.{is_word_byte, is_text_word, all_weaker}
 use Rattle.std.specs.List.{slice_index, list_all, position, position_or_len, list_any, slice_get}
 use Rattle.std.proofs.lemmas.List.Folds.{position_or_len_push}
 use Rattle.std.specs.Str.{bytes_eq}
@@ -36,7 +36,7 @@ name_byte b h =
     byte l m =
         and_from (nat_le 33 b && nat_le b 126) (not (b == 35))
         (and_from (nat_le 33 b) (nat_le b 126) (le-leb 33 b (omega arith)) (le-leb b 126 m))
-        (ap not (differs b 35 (λ e. omega arith)))
+        (ap not (ne_eqb b 35 (λ e. omega arith)))
 
     between : (low high : ℕ) → 36 ≤ low → high ≤ 126 → (nat_le low b && nat_le b high) ≡ true →
         is_word_byte b ≡ true
@@ -78,7 +78,7 @@ position_found {A} test xs y k h = by_test (nat_lt (position_or_len test xs) (le
         let here : position_or_len test (xs ++ y ∷ []) ≡ position_or_len test xs =
         position_or_len_push test xs y
         ∙ ap (λ (b : Bool). cond b (length xs + cond (test y) 0 1) (position_or_len test xs))
-        (differs (position_or_len test xs) (length xs) (λ f. omega arith)) in
+        (ne_eqb (position_or_len test xs) (length xs) (λ f. omega arith)) in
         ap (λ (b : Bool). cond b (Some (position_or_len test (xs ++ y ∷ []))) None)
         (lt-ltb (position_or_len test (xs ++ y ∷ [])) (length (xs ++ y ∷ [])) (omega arith))
         ∙ ap (λ (j : ℕ). Some j) (here ∙ same)

@@ -20,12 +20,13 @@ use Rattle.vq_model.specs.declared.script.ActorName.TheVariants.{Host as HostAct
 use Rattle.vq_model.specs.declared.script.Queue.{Queue}
 use Rattle.vq_model.specs.declared.script.Script.{Script}
 use Rattle.vq_model.specs.declared.script.Turn.{Turn}
-use Rattle.vq_model.specs.Canonical.{Turns, actor_word, turns_words}
+use Rattle.vq_model.specs.Canonical.{Turns, turns_words}
 use Rattle.vq_model.specs.Context.{section, open_batch, some, is_threaded, turns_of}
 use Rattle.vq_model.specs.LineFaults.{ends_early}
 use Rattle.vq_model.specs.Meaning.{actor_at, is_actor, of_two}
 use Rattle.vq_model.specs.Reading.{with_line, read_statement, read_lines, go_on}
 use Rattle.vq_model.specs.Context.{number_at, part_of}
+use Rattle.vq_model.specs.Naming.{actor_word}
 use Rattle.vq_canonical_laws.proofs.FollowingTurns.{queue_said, threaded_said, turns_said}
 use Rattle.vq_canonical_laws.proofs.JoinedTurns.{AreOf, expanded}
 use Rattle.vq_canonical_laws.proofs.LineTests.{PassesTests, read_tested}

@@ -1,5 +1,5 @@
 -- Numbers that are written, read again.
-use Rattle.std.proofs.Common.{◌≡◌, ℕ, true, List, [], ◌∷◌, refl, ◌^◌, ◌<◌, ◌≤◌, Bool, cond, ◌&&◌, length, Some, None, ap, ◌∙◌, arith, false, Option, ◌==◌, not, subst, ◌+◌, ◌*◌, ◌/◌, ◌%◌}
+use Rattle.std.proofs.Common.{◌≡◌, ℕ, true, List, [], ◌∷◌, refl, ◌^◌, ◌<◌, ◌≤◌, Bool, cond, ◌&&◌, length, Some, None, ap, ◌∙◌, arith, false, Option, ◌==◌, not, subst, ◌+◌, ◌*◌, ◌/◌, ◌%◌, ne_eqb}
 use Rattle.std.specs.Prelude.{nat_lt, nat_le, drop, codes}
 use Rattle.std.specs.List.{list_all, flat_map}
 use Rattle.std.specs.Char.{digit_value, digit_char}
@@ -8,7 +8,7 @@ use Rattle.std.proofs.lemmas.Bool.{lt-ltb, and_from, le-leb, ltb-true, and_parts
 use Rattle.vq_model.specs.Text.{numeral_in, is_numeral_in, numeral, is_marked_hex}
 use Rattle.std.specs.Option.{option_and_then}
 use Rattle.vq_model.specs.Meaning.{small_numeral, is_hex, hex_bytes}
-use Rattle.vq_canonical_laws.proofs.WrittenTexts.{differs, is_word_byte, is_text_word}
+use Rattle.vq_canonical_laws.proofs.WrittenTexts.{is_word_byte, is_text_word}
 use Rattle.std.specs.Fmt.{decimal}
 use Rattle.std.proofs.lemmas.Fmt.{decimal_is_IsNumeral, length-decimal-le}
 use Rattle.std.proofs.lemmas.Str.Parse.{digit_from_value}
@@ -90,7 +90,7 @@ digits_unmarked [] h = refl
 digits_unmarked (a ∷ []) h = refl
 digits_unmarked (a ∷ b ∷ ds) h =
     and_right (a == 48) (b == 120)
-    (differs b 120 (λ e. let l = h.1.0 in
+    (ne_eqb b 120 (λ e. let l = h.1.0 in
     let m : digit_value b ≡ digit_value 120 = ap digit_value e in
     let k : digit_value 120 ≡ 33 = refl in omega arith))
 
@@ -111,7 +111,7 @@ digit_is_word_byte b h =
     let m = r.1 in
     and_from (nat_le 33 b && nat_le b 126) (not (b == 35))
     (and_from (nat_le 33 b) (nat_le b 126) (le-leb 33 b (omega arith)) (le-leb b 126 (omega arith)))
-    (ap not (differs b 35 (λ e. omega arith)))
+    (ap not (ne_eqb b 35 (λ e. omega arith)))
 
 -- .. and digits are such bytes
 digits_are_word : (ds : List ℕ) → AllDigits 10 ds → list_all is_word_byte ds ≡ true
@@ -150,7 +150,7 @@ hex_char_is_word_byte d h = by_test (nat_lt d 10) refl
         and_from (nat_le 33 b && nat_le b 126) (not (b == 35))
         (and_from (nat_le 33 b) (nat_le b 126) (le-leb 33 b (omega arith))
         (le-leb b 126 (omega arith)))
-        (ap not (differs b 35 (λ e. omega arith)))
+        (ap not (ne_eqb b 35 (λ e. omega arith)))
 
     by_test : (t : Bool) → nat_lt d 10 ≡ t → is_word_byte (cond t (48 + d) (87 + d)) ≡ true
     by_test true e = byte (48 + d) (omega arith) (omega arith)

@@ -1,5 +1,5 @@
 -- A text that is written line by line: its lines, and the words of each line.
-use Rattle.std.proofs.Common.{ℕ, ◌==◌, Bool, not, ◌&&◌, List, length, ◌≡◌, true, [], ◌∷◌, refl, ◌≤◌, false, ap, arith, cond, ◌++◌, suc, ◌+◌, take, ◌∙◌, zero, ◌-◌, append_assoc, map}
+use Rattle.std.proofs.Common.{ℕ, ◌==◌, Bool, not, ◌&&◌, List, length, ◌≡◌, true, [], ◌∷◌, refl, ◌≤◌, false, ap, arith, cond, ◌++◌, suc, ◌+◌, take, ◌∙◌, zero, ◌-◌, append_assoc, map, ne_eqb}
 use Rattle.std.specs.Prelude.{nat_le, nat_lt, filter}
 use Rattle.std.specs.List.{list_all, slice_split, onto_first, before_first, position_or_len, join_with_byte, slice_index, flat_map}
 use Rattle.std.proofs.lemmas.Bool.{and_parts, and_from, leb-true, false≢true, eqb-true, false_from_ne_true, le-leb, or_left, or_from}
@@ -45,10 +45,6 @@ word_byte b h =
     not_true true e = absurd (false≢true e)
     not_true false e = refl
 
--- two numbers that differ are not equal
-pub differs : (a b : ℕ) → (a ≡ b → ⊥) → (a == b) ≡ false
-differs a b f = false_from_ne_true (a == b) (λ e. f (eqb-true a b e))
-
 -- what is false is not
 not_false : (x : Bool) → x ≡ false → not x ≡ true
 not_false x e = ap not e
@@ -72,7 +68,7 @@ word_to_not_blank b h =
     let w = word_byte b h in
     let l = w.0 in
     not_false (is_blank b)
-    (or_from (b == 32) (b == 9) (differs b 32 (λ e. omega arith)) (differs b 9 (λ e. omega arith)))
+    (or_from (b == 32) (b == 9) (ne_eqb b 32 (λ e. omega arith)) (ne_eqb b 9 (λ e. omega arith)))
 
 -- .. and no hash sign
 word_to_not_hash : (b : ℕ) → is_word_byte b ≡ true → not (b == 35) ≡ true
@@ -82,13 +78,13 @@ word_to_not_hash b h = not_false (b == 35) (word_byte b h).2
 line_to_not_feed : (b : ℕ) → is_line_byte b ≡ true → not (is_line_feed b) ≡ true
 line_to_not_feed b h =
     let l = leb-true 32 b (and_parts (nat_le 32 b) (nat_le b 126) h).0 in
-    not_false (b == 10) (differs b 10 (λ e. omega arith))
+    not_false (b == 10) (ne_eqb b 10 (λ e. omega arith))
 
 -- .. and no carriage return
 line_to_not_return : (b : ℕ) → is_line_byte b ≡ true → not (b == 13) ≡ true
 line_to_not_return b h =
     let l = leb-true 32 b (and_parts (nat_le 32 b) (nat_le b 126) h).0 in
-    not_false (b == 13) (differs b 13 (λ e. omega arith))
+    not_false (b == 13) (ne_eqb b 13 (λ e. omega arith))
 
 -- Splitting
 

@@ -43,17 +43,10 @@ use Rattle.vq_model.specs.declared.plan.Op.{Op}
 use Rattle.vq_model.specs.Plan.{Plan, has, chain, value, initial, resolver}
 use Rattle.vq_model.specs.Sure.{RisesFrom}
 use Rattle.vq_model.proofs.Gets.{get-append}
-use Rattle.vq_model.proofs.Lists.{has_cases, has-append_cases}
+use Rattle.vq_model.proofs.Lists.{has_cases, has-append_cases, any_has}
 use Rattle.vq_model.proofs.Searches.{find_passes, find_fails, find_member, find_splits}
 use Rattle.vq_core_laws.proofs.Cited.{Facts, chain_places, place_in}
 use Rattle.vq_core.proofs.Histories.{any_from}
-
-any_with : (test : ℕ → Bool) (xs : List ℕ) (x : ℕ) → has xs x ≡ true → test x ≡ true → list_any test xs ≡ true
-any_with test [] x m h = absurd (false≢true m)
-any_with test (y ∷ ys) x m h = elim (has_cases y ys x m) [
-  | inl s ↦ or_left (test y) (list_any test ys) (ap test s ∙ h)
-  | inr t ↦ or_right (test y) (list_any test ys) (any_with test ys x t h)
-]
 
 and_no : (b : Bool) → (b && false) ≡ false
 and_no true = refl
@@ -107,7 +100,7 @@ module _ (p : Plan) (f : Facts p) (made : ℕ → Bool) (t v : ℕ) where
       member = find_member (λ e. nat_le v (value p e)) (chain p t) op r
 
       by_test : (b : Bool) → made op ≡ b → made op ≡ list_any is_made_so (chain p t)
-      by_test true m = m ∙ sym (any_with is_made_so (chain p t) op member (and_from (made op) (value p op == v) m
+      by_test true m = m ∙ sym (any_has is_made_so (chain p t) op member (and_from (made op) (value p op == v) m
           (eq-eqb (value p op) v is)))
       by_test false m = m ∙ sym (any_from is_made_so (chain p t) (λ e h. each e h))
         where

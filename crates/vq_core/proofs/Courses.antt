@@ -3,7 +3,9 @@ use Rattle.std.proofs.Common.{◌≡◌, ℕ, zero, suc, ◌<◌, Bool, List, le
 use Rattle.std.specs.Prelude.{nat_lt, count_by}
 use Rattle.std.specs.List.{list_any}
 use Rattle.std.proofs.lemmas.Bool.{lt-ltb, le-ltb}
-use Rattle.vq_core_laws.proofs.Cited.{Facts, facts, Keeps, keeps, none_counted, counted_any, op_within}
+use Rattle.vq_model.proofs.Plans.{op_within}
+use Rattle.vq_history_laws.proofs.Cited.{counted_any, none_counted}
+use Rattle.vq_core_laws.proofs.Cited.{Facts, facts, Keeps, keeps}
 use Rattle.vq_core.specs.CoreState.{Course, world, IsCourse}
 
 pub plan_facts : (s : Course) → IsCourse s → Facts s.plan

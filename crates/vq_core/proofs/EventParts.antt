@@ -39,10 +39,12 @@ use Rattle.vq_model.proofs.Lists.{has_here}
 use Rattle.vq_points.specs.Points.{PointState, Reference, CanSubmit, CanTake, after_event}
 use Rattle.vq_model.specs.declared.plan.Event.TheVariants.{Signal}
 use Rattle.vq_model.specs.Machine.{with_signal}
+use Rattle.vq_model.proofs.Plans.{batch_exists}
+use Rattle.vq_model.proofs.Gets.{first_is}
 use Rattle.vq_points.specs.Timeline.{Timeline, KeepsLists}
 use Rattle.vq_core_laws.specs.TimelineOf.{IsTimelineOf}
 use Rattle.vq_history_laws.specs.Histories.{points_after}
-use Rattle.vq_core_laws.proofs.Cited.{count_below, free_below, lane_rises, rising_at_least, first_of_free}
+use Rattle.vq_core_laws.proofs.Cited.{count_below, free_below, lane_rises, rising_at_least}
 use Rattle.vq_core.specs.declared.lanes.LaneState.{LaneState}
 use Rattle.vq_core.specs.declared.state.Core.TheInside.{Inside}
 use Rattle.vq_core.specs.Kept.{IsCore, Tells}
@@ -51,9 +53,6 @@ use Rattle.vq_core.specs.Tables.{no_timeline, batches_before}
 use Rattle.vq_core.proofs.LaneNext.{own}
 use Rattle.vq_core.proofs.SubmitLaws.{next_batch, submit_batches}
 use Rattle.vq_core.proofs.Pushes.{inside_facts, inside_keeps}
-
-pub batch_exists : (p : Plan) (j : ℕ) → is_batch p j ≡ true → j < length p.jobs
-batch_exists p j h = ltb-true j (length p.jobs) (and_parts (nat_lt j (length p.jobs)) (not (is_host_step p j)) h).0
 
 -- a job's place in its lane is small
 pub small_place : (p : Plan) (released finished : ℕ → Bool) (held : List Reference) (xs : List LaneState) →
@@ -100,7 +99,7 @@ module _ (a : Inside) (k : IsCore a) where
   pub free_point_below : (e q : ℕ) → CanTake a.ordered (points_after a.ordered a.history.items) e q false →
       q < (points_after a.ordered a.history.items).points
   free_point_below e q g =
-      let first = first_of_free ((points_after a.ordered a.history.items).free g.chain) q g.point in
+      let first = first_is ((points_after a.ordered a.history.items).free g.chain) q g.point in
       free_below a.ordered (inside_facts a k) (points_after a.ordered a.history.items) (inside_keeps a k) g.chain q
       (ap (λ zs. has zs q) first.1 ∙ has_here q first.0)
 
@@ -143,7 +142,3 @@ bound_point p w t i e l is kept here b = by_point (w.point_of e) refl
 
 pub some_of_option : (o : Option ℕ) (q : ℕ) → o ≡ Some q → IsSome o
 some_of_option o q e = subst (λ (x : Option ℕ). IsSome x) (sym e) refl
-
--- what is read of an option that is there
-pub unwrapped : (o : Option ℕ) (q r : ℕ) → o ≡ Some q → o ≡ Some r → q ≡ r
-unwrapped o q r a b = let c = sym a ∙ b in cc

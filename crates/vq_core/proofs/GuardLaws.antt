@@ -56,8 +56,8 @@ use Rattle.vq_model.specs.Plan.{
   question,
   chain,
 }
-use Rattle.vq_model.specs.Canonical.{same_actor}
-use Rattle.vq_model.proofs.Searches.{find_member}
+use Rattle.vq_model.proofs.Searches.{find_member, at_place}
+use Rattle.vq_model.specs.Naming.{same_actor}
 use Rattle.vq_points.specs.Points.{
   CanSubmit,
   CanTake,
@@ -83,7 +83,7 @@ use Rattle.vq_points.specs.Points.{
 use Rattle.vq_points.specs.Timeline.{Timeline, KeepsLists}
 use Rattle.vq_core_laws.specs.Firsts.{AreFirst}
 use Rattle.vq_core_laws.specs.TimelineOf.{IsTimelineOf}
-use Rattle.vq_core_laws.proofs.Cited.{Facts, Keeps, turn_place, smaller_done, rising_once, at_place, next_is}
+use Rattle.vq_core_laws.proofs.Cited.{Facts, Keeps, turn_place, smaller_done, rising_once, next_is}
 use Rattle.vq_core.specs.CoreState.{Course, world, IsCourse}
 use Rattle.vq_core.specs.GuardParts.{
   ReleaseTurn,

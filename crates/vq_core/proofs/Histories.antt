@@ -6,6 +6,7 @@ use Rattle.std.proofs.Common.{
   ◌≤◌,
   ◌&&◌,
   ◌∷◌,
+  ◌++◌,
   [],
   not,
   Bool,
@@ -36,16 +37,17 @@ use Rattle.vq_model.specs.LoweringFaults.{IsPlan}
 use Rattle.vq_model.specs.Machine.{State, Run, IsFinished, AreFinished, state_after}
 use Rattle.vq_model.specs.Memory.{zeros_of}
 use Rattle.vq_model.specs.Plan.{Plan, has, is_batch}
+use Rattle.vq_model.specs.OutputText.{answers_of, buffers_text}
+use Rattle.vq_model.specs.Outputs.{IsOutput}
 use Rattle.vq_model.specs.SlowRun.{bytes_after, final}
 use Rattle.vq_model.specs.ValidScripts.{sizes_of}
 use Rattle.vq_model.proofs.Numbers.{range-has, has-range_cases}
 use Rattle.vq_points.specs.HistoryLaws.{PointLaw, PendingLaw}
 use Rattle.vq_points.specs.Points.{HistoryFrom, opening_points, steps_of}
 use Rattle.vq_points.proofs.Cited.{keeps_point_law, keeps_pending_law}
-use Rattle.vq_run_laws.proofs.Cited.{Leads, history_leads, follows_opening, one_result}
+use Rattle.vq_run_laws.proofs.Cited.{Leads, history_leads, follows_opening, one_result, run_gives_output}
 use Rattle.vq_history_laws.specs.Histories.{points_after, acts}
-use Rattle.vq_history_laws.proofs.Cited.{history_bounded}
-use Rattle.vq_core_laws.proofs.Cited.{count_cons}
+use Rattle.vq_history_laws.proofs.Cited.{history_bounded, count_cons}
 use Rattle.vq_core.specs.declared.state.Core.TheInside.{Inside}
 use Rattle.vq_core.specs.CoreState.{Course, world, IsCourse}
 use Rattle.vq_core.specs.Kept.{IsCore, Tells, course_of}
@@ -84,6 +86,18 @@ module _ (s : Course) (k : IsCourse s) where
       let same : (world s).machine ≡ state_after s.plan (steps_of s.history) = leads.leads in
       ap (λ (m : State). bytes_after s.plan m.progress.applied) same
       ∙ one_result s.plan f.formed f.order (steps_of s.history) is_run (subst (IsFinished s.plan) same done)
+
+  -- .. and its answers with them are an output of the plan
+  pub gives_output : AreFinished s.plan (world s).machine.progress →
+      IsOutput s.plan (answers_of s.plan (world s).machine
+      ++ buffers_text s.plan.script.buffers (bytes_after s.plan (world s).machine.progress.applied))
+  gives_output done =
+      let f = plan_facts s k in
+      let same : (world s).machine ≡ state_after s.plan (steps_of s.history) = leads.leads in
+      subst (λ (m : State). IsOutput s.plan (answers_of s.plan m
+      ++ buffers_text s.plan.script.buffers (bytes_after s.plan m.progress.applied))) (sym same)
+      (run_gives_output s.plan f.formed f.hosts f.order (steps_of s.history) is_run
+      (subst (IsFinished s.plan) same done))
 
 -- Jobs that are left
 
@@ -141,13 +155,6 @@ plan_sizes p i = sym (ap (λ (q : Plan). q.sizes) i.lowered)
 
 abbrev nought : ℕ → ℕ
 nought k = 0
-
-zeros_long : (size : ℕ) → length (map nought (range_with_len 0 size)) ≡ size
-zeros_long size = length-map (range_with_len 0 size) nought ∙ length-range_with_len 0 size
-
-pub zero_sizes : (sizes : List ℕ) → map length (zeros_of sizes) ≡ sizes
-zero_sizes [] = refl
-zero_sizes (x ∷ xs) = λ i. zeros_long x i ∷ zero_sizes xs i
 
 pub core_open : (b : Inside) → IsPlan b.ordered → IsLawful b.ordered → b.history.items ≡ [] →
     acts b.ordered ≤ vec_capacity b.history → acts b.ordered < 18446744073709551616 →

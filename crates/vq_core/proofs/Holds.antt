@@ -28,9 +28,10 @@ use Rattle.std.specs.Prelude.{nat_lt, count_by, IsTrue, ◌↔◌, nat_eq}
 use Rattle.std.specs.List.{list_any}
 use Rattle.std.proofs.lemmas.Bool.{false≢true, and_parts, and_from, or_cases, or_left, or_right, eqb-true, eq-eqb}
 use Rattle.vq_model.specs.declared.script.ActorName.{ActorName}
-use Rattle.vq_model.specs.Canonical.{same_actor}
+use Rattle.vq_model.specs.Naming.{same_actor}
+use Rattle.vq_model.proofs.Bools.{same_tests}
+use Rattle.vq_history_laws.proofs.Cited.{counted_any, none_counted}
 use Rattle.vq_points.specs.Points.{Reference, holds, is_reference, next_job, needs_resolved}
-use Rattle.vq_core_laws.proofs.Cited.{none_counted, counted_any}
 use Rattle.vq_core.specs.CoreState.{Course, world, IsCourse}
 use Rattle.vq_core.specs.Notes.{held_by}
 use Rattle.vq_core.proofs.Courses.{world_keeps, counts_any}
@@ -52,11 +53,6 @@ passing test (x ∷ xs) h = elim (or_cases (test x) (list_any test xs) h) [
         x) (list_any other xs) (r.among other o);
   }
 ]
-
-same_tests : (a b : Bool) → (a ≡ true → b ≡ true) → (b ≡ true → a ≡ true) → a ≡ b
-same_tests true b to from = sym (to refl)
-same_tests false true to from = from refl
-same_tests false false to from = refl
 
 module _ (s : Course) (k : IsCourse s) (a : ActorName) (q e : ℕ) where
   idle_unless : (holds (world s) a q e ≡ true → ⊥) → false ≡ holds (world s) a q e

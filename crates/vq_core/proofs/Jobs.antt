@@ -49,10 +49,11 @@ use Rattle.vq_model.specs.Machine.{are_reached, is_reached}
 use Rattle.vq_model.specs.Plan.{Plan, commands_of, signals_of, needs, asked, waits_for_any, has, chain, value, resolver}
 use Rattle.vq_model.proofs.Searches.{find_member}
 use Rattle.std.proofs.lemmas.List.{get_or_default}
+use Rattle.vq_model.proofs.Plans.{op_within}
 use Rattle.vq_spec.proofs.Cited.{has_at, op_exists}
 use Rattle.vq_spec.specs.SlowProgress.{payload_in}
 use Rattle.vq_core_laws.specs.Firsts.{AreFirst}
-use Rattle.vq_core_laws.proofs.Cited.{Facts, all_done, done_all, op_within}
+use Rattle.vq_core_laws.proofs.Cited.{Facts, all_done, done_all}
 use Rattle.vq_core.specs.Tables.{ArePayloads}
 
 -- whether all of a list are done

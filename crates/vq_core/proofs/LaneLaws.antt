@@ -34,28 +34,15 @@ use Rattle.vq_model.specs.declared.script.ActorName.{ActorName}
 use Rattle.vq_model.specs.declared.plan.Lane.{Lane}
 use Rattle.vq_model.specs.declared.plan.Lane.TheVariants.{Host as HostLane, Queue as QueueLane}
 use Rattle.vq_model.specs.declared.plan.PlanJob.{PlanJob}
-use Rattle.vq_model.specs.Canonical.{same_actor}
 use Rattle.vq_model.specs.Lanes.{lane_number, lane_at}
 use Rattle.vq_model.specs.Machine.{put}
 use Rattle.vq_model.specs.Plan.{Plan}
 use Rattle.vq_model.proofs.Gets.{get_within, get_some}
+use Rattle.vq_model.specs.Naming.{same_actor}
+use Rattle.vq_model.proofs.Actors.{same_actor_is, same_actor_self}
 use Rattle.vq_points.specs.Points.{Reference, jobs_of_lane, actor_of_lane, without_first, is_reference}
 use Rattle.vq_core_laws.specs.Firsts.{AreFirst, StandOnce}
-use Rattle.vq_core_laws.proofs.Cited.{
-  Facts,
-  put_next,
-  put_other,
-  stands,
-  place_in,
-  lane_once,
-  lane_has,
-  in_lane,
-  same_actor_is,
-  same_actor_self,
-  rising_less,
-  lane_rises,
-  lane_at_is,
-}
+use Rattle.vq_core_laws.proofs.Cited.{Facts, put_next, put_other, stands, place_in, lane_once, lane_has, in_lane, rising_less, lane_rises, lane_at_is}
 use Rattle.vq_core.specs.declared.lanes.LaneState.{LaneState}
 use Rattle.vq_core.specs.Lanes.{AreLanes, IsLane, lane_named, no_lane}
 use Rattle.vq_core.proofs.LaneNext.{named, own}
@@ -65,7 +52,7 @@ number_named : (n : ℕ) → lane_number (lane_named n) ≡ n
 number_named zero = refl
 number_named (suc q) = omega arith
 
-named_once : (n : ℕ) (l : Lane) → lane_named n ≡ l → n ≡ lane_number l
+pub named_once : (n : ℕ) (l : Lane) → lane_named n ≡ l → n ≡ lane_number l
 named_once n l e = sym (number_named n) ∙ ap lane_number e
 
 actor_once : (l m : Lane) → actor_of_lane l ≡ actor_of_lane m → l ≡ m

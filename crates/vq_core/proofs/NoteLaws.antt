@@ -62,12 +62,15 @@ use Rattle.vq_model.specs.declared.plan.Lane.{Lane}
 use Rattle.vq_model.specs.declared.plan.Lane.TheVariants.{Host as HostLane, Queue as QueueLane}
 use Rattle.vq_model.specs.declared.plan.Need.{Need}
 use Rattle.vq_model.specs.declared.plan.PlanJob.{PlanJob}
-use Rattle.vq_model.specs.Canonical.{same_actor}
 use Rattle.vq_model.specs.Machine.{next, put}
 use Rattle.vq_model.specs.Plan.{Plan, needs, resolver}
 use Rattle.vq_model.proofs.Gets.{get_within, get_some, slice_get_past}
 use Rattle.vq_model.proofs.Puts.{put_here, put_there}
 use Rattle.vq_model.proofs.Searches.{find_member}
+use Rattle.vq_model.specs.Naming.{same_actor}
+use Rattle.vq_model.proofs.Actors.{same_actor_is, same_actor_self}
+use Rattle.vq_history_laws.proofs.Cited.{counted_any}
+use Rattle.vq_history_laws.specs.Measure.{one}
 use Rattle.vq_points.specs.Points.{
   Reference,
   jobs_of_lane,
@@ -78,7 +81,7 @@ use Rattle.vq_points.specs.Points.{
   is_reference,
   without_first,
 }
-use Rattle.vq_core_laws.proofs.Cited.{one, counted_any, in_lane, next_put, next_none, same_actor_is, same_actor_self}
+use Rattle.vq_core_laws.proofs.Cited.{in_lane, next_put, next_none}
 use Rattle.vq_core.specs.declared.notes.Note.{Note}
 use Rattle.vq_core.specs.Notes.{AreNotes, IsNote, place_in, next_by, held_by, no_note}
 use Rattle.vq_core.proofs.TableLaws.{count_more, count_other, count_less, count_same}

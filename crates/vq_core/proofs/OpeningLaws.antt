@@ -53,18 +53,7 @@ use Rattle.vq_model.proofs.Gets.{slice_get_past}
 use Rattle.vq_model.proofs.Lists.{has_here, has_there}
 use Rattle.std.proofs.lemmas.List.Sums.{sum_by-cons, count_by-le-length}
 use Rattle.vq_points.specs.Points.{opening_points, jobs_of_lane}
-use Rattle.vq_core_laws.proofs.Cited.{
-  ordered_once,
-  op_within,
-  count_raised,
-  place_in as place_of,
-  same_lane_is,
-  same_lane_self,
-  in_lane,
-  InLane,
-  lane_at_is,
-  opening_timeline,
-}
+use Rattle.vq_core_laws.proofs.Cited.{ordered_once, count_raised, place_in as place_of, same_lane_self, in_lane, InLane, lane_at_is, opening_timeline}
 use Rattle.vq_core.specs.declared.lanes.LaneState.{LaneState}
 use Rattle.vq_core.specs.declared.notes.Note.{Note}
 use Rattle.vq_core.specs.Lanes.{AreLanes, lane_named, no_lane}
@@ -76,6 +65,9 @@ use Rattle.vq_core_laws.specs.TimelineOf.{IsTimelineOf}
 use Rattle.vq_model.specs.WellFormed.{IsWellFormed}
 use Rattle.vq_points.specs.Timeline.{Timeline, KeepsLists, new_timeline}
 use Rattle.std.proofs.lemmas.List.FromFn.{length-range_with_len}
+use Rattle.vq_model.proofs.Actors.{same_lane_is}
+use Rattle.vq_model.proofs.Plans.{op_within}
+use Rattle.vq_core.proofs.LaneLaws.{named_once}
 use Rattle.vq_spec.proofs.Cited.{has_at}
 use Rattle.vq_core.proofs.LaneNext.{named}
 
@@ -183,10 +175,6 @@ append_none : (xs : List ℕ) → xs ++ [] ≡ xs
 append_none [] = refl
 append_none (x ∷ xs) = ap (λ zs. x ∷ zs) (append_none xs)
 
-number_is : (n : ℕ) (l : Lane) → lane_named n ≡ l → n ≡ lane_number l
-number_is zero l e = ap lane_number e
-number_is (suc q) l e = let a : suc q ≡ q + 1 = omega arith in a ∙ ap lane_number e
-
 module _ (p : Plan) (n : ℕ) (x : PlanJob) (at : slice_get p.jobs n ≡ Some x) where
   in_own : (k : ℕ) → of_job (λ y. same_lane (lane_named k) y.lane) false p n ≡ same_lane (lane_named k) x.lane
   in_own k = ap (λ o. option_map_or (λ (y : PlanJob). same_lane (lane_named k) y.lane) o false) at
@@ -255,7 +243,7 @@ module _ (p : Plan) (n : ℕ) (x : PlanJob) (at : slice_get p.jobs n ≡ Some x)
           by_test : (b : Bool) → same_lane (lane_named k) x.lane ≡ b →
               of_job (λ y. same_lane (lane_named k) y.lane) false p n ≡ false
           by_test false e = in_own k ∙ e
-          by_test true e = absurd (d (number_is k x.lane (same_lane_is (lane_named k) x.lane e)))
+          by_test true e = absurd (d (named_once k x.lane (same_lane_is (lane_named k) x.lane e)))
 
 pub lanes_open : (p : Plan) → KeepsLanes p → (xs : List LaneState) → length xs ≡ length p.script.queues + 1 →
     HasLanesUpTo p (length p.jobs) xs → AreLanes p unmarked unmarked [] xs
@@ -293,7 +281,7 @@ lanes_open p lanes xs n up =
         beyond j i l =
             let e = lanes.lane_exists j in
             let g = lane_at_is p (lane_named k) j i in
-            let m = number_is k (lane_named k) refl in
+            let m = named_once k (lane_named k) refl in
             omega arith
 
 -- Chains

@@ -8,8 +8,8 @@ use Rattle.vq_model.specs.LoweringFaults.{IsPlan}
 use Rattle.vq_model.specs.Plan.{Plan}
 use Rattle.vq_points.specs.Points.{PointState, CanCome, after_event, HistoryFrom, opening_points}
 use Rattle.vq_history_laws.specs.Histories.{points_after, acts}
-use Rattle.vq_history_laws.proofs.Cited.{history_bounded}
-use Rattle.vq_core_laws.proofs.Cited.{Facts, facts, Keeps, keeps, history_push, points_push, held_few}
+use Rattle.vq_history_laws.proofs.Cited.{history_bounded, history_push}
+use Rattle.vq_core_laws.proofs.Cited.{Facts, facts, Keeps, keeps, points_push, held_few}
 use Rattle.vq_core.specs.declared.state.Core.TheInside.{Inside}
 use Rattle.vq_core.specs.Kept.{IsCore, Tells}
 

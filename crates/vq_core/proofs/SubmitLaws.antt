@@ -63,8 +63,11 @@ use Rattle.vq_model.proofs.Lists.{list_all_has, list_all_from, has_cases}
 use Rattle.vq_model.proofs.Numbers.{has-range_cases, range-has}
 use Rattle.vq_model.proofs.Puts.{put_here, put_there}
 use Rattle.vq_model.proofs.Searches.{find_member, find_passes, find_fails}
+use Rattle.vq_model.proofs.Plans.{batch_of, batch_no_step}
+use Rattle.vq_history_laws.proofs.Cited.{count_cons}
+use Rattle.vq_history_laws.specs.Measure.{one}
 use Rattle.vq_points.specs.Points.{PointState, jobs_of_lane, written_before, CanSubmit}
-use Rattle.vq_core_laws.proofs.Cited.{one, count_cons, lane_rises}
+use Rattle.vq_core_laws.proofs.Cited.{lane_rises}
 use Rattle.vq_core.specs.GuardParts.{are_batches_submitted, are_steps_finished}
 use Rattle.vq_core.specs.Tables.{batches_before, AreSubmitted}
 
@@ -82,15 +85,6 @@ count_push test a (suc n) =
     let e : (a + 1) + n ≡ a + suc n = omega arith in
     let o : one (test ((a + 1) + n)) ≡ one (test (a + suc n)) = ap (λ (k : ℕ). one (test k)) e in
     omega arith
-
--- a job that a batch isn't is a host step
-pub batch_or_step : (p : Plan) (j : ℕ) → j < length p.jobs → is_host_step p j ≡ false → is_batch p j ≡ true
-batch_or_step p j l h =
-    and_from (nat_lt j (length p.jobs)) (not (is_host_step p j)) (lt-ltb j (length p.jobs) l) (ap not h)
-
-pub batch_no_step : (p : Plan) (j : ℕ) → is_batch p j ≡ true → is_host_step p j ≡ false
-batch_no_step p j b =
-    not-true (is_host_step p j) (and_parts (nat_lt j (length p.jobs)) (not (is_host_step p j)) b).1
 
 module _ (p : Plan) where
   pub batches_more : (j : ℕ) → batches_before p (suc j) ≡ batches_before p j + one (is_batch p j)
@@ -172,7 +166,7 @@ module _ (p : Plan) where
             by_test : (b : Bool) → is_host_step p i ≡ b → (is_host_step p i || w.submitted i) ≡ true
             by_test true e = or_left (is_host_step p i) (w.submitted i) e
             by_test false e =
-                let b = batch_or_step p i (omega arith) e in
+                let b = batch_of p i (omega arith) e in
                 let r = batches_below i j (omega arith) b in
                 or_right (is_host_step p i) (w.submitted i) (of_batch i b
                 ∙ lt-ltb (batches_before p i) n (omega arith))

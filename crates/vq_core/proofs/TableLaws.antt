@@ -42,9 +42,11 @@ use Rattle.vq_model.specs.Plan.{Plan, has, commands_of, signals_of, command_at, 
 use Rattle.vq_model.specs.SlowRun.{bytes_after, command_list, zeros}
 use Rattle.vq_model.proofs.Lists.{has-append_left, has-append_right, has-append_cases, has_here, has_cases}
 use Rattle.vq_model.proofs.Puts.{put_here, put_there}
+use Rattle.vq_history_laws.proofs.Cited.{count_cons}
+use Rattle.vq_history_laws.specs.Measure.{one}
 use Rattle.vq_points.specs.Points.{Reference, without_first}
 use Rattle.vq_core_laws.specs.Firsts.{AreFirst}
-use Rattle.vq_core_laws.proofs.Cited.{Facts, one, put_next, put_other, rising_once, stands, count_cons, count_raised}
+use Rattle.vq_core_laws.proofs.Cited.{Facts, put_next, put_other, rising_once, stands, count_raised}
 use Rattle.vq_core.specs.declared.answers.AnswerState.{AnswerState}
 use Rattle.vq_core.specs.AnswerStates.{AreAnswerStates, IsAnswerState, not_asked, is_asked_reached, payload_read}
 use Rattle.vq_core.specs.declared.table.JobState.{JobState}

@@ -3,8 +3,8 @@ use Rattle.std.specs.Prelude.{ℕ, zero, suc, Bool, List, [], length, count_by, 
 use Rattle.std.specs.List.{slice_index_or}
 use Rattle.vq_model.specs.declared.plan.Lane.{Lane}
 use Rattle.vq_model.specs.declared.plan.Lane.TheVariants.{Host, Queue}
-use Rattle.vq_model.specs.Canonical.{same_actor}
 use Rattle.vq_model.specs.Plan.{Plan}
+use Rattle.vq_model.specs.Naming.{same_actor}
 use Rattle.vq_points.specs.Points.{Reference, jobs_of_lane, actor_of_lane}
 use Rattle.vq_core_laws.specs.Firsts.{AreFirst}
 use Rattle.vq_core.specs.declared.lanes.LaneState.{LaneState}

@@ -4,9 +4,9 @@ use Rattle.std.specs.Prelude.{Some, None}
 use Rattle.std.specs.List.{slice_index_or, position_or_len}
 use Rattle.std.specs.Option.{option_map_or}
 use Rattle.vq_model.specs.declared.script.ActorName.{ActorName}
-use Rattle.vq_model.specs.Canonical.{same_actor}
 use Rattle.vq_model.specs.Machine.{next}
 use Rattle.vq_model.specs.Plan.{Plan, needs}
+use Rattle.vq_model.specs.Naming.{same_actor}
 use Rattle.vq_points.specs.Points.{Reference, jobs_of_lane, lane_of_actor, resolves, needs_resolved, count_of}
 use Rattle.vq_core.specs.declared.notes.Note.{Note}
 

@@ -1,7 +1,7 @@
 //! The references that actors hold.
 ghost use Rattle.std.specs.Prelude.{◌≡◌, ◌<◌, ◌↔◌, IsTrue, length, false};
 ghost use Rattle.std.specs.List.{list_any};
-ghost use Rattle.vq_model.specs.Canonical.{same_actor};
+ghost use Rattle.vq_model.specs.Naming.{same_actor};
 ghost use Rattle.vq_model.specs.Plan.{of_job};
 ghost use Rattle.vq_points.specs.Points.{actor_of_lane, holds, needs_resolved};
 ghost use Rattle.vq_core.specs.CoreState.{world};

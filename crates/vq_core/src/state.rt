@@ -1,9 +1,11 @@
 //! The core: a plan, what has happened, and what that has come to.
-ghost use Rattle.std.specs.Prelude.{◌≡◌, ◌<◌, ◌≤◌, ◌==◌, ◌↔◌, [], IsTrue, IfSome, IfOk, Some};
+ghost use Rattle.std.specs.Prelude.{◌≡◌, ◌<◌, ◌≤◌, ◌==◌, ◌↔◌, ◌++◌, [], IsTrue, IfSome, IfOk, Some};
 ghost use Rattle.std.specs.Prelude.{length};
 ghost use Rattle.std.specs.List.{slice_get, list_any};
 ghost use Rattle.vq_model.specs.Machine.{Run, AreFinished};
 ghost use Rattle.vq_model.specs.Memory.{HasSizes};
+ghost use Rattle.vq_model.specs.OutputText.{answers_of, buffers_text};
+ghost use Rattle.vq_model.specs.Outputs.{IsOutput};
 ghost use Rattle.vq_model.specs.ValidScripts.{sizes_of};
 ghost use Rattle.vq_model.specs.SlowRun.{bytes_after, final};
 ghost use Rattle.vq_points.specs.HistoryLaws.{PointLaw, PendingLaw};
@@ -31,7 +33,6 @@ use vq_timeline_core::TimelineCore;
 /// A lawful plan, the events that came so far, and what they have come to. Each event came when it
 /// might: so the history is a run of the plan, and no point is used again too early. All memory is
 /// taken by `new`. Source: this project's rule.
-#[derive(Drop)]
 pub struct Core {
     pub(crate) ordered: Ordered,
     pub(crate) history: Vec<Event>,
@@ -54,6 +55,28 @@ pub struct Core {
     pub(crate) buffers: Buffers,
     // How many jobs aren't finished.
     pub(crate) left: u32,
+}
+
+impl Drop for Core {
+    fn drop(self) {
+        let Core {
+            ordered: _ordered,
+            history: _history,
+            earlier: _earlier,
+            submitted: _submitted,
+            jobs: _jobs,
+            answers: _answers,
+            made: _made,
+            points: _points,
+            slots: _slots,
+            payloads: _payloads,
+            timelines: _timelines,
+            lanes: _lanes,
+            notes: _notes,
+            buffers: _buffers,
+            left: _left,
+        } = self;
+    }
 }
 
 impl Model for Core {
@@ -138,17 +161,38 @@ impl Core {
         self.left == 0
     }
 
-    /// The core's parts.
+    /// The core's parts. Where all jobs are finished, the answers of its history with the buffers are an output
+    /// of the plan.
     pub fn take_apart(self) -> CoreParts
         ensures ordered { result.ordered ≡ self.plan }
         ensures history { result.history ≡ self.history }
         ensures buffers { result.buffers ≡ bytes_after self.plan (world self).machine.progress.applied }
         ensures ends { AreFinished self.plan (world self).machine.progress → result.buffers ≡ final self.plan }
+        ensures output { AreFinished self.plan (world self).machine.progress → IsOutput self.plan
+            (answers_of self.plan (world self).machine
+            ++ buffers_text self.plan.script.buffers result.buffers) }
     {
+        let Core {
+            ordered,
+            history,
+            buffers,
+            earlier: _earlier,
+            submitted: _submitted,
+            jobs: _jobs,
+            answers: _answers,
+            made: _made,
+            points: _points,
+            slots: _slots,
+            payloads: _payloads,
+            timelines: _timelines,
+            lanes: _lanes,
+            notes: _notes,
+            left: _left,
+        } = self;
         CoreParts {
-            ordered: self.ordered,
-            history: List::of(self.history),
-            buffers: self.buffers,
+            ordered,
+            history: List::of(history),
+            buffers,
         }
     }
 
@@ -296,11 +340,14 @@ impl Core {
     }
 
     /// The bytes after the commands that were applied, in their order: where all jobs are finished, those
-    /// that the plan leaves.
+    /// that the plan leaves. The answers of the history with them are an output of the plan then.
     pub fn buffers(&self) -> &Buffers
         ensures bytes { result.now ≡ bytes_after self.now.plan (world self.now).machine.progress.applied }
         ensures ends { AreFinished self.now.plan (world self.now).machine.progress → result.now ≡ final self.now.plan }
         ensures sizes { HasSizes (sizes_of self.now.plan.script) result.now }
+        ensures output { AreFinished self.now.plan (world self.now).machine.progress → IsOutput self.now.plan
+            (answers_of self.now.plan (world self.now).machine
+            ++ buffers_text self.now.plan.script.buffers result.now) }
     {
         &self.buffers
     }

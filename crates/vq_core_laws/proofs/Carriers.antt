@@ -12,11 +12,12 @@ use Rattle.vq_model.specs.Plan.{Plan, chain, chain_of, initial, value, has}
 use Rattle.vq_model.proofs.Filters.{filter-has}
 use Rattle.vq_model.proofs.Lists.{has_here, list_all_has}
 use Rattle.vq_model.proofs.Puts.{put_here, put_there, put_cases, put_keeps}
+use Rattle.vq_model.proofs.Gets.{first_is}
 use Rattle.vq_points.specs.Points.{PointState, CanCome, CanComplete, after_event, opening_points, HistoryFrom}
 use Rattle.vq_points.specs.Points.{smaller_ops}
 use Rattle.vq_history_laws.specs.Histories.{points_after}
 use Rattle.vq_core_laws.proofs.Firsts.{stands}
-use Rattle.vq_core_laws.proofs.Keeps.{Keeps, keeps, keeps_after, first_of_free}
+use Rattle.vq_core_laws.proofs.Keeps.{Keeps, keeps, keeps_after}
 use Rattle.vq_core_laws.proofs.PlanFacts.{Facts, ordered_once, chain_places}
 
 -- Bound operations have points, past ones are bound, and those of a chain become past in order. The one
@@ -145,7 +146,7 @@ module _ (p : Plan) (f : Facts p) (w : PointState) (k : Keeps p w) (c : Carriers
       let n = g.point.1 in
       take_carriers e q g.without (k.links.beyond q (omega arith)).0
   carriers_after (Take e q false) g =
-      let h = first_of_free (w.free g.chain) q g.point in
+      let h = first_is (w.free g.chain) q g.point in
       take_carriers e q g.without (k.links.free_in g.chain q (ap (λ zs. has zs q) h.1 ∙ has_here q h.0)).0
   carriers_after (Release j) g = c
   carriers_after (Bind e q) g = bind_carriers e q g.carries

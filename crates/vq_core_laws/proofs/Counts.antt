@@ -33,9 +33,8 @@ use Rattle.std.proofs.lemmas.List.Sums.{sum_by-cons, count_by-le-length}
 use Rattle.std.proofs.lemmas.Bool.{cases_eq, false≢true}
 use Rattle.vq_model.specs.Machine.{put}
 use Rattle.vq_model.proofs.Puts.{put_here, put_there}
-
-abbrev pub one : Bool → ℕ
-one b = cond {A = ℕ} b 1 0
+use Rattle.vq_history_laws.proofs.Cited.{count_cons, none_counted}
+use Rattle.vq_history_laws.specs.Measure.{one}
 
 module _ (f : ℕ → Bool) (g : ℕ → Bool) (k : ℕ) (old : f k ≡ false) (new : g k ≡ true) (kept : (i : ℕ) → (i ≡ k →
     ⊥) → g i ≡ f i) where
@@ -88,41 +87,3 @@ count_below f k n l old =
     let most = count_by-le-length (put f k true) (range_with_len 0 n) in
     let size = length-range_with_len 0 n in
     omega arith
-
-pub count_cons : {A : Type 0} (test : A → Bool) (x : A) (xs : List A) →
-    count_by test (x ∷ xs) ≡ one (test x) + count_by test xs
-count_cons test x xs = sum_by-cons (λ y. one (test y)) x xs
-
-pub counted_any : {A : Type 0} (test : A → Bool) (xs : List A) → 0 < count_by test xs → list_any test xs ≡ true
-counted_any test [] l = absurd (omega arith)
-counted_any test (x ∷ xs) l = by_test (test x) refl (counted_any test xs)
-  where
-    by_test : (b : Bool) → test x ≡ b → (0 < count_by test xs → list_any test xs ≡ true) →
-        (test x || list_any test xs) ≡ true
-    by_test true e f = ap (λ b. b || list_any test xs) e
-    by_test false e f =
-        let u = count_cons test x xs in
-        let v : one (test x) ≡ 0 = ap one e in
-        ap (λ b. b || list_any test xs) e ∙ f (omega arith)
-
-pub none_counted : {A : Type 0} (test : A → Bool) (xs : List A) → count_by test xs ≡ 0 → list_any test xs ≡ false
-none_counted test [] l = refl
-none_counted test (x ∷ xs) l = by_test (test x) refl (none_counted test xs)
-  where
-    by_test : (b : Bool) → test x ≡ b → (count_by test xs ≡ 0 → list_any test xs ≡ false) →
-        (test x || list_any test xs) ≡ false
-    by_test true e f =
-        let u = count_cons test x xs in
-        let v : one (test x) ≡ 1 = ap one e in
-        absurd (omega arith)
-    by_test false e f =
-        let u = count_cons test x xs in
-        let v : one (test x) ≡ 0 = ap one e in
-        ap (λ b. b || list_any test xs) e ∙ f (omega arith)
-
-pub any_counted : {A : Type 0} (test : A → Bool) (xs : List A) → list_any test xs ≡ true → 0 < count_by test xs
-any_counted test xs h = by_count (count_by test xs) refl
-  where
-    by_count : (n : ℕ) → count_by test xs ≡ n → 0 < n
-    by_count zero e = absurd (false≢true (sym (none_counted test xs e) ∙ h))
-    by_count (suc n) e = omega arith

@@ -52,16 +52,20 @@ use Rattle.vq_model.specs.declared.plan.Event.TheVariants.{
   Finish,
   Answer,
 }
-use Rattle.vq_model.specs.Canonical.{same_actor}
 use Rattle.vq_model.specs.Lanes.{lane_at}
 use Rattle.vq_model.specs.Machine.{put, with_signal, next}
 use Rattle.vq_model.specs.Plan.{Plan, chain_of, previous, of_job, has}
 use Rattle.vq_model.specs.declared.plan.Op.{Op}
-use Rattle.vq_model.proofs.Gets.{get_within}
+use Rattle.vq_model.proofs.Gets.{get_within, first_is}
 use Rattle.vq_model.proofs.Lists.{has_here}
 use Rattle.vq_model.proofs.Options.{some_of}
 use Rattle.vq_points.specs.HistoryLaws.{last_take}
 use Rattle.vq_model.proofs.Puts.{put_here, put_there, put_cases, put_keeps}
+use Rattle.vq_model.specs.Naming.{same_actor}
+use Rattle.vq_model.proofs.Actors.{same_actor_is}
+use Rattle.vq_model.proofs.Plans.{op_within}
+use Rattle.vq_history_laws.proofs.Cited.{count_cons}
+use Rattle.vq_history_laws.specs.Measure.{one}
 use Rattle.vq_points.specs.Points.{
   count_of,
   with_note,
@@ -84,16 +88,9 @@ use Rattle.vq_points.specs.Points.{
 }
 use Rattle.vq_points.proofs.Cited.{Links, one_event, at_opening, still_held}
 use Rattle.vq_history_laws.specs.Histories.{points_after}
-use Rattle.vq_core_laws.proofs.Counts.{put_some_counts, one, count_cons}
-use Rattle.vq_core_laws.proofs.LaneFacts.{next_of, next_put, IsNextOf, same_actor_is}
+use Rattle.vq_core_laws.proofs.Counts.{put_some_counts}
+use Rattle.vq_core_laws.proofs.LaneFacts.{next_of, next_put, IsNextOf}
 use Rattle.vq_core_laws.proofs.PlanFacts.{Facts}
-
-pub op_within : (p : Plan) (e t : ℕ) → chain_of p e ≡ Some t → e < length p.ops
-op_within p e t h = let f = some_of (λ (o : Op). o.chain) (slice_get p.ops e) t h in get_within p.ops e f.0 f.1
-
-pub first_of_free : (xs : List ℕ) (q : ℕ) → slice_get xs 0 ≡ Some q → (rest : List ℕ) × (xs ≡ q ∷ rest)
-first_of_free [] q e = absurd (let z = e in cc)
-first_of_free (x ∷ xs) q e = (xs, (let s : x ≡ q = cc in ap (λ (z : ℕ). z ∷ xs) s))
 
 -- jobs of a lane run one after another
 pub record KeepsTurns (p : Plan) (started finished : ℕ → Bool) : Type 0 where
@@ -282,7 +279,7 @@ module _ (p : Plan) (f : Facts p) (w : PointState) (k : Keeps p w) where
             links = l;
           }
       with_links (Take e q false) g l =
-          let h = first_of_free (w.free g.chain) q g.point in
+          let h = first_is (w.free g.chain) q g.point in
           record {
             turns = k.turns;
             points = take_points e q w.points g.without (op_within p e g.chain g.in_chain) (g.chain, g.in_chain)
@@ -439,12 +436,6 @@ keeps_from p f w k (x ∷ xs) r = keeps_from p f (after_event p w x) (keeps_afte
 pub keeps : (p : Plan) → Facts p → (history : List Event) → HistoryFrom p (opening_points p) history →
     Keeps p (points_after p history)
 keeps p f history r = keeps_from p f (opening_points p) (keeps_opening p) history r
-
--- a history and one more event
-pub history_push : (p : Plan) (w : PointState) (xs : List Event) (x : Event) → HistoryFrom p w xs →
-    CanCome p (fold (after_event p) w xs) x → HistoryFrom p w (xs ++ x ∷ [])
-history_push p w [] x r g = (g, tt)
-history_push p w (y ∷ ys) x r g = (r.0, history_push p (after_event p w y) ys x r.1 g)
 
 pub points_push : (p : Plan) (xs : List Event) (x : Event) →
     points_after p (xs ++ x ∷ []) ≡ after_event p (points_after p xs) x

@@ -35,7 +35,6 @@ use Rattle.vq_model.specs.declared.script.ActorName.TheVariants.{
 use Rattle.vq_model.specs.declared.plan.Lane.{Lane}
 use Rattle.vq_model.specs.declared.plan.Lane.TheVariants.{Host as HostLane, Queue as QueueLane}
 use Rattle.vq_model.specs.declared.plan.PlanJob.{PlanJob}
-use Rattle.vq_model.specs.Canonical.{same_actor}
 use Rattle.vq_model.specs.Plan.{Plan, has, of_job, same_lane}
 use Rattle.vq_model.specs.Machine.{next, put}
 use Rattle.vq_model.specs.WellFormed.{AreRising}
@@ -44,6 +43,8 @@ use Rattle.vq_model.proofs.Filters.{filter-has_cases, filter-has, rising_filter}
 use Rattle.vq_model.proofs.Numbers.{rising_range, has-range_cases, range-has}
 use Rattle.vq_model.proofs.Puts.{put_here, put_there}
 use Rattle.vq_model.proofs.Searches.{find_member}
+use Rattle.vq_model.specs.Naming.{same_actor}
+use Rattle.vq_model.proofs.Actors.{same_lane_is}
 use Rattle.vq_points.specs.Points.{PointState, jobs_of_lane, lane_of_actor, next_job, actor_of_lane}
 use Rattle.vq_core_laws.specs.Firsts.{StandOnce}
 use Rattle.vq_core_laws.proofs.Firsts.{rising_once}
@@ -55,31 +56,9 @@ lane_rises p lane = rising_filter (λ j. of_job (λ x. same_lane lane x.lane) fa
 pub lane_once : (p : Plan) (lane : Lane) → StandOnce (jobs_of_lane p lane)
 lane_once p lane = rising_once (jobs_of_lane p lane) (lane_rises p lane)
 
-pub same_lane_is : (l m : Lane) → same_lane l m ≡ true → l ≡ m
-same_lane_is HostLane HostLane h = refl
-same_lane_is HostLane (QueueLane r) h = absurd (false≢true h)
-same_lane_is (QueueLane q) HostLane h = absurd (false≢true h)
-same_lane_is (QueueLane q) (QueueLane r) h = ap (λ (z : ℕ). QueueLane z) (eqb-true q r h)
-
 pub same_lane_self : (l : Lane) → same_lane l l ≡ true
 same_lane_self HostLane = refl
 same_lane_self (QueueLane q) = eq-eqb q q refl
-
-pub same_actor_is : (a b : ActorName) → same_actor a b ≡ true → a ≡ b
-same_actor_is HostActor HostActor h = refl
-same_actor_is HostActor (SubmitActor r) h = absurd (false≢true h)
-same_actor_is HostActor (RingActor r) h = absurd (false≢true h)
-same_actor_is (SubmitActor q) HostActor h = absurd (false≢true h)
-same_actor_is (SubmitActor q) (SubmitActor r) h = ap (λ (z : ℕ). SubmitActor z) (eqb-true q r h)
-same_actor_is (SubmitActor q) (RingActor r) h = absurd (false≢true h)
-same_actor_is (RingActor q) HostActor h = absurd (false≢true h)
-same_actor_is (RingActor q) (SubmitActor r) h = absurd (false≢true h)
-same_actor_is (RingActor q) (RingActor r) h = ap (λ (z : ℕ). RingActor z) (eqb-true q r h)
-
-pub same_actor_self : (a : ActorName) → same_actor a a ≡ true
-same_actor_self HostActor = refl
-same_actor_self (SubmitActor q) = eq-eqb q q refl
-same_actor_self (RingActor q) = eq-eqb q q refl
 
 -- a job of a lane
 pub record InLane (p : Plan) (lane : Lane) (j : ℕ) : Type 0 where

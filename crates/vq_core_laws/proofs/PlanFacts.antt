@@ -16,6 +16,7 @@ use Rattle.vq_model.specs.Sure.{KeepsRising, RisesFrom}
 use Rattle.vq_model.specs.WellFormed.{IsWellFormed, KeepsHostOrder, AreInOrder}
 use Rattle.vq_model.proofs.Lists.{has_cases}
 use Rattle.vq_model.proofs.Options.{some_of}
+use Rattle.vq_model.proofs.Searches.{at_place}
 use Rattle.vq_points.specs.Timeline.{AreRisingFrom}
 use Rattle.vq_plan_laws.proofs.Cited.{plan_asked, plan_reads, plan_well_formed, plan_lanes, plan_semaphores, plan_hosts, chain_is, op_is, op_chain_is}
 use Rattle.vq_order_laws.proofs.Cited.{plan_has_sure_order}
@@ -33,25 +34,6 @@ pub record Facts (p : Plan) : Type 0 where
   pub read_chain : (j t : ℕ) → question p j ≡ AsksValue t → t < length p.script.semaphores
   -- an operation stands in its chain at its place
   pub place : (e : ℕ) (o : Op) → slice_get p.ops e ≡ Some o → slice_get (chain p o.chain) o.index ≡ Some e
-
--- a number of a list stands at its place
-pub at_place : (xs : List ℕ) (x : ℕ) → has xs x ≡ true → slice_get xs (position_or_len (λ k. k == x) xs) ≡ Some x
-at_place [] x h = absurd (false≢true h)
-at_place (y ∷ xs) x h = by_test (y == x) refl (at_place xs x)
-  where
-    by_test : (b : Bool) → (y == x) ≡ b → (has xs x ≡ true →
-        slice_get xs (position_or_len (λ k. k == x) xs) ≡ Some x) →
-        slice_get (y ∷ xs) (position_or_len (λ k. k == x) (y ∷ xs)) ≡ Some x
-    by_test true e f =
-        ap (slice_get (y ∷ xs)) (cond-false (not (y == x)) (1 + position_or_len (λ k. k == x) xs) 0 (ap not e))
-        ∙ ap Some (eqb-true y x e)
-    by_test false e f =
-        let rest = f (elim (or_cases (y == x) (has xs x) h) [ inl t ↦ absurd (false≢true (sym e ∙ t)) | inr t ↦ t ]) in
-        ap (slice_get (y ∷ xs)) (cond-true (not (y == x)) (1 + position_or_len (λ k. k == x) xs) 0 (ap not e)
-        ∙ one_more (position_or_len (λ k. k == x) xs)) ∙ rest
-      where
-        one_more : (n : ℕ) → 1 + n ≡ suc n
-        one_more n = omega arith
 
 module _ (s : Script) (wf : IsWellFormed (plan_of s)) (sem : KeepsSemaphores (plan_of s)) where
   place_of_op : (e : ℕ) (o : Op) → slice_get (plan_of s).ops e ≡ Some o →

@@ -68,7 +68,7 @@ use Rattle.std.proofs.lemmas.List.{
 use Rattle.vq_model.specs.Machine.{put}
 use Rattle.vq_model.specs.Plan.{Plan, chain, chain_of, value, initial, has}
 use Rattle.vq_model.proofs.Filters.{filter-has, filter-has_cases}
-use Rattle.vq_model.proofs.Gets.{get_some, get_within}
+use Rattle.vq_model.proofs.Gets.{get_some, get_within, first_is}
 use Rattle.vq_model.proofs.Lists.{has_here, has-append, list_all_has, list_all_from}
 use Rattle.vq_model.proofs.Puts.{put_here, put_there}
 use Rattle.vq_points.specs.Points.{PointState, CanTake, after_event, at_option, opening_points, smaller_ops}
@@ -99,7 +99,7 @@ use Rattle.vq_points.proofs.Cited.{least_pending, IsLeast, Latest}
 use Rattle.vq_core_laws.specs.Firsts.{AreFirst, StandOnce}
 use Rattle.vq_core_laws.specs.TimelineOf.{IsTimelineOf, waits_on}
 use Rattle.vq_core_laws.proofs.Firsts.{put_next, put_other, stands, place_in}
-use Rattle.vq_core_laws.proofs.Keeps.{Keeps, free_below, first_of_free}
+use Rattle.vq_core_laws.proofs.Keeps.{Keeps, free_below}
 use Rattle.vq_core_laws.proofs.PlanFacts.{Facts, ordered_once, chain_places}
 
 -- At the opening no operation has a point.
@@ -211,7 +211,7 @@ module _ (p : Plan) (f : Facts p) (w : PointState) (k : Keeps p w) where
           IsTimelineOf p (after_event p w (Take e q false)) t (after_take l i w.points)
       reused_take q g of =
           let same : g.chain ≡ t = let c = sym g.in_chain ∙ of in cc in
-          let first = first_of_free (w.free t) q (ap (λ (n : ℕ). slice_get (w.free n) 0) (sym same) ∙ g.point) in
+          let first = first_is (w.free t) q (ap (λ (n : ℕ). slice_get (w.free n) 0) (sym same) ∙ g.point) in
           let rest = first.0 in
           let whole : l.free ≡ q ∷ rest = is.free ∙ first.1 in
           let is_free : has (w.free t) q ≡ true = ap (λ zs. has zs q) first.1 ∙ has_here q rest in
@@ -262,7 +262,7 @@ module _ (p : Plan) (f : Facts p) (w : PointState) (k : Keeps p w) where
         }
     other_take s e q false g of n =
         let same : g.chain ≡ s = let c = sym g.in_chain ∙ of in cc in
-        let first = first_of_free (w.free s) q (ap (λ (n : ℕ). slice_get (w.free n) 0) (sym same) ∙ g.point) in
+        let first = first_is (w.free s) q (ap (λ (n : ℕ). slice_get (w.free n) 0) (sym same) ∙ g.point) in
         let is_free : has (w.free s) q ≡ true = ap (λ zs. has zs q) first.1 ∙ has_here q first.0 in
         record {
           initial_value = is.initial_value;

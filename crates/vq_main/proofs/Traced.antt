@@ -1,8 +1,10 @@
 -- The trace of a schedule that was played.
-use Rattle.std.proofs.Common.{◌≡◌, ℕ, List, subst, ap, ◌∙◌}
+use Rattle.std.proofs.Common.{◌≡◌, ◌++◌, ℕ, List, subst, ap, ◌∙◌}
 use Rattle.vq_model.specs.declared.script.Turn.{Turn}
 use Rattle.vq_model.specs.Plan.{Plan}
 use Rattle.vq_model.specs.Machine.{AreFinished, Run}
+use Rattle.vq_model.specs.OutputText.{answers_of, buffers_text}
+use Rattle.vq_model.specs.Outputs.{IsOutput}
 use Rattle.vq_model.specs.SlowRun.{bytes_after, final}
 use Rattle.vq_points.specs.HistoryLaws.{PointLaw, PendingLaw}
 use Rattle.vq_points.specs.Points.{HistoryFrom, opening_points, steps_of}
@@ -17,8 +19,11 @@ pub traced : (p : Plan) (turns : List Turn) (core : Course) (played : List Playe
     HistoryFrom core.plan (opening_points core.plan) core.history → Run core.plan (steps_of core.history) →
     PointLaw core.plan core.history → PendingLaw core.plan core.history →
     (AreFinished core.plan (world core).machine.progress →
-    bytes_after core.plan (world core).machine.progress.applied ≡ final core.plan) → IsTrace p turns text
-traced p turns core played text all is spelled history run points pending bytes =
+    bytes_after core.plan (world core).machine.progress.applied ≡ final core.plan) →
+    (AreFinished core.plan (world core).machine.progress → IsOutput core.plan (answers_of core.plan (world core).machine
+    ++ buffers_text core.plan.script.buffers (bytes_after core.plan (world core).machine.progress.applied))) →
+    IsTrace p turns text
+traced p turns core played text all is spelled history run points pending bytes output =
     let there : Course = record { plan = p; history = events_of (played_turns p turns) } in
     record {
       spelled =
@@ -32,4 +37,8 @@ traced p turns core played text all is spelled history run points pending bytes 
       bytes =
           subst (λ (c : Course). AreFinished c.plan (world c).machine.progress →
           bytes_after c.plan (world c).machine.progress.applied ≡ final c.plan) is bytes;
+      output =
+          subst (λ (c : Course). AreFinished c.plan (world c).machine.progress →
+          IsOutput c.plan (answers_of c.plan (world c).machine
+          ++ buffers_text c.plan.script.buffers (bytes_after c.plan (world c).machine.progress.applied))) is output;
     }

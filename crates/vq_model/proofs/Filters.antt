@@ -1,5 +1,5 @@
 -- Filters of lists.
-use Rattle.std.proofs.Common.{◌≡◌, ℕ, Bool, true, false, List, [], ◌∷◌, filter, refl, sym, ◌∙◌, inl, inr, subst, ap, eqb, ◌≤◌, length, arith, ◌<◌}
+use Rattle.std.proofs.Common.{◌≡◌, ℕ, Bool, true, false, List, [], ◌∷◌, filter, refl, sym, ◌∙◌, inl, inr, subst, ap, eqb, ◌≤◌, length, arith, ◌<◌, cond}
 use Rattle.std.proofs.lemmas.Bool.{false≢true, cond-true, cond-false, eq-eqb, or_left, or_right}
 use Rattle.vq_model.specs.Plan.{has}
 use Rattle.vq_model.proofs.Lists.{has_cases, has_here, has_there}
@@ -107,16 +107,9 @@ pub filter_all : (xs : List ℕ) → length (filter (λ x. true) xs) ≡ length 
 filter_all [] = refl
 filter_all (x ∷ xs) = let r = filter_all xs in omega arith
 
-pub filter_member : (test : ℕ → Bool) (xs : List ℕ) (x : ℕ) → has (filter test xs) x ≡ true → (has xs x ≡ true) × (test x ≡ true)
-filter_member test [] x m = absurd (false≢true m)
-filter_member test (y ∷ xs) x m = by_test (test y) refl (filter_member test xs x)
-  where
-    by_test : (b : Bool) → test y ≡ b → (has (filter test xs) x ≡ true → (has xs x ≡ true) × (test x ≡ true)) → (has (y ∷ xs) x ≡ true) × (test x ≡ true)
-    by_test true e f =
-        elim (has_cases y (filter test xs) x (ap (λ zs. has zs x) (sym (cond-true (test y) (y ∷ filter test xs) (filter test xs) e)) ∙ m)) [
-          | inl i ↦ (subst (λ z. has (y ∷ xs) z ≡ true) i (has_here y xs), subst (λ z. test z ≡ true) i e)
-          | inr i ↦ let r = f i in (has_there y xs x r.0, r.1)
-        ]
-    by_test false e f =
-        let r = f (ap (λ zs. has zs x) (sym (cond-false (test y) (y ∷ filter test xs) (filter test xs) e)) ∙ m) in
-        (has_there y xs x r.0, r.1)
+-- tests that agree on a list leave the same of it
+pub same_filter : (f g : ℕ → Bool) (xs : List ℕ) → ((x : ℕ) → has xs x ≡ true → f x ≡ g x) → filter f xs ≡ filter g xs
+same_filter f g [] h = refl
+same_filter f g (x ∷ xs) h =
+    let here = h x (has_here x xs) in
+    let rest = same_filter f g xs (λ y i. h y (has_there x xs y i)) in λ i. cond (here i) (x ∷ rest i) (rest i)

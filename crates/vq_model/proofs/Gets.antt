@@ -1,6 +1,7 @@
 -- The elements of lists by their places.
 use Rattle.std.proofs.Common.{◌≡◌, ℕ, zero, suc, ◌≤◌, List, [], ◌∷◌, length, None, refl, arith, map, option_map, ◌+◌, Option, Some, ap, ◌∙◌, ◌<◌, ◌++◌, take}
 use Rattle.std.specs.List.{slice_get, enumerate_from, range_with_len}
+use Rattle.vq_model.proofs.Options.{same_some}
 
 pub slice_get_past : {X : Type 0} (xs : List X) (i : ℕ) → length xs ≤ i → slice_get xs i ≡ None
 slice_get_past [] i h = refl
@@ -63,3 +64,7 @@ get-take_within zero xs i x e = absurd (let c : None ≡ Some x = e in cc)
 get-take_within (suc j) [] i x e = absurd (let c : None ≡ Some x = e in cc)
 get-take_within (suc j) (y ∷ xs) zero x e = omega arith
 get-take_within (suc j) (y ∷ xs) (suc i) x e = let l = get-take_within j xs i x e in omega arith
+
+pub first_is : (xs : List ℕ) (q : ℕ) → slice_get xs 0 ≡ Some q → (rest : List ℕ) × (xs ≡ q ∷ rest)
+first_is [] q e = absurd (cc)
+first_is (x ∷ xs) q e = (xs, ap (λ z. z ∷ xs) (same_some x q e))

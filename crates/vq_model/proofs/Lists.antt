@@ -1,9 +1,10 @@
 -- Facts on what stands in a list, by the test `has`.
-use Rattle.std.proofs.Common.{◌≡◌, ℕ, false, List, [], ◌∷◌, Bool, true, ◌||◌, refl, eqb, ◌++◌, sym, ap, ◌∙◌, ◌⊎◌, inl, inr, subst, arith}
+use Rattle.std.proofs.Common.{◌≡◌, ℕ, false, List, [], ◌∷◌, Bool, true, ◌||◌, refl, eqb, ◌++◌, sym, ap, ◌∙◌, ◌⊎◌, inl, inr, subst, arith, Option, Some, None}
 use Rattle.vq_model.specs.Plan.{has}
 use Rattle.std.proofs.lemmas.Bool.{eq-eqb, or_left, or_right, eqb-true, or_cases, or_from, false≢true, cases_Bool, and_parts, and_from, ne_eqb, eqb-false, or_parts}
-use Rattle.std.specs.List.{list_all}
+use Rattle.std.specs.List.{list_all, list_any}
 use Rattle.vq_model.specs.WellFormed.{AreRising}
+use Rattle.std.specs.Option.{option_to_list}
 
 -- the elements of a list are different
 abbrev pub AreDistinct : List ℕ → Type 0
@@ -104,3 +105,14 @@ pushed xs c y h =
       | inl m ↦ inl m
       | inr m ↦ elim (has_cases c [] y m) [ inl i ↦ inr i | inr i ↦ absurd (false≢true i) ]
     ]
+
+pub any_has : (test : ℕ → Bool) (xs : List ℕ) (x : ℕ) → has xs x ≡ true → test x ≡ true → list_any test xs ≡ true
+any_has test [] x h t = absurd (false≢true h)
+any_has test (y ∷ xs) x h t = elim (has_cases y xs x h) [
+  | inl is ↦ or_left (test y) (list_any test xs) (ap test is ∙ t)
+  | inr m ↦ or_right (test y) (list_any test xs) (any_has test xs x m t)
+]
+
+pub in_option : (o : Option ℕ) (i : ℕ) → has (option_to_list o) i ≡ true → o ≡ Some i
+in_option None i h = absurd (false≢true h)
+in_option (Some x) i h = elim (has_cases x [] i h) [ inl e ↦ ap Some e | inr m ↦ absurd (false≢true m) ]

@@ -1,7 +1,7 @@
 -- Ranges of numbers.
-use Rattle.std.proofs.Common.{◌≡◌, ℕ, zero, suc, ◌+◌, ◌<◌, ◌≤◌, true, eqb, inl, inr, arith}
+use Rattle.std.proofs.Common.{◌≡◌, ℕ, zero, suc, ◌+◌, ◌<◌, ◌≤◌, true, eqb, inl, inr, arith, ap, ◌∙◌, ◌++◌, ◌∷◌, [], ◌==◌}
 use Rattle.std.specs.List.{range_with_len}
-use Rattle.std.proofs.lemmas.Bool.{eq-eqb, or_left, or_right, cases_eq, false≢true}
+use Rattle.std.proofs.lemmas.Bool.{eq-eqb, eqb-true, or_left, or_right, cases_eq, false≢true}
 use Rattle.vq_model.specs.Plan.{has}
 use Rattle.vq_model.proofs.Lists.{has_cases}
 use Rattle.vq_model.specs.WellFormed.{AreRising}
@@ -40,3 +40,21 @@ in_range (suc n) a i h = elim (has_cases a (range_with_len (a + 1) n) i h) [
   | inl e ↦ (let l : i < a + suc n = omega arith in l)
   | inr t ↦ (let l = in_range n (a + 1) i t in omega arith)
 ]
+
+-- a range that is longer by one
+pub range_push : (a n : ℕ) → range_with_len a (suc n) ≡ range_with_len a n ++ (a + n) ∷ []
+range_push a zero = ap (λ k. k ∷ []) (omega arith)
+range_push a (suc n) = ap (λ ks. a ∷ ks)
+    (range_push (a + 1) n ∙ ap (λ k. range_with_len (a + 1) n ++ k ∷ []) (omega arith))
+
+pub range_more : (n : ℕ) → range_with_len 0 (n + 1) ≡ range_with_len 0 n ++ n ∷ []
+range_more n =
+    let e : n + 1 ≡ suc n = omega arith in
+    let f : 0 + n ≡ n = omega arith in
+    ap (range_with_len 0) e ∙ (range_push 0 n ∙ ap (λ (k : ℕ). range_with_len 0 n ++ k ∷ []) f)
+
+pub same_of_test : (x y : ℕ) → (x == y) ≡ true → x ≡ y
+same_of_test x y h = eqb-true x y h
+
+pub eqb_comm : (a b : ℕ) → eqb a b ≡ eqb b a
+eqb_comm a b = grind arith

@@ -1,8 +1,10 @@
 -- What a search through a list finds.
-use Rattle.std.proofs.Common.{◌≡◌, ℕ, Bool, true, false, List, [], ◌∷◌, find, Some, refl, sym, ◌∙◌, subst, ◌++◌, ap, inl, inr, None}
-use Rattle.std.proofs.lemmas.Bool.{cond-true, cond-false, false≢true}
+use Rattle.std.proofs.Common.{◌≡◌, ℕ, Bool, true, false, List, [], ◌∷◌, find, Some, refl, sym, ◌∙◌, subst, ◌++◌, ap, inl, inr, None, Option, ◌==◌}
+use Rattle.std.proofs.lemmas.Bool.{cond-true, cond-false, false≢true, eq-eqb, eqb-true}
 use Rattle.vq_model.specs.Plan.{has}
 use Rattle.vq_model.proofs.Lists.{has_cases, has_here, has_there}
+use Rattle.std.specs.List.{slice_get, position_or_len}
+use Rattle.std.proofs.lemmas.List.Folds.{find_at}
 
 pub find_passes : (test : ℕ → Bool) (xs : List ℕ) (r : ℕ) → find test xs ≡ Some r → test r ≡ true
 find_passes test [] r h = cc
@@ -62,3 +64,11 @@ find_fails test (y ∷ xs) x h m = by_test (test y) refl (find_fails test xs x)
     by_test false e f =
         let h' : find test xs ≡ None = sym (cond-false (test y) (Some y) (find test xs) e) ∙ h in
         elim (has_cases y xs x m) [ inl i ↦ subst (λ z. test z ≡ false) i e | inr i ↦ f h' i ]
+
+-- a number of a list stands at its place
+pub at_place : (xs : List ℕ) (x : ℕ) → has xs x ≡ true → slice_get xs (position_or_len (λ k. k == x) xs) ≡ Some x
+at_place xs x h = sym (find_at (λ k. k == x) xs) ∙ by_found (find (λ k. k == x) xs) refl
+  where
+    by_found : (o : Option ℕ) → find (λ k. k == x) xs ≡ o → find (λ k. k == x) xs ≡ Some x
+    by_found None f = absurd (false≢true (sym (find_fails (λ k. k == x) xs x f h) ∙ eq-eqb x x refl))
+    by_found (Some r) f = f ∙ ap Some (eqb-true r x (find_passes (λ k. k == x) xs r f))

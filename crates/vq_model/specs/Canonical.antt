@@ -1,9 +1,8 @@
 -- The canonical text of a script. The format is this project's own.
 use Rattle.std.specs.Prelude.{ℕ, List, [], zero, suc, ◌/◌, ◌%◌, ◌∷◌, ◌+◌, ◌++◌, codes, ◌==◌}
 use Rattle.std.specs.Prelude.{if◌then◌else◌, nat_lt}
-use Rattle.std.specs.Prelude.{Option, Some, None, map, Bool, true, false}
-use Rattle.std.specs.List.{slice_get, flat_map, join_with_byte}
-use Rattle.std.specs.Option.{option_map_or}
+use Rattle.std.specs.Prelude.{Option, Some, None, map}
+use Rattle.std.specs.List.{flat_map, join_with_byte}
 use Rattle.std.specs.Char.{digit_char}
 use Rattle.std.specs.Fmt.{decimal}
 use Rattle.vq_model.specs.declared.script.Script.{Script}
@@ -12,8 +11,6 @@ use Rattle.vq_model.specs.declared.script.SemaphoreKind.TheVariants.{Binary, Tim
 use Rattle.vq_model.specs.declared.script.FillSize.{FillSize}
 use Rattle.vq_model.specs.declared.script.FillSize.TheVariants.{Whole, Count}
 use Rattle.vq_model.specs.declared.script.ActorName.{ActorName}
-use Rattle.vq_model.specs.declared.script.ActorName.TheVariants.{Host as HostActor, Submit as SubmitActor}
-use Rattle.vq_model.specs.declared.script.ActorName.TheVariants.{Ring as RingActor}
 use Rattle.vq_model.specs.declared.script.Pair.{Pair}
 use Rattle.vq_model.specs.declared.script.Buffer.{Buffer}
 use Rattle.vq_model.specs.declared.script.Semaphore.{Semaphore}
@@ -30,19 +27,7 @@ use Rattle.vq_model.specs.declared.script.Turn.{Turn}
 use Rattle.vq_model.specs.declared.statement.Form.{Form}
 use Rattle.vq_model.specs.declared.statement.Form.TheVariants.{Plain, Scheduled}
 use Rattle.vq_model.specs.Forms.{mode_word}
-
--- the name of a buffer, a semaphore, a queue
-abbrev pub buffer_name : Script → ℕ → List ℕ
-buffer_name s b = option_map_or (λ x. x.name) (slice_get s.buffers b) []
-
-abbrev pub semaphore_name : Script → ℕ → List ℕ
-semaphore_name s t = option_map_or (λ x. x.name) (slice_get s.semaphores t) []
-
-abbrev pub semaphore_kind : Script → ℕ → SemaphoreKind
-semaphore_kind s t = option_map_or (λ x. x.kind) (slice_get s.semaphores t) Binary
-
-abbrev pub queue_name : Script → ℕ → List ℕ
-queue_name s q = option_map_or (λ x. x.name) (slice_get s.queues q) []
+use Rattle.vq_model.specs.Naming.{buffer_name, semaphore_name, semaphore_kind, queue_name, actor_word, same_actor}
 
 -- so many lower-case hexadecimal digits of a number, the last one last
 abbrev pub hex_digits : ℕ → ℕ → List ℕ
@@ -59,11 +44,6 @@ fill_word word = codes "0x" ++ hex_digits 8 word
 abbrev pub fill_size_word : FillSize → List ℕ
 fill_size_word Whole = codes "whole"
 fill_size_word (Count n) = decimal n
-
-abbrev pub actor_word : Script → ActorName → List ℕ
-actor_word s HostActor = codes "host"
-actor_word s (SubmitActor q) = codes "S:" ++ queue_name s q
-actor_word s (RingActor q) = codes "R:" ++ queue_name s q
 
 -- the words of pairs
 abbrev pub pair_words : Script → Pair → List (List ℕ)
@@ -143,12 +123,6 @@ job_words s (BatchJob b) =
     ++ map (signal_words s) b.signals
     ++ fence_lines s b.fence
     ++ (codes "end" ∷ []) ∷ []
-
-abbrev pub same_actor : ActorName → ActorName → Bool
-same_actor HostActor HostActor = true
-same_actor (SubmitActor q) (SubmitActor r) = q == r
-same_actor (RingActor q) (RingActor r) = q == r
-same_actor a b = false
 
 -- an actor with how many turns
 abbrev pub Turns : Type 0

@@ -20,7 +20,7 @@ use Rattle.vq_model.specs.declared.script.Queue.{Queue}
 use Rattle.vq_model.specs.declared.script.SemaphoreKind.{SemaphoreKind}
 use Rattle.vq_model.specs.declared.script.SemaphoreKind.TheVariants.{Timeline, Binary, Fence}
 use Rattle.vq_model.specs.declared.script.Mode.{Mode}
-use Rattle.vq_model.specs.declared.script.Mode.TheVariants.{Immediate, Threaded}
+use Rattle.vq_model.specs.declared.script.Mode.TheVariants.{Deferred, Immediate, Threaded}
 
 -- Parts of the text
 
@@ -98,6 +98,10 @@ is_fence other = false
 abbrev pub is_immediate : Mode → Bool
 is_immediate Immediate = true
 is_immediate other = false
+
+abbrev pub is_deferred : Mode → Bool
+is_deferred Deferred = true
+is_deferred other = false
 
 abbrev pub is_threaded : Mode → Bool
 is_threaded Threaded = true

@@ -9,6 +9,7 @@ pub mod LineFaults
 pub mod ScriptOfLines
 pub mod Reading
 pub mod SameScript
+pub mod Naming
 pub mod Canonical
 pub mod Memory
 pub mod Plan

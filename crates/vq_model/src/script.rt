@@ -1,8 +1,11 @@
 //! A script as data: what its text declares and submits. Lines are counted from 1; buffers,
 //! semaphores, queues and jobs from 0, in the order of the text.
-ghost use Rattle.std.specs.Prelude.{◌≡◌};
-ghost use Rattle.vq_model.specs.Context.{is_binary, is_timeline};
+ghost use Rattle.std.specs.Prelude.{◌≡◌, false};
+ghost use Rattle.std.specs.List.{slice_get};
+ghost use Rattle.std.specs.Option.{option_map_or};
+ghost use Rattle.vq_model.specs.Context.{is_binary, is_deferred, is_timeline};
 ghost use Rattle.vq_model.specs.Signals.{initial_value};
+ghost use Rattle.vq_model.specs.ValidScripts.{is_immediate_queue, is_threaded_queue};
 
 use crate::list::{Bytes, List, Name};
 
@@ -226,4 +229,38 @@ pub struct Script {
     /// Whether a schedule follows.
     pub scheduled: bool,
     pub turns: List<Turn>,
+}
+
+impl Script {
+    /// Whether a queue is submitted to by a thread of its own. No queue of this number: it isn't.
+    pub fn is_threaded(&self, queue: u32) -> bool
+        ensures { result ≡ is_threaded_queue self.now queue }
+    {
+        match self.queues.as_slice().get(queue as usize) {
+            Some(queue) => matches!(queue.mode, Mode::Threaded),
+            None => false,
+        }
+    }
+
+    /// Whether a queue is submitted to by the host, which holds its batches back. No queue of this
+    /// number: it isn't.
+    pub fn is_deferred(&self, queue: u32) -> bool
+        ensures { result ≡ option_map_or (λ x. is_deferred x.mode) (slice_get self.now.queues queue) false }
+    {
+        match self.queues.as_slice().get(queue as usize) {
+            Some(queue) => matches!(queue.mode, Mode::Deferred),
+            None => false,
+        }
+    }
+
+    /// Whether a queue is submitted to by the host, which hands each batch to the device at once. No
+    /// queue of this number: it isn't.
+    pub fn is_immediate(&self, queue: u32) -> bool
+        ensures { result ≡ is_immediate_queue self.now queue }
+    {
+        match self.queues.as_slice().get(queue as usize) {
+            Some(queue) => matches!(queue.mode, Mode::Immediate),
+            None => false,
+        }
+    }
 }

@@ -20,7 +20,8 @@ use Rattle.vq_order.specs.Counts.{AreFirst}
 use Rattle.vq_order.specs.UnorderedLines.{op_in, IsNextOrNone}
 use Rattle.vq_order.proofs.SlowFacts.{at_place, place_within}
 use Rattle.vq_model.proofs.Positions.{place}
-use Rattle.vq_order.proofs.UnorderedLaws.{get_at, order_at, op_here, op_of_chain}
+use Rattle.vq_model.proofs.Plans.{op_within}
+use Rattle.vq_order.proofs.UnorderedLaws.{get_at, order_at, op_of_chain}
 
 -- the kind of a semaphore by its test
 pub binary_is : (o : Option SemaphoreKind) → option_map_or is_binary o false ≡ true → o ≡ Some Binary
@@ -53,7 +54,7 @@ module _ (p : Plan) (i : IsPlan p) (t : ℕ) (binary : kind_of p.script t ≡ So
   lines_rise k m l h =
       let c = op_of_chain p formed t k (omega arith) in
       let d = op_of_chain p formed t m h in
-      (plan_lines p i).ops (op_in p t k) (op_in p t m) (numbers (op_in p t k) (op_in p t m) c d (order_at p (chain p t) (formed.chain_order t) k m l h)) (op_here p (op_in p t m) t d)
+      (plan_lines p i).ops (op_in p t k) (op_in p t m) (numbers (op_in p t k) (op_in p t m) c d (order_at p (chain p t) (formed.chain_order t) k m l h)) (op_within p (op_in p t m) t d)
 
   lines_rise_to : (k m : ℕ) → k ≤ m → m < length (chain p t) → line_of_op p (op_in p t k) ≤ line_of_op p (op_in p t m)
   lines_rise_to k m l h = elim (cases_eq k m) [
@@ -103,9 +104,9 @@ module _ (p : Plan) (i : IsPlan p) (t : ℕ) (binary : kind_of p.script t ≡ So
 -- there is one next signal
 pub one_next : (p : Plan) → HasLinesInOrder p → (t line e f : ℕ) → IsNextSignal p t line e → IsNextSignal p t line f → e ≡ f
 one_next p lines t line e f x y = elim (cases_lt e f) [
-  | inl l ↦ (let r = lines.ops e f l (op_here p f t y.in_chain) in let s = y.first e x.in_chain x.later in absurd (omega arith))
+  | inl l ↦ (let r = lines.ops e f l (op_within p f t y.in_chain) in let s = y.first e x.in_chain x.later in absurd (omega arith))
   | inr g ↦ elim (cases_eq f e) [
     | inl q ↦ sym q
-    | inr d ↦ (let r = lines.ops f e (omega (arith, d)) (op_here p e t x.in_chain) in let s = x.first f y.in_chain y.later in absurd (omega arith))
+    | inr d ↦ (let r = lines.ops f e (omega (arith, d)) (op_within p e t x.in_chain) in let s = x.first f y.in_chain y.later in absurd (omega arith))
   ]
 ]

@@ -71,13 +71,3 @@ owner_exists p j c h = elim (cases_lt j (length p.jobs)) [
   | inl l ↦ l
   | inr g ↦ absurd (false≢true (sym (ap (λ o. has (option_map_or (λ x. x.commands) o []) c) (slice_get_past p.jobs j g)) ∙ h))
 ]
-
--- a command of a job is one of the plan
-pub owned_exists : (p : Plan) → IsWellFormed p → (j c : ℕ) → has (commands_of p j) c ≡ true → c < length p.commands
-owned_exists p w j c h = elim (cases_lt c (length p.commands)) [
-  | inl l ↦ l
-  | inr g ↦
-      let f = w.fits c j h in
-      let e : None ≡ Some f.0 = sym (ap (option_map (λ x. x.command)) (slice_get_past p.commands c g)) ∙ f.1 in
-      absurd (let q = e in cc)
-]

@@ -12,26 +12,14 @@ use Rattle.vq_model.specs.Plan.{Plan, chain, host_before, is_host_lane, is_host_
 use Rattle.vq_model.specs.Sure.{IsSure}
 use Rattle.vq_model.proofs.Gets.{get_within}
 use Rattle.vq_model.proofs.Searches.{find_member}
+use Rattle.vq_model.proofs.Plans.{op_within, immediate_batch}
 use Rattle.vq_order_laws.proofs.Cited.{sure_for_last}
 use Rattle.vq_plan_laws.proofs.Cited.{plan_hosts, plan_well_formed}
 use Rattle.vq_order.specs.declared.lines.Lines.{Lines}
 use Rattle.vq_order.specs.LeastLines.{AreLeastOrNone, IsOfFirst}
 use Rattle.vq_order.specs.Pending.{IsAheadIn, IsSureBefore}
 use Rattle.vq_order.specs.VectorClocks.{IsComplete}
-use Rattle.vq_order.proofs.UnorderedLaws.{op_here, waiter_exists}
-
--- a batch of an immediate queue is no host step
-immediate_batch : (p : Plan) (j : ℕ) → is_immediate_batch p j ≡ true → is_host_step p j ≡ false
-immediate_batch p j h = by_job (slice_get p.jobs j) h
-  where
-    by_lane : (l : Lane) → is_immediate_lane p l ≡ true → is_host_lane l ≡ false
-    by_lane HostLane h = absurd (false≢true h)
-    by_lane (QueueLane q) h = refl
-
-    by_job : (o : Option PlanJob) → option_map_or (λ x. is_immediate_lane p x.lane) o false ≡ true →
-        option_map_or (λ x. is_host_lane x.lane) o false ≡ false
-    by_job None h = refl
-    by_job (Some x) h = by_lane x.lane h
+use Rattle.vq_order.proofs.UnorderedLaws.{waiter_exists}
 
 module _ (p : Plan) (c : IsComplete p) (op j : ℕ) (exists : j < length p.jobs)
     (immediate : is_immediate_batch p j ≡ true) where
@@ -67,7 +55,7 @@ step_here p i j h l e = let at = (plan_hosts p i).before_batch h j e in let m = 
 pub resolver_here : (p : Plan) → IsPlan p → (t v op : ℕ) → resolver p t v ≡ Some op →
     op < length p.ops
 resolver_here p i t v op e =
-    op_here p op t
+    op_within p op t
     ((plan_well_formed p i).of_chain op t
     (find_member (λ x. nat_le v (value p x)) (chain p t) op e))
 

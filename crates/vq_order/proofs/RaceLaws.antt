@@ -11,6 +11,8 @@ use Rattle.vq_model.specs.WellFormed.{IsWellFormed}
 use Rattle.vq_model.specs.Races.{conflicts, IsRace}
 use Rattle.vq_model.specs.Checks.{IsRaceAt, IsLeastPair}
 use Rattle.vq_model.specs.Plan.{line_of_command}
+use Rattle.vq_model.proofs.Numbers.{eqb_comm}
+use Rattle.vq_order_laws.proofs.Cited.{share_comm}
 
 -- Conflicts go both ways
 
@@ -21,23 +23,13 @@ or_swap false true false = refl
 or_swap false false true = refl
 or_swap false false false = refl
 
-eqb_swap : (a b : ℕ) → eqb a b ≡ eqb b a
-eqb_swap a b = grind arith
-
-share_swap : (r s : Range) → share r s ≡ share s r
-share_swap r s =
-    let a : max r.start s.start ≡ max s.start r.start = omega arith in
-    let b : min (r.start + r.size) (s.start + s.size) ≡ min (s.start + s.size) (r.start + r.size) = omega arith in
-    ap (λ t. t && ltb (max r.start s.start) (min (r.start + r.size) (s.start + s.size))) (eqb_swap r.buffer s.buffer)
-    ∙ (ap (λ m. eqb s.buffer r.buffer && ltb m (min (r.start + r.size) (s.start + s.size))) a ∙ ap (λ m. eqb s.buffer r.buffer && ltb (max s.start r.start) m) b)
-
 pub conflict_swap : (sizes : List ℕ) (x y : Command) → conflict sizes x y ≡ conflict sizes y x
 conflict_swap sizes x y =
     let wx = written_range sizes x in
     let wy = written_range sizes y in
     let a = option_map_or (share wx) (read_range y) false in
     let b = option_map_or (share wy) (read_range x) false in
-    ap (λ t. (t || a) || b) (share_swap wx wy) ∙ or_swap (share wy wx) a b
+    ap (λ t. (t || a) || b) (share_comm wx wy) ∙ or_swap (share wy wx) a b
 
 pub conflicts_swap : (p : Plan) (c d : ℕ) → conflicts p c d ≡ conflicts p d c
 conflicts_swap p c d = go (command_at p c) (command_at p d)

@@ -6,12 +6,12 @@ use Rattle.vq_model.specs.LoweringFaults.{IsPlan}
 use Rattle.vq_model.specs.Plan.{Plan, has, commands_of, line_of_command}
 use Rattle.vq_model.specs.Races.{IsRace}
 use Rattle.vq_model.specs.WellFormed.{IsWellFormed}
+use Rattle.vq_model.proofs.Plans.{command_exists}
 use Rattle.vq_plan_laws.proofs.Cited.{plan_lines, plan_well_formed}
-use Rattle.vq_order.proofs.CommandJobs.{owned_exists}
 use Rattle.vq_order.proofs.RaceLaws.{race_swap, first_pair_is_least}
 
 pub race_exists : (p : Plan) → IsWellFormed p → (c d : ℕ) → IsRace p c d → (c < length p.commands) × (d < length p.commands)
-race_exists p w c d r = (owned_exists p w r.first_job c r.first, owned_exists p w r.second_job d r.second)
+race_exists p w c d r = (command_exists p w r.first_job c r.first, command_exists p w r.second_job d r.second)
 
 pub not_itself : (p : Plan) → IsWellFormed p → (c d : ℕ) → c ≡ d → ¬ IsRace p c d
 not_itself p w c d e r = r.two_jobs (w.one_job c r.first_job r.second_job r.first (subst (λ z. has (commands_of p r.second_job) z ≡ true) (sym e) r.second))

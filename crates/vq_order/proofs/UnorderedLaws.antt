@@ -16,6 +16,7 @@ use Rattle.vq_order.specs.UnorderedLines.{IsTooLow, IsUnsureFor, AreUnordered, o
 use Rattle.vq_order.proofs.LineSearches.{Either}
 use Rattle.vq_order.proofs.SlowFacts.{at_place, place_within}
 use Rattle.vq_model.proofs.Positions.{place}
+use Rattle.vq_model.proofs.Plans.{op_within}
 use Rattle.vq_spec.proofs.Cited.{has_at}
 
 -- Lists
@@ -37,10 +38,6 @@ order_at p (x ∷ xs) o k zero l h = absurd (omega arith)
 order_at p (x ∷ xs) o zero (suc m) l h = o.0 (get_or xs m 0) (has_at xs m (omega arith))
 order_at p (x ∷ xs) o (suc k) (suc m) l h = order_at p xs o.1 k m (omega arith) (omega arith)
 
--- an operation of a chain exists
-pub op_here : (p : Plan) (e t : ℕ) → chain_of p e ≡ Some t → e < length p.ops
-op_here p e t c = let x = some_of (λ o. o.chain) (slice_get p.ops e) t c in get_within p.ops e x.0 x.1
-
 -- a job that waits exists
 pub waiter_exists : (p : Plan) (i k : ℕ) (n : Need) → slice_get (needs p i) k ≡ Some n → i < length p.jobs
 waiter_exists p i k n h = elim (cases_lt i (length p.jobs)) [
@@ -54,14 +51,14 @@ pub op_of_chain : (p : Plan) → IsWellFormed p → (t k : ℕ) → k < length (
 op_of_chain p w t k l = w.of_chain (op_in p t k) t (has_at (chain p t) k l)
 
 pub chain_op_exists : (p : Plan) → IsWellFormed p → (t : ℕ) (ops : List ℕ) → ops ≡ chain p t → (k : ℕ) → k < length ops → get_or ops k 0 < length p.ops
-chain_op_exists p w t ops e k l = subst (λ (xs : List ℕ). k < length xs → get_or xs k 0 < length p.ops) (sym e) (λ h. op_here p (op_in p t k) t (op_of_chain p w t k h)) l
+chain_op_exists p w t ops e k l = subst (λ (xs : List ℕ). k < length xs → get_or xs k 0 < length p.ops) (sym e) (λ h. op_within p (op_in p t k) t (op_of_chain p w t k h)) l
 
 module _ (p : Plan) (w : IsWellFormed p) (lines : HasLinesInOrder p) where
   -- operations of one value stand by line
   equal_lines : (t k : ℕ) → k + 1 < length (chain p t) → value p (op_in p t k) ≡ value p (op_in p t (k + 1)) → line_of_op p (op_in p t k) < line_of_op p (op_in p t (k + 1))
   equal_lines t k l v = elim (order_at p (chain p t) (w.chain_order t) k (k + 1) (omega arith) l) [
     | inl m ↦ absurd (omega arith)
-    | inr o ↦ lines.ops (op_in p t k) (op_in p t (k + 1)) o.1 (op_here p (op_in p t (k + 1)) t (op_of_chain p w t (k + 1) l))
+    | inr o ↦ lines.ops (op_in p t k) (op_in p t (k + 1)) o.1 (op_within p (op_in p t (k + 1)) t (op_of_chain p w t (k + 1) l))
   ]
 
   at_lines : (a b c d : ℕ) → a ≡ c → b ≡ d → IsUnordered p c d → IsUnordered p a b

@@ -4,7 +4,7 @@ use Rattle.std.specs.List.{slice_get, filter_map, cons_option}
 use Rattle.vq_model.specs.declared.plan.Need.{Need}
 use Rattle.std.proofs.lemmas.Bool.{cond-true, cond-false, false≢true, ltb-true, lt-ltb}
 use Rattle.vq_model.specs.Plan.{has, Plan, resolver, initial, previous, host_before, idle_after, needs, waits_for_any, job_of}
-use Rattle.vq_model.proofs.Lists.{has_cases, has_here, has_there, has-append_cases, has-append_left, has-append_right}
+use Rattle.vq_model.proofs.Lists.{has_cases, has_here, has_there, has-append_cases, has-append_left, has-append_right, in_option}
 use Rattle.std.specs.Option.{option_to_list}
 use Rattle.vq_model.specs.Edges.{Stage, At, AtEnd, must_finish, needs_at, awaited_at, edges_at, holds_back, EdgeAt, by_lane, by_host, by_need, by_idle}
 use Rattle.vq_model.proofs.Mapped.{has_mapped, mapped}
@@ -66,10 +66,6 @@ has_mapped_need f (m ∷ ns) (suc place) n r h e = by_option (f m) (has_mapped_n
     by_option : (o : Option ℕ) → has (filter_map f ns) r ≡ true → has (cons_option o (filter_map f ns)) r ≡ true
     by_option None m = m
     by_option (Some x) m = has_there x (filter_map f ns) r m
-
-in_option : (o : Option ℕ) (i : ℕ) → has (option_to_list o) i ≡ true → o ≡ Some i
-in_option None i h = absurd (false≢true h)
-in_option (Some x) i h = elim (has_cases x [] i h) [ inl e ↦ ap Some e | inr n ↦ absurd (false≢true n) ]
 
 option_has : (o : Option ℕ) (i : ℕ) → o ≡ Some i → has (option_to_list o) i ≡ true
 option_has o i e = ap (λ (q : Option ℕ). has (option_to_list q) i) e ∙ has_here i []

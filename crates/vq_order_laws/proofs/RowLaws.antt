@@ -19,16 +19,11 @@ use Rattle.std.proofs.lemmas.List.{append_assoc}
 use Rattle.vq_model.specs.Sure.{IsSure, IsSureForJobOf, KeepsRising, RisesFrom}
 use Rattle.vq_model.proofs.Lists.{has-append_right, has_here}
 use Rattle.vq_model.proofs.Gets.{get-append}
+use Rattle.vq_model.proofs.Numbers.{eqb_comm}
 
 -- Conflicts go both ways
 
-eqb_comm : (a b : ℕ) → eqb a b ≡ eqb b a
-eqb_comm a b = elim (cases_eq a b) [
-  | inl e ↦ eq-eqb a b e ∙ sym (eq-eqb b a (sym e))
-  | inr n ↦ ne_eqb a b n ∙ sym (ne_eqb b a (λ e. n (sym e)))
-]
-
-share_comm : (r s : Range) → share r s ≡ share s r
+pub share_comm : (r s : Range) → share r s ≡ share s r
 share_comm r s =
     ap (λ b. b && ltb (max r.start s.start) (min (r.start + r.size) (s.start + s.size))) (eqb_comm r.buffer s.buffer)
     ∙ (ap (λ n. eqb s.buffer r.buffer && ltb n (min (r.start + r.size) (s.start + s.size))) (max_comm r.start s.start)

@@ -12,7 +12,7 @@ use Rattle.vq_model.specs.SlowRun.{is_ready, payload_after, lowest_ready, slow_f
 use Rattle.vq_model.proofs.Lists.{AreDistinct, has-append, has-append_right, has_here, distinct_front, has_there, has_cases, list_all_from}
 use Rattle.vq_model.proofs.Searches.{find_passes, find_member, find_fails}
 use Rattle.vq_order_laws.proofs.SlowOrder.{slow_distinct}
-use Rattle.vq_model.proofs.Filters.{filter_fewer, filter_less, filter_all, filter_member}
+use Rattle.vq_model.proofs.Filters.{filter_fewer, filter_less, filter_all, filter-has_cases}
 use Rattle.vq_model.specs.declared.plan.Need.{Need}
 use Rattle.vq_model.specs.WellFormed.{IsWellFormed}
 use Rattle.vq_model.specs.Checks.{IsUnreachableAt}
@@ -65,7 +65,7 @@ module _ (p : Plan) where
 
   -- a job that is left over can't be done whole
   pub left_waits : (j : ℕ) → has (left_over p) j ≡ true → is_ready p (slow_order p) j ≡ false
-  left_waits j m = find_fails (is_ready p (slow_order p)) all_jobs j slow_stops (filter_member (undone (slow_order p)) all_jobs j m).0
+  left_waits j m = find_fails (is_ready p (slow_order p)) all_jobs j slow_stops (filter-has_cases (undone (slow_order p)) all_jobs j m).0
 
   -- the lowest job that isn't done
   record IsLowest (j : ℕ) : Type 0 where
@@ -100,7 +100,7 @@ pub left_unreachable : (p : Plan) → IsWellFormed p → (j : ℕ) → has (left
 left_unreachable p w j m = elim (lowest p (length p.jobs)) [ inl f ↦ absurd (all_done f) | inr r ↦ at_lowest r.0 r.1 r.2 ]
   where
     member : (has (range_with_len 0 (length p.jobs)) j ≡ true) × (not (has (slow_order p) j) ≡ true)
-    member = filter_member (λ i. not (has (slow_order p) i)) (range_with_len 0 (length p.jobs)) j m
+    member = filter-has_cases (λ i. not (has (slow_order p) i)) (range_with_len 0 (length p.jobs)) j m
 
     in_range : (n a i : ℕ) → has (range_with_len a n) i ≡ true → i < a + n
     in_range zero a i h = absurd (false≢true h)

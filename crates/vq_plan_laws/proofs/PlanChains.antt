@@ -11,6 +11,7 @@ use Rattle.std.specs.Option.{option_map_or}
 use Rattle.vq_model.specs.Lowering.{plan_of}
 use Rattle.vq_plan_laws.proofs.PlanParts.{op_is}
 use Rattle.vq_model.proofs.Gets.{get-map, get-range, get-range_past}
+use Rattle.vq_model.proofs.Bools.{or_false}
 
 -- Chains
 
@@ -67,7 +68,7 @@ sorted-fold_insert s [] acc rise below r = r
 sorted-fold_insert s (x ∷ es) acc rise below r =
     sorted-fold_insert s es (insert_op s x acc) rise.1 (λ f e h m. elim (has_cases x acc f (sym (has-insert s x acc f) ∙ h)) [ inl i ↦ subst (λ z. z < e) i (rise.0 e m) | inr i ↦ below f e i (has_there x es e m) ]) (sorted-insert s x acc (λ f h. below f x h (has_here x es)) r)
 
-no_value : (s : Script) (earlier xs : List Signaling) (e : ℕ) → slice_get xs e ≡ None → slice_get (values_from s earlier xs) e ≡ None
+pub no_value : (s : Script) (earlier xs : List Signaling) (e : ℕ) → slice_get xs e ≡ None → slice_get (values_from s earlier xs) e ≡ None
 no_value s earlier [] e h = refl
 no_value s earlier (x ∷ xs) zero h = absurd (let c : Some x ≡ None = h in cc)
 no_value s earlier (x ∷ xs) (suc e) h = no_value s (earlier ++ x ∷ []) xs e h
@@ -83,10 +84,6 @@ pub in_order_of : (s : Script) (es : List ℕ) → AreSorted s es → AreInOrder
 in_order_of s [] r = tt
 in_order_of s (e ∷ es) r =
     ((λ f h. subst (λ v. (v < value (plan_of s) f) ⊎ ((v ≡ value (plan_of s) f) × (e < f))) (sym (op_value_is s e)) (subst (λ v. (value_at s e < v) ⊎ ((value_at s e ≡ v) × (e < f))) (sym (op_value_is s f)) (r.0 f h))), in_order_of s es r.1)
-
-or_false : (b : Bool) → (b || false) ≡ b
-or_false true = refl
-or_false false = refl
 
 pub has-chain_ops : (s : Script) (t x : ℕ) → has (chain_ops s t) x ≡ has (filter (λ e. option_map_or (signals_semaphore t) (slice_get (all_signals s) e) false) (range_with_len 0 (length (all_signals s)))) x
 has-chain_ops s t x = has-fold_insert s (filter (λ e. option_map_or (signals_semaphore t) (slice_get (all_signals s) e) false) (range_with_len 0 (length (all_signals s)))) [] x ∙ or_false (has (filter (λ e. option_map_or (signals_semaphore t) (slice_get (all_signals s) e) false) (range_with_len 0 (length (all_signals s)))) x)

@@ -13,7 +13,7 @@ value_from s earlier (x ∷ xs) zero = ap (λ (ys : List Signaling). Some (signa
 value_from s earlier (x ∷ xs) (suc e) =
     value_from s (earlier ++ x ∷ []) xs e ∙ ap (λ (ys : List Signaling). option_map (signal_value s ys) (slice_get xs e)) (append_assoc earlier (x ∷ []) (take e xs))
 
-value_is : (s : Script) (e : ℕ) (x : Signaling) → slice_get (all_signals s) e ≡ Some x → value_at s e ≡ signal_value s (take e (all_signals s)) x
+pub value_is : (s : Script) (e : ℕ) (x : Signaling) → slice_get (all_signals s) e ≡ Some x → value_at s e ≡ signal_value s (take e (all_signals s)) x
 value_is s e x h =
     ap (λ (o : Option ℕ). option_map_or (λ v. v) o 0) (value_from s [] (all_signals s) e ∙ ap (option_map (signal_value s (take e (all_signals s)))) h)
 

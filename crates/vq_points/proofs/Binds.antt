@@ -4,11 +4,12 @@ use Rattle.std.specs.Prelude.{slice_range}
 use Rattle.vq_points.specs.Timeline.{Timeline, KeepsLists, MayBind, is_next, point_at, all_points, after_bind, indexes, entries_from}
 use Rattle.std.proofs.lemmas.Bool.{cases_lt, cases_eq}
 use Rattle.std.proofs.lemmas.List.{drop_more, get_or_past}
-use Rattle.vq_points.proofs.TimelineLists.{same_of_test, IsMoved, moved}
+use Rattle.vq_points.proofs.TimelineLists.{IsMoved, moved}
 use Rattle.vq_points.proofs.HeldPoints.{range_push, held, held_append, all_held, entries_push, range_count}
 use Rattle.vq_points.proofs.PartedLists.{second_parted, third_pushed, grouped}
 use Rattle.std.specs.List.{range_with_len}
 use Rattle.std.proofs.lemmas.List.Sorted.{length_permutation}
+use Rattle.vq_model.proofs.Numbers.{same_of_test}
 use Rattle.vq_points.proofs.Carriers.{numbers_push}
 
 -- A bind

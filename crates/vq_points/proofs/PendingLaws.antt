@@ -6,7 +6,7 @@ use Rattle.vq_points.specs.HistoryLaws.{came, releases, binds, takes_for, starts
 use Rattle.std.specs.List.{list_all, list_any}
 use Rattle.std.proofs.lemmas.Bool.{and_parts, and_from, or_left, or_right, false≢true, cond-true, cond-false, eq-eqb, or_cases, not-true, cases_eq}
 use Rattle.vq_model.specs.Plan.{has, Plan, needs, waits_for_any, chain, chain_of, initial, value, resolver, is_host_step, is_batch}
-use Rattle.vq_model.proofs.Lists.{has_cases, has_here, has-append_right}
+use Rattle.vq_model.proofs.Lists.{has_cases, has_here, has-append_right, any_has}
 use Rattle.std.specs.Option.{option_map_or}
 use Rattle.vq_model.specs.declared.script.ActorName.{ActorName}
 use Rattle.vq_model.specs.declared.plan.Answer.{Answer as AnswerTo}
@@ -16,7 +16,7 @@ use Rattle.vq_model.specs.WellFormed.{IsWellFormed}
 use Rattle.vq_model.specs.Machine.{with_signal}
 use Rattle.std.specs.Prelude.{nat_lt, length}
 use Rattle.vq_model.proofs.Puts.{put_there, put_cases}
-use Rattle.vq_model.proofs.Searches.{find_splits}
+use Rattle.vq_model.proofs.Searches.{find_splits, find_passes}
 
 -- the world, and what came before it
 record Comes (h : List Event) (w : PointState) : Type 0 where
@@ -28,25 +28,6 @@ record Comes (h : List Event) (w : PointState) : Type 0 where
 weaker_all : {X : Type 0} (f g : X → Bool) (xs : List X) → ((x : X) → f x ≡ true → g x ≡ true) → list_all f xs ≡ true → list_all g xs ≡ true
 weaker_all f g [] i a = refl
 weaker_all f g (x ∷ xs) i a = let parts = and_parts (f x) (list_all f xs) a in and_from (g x) (list_all g xs) (i x parts.0) (weaker_all f g xs i parts.1)
-
-any_has : (test : ℕ → Bool) (xs : List ℕ) (x : ℕ) → has xs x ≡ true → test x ≡ true → list_any test xs ≡ true
-any_has test [] x m t = absurd (false≢true m)
-any_has test (y ∷ xs) x m t =
-    elim (has_cases y xs x m) [
-      | inl i ↦ or_left (test y) (list_any test xs) (ap test i ∙ t)
-      | inr i ↦ or_right (test y) (list_any test xs) (any_has test xs x i t)
-    ]
-
-found_passes : (test : ℕ → Bool) (xs : List ℕ) (r : ℕ) → find test xs ≡ Some r → test r ≡ true
-found_passes test [] r h = cc
-found_passes test (y ∷ xs) r h = by_test (test y) refl (found_passes test xs r)
-  where
-    by_test : (b : Bool) → test y ≡ b → (find test xs ≡ Some r → test r ≡ true) → test r ≡ true
-    by_test true e f =
-        let h' : Some y ≡ Some r = sym (cond-true (test y) (Some y) (find test xs) e) ∙ h in
-        let i : y ≡ r = cc in
-        subst (λ z. test z ≡ true) i e
-    by_test false e f = f (sym (cond-false (test y) (Some y) (find test xs) e) ∙ h)
 
 module _ (p : Plan) (h : List Event) (w : PointState) (k : Comes h w) where
   -- a need whose resolver is bound is pending
@@ -63,7 +44,7 @@ module _ (p : Plan) (h : List Event) (w : PointState) (k : Comes h w) where
           let f = find_splits (λ x. leb n.value (value p x)) (chain p n.chain) r e in
           any_has (λ x. leb n.value (value p x) && came (binds x) h) (chain p n.chain) r
           (ap (λ zs. has zs r) f.whole ∙ has-append_right f.front (r ∷ f.back) r (has_here r f.back))
-          (and_from (leb n.value (value p r)) (came (binds r) h) (found_passes (λ x. leb n.value (value p x)) (chain p n.chain) r e) (k.bound r b))
+          (and_from (leb n.value (value p r)) (came (binds r) h) (find_passes (λ x. leb n.value (value p x)) (chain p n.chain) r e) (k.bound r b))
 
   release_law : IsWellFormed p → (j : ℕ) → CanRelease p w j → ReleasesInTime p h j
   release_law wf j g =

@@ -9,11 +9,11 @@ use Rattle.vq_model.specs.declared.plan.Event.TheVariants.{Submit, Take, Release
 use Rattle.vq_model.specs.Plan.{Plan, has, chain_of}
 use Rattle.vq_model.specs.Machine.{with_signal, put}
 use Rattle.vq_points.specs.Points.{PointState, at_option, holds, is_pending, is_reference, without_first, after_event}
-use Rattle.vq_model.specs.Canonical.{same_actor}
 use Rattle.vq_points.specs.HistoryLaws.{came, signals, completes, last_take, stands_free, was_freed_later, refers_since, unrefers_since, made_points, is_on_chain, carried_when_referred}
 use Rattle.vq_model.proofs.Lists.{has_here, has_there, has_cases}
 use Rattle.vq_model.proofs.Puts.{put_here, put_there, put_cases, put_keeps}
 use Rattle.vq_model.proofs.Options.{same_some}
+use Rattle.vq_model.specs.Naming.{same_actor}
 use Rattle.vq_points.proofs.PointFacts.{held_at, Latest, Waits, Links, none_some, latest_by, none_held, held_point, fewer_held, same_held, still_held}
 
 -- Events that leave points and references as they are

@@ -8,7 +8,7 @@ use Rattle.vq_model.specs.declared.script.ActorName.{ActorName}
 use Rattle.vq_model.proofs.Lists.{has_here, has_there}
 use Rattle.std.specs.List.{list_any}
 use Rattle.std.proofs.lemmas.Bool.{eqb-false, ne_eqb, or_parts, cond-false, eqb-true, eq-eqb, or_cases, or_left, or_right, and_parts, false≢true, cond-true}
-use Rattle.vq_model.specs.Canonical.{same_actor}
+use Rattle.vq_model.specs.Naming.{same_actor}
 
 -- how many references to a point are held
 abbrev pub held_at : ℕ → List Reference → ℕ

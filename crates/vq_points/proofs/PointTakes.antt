@@ -12,6 +12,7 @@ use Rattle.vq_model.specs.Machine.{put}
 use Rattle.vq_points.specs.Points.{PointState, at_option, CanTake, after_event}
 use Rattle.vq_points.specs.HistoryLaws.{last_take, stands_free, is_on_chain, IsFreedLast, TakesInTurn}
 use Rattle.vq_model.proofs.Puts.{put_here, put_there}
+use Rattle.vq_model.proofs.Gets.{first_is}
 use Rattle.vq_points.proofs.PointEvents.{after_take}
 
 -- Takes
@@ -58,10 +59,6 @@ latest_filter h q (y ∷ xs) l = by_test (eqb y q) refl (latest_filter h q xs l.
     by_test false e f =
         subst (Latest h) (sym (cond-true (not (eqb y q)) (y ∷ filter (λ r. not (eqb r q)) xs) (filter (λ r. not (eqb r q)) xs) (ap not e)))
         ((λ r m. l.0 r (filter_has q xs r m).0), absent (has (filter (λ r. not (eqb r q)) xs) y) refl, f)
-
-first_is : (xs : List ℕ) (q : ℕ) → slice_get xs 0 ≡ Some q → (rest : List ℕ) × (xs ≡ q ∷ rest)
-first_is [] q e = none_some refl e
-first_is (x ∷ xs) q e = (xs, ap (λ z. z ∷ xs) (same_some x q e))
 
 module _ (p : Plan) (h : List Event) (w : PointState) (k : Links p h w) (e q : ℕ) where
   module _ (g : CanTake p w e q true) where

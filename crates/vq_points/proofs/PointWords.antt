@@ -2,6 +2,7 @@
 use Rattle.std.proofs.Common.{◌≡◌, ℕ, ◌+◌, ◌*◌, ◌%◌, ◌^◌, ◌<◌, arith, ◌/◌, true, Bool, false, refl, zero, suc, ◌∙◌, ap, Some, None, cond, sym, subst}
 use Rattle.std.specs.Prelude.{nat_lt, ◌==◌, ◌&&◌, ◌||◌}
 use Rattle.std.proofs.lemmas.Bool.Decides.{nat_tests}
+use Rattle.vq_model.proofs.Numbers.{same_of_test}
 use Rattle.vq_points.specs.PointWord.{bit, PointWord, IsPointWord, pack, parts, unpack}
 
 -- the parts of a packed word, bit by bit
@@ -30,9 +31,6 @@ below_test x y h = grind (arith, nat_tests)
 
 below_of_test : (x y : ℕ) → nat_lt x y ≡ true → x < y
 below_of_test x y h = grind (arith, nat_tests)
-
-same_of_test : (x y : ℕ) → (x == y) ≡ true → x ≡ y
-same_of_test x y h = grind (arith, nat_tests)
 
 bit_test : (b : Bool) → (bit b == 1) ≡ b
 bit_test true = refl

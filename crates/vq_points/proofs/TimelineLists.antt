@@ -5,6 +5,7 @@ use Rattle.std.proofs.lemmas.Bool.Decides.{nat_tests}
 use Rattle.std.specs.List.{list_any}
 use Rattle.vq_points.specs.Timeline.{IsAbsent, AreDistinct, IsPresent}
 use Rattle.std.proofs.lemmas.List.Sorted.{IsPermutation-middle, IsPermutation-trans, IsPermutation-sym}
+use Rattle.vq_model.proofs.Numbers.{same_of_test}
 
 -- tests
 pub or_false : (a b : Bool) → (a || b) ≡ false → (a ≡ false) × (b ≡ false)
@@ -17,9 +18,6 @@ both_false false b h k = k
 
 pub other_way : (x y : ℕ) → (x == y) ≡ false → (y == x) ≡ false
 other_way x y h = grind (arith, nat_tests)
-
-pub same_of_test : (x y : ℕ) → (x == y) ≡ true → x ≡ y
-same_of_test x y h = grind (arith, nat_tests)
 
 pub self_test : (x : ℕ) → (x == x) ≡ true
 self_test x = grind (arith, nat_tests)

@@ -9,9 +9,9 @@ use Rattle.vq_model.specs.declared.plan.Event.TheVariants.{Take, Free, Refer, Un
 use Rattle.vq_model.specs.declared.plan.Event.TheVariants.{Start, Look}
 use Rattle.vq_model.specs.declared.script.ActorName.{ActorName}
 use Rattle.vq_model.specs.declared.plan.Need.{Need}
-use Rattle.vq_model.specs.Canonical.{same_actor}
 use Rattle.vq_model.specs.Plan.{Plan, chain_of, chain, initial, value, needs, signals_of, is_batch, job_of}
 use Rattle.vq_model.specs.Plan.{is_host_step}
+use Rattle.vq_model.specs.Naming.{same_actor}
 use Rattle.vq_points.specs.Points.{earlier_in_queue, smaller_ops}
 
 -- A law that each event of a list keeps after those before it. What came before stands latest

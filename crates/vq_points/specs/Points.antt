@@ -21,7 +21,7 @@ use Rattle.vq_model.specs.Machine.{put, StartStep, ApplyStep, SignalStep, after_
 use Rattle.vq_model.specs.Plan.{Plan, of_job, same_lane, needs, waits_for_any, initial, resolver, is_host_step, chain}
 use Rattle.vq_model.specs.Plan.{value, is_batch, job_of, chain_of, signals_of, previous, idle_after, has, commands_of}
 use Rattle.vq_model.specs.Edges.{At, needs_at, AtEnd}
-use Rattle.vq_model.specs.Canonical.{same_actor}
+use Rattle.vq_model.specs.Naming.{same_actor}
 
 -- States
 

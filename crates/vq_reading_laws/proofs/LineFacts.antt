@@ -33,7 +33,7 @@ use Rattle.std.specs.Prelude.{codes, drop}
 use Rattle.vq_model.specs.Meaning.{first_forms, is_built, where_built, of_two, of_three, of_four, of_five, matches, open_places, hex_bytes, statement_of, meaning, form_of, forms_at, small_numeral, binary_pair, actor_at, is_marked, pairs_at}
 use Rattle.vq_model.specs.declared.statement.Form.TheVariants.{Plain, Scheduled}
 use Rattle.vq_model.specs.declared.script.Queue.{Queue}
-use Rattle.vq_reading_laws.proofs.Meanings.{passes, built_found, first_fails}
+use Rattle.vq_reading_laws.proofs.Meanings.{built_found, first_fails}
 use Rattle.std.specs.Option.{option_map_or, option_and_then}
 use Rattle.std.specs.Str.{bytes_eq}
 use Rattle.vq_model.specs.declared.statement.FaultKind.TheVariants.{Syntax, Order, Number, Name, Twice, Range, Overlap, Limit}
@@ -43,6 +43,8 @@ use Rattle.vq_model.specs.Text.{numeral}
 use Rattle.vq_model.specs.Context.{number_at, is_job, part_of}
 use Rattle.vq_model.specs.LineFaults.{pairs_of, passes_limit}
 use Rattle.vq_model.specs.Forms.{BufferName, TimelineName, BinaryName, FenceName, QueueName, ThreadedName}
+use Rattle.vq_model.proofs.Options.{same_some}
+use Rattle.vq_model.proofs.Bools.{not_false}
 
 -- What a line says
 
@@ -263,7 +265,7 @@ position_within test qs q h = by_test (nat_lt (position_or_len test qs) (length 
 
 -- below a limit
 pub below : (a b : ℕ) → not (nat_lt a b) ≡ false → a < b
-below a b h = ltb-true a b (passes (nat_lt a b) h)
+below a b h = ltb-true a b (not_false (nat_lt a b) h)
 
 -- a command of two numbers, of three, of four, of five
 of_two_says : (f : ℕ → ℕ → Command) (b o : Option ℕ) (s : Statement) →
@@ -322,16 +324,10 @@ binary_no_fence (Timeline v) e = absurd (false≢true e)
 binary_no_fence Binary e = refl
 binary_no_fence Fence e = absurd (false≢true e)
 
-fence_is : (k : SemaphoreKind) → is_fence k ≡ true → k ≡ Fence
+pub fence_is : (k : SemaphoreKind) → is_fence k ≡ true → k ≡ Fence
 fence_is (Timeline v) e = absurd (false≢true e)
 fence_is Binary e = absurd (false≢true e)
 fence_is Fence e = refl
-
-same_statement : (a b : Statement) → Some a ≡ Some b → a ≡ b
-same_statement a b e = cc
-
-same_actor : (a b : ActorName) → Some a ≡ Some b → a ≡ b
-same_actor a b e = cc
 
 -- the mode of a queue
 mode_at : (xs : List Queue) (q : ℕ) (x : Queue) → slice_get xs q ≡ Some x →
@@ -384,13 +380,13 @@ module _ (form : Form) (before : List Line) where
       option_map (λ n. DeclareBuffer name n) o ≡ Some s → Shape form before Outside 0 s
   buffer_shape name None s h = absurd (cc)
   buffer_shape name (Some n) s h =
-      subst (Shape form before Outside 0) (same_statement (DeclareBuffer name n) s h) (a_buffer name n)
+      subst (Shape form before Outside 0) (same_some (DeclareBuffer name n) s h) (a_buffer name n)
 
   timeline_shape : (name : List ℕ) (o : Option ℕ) (s : Statement) →
       option_map (λ v. DeclareSemaphore name (Timeline v)) o ≡ Some s → Shape form before Outside 0 s
   timeline_shape name None s h = absurd (cc)
   timeline_shape name (Some v) s h =
-      subst (Shape form before Outside 0) (same_statement (DeclareSemaphore name (Timeline v)) s h)
+      subst (Shape form before Outside 0) (same_some (DeclareSemaphore name (Timeline v)) s h)
       (a_semaphore name (Timeline v))
 
   batch_shape : (queue : List ℕ) (o : Option ℕ) (s : Statement) → number_at before QueueName queue ≡ o →
@@ -398,7 +394,7 @@ module _ (form : Form) (before : List Line) where
   batch_shape queue None s e h = absurd (let c : None ≡ Some s = h in cc)
   batch_shape queue (Some q) s e h =
       let l = position_within (λ x. bytes_eq queue x.name) (queues before) q e in
-      subst (Shape form before Outside 0) (same_statement (BeginBatch q) s h) (a_batch q l)
+      subst (Shape form before Outside 0) (same_some (BeginBatch q) s h) (a_batch q l)
 
   command_shape : (s : Statement) → (c : Command) × (AddCommand c ≡ s) → Shape form before InBatch 2 s
   command_shape s c = subst (Shape form before InBatch 2) c.1 (a_command c.0)
@@ -411,14 +407,14 @@ module _ (form : Form) (before : List Line) where
   wait_shape name (Some t) None s e h = absurd (cc)
   wait_shape name (Some t) (Some v) s e h =
       subst (Shape form before InBatch 1)
-      (same_statement (AddWait (record { semaphore = t; value = v }) 1) s h)
+      (same_some (AddWait (record { semaphore = t; value = v }) 1) s h)
       (a_wait (record { semaphore = t; value = v }) (timeline_mark name t v e))
 
   binary_wait_shape : (name : List ℕ) (t : Option ℕ) (s : Statement) → number_at before BinaryName name ≡ t →
       option_map (λ x. AddWait (binary_pair x) 1) t ≡ Some s → Shape form before InBatch 1 s
   binary_wait_shape name None s e h = absurd (let c : None ≡ Some s = h in cc)
   binary_wait_shape name (Some t) s e h =
-      subst (Shape form before InBatch 1) (same_statement (AddWait (binary_pair t) 1) s h)
+      subst (Shape form before InBatch 1) (same_some (AddWait (binary_pair t) 1) s h)
       (a_wait (binary_pair t) (binary_mark name t e))
 
   -- a signal of a timeline, of a binary semaphore
@@ -429,7 +425,7 @@ module _ (form : Form) (before : List Line) where
   signal_shape name (Some t) None s e h = absurd (cc)
   signal_shape name (Some t) (Some v) s e h =
       subst (Shape form before InBatch 3)
-      (same_statement (AddSignal (record { semaphore = t; value = v })) s h)
+      (same_some (AddSignal (record { semaphore = t; value = v })) s h)
       (a_signal (record { semaphore = t; value = v }) (timeline_mark name t v e))
 
   binary_signal_shape : (name : List ℕ) (t : Option ℕ) (s : Statement) →
@@ -437,14 +433,14 @@ module _ (form : Form) (before : List Line) where
       option_map (λ x. AddSignal (binary_pair x)) t ≡ Some s → Shape form before InBatch 3 s
   binary_signal_shape name None s e h = absurd (let c : None ≡ Some s = h in cc)
   binary_signal_shape name (Some t) s e h =
-      subst (Shape form before InBatch 3) (same_statement (AddSignal (binary_pair t)) s h)
+      subst (Shape form before InBatch 3) (same_some (AddSignal (binary_pair t)) s h)
       (a_signal (binary_pair t) (binary_mark name t e))
 
   fence_shape : (name : List ℕ) (t : Option ℕ) (s : Statement) → number_at before FenceName name ≡ t →
       option_map (λ f. AddFence f) t ≡ Some s → Shape form before InBatch 4 s
   fence_shape name None s e h = absurd (let c : None ≡ Some s = h in cc)
   fence_shape name (Some t) s e h =
-      subst (Shape form before InBatch 4) (same_statement (AddFence t) s h)
+      subst (Shape form before InBatch 4) (same_some (AddFence t) s h)
       (a_fence t (fence_kind name t e))
 
   step_shape : (s : Statement) → SaysStep before s → Shape form before Outside 0 s
@@ -462,7 +458,7 @@ module _ (form : Form) (before : List Line) where
           option_map (λ q. SubmitActor q) o ≡ Some a → IsActorOf (modes_before before) a
       by_submit None i g = absurd (let c : None ≡ Some a = g in cc)
       by_submit (Some q) i g =
-          subst (IsActorOf (modes_before before)) (same_actor (SubmitActor q) a g)
+          subst (IsActorOf (modes_before before)) (same_some (SubmitActor q) a g)
           (let f = found_at (λ x. bytes_eq name x.name && is_threaded x.mode) (queues before) q i in
           let k = and_parts (bytes_eq name f.0.name) (is_threaded f.0.mode) f.2 in
           mode_at (queues before) q f.0 f.1 ∙ ap Some (threaded_is f.0.mode k.1))
@@ -473,7 +469,7 @@ module _ (form : Form) (before : List Line) where
       by_ring (Some q) i g =
           let l = position_within (λ x. bytes_eq name x.name) (queues before) q i in
           let same = length-map (queues before) (λ (x : Queue). x.mode) in
-          subst (IsActorOf (modes_before before)) (same_actor (RingActor q) a g) (omega arith)
+          subst (IsActorOf (modes_before before)) (same_some (RingActor q) a g) (omega arith)
 
       of_queue : Bool → Option ActorName
       of_queue b =
@@ -489,7 +485,7 @@ module _ (form : Form) (before : List Line) where
           IsActorOf (modes_before before) a
       by_host true i g =
           subst (IsActorOf (modes_before before))
-          (same_actor HostActor a
+          (same_some HostActor a
           (sym (ap (λ (b : Bool). cond b (Some HostActor) (of_queue (is_marked 83 word))) i) ∙ g)) tt
       by_host false i g =
           by_mark (is_marked 83 word)
@@ -499,7 +495,7 @@ module _ (form : Form) (before : List Line) where
       option_map (λ a. TakeTurns a 1) o ≡ Some s → Shape form before InSchedule 0 s
   turn_shape word None s e h = absurd (let c : None ≡ Some s = h in cc)
   turn_shape word (Some a) s e h =
-      subst (Shape form before InSchedule 0) (same_statement (TakeTurns a 1) s h)
+      subst (Shape form before InSchedule 0) (same_some (TakeTurns a 1) s h)
       (some_turns a 1 (actor_is word (Some a) a e refl))
 
   turns_shape : (word : List ℕ) (o : Option ActorName) (n : Option ℕ) (s : Statement) →
@@ -508,14 +504,14 @@ module _ (form : Form) (before : List Line) where
   turns_shape word None n s e h = absurd (let c : None ≡ Some s = h in cc)
   turns_shape word (Some a) None s e h = absurd (let c : None ≡ Some s = h in cc)
   turns_shape word (Some a) (Some n) s e h =
-      subst (Shape form before InSchedule 0) (same_statement (TakeTurns a n) s h)
+      subst (Shape form before InSchedule 0) (same_some (TakeTurns a n) s h)
       (some_turns a n (actor_is word (Some a) a e refl))
 
   schedule_shape : (f : Form) → form ≡ f → suits_text f ScheduleLine ≡ true → (s : Statement) →
       Some BeginSchedule ≡ Some s → Shape form before Outside 0 s
   schedule_shape Plain e t s h = absurd (false≢true t)
   schedule_shape Scheduled e t s h =
-      subst (Shape form before Outside 0) (same_statement BeginSchedule s h) (a_schedule e)
+      subst (Shape form before Outside 0) (same_some BeginSchedule s h) (a_schedule e)
 
   -- the words of a form that is built and stands where it may
   shape : (was : Section) (f : LineForm) (words : List (List ℕ)) (s : Statement) →
@@ -524,13 +520,13 @@ module _ (form : Form) (before : List Line) where
   shape Outside BufferLine (name ∷ size ∷ []) s g t b h = buffer_shape name (numeral size) s h
   shape Outside TimelineLine (name ∷ value ∷ []) s g t b h = timeline_shape name (numeral value) s h
   shape Outside BinaryLine (name ∷ []) s g t b h =
-      subst (Shape form before Outside 0) (same_statement (DeclareSemaphore name Binary) s h)
+      subst (Shape form before Outside 0) (same_some (DeclareSemaphore name Binary) s h)
       (a_semaphore name Binary)
   shape Outside FenceLine (name ∷ []) s g t b h =
-      subst (Shape form before Outside 0) (same_statement (DeclareSemaphore name Fence) s h)
+      subst (Shape form before Outside 0) (same_some (DeclareSemaphore name Fence) s h)
       (a_semaphore name Fence)
   shape Outside (QueueLine mode) (name ∷ []) s g t b h =
-      subst (Shape form before Outside 0) (same_statement (DeclareQueue name mode) s h)
+      subst (Shape form before Outside 0) (same_some (DeclareQueue name mode) s h)
       (a_queue name mode)
   shape Outside SubmitLine (queue ∷ []) s g t b h = batch_shape queue (number_at before QueueName queue) s refl h
   shape Outside HostSignalLine (name ∷ value ∷ []) s g t b h =
@@ -552,7 +548,7 @@ module _ (form : Form) (before : List Line) where
       step_shape s (says_name before FencePoll (number_at before FenceName name) s (fence_named before name) h)
   shape Outside HostFenceResetLine (name ∷ []) s g t b h =
       step_shape s (says_name before FenceReset (number_at before FenceName name) s (fence_named before name) h)
-  shape Outside HostIdleLine [] s g t b h = step_shape s (Idle, tt, same_statement (TakeHostStep Idle) s h)
+  shape Outside HostIdleLine [] s g t b h = step_shape s (Idle, tt, same_some (TakeHostStep Idle) s h)
   shape InBatch WaitTimelineLine (name ∷ value ∷ []) s g t b h =
       wait_shape name (number_at before TimelineName name) (numeral value) s refl h
   shape InBatch WaitBinaryLine (name ∷ []) s g t b h =
@@ -579,7 +575,7 @@ module _ (form : Form) (before : List Line) where
       binary_signal_shape name (number_at before BinaryName name) s refl h
   shape InBatch BatchFenceLine (name ∷ []) s g t b h = fence_shape name (number_at before FenceName name) s refl h
   shape InBatch EndLine [] s g t b h =
-      subst (Shape form before InBatch 5) (same_statement EndBatch s h) an_end
+      subst (Shape form before InBatch 5) (same_some EndBatch s h) an_end
   shape Outside ScheduleLine [] s g t b h = schedule_shape form refl t s h
   shape InSchedule TurnLine (actor ∷ []) s g t b h =
       turn_shape actor (actor_at (number_at before) actor) s refl h
@@ -614,7 +610,7 @@ module _ (form : Form) (before : List Line) where
   shape InSchedule ScheduleLine words s g t b h = absurd (false≢true g)
   shape was f words s g t b h = absurd (cc)
 
-  -- what a statement keeps that is in order and in range, doesn't overlap itself and passes no
+  -- what a statement keeps that is in order and in range, doesn't overlap itself and not_false no
   -- limit
   says : (was : Section) (part : ℕ) (s : Statement) → Shape form before was part s →
       KeepsParts before part → is_in_range (earlier before) s ≡ true → overlaps (buffers before) s ≡ false →
@@ -690,7 +686,7 @@ module _ (form : Form) (before : List Line) where
       let seven = first_fails (has_fault form before words) Overlap (Limit ∷ []) six.1 in
       let eight = first_fails (has_fault form before words) Limit [] seven.1 in
       by_form (form_of form before words) refl m
-      (passes (is_in_range (earlier before) s)
+      (not_false (is_in_range (earlier before) s)
       (sym (ap (λ (o : Option Statement). option_map_or (λ x. not (is_in_range (earlier before) x)) o
       false) m) ∙ six.0))
       (sym (ap (λ (o : Option Statement). option_map_or (overlaps (buffers before)) o false) m) ∙ seven.0)

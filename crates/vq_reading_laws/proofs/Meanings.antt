@@ -15,6 +15,7 @@ use Rattle.vq_model.specs.declared.statement.FaultKind.TheVariants.{Syntax, Orde
 use Rattle.vq_model.specs.declared.statement.Statement.{Statement}
 use Rattle.vq_model.specs.Context.{number_at}
 use Rattle.vq_model.specs.Forms.{BufferName, TimelineName, BinaryName, FenceName, QueueName}
+use Rattle.vq_model.proofs.Bools.{not_false}
 
 -- a conjunction's parts
 and_first : (a b : Bool) → a && b ≡ true → a ≡ true
@@ -126,7 +127,7 @@ said before TurnLine words m n k = no m
 said before TurnsLine (a ∷ b ∷ []) m n k = two _ (actor_at (number_at before) a) (numeral b) (and_first _ _ k) (and_first _ _ n)
 said before TurnsLine words m n k = no m
 
--- what is found passes the test
+-- what is found not_false the test
 pub found_passes : {A : Type 0} (p : A → Bool) (xs : List A) (y : A) → find p xs ≡ Some y → p y ≡ true
 found_passes p [] y h = absurd (cc)
 found_passes {A} p (x ∷ xs) y h = by_test (p x) refl (found_passes p xs y) h
@@ -151,11 +152,6 @@ first_fails {A} p x xs h = by_test (p x) refl h
     by_test : (b : Bool) → p x ≡ b → cond b (Some x) (find p xs) ≡ None → (p x ≡ false) × (find p xs ≡ None)
     by_test true e h = absurd (cc)
     by_test false e h = (e, h)
-
--- a form's words fail no test
-pub passes : (b : Bool) → not b ≡ false → b ≡ true
-passes true h = refl
-passes false h = absurd (cc)
 
 -- A line without a fault has a form, and its words say something after the lines before.
 pub has_meaning : (form : Form) (before : List Line) (words : List (List ℕ)) → fault_of form before words ≡ None → (s : Statement) × (meaning form before words ≡ Some s)
@@ -184,4 +180,4 @@ has_meaning form before words h =
         no_form true h = cc
         no_form false h = cc
     by_form (Some f) e h n k =
-        some_said (statement_of (number_at before) f (map (λ x. x.1) (open_places (places f) words))) (said before f words (found f e) (passes (list_all is_numeric (open_places (places f) words)) n) (passes (list_all (is_known (number_at before)) (open_places (places f) words)) k))
+        some_said (statement_of (number_at before) f (map (λ x. x.1) (open_places (places f) words))) (said before f words (found f e) (not_false (list_all is_numeric (open_places (places f) words)) n) (not_false (list_all (is_known (number_at before)) (open_places (places f) words)) k))

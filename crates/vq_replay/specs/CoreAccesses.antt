@@ -1,29 +1,16 @@
 -- What an access over a core means, and what its calls need of a true place. This project's own.
-use Rattle.std.specs.Prelude.{ℕ, ◌≡◌, false, List, [], ◌∷◌, ◌++◌, Some, None}
+use Rattle.std.specs.Prelude.{ℕ, ◌≡◌, List, [], ◌∷◌, ◌++◌, Some, None}
 use Rattle.std.specs.Borrow.{GName}
 use Rattle.vq_model.specs.declared.script.ActorName.{ActorName}
 use Rattle.vq_model.specs.declared.plan.Event.{Event}
 use Rattle.vq_points.specs.Points.{PointState}
 use Rattle.vq_turns.specs.declared.outcome.Want.{Want}
-use Rattle.vq_turns.specs.declared.outcome.Want.TheVariants.{Submitted, Released, Bound, Next, Signaled, Finished}
-use Rattle.vq_turns.specs.declared.outcome.Want.TheVariants.{MemoryTurn, Exchange, Listed}
 use Rattle.vq_turns.specs.Turns.{Place, collected}
+pub use Rattle.vq_turns.specs.Wants.{IsNotSo}
 use Rattle.vq_actor.specs.Meanings.{Meaning, Recent, Other, Collected, FoundAt}
 use Rattle.vq_core.specs.CoreState.{Course, world}
 use Rattle.vq_replay.specs.declared.core_access.Last.{Last}
 use Rattle.vq_replay.specs.declared.core_access.Last.TheVariants as last_as
-
--- the thing that a want names isn't so; over a core no other actor comes between
-abbrev pub IsNotSo : PointState → Want → Type 0
-IsNotSo w (Submitted j) = w.submitted j ≡ false
-IsNotSo w (Released j) = w.released j ≡ false
-IsNotSo w (Bound e) = w.bound e ≡ false
-IsNotSo w (Next e) = w.bound e ≡ false
-IsNotSo w (Signaled e) = w.machine.progress.made e ≡ false
-IsNotSo w (Finished j) = w.machine.progress.finished j ≡ false
-IsNotSo w MemoryTurn = ⊥
-IsNotSo w (Exchange e found) = ⊥
-IsNotSo w (Listed e) = ⊥
 
 -- Where the last call was a collection that found nothing, there is nothing to collect on its chain.
 abbrev pub IsEmptied : Course → Recent → Type 0

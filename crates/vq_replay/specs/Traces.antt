@@ -13,7 +13,8 @@ use Rattle.vq_model.specs.Plan.{Plan, line_of_job, line_of_command}
 use Rattle.vq_model.specs.Machine.{State}
 use Rattle.vq_model.specs.SlowRun.{bytes_after}
 use Rattle.vq_model.specs.OutputText.{answer_words, answers_of, buffers_text, line_feed}
-use Rattle.vq_model.specs.Canonical.{actor_word, semaphore_name, line_text}
+use Rattle.vq_model.specs.Canonical.{line_text}
+use Rattle.vq_model.specs.Naming.{semaphore_name, actor_word}
 use Rattle.vq_points.specs.Points.{opening_points}
 use Rattle.vq_core.specs.Tables.{jobs_left}
 use Rattle.vq_turns.specs.declared.outcome.Outcome.{Outcome}

@@ -2,7 +2,7 @@
 ghost use Rattle.std.specs.Prelude.{◌≡◌, ◌++◌, ◌∷◌, OnOk};
 ghost use Rattle.std.specs.List.{flat_map};
 ghost use Rattle.std.specs.Fmt.{decimal};
-ghost use Rattle.vq_model.specs.Canonical.{actor_word, semaphore_name, queue_name};
+ghost use Rattle.vq_model.specs.Naming.{actor_word, semaphore_name, queue_name};
 ghost use Rattle.vq_model.specs.OutputText.{answer_words};
 ghost use Rattle.vq_model.specs.Plan.{line_of_job, line_of_command};
 ghost use Rattle.vq_replay.specs.Traces.{op_words};

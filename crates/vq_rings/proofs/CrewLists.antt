@@ -10,12 +10,8 @@ use Rattle.vq_model.specs.declared.script.ActorName.TheVariants.{Host as HostAct
 use Rattle.vq_model.specs.declared.script.ActorName.TheVariants.{Ring as RingActor}
 use Rattle.vq_model.specs.declared.script.Script.{Script}
 use Rattle.vq_model.specs.ValidScripts.{IsActor, is_threaded_queue}
+use Rattle.vq_model.proofs.Numbers.{range_more}
 use Rattle.vq_rings.specs.Crews.{AreActors, actors, rings_below, submits_below}
-
-range_more : (n : ℕ) → range_with_len 0 (n + 1) ≡ range_with_len 0 n ++ n ∷ []
-range_more n = sym (map-id (range_with_len 0 (n + 1)))
-    ∙ (map-range_with_len_more (λ k. k) 0 n n (omega arith) ∙ ap (λ (xs : List ℕ). xs ++ n ∷ []) (map-id (range_with_len
-    0 n)))
 
 pub rings_more : (n : ℕ) → rings_below (n + 1) ≡ rings_below n ++ RingActor n ∷ []
 rings_more n = map-range_with_len_more RingActor 0 n n (omega arith)

@@ -1,7 +1,7 @@
 -- What other crates may cite of this one. All other files of proofs are private to it.
 pub use Rattle.vq_run_laws.proofs.HistoryRuns.{Follows, Leads, follows_opening, history_leads, signal_step}
 pub use Rattle.vq_run_laws.proofs.KeptSteps.{made_below}
-pub use Rattle.vq_run_laws.proofs.NextDone.{next_in}
+pub use Rattle.vq_run_laws.proofs.NextDone.{next_before, next_in}
 pub use Rattle.vq_run_laws.proofs.OneResult.{one_result}
 pub use Rattle.vq_run_laws.proofs.OutputRuns.{run_gives_output}
 pub use Rattle.vq_run_laws.proofs.Payloads.{above_initial, made_reached}

@@ -18,11 +18,6 @@ use Rattle.vq_run_laws.proofs.StateFacts.{Must}
 
 -- Lists
 
-pub same_tests : (a b : Bool) → (a ≡ true → b ≡ true) → (b ≡ true → a ≡ true) → a ≡ b
-same_tests true b f g = sym (f refl)
-same_tests false true f g = g refl
-same_tests false false f g = refl
-
 extends_append : (R : ℕ → ℕ → Type 0) (xs ys : List ℕ) → Extends R xs → Extends R ys → ((x y : ℕ) → has xs x ≡ true → has ys y ≡ true → ¬ R y x) → Extends R (xs ++ ys)
 extends_append R [] ys ex ey f = ey
 extends_append R (x ∷ xs) ys ex ey f =

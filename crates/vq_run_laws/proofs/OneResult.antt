@@ -15,10 +15,11 @@ use Rattle.vq_model.specs.WellFormed.{IsWellFormed}
 use Rattle.vq_model.specs.Machine.{Progress, Step, state_after, progress_after, ProgressRun, AreFinished}
 use Rattle.vq_model.specs.Races.{conflicts, HasSureOrder}
 use Rattle.vq_model.proofs.Lists.{HaveSame}
+use Rattle.vq_model.proofs.Bools.{same_tests}
 use Rattle.vq_memory_laws.proofs.Cited.{effect_sizes, effects_commute}
 use Rattle.vq_run_laws.proofs.StateFacts.{Must, Invariant}
 use Rattle.vq_run_laws.proofs.KeptRuns.{run_keeps, progress_keeps}
-use Rattle.vq_run_laws.proofs.CommandsInOrder.{same_tests, has-flat_map, flat_map-has, slow_extends, in_range, jobs_extend, jobs_distinct}
+use Rattle.vq_run_laws.proofs.CommandsInOrder.{has-flat_map, flat_map-has, slow_extends, in_range, jobs_extend, jobs_distinct}
 use Rattle.vq_order_laws.proofs.Cited.{slow_distinct, slow_has}
 
 -- Commands as actions

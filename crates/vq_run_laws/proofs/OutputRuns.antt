@@ -13,9 +13,10 @@ use Rattle.std.specs.List.{filter_map, cons_option, range_with_len}
 use Rattle.std.proofs.lemmas.List.Elements.{filter_map-append}
 use Rattle.vq_model.specs.declared.plan.Answer.{Answer}
 use Rattle.vq_model.specs.OutputText.{answer_at, answer_text, answers_of, buffers_text}
-use Rattle.vq_run_laws.proofs.PairLists.{range_push, told_before}
+use Rattle.vq_run_laws.proofs.PairLists.{told_before}
 use Rattle.vq_model.specs.Races.{HasSureOrder}
 use Rattle.vq_model.specs.SlowRun.{bytes_after}
+use Rattle.vq_model.proofs.Numbers.{range_push}
 use Rattle.vq_run_laws.proofs.OneResult.{one_result}
 
 -- Runs

@@ -37,10 +37,6 @@ not_any_in test [] n h i = elim i [ ]
 not_any_in test (m ∷ ns) _ h here = (or_parts (test m) (list_any test ns) (not-true (test m || list_any test ns) h)).0
 not_any_in test (m ∷ ns) n h (there i) = not_any_in test ns n (ap not (or_parts (test m) (list_any test ns) (not-true (test m || list_any test ns) h)).1) i
 
-pub range_push : (a n : ℕ) → range_with_len a (suc n) ≡ range_with_len a n ++ (a + n) ∷ []
-range_push a zero = ap (λ k. k ∷ []) (omega arith)
-range_push a (suc n) = ap (λ ks. a ∷ ks) (range_push (a + 1) n ∙ ap (λ k. range_with_len (a + 1) n ++ k ∷ []) (omega arith))
-
 -- the answers of the first jobs
 abbrev pub told_before : (ℕ → Option Answered) → ℕ → List Answered
 told_before told h = filter_map told (range_with_len 0 h)

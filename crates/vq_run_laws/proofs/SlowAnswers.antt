@@ -19,6 +19,7 @@ use Rattle.vq_model.specs.Races.{HasSureOrder}
 use Rattle.vq_model.specs.Sure.{KeepsChains}
 use Rattle.vq_model.proofs.Lists.{has_cases, has_here, has-append_left, has-append_right, pushed}
 use Rattle.vq_model.proofs.Puts.{put_here, put_there, put_cases, put_keeps}
+use Rattle.vq_run_laws.proofs.Unreached.{greatest_from}
 use Rattle.vq_order_laws.proofs.Cited.{ReadyEach, slow_adds, slow_has}
 use Rattle.vq_run_laws.specs.SlowAnswers.{AnswersSlowly, AreSlowAnswers, slow_answer}
 use Rattle.vq_run_laws.proofs.StateFacts.{Invariant}
@@ -30,22 +31,11 @@ use Rattle.vq_run_laws.proofs.OutputRuns.{run_gives_output}
 
 -- Payloads
 
--- a number among others is at most the greatest
-first_below : (n : ℕ) (xs : List ℕ) → n ≤ greatest n xs
-first_below n [] = omega arith
-first_below n (x ∷ xs) =
-    let r = first_below (max n x) xs in
-    let m : n ≤ max n x = below_max n x in
-    omega arith
-  where
-    below_max : (a b : ℕ) → a ≤ max a b
-    below_max a b = search arith
-
 among_below : (n x : ℕ) (xs : List ℕ) → has xs x ≡ true → x ≤ greatest n xs
 among_below n x [] h = absurd (false≢true h)
 among_below n x (y ∷ ys) h = elim (has_cases y ys x h) [
   | inl e ↦
-      (let r = first_below (max n y) ys in
+      (let r = greatest_from (max n y) ys in
       let m : y ≤ max n y = max_right n y in
       omega arith)
   | inr m ↦ among_below (max n y) x ys m
@@ -91,7 +81,7 @@ module _ (p : Plan) (w : IsWellFormed p) (ch : KeepsChains p) where
     where
       at_most : s.payload t ≤ payload_after p done t
       at_most = elim (k.facts.raised t) [
-        | inl e ↦ (let l = first_below (initial p t) (map (value p) (filter (is_of p done) (chain p t))) in omega arith)
+        | inl e ↦ (let l = greatest_from (initial p t) (map (value p) (filter (is_of p done) (chain p t))) in omega arith)
         | inr o ↦
             (let j = k.facts.made_job o.op o.was_made in
             let of : is_of p done o.op ≡ true = ap (λ (x : Option ℕ). option_map_or (has done) x false) j.is ∙ k.started_done j.job j.has_started in

@@ -20,7 +20,7 @@ use Rattle.vq_run_laws.proofs.NextDone.{next_in}
 use Rattle.vq_run_laws.proofs.ProgressRuns.{run_progresses}
 
 -- The greatest of some numbers is none below any of them.
-greatest_from : (n : ℕ) (xs : List ℕ) → n ≤ greatest n xs
+pub greatest_from : (n : ℕ) (xs : List ℕ) → n ≤ greatest n xs
 greatest_from n [] = omega arith
 greatest_from n (x ∷ xs) = let r = greatest_from (max n x) xs in omega arith
 

@@ -16,6 +16,7 @@ use Rattle.vq_model.specs.Context.{section, version_of}
 use Rattle.vq_model.specs.Forms.{Slot, Fixed, Pairs, TimelineName, Numeral, places, forms_outside, forms_in_batch, forms_in_schedule, held_forms, schedule_forms}
 use Rattle.vq_model.specs.LineFaults.{part_of_form}
 use Rattle.vq_model.specs.Meaning.{is_built, matches, where_built, form_of, are_as_many, agree, open_places, pair_places}
+use Rattle.vq_model.proofs.Bools.{not_true}
 use Rattle.vq_reading_laws.proofs.Cited.{found_belongs, found_passes}
 use Rattle.vq_script.specs.Holds.{Holds, Kept, section_of}
 use Rattle.vq_script.specs.SaidLines.{AreFound, Stands, end_with_pairs, is_turn_form, open_kinds}
@@ -77,10 +78,6 @@ form_is form lines words k None h = by_flag k.scheduled h.part
     by_flag false e = form_outside_is form lines words e
     by_flag true e = rw e refl
 form_is form lines words k (Some b) h = form_in_batch_is form lines words h.part h.declares.version
-
-not_true : (b : Bool) → not b ≡ true → b ≡ false
-not_true true h = absurd (cc)
-not_true false h = refl
 
 -- no line outside a batch is part of one, or takes turns
 none_inside : (form : Form) →

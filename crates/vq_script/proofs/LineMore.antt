@@ -9,6 +9,7 @@ use Rattle.std.proofs.lemmas.Bool.Decides.{nat_tests}
 use Rattle.vq_model.specs.declared.statement.Line.{Line}
 use Rattle.vq_model.specs.declared.statement.Statement.{Statement}
 use Rattle.vq_model.specs.Context.{count, some, version_of}
+use Rattle.vq_model.proofs.Bools.{or_false}
 
 abbrev pub numbered : ℕ → Statement → Line
 numbered n s = record { number = n; statement = s }
@@ -47,10 +48,6 @@ pub count_more : (test : Statement → Bool) (lines : List Line) (l : Line) →
     count test (lines ++ l ∷ []) ≡ count test lines + cond (test l.statement) 1 0
 count_more test lines l =
     fold-append (λ a (x : Line). a + cond (test x.statement) 1 0) 0 lines (l ∷ [])
-
-pub or_false : (b : Bool) → (b || false) ≡ b
-or_false true = refl
-or_false false = refl
 
 -- whether some line passes, with one line more
 pub some_more : (test : Statement → Bool) (lines : List Line) (l : Line) →

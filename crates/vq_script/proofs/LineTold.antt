@@ -31,6 +31,7 @@ use Rattle.vq_script.specs.SaidLines.{AreFound, Stands, Suits, MayKeep, MayComma
 use Rattle.vq_model.specs.Earlier.{Earlier, earlier}
 use Rattle.vq_model.specs.Context.{number_at, number_in as number_among, is_taken}
 use Rattle.std.specs.Prelude.{sum}
+use Rattle.vq_model.proofs.Bools.{not_true, not_false}
 
 -- Order
 
@@ -151,14 +152,6 @@ cond_none : {A : Type 0} (b : Bool) (x : A) (more : Option A) → cond b (Some x
     (b ≡ false) × (more ≡ None)
 cond_none true x more h = absurd (cc)
 cond_none false x more h = (refl, h)
-
-not_false : (b : Bool) → not b ≡ false → b ≡ true
-not_false true h = refl
-not_false false h = absurd (cc)
-
-not_true : (b : Bool) → not b ≡ true → b ≡ false
-not_true true h = absurd (cc)
-not_true false h = refl
 
 -- the first word of a declaration is a name that passes what all words pass
 new_passes : (test : Slot × List ℕ → Bool) (words : List (Slot × List ℕ)) (rest : List Slot)
@@ -308,21 +301,6 @@ module _ (k : Kept) (form : LineForm) (words : List (Slot × List ℕ)) (found :
   may_keep (Some b) End st su r p l = tt
   may_keep (Some b) other st su r p l =
       absurd (let c : nat_lt 0 (part_in other) ≡ true = ap (nat_lt 0) su.part ∙ st.inside in cc)
-
--- the forms that are built are declarations, commands, lines of the schedule, steps of the host and
--- the other lines of batches
-pub batch_line_left : (form : LineForm) →
-    is_built form ≡ true → is_declaration form ≡ false →
-    (part_of_form form == 2) ≡ false → is_schedule_line form ≡ false → is_host_line form ≡ false →
-    is_batch_line form ≡ true
-batch_line_left SubmitLine b d p c h = refl
-batch_line_left WaitTimelineLine b d p c h = refl
-batch_line_left WaitBinaryLine b d p c h = refl
-batch_line_left SignalTimelineLine b d p c h = refl
-batch_line_left SignalBinaryLine b d p c h = refl
-batch_line_left BatchFenceLine b d p c h = refl
-batch_line_left EndLine b d p c h = refl
-batch_line_left other b d p c h = absurd (cc)
 
 -- Whether a line's words are read
 

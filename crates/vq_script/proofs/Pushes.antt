@@ -31,8 +31,9 @@ use Rattle.vq_model.specs.Reading.{with_line}
 use Rattle.vq_model.specs.ScriptOfLines.{batch_lines, jobs_of, job_at, is_schedule, turns_at, mark, command_of, wait_of, signal_of, fence_of, first_of_list}
 use Rattle.vq_model.specs.declared.statement.Section.{Section}
 use Rattle.vq_model.specs.declared.statement.Section.TheVariants.{Outside, InBatch}
+use Rattle.vq_model.proofs.Bools.{or_false}
 use Rattle.vq_script.specs.Holds.{Holds, Declares, FillBatch, Kept, last_part, with_buffer, with_semaphore, with_queue, with_command, with_batch, with_step, with_schedule, with_turns, section_of}
-use Rattle.vq_script.proofs.LineMore.{numbered, or_false, after_last_cut, after_last_more, before_first_more, count_more, some_more, version_more, given_none, given_one, later_part}
+use Rattle.vq_script.proofs.LineMore.{numbered, after_last_cut, after_last_more, before_first_more, count_more, some_more, version_more, given_none, given_one, later_part}
 use Rattle.vq_script.specs.declared.said.Said.{Said}
 use Rattle.vq_script.specs.declared.said.Said.TheVariants.{Buffer as SaysBuffer, Semaphore as SaysSemaphore, Queue as SaysQueue, Submit, Wait, FillWhole, Fill, Update, Copy, Signal, Fence, End, Host, Schedule, Turns}
 use Rattle.vq_script.specs.SaidLines.{MayKeep, statement_in, after, waiting, commanding, signaling, fenced, started}

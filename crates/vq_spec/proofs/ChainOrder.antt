@@ -21,25 +21,6 @@ use Rattle.vq_spec.proofs.SortedPairs.{once, count, count-cons, AreWeak, sorted_
 
 -- Values and chains of the plan
 
--- an operation of the plan
-pub op_is : (s : Script) (e : ℕ) →
-    slice_get (plan_of s).ops e ≡ option_map (λ x. op_at s (e, x)) (slice_get (all_signals s) e)
-op_is s e =
-    get-map (op_at s) (enumerate_from 0 (all_signals s)) e
-    ∙ (ap (option_map (op_at s)) (get-enumerate 0 (all_signals s) e)
-    ∙ by_op (slice_get (all_signals s) e))
-  where
-    by_op : (o : Option Signaling) →
-        option_map (op_at s) (option_map (λ x. (0 + e, x)) o) ≡ option_map (λ x. op_at s (e, x)) o
-    by_op None = refl
-    by_op (Some x) = let f = λ (n : ℕ). Some (op_at s (n, x)) in ap f (zero-add e)
-
-no_value : (s : Script) (earlier xs : List Signaling) (e : ℕ) → slice_get xs e ≡ None →
-    slice_get (values_from s earlier xs) e ≡ None
-no_value s earlier [] e h = refl
-no_value s earlier (x ∷ xs) zero h = absurd (let c : Some x ≡ None = h in cc)
-no_value s earlier (x ∷ xs) (suc e) h = no_value s (earlier ++ x ∷ []) xs e h
-
 pub chain_is : (s : Script) (t : ℕ) → t < length s.semaphores →
     slice_get (plan_of s).chains t ≡ Some (chain_ops s t)
 chain_is s t l =

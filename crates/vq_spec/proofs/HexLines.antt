@@ -5,6 +5,7 @@ use Rattle.std.specs.List.{flat_map, range_with_len, slice_range}
 use Rattle.std.proofs.lemmas.List.{take_min, length-drop, append-nil, take_at, drop_more, length-append}
 use Rattle.std.proofs.lemmas.Grind.{flat_map-append}
 use Rattle.vq_model.specs.OutputText.{hex_line, hex_byte, line_feed}
+use Rattle.vq_model.proofs.Numbers.{range_push}
 
 -- Adding to a list
 
@@ -32,11 +33,6 @@ length-digits (b ∷ bytes) = omega
     (arith, length-digits bytes, length-append (hex_byte b) (flat_map hex_byte bytes))
 
 -- Lines
-
-pub range_push : (a n : ℕ) → range_with_len a (suc n) ≡ range_with_len a n ++ (a + n) ∷ []
-range_push a zero = ap (λ k. k ∷ []) (omega arith)
-range_push a (suc n) = ap (λ ks. a ∷ ks)
-    (range_push (a + 1) n ∙ ap (λ k. range_with_len (a + 1) n ++ k ∷ []) (omega arith))
 
 -- what a function gives for one number more
 pub flat_map-range_push : {X : Type 0} (f : ℕ → List X) (n : ℕ) →

@@ -13,12 +13,12 @@ use Rattle.vq_model.specs.Plan.{has, value, chain, resolver}
 use Rattle.vq_model.specs.SameScript.{IsRead}
 use Rattle.vq_model.specs.Signals.{Signaling, all_signals, chain_ops, op_at, value_at}
 use Rattle.vq_model.proofs.Gets.{get-map, get-enumerate, get_some, get_within}
-use Rattle.vq_plan_laws.proofs.Cited.{well_formed, op_value_is}
+use Rattle.vq_plan_laws.proofs.Cited.{well_formed, op_value_is, op_is}
 use Rattle.vq_reading_laws.proofs.Cited.{read_valid}
 use Rattle.vq_spec.specs.declared.chains.Chain.{Chain}
 use Rattle.vq_spec.specs.ChainParts.{member, members, placed, place_in, valued, Sorts, AreSorted, IsSearchable, AreChains, first_with}
 use Rattle.vq_spec.specs.Counts.{unplaced}
-use Rattle.vq_spec.proofs.ChainOrder.{op_is, chain_there, strict_chain, chain_pairs, first_is, place_is}
+use Rattle.vq_spec.proofs.ChainOrder.{chain_there, strict_chain, chain_pairs, first_is, place_is}
 use Rattle.vq_spec.proofs.Ranges.{take_push, enumerate-append}
 use Rattle.vq_spec.proofs.SortedPairs.{map_numbers}
 

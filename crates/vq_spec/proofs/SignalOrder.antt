@@ -23,6 +23,7 @@ use Rattle.vq_model.specs.SameScript.{IsRead}
 use Rattle.vq_model.specs.Signals.{Signaling, of_mark, step_signals, job_signals, all_signals, signals_semaphore, signal_value, values_from, value_at}
 use Rattle.vq_model.specs.ValidScripts.{IsValidBatch}
 use Rattle.vq_model.proofs.Gets.{get-map, get_within, get-append, get-append_left}
+use Rattle.vq_plan_laws.proofs.Cited.{value_is}
 use Rattle.vq_reading_laws.proofs.Cited.{read_valid, read_batches}
 use Rattle.vq_spec.specs.declared.signals.Signals.{Signals}
 use Rattle.vq_spec.specs.Counts.{signals_before, unplaced, first_ops, counts_of, AreSignals, value_by}
@@ -305,11 +306,6 @@ value_from s earlier (y ∷ xs) zero x h =
 value_from s earlier (y ∷ xs) (suc e) x h =
     value_from s (earlier ++ y ∷ []) xs e x h
     ∙ ap (λ ys. Some (signal_value s ys x)) (append_assoc earlier (y ∷ []) (take e xs))
-
--- the value of an operation, by the signals before it
-pub value_is : (s : Script) (e : ℕ) (x : Signaling) → slice_get (all_signals s) e ≡ Some x →
-    value_at s e ≡ signal_value s (take e (all_signals s)) x
-value_is s e x h = ap (λ o. option_map_or (λ v. v) o 0) (value_from s [] (all_signals s) e x h)
 
 -- One signal more
 

@@ -5,9 +5,9 @@ use Rattle.std.proofs.lemmas.List.Elements.{filter-append}
 use Rattle.vq_model.specs.Plan.{Plan, has}
 use Rattle.vq_model.specs.SlowRun.{left_over, slow_order}
 use Rattle.vq_model.proofs.Lists.{has_here, has_there}
-use Rattle.vq_model.proofs.Numbers.{has-range_cases}
+use Rattle.vq_model.proofs.Numbers.{has-range_cases, range_push}
+use Rattle.vq_model.proofs.Filters.{same_filter}
 use Rattle.vq_spec.specs.SlowProgress.{is_marked, AreMarks}
-use Rattle.vq_spec.proofs.HexLines.{range_push}
 
 -- one job more
 pub left_push : (marks : List Bool) (j : ℕ) (old new : List ℕ) → old ≡ filter (λ i. not (is_marked marks i)) (range_with_len 0 j) →
@@ -21,11 +21,6 @@ left_push marks j old new a b =
     by_mark : (m : Bool) → (if m then [] else j ∷ []) ≡ (if not m then j ∷ [] else [])
     by_mark true = refl
     by_mark false = refl
-
-same_filter : (f g : ℕ → Bool) (xs : List ℕ) → ((x : ℕ) → has xs x ≡ true → f x ≡ g x) → filter f xs ≡ filter g xs
-same_filter f g [] e = refl
-same_filter f g (x ∷ xs) e =
-    (λ i. if e x (has_here x xs) i then x ∷ same_filter f g xs (λ y h. e y (has_there x xs y h)) i else same_filter f g xs (λ y h. e y (has_there x xs y h)) i)
 
 -- all jobs without a mark
 pub left_is : (p : Plan) (order : List ℕ) (marks : List Bool) → order ≡ slow_order p → AreMarks p order marks →

@@ -22,6 +22,7 @@ use Rattle.vq_model.proofs.Lists.{has-append_cases, has_cases}
 use Rattle.vq_model.proofs.Numbers.{has-range_cases}
 use Rattle.vq_plan_laws.proofs.Cited.{plan_well_formed}
 use Rattle.vq_model.proofs.Searches.{find_member}
+use Rattle.vq_model.proofs.Sizes.{sizes-zeros_of}
 use Rattle.vq_reading_laws.proofs.Cited.{read_valid}
 use Rattle.vq_transfer.proofs.Cited.{has_own_sizes}
 use Rattle.vq_spec.proofs.SlowHeads.{has_at}
@@ -31,16 +32,8 @@ use Rattle.vq_spec.proofs.SlowHeads.{has_at}
 pub few_buffers : (s : Script) → IsRead s → length s.buffers ≤ 64
 few_buffers s i = (read_valid s i).limits.buffers
 
-pub sizes-zeros_of : (sizes : List ℕ) → map length (zeros_of sizes) ≡ sizes
-sizes-zeros_of [] = refl
-sizes-zeros_of (n ∷ sizes) = λ i. length-map-range_with_len {X = ℕ} (λ k. 0) 0 n i ∷ sizes-zeros_of
-    sizes i
-
 pub sizes_of_plan : (p : Plan) → IsPlan p → p.sizes ≡ sizes_of p.script
 sizes_of_plan p h = ap (λ q. q.sizes) h.lowered
-
-pub has_sizes : (sizes : List ℕ) (m : Memory) → map length m ≡ sizes → HasSizes sizes m
-has_sizes sizes m e = subst (λ (ns : List ℕ). HasSizes ns m) e (has_own_sizes m)
 
 -- Commands of a job
 

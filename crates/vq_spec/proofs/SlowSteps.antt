@@ -18,11 +18,7 @@ use Rattle.vq_model.proofs.Searches.{find_member}
 use Rattle.vq_spec.specs.SlowProgress.{IsClosed, IsHead, AreHeads, AreMarks, ArePayloads, IsPayloadOf, with_some, PayloadsWith, IsProgress}
 use Rattle.vq_spec.proofs.SlowHeads.{ready_first, lane_done, payload_is, one_payload}
 use Rattle.vq_model.proofs.Gets.{slice_get_past}
-
-same_tests : (a b : Bool) → (a ≡ true → b ≡ true) → (b ≡ true → a ≡ true) → a ≡ b
-same_tests true b f g = sym (f refl)
-same_tests false true f g = g refl
-same_tests false false f g = refl
+use Rattle.vq_model.proofs.Bools.{same_tests}
 
 last : (done : List ℕ) (j q : ℕ) → has (done ++ j ∷ []) q ≡ true → (has done q ≡ true) ⊎ (j ≡ q)
 last done j q h = elim (has-append_cases done (j ∷ []) q h) [ inl m ↦ inl m | inr m ↦ elim (has_cases j [] q m) [ inl e ↦ inr e | inr t ↦ absurd (false≢true t) ] ]

@@ -4,8 +4,6 @@ ghost use Rattle.std.specs.Fmt.{decimal};
 ghost use Rattle.vq_model.specs.OutputText.{answer_line, answer_text, answer_words};
 
 use std::alloc::{AllocError, Global};
-#[cfg(test)]
-use std::test::Fail;
 use vq_model::plan::{Answer, AnswerLine};
 
 /// Adds the payload that was read.
@@ -51,38 +49,4 @@ pub fn answer_text(alloc: Global, lines: &[AnswerLine]) -> Result<Vec<u8>, Alloc
         push_line(alloc, &mut out, *line)?;
     }
     Ok(out)
-}
-
-/// The text of four answers, one of each kind.
-#[cfg(test)]
-fn four_answers(alloc: Global) -> Result<Vec<u8>, AllocError> {
-    let lines = [
-        AnswerLine {
-            line: 8,
-            answer: Answer::Reached,
-        },
-        AnswerLine {
-            line: 9,
-            answer: Answer::Value(0),
-        },
-        AnswerLine {
-            line: 4,
-            answer: Answer::NotReady,
-        },
-        AnswerLine {
-            line: 5,
-            answer: Answer::Timeout,
-        },
-    ];
-    answer_text(alloc, &lines)
-}
-
-#[test]
-fn answers_stand_line_by_line(rt: HostRuntime) -> Result<(), Fail> {
-    let text = four_answers(rt.alloc())?;
-    assert_eq!(rt;
-        text.as_slice(),
-        b"8 ok\n9 value 0\n4 not-ready\n5 timeout\n".as_slice()
-    );
-    Ok(())
 }

@@ -20,7 +20,6 @@ use vq_model::plan::{Lane, Need, Op, PlanJob, Question};
 use vq_model::script::{Batch, HostLine, Job, Mark, Script};
 
 /// What a plan keeps beside its script.
-#[derive(Drop)]
 pub(crate) struct Tables {
     pub(crate) jobs: Vec<PlanJob>,
     /// What each job waits for.
@@ -30,6 +29,18 @@ pub(crate) struct Tables {
     pub(crate) ops: Vec<Op>,
     /// The operations of each semaphore and each fence.
     pub(crate) chains: Vec<Chain>,
+}
+
+impl Drop for Tables {
+    fn drop(self) {
+        let Tables {
+            jobs: _jobs,
+            waits: _waits,
+            places: _places,
+            ops: _ops,
+            chains: _chains,
+        } = self;
+    }
 }
 
 /// The parts of a plan so far, job by job.

@@ -14,13 +14,21 @@ use std::alloc::Global;
 use std::marker::Model;
 use vq_model::list::List;
 use vq_model::plan::{Lane, Op, PlanFault, PlanJob};
-use vq_model::script::{CommandLine, Job, Mode, Script};
+use vq_model::script::{CommandLine, Job, Script};
 
 /// A script's jobs in lanes, with what each waits for, its commands and its signals.
-#[derive(Drop)]
 pub struct Plan {
     script: Script,
     tables: Tables,
+}
+
+impl Drop for Plan {
+    fn drop(self) {
+        let Plan {
+            script: _script,
+            tables: _tables,
+        } = self;
+    }
 }
 
 impl Model for Plan {
@@ -90,10 +98,7 @@ impl Plan {
     {
         match self.job(j).lane {
             Lane::Host => false,
-            Lane::Queue(queue) => match self.script().queues.as_slice().get(queue as usize) {
-                Some(queue) => matches!(queue.mode, Mode::Immediate),
-                None => false,
-            },
+            Lane::Queue(queue) => self.script().is_immediate(queue),
         }
     }
 

@@ -3,6 +3,8 @@
 #![tactic(auto)]
 
 #[cfg(test)]
+mod answer_tests;
+#[cfg(test)]
 mod generator_tests;
 #[cfg(test)]
 mod host_tests;
@@ -22,3 +24,5 @@ mod script_tests;
 mod timeline_tests;
 #[cfg(test)]
 mod transfer_tests;
+#[cfg(test)]
+mod words_tests;

@@ -39,14 +39,19 @@ fn ordered(alloc: Global) -> Option<Ordered> {
     checked(alloc, SCRIPT)?.ok()
 }
 
-/// Whether one job happens before another.
-fn before(alloc: Global, first: u32, second: u32) -> Option<bool> {
-    let ordered = ordered(alloc)?;
+/// Whether one job of a plan happens before another.
+fn is_before(ordered: &Ordered, first: u32, second: u32) -> Option<bool> {
     let jobs = ordered.plan().jobs();
     if first >= jobs || second >= jobs {
         return None;
     }
     Some(ordered.before(first, second))
+}
+
+/// Whether one job happens before another.
+fn before(alloc: Global, first: u32, second: u32) -> Option<bool> {
+    let ordered = ordered(alloc)?;
+    is_before(&ordered, first, second)
 }
 
 #[test]
@@ -66,13 +71,18 @@ fn jobs_are_in_order(rt: HostRuntime) {
     }
 }
 
-/// Whether an operation is sure for a job.
-fn is_sure(alloc: Global, op: u32, job: u32) -> Option<bool> {
-    let ordered = ordered(alloc)?;
+/// Whether an operation of a plan is sure for a job.
+fn is_sure_in(ordered: &Ordered, op: u32, job: u32) -> Option<bool> {
     if op >= ordered.plan().ops() || job >= ordered.plan().jobs() {
         return None;
     }
     Some(ordered.is_sure(op, job))
+}
+
+/// Whether an operation is sure for a job.
+fn is_sure(alloc: Global, op: u32, job: u32) -> Option<bool> {
+    let ordered = ordered(alloc)?;
+    is_sure_in(&ordered, op, job)
 }
 
 #[test]
@@ -89,15 +99,20 @@ fn signals_are_sure(rt: HostRuntime) {
     }
 }
 
-/// Whether a chain has at least and at most so much when a job starts and while it runs.
-fn is_between(alloc: Global, job: u32, chain: u32, floor: u64, ceiling: u64) -> bool {
-    let Some(ordered) = ordered(alloc) else {
-        return false;
-    };
+/// Whether a chain of a plan has at least and at most so much when a job starts and while it runs.
+fn has_bounds(ordered: &Ordered, job: u32, chain: u32, floor: u64, ceiling: u64) -> bool {
     if job >= ordered.plan().jobs() || chain >= ordered.plan().chains() {
         return false;
     }
     ordered.floor(job, chain) == floor && ordered.ceiling(job, chain) == ceiling
+}
+
+/// Whether a chain has at least and at most so much when a job starts and while it runs.
+fn is_between(alloc: Global, job: u32, chain: u32, floor: u64, ceiling: u64) -> bool {
+    match ordered(alloc) {
+        Some(ordered) => has_bounds(&ordered, job, chain, floor, ceiling),
+        None => false,
+    }
 }
 
 #[test]

@@ -101,11 +101,16 @@ fn the_slow_order_does_the_lowest_ready_job(rt: HostRuntime) {
     assert!(rt; runs(rt.alloc(), &[1, 0, 2], &[9, 1]));
 }
 
+/// The text of the buffers after the slow run of a plan.
+fn text_of(alloc: Global, plan: &Plan) -> Option<Vec<u8>> {
+    let run = slow_run(alloc, plan).ok()?;
+    buffers_text(alloc, plan, &run.buffers).ok()
+}
+
 /// The text of the buffers after the slow run.
 fn text(alloc: Global) -> Option<Vec<u8>> {
     let plan = plan(alloc)?;
-    let run = slow_run(alloc, &plan).ok()?;
-    buffers_text(alloc, &plan, &run.buffers).ok()
+    text_of(alloc, &plan)
 }
 
 #[test]

@@ -5,20 +5,10 @@ use Rattle.std.proofs.lemmas.Bool.{eqb-true, eq-eqb}
 use Rattle.vq_model.specs.declared.script.ActorName.{ActorName}
 use Rattle.vq_model.specs.declared.script.ActorName.TheVariants.{Host as HostActor, Submit as SubmitActor, Ring as RingActor}
 use Rattle.vq_model.specs.declared.script.Turn.{Turn}
-use Rattle.vq_model.specs.Canonical.{same_actor, joined_turns, with_turn, Turns, line_text, turns_words}
+use Rattle.vq_model.specs.Canonical.{joined_turns, with_turn, Turns, line_text, turns_words}
 use Rattle.vq_model.specs.declared.script.Script.{Script}
-
--- actors that are the same are equal
-same_is : (a b : ActorName) → same_actor a b ≡ true → a ≡ b
-same_is HostActor HostActor h = refl
-same_is (SubmitActor q) (SubmitActor r) h = ap (λ (n : ℕ). SubmitActor n) (eqb-true q r h)
-same_is (RingActor q) (RingActor r) h = ap (λ (n : ℕ). RingActor n) (eqb-true q r h)
-same_is a b h = absurd (cc)
-
-pub own_actor : (a : ActorName) → same_actor a a ≡ true
-own_actor HostActor = refl
-own_actor (SubmitActor q) = eq-eqb q q refl
-own_actor (RingActor q) = eq-eqb q q refl
+use Rattle.vq_model.specs.Naming.{same_actor}
+use Rattle.vq_model.proofs.Actors.{same_actor_is, same_actor_self}
 
 -- whether a turn is of an actor
 abbrev pub is_of : ActorName → Turn → Bool
@@ -39,14 +29,14 @@ first_joined t (u ∷ us) = by_test (same_actor t.actor u.actor) refl (first_joi
         FirstJoined t (u ∷ us)
     by_test true e h =
         let k = prefix_len (is_of u.actor) us in
-        let same : t.actor ≡ u.actor = same_is t.actor u.actor e in
+        let same : t.actor ≡ u.actor = same_actor_is t.actor u.actor e in
         let joined : joined_turns (t ∷ u ∷ us)
         ≡ (u.actor, 1 + k + 1) ∷ joined_turns (drop k us) =
         ap (with_turn t.actor) h
         ∙ ap (λ (b : Bool). cond b ((u.actor, 1 + k + 1) ∷ joined_turns (drop k us))
         ((t.actor, 1) ∷ (u.actor, 1 + k) ∷ joined_turns (drop k us))) e in
         let one : prefix_len (is_of u.actor) (u ∷ us) ≡ 1 + k =
-        ap (λ (b : Bool). cond b (1 + k) 0) (own_actor u.actor) in
+        ap (λ (b : Bool). cond b (1 + k) 0) (same_actor_self u.actor) in
         let more : prefix_len (is_of u.actor) (u ∷ us) ≡ suc k = omega arith in
         let whole : 1 + k + 1 ≡ 1 + suc k = omega arith in
         subst (λ (a : ActorName). joined_turns (t ∷ u ∷ us)
@@ -73,7 +63,7 @@ whole_joined : (t : Turn) (ts : List Turn) →
 whole_joined t ts =
     let k = prefix_len (is_of t.actor) ts in
     let one : prefix_len (is_of t.actor) (t ∷ ts) ≡ 1 + k =
-    ap (λ (b : Bool). cond b (1 + k) 0) (own_actor t.actor) in
+    ap (λ (b : Bool). cond b (1 + k) 0) (same_actor_self t.actor) in
     let more : prefix_len (is_of t.actor) (t ∷ ts) ≡ suc k = omega arith in
     first_joined t ts ∙ (λ i. (t.actor, sym one i) ∷ joined_turns (drop (sym more i) (t ∷ ts)))
 

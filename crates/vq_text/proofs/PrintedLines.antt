@@ -17,7 +17,8 @@ use Rattle.vq_model.specs.declared.script.CommandLine.{CommandLine}
 use Rattle.vq_model.specs.declared.script.Job.{Job}
 use Rattle.vq_model.specs.declared.script.Job.TheVariants.{Host, Batch as BatchJob}
 use Rattle.vq_model.specs.Built.{HasWholeWaits, IsOfFirstVersion}
-use Rattle.vq_model.specs.Canonical.{hex_digits, fill_word, queue_name, buffer_words, queue_words, semaphore_words, mark_words, from_words, wait_words, command_words, signal_words, fence_lines, job_words, version_words, schedule_words, turns_words, joined_turns, line_text, canonical_text}
+use Rattle.vq_model.specs.Canonical.{hex_digits, fill_word, buffer_words, queue_words, semaphore_words, mark_words, from_words, wait_words, command_words, signal_words, fence_lines, job_words, version_words, schedule_words, turns_words, joined_turns, line_text, canonical_text}
+use Rattle.vq_model.specs.Naming.{queue_name}
 
 -- what follows from what a call gives
 pub on_ok : {E P Q : Type 0} (r : Result (Unit {0}) E) → OnOk r P → (P → Q) → OnOk r Q

@@ -5,7 +5,8 @@ use Rattle.std.specs.List.{flat_map, join_with_byte}
 use Rattle.std.specs.Fmt.{decimal}
 use Rattle.vq_model.specs.declared.script.Script.{Script}
 use Rattle.vq_model.specs.declared.script.Pair.{Pair}
-use Rattle.vq_model.specs.Canonical.{semaphore_name, pair_words, line_text}
+use Rattle.vq_model.specs.Canonical.{pair_words, line_text}
+use Rattle.vq_model.specs.Naming.{semaphore_name}
 
 module _ (s : Script) where
   -- a pair's name and value, each after a space

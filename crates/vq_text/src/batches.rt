@@ -2,7 +2,8 @@
 ghost use Rattle.std.specs.Prelude.{◌≡◌, ◌++◌, ◌∷◌, [], OnOk, All};
 ghost use Rattle.std.specs.List.{flat_map};
 ghost use Rattle.vq_model.specs.Built.{HasWholeWaits};
-ghost use Rattle.vq_model.specs.Canonical.{semaphore_name, semaphore_kind, queue_name, mark_words, wait_words};
+ghost use Rattle.vq_model.specs.Canonical.{mark_words, wait_words};
+ghost use Rattle.vq_model.specs.Naming.{semaphore_name, semaphore_kind, queue_name};
 ghost use Rattle.vq_model.specs.Canonical.{signal_words, fence_lines, job_words, line_text};
 
 use crate::commands::push_commands;

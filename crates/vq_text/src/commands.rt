@@ -2,7 +2,8 @@
 ghost use Rattle.std.specs.Prelude.{◌≡◌, ◌++◌, ◌∷◌, [], codes, OnOk};
 ghost use Rattle.std.specs.List.{flat_map};
 ghost use Rattle.std.specs.Fmt.{decimal};
-ghost use Rattle.vq_model.specs.Canonical.{buffer_name, hex_digits, fill_word, fill_size_word, command_words};
+ghost use Rattle.vq_model.specs.Canonical.{hex_digits, fill_word, fill_size_word, command_words};
+ghost use Rattle.vq_model.specs.Naming.{buffer_name};
 ghost use Rattle.vq_model.specs.Canonical.{line_text};
 
 use crate::words::{push_fill_size, push_fill_word, push_hex_bytes, push_number, push_place};

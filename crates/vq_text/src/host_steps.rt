@@ -2,7 +2,8 @@
 ghost use Rattle.std.specs.Prelude.{◌≡◌, ◌++◌, ◌∷◌, codes, OnOk};
 ghost use Rattle.std.specs.List.{flat_map};
 ghost use Rattle.std.specs.Fmt.{decimal};
-ghost use Rattle.vq_model.specs.Canonical.{semaphore_name, pair_words, step_words, line_text};
+ghost use Rattle.vq_model.specs.Canonical.{pair_words, step_words, line_text};
+ghost use Rattle.vq_model.specs.Naming.{semaphore_name};
 
 use crate::batches::semaphore_name;
 use crate::words::{push_name_line, push_number, push_number_line, push_word};

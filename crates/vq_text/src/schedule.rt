@@ -1,7 +1,8 @@
 //! The lines of a canonical text that are a schedule.
 ghost use Rattle.std.specs.Prelude.{◌≡◌, ◌≤◌, ◌++◌, ◌∷◌, OnOk, length};
 ghost use Rattle.std.specs.List.{flat_map, prefix_len};
-ghost use Rattle.vq_model.specs.Canonical.{actor_word, joined_turns, line_text, same_actor, schedule_words};
+ghost use Rattle.vq_model.specs.Canonical.{joined_turns, line_text, schedule_words};
+ghost use Rattle.vq_model.specs.Naming.{actor_word, same_actor};
 ghost use Rattle.vq_model.specs.Canonical.{turns_words};
 
 use crate::batches::queue_name;

@@ -5,6 +5,7 @@ use Rattle.std.specs.List.{slice_index_or}
 use Rattle.vq_model.specs.declared.script.Command.{Command}
 use Rattle.vq_model.specs.Memory.{Memory, HasSizes, buffer, effect}
 use Rattle.vq_model.specs.Ranges.{Fits}
+use Rattle.vq_model.proofs.Sizes.{sizes_are}
 use Rattle.vq_memory_laws.proofs.Cited.{effect_sizes}
 
 -- buffers have the sizes that they have
@@ -15,17 +16,6 @@ has_own_sizes m = record { count = sym (length-map m length); each = at_buffer m
     at_buffer [] b = refl
     at_buffer (bytes ∷ m) zero = refl
     at_buffer (bytes ∷ m) (suc b) = at_buffer m b
-
--- buffers that have these sizes have no others
-pub sizes_are : (sizes : List ℕ) (m : Memory) → HasSizes sizes m → map length m ≡ sizes
-sizes_are sizes m h =
-    same_lists _ _ (length-map m length ∙ h.count) (λ k d l. at_place k d l)
-  where
-    at_place : (k d : ℕ) → k < length (map length m) → get_or (map length m) k d ≡ get_or sizes k d
-    at_place k d l =
-        let inside : k < length m = omega (arith, length-map m length) in
-        let count = h.count in
-        get_or-map length m k [] d inside ∙ (h.each k ∙ get_or_default sizes k 0 d (omega arith))
 
 -- a command that fits leaves the sizes
 pub sizes_stay : (c : Command) (m : Memory) → Fits (map length m) c →

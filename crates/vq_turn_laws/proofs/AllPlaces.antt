@@ -3,16 +3,15 @@ use Rattle.std.proofs.Common.{◌≡◌, Bool, true, false, if◌then◌else◌,
 use Rattle.std.proofs.lemmas.Bool.{false≢true}
 use Rattle.vq_model.specs.declared.script.ActorName.{ActorName}
 use Rattle.vq_model.specs.Plan.{Plan}
-use Rattle.vq_model.specs.Canonical.{same_actor}
+use Rattle.vq_model.specs.Naming.{same_actor}
+use Rattle.vq_model.proofs.Actors.{same_actor_is, same_actor_self}
 use Rattle.vq_points.specs.Points.{PointState, after_event}
 use Rattle.vq_turns.specs.declared.outcome.Outcome.{Outcome}
 use Rattle.vq_turns.specs.declared.outcome.Outcome.TheVariants.{Moved, Blocked, Ended}
 use Rattle.vq_turns.specs.Turns.{Place, turn_of, world_after}
 use Rattle.vq_turn_laws.specs.PlanParts.{HasOwnProgram, IsOrderly}
 use Rattle.vq_turn_laws.specs.TruePlaces.{IsTrueFor, IsTrueTurn, AreTrueFor, with_place}
-use Rattle.vq_turn_laws.proofs.HoldingLaws.{same_name}
 use Rattle.vq_turn_laws.proofs.Reached.{Reached}
-use Rattle.vq_turn_laws.proofs.References.{same_self}
 use Rattle.vq_turn_laws.proofs.WholeTurns.{others_true, turn_true}
 
 module _ (p : Plan) (o : IsOrderly p) (w : PointState) (r : Reached p w) (places : ActorName → Place)
@@ -24,9 +23,9 @@ module _ (p : Plan) (o : IsOrderly p) (w : PointState) (r : Reached p w) (places
   own_or_other v y own other a first = by_name (same_actor a b) refl
     where
       by_name : (c : Bool) → same_actor a b ≡ c → IsTrueFor p v a (if c then y else places a)
-      by_name true e = subst (λ (z : ActorName). IsTrueFor p v z y) (sym (same_name a b e)) own
+      by_name true e = subst (λ (z : ActorName). IsTrueFor p v z y) (sym (same_actor_is a b e)) own
       by_name false e = other a first
-          (λ s. false≢true (sym e ∙ (ap (λ (z : ActorName). same_actor z b) s ∙ same_self b)))
+          (λ s. false≢true (sym e ∙ (ap (λ (z : ActorName). same_actor z b) s ∙ same_actor_self b)))
 
   by_outcome : (outcome : Outcome) (y : Place) → IsTrueTurn p w b outcome y →
       AreTrueFor p (world_after p w outcome) (with_place places b y)

@@ -555,7 +555,8 @@ module _ (p : Plan) (wf : IsWellFormed p) where
         ]
       ]
 
-  owned : (a : ActorName) → HasOwnProgram p a → (t : Task) → Among t (program p a) → (x : Event) → IsOf x t → Owned p x a
+  owned : (a : ActorName) → HasOwnProgram p a → (t : Task) → Among t (program p a) → (x : Event) → IsOf x t →
+      Owned p x a
   owned (SubmitActor q) act t m x h =
       let r = among_flat (submits_batch p) (jobs_of_lane p (QueueLane q)) t m in
       let k = (submits_tasks p wf r.0).kinds t r.2 x h in
@@ -616,8 +617,8 @@ module _ (p : Plan) (wf : IsWellFormed p) where
       by_host j false e m = by_moved j (of_job (λ y. is_immediate_lane p y.lane) false p j) refl m
 
   -- An event is that of a task in one program only.
-  pub programs_apart : (a b : ActorName) → HasOwnProgram p a → HasOwnProgram p b → (t u : Task) → Among t (program p a) →
-      Among u (program p b) → (x : Event) → IsOf x t → IsOf x u → a ≡ b
+  pub programs_apart : (a b : ActorName) → HasOwnProgram p a → HasOwnProgram p b → (t u : Task) →
+      Among t (program p a) → Among u (program p b) → (x : Event) → IsOf x t → IsOf x u → a ≡ b
   programs_apart a b i j t u m n x g h =
       let k = owned a i t m x g in
       let l = owned b j u n x h in

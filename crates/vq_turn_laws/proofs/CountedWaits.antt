@@ -44,7 +44,8 @@ counted_append (x ∷ xs) ys a b = (a.0, counted_append xs ys a.1 b)
 
 in_range_counted : (before : List Line) (s : Statement) → is_in_range (earlier before) s ≡ true → IsCounted s
 in_range_counted before (AddWait pair from) h =
-    let more = ltb-true 0 from (and_parts (nat_lt 0 from) (nat_lt from ((limits_of (version_of before)).batch_commands + 2)) h).0 in omega arith
+    let below = nat_lt from ((limits_of (version_of before)).batch_commands + 2) in
+    let more = ltb-true 0 from (and_parts (nat_lt 0 from) below h).0 in omega arith
 in_range_counted before other h = tt
 
 -- a line without a fault says nothing out of range

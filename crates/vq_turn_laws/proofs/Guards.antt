@@ -18,11 +18,11 @@ use Rattle.vq_model.specs.Plan.{question, is_silent, waits_for_any, previous, id
 use Rattle.vq_model.specs.Edges.{Stage, At, AtEnd, needs_at, stage_of}
 use Rattle.vq_model.specs.WellFormed.{IsWellFormed, AreInOrder}
 use Rattle.vq_model.specs.Machine.{is_reached, are_reached, next, was_since, may_answer, CanApply, CanAnswer}
-use Rattle.vq_model.specs.Canonical.{same_actor}
 use Rattle.vq_model.proofs.Lists.{has_here, has_there, has_cases, list_all_from}
 use Rattle.vq_model.proofs.Searches.{find_splits}
 use Rattle.vq_model.proofs.Mapped.{mapped}
 use Rattle.vq_model.proofs.Options.{same_some}
+use Rattle.vq_model.specs.Naming.{same_actor}
 use Rattle.vq_points.specs.Points.{PointState, Reference, actor_of_lane, smaller_ops, is_pending, written_before}
 use Rattle.vq_points.specs.Points.{CanSubmit, CanBind, CanStartNow, CanSignalNow, CanFinishNow, CanComplete, CanFree}
 use Rattle.vq_run_laws.proofs.Cited.{next_in}

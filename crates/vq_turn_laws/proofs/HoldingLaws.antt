@@ -11,8 +11,9 @@ use Rattle.vq_model.specs.declared.script.ActorName.TheVariants.{Ring as RingAct
 use Rattle.vq_model.specs.declared.plan.Need.{Need}
 use Rattle.vq_model.specs.declared.plan.Event.TheVariants.{Refer, Look, Unref}
 use Rattle.vq_model.specs.Plan.{Plan, initial, resolver}
-use Rattle.vq_model.specs.Canonical.{same_actor}
 use Rattle.vq_model.proofs.Puts.{put_here, put_there}
+use Rattle.vq_model.specs.Naming.{same_actor}
+use Rattle.vq_model.proofs.Actors.{same_actor_is, same_actor_self}
 use Rattle.vq_points.specs.Points.{PointState, Reference, next_job, resolves, count_of, is_reference, holds, with_note}
 use Rattle.vq_points.specs.Points.{without_first, after_event}
 use Rattle.vq_turns.specs.declared.task.Task.{Task}
@@ -23,7 +24,7 @@ use Rattle.vq_turn_laws.specs.Holdings.{needs_held, bit, is_holding, HoldsTruly}
 use Rattle.vq_turn_laws.specs.Orders.{waited_since}
 use Rattle.vq_history_laws.specs.Measure.{one}
 use Rattle.vq_history_laws.proofs.Cited.{count_cons}
-use Rattle.vq_turn_laws.proofs.References.{AtIndex, at_index, index_at, index_low, same_self, held_few, held_counts}
+use Rattle.vq_turn_laws.proofs.References.{AtIndex, at_index, index_at, index_low, held_few, held_counts}
 
 -- Lists of what is held
 
@@ -98,12 +99,6 @@ module _ (p : Plan) (e : ℕ) (h : Held) (hs : List Held) where
       (with_there h hs k (λ q. omega arith)) in
       omega arith
 
-pub same_name : (a b : ActorName) → same_actor a b ≡ true → a ≡ b
-same_name HostActor HostActor h = refl
-same_name (SubmitActor x) (SubmitActor y) h = ap (λ (z : ℕ). SubmitActor z) (eqb-true x y h)
-same_name (RingActor x) (RingActor y) h = ap (λ (z : ℕ). RingActor z) (eqb-true x y h)
-same_name a b h = absurd (false≢true h)
-
 -- References in the world
 
 none_left : (a : ActorName) (q e : ℕ) (f r : ℕ) (x : Reference) → is_reference a q e x ≡ true →
@@ -167,7 +162,7 @@ module _ (p : Plan) (w : PointState) (a : ActorName) (before : List Task) (j : �
             let u = count_cons (is_reference a f r) new_reference w.held in
             let v = with_counts (is_holding f r) new holding in
             let s : one (is_reference a f r new_reference) ≡ one (is_holding f r new) = ap
-            (λ b. one (b && (f == q) && (r == e))) (same_self a) in
+            (λ b. one (b && (f == q) && (r == e))) (same_actor_self a) in
             let old = t.tie f r in
             omega arith;
         of_need = λ m k h is x at'. elim (cases_eq k i) [
@@ -341,7 +336,7 @@ module _ (p : Plan) (w : PointState) (a b : ActorName) (before : List Task) (j :
     where
       not_mine : (f r : ℕ) (x : Reference) → same_actor b x.actor ≡ true → is_reference a f r x ≡ false
       not_mine f r x h = ap (λ c. c && (f == x.point) && (r == x.op))
-          (subst (λ (z : ActorName). same_actor a z ≡ false) (same_name b x.actor h) other)
+          (subst (λ (z : ActorName). same_actor a z ≡ false) (same_actor_is b x.actor h) other)
 
 -- Between waits
 
@@ -373,17 +368,4 @@ passes_task p w a t before j same k =
       above = k.above;
       referred = λ e. let s = same e in let o = k.referred e in omega arith;
       looked = k.looked;
-    }
-
--- The actor's next job hasn't referred to anything yet.
-pub next_begins : (p : Plan) (w : PointState) (a : ActorName) (before : List Task) (j i : ℕ) →
-    ((e : ℕ) → count_of (w.referred i) e ≡ 0) → ((e : ℕ) → count_of (w.looked i) e ≡ 0) →
-    HoldsTruly p w a before j [] [] false → HoldsTruly p w a before i [] [] false
-next_begins p w a before j i r l k =
-    record {
-      tie = k.tie;
-      of_need = λ m x h is n at. absurd (let z = at in cc);
-      above = λ m x h is n at. absurd (let z = at in cc);
-      referred = λ e. let x = r e in omega arith;
-      looked = λ e. let x = l e in omega arith;
     }

@@ -2,6 +2,7 @@ pub mod Cited
 mod AllPlaces
 mod Apart
 mod Asked
+mod BlockedLaws
 mod CallLaws
 mod CountedWaits
 mod CutFacts
@@ -12,7 +13,6 @@ mod HoldingLaws
 mod HostOrder
 mod KeptGuards
 mod LeftLaws
-mod MoveLaws
 mod NextJobs
 mod Orderly
 mod OtherLaws
@@ -27,6 +27,7 @@ mod References
 mod Resolvers
 mod RingOrder
 mod Rooms
+mod RunOrder
 mod SawLaws
 mod SceneLaws
 mod SeenLaws

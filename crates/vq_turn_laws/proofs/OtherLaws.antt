@@ -10,7 +10,8 @@ use Rattle.vq_model.specs.declared.plan.Event.{Event}
 use Rattle.vq_model.specs.declared.plan.Event.TheVariants.{Refer, Look, Unref, Complete, Free}
 use Rattle.vq_model.specs.Plan.{Plan, has}
 use Rattle.vq_model.specs.Machine.{next}
-use Rattle.vq_model.specs.Canonical.{same_actor}
+use Rattle.vq_model.specs.Naming.{same_actor}
+use Rattle.vq_model.proofs.Actors.{same_actor_is}
 use Rattle.vq_points.specs.Points.{PointState, CanCome, after_event, jobs_of_lane, lane_of_actor, next_job}
 use Rattle.vq_run_laws.proofs.Cited.{next_in}
 use Rattle.vq_turns.specs.declared.task.Task.{Task}
@@ -21,7 +22,7 @@ use Rattle.vq_turn_laws.specs.Tasks.{Among, IsOf, IsEventOf, finishes, waited_no
 use Rattle.vq_turn_laws.specs.TruePlaces.{Stands}
 use Rattle.vq_turn_laws.proofs.Apart.{programs_apart}
 use Rattle.vq_turn_laws.proofs.CutFacts.{IsCut, job_is_next}
-use Rattle.vq_turn_laws.proofs.HoldingLaws.{same_name, other_refers, other_looks, other_unrefers}
+use Rattle.vq_turn_laws.proofs.HoldingLaws.{other_refers, other_looks, other_unrefers}
 use Rattle.vq_turn_laws.proofs.NextJobs.{one_lane}
 use Rattle.vq_turn_laws.proofs.Reached.{Reached}
 use Rattle.vq_turn_laws.proofs.StandLaws.{SameReferences, stands_still, stands_with}
@@ -31,7 +32,7 @@ other_name a b n = by_test (same_actor a b) refl
   where
     by_test : (c : Bool) → same_actor a b ≡ c → c ≡ false
     by_test false e = refl
-    by_test true e = absurd (n (same_name a b e))
+    by_test true e = absurd (n (same_actor_is a b e))
 
 one_actor : (a b : ActorName) (l : Lane) → lane_of_actor a ≡ Some l → lane_of_actor b ≡ Some l → a ≡ b
 one_actor HostActor HostActor l x y = refl

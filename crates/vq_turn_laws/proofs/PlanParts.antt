@@ -22,6 +22,7 @@ use Rattle.vq_model.specs.Plan.{question, is_silent}
 use Rattle.vq_model.specs.Lowering.{plan_of, plan_job, lane_of, last_from, last_before, step_needs, of_pair, of_wait}
 use Rattle.vq_model.specs.Lowering.{step_asked, step_question}
 use Rattle.vq_model.proofs.Gets.{get-take, get-take_within}
+use Rattle.vq_model.proofs.Actors.{same_lane_is}
 use Rattle.vq_plan_laws.proofs.Cited.{part_is}
 use Rattle.vq_turn_laws.specs.Orders.{Within}
 use Rattle.vq_turn_laws.specs.PlanParts.{lane_of_job, KeepsParts}
@@ -44,12 +45,6 @@ last_found n test (y ∷ ys) found i h =
         (found ≡ Some i) ⊎ ((k : ℕ) × (i ≡ n + k) × (x : Job) × (slice_get (y ∷ ys) k ≡ Some x) × (test x ≡ true))
     by_test true t e = let same : n ≡ i = let z = e in cc in inr (0, (omega arith), y, refl, t)
     by_test false t e = inl e
-
-same_lane_is : (l m : Lane) → same_lane l m ≡ true → l ≡ m
-same_lane_is HostLane HostLane h = refl
-same_lane_is HostLane (QueueLane r) h = absurd (false≢true h)
-same_lane_is (QueueLane q) HostLane h = absurd (false≢true h)
-same_lane_is (QueueLane q) (QueueLane r) h = ap (λ (z : ℕ). QueueLane z) (eqb-true q r h)
 
 module _ (s : Script)
     (counted : (j : ℕ) (b : BatchLine) → slice_get s.jobs j ≡ Some (Batch b) → EachMark (λ m. 1 ≤ m.from) b.waits) where

@@ -8,8 +8,8 @@ use Rattle.vq_turns.specs.declared.task.Task.TheVariants.{AwaitSubmitted, AwaitR
 use Rattle.vq_turns.specs.Programs.{program}
 use Rattle.vq_turn_laws.proofs.TurnRows.{script, batch, wait}
 
--- Without `HasOwnProgram` programs aren't apart: the host moves the batches of an immediate queue, and so would the queue's
--- submit actor.
+-- Without `HasOwnProgram` programs aren't apart: the host moves the batches of an immediate queue, and so would
+-- the queue's submit actor.
 host_releases : program (plan_of (script (Immediate ∷ []) (batch 3 0 [] [] [] ∷ []))) HostActor ≡ Submit 0 ∷ Release 0 ∷
     []
 host_releases = refl

@@ -12,7 +12,7 @@ use Rattle.vq_model.specs.declared.plan.Need.{Need}
 use Rattle.vq_model.specs.Plan.{Plan, is_host_step, needs, resolver, initial}
 use Rattle.vq_model.specs.Edges.{At, needs_at}
 use Rattle.vq_model.specs.Machine.{next}
-use Rattle.vq_model.specs.Canonical.{same_actor}
+use Rattle.vq_model.specs.Naming.{same_actor}
 use Rattle.vq_points.specs.Points.{PointState, Reference, jobs_of_lane, next_job, resolves, needs_now, is_reference}
 use Rattle.vq_points.specs.Points.{CanRefer, CanLook, CanUnrefer}
 use Rattle.vq_turns.specs.declared.task.Task.{Task}
@@ -28,41 +28,9 @@ use Rattle.vq_history_laws.specs.Measure.{one}
 use Rattle.vq_turn_laws.proofs.PlaceLaws.{each_among}
 use Rattle.vq_turn_laws.proofs.WaitParts.{within_any}
 use Rattle.vq_turn_laws.proofs.Guards.{next_split}
-use Rattle.vq_history_laws.proofs.Cited.{count_cons}
+use Rattle.vq_history_laws.proofs.Cited.{count_cons, counted_any}
 
 -- Counting
-
-pub counted_any : {A : Type 0} (test : A → Bool) (xs : List A) → 0 < count_by test xs → list_any test xs ≡ true
-counted_any test [] l = absurd (omega arith)
-counted_any test (x ∷ xs) l = by_test (test x) refl (counted_any test xs)
-  where
-    by_test : (b : Bool) → test x ≡ b → (0 < count_by test xs → list_any test xs ≡ true) →
-        (test x || list_any test xs) ≡ true
-    by_test true e f = ap (λ b. b || list_any test xs) e
-    by_test false e f =
-        let u = count_cons test x xs in
-        let v : one (test x) ≡ 0 = ap one e in
-        ap (λ b. b || list_any test xs) e ∙ f (omega arith)
-
-pub none_counted : {A : Type 0} (test : A → Bool) (xs : List A) → count_by test xs ≡ 0 → list_any test xs ≡ false
-none_counted test [] l = refl
-none_counted test (x ∷ xs) l = by_test (test x) refl (none_counted test xs)
-  where
-    by_test : (b : Bool) → test x ≡ b → (count_by test xs ≡ 0 → list_any test xs ≡ false) →
-        (test x || list_any test xs) ≡ false
-    by_test true e f =
-        let u = count_cons test x xs in
-        let v : one (test x) ≡ 1 = ap one e in
-        absurd (omega arith)
-    by_test false e f =
-        let u = count_cons test x xs in
-        let v : one (test x) ≡ 0 = ap one e in
-        ap (λ b. b || list_any test xs) e ∙ f (omega arith)
-
-pub same_self : (a : ActorName) → same_actor a a ≡ true
-same_self HostActor = refl
-same_self (SubmitActor q) = eq-eqb q q refl
-same_self (RingActor q) = eq-eqb q q refl
 
 -- what a look found
 pub record IsPendingAt (p : Plan) (w : PointState) (n : Need) (e q : ℕ) : Type 0 where

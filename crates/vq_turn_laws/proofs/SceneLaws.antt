@@ -12,15 +12,16 @@ use Rattle.vq_model.specs.declared.script.Mode.TheVariants.{Immediate, Deferred,
 use Rattle.vq_model.specs.declared.script.Queue.{Queue}
 use Rattle.vq_model.specs.declared.plan.Event.{Event}
 use Rattle.vq_model.specs.Plan.{Plan, has}
-use Rattle.vq_model.specs.Context.{is_immediate}
+use Rattle.vq_model.specs.Context.{is_immediate, is_deferred}
 use Rattle.vq_model.specs.ValidScripts.{is_immediate_queue}
 use Rattle.vq_model.proofs.Lists.{has_here, has_there}
 use Rattle.vq_model.proofs.Filters.{filter-has_cases}
-use Rattle.vq_model.specs.Canonical.{same_actor}
+use Rattle.vq_model.specs.Naming.{same_actor}
+use Rattle.vq_model.proofs.Actors.{same_actor_is, same_actor_self}
 use Rattle.vq_points.specs.Points.{PointState, CanCome, after_event, opening_points, HistoryFrom}
 use Rattle.vq_turns.specs.declared.outcome.Outcome.{Outcome}
 use Rattle.vq_turns.specs.declared.outcome.Outcome.TheVariants.{Moved, Blocked, Ended}
-use Rattle.vq_turns.specs.Programs.{is_deferred, is_deferred_queue, deferred_queues}
+use Rattle.vq_turns.specs.Programs.{is_deferred_queue, deferred_queues}
 use Rattle.vq_turns.specs.Turns.{Place, HostPlace, HostTurned, Scene, first_place, first_scene, put_place}
 use Rattle.vq_turns.specs.Turns.{serving, own_turn, after_served, host_turn_from, host_turn, turn_of, world_after}
 use Rattle.vq_turns.specs.Turns.{plays, played_from}
@@ -30,8 +31,6 @@ use Rattle.vq_turn_laws.specs.Tasks.{IsEventOf}
 use Rattle.vq_turn_laws.specs.TruePlaces.{IsTrueFor, IsTrueTurn}
 use Rattle.vq_turn_laws.specs.Scenes.{HasPlayed, IsPlayer, ArePlayers, place_in, IsTrueScene, events_made}
 use Rattle.vq_history_laws.proofs.Cited.{history_push, world_push}
-use Rattle.vq_turn_laws.proofs.HoldingLaws.{same_name}
-use Rattle.vq_turn_laws.proofs.References.{same_self}
 use Rattle.vq_turn_laws.proofs.Reached.{Reached, reached}
 use Rattle.vq_turn_laws.proofs.WholeTurns.{opening_true, others_true, turn_true}
 
@@ -234,12 +233,12 @@ module _ (p : Plan) (o : IsOrderly p) (s : Scene) (r : Reached p s.world) (all :
       where
         by_name : (c : Bool) → same_actor a b ≡ c → IsTrueFor p (put v y).world a (place_in p (put v y) a)
         by_name true e =
-            let same = same_name a b e in
+            let same = same_actor_is a b e in
             subst (λ (u : PointState). IsTrueFor p u a (place_in p (put v y) a)) (sym (at v y))
             (subst (λ (z : ActorName). IsTrueFor p v z (place_in p (put v y) z)) (sym same)
             (subst (IsTrueFor p v b) (sym (own v y)) t))
         by_name false e =
-            let two : a ≡ b → ⊥ = λ i. false≢true (sym e ∙ (ap (λ (z : ActorName). same_actor z b) i ∙ same_self b)) in
+            let two : a ≡ b → ⊥ = λ i. false≢true (sym e ∙ (ap (λ (z : ActorName). same_actor z b) i ∙ same_actor_self b)) in
             subst (λ (u : PointState). IsTrueFor p u a (place_in p (put v y) a)) (sym (at v y))
             (subst (IsTrueFor p v a) (sym (others v y a two)) (f a first two))
 

@@ -23,7 +23,8 @@ use Rattle.vq_turn_laws.specs.Orders.{AsksWait}
 use Rattle.vq_turn_laws.specs.PlanParts.{IsOrderly}
 use Rattle.vq_turn_laws.specs.Tasks.{Among, IsOf, finishes}
 use Rattle.vq_turn_laws.specs.TruePlaces.{Stands}
-use Rattle.vq_turn_laws.proofs.References.{AtIndex, index_at, is_next, can_look, can_unref, found_above, found_pending, index_within}
+use Rattle.vq_turn_laws.proofs.References.{AtIndex, index_at, is_next, can_look, can_unref, found_above, found_pending}
+use Rattle.vq_turn_laws.proofs.References.{index_within}
 use Rattle.vq_turn_laws.proofs.CutFacts.{IsCut, job_is_next}
 use Rattle.vq_turn_laws.proofs.HoldingLaws.{after_refer, after_look, after_unref, meets, leaves_wait, enters_wait}
 use Rattle.vq_turn_laws.proofs.KeptGuards.{refers_kept}

@@ -26,9 +26,9 @@ abbrev pub is_holding : ℕ → ℕ → Holding → Bool
 is_holding q e h = (q == h.point) && (e == h.op)
 
 -- What an actor holds in a job while it waits for needs (none: between waits) is so: its references in the
--- world are those that it holds, each for a need above the initial value that its operation resolves. While no need is met there is a
--- reference for each that was taken for the wait, and none of them was looked at; behind it the wait has taken at
--- most one for each need.
+-- world are those that it holds, each for a need above the initial value that its operation resolves. While no
+-- need is met there is a reference for each that was taken for the wait, and none of them was looked at; behind
+-- it the wait has taken at most one for each need.
 pub record HoldsTruly (p : Plan) (w : PointState) (a : ActorName) (before : List Task) (j : ℕ) (ns : List Need)
     (holding : List Holding) (met : Bool) : Type 0 where
   pub tie : (q e : ℕ) → count_by (is_reference a q e) w.held ≡ count_by (is_holding q e) holding

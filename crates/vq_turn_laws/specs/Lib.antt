@@ -3,6 +3,7 @@ pub mod Places
 pub mod Orders
 pub mod Holdings
 pub mod PlanParts
+pub mod Running
 pub mod Worlds
 pub mod TruePlaces
 pub mod Scenes

@@ -8,7 +8,6 @@ use Rattle.vq_turns.specs.declared.task.Task.{Task}
 use Rattle.vq_turns.specs.declared.task.Task.TheVariants.{AwaitSubmitted, AwaitReleased, AwaitFinished, AwaitBound}
 use Rattle.vq_turns.specs.declared.task.Task.TheVariants.{AwaitNeeds, Submit, Take, Release, Bind, Start, Apply, Signal}
 use Rattle.vq_turns.specs.declared.task.Task.TheVariants.{Compare, Answer, Finish}
-use Rattle.vq_turns.specs.Turns.{unbound_before}
 use Rattle.vq_turn_laws.specs.Tasks.{Each}
 
 -- a task that was done is so in the world, from then on
@@ -46,14 +45,3 @@ IsLeft w other = Unit {0}
 pub record IsTrueAt (p : Plan) (w : PointState) (before after : List Task) : Type 0 where
   pub done : Each (IsDone w) before
   pub left : Each (IsLeft w) after
-
--- A task isn't blocked: what it waits for is so. (Of a wait for needs nothing is said here.)
-abbrev pub IsReady : Plan → PointState → Task → Type 0
-IsReady p w (AwaitSubmitted j) = w.submitted j ≡ true
-IsReady p w (AwaitReleased j) = w.released j ≡ true
-IsReady p w (AwaitFinished j) = w.machine.progress.finished j ≡ true
-IsReady p w (AwaitBound e) = w.bound e ≡ true
-IsReady p w (AwaitNeeds needs) = ⊥
-IsReady p w (Bind e) = unbound_before p w e ≡ None
-IsReady p w (Signal e) = w.bound e ≡ true
-IsReady p w other = Unit {0}

@@ -9,7 +9,6 @@ use Rattle.vq_model.specs.declared.plan.Event.TheVariants.{Signal as Signals, Fi
 use Rattle.vq_model.specs.declared.plan.Event.TheVariants.{Refer, Look, Unref, Complete, Free}
 use Rattle.vq_model.specs.Plan.{Plan}
 use Rattle.vq_turns.specs.declared.task.Task.{Task}
-use Rattle.vq_turns.specs.declared.task.Task.TheVariants.{AwaitSubmitted, AwaitReleased, AwaitFinished, AwaitBound}
 use Rattle.vq_turns.specs.declared.task.Task.TheVariants.{AwaitNeeds, Submit, Take, Release, Bind, Start, Apply, Signal}
 use Rattle.vq_turns.specs.declared.task.Task.TheVariants.{Compare, Answer, Finish}
 use Rattle.vq_turns.specs.Programs.{program}
@@ -84,16 +83,6 @@ Differ t u = (x : Event) → IsOf x t → IsOf x u → ⊥
 abbrev pub AreApart : List Task → Type 0
 AreApart [] = Unit {0}
 AreApart (t ∷ ts) = ((u : Task) → Among u ts → Differ t u) × AreApart ts
-
--- whether a task makes an event of its own
-abbrev pub is_mover : Task → Bool
-is_mover (AwaitSubmitted j) = false
-is_mover (AwaitReleased j) = false
-is_mover (AwaitFinished j) = false
-is_mover (AwaitBound e) = false
-is_mover (AwaitNeeds needs) = false
-is_mover (Compare t v) = false
-is_mover other = true
 
 -- whether an event is one of an actor's: that of a task of its program, one on its references, or collection,
 -- which is everybody's

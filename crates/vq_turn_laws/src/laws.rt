@@ -1,6 +1,6 @@
 //! Laws over the programs of the actors and their places. The functions do nothing: their contracts are
 //! the laws.
-ghost use Rattle.std.specs.Prelude.{◌≡◌, [], ◌∷◌, ◌++◌, true, List, Some};
+ghost use Rattle.std.specs.Prelude.{◌≡◌, [], List, Some, None};
 ghost use Rattle.std.specs.List.{slice_get};
 ghost use Rattle.vq_model.specs.Plan.{Plan};
 ghost use Rattle.vq_model.specs.Checks.{IsLawful};
@@ -9,14 +9,17 @@ ghost use Rattle.vq_model.specs.declared.plan.Event.{Event};
 ghost use Rattle.vq_model.specs.declared.script.ActorName.{ActorName};
 ghost use Rattle.vq_points.specs.Points.{PointState, CanCome, after_event, opening_points, HistoryFrom};
 ghost use Rattle.vq_turns.specs.declared.task.Task.{Task};
-ghost use Rattle.vq_turns.specs.declared.outcome.Outcome.TheVariants.{Moved};
+ghost use Rattle.vq_turns.specs.declared.outcome.Outcome.TheVariants.{Blocked, Moved};
+ghost use Rattle.vq_turns.specs.declared.outcome.Want.{Want};
 ghost use Rattle.vq_turns.specs.Programs.{program};
-ghost use Rattle.vq_turns.specs.Turns.{Place, first_place, does, turn_from, turn_of, world_after};
+ghost use Rattle.vq_turns.specs.Turns.{Place, first_place, does, turn_of, world_after};
 ghost use Rattle.vq_turns.specs.Turns.{Scene, first_scene, plays, played_from};
-ghost use Rattle.vq_turn_laws.specs.Tasks.{Each, Among, AreApart, IsOf, IsEventOf, is_mover};
-ghost use Rattle.vq_turn_laws.specs.Places.{IsDone, IsReady};
+ghost use Rattle.vq_turns.specs.Wants.{IsNotSo};
+ghost use Rattle.vq_turn_laws.specs.Tasks.{Among, AreApart, IsOf, IsEventOf};
+ghost use Rattle.vq_turn_laws.specs.Places.{IsDone};
 ghost use Rattle.vq_turn_laws.specs.Orders.{InOrder};
 ghost use Rattle.vq_turn_laws.specs.PlanParts.{HasOwnProgram, IsOrderly};
+ghost use Rattle.vq_turn_laws.specs.Running.{IsRunnerOf, RunInTurn};
 ghost use Rattle.vq_turn_laws.specs.Worlds.{InEachWorld, KeepsMade, KeepsStarts, RefersInTurn, RisesIn};
 ghost use Rattle.vq_turn_laws.specs.TruePlaces.{IsTrueFor, IsTrueDid, IsTrueTurn, AreTrueFor, with_place};
 ghost use Rattle.vq_turn_laws.specs.Scenes.{IsPlayer, ArePlayers, IsTrueScene, HasPlayed, events_made};
@@ -30,6 +33,13 @@ pub fn lawful_plans_are_orderly()
 /// left behind it.
 pub fn programs_are_in_order()
     ensures { (p : Plan) → IsPlan p → (a : ActorName) → InOrder p a [] (program p a) }
+{}
+
+/// Each actor's program runs one job of its lane after another: it starts the job, applies its commands in order,
+/// makes its signals in order, answers where the job asks, and finishes it, before it starts the next one.
+pub fn programs_run_in_turn()
+    ensures { (p : Plan) → IsPlan p → (a : ActorName) →
+        RunInTurn p (IsRunnerOf p a) None (program p a) }
 {}
 
 /// No two tasks of a program have an event in common, and no two actors' programs have.
@@ -101,10 +111,12 @@ pub fn schedules_make_histories()
         (events_made (played_from p (first_scene (opening_points p)) turns)) }
 {}
 
-/// An actor that isn't blocked before a task that makes an event, nor in it, moves.
-pub fn unblocked_actors_move()
-    ensures { (p : Plan) → (w : PointState) → (a : ActorName) → (front : List Task) → (t : Task) →
-        (back : List Task) → (x : Place) → Each (IsReady p w) front → IsReady p w t →
-        is_mover t ≡ true →
-        (e : Event) × ((turn_from p w a x (front ++ t ∷ back)).outcome ≡ Moved e) }
+/// A turn is blocked only where the thing that it names isn't so in that world, whatever the plan, the world
+/// and the place. So it is with one actor's turn, and with a turn in a scene, where the host serves the
+/// deferred queues too.
+pub fn blocked_turns_name_what_is_not_so()
+    ensures turn { (p : Plan) → (w : PointState) → (a : ActorName) → (x : Place) → (want : Want) →
+        (turn_of p w a x).outcome ≡ Blocked want → IsNotSo w want }
+    ensures scene { (p : Plan) → (s : Scene) → (a : ActorName) → (want : Want) →
+        (plays p s a).0 ≡ Blocked want → IsNotSo s.world want }
 {}

@@ -8,14 +8,13 @@ use Rattle.std.specs.Option.{option_map_or}
 use Rattle.vq_model.specs.declared.script.ActorName.{ActorName}
 use Rattle.vq_model.specs.declared.script.ActorName.TheVariants.{Host as HostActor, Submit as SubmitActor}
 use Rattle.vq_model.specs.declared.script.ActorName.TheVariants.{Ring as RingActor}
-use Rattle.vq_model.specs.declared.script.Mode.{Mode}
-use Rattle.vq_model.specs.declared.script.Mode.TheVariants.{Deferred}
 use Rattle.vq_model.specs.declared.plan.Lane.TheVariants.{Queue as QueueLane}
 use Rattle.vq_model.specs.declared.plan.Need.{Need}
 use Rattle.vq_model.specs.Plan.{Plan, needs, asked, waits_for_any, idle_after, commands_of, signals_of, chain_of}
 use Rattle.vq_model.specs.Plan.{question, is_host_step, is_silent}
 use Rattle.vq_model.specs.Edges.{AtEnd, awaited_at}
 use Rattle.vq_model.specs.Checks.{is_immediate_batch}
+use Rattle.vq_model.specs.Context.{is_deferred}
 use Rattle.vq_points.specs.Points.{jobs_of_lane}
 use Rattle.vq_turns.specs.declared.task.Task.{Task}
 use Rattle.vq_turns.specs.declared.task.Task.TheVariants.{AwaitSubmitted, AwaitReleased, AwaitFinished, AwaitBound}
@@ -91,10 +90,6 @@ program p (SubmitActor q) = flat_map (submits_batch p) (jobs_of_lane p (QueueLan
 program p (RingActor q) = flat_map (runs_batch p) (jobs_of_lane p (QueueLane q))
 
 -- Deferred queues
-
-abbrev pub is_deferred : Mode → Bool
-is_deferred Deferred = true
-is_deferred other = false
 
 abbrev pub is_deferred_queue : Plan → ℕ → Bool
 is_deferred_queue p q = option_map_or (λ x. is_deferred x.mode) (slice_get p.script.queues q) false

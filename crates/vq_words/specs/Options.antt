@@ -3,20 +3,25 @@ use Rattle.std.specs.Prelude.{ℕ, Bool, true, false, not, ◌&&◌, List, [], �
 use Rattle.std.specs.Str.{bytes_eq}
 use Rattle.clap.specs.Walk.{Rule}
 use Rattle.clap.specs.Simple.{App, new_app, new_rule, on_top, with_rule}
+use Rattle.clap.specs.declared.builder.action.ArgAction.{ArgAction}
 use Rattle.clap.specs.declared.builder.action.ArgAction.TheVariants.{Set, SetTrue}
 use Rattle.vq_words.specs.declared.task.Task.{Task}
 use Rattle.vq_words.specs.declared.task.Task.TheVariants.{Run, Check, Replay}
 use Rattle.vq_words.specs.Grammar.{generated}
 
+-- an option that is known by its long name, with its action
+abbrev pub option_named : List ℕ → ArgAction → Rule
+option_named name action = record (new_rule name) { long = Some name; action = Some action }
+
 -- two flags, and an option with one value
 abbrev pub check_option : Rule
-check_option = record (new_rule (codes "check")) { long = Some (codes "check"); action = Some SetTrue }
+check_option = option_named (codes "check") SetTrue
 
 abbrev pub replay_option : Rule
-replay_option = record (new_rule (codes "replay")) { long = Some (codes "replay"); action = Some SetTrue }
+replay_option = option_named (codes "replay") SetTrue
 
 abbrev pub generate_option : Rule
-generate_option = record (new_rule (codes "generate")) { long = Some (codes "generate"); action = Some Set }
+generate_option = option_named (codes "generate") Set
 
 -- the program without options, whose words are read from the first on, and without help
 abbrev pub without_options : App

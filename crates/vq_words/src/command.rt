@@ -1,26 +1,37 @@
 //! The options, as `clap` knows them.
 ghost use Rattle.std.specs.Prelude.{◌≡◌, IfOk};
-ghost use Rattle.clap.specs.Words.{app_of};
-ghost use Rattle.vq_words.specs.Options.{vq_options};
+ghost use Rattle.clap.specs.Words.{app_of, with_rule};
+ghost use Rattle.vq_words.specs.Options.{option_named, vq_options, without_options};
 
 use clap::{Arg, ArgAction, Command};
 use std::alloc::{AllocError, Global};
+
+/// The command without options, with neither help nor a version.
+fn plain<'a>(alloc: Global) -> Command<'a>
+    ensures { app_of result ≡ without_options }
+{
+    Command::new(alloc, "vq")
+        .no_binary_name(true)
+        .disable_help_flag(true)
+}
+
+/// The command with one option more, of this long name.
+fn with_option<'a>(
+    alloc: Global,
+    command: Command<'a>,
+    name: &'a str,
+    action: ArgAction,
+) -> Result<Command<'a>, AllocError>
+    ensures { IfOk result (λ c. app_of c ≡ with_rule (app_of command.entry) (option_named name.entry.now action)) }
+{
+    command.arg(Arg::new(alloc, name).long(name).action(action))
+}
 
 /// The command with its three options, and with neither help nor a version.
 pub fn command<'a>(alloc: Global) -> Result<Command<'a>, AllocError>
     ensures { IfOk result (λ c. app_of c ≡ vq_options) }
 {
-    let check = Arg::new(alloc, "check")
-        .long("check")
-        .action(ArgAction::SetTrue);
-    let replay = Arg::new(alloc, "replay")
-        .long("replay")
-        .action(ArgAction::SetTrue);
-    let generate = Arg::new(alloc, "generate")
-        .long("generate")
-        .action(ArgAction::Set);
-    let plain = Command::new(alloc, "vq")
-        .no_binary_name(true)
-        .disable_help_flag(true);
-    plain.arg(check)?.arg(replay)?.arg(generate)
+    let checks = with_option(alloc, plain(alloc), "check", ArgAction::SetTrue)?;
+    let replays = with_option(alloc, checks, "replay", ArgAction::SetTrue)?;
+    with_option(alloc, replays, "generate", ArgAction::Set)
 }

@@ -5,8 +5,6 @@ mod command;
 mod read;
 mod rounds;
 mod task;
-#[cfg(test)]
-mod tests;
 
 pub use read::read_words;
 pub use task::{Task, WordsFault};

@@ -1,6 +1,6 @@
 use Rattle.std.proofs.Common.{◌++◌, ◌∷◌, ◌+◌, [], ◌∙◌, ap, sym, add-one}
 use Rattle.std.specs.List.{range_with_len}
-use Rattle.vq_spec.proofs.HexLines.{range_push}
+use Rattle.vq_model.proofs.Numbers.{range_push}
 use Rattle.vq_spec.proofs.lowering.numbers.Goals as goal
 
 pub loop-place-preserved : goal.loop-place-preserved

@@ -1,7 +1,7 @@
 use Rattle.std.proofs.Common.{◌≡◌, ◌++◌, ◌∷◌, take}
 use Rattle.std.specs.List.{flat_map}
 use Rattle.std.specs.Fmt.{decimal}
-use Rattle.vq_model.specs.Canonical.{semaphore_name}
+use Rattle.vq_model.specs.Naming.{semaphore_name}
 use Rattle.vq_text.proofs.host_steps.push_pairs.Given as goal
 
 abbrev pub invariant-loop-pair : goal.invariant-loop-pair

@@ -1,6 +1,6 @@
 use Rattle.std.proofs.Common.{◌≡◌, ◌+◌, drop}
 use Rattle.std.specs.List.{prefix_len}
-use Rattle.vq_model.specs.Canonical.{same_actor}
+use Rattle.vq_model.specs.Naming.{same_actor}
 use Rattle.vq_text.proofs.schedule.neighbours.Given as goal
 
 abbrev pub invariant-loop-place : goal.invariant-loop-place

@@ -1,5 +1,6 @@
 use Rattle.std.proofs.Common.{arith, ◌≡◌, ℕ, ◌+◌, List, [], ◌∷◌, ◌++◌, map, sym, ap, ◌∙◌, subst, length}
 use Rattle.std.specs.List.{range_with_len}
+use Rattle.vq_model.proofs.Numbers.{range_more}
 use Rattle.vq_board_laws.specs.declared.view.View.{View}
 use Rattle.vq_board_laws.specs.declared.view.Role.{Role}
 use Rattle.vq_board_laws.specs.declared.view.Role.TheVariants.{Ring}
@@ -7,7 +8,7 @@ use Rattle.vq_board_laws.specs.Roles.{threaded_queues}
 use Rattle.vq_board.specs.declared.parts.Pass.{Pass}
 use Rattle.vq_board.specs.Named.{plan_of, view, AreFresh, IsCut}
 use Rattle.vq_board.proofs.Copied.{map_push}
-use Rattle.vq_board.proofs.Dealt.{fresh_push, range_more}
+use Rattle.vq_board.proofs.Dealt.{fresh_push}
 use Rattle.vq_board.proofs.parts.Board.deal_rings.Goals as goal
 
 pub loop-queue-preserved : goal.loop-queue-preserved

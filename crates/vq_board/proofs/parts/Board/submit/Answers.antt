@@ -1,5 +1,6 @@
 use Rattle.std.proofs.Common.{arith, ap, sym, refl, subst, ◌∙◌}
-use Rattle.vq_board_laws.proofs.Cited.{batch_exists, submits_job}
+use Rattle.vq_model.proofs.Plans.{batch_exists}
+use Rattle.vq_board_laws.proofs.Cited.{submits_job}
 use Rattle.vq_board.specs.Firsts.{AreCounted}
 use Rattle.vq_board.specs.Hands.{InHand}
 use Rattle.vq_board.proofs.Firsts.{firsts_next}

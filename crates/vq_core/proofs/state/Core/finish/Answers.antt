@@ -20,10 +20,10 @@ use Rattle.std.specs.List.{slice_get, list_any}
 use Rattle.std.specs.Option.{option_map_or}
 use Rattle.vq_model.specs.declared.plan.Event.TheVariants.{Finish}
 use Rattle.vq_model.specs.declared.plan.PlanJob.{PlanJob}
-use Rattle.vq_model.specs.Canonical.{same_actor}
 use Rattle.vq_model.specs.Lanes.{lane_number}
 use Rattle.vq_model.specs.Machine.{put}
 use Rattle.vq_model.specs.Plan.{Plan}
+use Rattle.vq_model.specs.Naming.{same_actor}
 use Rattle.vq_points.specs.Points.{Reference, CanFinishNow, after_event, actor_of_lane}
 use Rattle.vq_history_laws.specs.Histories.{points_after}
 use Rattle.vq_core.specs.CoreState.{Course, world}

@@ -2,11 +2,12 @@ use Rattle.std.proofs.Common.{◌≡◌, ◌<◌, ◌∙◌, false, Some, None, 
 use Rattle.std.specs.List.{slice_get}
 use Rattle.vq_model.specs.declared.plan.Event.TheVariants.{Free}
 use Rattle.vq_model.specs.Machine.{put}
+use Rattle.vq_model.proofs.Plans.{op_within}
 use Rattle.vq_points.specs.Points.{CanFree, after_event}
 use Rattle.vq_points.specs.Timeline.{Timeline, MayFree, after_free}
 use Rattle.vq_history_laws.specs.Histories.{points_after}
 use Rattle.vq_core_laws.specs.TimelineOf.{IsTimelineOf}
-use Rattle.vq_core_laws.proofs.Cited.{own_free, other_free, op_within}
+use Rattle.vq_core_laws.proofs.Cited.{own_free, other_free}
 use Rattle.vq_core.specs.CoreState.{Course, world}
 use Rattle.vq_core.specs.Tables.{ArePoints, IsSlot, no_timeline}
 use Rattle.vq_core.proofs.EventParts.{timeline_read, points_few, some_of_option}

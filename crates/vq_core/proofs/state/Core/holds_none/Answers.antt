@@ -3,8 +3,8 @@ use Rattle.std.specs.Prelude.{IsTrue, ◌↔◌, nat_eq}
 use Rattle.std.specs.List.{slice_get, list_any}
 use Rattle.std.specs.Option.{option_map_or}
 use Rattle.vq_model.specs.declared.plan.PlanJob.{PlanJob}
-use Rattle.vq_model.specs.Canonical.{same_actor}
 use Rattle.vq_model.specs.Plan.{Plan, of_job}
+use Rattle.vq_model.specs.Naming.{same_actor}
 use Rattle.vq_points.specs.Points.{Reference, actor_of_lane}
 use Rattle.vq_core.specs.CoreState.{Course, world}
 use Rattle.vq_core.specs.Kept.{course_of}

@@ -1,7 +1,8 @@
 use Rattle.std.proofs.Common.{◌∙◌, length, map, refl, ap}
 use Rattle.vq_model.specs.Memory.{Memory, zeros_of}
 use Rattle.vq_model.specs.Plan.{Plan}
-use Rattle.vq_core.proofs.Histories.{core_open, all_left, none_submitted, plan_sizes, zero_sizes}
+use Rattle.vq_model.proofs.Sizes.{sizes-zeros_of}
+use Rattle.vq_core.proofs.Histories.{core_open, all_left, none_submitted, plan_sizes}
 use Rattle.vq_core.proofs.state.Core.of.Goals as goal
 
 pub invariant_of-result : goal.invariant_of-result
@@ -24,6 +25,6 @@ invariant_of-result c =
       lanes = r.lanes_are;
       notes = r.notes;
       buffers = zeros;
-      sizes = ap (λ (m : Memory). map length m) zeros ∙ zero_sizes p.sizes;
+      sizes = ap (λ (m : Memory). map length m) zeros ∙ sizes-zeros_of p.sizes;
       left = c.jobs-left.ensures ∙ (ap (λ (q : Plan). length q.jobs) c.plan.ensures.value ∙ all_left p);
     })

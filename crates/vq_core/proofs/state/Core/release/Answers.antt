@@ -4,6 +4,7 @@ use Rattle.vq_model.specs.declared.plan.Event.TheVariants.{Release}
 use Rattle.vq_model.specs.Lanes.{lane_number}
 use Rattle.vq_model.specs.Machine.{put}
 use Rattle.vq_model.specs.Plan.{Plan}
+use Rattle.vq_model.proofs.Plans.{batch_exists}
 use Rattle.vq_points.specs.Points.{CanRelease, after_event}
 use Rattle.vq_history_laws.specs.Histories.{points_after}
 use Rattle.vq_core.specs.declared.table.JobState.{JobState}
@@ -12,7 +13,7 @@ use Rattle.vq_core.specs.Lanes.{AreLanes, no_lane}
 use Rattle.vq_core.specs.Tables.{AreJobs, IsJobState}
 use Rattle.vq_core.proofs.LaneLaws.{lane_within, lane_released}
 use Rattle.vq_core.proofs.LaneNext.{has_turn}
-use Rattle.vq_core.proofs.EventParts.{batch_exists, small_place}
+use Rattle.vq_core.proofs.EventParts.{small_place}
 use Rattle.vq_core.proofs.Pushes.{inside_facts, more_room, core_next}
 use Rattle.vq_core.proofs.TableLaws.{jobs_released}
 use Rattle.vq_core.proofs.TimelineTables.{timelines_by}

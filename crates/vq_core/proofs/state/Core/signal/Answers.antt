@@ -7,9 +7,10 @@ use Rattle.vq_model.specs.declared.plan.Event.TheVariants.{Signal}
 use Rattle.vq_model.specs.declared.plan.Op.{Op}
 use Rattle.vq_model.specs.Machine.{put, next, with_signal}
 use Rattle.vq_model.specs.Plan.{signals_of, value}
+use Rattle.vq_model.proofs.Plans.{op_within}
 use Rattle.vq_points.specs.Points.{CanSignalNow}
 use Rattle.vq_history_laws.specs.Histories.{points_after}
-use Rattle.vq_core_laws.proofs.Cited.{next_is, rising_at_least, op_within}
+use Rattle.vq_core_laws.proofs.Cited.{next_is, rising_at_least}
 use Rattle.vq_core.specs.CoreState.{Course, world}
 use Rattle.vq_core.specs.Tables.{AreJobs, IsJobState, AreMade, ArePayloads}
 use Rattle.vq_core.proofs.EventParts.{signal_tells}

@@ -1,9 +1,10 @@
 use Rattle.std.proofs.Common.{refl, sym, subst, arith}
 use Rattle.vq_model.specs.declared.plan.Event.TheVariants.{Submit}
+use Rattle.vq_model.proofs.Plans.{batch_exists}
 use Rattle.vq_points.specs.Points.{CanSubmit, after_event}
 use Rattle.vq_history_laws.specs.Histories.{points_after}
 use Rattle.vq_core.specs.CoreState.{Course, world}
-use Rattle.vq_core.proofs.EventParts.{batch_exists, submit_turn}
+use Rattle.vq_core.proofs.EventParts.{submit_turn}
 use Rattle.vq_core.proofs.Pushes.{inside_facts, more_room, core_next}
 use Rattle.vq_core.proofs.SubmitLaws.{submitted_next, batches_most}
 use Rattle.vq_core.proofs.TimelineTables.{timelines_by}

@@ -21,9 +21,9 @@ use Rattle.std.specs.Prelude.{count_by}
 use Rattle.std.specs.List.{slice_get}
 use Rattle.vq_model.specs.declared.script.ActorName.{ActorName}
 use Rattle.vq_model.specs.declared.plan.Event.TheVariants.{Unref}
-use Rattle.vq_model.specs.Canonical.{same_actor}
 use Rattle.vq_model.specs.Lanes.{lane_number}
 use Rattle.vq_model.specs.Plan.{Plan}
+use Rattle.vq_model.specs.Naming.{same_actor}
 use Rattle.vq_points.specs.Points.{
   Reference,
   CanUnrefer,

@@ -1,13 +1,14 @@
 use Rattle.std.proofs.Common.{ap}
 use Rattle.std.specs.Option.{option_map}
+use Rattle.vq_model.proofs.Plans.{command_exists}
 use Rattle.vq_order.proofs.AccessLaws.{fits_command}
-use Rattle.vq_order.proofs.CommandJobs.{owned_exists, owner_exists}
+use Rattle.vq_order.proofs.CommandJobs.{owner_exists}
 use Rattle.vq_plan_laws.proofs.Cited.{plan_well_formed}
 use Rattle.vq_order.proofs.races.accesses.access_of.Goals as goal
 
 pub command-requires : goal.command-requires
 command-requires c =
-    owned_exists c.args.plan.now (plan_well_formed c.args.plan.now c.requires.plan) c.args.job c.args.c c.requires.own
+    command_exists c.args.plan.now (plan_well_formed c.args.plan.now c.requires.plan) c.args.job c.args.c c.requires.own
 
 pub written_span-requires-clause-fits : goal.written_span-requires-clause-fits
 written_span-requires-clause-fits c =

@@ -1,8 +1,8 @@
 use Rattle.std.proofs.Common.{◌≡◌, ℕ, List, true, get_or, ◌∙◌, subst, arith, rules}
 use Rattle.std.proofs.lemmas.List.{length-set}
 use Rattle.vq_model.specs.Plan.{has, commands_of}
+use Rattle.vq_model.proofs.Plans.{command_exists}
 use Rattle.vq_plan_laws.proofs.Cited.{plan_well_formed}
-use Rattle.vq_order.proofs.CommandJobs.{owned_exists}
 use Rattle.vq_order.proofs.Marking.{marked_own, marked_others}
 use Rattle.vq_spec.proofs.Cited.{has_at}
 use Rattle.vq_order.proofs.races.accesses.claim.Goals as goal
@@ -13,7 +13,7 @@ bounds-owners-c c =
     let xs = c.as_slice-c-items.result.now in
     let i = c.loop-c.c-index in
     let e : xs ≡ commands_of p c.args.j = search rules in
-    let w = owned_exists p (plan_well_formed p c.requires.plan) c.args.j (get_or xs i 0) (subst (λ (ys : List ℕ). has ys (get_or xs i 0) ≡ true) e (has_at xs i c.loop-c-test.true)) in
+    let w = command_exists p (plan_well_formed p c.requires.plan) c.args.j (get_or xs i 0) (subst (λ (ys : List ℕ). has ys (get_or xs i 0) ≡ true) e (has_at xs i c.loop-c-test.true)) in
     let n = c.loop-c.invariant.0 in
     omega arith
 
@@ -24,7 +24,7 @@ loop-c-preserved c =
     let i = c.loop-c.c-index in
     let ys = c.loop-c.owners in
     let e : xs ≡ commands_of p c.args.j = search rules in
-    let w = owned_exists p (plan_well_formed p c.requires.plan) c.args.j (get_or xs i 0) (subst (λ (zs : List ℕ). has zs (get_or xs i 0) ≡ true) e (has_at xs i c.loop-c-test.true)) in
+    let w = command_exists p (plan_well_formed p c.requires.plan) c.args.j (get_or xs i 0) (subst (λ (zs : List ℕ). has zs (get_or xs i 0) ≡ true) e (has_at xs i c.loop-c-test.true)) in
     let n = c.loop-c.invariant.0 in (
       length-set ys (get_or xs i 0) c.args.j ∙ n,
       marked_own xs ys i c.args.j c.loop-c-test.true (omega arith) c.loop-c.invariant.1,
