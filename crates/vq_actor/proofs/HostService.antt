@@ -13,14 +13,14 @@ use Rattle.vq_model.specs.declared.script.ActorName.TheVariants.{Ring as RingAct
 use Rattle.vq_model.specs.declared.script.Mode.{Mode}
 use Rattle.vq_model.specs.declared.script.Mode.TheVariants.{Threaded, Immediate, Deferred}
 use Rattle.vq_model.specs.declared.script.Queue.{Queue}
-use Rattle.vq_model.specs.Context.{is_threaded}
+use Rattle.vq_model.specs.Context.{is_threaded, is_deferred}
 use Rattle.vq_model.specs.ValidScripts.{is_threaded_queue}
 use Rattle.vq_model.specs.Plan.{Plan}
 use Rattle.vq_points.specs.Points.{PointState}
 use Rattle.vq_turns.specs.declared.outcome.Want.{Want}
 use Rattle.vq_turns.specs.declared.outcome.Outcome.{Outcome}
 use Rattle.vq_turns.specs.declared.outcome.Outcome.TheVariants.{Moved, Blocked, Ended}
-use Rattle.vq_turns.specs.Programs.{is_deferred, is_deferred_queue, deferred_queues, program}
+use Rattle.vq_turns.specs.Programs.{is_deferred_queue, deferred_queues, program}
 use Rattle.vq_turns.specs.Turns.{Place, Turned, Scene, HostPlace, HostTurned, first_place, turn_of, world_after, put_place}
 use Rattle.vq_turns.specs.Turns.{plays, host_plays, submit_plays, ring_plays, host_turn_from, own_turn, after_served, serving}
 use Rattle.vq_actor.specs.Meanings.{IsEarlier, IsShownSince, next_task}

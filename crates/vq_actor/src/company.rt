@@ -2,7 +2,6 @@
 ghost use Rattle.std.specs.Prelude.{◌≡◌, ◌<◌, IfOk, length};
 ghost use Rattle.vq_model.specs.ValidScripts.{IsActor};
 ghost use Rattle.vq_model.specs.declared.script.ActorName.{ActorName as Name};
-ghost use Rattle.vq_turns.specs.Programs.{is_deferred_queue};
 ghost use Rattle.vq_actor.specs.Actors.{acting_of};
 ghost use Rattle.vq_actor.specs.Companies.{AreOf, IsCompanyOf, HasServed};
 ghost use Rattle.vq_actor.specs.Stages.{IsPlay};
@@ -11,9 +10,8 @@ use crate::actor::Actor;
 use crate::stage::Stage;
 use std::alloc::{AllocError, Global};
 use std::marker::Model;
-use vq_model::script::{ActorName, Mode};
+use vq_model::script::ActorName;
 use vq_order::Ordered;
-use vq_spec::Plan;
 use vq_turns::outcome::Outcome;
 
 /// The host, and the submit actor and the ring of each queue. They don't change: how far each is, the stage
@@ -141,14 +139,6 @@ fn rings_of(alloc: Global, ordered: &Ordered) -> Result<Vec<Actor>, AllocError>
     Ok(actors)
 }
 
-/// Whether the host serves the submit actor of a queue.
-fn is_deferred(plan: &Plan, queue: usize) -> bool
-    requires { queue < length plan.now.script.queues }
-    ensures { result ≡ is_deferred_queue plan.now queue }
-{
-    plan.script().queues.as_slice()[queue].mode == Mode::Deferred
-}
-
 /// A turn of the host: the submit actors of deferred queues come first, in the order of the queues, and then its
 /// own program, at whose end it is blocked as the last of them is.
 fn host_turn<S: Stage>(stage: &mut S, host: &Actor, submits: &[Actor]) -> Outcome
@@ -160,11 +150,11 @@ fn host_turn<S: Stage>(stage: &mut S, host: &Actor, submits: &[Actor]) -> Outcom
     ensures still_has { (a : Name) → S.has stage.old a → S.has stage.new a }
 {
     let mut last = Outcome::Ended;
-    for queue in 0..submits.len() {
-        if !is_deferred(stage.ordered().plan(), queue) {
+    for queue in 0..queue_count(stage.ordered()) {
+        if !stage.ordered().plan().script().is_deferred(queue) {
             continue;
         }
-        match stage.turn(&submits[queue]) {
+        match stage.turn(&submits[queue as usize]) {
             Outcome::Moved(event) => return Outcome::Moved(event),
             Outcome::Blocked(want) => last = Outcome::Blocked(want),
             Outcome::Ended => {}

@@ -1,10 +1,12 @@
-use Rattle.std.proofs.Common.{◌≡◌, ◌<◌, ◌≤◌, ◌+◌, ◌∙◌, ℕ, List, length, sym, ap, subst, refl, arith}
-use Rattle.std.proofs.lemmas.Bool.{cases_eq}
+use Rattle.std.proofs.Common.{◌≡◌, ◌<◌, ◌≤◌, ◌+◌, ◌∙◌, ℕ, Bool, false, List, length, sym, ap, subst, refl, arith}
+use Rattle.std.specs.List.{slice_get}
+use Rattle.std.specs.Option.{option_map_or}
+use Rattle.vq_model.specs.Context.{is_deferred}
+use Rattle.vq_model.specs.declared.script.Script.{Script}
 use Rattle.vq_model.specs.Plan.{Plan}
 use Rattle.vq_model.specs.declared.script.ActorName.{ActorName}
 use Rattle.vq_model.specs.declared.script.ActorName.TheVariants.{Host as HostActor, Submit as SubmitActor}
 use Rattle.vq_turns.specs.declared.outcome.Outcome.TheVariants.{Moved, Blocked, Ended}
-use Rattle.vq_turns.specs.Programs.{is_deferred_queue}
 use Rattle.vq_actor.specs.Actors.{Acting, IsTurn}
 use Rattle.vq_actor.specs.Stages.{part}
 use Rattle.vq_actor.proofs.HostService.{Serving, serving_passes, serving_moves, serving_blocked, serving_ended, host_ends}
@@ -18,18 +20,30 @@ within k m n l e = omega arith
 past : (k m n : ℕ) → m ≤ k → m ≡ n → n ≤ k
 past k m n l e = omega arith
 
+abbrev is_served : ℕ → Script → Bool
+is_served k s = option_map_or (λ x. is_deferred x.mode) (slice_get s.queues k) false
+
+deferred_here : (k : ℕ) (s t : Script) → s ≡ t → is_served k t ≡ is_served k s
+deferred_here k s t e = sym (ap (is_served k) e)
+
+queues_of : (p q : Plan) (n : ℕ) → n ≡ length p.script.queues → p ≡ q → n ≡ length q.script.queues
+queues_of p q n e f = e ∙ ap (λ (r : Plan). length r.script.queues) f
+
 pub loop-queue-preserved-then-not-is_deferred : goal.loop-queue-preserved-then-not-is_deferred
 loop-queue-preserved-then-not-is_deferred g c =
     let old = g.S.Stage.staged c.args.stage.now in
     let now = g.S.Stage.staged c.loop-queue.stage in
     let s = c.loop-queue.invariant.serving in
     let k = c.loop-queue.queue in
-    let same : c.plan.result.now ≡ old.plan = c.plan.ensures.value ∙ (c.ordered.ensures ∙ s.plan) in
+    let count = queues_of c.ordered.result.now old.plan c.queue_count-queue-end.result c.queue_count-queue-end.ensures
+    c.ordered.ensures in
+    let same : c.script.result.now ≡ old.plan.script =
+    c.script.ensures.script
+    ∙ ap (λ (p : Plan). p.script) (c.plan.ensures.value ∙ (c.ordered-in-loop-queue.ensures ∙ s.plan)) in
     record {
       serving = serving_passes old now (g.S.Stage.shows c.loop-queue.stage) k c.loop-queue.last s
-          (within k (length c.args.submits.now) (length old.plan.script.queues) c.loop-queue-test.true
-          c.requires.submits.count)
-          (ap (λ (p : Plan). is_deferred_queue p k) (sym same) ∙ sym c.if-not-is_deferred.ensures);
+          (within k c.queue_count-queue-end.result (length old.plan.script.queues) c.loop-queue-test.true count)
+          (deferred_here k c.script.result.now old.plan.script same ∙ sym c.if-not-is_deferred.ensures);
       has = c.loop-queue.invariant.has;
     }
 
@@ -41,14 +55,17 @@ returns-in-Moved-clause-play g c =
     let after = g.S.Stage.shows c.turn.new.self in
     let s = c.loop-queue.invariant.serving in
     let k = c.loop-queue.queue in
+    let count = queues_of c.ordered.result.now old.plan c.queue_count-queue-end.result c.queue_count-queue-end.ensures
+    c.ordered.ensures in
     let o = Moved c.in-Moved.event in
-    let inside = within k (length c.args.submits.now) (length old.plan.script.queues) c.loop-queue-test.true
-    c.requires.submits.count in
+    let inside = within k c.queue_count-queue-end.result (length old.plan.script.queues) c.loop-queue-test.true count in
     let name = member_name old.plan SubmitActor (length old.plan.script.queues) c.args.submits.now k
     c.index-submits-queue.result c.requires.submits inside c.index-submits-queue.is in
-    let same : c.plan.result.now ≡ old.plan = c.plan.ensures.value ∙ (c.ordered.ensures ∙ s.plan) in
+    let same : c.script.result.now ≡ old.plan.script =
+    c.script.ensures.script
+    ∙ ap (λ (p : Plan). p.script) (c.plan.ensures.value ∙ (c.ordered-in-loop-queue.ensures ∙ s.plan)) in
     serving_moves old now (g.S.Stage.shows c.loop-queue.stage) k c.loop-queue.last s next after o inside
-    (ap (λ (p : Plan). is_deferred_queue p k) (sym same) ∙ sym c.if-not-is_deferred.ensures)
+    (deferred_here k c.script.result.now old.plan.script same ∙ sym c.if-not-is_deferred.ensures)
     (subst (λ (a : ActorName). IsTurn (part now a) (part next a) after o) name c.in-Moved.ensures.turn)
     (λ b h. c.in-Moved.ensures.others b (λ z. h (z ∙ name))) c.in-Moved.event refl
 
@@ -60,13 +77,16 @@ loop-queue-preserved g c =
     let after = g.S.Stage.shows c.turn.new.self in
     let s = c.loop-queue.invariant.serving in
     let k = c.loop-queue.queue in
+    let count = queues_of c.ordered.result.now old.plan c.queue_count-queue-end.result c.queue_count-queue-end.ensures
+    c.ordered.ensures in
     let o = c.turn.result in
-    let inside = within k (length c.args.submits.now) (length old.plan.script.queues) c.loop-queue-test.true
-    c.requires.submits.count in
+    let inside = within k c.queue_count-queue-end.result (length old.plan.script.queues) c.loop-queue-test.true count in
     let name = member_name old.plan SubmitActor (length old.plan.script.queues) c.args.submits.now k
     c.index-submits-queue.result c.requires.submits inside c.index-submits-queue.is in
-    let same : c.plan.result.now ≡ old.plan = c.plan.ensures.value ∙ (c.ordered.ensures ∙ s.plan) in
-    let d = ap (λ (p : Plan). is_deferred_queue p k) (sym same) ∙ sym c.if-not-is_deferred.ensures in
+    let same : c.script.result.now ≡ old.plan.script =
+    c.script.ensures.script
+    ∙ ap (λ (p : Plan). p.script) (c.plan.ensures.value ∙ (c.ordered-in-loop-queue.ensures ∙ s.plan)) in
+    let d = deferred_here k c.script.result.now old.plan.script same ∙ sym c.if-not-is_deferred.ensures in
     let t = subst (λ (a : ActorName). IsTurn (part now a) (part next a) after o) name c.turn.ensures.turn in
     let rest : (b : ActorName) → (b ≡ SubmitActor k → ⊥) → next.places b ≡ now.places b =
     λ b h. c.turn.ensures.others b (λ z. h (z ∙ name)) in
@@ -91,10 +111,11 @@ returns-in-Ended-turn-clause-play g c =
     let after = g.S.Stage.shows c.turn-2.new.self in
     let s = c.loop-queue.invariant.serving in
     let k = c.loop-queue.queue in
+    let count = queues_of c.ordered.result.now old.plan c.queue_count-queue-end.result c.queue_count-queue-end.ensures
+    c.ordered.ensures in
     let name : c.args.host.now.name ≡ HostActor = ap (λ (x : Acting). x.name) c.requires.host in
     host_ends old now (g.S.Stage.shows c.loop-queue.stage) k c.loop-queue.last s next after Ended
-    (past k (length c.args.submits.now) (length old.plan.script.queues) c.loop-queue-test.false
-    c.requires.submits.count)
+    (past k c.queue_count-queue-end.result (length old.plan.script.queues) c.loop-queue-test.false count)
     (subst (λ (a : ActorName). IsTurn (part now a) (part next a) after Ended) name c.in-Ended-turn.ensures.turn)
     (λ b h. c.in-Ended-turn.ensures.others b (λ z. h (z ∙ name))) refl (c.in-Ended-turn.ensures.still_shows refl)
 
@@ -106,11 +127,12 @@ returns-in_default g c =
     let after = g.S.Stage.shows c.turn-2.new.self in
     let s = c.loop-queue.invariant.serving in
     let k = c.loop-queue.queue in
+    let count = queues_of c.ordered.result.now old.plan c.queue_count-queue-end.result c.queue_count-queue-end.ensures
+    c.ordered.ensures in
     let name : c.args.host.now.name ≡ HostActor = ap (λ (x : Acting). x.name) c.requires.host in
     record {
       play = host_does old now (g.S.Stage.shows c.loop-queue.stage) k c.loop-queue.last s next after c.turn-2.result
-          (past k (length c.args.submits.now) (length old.plan.script.queues) c.loop-queue-test.false
-          c.requires.submits.count)
+          (past k c.queue_count-queue-end.result (length old.plan.script.queues) c.loop-queue-test.false count)
           (subst (λ (a : ActorName). IsTurn (part now a) (part next a) after c.turn-2.result) name
           c.turn-2.ensures.turn)
           (λ b h. c.turn-2.ensures.others b (λ z. h (z ∙ name))) c.in_default.not-Ended;
