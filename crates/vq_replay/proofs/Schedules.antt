@@ -29,13 +29,13 @@ use Rattle.vq_replay.specs.Traces.{actors_of, event_of, events_of, numbered_from
 -- where an item of a list with one more at its end stands
 at_append : {A : Type 0} (xs : List A) (z : A) (k : ℕ) (w : A) → slice_get (xs ++ z ∷ []) k ≡ Some w →
     ((slice_get xs k ≡ Some w) × (take k (xs ++ z ∷ []) ≡ take k xs)) ⊎ ((z ≡ w) × (take k (xs ++ z ∷ []) ≡ xs))
-at_append [] z zero w at = inr (some_same z w at, refl)
+at_append {A = A} [] z zero w at = inr (some_same z w at, refl)
   where
     some_same : (x y : A) → Some x ≡ Some y → x ≡ y
     some_same x y e = cc
 at_append [] z (suc k) w at = absurd (cc)
 at_append (x ∷ xs) z zero w at = inl (at, refl)
-at_append (x ∷ xs) z (suc k) w at = further (at_append xs z k w at)
+at_append {A = A} (x ∷ xs) z (suc k) w at = further (at_append xs z k w at)
   where
     further : ((slice_get xs k ≡ Some w) × (take k (xs ++ z ∷ []) ≡ take k xs))
         ⊎ ((z ≡ w) × (take k (xs ++ z ∷ []) ≡ xs)) →

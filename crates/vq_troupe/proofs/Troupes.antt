@@ -2,31 +2,24 @@
 use Rattle.std.proofs.Common.{◌≡◌, ℕ, ◌<◌, ◌==◌, Bool, true, false, if◌then◌else◌, List, [], ◌++◌, length, set, filter}
 use Rattle.std.proofs.Common.{Option, Some, None, refl, sym, subst, ap, ◌∙◌, inl, inr, arith, append-nil}
 use Rattle.std.specs.List.{slice_get, slice_index_or}
-use Rattle.std.specs.Option.{option_map_or}
-use Rattle.std.proofs.lemmas.Bool.{cases_eq, cond-true, cond-false, eq-eqb, ne_eqb, false≢true}
+use Rattle.std.proofs.lemmas.Bool.{cases_eq, cond-true, cond-false, eq-eqb, ne_eqb}
 use Rattle.std.proofs.lemmas.List.{get_or-set_same, get_or-set_other, length-set, get_or_default}
-use Rattle.std.proofs.lemmas.Option.{slice_get_within}
-use Rattle.vq_model.specs.Context.{is_deferred, is_threaded, is_immediate}
 use Rattle.vq_model.specs.declared.script.ActorName.{ActorName}
 use Rattle.vq_model.specs.declared.script.ActorName.TheVariants.{Host as HostActor, Submit as SubmitActor}
 use Rattle.vq_model.specs.declared.script.ActorName.TheVariants.{Ring as RingActor}
-use Rattle.vq_model.specs.declared.script.Mode.{Mode}
-use Rattle.vq_model.specs.declared.script.Mode.TheVariants.{Threaded, Immediate, Deferred}
-use Rattle.vq_model.specs.declared.script.Queue.{Queue}
-use Rattle.vq_model.specs.ValidScripts.{IsActor, is_immediate_queue, is_threaded_queue}
+use Rattle.vq_model.specs.ValidScripts.{is_immediate_queue}
 use Rattle.vq_model.specs.Plan.{Plan}
 use Rattle.vq_points.specs.Points.{PointState}
 use Rattle.vq_turns.specs.declared.outcome.Want.{Want}
 use Rattle.vq_turns.specs.declared.outcome.Outcome.{Outcome}
 use Rattle.vq_turns.specs.declared.outcome.Outcome.TheVariants.{Moved, Blocked, Ended}
-use Rattle.vq_turns.specs.Programs.{program, is_deferred_queue}
+use Rattle.vq_turns.specs.Programs.{program}
 use Rattle.vq_turns.specs.Turns.{Place, Turned, turn_of, world_after}
 use Rattle.vq_turns.specs.Wants.{IsNotSo}
 use Rattle.vq_turn_laws.specs.PlanParts.{HasOwnProgram}
 use Rattle.vq_turn_laws.specs.TruePlaces.{AreTrueFor, with_place}
 use Rattle.vq_turn_laws.proofs.Cited.{all_true, plan_orderly, reached}
 use Rattle.vq_actor.specs.Actors.{IsTurn, events_by}
-use Rattle.vq_actor.specs.Companies.{HasServed}
 use Rattle.vq_actor.specs.Stages.{IsPlay, part, scene_over}
 use Rattle.vq_actor.specs.Trackers.{Tracked, FitsIn}
 use Rattle.vq_core.specs.CoreState.{Course, IsCourse, world}
@@ -36,32 +29,6 @@ use Rattle.vq_troupe.specs.Casts.{AreSeated, Cast, HasActor, PlayedOne, Plays, T
 use Rattle.vq_troupe.specs.Casts.{no_seat, places, places_of, seat_at, staged_of}
 use Rattle.vq_troupe.proofs.CoreAnswers.{some_same}
 use Rattle.vq_troupe.proofs.Serving as serving
-
--- Queues
-
--- the submit actor of a queue with a mode plays by itself
-by_queue : (p : Plan) (q : ℕ) (test : Mode → Bool) →
-    ((m : Mode) → test m ≡ true → is_immediate m ≡ false) → (o : Option Queue) → slice_get p.script.queues q ≡ o →
-    option_map_or (λ x. test x.mode) o false ≡ true →
-    (q < length p.script.queues) × (option_map_or (λ x. is_immediate x.mode) o false ≡ false)
-by_queue p q test apart None e h = absurd (false≢true h)
-by_queue p q test apart (Some x) e h = (slice_get_within p.script.queues q x e, apart x.mode h)
-
-queue_alone : (p : Plan) (q : ℕ) → is_deferred_queue p q ≡ true → HasActor p (SubmitActor q)
-queue_alone p q h = by_queue p q is_deferred by_mode (slice_get p.script.queues q) refl h
-  where
-    by_mode : (m : Mode) → is_deferred m ≡ true → is_immediate m ≡ false
-    by_mode Threaded h = refl
-    by_mode Immediate h = absurd (false≢true h)
-    by_mode Deferred h = refl
-
-threaded_has : (p : Plan) (q : ℕ) → is_threaded_queue p.script q ≡ true → HasActor p (SubmitActor q)
-threaded_has p q h = by_queue p q is_threaded by_mode (slice_get p.script.queues q) refl h
-  where
-    by_mode : (m : Mode) → is_threaded m ≡ true → is_immediate m ≡ false
-    by_mode Threaded h = refl
-    by_mode Immediate h = absurd (false≢true h)
-    by_mode Deferred h = absurd (false≢true h)
 
 -- Outcomes
 
@@ -366,9 +333,3 @@ module _ (old new : Cast) (a : ActorName) (o : Outcome)
   whole_blocked want e =
       subst (λ (c : Course). IsNotSo (world c) want) (course_so o k.events ∙ ap (course_after old.course) e)
       (k.shown want e (0, 0) (omega arith, omega arith))
-
--- Actors of a script are on the stage.
-pub actor_served : (p : Plan) (a : ActorName) → IsActor p.script a → HasServed (HasActor p) p a
-actor_served p HostActor h = (tt, λ q d. queue_alone p q d)
-actor_served p (SubmitActor q) h = threaded_has p q h
-actor_served p (RingActor q) h = h
