@@ -55,11 +55,6 @@ each_both : {A : Type 0} (P Q : A → Type 0) (xs : List A) → Every P xs → E
 each_both P Q [] h k = tt
 each_both P Q (x ∷ xs) h k = ((h.0, k.0), each_both P Q xs h.1 k.1)
 
-each_there : {A : Type 0} (P : A → Type 0) (xs : List A) →
-    ((k : ℕ) (x : A) → slice_get xs k ≡ Some x → P x) → Every P xs
-each_there P [] h = tt
-each_there P (x ∷ xs) h = (h 0 x refl, each_there P xs (λ k y e. h (suc k) y e))
-
 -- a change that leaves a list alone leaves each item alone
 each_same : {A : Type 0} (g : A → A) (xs : List A) → map g xs ≡ xs → Every (λ x. g x ≡ x) xs
 each_same g [] e = tt

@@ -142,7 +142,3 @@ bound_point p w t i e l is kept here b = by_point (w.point_of e) refl
 
 pub some_of_option : (o : Option ℕ) (q : ℕ) → o ≡ Some q → IsSome o
 some_of_option o q e = subst (λ (x : Option ℕ). IsSome x) (sym e) refl
-
--- what is read of an option that is there
-pub unwrapped : (o : Option ℕ) (q r : ℕ) → o ≡ Some q → o ≡ Some r → q ≡ r
-unwrapped o q r a b = let c = sym a ∙ b in cc

@@ -156,9 +156,6 @@ plan_sizes p i = sym (ap (λ (q : Plan). q.sizes) i.lowered)
 abbrev nought : ℕ → ℕ
 nought k = 0
 
-zeros_long : (size : ℕ) → length (map nought (range_with_len 0 size)) ≡ size
-zeros_long size = length-map (range_with_len 0 size) nought ∙ length-range_with_len 0 size
-
 pub core_open : (b : Inside) → IsPlan b.ordered → IsLawful b.ordered → b.history.items ≡ [] →
     acts b.ordered ≤ vec_capacity b.history → acts b.ordered < 18446744073709551616 →
     Tells b.ordered (opening_points b.ordered) b → IsCore b

@@ -52,7 +52,7 @@ number_named : (n : ℕ) → lane_number (lane_named n) ≡ n
 number_named zero = refl
 number_named (suc q) = omega arith
 
-named_once : (n : ℕ) (l : Lane) → lane_named n ≡ l → n ≡ lane_number l
+pub named_once : (n : ℕ) (l : Lane) → lane_named n ≡ l → n ≡ lane_number l
 named_once n l e = sym (number_named n) ∙ ap lane_number e
 
 actor_once : (l m : Lane) → actor_of_lane l ≡ actor_of_lane m → l ≡ m

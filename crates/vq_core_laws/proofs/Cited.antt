@@ -14,7 +14,7 @@ pub use Rattle.vq_core_laws.proofs.Firsts.{
   turn_first,
 }
 pub use Rattle.vq_core_laws.proofs.PlanFacts.{Facts, facts, ordered_once, values_rise, chain_places}
-pub use Rattle.vq_core_laws.proofs.Counts.{put_counts, put_some_counts, count_raised, count_below, any_counted}
+pub use Rattle.vq_core_laws.proofs.Counts.{put_counts, put_some_counts, count_raised, count_below}
 pub use Rattle.vq_core_laws.proofs.Keeps.{Keeps, KeepsTurns, KeepsCarried, keeps, keeps_after, points_push, held_few, noted_few, carried_below, free_below}
 pub use Rattle.vq_core_laws.proofs.LaneFacts.{lane_rises, lane_once, same_lane_self, InLane, in_lane, lane_has, lane_at_is, IsNextOf, next_of, next_put, next_none}
 pub use Rattle.vq_core_laws.proofs.TimelineLaws.{

@@ -87,10 +87,3 @@ count_below f k n l old =
     let most = count_by-le-length (put f k true) (range_with_len 0 n) in
     let size = length-range_with_len 0 n in
     omega arith
-
-pub any_counted : {A : Type 0} (test : A → Bool) (xs : List A) → list_any test xs ≡ true → 0 < count_by test xs
-any_counted test xs h = by_count (count_by test xs) refl
-  where
-    by_count : (n : ℕ) → count_by test xs ≡ n → 0 < n
-    by_count zero e = absurd (false≢true (sym (none_counted test xs e) ∙ h))
-    by_count (suc n) e = omega arith

@@ -59,14 +59,6 @@ rest_first done x xs n f =
       after = λ i y e l. f.after (suc i) y e (omega arith);
     }
 
-none_first : (done : ℕ → Bool) (x : ℕ) (xs : List ℕ) → AreFirst done (x ∷ xs) 0 → AreFirst done xs 0
-none_first done x xs f =
-    record {
-      within = omega arith;
-      before = λ i y e l. absurd (omega arith);
-      after = λ i y e l. f.after (suc i) y e (omega arith);
-    }
-
 -- the next one is the one behind the first part
 pub next_is : (done : ℕ → Bool) (xs : List ℕ) (n : ℕ) → AreFirst done xs n → next done xs ≡ slice_get xs n
 next_is done [] zero f = refl

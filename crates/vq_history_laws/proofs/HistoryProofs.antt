@@ -140,9 +140,3 @@ module _ (p : Plan) (w : PointState) where
     can_come_prop (Signal e) = signal_prop e
     can_come_prop (Finish j) = Prim.hlevel props
     can_come_prop (Answer j a) = Prim.hlevel props
-
-pub history_prop : (p : Plan) → IsWellFormed p → (w : PointState) (events : List Event) →
-    IsProp (HistoryFrom p w events)
-history_prop p wf w [] x y = refl
-history_prop p wf w (e ∷ events) x y = λ i.
-    (can_come_prop p w wf e x.0 y.0 i, history_prop p wf (after_event p w e) events x.1 y.1 i)

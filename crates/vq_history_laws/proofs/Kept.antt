@@ -75,13 +75,6 @@ op_exists p e j h = by_op (slice_get p.ops e) refl h
     by_op None is m = absurd (let c = m in cc)
     by_op (Some x) is m = slice_get_within p.ops e x is
 
-count_none : (e : ℕ) → count_by (λ y. y == e) [] ≤ 0
-count_none e = omega arith
-
-sum_none : (n : ℕ) → sum_to (λ j. 0) n ≡ 0
-sum_none zero = refl
-sum_none (suc n) = let r = sum_none n in omega arith
-
 pub keeps_opening : (p : Plan) → KeepsFacts p (opening_points p)
 keeps_opening p =
     record {

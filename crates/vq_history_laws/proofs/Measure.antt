@@ -42,9 +42,6 @@ total_commands a b b' c d e h x = omega arith
 total_ops : (a b c c' d e h : ℕ) → c' ≡ c + 1 → total a b c' d e h ≡ total a b c d e h + 1
 total_ops a b c c' d e h x = omega arith
 
-total_signal : (a a' b b' c c' d e h : ℕ) → a' ≡ a → b' ≡ b → c' ≡ c + 1 → total a' b' c' d e h ≡ total a b c d e h + 1
-total_signal a a' b b' c c' d e h x y z = omega arith
-
 total_refer : (a b c d d' e h h' : ℕ) → d' ≡ d + 1 → h' ≡ h + 1 → total a b c d' e h' ≡ total a b c d e h + 1
 total_refer a b c d d' e h h' x y = omega arith
 

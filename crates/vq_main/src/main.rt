@@ -1,5 +1,5 @@
-//! The program `vq`: reads a script of queues and buffers from standard input, runs it, and writes
-//! the final buffers to standard output.
+//! The program `vq`: reads a script of buffers, semaphores, fences and queues from standard input, and
+//! writes to standard output what the words of its command line ask for.
 #![tactic(auto)]
 
 use std::process::ExitCode;

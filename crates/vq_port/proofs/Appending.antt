@@ -5,22 +5,12 @@ use Rattle.std.proofs.lemmas.Grind.{common_steps}
 use Rattle.std.specs.declared.option.Option.{Option}
 use Rattle.vq_port.specs.Writing.{Appends, Stays, StillTells}
 
--- nothing was written
-pub appends_nothing : (x : Option (List ℕ)) → Appends [] x x
-appends_nothing None = tt
-appends_nothing (Some all) = grind (arith, common_steps)
-
 -- some bytes were written, and then some more
 pub appends_more : (a b : List ℕ) (x y z : Option (List ℕ)) → Appends a x y → Appends b y z → Appends (a ++ b) x z
 appends_more a b x y None p q = tt
 appends_more a b x None (Some all) p q = absurd q
 appends_more a b None (Some mid) (Some all) p q = absurd p
 appends_more a b (Some had) (Some mid) (Some all) p q = q ∙ (ap (λ (w : List ℕ). w ++ b) p ∙ append_assoc had a b)
-
--- some bytes were written, and then nothing
-pub appends_stays : (a : List ℕ) (x y z : Option (List ℕ)) → Appends a x y → Stays y z → Appends a x z
-appends_stays a x y None p q = tt
-appends_stays a x y (Some all) p q = subst (λ (w : Option (List ℕ)). Appends a x w) q p
 
 -- the first bytes were written, and then the first of the rest
 pub appends_rest : (bytes rest : List ℕ) (done count : ℕ) (x y z : Option (List ℕ)) → rest ≡ drop done bytes →

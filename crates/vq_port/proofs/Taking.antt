@@ -9,10 +9,6 @@ pub takes_nothing : (x : Option (List ℕ)) → Takes [] x x
 takes_nothing None = tt
 takes_nothing (Some all) = refl
 
--- nothing was taken, and so no more than any number
-pub takes_at_most_nothing : (n : ℕ) (x y : Option (List ℕ)) → x ≡ y → TakesAtMost n x y
-takes_at_most_nothing n x y e = ([], omega arith, subst (λ (z : Option (List ℕ)). Takes [] x z) e (takes_nothing x))
-
 -- some bytes were taken, and then some more
 pub takes_more : (a b : List ℕ) (x y z : Option (List ℕ)) → Takes a x y → Takes b y z → Takes (a ++ b) x z
 takes_more a b None y z p q = tt
@@ -31,12 +27,6 @@ pub takes_to_end : (a : List ℕ) (x y : Option (List ℕ)) → Takes a x y → 
 takes_to_end a None y p e = tt
 takes_to_end a (Some all) None p e = absurd p
 takes_to_end a (Some all) (Some rest) p e = ap (λ (w : List ℕ). Some w) e
-
--- no more was taken than there was
-pub takes_no_more : (n : ℕ) (a : List ℕ) (x y : Option (List ℕ)) → n ≡ length a → Takes a x y → IfSome x (λ all. n ≤ length all)
-takes_no_more n a None y e p = tt
-takes_no_more n a (Some all) None e p = absurd p
-takes_no_more n a (Some all) (Some rest) e p = let f = ap length p in omega (arith, length-append a rest)
 
 -- what is left is the rest
 pub takes_to : (n : ℕ) (a : List ℕ) (x y : Option (List ℕ)) → n ≡ length a → Takes a x y → IfSome x (λ all. y ≡ Some (drop n all))
@@ -62,8 +52,3 @@ takes_past n a (Some all) (Some rest) e p = let f = ap length p in omega (arith,
 -- so many were taken as were there before and came with one read
 pub taken_length : (a b : List ℕ) (n : ℕ) → n ≤ length b → length (a ++ take n b) ≡ length a + n
 taken_length a b n h = omega (arith, length-append a (take n b), length-take n b)
-
--- what holds of the bytes that were read whole holds of all that was left, where that was told
-pub holds_of_all : (P : List ℕ → Type 0) (x : Option (List ℕ)) (bytes : List ℕ) → IfSome x (λ all. bytes ≡ all) → P bytes → IfSome x P
-holds_of_all P None bytes e p = tt
-holds_of_all P (Some all) bytes e p = subst P e p

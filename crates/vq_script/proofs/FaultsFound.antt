@@ -43,10 +43,6 @@ fault_with before words plain form = find (has_fault_with before words plain for
 fault_is : (form : Form) (before : List Line) (words : List (List ℕ)) → fault_of form before words ≡ fault_with before words (list_all (list_all is_plain) words) (form_of form before words)
 fault_is form before words = refl
 
--- words with a byte that isn't plain
-unplain_fault : (form : Form) (before : List Line) (words : List (List ℕ)) → list_all (list_all is_plain) words ≡ false → fault_of form before words ≡ Some Syntax
-unplain_fault form before words h = ap (λ b. fault_with before words b (form_of form before words)) h
-
 -- words of a form have the faults that the form and its places have
 found_fault : (before : List Line) (words : List (List ℕ)) (f : LineForm) → fault_with before words true (where_built (Some f)) ≡ first_fault before (with_words words f)
 found_fault before words f = by_built (is_built f) refl
@@ -62,12 +58,6 @@ found_meaning before words f h = by_built (is_built f) refl
     by_built : (b : Bool) → is_built f ≡ b → meaning_with before words (where_built (Some f)) ≡ statement_at before (with_words words f)
     by_built true e = rw e refl
     by_built false e = absurd (cc (rw e at h))
-
--- reading a line whose words aren't plain
-pub reads_unplain : (form : Form) (lines : List Line) (n : ℕ) (words : List (List ℕ)) → 0 < length words → list_all (list_all is_plain) words ≡ false → read_statement form lines n words ≡ Err Syntax
-reads_unplain form lines n [] some h = absurd (omega arith)
-reads_unplain form lines n (word ∷ words) some h =
-    ap (λ k. without_fault k (option_map_or (with_line lines n) (meaning form lines (word ∷ words)) lines)) (unplain_fault form lines (word ∷ words) h)
 
 -- words of no form
 pub reads_none : (form : Form) (lines : List Line) (n : ℕ) (words : List (List ℕ))

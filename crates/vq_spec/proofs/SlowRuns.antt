@@ -35,9 +35,6 @@ few_buffers s i = (read_valid s i).limits.buffers
 pub sizes_of_plan : (p : Plan) → IsPlan p → p.sizes ≡ sizes_of p.script
 sizes_of_plan p h = ap (λ q. q.sizes) h.lowered
 
-pub has_sizes : (sizes : List ℕ) (m : Memory) → map length m ≡ sizes → HasSizes sizes m
-has_sizes sizes m e = subst (λ (ns : List ℕ). HasSizes ns m) e (has_own_sizes m)
-
 -- Commands of a job
 
 pub command_within : (cs : List CommandLine) (c : ℕ) (x : Command) →

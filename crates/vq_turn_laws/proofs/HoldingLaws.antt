@@ -369,16 +369,3 @@ passes_task p w a t before j same k =
       referred = λ e. let s = same e in let o = k.referred e in omega arith;
       looked = k.looked;
     }
-
--- The actor's next job hasn't referred to anything yet.
-pub next_begins : (p : Plan) (w : PointState) (a : ActorName) (before : List Task) (j i : ℕ) →
-    ((e : ℕ) → count_of (w.referred i) e ≡ 0) → ((e : ℕ) → count_of (w.looked i) e ≡ 0) →
-    HoldsTruly p w a before j [] [] false → HoldsTruly p w a before i [] [] false
-next_begins p w a before j i r l k =
-    record {
-      tie = k.tie;
-      of_need = λ m x h is n at. absurd (let z = at in cc);
-      above = λ m x h is n at. absurd (let z = at in cc);
-      referred = λ e. let x = r e in omega arith;
-      looked = λ e. let x = l e in omega arith;
-    }
