@@ -7,7 +7,7 @@ pub use Rattle.vq_board_laws.proofs.Frames.{so_of}
 pub use Rattle.vq_board_laws.proofs.JobSteps.{batch_exists, looks_at_job, releases_job, state_of_number, submits_job}
 pub use Rattle.vq_board_laws.proofs.LookSteps.{looks_at_point}
 pub use Rattle.vq_board_laws.proofs.MakeSteps.{makes_point}
-pub use Rattle.vq_board_laws.proofs.Moments.{at_a_moment, at_a_finding}
+pub use Rattle.vq_board_laws.proofs.Moments.{loads_at, stores_at, adds_at, exchanges_at}
 pub use Rattle.vq_board_laws.proofs.Needed.{made_still, reached_still, needs_still, needs_later, needs_to_end, needs_nothing}
 pub use Rattle.vq_board_laws.proofs.OpSteps.{binds_op, completes_op, op_number_is, recalls_op}
 pub use Rattle.vq_board_laws.proofs.Opens.{deals, opens}
