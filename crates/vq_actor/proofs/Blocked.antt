@@ -1,6 +1,6 @@
 -- Tasks that are blocked: a bind, a signal, a look.
 use Rattle.std.proofs.Common.{◌≡◌, ℕ, Bool, true, false, if◌then◌else◌, Option, Some, None, Result, Ok, Err}
-use Rattle.std.proofs.Common.{refl, subst, ap, ◌∙◌}
+use Rattle.std.proofs.Common.{refl, sym, subst, ap, ◌∙◌}
 use Rattle.std.specs.Option.{option_map_or}
 use Rattle.vq_model.specs.declared.plan.Event.{Event}
 use Rattle.vq_model.specs.declared.plan.Event.TheVariants.{Bind as Binds, Signal as Signals}
@@ -9,11 +9,11 @@ use Rattle.vq_turns.specs.declared.task.Task.TheVariants.{Bind, Signal}
 use Rattle.vq_turns.specs.declared.outcome.Want.{Want}
 use Rattle.vq_turns.specs.declared.outcome.Want.TheVariants.{Next, Bound}
 use Rattle.vq_turns.specs.declared.outcome.Outcome.TheVariants.{Blocked}
-use Rattle.vq_turns.specs.Turns.{Ends, does, forward, moves, unbound_before, point_of}
-use Rattle.vq_actor.specs.declared.doing.Doing.TheVariants.{Stays}
+use Rattle.vq_turns.specs.Turns.{Ends as EndsAt, does, forward, moves, unbound_before, point_of}
+use Rattle.vq_actor.specs.declared.doing.Doing.TheVariants.{Ends}
 use Rattle.vq_actor.specs.Meanings.{Meaning, IsShownSince}
 use Rattle.vq_actor.specs.Answers.{AnswersTry, Is, IsBindOf, bound_or, bound_first}
-use Rattle.vq_actor.specs.Doings.{DidTask, outcome_of}
+use Rattle.vq_actor.specs.Doings.{DidTo, outcome_of}
 
 abbrev made : Event → Result Event Want
 made event = Ok event
@@ -27,40 +27,44 @@ refused_by : (b : Bool) (x : Event) (v want : Want) → refused want ≡ (if b t
 refused_by true x v want e = absurd (cc)
 refused_by false x v want e = (refl, cc)
 
-pub same_want : (want v : Want) → outcome_of (Stays (Blocked want)) ≡ Some (Blocked v) → want ≡ v
+pub same_want : (want v : Want) → outcome_of (Ends (Blocked want)) ≡ Some (Blocked v) → want ≡ v
 same_want want v q = cc
 
 module _ (a : Meaning) (b : Meaning) (shows : Want → ℕ × ℕ → Type 0) (want : Want) where
   pub bind_blocked : (e : ℕ) →
       AnswersTry a b (forward a.place) (λ w. bound_or a.plan w e) (IsBindOf e) shows (Err want) →
-      DidTask a b (Bind e) shows (Stays (Blocked want))
+      DidTo a b (Bind e) shows (Ends (Blocked want))
   bind_blocked e k =
       record {
         kept = k.kept;
-        place = k.place;
         events = k.events;
-        state = λ w is. (by_unbound w (unbound_before a.plan w e) (k.state w is).0, (k.state w is).1);
+        further = tt;
+        state = λ w is. (
+          by_unbound w (unbound_before a.plan w e) (k.state w is).0 ∙ ap (EndsAt (Blocked want)) (sym k.place),
+          (k.state w is).1,
+        );
         shown = λ v x. subst (λ (u : Want). IsShownSince a.steps (shows u)) (same_want want v x) k.shown;
         unended = λ x. cc;
       }
     where
       by_unbound : (w : PointState) (o : Option ℕ) →
           refused want ≡ option_map_or (λ f. Err (Next f)) o (Ok (Binds e (point_of w e))) →
-          option_map_or (λ f. Ends (Blocked (Next f)) a.place) o (moves (Binds e (point_of w e)) a.place)
-          ≡ Ends (Blocked want) a.place
+          option_map_or (λ f. EndsAt (Blocked (Next f)) a.place) o (moves (Binds e (point_of w e)) a.place)
+          ≡ EndsAt (Blocked want) a.place
       by_unbound w None q = absurd (cc)
       by_unbound w (Some f) q = cc
 
   pub signal_blocked : (e : ℕ) →
       AnswersTry a b (forward a.place) (λ w. bound_first w (Signals e) e) (Is (Signals e)) shows (Err want) →
-      DidTask a b (Signal e) shows (Stays (Blocked want))
+      DidTo a b (Signal e) shows (Ends (Blocked want))
   signal_blocked e k =
       record {
         kept = k.kept;
-        place = k.place;
         events = k.events;
+        further = tt;
         state = λ w is. (
-          by_bound w (refused_by (w.bound e) (Signals e) (Bound e) want (k.state w is).0),
+          by_bound w (refused_by (w.bound e) (Signals e) (Bound e) want (k.state w is).0)
+              ∙ ap (EndsAt (Blocked want)) (sym k.place),
           (k.state w is).1,
         );
         shown = λ v x. subst (λ (u : Want). IsShownSince a.steps (shows u)) (same_want want v x) k.shown;
@@ -68,7 +72,7 @@ module _ (a : Meaning) (b : Meaning) (shows : Want → ℕ × ℕ → Type 0) (w
       }
     where
       by_bound : (w : PointState) → (w.bound e ≡ false) × (Bound e ≡ want) →
-          does a.plan w a.actor a.place (Signal e) ≡ Ends (Blocked want) a.place
+          does a.plan w a.actor a.place (Signal e) ≡ EndsAt (Blocked want) a.place
       by_bound w h =
-          ap (λ t. if t then moves (Signals e) a.place else Ends (Blocked (Bound e)) a.place) h.0
-          ∙ ap (λ v. Ends (Blocked v) a.place) h.1
+          ap (λ t. if t then moves (Signals e) a.place else EndsAt (Blocked (Bound e)) a.place) h.0
+          ∙ ap (λ v. EndsAt (Blocked v) a.place) h.1

@@ -1,7 +1,8 @@
 -- A tracked place keeps its room, task after task.
-use Rattle.std.proofs.Common.{◌≡◌, ℕ, ◌+◌, ◌<◌, ◌≤◌, ◌^◌, ◌-◌, true, false, if◌then◌else◌, List, [], ◌∷◌}
+use Rattle.std.proofs.Common.{◌≡◌, ℕ, suc, ◌∙◌, ◌+◌, ◌<◌, ◌≤◌, ◌^◌, ◌-◌, true, false, if◌then◌else◌, List, [], ◌∷◌}
 use Rattle.std.proofs.Common.{All, length, drop, Some, refl, sym, ap, subst, arith, length-append}
 use Rattle.std.specs.List.{slice_get}
+use Rattle.std.proofs.lemmas.List.Sums.{sum_by-cons}
 use Rattle.std.proofs.lemmas.Option.{slice_get_within}
 use Rattle.vq_model.specs.declared.plan.Need.{Need}
 use Rattle.vq_turns.specs.declared.look.Holding.{Holding}
@@ -12,8 +13,23 @@ use Rattle.vq_actor.specs.Answers.{answered}
 use Rattle.vq_actor.specs.Waits.{met_at, looked_at, given_back}
 use Rattle.vq_actor.specs.Positions.{HasRoom, is_compare, compares}
 use Rattle.vq_actor.specs.Trackers.{Tracked, FitsIn}
-use Rattle.vq_actor.proofs.TurnSteps.{all_at}
-use Rattle.vq_actor.proofs.PositionsKept.{compares_at}
+use Rattle.vq_actor.proofs.TurnSteps.{all_at, drop_at}
+
+-- how many comparisons are left, before and after a task
+compares_at : (tasks : List Task) (k : ℕ) (t : Task) → slice_get tasks k ≡ Some t →
+    compares (drop k tasks) ≡ compares (drop (k + 1) tasks) + (if is_compare t then 1 else 0)
+compares_at tasks k t at =
+    let e : suc k ≡ k + 1 = omega arith in
+    ap compares (drop_at tasks k t at ∙ ap (λ (i : ℕ). t ∷ drop i tasks) e)
+    ∙ (sum_by-cons (λ u. if is_compare u then 1 else 0) t (drop (k + 1) tasks)
+    ∙ turned (if is_compare t then 1 else 0) (compares (drop (k + 1) tasks)))
+  where
+    turned : (u v : ℕ) → u + v ≡ v + u
+    turned u v = omega arith
+
+-- where there is room there is also in more
+pub more_room : (t : Task) (r s : ℕ) → r ≤ s → HasRoom r t → HasRoom s t
+more_room t r s le h = omega (arith, le, h)
 
 module _ (tasks : List Task) (x : Tracked) (t : Task) (at : slice_get tasks x.place.done ≡ Some t)
     (f : FitsIn tasks x) where

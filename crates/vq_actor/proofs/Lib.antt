@@ -3,10 +3,11 @@ pub mod Cited
 mod Comparing
 mod Doable
 mod Fitting
+mod HostService
 mod HostTurns
 mod Keeping
-mod PositionsKept
 mod ProgramsMade
+mod QueueCounts
 mod Resolved
 mod Rounds
 mod Seeking

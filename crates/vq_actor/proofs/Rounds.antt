@@ -1,5 +1,5 @@
 -- A wait goes through its needs.
-use Rattle.std.proofs.Common.{◌≡◌, ℕ, zero, suc, ◌+◌, ◌≤◌, ◌⊎◌, ◌++◌, ◌||◌, nat_le, is_some, Bool, true, false}
+use Rattle.std.proofs.Common.{◌≡◌, ℕ, zero, suc, ◌+◌, ◌≤◌, ◌⊎◌, ◌||◌, nat_le, is_some, Bool, true, false}
 use Rattle.std.proofs.Common.{if◌then◌else◌, List, [], ◌∷◌}
 use Rattle.std.proofs.Common.{length, drop, Option, Some, None, refl, sym, subst, ap, ◌∙◌, arith, inl, inr}
 use Rattle.std.specs.List.{slice_get, enumerate_from}
@@ -10,21 +10,20 @@ use Rattle.vq_model.specs.declared.plan.Need.{Need}
 use Rattle.vq_model.specs.Plan.{initial, resolver}
 use Rattle.vq_points.specs.Points.{PointState}
 use Rattle.vq_turns.specs.declared.look.Found.TheVariants.{Past}
-use Rattle.vq_turns.specs.declared.look.Holding.{Holding}
 use Rattle.vq_turns.specs.declared.task.Task.TheVariants.{AwaitNeeds}
 use Rattle.vq_turns.specs.declared.outcome.Want.{Want}
 use Rattle.vq_turns.specs.declared.outcome.Outcome.TheVariants.{Blocked, Ended}
 use Rattle.vq_turns.specs.Programs.{program}
-use Rattle.vq_turns.specs.Turns.{Place, Did, Ends, found_by, by_found, one_need, held_for, gives_back, awaits_needs}
+use Rattle.vq_turns.specs.Turns.{Place, Did, Ends as EndsAt, found_by, by_found, one_need, held_for, gives_back}
+use Rattle.vq_turns.specs.Turns.{awaits_needs}
 use Rattle.vq_actor.specs.declared.doing.Doing.{Doing}
-use Rattle.vq_actor.specs.declared.doing.Doing.TheVariants.{Stays}
-use Rattle.vq_actor.specs.declared.position.Held.{Held}
+use Rattle.vq_actor.specs.declared.doing.Doing.TheVariants.{Ends}
 use Rattle.vq_actor.specs.Meanings.{Meaning, Keeps, IsNext, IsShownSince}
 use Rattle.vq_actor.specs.Waits.{is_resolved}
-use Rattle.vq_actor.specs.Positions.{holding_from}
-use Rattle.vq_actor.specs.Doings.{DidTo, DidNeed, PassedNeed, waited, did_of, outcome_of, events_by_task, world_left}
-use Rattle.vq_actor.proofs.Keeping.{keeps_itself, keeps_along, shown_before, unchanged}
-use Rattle.vq_actor.proofs.Slots.{held_isnt}
+use Rattle.vq_actor.specs.Doings.{DidTo, DidNeed, PassedNeed, events_by_task, world_left}
+use Rattle.vq_actor.proofs.Blocked.{same_want}
+use Rattle.vq_actor.proofs.Keeping.{keeps_itself, keeps_along, shown_before, none_noted, noted_behind}
+use Rattle.vq_actor.proofs.Seeking.{further_from}
 
 -- what is looked for from an index on
 abbrev left : List Need → ℕ → List (ℕ × Need)
@@ -86,6 +85,9 @@ module _ (a : Meaning) (m : Meaning) (ns : List Need) (shows : Want → ℕ × �
       ∙ (ap (λ v. slice_get (program a.plan v) m.place.done) r.kept.actor
       ∙ (ap (λ (x : Place). slice_get (program a.plan a.actor) x.done) r.place ∙ h))
 
+  pub waits_on : a.place.met ≡ false → m.place.met ≡ false
+  waits_on h = ap (λ (x : Place). x.met) r.place ∙ h
+
   module _ (n : Need) (at : slice_get ns k ≡ Some n) where
     steps_to : (w : PointState) → a.state ≡ Some w →
         awaits_needs a.plan w a.actor a.place (enumerate_from 0 ns) None
@@ -103,10 +105,9 @@ module _ (a : Meaning) (m : Meaning) (ns : List Need) (shows : Want → ℕ × �
         ∙ ap (λ (x : Place). one_need m.plan w m.actor x k n (held_for k x.holding) next_need want) (sym r.place))
 
     -- a need that nothing resolves is passed over
-    pub passes_over : (slots : List (Option Held)) → a.place.holding ≡ holding_from 0 slots →
-        slice_get slots k ≡ Some None → is_resolved m.plan n.chain n.value ≡ false →
+    pub passes_over : held_for k m.place.holding ≡ None → is_resolved m.plan n.chain n.value ≡ false →
         Round a m ns shows (k + 1) last
-    passes_over slots holds empty unresolved =
+    passes_over empty unresolved =
         let isnt : is_resolved a.plan n.chain n.value ≡ false =
         ap (λ p. is_resolved p n.chain n.value) (sym r.kept.plan) ∙ unresolved in
         record {
@@ -118,7 +119,7 @@ module _ (a : Meaning) (m : Meaning) (ns : List Need) (shows : Want → ℕ × �
               steps_to w is
               ∙ (ap (λ o. one_need a.plan w a.actor a.place k n o (awaits_needs a.plan w a.actor a.place
               (left ns (k + 1))) last)
-              (ap (held_for k) holds ∙ held_isnt slots k empty)
+              (ap (λ (x : Place). held_for k x.holding) (sym r.place) ∙ empty)
               ∙ ap (by_found a.actor a.place k (awaits_needs a.plan w a.actor a.place (left ns (k + 1))) last)
               (none_found w (nat_le n.value (initial a.plan n.chain)) (resolver a.plan n.chain n.value) isnt));
           shown = r.shown;
@@ -156,33 +157,28 @@ module _ (a : Meaning) (m : Meaning) (ns : List Need) (shows : Want → ℕ × �
               steps_to w is
               ∙ (same_need w (awaits_needs a.plan w a.actor a.place (left ns (k + 1))) last
               ∙ h.state w (r.is_state w is) (awaits_needs a.plan w a.actor a.place (left ns (k + 1))) last);
-          shown = λ v x. subst (λ (u : Want). IsShownSince a.steps (finds u)) (same_want v x)
+          shown = λ v x. subst (λ (u : Want). IsShownSince a.steps (finds u)) (same_some v x)
               (shown_before a.steps m.steps (finds want) r.kept.steps h.shown);
           asked = λ x. absurd (cc);
         }
       where
-        same_want : (v : Want) → Some want ≡ Some v → want ≡ v
-        same_want v x = cc
+        same_some : (v : Want) → Some want ≡ Some v → want ≡ v
+        same_some v x = cc
 
     -- a need that ends the round
-    pub ends_round : (b : Meaning) (finds : Want → ℕ × ℕ →
-        Type 0) (did : Doing) (slots : List (Option Held)) (met : Bool) →
-        a.place.met ≡ false → DidNeed m b (waited m.place did slots met) k n finds did →
-        DidTo a b (waited a.place did slots met) (AwaitNeeds ns) finds did
-    ends_round b finds did slots met waiting d =
-        let same : waited m.place did slots met ≡ waited a.place did slots met =
-        ap (λ (x : Place). waited x did slots met) r.place in
+    pub ends_round : (b : Meaning) (finds : Want → ℕ × ℕ → Type 0) (did : Doing) → a.place.met ≡ false →
+        DidNeed m b k n finds did → DidTo a b (AwaitNeeds ns) finds did
+    ends_round b finds did waiting d =
         record {
           kept = keeps_along a m b r.kept d.kept;
-          place = d.place ∙ same;
-          events = d.events ∙ ap (λ xs. xs ++ events_by_task did) r.events;
+          events = noted_behind a m (events_by_task did) b.events r.kept r.events d.events;
+          further = further_from did a.place b.place m.place (ap (λ (x : Place). x.done) r.place) d.further;
           state = λ w is.
               let next_need = awaits_needs a.plan w a.actor a.place (left ns (k + 1)) in (
                 ap (λ b'. if b' then gives_back a.actor a.place a.place.holding
                     else awaits_needs a.plan w a.actor a.place (enumerate_from 0 ns) None) waiting
                     ∙ (steps_to w is
-                    ∙ (same_need w next_need last
-                    ∙ ((d.state w (r.is_state w is)).0 next_need last ∙ ap (did_of did) same))),
+                    ∙ (same_need w next_need last ∙ (d.state w (r.is_state w is)).0 next_need last)),
                 (d.state w (r.is_state w is)).1 ∙ ap (λ p. Some (world_left p w did)) r.kept.plan,
               );
           shown = λ want x. shown_before a.steps m.steps (finds want) r.kept.steps (d.shown want x);
@@ -190,43 +186,23 @@ module _ (a : Meaning) (m : Meaning) (ns : List Need) (shows : Want → ℕ × �
         }
 
   -- all needs were passed
-  pub is_blocked : (slots : List (Option Held)) (want : Want) → k ≡ length ns → last ≡ Some want →
-      a.place.met ≡ false → a.place.holding ≡ holding_from 0 slots →
-      DidTo a m (waited a.place (Stays (Blocked want)) slots false) (AwaitNeeds ns) shows (Stays (Blocked want))
-  is_blocked slots want at_end is_last waiting holds =
-      let by_holding : List Holding → Place = λ hs. record {
-        done = a.place.done;
-        holding = hs;
-        met =
-            a.place.met;
-        seen = a.place.seen;
-      } in
-      let by_met : Bool → Place = λ x. record {
-        done = a.place.done;
-        holding = holding_from 0 slots;
-        met =
-            x;
-        seen = a.place.seen;
-      } in
-      let same : a.place ≡ waited a.place (Stays (Blocked want)) slots false = ap by_holding holds
-      ∙ ap by_met waiting in
+  pub is_blocked : (want : Want) → k ≡ length ns → last ≡ Some want → a.place.met ≡ false →
+      DidTo a m (AwaitNeeds ns) shows (Ends (Blocked want))
+  is_blocked want at_end is_last waiting =
       record {
         kept = r.kept;
-        place = r.place ∙ same;
-        events = unchanged a.events m.events [] r.events refl;
+        events = none_noted a m.events r.events;
+        further = tt;
         state = λ w is. (
           ap (λ b'. if b' then gives_back a.actor a.place a.place.holding
               else awaits_needs a.plan w a.actor a.place (enumerate_from 0 ns) None) waiting
               ∙ (r.turn w is
               ∙ (ap (λ (i : ℕ). awaits_needs a.plan w a.actor a.place (left ns i) last) at_end
               ∙ (ap (λ xs. awaits_needs a.plan w a.actor a.place (enumerate_from (length ns) xs) last) (drop-length ns)
-              ∙ (ap (λ o. option_map_or (λ v. Ends (Blocked v) a.place) o (Ends Ended a.place)) is_last
-              ∙ ap (Ends (Blocked want)) same)))),
+              ∙ (ap (λ o. option_map_or (λ v. EndsAt (Blocked v) a.place) o (EndsAt Ended a.place)) is_last
+              ∙ ap (EndsAt (Blocked want)) (sym r.place))))),
           r.is_state w is,
         );
-        shown = λ v x. subst (λ (u : Want). IsShownSince a.steps (shows u)) (same_want v x) (r.shown want is_last);
+        shown = λ v x. subst (λ (u : Want). IsShownSince a.steps (shows u)) (same_want want v x) (r.shown want is_last);
         unended = λ x. cc;
       }
-    where
-      same_want : (v : Want) → outcome_of (Stays (Blocked want)) ≡ Some (Blocked v) → want ≡ v
-      same_want v x = cc

@@ -1,13 +1,14 @@
 -- References by the need for which they are held.
-use Rattle.std.proofs.Common.{◌≡◌, ℕ, zero, suc, ◌+◌, ◌<◌, ◌==◌, nat_lt, true, false, if◌then◌else◌, List, [], ◌∷◌}
+use Rattle.std.proofs.Common.{◌≡◌, ℕ, zero, suc, ◌+◌, ◌<◌, ◌≤◌, ◌==◌, nat_lt, Bool, true, false, if◌then◌else◌, List, [], ◌∷◌}
 use Rattle.std.proofs.Common.{length, map, set, get_or, Option, Some, None, refl, sym, ap, subst, ◌∙◌, arith, inl}
 use Rattle.std.proofs.Common.{inr}
 use Rattle.std.specs.List.{slice_get, range_with_len}
+use Rattle.std.specs.Option.{option_map}
 use Rattle.std.proofs.lemmas.Option.{slice_get-get_or}
 use Rattle.std.proofs.lemmas.Bool.{eq-eqb, ne_eqb, lt-ltb, le-ltb, cases_lt}
 use Rattle.vq_turns.specs.declared.look.Holding.{Holding}
 use Rattle.vq_turns.specs.Turns.{held_for, with_holding}
-use Rattle.vq_actor.specs.declared.position.Held.{Held}
+use Rattle.vq_actor.specs.declared.held.Held.{Held}
 use Rattle.vq_actor.specs.Positions.{holding_of, holding_from, IsFirstHeld}
 
 abbrev Slots : Type 0
@@ -96,7 +97,19 @@ put_at (Some x ∷ xs) a (suc i) h e =
     ∙ sym (ap (λ b. if b then holding_of (a + suc i) h ∷ holding_of a x ∷ holding_from (a + 1) xs
     else holding_of a x ∷ with_holding (holding_of (a + suc i) h) (holding_from (a + 1) xs)) isnt)
 
+-- what is held for needs beyond the last slot
+held_past : (xs : Slots) (a k : ℕ) → a + length xs ≤ k → held_for k (holding_from a xs) ≡ None
+held_past [] a k h = refl
+held_past (None ∷ xs) a k h = held_past xs (a + 1) k (omega arith)
+held_past (Some x ∷ xs) a k h =
+    let isnt : (a == k) ≡ false = other_number a k (omega arith) in
+    ap (λ b. if b then Some (holding_of a x) else held_for k (holding_from (a + 1) xs)) isnt
+    ∙ held_past xs (a + 1) k (omega arith)
+
 -- Of all needs
+
+pub held_beyond : (xs : Slots) (k : ℕ) → length xs ≤ k → held_for k (holding_from 0 xs) ≡ None
+held_beyond xs k h = held_past xs 0 k (omega arith)
 
 pub held_is : (xs : Slots) (i : ℕ) (h : Held) → slice_get xs i ≡ Some (Some h) →
     held_for i (holding_from 0 xs) ≡ Some (holding_of i h)
@@ -191,3 +204,26 @@ slot_free xs k l free = by_slot (get_or xs k None) refl
     by_slot None e = slot_at xs k None l e
     by_slot (Some h) e =
         absurd (some_none (holding_of k h) (sym (held_is xs k h (slot_at xs k (Some h) l e)) ∙ free))
+
+-- a slot, as what is held for its need
+pub held_as : (xs : Slots) (k : ℕ) (o : Option Held) → slice_get xs k ≡ found o →
+    held_for k (holding_from 0 xs) ≡ option_map (holding_of k) o
+held_as xs k None e = held_isnt xs k e
+held_as xs k (Some h) e = held_is xs k h e
+
+pub none_held_for : (k : ℕ) (o : Option Held) → option_map (holding_of k) o ≡ None → o ≡ None
+none_held_for k None e = refl
+none_held_for k (Some h) e = absurd (cc)
+
+-- where a reference was put, something is held
+with_some : (h : Holding) (xs : List Holding) → with_holding h xs ≡ [] → ⊥
+with_some h [] e = cc
+with_some h (x ∷ xs) e = by_test (nat_lt h.need x.need) e
+  where
+    by_test : (b : Bool) → (if b then h ∷ x ∷ xs else x ∷ with_holding h xs) ≡ [] → ⊥
+    by_test true e = cc
+    by_test false e = cc
+
+pub holds_put : (xs : Slots) (k : ℕ) (h : Held) → slice_get xs k ≡ found None →
+    holding_from 0 (set xs k (Some h)) ≡ [] → ⊥
+holds_put xs k h free e = with_some (holding_of k h) (holding_from 0 xs) (sym (put_is xs k h free) ∙ e)

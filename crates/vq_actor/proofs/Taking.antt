@@ -1,35 +1,19 @@
 -- A take begins with a collection.
-use Rattle.std.proofs.Common.{
-  ◌≡◌,
-  ℕ,
-  [],
-  ◌∷◌,
-  ◌++◌,
-  append-nil,
-  Option,
-  Some,
-  None,
-  Result,
-  Ok,
-  Err,
-  sym,
-  subst,
-  ap,
-  ◌∙◌,
-}
+use Rattle.std.proofs.Common.{◌≡◌, ℕ, append-nil, Option, Some, None, Result, Ok, Err, sym, subst, ap, ◌∙◌, ◌∷◌, []}
 use Rattle.std.specs.Option.{option_map_or}
 use Rattle.vq_model.specs.declared.plan.Event.{Event}
 use Rattle.vq_points.specs.Points.{PointState, after_event}
 use Rattle.vq_turns.specs.declared.task.Task.TheVariants.{Take}
 use Rattle.vq_turns.specs.declared.outcome.Want.{Want}
 use Rattle.vq_turns.specs.declared.outcome.Outcome.TheVariants.{Moved, Blocked}
-use Rattle.vq_turns.specs.Turns.{forward, Ends, does, moves, collected, taken}
-use Rattle.vq_actor.specs.declared.doing.Doing.TheVariants.{Stays, Leaves}
+use Rattle.vq_turns.specs.Turns.{Place, forward, Ends as EndsAt, does, moves, collected, taken}
+use Rattle.vq_actor.specs.declared.doing.Doing.TheVariants.{Ends}
 use Rattle.vq_actor.specs.Meanings.{Meaning, IsShownSince}
 use Rattle.vq_actor.specs.Answers.{AnswersTry}
 use Rattle.vq_actor.specs.Collections.{AnswersCollect, IsTakeOf, emptied}
-use Rattle.vq_actor.specs.Doings.{DidTask, outcome_of}
-use Rattle.vq_actor.proofs.Keeping.{keeps_along, shown_before}
+use Rattle.vq_actor.specs.Doings.{DidTo}
+use Rattle.vq_actor.proofs.Blocked.{same_want}
+use Rattle.vq_actor.proofs.Keeping.{keeps_along, shown_before, noted_behind}
 
 abbrev made : Event → Result Event Want
 made event = Ok event
@@ -39,20 +23,23 @@ refused want = Err want
 
 collects : (a : Meaning) (w : PointState) (e t : ℕ) (found : Option Event) → found ≡ collected a.plan w t →
     does a.plan w a.actor a.place (Take e t)
-    ≡ option_map_or (λ event. Ends (Moved event) a.place) found (moves (taken w e t) a.place)
+    ≡ option_map_or (λ event. EndsAt (Moved event) a.place) found (moves (taken w e t) a.place)
 collects a w e t found is =
-    ap (λ o. option_map_or (λ event. Ends (Moved event) a.place) o (moves (taken w e t) a.place)) (sym is)
+    ap (λ o. option_map_or (λ event. EndsAt (Moved event) a.place) o (moves (taken w e t) a.place)) (sym is)
 
 module _ (a : Meaning) (b : Meaning) (e : ℕ) (shows : Want → ℕ × ℕ → Type 0) where
   -- the collection made an event, which is the turn
   pub take_collects : (t : ℕ) (event : Event) → AnswersCollect a b t (Some event) →
-      DidTask a b (Take e t) shows (Stays (Moved event))
+      DidTo a b (Take e t) shows (Ends (Moved event))
   take_collects t event h =
       record {
         kept = h.kept;
-        place = h.place;
         events = h.events;
-        state = λ w is. (collects a w e t (Some event) (h.state w is).0, (h.state w is).1);
+        further = tt;
+        state = λ w is. (
+          collects a w e t (Some event) (h.state w is).0 ∙ ap (EndsAt (Moved event)) (sym h.place),
+          (h.state w is).1,
+        );
         shown = λ want x. absurd (cc);
         unended = λ x. cc;
       }
@@ -74,17 +61,19 @@ module _ (a : Meaning) (b : Meaning) (e : ℕ) (shows : Want → ℕ × ℕ → 
 
     pub take_leaves : (event : Event) →
         AnswersTry m b (forward m.place) (λ w. Ok (taken w e (emptied m.recent))) (IsTakeOf e) shows (Ok event) →
-        DidTask a b (Take e t) shows (Leaves (Moved event))
+        DidTo a b (Take e t) shows (Ends (Moved event))
     take_leaves event k =
+        let there : b.place ≡ forward a.place = k.place ∙ ap forward h.place in
         record {
           kept = keeps_along a m b h.kept k.kept;
-          place = k.place ∙ ap forward h.place;
-          events = k.events ∙ ap (λ xs. xs ++ event ∷ []) none_made;
+          events = noted_behind a m (event ∷ []) b.events h.kept none_made k.events;
+          further = tt;
           state = λ w is. (
             goes_to_take w is
                 ∙ (ap (λ v. moves (taken w e v) a.place) (sym same_chain)
-                ∙ ap (λ v. moves v a.place)
-                (sym (ok_same event (taken w e (emptied m.recent)) (k.state w (same_world w is)).0))),
+                ∙ (ap (λ v. moves v a.place)
+                (sym (ok_same event (taken w e (emptied m.recent)) (k.state w (same_world w is)).0))
+                ∙ ap (EndsAt (Moved event)) (sym there))),
             (k.state w (same_world w is)).1 ∙ ap (λ p. Some (after_event p w event)) h.kept.plan,
           );
           shown = λ want x. absurd (cc);
@@ -96,20 +85,17 @@ module _ (a : Meaning) (b : Meaning) (e : ℕ) (shows : Want → ℕ × ℕ → 
 
     pub take_stays : (want : Want) →
         AnswersTry m b (forward m.place) (λ w. Ok (taken w e (emptied m.recent))) (IsTakeOf e) shows (Err want) →
-        DidTask a b (Take e t) shows (Stays (Blocked want))
+        DidTo a b (Take e t) shows (Ends (Blocked want))
     take_stays want k =
         record {
           kept = keeps_along a m b h.kept k.kept;
-          place = k.place ∙ h.place;
-          events = k.events ∙ ap (λ xs. xs ++ []) none_made;
+          events = noted_behind a m [] b.events h.kept none_made k.events;
+          further = tt;
           state = λ w is. absurd (never w (k.state w (same_world w is)).0);
-          shown = λ v x. subst (λ (u : Want). IsShownSince a.steps (shows u)) (want_same v x)
+          shown = λ v x. subst (λ (u : Want). IsShownSince a.steps (shows u)) (same_want want v x)
               (shown_before a.steps m.steps (shows want) h.kept.steps k.shown);
           unended = λ x. cc;
         }
       where
         never : (w : PointState) → refused want ≡ made (taken w e (emptied m.recent)) → ⊥
         never w q = cc
-
-        want_same : (v : Want) → outcome_of (Stays (Blocked want)) ≡ Some (Blocked v) → want ≡ v
-        want_same v q = cc

@@ -1,8 +1,8 @@
 -- A turn, task by task.
-use Rattle.std.proofs.Common.{◌≡◌, ℕ, zero, suc, ◌+◌, ◌<◌, List, [], ◌∷◌, ◌++◌, length, drop, get_or, All, Some, None}
+use Rattle.std.proofs.Common.{◌≡◌, ℕ, zero, suc, ◌+◌, ◌<◌, ◌≤◌, List, [], ◌∷◌, length, drop, get_or, All, Some, None}
 use Rattle.std.proofs.Common.{refl, sym, ap, subst, ◌∙◌, arith, append-nil}
 use Rattle.std.specs.List.{slice_get}
-use Rattle.std.proofs.Math.Seq.{drop-length}
+use Rattle.std.proofs.lemmas.List.{drop_all}
 use Rattle.std.proofs.lemmas.List.Elements.{All-head, All-tail}
 use Rattle.vq_model.specs.Plan.{Plan}
 use Rattle.vq_points.specs.Points.{PointState}
@@ -11,14 +11,14 @@ use Rattle.vq_turns.specs.declared.outcome.Want.{Want}
 use Rattle.vq_turns.specs.declared.outcome.Outcome.{Outcome}
 use Rattle.vq_turns.specs.declared.outcome.Outcome.TheVariants.{Ended}
 use Rattle.vq_turns.specs.Programs.{program}
-use Rattle.vq_turns.specs.Turns.{Place, Turned, Ends, does, and_then, turn_from, turn_of, world_after}
+use Rattle.vq_turns.specs.Turns.{Place, Turned, does, and_then, turn_from, turn_of, world_after}
 use Rattle.vq_actor.specs.declared.doing.Doing.{Doing}
-use Rattle.vq_actor.specs.declared.doing.Doing.TheVariants.{GoesOn, Stays, Leaves}
+use Rattle.vq_actor.specs.declared.doing.Doing.TheVariants.{GoesOn, Ends}
 use Rattle.vq_actor.specs.Meanings.{Meaning, Keeps, IsNext, next_task}
 use Rattle.vq_actor.specs.Actors.{IsTurn, events_by}
 use Rattle.vq_actor.specs.Positions.{MayBeDone}
-use Rattle.vq_actor.specs.Doings.{DidTo, did_of, outcome_of, world_left}
-use Rattle.vq_actor.proofs.Keeping.{keeps_itself, keeps_along, shown_before, unchanged}
+use Rattle.vq_actor.specs.Doings.{DidTo, did_of}
+use Rattle.vq_actor.proofs.Keeping.{keeps_itself, keeps_along, shown_before, none_noted, noted_behind}
 
 -- Lists
 
@@ -27,9 +27,10 @@ drop_at [] k x e = absurd (cc)
 drop_at (y ∷ xs) zero x e = cc
 drop_at (y ∷ xs) (suc k) x e = drop_at xs k x e
 
-none_at : {A : Type 0} (xs : List A) → slice_get xs (length xs) ≡ None
-none_at [] = refl
-none_at (x ∷ xs) = none_at xs
+none_at : {A : Type 0} (xs : List A) (k : ℕ) → length xs ≤ k → slice_get xs k ≡ None
+none_at [] k le = refl
+none_at (x ∷ xs) zero le = absurd (omega arith)
+none_at (x ∷ xs) (suc k) le = none_at xs k (omega arith)
 
 pub at_index : {A : Type 0} (xs : List A) (k : ℕ) (d : A) → k < length xs → d ≡ get_or xs k d → slice_get xs k ≡ Some d
 at_index [] k d le e = absurd (omega arith)
@@ -82,8 +83,8 @@ module _ (a : Meaning) (m : Meaning) (tasks : List Task) (k : ℕ) (t : Task) (h
   may_be_done r =
       subst (λ (p : Plan). MayBeDone p t) (sym h.kept.plan) (all_at (MayBeDone a.plan) tasks k t r at)
 
-  module _ (n : Meaning) (shows : Want → ℕ × ℕ → Type 0) (y : Place) where
-    module _ (did : Doing) (d : DidTo m n y t shows did) where
+  module _ (n : Meaning) (shows : Want → ℕ × ℕ → Type 0) where
+    module _ (did : Doing) (d : DidTo m n t shows did) where
       unfolds : (w : PointState) → a.state ≡ Some w →
           turn_of a.plan w a.actor a.place
           ≡ and_then (did_of did n.place) (λ z. turn_from a.plan w a.actor z (drop (suc k) tasks))
@@ -93,56 +94,44 @@ module _ (a : Meaning) (m : Meaning) (tasks : List Task) (k : ℕ) (t : Task) (h
           ∙ (ap (λ ts. turn_from a.plan w a.actor m.place ts) (drop_at tasks k t at)
           ∙ (ap (λ p. and_then (does p w a.actor m.place t) rest) (sym h.kept.plan)
           ∙ (ap (λ b. and_then (does m.plan w b m.place t) rest) (sym h.kept.actor)
-          ∙ (ap (λ x. and_then x rest) (d.state w (h.state w is)).0
-          ∙ ap (λ z. and_then (did_of did z) rest) (sym d.place)))))
+          ∙ ap (λ x. and_then x rest) (d.state w (h.state w is)).0)))
 
-      ends : (o : Outcome) → outcome_of did ≡ Some o → ((z : Place) → did_of did z ≡ Ends o z) →
-          ((p : Plan) (w : PointState) → world_left p w did ≡ world_after p w o) →
-          n.events ≡ m.events ++ events_by o → IsTurn a n shows o
-      ends o is_outcome is_end leaves events =
-          record {
-            kept = keeps_along a m n h.kept d.kept;
-            events = events ∙ ap (λ xs. xs ++ events_by o) h.events;
-            named = λ w is. (
-              sym (unfolds w is
-                  ∙ ap (λ x. and_then x (λ z. turn_from a.plan w a.actor z (drop (suc k) tasks))) (is_end n.place)),
-              (d.state w (h.state w is)).1
-                  ∙ (ap Some (leaves m.plan w) ∙ ap (λ p. Some (world_after p w o)) h.kept.plan),
-            );
-            shown = λ want x.
-                shown_before a.steps m.steps (shows want) h.kept.steps (d.shown want (is_outcome ∙ ap Some x));
-            ended = λ x. absurd (d.unended (is_outcome ∙ ap Some x));
-          }
-
-    pub goes_on : y.done ≡ k + 1 → DidTo m n y t shows GoesOn → Going a n tasks (k + 1)
-    goes_on further d =
+    pub goes_on : DidTo m n t shows GoesOn → Going a n tasks (k + 1)
+    goes_on d =
         record {
           kept = keeps_along a m n h.kept d.kept;
           events = d.events ∙ (append-nil m.events ∙ h.events);
-          done = ap (λ (z : Place). z.done) d.place ∙ further;
+          done = d.further ∙ ap (λ (i : ℕ). i + 1) h.done;
           state = λ w is. (d.state w (h.state w is)).1;
           turn = λ w is.
               let e : suc k ≡ k + 1 = omega arith in
               unfolds GoesOn d w is ∙ ap (λ i. turn_from a.plan w a.actor n.place (drop i tasks)) e;
         }
 
-    pub stays : (o : Outcome) → DidTo m n y t shows (Stays o) → IsTurn a n shows o
-    stays o d = ends (Stays o) d o refl (λ z. refl) (λ p w. refl) d.events
-
-    pub leaves : (o : Outcome) → DidTo m n y t shows (Leaves o) → IsTurn a n shows o
-    leaves o d = ends (Leaves o) d o refl (λ z. refl) (λ p w. refl) d.events
+    pub ends : (o : Outcome) → DidTo m n t shows (Ends o) → IsTurn a n shows o
+    ends o d =
+        record {
+          kept = keeps_along a m n h.kept d.kept;
+          events = noted_behind a m (events_by o) n.events h.kept h.events d.events;
+          named = λ w is. (
+            sym (unfolds (Ends o) d w is),
+            (d.state w (h.state w is)).1 ∙ ap (λ p. Some (world_after p w o)) h.kept.plan,
+          );
+          shown = λ want x. shown_before a.steps m.steps (shows want) h.kept.steps (d.shown want (ap Some x));
+          ended = λ x. absurd (d.unended (ap Some x));
+        }
 
 -- no task is left
-pub is_over : (a m : Meaning) (tasks : List Task) (shows : Want → ℕ × ℕ → Type 0) →
-    tasks ≡ program a.plan a.actor → Going a m tasks (length tasks) → IsTurn a m shows Ended
-is_over a m tasks shows e h =
+pub is_over : (a m : Meaning) (tasks : List Task) (shows : Want → ℕ × ℕ → Type 0) (k : ℕ) → length tasks ≤ k →
+    tasks ≡ program a.plan a.actor → Going a m tasks k → IsTurn a m shows Ended
+is_over a m tasks shows k past e h =
     record {
       kept = h.kept;
-      events = unchanged a.events m.events [] h.events refl;
+      events = none_noted a m.events h.events;
       named = λ w is. (
-        sym (h.turn w is ∙ ap (λ ts. turn_from a.plan w a.actor m.place ts) (drop-length tasks)),
+        sym (h.turn w is ∙ ap (λ ts. turn_from a.plan w a.actor m.place ts) (drop_all k tasks past)),
         h.state w is,
       );
       shown = λ want x. absurd (cc);
-      ended = λ x. next_at a m tasks (length tasks) e h ∙ none_at tasks;
+      ended = λ x. next_at a m tasks k e h ∙ none_at tasks k past;
     }

@@ -1,5 +1,5 @@
 -- An actor and its turns. This project's own.
-use Rattle.std.specs.Prelude.{ℕ, ◌≡◌, List, [], ◌∷◌, ◌++◌, Some, None}
+use Rattle.std.specs.Prelude.{ℕ, ◌≡◌, List, [], ◌∷◌, Some, None}
 use Rattle.vq_model.specs.declared.plan.Event.{Event}
 use Rattle.vq_model.specs.Plan.{Plan}
 use Rattle.vq_model.specs.declared.script.ActorName.{ActorName}
@@ -9,24 +9,22 @@ use Rattle.vq_turns.specs.declared.outcome.Want.{Want}
 use Rattle.vq_turns.specs.declared.outcome.Outcome.{Outcome}
 use Rattle.vq_turns.specs.declared.outcome.Outcome.TheVariants.{Moved, Blocked, Ended}
 use Rattle.vq_turns.specs.Programs.{program}
-use Rattle.vq_turns.specs.Turns.{Place, first_place, turn_of, world_after}
-use Rattle.vq_actor.specs.Meanings.{Meaning, Keeps, IsShownSince, next_task}
+use Rattle.vq_turns.specs.Turns.{turn_of, world_after}
+use Rattle.vq_actor.specs.Meanings.{Meaning, Keeps, IsShownSince, next_task, noting}
 
--- an actor: its name, the tasks of its program, and its place in them
+-- an actor: its name, and the tasks of its program
 pub record Acting : Type 0 where
   pub name : ActorName
   pub tasks : List Task
-  pub place : Place
 
--- the actor of a plan before its first turn
-abbrev pub acting_at_first : Plan → ActorName → Acting
-acting_at_first p a = record { name = a; tasks = program p a; place = first_place }
+-- the actor of a plan with this name
+abbrev pub acting_of : Plan → ActorName → Acting
+acting_of p a = record { name = a; tasks = program p a }
 
--- An actor is the one that an access serves: it has the access's program and place.
+-- An actor is the one that an access serves: it has the access's program.
 pub record IsServed (x : Acting) (m : Meaning) : Type 0 where
   pub name : x.name ≡ m.actor
   pub tasks : x.tasks ≡ program m.plan m.actor
-  pub place : x.place ≡ m.place
 
 -- the event that an outcome adds to those that were made
 abbrev pub events_by : Outcome → List Event
@@ -38,7 +36,7 @@ events_by other = []
 -- only where no task is left.
 pub record IsTurn (old new : Meaning) (shows : Want → ℕ × ℕ → Type 0) (outcome : Outcome) : Type 0 where
   pub kept : Keeps old new
-  pub events : new.events ≡ old.events ++ events_by outcome
+  pub events : new.events ≡ noting old (events_by outcome)
   pub named : (w : PointState) → old.state ≡ Some w →
       (record { outcome = outcome; place = new.place } ≡ turn_of old.plan w old.actor old.place)
       × (new.state ≡ Some (world_after old.plan w outcome))

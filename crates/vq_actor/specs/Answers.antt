@@ -1,6 +1,6 @@
 -- What the calls of an access answer: looks, tries of an event, and events that are always made.
 -- This project's own.
-use Rattle.std.specs.Prelude.{ℕ, ◌≡◌, Bool, false, if◌then◌else◌, List, [], ◌∷◌, ◌++◌, Some}
+use Rattle.std.specs.Prelude.{ℕ, ◌≡◌, Bool, false, if◌then◌else◌, List, [], ◌∷◌, Some}
 use Rattle.std.specs.Prelude.{Result, Ok, Err}
 use Rattle.std.specs.Prelude.{IfOk, IfErr}
 use Rattle.std.specs.Option.{option_map_or}
@@ -14,7 +14,7 @@ use Rattle.vq_turns.specs.declared.task.Task.TheVariants.{Answer as AnswerTask}
 use Rattle.vq_turns.specs.declared.outcome.Want.{Want}
 use Rattle.vq_turns.specs.declared.outcome.Want.TheVariants.{Next, Bound, Signaled}
 use Rattle.vq_turns.specs.Turns.{Place, forward, unbound_before, point_of, answer_by}
-use Rattle.vq_actor.specs.Meanings.{Meaning, IsNext, Keeps, IsShownSince}
+use Rattle.vq_actor.specs.Meanings.{Meaning, IsNext, Keeps, IsShownSince, noting}
 
 -- Looks
 
@@ -48,7 +48,7 @@ place_or moved x (Err want) = x
 pub record AnswersTry (old new : Meaning) (moved : Place) (expected : PointState → Result Event Want)
     (Names : Event → Type 0) (shows : Want → ℕ × ℕ → Type 0) (result : Result Event Want) : Type 0 where
   pub kept : Keeps old new
-  pub events : new.events ≡ old.events ++ events_of result
+  pub events : new.events ≡ noting old (events_of result)
   pub place : new.place ≡ place_or moved old.place result
   pub state : (w : PointState) → old.state ≡ Some w →
       (result ≡ expected w) × (new.state ≡ Some (left_by old.plan w result))
@@ -76,7 +76,7 @@ bound_first w event e = if w.bound e then Ok event else Err (Bound e)
 
 pub record AnswersEvent (old new : Meaning) (moved : Place) (event result : Event) : Type 0 where
   pub kept : Keeps old new
-  pub events : new.events ≡ old.events ++ event ∷ []
+  pub events : new.events ≡ noting old (event ∷ [])
   pub place : new.place ≡ moved
   pub named : result ≡ event
   pub state : (w : PointState) → old.state ≡ Some w → new.state ≡ Some (after_event old.plan w event)

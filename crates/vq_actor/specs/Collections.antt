@@ -1,6 +1,6 @@
 -- Collections on a chain, and what comes after one that found nothing: a take, or a look at the past
 -- value. This project's own.
-use Rattle.std.specs.Prelude.{ℕ, ◌≡◌, true, ◌++◌, Option, Some, None}
+use Rattle.std.specs.Prelude.{ℕ, ◌≡◌, true, Option, Some, None}
 use Rattle.std.specs.Option.{option_to_list}
 use Rattle.vq_model.specs.declared.plan.Event.{Event}
 use Rattle.vq_model.specs.declared.plan.Event.TheVariants.{Take as Takes, Complete, Free}
@@ -9,7 +9,7 @@ use Rattle.vq_points.specs.Points.{PointState, after_event}
 use Rattle.vq_turns.specs.declared.task.Task.{Task}
 use Rattle.vq_turns.specs.declared.task.Task.TheVariants.{Take, Compare}
 use Rattle.vq_turns.specs.Turns.{seeing, collected, past_value}
-use Rattle.vq_actor.specs.Meanings.{Meaning, Recent, Other, Collected, IsNext, Keeps}
+use Rattle.vq_actor.specs.Meanings.{Meaning, Recent, Other, Collected, IsNext, Keeps, noting}
 
 -- Collections
 
@@ -40,7 +40,7 @@ IsCollection p t other = ⊥
 
 pub record AnswersCollect (old new : Meaning) (t : ℕ) (result : Option Event) : Type 0 where
   pub kept : Keeps old new
-  pub events : new.events ≡ old.events ++ option_to_list result
+  pub events : new.events ≡ noting old (option_to_list result)
   pub place : new.place ≡ old.place
   pub recent : new.recent ≡ recent_by t result
   pub state : (w : PointState) → old.state ≡ Some w →

@@ -1,10 +1,12 @@
 pub mod Actors
 pub mod Answers
 pub mod Collections
+pub mod Companies
 pub mod Doings
 pub mod Meanings
 pub mod Positions
 pub mod ProgramParts
+pub mod Stages
 pub mod Trackers
 pub mod Waits
 pub mod Wants

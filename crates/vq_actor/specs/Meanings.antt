@@ -1,6 +1,6 @@
--- What an access means: whose turns it serves and how far he is, the state where it is told, what was
--- answered, and what its record shows. This project's own.
-use Rattle.std.specs.Prelude.{ℕ, ◌≡◌, ◌≤◌, List, Option, Some}
+-- What an access means: whose turns it serves and how far that actor is, the state where it is told, the events
+-- that it notes, and what its record shows. This project's own.
+use Rattle.std.specs.Prelude.{ℕ, ◌≡◌, ◌≤◌, Bool, List, ◌++◌, filter, Option, Some}
 use Rattle.std.specs.List.{slice_get}
 use Rattle.std.specs.Borrow.{GName}
 use Rattle.vq_model.specs.declared.script.ActorName.{ActorName}
@@ -27,7 +27,8 @@ pub record Meaning : Type 0 where
   pub recent : Recent
   -- the state, where it is told
   pub state : Option PointState
-  -- the events that were made through it, in order
+  -- the events that it notes, and those of them that were made through it, in order
+  pub noted : Event → Bool
   pub events : List Event
   -- how far the access's record goes: its steps, and the refusals of lists
   pub steps : ℕ × ℕ
@@ -42,6 +43,10 @@ next_task m = slice_get (program m.plan m.actor) m.place.done
 abbrev pub IsNext : Meaning → Task → Type 0
 IsNext m t = next_task m ≡ Some t
 
+-- the events that were made, with those of these that are noted
+abbrev pub noting : Meaning → List Event → List Event
+noting m es = m.events ++ filter m.noted es
+
 -- What every call keeps
 
 abbrev pub IsEarlier : ℕ × ℕ → ℕ × ℕ → Type 0
@@ -50,6 +55,7 @@ IsEarlier s t = (s.0 ≤ t.0) × (s.1 ≤ t.1)
 pub record Keeps (old new : Meaning) : Type 0 where
   pub plan : new.plan ≡ old.plan
   pub actor : new.actor ≡ old.actor
+  pub noted : new.noted ≡ old.noted
   pub steps : IsEarlier old.steps new.steps
   pub lenders : new.lenders ≡ old.lenders
 

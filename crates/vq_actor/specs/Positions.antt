@@ -1,20 +1,13 @@
--- An actor's position as a place. Steps of proofs.
-use Rattle.std.specs.Prelude.{ℕ, ◌≡◌, ◌+◌, ◌≤◌, ◌<◌, Bool, true, false, if◌then◌else◌, List}
-use Rattle.std.specs.Prelude.{[], ◌∷◌, Option, Some}
-use Rattle.std.specs.Prelude.{None, All, length, drop}
-use Rattle.std.specs.Prelude.{count_by, set}
+-- References that are held for needs, and tasks. Steps of proofs.
+use Rattle.std.specs.Prelude.{ℕ, ◌≡◌, ◌+◌, ◌≤◌, ◌<◌, Bool, true, false, List, [], ◌∷◌, Option, Some, None, All}
+use Rattle.std.specs.Prelude.{length, count_by, set}
 use Rattle.std.specs.List.{slice_get}
-use Rattle.std.specs.Vec.{vec_capacity}
 use Rattle.vq_model.specs.declared.plan.Need.{Need}
 use Rattle.vq_model.specs.Plan.{Plan}
 use Rattle.vq_turns.specs.declared.look.Holding.{Holding}
 use Rattle.vq_turns.specs.declared.task.Task.{Task}
 use Rattle.vq_turns.specs.declared.task.Task.TheVariants.{AwaitNeeds, Compare}
-use Rattle.vq_turns.specs.Turns.{Place}
-use Rattle.vq_actor.specs.declared.doing.Doing.{Doing}
-use Rattle.vq_actor.specs.declared.doing.Doing.TheVariants.{GoesOn}
-use Rattle.vq_actor.specs.declared.position.Held.{Held}
-use Rattle.vq_actor.specs.declared.position.Position.{Position}
+use Rattle.vq_actor.specs.declared.held.Held.{Held}
 use Rattle.vq_actor.specs.Waits.{is_resolved}
 
 -- References
@@ -37,15 +30,14 @@ abbrev pub FindsFirst : List (Option Held) → Option (ℕ × Held) → Type 0
 FindsFirst slots None = holding_from 0 slots ≡ []
 FindsFirst slots (Some (k, h)) = IsFirstHeld slots k h
 
+-- the first of what is held, if anything is
+abbrev pub IsFirstOf : List Holding → Option Held → Type 0
+IsFirstOf xs None = xs ≡ []
+IsFirstOf xs (Some h) = (k : ℕ) × (rest : List Holding) × (xs ≡ holding_of k h ∷ rest)
+
 -- where the waiting has ended, a reference is still held
 abbrev pub IsSound : Bool → List (Option Held) → Type 0
 IsSound met slots = met ≡ true → holding_from 0 slots ≡ [] → ⊥
-
--- Places
-
-abbrev pub place_at : Position → Place
-place_at x =
-    record { done = x.done; holding = holding_from 0 x.held.items; met = x.met; seen = x.seen.items }
 
 -- Tasks
 
@@ -74,18 +66,6 @@ abbrev pub is_compare : Task → Bool
 is_compare (Compare t v) = true
 is_compare other = false
 
--- how many comparisons a task may add
-abbrev pub seen_more : Task → Doing → ℕ
-seen_more t GoesOn = if is_compare t then 1 else 0
-seen_more t other = 0
-
+-- how many comparisons tasks may add
 abbrev pub compares : List Task → ℕ
 compares tasks = count_by is_compare tasks
-
--- What a position keeps: it is within the tasks, where the waiting has ended something is held, and there is
--- room for all that the tasks that are left may add.
-pub record KeepsRoom (tasks : List Task) (x : Position) : Type 0 where
-  pub within : x.done ≤ length tasks
-  pub sound : IsSound x.met x.held.items
-  pub held : All (HasRoom (length x.held.items)) tasks
-  pub seen : length x.seen.items + compares (drop x.done tasks) ≤ vec_capacity x.seen

@@ -1,14 +1,14 @@
 -- The wants for which each call may make no event. This project's own.
-use Rattle.std.specs.Prelude.{ℕ, ◌≡◌, true, Some}
+use Rattle.std.specs.Prelude.{ℕ, ◌≡◌, true, List, Some}
 use Rattle.vq_model.specs.Plan.{Plan, has, chain_of, job_of}
 use Rattle.vq_points.specs.Points.{smaller_ops}
 use Rattle.vq_turns.specs.declared.outcome.Want.{Want}
 use Rattle.vq_turns.specs.declared.outcome.Want.TheVariants.{Next, Released, Exchange, Listed}
 
--- another actor has changed the word of a point
-abbrev pub IsExchange : Want → Type 0
-IsExchange (Exchange e found) = Unit {0}
-IsExchange other = ⊥
+-- another actor has changed the word of a point: of one of these operations, or of this one
+abbrev pub IsExchangeAmong : List ℕ → Want → Type 0
+IsExchangeAmong es (Exchange f found) = has es f ≡ true
+IsExchangeAmong es other = ⊥
 
 abbrev pub IsExchangeOf : ℕ → Want → Type 0
 IsExchangeOf e (Exchange f found) = f ≡ e

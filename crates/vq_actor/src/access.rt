@@ -1,6 +1,7 @@
 //! The access that a turn goes over.
 ghost use Rattle.std.specs.Prelude.{◌≡◌, ℕ, Ok, [], ◌∷◌, IfErr};
 ghost use Rattle.vq_model.specs.declared.plan.Event.{Event};
+ghost use Rattle.vq_model.specs.Plan.{signals_of};
 ghost use Rattle.vq_turns.specs.declared.task.Task.{Task};
 ghost use Rattle.vq_turns.specs.declared.outcome.Want.{Want};
 ghost use Rattle.vq_turns.specs.Turns.{forward, taken};
@@ -11,8 +12,9 @@ ghost use Rattle.vq_actor.specs.Collections.{MayCollect, AnswersCollect, MayTake
 ghost use Rattle.vq_actor.specs.Collections.{MayLookPast, AnswersPast};
 ghost use Rattle.vq_actor.specs.Waits.{MayFind, AnswersFind, MayRefer, referred, MayLook, looked_at};
 ghost use Rattle.vq_actor.specs.Waits.{MayUnrefer, given_back};
-ghost use Rattle.vq_actor.specs.Wants.{IsExchange, IsExchangeOf, HoldsBackBind};
+ghost use Rattle.vq_actor.specs.Wants.{IsExchangeAmong, IsExchangeOf, HoldsBackBind};
 
+use crate::tracker::Tracker;
 use vq_model::plan::{Answer, Event};
 use vq_model::script::ActorName;
 use vq_order::Ordered;
@@ -22,14 +24,15 @@ use vq_turns::outcome::Want;
 /// The event that was made, or the want for which none was.
 pub type Step = Result<Event, Want>;
 
-/// What the turns of one actor go over. Each look may find that a thing is so, and each other call is one try
-/// of one event. A call may be asked where the actor's next task begins with it. An event that is given was
-/// made. A want that is given is shown by the access since the call's start, and no event was made.
+/// What the turns of one actor go over. It keeps the place of the actor, and each call leaves it where the
+/// answer leads. Each look may find that a thing is so, and each other call is one try of one event. A call may be
+/// asked where the actor's next task begins with it. An event that is given was made. A want that is given is
+/// shown by the access since the call's start, and no event was made.
 ///
 /// Source: this project's rule.
 pub trait Access {
-    /// Whom it serves and how far he is, the state where it is told, the events that were made, and how far its
-    /// record goes.
+    /// Whom it serves and how far that actor is, the state where it is told, the events that it notes and those
+    /// of them that were made, and how far its record goes.
     ghost meaning: { Self → Meaning };
 
     /// Whether its record shows a want since an earlier moment of the record.
@@ -38,6 +41,10 @@ pub trait Access {
     /// The plan that is run.
     fn ordered(&self) -> &Ordered
         ensures { result.now ≡ (meaning self.now).plan };
+
+    /// How far the actor is that it serves.
+    fn place(&self) -> &Tracker
+        ensures { result.now.place ≡ (meaning self.now).place };
 
     /// Whether a batch is submitted.
     fn submitted(&mut self, job: u32) -> bool
@@ -98,7 +105,7 @@ pub trait Access {
         requires { IsNext (meaning self.old) (Task.Release job) }
         ensures answer { AnswersTry (meaning self.old) (meaning self.new) (forward (meaning self.old).place)
             (λ w. Ok (Event.Release job)) (Is (Event.Release job)) (shows self.new) result }
-        ensures wants { IfErr result IsExchange };
+        ensures wants { IfErr result (IsExchangeAmong (signals_of (meaning self.old).plan job)) };
 
     /// Binds an operation.
     fn bind(&mut self, op: u32) -> Step

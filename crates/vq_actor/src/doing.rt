@@ -1,10 +1,9 @@
 //! What one task of a turn comes to.
 use vq_turns::outcome::Outcome;
 
-/// The turn goes on with the next task, or it has its outcome, and the task stays or is done.
+/// The turn goes on with the next task, or it has its outcome.
 #[derive(Clone, Copy)]
 pub(crate) enum Doing {
     GoesOn,
-    Stays(Outcome),
-    Leaves(Outcome),
+    Ends(Outcome),
 }

@@ -1,28 +1,18 @@
 use Rattle.std.proofs.Common.{◌≡◌, ◌<◌, ◌≤◌, ◌∙◌, ℕ, List, Option, Some, None, get_or, length, sym, ap, arith}
 use Rattle.std.specs.List.{slice_get}
+use Rattle.std.specs.Option.{option_map}
 use Rattle.std.proofs.lemmas.Option.{slice_get-get_or, slice_get_within}
 use Rattle.vq_model.specs.declared.plan.Need.{Need}
 use Rattle.vq_model.specs.Plan.{Plan}
-use Rattle.vq_actor.specs.declared.position.Held.{Held}
+use Rattle.vq_turns.specs.Turns.{Place, held_for}
+use Rattle.vq_actor.specs.Positions.{holding_of}
 use Rattle.vq_actor.specs.Waits.{is_resolved}
-use Rattle.vq_actor.proofs.Slots.{slot_at}
+use Rattle.vq_actor.proofs.Slots.{none_held_for}
 use Rattle.vq_actor.proofs.Rounds.{passes_over, passes, ends_round}
 use Rattle.vq_actor.proofs.needs.seek.Goals as goal
 
 abbrev no_need : Need
 no_need = record { line = 0; chain = 0; value = 0; from = 0 }
-
-within : (ns : List Need) (held slots : List (Option Held)) (k : ℕ) → k < length ns → length ns ≤ length slots →
-    held ≡ slots → k < length held
-within ns held slots k l le e = let f = ap length e in omega arith
-
-empty_slot : (held : List (Option Held)) (k : ℕ) → slice_get held k ≡ Some None → get_or held k None ≡ None
-empty_slot held k e =
-    let f = sym (slice_get-get_or held k None (slice_get_within held k None e)) ∙ e in
-    some_same (get_or held k None) None f
-  where
-    some_same : (x y : Option Held) → Some x ≡ Some y → x ≡ y
-    some_same x y h = cc
 
 need_at : (ns : List Need) (k : ℕ) (n : Need) → slice_get ns k ≡ Some n → get_or ns k no_need ≡ n
 need_at ns k n e =
@@ -37,17 +27,12 @@ loop-k-preserved-then-not-is_asked g c =
     let k = c.loop-k.k in
     let n = get_or ns k no_need in
     let h = c.if-not-is_asked.ensures in
-    let room = within ns c.loop-k.held c.args.held.now k c.loop-k-test.true c.requires.slots c.loop-k.invariant.same in
     let same_plan : c.plan.result.now ≡ m.plan = c.plan.ensures.value ∙ c.ordered.ensures in
-    record {
-      round = passes_over a m ns (g.A.Access.shows c.loop-k.access) k c.loop-k.last c.loop-k.invariant.round n
-          (slice_get-get_or ns k no_need c.loop-k-test.true) c.args.held.now c.requires.holding
-          (ap (λ (xs : List (Option Held)). slice_get xs k) (sym c.loop-k.invariant.same)
-          ∙ slot_at c.loop-k.held k None room h.0)
-          (ap (λ (p : Plan). is_resolved p n.chain n.value) (sym same_plan) ∙ h.1);
-      same = c.loop-k.invariant.same;
-      waiting = c.loop-k.invariant.waiting;
-    }
+    passes_over a m ns (g.A.Access.shows c.loop-k.access) k c.loop-k.last c.loop-k.invariant n
+    (slice_get-get_or ns k no_need c.loop-k-test.true)
+    (ap (λ (x : Place). held_for k x.holding) (sym c.place.ensures)
+    ∙ (c.held-held.ensures ∙ ap (option_map (holding_of k)) h.0))
+    (ap (λ (p : Plan). is_resolved p n.chain n.value) (sym same_plan) ∙ h.1)
 
 pub ask_need-requires-clause-resolved : goal.ask_need-requires-clause-resolved
 ask_need-requires-clause-resolved g c n at empty =
@@ -55,20 +40,22 @@ ask_need-requires-clause-resolved g c n at empty =
     let ns = c.args.needs.now in
     let k = c.loop-k.k in
     let same_plan : c.plan.result.now ≡ m.plan = c.plan.ensures.value ∙ c.ordered.ensures in
+    let none = none_held_for k c.held-held.result (sym c.held-held.ensures
+    ∙ (ap (λ (x : Place). held_for k x.holding) c.place.ensures ∙ empty)) in
     ap (λ (p : Plan). is_resolved p n.chain n.value) (sym same_plan)
     ∙ (ap (λ (x : Need). is_resolved c.plan.result.now x.chain x.value) (sym (need_at ns k n at))
-    ∙ c.if-not-is_asked.ensures (empty_slot c.loop-k.held k empty))
+    ∙ c.if-not-is_asked.ensures none)
 
-pub returns-in-Ok-clause-did : goal.returns-in-Ok-clause-did
-returns-in-Ok-clause-did g c =
+pub returns-in-Ok : goal.returns-in-Ok
+returns-in-Ok g c =
     let ns = c.args.needs.now in
     let k = c.loop-k.k in
     let n = get_or ns k no_need in
     let at = slice_get-get_or ns k no_need c.loop-k-test.true in
     ends_round (g.A.Access.meaning c.args.access.now) (g.A.Access.meaning c.loop-k.access) ns
-    (g.A.Access.shows c.loop-k.access) k c.loop-k.last c.loop-k.invariant.round n at
+    (g.A.Access.shows c.loop-k.access) k c.loop-k.last c.loop-k.invariant n at
     (g.A.Access.meaning c.ask_need.new.access) (g.A.Access.shows c.ask_need.new.access) c.in-Ok.doing
-    c.ask_need.new.held c.ask_need.new.met c.requires.waiting (c.in-Ok.ensures.asked n at)
+    c.requires.waiting (c.in-Ok.ensures n at)
 
 pub loop-k-preserved : goal.loop-k-preserved
 loop-k-preserved g c =
@@ -76,18 +63,14 @@ loop-k-preserved g c =
     let k = c.loop-k.k in
     let n = get_or ns k no_need in
     let at = slice_get-get_or ns k no_need c.loop-k-test.true in
-    record {
-      round = passes (g.A.Access.meaning c.args.access.now) (g.A.Access.meaning c.loop-k.access) ns
-          (g.A.Access.shows c.loop-k.access) k c.loop-k.last c.loop-k.invariant.round n at
-          (g.A.Access.meaning c.ask_need.new.access) (g.A.Access.shows c.ask_need.new.access) c.in-Err.want
-          (c.in-Err.ensures.asked n at);
-      same = c.in-Err.ensures.kept.0 ∙ c.loop-k.invariant.same;
-      waiting = c.in-Err.ensures.kept.1;
-    }
+    passes (g.A.Access.meaning c.args.access.now) (g.A.Access.meaning c.loop-k.access) ns
+    (g.A.Access.shows c.loop-k.access) k c.loop-k.last c.loop-k.invariant n at
+    (g.A.Access.meaning c.ask_need.new.access) (g.A.Access.shows c.ask_need.new.access) c.in-Err.want
+    (c.in-Err.ensures n at)
 
 pub unreachable-requires : goal.unreachable-requires
 unreachable-requires g c =
     let r = c.requires.awaitable in
-    let le = c.loop-k.invariant.round.asked c.in_default.is r.place r.need r.at r.resolved in
+    let le = c.loop-k.invariant.asked c.in_default.is r.place r.need r.at r.resolved in
     let l = slice_get_within c.args.needs.now r.place r.need r.at in
     omega (arith, le, l, c.loop-k-test.false)

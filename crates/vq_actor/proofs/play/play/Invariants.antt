@@ -1,13 +1,5 @@
-use Rattle.std.proofs.Common.{◌≡◌}
-use Rattle.vq_actor.specs.Positions.{KeepsRoom, place_at}
 use Rattle.vq_actor.proofs.TurnSteps.{Going}
 use Rattle.vq_actor.proofs.play.play.Given as goal
 
 abbrev pub invariant-loop-k : goal.invariant-loop-k
-invariant-loop-k g l =
-    record {
-      going : Going (g.A.Access.meaning l.fn.access) (g.A.Access.meaning l.access) l.tasks l.k;
-      place : (g.A.Access.meaning l.access).place ≡ place_at l.position;
-      room : KeepsRoom l.tasks l.position;
-      done : l.position.done ≡ l.k;
-    }
+invariant-loop-k g l = Going (g.A.Access.meaning l.fn.access) (g.A.Access.meaning l.access) l.tasks l.k

@@ -1,5 +1,0 @@
-use Rattle.vq_actor.proofs.Slots.{AreNone}
-use Rattle.vq_actor.proofs.position.first_held.Given as goal
-
-abbrev pub invariant-loop-k : goal.invariant-loop-k
-invariant-loop-k l = AreNone l.k l.held
