@@ -26,7 +26,7 @@ new-requires c =
     let one : c.push.new.self.items ≡ x ∷ [] = c.in_ok-push.ensures.items ∙ ap (λ (xs : List LoggedBuffers). xs ++ x ∷ []) c.new-slots.ensures.items in
     subst (λ (xs : List LoggedBuffers). Kept p (opening ws xs (fresh p 0))) (sym one)
     (opens p ws x c.requires.plan c.requires.lawful (grind (arith, common_steps)) (λ i. grind (arith, common_steps)) refl
-    (c.in_ok-buffers.ensures ∙ ap zeros_of (ap sizes_of c.script.ensures.script ∙ sym (ap (λ (q : Plan). q.sizes) c.requires.plan.lowered))))
+    (c.in_ok-buffers.ensures.bytes ∙ ap zeros_of (ap sizes_of c.script.ensures.script ∙ sym (ap (λ (q : Plan). q.sizes) c.requires.plan.lowered))))
 
 pub zero_buffers-requires : goal.zero_buffers-requires
 zero_buffers-requires c = subst IsRead (sym c.script.ensures.script) c.requires.plan.of_script
