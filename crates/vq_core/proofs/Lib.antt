@@ -17,3 +17,4 @@ mod Collecting
 mod OpeningLaws
 mod Histories
 mod AnswerLaws
+mod AnswersKept

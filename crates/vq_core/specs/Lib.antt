@@ -7,3 +7,4 @@ pub mod Kept
 pub mod GuardParts
 pub mod Opening
 pub mod Opened
+pub mod Answered

@@ -3,6 +3,7 @@
 //! lock, is left to others.
 #![tactic(auto)]
 
+mod answer_room;
 mod answers;
 mod asking;
 mod batches;
@@ -17,4 +18,5 @@ mod progress;
 mod state;
 mod table;
 
+pub use answer_room::AnswerRoom;
 pub use state::{Core, CoreParts};

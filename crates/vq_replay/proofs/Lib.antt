@@ -1,12 +1,2 @@
-mod AnswersKept
-mod Beyond
-mod CoreAnswers
-mod Holding
-mod Openings
-mod PastValues
-mod QueueCounts
-mod Scenes
 mod Schedules
-mod Serving
 mod TraceEnds
-mod Troupes

@@ -1,6 +1,7 @@
 -- The turns of a schedule, one after another.
-use Rattle.std.proofs.Common.{◌≡◌, ℕ, suc, ◌+◌, ◌<◌, ◌≤◌, Bool, true, false, if◌then◌else◌, List, [], ◌∷◌, ◌++◌, length}
+use Rattle.std.proofs.Common.{◌≡◌, ℕ, zero, suc, ◌+◌, ◌⊎◌, inl, inr, take, Some, None, ◌<◌, ◌≤◌, Bool, true, false, if◌then◌else◌, List, [], ◌∷◌, ◌++◌, length}
 use Rattle.std.proofs.Common.{All, drop, refl, sym, subst, ap, ◌∙◌, append_assoc, append-nil, get_or, arith}
+use Rattle.std.specs.List.{slice_get}
 use Rattle.std.proofs.Math.Seq.{drop-cons}
 use Rattle.std.proofs.lemmas.List.{drop_all}
 use Rattle.std.proofs.lemmas.List.Elements.{All-get_or, filter_map-append}
@@ -9,16 +10,39 @@ use Rattle.vq_model.specs.declared.script.ActorName.{ActorName}
 use Rattle.vq_model.specs.declared.script.Turn.{Turn}
 use Rattle.vq_model.specs.declared.plan.Event.{Event}
 use Rattle.vq_model.specs.Plan.{Plan}
+use Rattle.vq_history_laws.specs.Histories.{points_after}
 use Rattle.vq_points.specs.Points.{PointState, opening_points}
 use Rattle.vq_turns.specs.Programs.{is_deferred_queue}
 use Rattle.vq_turns.specs.Turns.{Place, Scene, first_place, first_scene, played_from}
+use Rattle.vq_turns.specs.Wants.{IsNotSo}
+use Rattle.vq_turns.specs.declared.outcome.Want.{Want}
+use Rattle.vq_actor.specs.Stages.{scene_over}
 use Rattle.vq_turns.specs.declared.outcome.Outcome.{Outcome}
 use Rattle.vq_turns.specs.declared.outcome.Outcome.TheVariants.{Moved, Blocked, Ended}
 use Rattle.vq_core.specs.CoreState.{Course, world}
 use Rattle.vq_replay.specs.declared.played.Played.{Played}
-use Rattle.vq_replay.specs.Casts.{Cast, HasPlayed, Plays, course_after, first_places, places, plays_on, scene, scene_over}
+use Rattle.vq_troupe.specs.Casts.{Cast, Plays, course_after, first_places, places, scene}
+use Rattle.vq_troupe.proofs.Cited.{plan_kept}
+use Rattle.vq_replay.specs.Schedules.{AreBlockedSo, HasPlayed, plays_on}
 use Rattle.vq_replay.specs.Traces.{actors_of, event_of, events_of, numbered_from, played_turns}
-use Rattle.vq_replay.proofs.Troupes.{plan_kept}
+
+-- where an item of a list with one more at its end stands
+at_append : {A : Type 0} (xs : List A) (z : A) (k : ℕ) (w : A) → slice_get (xs ++ z ∷ []) k ≡ Some w →
+    ((slice_get xs k ≡ Some w) × (take k (xs ++ z ∷ []) ≡ take k xs)) ⊎ ((z ≡ w) × (take k (xs ++ z ∷ []) ≡ xs))
+at_append [] z zero w at = inr (some_same z w at, refl)
+  where
+    some_same : (x y : A) → Some x ≡ Some y → x ≡ y
+    some_same x y e = cc
+at_append [] z (suc k) w at = absurd (cc)
+at_append (x ∷ xs) z zero w at = inl (at, refl)
+at_append (x ∷ xs) z (suc k) w at = further (at_append xs z k w at)
+  where
+    further : ((slice_get xs k ≡ Some w) × (take k (xs ++ z ∷ []) ≡ take k xs))
+        ⊎ ((z ≡ w) × (take k (xs ++ z ∷ []) ≡ xs)) →
+        ((slice_get xs k ≡ Some w) × ((x ∷ take k (xs ++ z ∷ [])) ≡ x ∷ take k xs))
+        ⊎ ((z ≡ w) × ((x ∷ take k (xs ++ z ∷ [])) ≡ x ∷ xs))
+    further (inl f) = inl (f.0, ap (λ ys. x ∷ ys) f.1)
+    further (inr f) = inr (f.0, ap (λ ys. x ∷ ys) f.1)
 
 -- Before the first turn
 
@@ -54,6 +78,7 @@ module _ (p : Plan) (turns : List Turn) (x : Cast) where
         all = sym (ap (λ (q : Plan). numbered_from 1 (actors_of turns) (played_from q (scene x) (actors_of turns))) plan
             ∙ ap (λ (s : Scene). numbered_from 1 (actors_of turns) (played_from p s (actors_of turns))) there);
         history = ap (λ (c : Course). c.history) new;
+        blocked = λ n y want at. absurd (cc);
       }
 
 -- One turn more
@@ -81,9 +106,9 @@ module _ (x y : Cast) (a : ActorName) (o : Outcome) (h : Plays x y a o) (m : ℕ
 
 module _ (p : Plan) (turns : List Turn) (n : ℕ) (played : List Played) (x : Cast) (h : HasPlayed p turns n played x) where
   pub goes_on : (y : Cast) (t d : Turn) (o : Outcome) (more : List Played) → n < length turns → get_or turns n d ≡ t →
-      Plays x y t.actor o → more ≡ played ++ record { number = n + 1; actor = t.actor; outcome = o } ∷ [] →
+      Plays x y t.actor o → ((want : Want) → o ≡ Blocked want → IsNotSo (world x.course) want) → more ≡ played ++ record { number = n + 1; actor = t.actor; outcome = o } ∷ [] →
       HasPlayed p turns (n + 1) more y
-  goes_on y t d o more within is k e =
+  goes_on y t d o more within is k isnt e =
       let one : Played = record { number = n + 1; actor = t.actor; outcome = o } in
       let others = actors_of (drop (n + 1) turns) in
       let next : suc n ≡ n + 1 = omega arith in
@@ -104,7 +129,26 @@ module _ (p : Plan) (turns : List Turn) (n : ℕ) (played : List Played) (x : Ca
             ∙ (history_after x y t.actor o k (n + 1) x.course o
             ∙ (ap (λ (es : List Event). es ++ events_of (one ∷ [])) h.history
             ∙ (sym (filter_map-append event_of played (one ∷ [])) ∙ ap events_of (sym e))));
+        blocked = subst (AreBlockedSo p) (sym e) (one_more played one h.blocked (λ want b. subst (λ (w : PointState).
+            IsNotSo w want) here (isnt want b)));
       }
+    where
+      here : world x.course ≡ points_after p (events_of played)
+      here = ap (λ (q : Plan). points_after q x.course.history) h.plan ∙ ap (points_after p) h.history
+
+      one_more : (xs : List Played) (z : Played) → AreBlockedSo p xs →
+          ((want : Want) → z.outcome ≡ Blocked want → IsNotSo (points_after p (events_of xs)) want) →
+          AreBlockedSo p (xs ++ z ∷ [])
+      one_more xs z before last k w want at is = by_place (at_append xs z k w at)
+        where
+          by_place : ((slice_get xs k ≡ Some w) × (take k (xs ++ z ∷ []) ≡ take k xs))
+              ⊎ ((z ≡ w) × (take k (xs ++ z ∷ []) ≡ xs)) → IsNotSo (points_after p (events_of (take k (xs ++ z ∷ [])))) want
+          by_place (inl f) =
+              subst (λ (ys : List Played). IsNotSo (points_after p (events_of ys)) want) (sym f.1)
+              (before k w want f.0 is)
+          by_place (inr f) =
+              subst (λ (ys : List Played). IsNotSo (points_after p (events_of ys)) want) (sym f.1)
+              (last want (ap (λ (y : Played). y.outcome) f.0 ∙ is))
 
   pub at_end : length turns ≤ n → played ≡ played_turns p turns
   at_end past =

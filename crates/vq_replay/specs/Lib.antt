@@ -1,6 +1,3 @@
-pub mod Answered
-pub mod CoreAccesses
-pub mod Casts
-pub mod Seats
+pub mod Schedules
 pub mod SpacedWords
 pub mod Traces

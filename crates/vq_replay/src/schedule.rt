@@ -1,26 +1,35 @@
 //! A schedule, turn by turn.
 ghost use Rattle.std.specs.Prelude.{◌≡◌, ◌<◌, ◌^◌, All, IfOk, length};
 ghost use Rattle.vq_model.specs.ValidScripts.{IsActor};
+ghost use Rattle.vq_replay.specs.Schedules.{AreBlockedSo};
 ghost use Rattle.vq_replay.specs.Traces.{events_of, played_turns};
 
 use crate::played::Played;
-use crate::troupe::Troupe;
 use std::alloc::{AllocError, Global};
 use vq_core::Core;
 use vq_model::script::Turn;
 use vq_order::Ordered;
+use vq_troupe::Troupe;
 
 /// What a schedule came to: its turns, and the core after them.
 ///
 /// Source: this project's rule.
-#[derive(Drop)]
 pub struct Replayed {
     pub played: Vec<Played>,
     pub core: Core,
 }
 
-/// Plays the turns of a schedule, in order and numbered from 1, over a new core. The error is that there is no
-/// memory.
+impl Drop for Replayed {
+    fn drop(self) {
+        let Replayed {
+            played: _played,
+            core: _core,
+        } = self;
+    }
+}
+
+/// Plays the turns of a schedule, in order and numbered from 1, over a new core. Where a turn is blocked, the thing
+/// that its want names isn't so in the state that the turns before it leave. The error is that there is no memory.
 ///
 /// Source: this project's rule.
 pub fn replay(alloc: Global, ordered: Ordered, turns: &[Turn]) -> Result<Replayed, AllocError>
@@ -29,6 +38,7 @@ pub fn replay(alloc: Global, ordered: Ordered, turns: &[Turn]) -> Result<Replaye
     ensures played { IfOk result (λ r. r.played.items ≡ played_turns ordered turns.now) }
     ensures core { IfOk result (λ r. r.core
         ≡ record { plan = ordered; history = events_of (played_turns ordered turns.now) }) }
+    ensures blocked { IfOk result (λ r. AreBlockedSo ordered r.played.items) }
 {
     let mut troupe = Troupe::new(alloc, ordered)?;
     let mut played = Vec::new(alloc);

@@ -1,16 +1,15 @@
 //! The text of a schedule that was played.
 ghost use Rattle.std.specs.Prelude.{◌≡◌, ◌++◌, codes, IfOk, OnOk};
 ghost use Rattle.std.specs.Fmt.{decimal};
-ghost use Rattle.vq_model.specs.OutputText.{line_feed};
+ghost use Rattle.vq_model.specs.OutputText.{answers_of, line_feed};
 ghost use Rattle.vq_core.specs.CoreState.{world};
 ghost use Rattle.vq_replay.specs.Traces.{finished_text, trace_text};
 
-use crate::answers::push_answers;
 use crate::schedule::Replayed;
 use crate::trace::push_turns;
 use std::alloc::{AllocError, Global};
-use vq_core::Core;
-use vq_spec::buffers_text;
+use vq_core::{AnswerRoom, Core};
+use vq_spec::{answer_text, buffers_text};
 
 /// Adds the end of a trace that leaves so many jobs.
 fn push_unfinished(alloc: Global, out: &mut Vec<u8>, left: u32) -> Result<(), AllocError>
@@ -20,6 +19,17 @@ fn push_unfinished(alloc: Global, out: &mut Vec<u8>, left: u32) -> Result<(), Al
     out.extend_from_slice(left.to_string(alloc)?.as_bytes())?;
     out.push(b'\n')?;
     Ok(())
+}
+
+/// Adds the text of the answers that a core's history gave.
+fn push_answers(alloc: Global, out: &mut Vec<u8>, core: &Core) -> Result<(), AllocError>
+    ensures { OnOk result (out.new.items
+        ≡ out.old.items ++ answers_of core.now.plan (world core.now).machine) }
+{
+    let room = AnswerRoom::new(alloc, core.ordered().plan())?;
+    let lines = room.fill(core);
+    let text = answer_text(alloc, lines.as_slice())?;
+    out.extend_from_slice(text.as_slice())
 }
 
 /// Adds the end of a trace that leaves no job: what was answered, and the buffers.

@@ -1,6 +1,6 @@
 use Rattle.std.proofs.Common.{◌≤◌, length, refl, sym, subst, get_or, List, ◌∙◌}
 use Rattle.vq_replay.specs.declared.played.Played.{Played}
-use Rattle.vq_replay.specs.Casts.{HasPlayed}
+use Rattle.vq_replay.specs.Schedules.{AreBlockedSo, HasPlayed}
 use Rattle.vq_replay.proofs.Schedules.{actor_there, begins, goes_on, at_end, core_at_end}
 use Rattle.vq_replay.proofs.schedule.replay.Goals as goal
 
@@ -21,8 +21,8 @@ pub loop-turn-preserved : goal.loop-turn-preserved
 loop-turn-preserved c =
     goes_on c.args.ordered c.args.turns.now c.loop-turn.turn c.loop-turn.played.items c.loop-turn.troupe
     c.loop-turn.invariant c.play-outcome.new.self (get_or c.args.turns.now c.loop-turn.turn _) _
-    c.play-outcome.result c.push.new.self.items c.loop-turn-test.true refl c.play-outcome.ensures
-    (c.in_ok-push.ensures {u = tt}).items
+    c.play-outcome.result c.push.new.self.items c.loop-turn-test.true refl c.play-outcome.ensures.turn
+    c.play-outcome.ensures.blocked (c.in_ok-push.ensures {u = tt}).items
 
 pub returns-clause-played : goal.returns-clause-played
 returns-clause-played c =

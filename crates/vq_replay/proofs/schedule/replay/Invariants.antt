@@ -1,4 +1,4 @@
-use Rattle.vq_replay.specs.Casts.{HasPlayed}
+use Rattle.vq_replay.specs.Schedules.{HasPlayed}
 use Rattle.vq_replay.proofs.schedule.replay.Given as goal
 
 abbrev pub invariant-loop-turn : goal.invariant-loop-turn

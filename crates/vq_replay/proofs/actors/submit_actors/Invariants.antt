@@ -1,6 +1,0 @@
-use Rattle.vq_model.specs.declared.script.ActorName.TheVariants.{Submit}
-use Rattle.vq_replay.specs.Casts.{AreFirst}
-use Rattle.vq_replay.proofs.actors.submit_actors.Given as goal
-
-abbrev pub invariant-loop-queue : goal.invariant-loop-queue
-invariant-loop-queue l = AreFirst l.ordered Submit l.queue l.actors.items
