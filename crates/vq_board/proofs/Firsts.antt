@@ -15,7 +15,7 @@ use Rattle.vq_board.specs.Firsts.{shows_made, AreFirsts}
 use Rattle.vq_board.proofs.Placed.{chain_exists}
 
 -- what is shown made stays so as more is known
-shown_more : (new known : List Fact) (e : ℕ) → shows_made known e ≡ true → shows_made (new ++ known) e ≡ true
+pub shown_more : (new known : List Fact) (e : ℕ) → shows_made known e ≡ true → shows_made (new ++ known) e ≡ true
 shown_more [] known e h = h
 shown_more (Made f ∷ new) known e h = or_right (eqb f e) (shows_made (new ++ known) e) (shown_more new known e h)
 shown_more (Past f ∷ new) known e h = or_right (eqb f e) (shows_made (new ++ known) e) (shown_more new known e h)

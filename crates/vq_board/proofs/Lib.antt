@@ -1,4 +1,5 @@
 pub mod Cited
+mod ClosedEnds
 mod Copied
 mod Dealt
 mod Firsts
@@ -7,3 +8,4 @@ mod Limits
 mod OpNumbers
 mod Placed
 mod Shared
+mod StepAt

@@ -25,11 +25,14 @@ shows_made (Made f ∷ fs) e = (f == e) || shows_made fs e
 shows_made (Past f ∷ fs) e = (f == e) || shows_made fs e
 shows_made (other ∷ fs) e = shows_made fs e
 
+-- the first n operations of a chain are shown made
+abbrev pub ShowsFirst : Plan → List Fact → ℕ → ℕ → Type 0
+ShowsFirst p known t n =
+    (i e : ℕ) → i < n → slice_get (chain p t) i ≡ Some e → shows_made known e ≡ true
+
 -- of each chain so many of the first operations are shown made
 abbrev pub AreShown : Plan → List Fact → List ℕ → Type 0
-AreShown p known counts =
-    (t i e : ℕ) → i < slice_index counts t → slice_get (chain p t) i ≡ Some e →
-    shows_made known e ≡ true
+AreShown p known counts = (t : ℕ) → ShowsFirst p known t (slice_index counts t)
 
 -- a count for each chain, none above the chain's length, and so many of its first operations shown
 -- made

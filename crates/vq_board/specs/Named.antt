@@ -1,11 +1,13 @@
 -- The board and its passes, as contracts name them. This project's own.
 use Rattle.std.specs.Prelude.{ℕ, List, ◌≡◌, ◌+◌, Some, map, length}
 use Rattle.std.specs.List.{slice_get, range_with_len}
+use Rattle.atomic_table.specs.Seated.{TableId}
 use Rattle.vq_model.specs.Plan.{Plan}
 use Rattle.vq_board_laws.specs.declared.view.Told.{Told}
 use Rattle.vq_board_laws.specs.declared.view.View.{View}
 use Rattle.vq_board_laws.specs.declared.view.Role.{Role}
 use Rattle.vq_board_laws.specs.declared.view.Role.TheVariants.{Host, Submit, Ring, Shelf}
+use Rattle.vq_board_laws.specs.Moments.{IsStep}
 use Rattle.vq_board_laws.specs.Roles.{role_number, threaded_queues}
 use Rattle.vq_board_laws.specs.Rule.{fresh}
 use Rattle.vq_model.specs.Memory.{Memory}
@@ -27,19 +29,46 @@ role_of x = x.role
 abbrev pub counts_of : Pass → List ℕ
 counts_of x = x.first_made.items
 
+-- which board it is, whatever its plan, and of which board a pass is
+abbrev pub id_of : Board → TableId
+id_of b = b.table.shared.table_id
+
+abbrev pub board_of : Pass → TableId
+board_of x = x.seat.table_id
+
+-- the pass is one of that board's, which has this plan
+abbrev pub IsOfBoard : TableId → Plan → Pass → Type 0
+IsOfBoard id p x = (board_of x ≡ id) × ((view x).plan ≡ p)
+
 -- the pass is one of the board's
 abbrev pub IsOf : Board → Pass → Type 0
-IsOf b x = (x.seat.table_id ≡ b.table.shared.table_id) × ((view x).plan ≡ plan_of b)
+IsOf b x = IsOfBoard (id_of b) (plan_of b) x
 
 -- the same pass, with another view and these counts,
 abbrev pub TurnsWith : Pass → Pass → View → List ℕ → Type 0
 TurnsWith x y v counts =
-    (y.seat.table_id ≡ x.seat.table_id) × (role_of y ≡ role_of x) × (view y ≡ v)
+    (board_of y ≡ board_of x) × (role_of y ≡ role_of x) × (view y ≡ v)
     × (counts_of y ≡ counts)
 
 -- or with another view alone
 abbrev pub Turns : Pass → Pass → View → Type 0
 Turns x y v = TurnsWith x y v (counts_of x)
+
+-- The call was one step on the word: it found this number and left it, it left this number, or it found
+-- this number and left another.
+abbrev pub Finds : Board → Pass → Pass → ℕ → ℕ → Type 0
+Finds b x y word n = IsStep (plan_of b) (view x) (view y) word n n
+
+abbrev pub Leaves : Board → Pass → Pass → ℕ → ℕ → Type 0
+Leaves b x y word n = (found : ℕ) × IsStep (plan_of b) (view x) (view y) word found n
+
+abbrev pub Changes : Board → Pass → Pass → ℕ → ℕ → Type 0
+Changes b x y word n = (left : ℕ) × IsStep (plan_of b) (view x) (view y) word n left
+
+-- the last step of the call was on the word
+abbrev pub EndsAt : Board → Pass → ℕ → Type 0
+EndsAt b y word =
+    (v : View) × (found : ℕ) × (left : ℕ) × IsStep (plan_of b) v (view y) word found left
 
 -- a pass of the board that has done nothing, with the number of its role
 abbrev pub IsFresh : Board → Pass → Type 0

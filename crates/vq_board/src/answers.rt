@@ -1,11 +1,13 @@
 //! The answers to the host's steps.
-ghost use Rattle.std.specs.Prelude.{◌≡◌, ◌<◌, length};
+ghost use Rattle.std.specs.Prelude.{ℕ, ◌≡◌, ◌<◌, length};
 ghost use Rattle.vq_board_laws.specs.PointSteps.{answer_code, answer_operand, answers};
 ghost use Rattle.vq_board_laws.specs.Shows.{MayAnswer};
-ghost use Rattle.vq_board.specs.Named.{plan_of, view, IsOf, Turns};
+ghost use Rattle.vq_board_laws.specs.Words.{job_word};
+ghost use Rattle.vq_board.specs.Named.{plan_of, view, IsOf, Turns, Changes};
 
 use crate::parts::{Board, Pass};
-use crate::plays::Answers;
+use crate::plays::Tell;
+use crate::words::job_word;
 use vq_model::plan::Answer;
 
 /// The operands of the step that say this answer. No job's word is the first, so the step stores
@@ -30,11 +32,12 @@ impl Board {
         requires board { IsOf self.now pass.old }
         requires exists { job < length (plan_of self.now).jobs }
         requires may { MayAnswer (plan_of self.now) (view pass.old) job answer }
-        ensures { Turns pass.old pass.new (answers (view pass.old) job answer) }
+        ensures pass { Turns pass.old pass.new (answers (view pass.old) job answer) }
+        ensures step { (n : ℕ) × Changes self.now pass.old pass.new (job_word job) n }
     {
         let (code, operand) = operands(answer);
         self.table
             .shared
-            .compare_exchange::<Answers>(&mut pass.seat, 4 * job as usize + 2, code, operand);
+            .compare_exchange::<Tell>(&mut pass.seat, job_word(job), code, operand);
     }
 }

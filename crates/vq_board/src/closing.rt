@@ -1,6 +1,8 @@
 //! The end of a board.
 ghost use Rattle.std.specs.Prelude.{◌≡◌};
+ghost use Rattle.vq_model.specs.Memory.{HasSizes};
 ghost use Rattle.vq_model.specs.SlowRun.{final};
+ghost use Rattle.vq_model.specs.ValidScripts.{sizes_of};
 ghost use Rattle.vq_board_laws.specs.Ends.{KnowsAllFinished, IsFoldOfRun, IsToldOutput};
 ghost use Rattle.vq_board.specs.Named.{plan_of, view, IsOf, plan_of_closed, told_of, bytes_of};
 
@@ -22,20 +24,12 @@ impl Board {
         ensures told { told_of result ≡ (view host).told }
         ensures folded { IsFoldOfRun (plan_of self) (told_of result) (bytes_of result) }
         ensures whole { bytes_of result ≡ final (plan_of self) }
+        ensures sizes { HasSizes (sizes_of (plan_of self).script) (bytes_of result) }
         ensures output { IsToldOutput (plan_of self) (told_of result) (bytes_of result) }
     {
-        let Board {
-            table,
-            copies: _,
-            plan,
-        } = self;
+        let (table, plan) = self.take_apart();
         let host_now = Snapshot::of(&host);
-        let Pass {
-            seat,
-            role: _,
-            runs: _,
-            first_made: _,
-        } = host;
+        let seat = host.into_seat();
         // these do nothing; their contracts say that all runs leave the same bytes, and an output
         one_result();
         run_gives_output();
@@ -57,6 +51,7 @@ impl Closed {
     pub fn buffers(&self) -> &Buffers
         ensures bytes { result.now ≡ bytes_of self.now }
         ensures whole { result.now ≡ final (plan_of_closed self.now) }
+        ensures sizes { HasSizes (sizes_of (plan_of_closed self.now).script) result.now }
     {
         &self.buffers
     }

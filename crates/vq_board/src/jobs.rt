@@ -1,12 +1,16 @@
 //! The steps on the word of a job.
-ghost use Rattle.std.specs.Prelude.{◌≡◌, ◌<◌, length};
-ghost use Rattle.vq_board_laws.specs.Knowledge.{state_at};
+ghost use Rattle.std.specs.Prelude.{◌≡◌, ◌<◌, ◌≤◌, length};
+ghost use Rattle.vq_board_laws.specs.declared.view.JobState.{JobState};
+ghost use Rattle.vq_board_laws.specs.declared.view.Fact.TheVariants.{Job};
+ghost use Rattle.vq_board_laws.specs.Knowledge.{state_at, state_number, Knows};
 ghost use Rattle.vq_board_laws.specs.May.{MaySubmit, MayRelease, MayStart, MayFinish};
 ghost use Rattle.vq_board_laws.specs.Steps.{looks, submits, releases, starts, finishes};
-ghost use Rattle.vq_board.specs.Named.{plan_of, view, role_of, IsOf, Turns};
+ghost use Rattle.vq_board_laws.specs.Words.{job_word};
+ghost use Rattle.vq_board.specs.Named.{plan_of, view, role_of, IsOf, Turns, Finds, Leaves};
 
 use crate::parts::{Board, Pass};
-use crate::plays::{Finish, Look, Release, Start, Submit};
+use crate::plays::{Finish, LookAtJob, Release, Start, Submit};
+use crate::words::job_word;
 use vq_board_laws::view::{JobState, Role};
 
 /// The state of a job with this word.
@@ -40,12 +44,15 @@ impl Board {
     pub fn job_state(&self, pass: &mut Pass, job: u32) -> JobState
         requires board { IsOf self.now pass.old }
         requires exists { job < length (plan_of self.now).jobs }
-        ensures { Turns pass.old pass.new (looks (view pass.old) job result) }
+        ensures pass { Turns pass.old pass.new (looks (view pass.old) job result) }
+        ensures stays { (s : JobState) → Knows (view pass.old).known (Job job s) →
+            state_number s ≤ state_number result }
+        ensures step { Finds self.now pass.old pass.new (job_word job) (state_number result) }
     {
         let word = self
             .table
             .shared
-            .load::<Look>(&mut pass.seat, 4 * job as usize + 2);
+            .load::<LookAtJob>(&mut pass.seat, job_word(job));
         state_of(word)
     }
 
@@ -56,11 +63,12 @@ impl Board {
     pub fn submit(&self, pass: &mut Pass, job: u32)
         requires board { IsOf self.now pass.old }
         requires may { MaySubmit (plan_of self.now) (view pass.old) job }
-        ensures { Turns pass.old pass.new (submits (view pass.old) job) }
+        ensures pass { Turns pass.old pass.new (submits (view pass.old) job) }
+        ensures step { Leaves self.now pass.old pass.new (job_word job) 1 }
     {
         self.table
             .shared
-            .store::<Submit>(&mut pass.seat, 4 * job as usize + 2, 1);
+            .store::<Submit>(&mut pass.seat, job_word(job), 1);
     }
 
     /// Hands the next batch of a queue to the device.
@@ -69,11 +77,12 @@ impl Board {
     pub fn release(&self, pass: &mut Pass, job: u32)
         requires board { IsOf self.now pass.old }
         requires may { MayRelease (plan_of self.now) (view pass.old) job }
-        ensures { Turns pass.old pass.new (releases (view pass.old) job) }
+        ensures pass { Turns pass.old pass.new (releases (view pass.old) job) }
+        ensures step { Leaves self.now pass.old pass.new (job_word job) 2 }
     {
         self.table
             .shared
-            .store::<Release>(&mut pass.seat, 4 * job as usize + 2, 2);
+            .store::<Release>(&mut pass.seat, job_word(job), 2);
     }
 
     /// Starts a job, which the pass runs from then on.
@@ -83,12 +92,13 @@ impl Board {
     pub fn start(&self, pass: &mut Pass, job: u32)
         requires board { IsOf self.now pass.old }
         requires may { MayStart (plan_of self.now) (view pass.old) job }
-        ensures { Turns pass.old pass.new (starts (view pass.old) job) }
+        ensures pass { Turns pass.old pass.new (starts (view pass.old) job) }
+        ensures step { Leaves self.now pass.old pass.new (job_word job) 3 }
     {
         pass.runs = Some(job);
         self.table
             .shared
-            .store::<Start>(&mut pass.seat, 4 * job as usize + 2, 3);
+            .store::<Start>(&mut pass.seat, job_word(job), 3);
     }
 
     /// Finishes the job that the pass runs.
@@ -98,11 +108,12 @@ impl Board {
         requires board { IsOf self.now pass.old }
         requires exists { job < length (plan_of self.now).jobs }
         requires may { MayFinish (plan_of self.now) (view pass.old) job }
-        ensures { Turns pass.old pass.new (finishes (view pass.old) job) }
+        ensures pass { Turns pass.old pass.new (finishes (view pass.old) job) }
+        ensures step { Leaves self.now pass.old pass.new (job_word job) 4 }
     {
         pass.runs = None;
         self.table
             .shared
-            .store::<Finish>(&mut pass.seat, 4 * job as usize + 2, 4);
+            .store::<Finish>(&mut pass.seat, job_word(job), 4);
     }
 }

@@ -14,6 +14,7 @@ mod ops;
 mod parts;
 mod plays;
 mod points;
+mod words;
 
-pub use parts::{Board, Closed, Held, InUse, Lost, Pass, Passes, Referred, Unbound};
+pub use parts::{Board, Closed, InUse, Lost, MemoryTurn, Pass, Passes, Referred, Unbound};
 pub use vq_board_laws::view::{JobState, OpState, Role};

@@ -5,10 +5,12 @@ ghost use Rattle.vq_model.specs.Memory.{Memory, effect};
 ghost use Rattle.vq_model.specs.Ranges.{Fits};
 ghost use Rattle.vq_board_laws.specs.May.{MayEnter};
 ghost use Rattle.vq_board_laws.specs.Steps.{takes_turn, misses_turn, gives_turn, enters};
-ghost use Rattle.vq_board.specs.Named.{plan_of, view, IsOf, Turns};
+ghost use Rattle.vq_board_laws.specs.Words.{turn_word, place_word};
+ghost use Rattle.vq_board.specs.Named.{plan_of, view, IsOf, Turns, Leaves, Changes};
 
-use crate::parts::{Board, Held, Pass};
+use crate::parts::{Board, MemoryTurn, Pass};
 use crate::plays::{Enter, GiveTurn, TakeTurn};
+use crate::words::{TURN_WORD, place_word};
 use vq_board_laws::view::LoggedBuffers;
 use vq_model::script::Command;
 
@@ -29,7 +31,7 @@ impl Board {
     /// step found the turn taken.
     ///
     /// Source: this project's rule.
-    pub fn take_memory(&self, pass: &mut Pass) -> Option<Held>
+    pub fn take_memory(&self, pass: &mut Pass) -> Option<MemoryTurn>
         requires board { IsOf self.now pass.old }
         requires runs { (j : ℕ) × ((view pass.old).runs ≡ Some j) }
         requires turnless { (view pass.old).held ≡ None }
@@ -37,14 +39,15 @@ impl Board {
             × Turns pass.old pass.new (takes_turn (view pass.old) n bytes)) }
         ensures missed { IfNone result ((n : ℕ) × (n ≢ 0)
             × Turns pass.old pass.new (misses_turn (view pass.old) n)) }
+        ensures step { (n : ℕ) × Changes self.now pass.old pass.new turn_word n }
     {
         let Some(job) = pass.runs else { unreachable!() };
         let found = self
             .table
             .shared
-            .compare_exchange::<TakeTurn>(&mut pass.seat, 0, 0, job as u64 + 1);
+            .compare_exchange::<TakeTurn>(&mut pass.seat, TURN_WORD, 0, job as u64 + 1);
         if found == 0 {
-            Some(Held { private: () })
+            Some(MemoryTurn { private: () })
         } else {
             None
         }
@@ -54,33 +57,36 @@ impl Board {
     /// log.
     ///
     /// Source: Vulkan 1.3, "Clear Commands" and "Copy Commands". The log is this project's rule.
-    pub fn enter(&self, pass: &mut Pass, held: &mut Held, command: u32)
+    pub fn enter(&self, pass: &mut Pass, turn: &mut MemoryTurn, command: u32)
         requires board { IsOf self.now pass.old }
         requires exists { command < length (plan_of self.now).commands }
         requires may { MayEnter (plan_of self.now) (view pass.old) command }
-        ensures { (n : ℕ) × (bytes : Memory) × ((view pass.old).held ≡ Some n)
+        ensures pass { (n : ℕ) × (bytes : Memory) × ((view pass.old).held ≡ Some n)
             × Turns pass.old pass.new (enters (view pass.old) command n bytes) }
+        ensures step { (n : ℕ) × ((view pass.old).held ≡ Some n)
+            × Leaves self.now pass.old pass.new (place_word n) (command + 1) }
     {
-        let _ = held;
+        let _ = turn;
         let memory = pass.seat.slot_mut(&self.table.shared, 0);
         let filled = memory.filled;
         apply(memory, self.copies.command(command));
-        self.table.shared.store::<Enter>(
-            &mut pass.seat,
-            4 * filled as usize + 5,
-            command as u64 + 1,
-        );
+        self.table
+            .shared
+            .store::<Enter>(&mut pass.seat, place_word(filled), command as u64 + 1);
     }
 
     /// Gives the turn over the buffers back.
     ///
     /// Source: this project's rule.
-    pub fn give_memory(&self, pass: &mut Pass, held: Held)
+    pub fn give_memory(&self, pass: &mut Pass, turn: MemoryTurn)
         requires board { IsOf self.now pass.old }
         requires holds { (n : ℕ) × ((view pass.old).held ≡ Some n) }
-        ensures { Turns pass.old pass.new (gives_turn (view pass.old)) }
+        ensures pass { Turns pass.old pass.new (gives_turn (view pass.old)) }
+        ensures step { Leaves self.now pass.old pass.new turn_word 0 }
     {
-        let Held { private: () } = held;
-        self.table.shared.store::<GiveTurn>(&mut pass.seat, 0, 0);
+        let MemoryTurn { private: () } = turn;
+        self.table
+            .shared
+            .store::<GiveTurn>(&mut pass.seat, TURN_WORD, 0);
     }
 }

@@ -3,7 +3,7 @@
 ghost use Rattle.std.specs.Prelude.{◌≡◌, ◌<◌, ◌≤◌, length, slice_index, true};
 ghost use Rattle.vq_model.specs.Plan.{chain as operations_of};
 ghost use Rattle.vq_board_laws.specs.declared.view.OpState.TheVariants.{Past as PastOp};
-ghost use Rattle.vq_board.specs.Firsts.{shows_made, counted, counted_state, counted_word, KnowsFirst};
+ghost use Rattle.vq_board.specs.Firsts.{shows_made, counted, counted_state, counted_word, ShowsFirst, KnowsFirst};
 ghost use Rattle.vq_board.specs.Named.{plan_of, view, counts_of, IsOf, TurnsWith};
 
 use crate::parts::{Board, Pass};
@@ -18,6 +18,7 @@ impl Pass {
         requires { chain < length (view self.now).plan.chains }
         ensures count { result ≡ slice_index (counts_of self.now) chain }
         ensures within { result ≤ length (operations_of (view self.now).plan chain) }
+        ensures shown { ShowsFirst (view self.now).plan (view self.now).known chain result }
         ensures known { KnowsFirst (view self.now).plan (view self.now).known chain result }
     {
         self.first_made[chain as usize]

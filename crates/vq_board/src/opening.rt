@@ -13,8 +13,7 @@ use std::snapshot::Snapshot;
 use vq_board_laws::laws::runs_keep;
 use vq_board_laws::view::{LoggedBuffers, Role};
 use vq_order::Ordered;
-use vq_spec::Plan;
-use vq_transfer::Buffers;
+use vq_spec::{Plan, zero_buffers};
 
 /// How many words the board of a plan has.
 fn word_count(plan: &Plan) -> usize
@@ -39,7 +38,7 @@ impl Board {
         let first_made = vec![in alloc; 0u32; plan.chains() as usize]?;
         let words = vec![in alloc; 0u64; word_count(plan)]?;
         let copies = Copies::of(alloc, plan)?;
-        let buffers = Buffers::new(alloc, copies.sizes())?;
+        let buffers = zero_buffers(alloc, plan.script())?;
         let mut slots = Vec::new(alloc);
         slots.push(LoggedBuffers { buffers, filled: 0 })?;
         let Ok((table, seat)) = Table::new(alloc, words.as_slice(), slots, plan) else {

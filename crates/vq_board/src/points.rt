@@ -6,52 +6,18 @@ ghost use Rattle.vq_model.specs.Plan.{has};
 ghost use Rattle.vq_points.specs.PointWord.{parts};
 ghost use Rattle.vq_board_laws.specs.MayPoints.{MayMake, MayAssign, MayRetire, MayRefer};
 ghost use Rattle.vq_board_laws.specs.Points.{reference, Lists, IsWord};
-ghost use Rattle.vq_board_laws.specs.PointSteps.{carries, sees, makes, assigns, retires, refers, unrefers};
-ghost use Rattle.vq_board_laws.specs.PointSteps.{misses_point};
-ghost use Rattle.vq_board_laws.specs.Words.{Carries};
+ghost use Rattle.vq_board_laws.specs.Knowledge.{KnowsMade};
+ghost use Rattle.vq_board_laws.specs.PointSteps.{carrying_word, sees, makes, assigns, retires, refers, unrefers};
+ghost use Rattle.vq_board_laws.specs.Words.{Carries, count_word, point_word};
 ghost use Rattle.vq_board.specs.Firsts.{counted_word};
 ghost use Rattle.vq_board.specs.Named.{plan_of, view, counts_of, IsOf, Turns, TurnsWith};
+ghost use Rattle.vq_board.specs.Named.{Finds, Leaves, Changes, EndsAt};
 ghost use Rattle.vq_board.specs.Answers.{IsInUse, IsReferred, IsLost};
 
 use crate::parts::{Board, InUse, Lost, Pass, Referred};
-use crate::plays::{Assign, Make, Refer, Retire, See, Unrefer};
-use vq_point::PointWord;
-
-/// One reference, in the word of a point.
-const REFERENCE: u64 = 1 << 32;
-
-/// The bit of a point's word that says whether it carries an operation.
-const HELD: u32 = 49;
-
-/// The bit of a point's word that says whether it is signaled.
-const SIGNALED: u32 = 48;
-
-/// Whether a point with this word carries the operation.
-fn carries(word: u64, op: u32) -> bool
-    ensures { result ≡ carries word op }
-{
-    word >> HELD & 1 == 1 && (word & u64::from(u32::MAX)) as u32 == op
-}
-
-/// The parts of a point's word, which the rule says that it has.
-fn decoded(word: u64) -> PointWord
-    requires { IsWord word }
-    ensures { bits_of result ≡ word }
-{
-    PointWord {
-        op: (word & u64::from(u32::MAX)) as u32,
-        refs: references(word),
-        signaled: word >> SIGNALED & 1 == 1,
-        held: word >> HELD & 1 == 1,
-    }
-}
-
-/// How many references a point's word has.
-fn references(word: u64) -> u16
-    ensures { result ≡ (parts word).refs }
-{
-    (word >> 32 & u64::from(u16::MAX)) as u16
-}
+use crate::plays::{Assign, LookAtPoint, Make, Refer, Retire, Unrefer};
+use crate::words::{COUNT_WORD, point_word};
+use vq_point::{CARRYING, PointWord, REFERENCE, carries, decoded, references};
 
 impl Board {
     /// The word of a point as a number.
@@ -64,10 +30,13 @@ impl Board {
             Carries result e }
         ensures carried { (e : ℕ) → Lists (view pass.old).carrying (reference point e) →
             Carries result e }
+        ensures unmade { (e : ℕ) → Carries result e → (parts result).signaled ≡ false →
+            ¬ KnowsMade (plan_of self.now) (view pass.new).known e }
+        ensures step { Finds self.now pass.old pass.new (point_word point) result }
     {
         self.table
             .shared
-            .load::<See>(&mut pass.seat, 4 * point as usize + 4)
+            .load::<LookAtPoint>(&mut pass.seat, point_word(point))
     }
 
     /// Makes a point for the shelf of the pass. Its number is below the plan's number of operations,
@@ -80,8 +49,11 @@ impl Board {
         ensures pass { Turns pass.old pass.new (makes (view pass.old) result) }
         ensures exists { result < length (plan_of self.now).ops }
         ensures fresh { has (view pass.old).owned result ≡ false }
+        ensures step { Changes self.now pass.old pass.new count_word result }
     {
-        self.table.shared.fetch_add::<Make>(&mut pass.seat, 1, 1) as u32
+        self.table
+            .shared
+            .fetch_add::<Make>(&mut pass.seat, COUNT_WORD, 1) as u32
     }
 
     /// Gives a point of the shelf to an operation of its chain.
@@ -91,13 +63,12 @@ impl Board {
         requires board { IsOf self.now pass.old }
         requires exists { point < length (plan_of self.now).ops }
         requires may { MayAssign (plan_of self.now) (view pass.old) point op }
-        ensures { Turns pass.old pass.new (assigns (view pass.old) point op) }
+        ensures pass { Turns pass.old pass.new (assigns (view pass.old) point op) }
+        ensures step { Leaves self.now pass.old pass.new (point_word point) (carrying_word op) }
     {
-        self.table.shared.store::<Assign>(
-            &mut pass.seat,
-            4 * point as usize + 4,
-            op as u64 + (1 << HELD),
-        );
+        self.table
+            .shared
+            .store::<Assign>(&mut pass.seat, point_word(point), op as u64 + CARRYING);
     }
 
     /// What the word of a point says. A point that isn't made says nothing. What the pass learns by it
@@ -113,6 +84,15 @@ impl Board {
             (result.held ≡ true) × (result.op ≡ e) }
         ensures carried { (e : ℕ) → Lists (view pass.old).carrying (reference point e) →
             (result.held ≡ true) × (result.op ≡ e) }
+        ensures unmade { result.held ≡ true → result.signaled ≡ false →
+            ¬ KnowsMade (plan_of self.now) (view pass.new).known result.op }
+        ensures parts { parts (bits_of result) ≡ record {
+          op = result.op;
+          refs = result.refs;
+          signaled = result.signaled;
+          held = result.held;
+        } }
+        ensures step { Finds self.now pass.old pass.new (point_word point) (bits_of result) }
     {
         let parts = decoded(self.load_point(pass, point));
         self.note_word(pass, parts);
@@ -128,7 +108,8 @@ impl Board {
         requires board { IsOf self.now pass.old }
         requires exists { point < length (plan_of self.now).ops }
         requires may { MayRefer (plan_of self.now) (view pass.old) }
-        ensures { IsReferred pass.old pass.new point op result }
+        ensures pass { IsReferred pass.old pass.new point op result }
+        ensures step { EndsAt self.now pass.new (point_word point) }
     {
         let loaded = self.load_point(pass, point);
         if !carries(loaded, op) {
@@ -136,7 +117,7 @@ impl Board {
         }
         let found = self.table.shared.compare_exchange::<Refer>(
             &mut pass.seat,
-            4 * point as usize + 4,
+            point_word(point),
             loaded,
             loaded + REFERENCE,
         );
@@ -160,11 +141,12 @@ impl Board {
         ensures given { IfOk result (λ _. (n : ℕ)
             × Turns pass.old pass.new (unrefers (sees (view pass.old) point n) point op n)) }
         ensures lost { IfErr result (λ x. IsLost pass.old pass.new point x.found) }
+        ensures step { EndsAt self.now pass.new (point_word point) }
     {
         let loaded = self.load_point(pass, point);
         let found = self.table.shared.compare_exchange::<Unrefer>(
             &mut pass.seat,
-            4 * point as usize + 4,
+            point_word(point),
             loaded,
             loaded - REFERENCE,
         );
@@ -186,6 +168,7 @@ impl Board {
         ensures freed { IfOk result (λ _. (n : ℕ) × ((parts n).refs ≡ 0)
             × Turns pass.old pass.new (retires (sees (view pass.old) point n) point n)) }
         ensures in_use { IfErr result (λ x. IsInUse pass.old pass.new point x.found) }
+        ensures step { EndsAt self.now pass.new (point_word point) }
     {
         let loaded = self.load_point(pass, point);
         if references(loaded) != 0 {
@@ -194,7 +177,7 @@ impl Board {
         let found = self
             .table
             .shared
-            .compare_exchange::<Retire>(&mut pass.seat, 4 * point as usize + 4, loaded, 0);
+            .compare_exchange::<Retire>(&mut pass.seat, point_word(point), loaded, 0);
         if found == loaded {
             Ok(())
         } else {

@@ -77,7 +77,7 @@ module _ (p : Plan) (laws : RunLaws p) (s : State LoggedBuffers View) (id j : �
   can_answer = record {
     started = ap (λ (z : Progress). z.started j) k.rule.run.leads ∙ lt-ltb 2 (d.job j) (let t = runs.1 in omega arith);
     unanswered = ap is_some (k.rule.run.answers id v at first j) ∙ may.unanswered;
-    allowed = guarded p laws s id j v k at may.runs (question p j) a may.shows;
+    allowed = guarded p laws s id j v k at may.runs a may.shows;
   }
 
   -- the line that is told stands after all those before

@@ -1,11 +1,14 @@
 -- What other crates may cite of this one. All other files of proofs are private to it.
 pub use Rattle.vq_board_laws.proofs.AnswerSteps.{answers_job}
+pub use Rattle.vq_board_laws.proofs.ChainShares.{share_is_chain}
 pub use Rattle.vq_board_laws.proofs.Endings.{ends_whole}
 pub use Rattle.vq_board_laws.proofs.EnterSteps.{enters_command}
 pub use Rattle.vq_board_laws.proofs.Frames.{so_of}
 pub use Rattle.vq_board_laws.proofs.JobSteps.{looks_at_job, releases_job, state_of_number, submits_job}
 pub use Rattle.vq_board_laws.proofs.LookSteps.{looks_at_point}
 pub use Rattle.vq_board_laws.proofs.MakeSteps.{makes_point}
+pub use Rattle.vq_board_laws.proofs.Moments.{loads_at, stores_at, adds_at, exchanges_at}
+pub use Rattle.vq_board_laws.proofs.Needed.{made_still, reached_still, needs_still, needs_later, needs_to_end, needs_nothing}
 pub use Rattle.vq_board_laws.proofs.OpSteps.{binds_op, completes_op, op_number_is, recalls_op}
 pub use Rattle.vq_board_laws.proofs.Opens.{deals, opens}
 pub use Rattle.vq_board_laws.proofs.PointLaws.{assigned_free, counts_all, referred_carries, retired_past, signaled_made}

@@ -1,5 +1,5 @@
 -- What the last state shows, where the pass knows every job finished.
-use Rattle.std.proofs.Common.{◌≡◌, ℕ, ◌-◌, ◌<◌, ◌≤◌, ◌++◌, List, [], ◌∷◌, ap, sym, ◌∙◌, subst, arith, length}
+use Rattle.std.proofs.Common.{◌≡◌, ℕ, ◌-◌, ◌<◌, ◌≤◌, ◌++◌, List, [], ◌∷◌, map, ap, sym, ◌∙◌, subst, arith, length}
 use mathlib.Core.Option.{some, some-injective}
 use mathlib.Core.Option as maybe
 use mathlib.Core.Logic.{dite}
@@ -15,6 +15,7 @@ use Rattle.vq_model.specs.Plan.{Plan}
 use Rattle.vq_model.specs.SlowRun.{final, bytes_after, HasOneResult}
 use Rattle.vq_model.specs.Checks.{IsLawful}
 use Rattle.vq_model.specs.LoweringFaults.{IsPlan}
+use Rattle.vq_model.specs.ValidScripts.{sizes_of}
 use Rattle.vq_run_laws.specs.RunFacts.{RunsGiveOutputs}
 use Rattle.vq_board_laws.specs.declared.view.View.{View}
 use Rattle.vq_board_laws.specs.declared.view.LoggedBuffers.{LoggedBuffers}
@@ -25,6 +26,7 @@ use Rattle.vq_board_laws.specs.Rule.{Kept}
 use Rattle.vq_board_laws.specs.Ends.{KnowsAllFinished, IsFoldOfRun, IsToldOutput}
 use Rattle.vq_board_laws.specs.Reached.{answer_told, lines_told}
 use Rattle.vq_board_laws.proofs.Frames.{so_of}
+use Rattle.vq_board_laws.proofs.Sizes.{log_sizes}
 use Rattle.vq_board_laws.proofs.ToldLists.{lines_are_told, asking_exists}
 
 -- the value of the slot comes out
@@ -45,7 +47,7 @@ turn_free p s id v k at all =
     let three = t.0 in absurd (omega arith))
 
 ends_at : ((p : Plan) → IsPlan p → IsLawful p → HasOneResult p) → ((p : Plan) → IsPlan p → IsLawful p → RunsGiveOutputs p) → (p : Plan) (s : State LoggedBuffers View) (id : ℕ) (v : View) (bytes : Memory) (k : Kept p s) → get_elem? s.views id ≡ some v → v.role ≡ 0 → KnowsAllFinished p v
-    → bytes ≡ bytes_after p (log_of p (words_of s.words)) → IsFoldOfRun p v.told bytes × (bytes ≡ final p) × IsToldOutput p v.told bytes
+    → bytes ≡ bytes_after p (log_of p (words_of s.words)) → IsFoldOfRun p v.told bytes × (bytes ≡ final p) × IsToldOutput p v.told bytes × (map length bytes ≡ sizes_of p.script)
 ends_at one outputs p s id v bytes k at host all log =
     let d : Words = words_of s.words in
     let r = k.rule.run in
@@ -60,11 +62,12 @@ ends_at one outputs p s id v bytes k at host all log =
       record { steps = r.steps; run = r.run; finished = done; folded = folded; answers = answers },
       folded ∙ whole,
       subst (IsOutput p) (λ i. answer_text (lines i) ++ buffers_text p.script.buffers (sym folded i)) (outputs p k.plan k.lawful r.steps r.run done),
+      ap (λ (m : Memory). map length m) log ∙ (log_sizes p s k ∙ ap (λ (q : Plan). q.sizes) k.plan.lowered),
     )
 
 -- The buffers that come out are what the log of a finished run leaves, and so the bytes of the slow run; with the answers that the host told they are an output of the plan.
 pub ends_whole : ((p : Plan) → IsPlan p → IsLawful p → HasOneResult p) → ((p : Plan) → IsPlan p → IsLawful p → RunsGiveOutputs p) → (p : Plan) (id : ℕ) (v : View) (ws : List ℕ) (xs : List LoggedBuffers) (y : LoggedBuffers) → v.role ≡ 0 → KnowsAllFinished p v → Final (Seen (Kept p) id v) ws xs → get_elem? xs 0 ≡ some y
-    → IsFoldOfRun p v.told y.buffers × (y.buffers ≡ final p) × IsToldOutput p v.told y.buffers
+    → IsFoldOfRun p v.told y.buffers × (y.buffers ≡ final p) × IsToldOutput p v.told y.buffers × (map length y.buffers ≡ sizes_of p.script)
 ends_whole one outputs p id v ws xs y host all (s, seen, is, count, values) took =
     let home = seen.0.rule.log.free (turn_free p s id v seen.0 seen.1 all) in
     ends_at one outputs p s id v y.buffers seen.0 seen.1 host all (ap (λ (z : LoggedBuffers). z.buffers) (sym (taken_value s.homes xs home.value y values home.home took)) ∙ home.bytes)

@@ -7,10 +7,11 @@ use Rattle.atomic_table.specs.Table.{State, step, keeps, Allows}
 use Rattle.vq_model.specs.declared.script.Command.{Command}
 use Rattle.vq_model.specs.Memory.{effect}
 use Rattle.vq_model.specs.Plan.{Plan, has, commands_of, command_at}
+use Rattle.vq_model.specs.Edges.{stage_of}
 use Rattle.vq_model.specs.Machine.{Progress, State as MachineState, put, CanApply, ApplyStep, after_progress, after_step}
 use Rattle.vq_model.proofs.Lists.{has_here, has_there, has-append_left, has-append_right, pushed}
 use Rattle.vq_model.proofs.Puts.{put_there}
-use Rattle.vq_plan_laws.proofs.Cited.{plan_well_formed, reached_earlier}
+use Rattle.vq_plan_laws.proofs.Cited.{plan_well_formed}
 use Rattle.vq_board_laws.specs.declared.view.View.{View}
 use Rattle.vq_board_laws.specs.declared.view.LoggedBuffers.{LoggedBuffers}
 use Rattle.vq_board_laws.specs.Roles.{runner}
@@ -18,12 +19,14 @@ use Rattle.vq_board_laws.specs.Words.{Words, words_of, place_word, made_of, log_
 use Rattle.vq_board_laws.specs.Jobs.{Jobs, OwnPhases}
 use Rattle.vq_board_laws.specs.Log.{Log, Holding}
 use Rattle.vq_board_laws.specs.Reached.{IsReached}
+use Rattle.vq_board_laws.specs.RunLaws.{RunLaws}
 use Rattle.vq_board_laws.specs.Rule.{Rule, Kept}
 use Rattle.vq_board_laws.specs.May.{MayEnter}
 use Rattle.vq_board_laws.specs.Steps.{Mine, enters, entered}
 use Rattle.vq_board_laws.proofs.Columns.{place_set}
 use Rattle.vq_board_laws.proofs.Frames.{facts_stay, so_unread, knowledge_stays, ownership_stays, points_stay, references_stay}
 use Rattle.vq_board_laws.proofs.JobParts.{RunFields, run_fields, runs_none, OwnRun}
+use Rattle.vq_board_laws.proofs.Needs.{needs_reached}
 use Rattle.vq_board_laws.proofs.Logs.{filled_put, has_room, bytes_push}
 use Rattle.vq_board_laws.proofs.Runs.{end_state, reach_further}
 use Rattle.vq_board_laws.proofs.Since.{since_rises}
@@ -35,7 +38,7 @@ use Rattle.vq_board_laws.proofs.Views.{each_pass, same_length, other_role}
 not_pushed : (log : List ℕ) (c y : ℕ) → has log y ≡ false → c ≢ y → has (log ++ c ∷ []) y ≡ false
 not_pushed log c y absent ne = false_from_ne_true (has (log ++ c ∷ []) y) (λ h. elim (pushed log c y h) [ inl m ↦ false≢true (sym absent ∙ m) | inr e ↦ ne e ])
 
-module _ (p : Plan) (s : State LoggedBuffers View) (id c : ℕ) (v : View) (k : Kept p s) (at : get_elem? s.views id ≡ some v) (may : MayEnter p v c) where
+module _ (p : Plan) (laws : RunLaws p) (s : State LoggedBuffers View) (id c : ℕ) (v : View) (k : Kept p s) (at : get_elem? s.views id ≡ some v) (may : MayEnter p v c) where
   abbrev d : Words
   d = words_of s.words
 
@@ -116,7 +119,7 @@ module _ (p : Plan) (s : State LoggedBuffers View) (id c : ℕ) (v : View) (k : 
     started = lt-ltb 2 (d.job j) (let t = runs.1 in omega arith);
     unfinished = le-ltb 3 (d.job j) (let t = runs.1 in omega arith);
     next = next_at (has log) (commands_of p j) v.entered c may.next (λ b h. own.entered_commands j b may.runs h) new;
-    ready = reached_earlier p (plan_well_formed p k.plan) (payload_of p (made_of d)) j _ (k.rule.jobs.reached j (let t = runs.1 in omega arith));
+    ready = needs_reached p d s.views v.known j (stage_of p j c) laws k.rule.run (k.rule.knowledge id v at) may.reached;
   }
 
   -- the words after the step show what the machine has after it
@@ -203,30 +206,30 @@ abbrev in_hand : LoggedBuffers → List (ℕ × LoggedBuffers) → LoggedBuffers
 in_hand other [] = other
 in_hand other (t ∷ ts) = t.1
 
-enters_held : (p : Plan) (slots id c : ℕ) (v : View) (x : LoggedBuffers) (y : Command) → (may : MayEnter p v c) → command_at p c ≡ Some y → x.buffers ≡ effect y v.bytes
+enters_held : (p : Plan) (slots id c : ℕ) (v : View) (x : LoggedBuffers) (y : Command) → RunLaws p → (may : MayEnter p v c) → command_at p c ≡ Some y → x.buffers ≡ effect y v.bytes
     → Allows (Kept p) slots id (v, (0, x) ∷ []) (place_word may.filled) (λ _. suc c) (λ _. entered (step slots (place_word may.filled) (suc c) 0 none) (v, (0, x) ∷ []) (suc c))
-enters_held p slots id c v x y may command bytes s k deep at fits =
+enters_held p slots id c v x y laws may command bytes s k deep at fits =
     let plan : v.plan ≡ p = k.rule.ownership.plans id v at in
     let n : ℕ = may.filled in (
       enters v c n x.buffers,
       keeps,
       tt,
-      entered_kept p s id c v k at may x y command bytes,
+      entered_kept p laws s id c v k at may x y command bytes,
       λ i e z is is' is''.
           let n_is : n ≡ i = omega arith in
           let c_is : c ≡ e = omega arith in
           let x_is : x ≡ z = ap (in_hand x) is'' in (
             (λ t. (enters v (c_is t) (n_is t) (x_is t).buffers, (0, x) ∷ [])),
-            (let a = room p s id c v k at may in let same : length v.plan.commands ≡ length p.commands = ap (λ (q : Plan). length q.commands) plan in omega arith),
+            (let a = room p laws s id c v k at may in let same : length v.plan.commands ≡ length p.commands = ap (λ (q : Plan). length q.commands) plan in omega arith),
           ),
     )
 
 -- as the calls write it
-pub enters_command : (p : Plan) (slots id c : ℕ) (m : Mine) (x : LoggedBuffers) (y : Command) → m.1 ≡ (0, x) ∷ [] → (may : MayEnter p m.0 c) → command_at p c ≡ Some y → x.buffers ≡ effect y m.0.bytes
+pub enters_command : (p : Plan) (slots id c : ℕ) (m : Mine) (x : LoggedBuffers) (y : Command) → RunLaws p → m.1 ≡ (0, x) ∷ [] → (may : MayEnter p m.0 c) → command_at p c ≡ Some y → x.buffers ≡ effect y m.0.bytes
     → Allows (Kept p) slots id m (place_word may.filled) (λ _. c + 1) (λ _. entered (step slots (place_word may.filled) (c + 1) 0 none) m (c + 1))
-enters_command p slots id c m x y e may command bytes =
+enters_command p slots id c m x y laws e may command bytes =
     let next : suc c ≡ c + 1 = omega arith in
     let v : View = m.0 in
     let n : ℕ = may.filled in
-    let held = enters_held p slots id c v x y may command bytes in
+    let held = enters_held p slots id c v x y laws may command bytes in
     subst (λ (t : ℕ × List (ℕ × LoggedBuffers)). Allows (Kept p) slots id (v, t.1) (place_word n) (λ _. t.0) (λ _. entered (step slots (place_word n) t.0 0 none) (v, t.1) t.0)) (λ i. (next i, sym e i)) held

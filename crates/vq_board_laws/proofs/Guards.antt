@@ -14,15 +14,15 @@ use Rattle.vq_model.specs.declared.plan.Need.{Need}
 use Rattle.vq_model.specs.declared.plan.Question.{Question}
 use Rattle.vq_model.specs.declared.plan.Question.TheVariants.{Silent, Reached as AsksReached, PollAll, PollAny, Fence}
 use Rattle.vq_model.specs.declared.plan.Question.TheVariants.{Value as AsksValue}
-use Rattle.vq_model.specs.Edges.{AtEnd}
+use Rattle.vq_model.specs.Edges.{At, AtEnd}
 use Rattle.vq_model.specs.Machine.{Progress, State as MachineState, is_reached, are_reached, was_since, may_answer}
-use Rattle.vq_model.specs.Plan.{Plan, has, asked, value, initial, chain, chain_of}
+use Rattle.vq_model.specs.Plan.{Plan, has, asked, question, is_silent, value, initial, chain, chain_of}
 use Rattle.vq_model.specs.Sure.{RisesFrom}
 use Rattle.vq_model.specs.WellFormed.{AreInOrder}
 use Rattle.vq_model.proofs.Lists.{has_cases, split_at, any_has}
 use Rattle.vq_model.proofs.Searches.{find_fails}
 use Rattle.vq_order_laws.proofs.Cited.{plan_has_sure_order}
-use Rattle.vq_plan_laws.proofs.Cited.{plan_well_formed}
+use Rattle.vq_plan_laws.proofs.Cited.{plan_well_formed, plan_hosts, needs_alike, same_reached}
 use Rattle.vq_run_laws.proofs.Cited.{above_initial}
 use Rattle.vq_board_laws.specs.declared.view.View.{View}
 use Rattle.vq_board_laws.specs.declared.view.LoggedBuffers.{LoggedBuffers}
@@ -157,31 +157,39 @@ module _ (p : Plan) (laws : RunLaws p) (s : State LoggedBuffers View) (id j : �
         | inr one ↦ any_has test (chain p t) one.0 ((plan_well_formed p k.plan).in_chain one.0 t one.1) (and_from (now.progress.made one.0) (eqb (value p one.0) n) (made_now one.0 one.3) (eq-eqb (value p one.0) n one.2))
       ])))
 
-  waited : are_reached p now.progress.payload j AtEnd ≡ true
-  waited = ap (λ (f : ℕ → ℕ). are_reached p f j AtEnd) paid ∙ k.rule.jobs.reached j (let t = ((k.rule.jobs.own id v at).0.runs_one j runs).1 in omega arith)
+  -- the needs of a host step all hold back its start
+  waited : question p j ≡ AsksReached → are_reached p now.progress.payload j AtEnd ≡ true
+  waited asks =
+      let host = ((plan_hosts p k.plan).asks j (ap is_silent asks)).0 in
+      let same = needs_alike p j 0 ((plan_well_formed p k.plan).host_waits j host) in
+      let begun = k.rule.jobs.reached j (let t = ((k.rule.jobs.own id v at).0.runs_one j runs).1 in omega arith) in
+      same_reached p j AtEnd (At 1) (sym same) now.progress.payload ∙ (ap (λ (f : ℕ → ℕ). are_reached p f j (At 1)) paid ∙ begun)
 
-  pub guarded : (q : Question) (a : Answer) → ShowsBy p v j q a → may_answer p now j q a ≡ true
-  guarded AsksReached Reached h = waited
-  guarded PollAll Reached h = all_hold (KnowsReached p v.known) (is_reached now.progress.payload) (asked p j) reached h
-  guarded PollAny Reached h = any_passes_from_place (is_reached now.progress.payload) (asked p j) h.place h.pair h.is (reached h.pair h.holds)
-  guarded Fence Reached h = all_hold (KnowsReached p v.known) (is_reached now.progress.payload) (asked p j) reached h
-  guarded PollAll Timeout h = ap not (one_fails (is_reached (now.at_start j)) (asked p j) h.place h.pair h.is (unreached h.pair h.holds))
-  guarded PollAny Timeout h = ap not (none_hold (Misses p v) (is_reached (now.at_start j)) (asked p j) unreached h)
-  guarded Fence NotReady h = ap not (one_fails (is_reached (now.at_start j)) (asked p j) h.place h.pair h.is (unreached h.pair h.holds))
-  guarded (AsksValue t) (Value n) h = was_value t n h
-  guarded Silent Reached h = absurd h
-  guarded Silent Timeout h = absurd h
-  guarded Silent NotReady h = absurd h
-  guarded Silent (Value n) h = absurd h
-  guarded AsksReached Timeout h = absurd h
-  guarded AsksReached NotReady h = absurd h
-  guarded AsksReached (Value n) h = absurd h
-  guarded PollAll NotReady h = absurd h
-  guarded PollAll (Value n) h = absurd h
-  guarded PollAny NotReady h = absurd h
-  guarded PollAny (Value n) h = absurd h
-  guarded Fence Timeout h = absurd h
-  guarded Fence (Value n) h = absurd h
-  guarded (AsksValue t) Reached h = absurd h
-  guarded (AsksValue t) Timeout h = absurd h
-  guarded (AsksValue t) NotReady h = absurd h
+  guarded_by : (q : Question) (a : Answer) → question p j ≡ q → ShowsBy p v j q a → may_answer p now j q a ≡ true
+  guarded_by AsksReached Reached is h = waited is
+  guarded_by PollAll Reached is h = all_hold (KnowsReached p v.known) (is_reached now.progress.payload) (asked p j) reached h
+  guarded_by PollAny Reached is h = any_passes_from_place (is_reached now.progress.payload) (asked p j) h.place h.pair h.is (reached h.pair h.holds)
+  guarded_by Fence Reached is h = all_hold (KnowsReached p v.known) (is_reached now.progress.payload) (asked p j) reached h
+  guarded_by PollAll Timeout is h = ap not (one_fails (is_reached (now.at_start j)) (asked p j) h.place h.pair h.is (unreached h.pair h.holds))
+  guarded_by PollAny Timeout is h = ap not (none_hold (Misses p v) (is_reached (now.at_start j)) (asked p j) unreached h)
+  guarded_by Fence NotReady is h = ap not (one_fails (is_reached (now.at_start j)) (asked p j) h.place h.pair h.is (unreached h.pair h.holds))
+  guarded_by (AsksValue t) (Value n) is h = was_value t n h
+  guarded_by Silent Reached is h = absurd h
+  guarded_by Silent Timeout is h = absurd h
+  guarded_by Silent NotReady is h = absurd h
+  guarded_by Silent (Value n) is h = absurd h
+  guarded_by AsksReached Timeout is h = absurd h
+  guarded_by AsksReached NotReady is h = absurd h
+  guarded_by AsksReached (Value n) is h = absurd h
+  guarded_by PollAll NotReady is h = absurd h
+  guarded_by PollAll (Value n) is h = absurd h
+  guarded_by PollAny NotReady is h = absurd h
+  guarded_by PollAny (Value n) is h = absurd h
+  guarded_by Fence Timeout is h = absurd h
+  guarded_by Fence (Value n) is h = absurd h
+  guarded_by (AsksValue t) Reached is h = absurd h
+  guarded_by (AsksValue t) Timeout is h = absurd h
+  guarded_by (AsksValue t) NotReady is h = absurd h
+
+  pub guarded : (a : Answer) → ShowsBy p v j (question p j) a → may_answer p now j (question p j) a ≡ true
+  guarded a = guarded_by (question p j) a refl

@@ -5,7 +5,7 @@ use mathlib.Core.Option as maybe
 use lib.ListN.{get_elem?}
 use Rattle.atomic_table.specs.Table.{State}
 use Rattle.vq_model.specs.Plan.{Plan, has, is_batch, is_host_step}
-use Rattle.vq_model.specs.Edges.{AtEnd}
+use Rattle.vq_model.specs.Edges.{At}
 use Rattle.vq_model.specs.Machine.{put, are_reached}
 use Rattle.vq_model.proofs.Puts.{put_there}
 use Rattle.vq_board_laws.specs.declared.view.View.{View}
@@ -112,7 +112,7 @@ module _ (p : Plan) (job : ℕ → ℕ) (made : ℕ → Bool) (log : List ℕ) (
         ranged = put_each job j x (λ a y. y ≤ 4) (omega arith) (λ a ne. k.ranged a);
         applied_begun = λ c h. let t = k.applied_begun c h in (t.0, t.1, rises t.0 t.2);
         made_begun = λ e a h o. rises a (k.made_begun e a h o);
-        reached = put_each job j x (λ a y. 2 < y → are_reached p (payload_of p made) a AtEnd ≡ true) (λ h. absurd (omega arith)) (λ a ne. k.reached a);
+        reached = put_each job j x (λ a y. 2 < y → are_reached p (payload_of p made) a (At 1) ≡ true) (λ h. absurd (omega arith)) (λ a ne. k.reached a);
       }
 
   -- what is submitted and released stays so
@@ -138,7 +138,7 @@ module _ (p : Plan) (job : ℕ → ℕ) (made : ℕ → Bool) (log : List ℕ) (
       → (is_batch p j ≡ true → 1 < job j) → phase_fields w ≡ phase_fields v
       → OwnRun p (put job j x) made log (v.role, w.begun, w.runs, w.entered, w.signaled)
       → (2 < x → (i : ℕ) → is_host_step p i ≡ true → is_host_step p j ≡ true → i < j → 3 < job i)
-      → (2 < x → are_reached p (payload_of p made) j AtEnd ≡ true)
+      → (2 < x → are_reached p (payload_of p made) j (At 1) ≡ true)
       → Jobs p (put job j x) made log (set views id w)
   jobs_late views id v w k roles at runs up low ready same mine lane reached =
       let rises : (a : ℕ) → 2 < job a → 2 < put job j x a = put_each job j x (λ a y. 2 < job a → 2 < y) (λ h. omega arith) (λ a ne h. h) in
@@ -155,5 +155,5 @@ module _ (p : Plan) (job : ℕ → ℕ) (made : ℕ → Bool) (log : List ℕ) (
         ranged = put_each job j x (λ a y. y ≤ 4) low (λ a ne. k.ranged a);
         applied_begun = λ c h. let t = k.applied_begun c h in (t.0, t.1, rises t.0 t.2);
         made_begun = λ e a h o. rises a (k.made_begun e a h o);
-        reached = put_each job j x (λ a y. 2 < y → are_reached p (payload_of p made) a AtEnd ≡ true) reached (λ a ne. k.reached a);
+        reached = put_each job j x (λ a y. 2 < y → are_reached p (payload_of p made) a (At 1) ≡ true) reached (λ a ne. k.reached a);
       }

@@ -17,7 +17,7 @@ use Rattle.vq_board_laws.specs.declared.view.JobState.TheVariants.{Waiting, Subm
 use Rattle.vq_board_laws.specs.declared.view.Fact.TheVariants.{Job}
 use Rattle.vq_board_laws.specs.Roles.{submitter}
 use Rattle.vq_board_laws.specs.Words.{Words, words_of, job_word, made_of, log_of, payload_of, shown}
-use Rattle.vq_board_laws.specs.Knowledge.{state_number, state_at}
+use Rattle.vq_board_laws.specs.Knowledge.{state_number, state_at, Knows}
 use Rattle.vq_board_laws.specs.Reached.{IsReached}
 use Rattle.vq_board_laws.specs.Rule.{Kept}
 use Rattle.vq_board_laws.specs.May.{MaySubmit, MayRelease}
@@ -56,7 +56,12 @@ looks_at_job p slots id m j s k deep at fits =
       keeps,
       tt,
       kept_load p s (job_word j) id v w k at refl refl refl refl refl (omega arith, r.knowledge id v at) (reached_stays p (shown p d) d.job d.job s.views id v w r.run at refl (λ told o. o)),
-      λ i same. let is : j ≡ i = omega arith in (state_at n, number, ap (λ (z : ℕ). (looks v z (state_at n), m.1)) is),
+      λ i same. let is : j ≡ i = omega arith in (
+        state_at n,
+        number,
+        ap (λ (z : ℕ). (looks v z (state_at n), m.1)) is,
+        (λ least known. so_of d v.known (Job j least) (r.knowledge id v at) (subst (λ (z : ℕ). Knows v.known (Job z least)) (sym is) known)),
+      ),
     )
 
 -- Submit and release
@@ -79,7 +84,9 @@ module _ (p : Plan) (s : State LoggedBuffers View) (id j : ℕ) (v : View) (k : 
 
   pub release_finds : MayRelease p v j → (words_of s.words).job j ≡ 1
   release_finds may =
-      let least : 1 ≤ (words_of s.words).job j = so_of (words_of s.words) v.known (Job j Submitted) (k.rule.knowledge id v at) may.submitted in
+      let far = may.submitted in
+      let first : 1 ≤ state_number far.0 = far.1 in
+      let least : state_number far.0 ≤ (words_of s.words).job j = so_of (words_of s.words) v.known (Job j far.0) (k.rule.knowledge id v at) far.2 in
       elim (dec_le 2 ((words_of s.words).job j)) [ yes h ↦ absurd (false≢true (sym may.new ∙ (k.rule.jobs.own id v at).1.released_all j may.batch may.submitter h)) | no h ↦ omega arith ]
 
 module _ (p : Plan) (s : State LoggedBuffers View) (id j x : ℕ) (v w : View) (k : Kept p s) (at : get_elem? s.views id ≡ some v) where

@@ -1,5 +1,6 @@
 mod AnswerSteps
 pub mod Cited
+mod ChainShares
 mod Columns
 mod Endings
 mod EnterSteps
@@ -14,6 +15,8 @@ mod MachineSteps
 mod MadeWords
 mod MakeSteps
 mod Needs
+mod Moments
+mod Needed
 mod NoneAfter
 mod Notes
 mod OpParts

@@ -99,6 +99,33 @@ pigeons (suc n) xs h below =
     let rest = pigeons n (erase n xs) (erase_distinct n xs h) (λ x m. let t = erase_has n x xs h m in let b = below x t.0 in let ne = t.1 in omega arith) in
     let l = erase_length n xs in omega arith
 
+-- Distinct numbers that are all in a list are at most as many as it has
+
+erase_keeps : (n y : ℕ) (xs : List ℕ) → has xs y ≡ true → y ≢ n → has (erase n xs) y ≡ true
+erase_keeps n y [] m ne = absurd (false≢true m)
+erase_keeps n y (x ∷ xs) m ne = by_test (eqb x n) refl (erase_keeps n y xs)
+  where
+    by_test : (b : Bool) → eqb x n ≡ b → (has xs y ≡ true → y ≢ n → has (erase n xs) y ≡ true) → has (cond b xs (x ∷ erase n xs)) y ≡ true
+    by_test true e f = elim (has_cases x xs y m) [ inl is ↦ absurd (ne (sym is ∙ eqb-true x n e)) | inr t ↦ t ]
+    by_test false e f = elim (has_cases x xs y m) [
+      | inl is ↦ subst (λ (z : ℕ). has (x ∷ erase n xs) z ≡ true) is (has_here x (erase n xs))
+      | inr t ↦ has_there x (erase n xs) y (f t ne)
+    ]
+
+erase_one : (n : ℕ) (xs : List ℕ) → has xs n ≡ true → suc (length (erase n xs)) ≤ length xs
+erase_one n [] m = absurd (false≢true m)
+erase_one n (x ∷ xs) m = by_test (eqb x n) refl (erase_one n xs)
+  where
+    by_test : (b : Bool) → eqb x n ≡ b → (has xs n ≡ true → suc (length (erase n xs)) ≤ length xs) → suc (length (cond b xs (x ∷ erase n xs))) ≤ length (x ∷ xs)
+    by_test true e f = omega arith
+    by_test false e f = elim (has_cases x xs n m) [ inl is ↦ absurd (false≢true (sym e ∙ eq-eqb x n is)) | inr t ↦ let l = f t in omega arith ]
+
+pub within_length : (xs ys : List ℕ) → AreDistinct xs → ((x : ℕ) → has xs x ≡ true → has ys x ≡ true) → length xs ≤ length ys
+within_length [] ys h within = omega arith
+within_length (x ∷ xs) ys h within =
+    let rest = within_length xs (erase x ys) h.1 (λ y m. erase_keeps x y ys (within y (has_there x xs y m)) (λ is. false≢true (sym h.0 ∙ subst (λ (z : ℕ). has xs z ≡ true) is m))) in
+    let one = erase_one x ys (within x (has_here x xs)) in omega arith
+
 -- what a run applies: each command once, and commands of the plan
 record Applied (p : Plan) (log : List ℕ) : Type 0 where
   distinct : AreDistinct log

@@ -10,7 +10,7 @@ use Rattle.vq_board_laws.specs.declared.view.View.{View}
 use Rattle.vq_board_laws.specs.declared.view.Fact.{Fact}
 use Rattle.vq_board_laws.specs.declared.view.Fact.TheVariants.{Job, Taken, Bound, BoundTo, Made, Past}
 use Rattle.vq_board_laws.specs.Words.{Words, words_of, point_word, Carries, made_of, shown}
-use Rattle.vq_board_laws.specs.Knowledge.{AreSo}
+use Rattle.vq_board_laws.specs.Knowledge.{AreSo, KnowsMade}
 use Rattle.vq_board_laws.specs.Points.{Points, Lists, reference}
 use Rattle.vq_board_laws.specs.RunLaws.{RunLaws}
 use Rattle.vq_board_laws.specs.Rule.{Kept}
@@ -18,6 +18,7 @@ use Rattle.vq_board_laws.specs.Steps.{Mine}
 use Rattle.vq_board_laws.specs.PointSteps.{point_facts, point_unmade, carries, moved_on, sees, saw}
 use Rattle.vq_board_laws.proofs.Frames.{facts_both, kept_load}
 use Rattle.vq_board_laws.proofs.MadeWords.{shows, not_shown}
+use Rattle.vq_board_laws.proofs.Needs.{knows_made}
 use Rattle.vq_board_laws.proofs.Notes.{reached_notes}
 
 module _ (p : Plan) (d : Words) (views : List View) (q : ℕ) (points : Points p d.op d.point d.count views) where
@@ -74,18 +75,23 @@ looks_at_point p slots id m q laws s k deep at fits =
     let v : View = m.0 in
     let n : ℕ = d.point q in
     let w : View = sees v q n in
-    let known = r.knowledge id v at in (
+    let known = r.knowledge id v at in
+    let plan : v.plan ≡ p = r.ownership.plans id v at in
+    let so_now : AreSo d w.known = facts_both d (point_facts n ++ moved_on q n v.known) v.known (facts_both d (point_facts n) (moved_on q n v.known) (point_so p d s.views q r.points) (moved_so p d s.views q r.points v.known known)) known in (
       w,
       keeps,
       tt,
-      kept_load p s (point_word q) id v w k at refl refl refl refl refl
-          (facts_both d (point_facts n ++ moved_on q n v.known) v.known (facts_both d (point_facts n) (moved_on q n v.known) (point_so p d s.views q r.points) (moved_so p d s.views q r.points v.known known)) known)
+      kept_load p s (point_word q) id v w k at refl refl refl refl refl so_now
           (reached_notes p laws (shown p d) d.job s.views id v w r.run at refl refl
           (λ e h. elim (has-append_cases (point_unmade n) v.unmade e h) [ inl new ↦ inr (unmade_now p d s.views q r.points e new) | inr old ↦ inl old ])),
       λ a same. let q_is : q ≡ a = omega arith in (
         ap (λ (z : ℕ). (sees v z n, m.1)) q_is,
         r.points.words q,
-        λ e listed. r.references.carried id v at q e (subst (λ (z : ℕ). Lists v.refs (reference z e)) (sym q_is) listed),
-        λ e listed. ((r.points.shelves id v at).taken q e (subst (λ (z : ℕ). Lists v.carrying (reference z e)) (sym q_is) listed)).2,
+        (λ e listed. r.references.carried id v at q e (subst (λ (z : ℕ). Lists v.refs (reference z e)) (sym q_is) listed)),
+        (λ e listed. ((r.points.shelves id v at).taken q e (subst (λ (z : ℕ). Lists v.carrying (reference z e)) (sym q_is) listed)).2),
+        λ e carries clear knows.
+            let here : KnowsMade p w.known e = subst (λ (z : Plan). KnowsMade z w.known e) plan (subst (λ (z : ℕ). KnowsMade v.plan (sees v z n).known e) (sym q_is) knows) in
+            let made = knows_made p d s.views w.known e laws r.run so_now here in
+            false≢true (sym (not_shown p d.op d.point d.count s.views q e r.points carries clear) ∙ made),
       ),
     )

@@ -68,13 +68,13 @@ module _ (p : Plan) (s : State LoggedBuffers View) (k : Kept p s) where
       leaves = ap (shown p) (job_set s.words j 3 (let inside = may.exists in let c = k.count in omega arith)) ∙ sym (begun_shows p laws s id j v k at may);
     }
 
-    pub enter_is : (c : ℕ) (may : MayEnter p v c) → IsMachineStep p s.words (set s.words (place_word may.filled) (c + 1)) (ApplyStep c)
-    enter_is c may =
+    pub enter_is : RunLaws p → (c : ℕ) (may : MayEnter p v c) → IsMachineStep p s.words (set s.words (place_word may.filled) (c + 1)) (ApplyStep c)
+    enter_is laws c may =
         let next : c + 1 ≡ suc c = omega arith in
         record {
-          may_come = (may.job, can_apply p s id c v k at may);
+          may_come = (may.job, can_apply p laws s id c v k at may);
           leaves = ap (λ (x : ℕ). shown p (words_of (set s.words (place_word may.filled) x))) next
-              ∙ (ap (shown p) (place_set s.words may.filled (suc c) (let inside = room p s id c v k at may in let n = k.count in omega arith)) ∙ sym (entered_shows p s id c v k at may));
+              ∙ (ap (shown p) (place_set s.words may.filled (suc c) (let inside = room p laws s id c v k at may in let n = k.count in omega arith)) ∙ sym (entered_shows p laws s id c v k at may));
         }
 
     pub signal_is : RunLaws p → (e q : ℕ) → MaySignal p v e → Knows v.known (BoundTo e q) → IsMachineStep p s.words (set s.words (point_word q) (d.point q + 2 ^ 48)) (SignalStep e)
@@ -85,10 +85,10 @@ module _ (p : Plan) (s : State LoggedBuffers View) (k : Kept p s) where
           leaves = ap (shown p) (point_set s.words q (d.point q + 2 ^ 48) (let c = k.count in omega arith)) ∙ sym (signal_shows p s id e q v laws may bound k at);
         }
 
-    pub finish_is : (j : ℕ) → MayFinish p v j → IsMachineStep p s.words (set s.words (job_word j) 4) (FinishStep j)
-    finish_is j may = record {
-      may_come = can_end p s id j v k at may;
-      leaves = ap (shown p) (job_set s.words j 4 (let inside = (runs p s id j v k at may).2 in let c = k.count in omega arith)) ∙ sym (ended_shows p s id j v k at may);
+    pub finish_is : RunLaws p → (j : ℕ) → MayFinish p v j → IsMachineStep p s.words (set s.words (job_word j) 4) (FinishStep j)
+    finish_is laws j may = record {
+      may_come = can_end p laws s id j v k at may;
+      leaves = ap (shown p) (job_set s.words j 4 (let inside = (runs p laws s id j v k at may).2 in let c = k.count in omega arith)) ∙ sym (ended_shows p laws s id j v k at may);
     }
 
     -- The other steps

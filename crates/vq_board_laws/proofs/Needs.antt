@@ -5,8 +5,8 @@ use Rattle.std.specs.List.{list_all, list_any}
 use Rattle.std.proofs.lemmas.Bool.{le-leb, lt-ltb, cond-true, cond-false, and_from, or_left}
 use Rattle.std.proofs.lemmas.Map.Keys.{any_passes_from_place}
 use Rattle.vq_model.specs.declared.plan.Need.{Need}
-use Rattle.vq_model.specs.Plan.{Plan, initial, needs, waits_for_any}
-use Rattle.vq_model.specs.Edges.{AtEnd}
+use Rattle.vq_model.specs.Plan.{Plan, initial, waits_for_any}
+use Rattle.vq_model.specs.Edges.{Stage, needs_at}
 use Rattle.vq_model.specs.Machine.{Progress, state_after, is_reached, are_reached}
 use Rattle.vq_board_laws.specs.declared.view.Fact.{Fact}
 use Rattle.vq_board_laws.specs.declared.view.Fact.TheVariants.{Job, Made, Past}
@@ -15,7 +15,7 @@ use Rattle.vq_board_laws.specs.declared.view.View.{View}
 use Rattle.vq_board_laws.specs.Words.{Words, made_of, payload_of, shown, shows_made}
 use Rattle.vq_board_laws.specs.Knowledge.{AreSo, KnowsMade, completed, made_with, of_finished, before_finished}
 use Rattle.vq_board_laws.specs.Knowledge.{shown as by_step}
-use Rattle.vq_board_laws.specs.May.{KnowsReached, KnowsReaching, KnowsOneReached}
+use Rattle.vq_board_laws.specs.May.{KnowsReached, KnowsReaching, KnowsNeeds}
 use Rattle.vq_board_laws.specs.Reached.{IsReached}
 use Rattle.vq_board_laws.specs.RunLaws.{RunLaws}
 use Rattle.vq_board_laws.proofs.Frames.{so_of}
@@ -54,14 +54,15 @@ pub all_hold : (P : Need → Type 0) (test : Need → Bool) (ns : List Need) →
 all_hold P test [] f h = refl
 all_hold P test (n ∷ ns) f h = and_from (test n) (list_all test ns) (f n (h 0 n (omega arith))) (all_hold P test ns f (λ k d l. h (suc k) d (omega arith)))
 
--- where all needs of a job are known reached, or one where it waits for any, the job's needs are reached
-pub needs_reached : (p : Plan) (d : Words) (views : List View) (known : List Fact) (j : ℕ) → RunLaws p → IsReached p (shown p d) d.job views → AreSo d known → (waits_for_any p j ≡ false → All (KnowsReached p known) (needs p j)) → (waits_for_any p j ≡ true → KnowsOneReached p known (needs p j))
-    → are_reached p (payload_of p (made_of d)) j AtEnd ≡ true
-needs_reached p d views known j laws r so all one = by_any (waits_for_any p j) refl
+-- where the needs at a place of a job are known reached, or one where it waits for any, they are
+pub needs_reached : (p : Plan) (d : Words) (views : List View) (known : List Fact) (j : ℕ) (k : Stage) → RunLaws p → IsReached p (shown p d) d.job views → AreSo d known → KnowsNeeds p known j k → are_reached p (payload_of p (made_of d)) j k ≡ true
+needs_reached p d views known j k laws r so needed = by_any (waits_for_any p j) refl
   where
     test : Need → Bool
     test = is_reached (payload_of p (made_of d))
 
-    by_any : (b : Bool) → waits_for_any p j ≡ b → are_reached p (payload_of p (made_of d)) j AtEnd ≡ true
-    by_any true e = let k = one e in cond-true (waits_for_any p j) (list_any test (needs p j)) (list_all test (needs p j)) e ∙ any_passes_from_place test (needs p j) k.place k.need k.is (known_reached p d views known k.need laws r so k.reached)
-    by_any false e = cond-false (waits_for_any p j) (list_any test (needs p j)) (list_all test (needs p j)) e ∙ all_hold (KnowsReached p known) test (needs p j) (λ n k. known_reached p d views known n laws r so k) (all e)
+    by_any : (b : Bool) → waits_for_any p j ≡ b → are_reached p (payload_of p (made_of d)) j k ≡ true
+    by_any true e =
+        let h = needed.one e in
+        cond-true (waits_for_any p j) (list_any test (needs_at p j k)) (list_all test (needs_at p j k)) e ∙ any_passes_from_place test (needs_at p j k) h.place h.need h.is (known_reached p d views known h.need laws r so h.reached)
+    by_any false e = cond-false (waits_for_any p j) (list_any test (needs_at p j k)) (list_all test (needs_at p j k)) e ∙ all_hold (KnowsReached p known) test (needs_at p j k) (λ n h. known_reached p d views known n laws r so h) (needed.all e)

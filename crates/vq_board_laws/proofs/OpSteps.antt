@@ -16,8 +16,9 @@ use Rattle.vq_board_laws.specs.declared.view.LoggedBuffers.{LoggedBuffers}
 use Rattle.vq_board_laws.specs.declared.view.OpState.{OpState}
 use Rattle.vq_board_laws.specs.declared.view.OpState.TheVariants.{Unbound as UnboundOp, Bound as BoundOp, Past as PastOp}
 use Rattle.vq_board_laws.specs.declared.view.Fact.{Fact}
+use Rattle.vq_board_laws.specs.declared.view.Fact.TheVariants.{BoundTo, Past}
 use Rattle.vq_board_laws.specs.Words.{Words, words_of, op_word, made_of, shown, is_made, Carries}
-use Rattle.vq_board_laws.specs.Knowledge.{AreSo, IsSo}
+use Rattle.vq_board_laws.specs.Knowledge.{AreSo, IsSo, Knows, KnowsMade}
 use Rattle.vq_board_laws.specs.Points.{IsOfShelf}
 use Rattle.vq_board_laws.specs.PointSteps.{op_number, op_facts, op_unmade, recalls, recalled, binds, bound_op, completes, completed}
 use Rattle.vq_board_laws.specs.MayPoints.{MaySignal, MayBind, MayComplete}
@@ -25,7 +26,7 @@ use Rattle.vq_board_laws.specs.RunLaws.{RunLaws}
 use Rattle.vq_board_laws.specs.Rule.{Kept}
 use Rattle.vq_board_laws.specs.Steps.{Mine}
 use Rattle.vq_board_laws.proofs.Columns.{put_each}
-use Rattle.vq_board_laws.proofs.Frames.{facts_both, facts_stay, kept_load}
+use Rattle.vq_board_laws.proofs.Frames.{so_of, facts_both, facts_stay, kept_load}
 use Rattle.vq_board_laws.proofs.MadeWords.{bound_value, unbound_value, past_value, unsignaled_value, made_bit, made_op}
 use Rattle.vq_board_laws.proofs.Needs.{knows_made}
 use Rattle.vq_board_laws.proofs.Notes.{reached_notes}
@@ -70,6 +71,11 @@ op_unmade_so d e a UnboundOp unmade is h = elim (has_cases e unmade a h) [
 op_unmade_so d e a PastOp unmade is h = inl h
 op_unmade_so d e a (BoundOp q) unmade is h = inl h
 
+-- where the word is bound to the point or past, so is its state
+bound_or_past : (n q : ℕ) → (n ≡ q + 2) ⊎ (n ≡ 1) → (op_state n ≡ BoundOp q) ⊎ (op_state n ≡ PastOp)
+bound_or_past n q (inl bound) = inl (ap op_state bound ∙ state_of_op (BoundOp q))
+bound_or_past n q (inr past) = inr (ap op_state past)
+
 pub recalls_op : (p : Plan) (slots id : ℕ) (m : Mine) (e : ℕ) → RunLaws p → Allows (Kept p) slots id m (op_word e) (λ n. n) (recalled (step slots (op_word e) 0 0 none) m)
 recalls_op p slots id m e laws s k deep at fits =
     let d : Words = words_of s.words in
@@ -96,6 +102,12 @@ recalls_op p slots id m e laws s k deep at fits =
             (subst (λ (es : List ℕ). has es e ≡ true) (sym (drop_next (signals_of p next.job) v.signaled e next.next)) (has_here e (drop (suc v.signaled) (signals_of p next.job)))) in
             let made : made_of d e ≡ true = past_value d.op d.point e (number ∙ ap op_number past) in
             false≢true (sym unmade ∙ made)),
+        (λ unbound known.
+            let here : KnowsMade p v.known e = subst (λ (z : Plan). KnowsMade z v.known e) plan (subst (λ (z : ℕ). KnowsMade v.plan v.known z) (sym is) known) in
+            let made = knows_made p d s.views v.known e laws r.run (r.knowledge id v at) here in
+            false≢true (sym (unbound_value d.op d.point e (number ∙ ap op_number unbound)) ∙ made)),
+        (λ known. ap op_state (so_of d v.known (Past e) (r.knowledge id v at) (subst (λ (z : ℕ). Knows v.known (Past z)) (sym is) known))),
+        (λ q known. bound_or_past n q (so_of d v.known (BoundTo e q) (r.knowledge id v at) (subst (λ (z : ℕ). Knows v.known (BoundTo z q)) (sym is) known))),
       ),
     )
 

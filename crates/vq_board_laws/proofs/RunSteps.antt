@@ -18,15 +18,15 @@ use Rattle.vq_model.specs.Machine.{Progress, State as MachineState, put, are_rea
 use Rattle.vq_model.proofs.Lists.{has_here, has_there, has_cases, has-append_cases, list_all_from, in_option}
 use Rattle.vq_model.proofs.Puts.{put_here, put_there}
 use Rattle.vq_model.proofs.Plans.{batch_of, batch_no_step}
-use Rattle.vq_plan_laws.proofs.Cited.{plan_well_formed, plan_hosts, reached_earlier}
+use Rattle.vq_plan_laws.proofs.Cited.{plan_well_formed, plan_hosts}
 use Rattle.vq_board_laws.specs.declared.view.Told.{Told}
 use Rattle.vq_board_laws.specs.declared.view.View.{View}
 use Rattle.vq_board_laws.specs.declared.view.LoggedBuffers.{LoggedBuffers}
-use Rattle.vq_board_laws.specs.declared.view.JobState.TheVariants.{Released, Finished}
+use Rattle.vq_board_laws.specs.declared.view.JobState.TheVariants.{Finished}
 use Rattle.vq_board_laws.specs.declared.view.Fact.TheVariants.{Job}
 use Rattle.vq_board_laws.specs.Roles.{runner, runner_of, role_number}
 use Rattle.vq_board_laws.specs.Words.{Words, words_of, job_word, made_of, log_of, payload_of, shown}
-use Rattle.vq_board_laws.specs.Knowledge.{Knows}
+use Rattle.vq_board_laws.specs.Knowledge.{Knows, state_number}
 use Rattle.vq_board_laws.specs.Jobs.{Jobs}
 use Rattle.vq_board_laws.specs.Log.{Log}
 use Rattle.vq_board_laws.specs.Reached.{IsReached, SinceStart, InOrder, IsPayload, answer_told}
@@ -72,10 +72,13 @@ module _ (p : Plan) (laws : RunLaws p) (s : State LoggedBuffers View) (id j : �
 
   -- a batch is released
   ready : is_batch p j ≡ true → 1 < d.job j
-  ready batch = let h : 2 ≤ d.job j = so_of d v.known (Job j Released) (k.rule.knowledge id v at) (may.released (batch_no_step p j batch)) in omega arith
+  ready batch =
+      let far = may.released (batch_no_step p j batch) in
+      let least : 2 ≤ state_number far.0 = far.1 in
+      let h : state_number far.0 ≤ d.job j = so_of d v.known (Job j far.0) (k.rule.knowledge id v at) far.2 in omega arith
 
-  reached : are_reached p (payload_of p (made_of d)) j AtEnd ≡ true
-  reached = needs_reached p d s.views v.known j laws k.rule.run (k.rule.knowledge id v at) may.all_reached may.one_reached
+  reached : are_reached p (payload_of p (made_of d)) j (At 1) ≡ true
+  reached = needs_reached p d s.views v.known j (At 1) laws k.rule.run (k.rule.knowledge id v at) may.reached
 
   known_finished : (i : ℕ) → Knows v.known (Job i Finished) → ltb 3 (d.job i) ≡ true
   known_finished i h = lt-ltb 3 (d.job i) (let g : 4 ≤ d.job i = so_of d v.known (Job i Finished) (k.rule.knowledge id v at) h in omega arith)
@@ -109,7 +112,7 @@ module _ (p : Plan) (laws : RunLaws p) (s : State LoggedBuffers View) (id j : �
     waiting = le-ltb 2 (d.job j) (let l = low in omega arith);
     ready = and_from (list_all (shown p d).finished (must_finish p j)) (are_reached p (payload_of p (made_of d)) j (At 1))
         (list_all_from (shown p d).finished (must_finish p j) first_finished)
-        (reached_earlier p (plan_well_formed p k.plan) (payload_of p (made_of d)) j 0 reached);
+        reached;
   }
 
   -- the words after the start show what the machine has after it
@@ -233,7 +236,7 @@ starts_job p slots id m j laws may s k deep at fits =
 
 -- Finish
 
-module _ (p : Plan) (s : State LoggedBuffers View) (id j : ℕ) (v : View) (k : Kept p s) (at : get_elem? s.views id ≡ some v) (may : MayFinish p v j) where
+module _ (p : Plan) (laws : RunLaws p) (s : State LoggedBuffers View) (id j : ℕ) (v : View) (k : Kept p s) (at : get_elem? s.views id ≡ some v) (may : MayFinish p v j) where
   abbrev now : Words
   now = words_of s.words
 
@@ -250,7 +253,7 @@ module _ (p : Plan) (s : State LoggedBuffers View) (id j : ℕ) (v : View) (k : 
         unfinished = le-ltb 3 (now.job j) (let t = runs.1 in omega arith);
         commands = list_all_from (has (log_of p now)) (commands_of p j) (λ c h. own.entered_commands j c may.runs (ap (λ (xs : List ℕ). has xs c) cs ∙ h));
         signals = list_all_from (made_of now) (signals_of p j) (λ e h. own.made_signals j e may.runs (ap (λ (xs : List ℕ). has xs e) es ∙ h));
-        ready = k.rule.jobs.reached j (let t = runs.1 in omega arith);
+        ready = needs_reached p now s.views v.known j AtEnd laws k.rule.run (k.rule.knowledge id v at) may.reached;
       }
 
   -- the words after the finish show what the machine has after it
@@ -318,13 +321,13 @@ module _ (p : Plan) (s : State LoggedBuffers View) (id j : ℕ) (v : View) (k : 
         own = λ a e named. absurd cc;
       }
 
-pub finishes_job : (p : Plan) (slots id : ℕ) (m : Mine) (j : ℕ) → MayFinish p m.0 j → Allows (Kept p) slots id m (job_word j) (λ _. 4) (λ _. finished (step slots (job_word j) 4 0 none) m 4)
-finishes_job p slots id m j may s k deep at fits =
+pub finishes_job : (p : Plan) (slots id : ℕ) (m : Mine) (j : ℕ) → RunLaws p → MayFinish p m.0 j → Allows (Kept p) slots id m (job_word j) (λ _. 4) (λ _. finished (step slots (job_word j) 4 0 none) m 4)
+finishes_job p slots id m j laws may s k deep at fits =
     let d : Words = words_of s.words in
     let r = k.rule in
     let v : View = m.0 in
     let w : View = finishes v j in
-    let own = runs p s id j v k at may in
+    let own = runs p laws s id j v k at may in
     let up : d.job j ≤ 4 = (let t = own.1 in omega arith) in (
       w,
       keeps,
@@ -332,9 +335,9 @@ finishes_job p slots id m j may s k deep at fits =
       kept_job p s j 4 (set s.views id w) k own.2 record {
         knowledge = knowledge_stays d (record d { job = put d.job j 4 }) s.views id w (so_job d j 4 up) r.knowledge
             (subst (λ (z : ℕ). 4 ≤ z) (sym (put_here d.job j 4)) (omega arith), facts_stay d (record d { job = put d.job j 4 }) v.known (so_job d j 4 up) (r.knowledge id v at));
-        run = finished_shown p s id j v k at may;
-        jobs = finished_jobs p s id j v k at may;
-        log = finished_log p s id j v k at may;
+        run = finished_shown p laws s id j v k at may;
+        jobs = finished_jobs p laws s id j v k at may;
+        log = finished_log p laws s id j v k at may;
         ownership = ownership_stays p d.count s.views id v w r.ownership at refl;
         points = points_stay p d.op d.point d.count s.views id v w r.points at refl;
         references = references_stay d.point s.views id v w r.references at refl;

@@ -8,7 +8,7 @@ use Rattle.std.specs.List.{slice_get}
 use Rattle.std.proofs.lemmas.Bool.{false_from_ne_true, false≢true}
 use Rattle.atomic_table.specs.Table.{State, step, keeps, Allows}
 use Rattle.vq_model.specs.Plan.{Plan, has, value, chain_of, job_of, commands_of, signals_of}
-use Rattle.vq_model.specs.Edges.{AtEnd}
+use Rattle.vq_model.specs.Edges.{At, AtEnd}
 use Rattle.vq_model.specs.Machine.{put, Progress, State as RunState, SignalStep, CanSignal, with_signal, after_progress, after_step}
 use Rattle.vq_model.specs.WellFormed.{IsWellFormed}
 use Rattle.vq_model.proofs.Lists.{has_here, has_there, list_all_from}
@@ -38,6 +38,7 @@ use Rattle.vq_board_laws.proofs.Columns.{put_each, point_set}
 use Rattle.vq_board_laws.proofs.Frames.{facts_stay, knowledge_stays, so_of, log_stays, ownership_stays}
 use Rattle.vq_board_laws.proofs.JobParts.{runs_none}
 use Rattle.vq_board_laws.proofs.MadeWords.{bound_value, past_value, signaled_value, made_point_at}
+use Rattle.vq_board_laws.proofs.Needs.{needs_reached}
 use Rattle.vq_board_laws.proofs.Payloads.{payload_set, payload_rises}
 use Rattle.vq_board_laws.proofs.PointBits.{signaled_held, signaled_set, signaled_op, signaled_refs, signaled_word, signaled_fits, no_word}
 use Rattle.vq_board_laws.proofs.Runs.{end_state, reach_further}
@@ -154,7 +155,7 @@ module _ (p : Plan) (s : State LoggedBuffers View) (id e q : ℕ) (v : View) (la
         unfinished = le-ltb 3 (d.job j) (let t = runs.1 in omega arith);
         commands = list_all_from (has log) (commands_of p j) (λ c h. own.entered_commands j c may.runs (ap (λ (xs : List ℕ). has xs c) all ∙ h));
         next = next_at made (signals_of p j) v.signaled e may.next (λ a h. own.made_signals j a may.runs h) unmade;
-        ready = k.rule.jobs.reached j (let t = runs.1 in omega arith);
+        ready = needs_reached p d s.views v.known j AtEnd laws k.rule.run (k.rule.knowledge id v at) may.reached;
         rises = low;
       }
 
@@ -248,7 +249,7 @@ module _ (p : Plan) (s : State LoggedBuffers View) (id e q : ℕ) (v : View) (la
         made_begun = λ a b h o. dite (ℕ_discrete a e)
             (λ is. let one : b ≡ j = same_some b j (sym o ∙ (ap (job_of p) is ∙ job)) in let same = ap d.job one in let t = runs.1 in omega arith)
             (λ ne. k.rule.jobs.made_begun a b (sym (made_else a ne) ∙ h) o);
-        reached = λ a h. are_reached_still p (payload_of p made) (payload_of p made') payload_up a AtEnd (k.rule.jobs.reached a h);
+        reached = λ a h. are_reached_still p (payload_of p made) (payload_of p made') payload_up a (At 1) (k.rule.jobs.reached a h);
       }
 
   -- The points

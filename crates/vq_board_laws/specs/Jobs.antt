@@ -2,7 +2,7 @@
 use Rattle.std.specs.Prelude.{ℕ, Bool, true, false, List, [], ◌≡◌, ◌<◌}
 use Rattle.std.specs.Prelude.{◌≤◌, Option, Some, None, length, take, drop}
 use Rattle.vq_model.specs.Plan.{Plan, has, commands_of, signals_of, job_of, is_batch, is_host_step}
-use Rattle.vq_model.specs.Edges.{AtEnd}
+use Rattle.vq_model.specs.Edges.{At}
 use Rattle.vq_model.specs.Machine.{are_reached}
 use Rattle.vq_board_laws.specs.declared.view.View.{View}
 use Rattle.vq_board_laws.specs.Roles.{runner, submitter}
@@ -56,5 +56,5 @@ pub record Jobs (p : Plan) (job : ℕ → ℕ) (made : ℕ → Bool) (log : List
   pub applied_begun : (c : ℕ) → has log c ≡ true →
       (j : ℕ) × (has (commands_of p j) c ≡ true) × (2 < job j)
   pub made_begun : (e j : ℕ) → made e ≡ true → job_of p e ≡ Some j → 2 < job j
-  -- what a job that has begun needs is reached
-  pub reached : (j : ℕ) → 2 < job j → are_reached p (payload_of p made) j AtEnd ≡ true
+  -- what holds back the start of a job that has begun is reached
+  pub reached : (j : ℕ) → 2 < job j → are_reached p (payload_of p made) j (At 1) ≡ true

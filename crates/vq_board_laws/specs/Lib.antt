@@ -16,3 +16,5 @@ pub mod Steps
 pub mod PointSteps
 pub mod Ends
 pub mod MachineSteps
+pub mod OwnSteps
+pub mod Moments

@@ -3,10 +3,12 @@
 use Rattle.std.specs.Prelude.{ℕ, ◌≡◌, ◌<◌, Some, true, false, length}
 use Rattle.std.specs.List.{slice_get}
 use Rattle.vq_model.specs.declared.plan.Lane.{Lane}
+use Rattle.vq_model.specs.Edges.{AtEnd}
 use Rattle.vq_model.specs.Plan.{Plan, has, chain, job_of, commands_of, signals_of, is_host_step}
 use Rattle.vq_board_laws.specs.declared.view.View.{View}
 use Rattle.vq_board_laws.specs.declared.view.JobState.TheVariants.{Released, Started}
 use Rattle.vq_board_laws.specs.Knowledge.{KnowsMade, KnowsSoFar}
+use Rattle.vq_board_laws.specs.May.{KnowsNeeds}
 use Rattle.vq_board_laws.specs.Points.{reference, Lists, IsOfShelf}
 use Rattle.vq_board_laws.specs.Roles.{role_number, runner_of, share_of}
 
@@ -43,13 +45,14 @@ pub record MayBind (p : Plan) (v : View) (e q : ℕ) : Type 0 where
   pub started : (j : ℕ) → job_of p e ≡ Some j → is_host_step p j ≡ true →
       KnowsSoFar v.known j Started
 
--- the pass may signal the operation: it runs its job, all commands of the job are made, and this is
--- the job's next signal
+-- the pass may signal the operation: it runs its job, all commands of the job are made, this is the
+-- job's next signal, and the job's needs are known reached
 pub record MaySignal (p : Plan) (v : View) (e : ℕ) : Type 0 where
   pub job : ℕ
   pub runs : v.runs ≡ Some job
   pub commands : v.entered ≡ length (commands_of p job)
   pub next : slice_get (signals_of p job) v.signaled ≡ Some e
+  pub reached : KnowsNeeds p v.known job AtEnd
 
 -- the shelf's pass may complete the operation: it is the least pending one of the chain, and known
 -- signaled

@@ -1,7 +1,7 @@
 -- What a pass knows and has after each kind of step on points and operations, and what the step tells
 -- its caller. This project's own.
 use Rattle.std.specs.Prelude.{ℕ, suc, Bool, List, [], ◌∷◌, ◌++◌, length, filter, not}
-use Rattle.std.specs.Prelude.{◌+◌, ◌^◌, ◌<◌, ◌==◌, ◌&&◌, ◌≡◌, ◌≢◌, false, if◌then◌else◌}
+use Rattle.std.specs.Prelude.{◌+◌, ◌^◌, ◌<◌, ◌==◌, ◌&&◌, ◌≡◌, ◌≢◌, ◌⊎◌, false, if◌then◌else◌}
 use Rattle.atomic_table.specs.Table as Table
 use Rattle.vq_model.specs.Plan.{has}
 use Rattle.vq_model.specs.declared.plan.Answer.{Answer}
@@ -15,6 +15,7 @@ use Rattle.vq_board_laws.specs.declared.view.OpState.{OpState}
 use Rattle.vq_board_laws.specs.declared.view.OpState.TheVariants.{Unbound as UnboundOp, Past as PastOp}
 use Rattle.vq_board_laws.specs.declared.view.OpState.TheVariants.{Bound as BoundOp}
 use Rattle.vq_board_laws.specs.declared.view.Reference.{Reference}
+use Rattle.vq_board_laws.specs.Knowledge.{Knows, KnowsMade}
 use Rattle.vq_board_laws.specs.MayPoints.{MaySignal}
 use Rattle.vq_board_laws.specs.Points.{reference, Lists, IsWord}
 use Rattle.vq_board_laws.specs.Steps.{Mine, own_step}
@@ -160,12 +161,16 @@ answers v j a =
 
 -- What the step tells
 
+-- what the word says agrees with what the pass knows
 abbrev pub recalled : Table.Step LoggedBuffers → Mine → ℕ → Mine → Type 0
 recalled st m n m' =
     (e : ℕ) → st.word ≡ op_word e →
     (s : OpState) × (n ≡ op_number s) × (m' ≡ (recalls m.0 e s, m.1))
     × ((q : ℕ) → s ≡ BoundOp q → q < length m.0.plan.ops)
     × (MaySignal m.0.plan m.0 e → s ≢ PastOp)
+    × (s ≡ UnboundOp → ¬ KnowsMade m.0.plan m.0.known e)
+    × (Knows m.0.known (Past e) → s ≡ PastOp)
+    × ((q : ℕ) → Knows m.0.known (BoundTo e q) → (s ≡ BoundOp q) ⊎ (s ≡ PastOp))
 
 abbrev pub saw : Table.Step LoggedBuffers → Mine → ℕ → Mine → Type 0
 saw st m n m' =
@@ -173,6 +178,7 @@ saw st m n m' =
     (m' ≡ (sees m.0 q n, m.1)) × IsWord n
     × ((e : ℕ) → Lists m.0.refs (reference q e) → Carries n e)
     × ((e : ℕ) → Lists m.0.carrying (reference q e) → Carries n e)
+    × ((e : ℕ) → Carries n e → (parts n).signaled ≡ false → ¬ KnowsMade m.0.plan (sees m.0 q n).known e)
 
 abbrev pub made_point : Table.Step LoggedBuffers → Mine → ℕ → Mine → Type 0
 made_point st m n m' =

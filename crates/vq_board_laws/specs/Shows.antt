@@ -34,6 +34,7 @@ pub record Misses (p : Plan) (v : View) (n : Need) : Type 0 where
 pub record IsNextUnmade (p : Plan) (v : View) (t n : ℕ) : Type 0 where
   pub op : ℕ
   pub in_chain : chain_of p op ≡ Some t
+  pub above : n < value p op
   pub least : (e : ℕ) → chain_of p e ≡ Some t → n < value p e → value p op ≤ value p e
   pub unmade : has v.unmade op ≡ true
 

@@ -10,7 +10,7 @@ use Rattle.vq_board_laws.specs.declared.view.LoggedBuffers.{LoggedBuffers}
 use Rattle.vq_board_laws.specs.declared.view.JobState.{JobState}
 use Rattle.vq_board_laws.specs.declared.view.JobState.TheVariants.{Submitted, Released, Started, Finished}
 use Rattle.vq_board_laws.specs.declared.view.Fact.TheVariants.{Job}
-use Rattle.vq_board_laws.specs.Knowledge.{state_number}
+use Rattle.vq_board_laws.specs.Knowledge.{state_number, Knows}
 use Rattle.vq_board_laws.specs.Words.{turn_word, job_word, place_word}
 
 abbrev pub own_step : ℕ → ℕ → OwnStep
@@ -86,10 +86,12 @@ enters v c n bytes =
 abbrev pub Mine : Type 0
 Mine = Me LoggedBuffers View
 
+-- the job is at least as far as the pass knows
 abbrev pub looked : Table.Step LoggedBuffers → Mine → ℕ → Mine → Type 0
 looked st m n m' =
     (j : ℕ) → st.word ≡ job_word j →
     (s : JobState) × (n ≡ state_number s) × (m' ≡ (looks m.0 j s, m.1))
+    × ((least : JobState) → Knows m.0.known (Job j least) → state_number least ≤ n)
 
 abbrev pub submitted : Table.Step LoggedBuffers → Mine → ℕ → Mine → Type 0
 submitted st m n m' = (j : ℕ) → st.word ≡ job_word j → m' ≡ (submits m.0 j, m.1)

@@ -1,7 +1,7 @@
 //! Laws on the board's rule, which holds between any two atomic steps, and on the runs that its words
 //! show. The functions do nothing: their contracts are the laws.
 ghost use Rattle.std.specs.Prelude.{◌≡◌, ◌<◌, ◌≤◌, ◌+◌, ◌-◌, ◌^◌, ℕ, Some, true, false};
-ghost use Rattle.std.specs.Prelude.{[], slice_set, sum_by};
+ghost use Rattle.std.specs.Prelude.{[], slice_set, sum_by, length};
 ghost use mathlib.Core.Option.{some};
 ghost use lib.ListN.{get_elem?};
 ghost use Rattle.atomic_table.specs.Table.{State};
@@ -9,13 +9,15 @@ ghost use Rattle.vq_model.specs.Checks.{IsLawful};
 ghost use Rattle.vq_model.specs.HappensBefore.{HappensBefore};
 ghost use Rattle.vq_model.specs.LoweringFaults.{IsPlan};
 ghost use Rattle.vq_model.specs.Machine.{StartStep, ApplyStep, SignalStep, FinishStep};
-ghost use Rattle.vq_model.specs.Plan.{Plan, has, signals_of, job_of};
+ghost use Rattle.vq_model.specs.Plan.{Plan, has, chain, signals_of, job_of};
 ghost use Rattle.vq_model.specs.SlowRun.{bytes_after};
 ghost use Rattle.vq_points.specs.PointWord.{parts};
 ghost use Rattle.vq_board_laws.specs.declared.view.View.{View};
 ghost use Rattle.vq_board_laws.specs.declared.view.Fact.{Fact};
 ghost use Rattle.vq_board_laws.specs.declared.view.Fact.TheVariants.{BoundTo};
 ghost use Rattle.vq_board_laws.specs.declared.view.LoggedBuffers.{LoggedBuffers};
+ghost use Rattle.vq_board_laws.specs.declared.view.Role.TheVariants.{Shelf};
+ghost use Rattle.vq_board_laws.specs.Roles.{role_number, share_of};
 ghost use Rattle.vq_board_laws.specs.Words.{words_of, shown, log_of, made_of, Carries};
 ghost use Rattle.vq_board_laws.specs.Words.{turn_word, count_word, job_word, op_word, point_word};
 ghost use Rattle.vq_board_laws.specs.Words.{place_word};
@@ -120,6 +122,12 @@ pub fn points_are_kept_for_references()
         get_elem? s.views i ≡ some v → has v.owned q ≡ true → q < (words_of s.words).count }
     ensures unmade { (p : Plan) → (s : State LoggedBuffers View) → Kept p s → (q : ℕ) →
         (words_of s.words).count ≤ q → (words_of s.words).point q ≡ 0 }
+{}
+
+/// The share of a shelf, which is how many points it may make, is the length of its chain.
+pub fn shares_are_chains()
+    ensures { (p : Plan) → IsPlan p → (t : ℕ) →
+        share_of p (role_number p (Shelf t)) ≡ length (chain p t) }
 {}
 
 /// A look at a point tells of the operation for which the pass has a reference to it: that is made

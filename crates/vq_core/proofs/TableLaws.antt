@@ -49,7 +49,7 @@ use Rattle.vq_core_laws.specs.Firsts.{AreFirst}
 use Rattle.vq_core_laws.proofs.Cited.{Facts, put_next, put_other, rising_once, stands, count_raised}
 use Rattle.vq_core.specs.declared.answers.AnswerState.{AnswerState}
 use Rattle.vq_core.specs.AnswerStates.{AreAnswerStates, IsAnswerState, not_asked, is_asked_reached, payload_read}
-use Rattle.vq_core.specs.declared.table.JobState.{JobState}
+use Rattle.vq_core.specs.declared.table.JobRecord.{JobRecord}
 use Rattle.vq_core.specs.declared.table.PointSlot.{PointSlot}
 use Rattle.vq_core.specs.Tables.{
   AreJobs,
@@ -74,8 +74,8 @@ set_each P Q xs d v j l all here there k = elim (cases_eq k j) [
 ]
 
 module _ (p : Plan) (released started finished made : ℕ →
-    Bool) (applied : List ℕ) (xs : List JobState) (are : AreJobs p released started finished made applied xs) (j : ℕ)
-    (l : j < length p.jobs) (v : JobState) where
+    Bool) (applied : List ℕ) (xs : List JobRecord) (are : AreJobs p released started finished made applied xs) (j : ℕ)
+    (l : j < length p.jobs) (v : JobRecord) where
   within : j < length xs
   within = let n = are.count in omega arith
 

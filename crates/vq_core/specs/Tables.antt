@@ -8,11 +8,11 @@ use Rattle.vq_points.specs.Points.{PointState, Reference, written_before}
 use Rattle.vq_points.specs.Timeline.{Timeline, KeepsLists, new_timeline}
 use Rattle.vq_core_laws.specs.Firsts.{AreFirst}
 use Rattle.vq_core_laws.specs.TimelineOf.{IsTimelineOf}
-use Rattle.vq_core.specs.declared.table.JobState.{JobState}
+use Rattle.vq_core.specs.declared.table.JobRecord.{JobRecord}
 use Rattle.vq_core.specs.declared.table.PointSlot.{PointSlot}
 
 -- a job of which nothing is done
-abbrev pub idle : JobState
+abbrev pub idle : JobRecord
 idle = record { released = false; started = false; finished = false; commands = 0; signals = 0 }
 
 -- a point that carries nothing
@@ -33,7 +33,7 @@ pub record AreSubmitted (p : Plan) (submitted : ℕ → Bool) (n : ℕ) : Type 0
   pub within : n ≤ length p.jobs
   pub each : (j : ℕ) → submitted j ≡ (is_batch p j && nat_lt (batches_before p j) n)
 
-pub record IsJobState (p : Plan) (released started finished made : ℕ → Bool) (applied : List ℕ) (j : ℕ) (s : JobState)
+pub record IsJobState (p : Plan) (released started finished made : ℕ → Bool) (applied : List ℕ) (j : ℕ) (s : JobRecord)
     : Type 0 where
   pub is_released : s.released ≡ released j
   pub is_started : s.started ≡ started j
@@ -41,7 +41,7 @@ pub record IsJobState (p : Plan) (released started finished made : ℕ → Bool)
   pub first_commands : AreFirst (has applied) (commands_of p j) s.commands
   pub first_signals : AreFirst made (signals_of p j) s.signals
 
-pub record AreJobs (p : Plan) (released started finished made : ℕ → Bool) (applied : List ℕ) (xs : List JobState)
+pub record AreJobs (p : Plan) (released started finished made : ℕ → Bool) (applied : List ℕ) (xs : List JobRecord)
     : Type 0 where
   pub count : length xs ≡ length p.jobs
   pub each : (j : ℕ) → IsJobState p released started finished made applied j (slice_index_or xs j idle)

@@ -9,7 +9,7 @@ ghost use Rattle.vq_core.specs.CoreState.{world};
 use crate::answers::AnswerState;
 use crate::notes::Note;
 use crate::state::Core;
-use crate::table::{JobState, PointSlot};
+use crate::table::{JobRecord, PointSlot};
 use vq_model::script::ActorName;
 use vq_spec::{Answer, Event, Op};
 
@@ -74,10 +74,10 @@ impl Core {
         ensures { self.new ≡ record self.old { history = self.old.history ++ Event.Release job ∷ [] } }
     {
         let lane = self.plan().job(job).lane.number();
-        let state = self.jobs.at(job, JobState::idle());
+        let state = self.jobs.at(job, JobRecord::idle());
         self.jobs.put(
             job,
-            JobState {
+            JobRecord {
                 released: true,
                 ..state
             },
@@ -101,10 +101,10 @@ impl Core {
                 ..asking
             },
         );
-        let state = self.jobs.at(job, JobState::idle());
+        let state = self.jobs.at(job, JobRecord::idle());
         self.jobs.put(
             job,
-            JobState {
+            JobRecord {
                 started: true,
                 ..state
             },
@@ -244,10 +244,10 @@ impl Core {
     {
         let line = self.ordered.plan().command(command);
         self.buffers.apply(&line.command);
-        let state = self.jobs.at(job, JobState::idle());
+        let state = self.jobs.at(job, JobRecord::idle());
         self.jobs.put(
             job,
-            JobState {
+            JobRecord {
                 commands: state.commands + 1,
                 ..state
             },
@@ -267,10 +267,10 @@ impl Core {
         } = self.op(op);
         self.payloads[chain as usize] = value;
         self.made.put(op, true);
-        let state = self.jobs.at(job, JobState::idle());
+        let state = self.jobs.at(job, JobRecord::idle());
         self.jobs.put(
             job,
-            JobState {
+            JobRecord {
                 signals: state.signals + 1,
                 ..state
             },
@@ -283,10 +283,10 @@ impl Core {
         ensures { self.new ≡ record self.old { history = self.old.history ++ Event.Finish job ∷ [] } }
     {
         let lane = self.plan().job(job).lane.number();
-        let state = self.jobs.at(job, JobState::idle());
+        let state = self.jobs.at(job, JobRecord::idle());
         self.jobs.put(
             job,
-            JobState {
+            JobRecord {
                 finished: true,
                 ..state
             },

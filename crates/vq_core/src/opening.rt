@@ -20,7 +20,7 @@ use crate::answers::AnswerState;
 use crate::batches::is_host;
 use crate::lanes::LaneTable;
 use crate::notes::{Note, NoteRow, NoteTable};
-use crate::table::{JobState, PointSlot, Table};
+use crate::table::{JobRecord, PointSlot, Table};
 use std::alloc::{AllocError, Global};
 use vq_spec::{Buffers, Event, Plan, zero_buffers};
 use vq_timeline_core::TimelineCore;
@@ -65,10 +65,10 @@ pub(crate) fn room(plan: &Plan) -> Result<usize, AllocError>
 }
 
 /// Jobs of which nothing is done.
-pub(crate) fn idle_jobs(alloc: Global, plan: &Plan) -> Result<Table<JobState>, AllocError>
+pub(crate) fn idle_jobs(alloc: Global, plan: &Plan) -> Result<Table<JobRecord>, AllocError>
     ensures { IfOk result (λ xs. AreJobs plan.now unmarked unmarked unmarked unmarked [] xs) }
 {
-    let jobs = vec![in alloc; JobState::idle(); plan.jobs() as usize]?;
+    let jobs = vec![in alloc; JobRecord::idle(); plan.jobs() as usize]?;
     Ok(Table::of(jobs))
 }
 
@@ -184,7 +184,7 @@ pub(crate) fn empty_notes(alloc: Global, plan: &Plan) -> Result<NoteTable, Alloc
 #[derive(Drop)]
 pub(crate) struct Marks {
     pub(crate) earlier: Table<u32>,
-    pub(crate) jobs: Table<JobState>,
+    pub(crate) jobs: Table<JobRecord>,
     pub(crate) answers: Table<AnswerState>,
     pub(crate) made: Table<bool>,
     pub(crate) slots: Table<PointSlot>,

@@ -13,7 +13,7 @@ ghost use Rattle.vq_core.specs.CoreState.{world};
 ghost use Rattle.vq_core.specs.Tables.{IsJobState};
 
 use crate::state::Core;
-use crate::table::JobState;
+use crate::table::JobRecord;
 use vq_spec::{Need, Plan, all_reached, any_reached, is_reached};
 
 /// An element of a list, if it has so many.
@@ -70,12 +70,12 @@ fn one_reached_after(payloads: &[u64], needs: &[Need], done: usize) -> bool
 
 impl Core {
     /// What a job has come to.
-    pub(crate) fn job_state(&self, job: u32) -> JobState
+    pub(crate) fn job_state(&self, job: u32) -> JobRecord
         ensures { IsJobState self.now.plan (world self.now).released (world self.now).machine.progress.started
             (world self.now).machine.progress.finished (world self.now).machine.progress.made
             (world self.now).machine.progress.applied job result }
     {
-        self.jobs.at(job, JobState::idle())
+        self.jobs.at(job, JobRecord::idle())
     }
 
     /// Whether a job is the first of its lane that isn't released.

@@ -21,7 +21,7 @@ use crate::answers::AnswerState;
 use crate::lanes::LaneTable;
 use crate::notes::NoteTable;
 use crate::opening::{Opening, open};
-use crate::table::{JobState, PointSlot, Table};
+use crate::table::{JobRecord, PointSlot, Table};
 use std::alloc::{AllocError, Global};
 use std::marker::Model;
 use vq_model::list::List;
@@ -40,7 +40,7 @@ pub struct Core {
     pub(crate) earlier: Table<u32>,
     // How many batches are submitted: they are in the order of the script.
     pub(crate) submitted: u32,
-    pub(crate) jobs: Table<JobState>,
+    pub(crate) jobs: Table<JobRecord>,
     pub(crate) answers: Table<AnswerState>,
     // For each signal operation whether it is made.
     pub(crate) made: Table<bool>,
@@ -211,21 +211,21 @@ impl Core {
     pub fn is_released(&self, job: u32) -> bool
         ensures { result ≡ (world self.now).released job }
     {
-        self.jobs.at(job, JobState::idle()).released
+        self.jobs.at(job, JobRecord::idle()).released
     }
 
     /// Whether a job is started.
     pub fn is_started(&self, job: u32) -> bool
         ensures { result ≡ (world self.now).machine.progress.started job }
     {
-        self.jobs.at(job, JobState::idle()).started
+        self.jobs.at(job, JobRecord::idle()).started
     }
 
     /// Whether a job is finished.
     pub fn is_finished(&self, job: u32) -> bool
         ensures { result ≡ (world self.now).machine.progress.finished job }
     {
-        self.jobs.at(job, JobState::idle()).finished
+        self.jobs.at(job, JobRecord::idle()).finished
     }
 
     /// Whether a signal operation is made.

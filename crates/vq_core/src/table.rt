@@ -9,7 +9,7 @@ use std::marker::Model;
 
 /// What a job has come to.
 #[derive(Clone, Copy)]
-pub(crate) struct JobState {
+pub(crate) struct JobRecord {
     pub(crate) released: bool,
     pub(crate) started: bool,
     pub(crate) finished: bool,
@@ -19,12 +19,12 @@ pub(crate) struct JobState {
     pub(crate) signals: usize,
 }
 
-impl JobState {
+impl JobRecord {
     /// Nothing of it is done.
-    pub(crate) fn idle() -> JobState
+    pub(crate) fn idle() -> JobRecord
         ensures { result ≡ idle }
     {
-        JobState {
+        JobRecord {
             released: false,
             started: false,
             finished: false,

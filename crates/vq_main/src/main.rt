@@ -2,31 +2,12 @@
 //! writes to standard output what the words of its command line ask for.
 #![tactic(auto)]
 
-mod ending;
-#[cfg(test)]
-mod gate_tests;
-#[cfg(test)]
-mod host_tests;
-#[cfg(test)]
-mod mode_tests;
-mod outcome;
-#[cfg(test)]
-mod port_tests;
-mod reading;
-mod refusals;
-mod run;
-mod status;
-mod still;
-mod task;
-#[cfg(test)]
-mod tests;
-
-use run::run;
-use status::Status;
 use std::process::ExitCode;
 use std::{env, io};
 use vq_port::{StdSink, StdSource, write_whole};
 use vq_rings::OpenGate;
+use vq_run::Status;
+pub use vq_run::{generate, run, still};
 
 /// The words of the command line, without the program's name.
 fn words(rt: &HostRuntime) -> io::Result<Vec<String>> {

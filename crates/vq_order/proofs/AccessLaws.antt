@@ -16,7 +16,7 @@ use Rattle.vq_model.specs.WellFormed.{IsWellFormed}
 use Rattle.vq_order_laws.proofs.Cited.{command_order, job_order}
 use Rattle.vq_plan_laws.proofs.Cited.{plan_well_formed, plan_holds_no_wait}
 use Rattle.vq_order.specs.Accessed.{span_of, spans_share, accesses_conflict, access_in, IsAccess, AreAccesses, AreAllInOrder, HasNoRaceBelow, RaceBy}
-use Rattle.vq_order.specs.declared.races.accesses.Access.{Access}
+use Rattle.vq_order.specs.declared.races.accesses.MemoryAccess.{MemoryAccess}
 use Rattle.vq_order.specs.declared.races.accesses.Span.{Span}
 
 or_none : (b : Bool) → ((b || false) || false) ≡ b
@@ -35,7 +35,7 @@ conflict_is sizes x y =
     ap (λ b. (share wx wy || b) || option_map_or (share wy) (read_range x) false) (shares_some wx (read_range y))
     ∙ ap (λ b. (share wx wy || option_map_or (spans_share (span_of wx)) (option_map span_of (read_range y)) false) || b) (shares_some wy (read_range x))
 
-pub conflicts_are : (p : Plan) (c d : ℕ) (a b : Access) → IsAccess p c a → IsAccess p d b → conflicts p c d ≡ accesses_conflict a b
+pub conflicts_are : (p : Plan) (c d : ℕ) (a b : MemoryAccess) → IsAccess p c a → IsAccess p d b → conflicts p c d ≡ accesses_conflict a b
 conflicts_are p c d a b u v =
     ap (λ (o : Option Command). list_any (λ x. list_any (conflict p.sizes x) (option_to_list (command_at p d))) (option_to_list o)) u.found
     ∙ (ap (λ (o : Option Command). list_any (conflict p.sizes u.command) (option_to_list o) || false) v.found
@@ -45,7 +45,7 @@ conflicts_are p c d a b u v =
     ∙ ap (λ (z : Option Span × Option Span). (spans_share a.written b.written || option_map_or (spans_share a.written) z.1 false) || option_map_or (spans_share b.written) z.0 false) (λ i. (sym u.reads i, sym v.reads i))))))
 
 -- commands race where their accesses do
-pub race_is : (p : Plan) → IsPlan p → (c d : ℕ) (a b : Access) → IsAccess p c a → IsAccess p d b → (RaceBy p a b → IsRace p c d) × (IsRace p c d → RaceBy p a b)
+pub race_is : (p : Plan) → IsPlan p → (c d : ℕ) (a b : MemoryAccess) → IsAccess p c a → IsAccess p d b → (RaceBy p a b → IsRace p c d) × (IsRace p c d → RaceBy p a b)
 race_is p i c d a b u v = (
   (λ r. record {
     first_job = a.job;
@@ -85,22 +85,22 @@ fits_command p w c j x h e =
     subst (Fits p.sizes) r f.2
 
 -- an access of the table
-pub access_at : (p : Plan) (accesses : List Access) → AreAccesses p accesses → (c : ℕ) → c < length accesses → IsAccess p c (access_in accesses c)
+pub access_at : (p : Plan) (accesses : List MemoryAccess) → AreAccesses p accesses → (c : ℕ) → c < length accesses → IsAccess p c (access_in accesses c)
 access_at p accesses h c l = h.each c (access_in accesses c) (slice_get-get_or accesses c (record { job = 0; written = record { buffer = 0; start = 0; end = 0 }; read = None }) l)
 
 -- of two commands of the table
-pub races_at : (p : Plan) → IsPlan p → (accesses : List Access) → AreAccesses p accesses → (c d : ℕ) → c < length accesses → d < length accesses → (RaceBy p (access_in accesses c) (access_in accesses d) → IsRace p c d) × (IsRace p c d → RaceBy p (access_in accesses c) (access_in accesses d))
+pub races_at : (p : Plan) → IsPlan p → (accesses : List MemoryAccess) → AreAccesses p accesses → (c d : ℕ) → c < length accesses → d < length accesses → (RaceBy p (access_in accesses c) (access_in accesses d) → IsRace p c d) × (IsRace p c d → RaceBy p (access_in accesses c) (access_in accesses d))
 races_at p i accesses h c d l m = race_is p i c d (access_in accesses c) (access_in accesses d) (access_at p accesses h c l) (access_at p accesses h d m)
 
 -- One command more
 
-pub stays_quiet : (p : Plan) (xs : List Access) (d q : ℕ) → (access_in xs d).job ≡ q → AreAllInOrder p xs d q → AreAllInOrder p xs (d + 1) q
+pub stays_quiet : (p : Plan) (xs : List MemoryAccess) (d q : ℕ) → (access_in xs d).job ≡ q → AreAllInOrder p xs d q → AreAllInOrder p xs (d + 1) q
 stays_quiet p xs d q e f a l = elim (cases_eq a d) [
   | inl s ↦ inl (inl (ap (λ z. (access_in xs z).job) s ∙ e))
   | inr n ↦ f a (grind arith)
 ]
 
-pub quiet_races_none : (p : Plan) → IsPlan p → (accesses : List Access) → AreAccesses p accesses → (d : ℕ) → d < length accesses → AreAllInOrder p accesses d (access_in accesses d).job → (a : ℕ) → a < d → ¬ IsRace p a d
+pub quiet_races_none : (p : Plan) → IsPlan p → (accesses : List MemoryAccess) → AreAccesses p accesses → (d : ℕ) → d < length accesses → AreAllInOrder p accesses d (access_in accesses d).job → (a : ℕ) → a < d → ¬ IsRace p a d
 quiet_races_none p i accesses h d m f a l r = ((races_at p i accesses h a d (omega arith) m).1 r).apart (f a l)
 
 pub none_races_next : (p : Plan) (d : ℕ) → HasNoRaceBelow p d → ((a : ℕ) → a < d → ¬ IsRace p a d) → HasNoRaceBelow p (d + 1)
@@ -111,13 +111,13 @@ none_races_next p d below none a b l m r = elim (cases_eq b d) [
 
 -- those of fewer commands
 
-get_take : (n : ℕ) (xs : List Access) (c : ℕ) (a : Access) → slice_get (take n xs) c ≡ Some a → slice_get xs c ≡ Some a
+get_take : (n : ℕ) (xs : List MemoryAccess) (c : ℕ) (a : MemoryAccess) → slice_get (take n xs) c ≡ Some a → slice_get xs c ≡ Some a
 get_take zero xs c a e = absurd (let q : None ≡ Some a = e in cc)
 get_take (suc n) [] c a e = absurd (let q : None ≡ Some a = e in cc)
 get_take (suc n) (x ∷ xs) zero a e = e
 get_take (suc n) (x ∷ xs) (suc c) a e = get_take n xs c a e
 
-pub first_accesses : (p : Plan) (n : ℕ) (accesses : List Access) → n ≤ length accesses → AreAccesses p accesses → AreAccesses p (take n accesses)
+pub first_accesses : (p : Plan) (n : ℕ) (accesses : List MemoryAccess) → n ≤ length accesses → AreAccesses p accesses → AreAccesses p (take n accesses)
 first_accesses p n accesses l h =
     record {
       within = let e = length-take-le n accesses l in let w = h.within in omega arith;

@@ -13,12 +13,12 @@ use Rattle.vq_model.specs.Plan.{has}
 use Rattle.vq_model.proofs.Lists.{has-append_left, has-append_right, has_here, has_there}
 use Rattle.vq_order.specs.Accessed.{spans_share}
 use Rattle.vq_order.specs.CellRanges.{start_of, starts_of, AreCuts, IsCellOf}
-use Rattle.vq_order.specs.declared.races.accesses.Access.{Access}
+use Rattle.vq_order.specs.declared.races.accesses.MemoryAccess.{MemoryAccess}
 use Rattle.vq_order.specs.declared.races.accesses.Span.{Span}
 use Rattle.vq_order.proofs.SlowFacts.{place_within, at_place}
 use Rattle.vq_model.proofs.Positions.{place}
 
-started : (accesses : List Access) (c : ℕ) (a : Access) (x : ℕ) → slice_get accesses c ≡ Some a → has (starts_of a) x ≡ true → has (flat_map starts_of accesses) x ≡ true
+started : (accesses : List MemoryAccess) (c : ℕ) (a : MemoryAccess) (x : ℕ) → slice_get accesses c ≡ Some a → has (starts_of a) x ≡ true → has (flat_map starts_of accesses) x ≡ true
 started [] c a x e h = absurd (let q : None ≡ Some a = e in cc)
 started (b ∷ accesses) zero a x e h =
     let q : b ≡ a = cc in
@@ -31,7 +31,7 @@ has_contains xs x h =
     (place xs x, l, get_or_default_zero xs (place xs x) x l ∙ at_place xs x l)
 
 -- after a sort and a removal of doubles
-pub cuts_from : (accesses : List Access) (xs ys zs : List ℕ) → xs ≡ flat_map starts_of accesses → IsPermutation xs ys → IsSorted nat_cmp ys → zs ≡ dedup eqb ys → AreCuts accesses zs
+pub cuts_from : (accesses : List MemoryAccess) (xs ys zs : List ℕ) → xs ≡ flat_map starts_of accesses → IsPermutation xs ys → IsSorted nat_cmp ys → zs ≡ dedup eqb ys → AreCuts accesses zs
 cuts_from accesses xs ys zs e p s d =
     record {
       rise = subst (λ (ws : List ℕ). IsNonDecreasing ws) (sym d) (non_decreasing_from_sorted (dedup eqb ys) (sorted_from_strictly_increasing (dedup eqb ys) (IsStrictlyIncreasing-dedup ys s)));

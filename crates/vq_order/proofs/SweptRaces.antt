@@ -11,7 +11,7 @@ use Rattle.vq_model.proofs.Gets.{get_some}
 use Rattle.vq_order.specs.Accessed.{spans_share, accesses_conflict, AreAccesses, HasNoRaceBelow}
 use Rattle.vq_order.specs.CellRanges.{start_of, AreCuts, IsCellOf}
 use Rattle.vq_order.specs.Swept.{AreInOrder, Touched, Extended, TouchesBy, TouchesAmong, TouchesIn}
-use Rattle.vq_order.specs.declared.races.accesses.Access.{Access}
+use Rattle.vq_order.specs.declared.races.accesses.MemoryAccess.{MemoryAccess}
 use Rattle.vq_order.specs.declared.races.cells.Cell.{Cell}
 use Rattle.vq_order.specs.declared.races.accesses.Span.{Span}
 use Rattle.vq_order.specs.VectorClocks.{IsComplete}
@@ -21,7 +21,7 @@ use Rattle.vq_order.proofs.Marking.{taken_cases}
 
 -- One more command, and one more job
 
-pub among_more : (cuts : List ℕ) (accesses : List Access) (xs : List ℕ) (i : ℕ) (a : Access) → i < length xs → slice_get accesses (get_or xs i 0) ≡ Some a → (k j : ℕ) (w : Bool) → TouchesAmong cuts accesses (take (i + 1) xs) k j w → TouchesAmong cuts accesses (take i xs) k j w ⊎ TouchesBy cuts a k j w
+pub among_more : (cuts : List ℕ) (accesses : List MemoryAccess) (xs : List ℕ) (i : ℕ) (a : MemoryAccess) → i < length xs → slice_get accesses (get_or xs i 0) ≡ Some a → (k j : ℕ) (w : Bool) → TouchesAmong cuts accesses (take (i + 1) xs) k j w → TouchesAmong cuts accesses (take i xs) k j w ⊎ TouchesBy cuts a k j w
 among_more cuts accesses xs i a l e k j w t = elim (taken_cases xs i t.command l t.listed) [
   | inl m ↦ inl (record { command = t.command; listed = m; access = t.access; found = t.found; touch = t.touch })
   | inr q ↦
@@ -30,20 +30,20 @@ among_more cuts accesses xs i a l e k j w t = elim (taken_cases xs i t.command l
       inr (subst (λ z. TouchesBy cuts z k j w) g t.touch)
 ]
 
-pub among_none : (cuts : List ℕ) (accesses : List Access) (xs : List ℕ) (i : ℕ) → i < length xs → slice_get accesses (get_or xs i 0) ≡ None → (k j : ℕ) (w : Bool) → TouchesAmong cuts accesses (take (i + 1) xs) k j w → TouchesAmong cuts accesses (take i xs) k j w
+pub among_none : (cuts : List ℕ) (accesses : List MemoryAccess) (xs : List ℕ) (i : ℕ) → i < length xs → slice_get accesses (get_or xs i 0) ≡ None → (k j : ℕ) (w : Bool) → TouchesAmong cuts accesses (take (i + 1) xs) k j w → TouchesAmong cuts accesses (take i xs) k j w
 among_none cuts accesses xs i l e k j w t = elim (taken_cases xs i t.command l t.listed) [
   | inl m ↦ record { command = t.command; listed = m; access = t.access; found = t.found; touch = t.touch }
   | inr q ↦ absurd (let f : None ≡ Some t.access = sym e ∙ (ap (slice_get accesses) (sym q) ∙ t.found) in cc)
 ]
 
 -- what a look-up gives
-pub got_some : (xs : List Access) (n : ℕ) (a : Access) → (true ≡ ltb n (length xs)) × (a ≡ get_or xs n a) → slice_get xs n ≡ Some a
+pub got_some : (xs : List MemoryAccess) (n : ℕ) (a : MemoryAccess) → (true ≡ ltb n (length xs)) × (a ≡ get_or xs n a) → slice_get xs n ≡ Some a
 got_some xs n a h = slice_get-get_or xs n a (ltb-true n (length xs) (sym h.0)) ∙ ap Some (sym h.1)
 
-pub got_none : (xs : List Access) (n : ℕ) → false ≡ ltb n (length xs) → slice_get xs n ≡ None
+pub got_none : (xs : List MemoryAccess) (n : ℕ) → false ≡ ltb n (length xs) → slice_get xs n ≡ None
 got_none xs n h = slice_get_past xs n (ltb-false n (length xs) (sym h))
 
-pub in_more : (p : Plan) (cuts : List ℕ) (accesses : List Access) (xs : List ℕ) (i : ℕ) → i < length xs → (k j : ℕ) (w : Bool) → TouchesIn p cuts accesses (take (i + 1) xs) k j w → TouchesIn p cuts accesses (take i xs) k j w ⊎ TouchesAmong cuts accesses (commands_of p (get_or xs i 0)) k j w
+pub in_more : (p : Plan) (cuts : List ℕ) (accesses : List MemoryAccess) (xs : List ℕ) (i : ℕ) → i < length xs → (k j : ℕ) (w : Bool) → TouchesIn p cuts accesses (take (i + 1) xs) k j w → TouchesIn p cuts accesses (take i xs) k j w ⊎ TouchesAmong cuts accesses (commands_of p (get_or xs i 0)) k j w
 in_more p cuts accesses xs i l k j w t = elim (taken_cases xs i t.job l t.in_list) [
   | inl m ↦ inl (record { job = t.job; in_list = m; among = t.among })
   | inr q ↦ inr (subst (λ z. TouchesAmong cuts accesses (commands_of p z) k j w) q t.among)
@@ -55,9 +55,9 @@ shared_some : (w : Span) (o : Option Span) → option_map_or (spans_share w) o f
 shared_some w None h = absurd (false≢true h)
 shared_some w (Some s) h = (s, refl, h)
 
-module _ (p : Plan) (complete : IsComplete p) (accesses : List Access) (table : AreAccesses p accesses) (cuts : List ℕ) (cut : AreCuts accesses cuts) (cells : List Cell) (count : length cells ≡ length cuts) (x : Extended p cells [] (TouchesIn p cuts accesses (slow_order p))) where
+module _ (p : Plan) (complete : IsComplete p) (accesses : List MemoryAccess) (table : AreAccesses p accesses) (cuts : List ℕ) (cut : AreCuts accesses cuts) (cells : List Cell) (count : length cells ≡ length cuts) (x : Extended p cells [] (TouchesIn p cuts accesses (slow_order p))) where
   -- a touch of a command is among all
-  touched : (c : ℕ) (a : Access) → slice_get accesses c ≡ Some a → (k j : ℕ) (w : Bool) → TouchesBy cuts a k j w → Touched x.longer k j w
+  touched : (c : ℕ) (a : MemoryAccess) → slice_get accesses c ≡ Some a → (k j : ℕ) (w : Bool) → TouchesBy cuts a k j w → Touched x.longer k j w
   touched c a e k j w t =
       let u = table.each c a e in
       x.own k j w (record {
@@ -67,7 +67,7 @@ module _ (p : Plan) (complete : IsComplete p) (accesses : List Access) (table : 
       })
 
   -- what one command writes and another one touches is in order
-  ordered : (c d : ℕ) (a b : Access) → slice_get accesses c ≡ Some a → slice_get accesses d ≡ Some b → (s : Span) (w : Bool) → ((k : ℕ) → IsCellOf cuts s k → TouchesBy cuts b k b.job w) → spans_share a.written s ≡ true → Contains cuts (start_of s) → AreInOrder p a.job b.job
+  ordered : (c d : ℕ) (a b : MemoryAccess) → slice_get accesses c ≡ Some a → slice_get accesses d ≡ Some b → (s : Span) (w : Bool) → ((k : ℕ) → IsCellOf cuts s k → TouchesBy cuts b k b.job w) → spans_share a.written s ≡ true → Contains cuts (start_of s) → AreInOrder p a.job b.job
   ordered c d a b e f s w t h m =
       let q = shared_cell cuts a.written s (cut.written c a e) m h in
       let l = q.of_first.exists in
@@ -76,10 +76,10 @@ module _ (p : Plan) (complete : IsComplete p) (accesses : List Access) (table : 
       (touched c a e q.cell a.job true (inl (record { cell = q.of_first; same_job = refl; same_kind = refl })))
       (touched d b f q.cell b.job w (t q.cell q.of_second))
 
-  read_by : (b : Access) (s : Span) → b.read ≡ Some s → (k : ℕ) → IsCellOf cuts s k → TouchesBy cuts b k b.job false
+  read_by : (b : MemoryAccess) (s : Span) → b.read ≡ Some s → (k : ℕ) → IsCellOf cuts s k → TouchesBy cuts b k b.job false
   read_by b s r k m = inr (record { span = s; is_read = r; touch = record { cell = m; same_job = refl; same_kind = refl } })
 
-  conflict_ordered : (c d : ℕ) (a b : Access) → slice_get accesses c ≡ Some a → slice_get accesses d ≡ Some b → accesses_conflict a b ≡ true → AreInOrder p a.job b.job
+  conflict_ordered : (c d : ℕ) (a b : MemoryAccess) → slice_get accesses c ≡ Some a → slice_get accesses d ≡ Some b → accesses_conflict a b ≡ true → AreInOrder p a.job b.job
   conflict_ordered c d a b e f h = elim (or_cases (spans_share a.written b.written || option_map_or (spans_share a.written) b.read false) (option_map_or (spans_share b.written) a.read false) h) [
     | inl g ↦ elim (or_cases (spans_share a.written b.written) (option_map_or (spans_share a.written) b.read false) g) [
       | inl ww ↦ ordered c d a b e f b.written true (λ k m. inl (record { cell = m; same_job = refl; same_kind = refl })) ww (cut.written d b f)

@@ -10,7 +10,7 @@ use Rattle.vq_model.specs.Races.{IsRace}
 use Rattle.vq_model.specs.declared.ranges.Range.{Range}
 use Rattle.vq_model.specs.Ranges.{written_range, read_range}
 use Rattle.vq_order.specs.declared.races.accesses.Span.{Span}
-use Rattle.vq_order.specs.declared.races.accesses.Access.{Access}
+use Rattle.vq_order.specs.declared.races.accesses.MemoryAccess.{MemoryAccess}
 use Rattle.vq_order.specs.Swept.{AreInOrder}
 
 abbrev pub span_of : Range → Span
@@ -21,14 +21,14 @@ abbrev pub spans_share : Span → Span → Bool
 spans_share a b = (a.buffer == b.buffer) && nat_lt (max a.start b.start) (min a.end b.end)
 
 -- one of two commands writes a byte that the other one reads or writes
-abbrev pub accesses_conflict : Access → Access → Bool
+abbrev pub accesses_conflict : MemoryAccess → MemoryAccess → Bool
 accesses_conflict a b =
     spans_share a.written b.written
     || option_map_or (spans_share a.written) b.read false
     || option_map_or (spans_share b.written) a.read false
 
 -- what a command reads and writes, and its job
-pub record IsAccess (p : Plan) (c : ℕ) (a : Access) : Type 0 where
+pub record IsAccess (p : Plan) (c : ℕ) (a : MemoryAccess) : Type 0 where
   pub job_exists : a.job < length p.jobs
   pub of_job : has (commands_of p a.job) c ≡ true
   pub command : Command
@@ -37,9 +37,9 @@ pub record IsAccess (p : Plan) (c : ℕ) (a : Access) : Type 0 where
   pub reads : a.read ≡ option_map span_of (read_range command)
 
 -- the accesses of the first commands
-pub record AreAccesses (p : Plan) (accesses : List Access) : Type 0 where
+pub record AreAccesses (p : Plan) (accesses : List MemoryAccess) : Type 0 where
   pub within : length accesses ≤ length p.commands
-  pub each : (c : ℕ) (a : Access) → slice_get accesses c ≡ Some a → IsAccess p c a
+  pub each : (c : ℕ) (a : MemoryAccess) → slice_get accesses c ≡ Some a → IsAccess p c a
 
 -- the job of each command
 pub record HasOwners (p : Plan) (owners : List ℕ) : Type 0 where
@@ -48,11 +48,11 @@ pub record HasOwners (p : Plan) (owners : List ℕ) : Type 0 where
       has (commands_of p (slice_index_or owners c 0)) c ≡ true
 
 -- commands that conflict, of jobs that are not in order
-pub record RaceBy (p : Plan) (a b : Access) : Type 0 where
+pub record RaceBy (p : Plan) (a b : MemoryAccess) : Type 0 where
   pub conflict : accesses_conflict a b ≡ true
   pub apart : ¬ AreInOrder p a.job b.job
 
-abbrev pub access_in : List Access → ℕ → Access
+abbrev pub access_in : List MemoryAccess → ℕ → MemoryAccess
 access_in accesses c =
     slice_index_or accesses c (record {
       job = 0;
@@ -61,7 +61,7 @@ access_in accesses c =
     })
 
 -- the first command with a lower number that races with a command, or none
-abbrev pub IsFirstRacing : Plan → List Access → ℕ → Option ℕ → Type 0
+abbrev pub IsFirstRacing : Plan → List MemoryAccess → ℕ → Option ℕ → Type 0
 IsFirstRacing p xs d None = (a : ℕ) → a < d → ¬ RaceBy p (access_in xs a) (access_in xs d)
 IsFirstRacing p xs d (Some c) =
     (c < d)
@@ -73,5 +73,5 @@ abbrev pub HasNoRaceBelow : Plan → ℕ → Type 0
 HasNoRaceBelow p n = (c d : ℕ) → c < d → d < n → ¬ IsRace p c d
 
 -- the jobs of the first commands are in order with a job
-abbrev pub AreAllInOrder : Plan → List Access → ℕ → ℕ → Type 0
+abbrev pub AreAllInOrder : Plan → List MemoryAccess → ℕ → ℕ → Type 0
 AreAllInOrder p xs n job = (a : ℕ) → a < n → AreInOrder p (access_in xs a).job job

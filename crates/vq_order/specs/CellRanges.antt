@@ -4,7 +4,7 @@ use Rattle.std.specs.Prelude.{ℕ, ◌≡◌, ◌<◌, ◌≤◌, ◌+◌, ◌*�
 use Rattle.std.specs.List.{slice_get, slice_index_or, Contains}
 use Rattle.std.specs.List.Sorted.{IsNonDecreasing}
 use Rattle.std.specs.Option.{option_to_list}
-use Rattle.vq_order.specs.declared.races.accesses.Access.{Access}
+use Rattle.vq_order.specs.declared.races.accesses.MemoryAccess.{MemoryAccess}
 use Rattle.vq_order.specs.declared.races.cuts.Reach.{Reach}
 use Rattle.vq_order.specs.declared.races.accesses.Span.{Span}
 
@@ -17,15 +17,15 @@ abbrev pub start_of : Span → ℕ
 start_of s = axis s.buffer s.start
 
 -- where the ranges of a command begin
-abbrev pub starts_of : Access → List ℕ
+abbrev pub starts_of : MemoryAccess → List ℕ
 starts_of a = start_of a.written ∷ map start_of (option_to_list a.read)
 
 -- Where all ranges begin, in order.
-pub record AreCuts (accesses : List Access) (cuts : List ℕ) : Type 0 where
+pub record AreCuts (accesses : List MemoryAccess) (cuts : List ℕ) : Type 0 where
   pub rise : IsNonDecreasing cuts
-  pub written : (c : ℕ) (a : Access) → slice_get accesses c ≡ Some a →
+  pub written : (c : ℕ) (a : MemoryAccess) → slice_get accesses c ≡ Some a →
       Contains cuts (start_of a.written)
-  pub read : (c : ℕ) (a : Access) (s : Span) → slice_get accesses c ≡ Some a →
+  pub read : (c : ℕ) (a : MemoryAccess) (s : Span) → slice_get accesses c ≡ Some a →
       a.read ≡ Some s → Contains cuts (start_of s)
 
 -- a cell is one of a range

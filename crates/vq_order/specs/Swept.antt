@@ -7,7 +7,7 @@ use Rattle.std.specs.List.Sorted.{IsNonDecreasing}
 use Rattle.vq_model.specs.HappensBefore.{HappensBefore}
 use Rattle.vq_model.specs.Plan.{Plan, has, commands_of}
 use Rattle.vq_order.specs.CellRanges.{IsCellOf}
-use Rattle.vq_order.specs.declared.races.accesses.Access.{Access}
+use Rattle.vq_order.specs.declared.races.accesses.MemoryAccess.{MemoryAccess}
 use Rattle.vq_order.specs.declared.races.cells.Cell.{Cell}
 use Rattle.vq_order.specs.declared.races.cells.Touch.{Touch}
 use Rattle.vq_order.specs.declared.races.cells.Touch.TheVariants.{Reads, Writes}
@@ -133,25 +133,25 @@ pub record TouchesSpan (cuts : List ℕ) (s : Span) (job : ℕ) (writes : Bool)
   pub same_kind : w ≡ writes
 
 -- a command reads a cell
-pub record ReadsCell (cuts : List ℕ) (a : Access) (k j : ℕ) (w : Bool) : Type 0 where
+pub record ReadsCell (cuts : List ℕ) (a : MemoryAccess) (k j : ℕ) (w : Bool) : Type 0 where
   pub span : Span
   pub is_read : a.read ≡ Some span
   pub touch : TouchesSpan cuts span a.job false k j w
 
-abbrev pub TouchesBy : List ℕ → Access → ℕ → ℕ → Bool → Type 0
+abbrev pub TouchesBy : List ℕ → MemoryAccess → ℕ → ℕ → Bool → Type 0
 TouchesBy cuts a k j w = TouchesSpan cuts a.written a.job true k j w ⊎ ReadsCell cuts a k j w
 
 -- one of these commands touches a cell
-pub record TouchesAmong (cuts : List ℕ) (accesses : List Access) (commands : List ℕ)
+pub record TouchesAmong (cuts : List ℕ) (accesses : List MemoryAccess) (commands : List ℕ)
     (k j : ℕ) (w : Bool) : Type 0 where
   pub command : ℕ
   pub listed : has commands command ≡ true
-  pub access : Access
+  pub access : MemoryAccess
   pub found : slice_get accesses command ≡ Some access
   pub touch : TouchesBy cuts access k j w
 
 -- a command of one of these jobs touches a cell
-pub record TouchesIn (p : Plan) (cuts : List ℕ) (accesses : List Access) (jobs : List ℕ)
+pub record TouchesIn (p : Plan) (cuts : List ℕ) (accesses : List MemoryAccess) (jobs : List ℕ)
     (k j : ℕ) (w : Bool) : Type 0 where
   pub job : ℕ
   pub in_list : has jobs job ≡ true

@@ -12,7 +12,7 @@ mod sweep;
 
 use crate::clocked::Clocked;
 use crate::lines::Lines;
-use crate::races::accesses::{Access, all_accesses, conflict};
+use crate::races::accesses::{MemoryAccess, all_accesses, conflict};
 use crate::races::cells::{Halt, is_at_or_before};
 use crate::races::sweep::{go_through, overlap_much};
 use std::alloc::{AllocError, Global};
@@ -28,7 +28,7 @@ fn are_in_order(order: &Clocked, i: u32, j: u32) -> bool
 
 /// The first command with a lower number that races with a command. As commands of one job stand
 /// together, it is enough to remember the last job that was found to be in order with this one's.
-fn first_racing(order: &Clocked, accesses: &[Access], d: u32) -> Option<u32>
+fn first_racing(order: &Clocked, accesses: &[MemoryAccess], d: u32) -> Option<u32>
     requires accesses { AreAccesses order.now accesses.now }
     requires exists { d < length accesses.now }
     ensures { IsFirstRacing order.now accesses.now d result }
@@ -52,7 +52,7 @@ fn first_racing(order: &Clocked, accesses: &[Access], d: u32) -> Option<u32>
 }
 
 /// Whether the jobs of all commands with a lower number are in order with that of a command.
-fn are_all_in_order(order: &Clocked, accesses: &[Access], d: u32) -> bool
+fn are_all_in_order(order: &Clocked, accesses: &[MemoryAccess], d: u32) -> bool
     requires accesses { AreAccesses order.now accesses.now }
     requires exists { d < length accesses.now }
     ensures { IsTrue result → AreAllInOrder order.now accesses.now d
@@ -86,7 +86,7 @@ fn is_remembered(remembered: Option<u32>, job: u32) -> bool
 /// The least pair of lines of commands that race, or none, where the first commands don't. A job is
 /// remembered that is in order with those of all commands before it: its further commands race with
 /// none.
-fn least_race(order: &Clocked, accesses: &[Access], clean: u32) -> Option<Lines>
+fn least_race(order: &Clocked, accesses: &[MemoryAccess], clean: u32) -> Option<Lines>
     requires accesses { AreAccesses order.now accesses.now }
     requires all { length accesses.now ≡ length order.now.commands }
     requires clean { HasNoRaceBelow order.now clean }
@@ -115,7 +115,7 @@ fn least_race(order: &Clocked, accesses: &[Access], clean: u32) -> Option<Lines>
 }
 
 /// Whether going through commands once finds no conflict out of order.
-fn is_clean(alloc: Global, order: &Clocked, accesses: &[Access]) -> Result<bool, AllocError>
+fn is_clean(alloc: Global, order: &Clocked, accesses: &[MemoryAccess]) -> Result<bool, AllocError>
     requires { AreAccesses order.now accesses.now }
     ensures { IfOk result (λ clean. IsTrue clean → HasNoRaceBelow order.now (length accesses.now)) }
 {
@@ -131,7 +131,7 @@ const FEW_COMMANDS: u32 = 256;
 
 /// A number of commands, the first ones, of which no two race. The search is by halves, so where not
 /// all are such ones, one of the next few races with one of them.
-fn count_clean(alloc: Global, order: &Clocked, accesses: &[Access]) -> Result<u32, AllocError>
+fn count_clean(alloc: Global, order: &Clocked, accesses: &[MemoryAccess]) -> Result<u32, AllocError>
     requires accesses { AreAccesses order.now accesses.now }
     requires all { length accesses.now ≡ length order.now.commands }
     ensures { IfOk result (HasNoRaceBelow order.now) }

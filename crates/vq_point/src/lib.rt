@@ -4,7 +4,8 @@
 
 ghost use Rattle.std.specs.Prelude.{◌≡◌, ◌≢◌, ◌↔◌, ◌⊎◌, ◌*◌, ◌/◌, ◌%◌, ◌^◌};
 ghost use Rattle.std.specs.Prelude.{◌<◌, ◌≤◌, ◌==◌, Some, IsNone, IfSome};
-ghost use Rattle.std.specs.Prelude.{false};
+ghost use Rattle.std.specs.Prelude.{◌&&◌, true, false};
+ghost use Rattle.vq_points.specs.PointWord.{parts};
 ghost use Rattle.vq_point.specs.Word.{bits_of, parts_of};
 
 // The layout: bits 0 to 31 are the operation, and the other parts begin at these bits.
@@ -15,6 +16,15 @@ const SIGNALED: u32 = 48;
 const HELD: u32 = 49;
 // No bit is set from here on.
 const END: u32 = 50;
+
+/// One reference, in the word of a point.
+pub const REFERENCE: u64 = 1 << REFS;
+
+/// The bit of a point's word that says whether it is signaled.
+pub const SIGNAL: u64 = 1 << SIGNALED;
+
+/// The bit of a point's word that says whether it carries an operation.
+pub const CARRYING: u64 = 1 << HELD;
 
 /// What the word of a point says: the operation that it carries, how many references to it there are,
 /// whether its binary sync is signaled, and whether the point is held. This project's own.
@@ -49,16 +59,51 @@ pub fn unpack(word: u64) -> Option<PointWord>
     ensures undone { IfSome result (λ w. bits_of w ≡ word) }
     ensures refused { IsNone result ↔ ((2 ^ 50 ≤ word) ⊎ ((word / 2 ^ 49 % 2 ≡ 0) × (word ≢ 0))) }
 {
-    let held = is_set(word, HELD);
-    if word >> END != 0 || (!held && word != 0) {
+    if word >> END != 0 || (!is_set(word, HELD) && word != 0) {
         return None;
     }
-    Some(PointWord {
-        op: (word & u64::from(u32::MAX)) as u32,
-        refs: (word >> REFS & u64::from(u16::MAX)) as u16,
+    Some(decoded(word))
+}
+
+/// The parts of a word that is known to be a point's.
+pub fn decoded(word: u64) -> PointWord
+    requires small { word < 2 ^ 50 }
+    requires held { ((parts word).held ≡ true) ⊎ (word ≡ 0) }
+    ensures undone { bits_of result ≡ word }
+    ensures parts { parts word ≡ record {
+      op = result.op;
+      refs = result.refs;
+      signaled = result.signaled;
+      held = result.held;
+    } }
+{
+    PointWord {
+        op: carried(word),
+        refs: references(word),
         signaled: is_set(word, SIGNALED),
-        held,
-    })
+        held: is_set(word, HELD),
+    }
+}
+
+/// How many references there are to a point with this word.
+pub fn references(word: u64) -> u16
+    ensures { result ≡ (parts word).refs }
+{
+    (word >> REFS & u64::from(u16::MAX)) as u16
+}
+
+/// Whether a point with this word carries the operation.
+pub fn carries(word: u64, op: u32) -> bool
+    ensures { result ≡ ((parts word).held && ((parts word).op == op)) }
+{
+    is_set(word, HELD) && carried(word) == op
+}
+
+// The operation that a word names.
+fn carried(word: u64) -> u32
+    ensures { result ≡ (parts word).op }
+{
+    (word & u64::from(u32::MAX)) as u32
 }
 
 // Whether a bit of a word is set.

@@ -302,6 +302,21 @@ module _ (k : Kept) (form : LineForm) (words : List (Slot × List ℕ)) (found :
   may_keep (Some b) other st su r p l =
       absurd (let c : nat_lt 0 (part_in other) ≡ true = ap (nat_lt 0) su.part ∙ st.inside in cc)
 
+-- the forms that are built are declarations, commands, lines of the schedule, steps of the host and
+-- the other lines of batches
+pub batch_line_left : (form : LineForm) →
+    is_built form ≡ true → is_declaration form ≡ false →
+    (part_of_form form == 2) ≡ false → is_schedule_line form ≡ false → is_host_line form ≡ false →
+    is_batch_line form ≡ true
+batch_line_left SubmitLine b d p c h = refl
+batch_line_left WaitTimelineLine b d p c h = refl
+batch_line_left WaitBinaryLine b d p c h = refl
+batch_line_left SignalTimelineLine b d p c h = refl
+batch_line_left SignalBinaryLine b d p c h = refl
+batch_line_left BatchFenceLine b d p c h = refl
+batch_line_left EndLine b d p c h = refl
+batch_line_left other b d p c h = absurd (cc)
+
 -- Whether a line's words are read
 
 -- words at open places, as their places with the texts there

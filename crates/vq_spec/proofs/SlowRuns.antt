@@ -141,7 +141,12 @@ module _ (p : Plan) where
   pub slow_exists : (j : ℕ) → has (slow_order p) j ≡ true → j < length p.jobs
   slow_exists = slow_within (length p.jobs) [] (λ j h. absurd (false≢true h))
 
--- zero bytes have the sizes of the plan
+-- zero bytes have the sizes that they were made for
+pub zeros_sized : (sizes : List ℕ) (m : Memory) → m ≡ zeros_of sizes → HasSizes sizes m
+zeros_sized sizes m e =
+    subst (λ (ns : List ℕ). HasSizes ns m) (ap (map length) e ∙ sizes-zeros_of sizes) (has_own_sizes m)
+
+-- .. and those that a plan begins with have the sizes of the plan
 pub zeros_are : (p : Plan) → IsPlan p → (s : Script) → s ≡ p.script → (m : Memory) →
     m ≡ zeros_of (sizes_of s) → (m ≡ zeros p) × (map length m ≡ p.sizes)
 zeros_are p h s e m a =

@@ -42,7 +42,8 @@ fn sizes_of(alloc: Global, script: &Script) -> Result<Vec<u32>, AllocError>
 /// Source: this project's rule.
 pub fn zero_buffers(alloc: Global, script: &Script) -> Result<Buffers, AllocError>
     requires { IsRead script.now }
-    ensures { IfOk result (λ buffers. buffers ≡ zeros_of (sizes_of script.now)) }
+    ensures bytes { IfOk result (λ buffers. buffers ≡ zeros_of (sizes_of script.now)) }
+    ensures sizes { IfOk result (λ buffers. HasSizes (sizes_of script.now) buffers) }
 {
     let sizes = sizes_of(alloc, script)?;
     Buffers::new(alloc, sizes.as_slice())

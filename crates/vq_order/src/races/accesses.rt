@@ -23,7 +23,7 @@ pub(crate) struct Span {
 
 /// What a command of a job writes, and what it reads.
 #[derive(Clone, Copy)]
-pub(crate) struct Access {
+pub(crate) struct MemoryAccess {
     pub(crate) job: u32,
     pub(crate) written: Span,
     pub(crate) read: Option<Span>,
@@ -47,7 +47,7 @@ fn share_some(a: Span, b: Option<Span>) -> bool
 }
 
 /// Whether one command writes a byte that the other one reads or writes.
-pub(crate) fn conflict(a: &Access, b: &Access) -> bool
+pub(crate) fn conflict(a: &MemoryAccess, b: &MemoryAccess) -> bool
     ensures { result ≡ accesses_conflict a.now b.now }
 {
     share(a.written, b.written) || share_some(a.written, b.read) || share_some(b.written, a.read)
@@ -93,13 +93,13 @@ fn read_span(plan: &Plan, command: &Command) -> Option<Span>
 }
 
 /// What a command of this job reads and writes.
-fn access_of(plan: &Plan, c: u32, job: u32) -> Access
+fn access_of(plan: &Plan, c: u32, job: u32) -> MemoryAccess
     requires plan { IsPlan plan.now }
     requires own { has (commands_of plan.now job) c ≡ true }
     ensures { IsAccess plan.now c result }
 {
     let command = &plan.command(c).command;
-    Access {
+    MemoryAccess {
         job,
         written: written_span(plan, command),
         read: read_span(plan, command),
@@ -133,7 +133,7 @@ fn owners(alloc: Global, plan: &Plan) -> Result<Vec<u32>, AllocError>
 }
 
 /// What all commands read and write.
-pub(crate) fn all_accesses(alloc: Global, plan: &Plan) -> Result<Vec<Access>, AllocError>
+pub(crate) fn all_accesses(alloc: Global, plan: &Plan) -> Result<Vec<MemoryAccess>, AllocError>
     requires { IsPlan plan.now }
     ensures accesses { IfOk result (λ accesses. AreAccesses plan.now accesses.items) }
     ensures all { IfOk result (λ accesses. length accesses.items ≡ length plan.now.commands) }

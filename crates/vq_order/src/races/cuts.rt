@@ -4,7 +4,7 @@ ghost use Rattle.std.specs.List.{slice_index_or};
 ghost use Rattle.std.specs.List.Sorted.{IsNonDecreasing};
 ghost use Rattle.vq_order.specs.CellRanges.{axis, starts_of, AreCuts, IsReach};
 
-use crate::races::accesses::{Access, Span};
+use crate::races::accesses::{MemoryAccess, Span};
 use std::alloc::{AllocError, Global};
 
 /// Cells, from the first one up to an end.
@@ -22,7 +22,7 @@ fn on_axis(buffer: u32, offset: u32) -> u64
 }
 
 /// Adds where the ranges of a command begin.
-fn push_starts(cuts: &mut Vec<u64>, access: &Access) -> Result<(), AllocError>
+fn push_starts(cuts: &mut Vec<u64>, access: &MemoryAccess) -> Result<(), AllocError>
     ensures { OnOk result (cuts.new.items ≡ cuts.old.items ++ starts_of access.now) }
 {
     cuts.push(on_axis(access.written.buffer, access.written.start))?;
@@ -33,7 +33,7 @@ fn push_starts(cuts: &mut Vec<u64>, access: &Access) -> Result<(), AllocError>
 }
 
 /// Where the ranges of all commands begin, each place once, in order.
-pub(crate) fn make_cuts(alloc: Global, accesses: &[Access]) -> Result<Vec<u64>, AllocError>
+pub(crate) fn make_cuts(alloc: Global, accesses: &[MemoryAccess]) -> Result<Vec<u64>, AllocError>
     ensures { IfOk result (λ cuts. AreCuts accesses.now cuts.items) }
 {
     let mut cuts = Vec::new(alloc);

@@ -10,7 +10,7 @@ ghost use Rattle.vq_order.specs.Swept.{TouchesAmong, TouchesBy, TouchesIn, Touch
 ghost use Rattle.vq_order.specs.VectorClocks.{IsComplete};
 
 use crate::clocked::Clocked;
-use crate::races::accesses::{Access, Span};
+use crate::races::accesses::{MemoryAccess, Span};
 use crate::races::cells::{Cell, Halt, Touch};
 use crate::races::cuts::{Reach, make_cuts, reach_of};
 use std::alloc::{AllocError, Global};
@@ -46,7 +46,7 @@ impl Sweep<'_> {
     }
 
     /// Goes through the cells that a command reads.
-    fn read(&self, alloc: Global, cells: &mut [Cell], access: &Access) -> Result<(), Halt>
+    fn read(&self, alloc: Global, cells: &mut [Cell], access: &MemoryAccess) -> Result<(), Halt>
         requires fits { FitsSweep self.now.order.now self.now.cuts.now cells.old }
         requires exists { access.now.job < length self.now.order.now.jobs }
         ensures { OnOk result (Sweeps self.now.order.now cells.old cells.new
@@ -59,7 +59,7 @@ impl Sweep<'_> {
     }
 
     /// Goes through the cells of a command.
-    fn command(&self, alloc: Global, cells: &mut [Cell], access: &Access) -> Result<(), Halt>
+    fn command(&self, alloc: Global, cells: &mut [Cell], access: &MemoryAccess) -> Result<(), Halt>
         requires fits { FitsSweep self.now.order.now self.now.cuts.now cells.old }
         requires exists { access.now.job < length self.now.order.now.jobs }
         ensures { OnOk result (Sweeps self.now.order.now cells.old cells.new
@@ -75,7 +75,7 @@ impl Sweep<'_> {
         &self,
         alloc: Global,
         cells: &mut [Cell],
-        accesses: &[Access],
+        accesses: &[MemoryAccess],
         j: u32,
     ) -> Result<(), Halt>
         requires fits { FitsSweep self.now.order.now self.now.cuts.now cells.old }
@@ -93,7 +93,7 @@ impl Sweep<'_> {
     }
 
     /// Goes through commands in the order of the slow run.
-    fn jobs(&self, alloc: Global, cells: &mut [Cell], accesses: &[Access]) -> Result<(), Halt>
+    fn jobs(&self, alloc: Global, cells: &mut [Cell], accesses: &[MemoryAccess]) -> Result<(), Halt>
         requires fits { FitsSweep self.now.order.now self.now.cuts.now cells.old }
         requires accesses { AreAccesses self.now.order.now accesses.now }
         ensures swept { OnOk result (Sweeps self.now.order.now cells.old cells.new
@@ -134,7 +134,7 @@ const MOST_CELLS: usize = 32;
 
 /// Whether ranges overlap so much that comparing all pairs of commands is quicker than going through
 /// their cells.
-pub(crate) fn overlap_much(alloc: Global, accesses: &[Access]) -> Result<bool, AllocError> {
+pub(crate) fn overlap_much(alloc: Global, accesses: &[MemoryAccess]) -> Result<bool, AllocError> {
     let cuts = make_cuts(alloc, accesses)?;
     let cuts = cuts.as_slice();
     let mut count: usize = 0;
@@ -149,7 +149,11 @@ pub(crate) fn overlap_much(alloc: Global, accesses: &[Access]) -> Result<bool, A
 
 /// Goes through the first commands of a plan, in the order of the slow run. The error is a command
 /// that comes after one that it conflicts with and that isn't before it, or want of memory.
-pub(crate) fn go_through(alloc: Global, order: &Clocked, accesses: &[Access]) -> Result<(), Halt>
+pub(crate) fn go_through(
+    alloc: Global,
+    order: &Clocked,
+    accesses: &[MemoryAccess],
+) -> Result<(), Halt>
     requires { AreAccesses order.now accesses.now }
     ensures { OnOk result (HasNoRaceBelow order.now (length accesses.now)) }
 {

@@ -6,8 +6,9 @@ use Rattle.vq_spec.proofs.slow.apply_in_order.Goals as goal
 
 pub loop-j-init : goal.loop-j-init
 loop-j-init c =
+    let made = c.in_ok-buffers.ensures {u = tt} in
     let begins = zeros_are c.args.plan.now c.script.ensures.plan c.script.result.now
-    c.script.ensures.script c.in_ok-buffers.buffers (c.in_ok-buffers.ensures {u = tt}) in
+    c.script.ensures.script c.in_ok-buffers.buffers made.bytes in
     record { bytes = begins.0; sizes = begins.1 }
 
 pub apply_job-requires-clause-exists : goal.apply_job-requires-clause-exists

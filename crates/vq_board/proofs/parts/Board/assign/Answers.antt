@@ -1,17 +1,22 @@
 use Rattle.std.proofs.Common.{arith, ap, sym, refl, subst, ◌∙◌}
-use Rattle.vq_board_laws.proofs.Cited.{assigns_point}
+use Rattle.vq_board_laws.proofs.Cited.{stores_at, assigns_point}
+use Rattle.vq_board_laws.specs.PointSteps.{assigned}
 use Rattle.vq_board.specs.Firsts.{AreCounted}
 use Rattle.vq_board.specs.Hands.{InHand}
 use Rattle.vq_board.proofs.Firsts.{firsts_next}
+use Rattle.vq_board.proofs.StepAt.{stored_step}
 use Rattle.vq_board.proofs.parts.Board.assign.Goals as goal
 
 pub store-requires : goal.store-requires
-store-requires c = (c.requires.board.0, omega (arith, c.args.self.now.sized, c.requires.exists), assigns_point _ _ _ _ _ _ c.requires.may c.requires.exists (omega arith))
+store-requires c = (c.requires.board.0, omega (arith, c.point_word.ensures, c.args.self.now.sized, c.requires.exists), stores_at _ _ _ _ assigned _ _ c.point_word.ensures _ (assigns_point _ _ _ _ _ _ c.requires.may c.requires.exists (omega arith)))
 
 pub invariant_of-pass : goal.invariant_of-pass
 invariant_of-pass c =
-    let told = c.store.ensures.2 c.args.point c.args.op refl refl in
+    let told = c.store.ensures.2.0 c.args.point c.args.op c.point_word.ensures refl in
     record { running = c.args.pass.now.running ∙ sym (ap (λ m. m.0.runs) told); hand = subst InHand (sym told) c.args.pass.now.hand; firsts = subst (AreCounted c.args.pass.now.first_made.items) (sym told) (firsts_next _ _ _ _ c.args.pass.now.firsts) }
 
-pub returns : goal.returns
-returns c = (c.store.ensures.0, refl, ap (λ m. m.0) (c.store.ensures.2 c.args.point c.args.op refl refl), refl)
+pub returns-clause-pass : goal.returns-clause-pass
+returns-clause-pass c = (c.store.ensures.0, refl, ap (λ m. m.0) (c.store.ensures.2.0 c.args.point c.args.op c.point_word.ensures refl), refl)
+
+pub returns-clause-step : goal.returns-clause-step
+returns-clause-step c = stored_step _ _ _ _ _ _ _ c.requires.board.1 c.point_word.ensures c.store.ensures.2.1

@@ -1,13 +1,13 @@
-use Rattle.std.proofs.Common.{◌≡◌, ℕ, true, false, arith, ap, sym, refl, subst, ◌∙◌, inr}
+use Rattle.std.proofs.Common.{◌≡◌, ℕ, true, false, arith, ap, sym, subst, ◌∙◌, inr}
 use mathlib.Core.Logic.{dite}
 use native.Mathlib.Decide.{ℕ_discrete}
 use Rattle.std.proofs.lemmas.Bool.{and_parts, and_from, eqb-true, eq-eqb, false≢true}
 use Rattle.vq_points.specs.PointWord.{parts}
 use Rattle.vq_board_laws.specs.declared.view.View.{View}
 use Rattle.vq_board_laws.specs.MayPoints.{MayRefer}
-use Rattle.vq_board_laws.specs.PointSteps.{carries, refers, misses_point}
+use Rattle.vq_board_laws.specs.PointSteps.{carries, refers, misses_point, referred}
 use Rattle.vq_board_laws.specs.Words.{Carries}
-use Rattle.vq_board_laws.proofs.Cited.{refers_point}
+use Rattle.vq_board_laws.proofs.Cited.{exchanges_at, refers_point}
 use Rattle.vq_board.specs.Firsts.{AreCounted}
 use Rattle.vq_board.specs.Hands.{InHand}
 use Rattle.vq_board.proofs.parts.Board.refer.Goals as goal
@@ -24,39 +24,39 @@ compare_exchange-found-requires c =
     let seen = c.load_point-loaded.ensures.pass in
     let may = c.requires.may in (
       seen.0 ∙ c.requires.board.0,
-      omega (arith, c.args.self.now.sized, c.requires.exists),
-      refers_point _ _ _ _ _ c.args.op _ (subst (λ (v : View). MayRefer c.args.self.now.table.shared.key v) (sym seen.2) record { lane = may.lane; runner = may.runner; room = may.room }) (carried _ _ (sym c.carries.ensures ∙ c.if-not-carries.false)) c.requires.exists,
+      omega (arith, c.point_word.ensures, c.args.self.now.sized, c.requires.exists),
+      exchanges_at _ _ _ _ referred _ _ c.point_word.ensures _ _ (refers_point _ _ _ _ _ c.args.op _ (subst (λ (v : View). MayRefer c.args.self.now.table.shared.key v) (sym seen.2) record { lane = may.lane; runner = may.runner; room = may.room }) (carried _ _ (sym c.carries.ensures ∙ c.if-not-carries.false)) c.requires.exists),
     )
 
 pub invariant_of-pass : goal.invariant_of-pass
 invariant_of-pass c =
-    let told = c.compare_exchange-found.ensures.2 c.args.point refl in
+    let told = c.compare_exchange-found.ensures.2.0 c.args.point c.point_word.ensures in
     let hand = c.load_point-loaded.new.pass.hand in
     dite (ℕ_discrete c.compare_exchange-found.result c.load_point-loaded.result)
     (λ is. record { running = c.load_point-loaded.new.pass.running ∙ sym (ap (λ m. m.0.runs) (told.0 is)); hand = subst InHand (sym (told.0 is)) hand; firsts = subst (AreCounted c.load_point-loaded.new.pass.first_made.items) (sym (told.0 is)) c.load_point-loaded.new.pass.firsts })
     (λ ne. record { running = c.load_point-loaded.new.pass.running ∙ sym (ap (λ m. m.0.runs) (told.1 ne)); hand = subst InHand (sym (told.1 ne)) hand; firsts = subst (AreCounted c.load_point-loaded.new.pass.first_made.items) (sym (told.1 ne)) c.load_point-loaded.new.pass.firsts })
 
-pub returns-then-found-loaded : goal.returns-then-found-loaded
-returns-then-found-loaded c =
+pub returns-then-found-loaded-clause-pass : goal.returns-then-found-loaded-clause-pass
+returns-then-found-loaded-clause-pass c =
     let seen = c.load_point-loaded.ensures.pass in
     let is = c.if-found-loaded.true in
-    let told = (c.compare_exchange-found.ensures.2 c.args.point refl).0 is in
+    let told = (c.compare_exchange-found.ensures.2.0 c.args.point c.point_word.ensures).0 is in
     let carry = carried c.load_point-loaded.result c.args.op (sym c.carries.ensures ∙ c.if-not-carries.false) in
     let op = ap (λ (n : ℕ). (parts n).op) is ∙ carry.op in
     (c.load_point-loaded.result, carry, (c.compare_exchange-found.ensures.0 ∙ seen.0, seen.1, ap (λ m. m.0) told ∙ (λ i. refers (seen.2 i) c.args.point (op i) (is i)), seen.3))
 
-pub returns-then-carries : goal.returns-then-carries
-returns-then-carries c =
+pub returns-then-carries-clause-pass : goal.returns-then-carries-clause-pass
+returns-then-carries-clause-pass c =
     let seen = c.load_point-loaded.ensures.pass in
-    let told = (c.compare_exchange-found.ensures.2 c.args.point refl).1 c.if-found-loaded.false in (
+    let told = (c.compare_exchange-found.ensures.2.0 c.args.point c.point_word.ensures).1 c.if-found-loaded.false in (
       carried c.compare_exchange-found.result c.args.op (sym c.carries-else-found-loaded.ensures ∙ c.if-carries.true),
       (c.load_point-loaded.result, c.if-found-loaded.false, (c.compare_exchange-found.ensures.0 ∙ seen.0, seen.1, ap (λ m. m.0) told ∙ ap (λ (v : View). misses_point v c.args.point c.compare_exchange-found.result) seen.2, seen.3)),
     )
 
-pub returns-else-carries : goal.returns-else-carries
-returns-else-carries c =
+pub returns-else-carries-clause-pass : goal.returns-else-carries-clause-pass
+returns-else-carries-clause-pass c =
     let seen = c.load_point-loaded.ensures.pass in
-    let told = (c.compare_exchange-found.ensures.2 c.args.point refl).1 c.if-found-loaded.false in (
+    let told = (c.compare_exchange-found.ensures.2.0 c.args.point c.point_word.ensures).1 c.if-found-loaded.false in (
       not_carried c.compare_exchange-found.result c.args.op (sym c.carries-else-found-loaded.ensures ∙ c.if-carries.false),
       inr (c.load_point-loaded.result, c.if-found-loaded.false, (c.compare_exchange-found.ensures.0 ∙ seen.0, seen.1, ap (λ m. m.0) told ∙ ap (λ (v : View). misses_point v c.args.point c.compare_exchange-found.result) seen.2, seen.3)),
     )

@@ -1,11 +1,11 @@
-use Rattle.std.proofs.Common.{◌≡◌, arith, ap, sym, refl, subst, ◌∙◌, inr}
+use Rattle.std.proofs.Common.{◌≡◌, arith, ap, sym, subst, ◌∙◌, inr}
 use mathlib.Core.Logic.{dite}
 use native.Mathlib.Decide.{ℕ_discrete}
 use Rattle.vq_points.specs.PointWord.{parts}
 use Rattle.vq_board_laws.specs.declared.view.View.{View}
 use Rattle.vq_board_laws.specs.MayPoints.{MayRetire}
-use Rattle.vq_board_laws.specs.PointSteps.{retires, misses_point}
-use Rattle.vq_board_laws.proofs.Cited.{retires_point}
+use Rattle.vq_board_laws.specs.PointSteps.{retires, misses_point, retired}
+use Rattle.vq_board_laws.proofs.Cited.{exchanges_at, retires_point}
 use Rattle.vq_board.specs.Firsts.{AreCounted}
 use Rattle.vq_board.specs.Hands.{InHand}
 use Rattle.vq_board.proofs.parts.Board.retire.Goals as goal
@@ -17,13 +17,13 @@ compare_exchange-found-requires c =
     let may = c.requires.may.1 in
     let none_left : (parts c.load_point-loaded.result).refs ≡ 0 = grind arith in (
       seen.0 ∙ c.requires.board.0,
-      omega (arith, c.args.self.now.sized, c.requires.exists),
-      retires_point _ _ _ _ _ e _ (subst (λ (v : View). MayRetire c.args.self.now.table.shared.key v c.args.point e) (sym seen.2) record { carries = may.carries; past = may.past }) none_left c.requires.exists,
+      omega (arith, c.point_word.ensures, c.args.self.now.sized, c.requires.exists),
+      exchanges_at _ _ _ _ retired _ _ c.point_word.ensures _ _ (retires_point _ _ _ _ _ e _ (subst (λ (v : View). MayRetire c.args.self.now.table.shared.key v c.args.point e) (sym seen.2) record { carries = may.carries; past = may.past }) none_left c.requires.exists),
     )
 
 pub invariant_of-pass : goal.invariant_of-pass
 invariant_of-pass c =
-    let told = c.compare_exchange-found.ensures.2 c.args.point refl in
+    let told = c.compare_exchange-found.ensures.2.0 c.args.point c.point_word.ensures in
     let hand = c.load_point-loaded.new.pass.hand in
     dite (ℕ_discrete c.compare_exchange-found.result c.load_point-loaded.result)
     (λ is. record { running = c.load_point-loaded.new.pass.running ∙ sym (ap (λ m. m.0.runs) (told.0 is)); hand = subst InHand (sym (told.0 is)) hand; firsts = subst (AreCounted c.load_point-loaded.new.pass.first_made.items) (sym (told.0 is)) c.load_point-loaded.new.pass.firsts })
@@ -34,11 +34,11 @@ returns-then-found-loaded-clause-freed c =
     let seen = c.load_point-loaded.ensures.pass in
     let is = c.if-found-loaded.true in
     let none_left : (parts c.load_point-loaded.result).refs ≡ 0 = grind arith in
-    let told = (c.compare_exchange-found.ensures.2 c.args.point refl).0 is in
+    let told = (c.compare_exchange-found.ensures.2.0 c.args.point c.point_word.ensures).0 is in
     (c.load_point-loaded.result, none_left, (c.compare_exchange-found.ensures.0 ∙ seen.0, seen.1, ap (λ m. m.0) told ∙ (λ i. retires (seen.2 i) c.args.point (is i)), seen.3))
 
 pub returns-else-found-loaded-clause-in_use : goal.returns-else-found-loaded-clause-in_use
 returns-else-found-loaded-clause-in_use c =
     let seen = c.load_point-loaded.ensures.pass in
-    let told = (c.compare_exchange-found.ensures.2 c.args.point refl).1 c.if-found-loaded.false in
+    let told = (c.compare_exchange-found.ensures.2.0 c.args.point c.point_word.ensures).1 c.if-found-loaded.false in
     inr (c.load_point-loaded.result, c.if-found-loaded.false, (c.compare_exchange-found.ensures.0 ∙ seen.0, seen.1, ap (λ m. m.0) told ∙ ap (λ (v : View). misses_point v c.args.point c.compare_exchange-found.result) seen.2, seen.3))

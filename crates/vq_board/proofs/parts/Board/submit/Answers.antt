@@ -1,18 +1,23 @@
 use Rattle.std.proofs.Common.{arith, ap, sym, refl, subst, ◌∙◌}
 use Rattle.vq_model.proofs.Plans.{batch_exists}
-use Rattle.vq_board_laws.proofs.Cited.{submits_job}
+use Rattle.vq_board_laws.proofs.Cited.{stores_at, submits_job}
+use Rattle.vq_board_laws.specs.Steps.{submitted}
 use Rattle.vq_board.specs.Firsts.{AreCounted}
 use Rattle.vq_board.specs.Hands.{InHand}
 use Rattle.vq_board.proofs.Firsts.{firsts_next}
+use Rattle.vq_board.proofs.StepAt.{stored_step}
 use Rattle.vq_board.proofs.parts.Board.submit.Goals as goal
 
 pub store-requires : goal.store-requires
-store-requires c = (c.requires.board.0, omega (arith, c.args.self.now.sized, batch_exists c.args.self.now.table.shared.key c.args.job c.requires.may.batch), submits_job _ _ _ _ _ c.requires.may)
+store-requires c = (c.requires.board.0, omega (arith, c.job_word.ensures, c.args.self.now.sized, batch_exists c.args.self.now.table.shared.key c.args.job c.requires.may.batch), stores_at _ _ _ _ submitted _ _ c.job_word.ensures 1 (submits_job _ _ _ _ _ c.requires.may))
 
 pub invariant_of-pass : goal.invariant_of-pass
 invariant_of-pass c =
-    let told = c.store.ensures.2 c.args.job refl in
+    let told = c.store.ensures.2.0 c.args.job c.job_word.ensures in
     record { running = c.args.pass.now.running ∙ sym (ap (λ m. m.0.runs) told); hand = subst InHand (sym told) c.args.pass.now.hand; firsts = subst (AreCounted c.args.pass.now.first_made.items) (sym told) (firsts_next _ _ _ _ c.args.pass.now.firsts) }
 
-pub returns : goal.returns
-returns c = (c.store.ensures.0, refl, ap (λ m. m.0) (c.store.ensures.2 c.args.job refl), refl)
+pub returns-clause-pass : goal.returns-clause-pass
+returns-clause-pass c = (c.store.ensures.0, refl, ap (λ m. m.0) (c.store.ensures.2.0 c.args.job c.job_word.ensures), refl)
+
+pub returns-clause-step : goal.returns-clause-step
+returns-clause-step c = stored_step _ _ _ _ _ _ _ c.requires.board.1 c.job_word.ensures c.store.ensures.2.1

@@ -1,7 +1,8 @@
-use Rattle.std.proofs.Common.{arith, sym, ◌∙◌}
-use Rattle.vq_board_laws.proofs.Cited.{takes_memory_as}
+use Rattle.std.proofs.Common.{arith, sym, ◌∙◌, refl}
+use Rattle.vq_board_laws.specs.Steps.{took_turn}
+use Rattle.vq_board_laws.proofs.Cited.{exchanges_at, takes_memory_as}
 use Rattle.vq_board.proofs.parts.Board.take_memory.Goals as goal
 
 pub compare_exchange-found-requires : goal.compare_exchange-found-requires
 compare_exchange-found-requires c =
-    (c.requires.board.0, omega (arith, c.args.self.now.sized), takes_memory_as _ _ _ _ _ (sym c.args.pass.now.running ∙ c.in-Some.is) c.requires.turnless)
+    (c.requires.board.0, omega (arith, c.args.self.now.sized), exchanges_at _ _ _ _ took_turn _ _ refl _ _ (takes_memory_as _ _ _ _ _ (sym c.args.pass.now.running ∙ c.in-Some.is) c.requires.turnless))

@@ -1,11 +1,11 @@
-use Rattle.std.proofs.Common.{ℕ, arith, ap, sym, refl, subst, ◌∙◌}
+use Rattle.std.proofs.Common.{ℕ, arith, ap, sym, subst, ◌∙◌}
 use mathlib.Core.Logic.{dite}
 use native.Mathlib.Decide.{ℕ_discrete}
 use Rattle.vq_points.specs.PointWord.{parts}
 use Rattle.vq_board_laws.specs.declared.view.View.{View}
 use Rattle.vq_board_laws.specs.Points.{reference, Lists}
-use Rattle.vq_board_laws.specs.PointSteps.{unrefers, misses_point}
-use Rattle.vq_board_laws.proofs.Cited.{unrefers_point}
+use Rattle.vq_board_laws.specs.PointSteps.{unrefers, misses_point, unreferred}
+use Rattle.vq_board_laws.proofs.Cited.{exchanges_at, unrefers_point}
 use Rattle.vq_board.specs.Firsts.{AreCounted}
 use Rattle.vq_board.specs.Hands.{InHand}
 use Rattle.vq_board.proofs.parts.Board.unrefer.Goals as goal
@@ -14,13 +14,13 @@ pub compare_exchange-found-requires : goal.compare_exchange-found-requires
 compare_exchange-found-requires c =
     let seen = c.load_point-loaded.ensures.pass in (
       seen.0 ∙ c.requires.board.0,
-      omega (arith, c.args.self.now.sized, c.requires.exists),
-      unrefers_point _ _ _ _ _ c.args.op _ (subst (λ (v : View). Lists v.refs (reference c.args.point c.args.op)) (sym seen.2) c.requires.holds) (c.load_point-loaded.ensures.referred c.args.op c.requires.holds) c.requires.exists,
+      omega (arith, c.point_word.ensures, c.args.self.now.sized, c.requires.exists),
+      exchanges_at _ _ _ _ unreferred _ _ c.point_word.ensures _ _ (unrefers_point _ _ _ _ _ c.args.op _ (subst (λ (v : View). Lists v.refs (reference c.args.point c.args.op)) (sym seen.2) c.requires.holds) (c.load_point-loaded.ensures.referred c.args.op c.requires.holds) c.requires.exists),
     )
 
 pub invariant_of-pass : goal.invariant_of-pass
 invariant_of-pass c =
-    let told = c.compare_exchange-found.ensures.2 c.args.point refl in
+    let told = c.compare_exchange-found.ensures.2.0 c.args.point c.point_word.ensures in
     let hand = c.load_point-loaded.new.pass.hand in
     dite (ℕ_discrete c.compare_exchange-found.result c.load_point-loaded.result)
     (λ is. record { running = c.load_point-loaded.new.pass.running ∙ sym (ap (λ m. m.0.runs) (told.0 is)); hand = subst InHand (sym (told.0 is)) hand; firsts = subst (AreCounted c.load_point-loaded.new.pass.first_made.items) (sym (told.0 is)) c.load_point-loaded.new.pass.firsts })
@@ -30,12 +30,12 @@ pub returns-then-found-loaded-clause-given : goal.returns-then-found-loaded-clau
 returns-then-found-loaded-clause-given c =
     let seen = c.load_point-loaded.ensures.pass in
     let is = c.if-found-loaded.true in
-    let told = (c.compare_exchange-found.ensures.2 c.args.point refl).0 is in
+    let told = (c.compare_exchange-found.ensures.2.0 c.args.point c.point_word.ensures).0 is in
     let op = ap (λ (n : ℕ). (parts n).op) is ∙ (c.load_point-loaded.ensures.referred c.args.op c.requires.holds).op in
     (c.load_point-loaded.result, (c.compare_exchange-found.ensures.0 ∙ seen.0, seen.1, ap (λ m. m.0) told ∙ (λ i. unrefers (seen.2 i) c.args.point (op i) (is i)), seen.3))
 
 pub returns-else-found-loaded-clause-lost : goal.returns-else-found-loaded-clause-lost
 returns-else-found-loaded-clause-lost c =
     let seen = c.load_point-loaded.ensures.pass in
-    let told = (c.compare_exchange-found.ensures.2 c.args.point refl).1 c.if-found-loaded.false in
+    let told = (c.compare_exchange-found.ensures.2.0 c.args.point c.point_word.ensures).1 c.if-found-loaded.false in
     (c.load_point-loaded.result, c.if-found-loaded.false, (c.compare_exchange-found.ensures.0 ∙ seen.0, seen.1, ap (λ m. m.0) told ∙ ap (λ (v : View). misses_point v c.args.point c.compare_exchange-found.result) seen.2, seen.3))

@@ -7,7 +7,7 @@ use Rattle.vq_model.specs.Plan.{Plan}
 use Rattle.vq_model.proofs.Plans.{batch_exists}
 use Rattle.vq_points.specs.Points.{CanRelease, after_event}
 use Rattle.vq_history_laws.specs.Histories.{points_after}
-use Rattle.vq_core.specs.declared.table.JobState.{JobState}
+use Rattle.vq_core.specs.declared.table.JobRecord.{JobRecord}
 use Rattle.vq_core.specs.CoreState.{Course, world}
 use Rattle.vq_core.specs.Lanes.{AreLanes, no_lane}
 use Rattle.vq_core.specs.Tables.{AreJobs, IsJobState}
@@ -100,7 +100,7 @@ invariant_of-self c =
     (record {
       earlier = t.earlier;
       submitted = t.submitted;
-      jobs = subst (λ (xs : List JobState). AreJobs p (after_event p w x).released (after_event p w
+      jobs = subst (λ (xs : List JobRecord). AreJobs p (after_event p w x).released (after_event p w
           x).machine.progress.started (after_event p w x).machine.progress.finished w.machine.progress.made
           w.machine.progress.applied xs) (sym c.put.ensures)
           (jobs_released p w.released w.machine.progress.started w.machine.progress.finished w.machine.progress.made

@@ -4,7 +4,7 @@ use Rattle.vq_model.specs.Machine.{put}
 use Rattle.vq_model.specs.Plan.{question, asked}
 use Rattle.vq_points.specs.Points.{CanStartNow, after_event}
 use Rattle.vq_history_laws.specs.Histories.{points_after}
-use Rattle.vq_core.specs.declared.table.JobState.{JobState}
+use Rattle.vq_core.specs.declared.table.JobRecord.{JobRecord}
 use Rattle.vq_core.specs.CoreState.{Course, world}
 use Rattle.vq_core.specs.AnswerStates.{AreAnswerStates, IsAnswerState, is_asked_reached, payload_read}
 use Rattle.vq_core.specs.Tables.{AreJobs, IsJobState}
@@ -51,7 +51,7 @@ invariant_of-self c =
     (record {
       earlier = t.earlier;
       submitted = t.submitted;
-      jobs = subst (λ (xs : List JobState). AreJobs p (after_event p w x).released (after_event p w
+      jobs = subst (λ (xs : List JobRecord). AreJobs p (after_event p w x).released (after_event p w
           x).machine.progress.started (after_event p w x).machine.progress.finished w.machine.progress.made
           w.machine.progress.applied xs) (sym c.put-2.ensures)
           (jobs_started p w.released w.machine.progress.started w.machine.progress.finished w.machine.progress.made

@@ -1,7 +1,7 @@
 use Rattle.std.proofs.Common.{◌≡◌, ◌++◌, ◌∷◌, [], ℕ, List, length, Some, sym, ap, ◌∙◌, inl, inr, subst, arith, length-append, rules}
 use Rattle.std.specs.List.{slice_get}
 use Rattle.vq_order.specs.Accessed.{IsAccess}
-use Rattle.vq_order.specs.declared.races.accesses.Access.{Access}
+use Rattle.vq_order.specs.declared.races.accesses.MemoryAccess.{MemoryAccess}
 use Rattle.vq_order.proofs.Marking.{last_item_cases}
 use Rattle.vq_order.proofs.races.accesses.all_accesses.Goals as goal
 
@@ -15,8 +15,8 @@ loop-c-preserved c =
     let m = ap length e in
     let k = c.loop-c.invariant.0 in (
       (omega arith),
-      (λ i b g. elim (last_item_cases xs a i b (subst (λ (ys : List Access). slice_get ys i ≡ Some b) e g)) [
+      (λ i b g. elim (last_item_cases xs a i b (subst (λ (ys : List MemoryAccess). slice_get ys i ≡ Some b) e g)) [
         | inl h ↦ c.loop-c.invariant.1 i b h
-        | inr q ↦ subst (λ (z : ℕ × Access). IsAccess p z.0 z.1) (λ t. (sym (q.0 ∙ k) t, sym q.1 t)) c.access_of.ensures
+        | inr q ↦ subst (λ (z : ℕ × MemoryAccess). IsAccess p z.0 z.1) (λ t. (sym (q.0 ∙ k) t, sym q.1 t)) c.access_of.ensures
       ]),
     )

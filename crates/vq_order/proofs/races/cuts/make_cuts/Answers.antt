@@ -3,7 +3,7 @@ use Rattle.std.specs.List.{flat_map}
 use Rattle.std.proofs.lemmas.List.{take_all}
 use Rattle.std.proofs.lemmas.List.Filters.{dedup_is}
 use Rattle.vq_order.specs.CellRanges.{starts_of}
-use Rattle.vq_order.specs.declared.races.accesses.Access.{Access}
+use Rattle.vq_order.specs.declared.races.accesses.MemoryAccess.{MemoryAccess}
 use Rattle.vq_order.proofs.CutLaws.{cuts_from}
 use Rattle.vq_order.proofs.races.cuts.make_cuts.Goals as goal
 
@@ -12,4 +12,4 @@ returns c =
     let xs = c.args.accesses.now in
     let i = c.loop-access.access-index in
     let all : take i xs ≡ xs = take_all i xs c.loop-access-test.false in
-    cuts_from xs c.loop-access.cuts.items c.sort_unstable.new.self.items c.dedup.new.self.items (c.loop-access.invariant ∙ ap (λ (ys : List Access). flat_map starts_of ys) all) c.sort_unstable.ensures.permutation c.sort_unstable.ensures.sorted (dedup_is eqb c.sort_unstable.new.self.items c.dedup.new.self.items c.dedup.ensures.filtered)
+    cuts_from xs c.loop-access.cuts.items c.sort_unstable.new.self.items c.dedup.new.self.items (c.loop-access.invariant ∙ ap (λ (ys : List MemoryAccess). flat_map starts_of ys) all) c.sort_unstable.ensures.permutation c.sort_unstable.ensures.sorted (dedup_is eqb c.sort_unstable.new.self.items c.dedup.new.self.items c.dedup.ensures.filtered)

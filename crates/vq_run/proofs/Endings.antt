@@ -1,0 +1,354 @@
+-- What a run leaves in the sink, from the outcome of its input and from what writing it left.
+use Rattle.std.proofs.Common.{◌≡◌, ℕ, ◌<◌, ◌≤◌, List, length, Option, Some, None, IfSome, refl, subst, sym, arith, ap, ◌∙◌}
+use Rattle.std.specs.Prelude.{Result, Ok, Err, IfOk, OnSome, []}
+use Rattle.std.proofs.lemmas.List.Elements.{All-nil}
+use Rattle.vq_model.specs.declared.script.Script.{Script}
+use Rattle.vq_model.specs.declared.plan.PlanFault.{PlanFault}
+use Rattle.vq_model.specs.declared.plan.PlanFault.TheVariants.{NoSignal, SignaledTwice, FenceUsed, Memory as NoMemoryToLower}
+use Rattle.vq_model.specs.declared.plan.OrderFault.{OrderFault}
+use Rattle.vq_model.specs.declared.plan.OrderFault.TheVariants.{Unreachable, Unordered, FenceBusy, NotPending, Race, Memory as NoMemoryToCheck}
+use Rattle.vq_model.specs.declared.statement.FaultKind.{FaultKind}
+use Rattle.vq_model.specs.Reading.{StandsFor, IsFirstFault}
+use Rattle.vq_model.specs.Lowering.{plan_of}
+use Rattle.vq_model.specs.LoweringFaults.{lowering_fault, IsFirstLoweringFault, IsPlan, Lowers}
+use Rattle.vq_model.specs.Plan.{Plan}
+use Rattle.vq_model.specs.Checks.{IsLawful, IsFirstPlanFault, Checks}
+use Rattle.vq_model.specs.declared.statement.Form.TheVariants.{Plain, Scheduled}
+use Rattle.vq_model.specs.declared.script.Turn.{Turn}
+use Rattle.vq_model.specs.SameScript.{IsRead}
+use Rattle.vq_model.specs.ValidScripts.{IsActor}
+use Rattle.vq_reading_laws.proofs.Cited.{read_turns}
+use Rattle.vq_words.specs.declared.task.WordsFault.{WordsFault}
+use Rattle.vq_words.specs.declared.task.WordsFault.TheVariants.{Bad, Memory as NoMemoryForWords}
+use Rattle.vq_words.specs.Grammar.{Gives}
+use Rattle.vq_run.specs.Tasks.{form_of, input_of, planned, turns_for, RunsThreads}
+use Rattle.vq_model.specs.Outputs.{IsOutput}
+use Rattle.vq_plan_laws.proofs.Cited.{kept_read, moved_read}
+use Rattle.vq_model.specs.Refusals.{too_long, line_refusal, plan_refusal, order_refusal}
+use Rattle.vq_order_laws.proofs.Cited.{lawful_without_fault}
+use Rattle.vq_words.specs.declared.task.Task.{Task}
+use Rattle.vq_words.specs.declared.task.Task.TheVariants.{Run, Check, Replay, Generate}
+use Rattle.vq_run.specs.declared.status.Status.{Status}
+use Rattle.vq_run.specs.declared.status.Status.TheVariants.{Done, BadWords, Refused, ReadFault, WriteFault, Memory}
+use Rattle.vq_run.specs.Outcomes.{IsOutcome, is_too_long, has_faulty_line, has_no_plan, is_unlawful, gives_answer, Ends, AnswersTask, RefusesPlan, RefusesOrder, ReadsToEnd, IsLawfulInput, IsDoneOrMemory, input_limit}
+use Rattle.vq_run.specs.Outcomes.{IsReadFor, ArePlayable, IsTrace, IsLawfulPlan, EndsForWords, WritesNothing}
+use Rattle.vq_port.specs.Faults.{Rose}
+use Rattle.vq_port.specs.declared.read.ReadFault.{ReadFault as Unread}
+use Rattle.vq_port.specs.declared.read.ReadFault.TheVariants.{Failed, TooLong, Memory as NoMemoryToRead}
+use Rattle.vq_run.specs.declared.outcome.Outcome.{Outcome}
+use Rattle.vq_run.specs.Writes.{SinkMoment, WroteAll, WroteNothing, Writes, wrote_all, wrote_part, EndsWith, EndsUnread}
+
+-- a whole outcome was written
+whole_ends : (task : Task) (input : List ℕ) (status : Status) (text : List ℕ) (before now : SinkMoment) →
+    IsOutcome task input status text → WroteAll text before now → Ends task input status before now
+whole_ends task input Done text before now o a = (text, o, a)
+whole_ends task input Refused text before now o a = (text, o, a)
+whole_ends task input BadWords text before now o a = elim o [ ]
+whole_ends task input ReadFault text before now o a = elim o [ ]
+whole_ends task input WriteFault text before now o a = elim o [ ]
+whole_ends task input Memory text before now o a = elim o [ ]
+
+-- an outcome was written, whole or in part
+pub outcome_ends : (task : Task) (input : List ℕ) (status result : Status) (text : List ℕ) (before now : SinkMoment) →
+    IsOutcome task input status text → Writes text status result before now →
+    Ends task input result before now
+outcome_ends task input status result text before now o (wrote_all same a) =
+    subst (λ s. Ends task input s before now) (sym same) (whole_ends task input status text before now o a)
+outcome_ends task input status result text before now o (wrote_part same a rose) =
+    subst (λ s. Ends task input s before now) (sym same) (status, text, o, a)
+
+-- Endings by what an input came to
+
+-- A fault of writing was counted: an outcome has no such status of its own.
+writing_rose : (task : Task) (input text : List ℕ) (status result : Status) (before now : SinkMoment) →
+    IsOutcome task input status text → Writes text status result before now → result ≡ WriteFault →
+    Rose before.faults now.faults
+writing_rose task input text status result before now o (wrote_part same part rose) e = rose
+writing_rose task input text status result before now o (wrote_all same all) e =
+    absurd (not_failed status o (sym same ∙ e))
+  where
+    not_failed : (s : Status) → IsOutcome task input s text → s ≡ WriteFault → ⊥
+    not_failed Done o e = cc
+    not_failed Refused o e = cc
+    not_failed Memory o e = cc
+    not_failed BadWords o e = cc
+    not_failed ReadFault o e = cc
+    not_failed WriteFault o e = elim o [ ]
+
+module _ {E : Type 0} (task : Task) (input : List ℕ) (result : Status) (before now : SinkMoment) where
+  pub came_to : (came : Result Outcome E) → IfOk came (λ o. IsOutcome task input o.status o.text.items) →
+      EndsWith came result before now → Ends task input result before now
+  came_to (Ok o) is w = outcome_ends task input o.status result o.text.items before now is (w.outcome o refl)
+  came_to (Err e) is w =
+      let nothing = w.memory e refl in subst (λ s. Ends task input s before now) (sym nothing.0) nothing.1
+
+  pub came_to_rose : (came : Result Outcome E) → IfOk came (λ o. IsOutcome task input o.status o.text.items) →
+      EndsWith came result before now → result ≡ WriteFault → Rose before.faults now.faults
+  came_to_rose (Ok o) is w e =
+      writing_rose task input o.text.items o.status result before now is (w.outcome o refl) e
+  came_to_rose (Err x) is w e = absurd (let same = (w.memory x refl).0 in cc)
+
+  pub came_to_unfailed : (came : Result Outcome E) → IfOk came (λ o. IsOutcome task input o.status o.text.items) →
+      EndsWith came result before now → result ≡ ReadFault → ⊥
+  came_to_unfailed (Ok o) is w e = by_writing (w.outcome o refl)
+    where
+      not_failed : (s : Status) → IsOutcome task input s o.text.items → s ≡ ReadFault → ⊥
+      not_failed Done o e = cc
+      not_failed Refused o e = cc
+      not_failed Memory o e = cc
+      not_failed BadWords o e = cc
+      not_failed WriteFault o e = cc
+      not_failed ReadFault o e = elim o [ ]
+
+      by_writing : Writes o.text.items o.status result before now → ⊥
+      by_writing (wrote_part same part rose) = let f = sym same ∙ e in cc
+      by_writing (wrote_all same all) = not_failed o.status is (sym same ∙ e)
+  came_to_unfailed (Err x) is w e = let same = (w.memory x refl).0 in cc
+
+-- the words are not to blame
+pub ends_not_bad : (task : Task) (input : List ℕ) (result : Status) (before now : SinkMoment) →
+    Ends task input result before now → result ≡ BadWords → ⊥
+ends_not_bad task input result before now e is = subst (λ s. Ends task input s before now) is e
+
+-- what leaves the sink as it was
+pub ends_nothing : (task : Task) (input : List ℕ) (result : Status) (before now : SinkMoment) →
+    Ends task input result before now → WritesNothing result before now
+ends_nothing task input Done before now e = tt
+ends_nothing task input Refused before now e = tt
+ends_nothing task input WriteFault before now e = tt
+ends_nothing task input ReadFault before now e = e
+ends_nothing task input Memory before now e = e
+ends_nothing task input BadWords before now e = tt
+
+-- for an input that the source told
+pub told_ends : (task : Task) (left : Option (List ℕ)) (bytes : List ℕ) (result : Status) (before now : SinkMoment) →
+    IfSome left (λ all. bytes ≡ all) → Ends task bytes result before now →
+    IfSome left (λ input. Ends task input result before now)
+told_ends task None bytes result before now same e = tt
+told_ends task (Some input) bytes result before now same e =
+    subst (λ all. Ends task all result before now) same e
+
+-- Endings of a source that wasn't read whole
+
+module _ (result : Status) (before now : SinkMoment) where
+  pub unread_ends : (task : Task) (left : Option (List ℕ)) (fault : Unread) →
+      (fault ≡ TooLong → IfSome left (λ all. input_limit < length all)) → EndsUnread fault result before now →
+      IfSome left (λ input. Ends task input result before now)
+  unread_ends task None fault long w = tt
+  unread_ends task (Some input) Failed long w =
+      let nothing = w.failed refl in subst (λ s. Ends task input s before now) (sym nothing.0) nothing.1
+  unread_ends task (Some input) NoMemoryToRead long w =
+      let nothing = w.memory refl in subst (λ s. Ends task input s before now) (sym nothing.0) nothing.1
+  unread_ends task (Some input) TooLong long w =
+      outcome_ends task input Refused result too_long before now (is_too_long (long refl)) (w.long refl)
+
+  pub unread_failed : (fault : Unread) → EndsUnread fault result before now → result ≡ ReadFault → fault ≡ Failed
+  unread_failed Failed w e = refl
+  unread_failed NoMemoryToRead w e = absurd (let same = (w.memory refl).0 in cc)
+  unread_failed TooLong w e = absurd (by_writing (w.long refl))
+    where
+      by_writing : Writes too_long Refused result before now → ⊥
+      by_writing (wrote_all same all) = let f = sym same ∙ e in cc
+      by_writing (wrote_part same part rose) = let f = sym same ∙ e in cc
+
+  pub unread_rose : (fault : Unread) → EndsUnread fault result before now → result ≡ WriteFault →
+      Rose before.faults now.faults
+  unread_rose Failed w e = absurd (let same = (w.failed refl).0 in cc)
+  unread_rose NoMemoryToRead w e = absurd (let same = (w.memory refl).0 in cc)
+  unread_rose TooLong w e = by_writing (w.long refl)
+    where
+      by_writing : Writes too_long Refused result before now → Rose before.faults now.faults
+      by_writing (wrote_all same all) = absurd (let f = sym same ∙ e in cc)
+      by_writing (wrote_part same part rose) = rose
+
+-- a source that was read whole was read to its end
+pub read_to_end : (result : Status) (before now : Option (List ℕ)) → OnSome before (now ≡ Some []) →
+    ReadsToEnd result before now
+read_to_end Done before now e = e
+read_to_end Refused None now e = tt
+read_to_end Refused (Some input) now e = λ short. e
+read_to_end BadWords before now e = tt
+read_to_end ReadFault before now e = tt
+read_to_end WriteFault before now e = tt
+read_to_end Memory before now e = tt
+
+-- a script that can be lowered has no fault of lowering
+no_lowering_fault : (script : Script) (fault : PlanFault) → lowering_fault script ≡ None → IsFirstLoweringFault script fault → ⊥
+no_lowering_fault script (NoSignal n) none some = cc
+no_lowering_fault script (SignaledTwice n) none some = cc
+no_lowering_fault script (FenceUsed n) none some = cc
+no_lowering_fault script NoMemoryToLower none some = some
+
+-- a lawful input is not refused
+not_refused : (task : Task) (input text : List ℕ) → IsLawfulInput task input → IsOutcome task input Refused text → ⊥
+not_refused task input text l (is_too_long long) = let short = l.short in omega arith
+not_refused task input text l (has_faulty_line n kind short fault) = let stands = l.stands in cc
+not_refused task input text l (has_no_plan script fault short stands refused) =
+    let other = l.stands in
+    let same : l.script ≡ script = cc in
+    no_lowering_fault (planned task script) fault
+    (subst (λ s. lowering_fault (planned task s) ≡ None) same l.lowers) refused
+not_refused task input text l (is_unlawful script fault short stands lowers refused) =
+    let other = l.stands in
+    let same : l.script ≡ script = cc in
+    lawful_without_fault (plan_of (planned task script)) fault
+    (subst (λ s. IsLawful (plan_of (planned task s))) same l.lawful) refused
+
+-- a lawful input is run, unless the source or the sink fails
+pub lawful_ends : (task : Task) (input : List ℕ) (result : Status) (before now : SinkMoment) →
+    Ends task input result before now → (result ≡ ReadFault → ⊥) → (result ≡ WriteFault → ⊥) →
+    IsLawfulInput task input → IsDoneOrMemory result
+lawful_ends task input Done before now e r w l = tt
+lawful_ends task input Memory before now e r w l = tt
+lawful_ends task input BadWords before now e r w l = e
+lawful_ends task input ReadFault before now e r w l = r refl
+lawful_ends task input WriteFault before now e r w l = w refl
+lawful_ends task input Refused before now e r w l = not_refused task input e.0 l e.1
+
+-- for an input that the source told
+pub told_lawful : (task : Task) (left : Option (List ℕ)) (result : Status) (before now : SinkMoment) (A B : Type 0) →
+    IfSome left (λ input. Ends task input result before now) →
+    (result ≡ ReadFault → A) → (result ≡ WriteFault → B) →
+    IfSome left (λ input. IsLawfulInput task input → (A → ⊥) → (B → ⊥) → IsDoneOrMemory result)
+told_lawful task None result before now A B e r w = tt
+told_lawful task (Some input) result before now A B e r w =
+    λ lawful quiet silent. lawful_ends task input result before now e (λ is. quiet (r is)) (λ is. silent (w is)) lawful
+
+-- what holds of a task holds of the one that the words ask for
+pub for_asked : (P : Task → List ℕ → Type 0) (task asked : Task) → task ≡ asked → (left : Option (List ℕ)) →
+    IfSome (input_of task left) (P task) → IfSome (input_of asked left) (P asked)
+for_asked P task asked same left h = subst (λ t. IfSome (input_of t left) (P t)) same h
+
+-- Words that ask for a task weren't read for want of memory: nothing is written.
+pub words_end : (task : Task) (asked : Option Task) (input : Option (List ℕ)) (fault : WordsFault) (result : Status)
+    (before now : SinkMoment) → Gives (Err fault) asked → asked ≡ Some task →
+    (fault ≡ NoMemoryForWords → result ≡ Memory) → EndsForWords result before now →
+    IfSome input (λ all. Ends task all result before now)
+words_end task asked input Bad result before now none some memory w = absurd (cc)
+words_end task asked input NoMemoryForWords result before now g some memory w = by_input input
+  where
+    nothing : WroteNothing before now
+    nothing = subst (λ s. EndsForWords s before now) (memory refl) w
+
+    by_input : (i : Option (List ℕ)) → IfSome i (λ all. Ends task all result before now)
+    by_input None = tt
+    by_input (Some all) = subst (λ s. Ends task all s before now) (sym (memory refl)) nothing
+
+-- What was read for a task
+
+module _ (task : Task) (input : List ℕ) (s : Script) (turns : List Turn) (r : IsReadFor task input s turns) where
+  pub read_for : IsRead s
+  read_for = subst IsRead (sym r.made) (by_task task r.stands)
+    where
+      by_task : (t : Task) → StandsFor input (form_of t) r.script → IsRead (planned t r.script)
+      by_task Run h = kept_read input Plain r.script h
+      by_task Check h = kept_read input Plain r.script h
+      by_task (Generate rounds) h = kept_read input Plain r.script h
+      by_task Replay h = moved_read input Scheduled r.script h
+
+  pub playable : ArePlayable s turns
+  playable =
+      subst (λ z. ArePlayable z turns) (sym r.made)
+      (subst (ArePlayable (planned task r.script)) (sym r.moved) (by_task task r.stands))
+    where
+      by_task : (t : Task) → StandsFor input (form_of t) r.script →
+          ArePlayable (planned t r.script) (turns_for t r.script)
+      by_task Run h = record { few = omega arith; actors = All-nil (λ t. IsActor r.script t.actor) }
+      by_task Check h = record { few = omega arith; actors = All-nil (λ t. IsActor r.script t.actor) }
+      by_task (Generate rounds) h =
+          record { few = omega arith; actors = All-nil (λ t. IsActor r.script t.actor) }
+      by_task Replay h =
+          let valid = read_turns r.script (kept_read input Scheduled r.script h) in
+          let few = valid.few in
+          record { few = omega arith; actors = valid.actors }
+
+  -- the script was refused for a fault of its lowering
+  refused : (fault : PlanFault) (text : List ℕ) → length input ≤ input_limit →
+      IsFirstLoweringFault s fault → text ≡ plan_refusal fault → IsOutcome task input Refused text
+  refused fault text short f is =
+      subst (λ t. IsOutcome task input Refused t) (sym is)
+      (has_no_plan r.script fault short r.stands (subst (λ z. IsFirstLoweringFault z fault) r.made f))
+
+  pub refused_outcome : (fault : PlanFault) (text : List ℕ) → length input ≤ input_limit →
+      Lowers s (Err fault) → RefusesPlan fault text → IsOutcome task input Refused text
+  refused_outcome (NoSignal n) text short l is = refused (NoSignal n) text short l is
+  refused_outcome (SignaledTwice n) text short l is = refused (SignaledTwice n) text short l is
+  refused_outcome (FenceUsed n) text short l is = refused (FenceUsed n) text short l is
+  refused_outcome NoMemoryToLower text short l is = absurd is
+
+-- What comes of a plan that was read for a task
+
+module _ (task : Task) (input : List ℕ) (p : Plan) (turns : List Turn) (short : length input ≤ input_limit)
+    (r : IsReadFor task input p.script turns) (l : Lowers p.script (Ok p)) where
+  pub plan_is : IsPlan p
+  plan_is = record { of_script = read_for task input p.script turns r; faultless = l.0; lowered = l.1 }
+
+  lowers : lowering_fault (planned task r.script) ≡ None
+  lowers = subst (λ z. lowering_fault z ≡ None) r.made l.0
+
+  same_plan : p ≡ plan_of (planned task r.script)
+  same_plan = l.1 ∙ ap plan_of r.made
+
+  -- it was checked, and its task done
+  pub task_outcome : (text : List ℕ) → IsLawful p → AnswersTask task p turns text → IsOutcome task input Done text
+  task_outcome text lawful is =
+      gives_answer r.script text short r.stands lowers (subst IsLawful same_plan lawful)
+      (subst (λ q. AnswersTask task q r.script.turns text) same_plan (by_task task r.moved is))
+    where
+      -- the turns that a task plays are those of the script that was read
+      by_task : (t : Task) → turns ≡ turns_for t r.script → AnswersTask t p turns text →
+          AnswersTask t p r.script.turns text
+      by_task Run same done = done
+      by_task Check same done = done
+      by_task (Generate rounds) same done = done
+      by_task Replay same done = subst (λ ts. IsTrace p ts text) same done
+
+  -- it was refused for its first fault
+  unlawful : (fault : OrderFault) (text : List ℕ) → IsFirstPlanFault p fault → text ≡ order_refusal fault →
+      IsOutcome task input Refused text
+  unlawful fault text f is =
+      subst (λ t. IsOutcome task input Refused t) (sym is)
+      (is_unlawful r.script fault short r.stands lowers (subst (λ q. IsFirstPlanFault q fault) same_plan f))
+
+  pub unlawful_outcome : (fault : OrderFault) (text : List ℕ) → Checks p (Err fault) → RefusesOrder fault text →
+      IsOutcome task input Refused text
+  unlawful_outcome (Unreachable n) text f is = unlawful (Unreachable n) text f is
+  unlawful_outcome (Unordered a b) text f is = unlawful (Unordered a b) text f is
+  unlawful_outcome (FenceBusy n) text f is = unlawful (FenceBusy n) text f is
+  unlawful_outcome (NotPending n) text f is = unlawful (NotPending n) text f is
+  unlawful_outcome (Race a b) text f is = unlawful (Race a b) text f is
+  unlawful_outcome NoMemoryToCheck text f is = absurd is
+
+-- What comes of a lawful plan that an input stands for
+
+module _ (task : Task) (input : List ℕ) (p : Plan) (turns : List Turn) (l : IsLawfulPlan task input p turns) where
+  pub lawful_playable : ArePlayable p.script turns
+  lawful_playable = playable task input p.script turns l.read
+
+  pub lawful_done : (text : List ℕ) → AnswersTask task p turns text → IsOutcome task input Done text
+  lawful_done text is = task_outcome task input p turns l.short l.read l.lowers text l.lawful is
+
+-- the text of a run answers the tasks that run a script
+pub runs_answer : (task : Task) (p : Plan) (turns : List Turn) (text : List ℕ) → RunsThreads task →
+    IsOutput p text → AnswersTask task p turns text
+runs_answer Run p turns text r o = o
+runs_answer (Generate rounds) p turns text r o = o
+runs_answer Check p turns text r o = absurd r
+runs_answer Replay p turns text r o = absurd r
+
+-- the plan of a script that was lowered is one of this script
+pub lowered_read : (task : Task) (input : List ℕ) (script : Script) (turns : List Turn) (p : Plan) →
+    IsReadFor task input script turns → Lowers script (Ok p) → IsReadFor task input p.script turns
+lowered_read task input script turns p r l =
+    subst (λ q. IsReadFor task input q.script turns) (sym l.1) r
+
+pub lowered_again : (script : Script) (p : Plan) → Lowers script (Ok p) → Lowers p.script (Ok p)
+lowered_again script p l =
+    subst (λ q. Lowers q.script (Ok p)) (sym l.1) l
+
+-- a faulty line was refused
+pub faulty_outcome : (task : Task) (input : List ℕ) (n : ℕ) (kind : FaultKind) (text : List ℕ) →
+    length input ≤ input_limit → IsFirstFault input (form_of task) n kind → text ≡ line_refusal n kind →
+    IsOutcome task input Refused text
+faulty_outcome task input n kind text short fault text_is =
+    subst (λ t. IsOutcome task input Refused t) (sym text_is) (has_faulty_line n kind short fault)

@@ -1,0 +1,16 @@
+use Rattle.std.proofs.Common.{arith, subst}
+use Rattle.vq_reading_laws.proofs.Cited.{few_lines}
+use Rattle.vq_model.specs.declared.statement.Form.{Form}
+use Rattle.vq_model.specs.Reading.{IsFirstFault}
+use Rattle.vq_run.proofs.Endings.{faulty_outcome}
+use Rattle.vq_run.proofs.reading.read_input.Goals as goal
+
+pub parse-requires : goal.parse-requires
+parse-requires c = let few = few_lines c.args.input.now in omega arith
+
+pub returns-in_ok-line_refusal-in-Err-At : goal.returns-in_ok-line_refusal-in-Err-At
+returns-in_ok-line_refusal-in-Err-At c =
+    let fault = rw c.in-Err-At.field-0-is at c.in-Err-At.ensures.fault in
+    let text_is = rw c.in-Err-At.field-0-is at c.in_ok-line_refusal-in-Err-At.ensures in
+    let here = subst (λ (f : Form). IsFirstFault c.args.input.now f c.in-Err-At.line c.in-Err-At.kind) c.form_of.ensures fault in
+    faulty_outcome _ _ _ _ _ c.requires here text_is

@@ -1,0 +1,183 @@
+-- What a run of the program may write, and with which status it ends. This project's own.
+use Rattle.std.specs.Prelude.{ℕ, ◌≡◌, ◌<◌, ◌≤◌, ◌^◌, All, List, [], ◌++◌, length, Option, Some, None, Ok, IfSome, OnSome, codes}
+use Rattle.vq_model.specs.declared.statement.FaultKind.{FaultKind}
+use Rattle.vq_model.specs.declared.script.Script.{Script}
+use Rattle.vq_model.specs.declared.script.Turn.{Turn}
+use Rattle.vq_model.specs.declared.plan.PlanFault.{PlanFault}
+use Rattle.vq_model.specs.declared.plan.PlanFault.TheVariants.{Memory as NoMemoryToLower}
+use Rattle.vq_model.specs.declared.plan.OrderFault.{OrderFault}
+use Rattle.vq_model.specs.declared.plan.OrderFault.TheVariants.{Memory as NoMemoryToCheck}
+use Rattle.vq_model.specs.Reading.{StandsFor, IsFirstFault}
+use Rattle.vq_model.specs.Plan.{Plan}
+use Rattle.vq_model.specs.Lowering.{plan_of}
+use Rattle.vq_model.specs.LoweringFaults.{lowering_fault, IsFirstLoweringFault, Lowers}
+use Rattle.vq_model.specs.Checks.{IsLawful, IsFirstPlanFault}
+use Rattle.vq_model.specs.SlowRun.{bytes_after, final}
+use Rattle.vq_model.specs.OutputText.{answers_of, buffers_text, line_feed}
+use Rattle.vq_model.specs.Outputs.{IsOutput}
+use Rattle.vq_model.specs.Refusals.{too_long, bad_words, line_refusal, plan_refusal, order_refusal}
+use Rattle.vq_model.specs.Machine.{AreFinished, State, Run as IsRunOf}
+use Rattle.vq_model.specs.ValidScripts.{IsActor}
+use Rattle.vq_points.specs.HistoryLaws.{PointLaw, PendingLaw}
+use Rattle.vq_history_laws.specs.Histories.{points_after}
+use Rattle.vq_points.specs.Points.{HistoryFrom, opening_points, steps_of}
+use Rattle.vq_replay.specs.Traces.{events_of, played_turns, trace_text}
+use Rattle.vq_run.specs.Tasks.{form_of, planned, turns_for}
+use Rattle.vq_run.specs.Writes.{SinkMoment, WroteAll, WrotePart, WroteNothing}
+use Rattle.vq_words.specs.declared.task.Task.{Task}
+use Rattle.vq_words.specs.declared.task.Task.TheVariants.{Run, Check, Replay, Generate}
+use Rattle.vq_run.specs.declared.reading.Reading.{Reading}
+use Rattle.vq_run.specs.declared.reading.Reading.TheVariants.{Lawful, Refused as RefusedReading}
+use Rattle.vq_run.specs.declared.status.Status.{Status}
+use Rattle.vq_run.specs.declared.status.Status.TheVariants.{Done, BadWords, Refused, ReadFault, WriteFault, Memory}
+
+-- what is written of a lawful script that is only checked
+abbrev pub is_lawful_text : List ℕ
+is_lawful_text = codes "lawful" ++ line_feed
+
+-- the most bytes of an input
+abbrev pub input_limit : ℕ
+input_limit = 4194304
+
+-- the state of the machine after a schedule's turns
+abbrev pub state_after_turns : Plan → List Turn → State
+state_after_turns p turns = (points_after p (events_of (played_turns p turns))).machine
+
+-- The text of a schedule's turns over one core of a lawful plan. The events of the turns that moved are a
+-- history of the plan: without those that show nothing of the machine they are a run of it, and they keep the
+-- point law and the pending law. Where all jobs are finished, the bytes are those that the plan leaves, and the
+-- answers with them, which stand behind the line `finished`, are an output of the plan.
+pub record IsTrace (p : Plan) (turns : List Turn) (text : List ℕ) : Type 0 where
+  pub spelled : text ≡ trace_text p (played_turns p turns) (state_after_turns p turns)
+  pub history : HistoryFrom p (opening_points p) (events_of (played_turns p turns))
+  pub run : IsRunOf p (steps_of (events_of (played_turns p turns)))
+  pub point_law : PointLaw p (events_of (played_turns p turns))
+  pub pending_law : PendingLaw p (events_of (played_turns p turns))
+  pub bytes : AreFinished p (state_after_turns p turns).progress →
+      bytes_after p (state_after_turns p turns).progress.applied ≡ final p
+  pub output : AreFinished p (state_after_turns p turns).progress →
+      IsOutput p (answers_of p (state_after_turns p turns)
+      ++ buffers_text p.script.buffers (bytes_after p (state_after_turns p turns).progress.applied))
+
+-- What a task writes for a lawful plan and the turns of a schedule: an output of the plan, that it is lawful,
+-- or the trace of the turns.
+abbrev pub AnswersTask : Task → Plan → List Turn → List ℕ → Type 0
+AnswersTask Run p turns text = IsOutput p text
+AnswersTask Check p turns text = text ≡ is_lawful_text
+AnswersTask Replay p turns text = IsTrace p turns text
+AnswersTask (Generate rounds) p turns text = IsOutput p text
+
+-- What a task may answer for an input, with the text that it writes.
+pub data IsOutcome (task : Task) (input : List ℕ) : Status → List ℕ → Type 0 where
+  -- the input is too long
+  is_too_long : input_limit < length input → IsOutcome task input Refused too_long
+  -- a line is faulty: the first one of the text, by its first kind
+  has_faulty_line : (n : ℕ) (kind : FaultKind) → length input ≤ input_limit →
+      IsFirstFault input (form_of task) n kind → IsOutcome task input Refused (line_refusal n kind)
+  -- the script that the input stands for has no plan
+  has_no_plan : (script : Script) (fault : PlanFault) → length input ≤ input_limit →
+      StandsFor input (form_of task) script → IsFirstLoweringFault (planned task script) fault →
+      IsOutcome task input Refused (plan_refusal fault)
+  -- its plan is not lawful
+  is_unlawful : (script : Script) (fault : OrderFault) → length input ≤ input_limit →
+      StandsFor input (form_of task) script → lowering_fault (planned task script) ≡ None →
+      IsFirstPlanFault (plan_of (planned task script)) fault →
+      IsOutcome task input Refused (order_refusal fault)
+  -- the script is lawful, and the text answers the task
+  gives_answer : (script : Script) (text : List ℕ) → length input ≤ input_limit →
+      StandsFor input (form_of task) script → lowering_fault (planned task script) ≡ None →
+      IsLawful (plan_of (planned task script)) →
+      AnswersTask task (plan_of (planned task script)) script.turns text → IsOutcome task input Done text
+
+-- a text refuses a script for a fault of its lowering; want of memory refuses nothing
+abbrev pub RefusesPlan : PlanFault → List ℕ → Type 0
+RefusesPlan NoMemoryToLower text = ⊥
+RefusesPlan fault text = text ≡ plan_refusal fault
+
+-- a text refuses a plan for its first fault; want of memory refuses nothing
+abbrev pub RefusesOrder : OrderFault → List ℕ → Type 0
+RefusesOrder NoMemoryToCheck text = ⊥
+RefusesOrder fault text = text ≡ order_refusal fault
+
+-- turns that can be played over a plan of a script: they are few, and each actor is one of the script
+pub record ArePlayable (s : Script) (turns : List Turn) : Type 0 where
+  pub few : length turns < 2 ^ 32
+  pub actors : All (λ t. IsActor s t.actor) turns
+
+-- A script was read from an input for a task, and its turns were moved out where the task plays them.
+pub record IsReadFor (task : Task) (input : List ℕ) (s : Script) (turns : List Turn) : Type 0 where
+  pub script : Script
+  pub stands : StandsFor input (form_of task) script
+  pub made : s ≡ planned task script
+  pub moved : turns ≡ turns_for task script
+
+-- A lawful plan of a script that was read from an input for a task, and the turns that the task plays.
+pub record IsLawfulPlan (task : Task) (input : List ℕ) (p : Plan) (turns : List Turn) : Type 0 where
+  pub short : length input ≤ input_limit
+  pub read : IsReadFor task input p.script turns
+  pub lowers : Lowers p.script (Ok p)
+  pub lawful : IsLawful p
+
+-- what an input comes to before its task is done: such a plan, or the text that refuses the input
+abbrev pub IsReading : Task → List ℕ → Reading → Type 0
+IsReading task input (Lawful ordered turns) = IsLawfulPlan task input ordered turns
+IsReading task input (RefusedReading text) = IsOutcome task input Refused text.items
+
+-- What a run for a task wrote to the sink, by the status that it ended with: a whole text; a part
+-- of one, where the writing failed; else nothing.
+abbrev pub Ends : Task → List ℕ → Status → SinkMoment → SinkMoment → Type 0
+Ends task input Done before now =
+    (text : List ℕ) × IsOutcome task input Done text × WroteAll text before now
+Ends task input Refused before now =
+    (text : List ℕ) × IsOutcome task input Refused text × WroteAll text before now
+Ends task input WriteFault before now =
+    (status : Status) × (text : List ℕ) × IsOutcome task input status text
+    × WrotePart text before now
+Ends task input ReadFault before now = WroteNothing before now
+Ends task input Memory before now = WroteNothing before now
+Ends task input BadWords before now = ⊥
+
+-- What a run with words outside the grammar wrote to the sink: the line that refuses them, or a
+-- part of it; nothing for want of memory to read them.
+abbrev pub EndsForWords : Status → SinkMoment → SinkMoment → Type 0
+EndsForWords BadWords before now = WroteAll bad_words before now
+EndsForWords WriteFault before now = WrotePart bad_words before now
+EndsForWords Memory before now = WroteNothing before now
+EndsForWords other before now = ⊥
+
+-- Where a run answers by its input, and the source tells what it has left, the input was read to its
+-- end; one that is too long needn't be.
+abbrev pub ReadsToEnd : Status → Option (List ℕ) → Option (List ℕ) → Type 0
+ReadsToEnd Done before now = OnSome before (now ≡ Some [])
+ReadsToEnd Refused before now =
+    IfSome before (λ input. length input ≤ input_limit → now ≡ Some [])
+ReadsToEnd other before now = Unit {0}
+
+-- An input stands for a lawful script of the form that a task reads.
+pub record IsLawfulInput (task : Task) (input : List ℕ) : Type 0 where
+  pub short : length input ≤ input_limit
+  pub script : Script
+  pub stands : StandsFor input (form_of task) script
+  pub lowers : lowering_fault (planned task script) ≡ None
+  pub lawful : IsLawful (plan_of (planned task script))
+
+-- a run ended with its whole text written, or for want of memory
+abbrev pub IsDoneOrMemory : Status → Type 0
+IsDoneOrMemory Done = Unit {0}
+IsDoneOrMemory Memory = Unit {0}
+IsDoneOrMemory other = ⊥
+
+-- A fault of reading and want of memory leave the sink as it was.
+abbrev pub WritesNothing : Status → SinkMoment → SinkMoment → Type 0
+WritesNothing ReadFault before now = WroteNothing before now
+WritesNothing Memory before now = WroteNothing before now
+WritesNothing other before now = Unit {0}
+
+-- the exit status of each ending
+abbrev pub status_number : Status → ℕ
+status_number Done = 0
+status_number BadWords = 1
+status_number Refused = 2
+status_number ReadFault = 3
+status_number WriteFault = 4
+status_number Memory = 5

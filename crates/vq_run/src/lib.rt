@@ -1,0 +1,16 @@
+//! The top call, and what it does for a task that starts no thread.
+#![tactic(auto)]
+
+mod ending;
+mod outcome;
+mod reading;
+mod refusals;
+mod status;
+mod task;
+mod threadless;
+mod top;
+
+pub use status::Status;
+pub use threadless::still;
+pub use top::run;
+pub use vq_generator::generate;

@@ -1,0 +1,13 @@
+//! Run tests of the top call, over ports in memory. Expected texts are worked out by hand.
+#![tactic(auto)]
+
+#[cfg(test)]
+mod gate_tests;
+#[cfg(test)]
+mod host_tests;
+#[cfg(test)]
+mod mode_tests;
+#[cfg(test)]
+mod port_tests;
+#[cfg(test)]
+mod run_tests;

@@ -1,0 +1,207 @@
+//! Generated scripts, and queues of each mode.
+use crate::run_tests::{each_ends, replay};
+use std::alloc::{AllocError, Global};
+use std::test::Fail;
+use vq_run::Status;
+
+// The buffers that the generated scripts leave, by the rule that each word is passed on from queue to queue: after r
+// rounds the word at a place of the buffer that a queue wrote last is that of the last round up to r which wrote there.
+const ONE_ROUND: &str = "\
+buffer B00 64\n\
+00000000000000000000000000000000\n\
+00000000000000000000000000000000\n\
+00000000000000000000000000000000\n\
+00000000000000000000000000000000\n\
+buffer B01 64\n\
+00000000040000000000000000000000\n\
+00000000000000000000000000000000\n\
+00000000000000000000000000000000\n\
+00000000000000000000000000000000\n\
+buffer B10 64\n\
+00000000000000000000000000000000\n\
+00000000000000000000000000000000\n\
+00000000000000000000000000000000\n\
+00000000000000000000000000000000\n\
+buffer B11 64\n\
+00000000050000000000000000000000\n\
+00000000000000000000000000000000\n\
+00000000000000000000000000000000\n\
+00000000000000000000000000000000\n\
+buffer B20 64\n\
+00000000000000000000000000000000\n\
+00000000000000000000000000000000\n\
+00000000000000000000000000000000\n\
+00000000000000000000000000000000\n\
+buffer B21 64\n\
+00000000060000000000000000000000\n\
+00000000000000000000000000000000\n\
+00000000000000000000000000000000\n\
+00000000000000000000000000000000\n\
+buffer B30 64\n\
+00000000000000000000000000000000\n\
+00000000000000000000000000000000\n\
+00000000000000000000000000000000\n\
+00000000000000000000000000000000\n\
+buffer B31 64\n\
+00000000070000000000000000000000\n\
+00000000000000000000000000000000\n\
+00000000000000000000000000000000\n\
+00000000000000000000000000000000\n\
+end\n";
+
+const MOST_ROUNDS: &str = "\
+buffer B00 64\n\
+c0070000c7070000ca070000cd070000\n\
+d0070000970700009a0700009d070000\n\
+a0070000a7070000aa070000ad070000\n\
+b0070000b7070000ba070000bd070000\n\
+buffer B01 64\n\
+c3070000c6070000c9070000cc070000\n\
+9307000096070000990700009c070000\n\
+a3070000a6070000a9070000ac070000\n\
+b3070000b6070000b9070000bc070000\n\
+buffer B10 64\n\
+c1070000c4070000cb070000ce070000\n\
+d1070000940700009b0700009e070000\n\
+a1070000a4070000ab070000ae070000\n\
+b1070000b4070000bb070000be070000\n\
+buffer B11 64\n\
+c0070000c7070000ca070000cd070000\n\
+90070000970700009a0700009d070000\n\
+a0070000a7070000aa070000ad070000\n\
+b0070000b7070000ba070000bd070000\n\
+buffer B20 64\n\
+c2070000c5070000c8070000cf070000\n\
+d207000095070000980700009f070000\n\
+a2070000a5070000a8070000af070000\n\
+b2070000b5070000b8070000bf070000\n\
+buffer B21 64\n\
+c1070000c4070000cb070000ce070000\n\
+91070000940700009b0700009e070000\n\
+a1070000a4070000ab070000ae070000\n\
+b1070000b4070000bb070000be070000\n\
+buffer B30 64\n\
+c3070000c6070000c9070000cc070000\n\
+d307000096070000990700009c070000\n\
+a3070000a6070000a9070000ac070000\n\
+b3070000b6070000b9070000bc070000\n\
+buffer B31 64\n\
+c2070000c5070000c8070000cf070000\n\
+9207000095070000980700009f070000\n\
+a2070000a5070000a8070000af070000\n\
+b2070000b5070000b8070000bf070000\n\
+end\n";
+
+/// Some words.
+fn words_of(alloc: Global, words: &[&str]) -> Result<Vec<String>, AllocError> {
+    let mut made = Vec::new(alloc);
+    for word in words {
+        made.push(String::from_str(alloc, word)?)?;
+    }
+    Ok(made)
+}
+
+#[test]
+fn generated_scripts_are_run(rt: HostRuntime) -> Result<(), Fail> {
+    for (words, text) in [
+        (&["--generate", "001"] as &[&str], ONE_ROUND),
+        (&["--generate=500"], MOST_ROUNDS),
+    ] {
+        let words = words_of(rt.alloc(), words)?;
+        // The input isn't read, so it may be anything.
+        each_ends(
+            &rt,
+            rt.alloc(),
+            words.as_slice(),
+            Status::Done,
+            &[("x\n", text)],
+        )?;
+    }
+    Ok(())
+}
+
+#[test]
+fn numbers_of_rounds_are_refused(rt: HostRuntime) -> Result<(), Fail> {
+    for words in [
+        &["--generate", "0"] as &[&str],
+        &["--generate=501"],
+        &["--generate"],
+        &["--check", "--replay"],
+        &["--generate=5", "--check"],
+    ] {
+        let words = words_of(rt.alloc(), words)?;
+        each_ends(
+            &rt,
+            rt.alloc(),
+            words.as_slice(),
+            Status::BadWords,
+            &[("", "error: words\n")],
+        )?;
+    }
+    Ok(())
+}
+
+#[test]
+fn immediate_batches_wait_for_what_is_pending(rt: HostRuntime) -> Result<(), Fail> {
+    each_ends(
+        &rt,
+        rt.alloc(),
+        &[],
+        Status::Refused,
+        &[
+            (
+                "timeline A 0\nqueue P immediate\nqueue Q threaded\nsubmit P\nwait A 1\nend\n\
+                 submit Q\nsignal A 1\nend\n",
+                "error: not pending: line 5\n",
+            ),
+            (
+                "timeline A 0\nqueue P immediate\nqueue Q threaded\nsubmit Q\nsignal A 1\nend\n\
+                 submit P\nwait A 1\nend\n",
+                "error: not pending: line 8\n",
+            ),
+        ],
+    )?;
+    each_ends(
+        &rt,
+        rt.alloc(),
+        &[],
+        Status::Done,
+        &[
+            (
+                "timeline A 0\nqueue P immediate\nqueue Q threaded\nsubmit Q\nsignal A 1\nend\n\
+                 host wait all A 1\nsubmit P\nwait A 1\nend\n",
+                "7 ok\nend\n",
+            ),
+            (
+                "timeline A 0\nqueue P immediate\nhost signal A 1\nsubmit P\nwait A 1\nend\nhost idle\n",
+                "7 ok\nend\n",
+            ),
+        ],
+    )
+}
+
+#[test]
+fn deferred_queues_are_served_by_the_host(rt: HostRuntime) -> Result<(), Fail> {
+    each_ends(
+        &rt,
+        rt.alloc(),
+        &[],
+        Status::Done,
+        &[(
+            "timeline A 0\nqueue P deferred\nqueue Q threaded\nsubmit P\nwait A 1\nend\nsubmit Q\nsignal A 1\nend\n",
+            "end\n",
+        )],
+    )?;
+    let words = replay(rt.alloc())?;
+    each_ends(
+        &rt,
+        rt.alloc(),
+        words.as_slice(),
+        Status::Done,
+        &[(
+            "timeline A 0\nqueue P deferred\nsubmit P\nsignal A 1\nend\nschedule\nhost 5\nR:P 4\n",
+            "1 host submit 3\n2 host take A 1 fresh 0\n3 host release 3\n4 host bind A 1 0\n5 host .\n\
+             6 R:P start 3\n7 R:P signal A 1\n8 R:P finish 3\n9 R:P .\nfinished\nend\n",
+        )],
+    )
+}
