@@ -39,6 +39,7 @@ module _ (a : Meaning) (b : Meaning) (shows : Want → ℕ × ℕ → Type 0) (w
         kept = k.kept;
         events = k.events;
         further = tt;
+        quiet = tt;
         state = λ w is. (
           by_unbound w (unbound_before a.plan w e) (k.state w is).0 ∙ ap (EndsAt (Blocked want)) (sym k.place),
           (k.state w is).1,
@@ -62,6 +63,7 @@ module _ (a : Meaning) (b : Meaning) (shows : Want → ℕ × ℕ → Type 0) (w
         kept = k.kept;
         events = k.events;
         further = tt;
+        quiet = tt;
         state = λ w is. (
           by_bound w (refused_by (w.bound e) (Signals e) (Bound e) want (k.state w is).0)
               ∙ ap (EndsAt (Blocked want)) (sym k.place),

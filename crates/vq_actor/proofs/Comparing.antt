@@ -1,5 +1,5 @@
 -- A comparison begins with a collection.
-use Rattle.std.proofs.Common.{◌≡◌, ℕ, Option, Some, None, sym, ap, ◌∙◌}
+use Rattle.std.proofs.Common.{◌≡◌, ℕ, Option, Some, None, refl, sym, ap, ◌∙◌}
 use Rattle.std.specs.Option.{option_map_or}
 use Rattle.vq_model.specs.declared.plan.Event.{Event}
 use Rattle.vq_points.specs.Points.{PointState}
@@ -31,6 +31,7 @@ module _ (a : Meaning) (t v : ℕ) (is_next : IsNext a (Compare t v)) where
         kept = h.kept;
         events = h.events;
         further = tt;
+        quiet = tt;
         state = λ w is. (
           collects w (Some event) (h.state w is).0 ∙ ap (EndsAt (Moved event)) (sym h.place),
           (h.state w is).1,
@@ -56,6 +57,7 @@ module _ (a : Meaning) (t v : ℕ) (is_next : IsNext a (Compare t v)) where
           kept = keeps_along a m b h.kept k.kept;
           events = k.events ∙ h.events;
           further = ap (λ (x : Place). x.done) there;
+          quiet = refl;
           state = λ w is.
               let here = (h.state w is).1 in (
                 collects w None (h.state w is).0

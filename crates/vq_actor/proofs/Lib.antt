@@ -6,6 +6,7 @@ mod Fitting
 mod HostService
 mod HostTurns
 mod Keeping
+mod LastTasks
 mod ProgramsMade
 mod QueueCounts
 mod Resolved

@@ -13,9 +13,10 @@ use Rattle.vq_turns.specs.declared.outcome.Want.{Want}
 use Rattle.vq_turns.specs.Turns.{Place, Did, found_by, by_found, one_need, held_for, gives_back}
 use Rattle.vq_turns.specs.Turns.{awaits_needs}
 use Rattle.vq_actor.specs.declared.doing.Doing.{Doing}
+use Rattle.vq_actor.specs.declared.doing.Doing.TheVariants.{GoesOn, Ends}
 use Rattle.vq_actor.specs.Meanings.{Meaning, Keeps, IsShownSince}
 use Rattle.vq_actor.specs.Waits.{is_resolved}
-use Rattle.vq_actor.specs.Doings.{DidTo, DidNeed, PassedNeed, events_by_task, world_left}
+use Rattle.vq_actor.specs.Doings.{DidTo, DidNeed, IsQuiet, PassedNeed, events_by_task, world_left}
 use Rattle.vq_actor.proofs.Keeping.{keeps_along, shown_before, noted_behind}
 use Rattle.vq_actor.proofs.Seeking.{further_from}
 
@@ -146,6 +147,7 @@ module _ (a : Meaning) (m : Meaning) (ns : List Need) (shows : Want → ℕ × �
           kept = keeps_along a m b r.kept d.kept;
           events = noted_behind a m (events_by_task did) b.events r.kept r.events d.events;
           further = further_from did a.place b.place m.place (ap (λ (x : Place). x.done) r.place) d.further;
+          quiet = quiet_wait did;
           state = λ w is.
               let next_need = awaits_needs a.plan w a.actor a.place (left ns (k + 1)) in (
                 ap (λ b'. if b' then gives_back a.actor a.place a.place.holding
@@ -157,3 +159,7 @@ module _ (a : Meaning) (m : Meaning) (ns : List Need) (shows : Want → ℕ × �
           shown = λ want x. shown_before a.steps m.steps (finds want) r.kept.steps (d.shown want x);
           unended = d.unended;
         }
+      where
+        quiet_wait : (x : Doing) → IsQuiet x (AwaitNeeds ns)
+        quiet_wait GoesOn = refl
+        quiet_wait (Ends o) = tt

@@ -36,6 +36,7 @@ module _ (a : Meaning) (b : Meaning) (e : ℕ) (shows : Want → ℕ × ℕ → 
         kept = h.kept;
         events = h.events;
         further = tt;
+        quiet = tt;
         state = λ w is. (
           collects a w e t (Some event) (h.state w is).0 ∙ ap (EndsAt (Moved event)) (sym h.place),
           (h.state w is).1,
@@ -68,6 +69,7 @@ module _ (a : Meaning) (b : Meaning) (e : ℕ) (shows : Want → ℕ × ℕ → 
           kept = keeps_along a m b h.kept k.kept;
           events = noted_behind a m (event ∷ []) b.events h.kept none_made k.events;
           further = tt;
+          quiet = tt;
           state = λ w is. (
             goes_to_take w is
                 ∙ (ap (λ v. moves (taken w e v) a.place) (sym same_chain)
@@ -91,6 +93,7 @@ module _ (a : Meaning) (b : Meaning) (e : ℕ) (shows : Want → ℕ × ℕ → 
           kept = keeps_along a m b h.kept k.kept;
           events = noted_behind a m [] b.events h.kept none_made k.events;
           further = tt;
+          quiet = tt;
           state = λ w is. absurd (never w (k.state w (same_world w is)).0);
           shown = λ v x. subst (λ (u : Want). IsShownSince a.steps (shows u)) (same_want want v x)
               (shown_before a.steps m.steps (shows want) h.kept.steps k.shown);

@@ -1,10 +1,12 @@
 -- What one task of a turn comes to. Steps of proofs.
-use Rattle.std.specs.Prelude.{ℕ, ◌≡◌, ◌+◌, List, [], Option, Some, None, Result, Ok, Err}
+use Rattle.std.specs.Prelude.{ℕ, ◌≡◌, ◌+◌, Bool, true, false, List, [], Option, Some, None, Result, Ok, Err}
 use Rattle.vq_model.specs.declared.plan.Event.{Event}
 use Rattle.vq_model.specs.declared.plan.Need.{Need}
 use Rattle.vq_model.specs.Plan.{Plan}
 use Rattle.vq_points.specs.Points.{PointState}
 use Rattle.vq_turns.specs.declared.task.Task.{Task}
+use Rattle.vq_turns.specs.declared.task.Task.TheVariants.{AwaitSubmitted, AwaitReleased, AwaitFinished, AwaitBound}
+use Rattle.vq_turns.specs.declared.task.Task.TheVariants.{AwaitNeeds, Compare}
 use Rattle.vq_turns.specs.declared.outcome.Want.{Want}
 use Rattle.vq_turns.specs.declared.outcome.Outcome.{Outcome}
 use Rattle.vq_turns.specs.declared.outcome.Outcome.TheVariants.{Blocked, Ended}
@@ -37,11 +39,27 @@ abbrev pub GoesFurther : Doing → Place → Place → Type 0
 GoesFurther GoesOn x y = y.done ≡ x.done + 1
 GoesFurther (Ends o) x y = Unit {0}
 
+-- whether a task makes an event whenever it is done
+abbrev pub makes_event : Task → Bool
+makes_event (AwaitSubmitted j) = false
+makes_event (AwaitReleased j) = false
+makes_event (AwaitFinished j) = false
+makes_event (AwaitBound e) = false
+makes_event (AwaitNeeds ns) = false
+makes_event (Compare t v) = false
+makes_event other = true
+
+-- a turn goes on after no task that makes an event
+abbrev pub IsQuiet : Doing → Task → Type 0
+IsQuiet GoesOn t = makes_event t ≡ false
+IsQuiet (Ends o) t = Unit {0}
+
 -- A task was done, or ended the turn.
 pub record DidTo (a b : Meaning) (t : Task) (shows : Want → ℕ × ℕ → Type 0) (did : Doing) : Type 0 where
   pub kept : Keeps a b
   pub events : b.events ≡ noting a (events_by_task did)
   pub further : GoesFurther did a.place b.place
+  pub quiet : IsQuiet did t
   pub state : (w : PointState) → a.state ≡ Some w →
       (does a.plan w a.actor a.place t ≡ did_of did b.place) × (b.state ≡ Some (world_left a.plan w did))
   pub shown : (want : Want) → outcome_of did ≡ Some (Blocked want) → IsShownSince a.steps (shows want)

@@ -1,6 +1,7 @@
 //! An actor and its turns.
 ghost use Rattle.std.specs.Prelude.{◌≡◌, IfOk};
 ghost use Rattle.vq_model.specs.LoweringFaults.{IsPlan};
+ghost use Rattle.vq_turns.specs.declared.outcome.Outcome.{Outcome as AnyOutcome};
 ghost use Rattle.vq_turns.specs.Programs.{program};
 ghost use Rattle.vq_turns.specs.Turns.{first_place};
 ghost use Rattle.vq_actor.specs.Actors.{IsServed, IsTurn, acting_of};
@@ -80,13 +81,15 @@ impl Actor {
 
     /// One turn over an access that serves this actor. It does the tasks that are left until one makes an
     /// event or is blocked. Where the access tells the state, the outcome is the one that the definition of
-    /// turns names; a want is shown by the access since the turn's start. `Ended` says that no task is left.
+    /// turns names; a want is shown by the access since the turn's start. `Ended` says that no task is left; then nothing was asked of the
+    /// access.
     ///
     /// Source: this project's rule.
     pub fn turn<A: Access>(&self, access: &mut A) -> Outcome
         requires { IsServed self.now (A.meaning access.old) }
         ensures turn { IsTurn (A.meaning access.old) (A.meaning access.new) (A.shows access.new) result }
         ensures served { IsServed self.now (A.meaning access.new) }
+        ensures untouched { result ≡ AnyOutcome.Ended → access.new ≡ access.old }
     {
         let _lawful = access.ordered().plan();
         play(access, self.name, self.tasks.as_slice())

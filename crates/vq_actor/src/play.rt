@@ -1,5 +1,6 @@
 //! A turn over the tasks that are left.
 ghost use Rattle.std.specs.Prelude.{◌≡◌, All};
+ghost use Rattle.vq_turns.specs.declared.outcome.Outcome.{Outcome as AnyOutcome};
 ghost use Rattle.vq_turns.specs.Programs.{program};
 ghost use Rattle.vq_actor.specs.Actors.{IsTurn};
 ghost use Rattle.vq_actor.specs.Positions.{MayBeDone};
@@ -16,7 +17,8 @@ pub(crate) fn play<A: Access>(access: &mut A, actor: ActorName, tasks: &[Task]) 
     requires program { tasks.now ≡ program (A.meaning access.old).plan actor }
     requires actor { actor ≡ (A.meaning access.old).actor }
     requires may { All (MayBeDone (A.meaning access.old).plan) tasks.now }
-    ensures { IsTurn (A.meaning access.old) (A.meaning access.new) (A.shows access.new) result }
+    ensures turn { IsTurn (A.meaning access.old) (A.meaning access.new) (A.shows access.new) result }
+    ensures untouched { result ≡ AnyOutcome.Ended → access.new ≡ access.old }
 {
     let first = access.place().done();
     for k in first..tasks.len() {

@@ -1,6 +1,6 @@
 use Rattle.std.proofs.Common.{◌≤◌, length, refl, sym, subst, get_or, List, ◌∙◌}
 use Rattle.vq_replay.specs.declared.played.Played.{Played}
-use Rattle.vq_replay.specs.Schedules.{AreBlockedSo, HasPlayed}
+use Rattle.vq_replay.specs.Schedules.{HasPlayed}
 use Rattle.vq_replay.proofs.Schedules.{actor_there, begins, goes_on, at_end, core_at_end}
 use Rattle.vq_replay.proofs.schedule.replay.Goals as goal
 
