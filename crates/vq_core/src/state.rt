@@ -1,4 +1,6 @@
 //! The core: a plan, what has happened, and what that has come to.
+//!
+//! Source: this project's own, where an item names no other.
 ghost use Rattle.std.specs.Prelude.{◌≡◌, ◌<◌, ◌≤◌, ◌==◌, ◌↔◌, ◌++◌, [], IsTrue, IfSome, IfOk, Some};
 ghost use Rattle.std.specs.Prelude.{length};
 ghost use Rattle.std.specs.List.{slice_get, list_any};
@@ -32,7 +34,7 @@ use vq_timeline_core::TimelineCore;
 
 /// A lawful plan, the events that came so far, and what they have come to. Each event came when it
 /// might: so the history is a run of the plan, and no point is used again too early. All memory is
-/// taken by `new`. Source: this project's rule.
+/// taken by `new`.
 pub struct Core {
     pub(crate) ordered: Ordered,
     pub(crate) history: Vec<Event>,
@@ -91,7 +93,7 @@ impl Model for Core {
     ghost invariant = { IsCore };
 }
 
-/// The parts of a core. Source: this project's own.
+/// The parts of a core.
 #[derive(Drop)]
 pub struct CoreParts {
     pub ordered: Ordered,
