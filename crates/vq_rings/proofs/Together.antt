@@ -5,7 +5,7 @@ use Rattle.vq_model.specs.declared.script.ActorName.{ActorName}
 use Rattle.vq_model.specs.Machine.{AreFinished}
 use Rattle.vq_turns.specs.declared.outcome.Outcome.{Outcome}
 use Rattle.vq_core.specs.CoreState.{Course, world}
-use Rattle.vq_replay.specs.Casts.{Cast, Plays}
+use Rattle.vq_troupe.specs.Casts.{Cast, Plays}
 use Rattle.vq_rings.specs.Phases.{HasFinished, Shares}
 
 pub shares_running : (result : Option Outcome) (before now : Option Cast) (a : ActorName) (o : Outcome) (x y : Cast) →

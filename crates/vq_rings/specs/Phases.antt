@@ -6,7 +6,7 @@ use Rattle.vq_model.specs.Plan.{Plan}
 use Rattle.vq_model.specs.Machine.{AreFinished}
 use Rattle.vq_turns.specs.declared.outcome.Outcome.{Outcome}
 use Rattle.vq_core.specs.CoreState.{Course, world}
-use Rattle.vq_replay.specs.Casts.{Cast, Plays}
+use Rattle.vq_troupe.specs.Casts.{Cast, Plays}
 use Rattle.vq_rings.specs.declared.locked.Phase.{Phase}
 use Rattle.vq_rings.specs.declared.locked.Phase.TheVariants.{Running, Over}
 

@@ -9,7 +9,7 @@ use std::marker::{Brand, Model, PhantomData};
 use std::mem;
 use vq_core::Core;
 use vq_model::script::ActorName;
-use vq_replay::Troupe;
+use vq_troupe::Troupe;
 use vq_turns::outcome::Outcome;
 
 /// Which plan is run. The call that opens a run picks it.
@@ -40,7 +40,7 @@ pub(crate) struct Locked<J: Named> {
 
 impl<J: Named> Model for Locked<J> {
     ghost use Rattle.std.specs.Prelude.{Option};
-    ghost use Rattle.vq_replay.specs.Casts.{Cast};
+    ghost use Rattle.vq_troupe.specs.Casts.{Cast};
 
     ghost Value = { Option Cast };
 

@@ -1,20 +1,28 @@
 //! All that a run needs, made before it begins.
 ghost use Rattle.std.specs.Prelude.{◌≡◌, ◌++◌, ◌<◌, ◌≤◌, [], length, IfOk, OnOk};
-ghost use Rattle.vq_model.specs.ValidScripts.{is_threaded_queue};
 ghost use Rattle.vq_rings.specs.Crews.{actors, rings_below, submits_below};
 
 use std::alloc::{AllocError, Global};
-use vq_model::script::{ActorName, Mode, Script};
+use vq_actor::queue_count;
+use vq_core::AnswerRoom;
+use vq_model::script::{ActorName, Script};
 use vq_order::Ordered;
-use vq_replay::{AnswerRoom, Troupe, queue_count};
+use vq_troupe::Troupe;
+
+/// Who takes an actor's turns.
+#[derive(Clone, Copy)]
+pub(crate) enum Taker {
+    Caller,
+    Thread,
+    /// Nobody: the actor has ended, or the run is over.
+    Ended,
+}
 
 /// What the caller knows of an actor whose turns it may have to take.
 #[derive(Clone, Copy)]
 pub(crate) struct Hand {
-    /// The caller takes its turns.
-    pub(crate) mine: bool,
-    pub(crate) ended: bool,
-    /// How many turns it had.
+    pub(crate) taker: Taker,
+    /// How many turns the caller took.
     pub(crate) turn: u64,
 }
 
@@ -82,11 +90,14 @@ fn all_hands(alloc: Global, count: usize) -> Result<Vec<Hand>, AllocError>
     ensures { IfOk result (λ hands. length hands.items ≡ count) }
 {
     let hand = Hand {
-        mine: false,
-        ended: false,
+        taker: Taker::Thread,
         turn: 0,
     };
-    vec![in alloc; hand; count]
+    let mut hands = vec![in alloc; hand; count]?;
+    if count > 0 {
+        hands[0].taker = Taker::Caller;
+    }
+    Ok(hands)
 }
 
 /// The names of a plan's actors, the host first.
@@ -101,21 +112,13 @@ fn all_names(alloc: Global, ordered: &Ordered) -> Result<Vec<ActorName>, AllocEr
     Ok(names)
 }
 
-/// Whether a queue is submitted to by a thread of its own.
-fn is_threaded(script: &Script, queue: u32) -> bool
-    requires { queue < length script.now.queues }
-    ensures { result ≡ is_threaded_queue script.now queue }
-{
-    script.queues.as_slice()[queue as usize].mode == Mode::Threaded
-}
-
 /// Adds the submitting thread of each threaded queue among so many.
 fn push_submits(names: &mut Vec<ActorName>, script: &Script, queues: u32) -> Result<(), AllocError>
     requires { queues ≤ length script.now.queues }
     ensures { OnOk result (names.new.items ≡ names.old.items ++ submits_below script.now queues) }
 {
     for queue in 0..queues {
-        if is_threaded(script, queue) {
+        if script.is_threaded(queue) {
             names.push(ActorName::Submit(queue))?;
         }
     }

@@ -7,10 +7,9 @@ ghost use Rattle.vq_model.specs.OutputText.{answer_text, buffers_text};
 ghost use Rattle.vq_model.specs.ValidScripts.{sizes_of};
 ghost use Rattle.vq_core.specs.CoreState.{world};
 
-use vq_core::Core;
+use vq_core::{AnswerRoom, Core};
 use vq_model::plan::AnswerLine;
 use vq_order::Ordered;
-use vq_replay::AnswerRoom;
 use vq_spec::Buffers;
 
 /// The plan that was run, what its host steps were answered, in the order of the script, and the bytes of its

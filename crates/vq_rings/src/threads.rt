@@ -10,7 +10,7 @@ ghost use Rattle.vq_rings.specs.Crews.{AreActors};
 
 use crate::gate::Gate;
 use crate::locked::{Locked, Named};
-use crate::opened::{Hand, Opened};
+use crate::opened::{Hand, Opened, Taker};
 use crate::report::Report;
 use crossbeam_utils::Backoff;
 use std::alloc::{AllocError, Global};
@@ -21,7 +21,7 @@ use std::thread::Threads;
 use vq_core::Core;
 use vq_model::script::ActorName;
 use vq_order::Ordered;
-use vq_replay::Troupe;
+use vq_troupe::Troupe;
 use vq_turns::outcome::Outcome;
 
 /// Runs a lawful plan by threads: one for each ring, and one for each threaded queue's submitting thread. The
@@ -99,7 +99,7 @@ fn run_threads<J: Named + Send + Sync, R: Threads + Wait + Sync, G: Gate>(
                     { work::<J, R, G>(rt, shared, gate, name) },
                 );
                 if started.is_err() {
-                    hands[place].mine = true;
+                    hands[place].taker = Taker::Caller;
                 }
             }
             drive(rt, shared, gate, names, hands)
@@ -180,15 +180,15 @@ fn round<J: Named, R: Wait, G: Gate>(
     let mut has_moved = false;
     for place in 0..hands.len() {
         let hand = hands[place];
-        if hand.ended || !(hand.mine || place == 0) {
+        let Taker::Caller = hand.taker else {
             continue;
-        }
+        };
         let outcome = turn(rt, shared, gate, names[place], hand.turn);
         hands[place].turn = hand.turn.saturating_add(1);
         match outcome {
             Some(Outcome::Moved(_)) => has_moved = true,
             Some(Outcome::Blocked(_)) => {}
-            Some(Outcome::Ended) | None => hands[place].ended = true,
+            Some(Outcome::Ended) | None => hands[place].taker = Taker::Ended,
         }
     }
     has_moved

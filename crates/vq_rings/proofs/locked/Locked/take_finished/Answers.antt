@@ -2,7 +2,7 @@ use Rattle.std.proofs.Common.{◌∙◌, refl, sym, subst, ap}
 use Rattle.std.specs.Prelude.{Option, IfSome}
 use Rattle.vq_model.specs.Machine.{AreFinished}
 use Rattle.vq_core.specs.CoreState.{Course, world}
-use Rattle.vq_replay.specs.Casts.{Cast}
+use Rattle.vq_troupe.specs.Casts.{Cast}
 use Rattle.vq_rings.specs.declared.locked.Phase.{Phase}
 use Rattle.vq_rings.specs.Phases.{troupe_of}
 use Rattle.vq_rings.proofs.Together.{finished_of}
