@@ -3,8 +3,12 @@ import re
 
 from playing import is_lawful
 
-# A run that fails one time in fifty is seen in so many runs but one time in a hundred.
-TRIES = (8, 60, 160)
+# So many runs in a row miss one that fails one time in fifty but one time in a hundred.
+TRIES = 228
+# How many jobs in a row are dropped at once.
+SIZES = (32, 16, 8, 4, 3, 2, 1)
+# The parts of a batch, by the first words of their lines.
+PARTS = {'wait': 1, 'fill': 2, 'update': 2, 'copy': 2, 'signal': 3, 'fence': 4}
 DECLARED = ('buffer', 'timeline', 'binary', 'fence', 'queue')
 
 
@@ -28,6 +32,7 @@ class Shrinker:
             before = units
             units = self.without_units(units)
             units = self.without_lines(units)
+            units = self.with_joined(units)
             units = self.without_declarations(units)
             units = self.one_queue_less(units)
             units = self.with_ranks(units)
@@ -36,16 +41,14 @@ class Shrinker:
 
     def without_units(self, units):
         """Drops jobs, many at once first."""
-        size = len(units)
-        while size:
+        for size in SIZES:
             place = 0
             while place < len(units):
                 fewer = units[:place] + units[place + size:]
-                if len(fewer) < len(units) and self.holds(fewer):
+                if self.holds(fewer):
                     units = fewer
                 else:
-                    place += size
-            size //= 2
+                    place += max(1, size // 4)
         return units
 
     def without_lines(self, units):
@@ -61,8 +64,22 @@ class Shrinker:
                     number += 1
         return units
 
+    def with_joined(self, units):
+        """Makes one batch of two that stand one after the other."""
+        place = 0
+        while place + 1 < len(units):
+            first, second = units[place], units[place + 1]
+            if first[-1] == second[-1] == 'end':
+                lines = sorted(first[1:-1] + second[1:-1], key=lambda line: PARTS[line.split()[0]])
+                fewer = [*units[:place], [first[0], *lines, 'end'], *units[place + 2:]]
+                if self.holds(fewer):
+                    units = fewer
+                    continue
+            place += 1
+        return units
+
     def without_declarations(self, units):
-        """Drops what no job names, all at once: that needs no new run where a run never sees it, but one is made."""
+        """Drops what no job names."""
         words = {word for unit in units if unit[0].split()[0] not in DECLARED for line in unit for word in line.split()}
         fewer = [unit for unit in units if unit[0].split()[0] not in DECLARED or unit[0].split()[1] in words]
         return fewer if fewer != units and self.holds(fewer) else units
