@@ -10,6 +10,8 @@ from reference import Script
 
 # Statuses of play.
 DONE, NOT_READY, REFUSED, LOST, HUNG, LEFT_OUT = range(6)
+# What play says where it submits in another order than written.
+MOVED = 'another order'
 # How much longer than a hang a play may take before it is stopped from outside.
 GRACE = 60
 
@@ -29,7 +31,7 @@ class Tried:
     """What some runs of a script came to."""
 
     def __init__(self):
-        self.runs, self.is_left_out = 0, False
+        self.runs, self.is_left_out, self.is_moved = 0, False, False
         # The faults by their kind: how many, and the first one.
         self.counts, self.first = collections.Counter(), {}
 
@@ -56,9 +58,9 @@ class Player:
         except subprocess.TimeoutExpired as late:
             status, printed, said = HUNG, late.stdout or b'', 'it was stopped from outside'
         if status in (NOT_READY, REFUSED):
-            raise Stopped(said.strip() or f'vq refuses what the second reading holds lawful: {printed.decode().strip()}')
+            raise Stopped(said.strip() or f'vq refuses a script that the second reading holds lawful: {printed!r}')
         tried = Tried()
-        tried.is_left_out = status == LEFT_OUT
+        tried.is_left_out, tried.is_moved = status == LEFT_OUT, MOVED in said
         self.judge(tried, data, status, printed, said)
         return tried
 

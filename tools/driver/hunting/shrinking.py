@@ -1,4 +1,4 @@
-"""A failing script made smaller: fewer jobs, lines and queues, and lesser values, as long as it fails in the same way."""
+"""A failing script made smaller, in lines, queues and values, as long as it fails in the same way."""
 import re
 
 from playing import is_lawful

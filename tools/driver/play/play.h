@@ -65,8 +65,8 @@ void add_text(const char *format, ...) __attribute__((format(printf, 1, 2)));
 void add_buffers(const struct play *play);
 void print_text(void);
 
-/* Watches the host: where it stands at one run for longer than this, the text so far and a line `LINE hang` are printed,
-   and the program ends with HUNG. */
+/* Watches the host: where a run takes longer than this, the text so far and a line `LINE hang` are printed, and the
+   program ends with HUNG. */
 void watch(double seconds);
 
 #endif

@@ -48,7 +48,7 @@ static bool keep_name(char kept[NAME_SIZE], const struct words *words)
 {
     if (words->count < 2 || strlen(words->at[1]) >= NAME_SIZE)
         return false;
-    strcpy(kept, words->at[1]);
+    memcpy(kept, words->at[1], strlen(words->at[1]) + 1);
     return true;
 }
 
