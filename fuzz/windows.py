@@ -13,6 +13,9 @@ class Windows:
     def __init__(self, plan, order):
         self.plan, self.order = plan, order
         self.asked = [h for h, job in enumerate(plan.jobs) if job.is_asked]
+        # What is asked for again and again is kept, as long as these windows are.
+        for question in ('floor', 'ceiling', 'carried', 'known', 'demands', 'choices'):
+            setattr(self, question, functools.cache(getattr(self, question)))
 
     # Values. In a lawful plan the signals of a chain rise. Those that are certain for a job are the first ones, and
     # those that come after it the last ones.
@@ -28,24 +31,20 @@ class Windows:
                 more = half - 1
         return self.plan.ops[chain[count - 1]].value if count else self.plan.initial[t]
 
-    @functools.cache
     def floor(self, h, t):
         """What is certain when a step starts."""
         return self.value_of_first(t, lambda e: e in self.order.sure[h])
 
-    @functools.cache
     def ceiling(self, h, t):
         """What can be there before a step is finished: all but what waits for it."""
         return self.value_of_first(t, lambda e: h not in self.order.before[self.plan.ops[e].job])
 
-    @functools.cache
     def carried(self, e, t):
         """What is certain of a chain where a signal is made: by itself, the earlier ones of its job, and its job's."""
         job = self.plan.ops[e].job
         earlier = [self.plan.ops[other] for other in self.plan.jobs[job].signals if other <= e]
         return max([self.floor(job, t)] + [op.value for op in earlier if op.chain == t])
 
-    @functools.cache
     def known(self, t):
         """The values that a chain ever has, each by the answer of a read."""
         values = [self.plan.initial[t]] + [self.plan.ops[e].value for e in self.plan.chains[t]]
@@ -53,7 +52,6 @@ class Windows:
 
     # One answer.
 
-    @functools.cache
     def demands(self, h, answer):
         """What an answer asks of what is shown before it, or None where no run gives it.
 
@@ -73,7 +71,6 @@ class Windows:
             return [[pair] for pair in above] if above == job.asked else None
         return [above] if above else None
 
-    @functools.cache
     def choices(self, h, answer):
         """The pairs that an answer shows reached: a list of them for each choice."""
         job = self.plan.jobs[h]
