@@ -1,25 +1,27 @@
 /* Plays a script on a Vulkan device: tools/driver/README.md. */
 #include "play.h"
 
-#include <errno.h>
 #include <signal.h>
+#include <stdio.h>
 #include <stdlib.h>
 #include <string.h>
 #include <time.h>
-#include <unistd.h>
 
 #include "checked.h"
 #include "order.h"
 #include "result.h"
 
 static const char usage[] =
-    "play [--vq PROGRAM | --checked] [--device NAME] [--runs N] [--timing] [--timeout SECONDS] < SCRIPT\n";
+    "play [--vq PROGRAM | --checked] [--device NAME] [--runs N] [--timing] [--timeout SECONDS] [--order QUEUES] "
+    "< SCRIPT\n";
 
 struct options {
     const char *vq, *device;
     bool is_checked, is_timed;
     unsigned long runs;
     double timeout;
+    /* Where it isn't 0, only the order on a device of so many queues is asked for. */
+    uint32_t queues;
 };
 
 static bool read_number(const char *word, double least, double most, double *number)
@@ -30,33 +32,38 @@ static bool read_number(const char *word, double least, double most, double *num
     return end != word && *end == '\0' && *number >= least && *number <= most;
 }
 
+/* An option that has a word behind it. */
+static bool read_option(const char *name, const char *next, struct options *options)
+{
+    double number;
+
+    if (strcmp(name, "--vq") == 0)
+        options->vq = next;
+    else if (strcmp(name, "--device") == 0)
+        options->device = next;
+    else if (strcmp(name, "--runs") == 0 && read_number(next, 1, 1e6, &number))
+        options->runs = (unsigned long)number;
+    else if (strcmp(name, "--timeout") == 0 && read_number(next, 1e-3, 1e6, &number))
+        options->timeout = number;
+    else if (strcmp(name, "--order") == 0 && read_number(next, 1, MOST_QUEUES, &number))
+        options->queues = (uint32_t)number;
+    else
+        return false;
+    return true;
+}
+
 static bool read_options(int count, char **words, struct options *options)
 {
     *options = (struct options){.vq = "vq", .runs = 1, .timeout = 10};
     for (int place = 1; place < count; place++) {
-        const char *next = place + 1 < count ? words[place + 1] : NULL;
-        double number;
-        if (strcmp(words[place], "--checked") == 0) {
+        if (strcmp(words[place], "--checked") == 0)
             options->is_checked = true;
-            continue;
-        }
-        if (strcmp(words[place], "--timing") == 0) {
+        else if (strcmp(words[place], "--timing") == 0)
             options->is_timed = true;
-            continue;
-        }
-        if (next == NULL)
+        else if (place + 1 == count || !read_option(words[place], words[place + 1], options))
             return false;
-        if (strcmp(words[place], "--vq") == 0)
-            options->vq = next;
-        else if (strcmp(words[place], "--device") == 0)
-            options->device = next;
-        else if (strcmp(words[place], "--runs") == 0 && read_number(next, 1, 1e6, &number))
-            options->runs = (unsigned long)number;
-        else if (strcmp(words[place], "--timeout") == 0 && read_number(next, 1e-3, 1e6, &number))
-            options->timeout = number;
         else
-            return false;
-        place++;
+            place++;
     }
     return true;
 }
@@ -154,6 +161,16 @@ static void prepare(struct play *play)
         fprintf(stderr, "play: batches are submitted in another order than written, as queues share one\n");
 }
 
+/* Prints the lines of the batches and host steps in the order in which they would be played. */
+static void print_order(struct play *play, uint32_t queues)
+{
+    play->device.queue_count = queues;
+    play->device.most_difference = UINT64_MAX;
+    prepare(play);
+    for (uint32_t n = 0; n < play->script->job_count; n++)
+        printf("%u\n", play->script->jobs[play->order[n]].line);
+}
+
 static double now(void)
 {
     struct timespec time;
@@ -235,12 +252,16 @@ int main(int count, char **words)
         printf("error: syntax: line %u\n", line);
         return REFUSED;
     }
+    play.script = &script;
+    if (options.queues > 0) {
+        print_order(&play, options.queues);
+        return DONE;
+    }
     lack = open_device(&play.device, options.device);
     if (lack != NULL) {
         fprintf(stderr, "play: %s\n", lack);
         return NOT_READY;
     }
-    play.script = &script;
     prepare(&play);
     watch(options.timeout);
     for (unsigned long n = 0; n < options.runs; n++)

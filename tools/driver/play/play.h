@@ -5,7 +5,6 @@
 #include <stdbool.h>
 #include <stddef.h>
 #include <stdint.h>
-#include <stdio.h>
 
 #include <vulkan/vulkan.h>
 
@@ -14,15 +13,6 @@
 
 /* Statuses of the program. */
 enum { DONE = 0, NOT_READY = 1, REFUSED = 2, LOST = 3, HUNG = 4, LEFT_OUT = 5 };
-
-/* Where the host stands, and what it was answered so far: what is printed where it hangs. */
-struct text {
-    char *bytes;
-    size_t size, room;
-    uint32_t line;
-    /* How many runs are over. */
-    uint32_t runs;
-};
 
 /* The script as it was read from the standard input. */
 struct source {

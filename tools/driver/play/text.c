@@ -3,10 +3,20 @@
 #include <errno.h>
 #include <pthread.h>
 #include <stdarg.h>
+#include <stdio.h>
 #include <stdlib.h>
 #include <string.h>
 #include <time.h>
 #include <unistd.h>
+
+/* Where the host stands, and what it was answered so far: what is printed where it hangs. */
+struct text {
+    char *bytes;
+    size_t size, room;
+    uint32_t line;
+    /* How many runs are over. */
+    uint32_t runs;
+};
 
 /* The host's thread changes the text under this lock, as the watching one may print it at any time. */
 static pthread_mutex_t lock = PTHREAD_MUTEX_INITIALIZER;
