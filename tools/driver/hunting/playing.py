@@ -69,9 +69,10 @@ class Player:
         for text, count in collections.Counter(texts(printed)).items():
             tried.runs += count
             misfit = outputs.misfit(text)
-            if text.endswith(b' hang\n'):
-                tried.add('hung', text, misfit.text())
-            elif misfit is not None and text.endswith(b'end\n'):
+            is_hung = text.endswith(b' hang\n')
+            if is_hung:
+                tried.add('hung', text, f'the host hangs at line {hang_line(text)}')
+            if misfit is not None and not (is_hung and misfit.found.endswith(b' hang\n')):
                 tried.add('wrong', text, misfit.text(), count)
         if status == LOST:
             tried.add('lost', printed, said.split('\n', maxsplit=1)[0])
@@ -81,15 +82,20 @@ class Player:
             tried.add('crashed', printed, f'the player was ended by signal {-status}')
 
 
+def hang_line(text):
+    """The line of the script at which a text says that the host hangs."""
+    return int(text.splitlines()[-1].split()[0])
+
+
 def texts(printed):
-    """The texts of runs, each up to its line `end`; the last one may lack that."""
+    """The texts of runs, each up to its line `end` or to a hang. What follows the last of these was cut off."""
     found, lines = [], []
     for line in io.BytesIO(printed).readlines():
         lines.append(line)
-        if line == b'end\n':
+        if line == b'end\n' or line.endswith(b' hang\n'):
             found.append(b''.join(lines))
             lines = []
-    return found + ([b''.join(lines)] if lines else [])
+    return found
 
 
 def pin():

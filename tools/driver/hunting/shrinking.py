@@ -32,6 +32,7 @@ class Shrinker:
             before = units
             units = self.without_units(units)
             units = self.without_lines(units)
+            units = self.without_pairs(units)
             units = self.with_joined(units)
             units = self.without_declarations(units)
             units = self.one_queue_less(units)
@@ -62,6 +63,19 @@ class Shrinker:
                     units = fewer
                 else:
                     number += 1
+        return units
+
+    def without_pairs(self, units):
+        """Drops pairs of the host's waits and polls."""
+        for place in range(len(units)):
+            words, at = units[place][0].split(), 3
+            while words[0] == 'host' and words[2:3] in (['all'], ['any']) and at < len(words) and len(words) > 5:
+                left = words[:at] + words[at + 2:]
+                fewer = [*units[:place], [' '.join(left)], *units[place + 1:]]
+                if self.holds(fewer):
+                    words, units = left, fewer
+                else:
+                    at += 2
         return units
 
     def with_joined(self, units):

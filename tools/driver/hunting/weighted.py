@@ -6,15 +6,24 @@ from reference import answer
 class Weighted(Lawful):
     """Jobs of a lawful script: those of the second reading's generator, and some that it makes seldom."""
 
-    def __init__(self, dice):
+    def __init__(self, dice, without=()):
         super().__init__(dice)
         self.is_hosted = True
+        # The first words of lines that aren't made.
+        self.without = tuple(without)
         self.signaled = dict.fromkeys(dice.choice(['', 'S', 'SU', 'SU']), False)
 
     def steps(self):
-        made = self.dice.choice([self.fenced_read] * 3 + [self.overtaken] * 3 + [self.held, self.held, self.early,
-                                self.early, self.rounds, self.any_of, self.chained, super().steps, super().steps])()
-        return [line if isinstance(line, list) else [line] for line in made]
+        kept = dict(self.tops), dict(self.signaled), dict(self.fences)
+        while True:
+            made = [line if isinstance(line, list) else [line] for line in self.dice.choice(self.forms())()]
+            if not any(line.startswith(self.without) for lines in made for line in lines):
+                return made
+            self.tops, self.signaled, self.fences = (dict(each) for each in kept)
+
+    def forms(self):
+        return [self.fenced_read] * 3 + [self.overtaken] * 3 + [self.held, self.early] * 2 + [
+            self.rounds, self.any_of, self.chained] + [super().steps] * 2
 
     def name(self):
         return self.dice.choice('AB')
@@ -99,10 +108,10 @@ class Weighted(Lawful):
         return made or self.questions()
 
 
-def lawful_script(dice):
-    """A lawful script, as bytes."""
+def lawful_script(dice, without=()):
+    """A lawful script, as bytes, with no line that begins with one of these."""
     while True:
-        made = Weighted(dice)
+        made = Weighted(dice, without)
         for _ in range(dice.randrange(2, 10)):
             made.grow()
         if dice.random() < 0.2:

@@ -83,16 +83,16 @@ static void make_buffers(struct play *play)
     memset(play->bytes, 0, info.allocationSize);
 }
 
-/* Between commands of one queue, and behind its batches for the host. */
+/* Between commands of one queue, and behind its batches, for the host too. */
 static void put_barrier(VkCommandBuffer buffer, bool is_last)
 {
+    VkAccessFlags2 accesses = VK_ACCESS_2_MEMORY_READ_BIT | VK_ACCESS_2_MEMORY_WRITE_BIT;
     VkMemoryBarrier2 memory = {
         .sType = VK_STRUCTURE_TYPE_MEMORY_BARRIER_2,
         .srcStageMask = VK_PIPELINE_STAGE_2_ALL_COMMANDS_BIT,
-        .srcAccessMask = VK_ACCESS_2_MEMORY_READ_BIT | VK_ACCESS_2_MEMORY_WRITE_BIT,
-        .dstStageMask = is_last ? VK_PIPELINE_STAGE_2_HOST_BIT : VK_PIPELINE_STAGE_2_ALL_COMMANDS_BIT,
-        .dstAccessMask = is_last ? VK_ACCESS_2_HOST_READ_BIT
-                                 : VK_ACCESS_2_MEMORY_READ_BIT | VK_ACCESS_2_MEMORY_WRITE_BIT};
+        .srcAccessMask = accesses,
+        .dstStageMask = VK_PIPELINE_STAGE_2_ALL_COMMANDS_BIT | (is_last ? VK_PIPELINE_STAGE_2_HOST_BIT : 0),
+        .dstAccessMask = accesses | (is_last ? VK_ACCESS_2_HOST_READ_BIT : 0)};
     VkDependencyInfo dependency = {
         .sType = VK_STRUCTURE_TYPE_DEPENDENCY_INFO, .memoryBarrierCount = 1, .pMemoryBarriers = &memory};
 

@@ -228,31 +228,42 @@ static void run_once(struct play *play, bool is_timed)
     free_objects(play);
 }
 
+/* Reads the script. Answers DONE, or the status to end with. */
+static int take_script(struct play *play, struct script *script, const struct options *options)
+{
+    uint32_t line;
+
+    if (!read_source(&play->source)) {
+        fprintf(stderr, "play: the script can't be read\n");
+        return NOT_READY;
+    }
+    if (!options->is_checked)
+        ask_vq(options, &play->source);
+    line = read_script(script, play->source.bytes, play->source.size);
+    if (line != 0) {
+        printf("error: syntax: line %u\n", line);
+        return REFUSED;
+    }
+    play->script = script;
+    return DONE;
+}
+
 int main(int count, char **words)
 {
     static struct play play;
     static struct script script;
     struct options options;
     const char *lack;
-    uint32_t line;
+    int status;
 
     signal(SIGPIPE, SIG_IGN);
     if (!read_options(count, words, &options)) {
         fputs(usage, stderr);
         return NOT_READY;
     }
-    if (!read_source(&play.source)) {
-        fprintf(stderr, "play: the script can't be read\n");
-        return NOT_READY;
-    }
-    if (!options.is_checked)
-        ask_vq(&options, &play.source);
-    line = read_script(&script, play.source.bytes, play.source.size);
-    if (line != 0) {
-        printf("error: syntax: line %u\n", line);
-        return REFUSED;
-    }
-    play.script = &script;
+    status = take_script(&play, &script, &options);
+    if (status != DONE)
+        return status;
     if (options.queues > 0) {
         print_order(&play, options.queues);
         return DONE;

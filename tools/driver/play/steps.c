@@ -10,28 +10,41 @@ static VkSemaphoreSubmitInfo at_all_commands(const struct play *play, struct mar
         .stageMask = VK_PIPELINE_STAGE_2_ALL_COMMANDS_BIT};
 }
 
+/* Vulkan leaves the signals of one VkSubmitInfo2 unordered. A script's are made in the order of their lines, so each one
+   behind the first has a VkSubmitInfo2 of its own, in the same call. */
+static uint32_t fill_infos(const struct play *play, const struct job *job, VkSubmitInfo2 infos[MOST_PAIRS],
+                           VkSemaphoreSubmitInfo waits[MOST_PAIRS], VkSemaphoreSubmitInfo signals[MOST_PAIRS])
+{
+    for (uint32_t n = 0; n < job->wait_count; n++)
+        waits[n] = at_all_commands(play, job->waits[n]);
+    infos[0].waitSemaphoreInfoCount = job->wait_count;
+    infos[0].pWaitSemaphoreInfos = waits;
+    for (uint32_t n = 0; n < job->signal_count; n++) {
+        signals[n] = at_all_commands(play, job->signals[n]);
+        if (n > 0)
+            infos[n] = (VkSubmitInfo2){.sType = VK_STRUCTURE_TYPE_SUBMIT_INFO_2};
+        infos[n].signalSemaphoreInfoCount = 1;
+        infos[n].pSignalSemaphoreInfos = &signals[n];
+    }
+    return job->signal_count == 0 ? 1 : job->signal_count;
+}
+
 void submit(struct play *play, const struct job *job, bool is_bare)
 {
     VkSemaphoreSubmitInfo waits[MOST_PAIRS], signals[MOST_PAIRS];
+    VkSubmitInfo2 infos[MOST_PAIRS];
     VkCommandBufferSubmitInfo commands = {
         .sType = VK_STRUCTURE_TYPE_COMMAND_BUFFER_SUBMIT_INFO,
         .commandBuffer = play->commands[job - play->script->jobs]};
-    VkSubmitInfo2 info = {
-        .sType = VK_STRUCTURE_TYPE_SUBMIT_INFO_2, .commandBufferInfoCount = 1, .pCommandBufferInfos = &commands};
     VkQueue queue = play->device.queues[play->shared[job->queue]];
     VkFence fence = job->has_fence && !is_bare ? play->fences[job->fence.semaphore] : VK_NULL_HANDLE;
+    uint32_t count = 1;
 
-    if (!is_bare) {
-        for (uint32_t n = 0; n < job->wait_count; n++)
-            waits[n] = at_all_commands(play, job->waits[n]);
-        for (uint32_t n = 0; n < job->signal_count; n++)
-            signals[n] = at_all_commands(play, job->signals[n]);
-        info.waitSemaphoreInfoCount = job->wait_count;
-        info.pWaitSemaphoreInfos = waits;
-        info.signalSemaphoreInfoCount = job->signal_count;
-        info.pSignalSemaphoreInfos = signals;
-    }
-    look_at(play, vkQueueSubmit2(queue, 1, &info, fence), "vkQueueSubmit2", job->line);
+    infos[0] = (VkSubmitInfo2){
+        .sType = VK_STRUCTURE_TYPE_SUBMIT_INFO_2, .commandBufferInfoCount = 1, .pCommandBufferInfos = &commands};
+    if (!is_bare)
+        count = fill_infos(play, job, infos, waits, signals);
+    look_at(play, vkQueueSubmit2(queue, count, infos, fence), "vkQueueSubmit2", job->line);
 }
 
 /* Waits for timelines, or asks for them with the timeout 0. */

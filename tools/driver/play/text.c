@@ -14,7 +14,7 @@ struct text {
     char *bytes;
     size_t size, room;
     uint32_t line;
-    /* How many runs are over. */
+    /* How many runs have begun. */
     uint32_t runs;
 };
 
