@@ -12,7 +12,7 @@ from reference import Script
 DONE, NOT_READY, REFUSED, LOST, HUNG, LEFT_OUT = range(6)
 # What play says where it submits in another order than written.
 MOVED = 'another order'
-# How much longer than a hang a play may take before it is stopped from outside.
+# How many seconds beyond the timeouts of all its runs a play may take before it is stopped from outside.
 GRACE = 60
 
 
@@ -52,7 +52,7 @@ class Player:
         seconds = timeout or self.timeout
         words = self.words + ['--runs', str(runs), '--timeout', str(seconds)]
         try:
-            done = subprocess.run(words, input=data, capture_output=True, timeout=seconds + GRACE, check=False,
+            done = subprocess.run(words, input=data, capture_output=True, timeout=runs * seconds + GRACE, check=False,
                                   preexec_fn=pin if is_pinned else None)
             status, printed, said = done.returncode, done.stdout, done.stderr.decode('latin-1')
         except subprocess.TimeoutExpired as late:
