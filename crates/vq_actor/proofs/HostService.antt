@@ -289,21 +289,6 @@ pub record Serving (old now : Staged) (shows : Want → ℕ × ℕ → Type 0) (
   pub ended : last ≡ Ended → (q : ℕ) → q < k → is_deferred_queue old.plan q ≡ true →
       next_task (part now (SubmitActor q)) ≡ None
 
-pub serving_begins : (old : Staged) (shows : Want → ℕ × ℕ → Type 0) → Serving old old shows 0 Ended
-serving_begins old shows =
-    record {
-      plan = refl;
-      noted = refl;
-      steps = (omega arith, omega arith);
-      events = refl;
-      state = λ w is. is;
-      others = λ b h. refl;
-      still = tt;
-      turn = λ w is. refl;
-      shown = λ want e. absurd (cc);
-      ended = λ e q l. absurd (omega arith);
-    }
-
 -- a task that is next elsewhere, too
 next_there : (old new : Staged) (a : ActorName) → new.plan ≡ old.plan → new.places a ≡ old.places a →
     next_task (part new a) ≡ next_task (part old a)

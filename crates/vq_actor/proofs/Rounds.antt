@@ -1,10 +1,8 @@
 -- A wait goes through its needs.
 use Rattle.std.proofs.Common.{◌≡◌, ℕ, zero, suc, ◌+◌, ◌≤◌, ◌⊎◌, ◌||◌, nat_le, is_some, Bool, true, false}
 use Rattle.std.proofs.Common.{if◌then◌else◌, List, [], ◌∷◌}
-use Rattle.std.proofs.Common.{length, drop, Option, Some, None, refl, sym, subst, ap, ◌∙◌, arith, inl, inr}
+use Rattle.std.proofs.Common.{drop, Option, Some, None, refl, sym, subst, ap, ◌∙◌, arith, inl, inr}
 use Rattle.std.specs.List.{slice_get, enumerate_from}
-use Rattle.std.specs.Option.{option_map_or}
-use Rattle.std.proofs.Math.Seq.{drop-length}
 use Rattle.std.proofs.lemmas.Bool.{cases_eq}
 use Rattle.vq_model.specs.declared.plan.Need.{Need}
 use Rattle.vq_model.specs.Plan.{initial, resolver}
@@ -12,17 +10,13 @@ use Rattle.vq_points.specs.Points.{PointState}
 use Rattle.vq_turns.specs.declared.look.Found.TheVariants.{Past}
 use Rattle.vq_turns.specs.declared.task.Task.TheVariants.{AwaitNeeds}
 use Rattle.vq_turns.specs.declared.outcome.Want.{Want}
-use Rattle.vq_turns.specs.declared.outcome.Outcome.TheVariants.{Blocked, Ended}
-use Rattle.vq_turns.specs.Programs.{program}
-use Rattle.vq_turns.specs.Turns.{Place, Did, Ends as EndsAt, found_by, by_found, one_need, held_for, gives_back}
+use Rattle.vq_turns.specs.Turns.{Place, Did, found_by, by_found, one_need, held_for, gives_back}
 use Rattle.vq_turns.specs.Turns.{awaits_needs}
 use Rattle.vq_actor.specs.declared.doing.Doing.{Doing}
-use Rattle.vq_actor.specs.declared.doing.Doing.TheVariants.{Ends}
-use Rattle.vq_actor.specs.Meanings.{Meaning, Keeps, IsNext, IsShownSince}
+use Rattle.vq_actor.specs.Meanings.{Meaning, Keeps, IsShownSince}
 use Rattle.vq_actor.specs.Waits.{is_resolved}
 use Rattle.vq_actor.specs.Doings.{DidTo, DidNeed, PassedNeed, events_by_task, world_left}
-use Rattle.vq_actor.proofs.Blocked.{same_want}
-use Rattle.vq_actor.proofs.Keeping.{keeps_itself, keeps_along, shown_before, none_noted, noted_behind}
+use Rattle.vq_actor.proofs.Keeping.{keeps_along, shown_before, noted_behind}
 use Rattle.vq_actor.proofs.Seeking.{further_from}
 
 -- what is looked for from an index on
@@ -65,29 +59,8 @@ pub record Round (a m : Meaning) (ns : List Need) (shows : Want → ℕ × ℕ �
   pub asked : last ≡ None → (i : ℕ) (n : Need) → slice_get ns i ≡ Some n →
       is_resolved a.plan n.chain n.value ≡ true → k ≤ i
 
-pub round_begins : (a : Meaning) (ns : List Need) (shows : Want → ℕ × ℕ → Type 0) → Round a a ns shows 0 None
-round_begins a ns shows =
-    record {
-      kept = keeps_itself a;
-      place = refl;
-      events = refl;
-      is_state = λ w is. is;
-      turn = λ w is. refl;
-      shown = λ want x. absurd (cc);
-      asked = λ x i n at resolved. omega arith;
-    }
-
 module _ (a : Meaning) (m : Meaning) (ns : List Need) (shows : Want → ℕ × ℕ → Type 0) (k : ℕ)
     (last : Option Want) (r : Round a m ns shows k last) where
-  pub next_stays : IsNext a (AwaitNeeds ns) → IsNext m (AwaitNeeds ns)
-  next_stays h =
-      ap (λ p. slice_get (program p m.actor) m.place.done) r.kept.plan
-      ∙ (ap (λ v. slice_get (program a.plan v) m.place.done) r.kept.actor
-      ∙ (ap (λ (x : Place). slice_get (program a.plan a.actor) x.done) r.place ∙ h))
-
-  pub waits_on : a.place.met ≡ false → m.place.met ≡ false
-  waits_on h = ap (λ (x : Place). x.met) r.place ∙ h
-
   module _ (n : Need) (at : slice_get ns k ≡ Some n) where
     steps_to : (w : PointState) → a.state ≡ Some w →
         awaits_needs a.plan w a.actor a.place (enumerate_from 0 ns) None
@@ -184,25 +157,3 @@ module _ (a : Meaning) (m : Meaning) (ns : List Need) (shows : Want → ℕ × �
           shown = λ want x. shown_before a.steps m.steps (finds want) r.kept.steps (d.shown want x);
           unended = d.unended;
         }
-
-  -- all needs were passed
-  pub is_blocked : (want : Want) → k ≡ length ns → last ≡ Some want → a.place.met ≡ false →
-      DidTo a m (AwaitNeeds ns) shows (Ends (Blocked want))
-  is_blocked want at_end is_last waiting =
-      record {
-        kept = r.kept;
-        events = none_noted a m.events r.events;
-        further = tt;
-        state = λ w is. (
-          ap (λ b'. if b' then gives_back a.actor a.place a.place.holding
-              else awaits_needs a.plan w a.actor a.place (enumerate_from 0 ns) None) waiting
-              ∙ (r.turn w is
-              ∙ (ap (λ (i : ℕ). awaits_needs a.plan w a.actor a.place (left ns i) last) at_end
-              ∙ (ap (λ xs. awaits_needs a.plan w a.actor a.place (enumerate_from (length ns) xs) last) (drop-length ns)
-              ∙ (ap (λ o. option_map_or (λ v. EndsAt (Blocked v) a.place) o (EndsAt Ended a.place)) is_last
-              ∙ ap (EndsAt (Blocked want)) (sym r.place))))),
-          r.is_state w is,
-        );
-        shown = λ v x. subst (λ (u : Want). IsShownSince a.steps (shows u)) (same_want want v x) (r.shown want is_last);
-        unended = λ x. cc;
-      }

@@ -1,11 +1,11 @@
 -- One need of a wait: it is looked for, or its reference is looked at. References are given back.
 use Rattle.std.proofs.Common.{◌≡◌, ℕ, ◌+◌, Bool, true, false, if◌then◌else◌, List, [], ◌∷◌, Option, Some, None}
-use Rattle.std.proofs.Common.{Result, Ok, Err, refl, sym, subst, ap, ◌∙◌, append-nil}
-use Rattle.std.specs.List.{slice_get, enumerate_from}
+use Rattle.std.proofs.Common.{Result, Ok, Err, refl, sym, ap, ◌∙◌, append-nil}
+use Rattle.std.specs.List.{slice_get}
 use Rattle.vq_model.specs.declared.script.ActorName.{ActorName}
 use Rattle.vq_model.specs.declared.plan.Need.{Need}
 use Rattle.vq_model.specs.declared.plan.Event.{Event}
-use Rattle.vq_model.specs.declared.plan.Event.TheVariants.{Refer, Look, Unref}
+use Rattle.vq_model.specs.declared.plan.Event.TheVariants.{Refer, Look}
 use Rattle.vq_model.specs.Plan.{Plan}
 use Rattle.vq_points.specs.Points.{PointState, after_event}
 use Rattle.vq_turns.specs.declared.look.Found.{Found}
@@ -15,20 +15,19 @@ use Rattle.vq_turns.specs.declared.task.Task.{Task}
 use Rattle.vq_turns.specs.declared.task.Task.TheVariants.{AwaitNeeds}
 use Rattle.vq_turns.specs.declared.outcome.Want.{Want}
 use Rattle.vq_turns.specs.declared.outcome.Want.TheVariants.{Bound, Signaled}
-use Rattle.vq_turns.specs.declared.outcome.Outcome.TheVariants.{Moved, Blocked}
+use Rattle.vq_turns.specs.declared.outcome.Outcome.TheVariants.{Moved}
 use Rattle.vq_turns.specs.Programs.{program}
 use Rattle.vq_turns.specs.Turns.{Place, Did, Ends as EndsAt, GoesOn as GoesOnAt, does, found, forward, by_found, one_need}
-use Rattle.vq_turns.specs.Turns.{held_for, holding_also, gives_back, without_first, awaits_needs}
+use Rattle.vq_turns.specs.Turns.{held_for, holding_also, gives_back}
 use Rattle.vq_actor.specs.declared.doing.Doing.{Doing}
 use Rattle.vq_actor.specs.declared.doing.Doing.TheVariants.{GoesOn, Ends}
 use Rattle.vq_actor.specs.declared.held.Held.{Held}
-use Rattle.vq_actor.specs.Meanings.{Meaning, Keeps, Recent, IsNext, IsShownSince}
+use Rattle.vq_actor.specs.Meanings.{Meaning, Keeps, Recent, IsNext}
 use Rattle.vq_actor.specs.Answers.{AnswersTry, Is, signaled_or}
-use Rattle.vq_actor.specs.Waits.{MayFind, AnswersFind, MayRefer, MayLook, MayUnrefer, is_resolved, met_at, need_found}
-use Rattle.vq_actor.specs.Waits.{referred, looked_at, given_back}
+use Rattle.vq_actor.specs.Waits.{MayFind, AnswersFind, MayRefer, is_resolved, met_at, need_found}
+use Rattle.vq_actor.specs.Waits.{referred, looked_at}
 use Rattle.vq_actor.specs.Positions.{holding_of}
-use Rattle.vq_actor.specs.Doings.{DidTo, DidNeed, PassedNeed, GoesFurther, did_of, events_by_task, world_left}
-use Rattle.vq_actor.proofs.Blocked.{same_want}
+use Rattle.vq_actor.specs.Doings.{DidTo, DidNeed, PassedNeed, GoesFurther, events_by_task, world_left}
 use Rattle.vq_actor.proofs.Keeping.{keeps_along, shown_before, none_noted, noted_behind}
 
 abbrev refused : Want → Result Event Want
@@ -157,9 +156,6 @@ module _ (a : Meaning) (ns : List Need) (actor : ActorName) (k : ℕ) (n : Need)
           gives_back v (record x { met = true }) (g ∷ hs) ≡ gives_back v x (g ∷ hs)
       same_return v x g [] = refl
       same_return v x g (f ∷ hs) = refl
-
-      pub past_next : IsNext m (AwaitNeeds ns)
-      past_next = same_next a m (AwaitNeeds ns) h.kept (ap (λ (x : Place). x.done) met_now) is_next
 
       pub gives_past : (b : Meaning) (shows : Want → ℕ × ℕ → Type 0) (did : Doing) →
           DidTo m b (AwaitNeeds ns) shows did → DidNeed a b k n shows did

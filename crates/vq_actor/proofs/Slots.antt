@@ -178,13 +178,6 @@ one_none_more xs k n e i l =
       | inr h ↦ let same : k ≡ i = omega arith in subst (λ (j : ℕ). slice_get xs j ≡ found None) same e
     ]
 
--- where a slot isn't empty, something is held
-pub holds_one : (xs : Slots) (k : ℕ) (h : Held) → slice_get xs k ≡ Some (Some h) → holding_from 0 xs ≡ [] → ⊥
-holds_one xs k h e none =
-    let f : None ≡ Some (holding_of k h) = sym (ap (held_for k) none) ∙ held_is xs k h e in
-    cc
-
--- at first nothing is held
 pub none_yet : (n a : ℕ) → holding_from a (map (λ k. None) (range_with_len 0 n)) ≡ []
 none_yet n a = of_list (range_with_len 0 n) a
   where

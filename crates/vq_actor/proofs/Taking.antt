@@ -6,7 +6,7 @@ use Rattle.vq_points.specs.Points.{PointState, after_event}
 use Rattle.vq_turns.specs.declared.task.Task.TheVariants.{Take}
 use Rattle.vq_turns.specs.declared.outcome.Want.{Want}
 use Rattle.vq_turns.specs.declared.outcome.Outcome.TheVariants.{Moved, Blocked}
-use Rattle.vq_turns.specs.Turns.{Place, forward, Ends as EndsAt, does, moves, collected, taken}
+use Rattle.vq_turns.specs.Turns.{forward, Ends as EndsAt, does, moves, collected, taken}
 use Rattle.vq_actor.specs.declared.doing.Doing.TheVariants.{Ends}
 use Rattle.vq_actor.specs.Meanings.{Meaning, IsShownSince}
 use Rattle.vq_actor.specs.Answers.{AnswersTry}

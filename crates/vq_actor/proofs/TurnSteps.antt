@@ -4,7 +4,6 @@ use Rattle.std.proofs.Common.{refl, sym, ap, subst, ◌∙◌, arith, append-nil
 use Rattle.std.specs.List.{slice_get}
 use Rattle.std.proofs.lemmas.List.{drop_all}
 use Rattle.std.proofs.lemmas.List.Elements.{All-head, All-tail}
-use Rattle.vq_model.specs.Plan.{Plan}
 use Rattle.vq_points.specs.Points.{PointState}
 use Rattle.vq_turns.specs.declared.task.Task.{Task}
 use Rattle.vq_turns.specs.declared.outcome.Want.{Want}
@@ -14,9 +13,8 @@ use Rattle.vq_turns.specs.Programs.{program}
 use Rattle.vq_turns.specs.Turns.{Place, Turned, does, and_then, turn_from, turn_of, world_after}
 use Rattle.vq_actor.specs.declared.doing.Doing.{Doing}
 use Rattle.vq_actor.specs.declared.doing.Doing.TheVariants.{GoesOn, Ends}
-use Rattle.vq_actor.specs.Meanings.{Meaning, Keeps, IsNext, next_task}
+use Rattle.vq_actor.specs.Meanings.{Meaning, Keeps, next_task}
 use Rattle.vq_actor.specs.Actors.{IsTurn, events_by}
-use Rattle.vq_actor.specs.Positions.{MayBeDone}
 use Rattle.vq_actor.specs.Doings.{DidTo, did_of}
 use Rattle.vq_actor.proofs.Keeping.{keeps_itself, keeps_along, shown_before, none_noted, noted_behind}
 
@@ -76,13 +74,6 @@ next_at a m tasks k e h =
 
 module _ (a : Meaning) (m : Meaning) (tasks : List Task) (k : ℕ) (t : Task) (h : Going a m tasks k)
     (at : slice_get tasks k ≡ Some t) where
-  pub is_next : tasks ≡ program a.plan a.actor → IsNext m t
-  is_next e = next_at a m tasks k e h ∙ at
-
-  pub may_be_done : All (MayBeDone a.plan) tasks → MayBeDone m.plan t
-  may_be_done r =
-      subst (λ (p : Plan). MayBeDone p t) (sym h.kept.plan) (all_at (MayBeDone a.plan) tasks k t r at)
-
   module _ (n : Meaning) (shows : Want → ℕ × ℕ → Type 0) where
     module _ (did : Doing) (d : DidTo m n t shows did) where
       unfolds : (w : PointState) → a.state ≡ Some w →

@@ -1,44 +1,9 @@
 -- Which payloads a chain had: it rises through the values of its operations that are made.
-use Rattle.std.proofs.Common.{
-  ◌≡◌,
-  ℕ,
-  suc,
-  ◌+◌,
-  ◌&&◌,
-  ◌==◌,
-  Bool,
-  true,
-  false,
-  List,
-  [],
-  ◌∷◌,
-  ◌++◌,
-  length,
-  Some,
-  None,
-  refl,
-  sym,
-  ap,
-  ◌∙◌,
-  inl,
-  inr,
-  subst,
-  arith,
-}
+use Rattle.std.proofs.Common.{◌≡◌, ℕ, suc, ◌+◌, ◌&&◌, ◌==◌, Bool, true, false, List, ◌∷◌, ◌++◌, length, Some, None, refl, sym, ap, ◌∙◌, inl, inr, subst, arith}
 use Rattle.std.specs.Prelude.{nat_le}
 use Rattle.std.specs.List.{slice_get, list_any}
 use Rattle.std.specs.Option.{option_map_or}
-use Rattle.std.proofs.lemmas.Bool.{
-  cases_eq,
-  eq-eqb,
-  ne_eqb,
-  false≢true,
-  and_from,
-  or_left,
-  or_right,
-  le-leb,
-  leb-true,
-}
+use Rattle.std.proofs.lemmas.Bool.{cases_eq, eq-eqb, ne_eqb, false≢true, and_from, le-leb, leb-true}
 use Rattle.vq_model.specs.declared.plan.Op.{Op}
 use Rattle.vq_model.specs.Plan.{Plan, has, chain, value, initial, resolver}
 use Rattle.vq_model.specs.Sure.{RisesFrom}

@@ -1,39 +1,14 @@
 -- Facts that the events' proofs share.
-use Rattle.std.proofs.Common.{
-  ◌≡◌,
-  ℕ,
-  ◌+◌,
-  ◌<◌,
-  ◌≤◌,
-  not,
-  Bool,
-  true,
-  false,
-  List,
-  length,
-  get_or,
-  Option,
-  Some,
-  None,
-  is_some,
-  refl,
-  sym,
-  ap,
-  ◌∙◌,
-  inl,
-  inr,
-  subst,
-  arith,
-}
-use Rattle.std.specs.Prelude.{nat_lt, count_by, Result, Ok, Err, IsOk, IsErr, OnOk, IsSome}
+use Rattle.std.proofs.Common.{◌≡◌, ℕ, ◌+◌, ◌<◌, ◌≤◌, Bool, true, false, List, length, get_or, Option, Some, None, is_some, refl, sym, ap, ◌∙◌, inl, inr, subst, arith}
+use Rattle.std.specs.Prelude.{count_by, Result, Ok, Err, IsOk, IsErr, OnOk, IsSome}
 use Rattle.std.specs.List.{slice_get, range_with_len}
-use Rattle.std.proofs.lemmas.Bool.{and_parts, ltb-true, cases_lt, false≢true}
+use Rattle.std.proofs.lemmas.Bool.{cases_lt, false≢true}
 use Rattle.std.proofs.lemmas.List.{get_or_read}
 use Rattle.std.proofs.lemmas.List.FromFn.{length-range_with_len}
 use Rattle.std.proofs.lemmas.List.Sums.{count_by-le-length}
 use Rattle.vq_model.specs.declared.plan.PlanJob.{PlanJob}
 use Rattle.vq_model.specs.Lanes.{lane_number}
-use Rattle.vq_model.specs.Plan.{Plan, is_batch, is_host_step, has, chain, chain_of}
+use Rattle.vq_model.specs.Plan.{Plan, has, chain, chain_of}
 use Rattle.vq_model.specs.WellFormed.{AreRising}
 use Rattle.vq_model.proofs.Lists.{has_here}
 use Rattle.vq_points.specs.Points.{PointState, Reference, CanSubmit, CanTake, after_event}

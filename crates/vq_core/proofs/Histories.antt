@@ -1,41 +1,15 @@
 -- What histories lead to, and the core before the first event.
-use Rattle.std.proofs.Common.{
-  ◌≡◌,
-  ℕ,
-  ◌<◌,
-  ◌≤◌,
-  ◌&&◌,
-  ◌∷◌,
-  ◌++◌,
-  [],
-  not,
-  Bool,
-  true,
-  false,
-  List,
-  length,
-  map,
-  refl,
-  sym,
-  ap,
-  ◌∙◌,
-  inl,
-  inr,
-  subst,
-  arith,
-}
+use Rattle.std.proofs.Common.{◌≡◌, ℕ, ◌<◌, ◌≤◌, ◌&&◌, ◌∷◌, ◌++◌, [], not, Bool, true, false, List, length, refl, sym, ap, ◌∙◌, inl, inr, subst, arith}
 use Rattle.std.specs.Prelude.{IsTrue, ◌↔◌, nat_eq, count_by}
 use Rattle.std.specs.List.{list_any, range_with_len}
 use Rattle.std.specs.Vec.{vec_capacity}
 use Rattle.std.proofs.lemmas.Bool.{false≢true, or_parts, or_from, le-ltb}
-use Rattle.std.proofs.lemmas.List.{length-map}
 use Rattle.vq_model.specs.declared.plan.Event.{Event}
 use Rattle.vq_model.proofs.Lists.{has_here, has_there, has_cases}
 use Rattle.std.proofs.lemmas.List.FromFn.{length-range_with_len}
 use Rattle.vq_model.specs.Checks.{IsLawful}
 use Rattle.vq_model.specs.LoweringFaults.{IsPlan}
 use Rattle.vq_model.specs.Machine.{State, Run, IsFinished, AreFinished, state_after}
-use Rattle.vq_model.specs.Memory.{zeros_of}
 use Rattle.vq_model.specs.Plan.{Plan, has, is_batch}
 use Rattle.vq_model.specs.OutputText.{answers_of, buffers_text}
 use Rattle.vq_model.specs.Outputs.{IsOutput}

@@ -32,23 +32,7 @@ use Rattle.std.proofs.Common.{
 }
 use Rattle.std.specs.Prelude.{nat_lt, nat_le, count_by}
 use Rattle.std.specs.List.{list_all, range_with_len}
-use Rattle.std.proofs.lemmas.Bool.{
-  cases_eq,
-  cases_lt,
-  false≢true,
-  and_parts,
-  and_from,
-  or_left,
-  or_right,
-  cond-true,
-  cond-false,
-  lt-ltb,
-  le-ltb,
-  le-leb,
-  lt-leb,
-  leb-true,
-  not-true,
-}
+use Rattle.std.proofs.lemmas.Bool.{cases_eq, cases_lt, false≢true, and_from, or_left, or_right, cond-true, cond-false, lt-ltb, le-ltb, le-leb, lt-leb, leb-true, not-true}
 use Rattle.std.proofs.lemmas.List.{get_or_push, get_or_append_left}
 use Rattle.std.proofs.lemmas.List.FromFn.{length-range_with_len}
 use Rattle.std.proofs.lemmas.List.Sums.{count_by-le-length}

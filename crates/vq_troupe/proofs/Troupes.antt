@@ -75,30 +75,10 @@ module _ (c d : Course) (i : IsCourse c) (places : ActorName →
 pub same_places : (f g : ActorName → Place) → ((a : ActorName) → f a ≡ g a) → f ≡ g
 same_places f g h = λ i a. h a i
 
-same_queue : (k q : ℕ) → SubmitActor k ≡ SubmitActor q → k ≡ q
-same_queue k q e = cc
-
-same_ring : (k q : ℕ) → RingActor k ≡ RingActor q → k ≡ q
-same_ring k q e = cc
-
 -- A turn of one actor
 
 module _ (c : Course) (i : IsCourse c) (host : Tracked) (submits rings : List Tracked)
     (t : AreSeated c host submits rings) where
-  pub host_seated : IsSeated c HostActor host
-  host_seated = record { fits = t.host_seat.fits; for_needs = t.host_seat.for_needs; stands = ∣ t.stands HostActor tt ∣₁ }
-
-  pub submit_seated : (q : ℕ) → q < length submits → is_immediate_queue c.plan.script q ≡ false →
-      IsSeated c (SubmitActor q) (seat_at submits q)
-  submit_seated q within apart =
-      let h = t.submit_seats q within in
-      record { fits = h.fits; for_needs = h.for_needs; stands = ∣ t.stands (SubmitActor q) apart ∣₁ }
-
-  pub ring_seated : (q : ℕ) → q < length rings → IsSeated c (RingActor q) (seat_at rings q)
-  ring_seated q within =
-      let h = t.ring_seats q within in
-      record { fits = h.fits; for_needs = h.for_needs; stands = ∣ t.stands (RingActor q) tt ∣₁ }
-
   module _ (d : Course) (o : Outcome) where
     -- one of a list of seats, after the actor of another one of them took a turn
     at_set : (xs : List Tracked) (q k : ℕ) (y : Tracked) → q < length xs →
@@ -110,10 +90,6 @@ module _ (c : Course) (i : IsCourse c) (host : Tracked) (submits rings : List Tr
       | inr n ↦ ap (λ (a : Tracked). a.place) (get_or-set_other xs q k y no_seat n)
           ∙ sym (cond-false (k == q) y.place (seat_at xs k).place (ne_eqb k q n))
     ]
-
-    other_place : (xs : List Tracked) (q k : ℕ) (y : Tracked) → (k ≡ q → ⊥) →
-        (seat_at (set xs q y) k).place ≡ (seat_at xs k).place
-    other_place xs q k y n = ap (λ (a : Tracked). a.place) (get_or-set_other xs q k y no_seat n)
 
     count_kept : d ≡ course_after c o → (n : ℕ) → n ≡ length c.plan.script.queues → n ≡ length d.plan.script.queues
     count_kept e n h = h ∙ ap (λ (p : Plan). length p.script.queues) (sym (ap (λ (z : Course). z.plan) e
@@ -155,17 +131,6 @@ module _ (c : Course) (i : IsCourse c) (host : Tracked) (submits rings : List Tr
               submits rings) t.stands HostActor tt o y.place k.turned k.course);
         }
 
-    pub host_played : (y : Tracked) → TookTurn c d HostActor host y o →
-        PlayedOne (cast c host submits rings) (cast d y submits rings) HostActor o
-    host_played y k =
-        record { turned = k.turned; course = k.course; others = others; shown = k.shown; ended = k.ended }
-      where
-        others : (b : ActorName) → (b ≡ HostActor → ⊥) →
-            places_of y submits rings b ≡ places_of host submits rings b
-        others HostActor h = absurd (h refl)
-        others (SubmitActor q) h = refl
-        others (RingActor q) h = refl
-
     -- Submit actors
 
     module _ (q : ℕ) (y : Tracked) where
@@ -193,25 +158,6 @@ module _ (c : Course) (i : IsCourse c) (host : Tracked) (submits rings : List Tr
             stands = subst (AreTrueFor d.plan (world d)) (sym (submit_moved within)) (true_after c d i (places_of
                 host submits rings) t.stands (SubmitActor q) apart o y.place k.turned k.course);
           }
-
-      pub submit_played : q < length submits → TookTurn c d (SubmitActor q) (seat_at submits q) y o →
-          PlayedOne (cast c host submits rings) (cast d host (set submits q y) rings) (SubmitActor q) o
-      submit_played within k =
-          let own : (seat_at (set submits q y) q).place ≡ y.place =
-          ap (λ (a : Tracked). a.place) (get_or-set_same submits q y no_seat within) in
-          record {
-            turned = ap (λ (z : Place). record { outcome = o; place = z }) own ∙ k.turned;
-            course = k.course;
-            others = others;
-            shown = k.shown;
-            ended = λ e. ap (λ (z : Place). slice_get (program d.plan (SubmitActor q)) z.done) own ∙ k.ended e;
-          }
-        where
-          others : (b : ActorName) → (b ≡ SubmitActor q → ⊥) →
-              places_of host (set submits q y) rings b ≡ places_of host submits rings b
-          others HostActor h = refl
-          others (SubmitActor n) h = other_place submits q n y (λ e. h (ap SubmitActor e))
-          others (RingActor n) h = refl
 
     -- Rings
 
@@ -241,25 +187,6 @@ module _ (c : Course) (i : IsCourse c) (host : Tracked) (submits rings : List Tr
                 submits rings) t.stands (RingActor q) tt o y.place k.turned k.course);
           }
 
-      pub ring_played : q < length rings → TookTurn c d (RingActor q) (seat_at rings q) y o →
-          PlayedOne (cast c host submits rings) (cast d host submits (set rings q y)) (RingActor q) o
-      ring_played within k =
-          let own : (seat_at (set rings q y) q).place ≡ y.place =
-          ap (λ (a : Tracked). a.place) (get_or-set_same rings q y no_seat within) in
-          record {
-            turned = ap (λ (z : Place). record { outcome = o; place = z }) own ∙ k.turned;
-            course = k.course;
-            others = others;
-            shown = k.shown;
-            ended = λ e. ap (λ (z : Place). slice_get (program d.plan (RingActor q)) z.done) own ∙ k.ended e;
-          }
-        where
-          others : (b : ActorName) → (b ≡ RingActor q → ⊥) →
-              places_of host submits (set rings q y) b ≡ places_of host submits rings b
-          others HostActor h = refl
-          others (SubmitActor n) h = refl
-          others (RingActor n) h = other_place rings q n y (λ e. h (ap RingActor e))
-
 -- a seat of a list, whatever stands for those that aren't there
 pub at_any : (xs : List Tracked) (q : ℕ) (x : Tracked) → x ≡ slice_index_or xs q x → q < length xs → seat_at xs q ≡ x
 at_any xs q x is within = get_or_default xs q no_seat x within ∙ sym is
@@ -273,42 +200,6 @@ is_after : (o : Outcome) (c : Course) → (course_after c o).history ≡ c.histo
 is_after (Moved event) c = refl
 is_after (Blocked want) c = sym (append-nil c.history)
 is_after Ended c = sym (append-nil c.history)
-
-module _ (old new : Cast) (a : ActorName) (o : Outcome) (k : PlayedOne old new a o) where
-  plan_same : new.course.plan ≡ old.course.plan
-  plan_same = ap (λ (z : Course). z.plan) k.course ∙ plan_kept old.course o
-
-  world_same : world new.course ≡ world_after old.course.plan (world old.course) o
-  world_same = ap world k.course ∙ world_kept old.course o
-
-  pub is_turn : IsTurn (part (staged_of old) a) (part (staged_of new) a) (shown_by new.course) o
-  is_turn =
-      record {
-        kept = record {
-          plan = plan_same;
-          actor = refl;
-          noted = refl;
-          steps = (omega arith, omega arith);
-          lenders = refl;
-        };
-        events = ap (λ (z : Course). z.history) k.course ∙ is_after o old.course;
-        named = λ w is.
-            let same : world old.course ≡ w = some_same (world old.course) w is in (
-              k.turned ∙ ap (λ (v : PointState). turn_of old.course.plan v a (places old a)) same,
-              ap Some (world_same ∙ ap (λ (v : PointState). world_after old.course.plan v o) same),
-            );
-        shown = λ want e since le. subst (λ (c : Course). IsNotSo (world c) want)
-            (sym (k.course ∙ ap (course_after old.course) e)) (k.shown want e);
-        ended = k.ended;
-      }
-
-  pub still_has : (b : ActorName) → HasActor old.course.plan b → HasActor new.course.plan b
-  still_has b = subst (λ (p : Plan). HasActor p b) (sym plan_same)
-
-  pub still_shows : o ≡ Ended → (want : Want) (since : ℕ × ℕ) → shown_by old.course want since →
-      shown_by new.course want since
-  still_shows e want since =
-      subst (λ (c : Course). IsNotSo (world c) want) (sym (k.course ∙ ap (course_after old.course) e))
 
 -- The turn of an actor, and of those that it serves, over a core.
 module _ (old new : Cast) (a : ActorName) (o : Outcome)

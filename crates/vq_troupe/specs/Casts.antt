@@ -1,18 +1,15 @@
 -- Actors over one core, each with its place. This project's own.
-use Rattle.std.specs.Prelude.{ℕ, ◌≡◌, ◌<◌, Bool, true, false, List, [], length, Some, None}
-use Rattle.std.specs.List.{slice_get, slice_index_or}
+use Rattle.std.specs.Prelude.{ℕ, ◌≡◌, ◌<◌, Bool, true, false, List, [], length, Some}
+use Rattle.std.specs.List.{slice_index_or}
 use Rattle.vq_model.specs.declared.plan.Event.{Event}
 use Rattle.vq_model.specs.declared.script.ActorName.{ActorName}
 use Rattle.vq_model.specs.declared.script.ActorName.TheVariants.{Host as HostActor, Submit as SubmitActor}
 use Rattle.vq_model.specs.declared.script.ActorName.TheVariants.{Ring as RingActor}
 use Rattle.vq_model.specs.ValidScripts.{is_immediate_queue}
 use Rattle.vq_model.specs.Plan.{Plan}
-use Rattle.vq_turns.specs.Programs.{program}
 use Rattle.vq_turns.specs.Turns.{Place, Scene, first_place, turn_of, plays}
-use Rattle.vq_turns.specs.Wants.{IsNotSo}
-use Rattle.vq_turns.specs.declared.outcome.Want.{Want}
 use Rattle.vq_turns.specs.declared.outcome.Outcome.{Outcome}
-use Rattle.vq_turns.specs.declared.outcome.Outcome.TheVariants.{Moved, Blocked, Ended}
+use Rattle.vq_turns.specs.declared.outcome.Outcome.TheVariants.{Moved}
 use Rattle.vq_turn_laws.specs.TruePlaces.{AreTrueFor}
 use Rattle.vq_actor.specs.Actors.{Acting}
 use Rattle.vq_actor.specs.Companies.{member_at}
@@ -33,8 +30,6 @@ pub record TookTurn (c d : Course) (a : ActorName) (x y : Tracked) (outcome : Ou
   pub turned : record { outcome = outcome; place = y.place } ≡ turn_of c.plan (world c) a x.place
   pub course : d ≡ course_after c outcome
   pub seated : IsSeated d a y
-  pub shown : (want : Want) → outcome ≡ Blocked want → IsNotSo (world c) want
-  pub ended : outcome ≡ Ended → slice_get (program d.plan a) y.place.done ≡ None
 
 -- Seats
 
@@ -104,16 +99,6 @@ staged_of x =
       events = x.course.history;
       steps = (0, 0);
     }
-
--- A turn of one actor: its outcome and the place after it are those of the definition, the core has one event
--- more where the turn moved, and the other actors stay where they are.
-pub record PlayedOne (old new : Cast) (a : ActorName) (outcome : Outcome) : Type 0 where
-  pub turned : record { outcome = outcome; place = places new a }
-      ≡ turn_of old.course.plan (world old.course) a (places old a)
-  pub course : new.course ≡ course_after old.course outcome
-  pub others : (b : ActorName) → (b ≡ a → ⊥) → places new b ≡ places old b
-  pub shown : (want : Want) → outcome ≡ Blocked want → IsNotSo (world old.course) want
-  pub ended : outcome ≡ Ended → slice_get (program new.course.plan a) (places new a).done ≡ None
 
 -- Turns
 

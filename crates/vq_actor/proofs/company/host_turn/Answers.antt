@@ -1,4 +1,4 @@
-use Rattle.std.proofs.Common.{◌≡◌, ◌<◌, ◌≤◌, ◌+◌, ◌∙◌, ℕ, Bool, false, List, length, sym, ap, subst, refl, arith}
+use Rattle.std.proofs.Common.{◌≡◌, ◌<◌, ◌≤◌, ◌+◌, ◌∙◌, ℕ, Bool, false, length, sym, ap, subst, refl, arith}
 use Rattle.std.specs.List.{slice_get}
 use Rattle.std.specs.Option.{option_map_or}
 use Rattle.vq_model.specs.Context.{is_deferred}
@@ -6,7 +6,7 @@ use Rattle.vq_model.specs.declared.script.Script.{Script}
 use Rattle.vq_model.specs.Plan.{Plan}
 use Rattle.vq_model.specs.declared.script.ActorName.{ActorName}
 use Rattle.vq_model.specs.declared.script.ActorName.TheVariants.{Host as HostActor, Submit as SubmitActor}
-use Rattle.vq_turns.specs.declared.outcome.Outcome.TheVariants.{Moved, Blocked, Ended}
+use Rattle.vq_turns.specs.declared.outcome.Outcome.TheVariants.{Moved, Ended}
 use Rattle.vq_actor.specs.Actors.{Acting, IsTurn}
 use Rattle.vq_actor.specs.Stages.{part}
 use Rattle.vq_actor.proofs.HostService.{Serving, serving_passes, serving_moves, serving_blocked, serving_ended, host_ends}

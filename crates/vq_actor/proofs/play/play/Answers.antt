@@ -1,7 +1,7 @@
-use Rattle.std.proofs.Common.{◌≡◌, ◌∙◌, ℕ, length, sym, ap, subst, arith}
+use Rattle.std.proofs.Common.{◌≡◌, ◌∙◌, sym, ap, subst}
 use Rattle.vq_turns.specs.Programs.{program}
 use Rattle.vq_turns.specs.Turns.{Place}
-use Rattle.vq_actor.proofs.TurnSteps.{at_index, begins, is_next, may_be_done, goes_on, ends, is_over}
+use Rattle.vq_actor.proofs.TurnSteps.{at_index, begins, goes_on, ends, is_over}
 use Rattle.vq_actor.proofs.play.play.Goals as goal
 
 pub loop-k-init : goal.loop-k-init

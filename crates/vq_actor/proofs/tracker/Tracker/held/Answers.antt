@@ -1,4 +1,4 @@
-use Rattle.std.proofs.Common.{◌≡◌, ◌∙◌, List, Option, None, get_or, refl, sym, ap}
+use Rattle.std.proofs.Common.{◌∙◌, List, Option, None, get_or, refl, sym, ap}
 use Rattle.vq_turns.specs.Turns.{held_for}
 use Rattle.vq_actor.specs.declared.held.Held.{Held}
 use Rattle.vq_actor.specs.Positions.{holding_from}

@@ -15,7 +15,7 @@ invariant_of-self c =
     let k = c.turn_at.ensures in
     host_stays a.core c.keeps.ensures a.host a.submits.items a.rings.items c.self.invariant d o y
     (subst (λ (n : ActorName). TookTurn a.core d n a.host y o) (sym (c.in-Host.ensures {u = tt}))
-    (record { turned = k.turned; course = k.course; seated = k.seated; shown = k.shown; ended = k.ended }))
+    (record { turned = k.turned; course = k.course; seated = k.seated }))
 
 pub invariant_of-self-in-Submit : goal.invariant_of-self-in-Submit
 invariant_of-self-in-Submit c =
@@ -35,7 +35,7 @@ invariant_of-self-in-Submit c =
     (subst (λ (n : ActorName). TookTurn a.core d n (seat_at a.submits.items q) y o) (sym name)
     (subst (λ (z : Tracked). TookTurn a.core d c.args.actor.now.name z y o)
     (sym (at_any a.submits.items q x c.index_mut.ensures.value within))
-    (record { turned = k.turned; course = k.course; seated = k.seated; shown = k.shown; ended = k.ended })))
+    (record { turned = k.turned; course = k.course; seated = k.seated })))
 
 pub invariant_of-self-in-Ring : goal.invariant_of-self-in-Ring
 invariant_of-self-in-Ring c =
@@ -55,4 +55,4 @@ invariant_of-self-in-Ring c =
     (subst (λ (n : ActorName). TookTurn a.core d n (seat_at a.rings.items q) y o) (sym name)
     (subst (λ (z : Tracked). TookTurn a.core d c.args.actor.now.name z y o)
     (sym (at_any a.rings.items q x c.index_mut-in-Ring.ensures.value within))
-    (record { turned = k.turned; course = k.course; seated = k.seated; shown = k.shown; ended = k.ended })))
+    (record { turned = k.turned; course = k.course; seated = k.seated })))
