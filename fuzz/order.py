@@ -48,13 +48,18 @@ class Order:
         """The jobs that happen before each job, and the signals that are sure to be made when it starts."""
         place = {j: number for number, j in enumerate(self.slow)}
         self.before, self.sure = {}, {}
-        # A path to a job leads through jobs that stand earlier in the slow run, so those have all theirs.
+        # A path to a job leads through jobs that stand earlier in the slow run, so those have all theirs. What comes
+        # before a job that is found already is found with it.
         for j in self.slow:
-            self.before[j], self.sure[j] = set(), set()
-            for i, made in self.edges(j):
-                if i in place and place[i] < place[j]:
-                    self.before[j] |= {i} | self.before[i]
-                    self.sure[j] |= set(made) | self.sure[i]
+            before, sure = set(), set()
+            edges = [(place[i], i, made) for i, made in self.edges(j) if i in place and place[i] < place[j]]
+            for _, i, made in sorted(edges, reverse=True):
+                sure.update(made)
+                if i not in before:
+                    before |= self.before[i]
+                    before.add(i)
+                    sure |= self.sure[i]
+            self.before[j], self.sure[j] = before, sure
 
     def unordered(self):
         """The pairs of lines of signals, and of a binary wait and the next signal, that no order is sure for."""

@@ -3,13 +3,15 @@
 It shares nothing with the program but the pages. `answer(data)` gives (status, text), the text being that of the slow
 run; `is_output(data, text)` says of any text whether the script may give it; `replay(data)` gives (status, text) for
 `--replay`, with the turns of turns.py. This file reads lines; what they ask for is in lowering.py, what comes before
-what in order.py, and what the answers may be in windows.py. All is plain and slow: needs are looked up by scans, what
-happens before what is a set of jobs for each job, and little is kept that can be counted again.
+what in order.py, what the answers may be in windows.py, and what a text may be in outputs.py. All is plain and slow:
+needs are looked up by scans, what happens before what is a set of jobs for each job, and little is kept that can be
+counted again.
 """
 import re
 
 from lowering import Plan, Refusal
 from order import Order, final_buffers
+from outputs import Outputs
 from turns import Game
 from windows import Windows
 
@@ -18,6 +20,7 @@ NAME = re.compile(rb'[A-Za-z_][A-Za-z0-9_]{0,15}')
 DECIMAL = re.compile(rb'[0-9]{1,20}')
 HEXADECIMAL = re.compile(rb'0x[0-9a-fA-F]{1,16}')
 ACTOR = re.compile(rb'host|[SR]:[A-Za-z_][A-Za-z0-9_]{0,15}')
+OTHER = re.compile(rb'[^\t\x20-\x7e]')
 DIGITS = re.compile(rb'([0-9a-fA-F]{2})*')
 # The forms of lines by their section: a word as it stands, or what its place takes. `pairs` stands for one or more
 # timelines, each with a numeral.
@@ -116,7 +119,7 @@ class Reader:
         words = [word for word in re.split(rb'[ \t]+', line) if word]
         if not words:
             return
-        if any(not 32 <= byte <= 126 and byte != 9 for byte in line):
+        if OTHER.search(line):
             raise Fault('syntax')
         form, places = self.form(words)
         if form is None:
@@ -347,10 +350,8 @@ def is_output(data, text):
         script = Script(data, False)
     except Refusal as refusal:
         return None if text == refused(refusal)[1] else f'the script is refused: {refusal}'
-    buffers = script.buffers_text()
-    if not text.endswith(buffers):
-        return f'the buffers are {buffers!r}'
-    return script.windows.misfit(text[:len(text) - len(buffers)])
+    misfit = Outputs(script).misfit(text)
+    return None if misfit is None else misfit.text()
 
 
 def replay(data):

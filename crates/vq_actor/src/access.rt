@@ -1,4 +1,6 @@
 //! The access that a turn goes over.
+//!
+//! Source: this project's own, where an item names no other.
 ghost use Rattle.std.specs.Prelude.{◌≡◌, ℕ, Ok, [], ◌∷◌, IfErr};
 ghost use Rattle.vq_model.specs.declared.plan.Event.{Event};
 ghost use Rattle.vq_model.specs.Plan.{signals_of};
@@ -28,8 +30,6 @@ pub type Step = Result<Event, Want>;
 /// answer leads. Each look may find that a thing is so, and each other call is one try of one event. A call may be
 /// asked where the actor's next task begins with it. An event that is given was made. A want that is given is
 /// shown by the access since the call's start, and no event was made.
-///
-/// Source: this project's rule.
 pub trait Access {
     /// Whom it serves and how far that actor is, the state where it is told, the events that it notes and those
     /// of them that were made, and how far its record goes.

@@ -1,4 +1,6 @@
 //! An actor and its turns.
+//!
+//! Source: this project's own, where an item names no other.
 ghost use Rattle.std.specs.Prelude.{◌≡◌, IfOk};
 ghost use Rattle.vq_model.specs.LoweringFaults.{IsPlan};
 ghost use Rattle.vq_turns.specs.declared.outcome.Outcome.{Outcome as AnyOutcome};
@@ -24,8 +26,6 @@ use vq_turns::task::Task;
 /// points, releases the batch once what it waits for is pending, and binds its signals. The ring of a queue waits
 /// for each released batch's needs, applies the batch's commands and makes its signals. How far an actor is,
 /// the access keeps that serves it.
-///
-/// Source: this project's rule.
 pub struct Actor {
     name: ActorName,
     tasks: Vec<Task>,
@@ -50,8 +50,6 @@ impl Model for Actor {
 
 impl Actor {
     /// The actor of a plan with this name. It takes the memory for all its turns; the error is that there is none.
-    ///
-    /// Source: this project's rule.
     pub fn new(alloc: Global, ordered: &Ordered, name: ActorName) -> Result<Actor, AllocError>
         ensures { IfOk result (λ a. a ≡ acting_of ordered.now name) }
     {
@@ -60,8 +58,6 @@ impl Actor {
     }
 
     /// Who it is.
-    ///
-    /// Source: this project's rule.
     pub fn name(&self) -> ActorName
         ensures { result ≡ self.now.name }
     {
@@ -70,8 +66,6 @@ impl Actor {
 
     /// The first place of this actor's program, with room for all its places, for an access that serves the
     /// actor. The error is that there is no memory.
-    ///
-    /// Source: this project's rule.
     pub fn tracker(&self, alloc: Global) -> Result<Tracker, AllocError>
         ensures place { IfOk result (λ t. t.place ≡ first_place) }
         ensures fits { IfOk result (λ t. FitsIn self.now.tasks t) }
@@ -81,10 +75,8 @@ impl Actor {
 
     /// One turn over an access that serves this actor. It does the tasks that are left until one makes an
     /// event or is blocked. Where the access tells the state, the outcome is the one that the definition of
-    /// turns names; a want is shown by the access since the turn's start. `Ended` says that no task is left; then nothing was asked of the
-    /// access.
-    ///
-    /// Source: this project's rule.
+    /// turns names; a want is shown by the access since the turn's start. `Ended` says that no task is left, and
+    /// then nothing was asked of the access.
     pub fn turn<A: Access>(&self, access: &mut A) -> Outcome
         requires { IsServed self.now (A.meaning access.old) }
         ensures turn { IsTurn (A.meaning access.old) (A.meaning access.new) (A.shows access.new) result }

@@ -1,4 +1,6 @@
 //! All actors of a plan.
+//!
+//! Source: this project's own, where an item names no other.
 ghost use Rattle.std.specs.Prelude.{◌≡◌, ◌<◌, IfOk, length};
 ghost use Rattle.vq_model.specs.ValidScripts.{IsActor};
 ghost use Rattle.vq_model.specs.declared.script.ActorName.{ActorName as Name};
@@ -16,8 +18,6 @@ use vq_turns::outcome::Outcome;
 
 /// The host, and the submit actor and the ring of each queue. They don't change: how far each is, the stage
 /// keeps.
-///
-/// Source: this project's rule.
 pub struct Company {
     host: Actor,
     submits: Vec<Actor>,
@@ -44,8 +44,6 @@ impl Model for Company {
 
 impl Company {
     /// The actors of a plan. It takes the memory for all their turns; the error is that there is none.
-    ///
-    /// Source: this project's rule.
     pub fn new(alloc: Global, ordered: &Ordered) -> Result<Company, AllocError>
         ensures { IfOk result (λ c. IsCompanyOf ordered.now c) }
     {
@@ -60,8 +58,6 @@ impl Company {
     }
 
     /// The host.
-    ///
-    /// Source: this project's rule.
     pub fn host(&self) -> &Actor
         ensures { result.now ≡ self.now.host }
     {
@@ -69,8 +65,6 @@ impl Company {
     }
 
     /// The submit actor of each queue, by queue.
-    ///
-    /// Source: this project's rule.
     pub fn submits(&self) -> &[Actor]
         ensures { result.now ≡ self.now.submits }
     {
@@ -78,8 +72,6 @@ impl Company {
     }
 
     /// The ring of each queue, by queue.
-    ///
-    /// Source: this project's rule.
     pub fn rings(&self) -> &[Actor]
         ensures { result.now ≡ self.now.rings }
     {
@@ -91,8 +83,6 @@ impl Company {
     /// is blocked as the last of them is. Where the stage tells the state, the outcome is the one that the
     /// definition of turns names; a want is shown by the stage since the turn's start. `Ended` says that nothing
     /// is left to do, of the actor and of those that it serves.
-    ///
-    /// Source: this project's rule.
     pub fn turn<S: Stage>(&self, stage: &mut S, actor: ActorName) -> Outcome
         requires company { IsCompanyOf (S.staged stage.old).plan self.now }
         requires actor { IsActor (S.staged stage.old).plan.script actor }
@@ -109,8 +99,6 @@ impl Company {
 }
 
 /// How many queues a plan has.
-///
-/// Source: this project's own.
 pub fn queue_count(ordered: &Ordered) -> u32
     ensures { result ≡ length ordered.now.script.queues }
 {

@@ -1,4 +1,6 @@
 //! Makers of the three kinds of actors.
+//!
+//! Source: this project's own, where an item names no other.
 ghost use Rattle.std.specs.Prelude.{◌≡◌, IfOk};
 ghost use Rattle.vq_model.specs.declared.script.ActorName.{ActorName as Name};
 ghost use Rattle.vq_actor.specs.Actors.{acting_of};
@@ -9,15 +11,11 @@ use vq_model::script::ActorName;
 use vq_order::Ordered;
 
 /// Makes the host of a plan.
-///
-/// Source: this project's rule.
 #[derive(Clone, Copy)]
 pub struct HostActor;
 
 impl HostActor {
     /// The host. The error is that there is no memory.
-    ///
-    /// Source: this project's rule.
     pub fn new(alloc: Global, ordered: &Ordered) -> Result<Actor, AllocError>
         ensures { IfOk result (λ a. a ≡ acting_of ordered.now Name.Host) }
     {
@@ -26,15 +24,11 @@ impl HostActor {
 }
 
 /// Makes the submit actors of a plan's queues.
-///
-/// Source: this project's rule.
 #[derive(Clone, Copy)]
 pub struct SubmitActor;
 
 impl SubmitActor {
     /// The submit actor of a queue. The error is that there is no memory.
-    ///
-    /// Source: this project's rule.
     pub fn new(alloc: Global, ordered: &Ordered, queue: u32) -> Result<Actor, AllocError>
         ensures { IfOk result (λ a. a ≡ acting_of ordered.now (Name.Submit queue)) }
     {
@@ -43,15 +37,11 @@ impl SubmitActor {
 }
 
 /// Makes the rings of a plan's queues.
-///
-/// Source: this project's rule.
 #[derive(Clone, Copy)]
 pub struct RingActor;
 
 impl RingActor {
     /// The ring of a queue. The error is that there is no memory.
-    ///
-    /// Source: this project's rule.
     pub fn new(alloc: Global, ordered: &Ordered, queue: u32) -> Result<Actor, AllocError>
         ensures { IfOk result (λ a. a ≡ acting_of ordered.now (Name.Ring queue)) }
     {

@@ -1,4 +1,6 @@
 //! What the turns of several actors go over.
+//!
+//! Source: this project's own, where an item names no other.
 ghost use Rattle.std.specs.Prelude.{◌≡◌, ℕ};
 ghost use Rattle.vq_model.specs.declared.script.ActorName.{ActorName};
 ghost use Rattle.vq_turns.specs.declared.outcome.Outcome.{Outcome as AnyOutcome};
@@ -12,8 +14,6 @@ use vq_turns::outcome::Outcome;
 
 /// What the turns of several actors go over: it keeps the place of each, and lends an access for one turn of one
 /// of them. A turn of one actor leaves the places of the others as they are.
-///
-/// Source: this project's rule.
 pub trait Stage {
     /// The plan, the place of each actor, the state where it is told, the events that are noted and those of them
     /// that were made, and how far the record goes.

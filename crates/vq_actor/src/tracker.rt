@@ -1,4 +1,6 @@
 //! An actor's place, as the access that serves the actor keeps it.
+//!
+//! Source: this project's own, where an item names no other.
 ghost use Rattle.std.specs.Prelude.{◌≡◌, ◌<◌, ◌-◌, ◌^◌, [], None, true, All, map, length, IfOk};
 ghost use Rattle.std.specs.List.{range_with_len};
 ghost use Rattle.std.specs.Option.{option_map};
@@ -17,8 +19,6 @@ use vq_turns::task::Task;
 /// An actor's place in its program: how many tasks are done, and what is kept for the next one. The access that
 /// serves the actor keeps it, and no one else does. No call takes memory; each says how the place changes, and
 /// what has to have room for that. Where the waiting for needs has ended, a reference is still held.
-///
-/// Source: this project's rule.
 #[derive(Drop)]
 pub struct Tracker {
     done: usize,
@@ -105,8 +105,6 @@ impl Tracker {
     }
 
     /// One task more is done.
-    ///
-    /// Source: this project's rule.
     pub fn forward(&mut self)
         requires { self.old.place.done < 2 ^ 64 - 1 }
         ensures { self.new ≡ record self.old { place = forward self.old.place } }
@@ -115,8 +113,6 @@ impl Tracker {
     }
 
     /// A reference is held for a need of the next task.
-    ///
-    /// Source: this project's rule.
     pub fn refer(&mut self, need: usize, point: u32, op: u32)
         requires slot { need < self.old.slots }
         requires free { held_for need self.old.place.holding ≡ None }
@@ -126,8 +122,6 @@ impl Tracker {
     }
 
     /// A reference was looked at with success: the waiting has ended.
-    ///
-    /// Source: this project's rule.
     pub fn meet(&mut self)
         requires { self.old.place.holding ≡ [] → ⊥ }
         ensures { self.new ≡ record self.old { place = looked_at self.old.place } }
@@ -136,8 +130,6 @@ impl Tracker {
     }
 
     /// A need was found past: the waiting has ended, and where nothing is held the task is done.
-    ///
-    /// Source: this project's rule.
     pub fn pass(&mut self)
         requires { self.old.place.done < 2 ^ 64 - 1 }
         ensures { self.new ≡ record self.old { place = met_at self.old.place self.old.place.holding } }
@@ -149,8 +141,6 @@ impl Tracker {
     }
 
     /// The first reference was given back. The task is done with the last one.
-    ///
-    /// Source: this project's rule.
     pub fn give_back(&mut self)
         requires { self.old.place.done < 2 ^ 64 - 1 }
         ensures { self.new ≡ record self.old { place = given_back self.old.place self.old.place.holding } }
@@ -169,8 +159,6 @@ impl Tracker {
     }
 
     /// A value was compared with a chain's past value: the task is done.
-    ///
-    /// Source: this project's rule.
     pub fn see(&mut self, wanted: u64, past: u64)
         requires short { self.old.place.done < 2 ^ 64 - 1 }
         requires room { length self.old.place.seen < self.old.room }
@@ -181,8 +169,6 @@ impl Tracker {
     }
 
     /// What was compared was answered: the task is done.
-    ///
-    /// Source: this project's rule.
     pub fn answer(&mut self)
         requires { self.old.place.done < 2 ^ 64 - 1 }
         ensures { self.new ≡ record self.old { place = answered self.old.place } }

@@ -1,4 +1,6 @@
 //! The answers that a history gave.
+//!
+//! Source: this project's own, where an item names no other.
 ghost use Rattle.std.specs.Prelude.{◌≡◌, ◌<◌, ◌≤◌, ◌+◌, ◌++◌, ℕ, [], None, map, length, IfOk};
 ghost use Rattle.std.specs.List.{cons_option, range_with_len};
 ghost use Rattle.std.specs.Option.{option_map};
@@ -17,8 +19,6 @@ use vq_spec::Plan;
 
 /// Room for the answers to the host steps of a plan. It is made before a run, and filled after it.
 /// Contracts see for how many jobs there is room.
-///
-/// Source: this project's own.
 #[derive(Drop)]
 pub struct AnswerRoom {
     // What each job was answered: nothing yet.
@@ -40,8 +40,6 @@ impl Model for AnswerRoom {
 
 impl AnswerRoom {
     /// Room for all answers to a plan's host steps. The error is want of memory.
-    ///
-    /// Source: this project's own.
     pub fn new(alloc: Global, plan: &Plan) -> Result<AnswerRoom, AllocError>
         ensures { IfOk result (λ room. room ≡ length plan.now.jobs) }
     {
@@ -52,8 +50,6 @@ impl AnswerRoom {
 
     /// The answers that a core's history gave, in the order of the script, with the lines of their steps.
     /// It takes no memory.
-    ///
-    /// Source: this project's own.
     pub fn fill(self, core: &Core) -> Vec<AnswerLine>
         requires { self ≡ length core.now.plan.jobs }
         ensures { result.items ≡ lines_answered core.now.plan (world core.now).machine }

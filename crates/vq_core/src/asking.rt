@@ -1,4 +1,6 @@
 //! What an actor finds on a chain, and the events that it may try there next.
+//!
+//! Source: this project's own, where an item names no other.
 ghost use Rattle.std.specs.Prelude.{◌≡◌, ◌<◌, ◌||◌, not, true, length, nat_le, is_some, find, Some};
 ghost use Rattle.std.specs.List.{slice_get, filter_map};
 ghost use Rattle.vq_model.specs.Plan.{chain as ops_of, initial, resolver};
@@ -55,8 +57,6 @@ impl Core {
 
     /// The least operation before this one in its chain that isn't bound, if there is one: until then
     /// this one can't be bound.
-    ///
-    /// Source: this project's rule.
     pub fn unbound_before(&self, op: u32) -> Option<u32>
         requires { op < length self.now.plan.ops }
         ensures { result ≡ unbound_before self.now.plan (world self.now) op }
@@ -71,8 +71,6 @@ impl Core {
 
     /// The event that gives an operation of a chain a point: the free one that was freed last, or a new
     /// one, named by the number of points made, where none is free.
-    ///
-    /// Source: this project's rule.
     pub fn next_taken(&self, op: u32, chain: u32) -> Event
         requires { chain < length self.now.plan.chains }
         ensures { result ≡ taken (world self.now) op chain }
@@ -144,8 +142,6 @@ impl Core {
     /// What may be collected on a chain: its least pending operation becomes past if it is signaled;
     /// else the first point is freed that waits for it and to which no reference is held, if there is
     /// one.
-    ///
-    /// Source: this project's rule.
     pub fn next_collected(&self, chain: u32) -> Option<Event>
         requires { chain < length self.now.plan.chains }
         ensures { result ≡ collected self.now.plan (world self.now) chain }

@@ -1,4 +1,6 @@
 //! The core: a plan, what has happened, and what that has come to.
+//!
+//! Source: this project's own, where an item names no other.
 ghost use Rattle.std.specs.Prelude.{◌≡◌, ◌<◌, ◌≤◌, ◌==◌, ◌↔◌, ◌++◌, [], IsTrue, IfSome, IfOk, Some};
 ghost use Rattle.std.specs.Prelude.{length};
 ghost use Rattle.std.specs.List.{slice_get, list_any};
@@ -32,7 +34,7 @@ use vq_timeline_core::TimelineCore;
 
 /// A lawful plan, the events that came so far, and what they have come to. Each event came when it
 /// might: so the history is a run of the plan, and no point is used again too early. All memory is
-/// taken by `new`. Source: this project's rule.
+/// taken by `new`.
 pub struct Core {
     pub(crate) ordered: Ordered,
     pub(crate) history: Vec<Event>,
@@ -91,7 +93,7 @@ impl Model for Core {
     ghost invariant = { IsCore };
 }
 
-/// The parts of a core. Source: this project's own.
+/// The parts of a core.
 #[derive(Drop)]
 pub struct CoreParts {
     pub ordered: Ordered,
@@ -215,7 +217,7 @@ impl Core {
     }
 
     /// Whether a job is started.
-    pub fn is_started(&self, job: u32) -> bool
+    pub(crate) fn is_started(&self, job: u32) -> bool
         ensures { result ≡ (world self.now).machine.progress.started job }
     {
         self.jobs.at(job, JobRecord::idle()).started
@@ -236,14 +238,14 @@ impl Core {
     }
 
     /// How many points were made.
-    pub fn points_made(&self) -> u32
+    pub(crate) fn points_made(&self) -> u32
         ensures { result ≡ (world self.now).points }
     {
         self.points
     }
 
     /// The operation that a point carries.
-    pub fn carried(&self, point: u32) -> Option<u32>
+    pub(crate) fn carried(&self, point: u32) -> Option<u32>
         ensures { result ≡ (world self.now).carried point }
     {
         self.slots.at(point, PointSlot::empty()).carried
@@ -303,17 +305,8 @@ impl Core {
         index < self.timeline(chain).bound()
     }
 
-    /// Whether an operation is past.
-    pub fn is_past(&self, op: u32) -> bool
-        requires { op < length self.now.plan.ops }
-        ensures { result ≡ (world self.now).past op }
-    {
-        let Op { chain, index, .. } = self.plan().op(op);
-        index < self.timeline(chain).completed()
-    }
-
     /// The free point of a chain that was freed last.
-    pub fn free_point(&self, chain: u32) -> Option<u32>
+    pub(crate) fn free_point(&self, chain: u32) -> Option<u32>
         requires { chain < length self.now.plan.chains }
         ensures { result ≡ slice_get ((world self.now).free chain) 0 }
     {
@@ -353,7 +346,7 @@ impl Core {
     }
 
     /// Whether a reference to a point is held.
-    pub fn is_referenced(&self, point: u32) -> bool
+    pub(crate) fn is_referenced(&self, point: u32) -> bool
         ensures { result ≡ list_any (λ r. r.point == point) (world self.now).held }
     {
         self.slots.at(point, PointSlot::empty()).references > 0

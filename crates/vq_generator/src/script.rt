@@ -1,4 +1,6 @@
 //! The script that the program makes itself.
+//!
+//! Source: this project's own, where an item names no other.
 ghost use Rattle.std.specs.Prelude.{◌≡◌, ◌≤◌, IfOk};
 ghost use Rattle.vq_model.specs.Canonical.{canonical_text};
 ghost use Rattle.vq_generator.specs.Generated.{generated_script};
@@ -37,8 +39,6 @@ fn script(alloc: Global, rounds: u32) -> Result<Script, AllocError>
 /// round each of its four queues waits for the other three to be done with the round before, copies
 /// what the next queue wrote in it, and writes one word over the copy. With 500 rounds there are 2000
 /// batches, 4000 commands, 2000 signals and 6000 waits. The error is want of memory.
-///
-/// Source: this project's own.
 pub fn generate(alloc: Global, rounds: u32) -> Result<Vec<u8>, AllocError>
     requires first { 1 ≤ rounds }
     requires last { rounds ≤ 500 }

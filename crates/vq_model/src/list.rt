@@ -1,9 +1,11 @@
 //! Lists, names and bytes, which contracts see as lists.
+//!
+//! Source: this project's own, where an item names no other.
 ghost use Rattle.std.specs.Prelude.{◌≡◌, length, string_bytes};
 
 use std::marker::Model;
 
-/// A list of items. Source: this project's own.
+/// A list of items.
 #[derive(Drop)]
 pub struct List<T> {
     items: Vec<T>,
@@ -40,7 +42,7 @@ impl<T> List<T> {
     }
 }
 
-/// The bytes of a name. Source: this project's own.
+/// The bytes of a name.
 #[derive(Drop)]
 pub struct Name {
     text: String,
@@ -70,7 +72,7 @@ impl Name {
     }
 }
 
-/// Bytes that a command writes. Source: this project's own.
+/// Bytes that a command writes.
 #[derive(Drop)]
 pub struct Bytes {
     items: Vec<u8>,

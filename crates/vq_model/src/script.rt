@@ -1,5 +1,7 @@
 //! A script as data: what its text declares and submits. Lines are counted from 1; buffers,
 //! semaphores, queues and jobs from 0, in the order of the text.
+//!
+//! Source: this project's own, where an item names no other.
 ghost use Rattle.std.specs.Prelude.{◌≡◌, false};
 ghost use Rattle.std.specs.List.{slice_get};
 ghost use Rattle.std.specs.Option.{option_map_or};
@@ -65,7 +67,7 @@ pub struct Semaphore {
     pub kind: SemaphoreKind,
 }
 
-/// How a queue is submitted to. Source: this project's own.
+/// How a queue is submitted to.
 #[derive(Clone, Copy, Debug, PartialEq, Eq)]
 pub enum Mode {
     /// By the host, which hands each batch to the device at once.
@@ -200,7 +202,7 @@ pub enum Job {
     Batch(Batch),
 }
 
-/// Who takes a turn. Source: this project's own.
+/// Who takes a turn.
 #[derive(Clone, Copy)]
 pub enum ActorName {
     Host,
@@ -210,14 +212,14 @@ pub enum ActorName {
     Ring(u32),
 }
 
-/// One turn of a schedule. Source: this project's own.
+/// One turn of a schedule.
 #[derive(Clone, Copy)]
 pub struct Turn {
     pub line: u32,
     pub actor: ActorName,
 }
 
-/// A script. Source: this project's own.
+/// A script.
 #[derive(Drop)]
 pub struct Script {
     /// 1, or 2 where the text begins with `version 2`.

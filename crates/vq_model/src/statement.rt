@@ -1,9 +1,11 @@
 //! A script's lines as statements, and the faults of lines.
+//!
+//! Source: this project's own, where an item names no other.
 use crate::list::Name;
 use crate::script::{ActorName, Command, HostStep, Mode, Pair, SemaphoreKind};
 use std::fmt;
 
-/// Whether a text ends with a schedule. Source: this project's own.
+/// Whether a text ends with a schedule.
 #[derive(Clone, Copy)]
 pub enum Form {
     /// It has none.
@@ -12,7 +14,7 @@ pub enum Form {
     Scheduled,
 }
 
-/// The kinds of faults, in their order within a line. Source: this project's own.
+/// The kinds of faults, in their order within a line.
 #[derive(Clone, Copy, Debug, PartialEq, Eq)]
 pub enum FaultKind {
     /// A byte or a name isn't as it must be, or the words match no line of their place.
@@ -53,7 +55,7 @@ impl fmt::Display for FaultKind {
     }
 }
 
-/// The parts of a text. Source: this project's own.
+/// The parts of a text.
 #[derive(Clone, Copy)]
 pub enum Section {
     Outside,
@@ -61,7 +63,7 @@ pub enum Section {
     InSchedule,
 }
 
-/// The forms of lines. Source: this project's own.
+/// The forms of lines.
 #[derive(Clone, Copy)]
 pub enum LineForm {
     VersionLine,
@@ -98,7 +100,7 @@ pub enum LineForm {
     TurnsLine,
 }
 
-/// What a line says. Source: this project's own.
+/// What a line says.
 #[derive(Drop)]
 pub enum Statement {
     HasVersion { version: u32 },
@@ -116,7 +118,7 @@ pub enum Statement {
     TakeTurns { actor: ActorName, count: u32 },
 }
 
-/// A statement with the number of its line, from 1. Source: this project's own.
+/// A statement with the number of its line, from 1.
 #[derive(Drop)]
 pub struct Line {
     pub number: u32,

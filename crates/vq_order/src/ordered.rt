@@ -1,4 +1,6 @@
 //! Plans that were checked.
+//!
+//! Source: this project's own, where an item names no other.
 ghost use Rattle.std.specs.Prelude.{◌≡◌, ◌<◌, ◌≤◌, ◌↔◌, IsTrue, length};
 ghost use Rattle.std.specs.List.{slice_index_or};
 ghost use Rattle.vq_model.specs.Checks.{IsLawful};
@@ -47,8 +49,6 @@ impl Ordered {
     }
 
     /// The plan.
-    ///
-    /// Source: this project's rule.
     pub fn plan(&self) -> &Plan
         ensures value { result.now ≡ self.now }
         ensures lawful { IsLawful self.now }
@@ -58,8 +58,6 @@ impl Ordered {
     }
 
     /// The jobs in the order of the slow run, which does them all.
-    ///
-    /// Source: this project's rule.
     pub fn slow_order(&self) -> &[u32]
         ensures { result.now ≡ slow_order self.now }
     {

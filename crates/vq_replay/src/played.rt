@@ -1,8 +1,10 @@
 //! Turns that were played.
+//!
+//! Source: this project's own, where an item names no other.
 use vq_model::script::ActorName;
 use vq_turns::outcome::Outcome;
 
-/// A turn that was played, and what it came to. Source: this project's rule.
+/// A turn that was played, and what it came to.
 #[derive(Clone, Copy)]
 pub struct Played {
     /// The number of the turn in its schedule, from 1.

@@ -1,4 +1,6 @@
 //! A schedule, turn by turn.
+//!
+//! Source: this project's own, where an item names no other.
 ghost use Rattle.std.specs.Prelude.{◌≡◌, ◌<◌, ◌^◌, All, IfOk, length};
 ghost use Rattle.vq_model.specs.ValidScripts.{IsActor};
 ghost use Rattle.vq_replay.specs.Schedules.{AreBlockedSo};
@@ -12,8 +14,6 @@ use vq_order::Ordered;
 use vq_troupe::Troupe;
 
 /// What a schedule came to: its turns, and the core after them.
-///
-/// Source: this project's rule.
 pub struct Replayed {
     pub played: Vec<Played>,
     pub core: Core,
@@ -30,8 +30,6 @@ impl Drop for Replayed {
 
 /// Plays the turns of a schedule, in order and numbered from 1, over a new core. Where a turn is blocked, the thing
 /// that its want names isn't so in the state that the turns before it leave. The error is that there is no memory.
-///
-/// Source: this project's rule.
 pub fn replay(alloc: Global, ordered: Ordered, turns: &[Turn]) -> Result<Replayed, AllocError>
     requires few { length turns.now < 2 ^ 32 }
     requires actors { All (λ t. IsActor ordered.script t.actor) turns.now }

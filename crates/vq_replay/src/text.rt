@@ -1,4 +1,6 @@
 //! The text of a schedule that was played.
+//!
+//! Source: this project's own, where an item names no other.
 ghost use Rattle.std.specs.Prelude.{◌≡◌, ◌++◌, codes, IfOk, OnOk};
 ghost use Rattle.std.specs.Fmt.{decimal};
 ghost use Rattle.vq_model.specs.OutputText.{answers_of, line_feed};
@@ -46,8 +48,6 @@ fn push_finished(alloc: Global, out: &mut Vec<u8>, core: &Core) -> Result<(), Al
 
 /// The text of a schedule that was played: a line for each turn, and then what it leaves: the answers and
 /// the buffers, or how many jobs aren't finished. The error is want of memory.
-///
-/// Source: this project's rule.
 pub fn trace_text(alloc: Global, replayed: &Replayed) -> Result<Vec<u8>, AllocError>
     ensures { IfOk result (λ text. text.items ≡ trace_text replayed.now.core.plan
         replayed.now.played.items (world replayed.now.core).machine) }

@@ -1,8 +1,10 @@
 //! How a run of the program ends.
+//!
+//! Source: this project's own, where an item names no other.
 ghost use Rattle.std.specs.Prelude.{◌≡◌};
 ghost use Rattle.vq_run.specs.Outcomes.{status_number};
 
-/// How a run ended. Its number is the program's exit status. Source: this project's own.
+/// How a run ended. Its number is the program's exit status.
 #[derive(Clone, Copy, Debug, PartialEq, Eq)]
 pub enum Status {
     /// The whole text was written.

@@ -1,4 +1,6 @@
 //! The tasks that start no thread.
+//!
+//! Source: this project's own, where an item names no other.
 ghost use Rattle.std.specs.Prelude.{◌≡◌, IfSome};
 ghost use Rattle.vq_port.specs.Faults.{Rose};
 ghost use Rattle.vq_run.specs.Outcomes.{Ends, IsDoneOrMemory, IsLawfulInput, ReadsToEnd, WritesNothing};
@@ -18,7 +20,7 @@ use vq_words::Task;
 /// The source is read to its end. An input above 4,194,304 bytes, a faulty line, a script without a plan and
 /// an unlawful plan are `Refused`, with the line of the first fault. `ReadFault` comes only where the source
 /// counted a fault in this call, `WriteFault` only where the sink did; `Memory` is want of memory, and
-/// `BadWords` never comes. The whole text is written at once, at the end. Source: this project's own.
+/// `BadWords` never comes. The whole text is written at once, at the end.
 pub fn still<S: Source, K: Sink>(alloc: Global, task: &Task, source: &mut S, sink: &mut K) -> Status
     requires { IsStill task.now }
     // It writes the first fault of the script, or what answers the task.

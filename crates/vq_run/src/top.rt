@@ -1,4 +1,6 @@
 //! The top call.
+//!
+//! Source: this project's own, where an item names no other.
 ghost use Rattle.std.specs.Prelude.{◌≡◌, ◌≤◌, map, string_bytes, false, true, Some, None, IfOk, IfSome};
 ghost use Rattle.vq_port.specs.Faults.{Rose};
 ghost use Rattle.vq_words.specs.declared.task.Task.{Task};
@@ -115,7 +117,7 @@ fn run_generated<R: Threads + Wait + Sync, K: Sink, G: Gate>(
 /// and an unlawful plan are `Refused`, with the line of the first fault; else the text is one that a run
 /// of the script may give, or `lawful`. `ReadFault` comes only where the source counted a fault in this
 /// call, `WriteFault` only where the sink did; `Memory` is want of memory. The whole text is written at
-/// once, at the end. Source: this project's own.
+/// once, at the end.
 pub fn run<R: Threads + Wait + Sync, S: Source, K: Sink, G: Gate>(
     rt: &R,
     alloc: Global,

@@ -1,4 +1,6 @@
 //! The text of answers.
+//!
+//! Source: this project's own, where an item names no other.
 ghost use Rattle.std.specs.Prelude.{◌≡◌, ◌++◌, IfOk, OnOk, codes};
 ghost use Rattle.std.specs.Fmt.{decimal};
 ghost use Rattle.vq_model.specs.OutputText.{answer_line, answer_text, answer_words};
@@ -39,8 +41,6 @@ fn push_line(alloc: Global, out: &mut Vec<u8>, line: AnswerLine) -> Result<(), A
 
 /// The text of answers: for each a line with the line of its step and what it was answered, `ok`,
 /// `timeout`, `not-ready`, or `value` and a payload. The error is want of memory.
-///
-/// Source: this project's rule.
 pub fn answer_text(alloc: Global, lines: &[AnswerLine]) -> Result<Vec<u8>, AllocError>
     ensures { IfOk result (λ text. text.items ≡ answer_text lines.now) }
 {

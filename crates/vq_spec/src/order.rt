@@ -1,4 +1,6 @@
 //! The order of the slow run of a plan.
+//!
+//! Source: this project's own, where an item names no other.
 ghost use Rattle.std.specs.Prelude.{◌≡◌, ◌<◌, ◌^◌, ◌++◌, ◌∷◌, [], if◌then◌else◌, IfOk};
 ghost use Rattle.std.specs.Prelude.{OnOk, length, filter, not};
 ghost use Rattle.std.specs.List.{range_with_len};
@@ -62,8 +64,6 @@ fn unmarked(alloc: Global, marks: &[bool]) -> Result<List<u32>, AllocError>
 }
 
 /// The order of the slow run of a plan, without its commands. The error is want of memory.
-///
-/// Source: this project's rule.
 pub fn slow_order(alloc: Global, plan: &Plan) -> Result<SlowOrder, AllocError>
     ensures plan { IfOk result (λ run. IsPlan plan.now) }
     ensures order { IfOk result (λ run. run.order ≡ slow_order plan.now) }

@@ -1,4 +1,6 @@
 //! The plan of a script.
+//!
+//! Source: this project's own, where an item names no other.
 ghost use Rattle.std.specs.Prelude.{◌≡◌, ◌<◌, ◌↔◌, ℕ, length, Some, IsNone};
 ghost use Rattle.std.specs.List.{slice_get};
 ghost use Rattle.vq_model.specs.Checks.{is_immediate_batch};
@@ -61,8 +63,6 @@ impl Plan {
     }
 
     /// The script that was lowered. The plan is the one of this script.
-    ///
-    /// Source: this project's rule.
     pub fn script(&self) -> &Script
         ensures script { result.now ≡ self.now.script }
         ensures plan { IsPlan self.now }
@@ -71,8 +71,6 @@ impl Plan {
     }
 
     /// How many jobs there are.
-    ///
-    /// Source: this project's rule.
     pub fn jobs(&self) -> u32
         ensures { result ≡ length self.now.jobs }
     {
@@ -90,8 +88,6 @@ impl Plan {
     }
 
     /// Whether a job is a batch of an immediate queue, which the host moves as soon as it has submitted it.
-    ///
-    /// Source: this project's rule.
     pub fn is_immediate(&self, j: u32) -> bool
         requires { j < length self.now.jobs }
         ensures { result ≡ is_immediate_batch self.now j }
@@ -122,8 +118,6 @@ impl Plan {
     }
 
     /// How many chains there are: one for each semaphore and each fence.
-    ///
-    /// Source: this project's rule.
     pub fn chains(&self) -> u32
         ensures { result ≡ length self.now.chains }
     {
@@ -168,8 +162,6 @@ impl Plan {
     }
 
     /// How many commands there are in all batches.
-    ///
-    /// Source: this project's rule.
     pub fn commands(&self) -> u32
         ensures { result ≡ length self.now.commands }
     {
@@ -177,8 +169,6 @@ impl Plan {
     }
 
     /// A command; commands are numbered from 0 through all batches.
-    ///
-    /// Source: this project's rule.
     pub fn command(&self, c: u32) -> &CommandLine
         requires { c < length self.now.commands }
         ensures { slice_get self.now.commands c ≡ Some result.now }

@@ -1,4 +1,6 @@
 //! The slow run of a plan: what its script means.
+//!
+//! Source: this project's own, where an item names no other.
 ghost use Rattle.std.specs.Prelude.{◌≡◌, ◌<◌, IfOk, length, map};
 ghost use Rattle.vq_model.specs.LoweringFaults.{IsPlan};
 ghost use Rattle.vq_model.specs.Memory.{HasSizes, after_all, zeros_of};
@@ -38,8 +40,6 @@ fn sizes_of(alloc: Global, script: &Script) -> Result<Vec<u32>, AllocError>
 }
 
 /// Buffers of the sizes that a script declares, all bytes zero. The error is want of memory.
-///
-/// Source: this project's rule.
 pub fn zero_buffers(alloc: Global, script: &Script) -> Result<Buffers, AllocError>
     requires { IsRead script.now }
     ensures bytes { IfOk result (λ buffers. buffers ≡ zeros_of (sizes_of script.now)) }
@@ -65,8 +65,6 @@ fn apply_job(plan: &Plan, j: u32, buffers: &mut Buffers)
 
 /// The buffers after the jobs of a plan were done in the order of its slow run, each whole. The
 /// error is want of memory.
-///
-/// Source: this project's rule.
 pub fn apply_in_order(alloc: Global, plan: &Plan, order: &[u32]) -> Result<Buffers, AllocError>
     requires { order.now ≡ slow_order plan.now }
     ensures bytes { IfOk result (λ buffers. buffers ≡ final plan.now) }
@@ -80,8 +78,6 @@ pub fn apply_in_order(alloc: Global, plan: &Plan, order: &[u32]) -> Result<Buffe
 }
 
 /// The slow run of a plan. The error is want of memory.
-///
-/// Source: this project's rule.
 pub fn slow_run(alloc: Global, plan: &Plan) -> Result<SlowRun, AllocError>
     ensures order { IfOk result (λ run. run.order ≡ slow_order plan.now) }
     ensures stuck { IfOk result (λ run. run.stuck ≡ left_over plan.now) }

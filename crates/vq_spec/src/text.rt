@@ -1,4 +1,6 @@
 //! The text of buffers.
+//!
+//! Source: this project's own, where an item names no other.
 ghost use Rattle.std.specs.Prelude.{◌≡◌, ◌++◌, ◌<◌, OnOk, IfOk, length};
 ghost use Rattle.vq_model.specs.Memory.{HasSizes};
 ghost use Rattle.vq_model.specs.OutputText.{buffer_text, buffers_text};
@@ -40,8 +42,6 @@ fn text_size(buffers: &Buffers) -> usize {
 /// The text of buffers: for each buffer a line with its name and its size, and its bytes in
 /// hexadecimal digits, sixteen bytes to a line; the last line is `end`. The error is want of
 /// memory.
-///
-/// Source: this project's rule.
 pub fn buffers_text(alloc: Global, plan: &Plan, buffers: &Buffers) -> Result<Vec<u8>, AllocError>
     requires { HasSizes (sizes_of plan.now.script) buffers.now }
     ensures { IfOk result (λ text. text.items ≡ buffers_text plan.now.script.buffers buffers.now) }

@@ -1,4 +1,6 @@
 //! The canonical text of a script.
+//!
+//! Source: this project's own, where an item names no other.
 ghost use Rattle.std.specs.Prelude.{◌≡◌, IfOk};
 ghost use Rattle.vq_model.specs.SameScript.{IsScript};
 ghost use Rattle.vq_model.specs.Canonical.{canonical_text};
@@ -17,8 +19,6 @@ use vq_model::script::Script;
 /// of one actor are one line, with their count where it is above 1. Numerals are decimal; the word of
 /// a fill is `0x` and eight lower-case digits, and the bytes of an update are lower-case digits.
 /// The error is want of memory.
-///
-/// Source: this project's own.
 pub fn print(alloc: Global, script: &Script) -> Result<Vec<u8>, AllocError>
     requires { IsScript script.now }
     ensures { IfOk result (λ text. text.items ≡ canonical_text script.now) }

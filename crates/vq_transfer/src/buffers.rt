@@ -1,4 +1,6 @@
 //! The bytes of all buffers.
+//!
+//! Source: this project's own, where an item names no other.
 ghost use Rattle.std.specs.Prelude.{◌≡◌, ◌≢◌, ℕ, false, [], ◌+◌, ◌<◌, ◌≤◌, ◌^◌};
 ghost use Rattle.std.specs.Prelude.{◌↔◌, IsTrue, IfOk, length, map};
 ghost use Rattle.std.specs.List.{range_with_len, slice_index_or};
@@ -53,8 +55,6 @@ impl Buffers {
     }
 
     /// How many buffers there are.
-    ///
-    /// Source: this project's rule.
     pub fn count(&self) -> u32
         ensures count { result ≡ length self.now }
         ensures small { length self.now < 2 ^ 32 }
@@ -63,8 +63,6 @@ impl Buffers {
     }
 
     /// The bytes of a buffer; buffers are numbered from 0.
-    ///
-    /// Source: this project's rule.
     pub fn bytes(&self, buffer: u32) -> &[u8]
         requires { buffer < length self.now }
         ensures { result.now ≡ slice_index_or self.now buffer [] }

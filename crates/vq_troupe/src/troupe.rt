@@ -1,4 +1,6 @@
 //! All actors of a plan over one core.
+//!
+//! Source: this project's own, where an item names no other.
 ghost use Rattle.std.specs.Prelude.{◌≡◌, [], IfOk};
 ghost use Rattle.vq_model.specs.ValidScripts.{IsActor};
 ghost use Rattle.vq_turns.specs.Wants.{IsNotSo};
@@ -18,8 +20,6 @@ use vq_turns::outcome::Outcome;
 
 /// A core with the host, and the submit actor and the ring of each queue, each at its place in its program. All
 /// places are true of the core: what an actor has done stands in the core's history.
-///
-/// Source: this project's rule.
 pub struct Troupe {
     company: Company,
     stage: CoreStage,
@@ -48,8 +48,6 @@ impl Model for Troupe {
 impl Troupe {
     /// All actors before their first turns, over a core without events. It takes the memory for all turns; the
     /// error is that there is none.
-    ///
-    /// Source: this project's rule.
     pub fn new(alloc: Global, ordered: Ordered) -> Result<Troupe, AllocError>
         ensures course { IfOk result (λ x. x.course ≡ record { plan = ordered; history = [] }) }
         ensures first { IfOk result (λ x. places x ≡ first_places) }
@@ -64,8 +62,6 @@ impl Troupe {
     /// host serves them, in the order of the queues, before it goes on with the host's own program. Where the turn
     /// is blocked, the thing that its want names isn't so. Where nothing of an actor is left to do, the turn has
     /// ended, and so has each later one.
-    ///
-    /// Source: this project's rule.
     pub fn play(&mut self, actor: ActorName) -> Outcome
         requires { IsActor self.old.course.plan.script actor }
         ensures turn { Plays self.old self.new actor result }
@@ -75,8 +71,6 @@ impl Troupe {
     }
 
     /// The core, as the turns so far left it.
-    ///
-    /// Source: this project's rule.
     pub fn core(&self) -> &Core
         ensures { result.now ≡ self.now.course }
     {
@@ -84,8 +78,6 @@ impl Troupe {
     }
 
     /// The core after the turns, without the actors.
-    ///
-    /// Source: this project's rule.
     pub fn into_core(self) -> Core
         ensures { result ≡ self.course }
     {

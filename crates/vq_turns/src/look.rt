@@ -1,4 +1,6 @@
 //! What an actor finds, holds and has seen while it waits.
+//!
+//! Source: this project's own, where an item names no other.
 
 /// What a look for a value of a chain finds, by the operation that resolves it: the first of the chain with
 /// this value or a greater one. Source: this project's own, over Vulkan 1.3, "Semaphore Waiting".
@@ -13,7 +15,7 @@ pub enum Found {
 }
 
 /// A reference to a point that an actor holds, while the point carries this operation. The need for which it
-/// was taken is named by its index in the task, from 0. Source: this project's own.
+/// was taken is named by its index in the task, from 0.
 #[derive(Clone, Copy, Debug, PartialEq, Eq)]
 pub struct Holding {
     pub need: u32,
@@ -22,7 +24,6 @@ pub struct Holding {
 }
 
 /// A value that was asked for, with the past value of the chain when it was compared.
-/// Source: this project's own.
 #[derive(Clone, Copy, Debug, PartialEq, Eq)]
 pub struct Seen {
     pub wanted: u64,

@@ -1,7 +1,9 @@
 //! What a turn comes to.
+//!
+//! Source: this project's own, where an item names no other.
 use vq_model::plan::Event;
 
-/// What a blocked actor waits for. Source: this project's own.
+/// What a blocked actor waits for.
 #[derive(Clone, Copy, Debug, PartialEq, Eq)]
 pub enum Want {
     /// A batch is submitted.
@@ -24,7 +26,7 @@ pub enum Want {
     Listed { op: u32 },
 }
 
-/// What a turn comes to. Source: this project's own.
+/// What a turn comes to.
 #[derive(Clone, Copy)]
 pub enum Outcome {
     /// The turn made this event.

@@ -1,4 +1,6 @@
 //! The words of the command line, read.
+//!
+//! Source: this project's own, where an item names no other.
 ghost use Rattle.std.specs.Prelude.{◌≡◌, IfOk, map, option_map, string_bytes};
 ghost use Rattle.vq_words.specs.Grammar.{Gives, HasFewRounds, task_of};
 ghost use Rattle.vq_words.specs.Options.{has_clap_form, task_by};
@@ -38,7 +40,7 @@ fn task_by(check: bool, replay: bool, number: Option<&str>) -> Option<Task>
 ///
 /// The words are none, `--check` alone, `--replay` alone, `--generate` and N, or `--generate=N` as one
 /// word, where N is one to three decimal digits that write a number from 1 to 500. `Bad` comes for every
-/// other list, and `Memory` where memory is wanting. Source: this project's own.
+/// other list, and `Memory` where memory is wanting.
 pub fn read_words(alloc: Global, words: &[String]) -> Result<Task, WordsFault>
     ensures asked { Gives result (task_of (map string_bytes words.now)) }
     ensures rounds { IfOk result HasFewRounds }

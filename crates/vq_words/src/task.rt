@@ -1,6 +1,8 @@
 //! What the words of the command line ask for.
+//!
+//! Source: this project's own, where an item names no other.
 
-/// What a run is asked for. Source: this project's own.
+/// What a run is asked for.
 #[derive(Clone, Copy, Debug, PartialEq, Eq)]
 pub enum Task {
     /// Without words: the script is run, and its answers and buffers are written.
@@ -13,7 +15,7 @@ pub enum Task {
     Generate(u32),
 }
 
-/// Why words are not read. Source: this project's own.
+/// Why words are not read.
 #[derive(Clone, Copy, Debug, PartialEq, Eq)]
 pub enum WordsFault {
     /// The words are outside the grammar.
