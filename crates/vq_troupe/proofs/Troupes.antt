@@ -25,7 +25,7 @@ use Rattle.vq_actor.specs.Trackers.{Tracked, FitsIn}
 use Rattle.vq_core.specs.CoreState.{Course, IsCourse, world}
 use Rattle.vq_troupe.specs.CoreAccesses.{shown_by, with_event}
 use Rattle.vq_troupe.specs.Seats.{HasSeat, HoldsForNeeds, IsSeated}
-use Rattle.vq_troupe.specs.Casts.{AreSeated, Cast, HasActor, PlayedOne, Plays, TookTurn, cast, course_after, each_event}
+use Rattle.vq_troupe.specs.Casts.{AreSeated, Cast, HasActor, Plays, TookTurn, cast, course_after, each_event}
 use Rattle.vq_troupe.specs.Casts.{no_seat, places, places_of, seat_at, staged_of}
 use Rattle.vq_troupe.proofs.CoreAnswers.{some_same}
 use Rattle.vq_troupe.proofs.Serving as serving
