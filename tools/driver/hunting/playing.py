@@ -39,6 +39,11 @@ class Tried:
         self.counts[kind] += count
         self.first.setdefault(kind, Fault(kind, text, said))
 
+    def end(self, kind, text, said):
+        """A run without a text of its own, the last one."""
+        self.runs += 1
+        self.add(kind, text, said)
+
 
 class Player:
     """A player's command, with the words that go behind it."""
@@ -75,11 +80,11 @@ class Player:
             if misfit is not None and not (is_hung and misfit.found.endswith(b' hang\n')):
                 tried.add('wrong', text, misfit.text(), count)
         if status == LOST:
-            tried.add('lost', printed, said.split('\n', maxsplit=1)[0])
+            tried.end('lost', printed, [line for line in said.split('\n') if line.startswith('play: ')][-1])
         elif status == HUNG and 'hung' not in tried.counts:
-            tried.add('hung', printed, said)
+            tried.end('hung', printed, said)
         elif status < 0:
-            tried.add('crashed', printed, f'the player was ended by signal {-status}')
+            tried.end('crashed', printed, f'the player was ended by signal {-status}')
 
 
 def hang_line(text):

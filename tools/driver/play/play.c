@@ -73,9 +73,9 @@ void look_at(const struct play *play, VkResult result, const char *call, uint32_
     if (result == VK_SUCCESS)
         return;
     if (line == 0)
-        fprintf(stderr, "play: %s: %s; the script:\n", call, result_name(result));
+        fprintf(stderr, "play: %s: %s\nthe script:\n", call, result_name(result));
     else
-        fprintf(stderr, "play: line %u: %s: %s; the script:\n", line, call, result_name(result));
+        fprintf(stderr, "play: line %u: %s: %s\nthe script:\n", line, call, result_name(result));
     fwrite(play->source.bytes, 1, play->source.size, stderr);
     /* nothing may be left running, and a lost device can't be closed */
     _Exit(LOST);
