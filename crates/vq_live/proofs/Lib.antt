@@ -1,0 +1,6 @@
+mod Slots
+mod Values
+mod Finding
+mod Taking
+mod Completing
+mod Removing

@@ -1,0 +1,61 @@
+use Rattle.std.proofs.Common.{set, take, ◌≡◌, ℕ, length, ◌-◌, List, sym, ◌∙◌, ap, subst, arith, reverse}
+use Rattle.vq_live.specs.Live.{KeepsFree, IsUnused, pending, Live, KeepsLive}
+use Rattle.vq_live.specs.Calls.{busy}
+use Rattle.vq_live.specs.Places.{IsPlace}
+use Rattle.vq_live.specs.Fields.{live_of}
+use Rattle.vq_live.specs.declared.answers.Given.{Given}
+use Rattle.std.proofs.lemmas.List.{length-set}
+use Rattle.vq_live.proofs.Slots.{idle_unused}
+use Rattle.vq_live.proofs.Taking.{reuse_keeps, last_free}
+use Rattle.vq_live.proofs.live.LiveTimeline.take.Goals as goal
+
+pub insert-requires : goal.insert-requires
+insert-requires c =
+    let bound = (subst (λ (u : Live). IsPlace u c.args.value c.in_ok-place.place) (sym c.self.view_is) c.in_ok-place.ensures.ok).bound in
+    let size = c.self.inside.ops.ok.0 in
+    omega arith
+
+pub invariant_of-self-in-Ok : goal.invariant_of-self-in-Ok
+invariant_of-self-in-Ok c =
+    let t = live_of c.self.inside in
+    let v = c.args.value in
+    let xs = c.self.inside.free.items in
+    let x = c.in-Some.last.now in
+    let place = subst (λ (u : Live). IsPlace u v c.in_ok-place.place) (sym c.self.view_is) c.in_ok-place.ensures.ok in
+    let first = last_free xs c.deref.result.now x c.deref.ensures.value c.in-Some.ensures.item.0 c.in-Some.ensures.item.1 in
+    let count : c.len-rest.result ≡ length xs = c.len-rest.ensures ∙ c.self.inside.free.ok.0 in
+    let rest : c.truncate.new.self.items ≡ take (length xs - 1) xs = c.truncate.ensures.items ∙ ap (λ (n : ℕ). take (n - 1) xs) count in
+    let kept = reuse_keeps t v x (reverse (take (length xs - 1) xs)) c.self.invariant.kept place.fine first in
+    let size = length-set t.slots x busy in
+    let capacity = c.truncate.ensures.capacity in
+    let few = c.self.invariant.few in
+    let room = c.self.invariant.room in
+    record {
+      kept = subst (λ (f : List ℕ). KeepsLive (record t { ops = c.insert.new.self.items; slots = set t.slots x busy; free = reverse f })) (sym rest)
+          (subst (λ (ops : List Given). KeepsLive (record t { ops = ops; slots = set t.slots x busy; free = reverse (take (length xs - 1) xs) })) (sym (c.in-Ok.ensures.items ∙ place.inserted x)) kept);
+      few = omega arith;
+      room = omega arith;
+    }
+
+pub returns-in-Ok-clause-kept : goal.returns-in-Ok-clause-kept
+returns-in-Ok-clause-kept c = (invariant_of-self-in-Ok c).kept
+
+pub returns-in-Ok-clause-unused : goal.returns-in-Ok-clause-unused
+returns-in-Ok-clause-unused c =
+    let t = live_of c.self.inside in
+    let v = c.args.value in
+    let xs = c.self.inside.free.items in
+    let x = c.in-Some.last.now in
+    let place = subst (λ (u : Live). IsPlace u v c.in_ok-place.place) (sym c.self.view_is) c.in_ok-place.ensures.ok in
+    let first = last_free xs c.deref.result.now x c.deref.ensures.value c.in-Some.ensures.item.0 c.in-Some.ensures.item.1 in
+    let points = subst (KeepsFree t.slots) first c.self.invariant.kept.points in
+    subst (λ (u : Live). IsUnused x u.ops) c.self.view_is (idle_unused t.slots t.ops x c.self.invariant.kept.out points.idle.1.0)
+
+pub returns-in-Ok-clause-pending : goal.returns-in-Ok-clause-pending
+returns-in-Ok-clause-pending c =
+    let t = live_of c.self.inside in
+    let v = c.args.value in
+    let xs = c.self.inside.free.items in
+    let x = c.in-Some.last.now in
+    let place = subst (λ (u : Live). IsPlace u v c.in_ok-place.place) (sym c.self.view_is) c.in_ok-place.ensures.ok in
+    ap (take t.installed) (c.in-Ok.ensures.items ∙ place.inserted x) ∙ place.before x ∙ ap pending c.self.view_is

@@ -1,0 +1,4 @@
+pub mod Live
+pub mod Calls
+pub mod Places
+pub mod Fields

@@ -1,0 +1,401 @@
+ghost use Rattle.std.specs.Prelude.{◌≡◌, ◌⊎◌, ◌↔◌, ◌∷◌, ◌++◌, ◌<◌, ◌≤◌, [], ℕ, true, if◌then◌else◌, length};
+ghost use Rattle.std.specs.Prelude.{slice_set, None, Some, IsErr, IfOk, IfErr, OnOk, OnErr};
+ghost use Rattle.std.specs.Vec.{vec_capacity, vec_len};
+ghost use Rattle.std.specs.List.{slice_get};
+ghost use Rattle.std.specs.List.Sorted.{IsPartitionPoint};
+ghost use Rattle.vq_live.specs.Live.{opened, KeepsLive, pending_value, pending, slot_at, no_slot, is_idle, IsUnused};
+ghost use Rattle.vq_live.specs.Calls.{signal_fault, after_signal, install_fault, after_install, found};
+ghost use Rattle.vq_live.specs.Calls.{first_pending, after_complete, cancel_fault, after_cancel};
+ghost use Rattle.vq_live.specs.Calls.{refer_answer, after_refer, after_unref};
+ghost use Rattle.vq_live.specs.Calls.{take_fault, given_to, after_take, MayLack};
+ghost use Rattle.vq_live.specs.Places.{IsPlace, IsTakenAt};
+
+use crate::{
+    CancelFault, Found, Given, Held, InstallFault, ReferFault, SignalFault, Slot, TakeFault,
+};
+use std::alloc::{AllocError, Global};
+use std::collections::VecDeque;
+use std::marker::Model;
+
+/// One live timeline, which learns its values as submissions come. An operation is given a point
+/// (`take`), in whatever order; it is installed when its submission is made, and completed when its
+/// work is done, both in the order of the values. Then its point is used again, once nobody holds it.
+/// Points are numbers, under which the caller keeps its binary sync objects. No call but `take` needs
+/// memory: each take that makes a fresh point has room for freeing it, so nothing else can lack any.
+/// Room grows by doubling, and shrinks only when the timeline is dropped. This project's own.
+#[derive(Drop)]
+pub struct LiveTimeline {
+    payload: u64,
+    // The operations that aren't completed, by value: the installed ones, then those only taken.
+    ops: VecDeque<Given>,
+    installed: usize,
+    slots: Vec<Slot>,
+    // The one freed last stands last.
+    free: Vec<u32>,
+}
+
+impl Model for LiveTimeline {
+    ghost use Rattle.vq_live.specs.Live.{Live};
+
+    ghost Value = { Live };
+
+    ghost use Rattle.vq_live.specs.Fields.{live_of, IsSound};
+
+    ghost view = { live_of };
+
+    ghost invariant = { IsSound };
+}
+
+impl LiveTimeline {
+    /// A timeline that reached this value, with no points.
+    pub fn new(alloc: Global, initial: u64) -> LiveTimeline
+        ensures made { result ≡ opened initial }
+        ensures kept { KeepsLive result }
+    {
+        LiveTimeline {
+            payload: initial,
+            ops: VecDeque::new(alloc),
+            installed: 0,
+            slots: Vec::new(alloc),
+            free: Vec::new(alloc),
+        }
+    }
+
+    /// The value that the timeline reached.
+    pub fn value(&self) -> u64
+        ensures { result ≡ self.now.payload }
+    {
+        self.payload
+    }
+
+    /// The host sets a value, above the one reached and below each that is taken or pending.
+    pub fn signal(&mut self, value: u64) -> Result<(), SignalFault>
+        ensures ok { OnOk result (signal_fault self.old value ≡ None) }
+        ensures err { IfErr result (λ fault. signal_fault self.old value ≡ Some fault) }
+        ensures after { OnOk result (self.new ≡ after_signal self.old value) }
+        ensures unchanged { OnErr result (self.new ≡ self.old) }
+        ensures rises { self.old.payload ≤ self.new.payload }
+        ensures kept { KeepsLive self.new }
+    {
+        if value <= self.payload {
+            return Err(SignalFault::NotAbove {
+                payload: self.payload,
+            });
+        }
+        match self.ops.front() {
+            Some(first) if first.value <= value => {
+                return Err(SignalFault::Outstanding { first: first.value });
+            }
+            _ => {}
+        }
+        self.payload = value;
+        Ok(())
+    }
+
+    /// Installs the operation that was taken for the least value: its submission is made, and it is
+    /// pending from then on. An operation whose value isn't above the pending one was installed
+    /// before, perhaps by a reader that helped, and is answered with `Already`.
+    pub fn install(&mut self, given: Given) -> Result<(), InstallFault>
+        ensures ok { OnOk result (install_fault self.old given ≡ None) }
+        ensures err { IfErr result (λ fault. install_fault self.old given ≡ Some fault) }
+        ensures after { OnOk result (self.new ≡ after_install self.old) }
+        ensures unchanged { OnErr result (self.new ≡ self.old) }
+        ensures rises { self.old.payload ≤ self.new.payload }
+        ensures kept { KeepsLive self.new }
+    {
+        if given.value <= self.pending_value() {
+            return Err(InstallFault::Already);
+        }
+        match self.ops.get(self.installed) {
+            None => Err(InstallFault::NothingTaken),
+            Some(next) => {
+                if next.value != given.value || next.point != given.point {
+                    return Err(InstallFault::NotNext { next: *next });
+                }
+                self.installed += 1;
+                Ok(())
+            }
+        }
+    }
+
+    /// Takes back an operation that is taken and not installed, since its submission failed, or the
+    /// reset of its sync object. Its point is free unless it is held.
+    pub fn cancel(&mut self, given: Given) -> Result<(), CancelFault>
+        ensures ok { OnOk result (cancel_fault self.old given ≡ None) }
+        ensures err { IfErr result (λ fault. cancel_fault self.old given ≡ Some fault) }
+        ensures pending { pending self.new ≡ pending self.old }
+        ensures after { OnOk result (self.new ≡ after_cancel self.old given) }
+        ensures unchanged { OnErr result (self.new ≡ self.old) }
+        ensures rises { self.old.payload ≤ self.new.payload }
+        ensures kept { KeepsLive self.new }
+    {
+        let place = self.taken_place(given)?;
+        let _ = self.ops.remove(place);
+        let refs = self.slots[given.point as usize].refs;
+        let slot = Slot { refs, out: false };
+        put(&mut self.slots, &mut self.free, given.point, slot);
+        Ok(())
+    }
+
+    // Where a taken operation stands.
+    fn taken_place(&self, given: Given) -> Result<usize, CancelFault>
+        ensures ok { IfOk result (λ place. IsTakenAt self.now given place) }
+        ensures err { IfErr result (λ fault. cancel_fault self.now given ≡ Some fault) }
+    {
+        if given.value <= self.pending_value() {
+            return Err(CancelFault::Already);
+        }
+        let place = self.place_of(given.value);
+        match self.ops.get(place) {
+            None => Err(CancelFault::NotTaken),
+            Some(found) => {
+                if found.value != given.value || found.point != given.point {
+                    return Err(CancelFault::NotTaken);
+                }
+                Ok(place)
+            }
+        }
+    }
+
+    /// Where a value stands: reached, or at the first pending operation whose value is at least this
+    /// one, or at none yet.
+    pub fn find(&self, value: u64) -> Found
+        ensures { result ≡ found self.now value }
+    {
+        if value <= self.payload {
+            return Found::Past;
+        }
+        let place = self.place_of(value);
+        if place >= self.installed {
+            return Found::NotYet;
+        }
+        Found::Pending {
+            at: self.ops[place],
+        }
+    }
+
+    // The first operation whose value is at least this one, or how many there are if there is none.
+    fn place_of(&self, value: u64) -> usize
+        ensures bound { result ≤ length self.now.ops }
+        ensures parted { IsPartitionPoint (λ x. x.value < value) (λ x. value ≤ x.value) self.now.ops result }
+    {
+        self.ops.partition_point(|known| known.value < value)
+    }
+
+    /// The first pending operation, if any is: its point's sync is asked first.
+    pub fn first(&self) -> Option<Given>
+        ensures { result ≡ first_pending self.now }
+    {
+        if self.installed == 0 {
+            return None;
+        }
+        match self.ops.front() {
+            Some(first) => Some(*first),
+            None => None,
+        }
+    }
+
+    /// The taken operation of least value, if any is taken: the next to be installed.
+    pub fn least_taken(&self) -> Option<Given>
+        ensures { result ≡ slice_get self.now.ops self.now.installed }
+    {
+        match self.ops.get(self.installed) {
+            Some(next) => Some(*next),
+            None => None,
+        }
+    }
+
+    /// Completes the first pending operation: its value is reached, and its point is free unless it is
+    /// held.
+    pub fn complete(&mut self) -> Option<Given>
+        ensures answer { result ≡ first_pending self.old }
+        ensures after { self.new ≡ after_complete self.old }
+        ensures rises { self.old.payload ≤ self.new.payload }
+        ensures kept { KeepsLive self.new }
+    {
+        if self.installed == 0 {
+            return None;
+        }
+        match self.ops.pop_front() {
+            None => None,
+            Some(first) => {
+                self.installed -= 1;
+                self.payload = first.value;
+                let refs = self.slots[first.point as usize].refs;
+                let slot = Slot { refs, out: false };
+                put(&mut self.slots, &mut self.free, first.point, slot);
+                Some(first)
+            }
+        }
+    }
+
+    /// Holds a point that carries an operation, so that it isn't used again before the reference is
+    /// given back.
+    pub fn refer(&mut self, point: u32) -> Result<Held, ReferFault>
+        ensures answer { result ≡ refer_answer self.old point }
+        ensures after { OnOk result (self.new ≡ after_refer self.old point) }
+        ensures unchanged { OnErr result (self.new ≡ self.old) }
+        ensures rises { self.old.payload ≤ self.new.payload }
+        ensures kept { KeepsLive self.new }
+    {
+        match self.slots.get(point as usize) {
+            Some(slot) if slot.out => {
+                let refs = slot.refs;
+                if refs == u32::MAX {
+                    return Err(ReferFault::Full);
+                }
+                self.slots[point as usize] = Slot {
+                    refs: refs + 1,
+                    out: true,
+                };
+                Ok(Held { point })
+            }
+            _ => Err(ReferFault::NotOut),
+        }
+    }
+
+    /// Gives a reference back. The point is free if it was the last one and its operation is
+    /// completed. The error hands the reference out again: nobody holds that point of this timeline,
+    /// so the reference is of another one.
+    pub fn unref(&mut self, held: Held) -> Result<(), Held>
+        ensures refused { IsErr result ↔ ((slot_at self.old.slots held.point).refs ≡ 0) }
+        ensures back { IfErr result (λ back. back ≡ held) }
+        ensures after { OnOk result (self.new ≡ after_unref self.old held.point) }
+        ensures unchanged { OnErr result (self.new ≡ self.old) }
+        ensures rises { self.old.payload ≤ self.new.payload }
+        ensures kept { KeepsLive self.new }
+    {
+        let Held { point } = held;
+        match self.slots.get(point as usize) {
+            Some(slot) if slot.refs > 0 => {
+                let left = Slot {
+                    refs: slot.refs - 1,
+                    out: slot.out,
+                };
+                put(&mut self.slots, &mut self.free, point, left);
+                Ok(())
+            }
+            _ => Err(Held { point }),
+        }
+    }
+
+    // The value of the last installed operation, or the one reached where none is pending.
+    fn pending_value(&self) -> u64
+        ensures { result ≡ pending_value self.now }
+    {
+        if self.installed == 0 {
+            self.payload
+        } else {
+            self.ops[self.installed - 1].value
+        }
+    }
+
+    // Where an operation with this value is put, if it may be taken.
+    fn place_for(&self, value: u64) -> Result<usize, TakeFault>
+        ensures ok { IfOk result (λ place. IsPlace self.now value place) }
+        ensures err { IfErr result (λ fault. take_fault self.now value ≡ Some fault) }
+    {
+        let pending = self.pending_value();
+        if value <= pending {
+            return Err(TakeFault::NotAbove { pending });
+        }
+        let place = self.place_of(value);
+        if place == self.ops.len() {
+            return Ok(place);
+        }
+        if self.ops[place].value == value {
+            return Err(TakeFault::Twice);
+        }
+        Ok(place)
+    }
+
+    /// Gives a point to an operation with this value: the free one that was freed last, or a fresh one
+    /// where none is free. Takes needn't come in the order of the values: a value is refused only where
+    /// it isn't above the pending one, or is taken already. All memory is taken here.
+    pub fn take(&mut self, value: u64) -> Result<Given, TakeFault>
+        ensures ok { OnOk result (take_fault self.old value ≡ None) }
+        ensures err { IfErr result (λ fault. (take_fault self.old value ≡ Some fault) ⊎ MayLack self.old fault) }
+        ensures given { IfOk result (λ given. given ≡ given_to self.old value) }
+        ensures unused { IfOk result (λ given. IsUnused given.point self.old.ops) }
+        ensures unheld { IfOk result (λ given. slot_at self.old.slots given.point ≡ no_slot) }
+        ensures pending { pending self.new ≡ pending self.old }
+        ensures after { OnOk result (self.new ≡ after_take self.old value) }
+        ensures unchanged { OnErr result (self.new ≡ self.old) }
+        ensures rises { self.old.payload ≤ self.new.payload }
+        ensures kept { KeepsLive self.new }
+    {
+        let place = self.place_for(value)?;
+        match self.free.last() {
+            Some(last) => {
+                let given = Given {
+                    value,
+                    point: *last,
+                };
+                match self.ops.insert(place, given) {
+                    Err(_) => Err(TakeFault::NoMemory),
+                    Ok(()) => {
+                        let rest = self.free.len() - 1;
+                        self.free.truncate(rest);
+                        self.slots[given.point as usize] = Slot { refs: 0, out: true };
+                        Ok(given)
+                    }
+                }
+            }
+            None => self.make(place, value),
+        }
+    }
+
+    // Makes a fresh point for an operation, where none is free.
+    fn make(&mut self, place: usize, value: u64) -> Result<Given, TakeFault>
+        requires place { IsPlace self.old value place }
+        requires none { self.old.free ≡ [] }
+
+        ensures err { IfErr result (MayLack self.old) }
+        ensures given { IfOk result (λ given. given ≡ given_to self.old value) }
+        ensures unused { IfOk result (λ given. IsUnused given.point self.old.ops) }
+        ensures unheld { IfOk result (λ given. slot_at self.old.slots given.point ≡ no_slot) }
+        ensures pending { pending self.new ≡ pending self.old }
+        ensures after { OnOk result (self.new ≡ after_take self.old value) }
+        ensures unchanged { OnErr result (self.new ≡ self.old) }
+        ensures kept { KeepsLive self.new }
+    {
+        let count = self.slots.len();
+        if count >= u32::MAX as usize {
+            return Err(TakeFault::Full);
+        }
+        match self.slots.reserve(1) {
+            Err(_) => Err(TakeFault::NoMemory),
+            Ok(()) => match self.free.reserve(count + 1) {
+                Err(_) => Err(TakeFault::NoMemory),
+                Ok(()) => {
+                    let given = Given {
+                        value,
+                        point: count as u32,
+                    };
+                    match self.ops.insert(place, given) {
+                        Err(_) => Err(TakeFault::NoMemory),
+                        Ok(()) => {
+                            self.slots.push_reserved(Slot { refs: 0, out: true });
+                            Ok(given)
+                        }
+                    }
+                }
+            },
+        }
+    }
+}
+
+// What a point's slot becomes. The point is free where it is idle now.
+fn put(slots: &mut Vec<Slot>, free: &mut Vec<u32>, point: u32, slot: Slot)
+    requires exists { point < length slots.old.items }
+    requires room { is_idle slot ≡ true → vec_len free.old < vec_capacity free.old }
+
+    ensures slots { slots.new.items ≡ slice_set slots.old.items point slot }
+    ensures free { free.new.items ≡ (if is_idle slot then free.old.items ++ point ∷ [] else free.old.items) }
+    ensures capacity { vec_capacity free.new ≡ vec_capacity free.old }
+{
+    slots[point as usize] = slot;
+    if slot.refs == 0 && !slot.out {
+        free.push_reserved(point);
+    }
+}
