@@ -1,6 +1,8 @@
-mod Slots
-mod Values
-mod Finding
-mod Taking
 mod Completing
+mod Finding
+mod Parts
 mod Removing
+mod Runs
+mod Slots
+mod Taking
+mod Values

@@ -3,6 +3,7 @@
 #![tactic(auto)]
 
 mod answers;
+pub mod laws;
 mod live;
 
 pub use answers::{
