@@ -5,4 +5,5 @@ mod Removing
 mod Runs
 mod Slots
 mod Taking
+mod Uses
 mod Values

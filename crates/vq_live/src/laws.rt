@@ -6,7 +6,7 @@ ghost use Rattle.vq_live.specs.declared.answers.Given.{Given};
 ghost use Rattle.vq_live.specs.declared.answers.Found.TheVariants as found_as;
 ghost use Rattle.vq_live.specs.Live.{Live, KeepsLive, AreParted, opened};
 ghost use Rattle.vq_live.specs.Calls.{found};
-ghost use Rattle.vq_live.specs.Runs.{Event, taking, IsRun, MayCome, after_all};
+ghost use Rattle.vq_live.specs.Runs.{Event, taking, IsRun, MayCome, after_all, IsLeft, UsesAtMost};
 
 /// Each point carries an operation, or is only held, or is free, and no two of these.
 pub fn points_are_parted()
@@ -30,4 +30,17 @@ pub fn payload_never_falls()
 pub fn past_stays_past()
     ensures { (t : Live) → (events : List Event) → (value : ℕ) → KeepsLive t → IsRun t events →
         found t value ≡ found_as.Past → found (after_all t events) value ≡ found_as.Past }
+{}
+
+/// A point is given again only when it is left: by the calls that came before, its operation is
+/// completed or cancelled, and each reference to it is given back.
+pub fn points_are_given_when_left()
+    ensures { (initial : ℕ) → (events : List Event) → (x : Given) → IsRun (opened initial) events →
+        MayCome (after_all (opened initial) events) (taking x) → IsLeft x.point events }
+{}
+
+/// A run in which never more than so many points carry an operation or are held makes no more points.
+pub fn points_are_bounded()
+    ensures { (initial : ℕ) → (most : ℕ) → (events : List Event) → IsRun (opened initial) events →
+        UsesAtMost most (opened initial) events → length (after_all (opened initial) events).slots ≤ most }
 {}
