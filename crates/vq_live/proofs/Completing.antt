@@ -25,7 +25,7 @@ room_left slots free p k l e =
     omega arith
 
 -- the first pending operation
-first_taken : (n : ℕ) (ops rest : List Given) (x : Given) → 0 < n → ops ≡ x ∷ rest → first_of (take n ops) ≡ Some x
+pub first_taken : (n : ℕ) (ops rest : List Given) (x : Given) → 0 < n → ops ≡ x ∷ rest → first_of (take n ops) ≡ Some x
 first_taken zero ops rest x l e = absurd (omega arith)
 first_taken (suc n) ops rest x l e = ap (λ (xs : List Given). first_of (take (suc n) xs)) e
 

@@ -42,8 +42,8 @@ data Read (slots : List Slot) (q p : ℕ) (s : Slot) : Type 0 where
   here : (q == p) ≡ true → slot_at (set slots q s) p ≡ s → slot_at slots q ≡ slot_at slots p → Read slots q p s
   there : (q == p) ≡ false → slot_at (set slots q s) p ≡ slot_at slots p → Read slots q p s
 
-read : (slots : List Slot) (q p : ℕ) (s : Slot) → q < length slots → Read slots q p s
-read slots q p s l = by_point (cases_eq p q)
+read_after : (slots : List Slot) (q p : ℕ) (s : Slot) → q < length slots → Read slots q p s
+read_after slots q p s l = by_point (cases_eq p q)
   where
     by_point : (p ≡ q) ⊎ (p ≡ q → ⊥) → Read slots q p s
     by_point (inl same) =
@@ -66,14 +66,14 @@ more_out (x ∷ xs) (suc p) = more_out xs p ∙ ap (λ (b : Bool). if b then tru
 
 -- what a write leaves of a point's references, and of whether it is out
 write_refs : (slots : List Slot) (q p : ℕ) (s : Slot) → q < length slots → s.refs ≡ (slot_at slots q).refs → (slot_at (set slots q s) p).refs ≡ (slot_at slots p).refs
-write_refs slots q p s l e = by_read (read slots q p s l)
+write_refs slots q p s l e = by_read (read_after slots q p s l)
   where
     by_read : Read slots q p s → (slot_at (set slots q s) p).refs ≡ (slot_at slots p).refs
     by_read (here a b c) = ap (λ (x : Slot). x.refs) b ∙ e ∙ ap (λ (x : Slot). x.refs) c
     by_read (there a b) = ap (λ (x : Slot). x.refs) b
 
 write_out : (slots : List Slot) (q p : ℕ) (s : Slot) (o : Bool) → q < length slots → s.out ≡ o → (slot_at (set slots q s) p).out ≡ (if q == p then o else (slot_at slots p).out)
-write_out slots q p s o l e = by_read (read slots q p s l)
+write_out slots q p s o l e = by_read (read_after slots q p s l)
   where
     by_read : Read slots q p s → (slot_at (set slots q s) p).out ≡ (if q == p then o else (slot_at slots p).out)
     by_read (here a b c) =
@@ -82,7 +82,7 @@ write_out slots q p s o l e = by_read (read slots q p s l)
         ap (λ (x : Slot). x.out) b ∙ sym (ap (λ (r : Bool). if r then o else (slot_at slots p).out) a)
 
 write_same : (slots : List Slot) (q p : ℕ) (s : Slot) → q < length slots → s.out ≡ (slot_at slots q).out → (slot_at (set slots q s) p).out ≡ (slot_at slots p).out
-write_same slots q p s l e = by_read (read slots q p s l)
+write_same slots q p s l e = by_read (read_after slots q p s l)
   where
     by_read : Read slots q p s → (slot_at (set slots q s) p).out ≡ (slot_at slots p).out
     by_read (here a b c) = ap (λ (x : Slot). x.out) b ∙ e ∙ ap (λ (x : Slot). x.out) c
@@ -117,7 +117,7 @@ take_out t p v k = by_free t.free refl
     by_free (q ∷ rest) e = write_out t.slots q p busy true (first_idle t q rest k e).0 refl
 
 refer_refs : (slots : List Slot) (q p : ℕ) → q < length slots → (slot_at (set slots q (record { refs = (slot_at slots q).refs + 1; out = true })) p).refs + 0 ≡ (slot_at slots p).refs + one_if (q == p)
-refer_refs slots q p l = by_read (read slots q p (record { refs = (slot_at slots q).refs + 1; out = true }) l)
+refer_refs slots q p l = by_read (read_after slots q p (record { refs = (slot_at slots q).refs + 1; out = true }) l)
   where
     by_read : Read slots q p (record { refs = (slot_at slots q).refs + 1; out = true }) → (slot_at (set slots q (record { refs = (slot_at slots q).refs + 1; out = true })) p).refs + 0 ≡ (slot_at slots p).refs + one_if (q == p)
     by_read (here a b c) =
@@ -131,7 +131,7 @@ refer_refs slots q p l = by_read (read slots q p (record { refs = (slot_at slots
         omega arith
 
 unref_refs : (slots : List Slot) (q p : ℕ) (o : Bool) → q < length slots → 0 < (slot_at slots q).refs → (slot_at (set slots q (record { refs = (slot_at slots q).refs - 1; out = o })) p).refs + one_if (q == p) ≡ (slot_at slots p).refs + 0
-unref_refs slots q p o l h = by_read (read slots q p (record { refs = (slot_at slots q).refs - 1; out = o }) l)
+unref_refs slots q p o l h = by_read (read_after slots q p (record { refs = (slot_at slots q).refs - 1; out = o }) l)
   where
     by_read : Read slots q p (record { refs = (slot_at slots q).refs - 1; out = o }) → (slot_at (set slots q (record { refs = (slot_at slots q).refs - 1; out = o })) p).refs + one_if (q == p) ≡ (slot_at slots p).refs + 0
     by_read (here a b c) =

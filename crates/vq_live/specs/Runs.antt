@@ -39,6 +39,11 @@ after t (referring point) = after_refer t point
 after t (returning point) = after_unref t point
 after t (signaling value) = after_signal t value
 
+-- A call was this event: the event may come before it, and leaves what is there after it.
+pub record Comes (t : Live) (e : Event) (u : Live) : Type 0 where
+  pub may : MayCome t e
+  pub leaves : u ≡ after t e
+
 -- a run from a state, and where it leads
 abbrev pub IsRun : Live → List Event → Type 0
 IsRun t [] = Unit {0}

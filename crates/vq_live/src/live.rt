@@ -1,5 +1,5 @@
 ghost use Rattle.std.specs.Prelude.{◌≡◌, ◌⊎◌, ◌↔◌, ◌∷◌, ◌++◌, ◌<◌, ◌≤◌, [], ℕ, true, if◌then◌else◌, length};
-ghost use Rattle.std.specs.Prelude.{slice_set, None, Some, IsErr, IfOk, IfErr, OnOk, OnErr};
+ghost use Rattle.std.specs.Prelude.{slice_set, None, Some, IsErr, IfOk, IfErr, OnOk, OnErr, IfSome};
 ghost use Rattle.std.specs.Vec.{vec_capacity, vec_len};
 ghost use Rattle.std.specs.List.{slice_get};
 ghost use Rattle.std.specs.List.Sorted.{IsPartitionPoint};
@@ -8,6 +8,7 @@ ghost use Rattle.vq_live.specs.Calls.{signal_fault, after_signal, install_fault,
 ghost use Rattle.vq_live.specs.Calls.{first_pending, after_complete, cancel_fault, after_cancel};
 ghost use Rattle.vq_live.specs.Calls.{refer_answer, after_refer, after_unref};
 ghost use Rattle.vq_live.specs.Calls.{take_fault, given_to, after_take, MayLack};
+ghost use Rattle.vq_live.specs.Runs.{Comes, taking, installing, completing, cancelling, referring, returning, signaling};
 ghost use Rattle.vq_live.specs.Places.{IsPlace, IsTakenAt};
 
 use crate::{
@@ -75,6 +76,7 @@ impl LiveTimeline {
         ensures after { OnOk result (self.new ≡ after_signal self.old value) }
         ensures unchanged { OnErr result (self.new ≡ self.old) }
         ensures rises { self.old.payload ≤ self.new.payload }
+        ensures came { OnOk result (Comes self.old (signaling value) self.new) }
         ensures kept { KeepsLive self.new }
     {
         if value <= self.payload {
@@ -101,6 +103,7 @@ impl LiveTimeline {
         ensures after { OnOk result (self.new ≡ after_install self.old) }
         ensures unchanged { OnErr result (self.new ≡ self.old) }
         ensures rises { self.old.payload ≤ self.new.payload }
+        ensures came { OnOk result (Comes self.old (installing given) self.new) }
         ensures kept { KeepsLive self.new }
     {
         if given.value <= self.pending_value() {
@@ -127,6 +130,7 @@ impl LiveTimeline {
         ensures after { OnOk result (self.new ≡ after_cancel self.old given) }
         ensures unchanged { OnErr result (self.new ≡ self.old) }
         ensures rises { self.old.payload ≤ self.new.payload }
+        ensures came { OnOk result (Comes self.old (cancelling given) self.new) }
         ensures kept { KeepsLive self.new }
     {
         let place = self.taken_place(given)?;
@@ -211,6 +215,7 @@ impl LiveTimeline {
         ensures answer { result ≡ first_pending self.old }
         ensures after { self.new ≡ after_complete self.old }
         ensures rises { self.old.payload ≤ self.new.payload }
+        ensures came { IfSome result (λ given. Comes self.old (completing given) self.new) }
         ensures kept { KeepsLive self.new }
     {
         if self.installed == 0 {
@@ -236,6 +241,7 @@ impl LiveTimeline {
         ensures after { OnOk result (self.new ≡ after_refer self.old point) }
         ensures unchanged { OnErr result (self.new ≡ self.old) }
         ensures rises { self.old.payload ≤ self.new.payload }
+        ensures came { OnOk result (Comes self.old (referring point) self.new) }
         ensures kept { KeepsLive self.new }
     {
         match self.slots.get(point as usize) {
@@ -263,6 +269,7 @@ impl LiveTimeline {
         ensures after { OnOk result (self.new ≡ after_unref self.old held.point) }
         ensures unchanged { OnErr result (self.new ≡ self.old) }
         ensures rises { self.old.payload ≤ self.new.payload }
+        ensures came { OnOk result (Comes self.old (returning held.point) self.new) }
         ensures kept { KeepsLive self.new }
     {
         let Held { point } = held;
@@ -322,6 +329,7 @@ impl LiveTimeline {
         ensures after { OnOk result (self.new ≡ after_take self.old value) }
         ensures unchanged { OnErr result (self.new ≡ self.old) }
         ensures rises { self.old.payload ≤ self.new.payload }
+        ensures came { IfOk result (λ given. Comes self.old (taking given) self.new) }
         ensures kept { KeepsLive self.new }
     {
         let place = self.place_for(value)?;

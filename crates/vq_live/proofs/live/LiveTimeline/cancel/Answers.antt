@@ -78,3 +78,6 @@ returns-clause-after c =
 
 pub returns-clause-kept : goal.returns-clause-kept
 returns-clause-kept c = (invariant_of-self c).kept
+
+pub returns-clause-came : goal.returns-clause-came
+returns-clause-came c = record { may = c.in_ok-place.ensures.ok.fine; leaves = returns-clause-after c }

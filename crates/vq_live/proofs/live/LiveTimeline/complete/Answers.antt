@@ -1,10 +1,10 @@
 use Rattle.std.proofs.Common.{◌≡◌, ℕ, ◌<◌, length, ◌-◌, false, refl, sym, ◌∙◌, ap, subst, arith}
 use Rattle.vq_live.specs.Live.{KeepsLive, AreOut, slot_at, no_slot}
-use Rattle.vq_live.specs.Calls.{put_slot, after_complete}
+use Rattle.vq_live.specs.Calls.{first_pending, put_slot, after_complete}
 use Rattle.vq_live.specs.Fields.{live_of}
 use Rattle.vq_live.specs.declared.answers.Slot.{Slot}
 use Rattle.std.proofs.lemmas.List.{get_or_read, length-set}
-use Rattle.vq_live.proofs.Completing.{room_left, complete_keeps, completed_is, put_is}
+use Rattle.vq_live.proofs.Completing.{first_taken, room_left, complete_keeps, completed_is, put_is}
 use Rattle.vq_live.proofs.Slots.{out_busy}
 use Rattle.vq_live.proofs.live.LiveTimeline.complete.Goals as goal
 
@@ -52,3 +52,13 @@ returns-in-Some-clause-after c =
 
 pub returns-in-Some-clause-kept : goal.returns-in-Some-clause-kept
 returns-in-Some-clause-kept c = (invariant_of-self-in-Some c).kept
+
+pub returns-in-Some-clause-came : goal.returns-in-Some-clause-came
+returns-in-Some-clause-came c =
+    let t = live_of c.self.inside in
+    let test = c.if-self-eq0.false in
+    let some : 0 < t.installed = omega arith in
+    record {
+      may = sym (ap first_pending c.self.view_is) ∙ first_taken t.installed t.ops c.pop_front.new.self.items c.in-Some.first some c.in-Some.ensures.items;
+      leaves = returns-in-Some-clause-after c;
+    }
