@@ -1,3 +1,4 @@
+mod Asks
 mod Below
 mod Facts
 mod HostRowSteps

@@ -81,6 +81,7 @@ fn is_signaled(plan: &Plan) -> bool
 }
 
 /// The host submits and releases the first two batches.
+#[tactic(auto, using(crate::proofs::Asks::needless, crate::proofs::Asks::so_far))]
 fn hand_over(board: &Board, host: &mut Pass)
     requires host { (n : ℕ) × IsCut board.now host.old n }
     requires first { IsIdle (plan_of board.now) 0 0 }
@@ -118,6 +119,7 @@ pub(crate) fn last_as(board: &Board, passes: &mut Vec<Pass>, role: Role) -> Opti
 }
 
 /// The pass of the next ring starts its batch, where that is released.
+#[tactic(auto, using(crate::proofs::Asks::needless, crate::proofs::Asks::so_far))]
 fn started(board: &Board, rings: &mut Vec<Pass>, j: u32) -> Option<Pass>
     requires fresh { AllFresh board.now rings.old.items }
     requires idle { IsIdle (plan_of board.now) j j }

@@ -1,3 +1,4 @@
+mod Asks
 mod Binds
 mod Chains
 mod RingSteps

@@ -68,6 +68,8 @@ pub record IsReady (b : Board) (x : Pass) (j : ℕ) (its_commands : List ℕ) : 
 pub record IsRunning (b : Board) (x : Pass) (j : ℕ) : Type 0 where
   pub board : IsOf b x
   pub runs : (view x).runs ≡ Some j
+  pub needs : needs (plan_of b) j ≡ []
+  pub any : waits_for_any (plan_of b) j ≡ false
   pub signaled : (view x).signaled ≡ 0
   pub turnless : (view x).held ≡ None
   pub without_reference : (view x).refs ≡ []
@@ -76,6 +78,8 @@ pub record IsRunning (b : Board) (x : Pass) (j : ℕ) : Type 0 where
 pub record IsHolding (b : Board) (x : Pass) (j : ℕ) : Type 0 where
   pub board : IsOf b x
   pub runs : (view x).runs ≡ Some j
+  pub needs : needs (plan_of b) j ≡ []
+  pub any : waits_for_any (plan_of b) j ≡ false
   pub signaled : (view x).signaled ≡ 0
   pub turn : (n : ℕ) × ((view x).held ≡ Some n)
   pub without_reference : (view x).refs ≡ []

@@ -11,7 +11,7 @@ ghost use Rattle.vq_board_tests.specs.Batches.{IsRunning, IsHolding};
 use crate::three_signals::is_same;
 use std::sync::Wait;
 use std::thread;
-use vq_board::{Board, Held, JobState, Pass};
+use vq_board::{Board, JobState, MemoryTurn, Pass};
 use vq_model::script::{Mode, Script};
 use vq_spec::{Lane, Plan, PlanJob, Question};
 
@@ -64,6 +64,7 @@ pub(crate) fn is_alone(plan: &Plan, j: u32, commands: &[u32]) -> bool
 }
 
 /// The host submits and releases the next job.
+#[tactic(auto, using(crate::proofs::Asks::so_far))]
 pub(crate) fn hand_on(board: &Board, host: &mut Pass, j: u32, commands: &[u32])
     requires alone { IsAlone (plan_of board.now) j commands.now }
     requires host { HasHandedOn board.now host.old j }
@@ -75,6 +76,7 @@ pub(crate) fn hand_on(board: &Board, host: &mut Pass, j: u32, commands: &[u32])
 }
 
 /// Starts the batch that the ring's pass is to run, where it is released.
+#[tactic(auto, using(crate::proofs::Asks::needless, crate::proofs::Asks::so_far))]
 pub(crate) fn start(board: &Board, pass: &mut Pass, j: u32, commands: &[u32]) -> bool
     requires ready { IsReady board.now pass.old j commands.now }
     ensures running { result ≡ true → IsRunning board.now pass.new j }
@@ -89,7 +91,7 @@ pub(crate) fn start(board: &Board, pass: &mut Pass, j: u32, commands: &[u32]) ->
 }
 
 /// Takes the turn, as soon as it is free.
-fn take_turn<R: Wait>(rt: &R, board: &Board, pass: &mut Pass, j: u32) -> Held
+fn take_turn<R: Wait>(rt: &R, board: &Board, pass: &mut Pass, j: u32) -> MemoryTurn
     requires running { IsRunning board.now pass.old j }
     ensures holding { IsHolding board.now pass.new j }
     ensures entered { (view pass.new).entered ≡ (view pass.old).entered }
@@ -116,6 +118,7 @@ fn take_turns<R: Wait>(rt: &R, board: &Board, pass: &mut Pass, j: u32)
 }
 
 /// Makes the next command of the batch, as soon as the turn is free.
+#[tactic(auto, using(crate::proofs::Asks::needless))]
 fn run_command<R: Wait>(rt: &R, board: &Board, pass: &mut Pass, j: u32, command: u32)
     requires running { IsRunning board.now pass.old j }
     requires next { slice_get (commands_of (plan_of board.now) j) (view pass.old).entered ≡ Some command }
@@ -130,6 +133,7 @@ fn run_command<R: Wait>(rt: &R, board: &Board, pass: &mut Pass, j: u32, command:
 
 /// Makes the commands of the batch, each with a turn of its own and after many turns without one, and
 /// finishes it.
+#[tactic(auto, using(crate::proofs::Asks::needless))]
 fn run<R: Wait>(rt: &R, board: &Board, mut pass: Pass, j: u32, commands: &[u32])
     requires running { IsRunning board.now pass j }
     requires entered { (view pass).entered ≡ 0 }

@@ -42,6 +42,7 @@ pub fn finds_it_moved_on(board: &Board, ring: &mut Pass) -> bool
 }
 
 /// P's ring starts its first batch, and makes its command.
+#[tactic(auto, using(crate::proofs::Asks::needless, crate::proofs::Asks::so_far))]
 pub fn fill_first(board: &Board, ring: &mut Pass) -> bool
     requires plan { IsOfThreeSignals (plan_of board.now) }
     requires ring { IsNew board.now ring.old (Ring 0) }
@@ -60,6 +61,7 @@ pub fn fill_first(board: &Board, ring: &mut Pass) -> bool
 }
 
 /// P's ring can't signal operation 0 while it is unbound.
+#[tactic(auto, using(crate::proofs::Asks::needless))]
 pub fn is_unbound(board: &Board, ring: &mut Pass) -> bool
     requires plan { IsOfThreeSignals (plan_of board.now) }
     requires ring { IsToSignal board.now ring.old }
@@ -69,6 +71,7 @@ pub fn is_unbound(board: &Board, ring: &mut Pass) -> bool
 }
 
 /// P's ring signals operation 0 and finishes the batch.
+#[tactic(auto, using(crate::proofs::Asks::needless))]
 pub fn signal_first(board: &Board, ring: &mut Pass) -> bool
     requires plan { IsOfThreeSignals (plan_of board.now) }
     requires ring { IsToSignal board.now ring.old }
