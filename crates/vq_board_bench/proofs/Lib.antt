@@ -1,11 +1,9 @@
-mod Asks
 mod Below
 mod Facts
 mod HostRowSteps
-mod MakeSteps
 mod OnePoint
 mod ReadSteps
 mod RingSteps
 mod Shared
+mod Shares
 mod ShelfRowSteps
-mod Workers

@@ -1,6 +1,7 @@
-mod Asks
+mod Asked
 mod Binds
 mod Chains
 mod RingSteps
+mod SeenMade
 mod Shares
 mod Waits

@@ -23,21 +23,13 @@ use Rattle.vq_board_laws.specs.May.{MaySubmit, MayRelease, MayStart, MayFinish, 
 use Rattle.vq_board_laws.proofs.Cited.{needs_each, knows_so_far}
 use Rattle.vq_board_laws.specs.PointSteps.{point_facts, moved_on, sees, unrefers}
 use Rattle.vq_board_laws.specs.Roles.{role_number}
+use Rattle.vq_board_stage.proofs.Cited.{knows_behind, knows_before}
 use Rattle.vq_board_tests.specs.HostSteps.{HasHostStep}
 use Rattle.vq_board_tests.specs.TwoWaits.{IsOfTwoWaits}
 
 -- what a point's word says that carries the operation, which is signaled, and has one reference
 abbrev pub signaled_word : ℕ → PointParts
 signaled_word e = record { op = e; refs = 1; signaled = true; held = true }
-
-knows_behind : (fs gs : List Fact) (f : Fact) → Knows gs f → Knows (fs ++ gs) f
-knows_behind [] gs f h = h
-knows_behind (x ∷ fs) gs f h = inr (knows_behind fs gs f h)
-
-knows_before : (fs gs : List Fact) (f : Fact) → Knows fs f → Knows (fs ++ gs) f
-knows_before [] gs f h = absurd h
-knows_before (x ∷ fs) gs f (inl e) = inl e
-knows_before (x ∷ fs) gs f (inr h) = inr (knows_before fs gs f h)
 
 -- a look at a point shows what the word that it finds says
 pub look_shows : (v w : View) (q : ℕ) (x y : PointParts) (f : Fact) → w ≡ sees v q (bits_of x) → x ≡ y → Knows (point_facts (bits_of y)) f → Knows w.known f
