@@ -7,10 +7,10 @@ ghost use Rattle.vq_board_laws.specs.declared.view.Fact.TheVariants.{BoundTo, Pa
 ghost use Rattle.vq_board_laws.specs.Knowledge.{Knows, KnowsMade};
 ghost use Rattle.vq_board_laws.specs.MayPoints.{MayBind, MaySignal, MayComplete};
 ghost use Rattle.vq_board_laws.specs.PointSteps.{op_number, recalls, binds, signals, completes};
-ghost use Rattle.vq_board_laws.specs.Words.{op_word, point_word};
+ghost use Rattle.vq_board_laws.specs.Words.{op_word};
 ghost use Rattle.vq_board.specs.Firsts.{counted, counted_state};
 ghost use Rattle.vq_board.specs.Named.{plan_of, view, counts_of, IsOf, Turns, TurnsWith};
-ghost use Rattle.vq_board.specs.Named.{Finds, Leaves, EndsAt};
+ghost use Rattle.vq_board.specs.Named.{Finds, Leaves, EndsAtPoint};
 
 use crate::parts::{Board, Pass, Unbound};
 use crate::plays::{Bind, Complete, Recall, Signal};
@@ -98,7 +98,7 @@ impl Board {
             (counted (plan_of self.now).ops op (counts_of pass.old))) }
         ensures unbound { IfErr result (λ _.
             Turns pass.old pass.new (recalls (view pass.old) op UnboundOp)) }
-        ensures step { IfOk result (λ _. (q : ℕ) × EndsAt self.now pass.new (point_word q)) }
+        ensures step { IfOk result (λ _. EndsAtPoint self.now pass.new) }
     {
         match self.recall(pass, op) {
             OpState::Unbound => Err(Unbound),

@@ -138,22 +138,12 @@ pub struct MemoryTurn {
 
 /// The passes of a board: the host's, one for each threaded queue in the order of the queues, one for
 /// each queue, and one for each chain. Source: this project's rule.
+#[derive(Drop)]
 pub struct Passes {
     pub host: Pass,
     pub submits: Vec<Pass>,
     pub rings: Vec<Pass>,
     pub shelves: Vec<Pass>,
-}
-
-impl Drop for Passes {
-    fn drop(self) {
-        let Passes {
-            host: _host,
-            submits: _submits,
-            rings: _rings,
-            shelves: _shelves,
-        } = self;
-    }
 }
 
 /// What a board leaves once every job is finished: the buffers, with the bytes of the slow run of its
