@@ -1,4 +1,6 @@
 //! The steps on the turn over the buffers and on the log.
+//!
+//! Source: this project's own, where an item names no other.
 ghost use Rattle.std.specs.Prelude.{◌≡◌, ◌≢◌, ℕ, List, ◌+◌, ◌<◌, ◌^◌};
 ghost use Rattle.std.specs.Prelude.{length, map, Some, None, IfSome, IfNone};
 ghost use Rattle.vq_model.specs.Memory.{Memory, effect};
@@ -29,8 +31,6 @@ fn apply(memory: &mut LoggedBuffers, command: &Command)
 impl Board {
     /// Takes the turn over the buffers for the job that the pass runs. It is `None` only where this
     /// step found the turn taken.
-    ///
-    /// Source: this project's rule.
     pub fn take_memory(&self, pass: &mut Pass) -> Option<MemoryTurn>
         requires board { IsOf self.now pass.old }
         requires runs { (j : ℕ) × ((view pass.old).runs ≡ Some j) }
@@ -76,8 +76,6 @@ impl Board {
     }
 
     /// Gives the turn over the buffers back.
-    ///
-    /// Source: this project's rule.
     pub fn give_memory(&self, pass: &mut Pass, turn: MemoryTurn)
         requires board { IsOf self.now pass.old }
         requires holds { (n : ℕ) × ((view pass.old).held ≡ Some n) }

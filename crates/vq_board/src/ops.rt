@@ -1,4 +1,6 @@
 //! The steps on the word of an operation, and its signal.
+//!
+//! Source: this project's own, where an item names no other.
 ghost use Rattle.std.specs.Prelude.{◌≡◌, ◌≢◌, ℕ, ◌+◌, ◌<◌, ◌^◌, ◌⊎◌, length, Some, IfOk, IfErr};
 ghost use Rattle.std.specs.List.{slice_get};
 ghost use Rattle.vq_board_laws.specs.declared.view.OpState.TheVariants.{Unbound as UnboundOp};
@@ -35,8 +37,6 @@ fn state_of(word: u64) -> OpState
 
 impl Board {
     /// An operation of the plan.
-    ///
-    /// Source: this project's rule.
     pub fn op(&self, op: u32) -> Op
         requires { op < length (plan_of self.now).ops }
         ensures { slice_get (plan_of self.now).ops op ≡ Some result }
@@ -45,8 +45,6 @@ impl Board {
     }
 
     /// How far an operation is. The pass knows it from then on.
-    ///
-    /// Source: this project's rule.
     pub fn recall(&self, pass: &mut Pass, op: u32) -> OpState
         requires board { IsOf self.now pass.old }
         requires exists { op < length (plan_of self.now).ops }
@@ -71,8 +69,6 @@ impl Board {
     }
 
     /// Binds an operation to the point that carries it. The pass is that of the chain's shelf.
-    ///
-    /// Source: this project's rule.
     pub fn bind(&self, pass: &mut Pass, op: u32, point: u32)
         requires board { IsOf self.now pass.old }
         requires exists { op < length (plan_of self.now).ops }
@@ -115,8 +111,6 @@ impl Board {
     }
 
     /// Completes the least pending operation of the shelf's chain, which is signaled.
-    ///
-    /// Source: this project's rule.
     pub fn complete(&self, pass: &mut Pass, op: u32)
         requires board { IsOf self.now pass.old }
         requires exists { op < length (plan_of self.now).ops }

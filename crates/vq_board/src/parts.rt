@@ -1,4 +1,6 @@
 //! The board and its passes.
+//!
+//! Source: this project's own, where an item names no other.
 ghost use Rattle.std.specs.Prelude.{ℕ, ◌≡◌, ◌^◌, ◌<◌, length, map};
 ghost use Rattle.vq_model.specs.Plan.{chain};
 ghost use Rattle.vq_model.specs.SlowRun.{final};
@@ -18,7 +20,7 @@ use vq_board_laws::view::{LoggedBuffers, Role, View};
 use vq_spec::Plan;
 use vq_transfer::Buffers;
 
-/// The words and the buffers of a plan. Source: this project's rule.
+/// The words and the buffers of a plan.
 pub struct Board {
     pub(crate) table: BoardTable,
     pub(crate) copies: Copies,
@@ -65,7 +67,7 @@ impl Drop for Board {
 }
 
 /// What one actor knows of a board and has done on it. It takes the actor's steps. Of each chain it
-/// counts how many of the first operations its own steps showed made. Source: this project's rule.
+/// counts how many of the first operations its own steps showed made.
 pub struct Pass {
     pub(crate) seat: Seat<LoggedBuffers, View>,
     pub(crate) role: Role,
@@ -102,11 +104,11 @@ impl Drop for Pass {
     }
 }
 
-/// An operation isn't bound to a point yet. Source: this project's rule.
+/// An operation isn't bound to a point yet.
 #[derive(Clone, Copy, Debug, PartialEq, Eq)]
 pub struct Unbound;
 
-/// The word of a point was changed by others meanwhile: this was found. Source: this project's rule.
+/// The word of a point was changed by others meanwhile: this was found.
 #[derive(Clone, Copy, Debug, PartialEq, Eq)]
 pub struct Lost {
     pub found: u64,
@@ -119,7 +121,7 @@ pub struct InUse {
     pub found: u64,
 }
 
-/// What came of the wish for a reference. Source: this project's rule.
+/// What came of the wish for a reference.
 #[derive(Clone, Copy, Debug, PartialEq, Eq)]
 pub enum Referred {
     /// The pass holds it.
@@ -130,14 +132,14 @@ pub enum Referred {
     Lost { found: u64 },
 }
 
-/// The turn over the buffers. Source: this project's rule.
+/// The turn over the buffers.
 #[derive(Drop)]
 pub struct MemoryTurn {
     pub(crate) private: (),
 }
 
 /// The passes of a board: the host's, one for each threaded queue in the order of the queues, one for
-/// each queue, and one for each chain. Source: this project's rule.
+/// each queue, and one for each chain.
 #[derive(Drop)]
 pub struct Passes {
     pub host: Pass,
