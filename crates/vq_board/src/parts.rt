@@ -7,7 +7,7 @@ ghost use Rattle.vq_model.specs.SlowRun.{final};
 ghost use Rattle.vq_model.specs.ValidScripts.{sizes_of};
 ghost use Rattle.vq_board_laws.specs.RunLaws.{RunLaws, run_laws_prop};
 ghost use Rattle.vq_board_laws.specs.Words.{word_count};
-ghost use Rattle.vq_board.specs.Copied.{command_of, AllFit, AllFit-prop};
+ghost use Rattle.vq_board.specs.Copied.{command_of, AllFit, AllFit-prop as fit_prop};
 ghost use Rattle.vq_board.specs.Firsts.{AreCounted, AreCounted-prop, StandInChains};
 ghost use Rattle.vq_board.specs.Hands.{InHand, Hand-prop};
 
@@ -32,7 +32,7 @@ pub struct Board {
     ghost few_ops: { length table.shared.key.ops < 2 ^ 32 },
     ghost laws: { RunLaws table.shared.key } by { run_laws_prop table.shared.key },
     ghost copied: { copies.commands ≡ map command_of table.shared.key.commands },
-    ghost fit: { AllFit table.shared.key.sizes copies.commands } by { AllFit-prop table.shared.key.sizes copies.commands },
+    ghost fit: { AllFit table.shared.key.sizes copies.commands } by { fit_prop table.shared.key.sizes copies.commands },
     ghost ops: { copies.ops ≡ table.shared.key.ops },
     ghost placed: { StandInChains table.shared.key },
     ghost short: { (t : ℕ) → length (chain table.shared.key t) < 2 ^ 32 },

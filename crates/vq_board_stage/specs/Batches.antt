@@ -1,5 +1,5 @@
 -- Batches that have nothing to do with other jobs, and the passes that hand them on and run them.
-use Rattle.std.specs.Prelude.{ℕ, List, [], ◌∷◌, ◌≡◌, ◌<◌, ◌≤◌, Some, None, true, false, length}
+use Rattle.std.specs.Prelude.{ℕ, List, [], ◌≡◌, ◌<◌, ◌≤◌, Some, None, true, false, length}
 use Rattle.std.specs.List.{slice_get}
 use Rattle.vq_model.specs.Plan.{Plan, has, previous, idle_after, needs, waits_for_any, commands_of, signals_of}
 use Rattle.vq_model.specs.Plan.{is_batch, is_host_step, question, is_silent}

@@ -1,5 +1,5 @@
 -- The board's laws, of the moment of a look.
-use Rattle.std.proofs.Common.{◌≡◌, ℕ, true, sym, ap, ◌∙◌}
+use Rattle.std.proofs.Common.{◌≡◌, ℕ, true, ap, ◌∙◌}
 use mathlib.Core.Option.{some}
 use lib.ListN.{get_elem?}
 use Rattle.atomic_table.specs.Table.{State}
@@ -10,7 +10,7 @@ use Rattle.vq_point.specs.declared.PointWord.{PointWord as PointParts}
 use Rattle.vq_point.specs.Word.{bits_of}
 use Rattle.vq_board_laws.specs.declared.view.LoggedBuffers.{LoggedBuffers}
 use Rattle.vq_board_laws.specs.declared.view.View.{View}
-use Rattle.vq_board_laws.specs.Moments.{IsStep, StepFacts}
+use Rattle.vq_board_laws.specs.Moments.{IsStep}
 use Rattle.vq_board_laws.specs.Points.{reference, Lists}
 use Rattle.vq_board_laws.specs.Reached.{IsReached}
 use Rattle.vq_board_laws.specs.Rule.{Kept}

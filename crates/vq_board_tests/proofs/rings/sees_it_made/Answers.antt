@@ -1,4 +1,4 @@
-use Rattle.std.proofs.Common.{inl, refl, rules}
+use Rattle.std.proofs.Common.{rules}
 use Rattle.vq_board.specs.Named.{plan_of, view}
 use Rattle.vq_board_tests.proofs.SeenMade.{seen_made}
 use Rattle.vq_board_tests.proofs.rings.sees_it_made.Goals as goal
