@@ -10,6 +10,7 @@ use Rattle.vq_board_laws.specs.declared.view.Role.TheVariants.{Host, Submit, Rin
 use Rattle.vq_board_laws.specs.Moments.{IsStep}
 use Rattle.vq_board_laws.specs.Roles.{role_number, threaded_queues}
 use Rattle.vq_board_laws.specs.Rule.{fresh}
+use Rattle.vq_board_laws.specs.Words.{point_word}
 use Rattle.vq_model.specs.Memory.{Memory}
 use Rattle.vq_board.specs.declared.parts.Board.{Board}
 use Rattle.vq_board.specs.declared.parts.Closed.{Closed}
@@ -54,21 +55,31 @@ TurnsWith x y v counts =
 abbrev pub Turns : Pass → Pass → View → Type 0
 Turns x y v = TurnsWith x y v (counts_of x)
 
--- The call was one step on the word: it found this number and left it, it left this number, or it found
--- this number and left another.
+-- The call was one step on the word: it found this number and left it; it left this number; it found
+-- this number; or no more is said of the numbers. Proofs that need no law see nothing of a step: each
+-- word is opened where a law is applied.
 abbrev pub Finds : Board → Pass → Pass → ℕ → ℕ → Type 0
 Finds b x y word n = IsStep (plan_of b) (view x) (view y) word n n
 
-abbrev pub Leaves : Board → Pass → Pass → ℕ → ℕ → Type 0
+unfoldable pub Leaves : Board → Pass → Pass → ℕ → ℕ → Type 0
 Leaves b x y word n = (found : ℕ) × IsStep (plan_of b) (view x) (view y) word found n
 
-abbrev pub Changes : Board → Pass → Pass → ℕ → ℕ → Type 0
+unfoldable pub Changes : Board → Pass → Pass → ℕ → ℕ → Type 0
 Changes b x y word n = (left : ℕ) × IsStep (plan_of b) (view x) (view y) word n left
 
--- the last step of the call was on the word
-abbrev pub EndsAt : Board → Pass → ℕ → Type 0
+unfoldable pub Steps : Board → Pass → Pass → ℕ → Type 0
+Steps b x y word =
+    (found : ℕ) × (left : ℕ) × IsStep (plan_of b) (view x) (view y) word found left
+
+-- the last step of the call was on the word, or on that of some point
+unfoldable pub EndsAt : Board → Pass → ℕ → Type 0
 EndsAt b y word =
     (v : View) × (found : ℕ) × (left : ℕ) × IsStep (plan_of b) v (view y) word found left
+
+unfoldable pub EndsAtPoint : Board → Pass → Type 0
+EndsAtPoint b y =
+    (q : ℕ) × (v : View) × (found : ℕ) × (left : ℕ)
+    × IsStep (plan_of b) v (view y) (point_word q) found left
 
 -- a pass of the board that has done nothing, with the number of its role
 abbrev pub IsFresh : Board → Pass → Type 0

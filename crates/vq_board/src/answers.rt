@@ -1,9 +1,9 @@
 //! The answers to the host's steps.
-ghost use Rattle.std.specs.Prelude.{ℕ, ◌≡◌, ◌<◌, length};
+ghost use Rattle.std.specs.Prelude.{◌≡◌, ◌<◌, length};
 ghost use Rattle.vq_board_laws.specs.PointSteps.{answer_code, answer_operand, answers};
 ghost use Rattle.vq_board_laws.specs.Shows.{MayAnswer};
 ghost use Rattle.vq_board_laws.specs.Words.{job_word};
-ghost use Rattle.vq_board.specs.Named.{plan_of, view, IsOf, Turns, Changes};
+ghost use Rattle.vq_board.specs.Named.{plan_of, view, IsOf, Turns, Steps};
 
 use crate::parts::{Board, Pass};
 use crate::plays::Tell;
@@ -33,7 +33,7 @@ impl Board {
         requires exists { job < length (plan_of self.now).jobs }
         requires may { MayAnswer (plan_of self.now) (view pass.old) job answer }
         ensures pass { Turns pass.old pass.new (answers (view pass.old) job answer) }
-        ensures step { (n : ℕ) × Changes self.now pass.old pass.new (job_word job) n }
+        ensures step { Steps self.now pass.old pass.new (job_word job) }
     {
         let (code, operand) = operands(answer);
         self.table

@@ -1,4 +1,6 @@
 //! The end of a board.
+//!
+//! Source: this project's own, where an item names no other.
 ghost use Rattle.std.specs.Prelude.{◌≡◌};
 ghost use Rattle.vq_model.specs.Memory.{HasSizes};
 ghost use Rattle.vq_model.specs.SlowRun.{final};
@@ -14,8 +16,6 @@ use vq_transfer::Buffers;
 
 impl Board {
     /// Ends the board, where the host's pass knows every job finished. It takes no memory.
-    ///
-    /// Source: this project's rule.
     pub fn close(self, host: Pass) -> Closed
         requires board { IsOf self host }
         requires host { (view host).role ≡ 0 }
@@ -46,8 +46,6 @@ impl Board {
 
 impl Closed {
     /// The buffers.
-    ///
-    /// Source: this project's rule.
     pub fn buffers(&self) -> &Buffers
         ensures bytes { result.now ≡ bytes_of self.now }
         ensures whole { result.now ≡ final (plan_of_closed self.now) }

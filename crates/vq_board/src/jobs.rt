@@ -1,4 +1,6 @@
 //! The steps on the word of a job.
+//!
+//! Source: this project's own, where an item names no other.
 ghost use Rattle.std.specs.Prelude.{◌≡◌, ◌<◌, ◌≤◌, length};
 ghost use Rattle.vq_board_laws.specs.declared.view.JobState.{JobState};
 ghost use Rattle.vq_board_laws.specs.declared.view.Fact.TheVariants.{Job};
@@ -28,8 +30,6 @@ fn state_of(word: u64) -> JobState
 
 impl Pass {
     /// Whose pass this is.
-    ///
-    /// Source: this project's rule.
     pub fn role(&self) -> Role
         ensures { result ≡ role_of self.now }
     {
@@ -39,8 +39,6 @@ impl Pass {
 
 impl Board {
     /// How far a job is. The pass knows it from then on.
-    ///
-    /// Source: this project's rule.
     pub fn job_state(&self, pass: &mut Pass, job: u32) -> JobState
         requires board { IsOf self.now pass.old }
         requires exists { job < length (plan_of self.now).jobs }
@@ -72,8 +70,6 @@ impl Board {
     }
 
     /// Hands the next batch of a queue to the device.
-    ///
-    /// Source: this project's rule.
     pub fn release(&self, pass: &mut Pass, job: u32)
         requires board { IsOf self.now pass.old }
         requires may { MayRelease (plan_of self.now) (view pass.old) job }
@@ -102,8 +98,6 @@ impl Board {
     }
 
     /// Finishes the job that the pass runs.
-    ///
-    /// Source: this project's rule.
     pub fn finish(&self, pass: &mut Pass, job: u32)
         requires board { IsOf self.now pass.old }
         requires exists { job < length (plan_of self.now).jobs }

@@ -1,4 +1,6 @@
 //! The steps on the turn over the buffers and on the log.
+//!
+//! Source: this project's own, where an item names no other.
 ghost use Rattle.std.specs.Prelude.{◌≡◌, ◌≢◌, ℕ, List, ◌+◌, ◌<◌, ◌^◌};
 ghost use Rattle.std.specs.Prelude.{length, map, Some, None, IfSome, IfNone};
 ghost use Rattle.vq_model.specs.Memory.{Memory, effect};
@@ -6,7 +8,7 @@ ghost use Rattle.vq_model.specs.Ranges.{Fits};
 ghost use Rattle.vq_board_laws.specs.May.{MayEnter};
 ghost use Rattle.vq_board_laws.specs.Steps.{takes_turn, misses_turn, gives_turn, enters};
 ghost use Rattle.vq_board_laws.specs.Words.{turn_word, place_word};
-ghost use Rattle.vq_board.specs.Named.{plan_of, view, IsOf, Turns, Leaves, Changes};
+ghost use Rattle.vq_board.specs.Named.{plan_of, view, IsOf, Turns, Leaves, Steps};
 
 use crate::parts::{Board, MemoryTurn, Pass};
 use crate::plays::{Enter, GiveTurn, TakeTurn};
@@ -29,8 +31,6 @@ fn apply(memory: &mut LoggedBuffers, command: &Command)
 impl Board {
     /// Takes the turn over the buffers for the job that the pass runs. It is `None` only where this
     /// step found the turn taken.
-    ///
-    /// Source: this project's rule.
     pub fn take_memory(&self, pass: &mut Pass) -> Option<MemoryTurn>
         requires board { IsOf self.now pass.old }
         requires runs { (j : ℕ) × ((view pass.old).runs ≡ Some j) }
@@ -39,7 +39,7 @@ impl Board {
             × Turns pass.old pass.new (takes_turn (view pass.old) n bytes)) }
         ensures missed { IfNone result ((n : ℕ) × (n ≢ 0)
             × Turns pass.old pass.new (misses_turn (view pass.old) n)) }
-        ensures step { (n : ℕ) × Changes self.now pass.old pass.new turn_word n }
+        ensures step { Steps self.now pass.old pass.new turn_word }
     {
         let Some(job) = pass.runs else { unreachable!() };
         let found = self
@@ -63,8 +63,8 @@ impl Board {
         requires may { MayEnter (plan_of self.now) (view pass.old) command }
         ensures pass { (n : ℕ) × (bytes : Memory) × ((view pass.old).held ≡ Some n)
             × Turns pass.old pass.new (enters (view pass.old) command n bytes) }
-        ensures step { (n : ℕ) × ((view pass.old).held ≡ Some n)
-            × Leaves self.now pass.old pass.new (place_word n) (command + 1) }
+        ensures step { (n : ℕ) → (view pass.old).held ≡ Some n →
+            Leaves self.now pass.old pass.new (place_word n) (command + 1) }
     {
         let _ = turn;
         let memory = pass.seat.slot_mut(&self.table.shared, 0);
@@ -76,8 +76,6 @@ impl Board {
     }
 
     /// Gives the turn over the buffers back.
-    ///
-    /// Source: this project's rule.
     pub fn give_memory(&self, pass: &mut Pass, turn: MemoryTurn)
         requires board { IsOf self.now pass.old }
         requires holds { (n : ℕ) × ((view pass.old).held ≡ Some n) }

@@ -1,5 +1,7 @@
 //! How many of each chain's first operations a pass knows made. A later reader of the chain's payload
 //! goes on from there.
+//!
+//! Source: this project's own, where an item names no other.
 ghost use Rattle.std.specs.Prelude.{◌≡◌, ◌<◌, ◌≤◌, length, slice_index, true};
 ghost use Rattle.vq_model.specs.Plan.{chain as operations_of};
 ghost use Rattle.vq_board_laws.specs.declared.view.OpState.TheVariants.{Past as PastOp};
@@ -12,8 +14,6 @@ use vq_point::PointWord;
 
 impl Pass {
     /// How many of the chain's first operations the pass's own steps showed made.
-    ///
-    /// Source: this project's rule.
     pub fn first_made(&self, chain: u32) -> u32
         requires { chain < length (view self.now).plan.chains }
         ensures count { result ≡ slice_index (counts_of self.now) chain }

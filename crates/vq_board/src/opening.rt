@@ -1,4 +1,6 @@
 //! The opening of a board.
+//!
+//! Source: this project's own, where an item names no other.
 ghost use Rattle.std.specs.Prelude.{◌≡◌, ◌<◌, ◌^◌, length, map, replicate, IfOk};
 ghost use Rattle.vq_model.specs.Checks.{IsLawful};
 ghost use Rattle.vq_model.specs.LoweringFaults.{IsPlan};
@@ -60,8 +62,6 @@ impl Board {
 
     /// The board of a plan, with its passes. The error is want of memory;
     /// no other call takes memory.
-    ///
-    /// Source: this project's rule.
     pub fn new(alloc: Global, ordered: &Ordered) -> Result<(Board, Passes), AllocError>
         ensures plan { IfOk result (λ t. plan_of t.0 ≡ ordered.now) }
         ensures passes { IfOk result (λ t. AreDealt t.0 t.1) }

@@ -1,4 +1,6 @@
 //! The steps on the word of an operation, and its signal.
+//!
+//! Source: this project's own, where an item names no other.
 ghost use Rattle.std.specs.Prelude.{◌≡◌, ◌≢◌, ℕ, ◌+◌, ◌<◌, ◌^◌, ◌⊎◌, length, Some, IfOk, IfErr};
 ghost use Rattle.std.specs.List.{slice_get};
 ghost use Rattle.vq_board_laws.specs.declared.view.OpState.TheVariants.{Unbound as UnboundOp};
@@ -7,10 +9,10 @@ ghost use Rattle.vq_board_laws.specs.declared.view.Fact.TheVariants.{BoundTo, Pa
 ghost use Rattle.vq_board_laws.specs.Knowledge.{Knows, KnowsMade};
 ghost use Rattle.vq_board_laws.specs.MayPoints.{MayBind, MaySignal, MayComplete};
 ghost use Rattle.vq_board_laws.specs.PointSteps.{op_number, recalls, binds, signals, completes};
-ghost use Rattle.vq_board_laws.specs.Words.{op_word, point_word};
+ghost use Rattle.vq_board_laws.specs.Words.{op_word};
 ghost use Rattle.vq_board.specs.Firsts.{counted, counted_state};
 ghost use Rattle.vq_board.specs.Named.{plan_of, view, counts_of, IsOf, Turns, TurnsWith};
-ghost use Rattle.vq_board.specs.Named.{Finds, Leaves, EndsAt};
+ghost use Rattle.vq_board.specs.Named.{Finds, Leaves, EndsAtPoint};
 
 use crate::parts::{Board, Pass, Unbound};
 use crate::plays::{Bind, Complete, Recall, Signal};
@@ -35,8 +37,6 @@ fn state_of(word: u64) -> OpState
 
 impl Board {
     /// An operation of the plan.
-    ///
-    /// Source: this project's rule.
     pub fn op(&self, op: u32) -> Op
         requires { op < length (plan_of self.now).ops }
         ensures { slice_get (plan_of self.now).ops op ≡ Some result }
@@ -45,8 +45,6 @@ impl Board {
     }
 
     /// How far an operation is. The pass knows it from then on.
-    ///
-    /// Source: this project's rule.
     pub fn recall(&self, pass: &mut Pass, op: u32) -> OpState
         requires board { IsOf self.now pass.old }
         requires exists { op < length (plan_of self.now).ops }
@@ -71,8 +69,6 @@ impl Board {
     }
 
     /// Binds an operation to the point that carries it. The pass is that of the chain's shelf.
-    ///
-    /// Source: this project's rule.
     pub fn bind(&self, pass: &mut Pass, op: u32, point: u32)
         requires board { IsOf self.now pass.old }
         requires exists { op < length (plan_of self.now).ops }
@@ -98,7 +94,7 @@ impl Board {
             (counted (plan_of self.now).ops op (counts_of pass.old))) }
         ensures unbound { IfErr result (λ _.
             Turns pass.old pass.new (recalls (view pass.old) op UnboundOp)) }
-        ensures step { IfOk result (λ _. (q : ℕ) × EndsAt self.now pass.new (point_word q)) }
+        ensures step { IfOk result (λ _. EndsAtPoint self.now pass.new) }
     {
         match self.recall(pass, op) {
             OpState::Unbound => Err(Unbound),
@@ -115,8 +111,6 @@ impl Board {
     }
 
     /// Completes the least pending operation of the shelf's chain, which is signaled.
-    ///
-    /// Source: this project's rule.
     pub fn complete(&self, pass: &mut Pass, op: u32)
         requires board { IsOf self.now pass.old }
         requires exists { op < length (plan_of self.now).ops }

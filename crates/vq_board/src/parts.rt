@@ -1,11 +1,13 @@
 //! The board and its passes.
+//!
+//! Source: this project's own, where an item names no other.
 ghost use Rattle.std.specs.Prelude.{ℕ, ◌≡◌, ◌^◌, ◌<◌, length, map};
 ghost use Rattle.vq_model.specs.Plan.{chain};
 ghost use Rattle.vq_model.specs.SlowRun.{final};
 ghost use Rattle.vq_model.specs.ValidScripts.{sizes_of};
 ghost use Rattle.vq_board_laws.specs.RunLaws.{RunLaws, run_laws_prop};
 ghost use Rattle.vq_board_laws.specs.Words.{word_count};
-ghost use Rattle.vq_board.specs.Copied.{command_of, AllFit, AllFit-prop};
+ghost use Rattle.vq_board.specs.Copied.{command_of, AllFit, AllFit-prop as fit_prop};
 ghost use Rattle.vq_board.specs.Firsts.{AreCounted, AreCounted-prop, StandInChains};
 ghost use Rattle.vq_board.specs.Hands.{InHand, Hand-prop};
 
@@ -18,7 +20,7 @@ use vq_board_laws::view::{LoggedBuffers, Role, View};
 use vq_spec::Plan;
 use vq_transfer::Buffers;
 
-/// The words and the buffers of a plan. Source: this project's rule.
+/// The words and the buffers of a plan.
 pub struct Board {
     pub(crate) table: BoardTable,
     pub(crate) copies: Copies,
@@ -30,7 +32,7 @@ pub struct Board {
     ghost few_ops: { length table.shared.key.ops < 2 ^ 32 },
     ghost laws: { RunLaws table.shared.key } by { run_laws_prop table.shared.key },
     ghost copied: { copies.commands ≡ map command_of table.shared.key.commands },
-    ghost fit: { AllFit table.shared.key.sizes copies.commands } by { AllFit-prop table.shared.key.sizes copies.commands },
+    ghost fit: { AllFit table.shared.key.sizes copies.commands } by { fit_prop table.shared.key.sizes copies.commands },
     ghost ops: { copies.ops ≡ table.shared.key.ops },
     ghost placed: { StandInChains table.shared.key },
     ghost short: { (t : ℕ) → length (chain table.shared.key t) < 2 ^ 32 },
@@ -65,7 +67,7 @@ impl Drop for Board {
 }
 
 /// What one actor knows of a board and has done on it. It takes the actor's steps. Of each chain it
-/// counts how many of the first operations its own steps showed made. Source: this project's rule.
+/// counts how many of the first operations its own steps showed made.
 pub struct Pass {
     pub(crate) seat: Seat<LoggedBuffers, View>,
     pub(crate) role: Role,
@@ -102,11 +104,11 @@ impl Drop for Pass {
     }
 }
 
-/// An operation isn't bound to a point yet. Source: this project's rule.
+/// An operation isn't bound to a point yet.
 #[derive(Clone, Copy, Debug, PartialEq, Eq)]
 pub struct Unbound;
 
-/// The word of a point was changed by others meanwhile: this was found. Source: this project's rule.
+/// The word of a point was changed by others meanwhile: this was found.
 #[derive(Clone, Copy, Debug, PartialEq, Eq)]
 pub struct Lost {
     pub found: u64,
@@ -119,7 +121,7 @@ pub struct InUse {
     pub found: u64,
 }
 
-/// What came of the wish for a reference. Source: this project's rule.
+/// What came of the wish for a reference.
 #[derive(Clone, Copy, Debug, PartialEq, Eq)]
 pub enum Referred {
     /// The pass holds it.
@@ -130,30 +132,20 @@ pub enum Referred {
     Lost { found: u64 },
 }
 
-/// The turn over the buffers. Source: this project's rule.
+/// The turn over the buffers.
 #[derive(Drop)]
 pub struct MemoryTurn {
     pub(crate) private: (),
 }
 
 /// The passes of a board: the host's, one for each threaded queue in the order of the queues, one for
-/// each queue, and one for each chain. Source: this project's rule.
+/// each queue, and one for each chain.
+#[derive(Drop)]
 pub struct Passes {
     pub host: Pass,
     pub submits: Vec<Pass>,
     pub rings: Vec<Pass>,
     pub shelves: Vec<Pass>,
-}
-
-impl Drop for Passes {
-    fn drop(self) {
-        let Passes {
-            host: _host,
-            submits: _submits,
-            rings: _rings,
-            shelves: _shelves,
-        } = self;
-    }
 }
 
 /// What a board leaves once every job is finished: the buffers, with the bytes of the slow run of its

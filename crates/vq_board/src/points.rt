@@ -1,4 +1,6 @@
 //! The steps on the word of a point.
+//!
+//! Source: this project's own, where an item names no other.
 ghost use Rattle.std.specs.Prelude.{◌≡◌, ◌≢◌, ℕ, ◌+◌, ◌<◌, ◌^◌, ◌⊎◌};
 ghost use Rattle.std.specs.Prelude.{length, true, false, IfOk, IfErr};
 ghost use Rattle.vq_point.specs.Word.{bits_of};
@@ -41,8 +43,6 @@ impl Board {
 
     /// Makes a point for the shelf of the pass. Its number is below the plan's number of operations,
     /// and no other call gives it.
-    ///
-    /// Source: this project's rule.
     pub fn make(&self, pass: &mut Pass) -> u32
         requires board { IsOf self.now pass.old }
         requires may { MayMake (plan_of self.now) (view pass.old) }
@@ -57,8 +57,6 @@ impl Board {
     }
 
     /// Gives a point of the shelf to an operation of its chain.
-    ///
-    /// Source: this project's rule.
     pub fn assign(&self, pass: &mut Pass, point: u32, op: u32)
         requires board { IsOf self.now pass.old }
         requires exists { point < length (plan_of self.now).ops }
@@ -73,8 +71,6 @@ impl Board {
 
     /// What the word of a point says. A point that isn't made says nothing. What the pass learns by it
     /// is in its view; with a reference to the point it learns how far that operation is.
-    ///
-    /// Source: this project's rule.
     pub fn look(&self, pass: &mut Pass, point: u32) -> PointWord
         requires board { IsOf self.now pass.old }
         requires exists { point < length (plan_of self.now).ops }
@@ -102,8 +98,6 @@ impl Board {
     /// Takes a reference to a point that carries the operation. It says so where the point carries
     /// another, and where its word was changed between two steps of this call; then nothing is
     /// changed.
-    ///
-    /// Source: this project's rule.
     pub fn refer(&self, pass: &mut Pass, point: u32, op: u32) -> Referred
         requires board { IsOf self.now pass.old }
         requires exists { point < length (plan_of self.now).ops }
@@ -132,8 +126,6 @@ impl Board {
 
     /// Gives a reference back. The error comes only where the word was changed between the two steps
     /// of this call; then nothing is changed.
-    ///
-    /// Source: this project's rule.
     pub fn unrefer(&self, pass: &mut Pass, point: u32, op: u32) -> Result<(), Lost>
         requires board { IsOf self.now pass.old }
         requires exists { point < length (plan_of self.now).ops }
@@ -159,8 +151,6 @@ impl Board {
 
     /// Frees a point of the shelf, whose operation is past. The error comes only where the word had a
     /// reference, or was changed between the two steps of this call; then nothing is changed.
-    ///
-    /// Source: this project's rule.
     pub fn retire(&self, pass: &mut Pass, point: u32) -> Result<(), InUse>
         requires board { IsOf self.now pass.old }
         requires exists { point < length (plan_of self.now).ops }

@@ -13,16 +13,8 @@ use Rattle.vq_board_laws.specs.Words.{Carries}
 use Rattle.vq_board.specs.declared.parts.Board.{Board}
 use Rattle.vq_board.specs.declared.parts.Pass.{Pass}
 use Rattle.vq_board.specs.Named.{view, IsOf, TurnsWith}
+use Rattle.vq_board_stage.proofs.Cited.{knows_behind, knows_before}
 use Rattle.vq_board_bench.specs.Rows.{KnowsBelow}
-
-knows_behind : (fs gs : List Fact) (f : Fact) → Knows gs f → Knows (fs ++ gs) f
-knows_behind [] gs f h = h
-knows_behind (x ∷ fs) gs f h = inr (knows_behind fs gs f h)
-
-knows_before : (fs gs : List Fact) (f : Fact) → Knows fs f → Knows (fs ++ gs) f
-knows_before [] gs f h = absurd h
-knows_before (x ∷ fs) gs f (inl e) = inl e
-knows_before (x ∷ fs) gs f (inr h) = inr (knows_before fs gs f h)
 
 -- one fact more is known, of the next number or of another kind
 pub known_next : (known : List Fact) (f : ℕ → Fact) (n : ℕ) → KnowsBelow known f n → Knows known (f n) → KnowsBelow known f (suc n)

@@ -5,7 +5,9 @@ use Rattle.vq_model.specs.Plan.{Plan, has, signals_of}
 use Rattle.vq_board_laws.specs.declared.view.View.{View}
 use Rattle.vq_board_laws.specs.declared.view.Fact.TheVariants.{Taken}
 use Rattle.vq_board_laws.specs.Knowledge.{Knows}
+use Rattle.vq_board_laws.specs.declared.view.JobState.TheVariants.{Submitted}
 use Rattle.vq_board_laws.specs.May.{MaySubmit, MayRelease}
+use Rattle.vq_board_laws.proofs.Cited.{knows_so_far}
 use Rattle.vq_board_laws.specs.PointSteps.{sees}
 use Rattle.vq_board_laws.specs.Steps.{submits, releases}
 use Rattle.vq_board_laws.specs.Words.{Carries}
@@ -64,7 +66,7 @@ module _ (p : Plan) (n c s : ℕ) (row : IsRow p n c s) (j : ℕ) where
         batch = link.batch;
         new = subst (λ (xs : List ℕ). has xs j ≡ false) (sym h.released) (not_below j j (omega arith));
         next = λ i l same. subst (λ (xs : List ℕ). has xs i ≡ true) (sym h.released) (has_below j i l);
-        submitted = h.knows j exists;
+        submitted = knows_so_far v.known j Submitted (h.knows j exists);
         bound = λ need place e get above resolves. let none = link.needs in absurd cc;
         taken = λ e m. let own = own_signal exists e m in inl (subst (λ (k : ℕ). Knows v.known (Taken k)) own.1 (h.taken j own.0));
       }

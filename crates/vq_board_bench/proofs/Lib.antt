@@ -1,10 +1,9 @@
 mod Below
 mod Facts
 mod HostRowSteps
-mod MakeSteps
 mod OnePoint
 mod ReadSteps
 mod RingSteps
 mod Shared
+mod Shares
 mod ShelfRowSteps
-mod Workers

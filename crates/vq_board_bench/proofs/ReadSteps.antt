@@ -1,15 +1,16 @@
 -- What the host's pass may do next in a row of reads.
 use Rattle.std.proofs.Common.{ℕ, zero, suc, ◌≡◌, ◌≢◌, ◌<◌, ◌≤◌, false, eqb, List, ◌∷◌, Some, None, find, option_map, length, refl, sym, ap, subst, ◌∙◌, inl, ne_eqb, eq-eqb, arith}
-use Rattle.std.specs.Prelude.{All, is_some}
+use Rattle.std.specs.Prelude.{is_some}
 use Rattle.std.proofs.lemmas.Bool.{cond-true, cond-false, false≢true}
 use Rattle.vq_model.specs.declared.plan.Answer.TheVariants.{Value}
-use Rattle.vq_model.specs.declared.plan.Need.{Need}
+use Rattle.vq_model.specs.Edges.{At, AtEnd}
 use Rattle.vq_model.specs.declared.plan.Question.{Question}
 use Rattle.vq_model.specs.Plan.{Plan, has, chain_of, value, is_silent}
 use Rattle.vq_model.proofs.Gets.{slice_get_past}
 use Rattle.vq_board_laws.specs.declared.view.Told.{Told}
 use Rattle.vq_board_laws.specs.declared.view.View.{View}
-use Rattle.vq_board_laws.specs.May.{MayStart, MayFinish, KnowsReached}
+use Rattle.vq_board_laws.specs.May.{MayStart, MayFinish}
+use Rattle.vq_board_laws.proofs.Cited.{needs_nothing}
 use Rattle.vq_board_laws.specs.PointSteps.{answers}
 use Rattle.vq_board_laws.specs.Reached.{answer_told}
 use Rattle.vq_board_laws.specs.Shows.{ShowsBy, MayAnswer}
@@ -40,8 +41,7 @@ module _ (p : Plan) (plan : IsOfReads p) (j : ℕ) (exists : j < length p.jobs) 
         released = λ batch. absurd (false≢true (sym batch ∙ read.step));
         previous = λ i e. r.last i (read.previous i e);
         idle_after = λ i e. absurd (false≢true (ap (λ (xs : List ℕ). has xs i) (sym read.idle_after) ∙ e));
-        all_reached = λ e. subst (λ (ns : List Need). All (KnowsReached p v.known) ns) (sym read.needs) (λ k n l. absurd (omega arith));
-        one_reached = λ e. absurd (false≢true (sym read.any ∙ e));
+        reached = needs_nothing p v.known j (At 1) read.needs read.any;
       }
 
   -- no operation has a value above that with which the chain begins
@@ -77,4 +77,5 @@ module _ (p : Plan) (plan : IsOfReads p) (j : ℕ) (exists : j < length p.jobs) 
         answered = λ _. ap is_some (told_here (record { job = j; answer = Value 0 }) v.told);
         turnless = r.turnless;
         without_reference = r.without_reference;
+        reached = needs_nothing p (answers (starts v j) j (Value 0)).known j AtEnd read.needs read.any;
       }

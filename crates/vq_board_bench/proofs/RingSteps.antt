@@ -1,14 +1,15 @@
 -- What the ring's pass may do next in a row, and how far it is then.
 use Rattle.std.proofs.Common.{ℕ, ◌≡◌, ◌<◌, ◌≤◌, false, List, Some, length, refl, sym, ap, subst, ◌∙◌, inl, inr, arith}
-use Rattle.std.specs.Prelude.{All}
 use Rattle.std.specs.List.{slice_get}
 use Rattle.std.proofs.lemmas.Bool.{false≢true}
-use Rattle.vq_model.specs.declared.plan.Need.{Need}
+use Rattle.vq_model.specs.Edges.{Stage, At}
 use Rattle.vq_model.specs.Plan.{Plan, has, commands_of, signals_of}
+use Rattle.vq_board_laws.specs.declared.view.Fact.{Fact}
 use Rattle.vq_board_laws.specs.declared.view.View.{View}
 use Rattle.vq_board_laws.specs.declared.view.JobState.{JobState}
 use Rattle.vq_board_laws.specs.declared.view.JobState.TheVariants.{Released}
-use Rattle.vq_board_laws.specs.May.{MayStart, KnowsReached}
+use Rattle.vq_board_laws.specs.May.{MayStart, KnowsNeeds}
+use Rattle.vq_board_laws.proofs.Cited.{knows_so_far, needs_nothing}
 use Rattle.vq_board_laws.specs.Steps.{looks}
 use Rattle.vq_board_bench.specs.Rows.{IsRow, IsBetween}
 use Rattle.vq_board_bench.proofs.Below.{not_below}
@@ -24,11 +25,10 @@ module _ (p : Plan) (n c s : ℕ) (row : IsRow p n c s) (j : ℕ) (exists : j < 
         runner = link.runner ∙ sym b.ring.role;
         idle = b.idle;
         new = subst (λ (xs : List ℕ). has xs j ≡ false) (sym b.ring.begun) (not_below j j (omega arith));
-        released = λ step. inl refl;
+        released = λ step. knows_so_far (looks v j Released).known j Released (inl refl);
         previous = λ i e. inr (b.last i (link.previous i e));
         idle_after = λ i e. absurd (false≢true (ap (λ (xs : List ℕ). has xs i) (sym link.idle_after) ∙ e));
-        all_reached = λ e. subst (λ (ns : List Need). All (KnowsReached p (looks v j Released).known) ns) (sym link.needs) (λ k m l. absurd (omega arith));
-        one_reached = λ e. absurd (false≢true (sym link.any ∙ e));
+        reached = needs_nothing p (looks v j Released).known j (At 1) link.needs link.any;
       }
 
   -- the batch has one command, or none,
@@ -50,3 +50,7 @@ module _ (p : Plan) (n c s : ℕ) (row : IsRow p n c s) (j : ℕ) (exists : j < 
 
   pub no_signal : s ≤ j → length (signals_of p j) ≡ 0
   no_signal l = ap (λ (xs : List ℕ). length xs) ((row.linked j exists).signals.none l)
+
+-- a batch of a row needs nothing
+pub needless : (p : Plan) (n c s : ℕ) (known : List Fact) (j : ℕ) (k : Stage) → IsRow p n c s → j < n → KnowsNeeds p known j k
+needless p n c s known j k row exists = let link = row.linked j exists in needs_nothing p known j k link.needs link.any

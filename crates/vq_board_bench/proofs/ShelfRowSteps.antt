@@ -10,12 +10,9 @@ use Rattle.vq_board_laws.specs.declared.view.Reference.{Reference}
 use Rattle.vq_board_laws.specs.Knowledge.{Knows, of_finished}
 use Rattle.vq_board_laws.specs.MayPoints.{IsSmaller, MayMake, MayAssign, MayBind, MayComplete, MayRetire}
 use Rattle.vq_board_laws.specs.Points.{reference, Lists}
-use Rattle.vq_board_laws.specs.PointSteps.{makes, assigns, binds, completes, retires, sees, misses_point}
+use Rattle.vq_board_laws.specs.PointSteps.{makes, assigns, binds, completes, retires, sees}
 use Rattle.vq_board_laws.specs.Roles.{share_of}
 use Rattle.vq_board_laws.specs.Steps.{looks}
-use Rattle.vq_board.specs.declared.parts.Pass.{Pass}
-use Rattle.vq_board.specs.Named.{view}
-use Rattle.vq_board.specs.Answers.{IsInUse}
 use Rattle.vq_board_bench.specs.Rows.{IsRow, IsShelf, IsEnding, is_released, is_finished}
 use Rattle.vq_board_bench.proofs.Below.{has_below, not_below, length_below, pairs_list, point_beyond, op_beyond, still_listed}
 use Rattle.vq_board_bench.proofs.Facts.{known_next, sees_more}
@@ -158,33 +155,6 @@ module _ (p : Plan) (n c s : ℕ) (row : IsRow p n c s) (j : ℕ) where
         carries = h.carrying j (omega arith) exists;
         past = subst (λ (xs : List ℕ). has xs j ≡ true) (sym h.past) (has_below s j exists);
       }
-
-  -- a point that is in use stays
-  after_look : (v w : View) (m : ℕ) → IsEnding p v s s s j → w ≡ sees v j m → IsEnding p w s s s j
-  after_look v w m h is =
-      subst (λ (x : View). IsEnding p x s s s j) (sym is)
-      record {
-        role = h.role;
-        carrying = h.carrying;
-        bound = h.bound;
-        knows = sees_more v j m is_finished s h.knows;
-        past = h.past;
-      }
-
-  after_miss : (v w : View) (m k : ℕ) → IsEnding p v s s s j → w ≡ misses_point (sees v j m) j k → IsEnding p w s s s j
-  after_miss v w m k h is =
-      subst (λ (x : View). IsEnding p x s s s j) (sym is)
-      record {
-        role = h.role;
-        carrying = h.carrying;
-        bound = h.bound;
-        knows = sees_more v j m is_finished s h.knows;
-        past = h.past;
-      }
-
-  pub after_in_use : (x y : Pass) (found : ℕ) → IsEnding p (view x) s s s j → IsInUse x y j found → IsEnding p (view y) s s s j
-  after_in_use x y found h (inl looked) = after_look (view x) (view y) found h looked.1.2
-  after_in_use x y found h (inr lost) = after_miss (view x) (view y) lost.0 found h lost.2.2
 
   pub after_retire : (v w : View) (m k : ℕ) → IsEnding p v s s s j → w ≡ retires (sees v j m) j k → IsEnding p w s s s (suc j)
   after_retire v w m k h is =

@@ -139,19 +139,11 @@ pub record IsInside (p : Plan) (v : View) (j entered signaled : ℕ) : Type 0 wh
   pub entered_all : v.entered ≡ entered
   pub signaled_all : v.signaled ≡ signaled
 
--- the pass of another queue's ring, which has these references
-pub record IsWatcher (b : Board) (x : Pass) (refs : List Reference) : Type 0 where
-  pub board : IsOf b x
-  pub queue : ℕ
-  pub ring : (view x).role ≡ role_number (plan_of b) (Ring queue)
-  pub references : (view x).refs ≡ refs
-
--- the passes of the host, the shelf, the ring and the watcher before the first batch
-pub record AreReady (b : Board) (host shelf ring watcher : Pass) : Type 0 where
+-- the passes of the host, the shelf and the ring before the first batch
+pub record AreReady (b : Board) (host shelf ring : Pass) : Type 0 where
   pub host_of : IsOf b host
   pub shelf_of : IsOf b shelf
   pub ring_of : IsOf b ring
   pub hosting : IsHost (view host) 0 0 0
   pub shelving : IsShelf (plan_of b) (view shelf) 0 0 0 0
   pub between : IsBetween (plan_of b) (view ring) 0
-  pub watching : IsWatcher b watcher []

@@ -1,10 +1,10 @@
 //! Bare atomic steps, on a table whose rule says nothing.
 ghost use Rattle.std.specs.Prelude.{◌≡◌, ◌<◌, IfOk};
 
-use crate::following::TRIES;
 use crate::kind::BareStep;
 use atomic_table::{Play, Seat, Split, Table, TableRule};
 use std::alloc::{AllocError, Global};
+use vq_point::REFERENCE;
 
 /// A rule that holds of every table.
 pub(crate) struct Anything;
@@ -34,9 +34,6 @@ impl Split<u64> for Cut {
 
     ghost right = { λ v. v };
 }
-
-/// One reference, in the word of a point.
-pub(crate) const REFERENCE: u64 = 1 << 32;
 
 /// A table with three words or more, and no slot.
 #[derive(Drop)]
@@ -93,19 +90,6 @@ impl Bare {
         ensures { seat.new.table_id ≡ seat.old.table_id }
     {
         self.table.shared.fetch_add::<Silent>(seat, word, value)
-    }
-
-    /// Waits until the thread with the other seat has come here too. It says whether that came.
-    pub(crate) fn meet(&self, mut seat: BareSeat) -> bool
-        requires { seat.table_id ≡ self.now.table.shared.table_id }
-    {
-        self.add(&mut seat, 2, 1);
-        for _ in 0..TRIES {
-            if self.load(&mut seat, 2) == 2 {
-                return true;
-            }
-        }
-        false
     }
 
     /// Loads so often. It says whether each load found 0.

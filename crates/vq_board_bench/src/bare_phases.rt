@@ -1,11 +1,10 @@
-//! The bare steps of a row of batches, on one thread, or beside another that loads the words.
+//! The bare steps of a row of batches.
 ghost use Rattle.std.specs.Prelude.{◌≡◌};
 
 use crate::bare::BareSeat;
 use crate::bare_row::BareBatches;
 use crate::kind::Phase;
 use std::alloc::Global;
-use std::thread::{Threads, join};
 
 impl BareBatches {
     /// The steps behind those of the ring, up to this phase.
@@ -71,28 +70,5 @@ impl BareBatches {
         }
         self.assign(&mut seat);
         last == Phase::Assigned || self.hand_on(alloc, &mut seat, last)
-    }
-
-    /// Makes the steps beside another thread, which loads the words that are changed.
-    pub(crate) fn take_beside<R: Threads + Sync>(
-        &self,
-        rt: &R,
-        alloc: Global,
-        first: BareSeat,
-        second: BareSeat,
-        last: Phase,
-    ) -> bool
-        requires first { first.table_id ≡ self.now.bare.table.shared.table_id }
-        requires second { second.table_id ≡ self.now.bare.table.shared.table_id }
-    {
-        join(
-            rt,
-            || -> bool
-                requires { first.table_id ≡ self.now.bare.table.shared.table_id }
-            { self.take(alloc, first, last) },
-            || -> bool
-                requires { second.table_id ≡ self.now.bare.table.shared.table_id }
-            { self.follow(second, last) },
-        ) == (true, true)
     }
 }

@@ -1,15 +1,9 @@
 //! The bare steps that a row of batches makes, one kind after another.
 ghost use Rattle.std.specs.Prelude.{◌≡◌, ◌+◌, ◌*◌, ◌<◌, ◌≤◌, IfSome};
 
-use crate::bare::{Bare, BareSeat, REFERENCE};
-use crate::following::TRIES;
+use crate::bare::{Bare, BareSeat};
 use std::alloc::Global;
-
-/// The bit of a point's word that says whether it is signaled.
-pub(crate) const SIGNALED: u64 = 1 << 48;
-
-/// The bit that says whether it carries an operation.
-pub(crate) const HELD: u64 = 1 << 49;
+use vq_point::{CARRYING, references};
 
 /// A bare table with the words of so many batches, the first of which have a command each and a signal.
 #[derive(Drop)]
@@ -22,26 +16,25 @@ pub(crate) struct BareBatches {
     ghost few: { signals ≤ count },
 }
 
-/// A table for a row, and two seats.
+/// A table for a row, and a seat.
 pub(crate) fn opened_bare_row(
     alloc: Global,
     count: u32,
     commands: u32,
     signals: u32,
-) -> Option<(BareBatches, BareSeat, BareSeat)>
+) -> Option<(BareBatches, BareSeat)>
     requires { signals ≤ count }
-    ensures first { IfSome result (λ t. t.1.table_id ≡ t.0.bare.table.shared.table_id) }
-    ensures second { IfSome result (λ t. t.2.table_id ≡ t.0.bare.table.shared.table_id) }
+    ensures { IfSome result (λ t. t.1.table_id ≡ t.0.bare.table.shared.table_id) }
 {
     let words = 4 * (count as usize + 1) + 2;
-    let (bare, first, second) = Bare::new(alloc, words).ok()?;
+    let (bare, seat, _) = Bare::new(alloc, words).ok()?;
     let batches = BareBatches {
         bare,
         count,
         commands,
         signals,
     };
-    Some((batches, first, second))
+    Some((batches, seat))
 }
 
 /// The word of a job; those of the operation, the point and the command behind it.
@@ -94,7 +87,8 @@ impl BareBatches {
         ensures { seat.new.table_id ≡ seat.old.table_id }
     {
         for j in 0..self.signals {
-            self.bare.store(seat, word_of(j) + 2, u64::from(j) + HELD);
+            self.bare
+                .store(seat, word_of(j) + 2, u64::from(j) + CARRYING);
         }
     }
 
@@ -104,7 +98,7 @@ impl BareBatches {
         ensures { seat.new.table_id ≡ seat.old.table_id }
     {
         for j in 0..self.signals {
-            if self.bare.load(seat, word_of(j) + 2) != u64::from(j) + HELD {
+            if self.bare.load(seat, word_of(j) + 2) != u64::from(j) + CARRYING {
                 return false;
             }
         }
@@ -122,21 +116,14 @@ impl BareBatches {
         }
     }
 
-    /// Exchanges the word of a point for 0, as soon as there is no reference in it.
+    /// Exchanges the word of a point for 0, where there is no reference in it.
     fn free(&self, seat: &mut BareSeat, j: u32) -> bool
         requires seat { seat.old.table_id ≡ self.now.bare.table.shared.table_id }
         requires exists { j < self.now.signals }
         ensures { seat.new.table_id ≡ seat.old.table_id }
     {
-        for _ in 0..TRIES {
-            let loaded = self.bare.load(seat, word_of(j) + 2);
-            if loaded / REFERENCE & u64::from(u16::MAX) == 0
-                && self.bare.exchange(seat, word_of(j) + 2, loaded, 0) == loaded
-            {
-                return true;
-            }
-        }
-        false
+        let loaded = self.bare.load(seat, word_of(j) + 2);
+        references(loaded) == 0 && self.bare.exchange(seat, word_of(j) + 2, loaded, 0) == loaded
     }
 
     /// The same of all points.

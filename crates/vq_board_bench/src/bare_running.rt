@@ -3,9 +3,10 @@ ghost use Rattle.std.specs.Prelude.{◌≡◌, ◌<◌, length, map};
 ghost use Rattle.vq_model.specs.Ranges.{Fits};
 
 use crate::bare::BareSeat;
-use crate::bare_row::{BareBatches, SIGNALED, word_of};
+use crate::bare_row::{BareBatches, word_of};
 use std::alloc::Global;
 use vq_model::script::{Command, FillSize};
+use vq_point::SIGNAL;
 use vq_spec::Buffers;
 
 impl BareBatches {
@@ -38,7 +39,7 @@ impl BareBatches {
         }
         if j < self.signals {
             self.bare.load(seat, word_of(j) + 1);
-            self.bare.add(seat, word_of(j) + 2, SIGNALED);
+            self.bare.add(seat, word_of(j) + 2, SIGNAL);
         }
         self.bare.store(seat, word_of(j), 4);
     }

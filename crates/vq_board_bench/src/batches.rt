@@ -1,12 +1,12 @@
 //! A board whose batches are in a row, and the passes that take them through all steps.
-ghost use Rattle.std.specs.Prelude.{◌≡◌, IfSome};
-ghost use Rattle.vq_board.specs.Named.{plan_of, role_of, IsFresh, AreDealt};
-ghost use Rattle.vq_board_bench.specs.Idle.{AllFresh};
+ghost use Rattle.std.specs.Prelude.{IfSome};
+ghost use Rattle.vq_board.specs.Named.{plan_of, AreDealt};
+ghost use Rattle.vq_board_stage.specs.Dealing.{AllFresh, IsNew};
 ghost use Rattle.vq_board_bench.specs.Rows.{IsRow, AreReady};
 
-use crate::opened::last;
 use std::alloc::Global;
 use vq_board::{Board, Pass, Passes, Role};
+use vq_board_stage::passes::dealt;
 use vq_order::Ordered;
 
 /// A board with so many batches in a row, the first of which have a command each and a signal.
@@ -25,30 +25,25 @@ pub(crate) struct Workers {
     pub(crate) host: Pass,
     pub(crate) shelf: Pass,
     pub(crate) ring: Pass,
-    /// That of another queue's ring, which only looks, and takes references.
-    pub(crate) watcher: Pass,
 }
 
 /// The pass with this role of a list of fresh ones, in which those behind it are dropped.
 fn taken(board: &Board, passes: &mut Vec<Pass>, role: Role) -> Option<Pass>
     requires { AllFresh board.now passes.old.items }
-    ensures pass { IfSome result (λ x. IsFresh board.now x) }
-    ensures role { IfSome result (λ x. role_of x ≡ role) }
-    ensures left { AllFresh board.now passes.new.items }
+    ensures { IfSome result (λ x. IsNew board.now x role) }
 {
     for _ in 0..passes.len() {
-        let pass = last(board, passes)?;
-        if pass.role() == role {
+        if let Some(pass) = dealt(board, passes, role) {
             return Some(pass);
         }
     }
     None
 }
 
-/// The passes of the host, the first chain's shelf and the first two rings.
-fn dealt(board: &Board, passes: Passes) -> Option<Workers>
+/// The passes of the host, the first chain's shelf and the first ring.
+fn taking_part(board: &Board, passes: Passes) -> Option<Workers>
     requires { AreDealt board.now passes }
-    ensures { IfSome result (λ x. AreReady board.now x.host x.shelf x.ring x.watcher) }
+    ensures { IfSome result (λ x. AreReady board.now x.host x.shelf x.ring) }
 {
     let Passes {
         host,
@@ -57,14 +52,8 @@ fn dealt(board: &Board, passes: Passes) -> Option<Workers>
         mut shelves,
     } = passes;
     let shelf = taken(board, &mut shelves, Role::Shelf(0))?;
-    let watcher = taken(board, &mut rings, Role::Ring(1))?;
     let ring = taken(board, &mut rings, Role::Ring(0))?;
-    Some(Workers {
-        host,
-        shelf,
-        ring,
-        watcher,
-    })
+    Some(Workers { host, shelf, ring })
 }
 
 /// A board of a row, and its passes.
@@ -76,12 +65,12 @@ pub(crate) fn opened_row(
     signals: u32,
 ) -> Option<(Batches, Workers)>
     requires { IsRow ordered.now count commands signals }
-    ensures { IfSome result (λ t. AreReady t.0.board t.1.host t.1.shelf t.1.ring t.1.watcher) }
+    ensures { IfSome result (λ t. AreReady t.0.board t.1.host t.1.shelf t.1.ring) }
 {
     let Ok((board, passes)) = Board::new(alloc, ordered) else {
         return None;
     };
-    let workers = dealt(&board, passes)?;
+    let workers = taking_part(&board, passes)?;
     let batches = Batches {
         board,
         count,

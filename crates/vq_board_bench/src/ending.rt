@@ -1,10 +1,9 @@
 //! The steps of the shelf when the ring has run the batches of a row, one kind of step after another.
-ghost use Rattle.std.specs.Prelude.{◌≡◌, ◌<◌, suc, true, false};
+ghost use Rattle.std.specs.Prelude.{◌≡◌, ◌<◌, suc, true};
 ghost use Rattle.vq_board.specs.Named.{plan_of, view, IsOf};
 ghost use Rattle.vq_board_bench.specs.Rows.{IsShelf, IsEnding};
 
 use crate::batches::Batches;
-use crate::following::TRIES;
 use crate::kind::Phase;
 use vq_board::{JobState, Pass};
 
@@ -39,7 +38,7 @@ impl Batches {
         }
     }
 
-    /// The shelf frees a point, where no one has a reference to it. It says whether it did.
+    /// The shelf frees a point. It says whether no one had a reference to it.
     fn free(&self, shelf: &mut Pass, j: u32) -> bool
         requires exists { j < self.now.signals }
         requires board { IsOf self.now.board shelf.old }
@@ -48,31 +47,11 @@ impl Batches {
         ensures board { IsOf self.now.board shelf.new }
         ensures freed { result ≡ true → IsEnding (plan_of self.now.board) (view shelf.new)
             self.now.signals self.now.signals self.now.signals (suc j) }
-        ensures in_use { result ≡ false → IsEnding (plan_of self.now.board) (view shelf.new)
-            self.now.signals self.now.signals self.now.signals j }
     {
         match self.board.retire(shelf, j) {
             Ok(()) => true,
             Err(_) => false,
         }
-    }
-
-    /// The shelf frees a point, as soon as no one has a reference to it.
-    fn until_freed(&self, shelf: &mut Pass, j: u32) -> bool
-        requires exists { j < self.now.signals }
-        requires board { IsOf self.now.board shelf.old }
-        requires shelf { IsEnding (plan_of self.now.board) (view shelf.old)
-            self.now.signals self.now.signals self.now.signals j }
-        ensures board { IsOf self.now.board shelf.new }
-        ensures shelf { result ≡ true → IsEnding (plan_of self.now.board) (view shelf.new)
-            self.now.signals self.now.signals self.now.signals (suc j) }
-    {
-        for _ in 0..TRIES {
-            if self.free(shelf, j) {
-                return true;
-            }
-        }
-        false
     }
 
     /// The shelf frees the points. It says whether all are free.
@@ -83,7 +62,7 @@ impl Batches {
         ensures { IsOf self.now.board shelf.new }
     {
         for j in 0..self.signals {
-            if !self.until_freed(shelf, j) {
+            if !self.free(shelf, j) {
                 return false;
             }
         }

@@ -30,10 +30,6 @@ pub(crate) enum Kind {
     Reads { whole: bool },
     /// So is a bare table.
     BareReads { whole: bool },
-    /// A board is opened and points made by two shelves in two threads, or none.
-    Makes { whole: bool },
-    /// So is a bare table.
-    BareMakes { whole: bool },
 }
 
 impl Kind {
@@ -55,10 +51,6 @@ impl Kind {
             "open-answers" => Some(Kind::Reads { whole: false }),
             "bare-answer" => Some(Kind::BareReads { whole: true }),
             "bare-open-answers" => Some(Kind::BareReads { whole: false }),
-            "make" => Some(Kind::Makes { whole: true }),
-            "open-makes" => Some(Kind::Makes { whole: false }),
-            "bare-make" => Some(Kind::BareMakes { whole: true }),
-            "bare-open-makes" => Some(Kind::BareMakes { whole: false }),
             _ => None,
         }
     }
@@ -112,16 +104,6 @@ pub(crate) enum Phase {
     Completed,
     Retired,
 }
-
-/// The phases whose steps change words that another thread can look at, but for the last.
-pub(crate) const FOLLOWED: [Phase; 6] = [
-    Phase::Submitted,
-    Phase::Assigned,
-    Phase::Released,
-    Phase::Bound,
-    Phase::Run,
-    Phase::Completed,
-];
 
 impl Phase {
     /// The phase with this name.

@@ -3,18 +3,14 @@
 #![tactic(auto)]
 
 mod bare;
-mod bare_following;
-mod bare_making;
 mod bare_phases;
 mod bare_reading;
 mod bare_row;
 mod bare_running;
 mod batches;
 mod ending;
-mod following;
 mod handing;
 mod kind;
-mod making;
 mod opened;
 mod pairs;
 mod phases;
@@ -23,13 +19,10 @@ mod reads;
 mod row;
 mod rows;
 mod running;
-mod shares;
 mod steps;
 
 use bare::Bare;
-use bare_making::bare_makes;
 use kind::{Form, Kind, Phase};
-use making::makes;
 use opened::opened;
 use pairs::{bare_pair, board_pair};
 use rows::{Row, bare_reads, reads};
@@ -42,10 +35,9 @@ use steps::steps;
 const USAGE: &str = "usage: vq_board_bench KIND ROUNDS [pairs]
     bare-load, bare-store, bare-cas, bare-add, bare-refer, bare-turn,
     job_state, recall, look, refer, turn
-usage: vq_board_bench KIND ROUNDS SIZE [beside]
-    bare-open-answers, bare-answer, open-answers, answer,
-    bare-open-makes, bare-make, open-makes, make
-usage: vq_board_bench [bare-]row FORM PHASE ROUNDS SIZE [beside]
+usage: vq_board_bench KIND ROUNDS SIZE
+    bare-open-answers, bare-answer, open-answers, answer
+usage: vq_board_bench [bare-]row FORM PHASE ROUNDS SIZE
     forms: idle, command, signal, whole, wide
     phases: opened, submitted, made, assigned, found, released,
         known, bound, run, seen, completed, retired";
@@ -80,49 +72,30 @@ fn in_pairs<R: Threads + Sync>(rt: &R, alloc: Global, kind: Kind, rounds: u64) -
     }
 }
 
-/// Takes rows of so many reads or points so often. It says whether they came out as wanted.
-fn in_rows<R: Threads + Sync>(
-    rt: &R,
-    alloc: Global,
-    kind: Kind,
-    size: u32,
-    beside: bool,
-    rounds: u64,
-) -> Option<bool> {
+/// Takes rows of so many reads so often. It says whether they came out as wanted.
+fn in_rows(alloc: Global, kind: Kind, size: u32, rounds: u64) -> Option<bool> {
     match kind {
         Kind::Bare(_) | Kind::Board(_) => None,
-        Kind::BareReads { whole } => bare_reads(rt, alloc, size, whole, beside, rounds),
-        Kind::Reads { whole } => reads(rt, alloc, size, whole, beside, rounds),
-        Kind::BareMakes { whole } => bare_makes(rt, alloc, size, whole, rounds),
-        Kind::Makes { whole } => makes(rt, alloc, size, whole, rounds),
+        Kind::BareReads { whole } => bare_reads(alloc, size, whole, rounds),
+        Kind::Reads { whole } => reads(alloc, size, whole, rounds),
     }
 }
 
 /// Takes a row of batches up to a phase so often, as the words after the first two say.
-fn in_phases<R: Threads + Sync>(
-    rt: &R,
-    alloc: Global,
-    bare: bool,
-    words: &[String],
-) -> Option<bool> {
-    let (form, phase, rounds, size) = match words {
-        [form, phase, rounds, size] | [form, phase, rounds, size, _] => (form, phase, rounds, size),
-        _ => return None,
+fn in_phases(alloc: Global, bare: bool, words: &[String]) -> Option<bool> {
+    let [form, phase, rounds, size] = words else {
+        return None;
     };
     let row = Row {
         form: Form::named(form.as_str())?,
         last: Phase::named(phase.as_str())?,
-        beside: match words.get(4) {
-            Some(word) => word.as_str() == "beside",
-            None => false,
-        },
         batches: size.as_str().parse::<u32>().ok()?,
     };
     let rounds = rounds.as_str().parse::<u64>().ok()?;
     if bare {
-        row.take_bare(rt, alloc, rounds)
+        row.take_bare(alloc, rounds)
     } else {
-        row.take(rt, alloc, rounds)
+        row.take(alloc, rounds)
     }
 }
 
@@ -138,14 +111,7 @@ fn made<R: Threads + Sync>(rt: &R, alloc: Global, words: &[String]) -> Option<bo
             if word.as_str() == "pairs" {
                 in_pairs(rt, alloc, kind, rounds)
             } else {
-                in_rows(
-                    rt,
-                    alloc,
-                    kind,
-                    word.as_str().parse::<u32>().ok()?,
-                    words.len() == 5,
-                    rounds,
-                )
+                in_rows(alloc, kind, word.as_str().parse::<u32>().ok()?, rounds)
             }
         }
         None => alone(alloc, kind, rounds),
@@ -156,8 +122,8 @@ fn made<R: Threads + Sync>(rt: &R, alloc: Global, words: &[String]) -> Option<bo
 fn run<R: Threads + Sync>(rt: &R, alloc: Global, words: &[String]) -> Option<bool> {
     match words {
         [_, name, rest @ ..] => match name.as_str() {
-            "row" => in_phases(rt, alloc, false, rest),
-            "bare-row" => in_phases(rt, alloc, true, rest),
+            "row" => in_phases(alloc, false, rest),
+            "bare-row" => in_phases(alloc, true, rest),
             _ => made(rt, alloc, words),
         },
         _ => None,

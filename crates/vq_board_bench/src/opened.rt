@@ -1,19 +1,22 @@
 //! A board with two passes that run batches, and a point that carries an operation.
-ghost use Rattle.std.specs.Prelude.{◌≡◌, ℕ, ◌<◌, length, true, false, Some, IfSome};
+ghost use Rattle.std.specs.Prelude.{◌≡◌, ◌<◌, length, true, false, Some, [], IfSome};
+ghost use Rattle.vq_model.specs.LoweringFaults.{IsPlan};
 ghost use Rattle.vq_model.specs.Plan.{chain_of};
-ghost use Rattle.vq_model.specs.ValidScripts.{is_threaded_queue};
-ghost use Rattle.vq_board_laws.specs.declared.view.Role.TheVariants.{Ring, Shelf};
-ghost use Rattle.vq_board.specs.Named.{plan_of, role_of, IsOf, IsFresh, IsCut};
-ghost use Rattle.vq_board_bench.specs.Idle.{IsPlain, IsIdle, IsReferring, AllFresh};
+ghost use Rattle.vq_board_laws.specs.declared.view.Role.TheVariants.{Shelf};
+ghost use Rattle.vq_board.specs.Named.{plan_of};
+ghost use Rattle.vq_board_stage.specs.Batches.{IsAlone};
+ghost use Rattle.vq_board_stage.specs.Dealing.{AllFresh, IsDealer, IsNew};
+ghost use Rattle.vq_board_bench.specs.Idle.{IsOfWorkers, IsReferring};
 ghost use Rattle.vq_board_bench.specs.Making.{HasShare};
 
-use crate::shares::has_share;
+use crate::row::has_share;
 use std::alloc::Global;
-use vq_board::{Board, JobState, Pass, Passes, Role};
-use vq_model::script::{Mode, Script};
-use vq_order::{Ordered, check};
-use vq_script::{Form, is_short, parse};
-use vq_spec::{Lane, Plan, PlanJob};
+use vq_board::{Board, Pass, Passes, Role};
+use vq_board_stage::alone::{hand_on, is_alone, start};
+use vq_board_stage::passes::{board_of, dealt};
+use vq_board_stage::plans::checked;
+use vq_order::Ordered;
+use vq_spec::Plan;
 
 /// The first two batches wait for nothing and do nothing; the third has a signal.
 const SCRIPT: &[u8] = b"timeline A 0
@@ -29,117 +32,53 @@ signal A 1
 end
 ";
 
-/// The plan of a text that has a lawful one.
-pub(crate) fn checked(alloc: Global, text: &[u8]) -> Option<Ordered> {
-    if !is_short(text) {
-        return None;
-    }
-    let script = parse(alloc, text, Form::Plain).ok()?;
-    check(alloc, Plan::lower(alloc, script).ok()?).ok()
-}
-
-/// Whether a job is a batch of the queue that waits for nothing and signals nothing.
-fn is_plain(job: &PlanJob, queue: u32) -> bool
-    ensures { result ≡ true → IsPlain job.now queue }
-{
-    let Lane::Queue(own) = job.lane else {
-        return false;
-    };
-    if own != queue || job.any || job.previous.is_some() {
-        return false;
-    }
-    job.idle_after.len() == 0 && job.needs.len() == 0 && job.signals.len() == 0
-}
-
-/// Whether the host hands the batches of a queue to the device.
-pub(crate) fn is_hosted(script: &Script, queue: u32) -> bool
-    ensures { result ≡ true → is_threaded_queue script.now queue ≡ false }
-{
-    match script.queues.as_slice().get(queue as usize) {
-        Some(queue) => !matches!(queue.mode, Mode::Threaded),
-        None => true,
-    }
-}
-
-/// Whether job j is such a batch of queue j, which the host releases.
-fn is_idle(plan: &Plan, j: u32) -> bool
-    ensures { result ≡ true → IsIdle plan.now j j }
-{
-    if j >= plan.jobs() {
-        return false;
-    }
-    is_hosted(plan.script(), j) && is_plain(plan.job(j), j)
-}
-
 /// Whether the first operation is of the first chain.
 fn is_signaled(plan: &Plan) -> bool
+    requires { IsPlan plan.now }
     ensures exists { result ≡ true → 0 < length plan.now.ops }
     ensures chain { result ≡ true → chain_of plan.now 0 ≡ Some 0 }
     ensures share { result ≡ true → HasShare plan.now 0 1 }
 {
-    plan.ops() != 0 && plan.op(0).chain == 0 && has_share(plan, 0, 1)
+    plan.ops() != 0 && plan.op(0).chain == 0 && has_share(plan, 1)
+}
+
+/// Whether the plan is that of the script.
+fn is_of_workers(plan: &Plan) -> bool
+    requires { IsPlan plan.now }
+    ensures { result ≡ true → IsOfWorkers plan.now }
+{
+    is_alone(plan, 0, &[]) && is_alone(plan, 1, &[]) && is_signaled(plan)
 }
 
 /// The host submits and releases the first two batches.
 fn hand_over(board: &Board, host: &mut Pass)
-    requires host { (n : ℕ) × IsCut board.now host.old n }
-    requires first { IsIdle (plan_of board.now) 0 0 }
-    requires second { IsIdle (plan_of board.now) 1 1 }
-    ensures { IsOf board.now host.new }
+    requires plan { IsOfWorkers (plan_of board.now) }
+    requires host { IsDealer board.now host.old }
 {
-    board.submit(host, 0);
-    board.release(host, 0);
-    board.submit(host, 1);
-    board.release(host, 1);
+    hand_on(board, host, 0, &[]);
+    hand_on(board, host, 1, &[]);
 }
 
-/// The last pass of a list of fresh ones.
-pub(crate) fn last(board: &Board, passes: &mut Vec<Pass>) -> Option<Pass>
-    requires { AllFresh board.now passes.old.items }
-    ensures pass { IfSome result (λ x. IsFresh board.now x) }
-    ensures left { AllFresh board.now passes.new.items }
+/// The pass of the next ring starts its batch, where that is released.
+fn started(board: &Board, rings: &mut Vec<Pass>, j: u32) -> Option<Pass>
+    requires fresh { AllFresh board.now rings.old.items }
+    requires idle { IsAlone (plan_of board.now) j [] }
+    requires ops { 0 < length (plan_of board.now).ops }
+    ensures pass { IfSome result (λ x. IsReferring board.now x false) }
+    ensures left { AllFresh board.now rings.new.items }
 {
-    passes.pop()
-}
-
-/// The last pass of a list of fresh ones, where this is its role.
-pub(crate) fn last_as(board: &Board, passes: &mut Vec<Pass>, role: Role) -> Option<Pass>
-    requires { AllFresh board.now passes.old.items }
-    ensures pass { IfSome result (λ x. IsFresh board.now x) }
-    ensures role { IfSome result (λ x. role_of x ≡ role) }
-    ensures left { AllFresh board.now passes.new.items }
-{
-    let pass = last(board, passes)?;
-    if pass.role() == role {
+    let mut pass = dealt(board, rings, Role::Ring(j))?;
+    if start(board, &mut pass, j, &[]) {
         Some(pass)
     } else {
         None
     }
 }
 
-/// The pass of the next ring starts its batch, where that is released.
-fn started(board: &Board, rings: &mut Vec<Pass>, j: u32) -> Option<Pass>
-    requires fresh { AllFresh board.now rings.old.items }
-    requires idle { IsIdle (plan_of board.now) j j }
-    requires ops { 0 < length (plan_of board.now).ops }
-    ensures pass { IfSome result (λ x. IsReferring board.now x false) }
-    ensures left { AllFresh board.now rings.new.items }
-{
-    let mut pass = last_as(board, rings, Role::Ring(j))?;
-    if board.job_state(&mut pass, j) != JobState::Released {
-        return None;
-    }
-    board.start(&mut pass, j);
-    Some(pass)
-}
-
 /// The shelf gives a new point to the first operation. It says whether it is the first point.
 fn give_point(board: &Board, shelf: &mut Pass) -> bool
-    requires fresh { IsFresh board.now shelf.old }
-    requires role { role_of shelf.old ≡ Shelf 0 }
-    requires exists { 0 < length (plan_of board.now).ops }
-    requires chain { chain_of (plan_of board.now) 0 ≡ Some 0 }
-    requires share { HasShare (plan_of board.now) 0 1 }
+    requires plan { IsOfWorkers (plan_of board.now) }
+    requires shelf { IsNew board.now shelf.old (Shelf 0) }
 {
     let point = board.make(shelf);
     board.assign(shelf, point, 0);
@@ -148,43 +87,36 @@ fn give_point(board: &Board, shelf: &mut Pass) -> bool
 
 /// The passes of the first two rings, each of which has started its batch.
 fn workers(board: &Board, mut rings: Vec<Pass>) -> Option<(Pass, Pass)>
+    requires plan { IsOfWorkers (plan_of board.now) }
     requires fresh { AllFresh board.now rings.items }
-    requires first { IsIdle (plan_of board.now) 0 0 }
-    requires second { IsIdle (plan_of board.now) 1 1 }
-    requires ops { 0 < length (plan_of board.now).ops }
     ensures first { IfSome result (λ t. IsReferring board.now t.0 false) }
     ensures second { IfSome result (λ t. IsReferring board.now t.1 false) }
 {
-    drop(last(board, &mut rings)?);
+    drop(dealt(board, &mut rings, Role::Ring(2))?);
     let second = started(board, &mut rings, 1)?;
     let first = started(board, &mut rings, 0)?;
     Some((first, second))
 }
 
-/// The board of a plan, whose host has handed the first two batches over, and whose first point
-/// carries the first operation; with the passes of the rings.
-fn handed(alloc: Global, ordered: &Ordered) -> Option<(Board, Vec<Pass>)>
-    requires first { IsIdle ordered.now 0 0 }
-    requires second { IsIdle ordered.now 1 1 }
-    requires exists { 0 < length ordered.now.ops }
-    requires chain { chain_of ordered.now 0 ≡ Some 0 }
-    requires share { HasShare ordered.now 0 1 }
-    ensures plan { IfSome result (λ t. plan_of t.0 ≡ ordered.now) }
-    ensures rings { IfSome result (λ t. AllFresh t.0 t.1.items) }
+/// The passes of the rings, where the host has handed the first two batches over, and the first point
+/// carries the first operation.
+fn handed(board: &Board, passes: Passes) -> Option<Vec<Pass>>
+    requires plan { IsOfWorkers (plan_of board.now) }
+    requires host { IsDealer board.now passes.host }
+    requires rings { AllFresh board.now passes.rings.items }
+    requires shelves { AllFresh board.now passes.shelves.items }
+    ensures { IfSome result (λ v. AllFresh board.now v.items) }
 {
-    let Ok((board, passes)) = Board::new(alloc, ordered) else {
-        return None;
-    };
     let Passes {
         mut host,
         submits: _,
         rings,
         mut shelves,
     } = passes;
-    hand_over(&board, &mut host);
-    let mut shelf = last_as(&board, &mut shelves, Role::Shelf(0))?;
-    if give_point(&board, &mut shelf) {
-        Some((board, rings))
+    hand_over(board, &mut host);
+    let mut shelf = dealt(board, &mut shelves, Role::Shelf(0))?;
+    if give_point(board, &mut shelf) {
+        Some(rings)
     } else {
         None
     }
@@ -195,11 +127,11 @@ fn opened_of(alloc: Global, ordered: &Ordered) -> Option<(Board, Pass, Pass)>
     ensures first { IfSome result (λ t. IsReferring t.0 t.1 false) }
     ensures second { IfSome result (λ t. IsReferring t.0 t.2 false) }
 {
-    let plan = ordered.plan();
-    if !is_idle(plan, 0) || !is_idle(plan, 1) || !is_signaled(plan) {
+    if !is_of_workers(ordered.plan()) {
         return None;
     }
-    let (board, rings) = handed(alloc, ordered)?;
+    let (board, passes) = board_of(alloc, ordered)?;
+    let rings = handed(&board, passes)?;
     let (first, second) = workers(&board, rings)?;
     Some((board, first, second))
 }

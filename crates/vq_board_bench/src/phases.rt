@@ -1,12 +1,10 @@
-//! A row of batches is taken through the kinds of step, one after another, on one thread, or beside
-//! another that looks at the words.
-ghost use Rattle.std.specs.Prelude.{[], true};
+//! A row of batches is taken through the kinds of step, one after another.
+ghost use Rattle.std.specs.Prelude.{true};
 ghost use Rattle.vq_board.specs.Named.{plan_of, view, IsOf};
-ghost use Rattle.vq_board_bench.specs.Rows.{IsHost, IsShelf, IsBetween, IsWatcher, AreReady};
+ghost use Rattle.vq_board_bench.specs.Rows.{IsHost, IsShelf, IsBetween, AreReady};
 
 use crate::batches::{Batches, Workers};
 use crate::kind::Phase;
-use std::thread::{Threads, join};
 use vq_board::Pass;
 
 impl Batches {
@@ -52,14 +50,14 @@ impl Batches {
 
     /// Takes the batches through all kinds of step up to this phase. It says whether all came out as
     /// wanted.
-    fn take(&self, mut host: Pass, mut shelf: Pass, ring: Pass, last: Phase) -> bool
-        requires host_of { IsOf self.now.board host }
-        requires shelf_of { IsOf self.now.board shelf }
-        requires ring_of { IsOf self.now.board ring }
-        requires host { IsHost (view host) 0 0 0 }
-        requires shelf { IsShelf (plan_of self.now.board) (view shelf) 0 0 0 0 }
-        requires ring { IsBetween (plan_of self.now.board) (view ring) 0 }
+    pub(crate) fn take(&self, workers: Workers, last: Phase) -> bool
+        requires { AreReady self.now.board workers.host workers.shelf workers.ring }
     {
+        let Workers {
+            mut host,
+            mut shelf,
+            ring,
+        } = workers;
         if last == Phase::Opened {
             return true;
         }
@@ -75,49 +73,5 @@ impl Batches {
         }
         self.assign(&mut shelf);
         last == Phase::Assigned || self.hand_on(host, shelf, ring, last)
-    }
-
-    /// The same on one thread.
-    pub(crate) fn take_alone(&self, workers: Workers, last: Phase) -> bool
-        requires { AreReady self.now.board workers.host workers.shelf workers.ring workers.watcher }
-    {
-        let Workers {
-            host,
-            shelf,
-            ring,
-            watcher: _,
-        } = workers;
-        self.take(host, shelf, ring, last)
-    }
-
-    /// The same beside another thread, which looks at the words that are changed.
-    pub(crate) fn take_beside<R: Threads + Sync>(
-        &self,
-        rt: &R,
-        workers: Workers,
-        last: Phase,
-    ) -> bool
-        requires { AreReady self.now.board workers.host workers.shelf workers.ring workers.watcher }
-    {
-        let Workers {
-            host,
-            shelf,
-            ring,
-            watcher,
-        } = workers;
-        join(
-            rt,
-            || -> bool
-                requires host_of { IsOf self.now.board host }
-                requires shelf_of { IsOf self.now.board shelf }
-                requires ring_of { IsOf self.now.board ring }
-                requires host { IsHost (view host) 0 0 0 }
-                requires shelf { IsShelf (plan_of self.now.board) (view shelf) 0 0 0 0 }
-                requires ring { IsBetween (plan_of self.now.board) (view ring) 0 }
-            { self.take(host, shelf, ring, last) },
-            || -> bool
-                requires { IsWatcher self.now.board watcher [] }
-            { self.follow(watcher, last) },
-        ) == (true, true)
     }
 }

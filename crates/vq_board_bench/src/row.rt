@@ -1,13 +1,14 @@
 //! A plan of batches in a row on one queue, the first of which have a command and a signal each.
 ghost use Rattle.std.specs.Prelude.{◌≡◌, ℕ, [], ◌+◌, ◌<◌, ◌≤◌, length, true, Some};
 ghost use Rattle.std.specs.List.{slice_get};
+ghost use Rattle.vq_model.specs.LoweringFaults.{IsPlan};
 ghost use Rattle.vq_model.specs.Plan.{chain, chain_of, job_of};
+ghost use Rattle.vq_board_bench.specs.Making.{HasShare};
 ghost use Rattle.vq_board_bench.specs.Rows.{IsOneOfFirst, IsLink, IsLinked, IsRow};
 
 use crate::kind::Form;
-use crate::opened::is_hosted;
-use crate::shares::has_share;
 use std::alloc::{AllocError, Global};
+use vq_board_stage::alone::is_hosted;
 use vq_spec::{Lane, Plan, PlanJob, Question};
 
 /// Adds the declarations of a timeline and two queues. A wide script has as many queues and timelines
@@ -133,14 +134,33 @@ fn are_rising(plan: &Plan) -> bool
     true
 }
 
+/// Whether a list has so many numbers.
+fn is_long(list: &[u32], count: u32) -> bool
+    ensures { result ≡ true → count ≤ length list.now }
+{
+    list.len() >= count as usize
+}
+
+/// Whether the shelf of the first chain may make so many points.
+pub(crate) fn has_share(plan: &Plan, count: u32) -> bool
+    requires { IsPlan plan.now }
+    ensures { result ≡ true → HasShare plan.now 0 count }
+{
+    if plan.chains() == 0 {
+        return false;
+    }
+    is_long(plan.chain(0), count)
+}
+
 /// Whether the jobs of a plan are in a row, the first so many of them with a command, and with a signal.
 pub(crate) fn is_row(plan: &Plan, commands: u32, signals: u32) -> bool
+    requires { IsPlan plan.now }
     ensures { result ≡ true → IsRow plan.now (length plan.now.jobs) commands signals }
 {
     if commands > plan.commands() || signals > plan.ops() || signals > plan.jobs() {
         return false;
     }
-    if !has_share(plan, 0, signals) {
+    if !has_share(plan, signals) {
         return false;
     }
     for j in 0..plan.jobs() {

@@ -2,16 +2,15 @@
 ghost use Rattle.std.specs.Prelude.{◌≤◌};
 ghost use Rattle.vq_board_bench.specs.Rows.{IsRow};
 
-use crate::bare_reading::{bare_reading, bare_reading_beside};
+use crate::bare_reading::bare_reading;
 use crate::bare_row::opened_bare_row;
 use crate::batches::opened_row;
 use crate::kind::{Form, Phase};
-use crate::opened::checked;
-use crate::reading::{reading, reading_beside};
+use crate::reading::reading;
 use crate::reads::{is_of_reads, reads_text};
 use crate::row::{is_row, row_text};
 use std::alloc::Global;
-use std::thread::Threads;
+use vq_board_stage::plans::checked;
 use vq_order::Ordered;
 
 /// A row of so many batches, and how far it is taken.
@@ -19,8 +18,6 @@ use vq_order::Ordered;
 pub(crate) struct Row {
     pub(crate) form: Form,
     pub(crate) last: Phase,
-    /// Whether another thread looks at the words meanwhile.
-    pub(crate) beside: bool,
     pub(crate) batches: u32,
 }
 
@@ -38,39 +35,22 @@ impl Row {
     }
 
     /// Opens a board of the row, and takes the batches through the kinds of step.
-    fn once<R: Threads + Sync>(
-        &self,
-        rt: &R,
-        alloc: Global,
-        ordered: &Ordered,
-        commands: u32,
-        signals: u32,
-    ) -> Option<bool>
+    fn once(&self, alloc: Global, ordered: &Ordered, commands: u32, signals: u32) -> Option<bool>
         requires { IsRow ordered.now self.now.batches commands signals }
     {
         let (batches, workers) = opened_row(alloc, ordered, self.batches, commands, signals)?;
-        Some(if self.beside {
-            batches.take_beside(rt, workers, self.last)
-        } else {
-            batches.take_alone(workers, self.last)
-        })
+        Some(batches.take(workers, self.last))
     }
 
     /// Does so with so many boards of the plan, where its batches are in such a row.
-    fn take_all<R: Threads + Sync>(
-        &self,
-        rt: &R,
-        alloc: Global,
-        ordered: &Ordered,
-        rounds: u64,
-    ) -> Option<bool> {
+    fn take_all(&self, alloc: Global, ordered: &Ordered, rounds: u64) -> Option<bool> {
         let (commands, signals) = (self.commands(), self.signals());
         let plan = ordered.plan();
         if plan.jobs() != self.batches || !is_row(plan, commands, signals) {
             return None;
         }
         for _ in 0..rounds {
-            if !self.once(rt, alloc, ordered, commands, signals)? {
+            if !self.once(alloc, ordered, commands, signals)? {
                 return Some(false);
             }
         }
@@ -78,45 +58,26 @@ impl Row {
     }
 
     /// Does so with so many boards. It says whether all came out as wanted.
-    pub(crate) fn take<R: Threads + Sync>(
-        &self,
-        rt: &R,
-        alloc: Global,
-        rounds: u64,
-    ) -> Option<bool> {
+    pub(crate) fn take(&self, alloc: Global, rounds: u64) -> Option<bool> {
         let text = row_text(alloc, self.batches, self.form).ok()?;
-        self.take_all(
-            rt,
-            alloc,
-            &checked(alloc, text.as_str().as_bytes())?,
-            rounds,
-        )
+        self.take_all(alloc, &checked(alloc, text.as_str().as_bytes())?, rounds)
     }
 
     /// Makes a bare table for the row, and the bare steps.
-    fn bare_once<R: Threads + Sync>(&self, rt: &R, alloc: Global) -> Option<bool> {
-        let (batches, first, second) = opened_bare_row(
+    fn bare_once(&self, alloc: Global) -> Option<bool> {
+        let (batches, seat) = opened_bare_row(
             alloc,
             self.batches,
             self.commands(),
             self.signals(),
         )?;
-        Some(if self.beside {
-            batches.take_beside(rt, alloc, first, second, self.last)
-        } else {
-            batches.take(alloc, first, self.last)
-        })
+        Some(batches.take(alloc, seat, self.last))
     }
 
     /// Does so with so many tables.
-    pub(crate) fn take_bare<R: Threads + Sync>(
-        &self,
-        rt: &R,
-        alloc: Global,
-        rounds: u64,
-    ) -> Option<bool> {
+    pub(crate) fn take_bare(&self, alloc: Global, rounds: u64) -> Option<bool> {
         for _ in 0..rounds {
-            if !self.bare_once(rt, alloc)? {
+            if !self.bare_once(alloc)? {
                 return Some(false);
             }
         }
@@ -125,27 +86,15 @@ impl Row {
 }
 
 /// Opens so many boards of the plan, where it is of reads, and takes them through their steps, or none
-/// of them, beside another thread or alone.
-fn reads_of<R: Threads + Sync>(
-    rt: &R,
-    alloc: Global,
-    ordered: &Ordered,
-    whole: bool,
-    beside: bool,
-    rounds: u64,
-) -> Option<bool> {
+/// of them.
+fn reads_of(alloc: Global, ordered: &Ordered, whole: bool, rounds: u64) -> Option<bool> {
     let plan = ordered.plan();
     if !is_of_reads(plan) {
         return None;
     }
     let count = if whole { plan.jobs() } else { 0 };
     for _ in 0..rounds {
-        let done = if beside {
-            reading_beside(rt, alloc, ordered, count)?
-        } else {
-            reading(alloc, ordered, count)?
-        };
-        if !done {
+        if !reading(alloc, ordered, count)? {
             return Some(false);
         }
     }
@@ -154,37 +103,18 @@ fn reads_of<R: Threads + Sync>(
 
 /// Opens so many boards for a row of so many of the host's reads, and takes the whole row through its
 /// steps, or none of it. It says whether all came out as wanted.
-pub(crate) fn reads<R: Threads + Sync>(
-    rt: &R,
-    alloc: Global,
-    reads: u32,
-    whole: bool,
-    beside: bool,
-    rounds: u64,
-) -> Option<bool> {
+pub(crate) fn reads(alloc: Global, reads: u32, whole: bool, rounds: u64) -> Option<bool> {
     let text = reads_text(alloc, reads).ok()?;
     let ordered = checked(alloc, text.as_str().as_bytes())?;
-    reads_of(rt, alloc, &ordered, whole, beside, rounds)
+    reads_of(alloc, &ordered, whole, rounds)
 }
 
 /// Makes so many bare tables for a row of so many reads, and the bare steps of the whole row, or none
 /// of them.
-pub(crate) fn bare_reads<R: Threads + Sync>(
-    rt: &R,
-    alloc: Global,
-    reads: u32,
-    whole: bool,
-    beside: bool,
-    rounds: u64,
-) -> Option<bool> {
+pub(crate) fn bare_reads(alloc: Global, reads: u32, whole: bool, rounds: u64) -> Option<bool> {
     let count = if whole { reads } else { 0 };
     for _ in 0..rounds {
-        let done = if beside {
-            bare_reading_beside(rt, alloc, reads, count)?
-        } else {
-            bare_reading(alloc, reads, count)?
-        };
-        if !done {
+        if !bare_reading(alloc, reads, count)? {
             return Some(false);
         }
     }

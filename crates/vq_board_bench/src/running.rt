@@ -24,6 +24,7 @@ impl Batches {
     }
 
     /// The ring applies the batch's command, where it has one.
+    #[tactic(auto, using(crate::proofs::RingSteps::needless))]
     fn apply(&self, ring: &mut Pass, j: u32) -> bool
         requires exists { j < self.now.count }
         requires board { IsOf self.now.board ring.old }
@@ -44,6 +45,7 @@ impl Batches {
     }
 
     /// The ring makes the batch's signal, where it has one.
+    #[tactic(auto, using(crate::proofs::RingSteps::needless))]
     fn signal(&self, ring: &mut Pass, j: u32) -> bool
         requires exists { j < self.now.count }
         requires board { IsOf self.now.board ring.old }
@@ -61,6 +63,7 @@ impl Batches {
     }
 
     /// The ring runs the batch.
+    #[tactic(auto, using(crate::proofs::RingSteps::needless))]
     fn run_one(&self, ring: &mut Pass, j: u32) -> bool
         requires exists { j < self.now.count }
         requires board { IsOf self.now.board ring.old }

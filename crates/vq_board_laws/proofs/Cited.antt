@@ -7,8 +7,8 @@ pub use Rattle.vq_board_laws.proofs.Frames.{so_of}
 pub use Rattle.vq_board_laws.proofs.JobSteps.{looks_at_job, releases_job, state_of_number, submits_job}
 pub use Rattle.vq_board_laws.proofs.LookSteps.{looks_at_point}
 pub use Rattle.vq_board_laws.proofs.MakeSteps.{makes_point}
-pub use Rattle.vq_board_laws.proofs.Moments.{loads_at, stores_at, adds_at, exchanges_at}
-pub use Rattle.vq_board_laws.proofs.Needed.{made_still, reached_still, needs_still, needs_later, needs_to_end, needs_nothing}
+pub use Rattle.vq_board_laws.proofs.Moments.{loads_at, stores_at, adds_at, exchanges_at, step_facts}
+pub use Rattle.vq_board_laws.proofs.Needed.{made_still, reached_still, needs_still, needs_later, needs_to_end, needs_nothing, needs_each, knows_so_far}
 pub use Rattle.vq_board_laws.proofs.OpSteps.{binds_op, completes_op, op_number_is, recalls_op}
 pub use Rattle.vq_board_laws.proofs.Opens.{deals, opens}
 pub use Rattle.vq_board_laws.proofs.PointLaws.{assigned_free, counts_all, referred_carries, retired_past, signaled_made}

@@ -6,12 +6,14 @@ use Rattle.atomic_table.specs.Table.{State, Allows, step, stepped, homes_after}
 use mathlib.Core.Option.{none}
 use Rattle.vq_model.specs.Plan.{Plan}
 use Rattle.vq_board_laws.specs.declared.view.LoggedBuffers.{LoggedBuffers}
-use Rattle.vq_board_laws.specs.Moments.{IsStep, in_load, in_store, in_change}
+use Rattle.vq_board_laws.specs.declared.view.View.{View}
+use Rattle.vq_board_laws.specs.Moments.{IsStep, StepFacts, in_load, in_store, in_change}
 use Rattle.vq_board_laws.specs.Rule.{Kept}
 use Rattle.vq_board_laws.specs.Steps.{Mine}
 
 module _ (p : Plan) (slots id : ℕ) (m : Mine) where
   step_at : (word : ℕ) (f : ℕ → ℕ) (told : ℕ → Mine → Type 0) → Allows (Kept p) slots id m word f told → Allows (Kept p) slots id m word f (λ n m'. told n m' × IsStep m.0.plan m.0 m'.0 word n (f n))
+  unfolding IsStep
   step_at word f told allowed s k deep at fits =
       let t = allowed s k deep at fits in
       let plan : m.0.plan ≡ p = k.rule.ownership.plans id m.0 at in
@@ -62,3 +64,8 @@ module _ (p : Plan) (slots id : ℕ) (m : Mine) where
 
     pub exchanges_at : (old new : ℕ) → Allows (Kept p) slots id m word (λ n. either (eqb n old) new n) (told (step slots word old new none) m) → Allows (Kept p) slots id m at (λ n. either (eqb n old) new n) (in_change told (step slots at old new none) m)
     exchanges_at old new allowed = changes_at (λ n. either (eqb n old) new n) old new allowed
+
+-- what there is to a step
+pub step_facts : (p : Plan) (v w : View) (word found left : ℕ) → IsStep p v w word found left → StepFacts p v w word found left
+unfolding IsStep
+step_facts p v w word found left step = step

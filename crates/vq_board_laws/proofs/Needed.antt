@@ -1,18 +1,19 @@
 -- What a pass knows reached stays known, and where all needs of a job hold back its start, they hold back
 -- nothing later.
-use Rattle.std.proofs.Common.{◌≡◌, ℕ, suc, true, false, nat_le, List, [], filter, Some, subst, sym, ap, ◌∙◌, inl, inr}
+use Rattle.std.proofs.Common.{◌≡◌, ℕ, suc, Bool, true, false, cond, nat_le, arith, List, [], ◌∷◌, filter, Some, subst, sym, ap, ◌∙◌, inl, inr}
 use Rattle.std.specs.Prelude.{All}
 use Rattle.std.specs.List.{slice_get}
 use Rattle.std.proofs.lemmas.Bool.{false≢true}
-use Rattle.std.proofs.lemmas.List.Elements.{All-nil}
+use Rattle.std.proofs.lemmas.List.Elements.{All-nil, All-cons, All-head, All-tail}
 use Rattle.vq_model.specs.declared.plan.Need.{Need}
 use Rattle.vq_model.specs.Plan.{Plan, needs, waits_for_any}
 use Rattle.vq_model.specs.Edges.{Stage, At, AtEnd, needs_at, waits_at_start}
 use Rattle.vq_plan_laws.proofs.Cited.{needs_alike}
 use Rattle.vq_board_laws.specs.declared.view.Fact.{Fact}
 use Rattle.vq_board_laws.specs.declared.view.Fact.TheVariants.{Job, Made, Past}
+use Rattle.vq_board_laws.specs.declared.view.JobState.{JobState}
 use Rattle.vq_board_laws.specs.declared.view.JobState.TheVariants.{Finished}
-use Rattle.vq_board_laws.specs.Knowledge.{Knows, KnowsMade, shown, completed, made_with, of_finished, before_finished}
+use Rattle.vq_board_laws.specs.Knowledge.{Knows, KnowsSoFar, KnowsMade, shown, completed, made_with, of_finished, before_finished}
 use Rattle.vq_board_laws.specs.May.{KnowsReached, KnowsNeeds}
 
 -- More is known
@@ -61,3 +62,27 @@ needs_nothing p known j k none single = record {
     nothing_at : (l : Stage) → needs_at p j l ≡ []
     nothing_at (At n) = ap (filter (λ x. nat_le x.from n)) none
     nothing_at AtEnd = none
+
+-- what is known of all needs of a job serves each place of it
+
+some_of_all : (P : Need → Type 0) (at : Need → Bool) (ns : List Need) → All P ns → All P (filter at ns)
+some_of_all P at [] h = All-nil P
+some_of_all P at (n ∷ ns) h = by_test (at n) (some_of_all P at ns (All-tail P n ns h))
+  where
+    by_test : (b : Bool) → All P (filter at ns) → All P (cond b (n ∷ filter at ns) (filter at ns))
+    by_test true rest = All-cons P n (filter at ns) (All-head P n ns h) rest
+    by_test false rest = rest
+
+pub needs_each : (p : Plan) (known : List Fact) (j : ℕ) (k : Stage) → waits_for_any p j ≡ false → All (KnowsReached p known) (needs p j) → KnowsNeeds p known j k
+needs_each p known j k single h = record {
+  all = λ _. at_place k;
+  one = λ any. absurd (false≢true (sym single ∙ any));
+}
+  where
+    at_place : (l : Stage) → All (KnowsReached p known) (needs_at p j l)
+    at_place (At n) = some_of_all (KnowsReached p known) (λ x. nat_le x.from n) (needs p j) h
+    at_place AtEnd = h
+
+-- a job that is known in a state is known at least so far
+pub knows_so_far : (known : List Fact) (j : ℕ) (s : JobState) → Knows known (Job j s) → KnowsSoFar known j s
+knows_so_far known j s h = (s, omega arith, h)

@@ -12,10 +12,10 @@ use Rattle.vq_board_laws.specs.declared.view.View.{View}
 use Rattle.vq_board_laws.specs.Rule.{Kept}
 use Rattle.vq_board_laws.specs.Steps.{Mine}
 
--- A step of a pass on a word: what the board was right before it, and that the rule held then and holds
--- right after it. The pass stands at its place among all passes, with the one view and then the other,
--- and the step found the one number and left the other.
-pub record IsStep (p : Plan) (v w : View) (word found left : ℕ) : Type 0 where
+-- What there is to a step of a pass on a word: what the board was right before it, and that the rule held
+-- then and holds right after it. The pass stands at its place among all passes, with the one view and
+-- then the other, and the step found the one number and left the other.
+pub record StepFacts (p : Plan) (v w : View) (word found left : ℕ) : Type 0 where
   pub before : State LoggedBuffers View
   pub kept : Kept p before
   pub place : ℕ
@@ -27,6 +27,11 @@ pub record IsStep (p : Plan) (v w : View) (word found left : ℕ) : Type 0 where
     homes = homes;
     views = slice_set before.views place w;
   }
+
+-- Calls say it by this word, which is opened where a law is applied: proofs that need no law then see
+-- nothing of the board's states.
+unfoldable pub IsStep : Plan → View → View → ℕ → ℕ → ℕ → Type 0
+IsStep p v w word found left = StepFacts p v w word found left
 
 -- What a step tells, and that it is such a step: one that only looks, one that stores the number n
 -- whatever it finds, and one that finds n and changes it.

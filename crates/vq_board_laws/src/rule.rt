@@ -1,9 +1,11 @@
 //! The rule of the board's table.
+//!
+//! Source: this project's own, where an item names no other.
 use crate::view::{LoggedBuffers, View};
 use atomic_table::TableRule;
 use vq_spec::Plan;
 
-/// The rule of the board. Source: this project's rule.
+/// The rule of the board.
 pub struct Ruled;
 
 impl TableRule<LoggedBuffers, View, Plan> for Ruled {

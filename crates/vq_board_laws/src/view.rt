@@ -1,10 +1,12 @@
 //! What a pass of the board knows and has done, as contracts see it.
+//!
+//! Source: this project's own, where an item names no other.
 use std::collections::LinkedList;
 use vq_model::plan::Answer;
 use vq_spec::Plan;
 use vq_transfer::Buffers;
 
-/// How far a job is. Source: this project's rule.
+/// How far a job is.
 #[derive(Clone, Copy, Debug, PartialEq, Eq)]
 pub enum JobState {
     /// Nothing has happened to it.
@@ -17,7 +19,7 @@ pub enum JobState {
     Finished,
 }
 
-/// What the word of an operation says. Source: this project's rule.
+/// What the word of an operation says.
 #[derive(Clone, Copy, Debug, PartialEq, Eq)]
 pub enum OpState {
     /// It isn't bound to a point yet.
@@ -28,7 +30,7 @@ pub enum OpState {
     Past,
 }
 
-/// What a pass may know. No value of it is made. Source: this project's rule.
+/// What a pass may know. No value of it is made.
 pub enum Fact {
     /// The job is at least so far.
     Job(u32, JobState),
@@ -44,14 +46,14 @@ pub enum Fact {
     Past(u32),
 }
 
-/// A point, and the operation that it carries. Source: this project's rule.
+/// A point, and the operation that it carries.
 #[derive(Clone, Copy)]
 pub struct Reference {
     pub point: u32,
     pub op: u32,
 }
 
-/// A host step with the answer that the host gave it. Source: this project's rule.
+/// A host step with the answer that the host gave it.
 #[derive(Clone, Copy)]
 pub struct Told {
     pub job: u32,
@@ -59,14 +61,14 @@ pub struct Told {
 }
 
 /// An atomic step of a pass: on which word it was, and the number found there, or at a store the
-/// number stored. Source: this project's rule.
+/// number stored.
 #[derive(Clone, Copy)]
 pub struct OwnStep {
     pub word: u64,
     pub found: u64,
 }
 
-/// What a pass knows, has and has done. No value of it is made. Source: this project's rule.
+/// What a pass knows, has and has done. No value of it is made.
 pub struct View {
     /// The number of its role.
     pub role: u64,
@@ -105,14 +107,14 @@ pub struct View {
     pub steps: LinkedList<OwnStep>,
 }
 
-/// The buffers, with the number of filled places of the log. Source: this project's rule.
+/// The buffers, with the number of filled places of the log.
 #[derive(Drop)]
 pub struct LoggedBuffers {
     pub buffers: Buffers,
     pub filled: u64,
 }
 
-/// Who makes the steps of a pass. Source: this project's rule.
+/// Who makes the steps of a pass.
 #[derive(Clone, Copy, Debug, PartialEq, Eq)]
 pub enum Role {
     /// The host, which also submits to the queues without a thread.

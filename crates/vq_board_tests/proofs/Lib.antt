@@ -1,5 +1,7 @@
+mod Asked
 mod Binds
 mod Chains
 mod RingSteps
+mod SeenMade
 mod Shares
 mod Waits

@@ -1,6 +1,7 @@
 -- What the passes of the test of a batch with two waits may do.
-use Rattle.std.proofs.Common.{◌≡◌, ℕ, zero, suc, ◌<◌, true, false, not, nat_lt, nat_le, List, [], ◌∷◌, ◌++◌, length, Some, None, refl, sym, ap, subst, ◌∙◌, inl, inr, arith, leb-true}
-use Rattle.std.specs.Prelude.{All}
+use Rattle.std.proofs.Common.{◌≡◌, ℕ, zero, suc, ◌<◌, true, false, not, nat_lt, nat_le, List, [], ◌∷◌, ◌++◌, length, Some, None, refl, sym, ap, subst, ◌∙◌, inr, arith, leb-true}
+use Rattle.std.specs.Prelude.{All, Result, Ok, Err, IfOk}
+use Rattle.std.specs.Result.{is_err}
 use Rattle.std.specs.List.{slice_get}
 use Rattle.std.proofs.lemmas.Bool.{false≢true, and_parts}
 use Rattle.std.proofs.lemmas.List.Elements.{All-cons, All-nil}
@@ -8,6 +9,7 @@ use Rattle.std.proofs.lemmas.Option.{same_Some}
 use Rattle.vq_model.proofs.Options.{same_some}
 use Rattle.vq_model.proofs.Searches.{find_member, find_passes}
 use Rattle.vq_model.specs.Plan.{Plan, has, is_host_step, chain, value, resolver}
+use Rattle.vq_model.specs.Edges.{Stage, At, AtEnd}
 use Rattle.vq_model.specs.declared.plan.Need.{Need}
 use Rattle.vq_point.specs.declared.PointWord.{PointWord as PointParts}
 use Rattle.vq_point.specs.Word.{bits_of}
@@ -17,24 +19,17 @@ use Rattle.vq_board_laws.specs.declared.view.JobState.TheVariants.{Submitted, Re
 use Rattle.vq_board_laws.specs.declared.view.Role.TheVariants.{Ring}
 use Rattle.vq_board_laws.specs.declared.view.View.{View}
 use Rattle.vq_board_laws.specs.Knowledge.{Knows, KnowsMade.shown}
-use Rattle.vq_board_laws.specs.May.{MaySubmit, MayRelease, MayStart, KnowsReached}
-use Rattle.vq_board_laws.specs.PointSteps.{point_facts, moved_on, sees}
+use Rattle.vq_board_laws.specs.May.{MaySubmit, MayRelease, MayStart, MayFinish, KnowsReached, KnowsNeeds}
+use Rattle.vq_board_laws.proofs.Cited.{needs_each, knows_so_far}
+use Rattle.vq_board_laws.specs.PointSteps.{point_facts, moved_on, sees, unrefers}
 use Rattle.vq_board_laws.specs.Roles.{role_number}
+use Rattle.vq_board_stage.proofs.Cited.{knows_behind, knows_before}
 use Rattle.vq_board_tests.specs.HostSteps.{HasHostStep}
 use Rattle.vq_board_tests.specs.TwoWaits.{IsOfTwoWaits}
 
 -- what a point's word says that carries the operation, which is signaled, and has one reference
 abbrev pub signaled_word : ℕ → PointParts
 signaled_word e = record { op = e; refs = 1; signaled = true; held = true }
-
-knows_behind : (fs gs : List Fact) (f : Fact) → Knows gs f → Knows (fs ++ gs) f
-knows_behind [] gs f h = h
-knows_behind (x ∷ fs) gs f h = inr (knows_behind fs gs f h)
-
-knows_before : (fs gs : List Fact) (f : Fact) → Knows fs f → Knows (fs ++ gs) f
-knows_before [] gs f h = absurd h
-knows_before (x ∷ fs) gs f (inl e) = inl e
-knows_before (x ∷ fs) gs f (inr h) = inr (knows_before fs gs f h)
 
 -- a look at a point shows what the word that it finds says
 pub look_shows : (v w : View) (q : ℕ) (x y : PointParts) (f : Fact) → w ≡ sees v q (bits_of x) → x ≡ y → Knows (point_facts (bits_of y)) f → Knows w.known f
@@ -47,6 +42,16 @@ look_shows v w q x y f is found h =
 pub look_keeps : (v w : View) (q n : ℕ) (f : Fact) → w ≡ sees v q n → Knows v.known f → Knows w.known f
 look_keeps v w q n f is h =
     subst (λ (x : View). Knows x.known f) (sym is) (knows_behind (point_facts n ++ moved_on q n v.known) v.known f h)
+
+-- nor does a reference that is given back
+pub unrefer_keeps : (v w : View) (q n e : ℕ) (f : Fact) → w ≡ unrefers (sees v q n) q e n → Knows v.known f → Knows w.known f
+unrefer_keeps v w q n e f is h =
+    subst (λ (x : View). Knows x.known f) (sym is) (knows_behind (point_facts n ++ moved_on q n v.known) v.known f h)
+
+-- what is ensured where a call gives no error
+pub given : {A B : Type 0} (r : Result A B) (P : Type 0) → IfOk r (λ _. P) → is_err r ≡ false → P
+given (Ok x) P h e = h
+given (Err y) P h e = absurd (false≢true (sym e))
 
 module _ (p : Plan) (known : List Fact) where
   -- where two waits are the same, so are the operations that resolve them
@@ -94,7 +99,7 @@ module _ (p : Plan) (k : IsOfTwoWaits p) (v : View) where
     batch = k.batch.batch;
     new = subst (λ (xs : List ℕ). has xs 2 ≡ false) (sym none) refl;
     next = λ i l lane. absurd (let mine = (step_at i l).lane in let its = k.batch.lane in omega arith);
-    submitted = submitted;
+    submitted = knows_so_far v.known 2 Submitted submitted;
     bound = λ n place e is _ resolves. bound_at first second n place e (subst (λ (ns : List Need). slice_get ns place ≡ Some n) k.waits.both is) resolves;
     taken = λ e is. absurd (false≢true (sym (ap (λ (xs : List ℕ). has xs e) k.batch.its_signals) ∙ is));
   }
@@ -104,15 +109,30 @@ module _ (p : Plan) (k : IsOfTwoWaits p) (v : View) where
       let P = KnowsReached p v.known in
       All-cons P k.waits.first (k.waits.second ∷ []) (reached p v.known k.waits.first 0 k.waits.by_first first) (All-cons P k.waits.second [] (reached p v.known k.waits.second 1 k.waits.by_second second) (All-nil P))
 
+  -- so what holds back any place of the batch is known reached
+  needed : Knows v.known (Made 0) → Knows v.known (Made 1) → (place : Stage) → KnowsNeeds p v.known 2 place
+  needed first second place =
+      needs_each p v.known 2 place k.batch.any (subst (λ (ns : List Need). All (KnowsReached p v.known) ns) (sym k.waits.both) (both_reached first second))
+
   pub may_start : v.role ≡ role_number p (Ring 0) → v.runs ≡ None → v.begun ≡ [] → Knows v.known (Job 2 Released) → Knows v.known (Made 0) → Knows v.known (Made 1) → MayStart p v 2
   may_start role idle none released first second = record {
     exists = k.batch.exists;
     runner = k.batch.runner ∙ sym role;
     idle = idle;
     new = subst (λ (xs : List ℕ). has xs 2 ≡ false) (sym none) refl;
-    released = λ _. released;
+    released = λ _. knows_so_far v.known 2 Released released;
     previous = λ i is. absurd (let c : None ≡ Some i = sym k.begins ∙ is in cc);
     idle_after = λ i is. absurd (false≢true (sym (ap (λ (xs : List ℕ). has xs i) k.batch.idle_after) ∙ is));
-    all_reached = λ _. subst (λ (ns : List Need). All (KnowsReached p v.known) ns) (sym k.waits.both) (both_reached first second);
-    one_reached = λ any. absurd (false≢true (sym k.batch.any ∙ any));
+    reached = needed first second (At 1);
+  }
+
+  pub may_finish : v.runs ≡ Some 2 → v.entered ≡ 0 → v.signaled ≡ 0 → v.held ≡ None → v.refs ≡ [] → Knows v.known (Made 0) → Knows v.known (Made 1) → MayFinish p v 2
+  may_finish runs entered signaled turnless alone first second = record {
+    runs = runs;
+    commands = entered ∙ ap (λ (xs : List ℕ). length xs) (sym k.batch.its_commands);
+    signals = signaled ∙ ap (λ (xs : List ℕ). length xs) (sym k.batch.its_signals);
+    answered = λ asks. absurd (false≢true (sym asks ∙ k.batch.silent));
+    turnless = turnless;
+    without_reference = alone;
+    reached = needed first second AtEnd;
   }

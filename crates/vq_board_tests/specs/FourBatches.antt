@@ -3,7 +3,7 @@ use Rattle.std.specs.Prelude.{[], ◌∷◌, ◌≡◌, length}
 use Rattle.vq_model.specs.Plan.{Plan}
 use Rattle.vq_board.specs.declared.parts.Board.{Board}
 use Rattle.vq_board.specs.declared.parts.Pass.{Pass}
-use Rattle.vq_board_tests.specs.Batches.{IsAlone, IsReady}
+use Rattle.vq_board_stage.specs.Batches.{IsAlone, IsReady}
 
 pub record AreFour (p : Plan) : Type 0 where
   pub jobs : length p.jobs ≡ 4

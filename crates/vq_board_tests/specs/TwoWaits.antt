@@ -3,8 +3,10 @@
 use Rattle.std.specs.Prelude.{ℕ, List, [], ◌∷◌, ◌≡◌, Some, None, length}
 use Rattle.vq_model.specs.Plan.{Plan, previous, needs, resolver}
 use Rattle.vq_model.specs.declared.plan.Need.{Need}
+use Rattle.vq_board_laws.specs.declared.view.Fact.TheVariants.{Made}
 use Rattle.vq_board_laws.specs.declared.view.Reference.{Reference}
 use Rattle.vq_board_laws.specs.declared.view.Role.TheVariants.{Host}
+use Rattle.vq_board_laws.specs.Knowledge.{Knows}
 use Rattle.vq_board.specs.declared.parts.Board.{Board}
 use Rattle.vq_board.specs.declared.parts.Pass.{Pass}
 use Rattle.vq_board.specs.Named.{view, IsOf}
@@ -36,7 +38,8 @@ pub record IsToStart (b : Board) (x : Pass) (references : List Reference) : Type
   pub unbegun : (view x).begun ≡ []
   pub turnless : (view x).held ≡ None
 
--- the pass runs the batch, which has nothing to make, and holds these references
+-- the pass runs the batch, which has nothing to make, knows both signals made, and holds these
+-- references
 pub record RunsBatch (b : Board) (x : Pass) (references : List Reference) : Type 0 where
   pub board : IsOf b x
   pub runs : (view x).runs ≡ Some 2
@@ -44,3 +47,5 @@ pub record RunsBatch (b : Board) (x : Pass) (references : List Reference) : Type
   pub signaled : (view x).signaled ≡ 0
   pub turnless : (view x).held ≡ None
   pub refs : (view x).refs ≡ references
+  pub first_made : Knows (view x).known (Made 0)
+  pub second_made : Knows (view x).known (Made 1)

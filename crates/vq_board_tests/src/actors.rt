@@ -2,15 +2,15 @@
 ghost use Rattle.std.specs.Prelude.{[], IfSome};
 ghost use Rattle.vq_board_laws.specs.declared.view.Role.TheVariants.{Ring};
 ghost use Rattle.vq_board.specs.Named.{plan_of};
-ghost use Rattle.vq_board_tests.specs.Dealing.{AllFresh, IsNew};
+ghost use Rattle.vq_board_stage.specs.Dealing.{AllFresh, IsNew};
 ghost use Rattle.vq_board_tests.specs.Holders.{HasSubmitted, HasReleased, HasPoints};
 ghost use Rattle.vq_board_tests.specs.ThreeSignals.{IsOfThreeSignals};
 
-use crate::passes::{board_of, dealt};
 use crate::plans::three_signals;
 use crate::three_signals::is_of_three_signals;
 use std::alloc::Global;
 use vq_board::{Board, Pass, Passes, Role};
+use vq_board_stage::passes::{board_of, dealt};
 use vq_order::Ordered;
 
 /// The board of the plan, where that is the script's, with its passes.

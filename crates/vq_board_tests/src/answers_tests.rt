@@ -1,16 +1,16 @@
 //! The host reads a timeline before its signal and after it.
 ghost use Rattle.std.specs.Prelude.{IfSome};
 ghost use Rattle.vq_board.specs.Named.{plan_of};
-ghost use Rattle.vq_board_tests.specs.Dealing.{AllFresh};
+ghost use Rattle.vq_board_stage.specs.Dealing.{AllFresh};
 ghost use Rattle.vq_board_tests.specs.HostSteps.{HasFinished};
 ghost use Rattle.vq_board_tests.specs.Reads.{IsOfReads};
 
 use crate::host_steps::{make_signal, read_first, read_last};
-use crate::passes::{board_of, dealt};
 use crate::plans::two_reads;
 use crate::reads::is_of_reads;
 use std::alloc::Global;
 use vq_board::{Board, Closed, Passes, Role};
+use vq_board_stage::passes::{board_of, dealt};
 use vq_order::Ordered;
 
 /// The board of the plan, where that is the script's, with its passes.

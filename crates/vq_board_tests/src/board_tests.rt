@@ -1,16 +1,18 @@
 //! Two batches on two queues, each with one command, over a board.
 ghost use Rattle.std.specs.Prelude.{◌≡◌, [], ◌∷◌, true, IfSome};
 ghost use Rattle.vq_board.specs.Named.{plan_of};
-ghost use Rattle.vq_board_tests.specs.Batches.{AreTwo, HasHandedOn, IsReady, IsRunning};
-ghost use Rattle.vq_board_tests.specs.Dealing.{AllFresh, IsDealer};
+ghost use Rattle.vq_board_stage.specs.Batches.{HasHandedOn, IsReady, IsRunning};
+ghost use Rattle.vq_board_tests.specs.Holding.{AreTwo};
+ghost use Rattle.vq_board_stage.specs.Dealing.{AllFresh, IsDealer};
 
-use crate::alone::{all_finished, hand_on, is_alone, start, work};
-use crate::passes::{board_of, dealt};
+use crate::alone::{all_finished, work};
 use crate::plans::two_batches;
 use std::alloc::Global;
 use std::sync::Wait;
 use std::thread::{Threads, join};
 use vq_board::{Board, Closed, Pass, Passes, Role};
+use vq_board_stage::alone::{hand_on, is_alone, start};
+use vq_board_stage::passes::{board_of, dealt};
 use vq_order::Ordered;
 use vq_spec::Plan;
 

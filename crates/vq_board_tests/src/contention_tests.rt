@@ -1,17 +1,18 @@
 //! Four batches on four queues, each with three commands, whose rings contend for the turn.
 ghost use Rattle.std.specs.Prelude.{◌≡◌, [], ◌∷◌, length, true, IfSome};
 ghost use Rattle.vq_board.specs.Named.{plan_of};
-ghost use Rattle.vq_board_tests.specs.Batches.{HasHandedOn, IsReady};
-ghost use Rattle.vq_board_tests.specs.Dealing.{AllFresh, IsDealer};
+ghost use Rattle.vq_board_stage.specs.Batches.{HasHandedOn, IsReady};
+ghost use Rattle.vq_board_stage.specs.Dealing.{AllFresh, IsDealer};
 ghost use Rattle.vq_board_tests.specs.FourBatches.{AreFour, AreReady};
 
-use crate::alone::{all_finished, hand_on, is_alone, work};
-use crate::passes::{board_of, dealt};
+use crate::alone::{all_finished, work};
 use crate::plans::four_batches;
 use std::alloc::Global;
 use std::sync::Wait;
 use std::thread::{Threads, join};
 use vq_board::{Board, Closed, Pass, Passes, Role};
+use vq_board_stage::alone::{hand_on, is_alone};
+use vq_board_stage::passes::{board_of, dealt};
 use vq_order::Ordered;
 use vq_spec::Plan;
 

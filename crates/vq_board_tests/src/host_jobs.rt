@@ -2,7 +2,8 @@
 ghost use Rattle.std.specs.Prelude.{◌≡◌, ◌<◌, ℕ, true, Some};
 ghost use Rattle.vq_board_tests.specs.HostSteps.{IsHostStep, HasRead, HasSignal, AreSingle};
 
-use crate::three_signals::{is_same, is_signal};
+use crate::three_signals::is_signal;
+use vq_board_stage::alone::is_same;
 use vq_spec::{Lane, Plan, PlanJob, Question};
 
 /// Whether the job before job j in its lane, if there is one, is an earlier one.

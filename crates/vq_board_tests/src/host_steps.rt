@@ -4,7 +4,7 @@ ghost use Rattle.vq_board_laws.specs.declared.view.Fact.TheVariants.{Made};
 ghost use Rattle.vq_board_laws.specs.declared.view.Role.TheVariants.{Shelf};
 ghost use Rattle.vq_board_laws.specs.Knowledge.{Knows};
 ghost use Rattle.vq_board.specs.Named.{plan_of, view};
-ghost use Rattle.vq_board_tests.specs.Dealing.{IsNew};
+ghost use Rattle.vq_board_stage.specs.Dealing.{IsNew};
 ghost use Rattle.vq_board_tests.specs.HostSteps.{HasHostStep, HasSignal, AreSingle};
 ghost use Rattle.vq_board_tests.specs.HostSteps.{HasFinished, IsAtStep};
 ghost use Rattle.vq_board_tests.specs.Reads.{IsOfReads};
@@ -13,6 +13,7 @@ use vq_board::{Board, JobState, OpState, Pass};
 use vq_model::plan::Answer;
 
 /// The host reads the timeline while its signal has no point: it is 0.
+#[tactic(auto, using(crate::proofs::Asked::needless))]
 pub fn read_first(board: &Board, host: &mut Pass) -> bool
     requires plan { IsOfReads (plan_of board.now) }
     requires host { HasFinished board.now host.old 0 }
@@ -28,6 +29,7 @@ pub fn read_first(board: &Board, host: &mut Pass) -> bool
 }
 
 /// The host starts its next step.
+#[tactic(auto, using(crate::proofs::Asked::needless))]
 pub fn start_step(board: &Board, host: &mut Pass, step: u32)
     requires step { HasHostStep (plan_of board.now) step }
     requires host { HasFinished board.now host.old step }
@@ -51,6 +53,7 @@ pub fn bind(board: &Board, shelf: &mut Pass, step: u32, op: u32) -> bool
 }
 
 /// The host makes its step's signal, and finishes the step.
+#[tactic(auto, using(crate::proofs::Asked::needless))]
 pub fn signal(board: &Board, host: &mut Pass, step: u32, op: u32) -> bool
     requires step { HasSignal (plan_of board.now) step op }
     requires host { IsAtStep board.now host.old step }
@@ -78,6 +81,7 @@ pub fn make_signal(board: &Board, host: &mut Pass, shelf: &mut Pass, step: u32, 
 }
 
 /// The host reads the timeline again: it is 1.
+#[tactic(auto, using(crate::proofs::Asked::needless))]
 pub fn read_last(board: &Board, host: &mut Pass)
     requires plan { IsOfReads (plan_of board.now) }
     requires host { HasFinished board.now host.old 2 }

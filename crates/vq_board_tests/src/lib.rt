@@ -16,8 +16,6 @@ mod contention_tests;
 mod host_jobs;
 pub mod host_steps;
 #[cfg(test)]
-mod passes;
-#[cfg(test)]
 mod plans;
 #[cfg(test)]
 mod points_tests;

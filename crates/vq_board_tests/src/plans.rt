@@ -1,11 +1,10 @@
 //! The plans of the tests.
 use std::alloc::Global;
-use vq_order::{Ordered, check};
-use vq_script::{Form, is_short, parse};
-use vq_spec::Plan;
+use vq_board_stage::plans::checked;
+use vq_order::Ordered;
 
 /// Each of two queues, of which the host submits to both, fills 4 bytes of its own.
-const TWO_BATCHES: &str = "buffer X 8
+const TWO_BATCHES: &[u8] = b"buffer X 8
 queue P immediate
 queue Q immediate
 submit P
@@ -17,7 +16,7 @@ end
 ";
 
 /// Each of four queues, of which the host submits to all, writes 12 bytes of its own, 4 at a time.
-const FOUR_BATCHES: &str = "buffer X 48
+const FOUR_BATCHES: &[u8] = b"buffer X 48
 queue P immediate
 queue Q immediate
 queue R immediate
@@ -45,7 +44,7 @@ end
 ";
 
 /// Three batches of P signal one timeline, and one of Q waits for the first of them.
-const THREE_SIGNALS: &str = "buffer X 4
+const THREE_SIGNALS: &[u8] = b"buffer X 4
 timeline A 0
 queue P threaded
 queue Q threaded
@@ -65,14 +64,14 @@ end
 ";
 
 /// The host reads a timeline, signals it and reads it again.
-const TWO_READS: &str = "timeline A 0
+const TWO_READS: &[u8] = b"timeline A 0
 host read A
 host signal A 1
 host read A
 ";
 
 /// The host signals two timelines, and a batch that it submits waits for both.
-const TWO_WAITS: &str = "timeline A 0
+const TWO_WAITS: &[u8] = b"timeline A 0
 timeline B 0
 queue P immediate
 host signal A 1
@@ -82,16 +81,6 @@ wait A 1
 wait B 1
 end
 ";
-
-/// The plan of a text that has a lawful one.
-fn checked(alloc: Global, text: &str) -> Option<Ordered> {
-    let text = text.as_bytes();
-    if !is_short(text) {
-        return None;
-    }
-    let script = parse(alloc, text, Form::Plain).ok()?;
-    check(alloc, Plan::lower(alloc, script).ok()?).ok()
-}
 
 /// The lawful plan of two batches on two queues.
 pub(crate) fn two_batches(alloc: Global) -> Option<Ordered> {

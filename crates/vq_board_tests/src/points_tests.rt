@@ -3,14 +3,15 @@ ghost use Rattle.std.specs.Prelude.{◌≡◌, true, [], ◌∷◌};
 ghost use Rattle.vq_board_laws.specs.declared.view.Role.TheVariants.{Ring};
 ghost use Rattle.vq_board_laws.specs.Points.{reference};
 ghost use Rattle.vq_board.specs.Named.{plan_of};
-ghost use Rattle.vq_board_tests.specs.Dealing.{IsNew};
+ghost use Rattle.vq_board_stage.specs.Dealing.{IsNew};
 ghost use Rattle.vq_board_tests.specs.Holders.{HasSubmitted, HasReleased, HasPoints, HasReferences};
 ghost use Rattle.vq_board_tests.specs.Holders.{HasFirst, HasBoth, IsToBind};
 ghost use Rattle.vq_board_tests.specs.ThreeSignals.{IsOfThreeSignals};
 
 use crate::actors::{both_rings, both_submits, opened, shelf};
 use crate::rings::{
-    fill_first, finds_it_moved_on, is_unbound, refer_first, signal_first, unrefer_first,
+    fill_first, finds_it_moved_on, is_unbound, refer_first, sees_it_made, signal_first,
+    unrefer_first,
 };
 use crate::shelves::{
     bind_first, bind_second, complete_first, finds_released, give_again, is_in_use, take_first,
@@ -67,7 +68,10 @@ fn use_again(board: &Board, ring: &mut Pass, shelf: &mut Pass) -> bool
     requires held { HasReferences board.now ring.old 1 (reference 0 0 ∷ []) }
     requires shelf { HasBoth board.now shelf.old (1 ∷ 0 ∷ []) }
 {
-    unrefer_first(board, ring) && give_again(board, shelf) && finds_it_moved_on(board, ring)
+    sees_it_made(board, ring)
+        && unrefer_first(board, ring)
+        && give_again(board, shelf)
+        && finds_it_moved_on(board, ring)
 }
 
 /// Whether point 0 is used again as soon as no one refers to it, and not before.

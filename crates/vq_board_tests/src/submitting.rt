@@ -30,6 +30,7 @@ pub fn carrying(op: u32, refs: u16, signaled: bool) -> PointWord
 }
 
 /// P's thread hands its first batch on, whose signal has point 0. It says whether it found all that.
+#[tactic(auto, using(crate::proofs::Asked::so_far))]
 pub fn release_first(board: &Board, submitter: &mut Pass) -> bool
     requires plan { IsOfThreeSignals (plan_of board.now) }
     requires earlier { HasReleased board.now submitter.old 0 [] }
@@ -46,6 +47,7 @@ pub fn release_first(board: &Board, submitter: &mut Pass) -> bool
 }
 
 /// P's thread hands its second batch on, whose signal has point 1.
+#[tactic(auto, using(crate::proofs::Asked::so_far))]
 pub fn release_second(board: &Board, submitter: &mut Pass) -> bool
     requires plan { IsOfThreeSignals (plan_of board.now) }
     requires earlier { HasReleased board.now submitter.old 0 (0 ∷ []) }
@@ -62,6 +64,7 @@ pub fn release_second(board: &Board, submitter: &mut Pass) -> bool
 }
 
 /// Q's thread hands its batch on, which waits for operation 0; that is bound to point 0.
+#[tactic(auto, using(crate::proofs::Asked::so_far))]
 pub fn release_waiting(board: &Board, submitter: &mut Pass) -> bool
     requires plan { IsOfThreeSignals (plan_of board.now) }
     requires earlier { HasReleased board.now submitter.old 1 [] }

@@ -6,6 +6,7 @@ ghost use Rattle.vq_board_laws.specs.declared.view.Role.TheVariants.{Submit};
 ghost use Rattle.vq_board_tests.specs.ThreeSignals.{IsBatch, HasBatch, WaitsFor, IsSignal};
 ghost use Rattle.vq_board_tests.specs.ThreeSignals.{HasBatches, HasSignals, IsOfThreeSignals};
 
+use vq_board_stage::alone::is_same;
 use vq_model::script::{Mode, Script};
 use vq_spec::{Lane, Plan, PlanJob, Question};
 
@@ -17,13 +18,6 @@ fn is_threaded(script: &Script, queue: u32) -> bool
         Some(queue) => matches!(queue.mode, Mode::Threaded),
         None => false,
     }
-}
-
-/// Whether two lists of numbers are the same.
-pub(crate) fn is_same(left: &[u32], right: &[u32]) -> bool
-    ensures { result ≡ true → left.now ≡ right.now }
-{
-    left == right
 }
 
 /// Whether a job is a batch of the queue with these commands and signals.

@@ -5,9 +5,9 @@ ghost use Rattle.vq_board_laws.specs.declared.view.Role.TheVariants.{Host as OfH
 ghost use Rattle.vq_board_tests.specs.ThreeSignals.{HasBatch};
 ghost use Rattle.vq_board_tests.specs.TwoWaits.{WaitsForBoth, IsOfTwoWaits};
 
-use crate::alone::is_hosted;
 use crate::host_jobs::{are_single, signals};
 use crate::three_signals::{begins, is_batch};
+use vq_board_stage::alone::is_hosted;
 use vq_spec::{Need, Plan};
 
 /// Whether the operation resolves the wait.

@@ -2,18 +2,18 @@
 ghost use Rattle.std.specs.Prelude.{[], IfSome};
 ghost use Rattle.vq_board_laws.specs.declared.view.Role.TheVariants.{Shelf};
 ghost use Rattle.vq_board.specs.Named.{plan_of};
-ghost use Rattle.vq_board_tests.specs.Dealing.{AllFresh, IsNew};
+ghost use Rattle.vq_board_stage.specs.Dealing.{AllFresh, IsNew};
 ghost use Rattle.vq_board_tests.specs.HostSteps.{HasFinished};
 ghost use Rattle.vq_board_tests.specs.TwoWaits.{IsOfTwoWaits, IsToStart};
 
 use crate::alone::all_finished;
 use crate::host_steps::make_signal;
-use crate::passes::{board_of, dealt};
 use crate::plans::two_waits;
 use crate::two_waits::is_of_two_waits;
 use crate::waiting::{finish_waiting, hand_on_waiting, refer_to_both, start_waiting};
 use std::alloc::Global;
 use vq_board::{Board, Pass, Passes, Role};
+use vq_board_stage::passes::{board_of, dealt};
 use vq_order::Ordered;
 
 /// The board of the plan, where that is the script's, with its passes.

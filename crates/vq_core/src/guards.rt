@@ -239,7 +239,7 @@ impl Core {
         self.may_answer(job, answer)
     }
 
-    // Whether a point may be taken for a job: a batch's turn has come, or a host step is started.
+    /// Whether a point may be taken for a job: a batch's turn has come, or a host step is started.
     fn may_take(&self, job: u32) -> bool
         requires { job < length self.now.plan.jobs }
         ensures { IsTrue result ↔ (may_take self.now.plan (world self.now) job ≡ true) }
@@ -250,8 +250,8 @@ impl Core {
         self.is_release_turn(job)
     }
 
-    // Whether a batch's turn has come: it is submitted, each earlier batch of its queue is released and
-    // it isn't, and its needs are pending.
+    /// Whether a batch's turn has come: it is submitted, each earlier batch of its queue is released and
+    /// it isn't, and its needs are pending.
     fn is_release_turn(&self, job: u32) -> bool
         requires { job < length self.now.plan.jobs }
         ensures { IsTrue result ↔ ReleaseTurn self.now.plan (world self.now) job }
@@ -265,7 +265,7 @@ impl Core {
         self.needs_pending(job)
     }
 
-    // Whether a point is the one to be taken: a new one exactly where none is free.
+    /// Whether a point is the one to be taken: a new one exactly where none is free.
     fn is_point_in_turn(&self, chain: u32, point: u32, fresh: bool) -> bool
         requires { chain < length self.now.plan.chains }
         ensures { IsTrue result ↔ IsPointInTurn (world self.now) chain point fresh }
@@ -276,7 +276,7 @@ impl Core {
         }
     }
 
-    // Whether a job is started and not finished, its commands are applied and its needs reached.
+    /// Whether a job is started and not finished, its commands are applied and its needs reached.
     fn is_running(&self, job: u32) -> bool
         requires { job < length self.now.plan.jobs }
         ensures { IsTrue result ↔ HasCommandsDone self.now.plan (world self.now) job }

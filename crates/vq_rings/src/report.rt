@@ -1,4 +1,6 @@
 //! What a run leaves.
+//!
+//! Source: this project's own, where an item names no other.
 ghost use Rattle.std.specs.Prelude.{◌≡◌, ◌++◌, length};
 ghost use Rattle.vq_model.specs.Machine.{AreFinished};
 ghost use Rattle.vq_model.specs.Memory.{HasSizes};
@@ -14,8 +16,6 @@ use vq_spec::Buffers;
 
 /// The plan that was run, what its host steps were answered, in the order of the script, and the bytes of its
 /// buffers.
-///
-/// Source: this project's own.
 #[derive(Drop)]
 pub struct Report {
     pub ordered: Ordered,

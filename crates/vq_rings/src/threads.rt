@@ -51,7 +51,7 @@ pub fn execute<R: Threads + Wait + Sync, G: Gate>(
     Ok(Report::of(core, answers))
 }
 
-// Puts the core and all actors under the lock, and runs them until all jobs are finished.
+/// Puts the core and all actors under the lock, and runs them until all jobs are finished.
 fn run_named<J: Named + Send + Sync, R: Threads + Wait + Sync, G: Gate>(
     rt: &R,
     troupe: Troupe,
@@ -70,7 +70,7 @@ fn run_named<J: Named + Send + Sync, R: Threads + Wait + Sync, G: Gate>(
     run_threads(rt, &shared, gate, names, hands)
 }
 
-// A thread for each actor but the host, and the caller for the host and for each actor whose thread was refused.
+/// A thread for each actor but the host, and the caller for the host and for each actor whose thread was refused.
 fn run_threads<J: Named + Send + Sync, R: Threads + Wait + Sync, G: Gate>(
     rt: &R,
     shared: &Mutex<Locked<J>>,
@@ -107,7 +107,7 @@ fn run_threads<J: Named + Send + Sync, R: Threads + Wait + Sync, G: Gate>(
     )
 }
 
-// Calls the gate, takes the lock, gives the actor one turn and leaves the lock.
+/// Calls the gate, takes the lock, gives the actor one turn and leaves the lock.
 fn turn<J: Named, R: Wait, G: Gate>(
     rt: &R,
     shared: &Mutex<Locked<J>>,
@@ -121,7 +121,7 @@ fn turn<J: Named, R: Wait, G: Gate>(
     shared.lock(rt).turn(name)
 }
 
-// A worker: the turns of its actor, until that has ended or the run is over.
+/// A worker: the turns of its actor, until that has ended or the run is over.
 fn work<J: Named, R: Wait, G: Gate>(rt: &R, shared: &Mutex<Locked<J>>, gate: &G, name: ActorName)
     requires { IsActor J.plan.script name }
 {
@@ -137,7 +137,7 @@ fn work<J: Named, R: Wait, G: Gate>(rt: &R, shared: &Mutex<Locked<J>>, gate: &G,
     }
 }
 
-// The caller: the turns of the host and of the actors that have no thread, until it finds all jobs finished.
+/// The caller: the turns of the host and of the actors that have no thread, until it finds all jobs finished.
 fn drive<J: Named, R: Wait, G: Gate>(
     rt: &R,
     shared: &Mutex<Locked<J>>,
@@ -166,7 +166,7 @@ fn drive<J: Named, R: Wait, G: Gate>(
     unreachable!()
 }
 
-// One turn of each actor whose turns the caller takes. True if one of them moved.
+/// One turn of each actor whose turns the caller takes. True if one of them moved.
 fn round<J: Named, R: Wait, G: Gate>(
     rt: &R,
     shared: &Mutex<Locked<J>>,

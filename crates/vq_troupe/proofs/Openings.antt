@@ -10,9 +10,8 @@ use Rattle.vq_model.specs.declared.script.ActorName.TheVariants.{Ring as RingAct
 use Rattle.vq_model.specs.Plan.{Plan}
 use Rattle.vq_points.specs.Points.{opening_points}
 use Rattle.vq_turns.specs.Programs.{program}
-use Rattle.vq_turns.specs.Turns.{Place, first_place}
+use Rattle.vq_turns.specs.Turns.{first_place}
 use Rattle.vq_turns.specs.declared.look.Holding.{Holding}
-use Rattle.vq_turns.specs.declared.task.Task.{Task}
 use Rattle.vq_turn_laws.specs.TruePlaces.{AreTrueFor}
 use Rattle.vq_turn_laws.proofs.Cited.{opening_true}
 use Rattle.vq_actor.specs.Actors.{Acting, acting_of}

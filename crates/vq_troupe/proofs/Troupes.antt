@@ -1,7 +1,7 @@
 -- A turn of one actor leaves the places of all true; turns over a core, as those of a stage.
-use Rattle.std.proofs.Common.{◌≡◌, ℕ, ◌<◌, ◌==◌, Bool, true, false, if◌then◌else◌, List, [], ◌++◌, length, set, filter}
-use Rattle.std.proofs.Common.{Option, Some, None, refl, sym, subst, ap, ◌∙◌, inl, inr, arith, append-nil}
-use Rattle.std.specs.List.{slice_get, slice_index_or}
+use Rattle.std.proofs.Common.{◌≡◌, ℕ, ◌<◌, ◌==◌, false, if◌then◌else◌, List, ◌++◌, length, set, filter}
+use Rattle.std.proofs.Common.{refl, sym, subst, ap, ◌∙◌, inl, inr, arith, append-nil}
+use Rattle.std.specs.List.{slice_index_or}
 use Rattle.std.proofs.lemmas.Bool.{cases_eq, cond-true, cond-false, eq-eqb, ne_eqb}
 use Rattle.std.proofs.lemmas.List.{get_or-set_same, get_or-set_other, length-set, get_or_default}
 use Rattle.vq_model.specs.declared.script.ActorName.{ActorName}
@@ -19,15 +19,14 @@ use Rattle.vq_turns.specs.Wants.{IsNotSo}
 use Rattle.vq_turn_laws.specs.PlanParts.{HasOwnProgram}
 use Rattle.vq_turn_laws.specs.TruePlaces.{AreTrueFor, with_place}
 use Rattle.vq_turn_laws.proofs.Cited.{all_true, plan_orderly, reached}
-use Rattle.vq_actor.specs.Actors.{IsTurn, events_by}
-use Rattle.vq_actor.specs.Stages.{IsPlay, part, scene_over}
+use Rattle.vq_actor.specs.Actors.{events_by}
+use Rattle.vq_actor.specs.Stages.{IsPlay, scene_over}
 use Rattle.vq_actor.specs.Trackers.{Tracked, FitsIn}
 use Rattle.vq_core.specs.CoreState.{Course, IsCourse, world}
 use Rattle.vq_troupe.specs.CoreAccesses.{shown_by, with_event}
 use Rattle.vq_troupe.specs.Seats.{HasSeat, HoldsForNeeds, IsSeated}
-use Rattle.vq_troupe.specs.Casts.{AreSeated, Cast, Plays, TookTurn, cast, course_after, each_event}
+use Rattle.vq_troupe.specs.Casts.{AreSeated, Cast, Plays, TookTurn, course_after, each_event}
 use Rattle.vq_troupe.specs.Casts.{no_seat, places, places_of, seat_at, staged_of}
-use Rattle.vq_troupe.proofs.CoreAnswers.{some_same}
 use Rattle.vq_troupe.proofs.Serving as serving
 
 -- Outcomes

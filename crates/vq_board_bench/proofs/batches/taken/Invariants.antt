@@ -1,4 +1,4 @@
-use Rattle.vq_board_bench.specs.Idle.{AllFresh}
+use Rattle.vq_board_stage.specs.Dealing.{AllFresh}
 use Rattle.vq_board_bench.proofs.batches.taken.Given as goal
 
 abbrev pub invariant-loop : goal.invariant-loop

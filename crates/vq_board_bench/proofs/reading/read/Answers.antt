@@ -8,8 +8,8 @@ start-requires-clause-may c =
 
 pub answer-requires-clause-may : goal.answer-requires-clause-may
 answer-requires-clause-may c =
-    may_answer (plan_of c.args.board.now) c.requires.plan c.args.j c.requires.exists (view c.args.host.now) (view c.start.new.pass) c.requires.host c.start.ensures.2
+    may_answer (plan_of c.args.board.now) c.requires.plan c.args.j c.requires.exists (view c.args.host.now) (view c.start.new.pass) c.requires.host c.start.ensures.pass.2
 
 pub finish-requires-clause-may : goal.finish-requires-clause-may
 finish-requires-clause-may c =
-    may_finish (plan_of c.args.board.now) c.requires.plan c.args.j c.requires.exists (view c.args.host.now) (view c.start.new.pass) (view c.answer.new.pass) c.requires.host c.start.ensures.2 c.answer.ensures.2
+    may_finish (plan_of c.args.board.now) c.requires.plan c.args.j c.requires.exists (view c.args.host.now) (view c.start.new.pass) (view c.answer.new.pass) c.requires.host c.start.ensures.pass.2 c.answer.ensures.pass.2

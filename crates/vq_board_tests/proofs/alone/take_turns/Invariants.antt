@@ -1,6 +1,6 @@
 use Rattle.std.proofs.Common.{◌≡◌}
 use Rattle.vq_board.specs.Named.{view}
-use Rattle.vq_board_tests.specs.Batches.{IsRunning}
+use Rattle.vq_board_stage.specs.Batches.{IsRunning}
 use Rattle.vq_board_tests.proofs.alone.take_turns.Given as goal
 
 abbrev pub invariant-loop : goal.invariant-loop

@@ -8,6 +8,7 @@ use Rattle.vq_board_laws.specs.Words.{job_word}
 use Rattle.vq_board_laws.proofs.Cited.{exchanges_at, answers_job}
 use Rattle.vq_board.specs.Firsts.{AreCounted}
 use Rattle.vq_board.specs.Hands.{InHand}
+use Rattle.vq_board.specs.Named.{Steps}
 use Rattle.vq_board.proofs.StepAt.{changed_step}
 use Rattle.vq_board.proofs.parts.Board.answer.Goals as goal
 
@@ -31,4 +32,7 @@ pub returns-clause-pass : goal.returns-clause-pass
 returns-clause-pass c = (c.compare_exchange.ensures.0, refl, ap (λ m. m.0) (c.compare_exchange.ensures.2.0 c.args.job c.args.answer c.job_word.ensures c.operands-code.ensures.first c.operands-code.ensures.second), refl)
 
 pub returns-clause-step : goal.returns-clause-step
-returns-clause-step c = (c.compare_exchange.result, changed_step _ _ _ _ _ _ _ c.requires.board.1 c.job_word.ensures c.compare_exchange.ensures.2.1)
+unfolding Steps
+returns-clause-step c =
+    let step = changed_step _ _ _ _ _ _ _ c.requires.board.1 c.job_word.ensures c.compare_exchange.ensures.2.1 in
+    (c.compare_exchange.result, step.0, step.1)

@@ -3,6 +3,7 @@ use Rattle.vq_board_laws.proofs.Cited.{stores_at, assigns_point}
 use Rattle.vq_board_laws.specs.PointSteps.{assigned}
 use Rattle.vq_board.specs.Firsts.{AreCounted}
 use Rattle.vq_board.specs.Hands.{InHand}
+use Rattle.vq_board.specs.Named.{Leaves}
 use Rattle.vq_board.proofs.Firsts.{firsts_next}
 use Rattle.vq_board.proofs.StepAt.{stored_step}
 use Rattle.vq_board.proofs.parts.Board.assign.Goals as goal
@@ -19,4 +20,5 @@ pub returns-clause-pass : goal.returns-clause-pass
 returns-clause-pass c = (c.store.ensures.0, refl, ap (λ m. m.0) (c.store.ensures.2.0 c.args.point c.args.op c.point_word.ensures refl), refl)
 
 pub returns-clause-step : goal.returns-clause-step
+unfolding Leaves
 returns-clause-step c = stored_step _ _ _ _ _ _ _ c.requires.board.1 c.point_word.ensures c.store.ensures.2.1

@@ -3,6 +3,7 @@ use Rattle.vq_board_laws.proofs.Cited.{stores_at, completes_op}
 use Rattle.vq_board_laws.specs.PointSteps.{completed}
 use Rattle.vq_board.specs.Firsts.{AreCounted, shows_made}
 use Rattle.vq_board.specs.Hands.{InHand}
+use Rattle.vq_board.specs.Named.{Leaves}
 use Rattle.vq_board.proofs.Firsts.{firsts_next, just_past}
 use Rattle.vq_board.proofs.StepAt.{stored_step_of}
 use Rattle.vq_board.proofs.parts.Board.complete.Goals as goal
@@ -27,4 +28,5 @@ returns-clause-pass c =
     (noted.0 ∙ c.store.ensures.0, noted.1, noted.2 ∙ ap (λ m. m.0) (c.store.ensures.2.0 c.args.op c.op_word.ensures), noted.3)
 
 pub returns-clause-step : goal.returns-clause-step
+unfolding Leaves
 returns-clause-step c = stored_step_of _ _ _ _ _ _ _ _ c.requires.board.1 c.op_word.ensures c.note_made.ensures.2 c.store.ensures.2.1

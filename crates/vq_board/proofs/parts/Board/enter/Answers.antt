@@ -4,9 +4,12 @@ use Rattle.vq_model.specs.Memory.{effect}
 use Rattle.vq_model.specs.Plan.{Plan}
 use Rattle.vq_model.specs.Ranges.{Fits}
 use Rattle.vq_board_laws.specs.declared.view.LoggedBuffers.{LoggedBuffers}
+use Rattle.vq_model.proofs.Options.{same_some}
+use Rattle.vq_board_laws.specs.Words.{place_word}
 use Rattle.vq_board_laws.specs.May.{MayEnter}
 use Rattle.vq_board_laws.specs.Steps.{entered}
 use Rattle.vq_board.specs.Firsts.{AreCounted}
+use Rattle.vq_board.specs.Named.{Leaves}
 use Rattle.vq_board.specs.Hands.{InHand, Hand}
 use Rattle.vq_board_laws.proofs.Cited.{stores_at, enters_command}
 use Rattle.vq_board.proofs.Copied.{copied_at}
@@ -65,13 +68,15 @@ returns-clause-pass c =
     (x.filled, y.buffers, may.held ∙ ap (λ (n : ℕ). Some n) (sym filled), (c.store.ensures.0, refl, ap (λ m. m.0) told.0, refl))
 
 pub returns-clause-step : goal.returns-clause-step
-returns-clause-step c =
+unfolding Leaves
+returns-clause-step c = λ n held.
     let m = c.args.pass.now.seat.me in
     let may = c.requires.may in
     let t = holds_memory m.0.held may.filled m.0.bytes m.0.plan m.1 may.held c.args.pass.now.hand in
     let h = hand_is t.0 c.slot_mut-memory.result.now m.1 t.1 c.slot_mut-memory.ensures.value in
     let filled = ap (λ (z : LoggedBuffers). z.filled) (sym h.0) ∙ t.2 in
-    (c.slot_mut-memory.result.now.filled, may.held ∙ ap (λ (n : ℕ). Some n) (sym filled), stored_step _ _ _ _ _ _ _ c.requires.board.1 c.place_word.ensures c.store.ensures.2.1)
+    let same : may.filled ≡ n = same_some may.filled n (sym may.held ∙ held) in
+    stored_step _ _ _ _ _ _ _ c.requires.board.1 (c.place_word.ensures ∙ ap place_word (filled ∙ same)) c.store.ensures.2.1
 
 pub invariant_of-pass : goal.invariant_of-pass
 invariant_of-pass c =

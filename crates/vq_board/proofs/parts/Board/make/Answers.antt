@@ -4,6 +4,8 @@ use Rattle.vq_board_laws.proofs.Cited.{adds_at, makes_point}
 use Rattle.vq_board_laws.specs.PointSteps.{made_point}
 use Rattle.vq_board.specs.Firsts.{AreCounted}
 use Rattle.vq_board.specs.Hands.{InHand}
+use Rattle.vq_board.specs.Named.{Changes}
+use Rattle.vq_board.proofs.StepAt.{changed_step}
 use Rattle.vq_board.proofs.parts.Board.make.Goals as goal
 
 pub fetch_add-requires : goal.fetch_add-requires
@@ -22,3 +24,7 @@ returns-clause-exists c = let low = c.fetch_add.ensures.2.0.1 in let same = ap (
 
 pub returns-clause-fresh : goal.returns-clause-fresh
 returns-clause-fresh c = c.fetch_add.ensures.2.0.2
+
+pub returns-clause-step : goal.returns-clause-step
+unfolding Changes
+returns-clause-step c = changed_step _ _ _ _ _ _ _ c.requires.board.1 refl c.fetch_add.ensures.2.1

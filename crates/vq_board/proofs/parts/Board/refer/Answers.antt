@@ -10,6 +10,8 @@ use Rattle.vq_board_laws.specs.Words.{Carries}
 use Rattle.vq_board_laws.proofs.Cited.{exchanges_at, refers_point}
 use Rattle.vq_board.specs.Firsts.{AreCounted}
 use Rattle.vq_board.specs.Hands.{InHand}
+use Rattle.vq_board.specs.Named.{view, EndsAt}
+use Rattle.vq_board.proofs.StepAt.{changed_step}
 use Rattle.vq_board.proofs.parts.Board.refer.Goals as goal
 
 -- the test says what it tests
@@ -60,3 +62,28 @@ returns-else-carries-clause-pass c =
       not_carried c.compare_exchange-found.result c.args.op (sym c.carries-else-found-loaded.ensures ∙ c.if-carries.false),
       inr (c.load_point-loaded.result, c.if-found-loaded.false, (c.compare_exchange-found.ensures.0 ∙ seen.0, seen.1, ap (λ m. m.0) told ∙ ap (λ (v : View). misses_point v c.args.point c.compare_exchange-found.result) seen.2, seen.3)),
     )
+
+pub returns-then-not-carries-clause-step : goal.returns-then-not-carries-clause-step
+unfolding EndsAt
+returns-then-not-carries-clause-step c = (view c.args.pass.now, c.load_point-loaded.result, c.load_point-loaded.result, c.load_point-loaded.ensures.step)
+
+pub returns-then-found-loaded-clause-step : goal.returns-then-found-loaded-clause-step
+unfolding EndsAt
+returns-then-found-loaded-clause-step c =
+    let plan = ap (λ (v : View). v.plan) c.load_point-loaded.ensures.pass.2 ∙ c.requires.board.1 in
+    let step = changed_step _ _ _ _ _ _ _ plan c.point_word.ensures c.compare_exchange-found.ensures.2.1 in
+    (view c.load_point-loaded.new.pass, c.compare_exchange-found.result, step.0, step.1)
+
+pub returns-then-carries-clause-step : goal.returns-then-carries-clause-step
+unfolding EndsAt
+returns-then-carries-clause-step c =
+    let plan = ap (λ (v : View). v.plan) c.load_point-loaded.ensures.pass.2 ∙ c.requires.board.1 in
+    let step = changed_step _ _ _ _ _ _ _ plan c.point_word.ensures c.compare_exchange-found.ensures.2.1 in
+    (view c.load_point-loaded.new.pass, c.compare_exchange-found.result, step.0, step.1)
+
+pub returns-else-carries-clause-step : goal.returns-else-carries-clause-step
+unfolding EndsAt
+returns-else-carries-clause-step c =
+    let plan = ap (λ (v : View). v.plan) c.load_point-loaded.ensures.pass.2 ∙ c.requires.board.1 in
+    let step = changed_step _ _ _ _ _ _ _ plan c.point_word.ensures c.compare_exchange-found.ensures.2.1 in
+    (view c.load_point-loaded.new.pass, c.compare_exchange-found.result, step.0, step.1)

@@ -8,6 +8,8 @@ use Rattle.vq_board_laws.specs.PointSteps.{retires, misses_point, retired}
 use Rattle.vq_board_laws.proofs.Cited.{exchanges_at, retires_point}
 use Rattle.vq_board.specs.Firsts.{AreCounted}
 use Rattle.vq_board.specs.Hands.{InHand}
+use Rattle.vq_board.specs.Named.{view, EndsAt}
+use Rattle.vq_board.proofs.StepAt.{changed_step}
 use Rattle.vq_board.proofs.parts.Board.retire.Goals as goal
 
 pub compare_exchange-found-requires : goal.compare_exchange-found-requires
@@ -42,3 +44,21 @@ returns-else-found-loaded-clause-in_use c =
     let seen = c.load_point-loaded.ensures.pass in
     let told = (c.compare_exchange-found.ensures.2.0 c.args.point c.point_word.ensures).1 c.if-found-loaded.false in
     inr (c.load_point-loaded.result, c.if-found-loaded.false, (c.compare_exchange-found.ensures.0 ∙ seen.0, seen.1, ap (λ m. m.0) told ∙ ap (λ (v : View). misses_point v c.args.point c.compare_exchange-found.result) seen.2, seen.3))
+
+pub returns-then-references-ne0-clause-step : goal.returns-then-references-ne0-clause-step
+unfolding EndsAt
+returns-then-references-ne0-clause-step c = (view c.args.pass.now, c.load_point-loaded.result, c.load_point-loaded.result, c.load_point-loaded.ensures.step)
+
+pub returns-then-found-loaded-clause-step : goal.returns-then-found-loaded-clause-step
+unfolding EndsAt
+returns-then-found-loaded-clause-step c =
+    let plan = ap (λ (v : View). v.plan) c.load_point-loaded.ensures.pass.2 ∙ c.requires.board.1 in
+    let step = changed_step _ _ _ _ _ _ _ plan c.point_word.ensures c.compare_exchange-found.ensures.2.1 in
+    (view c.load_point-loaded.new.pass, c.compare_exchange-found.result, step.0, step.1)
+
+pub returns-else-found-loaded-clause-step : goal.returns-else-found-loaded-clause-step
+unfolding EndsAt
+returns-else-found-loaded-clause-step c =
+    let plan = ap (λ (v : View). v.plan) c.load_point-loaded.ensures.pass.2 ∙ c.requires.board.1 in
+    let step = changed_step _ _ _ _ _ _ _ plan c.point_word.ensures c.compare_exchange-found.ensures.2.1 in
+    (view c.load_point-loaded.new.pass, c.compare_exchange-found.result, step.0, step.1)

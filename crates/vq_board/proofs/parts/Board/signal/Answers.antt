@@ -11,7 +11,7 @@ use Rattle.vq_board_laws.specs.PointSteps.{recalls, signals, signaled}
 use Rattle.vq_board_laws.proofs.Cited.{adds_at, needs_still, signals_op}
 use Rattle.vq_board.specs.Firsts.{AreCounted, shows_made, counted, counted_state}
 use Rattle.vq_board.specs.Hands.{InHand}
-use Rattle.vq_board.specs.Named.{view, counts_of}
+use Rattle.vq_board.specs.Named.{view, counts_of, EndsAtPoint}
 use Rattle.vq_board.proofs.Firsts.{firsts_next, just_made}
 use Rattle.vq_board.proofs.StepAt.{changed_step_of}
 use Rattle.vq_board.proofs.parts.Board.signal.Goals as goal
@@ -64,7 +64,8 @@ returns-in-Bound-clause-signaled c =
     (c.in-Bound.point, c.fetch_add.result, (noted.0 ∙ (c.fetch_add.ensures.0 ∙ c.recall.ensures.pass.0), noted.1 ∙ c.recall.ensures.pass.1, noted.2 ∙ (ap (λ m. m.0) told ∙ ap (λ (v : View). signals v c.args.op c.in-Bound.point c.fetch_add.result) t.2), noted.3 ∙ ap (counted c.args.self.now.table.shared.key.ops c.args.op) (c.recall.ensures.pass.3 ∙ ap (λ (s : OpState). counted_state c.args.self.now.table.shared.key.ops c.args.op s (counts_of c.args.pass.now)) c.in-Bound.is)))
 
 pub returns-in-Bound-clause-step : goal.returns-in-Bound-clause-step
+unfolding EndsAtPoint
 returns-in-Bound-clause-step c =
     let plan = ap (λ (v : View). v.plan) c.recall.ensures.pass.2 ∙ c.requires.board.1 in
     let step = changed_step_of _ _ _ _ _ _ _ _ plan c.point_word.ensures c.note_made.ensures.2 c.fetch_add.ensures.2.1 in
-    (c.in-Bound.point, (view c.recall.new.pass, c.fetch_add.result, step.0, step.1))
+    (c.in-Bound.point, view c.recall.new.pass, c.fetch_add.result, step.0, step.1)

@@ -1,5 +1,5 @@
 use Rattle.vq_board.specs.Named.{plan_of, view}
-use Rattle.vq_board_bench.proofs.ShelfRowSteps.{may_retire, after_retire, after_in_use}
+use Rattle.vq_board_bench.proofs.ShelfRowSteps.{may_retire, after_retire}
 use Rattle.vq_board_bench.proofs.batches.Batches.free.Goals as goal
 
 pub retire-requires-clause-may : goal.retire-requires-clause-may
@@ -12,8 +12,3 @@ returns-in-Ok-clause-freed c =
     let x = c.args.self.now in
     let freed = c.in-Ok.ensures.freed in
     λ _. after_retire (plan_of x.board) x.count x.commands x.signals x.row c.args.j (view c.args.shelf.now) (view c.retire.new.pass) freed.0 freed.0 c.requires.shelf freed.2.2
-
-pub returns-in-Err-clause-in_use : goal.returns-in-Err-clause-in_use
-returns-in-Err-clause-in_use c =
-    let x = c.args.self.now in
-    λ _. after_in_use (plan_of x.board) x.count x.commands x.signals x.row c.args.j c.args.shelf.now c.retire.new.pass c.in-Err.field-0.found c.requires.shelf c.in-Err.ensures.in_use

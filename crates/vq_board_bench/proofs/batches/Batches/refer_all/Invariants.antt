@@ -1,6 +1,0 @@
-use Rattle.std.proofs.Common.{[]}
-use Rattle.vq_board_bench.specs.Rows.{IsWatcher}
-use Rattle.vq_board_bench.proofs.batches.Batches.refer_all.Given as goal
-
-abbrev pub invariant-loop-j : goal.invariant-loop-j
-invariant-loop-j l = IsWatcher l.self.board l.watcher []

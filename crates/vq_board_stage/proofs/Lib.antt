@@ -1,0 +1,3 @@
+mod Asks
+pub mod Cited
+mod Lists

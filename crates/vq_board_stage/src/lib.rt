@@ -1,0 +1,7 @@
+//! What the tests of the board and the program that measures it have in common: lawful plans of texts,
+//! boards with their passes, and batches that have nothing to do with other jobs.
+#![tactic(auto)]
+
+pub mod alone;
+pub mod passes;
+pub mod plans;

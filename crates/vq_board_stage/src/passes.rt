@@ -1,0 +1,45 @@
+//! A board with its passes, and fresh passes taken from the lists in which they are dealt.
+ghost use Rattle.std.specs.Prelude.{◌≡◌, IfSome};
+ghost use Rattle.vq_board.specs.Named.{plan_of, IsFresh};
+ghost use Rattle.vq_board_stage.specs.Dealing.{AllFresh, IsDealer, IsNew};
+
+use std::alloc::Global;
+use vq_board::{Board, Pass, Passes, Role};
+use vq_order::Ordered;
+
+/// The board of a lawful plan, with its passes.
+pub fn board_of(alloc: Global, ordered: &Ordered) -> Option<(Board, Passes)>
+    ensures plan { IfSome result (λ t. plan_of t.0 ≡ ordered.now) }
+    ensures host { IfSome result (λ t. IsDealer t.0 t.1.host) }
+    ensures submits { IfSome result (λ t. AllFresh t.0 t.1.submits.items) }
+    ensures rings { IfSome result (λ t. AllFresh t.0 t.1.rings.items) }
+    ensures shelves { IfSome result (λ t. AllFresh t.0 t.1.shelves.items) }
+{
+    let Ok((board, passes)) = Board::new(alloc, ordered) else {
+        return None;
+    };
+    Some((board, passes))
+}
+
+/// The last pass of a list of fresh ones.
+fn last(board: &Board, passes: &mut Vec<Pass>) -> Option<Pass>
+    requires { AllFresh board.now passes.old.items }
+    ensures pass { IfSome result (λ x. IsFresh board.now x) }
+    ensures left { AllFresh board.now passes.new.items }
+{
+    passes.pop()
+}
+
+/// The last pass of a list of fresh ones, where it is that of the role.
+pub fn dealt(board: &Board, passes: &mut Vec<Pass>, role: Role) -> Option<Pass>
+    requires { AllFresh board.now passes.old.items }
+    ensures pass { IfSome result (λ x. IsNew board.now x role) }
+    ensures left { AllFresh board.now passes.new.items }
+{
+    let pass = last(board, passes)?;
+    if pass.role() == role {
+        Some(pass)
+    } else {
+        None
+    }
+}
