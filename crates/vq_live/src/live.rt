@@ -241,6 +241,7 @@ impl LiveTimeline {
         ensures after { OnOk result (self.new ≡ after_refer self.old point) }
         ensures unchanged { OnErr result (self.new ≡ self.old) }
         ensures rises { self.old.payload ≤ self.new.payload }
+        ensures held { OnOk result (0 < (slot_at self.new.slots point).refs) }
         ensures came { OnOk result (Comes self.old (referring point) self.new) }
         ensures kept { KeepsLive self.new }
     {

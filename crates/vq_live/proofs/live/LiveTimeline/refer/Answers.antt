@@ -5,7 +5,7 @@ use Rattle.vq_live.specs.declared.answers.Slot.{Slot}
 use Rattle.std.specs.Prelude.{if◌then◌else◌}
 use Rattle.std.proofs.lemmas.List.{length-set}
 use Rattle.vq_live.proofs.Completing.{held_keeps}
-use Rattle.vq_live.proofs.Slots.{out_busy, slot_found}
+use Rattle.vq_live.proofs.Slots.{slot_same, out_busy, slot_found}
 use Rattle.vq_live.proofs.live.LiveTimeline.refer.Goals as goal
 
 pub invariant_of-self : goal.invariant_of-self
@@ -28,3 +28,12 @@ invariant_of-self c =
 
 pub returns-else-refs-clause-kept : goal.returns-else-refs-clause-kept
 returns-else-refs-clause-kept c = (invariant_of-self c).kept
+
+pub returns-else-refs-clause-held : goal.returns-else-refs-clause-held
+returns-else-refs-clause-held c =
+    let t = live_of c.self.inside in
+    let s = c.in-Some.slot.now in
+    let at = slot_found t.slots c.deref.result.now c.args.point s c.deref.ensures.value c.in-Some.ensures.lookup.0 c.in-Some.ensures.lookup.1 in
+    let more : Slot = record { refs = s.refs + 1; out = true } in
+    let now : (slot_at (set t.slots c.args.point more) c.args.point).refs ≡ s.refs + 1 = ap (λ (x : Slot). x.refs) (slot_same t.slots c.args.point more at.0) in
+    omega arith
