@@ -1,3 +1,4 @@
+pub mod Cited
 mod Completing
 mod Finding
 mod Parts

@@ -144,7 +144,7 @@ unref_refs slots q p o l h = by_read (read_after slots q p (record { refs = (slo
         let now = ap (λ (x : Slot). x.refs) b in
         omega arith
 
-event_refs : (t : Live) (p : ℕ) (e : Event) → KeepsLive t → MayCome t e → (slot_at (after t e).slots p).refs + one_if (returns_it p e) ≡ (slot_at t.slots p).refs + one_if (refers p e)
+pub event_refs : (t : Live) (p : ℕ) (e : Event) → KeepsLive t → MayCome t e → (slot_at (after t e).slots p).refs + one_if (returns_it p e) ≡ (slot_at t.slots p).refs + one_if (refers p e)
 event_refs t p (taking x) k m = let same = take_refs t p x.value k in omega arith
 event_refs t p (installing x) k m = refl
 event_refs t p (completing x) k m =
@@ -159,7 +159,7 @@ event_refs t p (referring q) k m = refer_refs t.slots q p (out_exists t.slots q 
 event_refs t p (returning q) k m = unref_refs t.slots q p (slot_at t.slots q).out (held_exists t.slots q m) m
 event_refs t p (signaling v) k m = refl
 
-event_out : (t : Live) (p : ℕ) (e : Event) → KeepsLive t → MayCome t e → (slot_at (after t e).slots p).out ≡ carried_after p (slot_at t.slots p).out e
+pub event_out : (t : Live) (p : ℕ) (e : Event) → KeepsLive t → MayCome t e → (slot_at (after t e).slots p).out ≡ carried_after p (slot_at t.slots p).out e
 event_out t p (taking x) k m =
     take_out t p x.value k
     ∙ ap (λ (y : Given). if y.point == p then true else (slot_at t.slots p).out) (sym m.1)
@@ -191,7 +191,7 @@ run_out t p (e ∷ events) k r =
     run_out (after t e) p events (event_keeps t e k r.0) r.1
     ∙ ap (λ (b : Bool). is_carried p b events) (event_out t p e k r.0)
 
-next_idle : (t : Live) → KeepsLive t → ((slot_at t.slots (next_point t)).refs ≡ 0) × ((slot_at t.slots (next_point t)).out ≡ false)
+pub next_idle : (t : Live) → KeepsLive t → ((slot_at t.slots (next_point t)).refs ≡ 0) × ((slot_at t.slots (next_point t)).out ≡ false)
 next_idle t k = by_free t.free refl
   where
     by_free : (free : List ℕ) → t.free ≡ free → ((slot_at t.slots (point_from free (length t.slots))).refs ≡ 0) × ((slot_at t.slots (point_from free (length t.slots))).out ≡ false)
