@@ -4,22 +4,23 @@ ghost use Rattle.vq_board_laws.specs.declared.view.Role.TheVariants.{Ring};
 ghost use Rattle.vq_board_laws.specs.Points.{reference};
 ghost use Rattle.vq_board.specs.Named.{plan_of};
 ghost use Rattle.vq_board_stage.specs.Dealing.{IsNew};
-ghost use Rattle.vq_board_tests.specs.Holders.{HasSubmitted, HasReleased, HasPoints, HasReferences};
-ghost use Rattle.vq_board_tests.specs.Holders.{HasFirst, HasBoth, IsToBind};
-ghost use Rattle.vq_board_tests.specs.ThreeSignals.{IsOfThreeSignals};
+ghost use Rattle.vq_board_actors.specs.Holders.{HasSubmitted, HasReleased, HasPoints, HasReferences};
+ghost use Rattle.vq_board_actors.specs.Holders.{HasFirst, HasBoth, IsToBind};
+ghost use Rattle.vq_board_actors.specs.ThreeSignals.{IsOfThreeSignals};
 
-use crate::actors::{both_rings, both_submits, opened, shelf};
-use crate::rings::{
+use std::alloc::Global;
+use vq_board::{Board, Pass};
+use vq_board_actors::actors::{both_rings, both_submits, shelf};
+use vq_board_actors::rings::{
     fill_first, finds_it_moved_on, is_unbound, refer_first, sees_it_made, signal_first,
     unrefer_first,
 };
-use crate::shelves::{
+use vq_board_actors::scenes::{Scene, opened};
+use vq_board_actors::shelves::{
     bind_first, bind_second, complete_first, finds_released, give_again, is_in_use, take_first,
     take_second,
 };
-use crate::submitting::{release_first, release_second, release_waiting, submit};
-use std::alloc::Global;
-use vq_board::{Board, Pass, Passes};
+use vq_board_actors::submitting::{release_first, release_second, release_waiting, submit};
 use vq_point::PointWord;
 
 /// The first batch is submitted and released, its signal has point 0, and the shelf knows all that.
@@ -76,27 +77,21 @@ fn use_again(board: &Board, ring: &mut Pass, shelf: &mut Pass) -> bool
 
 /// Whether point 0 is used again as soon as no one refers to it, and not before.
 fn uses_again(alloc: Global) -> Option<bool> {
-    let (board, passes) = opened(alloc)?;
-    let Passes {
-        mut host,
-        submits,
-        rings,
-        shelves,
-    } = passes;
-    let (mut first_submit, mut second_submit) = both_submits(&board, submits)?;
-    let (mut first_ring, mut second_ring) = both_rings(&board, rings)?;
-    let mut shelf = shelf(&board, shelves)?;
-    if !hand_first_on(&board, &mut host, &mut first_submit, &mut shelf) {
+    let (board, mut passes) = opened(alloc, Scene::Signaling)?;
+    let (mut first_submit, mut second_submit) = both_submits(&board, &mut passes.submits)?;
+    let (mut first_ring, mut second_ring) = both_rings(&board, &mut passes.rings)?;
+    let mut shelf = shelf(&board, &mut passes.shelves)?;
+    if !hand_first_on(&board, &mut passes.host, &mut first_submit, &mut shelf) {
         return None;
     }
     bind_first(&board, &mut shelf);
-    submit(&board, &mut host, 1);
+    submit(&board, &mut passes.host, 1);
     if !release_waiting(&board, &mut second_submit)
         || !run_first(&board, &mut first_ring, &mut second_ring)
     {
         return None;
     }
-    if !hand_second_on(&board, &mut host, &mut first_submit, &mut shelf) {
+    if !hand_second_on(&board, &mut passes.host, &mut first_submit, &mut shelf) {
         return None;
     }
     Some(use_again(&board, &mut second_ring, &mut shelf))
@@ -109,17 +104,11 @@ fn a_point_is_used_again(rt: HostRuntime) {
 
 /// Whether a signal comes only once its operation is bound.
 fn binds_before_it_signals(alloc: Global) -> Option<bool> {
-    let (board, passes) = opened(alloc)?;
-    let Passes {
-        mut host,
-        submits,
-        rings,
-        shelves,
-    } = passes;
-    let (mut submitter, _) = both_submits(&board, submits)?;
-    let (mut ring, _) = both_rings(&board, rings)?;
-    let mut shelf = shelf(&board, shelves)?;
-    if !hand_first_on(&board, &mut host, &mut submitter, &mut shelf)
+    let (board, mut passes) = opened(alloc, Scene::Signaling)?;
+    let (mut submitter, _) = both_submits(&board, &mut passes.submits)?;
+    let (mut ring, _) = both_rings(&board, &mut passes.rings)?;
+    let mut shelf = shelf(&board, &mut passes.shelves)?;
+    if !hand_first_on(&board, &mut passes.host, &mut submitter, &mut shelf)
         || !fill_first(&board, &mut ring)
     {
         return None;
@@ -138,18 +127,15 @@ fn an_unbound_operation_is_not_signaled(rt: HostRuntime) {
 
 /// What the words of the first two points say, once one is made.
 fn two_words(alloc: Global) -> Option<(PointWord, PointWord)> {
-    let (board, passes) = opened(alloc)?;
-    let Passes {
-        mut host,
-        submits: _,
-        rings: _,
-        shelves,
-    } = passes;
-    let mut shelf = shelf(&board, shelves)?;
+    let (board, mut passes) = opened(alloc, Scene::Signaling)?;
+    let mut shelf = shelf(&board, &mut passes.shelves)?;
     if !take_first(&board, &mut shelf) {
         return None;
     }
-    Some((board.look(&mut host, 0), board.look(&mut host, 1)))
+    Some((
+        board.look(&mut passes.host, 0),
+        board.look(&mut passes.host, 1),
+    ))
 }
 
 #[test]
