@@ -1,21 +1,42 @@
 //! The host reads a timeline before its signal and after it.
+ghost use Rattle.std.specs.Prelude.{◌≡◌, true};
+ghost use Rattle.vq_board.specs.Named.{plan_of};
+ghost use Rattle.vq_board_stage.specs.Dealing.{AreNew};
+ghost use Rattle.vq_board_actors.specs.HostSteps.{HasFinished};
+ghost use Rattle.vq_board_actors.specs.Reads.{IsOfReads};
+
 use std::alloc::Global;
-use vq_board::{Closed, Role};
+use vq_board::{Board, Closed, Passes, Role};
 use vq_board_actors::host_steps::{make_signal, read_first, read_last};
 use vq_board_actors::scenes::{Scene, opened};
 use vq_board_stage::passes::dealt;
 
-/// The host's steps are made, one after another, and the board is closed.
+/// The host's steps are made, one after another. It says whether they came out as wanted.
+fn reads_around(board: &Board, passes: &mut Passes) -> bool
+    requires plan { IsOfReads (plan_of board.now) }
+    requires passes { AreNew board.now passes.old }
+    ensures { result ≡ true → HasFinished board.now passes.new.host 3 }
+{
+    let Some(mut shelf) = dealt(board, &mut passes.shelves, Role::Shelf(0)) else {
+        return false;
+    };
+    if !read_first(board, &mut passes.host)
+        || !make_signal(board, &mut passes.host, &mut shelf, 1, 0)
+    {
+        return false;
+    }
+    read_last(board, &mut passes.host);
+    true
+}
+
+/// The board is closed after them.
 fn closed(alloc: Global) -> Option<Closed> {
     let (board, mut passes) = opened(alloc, Scene::Reading)?;
-    let mut shelf = dealt(&board, &mut passes.shelves, Role::Shelf(0))?;
-    if !read_first(&board, &mut passes.host)
-        || !make_signal(&board, &mut passes.host, &mut shelf, 1, 0)
-    {
-        return None;
+    if reads_around(&board, &mut passes) {
+        Some(board.close(passes.host))
+    } else {
+        None
     }
-    read_last(&board, &mut passes.host);
-    Some(board.close(passes.host))
 }
 
 #[test]

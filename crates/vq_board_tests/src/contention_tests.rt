@@ -2,13 +2,13 @@
 ghost use Rattle.std.specs.Prelude.{◌≡◌, [], ◌∷◌, length, IfSome};
 ghost use Rattle.vq_board.specs.Named.{plan_of};
 ghost use Rattle.vq_board_stage.specs.Batches.{HasHandedOn, IsReady, IsRunning};
-ghost use Rattle.vq_board_stage.specs.Dealing.{AllFresh};
+ghost use Rattle.vq_board_stage.specs.Dealing.{AllFresh, AreNew};
 ghost use Rattle.vq_board_actors.specs.FourBatches.{AreFour, AreReady};
 
 use std::alloc::Global;
 use std::sync::Wait;
 use std::thread::{Threads, join};
-use vq_board::{Board, Closed, Pass, Role};
+use vq_board::{Board, Closed, Pass, Passes, Role};
 use vq_board_actors::scenes::{Scene, opened};
 use vq_board_stage::alone::{hand_on, start};
 use vq_board_stage::passes::dealt;
@@ -110,12 +110,23 @@ fn are_counted(bytes: &[u8]) -> bool {
     bytes.len() == 48
 }
 
+/// The host hands all batches on, and they are run. It says whether all were.
+fn run_all<R: Threads + Wait + Sync>(rt: &R, board: &Board, passes: &mut Passes) -> bool
+    requires plan { AreFour (plan_of board.now) }
+    requires passes { AreNew board.now passes.old }
+    ensures { HasHandedOn board.now passes.new.host 4 }
+{
+    hand_all_on(board, &mut passes.host);
+    match all_rings(board, &mut passes.rings) {
+        Some(rings) => work_all(rt, board, rings),
+        None => false,
+    }
+}
+
 /// Whether the board, after all batches ran, has the bytes of all.
 fn runs_all<R: Threads + Wait + Sync>(rt: &R, alloc: Global) -> Option<bool> {
     let (board, mut passes) = opened(alloc, Scene::Contending)?;
-    hand_all_on(&board, &mut passes.host);
-    let rings = all_rings(&board, &mut passes.rings)?;
-    if !work_all(rt, &board, rings) {
+    if !run_all(rt, &board, &mut passes) {
         return None;
     }
     let closed = closed(board, passes.host)?;
@@ -143,17 +154,25 @@ fn take_turns(board: &Board, first: &mut Pass, second: &mut Pass) -> bool
 }
 
 /// Whether the turn is had by one pass at a time.
-fn turns_are_taken(alloc: Global) -> Option<bool> {
-    let (board, mut passes) = opened(alloc, Scene::Contending)?;
-    hand_all_on(&board, &mut passes.host);
-    let ((mut first, mut second), _) = all_rings(&board, &mut passes.rings)?;
-    if !start(&board, &mut first, 0, &[0, 1, 2]) || !start(&board, &mut second, 1, &[3, 4, 5]) {
+fn turns_are_taken(board: &Board, passes: &mut Passes) -> Option<bool>
+    requires plan { AreFour (plan_of board.now) }
+    requires passes { AreNew board.now passes.old }
+{
+    hand_all_on(board, &mut passes.host);
+    let ((mut first, mut second), _) = all_rings(board, &mut passes.rings)?;
+    if !start(board, &mut first, 0, &[0, 1, 2]) || !start(board, &mut second, 1, &[3, 4, 5]) {
         return None;
     }
-    Some(take_turns(&board, &mut first, &mut second))
+    Some(take_turns(board, &mut first, &mut second))
+}
+
+/// The same on a board of its own.
+fn one_has_the_turn(alloc: Global) -> Option<bool> {
+    let (board, mut passes) = opened(alloc, Scene::Contending)?;
+    turns_are_taken(&board, &mut passes)
 }
 
 #[test]
 fn one_pass_has_the_turn(rt: HostRuntime) {
-    assert!(rt; turns_are_taken(rt.alloc()) == Some(true));
+    assert!(rt; one_has_the_turn(rt.alloc()) == Some(true));
 }

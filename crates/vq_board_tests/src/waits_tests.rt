@@ -2,11 +2,11 @@
 ghost use Rattle.std.specs.Prelude.{[], IfSome};
 ghost use Rattle.vq_board_laws.specs.declared.view.Role.TheVariants.{Shelf};
 ghost use Rattle.vq_board.specs.Named.{plan_of};
-ghost use Rattle.vq_board_stage.specs.Dealing.{AllFresh, IsNew};
+ghost use Rattle.vq_board_stage.specs.Dealing.{AllFresh, AreNew, IsNew};
 ghost use Rattle.vq_board_actors.specs.TwoWaits.{IsOfTwoWaits, IsToStart};
 
 use std::alloc::Global;
-use vq_board::{Board, Pass, Role};
+use vq_board::{Board, Pass, Passes, Role};
 use vq_board_actors::host_steps::make_signal;
 use vq_board_actors::scenes::{Scene, opened};
 use vq_board_actors::waiting::{finish_waiting, hand_on_waiting, refer_to_both, start_waiting};
@@ -44,22 +44,30 @@ fn run(board: &Board, mut ring: Pass) -> bool
 
 /// Whether all jobs are found finished, where the host made both signals and the ring then ran the
 /// batch.
-fn runs_after_both(alloc: Global) -> Option<bool> {
-    let (board, mut passes) = opened(alloc, Scene::Waiting)?;
-    let (mut first, mut second) = both_shelves(&board, &mut passes.shelves)?;
-    let ring = ring(&board, &mut passes.rings)?;
-    if !make_signal(&board, &mut passes.host, &mut first, 0, 0)
-        || !make_signal(&board, &mut passes.host, &mut second, 1, 1)
+fn runs_after_both(board: &Board, passes: &mut Passes) -> Option<bool>
+    requires plan { IsOfTwoWaits (plan_of board.now) }
+    requires passes { AreNew board.now passes.old }
+{
+    let (mut first, mut second) = both_shelves(board, &mut passes.shelves)?;
+    let ring = ring(board, &mut passes.rings)?;
+    if !make_signal(board, &mut passes.host, &mut first, 0, 0)
+        || !make_signal(board, &mut passes.host, &mut second, 1, 1)
     {
         return None;
     }
-    if !hand_on_waiting(&board, &mut passes.host) || !run(&board, ring) {
+    if !hand_on_waiting(board, &mut passes.host) || !run(board, ring) {
         return None;
     }
-    Some(all_finished(&board, &mut passes.host, 3))
+    Some(all_finished(board, &mut passes.host, 3))
+}
+
+/// The same on a board of its own.
+fn is_run_after_both(alloc: Global) -> Option<bool> {
+    let (board, mut passes) = opened(alloc, Scene::Waiting)?;
+    runs_after_both(&board, &mut passes)
 }
 
 #[test]
 fn a_batch_waits_for_two_signals(rt: HostRuntime) {
-    assert!(rt; runs_after_both(rt.alloc()) == Some(true));
+    assert!(rt; is_run_after_both(rt.alloc()) == Some(true));
 }
