@@ -38,7 +38,7 @@ impl Split<u64> for Cut {
 /// A table with three words or more, and no slot.
 #[derive(Drop)]
 pub(crate) struct Bare {
-    pub(crate) table: Table<u64, u64, u64, Anything, Global>,
+    table: Table<u64, u64, u64, Anything, Global>,
     ghost wide: { 2 < table.shared.table_id.words },
 }
 
@@ -50,7 +50,6 @@ impl Bare {
         requires { 2 < count }
         ensures first { IfOk result (λ t. t.1.table_id ≡ t.0.table.shared.table_id) }
         ensures second { IfOk result (λ t. t.2.table_id ≡ t.0.table.shared.table_id) }
-        ensures words { IfOk result (λ t. t.0.table.shared.table_id.words ≡ count) }
     {
         let words = vec![in alloc; 0u64; count]?;
         let (table, mut first) = Table::of_words(alloc, words.as_slice(), &0)?;
@@ -58,49 +57,16 @@ impl Bare {
         Ok((Bare { table }, first, second))
     }
 
-    pub(crate) fn load(&self, seat: &mut BareSeat, word: usize) -> u64
-        requires seat { seat.old.table_id ≡ self.now.table.shared.table_id }
-        requires word { word < self.now.table.shared.table_id.words }
-        ensures { seat.new.table_id ≡ seat.old.table_id }
-    {
-        self.table.shared.load::<Silent>(seat, word)
-    }
-
-    pub(crate) fn store(&self, seat: &mut BareSeat, word: usize, value: u64)
-        requires seat { seat.old.table_id ≡ self.now.table.shared.table_id }
-        requires word { word < self.now.table.shared.table_id.words }
-        ensures { seat.new.table_id ≡ seat.old.table_id }
-    {
-        self.table.shared.store::<Silent>(seat, word, value);
-    }
-
-    pub(crate) fn exchange(&self, seat: &mut BareSeat, word: usize, old: u64, new: u64) -> u64
-        requires seat { seat.old.table_id ≡ self.now.table.shared.table_id }
-        requires word { word < self.now.table.shared.table_id.words }
-        ensures { seat.new.table_id ≡ seat.old.table_id }
-    {
-        self.table
-            .shared
-            .compare_exchange::<Silent>(seat, word, old, new)
-    }
-
-    pub(crate) fn add(&self, seat: &mut BareSeat, word: usize, value: u64) -> u64
-        requires seat { seat.old.table_id ≡ self.now.table.shared.table_id }
-        requires word { word < self.now.table.shared.table_id.words }
-        ensures { seat.new.table_id ≡ seat.old.table_id }
-    {
-        self.table.shared.fetch_add::<Silent>(seat, word, value)
-    }
-
     /// Loads so often. It says whether each load found 0.
     fn loads(&self, seat: &mut BareSeat, rounds: u64) -> bool
         requires { seat.old.table_id ≡ self.now.table.shared.table_id }
     {
+        let table = &self.table.shared;
         for _ in 0..rounds / 4 {
-            if self.load(seat, 2) != 0
-                || self.load(seat, 2) != 0
-                || self.load(seat, 2) != 0
-                || self.load(seat, 2) != 0
+            if table.load::<Silent>(seat, 2) != 0
+                || table.load::<Silent>(seat, 2) != 0
+                || table.load::<Silent>(seat, 2) != 0
+                || table.load::<Silent>(seat, 2) != 0
             {
                 return false;
             }
@@ -113,7 +79,7 @@ impl Bare {
         requires { seat.old.table_id ≡ self.now.table.shared.table_id }
     {
         for round in 0..rounds {
-            self.store(seat, 2, round);
+            self.table.shared.store::<Silent>(seat, 2, round);
         }
         true
     }
@@ -122,10 +88,10 @@ impl Bare {
     fn exchanges(&self, seat: &mut BareSeat, rounds: u64) -> bool
         requires { seat.old.table_id ≡ self.now.table.shared.table_id }
     {
-        let mut old = 0;
-        let mut new = 1;
+        let table = &self.table.shared;
+        let (mut old, mut new) = (0, 1);
         for _ in 0..rounds {
-            if self.exchange(seat, 2, old, new) != old {
+            if table.compare_exchange::<Silent>(seat, 2, old, new) != old {
                 return false;
             }
             (old, new) = (new, old);
@@ -139,7 +105,7 @@ impl Bare {
     {
         let mut last = 0;
         for _ in 0..rounds {
-            last = self.add(seat, 2, 3);
+            last = self.table.shared.fetch_add::<Silent>(seat, 2, 3);
         }
         last != 1
     }
@@ -149,15 +115,16 @@ impl Bare {
     fn references(&self, seat: &mut BareSeat, rounds: u64) -> bool
         requires { seat.old.table_id ≡ self.now.table.shared.table_id }
     {
+        let table = &self.table.shared;
         let mut holds = false;
         for _ in 0..rounds {
-            let loaded = self.load(seat, 2);
+            let loaded = table.load::<Silent>(seat, 2);
             let wanted = if holds {
                 loaded.wrapping_sub(REFERENCE)
             } else {
                 loaded.wrapping_add(REFERENCE)
             };
-            if self.exchange(seat, 2, loaded, wanted) == loaded {
+            if table.compare_exchange::<Silent>(seat, 2, loaded, wanted) == loaded {
                 holds = !holds;
             }
         }
@@ -169,8 +136,8 @@ impl Bare {
         requires { seat.old.table_id ≡ self.now.table.shared.table_id }
     {
         for _ in 0..rounds {
-            if self.exchange(seat, 2, 0, 1) == 0 {
-                self.store(seat, 2, 0);
+            if self.table.shared.compare_exchange::<Silent>(seat, 2, 0, 1) == 0 {
+                self.table.shared.store::<Silent>(seat, 2, 0);
             }
         }
         true

@@ -11,12 +11,18 @@ pub(crate) enum BareStep {
     Turn,
 }
 
-/// A kind of step of a board.
+/// A question of one load: how far a job is, or an operation, or what a point carries.
 #[derive(Clone, Copy)]
-pub(crate) enum BoardStep {
+pub(crate) enum Question {
     Job,
     Recall,
     Look,
+}
+
+/// A kind of step of a board.
+#[derive(Clone, Copy)]
+pub(crate) enum BoardStep {
+    Ask(Question),
     Reference,
     Turn,
 }
@@ -28,8 +34,6 @@ pub(crate) enum Kind {
     Board(BoardStep),
     /// A board is opened and a row of the host's reads taken through its steps, or none of them.
     Reads { whole: bool },
-    /// So is a bare table.
-    BareReads { whole: bool },
 }
 
 impl Kind {
@@ -42,15 +46,13 @@ impl Kind {
             "bare-add" => Some(Kind::Bare(BareStep::Add)),
             "bare-refer" => Some(Kind::Bare(BareStep::Reference)),
             "bare-turn" => Some(Kind::Bare(BareStep::Turn)),
-            "job_state" => Some(Kind::Board(BoardStep::Job)),
-            "recall" => Some(Kind::Board(BoardStep::Recall)),
-            "look" => Some(Kind::Board(BoardStep::Look)),
+            "job_state" => Some(Kind::Board(BoardStep::Ask(Question::Job))),
+            "recall" => Some(Kind::Board(BoardStep::Ask(Question::Recall))),
+            "look" => Some(Kind::Board(BoardStep::Ask(Question::Look))),
             "refer" => Some(Kind::Board(BoardStep::Reference)),
             "turn" => Some(Kind::Board(BoardStep::Turn)),
             "answer" => Some(Kind::Reads { whole: true }),
             "open-answers" => Some(Kind::Reads { whole: false }),
-            "bare-answer" => Some(Kind::BareReads { whole: true }),
-            "bare-open-answers" => Some(Kind::BareReads { whole: false }),
             _ => None,
         }
     }

@@ -3,10 +3,6 @@
 #![tactic(auto)]
 
 mod bare;
-mod bare_phases;
-mod bare_reading;
-mod bare_row;
-mod bare_running;
 mod batches;
 mod ending;
 mod handing;
@@ -25,7 +21,7 @@ use bare::Bare;
 use kind::{Form, Kind, Phase};
 use opened::opened;
 use pairs::{bare_pair, board_pair};
-use rows::{Row, bare_reads, reads};
+use rows::{Row, reads};
 use std::alloc::Global;
 use std::process::ExitCode;
 use std::thread::Threads;
@@ -36,8 +32,8 @@ const USAGE: &str = "usage: vq_board_bench KIND ROUNDS [pairs]
     bare-load, bare-store, bare-cas, bare-add, bare-refer, bare-turn,
     job_state, recall, look, refer, turn
 usage: vq_board_bench KIND ROUNDS SIZE
-    bare-open-answers, bare-answer, open-answers, answer
-usage: vq_board_bench [bare-]row FORM PHASE ROUNDS SIZE
+    open-answers, answer
+usage: vq_board_bench row FORM PHASE ROUNDS SIZE
     forms: idle, command, signal, whole, wide
     phases: opened, submitted, made, assigned, found, released,
         known, bound, run, seen, completed, retired";
@@ -76,13 +72,12 @@ fn in_pairs<R: Threads + Sync>(rt: &R, alloc: Global, kind: Kind, rounds: u64) -
 fn in_rows(alloc: Global, kind: Kind, size: u32, rounds: u64) -> Option<bool> {
     match kind {
         Kind::Bare(_) | Kind::Board(_) => None,
-        Kind::BareReads { whole } => bare_reads(alloc, size, whole, rounds),
         Kind::Reads { whole } => reads(alloc, size, whole, rounds),
     }
 }
 
-/// Takes a row of batches up to a phase so often, as the words after the first two say.
-fn in_phases(alloc: Global, bare: bool, words: &[String]) -> Option<bool> {
+/// Takes a row of batches up to a phase so often, as the words say.
+fn in_phases(alloc: Global, words: &[String]) -> Option<bool> {
     let [form, phase, rounds, size] = words else {
         return None;
     };
@@ -92,11 +87,7 @@ fn in_phases(alloc: Global, bare: bool, words: &[String]) -> Option<bool> {
         batches: size.as_str().parse::<u32>().ok()?,
     };
     let rounds = rounds.as_str().parse::<u64>().ok()?;
-    if bare {
-        row.take_bare(alloc, rounds)
-    } else {
-        row.take(alloc, rounds)
-    }
+    row.take(alloc, rounds)
 }
 
 /// Makes the steps that the words ask for.
@@ -122,8 +113,7 @@ fn made<R: Threads + Sync>(rt: &R, alloc: Global, words: &[String]) -> Option<bo
 fn run<R: Threads + Sync>(rt: &R, alloc: Global, words: &[String]) -> Option<bool> {
     match words {
         [_, name, rest @ ..] => match name.as_str() {
-            "row" => in_phases(alloc, false, rest),
-            "bare-row" => in_phases(alloc, true, rest),
+            "row" => in_phases(alloc, rest),
             _ => made(rt, alloc, words),
         },
         _ => None,

@@ -5,7 +5,7 @@ ghost use Rattle.vq_model.specs.Plan.{chain_of};
 ghost use Rattle.vq_board_laws.specs.declared.view.Role.TheVariants.{Shelf};
 ghost use Rattle.vq_board.specs.Named.{plan_of};
 ghost use Rattle.vq_board_stage.specs.Batches.{IsAlone};
-ghost use Rattle.vq_board_stage.specs.Dealing.{AllFresh, IsDealer, IsNew};
+ghost use Rattle.vq_board_stage.specs.Dealing.{AllFresh, AreNew, IsNew};
 ghost use Rattle.vq_board_bench.specs.Idle.{IsOfWorkers, IsReferring};
 ghost use Rattle.vq_board_bench.specs.Making.{HasShare};
 
@@ -48,15 +48,6 @@ fn is_of_workers(plan: &Plan) -> bool
     ensures { result ≡ true → IsOfWorkers plan.now }
 {
     is_alone(plan, 0, &[]) && is_alone(plan, 1, &[]) && is_signaled(plan)
-}
-
-/// The host submits and releases the first two batches.
-fn hand_over(board: &Board, host: &mut Pass)
-    requires plan { IsOfWorkers (plan_of board.now) }
-    requires host { IsDealer board.now host.old }
-{
-    hand_on(board, host, 0, &[]);
-    hand_on(board, host, 1, &[]);
 }
 
 /// The pass of the next ring starts its batch, where that is released.
@@ -102,9 +93,7 @@ fn workers(board: &Board, mut rings: Vec<Pass>) -> Option<(Pass, Pass)>
 /// carries the first operation.
 fn handed(board: &Board, passes: Passes) -> Option<Vec<Pass>>
     requires plan { IsOfWorkers (plan_of board.now) }
-    requires host { IsDealer board.now passes.host }
-    requires rings { AllFresh board.now passes.rings.items }
-    requires shelves { AllFresh board.now passes.shelves.items }
+    requires passes { AreNew board.now passes }
     ensures { IfSome result (λ v. AllFresh board.now v.items) }
 {
     let Passes {
@@ -113,7 +102,8 @@ fn handed(board: &Board, passes: Passes) -> Option<Vec<Pass>>
         rings,
         mut shelves,
     } = passes;
-    hand_over(board, &mut host);
+    hand_on(board, &mut host, 0, &[]);
+    hand_on(board, &mut host, 1, &[]);
     let mut shelf = dealt(board, &mut shelves, Role::Shelf(0))?;
     if give_point(board, &mut shelf) {
         Some(rings)

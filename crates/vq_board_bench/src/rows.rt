@@ -1,9 +1,6 @@
 //! Rows of batches and of reads, again and again.
-ghost use Rattle.std.specs.Prelude.{◌≤◌};
 ghost use Rattle.vq_board_bench.specs.Rows.{IsRow};
 
-use crate::bare_reading::bare_reading;
-use crate::bare_row::opened_bare_row;
 use crate::batches::opened_row;
 use crate::kind::{Form, Phase};
 use crate::reading::reading;
@@ -28,9 +25,7 @@ impl Row {
     }
 
     /// How many of them have a signal.
-    fn signals(&self) -> u32
-        ensures { result ≤ self.now.batches }
-    {
+    fn signals(&self) -> u32 {
         if self.form.signal { self.batches } else { 0 }
     }
 
@@ -62,27 +57,6 @@ impl Row {
         let text = row_text(alloc, self.batches, self.form).ok()?;
         self.take_all(alloc, &checked(alloc, text.as_str().as_bytes())?, rounds)
     }
-
-    /// Makes a bare table for the row, and the bare steps.
-    fn bare_once(&self, alloc: Global) -> Option<bool> {
-        let (batches, seat) = opened_bare_row(
-            alloc,
-            self.batches,
-            self.commands(),
-            self.signals(),
-        )?;
-        Some(batches.take(alloc, seat, self.last))
-    }
-
-    /// Does so with so many tables.
-    pub(crate) fn take_bare(&self, alloc: Global, rounds: u64) -> Option<bool> {
-        for _ in 0..rounds {
-            if !self.bare_once(alloc)? {
-                return Some(false);
-            }
-        }
-        Some(true)
-    }
 }
 
 /// Opens so many boards of the plan, where it is of reads, and takes them through their steps, or none
@@ -107,16 +81,4 @@ pub(crate) fn reads(alloc: Global, reads: u32, whole: bool, rounds: u64) -> Opti
     let text = reads_text(alloc, reads).ok()?;
     let ordered = checked(alloc, text.as_str().as_bytes())?;
     reads_of(alloc, &ordered, whole, rounds)
-}
-
-/// Makes so many bare tables for a row of so many reads, and the bare steps of the whole row, or none
-/// of them.
-pub(crate) fn bare_reads(alloc: Global, reads: u32, whole: bool, rounds: u64) -> Option<bool> {
-    let count = if whole { reads } else { 0 };
-    for _ in 0..rounds {
-        if !bare_reading(alloc, reads, count)? {
-            return Some(false);
-        }
-    }
-    Some(true)
 }

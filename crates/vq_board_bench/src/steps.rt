@@ -2,7 +2,7 @@
 ghost use Rattle.std.specs.Prelude.{true, false, IfSome};
 ghost use Rattle.vq_board_bench.specs.Idle.{IsWorker, IsReferring};
 
-use crate::kind::BoardStep;
+use crate::kind::{BoardStep, Question};
 use std::mem::size_of;
 use vq_board::{Board, JobState, OpState, Pass, Referred};
 
@@ -55,22 +55,6 @@ fn reference(board: &Board, pass: &mut Pass, holds: bool) -> Option<bool>
     }
 }
 
-/// Whether the first job is started.
-fn job(board: &Board, pass: &mut Pass) -> bool
-    requires { IsWorker board.now pass.old }
-    ensures { IsWorker board.now pass.new }
-{
-    board.job_state(pass, 0) == JobState::Started
-}
-
-/// Whether the first operation is unbound.
-fn recall(board: &Board, pass: &mut Pass) -> bool
-    requires { IsWorker board.now pass.old }
-    ensures { IsWorker board.now pass.new }
-{
-    board.recall(pass, 0) == OpState::Unbound
-}
-
 /// Whether the first point carries something unsignaled.
 fn look(board: &Board, pass: &mut Pass) -> bool
     requires { IsWorker board.now pass.old }
@@ -80,40 +64,28 @@ fn look(board: &Board, pass: &mut Pass) -> bool
     word.held && !word.signaled
 }
 
-/// Asks so often how far the first job is, four times a round. It says whether it was always started.
-fn jobs(board: &Board, pass: &mut Pass, steps: u64) -> bool
+/// Whether the first job is started, the first operation unbound or the first point unsignaled.
+fn asked(board: &Board, pass: &mut Pass, question: Question) -> bool
     requires { IsWorker board.now pass.old }
+    ensures { IsWorker board.now pass.new }
 {
-    for _ in 0..steps / 4 {
-        if !job(board, pass) || !job(board, pass) || !job(board, pass) || !job(board, pass) {
-            return false;
-        }
+    match question {
+        Question::Job => board.job_state(pass, 0) == JobState::Started,
+        Question::Recall => board.recall(pass, 0) == OpState::Unbound,
+        Question::Look => look(board, pass),
     }
-    true
 }
 
-/// Asks so often how far the first operation is. It says whether it was always unbound.
-fn recalls(board: &Board, pass: &mut Pass, steps: u64) -> bool
+/// Asks so often, four times a round. It says whether the answer was always yes.
+fn asks(board: &Board, pass: &mut Pass, question: Question, steps: u64) -> bool
     requires { IsWorker board.now pass.old }
 {
     for _ in 0..steps / 4 {
-        if !recall(board, pass)
-            || !recall(board, pass)
-            || !recall(board, pass)
-            || !recall(board, pass)
+        if !asked(board, pass, question)
+            || !asked(board, pass, question)
+            || !asked(board, pass, question)
+            || !asked(board, pass, question)
         {
-            return false;
-        }
-    }
-    true
-}
-
-/// Looks at the first point so often. It says whether it always carried something unsignaled.
-fn looks(board: &Board, pass: &mut Pass, steps: u64) -> bool
-    requires { IsWorker board.now pass.old }
-{
-    for _ in 0..steps / 4 {
-        if !look(board, pass) || !look(board, pass) || !look(board, pass) || !look(board, pass) {
             return false;
         }
     }
@@ -150,9 +122,7 @@ pub(crate) fn steps(board: &Board, mut pass: Pass, step: BoardStep, rounds: u64)
     requires { IsReferring board.now pass false }
 {
     match step {
-        BoardStep::Job => jobs(board, &mut pass, rounds),
-        BoardStep::Recall => recalls(board, &mut pass, rounds),
-        BoardStep::Look => looks(board, &mut pass, rounds),
+        BoardStep::Ask(question) => asks(board, &mut pass, question, rounds),
         BoardStep::Reference => references(board, &mut pass, rounds),
         BoardStep::Turn => turns(board, &mut pass, rounds),
     }

@@ -1,3 +1,2 @@
 -- What other crates may cite of this one.
-pub use Rattle.vq_board_stage.proofs.Asks.{needless, so_far}
 pub use Rattle.vq_board_stage.proofs.Lists.{knows_behind, knows_before}

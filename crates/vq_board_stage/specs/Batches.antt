@@ -68,3 +68,14 @@ pub record IsRunning (b : Board) (x : Pass) (j : ℕ) : Type 0 where
   pub signaled : (view x).signaled ≡ 0
   pub turnless : (view x).held ≡ None
   pub without_reference : (view x).refs ≡ []
+
+-- the pass runs job j, which needs nothing, and has the turn
+pub record IsHolding (b : Board) (x : Pass) (j : ℕ) : Type 0 where
+  pub board : IsOf b x
+  pub role : (view x).role ≡ role_number (plan_of b) (Ring j)
+  pub runs : (view x).runs ≡ Some j
+  pub needs : needs (plan_of b) j ≡ []
+  pub any : waits_for_any (plan_of b) j ≡ false
+  pub signaled : (view x).signaled ≡ 0
+  pub turn : (n : ℕ) × ((view x).held ≡ Some n)
+  pub without_reference : (view x).refs ≡ []

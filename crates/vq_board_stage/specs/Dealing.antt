@@ -4,6 +4,7 @@ use Rattle.std.specs.List.{slice_get}
 use Rattle.vq_board_laws.specs.declared.view.Role.{Role}
 use Rattle.vq_board.specs.declared.parts.Board.{Board}
 use Rattle.vq_board.specs.declared.parts.Pass.{Pass}
+use Rattle.vq_board.specs.declared.parts.Passes.{Passes}
 use Rattle.vq_board.specs.Named.{role_of, IsCut, IsFresh}
 
 abbrev pub AllFresh : Board → List Pass → Type 0
@@ -17,3 +18,10 @@ IsDealer b x = (n : ℕ) × IsCut b x n
 pub record IsNew (b : Board) (x : Pass) (r : Role) : Type 0 where
   pub fresh : IsFresh b x
   pub role : role_of x ≡ r
+
+-- all passes of a board, which have done nothing else
+pub record AreNew (b : Board) (xs : Passes) : Type 0 where
+  pub host : IsDealer b xs.host
+  pub submits : AllFresh b xs.submits.items
+  pub rings : AllFresh b xs.rings.items
+  pub shelves : AllFresh b xs.shelves.items

@@ -64,7 +64,7 @@ pub fn is_alone(plan: &Plan, j: u32, commands: &[u32]) -> bool
 }
 
 /// The host submits and releases the next job.
-#[tactic(auto, using(crate::proofs::Asks::so_far))]
+#[tactic(auto, using(crate::proofs::Asks::knows_so_far))]
 pub fn hand_on(board: &Board, host: &mut Pass, j: u32, commands: &[u32])
     requires alone { IsAlone (plan_of board.now) j commands.now }
     requires host { HasHandedOn board.now host.old j }
@@ -76,7 +76,7 @@ pub fn hand_on(board: &Board, host: &mut Pass, j: u32, commands: &[u32])
 }
 
 /// Starts the batch that the ring's pass is to run, where it is released.
-#[tactic(auto, using(crate::proofs::Asks::needless, crate::proofs::Asks::so_far))]
+#[tactic(auto, using(crate::proofs::Asks::needs_nothing, crate::proofs::Asks::knows_so_far))]
 pub fn start(board: &Board, pass: &mut Pass, j: u32, commands: &[u32]) -> bool
     requires ready { IsReady board.now pass.old j commands.now }
     ensures running { result ≡ true → IsRunning board.now pass.new j }

@@ -5,3 +5,4 @@
 pub mod alone;
 pub mod passes;
 pub mod plans;
+pub mod running;

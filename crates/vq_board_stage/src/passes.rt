@@ -1,7 +1,7 @@
 //! A board with its passes, and fresh passes taken from the lists in which they are dealt.
 ghost use Rattle.std.specs.Prelude.{◌≡◌, IfSome};
 ghost use Rattle.vq_board.specs.Named.{plan_of, IsFresh};
-ghost use Rattle.vq_board_stage.specs.Dealing.{AllFresh, IsDealer, IsNew};
+ghost use Rattle.vq_board_stage.specs.Dealing.{AllFresh, AreNew, IsNew};
 
 use std::alloc::Global;
 use vq_board::{Board, Pass, Passes, Role};
@@ -10,10 +10,7 @@ use vq_order::Ordered;
 /// The board of a lawful plan, with its passes.
 pub fn board_of(alloc: Global, ordered: &Ordered) -> Option<(Board, Passes)>
     ensures plan { IfSome result (λ t. plan_of t.0 ≡ ordered.now) }
-    ensures host { IfSome result (λ t. IsDealer t.0 t.1.host) }
-    ensures submits { IfSome result (λ t. AllFresh t.0 t.1.submits.items) }
-    ensures rings { IfSome result (λ t. AllFresh t.0 t.1.rings.items) }
-    ensures shelves { IfSome result (λ t. AllFresh t.0 t.1.shelves.items) }
+    ensures passes { IfSome result (λ t. AreNew t.0 t.1) }
 {
     let Ok((board, passes)) = Board::new(alloc, ordered) else {
         return None;

@@ -1,7 +1,1 @@
-mod Asked
-mod Binds
-mod Chains
 mod RingSteps
-mod SeenMade
-mod Shares
-mod Waits

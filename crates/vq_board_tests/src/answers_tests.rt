@@ -1,54 +1,42 @@
 //! The host reads a timeline before its signal and after it.
-ghost use Rattle.std.specs.Prelude.{IfSome};
+ghost use Rattle.std.specs.Prelude.{◌≡◌, true};
 ghost use Rattle.vq_board.specs.Named.{plan_of};
-ghost use Rattle.vq_board_stage.specs.Dealing.{AllFresh};
-ghost use Rattle.vq_board_tests.specs.HostSteps.{HasFinished};
-ghost use Rattle.vq_board_tests.specs.Reads.{IsOfReads};
+ghost use Rattle.vq_board_stage.specs.Dealing.{AreNew};
+ghost use Rattle.vq_board_actors.specs.HostSteps.{HasFinished};
+ghost use Rattle.vq_board_actors.specs.Reads.{IsOfReads};
 
-use crate::host_steps::{make_signal, read_first, read_last};
-use crate::plans::two_reads;
-use crate::reads::is_of_reads;
 use std::alloc::Global;
 use vq_board::{Board, Closed, Passes, Role};
-use vq_board_stage::passes::{board_of, dealt};
-use vq_order::Ordered;
+use vq_board_actors::host_steps::{make_signal, read_first, read_last};
+use vq_board_actors::scenes::{Scene, opened};
+use vq_board_stage::passes::dealt;
 
-/// The board of the plan, where that is the script's, with its passes.
-fn opened_of(alloc: Global, ordered: &Ordered) -> Option<(Board, Passes)>
-    ensures plan { IfSome result (λ t. IsOfReads (plan_of t.0)) }
-    ensures host { IfSome result (λ t. HasFinished t.0 t.1.host 0) }
-    ensures shelves { IfSome result (λ t. AllFresh t.0 t.1.shelves.items) }
+/// The host's steps are made, one after another. It says whether they came out as wanted.
+fn reads_around(board: &Board, passes: &mut Passes) -> bool
+    requires plan { IsOfReads (plan_of board.now) }
+    requires passes { AreNew board.now passes.old }
+    ensures { result ≡ true → HasFinished board.now passes.new.host 3 }
 {
-    if !is_of_reads(ordered.plan()) {
-        return None;
+    let Some(mut shelf) = dealt(board, &mut passes.shelves, Role::Shelf(0)) else {
+        return false;
+    };
+    if !read_first(board, &mut passes.host)
+        || !make_signal(board, &mut passes.host, &mut shelf, 1, 0)
+    {
+        return false;
     }
-    board_of(alloc, ordered)
+    read_last(board, &mut passes.host);
+    true
 }
 
-/// The board of the script, with its passes.
-fn opened(alloc: Global) -> Option<(Board, Passes)>
-    ensures plan { IfSome result (λ t. IsOfReads (plan_of t.0)) }
-    ensures host { IfSome result (λ t. HasFinished t.0 t.1.host 0) }
-    ensures shelves { IfSome result (λ t. AllFresh t.0 t.1.shelves.items) }
-{
-    opened_of(alloc, &two_reads(alloc)?)
-}
-
-/// The host's steps are made, one after another, and the board is closed.
+/// The board is closed after them.
 fn closed(alloc: Global) -> Option<Closed> {
-    let (board, passes) = opened(alloc)?;
-    let Passes {
-        mut host,
-        submits: _,
-        rings: _,
-        mut shelves,
-    } = passes;
-    let mut shelf = dealt(&board, &mut shelves, Role::Shelf(0))?;
-    if !read_first(&board, &mut host) || !make_signal(&board, &mut host, &mut shelf, 1, 0) {
-        return None;
+    let (board, mut passes) = opened(alloc, Scene::Reading)?;
+    if reads_around(&board, &mut passes) {
+        Some(board.close(passes.host))
+    } else {
+        None
     }
-    read_last(&board, &mut host);
-    Some(board.close(host))
 }
 
 #[test]

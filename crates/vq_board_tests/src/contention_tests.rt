@@ -1,30 +1,18 @@
 //! Four batches on four queues, each with three commands, whose rings contend for the turn.
-ghost use Rattle.std.specs.Prelude.{◌≡◌, [], ◌∷◌, length, true, IfSome};
+ghost use Rattle.std.specs.Prelude.{◌≡◌, [], ◌∷◌, length, IfSome};
 ghost use Rattle.vq_board.specs.Named.{plan_of};
-ghost use Rattle.vq_board_stage.specs.Batches.{HasHandedOn, IsReady};
-ghost use Rattle.vq_board_stage.specs.Dealing.{AllFresh, IsDealer};
-ghost use Rattle.vq_board_tests.specs.FourBatches.{AreFour, AreReady};
+ghost use Rattle.vq_board_stage.specs.Batches.{HasHandedOn, IsReady, IsRunning};
+ghost use Rattle.vq_board_stage.specs.Dealing.{AllFresh, AreNew};
+ghost use Rattle.vq_board_actors.specs.FourBatches.{AreFour, AreReady};
 
-use crate::alone::{all_finished, work};
-use crate::plans::four_batches;
 use std::alloc::Global;
 use std::sync::Wait;
 use std::thread::{Threads, join};
 use vq_board::{Board, Closed, Pass, Passes, Role};
-use vq_board_stage::alone::{hand_on, is_alone};
-use vq_board_stage::passes::{board_of, dealt};
-use vq_order::Ordered;
-use vq_spec::Plan;
-
-/// Whether the plan is that of the script.
-fn are_four(plan: &Plan) -> bool
-    ensures { result ≡ true → AreFour plan.now }
-{
-    if plan.jobs() != 4 || !is_alone(plan, 0, &[0, 1, 2]) || !is_alone(plan, 1, &[3, 4, 5]) {
-        return false;
-    }
-    is_alone(plan, 2, &[6, 7, 8]) && is_alone(plan, 3, &[9, 10, 11])
-}
+use vq_board_actors::scenes::{Scene, opened};
+use vq_board_stage::alone::{hand_on, start};
+use vq_board_stage::passes::dealt;
+use vq_board_stage::running::{all_finished, work};
 
 /// The host submits and releases all batches.
 fn hand_all_on(board: &Board, host: &mut Pass)
@@ -36,48 +24,6 @@ fn hand_all_on(board: &Board, host: &mut Pass)
     hand_on(board, host, 1, &[3, 4, 5]);
     hand_on(board, host, 2, &[6, 7, 8]);
     hand_on(board, host, 3, &[9, 10, 11]);
-}
-
-/// The host's pass, which has handed all batches on, and the passes of the rings.
-fn handed(board: &Board, passes: Passes) -> (Pass, Vec<Pass>)
-    requires plan { AreFour (plan_of board.now) }
-    requires host { IsDealer board.now passes.host }
-    requires rings { AllFresh board.now passes.rings.items }
-    ensures host { HasHandedOn board.now result.0 4 }
-    ensures rings { AllFresh board.now result.1.items }
-{
-    let Passes {
-        mut host,
-        submits: _,
-        rings,
-        shelves: _,
-    } = passes;
-    hand_all_on(board, &mut host);
-    (host, rings)
-}
-
-/// The board of the plan, where that is the script's, and these passes.
-fn opened_of(alloc: Global, ordered: &Ordered) -> Option<(Board, Pass, Vec<Pass>)>
-    ensures plan { IfSome result (λ t. AreFour (plan_of t.0)) }
-    ensures host { IfSome result (λ t. HasHandedOn t.0 t.1 4) }
-    ensures rings { IfSome result (λ t. AllFresh t.0 t.2.items) }
-{
-    if !are_four(ordered.plan()) {
-        return None;
-    }
-    let (board, passes) = board_of(alloc, ordered)?;
-    let (host, rings) = handed(&board, passes);
-    Some((board, host, rings))
-}
-
-/// The board of the script, the host's pass, which has handed all batches on, and the passes of the
-/// rings.
-fn opened(alloc: Global) -> Option<(Board, Pass, Vec<Pass>)>
-    ensures plan { IfSome result (λ t. AreFour (plan_of t.0)) }
-    ensures host { IfSome result (λ t. HasHandedOn t.0 t.1 4) }
-    ensures rings { IfSome result (λ t. AllFresh t.0 t.2.items) }
-{
-    opened_of(alloc, &four_batches(alloc)?)
 }
 
 /// Two batches are run by their rings' passes, each in a thread of its own. It says whether both were.
@@ -107,15 +53,15 @@ fn work_two<R: Threads + Wait + Sync>(
 }
 
 /// The passes of four rings, the first two and the others.
-fn all_rings(board: &Board, mut rings: Vec<Pass>) -> Option<((Pass, Pass), (Pass, Pass))>
-    requires fresh { AllFresh board.now rings.items }
+fn all_rings(board: &Board, rings: &mut Vec<Pass>) -> Option<((Pass, Pass), (Pass, Pass))>
+    requires fresh { AllFresh board.now rings.old.items }
     requires plan { AreFour (plan_of board.now) }
     ensures { IfSome result (λ t. AreReady board.now t) }
 {
-    let fourth = dealt(board, &mut rings, Role::Ring(3))?;
-    let third = dealt(board, &mut rings, Role::Ring(2))?;
-    let second = dealt(board, &mut rings, Role::Ring(1))?;
-    let first = dealt(board, &mut rings, Role::Ring(0))?;
+    let fourth = dealt(board, rings, Role::Ring(3))?;
+    let third = dealt(board, rings, Role::Ring(2))?;
+    let second = dealt(board, rings, Role::Ring(1))?;
+    let first = dealt(board, rings, Role::Ring(0))?;
     Some(((first, second), (third, fourth)))
 }
 
@@ -164,18 +110,69 @@ fn are_counted(bytes: &[u8]) -> bool {
     bytes.len() == 48
 }
 
+/// The host hands all batches on, and they are run. It says whether all were.
+fn run_all<R: Threads + Wait + Sync>(rt: &R, board: &Board, passes: &mut Passes) -> bool
+    requires plan { AreFour (plan_of board.now) }
+    requires passes { AreNew board.now passes.old }
+    ensures { HasHandedOn board.now passes.new.host 4 }
+{
+    hand_all_on(board, &mut passes.host);
+    match all_rings(board, &mut passes.rings) {
+        Some(rings) => work_all(rt, board, rings),
+        None => false,
+    }
+}
+
 /// Whether the board, after all batches ran, has the bytes of all.
 fn runs_all<R: Threads + Wait + Sync>(rt: &R, alloc: Global) -> Option<bool> {
-    let (board, host, rings) = opened(alloc)?;
-    let rings = all_rings(&board, rings)?;
-    if !work_all(rt, &board, rings) {
+    let (board, mut passes) = opened(alloc, Scene::Contending)?;
+    if !run_all(rt, &board, &mut passes) {
         return None;
     }
-    let closed = closed(board, host)?;
+    let closed = closed(board, passes.host)?;
     Some(closed.buffers().count() == 1 && are_counted(closed.buffers().bytes(0)))
 }
 
 #[test]
 fn four_batches_leave_their_bytes(rt: HostRuntime) {
     assert!(rt; runs_all(&rt, rt.alloc()) == Some(true));
+}
+
+/// While one pass has the turn the other doesn't get it; then it does.
+fn take_turns(board: &Board, first: &mut Pass, second: &mut Pass) -> bool
+    requires first { IsRunning board.now first.old 0 }
+    requires second { IsRunning board.now second.old 1 }
+{
+    let Some(held) = board.take_memory(first) else {
+        return false;
+    };
+    if board.take_memory(second).is_some() {
+        return false;
+    }
+    board.give_memory(first, held);
+    board.take_memory(second).is_some()
+}
+
+/// Whether the turn is had by one pass at a time.
+fn turns_are_taken(board: &Board, passes: &mut Passes) -> Option<bool>
+    requires plan { AreFour (plan_of board.now) }
+    requires passes { AreNew board.now passes.old }
+{
+    hand_all_on(board, &mut passes.host);
+    let ((mut first, mut second), _) = all_rings(board, &mut passes.rings)?;
+    if !start(board, &mut first, 0, &[0, 1, 2]) || !start(board, &mut second, 1, &[3, 4, 5]) {
+        return None;
+    }
+    Some(take_turns(board, &mut first, &mut second))
+}
+
+/// The same on a board of its own.
+fn one_has_the_turn(alloc: Global) -> Option<bool> {
+    let (board, mut passes) = opened(alloc, Scene::Contending)?;
+    turns_are_taken(&board, &mut passes)
+}
+
+#[test]
+fn one_pass_has_the_turn(rt: HostRuntime) {
+    assert!(rt; one_has_the_turn(rt.alloc()) == Some(true));
 }

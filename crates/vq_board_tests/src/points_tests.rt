@@ -3,23 +3,26 @@ ghost use Rattle.std.specs.Prelude.{◌≡◌, true, [], ◌∷◌};
 ghost use Rattle.vq_board_laws.specs.declared.view.Role.TheVariants.{Ring};
 ghost use Rattle.vq_board_laws.specs.Points.{reference};
 ghost use Rattle.vq_board.specs.Named.{plan_of};
-ghost use Rattle.vq_board_stage.specs.Dealing.{IsNew};
-ghost use Rattle.vq_board_tests.specs.Holders.{HasSubmitted, HasReleased, HasPoints, HasReferences};
-ghost use Rattle.vq_board_tests.specs.Holders.{HasFirst, HasBoth, IsToBind};
-ghost use Rattle.vq_board_tests.specs.ThreeSignals.{IsOfThreeSignals};
+ghost use Rattle.vq_board_stage.specs.Dealing.{AreNew, IsNew};
+ghost use Rattle.vq_board_actors.specs.Holders.{HasSubmitted, HasReleased, HasPoints, HasReferences};
+ghost use Rattle.vq_board_actors.specs.Holders.{HasFirst, HasBoth, IsToBind};
+ghost use Rattle.vq_board_actors.specs.ThreeSignals.{IsOfThreeSignals};
 
-use crate::actors::{both_rings, both_submits, opened, shelf};
-use crate::rings::{
+use std::alloc::Global;
+use vq_board::{Board, Pass, Passes};
+use vq_board_actors::actors::{both_rings, both_submits, shelf};
+use vq_board_actors::rings::{
     fill_first, finds_it_moved_on, is_unbound, refer_first, sees_it_made, signal_first,
     unrefer_first,
 };
-use crate::shelves::{
+use vq_board_actors::scenes::{Scene, opened};
+use vq_board_actors::shelves::{
     bind_first, bind_second, complete_first, finds_released, give_again, is_in_use, take_first,
     take_second,
 };
-use crate::submitting::{release_first, release_second, release_waiting, submit};
-use std::alloc::Global;
-use vq_board::{Board, Pass, Passes};
+use vq_board_actors::submitting::{
+    carrying, release_first, release_second, release_waiting, submit,
+};
 use vq_point::PointWord;
 
 /// The first batch is submitted and released, its signal has point 0, and the shelf knows all that.
@@ -75,96 +78,98 @@ fn use_again(board: &Board, ring: &mut Pass, shelf: &mut Pass) -> bool
 }
 
 /// Whether point 0 is used again as soon as no one refers to it, and not before.
-fn uses_again(alloc: Global) -> Option<bool> {
-    let (board, passes) = opened(alloc)?;
-    let Passes {
-        mut host,
-        submits,
-        rings,
-        shelves,
-    } = passes;
-    let (mut first_submit, mut second_submit) = both_submits(&board, submits)?;
-    let (mut first_ring, mut second_ring) = both_rings(&board, rings)?;
-    let mut shelf = shelf(&board, shelves)?;
-    if !hand_first_on(&board, &mut host, &mut first_submit, &mut shelf) {
+fn uses_again(board: &Board, passes: &mut Passes) -> Option<bool>
+    requires plan { IsOfThreeSignals (plan_of board.now) }
+    requires passes { AreNew board.now passes.old }
+{
+    let (mut first_submit, mut second_submit) = both_submits(board, &mut passes.submits)?;
+    let (mut first_ring, mut second_ring) = both_rings(board, &mut passes.rings)?;
+    let mut shelf = shelf(board, &mut passes.shelves)?;
+    if !hand_first_on(board, &mut passes.host, &mut first_submit, &mut shelf) {
         return None;
     }
-    bind_first(&board, &mut shelf);
-    submit(&board, &mut host, 1);
-    if !release_waiting(&board, &mut second_submit)
-        || !run_first(&board, &mut first_ring, &mut second_ring)
+    bind_first(board, &mut shelf);
+    submit(board, &mut passes.host, 1);
+    if !release_waiting(board, &mut second_submit)
+        || !run_first(board, &mut first_ring, &mut second_ring)
     {
         return None;
     }
-    if !hand_second_on(&board, &mut host, &mut first_submit, &mut shelf) {
+    if !hand_second_on(board, &mut passes.host, &mut first_submit, &mut shelf) {
         return None;
     }
-    Some(use_again(&board, &mut second_ring, &mut shelf))
+    Some(use_again(board, &mut second_ring, &mut shelf))
+}
+
+/// The same on a board of its own.
+fn is_used_again(alloc: Global) -> Option<bool> {
+    let (board, mut passes) = opened(alloc, Scene::Signaling)?;
+    uses_again(&board, &mut passes)
 }
 
 #[test]
 fn a_point_is_used_again(rt: HostRuntime) {
-    assert!(rt; uses_again(rt.alloc()) == Some(true));
+    assert!(rt; is_used_again(rt.alloc()) == Some(true));
 }
 
 /// Whether a signal comes only once its operation is bound.
-fn binds_before_it_signals(alloc: Global) -> Option<bool> {
-    let (board, passes) = opened(alloc)?;
-    let Passes {
-        mut host,
-        submits,
-        rings,
-        shelves,
-    } = passes;
-    let (mut submitter, _) = both_submits(&board, submits)?;
-    let (mut ring, _) = both_rings(&board, rings)?;
-    let mut shelf = shelf(&board, shelves)?;
-    if !hand_first_on(&board, &mut host, &mut submitter, &mut shelf)
-        || !fill_first(&board, &mut ring)
+fn binds_before_it_signals(board: &Board, passes: &mut Passes) -> Option<bool>
+    requires plan { IsOfThreeSignals (plan_of board.now) }
+    requires passes { AreNew board.now passes.old }
+{
+    let (mut submitter, _) = both_submits(board, &mut passes.submits)?;
+    let (mut ring, _) = both_rings(board, &mut passes.rings)?;
+    let mut shelf = shelf(board, &mut passes.shelves)?;
+    if !hand_first_on(board, &mut passes.host, &mut submitter, &mut shelf)
+        || !fill_first(board, &mut ring)
     {
         return None;
     }
-    if !is_unbound(&board, &mut ring) {
+    if !is_unbound(board, &mut ring) {
         return None;
     }
-    bind_first(&board, &mut shelf);
-    Some(signal_first(&board, &mut ring))
+    bind_first(board, &mut shelf);
+    Some(signal_first(board, &mut ring))
+}
+
+/// The same on a board of its own.
+fn is_bound_before_it_is_signaled(alloc: Global) -> Option<bool> {
+    let (board, mut passes) = opened(alloc, Scene::Signaling)?;
+    binds_before_it_signals(&board, &mut passes)
 }
 
 #[test]
 fn an_unbound_operation_is_not_signaled(rt: HostRuntime) {
-    assert!(rt; binds_before_it_signals(rt.alloc()) == Some(true));
+    assert!(rt; is_bound_before_it_is_signaled(rt.alloc()) == Some(true));
 }
 
 /// What the words of the first two points say, once one is made.
-fn two_words(alloc: Global) -> Option<(PointWord, PointWord)> {
-    let (board, passes) = opened(alloc)?;
-    let Passes {
-        mut host,
-        submits: _,
-        rings: _,
-        shelves,
-    } = passes;
-    let mut shelf = shelf(&board, shelves)?;
-    if !take_first(&board, &mut shelf) {
+fn two_words(board: &Board, passes: &mut Passes) -> Option<(PointWord, PointWord)>
+    requires plan { IsOfThreeSignals (plan_of board.now) }
+    requires passes { AreNew board.now passes.old }
+{
+    let mut shelf = shelf(board, &mut passes.shelves)?;
+    if !take_first(board, &mut shelf) {
         return None;
     }
-    Some((board.look(&mut host, 0), board.look(&mut host, 1)))
+    let first = board.look(&mut passes.host, 0);
+    Some((first, board.look(&mut passes.host, 1)))
+}
+
+/// The same on a board of its own.
+fn words_of_two(alloc: Global) -> Option<(PointWord, PointWord)> {
+    let (board, mut passes) = opened(alloc, Scene::Signaling)?;
+    two_words(&board, &mut passes)
 }
 
 #[test]
 fn a_point_that_is_not_made_says_nothing(rt: HostRuntime) {
-    let made = PointWord {
-        op: 0,
-        refs: 0,
-        signaled: false,
-        held: true,
-    };
+    let made = carrying(0, 0, false);
     let unmade = PointWord {
         op: 0,
         refs: 0,
         signaled: false,
         held: false,
     };
-    assert!(rt; two_words(rt.alloc()) == Some((made, unmade)));
+    assert!(rt; words_of_two(rt.alloc()) == Some((made, unmade)));
 }

@@ -2,15 +2,18 @@
 ghost use Rattle.std.specs.Prelude.{◌≡◌, true, [], ◌∷◌};
 ghost use Rattle.vq_board_laws.specs.Points.{reference};
 ghost use Rattle.vq_board.specs.Named.{plan_of};
-ghost use Rattle.vq_board_tests.specs.Holders.{HasReferences};
-ghost use Rattle.vq_board_tests.specs.ThreeSignals.{IsOfThreeSignals};
+ghost use Rattle.vq_board_stage.specs.Dealing.{AreNew};
+ghost use Rattle.vq_board_actors.specs.Holders.{HasReferences};
+ghost use Rattle.vq_board_actors.specs.ThreeSignals.{IsOfThreeSignals};
 
-use crate::actors::{both_rings, opened, shelf};
-use crate::shelves::take_first;
 use std::alloc::Global;
 use std::sync::Wait;
 use std::thread::{Threads, join, yield_now};
 use vq_board::{Board, Pass, Passes, Referred};
+use vq_board_actors::actors::{both_rings, shelf};
+use vq_board_actors::scenes::{Scene, opened};
+use vq_board_actors::shelves::take_first;
+use vq_board_actors::submitting::carrying;
 use vq_point::PointWord;
 
 /// Takes a reference to point 0 for operation 0, as soon as no one changes the point's word meanwhile. It
@@ -92,29 +95,29 @@ fn refer_both<R: Threads + Wait + Sync>(
 }
 
 /// What the point's word says once each pass has given back what it took.
-fn word_after<R: Threads + Wait + Sync>(rt: &R, alloc: Global) -> Option<PointWord> {
-    let (board, passes) = opened(alloc)?;
-    let Passes {
-        host: _,
-        submits: _,
-        rings,
-        shelves,
-    } = passes;
-    let (first, second) = both_rings(&board, rings)?;
-    let mut shelf = shelf(&board, shelves)?;
-    if !take_first(&board, &mut shelf) || refer_both(rt, &board, first, second) != (true, true) {
+fn word_after<R: Threads + Wait + Sync>(
+    rt: &R,
+    board: &Board,
+    passes: &mut Passes,
+) -> Option<PointWord>
+    requires plan { IsOfThreeSignals (plan_of board.now) }
+    requires passes { AreNew board.now passes.old }
+{
+    let (first, second) = both_rings(board, &mut passes.rings)?;
+    let mut shelf = shelf(board, &mut passes.shelves)?;
+    if !take_first(board, &mut shelf) || refer_both(rt, board, first, second) != (true, true) {
         return None;
     }
     Some(board.look(&mut shelf, 0))
 }
 
+/// The same on a board of its own.
+fn last_word<R: Threads + Wait + Sync>(rt: &R, alloc: Global) -> Option<PointWord> {
+    let (board, mut passes) = opened(alloc, Scene::Signaling)?;
+    word_after(rt, &board, &mut passes)
+}
+
 #[test]
 fn references_are_given_back(rt: HostRuntime) {
-    let word = PointWord {
-        op: 0,
-        refs: 0,
-        signaled: false,
-        held: true,
-    };
-    assert!(rt; word_after(&rt, rt.alloc()) == Some(word));
+    assert!(rt; last_word(&rt, rt.alloc()) == Some(carrying(0, 0, false)));
 }

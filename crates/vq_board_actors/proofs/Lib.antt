@@ -1,0 +1,6 @@
+mod Asks
+mod Binds
+mod Chains
+mod SeenMade
+mod Shares
+mod Waits

@@ -1,5 +1,0 @@
-use Rattle.std.proofs.Common.{◌≡◌}
-use Rattle.vq_board_bench.proofs.bare_row.BareBatches.retire.Given as goal
-
-abbrev pub invariant-loop-j : goal.invariant-loop-j
-invariant-loop-j l = l.seat.table_id ≡ l.self.bare.table.shared.table_id

@@ -1,6 +1,0 @@
-use Rattle.std.proofs.Common.{◌≡◌, length, map}
-use Rattle.vq_model.specs.Ranges.{Fits}
-use Rattle.vq_board_bench.proofs.bare_row.BareBatches.run_all.Given as goal
-
-abbrev pub invariant-loop-j : goal.invariant-loop-j
-invariant-loop-j l = (l.seat.table_id ≡ l.self.bare.table.shared.table_id) × Fits (map length l.buffers) l.command

@@ -1,5 +1,0 @@
-use Rattle.vq_board_bench.specs.Idle.{IsWorker}
-use Rattle.vq_board_bench.proofs.steps.recalls.Given as goal
-
-abbrev pub invariant-loop : goal.invariant-loop
-invariant-loop l = IsWorker l.board l.pass
