@@ -1,0 +1,4 @@
+mod Asked
+mod Chain
+mod Looks
+mod Waits

@@ -1,0 +1,5 @@
+use Rattle.vq_board_example.specs.Holders.{Runs}
+use Rattle.vq_board_example.proofs.rings.take_turn.Given as goal
+
+abbrev pub invariant-loop : goal.invariant-loop
+invariant-loop g l = Runs l.board l.ring l.job 0 0

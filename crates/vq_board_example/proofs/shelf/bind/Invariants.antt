@@ -1,0 +1,6 @@
+use Rattle.std.proofs.Common.{[]}
+use Rattle.vq_board_example.specs.Holders.{HasPoint}
+use Rattle.vq_board_example.proofs.shelf.bind.Given as goal
+
+abbrev pub invariant-loop : goal.invariant-loop
+invariant-loop g l = HasPoint l.board l.shelf l.point [] []

@@ -1,0 +1,2 @@
+pub mod FillAndCopy
+pub mod Holders
