@@ -105,7 +105,8 @@ class Asked:
             self.page.note(f'{self.called(i)} comes before {self.called(j)}: it {why}')
         more = len(self.order.before[j]) - len(said)
         if more:
-            self.page.note(f'through these {more} more come{"s" if more == 1 else ""} before {self.called(j)}')
+            jobs = '1 job more comes' if more == 1 else f'{more} jobs more come'
+            self.page.note(f'through these {jobs} before {self.called(j)}')
 
 
 def asked_or_none(page, is_scheduled):
