@@ -25,16 +25,23 @@ class Failure(Exception):
 class Words(argparse.ArgumentParser):
     """The words of a command line, with --help and --version. Other words get a usage line and the status 1."""
 
-    def __init__(self, text, name):
+    def __init__(self, text):
+        """Of a text the first part says what the tool does, the second is its usage, and the rest says more."""
         short, _, rest = text.partition('\n\n')
         usage, _, rest = rest.partition('\n\n')
-        super().__init__(prog=name, usage=usage.replace('\n', '\n       '), description=short, epilog=rest,
+        name = own_name()
+        usage = '\n       '.join(f'{name} {line.split(" ", 1)[1]}' for line in usage.split('\n'))
+        super().__init__(prog=name, usage=usage, description=short, epilog=rest,
                          formatter_class=argparse.RawDescriptionHelpFormatter, allow_abbrev=False)
         Failure.usage = f'\nusage: {self.usage}'
         self.add_argument('--version', action='version', version=f'{name} {VERSION}')
 
     def error(self, message):
         raise Failure(WORDS, message)
+
+
+def own_name():
+    return os.path.basename(sys.argv[0])
 
 
 def find_program(named):
@@ -73,8 +80,9 @@ def write(text):
     sys.stdout.write(text)
 
 
-def run(name, main):
+def run(main):
     """Runs a tool, and ends the process: a failure is one line, and never a traceback."""
+    name = own_name()
     try:
         status = main()
         sys.stdout.flush()

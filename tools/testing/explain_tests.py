@@ -122,11 +122,13 @@ def formats(tests):
 
 def several(tests):
     """Several faults of one script, and several scripts."""
-    script = lines('buffer X 8|timeline A 0|fence F|queue P threaded|queue Q threaded|submit P|fill X 4 8 1|signal A 1|'
-                   'fence F|end|submit Q|update X 0 0x01020304|signal A 2|end|host fence reset F|foo|submit Q|wait A 9|end')
+    script = lines('buffer X 8|timeline A 0|fence F|queue P threaded|queue Q threaded|submit P|fill X 4 8 1|'
+                   'signal A 1|fence F|end|submit Q|update X 0 0x01020304|signal A 2|end|host fence reset F|foo|'
+                   'submit Q|wait A 9|end')
     done = tests.tool('explain', '--faults', '20', '--format', 'json', data=script.encode())
     kinds = [fault['kind'] for fault in json.loads(done.stdout)['faults']]
-    tests.check('several faults', kinds == ['range', 'number', 'syntax', 'unreachable', 'unordered', 'fence busy'], kinds)
+    wanted = ['range', 'number', 'syntax', 'unreachable', 'unordered', 'fence busy']
+    tests.check('several faults', kinds == wanted, kinds)
     one, other = tests.write('one.vq', 'buffer X 4\n'), tests.write('other.vq', 'buffer X 0\n')
     done = tests.tool('explain', one, '/nowhere', other, '-', data=b'buffer\n')
     said = done.stdout.decode()
