@@ -2,10 +2,10 @@
 
 
 class Edit:
-    """One change: `insert` puts a line before another, `replace` and `delete` change a line."""
+    """One change: `insert` puts a line before another, `replace` and `delete` change a line, whose old text is kept."""
 
-    def __init__(self, what, line, text=None):
-        self.what, self.line, self.text = what, line, text
+    def __init__(self, what, line, text=None, old=None):
+        self.what, self.line, self.text, self.old = what, line, text, old
 
 
 def insert(line, text):
@@ -78,10 +78,13 @@ class Draft:
         """The edits of these lines that give a later draft, with the numbers that lines had at first."""
         places = {key: place for place, key in enumerate(self.keys, 1)}
         kept = set(other.keys)
-        edits = [delete(self.near(place)) for key, place in places.items() if key not in kept]
+        texts = [line.decode('latin-1') for line in self.lines]
+        edits = [Edit('delete', self.near(place), None, texts[place - 1])
+                 for key, place in places.items() if key not in kept]
         for place, (key, line) in enumerate(zip(other.keys, other.lines), 1):
+            text = line.decode('latin-1')
             if key not in places:
-                edits.append(insert(other.near(place), line.decode('latin-1')))
-            elif line != self.lines[places[key] - 1]:
-                edits.append(replace(self.near(places[key]), line.decode('latin-1')))
+                edits.append(insert(other.near(place), text))
+            elif text != texts[places[key] - 1]:
+                edits.append(Edit('replace', self.near(places[key]), text, texts[places[key] - 1]))
         return sorted(edits, key=lambda edit: (edit.line, edit.what != 'insert'))

@@ -142,12 +142,13 @@ def order(line):
         return [[(f'move it up, before line {line.at(first)}', [insert(first, text), delete(line.number)])]]
     batch = reader.batch
     if line.form == 'batch_fence' and batch.fence:
-        end = next(number for number in range(line.number, len(line.page.lines) + 1)
-                   if line.page.lines[number - 1].split('#')[0].split() == ['end'])
         queue = line.page.lines[batch.line - 1].split()[1]
-        return [[('submit an empty batch behind it that names this fence',
-                  [delete(line.number)] + [insert(end + 1, part) for part in (f'submit {queue}', text, 'end')])],
-                [('take the line out', [delete(line.number)])]]
+        parts = [f'submit {queue}', text, 'end']
+        behind = [('submit an empty batch behind it that names this fence',
+                   [delete(line.number)] + [insert(number + 1, part) for part in parts])
+                  for number in range(line.number, len(line.page.lines) + 1)
+                  if line.page.lines[number - 1].split('#')[0].split() == ['end']]
+        return [behind[:1], [('take the line out', [delete(line.number)])]]
     part = PARTS[line.form]
     later = [number for number in range(batch.line + 1, line.number) if part_of(line, number) > part]
     return [[(f'move it up, before line {line.at(later[0])}', [insert(later[0], text), delete(line.number)])]]

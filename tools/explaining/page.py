@@ -1,7 +1,9 @@
 """What is said of one fault: the verdict, marks below lines of the script, remarks, and a mend."""
 
-# A line is shown up to this many columns.
-WIDE = 120
+import re
+
+# A line is shown up to this many columns, and a word of what is said up to so many letters.
+WIDE, WORD = 120, 60
 
 
 class Mark:
@@ -32,7 +34,7 @@ class Page:
         """Says something of a line, or of one of its words, counted from 0."""
         self.shown.add(line)
         start, end = self.columns(line, word)
-        self.marks.setdefault(line, []).append(Mark(text, start, end))
+        self.marks.setdefault(line, []).append(Mark(brief(text), start, end))
 
     def columns(self, line, word):
         if line > len(self.lines):
@@ -43,18 +45,18 @@ class Page:
         return spans[word] if word is not None and word < len(spans) else (spans[0][0], spans[-1][1])
 
     def note(self, text):
-        self.remarks.append(('note', text))
+        self.remarks.append(('note', brief(text)))
 
     def rule(self, text):
         self.remarks.append(('rule', text))
 
     def help(self, text):
         """A general help, for where no mend is offered."""
-        self.remarks.append(('help', text))
+        self.remarks.append(('help', brief(text)))
 
     def offer(self, mend):
         """A mend that was tried: it takes the place of the general help."""
-        self.remarks = [remark for remark in self.remarks if remark[0] != 'help'] + [('help', mend.text())]
+        self.remarks = [remark for remark in self.remarks if remark[0] != 'help'] + [('help', brief(mend.text()))]
         self.mend = mend
 
     def primary(self):
@@ -62,6 +64,11 @@ class Page:
         line = self.verdict.lines[-1] if self.verdict.lines else 1
         marks = self.marks.get(line, [])
         return self.draft.near(line), (marks[0].start if marks else 0) + 1
+
+
+def brief(text):
+    """A text without the ends of very long words of the script."""
+    return re.sub(rf'\S{{{WORD + 2},}}', lambda word: word[0][:WORD] + '..', text)
 
 
 def word_spans(line):

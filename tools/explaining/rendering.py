@@ -64,11 +64,10 @@ def mend_rows(page, margin):
     wide = len(margin)
     rows = [f'{margin} |']
     for edit in edits_of(page):
-        old = page.lines[edit.line - 1] if edit.line <= len(page.lines) else None
         if edit.what != 'insert':
-            rows.append(f'{edit.line:>{wide}} - {cut(old)}')
+            rows.append(f'{edit.line:>{wide}} - {cut(edit.old)}')
         if edit.what != 'delete':
-            place = f'    (before line {edit.line})' if old is not None else '    (at the end)'
+            place = f'    (before line {edit.line})' if edit.line != page.draft.keys[-1] else '    (at the end)'
             place = '' if edit.what == 'replace' else place
             rows.append(f'{edit.line if edit.what == "replace" else "":>{wide}} + {cut(edit.text)}{place}')
     return rows
@@ -90,7 +89,7 @@ def as_gcc(page):
     rows += [f'{page.path}:{line}:{column}: note: {text}' for kind, text in page.remarks if kind == 'help']
     for edit in edits_of(page):
         text = EDITS[edit.what]
-        rows.append(f'{page.path}:{edit.line}:1: note: {text}' + ('' if edit.text is None else f': {edit.text}'))
+        rows.append(f'{page.path}:{edit.line}:1: note: {text}' + ('' if edit.text is None else f': {cut(edit.text)}'))
     return '\n'.join(rows) + '\n'
 
 

@@ -83,6 +83,8 @@ def write(text):
 def run(main):
     """Runs a tool, and ends the process: a failure is one line, and never a traceback."""
     name = own_name()
+    for stream in (sys.stdout, sys.stderr):
+        stream.reconfigure(errors='backslashreplace')
     try:
         status = main()
         sys.stdout.flush()
