@@ -14,7 +14,7 @@ def page_of(trial, verdict, path, draft):
     """The page that explains a refusal."""
     page = Page(verdict, path, draft)
     if verdict.kind == 'too long':
-        page.rule(f'an input has at most 4,194,304 bytes; this one has {len(draft.data()):,}')
+        page.rule(f'an input has at most 4,194,304 bytes; this one has {trial.size:,}')
         page.help('shorten comments and blanks, or cut the script in two')
         return page
     if verdict.kind not in RANKS:

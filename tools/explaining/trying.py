@@ -35,7 +35,7 @@ class Trial:
     """Asks the program, and knows whether a script ends with a schedule."""
 
     def __init__(self, program, data):
-        self.program = program
+        self.program, self.size = program, len(data)
         self.is_scheduled = has_schedule(data)
         self.parts = MOST_PARTS if len(data) < LARGE else 1
         self.most = max(LEAST_TRIES, min(MOST_TRIES, BYTES_TRIED // max(1, len(data))))
@@ -51,7 +51,9 @@ class Trial:
     def ask(self, data):
         words = ['--replay'] if self.is_scheduled else ['--check']
         done = subprocess.run([self.program, *words], input=data, capture_output=True, check=False)
-        return Verdict(done.returncode, done.stdout.decode('latin-1'))
+        # A signal counts as for a shell.
+        status = done.returncode if done.returncode >= 0 else 128 - done.returncode
+        return Verdict(status, done.stdout.decode('latin-1'))
 
 
 def has_schedule(data):

@@ -57,6 +57,7 @@ def lines(text):
 def test_explain(tests):
     tests.helps('explain')
     misuses(tests)
+    other_programs(tests)
     causes(tests)
     doubts(tests)
     formats(tests)
@@ -76,6 +77,17 @@ def misuses(tests):
     with open('/dev/full', 'wb') as full:
         done = tests.tool_to(full, 'explain', path)
     tests.check('explain on a full disk', done == 4, done)
+
+
+def other_programs(tests):
+    """A program that isn't vq, or that ends by a signal, is told of by its status."""
+    killed = tests.write('killed', '#!/bin/sh\nkill -KILL $$\n')
+    os.chmod(killed, 0o755)
+    race = os.path.join(TOP, 'examples', 'race.vq')
+    for program, status in (('/bin/false', 1), (killed, 137)):
+        for form in ('text', 'gcc', 'json'):
+            done = tests.tool('explain', '--vq', program, '--format', form, race, program=False)
+            tests.check(f'{program} for vq', done.returncode == status and not done.stderr, done)
 
 
 def causes(tests):
