@@ -1,5 +1,8 @@
-"""The program's verdicts, and the choice of a mend: each that is offered was tried on the program before."""
+"""The verdicts on a script, and the choice of a mend: each that is offered was tried before."""
 import subprocess
+
+from lowering import Refusal
+from reference import Script
 
 LINE_FAULTS = ('syntax', 'order', 'number', 'name', 'twice', 'range', 'overlap', 'limit')
 USE_FAULTS = ('no signal', 'signaled twice', 'fence used')
@@ -11,6 +14,8 @@ RANKS = {kind: 1 for kind in LINE_FAULTS} | {kind: 2 for kind in USE_FAULTS} | {
 MOST_PARTS, LARGE = 6, 20_000
 # So many mends are tried, of large scripts fewer: as many as make up so many bytes.
 MOST_TRIES, LEAST_TRIES, BYTES_TRIED = 64, 4, 1_000_000
+# The second reading is slower than the program.
+BYTES_READ = 100_000
 
 
 class Verdict:
@@ -32,13 +37,13 @@ class Verdict:
 
 
 class Trial:
-    """Asks the program, and knows whether a script ends with a schedule."""
+    """Asks the program, or the second reading where there is none; knows whether a script ends with a schedule."""
 
     def __init__(self, program, data):
         self.program, self.size = program, len(data)
         self.is_scheduled = has_schedule(data)
         self.parts = MOST_PARTS if len(data) < LARGE else 1
-        self.most = max(LEAST_TRIES, min(MOST_TRIES, BYTES_TRIED // max(1, len(data))))
+        self.most = max(LEAST_TRIES, min(MOST_TRIES, (BYTES_TRIED if program else BYTES_READ) // max(1, len(data))))
         self.tries = 0
 
     def has_tries(self):
@@ -49,11 +54,20 @@ class Trial:
         return Mend([text], draft, self.ask(draft.data()))
 
     def ask(self, data):
+        if self.program is None:
+            return self.read(data)
         words = ['--replay'] if self.is_scheduled else ['--check']
         done = subprocess.run([self.program, *words], input=data, capture_output=True, check=False)
         # A signal counts as for a shell.
         status = done.returncode if done.returncode >= 0 else 128 - done.returncode
         return Verdict(status, done.stdout.decode('latin-1'))
+
+    def read(self, data):
+        try:
+            Script(data, self.is_scheduled)
+        except Refusal as refusal:
+            return Verdict(2, f'error: {refusal}\n')
+        return Verdict(0, 'lawful\n')
 
 
 def has_schedule(data):

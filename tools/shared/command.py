@@ -45,7 +45,7 @@ def own_name():
 
 
 def find_program(named):
-    """The program vq: the one that was named, or the one beside this tool, in this clone or on the PATH."""
+    """The program vq: the one that was named, or the one beside this tool, in this clone or on the PATH; or None."""
     if named:
         found = shutil.which(named) or (shutil.which(os.path.abspath(named)))
         if not found:
@@ -55,9 +55,22 @@ def find_program(named):
     for path in [beside, *(os.path.join(TOP, path) for path in IN_A_CLONE)]:
         if os.path.isfile(path) and os.access(path, os.X_OK):
             return path
-    found = shutil.which('vq')
+    return shutil.which('vq')
+
+
+def needed_program(named):
+    found = find_program(named)
     if not found:
         raise Failure(WORDS, 'no program vq beside this tool or on the PATH: ./build makes it, or name it with --vq')
+    return found
+
+
+def program_or_reading(named):
+    """The program, or None where there is none: the second reading of the language stands in then, as is said."""
+    found = find_program(named)
+    if not found:
+        print(f'{own_name()}: no vq beside this tool or on the PATH, so this is told by a second reading of the '
+              'language, which isn\'t proved', file=sys.stderr)
     return found
 
 

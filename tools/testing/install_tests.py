@@ -51,6 +51,12 @@ def runs_from_the_path(tests, prefix):
     played = run(['vq-schedule', os.path.join(TOP, 'examples', 'copy.vq')]).stdout
     tests.check('vq-draw', run(['vq-draw'], run(['vq', '--replay'], played).stdout).stdout.startswith(b'<svg '))
     tests.check('its name', b'usage: vq-explain ' in run(['vq-explain', '--x']).stderr)
+    os.remove(os.path.join(prefix, 'bin', 'vq'))
+    alone = run(['vq-explain', race])
+    same = alone.stdout.startswith(b'error: race: lines 6 and 9') and b'+ signal order 1' in alone.stdout
+    tests.check('vq-explain without vq', same and alone.returncode == 2 and b'second reading' in alone.stderr, alone)
+    counted = run(['vq-schedule', '--all', '2', os.path.join(TOP, 'examples', 'fill.vq')])
+    tests.check('vq-schedule without vq', counted.returncode == 1 and b'usage: ' in counted.stderr, counted)
     completed = run(['bash', '-c', 'COMP_WORDS=(vq-explain --fo); COMP_CWORD=1; source ' + os.path.join(
         prefix, 'share/bash-completion/completions/vq-explain') + '; _vq_tool vq-explain; echo "${COMPREPLY[@]}"'])
     tests.check('completion', completed.stdout == b'--format\n', completed)
