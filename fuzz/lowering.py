@@ -1,4 +1,5 @@
 """A second reading of what a script asks for: its jobs, what each waits for and asks, and each semaphore's signals."""
+import bisect
 
 
 class Refusal(Exception):
@@ -64,8 +65,13 @@ class Plan:
         self.last = {}
         for written in reader.jobs:
             self.add(written)
-        self.chains = [sorted((e for e, op in enumerate(self.ops) if op.chain == t),
-                              key=lambda e: (self.ops[e].value, self.ops[e].line)) for t in range(len(self.kinds))]
+        self.chains = [[] for _ in self.kinds]
+        for e, op in enumerate(self.ops):
+            self.chains[op.chain].append(e)
+        for chain in self.chains:
+            chain.sort(key=lambda e: (self.ops[e].value, self.ops[e].line))
+        # The values along each chain.
+        self.values = [[self.ops[e].value for e in chain] for chain in self.chains]
 
     def add(self, written):
         job = Job(written.line, written.queue, written.kind)
@@ -146,7 +152,8 @@ class Plan:
 
     def resolver(self, t, value):
         """The first signal of a chain with this value or a greater one, or None."""
-        return next((e for e in self.chains[t] if self.ops[e].value >= value), None)
+        place = bisect.bisect_left(self.values[t], value)
+        return self.chains[t][place] if place < len(self.chains[t]) else None
 
     def awaited_signal(self, t, value):
         """The signal that a pair needs: None where the initial value is enough, or where nothing reaches the value."""

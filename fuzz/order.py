@@ -1,5 +1,27 @@
 """A second reading of what comes before what: the slow run, the jobs before each job, the signals sure for it."""
+import heapq
+
 from lowering import Refusal
+
+
+class Numbers:
+    """A set of small numbers: the bits of one integer, so that large sets are joined at once."""
+
+    def __init__(self, bits=0):
+        self.bits = bits
+
+    def __contains__(self, number):
+        return bool(self.bits >> number & 1)
+
+    def __len__(self):
+        return bin(self.bits).count('1')
+
+    def add(self, *numbers):
+        for number in numbers:
+            self.bits |= 1 << number
+
+    def join(self, other):
+        self.bits |= other.bits
 
 
 class Order:
@@ -51,14 +73,14 @@ class Order:
         # A path to a job leads through jobs that stand earlier in the slow run, so those have all theirs. What comes
         # before a job that is found already is found with it.
         for j in self.slow:
-            before, sure = set(), set()
+            before, sure = Numbers(), Numbers()
             edges = [(place[i], i, made) for i, made in self.edges(j) if i in place and place[i] < place[j]]
             for _, i, made in sorted(edges, reverse=True):
-                sure.update(made)
+                sure.add(*made)
                 if i not in before:
-                    before |= self.before[i]
+                    before.join(self.before[i])
                     before.add(i)
-                    sure |= self.sure[i]
+                    sure.join(self.sure[i])
             self.before[j], self.sure[j] = before, sure
 
     def unordered(self):
@@ -115,26 +137,60 @@ class Order:
 
 def slow_run(plan):
     """Again and again the lowest job that can start is done whole: the order, and the jobs that are left over."""
-    numbers, order, done, left = list(plan.initial), [], set(), list(range(len(plan.jobs)))
-    while True:
-        j = next((j for j in left if can_start(plan.jobs[j], done, numbers)), None)
-        if j is None:
-            return order, left
+    numbers, order, done = list(plan.initial), [], set()
+    parked = Parked(plan)
+    ready = []
+    for j in range(len(plan.jobs)):
+        parked.sort_in(ready, j, done, numbers)
+    while ready:
+        j = heapq.heappop(ready)
         order.append(j)
         done.add(j)
-        left.remove(j)
         raise_numbers(plan, j, numbers)
+        for other in parked.woken_by(j, numbers):
+            parked.sort_in(ready, other, done, numbers)
+    return order, [j for j in range(len(plan.jobs)) if j not in done]
 
 
-def can_start(job, done, numbers):
-    return (all(i is None or i in done for i in [job.previous, job.host_before, *job.idle_after])
-            and is_reached(job, numbers))
+class Parked:
+    """The jobs that can't start yet, each beside what it hangs on: a job before it, or a value of a chain."""
+
+    def __init__(self, plan):
+        self.plan = plan
+        self.behind = {}
+        self.below = [[] for _ in plan.chains]
+        self.ready = set()
+
+    def sort_in(self, ready, j, done, numbers):
+        """Puts a job where it belongs: to those that can start, or beside the first thing that it hangs on."""
+        job = self.plan.jobs[j]
+        firsts = [i for i in [job.previous, job.host_before, *job.idle_after] if i is not None and i not in done]
+        if firsts:
+            self.behind.setdefault(firsts[0], []).append(j)
+        elif is_reached(job, numbers):
+            if j not in self.ready:
+                self.ready.add(j)
+                heapq.heappush(ready, j)
+        else:
+            missing = [(value, t) for _, t, value in job.needs if numbers[t] < value]
+            for value, t in missing if job.any else missing[:1]:
+                heapq.heappush(self.below[t], (value, j))
+
+    def woken_by(self, j, numbers):
+        """The jobs that may go on now that one is done."""
+        woken = self.behind.pop(j, [])
+        for t in {self.plan.ops[e].chain for e in self.plan.jobs[j].signals}:
+            while self.below[t] and self.below[t][0][0] <= numbers[t]:
+                woken.append(heapq.heappop(self.below[t])[1])
+        return woken
 
 
 def is_reached(job, numbers):
     """Whether what a job waits for is there."""
     reached = [numbers[t] >= value for _, t, value in job.needs]
-    return any(reached) if job.any else all(reached)
+    if job.any:
+        return any(reached)
+    return all(reached)
 
 
 def unreached_lines(job, numbers):

@@ -60,6 +60,8 @@ SCHEDULE = [
     ('turns', ['actor']),
     ('turns', ['actor', 'numeral']),
 ]
+# The places that take a name.
+NAMED = ['new'] + [f'{kind} name' for kind in ('buffer', 'timeline', 'binary', 'fence', 'queue')]
 DECLARATIONS = ('buffer', 'timeline', 'binary', 'fence', 'queue')
 PARTS = {'wait': 1, 'fill_whole': 2, 'fill': 2, 'update': 2, 'copy': 2, 'signal': 3, 'batch_fence': 4, 'end': 5}
 
@@ -124,10 +126,11 @@ class Reader:
         form, places = self.form(words)
         if form is None:
             raise Fault('syntax')
-        at = list(zip(places, words))
-        if any(isinstance(place, str) and (place == 'new' or place.endswith(' name')) and not NAME.fullmatch(word)
-               or place == 'actor' and not ACTOR.fullmatch(word) for place, word in at):
-            raise Fault('syntax')
+        # What the places take, without the words that stand for themselves.
+        at = [(place, word) for place, word in zip(places, words) if isinstance(place, str)]
+        for place, word in at:
+            if place in NAMED and not NAME.fullmatch(word) or place == 'actor' and not ACTOR.fullmatch(word):
+                raise Fault('syntax')
         if form in DECLARATIONS and (self.jobs or self.batch):
             raise Fault('order')
         if self.batch and (PARTS[form] < self.part or form == 'batch_fence' and self.batch.fence):
@@ -144,7 +147,7 @@ class Reader:
                 found, queue = self.names.get(word[2:], ('', 0))
                 if found != 'queue' or word[:1] == b'S' and self.queues[queue] != b'threaded':
                     raise Fault('name')
-            if isinstance(place, str) and place.endswith(' name') and self.names.get(word, ('', 0))[0] != place[:-5]:
+            if place.endswith(' name') and self.names.get(word, ('', 0))[0] != place[:-5]:
                 raise Fault('name')
         if any(place == 'new' and word in self.names for place, word in at):
             raise Fault('twice')
@@ -170,6 +173,8 @@ class Reader:
 
     def form(self, words):
         for form, places in self.forms():
+            if places[0] not in (words[0], 'actor'):
+                continue
             if places[-1] == 'pairs':
                 places = places[:-1] + ['timeline name', 'numeral'] * max(1, (len(words) - len(places) + 1) // 2)
             if len(places) == len(words) and all(

@@ -1,51 +1,122 @@
 """Faults in the use of binary semaphores and fences: all uses up to the faulty one, in the order of the lines."""
+from draft import delete, insert, replace
 from reference import Reader
 
-USE_FAULTS = ('no signal', 'signaled twice', 'fence used')
 RULES = {
-    'no signal': 'a wait of a binary semaphore takes an earlier signal that no earlier wait took (Vulkan, vkQueueSubmit)',
+    'no signal': 'a wait of a binary semaphore takes an earlier signal that no earlier wait took (Vulkan, '
+                 'vkQueueSubmit)',
     'signaled twice': 'a binary semaphore is unsignaled when it is signaled: a wait stands between two signals '
                       '(Vulkan, vkQueueSubmit)',
     'fence used': 'a fence that a batch names is unsignaled and not in use (Vulkan, vkQueueSubmit)',
 }
-MENDS = {
+HELPS = {
     'no signal': 'submit the batch that signals it first, or use a timeline, which may be waited for '
                  'before it is signaled, and by many',
     'signaled twice': 'let a batch wait for it in between, or use two semaphores',
     'fence used': 'let the host wait for the fence and reset it in between (`host fence wait`, `host fence reset`), or '
                   'declare another fence',
 }
+FAULTY = {'no signal': 'waits, and no signal is left for it', 'signaled twice': 'signals again',
+          'fence used': 'names it again'}
 
 
-def explain_use(page, kind, number, data, is_scheduled):
-    reader = Reader(is_scheduled)
-    reader.read_all(data)
-    uses = uses_of(reader)
-    semaphore = next(semaphore for line, semaphore, _, _ in uses if line == number)
-    count = 0
-    for line, other, what, job in uses:
-        if other != semaphore or line > number:
-            continue
-        count += 1
-        page.show(job.line)
-        page.mark(line, what if line < number else {
-            'no signal': 'waits, and no signal is left for it', 'signaled twice': 'signals again',
-            'fence used': 'names it again'}[kind])
-    if count == 1:
-        page.note('no earlier line names it')
-    page.rule(RULES[kind])
-    page.mend(MENDS[kind])
+class Use:
+    """A use of a semaphore: its line, what it does, and the job."""
+
+    def __init__(self, line, semaphore, what, job):
+        self.line, self.semaphore, self.what, self.job = line, semaphore, what, job
+
+
+class Uses:
+    def __init__(self, page, is_scheduled):
+        self.page, self.kind, [self.number] = page, page.verdict.kind, page.verdict.lines
+        self.reader = Reader(is_scheduled)
+        self.reader.read_all(page.draft.data())
+        uses = uses_of(self.reader)
+        semaphore = next(use.semaphore for use in uses if use.line == self.number)
+        self.uses = [use for use in uses if use.semaphore == semaphore]
+        self.name = next(name.decode() for name, (kind, number) in self.reader.names.items()
+                         if number == semaphore and kind not in ('buffer', 'queue'))
+
+    def faulty(self):
+        return next(use for use in self.uses if use.line == self.number)
 
 
 def uses_of(reader):
-    """The uses of semaphores in the order of lines: the line, the semaphore, what it does, and the job."""
+    """The uses of semaphores in the order of lines."""
     found = []
     for job in reader.jobs:
         if job.queue is None:
-            found += [(job.line, t, f'`{job.kind}`', job) for t, _ in job.pairs]
+            found += [Use(job.line, t, f'`{job.kind}`', job) for t, _ in job.pairs]
             continue
-        found += [(line, t, 'waits for it', job) for line, t, _ in job.waits]
-        found += [(line, t, 'signals it', job) for line, t, _ in job.signals]
+        found += [Use(line, t, 'waits for it', job) for line, t, _ in job.waits]
+        found += [Use(line, t, 'signals it', job) for line, t, _ in job.signals]
         if job.fence:
-            found.append((job.fence[0], job.fence[1], 'names it: it is signaled when this batch is done', job))
+            found.append(Use(job.fence[0], job.fence[1], 'names it: it is signaled when this batch is done', job))
     return found
+
+
+def explain_use(page, uses):
+    earlier = [use for use in uses.uses if use.line < uses.number]
+    for use in earlier[-8:] + [uses.faulty()]:
+        page.show(use.job.line)
+        page.mark(use.line, use.what if use.line < uses.number else FAULTY[uses.kind])
+    if not earlier:
+        page.note('no earlier line names it')
+    elif len(earlier) > 8:
+        page.note(f'{len(earlier) - 8} earlier uses aren\'t shown')
+    page.rule(RULES[uses.kind])
+    page.help(HELPS[uses.kind])
+
+
+# Mends, in groups, the best ones first: each is what to do, and the edits.
+
+def use_mends(verdict, uses):
+    return {'no signal': no_signal, 'signaled twice': signaled_twice, 'fence used': fence_used}[verdict.kind](uses)
+
+
+def left_out(uses):
+    return [(f'leave out line {uses.page.at(uses.number)}', [delete(uses.number)])]
+
+
+def no_signal(uses):
+    return [as_timeline(uses), left_out(uses)]
+
+
+def signaled_twice(uses):
+    again, name = uses.faulty(), uses.name
+    before = [use for use in uses.uses if use.line < uses.number][-1]
+    waits = [] if before.job is again.job else [
+        (f'let the batch at line {uses.page.at(again.job.line)} wait for {name}',
+         [insert(again.job.line + 1, f'wait {name}')])]
+    return [waits, as_timeline(uses), left_out(uses)]
+
+
+def as_timeline(uses):
+    """The binary semaphore as a timeline, which each signal raises by one."""
+    signals = [use for use in uses.uses if use.what == 'signals it']
+    if not signals:
+        return []
+    declared = next(line for line, text in enumerate(uses.page.lines, 1)
+                    if text.split('#')[0].split() == ['binary', uses.name])
+    edits, value, waited = [replace(declared, f'timeline {uses.name} 0')], 0, 0
+    for use in uses.uses:
+        if use.what == 'signals it':
+            value += 1
+            edits.append(replace(use.line, f'signal {uses.name} {value}'))
+        else:
+            waited = min(max(value, waited + (value <= waited)), len(signals))
+            edits.append(replace(use.line, f'wait {uses.name} {max(1, waited)}'))
+    return [(f'make {uses.name} a timeline: it may be waited for before it is signaled, and by many', edits)]
+
+
+def fence_used(uses):
+    again, name, page = uses.faulty(), uses.name, uses.page
+    first = again.job.line
+    names = [f'{name[:12]}_{number}' for number in range(2, 300)]
+    other = next(tried for tried in names if tried.encode() not in uses.reader.names)
+    return [[(f'let the host wait for {name} and reset it before line {page.at(first)}',
+              [insert(first, f'host fence wait {name}'), insert(first, f'host fence reset {name}')])],
+            [(f'name another fence, {other}, in line {page.at(uses.number)}',
+              [insert(uses.reader.jobs[0].line, f'fence {other}'), replace(uses.number, f'fence {other}')])],
+            left_out(uses)]

@@ -1,0 +1,117 @@
+"""A script whose order is explained: its plan, its order, and how its jobs and signals are called."""
+from lowering import Plan, Refusal
+from order import Order
+from reference import Reader
+
+
+class Asked:
+    def __init__(self, page, is_scheduled):
+        self.page, self.at = page, page.at
+        self.reader = Reader(is_scheduled)
+        self.reader.read_all(page.draft.data())
+        self.plan = Plan(self.reader)
+        self.order = Order(self.plan)
+        self.queues, self.buffers = ({number: name.decode() for name, (kind, number) in self.reader.names.items()
+                                      if kind == wanted} for wanted in ('queue', 'buffer'))
+        # The first and the last line of each job.
+        self.first = [job.line for job in self.plan.jobs]
+        self.last = []
+        ends = [line for line, text in enumerate(page.lines, 1) if text.split('#')[0].split() == ['end']]
+        ends.reverse()
+        for job in self.plan.jobs:
+            self.last.append(job.line if job.queue is None else ends.pop())
+
+    # What things are called.
+
+    def called(self, j):
+        job = self.plan.jobs[j]
+        if job.queue is None:
+            return f'`{job.kind}` of line {self.at(job.line)}'
+        return f'the batch of {self.queues[job.queue]} at line {self.at(job.line)}'
+
+    def signal(self, e):
+        op = self.plan.ops[e]
+        name = self.plan.names[op.chain]
+        if self.plan.kinds[op.chain] == 'timeline':
+            return f'the signal of {name} {op.value} at line {self.at(op.line)}'
+        if self.plan.kinds[op.chain] == 'fence':
+            return f'{name}, which line {self.at(op.line)} names'
+        return f'the signal of {name} at line {self.at(op.line)}'
+
+    def show(self, j):
+        self.page.show(self.first[j], self.last[j])
+
+    def job_at(self, line):
+        return next(j for j in range(len(self.first)) if self.first[j] <= line <= self.last[j])
+
+    # What is where.
+
+    def is_immediate(self, j):
+        job = self.plan.jobs[j]
+        return job.queue is not None and self.plan.modes[job.queue] == b'immediate'
+
+    def is_before(self, i, j):
+        return i in self.order.before.get(j, ())
+
+    def is_behind(self, p, i):
+        """Whether job p is i, or comes behind it."""
+        return p == i or self.is_before(i, p)
+
+    def words(self, line):
+        return self.page.lines[line - 1].split('#')[0].split()
+
+    def declared(self, name):
+        """The line that declares a name."""
+        return next(line for line in range(1, len(self.page.lines) + 1) if self.words(line)[1:2] == [name])
+
+    def fresh(self, name):
+        """A name that is free."""
+        number, tried = 1, name
+        while tried.encode() in self.reader.names:
+            number += 1
+            tried = f'{name}_{number}'
+        return tried
+
+    def highest(self, t):
+        return max([self.plan.initial[t]] + self.plan.values[t][-1:])
+
+    # What comes before a job.
+
+    def links(self, j):
+        """What leads to a job at once: the other job, and why."""
+        job = self.plan.jobs[j]
+        if job.previous is not None:
+            why = 'comes before it in the host\'s lines' if job.queue is None else 'comes before it in its queue'
+            yield job.previous, why
+        if job.host_before is not None:
+            yield job.host_before, 'is the last host line before it'
+        for i in job.idle_after:
+            yield i, 'is the last batch of its queue before `host idle`'
+        for line, t, value in [] if job.any else job.needs:
+            e = self.plan.awaited_signal(t, value)
+            if e is not None:
+                yield self.plan.ops[e].job, f'is waited for at line {self.at(line)}, by {self.signal(e)}'
+
+    def note_before(self, j):
+        """Says what comes before a job at once, and how many jobs more."""
+        said = {}
+        for i, why in self.links(j):
+            if self.is_before(i, j):
+                said.setdefault(i, why)
+        if not said:
+            self.page.note(f'nothing comes before {self.called(j)}')
+            return
+        for i, why in list(said.items())[:4]:
+            self.page.note(f'{self.called(i)} comes before {self.called(j)}: it {why}')
+        more = len(self.order.before[j]) - len(said)
+        if more:
+            jobs = '1 job more comes' if more == 1 else f'{more} jobs more come'
+            self.page.note(f'through these {jobs} before {self.called(j)}')
+
+
+def asked_or_none(page, is_scheduled):
+    """None where the script can't be read or lowered."""
+    try:
+        return Asked(page, is_scheduled)
+    except Refusal:
+        return None

@@ -1,0 +1,94 @@
+"""Mends that put one job behind another: each is what to do, and the edits."""
+from draft import delete, insert, replace
+
+# So many signals are tried, where many would do.
+MOST_SIGNALS = 4
+
+
+class Behind:
+    """Ways to put job j behind job i, or behind one signal of it."""
+
+    def __init__(self, asked, i, j):
+        self.asked, self.plan, self.i, self.j = asked, asked.plan, i, j
+        self.job = asked.plan.jobs[j]
+
+    def is_open(self):
+        return self.i != self.j and not self.asked.is_before(self.j, self.i)
+
+    def groups(self):
+        """All ways: by what is signaled already, by a timeline of its own, and by an idle host."""
+        if not self.is_open():
+            return []
+        return [self.given(), self.fences(), self.of_its_own(), self.idle()]
+
+    def given(self, only=None):
+        """Waits for timelines' signals that stand there: of the job itself first, then of jobs behind it."""
+        asked, plan = self.asked, self.plan
+        ops = [op for op in plan.ops if plan.kinds[op.chain] == 'timeline' and asked.is_behind(op.job, self.i)
+               and op.job != self.j and not asked.is_before(self.j, op.job) and op.value > plan.initial[op.chain]]
+        if only is not None:
+            ops = [plan.ops[only]]
+        ops.sort(key=lambda op: (op.job != self.i, op.line))
+        return [mend for op in ops[:MOST_SIGNALS] for mend in self.wait_for(op)]
+
+    def wait_for(self, op):
+        """The ways to wait for one signal: a wait of that timeline is raised, or one is put in."""
+        asked, name = self.asked, self.plan.names[op.chain]
+        held, why = f'{name} {op.value}', f'line {asked.at(op.line)} signals that'
+        if self.job.queue is None or asked.is_immediate(self.j):
+            if op.job < self.j:
+                yield (f'let the host wait for {held} before {asked.called(self.j)}: {why}',
+                       [insert(self.job.line, f'host wait all {held}')])
+            return
+        for line, t, value in self.job.needs:
+            if t == op.chain and value < op.value:
+                yield f'wait for {held} at line {asked.at(line)}: {why}', [replace(line, f'wait {held}')]
+        yield (f'let {asked.called(self.j)} wait for {held}: {why}', [insert(self.job.line + 1, f'wait {held}')])
+
+    def fences(self):
+        """Host's waits for fences of batches that come no sooner, while these are in use."""
+        asked, plan, found = self.asked, self.plan, []
+        for e, op in enumerate(plan.ops):
+            if (plan.kinds[op.chain] == 'fence' and asked.is_behind(op.job, self.i) and op.job < self.j
+                    and not any(done == e and h < self.j for h, done in plan.resets)):
+                name = plan.names[op.chain]
+                text = f'let the host wait for {name} before {asked.called(self.j)}: line {asked.at(op.line)} names it'
+                found.append((text, [insert(self.job.line, f'host fence wait {name}')]))
+        return found[:MOST_SIGNALS]
+
+    def of_its_own(self):
+        """A timeline for this order alone."""
+        asked, name = self.asked, self.asked.fresh('order')
+        declared = insert(asked.first[0], f'timeline {name} 0')
+        first = asked.reader.jobs[self.i]
+        if first.queue is None:
+            signal, who = insert(asked.last[self.i] + 1, f'host signal {name} 1'), 'the host'
+        else:
+            signal = insert(first.fence[0] if first.fence else asked.last[self.i], f'signal {name} 1')
+            who = asked.called(self.i)
+        if self.job.queue is None or asked.is_immediate(self.j):
+            if self.i > self.j:
+                return []
+            wait, waits = insert(self.job.line, f'host wait all {name} 1'), f'the host before {asked.called(self.j)}'
+        else:
+            wait, waits = insert(self.job.line + 1, f'wait {name} 1'), asked.called(self.j)
+        return [(f'let {who} signal a timeline {name}, and {waits} wait for it', [declared, signal, wait])]
+
+    def idle(self):
+        if self.i > self.j:
+            return []
+        text = f'let the host wait for idle before {self.asked.called(self.j)}'
+        return [(text, [insert(self.job.line, 'host idle')])]
+
+
+def woven(*ways):
+    """Groups of several lists of groups, taken side by side: what fits first of any comes first."""
+    longest = max(len(groups) for groups in ways)
+    return [[mend for groups in ways if place < len(groups) for mend in groups[place]] for place in range(longest)]
+
+
+def moved_behind(asked, h, j):
+    """A line of the host, behind job j."""
+    line = asked.plan.jobs[h].line
+    return (f'move line {asked.at(line)} behind {asked.called(j)}',
+            [delete(line), insert(asked.last[j] + 1, asked.page.lines[line - 1])])

@@ -1,0 +1,196 @@
+"""Mends of faults of the order, in groups, the best ones first: each is what to do, and the edits."""
+from behind import Behind, moved_behind, woven
+from draft import delete, insert, replace
+
+
+def order_mends(verdict, asked):
+    return {'unreachable': unreachable, 'unordered': unordered, 'fence busy': fence_busy, 'not pending': not_pending,
+            'race': race}[verdict.kind](asked, *verdict.lines)
+
+
+def race(asked, first, second):
+    i, j = asked.job_at(first), asked.job_at(second)
+    return woven(Behind(asked, i, j).groups(), Behind(asked, j, i).groups())
+
+
+# Signals.
+
+def unordered(asked, first, second):
+    plan = asked.plan
+    at = {op.line: e for e, op in enumerate(plan.ops)}
+    if first == second:
+        return [raised(asked, at[first], plan.initial[plan.ops[at[first]].chain])]
+    if first not in at:
+        return Behind(asked, asked.job_at(first), asked.job_at(second)).groups()
+    e, after = sorted((at[first], at[second]), key=lambda e: (plan.ops[e].value, plan.ops[e].line))
+    low, high = plan.ops[e], plan.ops[after]
+    if low.job == high.job:
+        text = f'signal {plan.names[low.chain]} {high.value} alone: it reaches each wait for {low.value} too'
+        return [[(text, [delete(low.line)])]]
+    if low.value == high.value:
+        return equal_values(asked, e, after)
+    if asked.is_before(high.job, low.job):
+        return [raised(asked, e, high.value), [left_out(asked, low.line)]]
+    return apart(asked, e, after)
+
+
+def raised(asked, e, above):
+    """A signal with a value above another one: just above, or above all of its timeline."""
+    op, name = asked.plan.ops[e], asked.plan.names[asked.plan.ops[e].chain]
+    values = dict.fromkeys([above + 1, asked.highest(op.chain) + 1])
+    return [(f'signal a value above {above} in line {asked.at(op.line)}',
+             [replace(op.line, signal_line(asked, op, f'{name} {value}'))]) for value in values if value < 2 ** 64]
+
+
+def signal_line(asked, op, held):
+    return f'host signal {held}' if asked.plan.jobs[op.job].queue is None else f'signal {held}'
+
+
+def equal_values(asked, e, after):
+    """Two signals of one value: the second one is raised, behind the first."""
+    if asked.is_before(asked.plan.ops[after].job, asked.plan.ops[e].job):
+        e, after = after, e
+    low, high = asked.plan.ops[e], asked.plan.ops[after]
+    lifted = raised(asked, after, low.value)
+    behind = Behind(asked, low.job, high.job)
+    ways = [behind.given(only=e), behind.of_its_own()] if behind.is_open() else []
+    both = [[(f'{text}, and {wait}', edits + more) for text, edits in lifted for wait, more in way] for way in ways]
+    return [lifted, *both, [left_out(asked, high.line)]]
+
+
+def apart(asked, e, after):
+    """Two signals of which the greater one may come first."""
+    low, high = asked.plan.ops[e], asked.plan.ops[after]
+    behind = Behind(asked, low.job, high.job)
+    if not behind.is_open():
+        return [raised(asked, e, high.value)]
+    at_least = [behind.given(only=e)] + behind.groups()
+    # Or the other way round: the smaller one is raised above the greater one, behind it.
+    turned = Behind(asked, high.job, low.job)
+    waits = turned.given(only=after) if turned.is_open() else []
+    both = [(f'{text}, and {wait}', edits + more)
+            for text, edits in raised(asked, e, high.value) for wait, more in waits]
+    return at_least + [both, another_timeline(asked, high)]
+
+
+def another_timeline(asked, op):
+    """A timeline of its own for one signal and for the waits that it alone reaches."""
+    plan, name = asked.plan, asked.fresh(f'{asked.plan.names[op.chain]}'[:12] + '_own')
+    edits = [insert(asked.first[0], f'timeline {name} 0'),
+             replace(op.line, signal_line(asked, op, f'{name} {op.value}'))]
+    for job in plan.jobs:
+        for line, t, value in job.needs:
+            e = plan.awaited_signal(t, value)
+            if t == op.chain and e is not None and plan.ops[e] is op:
+                if job.queue is None:
+                    return []
+                edits.append(replace(line, f'wait {name} {value}'))
+    return [(f'signal a timeline of its own, {name}, in line {asked.at(op.line)}', edits)]
+
+
+# Fences, and queues that hold nothing back.
+
+def fence_busy(asked, line):
+    h = asked.job_at(line)
+    name = asked.words(line)[3]
+    return [[(f'let the host wait for {name} before line {asked.at(line)}', [insert(line, f'host fence wait {name}')])],
+            [(f'let the host wait for idle before line {asked.at(line)}', [insert(line, 'host idle')])],
+            [(f'leave out line {asked.at(asked.plan.jobs[h].line)}', [delete(line)])]]
+
+
+def not_pending(asked, line):
+    j, plan = asked.job_at(line), asked.plan
+    t, value = next((t, value) for at, t, value in plan.jobs[j].needs if at == line)
+    op = plan.ops[plan.awaited_signal(t, value)]
+    submit = plan.jobs[j].line
+    groups = []
+    if op.job < j and plan.kinds[t] == 'timeline':
+        held = f'{plan.names[t]} {op.value}'
+        groups.append([(f'let the host wait for {held} before {asked.called(j)}',
+                        [insert(submit, f'host wait all {held}')])])
+    queue = asked.queues[plan.jobs[j].queue]
+    at = asked.declared(queue)
+    groups.append([(f'make {queue} {mode}', [replace(at, f'queue {queue} {mode}')])
+                   for mode in ('deferred', 'threaded')])
+    groups.append([(f'let the host wait for idle before {asked.called(j)}', [insert(submit, 'host idle')])])
+    return groups
+
+
+# Waits that nothing reaches.
+
+def unreachable(asked, line):
+    plan, j = asked.plan, asked.job_at(line)
+    job, words = plan.jobs[j], asked.words(line)
+    numbers = reached_numbers(asked)
+    groups = []
+    if job.queue is None:
+        groups += host_wait_moved(asked, j, numbers)
+    if words[0] == 'wait' and plan.kinds[need(job, line)[0]] == 'timeline':
+        t, value = need(job, line)
+        least = {numbers[t], own_floor(asked, j, t)}
+        groups.append([(f'wait for less: {plan.names[t]} is brought to {less}',
+                        [replace(line, f'wait {plan.names[t]} {less}')])
+                       for less in sorted(least, reverse=True) if plan.initial[t] < less < value])
+        groups.append(signal_in_reach(asked, j, t, value))
+    elif job.kind in ('host wait all', 'host wait any'):
+        groups.append(fewer_pairs(asked, job, numbers))
+    groups.append([left_out(asked, line)])
+    return groups
+
+
+def need(job, line):
+    return next((t, value) for at, t, value in job.needs if at == line)
+
+
+def left_out(asked, line):
+    return f'leave out line {asked.at(line)}', [delete(line)]
+
+
+def reached_numbers(asked):
+    """What the payloads come to."""
+    numbers = list(asked.plan.initial)
+    for j in asked.order.slow:
+        for e in asked.plan.jobs[j].signals:
+            op = asked.plan.ops[e]
+            numbers[op.chain] = max(numbers[op.chain], op.value)
+    return numbers
+
+
+def own_floor(asked, j, t):
+    """The greatest value of a timeline that is signaled by other queues."""
+    plan = asked.plan
+    values = [plan.ops[e].value for e in plan.chains[t] if plan.jobs[plan.ops[e].job].queue != plan.jobs[j].queue]
+    return max(values + [plan.initial[t]])
+
+
+def host_wait_moved(asked, h, numbers):
+    """The host's wait, moved behind the batch that it waits for."""
+    plan = asked.plan
+    targets = [plan.ops[e].job for _, t, value in plan.jobs[h].needs if numbers[t] < value
+               for e in [plan.resolver(t, value)] if e is not None]
+    if plan.jobs[h].kind == 'host fence wait':
+        t = plan.jobs[h].needs[0][1]
+        targets += [op.job for op in plan.ops if op.chain == t and op.job > h][:1]
+    found = [moved_behind(asked, h, j) for j in [max(targets, default=h)] if j > h]
+    return [found, [moved_behind(asked, h, len(plan.jobs) - 1)] if found else []]
+
+
+def fewer_pairs(asked, job, numbers):
+    """The host's wait for what is reached alone."""
+    kept = [(t, min(value, numbers[t])) for _, t, value in job.needs if min(value, numbers[t]) > asked.plan.initial[t]]
+    reached = [(t, value) for _, t, value in job.needs if numbers[t] >= value]
+    lines = []
+    for pairs in (kept, reached):
+        if pairs:
+            held = ' '.join(f'{asked.plan.names[t]} {value}' for t, value in pairs)
+            lines.append((f'wait for what is reached: {held}', [replace(job.line, f'{job.kind} {held}')]))
+    return lines
+
+
+def signal_in_reach(asked, j, t, value):
+    """A signal of that value by the host, behind all lines, where nothing signals it and no later host line waits."""
+    plan = asked.plan
+    if plan.resolver(t, value) is not None:
+        return []
+    name, end = plan.names[t], asked.last[-1] + 1
+    return [(f'let the host signal {name} {value}', [insert(end, f'host signal {name} {value}')])]
