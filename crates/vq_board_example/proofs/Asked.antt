@@ -1,2 +1,2 @@
--- What the calls ask of a job that waits for nothing, and of one whose state is known.
-pub use Rattle.vq_board_stage.proofs.Cited.{needless, so_far}
+-- What the calls ask of a job that waits for nothing.
+pub use Rattle.vq_board_laws.proofs.Cited.{needs_nothing}

@@ -87,7 +87,7 @@ fn signal<R: Wait>(rt: &R, board: &Board, ring: &mut Pass)
 }
 
 /// P's ring runs its batch: it fills and signals.
-#[tactic(auto, using(crate::proofs::Asked::needless))]
+#[tactic(auto, using(crate::proofs::Asked::needs_nothing))]
 pub(crate) fn run_fill<R: Wait>(rt: &R, board: &Board, ring: &mut Pass)
     requires plan { IsFillAndCopy (plan_of board.now) }
     requires ring { IsIdle board.now ring.old 0 [] }
