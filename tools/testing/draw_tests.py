@@ -19,6 +19,7 @@ def long_script(batches):
 
 def test_draw(tests):
     tests.helps('draw')
+    tests.keeps_its_temper('draw')
     tests.misused('draw', '--turns', '5-2')
     tests.misused('draw', '--script')
     tests.misused('draw', 'one', 'other')
@@ -70,6 +71,7 @@ POLLED = (b'timeline A 0\nqueue P threaded\nsubmit P\nsignal A 1\nend\nhost read
 
 def test_schedule(tests):
     tests.helps('schedule')
+    tests.keeps_its_temper('schedule')
     for words in (['--rounds', '0'], ['--all', 'x'], ['--random', '--rounds', '2'], ['--seed', '-1'], ['one', 'other'],
                   ['--starve']):
         tests.misused('schedule', *words)

@@ -26,6 +26,7 @@ CASES = [
 
 def test_order(tests):
     tests.helps('order')
+    tests.keeps_its_temper('order', '--vq', tests.program)
     for words in (['--format', 'png'], ['one', 'other'], ['--vq', '/nowhere', '-']):
         tests.misused('order', *words)
     tests.misused('order', '/nowhere', status=3, program=True)
