@@ -41,6 +41,7 @@ def test_draw(tests):
                                    'unfinished 3: of lines 10, 13, 16'])
     lines_are_those_of_vq(tests)
     many_turns(tests)
+    picture_of_the_documents(tests)
 
 
 def lines_are_those_of_vq(tests):
@@ -61,6 +62,17 @@ def many_turns(tests):
     picture(tests, 'draw many turns', drawn, ['R:graphics_queue_3', 'point 0', '1', '500', str(turns), 'finished'])
     some = tests.tool('draw', '--turns', '100-110', data=trace, program=False).stdout
     picture(tests, 'draw some turns', some, ['100', '110'])
+
+
+def picture_of_the_documents(tests):
+    """The picture in docs/TURNS.md is that of the script before it."""
+    with open(os.path.join(TOP, 'docs', 'TURNS.md'), encoding='utf-8') as file:
+        before = file.read().split('](reused_point.svg)')[0]
+    script = before.rsplit('```replay\n', 1)[1].split('```')[0].encode()
+    path = tests.write('documented.replay', script)
+    drawn = tests.tool('draw', '--script', path, data=tests.vq(script, '--replay'), program=False).stdout
+    with open(os.path.join(TOP, 'docs', 'reused_point.svg'), 'rb') as file:
+        tests.check('docs/reused_point.svg', file.read() == drawn, 'draw it again')
 
 
 # Schedules.
