@@ -87,7 +87,7 @@ def fitting(line, words):
         tries.append(['host', 'fence', 'wait', rest[1]])
     if head == 'host' and rest[:1] and rest[0] in ('wait', 'poll', 'reset') and len(rest) == 2:
         tries.append(['host', 'fence', *rest])
-    if head == 'queue' and rest:
+    if head == 'queue' and len(rest) == 1:
         tries.append(['queue', rest[0], 'threaded'])
     if head == 'timeline' and len(rest) == 1:
         tries.append([*words, '0'])
@@ -128,7 +128,7 @@ def near_words(line, words):
     near = difflib.get_close_matches(words[0], options, 3, 0.6)
     found = [rewritten(line, [other, *words[1:]]) for other in near if other != words[0]]
     if words[0] == 'queue' and len(words) == 3:
-        modes = difflib.get_close_matches(words[2], ['immediate', 'deferred', 'threaded'], 1, 0.5)
+        modes = difflib.get_close_matches(words[2], ['immediate', 'deferred', 'threaded'], 1, 0.5) or ['threaded']
         found += [rewritten(line, [*words[:2], mode]) for mode in modes]
     return found
 

@@ -1,6 +1,11 @@
 """Mends of faults of the order, in groups, the best ones first: each is what to do, and the edits."""
 from behind import Behind, moved_behind, woven
 from draft import delete, insert, replace
+from order import final_numbers
+from order_faults import blocking
+
+# So many jobs are looked at that a wait hangs on, one by another.
+LONGEST = 16
 
 
 def order_mends(verdict, asked):
@@ -119,10 +124,22 @@ def not_pending(asked, line):
 # Waits that nothing reaches.
 
 def unreachable(asked, line):
-    plan, j = asked.plan, asked.job_at(line)
-    job, words = plan.jobs[j], asked.words(line)
-    numbers = reached_numbers(asked)
-    groups = []
+    """What holds the wait back is mended first, from the last thing in its way on; then the wait may go."""
+    numbers, stuck = final_numbers(asked.plan, asked.order.slow), set(asked.order.stuck)
+    chain, j = [], asked.job_at(line)
+    while j is not None and j not in [i for i, _ in chain] and len(chain) < LONGEST:
+        at, _, after = blocking(asked, j, numbers, stuck)
+        chain.append((j, at))
+        j = after
+    groups = [group for i, at in reversed(chain) for group in unblocked(asked, i, at, numbers)]
+    if j is None and asked.words(chain[-1][1])[0] in ('wait', 'host'):
+        groups.append([left_out(asked, chain[-1][1])])
+    return groups + [[left_out(asked, line)]]
+
+
+def unblocked(asked, j, line, numbers):
+    """The ways to let a job go on that waits at a line."""
+    plan, job, words, groups = asked.plan, asked.plan.jobs[j], asked.words(line), []
     if job.queue is None:
         groups += host_wait_moved(asked, j, numbers)
     if words[0] == 'wait' and plan.kinds[need(job, line)[0]] == 'timeline':
@@ -134,7 +151,6 @@ def unreachable(asked, line):
         groups.append(signal_in_reach(asked, j, t, value))
     elif job.kind in ('host wait all', 'host wait any'):
         groups.append(fewer_pairs(asked, job, numbers))
-    groups.append([left_out(asked, line)])
     return groups
 
 
@@ -144,16 +160,6 @@ def need(job, line):
 
 def left_out(asked, line):
     return f'leave out line {asked.at(line)}', [delete(line)]
-
-
-def reached_numbers(asked):
-    """What the payloads come to."""
-    numbers = list(asked.plan.initial)
-    for j in asked.order.slow:
-        for e in asked.plan.jobs[j].signals:
-            op = asked.plan.ops[e]
-            numbers[op.chain] = max(numbers[op.chain], op.value)
-    return numbers
 
 
 def own_floor(asked, j, t):

@@ -44,6 +44,15 @@ def own_name():
     return os.path.basename(sys.argv[0])
 
 
+def complain(text):
+    """Says something on the standard error output, if there is one."""
+    try:
+        if sys.stderr:
+            print(f'{own_name()}: {text}', file=sys.stderr, flush=True)
+    except OSError:
+        pass
+
+
 def find_program(named):
     """The program vq: the one that was named, or the one beside this tool, in this clone or on the PATH; or None."""
     if named:
@@ -69,8 +78,8 @@ def program_or_reading(named):
     """The program, or None where there is none: the second reading of the language stands in then, as is said."""
     found = find_program(named)
     if not found:
-        print(f'{own_name()}: no vq beside this tool or on the PATH, so this is told by a second reading of the '
-              'language, which isn\'t proved', file=sys.stderr)
+        complain('no vq beside this tool or on the PATH, so this is told by a second reading of the language, which '
+                 'isn\'t proved')
     return found
 
 
@@ -78,11 +87,19 @@ def read_input(path):
     """The bytes of a file, or of the standard input for `-`."""
     try:
         if path == '-':
-            return sys.stdin.buffer.read()
+            return read_standard_input()
         with open(path, 'rb') as file:
             return file.read()
     except OSError as fault:
         raise Failure(UNREADABLE, f'{path}: {fault.strerror}')
+
+
+def read_standard_input():
+    if sys.stdin is None:
+        raise Failure(UNREADABLE, 'the standard input is closed')
+    if sys.stdin.isatty():
+        complain('reading from the terminal, up to Ctrl-D; --help says more')
+    return sys.stdin.buffer.read()
 
 
 def called(path):
@@ -90,26 +107,41 @@ def called(path):
 
 
 def write(text):
-    sys.stdout.write(text)
+    """Writes to the standard output: a text, or bytes as they are."""
+    if sys.stdout is None:
+        raise Failure(UNWRITABLE, 'the standard output is closed')
+    if isinstance(text, str):
+        sys.stdout.write(text)
+    else:
+        sys.stdout.buffer.write(text)
+
+
+def ended_by_words(main):
+    """The status of a tool, and of one that only helps."""
+    try:
+        return main()
+    except SystemExit as ended:
+        return ended.code
 
 
 def run(main):
     """Runs a tool, and ends the process: a failure is one line, and never a traceback."""
-    name = own_name()
-    for stream in (sys.stdout, sys.stderr):
+    for stream in filter(None, (sys.stdout, sys.stderr)):
         stream.reconfigure(errors='backslashreplace')
     try:
-        status = main()
-        sys.stdout.flush()
+        status = ended_by_words(main)
+        if sys.stdout:
+            sys.stdout.flush()
     except Failure as failure:
-        print(f'{name}: {failure}', file=sys.stderr)
+        complain(str(failure))
         status = failure.status
     except KeyboardInterrupt:
         status = 130
     except OSError as fault:
         if not isinstance(fault, BrokenPipeError):
-            print(f'{name}: {fault.strerror}', file=sys.stderr)
+            complain(fault.strerror)
         # What is left to be written isn't tried again.
-        os.dup2(os.open(os.devnull, os.O_WRONLY), sys.stdout.fileno())
+        if sys.stdout:
+            os.dup2(os.open(os.devnull, os.O_WRONLY), sys.stdout.fileno())
         status = UNWRITABLE
     sys.exit(status)

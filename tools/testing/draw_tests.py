@@ -19,6 +19,7 @@ def long_script(batches):
 
 def test_draw(tests):
     tests.helps('draw')
+    tests.keeps_its_temper('draw')
     tests.misused('draw', '--turns', '5-2')
     tests.misused('draw', '--script')
     tests.misused('draw', 'one', 'other')
@@ -40,6 +41,7 @@ def test_draw(tests):
                                    'unfinished 3: of lines 10, 13, 16'])
     lines_are_those_of_vq(tests)
     many_turns(tests)
+    picture_of_the_documents(tests)
 
 
 def lines_are_those_of_vq(tests):
@@ -62,6 +64,17 @@ def many_turns(tests):
     picture(tests, 'draw some turns', some, ['100', '110'])
 
 
+def picture_of_the_documents(tests):
+    """The picture in docs/TURNS.md is that of the script before it."""
+    with open(os.path.join(TOP, 'docs', 'TURNS.md'), encoding='utf-8') as file:
+        before = file.read().split('](reused_point.svg)')[0]
+    script = before.rsplit('```replay\n', 1)[1].split('```')[0].encode()
+    path = tests.write('documented.replay', script)
+    drawn = tests.tool('draw', '--script', path, data=tests.vq(script, '--replay'), program=False).stdout
+    with open(os.path.join(TOP, 'docs', 'reused_point.svg'), 'rb') as file:
+        tests.check('docs/reused_point.svg', file.read() == drawn, 'draw it again')
+
+
 # Schedules.
 
 POLLED = (b'timeline A 0\nqueue P threaded\nsubmit P\nsignal A 1\nend\nhost read A\nhost poll all A 1\n'
@@ -70,6 +83,7 @@ POLLED = (b'timeline A 0\nqueue P threaded\nsubmit P\nsignal A 1\nend\nhost read
 
 def test_schedule(tests):
     tests.helps('schedule')
+    tests.keeps_its_temper('schedule')
     for words in (['--rounds', '0'], ['--all', 'x'], ['--random', '--rounds', '2'], ['--seed', '-1'], ['one', 'other'],
                   ['--starve']):
         tests.misused('schedule', *words)

@@ -56,6 +56,7 @@ def lines(text):
 
 def test_explain(tests):
     tests.helps('explain')
+    tests.keeps_its_temper('explain', '--vq', tests.program)
     misuses(tests)
     other_programs(tests)
     causes(tests)

@@ -26,11 +26,15 @@ CASES = [
 
 def test_order(tests):
     tests.helps('order')
+    tests.keeps_its_temper('order', '--vq', tests.program)
     for words in (['--format', 'png'], ['one', 'other'], ['--vq', '/nowhere', '-']):
         tests.misused('order', *words)
     tests.misused('order', '/nowhere', status=3, program=True)
     done = tests.tool('order', data=b'x' * 4_194_305)
     tests.check('order of what can\'t be drawn', done.returncode == 2 and b'too long' in done.stderr, done.stderr)
+    with open(os.path.join(TOP, 'docs', 'frame_loop.svg'), 'rb') as file:
+        drawn = tests.tool('order', os.path.join(TOP, 'examples', 'frame_loop.vq')).stdout
+        tests.check('docs/frame_loop.svg', file.read() == drawn, 'draw it again')
     for name, texts, rows in CASES:
         path = os.path.join(TOP, 'examples', name)
         picture(tests, f'order of {name}', tests.tool('order', path).stdout, texts)

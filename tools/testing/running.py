@@ -46,6 +46,18 @@ class Tests:
                  and ('usage: ' in said or status != 1) and not done.stdout)
         self.check(f'{name} {" ".join(words)}', holds, f'status {done.returncode}, {done.stdout}, {said}')
 
+    def keeps_its_temper(self, name, *words):
+        """Streams that are closed or full are told of in a line, or by the status alone."""
+        command = f'"$0" {" ".join(words)}'
+        path = os.path.join(TOP, 'tools', name)
+        for streams, statuses in (('<&-', (3,)), ('</dev/null >&-', (2, 4)), ('>/dev/full', (2, 4)),
+                                  ('| true', (0, 2, 4)), ('--help >/dev/full', (0, 4))):
+            data = b'' if '<' in streams else b'buffer X 4\n'
+            done = subprocess.run(['bash', '-c', f'{command} {streams}; exit ${{PIPESTATUS[0]}}', path], input=data,
+                                  capture_output=True, check=False)
+            holds = done.returncode in statuses and b'Traceback' not in done.stderr and done.stderr.count(b'\n') <= 1
+            self.check(f'{name} {streams}', holds, done)
+
     def helps(self, name):
         for word, wanted in (('--help', f'usage: {name} '), ('-h', f'usage: {name} '), ('--version', f'{name} 1.')):
             done = self.tool(name, word, program=False)
