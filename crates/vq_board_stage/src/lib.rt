@@ -1,5 +1,5 @@
-//! What the tests of the board and the program that measures it have in common: lawful plans of texts,
-//! boards with their passes, and batches that have nothing to do with other jobs.
+//! What tests, measures and examples of the board have in common: lawful plans of texts, boards with their
+//! passes, and batches that have nothing to do with other jobs.
 #![tactic(auto)]
 
 pub mod alone;

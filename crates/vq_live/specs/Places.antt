@@ -11,7 +11,9 @@ pub record IsPlace (t : Live) (value place : ℕ) : Type 0 where
   pub bound : place ≤ length t.ops
   -- what is pending stays in front of it
   pub before : (point : ℕ) → take t.installed (placed (record { value = value; point = point }) t.ops) ≡ pending t
-  pub inserted : (point : ℕ) → insert t.ops place (record { value = value; point = point }) ≡ placed (record { value = value; point = point }) t.ops
+  pub inserted : (point : ℕ) →
+      insert t.ops place (record { value = value; point = point })
+      ≡ placed (record { value = value; point = point }) t.ops
 
 -- the place of a taken one
 pub record IsTakenAt (t : Live) (given : Given) (place : ℕ) : Type 0 where

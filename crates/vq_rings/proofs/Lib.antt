@@ -1,3 +1,2 @@
 mod CrewLists
-mod Reports
 mod Together

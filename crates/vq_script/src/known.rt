@@ -60,7 +60,8 @@ impl Known {
     ghost use Rattle.vq_model.specs.Meaning.{actor_at};
     ghost use Rattle.vq_model.specs.ScriptOfLines.{script_of};
     ghost use Rattle.vq_model.specs.declared.statement.Line.{Line};
-    ghost use Rattle.vq_script.specs.Holds.{Holds, Keeps, kept, last_part, named_fence, waits_of, commands_of, open_jobs};
+    ghost use Rattle.vq_script.specs.Holds.{Holds, Keeps, kept, last_part, named_fence, waits_of};
+    ghost use Rattle.vq_script.specs.Holds.{commands_of, open_jobs};
     ghost use Rattle.vq_script.specs.Holds.{signals_of, open_so_far, section_of, with_buffer, with_semaphore};
     ghost use Rattle.vq_script.specs.Holds.{with_queue, with_turns};
     ghost use Rattle.vq_script.specs.LineTests.{number_of};

@@ -89,7 +89,8 @@ fn is_new(known: &Known, place: Token, word: &[u8]) -> bool
 
 /// Whether each name that a line declares is new.
 pub fn are_new(known: &Known, words: &[OpenWord<'_>]) -> bool
-    ensures { result ≡ list_all (is_new (is_taken known.now.buffers.items known.now.semaphores.items known.now.queues.items))
+    ensures { result ≡ list_all
+        (is_new (is_taken known.now.buffers.items known.now.semaphores.items known.now.queues.items))
         (opens words.now) }
 {
     for x in words {

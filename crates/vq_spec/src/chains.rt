@@ -25,6 +25,17 @@ fn is_before(pair: (u64, u32), value: u64, op: u32) -> bool
     pair.0 < value || (pair.0 == value && pair.1 < op)
 }
 
+/// The operations that stand behind values.
+fn ops_of(alloc: Global, pairs: &[(u64, u32)]) -> Result<Vec<u32>, AllocError>
+    ensures { IfOk result (λ ops. ops.items ≡ map (λ p. p.1) pairs.now) }
+{
+    let mut ops = Vec::with_capacity(alloc, pairs.len())?;
+    for pair in pairs {
+        ops.push(pair.1)?;
+    }
+    Ok(ops)
+}
+
 impl Chain {
     /// A chain of operations that stand behind their values.
     fn of(alloc: Global, members: &[(u64, u32)]) -> Result<Chain, AllocError>
@@ -32,14 +43,8 @@ impl Chain {
     {
         let mut pairs = Vec::from_slice(alloc, members)?;
         pairs.sort()?;
-        let mut ops = Vec::with_capacity(alloc, pairs.len())?;
-        for pair in &pairs {
-            ops.push(pair.1)?;
-        }
-        Ok(Chain {
-            ops: List::of(ops),
-            pairs,
-        })
+        let ops = List::of(ops_of(alloc, pairs.as_slice())?);
+        Ok(Chain { ops, pairs })
     }
 
     /// The first operation with a value or a greater one.
