@@ -30,7 +30,8 @@ use Rattle.vq_words.specs.declared.task.Task.{Task}
 use Rattle.vq_words.specs.declared.task.Task.TheVariants.{Run, Check, Replay, Generate}
 use Rattle.vq_run.specs.declared.status.Status.{Status}
 use Rattle.vq_run.specs.declared.status.Status.TheVariants.{Done, BadWords, Refused, ReadFault, WriteFault, Memory}
-use Rattle.vq_run.specs.Outcomes.{IsOutcome, is_too_long, has_faulty_line, has_no_plan, is_unlawful, gives_answer, Ends, AnswersTask, RefusesPlan, RefusesOrder, ReadsToEnd, IsLawfulInput, IsDoneOrMemory, input_limit}
+use Rattle.vq_messages.specs.Refused.{RefusesPlan, RefusesOrder, input_limit}
+use Rattle.vq_run.specs.Outcomes.{IsOutcome, is_too_long, has_faulty_line, has_no_plan, is_unlawful, gives_answer, Ends, AnswersTask, ReadsToEnd, IsLawfulInput, IsDoneOrMemory}
 use Rattle.vq_run.specs.Outcomes.{IsReadFor, ArePlayable, IsTrace, IsLawfulPlan, EndsForWords, WritesNothing}
 use Rattle.vq_port.specs.Faults.{Rose}
 use Rattle.vq_port.specs.declared.read.ReadFault.{ReadFault as Unread}

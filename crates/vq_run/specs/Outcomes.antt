@@ -4,9 +4,7 @@ use Rattle.vq_model.specs.declared.statement.FaultKind.{FaultKind}
 use Rattle.vq_model.specs.declared.script.Script.{Script}
 use Rattle.vq_model.specs.declared.script.Turn.{Turn}
 use Rattle.vq_model.specs.declared.plan.PlanFault.{PlanFault}
-use Rattle.vq_model.specs.declared.plan.PlanFault.TheVariants.{Memory as NoMemoryToLower}
 use Rattle.vq_model.specs.declared.plan.OrderFault.{OrderFault}
-use Rattle.vq_model.specs.declared.plan.OrderFault.TheVariants.{Memory as NoMemoryToCheck}
 use Rattle.vq_model.specs.Reading.{StandsFor, IsFirstFault}
 use Rattle.vq_model.specs.Plan.{Plan}
 use Rattle.vq_model.specs.Lowering.{plan_of}
@@ -22,6 +20,7 @@ use Rattle.vq_points.specs.HistoryLaws.{PointLaw, PendingLaw}
 use Rattle.vq_history_laws.specs.Histories.{points_after}
 use Rattle.vq_points.specs.Points.{HistoryFrom, opening_points, steps_of}
 use Rattle.vq_replay.specs.Traces.{events_of, played_turns, trace_text}
+use Rattle.vq_messages.specs.Refused.{input_limit}
 use Rattle.vq_run.specs.Tasks.{form_of, planned, turns_for}
 use Rattle.vq_run.specs.Writes.{SinkMoment, WroteAll, WrotePart, WroteNothing}
 use Rattle.vq_words.specs.declared.task.Task.{Task}
@@ -34,10 +33,6 @@ use Rattle.vq_run.specs.declared.status.Status.TheVariants.{Done, BadWords, Refu
 -- what is written of a lawful script that is only checked
 abbrev pub is_lawful_text : List ℕ
 is_lawful_text = codes "lawful" ++ line_feed
-
--- the most bytes of an input
-abbrev pub input_limit : ℕ
-input_limit = 4194304
 
 -- the state of the machine after a schedule's turns
 abbrev pub state_after_turns : Plan → List Turn → State
@@ -88,16 +83,6 @@ pub data IsOutcome (task : Task) (input : List ℕ) : Status → List ℕ → Ty
       StandsFor input (form_of task) script → lowering_fault (planned task script) ≡ None →
       IsLawful (plan_of (planned task script)) →
       AnswersTask task (plan_of (planned task script)) script.turns text → IsOutcome task input Done text
-
--- a text refuses a script for a fault of its lowering; want of memory refuses nothing
-abbrev pub RefusesPlan : PlanFault → List ℕ → Type 0
-RefusesPlan NoMemoryToLower text = ⊥
-RefusesPlan fault text = text ≡ plan_refusal fault
-
--- a text refuses a plan for its first fault; want of memory refuses nothing
-abbrev pub RefusesOrder : OrderFault → List ℕ → Type 0
-RefusesOrder NoMemoryToCheck text = ⊥
-RefusesOrder fault text = text ≡ order_refusal fault
 
 -- turns that can be played over a plan of a script: they are few, and each actor is one of the script
 pub record ArePlayable (s : Script) (turns : List Turn) : Type 0 where

@@ -7,9 +7,6 @@ use crate::status::Status;
 use std::alloc::AllocError;
 use vq_port::{ReadFault, Sink, write_whole};
 
-/// The most bytes of an input.
-pub(crate) const INPUT_LIMIT: usize = 4_194_304;
-
 /// Writes a text, and gives this status, or `WriteFault` where the writing fails.
 pub(crate) fn write<K: Sink>(sink: &mut K, text: &[u8], status: Status) -> Status
     ensures { Writes text.now status result

@@ -4,7 +4,6 @@
 mod ending;
 mod outcome;
 mod reading;
-mod refusals;
 mod status;
 mod task;
 mod threadless;

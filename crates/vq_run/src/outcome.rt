@@ -4,7 +4,8 @@ ghost use Rattle.vq_model.specs.Memory.{HasSizes};
 ghost use Rattle.vq_model.specs.OutputText.{answer_text, buffers_text};
 ghost use Rattle.vq_model.specs.Outputs.{IsOutput};
 ghost use Rattle.vq_model.specs.ValidScripts.{sizes_of};
-ghost use Rattle.vq_run.specs.Outcomes.{AnswersTask, ArePlayable, IsOutcome, IsTrace, input_limit};
+ghost use Rattle.vq_messages.specs.Refused.{input_limit};
+ghost use Rattle.vq_run.specs.Outcomes.{AnswersTask, ArePlayable, IsOutcome, IsTrace};
 ghost use Rattle.vq_run.specs.Tasks.{IsStill, RunsThreads};
 
 use crate::reading::{Reading, read_input};

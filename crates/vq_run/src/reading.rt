@@ -1,13 +1,14 @@
 //! What an input comes to before its task is done: a lawful plan, or a refusal.
 ghost use Rattle.std.specs.Prelude.{◌≡◌, ◌≤◌, IfOk, Ok, length};
 ghost use Rattle.vq_model.specs.LoweringFaults.{Lowers};
-ghost use Rattle.vq_run.specs.Outcomes.{IsReadFor, IsReading, input_limit};
+ghost use Rattle.vq_messages.specs.Refused.{input_limit};
+ghost use Rattle.vq_run.specs.Outcomes.{IsReadFor, IsReading};
 ghost use Rattle.vq_run.specs.Tasks.{planned, turns_for};
 
-use crate::refusals::{line_refusal, order_refusal, plan_refusal};
 use crate::task::form_of;
 use std::alloc::{AllocError, Global};
 use std::mem::replace;
+use vq_messages::{line_refusal, order_refusal, plan_refusal};
 use vq_model::list::List;
 use vq_model::script::Turn;
 use vq_order::{Ordered, check};

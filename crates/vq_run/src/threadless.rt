@@ -7,10 +7,11 @@ ghost use Rattle.vq_run.specs.Outcomes.{Ends, IsDoneOrMemory, IsLawfulInput, Rea
 ghost use Rattle.vq_run.specs.Tasks.{IsStill};
 ghost use Rattle.vq_run.specs.Writes.{moment};
 
-use crate::ending::{INPUT_LIMIT, end_unread, end_with};
+use crate::ending::{end_unread, end_with};
 use crate::outcome::still_outcome;
 use crate::status::Status;
 use std::alloc::Global;
+use vq_messages::INPUT_LIMIT;
 use vq_port::{Sink, Source, read_whole};
 use vq_words::Task;
 

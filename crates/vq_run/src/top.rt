@@ -10,7 +10,7 @@ ghost use Rattle.vq_run.specs.Writes.{moment};
 ghost use Rattle.vq_run.specs.Outcomes.{Ends, EndsForWords, IsOutcome, ReadsToEnd, WritesNothing};
 ghost use Rattle.vq_run.specs.Outcomes.{IsDoneOrMemory, IsLawfulInput};
 
-use crate::ending::{INPUT_LIMIT, end_unread, end_with, write};
+use crate::ending::{end_unread, end_with, write};
 use crate::outcome::{Outcome, run_outcome};
 use crate::status::Status;
 use crate::threadless::still;
@@ -19,6 +19,7 @@ use std::marker::Sync;
 use std::sync::Wait;
 use std::thread::Threads;
 use vq_generator::generate;
+use vq_messages::INPUT_LIMIT;
 use vq_port::{Sink, Source, read_whole};
 use vq_rings::Gate;
 use vq_words::{Task, WordsFault, read_words};

@@ -2,7 +2,8 @@ use Rattle.std.proofs.Common.{◌≤◌, ◌∙◌, ℕ, List, IfOk, length, sub
 use Rattle.vq_words.specs.declared.task.Task.TheVariants.{Generate}
 use Rattle.vq_generator.proofs.Cited.{generated_is_short}
 use Rattle.vq_run.specs.Tasks.{generated_text}
-use Rattle.vq_run.specs.Outcomes.{IsOutcome, input_limit}
+use Rattle.vq_messages.specs.Refused.{input_limit}
+use Rattle.vq_run.specs.Outcomes.{IsOutcome}
 use Rattle.vq_run.proofs.top.generated_outcome.Goals as goal
 
 pub run_outcome-requires-clause-short : goal.run_outcome-requires-clause-short

@@ -1,23 +1,24 @@
 //! The texts that refuse an input.
+//!
+//! Source: this project's own.
 ghost use Rattle.std.specs.Prelude.{◌≡◌, IfOk};
 ghost use Rattle.vq_model.specs.Refusals.{at_line, at_lines, line_refusal};
-ghost use Rattle.vq_run.specs.Outcomes.{RefusesOrder, RefusesPlan};
+ghost use Rattle.vq_messages.specs.Refused.{RefusesOrder, RefusesPlan};
 
 use std::alloc::{AllocError, Global};
-use vq_order::OrderFault;
-use vq_script::FaultKind;
-use vq_spec::PlanFault;
+use vq_model::plan::{OrderFault, PlanFault};
+use vq_model::statement::FaultKind;
 
-/// The text that refuses a faulty line.
-pub(crate) fn line_refusal(alloc: Global, line: u32, kind: FaultKind) -> Result<Vec<u8>, AllocError>
+/// The text that refuses a faulty line. The error is want of memory.
+pub fn line_refusal(alloc: Global, line: u32, kind: FaultKind) -> Result<Vec<u8>, AllocError>
     ensures { IfOk result (λ text. text.items ≡ line_refusal line kind) }
 {
     let text = format!(in alloc; "error: {kind}: line {line}\n")?;
     Ok(text.into_bytes())
 }
 
-/// The text that refuses a script without a plan.
-pub(crate) fn plan_refusal(alloc: Global, fault: PlanFault) -> Result<Vec<u8>, AllocError>
+/// The text that refuses a script without a plan. The error is want of memory, here or in the fault.
+pub fn plan_refusal(alloc: Global, fault: PlanFault) -> Result<Vec<u8>, AllocError>
     ensures { IfOk result (λ text. RefusesPlan fault text.items) }
 {
     let text = match fault {
@@ -47,8 +48,8 @@ fn at_lines(alloc: Global, fault: &str, first: u32, second: u32) -> Result<Vec<u
     Ok(text.into_bytes())
 }
 
-/// The text that refuses a plan that isn't lawful.
-pub(crate) fn order_refusal(alloc: Global, fault: OrderFault) -> Result<Vec<u8>, AllocError>
+/// The text that refuses a plan that isn't lawful. The error is want of memory, here or in the fault.
+pub fn order_refusal(alloc: Global, fault: OrderFault) -> Result<Vec<u8>, AllocError>
     ensures { IfOk result (λ text. RefusesOrder fault text.items) }
 {
     match fault {
