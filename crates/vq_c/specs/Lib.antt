@@ -1,0 +1,4 @@
+pub mod Endings
+pub mod Codes
+pub mod Verdicts
+pub mod Explanations
