@@ -1,0 +1,3 @@
+pub mod Cited
+mod Guards
+mod Locks
