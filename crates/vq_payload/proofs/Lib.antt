@@ -1,0 +1,6 @@
+pub mod Cited
+mod ChainValues
+mod Growing
+mod Looking
+mod Payloads
+mod Short
