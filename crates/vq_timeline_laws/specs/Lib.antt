@@ -1,0 +1,4 @@
+pub mod ChainOps
+pub mod Shelves
+pub mod Waiting
+pub mod Calls

@@ -1,0 +1,3 @@
+pub mod TwoBatches
+pub mod Acting
+pub mod Locked
