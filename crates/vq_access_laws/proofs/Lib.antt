@@ -1,0 +1,21 @@
+pub mod Cited
+mod AnswerGuards
+mod AnswerLaws
+mod CauseLaws
+mod FewNeeds
+mod Guards
+mod MeaningLaws
+mod HeldLists
+mod OwnGuards
+mod ServedActors
+mod OwnRules
+mod PlainSteps
+mod ReadLaws
+mod RunnerSteps
+mod ServedSteps
+mod Truths
+mod WaitLaws
+mod WaitSteps
+mod StepRules
+mod TaskKinds
+mod TestLaws

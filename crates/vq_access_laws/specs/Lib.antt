@@ -1,0 +1,7 @@
+pub mod Tests
+pub mod TrueTasks
+pub mod TruePasses
+pub mod Learning
+pub mod Premises
+pub mod Causes
+pub mod AccessMeanings
