@@ -1,0 +1,101 @@
+-- What the lists of a chain tell an actor at a board.
+use Rattle.std.proofs.Common.{◌≡◌, ◌≤◌, ℕ, true, List, Err, Some, length, refl, sym, ap, subst, arith}
+use Rattle.std.specs.Borrow.{GName}
+use Rattle.vq_model.specs.Checks.{IsLawful}
+use Rattle.vq_model.specs.LoweringFaults.{IsPlan}
+use Rattle.vq_model.specs.Plan.{Plan, has, chain}
+use Rattle.vq_model.specs.declared.plan.Event.{Event}
+use Rattle.vq_model.specs.declared.script.ActorName.{ActorName}
+use Rattle.vq_points.specs.Points.{PointState}
+use Rattle.vq_core_laws.proofs.Cited.{stands}
+use Rattle.vq_turns.specs.declared.outcome.Want.{Want}
+use Rattle.vq_turns.specs.declared.task.Task.TheVariants.{Take, Bind, Compare}
+use Rattle.vq_turns.specs.Turns.{Place, forward, seeing}
+use Rattle.std.specs.Prelude.{Result}
+use Rattle.vq_actor.specs.Answers.{AnswersTry}
+use Rattle.vq_actor.specs.Collections.{AnswersPast}
+use Rattle.vq_actor.specs.Meanings.{Recent}
+use Rattle.vq_board_laws.specs.declared.view.View.{View}
+use Rattle.vq_payload.specs.Learning.{Learns as Looked}
+use Rattle.vq_payload.specs.Tests.{saw_payload}
+use Rattle.vq_timeline.specs.declared.parts.Collected.{Collected}
+use Rattle.vq_timeline.specs.declared.parts.Collected.TheVariants.{Completed}
+use Rattle.vq_timeline_laws.specs.Shelves.{State}
+use Rattle.vq_timeline.specs.declared.timeline.LockedTimeline.{LockedTimeline}
+use Rattle.vq_model.proofs.Options.{same_some}
+use Rattle.vq_access.specs.Timelines.{HasAsked}
+use Rattle.vq_timeline.specs.Answers.{Collects}
+use Rattle.vq_access_laws.specs.AccessMeanings.{meaning_of, answers_told}
+use Rattle.vq_access_laws.specs.Causes.{Refusals, IsShown, refused, is_of_lists}
+use Rattle.vq_access_laws.specs.Learning.{Learns}
+use Rattle.vq_access_laws.specs.Tests.{saw_value}
+use Rattle.vq_access_laws.proofs.Cited.{refused_now, saw_read, true_taken, true_bound, true_compared}
+use Rattle.vq_access.specs.declared.post.Post.{Post}
+use Rattle.vq_access.specs.Seatings.{places_of}
+use Rattle.vq_access.proofs.Posting.{at, here, seen_by, IsNextTask, AreTrueOf, served, next_there, goes_forward, goes_to, there}
+use Rattle.vq_access.proofs.Replies.{keeps, refuses}
+use Rattle.vq_access.proofs.Untaking.{learned_steps, learned_told}
+
+-- what was completed is of the chain
+pub completed_there : (p : Plan) (t u : ℕ) (x y : State) (r : Collected) (e : ℕ) → Collects p t x y r → r ≡ Completed e →
+    t ≡ u → has (chain p u) e ≡ true
+completed_there p t u x y r e k is same =
+    let done = subst (Collects p t x y) is k in
+    subst (λ (z : ℕ). has (chain p z) e ≡ true) same (stands (chain p t) done.entry.index e done.operation)
+
+-- the timeline of the chain was asked
+pub asked_there : (p : Plan) (x y : LockedTimeline) (r : Collected) → Some x ≡ Some y → HasAsked p x r → HasAsked p y r
+asked_there p x y r e k = subst (λ (z : LockedTimeline). HasAsked p z r) (same_some x y e) k
+
+-- a refusal of lists is kept
+pub refused_lists : (l : List GName) (p : Plan) (a : ActorName) (x : Place) (r s : Recent) (v : View) (f g : Refusals)
+    (want : Want) → is_of_lists want ≡ true → g ≡ refused f want → f.count ≤ g.count → (to : Place)
+    (expected : PointState → Result Event Want) (Names : Event → Type 0) →
+    AnswersTry (meaning_of l p a x r v f) (meaning_of l p a x s v g) to expected Names
+    (λ u t. IsShown v.steps g u t) (Err want)
+refused_lists l p a x r s v f g want lists same more to expected Names =
+    subst (λ (h : Refusals). AnswersTry (meaning_of l p a x r v f) (meaning_of l p a x s v h) to expected Names
+    (λ u t. IsShown v.steps h u t) (Err want)) (sym same)
+    (refuses l p a x x r s v v f (refused f want) (omega arith)
+    (subst (λ (h : Refusals). f.count ≤ h.count) same more) to expected Names want refl refl
+    (refused_now v.steps f (length v.steps) want lists))
+
+-- the pass looked and learned
+pub looked_so : (v w : View) → Looked v w → Learns v w
+looked_so v w k = record { same = k.same; known = k.known; unmade = k.unmade; steps = k.steps }
+
+pub saw_so : (p : Plan) (w : View) (t wanted n : ℕ) → saw_payload p w t n ≡ true →
+    saw_value p w (t, wanted) (record { wanted = wanted; past = n }) ≡ true
+saw_so p w t wanted n h = saw_read p w t wanted n h
+
+pub past_answered : (l : List GName) (p : Plan) (a : ActorName) (x y : Place) (r s : Recent) (v w : View) (f : Refusals)
+    (t wanted n : ℕ) → Learns v w → y ≡ seeing x wanted n →
+    AnswersPast (meaning_of l p a x r v f) (meaning_of l p a y s w f) t wanted n
+past_answered l p a x y r s v w f t wanted n k e =
+    record {
+      kept = keeps l p a x y r s v w f f (learned_steps v w k) (omega arith);
+      state = refl;
+      events = ap answers_told (learned_told v w k);
+      place = e;
+      true_of_state = λ u is. absurd (cc);
+    }
+
+module _ (x : Post) (i : IsPlan x.ordered.now) (l : IsLawful x.ordered.now) where
+  pub takes_truly : (e t : ℕ) → IsNextTask x (Take e t) → AreTrueOf x (seen_by x) (forward (here x))
+  takes_truly e t n =
+      true_taken x.ordered.now i l x.owner (seen_by x) (at x (here x)) x.places x.actor (served x) e t
+      (next_there x (Take e t) n) (at x (forward (here x))) (goes_forward x)
+
+  pub binds_truly : (e : ℕ) → IsNextTask x (Bind e) → AreTrueOf x (seen_by x) (forward (here x))
+  binds_truly e n =
+      true_bound x.ordered.now i l x.owner (seen_by x) (at x (here x)) x.places x.actor (served x) e
+      (next_there x (Bind e) n) (at x (forward (here x))) (goes_forward x)
+
+  pub compares_truly : (w : View) (t wanted n : ℕ) → IsNextTask x (Compare t wanted) → Learns (seen_by x) w →
+      saw_value x.ordered.now w (t, wanted) (record { wanted = wanted; past = n }) ≡ true →
+      AreTrueOf x w (seeing (here x) wanted n)
+  compares_truly w t wanted n next k saw =
+      true_compared x.ordered.now i l x.owner (seen_by x) (at x (here x)) x.places x.actor (served x)
+      (at x (seeing (here x) wanted n)) w t wanted n (next_there x (Compare t wanted) next) k saw
+      (goes_to x (seeing (here x) wanted n) (seeing (at x (here x) x.actor) wanted n)
+      (ap (λ (y : Place). seeing y wanted n) (there (places_of x.owner x.seats.now.value) x.actor (here x))))

@@ -1,0 +1,5 @@
+use Rattle.vq_access.proofs.Holds.{held_try}
+use Rattle.vq_access.proofs.board_access.BoardAccessAccess.bind.Goals as goal
+
+pub returns-clause-answer : goal.returns-clause-answer
+returns-clause-answer g c = held_try c.args.self.now.post.ghost_name _ _ _ _ _ _ _ c.bind.ensures.answer

@@ -1,0 +1,35 @@
+use Rattle.std.proofs.Common.{◌<◌, ◌≡◌, Some, length, subst, refl}
+use Rattle.std.specs.List.{slice_get}
+use Rattle.vq_model.specs.Plan.{Plan}
+use Rattle.vq_turns.specs.declared.task.Task.TheVariants.{Bind}
+use Rattle.vq_turns.specs.Turns.{forward}
+use Rattle.vq_access.proofs.Existing.{bind_exists, found_chain}
+use Rattle.vq_access.proofs.Listing.{binds_truly}
+use Rattle.vq_access.proofs.Posting.{counts, fits_on, here, of_board_plan, seen_by, true_at}
+use Rattle.vq_access.proofs.post.Post.bind.Goals as goal
+
+pub op-found-requires : goal.op-found-requires
+op-found-requires g c =
+    let x = c.args.self.now in
+    of_board_plan x (λ p. c.args.op < length p.ops)
+    (bind_exists x.ordered.now c.plan-lawful.ensures.read c.plan-lawful.ensures.lawful x.actor x.seat.now.place.done c.args.op c.requires)
+
+pub timeline_at-timeline-requires-clause-exists : goal.timeline_at-timeline-requires-clause-exists
+timeline_at-timeline-requires-clause-exists g c =
+    let x = c.args.self.now in
+    of_board_plan x (λ p. c.op-found.result.chain < length p.chains)
+    (found_chain x.ordered.now c.plan-lawful.ensures.read c.plan-lawful.ensures.lawful c.args.op c.op-found.result
+    (subst (λ (p : Plan). slice_get p.ops c.args.op ≡ Some c.op-found.result) x.planned c.op-found.ensures))
+
+pub forward-requires : goal.forward-requires
+forward-requires g c = counts c.args.self.now (Bind c.args.op) c.requires
+
+pub invariant_of-self-clause-places : goal.invariant_of-self-clause-places
+invariant_of-self-clause-places g c =
+    let x = c.args.self.now in
+    true_at x (seen_by x) (seen_by x) c.forward.new.self (forward (here x)) refl c.forward.ensures
+    (binds_truly x c.plan-lawful.ensures.read c.plan-lawful.ensures.lawful c.args.op c.requires)
+
+pub invariant_of-self-clause-fits : goal.invariant_of-self-clause-fits
+invariant_of-self-clause-fits g c =
+    fits_on c.args.self.now (Bind c.args.op) c.requires c.forward.new.self c.forward.ensures

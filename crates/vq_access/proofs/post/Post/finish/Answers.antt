@@ -1,0 +1,28 @@
+use Rattle.vq_turns.specs.declared.task.Task.TheVariants.{Finish}
+use Rattle.vq_turns.specs.Turns.{forward}
+use Rattle.vq_board.specs.Named.{view}
+use Rattle.vq_board_laws.specs.Steps.{finishes}
+use Rattle.vq_access.proofs.Jobbing.{finishes_may, finishes_truly, finishes_there}
+use Rattle.vq_access.proofs.Posting.{counts, fits_on, here, seen_by, true_at}
+use Rattle.vq_access.proofs.post.Post.finish.Goals as goal
+
+pub finish-requires-clause-exists : goal.finish-requires-clause-exists
+finish-requires-clause-exists c = finishes_there c.args.self.now c.plan-lawful.ensures.read c.plan-lawful.ensures.lawful c.args.job c.requires
+
+pub finish-requires-clause-may : goal.finish-requires-clause-may
+finish-requires-clause-may c =
+    finishes_may c.args.self.now c.plan-lawful.ensures.read c.plan-lawful.ensures.lawful c.args.job c.requires
+
+pub forward-requires : goal.forward-requires
+forward-requires c = counts c.args.self.now (Finish c.args.job) c.requires
+
+pub invariant_of-self-clause-places : goal.invariant_of-self-clause-places
+invariant_of-self-clause-places c =
+    let x = c.args.self.now in
+    true_at x (view c.finish.new.pass) (finishes (seen_by x) c.args.job) c.forward.new.self (forward (here x))
+    c.finish.ensures.pass.2 c.forward.ensures
+    (finishes_truly x c.plan-lawful.ensures.read c.plan-lawful.ensures.lawful c.args.job c.requires)
+
+pub invariant_of-self-clause-fits : goal.invariant_of-self-clause-fits
+invariant_of-self-clause-fits c =
+    fits_on c.args.self.now (Finish c.args.job) c.requires c.forward.new.self c.forward.ensures

@@ -1,0 +1,80 @@
+use Rattle.std.proofs.Common.{◌≡◌, ◌<◌, ℕ, true, List, Ok, length, refl, sym, subst, ap, ◌∙◌}
+use Rattle.std.specs.List.{slice_get, list_all}
+use Rattle.vq_model.specs.declared.plan.Event.TheVariants.{Release as Releases}
+use Rattle.vq_model.specs.Plan.{Plan, has}
+use Rattle.vq_turns.specs.declared.task.Task.TheVariants.{Release}
+use Rattle.vq_turns.specs.Turns.{forward}
+use Rattle.vq_actor.specs.Answers.{Is}
+use Rattle.vq_actor.specs.Meanings.{Other}
+use Rattle.vq_board.specs.Named.{view}
+use Rattle.vq_board_laws.specs.Steps.{releases}
+use Rattle.vq_access_laws.specs.Tests.{knows_taken}
+use Rattle.vq_access.specs.Lasts.{recent_of}
+use Rattle.vq_access.specs.Posts.{lenders_of}
+use Rattle.vq_access.proofs.Existing.{signals_are}
+use Rattle.vq_access.proofs.Jobbing.{releases_may, releases_there, releases_truly, signals_there}
+use Rattle.vq_access.proofs.Looking.{learned}
+use Rattle.vq_access.proofs.Posting.{counts, fits_on, here, learned_of, other_finds, seen_by, true_at}
+use Rattle.vq_access.proofs.TakenLooks.{all_taken}
+use Rattle.vq_access.proofs.Untaking.{refused_release}
+use Rattle.vq_access.proofs.post.Post.release.Goals as goal
+
+pub job-requires : goal.job-requires
+job-requires c =
+    subst (λ (p : Plan). c.args.job < length p.jobs) (sym c.plan.ensures.value)
+    (releases_there c.args.self.now c.plan.ensures.read c.plan.ensures.lawful c.args.job c.requires)
+
+pub untaken-requires-clause-ops : goal.untaken-requires-clause-ops
+untaken-requires-clause-ops c e m =
+    signals_there c.args.self.now c.plan.ensures.read c.plan.ensures.lawful c.args.job c.job.result.now
+    (ap (λ (p : Plan). slice_get p.jobs c.args.job) (sym c.plan.ensures.value) ∙ c.job.ensures) e
+    (ap (λ (es : List ℕ). has es e) (sym c.as_slice-signals.ensures) ∙ m)
+
+pub invariant_of-self : goal.invariant_of-self
+invariant_of-self c =
+    let x = c.args.self.now in
+    let learning = c.untaken.ensures.pass in
+    record {
+      planned = x.planned;
+      of_board = learned_of x c.untaken.new.pass learning;
+      locks = x.locks;
+      serves = x.serves;
+      places = learned x c.plan.ensures.read c.plan.ensures.lawful (view c.untaken.new.pass) (view c.untaken.new.pass)
+          refl learning.1;
+      fits = x.fits;
+      few = x.few;
+      finds = other_finds x.ordered.now x.actor (here x);
+      points = x.points;
+    }
+
+pub returns-in-Some-clause-answer : goal.returns-in-Some-clause-answer
+returns-in-Some-clause-answer c =
+    let x = c.args.self.now in
+    refused_release (lenders_of x) x.ordered.now x.actor (here x) (recent_of x.last) Other (seen_by x)
+    (view c.untaken.new.pass) x.refused.now c.as_slice-signals.result.now c.in-Some.want c.in-Some.ensures.untaken
+    (forward (here x)) (λ w. Ok (Releases c.args.job)) (Is (Releases c.args.job))
+
+pub release-requires-clause-may : goal.release-requires-clause-may
+release-requires-clause-may c =
+    let x = c.args.self.now in
+    let at = ap (λ (p : Plan). slice_get p.jobs c.args.job) (sym c.plan.ensures.value) ∙ c.job.ensures in
+    let same = signals_are x.ordered.now c.args.job c.job.result.now at ∙ sym c.as_slice-signals.ensures in
+    releases_may x c.plan.ensures.read c.plan.ensures.lawful (view c.untaken.new.pass) c.untaken.ensures.pass.1
+    c.args.job c.requires
+    (subst (λ (es : List ℕ). list_all (knows_taken (view c.untaken.new.pass).known) es ≡ true) (sym same)
+    (all_taken (view c.untaken.new.pass) c.as_slice-signals.result.now (c.untaken.ensures.taken c.in_default.is)))
+
+pub forward-requires : goal.forward-requires
+forward-requires c = counts c.args.self.now (Release c.args.job) c.requires
+
+pub invariant_of-self-2-clause-places : goal.invariant_of-self-2-clause-places
+invariant_of-self-2-clause-places c =
+    let x = c.args.self.now in
+    true_at x (view c.release.new.pass) (releases (view c.untaken.new.pass) c.args.job) c.forward.new.self
+    (forward (here x)) c.release.ensures.pass.2 c.forward.ensures
+    (releases_truly x c.plan.ensures.read c.plan.ensures.lawful (view c.untaken.new.pass) c.untaken.ensures.pass.1
+    c.args.job c.requires)
+
+pub invariant_of-self-2-clause-fits : goal.invariant_of-self-2-clause-fits
+invariant_of-self-2-clause-fits c =
+    fits_on c.args.self.now (Release c.args.job) c.requires c.forward.new.self c.forward.ensures

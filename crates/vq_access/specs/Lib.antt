@@ -1,0 +1,10 @@
+pub mod Served
+pub mod Lasts
+pub mod Seatings
+pub mod Taken
+pub mod Found
+pub mod Timelines
+pub mod Pinned
+pub mod Posts
+pub mod Rooming
+pub mod Grounding

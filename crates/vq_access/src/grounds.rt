@@ -1,0 +1,43 @@
+//! What turns go over.
+//!
+//! Source: this project's own.
+ghost use Rattle.std.specs.Prelude.{◌≡◌};
+ghost use Rattle.vq_access.specs.Timelines.{AreOf};
+ghost use Rattle.vq_board.specs.Named.{plan_of};
+
+use vq_board::Board;
+use vq_order::Ordered;
+use vq_timeline::LockedTimeline;
+
+/// What the turns in a room go over: the plan, its board and its timelines, and who can wait.
+#[derive(Drop)]
+pub struct Grounds<'a, R> {
+    pub(crate) rt: &'a R,
+    pub(crate) ordered: &'a Ordered,
+    pub(crate) board: &'a Board,
+    pub(crate) timelines: &'a [LockedTimeline],
+    ghost planned: { plan_of board.now ≡ ordered.now },
+    ghost locks: { AreOf board.now timelines.now },
+}
+
+impl<'a, R> Grounds<'a, R> {
+    /// The plan, its board, and a timeline for each of its chains.
+    pub fn new(
+        rt: &'a R,
+        ordered: &'a Ordered,
+        board: &'a Board,
+        timelines: &'a [LockedTimeline],
+    ) -> Grounds<'a, R>
+        requires plan { plan_of board.now ≡ ordered.now }
+        requires timelines { AreOf board.now timelines.now }
+        ensures plan { result.ordered.now ≡ ordered.now }
+        ensures board { result.board.now ≡ board.now }
+    {
+        Grounds {
+            rt,
+            ordered,
+            board,
+            timelines,
+        }
+    }
+}

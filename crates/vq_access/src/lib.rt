@@ -1,0 +1,27 @@
+//! An access over the words of a board: an actor goes on by what its own pass sees and does there.
+#![tactic(auto)]
+
+mod answering;
+mod board_access;
+mod commands;
+mod finding;
+mod grounds;
+mod jobs;
+mod last;
+mod lists;
+mod looks;
+mod making;
+mod points;
+mod post;
+mod refused;
+mod room;
+mod seats;
+mod stage;
+mod takings;
+mod turns;
+
+pub use board_access::BoardAccess;
+pub use grounds::Grounds;
+pub use last::Last;
+pub use post::Post;
+pub use room::AccessRoom;

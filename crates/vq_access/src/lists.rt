@@ -1,0 +1,205 @@
+//! The calls that ask the lists of a chain's points, which lie under the lock of its timeline, and reads of a chain's
+//! payload, which take no lock.
+//!
+//! Source: this project's own.
+ghost use Rattle.std.specs.Prelude.{◌≡◌, ◌<◌, ℕ, Ok, Some, IfErr, length, true};
+ghost use Rattle.vq_access.specs.Posts.{meaning, shows};
+ghost use Rattle.vq_access.specs.Timelines.{AreOf, HasAsked, collection};
+ghost use Rattle.vq_timeline.specs.declared.timeline.LockedTimeline.{LockedTimeline as Timeline};
+ghost use Rattle.vq_access.specs.Lasts.{recent_of};
+ghost use Rattle.vq_board.specs.Named.{plan_of};
+ghost use Rattle.vq_model.specs.Plan.{has, chain as chain_of_plan};
+ghost use Rattle.vq_timeline.specs.Answers.{taken_point};
+ghost use Rattle.vq_timeline.specs.Named.{IsAt, chain_at};
+ghost use Rattle.vq_timeline.specs.declared.parts.BindFault.{BindFault as AnyFault};
+ghost use Rattle.vq_timeline.specs.declared.parts.Collected.{Collected as AnyCollected};
+ghost use Rattle.vq_access_laws.specs.Causes.{is_of_lists};
+ghost use Rattle.std.specs.List.{slice_get};
+ghost use Rattle.vq_actor.specs.Answers.{AnswersTry, IsBindOf, bound_or};
+ghost use Rattle.vq_actor.specs.Collections.{MayCollect, AnswersCollect, MayTake, IsTakeOf, emptied};
+ghost use Rattle.vq_actor.specs.Collections.{MayLookPast, AnswersPast};
+ghost use Rattle.vq_actor.specs.Meanings.{IsNext};
+ghost use Rattle.vq_actor.specs.Wants.{HoldsBackBind};
+ghost use Rattle.vq_turns.specs.Turns.{forward, taken};
+ghost use Rattle.vq_turns.specs.declared.outcome.Want.{Want as AnyWant};
+ghost use Rattle.vq_turns.specs.declared.task.Task.{Task};
+
+use crate::last::Last;
+use crate::post::Post;
+use crate::takings::remember;
+use std::sync::Wait;
+use vq_actor::Step;
+use vq_board::Board;
+use vq_model::plan::{Event, Op};
+use vq_order::Ordered;
+use vq_timeline::{BindFault, Collected, LockedTimeline};
+use vq_timeline_core::Taken;
+use vq_turns::outcome::Want;
+
+/// The event that gives an operation a point.
+fn taking(op: u32, taken: Taken) -> (u32, Event)
+    ensures point { result.0 ≡ taken_point taken }
+    ensures event { IsTakeOf op result.1 }
+{
+    match taken {
+        Taken::Reused(point) => (
+            point,
+            Event::Take {
+                op,
+                point,
+                fresh: false,
+            },
+        ),
+        Taken::Fresh(point) => (
+            point,
+            Event::Take {
+                op,
+                point,
+                fresh: true,
+            },
+        ),
+    }
+}
+
+/// Why an operation isn't bound, by what its chain's lists answered.
+fn held_back(ordered: &Ordered, op: u32, found: Op, fault: BindFault) -> Want
+    requires found { slice_get ordered.now.ops op ≡ Some found }
+    requires next { (n : ℕ) → fault ≡ AnyFault.NotNext n → n < found.index }
+    ensures wants { HoldsBackBind ordered.now op result }
+    ensures lists { is_of_lists result ≡ true }
+{
+    let plan = ordered.plan();
+    match fault {
+        BindFault::NotTaken { .. } => Want::Listed { op },
+        BindFault::NotNext { next } => Want::Next {
+            op: plan.chain(found.chain)[next as usize],
+        },
+        BindFault::NotReleased { .. } => Want::Released { job: found.job },
+    }
+}
+
+/// The timeline of a chain.
+fn timeline_at<'t>(timelines: &'t [LockedTimeline], board: &Board, chain: u32) -> &'t LockedTimeline
+    requires timelines { AreOf board.now timelines.now }
+    requires exists { chain < length (plan_of board.now).chains }
+    ensures board { IsAt board.now result.now }
+    ensures chain { chain_at result.now ≡ chain }
+{
+    let _ = board;
+    &timelines[chain as usize]
+}
+
+/// Collects on a chain, where it is there.
+fn collected_on<R: Wait>(
+    rt: &R,
+    board: &Board,
+    timelines: &[LockedTimeline],
+    chain: u32,
+) -> Collected
+    requires { AreOf board.now timelines.now }
+    ensures completed { (e : ℕ) → result ≡ AnyCollected.Completed e →
+        has (chain_of_plan (plan_of board.now) chain) e ≡ true }
+    ensures asked { (x : Timeline) → slice_get timelines.now chain ≡ Some x →
+        HasAsked (plan_of board.now) x result }
+{
+    match timelines.get(chain as usize) {
+        Some(timeline) => timeline.collect(rt, board),
+        None => Collected::Nothing,
+    }
+}
+
+/// The chain of a collection that found nothing, 0 after another call.
+fn emptied_chain(last: Last) -> u32
+    ensures { result ≡ emptied (recent_of last) }
+{
+    match last {
+        Last::Collected { chain } => chain,
+        Last::Other => 0,
+        Last::FoundAt { .. } => 0,
+    }
+}
+
+impl<'a> Post<'a> {
+    /// Makes the least pending operation of a chain past, or frees a point of it; nothing where its looks found
+    /// nothing to complete or to free.
+    pub(crate) fn collect<R: Wait>(&mut self, rt: &R, chain: u32) -> Option<Event>
+        requires { MayCollect (meaning self.old) chain }
+        ensures answer { AnswersCollect (meaning self.old) (meaning self.new) chain result }
+        ensures asked { (x : Timeline) → slice_get self.old.timelines.now chain ≡ Some x →
+            (collected : AnyCollected) × (result ≡ collection collected)
+            × HasAsked (plan_of self.old.board.now) x collected }
+    {
+        self.last = Last::Other;
+        match collected_on(rt, self.board, self.timelines, chain) {
+            Collected::Completed(op) => Some(Event::Complete { op }),
+            Collected::Freed(point) => Some(Event::Free { point }),
+            Collected::Nothing => {
+                self.last = Last::Collected { chain };
+                None
+            }
+        }
+    }
+
+    /// Gives an operation a point, where the lists of its chain give it one.
+    pub(crate) fn take<R: Wait>(&mut self, rt: &R, op: u32) -> Step
+        requires { MayTake (meaning self.old) op }
+        ensures answer { AnswersTry (meaning self.old) (meaning self.new) (forward (meaning self.old).place)
+            (λ w. Ok (taken w op (emptied (meaning self.old).recent))) (IsTakeOf op) (shows self.new) result }
+        ensures wants { IfErr result (λ want. want ≡ AnyWant.Listed op) }
+    {
+        let chain = emptied_chain(self.last);
+        self.last = Last::Other;
+        let _lawful = self.ordered.plan();
+        let timeline = timeline_at(self.timelines, self.board, chain);
+        match timeline.take_for(rt, self.board, op) {
+            Ok(taken) => {
+                let (point, event) = taking(op, taken);
+                remember(self.taken, point, op);
+                self.seat.forward();
+                Ok(event)
+            }
+            Err(_) => {
+                self.refused.keep(Want::Listed { op });
+                Err(Want::Listed { op })
+            }
+        }
+    }
+
+    /// Binds an operation, where the lists of its chain let it be next and its job is far enough.
+    pub(crate) fn bind<R: Wait>(&mut self, rt: &R, op: u32) -> Step
+        requires { IsNext (meaning self.old) (Task.Bind op) }
+        ensures answer { AnswersTry (meaning self.old) (meaning self.new) (forward (meaning self.old).place)
+            (λ w. bound_or (meaning self.old).plan w op) (IsBindOf op) (shows self.new) result }
+        ensures wants { IfErr result (HoldsBackBind (meaning self.old).plan op) }
+    {
+        self.last = Last::Other;
+        let _lawful = self.ordered.plan();
+        let found = self.board.op(op);
+        let timeline = timeline_at(self.timelines, self.board, found.chain);
+        match timeline.bind(rt, self.board, op) {
+            Ok(point) => {
+                self.taken.clear();
+                self.seat.forward();
+                Ok(Event::Bind { op, point })
+            }
+            Err(fault) => {
+                let want = held_back(self.ordered, op, found, fault);
+                self.refused.keep(want);
+                Err(want)
+            }
+        }
+    }
+
+    /// What the payload of a chain is, as far as the pass knows or its looks show it; it is compared with the value
+    /// that is wanted.
+    pub(crate) fn past(&mut self, chain: u32, wanted: u64) -> u64
+        requires { MayLookPast (meaning self.old) chain wanted }
+        ensures { AnswersPast (meaning self.old) (meaning self.new) chain wanted result }
+    {
+        self.last = Last::Other;
+        let _lawful = self.ordered.plan();
+        let past = timeline_at(self.timelines, self.board, chain).read(self.board, self.pass);
+        self.seat.see(wanted, past);
+        past
+    }
+}

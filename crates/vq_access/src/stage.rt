@@ -1,0 +1,116 @@
+//! A room as a stage of turns.
+//!
+//! Source: this project's own.
+ghost use Rattle.std.specs.Prelude.{◌≡◌};
+ghost use Rattle.vq_access.specs.Grounding.{plan_at, board_at};
+ghost use Rattle.vq_access.specs.Rooming.{IsRoomOf, TellsBy, view_of};
+ghost use Rattle.vq_actor.specs.Companies.{IsCompanyOf};
+ghost use Rattle.vq_board.specs.Named.{id_of};
+ghost use Rattle.vq_model.specs.ValidScripts.{IsActor};
+
+use crate::grounds::Grounds;
+use crate::room::AccessRoom;
+use std::marker::{Brand, PhantomData};
+use std::sync::Wait;
+use vq_actor::{Actor, Company, Stage};
+use vq_order::Ordered;
+use vq_turns::outcome::Outcome;
+
+/// Whose room a stage was made of, and of which board. The call that makes the stage picks it.
+pub(crate) trait Lent {
+    ghost use Rattle.atomic_table.specs.Seated.{TableId};
+    ghost use Rattle.vq_model.specs.declared.script.ActorName.{ActorName};
+
+    ghost owner: { ActorName };
+
+    ghost table: { TableId };
+}
+
+impl Lent for Brand {
+    ghost use Rattle.std.specs.Prelude.{[]};
+    ghost use Rattle.vq_model.specs.declared.script.ActorName.{ActorName};
+
+    ghost owner = { ActorName.Host };
+
+    ghost table = { record { words = 0; slots = 0; views_name = 0; atom = 0; block = 0; offset = 0; slot_names = [] } };
+}
+
+/// A room with what its turns go over.
+pub struct RoomStage<'a, R, J: Lent> {
+    room: AccessRoom,
+    grounds: &'a Grounds<'a, R>,
+    of: PhantomData<J>,
+    ghost board: { IsRoomOf grounds.now.board.now room },
+    ghost same_owner: { room.owner ≡ J.owner },
+    ghost same_table: { id_of grounds.now.board.now ≡ J.table },
+}
+
+impl<'a, R: Wait, J: Lent> Stage for RoomStage<'a, R, J> {
+    ghost use Rattle.std.specs.Prelude.{true};
+    ghost use Rattle.vq_access.specs.Rooming.{shown_by, staged};
+    ghost use Rattle.vq_access.specs.Served.{is_served};
+
+    ghost staged = { λ x. staged x.grounds.now.ordered.now x.room };
+
+    ghost has = { λ x a. is_served x.grounds.now.ordered.now x.room.owner a ≡ true };
+
+    ghost shows = { λ x. shown_by x.room };
+
+    fn ordered(&self) -> &Ordered {
+        self.grounds.ordered
+    }
+
+    fn turn(&mut self, actor: &Actor) -> Outcome {
+        self.room.turn(self.grounds, actor)
+    }
+}
+
+/// One turn over a stage that is made for it.
+fn turn_named<J: Lent, R: Wait>(
+    room: AccessRoom,
+    grounds: &Grounds<R>,
+    company: &Company,
+) -> (AccessRoom, Outcome)
+    requires company { IsCompanyOf grounds.now.ordered.now company.now }
+    requires board { IsRoomOf grounds.now.board.now room }
+    requires actor { IsActor grounds.now.ordered.now.script room.owner }
+    requires same_owner { room.owner ≡ J.owner }
+    requires same_table { id_of grounds.now.board.now ≡ J.table }
+    ensures board { IsRoomOf grounds.now.board.now result.0 }
+    ensures owner { result.0.owner ≡ room.owner }
+    ensures told { TellsBy (view_of room) (view_of result.0) result.1 }
+{
+    let owner = room.owner();
+    let mut stage = RoomStage::<R, J> {
+        room,
+        grounds,
+        of: PhantomData,
+    };
+    let outcome = company.turn(&mut stage, owner);
+    let RoomStage {
+        room,
+        grounds: _grounds,
+        of: _of,
+    } = stage;
+    (room, outcome)
+}
+
+impl AccessRoom {
+    /// One turn of the room's own actor: the room after it, with the event that was made, or why none was. The host's
+    /// serves the submit actors of deferred queues too. It waits for nothing but the locks of timelines, and takes no
+    /// memory.
+    pub fn take_turn<R: Wait>(
+        self,
+        grounds: &Grounds<R>,
+        company: &Company,
+    ) -> (AccessRoom, Outcome)
+        requires company { IsCompanyOf (plan_at grounds.now) company.now }
+        requires board { IsRoomOf (board_at grounds.now) self }
+        requires actor { IsActor (plan_at grounds.now).script self.owner }
+        ensures board { IsRoomOf (board_at grounds.now) result.0 }
+        ensures owner { result.0.owner ≡ self.owner }
+        ensures told { TellsBy (view_of self) (view_of result.0) result.1 }
+    {
+        turn_named::<Brand, R>(self, grounds, company)
+    }
+}
