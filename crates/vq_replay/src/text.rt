@@ -11,14 +11,15 @@ use crate::schedule::Replayed;
 use crate::trace::push_turns;
 use std::alloc::{AllocError, Global};
 use vq_core::{AnswerRoom, Core};
-use vq_spec::{answer_text, buffers_text};
+use vq_spec::push_buffers;
+use vq_text::push_numeral;
 
 /// Adds the end of a trace that leaves so many jobs.
-fn push_unfinished(alloc: Global, out: &mut Vec<u8>, left: u32) -> Result<(), AllocError>
+fn push_unfinished(out: &mut Vec<u8>, left: u32) -> Result<(), AllocError>
     ensures { OnOk result (out.new.items ≡ out.old.items ++ (codes "unfinished " ++ decimal left ++ line_feed)) }
 {
     out.extend_from_slice(b"unfinished ")?;
-    out.extend_from_slice(left.to_string(alloc)?.as_bytes())?;
+    push_numeral(out, u64::from(left))?;
     out.push(b'\n')?;
     Ok(())
 }
@@ -30,8 +31,7 @@ fn push_answers(alloc: Global, out: &mut Vec<u8>, core: &Core) -> Result<(), All
 {
     let room = AnswerRoom::new(alloc, core.ordered().plan())?;
     let lines = room.fill(core);
-    let text = answer_text(alloc, lines.as_slice())?;
-    out.extend_from_slice(text.as_slice())
+    vq_text::push_answers(out, lines.as_slice())
 }
 
 /// Adds the end of a trace that leaves no job: what was answered, and the buffers.
@@ -41,9 +41,7 @@ fn push_finished(alloc: Global, out: &mut Vec<u8>, core: &Core) -> Result<(), Al
 {
     out.extend_from_slice(b"finished\n")?;
     push_answers(alloc, out, core)?;
-    let buffers = buffers_text(alloc, core.ordered().plan(), core.buffers())?;
-    out.extend_from_slice(buffers.as_slice())?;
-    Ok(())
+    push_buffers(out, core.ordered().plan(), core.buffers())
 }
 
 /// The text of a schedule that was played: a line for each turn, and then what it leaves: the answers and
@@ -54,12 +52,12 @@ pub fn trace_text(alloc: Global, replayed: &Replayed) -> Result<Vec<u8>, AllocEr
 {
     let mut text = Vec::new(alloc);
     let plan = replayed.core.ordered().plan();
-    push_turns(alloc, &mut text, plan, replayed.played.as_slice())?;
+    push_turns(&mut text, plan, replayed.played.as_slice())?;
     let left = replayed.core.left();
     if left == 0 {
         push_finished(alloc, &mut text, &replayed.core)?;
     } else {
-        push_unfinished(alloc, &mut text, left)?;
+        push_unfinished(&mut text, left)?;
     }
     Ok(text)
 }

@@ -7,32 +7,24 @@ ghost use Rattle.vq_replay.specs.Traces.{event_words, op_words, outcome_words, t
 ghost use Rattle.vq_model.specs.Plan.{line_of_job};
 
 use crate::played::Played;
-use crate::words::{
-    line_of_command, line_of_job, push_actor, push_answer, push_number, push_op, push_word,
-};
-use std::alloc::{AllocError, Global};
+use crate::words::{line_of_command, line_of_job, push_actor, push_answer, push_op};
+use std::alloc::AllocError;
 use vq_model::plan::Event;
 use vq_spec::Plan;
+use vq_text::{push_number, push_numeral, push_word};
 use vq_turns::outcome::Outcome;
 
 /// Adds a word and the line of a job.
-fn push_job(
-    alloc: Global,
-    out: &mut Vec<u8>,
-    word: &[u8],
-    plan: &Plan,
-    job: u32,
-) -> Result<(), AllocError>
+fn push_job(out: &mut Vec<u8>, word: &[u8], plan: &Plan, job: u32) -> Result<(), AllocError>
     ensures { OnOk result (out.new.items ≡ out.old.items
         ++ spaced (word.now ∷ decimal (line_of_job plan.now job) ∷ [])) }
 {
     push_word(out, word)?;
-    push_number(alloc, out, u64::from(line_of_job(plan, job)))
+    push_number(out, u64::from(line_of_job(plan, job)))
 }
 
 /// Adds a word, a point and a signal operation.
 fn push_point(
-    alloc: Global,
     out: &mut Vec<u8>,
     word: &[u8],
     plan: &Plan,
@@ -43,105 +35,84 @@ fn push_point(
         ++ spaced (word.now ∷ decimal point ∷ op_words plan.now op)) }
 {
     push_word(out, word)?;
-    push_number(alloc, out, u64::from(point))?;
-    push_op(alloc, out, plan, op)
+    push_number(out, u64::from(point))?;
+    push_op(out, plan, op)
 }
 
 /// Adds a word and a signal operation.
-fn push_named_op(
-    alloc: Global,
-    out: &mut Vec<u8>,
-    word: &[u8],
-    plan: &Plan,
-    op: u32,
-) -> Result<(), AllocError>
+fn push_named_op(out: &mut Vec<u8>, word: &[u8], plan: &Plan, op: u32) -> Result<(), AllocError>
     ensures { OnOk result (out.new.items ≡ out.old.items ++ spaced (word.now ∷ op_words plan.now op)) }
 {
     push_word(out, word)?;
-    push_op(alloc, out, plan, op)
+    push_op(out, plan, op)
 }
 
 /// Adds the words of an event.
-fn push_event(alloc: Global, out: &mut Vec<u8>, plan: &Plan, event: Event) -> Result<(), AllocError>
+fn push_event(out: &mut Vec<u8>, plan: &Plan, event: Event) -> Result<(), AllocError>
     ensures { OnOk result (out.new.items ≡ out.old.items ++ spaced (event_words plan.now event)) }
 {
     match event {
-        Event::Submit { job } => push_job(alloc, out, b"submit", plan, job),
+        Event::Submit { job } => push_job(out, b"submit", plan, job),
         Event::Take { op, point, fresh } => {
-            push_named_op(alloc, out, b"take", plan, op)?;
+            push_named_op(out, b"take", plan, op)?;
             push_word(out, if fresh { b"fresh" } else { b"reused" })?;
-            push_number(alloc, out, u64::from(point))
+            push_number(out, u64::from(point))
         }
-        Event::Release { job } => push_job(alloc, out, b"release", plan, job),
+        Event::Release { job } => push_job(out, b"release", plan, job),
         Event::Bind { op, point } => {
-            push_named_op(alloc, out, b"bind", plan, op)?;
-            push_number(alloc, out, u64::from(point))
+            push_named_op(out, b"bind", plan, op)?;
+            push_number(out, u64::from(point))
         }
-        Event::Refer { point, op, .. } => push_point(alloc, out, b"refer", plan, point, op),
-        Event::Look { point, op, .. } => push_point(alloc, out, b"look", plan, point, op),
-        Event::Unref { point, op, .. } => push_point(alloc, out, b"unref", plan, point, op),
-        Event::Complete { op } => push_named_op(alloc, out, b"complete", plan, op),
+        Event::Refer { point, op, .. } => push_point(out, b"refer", plan, point, op),
+        Event::Look { point, op, .. } => push_point(out, b"look", plan, point, op),
+        Event::Unref { point, op, .. } => push_point(out, b"unref", plan, point, op),
+        Event::Complete { op } => push_named_op(out, b"complete", plan, op),
         Event::Free { point } => {
             push_word(out, b"free")?;
-            push_number(alloc, out, u64::from(point))
+            push_number(out, u64::from(point))
         }
-        Event::Start { job } => push_job(alloc, out, b"start", plan, job),
+        Event::Start { job } => push_job(out, b"start", plan, job),
         Event::Apply { command, .. } => {
             push_word(out, b"apply")?;
-            push_number(alloc, out, u64::from(line_of_command(plan, command)))
+            push_number(out, u64::from(line_of_command(plan, command)))
         }
-        Event::Signal { op } => push_named_op(alloc, out, b"signal", plan, op),
-        Event::Finish { job } => push_job(alloc, out, b"finish", plan, job),
+        Event::Signal { op } => push_named_op(out, b"signal", plan, op),
+        Event::Finish { job } => push_job(out, b"finish", plan, job),
         Event::Answer { job, answer } => {
-            push_job(alloc, out, b"answer", plan, job)?;
-            push_answer(alloc, out, answer)
+            push_job(out, b"answer", plan, job)?;
+            push_answer(out, answer)
         }
     }
 }
 
 /// Adds the words of an outcome.
-fn push_outcome(
-    alloc: Global,
-    out: &mut Vec<u8>,
-    plan: &Plan,
-    outcome: Outcome,
-) -> Result<(), AllocError>
+fn push_outcome(out: &mut Vec<u8>, plan: &Plan, outcome: Outcome) -> Result<(), AllocError>
     ensures { OnOk result (out.new.items ≡ out.old.items ++ spaced (outcome_words plan.now outcome)) }
 {
     match outcome {
-        Outcome::Moved(event) => push_event(alloc, out, plan, event),
+        Outcome::Moved(event) => push_event(out, plan, event),
         Outcome::Blocked(_) => push_word(out, b"-"),
         Outcome::Ended => push_word(out, b"."),
     }
 }
 
 /// Adds the line of a played turn.
-fn push_turn(
-    alloc: Global,
-    out: &mut Vec<u8>,
-    plan: &Plan,
-    played: Played,
-) -> Result<(), AllocError>
+fn push_turn(out: &mut Vec<u8>, plan: &Plan, played: Played) -> Result<(), AllocError>
     ensures { OnOk result (out.new.items ≡ out.old.items ++ turn_line plan.now played) }
 {
-    out.extend_from_slice(played.number.to_string(alloc)?.as_bytes())?;
+    push_numeral(out, u64::from(played.number))?;
     push_actor(out, plan.script(), played.actor)?;
-    push_outcome(alloc, out, plan, played.outcome)?;
+    push_outcome(out, plan, played.outcome)?;
     out.push(b'\n')?;
     Ok(())
 }
 
 /// Adds a line for each played turn.
-pub fn push_turns(
-    alloc: Global,
-    out: &mut Vec<u8>,
-    plan: &Plan,
-    played: &[Played],
-) -> Result<(), AllocError>
+pub fn push_turns(out: &mut Vec<u8>, plan: &Plan, played: &[Played]) -> Result<(), AllocError>
     ensures { OnOk result (out.new.items ≡ out.old.items ++ flat_map (turn_line plan.now) played.now) }
 {
     for turn in played {
-        push_turn(alloc, out, plan, *turn)?;
+        push_turn(out, plan, *turn)?;
     }
     Ok(())
 }

@@ -1,5 +1,5 @@
 -- The chains of a plan are its operations, sorted.
-use Rattle.std.proofs.Common.{◌≡◌, ℕ, zero, suc, ◌+◌, ◌<◌, Bool, true, false, not, cond, eqb, ltb, leb, List, [], ◌∷◌, ◌++◌, length, map, filter, fold, Option, Some, None, option_map, refl, sym, ap, ◌∙◌, ◌⊎◌, inl, inr, subst, arith, append_assoc, zero-add}
+use Rattle.std.proofs.Common.{◌≡◌, ℕ, suc, ◌+◌, ◌<◌, Bool, true, false, not, cond, eqb, ltb, leb, List, [], ◌∷◌, ◌++◌, length, map, filter, fold, Some, None, option_map, refl, sym, ap, ◌∙◌, ◌⊎◌, inl, inr, subst, arith, append_assoc, zero-add}
 use Rattle.std.specs.List.{slice_get, filter_map, cons_option, enumerate_from, range_with_len, prefix_len, position_or_len, find}
 use Rattle.std.specs.List.Sorted.{IsPermutation}
 use Rattle.std.specs.Option.{option_map_or}
@@ -8,10 +8,10 @@ use Rattle.vq_model.specs.declared.script.Script.{Script}
 use Rattle.vq_model.specs.Lowering.{plan_of}
 use Rattle.vq_model.specs.Plan.{has, value, chain}
 use Rattle.vq_model.specs.SameScript.{IsRead}
-use Rattle.vq_model.specs.Signals.{Signaling, all_signals, signals_semaphore, values_from, value_at, insert_op, chain_ops, op_at}
+use Rattle.vq_model.specs.Signals.{Signaling, all_signals, signals_semaphore, value_at, insert_op, chain_ops}
 use Rattle.vq_model.specs.WellFormed.{AreInOrder}
 use Rattle.vq_model.proofs.Lists.{has_cases}
-use Rattle.vq_model.proofs.Gets.{get-map, get-enumerate, get-range, get-append}
+use Rattle.vq_model.proofs.Gets.{get-map, get-range, get-append}
 use Rattle.vq_plan_laws.proofs.Cited.{well_formed, op_value_is}
 use Rattle.vq_reading_laws.proofs.Cited.{read_valid}
 use Rattle.vq_spec.specs.declared.chains.Chain.{Chain}

@@ -1,6 +1,5 @@
 pub mod Cited
 mod GatheredChains
-mod HexLines
 mod KeptTables
 mod Initials
 mod FenceStates
@@ -19,4 +18,5 @@ mod SlowSteps
 mod SlowReady
 mod SlowLeft
 mod SortedPairs
+mod TextRooms
 mod UseWalks

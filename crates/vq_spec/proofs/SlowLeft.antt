@@ -4,7 +4,6 @@ use Rattle.std.specs.List.{range_with_len}
 use Rattle.std.proofs.lemmas.List.Elements.{filter-append}
 use Rattle.vq_model.specs.Plan.{Plan, has}
 use Rattle.vq_model.specs.SlowRun.{left_over, slow_order}
-use Rattle.vq_model.proofs.Lists.{has_here, has_there}
 use Rattle.vq_model.proofs.Numbers.{has-range_cases, range_push}
 use Rattle.vq_model.proofs.Filters.{same_filter}
 use Rattle.vq_spec.specs.SlowProgress.{is_marked, AreMarks}

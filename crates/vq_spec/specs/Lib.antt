@@ -5,4 +5,5 @@ pub mod Jobs
 pub mod PlanTables
 pub mod Places
 pub mod SlowProgress
+pub mod TextRooms
 pub mod Walks

@@ -21,6 +21,8 @@ mod schedule_tests;
 #[cfg(test)]
 mod script_tests;
 #[cfg(test)]
+mod text_room_tests;
+#[cfg(test)]
 mod timeline_tests;
 #[cfg(test)]
 mod transfer_tests;

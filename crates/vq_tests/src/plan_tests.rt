@@ -26,7 +26,7 @@ end
 ";
 
 /// The plan of a text that stands for a script, or why it has none.
-fn lowered(alloc: Global, text: &[u8]) -> Option<Result<Plan, PlanFault>> {
+pub(crate) fn lowered(alloc: Global, text: &[u8]) -> Option<Result<Plan, PlanFault>> {
     if !is_short(text) {
         return None;
     }

@@ -1,9 +1,7 @@
 -- Neighbouring turns of one actor are one line.
 use Rattle.std.proofs.Common.{◌≡◌, ℕ, ◌+◌, Bool, true, false, cond, List, [], ◌∷◌, drop, suc, refl, sym, ap, ◌∙◌, subst, arith, ◌≤◌, ◌++◌, length, get_or, append_assoc}
 use Rattle.std.specs.List.{prefix_len, flat_map}
-use Rattle.std.proofs.lemmas.Bool.{eqb-true, eq-eqb}
 use Rattle.vq_model.specs.declared.script.ActorName.{ActorName}
-use Rattle.vq_model.specs.declared.script.ActorName.TheVariants.{Host as HostActor, Submit as SubmitActor, Ring as RingActor}
 use Rattle.vq_model.specs.declared.script.Turn.{Turn}
 use Rattle.vq_model.specs.Canonical.{joined_turns, with_turn, Turns, line_text, turns_words}
 use Rattle.vq_model.specs.declared.script.Script.{Script}

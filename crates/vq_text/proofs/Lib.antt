@@ -1,3 +1,6 @@
+pub mod Cited
+mod HexLines
 mod JoinedTurns
 mod PrintedLines
 mod PrintedSteps
+mod TextSizes

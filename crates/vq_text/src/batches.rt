@@ -9,11 +9,11 @@ ghost use Rattle.vq_model.specs.Canonical.{signal_words, fence_lines, job_words,
 use crate::commands::push_commands;
 use crate::host_steps::push_step;
 use crate::words::{push_name_line, push_number_line};
-use std::alloc::{AllocError, Global};
+use std::alloc::AllocError;
 use vq_model::script::{Batch, Job, Mark, Script, SemaphoreKind};
 
 /// The name of a queue, empty for a queue that isn't declared.
-pub(crate) fn queue_name(script: &Script, queue: u32) -> &[u8]
+pub fn queue_name(script: &Script, queue: u32) -> &[u8]
     ensures { result.now ≡ queue_name script.now queue }
 {
     match script.queues.as_slice().get(queue as usize) {
@@ -23,7 +23,7 @@ pub(crate) fn queue_name(script: &Script, queue: u32) -> &[u8]
 }
 
 /// The name of a semaphore or fence, empty for one that isn't declared.
-pub(crate) fn semaphore_name(script: &Script, semaphore: u32) -> &[u8]
+pub fn semaphore_name(script: &Script, semaphore: u32) -> &[u8]
     ensures { result.now ≡ semaphore_name script.now semaphore }
 {
     match script.semaphores.as_slice().get(semaphore as usize) {
@@ -43,67 +43,46 @@ fn semaphore_kind(script: &Script, semaphore: u32) -> SemaphoreKind
 }
 
 /// Adds a line of a word and a semaphore, with the value where it is a timeline.
-fn push_mark(
-    alloc: Global,
-    out: &mut Vec<u8>,
-    script: &Script,
-    word: &[u8],
-    mark: Mark,
-) -> Result<(), AllocError>
+fn push_mark(out: &mut Vec<u8>, script: &Script, word: &[u8], mark: Mark) -> Result<(), AllocError>
     ensures { OnOk result
         (out.new.items ≡ out.old.items ++ line_text (word.now ∷ mark_words script.now mark)) }
 {
     let name = semaphore_name(script, mark.semaphore);
     match semaphore_kind(script, mark.semaphore) {
-        SemaphoreKind::Timeline(_) => push_number_line(alloc, out, word, name, mark.value),
+        SemaphoreKind::Timeline(_) => push_number_line(out, word, name, mark.value),
         SemaphoreKind::Binary => push_name_line(out, word, name),
         SemaphoreKind::Fence => push_name_line(out, word, name),
     }
 }
 
 /// Adds the line of a wait that holds back the whole batch.
-fn push_wait(
-    alloc: Global,
-    out: &mut Vec<u8>,
-    script: &Script,
-    wait: Mark,
-) -> Result<(), AllocError>
+fn push_wait(out: &mut Vec<u8>, script: &Script, wait: Mark) -> Result<(), AllocError>
     requires { wait.from ≡ 1 }
     ensures { OnOk result
         (out.new.items ≡ out.old.items ++ line_text (wait_words script.now wait)) }
 {
-    push_mark(alloc, out, script, b"wait", wait)
+    push_mark(out, script, b"wait", wait)
 }
 
 /// Adds the lines of waits that hold back the whole batch.
-fn push_waits(
-    alloc: Global,
-    out: &mut Vec<u8>,
-    script: &Script,
-    waits: &[Mark],
-) -> Result<(), AllocError>
+fn push_waits(out: &mut Vec<u8>, script: &Script, waits: &[Mark]) -> Result<(), AllocError>
     requires { All (λ m. m.from ≡ 1) waits.now }
     ensures { OnOk result (out.new.items ≡ out.old.items
         ++ flat_map (λ m. line_text (wait_words script.now m)) waits.now) }
 {
     for wait in waits {
-        push_wait(alloc, out, script, *wait)?;
+        push_wait(out, script, *wait)?;
     }
     Ok(())
 }
 
 /// Adds the lines of signals.
-fn push_signals(
-    alloc: Global,
-    out: &mut Vec<u8>,
-    script: &Script,
-    signals: &[Mark],
-) -> Result<(), AllocError>
+fn push_signals(out: &mut Vec<u8>, script: &Script, signals: &[Mark]) -> Result<(), AllocError>
     ensures { OnOk result (out.new.items ≡ out.old.items
         ++ flat_map (λ m. line_text (signal_words script.now m)) signals.now) }
 {
     for signal in signals {
-        push_mark(alloc, out, script, b"signal", *signal)?;
+        push_mark(out, script, b"signal", *signal)?;
     }
     Ok(())
 }
@@ -120,31 +99,21 @@ fn push_fence(out: &mut Vec<u8>, script: &Script, fence: Option<Mark>) -> Result
 }
 
 /// Adds the lines of a batch whose waits hold it back as a whole.
-fn push_batch(
-    alloc: Global,
-    out: &mut Vec<u8>,
-    script: &Script,
-    batch: &Batch,
-) -> Result<(), AllocError>
+fn push_batch(out: &mut Vec<u8>, script: &Script, batch: &Batch) -> Result<(), AllocError>
     requires { All (λ m. m.from ≡ 1) batch.now.waits }
     ensures { OnOk result (out.new.items ≡ out.old.items
         ++ flat_map line_text (job_words script.now (Job.Batch batch.now))) }
 {
     push_name_line(out, b"submit", queue_name(script, batch.queue))?;
-    push_waits(alloc, out, script, batch.waits.as_slice())?;
-    push_commands(alloc, out, script, batch.commands.as_slice())?;
-    push_signals(alloc, out, script, batch.signals.as_slice())?;
+    push_waits(out, script, batch.waits.as_slice())?;
+    push_commands(out, script, batch.commands.as_slice())?;
+    push_signals(out, script, batch.signals.as_slice())?;
     push_fence(out, script, batch.fence)?;
     out.extend_from_slice(b"end\n")
 }
 
 /// Adds the lines of jobs.
-pub(crate) fn push_jobs(
-    alloc: Global,
-    out: &mut Vec<u8>,
-    script: &Script,
-    jobs: &[Job],
-) -> Result<(), AllocError>
+pub(crate) fn push_jobs(out: &mut Vec<u8>, script: &Script, jobs: &[Job]) -> Result<(), AllocError>
     requires written { jobs.now ≡ script.now.jobs }
     requires whole { HasWholeWaits script.now }
     ensures { OnOk result (out.new.items ≡ out.old.items
@@ -152,8 +121,8 @@ pub(crate) fn push_jobs(
 {
     for job in jobs {
         match job {
-            Job::Host(step) => push_step(alloc, out, script, &step.step)?,
-            Job::Batch(batch) => push_batch(alloc, out, script, batch)?,
+            Job::Host(step) => push_step(out, script, &step.step)?,
+            Job::Batch(batch) => push_batch(out, script, batch)?,
         }
     }
     Ok(())

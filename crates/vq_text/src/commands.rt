@@ -7,7 +7,7 @@ ghost use Rattle.vq_model.specs.Naming.{buffer_name};
 ghost use Rattle.vq_model.specs.Canonical.{line_text};
 
 use crate::words::{push_fill_size, push_fill_word, push_hex_bytes, push_number, push_place};
-use std::alloc::{AllocError, Global};
+use std::alloc::AllocError;
 use vq_model::script::{Command, CommandLine, FillSize, Script};
 
 /// The name of a buffer, empty for a buffer that isn't declared.
@@ -22,7 +22,6 @@ fn buffer_name(script: &Script, buffer: u32) -> &[u8]
 
 /// Adds the line of a fill.
 fn push_fill(
-    alloc: Global,
     out: &mut Vec<u8>,
     name: &[u8],
     offset: u32,
@@ -34,27 +33,21 @@ fn push_fill(
         ∷ fill_word word ∷ [])) }
 {
     out.extend_from_slice(b"fill")?;
-    push_place(alloc, out, name, offset)?;
-    push_fill_size(alloc, out, size)?;
+    push_place(out, name, offset)?;
+    push_fill_size(out, size)?;
     push_fill_word(out, word)?;
     out.push(b'\n')?;
     Ok(())
 }
 
 /// Adds the line of an update.
-fn push_update(
-    alloc: Global,
-    out: &mut Vec<u8>,
-    name: &[u8],
-    offset: u32,
-    bytes: &[u8],
-) -> Result<(), AllocError>
+fn push_update(out: &mut Vec<u8>, name: &[u8], offset: u32, bytes: &[u8]) -> Result<(), AllocError>
     ensures { OnOk result (out.new.items ≡ out.old.items
         ++ line_text (codes "update" ∷ name.now ∷ decimal offset
         ∷ flat_map (hex_digits 2) bytes.now ∷ [])) }
 {
     out.extend_from_slice(b"update")?;
-    push_place(alloc, out, name, offset)?;
+    push_place(out, name, offset)?;
     out.push(b' ')?;
     push_hex_bytes(out, bytes)?;
     out.push(b'\n')?;
@@ -63,7 +56,6 @@ fn push_update(
 
 /// Adds the line of a copy.
 fn push_copy(
-    alloc: Global,
     out: &mut Vec<u8>,
     source: (&[u8], u32),
     target: (&[u8], u32),
@@ -74,20 +66,15 @@ fn push_copy(
         ∷ target.entry.0.now ∷ decimal target.entry.1 ∷ decimal size ∷ [])) }
 {
     out.extend_from_slice(b"copy")?;
-    push_place(alloc, out, source.0, source.1)?;
-    push_place(alloc, out, target.0, target.1)?;
-    push_number(alloc, out, u64::from(size))?;
+    push_place(out, source.0, source.1)?;
+    push_place(out, target.0, target.1)?;
+    push_number(out, u64::from(size))?;
     out.push(b'\n')?;
     Ok(())
 }
 
 /// Adds the line of a command.
-fn push_command(
-    alloc: Global,
-    out: &mut Vec<u8>,
-    script: &Script,
-    command: &Command,
-) -> Result<(), AllocError>
+fn push_command(out: &mut Vec<u8>, script: &Script, command: &Command) -> Result<(), AllocError>
     ensures { OnOk result
         (out.new.items ≡ out.old.items ++ line_text (command_words script.now command.now)) }
 {
@@ -99,7 +86,7 @@ fn push_command(
             word,
         } => {
             let name = buffer_name(script, *buffer);
-            push_fill(alloc, out, name, *offset, *size, *word)
+            push_fill(out, name, *offset, *size, *word)
         }
         Command::Update {
             buffer,
@@ -107,7 +94,7 @@ fn push_command(
             bytes,
         } => {
             let name = buffer_name(script, *buffer);
-            push_update(alloc, out, name, *offset, bytes.as_slice())
+            push_update(out, name, *offset, bytes.as_slice())
         }
         Command::Copy {
             source,
@@ -118,14 +105,13 @@ fn push_command(
         } => {
             let source = (buffer_name(script, *source), *source_offset);
             let target = (buffer_name(script, *target), *target_offset);
-            push_copy(alloc, out, source, target, *size)
+            push_copy(out, source, target, *size)
         }
     }
 }
 
 /// Adds the lines of commands.
 pub(crate) fn push_commands(
-    alloc: Global,
     out: &mut Vec<u8>,
     script: &Script,
     commands: &[CommandLine],
@@ -134,7 +120,7 @@ pub(crate) fn push_commands(
         ++ flat_map (λ c. line_text (command_words script.now c.command)) commands.now) }
 {
     for line in commands {
-        push_command(alloc, out, script, &line.command)?;
+        push_command(out, script, &line.command)?;
     }
     Ok(())
 }

@@ -4,56 +4,48 @@ ghost use Rattle.std.specs.List.{flat_map};
 ghost use Rattle.vq_model.specs.Canonical.{buffer_words, semaphore_words, queue_words, line_text};
 
 use crate::words::{mode_word, push_name_line, push_number_line, push_word};
-use std::alloc::{AllocError, Global};
+use std::alloc::AllocError;
 use vq_model::script::{Buffer, Queue, Semaphore, SemaphoreKind};
 
 /// Adds the line of a buffer.
-fn push_buffer(alloc: Global, out: &mut Vec<u8>, buffer: &Buffer) -> Result<(), AllocError>
+fn push_buffer(out: &mut Vec<u8>, buffer: &Buffer) -> Result<(), AllocError>
     ensures { OnOk result (out.new.items ≡ out.old.items ++ line_text (buffer_words buffer.now)) }
 {
     let size = u64::from(buffer.size);
-    push_number_line(alloc, out, b"buffer", buffer.name.as_slice(), size)
+    push_number_line(out, b"buffer", buffer.name.as_slice(), size)
 }
 
 /// Adds the lines of buffers.
-pub(crate) fn push_buffers(
-    alloc: Global,
-    out: &mut Vec<u8>,
-    buffers: &[Buffer],
-) -> Result<(), AllocError>
+pub(crate) fn push_buffers(out: &mut Vec<u8>, buffers: &[Buffer]) -> Result<(), AllocError>
     ensures { OnOk result (out.new.items ≡ out.old.items
         ++ flat_map (λ b. line_text (buffer_words b)) buffers.now) }
 {
     for buffer in buffers {
-        push_buffer(alloc, out, buffer)?;
+        push_buffer(out, buffer)?;
     }
     Ok(())
 }
 
 /// Adds the line of a timeline, a binary semaphore or a fence.
-fn push_semaphore(alloc: Global, out: &mut Vec<u8>, semaphore: &Semaphore) -> Result<(), AllocError>
+fn push_semaphore(out: &mut Vec<u8>, semaphore: &Semaphore) -> Result<(), AllocError>
     ensures { OnOk result
         (out.new.items ≡ out.old.items ++ line_text (semaphore_words semaphore.now)) }
 {
     let name = semaphore.name.as_slice();
     match semaphore.kind {
-        SemaphoreKind::Timeline(value) => push_number_line(alloc, out, b"timeline", name, value),
+        SemaphoreKind::Timeline(value) => push_number_line(out, b"timeline", name, value),
         SemaphoreKind::Binary => push_name_line(out, b"binary", name),
         SemaphoreKind::Fence => push_name_line(out, b"fence", name),
     }
 }
 
 /// Adds the lines of timelines, binary semaphores and fences.
-pub(crate) fn push_semaphores(
-    alloc: Global,
-    out: &mut Vec<u8>,
-    semaphores: &[Semaphore],
-) -> Result<(), AllocError>
+pub(crate) fn push_semaphores(out: &mut Vec<u8>, semaphores: &[Semaphore]) -> Result<(), AllocError>
     ensures { OnOk result (out.new.items ≡ out.old.items
         ++ flat_map (λ x. line_text (semaphore_words x)) semaphores.now) }
 {
     for semaphore in semaphores {
-        push_semaphore(alloc, out, semaphore)?;
+        push_semaphore(out, semaphore)?;
     }
     Ok(())
 }

@@ -7,11 +7,11 @@ ghost use Rattle.vq_model.specs.Canonical.{turns_words};
 
 use crate::batches::queue_name;
 use crate::words::push_number;
-use std::alloc::{AllocError, Global};
+use std::alloc::AllocError;
 use vq_model::script::{ActorName, Script, Turn};
 
-/// Adds the word of an actor.
-fn push_actor(out: &mut Vec<u8>, script: &Script, actor: ActorName) -> Result<(), AllocError>
+/// Adds the word of an actor. The error is want of memory.
+pub fn push_actor(out: &mut Vec<u8>, script: &Script, actor: ActorName) -> Result<(), AllocError>
     ensures { OnOk result (out.new.items ≡ out.old.items ++ actor_word script.now actor) }
 {
     match actor {
@@ -29,7 +29,6 @@ fn push_actor(out: &mut Vec<u8>, script: &Script, actor: ActorName) -> Result<()
 
 /// Adds the line of some turns of an actor: a count stands there where there is more than one.
 fn push_turns(
-    alloc: Global,
     out: &mut Vec<u8>,
     script: &Script,
     actor: ActorName,
@@ -40,7 +39,7 @@ fn push_turns(
 {
     push_actor(out, script, actor)?;
     if 1 < count {
-        push_number(alloc, out, count)?;
+        push_number(out, count)?;
     }
     out.push(b'\n')?;
     Ok(())
@@ -72,19 +71,14 @@ fn neighbours(turns: &[Turn], actor: ActorName) -> usize
 }
 
 /// Adds the lines of turns: neighbouring turns of one actor are one line.
-fn push_all_turns(
-    alloc: Global,
-    out: &mut Vec<u8>,
-    script: &Script,
-    turns: &[Turn],
-) -> Result<(), AllocError>
+fn push_all_turns(out: &mut Vec<u8>, script: &Script, turns: &[Turn]) -> Result<(), AllocError>
     ensures { OnOk result (out.new.items ≡ out.old.items
         ++ flat_map (λ t. line_text (turns_words script.now t)) (joined_turns turns.now)) }
 {
     let mut rest = turns;
     while let [first, ..] = rest {
         let count = neighbours(rest, first.actor);
-        push_turns(alloc, out, script, first.actor, count as u64)?;
+        push_turns(out, script, first.actor, count as u64)?;
         let (_, others) = rest.split_at(count);
         rest = others;
     }
@@ -92,17 +86,13 @@ fn push_all_turns(
 }
 
 /// Adds the lines of a script's schedule, if it has one.
-pub(crate) fn push_schedule(
-    alloc: Global,
-    out: &mut Vec<u8>,
-    script: &Script,
-) -> Result<(), AllocError>
+pub(crate) fn push_schedule(out: &mut Vec<u8>, script: &Script) -> Result<(), AllocError>
     ensures { OnOk result (out.new.items ≡ out.old.items
         ++ flat_map line_text (schedule_words script.now)) }
 {
     if script.scheduled {
         out.extend_from_slice(b"schedule\n")?;
-        push_all_turns(alloc, out, script, script.turns.as_slice())
+        push_all_turns(out, script, script.turns.as_slice())
     } else {
         Ok(())
     }

@@ -24,10 +24,10 @@ pub fn print(alloc: Global, script: &Script) -> Result<Vec<u8>, AllocError>
     ensures { IfOk result (λ text. text.items ≡ canonical_text script.now) }
 {
     let mut out = Vec::new(alloc);
-    push_buffers(alloc, &mut out, script.buffers.as_slice())?;
-    push_semaphores(alloc, &mut out, script.semaphores.as_slice())?;
+    push_buffers(&mut out, script.buffers.as_slice())?;
+    push_semaphores(&mut out, script.semaphores.as_slice())?;
     push_queues(&mut out, script.queues.as_slice())?;
-    push_jobs(alloc, &mut out, script, script.jobs.as_slice())?;
-    push_schedule(alloc, &mut out, script)?;
+    push_jobs(&mut out, script, script.jobs.as_slice())?;
+    push_schedule(&mut out, script)?;
     Ok(out)
 }

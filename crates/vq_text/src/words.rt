@@ -6,9 +6,13 @@ ghost use Rattle.std.specs.Fmt.{decimal};
 ghost use Rattle.vq_model.specs.Forms.{mode_word};
 ghost use Rattle.vq_model.specs.Canonical.{hex_digits, fill_word, fill_size_word, line_text};
 
-use std::alloc::{AllocError, Global};
+use crate::room::put_number;
+use std::alloc::AllocError;
 use vq_model::hexadecimal::hex_digit;
 use vq_model::script::{FillSize, Mode};
+
+/// The most digits of a number of 64 bits.
+const NUMERAL_ROOM: usize = 20;
 
 /// The word of a mode.
 pub(crate) fn mode_word(mode: Mode) -> &'static [u8]
@@ -40,19 +44,29 @@ pub(crate) fn push_hex_bytes(out: &mut Vec<u8>, bytes: &[u8]) -> Result<(), Allo
     Ok(())
 }
 
-/// Adds a space and a word.
-pub(crate) fn push_word(out: &mut Vec<u8>, word: &[u8]) -> Result<(), AllocError>
+/// Adds a space and a word. The error is want of memory.
+pub fn push_word(out: &mut Vec<u8>, word: &[u8]) -> Result<(), AllocError>
     ensures { OnOk result (out.new.items ≡ out.old.items ++ 32 ∷ word.now) }
 {
     out.push(b' ')?;
     out.extend_from_slice(word)
 }
 
-/// Adds a space and a decimal numeral.
-pub(crate) fn push_number(alloc: Global, out: &mut Vec<u8>, number: u64) -> Result<(), AllocError>
+/// Adds a decimal numeral. The error is want of memory.
+pub fn push_numeral(out: &mut Vec<u8>, number: u64) -> Result<(), AllocError>
+    ensures { OnOk result (out.new.items ≡ out.old.items ++ decimal number) }
+{
+    out.reserve(NUMERAL_ROOM)?;
+    put_number(out, number);
+    Ok(())
+}
+
+/// Adds a space and a decimal numeral. The error is want of memory.
+pub fn push_number(out: &mut Vec<u8>, number: u64) -> Result<(), AllocError>
     ensures { OnOk result (out.new.items ≡ out.old.items ++ 32 ∷ decimal number) }
 {
-    push_word(out, number.to_string(alloc)?.as_bytes())
+    out.push(b' ')?;
+    push_numeral(out, number)
 }
 
 /// Adds a space and the word of a fill.
@@ -64,31 +78,22 @@ pub(crate) fn push_fill_word(out: &mut Vec<u8>, word: u32) -> Result<(), AllocEr
 }
 
 /// Adds a space and the size of a fill.
-pub(crate) fn push_fill_size(
-    alloc: Global,
-    out: &mut Vec<u8>,
-    size: FillSize,
-) -> Result<(), AllocError>
+pub(crate) fn push_fill_size(out: &mut Vec<u8>, size: FillSize) -> Result<(), AllocError>
     ensures { OnOk result (out.new.items ≡ out.old.items ++ 32 ∷ fill_size_word size) }
 {
     match size {
         FillSize::Whole => push_word(out, b"whole"),
-        FillSize::Count(count) => push_number(alloc, out, u64::from(count)),
+        FillSize::Count(count) => push_number(out, u64::from(count)),
     }
 }
 
 /// Adds the name of a buffer and a place in it, each after a space.
-pub(crate) fn push_place(
-    alloc: Global,
-    out: &mut Vec<u8>,
-    name: &[u8],
-    offset: u32,
-) -> Result<(), AllocError>
+pub(crate) fn push_place(out: &mut Vec<u8>, name: &[u8], offset: u32) -> Result<(), AllocError>
     ensures { OnOk result
         (out.new.items ≡ out.old.items ++ (32 ∷ name.now ++ 32 ∷ decimal offset)) }
 {
     push_word(out, name)?;
-    push_number(alloc, out, u64::from(offset))
+    push_number(out, u64::from(offset))
 }
 
 /// Adds a line of a word and a name.
@@ -104,7 +109,6 @@ pub(crate) fn push_name_line(out: &mut Vec<u8>, word: &[u8], name: &[u8]) -> Res
 
 /// Adds a line of a word, a name and a decimal numeral.
 pub(crate) fn push_number_line(
-    alloc: Global,
     out: &mut Vec<u8>,
     word: &[u8],
     name: &[u8],
@@ -115,7 +119,7 @@ pub(crate) fn push_number_line(
 {
     out.extend_from_slice(word)?;
     push_word(out, name)?;
-    push_number(alloc, out, number)?;
+    push_number(out, number)?;
     out.push(b'\n')?;
     Ok(())
 }

@@ -1,4 +1,5 @@
 use Rattle.std.proofs.Common.{◌∙◌, ◌++◌, List, ℕ, ap}
+use Rattle.std.proofs.lemmas.Result.{on_ok_weaker}
 use Rattle.vq_model.specs.Plan.{Plan}
 use Rattle.vq_model.specs.OutputText.{answers_of, buffers_text}
 use Rattle.vq_core.specs.CoreState.{world}
@@ -11,12 +12,11 @@ returns c =
     let s = (world d).machine in
     let word = (c.in_ok-extend_from_slice.ensures {u = tt}).items in
     let given = c.in_ok-push_answers.ensures {u = tt} in
-    let last = (c.in_ok-extend_from_slice-2.ensures {u = tt}).items in
-    let text = c.in_ok-buffers.ensures {u = tt} in
     let plan = c.plan.ensures.value ∙ c.ordered.ensures.value in
-    finished d.plan s c.args.out.now.items c.extend_from_slice-2.new.self.items c.in_ok-buffers.buffers.items
-    (last ∙ (ap (λ (xs : List ℕ). c.push_answers.new.out.items ++ xs) c.as_slice.ensures.value
-    ∙ (ap (λ (xs : List ℕ). xs ++ c.in_ok-buffers.buffers.items) given
-    ∙ ap (λ (xs : List ℕ). (xs ++ answers_of d.plan s) ++ c.in_ok-buffers.buffers.items) word)))
-    (text ∙ (ap (λ (p : Plan). buffers_text p.script.buffers c.buffers.result.now) plan
-    ∙ ap (buffers_text d.plan.script.buffers) c.buffers.ensures.bytes))
+    let text : List ℕ = buffers_text c.plan.result.now.script.buffers c.buffers.result.now in
+    on_ok_weaker c.push_buffers.result (λ last.
+    finished d.plan s c.args.out.now.items c.push_buffers.new.out.items text
+    (last ∙ (ap (λ (xs : List ℕ). xs ++ text) given
+    ∙ ap (λ (xs : List ℕ). (xs ++ answers_of d.plan s) ++ text) word))
+    (ap (λ (p : Plan). buffers_text p.script.buffers c.buffers.result.now) plan
+    ∙ ap (buffers_text d.plan.script.buffers) c.buffers.ensures.bytes)) c.push_buffers.ensures

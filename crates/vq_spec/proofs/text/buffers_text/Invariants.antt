@@ -1,7 +1,0 @@
-use Rattle.std.proofs.Common.{◌≡◌, ◌++◌, drop}
-use Rattle.vq_model.specs.OutputText.{all_buffers}
-use Rattle.vq_spec.proofs.text.buffers_text.Given as goal
-
-abbrev pub invariant-loop-b : goal.invariant-loop-b
-invariant-loop-b l = l.out.items ++ all_buffers (drop l.b l.plan.script.buffers)
-    (drop l.b l.buffers) ≡ all_buffers l.plan.script.buffers l.buffers
