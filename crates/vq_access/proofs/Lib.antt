@@ -1,3 +1,4 @@
+pub mod Cited
 mod Replies
 mod Serving
 mod Ranges
@@ -9,12 +10,10 @@ mod TakenLooks
 mod Commanding
 mod Untaking
 mod Waiting
-mod RoomLaws
-mod FirstRooms
-mod Few
 mod Finds
 mod Telling
 mod Listing
 mod Pins
 mod TurnEnds
 mod Holds
+mod Sharing

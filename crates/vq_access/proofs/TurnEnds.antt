@@ -19,7 +19,7 @@ use Rattle.vq_access_laws.specs.TruePasses.{AreTrue}
 use Rattle.vq_access.specs.declared.post.Post.{Post}
 use Rattle.vq_access.specs.Pinned.{pins}
 use Rattle.vq_access.specs.Posts.{meaning, shows}
-use Rattle.vq_access.specs.Rooming.{MayBe}
+use Rattle.vq_access.specs.Taken.{MayBe}
 use Rattle.vq_access.specs.Seatings.{Seating, places_of}
 use Rattle.vq_access.proofs.Pins.{pins_same}
 

@@ -8,3 +8,6 @@ plan_at g = g.ordered.now
 
 abbrev pub board_at : {R : Type 0} → Grounds R → Board
 board_at g = g.board.now
+
+abbrev pub waiter_at : {R : Type 0} → Grounds R → R
+waiter_at g = g.rt.now

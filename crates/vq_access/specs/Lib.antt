@@ -6,5 +6,4 @@ pub mod Found
 pub mod Timelines
 pub mod Pinned
 pub mod Posts
-pub mod Rooming
 pub mod Grounding

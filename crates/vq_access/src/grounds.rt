@@ -9,7 +9,7 @@ use vq_board::Board;
 use vq_order::Ordered;
 use vq_timeline::LockedTimeline;
 
-/// What the turns in a room go over: the plan, its board and its timelines, and who can wait.
+/// What turns at a board go over: the plan, its board and its timelines, and who can wait.
 #[derive(Drop)]
 pub struct Grounds<'a, R> {
     pub(crate) rt: &'a R,
@@ -18,26 +18,4 @@ pub struct Grounds<'a, R> {
     pub(crate) timelines: &'a [LockedTimeline],
     ghost planned: { plan_of board.now ≡ ordered.now },
     ghost locks: { AreOf board.now timelines.now },
-}
-
-impl<'a, R> Grounds<'a, R> {
-    /// The plan, its board, and a timeline for each of its chains.
-    pub fn new(
-        rt: &'a R,
-        ordered: &'a Ordered,
-        board: &'a Board,
-        timelines: &'a [LockedTimeline],
-    ) -> Grounds<'a, R>
-        requires plan { plan_of board.now ≡ ordered.now }
-        requires timelines { AreOf board.now timelines.now }
-        ensures plan { result.ordered.now ≡ ordered.now }
-        ensures board { result.board.now ≡ board.now }
-    {
-        Grounds {
-            rt,
-            ordered,
-            board,
-            timelines,
-        }
-    }
 }

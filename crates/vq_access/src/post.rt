@@ -58,7 +58,7 @@ impl<'a> Post<'a> {
     ghost use Rattle.std.specs.Prelude.{◌∷◌};
     ghost use Rattle.vq_access.specs.Pinned.{pins};
     ghost use Rattle.vq_access.specs.Posts.{meaning};
-    ghost use Rattle.vq_access.specs.Rooming.{MayBe};
+    ghost use Rattle.vq_access.specs.Taken.{MayBe};
     ghost use Rattle.vq_access_laws.specs.AccessMeanings.{meaning_of};
     ghost use Rattle.vq_actor.specs.Meanings.{Other};
     ghost use Rattle.vq_board.specs.Named.{id_of};

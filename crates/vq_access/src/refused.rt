@@ -24,7 +24,7 @@ impl Model for Refused {
 
 impl Refused {
     /// No refusal.
-    pub(crate) fn none() -> Refused
+    pub fn none() -> Refused
         ensures { result ≡ record { count = 0; last = None } }
     {
         Refused {

@@ -4,11 +4,13 @@
 use std::marker::Model;
 use vq_actor::Tracker;
 
-/// The place of a pass's own actor, and for the host the place of the submit actor of each queue.
+/// The places of the actors that one pass serves.
 #[derive(Drop)]
 pub struct Seats {
-    pub(crate) own: Tracker,
-    pub(crate) submits: Vec<Tracker>,
+    /// That of the pass's own actor.
+    pub own: Tracker,
+    /// For the host that of the submit actor of each queue, by queue.
+    pub submits: Vec<Tracker>,
 }
 
 impl Model for Seats {

@@ -1,11 +1,12 @@
-//! One turn of an actor in a room.
+//! One turn of an actor at a board.
 //!
 //! Source: this project's own.
 ghost use Rattle.std.specs.Prelude.{◌≡◌, [], All, true};
+ghost use Rattle.vq_access.specs.Grounding.{plan_at, board_at};
 ghost use Rattle.vq_access.specs.Lasts.{IsFew};
-ghost use Rattle.vq_access.specs.Rooming.{IsRoomOf, MayBe, lent_by, served_queue, shown_by};
 ghost use Rattle.vq_access.specs.Seatings.{places_of};
 ghost use Rattle.vq_access.specs.Served.{is_served};
+ghost use Rattle.vq_access.specs.Taken.{MayBe};
 ghost use Rattle.vq_access_laws.specs.AccessMeanings.{meaning_of};
 ghost use Rattle.vq_access_laws.specs.Causes.{IsShown};
 ghost use Rattle.vq_access_laws.specs.TruePasses.{AreTrue};
@@ -14,7 +15,6 @@ ghost use Rattle.vq_actor.specs.Actors.{IsServed, IsTurn, acting_of};
 ghost use Rattle.vq_actor.specs.Meanings.{Other};
 ghost use Rattle.vq_actor.specs.Trackers.{FitsIn};
 ghost use Rattle.vq_board.specs.Named.{view, IsOf};
-ghost use Rattle.vq_model.specs.declared.script.ActorName.{ActorName as Name};
 ghost use Rattle.vq_turn_laws.specs.TruePlaces.{with_place};
 ghost use Rattle.vq_turns.specs.Programs.{program};
 ghost use Rattle.vq_turns.specs.declared.outcome.Outcome.{Outcome as AnyOutcome};
@@ -23,7 +23,6 @@ use crate::board_access::BoardAccess;
 use crate::grounds::Grounds;
 use crate::post::Post;
 use crate::refused::Refused;
-use crate::room::AccessRoom;
 use crate::seats::Seats;
 use std::snapshot::Snapshot;
 use std::sync::Wait;
@@ -33,8 +32,11 @@ use vq_board_laws::view::Reference;
 use vq_model::script::ActorName;
 use vq_turns::outcome::Outcome;
 
-/// One turn of an actor from its place, over the board.
-fn turn_at<R: Wait>(
+/// One turn of an actor from its place, by the steps of a pass of the board that serves it. The places, with those that
+/// the seats kept before the turn, stay true of the pass, and all that is lent goes on as the turn left it: the points
+/// taken for the next batch, and the refusals met. A want is shown since the turn's start. It waits for nothing but the
+/// locks of timelines, and takes no memory.
+pub fn turn_at<R: Wait>(
     grounds: &Grounds<R>,
     pass: &mut Pass,
     seat: &mut Tracker,
@@ -44,22 +46,22 @@ fn turn_at<R: Wait>(
     seats: Snapshot<Seats>,
     actor: &Actor,
 ) -> Outcome
-    requires own { actor.now ≡ acting_of grounds.now.ordered.now actor.now.name }
-    requires board { IsOf grounds.now.board.now pass.old }
-    requires serves { is_served grounds.now.ordered.now owner actor.now.name ≡ true }
-    requires places { AreTrue grounds.now.ordered.now owner (view pass.old)
+    requires own { actor.now ≡ acting_of (plan_at grounds.now) actor.now.name }
+    requires board { IsOf (board_at grounds.now) pass.old }
+    requires serves { is_served (plan_at grounds.now) owner actor.now.name ≡ true }
+    requires places { AreTrue (plan_at grounds.now) owner (view pass.old)
         (with_place (places_of owner seats.value) actor.now.name seat.old.place) }
-    requires fits { FitsIn (program grounds.now.ordered.now actor.now.name) seat.old }
-    requires few { All IsFew (program grounds.now.ordered.now actor.now.name) }
-    requires points { MayBe grounds.now.ordered.now taken.old.items }
-    ensures board { IsOf grounds.now.board.now pass.new }
-    ensures places { AreTrue grounds.now.ordered.now owner (view pass.new)
+    requires fits { FitsIn (program (plan_at grounds.now) actor.now.name) seat.old }
+    requires few { All IsFew (program (plan_at grounds.now) actor.now.name) }
+    requires points { MayBe (plan_at grounds.now) taken.old.items }
+    ensures board { IsOf (board_at grounds.now) pass.new }
+    ensures places { AreTrue (plan_at grounds.now) owner (view pass.new)
         (with_place (places_of owner seats.value) actor.now.name seat.new.place) }
-    ensures fits { FitsIn (program grounds.now.ordered.now actor.now.name) seat.new }
-    ensures points { MayBe grounds.now.ordered.now taken.new.items }
+    ensures fits { FitsIn (program (plan_at grounds.now) actor.now.name) seat.new }
+    ensures points { MayBe (plan_at grounds.now) taken.new.items }
     ensures turn { IsTurn
-        (meaning_of [] grounds.now.ordered.now actor.now.name seat.old.place Other (view pass.old) refused.old)
-        (meaning_of [] grounds.now.ordered.now actor.now.name seat.new.place Other (view pass.new) refused.new)
+        (meaning_of [] (plan_at grounds.now) actor.now.name seat.old.place Other (view pass.old) refused.old)
+        (meaning_of [] (plan_at grounds.now) actor.now.name seat.new.place Other (view pass.new) refused.new)
         (IsShown (view pass.new).steps refused.new) result }
     ensures untouched { result ≡ AnyOutcome.Ended →
         ((view pass.new) ≡ (view pass.old)) × (refused.new ≡ refused.old) }
@@ -100,58 +102,4 @@ fn turn_through<R: Wait>(access: &mut BoardAccess<R>, actor: &Actor) -> Outcome
     ensures keeps { access.new.post.ghost_name ≡ access.old.post.ghost_name }
 {
     actor.turn(access)
-}
-
-/// The queue whose submit actor the host serves, where it is that.
-fn served_queue(owner: ActorName, name: ActorName) -> Option<u32>
-    ensures { result ≡ served_queue owner name }
-{
-    match owner {
-        ActorName::Host => match name {
-            ActorName::Submit(queue) => Some(queue),
-            ActorName::Host | ActorName::Ring(_) => None,
-        },
-        ActorName::Submit(_) | ActorName::Ring(_) => None,
-    }
-}
-
-impl AccessRoom {
-    /// One turn of an actor that the room serves.
-    pub(crate) fn turn<R: Wait>(&mut self, grounds: &Grounds<R>, actor: &Actor) -> Outcome
-        requires board { IsRoomOf grounds.now.board.now self.old }
-        requires own { actor.now ≡ acting_of grounds.now.ordered.now actor.now.name }
-        requires serves { is_served grounds.now.ordered.now self.old.owner actor.now.name ≡ true }
-        ensures board { IsRoomOf grounds.now.board.now self.new }
-        ensures owner { self.new.owner ≡ self.old.owner }
-        ensures turn { IsTurn (lent_by grounds.now.ordered.now self.old actor.now.name)
-            (lent_by grounds.now.ordered.now self.new actor.now.name) (shown_by self.new) result }
-        ensures others { (a : Name) → (a ≡ actor.now.name → ⊥) →
-            places_of self.new.owner self.new.seats a ≡ places_of self.old.owner self.old.seats a }
-        ensures untouched { result ≡ AnyOutcome.Ended →
-            ((view self.new.pass) ≡ (view self.old.pass)) × (self.new.refused ≡ self.old.refused) }
-    {
-        let seats = Snapshot::of(&self.seats);
-        match served_queue(self.owner, actor.name()) {
-            Some(queue) => turn_at(
-                grounds,
-                &mut self.pass,
-                &mut self.seats.submits[queue as usize],
-                &mut self.taken,
-                &mut self.refused,
-                self.owner,
-                seats,
-                actor,
-            ),
-            None => turn_at(
-                grounds,
-                &mut self.pass,
-                &mut self.seats.own,
-                &mut self.taken,
-                &mut self.refused,
-                self.owner,
-                seats,
-                actor,
-            ),
-        }
-    }
 }

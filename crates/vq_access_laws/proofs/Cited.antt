@@ -18,6 +18,7 @@ pub use Rattle.vq_access_laws.proofs.RunnerSteps.{true_signaled, true_started}
 pub use Rattle.vq_access_laws.proofs.ServedActors.{serves_itself}
 pub use Rattle.vq_access_laws.proofs.TestLaws.{far_known, finished_known, bound_known, taken_here, taken_known}
 pub use Rattle.vq_access_laws.proofs.TestLaws.{taken_more}
+pub use Rattle.vq_access_laws.proofs.ToldLaws.{few_told}
 pub use Rattle.vq_access_laws.proofs.Truths.{are_true_prop, first_true, fresh_true, names_same, true_alike}
 pub use Rattle.vq_access_laws.proofs.WaitLaws.{listed_first, listed_held, may_refer, true_given_back, true_met}
 pub use Rattle.vq_access_laws.proofs.WaitLaws.{true_past, true_referred}

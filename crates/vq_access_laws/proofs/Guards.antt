@@ -3,7 +3,7 @@ use Rattle.std.proofs.Common.{◌≡◌, ℕ, zero, suc, ◌+◌, ◌<◌, ◌�
 use Rattle.std.specs.Prelude.{nat_lt}
 use Rattle.std.specs.List.{slice_get, list_all, range_with_len}
 use Rattle.std.specs.Option.{option_map_or}
-use Rattle.std.proofs.lemmas.Bool.{false≢true, and_parts, eq-eqb, lt-ltb, ltb-true}
+use Rattle.std.proofs.lemmas.Bool.{false≢true, not_from_false, and_parts, eq-eqb, lt-ltb, ltb-true}
 use Rattle.vq_model.specs.Checks.{IsLawful}
 use Rattle.vq_model.specs.LoweringFaults.{IsPlan}
 use Rattle.vq_model.specs.declared.script.ActorName.{ActorName}
@@ -12,20 +12,24 @@ use Rattle.vq_model.specs.declared.script.ActorName.TheVariants.{Ring as RingAct
 use Rattle.vq_model.specs.declared.plan.Lane.{Lane}
 use Rattle.vq_model.specs.declared.plan.Lane.TheVariants.{Host as HostLane, Queue as QueueLane}
 use Rattle.vq_model.specs.declared.plan.PlanJob.{PlanJob}
+use Rattle.vq_model.specs.declared.plan.Question.{Question}
+use Rattle.vq_model.specs.declared.plan.Question.TheVariants.{Silent}
 use Rattle.vq_model.specs.Edges.{Stage, AtEnd, needs_at}
 use Rattle.vq_model.specs.Lanes.{lane_at, lane_number}
-use Rattle.vq_model.specs.Plan.{Plan, has, of_job, same_lane, signals_of, is_host_step, is_batch}
+use Rattle.vq_model.specs.Outputs.{asking}
+use Rattle.vq_model.specs.Plan.{Plan, has, of_job, same_lane, signals_of, is_host_step, is_batch, is_silent, question}
 use Rattle.vq_model.proofs.Filters.{filter-has}
+use Rattle.vq_model.proofs.Gets.{get_within}
 use Rattle.vq_model.proofs.Lists.{list_all_has}
-use Rattle.vq_model.proofs.Numbers.{range-has}
+use Rattle.vq_model.proofs.Numbers.{has_range, range-has}
 use Rattle.vq_order_laws.proofs.Cited.{need_awaits}
 use Rattle.vq_points.specs.Points.{earlier_in_queue, jobs_of_lane}
 use Rattle.vq_turns.specs.declared.look.Holding.{Holding}
 use Rattle.vq_turns.specs.declared.task.Task.{Task}
-use Rattle.vq_turns.specs.declared.task.Task.TheVariants.{AwaitSubmitted, AwaitBound, AwaitNeeds, Submit, Release, Finish}
+use Rattle.vq_turns.specs.declared.task.Task.TheVariants.{AwaitSubmitted, AwaitBound, AwaitNeeds, Submit, Release, Answer, Finish}
 use Rattle.vq_turns.specs.Programs.{program}
 use Rattle.vq_turns.specs.Turns.{Place}
-use Rattle.vq_turn_laws.specs.Orders.{Asks, InOrder, AsksBatch, AsksSubmit, AsksRelease, Waited}
+use Rattle.vq_turn_laws.specs.Orders.{Asks, InOrder, AsksAnswer, AsksBatch, AsksSubmit, AsksRelease, Waited}
 use Rattle.vq_turn_laws.specs.PlanParts.{IsOrderly, lane_of_job}
 use Rattle.vq_turn_laws.specs.Running.{runs_after, InTurn, RunInTurn, IsRunnerOf}
 use Rattle.vq_turn_laws.specs.Tasks.{Among}
@@ -211,6 +215,20 @@ module _ (p : Plan) (i : IsPlan p) (l : IsLawful p) (a : ActorName) (v : View) (
       by_actor HostActor r h = host_submitter p j h ∙ sym r
       by_actor (SubmitActor q) r h = queue_submitter p q j h ∙ sym r
       by_actor (RingActor q) r h = absurd (false≢true h)
+
+  -- what is answered is a job of the plan that asks
+  pub answered_asks : (j : ℕ) (asked : Question) → slice_get (program p b) (places b).done ≡ Some (Answer j asked) →
+      has (asking p) j ≡ true
+  answered_asks j asked next =
+      let x : AsksAnswer p before j asked (drop ((places b).done + 1) (program p b)) = asks (Answer j asked) next in
+      let low : j < length p.jobs = by_job (slice_get p.jobs j) refl x.loud in
+      filter-has (λ i. not (is_silent (question p i))) (range_with_len 0 (length p.jobs)) j
+      (has_range (length p.jobs) 0 j (omega arith) (omega (arith, low))) (not_from_false (is_silent (question p j)) x.loud)
+    where
+      by_job : (o : Option PlanJob) → slice_get p.jobs j ≡ o →
+          is_silent (option_map_or (λ x. x.question) o Silent) ≡ false → j < length p.jobs
+      by_job None at loud = absurd (false≢true (sym loud))
+      by_job (Some x) at loud = get_within p.jobs j x at
 
   -- The job that is run is the pass's own actor's.
   pub runner_own : (t : Task) → slice_get (program p b) (places b).done ≡ Some t →

@@ -19,3 +19,4 @@ mod WaitSteps
 mod StepRules
 mod TaskKinds
 mod TestLaws
+mod ToldLaws

@@ -23,7 +23,7 @@ use Rattle.vq_board.specs.Firsts.{shows_made}
 use Rattle.vq_board.proofs.Cited.{shown_more}
 use Rattle.vq_access_laws.specs.Learning.{Grows, Learns}
 use Rattle.vq_access_laws.specs.Tests.{shows_reached, shows_value, notes_next, saw_value, saw_values}
-use Rattle.vq_access_laws.specs.TruePasses.{RunsAs, HoldsAs, IsAtRest, IsOwn, is_to, holds_to, is_for, are_rising, tasks_before, tasks_left}
+use Rattle.vq_access_laws.specs.TruePasses.{RunsAs, HoldsAs, IsAtRest, IsOwn, are_told_once, is_to, holds_to, is_for, are_rising, tasks_before, tasks_left}
 use Rattle.vq_access_laws.proofs.Guards.{none_held}
 use Rattle.vq_access_laws.proofs.StepRules.{KeepsLists, KeepsList, list_same}
 use Rattle.vq_access_laws.proofs.TestLaws.{any_more, reached_more}
@@ -225,3 +225,6 @@ module _ (v w : View) (k : Learns v w) where
 
   pub learned_role : w.role ≡ v.role
   learned_role = part (λ x. x.role)
+
+  pub learned_told : (jobs : List ℕ) → are_told_once jobs v.told ≡ true → are_told_once jobs w.told ≡ true
+  learned_told jobs h = subst (λ (ts : List Told). are_told_once jobs ts ≡ true) (sym (part (λ x. x.told))) h

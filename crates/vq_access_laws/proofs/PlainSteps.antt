@@ -5,6 +5,7 @@ use Rattle.std.proofs.lemmas.Bool.{and_from}
 use Rattle.vq_model.specs.Checks.{IsLawful}
 use Rattle.vq_model.specs.LoweringFaults.{IsPlan}
 use Rattle.vq_model.specs.declared.script.ActorName.{ActorName}
+use Rattle.vq_model.specs.Outputs.{asking}
 use Rattle.vq_model.specs.Plan.{Plan, has}
 use Rattle.vq_model.proofs.Lists.{has_here}
 use Rattle.vq_turns.specs.declared.task.Task.{Task}
@@ -26,8 +27,8 @@ use Rattle.vq_board_laws.specs.Words.{job_word, op_word, point_word, turn_word}
 use Rattle.vq_access_laws.specs.Learning.{Grows, Learns}
 use Rattle.vq_access_laws.specs.Tests.{knows_far, knows_bound}
 use Rattle.vq_access_laws.specs.TrueTasks.{is_done}
-use Rattle.vq_access_laws.specs.TruePasses.{AreTrue, IsOwn, RunsAs, Moves, tasks_before, tasks_left}
-use Rattle.vq_access_laws.proofs.OwnRules.{KeepsOwn, IsUnasked, same_own, own_kept, own_on, own_here, own_moved, runs_kept, learned_own, learned_lists, learned_role}
+use Rattle.vq_access_laws.specs.TruePasses.{AreTrue, IsOwn, RunsAs, Moves, are_told_once, tasks_before, tasks_left}
+use Rattle.vq_access_laws.proofs.OwnRules.{KeepsOwn, IsUnasked, same_own, own_kept, own_on, own_here, own_moved, runs_kept, learned_own, learned_lists, learned_role, learned_told}
 use Rattle.vq_access_laws.proofs.ServedActors.{serves_itself}
 use Rattle.vq_access_laws.proofs.ServedSteps.{is_same, stay_step, task_step}
 use Rattle.vq_access_laws.proofs.StepRules.{KeepsLists, mark, list_push, list_same}
@@ -104,15 +105,16 @@ module _ (p : Plan) (i : IsPlan p) (l : IsLawful p) (a : ActorName) (v : View) (
   -- a look adds knowledge
   pub true_learned : (w : View) → Learns v w → AreTrue p a w places
   true_learned w h = stay_step p i l a v w places places k a (serves_itself p a) (places a) (stays_put places a)
-      (learned_role v w h) refl (learned_lists v w h None)
+      (learned_role v w h) (learned_told v w h (asking p) k.told) refl (learned_lists v w h None)
       (own_kept p v w (tasks_before p a (places a)) (tasks_left p a (places a)) (places a) (learned_own v w h) k.own)
 
   module _ (b : ActorName) (s : Serves p a b) where
     pub true_plain : (w : View) (t : Task) → slice_get (program p b) (places b).done ≡ Some t → IsPlainTask t →
-        KeepsLists (mark t) v w → KeepsOwn v w → w.role ≡ v.role → is_done p w t ≡ true →
+        KeepsLists (mark t) v w → KeepsOwn v w → w.role ≡ v.role →
+        are_told_once (asking p) w.told ≡ true → is_done p w t ≡ true →
         (after : ActorName → Place) → Moves places b (forward (places b)) after → AreTrue p a w after
-    true_plain w t next plain lists own role now after moves =
-        task_step p i l a v w places after k b s (forward (places b)) moves role t next refl lists now
+    true_plain w t next plain lists own role told now after moves =
+        task_step p i l a v w places after k b s (forward (places b)) moves role told t next refl lists now
         (elim (is_same a b) [ inl e ↦ mine e | inr n ↦ others n ])
       where
         mine : a ≡ b → IsOwn p w (tasks_before p a (after a)) (tasks_left p a (after a)) (after a)
@@ -134,7 +136,7 @@ module _ (p : Plan) (i : IsPlan p) (l : IsLawful p) (a : ActorName) (v : View) (
     pub true_known : (t : Task) → slice_get (program p b) (places b).done ≡ Some t → IsPlainTask t → mark t ≡ None →
         is_done p v t ≡ true → (after : ActorName → Place) → Moves places b (forward (places b)) after → AreTrue p a v after
     true_known t next plain none now after moves = true_plain v t next plain
-        (subst (λ (m : Option (ℕ × ℕ)). KeepsLists m v v) (sym none) same_lists) (same_own v) refl now after moves
+        (subst (λ (m : Option (ℕ × ℕ)). KeepsLists m v v) (sym none) same_lists) (same_own v) refl k.told now after moves
       where
         same_lists : KeepsLists None v v
         same_lists = record {
@@ -157,7 +159,7 @@ module _ (p : Plan) (i : IsPlan p) (l : IsLawful p) (a : ActorName) (v : View) (
           told = list_same 3 _ _;
         }
         record { runs = refl; entered = refl; signaled = refl; turn = refl; refs = refl; known = (Job j Submitted ∷ [], refl); unmade = ([], refl) }
-        refl (and_from (has (j ∷ v.submitted) j) (knows_far (Job j Submitted ∷ v.known) j Submitted) (has_here j v.submitted)
+        refl k.told (and_from (has (j ∷ v.submitted) j) (knows_far (Job j Submitted ∷ v.known) j Submitted) (has_here j v.submitted)
         (far_here v.known j Submitted Submitted (omega arith))) after moves
 
     pub true_released : (j : ℕ) → slice_get (program p b) (places b).done ≡ Some (Release j) →
@@ -172,7 +174,7 @@ module _ (p : Plan) (i : IsPlan p) (l : IsLawful p) (a : ActorName) (v : View) (
           told = list_same 3 _ _;
         }
         record { runs = refl; entered = refl; signaled = refl; turn = refl; refs = refl; known = (Job j Released ∷ [], refl); unmade = ([], refl) }
-        refl (has_here j v.released) after moves
+        refl k.told (has_here j v.released) after moves
 
     -- an operation's point was taken, or it was bound: by the chain's lists, which are none of this pass
     pub true_taken : (e c : ℕ) → slice_get (program p b) (places b).done ≡ Some (Take e c) →

@@ -8,6 +8,7 @@ use Rattle.vq_model.specs.Memory.{Memory}
 use Rattle.vq_model.specs.declared.plan.Answer.{Answer as GivenAnswer}
 use Rattle.vq_model.specs.declared.plan.Question.{Question}
 use Rattle.vq_model.specs.declared.script.ActorName.{ActorName}
+use Rattle.vq_model.specs.Outputs.{asking}
 use Rattle.vq_model.specs.Plan.{Plan, has}
 use Rattle.vq_model.proofs.Lists.{has_here}
 use Rattle.vq_model.proofs.Options.{same_some}
@@ -32,14 +33,15 @@ use Rattle.vq_board_laws.specs.Steps.{starts, finishes, takes_turn, enters, give
 use Rattle.vq_access_laws.specs.Learning.{Learns}
 use Rattle.vq_access_laws.specs.Tests.{saw_value, saw_values}
 use Rattle.vq_access_laws.specs.TrueTasks.{is_done}
-use Rattle.vq_access_laws.specs.TruePasses.{AreTrue, RunsAs, Moves, tasks_before}
-use Rattle.vq_access_laws.proofs.Guards.{asks, none_held, runner_own, turn}
-use Rattle.vq_access_laws.proofs.OwnRules.{IsUnasked, holds_nothing, own_here, own_moved, own_on, own_kept, rest_unseen, learned_own, learned_lists, learned_role}
+use Rattle.vq_access_laws.specs.TruePasses.{AreTrue, RunsAs, Moves, are_told_once, tasks_before}
+use Rattle.vq_access_laws.proofs.Guards.{answered_asks, asks, none_held, not_done, runner_own, turn}
+use Rattle.vq_access_laws.proofs.OwnRules.{IsUnasked, holds_nothing, own_here, own_moved, own_on, own_kept, rest_unseen, learned_own, learned_lists, learned_role, learned_told}
 use Rattle.vq_access_laws.proofs.PlainSteps.{true_learned, learns_op}
 use Rattle.vq_access_laws.proofs.ServedActors.{serves_itself}
 use Rattle.vq_access_laws.proofs.ServedSteps.{task_step}
 use Rattle.vq_access_laws.proofs.StepRules.{KeepsLists, mark, list_push, list_same, told_push}
 use Rattle.vq_access_laws.proofs.TestLaws.{far_here}
+use Rattle.vq_access_laws.proofs.ToldLaws.{told_more}
 
 -- What is run
 
@@ -107,10 +109,11 @@ module _ (p : Plan) (i : IsPlan p) (l : IsLawful p) (a : ActorName) (v : View) (
 
   -- a task of the job that is run
   own_step : (w : View) (t : Task) → slice_get (program p a) (places a).done ≡ Some t → IsUnasked t →
-      KeepsLists (mark t) v w → w.role ≡ v.role → w.refs ≡ v.refs → w.held ≡ None → is_done p w t ≡ true →
+      KeepsLists (mark t) v w → w.role ≡ v.role → are_told_once (asking p) w.told ≡ true → w.refs ≡ v.refs →
+      w.held ≡ None → is_done p w t ≡ true →
       RunsAs w (runs_after (t ∷ before)) → Moves places a (forward (places a)) after → AreTrue p a w after
-  own_step w t next u lists role refs held now runs moves =
-      task_step p i l a v w places after k a self (forward x) moves role t next refl lists now
+  own_step w t next u lists role told refs held now runs moves =
+      task_step p i l a v w places after k a self (forward x) moves role told t next refl lists now
       (own_moved p a w x (forward x) (after a) t next refl moves.here
       (own_on p v w t before behind x u refs held runs (own_here p a v x t next k.own)))
 
@@ -125,7 +128,7 @@ module _ (p : Plan) (i : IsPlan p) (l : IsLawful p) (a : ActorName) (v : View) (
         begun = list_push 2 j v.begun;
         told = list_same 3 _ _;
       }
-      refl refl k.own.turnless (has_here j v.begun) (runs_started v j (runs_after before)) moves
+      refl k.told refl k.own.turnless (has_here j v.begun) (runs_started v j (runs_after before)) moves
 
   own_applied : (j c n m : ℕ) (bytes more : Memory) → slice_get (program p a) (places a).done ≡ Some (Apply j c) →
       Moves places a (forward (places a)) after → AreTrue p a (gives_turn (enters (takes_turn v n bytes) c m more)) after
@@ -139,7 +142,7 @@ module _ (p : Plan) (i : IsPlan p) (l : IsLawful p) (a : ActorName) (v : View) (
         begun = list_same 2 _ (has v.begun);
         told = list_same 3 _ _;
       }
-      refl refl refl refl (runs_applied p (IsRunnerOf p a) v j c n m bytes more (runs_after before)
+      refl k.told refl refl refl (runs_applied p (IsRunnerOf p a) v j c n m bytes more (runs_after before)
       (turn p i l a v places k a self (Apply j c) next) k.own.runs) moves
 
   own_signaled : (e q n : ℕ) → slice_get (program p a) (places a).done ≡ Some (Signal e) →
@@ -153,7 +156,7 @@ module _ (p : Plan) (i : IsPlan p) (l : IsLawful p) (a : ActorName) (v : View) (
         begun = list_same 2 _ (has v.begun);
         told = list_same 3 _ _;
       }
-      refl refl k.own.turnless refl (runs_signaled p (IsRunnerOf p a) v e q n (runs_after before)
+      refl k.told refl k.own.turnless refl (runs_signaled p (IsRunnerOf p a) v e q n (runs_after before)
       (turn p i l a v places k a self (Signal e) next) k.own.runs) moves
 
   own_finished : (j : ℕ) → slice_get (program p a) (places a).done ≡ Some (Finish j) →
@@ -167,13 +170,15 @@ module _ (p : Plan) (i : IsPlan p) (l : IsLawful p) (a : ActorName) (v : View) (
         begun = list_same 2 _ (has v.begun);
         told = list_same 3 _ _;
       }
-      refl refl k.own.turnless (far_here v.known j Finished Finished (omega arith)) (runs_finished v j (runs_after before)) moves
+      refl k.told refl k.own.turnless (far_here v.known j Finished Finished (omega arith)) (runs_finished v j (runs_after before)) moves
 
   own_answered : (j : ℕ) (question : Question) (r : GivenAnswer) →
       slice_get (program p a) (places a).done ≡ Some (Answer j question) → Moves places a (answered (places a)) after →
       AreTrue p a (answers v j r) after
   own_answered j question r next moves =
-      task_step p i l a v (answers v j r) places after k a self (answered x) moves refl (Answer j question) next refl
+      task_step p i l a v (answers v j r) places after k a self (answered x) moves refl
+      (told_more (asking p) v.told j r (answered_asks p i l a v places k a self j question next)
+      (not_done p i l a v places k a self (Answer j question) next) k.told) (Answer j question) next refl
       record {
         known = ([], refl);
         submitted = list_same 0 _ (has v.submitted);
@@ -200,7 +205,8 @@ module _ (p : Plan) (i : IsPlan p) (l : IsLawful p) (a : ActorName) (v : View) (
       Learns v w → saw_value p w (t, wanted) (record { wanted = wanted; past = past }) ≡ true →
       Moves places a (seeing (places a) wanted past) after → AreTrue p a w after
   own_compared w t wanted past next learned saw moves =
-      task_step p i l a v w places after k a self (seeing x wanted past) moves (learned_role v w learned) (Compare t wanted) next refl
+      task_step p i l a v w places after k a self (seeing x wanted past) moves (learned_role v w learned)
+      (learned_told v w learned (asking p) k.told) (Compare t wanted) next refl
       (learned_lists v w learned None) refl
       (own_moved p a w x (seeing x wanted past) (after a) (Compare t wanted) next refl moves.here
       (let h = own_kept p v w before (Compare t wanted ∷ behind) x (learned_own v w learned) (own_here p a v x (Compare t wanted) next k.own) in

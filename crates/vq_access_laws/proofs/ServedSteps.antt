@@ -8,6 +8,7 @@ use Rattle.vq_model.specs.Naming.{same_actor}
 use Rattle.vq_model.specs.declared.plan.Lane.TheVariants.{Queue as QueueLane}
 use Rattle.vq_model.specs.declared.script.ActorName.{ActorName}
 use Rattle.vq_model.specs.declared.script.ActorName.TheVariants.{Host as HostActor, Submit as SubmitActor}
+use Rattle.vq_model.specs.Outputs.{asking}
 use Rattle.vq_model.specs.Plan.{Plan, of_job, same_lane}
 use Rattle.vq_model.proofs.Actors.{same_actor_is, same_actor_self}
 use Rattle.vq_turns.specs.declared.task.Task.{Task}
@@ -19,7 +20,7 @@ use Rattle.vq_turn_laws.proofs.Cited.{cut_at, next_cut, next_left, plan_orderly}
 use Rattle.vq_actor.specs.Stages.{Serves}
 use Rattle.vq_board_laws.specs.declared.view.View.{View}
 use Rattle.vq_access_laws.specs.TrueTasks.{is_done, is_left}
-use Rattle.vq_access_laws.specs.TruePasses.{AreTrue, HasDone, IsOwn, Moves, tasks_before, tasks_left}
+use Rattle.vq_access_laws.specs.TruePasses.{AreTrue, HasDone, IsOwn, Moves, are_told_once, tasks_before, tasks_left}
 use Rattle.vq_access_laws.proofs.Guards.{among_program}
 use Rattle.vq_access_laws.proofs.ServedActors.{IsServed, itself, deferred, served_cases, not_both, one_queue}
 use Rattle.vq_access_laws.proofs.StepRules.{mark, clash, differ_marks, KeepsLists, done_still, left_still}
@@ -132,7 +133,7 @@ left_all v w (t ∷ ts) up h =
 
 module _ (p : Plan) (i : IsPlan p) (l : IsLawful p) (a : ActorName) (v w : View) (places after : ActorName → Place)
     (k : AreTrue p a v places) (b : ActorName) (s : Serves p a b) (y : Place) (moves : Moves places b y after)
-    (same_role : w.role ≡ v.role) where
+    (same_role : w.role ≡ v.role) (told : are_told_once (asking p) w.told ≡ true) where
   same_place : (c : ActorName) (x : Place) → x.done ≡ (after c).done → HasDone p w (tasks_before p c x) (tasks_left p c x) →
       HasDone p w (tasks_before p c (after c)) (tasks_left p c (after c))
   same_place c x e h = subst (λ (n : ℕ). HasDone p w (onto (take n (program p c)) []) (drop n (program p c))) e h
@@ -176,6 +177,7 @@ module _ (p : Plan) (i : IsPlan p) (l : IsLawful p) (a : ActorName) (v w : View)
     pub task_step : IsOwn p w (tasks_before p a (after a)) (tasks_left p a (after a)) (after a) → AreTrue p a w after
     task_step own = record {
       role = same_role ∙ k.role;
+      told = told;
       own = own;
       served = λ c r. elim (is_same c b) [
         | inl e ↦ same_place c y (ap (λ (x : Place). x.done) (sym moves.here ∙ ap after (sym e)))
@@ -197,6 +199,7 @@ module _ (p : Plan) (i : IsPlan p) (l : IsLawful p) (a : ActorName) (v w : View)
     pub stay_step : IsOwn p w (tasks_before p a (after a)) (tasks_left p a (after a)) (after a) → AreTrue p a w after
     stay_step own = record {
       role = same_role ∙ k.role;
+      told = told;
       own = own;
       served = λ c r. elim (is_same c b) [
         | inl e ↦ same_place c (places c) (ap (λ (x : ActorName). (places x).done) e ∙ (sym on

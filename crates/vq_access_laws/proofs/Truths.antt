@@ -7,6 +7,7 @@ use Rattle.std.proofs.lemmas.Bool.{false≢true, and_from}
 use Rattle.atomic_table.specs.Seated.{TableId}
 use Rattle.vq_model.specs.declared.script.ActorName.{ActorName}
 use Rattle.vq_model.specs.declared.plan.Need.{Need}
+use Rattle.vq_model.specs.Outputs.{asking}
 use Rattle.vq_model.specs.Plan.{Plan, has}
 use Rattle.vq_turns.specs.declared.task.Task.{Task}
 use Rattle.vq_turns.specs.declared.task.Task.TheVariants.{AwaitSubmitted, AwaitReleased, AwaitFinished, AwaitBound, AwaitNeeds, Submit, Take, Release, Bind, Start, Apply, Signal, Compare, Answer, Finish}
@@ -20,7 +21,7 @@ use Rattle.vq_board_laws.specs.Roles.{role_number}
 use Rattle.vq_board_laws.specs.Rule.{fresh}
 use Rattle.vq_access_laws.specs.AccessMeanings.{names_of}
 use Rattle.vq_access_laws.specs.TrueTasks.{is_left}
-use Rattle.vq_access_laws.specs.TruePasses.{AreTrue, IsOwn, HasDone, RunsAs, HoldsAs, IsAtRest, role_of_actor, is_to, tasks_before, tasks_left}
+use Rattle.vq_access_laws.specs.TruePasses.{AreTrue, IsOwn, HasDone, RunsAs, HoldsAs, IsAtRest, are_told_once, role_of_actor, is_to, tasks_before, tasks_left}
 use Rattle.vq_access_laws.proofs.ServedActors.{serves_itself}
 
 -- One proof
@@ -77,6 +78,7 @@ pub first_true : (p : Plan) (a : ActorName) (v : View) (places : ActorName → P
     AreTrue p a v places
 first_true p a v places role idle first = record {
   role = role;
+  told = ap (λ ts. are_told_once (asking p) ts) idle.told;
   own = subst (λ (x : Place). IsOwn p v (tasks_before p a x) (tasks_left p a x) x) (sym (first a (serves_itself p a))) record {
     runs = record { job = idle.runs; counts = λ x is. absurd (let z = is in cc) };
     turnless = idle.held;
@@ -113,6 +115,7 @@ pub true_alike : (p : Plan) (a : ActorName) (v : View) (places others : ActorNam
     ((b : ActorName) → Serves p a b → others b ≡ places b) → AreTrue p a v places → AreTrue p a v others
 true_alike p a v places others same k = record {
   role = k.role;
+  told = k.told;
   own = subst (λ (x : Place). IsOwn p v (tasks_before p a x) (tasks_left p a x) x) (sym (same a (serves_itself p a))) k.own;
   served = λ b s. subst (λ (x : Place). HasDone p v (tasks_before p b x) (tasks_left p b x)) (sym (same b s)) (k.served b s);
 }

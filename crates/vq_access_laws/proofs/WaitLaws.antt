@@ -9,6 +9,7 @@ use Rattle.vq_model.specs.declared.plan.Need.{Need}
 use Rattle.vq_model.specs.declared.script.ActorName.{ActorName}
 use Rattle.vq_model.specs.declared.script.ActorName.TheVariants.{Host as HostActor, Submit as SubmitActor}
 use Rattle.vq_model.specs.declared.script.ActorName.TheVariants.{Ring as RingActor}
+use Rattle.vq_model.specs.Outputs.{asking}
 use Rattle.vq_model.specs.Plan.{Plan}
 use Rattle.vq_points.specs.PointWord.{parts}
 use Rattle.vq_turns.specs.declared.look.Holding.{Holding}
@@ -28,7 +29,7 @@ use Rattle.vq_access_laws.specs.Tests.{shows_reached}
 use Rattle.vq_access_laws.specs.TruePasses.{AreTrue, Moves, is_for, role_of_actor}
 use Rattle.vq_access_laws.proofs.Guards.{kind, role, runner_own}
 use Rattle.vq_access_laws.proofs.HeldLists.{held_one}
-use Rattle.vq_access_laws.proofs.OwnRules.{learned_own, learned_lists, learned_role}
+use Rattle.vq_access_laws.proofs.OwnRules.{learned_own, learned_lists, learned_role, learned_told}
 use Rattle.vq_access_laws.proofs.PlainSteps.{true_learned, learns_point}
 use Rattle.vq_access_laws.proofs.TaskKinds.{is_task_of}
 use Rattle.vq_access_laws.proofs.WaitSteps.{own_held, own_first, own_room, own_past, own_met, own_referred, own_given_back, held_reached, seen_made, here}
@@ -72,7 +73,7 @@ module _ (p : Plan) (i : IsPlan p) (l : IsLawful p) (a : ActorName) (v : View) (
     pub true_past : (w : View) → Learns v w → (places b).met ≡ false → list_any (shows_reached p w.known) ns ≡ true →
         Moves places b (met_at (places b) (places b).holding) after → AreTrue p a w after
     true_past w learned unmet reached moves = own_past p i l a v places k ns next_own after w
-        (learned_own v w learned) (learned_role v w learned) (learned_lists v w learned None)
+        (learned_own v w learned) (learned_role v w learned) (learned_told v w learned (asking p) k.told) (learned_lists v w learned None)
         (subst (λ (c : ActorName). (places c).met ≡ false) own unmet) reached
         (subst (λ (c : ActorName). Moves places c (met_at (places c) (places c).holding) after) own moves)
 
@@ -83,7 +84,7 @@ module _ (p : Plan) (i : IsPlan p) (l : IsLawful p) (a : ActorName) (v : View) (
         let at2 = subst (λ (c : ActorName). held_for n (places c).holding ≡ Some (record { need = n; point = q; op = e })) own at in
         let h = here p i l a v places k ns next_own in
         own_met p i l a v places k ns next_own after (sees v q m)
-        (learned_own v (sees v q m) (learns_point v q m)) refl (learned_lists v (sees v q m) (learns_point v q m) None)
+        (learned_own v (sees v q m) (learns_point v q m)) refl k.told (learned_lists v (sees v q m) (learns_point v q m) None)
         (held_reached p (sees v q m).known ns (record { need = n; point = q; op = e })
         (held_one (is_for p ns) n (places a).holding (record { need = n; point = q; op = e }) at2 h.holds.for_needs).0
         (seen_made v q m e carries signaled))

@@ -8,6 +8,7 @@ use Rattle.vq_model.specs.Checks.{IsLawful}
 use Rattle.vq_model.specs.LoweringFaults.{IsPlan}
 use Rattle.vq_model.specs.declared.plan.Need.{Need}
 use Rattle.vq_model.specs.declared.script.ActorName.{ActorName}
+use Rattle.vq_model.specs.Outputs.{asking}
 use Rattle.vq_model.specs.Plan.{Plan, has, initial, resolver}
 use Rattle.vq_points.specs.PointWord.{parts}
 use Rattle.vq_turns.specs.declared.look.Holding.{Holding}
@@ -31,7 +32,7 @@ use Rattle.vq_board_laws.specs.Words.{Carries}
 use Rattle.vq_board.specs.Firsts.{shows_made}
 use Rattle.vq_access_laws.specs.Learning.{Grows}
 use Rattle.vq_access_laws.specs.Tests.{shows_reached, knows_taken}
-use Rattle.vq_access_laws.specs.TruePasses.{AreTrue, IsOwn, Moves, is_for, is_to, holds_to, are_rising, tasks_before, tasks_left}
+use Rattle.vq_access_laws.specs.TruePasses.{AreTrue, IsOwn, Moves, are_told_once, is_for, is_to, holds_to, are_rising, tasks_before, tasks_left}
 use Rattle.vq_access_laws.proofs.Guards.{role}
 use Rattle.vq_access_laws.proofs.HeldLists.{bit, counts_with, length_with, all_with, rising_with, rising_less, few_held, for_need, held_one, lists_counted, counted_held, first_counted, counts_without, length_without, count_cons}
 use Rattle.vq_access_laws.proofs.OwnRules.{KeepsOwn, own_here, own_kept, own_moved, rest_unseen}
@@ -160,19 +161,21 @@ module _ (p : Plan) (i : IsPlan p) (l : IsLawful p) (a : ActorName) (v : View) (
     }
 
     -- the wait goes on, at another place
-    waits_on : (w : View) (y : Place) → y.done ≡ x.done → w.role ≡ v.role → KeepsLists None v w → Moves places a y after →
+    waits_on : (w : View) (y : Place) → y.done ≡ x.done → w.role ≡ v.role → are_told_once (asking p) w.told ≡ true →
+        KeepsLists None v w → Moves places a y after →
         IsOwn p w before (AwaitNeeds ns ∷ behind) y → AreTrue p a w after
-    waits_on w y on role lists moves own = stay_step p i l a v w places after k a self y moves role on lists
+    waits_on w y on role told lists moves own = stay_step p i l a v w places after k a self y moves role told on lists
         (subst (λ (z : Place). IsOwn p w (tasks_before p a z) (tasks_left p a z) z) (sym moves.here)
         (subst (λ (n : ℕ). IsOwn p w (onto (take n (program p a)) []) (drop n (program p a)) y) (sym on)
         (subst (λ (ts : List Task). IsOwn p w before ts y) (sym (next_left x.done (program p a) (AwaitNeeds ns) next)) own)))
 
     -- it has ended, and nothing is held
     waited : (w : View) (y : Place) → y.done ≡ x.done + 1 → y.holding ≡ [] → y.met ≡ false → y.seen ≡ x.seen →
-        w.role ≡ v.role → KeepsLists None v w → list_any (shows_reached p w.known) ns ≡ true → Moves places a y after →
+        w.role ≡ v.role → are_told_once (asking p) w.told ≡ true → KeepsLists None v w →
+        list_any (shows_reached p w.known) ns ≡ true → Moves places a y after →
         w.runs ≡ v.runs → w.entered ≡ v.entered → w.signaled ≡ v.signaled → w.held ≡ v.held → w.refs ≡ [] → AreTrue p a w after
-    waited w y on empty unmet unseen role lists reached moves runs entered signaled turn none =
-        task_step p i l a v w places after k a self y moves role (AwaitNeeds ns) next on lists reached
+    waited w y on empty unmet unseen role told lists reached moves runs entered signaled turn none =
+        task_step p i l a v w places after k a self y moves role told (AwaitNeeds ns) next on lists reached
         (own_moved p a w x y (after a) (AwaitNeeds ns) next on moves.here
         record {
           runs = record {
@@ -191,13 +194,13 @@ module _ (p : Plan) (i : IsPlan p) (l : IsLawful p) (a : ActorName) (v : View) (
         })
 
     -- a need was found past
-    pub own_past : (w : View) → KeepsOwn v w → w.role ≡ v.role → KeepsLists None v w → x.met ≡ false →
+    pub own_past : (w : View) → KeepsOwn v w → w.role ≡ v.role → are_told_once (asking p) w.told ≡ true → KeepsLists None v w → x.met ≡ false →
         list_any (shows_reached p w.known) ns ≡ true → Moves places a (met_at (places a) (places a).holding) after →
         AreTrue p a w after
-    own_past w o role lists unmet reached moves = by_holding x.holding refl moves
+    own_past w o role told lists unmet reached moves = by_holding x.holding refl moves
       where
         by_holding : (hs : List Holding) → x.holding ≡ hs → Moves places a (met_at x hs) after → AreTrue p a w after
-        by_holding [] is m = waited w (forward x) refl is unmet refl role lists reached m o.runs o.entered o.signaled o.turn
+        by_holding [] is m = waited w (forward x) refl is unmet refl role told lists reached m o.runs o.entered o.signaled o.turn
             (no_refs v.refs w.refs o.refs (here.holds.count ∙ ap length is))
           where
             no_refs : (rs us : List Reference) → us ≡ rs → length rs ≡ 0 → us ≡ []
@@ -205,7 +208,7 @@ module _ (p : Plan) (i : IsPlan p) (l : IsLawful p) (a : ActorName) (v : View) (
             no_refs (r ∷ rs) us e z = absurd (omega arith)
         by_holding (h ∷ hs) is m =
             let z = kept w o in
-            waits_on w (record x { met = true }) refl role lists m record {
+            waits_on w (record x { met = true }) refl role told lists m record {
               runs = z.runs;
               turnless = z.turnless;
               holds = record { refs = z.holds.refs; count = z.holds.count; for_needs = z.holds.for_needs; rising = z.holds.rising; met = λ _. reached };
@@ -213,11 +216,11 @@ module _ (p : Plan) (i : IsPlan p) (l : IsLawful p) (a : ActorName) (v : View) (
             }
 
     -- a reference was looked at, and its operation is signaled
-    pub own_met : (w : View) → KeepsOwn v w → w.role ≡ v.role → KeepsLists None v w →
+    pub own_met : (w : View) → KeepsOwn v w → w.role ≡ v.role → are_told_once (asking p) w.told ≡ true → KeepsLists None v w →
         list_any (shows_reached p w.known) ns ≡ true → Moves places a (looked_at (places a)) after → AreTrue p a w after
-    own_met w o role lists reached m =
+    own_met w o role told lists reached m =
         let z = kept w o in
-        waits_on w (record x { met = true }) refl role lists m record {
+        waits_on w (record x { met = true }) refl role told lists m record {
           runs = z.runs;
           turnless = z.turnless;
           holds = record { refs = z.holds.refs; count = z.holds.count; for_needs = z.holds.for_needs; rising = z.holds.rising; met = λ _. reached };
@@ -231,7 +234,7 @@ module _ (p : Plan) (i : IsPlan p) (l : IsLawful p) (a : ActorName) (v : View) (
     own_referred n q e m t none moves =
         let new : Holding = record { need = n; point = q; op = e } in
         let y : Place = holding_also x n e q in
-        waits_on (refers v q e m) (holding_also x n e q) refl refl
+        waits_on (refers v q e m) (holding_also x n e q) refl refl k.told
         (no_lists (refers v q e m) ([], refl) refl refl refl refl) moves record {
           runs = record { job = here.runs.job; counts = here.runs.counts };
           turnless = here.turnless;
@@ -288,14 +291,14 @@ module _ (p : Plan) (i : IsPlan p) (l : IsLawful p) (a : ActorName) (v : View) (
 
         by_rest : (us : List Holding) → x.holding ≡ h ∷ us → Moves places a (without_first x us) after →
             AreTrue p a (unrefers v h.point h.op m) after
-        by_rest [] e z = waited (unrefers v h.point h.op m) (record (forward x) { holding = []; met = false }) refl refl refl refl refl lists
+        by_rest [] e z = waited (unrefers v h.point h.op m) (record (forward x) { holding = []; met = false }) refl refl refl refl refl k.told lists
             reached z refl refl refl refl (none [] refl e)
         by_rest (u ∷ us) e z =
             let all = and_parts (is_for p ns h) (list_all (is_for p ns) (u ∷ us))
             (subst (λ (ys : List Holding). list_all (is_for p ns) ys ≡ true) e here.holds.for_needs) in
             let rise = and_parts (nat_le 0 h.need) (are_rising (suc h.need) (u ∷ us))
             (subst (λ (ys : List Holding). are_rising 0 ys ≡ true) e here.holds.rising) in
-            waits_on (unrefers v h.point h.op m) (record x { holding = u ∷ us; met = true }) refl refl lists z record {
+            waits_on (unrefers v h.point h.op m) (record x { holding = u ∷ us; met = true }) refl refl k.told lists z record {
               runs = record { job = here.runs.job; counts = here.runs.counts };
               turnless = here.turnless;
               holds = record {

@@ -1,7 +1,7 @@
 -- The places of actors are true of a pass of the board. One pass may have several: the host's own actor, and the
 -- submit actors of the deferred queues, which the host serves. A place speaks of no word of the board, so no step of
 -- another pass changes what it says. This project's own.
-use Rattle.std.specs.Prelude.{ℕ, ◌≡◌, ◌==◌, ◌&&◌, nat_lt, nat_le, suc, Bool, true, false, List, [], ◌∷◌}
+use Rattle.std.specs.Prelude.{ℕ, ◌≡◌, ◌==◌, ◌&&◌, not, is_some, nat_lt, nat_le, suc, Bool, true, false, List, [], ◌∷◌}
 use Rattle.std.specs.Prelude.{Option, Some, None, length, count_by, take, drop}
 use Rattle.std.specs.List.{slice_get, list_all, list_any}
 use Rattle.std.specs.Option.{option_map, option_map_or}
@@ -10,7 +10,8 @@ use Rattle.vq_model.specs.declared.script.ActorName.TheVariants.{Host as HostAct
 use Rattle.vq_model.specs.declared.script.ActorName.TheVariants.{Ring as RingActor}
 use Rattle.vq_model.specs.declared.plan.Lane.TheVariants.{Queue as QueueLane}
 use Rattle.vq_model.specs.declared.plan.Need.{Need}
-use Rattle.vq_model.specs.Plan.{Plan, resolver}
+use Rattle.vq_model.specs.Outputs.{asking}
+use Rattle.vq_model.specs.Plan.{Plan, has, resolver}
 use Rattle.vq_turns.specs.declared.look.Holding.{Holding}
 use Rattle.vq_turns.specs.declared.task.Task.{Task}
 use Rattle.vq_turns.specs.Programs.{program}
@@ -21,7 +22,9 @@ use Rattle.vq_actor.specs.Stages.{Serves}
 use Rattle.vq_board_laws.specs.declared.view.Reference.{Reference}
 use Rattle.vq_board_laws.specs.declared.view.Role.{Role}
 use Rattle.vq_board_laws.specs.declared.view.Role.TheVariants.{Host, Ring}
+use Rattle.vq_board_laws.specs.declared.view.Told.{Told}
 use Rattle.vq_board_laws.specs.declared.view.View.{View}
+use Rattle.vq_board_laws.specs.Reached.{answer_told}
 use Rattle.vq_board_laws.specs.Roles.{role_number, submitter_of}
 use Rattle.vq_access_laws.specs.Tests.{shows_reached, saw_values}
 use Rattle.vq_access_laws.specs.TrueTasks.{is_done, is_left}
@@ -99,9 +102,17 @@ pub record IsOwn (p : Plan) (v : View) (before left : List Task) (x : Place) : T
 
 -- All programs of a pass
 
--- The places of a pass's own actor and of those that it serves are true of the pass.
+-- answers to some of these jobs, no two of them to the same job
+abbrev pub are_told_once : List ℕ → List Told → Bool
+are_told_once jobs [] = true
+are_told_once jobs (x ∷ told) =
+    has jobs x.job && (not (is_some (answer_told told x.job)) && are_told_once jobs told)
+
+-- The places of a pass's own actor and of those that it serves are true of the pass, which told each host step that
+-- asks something one answer at most, and nothing else.
 pub record AreTrue (p : Plan) (a : ActorName) (v : View) (places : ActorName → Place) : Type 0 where
   pub role : v.role ≡ role_number p (role_of_actor p a)
+  pub told : are_told_once (asking p) v.told ≡ true
   pub own : IsOwn p v (tasks_before p a (places a)) (tasks_left p a (places a)) (places a)
   pub served : (b : ActorName) → Serves p a b →
       HasDone p v (tasks_before p b (places b)) (tasks_left p b (places b))

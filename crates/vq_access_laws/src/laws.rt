@@ -4,6 +4,7 @@ ghost use Rattle.std.specs.List.{slice_get, list_all, list_any};
 ghost use Rattle.atomic_table.specs.Seated.{TableId};
 ghost use Rattle.vq_model.specs.LoweringFaults.{IsPlan};
 ghost use Rattle.vq_model.specs.Memory.{Memory};
+ghost use Rattle.vq_model.specs.Outputs.{asking};
 ghost use Rattle.vq_model.specs.Plan.{Plan, signals_of};
 ghost use Rattle.vq_model.specs.declared.plan.Answer.{Answer};
 ghost use Rattle.vq_model.specs.declared.plan.Need.{Need};
@@ -130,6 +131,12 @@ pub fn waits_keep_places_true()
         (s.places s.actor).holding ≡ record { need = k; point = q; op = e } ∷ rest →
         Moves s.places s.actor (given_back (s.places s.actor) (s.places s.actor).holding) after →
         AreTrue s.plan s.owner (unrefers (sees s.view q n) q e n) after }
+{}
+
+/// A pass of which places are true gave each host step that asks something one answer at most, so no more answers than
+/// there are such steps.
+pub fn passes_tell_few_answers()
+    ensures { (s : Stand) → StandsTruly s → length s.view.told ≤ length (asking s.plan) }
 {}
 
 /// What is held for a need is a reference of the pass, to a point that may be.

@@ -3,7 +3,7 @@ use Rattle.vq_actor.specs.Actors.{IsTurn}
 use Rattle.vq_actor.specs.Meanings.{Meaning, Other}
 use Rattle.vq_actor.specs.Trackers.{FitsIn, Tracked}
 use Rattle.vq_access.specs.Posts.{meaning, shows}
-use Rattle.vq_access.specs.Rooming.{MayBe}
+use Rattle.vq_access.specs.Taken.{MayBe}
 use Rattle.vq_access.specs.Seatings.{places_of}
 use Rattle.vq_access_laws.specs.AccessMeanings.{meaning_of}
 use Rattle.vq_access_laws.specs.Causes.{IsShown, Refusals}

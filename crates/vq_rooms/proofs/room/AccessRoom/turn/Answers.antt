@@ -1,16 +1,16 @@
 use Rattle.std.proofs.Common.{◌≡◌, ◌∙◌, true, Some, None, sym, subst, ap, set}
 use Rattle.vq_model.specs.Plan.{Plan}
 use Rattle.vq_board.specs.Named.{view}
-use Rattle.vq_access.specs.declared.room.AccessRoom.TheInside.{Inside}
-use Rattle.vq_access.specs.Rooming.{HasQueues, IsKept, IsRoomOf, Room, lent_by, served_queue}
+use Rattle.vq_rooms.specs.declared.room.AccessRoom.TheInside.{Inside}
+use Rattle.vq_rooms.specs.Rooming.{HasQueues, IsKept, IsRoomOf, Room, lent_by, served_queue}
 use Rattle.vq_access_laws.specs.Causes.{IsShown}
 use Rattle.vq_access_laws.specs.TruePasses.{AreTrue}
 use Rattle.vq_actor.specs.Actors.{IsTurn}
 use Rattle.vq_turn_laws.specs.TruePlaces.{with_place}
 use Rattle.vq_access.specs.Seatings.{Seating, places_of}
 use Rattle.vq_access.specs.Served.{is_served}
-use Rattle.vq_access.proofs.RoomLaws.{few_before, fits_before, own_moved, place_here, place_there, queue_moved, room_after, true_before, turn_alike}
-use Rattle.vq_access.proofs.room.AccessRoom.turn.Goals as goal
+use Rattle.vq_rooms.proofs.RoomLaws.{few_before, fits_before, own_moved, place_here, place_there, queue_moved, room_after, true_before, turn_alike}
+use Rattle.vq_rooms.proofs.room.AccessRoom.turn.Goals as goal
 
 abbrev room_of : Inside → Room
 room_of z = record { owner = z.owner; pass = z.pass; seats = z.seats; taken = z.taken.items; refused = z.refused }

@@ -1,5 +1,5 @@
-use Rattle.vq_access.proofs.FirstRooms.{first_seating}
-use Rattle.vq_access.proofs.making.first_seats.Goals as goal
+use Rattle.vq_rooms.proofs.FirstRooms.{first_seating}
+use Rattle.vq_rooms.proofs.making.first_seats.Goals as goal
 
 pub returns : goal.returns
 returns c =

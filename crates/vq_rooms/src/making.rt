@@ -2,16 +2,15 @@
 //!
 //! Source: this project's own.
 ghost use Rattle.std.specs.Prelude.{◌≡◌, [], IfOk, length};
-ghost use Rattle.vq_access.specs.Rooming.{AreFirst, IsFirstOf, IsFirstSeating, IsIdle};
+ghost use Rattle.vq_rooms.specs.Rooming.{AreFirst, IsFirstOf, IsFirstSeating, IsIdle};
 ghost use Rattle.vq_actor.specs.Companies.{IsCompanyOf};
 ghost use Rattle.vq_board.specs.Named.{view};
 ghost use Rattle.vq_model.specs.ValidScripts.{IsActor};
 ghost use Rattle.vq_model.specs.declared.script.ActorName.TheVariants.{Host};
 
-use crate::refused::Refused;
 use crate::room::AccessRoom;
-use crate::seats::Seats;
 use std::alloc::{AllocError, Global};
+use vq_access::{Refused, Seats};
 use vq_actor::{Actor, Company, Tracker};
 use vq_board::Pass;
 use vq_model::script::ActorName;

@@ -4,6 +4,7 @@ use Rattle.vq_model.specs.declared.script.ActorName.{ActorName}
 use Rattle.vq_model.specs.declared.script.ActorName.TheVariants.{Host as HostActor, Submit as SubmitActor}
 use Rattle.vq_model.specs.Plan.{Plan}
 use Rattle.vq_turns.specs.declared.outcome.Outcome.{Outcome}
+use Rattle.vq_turns.specs.declared.outcome.Outcome.TheVariants.{Blocked}
 use Rattle.vq_turns.specs.Programs.{program}
 use Rattle.vq_actor.specs.Actors.{events_by}
 use Rattle.vq_actor.specs.Meanings.{Meaning, Other}
@@ -28,6 +29,7 @@ use Rattle.vq_actor.specs.Companies.{member_at}
 use Rattle.vq_access.specs.Lasts.{IsFew}
 use Rattle.vq_access.specs.Seatings.{Seating, no_seat, places_of, seat_of}
 use Rattle.vq_access.specs.Served.{is_served}
+use Rattle.vq_access.specs.Taken.{MayBe}
 
 -- a room: whose it is, the pass, the places of the actors that it serves, the points that were taken for the next
 -- batch, and the refusals
@@ -49,10 +51,6 @@ AreFew p owner = (b : ActorName) → is_served p owner b ≡ true → All IsFew 
 -- the host has a place for the submit actor of each queue
 abbrev pub HasQueues : Plan → ActorName → Seating → Type 0
 HasQueues p owner s = owner ≡ HostActor → length s.submits ≡ length p.script.queues
-
--- the points that are remembered may be
-abbrev pub MayBe : Plan → List Reference → Type 0
-MayBe p refs = All (λ r. r.point < length p.ops) refs
 
 -- All places are true of the pass, and there is room for what is left to do.
 pub record IsRoom (p : Plan) (owner : ActorName) (v : View) (s : Seating) (taken : List Reference) : Type 0 where
@@ -111,6 +109,14 @@ lent_by p r a = lent p r.owner r.seats (view r.pass) r.refused a
 
 abbrev pub shown_by : Room → Want → ℕ × ℕ → Type 0
 shown_by r want since = IsShown (view r.pass).steps r.refused want since
+
+-- how far a room's record goes: the steps of its pass, and the refusals of lists
+abbrev pub moment_of : Room → ℕ × ℕ
+moment_of r = (length (view r.pass).steps, r.refused.count)
+
+-- after a turn that was blocked, the room shows the want since the turn's start
+abbrev pub ShowsBlocked : Room → Room → Outcome → Type 0
+ShowsBlocked r s o = (want : Want) → o ≡ Blocked want → shown_by s want (moment_of r)
 
 -- Seats before the first turns
 

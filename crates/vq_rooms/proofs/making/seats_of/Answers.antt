@@ -1,8 +1,8 @@
 use Rattle.std.proofs.Common.{◌≡◌, ◌+◌, ℕ, List, length, sym, subst, arith}
 use Rattle.vq_actor.specs.Trackers.{Tracked}
-use Rattle.vq_access.specs.Rooming.{AreFirst}
-use Rattle.vq_access.proofs.FirstRooms.{first_none, first_more}
-use Rattle.vq_access.proofs.making.seats_of.Goals as goal
+use Rattle.vq_rooms.specs.Rooming.{AreFirst}
+use Rattle.vq_rooms.proofs.FirstRooms.{first_none, first_more}
+use Rattle.vq_rooms.proofs.making.seats_of.Goals as goal
 
 pub loop-actor-init : goal.loop-actor-init
 loop-actor-init c =

@@ -6,9 +6,8 @@ ghost use Rattle.vq_access_laws.specs.TruePasses.{role_of_actor};
 ghost use Rattle.vq_board.specs.Named.{view};
 ghost use Rattle.vq_board_laws.specs.Roles.{role_number};
 
-use crate::refused::Refused;
-use crate::seats::Seats;
 use std::marker::Model;
+use vq_access::{Refused, Seats};
 use vq_board::Pass;
 use vq_board_laws::view::Reference;
 use vq_model::script::ActorName;
@@ -36,7 +35,7 @@ impl Drop for AccessRoom {
 }
 
 impl Model for AccessRoom {
-    ghost use Rattle.vq_access.specs.Rooming.{IsKept, Room};
+    ghost use Rattle.vq_rooms.specs.Rooming.{IsKept, Room};
     ghost use Rattle.std.specs.Coded.{codes};
     ghost use Rattle.vq_board.specs.contracts.parts.Pass as pass_row;
 

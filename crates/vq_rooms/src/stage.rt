@@ -1,17 +1,18 @@
 //! A room as a stage of turns.
 //!
 //! Source: this project's own.
-ghost use Rattle.std.specs.Prelude.{◌≡◌};
+ghost use Rattle.std.specs.Prelude.{◌≡◌, ◌≤◌, length};
 ghost use Rattle.vq_access.specs.Grounding.{plan_at, board_at};
-ghost use Rattle.vq_access.specs.Rooming.{IsRoomOf, TellsBy, view_of};
+ghost use Rattle.vq_rooms.specs.Rooming.{IsRoomOf, ShowsBlocked, TellsBy, view_of};
 ghost use Rattle.vq_actor.specs.Companies.{IsCompanyOf};
 ghost use Rattle.vq_board.specs.Named.{id_of};
+ghost use Rattle.vq_model.specs.Outputs.{asking};
 ghost use Rattle.vq_model.specs.ValidScripts.{IsActor};
 
-use crate::grounds::Grounds;
 use crate::room::AccessRoom;
 use std::marker::{Brand, PhantomData};
 use std::sync::Wait;
+use vq_access::Grounds;
 use vq_actor::{Actor, Company, Stage};
 use vq_order::Ordered;
 use vq_turns::outcome::Outcome;
@@ -40,24 +41,24 @@ pub struct RoomStage<'a, R, J: Lent> {
     room: AccessRoom,
     grounds: &'a Grounds<'a, R>,
     of: PhantomData<J>,
-    ghost board: { IsRoomOf grounds.now.board.now room },
+    ghost board: { IsRoomOf (board_at grounds.now) room },
     ghost same_owner: { room.owner ≡ J.owner },
-    ghost same_table: { id_of grounds.now.board.now ≡ J.table },
+    ghost same_table: { id_of (board_at grounds.now) ≡ J.table },
 }
 
 impl<'a, R: Wait, J: Lent> Stage for RoomStage<'a, R, J> {
     ghost use Rattle.std.specs.Prelude.{true};
-    ghost use Rattle.vq_access.specs.Rooming.{shown_by, staged};
+    ghost use Rattle.vq_rooms.specs.Rooming.{shown_by, staged};
     ghost use Rattle.vq_access.specs.Served.{is_served};
 
-    ghost staged = { λ x. staged x.grounds.now.ordered.now x.room };
+    ghost staged = { λ x. staged (plan_at x.grounds.now) x.room };
 
-    ghost has = { λ x a. is_served x.grounds.now.ordered.now x.room.owner a ≡ true };
+    ghost has = { λ x a. is_served (plan_at x.grounds.now) x.room.owner a ≡ true };
 
     ghost shows = { λ x. shown_by x.room };
 
     fn ordered(&self) -> &Ordered {
-        self.grounds.ordered
+        self.grounds.ordered()
     }
 
     fn turn(&mut self, actor: &Actor) -> Outcome {
@@ -71,14 +72,15 @@ fn turn_named<J: Lent, R: Wait>(
     grounds: &Grounds<R>,
     company: &Company,
 ) -> (AccessRoom, Outcome)
-    requires company { IsCompanyOf grounds.now.ordered.now company.now }
-    requires board { IsRoomOf grounds.now.board.now room }
-    requires actor { IsActor grounds.now.ordered.now.script room.owner }
+    requires company { IsCompanyOf (plan_at grounds.now) company.now }
+    requires board { IsRoomOf (board_at grounds.now) room }
+    requires actor { IsActor (plan_at grounds.now).script room.owner }
     requires same_owner { room.owner ≡ J.owner }
-    requires same_table { id_of grounds.now.board.now ≡ J.table }
-    ensures board { IsRoomOf grounds.now.board.now result.0 }
+    requires same_table { id_of (board_at grounds.now) ≡ J.table }
+    ensures board { IsRoomOf (board_at grounds.now) result.0 }
     ensures owner { result.0.owner ≡ room.owner }
     ensures told { TellsBy (view_of room) (view_of result.0) result.1 }
+    ensures shown { ShowsBlocked room result.0 result.1 }
 {
     let owner = room.owner();
     let mut stage = RoomStage::<R, J> {
@@ -97,8 +99,9 @@ fn turn_named<J: Lent, R: Wait>(
 
 impl AccessRoom {
     /// One turn of the room's own actor: the room after it, with the event that was made, or why none was. The host's
-    /// serves the submit actors of deferred queues too. It waits for nothing but the locks of timelines, and takes no
-    /// memory.
+    /// serves the submit actors of deferred queues too. Where nothing could be done, the room shows the want since the
+    /// turn's start. All its turns together answer each host step that asks something once at most. It waits for
+    /// nothing but the locks of timelines, and takes no memory.
     pub fn take_turn<R: Wait>(
         self,
         grounds: &Grounds<R>,
@@ -110,7 +113,11 @@ impl AccessRoom {
         ensures board { IsRoomOf (board_at grounds.now) result.0 }
         ensures owner { result.0.owner ≡ self.owner }
         ensures told { TellsBy (view_of self) (view_of result.0) result.1 }
+        ensures few { length (view_of result.0).told ≤ length (asking (plan_at grounds.now)) }
+        ensures shown { ShowsBlocked self result.0 result.1 }
     {
-        turn_named::<Brand, R>(self, grounds, company)
+        let (room, outcome) = turn_named::<Brand, R>(self, grounds, company);
+        let _ = &room.owner;
+        (room, outcome)
     }
 }

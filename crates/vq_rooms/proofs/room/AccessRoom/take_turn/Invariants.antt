@@ -1,5 +1,5 @@
 use Rattle.vq_board.specs.Named.{id_of}
-use Rattle.vq_access.proofs.room.AccessRoom.take_turn.Given as goal
+use Rattle.vq_rooms.proofs.room.AccessRoom.take_turn.Given as goal
 
 -- whose room it is, and the board's table
 abbrev pub ghosts-turn_named : goal.ghosts-turn_named

@@ -19,10 +19,10 @@ use Rattle.vq_actor.specs.Trackers.{Tracked, FitsIn}
 use Rattle.vq_board_laws.specs.declared.view.View.{View}
 use Rattle.vq_access_laws.specs.TruePasses.{AreTrue}
 use Rattle.vq_access_laws.proofs.Cited.{fresh_true}
-use Rattle.vq_access.specs.Rooming.{AreFirst, IsFirstOf, IsFirstSeating, IsIdle}
+use Rattle.vq_rooms.specs.Rooming.{AreFirst, IsFirstOf, IsFirstSeating, IsIdle}
 use Rattle.vq_access.specs.Seatings.{Seating, no_seat, places_of, seat_of, served_at}
 use Rattle.vq_access.specs.Served.{is_served}
-use Rattle.vq_access.proofs.RoomLaws.{queue_within}
+use Rattle.vq_rooms.proofs.RoomLaws.{queue_within}
 
 -- One seat more
 

@@ -3,10 +3,11 @@ use Rattle.std.proofs.lemmas.List.Elements.{All-nil}
 use Rattle.vq_model.specs.Plan.{Plan}
 use Rattle.vq_board.specs.Named.{view}
 use Rattle.vq_board_laws.specs.declared.view.Reference.{Reference}
-use Rattle.vq_access.specs.Rooming.{IsRoom, MayBe}
-use Rattle.vq_access.proofs.Few.{program_few}
-use Rattle.vq_access.proofs.FirstRooms.{idle_plan, idle_true}
-use Rattle.vq_access.proofs.room.AccessRoom.new.Goals as goal
+use Rattle.vq_access.specs.Taken.{MayBe}
+use Rattle.vq_rooms.specs.Rooming.{IsRoom}
+use Rattle.vq_rooms.proofs.Few.{program_few}
+use Rattle.vq_rooms.proofs.FirstRooms.{idle_plan, idle_true}
+use Rattle.vq_rooms.proofs.room.AccessRoom.new.Goals as goal
 
 pub invariant_of-result : goal.invariant_of-result
 invariant_of-result c =

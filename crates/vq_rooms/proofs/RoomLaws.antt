@@ -27,9 +27,10 @@ use Rattle.vq_access_laws.specs.Causes.{Refusals}
 use Rattle.vq_access_laws.specs.TruePasses.{AreTrue}
 use Rattle.vq_access_laws.proofs.Cited.{true_alike}
 use Rattle.vq_access.specs.Lasts.{IsFew}
-use Rattle.vq_access.specs.Rooming.{AreFew, FitAll, HasQueues, IsRoom, MayBe, served_queue}
+use Rattle.vq_rooms.specs.Rooming.{AreFew, FitAll, HasQueues, IsRoom, served_queue}
 use Rattle.vq_access.specs.Seatings.{Seating, no_seat, places_of, seat_of, served_at}
 use Rattle.vq_access.specs.Served.{is_served}
+use Rattle.vq_access.specs.Taken.{MayBe}
 
 -- Names
 
