@@ -1,2 +1,8 @@
-mod CrewLists
-mod Together
+mod Berthing
+mod Crewing
+mod Crossing
+mod Dealt
+mod Leading
+mod Seeing
+mod Shelving
+mod Told

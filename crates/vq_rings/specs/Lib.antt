@@ -1,2 +1,4 @@
-pub mod Phases
+pub mod Answered
+pub mod Berths
 pub mod Crews
+pub mod Openings

@@ -1,13 +1,20 @@
-//! Runs of a lawful plan by threads: each ring and each submitting thread has one of its own, and all share
-//! one core under one lock.
+//! Runs of a lawful plan by threads, over the words of a board: each ring and each submitting thread has one of its
+//! own, and two of them meet only where the plan makes them meet.
 #![tactic(auto)]
 
+mod berth;
+mod berths;
 mod gate;
-mod locked;
+mod lead;
 mod opened;
+mod opening;
 mod report;
+mod rest;
+mod rounds;
+mod run;
 mod threads;
 
 pub use gate::{Gate, OpenGate};
+pub use opened::Opened;
 pub use report::Report;
-pub use threads::execute;
+pub use run::execute;

@@ -1,136 +1,93 @@
-//! All that a run needs, made before it begins.
-ghost use Rattle.std.specs.Prelude.{◌≡◌, ◌++◌, ◌<◌, ◌≤◌, [], length, IfOk, OnOk};
-ghost use Rattle.vq_rings.specs.Crews.{actors, rings_below, submits_below};
+//! A run that can begin, and the run.
+//!
+//! Source: this project's own.
+ghost use Rattle.std.specs.Prelude.{◌≡◌, ◌≤◌, ◌++◌, length, IfOk};
+ghost use Rattle.vq_board.specs.Named.{plan_of_closed, told_of, bytes_of};
+ghost use Rattle.vq_board_laws.specs.Reached.{lines_told};
+ghost use Rattle.vq_model.specs.Memory.{HasSizes};
+ghost use Rattle.vq_model.specs.Outputs.{IsOutput, asking};
+ghost use Rattle.vq_model.specs.OutputText.{answer_text, buffers_text};
+ghost use Rattle.vq_model.specs.ValidScripts.{sizes_of};
 
+use crate::gate::Gate;
+use crate::opening::{Parts, parts_of};
+use crate::report::Report;
+use crate::threads::{Done, run_threads};
 use std::alloc::{AllocError, Global};
-use vq_actor::queue_count;
-use vq_core::AnswerRoom;
-use vq_model::script::{ActorName, Script};
+use std::marker::Model;
+use std::sync::Wait;
+use std::thread::Threads;
+use vq_access::Grounds;
 use vq_order::Ordered;
-use vq_troupe::Troupe;
 
-/// Who takes an actor's turns.
-#[derive(Clone, Copy)]
-pub(crate) enum Taker {
-    Caller,
-    Thread,
-    /// Nobody: the actor has ended, or the run is over.
-    Ended,
+/// A run of a plan with all that it needs: no memory is taken after it was made. Contracts see the plan.
+pub struct Opened {
+    ordered: Ordered,
+    parts: Parts,
 }
 
-/// What the caller knows of an actor whose turns it may have to take.
-#[derive(Clone, Copy)]
-pub(crate) struct Hand {
-    pub(crate) taker: Taker,
-    /// How many turns the caller took.
-    pub(crate) turn: u64,
+impl Drop for Opened {
+    fn drop(self) {
+        let Opened {
+            ordered: _ordered,
+            parts: _parts,
+        } = self;
+    }
 }
 
-/// All that a run needs: no memory is taken after this was made. Its type names no plan.
-#[derive(Drop)]
-pub(crate) struct Opened {
-    pub(crate) troupe: Troupe,
-    pub(crate) answers: AnswerRoom,
-    /// Who takes turns, the host first.
-    pub(crate) names: Vec<ActorName>,
-    /// For each name a hand.
-    pub(crate) hands: Vec<Hand>,
+impl Model for Opened {
+    ghost use Rattle.vq_model.specs.Plan.{Plan};
+    ghost use Rattle.vq_rings.specs.Openings.{AreParts};
+
+    ghost Value = { Plan };
+
+    ghost view = { λ o. o.ordered };
+
+    ghost invariant = { λ o. AreParts o.ordered o.parts };
 }
 
 impl Opened {
     /// A run before its first turn. The error is want of memory.
-    pub(crate) fn new(alloc: Global, ordered: Ordered) -> Result<Opened, AllocError>
-        ensures course { IfOk result (λ o. o.troupe.course ≡ record { plan = ordered; history = [] }) }
-        ensures answers { IfOk result (λ o. o.answers ≡ length ordered.jobs) }
-        ensures names { IfOk result (λ o. o.names.items ≡ actors ordered.script) }
-        ensures hands { IfOk result (λ o. length o.hands.items ≡ length o.names.items) }
+    pub fn new(alloc: Global, ordered: Ordered) -> Result<Opened, AllocError>
+        ensures { IfOk result (λ o. o ≡ ordered) }
     {
-        let crew = crew_of(alloc, &ordered)?;
-        let troupe = Troupe::new(alloc, ordered)?;
-        let Crew {
-            answers,
-            names,
-            hands,
-        } = crew;
-        Ok(Opened {
-            troupe,
-            answers,
-            names,
-            hands,
-        })
+        let parts = parts_of(alloc, &ordered)?;
+        Ok(Opened { ordered, parts })
     }
-}
 
-/// What a run keeps beside its actors.
-#[derive(Drop)]
-struct Crew {
-    answers: AnswerRoom,
-    names: Vec<ActorName>,
-    hands: Vec<Hand>,
-}
-
-/// What a run keeps beside its actors. The plan is lent, since each way out would drop it.
-fn crew_of(alloc: Global, ordered: &Ordered) -> Result<Crew, AllocError>
-    ensures answers { IfOk result (λ c. c.answers ≡ length ordered.now.jobs) }
-    ensures names { IfOk result (λ c. c.names.items ≡ actors ordered.now.script) }
-    ensures hands { IfOk result (λ c. length c.hands.items ≡ length c.names.items) }
-{
-    let answers = AnswerRoom::new(alloc, ordered.plan())?;
-    let names = all_names(alloc, ordered)?;
-    let hands = all_hands(alloc, names.as_slice().len())?;
-    Ok(Crew {
-        answers,
-        names,
-        hands,
-    })
-}
-
-/// A hand for each of so many actors. The caller takes the turns of the first.
-fn all_hands(alloc: Global, count: usize) -> Result<Vec<Hand>, AllocError>
-    ensures { IfOk result (λ hands. length hands.items ≡ count) }
-{
-    let hand = Hand {
-        taker: Taker::Thread,
-        turn: 0,
-    };
-    let mut hands = vec![in alloc; hand; count]?;
-    if count > 0 {
-        hands[0].taker = Taker::Caller;
-    }
-    Ok(hands)
-}
-
-/// The names of a plan's actors, the host first.
-fn all_names(alloc: Global, ordered: &Ordered) -> Result<Vec<ActorName>, AllocError>
-    ensures { IfOk result (λ names. names.items ≡ actors ordered.now.script) }
-{
-    let queues = queue_count(ordered);
-    let mut names = Vec::new(alloc);
-    names.push(ActorName::Host)?;
-    push_submits(&mut names, ordered.plan().script(), queues)?;
-    push_rings(&mut names, queues)?;
-    Ok(names)
-}
-
-/// Adds the submitting thread of each threaded queue among so many.
-fn push_submits(names: &mut Vec<ActorName>, script: &Script, queues: u32) -> Result<(), AllocError>
-    requires { queues ≤ length script.now.queues }
-    ensures { OnOk result (names.new.items ≡ names.old.items ++ submits_below script.now queues) }
-{
-    for queue in 0..queues {
-        if script.is_threaded(queue) {
-            names.push(ActorName::Submit(queue))?;
+    /// Runs all actors to the end, and closes the board. It takes no memory.
+    pub fn drive<R: Threads + Wait + Sync, G: Gate>(self, rt: &R, gate: &G) -> Report
+        ensures ordered { result.ordered ≡ self }
+        ensures plan { plan_of_closed result.closed ≡ self }
+        ensures told { result.answers.items ≡ lines_told self (told_of result.closed) }
+        ensures few { length result.answers.items ≤ length (asking self) }
+        ensures sizes { HasSizes (sizes_of self.script) (bytes_of result.closed) }
+        ensures output { IsOutput self
+            (answer_text result.answers.items ++ buffers_text self.script.buffers (bytes_of result.closed)) }
+    {
+        let Opened { ordered, parts } = self;
+        let Parts {
+            board,
+            timelines,
+            company,
+            lead,
+            berths,
+            mut hands,
+        } = parts;
+        let grounds = Grounds::new(rt, &ordered, &board, timelines.as_slice());
+        let Done { pass, answers } = run_threads(
+            &grounds,
+            &company,
+            berths.as_slice(),
+            hands.as_mut_slice(),
+            lead,
+            gate,
+        );
+        let closed = board.close(pass);
+        Report {
+            ordered,
+            answers,
+            closed,
         }
     }
-    Ok(())
-}
-
-/// Adds the ring of each of so many queues.
-fn push_rings(names: &mut Vec<ActorName>, queues: u32) -> Result<(), AllocError>
-    ensures { OnOk result (names.new.items ≡ names.old.items ++ rings_below queues) }
-{
-    for queue in 0..queues {
-        names.push(ActorName::Ring(queue))?;
-    }
-    Ok(())
 }

@@ -1,195 +1,113 @@
 //! The threads of a run.
-ghost use Rattle.std.specs.Prelude.{◌≡◌, ◌++◌, ◌<◌, length, IfOk};
-ghost use Rattle.vq_model.specs.Machine.{AreFinished};
-ghost use Rattle.vq_model.specs.Memory.{HasSizes};
-ghost use Rattle.vq_model.specs.Outputs.{IsOutput};
-ghost use Rattle.vq_model.specs.OutputText.{answer_text, buffers_text};
-ghost use Rattle.vq_model.specs.ValidScripts.{IsActor, sizes_of};
-ghost use Rattle.vq_core.specs.CoreState.{world};
-ghost use Rattle.vq_rings.specs.Crews.{AreActors};
+ghost use Rattle.std.specs.Prelude.{◌≡◌, ◌≤◌, length};
+ghost use Rattle.std.specs.Vec.{vec_capacity};
+ghost use Rattle.vq_access.specs.Grounding.{plan_at, board_at};
+ghost use Rattle.vq_actor.specs.Companies.{IsCompanyOf};
+ghost use Rattle.vq_model.specs.Outputs.{asking};
+ghost use Rattle.vq_rings.specs.Answered.{IsDone, IsLead};
+ghost use Rattle.vq_rings.specs.Berths.{AreAt, IsAt};
 
+use crate::berth::Berth;
 use crate::gate::Gate;
-use crate::locked::{Locked, Named};
-use crate::opened::{Hand, Opened, Taker};
-use crate::report::Report;
-use crossbeam_utils::Backoff;
-use std::alloc::{AllocError, Global};
-use std::marker::Brand;
-use std::sync::{Mutex, Wait};
+use crate::lead::{host_turns, see_all};
+use crate::rest::is_alone;
+use crate::rounds::{Hand, work};
+use std::sync::Wait;
 use std::thread;
 use std::thread::Threads;
-use vq_core::Core;
-use vq_model::script::ActorName;
-use vq_order::Ordered;
-use vq_troupe::Troupe;
-use vq_turns::outcome::Outcome;
+use vq_access::Grounds;
+use vq_actor::Company;
+use vq_board::Pass;
+use vq_model::plan::AnswerLine;
+use vq_rooms::AccessRoom;
 
-/// Runs a lawful plan by threads: one for each ring, and one for each threaded queue's submitting thread. The
-/// caller takes the turns of the host, and of each actor whose thread can't be started. All memory is taken
-/// before the first turn; the error is that there is none. What is left is one of the plan's outputs. Which one
-/// depends on the order in which threads come to the lock, and so on the gate.
-///
-/// Source: this project's own, over Vulkan 1.3, "Queue Submission".
-pub fn execute<R: Threads + Wait + Sync, G: Gate>(
-    rt: &R,
-    alloc: Global,
-    ordered: Ordered,
-    gate: &G,
-) -> Result<Report, AllocError>
-    ensures ordered { IfOk result (λ r. r.ordered ≡ ordered) }
-    ensures sizes { IfOk result (λ r. HasSizes (sizes_of ordered.script) r.buffers) }
-    ensures output { IfOk result (λ r. IsOutput ordered
-        (answer_text r.answers.items ++ buffers_text ordered.script.buffers r.buffers)) }
-{
-    let Opened {
-        troupe,
-        answers,
-        names,
-        mut hands,
-    } = Opened::new(alloc, ordered)?;
-    let core = run_named::<Brand, R, G>(rt, troupe, names.as_slice(), hands.as_mut_slice(), gate);
-    Ok(Report::of(core, answers))
+/// The host's room, and where the answers go, with room for one to each step that asks.
+#[derive(Drop)]
+pub(crate) struct Lead {
+    pub(crate) room: AccessRoom,
+    pub(crate) answers: Vec<AnswerLine>,
 }
 
-/// Puts the core and all actors under the lock, and runs them until all jobs are finished.
-fn run_named<J: Named + Send + Sync, R: Threads + Wait + Sync, G: Gate>(
-    rt: &R,
-    troupe: Troupe,
-    names: &[ActorName],
-    hands: &mut [Hand],
-    gate: &G,
-) -> Core
-    requires plan { troupe.course.plan ≡ J.plan }
-    requires names { AreActors J.plan.script names.now }
-    requires hands { length hands.old ≡ length names.now }
-
-    ensures plan { result.plan ≡ J.plan }
-    ensures finished { AreFinished result.plan (world result).machine.progress }
-{
-    let shared = Mutex::new(Locked::<J>::new(troupe));
-    run_threads(rt, &shared, gate, names, hands)
+/// The host's pass, which knows all jobs finished, and the answers that it told.
+#[derive(Drop)]
+pub(crate) struct Done {
+    pub(crate) pass: Pass,
+    pub(crate) answers: Vec<AnswerLine>,
 }
 
-/// A thread for each actor but the host, and the caller for the host and for each actor whose thread was refused.
-fn run_threads<J: Named + Send + Sync, R: Threads + Wait + Sync, G: Gate>(
-    rt: &R,
-    shared: &Mutex<Locked<J>>,
-    gate: &G,
-    names: &[ActorName],
+/// A thread for each berth, and the caller for the host and for each actor whose thread was refused.
+pub(crate) fn run_threads<R: Threads + Wait + Sync, G: Gate>(
+    grounds: &Grounds<R>,
+    company: &Company,
+    berths: &[Berth],
     hands: &mut [Hand],
-) -> Core
-    requires names { AreActors J.plan.script names.now }
-    requires hands { length hands.old ≡ length names.now }
-
-    ensures plan { result.plan ≡ J.plan }
-    ensures finished { AreFinished result.plan (world result).machine.progress }
+    lead: Lead,
+    gate: &G,
+) -> Done
+    requires company { IsCompanyOf (plan_at grounds.now) company.now }
+    requires berths { AreAt (board_at grounds.now) berths.now }
+    requires hands { length hands.old ≡ length berths.now }
+    requires lead { IsLead (board_at grounds.now) lead.room lead.answers.items }
+    requires reserved { length (asking (plan_at grounds.now)) ≤ vec_capacity lead.answers }
+    ensures { IsDone (board_at grounds.now) result.pass result.answers.items }
 {
     thread::scope(
         thread::scope_env(),
-        rt,
-        |scope| -> Core
-            requires { AreActors J.plan.script names.now × (length hands.now ≡ length names.now) }
-            ensures { (result.plan ≡ J.plan) × AreFinished result.plan (world result).machine.progress }
+        grounds.rt(),
+        |scope| -> Done
+            requires { IsCompanyOf (plan_at grounds.now) company.now × AreAt (board_at grounds.now) berths.now
+                × (length hands.now ≡ length berths.now)
+                × IsLead (board_at grounds.now) lead.room lead.answers.items
+                × (length (asking (plan_at grounds.now)) ≤ vec_capacity lead.answers) }
+            ensures { IsDone (board_at grounds.entry.now) result.pass result.answers.items }
         {
-            for place in 1..names.len() {
-                let name = names[place];
+            for place in 0..berths.len() {
+                let berth = &berths[place];
                 let started = scope.spawn(
                     move || -> ()
-                        requires { IsActor J.plan.script name }
-                    { work::<J, R, G>(rt, shared, gate, name) },
+                        requires { IsCompanyOf (plan_at grounds.now) company.now
+                            × IsAt (board_at grounds.now) berth.now }
+                    { work(grounds, company, berth, gate) },
                 );
                 if started.is_err() {
-                    hands[place].taker = Taker::Caller;
+                    hands[place].mine = true;
                 }
             }
-            drive(rt, shared, gate, names, hands)
+            finish(grounds, company, berths, hands, lead, gate)
         },
     )
 }
 
-/// Calls the gate, takes the lock, gives the actor one turn and leaves the lock.
-fn turn<J: Named, R: Wait, G: Gate>(
-    rt: &R,
-    shared: &Mutex<Locked<J>>,
-    gate: &G,
-    name: ActorName,
-    turn: u64,
-) -> Option<Outcome>
-    requires { IsActor J.plan.script name }
-{
-    gate.at(name, turn);
-    shared.lock(rt).turn(name)
-}
-
-/// A worker: the turns of its actor, until that has ended or the run is over.
-fn work<J: Named, R: Wait, G: Gate>(rt: &R, shared: &Mutex<Locked<J>>, gate: &G, name: ActorName)
-    requires { IsActor J.plan.script name }
-{
-    let backoff = Backoff::new();
-    let mut number = 0u64;
-    for _ in rt.forever() {
-        match turn(rt, shared, gate, name, number) {
-            Some(Outcome::Moved(_)) => backoff.reset(),
-            Some(Outcome::Blocked(_)) => backoff.snooze(),
-            Some(Outcome::Ended) | None => return,
-        }
-        number = number.saturating_add(1);
-    }
-}
-
-/// The caller: the turns of the host and of the actors that have no thread, until it finds all jobs finished.
-fn drive<J: Named, R: Wait, G: Gate>(
-    rt: &R,
-    shared: &Mutex<Locked<J>>,
-    gate: &G,
-    names: &[ActorName],
+/// The caller: the turns of the host, and of the actors without a thread, until the host's pass knows all jobs
+/// finished.
+fn finish<R: Threads + Wait, G: Gate>(
+    grounds: &Grounds<R>,
+    company: &Company,
+    berths: &[Berth],
     hands: &mut [Hand],
-) -> Core
-    requires names { AreActors J.plan.script names.now }
-    requires hands { length hands.old ≡ length names.now }
-
-    ensures plan { result.plan ≡ J.plan }
-    ensures finished { AreFinished result.plan (world result).machine.progress }
-{
-    let backoff = Backoff::new();
-    for _ in rt.forever() {
-        let has_moved = round(rt, shared, gate, names, hands);
-        if let Some(core) = shared.lock(rt).take_finished() {
-            return core;
-        }
-        if has_moved {
-            backoff.reset();
-        } else {
-            backoff.snooze();
-        }
-    }
-    unreachable!()
-}
-
-/// One turn of each actor whose turns the caller takes. True if one of them moved.
-fn round<J: Named, R: Wait, G: Gate>(
-    rt: &R,
-    shared: &Mutex<Locked<J>>,
+    lead: Lead,
     gate: &G,
-    names: &[ActorName],
-    hands: &mut [Hand],
-) -> bool
-    requires names { AreActors J.plan.script names.now }
-    requires hands { length hands.old ≡ length names.now }
+) -> Done
+    requires company { IsCompanyOf (plan_at grounds.now) company.now }
+    requires berths { AreAt (board_at grounds.now) berths.now }
+    requires hands { length hands.old ≡ length berths.now }
+    requires lead { IsLead (board_at grounds.now) lead.room lead.answers.items }
+    requires reserved { length (asking (plan_at grounds.now)) ≤ vec_capacity lead.answers }
+    ensures { IsDone (board_at grounds.now) result.pass result.answers.items }
 {
-    let mut has_moved = false;
-    for place in 0..hands.len() {
-        let hand = hands[place];
-        let Taker::Caller = hand.taker else {
-            continue;
-        };
-        let outcome = turn(rt, shared, gate, names[place], hand.turn);
-        hands[place].turn = hand.turn.saturating_add(1);
-        match outcome {
-            Some(Outcome::Moved(_)) => has_moved = true,
-            Some(Outcome::Blocked(_)) => {}
-            Some(Outcome::Ended) | None => hands[place].taker = Taker::Ended,
-        }
-    }
-    has_moved
+    let Lead { room, mut answers } = lead;
+    let is_alone = is_alone(grounds.rt());
+    let room = host_turns(
+        grounds,
+        company,
+        berths,
+        hands,
+        room,
+        &mut answers,
+        is_alone,
+        gate,
+    );
+    let mut pass = room.into_pass();
+    see_all(grounds, company, berths, hands, &mut pass, is_alone, gate);
+    Done { pass, answers }
 }

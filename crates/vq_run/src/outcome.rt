@@ -2,11 +2,13 @@
 ghost use Rattle.std.specs.Prelude.{◌≡◌, ◌≤◌, ◌++◌, IfOk, length};
 ghost use Rattle.vq_model.specs.Memory.{HasSizes};
 ghost use Rattle.vq_model.specs.OutputText.{answer_text, buffers_text};
-ghost use Rattle.vq_model.specs.Outputs.{IsOutput};
+ghost use Rattle.vq_model.specs.Outputs.{IsOutput, asking};
 ghost use Rattle.vq_model.specs.ValidScripts.{sizes_of};
 ghost use Rattle.vq_messages.specs.Refused.{input_limit};
 ghost use Rattle.vq_run.specs.Outcomes.{AnswersTask, ArePlayable, IsOutcome, IsTrace};
 ghost use Rattle.vq_run.specs.Tasks.{IsStill, RunsThreads};
+ghost use Rattle.vq_board.specs.Named.{bytes_of};
+ghost use Rattle.vq_spec.specs.TextRooms.{text_room};
 
 use crate::reading::{Reading, read_input};
 use crate::status::Status;
@@ -17,8 +19,8 @@ use std::thread::Threads;
 use vq_model::script::Turn;
 use vq_order::Ordered;
 use vq_replay::{replay, trace_text};
-use vq_rings::{Gate, Report, execute};
-use vq_spec::{answer_text, buffers_text};
+use vq_rings::{Gate, Opened, Report};
+use vq_spec::TextRoom;
 use vq_words::Task;
 
 /// A status with the text that goes with it.
@@ -50,20 +52,8 @@ impl Outcome {
     }
 }
 
-/// The answers of a run, and the buffers that it leaves.
-fn report_text(alloc: Global, report: &Report) -> Result<Vec<u8>, AllocError>
-    requires { HasSizes (sizes_of report.now.ordered.script) report.now.buffers }
-    ensures { IfOk result (λ text. text.items
-        ≡ answer_text report.now.answers.items
-        ++ buffers_text report.now.ordered.script.buffers report.now.buffers) }
-{
-    let mut text = answer_text(alloc, report.answers.as_slice())?;
-    let buffers = buffers_text(alloc, report.ordered.plan(), &report.buffers)?;
-    text.extend_from_slice(buffers.as_slice())?;
-    Ok(text)
-}
-
-/// What a lawful plan writes where its queues run on threads. The error is want of memory.
+/// What a lawful plan writes where its queues run on threads. All memory is taken before the first turn; the error is
+/// that there is none.
 fn run_text<R: Threads + Wait + Sync, G: Gate>(
     rt: &R,
     alloc: Global,
@@ -72,8 +62,24 @@ fn run_text<R: Threads + Wait + Sync, G: Gate>(
 ) -> Result<Vec<u8>, AllocError>
     ensures { IfOk result (λ text. IsOutput ordered text.items) }
 {
-    let report = execute(rt, alloc, ordered, gate)?;
-    report_text(alloc, &report)
+    let room = TextRoom::new(alloc, ordered.plan())?;
+    let report = Opened::new(alloc, ordered)?.drive(rt, gate);
+    Ok(report_text(room, &report))
+}
+
+/// The answers of a run, and the buffers that it leaves, in the room that was made for them.
+fn report_text(room: TextRoom, report: &Report) -> Vec<u8>
+    requires room { room ≡ text_room report.now.ordered }
+    requires few { length report.now.answers.items ≤ length (asking report.now.ordered) }
+    requires sizes { HasSizes (sizes_of report.now.ordered.script) (bytes_of report.now.closed) }
+    ensures { result.items ≡ answer_text report.now.answers.items
+        ++ buffers_text report.now.ordered.script.buffers (bytes_of report.now.closed) }
+{
+    room.fill(
+        report.ordered.plan(),
+        report.answers.as_slice(),
+        report.closed.buffers(),
+    )
 }
 
 /// The trace of turns over a lawful plan.

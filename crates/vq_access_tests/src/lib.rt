@@ -1,0 +1,10 @@
+//! Run tests of the turns of actors over a board and its timelines, through public calls alone: a schedule of turns,
+//! each of an actor's own room, with the event that each makes. Expected values are worked out by hand.
+#![tactic(auto)]
+
+#[cfg(test)]
+mod events;
+#[cfg(test)]
+mod points_tests;
+pub mod rooms;
+pub mod scene;

@@ -1,0 +1,166 @@
+//! A point is completed while a reference is held to it, freed when that is given back, and used again.
+ghost use Rattle.std.specs.Prelude.{◌≡◌};
+ghost use Rattle.vq_access.specs.Grounding.{plan_at, board_at};
+ghost use Rattle.vq_access.specs.Timelines.{AreOf};
+ghost use Rattle.vq_access_tests.specs.Rooms.{ArePlaced};
+ghost use Rattle.vq_actor.specs.Companies.{IsCompanyOf};
+ghost use Rattle.vq_board.specs.Named.{plan_of};
+ghost use Rattle.vq_board_stage.specs.Dealing.{AreNew};
+
+use crate::events::is_same;
+use crate::rooms::turn_at;
+use crate::scene::{SCRIPT, rooms_of, timelines_of};
+use std::alloc::Global;
+use std::sync::Wait;
+use vq_access::Grounds;
+use vq_actor::Company;
+use vq_board::{Board, Passes};
+use vq_board_stage::passes::board_of;
+use vq_board_stage::plans::checked;
+use vq_model::plan::Event;
+use vq_model::script::ActorName;
+use vq_order::Ordered;
+use vq_rooms::AccessRoom;
+use vq_turns::outcome::Outcome;
+
+/// Where the rooms lie.
+const HOST: usize = 0;
+
+const SUBMIT_P: usize = 1;
+
+const SUBMIT_Q: usize = 2;
+
+const RING_P: usize = 3;
+
+const RING_Q: usize = 4;
+
+/// The second ring.
+const Q: ActorName = ActorName::Ring(1);
+
+/// Who takes a turn, and the event that it makes.
+const TURNS: [(usize, Event); 21] = [
+    (HOST, Event::Submit { job: 0 }),
+    (
+        SUBMIT_P,
+        Event::Take {
+            op: 0,
+            point: 0,
+            fresh: true,
+        },
+    ),
+    (SUBMIT_P, Event::Release { job: 0 }),
+    (SUBMIT_P, Event::Bind { op: 0, point: 0 }),
+    (HOST, Event::Submit { job: 1 }),
+    (SUBMIT_Q, Event::Release { job: 1 }),
+    (
+        RING_Q,
+        Event::Refer {
+            actor: Q,
+            point: 0,
+            op: 0,
+        },
+    ),
+    (RING_P, Event::Start { job: 0 }),
+    (RING_P, Event::Apply { job: 0, command: 0 }),
+    (RING_P, Event::Signal { op: 0 }),
+    (RING_P, Event::Finish { job: 0 }),
+    (HOST, Event::Submit { job: 2 }),
+    (SUBMIT_P, Event::Complete { op: 0 }),
+    // point 0 is completed and still held, so the next operation has a new one
+    (
+        SUBMIT_P,
+        Event::Take {
+            op: 1,
+            point: 1,
+            fresh: true,
+        },
+    ),
+    (SUBMIT_P, Event::Release { job: 2 }),
+    (SUBMIT_P, Event::Bind { op: 1, point: 1 }),
+    (
+        RING_Q,
+        Event::Look {
+            actor: Q,
+            point: 0,
+            op: 0,
+        },
+    ),
+    (
+        RING_Q,
+        Event::Unref {
+            actor: Q,
+            point: 0,
+            op: 0,
+        },
+    ),
+    (HOST, Event::Submit { job: 3 }),
+    (SUBMIT_P, Event::Free { point: 0 }),
+    // and now it carries another operation
+    (
+        SUBMIT_P,
+        Event::Take {
+            op: 2,
+            point: 0,
+            fresh: false,
+        },
+    ),
+];
+
+/// Whether a turn made this event.
+fn has_made(outcome: Option<Outcome>, expected: Event) -> bool {
+    match outcome {
+        Some(Outcome::Moved(event)) => is_same(event, expected),
+        Some(Outcome::Blocked(_)) | Some(Outcome::Ended) | None => false,
+    }
+}
+
+/// Whether each turn makes its event.
+fn each_moves<R: Wait>(
+    grounds: &Grounds<R>,
+    company: &Company,
+    rooms: &mut [Option<AccessRoom>],
+) -> bool
+    requires company { IsCompanyOf (plan_at grounds.now) company.now }
+    requires rooms { ArePlaced (board_at grounds.now) rooms.old }
+{
+    for (place, expected) in TURNS {
+        if !has_made(turn_at(grounds, company, rooms, place), expected) {
+            return false;
+        }
+    }
+    true
+}
+
+/// All of that over a board with its passes.
+fn plays<R: Wait>(
+    rt: &R,
+    alloc: Global,
+    ordered: &Ordered,
+    board: &Board,
+    mut passes: Passes,
+) -> Option<bool>
+    requires plan { plan_of board.now ≡ ordered.now }
+    requires passes { AreNew board.now passes }
+{
+    let Ok(company) = Company::new(alloc, ordered) else {
+        return None;
+    };
+    let timelines = timelines_of(alloc, ordered, board, &mut passes.shelves)?;
+    let mut rooms = rooms_of(alloc, ordered, board, &company, passes)?;
+    let grounds = Grounds::new(rt, ordered, board, timelines.as_slice());
+    Some(each_moves(&grounds, &company, rooms.as_mut_slice()))
+}
+
+fn plays_over<R: Wait>(rt: &R, alloc: Global, ordered: &Ordered) -> Option<bool> {
+    let (board, passes) = board_of(alloc, ordered)?;
+    plays(rt, alloc, ordered, &board, passes)
+}
+
+fn play<R: Wait>(rt: &R, alloc: Global) -> Option<bool> {
+    plays_over(rt, alloc, &checked(alloc, SCRIPT)?)
+}
+
+#[test]
+fn a_point_that_is_held_is_not_used_again(rt: HostRuntime) {
+    assert!(rt; play(&rt, rt.alloc()) == Some(true));
+}

@@ -1,0 +1,18 @@
+-- A berth may be shared by threads, since the room that lies under its lock may be sent.
+use denote.Param.Send.{IsSync, recorded_sync, sendable, struct_sync}
+use denote.Struct.Declared.{shape}
+use Rattle.std.proofs.Crossing.{crosses}
+use Rattle.std.proofs.alloc.Global.TheSendSync as heap
+use Rattle.std.specs.contracts.option.Option as option
+use Rattle.atomic_table.proofs.owned.Table.TheSendSync as table
+use Rattle.vq_lock.specs.contracts.lock.KeyedLock as lock
+use Rattle.vq_rooms.specs.contracts.room.AccessRoom as room
+use Rattle.vq_rooms.proofs.room.AccessRoom.TheSendSync as content
+use Rattle.vq_rings.specs.contracts.berth.Home as home
+use Rattle.vq_rings.specs.contracts.berth.OptionAccessRoomFitsHome.TheImpl as fits
+
+pub berth_sync : IsSync (lock.the_row home.the_row (option.the_row room.the_row) fits.ghosts)
+berth_sync =
+    let berth = lock.the_type home.the_row (option.the_row room.the_row) fits.ghosts in
+    recorded_sync _ _ _ berth.to_one (struct_sync (shape berth)
+    (search (sendable, crosses, table.the_field_sync, content.the_send, heap.the_send, heap.the_sync) depth 20, tt))

@@ -1,0 +1,48 @@
+-- The answers that a run keeps, and what its host's pass knows. This project's own.
+use Rattle.std.specs.Prelude.{ℕ, ◌≡◌, ◌<◌, ◌≤◌, List, Option, Some, None, length}
+use Rattle.vq_model.specs.declared.plan.Answer.{Answer}
+use Rattle.vq_model.specs.declared.plan.AnswerLine.{AnswerLine}
+use Rattle.vq_model.specs.declared.plan.Event.TheVariants.{Answer as AnswersAs}
+use Rattle.vq_model.specs.declared.script.ActorName.TheVariants.{Host as HostActor}
+use Rattle.vq_model.specs.Outputs.{asking}
+use Rattle.vq_turns.specs.declared.outcome.Outcome.{Outcome}
+use Rattle.vq_turns.specs.declared.outcome.Outcome.TheVariants.{Moved}
+use Rattle.vq_board_laws.specs.declared.view.Fact.TheVariants.{Job}
+use Rattle.vq_board_laws.specs.declared.view.JobState.TheVariants.{Finished}
+use Rattle.vq_board_laws.specs.Ends.{KnowsAllFinished}
+use Rattle.vq_board_laws.specs.Knowledge.{Knows}
+use Rattle.vq_board_laws.specs.Reached.{lines_told}
+use Rattle.vq_board.specs.declared.parts.Board.{Board}
+use Rattle.vq_board.specs.declared.parts.Pass.{Pass}
+use Rattle.vq_board.specs.Named.{plan_of, view, IsOf}
+use Rattle.vq_rooms.specs.Rooming.{Room, IsRoomOf}
+
+-- the answer that a turn gave, if any, with its job
+abbrev pub answer_by : Outcome → Option (ℕ × Answer)
+answer_by (Moved (AnswersAs j a)) = Some (j, a)
+answer_by other = None
+
+-- the lines are those of the answers that the pass told, in the order in which they were given
+abbrev pub AreToldBy : Board → Pass → List AnswerLine → Type 0
+AreToldBy b x lines = lines ≡ lines_told (plan_of b) (view x).told
+
+-- the host's room, and the answers so far: at most one to each step that asks something
+pub record IsLead (b : Board) (r : Room) (kept : List AnswerLine) : Type 0 where
+  pub board : IsRoomOf b r
+  pub host : r.owner ≡ HostActor
+  pub lines : AreToldBy b r.pass kept
+  pub few : length kept ≤ length (asking (plan_of b))
+
+-- the host's pass knows the first n jobs finished
+pub record HasSeen (b : Board) (x : Pass) (n : ℕ) : Type 0 where
+  pub board : IsOf b x
+  pub role : (view x).role ≡ 0
+  pub finished : (j : ℕ) → j < n → Knows (view x).known (Job j Finished)
+
+-- it knows all jobs finished, and these are the answers that it told
+pub record IsDone (b : Board) (x : Pass) (kept : List AnswerLine) : Type 0 where
+  pub board : IsOf b x
+  pub role : (view x).role ≡ 0
+  pub all : KnowsAllFinished (plan_of b) (view x)
+  pub lines : AreToldBy b x kept
+  pub few : length kept ≤ length (asking (plan_of b))

@@ -1,0 +1,167 @@
+//! The turns of workers, by their threads or by the caller.
+ghost use Rattle.std.specs.Prelude.{◌≡◌, IfOk, IfSome, length};
+ghost use Rattle.vq_access.specs.Grounding.{plan_at, board_at};
+ghost use Rattle.vq_rooms.specs.Rooming.{IsRoomOf};
+ghost use Rattle.vq_actor.specs.Companies.{IsCompanyOf};
+ghost use Rattle.vq_model.specs.ValidScripts.{IsActor};
+ghost use Rattle.vq_model.specs.declared.script.ActorName.{ActorName as Name};
+ghost use Rattle.vq_rings.specs.Berths.{AreAt, IsAt, IsHome};
+
+use crate::berth::Berth;
+use crate::gate::Gate;
+use crate::rest::{Rest, is_alone};
+use std::alloc::{AllocError, Global};
+use std::sync::Wait;
+use std::thread::Threads;
+use vq_access::Grounds;
+use vq_actor::Company;
+use vq_rooms::AccessRoom;
+use vq_turns::outcome::Outcome;
+
+/// What the caller knows of an actor whose turns it may have to take.
+#[derive(Clone, Copy)]
+pub(crate) struct Hand {
+    /// The caller takes its turns.
+    pub(crate) mine: bool,
+    pub(crate) ended: bool,
+    /// How many turns the caller took.
+    pub(crate) turn: u64,
+}
+
+/// A hand for each of so many berths: each actor has its thread.
+pub(crate) fn all_hands(alloc: Global, count: usize) -> Result<Vec<Hand>, AllocError>
+    ensures { IfOk result (λ hands. length hands.items ≡ count) }
+{
+    let hand = Hand {
+        mine: false,
+        ended: false,
+        turn: 0,
+    };
+    vec![in alloc; hand; count]
+}
+
+/// A thread: it takes its berth, once, and takes the actor's turns until that has ended.
+pub(crate) fn work<R: Threads + Wait, G: Gate>(
+    grounds: &Grounds<R>,
+    company: &Company,
+    berth: &Berth,
+    gate: &G,
+)
+    requires company { IsCompanyOf (plan_at grounds.now) company.now }
+    requires berth { IsAt (board_at grounds.now) berth.now }
+{
+    let mut guard = berth.lock(grounds.rt());
+    take_turns(
+        grounds,
+        company,
+        guard.content(berth),
+        is_alone(grounds.rt()),
+        gate,
+    );
+    berth.unlock(guard);
+}
+
+/// The turns of the actor of a room, until it has ended. The room is put back then.
+fn take_turns<R: Wait, G: Gate>(
+    grounds: &Grounds<R>,
+    company: &Company,
+    content: &mut Option<AccessRoom>,
+    is_alone: bool,
+    gate: &G,
+)
+    requires company { IsCompanyOf (plan_at grounds.now) company.now }
+    requires room { IfSome content.old (λ r. IsRoomOf (board_at grounds.now) r
+        × IsActor (plan_at grounds.now).script r.owner) }
+    ensures { (a : Name) → IfSome content.old (λ r. r.owner ≡ a) →
+        IfSome content.new (IsHome (board_at grounds.now) a) }
+{
+    let Some(mut room) = content.take() else {
+        return;
+    };
+    let name = room.owner();
+    let mut rest = Rest::new(is_alone);
+    let mut number = 0u64;
+    for _ in grounds.rt().forever() {
+        gate.at(name, number);
+        let (next, outcome) = room.take_turn(grounds, company);
+        room = next;
+        match outcome {
+            Outcome::Moved(_) => rest.moved(),
+            Outcome::Blocked(_) => rest.blocked(grounds.rt()),
+            Outcome::Ended => {
+                *content = Some(room);
+                return;
+            }
+        }
+        number = number.saturating_add(1);
+    }
+    unreachable!()
+}
+
+/// One turn of the actor of a room, where the room is there. The room is put back.
+fn turn_in<R: Wait, G: Gate>(
+    grounds: &Grounds<R>,
+    company: &Company,
+    content: &mut Option<AccessRoom>,
+    gate: &G,
+    number: u64,
+) -> Option<Outcome>
+    requires company { IsCompanyOf (plan_at grounds.now) company.now }
+    requires room { IfSome content.old (λ r. IsRoomOf (board_at grounds.now) r
+        × IsActor (plan_at grounds.now).script r.owner) }
+    ensures { (a : Name) → IfSome content.old (λ r. r.owner ≡ a) →
+        IfSome content.new (IsHome (board_at grounds.now) a) }
+{
+    let room = content.take()?;
+    gate.at(room.owner(), number);
+    let (room, outcome) = room.take_turn(grounds, company);
+    *content = Some(room);
+    Some(outcome)
+}
+
+/// One turn of the actor in a berth, by the caller. `None` where the berth is taken.
+fn turn<R: Wait, G: Gate>(
+    grounds: &Grounds<R>,
+    company: &Company,
+    berth: &Berth,
+    gate: &G,
+    number: u64,
+) -> Option<Outcome>
+    requires company { IsCompanyOf (plan_at grounds.now) company.now }
+    requires berth { IsAt (board_at grounds.now) berth.now }
+{
+    let mut guard = berth.try_lock()?;
+    let outcome = turn_in(grounds, company, guard.content(berth), gate, number);
+    berth.unlock(guard);
+    outcome
+}
+
+/// One turn of each actor whose turns the caller takes. True if one of them moved.
+pub(crate) fn round<R: Wait, G: Gate>(
+    grounds: &Grounds<R>,
+    company: &Company,
+    berths: &[Berth],
+    hands: &mut [Hand],
+    gate: &G,
+) -> bool
+    requires company { IsCompanyOf (plan_at grounds.now) company.now }
+    requires berths { AreAt (board_at grounds.now) berths.now }
+    requires hands { length hands.old ≡ length berths.now }
+    ensures { length hands.new ≡ length hands.old }
+{
+    let mut has_moved = false;
+    for place in 0..berths.len() {
+        let hand = hands[place];
+        if hand.ended || !hand.mine {
+            continue;
+        }
+        let outcome = turn(grounds, company, &berths[place], gate, hand.turn);
+        hands[place].turn = hand.turn.saturating_add(1);
+        match outcome {
+            Some(Outcome::Moved(_)) => has_moved = true,
+            Some(Outcome::Blocked(_)) | None => {}
+            Some(Outcome::Ended) => hands[place].ended = true,
+        }
+    }
+    has_moved
+}
