@@ -1,5 +1,5 @@
 -- The batches of parts hold waits, commands, signals and fences alone.
-use Rattle.std.proofs.Common.{Bool, true, false, ◌≡◌, List, [], ◌∷◌, Option, Some, None, ◌&&◌, ◌++◌, refl, ◌∙◌}
+use Rattle.std.proofs.Common.{Bool, true, false, ◌≡◌, List, [], ◌∷◌, Option, Some, None, ◌&&◌, ◌++◌, refl, ◌∙◌, ℕ}
 use Rattle.vq_model.specs.declared.statement.Statement.{Statement}
 use Rattle.vq_model.specs.declared.statement.Statement.TheVariants.{AddWait, AddCommand, AddSignal, AddFence, DeclareBuffer, DeclareSemaphore, DeclareQueue, BeginBatch, EndBatch, TakeHostStep}
 use Rattle.vq_model.specs.declared.script.HostStep.{HostStep}
@@ -31,8 +31,8 @@ pub record HasItems (p : Parts) : Type 0 where
   pub opened : OpenItems p.batch
 
 -- no parts
-pub no_items : HasItems no_parts
-no_items = record { closed = tt; opened = tt }
+pub no_items : (v : ℕ) → HasItems (no_parts v)
+no_items v = record { closed = tt; opened = tt }
 
 -- one more statement in the open batch
 open_push : (batch : Option Told) (s : Statement) → OpenItems batch → is_item s ≡ true →

@@ -1,11 +1,11 @@
 -- The canonical lines of waits, signals and fences, and of the end of a batch, are read.
-use Rattle.std.proofs.Common.{◌≡◌, ℕ, ◌+◌, ◌^◌, ◌<◌, true, false, not, ◌&&◌, ◌||◌, List, [], ◌∷◌, ◌++◌, Option, Some, option_map, refl, sym, ap, ◌∙◌, subst, arith}
+use Rattle.std.proofs.Common.{◌≡◌, ℕ, ◌+◌, ◌^◌, ◌<◌, true, false, not, ◌&&◌, ◌||◌, List, [], ◌∷◌, Option, Some, option_map, refl, sym, ap, ◌∙◌, subst, arith}
 use Rattle.std.specs.Prelude.{nat_lt, is_some, codes}
 use Rattle.std.specs.List.{slice_get, list_any}
 use Rattle.std.specs.Option.{option_map_or}
 use Rattle.std.specs.Str.{bytes_eq}
 use Rattle.std.specs.Fmt.{decimal}
-use Rattle.std.proofs.lemmas.Bool.{and_from, or_from}
+use Rattle.std.proofs.lemmas.Bool.{and_from, or_from, lt-ltb}
 use Rattle.vq_model.specs.declared.statement.Form.{Form}
 use Rattle.vq_model.specs.declared.statement.Section.TheVariants.{InBatch}
 use Rattle.vq_model.specs.declared.statement.Statement.TheVariants.{AddWait, AddSignal, AddFence, EndBatch}
@@ -16,18 +16,19 @@ use Rattle.vq_model.specs.declared.script.SemaphoreKind.{SemaphoreKind}
 use Rattle.vq_model.specs.declared.script.SemaphoreKind.TheVariants.{Timeline, Binary, Fence}
 use Rattle.vq_model.specs.declared.script.Pair.{Pair}
 use Rattle.vq_model.specs.Text.{is_name}
-use Rattle.vq_model.specs.Context.{section, is_timeline, is_binary, is_fence, open_batch, is_wait, is_command, is_signal, is_batch_fence, count, some}
+use Rattle.vq_model.specs.Context.{section, is_timeline, is_binary, is_fence, open_batch, is_wait, is_command, is_signal, is_batch_fence, count, some, held_from}
 use Rattle.vq_model.specs.Meaning.{of_two, binary_pair}
 use Rattle.vq_model.specs.ScriptOfLines.{mark}
-use Rattle.vq_model.specs.Canonical.{wait_words, signal_words, fence_words, marked_words, from_words}
+use Rattle.vq_model.specs.Canonical.{signal_words, fence_words, marked_words}
+use Rattle.vq_model.specs.declared.limits.Limits.{Limits}
 use Rattle.vq_model.specs.Context.{number_at, part_of}
 use Rattle.vq_model.specs.Forms.{TimelineName, BinaryName, FenceName}
 use Rattle.vq_canonical_laws.proofs.LineTests.{PassesTests, read_tested}
-use Rattle.vq_canonical_laws.proofs.SaidContext.{timeline_at_said, binary_at_said, fence_at_said, some_said, count_said}
+use Rattle.vq_canonical_laws.proofs.SaidContext.{most_before, most_said, timeline_at_said, binary_at_said, fence_at_said, some_said, count_said}
 use Rattle.vq_canonical_laws.proofs.WrittenTexts.{are_text_words}
 use Rattle.vq_canonical_laws.proofs.WrittenNumbers.{decimal_back, decimal_word}
 use Rattle.vq_canonical_laws.proofs.NamedParts.{AreNamed, name_word, position_of_both}
-use Rattle.vq_canonical_laws.proofs.ScriptParts.{Parts, MayItem, MayEnd, TakesValue, Say, part_of_batch, place_of}
+use Rattle.vq_canonical_laws.proofs.ScriptParts.{Parts, MayItem, MayEnd, TakesValue, Say, part_of_batch}
 use Rattle.vq_canonical_laws.proofs.LineWords.{declared_script, ReadsAs, words_plain, words_of_three, words_of_two, not_over, form_inside, in_part}
 
 module _ (form : Form) (before : List Line) (p : Parts) (h : Say before p) (named : AreNamed p) where
@@ -38,7 +39,7 @@ module _ (form : Form) (before : List Line) (p : Parts) (h : Say before p) (name
       record {
         found =
             form_inside form before (codes "end" ∷ []) (Some EndLine)
-            (h.part ∙ ap part_of_batch m.inside) h.version refl;
+            (h.part ∙ ap part_of_batch m.inside) refl refl;
         plain = refl;
         shaped = refl;
         in_order = in_part before p h m.told m.inside 5 m.in_order;
@@ -48,8 +49,8 @@ module _ (form : Form) (before : List Line) (p : Parts) (h : Say before p) (name
         said = refl;
         ranged =
             ap not (some_said before p h m.told m.inside
-            (λ x. nat_lt (count is_command (open_batch before) + 1) (place_of x))
-            ∙ (ap (λ (k : ℕ). list_any (λ x. nat_lt (k + 1) (place_of x)) m.told.1)
+            (λ x. nat_lt (count is_command (open_batch before) + 1) (held_from x))
+            ∙ (ap (λ (k : ℕ). list_any (λ x. nat_lt (k + 1) (held_from x)) m.told.1)
             (count_said before p h m.told m.inside is_command)
             ∙ m.near));
         apart = refl;
@@ -63,23 +64,31 @@ module _ (form : Form) (before : List Line) (p : Parts) (h : Say before p) (name
   -- Waits, signals and fences
 
   -- what a wait passes beside its semaphore
-  record PassesAsWait : Type 0 where
-    part : section before ≡ InBatch
-    in_order : (some (λ s. nat_lt 1 (part_of s)) (open_batch before) || false) ≡ false
-    limited : not (nat_lt (count is_wait (open_batch before)) 16) ≡ false
+  pub record PassesAsWait (from : ℕ) : Type 0 where
+    pub part : section before ≡ InBatch
+    pub in_order : (some (λ s. nat_lt 1 (part_of s)) (open_batch before) || false) ≡ false
+    pub ranged : (nat_lt 0 from && nat_lt from ((most_before before).batch_commands + 2)) ≡ true
+    pub limited : not (nat_lt (count is_wait (open_batch before)) (most_before before).waits) ≡ false
 
-  wait_passes : (pair : Pair) (from : ℕ) → MayItem p (AddWait pair from) → PassesAsWait
+  pub wait_passes : (pair : Pair) (from : ℕ) → MayItem p (AddWait pair from) → PassesAsWait from
   wait_passes pair from m =
       let few = m.fits.few in
+      let near = m.fits.near in
+      let most = ap (λ (l : Limits). l.waits) (most_said before p h) in
+      let most_of_batch = ap (λ (l : Limits). l.batch_commands) (most_said before p h) in
       let counted = count_said before p h m.told m.inside is_wait in
       record {
         part = h.part ∙ ap part_of_batch m.inside;
         in_order = in_part before p h m.told m.inside 1 m.in_order;
-        limited = not_over (count is_wait (open_batch before)) 16 (omega arith);
+        ranged =
+            and_from (nat_lt 0 from) (nat_lt from ((most_before before).batch_commands + 2))
+            (lt-ltb 0 from m.fits.counted)
+            (lt-ltb from ((most_before before).batch_commands + 2) (omega arith));
+        limited = not_over (count is_wait (open_batch before)) (most_before before).waits (omega arith);
       }
 
-  wait_timeline_reads : (name : List ℕ) (t v : ℕ) → is_name name ≡ true →
-      number_at before TimelineName name ≡ Some t → v < 2 ^ 64 → PassesAsWait →
+  pub wait_timeline_reads : (name : List ℕ) (t v : ℕ) → is_name name ≡ true →
+      number_at before TimelineName name ≡ Some t → v < 2 ^ 64 → PassesAsWait 1 →
       ReadsAs form before (codes "wait" ∷ name ∷ decimal v ∷ [])
       (AddWait (record { semaphore = t; value = v }) 1)
   wait_timeline_reads name t v is known small passes =
@@ -91,7 +100,7 @@ module _ (form : Form) (before : List Line) (p : Parts) (h : Say before p) (name
       record {
         found =
             form_inside form before (codes "wait" ∷ name ∷ decimal v ∷ []) (Some WaitTimelineLine)
-            passes.part h.version refl;
+            passes.part refl refl;
         plain = words_plain (codes "wait" ∷ name ∷ decimal v ∷ []) words;
         shaped = and_from (is_name name) true is refl;
         in_order = passes.in_order;
@@ -102,7 +111,7 @@ module _ (form : Form) (before : List Line) (p : Parts) (h : Say before p) (name
             option_map (λ x. AddWait x 1)
             (of_two (λ y z. record { semaphore = y; value = z }) (known i)
             (decimal_back v small i));
-        ranged = refl;
+        ranged = passes.ranged;
         apart = refl;
         limited = passes.limited;
       } in
@@ -113,8 +122,8 @@ module _ (form : Form) (before : List Line) (p : Parts) (h : Say before p) (name
             WaitTimelineLine (AddWait (record { semaphore = t; value = v }) 1) tests;
       }
 
-  wait_binary_reads : (name : List ℕ) (t : ℕ) → is_name name ≡ true →
-      number_at before BinaryName name ≡ Some t → PassesAsWait →
+  pub wait_binary_reads : (name : List ℕ) (t : ℕ) → is_name name ≡ true →
+      number_at before BinaryName name ≡ Some t → PassesAsWait 1 →
       ReadsAs form before (codes "wait" ∷ name ∷ []) (AddWait (binary_pair t) 1)
   wait_binary_reads name t is known passes =
       let words : are_text_words (codes "wait" ∷ name ∷ []) ≡ true =
@@ -124,7 +133,7 @@ module _ (form : Form) (before : List Line) (p : Parts) (h : Say before p) (name
       record {
         found =
             form_inside form before (codes "wait" ∷ name ∷ []) (Some WaitBinaryLine) passes.part
-            h.version refl;
+            refl refl;
         plain = words_plain (codes "wait" ∷ name ∷ []) words;
         shaped = and_from (is_name name) true is refl;
         in_order = passes.in_order;
@@ -132,7 +141,7 @@ module _ (form : Form) (before : List Line) (p : Parts) (h : Say before p) (name
         known = λ i. is_some (known i) && true;
         fresh = refl;
         said = λ i. option_map (λ x. AddWait (binary_pair x) 1) (known i);
-        ranged = refl;
+        ranged = passes.ranged;
         apart = refl;
         limited = passes.limited;
       } in
@@ -147,16 +156,17 @@ module _ (form : Form) (before : List Line) (p : Parts) (h : Say before p) (name
   record PassesAsSignal : Type 0 where
     part : section before ≡ InBatch
     in_order : (some (λ s. nat_lt 3 (part_of s)) (open_batch before) || false) ≡ false
-    limited : not (nat_lt (count is_signal (open_batch before)) 16) ≡ false
+    limited : not (nat_lt (count is_signal (open_batch before)) (most_before before).signals) ≡ false
 
   signal_passes : (pair : Pair) → MayItem p (AddSignal pair) → PassesAsSignal
   signal_passes pair m =
       let few = m.fits.few in
+      let most = ap (λ (l : Limits). l.signals) (most_said before p h) in
       let counted = count_said before p h m.told m.inside is_signal in
       record {
         part = h.part ∙ ap part_of_batch m.inside;
         in_order = in_part before p h m.told m.inside 3 m.in_order;
-        limited = not_over (count is_signal (open_batch before)) 16 (omega arith);
+        limited = not_over (count is_signal (open_batch before)) (most_before before).signals (omega arith);
       }
 
   signal_timeline_reads : (name : List ℕ) (t v : ℕ) → is_name name ≡ true →
@@ -172,7 +182,7 @@ module _ (form : Form) (before : List Line) (p : Parts) (h : Say before p) (name
       record {
         found =
             form_inside form before (codes "signal" ∷ name ∷ decimal v ∷ [])
-            (Some SignalTimelineLine) passes.part h.version refl;
+            (Some SignalTimelineLine) passes.part refl refl;
         plain = words_plain (codes "signal" ∷ name ∷ decimal v ∷ []) words;
         shaped = and_from (is_name name) true is refl;
         in_order = passes.in_order;
@@ -205,7 +215,7 @@ module _ (form : Form) (before : List Line) (p : Parts) (h : Say before p) (name
       record {
         found =
             form_inside form before (codes "signal" ∷ name ∷ []) (Some SignalBinaryLine) passes.part
-            h.version refl;
+            refl refl;
         plain = words_plain (codes "signal" ∷ name ∷ []) words;
         shaped = and_from (is_name name) true is refl;
         in_order = passes.in_order;
@@ -232,7 +242,7 @@ module _ (form : Form) (before : List Line) (p : Parts) (h : Say before p) (name
       ∙ position_of_both (λ y. bytes_eq x.name y.name) (λ y. is_timeline y.kind) p.semaphores t x
       (named.semaphore_names t x there).1 there is
 
-  binary_there : (t : ℕ) (x : Semaphore) → slice_get p.semaphores t ≡ Some x →
+  pub binary_there : (t : ℕ) (x : Semaphore) → slice_get p.semaphores t ≡ Some x →
       is_binary x.kind ≡ true → number_at before BinaryName x.name ≡ Some t
   binary_there t x there is =
       binary_at_said before p h x.name
@@ -245,34 +255,6 @@ module _ (form : Form) (before : List Line) (p : Parts) (h : Say before p) (name
       fence_at_said before p h x.name
       ∙ position_of_both (λ y. bytes_eq x.name y.name) (λ y. is_fence y.kind) p.semaphores t x
       (named.semaphore_names t x there).1 there is
-
-  -- a wait
-  pub wait_reads : (pair : Pair) (from : ℕ) → MayItem p (AddWait pair from) →
-      ReadsAs form before (wait_words (declared_script p) (mark 0 pair from)) (AddWait pair from)
-  wait_reads pair from m =
-      let known = m.fits.known in
-      let x = known.semaphore in
-      let name = named.semaphore_names pair.semaphore x known.there in
-      subst (λ (z : Option Semaphore × ℕ). ReadsAs form before
-      (codes "wait" ∷ marked_words (option_map_or (λ y. y.name) z.0 []) pair.value
-      (option_map_or (λ y. y.kind) z.0 Binary) ++ from_words z.1) (AddWait pair z.1))
-      (λ i. (sym known.there i, sym m.fits.at_once i))
-      (by_kind x name.0 known.there (wait_passes pair from m) x.kind refl known.takes)
-    where
-      by_kind : (x : Semaphore) → is_name x.name ≡ true →
-          slice_get p.semaphores pair.semaphore ≡ Some x → PassesAsWait →
-          (kind : SemaphoreKind) → x.kind ≡ kind → TakesValue kind pair.value →
-          ReadsAs form before (codes "wait" ∷ marked_words x.name pair.value kind ++ from_words 1)
-          (AddWait pair 1)
-      by_kind x is there passes (Timeline initial) e takes =
-          wait_timeline_reads x.name pair.semaphore pair.value is
-          (timeline_there pair.semaphore x there (ap is_timeline e)) takes passes
-      by_kind x is there passes Binary e takes =
-          subst (λ (v : ℕ). ReadsAs form before (codes "wait" ∷ x.name ∷ [])
-          (AddWait (record { semaphore = pair.semaphore; value = v }) 1)) (sym takes)
-          (wait_binary_reads x.name pair.semaphore is
-          (binary_there pair.semaphore x there (ap is_binary e)) passes)
-      by_kind x is there passes Fence e takes = absurd takes
 
   -- a signal
   pub signal_reads : (pair : Pair) → MayItem p (AddSignal pair) →
@@ -316,7 +298,7 @@ module _ (form : Form) (before : List Line) (p : Parts) (h : Say before p) (name
       record {
         found =
             form_inside form before (codes "fence" ∷ x.name ∷ []) (Some BatchFenceLine)
-            (h.part ∙ ap part_of_batch m.inside) h.version refl;
+            (h.part ∙ ap part_of_batch m.inside) refl refl;
         plain = words_plain (codes "fence" ∷ x.name ∷ []) words;
         shaped = and_from (is_name x.name) true name.0 refl;
         in_order =

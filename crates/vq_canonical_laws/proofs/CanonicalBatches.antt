@@ -75,10 +75,10 @@ leads_split p r [] second l = (p, refl, l)
 leads_split p r (s ∷ first) second l =
     let rest = leads_split (after p s) r first second l.1 in (rest.0, (l.0, rest.1), rest.2)
 
-module _ (bs : List Buffer) (ss : List Semaphore) (qs : List Queue) where
+module _ (v : ℕ) (bs : List Buffer) (ss : List Semaphore) (qs : List Queue) where
   -- the script whose names are written
   abbrev whole : Script
-  whole = declared_script (declarations bs ss qs)
+  whole = declared_script (declarations v bs ss qs)
 
   -- lines
   abbrev Lines : Type 0
@@ -236,20 +236,20 @@ module _ (bs : List Buffer) (ss : List Semaphore) (qs : List Queue) where
   record IsAlong (jobs : List ToldJob) (q : ℕ) (told rest : List Statement) (r : Parts)
       : Type 0 where
     more : List ToldJob
-    ends : r ≡ parts bs ss qs more None
+    ends : r ≡ parts v bs ss qs more None
     lines : item_lines (told ++ rest) ++ end_line
         ≡ item_lines told
-        ++ words_along (parts bs ss qs jobs (Some (q, told))) (rest ++ EndBatch ∷ [])
+        ++ words_along (parts v bs ss qs jobs (Some (q, told))) (rest ++ EndBatch ∷ [])
 
   -- one line of it
   along_step : (jobs : List ToldJob) (q : ℕ) (told rest : List Statement) (s : Statement)
       (w : List (List ℕ)) (r : Parts) → IsAlong jobs q (told ++ s ∷ []) rest r →
       item_lines (told ++ s ∷ []) ≡ item_lines told ++ w ∷ [] →
-      words_along (parts bs ss qs jobs (Some (q, told))) (s ∷ rest ++ EndBatch ∷ [])
-      ≡ w ∷ words_along (parts bs ss qs jobs (Some (q, told ++ s ∷ []))) (rest ++ EndBatch ∷ []) →
+      words_along (parts v bs ss qs jobs (Some (q, told))) (s ∷ rest ++ EndBatch ∷ [])
+      ≡ w ∷ words_along (parts v bs ss qs jobs (Some (q, told ++ s ∷ []))) (rest ++ EndBatch ∷ []) →
       IsAlong jobs q told (s ∷ rest) r
   along_step jobs q told rest s w r a e f =
-      let ws = words_along (parts bs ss qs jobs (Some (q, told ++ s ∷ []))) (rest ++ EndBatch ∷ []) in
+      let ws = words_along (parts v bs ss qs jobs (Some (q, told ++ s ∷ []))) (rest ++ EndBatch ∷ []) in
       record {
         more = a.more;
         ends = a.ends;
@@ -264,7 +264,7 @@ module _ (bs : List Buffer) (ss : List Semaphore) (qs : List Queue) where
 
   -- what an item finds told
   told_is : (jobs : List ToldJob) (q : ℕ) (told : List Statement) (s : Statement)
-      (m : MayItem (parts bs ss qs jobs (Some (q, told))) s) → m.told ≡ (q, told)
+      (m : MayItem (parts v bs ss qs jobs (Some (q, told))) s) → m.told ≡ (q, told)
   told_is jobs q told s m = same_told m.told (q, told) (sym m.inside)
     where
       same_told : (a b : Told) → Some a ≡ Some b → a ≡ b
@@ -273,7 +273,7 @@ module _ (bs : List Buffer) (ss : List Semaphore) (qs : List Queue) where
   -- the rest of a batch
   items_along : (jobs : List ToldJob) (q : ℕ) (told rest : List Statement) (r : Parts) →
       list_all is_item rest ≡ true →
-      Leads (parts bs ss qs jobs (Some (q, told))) (rest ++ EndBatch ∷ []) r →
+      Leads (parts v bs ss qs jobs (Some (q, told))) (rest ++ EndBatch ∷ []) r →
       IsAlong jobs q told rest r
   items_along jobs q told [] r a l =
       record {
@@ -308,8 +308,8 @@ module _ (bs : List Buffer) (ss : List Semaphore) (qs : List Queue) where
 
   -- Jobs in the canonical order are written in the canonical lines.
   pub jobs_along : (before jobs : List ToldJob) (r : Parts) → AllItems jobs →
-      Leads (parts bs ss qs before None) (flat_map job_statements jobs) r →
-      words_along (parts bs ss qs before None) (flat_map job_statements jobs)
+      Leads (parts v bs ss qs before None) (flat_map job_statements jobs) r →
+      words_along (parts v bs ss qs before None) (flat_map job_statements jobs)
       ≡ flat_map (job_words whole) (map a_job jobs)
   jobs_along before [] r a l = refl
   jobs_along before (ToldStep step ∷ jobs) r a l =
@@ -317,11 +317,11 @@ module _ (bs : List Buffer) (ss : List Semaphore) (qs : List Queue) where
       (jobs_along (before ++ ToldStep step ∷ []) jobs r a l.1)
   jobs_along before (ToldBatch t ∷ jobs) r a l =
       let cut =
-      leads_split (parts bs ss qs before None) r (job_statements (ToldBatch t))
+      leads_split (parts v bs ss qs before None) r (job_statements (ToldBatch t))
       (flat_map job_statements jobs)
       l in
       let along = items_along before t.0 [] t.1 cut.0 a.0 cut.1.1 in
-      words_append (parts bs ss qs before None) cut.0 (job_statements (ToldBatch t))
+      words_append (parts v bs ss qs before None) cut.0 (job_statements (ToldBatch t))
       (flat_map job_statements jobs) cut.1
       ∙ (λ i.
       ap (λ (ls : Lines). (codes "submit" ∷ queue_name whole t.0 ∷ []) ∷ ls) (sym along.lines) i

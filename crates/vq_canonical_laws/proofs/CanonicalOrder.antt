@@ -1,7 +1,7 @@
 -- Chains of statements, and the canonical order of the parts of a script.
-use Rattle.std.proofs.Common.{◌≡◌, List, [], ◌∷◌, ◌++◌, sym, subst, refl, map, Option, Some, None}
+use Rattle.std.proofs.Common.{◌≡◌, ℕ, List, [], ◌∷◌, ◌++◌, sym, subst, refl, map, Option, Some, None}
 use Rattle.vq_model.specs.declared.statement.Statement.{Statement}
-use Rattle.vq_canonical_laws.proofs.ScriptParts.{ToldStep, ToldBatch, ToldJob, Parts, after, May, Told, parts, no_parts}
+use Rattle.vq_canonical_laws.proofs.ScriptParts.{ToldStep, ToldBatch, ToldJob, Parts, after, May, Told, parts, no_parts, IsVersion}
 use Rattle.vq_model.specs.declared.statement.Statement.TheVariants.{DeclareBuffer, DeclareSemaphore, DeclareQueue, BeginBatch, EndBatch, TakeHostStep}
 use Rattle.vq_model.specs.declared.script.Buffer.{Buffer}
 use Rattle.vq_model.specs.declared.script.Semaphore.{Semaphore}
@@ -50,15 +50,17 @@ abbrev pub batch_statements : List ToldJob → Option Told → List Statement
 batch_statements jobs batch = flat_map job_statements jobs ++ open_statements batch
 
 -- parts without jobs
-abbrev pub declarations : List Buffer → List Semaphore → List Queue → Parts
-declarations bs ss qs = parts bs ss qs [] None
+abbrev pub declarations : ℕ → List Buffer → List Semaphore → List Queue → Parts
+declarations v bs ss qs = parts v bs ss qs [] None
 
--- The parts can be said in this order: buffers, semaphores, queues, jobs.
+-- The parts can be said in this order: the version, buffers, semaphores, queues, jobs.
 pub record IsOrdered (p : Parts) : Type 0 where
-  pub buffers_first : Leads no_parts (buffer_statements p.buffers) (declarations p.buffers [] [])
-  pub semaphores_next : Leads (declarations p.buffers [] []) (semaphore_statements p.semaphores)
-      (declarations p.buffers p.semaphores [])
-  pub queues_next : Leads (declarations p.buffers p.semaphores []) (queue_statements p.queues)
-      (declarations p.buffers p.semaphores p.queues)
-  pub batches_last : Leads (declarations p.buffers p.semaphores p.queues)
+  pub of_a_version : IsVersion p.version
+  pub buffers_first : Leads (no_parts p.version) (buffer_statements p.buffers)
+      (declarations p.version p.buffers [] [])
+  pub semaphores_next : Leads (declarations p.version p.buffers [] [])
+      (semaphore_statements p.semaphores) (declarations p.version p.buffers p.semaphores [])
+  pub queues_next : Leads (declarations p.version p.buffers p.semaphores [])
+      (queue_statements p.queues) (declarations p.version p.buffers p.semaphores p.queues)
+  pub batches_last : Leads (declarations p.version p.buffers p.semaphores p.queues)
       (batch_statements p.jobs p.batch) p

@@ -7,7 +7,7 @@ use Rattle.std.proofs.lemmas.List.{map-append}
 use Rattle.std.proofs.lemmas.List.Folds.{list_all-append}
 use Rattle.vq_model.specs.declared.script.Turn.{Turn}
 use Rattle.vq_canonical_laws.proofs.ScheduleParts.{IsActorIn, schedule_begins, schedule_script, scheduled_script}
-use Rattle.vq_canonical_laws.proofs.ScheduleReads.{schedule_reads, all_turns_read}
+use Rattle.vq_canonical_laws.proofs.ScheduleReads.{AreTaken, schedule_reads, all_turns_read}
 use Rattle.vq_canonical_laws.proofs.JoinedTurns.{expanded, expanded_joined, are_joined}
 use Rattle.std.specs.List.{list_all, join_with_byte, flat_map}
 use Rattle.vq_model.specs.declared.statement.Form.TheVariants.{Plain, Scheduled}
@@ -24,14 +24,16 @@ use Rattle.std.specs.Prelude.{Result}
 use Rattle.std.proofs.lemmas.Bool.{and_from}
 use Rattle.vq_model.specs.declared.statement.FaultKind.{FaultKind}
 use Rattle.vq_model.specs.declared.statement.FaultKind.TheVariants.{Syntax}
-use Rattle.vq_canonical_laws.proofs.PartsSaid.{say_more, say_nothing}
+use Rattle.vq_canonical_laws.proofs.PartsSaid.{say_more}
 use Rattle.vq_canonical_laws.proofs.CanonicalOrder.{Leads, buffer_statements, semaphore_statements, queue_statements, job_statements, leads_on, open_statements, declarations, IsOrdered}
 use Rattle.vq_canonical_laws.proofs.NamedParts.{AreNamed, named_more, nothing_named}
 use Rattle.vq_canonical_laws.proofs.LineWords.{words_at}
 use Rattle.vq_canonical_laws.proofs.WrittenLines.{line_reads}
 use Rattle.vq_model.specs.declared.statement.Statement.TheVariants.{DeclareBuffer, DeclareSemaphore, DeclareQueue, BeginSchedule}
+use Rattle.vq_canonical_laws.proofs.VersionLines.{ReadsVersion, version_read, after_version}
+use Rattle.vq_model.specs.Limits.{limits_of}
 use Rattle.vq_model.specs.declared.script.Buffer.{Buffer}
-use Rattle.vq_model.specs.Canonical.{buffer_words, semaphore_words, queue_words, job_words, schedule_words, turns_words, joined_turns, canonical_text, form_of_script, line_text}
+use Rattle.vq_model.specs.Canonical.{Turns, version_words, canonical_lines, buffer_words, semaphore_words, queue_words, job_words, schedule_words, turns_words, joined_turns, canonical_text, form_of_script, line_text}
 use Rattle.vq_model.specs.declared.script.Semaphore.{Semaphore}
 use Rattle.vq_model.specs.declared.script.Queue.{Queue}
 use Rattle.vq_canonical_laws.proofs.BatchItems.{HasItems}
@@ -102,6 +104,18 @@ statements_read form before n p (s ∷ statements) q rest h named l =
       names = more.names;
     }
 
+-- the line that begins the schedule is read before others
+schedule_begun : (before : List Line) (n : ℕ) (p : Parts) → Say before p → p.batch ≡ None →
+    (rest : List (List ℕ)) →
+    read_lines Scheduled before n (join_with_byte 32 (codes "schedule" ∷ []) ∷ rest)
+    ≡ read_lines Scheduled (with_line before n BeginSchedule) (n + 1) rest
+schedule_begun before n p h none rest =
+    let begins = schedule_reads before p h none in
+    ap (λ (r : Result (List Line) FaultKind). go_on n
+    (λ ls. read_lines Scheduled ls (n + 1) rest) r)
+    (ap (read_statement Scheduled before n)
+    (words_back (codes "schedule" ∷ []) begins.are_words) ∙ begins.reads n)
+
 -- The canonical lines
 
 -- buffers
@@ -141,7 +155,7 @@ statements_of p =
 module _ (p : Parts) (o : IsOrdered p) (items : HasItems p) (none : p.batch ≡ None) where
   -- the declarations
   abbrev declared : Parts
-  declared = declarations p.buffers p.semaphores p.queues
+  declared = declarations p.version p.buffers p.semaphores p.queues
 
   -- the jobs follow the declarations, ..
   jobs_lead : Leads declared (flat_map job_statements p.jobs) p
@@ -152,53 +166,53 @@ module _ (p : Parts) (o : IsOrdered p) (items : HasItems p) (none : p.batch ≡ 
       (flat_map job_statements p.jobs ++ open_statements b) p) none o.batches_last)
 
   -- .. which are those of buffers, then semaphores, ..
-  semaphores_lead : Leads no_parts
+  semaphores_lead : Leads (no_parts p.version)
       (buffer_statements p.buffers ++ semaphore_statements p.semaphores)
-      (declarations p.buffers p.semaphores [])
+      (declarations p.version p.buffers p.semaphores [])
   semaphores_lead =
-      leads_on no_parts (declarations p.buffers [] []) (declarations p.buffers p.semaphores [])
+      leads_on (no_parts p.version) (declarations p.version p.buffers [] []) (declarations p.version p.buffers p.semaphores [])
       (buffer_statements p.buffers) (semaphore_statements p.semaphores) o.buffers_first
       o.semaphores_next
 
   -- .. then queues
-  queues_lead : Leads no_parts
+  queues_lead : Leads (no_parts p.version)
       (buffer_statements p.buffers ++ semaphore_statements p.semaphores
       ++ queue_statements p.queues) declared
   queues_lead =
-      leads_on no_parts (declarations p.buffers p.semaphores []) declared
+      leads_on (no_parts p.version) (declarations p.version p.buffers p.semaphores []) declared
       (buffer_statements p.buffers ++ semaphore_statements p.semaphores)
       (queue_statements p.queues) semaphores_lead o.queues_next
 
   -- all statements lead to the parts
-  ordered_leads : Leads no_parts (statements_of p) p
+  ordered_leads : Leads (no_parts p.version) (statements_of p) p
   ordered_leads =
-      leads_on no_parts declared p
+      leads_on (no_parts p.version) declared p
       (buffer_statements p.buffers ++ semaphore_statements p.semaphores
       ++ queue_statements p.queues)
       (flat_map job_statements p.jobs) queues_lead jobs_lead
 
   -- The words of these statements are the canonical lines before a schedule.
-  words_canonical : words_along no_parts (statements_of p)
+  words_canonical : words_along (no_parts p.version) (statements_of p)
       ≡ map buffer_words p.buffers ++ map semaphore_words p.semaphores ++ map queue_words p.queues
       ++ flat_map (job_words (script_of_parts p)) (map a_job p.jobs)
   words_canonical =
-      words_append no_parts declared
+      words_append (no_parts p.version) declared
       (buffer_statements p.buffers ++ semaphore_statements p.semaphores
       ++ queue_statements p.queues)
       (flat_map job_statements p.jobs) queues_lead
       ∙ ((λ i.
-      words_append no_parts (declarations p.buffers p.semaphores [])
+      words_append (no_parts p.version) (declarations p.version p.buffers p.semaphores [])
       (buffer_statements p.buffers ++ semaphore_statements p.semaphores)
       (queue_statements p.queues) semaphores_lead i
-      ++ jobs_along p.buffers p.semaphores p.queues [] p.jobs p items.closed jobs_lead i)
+      ++ jobs_along p.version p.buffers p.semaphores p.queues [] p.jobs p items.closed jobs_lead i)
       ∙ ((λ i.
-      words_append no_parts (declarations p.buffers [] []) (buffer_statements p.buffers)
+      words_append (no_parts p.version) (declarations p.version p.buffers [] []) (buffer_statements p.buffers)
       (semaphore_statements p.semaphores) o.buffers_first i
-      ++ queues_along (declarations p.buffers p.semaphores []) p.queues i
+      ++ queues_along (declarations p.version p.buffers p.semaphores []) p.queues i
       ++ flat_map (job_words (script_of_parts p)) (map a_job p.jobs))
       ∙ (λ i.
-      buffers_along no_parts p.buffers i
-      ++ semaphores_along (declarations p.buffers [] []) p.semaphores i
+      buffers_along (no_parts p.version) p.buffers i
+      ++ semaphores_along (declarations p.version p.buffers [] []) p.semaphores i
       ++ map queue_words p.queues
       ++ flat_map (job_words (script_of_parts p)) (map a_job p.jobs))))
 
@@ -207,37 +221,64 @@ module _ (p : Parts) (o : IsOrdered p) (items : HasItems p) (none : p.batch ≡ 
     abbrev schedule_lines : List (List (List ℕ))
     schedule_lines = schedule_words (scheduled_script p scheduled turns)
 
-    -- What is known where all words are words of a text.
-    module _ (first : list_all are_text_words (words_along no_parts (statements_of p)) ≡ true)
-        (second : list_all are_text_words schedule_lines ≡ true) where
-      all_words : list_all are_text_words (words_along no_parts (statements_of p) ++ schedule_lines)
-          ≡ true
-      all_words =
-          list_all-append are_text_words (words_along no_parts (statements_of p)) schedule_lines
-          ∙ and_from (list_all are_text_words (words_along no_parts (statements_of p)))
-          (list_all are_text_words schedule_lines) first second
+    -- the lines of the version
+    abbrev version_lines : List (List (List ℕ))
+    version_lines = version_words p.version
 
-      -- The lines of the canonical text are those of the statements, and those of the schedule.
+    -- the lines of the statements
+    abbrev said_lines : List (List (List ℕ))
+    said_lines = words_along (no_parts p.version) (statements_of p)
+
+    -- The canonical lines are those of the version, those of the statements, and those of the schedule.
+    all_canonical : canonical_lines (scheduled_script p scheduled turns)
+        ≡ version_lines ++ (said_lines ++ schedule_lines)
+    all_canonical =
+        after_version p.version o.of_a_version (map buffer_words p.buffers)
+        (map semaphore_words p.semaphores) (map queue_words p.queues)
+        (flat_map (job_words (script_of_parts p)) (map a_job p.jobs)) schedule_lines
+        ∙ ap (λ (ls : List (List (List ℕ))). version_lines ++ (ls ++ schedule_lines))
+        (sym words_canonical)
+
+    -- What is known where all words are words of a text.
+    module _ (named : list_all are_text_words version_lines ≡ true)
+        (first : list_all are_text_words said_lines ≡ true)
+        (second : list_all are_text_words schedule_lines ≡ true) where
+      later_words : list_all are_text_words (said_lines ++ schedule_lines) ≡ true
+      later_words =
+          list_all-append are_text_words said_lines schedule_lines
+          ∙ and_from (list_all are_text_words said_lines) (list_all are_text_words schedule_lines) first
+          second
+
+      all_words : list_all are_text_words (version_lines ++ (said_lines ++ schedule_lines)) ≡ true
+      all_words =
+          list_all-append are_text_words version_lines (said_lines ++ schedule_lines)
+          ∙ and_from (list_all are_text_words version_lines)
+          (list_all are_text_words (said_lines ++ schedule_lines)) named later_words
+
+      -- The lines of the canonical text are these.
       lines_whole : lines_of (canonical_text (scheduled_script p scheduled turns))
-          ≡ map (join_with_byte 32) (words_along no_parts (statements_of p) ++ schedule_lines)
+          ≡ map (join_with_byte 32) (version_lines ++ (said_lines ++ schedule_lines))
       lines_whole =
-          ap (λ (ws : List (List (List ℕ))). lines_of (flat_map line_text (ws ++ schedule_lines)))
-          (sym words_canonical)
-          ∙ lines_back (words_along no_parts (statements_of p) ++ schedule_lines) all_words
+          ap (λ (ls : List (List (List ℕ))). lines_of (flat_map line_text ls)) all_canonical
+          ∙ lines_back (version_lines ++ (said_lines ++ schedule_lines)) all_words
 
       lines_canonical : lines_of (canonical_text (scheduled_script p scheduled turns))
-          ≡ map (join_with_byte 32) (words_along no_parts (statements_of p))
-          ++ map (join_with_byte 32) schedule_lines
+          ≡ map (join_with_byte 32) version_lines
+          ++ (map (join_with_byte 32) said_lines ++ map (join_with_byte 32) schedule_lines)
       lines_canonical =
           lines_whole
-          ∙ map-append (join_with_byte 32) (words_along no_parts (statements_of p)) schedule_lines
+          ∙ (map-append (join_with_byte 32) version_lines (said_lines ++ schedule_lines)
+          ∙ ap (λ (ls : List (List ℕ)). map (join_with_byte 32) version_lines ++ ls)
+          (map-append (join_with_byte 32) said_lines schedule_lines))
 
       -- They tell whether there is a schedule.
-      lines_tell : tells_schedule (canonical_text (scheduled_script p scheduled turns))
+      lines_tell : list_any begins_schedule version_lines ≡ false →
+          tells_schedule (canonical_text (scheduled_script p scheduled turns))
           ≡ list_any begins_schedule schedule_lines
-      lines_tell =
+      lines_tell silent =
           ap (λ (ls : List (List ℕ)). list_any begins_schedule (map words_of ls)) lines_whole
-          ∙ schedule_told no_parts p (statements_of p) schedule_lines ordered_leads all_words
+          ∙ schedule_told (no_parts p.version) p version_lines (statements_of p) schedule_lines silent
+          ordered_leads all_words
 
 -- A script is read back from its canonical text, up to line numbers.
 abbrev ReadsBack : Script → Type 0
@@ -249,6 +290,12 @@ ReadsBack s =
 abbrev of_lines : Result (List Line) (ℕ × FaultKind) → Result Script (ℕ × FaultKind)
 of_lines (Ok lines) = Ok (script_of lines)
 of_lines (Err fault) = Err fault
+
+-- a script's canonical text stands for the script of its lines, where they are read
+text_stands : (form : Form) (s : Script) (all : List Line) {lines : List (List ℕ)} →
+    lines_of (canonical_text s) ≡ lines → read_lines form [] 1 lines ≡ Ok all →
+    StandsFor (canonical_text s) form (script_of all)
+text_stands form s all same reads = ap of_lines (ap (read_lines form [] 1) same ∙ reads)
 
 -- the canonical text of parts and turns
 abbrev PartsReadBack : Parts → Bool → List Turn → Type 0
@@ -263,55 +310,75 @@ module _ (p : Parts) (o : IsOrdered p) (items : HasItems p) (none : p.batch ≡ 
   -- without a schedule
   plain_read_back : (turns : List Turn) → turns ≡ [] → PartsReadBack p false turns
   plain_read_back turns empty =
+      let back : List (List ℕ) =
+      map (join_with_byte 32) (words_along (no_parts p.version) (statements_of p)) in
+      let v = version_read Plain p.version (back ++ []) o.of_a_version in
       let r =
-      statements_read Plain [] 1 no_parts (statements_of p) p [] say_nothing nothing_named
-      (ordered_leads p o items none) in
+      statements_read Plain v.lines v.next (no_parts p.version) (statements_of p) p [] v.say
+      (nothing_named p.version) (ordered_leads p o items none) in
       let ends : read_lines Plain r.all r.next [] ≡ Ok r.all =
       ap (λ (b : Bool). cond {A = Result (List Line) (ℕ × FaultKind)} b (Err (r.next, Syntax))
       (Ok r.all)) (may_end r.all p r.say none) in (
         script_of r.all,
-        ap of_lines
-            (ap (read_lines Plain [] 1)
-            (lines_canonical p o items none false turns r.are_words refl)
-            ∙ (r.reads ∙ ends)),
+        text_stands Plain (scheduled_script p false turns) r.all
+            (lines_canonical p o items none false turns v.are_words r.are_words refl)
+            (v.reads ∙ (r.reads ∙ ends)),
         said_script r.all p r.say none ∙ ap (scheduled_script p false) (sym empty),
-        lines_tell p o items none false turns r.are_words refl,
+        lines_tell p o items none false turns v.are_words r.are_words refl v.silent,
       )
 
   -- with one
   scheduled_read_back : (turns : List Turn) → map turn_without_line turns ≡ turns →
-      Every (λ t. IsActorIn p.queues t.actor) turns → length turns ≤ 65536 →
+      Every (λ t. IsActorIn p.queues t.actor) turns → length turns ≤ (limits_of p.version).turns →
       PartsReadBack p true turns
   scheduled_read_back turns lineless actors few =
-      let s0 : Script = scheduled_script p true turns in
-      let js = joined_turns turns in
-      let back : List (List (List ℕ)) = schedule_words s0 in
-      let whole : expanded js ≡ turns = expanded_joined turns ∙ lineless in
-      let long = ap length whole in
-      let r =
-      statements_read Scheduled [] 1 no_parts (statements_of p) p (map (join_with_byte 32) back)
-      say_nothing nothing_named (ordered_leads p o items none) in
-      let begins = schedule_reads r.all p r.say none in
-      let now : List Line = with_line r.all r.next BeginSchedule in
-      let t =
-      all_turns_read Scheduled now (r.next + 1) p [] turns js
-      (schedule_begins r.all r.next p r.say none) r.names (are_joined p.queues turns actors)
-      (omega arith) in
-      let rest : read_lines Scheduled r.all r.next (map (join_with_byte 32) back) ≡ Ok t.all =
-      ap (λ (x : Result (List Line) FaultKind). go_on r.next
-      (λ ls. read_lines Scheduled ls (r.next + 1)
-      (map (join_with_byte 32) (map (turns_words s0) js))) x)
-      (ap (read_statement Scheduled r.all r.next)
-      (words_back (codes "schedule" ∷ []) begins.are_words) ∙ begins.reads r.next)
-      ∙ t.reads in (
+      by_version (version_read Scheduled p.version (front ++ back) o.of_a_version)
+    where
+      js : List Turns
+      js = joined_turns turns
+
+      s0 : Script
+      s0 = scheduled_script p true turns
+
+      -- the lines of the statements, of the turns, and of the schedule
+      front : List (List ℕ)
+      front = map (join_with_byte 32) (words_along (no_parts p.version) (statements_of p))
+
+      turn_lines : List (List ℕ)
+      turn_lines = map (join_with_byte 32) (map (turns_words s0) js)
+
+      back : List (List ℕ)
+      back = map (join_with_byte 32) (schedule_words s0)
+
+      whole : expanded js ≡ turns
+      whole = expanded_joined turns ∙ lineless
+
+      by_turns : (v : ReadsVersion Scheduled p.version (front ++ back)) (r : AreRead Scheduled v.lines v.next
+          (no_parts p.version) (statements_of p) p back) →
+          AreTaken Scheduled (with_line r.all r.next BeginSchedule) (r.next + 1) p [] turns js →
+          PartsReadBack p true turns
+      by_turns v r t = (
         script_of t.all,
-        ap of_lines
-            (ap (read_lines Scheduled [] 1)
-            (lines_canonical p o items none true turns r.are_words t.are_words)
-            ∙ (r.reads ∙ rest)),
+        text_stands Scheduled s0 t.all
+            (lines_canonical p o items none true turns v.are_words r.are_words t.are_words)
+            (v.reads
+            ∙ (r.reads ∙ (schedule_begun r.all r.next p r.say none turn_lines ∙ t.reads))),
         schedule_script t.all p (expanded js) t.say ∙ ap (scheduled_script p true) whole,
-        lines_tell p o items none true turns r.are_words t.are_words,
+        lines_tell p o items none true turns v.are_words r.are_words t.are_words v.silent,
       )
+
+      by_parts : (v : ReadsVersion Scheduled p.version (front ++ back)) → AreRead Scheduled v.lines v.next
+          (no_parts p.version) (statements_of p) p back → PartsReadBack p true turns
+      by_parts v r =
+          let long = ap length whole in
+          by_turns v r (all_turns_read Scheduled (with_line r.all r.next BeginSchedule) (r.next + 1) p
+          [] turns js (schedule_begins r.all r.next p r.say none) r.names
+          (are_joined p.queues turns actors) (omega arith))
+
+      by_version : ReadsVersion Scheduled p.version (front ++ back) → PartsReadBack p true turns
+      by_version v =
+          by_parts v (statements_read Scheduled v.lines v.next (no_parts p.version) (statements_of p) p
+          back v.say (nothing_named p.version) (ordered_leads p o items none))
 
 -- a script of parts and turns is read back
 has_read_back : (s : Script) → HasParts s → ReadsBack s
@@ -343,7 +410,7 @@ has_read_back s has = by_schedule has.scheduled refl
         has.few))
 
 -- the parts of a script that can be written
-written_parts : (s : Script) → IsScript s → HasParts s
+pub written_parts : (s : Script) → IsScript s → HasParts s
 written_parts s i =
     let has = text_has_parts i.text i.form i.written i.stands in
     record {
@@ -358,6 +425,18 @@ written_parts s i =
       few = has.few;
       none = has.none;
       same = sym i.same ∙ has.same;
+    }
+
+-- A script of parts and turns can be written.
+pub parts_are_written : (s : Script) → HasParts s → IsScript s
+parts_are_written s has =
+    let back = has_read_back s has in
+    record {
+      text = canonical_text s;
+      form = form_of_script s;
+      written = back.0;
+      stands = back.1;
+      same = back.2;
     }
 
 -- A script without a schedule can be written where its parts can be said in the canonical order.
@@ -417,7 +496,7 @@ read_is_written s i =
         let same : without_lines s ≡ scheduled_script has.said has.scheduled [] =
         ap (λ (ts : List Turn). record (without_lines s) { turns = map turn_without_line ts }) moved
         ∙ ap (λ (x : Script). record x { turns = [] }) has.same in
-        let back = has_read_back s (record {
+        parts_are_written s (record {
           said = has.said;
           ordered = has.ordered;
           items = has.items;
@@ -429,11 +508,4 @@ read_is_written s i =
           few = omega arith;
           none = λ f. refl;
           same = same;
-        }) in
-        record {
-          text = canonical_text s;
-          form = form_of_script s;
-          written = back.0;
-          stands = back.1;
-          same = back.2;
-        }
+        })

@@ -18,6 +18,8 @@ use Rattle.vq_model.specs.declared.script.Command.TheVariants.{Fill, Update, Cop
 use Rattle.vq_model.specs.declared.script.FillSize.TheVariants.{Whole, Count}
 use Rattle.vq_model.specs.Text.{is_name}
 use Rattle.vq_model.specs.Context.{section, open_batch, is_command, count, some}
+use Rattle.vq_model.specs.Limits.{update_bytes}
+use Rattle.vq_model.specs.declared.limits.Limits.{Limits}
 use Rattle.vq_model.specs.Meaning.{of_two, of_three, of_four, of_five}
 use Rattle.vq_model.specs.LineFaults.{is_in_range, overlaps}
 use Rattle.vq_model.specs.Ranges.{is_aligned}
@@ -28,7 +30,7 @@ use Rattle.vq_model.specs.LineFaults.{passes_limit}
 use Rattle.vq_model.specs.Forms.{BufferName}
 use Rattle.vq_model.specs.Naming.{buffer_name}
 use Rattle.vq_canonical_laws.proofs.LineTests.{PassesTests, read_tested}
-use Rattle.vq_canonical_laws.proofs.SaidContext.{buffer_at_said, range_said, overlap_said, count_said}
+use Rattle.vq_canonical_laws.proofs.SaidContext.{most_before, most_said, buffer_at_said, range_said, overlap_said, count_said}
 use Rattle.vq_canonical_laws.proofs.WrittenTexts.{is_text_word, are_text_words}
 use Rattle.vq_canonical_laws.proofs.WrittenNumbers.{decimal_back, decimal_word, decimal_not_whole, fill_word_back, fill_word_word, byte_digits_back, byte_digits_hex, byte_digits_word}
 use Rattle.vq_canonical_laws.proofs.NamedParts.{AreNamed, name_word}
@@ -84,6 +86,8 @@ module _ (form : Form) (before : List Line) (p : Parts) (h : Say before p) (name
       let counted = count_said before p h m.told m.inside is_command in
       let counts : count is_command before ≡ commands_of p.jobs + count_by is_command m.told.1 =
       h.command_count ∙ ap (λ (z : Option Told). count_commands p.jobs z) m.inside in
+      let most = ap (λ (l : Limits). l.commands) (most_said before p h) in
+      let most_of_batch = ap (λ (l : Limits). l.batch_commands) (most_said before p h) in
       let few = m.fits.few in
       let total = m.fits.total in
       record {
@@ -92,10 +96,12 @@ module _ (form : Form) (before : List Line) (p : Parts) (h : Say before p) (name
         ranged = range_said before p h c ∙ m.fits.range;
         apart = overlap_said before p h c ∙ m.fits.apart;
         limited =
-            or_from (not (nat_lt (count is_command before) 8192))
-            (not (nat_lt (count is_command (open_batch before)) 64))
-            (not_over (count is_command before) 8192 (omega arith))
-            (not_over (count is_command (open_batch before)) 64 (omega arith));
+            or_from (not (nat_lt (count is_command before) (most_before before).commands))
+            (not (nat_lt (count is_command (open_batch before))
+            (most_before before).batch_commands))
+            (not_over (count is_command before) (most_before before).commands (omega arith))
+            (not_over (count is_command (open_batch before)) (most_before before).batch_commands
+            (omega arith));
       }
 
   -- a fill of the rest of a buffer
@@ -120,7 +126,7 @@ module _ (form : Form) (before : List Line) (p : Parts) (h : Say before p) (name
       record {
         found =
             form_inside form before (command_words (declared_script p) (Fill b o Whole w))
-            (Some FillWholeLine) all.part h.version refl;
+            (Some FillWholeLine) all.part refl refl;
         plain = words_plain (command_words (declared_script p) (Fill b o Whole w)) words;
         shaped = and_from (is_name (name_of b)) true name.0 refl;
         in_order = all.in_order;
@@ -168,7 +174,7 @@ module _ (form : Form) (before : List Line) (p : Parts) (h : Say before p) (name
       record {
         found =
             form_inside form before (command_words (declared_script p) (Fill b o (Count n) w))
-            (Some FillLine) all.part h.version
+            (Some FillLine) all.part refl
             (ap (λ (t : Bool). cond (t && true) (Some FillWholeLine) (Some FillLine))
             (decimal_not_whole n sn));
         plain = words_plain (command_words (declared_script p) (Fill b o (Count n) w)) words;
@@ -201,7 +207,7 @@ module _ (form : Form) (before : List Line) (p : Parts) (h : Say before p) (name
   update_reads b o bytes m =
       let range =
       and_parts (is_within p.buffers b o (length bytes) && is_aligned o
-      && is_aligned (length bytes)) (not (nat_lt 65536 (length bytes))) m.fits.range in
+      && is_aligned (length bytes)) (not (nat_lt update_bytes (length bytes))) m.fits.range in
       let even =
       and_parts (is_within p.buffers b o (length bytes) && is_aligned o)
       (is_aligned (length bytes)) range.0 in
@@ -219,7 +225,7 @@ module _ (form : Form) (before : List Line) (p : Parts) (h : Say before p) (name
       record {
         found =
             form_inside form before (command_words (declared_script p) (Update b o bytes))
-            (Some UpdateLine) all.part h.version refl;
+            (Some UpdateLine) all.part refl refl;
         plain = words_plain (command_words (declared_script p) (Update b o bytes)) words;
         shaped = and_from (is_name (name_of b)) true name.0 refl;
         in_order = all.in_order;
@@ -267,7 +273,7 @@ module _ (form : Form) (before : List Line) (p : Parts) (h : Say before p) (name
       record {
         found =
             form_inside form before (command_words (declared_script p) (Copy s from t to n))
-            (Some CopyLine) all.part h.version refl;
+            (Some CopyLine) all.part refl refl;
         plain = words_plain (command_words (declared_script p) (Copy s from t to n)) words;
         shaped =
             and_from (is_name (name_of s)) (is_name (name_of t) && true) source.0

@@ -4,6 +4,7 @@ use Rattle.std.specs.Prelude.{nat_lt, is_some, codes, sum}
 use Rattle.vq_model.specs.declared.statement.Section.TheVariants.{Outside}
 use Rattle.vq_model.specs.declared.statement.Line.{Line}
 use Rattle.vq_model.specs.Context.{section, has_begun, open_batch, some, buffers, semaphores, queues, is_declared, count}
+use Rattle.vq_model.specs.declared.limits.Limits.{Limits}
 use Rattle.vq_canonical_laws.proofs.ScriptParts.{Told, Parts, Say, has_jobs, part_of_batch, OpenLines, MayBuffer, MaySemaphore, MayQueue, MayBegin, sizes_in, count_jobs, is_named}
 use Rattle.std.proofs.lemmas.Bool.{or_from, and_from, lt-ltb}
 use Rattle.std.specs.Fmt.{decimal}
@@ -18,7 +19,7 @@ use Rattle.vq_model.specs.Meaning.{form_of}
 use Rattle.vq_model.specs.Context.{number_at, is_job, part_of}
 use Rattle.vq_model.specs.Forms.{QueueName}
 use Rattle.vq_canonical_laws.proofs.LineTests.{PassesTests, read_tested}
-use Rattle.vq_canonical_laws.proofs.SaidContext.{sizes_said, buffer_count_said, semaphore_count_said, queue_count_said, queue_at_said, declared_said}
+use Rattle.vq_canonical_laws.proofs.SaidContext.{most_before, most_said, sizes_said, buffer_count_said, semaphore_count_said, queue_count_said, queue_at_said, declared_said}
 use Rattle.vq_canonical_laws.proofs.WrittenTexts.{is_text_word, are_text_words}
 use Rattle.vq_canonical_laws.proofs.WrittenNumbers.{decimal_back, decimal_word}
 use Rattle.vq_canonical_laws.proofs.NamedParts.{AreNamed, name_word}
@@ -78,6 +79,8 @@ module _ (form : Form) (before : List Line) (p : Parts) (h : Say before p) (name
       let first = is_first before p h m.outside m.first in
       let new = new_name name m.named m.fresh in
       let few = m.few in
+      let most = ap (λ (l : Limits). l.buffers) (most_said before p h) in
+      let most_bytes = ap (λ (l : Limits). l.bytes) (most_said before p h) in
       let length_is = buffer_count_said before p h in
       let sum_is = ap sum (sizes_said before p h) in
       let words : are_text_words (codes "buffer" ∷ name ∷ decimal size ∷ []) ≡ true =
@@ -98,10 +101,10 @@ module _ (form : Form) (before : List Line) (p : Parts) (h : Say before p) (name
         ranged = lt-ltb 0 size m.some_bytes;
         apart = refl;
         limited =
-            or_from (not (nat_lt (length (buffers before)) 64))
-            (nat_lt 1048576 (sum (sizes_in (buffers before)) + size))
-            (not_over (length (buffers before)) 64 (omega arith))
-            (not_past 1048576 (sum (sizes_in (buffers before)) + size) (omega arith));
+            or_from (not (nat_lt (length (buffers before)) (most_before before).buffers))
+            (nat_lt (most_before before).bytes (sum (sizes_in (buffers before)) + size))
+            (not_over (length (buffers before)) (most_before before).buffers (omega arith))
+            (not_past (most_before before).bytes (sum (sizes_in (buffers before)) + size) (omega arith));
       } in
       record {
         are_words = words;
@@ -119,6 +122,7 @@ module _ (form : Form) (before : List Line) (p : Parts) (h : Say before p) (name
       let new = new_name name m.named m.fresh in
       let few = m.few in
       let small = m.small in
+      let most = ap (λ (l : Limits). l.semaphores) (most_said before p h) in
       let length_is = semaphore_count_said before p h in
       let words : are_text_words (codes "timeline" ∷ name ∷ decimal value ∷ []) ≡ true =
       words_of_three (codes "timeline") name (decimal value) refl new.word
@@ -139,7 +143,7 @@ module _ (form : Form) (before : List Line) (p : Parts) (h : Say before p) (name
             option_map (λ v. DeclareSemaphore name (Timeline v)) (decimal_back value small i);
         ranged = refl;
         apart = refl;
-        limited = not_over (length (semaphores before)) 256 (omega arith);
+        limited = not_over (length (semaphores before)) (most_before before).semaphores (omega arith);
       } in
       record {
         are_words = words;
@@ -155,6 +159,7 @@ module _ (form : Form) (before : List Line) (p : Parts) (h : Say before p) (name
       let first = is_first before p h m.outside m.first in
       let new = new_name name m.named m.fresh in
       let few = m.few in
+      let most = ap (λ (l : Limits). l.semaphores) (most_said before p h) in
       let length_is = semaphore_count_said before p h in
       let words : are_text_words (codes "binary" ∷ name ∷ []) ≡ true =
       words_of_two (codes "binary") name refl new.word in
@@ -172,7 +177,7 @@ module _ (form : Form) (before : List Line) (p : Parts) (h : Say before p) (name
         said = refl;
         ranged = refl;
         apart = refl;
-        limited = not_over (length (semaphores before)) 256 (omega arith);
+        limited = not_over (length (semaphores before)) (most_before before).semaphores (omega arith);
       } in
       record {
         are_words = words;
@@ -188,6 +193,7 @@ module _ (form : Form) (before : List Line) (p : Parts) (h : Say before p) (name
       let first = is_first before p h m.outside m.first in
       let new = new_name name m.named m.fresh in
       let few = m.few in
+      let most = ap (λ (l : Limits). l.semaphores) (most_said before p h) in
       let length_is = semaphore_count_said before p h in
       let words : are_text_words (codes "fence" ∷ name ∷ []) ≡ true =
       words_of_two (codes "fence") name refl new.word in
@@ -205,7 +211,7 @@ module _ (form : Form) (before : List Line) (p : Parts) (h : Say before p) (name
         said = refl;
         ranged = refl;
         apart = refl;
-        limited = not_over (length (semaphores before)) 256 (omega arith);
+        limited = not_over (length (semaphores before)) (most_before before).semaphores (omega arith);
       } in
       record {
         are_words = words;
@@ -223,6 +229,7 @@ module _ (form : Form) (before : List Line) (p : Parts) (h : Say before p) (name
       let first = is_first before p h m.outside m.first in
       let new = new_name name m.named m.fresh in
       let few = m.few in
+      let most = ap (λ (l : Limits). l.queues) (most_said before p h) in
       let length_is = queue_count_said before p h in
       let words : are_text_words (codes "queue" ∷ name ∷ mode_word mode ∷ []) ≡ true =
       words_of_three (codes "queue") name (mode_word mode) refl new.word word in
@@ -239,7 +246,7 @@ module _ (form : Form) (before : List Line) (p : Parts) (h : Say before p) (name
         said = refl;
         ranged = refl;
         apart = refl;
-        limited = not_over (length (queues before)) 8 (omega arith);
+        limited = not_over (length (queues before)) (most_before before).queues (omega arith);
       } in
       record {
         are_words = words;
@@ -256,6 +263,7 @@ module _ (form : Form) (before : List Line) (p : Parts) (h : Say before p) (name
       let is_it : number_at before QueueName m.queue.name ≡ Some q =
       queue_at_said before p h m.queue.name ∙ known.1 in
       let few = m.few in
+      let most = ap (λ (l : Limits). l.jobs) (most_said before p h) in
       let jobs : count is_job before ≡ length p.jobs =
       h.job_count ∙ ap (λ (b : Option Told). count_jobs p.jobs b) m.outside in
       let opened : some (λ s. nat_lt 0 (part_of s)) (open_batch before) ≡ false =
@@ -277,7 +285,7 @@ module _ (form : Form) (before : List Line) (p : Parts) (h : Say before p) (name
         said = λ i. option_map (λ x. BeginBatch x) (is_it i);
         ranged = refl;
         apart = refl;
-        limited = not_over (count is_job before) 4096 (omega arith);
+        limited = not_over (count is_job before) (most_before before).jobs (omega arith);
       } in
       record {
         are_words = words;

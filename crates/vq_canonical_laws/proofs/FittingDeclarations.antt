@@ -5,7 +5,7 @@ use Rattle.std.specs.Str.{bytes_eq}
 use Rattle.std.proofs.lemmas.List.{map-append}
 use Rattle.std.proofs.lemmas.List.Folds.{list_any-append}
 use Rattle.std.proofs.lemmas.List.Sums.{sum_by-append, sum_by-cons}
-use Rattle.std.proofs.lemmas.Bool.{and_parts, or_parts, or_from, false≢true}
+use Rattle.std.proofs.lemmas.Bool.{and_parts, or_parts, or_from}
 use Rattle.vq_model.specs.declared.script.Buffer.{Buffer}
 use Rattle.vq_model.specs.declared.script.Semaphore.{Semaphore}
 use Rattle.vq_model.specs.declared.script.Queue.{Queue}
@@ -14,6 +14,7 @@ use Rattle.vq_model.specs.declared.statement.Statement.TheVariants.{DeclareBuffe
 use Rattle.vq_model.specs.Text.{is_name}
 use Rattle.vq_model.specs.SameScript.{buffer_without_line, semaphore_without_line, queue_without_line}
 use Rattle.vq_model.proofs.Bools.{not_true}
+use Rattle.vq_model.specs.Limits.{limits_of}
 use Rattle.vq_canonical_laws.specs.FormatRules.{are_new, sizes_in, HasValue}
 use Rattle.vq_canonical_laws.proofs.ScriptParts.{Parts, after, May}
 use Rattle.vq_canonical_laws.proofs.CanonicalOrder.{Leads, buffer_statements, semaphore_statements, queue_statements, declarations}
@@ -73,30 +74,30 @@ sizes_push bs b =
     ∙ ap (λ (k : ℕ). sum (sizes_in bs) + k) (sum_by-cons (λ (n : ℕ). n) b.size [] ∙ omega arith))
 
 -- so many buffers and bytes
-record FewBuffers (before bs : List Buffer) : Type 0 where
-  few : length before + length bs ≤ 64
-  bytes : sum (sizes_in before) + sum (sizes_in bs) ≤ 1048576
+record FewBuffers (v : ℕ) (before bs : List Buffer) : Type 0 where
+  few : length before + length bs ≤ (limits_of v).buffers
+  bytes : sum (sizes_in before) + sum (sizes_in bs) ≤ (limits_of v).bytes
 
-pub buffers_follow : (bs : List Buffer) (rest : List (List ℕ)) →
+pub buffers_follow : (v : ℕ) (bs : List Buffer) (rest : List (List ℕ)) →
     Every (λ b. (buffer_without_line b ≡ b) × (0 < b.size)) bs →
-    are_new [] (map (λ b. b.name) bs ++ rest) ≡ true → length bs ≤ 64 →
-    sum (sizes_in bs) ≤ 1048576 →
-    Leads (declarations [] [] []) (buffer_statements bs) (declarations bs [] [])
+    are_new [] (map (λ b. b.name) bs ++ rest) ≡ true → length bs ≤ (limits_of v).buffers →
+    sum (sizes_in bs) ≤ (limits_of v).bytes →
+    Leads (declarations v [] [] []) (buffer_statements bs) (declarations v bs [] [])
     × (are_new (map (λ b. b.name) bs) rest ≡ true)
-buffers_follow bs rest fits new few bytes =
+buffers_follow v bs rest fits new few bytes =
     let none : sum (sizes_in []) ≡ 0 = refl in
     all_follow (λ b. DeclareBuffer b.name b.size) (λ b. b.name)
-    (λ b. (buffer_without_line b ≡ b) × (0 < b.size)) (λ cs. declarations cs [] []) [] rest
-    FewBuffers
-    (λ before b fit. ap (λ (x : Buffer). declarations (before ++ x ∷ []) [] []) fit.0) one [] bs
+    (λ b. (buffer_without_line b ≡ b) × (0 < b.size)) (λ cs. declarations v cs [] []) [] rest
+    (FewBuffers v)
+    (λ before b fit. ap (λ (x : Buffer). declarations v (before ++ x ∷ []) [] []) fit.0) one [] bs
     fits new (record { few = omega arith; bytes = omega arith })
   where
     one : (before : List Buffer) (b : Buffer) (cs : List Buffer) →
         (buffer_without_line b ≡ b) × (0 < b.size) → is_name b.name ≡ true →
         list_any (bytes_eq b.name) (map (λ x. x.name) before) ≡ false →
-        FewBuffers before (b ∷ cs) →
-        May (declarations before [] []) (DeclareBuffer b.name b.size)
-        × FewBuffers (before ++ b ∷ []) cs
+        FewBuffers v before (b ∷ cs) →
+        May (declarations v before [] []) (DeclareBuffer b.name b.size)
+        × FewBuffers v (before ++ b ∷ []) cs
     one before b cs fit named new left =
         let some = fit.1 in
         let few = left.few in
@@ -118,16 +119,16 @@ buffers_follow bs rest fits new few bytes =
           record { few = omega arith; bytes = omega arith },
         )
 
-pub semaphores_follow : (bs : List Buffer) (ss : List Semaphore) (rest : List (List ℕ)) →
+pub semaphores_follow : (v : ℕ) (bs : List Buffer) (ss : List Semaphore) (rest : List (List ℕ)) →
     Every (λ x. (semaphore_without_line x ≡ x) × HasValue x.kind) ss →
-    are_new (map (λ b. b.name) bs) (map (λ x. x.name) ss ++ rest) ≡ true → length ss ≤ 256 →
-    Leads (declarations bs [] []) (semaphore_statements ss) (declarations bs ss [])
+    are_new (map (λ b. b.name) bs) (map (λ x. x.name) ss ++ rest) ≡ true → length ss ≤ (limits_of v).semaphores →
+    Leads (declarations v bs [] []) (semaphore_statements ss) (declarations v bs ss [])
     × (are_new (map (λ b. b.name) bs ++ map (λ x. x.name) ss) rest ≡ true)
-semaphores_follow bs ss rest fits new few =
+semaphores_follow v bs ss rest fits new few =
     all_follow (λ x. DeclareSemaphore x.name x.kind) (λ x. x.name)
-    (λ x. (semaphore_without_line x ≡ x) × HasValue x.kind) (λ ts. declarations bs ts []) front rest
-    (λ before ts. length before + length ts ≤ 256)
-    (λ before x fit. ap (λ (y : Semaphore). declarations bs (before ++ y ∷ []) []) fit.0) one [] ss
+    (λ x. (semaphore_without_line x ≡ x) × HasValue x.kind) (λ ts. declarations v bs ts []) front rest
+    (λ before ts. length before + length ts ≤ (limits_of v).semaphores)
+    (λ before x fit. ap (λ (y : Semaphore). declarations v bs (before ++ y ∷ []) []) fit.0) one [] ss
     fits
     (subst (λ (ns : List (List ℕ)). are_new ns (map (λ x. x.name) ss ++ rest) ≡ true)
     (sym (append-nil front)) new) (omega arith)
@@ -138,9 +139,9 @@ semaphores_follow bs ss rest fits new few =
     one : (before : List Semaphore) (x : Semaphore) (ts : List Semaphore) →
         (semaphore_without_line x ≡ x) × HasValue x.kind → is_name x.name ≡ true →
         list_any (bytes_eq x.name) (map (λ b. b.name) bs ++ map (λ y. y.name) before) ≡ false →
-        length before + length (x ∷ ts) ≤ 256 →
-        May (declarations bs before []) (DeclareSemaphore x.name x.kind)
-        × (length (before ++ x ∷ []) + length ts ≤ 256)
+        length before + length (x ∷ ts) ≤ (limits_of v).semaphores →
+        May (declarations v bs before []) (DeclareSemaphore x.name x.kind)
+        × (length (before ++ x ∷ []) + length ts ≤ (limits_of v).semaphores)
     one before x ts fit named new left =
         let long = length-append before (x ∷ []) in
         let both = or_parts (list_any (bytes_eq x.name) (map (λ b. b.name) bs))
@@ -162,16 +163,16 @@ semaphores_follow bs ss rest fits new few =
           omega arith,
         )
 
-pub queues_follow : (bs : List Buffer) (ss : List Semaphore) (qs : List Queue) →
+pub queues_follow : (v : ℕ) (bs : List Buffer) (ss : List Semaphore) (qs : List Queue) →
     Every (λ q. queue_without_line q ≡ q) qs →
     are_new (map (λ b. b.name) bs ++ map (λ x. x.name) ss) (map (λ q. q.name) qs ++ []) ≡ true →
-    length qs ≤ 8 →
-    Leads (declarations bs ss []) (queue_statements qs) (declarations bs ss qs)
-queues_follow bs ss qs fits new few =
+    length qs ≤ (limits_of v).queues →
+    Leads (declarations v bs ss []) (queue_statements qs) (declarations v bs ss qs)
+queues_follow v bs ss qs fits new few =
     (all_follow (λ q. DeclareQueue q.name q.mode) (λ q. q.name)
-    (λ q. queue_without_line q ≡ q) (λ rs. declarations bs ss rs) front []
-    (λ before rs. length before + length rs ≤ 8)
-    (λ before q fit. ap (λ (r : Queue). declarations bs ss (before ++ r ∷ [])) fit) one [] qs fits
+    (λ q. queue_without_line q ≡ q) (λ rs. declarations v bs ss rs) front []
+    (λ before rs. length before + length rs ≤ (limits_of v).queues)
+    (λ before q fit. ap (λ (r : Queue). declarations v bs ss (before ++ r ∷ [])) fit) one [] qs fits
     (subst (λ (ns : List (List ℕ)). are_new ns (map (λ q. q.name) qs ++ []) ≡ true)
     (sym (append-nil front)) new) (omega arith)).0
   where
@@ -182,9 +183,9 @@ queues_follow bs ss qs fits new few =
         queue_without_line q ≡ q → is_name q.name ≡ true →
         list_any (bytes_eq q.name)
         (map (λ b. b.name) bs ++ map (λ x. x.name) ss ++ map (λ r. r.name) before) ≡ false →
-        length before + length (q ∷ rs) ≤ 8 →
-        May (declarations bs ss before) (DeclareQueue q.name q.mode)
-        × (length (before ++ q ∷ []) + length rs ≤ 8)
+        length before + length (q ∷ rs) ≤ (limits_of v).queues →
+        May (declarations v bs ss before) (DeclareQueue q.name q.mode)
+        × (length (before ++ q ∷ []) + length rs ≤ (limits_of v).queues)
     one before q rs fit named new left =
         let long = length-append before (q ∷ []) in
         let both = or_parts (list_any (bytes_eq q.name) (map (λ b. b.name) bs ++ map (λ x. x.name) ss))

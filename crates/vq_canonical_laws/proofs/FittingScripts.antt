@@ -1,7 +1,7 @@
 -- A script without a schedule that keeps the rules of the format can be written.
-use Rattle.std.proofs.Common.{ℕ, suc, ◌≡◌, ◌<◌, ◌≤◌, ◌+◌, true, List, [], ◌∷◌, ◌++◌, append-nil, append_assoc, length, length-append, map, Option, Some, None, option_map, refl, sym, ap, ◌∙◌, subst, arith, sum}
+use Rattle.std.proofs.Common.{ℕ, ◌≡◌, ◌<◌, ◌≤◌, ◌+◌, true, List, [], ◌∷◌, ◌++◌, append-nil, append_assoc, length, length-append, map, Option, Some, None, option_map, refl, sym, ap, ◌∙◌, subst, arith, sum}
 use Rattle.std.specs.Prelude.{count_by, cond}
-use Rattle.std.specs.List.{AllByRecursion as Every, list_all, slice_get, flat_map, filter_map, cons_option}
+use Rattle.std.specs.List.{AllByRecursion as Every, list_all, flat_map, filter_map, cons_option}
 use Rattle.std.proofs.lemmas.List.{length-map}
 use Rattle.std.proofs.lemmas.List.Folds.{list_all-append}
 use Rattle.std.proofs.lemmas.List.Sums.{sum_by-cons}
@@ -17,9 +17,11 @@ use Rattle.vq_model.specs.declared.statement.Statement.{Statement}
 use Rattle.vq_model.specs.declared.statement.Statement.TheVariants.{AddCommand}
 use Rattle.vq_model.specs.Context.{is_command}
 use Rattle.vq_model.specs.Lowering.{commands_in}
+use Rattle.vq_model.specs.Limits.{limits_of}
+use Rattle.vq_model.specs.ValidScripts.{IsOfAVersion}
 use Rattle.vq_model.specs.ScriptOfLines.{first_of_list}
 use Rattle.vq_model.specs.SameScript.{IsScript, without_lines, buffer_without_line, semaphore_without_line, queue_without_line, turn_without_line, mark_without_line, command_without_line, job_without_lines}
-use Rattle.vq_canonical_laws.specs.FormatRules.{are_new, IsWholeMark, IsFenceOf, BatchFits, JobFits, KeepsRules, HasValue}
+use Rattle.vq_canonical_laws.specs.FormatRules.{are_new, IsSignalOf, IsFenceOf, BatchFits, JobFits, KeepsRules, HasValue}
 use Rattle.vq_canonical_laws.proofs.ScriptParts.{ToldJob, ToldStep, ToldBatch, Parts, parts, a_job, script_of_parts, wait_in, command_in, signal_in, fence_in, commands_of}
 use Rattle.vq_canonical_laws.proofs.PartsSaid.{commands_push}
 use Rattle.vq_canonical_laws.proofs.BatchItems.{is_item, AllItems}
@@ -118,7 +120,7 @@ module _ (s : Script) (b : Batch) (fits : BatchFits s b) where
       ∙ append-nil (map command_without_line b.commands)))
 
   -- a signal's place is 1
-  signal_told : (m : Mark) → IsWholeMark s.semaphores m →
+  signal_told : (m : Mark) → IsSignalOf s.semaphores m →
       signal_in (signal_statement m) ≡ Some (mark_without_line m)
   signal_told m whole = λ i.
       Some (record { line = 0; semaphore = m.semaphore; value = m.value; from = sym whole.1 i })
@@ -131,7 +133,7 @@ module _ (s : Script) (b : Batch) (fits : BatchFits s b) where
       none_kept signal_in wait_statement b.waits (λ m. refl) i
       ++ none_kept signal_in command_statement b.commands (λ c. refl) i
       ++ all_kept signal_in signal_statement mark_without_line b.signals
-      (each_of (IsWholeMark s.semaphores)
+      (each_of (IsSignalOf s.semaphores)
       (λ m. signal_in (signal_statement m) ≡ Some (mark_without_line m)) b.signals signal_told
       fits.signals) i
       ++ no_fence_kept signal_in b.fence (λ m. refl) i)
@@ -229,15 +231,15 @@ module _ (s : Script) where
 
   -- the parts with these jobs
   abbrev with_jobs : List ToldJob → Parts
-  with_jobs jobs = parts s.buffers s.semaphores s.queues jobs None
+  with_jobs jobs = parts s.version s.buffers s.semaphores s.queues jobs None
 
-  jobs_follow : (before : List ToldJob) (jobs : List Job) → Every (JobFits s) jobs →
-      length before + length jobs ≤ 4096 →
-      commands_of before + sum (map commands_in jobs) ≤ 8192 →
+  jobs_follow : IsOfAVersion s → (before : List ToldJob) (jobs : List Job) → Every (JobFits s) jobs →
+      length before + length jobs ≤ (limits_of s.version).jobs →
+      commands_of before + sum (map commands_in jobs) ≤ (limits_of s.version).commands →
       Leads (with_jobs before) (flat_map job_statements (map told_of jobs))
       (with_jobs (before ++ map told_of jobs))
-  jobs_follow before [] fits few all = ap with_jobs (sym (append-nil before))
-  jobs_follow before (Host h ∷ jobs) fits few all =
+  jobs_follow versioned before [] fits few all = ap with_jobs (sym (append-nil before))
+  jobs_follow versioned before (Host h ∷ jobs) fits few all =
       let told = ToldStep h.step in
       let long = length-append before (told ∷ []) in
       let more = commands_push before told in
@@ -246,9 +248,9 @@ module _ (s : Script) where
         subst (λ (js : List ToldJob). Leads (with_jobs (before ++ told ∷ []))
             (flat_map job_statements (map told_of jobs)) (with_jobs js))
             (append_assoc before (told ∷ []) (map told_of jobs))
-            (jobs_follow (before ++ told ∷ []) jobs fits.1 (omega arith) (omega arith)),
+            (jobs_follow versioned (before ++ told ∷ []) jobs fits.1 (omega arith) (omega arith)),
       )
-  jobs_follow before (BatchJob b ∷ jobs) fits few all =
+  jobs_follow versioned before (BatchJob b ∷ jobs) fits few all =
       let told = ToldBatch (batch_told b) in
       let long = length-append before (told ∷ []) in
       let more : commands_of (before ++ told ∷ []) ≡ commands_of before + count_by is_command (batch_told b).1 =
@@ -258,29 +260,29 @@ module _ (s : Script) where
       leads_on (with_jobs before) (with_jobs (before ++ told ∷ []))
       (with_jobs (before ++ told ∷ map told_of jobs)) (job_statements told)
       (flat_map job_statements (map told_of jobs))
-      (batch_follows s before b fits.0 (omega arith) (omega arith))
+      (batch_follows s before b versioned fits.0 (omega arith) (omega arith))
       (subst (λ (js : List ToldJob). Leads (with_jobs (before ++ told ∷ []))
       (flat_map job_statements (map told_of jobs)) (with_jobs js))
       (append_assoc before (told ∷ []) (map told_of jobs))
-      (jobs_follow (before ++ told ∷ []) jobs fits.1 (omega arith) (omega arith)))
+      (jobs_follow versioned (before ++ told ∷ []) jobs fits.1 (omega arith) (omega arith)))
 
 -- A script that keeps the rules can be written.
 pub ruled_is_written : (s : Script) → KeepsRules s → IsScript s
 ruled_is_written s rules =
     let first =
-    buffers_follow s.buffers (semaphore_names ++ queue_names)
+    buffers_follow s.version s.buffers (semaphore_names ++ queue_names)
     (each_both (λ b. buffer_without_line b ≡ b) (λ b. 0 < b.size) s.buffers
     (each_same buffer_without_line s.buffers (ap (λ (x : Script). x.buffers) rules.lineless))
     rules.some_bytes)
     (ap (are_new []) (sym (append_assoc buffer_names semaphore_names queue_names)) ∙ rules.names)
     rules.limits.buffers rules.limits.bytes in
     let second =
-    semaphores_follow s.buffers s.semaphores queue_names
+    semaphores_follow s.version s.buffers s.semaphores queue_names
     (each_both (λ x. semaphore_without_line x ≡ x) (λ x. HasValue x.kind) s.semaphores
     (each_same semaphore_without_line s.semaphores (ap (λ (x : Script). x.semaphores) rules.lineless))
     rules.values) first.1 rules.limits.semaphores in
     let third =
-    queues_follow s.buffers s.semaphores s.queues
+    queues_follow s.version s.buffers s.semaphores s.queues
     (each_same queue_without_line s.queues (ap (λ (x : Script). x.queues) rules.lineless))
     (subst (λ (ns : List (List ℕ)). are_new (buffer_names ++ semaphore_names) ns ≡ true)
     (sym (append-nil queue_names)) second.1) rules.limits.queues in
@@ -288,9 +290,10 @@ ruled_is_written s rules =
     let few = rules.limits.jobs in
     let all = rules.limits.commands in
     let fourth =
-    jobs_follow s [] s.jobs rules.jobs (omega arith) (omega arith) in
+    jobs_follow s rules.version [] s.jobs rules.jobs (omega arith) (omega arith) in
     ordered_is_written s (with_jobs s (map told_of s.jobs)) same
     (record {
+      of_a_version = rules.version;
       buffers_first = first.0;
       semaphores_next = second.0;
       queues_next = third;
@@ -312,7 +315,7 @@ ruled_is_written s rules =
     same : without_lines s ≡ script_of_parts (with_jobs s (map told_of s.jobs))
     same = λ i.
         record {
-          version = rules.version i;
+          version = s.version;
           buffers = (rules.lineless i).buffers;
           semaphores = (rules.lineless i).semaphores;
           queues = (rules.lineless i).queues;

@@ -1,25 +1,26 @@
 -- A line without a fault says a statement that may follow what the lines before say.
 use Rattle.std.proofs.Common.{◌≡◌, Option, Some, None, refl, false, List, [], ◌∷◌, sym, Bool, true, not, ℕ, ◌^◌, ◌<◌, ◌++◌, cond, ◌+◌, ◌==◌, ◌&&◌, ◌||◌, length, find, option_map, ap, ◌∙◌, subst, arith, ◌⊎◌, inl, inr}
 use Rattle.vq_model.specs.declared.statement.Section.TheVariants.{Outside, InBatch, InSchedule}
-use Rattle.vq_canonical_laws.proofs.ScriptParts.{ToldJob, Told, part_of_batch, has_jobs, TakesValue, Parts, May, Say, HasValue, IsMarked, sizes_in, HasNumerals, count_jobs, count_commands, commands_of, place_of}
-use Rattle.std.proofs.lemmas.Bool.{false≢true, or_parts, and_parts, ltb-true, ltb-false}
+use Rattle.vq_canonical_laws.proofs.ScriptParts.{ToldJob, Told, part_of_batch, has_jobs, TakesValue, Parts, May, Say, HasValue, IsMarked, sizes_in, HasNumerals, count_jobs, count_commands, commands_of}
+use Rattle.std.proofs.lemmas.Bool.{false≢true, or_parts, and_parts, ltb-true, ltb-false, eqb-true}
 use Rattle.vq_model.specs.declared.statement.Statement.{Statement}
 use Rattle.vq_model.specs.declared.script.SemaphoreKind.{SemaphoreKind}
 use Rattle.vq_model.specs.declared.script.SemaphoreKind.TheVariants.{Timeline, Binary, Fence}
-use Rattle.vq_model.specs.Context.{is_timeline, is_binary, is_fence, section, buffers, semaphores, queues, is_declared, has_begun, open_batch, is_wait, is_command, is_signal, is_batch_fence, count, some, version_of}
+use Rattle.vq_model.specs.Context.{is_timeline, is_binary, is_fence, section, buffers, semaphores, queues, is_declared, has_begun, open_batch, is_wait, is_command, is_signal, is_batch_fence, count, some, version_of, held_from}
+use Rattle.vq_model.specs.declared.limits.Limits.{Limits}
 use Rattle.vq_model.specs.declared.statement.LineForm.{LineForm}
-use Rattle.vq_model.specs.declared.statement.LineForm.TheVariants.{WaitTimelineLine, WaitBinaryLine, FillWholeLine, FillLine, UpdateLine, CopyLine, SignalTimelineLine, SignalBinaryLine, BatchFenceLine, EndLine, BufferLine, TimelineLine, BinaryLine, FenceLine, QueueLine, SubmitLine, ScheduleLine, TurnLine, TurnsLine}
+use Rattle.vq_model.specs.declared.statement.LineForm.TheVariants.{VersionLine, HeldTimelineLine, HeldBinaryLine, WaitTimelineLine, WaitBinaryLine, FillWholeLine, FillLine, UpdateLine, CopyLine, SignalTimelineLine, SignalBinaryLine, BatchFenceLine, EndLine, BufferLine, TimelineLine, BinaryLine, FenceLine, QueueLine, SubmitLine, ScheduleLine, TurnLine, TurnsLine}
 use Rattle.vq_model.specs.declared.statement.LineForm.TheVariants.{HostSignalLine, HostWaitAllLine, HostWaitAnyLine, HostPollAllLine, HostPollAnyLine, HostReadLine, HostFenceWaitLine, HostFencePollLine, HostFenceResetLine, HostIdleLine}
 use Rattle.std.specs.List.{list_all, list_any}
 use Rattle.vq_model.specs.declared.statement.Form.{Form}
 use Rattle.vq_model.specs.declared.statement.Form.TheVariants.{Plain, Scheduled}
 use Rattle.vq_model.specs.declared.statement.Line.{Line}
 use Rattle.vq_model.specs.Forms.{forms_outside, schedule_forms, held_forms, forms_in_batch}
-use Rattle.vq_model.specs.Meaning.{first_forms, matches, is_built, forms_at, meaning, small_numeral, is_hex, hex_bytes, binary_pair, of_two, of_three, of_four, of_five}
+use Rattle.vq_model.specs.Meaning.{first_forms, matches, forms_at, meaning, small_numeral, is_hex, hex_bytes, binary_pair, of_two, of_three, of_four, of_five}
 use Rattle.std.specs.Prelude.{nat_lt, is_some, sum, count_by}
 use Rattle.std.specs.Str.{bytes_eq}
 use Rattle.vq_model.specs.declared.statement.Section.{Section}
-use Rattle.vq_model.specs.declared.statement.Statement.TheVariants.{DeclareBuffer, DeclareSemaphore, DeclareQueue, BeginBatch, AddWait, AddCommand, AddSignal, AddFence, EndBatch, BeginSchedule}
+use Rattle.vq_model.specs.declared.statement.Statement.TheVariants.{DeclareBuffer, DeclareSemaphore, DeclareQueue, BeginBatch, AddWait, AddCommand, AddSignal, AddFence, EndBatch, BeginSchedule, HasVersion}
 use Rattle.vq_model.specs.declared.script.Mode.{Mode}
 use Rattle.vq_model.specs.declared.script.Pair.{Pair}
 use Rattle.vq_model.specs.declared.script.Command.{Command}
@@ -34,12 +35,12 @@ use Rattle.vq_model.specs.LineFaults.{passes_limit}
 use Rattle.vq_model.specs.Forms.{BufferName, TimelineName, BinaryName, FenceName, QueueName}
 use Rattle.vq_model.proofs.Bools.{not_true}
 use Rattle.vq_model.proofs.Options.{same_some}
-use Rattle.vq_reading_laws.proofs.Cited.{found_passes, built_found, found_belongs, where_it_is_built, forms_in, below, fence_is}
+use Rattle.vq_reading_laws.proofs.Cited.{found_passes, found_belongs, forms_in, below, fence_is}
 use Rattle.vq_canonical_laws.proofs.WrittenNumbers.{numeral_below, small_numeral_below, hex_bytes_below}
 use Rattle.vq_canonical_laws.proofs.FollowingSteps.{host_may}
 use Rattle.vq_canonical_laws.proofs.LineTests.{PassesTests, tests_passed}
 use Rattle.vq_canonical_laws.proofs.NamedParts.{position_passes}
-use Rattle.vq_canonical_laws.proofs.SaidContext.{sizes_said, buffer_count_said, semaphore_count_said, queue_count_said, timeline_at_said, binary_at_said, fence_at_said, queue_at_said, declared_said, range_said, overlap_said, some_said, count_said}
+use Rattle.vq_canonical_laws.proofs.SaidContext.{most_before, most_said, sizes_said, buffer_count_said, semaphore_count_said, queue_count_said, timeline_at_said, binary_at_said, fence_at_said, queue_at_said, declared_said, range_said, overlap_said, some_said, count_said}
 
 -- Parts of the text
 
@@ -77,61 +78,78 @@ binary_takes k e = absurd (false≢true e)
 
 -- The forms of a part of the text
 
--- a form is none of those that are built and stand in the other part
-abbrev stands_outside : LineForm → Bool
-stands_outside WaitTimelineLine = false
-stands_outside WaitBinaryLine = false
-stands_outside FillWholeLine = false
-stands_outside FillLine = false
-stands_outside UpdateLine = false
-stands_outside CopyLine = false
-stands_outside SignalTimelineLine = false
-stands_outside SignalBinaryLine = false
-stands_outside BatchFenceLine = false
-stands_outside EndLine = false
-stands_outside TurnLine = false
-stands_outside TurnsLine = false
-stands_outside other = true
+-- whether there are no lines
+abbrev are_none : List Line → Bool
+are_none [] = true
+are_none (line ∷ lines) = false
 
-abbrev stands_inside : LineForm → Bool
-stands_inside BufferLine = false
-stands_inside TimelineLine = false
-stands_inside BinaryLine = false
-stands_inside FenceLine = false
-stands_inside (QueueLine mode) = false
-stands_inside SubmitLine = false
-stands_inside HostSignalLine = false
-stands_inside HostWaitAllLine = false
-stands_inside HostWaitAnyLine = false
-stands_inside HostPollAllLine = false
-stands_inside HostPollAnyLine = false
-stands_inside HostReadLine = false
-stands_inside HostFenceWaitLine = false
-stands_inside HostFencePollLine = false
-stands_inside HostFenceResetLine = false
-stands_inside HostIdleLine = false
-stands_inside ScheduleLine = false
-stands_inside TurnLine = false
-stands_inside TurnsLine = false
-stands_inside other = true
+none_are : (before : List Line) → are_none before ≡ true → before ≡ []
+none_are [] e = refl
+none_are (line ∷ lines) e = absurd (false≢true e)
+
+-- whether a form stands outside a batch, where `first` the version may be named
+abbrev stands_outside : Bool → LineForm → Bool
+stands_outside first VersionLine = first
+stands_outside first HeldTimelineLine = false
+stands_outside first HeldBinaryLine = false
+stands_outside first WaitTimelineLine = false
+stands_outside first WaitBinaryLine = false
+stands_outside first FillWholeLine = false
+stands_outside first FillLine = false
+stands_outside first UpdateLine = false
+stands_outside first CopyLine = false
+stands_outside first SignalTimelineLine = false
+stands_outside first SignalBinaryLine = false
+stands_outside first BatchFenceLine = false
+stands_outside first EndLine = false
+stands_outside first TurnLine = false
+stands_outside first TurnsLine = false
+stands_outside first other = true
+
+-- .. and whether in a batch, where `second` in a text of version 2
+abbrev stands_inside : Bool → LineForm → Bool
+stands_inside second VersionLine = false
+stands_inside second HeldTimelineLine = second
+stands_inside second HeldBinaryLine = second
+stands_inside second BufferLine = false
+stands_inside second TimelineLine = false
+stands_inside second BinaryLine = false
+stands_inside second FenceLine = false
+stands_inside second (QueueLine mode) = false
+stands_inside second SubmitLine = false
+stands_inside second HostSignalLine = false
+stands_inside second HostWaitAllLine = false
+stands_inside second HostWaitAnyLine = false
+stands_inside second HostPollAllLine = false
+stands_inside second HostPollAnyLine = false
+stands_inside second HostReadLine = false
+stands_inside second HostFenceWaitLine = false
+stands_inside second HostFencePollLine = false
+stands_inside second HostFenceResetLine = false
+stands_inside second HostIdleLine = false
+stands_inside second ScheduleLine = false
+stands_inside second TurnLine = false
+stands_inside second TurnsLine = false
+stands_inside second other = true
 
 all_outside : (form : Form) (before : List Line) →
-    list_all stands_outside (first_forms before ++ forms_outside ++ schedule_forms form) ≡ true
+    list_all (stands_outside (are_none before)) (first_forms before ++ forms_outside ++ schedule_forms form) ≡ true
 all_outside Plain [] = refl
 all_outside Plain (line ∷ lines) = refl
 all_outside Scheduled [] = refl
 all_outside Scheduled (line ∷ lines) = refl
 
-all_inside : (b : Bool) → list_all stands_inside (cond b (held_forms 2) [] ++ forms_in_batch)
-    ≡ true
+all_inside : (b : Bool) →
+    list_all (stands_inside b) (cond b (held_forms 2) [] ++ forms_in_batch) ≡ true
 all_inside true = refl
 all_inside false = refl
 
 -- What a line may say
 
--- a statement may follow, or it begins the schedule
-abbrev pub MayFollow : Parts → Statement → Type 0
-MayFollow p s = May p s ⊎ ((s ≡ BeginSchedule) × (p.batch ≡ None))
+-- a statement may follow, or it begins the schedule, or it names the version in the first line
+abbrev pub MayFollow : List Line → Parts → Statement → Type 0
+MayFollow before p s =
+    May p s ⊎ (((s ≡ BeginSchedule) × (p.batch ≡ None)) ⊎ ((s ≡ HasVersion 2) × (before ≡ [])))
 
 module _ (form : Form) (before : List Line) (p : Parts) (h : Say before p) where
   -- before the first job
@@ -160,12 +178,14 @@ module _ (form : Form) (before : List Line) (p : Parts) (h : Say before p) where
           let r : is_in_range (earlier before) (DeclareBuffer name n) ≡ true =
           subst (λ (z : Statement). is_in_range (earlier before) z ≡ true) (sym same) t.ranged in
           let limits =
-          or_parts (not (nat_lt (length (buffers before)) 64))
-          (nat_lt 1048576 (sum (sizes_in (buffers before)) + n))
+          or_parts (not (nat_lt (length (buffers before)) (most_before before).buffers))
+          (nat_lt (most_before before).bytes (sum (sizes_in (buffers before)) + n))
           (subst (λ (z : Statement). passes_limit (earlier before) z ≡ false)
           (sym same) t.limited) in
-          let few = below (length (buffers before)) 64 limits.0 in
-          let bytes = ltb-false 1048576 (sum (sizes_in (buffers before)) + n) limits.1 in
+          let few = below (length (buffers before)) (most_before before).buffers limits.0 in
+          let bytes = ltb-false (most_before before).bytes (sum (sizes_in (buffers before)) + n) limits.1 in
+          let most = ap (λ (l : Limits). l.buffers) (most_said before p h) in
+          let most_bytes = ap (λ (l : Limits). l.bytes) (most_said before p h) in
           let length_is = buffer_count_said before p h in
           let sum_is = ap sum (sizes_said before p h) in
           subst (May p) same
@@ -195,9 +215,10 @@ module _ (form : Form) (before : List Line) (p : Parts) (h : Say before p) where
       same_some (DeclareSemaphore name kind) s i in
       let first = first_parts e order in
       let few =
-      below (length (semaphores before)) 256
+      below (length (semaphores before)) (most_before before).semaphores
       (subst (λ (z : Statement). passes_limit (earlier before) z ≡ false)
       (sym same) limited) in
+      let most = ap (λ (l : Limits). l.semaphores) (most_said before p h) in
       let length_is = semaphore_count_said before p h in
       subst (May p) same
       (record {
@@ -245,9 +266,10 @@ module _ (form : Form) (before : List Line) (p : Parts) (h : Say before p) where
       let same : DeclareQueue name mode ≡ s = same_some (DeclareQueue name mode) s t.said in
       let first = first_parts e t.in_order in
       let few =
-      below (length (queues before)) 8
+      below (length (queues before)) (most_before before).queues
       (subst (λ (z : Statement). passes_limit (earlier before) z ≡ false)
       (sym same) t.limited) in
+      let most = ap (λ (l : Limits). l.queues) (most_said before p h) in
       let length_is = queue_count_said before p h in
       subst (May p) same
       (record {
@@ -275,9 +297,10 @@ module _ (form : Form) (before : List Line) (p : Parts) (h : Say before p) where
           position_passes (λ x. bytes_eq queue x.name) p.queues q
           (sym (queue_at_said before p h queue) ∙ f) in
           let few =
-          below (count is_job before) 4096
+          below (count is_job before) (most_before before).jobs
           (subst (λ (z : Statement). passes_limit (earlier before) z ≡ false)
           (sym same) t.limited) in
+          let most = ap (λ (l : Limits). l.jobs) (most_said before p h) in
           let none = outside_batch p.batch e in
           let jobs : count is_job before ≡ length p.jobs =
           h.job_count ∙ ap (λ (b : Option Told). count_jobs p.jobs b) none in
@@ -323,17 +346,24 @@ module _ (form : Form) (before : List Line) (p : Parts) (h : Say before p) where
       ∙ (or_parts (some (λ x. nat_lt k (part_of x)) (open_batch before)) false order).0
 
   -- a wait
-  wait_may : (pair : Pair) (s : Statement) → InBatch ≡ part_of_batch p.batch →
+  wait_may : (pair : Pair) (from : ℕ) (s : Statement) → InBatch ≡ part_of_batch p.batch →
       (some (λ x. nat_lt 1 (part_of x)) (open_batch before) || false) ≡ false →
-      passes_limit (earlier before) s ≡ false →
-      Some (AddWait pair 1) ≡ Some s → IsMarked p.semaphores pair → May p s
-  wait_may pair s e order limited i known =
-      let same : AddWait pair 1 ≡ s = same_some (AddWait pair 1) s i in
+      is_in_range (earlier before) s ≡ true → passes_limit (earlier before) s ≡ false →
+      Some (AddWait pair from) ≡ Some s → (from ≡ 1) ⊎ (p.version ≡ 2) →
+      IsMarked p.semaphores pair → May p s
+  wait_may pair from s e order ranged limited i held known =
+      let same : AddWait pair from ≡ s = same_some (AddWait pair from) s i in
       let inside = inside_batch p.batch e in
       let few =
-      below (count is_wait (open_batch before)) 16
+      below (count is_wait (open_batch before)) (most_before before).waits
       (subst (λ (z : Statement). passes_limit (earlier before) z ≡ false)
       (sym same) limited) in
+      let range =
+      and_parts (nat_lt 0 from) (nat_lt from ((most_before before).batch_commands + 2))
+      (subst (λ (z : Statement). is_in_range (earlier before) z ≡ true) (sym same) ranged) in
+      let near = ltb-true from ((most_before before).batch_commands + 2) range.1 in
+      let most = ap (λ (l : Limits). l.waits) (most_said before p h) in
+      let most_of_batch = ap (λ (l : Limits). l.batch_commands) (most_said before p h) in
       let counted = count_said before p h inside.0 inside.1 is_wait in
       subst (May p) same
       (record {
@@ -342,7 +372,9 @@ module _ (form : Form) (before : List Line) (p : Parts) (h : Say before p) where
         in_order = part_said inside.0 inside.1 1 order;
         fits = record {
           known = known;
-          at_once = refl;
+          counted = ltb-true 0 from range.0;
+          held = held;
+          near = omega arith;
           few = omega arith;
         };
       })
@@ -358,8 +390,8 @@ module _ (form : Form) (before : List Line) (p : Parts) (h : Say before p) where
       by_places None v f g i = absurd (nothing_said s i)
       by_places (Some o) None f g i = absurd (nothing_said s i)
       by_places (Some o) (Some v) f g i =
-          wait_may (record { semaphore = o; value = v }) s e t.in_order t.limited i
-          (timeline_marked name o v f (numeral_below value v g))
+          wait_may (record { semaphore = o; value = v }) 1 s e t.in_order t.ranged t.limited i
+          (inl refl) (timeline_marked name o v f (numeral_below value v g))
   wait_timeline_may words s e m t = absurd (false≢true m)
 
   wait_binary_may : (words : List (List ℕ)) (s : Statement) → InBatch ≡ part_of_batch p.batch →
@@ -370,8 +402,42 @@ module _ (form : Form) (before : List Line) (p : Parts) (h : Say before p) where
           option_map (λ x. AddWait (binary_pair x) 1) o ≡ Some s → May p s
       by_place None f i = absurd (nothing_said s i)
       by_place (Some o) f i =
-          wait_may (binary_pair o) s e t.in_order t.limited i (binary_marked name o f)
+          wait_may (binary_pair o) 1 s e t.in_order t.ranged t.limited i (inl refl)
+          (binary_marked name o f)
   wait_binary_may words s e m t = absurd (false≢true m)
+
+  -- one from a place within its batch
+  held_timeline_may : (words : List (List ℕ)) (s : Statement) → InBatch ≡ part_of_batch p.batch →
+      p.version ≡ 2 → matches words HeldTimelineLine ≡ true →
+      PassesTests form before words HeldTimelineLine s → May p s
+  held_timeline_may (a ∷ name ∷ value ∷ b ∷ place ∷ []) s e second m t =
+      by_places (number_at before TimelineName name) (numeral value) (numeral place) refl refl t.said
+    where
+      by_places : (o v k : Option ℕ) → number_at before TimelineName name ≡ o → numeral value ≡ v →
+          of_two (λ x n. AddWait x n)
+          (of_two (λ y z. record { semaphore = y; value = z }) o v) k ≡ Some s → May p s
+      by_places None v k f g i = absurd (nothing_said s i)
+      by_places (Some o) None k f g i = absurd (nothing_said s i)
+      by_places (Some o) (Some v) None f g i = absurd (nothing_said s i)
+      by_places (Some o) (Some v) (Some k) f g i =
+          wait_may (record { semaphore = o; value = v }) k s e t.in_order t.ranged t.limited i
+          (inr second) (timeline_marked name o v f (numeral_below value v g))
+  held_timeline_may words s e second m t = absurd (false≢true m)
+
+  held_binary_may : (words : List (List ℕ)) (s : Statement) → InBatch ≡ part_of_batch p.batch →
+      p.version ≡ 2 → matches words HeldBinaryLine ≡ true →
+      PassesTests form before words HeldBinaryLine s → May p s
+  held_binary_may (a ∷ name ∷ b ∷ place ∷ []) s e second m t =
+      by_places (number_at before BinaryName name) (numeral place) refl t.said
+    where
+      by_places : (o k : Option ℕ) → number_at before BinaryName name ≡ o →
+          of_two (λ x n. AddWait (binary_pair x) n) o k ≡ Some s → May p s
+      by_places None k f i = absurd (nothing_said s i)
+      by_places (Some o) None f i = absurd (nothing_said s i)
+      by_places (Some o) (Some k) f i =
+          wait_may (binary_pair o) k s e t.in_order t.ranged t.limited i (inr second)
+          (binary_marked name o f)
+  held_binary_may words s e second m t = absurd (false≢true m)
 
   -- a signal
   signal_may : (pair : Pair) (s : Statement) → InBatch ≡ part_of_batch p.batch →
@@ -382,9 +448,10 @@ module _ (form : Form) (before : List Line) (p : Parts) (h : Say before p) where
       let same : AddSignal pair ≡ s = same_some (AddSignal pair) s i in
       let inside = inside_batch p.batch e in
       let few =
-      below (count is_signal (open_batch before)) 16
+      below (count is_signal (open_batch before)) (most_before before).signals
       (subst (λ (z : Statement). passes_limit (earlier before) z ≡ false)
       (sym same) limited) in
+      let most = ap (λ (l : Limits). l.signals) (most_said before p h) in
       let counted = count_said before p h inside.0 inside.1 is_signal in
       subst (May p) same
       (record {
@@ -469,12 +536,14 @@ module _ (form : Form) (before : List Line) (p : Parts) (h : Say before p) where
       let o : overlaps (buffers before) (AddCommand c) ≡ false =
       subst (λ (z : Statement). overlaps (buffers before) z ≡ false) (sym same) apart in
       let limits =
-      or_parts (not (nat_lt (count is_command before) 8192))
-      (not (nat_lt (count is_command (open_batch before)) 64))
+      or_parts (not (nat_lt (count is_command before) (most_before before).commands))
+      (not (nat_lt (count is_command (open_batch before)) (most_before before).batch_commands))
       (subst (λ (z : Statement). passes_limit (earlier before) z ≡ false)
       (sym same) limited) in
-      let all = below (count is_command before) 8192 limits.0 in
-      let few = below (count is_command (open_batch before)) 64 limits.1 in
+      let all = below (count is_command before) (most_before before).commands limits.0 in
+      let few = below (count is_command (open_batch before)) (most_before before).batch_commands limits.1 in
+      let most = ap (λ (l : Limits). l.commands) (most_said before p h) in
+      let most_of_batch = ap (λ (l : Limits). l.batch_commands) (most_said before p h) in
       let inside = inside_batch p.batch e in
       let counted = count_said before p h inside.0 inside.1 is_command in
       let counts : count is_command before
@@ -582,119 +651,124 @@ module _ (form : Form) (before : List Line) (p : Parts) (h : Say before p) where
         told = inside.0;
         inside = inside.1;
         in_order = part_said inside.0 inside.1 5 t.in_order;
-        near = ap (λ (k : ℕ). list_any (λ x. nat_lt (k + 1) (place_of x)) inside.0.1)
+        near = ap (λ (k : ℕ). list_any (λ x. nat_lt (k + 1) (held_from x)) inside.0.1)
             (sym (count_said before p h inside.0 inside.1 is_command))
             ∙ (sym (some_said before p h inside.0 inside.1
-            (λ x. nat_lt (count is_command (open_batch before) + 1) (place_of x)))
+            (λ x. nat_lt (count is_command (open_batch before) + 1) (held_from x)))
             ∙ near);
       })
   end_may words s e m t = absurd (false≢true m)
 
   -- by the form, outside a batch
   outside_may : (f : LineForm) (words : List (List ℕ)) (s : Statement) →
-      Outside ≡ part_of_batch p.batch → stands_outside f ≡ true → is_built f ≡ true →
-      matches words f ≡ true → PassesTests form before words f s → MayFollow p s
-  outside_may BufferLine words s e g b m t = inl (buffer_may words s e m t)
-  outside_may TimelineLine words s e g b m t = inl (timeline_may words s e m t)
-  outside_may BinaryLine words s e g b m t = inl (binary_may words s e m t)
-  outside_may FenceLine words s e g b m t = inl (fence_may words s e m t)
-  outside_may (QueueLine mode) words s e g b m t = inl (queue_may mode words s e m t)
-  outside_may SubmitLine words s e g b m t = inl (submit_may words s e m t)
-  outside_may HostSignalLine words s e g b m t =
+      Outside ≡ part_of_batch p.batch → stands_outside (are_none before) f ≡ true →
+      matches words f ≡ true → PassesTests form before words f s → MayFollow before p s
+  outside_may VersionLine (a ∷ b ∷ []) s e g m t =
+      inr (inr (sym (same_some (HasVersion 2) s t.said), none_are before g))
+  outside_may VersionLine words s e g m t = absurd (false≢true m)
+  outside_may BufferLine words s e g m t = inl (buffer_may words s e m t)
+  outside_may TimelineLine words s e g m t = inl (timeline_may words s e m t)
+  outside_may BinaryLine words s e g m t = inl (binary_may words s e m t)
+  outside_may FenceLine words s e g m t = inl (fence_may words s e m t)
+  outside_may (QueueLine mode) words s e g m t = inl (queue_may mode words s e m t)
+  outside_may SubmitLine words s e g m t = inl (submit_may words s e m t)
+  outside_may HostSignalLine words s e g m t =
       inl (host_may before p h form HostSignalLine words s (outside_batch p.batch e) refl m t)
-  outside_may HostWaitAllLine words s e g b m t =
+  outside_may HostWaitAllLine words s e g m t =
       inl (host_may before p h form HostWaitAllLine words s (outside_batch p.batch e) refl m t)
-  outside_may HostWaitAnyLine words s e g b m t =
+  outside_may HostWaitAnyLine words s e g m t =
       inl (host_may before p h form HostWaitAnyLine words s (outside_batch p.batch e) refl m t)
-  outside_may HostPollAllLine words s e g b m t =
+  outside_may HostPollAllLine words s e g m t =
       inl (host_may before p h form HostPollAllLine words s (outside_batch p.batch e) refl m t)
-  outside_may HostPollAnyLine words s e g b m t =
+  outside_may HostPollAnyLine words s e g m t =
       inl (host_may before p h form HostPollAnyLine words s (outside_batch p.batch e) refl m t)
-  outside_may HostReadLine words s e g b m t =
+  outside_may HostReadLine words s e g m t =
       inl (host_may before p h form HostReadLine words s (outside_batch p.batch e) refl m t)
-  outside_may HostFenceWaitLine words s e g b m t =
+  outside_may HostFenceWaitLine words s e g m t =
       inl (host_may before p h form HostFenceWaitLine words s (outside_batch p.batch e) refl m t)
-  outside_may HostFencePollLine words s e g b m t =
+  outside_may HostFencePollLine words s e g m t =
       inl (host_may before p h form HostFencePollLine words s (outside_batch p.batch e) refl m t)
-  outside_may HostFenceResetLine words s e g b m t =
+  outside_may HostFenceResetLine words s e g m t =
       inl (host_may before p h form HostFenceResetLine words s (outside_batch p.batch e) refl m t)
-  outside_may HostIdleLine words s e g b m t =
+  outside_may HostIdleLine words s e g m t =
       inl (host_may before p h form HostIdleLine words s (outside_batch p.batch e) refl m t)
-  outside_may ScheduleLine (a ∷ []) s e g b m t =
-      inr (sym (same_some BeginSchedule s t.said), outside_batch p.batch e)
-  outside_may ScheduleLine words s e g b m t = absurd (false≢true m)
-  outside_may TurnLine words s e g b m t = absurd (false≢true g)
-  outside_may TurnsLine words s e g b m t = absurd (false≢true g)
-  outside_may WaitTimelineLine words s e g b m t = absurd (false≢true g)
-  outside_may WaitBinaryLine words s e g b m t = absurd (false≢true g)
-  outside_may FillWholeLine words s e g b m t = absurd (false≢true g)
-  outside_may FillLine words s e g b m t = absurd (false≢true g)
-  outside_may UpdateLine words s e g b m t = absurd (false≢true g)
-  outside_may CopyLine words s e g b m t = absurd (false≢true g)
-  outside_may SignalTimelineLine words s e g b m t = absurd (false≢true g)
-  outside_may SignalBinaryLine words s e g b m t = absurd (false≢true g)
-  outside_may BatchFenceLine words s e g b m t = absurd (false≢true g)
-  outside_may EndLine words s e g b m t = absurd (false≢true g)
-  outside_may f words s e g b m t = absurd (false≢true b)
+  outside_may ScheduleLine (a ∷ []) s e g m t =
+      inr (inl (sym (same_some BeginSchedule s t.said), outside_batch p.batch e))
+  outside_may ScheduleLine words s e g m t = absurd (false≢true m)
+  outside_may TurnLine words s e g m t = absurd (false≢true g)
+  outside_may TurnsLine words s e g m t = absurd (false≢true g)
+  outside_may WaitTimelineLine words s e g m t = absurd (false≢true g)
+  outside_may WaitBinaryLine words s e g m t = absurd (false≢true g)
+  outside_may FillWholeLine words s e g m t = absurd (false≢true g)
+  outside_may FillLine words s e g m t = absurd (false≢true g)
+  outside_may UpdateLine words s e g m t = absurd (false≢true g)
+  outside_may CopyLine words s e g m t = absurd (false≢true g)
+  outside_may SignalTimelineLine words s e g m t = absurd (false≢true g)
+  outside_may SignalBinaryLine words s e g m t = absurd (false≢true g)
+  outside_may BatchFenceLine words s e g m t = absurd (false≢true g)
+  outside_may EndLine words s e g m t = absurd (false≢true g)
+  outside_may HeldTimelineLine words s e g m t = absurd (false≢true g)
+  outside_may HeldBinaryLine words s e g m t = absurd (false≢true g)
 
   -- .. and inside
   inside_may : (f : LineForm) (words : List (List ℕ)) (s : Statement) →
-      InBatch ≡ part_of_batch p.batch → stands_inside f ≡ true → is_built f ≡ true →
+      InBatch ≡ part_of_batch p.batch → stands_inside (version_of before == 2) f ≡ true →
       matches words f ≡ true → PassesTests form before words f s → May p s
-  inside_may WaitTimelineLine words s e g b m t = wait_timeline_may words s e m t
-  inside_may WaitBinaryLine words s e g b m t = wait_binary_may words s e m t
-  inside_may FillWholeLine words s e g b m t = fill_whole_may words s e m t
-  inside_may FillLine words s e g b m t = fill_may words s e m t
-  inside_may UpdateLine words s e g b m t = update_may words s e m t
-  inside_may CopyLine words s e g b m t = copy_may words s e m t
-  inside_may SignalTimelineLine words s e g b m t = signal_timeline_may words s e m t
-  inside_may SignalBinaryLine words s e g b m t = signal_binary_may words s e m t
-  inside_may BatchFenceLine words s e g b m t = batch_fence_may words s e m t
-  inside_may EndLine words s e g b m t = end_may words s e m t
-  inside_may BufferLine words s e g b m t = absurd (false≢true g)
-  inside_may TimelineLine words s e g b m t = absurd (false≢true g)
-  inside_may BinaryLine words s e g b m t = absurd (false≢true g)
-  inside_may FenceLine words s e g b m t = absurd (false≢true g)
-  inside_may (QueueLine mode) words s e g b m t = absurd (false≢true g)
-  inside_may SubmitLine words s e g b m t = absurd (false≢true g)
-  inside_may HostSignalLine words s e g b m t = absurd (false≢true g)
-  inside_may HostWaitAllLine words s e g b m t = absurd (false≢true g)
-  inside_may HostWaitAnyLine words s e g b m t = absurd (false≢true g)
-  inside_may HostPollAllLine words s e g b m t = absurd (false≢true g)
-  inside_may HostPollAnyLine words s e g b m t = absurd (false≢true g)
-  inside_may HostReadLine words s e g b m t = absurd (false≢true g)
-  inside_may HostFenceWaitLine words s e g b m t = absurd (false≢true g)
-  inside_may HostFencePollLine words s e g b m t = absurd (false≢true g)
-  inside_may HostFenceResetLine words s e g b m t = absurd (false≢true g)
-  inside_may HostIdleLine words s e g b m t = absurd (false≢true g)
-  inside_may ScheduleLine words s e g b m t = absurd (false≢true g)
-  inside_may TurnLine words s e g b m t = absurd (false≢true g)
-  inside_may TurnsLine words s e g b m t = absurd (false≢true g)
-  inside_may f words s e g b m t = absurd (false≢true b)
+  inside_may HeldTimelineLine words s e g m t =
+      held_timeline_may words s e (sym h.version ∙ eqb-true (version_of before) 2 g) m t
+  inside_may HeldBinaryLine words s e g m t =
+      held_binary_may words s e (sym h.version ∙ eqb-true (version_of before) 2 g) m t
+  inside_may WaitTimelineLine words s e g m t = wait_timeline_may words s e m t
+  inside_may WaitBinaryLine words s e g m t = wait_binary_may words s e m t
+  inside_may FillWholeLine words s e g m t = fill_whole_may words s e m t
+  inside_may FillLine words s e g m t = fill_may words s e m t
+  inside_may UpdateLine words s e g m t = update_may words s e m t
+  inside_may CopyLine words s e g m t = copy_may words s e m t
+  inside_may SignalTimelineLine words s e g m t = signal_timeline_may words s e m t
+  inside_may SignalBinaryLine words s e g m t = signal_binary_may words s e m t
+  inside_may BatchFenceLine words s e g m t = batch_fence_may words s e m t
+  inside_may EndLine words s e g m t = end_may words s e m t
+  inside_may BufferLine words s e g m t = absurd (false≢true g)
+  inside_may TimelineLine words s e g m t = absurd (false≢true g)
+  inside_may BinaryLine words s e g m t = absurd (false≢true g)
+  inside_may FenceLine words s e g m t = absurd (false≢true g)
+  inside_may (QueueLine mode) words s e g m t = absurd (false≢true g)
+  inside_may SubmitLine words s e g m t = absurd (false≢true g)
+  inside_may HostSignalLine words s e g m t = absurd (false≢true g)
+  inside_may HostWaitAllLine words s e g m t = absurd (false≢true g)
+  inside_may HostWaitAnyLine words s e g m t = absurd (false≢true g)
+  inside_may HostPollAllLine words s e g m t = absurd (false≢true g)
+  inside_may HostPollAnyLine words s e g m t = absurd (false≢true g)
+  inside_may HostReadLine words s e g m t = absurd (false≢true g)
+  inside_may HostFenceWaitLine words s e g m t = absurd (false≢true g)
+  inside_may HostFencePollLine words s e g m t = absurd (false≢true g)
+  inside_may HostFenceResetLine words s e g m t = absurd (false≢true g)
+  inside_may HostIdleLine words s e g m t = absurd (false≢true g)
+  inside_may ScheduleLine words s e g m t = absurd (false≢true g)
+  inside_may TurnLine words s e g m t = absurd (false≢true g)
+  inside_may TurnsLine words s e g m t = absurd (false≢true g)
+  inside_may VersionLine words s e g m t = absurd (false≢true g)
 
   -- by the part of the text
   line_may : (was : Section) (f : LineForm) (words : List (List ℕ)) (s : Statement) →
       was ≡ part_of_batch p.batch → find (matches words) (forms_in form before was) ≡ Some f →
-      is_built f ≡ true → matches words f ≡ true → PassesTests form before words f s →
-      MayFollow p s
-  line_may Outside f words s e found b m t =
+      matches words f ≡ true → PassesTests form before words f s → MayFollow before p s
+  line_may Outside f words s e found m t =
       outside_may f words s e
-      (found_belongs (matches words) stands_outside
+      (found_belongs (matches words) (stands_outside (are_none before))
       (first_forms before ++ forms_outside ++ schedule_forms form) f
-      (all_outside form before) found) b m t
-  line_may InBatch f words s e found b m t =
+      (all_outside form before) found) m t
+  line_may InBatch f words s e found m t =
       inl (inside_may f words s e
-      (found_belongs (matches words) stands_inside
+      (found_belongs (matches words) (stands_inside (version_of before == 2))
       (held_forms (version_of before) ++ forms_in_batch) f
-      (all_inside (version_of before == 2)) found) b m t)
-  line_may InSchedule f words s e found b m t = absurd (no_schedule p.batch e)
+      (all_inside (version_of before == 2)) found) m t)
+  line_may InSchedule f words s e found m t = absurd (no_schedule p.batch e)
 
-  -- A line without a fault says a statement that may follow, or begins the schedule.
+  -- A line without a fault says a statement that may follow, or begins the schedule, or names the version.
   pub may_follow : (words : List (List ℕ)) (s : Statement) → fault_of form before words ≡ None →
-      meaning form before words ≡ Some s → MayFollow p s
+      meaning form before words ≡ Some s → MayFollow before p s
   may_follow words s e m =
       let t = tests_passed form before words s e m in
-      let found = built_found (find (matches words) (forms_at form before)) t.0 t.1.found in
-      line_may (section before) t.0 words s h.part found
-      (where_it_is_built (find (matches words) (forms_at form before)) t.0 t.1.found)
-      (found_passes (matches words) (forms_at form before) t.0 found) t.1
+      line_may (section before) t.0 words s h.part t.1.found
+      (found_passes (matches words) (forms_at form before) t.0 t.1.found) t.1

@@ -14,6 +14,8 @@ use Rattle.vq_model.specs.declared.script.HostStep.{HostStep}
 use Rattle.vq_model.specs.declared.script.HostStep.TheVariants.{Signal, WaitAll, WaitAny, PollAll, PollAny, Read, FenceWait, FencePoll, FenceReset, Idle}
 use Rattle.vq_model.specs.declared.script.Pair.{Pair}
 use Rattle.vq_model.specs.Context.{is_timeline, is_fence, count}
+use Rattle.vq_model.specs.Limits.{limits_of}
+use Rattle.vq_model.specs.declared.limits.Limits.{Limits}
 use Rattle.vq_model.specs.Forms.{places}
 use Rattle.vq_model.specs.Meaning.{agree, matches, of_two, pair_at, pair_places, pairs_at}
 use Rattle.vq_model.specs.Text.{numeral}
@@ -24,7 +26,7 @@ use Rattle.vq_model.specs.Forms.{TimelineName, FenceName}
 use Rattle.vq_reading_laws.proofs.Cited.{below}
 use Rattle.vq_canonical_laws.proofs.LineTests.{PassesTests}
 use Rattle.vq_canonical_laws.proofs.NamedParts.{position_passes}
-use Rattle.vq_canonical_laws.proofs.SaidContext.{timeline_at_said, fence_at_said}
+use Rattle.vq_canonical_laws.proofs.SaidContext.{most_before, most_said, timeline_at_said, fence_at_said}
 use Rattle.vq_canonical_laws.proofs.ScriptParts.{Told, Parts, Say, May, IsOfKindIn, IsTimed, AreTimed, StepFits, count_jobs}
 use Rattle.vq_canonical_laws.proofs.WrittenNumbers.{numeral_below}
 
@@ -130,14 +132,18 @@ module _ (before : List Line) (p : Parts) (h : Say before p) where
       (limited : passes_limit (earlier before) s ≡ false) where
     -- a step follows where its names fit
     step_follows : (step : HostStep) → TakeHostStep step ≡ s →
-        (length (pairs_of step) ≤ 16 → StepFits p.semaphores step) → May p s
+        (length (pairs_of step) ≤ (limits_of p.version).pairs → StepFits p.version p.semaphores step) →
+        May p s
     step_follows step same fits =
         let limits =
-        or_parts (not (nat_lt (count is_job before) 4096)) (nat_lt 16 (length (pairs_of step)))
+        or_parts (not (nat_lt (count is_job before) (most_before before).jobs))
+        (nat_lt (most_before before).pairs (length (pairs_of step)))
         (subst (λ (z : Statement). passes_limit (earlier before) z ≡ false)
         (sym same) limited) in
-        let few = below (count is_job before) 4096 limits.0 in
-        let short = ltb-false 16 (length (pairs_of step)) limits.1 in
+        let few = below (count is_job before) (most_before before).jobs limits.0 in
+        let short = ltb-false (most_before before).pairs (length (pairs_of step)) limits.1 in
+        let most = ap (λ (l : Limits). l.jobs) (most_said before p h) in
+        let most_pairs = ap (λ (l : Limits). l.pairs) (most_said before p h) in
         let jobs : count is_job before ≡ length p.jobs =
         h.job_count ∙ ap (λ (b : Option Told). count_jobs p.jobs b) outside in
         subst (May p) same
@@ -146,7 +152,8 @@ module _ (before : List Line) (p : Parts) (h : Say before p) where
     -- one that names pairs
     pairs_follow : (of : List Pair → HostStep) (words : List (List ℕ)) →
         ((ps : List Pair) → pairs_of (of ps) ≡ ps) →
-        ((ps : List Pair) → AreTimed p.semaphores ps → StepFits p.semaphores (of ps)) →
+        ((ps : List Pair) → AreTimed p.version p.semaphores ps →
+        StepFits p.version p.semaphores (of ps)) →
         are_pairs words ≡ true →
         option_map (λ ps. TakeHostStep (of ps)) (said_pairs words) ≡ Some s → May p s
     pairs_follow of words own fits m i = by_pairs (said_pairs words) refl i
@@ -159,12 +166,12 @@ module _ (before : List Line) (p : Parts) (h : Say before p) where
             (λ l. fits ps (record {
               all = pairs_found words ps e;
               some_pairs = some_found words ps m e;
-              few = subst (λ (qs : List Pair). length qs ≤ 16) (own ps) l;
+              few = subst (λ (qs : List Pair). length qs ≤ (limits_of p.version).pairs) (own ps) l;
             }))
 
     -- one that names a timeline or a fence
     name_follows : (of : ℕ → HostStep) (o : Option ℕ) →
-        ((t : ℕ) → o ≡ Some t → StepFits p.semaphores (of t)) →
+        ((t : ℕ) → o ≡ Some t → StepFits p.version p.semaphores (of t)) →
         option_map (λ t. TakeHostStep (of t)) o ≡ Some s → May p s
     name_follows of None fits i = absurd (let c : None ≡ Some s = i in cc)
     name_follows of (Some t) fits i = step_follows (of t) (cc) (λ l. fits t refl)

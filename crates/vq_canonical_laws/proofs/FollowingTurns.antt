@@ -14,9 +14,9 @@ use Rattle.vq_model.specs.declared.statement.Statement.{Statement}
 use Rattle.vq_model.specs.declared.statement.Statement.TheVariants.{TakeTurns}
 use Rattle.vq_model.specs.declared.script.ActorName.{ActorName}
 use Rattle.vq_model.specs.declared.script.ActorName.TheVariants.{Host as HostActor, Submit as SubmitActor, Ring as RingActor}
-use Rattle.vq_model.specs.declared.script.Queue.{Queue}
 use Rattle.vq_model.specs.declared.script.Turn.{Turn}
 use Rattle.vq_model.specs.Context.{queues, is_threaded, turns_of}
+use Rattle.vq_model.specs.Limits.{limits_of}
 use Rattle.vq_model.specs.Forms.{forms_in_schedule}
 use Rattle.vq_model.specs.LineFaults.{fault_of, is_in_range}
 use Rattle.vq_model.specs.Meaning.{actor_at, is_marked, of_two, matches, forms_at, meaning}
@@ -29,10 +29,10 @@ use Rattle.vq_model.specs.LineFaults.{passes_limit}
 use Rattle.vq_model.specs.Forms.{QueueName, ThreadedName}
 use Rattle.std.specs.List.{flat_map}
 use Rattle.vq_model.proofs.Options.{same_some}
-use Rattle.vq_reading_laws.proofs.Cited.{found_passes, built_found, found_belongs, forms_in, turns_counted}
+use Rattle.vq_reading_laws.proofs.Cited.{found_passes, found_belongs, forms_in, turns_counted}
 use Rattle.vq_canonical_laws.proofs.LineTests.{PassesTests, tests_passed}
 use Rattle.vq_canonical_laws.proofs.NamedParts.{position_passes}
-use Rattle.vq_canonical_laws.proofs.SaidContext.{position_same}
+use Rattle.vq_canonical_laws.proofs.SaidContext.{most_before, position_same}
 use Rattle.vq_canonical_laws.proofs.ScriptParts.{Parts}
 use Rattle.vq_canonical_laws.proofs.ScheduleParts.{IsActorIn, SaySchedule}
 
@@ -42,14 +42,14 @@ takes_turns TurnLine = true
 takes_turns TurnsLine = true
 takes_turns other = false
 
--- A statement takes turns of an actor of these queues, one at least, after so many turns.
-pub record Takes (qs : List Queue) (turns : ℕ) (s : Statement) : Type 0 where
+-- A statement takes turns of an actor of these parts, one at least, after so many turns.
+pub record Takes (p : Parts) (turns : ℕ) (s : Statement) : Type 0 where
   pub actor : ActorName
   pub count : ℕ
   pub is : TakeTurns actor count ≡ s
-  pub exists : IsActorIn qs actor
+  pub exists : IsActorIn p.queues actor
   pub some_turns : 0 < count
-  pub few : turns + count ≤ 65536
+  pub few : turns + count ≤ (limits_of p.version).turns
 
 -- the queues of lines, and their turns
 module _ (before : List Line) (p : Parts) (turns : List Turn) (h : SaySchedule before p turns) where
@@ -122,7 +122,7 @@ module _ (before : List Line) (p : Parts) (turns : List Turn) (h : SaySchedule b
     takes : (a : ActorName) (n : ℕ) (s : Statement) → IsActorIn p.queues a →
         is_in_range (earlier before) s ≡ true →
         passes_limit (earlier before) s ≡ false → TakeTurns a n ≡ s →
-        Takes p.queues (length turns) s
+        Takes p (length turns) s
     takes a n s exists ranged limited same =
         let r : is_in_range (earlier before) (TakeTurns a n) ≡ true =
         subst (λ (z : Statement). is_in_range (earlier before) z ≡ true) (sym same) ranged in
@@ -130,7 +130,9 @@ module _ (before : List Line) (p : Parts) (turns : List Turn) (h : SaySchedule b
         subst (λ (z : Statement). passes_limit (earlier before) z ≡ false)
         (sym same) limited in
         let few =
-        ltb-false 65536 (sum (map (λ (line : Line). turns_of line.statement) before) + n) l in
+        ltb-false (most_before before).turns
+        (sum (map (λ (line : Line). turns_of line.statement) before) + n) l in
+        let most = ap (λ (v : ℕ). (limits_of v).turns) h.version in
         let counted = turns_said in
         record {
           actor = a;
@@ -142,23 +144,23 @@ module _ (before : List Line) (p : Parts) (turns : List Turn) (h : SaySchedule b
         }
 
     turn_takes : (words : List (List ℕ)) (s : Statement) → matches words TurnLine ≡ true →
-        PassesTests form before words TurnLine s → Takes p.queues (length turns) s
+        PassesTests form before words TurnLine s → Takes p (length turns) s
     turn_takes (word ∷ []) s m t = by_actor (actor_at (number_at before) word) refl t.said
       where
         by_actor : (o : Option ActorName) → actor_at (number_at before) word ≡ o →
-            option_map (λ a. TakeTurns a 1) o ≡ Some s → Takes p.queues (length turns) s
+            option_map (λ a. TakeTurns a 1) o ≡ Some s → Takes p (length turns) s
         by_actor None e g = absurd (let c : None ≡ Some s = g in cc)
         by_actor (Some a) e g =
             takes a 1 s (actor_said word a e) t.ranged t.limited (same_some (TakeTurns a 1) s g)
     turn_takes words s m t = absurd (false≢true m)
 
     turns_take : (words : List (List ℕ)) (s : Statement) → matches words TurnsLine ≡ true →
-        PassesTests form before words TurnsLine s → Takes p.queues (length turns) s
+        PassesTests form before words TurnsLine s → Takes p (length turns) s
     turns_take (word ∷ count ∷ []) s m t =
         by_actor (actor_at (number_at before) word) (numeral count) refl t.said
       where
         by_actor : (o : Option ActorName) (n : Option ℕ) → actor_at (number_at before) word ≡ o →
-            of_two (λ a k. TakeTurns a k) o n ≡ Some s → Takes p.queues (length turns) s
+            of_two (λ a k. TakeTurns a k) o n ≡ Some s → Takes p (length turns) s
         by_actor None n e g = absurd (let c : None ≡ Some s = g in cc)
         by_actor (Some a) None e g = absurd (let c : None ≡ Some s = g in cc)
         by_actor (Some a) (Some n) e g =
@@ -167,20 +169,19 @@ module _ (before : List Line) (p : Parts) (turns : List Turn) (h : SaySchedule b
 
     by_form : (f : LineForm) (words : List (List ℕ)) (s : Statement) → takes_turns f ≡ true →
         matches words f ≡ true → PassesTests form before words f s →
-        Takes p.queues (length turns) s
+        Takes p (length turns) s
     by_form TurnLine words s g m t = turn_takes words s m t
     by_form TurnsLine words s g m t = turns_take words s m t
     by_form f words s g m t = absurd (false≢true g)
 
     -- A line without a fault takes turns.
     pub turns_follow : (words : List (List ℕ)) (s : Statement) → fault_of form before words ≡ None →
-        meaning form before words ≡ Some s → Takes p.queues (length turns) s
+        meaning form before words ≡ Some s → Takes p (length turns) s
     turns_follow words s e m =
         let t = tests_passed form before words s e m in
-        let found = built_found (find (matches words) (forms_at form before)) t.0 t.1.found in
         let here : find (matches words) forms_in_schedule ≡ Some t.0 =
         sym (ap (λ (was : Section). find (matches words) (forms_in form before was)) h.part)
-        ∙ found in
+        ∙ t.1.found in
         by_form t.0 words s
         (found_belongs (matches words) takes_turns forms_in_schedule t.0 refl here)
-        (found_passes (matches words) (forms_at form before) t.0 found) t.1
+        (found_passes (matches words) (forms_at form before) t.0 t.1.found) t.1

@@ -17,6 +17,9 @@ use Rattle.vq_model.specs.declared.script.Pair.{Pair}
 use Rattle.vq_model.specs.declared.script.Semaphore.{Semaphore}
 use Rattle.vq_model.specs.Canonical.{pair_words, step_words}
 use Rattle.vq_model.specs.Context.{is_timeline, is_fence, section, open_batch, some, count}
+use Rattle.vq_model.specs.Limits.{limits_of}
+use Rattle.vq_model.specs.declared.limits.Limits.{Limits}
+use Rattle.vq_canonical_laws.proofs.SaidContext.{most_before, most_said}
 use Rattle.vq_model.specs.Forms.{Slot, FenceName, places}
 use Rattle.vq_model.specs.LineFaults.{is_shaped, is_numeric, is_known, is_new, is_out_of_order}
 use Rattle.vq_model.specs.Meaning.{form_of, of_two, open_places, pair_places, pairs_at, statement_of}
@@ -75,7 +78,8 @@ module _ (form : Form) (before : List Line) (p : Parts) (h : Say before p) (name
     in_order : (some (λ s. nat_lt 0 (part_of s)) (open_batch before) || false) ≡ false
     limited : passes_limit (earlier before) (TakeHostStep step) ≡ false
 
-  few_pairs : (step : HostStep) → StepFits p.semaphores step → length (pairs_of step) ≤ 16
+  few_pairs : (step : HostStep) → StepFits p.version p.semaphores step →
+      length (pairs_of step) ≤ (limits_of p.version).pairs
   few_pairs (WaitAll pairs) f = f.few
   few_pairs (WaitAny pairs) f = f.few
   few_pairs (PollAll pairs) f = f.few
@@ -90,6 +94,9 @@ module _ (form : Form) (before : List Line) (p : Parts) (h : Say before p) (name
   step_passes : (step : HostStep) → MayStep p step → PassesAsStep step
   step_passes step m =
       let few = m.few in
+      let most = ap (λ (l : Limits). l.jobs) (most_said before p h) in
+      let most_pairs = ap (λ (l : Limits). l.pairs) (most_said before p h) in
+      let short = few_pairs step m.fits in
       let jobs : count is_job before ≡ length p.jobs =
       h.job_count ∙ ap (λ (b : Option Told). count_jobs p.jobs b) m.outside in
       let opened : some (λ s. nat_lt 0 (part_of s)) (open_batch before) ≡ false =
@@ -98,9 +105,10 @@ module _ (form : Form) (before : List Line) (p : Parts) (h : Say before p) (name
         part = h.part ∙ ap part_of_batch m.outside;
         in_order = or_from (some (λ s. nat_lt 0 (part_of s)) (open_batch before)) false opened refl;
         limited =
-            or_from (not (nat_lt (count is_job before) 4096)) (nat_lt 16 (length (pairs_of step)))
-            (not_over (count is_job before) 4096 (omega arith))
-            (not_past 16 (length (pairs_of step)) (few_pairs step m.fits));
+            or_from (not (nat_lt (count is_job before) (most_before before).jobs))
+            (nat_lt (most_before before).pairs (length (pairs_of step)))
+            (not_over (count is_job before) (most_before before).jobs (omega arith))
+            (not_past (most_before before).pairs (length (pairs_of step)) (omega arith));
       }
 
   -- Steps of one name

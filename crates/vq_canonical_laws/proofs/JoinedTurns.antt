@@ -1,9 +1,7 @@
 -- Neighbouring turns of one actor are one line, which stands for as many turns.
-use Rattle.std.proofs.Common.{◌≡◌, ℕ, ◌+◌, ◌<◌, Bool, true, false, cond, List, [], ◌∷◌, ◌++◌, map, replicate, suc, refl, sym, ap, ◌∙◌, arith}
+use Rattle.std.proofs.Common.{◌≡◌, ◌+◌, ◌<◌, Bool, true, false, cond, List, [], ◌∷◌, ◌++◌, map, replicate, suc, refl, sym, ap, ◌∙◌, arith}
 use Rattle.std.specs.List.{AllByRecursion as Every, flat_map}
-use Rattle.std.proofs.lemmas.Bool.{eqb-true}
 use Rattle.vq_model.specs.declared.script.ActorName.{ActorName}
-use Rattle.vq_model.specs.declared.script.ActorName.TheVariants.{Host as HostActor, Submit as SubmitActor, Ring as RingActor}
 use Rattle.vq_model.specs.declared.script.Turn.{Turn}
 use Rattle.vq_model.specs.declared.script.Queue.{Queue}
 use Rattle.vq_model.specs.Canonical.{Turns, with_turn, joined_turns}

@@ -5,6 +5,7 @@ mod CanonicalLaws
 mod CanonicalOrder
 mod CanonicalReads
 pub mod Cited
+mod CanonicalRows
 mod CommandLines
 mod DeclarationLines
 mod FittingBatches
@@ -13,6 +14,7 @@ mod FittingScripts
 mod FollowingLines
 mod FollowingSteps
 mod FollowingTurns
+mod HeldWaits
 mod HostLines
 mod JoinedTurns
 mod LineTests
@@ -30,6 +32,8 @@ mod ScriptParts
 mod SilentStatements
 mod StatementPushes
 mod ToldBatches
+mod UpgradedScripts
+mod VersionLines
 mod WrittenLines
 mod WrittenNumbers
 mod WrittenTexts

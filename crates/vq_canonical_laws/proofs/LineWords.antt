@@ -1,5 +1,5 @@
 -- The canonical words of a statement after lines that say parts, and the form of words.
-use Rattle.std.proofs.Common.{[], None, ℕ, List, ◌∷◌, ◌≡◌, true, Ok, length, refl, ◌<◌, false, not, ap, ◌≤◌, arith, Bool, cond, ◌++◌, find, Option, Some, ◌∙◌, ◌||◌}
+use Rattle.std.proofs.Common.{[], None, ℕ, List, ◌∷◌, ◌≡◌, true, Ok, length, refl, ◌<◌, false, not, ap, ◌≤◌, arith, Bool, cond, ◌++◌, find, Option, Some, ◌∙◌, ◌||◌, ◌==◌}
 use Rattle.vq_model.specs.declared.script.Script.{Script}
 use Rattle.vq_canonical_laws.proofs.ScriptParts.{Parts, parts, script_of_parts, a_buffer, a_semaphore, a_queue, Told, Say}
 use Rattle.std.specs.Prelude.{codes, nat_lt}
@@ -20,7 +20,7 @@ use Rattle.vq_model.specs.declared.statement.LineForm.{LineForm}
 use Rattle.vq_model.specs.declared.statement.LineForm.TheVariants.{VersionLine}
 use Rattle.vq_model.specs.Forms.{forms_outside, forms_in_batch, held_forms, schedule_forms}
 use Rattle.vq_model.specs.Context.{section, version_of, open_batch, some}
-use Rattle.vq_model.specs.Meaning.{matches, where_built, form_of, first_forms}
+use Rattle.vq_model.specs.Meaning.{matches, form_of, first_forms}
 use Rattle.vq_model.specs.Context.{part_of}
 use Rattle.vq_model.specs.Naming.{queue_name}
 use Rattle.vq_reading_laws.proofs.Cited.{forms_in}
@@ -30,7 +30,7 @@ use Rattle.vq_canonical_laws.proofs.SaidContext.{some_said}
 
 -- the script that parts declare, without jobs
 abbrev pub declared_script : Parts → Script
-declared_script p = script_of_parts (parts p.buffers p.semaphores p.queues [] None)
+declared_script p = script_of_parts (parts p.version p.buffers p.semaphores p.queues [] None)
 
 -- the canonical words of a statement after lines that say these parts
 abbrev pub words_at : Parts → Statement → List (List ℕ)
@@ -90,17 +90,14 @@ not_past a b l = false_from_ne_true (nat_lt a b) (λ e. let m = ltb-true a b e i
 module _ (form : Form) (before : List Line) (words : List (List ℕ)) where
   -- the form of words in a part of the text
   pub form_in : (was : Section) → section before ≡ was →
-      form_of form before words ≡ where_built
-      (find (matches words) (forms_in form before was))
-  form_in was e =
-      ap (λ (w : Section). where_built (find (matches words) (forms_in form before w))) e
+      form_of form before words ≡ find (matches words) (forms_in form before was)
+  form_in was e = ap (λ (w : Section). find (matches words) (forms_in form before w)) e
 
   -- outside a batch; no line but the first may name the version
   pub form_outside : (o : Option LineForm) → section before ≡ Outside →
       matches words VersionLine ≡ false → find (matches words) (forms_outside ++ schedule_forms form) ≡ o →
-      form_of form before words ≡ where_built o
-  form_outside o e unnamed h =
-      form_in Outside e ∙ ap where_built (by_lines before ∙ h)
+      form_of form before words ≡ o
+  form_outside o e unnamed h = form_in Outside e ∙ (by_lines before ∙ h)
     where
       by_lines : (ls : List Line) → find (matches words) (first_forms ls ++ forms_outside ++ schedule_forms form)
           ≡ find (matches words) (forms_outside ++ schedule_forms form)
@@ -109,14 +106,23 @@ module _ (form : Form) (before : List Line) (words : List (List ℕ)) where
           unnamed
       by_lines (l ∷ ls) = refl
 
-  -- in a batch of version 1
-  pub form_inside : (o : Option LineForm) → section before ≡ InBatch → version_of before ≡ 1 →
-      find (matches words) forms_in_batch ≡ o → form_of form before words ≡ where_built o
-  form_inside o e version h =
+  -- in a batch: words that name no place in it are of one form in both versions
+  pub form_inside : (o : Option LineForm) → section before ≡ InBatch →
+      find (matches words) (held_forms 2 ++ forms_in_batch) ≡ find (matches words) forms_in_batch →
+      find (matches words) forms_in_batch ≡ o → form_of form before words ≡ o
+  form_inside o e unheld h = form_in InBatch e ∙ (by_version (version_of before == 2) ∙ h)
+    where
+      by_version : (b : Bool) → find (matches words) (cond b (held_forms 2) [] ++ forms_in_batch)
+          ≡ find (matches words) forms_in_batch
+      by_version true = unheld
+      by_version false = refl
+
+  -- in a batch of version 2
+  pub form_held : (o : Option LineForm) → section before ≡ InBatch → version_of before ≡ 2 →
+      find (matches words) (held_forms 2 ++ forms_in_batch) ≡ o → form_of form before words ≡ o
+  form_held o e version h =
       form_in InBatch e
-      ∙ (ap (λ (v : ℕ). where_built (find (matches words) (held_forms v ++ forms_in_batch)))
-      version
-      ∙ ap where_built h)
+      ∙ (ap (λ (v : ℕ). find (matches words) (held_forms v ++ forms_in_batch)) version ∙ h)
 
 -- The open batch
 

@@ -232,8 +232,8 @@ pub record AreNamed (p : Parts) : Type 0 where
   pub queue_names : AllNamed (λ q. q.name) p.queues
 
 -- no parts
-pub nothing_named : AreNamed no_parts
-nothing_named =
+pub nothing_named : (v : ℕ) → AreNamed (no_parts v)
+nothing_named v =
     record {
       buffer_names = λ k b h. absurd (let c : None ≡ Some b = h in cc);
       semaphore_names = λ k s h. absurd (let c : None ≡ Some s = h in cc);

@@ -69,14 +69,14 @@ more_semaphores bs ss name kind other qs f e =
     }
 
 -- queues follow as well after these buffers and semaphores
-queues_as_well : (bs cs : List Buffer) (ss ts : List Semaphore) (name : List ℕ) →
+queues_as_well : (v : ℕ) (bs cs : List Buffer) (ss ts : List Semaphore) (name : List ℕ) →
     AreMore name bs ss cs ts → (start qs end : List Queue) →
     list_any (λ q. bytes_eq name q.name) qs ≡ false →
-    Leads (declarations bs ss start) (queue_statements qs) (declarations bs ss end) →
-    Leads (declarations cs ts start) (queue_statements qs) (declarations cs ts end)
-queues_as_well bs cs ss ts name more start [] end apart l =
-    ap (λ (p : Parts). declarations cs ts p.queues) l
-queues_as_well bs cs ss ts name more start (q ∷ qs) end apart l =
+    Leads (declarations v bs ss start) (queue_statements qs) (declarations v bs ss end) →
+    Leads (declarations v cs ts start) (queue_statements qs) (declarations v cs ts end)
+queues_as_well v bs cs ss ts name more start [] end apart l =
+    ap (λ (p : Parts). declarations v cs ts p.queues) l
+queues_as_well v bs cs ss ts name more start (q ∷ qs) end apart l =
     let one = or_parts (bytes_eq name q.name) (list_any (λ x. bytes_eq name x.name) qs) apart in
     let m = l.0 in (
       record {
@@ -88,18 +88,18 @@ queues_as_well bs cs ss ts name more start (q ∷ qs) end apart l =
             (same_names name q.name one.0));
         few = m.few;
       },
-      queues_as_well bs cs ss ts name more (start ++ a_queue q.name q.mode ∷ []) qs end one.1 l.1,
+      queues_as_well v bs cs ss ts name more (start ++ a_queue q.name q.mode ∷ []) qs end one.1 l.1,
     )
 
 -- semaphores follow as well after one more buffer
-semaphores_as_well : (bs : List Buffer) (name : List ℕ) (size : ℕ)
+semaphores_as_well : (v : ℕ) (bs : List Buffer) (name : List ℕ) (size : ℕ)
     (start ss end : List Semaphore) → list_any (λ s. bytes_eq name s.name) ss ≡ false →
-    Leads (declarations bs start []) (semaphore_statements ss) (declarations bs end []) →
-    Leads (declarations (bs ++ a_buffer name size ∷ []) start []) (semaphore_statements ss)
-    (declarations (bs ++ a_buffer name size ∷ []) end [])
-semaphores_as_well bs name size start [] end apart l =
-    ap (λ (p : Parts). declarations (bs ++ a_buffer name size ∷ []) p.semaphores []) l
-semaphores_as_well bs name size start (s ∷ ss) end apart l =
+    Leads (declarations v bs start []) (semaphore_statements ss) (declarations v bs end []) →
+    Leads (declarations v (bs ++ a_buffer name size ∷ []) start []) (semaphore_statements ss)
+    (declarations v (bs ++ a_buffer name size ∷ []) end [])
+semaphores_as_well v bs name size start [] end apart l =
+    ap (λ (p : Parts). declarations v (bs ++ a_buffer name size ∷ []) p.semaphores []) l
+semaphores_as_well v bs name size start (s ∷ ss) end apart l =
     let one = or_parts (bytes_eq name s.name) (list_any (λ x. bytes_eq name x.name) ss) apart in
     let m = l.0 in (
       record {
@@ -112,23 +112,24 @@ semaphores_as_well bs name size start (s ∷ ss) end apart l =
         few = m.few;
         small = m.small;
       },
-      semaphores_as_well bs name size (start ++ a_semaphore s.name s.kind ∷ []) ss end one.1 l.1,
+      semaphores_as_well v bs name size (start ++ a_semaphore s.name s.kind ∷ []) ss end one.1 l.1,
     )
 
-module _ (bs : List Buffer) (ss : List Semaphore) (qs : List Queue)
-    (o : IsOrdered (declarations bs ss qs)) where
+module _ (v : ℕ) (bs : List Buffer) (ss : List Semaphore) (qs : List Queue)
+    (o : IsOrdered (declarations v bs ss qs)) where
   -- one more buffer
-  pub ordered_buffer : (name : List ℕ) (size : ℕ) → MayBuffer (declarations bs ss qs) name size →
-      IsOrdered (declarations (bs ++ a_buffer name size ∷ []) ss qs)
+  pub ordered_buffer : (name : List ℕ) (size : ℕ) → MayBuffer (declarations v bs ss qs) name size →
+      IsOrdered (declarations v (bs ++ a_buffer name size ∷ []) ss qs)
   ordered_buffer name size m =
       let f = is_fresh bs ss qs name m.fresh in
       record {
+        of_a_version = o.of_a_version;
         buffers_first =
-            subst (λ (xs : List Statement). Leads no_parts xs
-            (declarations (bs ++ a_buffer name size ∷ []) [] []))
+            subst (λ (xs : List Statement). Leads (no_parts v) xs
+            (declarations v (bs ++ a_buffer name size ∷ []) [] []))
             (sym (map-append (λ (b : Buffer). DeclareBuffer b.name b.size) bs
             (a_buffer name size ∷ [])))
-            (leads_push no_parts (declarations bs [] []) (buffer_statements bs)
+            (leads_push (no_parts v) (declarations v bs [] []) (buffer_statements bs)
             (DeclareBuffer name size) o.buffers_first
             (record {
               outside = refl;
@@ -141,27 +142,28 @@ module _ (bs : List Buffer) (ss : List Semaphore) (qs : List Queue)
               bytes = m.bytes;
             }));
         semaphores_next =
-            semaphores_as_well bs name size [] ss ss f.no_semaphore o.semaphores_next;
+            semaphores_as_well v bs name size [] ss ss f.no_semaphore o.semaphores_next;
         queues_next =
-            queues_as_well bs (bs ++ a_buffer name size ∷ []) ss ss name
+            queues_as_well v bs (bs ++ a_buffer name size ∷ []) ss ss name
             (more_buffers bs ss name size) [] qs qs f.no_queue o.queues_next;
         batches_last = refl;
       }
 
   -- one more semaphore
   pub ordered_semaphore : (name : List ℕ) (kind : SemaphoreKind) →
-      MaySemaphore (declarations bs ss qs) name kind →
-      IsOrdered (declarations bs (ss ++ a_semaphore name kind ∷ []) qs)
+      MaySemaphore (declarations v bs ss qs) name kind →
+      IsOrdered (declarations v bs (ss ++ a_semaphore name kind ∷ []) qs)
   ordered_semaphore name kind m =
       let f = is_fresh bs ss qs name m.fresh in
       record {
+        of_a_version = o.of_a_version;
         buffers_first = o.buffers_first;
         semaphores_next =
-            subst (λ (xs : List Statement). Leads (declarations bs [] []) xs
-            (declarations bs (ss ++ a_semaphore name kind ∷ []) []))
+            subst (λ (xs : List Statement). Leads (declarations v bs [] []) xs
+            (declarations v bs (ss ++ a_semaphore name kind ∷ []) []))
             (sym (map-append (λ (s : Semaphore). DeclareSemaphore s.name s.kind) ss
             (a_semaphore name kind ∷ [])))
-            (leads_push (declarations bs [] []) (declarations bs ss []) (semaphore_statements ss)
+            (leads_push (declarations v bs [] []) (declarations v bs ss []) (semaphore_statements ss)
             (DeclareSemaphore name kind) o.semaphores_next
             (record {
               outside = refl;
@@ -177,24 +179,25 @@ module _ (bs : List Buffer) (ss : List Semaphore) (qs : List Queue)
               small = m.small;
             }));
         queues_next =
-            queues_as_well bs bs ss (ss ++ a_semaphore name kind ∷ []) name
+            queues_as_well v bs bs ss (ss ++ a_semaphore name kind ∷ []) name
             (more_semaphores bs ss name kind) [] qs qs f.no_queue o.queues_next;
         batches_last = refl;
       }
 
   -- one more queue
-  pub ordered_queue : (name : List ℕ) (mode : Mode) → MayQueue (declarations bs ss qs) name mode →
-      IsOrdered (declarations bs ss (qs ++ a_queue name mode ∷ []))
+  pub ordered_queue : (name : List ℕ) (mode : Mode) → MayQueue (declarations v bs ss qs) name mode →
+      IsOrdered (declarations v bs ss (qs ++ a_queue name mode ∷ []))
   ordered_queue name mode m =
       record {
+        of_a_version = o.of_a_version;
         buffers_first = o.buffers_first;
         semaphores_next = o.semaphores_next;
         queues_next =
-            subst (λ (xs : List Statement). Leads (declarations bs ss []) xs
-            (declarations bs ss (qs ++ a_queue name mode ∷ [])))
+            subst (λ (xs : List Statement). Leads (declarations v bs ss []) xs
+            (declarations v bs ss (qs ++ a_queue name mode ∷ [])))
             (sym (map-append (λ (q : Queue). DeclareQueue q.name q.mode) qs
             (a_queue name mode ∷ [])))
-            (leads_push (declarations bs ss []) (declarations bs ss qs) (queue_statements qs)
+            (leads_push (declarations v bs ss []) (declarations v bs ss qs) (queue_statements qs)
             (DeclareQueue name mode) o.queues_next m);
         batches_last = refl;
       }

@@ -9,14 +9,16 @@ use Rattle.vq_canonical_laws.proofs.ScheduleParts.{IsActorIn, SaySchedule, a_tur
 use Rattle.vq_canonical_laws.proofs.FollowingTurns.{turns_follow}
 use Rattle.vq_model.specs.declared.statement.Line.{Line}
 use Rattle.vq_canonical_laws.proofs.BatchItems.{HasItems, no_items, items_more}
-use Rattle.vq_canonical_laws.proofs.ScriptParts.{Parts, Say, no_parts, after, Told, a_job, script_of_parts, continued, part_of_batch}
+use Rattle.vq_canonical_laws.proofs.ScriptParts.{Parts, Say, no_parts, IsVersion, after, Told, a_job, script_of_parts, continued, part_of_batch}
 use Rattle.vq_canonical_laws.proofs.CanonicalOrder.{IsOrdered}
-use Rattle.vq_canonical_laws.proofs.PartsSaid.{say_nothing, say_more}
+use Rattle.vq_canonical_laws.proofs.PartsSaid.{say_nothing, say_version, say_more}
 use Rattle.std.specs.Prelude.{Result}
 use Rattle.vq_model.specs.declared.statement.FaultKind.{FaultKind}
 use Rattle.std.specs.Option.{option_map_or}
 use Rattle.vq_model.specs.declared.statement.Form.{Form}
 use Rattle.vq_model.specs.declared.statement.Statement.{Statement}
+use Rattle.vq_model.specs.declared.statement.Statement.TheVariants.{HasVersion}
+use Rattle.vq_model.specs.Limits.{limits_of}
 use Rattle.vq_model.specs.Meaning.{meaning}
 use Rattle.vq_model.specs.LineFaults.{fault_of, ends_early}
 use Rattle.vq_model.specs.Reading.{with_line, without_fault, read_statement, read_line, read_lines, go_on, StandsFor}
@@ -42,19 +44,21 @@ record SayOrdered (before : List Line) : Type 0 where
   ordered : IsOrdered said
   items : HasItems said
 
--- no lines
-nothing_ordered : SayOrdered []
-nothing_ordered =
+-- lines that say the version alone, or nothing
+version_ordered : (before : List Line) (v : ℕ) → IsVersion v → Say before (no_parts v) →
+    SayOrdered before
+version_ordered before v is say =
     record {
-      said = no_parts;
-      say = say_nothing;
+      said = no_parts v;
+      say = say;
       ordered = record {
+        of_a_version = is;
         buffers_first = refl;
         semaphores_next = refl;
         queues_next = refl;
         batches_last = refl;
       };
-      items = no_items;
+      items = no_items v;
     }
 
 same_lines : (a b : List Line) → ◌≡◌ {A = Result (List Line) FaultKind} (Ok a) (Ok b) → a ≡ b
@@ -69,7 +73,7 @@ record SayScheduled (before : List Line) : Type 0 where
   turns : List Turn
   say : SaySchedule before said turns
   actors : Every (λ t. IsActorIn said.queues t.actor) turns
-  few : length turns ≤ 65536
+  few : length turns ≤ (limits_of said.version).turns
 
 -- lines without a schedule, or with one
 abbrev SayText : List Line → Type 0
@@ -93,17 +97,22 @@ text_more form before n words s e m (inl k) =
         ordered = ordered_more k.said k.ordered s may;
         items = items_more k.said s k.items may;
       })
-      | inr begins ↦ inr (subst (λ (z : Statement). SayScheduled (with_line before n z))
-          (sym begins.0) (record {
-            said = k.said;
-            ordered = k.ordered;
-            items = k.items;
-            closed = begins.1;
-            turns = [];
-            say = schedule_begins before n k.said k.say begins.1;
-            actors = tt;
-            few = omega arith;
-          }))
+      | inr other ↦ elim other [
+        | inl begins ↦ inr (subst (λ (z : Statement). SayScheduled (with_line before n z))
+            (sym begins.0) (record {
+              said = k.said;
+              ordered = k.ordered;
+              items = k.items;
+              closed = begins.1;
+              turns = [];
+              say = schedule_begins before n k.said k.say begins.1;
+              actors = tt;
+              few = omega arith;
+            }))
+        | inr names ↦ inl (subst (λ (z : List Line × Statement). SayOrdered (with_line z.0 n z.1))
+            (λ i. (sym names.1 i, sym names.0 i))
+            (version_ordered (with_line [] n (HasVersion 2)) 2 (inr refl) (say_version n)))
+      ]
     ]
 text_more form before n words s e m (inr k) =
     let t = turns_follow before k.said k.turns k.say form words s e m in
@@ -204,7 +213,7 @@ pub record HasParts (s : Script) : Type 0 where
   pub turns : List Turn
   pub lineless : map turn_without_line turns ≡ turns
   pub actors : Every (λ t. IsActorIn said.queues t.actor) turns
-  pub few : length turns ≤ 65536
+  pub few : length turns ≤ (limits_of said.version).turns
   pub none : scheduled ≡ false → turns ≡ []
   pub same : without_lines s ≡ scheduled_script said scheduled turns
 
@@ -271,6 +280,7 @@ text_has_parts text form s h = by_result (read_lines form [] 1 (lines_of text)) 
     by_result : (r : Result (List Line) (ℕ × FaultKind)) →
         read_lines form [] 1 (lines_of text) ≡ r → of_lines r ≡ Ok s → HasParts s
     by_result (Ok lines) e h =
-        let k = ordered_lines form [] 1 (lines_of text) lines (inl nothing_ordered) e in
+        let k = ordered_lines form [] 1 (lines_of text) lines
+        (inl (version_ordered [] 1 (inl refl) say_nothing)) e in
         subst HasParts (same_script (script_of lines) s h) (by_text lines k.0 k.1)
     by_result (Err fault) e h = absurd (cc)

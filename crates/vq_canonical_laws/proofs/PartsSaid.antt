@@ -4,7 +4,7 @@ use Rattle.std.specs.Prelude.{sum, nat_lt}
 use Rattle.std.proofs.lemmas.List.{map-append}
 use Rattle.std.proofs.lemmas.List.Sums.{sum_by-append, sum_by-cons}
 use Rattle.vq_model.specs.declared.statement.Statement.{Statement}
-use Rattle.vq_model.specs.declared.statement.Statement.TheVariants.{BeginBatch, EndBatch, DeclareBuffer, DeclareSemaphore, DeclareQueue, AddWait, AddCommand, AddSignal, AddFence, TakeHostStep}
+use Rattle.vq_model.specs.declared.statement.Statement.TheVariants.{BeginBatch, EndBatch, DeclareBuffer, DeclareSemaphore, DeclareQueue, AddWait, AddCommand, AddSignal, AddFence, TakeHostStep, HasVersion}
 use Rattle.vq_model.specs.declared.script.HostStep.{HostStep}
 use Rattle.vq_model.specs.declared.statement.Line.{Line}
 use Rattle.vq_model.specs.declared.script.Buffer.{Buffer}
@@ -32,12 +32,12 @@ commands_push jobs job =
     ∙ ap (λ (k : ℕ). commands_of jobs + k) (sum_by-cons (λ (x : ℕ). x) (commands_told job) []
     ∙ omega arith))
 
-module _ (before : List Line) (n : ℕ) (bs : List Buffer) (ss : List Semaphore) (qs : List Queue)
+module _ (before : List Line) (n v : ℕ) (bs : List Buffer) (ss : List Semaphore) (qs : List Queue)
     (jobs : List ToldJob) where
   -- a statement is added to the open batch
   added : (s : Statement) (q : ℕ) (told : List Statement) → IsSilent n s →
-      Say before (parts bs ss qs jobs (Some (q, told))) →
-      Say (with_line before n s) (parts bs ss qs jobs (Some (q, told ++ s ∷ [])))
+      Say before (parts v bs ss qs jobs (Some (q, told))) →
+      Say (with_line before n s) (parts v bs ss qs jobs (Some (q, told ++ s ∷ [])))
   added s q told silent h =
       let quiet = silent.quiet in
       let jc = count_push is_job before n s in
@@ -51,7 +51,7 @@ module _ (before : List Line) (n : ℕ) (bs : List Buffer) (ss : List Semaphore)
       ap (λ (b : Bool). cond b [] (open_batch before ++ a_line n s ∷ [])) quiet.bounds_none in
       record {
         part = section_push before n s ∙ (quiet.stays (section before) ∙ h.part);
-        version = version_push before n s quiet.version h.version;
+        version = version_push before n s quiet.version ∙ h.version;
         buffers_are = buffers_push before n s bs h.buffers_are
             ∙ (ap (λ (xs : List Buffer). bs ++ map buffer_without_line xs) silent.no_buffer
             ∙ append-nil bs);
@@ -98,8 +98,8 @@ module _ (before : List Line) (n : ℕ) (bs : List Buffer) (ss : List Semaphore)
           ∷ map job_without_lines (silent.quiet.same_jobs more i)
 
   -- a batch begins
-  begins : (q : ℕ) → Say before (parts bs ss qs jobs None) →
-      Say (with_line before n (BeginBatch q)) (parts bs ss qs jobs (Some (q, [])))
+  begins : (q : ℕ) → Say before (parts v bs ss qs jobs None) →
+      Say (with_line before n (BeginBatch q)) (parts v bs ss qs jobs (Some (q, [])))
   begins q h =
       let jc = count_push is_job before n (BeginBatch q) in
       let jh = h.job_count in
@@ -107,7 +107,7 @@ module _ (before : List Line) (n : ℕ) (bs : List Buffer) (ss : List Semaphore)
       let ch = h.command_count in
       record {
         part = section_push before n (BeginBatch q);
-        version = version_push before n (BeginBatch q) refl h.version;
+        version = version_push before n (BeginBatch q) refl ∙ h.version;
         buffers_are = buffers_push before n (BeginBatch q) bs h.buffers_are ∙ append-nil bs;
         semaphores_are =
             semaphores_push before n (BeginBatch q) ss h.semaphores_are ∙ append-nil ss;
@@ -132,8 +132,8 @@ module _ (before : List Line) (n : ℕ) (bs : List Buffer) (ss : List Semaphore)
       has_some (t ∷ js) = refl
 
   -- a batch ends
-  ends : (q : ℕ) (told : List Statement) → Say before (parts bs ss qs jobs (Some (q, told))) →
-      Say (with_line before n EndBatch) (parts bs ss qs (jobs ++ ToldBatch (q, told) ∷ []) None)
+  ends : (q : ℕ) (told : List Statement) → Say before (parts v bs ss qs jobs (Some (q, told))) →
+      Say (with_line before n EndBatch) (parts v bs ss qs (jobs ++ ToldBatch (q, told) ∷ []) None)
   ends q told h =
       let jc = count_push is_job before n EndBatch in
       let jh = h.job_count in
@@ -143,7 +143,7 @@ module _ (before : List Line) (n : ℕ) (bs : List Buffer) (ss : List Semaphore)
       let m = commands_push jobs (ToldBatch (q, told)) in
       record {
         part = section_push before n EndBatch;
-        version = version_push before n EndBatch refl h.version;
+        version = version_push before n EndBatch refl ∙ h.version;
         buffers_are = buffers_push before n EndBatch bs h.buffers_are ∙ append-nil bs;
         semaphores_are = semaphores_push before n EndBatch ss h.semaphores_are ∙ append-nil ss;
         queues_are = queues_push before n EndBatch qs h.queues_are ∙ append-nil qs;
@@ -184,8 +184,8 @@ module _ (before : List Line) (n : ℕ) (bs : List Buffer) (ss : List Semaphore)
           ∷ map job_without_lines (jobs_of more)
 
   -- the host takes a step
-  steps : (step : HostStep) → Say before (parts bs ss qs jobs None) →
-      Say (with_line before n (TakeHostStep step)) (parts bs ss qs (jobs ++ ToldStep step ∷ []) None)
+  steps : (step : HostStep) → Say before (parts v bs ss qs jobs None) →
+      Say (with_line before n (TakeHostStep step)) (parts v bs ss qs (jobs ++ ToldStep step ∷ []) None)
   steps step h =
       let s = TakeHostStep step in
       let jc = count_push is_job before n s in
@@ -196,7 +196,7 @@ module _ (before : List Line) (n : ℕ) (bs : List Buffer) (ss : List Semaphore)
       let m = commands_push jobs (ToldStep step) in
       record {
         part = section_push before n s ∙ h.part;
-        version = version_push before n s refl h.version;
+        version = version_push before n s refl ∙ h.version;
         buffers_are = buffers_push before n s bs h.buffers_are ∙ append-nil bs;
         semaphores_are = semaphores_push before n s ss h.semaphores_are ∙ append-nil ss;
         queues_are = queues_push before n s qs h.queues_are ∙ append-nil qs;
@@ -225,9 +225,27 @@ module _ (before : List Line) (n : ℕ) (bs : List Buffer) (ss : List Semaphore)
       has_some [] = refl
       has_some (t ∷ js) = refl
 
--- No lines say no parts.
-pub say_nothing : Say [] no_parts
+-- No lines say no parts, of version 1.
+pub say_nothing : Say [] (no_parts 1)
 say_nothing =
+    record {
+      part = refl;
+      version = refl;
+      buffers_are = refl;
+      semaphores_are = refl;
+      queues_are = refl;
+      begun = refl;
+      opened = refl;
+      job_count = refl;
+      command_count = refl;
+      jobs_are = λ more. refl;
+      unscheduled = refl;
+      no_turns = refl;
+    }
+
+-- The line of version 2 says no parts of that version.
+pub say_version : (n : ℕ) → Say (with_line [] n (HasVersion 2)) (no_parts 2)
+say_version n =
     record {
       part = refl;
       version = refl;
@@ -246,17 +264,17 @@ say_nothing =
 module _ (before : List Line) (n : ℕ) (p : Parts) (h : Say before p) where
   -- before the first job
   unbegun : p.jobs ≡ [] → p.batch ≡ None →
-      Say before (parts p.buffers p.semaphores p.queues [] None)
+      Say before (parts p.version p.buffers p.semaphores p.queues [] None)
   unbegun first outside =
       subst (λ (z : List ToldJob × Option Told). Say before
-      (parts p.buffers p.semaphores p.queues z.0 z.1)) (λ i. (first i, outside i)) h
+      (parts p.version p.buffers p.semaphores p.queues z.0 z.1)) (λ i. (first i, outside i)) h
 
   -- .. and back
   back : (s : Statement) (cs : List Buffer) (ts : List Semaphore) (rs : List Queue) →
-      p.jobs ≡ [] → p.batch ≡ None → Say (with_line before n s) (parts cs ts rs [] None) →
-      Say (with_line before n s) (parts cs ts rs p.jobs p.batch)
+      p.jobs ≡ [] → p.batch ≡ None → Say (with_line before n s) (parts p.version cs ts rs [] None) →
+      Say (with_line before n s) (parts p.version cs ts rs p.jobs p.batch)
   back s cs ts rs first outside k =
-      subst (λ (z : List ToldJob × Option Told). Say (with_line before n s) (parts cs ts rs z.0 z.1))
+      subst (λ (z : List ToldJob × Option Told). Say (with_line before n s) (parts p.version cs ts rs z.0 z.1))
       (λ i. (sym first i, sym outside i)) k
 
   -- a statement of a batch
@@ -264,10 +282,10 @@ module _ (before : List Line) (n : ℕ) (p : Parts) (h : Say before p) where
       Say (with_line before n s) (after_item p s)
   item_more s silent m =
       subst (λ (b : Option Told). Say (with_line before n s)
-      (parts p.buffers p.semaphores p.queues p.jobs (with_item b s))) (sym m.inside)
-      (added before n p.buffers p.semaphores p.queues p.jobs s m.told.0 m.told.1 silent
+      (parts p.version p.buffers p.semaphores p.queues p.jobs (with_item b s))) (sym m.inside)
+      (added before n p.version p.buffers p.semaphores p.queues p.jobs s m.told.0 m.told.1 silent
       (subst (λ (b : Option Told). Say before
-      (parts p.buffers p.semaphores p.queues p.jobs b)) m.inside h))
+      (parts p.version p.buffers p.semaphores p.queues p.jobs b)) m.inside h))
 
   -- Lines that say parts say, with one statement more that may follow, the parts after it.
   pub say_more : (s : Statement) → May p s → Say (with_line before n s) (after p s)
@@ -286,7 +304,7 @@ module _ (before : List Line) (n : ℕ) (p : Parts) (h : Say before p) where
         no_schedule = refl;
         no_turn = refl;
       })
-      p.buffers (p.buffers ++ a_buffer name size ∷ []) p.semaphores p.semaphores p.queues p.queues
+      p.version p.buffers (p.buffers ++ a_buffer name size ∷ []) p.semaphores p.semaphores p.queues p.queues
       refl refl refl (append-nil p.semaphores) (append-nil p.queues) (unbegun m.first m.outside))
   say_more (DeclareSemaphore name kind) m =
       back (DeclareSemaphore name kind) p.buffers (p.semaphores ++ a_semaphore name kind ∷ [])
@@ -303,7 +321,7 @@ module _ (before : List Line) (n : ℕ) (p : Parts) (h : Say before p) where
         no_schedule = refl;
         no_turn = refl;
       })
-      p.buffers p.buffers p.semaphores (p.semaphores ++ a_semaphore name kind ∷ []) p.queues
+      p.version p.buffers p.buffers p.semaphores (p.semaphores ++ a_semaphore name kind ∷ []) p.queues
       p.queues
       refl refl (append-nil p.buffers) refl (append-nil p.queues) (unbegun m.first m.outside))
   say_more (DeclareQueue name mode) m =
@@ -321,11 +339,11 @@ module _ (before : List Line) (n : ℕ) (p : Parts) (h : Say before p) where
         no_schedule = refl;
         no_turn = refl;
       })
-      p.buffers p.buffers p.semaphores p.semaphores p.queues (p.queues ++ a_queue name mode ∷ [])
+      p.version p.buffers p.buffers p.semaphores p.semaphores p.queues (p.queues ++ a_queue name mode ∷ [])
       refl refl (append-nil p.buffers) (append-nil p.semaphores) refl (unbegun m.first m.outside))
   say_more (BeginBatch q) m =
-      begins before n p.buffers p.semaphores p.queues p.jobs q
-      (subst (λ (b : Option Told). Say before (parts p.buffers p.semaphores p.queues p.jobs b))
+      begins before n p.version p.buffers p.semaphores p.queues p.jobs q
+      (subst (λ (b : Option Told). Say before (parts p.version p.buffers p.semaphores p.queues p.jobs b))
       m.outside h)
   say_more (AddWait pair from) m = item_more (AddWait pair from) (wait_silent n pair from) m
   say_more (AddCommand c) m = item_more (AddCommand c) (command_silent n c) m
@@ -333,12 +351,12 @@ module _ (before : List Line) (n : ℕ) (p : Parts) (h : Say before p) where
   say_more (AddFence f) m = item_more (AddFence f) (fence_silent n f) m
   say_more EndBatch m =
       subst (λ (b : Option Told). Say (with_line before n EndBatch)
-      (parts p.buffers p.semaphores p.queues (with_batch p.jobs b) None)) (sym m.inside)
-      (ends before n p.buffers p.semaphores p.queues p.jobs m.told.0 m.told.1
-      (subst (λ (b : Option Told). Say before (parts p.buffers p.semaphores p.queues p.jobs b))
+      (parts p.version p.buffers p.semaphores p.queues (with_batch p.jobs b) None)) (sym m.inside)
+      (ends before n p.version p.buffers p.semaphores p.queues p.jobs m.told.0 m.told.1
+      (subst (λ (b : Option Told). Say before (parts p.version p.buffers p.semaphores p.queues p.jobs b))
       m.inside h))
   say_more (TakeHostStep step) m =
-      steps before n p.buffers p.semaphores p.queues p.jobs step
-      (subst (λ (b : Option Told). Say before (parts p.buffers p.semaphores p.queues p.jobs b))
+      steps before n p.version p.buffers p.semaphores p.queues p.jobs step
+      (subst (λ (b : Option Told). Say before (parts p.version p.buffers p.semaphores p.queues p.jobs b))
       m.outside h)
   say_more s m = absurd m

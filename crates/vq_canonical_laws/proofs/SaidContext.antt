@@ -3,7 +3,9 @@ use Rattle.std.proofs.Common.{◌≡◌, Bool, ◌||◌, List, [], ◌∷◌, ma
 use Rattle.std.specs.List.{list_any, position_or_len, position}
 use Rattle.std.specs.Prelude.{nat_lt, count_by}
 use Rattle.std.proofs.lemmas.List.{length-map}
-use Rattle.vq_model.specs.Context.{size_in}
+use Rattle.vq_model.specs.Context.{size_in, version_of}
+use Rattle.vq_model.specs.Limits.{limits_of, update_bytes}
+use Rattle.vq_model.specs.declared.limits.Limits.{Limits}
 use Rattle.vq_model.specs.declared.script.Buffer.{Buffer}
 use Rattle.vq_model.specs.SameScript.{buffer_without_line, semaphore_without_line, queue_without_line}
 use Rattle.vq_canonical_laws.proofs.ScriptParts.{sizes_in, statements_in, Told, Parts, Say, is_named, OpenLines}
@@ -67,7 +69,15 @@ count_statements test (l ∷ lines) =
 
 -- The context
 
+-- the limits of the version of lines
+abbrev pub most_before : List Line → Limits
+most_before before = limits_of (version_of before)
+
 module _ (before : List Line) (p : Parts) (h : Say before p) where
+  -- the limits of the version
+  pub most_said : most_before before ≡ limits_of p.version
+  most_said = ap (λ (v : ℕ). limits_of v) h.version
+
   -- the size of a buffer
   pub size_said : (b : ℕ) → size_in (buffers before) b ≡ size_in p.buffers b
   size_said b =
@@ -150,7 +160,7 @@ module _ (before : List Line) (p : Parts) (h : Say before p) where
   range_said (Fill b o (Count n) w) = λ i. within_said b o n i && is_aligned o && is_aligned n
   range_said (Update b o bytes) = λ i.
       within_said b o (length bytes) i && is_aligned o && is_aligned (length bytes)
-      && not (nat_lt 65536 (length bytes))
+      && not (nat_lt update_bytes (length bytes))
   range_said (Copy s from t to n) = λ i. within_said s from n i && within_said t to n i
 
   -- whether it overlaps (buffers itself)

@@ -37,7 +37,7 @@ a_turn a = record { line = 0; actor = a }
 abbrev pub scheduled_script : Parts → Bool → List Turn → Script
 scheduled_script p scheduled turns =
     record {
-      version = 1;
+      version = p.version;
       buffers = p.buffers;
       semaphores = p.semaphores;
       queues = p.queues;
@@ -49,7 +49,7 @@ scheduled_script p scheduled turns =
 -- These lines say these parts and then these turns, and nothing else.
 pub record SaySchedule (before : List Line) (p : Parts) (turns : List Turn) : Type 0 where
   pub part : section before ≡ InSchedule
-  pub version : version_of before ≡ 1
+  pub version : version_of before ≡ p.version
   pub buffers_are : map buffer_without_line (buffers before) ≡ p.buffers
   pub semaphores_are : map semaphore_without_line (semaphores before) ≡ p.semaphores
   pub queues_are : map queue_without_line (queues before) ≡ p.queues
@@ -78,7 +78,7 @@ module _ (before : List Line) (n : ℕ) (p : Parts) where
       subst (λ (b : Option Told). OpenLines b (open_batch before)) closed h.opened in
       record {
         part = section_push before n BeginSchedule;
-        version = version_push before n BeginSchedule refl h.version;
+        version = version_push before n BeginSchedule refl ∙ h.version;
         buffers_are = buffers_push before n BeginSchedule p.buffers h.buffers_are
             ∙ append-nil p.buffers;
         semaphores_are = semaphores_push before n BeginSchedule p.semaphores h.semaphores_are
@@ -110,7 +110,7 @@ module _ (before : List Line) (n : ℕ) (p : Parts) where
       let more : List Turn = replicate count (record { line = n; actor = actor }) in
       record {
         part = section_push before n s ∙ h.part;
-        version = version_push before n s refl h.version;
+        version = version_push before n s refl ∙ h.version;
         buffers_are = buffers_push before n s p.buffers h.buffers_are ∙ append-nil p.buffers;
         semaphores_are = semaphores_push before n s p.semaphores h.semaphores_are
             ∙ append-nil p.semaphores;

@@ -22,11 +22,13 @@ use Rattle.vq_model.specs.declared.script.Script.{Script}
 use Rattle.vq_model.specs.declared.script.Turn.{Turn}
 use Rattle.vq_model.specs.Canonical.{Turns, turns_words}
 use Rattle.vq_model.specs.Context.{section, open_batch, some, is_threaded, turns_of}
+use Rattle.vq_model.specs.Limits.{limits_of}
 use Rattle.vq_model.specs.LineFaults.{ends_early}
 use Rattle.vq_model.specs.Meaning.{actor_at, is_actor, of_two}
 use Rattle.vq_model.specs.Reading.{with_line, read_statement, read_lines, go_on}
 use Rattle.vq_model.specs.Context.{number_at, part_of}
 use Rattle.vq_model.specs.Naming.{actor_word}
+use Rattle.vq_canonical_laws.proofs.SaidContext.{most_before}
 use Rattle.vq_canonical_laws.proofs.FollowingTurns.{queue_said, threaded_said, turns_said}
 use Rattle.vq_canonical_laws.proofs.JoinedTurns.{AreOf, expanded}
 use Rattle.vq_canonical_laws.proofs.LineTests.{PassesTests, read_tested}
@@ -125,9 +127,10 @@ module _ (before : List Line) (p : Parts) (turns : List Turn) (h : SaySchedule b
   module _ (form : Form) where
     -- the line of one turn
     turn_reads : (word : List ℕ) (a : ActorName) → IsActorWord before word a →
-        length turns + 1 ≤ 65536 → ReadsAs form before (word ∷ []) (TakeTurns a 1)
+        length turns + 1 ≤ (limits_of p.version).turns → ReadsAs form before (word ∷ []) (TakeTurns a 1)
     turn_reads word a w few =
         let counted = turns_said before p turns h in
+        let most = ap (λ (v : ℕ). (limits_of v).turns) h.version in
         let words : are_text_words (word ∷ []) ≡ true = and_from (is_text_word word) true w.text refl in
         let tests : PassesTests form before (word ∷ []) TurnLine (TakeTurns a 1) =
         record {
@@ -141,7 +144,7 @@ module _ (before : List Line) (p : Parts) (turns : List Turn) (h : SaySchedule b
           said = λ i. option_map (λ x. TakeTurns x 1) (w.known i);
           ranged = refl;
           apart = refl;
-          limited = not_past 65536
+          limited = not_past (most_before before).turns
               (sum (map (λ (line : Line). turns_of line.statement) before) + 1) (omega arith);
         } in
         record {
@@ -151,10 +154,11 @@ module _ (before : List Line) (p : Parts) (turns : List Turn) (h : SaySchedule b
 
     -- the line of turns with their count
     counted_reads : (word : List ℕ) (a : ActorName) (count : ℕ) → IsActorWord before word a →
-        0 < count → length turns + count ≤ 65536 →
+        0 < count → length turns + count ≤ (limits_of p.version).turns →
         ReadsAs form before (word ∷ decimal count ∷ []) (TakeTurns a count)
     counted_reads word a count w some_turns few =
         let counted = turns_said before p turns h in
+        let most = ap (λ (v : ℕ). (limits_of v).turns) h.version in
         let small : count < 2 ^ 64 = omega arith in
         let words : are_text_words (word ∷ decimal count ∷ []) ≡ true =
         words_of_two word (decimal count) w.text (decimal_word count small) in
@@ -170,7 +174,7 @@ module _ (before : List Line) (p : Parts) (turns : List Turn) (h : SaySchedule b
           said = λ i. of_two (λ x k. TakeTurns x k) (w.known i) (decimal_back count small i);
           ranged = lt-ltb 0 count some_turns;
           apart = refl;
-          limited = not_past 65536
+          limited = not_past (most_before before).turns
               (sum (map (λ (line : Line). turns_of line.statement) before) + count) (omega arith);
         } in
         record {
@@ -182,7 +186,7 @@ module _ (before : List Line) (p : Parts) (turns : List Turn) (h : SaySchedule b
 
     -- The canonical line of turns is read.
     pub turns_read : (a : ActorName) (count : ℕ) → IsActorIn p.queues a → 0 < count →
-        length turns + count ≤ 65536 →
+        length turns + count ≤ (limits_of p.version).turns →
         ReadsAs form before (turns_words whole (a, count)) (TakeTurns a count)
     turns_read a count i some_turns few = by_count (nat_lt 1 count) refl
       where
@@ -218,7 +222,7 @@ may_end form before e = by_form form
 
 pub all_turns_read : (form : Form) (before : List Line) (n : ℕ) (p : Parts) (turns ts : List Turn)
     (js : List Turns) → SaySchedule before p turns → AreNamed p → Every (AreOf p.queues) js →
-    length turns + length (expanded js) ≤ 65536 → AreTaken form before n p turns ts js
+    length turns + length (expanded js) ≤ (limits_of p.version).turns → AreTaken form before n p turns ts js
 all_turns_read form before n p turns ts [] h named all few =
     record {
       are_words = refl;

@@ -55,13 +55,18 @@ lines_words (words ∷ lines) h =
     let parts = and_parts (are_text_words words) (list_all are_text_words lines) h in λ i.
     words_back words parts.0 i ∷ lines_words lines parts.1 i
 
--- The lines of statements, and others, have a line that begins a schedule where the others have one.
-pub schedule_told : (p q : Parts) (statements : List Statement) (back : List (List (List ℕ))) →
-    Leads p statements q → list_all are_text_words (words_along p statements ++ back) ≡ true →
+-- The lines of a version, of statements, and others, have a line that begins a schedule where the others
+-- have one.
+pub schedule_told : (p q : Parts) (front : List (List (List ℕ))) (statements : List Statement)
+    (back : List (List (List ℕ))) → list_any begins_schedule front ≡ false →
+    Leads p statements q →
+    list_all are_text_words (front ++ (words_along p statements ++ back)) ≡ true →
     list_any begins_schedule
-    (map words_of (map (join_with_byte 32) (words_along p statements ++ back)))
+    (map words_of (map (join_with_byte 32) (front ++ (words_along p statements ++ back))))
     ≡ list_any begins_schedule back
-schedule_told p q statements back l words =
-    ap (list_any begins_schedule) (lines_words (words_along p statements ++ back) words)
+schedule_told p q front statements back silent l words =
+    ap (list_any begins_schedule) (lines_words (front ++ (words_along p statements ++ back)) words)
+    ∙ (list_any-append begins_schedule front (words_along p statements ++ back)
+    ∙ (ap (λ (b : Bool). b || list_any begins_schedule (words_along p statements ++ back)) silent
     ∙ (list_any-append begins_schedule (words_along p statements) back
-    ∙ ap (λ (b : Bool). b || list_any begins_schedule back) (none_along p q statements l))
+    ∙ ap (λ (b : Bool). b || list_any begins_schedule back) (none_along p q statements l))))

@@ -1,11 +1,10 @@
--- What lines say so far, as the parts of a script, and what each further statement asks of them:
--- the forms that are built so far.
-use Rattle.std.proofs.Common.{ℕ, List, Option, Some, None, false, [], map, ◌∷◌, ◌++◌, Bool, ◌||◌, ◌+◌, length, ◌<◌, ◌≡◌, ◌≤◌, true}
+-- What lines say so far, as the parts of a script, and what each further statement asks of them.
+use Rattle.std.proofs.Common.{ℕ, List, Option, Some, None, false, [], map, ◌∷◌, ◌++◌, Bool, ◌||◌, ◌+◌, length, ◌<◌, ◌≡◌, ◌≤◌, true, ◌⊎◌}
 use Rattle.vq_model.specs.declared.statement.Statement.{Statement}
 use Rattle.vq_model.specs.declared.script.Buffer.{Buffer}
 use Rattle.vq_model.specs.declared.script.Semaphore.{Semaphore}
 use Rattle.vq_model.specs.declared.script.Queue.{Queue}
-use Rattle.vq_model.specs.Context.{buffers, semaphores, queues, is_command, is_wait, is_signal, is_batch_fence, some, section, version_of, has_begun, open_batch, count}
+use Rattle.vq_model.specs.Context.{buffers, semaphores, queues, is_command, is_wait, is_signal, is_batch_fence, some, section, version_of, has_begun, open_batch, count, held_from}
 use Rattle.vq_model.specs.declared.script.SemaphoreKind.{SemaphoreKind}
 use Rattle.vq_model.specs.declared.script.Mode.{Mode}
 use Rattle.vq_model.specs.declared.statement.Statement.TheVariants.{AddWait, AddCommand, AddSignal, AddFence, DeclareBuffer, DeclareSemaphore, DeclareQueue, BeginBatch, EndBatch, TakeHostStep}
@@ -31,6 +30,7 @@ use Rattle.vq_model.specs.declared.statement.Section.TheVariants.{Outside, InBat
 use Rattle.vq_model.specs.declared.statement.Line.{Line}
 use Rattle.vq_model.specs.SameScript.{job_without_lines, buffer_without_line, semaphore_without_line, queue_without_line}
 use Rattle.vq_model.specs.Context.{is_job, part_of}
+use Rattle.vq_model.specs.Limits.{limits_of}
 
 -- Parts
 
@@ -43,9 +43,10 @@ pub data ToldJob : Type 0 where
   ToldStep : HostStep → ToldJob
   ToldBatch : Told → ToldJob
 
--- The parts of a script that lines say so far, without line numbers: what is declared, the
--- jobs, and the open batch.
+-- The parts of a script that lines say so far, without line numbers: the version, what is declared,
+-- the jobs, and the open batch.
 pub record Parts : Type 0 where
+  pub version : ℕ
   pub buffers : List Buffer
   pub semaphores : List Semaphore
   pub queues : List Queue
@@ -53,9 +54,17 @@ pub record Parts : Type 0 where
   pub batch : Option Told
 
 -- these parts
-abbrev pub parts : List Buffer → List Semaphore → List Queue → List ToldJob → Option Told → Parts
-parts bs ss qs jobs batch =
-    record { buffers = bs; semaphores = ss; queues = qs; jobs = jobs; batch = batch }
+abbrev pub parts : ℕ → List Buffer → List Semaphore → List Queue → List ToldJob → Option Told →
+    Parts
+parts v bs ss qs jobs batch =
+    record {
+      version = v;
+      buffers = bs;
+      semaphores = ss;
+      queues = qs;
+      jobs = jobs;
+      batch = batch;
+    }
 
 -- a buffer, a semaphore and a queue without a line
 abbrev pub a_buffer : List ℕ → ℕ → Buffer
@@ -107,7 +116,7 @@ a_job (ToldBatch t) = a_batch t
 abbrev pub script_of_parts : Parts → Script
 script_of_parts p =
     record {
-      version = 1;
+      version = p.version;
       buffers = p.buffers;
       semaphores = p.semaphores;
       queues = p.queues;
@@ -130,24 +139,24 @@ with_batch jobs (Some t) = jobs ++ ToldBatch t ∷ []
 
 -- the parts with one statement more in the open batch
 abbrev pub after_item : Parts → Statement → Parts
-after_item p s = parts p.buffers p.semaphores p.queues p.jobs (with_item p.batch s)
+after_item p s = parts p.version p.buffers p.semaphores p.queues p.jobs (with_item p.batch s)
 
 -- the parts after a statement
 abbrev pub after : Parts → Statement → Parts
 after p (DeclareBuffer name size) =
-    parts (p.buffers ++ a_buffer name size ∷ []) p.semaphores p.queues p.jobs p.batch
+    parts p.version (p.buffers ++ a_buffer name size ∷ []) p.semaphores p.queues p.jobs p.batch
 after p (DeclareSemaphore name kind) =
-    parts p.buffers (p.semaphores ++ a_semaphore name kind ∷ []) p.queues p.jobs p.batch
+    parts p.version p.buffers (p.semaphores ++ a_semaphore name kind ∷ []) p.queues p.jobs p.batch
 after p (DeclareQueue name mode) =
-    parts p.buffers p.semaphores (p.queues ++ a_queue name mode ∷ []) p.jobs p.batch
-after p (BeginBatch q) = parts p.buffers p.semaphores p.queues p.jobs (Some (q, []))
+    parts p.version p.buffers p.semaphores (p.queues ++ a_queue name mode ∷ []) p.jobs p.batch
+after p (BeginBatch q) = parts p.version p.buffers p.semaphores p.queues p.jobs (Some (q, []))
 after p (AddWait pair from) = after_item p (AddWait pair from)
 after p (AddCommand command) = after_item p (AddCommand command)
 after p (AddSignal pair) = after_item p (AddSignal pair)
 after p (AddFence f) = after_item p (AddFence f)
-after p EndBatch = parts p.buffers p.semaphores p.queues (with_batch p.jobs p.batch) None
+after p EndBatch = parts p.version p.buffers p.semaphores p.queues (with_batch p.jobs p.batch) None
 after p (TakeHostStep step) =
-    parts p.buffers p.semaphores p.queues (p.jobs ++ ToldStep step ∷ []) None
+    parts p.version p.buffers p.semaphores p.queues (p.jobs ++ ToldStep step ∷ []) None
 after p other = p
 
 -- some buffer, semaphore or queue has this name
@@ -156,11 +165,6 @@ is_named bs ss qs name =
     list_any (λ b. bytes_eq name b.name) bs
     || list_any (λ s. bytes_eq name s.name) ss
     || list_any (λ q. bytes_eq name q.name) qs
-
--- the place from which a wait holds back
-abbrev pub place_of : Statement → ℕ
-place_of (AddWait pair from) = from
-place_of other = 0
 
 -- the commands of a job, and of jobs
 abbrev pub commands_told : ToldJob → ℕ
@@ -176,15 +180,15 @@ pub record MayBuffer (p : Parts) (name : List ℕ) (size : ℕ) : Type 0 where
   pub named : is_name name ≡ true
   pub fresh : is_named p.buffers p.semaphores p.queues name ≡ false
   pub some_bytes : 0 < size
-  pub few : length p.buffers < 64
-  pub bytes : sum (sizes_in p.buffers) + size ≤ 1048576
+  pub few : length p.buffers < (limits_of p.version).buffers
+  pub bytes : sum (sizes_in p.buffers) + size ≤ (limits_of p.version).bytes
 
 pub record MaySemaphore (p : Parts) (name : List ℕ) (kind : SemaphoreKind) : Type 0 where
   pub outside : p.batch ≡ None
   pub first : p.jobs ≡ []
   pub named : is_name name ≡ true
   pub fresh : is_named p.buffers p.semaphores p.queues name ≡ false
-  pub few : length p.semaphores < 256
+  pub few : length p.semaphores < (limits_of p.version).semaphores
   pub small : HasValue kind
 
 pub record MayQueue (p : Parts) (name : List ℕ) (mode : Mode) : Type 0 where
@@ -192,34 +196,37 @@ pub record MayQueue (p : Parts) (name : List ℕ) (mode : Mode) : Type 0 where
   pub first : p.jobs ≡ []
   pub named : is_name name ≡ true
   pub fresh : is_named p.buffers p.semaphores p.queues name ≡ false
-  pub few : length p.queues < 8
+  pub few : length p.queues < (limits_of p.version).queues
 
 pub record MayBegin (p : Parts) (q : ℕ) : Type 0 where
   pub outside : p.batch ≡ None
   pub queue : Queue
   pub there : slice_get p.queues q ≡ Some queue
-  pub few : length p.jobs < 4096
+  pub few : length p.jobs < (limits_of p.version).jobs
 
 pub record MayStep (p : Parts) (step : HostStep) : Type 0 where
   pub outside : p.batch ≡ None
-  pub fits : StepFits p.semaphores step
-  pub few : length p.jobs < 4096
+  pub fits : StepFits p.version p.semaphores step
+  pub few : length p.jobs < (limits_of p.version).jobs
 
 pub record WaitFits (p : Parts) (t : Told) (pair : Pair) (from : ℕ) : Type 0 where
   pub known : IsMarked p.semaphores pair
-  pub at_once : from ≡ 1
-  pub few : count_by is_wait t.1 < 16
+  -- it holds back from a place on, counted from 1; in the first version that is the first
+  pub counted : 0 < from
+  pub held : (from ≡ 1) ⊎ (p.version ≡ 2)
+  pub near : from < (limits_of p.version).batch_commands + 2
+  pub few : count_by is_wait t.1 < (limits_of p.version).waits
 
 pub record CommandFits (p : Parts) (t : Told) (command : Command) : Type 0 where
   pub range : is_command_in_range p.buffers command ≡ true
   pub apart : overlaps_itself (sizes_in p.buffers) command ≡ false
   pub numerals : HasNumerals command
-  pub few : count_by is_command t.1 < 64
-  pub total : commands_of p.jobs + count_by is_command t.1 < 8192
+  pub few : count_by is_command t.1 < (limits_of p.version).batch_commands
+  pub total : commands_of p.jobs + count_by is_command t.1 < (limits_of p.version).commands
 
 pub record SignalFits (p : Parts) (t : Told) (pair : Pair) : Type 0 where
   pub known : IsMarked p.semaphores pair
-  pub few : count_by is_signal t.1 < 16
+  pub few : count_by is_signal t.1 < (limits_of p.version).signals
 
 pub record FenceFits (p : Parts) (t : Told) (f : ℕ) : Type 0 where
   pub semaphore : Semaphore
@@ -246,7 +253,7 @@ pub record MayEnd (p : Parts) : Type 0 where
   pub told : Told
   pub inside : p.batch ≡ Some told
   pub in_order : list_any (λ x. nat_lt 5 (part_of x)) told.1 ≡ false
-  pub near : list_any (λ x. nat_lt (count_by is_command told.1 + 1) (place_of x)) told.1 ≡ false
+  pub near : list_any (λ x. nat_lt (count_by is_command told.1 + 1) (held_from x)) told.1 ≡ false
 
 -- A statement may follow lines that say these parts.
 abbrev pub May : Parts → Statement → Type 0
@@ -303,7 +310,7 @@ continued (Some t) more =
 -- These lines say these parts, and nothing else.
 pub record Say (before : List Line) (p : Parts) : Type 0 where
   pub part : section before ≡ part_of_batch p.batch
-  pub version : version_of before ≡ 1
+  pub version : version_of before ≡ p.version
   pub buffers_are : map buffer_without_line (buffers before) ≡ p.buffers
   pub semaphores_are : map semaphore_without_line (semaphores before) ≡ p.semaphores
   pub queues_are : map queue_without_line (queues before) ≡ p.queues
@@ -316,6 +323,10 @@ pub record Say (before : List Line) (p : Parts) : Type 0 where
   pub unscheduled : some is_schedule before ≡ false
   pub no_turns : flat_map turns_at before ≡ []
 
--- no lines say no parts
-abbrev pub no_parts : Parts
-no_parts = parts [] [] [] [] None
+-- what a text of a version says where nothing follows its version
+abbrev pub no_parts : ℕ → Parts
+no_parts v = parts v [] [] [] [] None
+
+-- there are two versions
+abbrev pub IsVersion : ℕ → Type 0
+IsVersion v = (v ≡ 1) ⊎ (v ≡ 2)

@@ -146,12 +146,12 @@ fence_silent n f =
 
 -- a declaration: these lists become those
 module _ (before : List Line) (n : ℕ) (s : Statement) (quiet : IsQuiet n s)
-    (bs cs : List Buffer) (ss ts : List Semaphore) (qs rs : List Queue) where
+    (v : ℕ) (bs cs : List Buffer) (ss ts : List Semaphore) (qs rs : List Queue) where
   pub declared : nat_lt 0 (part_of s) ≡ false → is_command s ≡ false →
       bs ++ map buffer_without_line (filter_map buffer_of (a_line n s ∷ [])) ≡ cs →
       ss ++ map semaphore_without_line (filter_map semaphore_of (a_line n s ∷ [])) ≡ ts →
       qs ++ map queue_without_line (filter_map queue_of (a_line n s ∷ [])) ≡ rs →
-      Say before (parts bs ss qs [] None) → Say (with_line before n s) (parts cs ts rs [] None)
+      Say before (parts v bs ss qs [] None) → Say (with_line before n s) (parts v cs ts rs [] None)
   declared no_part no_command of_buffers of_semaphores of_queues h =
       let jc = count_push is_job before n s in
       let jn : cond {A = ℕ} (is_job s) 1 0 ≡ 0 = one_of (is_job s) quiet.no_job in
@@ -163,7 +163,7 @@ module _ (before : List Line) (n : ℕ) (s : Statement) (quiet : IsQuiet n s)
       ap (λ (b : Bool). cond b [] (open_batch before ++ a_line n s ∷ [])) quiet.bounds_none in
       record {
         part = section_push before n s ∙ (quiet.stays (section before) ∙ h.part);
-        version = version_push before n s quiet.version h.version;
+        version = version_push before n s quiet.version ∙ h.version;
         buffers_are = buffers_push before n s bs h.buffers_are ∙ of_buffers;
         semaphores_are = semaphores_push before n s ss h.semaphores_are ∙ of_semaphores;
         queues_are = queues_push before n s qs h.queues_are ∙ of_queues;

@@ -1,5 +1,5 @@
 -- What the script of some lines is with one more.
-use Rattle.std.proofs.Common.{◌≡◌, ℕ, List, [], ◌∷◌, ◌++◌, append_assoc, map, ap, ◌∙◌}
+use Rattle.std.proofs.Common.{◌≡◌, ℕ, List, [], ◌∷◌, ◌++◌, append_assoc, map, ap, ◌∙◌, refl}
 use Rattle.std.specs.List.{filter_map, flat_map}
 use Rattle.std.proofs.lemmas.List.{map-append}
 use Rattle.std.proofs.lemmas.List.Elements.{filter_map-append}
@@ -18,14 +18,14 @@ use Rattle.vq_reading_laws.proofs.Cited.{a_line}
 
 -- What lines say, one line more
 module _ (before : List Line) (n : ℕ) (s : Statement) where
-  -- the version, one line more
-  pub version_push : version_of (a_line n s ∷ []) ≡ 1 → version_of before ≡ 1 →
-      version_of (with_line before n s) ≡ 1
-  version_push one h = by_lines before h
+  -- the version, one line more: no line but the first names another one
+  pub version_push : version_of (a_line n s ∷ []) ≡ 1 →
+      version_of (with_line before n s) ≡ version_of before
+  version_push one = by_lines before
     where
-      by_lines : (ls : List Line) → version_of ls ≡ 1 → version_of (with_line ls n s) ≡ 1
-      by_lines [] h = one
-      by_lines (l ∷ ls) h = h
+      by_lines : (ls : List Line) → version_of (with_line ls n s) ≡ version_of ls
+      by_lines [] = one
+      by_lines (l ∷ ls) = refl
 
   -- buffers up to lines
   pub buffers_push : (bs : List Buffer) → map buffer_without_line (buffers before) ≡ bs →

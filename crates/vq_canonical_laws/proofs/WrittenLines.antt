@@ -14,7 +14,8 @@ use Rattle.vq_canonical_laws.proofs.NamedParts.{AreNamed}
 use Rattle.vq_canonical_laws.proofs.ScriptParts.{Parts, May, Say}
 use Rattle.vq_canonical_laws.proofs.LineWords.{words_at, ReadsAs, form_outside}
 use Rattle.vq_canonical_laws.proofs.DeclarationLines.{is_first, buffer_reads, timeline_reads, binary_reads, fence_reads, queue_reads, submit_reads}
-use Rattle.vq_canonical_laws.proofs.BatchLines.{wait_reads, signal_reads, batch_fence_reads, end_reads}
+use Rattle.vq_canonical_laws.proofs.BatchLines.{signal_reads, batch_fence_reads, end_reads}
+use Rattle.vq_canonical_laws.proofs.HeldWaits.{wait_reads}
 use Rattle.vq_canonical_laws.proofs.CommandLines.{command_reads}
 use Rattle.vq_canonical_laws.proofs.HostLines.{step_reads}
 

@@ -2,7 +2,7 @@
 use Rattle.std.proofs.Common.{ℕ, ◌==◌, Bool, not, ◌&&◌, List, length, ◌≡◌, true, [], ◌∷◌, refl, ◌≤◌, false, ap, arith, cond, ◌++◌, suc, ◌+◌, take, ◌∙◌, zero, ◌-◌, append_assoc, map, ne_eqb}
 use Rattle.std.specs.Prelude.{nat_le, nat_lt, filter}
 use Rattle.std.specs.List.{list_all, slice_split, onto_first, before_first, position_or_len, join_with_byte, slice_index, flat_map}
-use Rattle.std.proofs.lemmas.Bool.{and_parts, and_from, leb-true, false≢true, eqb-true, false_from_ne_true, le-leb, or_left, or_from}
+use Rattle.std.proofs.lemmas.Bool.{and_parts, and_from, leb-true, false≢true, le-leb, or_left, or_from}
 use Rattle.vq_model.specs.Text.{is_plain, is_blank, is_line_feed, is_some_word, words_in, words_of, without_empty_end, lines_of}
 use Rattle.std.proofs.lemmas.List.Folds.{list_all-append}
 use Rattle.std.specs.Str.Lines.{strip_carriage_return}

@@ -1,6 +1,6 @@
 -- The rules of the format for a script without a schedule: what makes it one that can be written.
 -- The format is this project's own.
-use Rattle.std.specs.Prelude.{ℕ, ◌≡◌, ◌<◌, ◌≤◌, ◌^◌, ◌+◌, Bool, true, false, not, ◌&&◌, nat_lt, List, [], ◌∷◌, ◌++◌, length, map, Option, Some, None}
+use Rattle.std.specs.Prelude.{ℕ, ◌≡◌, ◌<◌, ◌≤◌, ◌^◌, ◌+◌, Bool, true, false, not, ◌&&◌, List, [], ◌∷◌, ◌++◌, length, map, Option, Some, None}
 use Rattle.std.specs.List.{AllByRecursion as Every, list_any, slice_get}
 use Rattle.std.specs.Str.{bytes_eq}
 use Rattle.vq_model.specs.declared.script.Buffer.{Buffer}
@@ -25,8 +25,7 @@ use Rattle.vq_model.specs.Limits.{limits_of}
 use Rattle.vq_model.specs.LineFaults.{is_command_in_range}
 use Rattle.vq_model.specs.Ranges.{overlaps_itself}
 use Rattle.vq_model.specs.SameScript.{without_lines}
-use Rattle.vq_model.specs.ValidScripts.{KeepsLimits, IsUnscheduled}
-use Rattle.vq_model.specs.Built.{IsOfFirstVersion}
+use Rattle.vq_model.specs.ValidScripts.{KeepsLimits, IsUnscheduled, HoldsBack, IsOfAVersion}
 
 -- Numbers that a line can hold
 
@@ -84,24 +83,24 @@ pub record IsOfKindIn (test : SemaphoreKind → Bool) (ss : List Semaphore) (t :
 abbrev pub IsTimed : List Semaphore → Pair → Type 0
 IsTimed ss pair = IsOfKindIn is_timeline ss pair.semaphore × (pair.value < 2 ^ 64)
 
--- such pairs, one at least, and as many as a step may have
-pub record AreTimed (ss : List Semaphore) (pairs : List Pair) : Type 0 where
+-- such pairs, one at least, and as many as a step of a version may have
+pub record AreTimed (version : ℕ) (ss : List Semaphore) (pairs : List Pair) : Type 0 where
   pub all : Every (IsTimed ss) pairs
   pub some_pairs : 0 < length pairs
-  pub few : length pairs ≤ 16
+  pub few : length pairs ≤ (limits_of version).pairs
 
 -- a step of the host names timelines and fences, each where its form needs one
-abbrev pub StepFits : List Semaphore → HostStep → Type 0
-StepFits ss (Signal pair) = IsTimed ss pair
-StepFits ss (WaitAll pairs) = AreTimed ss pairs
-StepFits ss (WaitAny pairs) = AreTimed ss pairs
-StepFits ss (PollAll pairs) = AreTimed ss pairs
-StepFits ss (PollAny pairs) = AreTimed ss pairs
-StepFits ss (Read t) = IsOfKindIn is_timeline ss t
-StepFits ss (FenceWait f) = IsOfKindIn is_fence ss f
-StepFits ss (FencePoll f) = IsOfKindIn is_fence ss f
-StepFits ss (FenceReset f) = IsOfKindIn is_fence ss f
-StepFits ss Idle = Unit {0}
+abbrev pub StepFits : ℕ → List Semaphore → HostStep → Type 0
+StepFits version ss (Signal pair) = IsTimed ss pair
+StepFits version ss (WaitAll pairs) = AreTimed version ss pairs
+StepFits version ss (WaitAny pairs) = AreTimed version ss pairs
+StepFits version ss (PollAll pairs) = AreTimed version ss pairs
+StepFits version ss (PollAny pairs) = AreTimed version ss pairs
+StepFits version ss (Read t) = IsOfKindIn is_timeline ss t
+StepFits version ss (FenceWait f) = IsOfKindIn is_fence ss f
+StepFits version ss (FencePoll f) = IsOfKindIn is_fence ss f
+StepFits version ss (FenceReset f) = IsOfKindIn is_fence ss f
+StepFits version ss Idle = Unit {0}
 
 -- a semaphore takes a value as a mark of a wait or a signal: a timeline one of 64 bits, a binary
 -- semaphore none
@@ -120,9 +119,15 @@ pub record IsMarked (ss : List Semaphore) (pair : Pair) : Type 0 where
 abbrev pub pair_of : Mark → Pair
 pair_of m = record { semaphore = m.semaphore; value = m.value }
 
--- a wait or a signal that names no place within its batch
-abbrev pub IsWholeMark : List Semaphore → Mark → Type 0
-IsWholeMark ss m = IsMarked ss (pair_of m) × (m.from ≡ 1)
+-- a wait of a batch with so many commands: it holds back one of them or more, or at least its signals
+pub record IsWaitOf (s : Script) (commands : ℕ) (m : Mark) : Type 0 where
+  pub marked : IsMarked s.semaphores (pair_of m)
+  pub held : HoldsBack s m
+  pub near : m.from ≤ commands + 1
+
+-- a signal names no place within its batch
+abbrev pub IsSignalOf : List Semaphore → Mark → Type 0
+IsSignalOf ss m = IsMarked ss (pair_of m) × (m.from ≡ 1)
 
 -- the fence of a batch, where it names one
 abbrev pub IsFenceOf : List Semaphore → Option Mark → Type 0
@@ -134,22 +139,22 @@ IsFenceOf ss (Some m) = IsOfKindIn is_fence ss m.semaphore × (m.value ≡ 0) ×
 -- a batch of a script
 pub record BatchFits (s : Script) (b : Batch) : Type 0 where
   pub queue : b.queue < length s.queues
-  pub waits : Every (IsWholeMark s.semaphores) b.waits
+  pub waits : Every (IsWaitOf s (length b.commands)) b.waits
   pub commands : Every (λ c. IsCommandOf s.buffers c.command) b.commands
-  pub signals : Every (IsWholeMark s.semaphores) b.signals
+  pub signals : Every (IsSignalOf s.semaphores) b.signals
   pub fence : IsFenceOf s.semaphores b.fence
   pub few_waits : length b.waits ≤ (limits_of s.version).waits
   pub few_commands : length b.commands ≤ (limits_of s.version).batch_commands
   pub few_signals : length b.signals ≤ (limits_of s.version).signals
 
 abbrev pub JobFits : Script → Job → Type 0
-JobFits s (Host h) = StepFits s.semaphores h.step
+JobFits s (Host h) = StepFits s.version s.semaphores h.step
 JobFits s (BatchJob b) = BatchFits s b
 
--- A script of the first version without a schedule keeps the rules of the format. It has no numbers of
--- lines.
+-- A script without a schedule keeps the rules of the format, in either of its versions. It has no numbers
+-- of lines.
 pub record KeepsRules (s : Script) : Type 0 where
-  pub version : IsOfFirstVersion s
+  pub version : IsOfAVersion s
   pub lineless : without_lines s ≡ s
   pub unscheduled : IsUnscheduled s
   pub names : are_new [] (names_of s) ≡ true

@@ -1,5 +1,5 @@
 //! Laws over canonical texts. The functions do nothing: their contracts are the laws.
-ghost use Rattle.std.specs.Prelude.{◌≡◌};
+ghost use Rattle.std.specs.Prelude.{◌≡◌, ◌++◌, codes};
 ghost use Rattle.vq_model.specs.declared.script.Script.{Script};
 ghost use Rattle.vq_model.specs.SameScript.{SameButLines, IsRead, IsScript};
 ghost use Rattle.vq_model.specs.Canonical.{canonical_text, form_of_script};
@@ -33,4 +33,19 @@ pub fn read_scripts_can_be_written()
 /// A script without a schedule that keeps the rules of the format can be written.
 pub fn ruled_scripts_can_be_written()
     ensures { (s : Script) → KeepsRules s → IsScript s }
+{}
+
+/// A script that can be written can be written in the second version of the format too.
+pub fn upgraded_scripts_can_be_written()
+    ensures { (s : Script) → IsScript s → IsScript (record s { version = 2 }) }
+{}
+
+/// The canonical text of a script's upgrade stands for it, up to line numbers, in the script's form. Where
+/// the script is of the first version, this text is the script's own after the line of the second.
+pub fn upgraded_texts_read_back()
+    ensures back { (s : Script) → IsScript s →
+        (read : Script) × StandsFor (canonical_text (record s { version = 2 })) (form_of_script s) read
+        × SameButLines read (record s { version = 2 }) }
+    ensures text { (s : Script) → s.version ≡ 1 →
+        canonical_text (record s { version = 2 }) ≡ codes "version 2\n" ++ canonical_text s }
 {}

@@ -1,5 +1,5 @@
 -- Each generated script keeps the rules of the format, so it can be written.
-use Rattle.std.proofs.Common.{ℕ, zero, suc, ◌≡◌, ◌<◌, ◌≤◌, ◌≢◌, ◌+◌, ◌-◌, ◌*◌, ◌%◌, ◌^◌, Bool, true, false, not, ◌&&◌, ◌==◌, List, [], ◌∷◌, ◌++◌, length, length-append, map, refl, ap, ◌∙◌, arith, sum, flat_map, filter, cond}
+use Rattle.std.proofs.Common.{ℕ, zero, suc, ◌≡◌, ◌<◌, ◌≤◌, ◌≢◌, ◌+◌, ◌-◌, ◌*◌, ◌%◌, ◌^◌, Bool, true, false, not, ◌&&◌, ◌==◌, List, [], ◌∷◌, ◌++◌, length, length-append, map, refl, ap, ◌∙◌, arith, sum, flat_map, filter, cond, inl}
 use Rattle.std.specs.Prelude.{nat_lt}
 use Rattle.std.specs.List.{AllByRecursion as Every, range_with_len}
 use Rattle.std.proofs.lemmas.List.{length-map, map-append}
@@ -8,10 +8,11 @@ use Rattle.std.proofs.lemmas.Bool.{and_from, lt-ltb, eq-eqb, false_from_ne_true,
 use Rattle.vq_model.specs.declared.script.Buffer.{Buffer}
 use Rattle.vq_model.specs.declared.script.Semaphore.{Semaphore}
 use Rattle.vq_model.specs.declared.script.Job.{Job}
+use Rattle.vq_model.specs.Limits.{limits_of}
 use Rattle.vq_model.specs.Lowering.{commands_in}
 use Rattle.vq_model.specs.Ranges.{is_aligned}
 use Rattle.vq_model.specs.SameScript.{IsScript, job_without_lines}
-use Rattle.vq_canonical_laws.specs.FormatRules.{KeepsRules, JobFits, IsWholeMark, IsCommandOf, HasValue}
+use Rattle.vq_canonical_laws.specs.FormatRules.{KeepsRules, JobFits, IsWaitOf, IsSignalOf, IsCommandOf, HasValue}
 use Rattle.vq_model.specs.LineFaults.{is_within}
 use Rattle.vq_model.specs.Context.{size_in}
 use Rattle.vq_canonical_laws.proofs.Cited.{ruled_is_written}
@@ -39,17 +40,25 @@ size_of (suc (suc (suc (suc (suc (suc (suc (suc b)))))))) l = absurd (omega arit
 
 -- each timeline takes a value
 mark_fits : (value t : ℕ) → value < 2 ^ 64 → t < 4 →
-    IsWholeMark generated_timelines (mark_at value t)
+    IsSignalOf generated_timelines (mark_at value t)
 mark_fits value zero v l = (record { semaphore = _; there = refl; takes = v }, refl)
 mark_fits value (suc zero) v l = (record { semaphore = _; there = refl; takes = v }, refl)
 mark_fits value (suc (suc zero)) v l = (record { semaphore = _; there = refl; takes = v }, refl)
 mark_fits value (suc (suc (suc zero))) v l = (record { semaphore = _; there = refl; takes = v }, refl)
 mark_fits value (suc (suc (suc (suc t)))) v l = absurd (omega arith)
 
-marks_fit : (value : ℕ) (ts : List ℕ) → value < 2 ^ 64 → Every (λ t. t < 4) ts →
-    Every (IsWholeMark generated_timelines) (map (mark_at value) ts)
-marks_fit value [] v h = tt
-marks_fit value (t ∷ ts) v h = (mark_fits value t v h.0, marks_fit value ts v h.1)
+-- waits for it hold back a whole batch
+waits_fit : (n commands value : ℕ) (ts : List ℕ) → value < 2 ^ 64 → Every (λ t. t < 4) ts →
+    Every (IsWaitOf (generated_script n) commands) (map (mark_at value) ts)
+waits_fit n commands value [] v h = tt
+waits_fit n commands value (t ∷ ts) v h = (
+  record {
+    marked = (mark_fits value t v h.0).0;
+    held = record { counted = omega arith; whole = λ e. refl };
+    near = omega arith;
+  },
+  waits_fit n commands value ts v h.1,
+)
 
 -- what is made of each of some names
 all_made : {A : Type 0} (P : A → Type 0) (made : List ℕ → A) (names : List (List ℕ)) →
@@ -117,7 +126,7 @@ others_below q =
     kept_below (λ other. not (other == q)) (range_with_len 0 4)
     (omega arith, (omega arith, (omega arith, (omega arith, tt))))
 
-pub few_others : (r q : ℕ) → length (map (mark_at (r - 1)) (others q)) ≤ 16
+pub few_others : (r q : ℕ) → length (map (mark_at (r - 1)) (others q)) ≤ (limits_of 1).waits
 few_others r q =
     let same = length-map (others q) (mark_at (r - 1)) in
     let counted = length-filter (λ other. not (other == q)) (range_with_len 0 4) in
@@ -129,7 +138,7 @@ batch_fits : (n r q : ℕ) → 1 ≤ r → r ≤ 500 → q < 4 →
 batch_fits n r q first last l =
     record {
       queue = l;
-      waits = marks_fit (r - 1) (others q) (omega arith) (others_below q);
+      waits = waits_fit n 2 (r - 1) (others q) (omega arith) (others_below q);
       commands = (copy_fits r q l, (fill_fits r q last l, tt));
       signals = (mark_fits r q (omega arith) l, tt);
       fence = tt;
@@ -195,7 +204,7 @@ generated_keeps_rules n last =
     let batches = batches_counted 1 n in
     let commands = commands_counted 1 n in
     record {
-      version = refl;
+      version = inl refl;
       lineless = λ i. record (generated_script n) { jobs = rounds_lineless 1 n i };
       unscheduled = record { unscheduled = refl; turns = refl };
       names = refl;

@@ -19,7 +19,6 @@ pub mod Lanes
 pub mod Signals
 pub mod Lowering
 pub mod ValidScripts
-pub mod Built
 pub mod LoweringFaults
 pub mod Machine
 pub mod SlowRun

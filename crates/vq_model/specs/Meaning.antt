@@ -45,15 +45,7 @@ use Rattle.vq_model.specs.Text.{is_name, numeral}
 
 -- The form of a line
 
--- The forms that are built so far; a line of another form is Syntax. No text has a version, and no wait
--- holds back a part of its batch.
-abbrev pub is_built : LineForm → Bool
-is_built VersionLine = false
-is_built HeldTimelineLine = false
-is_built HeldBinaryLine = false
-is_built other = true
-
--- `version 2` may stand first; in version 2 waits may hold back a part of the commands
+-- `version 2` may stand first; in version 2 a wait may hold back a part of its batch only
 abbrev pub first_forms : List Line → List LineForm
 first_forms [] = VersionLine ∷ []
 first_forms (line ∷ lines) = []
@@ -85,14 +77,9 @@ agree more words = true
 abbrev pub matches : List (List ℕ) → LineForm → Bool
 matches words form = are_as_many (places form) words && agree (places form) words
 
--- a form, where it is built
-abbrev pub where_built : Option LineForm → Option LineForm
-where_built None = None
-where_built (Some form) = if is_built form then Some form else None
-
 -- the form of a line's words
 abbrev pub form_of : Form → List Line → List (List ℕ) → Option LineForm
-form_of form before words = where_built (find (matches words) (forms_at form before))
+form_of form before words = find (matches words) (forms_at form before)
 
 -- The words at its places
 

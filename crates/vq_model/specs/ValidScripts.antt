@@ -1,5 +1,5 @@
 -- What each script that can be written keeps. This project's own.
-use Rattle.std.specs.Prelude.{ℕ, ◌≡◌, ◌<◌, ◌≤◌, Bool, true, false, List, [], ◌∷◌, ◌++◌}
+use Rattle.std.specs.Prelude.{ℕ, ◌≡◌, ◌<◌, ◌≤◌, ◌⊎◌, Bool, true, false, List, [], ◌∷◌, ◌++◌}
 use Rattle.std.specs.Prelude.{length, map, sum, Some, All}
 use Rattle.std.specs.List.{slice_get, flat_map}
 use Rattle.std.specs.Option.{option_map_or, option_to_list}
@@ -53,15 +53,22 @@ pub record IsValidFence (s : Script) (m : Mark) : Type 0 where
   pub kind : is_fence_at s m.semaphore ≡ true
   pub valueless : m.value ≡ 0
 
+-- A wait holds back the commands of its batch from one of them on, counted from 1. In the first version of
+-- the format that is the first: it holds back the whole batch.
+pub record HoldsBack (s : Script) (m : Mark) : Type 0 where
+  pub counted : 0 < m.from
+  pub whole : s.version ≡ 1 → m.from ≡ 1
+
 -- A batch names what exists, of the kinds that its places need, and stays within the limits of a
 -- batch.
 pub record IsValidBatch (s : Script) (b : Batch) : Type 0 where
   pub queue : b.queue < length s.queues
   pub waits : All (IsValidMark s) b.waits
+  pub held : All (HoldsBack s) b.waits
   pub signals : All (IsValidMark s) b.signals
   pub fence : (m : Mark) → b.fence ≡ Some m → IsValidFence s m
-  pub few_waits : length b.waits ≤ 16
-  pub few_signals : length b.signals ≤ 16
+  pub few_waits : length b.waits ≤ (limits_of s.version).waits
+  pub few_signals : length b.signals ≤ (limits_of s.version).signals
 
 abbrev pub HasValidBatches : Script → Type 0
 HasValidBatches s = (j : ℕ) (b : Batch) → slice_get s.jobs j ≡ Some (BatchJob b) → IsValidBatch s b
@@ -86,8 +93,13 @@ IsValidStep s Idle = Unit {0}
 abbrev pub HasValidSteps : Script → Type 0
 HasValidSteps s = (j : ℕ) (h : HostLine) → slice_get s.jobs j ≡ Some (Host h) → IsValidStep s h.step
 
--- Signals name semaphores that exist, commands fit their buffers, and the limits are kept.
+-- There are two versions of the format.
+abbrev pub IsOfAVersion : Script → Type 0
+IsOfAVersion s = (s.version ≡ 1) ⊎ (s.version ≡ 2)
+
+-- Signals name semaphores that exist, commands fit their buffers, and the limits of the version are kept.
 pub record IsValid (s : Script) : Type 0 where
+  pub version : IsOfAVersion s
   pub signals : (e : ℕ) (x : Signaling) → slice_get (all_signals s) e ≡ Some x →
       x.semaphore < length s.semaphores
   pub commands : (j k : ℕ) (job : Job) (x : CommandLine) → slice_get s.jobs j ≡ Some job →

@@ -29,15 +29,15 @@ pub const UPDATE_BYTES: u64 = 65_536;
 
 impl Limits {
     /// The limits of a version.
-    pub fn of(_version: u32) -> Limits
-        ensures { result ≡ limits_of _version }
+    pub fn of(version: u32) -> Limits
+        ensures { result ≡ limits_of version }
     {
         Limits {
             buffers: 64,
             bytes: 1_048_576,
             semaphores: 256,
-            queues: 8,
-            jobs: 4096,
+            queues: if version == 2 { 16 } else { 8 },
+            jobs: if version == 2 { 8192 } else { 4096 },
             commands: 8192,
             batch_commands: 64,
             waits: 16,

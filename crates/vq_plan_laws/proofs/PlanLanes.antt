@@ -30,7 +30,8 @@ use Rattle.vq_model.specs.declared.plan.PlanJob.{PlanJob}
 use Rattle.vq_model.specs.Edges.{AtEnd, must_finish, awaited_at}
 use Rattle.vq_model.specs.ValidScripts.{IsValid, IsValidStep, IsTimelinePair, HasValidBatches, HasValidSteps}
 use Rattle.vq_model.specs.Context.{is_timeline, is_fence}
-use Rattle.vq_reading_laws.proofs.Cited.{kind_exists}
+use Rattle.vq_reading_laws.proofs.Cited.{kind_exists, jobs_fit}
+use Rattle.vq_model.specs.Limits.{limits_of}
 use Rattle.vq_model.proofs.Searches.{find_member}
 use Rattle.vq_plan_laws.proofs.WellFormedPlans.{well_formed}
 
@@ -160,12 +161,16 @@ count_jobs s = length-map (enumerate_from 0 s.jobs) (plan_job s) ∙ count 0 s.j
     count a (x ∷ xs) = let r = count (a + 1) xs in omega arith
 
 module _ (s : Script) (v : IsValid s) (b : HasValidBatches s) where
-  few_of_job : (j : ℕ) (job : Job) → slice_get s.jobs j ≡ Some job → (m : ℕ) → length (job_signals (m, job)) ≤ 17
+  -- the signals of a job are those of a batch and its fence at most
+  abbrev most_signals : ℕ
+  most_signals = (limits_of s.version).signals + 1
+
+  few_of_job : (j : ℕ) (job : Job) → slice_get s.jobs j ≡ Some job → (m : ℕ) → length (job_signals (m, job)) ≤ most_signals
   few_of_job j (Host h) e m = by_step h.step
     where
-      by_step : (t : HostStep) → length (step_signals m h.line t) ≤ 17
-      by_step (Signal pair) = lit≤ tt
-      by_step other = lit≤ tt
+      by_step : (t : HostStep) → length (step_signals m h.line t) ≤ most_signals
+      by_step (Signal pair) = omega arith
+      by_step other = omega arith
   few_of_job j (Batch x) e m =
       let few = (b j x e).few_signals in
       let c = length-map (x.signals ++ option_to_list x.fence) (of_mark m) in
@@ -243,14 +248,15 @@ module _ (s : Script) (v : IsValid s) (b : HasValidBatches s) where
   few_jobs =
       let n = count_jobs s in
       let l = v.limits.jobs in
-      let m : length s.jobs ≤ 4096 = l in
+      let m = jobs_fit s.version in
       omega arith
 
-  few_ops : length (plan_of s).ops < 2 ^ 32
+  pub few_ops : length (plan_of s).ops < 2 ^ 32
   few_ops =
       let n = count_ops s in
-      let l : length s.jobs ≤ 4096 = v.limits.jobs in
-      let r = few_signals 17 s.jobs 0 few_of_job in
+      let l = v.limits.jobs in
+      let m = jobs_fit s.version in
+      let r = few_signals most_signals s.jobs 0 few_of_job in
       omega arith
 
   pub keeps_lanes : KeepsLanes (plan_of s)
@@ -305,7 +311,7 @@ module _ (s : Script) (v : IsValid s) (b : HasValidBatches s) where
             omega arith
             );
         needs_chain = needs_chain w;
-        few = (let l : length s.semaphores ≤ 256 = v.limits.semaphores in omega arith);
+        few = (let l = v.limits.semaphores in omega arith);
         initials = length-map s.semaphores (λ x. initial_value x.kind);
         chains = length-map (range_with_len 0 (length s.semaphores)) (chain_ops s) ∙ count (length s.semaphores) 0;
       }

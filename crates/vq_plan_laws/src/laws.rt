@@ -81,10 +81,9 @@ pub fn plans_are_in_order()
     ensures lines { (p : Plan) → IsPlan p → HasLinesInOrder p }
 {}
 
-/// What the plan of a script of the forms that are built so far doesn't have: a wait that holds back a
-/// part of a batch only.
-pub fn plans_of_built_forms()
-    ensures unheld { (p : Plan) → IsPlan p → HasNoHeldWait p }
+/// In a plan of the first version no wait holds back a part of its batch only.
+pub fn first_version_holds_no_wait()
+    ensures { (p : Plan) → IsPlan p → p.script.version ≡ 1 → HasNoHeldWait p }
 {}
 
 /// No part of a plan but its script depends on the turns of a schedule. So where a script was read, and

@@ -13,6 +13,7 @@ use Rattle.vq_model.specs.declared.script.Command.{Command}
 use Rattle.vq_model.specs.declared.script.Command.TheVariants.{Fill, Update, Copy}
 use Rattle.vq_model.specs.declared.script.FillSize.TheVariants.{Whole, Count}
 use Rattle.vq_model.specs.Context.{size_in}
+use Rattle.vq_model.specs.Limits.{update_bytes}
 
 -- the sizes of the buffers that lines declare
 abbrev pub sizes_before : List Line → List ℕ
@@ -80,7 +81,7 @@ fits_in_range before (Fill b o (Count n) w) h k =
 fits_in_range before (Update b o bytes) h k =
     let parts =
     and_parts (is_within (buffers before) b o (length bytes) && is_aligned o && is_aligned (length bytes))
-    (not (nat_lt 65536 (length bytes))) h in
+    (not (nat_lt update_bytes (length bytes))) h in
     let front =
     and_parts (is_within (buffers before) b o (length bytes) && is_aligned o) (is_aligned (length bytes))
     parts.0 in

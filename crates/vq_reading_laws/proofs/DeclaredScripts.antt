@@ -29,7 +29,7 @@ use Rattle.vq_model.specs.Context.{is_fence, is_timeline, is_threaded}
 use Rattle.vq_reading_laws.proofs.KeptTurns.{IsTurnOf}
 use Rattle.vq_model.specs.ScriptOfLines.{first_of_list}
 use Rattle.vq_model.specs.Signals.{kind_of, Signaling, all_signals, job_signals, step_signals, of_mark}
-use Rattle.vq_model.specs.ValidScripts.{IsValidMark, IsValidFence, IsValidBatch, IsValidStep, IsTimelinePair, IsActor, HasValidBatches, HasValidSteps}
+use Rattle.vq_model.specs.ValidScripts.{IsValidMark, IsValidFence, HoldsBack, IsValidBatch, IsValidStep, IsTimelinePair, IsActor, HasValidBatches, HasValidSteps}
 use Rattle.vq_model.proofs.Gets.{get-map, get_within}
 use Rattle.vq_reading_laws.proofs.LineFacts.{IsMarkOf, IsActorOf}
 use Rattle.std.specs.Prelude.{All}
@@ -71,6 +71,7 @@ module _ (s : Script) where
   abbrev declared_in : Declarations
   declared_in =
       record {
+        version = s.version;
         sizes = map (λ b. b.size) s.buffers;
         kinds = map (λ x. x.kind) s.semaphores;
         modes = map (λ q. q.mode) s.queues;
@@ -124,8 +125,12 @@ module _ (s : Script) where
         queue = omega arith;
         waits =
             of_every (IsValidMark s) b.waits
-            (all_weaker (IsWaitOf declared_in) (IsValidMark s) b.waits (λ m h. valid_mark m h.0)
+            (all_weaker (IsWaitOf declared_in) (IsValidMark s) b.waits (λ m h. valid_mark m h.mark)
             p.waits_of);
+        held =
+            of_every (HoldsBack s) b.waits
+            (all_weaker (IsWaitOf declared_in) (HoldsBack s) b.waits
+            (λ m h. record { counted = h.counted; whole = h.whole }) p.waits_of);
         signals =
             of_every (IsValidMark s) b.signals
             (all_weaker (IsSignalOf declared_in) (IsValidMark s) b.signals valid_mark
@@ -160,13 +165,6 @@ module _ (s : Script) where
   valid_step (FencePoll f) h = kind_named is_fence f h
   valid_step (FenceReset f) h = kind_named is_fence f h
   valid_step Idle h = tt
-
-  -- waits hold back whole batches
-  pub whole_waits : (b : Batch) → KeepsJob declared_in b → All (λ m. m.from ≡ 1) b.waits
-  whole_waits b k =
-      of_every (λ m. m.from ≡ 1) b.waits
-      (all_weaker (IsWaitOf declared_in) (λ m. m.from ≡ 1) b.waits (λ m h. h.1)
-      k.parts.waits_of)
 
   -- the actors of turns
   valid_actor : (a : ActorName) → IsActorOf declared_in.modes a → IsActor s a

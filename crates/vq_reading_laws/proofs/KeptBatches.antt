@@ -1,5 +1,5 @@
 -- Batches of what is declared keep what a batch keeps.
-use Rattle.std.proofs.Common.{◌≡◌, ℕ, suc, ◌+◌, Bool, true, false, cond, not, List, [], ◌∷◌, take, refl, ap, arith, ◌++◌, map, Some, ◌-◌, ◌≤◌, length, ◌<◌, sym, ◌∙◌, subst}
+use Rattle.std.proofs.Common.{◌≡◌, ℕ, suc, ◌+◌, Bool, true, false, cond, not, List, [], ◌∷◌, take, refl, ap, arith, ◌++◌, map, Some, ◌-◌, ◌≤◌, length, ◌<◌, sym, ◌∙◌, subst, ◌⊎◌, inl, inr}
 use Rattle.std.specs.List.{position_or_len, AllByRecursion as Every, slice_get, filter_map}
 use Rattle.vq_model.specs.declared.statement.Line.{Line}
 use Rattle.vq_model.specs.Context.{is_end, is_command, count, version_of}
@@ -20,10 +20,11 @@ use Rattle.vq_model.specs.declared.script.Job.TheVariants.{Host, Batch as BatchJ
 use Rattle.vq_model.specs.Lowering.{commands_in}
 use Rattle.std.proofs.lemmas.List.Sums.{sum_by-cons}
 use Rattle.vq_model.specs.declared.statement.Statement.{Statement}
-use Rattle.vq_model.specs.declared.statement.Statement.TheVariants.{DeclareBuffer, DeclareSemaphore, DeclareQueue, BeginBatch, AddWait, AddCommand, AddSignal, AddFence, EndBatch, BeginSchedule, TakeTurns, TakeHostStep}
+use Rattle.vq_model.specs.declared.statement.Statement.TheVariants.{HasVersion, DeclareBuffer, DeclareSemaphore, DeclareQueue, BeginBatch, AddWait, AddCommand, AddSignal, AddFence, EndBatch, BeginSchedule, TakeTurns, TakeHostStep}
 use Rattle.vq_model.specs.declared.script.HostStep.{HostStep}
 use Rattle.vq_model.specs.declared.script.Command.{Command}
 use Rattle.vq_model.specs.Context.{is_job}
+use Rattle.vq_model.specs.Limits.{limits_of}
 use Rattle.vq_reading_laws.proofs.LinePushes.{a_line}
 
 -- the lines of a batch, line by line
@@ -62,8 +63,10 @@ abbrev pub pair_of : Mark → Pair
 pair_of m = record { semaphore = m.semaphore; value = m.value }
 
 -- a wait, a signal, a fence, a command of these declarations
-abbrev pub IsWaitOf : Declarations → Mark → Type 0
-IsWaitOf d m = IsMarkOf d.kinds (pair_of m) × (m.from ≡ 1)
+pub record IsWaitOf (d : Declarations) (m : Mark) : Type 0 where
+  pub mark : IsMarkOf d.kinds (pair_of m)
+  pub counted : 0 < m.from
+  pub whole : d.version ≡ 1 → m.from ≡ 1
 
 abbrev pub IsSignalOf : Declarations → Mark → Type 0
 IsSignalOf d m = IsMarkOf d.kinds (pair_of m)
@@ -81,8 +84,8 @@ pub record KeepsBatch (d : Declarations) (q w g : ℕ) (waits : List Mark) (comm
   pub commands_of : Every (IsCommandOf d) commands
   pub signals_of : Every (IsSignalOf d) signals
   pub fences_of : Every (IsFenceOf d) fences
-  pub few_waits : length waits ≤ 16 - w
-  pub few_signals : length signals ≤ 16 - g
+  pub few_waits : length waits ≤ (limits_of d.version).waits - w
+  pub few_signals : length signals ≤ (limits_of d.version).signals - g
 
 abbrev KeepsOpen : Declarations → ℕ → ℕ → ℕ → List Line → Type 0
 KeepsOpen d q w g lines =
@@ -145,7 +148,10 @@ module _ (d : Declarations) where
       let l = o.few_waits in
       let f = h.few in
       record {
-        waits_of = ((h.mark, h.whole), o.waits_of);
+        waits_of = (
+          record { mark = h.mark; counted = h.counted; whole = h.whole },
+          o.waits_of,
+        );
         commands_of = o.commands_of;
         signals_of = o.signals_of;
         fences_of = o.fences_of;
@@ -165,7 +171,8 @@ module _ (d : Declarations) where
         few_signals = o.few_signals;
       }
 
-  open_signal : (n q w g : ℕ) (pair : Pair) (lines : List Line) → IsMarkOf d.kinds pair → g < 16 →
+  open_signal : (n q w g : ℕ) (pair : Pair) (lines : List Line) → IsMarkOf d.kinds pair →
+      g < (limits_of d.version).signals →
       KeepsOpen d q w (g + 1) lines → KeepsOpen d q w g (a_line n (AddSignal pair) ∷ lines)
   open_signal n q w g pair lines h f o =
       let l = o.few_signals in
@@ -301,6 +308,8 @@ module _ (d : Declarations) where
   jobs_kept_more : (n : ℕ) (was : Where) (s : Statement) (lines : List Line) →
       Stands d was s → JobsKept d (where_after was s) lines →
       JobsKept d was (a_line n s ∷ lines)
+  jobs_kept_more n is_outside (HasVersion version) lines h k =
+      jobs_kept_declared n is_outside is_outside (HasVersion version) lines refl refl refl tt refl k
   jobs_kept_more n is_outside (DeclareBuffer name size) lines h k =
       jobs_kept_declared n is_outside is_outside (DeclareBuffer name size) lines refl refl refl tt refl k
   jobs_kept_more n is_outside (DeclareSemaphore name kind) lines h k =
@@ -345,17 +354,19 @@ module _ (d : Declarations) where
       jobs_kept_more line.number was line.statement lines a.0
       (jobs_kept (where_after was line.statement) lines a.1)
 
-  -- lines that stand name no version
-  pub no_version : (lines : List Line) → AllStand d is_outside lines → version_of lines ≡ 1
-  no_version [] a = refl
-  no_version (line ∷ lines) a = by_statement line.number line.statement a.0
+  -- lines that stand are of the first version, or of the second one where the first names it
+  pub some_version : (lines : List Line) → AllStand d is_outside lines →
+      (version_of lines ≡ 1) ⊎ (version_of lines ≡ 2)
+  some_version [] a = inl refl
+  some_version (line ∷ lines) a = by_statement line.number line.statement a.0
     where
       by_statement : (n : ℕ) (s : Statement) → Stands d is_outside s →
-          version_of (a_line n s ∷ lines) ≡ 1
-      by_statement n (DeclareBuffer name size) h = refl
-      by_statement n (DeclareSemaphore name kind) h = refl
-      by_statement n (DeclareQueue name mode) h = refl
-      by_statement n (BeginBatch q) h = refl
-      by_statement n (TakeHostStep step) h = refl
-      by_statement n BeginSchedule h = refl
+          (version_of (a_line n s ∷ lines) ≡ 1) ⊎ (version_of (a_line n s ∷ lines) ≡ 2)
+      by_statement n (HasVersion version) h = inr h
+      by_statement n (DeclareBuffer name size) h = inl refl
+      by_statement n (DeclareSemaphore name kind) h = inl refl
+      by_statement n (DeclareQueue name mode) h = inl refl
+      by_statement n (BeginBatch q) h = inl refl
+      by_statement n (TakeHostStep step) h = inl refl
+      by_statement n BeginSchedule h = inl refl
       by_statement n s h = absurd h

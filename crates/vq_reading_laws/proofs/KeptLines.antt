@@ -26,8 +26,9 @@ use Rattle.vq_reading_laws.proofs.LinePushes.{a_line, count_push, some_push}
 use Rattle.vq_reading_laws.proofs.LineFacts.{Said, turns_before}
 use Rattle.vq_model.specs.declared.statement.Section.{Section}
 use Rattle.vq_model.specs.declared.statement.Section.TheVariants.{Outside, InBatch, InSchedule}
-use Rattle.vq_model.specs.declared.statement.Statement.TheVariants.{DeclareBuffer, DeclareSemaphore, DeclareQueue, BeginBatch, AddWait, AddCommand, AddSignal, AddFence, EndBatch, BeginSchedule, TakeTurns, TakeHostStep}
+use Rattle.vq_model.specs.declared.statement.Statement.TheVariants.{HasVersion, DeclareBuffer, DeclareSemaphore, DeclareQueue, BeginBatch, AddWait, AddCommand, AddSignal, AddFence, EndBatch, BeginSchedule, TakeTurns, TakeHostStep}
 use Rattle.vq_model.specs.Context.{is_job}
+use Rattle.vq_reading_laws.proofs.Versions.{most_before, first_stays, queues_grow, jobs_grow}
 
 -- What is kept from line to line
 
@@ -35,13 +36,13 @@ use Rattle.vq_model.specs.Context.{is_job}
 pub record LinesKept (form : Form) (next : ℕ) (before : List Line) : Type 0 where
   pub stand : AllStand (declared_by before) is_outside before
   pub leads : Lead before (where_of before)
-  pub few_buffers : length (buffers before) ≤ 64
-  pub few_bytes : sum (sizes_before before) ≤ 1048576
-  pub few_semaphores : length (semaphores before) ≤ 256
-  pub few_queues : length (queues before) ≤ 8
-  pub few_jobs : count is_job before ≤ 4096
-  pub few_commands : count is_command before ≤ 8192
-  pub few_turns : turns_before before ≤ 65536
+  pub few_buffers : length (buffers before) ≤ (most_before before).buffers
+  pub few_bytes : sum (sizes_before before) ≤ (most_before before).bytes
+  pub few_semaphores : length (semaphores before) ≤ (most_before before).semaphores
+  pub few_queues : length (queues before) ≤ (most_before before).queues
+  pub few_jobs : count is_job before ≤ (most_before before).jobs
+  pub few_commands : count is_command before ≤ (most_before before).commands
+  pub few_turns : turns_before before ≤ (most_before before).turns
   pub planned : some is_schedule before ≡ true → form ≡ Scheduled
   pub rising : AreRising (map (λ l. l.number) before)
   pub numbered : (m : ℕ) → has (map (λ l. l.number) before) m ≡ true → m < next
@@ -132,6 +133,7 @@ module _ (form : Form) (before : List Line) (n : ℕ) (s : Statement) where
   declared_more : Grows (declared_by before) (declared_by (with_line before n s))
   declared_more =
       record {
+        first = first_stays before n s;
         more_sizes = map (λ (b : Buffer). b.size) (filter_map buffer_of (a_line n s ∷ []));
         sizes_are = sizes_more;
         more_kinds = map (λ (x : Semaphore). x.kind) (filter_map semaphore_of (a_line n s ∷ []));
@@ -146,16 +148,20 @@ module _ (form : Form) (before : List Line) (n : ℕ) (s : Statement) where
             (filter_map queue_of (a_line n s ∷ []));
       }
 
-  -- one line more, which passes no limit
+  -- one line more, which passes no limit of the lines before it
   kept_push : LinesKept form n before → Said form before (section before) s →
-      (is_schedule s ≡ true → form ≡ Scheduled) → turns_before before + turns_of s ≤ 65536 →
-      length (buffers before) + length (filter_map buffer_of (a_line n s ∷ [])) ≤ 64 →
+      (is_schedule s ≡ true → form ≡ Scheduled) →
+      turns_before before + turns_of s ≤ (most_before before).turns →
+      length (buffers before) + length (filter_map buffer_of (a_line n s ∷ []))
+      ≤ (most_before before).buffers →
       sum (sizes_before before)
-      + sum (map (λ b. b.size) (filter_map buffer_of (a_line n s ∷ []))) ≤ 1048576 →
-      length (semaphores before) + length (filter_map semaphore_of (a_line n s ∷ [])) ≤ 256 →
-      length (queues before) + length (filter_map queue_of (a_line n s ∷ [])) ≤ 8 →
-      count is_job before + cond (is_job s) 1 0 ≤ 4096 →
-      count is_command before + cond (is_command s) 1 0 ≤ 8192 →
+      + sum (map (λ b. b.size) (filter_map buffer_of (a_line n s ∷ []))) ≤ (most_before before).bytes →
+      length (semaphores before) + length (filter_map semaphore_of (a_line n s ∷ []))
+      ≤ (most_before before).semaphores →
+      length (queues before) + length (filter_map queue_of (a_line n s ∷ []))
+      ≤ (most_before before).queues →
+      count is_job before + cond (is_job s) 1 0 ≤ (most_before before).jobs →
+      count is_command before + cond (is_command s) 1 0 ≤ (most_before before).commands →
       LinesKept form (n + 1) (with_line before n s)
   kept_push k said planned u b z t q j c =
       let here = said_stands form before (where_of before) s k.leads said in
@@ -173,6 +179,8 @@ module _ (form : Form) (before : List Line) (n : ℕ) (s : Statement) where
       let lj = count_push is_job before n s in
       let lc = count_push is_command before n s in
       let lu = turns_more in
+      let mq = queues_grow before n s in
+      let mj = jobs_grow before n s in
       record {
         stand =
             all_stand_push (declared_by (with_line before n s)) is_outside before n s
@@ -226,25 +234,25 @@ pub kept_more : (form : Form) (before : List Line) (n : ℕ) (s : Statement) →
     LinesKept form (n + 1) (with_line before n s)
 kept_more form before n s k said = by_section (section before) s refl said
   where
-    kb : length (buffers before) ≤ 64
+    kb : length (buffers before) ≤ (most_before before).buffers
     kb = k.few_buffers
 
-    kz : sum (sizes_before before) ≤ 1048576
+    kz : sum (sizes_before before) ≤ (most_before before).bytes
     kz = k.few_bytes
 
-    kt : length (semaphores before) ≤ 256
+    kt : length (semaphores before) ≤ (most_before before).semaphores
     kt = k.few_semaphores
 
-    kq : length (queues before) ≤ 8
+    kq : length (queues before) ≤ (most_before before).queues
     kq = k.few_queues
 
-    kj : count is_job before ≤ 4096
+    kj : count is_job before ≤ (most_before before).jobs
     kj = k.few_jobs
 
-    kc : count is_command before ≤ 8192
+    kc : count is_command before ≤ (most_before before).commands
     kc = k.few_commands
 
-    ku : turns_before before ≤ 65536
+    ku : turns_before before ≤ (most_before before).turns
     ku = k.few_turns
 
     no : false ≡ true → form ≡ Scheduled
@@ -256,6 +264,10 @@ kept_more form before n s k said = by_section (section before) s refl said
 
     by_section : (was : Section) (s : Statement) → section before ≡ was → Said form before was s →
         LinesKept form (n + 1) (with_line before n s)
+    by_section Outside (HasVersion version) e h =
+        kept_push form before n (HasVersion version) k (again Outside (HasVersion version) e h) no
+        (omega arith) (omega arith) (omega arith) (omega arith) (omega arith) (omega arith)
+        (omega arith)
     by_section Outside (DeclareBuffer name size) e h =
         let l = h.0 in
         let m = h.1 in

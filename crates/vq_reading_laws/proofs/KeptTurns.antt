@@ -6,7 +6,7 @@ use Rattle.std.proofs.lemmas.List.Sums.{sum_by-cons}
 use Rattle.std.proofs.lemmas.Bool.{false≢true, or_parts}
 use Rattle.vq_model.specs.declared.statement.Line.{Line}
 use Rattle.vq_model.specs.declared.statement.Statement.{Statement}
-use Rattle.vq_model.specs.declared.statement.Statement.TheVariants.{DeclareBuffer, DeclareSemaphore, DeclareQueue, BeginBatch, AddWait, AddCommand, AddSignal, AddFence, EndBatch, BeginSchedule, TakeTurns, TakeHostStep}
+use Rattle.vq_model.specs.declared.statement.Statement.TheVariants.{HasVersion, DeclareBuffer, DeclareSemaphore, DeclareQueue, BeginBatch, AddWait, AddCommand, AddSignal, AddFence, EndBatch, BeginSchedule, TakeTurns, TakeHostStep}
 use Rattle.vq_model.specs.declared.script.Turn.{Turn}
 use Rattle.vq_model.specs.Context.{some, turns_of}
 use Rattle.vq_model.specs.ScriptOfLines.{is_schedule, turns_at}
@@ -64,6 +64,7 @@ module _ (d : Declarations) where
   -- A line leads into the schedule where it begins it, or stands in it.
   leads_into : (was : Where) (s : Statement) → Stands d was s →
       is_at_schedule (where_after was s) ≡ (is_at_schedule was || is_schedule s)
+  leads_into is_outside (HasVersion version) h = refl
   leads_into is_outside (DeclareBuffer name size) h = refl
   leads_into is_outside (DeclareSemaphore name kind) h = refl
   leads_into is_outside (DeclareQueue name mode) h = refl

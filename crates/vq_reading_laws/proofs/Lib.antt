@@ -2,6 +2,7 @@ pub mod Cited
 mod CommandRanges
 mod DeclaredScripts
 mod FirstFaults
+mod FormPlaces
 mod KeptBatches
 mod KeptLines
 mod KeptTurns
@@ -15,6 +16,7 @@ mod ReadLines
 mod ScriptFacts
 mod Standing
 mod TextFacts
+mod Versions
 mod SameScripts
 mod WithoutTurns
 mod WrittenScripts

@@ -1,5 +1,5 @@
 -- What a line without a fault says, by the part of the text in which it stands.
-use Rattle.std.proofs.Common.{List, map, ◌≡◌, false, Some, ℕ, ◌<◌, ◌+◌, ◌≤◌, length, Bool, true, cond, [], ◌∷◌, find, subst, ◌++◌, ◌==◌, refl, Option, None, arith, not, suc, zero, ap, ◌&&◌, ◌||◌, option_map, sym, ◌∙◌}
+use Rattle.std.proofs.Common.{List, map, ◌≡◌, false, Some, ℕ, ◌<◌, ◌+◌, ◌≤◌, length, Bool, true, cond, [], ◌∷◌, subst, ◌==◌, refl, Option, None, arith, not, suc, zero, ap, ◌&&◌, ◌||◌, option_map, sym, ◌∙◌}
 use Rattle.vq_model.specs.declared.statement.Line.{Line}
 use Rattle.vq_model.specs.declared.script.SemaphoreKind.{SemaphoreKind}
 use Rattle.vq_model.specs.Earlier.{earlier}
@@ -8,7 +8,7 @@ use Rattle.vq_model.specs.declared.script.Mode.{Mode}
 use Rattle.vq_model.specs.declared.script.Mode.TheVariants.{Immediate, Deferred, Threaded}
 use Rattle.vq_model.specs.declared.script.ActorName.{ActorName}
 use Rattle.vq_model.specs.declared.script.ActorName.TheVariants.{Host as HostActor, Submit as SubmitActor, Ring as RingActor}
-use Rattle.std.specs.List.{slice_get, list_all, position, position_or_len}
+use Rattle.std.specs.List.{slice_get, position, position_or_len}
 use Rattle.vq_model.specs.declared.script.Pair.{Pair}
 use Rattle.std.specs.Prelude.{nat_lt, sum}
 use Rattle.vq_model.specs.LineFaults.{fault_of, has_fault, part_of_form, is_out_of_order, is_declaration, is_batch_fence_form, is_in_range, overlaps}
@@ -18,22 +18,25 @@ use Rattle.vq_reading_laws.proofs.CommandRanges.{sizes_before, fits_in_range}
 use Rattle.vq_model.specs.declared.statement.Section.{Section}
 use Rattle.vq_model.specs.declared.statement.Section.TheVariants.{Outside, InBatch, InSchedule}
 use Rattle.vq_model.specs.declared.statement.Statement.{Statement}
-use Rattle.vq_model.specs.declared.statement.Statement.TheVariants.{DeclareBuffer, DeclareSemaphore, DeclareQueue, BeginBatch, AddWait, AddCommand, AddSignal, AddFence, EndBatch, BeginSchedule, TakeTurns, TakeHostStep}
+use Rattle.vq_model.specs.declared.statement.Statement.TheVariants.{HasVersion, DeclareBuffer, DeclareSemaphore, DeclareQueue, BeginBatch, AddWait, AddCommand, AddSignal, AddFence, EndBatch, BeginSchedule, TakeTurns, TakeHostStep}
 use Rattle.vq_model.specs.declared.script.HostStep.{HostStep}
 use Rattle.vq_model.specs.declared.script.HostStep.TheVariants.{WaitAll, WaitAny, PollAll, PollAny, Read, FenceWait, FencePoll, FenceReset, Idle}
 use Rattle.vq_reading_laws.proofs.NamedSemaphores.{found_at, kind_at, kinds_before, IsStepOf, SaysStep, timeline_named, fence_named, says_pair, says_pairs, says_name}
 use Rattle.vq_model.specs.declared.script.SemaphoreKind.TheVariants.{Fence, Timeline, Binary}
 use Rattle.vq_model.specs.declared.statement.LineForm.{LineForm}
-use Rattle.vq_model.specs.declared.statement.LineForm.TheVariants.{BufferLine, TimelineLine, BinaryLine, FenceLine, QueueLine, SubmitLine, WaitTimelineLine, WaitBinaryLine, FillWholeLine, FillLine, UpdateLine, CopyLine, SignalTimelineLine, SignalBinaryLine, BatchFenceLine, EndLine, ScheduleLine, TurnLine, TurnsLine, HostSignalLine, HostWaitAllLine, HostWaitAnyLine, HostPollAllLine, HostPollAnyLine, HostReadLine, HostFenceWaitLine, HostFencePollLine, HostFenceResetLine, HostIdleLine}
+use Rattle.vq_model.specs.declared.statement.LineForm.TheVariants.{VersionLine, BufferLine, TimelineLine, BinaryLine, FenceLine, QueueLine, SubmitLine, WaitTimelineLine, WaitBinaryLine, HeldTimelineLine, HeldBinaryLine, FillWholeLine, FillLine, UpdateLine, CopyLine, SignalTimelineLine, SignalBinaryLine, BatchFenceLine, EndLine, ScheduleLine, TurnLine, TurnsLine, HostSignalLine, HostWaitAllLine, HostWaitAnyLine, HostPollAllLine, HostPollAnyLine, HostReadLine, HostFenceWaitLine, HostFencePollLine, HostFenceResetLine, HostIdleLine}
 use Rattle.std.proofs.lemmas.List.{length-map}
 use Rattle.std.proofs.lemmas.Bool.{and_parts, ltb-true, false≢true, ltb-false, or_parts}
 use Rattle.vq_model.specs.declared.statement.Form.{Form}
-use Rattle.vq_model.specs.Forms.{forms_outside, forms_in_batch, forms_in_schedule, held_forms, schedule_forms, places}
+use Rattle.vq_model.specs.Forms.{places}
 use Rattle.std.specs.Prelude.{codes, drop}
-use Rattle.vq_model.specs.Meaning.{first_forms, is_built, where_built, of_two, of_three, of_four, of_five, matches, open_places, hex_bytes, statement_of, meaning, form_of, forms_at, small_numeral, binary_pair, actor_at, is_marked, pairs_at}
+use Rattle.vq_model.specs.Meaning.{of_two, of_three, of_four, of_five, matches, open_places, hex_bytes, statement_of, meaning, form_of, forms_at, small_numeral, binary_pair, actor_at, is_marked, pairs_at}
 use Rattle.vq_model.specs.declared.statement.Form.TheVariants.{Plain, Scheduled}
 use Rattle.vq_model.specs.declared.script.Queue.{Queue}
-use Rattle.vq_reading_laws.proofs.Meanings.{built_found, first_fails}
+use Rattle.vq_reading_laws.proofs.Meanings.{first_fails}
+use Rattle.vq_reading_laws.proofs.FormPlaces.{belongs, forms_belong, suits, forms_suit, found_belongs, is_first}
+use Rattle.vq_reading_laws.proofs.Versions.{most_before}
+use Rattle.vq_model.specs.declared.limits.Limits.{Limits}
 use Rattle.std.specs.Option.{option_map_or, option_and_then}
 use Rattle.std.specs.Str.{bytes_eq}
 use Rattle.vq_model.specs.declared.statement.FaultKind.TheVariants.{Syntax, Order, Number, Name, Twice, Range, Overlap, Limit}
@@ -66,21 +69,22 @@ KeepsParts before part = some (λ s. nat_lt part (part_of s)) (open_batch before
 
 -- what a wait says
 pub record SaidWait (before : List Line) (pair : Pair) (from : ℕ) : Type 0 where
-  pub whole : from ≡ 1
+  pub counted : 0 < from
+  pub whole : version_of before ≡ 1 → from ≡ 1
   pub mark : IsMarkOf (kinds_before before) pair
-  pub few : count is_wait (open_batch before) < 16
+  pub few : count is_wait (open_batch before) < (most_before before).waits
   pub parts : KeepsParts before 1
 
 -- what a command says
 pub record SaidCommand (before : List Line) (command : Command) : Type 0 where
   pub fits : Fits (sizes_before before) command
-  pub few : count is_command before < 8192
+  pub few : count is_command before < (most_before before).commands
   pub parts : KeepsParts before 2
 
 -- what a signal says
 pub record SaidSignal (before : List Line) (pair : Pair) : Type 0 where
   pub mark : IsMarkOf (kinds_before before) pair
-  pub few : count is_signal (open_batch before) < 16
+  pub few : count is_signal (open_batch before) < (most_before before).signals
   pub parts : KeepsParts before 3
 
 -- an actor of queues of these modes
@@ -93,14 +97,18 @@ IsActorOf modes (RingActor q) = q < length modes
 abbrev pub turns_before : List Line → ℕ
 turns_before before = sum (map (λ line. turns_of line.statement) before)
 
--- What a statement keeps, by the part of the text in which it stands: the forms that are built so
--- far.
+-- What a statement keeps, by the part of the text in which it stands.
 abbrev pub Said : Form → List Line → Section → Statement → Type 0
+Said form before Outside (HasVersion version) = (before ≡ []) × (version ≡ 2)
 Said form before Outside (DeclareBuffer name size) =
-    (length (buffers before) < 64) × (sum (sizes_before before) + size ≤ 1048576)
-Said form before Outside (DeclareSemaphore name kind) = length (semaphores before) < 256
-Said form before Outside (DeclareQueue name mode) = length (queues before) < 8
-Said form before Outside (BeginBatch q) = (q < length (queues before)) × (count is_job before < 4096)
+    (length (buffers before) < (most_before before).buffers)
+    × (sum (sizes_before before) + size ≤ (most_before before).bytes)
+Said form before Outside (DeclareSemaphore name kind) =
+    length (semaphores before) < (most_before before).semaphores
+Said form before Outside (DeclareQueue name mode) =
+    length (queues before) < (most_before before).queues
+Said form before Outside (BeginBatch q) =
+    (q < length (queues before)) × (count is_job before < (most_before before).jobs)
 Said form before InBatch (AddWait pair from) = SaidWait before pair from
 Said form before InBatch (AddCommand c) = SaidCommand before c
 Said form before InBatch (AddSignal pair) = SaidSignal before pair
@@ -108,148 +116,12 @@ Said form before InBatch (AddFence f) =
     (slice_get (kinds_before before) f ≡ Some Fence) × KeepsParts before 4
 Said form before InBatch EndBatch = Unit {0}
 Said form before Outside (TakeHostStep step) =
-    IsStepOf (kinds_before before) step × (count is_job before < 4096)
+    IsStepOf (kinds_before before) step × (count is_job before < (most_before before).jobs)
 Said form before Outside BeginSchedule = form ≡ Scheduled
 Said form before InSchedule (TakeTurns actor count) =
-    IsActorOf (modes_before before) actor × (turns_before before + count ≤ 65536)
+    IsActorOf (modes_before before) actor
+    × (turns_before before + count ≤ (most_before before).turns)
 Said form before was other = ⊥
-
--- whether a form that is built may stand in a part of the text
-abbrev pub belongs : Section → LineForm → Bool
-belongs Outside WaitTimelineLine = false
-belongs Outside WaitBinaryLine = false
-belongs Outside FillWholeLine = false
-belongs Outside FillLine = false
-belongs Outside UpdateLine = false
-belongs Outside CopyLine = false
-belongs Outside SignalTimelineLine = false
-belongs Outside SignalBinaryLine = false
-belongs Outside BatchFenceLine = false
-belongs Outside EndLine = false
-belongs Outside TurnLine = false
-belongs Outside TurnsLine = false
-belongs InBatch BufferLine = false
-belongs InBatch TimelineLine = false
-belongs InBatch BinaryLine = false
-belongs InBatch FenceLine = false
-belongs InBatch (QueueLine mode) = false
-belongs InBatch SubmitLine = false
-belongs InBatch HostSignalLine = false
-belongs InBatch HostWaitAllLine = false
-belongs InBatch HostWaitAnyLine = false
-belongs InBatch HostPollAllLine = false
-belongs InBatch HostPollAnyLine = false
-belongs InBatch HostReadLine = false
-belongs InBatch HostFenceWaitLine = false
-belongs InBatch HostFencePollLine = false
-belongs InBatch HostFenceResetLine = false
-belongs InBatch HostIdleLine = false
-belongs InBatch ScheduleLine = false
-belongs InBatch TurnLine = false
-belongs InBatch TurnsLine = false
-belongs InSchedule BufferLine = false
-belongs InSchedule TimelineLine = false
-belongs InSchedule BinaryLine = false
-belongs InSchedule FenceLine = false
-belongs InSchedule (QueueLine mode) = false
-belongs InSchedule SubmitLine = false
-belongs InSchedule HostSignalLine = false
-belongs InSchedule HostWaitAllLine = false
-belongs InSchedule HostWaitAnyLine = false
-belongs InSchedule HostPollAllLine = false
-belongs InSchedule HostPollAnyLine = false
-belongs InSchedule HostReadLine = false
-belongs InSchedule HostFenceWaitLine = false
-belongs InSchedule HostFencePollLine = false
-belongs InSchedule HostFenceResetLine = false
-belongs InSchedule HostIdleLine = false
-belongs InSchedule WaitTimelineLine = false
-belongs InSchedule WaitBinaryLine = false
-belongs InSchedule FillWholeLine = false
-belongs InSchedule FillLine = false
-belongs InSchedule UpdateLine = false
-belongs InSchedule CopyLine = false
-belongs InSchedule SignalTimelineLine = false
-belongs InSchedule SignalBinaryLine = false
-belongs InSchedule BatchFenceLine = false
-belongs InSchedule EndLine = false
-belongs InSchedule ScheduleLine = false
-belongs was other = true
-
--- what is found is one of those that all pass a test
-pub found_belongs : {A : Type 0} (p q : A → Bool) (xs : List A) (y : A) → list_all q xs ≡ true →
-    find p xs ≡ Some y → q y ≡ true
-found_belongs p q [] y a h = absurd (cc)
-found_belongs {A} p q (x ∷ xs) y a h =
-    let parts = and_parts (q x) (list_all q xs) a in
-    by_test (p x) parts.0 (found_belongs p q xs y parts.1) h
-  where
-    by_test : (b : Bool) → q x ≡ true → (find p xs ≡ Some y → q y ≡ true) →
-        cond b (Some x) (find p xs) ≡ Some y → q y ≡ true
-    by_test true e rest h = let same : x ≡ y = cc in subst (λ (z : A). q z ≡ true) same e
-    by_test false e rest h = rest h
-
--- the forms of a part of the text
-abbrev pub forms_in : Form → List Line → Section → List LineForm
-forms_in form before Outside = first_forms before ++ forms_outside ++ schedule_forms form
-forms_in form before InBatch = held_forms (version_of before) ++ forms_in_batch
-forms_in form before InSchedule = forms_in_schedule
-
--- they belong to it
-pub forms_belong : (form : Form) (before : List Line) (was : Section) →
-    list_all (belongs was) (forms_in form before was) ≡ true
-forms_belong form before Outside = outside form before
-  where
-    outside : (form : Form) (before : List Line) →
-        list_all (belongs Outside) (first_forms before ++ forms_outside ++ schedule_forms form)
-        ≡ true
-    outside Plain [] = refl
-    outside Plain (line ∷ lines) = refl
-    outside Scheduled [] = refl
-    outside Scheduled (line ∷ lines) = refl
-forms_belong form before InBatch = in_batch (version_of before == 2)
-  where
-    in_batch : (b : Bool) → list_all (belongs InBatch) (cond b (held_forms 2) [] ++ forms_in_batch)
-        ≡ true
-    in_batch true = refl
-    in_batch false = refl
-forms_belong form before InSchedule = refl
-
--- whether a form stands in texts with a schedule or in all
-abbrev suits_text : Form → LineForm → Bool
-suits_text Plain ScheduleLine = false
-suits_text form other = true
-
-forms_suit_text : (form : Form) (before : List Line) (was : Section) →
-    list_all (suits_text form) (forms_in form before was) ≡ true
-forms_suit_text form before Outside = outside form before
-  where
-    outside : (form : Form) (before : List Line) →
-        list_all (suits_text form) (first_forms before ++ forms_outside ++ schedule_forms form)
-        ≡ true
-    outside Plain [] = refl
-    outside Plain (line ∷ lines) = refl
-    outside Scheduled [] = refl
-    outside Scheduled (line ∷ lines) = refl
-forms_suit_text form before InBatch = in_batch form (version_of before == 2)
-  where
-    in_batch : (form : Form) (b : Bool) →
-        list_all (suits_text form) (cond b (held_forms 2) [] ++ forms_in_batch) ≡ true
-    in_batch Plain true = refl
-    in_batch Plain false = refl
-    in_batch Scheduled true = refl
-    in_batch Scheduled false = refl
-forms_suit_text Plain before InSchedule = refl
-forms_suit_text Scheduled before InSchedule = refl
-
--- what is built is built
-pub where_it_is_built : (o : Option LineForm) (f : LineForm) → where_built o ≡ Some f → is_built f ≡ true
-where_it_is_built None f h = absurd (cc)
-where_it_is_built (Some g) f h = by_test (is_built g) refl h
-  where
-    by_test : (b : Bool) → is_built g ≡ b → cond b (Some g) None ≡ Some f → is_built f ≡ true
-    by_test true e h = let same : g ≡ f = cc in subst (λ (z : LineForm). is_built z ≡ true) same e
-    by_test false e h = absurd (cc)
 
 -- a position is one of a list
 pub position_within : (test : Queue → Bool) (qs : List Queue) (q : ℕ) → position test qs ≡ Some q →
@@ -291,16 +163,17 @@ of_five_says : (f : ℕ → ℕ → ℕ → ℕ → ℕ → Command) (b o n w v 
 of_five_says f None o n w v s h = absurd (cc)
 of_five_says f (Some b) o n w v s h = of_four_says (f b) o n w v s h
 
--- A statement of a form that is built, by the part of the text in which it stands and by the part
--- of the batch to which its form belongs.
+-- A statement of a form, by the part of the text in which it stands and by the part of the batch to
+-- which its form belongs.
 data Shape (form : Form) (before : List Line) : Section → ℕ → Statement → Type 0 where
+  a_version : before ≡ [] → Shape form before Outside 0 (HasVersion 2)
   a_buffer : (name : List ℕ) (size : ℕ) → Shape form before Outside 0 (DeclareBuffer name size)
   a_semaphore : (name : List ℕ) (kind : SemaphoreKind) →
       Shape form before Outside 0 (DeclareSemaphore name kind)
   a_queue : (name : List ℕ) (mode : Mode) → Shape form before Outside 0 (DeclareQueue name mode)
   a_batch : (q : ℕ) → q < length (queues before) → Shape form before Outside 0 (BeginBatch q)
-  a_wait : (pair : Pair) → IsMarkOf (kinds_before before) pair →
-      Shape form before InBatch 1 (AddWait pair 1)
+  a_wait : (pair : Pair) (from : ℕ) → IsMarkOf (kinds_before before) pair →
+      (version_of before ≡ 1 → from ≡ 1) → Shape form before InBatch 1 (AddWait pair from)
   a_command : (c : Command) → Shape form before InBatch 2 (AddCommand c)
   a_signal : (pair : Pair) → IsMarkOf (kinds_before before) pair →
       Shape form before InBatch 3 (AddSignal pair)
@@ -342,6 +215,9 @@ threaded_is Deferred e = absurd (false≢true e)
 threaded_is Threaded e = refl
 
 module _ (form : Form) (before : List Line) where
+  abbrev most : Limits
+  most = most_before before
+
   -- a timeline's name and a value
   timeline_mark : (name : List ℕ) (t v : ℕ) → number_at before TimelineName name ≡ Some t →
       IsMarkOf (kinds_before before) (record { semaphore = t; value = v })
@@ -408,14 +284,39 @@ module _ (form : Form) (before : List Line) where
   wait_shape name (Some t) (Some v) s e h =
       subst (Shape form before InBatch 1)
       (same_some (AddWait (record { semaphore = t; value = v }) 1) s h)
-      (a_wait (record { semaphore = t; value = v }) (timeline_mark name t v e))
+      (a_wait (record { semaphore = t; value = v }) 1 (timeline_mark name t v e) (λ h. refl))
 
   binary_wait_shape : (name : List ℕ) (t : Option ℕ) (s : Statement) → number_at before BinaryName name ≡ t →
       option_map (λ x. AddWait (binary_pair x) 1) t ≡ Some s → Shape form before InBatch 1 s
   binary_wait_shape name None s e h = absurd (let c : None ≡ Some s = h in cc)
   binary_wait_shape name (Some t) s e h =
       subst (Shape form before InBatch 1) (same_some (AddWait (binary_pair t) 1) s h)
-      (a_wait (binary_pair t) (binary_mark name t e))
+      (a_wait (binary_pair t) 1 (binary_mark name t e) (λ h. refl))
+
+  -- a wait that holds back a part of its batch, in the second version
+  in_second : (from : ℕ) → (version_of before == 2) ≡ true → version_of before ≡ 1 → from ≡ 1
+  in_second from e h = absurd (false≢true (sym (ap (λ (v : ℕ). v == 2) h) ∙ e))
+
+  held_shape : (name : List ℕ) (t v k : Option ℕ) (s : Statement) → number_at before TimelineName name ≡ t →
+      (version_of before == 2) ≡ true →
+      of_two (λ p n. AddWait p n) (of_two (λ x y. record { semaphore = x; value = y }) t v) k ≡ Some s →
+      Shape form before InBatch 1 s
+  held_shape name None v k s e i h = absurd (let c : None ≡ Some s = h in cc)
+  held_shape name (Some t) None k s e i h = absurd (let c : None ≡ Some s = h in cc)
+  held_shape name (Some t) (Some v) None s e i h = absurd (let c : None ≡ Some s = h in cc)
+  held_shape name (Some t) (Some v) (Some k) s e i h =
+      subst (Shape form before InBatch 1)
+      (same_some (AddWait (record { semaphore = t; value = v }) k) s h)
+      (a_wait (record { semaphore = t; value = v }) k (timeline_mark name t v e) (in_second k i))
+
+  held_binary_shape : (name : List ℕ) (t k : Option ℕ) (s : Statement) → number_at before BinaryName name ≡ t →
+      (version_of before == 2) ≡ true → of_two (λ x n. AddWait (binary_pair x) n) t k ≡ Some s →
+      Shape form before InBatch 1 s
+  held_binary_shape name None k s e i h = absurd (let c : None ≡ Some s = h in cc)
+  held_binary_shape name (Some t) None s e i h = absurd (let c : None ≡ Some s = h in cc)
+  held_binary_shape name (Some t) (Some k) s e i h =
+      subst (Shape form before InBatch 1) (same_some (AddWait (binary_pair t) k) s h)
+      (a_wait (binary_pair t) k (binary_mark name t e) (in_second k i))
 
   -- a signal of a timeline, of a binary semaphore
   signal_shape : (name : List ℕ) (t v : Option ℕ) (s : Statement) → number_at before TimelineName name ≡ t →
@@ -507,151 +408,167 @@ module _ (form : Form) (before : List Line) where
       subst (Shape form before InSchedule 0) (same_some (TakeTurns a n) s h)
       (some_turns a n (actor_is word (Some a) a e refl))
 
-  schedule_shape : (f : Form) → form ≡ f → suits_text f ScheduleLine ≡ true → (s : Statement) →
+  schedule_shape : (f : Form) → form ≡ f → suits f before ScheduleLine ≡ true → (s : Statement) →
       Some BeginSchedule ≡ Some s → Shape form before Outside 0 s
   schedule_shape Plain e t s h = absurd (false≢true t)
   schedule_shape Scheduled e t s h =
       subst (Shape form before Outside 0) (same_some BeginSchedule s h) (a_schedule e)
 
-  -- the words of a form that is built and stands where it may
+  -- the words of a form that stands where it may
   shape : (was : Section) (f : LineForm) (words : List (List ℕ)) (s : Statement) →
-      belongs was f ≡ true → suits_text form f ≡ true → is_built f ≡ true →
+      belongs was f ≡ true → suits form before f ≡ true →
       statement_of (number_at before) f words ≡ Some s → Shape form before was (part_of_form f) s
-  shape Outside BufferLine (name ∷ size ∷ []) s g t b h = buffer_shape name (numeral size) s h
-  shape Outside TimelineLine (name ∷ value ∷ []) s g t b h = timeline_shape name (numeral value) s h
-  shape Outside BinaryLine (name ∷ []) s g t b h =
+  shape Outside VersionLine [] s g t h =
+      subst (Shape form before Outside 0) (same_some (HasVersion 2) s h) (a_version (is_first before t))
+  shape Outside BufferLine (name ∷ size ∷ []) s g t h = buffer_shape name (numeral size) s h
+  shape Outside TimelineLine (name ∷ value ∷ []) s g t h = timeline_shape name (numeral value) s h
+  shape Outside BinaryLine (name ∷ []) s g t h =
       subst (Shape form before Outside 0) (same_some (DeclareSemaphore name Binary) s h)
       (a_semaphore name Binary)
-  shape Outside FenceLine (name ∷ []) s g t b h =
+  shape Outside FenceLine (name ∷ []) s g t h =
       subst (Shape form before Outside 0) (same_some (DeclareSemaphore name Fence) s h)
       (a_semaphore name Fence)
-  shape Outside (QueueLine mode) (name ∷ []) s g t b h =
+  shape Outside (QueueLine mode) (name ∷ []) s g t h =
       subst (Shape form before Outside 0) (same_some (DeclareQueue name mode) s h)
       (a_queue name mode)
-  shape Outside SubmitLine (queue ∷ []) s g t b h = batch_shape queue (number_at before QueueName queue) s refl h
-  shape Outside HostSignalLine (name ∷ value ∷ []) s g t b h =
+  shape Outside SubmitLine (queue ∷ []) s g t h = batch_shape queue (number_at before QueueName queue) s refl h
+  shape Outside HostSignalLine (name ∷ value ∷ []) s g t h =
       step_shape s (says_pair before name (number_at before TimelineName name) (numeral value) s refl h)
-  shape Outside HostWaitAllLine words s g t b h =
+  shape Outside HostWaitAllLine words s g t h =
       step_shape s (says_pairs before WaitAll words (pairs_at (number_at before) words) s (λ qs a. a) refl h)
-  shape Outside HostWaitAnyLine words s g t b h =
+  shape Outside HostWaitAnyLine words s g t h =
       step_shape s (says_pairs before WaitAny words (pairs_at (number_at before) words) s (λ qs a. a) refl h)
-  shape Outside HostPollAllLine words s g t b h =
+  shape Outside HostPollAllLine words s g t h =
       step_shape s (says_pairs before PollAll words (pairs_at (number_at before) words) s (λ qs a. a) refl h)
-  shape Outside HostPollAnyLine words s g t b h =
+  shape Outside HostPollAnyLine words s g t h =
       step_shape s (says_pairs before PollAny words (pairs_at (number_at before) words) s (λ qs a. a) refl h)
-  shape Outside HostReadLine (name ∷ []) s g t b h =
+  shape Outside HostReadLine (name ∷ []) s g t h =
       step_shape s
       (says_name before Read (number_at before TimelineName name) s (timeline_named before name) h)
-  shape Outside HostFenceWaitLine (name ∷ []) s g t b h =
+  shape Outside HostFenceWaitLine (name ∷ []) s g t h =
       step_shape s (says_name before FenceWait (number_at before FenceName name) s (fence_named before name) h)
-  shape Outside HostFencePollLine (name ∷ []) s g t b h =
+  shape Outside HostFencePollLine (name ∷ []) s g t h =
       step_shape s (says_name before FencePoll (number_at before FenceName name) s (fence_named before name) h)
-  shape Outside HostFenceResetLine (name ∷ []) s g t b h =
+  shape Outside HostFenceResetLine (name ∷ []) s g t h =
       step_shape s (says_name before FenceReset (number_at before FenceName name) s (fence_named before name) h)
-  shape Outside HostIdleLine [] s g t b h = step_shape s (Idle, tt, same_some (TakeHostStep Idle) s h)
-  shape InBatch WaitTimelineLine (name ∷ value ∷ []) s g t b h =
+  shape Outside HostIdleLine [] s g t h = step_shape s (Idle, tt, same_some (TakeHostStep Idle) s h)
+  shape InBatch WaitTimelineLine (name ∷ value ∷ []) s g t h =
       wait_shape name (number_at before TimelineName name) (numeral value) s refl h
-  shape InBatch WaitBinaryLine (name ∷ []) s g t b h =
+  shape InBatch WaitBinaryLine (name ∷ []) s g t h =
       binary_wait_shape name (number_at before BinaryName name) s refl h
-  shape InBatch FillWholeLine (buffer ∷ offset ∷ word ∷ []) s g t b h =
+  shape InBatch HeldTimelineLine (name ∷ value ∷ place ∷ []) s g t h =
+      held_shape name (number_at before TimelineName name) (numeral value) (numeral place) s refl t h
+  shape InBatch HeldBinaryLine (name ∷ place ∷ []) s g t h =
+      held_binary_shape name (number_at before BinaryName name) (numeral place) s refl t h
+  shape InBatch FillWholeLine (buffer ∷ offset ∷ word ∷ []) s g t h =
       command_shape s
       (of_three_says (λ x y z. Fill x y Whole z) (number_at before BufferName buffer) (numeral offset)
       (small_numeral word) s h)
-  shape InBatch FillLine (buffer ∷ offset ∷ size ∷ word ∷ []) s g t b h =
+  shape InBatch FillLine (buffer ∷ offset ∷ size ∷ word ∷ []) s g t h =
       command_shape s
       (of_four_says (λ x y z u. Fill x y (Count z) u) (number_at before BufferName buffer) (numeral offset)
       (numeral size) (small_numeral word) s h)
-  shape InBatch UpdateLine (buffer ∷ offset ∷ digits ∷ []) s g t b h =
+  shape InBatch UpdateLine (buffer ∷ offset ∷ digits ∷ []) s g t h =
       command_shape s
       (of_two_says (λ x y. Update x y (hex_bytes digits)) (number_at before BufferName buffer) (numeral offset)
       s h)
-  shape InBatch CopyLine (source ∷ from ∷ target ∷ to ∷ size ∷ []) s g t b h =
+  shape InBatch CopyLine (source ∷ from ∷ target ∷ to ∷ size ∷ []) s g t h =
       command_shape s
       (of_five_says (λ x y z u k. Copy x y z u k) (number_at before BufferName source) (numeral from)
       (number_at before BufferName target) (numeral to) (numeral size) s h)
-  shape InBatch SignalTimelineLine (name ∷ value ∷ []) s g t b h =
+  shape InBatch SignalTimelineLine (name ∷ value ∷ []) s g t h =
       signal_shape name (number_at before TimelineName name) (numeral value) s refl h
-  shape InBatch SignalBinaryLine (name ∷ []) s g t b h =
+  shape InBatch SignalBinaryLine (name ∷ []) s g t h =
       binary_signal_shape name (number_at before BinaryName name) s refl h
-  shape InBatch BatchFenceLine (name ∷ []) s g t b h = fence_shape name (number_at before FenceName name) s refl h
-  shape InBatch EndLine [] s g t b h =
+  shape InBatch BatchFenceLine (name ∷ []) s g t h = fence_shape name (number_at before FenceName name) s refl h
+  shape InBatch EndLine [] s g t h =
       subst (Shape form before InBatch 5) (same_some EndBatch s h) an_end
-  shape Outside ScheduleLine [] s g t b h = schedule_shape form refl t s h
-  shape InSchedule TurnLine (actor ∷ []) s g t b h =
+  shape Outside ScheduleLine [] s g t h = schedule_shape form refl t s h
+  shape InSchedule TurnLine (actor ∷ []) s g t h =
       turn_shape actor (actor_at (number_at before) actor) s refl h
-  shape InSchedule TurnsLine (actor ∷ count ∷ []) s g t b h =
+  shape InSchedule TurnsLine (actor ∷ count ∷ []) s g t h =
       turns_shape actor (actor_at (number_at before) actor) (numeral count) s refl h
-  shape InSchedule BufferLine words s g t b h = absurd (false≢true g)
-  shape InSchedule TimelineLine words s g t b h = absurd (false≢true g)
-  shape InSchedule BinaryLine words s g t b h = absurd (false≢true g)
-  shape InSchedule FenceLine words s g t b h = absurd (false≢true g)
-  shape InSchedule (QueueLine mode) words s g t b h = absurd (false≢true g)
-  shape InSchedule SubmitLine words s g t b h = absurd (false≢true g)
-  shape InSchedule HostSignalLine words s g t b h = absurd (false≢true g)
-  shape InSchedule HostWaitAllLine words s g t b h = absurd (false≢true g)
-  shape InSchedule HostWaitAnyLine words s g t b h = absurd (false≢true g)
-  shape InSchedule HostPollAllLine words s g t b h = absurd (false≢true g)
-  shape InSchedule HostPollAnyLine words s g t b h = absurd (false≢true g)
-  shape InSchedule HostReadLine words s g t b h = absurd (false≢true g)
-  shape InSchedule HostFenceWaitLine words s g t b h = absurd (false≢true g)
-  shape InSchedule HostFencePollLine words s g t b h = absurd (false≢true g)
-  shape InSchedule HostFenceResetLine words s g t b h = absurd (false≢true g)
-  shape InSchedule HostIdleLine words s g t b h = absurd (false≢true g)
-  shape InSchedule WaitTimelineLine words s g t b h = absurd (false≢true g)
-  shape InSchedule WaitBinaryLine words s g t b h = absurd (false≢true g)
-  shape InSchedule FillWholeLine words s g t b h = absurd (false≢true g)
-  shape InSchedule FillLine words s g t b h = absurd (false≢true g)
-  shape InSchedule UpdateLine words s g t b h = absurd (false≢true g)
-  shape InSchedule CopyLine words s g t b h = absurd (false≢true g)
-  shape InSchedule SignalTimelineLine words s g t b h = absurd (false≢true g)
-  shape InSchedule SignalBinaryLine words s g t b h = absurd (false≢true g)
-  shape InSchedule BatchFenceLine words s g t b h = absurd (false≢true g)
-  shape InSchedule EndLine words s g t b h = absurd (false≢true g)
-  shape InSchedule ScheduleLine words s g t b h = absurd (false≢true g)
-  shape was f words s g t b h = absurd (cc)
+  shape InSchedule VersionLine words s g t h = absurd (false≢true g)
+  shape InSchedule BufferLine words s g t h = absurd (false≢true g)
+  shape InSchedule TimelineLine words s g t h = absurd (false≢true g)
+  shape InSchedule BinaryLine words s g t h = absurd (false≢true g)
+  shape InSchedule FenceLine words s g t h = absurd (false≢true g)
+  shape InSchedule (QueueLine mode) words s g t h = absurd (false≢true g)
+  shape InSchedule SubmitLine words s g t h = absurd (false≢true g)
+  shape InSchedule HostSignalLine words s g t h = absurd (false≢true g)
+  shape InSchedule HostWaitAllLine words s g t h = absurd (false≢true g)
+  shape InSchedule HostWaitAnyLine words s g t h = absurd (false≢true g)
+  shape InSchedule HostPollAllLine words s g t h = absurd (false≢true g)
+  shape InSchedule HostPollAnyLine words s g t h = absurd (false≢true g)
+  shape InSchedule HostReadLine words s g t h = absurd (false≢true g)
+  shape InSchedule HostFenceWaitLine words s g t h = absurd (false≢true g)
+  shape InSchedule HostFencePollLine words s g t h = absurd (false≢true g)
+  shape InSchedule HostFenceResetLine words s g t h = absurd (false≢true g)
+  shape InSchedule HostIdleLine words s g t h = absurd (false≢true g)
+  shape InSchedule WaitTimelineLine words s g t h = absurd (false≢true g)
+  shape InSchedule WaitBinaryLine words s g t h = absurd (false≢true g)
+  shape InSchedule HeldTimelineLine words s g t h = absurd (false≢true g)
+  shape InSchedule HeldBinaryLine words s g t h = absurd (false≢true g)
+  shape InSchedule FillWholeLine words s g t h = absurd (false≢true g)
+  shape InSchedule FillLine words s g t h = absurd (false≢true g)
+  shape InSchedule UpdateLine words s g t h = absurd (false≢true g)
+  shape InSchedule CopyLine words s g t h = absurd (false≢true g)
+  shape InSchedule SignalTimelineLine words s g t h = absurd (false≢true g)
+  shape InSchedule SignalBinaryLine words s g t h = absurd (false≢true g)
+  shape InSchedule BatchFenceLine words s g t h = absurd (false≢true g)
+  shape InSchedule EndLine words s g t h = absurd (false≢true g)
+  shape InSchedule ScheduleLine words s g t h = absurd (false≢true g)
+  shape was f words s g t h = absurd (cc)
 
-  -- what a statement keeps that is in order and in range, doesn't overlap itself and not_false no
-  -- limit
+  -- what a statement keeps that is in order and in range, doesn't overlap itself and passes no limit
   says : (was : Section) (part : ℕ) (s : Statement) → Shape form before was part s →
       KeepsParts before part → is_in_range (earlier before) s ≡ true → overlaps (buffers before) s ≡ false →
       passes_limit (earlier before) s ≡ false → Said form before was s
+  says was part s (a_version e) q r o l = (e, refl)
   says was part s (a_buffer name size) q r o l =
       let limits =
-      or_parts (not (nat_lt (length (buffers before)) 64))
-      (nat_lt 1048576 (sum (sizes_before before) + size)) l in (
-        below (length (buffers before)) 64 limits.0,
-        ltb-false 1048576 (sum (sizes_before before) + size) limits.1,
+      or_parts (not (nat_lt (length (buffers before)) most.buffers))
+      (nat_lt most.bytes (sum (sizes_before before) + size)) l in (
+        below (length (buffers before)) most.buffers limits.0,
+        ltb-false most.bytes (sum (sizes_before before) + size) limits.1,
       )
-  says was part s (a_semaphore name kind) q r o l = below (length (semaphores before)) 256 l
-  says was part s (a_queue name mode) q r o l = below (length (queues before)) 8 l
-  says was part s (a_batch n w) q r o l = (w, below (count is_job before) 4096 l)
-  says was part s (a_wait pair m) q r o l =
+  says was part s (a_semaphore name kind) q r o l = below (length (semaphores before)) most.semaphores l
+  says was part s (a_queue name mode) q r o l = below (length (queues before)) most.queues l
+  says was part s (a_batch n w) q r o l = (w, below (count is_job before) most.jobs l)
+  says was part s (a_wait pair from m w) q r o l =
+      let range = and_parts (nat_lt 0 from) (nat_lt from (most.batch_commands + 2)) r in
       record {
-        whole = refl;
+        counted = ltb-true 0 from range.0;
+        whole = w;
         mark = m;
-        few = below (count is_wait (open_batch before)) 16 l;
+        few = below (count is_wait (open_batch before)) most.waits l;
         parts = q;
       }
   says was part s (a_command c) q r o l =
       let limits =
-      or_parts (not (nat_lt (count is_command before) 8192))
-      (not (nat_lt (count is_command (open_batch before)) 64)) l in
+      or_parts (not (nat_lt (count is_command before) most.commands))
+      (not (nat_lt (count is_command (open_batch before)) most.batch_commands)) l in
       record {
         fits = fits_in_range before c r o;
-        few = below (count is_command before) 8192 limits.0;
+        few = below (count is_command before) most.commands limits.0;
         parts = q;
       }
   says was part s (a_signal pair m) q r o l =
-      record { mark = m; few = below (count is_signal (open_batch before)) 16 l; parts = q }
+      record {
+        mark = m;
+        few = below (count is_signal (open_batch before)) most.signals l;
+        parts = q;
+      }
   says was part s (a_fence f e) q r o l = (e, q)
   says was part s an_end q r o l = tt
   says was part s (a_step step is) q r o l =
       let limits =
-      or_parts (not (nat_lt (count is_job before) 4096)) (nat_lt 16 (length (pairs_of step))) l in
-      (is, below (count is_job before) 4096 limits.0)
+      or_parts (not (nat_lt (count is_job before) most.jobs))
+      (nat_lt most.pairs (length (pairs_of step))) l in
+      (is, below (count is_job before) most.jobs limits.0)
   says was part s (a_schedule e) q r o l = e
   says was part s (some_turns actor count is) q r o l =
-      (is, ltb-false 65536 (turns_before before + count) l)
+      (is, ltb-false most.turns (turns_before before + count) l)
 
   -- a line that is in order belongs to no earlier part than a line before it
   in_parts : (f : LineForm) → is_out_of_order (earlier before) f ≡ false → KeepsParts before (part_of_form f)
@@ -706,11 +623,8 @@ module _ (form : Form) (before : List Line) where
           says (section before) (part_of_form f) s
           (shape (section before) f (map (λ x. x.1) (open_places (places f) words)) s
           (found_belongs (matches words) (belongs (section before)) (forms_at form before) f
-          (forms_belong form before (section before))
-          (built_found (find (matches words) (forms_at form before)) f e))
-          (found_belongs (matches words) (suits_text form) (forms_at form before) f
-          (forms_suit_text form before (section before))
-          (built_found (find (matches words) (forms_at form before)) f e))
-          (where_it_is_built (find (matches words) (forms_at form before)) f e) h)
+          (forms_belong form before (section before)) e)
+          (found_belongs (matches words) (suits form before) (forms_at form before) f
+          (forms_suit form before (section before)) e) h)
           (in_parts f (sym (ap (λ (o : Option LineForm). option_map_or (is_out_of_order (earlier before)) o
           false) e) ∙ d)) r o l

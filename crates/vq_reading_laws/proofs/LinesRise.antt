@@ -12,7 +12,7 @@ use Rattle.vq_model.specs.ScriptOfLines.{wait_of, command_of, signal_of, fence_o
 use Rattle.vq_reading_laws.proofs.Standing.{Where, is_outside, is_inside, in_schedule, Declarations, where_after, Stands, AllStand, declared_by}
 use Rattle.vq_model.specs.ValidScripts.{job_lines, HasRisingLines}
 use Rattle.vq_model.specs.declared.statement.Statement.{Statement}
-use Rattle.vq_model.specs.declared.statement.Statement.TheVariants.{DeclareBuffer, DeclareSemaphore, DeclareQueue, BeginBatch, AddWait, AddCommand, AddSignal, AddFence, EndBatch, BeginSchedule, TakeTurns, TakeHostStep}
+use Rattle.vq_model.specs.declared.statement.Statement.TheVariants.{HasVersion, DeclareBuffer, DeclareSemaphore, DeclareQueue, BeginBatch, AddWait, AddCommand, AddSignal, AddFence, EndBatch, BeginSchedule, TakeTurns, TakeHostStep}
 use Rattle.vq_model.specs.Context.{is_end}
 use Rattle.vq_reading_laws.proofs.LinePushes.{a_line}
 use Rattle.vq_reading_laws.proofs.KeptBatches.{batch_lines_cons}
@@ -168,6 +168,8 @@ module _ (d : Declarations) where
   adds_line : (n : ℕ) (was : Where) (s : Statement) (lines : List Line) → Stands d was s →
       AllStand d (where_after was s) lines →
       Adds n (script_numbers (where_after was s) lines) (script_numbers was (a_line n s ∷ lines))
+  adds_line n is_outside (HasVersion version) lines h a =
+      adds_none n (flat_map job_lines (jobs_of lines)) (flat_map job_lines (jobs_of lines)) refl
   adds_line n is_outside (DeclareBuffer name size) lines h a =
       adds_none n (flat_map job_lines (jobs_of lines)) (flat_map job_lines (jobs_of lines)) refl
   adds_line n is_outside (DeclareSemaphore name kind) lines h a =

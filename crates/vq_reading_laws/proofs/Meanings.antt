@@ -2,7 +2,7 @@
 use Rattle.std.proofs.Common.{◌≡◌, Bool, true, false, ◌&&◌, refl, Option, Some, None, ℕ, List, [], ◌∷◌, map, cond, subst, not, ◌||◌}
 use Rattle.std.specs.Prelude.{is_some, find}
 use Rattle.std.specs.Option.{option_map, option_map_or, option_and_then}
-use Rattle.vq_model.specs.Meaning.{of_two, of_three, of_four, of_five, pair_at, pair_places, pairs_at, matches, open_places, statement_of, actor_at, small_numeral, is_built, where_built, meaning, form_of, forms_at}
+use Rattle.vq_model.specs.Meaning.{of_two, of_three, of_four, of_five, pair_at, pair_places, pairs_at, matches, open_places, statement_of, actor_at, small_numeral, meaning, form_of, forms_at}
 use Rattle.vq_model.specs.declared.statement.Line.{Line}
 use Rattle.vq_model.specs.Text.{numeral, is_plain}
 use Rattle.std.specs.List.{list_all}
@@ -127,7 +127,7 @@ said before TurnLine words m n k = no m
 said before TurnsLine (a ∷ b ∷ []) m n k = two _ (actor_at (number_at before) a) (numeral b) (and_first _ _ k) (and_first _ _ n)
 said before TurnsLine words m n k = no m
 
--- what is found not_false the test
+-- what is found passes the test
 pub found_passes : {A : Type 0} (p : A → Bool) (xs : List A) (y : A) → find p xs ≡ Some y → p y ≡ true
 found_passes p [] y h = absurd (cc)
 found_passes {A} p (x ∷ xs) y h = by_test (p x) refl (found_passes p xs y) h
@@ -135,15 +135,6 @@ found_passes {A} p (x ∷ xs) y h = by_test (p x) refl (found_passes p xs y) h
     by_test : (b : Bool) → p x ≡ b → (find p xs ≡ Some y → p y ≡ true) → cond b (Some x) (find p xs) ≡ Some y → p y ≡ true
     by_test true e rest h = let same : x ≡ y = cc in subst (λ (z : A). p z ≡ true) same e
     by_test false e rest h = rest h
-
--- a form that is built is the one found
-pub built_found : (o : Option LineForm) (f : LineForm) → where_built o ≡ Some f → o ≡ Some f
-built_found None f h = absurd (cc)
-built_found (Some g) f h = by_test (is_built g) h
-  where
-    by_test : (b : Bool) → cond b (Some g) None ≡ Some f → Some g ≡ Some f
-    by_test true h = h
-    by_test false h = absurd (cc)
 
 -- where nothing is found, the first fails the test
 pub first_fails : {A : Type 0} (p : A → Bool) (x : A) (xs : List A) → find p (x ∷ xs) ≡ None → (p x ≡ false) × (find p xs ≡ None)
@@ -164,7 +155,7 @@ has_meaning form before words h =
   where
     found : (f : LineForm) → form_of form before words ≡ Some f → matches words f ≡ true
     found f e =
-        found_passes (matches words) (forms_at form before) f (built_found (find (matches words) (forms_at form before)) f e)
+        found_passes (matches words) (forms_at form before) f e
 
     some_said : (o : Option Statement) → is_some o ≡ true → (s : Statement) × (o ≡ Some s)
     some_said None h = absurd (cc)

@@ -11,7 +11,7 @@ use Rattle.std.specs.List.{filter_map}
 use Rattle.std.proofs.lemmas.List.Elements.{filter_map-append}
 use Rattle.vq_model.specs.declared.statement.Section.{Section}
 use Rattle.vq_model.specs.declared.statement.Statement.{Statement}
-use Rattle.vq_model.specs.declared.statement.Statement.TheVariants.{BeginBatch, DeclareBuffer, DeclareSemaphore, DeclareQueue, AddWait, AddCommand, AddSignal, AddFence, EndBatch, BeginSchedule, TakeTurns, TakeHostStep}
+use Rattle.vq_model.specs.declared.statement.Statement.TheVariants.{HasVersion, BeginBatch, DeclareBuffer, DeclareSemaphore, DeclareQueue, AddWait, AddCommand, AddSignal, AddFence, EndBatch, BeginSchedule, TakeTurns, TakeHostStep}
 use Rattle.vq_model.specs.Reading.{with_line}
 use Rattle.vq_reading_laws.proofs.LinePushes.{a_line, count_push, section_push, some_push, open_push}
 use Rattle.std.proofs.lemmas.List.{length-map}
@@ -104,6 +104,8 @@ module _ (before : List Line) (n : ℕ) (s : Statement) where
 -- A line leads on where a statement stands.
 pub lead_more : (before : List Line) (n : ℕ) (was : Where) (s : Statement) → Lead before was →
     Stands (declared_by before) was s → Lead (with_line before n s) (where_after was s)
+lead_more before n is_outside (HasVersion version) t h =
+    section_push before n (HasVersion version) ∙ t
 lead_more before n is_outside (DeclareBuffer name size) t h =
     section_push before n (DeclareBuffer name size) ∙ t
 lead_more before n is_outside (DeclareSemaphore name kind) t h =
@@ -144,6 +146,7 @@ said_stands form before is_outside s t h =
     outside s (subst (λ (x : Section). Said form before x s) t h)
   where
     outside : (s : Statement) → Said form before Outside s → Stands (declared_by before) is_outside s
+    outside (HasVersion version) h = h.1
     outside (DeclareBuffer name size) h = tt
     outside (DeclareSemaphore name kind) h = tt
     outside (DeclareQueue name mode) h = tt
@@ -173,6 +176,7 @@ said_stands form before (is_inside q w g k) s t h =
         let few = h.few in
         let same = t.waits in
         record {
+          counted = h.counted;
           whole = h.whole;
           mark = h.mark;
           few = omega arith;

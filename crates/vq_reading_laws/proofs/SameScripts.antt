@@ -1,5 +1,5 @@
 -- What a script keeps is kept by each that is the same up to line numbers.
-use Rattle.std.proofs.Common.{◌≡◌, Bool, List, [], ◌∷◌, map, refl, ℕ, ap, length, ◌∙◌, sym, subst, ◌≤◌, false, Option, Some, None, option_map, arith}
+use Rattle.std.proofs.Common.{◌≡◌, Bool, List, [], ◌∷◌, map, refl, ℕ, ap, length, ◌∙◌, sym, subst, ◌≤◌, false, Option, Some, None, option_map, arith, ◌⊎◌}
 use Rattle.std.specs.Prelude.{All, sum}
 use Rattle.std.proofs.lemmas.List.Elements.{All-nil, All-cons, All-head, All-tail, All-map}
 use Rattle.vq_model.specs.declared.script.Batch.{Batch}
@@ -23,13 +23,13 @@ use Rattle.vq_model.specs.declared.script.Mark.{Mark}
 use Rattle.vq_model.specs.declared.script.Pair.{Pair}
 use Rattle.vq_model.specs.Context.{is_immediate, is_threaded, is_fence, is_timeline}
 use Rattle.vq_model.specs.Signals.{kind_of, is_timeline_at}
-use Rattle.vq_model.specs.ValidScripts.{IsValid, KeepsLimits, IsValidMark, IsValidFence, IsValidBatch, IsValidStep, IsTimelinePair, HasValidBatches, HasValidSteps, HasValidTurns, IsActor, is_immediate_queue, is_fence_at, sizes_of}
+use Rattle.vq_model.specs.ValidScripts.{IsValid, KeepsLimits, IsValidMark, IsValidFence, HoldsBack, IsValidBatch, IsValidStep, IsTimelinePair, HasValidBatches, HasValidSteps, HasValidTurns, IsActor, is_immediate_queue, is_fence_at, sizes_of}
 use Rattle.vq_model.specs.Limits.{limits_of}
+use Rattle.vq_model.specs.declared.limits.Limits.{Limits}
 use Rattle.vq_model.specs.declared.script.Mode.{Mode}
 use Rattle.vq_model.specs.declared.script.Turn.{Turn}
 use Rattle.vq_model.specs.declared.script.ActorName.{ActorName}
 use Rattle.vq_model.specs.declared.script.ActorName.TheVariants.{Host as HostActor, Submit as SubmitActor, Ring as RingActor}
-use Rattle.vq_model.specs.Built.{HasWholeWaits, IsOfFirstVersion}
 use Rattle.vq_model.proofs.Gets.{get-map}
 use Rattle.vq_model.proofs.Options.{some_of}
 use Rattle.vq_reading_laws.proofs.DeclaredScripts.{valid_signals}
@@ -92,6 +92,14 @@ same_fits : (sizes : List ℕ) (x y : CommandLine) → command_without_line x �
 same_fits sizes x y e f = subst (λ (z : CommandLine). Fits sizes z.command) e f
 
 module _ (a s : Script) (same : SameButLines a s) where
+  version_same : a.version ≡ s.version
+  version_same = ap (λ (z : Script). z.version) same
+
+  -- what keeps a limit of the one version keeps it of the other
+  within : (limit : Limits → ℕ) (n : ℕ) → n ≤ limit (limits_of a.version) →
+      n ≤ limit (limits_of s.version)
+  within limit n l = subst (λ (v : ℕ). n ≤ limit (limits_of v)) version_same l
+
   sizes : sizes_of a ≡ sizes_of s
   sizes = sym (same_sizes a.buffers) ∙ (ap sizes_of same ∙ same_sizes s.buffers)
 
@@ -111,12 +119,14 @@ module _ (a s : Script) (same : SameButLines a s) where
       let counts : map commands_in a.jobs ≡ map commands_in s.jobs = sym (same_counts a.jobs)
       ∙ (ap (λ (z : Script). map commands_in z.jobs) same ∙ same_counts s.jobs) in
       record {
-        buffers = omega arith;
-        bytes = subst (λ (zs : List ℕ). sum zs ≤ 1048576) sizes k.bytes;
-        semaphores = omega arith;
-        queues = omega arith;
-        jobs = omega arith;
-        commands = subst (λ (zs : List ℕ). sum zs ≤ 8192) counts k.commands;
+        buffers = within (λ l. l.buffers) (length s.buffers) (omega arith);
+        bytes = subst (λ (zs : List ℕ). sum zs ≤ (limits_of s.version).bytes) sizes
+            (within (λ l. l.bytes) (sum (sizes_of a)) k.bytes);
+        semaphores = within (λ l. l.semaphores) (length s.semaphores) (omega arith);
+        queues = within (λ l. l.queues) (length s.queues) (omega arith);
+        jobs = within (λ l. l.jobs) (length s.jobs) (omega arith);
+        commands = subst (λ (zs : List ℕ). sum zs ≤ (limits_of s.version).commands) counts
+            (within (λ l. l.commands) (sum (map commands_in a.jobs)) k.commands);
       }
 
   -- the job of the first script at a place of the second
@@ -237,14 +247,22 @@ module _ (a s : Script) (same : SameButLines a s) where
       }
 
   -- marks that are the same but for their lines
-  marks_same : (xs ys : List Mark) → map mark_without_line xs ≡ map mark_without_line ys →
-      All (IsValidMark a) xs → All (IsValidMark s) ys
-  marks_same xs ys e v =
-      all_so (λ m. IsValidMark s (mark_without_line m)) (IsValidMark s) ys mark_with
-      (all_unmapped (IsValidMark s) mark_without_line ys
-      (subst (All (IsValidMark s)) e
-      (All-map (IsValidMark s) mark_without_line xs
-      (all_so (IsValidMark a) (λ m. IsValidMark s (mark_without_line m)) xs mark_same v))))
+  marks_same : (P Q : Mark → Type 0) → ((m : Mark) → P m → Q (mark_without_line m)) →
+      ((m : Mark) → Q (mark_without_line m) → Q m) → (xs ys : List Mark) →
+      map mark_without_line xs ≡ map mark_without_line ys → All P xs → All Q ys
+  marks_same P Q without with_line xs ys e v =
+      all_so (λ m. Q (mark_without_line m)) Q ys with_line
+      (all_unmapped Q mark_without_line ys
+      (subst (All Q) e
+      (All-map Q mark_without_line xs
+      (all_so P (λ m. Q (mark_without_line m)) xs without v))))
+
+  -- .. hold back the same commands
+  held_same : (m : Mark) → HoldsBack a m → HoldsBack s (mark_without_line m)
+  held_same m h = record { counted = h.counted; whole = λ v. h.whole (version_same ∙ v) }
+
+  held_with : (m : Mark) → HoldsBack s (mark_without_line m) → HoldsBack s m
+  held_with m h = record { counted = h.counted; whole = h.whole }
 
   -- a fence that is the same but for its line
   fences_same : (o : Option Mark) (m : Mark) → option_map mark_without_line o
@@ -274,12 +292,16 @@ module _ (a s : Script) (same : SameButLines a s) where
       let n = queues_same in
       record {
         queue = omega arith;
-        waits = marks_same c.waits b.waits w v.waits;
-        signals = marks_same c.signals b.signals g v.signals;
+        waits =
+            marks_same (IsValidMark a) (IsValidMark s) mark_same mark_with c.waits b.waits w v.waits;
+        held = marks_same (HoldsBack a) (HoldsBack s) held_same held_with c.waits b.waits w v.held;
+        signals =
+            marks_same (IsValidMark a) (IsValidMark s) mark_same mark_with c.signals b.signals g
+            v.signals;
         fence =
             λ m h. fences_same c.fence m (f ∙ ap (option_map mark_without_line) h) v.fence;
-        few_waits = omega arith;
-        few_signals = omega arith;
+        few_waits = within (λ l. l.waits) (length b.waits) (omega arith);
+        few_signals = within (λ l. l.signals) (length b.signals) (omega arith);
       }
 
   pub same_batches : HasValidBatches a → HasValidBatches s
@@ -325,34 +347,6 @@ module _ (a s : Script) (same : SameButLines a s) where
           subst (IsValidStep s) step (step_same x.step (v j x i))
       by_job (BatchJob c) i f = absurd (cc)
 
-  -- the forms that aren't built: a batch of the first script with the same queue and waits, but for their lines
-  record SameWaits (j : ℕ) (b : Batch) : Type 0 where
-    first : Batch
-    at : slice_get a.jobs j ≡ Some (BatchJob first)
-    queue : first.queue ≡ b.queue
-    waits : map mark_without_line first.waits ≡ map mark_without_line b.waits
-
-  waits_same : (j : ℕ) (b : Batch) → slice_get s.jobs j ≡ Some (BatchJob b) → SameWaits j b
-  waits_same j b e = let y = job_same j (BatchJob b) e in by_job y.first y.at y.alike
-    where
-      by_job : (y : Job) → slice_get a.jobs j ≡ Some y →
-          job_without_lines y ≡ job_without_lines (BatchJob b) → SameWaits j b
-      by_job (Host h) i f = absurd (cc)
-      by_job (BatchJob c) i f =
-          record {
-            first = c;
-            at = i;
-            queue = ap (λ (x : Job). (batch_or b x).queue) f;
-            waits = ap (λ (x : Job). (batch_or b x).waits) f;
-          }
-
-  pub same_whole : HasWholeWaits a → HasWholeWaits s
-  same_whole v j b e =
-      let c = waits_same j b e in
-      all_unmapped (λ m. m.from ≡ 1) mark_without_line b.waits
-      (subst (All (λ m. m.from ≡ 1)) c.waits
-      (All-map (λ m. m.from ≡ 1) mark_without_line c.first.waits (v j c.first c.at)))
-
   actor_same : (x : ActorName) → IsActor a x → IsActor s x
   actor_same HostActor h = tt
   actor_same (SubmitActor q) h = sym (queue_same is_threaded q) ∙ h
@@ -373,20 +367,17 @@ module _ (a s : Script) (same : SameButLines a s) where
             (All-map (λ (t : Turn). IsActor s t.actor) turn_without_line a.turns
             (all_so (λ (t : Turn). IsActor a t.actor) (λ (t : Turn). IsActor s t.actor) a.turns
             (λ t h. actor_same t.actor h) v.actors)));
-        few = subst (λ (n : ℕ). length s.turns ≤ (limits_of n).turns)
-            (ap (λ (z : Script). z.version) same) (omega arith);
+        few = within (λ l. l.turns) (length s.turns) (omega arith);
         none = λ h. map_empty turn_without_line s.turns
             (sym turns ∙ ap (map turn_without_line)
             (v.none (ap (λ (z : Script). z.scheduled) same ∙ h)));
       }
 
-  pub same_version : IsOfFirstVersion a → IsOfFirstVersion s
-  same_version h = sym (ap (λ (z : Script). z.version) same) ∙ h
-
   -- Of scripts that are the same up to line numbers one is valid where the other is.
   pub same_valid : HasValidBatches a → HasValidSteps a → IsValid a → IsValid s
   same_valid b w v =
       record {
+        version = subst (λ (n : ℕ). (n ≡ 1) ⊎ (n ≡ 2)) version_same v.version;
         signals = valid_signals s (same_batches b) (same_steps w);
         commands = commands v;
         limits = limits v.limits;

@@ -16,14 +16,13 @@ use Rattle.vq_model.specs.declared.statement.Form.TheVariants.{Plain, Scheduled}
 use Rattle.vq_model.specs.Ranges.{Fits}
 use Rattle.vq_model.specs.Lowering.{batch_commands}
 use Rattle.vq_model.specs.ValidScripts.{IsValid, HasValidBatches, HasValidSteps, HasValidTurns}
-use Rattle.vq_model.specs.Built.{HasWholeWaits, IsOfFirstVersion}
 use Rattle.vq_reading_laws.proofs.CommandRanges.{sizes_before}
 use Rattle.vq_reading_laws.proofs.Standing.{declared_by, is_outside, is_inside, in_schedule, Where, where_of}
 use Rattle.vq_reading_laws.proofs.KeptLines.{LinesKept}
-use Rattle.vq_reading_laws.proofs.KeptBatches.{IsCommandOf, JobsKept, jobs_kept, no_version}
+use Rattle.vq_reading_laws.proofs.KeptBatches.{IsCommandOf, JobsKept, jobs_kept, some_version}
 use Rattle.vq_reading_laws.proofs.KeptTurns.{is_at_schedule, turns_counted, turns_kept, led_into, no_turns}
 use Rattle.vq_reading_laws.proofs.PlaceContext.{Lead}
-use Rattle.vq_reading_laws.proofs.DeclaredScripts.{job_kept, step_kept, all_at, valid_batch, valid_step, whole_waits, valid_signals, valid_turns}
+use Rattle.vq_reading_laws.proofs.DeclaredScripts.{job_kept, step_kept, all_at, valid_batch, valid_step, valid_signals, valid_turns}
 use Rattle.vq_model.specs.declared.statement.Form.{Form}
 use Rattle.vq_model.specs.Reading.{StandsFor}
 use Rattle.vq_model.specs.declared.script.Script.{Script}
@@ -53,12 +52,6 @@ module _ (form : Form) (next : ℕ) (lines : List Line) (k : LinesKept form next
   lines_steps j h e =
       valid_step (script_of lines) h.step
       (step_kept (declared_by lines) (jobs_of lines) j h kept_jobs.all e)
-
-  -- no form stands that isn't built
-  pub lines_whole : HasWholeWaits (script_of lines)
-  lines_whole j b e =
-      whole_waits (script_of lines) b
-      (job_kept (declared_by lines) (jobs_of lines) j b kept_jobs.all e)
 
   -- turns are of actors
   pub lines_turns : HasValidTurns (script_of lines)
@@ -95,9 +88,6 @@ module _ (form : Form) (next : ℕ) (lines : List Line) (k : LinesKept form next
           ∙ section_at (where_of lines) k.leads
           (led_into (declared_by lines) is_outside lines k.stand ∙ e)))
 
-  pub lines_version : IsOfFirstVersion (script_of lines)
-  lines_version = no_version (declared_by lines) lines k.stand
-
   pub lines_valid : IsValid (script_of lines)
   lines_valid =
       let kj = kept_jobs.few_jobs in
@@ -105,6 +95,7 @@ module _ (form : Form) (next : ℕ) (lines : List Line) (k : LinesKept form next
       let mj = k.few_jobs in
       let mc = k.few_commands in
       record {
+        version = some_version (declared_by lines) lines k.stand;
         signals = valid_signals (script_of lines) lines_batches lines_steps;
         commands = λ j n job x e f. job_fits job n x j e f;
         limits = record {
@@ -135,11 +126,6 @@ module _ (text : List ℕ) (form : Form) (s : Script) (h : StandsFor text form s
       subst HasValidSteps of_lines.whole
       (lines_steps form of_lines.next of_lines.lines of_lines.kept)
 
-  pub text_whole : HasWholeWaits s
-  text_whole =
-      subst HasWholeWaits of_lines.whole
-      (lines_whole form of_lines.next of_lines.lines of_lines.kept)
-
   pub text_turns : HasValidTurns s
   text_turns =
       subst HasValidTurns of_lines.whole
@@ -150,8 +136,3 @@ module _ (text : List ℕ) (form : Form) (s : Script) (h : StandsFor text form s
   text_form =
       sym (ap (λ (x : Script). form_of_script x) of_lines.whole)
       ∙ lines_form form of_lines.next of_lines.lines of_lines.kept of_lines.ended
-
-  pub text_version : IsOfFirstVersion s
-  text_version =
-      subst IsOfFirstVersion of_lines.whole
-      (lines_version form of_lines.next of_lines.lines of_lines.kept)

@@ -12,10 +12,11 @@ use Rattle.vq_model.specs.declared.script.Command.{Command}
 use Rattle.vq_model.specs.declared.script.Command.TheVariants.{Fill, Update, Copy}
 use Rattle.vq_model.specs.declared.script.FillSize.TheVariants.{Whole, Count}
 use Rattle.vq_model.specs.declared.statement.Statement.{Statement}
-use Rattle.vq_model.specs.declared.statement.Statement.TheVariants.{BeginBatch, AddWait, AddCommand, AddSignal, AddFence, EndBatch, DeclareBuffer, DeclareSemaphore, DeclareQueue, BeginSchedule, TakeTurns, TakeHostStep}
+use Rattle.vq_model.specs.declared.statement.Statement.TheVariants.{HasVersion, BeginBatch, AddWait, AddCommand, AddSignal, AddFence, EndBatch, DeclareBuffer, DeclareSemaphore, DeclareQueue, BeginSchedule, TakeTurns, TakeHostStep}
 use Rattle.vq_model.specs.declared.script.HostStep.{HostStep}
 use Rattle.vq_model.specs.declared.script.HostStep.TheVariants.{Signal, WaitAll, WaitAny, PollAll, PollAny, Read, FenceWait, FencePoll, FenceReset, Idle}
-use Rattle.vq_model.specs.Context.{is_timeline, is_fence}
+use Rattle.vq_model.specs.Context.{is_timeline, is_fence, version_of}
+use Rattle.vq_model.specs.Limits.{limits_of}
 use Rattle.vq_model.specs.declared.script.Pair.{Pair}
 use Rattle.vq_model.specs.declared.script.SemaphoreKind.TheVariants.{Fence}
 use Rattle.vq_model.specs.declared.script.ActorName.{ActorName}
@@ -24,18 +25,25 @@ use Rattle.vq_model.specs.declared.script.Mode.TheVariants.{Threaded}
 use Rattle.vq_model.specs.Reading.{with_line}
 use Rattle.std.proofs.lemmas.List.Sums.{fold-append}
 
--- What lines declare: the sizes of buffers, the kinds of semaphores, the modes of queues.
+-- What lines declare: their version, the sizes of buffers, the kinds of semaphores, the modes of queues.
 pub record Declarations : Type 0 where
+  pub version : ℕ
   pub sizes : List ℕ
   pub kinds : List SemaphoreKind
   pub modes : List Mode
 
 abbrev pub declared_by : List Line → Declarations
 declared_by lines =
-    record { sizes = sizes_before lines; kinds = kinds_before lines; modes = modes_before lines }
+    record {
+      version = version_of lines;
+      sizes = sizes_before lines;
+      kinds = kinds_before lines;
+      modes = modes_before lines;
+    }
 
--- These declare what those do, and more.
+-- These declare what those do, and more. What is of the first version was so before.
 pub record Grows (d e : Declarations) : Type 0 where
+  pub first : e.version ≡ 1 → d.version ≡ 1
   pub more_sizes : List ℕ
   pub sizes_are : e.sizes ≡ d.sizes ++ more_sizes
   pub more_kinds : List SemaphoreKind
@@ -136,20 +144,23 @@ abbrev pub where_of : List Line → Where
 where_of before = fold (λ was line. where_after was line.statement) is_outside before
 
 pub record StandsWait (d : Declarations) (q w k : ℕ) (pair : Pair) (from : ℕ) : Type 0 where
-  pub whole : from ≡ 1
+  pub counted : 0 < from
+  pub whole : d.version ≡ 1 → from ≡ 1
   pub mark : IsMarkOf d.kinds pair
-  pub few : w < 16
+  pub few : w < (limits_of d.version).waits
   pub parts : k ≤ 1
 
 -- A statement may stand here.
 abbrev pub Stands : Declarations → Where → Statement → Type 0
+Stands d is_outside (HasVersion version) = version ≡ 2
 Stands d is_outside (DeclareBuffer name size) = Unit {0}
 Stands d is_outside (DeclareSemaphore name kind) = Unit {0}
 Stands d is_outside (DeclareQueue name mode) = Unit {0}
 Stands d is_outside (BeginBatch q) = q < length d.modes
 Stands d (is_inside q w g k) (AddWait pair from) = StandsWait d q w k pair from
 Stands d (is_inside q w g k) (AddCommand c) = Fits d.sizes c × (k ≤ 2)
-Stands d (is_inside q w g k) (AddSignal pair) = IsMarkOf d.kinds pair × (g < 16) × (k ≤ 3)
+Stands d (is_inside q w g k) (AddSignal pair) =
+    IsMarkOf d.kinds pair × (g < (limits_of d.version).signals) × (k ≤ 3)
 Stands d (is_inside q w g k) (AddFence f) = (slice_get d.kinds f ≡ Some Fence) × (k ≤ 4)
 Stands d (is_inside q w g k) EndBatch = Unit {0}
 Stands d is_outside (TakeHostStep step) = IsStepOf d.kinds step
@@ -219,13 +230,15 @@ module _ (d e : Declarations) (g : Grows d e) where
       (fits_appended g.more_sizes d.sizes c f)
 
   pub stands_grows : (was : Where) (s : Statement) → Stands d was s → Stands e was s
+  stands_grows is_outside (HasVersion version) h = h
   stands_grows is_outside (DeclareBuffer name size) h = tt
   stands_grows is_outside (DeclareSemaphore name kind) h = tt
   stands_grows is_outside (DeclareQueue name mode) h = tt
   stands_grows is_outside (BeginBatch q) h = queue_grows q h
   stands_grows (is_inside q w n k) (AddWait pair from) h =
       record {
-        whole = h.whole;
+        counted = h.counted;
+        whole = λ v. h.whole (g.first v);
         mark = mark_grows pair h.mark;
         few = h.few;
         parts = h.parts;

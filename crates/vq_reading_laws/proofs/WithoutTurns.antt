@@ -7,7 +7,7 @@ use Rattle.vq_model.specs.declared.script.Turn.{Turn}
 use Rattle.vq_model.specs.declared.script.Mark.{Mark}
 use Rattle.vq_model.specs.declared.script.HostStep.{HostStep}
 use Rattle.vq_model.specs.declared.script.HostStep.TheVariants.{Signal, WaitAll, WaitAny, PollAll, PollAny, Read, FenceWait, FencePoll, FenceReset, Idle}
-use Rattle.vq_model.specs.ValidScripts.{IsValid, IsValidMark, IsValidFence, IsValidStep, IsActor, HasValidBatches, HasValidSteps, HasValidTurns}
+use Rattle.vq_model.specs.ValidScripts.{IsValid, IsValidMark, IsValidFence, HoldsBack, IsValidStep, IsActor, HasValidBatches, HasValidSteps, HasValidTurns}
 use Rattle.vq_model.specs.Limits.{limits_of}
 use Rattle.vq_model.specs.declared.script.ActorName.{ActorName}
 use Rattle.vq_model.specs.declared.script.ActorName.TheVariants.{Host as HostActor, Submit as SubmitActor, Ring as RingActor}
@@ -19,6 +19,9 @@ module _ (s : Script) (turns : List Turn) where
   mark : (m : Mark) → IsValidMark with_turns m → IsValidMark s m
   mark m v = record { exists = v.exists; kind = v.kind; valueless = v.valueless }
 
+  held : (m : Mark) → HoldsBack with_turns m → HoldsBack s m
+  held m h = record { counted = h.counted; whole = h.whole }
+
   fence : (m : Mark) → IsValidFence with_turns m → IsValidFence s m
   fence m v = record { exists = v.exists; kind = v.kind; valueless = v.valueless }
 
@@ -28,6 +31,7 @@ module _ (s : Script) (turns : List Turn) where
       record {
         queue = x.queue;
         waits = λ i d l. mark _ (x.waits i d l);
+        held = λ i d l. held _ (x.held i d l);
         signals = λ i d l. mark _ (x.signals i d l);
         fence = λ m f. fence m (x.fence m f);
         few_waits = x.few_waits;
@@ -52,6 +56,7 @@ module _ (s : Script) (turns : List Turn) where
   pub valid_without : IsValid with_turns → IsValid s
   valid_without v =
       record {
+        version = v.version;
         signals = v.signals;
         commands = v.commands;
         limits = record {

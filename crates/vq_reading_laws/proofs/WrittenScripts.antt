@@ -6,9 +6,8 @@ use Rattle.vq_model.specs.Canonical.{form_of_script}
 use Rattle.vq_model.specs.Reading.{StandsFor}
 use Rattle.vq_model.specs.SameScript.{IsScript, IsRead}
 use Rattle.vq_model.specs.ValidScripts.{IsValid, HasValidBatches, HasValidSteps, HasValidTurns, HasRisingLines, IsUnscheduled}
-use Rattle.vq_model.specs.Built.{HasWholeWaits, IsOfFirstVersion}
-use Rattle.vq_reading_laws.proofs.ScriptFacts.{text_valid, text_batches, text_steps, text_whole, text_turns, text_form, text_version}
-use Rattle.vq_reading_laws.proofs.SameScripts.{same_valid, same_batches, same_steps, same_whole, same_turns, same_version}
+use Rattle.vq_reading_laws.proofs.ScriptFacts.{text_valid, text_batches, text_steps, text_turns, text_form}
+use Rattle.vq_reading_laws.proofs.SameScripts.{same_valid, same_batches, same_steps, same_turns}
 use Rattle.vq_reading_laws.proofs.LinesRise.{text_lines_rise}
 use Rattle.vq_reading_laws.proofs.WithoutTurns.{valid_without, batches_without, steps_without, turns_without}
 
@@ -31,13 +30,6 @@ module _ (s : Script) (i : IsScript s) where
   pub written_turns : HasValidTurns s
   written_turns = same_turns i.written s i.same (text_turns i.text i.form i.written i.stands)
 
-  -- So far no such script has a wait that holds back a part of a batch, or a version.
-  pub written_whole : HasWholeWaits s
-  written_whole = same_whole i.written s i.same (text_whole i.text i.form i.written i.stands)
-
-  pub written_version : IsOfFirstVersion s
-  written_version = same_version i.written s i.same (text_version i.text i.form i.written i.stands)
-
 module _ (s : Script) (i : IsRead s) where
   abbrev before_moving : Script
   before_moving = record s { turns = i.turns }
@@ -52,9 +44,6 @@ module _ (s : Script) (i : IsRead s) where
 
   pub read_valid : IsValid s
   read_valid = valid_without s i.turns (text_valid i.text i.form before_moving i.stands)
-
-  pub read_whole : HasWholeWaits s
-  read_whole = text_whole i.text i.form before_moving i.stands
 
   -- .. and its lines rise.
   pub read_lines_rise : HasRisingLines s

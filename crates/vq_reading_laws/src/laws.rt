@@ -1,12 +1,14 @@
 //! Laws over texts and the scripts that they stand for. The functions do nothing: their contracts are
 //! the laws.
-ghost use Rattle.std.specs.Prelude.{◌≤◌, ◌↔◌, ℕ, List, [], length, ◌≡◌, false, None, Some, Ok, Err};
+ghost use Rattle.std.specs.Prelude.{◌≤◌, ◌↔◌, ℕ, List, [], length, ◌≡◌, false, None, Some, Ok, Err, All};
+ghost use Rattle.std.specs.List.{slice_get};
 ghost use Rattle.vq_model.specs.Text.{lines_of};
 ghost use Rattle.vq_model.specs.declared.script.Script.{Script};
+ghost use Rattle.vq_model.specs.declared.script.Batch.{Batch};
+ghost use Rattle.vq_model.specs.declared.script.Job.TheVariants.{Batch as BatchJob};
 ghost use Rattle.vq_model.specs.SameScript.{IsScript, IsRead};
 ghost use Rattle.vq_model.specs.ValidScripts.{IsValid, HasValidBatches, HasValidSteps, HasValidTurns, HasRisingLines};
 ghost use Rattle.vq_model.specs.ValidScripts.{IsUnscheduled};
-ghost use Rattle.vq_model.specs.Built.{HasWholeWaits, IsOfFirstVersion};
 ghost use Rattle.vq_model.specs.Canonical.{form_of_script};
 ghost use Rattle.vq_model.specs.declared.statement.Form.TheVariants.{Plain};
 ghost use Rattle.vq_model.specs.declared.statement.Form.{Form};
@@ -23,9 +25,10 @@ pub fn lines_are_few()
     ensures { (text : List ℕ) → length (lines_of text) ≤ length text }
 {}
 
-/// A script that can be written is valid: its signals name semaphores that exist, its commands fit
-/// their buffers, it stays within the limits, its batches and host steps name what exists, of the
-/// kinds that their places need, and the turns of its schedule are taken by its actors.
+/// A script that can be written is valid: it is of a version and stays within that version's limits,
+/// its signals name semaphores that exist, its commands fit their buffers, its batches and host steps
+/// name what exists, of the kinds that their places need, its waits hold back what their version
+/// lets them, and the turns of its schedule are taken by its actors.
 pub fn scripts_are_valid()
     ensures valid { (s : Script) → IsScript s → IsValid s }
     ensures batches { (s : Script) → IsScript s → HasValidBatches s }
@@ -33,11 +36,10 @@ pub fn scripts_are_valid()
     ensures turns { (s : Script) → IsScript s → HasValidTurns s }
 {}
 
-/// What no script that can be written has so far: a wait that holds back a part of a batch only, a
-/// version. Each of these falls alone, with the form of lines that brings it.
-pub fn scripts_are_of_built_forms()
-    ensures whole { (s : Script) → IsScript s → HasWholeWaits s }
-    ensures version { (s : Script) → IsScript s → IsOfFirstVersion s }
+/// In a script of the first version each wait holds back the whole of its batch.
+pub fn first_version_has_whole_waits()
+    ensures { (s : Script) → IsScript s → s.version ≡ 1 → (j : ℕ) → (b : Batch) →
+        slice_get s.jobs j ≡ Some (BatchJob b) → All (λ m. m.from ≡ 1) b.waits }
 {}
 
 /// A script that was read is valid, also where its turns were moved out of it, and its lines rise in

@@ -56,3 +56,13 @@ turns_joined :
     ≡ codes "queue P threaded\nschedule\nhost 3\nS:P\nR:P 2\n"
 unfolding digits
 turns_joined = refl
+
+-- a version stands first, and the place of a wait where it is above 1
+second_version :
+    reprinted Plain
+    (codes "# held\n version 2 # note\nqueue Q threaded\nbuffer X 4\ntimeline A 0x10\nbinary S\nsubmit Q\n"
+    ++ codes "wait A 16 from 0x2\nwait S from 2\nwait A 3 from 1\nwait A 4\nfill X 0 whole 1\nend")
+    ≡ codes "version 2\nbuffer X 4\ntimeline A 16\nbinary S\nqueue Q threaded\nsubmit Q\n"
+    ++ codes "wait A 16 from 2\nwait S from 2\nwait A 3\nwait A 4\nfill X 0 whole 0x00000001\nend\n"
+unfolding digits
+second_version = refl

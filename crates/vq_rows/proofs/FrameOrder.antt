@@ -136,7 +136,7 @@ sure_order = record { reachable = refl; chains = chains; no_race = no_race }
 -- what a script keeps that fits its limits
 
 valid : IsValid frames
-valid = record { signals = signals; commands = commands; limits = limits }
+valid = record { version = inl refl; signals = signals; commands = commands; limits = limits }
   where
     signals : (e : ℕ) (x : Signaling) → slice_get (all_signals frames) e ≡ Some x → x.semaphore < 6
     signals e x h = of_option (slice_get (all_signals frames) e) x h (within e)

@@ -42,7 +42,7 @@ queue line letter = record { line = line; name = letter ∷ []; mode = Threaded 
 
 -- A batch fills Y, and then copies the first half of X to it; another fills X and signals. The wait for this signal holds
 -- back the first batch from a place on.
-abbrev held_from : ℕ → Script
+abbrev pub held_from : ℕ → Script
 held_from k =
     record {
       version = 2;
@@ -71,7 +71,7 @@ held_from k =
     }
 
 -- the plan of such a script
-abbrev held : ℕ → Plan
+abbrev pub held : ℕ → Plan
 held k = plan_of (held_from k)
 
 -- the wait holds back the copy
@@ -430,7 +430,7 @@ copy_held_lawful =
     }
 
 copy_held_valid : IsValid (held_from 2)
-copy_held_valid = record { signals = signals; commands = commands; limits = limits }
+copy_held_valid = record { version = inr refl; signals = signals; commands = commands; limits = limits }
   where
     signals : (e : ℕ) (x : Signaling) → slice_get (all_signals (held_from 2)) e ≡ Some x → x.semaphore < 1
     signals zero x h = some_below (ap (option_map (λ y. y.semaphore)) h)

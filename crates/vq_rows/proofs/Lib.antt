@@ -15,4 +15,5 @@ mod TextRows
 mod TimelineRows
 mod TraceRows
 mod UnreachedRows
+mod VersionRows
 mod WindowRows

@@ -3,8 +3,9 @@ use Rattle.vq_model.specs.declared.statement.Statement.{Statement}
 use Rattle.vq_model.specs.declared.statement.Line.{Line}
 use Rattle.std.proofs.Common.{ℕ, Bool, ◌≡◌, false, [], refl, true, ◌∷◌, ◌++◌}
 use Rattle.std.specs.Prelude.{replicate}
-use Rattle.vq_model.specs.declared.statement.Statement.TheVariants.{DeclareBuffer, DeclareSemaphore, BeginBatch, TakeHostStep, AddCommand, EndBatch}
+use Rattle.vq_model.specs.declared.statement.Statement.TheVariants.{HasVersion, DeclareQueue, DeclareBuffer, DeclareSemaphore, BeginBatch, TakeHostStep, AddCommand, EndBatch}
 use Rattle.vq_model.specs.declared.script.SemaphoreKind.TheVariants.{Binary, Timeline}
+use Rattle.vq_model.specs.declared.script.Mode.TheVariants.{Threaded, Deferred}
 use Rattle.vq_model.specs.declared.script.HostStep.TheVariants.{Idle}
 use Rattle.vq_model.specs.declared.script.Command.TheVariants.{Fill, Update}
 use Rattle.vq_model.specs.declared.script.FillSize.TheVariants.{Whole}
@@ -19,11 +20,29 @@ line s = record { number = 1; statement = s }
 abbrev after : ℕ → Statement → Statement → Bool
 after n before s = passes_limit (earlier (replicate n (line before))) s
 
+-- .. after these and the version
+abbrev after_version : ℕ → Statement → Statement → Bool
+after_version n before s =
+    passes_limit (earlier (line (HasVersion 2) ∷ replicate n (line before))) s
+
 buffer_64 : after 63 (DeclareBuffer [] 1) (DeclareBuffer [] 1) ≡ false
 buffer_64 = refl
 
 buffer_65 : after 64 (DeclareBuffer [] 1) (DeclareBuffer [] 1) ≡ true
 buffer_65 = refl
+
+-- queues, in the first version and in the second
+queue_8 : after 7 (DeclareQueue [] Threaded) (DeclareQueue [] Deferred) ≡ false
+queue_8 = refl
+
+queue_9 : after 8 (DeclareQueue [] Threaded) (DeclareQueue [] Deferred) ≡ true
+queue_9 = refl
+
+queue_16 : after_version 15 (DeclareQueue [] Threaded) (DeclareQueue [] Deferred) ≡ false
+queue_16 = refl
+
+queue_17 : after_version 16 (DeclareQueue [] Threaded) (DeclareQueue [] Deferred) ≡ true
+queue_17 = refl
 
 semaphore_256 : after 255 (DeclareSemaphore [] Binary) (DeclareSemaphore [] (Timeline 0)) ≡ false
 semaphore_256 = refl
@@ -36,6 +55,12 @@ job_4096 = refl
 
 job_4097 : after 4096 (BeginBatch 0) (BeginBatch 0) ≡ true
 job_4097 = refl
+
+job_8192 : after_version 8191 (BeginBatch 0) (TakeHostStep Idle) ≡ false
+job_8192 = refl
+
+job_8193 : after_version 8192 (BeginBatch 0) (BeginBatch 0) ≡ true
+job_8193 = refl
 
 -- the commands of all batches: those of a batch that is ended count too
 command_8192 : passes_limit (earlier (replicate 8191 (line (AddCommand (Fill 0 0 Whole 1))) ++ line EndBatch ∷ line (BeginBatch 0) ∷ [])) (AddCommand (Fill 0 0 Whole 1)) ≡ false

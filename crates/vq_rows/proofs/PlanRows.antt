@@ -40,7 +40,7 @@ lowers : Lowers script (Ok (plan_of script))
 lowers = (refl, refl)
 
 is_valid : IsValid script
-is_valid = record { signals = signals; commands = commands; limits = limits }
+is_valid = record { version = inl refl; signals = signals; commands = commands; limits = limits }
   where
     signals : (e : ℕ) (x : Signaling) → slice_get (all_signals script) e ≡ Some x → x.semaphore < 0
     signals e x h = cc

@@ -23,7 +23,7 @@ use Rattle.vq_model.specs.HappensBefore.{HappensBefore, HappensBeforeCommand, on
 use Rattle.vq_model.specs.Checks.{IsLawful, IsUnordered, AreNeighbours, IsRaceAt, NoLines, too_low, equal, unsure, unsure_back, unawaited, is_immediate_batch}
 use Rattle.vq_model.proofs.Gets.{slice_get_past}
 use Rattle.vq_model.proofs.Lists.{has_cases}
-use Rattle.vq_plan_laws.proofs.Cited.{plan_well_formed, plan_holds_no_wait}
+use Rattle.vq_plan_laws.proofs.Cited.{plan_well_formed, first_version_unheld}
 use Rattle.vq_order_laws.proofs.Cited.{plan_has_sure_order, command_order}
 use Rattle.vq_run_laws.proofs.Cited.{one_result}
 
@@ -129,7 +129,7 @@ single : (x c : ℕ) → has (x ∷ []) c ≡ true → x ≡ c
 single x c h = elim (has_cases x [] c h) [ inl e ↦ e | inr n ↦ absurd (false≢true n) ]
 
 fill_first : (d : ℕ) → HappensBeforeCommand plan 1 0 d
-fill_first d = command_order plan (plan_holds_no_wait plan is_plan) 1 0 d copy_after_fill
+fill_first d = command_order plan (first_version_unheld plan is_plan refl) 1 0 d copy_after_fill
 
 race_free : NoLines (IsRaceAt plan)
 race_free a b r =

@@ -76,6 +76,7 @@ naming_valid line =
     record {
       queue = omega arith;
       waits = λ k d l. absurd (omega arith);
+      held = λ k d l. absurd (omega arith);
       signals = λ k d l. absurd (omega arith);
       fence = λ m e. (let same : fence_at (suc line) ≡ m = cc in subst (IsValidFence two_namings) same (record { exists = omega arith; kind = refl; valueless = refl }));
       few_waits = omega arith;
@@ -118,6 +119,7 @@ two_lines = rising (3 ∷ 4 ∷ 6 ∷ 7 ∷ 8 ∷ 9 ∷ []) refl
 two_valid : IsValid two_namings
 two_valid =
     record {
+      version = inl refl;
       signals = λ e x h. signal e x h;
       commands = λ j k job x h g. absurd (none j k job x h g);
       limits =

@@ -12,11 +12,11 @@ use Rattle.vq_model.specs.declared.statement.FaultKind.TheVariants.{Syntax, Numb
 use Rattle.std.specs.List.{repeat}
 
 -- the bytes that a text's script leaves, or its first fault
-abbrev bytes_left : Result Script (ℕ × FaultKind) → Result Memory (ℕ × FaultKind)
+abbrev pub bytes_left : Result Script (ℕ × FaultKind) → Result Memory (ℕ × FaultKind)
 bytes_left (Ok script) = Ok (final (plan_of script))
 bytes_left (Err fault) = Err fault
 
-abbrev bytes_of : List ℕ → Result Memory (ℕ × FaultKind)
+abbrev pub bytes_of : List ℕ → Result Memory (ℕ × FaultKind)
 bytes_of text = bytes_left (read_script text Plain)
 
 -- the same of a text with a schedule
@@ -134,9 +134,6 @@ a_schedule_in_a_plain_text = refl
 
 no_schedule : scheduled (codes "queue Q immediate\n") ≡ Err (2, Syntax)
 no_schedule = refl
-
-a_version : bytes_of (codes "version 2\nbuffer X 4\n") ≡ Err (1, Syntax)
-a_version = refl
 
 a_wait_from_a_later_command :
     bytes_of
@@ -378,18 +375,3 @@ cut_after_twelve :
     ++ codes "fill X 0 8 0x0a0b0c0d\nsignal A 1\n")
     ≡ Err (13, Syntax)
 cut_after_twelve = refl
-
--- Version 2
-
-version_three : bytes_of (codes "version 3\n") ≡ Err (1, Syntax)
-version_three = refl
-
-a_late_version : bytes_of (codes "buffer X 4\nversion 2\n") ≡ Err (2, Syntax)
-a_late_version = refl
-
-held_in_version_one :
-    bytes_of
-    (codes "buffer X 8\nbuffer Y 8\ntimeline A 0\nqueue P threaded\n"
-    ++ codes "queue Q threaded\nsubmit P\nwait A 1 from 2\nfill Y 0 8 5\n")
-    ≡ Err (7, Syntax)
-held_in_version_one = refl

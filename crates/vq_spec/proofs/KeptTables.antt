@@ -9,6 +9,7 @@ use Rattle.vq_model.specs.LoweringFaults.{lowering_fault, IsPlan}
 use Rattle.vq_model.specs.Plan.{Plan}
 use Rattle.vq_model.specs.SameScript.{IsRead}
 use Rattle.vq_model.specs.Signals.{job_signals, all_signals, chain_ops}
+use Rattle.vq_model.specs.Limits.{limits_of}
 use Rattle.vq_reading_laws.proofs.Cited.{read_valid}
 use Rattle.vq_spec.specs.declared.edges.JobWaits.{JobWaits}
 use Rattle.vq_spec.specs.declared.lowering.Lowered.{Lowered}
@@ -49,7 +50,7 @@ module _ (s : Script) (x : Lowered) (k : AreLowered s (length s.jobs) x) where
 pub chain_count : (s : Script) → length (plan_of s).chains ≡ length s.semaphores
 chain_count s = length-map-range_with_len (chain_ops s) 0 (length s.semaphores)
 
-few_chains : (s : Script) → IsRead s → length s.semaphores ≤ 256
+few_chains : (s : Script) → IsRead s → length s.semaphores ≤ (limits_of s.version).semaphores
 few_chains s i = (read_valid s i).limits.semaphores
 
 pub kept : (s : Script) → IsRead s → lowering_fault s ≡ None → (t : Tables) →

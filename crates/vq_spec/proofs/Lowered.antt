@@ -1,5 +1,5 @@
 -- The jobs of a script that was read, and their commands.
-use Rattle.std.proofs.Common.{◌≡◌, ℕ, zero, suc, ◌+◌, ◌<◌, ◌≤◌, get_or, List, [], ◌∷◌, ◌++◌, length, map, take, drop, sum, Some, None, refl, sym, ap, ◌∙◌, arith, append_assoc}
+use Rattle.std.proofs.Common.{◌^◌, ◌≡◌, ℕ, zero, suc, ◌+◌, ◌<◌, ◌≤◌, get_or, List, [], ◌∷◌, ◌++◌, length, map, take, drop, sum, Some, None, refl, sym, ap, ◌∙◌, arith, append_assoc}
 use Rattle.std.specs.List.{slice_get, flat_map, enumerate_from}
 use Rattle.std.proofs.lemmas.Option.{slice_get_read}
 use Rattle.std.proofs.lemmas.List.{append-nil, length-append, length-map, take-append-drop}
@@ -11,7 +11,8 @@ use Rattle.vq_model.specs.declared.script.Job.{Job}
 use Rattle.vq_model.specs.Lowering.{batch_commands, commands_in, plan_of, plan_job}
 use Rattle.vq_model.specs.SameScript.{IsRead}
 use Rattle.vq_plan_laws.proofs.Cited.{length-batch_commands}
-use Rattle.vq_reading_laws.proofs.Cited.{read_valid}
+use Rattle.vq_model.specs.Limits.{limits_of}
+use Rattle.vq_reading_laws.proofs.Cited.{read_valid, jobs_fit}
 
 -- Numbers
 
@@ -43,17 +44,18 @@ commands_push jobs j job e = let n : j + 1 ≡ suc j = omega arith in ap
         (batch_commands job))
 
 module _ (s : Script) (i : IsRead s) where
-  pub few_jobs : length s.jobs ≤ 4096
-  few_jobs = (read_valid s i).limits.jobs
+  pub few_jobs : length s.jobs < 2 ^ 16
+  few_jobs = let few = (read_valid s i).limits.jobs in let fit = jobs_fit s.version in omega arith
 
-  pub few_commands : length (flat_map batch_commands s.jobs) ≤ 8192
+  pub few_commands : length (flat_map batch_commands s.jobs) ≤ (limits_of s.version).commands
   few_commands =
-      let most : sum (map commands_in s.jobs) ≤ 8192 = (read_valid s i).limits.commands in
+      let most = (read_valid s i).limits.commands in
       omega (arith, total s.jobs)
 
   -- the commands up to a job and its own
   pub few_up_to : (j : ℕ) (job : Job) → slice_get s.jobs j ≡ Some job →
-      length (flat_map batch_commands (take j s.jobs)) + length (batch_commands job) ≤ 8192
+      length (flat_map batch_commands (take j s.jobs)) + length (batch_commands job)
+      ≤ (limits_of s.version).commands
   few_up_to j job e =
       let whole = flat_map-append batch_commands (take (j + 1) s.jobs) (drop (j + 1) s.jobs) in
       let cut = ap (λ jobs. length (flat_map batch_commands jobs))
@@ -77,5 +79,5 @@ read_job jobs seen j r job e l read is =
 
 -- a job of the script, by its place
 pub few_in : (s : Script) → IsRead s → (j : ℕ) (job : Job) → slice_get s.jobs j ≡ Some job →
-    length (batch_commands job) ≤ 8192
+    length (batch_commands job) ≤ (limits_of s.version).commands
 few_in s i j job e = omega (arith, few_up_to s i j job e)

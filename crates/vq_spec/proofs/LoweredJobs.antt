@@ -25,6 +25,7 @@ use Rattle.vq_model.specs.Signals.{job_signals, all_signals, signals_semaphore}
 use Rattle.vq_model.specs.ValidScripts.{is_fence_at, IsValidBatch, IsValidMark, IsValidStep}
 use Rattle.vq_plan_laws.proofs.Cited.{length-batch_commands}
 use Rattle.vq_model.proofs.Gets.{get_within}
+use Rattle.vq_model.specs.Limits.{limits_of}
 use Rattle.vq_reading_laws.proofs.Cited.{kind_exists, read_batches, read_steps}
 use Rattle.vq_spec.specs.declared.lowering.Lowered.{Lowered}
 use Rattle.vq_spec.specs.Counts.{signals_before, AreSignals, AreLowered, need_by, value_by, batch_job, in_queue, is_step, last_of_queues}
@@ -95,7 +96,7 @@ module _ (s : Script) (i : IsRead s) (j : ℕ) (b : Batch) (at : slice_get s.job
   last_length = ap length k.last ∙ length-map-range_with_len
       (λ q. last_before s j (in_queue q)) 0 (length s.queues)
 
-  pub commands_fit : x.commands + length b.commands ≤ 8192
+  pub commands_fit : x.commands + length b.commands ≤ (limits_of s.version).commands
   commands_fit = let n = k.commands in let m = few_up_to s i j (BatchJob b) at in omega arith
 
   -- the value of a wait

@@ -1,5 +1,5 @@
 -- The signals of a script by the jobs before one, and their values and counts.
-use Rattle.std.proofs.Common.{◌≡◌, ◌≢◌, ℕ, zero, suc, ◌+◌, ◌-◌, ◌*◌, ◌<◌, ◌≤◌, Bool, true, false, ◌&&◌, cond, eqb, ltb, List, [], ◌∷◌, ◌++◌, length, get_or, map, filter, take, drop, Option, Some, None, option_map, refl, sym, ap, ◌∙◌, arith, append_assoc, zero-add}
+use Rattle.std.proofs.Common.{◌^◌, ◌≡◌, ◌≢◌, ℕ, zero, suc, ◌+◌, ◌-◌, ◌<◌, ◌≤◌, Bool, true, false, ◌&&◌, cond, eqb, ltb, List, [], ◌∷◌, ◌++◌, length, get_or, map, filter, take, drop, Some, None, option_map, refl, sym, ap, ◌∙◌, arith, append_assoc, zero-add}
 use Rattle.std.proofs.Math.ListN.{set}
 use Rattle.std.specs.List.{count_by, slice_get, range_with_len, enumerate_from, flat_map, AllByRecursion}
 use Rattle.std.specs.Option.{option_map_or, option_to_list}
@@ -21,9 +21,8 @@ use Rattle.vq_model.specs.declared.script.Job.TheVariants.{Host, Batch as BatchJ
 use Rattle.vq_model.specs.Lowering.{job_ops}
 use Rattle.vq_model.specs.SameScript.{IsRead}
 use Rattle.vq_model.specs.Signals.{Signaling, of_mark, step_signals, job_signals, all_signals, signals_semaphore, signal_value, values_from, value_at}
-use Rattle.vq_model.specs.ValidScripts.{IsValidBatch}
 use Rattle.vq_model.proofs.Gets.{get-map, get_within, get-append, get-append_left}
-use Rattle.vq_plan_laws.proofs.Cited.{value_is}
+use Rattle.vq_plan_laws.proofs.Cited.{count_ops, few_ops, value_is}
 use Rattle.vq_reading_laws.proofs.Cited.{read_valid, read_batches}
 use Rattle.vq_spec.specs.declared.signals.Signals.{Signals}
 use Rattle.vq_spec.specs.Counts.{signals_before, unplaced, first_ops, counts_of, AreSignals, value_by}
@@ -255,39 +254,10 @@ module _ (s : Script) (j : ℕ) (job : Job) (at : slice_get s.jobs j ≡ Some jo
 
 -- How many signals there are
 
-length_signals : (s : Script) (a : ℕ) (jobs : List Job) →
-    ((j : ℕ) (b : Batch) → slice_get jobs j ≡ Some (BatchJob b) → IsValidBatch s b) →
-    length (flat_map job_signals (enumerate_from a jobs)) ≤ 17 * length jobs
-length_signals s a [] v = omega arith
-length_signals s a (job ∷ jobs) v =
-    let rest = length_signals s (a + 1) jobs (λ j b e. v (suc j) b e) in
-    let own = of_job job (λ b e. v 0 b (ap Some e)) in
-    let all = length-append (job_signals (a, job)) (flat_map job_signals (enumerate_from (a + 1) jobs)) in
-    omega arith
-  where
-    of_step : (line : ℕ) (t : HostStep) → length (step_signals a line t) ≤ 17
-    of_step line (Signal pair) = omega arith
-    of_step line t = omega arith
-
-    few : (o : Option Mark) → length (option_to_list o) ≤ 1
-    few None = omega arith
-    few (Some m) = omega arith
-
-    of_job : (job : Job) → ((b : Batch) → job ≡ BatchJob b → IsValidBatch s b) →
-        length (job_signals (a, job)) ≤ 17
-    of_job (Host h) v = of_step h.line h.step
-    of_job (BatchJob b) v =
-        let n = (v b refl).few_signals in
-        let m = length-append b.signals (option_to_list b.fence) in
-        let k = length-map (b.signals ++ option_to_list b.fence) (of_mark a) in
-        let one = few b.fence in
-        omega arith
-
-pub few_signals : (s : Script) → IsRead s → length (all_signals s) ≤ 69632
+pub few_signals : (s : Script) → IsRead s → length (all_signals s) < 2 ^ 32
 few_signals s i =
-    let few = (read_valid s i).limits.jobs in
-    let most : length s.jobs ≤ 4096 = few in
-    let n = length_signals s 0 s.jobs (read_batches s i) in
+    let counted = count_ops s in
+    let few = few_ops s (read_valid s i) (read_batches s i) in
     omega arith
 
 -- Values
@@ -322,7 +292,7 @@ module _ (s : Script) (x : Signals) (k : AreSignals s x) where
       (length s.semaphores) t x.counts.items d k.counts l
 
   pub count_few : IsRead s → (t d : ℕ) → t < length s.semaphores →
-      get_or x.counts.items t d ≤ 69632
+      get_or x.counts.items t d < 2 ^ 32
   count_few i t d l =
       let e = count_at t d l in
       let a = count_by-le-length (signals_semaphore t) (take (length x.ops.items) (all_signals s)) in

@@ -22,13 +22,14 @@ use Rattle.vq_model.proofs.Numbers.{has-range_cases}
 use Rattle.vq_plan_laws.proofs.Cited.{plan_well_formed}
 use Rattle.vq_model.proofs.Searches.{find_member}
 use Rattle.vq_model.proofs.Sizes.{sizes-zeros_of}
+use Rattle.vq_model.specs.Limits.{limits_of}
 use Rattle.vq_reading_laws.proofs.Cited.{read_valid}
 use Rattle.vq_transfer.proofs.Cited.{has_own_sizes}
 use Rattle.vq_spec.proofs.SlowHeads.{has_at}
 
 -- Sizes
 
-pub few_buffers : (s : Script) → IsRead s → length s.buffers ≤ 64
+pub few_buffers : (s : Script) → IsRead s → length s.buffers ≤ (limits_of s.version).buffers
 few_buffers s i = (read_valid s i).limits.buffers
 
 pub sizes_of_plan : (p : Plan) → IsPlan p → p.sizes ≡ sizes_of p.script

@@ -1,10 +1,10 @@
 -- The lines of a canonical text, one after another.
-use Rattle.std.proofs.Common.{◌≡◌, ℕ, ◌/◌, ◌%◌, ◌<◌, ◌^◌, List, [], ◌∷◌, ◌++◌, map, codes, refl, sym, ap, ◌∙◌, ap₂, arith, append_assoc, length, slice_index_or, true, zero, suc, cond, Result, Ok, Err, Some}
+use Rattle.std.proofs.Common.{◌≡◌, ℕ, ◌/◌, ◌%◌, ◌^◌, List, [], ◌∷◌, ◌++◌, map, codes, refl, sym, ap, ◌∙◌, ap₂, arith, append_assoc, true, cond, Result, Ok, Err}
 use Rattle.std.specs.Result.{OnOk, is_ok}
 use Rattle.std.proofs.lemmas.Bool.{cond-true}
 use Rattle.std.proofs.lemmas.List.{append-nil}
 use Rattle.std.proofs.lemmas.Grind.{flat_map-append}
-use Rattle.std.specs.List.{flat_map, slice_get, All}
+use Rattle.std.specs.List.{flat_map, join_with_byte}
 use Rattle.std.specs.Int.{to_be_bytes, w32}
 use Rattle.vq_model.specs.declared.script.Script.{Script}
 use Rattle.vq_model.specs.declared.script.Batch.{Batch}
@@ -15,8 +15,7 @@ use Rattle.vq_model.specs.declared.script.Turn.{Turn}
 use Rattle.vq_model.specs.declared.script.Queue.{Queue}
 use Rattle.vq_model.specs.declared.script.CommandLine.{CommandLine}
 use Rattle.vq_model.specs.declared.script.Job.{Job}
-use Rattle.vq_model.specs.declared.script.Job.TheVariants.{Host, Batch as BatchJob}
-use Rattle.vq_model.specs.Built.{HasWholeWaits, IsOfFirstVersion}
+use Rattle.vq_model.specs.declared.script.Job.TheVariants.{Batch as BatchJob}
 use Rattle.vq_model.specs.Canonical.{hex_digits, fill_word, buffer_words, queue_words, semaphore_words, mark_words, from_words, wait_words, command_words, signal_words, fence_lines, job_words, version_words, schedule_words, turns_words, joined_turns, line_text, canonical_text}
 use Rattle.vq_model.specs.Naming.{queue_name}
 
@@ -86,57 +85,56 @@ batch_text s b =
     (flat_map-map line_text command b.commands))
     (flat_map-map line_text (signal_words s) b.signals))))
 
--- a host step, or a batch whose waits hold it back as a whole
-abbrev pub IsWholeJob : Job → Type 0
-IsWholeJob (Host h) = Unit {0}
-IsWholeJob (BatchJob b) = All (λ m. m.from ≡ 1) b.waits
+-- words after words, each behind a space
+words_more : (word : List ℕ) (words more : List (List ℕ)) →
+    join_with_byte 32 (word ∷ words ++ more)
+    ≡ join_with_byte 32 (word ∷ words) ++ flat_map (λ w. 32 ∷ w) more
+words_more word [] [] = sym (append-nil word)
+words_more word [] (next ∷ more) =
+    ap (λ (text : List ℕ). word ++ 32 ∷ text) (words_more next [] more)
+words_more word (next ∷ words) more =
+    ap (λ (text : List ℕ). word ++ 32 ∷ text) (words_more next words more)
+    ∙ sym (append_assoc word (32 ∷ join_with_byte 32 (next ∷ words)) (flat_map (λ w. 32 ∷ w) more))
 
--- each job of a script is one, where each wait holds back its whole batch
-pub whole_job : (s : Script) (jobs : List Job) → jobs ≡ s.jobs →
-    HasWholeWaits s → (j : ℕ) (job : Job) → j < length jobs → IsWholeJob (slice_index_or jobs j job)
-whole_job s jobs e whole j job l =
-    by_job (slice_index_or jobs j job) (ap (λ (xs : List Job). slice_get xs j) (sym e) ∙ at jobs j l)
-  where
-    at : (xs : List Job) (k : ℕ) → k < length xs → slice_get xs k ≡ Some (slice_index_or xs k job)
-    at [] k l = absurd (omega arith)
-    at (x ∷ xs) zero l = refl
-    at (x ∷ xs) (suc k) l = at xs k (omega arith)
+-- a list with the line of a wait
+pub wait_added : (s : Script) (m : Mark) (old marked placed new : List ℕ) →
+    marked ≡ old ++ join_with_byte 32 (codes "wait" ∷ mark_words s m) →
+    placed ≡ marked ++ flat_map (λ w. 32 ∷ w) (from_words m.from) → new ≡ placed ++ 10 ∷ [] →
+    new ≡ old ++ line_text (wait_words s m)
+wait_added s m old marked placed new e1 e2 e3 =
+    let front = join_with_byte 32 (codes "wait" ∷ mark_words s m) in
+    let back = flat_map (λ w. 32 ∷ w) (from_words m.from) in
+    e3 ∙ ap (λ text. text ++ 10 ∷ []) (e2 ∙ ap (λ text. text ++ back) e1 ∙ append_assoc old front back)
+    ∙ append_assoc old (front ++ back) (10 ∷ [])
+    ∙ ap (λ text. old ++ (text ++ 10 ∷ []))
+    (sym (words_more (codes "wait") (mark_words s m) (from_words m.from)))
 
-    by_job : (x : Job) → slice_get s.jobs j ≡ Some x → IsWholeJob x
-    by_job (Host h) f = tt
-    by_job (BatchJob b) f = whole j b f
-
--- the words of a wait that holds back the whole batch
-pub whole_wait : (s : Script) (m : Mark) → m.from ≡ 1 →
-    wait_words s m ≡ codes "wait" ∷ mark_words s m
-whole_wait s m e =
-    ap (λ (n : ℕ). codes "wait" ∷ mark_words s m ++ from_words n) e
-    ∙ ap (λ words. codes "wait" ∷ words) (append-nil (mark_words s m))
-
--- The text of a script of the first version: its buffers, its semaphores and fences, its queues, its
--- jobs and its schedule.
-script_text : (s : Script) → IsOfFirstVersion s →
+-- The text of a script: its version, its buffers, its semaphores and fences, its queues, its jobs and
+-- its schedule.
+script_text : (s : Script) →
     canonical_text s
-    ≡ flat_map (λ b. line_text (buffer_words b)) s.buffers
+    ≡ flat_map line_text (version_words s.version)
+    ++ flat_map (λ b. line_text (buffer_words b)) s.buffers
     ++ flat_map (λ x. line_text (semaphore_words x)) s.semaphores
     ++ flat_map (λ q. line_text (queue_words q)) s.queues
     ++ flat_map (λ j. flat_map line_text (job_words s j)) s.jobs
     ++ flat_map line_text (schedule_words s)
-script_text s first =
+script_text s =
+    let version = version_words s.version in
     let buffers = map buffer_words s.buffers in
     let semaphores = map semaphore_words s.semaphores in
     let queues = map queue_words s.queues in
     let jobs = flat_map (job_words s) s.jobs in
-    ap (λ version. flat_map line_text (version_words version ++ buffers ++ semaphores ++ queues
-    ++ jobs ++ schedule_words s)) first
-    ∙ flat_map-append line_text (buffers ++ semaphores ++ queues ++ jobs) (schedule_words s)
+    flat_map-append line_text (version ++ buffers ++ semaphores ++ queues ++ jobs) (schedule_words s)
     ∙ ap (λ text. text ++ flat_map line_text (schedule_words s))
-    (flat_map-append line_text (buffers ++ semaphores ++ queues) jobs
+    (flat_map-append line_text (version ++ buffers ++ semaphores ++ queues) jobs
     ∙ ap₂ (λ front back. front ++ back)
-    (flat_map-append line_text (buffers ++ semaphores) queues
+    (flat_map-append line_text (version ++ buffers ++ semaphores) queues
     ∙ ap₂ (λ front back. front ++ back)
-    (flat_map-append line_text buffers semaphores
-    ∙ ap₂ (λ front back. front ++ back) (flat_map-map line_text buffer_words s.buffers)
+    (flat_map-append line_text (version ++ buffers) semaphores
+    ∙ ap₂ (λ front back. front ++ back)
+    (flat_map-append line_text version buffers
+    ∙ ap (λ back. flat_map line_text version ++ back) (flat_map-map line_text buffer_words s.buffers))
     (flat_map-map line_text semaphore_words s.semaphores))
     (flat_map-map line_text queue_words s.queues))
     (flat_map-flat_map line_text (job_words s) s.jobs))
@@ -183,28 +181,31 @@ batch_added s b name waits signals commands n ws cs ss old first waited filled s
     (e4 ∙ ap (λ xs. filled ++ signal_lines xs) ss) e5 e6
     ∙ ap (λ text. old ++ text) (sym (batch_text s b))
 
--- the declarations, the jobs and the schedule of such a script, one after another
-pub text_added : (s : Script) → IsOfFirstVersion s → (bs : List Buffer) (xs : List Semaphore)
-    (qs : List Queue) (js : List Job) → bs ≡ s.buffers → xs ≡ s.semaphores → qs ≡ s.queues →
-    js ≡ s.jobs → (none buffers semaphores queues jobs new : List ℕ) → none ≡ [] →
-    buffers ≡ none ++ flat_map (λ b. line_text (buffer_words b)) bs →
+-- the version, the declarations, the jobs and the schedule of a script, one after another
+pub text_added : (s : Script) → (bs : List Buffer) (xs : List Semaphore) (qs : List Queue)
+    (js : List Job) → bs ≡ s.buffers → xs ≡ s.semaphores → qs ≡ s.queues → js ≡ s.jobs →
+    (none version buffers semaphores queues jobs new : List ℕ) → none ≡ [] →
+    version ≡ none ++ flat_map line_text (version_words s.version) →
+    buffers ≡ version ++ flat_map (λ b. line_text (buffer_words b)) bs →
     semaphores ≡ buffers ++ flat_map (λ x. line_text (semaphore_words x)) xs →
     queues ≡ semaphores ++ flat_map (λ q. line_text (queue_words q)) qs →
     jobs ≡ queues ++ flat_map (λ j. flat_map line_text (job_words s j)) js →
     new ≡ jobs ++ flat_map line_text (schedule_words s) →
     new ≡ canonical_text s
-text_added s first bs xs qs js b x q j none buffers semaphores queues jobs new e1 e2 e3 e4 e5 e6 =
+text_added s bs xs qs js b x q j none version buffers semaphores queues jobs new e1 e2 e3 e4 e5 e6 e7 =
+    let version_lines : List ℕ = flat_map line_text (version_words s.version) in
     let buffer_lines : List Buffer → List ℕ = flat_map (λ y. line_text (buffer_words y)) in
     let semaphore_lines : List Semaphore → List ℕ
     = flat_map (λ y. line_text (semaphore_words y)) in
     let queue_lines : List Queue → List ℕ = flat_map (λ y. line_text (queue_words y)) in
     let job_lines : List Job → List ℕ = flat_map (λ y. flat_map line_text (job_words s y)) in
-    e6 ∙ ap (λ front. front ++ flat_map line_text (schedule_words s))
-    (e5 ∙ ap₂ (λ front back. front ++ job_lines back)
-    (e4 ∙ ap₂ (λ front back. front ++ queue_lines back)
-    (e3 ∙ ap₂ (λ front back. front ++ semaphore_lines back)
-    (e2 ∙ ap₂ (λ front back. front ++ buffer_lines back) e1 b) x) q) j)
-    ∙ sym (script_text s first)
+    e7 ∙ ap (λ front. front ++ flat_map line_text (schedule_words s))
+    (e6 ∙ ap₂ (λ front back. front ++ job_lines back)
+    (e5 ∙ ap₂ (λ front back. front ++ queue_lines back)
+    (e4 ∙ ap₂ (λ front back. front ++ semaphore_lines back)
+    (e3 ∙ ap₂ (λ front back. front ++ buffer_lines back)
+    (e2 ∙ ap (λ front. front ++ version_lines) e1) b) x) q) j)
+    ∙ sym (script_text s)
 
 -- a list with the lines of a schedule
 pub schedule_added : (s : Script) → s.scheduled ≡ true → (turns : List Turn) → turns ≡ s.turns →

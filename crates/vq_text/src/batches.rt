@@ -1,14 +1,13 @@
 //! The lines of a canonical text that are jobs.
-ghost use Rattle.std.specs.Prelude.{◌≡◌, ◌++◌, ◌∷◌, [], OnOk, All};
-ghost use Rattle.std.specs.List.{flat_map};
-ghost use Rattle.vq_model.specs.Built.{HasWholeWaits};
-ghost use Rattle.vq_model.specs.Canonical.{mark_words, wait_words};
+ghost use Rattle.std.specs.Prelude.{◌≡◌, ◌++◌, ◌∷◌, [], OnOk};
+ghost use Rattle.std.specs.List.{flat_map, join_with_byte};
+ghost use Rattle.vq_model.specs.Canonical.{mark_words, from_words, wait_words};
 ghost use Rattle.vq_model.specs.Naming.{semaphore_name, semaphore_kind, queue_name};
 ghost use Rattle.vq_model.specs.Canonical.{signal_words, fence_lines, job_words, line_text};
 
 use crate::commands::push_commands;
 use crate::host_steps::push_step;
-use crate::words::{push_name_line, push_number_line};
+use crate::words::{push_name_line, push_number, push_word};
 use std::alloc::AllocError;
 use vq_model::script::{Batch, Job, Mark, Script, SemaphoreKind};
 
@@ -42,31 +41,46 @@ fn semaphore_kind(script: &Script, semaphore: u32) -> SemaphoreKind
     }
 }
 
-/// Adds a line of a word and a semaphore, with the value where it is a timeline.
+/// Adds a word and a semaphore, with the value where it is a timeline.
 fn push_mark(out: &mut Vec<u8>, script: &Script, word: &[u8], mark: Mark) -> Result<(), AllocError>
-    ensures { OnOk result
-        (out.new.items ≡ out.old.items ++ line_text (word.now ∷ mark_words script.now mark)) }
+    ensures { OnOk result (out.new.items ≡ out.old.items
+        ++ join_with_byte 32 (word.now ∷ mark_words script.now mark)) }
 {
-    let name = semaphore_name(script, mark.semaphore);
+    out.extend_from_slice(word)?;
+    push_word(out, semaphore_name(script, mark.semaphore))?;
     match semaphore_kind(script, mark.semaphore) {
-        SemaphoreKind::Timeline(_) => push_number_line(out, word, name, mark.value),
-        SemaphoreKind::Binary => push_name_line(out, word, name),
-        SemaphoreKind::Fence => push_name_line(out, word, name),
+        SemaphoreKind::Timeline(_) => push_number(out, mark.value),
+        SemaphoreKind::Binary => Ok(()),
+        SemaphoreKind::Fence => Ok(()),
     }
 }
 
-/// Adds the line of a wait that holds back the whole batch.
+/// Adds the place from which a wait holds back its batch, where it is above 1.
+fn push_from(out: &mut Vec<u8>, from: u32) -> Result<(), AllocError>
+    ensures { OnOk result
+        (out.new.items ≡ out.old.items ++ flat_map (λ word. 32 ∷ word) (from_words from)) }
+{
+    if 1 < from {
+        push_word(out, b"from")?;
+        push_number(out, u64::from(from))
+    } else {
+        Ok(())
+    }
+}
+
+/// Adds the line of a wait.
 fn push_wait(out: &mut Vec<u8>, script: &Script, wait: Mark) -> Result<(), AllocError>
-    requires { wait.from ≡ 1 }
     ensures { OnOk result
         (out.new.items ≡ out.old.items ++ line_text (wait_words script.now wait)) }
 {
-    push_mark(out, script, b"wait", wait)
+    push_mark(out, script, b"wait", wait)?;
+    push_from(out, wait.from)?;
+    out.push(b'\n')?;
+    Ok(())
 }
 
-/// Adds the lines of waits that hold back the whole batch.
+/// Adds the lines of waits.
 fn push_waits(out: &mut Vec<u8>, script: &Script, waits: &[Mark]) -> Result<(), AllocError>
-    requires { All (λ m. m.from ≡ 1) waits.now }
     ensures { OnOk result (out.new.items ≡ out.old.items
         ++ flat_map (λ m. line_text (wait_words script.now m)) waits.now) }
 {
@@ -76,13 +90,23 @@ fn push_waits(out: &mut Vec<u8>, script: &Script, waits: &[Mark]) -> Result<(), 
     Ok(())
 }
 
+/// Adds the line of a signal.
+fn push_signal(out: &mut Vec<u8>, script: &Script, signal: Mark) -> Result<(), AllocError>
+    ensures { OnOk result
+        (out.new.items ≡ out.old.items ++ line_text (signal_words script.now signal)) }
+{
+    push_mark(out, script, b"signal", signal)?;
+    out.push(b'\n')?;
+    Ok(())
+}
+
 /// Adds the lines of signals.
 fn push_signals(out: &mut Vec<u8>, script: &Script, signals: &[Mark]) -> Result<(), AllocError>
     ensures { OnOk result (out.new.items ≡ out.old.items
         ++ flat_map (λ m. line_text (signal_words script.now m)) signals.now) }
 {
     for signal in signals {
-        push_mark(out, script, b"signal", *signal)?;
+        push_signal(out, script, *signal)?;
     }
     Ok(())
 }
@@ -98,9 +122,8 @@ fn push_fence(out: &mut Vec<u8>, script: &Script, fence: Option<Mark>) -> Result
     }
 }
 
-/// Adds the lines of a batch whose waits hold it back as a whole.
+/// Adds the lines of a batch.
 fn push_batch(out: &mut Vec<u8>, script: &Script, batch: &Batch) -> Result<(), AllocError>
-    requires { All (λ m. m.from ≡ 1) batch.now.waits }
     ensures { OnOk result (out.new.items ≡ out.old.items
         ++ flat_map line_text (job_words script.now (Job.Batch batch.now))) }
 {
@@ -114,8 +137,6 @@ fn push_batch(out: &mut Vec<u8>, script: &Script, batch: &Batch) -> Result<(), A
 
 /// Adds the lines of jobs.
 pub(crate) fn push_jobs(out: &mut Vec<u8>, script: &Script, jobs: &[Job]) -> Result<(), AllocError>
-    requires written { jobs.now ≡ script.now.jobs }
-    requires whole { HasWholeWaits script.now }
     ensures { OnOk result (out.new.items ≡ out.old.items
         ++ flat_map (λ j. flat_map line_text (job_words script.now j)) jobs.now) }
 {

@@ -1,11 +1,23 @@
-//! The lines of a canonical text that are declarations.
+//! The lines of a canonical text that are its version and declarations.
 ghost use Rattle.std.specs.Prelude.{◌≡◌, ◌++◌, ◌∷◌, [], OnOk};
 ghost use Rattle.std.specs.List.{flat_map};
-ghost use Rattle.vq_model.specs.Canonical.{buffer_words, semaphore_words, queue_words, line_text};
+ghost use Rattle.vq_model.specs.Canonical.{version_words, buffer_words, semaphore_words, queue_words, line_text};
 
 use crate::words::{mode_word, push_name_line, push_number_line, push_word};
 use std::alloc::AllocError;
 use vq_model::script::{Buffer, Queue, Semaphore, SemaphoreKind};
+
+/// Adds the line of a version, which the first has none of.
+pub(crate) fn push_version(out: &mut Vec<u8>, version: u32) -> Result<(), AllocError>
+    ensures { OnOk result
+        (out.new.items ≡ out.old.items ++ flat_map line_text (version_words version)) }
+{
+    if version == 2 {
+        out.extend_from_slice(b"version 2\n")
+    } else {
+        Ok(())
+    }
+}
 
 /// Adds the line of a buffer.
 fn push_buffer(out: &mut Vec<u8>, buffer: &Buffer) -> Result<(), AllocError>

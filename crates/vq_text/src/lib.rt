@@ -22,5 +22,5 @@ pub use batches::{queue_name, semaphore_name};
 pub use buffers::{buffers_room, put_buffer};
 pub use room::{put_bytes, put_number};
 pub use schedule::push_actor;
-pub use script::print;
+pub use script::{print, print_as};
 pub use words::{push_number, push_numeral, push_word};

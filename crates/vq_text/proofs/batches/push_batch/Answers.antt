@@ -1,12 +1,6 @@
-use Rattle.std.proofs.Common.{codes, subst, sym, ◌≡◌, List}
-use Rattle.std.specs.List.{All}
-use Rattle.vq_model.specs.declared.script.Mark.{Mark}
+use Rattle.std.proofs.Common.{codes}
 use Rattle.vq_text.proofs.PrintedLines.{on_ok, added, batch_added}
 use Rattle.vq_text.proofs.batches.push_batch.Goals as goal
-
-pub push_waits-requires : goal.push_waits-requires
-push_waits-requires c =
-    subst (λ (ms : List Mark). All (λ m. m.from ≡ 1) ms) (sym c.as_slice.ensures) c.requires
 
 pub returns : goal.returns
 returns c =

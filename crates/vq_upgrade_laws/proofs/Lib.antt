@@ -1,0 +1,4 @@
+mod SameRuns
+mod SameMachine
+mod SameOrder
+mod SameOutputs
