@@ -3,11 +3,13 @@ use Rattle.std.proofs.Common.{◌≡◌, ℕ, ◌+◌, ◌≤◌, Bool, true, fa
 use Rattle.std.specs.Prelude.{is_some}
 use Rattle.std.proofs.lemmas.List.{length-append}
 use Rattle.std.proofs.lemmas.Bool.{le-ltb}
+use Rattle.std.proofs.lemmas.List.Folds.{list_any-append}
 use Rattle.std.proofs.lemmas.Bool.Decides.{nat_tests}
 use Rattle.vq_model.specs.declared.statement.Line.{Line}
 use Rattle.vq_model.specs.declared.statement.Statement.TheVariants.{AddWait, AddCommand, AddSignal, AddFence}
 use Rattle.vq_model.specs.declared.script.Pair.{Pair}
 use Rattle.vq_model.specs.declared.script.Batch.{Batch}
+use Rattle.vq_model.specs.declared.script.Mark.{Mark}
 use Rattle.vq_model.specs.declared.script.Command.{Command}
 use Rattle.vq_model.specs.declared.script.CommandLine.{CommandLine}
 use Rattle.vq_model.specs.Context.{is_wait, is_command, is_signal, is_batch_fence}
@@ -15,7 +17,7 @@ use Rattle.vq_model.specs.Context.{part_of, held_from}
 use Rattle.vq_model.specs.ScriptOfLines.{mark}
 use Rattle.vq_model.proofs.Bools.{or_false}
 use Rattle.vq_script.specs.SaidLines.{waiting, commanding, signaling, fenced, started}
-use Rattle.vq_script.specs.Holds.{FillBatch, waits_of, commands_of, signals_of, named_fence, last_part, last_part_by}
+use Rattle.vq_script.specs.Holds.{FillBatch, waits_of, commands_of, signals_of, named_fence, last_part, last_part_by, waits_past}
 use Rattle.vq_script.proofs.LineMore.{numbered, count_more, some_more, later_part}
 
 -- no line of a batch
@@ -27,7 +29,7 @@ fill_nothing =
       all_signals = refl;
       fences = refl;
       in_order = λ n. sym (le-ltb n 0 (omega arith));
-      whole_waits = λ n le. refl;
+      held = λ n. refl;
     }
 
 pub fill_started : (n queue : ℕ) → FillBatch [] (Some (started n queue))
@@ -38,7 +40,7 @@ fill_started n queue =
       all_signals = refl;
       fences = refl;
       in_order = λ n. sym (le-ltb n 0 (omega arith));
-      whole_waits = λ n le. refl;
+      held = λ n. refl;
     }
 
 -- one line more, from what it adds to the batch
@@ -48,7 +50,7 @@ pub fill_more : (inside : List Line) (l : Line) (was now : Option Batch) → Fil
     length (signals_of now) ≡ length (signals_of was) + cond (is_signal l.statement) 1 0 →
     is_some (named_fence now) ≡ (is_some (named_fence was) || is_batch_fence l.statement) →
     ((n : ℕ) → nat_lt n (last_part now) ≡ (nat_lt n (last_part was) || nat_lt n (part_of l.statement))) →
-    ((n : ℕ) → 1 ≤ n → nat_lt n (held_from l.statement) ≡ false) →
+    ((n : ℕ) → waits_past n (waits_of now) ≡ (waits_past n (waits_of was) || nat_lt n (held_from l.statement))) →
     FillBatch (inside ++ l ∷ []) now
 fill_more inside l was now h waits commands signals fences order held =
     record {
@@ -68,9 +70,14 @@ fill_more inside l was now h waits commands signals fences order held =
           ∙ ap (λ b. b || is_batch_fence l.statement) h.fences ∙ sym fences;
       in_order = λ n. some_more (λ s. nat_lt n (part_of s)) inside l
           ∙ ap (λ b. b || nat_lt n (part_of l.statement)) (h.in_order n) ∙ sym (order n);
-      whole_waits = λ n le. some_more (λ s. nat_lt n (held_from s)) inside l
-          ∙ (λ i. h.whole_waits n le i || held n le i);
+      held = λ n. some_more (λ s. nat_lt n (held_from s)) inside l
+          ∙ ap (λ b. b || nat_lt n (held_from l.statement)) (h.held n) ∙ sym (held n);
     }
+
+-- a line that is no wait holds nothing back
+pub none_held : (n : ℕ) (waits : List Mark) → waits_past n waits ≡ (waits_past n waits || nat_lt n 0)
+none_held n waits =
+    sym (or_false (waits_past n waits)) ∙ ap (λ b. waits_past n waits || b) (sym (le-ltb n 0 (omega arith)))
 
 -- one thing more
 some_length : {X : Type 0} (xs : List X) (x : X) → nat_lt 0 (length (xs ++ x ∷ [])) ≡ true
@@ -118,22 +125,23 @@ most_parts batch =
 
 -- the lines of the batch with a line more
 
-pub fill_wait : (inside : List Line) (n : ℕ) (pair : Pair) (b : Batch) →
+pub fill_wait : (inside : List Line) (n : ℕ) (pair : Pair) (from : ℕ) (b : Batch) →
     FillBatch inside (Some b) → nat_lt 1 (last_part (Some b)) ≡ false →
-    FillBatch (inside ++ numbered n (AddWait pair 1) ∷ []) (Some (waiting b n pair))
-fill_wait inside n pair b h fits =
+    FillBatch (inside ++ numbered n (AddWait pair from) ∷ []) (Some (waiting b n pair from))
+fill_wait inside n pair from b h fits =
     let after = after_wait (nat_lt 0 (length b.waits)) (nat_lt 0 (length b.commands))
     (nat_lt 0 (length b.signals)) (is_some b.fence) fits in
-    let part : last_part (Some (waiting b n pair)) ≡ 1 =
+    let part : last_part (Some (waiting b n pair from)) ≡ 1 =
     ap (λ w. last_part_by w (nat_lt 0 (length b.commands)) (nat_lt 0 (length b.signals))
-    (is_some b.fence)) (some_length b.waits (mark n pair 1)) ∙ after.1 in
-    fill_more inside (numbered n (AddWait pair 1)) (Some b) (Some (waiting b n pair)) h
-    (length-append b.waits (mark n pair 1 ∷ []))
+    (is_some b.fence)) (some_length b.waits (mark n pair from)) ∙ after.1 in
+    fill_more inside (numbered n (AddWait pair from)) (Some b) (Some (waiting b n pair from)) h
+    (length-append b.waits (mark n pair from ∷ []))
     (omega arith)
     (omega arith)
     (sym (or_false (is_some b.fence)))
     (λ m. ap (nat_lt m) part ∙ later_part m (last_part (Some b)) 1 after.0)
-    (λ m le. le-ltb m 1 le)
+    (λ m. list_any-append (λ (x : Mark). nat_lt m x.from) b.waits (mark n pair from ∷ [])
+    ∙ ap (λ t. waits_past m b.waits || t) (or_false (nat_lt m from)))
 
 pub fill_command : (inside : List Line) (n : ℕ) (command : Command) (b : Batch) →
     FillBatch inside (Some b) → nat_lt 2 (last_part (Some b)) ≡ false →
@@ -151,7 +159,7 @@ fill_command inside n command b h fits =
     (omega arith)
     (sym (or_false (is_some b.fence)))
     (λ m. ap (nat_lt m) part ∙ later_part m (last_part (Some b)) 2 after.0)
-    (λ m le. le-ltb m 0 (omega arith))
+    (λ m. none_held m b.waits)
 
 pub fill_signal : (inside : List Line) (n : ℕ) (pair : Pair) (b : Batch) →
     FillBatch inside (Some b) → nat_lt 3 (last_part (Some b)) ≡ false →
@@ -168,7 +176,7 @@ fill_signal inside n pair b h fits =
     (length-append b.signals (mark n pair 1 ∷ []))
     (sym (or_false (is_some b.fence)))
     (λ m. ap (nat_lt m) part ∙ later_part m (last_part (Some b)) 3 after.0)
-    (λ m le. le-ltb m 0 (omega arith))
+    (λ m. none_held m b.waits)
 
 pub fill_fence : (inside : List Line) (n fence : ℕ) (b : Batch) → FillBatch inside (Some b) →
     FillBatch (inside ++ numbered n (AddFence fence) ∷ []) (Some (fenced b n fence))
@@ -179,7 +187,7 @@ fill_fence inside n fence b h =
     (omega arith)
     (sym (or_true (is_some b.fence)))
     (λ m. later_part m (last_part (Some b)) 4 (most_parts (Some b)))
-    (λ m le. le-ltb m 0 (omega arith))
+    (λ m. none_held m b.waits)
   where
     or_true : (x : Bool) → (x || true) ≡ true
     or_true true = refl

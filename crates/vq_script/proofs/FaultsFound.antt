@@ -14,7 +14,7 @@ use Rattle.vq_model.specs.Forms.{places}
 use Rattle.vq_model.specs.Context.{number_at, is_declared, buffers}
 use Rattle.vq_model.specs.Earlier.{earlier}
 use Rattle.vq_model.specs.LineFaults.{fails, is_shaped, is_numeric, is_known, is_new, is_out_of_order, is_in_range, overlaps, passes_limit, kinds, fault_of}
-use Rattle.vq_model.specs.Meaning.{is_built, matches, where_built, form_of, statement_of, open_places, meaning}
+use Rattle.vq_model.specs.Meaning.{matches, form_of, statement_of, open_places, meaning}
 use Rattle.vq_model.specs.Reading.{read_statement, with_line, without_fault}
 use Rattle.vq_script.specs.declared.known.Known.{Known}
 use Rattle.vq_script.specs.declared.fault.ScriptFault.{ScriptFault}
@@ -44,38 +44,26 @@ fault_is : (form : Form) (before : List Line) (words : List (List ℕ)) → faul
 fault_is form before words = refl
 
 -- words of a form have the faults that the form and its places have
-found_fault : (before : List Line) (words : List (List ℕ)) (f : LineForm) → fault_with before words true (where_built (Some f)) ≡ first_fault before (with_words words f)
-found_fault before words f = by_built (is_built f) refl
-  where
-    by_built : (b : Bool) → is_built f ≡ b → fault_with before words true (where_built (Some f)) ≡ first_fault before (with_words words f)
-    by_built true e = rw e refl
-    by_built false e = rw e refl
-
--- .. and say what these say, where they have none
-found_meaning : (before : List Line) (words : List (List ℕ)) (f : LineForm) → first_fault before (with_words words f) ≡ None → meaning_with before words (where_built (Some f)) ≡ statement_at before (with_words words f)
-found_meaning before words f h = by_built (is_built f) refl
-  where
-    by_built : (b : Bool) → is_built f ≡ b → meaning_with before words (where_built (Some f)) ≡ statement_at before (with_words words f)
-    by_built true e = rw e refl
-    by_built false e = absurd (cc (rw e at h))
+found_fault : (before : List Line) (words : List (List ℕ)) (f : LineForm) → fault_with before words true (Some f) ≡ first_fault before (with_words words f)
+found_fault before words f = refl
 
 -- words of no form
 pub reads_none : (form : Form) (lines : List Line) (n : ℕ) (words : List (List ℕ))
     (forms : List LineForm) → 0 < length words → list_all (list_all is_plain) words ≡ true →
-    form_of form lines words ≡ where_built (find (matches words) forms) →
+    form_of form lines words ≡ find (matches words) forms →
     find (matches words) forms ≡ None → read_statement form lines n words ≡ Err Syntax
 reads_none form lines n [] forms some plain is none = absurd (omega arith)
 reads_none form lines n (word ∷ words) forms some plain is none =
     let ws = word ∷ words in
     let fault : fault_of form lines ws ≡ Some Syntax =
-    λ i. fault_with lines ws (plain i) ((is ∙ ap where_built none) i) in
+    λ i. fault_with lines ws (plain i) ((is ∙ none) i) in
     λ i. without_fault (fault i) (option_map_or (with_line lines n) (meaning form lines ws) lines)
 
 -- a line that takes words of a form reads them
 pub reads_form : (form : Form) (lines : List Line) (n : ℕ) (words : List (List ℕ))
     (forms : List LineForm) (f : LineForm) (result : Result (Unit {0}) ScriptFault) (known : Known) →
     0 < length words → list_all (list_all is_plain) words ≡ true →
-    form_of form lines words ≡ where_built (find (matches words) forms) →
+    form_of form lines words ≡ find (matches words) forms →
     find (matches words) forms ≡ Some f →
     Takes lines n (with_words words f) result known →
     Reads form lines n words result known
@@ -86,22 +74,21 @@ reads_form form lines n (word ∷ words) forms f result known some plain is foun
     ws : List (List ℕ)
     ws = word ∷ words
 
-    here : form_of form lines ws ≡ where_built (Some f)
-    here = is ∙ ap where_built found
+    here : form_of form lines ws ≡ Some f
+    here = is ∙ found
 
     faults : fault_of form lines ws ≡ first_fault lines (with_words ws f)
     faults = (λ i. fault_with lines ws (plain i) (here i)) ∙ found_fault lines ws f
 
-    says : first_fault lines (with_words ws f) ≡ None →
-        meaning form lines ws ≡ statement_at lines (with_words ws f)
-    says none = ap (meaning_with lines ws) here ∙ found_meaning lines ws f none
+    says : meaning form lines ws ≡ statement_at lines (with_words ws f)
+    says = ap (meaning_with lines ws) here
 
     by_result : (r : Result (Unit {0}) ScriptFault) → Takes lines n (with_words ws f) r known →
         Reads form lines n ws r known
     by_result (Ok done) t = (
       with_line lines n t.0,
       λ i. without_fault ((faults ∙ t.1) i)
-          (option_map_or (with_line lines n) ((says t.1 ∙ t.2) i) lines),
+          (option_map_or (with_line lines n) ((says ∙ t.2) i) lines),
       t.3,
     )
     by_result (Err (At m kind)) t = (

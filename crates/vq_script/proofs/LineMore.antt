@@ -56,11 +56,11 @@ some_more test lines l =
     list_any-append (λ (x : Line). test x.statement) lines (l ∷ [])
     ∙ ap (λ b. some test lines || b) (or_false (test l.statement))
 
--- no line names another version
-pub version_more : (lines : List Line) (l : Line) → version_of lines ≡ 1 →
-    version_of (l ∷ []) ≡ 1 → version_of (lines ++ l ∷ []) ≡ 1
-version_more [] l h i = i
-version_more (x ∷ lines) l h i = h
+-- a line more that names no version leaves it
+pub version_more : (lines : List Line) (l : Line) (v : ℕ) → version_of lines ≡ v →
+    version_of (l ∷ []) ≡ 1 → version_of (lines ++ l ∷ []) ≡ v
+version_more [] l v h i = i ∙ h
+version_more (x ∷ lines) l v h i = h
 
 -- what lines give, where one line more gives nothing, or one thing
 pub given_none : {X : Type 0} (gives : Line → Option X) (lines : List Line) (l : Line) (xs : List X) →

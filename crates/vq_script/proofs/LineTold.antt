@@ -9,25 +9,25 @@ use Rattle.vq_model.specs.declared.script.Batch.{Batch}
 use Rattle.vq_model.specs.declared.script.Buffer.{Buffer}
 use Rattle.vq_model.specs.declared.script.Mark.{Mark}
 use Rattle.vq_model.specs.declared.script.Pair.{Pair}
-use Rattle.vq_model.specs.declared.script.Command.TheVariants.{Fill as FillCommand, Update as UpdateCommand, Copy as CopyCommand}
 use Rattle.vq_model.specs.declared.statement.FaultKind.{FaultKind}
 use Rattle.vq_model.specs.declared.statement.FaultKind.TheVariants.{Syntax, Order, Number, Name, Twice, Range, Overlap, Limit}
 use Rattle.vq_model.specs.declared.statement.Line.{Line}
 use Rattle.vq_model.specs.declared.statement.LineForm.{LineForm}
-use Rattle.vq_model.specs.declared.statement.LineForm.TheVariants.{BufferLine, TimelineLine, BinaryLine, FenceLine, QueueLine, HostSignalLine, HostWaitAllLine, HostWaitAnyLine, HostPollAllLine, HostPollAnyLine, HostReadLine, HostFenceWaitLine, HostFencePollLine, HostFenceResetLine, HostIdleLine, FillWholeLine, FillLine, UpdateLine, CopyLine, SubmitLine, WaitTimelineLine, WaitBinaryLine, SignalTimelineLine, SignalBinaryLine, BatchFenceLine, EndLine, ScheduleLine, TurnLine, TurnsLine}
+use Rattle.vq_model.specs.declared.statement.LineForm.TheVariants.{VersionLine, HeldTimelineLine, HeldBinaryLine, BufferLine, TimelineLine, BinaryLine, FenceLine, QueueLine, HostSignalLine, HostWaitAllLine, HostWaitAnyLine, HostPollAllLine, HostPollAnyLine, HostReadLine, HostFenceWaitLine, HostFencePollLine, HostFenceResetLine, HostIdleLine, FillWholeLine, FillLine, UpdateLine, CopyLine, SubmitLine, WaitTimelineLine, WaitBinaryLine, SignalTimelineLine, SignalBinaryLine, BatchFenceLine, EndLine, ScheduleLine, TurnLine, TurnsLine}
 use Rattle.vq_model.specs.declared.statement.Statement.{Statement}
 use Rattle.vq_model.specs.Context.{has_begun, count, open_batch, is_command}
+use Rattle.vq_model.specs.Limits.{limits_of}
 use Rattle.vq_model.specs.Forms.{Slot, HexDigits, Numeral, NewName, BufferName, TimelineName, BinaryName, FenceName, QueueName, places}
 use Rattle.vq_model.specs.LineFaults.{is_shaped, is_numeric, is_known, is_new, is_declaration, part_of_form, is_batch_fence_form, is_out_of_order, is_in_range, overlaps, passes_limit}
-use Rattle.vq_model.specs.Meaning.{actor_at, is_built, is_hex, of_five, of_four, of_three, of_two, pair_at, pair_places, pairs_at, small_numeral, statement_of}
+use Rattle.vq_model.specs.Meaning.{actor_at, is_hex, of_five, of_four, of_three, of_two, pair_at, pair_places, pairs_at, small_numeral, statement_of}
 use Rattle.vq_model.specs.Text.{numeral}
 use Rattle.vq_reading_laws.proofs.Cited.{below}
 use Rattle.vq_script.specs.declared.said.Said.{Said}
 use Rattle.vq_script.specs.declared.said.Said.TheVariants.{Buffer as SaysBuffer, Semaphore as SaysSemaphore, Queue as SaysQueue, Submit, Wait, FillWhole, Fill, Update, Copy, Signal, Fence, End, Host, Schedule, Turns}
 use Rattle.vq_script.specs.Faults.{fault_by, said_at}
-use Rattle.vq_script.specs.Holds.{Holds, Declares, Kept, last_part, named_fence}
+use Rattle.vq_script.specs.Holds.{Holds, Declares, Kept, last_part, named_fence, waits_of, waits_past}
 use Rattle.vq_script.specs.LineTests.{number_of, word_fault, said_fault, earlier_in}
-use Rattle.vq_script.specs.SaidLines.{AreFound, Stands, Suits, MayKeep, MayCommand, IsNewName, end_with_pairs, open_kinds, statement_in, part_in, copied, new_name, is_batch_line, is_schedule_line, is_host_line, named_in, placed, are_one_each, IsWhollyRead, are_digits}
+use Rattle.vq_script.specs.SaidLines.{AreFound, Stands, Suits, MayKeep, MayCommand, IsNewName, end_with_pairs, open_kinds, statement_in, part_in, copied, new_name, is_batch_line, is_schedule_line, is_host_line, is_version_form, named_in, placed, are_one_each, IsWhollyRead, are_digits}
 use Rattle.vq_model.specs.Earlier.{Earlier, earlier}
 use Rattle.vq_model.specs.Context.{number_at, number_in as number_among, is_taken}
 use Rattle.std.specs.Prelude.{sum}
@@ -73,9 +73,11 @@ pub earlier_by : (lines : List Line) (k : Kept) (batch : Option Batch) → Holds
 earlier_by lines k batch h =
     let d = h.declares in
     let bytes = ap (λ (bs : List Buffer). sum (map (λ b. b.size) bs)) d.all_buffers ∙ d.all_bytes in
-    let far = h.inside.whole_waits (count is_command (open_batch lines) + 1) (omega arith) in λ i.
+    let most = ap limits_of d.version ∙ d.limits in
+    let far = h.inside.held (count is_command (open_batch lines) + 1)
+    ∙ ap (λ n. waits_past (n + 1) (waits_of batch)) h.inside.all_commands in λ i.
     record {
-      most = d.limits i;
+      most = most i;
       number = number_by lines k d i;
       taken = is_taken (d.all_buffers i) (d.all_semaphores i) (d.all_queues i);
       buffers = d.all_buffers i;
@@ -118,27 +120,22 @@ module _ (e : Earlier) where
       cond (not numeric) (Some Number) (cond (not known) (Some Name) (later_fault words said))
 
   -- the first kind of a line's faults
-  first_by : (form : LineForm) (words : List (Slot × List ℕ)) → is_built form ≡ true →
+  first_by : (form : LineForm) (words : List (Slot × List ℕ)) →
       fault_by e (form, words)
       ≡ option_or (word_fault e form words)
       (read_fault words (said_at e (form, words)) (list_all is_numeric words)
       (list_all (is_known e.number) words))
-  first_by form words built =
-      (λ i. cond (not (built i) || not (list_all is_shaped words)) (Some Syntax)
-      (cond (is_out_of_order e form) (Some Order)
-      (read_fault words (said_at e (form, words)) (list_all is_numeric words)
-      (list_all (is_known e.number) words))))
-      ∙ words_first _ _ (read_fault words (said_at e (form, words)) (list_all is_numeric words)
+  first_by form words =
+      words_first _ _ (read_fault words (said_at e (form, words)) (list_all is_numeric words)
       (list_all (is_known e.number) words))
 
   -- the same, by what the tests of words say
-  pub words_by : (form : LineForm) (words : List (Slot × List ℕ)) → is_built form ≡ true →
-      (o : Option FaultKind) → word_fault e form words ≡ o →
+  pub words_by : (form : LineForm) (words : List (Slot × List ℕ)) → (o : Option FaultKind) → word_fault e form words ≡ o →
       fault_by e (form, words)
       ≡ option_or o (read_fault words (said_at e (form, words)) (list_all is_numeric words)
       (list_all (is_known e.number) words))
-  words_by form words built o is =
-      first_by form words built
+  words_by form words o is =
+      first_by form words
       ∙ ap (λ (x : Option FaultKind). option_or x (read_fault words (said_at e (form, words))
       (list_all is_numeric words) (list_all (is_known e.number) words))) is
 
@@ -281,7 +278,7 @@ module _ (k : Kept) (form : LineForm) (words : List (Slot × List ℕ)) (found :
       ltb-false k.most.turns (length k.turns + count) l.limited
   may_keep None other st su r p l =
       absurd (let c : nat_lt 0 (part_in other) ≡ false = ap (nat_lt 0) su.part ∙ st.inside in cc)
-  may_keep (Some b) (Wait pair) st su r p l =
+  may_keep (Some b) (Wait pair from) st su r p l =
       subst (λ (n : ℕ). nat_lt n (last_part (Some b)) ≡ false) (sym su.part) p.in_order
   may_keep (Some b) (FillWhole x o w) st su r p l = may_command b (FillWhole x o w) p refl su.part l.limited
   may_keep (Some b) (Fill x o n w) st su r p l = may_command b (Fill x o n w) p refl su.part l.limited
@@ -302,20 +299,18 @@ module _ (k : Kept) (form : LineForm) (words : List (Slot × List ℕ)) (found :
   may_keep (Some b) other st su r p l =
       absurd (let c : nat_lt 0 (part_in other) ≡ true = ap (nat_lt 0) su.part ∙ st.inside in cc)
 
--- the forms that are built are declarations, commands, lines of the schedule, steps of the host and
--- the other lines of batches
+-- the forms but for the version are declarations, waits, commands, lines of the schedule, steps of the
+-- host and the other lines of batches
 pub batch_line_left : (form : LineForm) →
-    is_built form ≡ true → is_declaration form ≡ false →
+    is_version_form form ≡ false → is_declaration form ≡ false → (part_of_form form == 1) ≡ false →
     (part_of_form form == 2) ≡ false → is_schedule_line form ≡ false → is_host_line form ≡ false →
     is_batch_line form ≡ true
-batch_line_left SubmitLine b d p c h = refl
-batch_line_left WaitTimelineLine b d p c h = refl
-batch_line_left WaitBinaryLine b d p c h = refl
-batch_line_left SignalTimelineLine b d p c h = refl
-batch_line_left SignalBinaryLine b d p c h = refl
-batch_line_left BatchFenceLine b d p c h = refl
-batch_line_left EndLine b d p c h = refl
-batch_line_left other b d p c h = absurd (cc)
+batch_line_left SubmitLine b d w p c h = refl
+batch_line_left SignalTimelineLine b d w p c h = refl
+batch_line_left SignalBinaryLine b d w p c h = refl
+batch_line_left BatchFenceLine b d w p c h = refl
+batch_line_left EndLine b d w p c h = refl
+batch_line_left other b d w p c h = absurd (cc)
 
 -- Whether a line's words are read
 
@@ -357,6 +352,16 @@ some_three f (Some x) None c = refl
 some_three f None None c = refl
 some_three f None (Some y) None = refl
 some_three f None (Some y) (Some z) = refl
+
+some_held : {A : Type 0} (f : Pair → ℕ → A) (a b c : Option ℕ) →
+    is_some (of_two f (of_two (λ t v. record { semaphore = t; value = v }) a b) c)
+    ≡ ((is_some b && (is_some c && true)) && (is_some a && true))
+some_held f None None c = refl
+some_held f None (Some v) None = refl
+some_held f None (Some v) (Some k) = refl
+some_held f (Some t) None c = refl
+some_held f (Some t) (Some v) None = refl
+some_held f (Some t) (Some v) (Some k) = refl
 
 some_four : {A B C D E : Type 0} (f : A → B → C → D → E) (a : Option A) (b : Option B) (c : Option C)
     (d : Option D) →
@@ -439,59 +444,64 @@ pairs_named k other texts e = absurd (false≢true e)
 
 -- a line says something where all its numbers and names are read
 named_said : (k : Kept) (form : LineForm) (texts : List (List ℕ)) →
-    is_built form ≡ true → end_with_pairs (places form) ≡ false →
+    end_with_pairs (places form) ≡ false →
     are_one_each (open_kinds (places form)) texts ≡ true →
     is_some (named_in k form texts)
     ≡ (list_all is_numeric (placed (open_kinds (places form)) texts)
     && list_all (is_known (number_of k)) (placed (open_kinds (places form)) texts))
-named_said k BufferLine (name ∷ size ∷ []) b e o = some_number _ (numeral size)
-named_said k TimelineLine (name ∷ value ∷ []) b e o = some_number _ (numeral value)
-named_said k BinaryLine (name ∷ []) b e o = refl
-named_said k FenceLine (name ∷ []) b e o = refl
-named_said k (QueueLine mode) (name ∷ []) b e o = refl
-named_said k SubmitLine (queue ∷ []) b e o = some_one _ (number_of k QueueName queue)
-named_said k WaitTimelineLine (name ∷ value ∷ []) b e o =
+named_said k VersionLine [] e o = refl
+named_said k BufferLine (name ∷ size ∷ []) e o = some_number _ (numeral size)
+named_said k TimelineLine (name ∷ value ∷ []) e o = some_number _ (numeral value)
+named_said k BinaryLine (name ∷ []) e o = refl
+named_said k FenceLine (name ∷ []) e o = refl
+named_said k (QueueLine mode) (name ∷ []) e o = refl
+named_said k SubmitLine (queue ∷ []) e o = some_one _ (number_of k QueueName queue)
+named_said k WaitTimelineLine (name ∷ value ∷ []) e o =
     some_mapped _ (pair_at (number_of k) name value)
     ∙ some_two _ (number_of k TimelineName name) (numeral value)
-named_said k WaitBinaryLine (name ∷ []) b e o = some_one _ (number_of k BinaryName name)
-named_said k FillWholeLine (buffer ∷ offset ∷ word ∷ []) b e o =
+named_said k WaitBinaryLine (name ∷ []) e o = some_one _ (number_of k BinaryName name)
+named_said k HeldTimelineLine (name ∷ value ∷ place ∷ []) e o =
+    some_held _ (number_of k TimelineName name) (numeral value) (numeral place)
+named_said k HeldBinaryLine (name ∷ place ∷ []) e o =
+    some_two _ (number_of k BinaryName name) (numeral place)
+named_said k FillWholeLine (buffer ∷ offset ∷ word ∷ []) e o =
     some_three _ (number_of k BufferName buffer) (numeral offset) (small_numeral word)
-named_said k FillLine (buffer ∷ offset ∷ size ∷ word ∷ []) b e o =
+named_said k FillLine (buffer ∷ offset ∷ size ∷ word ∷ []) e o =
     some_four _ (number_of k BufferName buffer) (numeral offset) (numeral size) (small_numeral word)
-named_said k UpdateLine (buffer ∷ offset ∷ digits ∷ []) b e o =
+named_said k UpdateLine (buffer ∷ offset ∷ digits ∷ []) e o =
     some_update (is_hex digits) (number_of k BufferName buffer) (numeral offset) _
-named_said k CopyLine (source ∷ from ∷ target ∷ to ∷ size ∷ []) b e o =
+named_said k CopyLine (source ∷ from ∷ target ∷ to ∷ size ∷ []) e o =
     some_copy _ (number_of k BufferName source) (numeral from) (number_of k BufferName target)
     (numeral to) (numeral size)
-named_said k SignalTimelineLine (name ∷ value ∷ []) b e o =
+named_said k SignalTimelineLine (name ∷ value ∷ []) e o =
     some_mapped _ (pair_at (number_of k) name value)
     ∙ some_two _ (number_of k TimelineName name) (numeral value)
-named_said k SignalBinaryLine (name ∷ []) b e o = some_one _ (number_of k BinaryName name)
-named_said k BatchFenceLine (name ∷ []) b e o = some_one _ (number_of k FenceName name)
-named_said k EndLine [] b e o = refl
-named_said k HostSignalLine (name ∷ value ∷ []) b e o =
+named_said k SignalBinaryLine (name ∷ []) e o = some_one _ (number_of k BinaryName name)
+named_said k BatchFenceLine (name ∷ []) e o = some_one _ (number_of k FenceName name)
+named_said k EndLine [] e o = refl
+named_said k HostSignalLine (name ∷ value ∷ []) e o =
     some_mapped _ (pair_at (number_of k) name value)
     ∙ some_two _ (number_of k TimelineName name) (numeral value)
-named_said k HostWaitAllLine texts b e o = absurd (false≢true (sym e))
-named_said k HostWaitAnyLine texts b e o = absurd (false≢true (sym e))
-named_said k HostPollAllLine texts b e o = absurd (false≢true (sym e))
-named_said k HostPollAnyLine texts b e o = absurd (false≢true (sym e))
-named_said k HostReadLine (name ∷ []) b e o = some_one _ (number_of k TimelineName name)
-named_said k HostFenceWaitLine (name ∷ []) b e o = some_one _ (number_of k FenceName name)
-named_said k HostFencePollLine (name ∷ []) b e o = some_one _ (number_of k FenceName name)
-named_said k HostFenceResetLine (name ∷ []) b e o = some_one _ (number_of k FenceName name)
-named_said k HostIdleLine [] b e o = refl
-named_said k ScheduleLine [] b e o = refl
-named_said k TurnLine (actor ∷ []) b e o = some_one _ (actor_at (number_of k) actor)
-named_said k TurnsLine (actor ∷ count ∷ []) b e o = some_two _ (actor_at (number_of k) actor) (numeral count)
-named_said k form texts b e o = absurd (cc)
+named_said k HostWaitAllLine texts e o = absurd (false≢true (sym e))
+named_said k HostWaitAnyLine texts e o = absurd (false≢true (sym e))
+named_said k HostPollAllLine texts e o = absurd (false≢true (sym e))
+named_said k HostPollAnyLine texts e o = absurd (false≢true (sym e))
+named_said k HostReadLine (name ∷ []) e o = some_one _ (number_of k TimelineName name)
+named_said k HostFenceWaitLine (name ∷ []) e o = some_one _ (number_of k FenceName name)
+named_said k HostFencePollLine (name ∷ []) e o = some_one _ (number_of k FenceName name)
+named_said k HostFenceResetLine (name ∷ []) e o = some_one _ (number_of k FenceName name)
+named_said k HostIdleLine [] e o = refl
+named_said k ScheduleLine [] e o = refl
+named_said k TurnLine (actor ∷ []) e o = some_one _ (actor_at (number_of k) actor)
+named_said k TurnsLine (actor ∷ count ∷ []) e o = some_two _ (actor_at (number_of k) actor) (numeral count)
+named_said k form texts e o = absurd (cc)
 
 -- the same, of words at the open places of a form
 pub all_read : (k : Kept) (form : LineForm)
-    (words : List (Slot × List ℕ)) → AreFound form words → is_built form ≡ true →
+    (words : List (Slot × List ℕ)) → AreFound form words →
     (list_all is_numeric words && list_all (is_known (number_of k)) words)
     ≡ is_some (named_in k form (map (λ x. x.1) words))
-all_read k form words found b = by_pairs (end_with_pairs (places form)) refl
+all_read k form words found = by_pairs (end_with_pairs (places form)) refl
   where
     texts : List (List ℕ)
     texts = map (λ (x : Slot × List ℕ). x.1) words
@@ -505,19 +515,19 @@ all_read k form words found b = by_pairs (end_with_pairs (places form)) refl
     by_pairs false e =
         let p = placed_is words (open_kinds (places form)) (found.each e) in
         (λ i. list_all is_numeric (p.1 i) && list_all (is_known (number_of k)) (p.1 i))
-        ∙ sym (named_said k form texts b e p.0)
+        ∙ sym (named_said k form texts e p.0)
 
 -- The first kind of the faults of a line whose words aren't all read, and of one whose words are.
 
 pub unread_first : (k : Kept) (batch : Option Batch) (form : LineForm)
-    (words : List (Slot × List ℕ)) → is_built form ≡ true → AreFound form words →
+    (words : List (Slot × List ℕ)) → AreFound form words →
     word_fault (earlier_in k batch) form words ≡ None →
     None ≡ named_in k form (map (λ x. x.1) words) →
     fault_by (earlier_in k batch) (form, words) ≡ Some (cond (list_all is_numeric words) Name Number)
-unread_first k batch form words built found none said =
-    words_by e form words built None none
+unread_first k batch form words found none said =
+    words_by e form words None none
     ∙ by_numeric (list_all is_numeric words) (list_all (is_known (number_of k)) words)
-    (all_read k form words found built ∙ ap (λ (o : Option Statement). is_some o) (sym said))
+    (all_read k form words found ∙ ap (λ (o : Option Statement). is_some o) (sym said))
   where
     e : Earlier
     e = earlier_in k batch
@@ -539,22 +549,22 @@ said_read k form words s said = by_digits (are_digits form words) said
     by_digits false i = absurd (cc)
 
 pub read_first : (k : Kept) (batch : Option Batch) (form : LineForm)
-    (words : List (Slot × List ℕ)) → is_built form ≡ true → AreFound form words →
+    (words : List (Slot × List ℕ)) → AreFound form words →
     word_fault (earlier_in k batch) form words ≡ None → (s : Statement) →
     Some s ≡ named_in k form (map (λ x. x.1) words) →
     fault_by (earlier_in k batch) (form, words) ≡ said_fault (earlier_in k batch) words s
-read_first k batch form words built found none s said =
+read_first k batch form words found none s said =
     let both = and_parts (list_all is_numeric words) (list_all (is_known (number_of k)) words)
-    (all_read k form words found built ∙ ap (λ (o : Option Statement). is_some o) (sym said)) in
-    first_by (earlier_in k batch) form words built
+    (all_read k form words found ∙ ap (λ (o : Option Statement). is_some o) (sym said)) in
+    first_by (earlier_in k batch) form words
     ∙ (λ i. option_or (none i) (read_fault (earlier_in k batch) words
     (said_read k form (map (λ x. x.1) words) s said i) (both.0 i) (both.1 i)))
 
 -- its numbers are read
 pub read_numeric : (k : Kept) (form : LineForm)
     (words : List (Slot × List ℕ)) (s : Statement) → AreFound form words →
-    is_built form ≡ true → Some s ≡ named_in k form (map (λ x. x.1) words) →
+    Some s ≡ named_in k form (map (λ x. x.1) words) →
     list_all is_numeric words ≡ true
-read_numeric k form words s found b said =
+read_numeric k form words s found said =
     (and_parts (list_all is_numeric words) (list_all (is_known (number_of k)) words)
-    (all_read k form words found b ∙ ap (λ (o : Option Statement). is_some o) (sym said))).0
+    (all_read k form words found ∙ ap (λ (o : Option Statement). is_some o) (sym said))).0

@@ -6,9 +6,9 @@ use Rattle.std.proofs.lemmas.List.{length-map}
 use Rattle.vq_model.specs.declared.script.Pair.{Pair}
 use Rattle.vq_model.specs.Forms.{Slot}
 use Rattle.vq_model.specs.Meaning.{of_two}
-use Rattle.vq_script.specs.declared.open_words.OpenWord.{OpenWord}
+use Rattle.vq_forms.specs.declared.open_words.OpenWord.{OpenWord}
 use Rattle.vq_script.specs.Holds.{Kept}
-use Rattle.vq_script.specs.OpenWords.{open_of, opens, texts_of}
+use Rattle.vq_forms.specs.OpenWords.{open_of, opens, texts_of}
 use Rattle.vq_model.specs.Meaning.{pair_at, pairs_at}
 use Rattle.vq_script.specs.LineTests.{number_of}
 use Rattle.vq_model.specs.declared.statement.LineForm.{LineForm}

@@ -6,7 +6,6 @@ use Rattle.std.specs.Option.{option_or}
 use Rattle.std.proofs.lemmas.List.{append_assoc, append-nil, length-append, length-replicate, map-append}
 use Rattle.std.proofs.lemmas.List.Sums.{fold-append}
 use Rattle.std.proofs.lemmas.Grind.{flat_map-append}
-use Rattle.std.proofs.lemmas.Bool.{le-ltb}
 use Rattle.vq_model.specs.declared.statement.Line.{Line}
 use Rattle.vq_model.specs.declared.statement.Statement.{Statement}
 use Rattle.vq_model.specs.declared.statement.Statement.TheVariants.{DeclareBuffer, DeclareSemaphore, DeclareQueue, BeginBatch, AddWait, AddCommand, AddSignal, AddFence, EndBatch, BeginSchedule, TakeTurns, TakeHostStep}
@@ -38,7 +37,7 @@ use Rattle.vq_script.specs.declared.said.Said.{Said}
 use Rattle.vq_script.specs.declared.said.Said.TheVariants.{Buffer as SaysBuffer, Semaphore as SaysSemaphore, Queue as SaysQueue, Submit, Wait, FillWhole, Fill, Update, Copy, Signal, Fence, End, Host, Schedule, Turns}
 use Rattle.vq_script.specs.SaidLines.{MayKeep, statement_in, after, waiting, commanding, signaling, fenced, started}
 use Rattle.vq_script.specs.SaidSteps.{step_in}
-use Rattle.vq_script.proofs.BatchMore.{fill_nothing, fill_started, fill_more, fill_wait, fill_command, fill_signal, fill_fence}
+use Rattle.vq_script.proofs.BatchMore.{fill_nothing, fill_started, fill_more, fill_wait, fill_command, fill_signal, fill_fence, none_held}
 
 -- a line that begins a batch or ends it
 abbrev cuts : Line → Bool
@@ -103,7 +102,7 @@ declares_none : (lines : List Line) (n : ℕ) (s : Statement) (k : Kept) → Dec
     DeclaresNone s → Declares (with_line lines n s) k
 declares_none lines n s k h none =
     record {
-      version = version_more lines (numbered n s) h.version (none.little.version n);
+      version = version_more lines (numbered n s) k.version h.version (none.little.version n);
       limits = h.limits;
       all_buffers = given_none buffer_of lines (numbered n s) k.buffers (none.buffer n) h.all_buffers;
       all_bytes = h.all_bytes;
@@ -124,7 +123,7 @@ declares_buffer lines n name size k h =
     let l = numbered n (DeclareBuffer name size) in
     let b : Buffer = record { line = n; name = name; size = size } in
     record {
-      version = version_more lines l h.version refl;
+      version = version_more lines l k.version h.version refl;
       limits = h.limits;
       all_buffers = given_one buffer_of lines l k.buffers b refl h.all_buffers;
       all_bytes = ap (fold (λ a x. a + x) 0)
@@ -146,7 +145,7 @@ declares_semaphore lines n name kind k h =
     let l = numbered n (DeclareSemaphore name kind) in
     let x : Semaphore = record { line = n; name = name; kind = kind } in
     record {
-      version = version_more lines l h.version refl;
+      version = version_more lines l k.version h.version refl;
       limits = h.limits;
       all_buffers = given_none buffer_of lines l k.buffers refl h.all_buffers;
       all_bytes = h.all_bytes;
@@ -165,7 +164,7 @@ declares_queue lines n name mode k h =
     let l = numbered n (DeclareQueue name mode) in
     let x : Queue = record { line = n; name = name; mode = mode } in
     record {
-      version = version_more lines l h.version refl;
+      version = version_more lines l k.version h.version refl;
       limits = h.limits;
       all_buffers = given_none buffer_of lines l k.buffers refl h.all_buffers;
       all_bytes = h.all_bytes;
@@ -228,7 +227,7 @@ holds_outside lines n s k next h out part declares jobs commands =
           (nothing (is_wait s) out.wait) (nothing (is_command s) out.command)
           (nothing (is_signal s) out.signal) (sym out.fence)
           (λ m. ap (nat_lt m) (sym out.part) ∙ later_part m 0 (part_of s) (omega arith))
-          (λ m le. ap (nat_lt m) out.held ∙ le-ltb m 0 (omega arith)));
+          (λ m. none_held m [] ∙ ap (λ (from : ℕ). false || nat_lt m from) (sym out.held)));
       jobs = λ rest. ap jobs_of (append_assoc lines (numbered n s ∷ []) rest)
           ∙ h.jobs (numbered n s ∷ rest)
           ∙ (λ t. sym jobs t ++ cons_option (out.none n rest t) (jobs_of rest));
@@ -339,7 +338,7 @@ declares_schedule : (lines : List Line) (n : ℕ) (k : Kept) → Declares lines 
 declares_schedule lines n k h =
     let l = numbered n BeginSchedule in
     record {
-      version = version_more lines l h.version refl;
+      version = version_more lines l k.version h.version refl;
       limits = h.limits;
       all_buffers = given_none buffer_of lines l k.buffers refl h.all_buffers;
       all_bytes = h.all_bytes;
@@ -363,7 +362,7 @@ declares_turns lines n actor count k h =
     length-append k.turns turns
     ∙ ap (λ (m : ℕ). length k.turns + m) (length-replicate count (record { line = n; actor = actor })) in
     record {
-      version = version_more lines l h.version refl;
+      version = version_more lines l k.version h.version refl;
       limits = h.limits;
       all_buffers = given_none buffer_of lines l k.buffers refl h.all_buffers;
       all_bytes = h.all_bytes;
@@ -470,8 +469,8 @@ holds_inside lines n s k commands b c h stands fills counted goes =
           ∙ ap (λ (x : Batch). k.jobs ++ BatchJob x ∷ jobs_of rest) (goes (batch_lines rest));
     }
 
-inside_wait : (pair : Pair) → StandsInside (AddWait pair 1)
-inside_wait pair =
+inside_wait : (pair : Pair) (from : ℕ) → StandsInside (AddWait pair from)
+inside_wait pair from =
     record {
       after = refl;
       cut = refl;
@@ -534,19 +533,19 @@ inside_fence fence =
       };
     }
 
-holds_wait : (lines : List Line) (n : ℕ) (pair : Pair) (b : Batch) (k : Kept) →
+holds_wait : (lines : List Line) (n : ℕ) (pair : Pair) (from : ℕ) (b : Batch) (k : Kept) →
     Holds lines k (Some b) → nat_lt 1 (last_part (Some b)) ≡ false →
-    Holds (with_line lines n (AddWait pair 1)) k (Some (waiting b n pair))
-holds_wait lines n pair b k h fits =
-    holds_inside lines n (AddWait pair 1) k k.commands b (waiting b n pair) h (inside_wait pair)
-    (fill_wait (open_batch lines) n pair b h.inside fits)
-    (same_count is_command lines (numbered n (AddWait pair 1)) k.commands h.all_commands refl)
+    Holds (with_line lines n (AddWait pair from)) k (Some (waiting b n pair from))
+holds_wait lines n pair from b k h fits =
+    holds_inside lines n (AddWait pair from) k k.commands b (waiting b n pair from) h
+    (inside_wait pair from) (fill_wait (open_batch lines) n pair from b h.inside fits)
+    (same_count is_command lines (numbered n (AddWait pair from)) k.commands h.all_commands refl)
     goes
   where
     goes : (more : List Line) →
-        going b (numbered n (AddWait pair 1) ∷ more) ≡ going (waiting b n pair) more
+        going b (numbered n (AddWait pair from) ∷ more) ≡ going (waiting b n pair from) more
     goes more = λ i. record (going b more) {
-      waits = sym (append_assoc b.waits (mark n pair 1 ∷ []) (filter_map wait_of more)) i;
+      waits = sym (append_assoc b.waits (mark n pair from ∷ []) (filter_map wait_of more)) i;
     }
 
 holds_command : (lines : List Line) (n : ℕ) (command : Command) (b : Batch) (k : Kept) →
@@ -699,7 +698,7 @@ holds_step lines n step k h =
       inside = subst (λ (ls : List Line). FillBatch ls None)
           (sym (after_last_more cuts lines l refl))
           (fill_more (open_batch lines) l None None h.inside refl refl refl refl
-          (λ m. later_part m 0 0 (omega arith)) (λ m le. le-ltb m 0 (omega arith)));
+          (λ m. later_part m 0 0 (omega arith)) (λ m. none_held m []));
       jobs = λ rest. ap jobs_of (append_assoc lines (l ∷ []) rest) ∙ h.jobs (l ∷ rest)
           ∙ sym (append_assoc k.jobs (HostJob x ∷ []) (jobs_of rest));
     }
@@ -717,7 +716,7 @@ holds_after lines n (Host step) k None h m = holds_step lines n (step_in k step)
 holds_after lines n Schedule k None h m = holds_schedule lines n k h
 holds_after lines n (Turns actor count) k None h m = holds_turns lines n actor count k h
 holds_after lines n other k None h m = absurd m
-holds_after lines n (Wait pair) k (Some b) h m = holds_wait lines n pair b k h m
+holds_after lines n (Wait pair from) k (Some b) h m = holds_wait lines n pair from b k h m
 holds_after lines n (FillWhole x o w) k (Some b) h m = holds_command lines n _ b k h m.in_order
 holds_after lines n (Fill x o size w) k (Some b) h m = holds_command lines n _ b k h m.in_order
 holds_after lines n (Update x o digits) k (Some b) h m = holds_command lines n _ b k h m.0.in_order

@@ -1,6 +1,6 @@
 -- What the form of a line and the words at its places say, after lines before it: its statement, or the
--- first kind of its faults. A line that isn't built is Syntax.
-use Rattle.std.specs.Prelude.{ℕ, ◌≡◌, Bool, ◌||◌, not, false, find, List, map, Option, Some, None, Result}
+-- first kind of its faults.
+use Rattle.std.specs.Prelude.{ℕ, ◌≡◌, Bool, not, false, find, List, map, Option, Some, None, Result}
 use Rattle.std.specs.Prelude.{Ok, Err}
 use Rattle.std.specs.List.{list_all}
 use Rattle.std.specs.Option.{option_map_or}
@@ -12,7 +12,7 @@ use Rattle.vq_model.specs.declared.statement.Line.{Line}
 use Rattle.vq_model.specs.Earlier.{Earlier, earlier}
 use Rattle.vq_model.specs.LineFaults.{is_shaped, is_numeric, is_known, is_new, is_out_of_order, is_in_range, overlaps}
 use Rattle.vq_model.specs.LineFaults.{kinds, passes_limit}
-use Rattle.vq_model.specs.Meaning.{is_built, statement_of}
+use Rattle.vq_model.specs.Meaning.{statement_of}
 use Rattle.vq_model.specs.declared.statement.LineForm.{LineForm}
 use Rattle.vq_model.specs.Forms.{Slot, places}
 use Rattle.vq_model.specs.Meaning.{open_places}
@@ -31,7 +31,7 @@ said_at e line = statement_of e.number line.0 (map (λ x. x.1) line.1)
 
 -- whether a line has a fault of a kind
 abbrev pub has_fault_at : Earlier → OpenLine → FaultKind → Bool
-has_fault_at e line Syntax = not (is_built line.0) || not (list_all is_shaped line.1)
+has_fault_at e line Syntax = not (list_all is_shaped line.1)
 has_fault_at e line Order = is_out_of_order e line.0
 has_fault_at e line Number = not (list_all is_numeric line.1)
 has_fault_at e line Name = not (list_all (is_known e.number) line.1)

@@ -1,8 +1,8 @@
 -- What the parser keeps of the lines that it has read.
-use Rattle.std.specs.Prelude.{ℕ, ◌≡◌, ◌+◌, ◌≤◌, Bool, nat_lt, true, false}
+use Rattle.std.specs.Prelude.{ℕ, ◌≡◌, ◌+◌, Bool, nat_lt, true, false}
 use Rattle.std.specs.Prelude.{List, [], ◌∷◌, ◌++◌, length, map, sum, Option}
 use Rattle.std.specs.Prelude.{Some, None, is_some, if◌then◌else◌, replicate}
-use Rattle.std.specs.List.{filter_map, flat_map}
+use Rattle.std.specs.List.{filter_map, flat_map, list_any}
 use Rattle.std.specs.Option.{option_or}
 use Rattle.vq_model.specs.declared.script.Buffer.{Buffer}
 use Rattle.vq_model.specs.declared.script.Semaphore.{Semaphore}
@@ -16,7 +16,6 @@ use Rattle.vq_model.specs.declared.script.Turn.{Turn}
 use Rattle.vq_model.specs.declared.script.Job.TheVariants.{Host, Batch as BatchJob}
 use Rattle.vq_model.specs.declared.script.HostLine.{HostLine}
 use Rattle.vq_model.specs.declared.statement.Line.{Line}
-use Rattle.vq_model.specs.declared.statement.Statement.{Statement}
 use Rattle.vq_model.specs.declared.statement.Section.{Section}
 use Rattle.vq_model.specs.declared.statement.Section.TheVariants.{Outside, InBatch, InSchedule}
 use Rattle.vq_model.specs.Context.{section, version_of, buffers, semaphores, queues, count, some, open_batch}
@@ -31,7 +30,8 @@ use Rattle.vq_script.specs.declared.open_batch.OpenBatch.{OpenBatch}
 
 -- What lines declare and submit, but for a batch that is open.
 pub record Kept : Type 0 where
-  -- the limits of the version
+  -- the version, and its limits
+  pub version : ℕ
   pub most : Limits
   pub buffers : List Buffer
   -- the bytes of all buffers together
@@ -49,6 +49,7 @@ pub record Kept : Type 0 where
 abbrev pub kept : Known → Kept
 kept known =
     record {
+      version = known.version;
       most = known.limits;
       buffers = known.buffers.items;
       bytes = known.bytes;
@@ -58,6 +59,22 @@ kept known =
       commands = known.commands;
       scheduled = known.scheduled;
       turns = known.turns.items;
+    }
+
+-- what is kept of no lines, or of a line that names a version
+abbrev pub nothing : ℕ → Kept
+nothing version =
+    record {
+      version = version;
+      most = limits_of version;
+      buffers = [];
+      bytes = 0;
+      semaphores = [];
+      queues = [];
+      jobs = [];
+      commands = 0;
+      scheduled = false;
+      turns = [];
     }
 
 -- what is kept after a line more
@@ -162,10 +179,14 @@ jobs_with (Some b) rest =
     }
     ) ∷ jobs_of rest
 
--- Lines declare and schedule what is kept of them, in version 1.
+-- a wait of these holds back a batch only from behind a place on
+abbrev pub waits_past : ℕ → List Mark → Bool
+waits_past n waits = list_any (λ m. nat_lt n m.from) waits
+
+-- Lines declare and schedule what is kept of them.
 pub record Declares (lines : List Line) (k : Kept) : Type 0 where
-  pub version : version_of lines ≡ 1
-  pub limits : limits_of (version_of lines) ≡ k.most
+  pub version : version_of lines ≡ k.version
+  pub limits : limits_of k.version ≡ k.most
   pub all_buffers : buffers lines ≡ k.buffers
   pub all_bytes : sum (map (λ b. b.size) k.buffers) ≡ k.bytes
   pub all_semaphores : semaphores lines ≡ k.semaphores
@@ -181,8 +202,7 @@ pub record FillBatch (inside : List Line) (batch : Option Batch) : Type 0 where
   pub all_signals : count is_signal inside ≡ length (signals_of batch)
   pub fences : some is_batch_fence inside ≡ is_some (named_fence batch)
   pub in_order : (n : ℕ) → some (λ s. nat_lt n (part_of s)) inside ≡ nat_lt n (last_part batch)
-  -- each wait holds back the whole batch
-  pub whole_waits : (n : ℕ) → 1 ≤ n → some (λ s. nat_lt n (held_from s)) inside ≡ false
+  pub held : (n : ℕ) → some (λ s. nat_lt n (held_from s)) inside ≡ waits_past n (waits_of batch)
 
 -- Lines say what is kept of them, and leave this batch open.
 pub record Holds (lines : List Line) (k : Kept) (batch : Option Batch) : Type 0 where
@@ -195,6 +215,12 @@ pub record Holds (lines : List Line) (k : Kept) (batch : Option Batch) : Type 0 
   pub inside : FillBatch (open_batch lines) batch
   pub jobs : (rest : List Line) → jobs_of (lines ++ rest) ≡ k.jobs ++ jobs_with batch rest
 
--- The parser knows this of the lines that it has read.
-abbrev pub Keeps : List Line → Known → Type 0
-Keeps lines known = Holds lines (kept known) (open_so_far known.batch)
+-- there are no lines
+abbrev pub are_none : List Line → Bool
+are_none [] = true
+are_none (line ∷ lines) = false
+
+-- The parser knows this of the lines that it has read, and whether there are any.
+pub record Keeps (lines : List Line) (known : Known) : Type 0 where
+  pub holds : Holds lines (kept known) (open_so_far known.batch)
+  pub first : are_none lines ≡ known.first

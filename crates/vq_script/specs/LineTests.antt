@@ -1,5 +1,5 @@
 -- What the parser answers of the lines that it has read, and the tests of a line in the order of the code.
-use Rattle.std.specs.Prelude.{ℕ, ◌+◌, ◌||◌, not, cond, length, nat_lt, is_some, false}
+use Rattle.std.specs.Prelude.{ℕ, ◌+◌, ◌||◌, not, cond, length, nat_lt, is_some}
 use Rattle.std.specs.Prelude.{List, Option, Some, None}
 use Rattle.std.specs.List.{list_all}
 use Rattle.vq_model.specs.declared.script.Batch.{Batch}
@@ -11,13 +11,13 @@ use Rattle.vq_model.specs.Context.{number_in as number_among, is_taken}
 use Rattle.vq_model.specs.Earlier.{Earlier}
 use Rattle.vq_model.specs.Forms.{Slot}
 use Rattle.vq_model.specs.LineFaults.{is_shaped, is_new, is_out_of_order, is_in_range, overlaps, passes_limit}
-use Rattle.vq_script.specs.Holds.{Kept, last_part, named_fence, waits_of, commands_of, signals_of, open_jobs}
+use Rattle.vq_script.specs.Holds.{Kept, last_part, named_fence, waits_of, commands_of, signals_of, open_jobs, waits_past}
 
 -- the number of what has this name, of the kind that the place needs
 unfoldable pub number_of : Kept → Slot → List ℕ → Option ℕ
 number_of k place name = number_among k.buffers k.semaphores k.queues place name
 
--- What is answered by what is kept. Each wait so far holds back its whole batch, so none goes too far.
+-- What is answered by what is kept.
 abbrev pub earlier_in : Kept → Option Batch → Earlier
 earlier_in k batch =
     record {
@@ -37,10 +37,10 @@ earlier_in k batch =
       begun = is_some batch || nat_lt 0 (length k.jobs);
       later = λ part. nat_lt part (last_part batch);
       fenced = is_some (named_fence batch);
-      too_far = false;
+      too_far = waits_past (length (commands_of batch) + 1) (waits_of batch);
     }
 
--- the first kind of the faults that the words of a form that is built have before they are read
+-- the first kind of the faults that the words of a form have before they are read
 abbrev pub word_fault : Earlier → LineForm → List (Slot × List ℕ) → Option FaultKind
 word_fault e form words =
     cond (not (list_all is_shaped words)) (Some Syntax)

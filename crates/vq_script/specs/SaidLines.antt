@@ -10,28 +10,26 @@ use Rattle.vq_model.specs.declared.script.FillSize.TheVariants.{Whole, Count}
 use Rattle.vq_model.specs.declared.script.Pair.{Pair}
 use Rattle.vq_model.specs.declared.statement.LineForm.{LineForm}
 use Rattle.vq_model.specs.declared.statement.LineForm.TheVariants.{BufferLine, TimelineLine, BinaryLine, FenceLine}
-use Rattle.vq_model.specs.declared.statement.LineForm.TheVariants.{QueueLine, UpdateLine, SubmitLine, WaitTimelineLine}
-use Rattle.vq_model.specs.declared.statement.LineForm.TheVariants.{WaitBinaryLine, SignalTimelineLine, SignalBinaryLine}
-use Rattle.vq_model.specs.declared.statement.LineForm.TheVariants.{BatchFenceLine, EndLine, FillWholeLine, FillLine}
-use Rattle.vq_model.specs.declared.statement.LineForm.TheVariants.{CopyLine, ScheduleLine, TurnLine, TurnsLine}
-use Rattle.vq_model.specs.declared.statement.LineForm.TheVariants.{HostSignalLine, HostWaitAllLine, HostWaitAnyLine}
-use Rattle.vq_model.specs.declared.statement.LineForm.TheVariants.{HostPollAllLine, HostPollAnyLine, HostReadLine}
+use Rattle.vq_model.specs.declared.statement.LineForm.TheVariants.{QueueLine, UpdateLine, SubmitLine}
+use Rattle.vq_model.specs.declared.statement.LineForm.TheVariants.{SignalTimelineLine, SignalBinaryLine}
+use Rattle.vq_model.specs.declared.statement.LineForm.TheVariants.{BatchFenceLine, EndLine}
+use Rattle.vq_model.specs.declared.statement.LineForm.TheVariants.{ScheduleLine, TurnLine, TurnsLine}
+use Rattle.vq_model.specs.declared.statement.LineForm.TheVariants.{HostSignalLine}
+use Rattle.vq_model.specs.declared.statement.LineForm.TheVariants.{HostReadLine}
 use Rattle.vq_model.specs.declared.statement.LineForm.TheVariants.{HostFenceWaitLine, HostFencePollLine}
-use Rattle.vq_model.specs.declared.statement.LineForm.TheVariants.{HostFenceResetLine, HostIdleLine}
-use Rattle.vq_model.specs.declared.script.HostStep.TheVariants.{Signal as HostSignal, WaitAll, WaitAny, PollAll}
-use Rattle.vq_model.specs.declared.script.HostStep.TheVariants.{PollAny, Read, FenceWait, FencePoll, FenceReset}
+use Rattle.vq_model.specs.declared.statement.LineForm.TheVariants.{HostFenceResetLine, HostIdleLine, VersionLine}
 use Rattle.vq_model.specs.declared.statement.Statement.{Statement}
 use Rattle.vq_model.specs.declared.statement.Statement.TheVariants.{AddWait, AddCommand, AddSignal, AddFence}
 use Rattle.vq_model.specs.declared.statement.Statement.TheVariants.{BeginBatch, EndBatch, DeclareBuffer}
 use Rattle.vq_model.specs.declared.statement.Statement.TheVariants.{DeclareSemaphore, DeclareQueue}
 use Rattle.vq_model.specs.declared.statement.Statement.TheVariants.{BeginSchedule, TakeTurns, TakeHostStep}
-use Rattle.vq_model.specs.Forms.{Slot, NewName, BufferName, TimelineName, BinaryName, FenceName, QueueName, HexDigits}
+use Rattle.vq_model.specs.Forms.{Slot, NewName, HexDigits}
 use Rattle.vq_model.specs.Forms.{Fixed, Pairs, places}
 use Rattle.vq_model.specs.LineFaults.{part_of_form}
-use Rattle.vq_model.specs.Meaning.{is_hex, hex_bytes, small_numeral, binary_pair, of_two, of_three, of_four, of_five}
-use Rattle.vq_model.specs.Meaning.{is_built, statement_of, pair_places}
+use Rattle.vq_model.specs.Meaning.{is_hex, hex_bytes}
+use Rattle.vq_model.specs.Meaning.{statement_of, pair_places}
 use Rattle.vq_model.specs.ScriptOfLines.{mark}
-use Rattle.vq_model.specs.Text.{is_name, numeral}
+use Rattle.vq_model.specs.Text.{is_name}
 use Rattle.vq_script.specs.declared.said.Said.{Said}
 use Rattle.vq_script.specs.declared.said.Said.TheVariants.{Buffer, Semaphore, Queue, Submit, Wait, FillWhole}
 use Rattle.vq_script.specs.declared.said.Said.TheVariants.{Fill as SaidFill, Update as SaidUpdate, Copy as SaidCopy}
@@ -49,7 +47,7 @@ statement_in k (Buffer name size) = DeclareBuffer name.now size
 statement_in k (Semaphore name kind) = DeclareSemaphore name.now kind
 statement_in k (Queue name mode) = DeclareQueue name.now mode
 statement_in k (Submit queue) = BeginBatch queue
-statement_in k (Wait pair) = AddWait pair 1
+statement_in k (Wait pair from) = AddWait pair from
 statement_in k (FillWhole b o w) = AddCommand (Fill b o Whole w)
 statement_in k (SaidFill b o n w) = AddCommand (Fill b o (Count n) w)
 statement_in k (SaidUpdate b o digits) = AddCommand (Update b o (hex_bytes digits.now))
@@ -105,15 +103,21 @@ abbrev pub takes_turns : Bool → Option Batch → Bool
 takes_turns scheduled None = scheduled
 takes_turns scheduled (Some b) = false
 
--- A form that is built stands where a batch is open, or where none is; in the schedule, or before it.
+-- whether a form names the version
+abbrev pub is_version_form : LineForm → Bool
+is_version_form VersionLine = true
+is_version_form other = false
+
+-- A form stands where a batch is open, or where none is; in the schedule, or before it. It doesn't name
+-- the version: what it says is of the version of the lines before it.
 pub record Stands (form : LineForm) (scheduled : Bool) (batch : Option Batch) : Type 0 where
   pub inside : nat_lt 0 (part_of_form form) ≡ is_some batch
   pub turns : is_turn_form form ≡ takes_turns scheduled batch
-  pub built : is_built form ≡ true
+  pub later : is_version_form form ≡ false
 
 -- the part of a batch to which a line belongs
 abbrev pub part_in : Said → ℕ
-part_in (Wait pair) = 1
+part_in (Wait pair from) = 1
 part_in (FillWhole b o w) = 2
 part_in (SaidFill b o n w) = 2
 part_in (SaidUpdate b o digits) = 2
@@ -174,11 +178,9 @@ abbrev pub IsWhollyRead : Kept → Said → Type 0
 IsWhollyRead k (Host step) = IsReadStep k step
 IsWhollyRead k other = ⊤
 
--- the forms of a batch, but for its commands, and the form that begins it
+-- the forms of a batch, but for its waits and its commands, and the form that begins it
 abbrev pub is_batch_line : LineForm → Bool
 is_batch_line SubmitLine = true
-is_batch_line WaitTimelineLine = true
-is_batch_line WaitBinaryLine = true
 is_batch_line SignalTimelineLine = true
 is_batch_line SignalBinaryLine = true
 is_batch_line BatchFenceLine = true
@@ -214,8 +216,9 @@ pub record Suits (form : LineForm) (words : List (Slot × List ℕ)) (said : Sai
   pub turns : turns_in said ≡ is_turn_form form
   pub copies : copied_in said ≡ copied form (map (λ x. x.1) words)
 
--- offsets and sizes that have 32 bits
+-- offsets, sizes and places that have 32 bits
 abbrev pub IsSmall : Said → Type 0
+IsSmall (Wait pair from) = from < 2 ^ 32
 IsSmall (FillWhole buffer o w) = o < 2 ^ 32
 IsSmall (SaidFill buffer o n w) = (o < 2 ^ 32) × (n < 2 ^ 32)
 IsSmall (SaidUpdate buffer o digits) = o < 2 ^ 32
@@ -244,7 +247,7 @@ MayKeep k None (Submit queue) = k.scheduled ≡ false
 MayKeep k None (Host step) = IsReadStep k step
 MayKeep k None Schedule = ⊤
 MayKeep k None (Turns actor count) = length k.turns + count ≤ k.most.turns
-MayKeep k (Some b) (Wait pair) = nat_lt 1 (last_part (Some b)) ≡ false
+MayKeep k (Some b) (Wait pair from) = nat_lt 1 (last_part (Some b)) ≡ false
 MayKeep k (Some b) (FillWhole buffer o w) = MayCommand k b
 MayKeep k (Some b) (SaidFill buffer o n w) = MayCommand k b
 MayKeep k (Some b) (SaidUpdate buffer o digits) = MayCommand k b × (is_hex digits.now ≡ true)
@@ -261,8 +264,8 @@ pub record May (k : Kept) (batch : Option Batch) (said : Said) : Type 0 where
 
 -- What is kept after a line more
 
-abbrev pub waiting : Batch → ℕ → Pair → Batch
-waiting b n pair = record b { waits = b.waits ++ mark n pair 1 ∷ [] }
+abbrev pub waiting : Batch → ℕ → Pair → ℕ → Batch
+waiting b n pair from = record b { waits = b.waits ++ mark n pair from ∷ [] }
 
 abbrev pub commanding : Batch → ℕ → Command → Batch
 commanding b n command =
@@ -293,7 +296,7 @@ after n (DeclareSemaphore name kind) k batch =
 after n (DeclareQueue name mode) k batch =
     (with_queue k (record { line = n; name = name; mode = mode }), batch)
 after n (BeginBatch queue) k batch = (k, Some (started n queue))
-after n (AddWait pair from) k (Some b) = (k, Some (waiting b n pair))
+after n (AddWait pair from) k (Some b) = (k, Some (waiting b n pair from))
 after n (AddCommand command) k (Some b) = (with_command k, Some (commanding b n command))
 after n (AddSignal pair) k (Some b) = (k, Some (signaling b n pair))
 after n (AddFence fence) k (Some b) = (k, Some (fenced b n fence))

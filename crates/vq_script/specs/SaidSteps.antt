@@ -6,7 +6,7 @@ use Rattle.vq_model.specs.declared.script.HostStep.{HostStep}
 use Rattle.vq_model.specs.declared.script.HostStep.TheVariants.{Signal, WaitAll, WaitAny, PollAll, PollAny, Read}
 use Rattle.vq_model.specs.declared.script.HostStep.TheVariants.{FenceWait, FencePoll, FenceReset, Idle}
 use Rattle.vq_model.specs.Meaning.{pairs_at}
-use Rattle.vq_script.specs.declared.open_words.OpenWord.{OpenWord}
+use Rattle.vq_forms.specs.declared.open_words.OpenWord.{OpenWord}
 use Rattle.vq_script.specs.declared.host_steps.SaidStep.{SaidStep}
 use Rattle.vq_script.specs.declared.host_steps.SaidStep.TheVariants.{Signal as SaysSignal, WaitAll as SaysWaitAll}
 use Rattle.vq_script.specs.declared.host_steps.SaidStep.TheVariants.{WaitAny as SaysWaitAny, PollAll as SaysPollAll}
@@ -16,7 +16,7 @@ use Rattle.vq_script.specs.declared.host_steps.SaidStep.TheVariants.{FencePoll a
 use Rattle.vq_script.specs.declared.host_steps.SaidStep.TheVariants.{FenceReset as SaysFenceReset, Idle as SaysIdle}
 use Rattle.vq_script.specs.Holds.{Kept}
 use Rattle.vq_script.specs.LineTests.{number_of}
-use Rattle.vq_script.specs.OpenWords.{texts_of}
+use Rattle.vq_forms.specs.OpenWords.{texts_of}
 
 -- the pairs of words that are read
 abbrev pub read_pairs : Kept → List OpenWord → List Pair

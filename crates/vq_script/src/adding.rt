@@ -6,11 +6,10 @@ ghost use Rattle.vq_script.specs.SaidLines.{May, after, ended, statement_in};
 
 use crate::host_steps::owned_step;
 use crate::known::Known;
-use crate::names::owned_name;
-use crate::numerals::hex_bytes;
 use crate::open_batch::OpenBatch;
 use crate::said::Said;
 use std::alloc::{AllocError, Global};
+use vq_lexer::{hex_bytes, owned_name};
 use vq_model::list::Bytes;
 use vq_model::script::{Buffer, Command, FillSize, HostLine, Job, Queue, Semaphore, Turn};
 
@@ -59,11 +58,11 @@ impl Known {
                 self.batch = Some(OpenBatch::new(alloc, number, queue));
                 Ok(())
             }
-            Said::Wait { pair } => {
+            Said::Wait { pair, from } => {
                 let Some(batch) = &mut self.batch else {
                     unreachable!()
                 };
-                batch.add_wait(number, pair)
+                batch.add_wait(number, pair, from as u32)
             }
             Said::FillWhole {
                 buffer,

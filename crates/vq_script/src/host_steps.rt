@@ -4,15 +4,14 @@ ghost use Rattle.vq_model.specs.LineFaults.{pairs_of};
 ghost use Rattle.vq_model.specs.Meaning.{pair_at, pairs_at};
 ghost use Rattle.vq_script.specs.LineTests.{number_of};
 ghost use Rattle.vq_script.specs.Holds.{Kept, kept};
-ghost use Rattle.vq_script.specs.OpenWords.{opens, texts_of};
+ghost use Rattle.vq_forms.specs.OpenWords.{opens, texts_of};
 ghost use Rattle.vq_script.specs.SaidLines.{AreOf, is_step_line, is_pairs_line, SaysStep};
 ghost use Rattle.vq_script.specs.SaidSteps.{step_in, IsReadStep};
 
 use crate::known::Known;
-use crate::numerals::numeral;
-use crate::open_words::OpenWord;
-use crate::table::Token;
 use std::alloc::{AllocError, Global};
+use vq_forms::{OpenWord, Token};
+use vq_lexer::numeral;
 use vq_model::list::List;
 use vq_model::script::{HostStep, Pair};
 use vq_model::statement::LineForm;
@@ -49,7 +48,7 @@ impl SaidStep<'_> {
 }
 
 /// The pair of a timeline's name and a numeral, where both are read.
-fn pair(known: &Known, timeline: &[u8], value: &[u8]) -> Option<Pair>
+pub fn pair(known: &Known, timeline: &[u8], value: &[u8]) -> Option<Pair>
     ensures { result ≡ pair_at (number_of (kept known.now)) timeline.now value.now }
 {
     Some(Pair {

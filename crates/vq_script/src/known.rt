@@ -7,11 +7,11 @@ ghost use Rattle.vq_model.specs.Context.{number_in as number_among, is_taken};
 ghost use Rattle.vq_script.specs.Names.{item_of, number_in};
 
 use crate::named_item::{NamedItem, semaphore_item};
-use crate::names::{after_mark, is_marked};
 use crate::open_batch::OpenBatch;
-use crate::table::Token;
 use std::alloc::{AllocError, Global};
 use std::collections::BTreeMap;
+use vq_forms::Token;
+use vq_lexer::{after_mark, is_marked};
 use vq_model::limits::Limits;
 use vq_model::list::List;
 use vq_model::script::{ActorName, Buffer, Job, Queue, Script, Semaphore, Turn};
@@ -20,6 +20,9 @@ use vq_model::statement::Section;
 /// What the lines so far declare and submit.
 #[derive(Drop)]
 pub struct Known {
+    /// Whether no line with words has come.
+    pub first: bool,
+    pub version: u32,
     /// The limits of the version.
     pub limits: Limits,
     pub buffers: Vec<Buffer>,
@@ -45,6 +48,7 @@ pub struct Known {
     ghost small_semaphores: { limits.semaphores < 2 ^ 32 },
     ghost small_queues: { limits.queues < 2 ^ 32 },
     ghost small_commands: { limits.commands < 2 ^ 32 },
+    ghost small_batches: { limits.batch_commands + 2 ≤ 2 ^ 32 },
     ghost few_bytes: { bytes ≤ limits.bytes },
     ghost few_buffers: { length buffers.items ≤ limits.buffers },
     ghost few_semaphores: { length semaphores.items ≤ limits.semaphores },
@@ -60,19 +64,23 @@ impl Known {
     ghost use Rattle.vq_model.specs.Meaning.{actor_at};
     ghost use Rattle.vq_model.specs.ScriptOfLines.{script_of};
     ghost use Rattle.vq_model.specs.declared.statement.Line.{Line};
-    ghost use Rattle.vq_script.specs.Holds.{Holds, Keeps, kept, last_part, named_fence, waits_of};
+    ghost use Rattle.vq_script.specs.Holds.{Holds, kept, nothing, last_part, named_fence, waits_of, waits_past};
     ghost use Rattle.vq_script.specs.Holds.{commands_of, open_jobs};
     ghost use Rattle.vq_script.specs.Holds.{signals_of, open_so_far, section_of, with_buffer, with_semaphore};
     ghost use Rattle.vq_script.specs.Holds.{with_queue, with_turns};
     ghost use Rattle.vq_script.specs.LineTests.{number_of};
-    ghost use Rattle.vq_script.specs.Table.{place_of};
+    ghost use Rattle.vq_forms.specs.Table.{place_of};
 
-    /// What no lines declare and submit.
-    pub fn new(alloc: Global) -> Known
-        ensures { Keeps [] result }
+    /// What no lines declare and submit, or the line that names the version.
+    pub fn new(alloc: Global, version: u32, first: bool) -> Known
+        ensures kept { kept result ≡ nothing version }
+        ensures open { result.batch ≡ None }
+        ensures first { result.first ≡ first }
     {
         Known {
-            limits: Limits::of(1),
+            first,
+            version,
+            limits: Limits::of(version),
             buffers: Vec::new(alloc),
             bytes: 0,
             semaphores: Vec::new(alloc),
@@ -91,7 +99,7 @@ impl Known {
         ensures { (lines : List Line) → Holds lines (kept self) None → result ≡ script_of lines }
     {
         Script {
-            version: 1,
+            version: self.version,
             buffers: List::of(self.buffers),
             semaphores: List::of(self.semaphores),
             queues: List::of(self.queues),
@@ -219,6 +227,17 @@ impl Known {
         match &self.batch {
             None => 0,
             Some(batch) => batch.signals.len(),
+        }
+    }
+
+    /// Whether a wait of the open batch names a place past its commands and the one behind them.
+    pub fn waits_too_far(&self) -> bool
+        ensures { result ≡ waits_past (length (commands_of (open_so_far self.now.batch)) + 1)
+            (waits_of (open_so_far self.now.batch)) }
+    {
+        match &self.batch {
+            None => false,
+            Some(batch) => batch.waits_too_far(),
         }
     }
 

@@ -7,14 +7,13 @@ ghost use Rattle.vq_model.specs.declared.statement.Line.{Line};
 ghost use Rattle.vq_script.specs.Faults.{Tells};
 ghost use Rattle.vq_script.specs.Holds.{Keeps, Kept, kept, open_so_far};
 ghost use Rattle.vq_script.specs.LineTests.{earlier_in, word_fault, said_fault};
-ghost use Rattle.vq_script.specs.OpenWords.{opens};
+ghost use Rattle.vq_forms.specs.OpenWords.{opens};
 ghost use Rattle.vq_script.specs.SaidLines.{AreFound, IsWhollyRead, IsSmall, May, Stands, statement_in};
 
 use crate::known::Known;
-use crate::open_words::OpenWord;
-use crate::place_faults::{are_new, are_numeric, are_shaped};
+use crate::place_faults::are_new;
 use crate::said::{Said, statement_of};
-use crate::table::{is_declaration, part_of_form};
+use vq_forms::{OpenWord, are_numeric, are_shaped, is_declaration, part_of_form};
 use vq_model::limits::UPDATE_BYTES;
 use vq_model::ranges::is_aligned;
 use vq_model::statement::{FaultKind, LineForm};
@@ -52,8 +51,8 @@ fn is_within(known: &Known, buffer: u32, offset: u64, size: u64) -> bool
     offset < end && 0 < size && size <= end - offset
 }
 
-/// Whether the sizes and offsets of what a line says are in range.
-#[tactic(auto, using(crate::proofs::DigitsRead::hex_length, crate::proofs::DigitsRead::hex_limit))]
+/// Whether the sizes, offsets and places of what a line says are in range.
+#[tactic(auto, using(vq_lexer::proofs::Cited::hex_length, vq_lexer::proofs::Cited::hex_limit))]
 fn is_in_range(known: &Known, said: &Said<'_>) -> bool
     ensures exact { result ≡ is_in_range (earlier_in (kept known.now) (open_so_far known.now.batch))
         (statement_in (kept known.now) said.now) }
@@ -61,6 +60,7 @@ fn is_in_range(known: &Known, said: &Said<'_>) -> bool
 {
     match *said {
         Said::Buffer { size, .. } => 0 < size,
+        Said::Wait { from, .. } => { 0 < from && from < u64::from(known.limits.batch_commands) + 2 }
         Said::FillWhole { buffer, offset, .. } => {
             offset < u64::from(known.size_of(buffer)) && is_aligned(offset)
         }
@@ -91,6 +91,7 @@ fn is_in_range(known: &Known, said: &Said<'_>) -> bool
             is_within(known, source, source_offset, size)
                 && is_within(known, target, target_offset, size)
         }
+        Said::End => !known.waits_too_far(),
         Said::Turns { count, .. } => 0 < count,
         _ => true,
     }

@@ -1,9 +1,9 @@
 //! What a declared name stands for.
 ghost use Rattle.std.specs.Prelude.{◌≡◌, Some};
 ghost use Rattle.vq_script.specs.Names.{semaphore_item, number_in};
-ghost use Rattle.vq_script.specs.Table.{place_of};
+ghost use Rattle.vq_forms.specs.Table.{place_of};
 
-use crate::table::Token;
+use vq_forms::Token;
 use vq_model::script::{Mode, SemaphoreKind};
 
 /// A buffer, a timeline or binary semaphore, a fence or a queue with its mode, by its number.

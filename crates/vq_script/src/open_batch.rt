@@ -1,7 +1,7 @@
 //! A batch that is open.
-ghost use Rattle.std.specs.Prelude.{◌≡◌, OnOk, Some};
+ghost use Rattle.std.specs.Prelude.{◌≡◌, ◌+◌, OnOk, Some, length};
 ghost use Rattle.vq_model.specs.ScriptOfLines.{mark};
-ghost use Rattle.vq_script.specs.Holds.{batch_so_far, last_part};
+ghost use Rattle.vq_script.specs.Holds.{batch_so_far, last_part, waits_past};
 ghost use Rattle.vq_script.specs.SaidLines.{started, waiting, commanding, signaling, fenced};
 
 use std::alloc::{AllocError, Global};
@@ -19,15 +19,15 @@ pub struct OpenBatch {
     pub fence: Option<Mark>,
 }
 
-/// The mark of a line. It holds back the whole batch, if it is a wait.
-fn mark(number: u32, pair: Pair) -> Mark
-    ensures { result ≡ mark number pair 1 }
+/// The mark of a line. If it is a wait, it holds back the batch from a place of its commands on.
+fn mark(number: u32, pair: Pair, from: u32) -> Mark
+    ensures { result ≡ mark number pair from }
 {
     Mark {
         line: number,
         semaphore: pair.semaphore,
         value: pair.value,
-        from: 1,
+        from,
     }
 }
 
@@ -64,11 +64,24 @@ impl OpenBatch {
         }
     }
 
-    /// Adds the wait of a line.
-    pub fn add_wait(&mut self, number: u32, pair: Pair) -> Result<(), AllocError>
-        ensures { OnOk result (batch_so_far self.new ≡ waiting (batch_so_far self.old) number pair) }
+    /// Whether a wait of the batch names a place past its commands and the one behind them, so that it holds back
+    /// nothing of the batch.
+    pub fn waits_too_far(&self) -> bool
+        ensures { result ≡ waits_past (length self.now.commands.items + 1) self.now.waits.items }
     {
-        self.waits.push(mark(number, pair))?;
+        for wait in &self.waits {
+            if wait.from as usize > self.commands.len() + 1 {
+                return true;
+            }
+        }
+        false
+    }
+
+    /// Adds the wait of a line.
+    pub fn add_wait(&mut self, number: u32, pair: Pair, from: u32) -> Result<(), AllocError>
+        ensures { OnOk result (batch_so_far self.new ≡ waiting (batch_so_far self.old) number pair from) }
+    {
+        self.waits.push(mark(number, pair, from))?;
         Ok(())
     }
 
@@ -87,7 +100,7 @@ impl OpenBatch {
     pub fn add_signal(&mut self, number: u32, pair: Pair) -> Result<(), AllocError>
         ensures { OnOk result (batch_so_far self.new ≡ signaling (batch_so_far self.old) number pair) }
     {
-        self.signals.push(mark(number, pair))?;
+        self.signals.push(mark(number, pair, 1))?;
         Ok(())
     }
 
@@ -101,6 +114,7 @@ impl OpenBatch {
                 semaphore,
                 value: 0,
             },
+            1,
         ));
     }
 

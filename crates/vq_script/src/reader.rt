@@ -1,24 +1,25 @@
 //! A text, read line by line.
 ghost use Rattle.std.specs.Prelude.{◌≡◌, ◌<◌, ◌-◌, ◌^◌, IsTrue, nat_lt, List, [], length, IfOk};
-ghost use Rattle.std.specs.Prelude.{IfErr};
+ghost use Rattle.std.specs.Prelude.{IfErr, ◌&&◌};
+ghost use Rattle.vq_model.specs.Meaning.{matches};
+ghost use Rattle.vq_model.specs.declared.statement.LineForm.TheVariants.{VersionLine};
 ghost use Rattle.vq_model.specs.declared.statement.Line.{Line};
-ghost use Rattle.vq_model.specs.Text.{lines_of, words_of};
+ghost use Rattle.std.specs.List.{list_all};
+ghost use Rattle.vq_model.specs.Text.{is_plain, lines_of, words_of};
 ghost use Rattle.vq_model.specs.Reading.{read_lines, read_script, StandsFor};
 ghost use Rattle.vq_script.specs.Holds.{Keeps, open_so_far};
-ghost use Rattle.vq_script.specs.OpenWords.{opens};
+ghost use Rattle.vq_forms.specs.OpenWords.{opens};
 ghost use Rattle.vq_script.specs.Outcomes.{Gives, IsFirst};
 ghost use Rattle.vq_script.specs.Reads.{Takes, Reads, script_from};
 ghost use Rattle.vq_script.specs.SaidLines.{AreFound, Stands};
-ghost use Rattle.vq_script.specs.Words.{texts};
+ghost use Rattle.vq_lexer.specs.Words.{texts};
 
 use crate::fault::ScriptFault;
 use crate::known::Known;
 use crate::line_faults::said_by;
-use crate::lines::next_line;
-use crate::open_words::{OpenWord, find_open};
-use crate::table::form_of;
-use crate::words::{are_plain, find_words};
 use std::alloc::Global;
+use vq_forms::{OpenWord, find_open, form_of, is_version};
+use vq_lexer::{find_words, next_line};
 use vq_model::script::Script;
 use vq_model::statement::{FaultKind, Form, LineForm, Section};
 
@@ -38,34 +39,48 @@ fn read_open(
     match said_by(known, form, words) {
         Ok(said) => {
             known.add(alloc, number, said)?;
+            known.first = false;
             Ok(())
         }
         Err(kind) => Err(ScriptFault::At { line: number, kind }),
     }
 }
 
-/// Reads the words of a line. A line without words says nothing.
+/// Whether words name the version, as the first line with words may.
+fn names_version(known: &Known, words: &[&[u8]]) -> bool
+    ensures { result ≡ (known.now.first && matches (texts words.now) VersionLine) }
+{
+    known.first && is_version(words)
+}
+
+/// Reads the words of a line, whose bytes may stand outside a comment or not. A line without words says nothing.
 fn read_words<'a>(
     alloc: Global,
     form: Form,
     known: &mut Known,
     number: u32,
     words: &[&'a [u8]],
+    plain: bool,
     open: &mut Vec<OpenWord<'a>>,
 ) -> Result<(), ScriptFault>
+    requires { plain ≡ list_all (list_all is_plain) (texts words.now) }
     ensures { (lines : List Line) → Keeps lines known.old →
         Reads form lines number (texts words.now) result known.new }
 {
     if words.is_empty() {
         return Ok(());
     }
-    if !are_plain(words) {
+    if !plain {
         return Err(ScriptFault::At {
             line: number,
             kind: FaultKind::Syntax,
         });
     }
-    let Some(found) = form_of(form, known.section(), words) else {
+    if names_version(known, words) {
+        *known = Known::new(alloc, 2, false);
+        return Ok(());
+    }
+    let Some(found) = form_of(form, known.version, known.section(), words) else {
         return Err(ScriptFault::At {
             line: number,
             kind: FaultKind::Syntax,
@@ -88,8 +103,8 @@ fn read_line<'a>(
     ensures { (lines : List Line) → Keeps lines known.old →
         Reads form lines number (words_of line.now) result known.new }
 {
-    find_words(line, words)?;
-    read_words(alloc, form, known, number, words, open)
+    let plain = find_words(line, words)?;
+    read_words(alloc, form, known, number, words, plain, open)
 }
 
 /// The script, where the text may end here. The line after the last is Syntax where a batch is
@@ -122,7 +137,8 @@ pub fn is_short(bytes: &[u8]) -> bool
 /// Reads a text as a script. It has fewer than 2^32 - 1 lines, as it does where `is_short` says so.
 ///
 /// Lines end at line feeds, with or without a carriage return before them. From `#` on a line is a
-/// comment. Words are printable ASCII, between runs of spaces and tabs. A line says one of
+/// comment. Words are printable ASCII, between runs of spaces and tabs. The first line with words may be
+/// `version 2`: the text is of the second version then, and else of the first. Each other line says one of
 ///
 /// - `buffer NAME SIZE`: a buffer of 1 to 1,048,576 bytes; 64 buffers at most, of 1,048,576 bytes
 ///   together;
@@ -131,8 +147,8 @@ pub fn is_short(bytes: &[u8]) -> bool
 /// - `fence NAME`: a fence, unsignaled;
 /// - `queue NAME immediate`, `queue NAME deferred`, `queue NAME threaded`: a queue that is submitted
 ///   to by the host, which hands each batch over at once or holds batches back, or by a thread of its
-///   own; 8 queues at most;
-/// - `submit QUEUE`: the first line of a batch; 4,096 batches and host steps at most;
+///   own; 8 queues at most, and 16 in version 2;
+/// - `submit QUEUE`: the first line of a batch; 4,096 batches and host steps at most, and 8,192 in version 2;
 /// - `host signal TIMELINE VALUE`: the host signals a timeline;
 /// - `host wait all TIMELINE VALUE ..`, `host wait any ..`: the host waits until all of these payloads
 ///   are reached, or one; 16 pairs at most;
@@ -143,6 +159,8 @@ pub fn is_short(bytes: &[u8]) -> bool
 /// - `host idle`: it waits until each batch before this line is complete;
 /// - `wait TIMELINE VALUE`, `wait SEMAPHORE`: what the whole batch waits for, a payload of a
 ///   timeline or the signal of a binary semaphore; 16 waits a batch at most;
+/// - `wait TIMELINE VALUE from PLACE`, `wait SEMAPHORE from PLACE`, in version 2: what the batch's commands
+///   from this one on wait for, counted from 1; PLACE is at most the commands of the batch and 1 more;
 /// - `fill BUFFER OFFSET SIZE WORD`, `fill BUFFER OFFSET whole WORD`: writes a word again and
 ///   again;
 /// - `update BUFFER OFFSET DIGITS`: writes 1 to 65,536 bytes, of two hexadecimal digits each;
@@ -175,15 +193,14 @@ pub fn is_short(bytes: &[u8]) -> bool
 ///
 /// `At` is the first line with a fault and the first kind of that line's faults, in the order of
 /// `FaultKind`; the line after the last is `Syntax` where a batch is open, or where the form is
-/// `Scheduled` and there is no schedule. Versions, and waits that hold back a part of their batch,
-/// are `Syntax` too. `Memory` comes where memory runs out.
+/// `Scheduled` and there is no schedule. `Memory` comes where memory runs out.
 pub fn parse(alloc: Global, bytes: &[u8], form: Form) -> Result<Script, ScriptFault>
     requires { length (lines_of bytes.now) < 2 ^ 32 - 1 }
     ensures exact { Gives result (read_script bytes.now form) }
     ensures stands { IfOk result (λ script. StandsFor bytes.now form script) }
     ensures fault { IfErr result (λ fault. IsFirst bytes.now form fault) }
 {
-    let mut known = Known::new(alloc);
+    let mut known = Known::new(alloc, 1, true);
     let mut words = Vec::new(alloc);
     let mut open = Vec::new(alloc);
     let mut number: u32 = 1;

@@ -1,17 +1,19 @@
 //! What a line says, before it is kept: nothing is copied yet.
-ghost use Rattle.std.specs.Prelude.{◌≡◌, true, IfSome};
+ghost use Rattle.std.specs.Prelude.{◌≡◌, true, false, IfSome};
+ghost use Rattle.std.specs.Option.{option_map};
+ghost use Rattle.vq_model.specs.Forms.{BinaryName};
+ghost use Rattle.vq_model.specs.Meaning.{binary_pair};
+ghost use Rattle.vq_script.specs.LineTests.{number_of};
 ghost use Rattle.vq_script.specs.Holds.{Kept, kept};
-ghost use Rattle.vq_script.specs.OpenWords.{opens};
+ghost use Rattle.vq_forms.specs.OpenWords.{opens};
 ghost use Rattle.vq_script.specs.SaidLines.{AreOf, AreFound, IsWhollyRead, Says, Suits};
-ghost use Rattle.vq_script.specs.SaidLines.{is_batch_line, is_schedule_line, is_host_line};
+ghost use Rattle.vq_script.specs.SaidLines.{is_batch_line, is_schedule_line, is_host_line, is_version_form};
 ghost use Rattle.vq_model.specs.LineFaults.{is_declaration, part_of_form};
-ghost use Rattle.vq_model.specs.Meaning.{is_built};
 
-use crate::host_steps::{SaidStep, is_pairs_line, is_step_line, pairs_line, step_line};
+use crate::host_steps::{SaidStep, is_pairs_line, is_step_line, pair, pairs_line, step_line};
 use crate::known::Known;
-use crate::numerals::{is_hex, numeral, small_numeral};
-use crate::open_words::OpenWord;
-use crate::table::{Token, is_declaration, part_of_form};
+use vq_forms::{OpenWord, Token, is_declaration, part_of_form};
+use vq_lexer::{is_hex, numeral, small_numeral};
 use vq_model::script::{ActorName, Mode, Pair, SemaphoreKind};
 use vq_model::statement::LineForm;
 
@@ -33,8 +35,10 @@ pub enum Said<'a> {
     Submit {
         queue: u32,
     },
+    /// A wait, and the place of its batch's commands from which on it holds back.
     Wait {
         pair: Pair,
+        from: u64,
     },
     FillWhole {
         buffer: u32,
@@ -148,8 +152,50 @@ fn command<'a>(known: &Known, form: LineForm, words: &[OpenWord<'a>]) -> Option<
     }
 }
 
-/// What a line says that begins a batch or ends it, or names a semaphore or a fence of one, where
-/// its numbers and names are read.
+/// The pair of a binary semaphore's name, where it is read.
+fn binary_pair(known: &Known, semaphore: &[u8]) -> Option<Pair>
+    ensures { result ≡ option_map binary_pair (number_of (kept known.now) BinaryName semaphore.now) }
+{
+    Some(Pair {
+        semaphore: known.number_of(Token::BinaryToken, semaphore)?,
+        value: 0,
+    })
+}
+
+/// What a line says that is a wait, where its numbers and names are read. A wait that names no place holds
+/// back its whole batch.
+fn wait<'a>(known: &Known, form: LineForm, words: &[OpenWord<'a>]) -> Option<Said<'a>>
+    requires of { AreOf form (opens words.now) }
+    requires part { part_of_form form ≡ 1 }
+    ensures says { Says (kept known.now) form (opens words.now) result }
+    ensures suits { IfSome result (Suits form (opens words.now)) }
+{
+    match (form, words) {
+        (LineForm::WaitTimelineLine, [timeline, value]) => Some(Said::Wait {
+            pair: pair(known, timeline.word, value.word)?,
+            from: 1,
+        }),
+        (LineForm::WaitBinaryLine, [semaphore]) => Some(Said::Wait {
+            pair: binary_pair(known, semaphore.word)?,
+            from: 1,
+        }),
+        (LineForm::HeldTimelineLine, [timeline, value, place]) => Some(Said::Wait {
+            pair: pair(known, timeline.word, value.word)?,
+            from: numeral(place.word)?,
+        }),
+        (LineForm::HeldBinaryLine, [semaphore, place]) => Some(Said::Wait {
+            pair: Pair {
+                semaphore: known.number_of(Token::BinaryToken, semaphore.word)?,
+                value: 0,
+            },
+            from: numeral(place.word)?,
+        }),
+        _ => unreachable!(),
+    }
+}
+
+/// What a line says that begins a batch or ends it, or names what it signals, where its numbers and names
+/// are read.
 fn batch_line<'a>(known: &Known, form: LineForm, words: &[OpenWord<'a>]) -> Option<Said<'a>>
     requires of { AreOf form (opens words.now) }
     requires part { is_batch_line form ≡ true }
@@ -160,29 +206,11 @@ fn batch_line<'a>(known: &Known, form: LineForm, words: &[OpenWord<'a>]) -> Opti
         (LineForm::SubmitLine, [queue]) => Some(Said::Submit {
             queue: known.number_of(Token::QueueToken, queue.word)?,
         }),
-        (LineForm::WaitTimelineLine, [timeline, value]) => Some(Said::Wait {
-            pair: Pair {
-                semaphore: known.number_of(Token::TimelineToken, timeline.word)?,
-                value: numeral(value.word)?,
-            },
-        }),
-        (LineForm::WaitBinaryLine, [semaphore]) => Some(Said::Wait {
-            pair: Pair {
-                semaphore: known.number_of(Token::BinaryToken, semaphore.word)?,
-                value: 0,
-            },
-        }),
         (LineForm::SignalTimelineLine, [timeline, value]) => Some(Said::Signal {
-            pair: Pair {
-                semaphore: known.number_of(Token::TimelineToken, timeline.word)?,
-                value: numeral(value.word)?,
-            },
+            pair: pair(known, timeline.word, value.word)?,
         }),
         (LineForm::SignalBinaryLine, [semaphore]) => Some(Said::Signal {
-            pair: Pair {
-                semaphore: known.number_of(Token::BinaryToken, semaphore.word)?,
-                value: 0,
-            },
+            pair: binary_pair(known, semaphore.word)?,
         }),
         (LineForm::BatchFenceLine, [fence]) => Some(Said::Fence {
             fence: known.number_of(Token::FenceToken, fence.word)?,
@@ -255,13 +283,15 @@ pub fn statement_of<'a>(
     words: &'a [OpenWord<'a>],
 ) -> Option<Said<'a>>
     requires found { AreFound form (opens words.now) }
-    requires built { is_built form ≡ true }
+    requires later { is_version_form form ≡ false }
     ensures says { Says (kept known.now) form (opens words.now) result }
     ensures suits { IfSome result (Suits form (opens words.now)) }
     ensures read { IfSome result (IsWhollyRead (kept known.now)) }
 {
     if is_declaration(form) {
         declaration(form, words)
+    } else if part_of_form(form) == 1 {
+        wait(known, form, words)
     } else if part_of_form(form) == 2 {
         command(known, form, words)
     } else if is_schedule_line(form) {

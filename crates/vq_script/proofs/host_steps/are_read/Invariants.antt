@@ -1,7 +1,7 @@
 use Rattle.std.proofs.Common.{◌≡◌, length}
 use Rattle.std.specs.Prelude.{is_some}
 use Rattle.vq_script.specs.Holds.{kept}
-use Rattle.vq_script.specs.OpenWords.{texts_of}
+use Rattle.vq_forms.specs.OpenWords.{texts_of}
 use Rattle.vq_model.specs.Meaning.{pairs_at}
 use Rattle.vq_script.specs.LineTests.{number_of}
 use Rattle.vq_script.proofs.host_steps.are_read.Given as goal

@@ -2,7 +2,7 @@ use Rattle.std.proofs.Common.{List, Some, option_map, ◌++◌, ap, sym, ◌∙�
 use Rattle.std.proofs.lemmas.List.{append-nil, take_rest}
 use Rattle.vq_model.specs.Meaning.{pairs_at}
 use Rattle.vq_script.specs.LineTests.{number_of}
-use Rattle.vq_script.specs.OpenWords.{texts_of}
+use Rattle.vq_forms.specs.OpenWords.{texts_of}
 use Rattle.vq_model.specs.declared.script.Pair.{Pair}
 use Rattle.vq_script.specs.Holds.{kept}
 use Rattle.vq_script.proofs.PairsRead.{few_words, pairs_owned}

@@ -1,6 +1,6 @@
 use Rattle.std.proofs.Common.{◌≡◌, ◌++◌, length, option_map}
 use Rattle.vq_script.specs.Holds.{kept}
-use Rattle.vq_script.specs.OpenWords.{texts_of}
+use Rattle.vq_forms.specs.OpenWords.{texts_of}
 use Rattle.vq_model.specs.Meaning.{pairs_at}
 use Rattle.vq_script.specs.LineTests.{number_of}
 use Rattle.vq_script.proofs.host_steps.owned_pairs.Given as goal

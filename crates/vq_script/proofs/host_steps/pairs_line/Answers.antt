@@ -1,16 +1,13 @@
-use Rattle.std.proofs.Common.{◌≡◌, false, true, Option, Some, map, is_some, List, ℕ, sym, subst, ◌∙◌}
+use Rattle.std.proofs.Common.{◌≡◌, false, true, Some, sym, subst, ◌∙◌}
 use Rattle.std.specs.Option.{unwrap_or}
 use Rattle.std.specs.Prelude.{[]}
-use Rattle.vq_model.specs.declared.script.Pair.{Pair}
 use Rattle.vq_model.specs.declared.script.HostStep.TheVariants.{WaitAll, WaitAny, PollAll, PollAny}
 use Rattle.vq_model.specs.declared.statement.LineForm.{LineForm}
-use Rattle.vq_model.specs.declared.statement.Statement.{Statement}
 use Rattle.vq_model.specs.declared.statement.Statement.TheVariants.{TakeHostStep}
-use Rattle.vq_model.specs.Forms.{Slot}
 use Rattle.vq_model.specs.Meaning.{pairs_at}
 use Rattle.vq_script.specs.Holds.{kept}
 use Rattle.vq_script.specs.LineTests.{number_of}
-use Rattle.vq_script.specs.OpenWords.{opens, texts_of}
+use Rattle.vq_forms.specs.OpenWords.{texts_of}
 use Rattle.vq_script.specs.SaidLines.{named_in}
 use Rattle.vq_script.proofs.PairsRead.{said_pairs, unsaid_pairs}
 use Rattle.vq_script.proofs.host_steps.pairs_line.Goals as goal

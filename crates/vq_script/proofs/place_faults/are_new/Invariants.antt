@@ -1,9 +1,8 @@
 use Rattle.std.proofs.Common.{◌≡◌, drop}
 use Rattle.std.specs.List.{list_all}
-use Rattle.vq_script.specs.Holds.{kept}
 use Rattle.vq_model.specs.LineFaults.{is_new}
 use Rattle.vq_model.specs.Context.{is_taken}
-use Rattle.vq_script.specs.OpenWords.{opens}
+use Rattle.vq_forms.specs.OpenWords.{opens}
 use Rattle.vq_script.proofs.place_faults.are_new.Given as goal
 
 abbrev pub invariant-loop-x : goal.invariant-loop-x

@@ -4,6 +4,7 @@ use Rattle.vq_model.specs.Reading.{with_line}
 use Rattle.vq_script.specs.Holds.{Holds, Kept, kept}
 use Rattle.vq_script.specs.SaidLines.{statement_in}
 use Rattle.vq_script.proofs.Pushes.{holds_after}
+use Rattle.vq_script.proofs.VersionNamed.{some_lines}
 use Rattle.vq_script.proofs.reader.read_open.Goals as goal
 
 pub returns-in_ok-add-in-Ok : goal.returns-in_ok-add-in-Ok
@@ -13,7 +14,10 @@ returns-in_ok-add-in-Ok c = λ lines h.
       s,
       told.0,
       told.1,
-      subst (λ (now : Kept × Option Batch). Holds (with_line lines c.args.number s) now.0 now.1)
-          (sym c.in_ok-add-in-Ok.ensures)
-          (holds_after lines c.args.number c.in-Ok.said _ _ h c.in-Ok.ensures.may.keep),
+      record {
+        holds = subst (λ (now : Kept × Option Batch). Holds (with_line lines c.args.number s) now.0 now.1)
+            (sym c.in_ok-add-in-Ok.ensures)
+            (holds_after lines c.args.number c.in-Ok.said _ _ h.holds c.in-Ok.ensures.may.keep);
+        first = some_lines lines c.args.number s;
+      },
     )

@@ -1,0 +1,4 @@
+mod AsMany
+mod LikelyForms
+mod Opened
+mod TableSteps

@@ -1,0 +1,2 @@
+pub mod OpenWords
+pub mod Table

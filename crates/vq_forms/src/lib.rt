@@ -1,0 +1,12 @@
+//! The forms of a script's lines: which form the words of a line have, the words at its open places, and
+//! whether each has the shape of its place.
+#![tactic(auto)]
+
+mod likely;
+mod open_words;
+mod shapes;
+mod table;
+
+pub use open_words::{OpenWord, find_open};
+pub use shapes::{are_numeric, are_shaped};
+pub use table::{Token, form_of, is_declaration, is_version, part_of_form};

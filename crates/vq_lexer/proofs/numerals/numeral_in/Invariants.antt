@@ -1,0 +1,13 @@
+use Rattle.std.proofs.Common.{◌≡◌, ◌<◌, ◌^◌, take, true}
+use Rattle.std.specs.List.{list_all}
+use Rattle.std.specs.Str.Parse.{digits_value}
+use Rattle.std.specs.Char.{digit_value}
+use Rattle.std.specs.Prelude.{nat_lt}
+use Rattle.vq_lexer.proofs.numerals.numeral_in.Given as goal
+
+abbrev pub invariant-loop-byte : goal.invariant-loop-byte
+invariant-loop-byte l = record {
+  small : l.number < 2 ^ 64;
+  number : l.number ≡ digits_value l.base (take l.byte-index l.digits);
+  digits : list_all (λ b. nat_lt (digit_value b) l.base) (take l.byte-index l.digits) ≡ true;
+}

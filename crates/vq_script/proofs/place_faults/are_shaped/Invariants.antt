@@ -1,9 +1,0 @@
-use Rattle.std.proofs.Common.{◌≡◌, drop}
-use Rattle.std.specs.List.{list_all}
-use Rattle.vq_model.specs.LineFaults.{is_shaped}
-use Rattle.vq_script.specs.OpenWords.{opens}
-use Rattle.vq_script.proofs.place_faults.are_shaped.Given as goal
-
-abbrev pub invariant-loop-x : goal.invariant-loop-x
-invariant-loop-x l =
-    list_all is_shaped (opens (drop l.x-index l.words)) ≡ list_all is_shaped (opens l.words)
