@@ -18,7 +18,7 @@ use Rattle.vq_order_laws.proofs.Cited.{signal_is, numbers_rise}
 use Rattle.vq_plan_laws.proofs.Cited.{plan_well_formed, plan_lines}
 use Rattle.vq_order.specs.Counts.{AreFirst}
 use Rattle.vq_order.specs.UnorderedLines.{op_in, IsNextOrNone}
-use Rattle.vq_order.proofs.SlowFacts.{at_place, place_within}
+use Rattle.vq_clocks.proofs.Cited.{at_place, place_within}
 use Rattle.vq_model.proofs.Positions.{place}
 use Rattle.vq_model.proofs.Plans.{op_within}
 use Rattle.vq_order.proofs.UnorderedLaws.{get_at, order_at, op_of_chain}

@@ -7,7 +7,7 @@ use Rattle.vq_model.specs.Plan.{Plan}
 use Rattle.vq_order.specs.declared.lines.Lines.{Lines}
 use Rattle.vq_order.specs.Checked.{KeepsPlanOr}
 use Rattle.vq_order.specs.LeastLines.{AreLeastOrNone}
-use Rattle.vq_order.specs.VectorClocks.{IsComplete}
+use Rattle.vq_clocks.specs.VectorClocks.{IsComplete}
 
 pub fault_is : (p : Plan) (f : OrderFault) → KeepsPlanOr p (Err f) → Checks p (Err f)
 fault_is p (Unreachable n) h = h

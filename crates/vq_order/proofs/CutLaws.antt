@@ -1,22 +1,18 @@
 -- Ranges with a byte in common have a cell in common.
 use Rattle.std.proofs.Common.{◌≡◌, ℕ, zero, suc, true, eqb, ltb, min, max, List, [], ◌∷◌, get_or, map, Option, Some, None, sym, ◌∙◌, inl, inr, subst, arith}
 use Rattle.std.specs.List.{slice_get, flat_map, Contains, dedup}
-use Rattle.std.specs.List.Sorted.{IsNonDecreasing, IsPermutation, IsSorted}
+use Rattle.std.specs.List.Sorted.{IsPermutation, IsSorted}
 use Rattle.std.specs.Option.{option_to_list}
 use Rattle.std.specs.Ordering.{nat_cmp}
 use Rattle.std.proofs.lemmas.Bool.{and_parts, eqb-true, ltb-true, cases_lt}
 use Rattle.std.proofs.lemmas.Grind.{get_or_default_zero}
-use Rattle.std.proofs.lemmas.List.Kept.{Contains-dedup_nat}
-use Rattle.std.proofs.lemmas.List.Sorted.{Contains-permutation}
-use Rattle.std.proofs.lemmas.Map.Keys.{IsStrictlyIncreasing-dedup, non_decreasing_from_sorted, sorted_from_strictly_increasing}
 use Rattle.vq_model.specs.Plan.{has}
 use Rattle.vq_model.proofs.Lists.{has-append_left, has-append_right, has_here, has_there}
 use Rattle.vq_order.specs.Accessed.{spans_share}
 use Rattle.vq_order.specs.CellRanges.{start_of, starts_of, AreCuts, IsCellOf}
 use Rattle.vq_order.specs.declared.races.accesses.MemoryAccess.{MemoryAccess}
 use Rattle.vq_order.specs.declared.races.accesses.Span.{Span}
-use Rattle.vq_order.proofs.SlowFacts.{place_within, at_place}
-use Rattle.vq_model.proofs.Positions.{place}
+use Rattle.vq_clocks.proofs.Cited.{sorted_once}
 
 started : (accesses : List MemoryAccess) (c : ℕ) (a : MemoryAccess) (x : ℕ) → slice_get accesses c ≡ Some a → has (starts_of a) x ≡ true → has (flat_map starts_of accesses) x ≡ true
 started [] c a x e h = absurd (let q : None ≡ Some a = e in cc)
@@ -25,22 +21,16 @@ started (b ∷ accesses) zero a x e h =
     has-append_left (starts_of b) (flat_map starts_of accesses) x (subst (λ z. has (starts_of z) x ≡ true) (sym q) h)
 started (b ∷ accesses) (suc c) a x e h = has-append_right (starts_of b) (flat_map starts_of accesses) x (started accesses c a x e h)
 
-has_contains : (xs : List ℕ) (x : ℕ) → has xs x ≡ true → Contains xs x
-has_contains xs x h =
-    let l = place_within xs x h in
-    (place xs x, l, get_or_default_zero xs (place xs x) x l ∙ at_place xs x l)
-
--- after a sort and a removal of doubles
 pub cuts_from : (accesses : List MemoryAccess) (xs ys zs : List ℕ) → xs ≡ flat_map starts_of accesses → IsPermutation xs ys → IsSorted nat_cmp ys → zs ≡ dedup eqb ys → AreCuts accesses zs
 cuts_from accesses xs ys zs e p s d =
     record {
-      rise = subst (λ (ws : List ℕ). IsNonDecreasing ws) (sym d) (non_decreasing_from_sorted (dedup eqb ys) (sorted_from_strictly_increasing (dedup eqb ys) (IsStrictlyIncreasing-dedup ys s)));
+      rise = (sorted_once xs ys zs p s d).0;
       written = λ c a g. listed (start_of a.written) (started accesses c a (start_of a.written) g (has_here (start_of a.written) (map start_of (option_to_list a.read))));
       read = λ c a r g o. listed (start_of r) (started accesses c a (start_of r) g (has_there (start_of a.written) (map start_of (option_to_list a.read)) (start_of r) (subst (λ (q : Option Span). has (map start_of (option_to_list q)) (start_of r) ≡ true) (sym o) (has_here (start_of r) []))));
     }
   where
     listed : (x : ℕ) → has (flat_map starts_of accesses) x ≡ true → Contains zs x
-    listed x h = subst (λ (ws : List ℕ). Contains ws x) (sym d) (Contains-dedup_nat ys x (Contains-permutation xs ys x p (has_contains xs x (subst (λ (ws : List ℕ). has ws x ≡ true) (sym e) h))))
+    listed x h = (sorted_once xs ys zs p s d).1 x (subst (λ (ws : List ℕ). has ws x ≡ true) (sym e) h)
 
 -- the cell where the later of two ranges begins
 pub record SharedCell (cuts : List ℕ) (a b : Span) : Type 0 where

@@ -1,7 +1,3 @@
-mod SlowFacts
-mod Covering
-mod ClockLaws
-mod RowLaws
 mod WindowLaws
 mod RaceLaws
 mod LineSearches
@@ -9,14 +5,12 @@ mod Firsts
 mod BusyLaws
 mod PendingLaws
 mod CheckLaws
-mod NeedChains
 mod UnorderedLaws
 mod BinaryChains
 mod UnorderedSteps
 mod UnreachedLaws
-mod CommandJobs
+mod BufferSizes
 mod AccessLaws
-mod Marking
 mod RacingPairs
 mod SweepLaws
 mod CutLaws

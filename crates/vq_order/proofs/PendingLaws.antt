@@ -1,24 +1,18 @@
 -- Waits of immediate batches whose signals may come late, found by the needs of each batch.
-use Rattle.std.proofs.Common.{◌≡◌, ◌↔◌, IsTrue, ℕ, ◌<◌, Bool, true, false, nat_le, length, Option, Some, None, refl, sym, ◌∙◌, inl, inr, subst, arith}
-use Rattle.std.specs.List.{slice_get}
-use Rattle.std.specs.Option.{option_map_or}
+use Rattle.std.proofs.Common.{◌≡◌, ◌↔◌, IsTrue, ℕ, ◌<◌, Bool, true, false, length, Some, None, sym, ◌∙◌, inl, inr, subst, arith}
 use Rattle.std.proofs.lemmas.Bool.{false≢true}
-use Rattle.vq_model.specs.declared.plan.Lane.{Lane}
-use Rattle.vq_model.specs.declared.plan.Lane.TheVariants.{Host as HostLane, Queue as QueueLane}
-use Rattle.vq_model.specs.declared.plan.PlanJob.{PlanJob}
-use Rattle.vq_model.specs.Checks.{IsLeast, IsNotPendingAt, NoLine, is_immediate_batch, is_immediate_lane}
+use Rattle.vq_model.specs.Checks.{IsLeast, IsNotPendingAt, NoLine, is_immediate_batch}
 use Rattle.vq_model.specs.LoweringFaults.{IsPlan}
-use Rattle.vq_model.specs.Plan.{Plan, chain, host_before, is_host_lane, is_host_step, needs, resolver, value}
+use Rattle.vq_model.specs.Plan.{Plan, host_before, needs}
 use Rattle.vq_model.specs.Sure.{IsSure}
 use Rattle.vq_model.proofs.Gets.{get_within}
-use Rattle.vq_model.proofs.Searches.{find_member}
-use Rattle.vq_model.proofs.Plans.{op_within, immediate_batch}
+use Rattle.vq_model.proofs.Plans.{immediate_batch}
 use Rattle.vq_order_laws.proofs.Cited.{sure_for_last}
-use Rattle.vq_plan_laws.proofs.Cited.{plan_hosts, plan_well_formed}
+use Rattle.vq_plan_laws.proofs.Cited.{plan_hosts}
 use Rattle.vq_order.specs.declared.lines.Lines.{Lines}
 use Rattle.vq_order.specs.LeastLines.{AreLeastOrNone, IsOfFirst}
 use Rattle.vq_order.specs.Pending.{IsAheadIn, IsSureBefore}
-use Rattle.vq_order.specs.VectorClocks.{IsComplete}
+use Rattle.vq_clocks.specs.VectorClocks.{IsComplete}
 use Rattle.vq_order.proofs.UnorderedLaws.{waiter_exists}
 
 module _ (p : Plan) (c : IsComplete p) (op j : ℕ) (exists : j < length p.jobs)
@@ -50,14 +44,6 @@ module _ (p : Plan) (c : IsComplete p) (op j : ℕ) (exists : j < length p.jobs)
 pub step_here : (p : Plan) → IsPlan p → (j h : ℕ) → j < length p.jobs → host_before p j ≡ Some h →
     h < length p.jobs
 step_here p i j h l e = let at = (plan_hosts p i).before_batch h j e in let m = at.0 in omega arith
-
--- what resolves a need exists
-pub resolver_here : (p : Plan) → IsPlan p → (t v op : ℕ) → resolver p t v ≡ Some op →
-    op < length p.ops
-resolver_here p i t v op e =
-    op_within p op t
-    ((plan_well_formed p i).of_chain op t
-    (find_member (λ x. nat_le v (value p x)) (chain p t) op e))
 
 -- The search over all jobs
 

@@ -1,17 +1,15 @@
 -- The first pair of racing commands in the order of numbers is the least by lines.
-use Rattle.std.proofs.Common.{◌≡◌, ℕ, ◌+◌, ◌<◌, ◌≤◌, min, max, Bool, true, false, ◌&&◌, ◌||◌, eqb, ltb, List, length, Option, Some, None, refl, sym, ap, ◌∙◌, ◌⊎◌, inl, inr, subst, arith}
+use Rattle.std.proofs.Common.{◌≡◌, ℕ, ◌<◌, ◌≤◌, Bool, true, false, ◌||◌, List, length, Option, Some, None, refl, sym, ap, ◌∙◌, ◌⊎◌, inl, inr, subst, arith}
 use Rattle.std.specs.Option.{option_map_or, option_to_list}
 use Rattle.std.specs.List.{list_any}
 use Rattle.std.proofs.lemmas.Bool.{cases_eq, cases_lt}
 use Rattle.vq_model.specs.declared.script.Command.{Command}
-use Rattle.vq_model.specs.declared.ranges.Range.{Range}
 use Rattle.vq_model.specs.Ranges.{share, conflict, written_range, read_range}
 use Rattle.vq_model.specs.Plan.{Plan, has, commands_of, command_at}
 use Rattle.vq_model.specs.WellFormed.{IsWellFormed}
 use Rattle.vq_model.specs.Races.{conflicts, IsRace}
 use Rattle.vq_model.specs.Checks.{IsRaceAt, IsLeastPair}
 use Rattle.vq_model.specs.Plan.{line_of_command}
-use Rattle.vq_model.proofs.Numbers.{eqb_comm}
 use Rattle.vq_order_laws.proofs.Cited.{share_comm}
 
 -- Conflicts go both ways

@@ -3,8 +3,9 @@ use Rattle.std.proofs.Common.{◌≡◌, ◌≢◌, ℕ, zero, suc, Bool, true, 
 use Rattle.std.specs.List.{slice_get}
 use Rattle.std.proofs.lemmas.List.{length-set}
 use Rattle.vq_model.specs.Plan.{Plan}
+use Rattle.vq_order.specs.declared.races.accesses.Visitor.{Visitor}
 use Rattle.vq_order.specs.declared.races.cells.Cell.{Cell}
-use Rattle.vq_order.specs.Swept.{Visit, Touched, KeepsCell, HasJobs, Touches, KeepsAll, HaveJobs, Extended, Sweeps}
+use Rattle.vq_order.specs.Swept.{Visit, Touched, KeepsCell, HasCommands, Touches, KeepsAll, HaveCommands, Extended, Sweeps}
 
 -- a cell after one of them has changed
 pub changed_cases : (cells : List Cell) (k : ℕ) (new : Cell) (i : ℕ) (cell : Cell) → slice_get (set cells k new) i ≡ Some cell → ((i ≡ k) × (cell ≡ new)) ⊎ ((k ≢ i) × (slice_get cells i ≡ Some cell))
@@ -27,40 +28,40 @@ module _ (p : Plan) where
         in_order = λ i j w h m. c.in_order i j w (old i true h) (old j w m);
       }
     where
-      old : (j : ℕ) (w : Bool) → Touched (t ∷ log) k j w → Touched log k j w
+      old : (j : Visitor) (w : Bool) → Touched (t ∷ log) k j w → Touched log k j w
       old j w (inl e) = absurd (n e.0)
       old j w (inr m) = m
 
   -- one cell is touched
-  pub sweeps_one : (cells : List Cell) (k j : ℕ) (w : Bool) (old new : Cell) → slice_get cells k ≡ Some old → HaveJobs p cells → Touches p j w old new → Sweeps p cells (set cells k new) (λ i m v. (i ≡ k) × (m ≡ j) × (v ≡ w))
+  pub sweeps_one : (cells : List Cell) (k : ℕ) (j : Visitor) (w : Bool) (old new : Cell) → slice_get cells k ≡ Some old → HaveCommands p cells → Touches p j w old new → Sweeps p cells (set cells k new) (λ i m v. (i ≡ k) × (m ≡ j) × (v ≡ w))
   sweeps_one cells k j w old new e h t =
       record {
         count = length-set cells k new;
-        jobs = λ i cell g. elim (changed_cases cells k new i cell g) [
-          | inl q ↦ subst (HasJobs p) (sym q.1) t.jobs
+        kept = λ i cell g. elim (changed_cases cells k new i cell g) [
+          | inl q ↦ subst (HasCommands p) (sym q.1) t.kept
           | inr q ↦ h i cell q.1
         ];
         extends = λ log keeps. record {
-          longer = record { cell = k; job = j; writes = w } ∷ log;
+          longer = record { cell = k; by = j; writes = w } ∷ log;
           keeps = λ i cell g. elim (changed_cases cells k new i cell g) [
-            | inl q ↦ subst (λ (z : ℕ × Cell). KeepsCell p (record { cell = k; job = j; writes = w } ∷ log) z.0 z.1) (λ n. (sym q.0 n, sym q.1 n)) (t.keeps log k (keeps k old e))
-            | inr q ↦ elsewhere log (record { cell = k; job = j; writes = w }) i cell q.0 (keeps i cell q.1)
+            | inl q ↦ subst (λ (z : ℕ × Cell). KeepsCell p (record { cell = k; by = j; writes = w } ∷ log) z.0 z.1) (λ n. (sym q.0 n, sym q.1 n)) (t.keeps log k (keeps k old e))
+            | inr q ↦ elsewhere log (record { cell = k; by = j; writes = w }) i cell q.0 (keeps i cell q.1)
           ];
           before = λ i m v h. inr h;
           own = λ i m v h. inl (sym h.0, sym h.1, sym h.2);
         };
       }
 
-  pub sweeps_none : (cells : List Cell) (Own : ℕ → ℕ → Bool → Type 0) → HaveJobs p cells → ((k j : ℕ) (w : Bool) → ¬ Own k j w) → Sweeps p cells cells Own
+  pub sweeps_none : (cells : List Cell) (Own : ℕ → Visitor → Bool → Type 0) → HaveCommands p cells → ((k : ℕ) (j : Visitor) (w : Bool) → ¬ Own k j w) → Sweeps p cells cells Own
   sweeps_none cells Own h n =
-      record { count = refl; jobs = h; extends = λ log keeps. record { longer = log; keeps = keeps; before = λ k j w t. t; own = λ k j w t. absurd (n k j w t) } }
+      record { count = refl; kept = h; extends = λ log keeps. record { longer = log; keeps = keeps; before = λ k j w t. t; own = λ k j w t. absurd (n k j w t) } }
 
   -- one after another; of the touches of both these are some
-  pub sweeps_then : (a b c : List Cell) (First Second Own : ℕ → ℕ → Bool → Type 0) → Sweeps p a b First → Sweeps p b c Second → ((k j : ℕ) (w : Bool) → Own k j w → First k j w ⊎ Second k j w) → Sweeps p a c Own
+  pub sweeps_then : (a b c : List Cell) (First Second Own : ℕ → Visitor → Bool → Type 0) → Sweeps p a b First → Sweeps p b c Second → ((k : ℕ) (j : Visitor) (w : Bool) → Own k j w → First k j w ⊎ Second k j w) → Sweeps p a c Own
   sweeps_then a b c First Second Own f s parts =
       record {
         count = s.count ∙ f.count;
-        jobs = s.jobs;
+        kept = s.kept;
         extends = λ log keeps. both log (f.extends log keeps);
       }
     where
@@ -74,11 +75,11 @@ module _ (p : Plan) where
             own = λ k j w t. elim (parts k j w t) [ inl m ↦ y.before k j w (x.own k j w m) | inr m ↦ y.own k j w m ];
           }
 
-  pub sweeps_own : (a b : List Cell) (More Own : ℕ → ℕ → Bool → Type 0) → Sweeps p a b More → ((k j : ℕ) (w : Bool) → Own k j w → More k j w) → Sweeps p a b Own
+  pub sweeps_own : (a b : List Cell) (More Own : ℕ → Visitor → Bool → Type 0) → Sweeps p a b More → ((k : ℕ) (j : Visitor) (w : Bool) → Own k j w → More k j w) → Sweeps p a b Own
   sweeps_own a b More Own s f =
       record {
         count = s.count;
-        jobs = s.jobs;
+        kept = s.kept;
         extends = λ log keeps. (let x = s.extends log keeps in record { longer = x.longer; keeps = x.keeps; before = x.before; own = λ k j w t. x.own k j w (f k j w t) });
       }
 

@@ -10,11 +10,10 @@ use Rattle.vq_model.specs.Lanes.{KeepsSemaphores, HasLinesInOrder}
 use Rattle.vq_model.specs.Checks.{IsUnordered, AreNeighbours, is_timeline_chain, too_low, equal, unsure, unsure_back, unawaited}
 use Rattle.vq_model.proofs.Gets.{slice_get_past}
 use Rattle.vq_model.proofs.Gets.{get_within}
-use Rattle.vq_model.proofs.Options.{some_of}
 use Rattle.vq_order.specs.LeastLines.{IsOfFirst}
 use Rattle.vq_order.specs.UnorderedLines.{IsTooLow, IsUnsureFor, AreUnordered, op_in, IsUnorderedAt, IsUnorderedIn, IsOvertakenIn}
 use Rattle.vq_order.proofs.LineSearches.{Either}
-use Rattle.vq_order.proofs.SlowFacts.{at_place, place_within}
+use Rattle.vq_clocks.proofs.Cited.{at_place, place_within}
 use Rattle.vq_model.proofs.Positions.{place}
 use Rattle.vq_model.proofs.Plans.{op_within}
 use Rattle.vq_spec.proofs.Cited.{has_at}

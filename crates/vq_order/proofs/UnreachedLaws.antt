@@ -21,7 +21,7 @@ use Rattle.vq_spec.proofs.Cited.{same_any, own_needs, chains_exist, has_at}
 use Rattle.vq_order.specs.declared.lines.Lines.{Lines}
 use Rattle.vq_order.specs.LeastLines.{AreLeastOrNone, IsOfFirst}
 use Rattle.vq_order.specs.Unreached.{IsUnreachedAt, IsUnreachedIn}
-use Rattle.vq_order.proofs.SlowFacts.{at_place, place_within}
+use Rattle.vq_clocks.proofs.Cited.{at_place, place_within}
 use Rattle.vq_model.proofs.Positions.{place}
 
 to_unreachable : (p : Plan) (a b : ℕ) → IsOfFirst (IsUnreachedAt p) (length (left_over p)) a b → IsUnreachableAt p a × (a ≡ b)

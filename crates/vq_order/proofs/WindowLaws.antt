@@ -14,7 +14,7 @@ use Rattle.vq_model.specs.Windows.{IsSurelyReached, at_first, sure, IsPossiblyRe
 use Rattle.vq_model.proofs.Lists.{has-append_left, has-append_right, has_here, has_there}
 use Rattle.vq_model.proofs.Mapped.{has_mapped}
 use Rattle.vq_order.specs.Counts.{AreFirst, MayBeMade, value_after}
-use Rattle.vq_order.proofs.SlowFacts.{at_place, place_within}
+use Rattle.vq_clocks.proofs.Cited.{at_place, place_within}
 use Rattle.vq_model.proofs.Positions.{place}
 use Rattle.vq_spec.proofs.Cited.{has_at}
 

@@ -1,4 +1,4 @@
-pub mod VectorClocks
+pub mod CommandPairs
 pub mod Counts
 pub mod LeastLines
 pub mod UnorderedLines

@@ -6,8 +6,8 @@ ghost use Rattle.vq_model.specs.SameScript.{IsRead};
 ghost use Rattle.vq_order.specs.Busy.{AreLastNamings, IsBusyOrNone, IsInUse, named_by, reset_by};
 ghost use Rattle.vq_order.specs.Unreached.{IsLeastOrNone};
 
-use crate::clocked::Clocked;
 use std::alloc::{AllocError, Global};
+use vq_clocks::Clocked;
 use vq_model::script::{HostStep, Job, Script};
 
 /// The fence that a batch names.

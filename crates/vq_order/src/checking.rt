@@ -3,8 +3,6 @@ ghost use Rattle.vq_model.specs.Checks.{Checks};
 ghost use Rattle.vq_order.specs.Checked.{KeepsPlanOr};
 
 use crate::busy::first_busy;
-use crate::clocked::Clocked;
-use crate::complete_run::CompleteRun;
 use crate::lines::Lines;
 use crate::ordered::Ordered;
 use crate::pending::first_not_pending;
@@ -12,6 +10,7 @@ use crate::races::first_race;
 use crate::unordered::first_unordered;
 use crate::unreachable::least_unreached;
 use std::alloc::Global;
+use vq_clocks::Clocked;
 use vq_model::plan::OrderFault;
 use vq_spec::{Plan, slow_order};
 
@@ -23,8 +22,7 @@ fn clocked(alloc: Global, plan: Plan) -> Result<Clocked, OrderFault>
     if let Some(line) = least_unreached(&plan, &run) {
         return Err(OrderFault::Unreachable { line });
     }
-    let run = CompleteRun::new(alloc, plan, run)?;
-    let order = Clocked::new(alloc, run)?;
+    let order = Clocked::new(alloc, plan, run.order)?;
     Ok(order)
 }
 

@@ -3,9 +3,6 @@
 
 mod busy;
 mod checking;
-mod clocked;
-mod clocks;
-mod complete_run;
 mod lines;
 mod ordered;
 mod pending;

@@ -1,20 +1,21 @@
 //! Plans that were checked.
 //!
 //! Source: this project's own, where an item names no other.
-ghost use Rattle.std.specs.Prelude.{◌≡◌, ◌<◌, ◌≤◌, ◌↔◌, IsTrue, length};
+ghost use Rattle.std.specs.Prelude.{◌≡◌, ◌<◌, ◌≤◌, ◌↔◌, ℕ, IsTrue, length, true};
 ghost use Rattle.std.specs.List.{slice_index_or};
 ghost use Rattle.vq_model.specs.Checks.{IsLawful};
-ghost use Rattle.vq_model.specs.HappensBefore.{HappensBefore};
+ghost use Rattle.vq_model.specs.HappensBefore.{HappensBefore, HappensBeforeCommand};
 ghost use Rattle.vq_model.specs.LoweringFaults.{IsPlan};
-ghost use Rattle.vq_model.specs.Plan.{chain};
+ghost use Rattle.vq_model.specs.Plan.{chain, commands_of, has};
 ghost use Rattle.vq_model.specs.SlowRun.{slow_order};
 ghost use Rattle.vq_model.specs.Sure.{IsSure};
 ghost use Rattle.vq_model.specs.Windows.{IsGreatest, IsSurelyReached, IsPossiblyReached};
+ghost use Rattle.vq_order.specs.CommandPairs.{AreOfTwoJobs};
 ghost use Rattle.vq_order.specs.Counts.{value_after, MayBeMade};
 
-use crate::clocked::Clocked;
 use crate::searching::count_first;
 use std::marker::Model;
+use vq_clocks::Clocked;
 use vq_spec::Plan;
 
 /// A lawful plan, with the order of its jobs and of its signals.
@@ -75,6 +76,20 @@ impl Ordered {
         self.order.before(i, j)
     }
 
+    /// Whether a command happens before a command of another job. Waits that hold back only later
+    /// commands of that job don't count.
+    ///
+    /// Source: Vulkan 1.3, "Execution and Memory Dependencies".
+    pub fn command_before(&self, a: u32, b: u32) -> bool
+        requires { AreOfTwoJobs self.now a b }
+        ensures { (i j : ℕ) → has (commands_of self.now i) a ≡ true →
+            has (commands_of self.now j) b ≡ true →
+            IsTrue result ↔ HappensBeforeCommand self.now i j b }
+    {
+        self.order
+            .before_command(self.order.owner(a), self.order.owner(b), b)
+    }
+
     /// Whether a signal operation is sure to be made before a job ends.
     ///
     /// Source: Vulkan 1.3, "Semaphore Waiting" and "Queue Submission".
@@ -86,7 +101,8 @@ impl Ordered {
         self.order.is_sure(op, j)
     }
 
-    /// What a chain has surely reached when a job starts: the greatest such number.
+    /// What a chain has surely reached when a host step starts, or by the end of a batch, some of whose waits may hold
+    /// back a part of it only: the greatest such number.
     ///
     /// Source: Vulkan 1.3, "Host Operations on Semaphores".
     pub fn floor(&self, j: u32, t: u32) -> u64

@@ -5,8 +5,8 @@ ghost use Rattle.vq_order.specs.LeastLines.{AreLeastOrNone};
 ghost use Rattle.vq_order.specs.Pending.{IsAhead, IsAheadIn, IsMadeBefore, IsSureBefore, MayComeLate};
 ghost use Rattle.vq_order.specs.Unreached.{IsLeastOrNone};
 
-use crate::clocked::Clocked;
 use crate::lines::{Lines, lower};
+use vq_clocks::Clocked;
 use vq_model::plan::{Lane, Need};
 
 /// Whether a job is a host step or a batch of an immediate queue, written before another.

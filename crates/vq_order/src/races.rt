@@ -1,74 +1,74 @@
 //! Races: commands of a plan that conflict, neither before the other.
 ghost use Rattle.std.specs.Prelude.{◌≡◌, ◌<◌, ◌↔◌, Some, length, IfOk, IsTrue};
 ghost use Rattle.vq_model.specs.Checks.{IsRaceAt};
-ghost use Rattle.vq_order.specs.Accessed.{access_in, AreAccesses, AreAllInOrder, HasNoRaceBelow, IsFirstRacing};
+ghost use Rattle.vq_order.specs.Accessed.{AreAccesses, AreAllInOrder, HasNoRaceBelow, IsFirstRacing};
 ghost use Rattle.vq_order.specs.LeastLines.{AreLeastOrNone};
-ghost use Rattle.vq_order.specs.Swept.{AreInOrder};
+ghost use Rattle.vq_order.specs.Swept.{AreInOrder, IsOfJob};
 
 mod accesses;
 mod cells;
 mod cuts;
 mod sweep;
 
-use crate::clocked::Clocked;
 use crate::lines::Lines;
-use crate::races::accesses::{MemoryAccess, all_accesses, conflict};
+use crate::races::accesses::{MemoryAccess, Visitor, all_accesses, conflict};
 use crate::races::cells::{Halt, is_at_or_before};
 use crate::races::sweep::{go_through, overlap_much};
 use std::alloc::{AllocError, Global};
+use vq_clocks::Clocked;
 
-/// Whether one of two jobs is the other one, or happens before it.
-fn are_in_order(order: &Clocked, i: u32, j: u32) -> bool
-    requires first { i < length order.now.jobs }
-    requires second { j < length order.now.jobs }
-    ensures { IsTrue result ↔ AreInOrder order.now i j }
+/// Whether two commands are of one job, or one of them happens before the other.
+fn are_in_order(order: &Clocked, a: Visitor, b: Visitor) -> bool
+    requires first { IsOfJob order.now a }
+    requires second { IsOfJob order.now b }
+    ensures { IsTrue result ↔ AreInOrder order.now a b }
 {
-    is_at_or_before(order, i, j) || is_at_or_before(order, j, i)
+    is_at_or_before(order, a, b) || is_at_or_before(order, b, a)
 }
 
-/// The first command with a lower number that races with a command. As commands of one job stand
-/// together, it is enough to remember the last job that was found to be in order with this one's.
+/// The first command with a lower number that races with a command. Commands of one job stand
+/// together, and what happens before one of them happens before its later ones. So it is enough to
+/// remember the job of the last command that was found to be in order with this one.
 fn first_racing(order: &Clocked, accesses: &[MemoryAccess], d: u32) -> Option<u32>
     requires accesses { AreAccesses order.now accesses.now }
     requires exists { d < length accesses.now }
     ensures { IsFirstRacing order.now accesses.now d result }
 {
     let access = &accesses[d as usize];
-    let mut in_order = access.job;
+    let mut in_order = access.by.job;
     for c in 0..d {
         let other = &accesses[c as usize];
-        if other.job == in_order {
+        if other.by.job == in_order {
             continue;
         }
         if !conflict(other, access) {
             continue;
         }
-        if !are_in_order(order, other.job, access.job) {
+        if !are_in_order(order, other.by, access.by) {
             return Some(c);
         }
-        in_order = other.job;
+        in_order = other.by.job;
     }
     None
 }
 
-/// Whether the jobs of all commands with a lower number are in order with that of a command.
+/// Whether all commands with a lower number are in order with a command.
 fn are_all_in_order(order: &Clocked, accesses: &[MemoryAccess], d: u32) -> bool
     requires accesses { AreAccesses order.now accesses.now }
     requires exists { d < length accesses.now }
-    ensures { IsTrue result → AreAllInOrder order.now accesses.now d
-        (access_in accesses.now d).job }
+    ensures { IsTrue result → AreAllInOrder order.now accesses.now d d }
 {
-    let job = accesses[d as usize].job;
-    let mut in_order = job;
+    let by = accesses[d as usize].by;
+    let mut in_order = by.job;
     for c in 0..d {
-        let other = accesses[c as usize].job;
-        if other == in_order {
+        let other = accesses[c as usize].by;
+        if other.job == in_order {
             continue;
         }
-        if !are_in_order(order, other, job) {
+        if !are_in_order(order, other, by) {
             return false;
         }
-        in_order = other;
+        in_order = other.job;
     }
     true
 }
@@ -84,8 +84,8 @@ fn is_remembered(remembered: Option<u32>, job: u32) -> bool
 }
 
 /// The least pair of lines of commands that race, or none, where the first commands don't. A job is
-/// remembered that is in order with those of all commands before it: its further commands race with
-/// none.
+/// remembered of which a command is in order with all before it: so are its further commands, which
+/// come later in it, and they race with none.
 fn least_race(order: &Clocked, accesses: &[MemoryAccess], clean: u32) -> Option<Lines>
     requires accesses { AreAccesses order.now accesses.now }
     requires all { length accesses.now ≡ length order.now.commands }
@@ -95,7 +95,7 @@ fn least_race(order: &Clocked, accesses: &[MemoryAccess], clean: u32) -> Option<
     let plan = order.plan();
     let mut quiet = None;
     for d in clean..plan.commands() {
-        let job = accesses[d as usize].job;
+        let job = accesses[d as usize].by.job;
         if is_remembered(quiet, job) {
             continue;
         }
@@ -155,7 +155,7 @@ fn count_clean(alloc: Global, order: &Clocked, accesses: &[MemoryAccess]) -> Res
 pub(crate) fn first_race(alloc: Global, order: &Clocked) -> Result<Option<Lines>, AllocError>
     ensures { IfOk result (AreLeastOrNone (IsRaceAt order.now)) }
 {
-    let accesses = all_accesses(alloc, order.plan())?;
+    let accesses = all_accesses(alloc, order)?;
     let accesses = accesses.as_slice();
     if overlap_much(alloc, accesses)? {
         return Ok(least_race(order, accesses, 0));

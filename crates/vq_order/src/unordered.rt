@@ -12,11 +12,11 @@ ghost use Rattle.vq_order.specs.LeastLines.{AreLeastOrNone};
 ghost use Rattle.vq_order.specs.UnorderedLines.{IsTooLow, IsUnsureFor, AreUnordered, IsUnorderedNext, IsUnorderedAt};
 ghost use Rattle.vq_order.specs.UnorderedLines.{IsUnorderedIn};
 ghost use Rattle.vq_order.specs.UnorderedLines.{IsOvertakenBy, IsNextOrNone, IsOvertaken, IsOvertakenIn};
-ghost use Rattle.vq_order.specs.VectorClocks.{IsComplete};
+ghost use Rattle.vq_clocks.specs.VectorClocks.{IsComplete};
 
-use crate::clocked::Clocked;
 use crate::lines::{Lines, lower};
 use crate::searching::count_first;
+use vq_clocks::Clocked;
 use vq_model::plan::Need;
 use vq_model::script::SemaphoreKind;
 

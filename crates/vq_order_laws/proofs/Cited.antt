@@ -9,7 +9,7 @@ pub use Rattle.vq_order_laws.proofs.JobLines.{lines_across}
 pub use Rattle.vq_order_laws.proofs.LawfulOrder.{plan_has_sure_order}
 pub use Rattle.vq_order_laws.proofs.LawfulPlans.{lawful_without_fault}
 pub use Rattle.vq_order_laws.proofs.NeedsStay.{are_reached_still, reached_still}
-pub use Rattle.vq_order_laws.proofs.PlacesOrdered.{before_end, command_order, job_order}
+pub use Rattle.vq_order_laws.proofs.PlacesOrdered.{before_end, before_later, command_order, job_order}
 pub use Rattle.vq_order_laws.proofs.ResetChains.{counted_rises}
 pub use Rattle.vq_order_laws.proofs.RowLaws.{op_chain, share_comm}
 pub use Rattle.vq_order_laws.proofs.SlowOrder.{Earlier, ReadyEach, before_earlier, is_of_job, slow_adds, slow_distinct, slow_has}

@@ -1,7 +1,8 @@
--- What comes before a place of a job comes before its end. Where no wait is held all places are alike.
-use Rattle.std.proofs.Common.{◌≡◌, ℕ, Bool, true, false, List, [], ◌∷◌, filter, Option, Some, None, refl, sym, ap, ◌∙◌, inl, inr, subst, ltb, leb, eqb}
+-- What comes before a place of a job comes before its later places and its end. Where no wait is held all places are
+-- alike.
+use Rattle.std.proofs.Common.{◌≡◌, ℕ, ◌≤◌, Bool, true, false, List, [], ◌∷◌, filter, Option, Some, None, refl, sym, ap, ◌∙◌, inl, inr, subst, ltb, leb, eqb, arith}
 use Rattle.std.specs.List.{filter_map, cons_option, position_or_len}
-use Rattle.std.proofs.lemmas.Bool.{cond-true, cond-false, false≢true}
+use Rattle.std.proofs.lemmas.Bool.{cond-true, cond-false, false≢true, le-leb, leb-true}
 use Rattle.vq_model.specs.declared.plan.Need.{Need}
 use Rattle.vq_model.specs.Plan.{has, Plan, initial, resolver, needs, waits_for_any, job_of, commands_of}
 use Rattle.vq_model.proofs.Lists.{has_here, has_there, has_cases, has-append_cases, has-append_left, has-append_right}
@@ -74,6 +75,60 @@ hop_later p i j k h =
 pub before_end : (p : Plan) (i j : ℕ) (k : Stage) → HappensBeforeAt p i j k → HappensBefore p i j
 before_end p i j k (one h) = one (hop_later p i j k h)
 before_end p i j k (more {h = q} b h) = more b (hop_later p q j k h)
+
+-- What reaches a place reaches each later one.
+
+kept_twice : (k m : ℕ) → k ≤ m → (ns : List Need) → filter (λ n. leb n.from k) (filter (λ n. leb n.from m) ns) ≡ filter (λ n. leb n.from k) ns
+kept_twice k m l [] = refl
+kept_twice k m l (n ∷ ns) = by_first (leb n.from k) refl (kept_twice k m l ns)
+  where
+    Low : List Need → List Need
+    Low xs = filter (λ x. leb x.from k) xs
+
+    High : List Need → List Need
+    High xs = filter (λ x. leb x.from m) xs
+
+    by_first : (b : Bool) → leb n.from k ≡ b → Low (High ns) ≡ Low ns → Low (High (n ∷ ns)) ≡ Low (n ∷ ns)
+    by_first true e r =
+        let low = leb-true n.from k e in
+        ap Low (cond-true (leb n.from m) (n ∷ High ns) (High ns) (le-leb n.from m (omega arith)))
+        ∙ (cond-true (leb n.from k) (n ∷ Low (High ns)) (Low (High ns)) e
+        ∙ (ap (λ xs. n ∷ xs) r ∙ sym (cond-true (leb n.from k) (n ∷ Low ns) (Low ns) e)))
+    by_first false e r = by_second (leb n.from m) refl
+      where
+        by_second : (b : Bool) → leb n.from m ≡ b → Low (High (n ∷ ns)) ≡ Low (n ∷ ns)
+        by_second true f =
+            ap Low (cond-true (leb n.from m) (n ∷ High ns) (High ns) f)
+            ∙ (cond-false (leb n.from k) (n ∷ Low (High ns)) (Low (High ns)) e ∙ (r ∙ sym (cond-false (leb n.from k) (n ∷ Low ns) (Low ns) e)))
+        by_second false f =
+            ap Low (cond-false (leb n.from m) (n ∷ High ns) (High ns) f) ∙ (r ∙ sym (cond-false (leb n.from k) (n ∷ Low ns) (Low ns) e))
+
+awaited_next : (p : Plan) (j k m : ℕ) → k ≤ m → (r : ℕ) → has (awaited_at p j (At k)) r ≡ true → has (awaited_at p j (At m)) r ≡ true
+awaited_next p j k m l r h = by_test (waits_for_any p j) refl
+  where
+    by_test : (b : Bool) → waits_for_any p j ≡ b → has (awaited_at p j (At m)) r ≡ true
+    by_test true e = absurd (false≢true (ap (λ zs. has zs r) (sym (cond-true (waits_for_any p j) [] (found p (needs_at p j (At k))) e)) ∙ h))
+    by_test false e =
+        ap (λ zs. has zs r) (cond-false (waits_for_any p j) [] (found p (needs_at p j (At m))) e)
+        ∙ has_later (λ n. resolver p n.chain n.value) (λ n. ltb (initial p n.chain) n.value) (λ n. leb n.from k) (needs_at p j (At m)) r
+        (ap (λ ns. has (found p ns) r) (kept_twice k m l (needs p j)) ∙ (ap (λ zs. has zs r) (sym (cond-false (waits_for_any p j) [] (found p (needs_at p j (At k))) e)) ∙ h))
+
+hop_next : (p : Plan) (i j k m : ℕ) → k ≤ m → IsHop p i j (At k) → IsHop p i j (At m)
+hop_next p i j k m l h =
+    record {
+      edge = elim (has-append_cases (must_finish p j) (filter_map (job_of p) (awaited_at p j (At k))) i h.edge) [
+        | inl f ↦ has-append_left (must_finish p j) (filter_map (job_of p) (awaited_at p j (At m))) i f
+        | inr f ↦
+            let r = mapped (job_of p) (awaited_at p j (At k)) i f in
+            has-append_right (must_finish p j) (filter_map (job_of p) (awaited_at p j (At m))) i (has_mapped (job_of p) (awaited_at p j (At m)) r.0 i (awaited_next p j k m l r.0 r.1) r.2)
+      ];
+      earlier = h.earlier;
+    }
+
+-- a job before a place of another is before each later place of it
+pub before_later : (p : Plan) (i j k m : ℕ) → k ≤ m → HappensBeforeAt p i j (At k) → HappensBeforeAt p i j (At m)
+before_later p i j k m l (one h) = one (hop_next p i j k m l h)
+before_later p i j k m l (more {h = q} b h) = more b (hop_next p q j k m l h)
 
 -- an operation that is sure for a place is sure for the job
 pub sure_end : (p : Plan) (e j : ℕ) (k : Stage) → IsSureAt p e j k → IsSure p e j

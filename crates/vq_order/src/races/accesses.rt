@@ -1,14 +1,14 @@
 //! The bytes that commands read and write.
-ghost use Rattle.std.specs.Prelude.{◌≡◌, ◌<◌, ◌+◌, ◌^◌, ℕ, true, false, length, IfOk, option_map};
+ghost use Rattle.std.specs.Prelude.{◌≡◌, ◌<◌, ◌+◌, ◌^◌, true, false, length, IfOk, option_map};
 ghost use Rattle.std.specs.List.{slice_index_or};
 ghost use Rattle.std.specs.Option.{option_map_or};
 ghost use Rattle.vq_model.specs.LoweringFaults.{IsPlan};
 ghost use Rattle.vq_model.specs.Plan.{commands_of, has};
 ghost use Rattle.vq_model.specs.Ranges.{Fits, read_range, written_range};
-ghost use Rattle.vq_order.specs.Accessed.{accesses_conflict, span_of, spans_share, AreAccesses, HasOwners, IsAccess};
-ghost use Rattle.vq_order.specs.VectorClocks.{in_row};
+ghost use Rattle.vq_order.specs.Accessed.{accesses_conflict, span_of, spans_share, AreAccesses, IsAccess};
 
 use std::alloc::{AllocError, Global};
+use vq_clocks::Clocked;
 use vq_model::ranges::Range;
 use vq_model::script::Command;
 use vq_spec::Plan;
@@ -21,10 +21,17 @@ pub(crate) struct Span {
     pub(crate) end: u32,
 }
 
-/// What a command of a job writes, and what it reads.
+/// A command with its job.
+#[derive(Clone, Copy)]
+pub(crate) struct Visitor {
+    pub(crate) job: u32,
+    pub(crate) command: u32,
+}
+
+/// What a command writes, and what it reads.
 #[derive(Clone, Copy)]
 pub(crate) struct MemoryAccess {
-    pub(crate) job: u32,
+    pub(crate) by: Visitor,
     pub(crate) written: Span,
     pub(crate) read: Option<Span>,
 }
@@ -100,48 +107,21 @@ fn access_of(plan: &Plan, c: u32, job: u32) -> MemoryAccess
 {
     let command = &plan.command(c).command;
     MemoryAccess {
-        job,
+        by: Visitor { job, command: c },
         written: written_span(plan, command),
         read: read_span(plan, command),
     }
 }
 
-/// Writes down a job as that of its commands.
-fn claim(owners: &mut [u32], plan: &Plan, j: u32)
-    requires plan { IsPlan plan.now }
-    requires exists { j < length plan.now.jobs }
-    requires count { length owners.old ≡ length plan.now.commands }
-    ensures own { (c : ℕ) → has (commands_of plan.now j) c ≡ true → in_row owners.new c ≡ j }
-    ensures others { (c : ℕ) → has (commands_of plan.now j) c ≡ false →
-        in_row owners.new c ≡ in_row owners.old c }
-{
-    for c in plan.job(j).commands.as_slice() {
-        owners[*c as usize] = j;
-    }
-}
-
-/// The job of each command.
-fn owners(alloc: Global, plan: &Plan) -> Result<Vec<u32>, AllocError>
-    requires { IsPlan plan.now }
-    ensures { IfOk result (λ owners. HasOwners plan.now owners.items) }
-{
-    let mut owners = vec![in alloc; 0; plan.commands() as usize]?;
-    for j in 0..plan.jobs() {
-        claim(&mut owners, plan, j);
-    }
-    Ok(owners)
-}
-
 /// What all commands read and write.
-pub(crate) fn all_accesses(alloc: Global, plan: &Plan) -> Result<Vec<MemoryAccess>, AllocError>
-    requires { IsPlan plan.now }
-    ensures accesses { IfOk result (λ accesses. AreAccesses plan.now accesses.items) }
-    ensures all { IfOk result (λ accesses. length accesses.items ≡ length plan.now.commands) }
+pub(crate) fn all_accesses(alloc: Global, order: &Clocked) -> Result<Vec<MemoryAccess>, AllocError>
+    ensures accesses { IfOk result (λ accesses. AreAccesses order.now accesses.items) }
+    ensures all { IfOk result (λ accesses. length accesses.items ≡ length order.now.commands) }
 {
-    let owners = owners(alloc, plan)?;
-    let mut accesses = Vec::with_capacity(alloc, owners.len())?;
+    let plan = order.plan();
+    let mut accesses = Vec::with_capacity(alloc, plan.commands() as usize)?;
     for c in 0..plan.commands() {
-        accesses.push(access_of(plan, c, owners[c as usize]))?;
+        accesses.push(access_of(plan, c, order.owner(c)))?;
     }
     Ok(accesses)
 }

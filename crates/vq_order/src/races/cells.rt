@@ -1,12 +1,11 @@
 //! Cells: bytes that each command covers whole or not at all.
-ghost use Rattle.std.specs.Prelude.{◌≡◌, ◌<◌, ◌∷◌, ◌↔◌, ℕ, List, true, false, IsTrue, length};
-ghost use Rattle.std.specs.Prelude.{Some, None, [], IfOk};
-ghost use Rattle.std.specs.Prelude.{OnOk};
-ghost use Rattle.vq_model.specs.Plan.{has};
-ghost use Rattle.vq_order.specs.Swept.{is_write, AtOrBefore, MayTouch, Touches, IsAfterSome, IsAfterAll, KeepsLater};
+ghost use Rattle.std.specs.Prelude.{◌≡◌, ◌↔◌, true, false, IsTrue, None, [], IfOk, OnOk};
+ghost use Rattle.vq_order.specs.Swept.{is_write, AtOrBefore, IsEarlier, IsOfJob, MayTouch, Touches};
+ghost use Rattle.vq_order.specs.Swept.{IsAfterSome, IsAfterAll, KeepsLater};
 
-use crate::clocked::Clocked;
+use crate::races::accesses::Visitor;
 use std::alloc::{AllocError, Global};
+use vq_clocks::Clocked;
 
 /// What a command does with a cell.
 #[derive(Clone, Copy)]
@@ -30,21 +29,28 @@ impl From<AllocError> for Halt {
     }
 }
 
-/// The last job that wrote a cell, and jobs that have read it since: one of them comes after, or
-/// is, each job that has.
+/// The last command that wrote a cell, and commands that have read it since: one of them comes
+/// after, or is, each command that has.
 #[derive(Drop)]
 pub(crate) struct Cell {
-    pub(crate) writer: Option<u32>,
-    pub(crate) readers: Vec<u32>,
+    pub(crate) writer: Option<Visitor>,
+    pub(crate) readers: Vec<Visitor>,
 }
 
-/// Whether one job is another one, or happens before it.
-pub(crate) fn is_at_or_before(order: &Clocked, i: u32, j: u32) -> bool
-    requires first { i < length order.now.jobs }
-    requires second { j < length order.now.jobs }
-    ensures { IsTrue result ↔ AtOrBefore order.now i j }
+/// Whether a command is another one or an earlier one of its job, or happens before it.
+pub(crate) fn is_at_or_before(order: &Clocked, a: Visitor, b: Visitor) -> bool
+    requires first { IsOfJob order.now a }
+    requires second { IsOfJob order.now b }
+    ensures { IsTrue result ↔ AtOrBefore order.now a b }
 {
-    i == j || order.before(i, j)
+    is_earlier(a, b) || order.before_command(a.job, b.job, b.command)
+}
+
+/// Whether a command is another one, or an earlier one of its job.
+fn is_earlier(a: Visitor, b: Visitor) -> bool
+    ensures { IsTrue result ↔ IsEarlier a b }
+{
+    a.job == b.job && a.command <= b.command
 }
 
 impl Cell {
@@ -65,64 +71,64 @@ impl Cell {
         &mut self,
         alloc: Global,
         order: &Clocked,
-        job: u32,
+        by: Visitor,
         touch: Touch,
     ) -> Result<(), Halt>
-        requires { MayTouch order.now self.old job }
-        ensures { OnOk result (Touches order.now job (is_write touch) self.old self.new) }
+        requires { MayTouch order.now self.old by }
+        ensures { OnOk result (Touches order.now by (is_write touch) self.old self.new) }
     {
         match touch {
-            Touch::Reads => self.read(alloc, order, job),
-            Touch::Writes => self.write(order, job),
+            Touch::Reads => self.read(alloc, order, by),
+            Touch::Writes => self.write(order, by),
         }
     }
 
     /// Reads a cell.
-    fn read(&mut self, alloc: Global, order: &Clocked, job: u32) -> Result<(), Halt>
-        requires { MayTouch order.now self.old job }
-        ensures { OnOk result (Touches order.now job false self.old self.new) }
+    fn read(&mut self, alloc: Global, order: &Clocked, by: Visitor) -> Result<(), Halt>
+        requires { MayTouch order.now self.old by }
+        ensures { OnOk result (Touches order.now by false self.old self.new) }
     {
-        if !self.follows_writer(order, job) {
+        if !self.follows_writer(order, by) {
             return Err(Halt::Conflict);
         }
-        self.readers = self.with_reader(alloc, order, job)?;
+        self.readers = self.with_reader(alloc, order, by)?;
         Ok(())
     }
 
     /// Writes a cell.
-    fn write(&mut self, order: &Clocked, job: u32) -> Result<(), Halt>
-        requires { MayTouch order.now self.old job }
-        ensures { OnOk result (Touches order.now job true self.old self.new) }
+    fn write(&mut self, order: &Clocked, by: Visitor) -> Result<(), Halt>
+        requires { MayTouch order.now self.old by }
+        ensures { OnOk result (Touches order.now by true self.old self.new) }
     {
-        if !self.follows_writer(order, job) {
+        if !self.follows_writer(order, by) {
             return Err(Halt::Conflict);
         }
-        if !self.follows_readers(order, job) {
+        if !self.follows_readers(order, by) {
             return Err(Halt::Conflict);
         }
-        self.writer = Some(job);
+        self.writer = Some(by);
         self.readers.clear();
         Ok(())
     }
 
-    /// Whether a job comes after the last one that wrote the cell, if there is one.
-    fn follows_writer(&self, order: &Clocked, job: u32) -> bool
-        requires { MayTouch order.now self.now job }
-        ensures { IsTrue result → IsAfterSome order.now self.now.writer job }
+    /// Whether a command comes after the last one that wrote the cell, if there is one.
+    fn follows_writer(&self, order: &Clocked, by: Visitor) -> bool
+        requires { MayTouch order.now self.now by }
+        ensures { IsTrue result → IsAfterSome order.now self.now.writer by }
     {
         match self.writer {
-            Some(writer) => is_at_or_before(order, writer, job),
+            Some(writer) => is_at_or_before(order, writer, by),
             None => true,
         }
     }
 
-    /// Whether a job comes after all that have read the cell since.
-    fn follows_readers(&self, order: &Clocked, job: u32) -> bool
-        requires { MayTouch order.now self.now job }
-        ensures { IsTrue result → IsAfterAll order.now self.now.readers.items job }
+    /// Whether a command comes after all that have read the cell since.
+    fn follows_readers(&self, order: &Clocked, by: Visitor) -> bool
+        requires { MayTouch order.now self.now by }
+        ensures { IsTrue result → IsAfterAll order.now self.now.readers.items by }
     {
         for reader in self.readers.as_slice() {
-            if !is_at_or_before(order, *reader, job) {
+            if !is_at_or_before(order, *reader, by) {
                 return false;
             }
         }
@@ -130,17 +136,22 @@ impl Cell {
     }
 
     /// The readers with one more, without those that come before it.
-    fn with_reader(&self, alloc: Global, order: &Clocked, job: u32) -> Result<Vec<u32>, AllocError>
-        requires { MayTouch order.now self.now job }
-        ensures { IfOk result (λ kept. KeepsLater order.now self.now.readers.items job kept.items) }
+    fn with_reader(
+        &self,
+        alloc: Global,
+        order: &Clocked,
+        by: Visitor,
+    ) -> Result<Vec<Visitor>, AllocError>
+        requires { MayTouch order.now self.now by }
+        ensures { IfOk result (λ kept. KeepsLater order.now self.now.readers.items by kept.items) }
     {
         let mut kept = Vec::new(alloc);
         for reader in self.readers.as_slice() {
-            if !is_at_or_before(order, *reader, job) {
+            if !is_at_or_before(order, *reader, by) {
                 kept.push(*reader)?;
             }
         }
-        kept.push(job)?;
+        kept.push(by)?;
         Ok(kept)
     }
 }

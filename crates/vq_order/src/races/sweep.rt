@@ -5,15 +5,15 @@ ghost use Rattle.std.specs.List.Sorted.{IsNonDecreasing};
 ghost use Rattle.vq_model.specs.Plan.{commands_of};
 ghost use Rattle.vq_model.specs.SlowRun.{slow_order};
 ghost use Rattle.vq_order.specs.Accessed.{AreAccesses, HasNoRaceBelow};
-ghost use Rattle.vq_order.specs.Swept.{is_write, AreUntouched, FitsSweep, ReadsCell, Sweeps};
+ghost use Rattle.vq_order.specs.Swept.{is_write, AreUntouched, FitsSweep, IsOfJob, ReadsCell, Sweeps};
 ghost use Rattle.vq_order.specs.Swept.{TouchesAmong, TouchesBy, TouchesIn, TouchesSpan};
-ghost use Rattle.vq_order.specs.VectorClocks.{IsComplete};
+ghost use Rattle.vq_clocks.specs.VectorClocks.{IsComplete};
 
-use crate::clocked::Clocked;
-use crate::races::accesses::{MemoryAccess, Span};
+use crate::races::accesses::{MemoryAccess, Span, Visitor};
 use crate::races::cells::{Cell, Halt, Touch};
 use crate::races::cuts::{Reach, make_cuts, reach_of};
 use std::alloc::{AllocError, Global};
+use vq_clocks::Clocked;
 
 /// What stays the same while commands are gone through: the order of the jobs, and where cells
 /// begin.
@@ -30,17 +30,17 @@ impl Sweep<'_> {
         alloc: Global,
         cells: &mut [Cell],
         span: Span,
-        job: u32,
+        by: Visitor,
         touch: Touch,
     ) -> Result<(), Halt>
         requires fits { FitsSweep self.now.order.now self.now.cuts.now cells.old }
-        requires exists { job < length self.now.order.now.jobs }
+        requires own { IsOfJob self.now.order.now by }
         ensures { OnOk result (Sweeps self.now.order.now cells.old cells.new
-            (TouchesSpan self.now.cuts.now span job (is_write touch))) }
+            (TouchesSpan self.now.cuts.now span by (is_write touch))) }
     {
         let Reach { first, end } = reach_of(self.cuts, span);
         for k in first..end {
-            cells[k].touch(alloc, self.order, job, touch)?;
+            cells[k].touch(alloc, self.order, by, touch)?;
         }
         Ok(())
     }
@@ -48,12 +48,12 @@ impl Sweep<'_> {
     /// Goes through the cells that a command reads.
     fn read(&self, alloc: Global, cells: &mut [Cell], access: &MemoryAccess) -> Result<(), Halt>
         requires fits { FitsSweep self.now.order.now self.now.cuts.now cells.old }
-        requires exists { access.now.job < length self.now.order.now.jobs }
+        requires own { IsOfJob self.now.order.now access.now.by }
         ensures { OnOk result (Sweeps self.now.order.now cells.old cells.new
             (ReadsCell self.now.cuts.now access.now)) }
     {
         match access.read {
-            Some(read) => self.range(alloc, cells, read, access.job, Touch::Reads),
+            Some(read) => self.range(alloc, cells, read, access.by, Touch::Reads),
             None => Ok(()),
         }
     }
@@ -61,12 +61,12 @@ impl Sweep<'_> {
     /// Goes through the cells of a command.
     fn command(&self, alloc: Global, cells: &mut [Cell], access: &MemoryAccess) -> Result<(), Halt>
         requires fits { FitsSweep self.now.order.now self.now.cuts.now cells.old }
-        requires exists { access.now.job < length self.now.order.now.jobs }
+        requires own { IsOfJob self.now.order.now access.now.by }
         ensures { OnOk result (Sweeps self.now.order.now cells.old cells.new
             (TouchesBy self.now.cuts.now access.now)) }
     {
         self.read(alloc, cells, access)?;
-        self.range(alloc, cells, access.written, access.job, Touch::Writes)
+        self.range(alloc, cells, access.written, access.by, Touch::Writes)
     }
 
     /// Goes through those commands of a job whose accesses are given: those of the first commands

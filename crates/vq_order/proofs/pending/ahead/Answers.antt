@@ -1,6 +1,6 @@
 use Rattle.std.proofs.Common.{sym, ◌∙◌, ap}
 use Rattle.vq_model.specs.Plan.{resolver}
-use Rattle.vq_order.proofs.PendingLaws.{resolver_here}
+use Rattle.vq_clocks.proofs.Cited.{resolver_here}
 use Rattle.vq_order.proofs.pending.ahead.Goals as goal
 
 pub may_come_late-requires-clause-op_exists : goal.may_come_late-requires-clause-op_exists

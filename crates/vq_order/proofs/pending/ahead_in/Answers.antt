@@ -6,7 +6,7 @@ use Rattle.vq_order.specs.declared.lines.Lines.{Lines}
 use Rattle.vq_order.specs.LeastLines.{AreLeastOrNone, IsOfFirst, IsOfNeed}
 use Rattle.vq_order.specs.Pending.{IsAhead, IsAheadIn}
 use Rattle.vq_order.proofs.LineSearches.{first_more, all_first, lines_same, need_at, needs_count, of_need}
-use Rattle.vq_order.proofs.NeedChains.{need_chain}
+use Rattle.vq_clocks.proofs.Cited.{need_chain}
 use Rattle.vq_order.proofs.pending.ahead_in.Goals as goal
 
 abbrev no_need : Need

@@ -1,9 +1,9 @@
-use Rattle.std.proofs.Common.{◌≡◌, ◌<◌, ◌+◌, ℕ, Some, None, length, refl, ap, sym, ◌∙◌, subst, arith}
+use Rattle.std.proofs.Common.{◌≡◌, ◌<◌, ◌≤◌, ◌+◌, ℕ, Some, None, length, refl, ap, sym, ◌∙◌, subst, arith}
 use Rattle.std.specs.Option.{option_map_or}
 use Rattle.vq_model.specs.Checks.{IsLeastPair, IsRaceAt}
 use Rattle.vq_model.specs.Plan.{Plan, line_of_command}
-use Rattle.vq_order.specs.Accessed.{access_in, AreAllInOrder}
-use Rattle.vq_order.proofs.AccessLaws.{races_at, none_races_next, quiet_races_none, stays_quiet}
+use Rattle.vq_order.specs.Accessed.{access_in, IsQuiet}
+use Rattle.vq_order.proofs.AccessLaws.{races_at, none_races_next, quiet_races_none, stays_quiet, turns_quiet}
 use Rattle.vq_order.proofs.RacingPairs.{first_is_least, no_pair_races}
 use Rattle.vq_order.proofs.races.least_race.Goals as goal
 
@@ -43,9 +43,10 @@ loop-d-preserved-then-is_remembered c =
     let all = c.requires.all in
     let d : c.loop-d.d < length xs = omega arith in
     let e = c.is_remembered.ensures c.if-is_remembered.true in
-    let f = c.loop-d.invariant.1 (access_in xs c.loop-d.d).job e in (
-      none_races_next p c.loop-d.d c.loop-d.invariant.0 (quiet_races_none p plan xs c.requires.accesses c.loop-d.d d f),
-      (λ q h. let same : (access_in xs c.loop-d.d).job ≡ q = let s = sym e ∙ h in cc in stays_quiet p xs c.loop-d.d q same (c.loop-d.invariant.1 q h)),
+    let f = c.loop-d.invariant.1 (access_in xs c.loop-d.d).by.job e in
+    let low : c.loop-d.d ≤ c.loop-d.d = omega arith in (
+      none_races_next p c.loop-d.d c.loop-d.invariant.0 (quiet_races_none p plan xs c.requires.accesses c.loop-d.d d (f c.loop-d.d low d refl)),
+      (λ q h. let same : (access_in xs c.loop-d.d).by.job ≡ q = let s = sym e ∙ h in cc in stays_quiet p xs c.loop-d.d q same (c.loop-d.invariant.1 q h)),
     )
 
 pub loop-d-preserved-then-are_all_in_order : goal.loop-d-preserved-then-are_all_in_order
@@ -60,7 +61,7 @@ loop-d-preserved-then-are_all_in_order c =
     let d : c.loop-d.d < length xs = omega arith in
     let f = c.are_all_in_order.ensures c.if-are_all_in_order.true in (
       none_races_next p c.loop-d.d c.loop-d.invariant.0 (quiet_races_none p plan xs c.requires.accesses c.loop-d.d d f),
-      (λ q h. let same : (access_in xs c.loop-d.d).job ≡ q = cc in subst (AreAllInOrder p xs (c.loop-d.d + 1)) same (stays_quiet p xs c.loop-d.d (access_in xs c.loop-d.d).job refl f)),
+      (λ q h. let same : (access_in xs c.loop-d.d).by.job ≡ q = cc in subst (IsQuiet p xs (c.loop-d.d + 1)) same (turns_quiet p plan xs c.requires.accesses c.loop-d.d d f)),
     )
 
 pub loop-d-preserved : goal.loop-d-preserved

@@ -1,8 +1,7 @@
-use Rattle.std.proofs.Common.{ap}
+use Rattle.std.proofs.Common.{refl, ap}
 use Rattle.std.specs.Option.{option_map}
 use Rattle.vq_model.proofs.Plans.{command_exists}
 use Rattle.vq_order.proofs.AccessLaws.{fits_command}
-use Rattle.vq_order.proofs.CommandJobs.{owner_exists}
 use Rattle.vq_plan_laws.proofs.Cited.{plan_well_formed}
 use Rattle.vq_order.proofs.races.accesses.access_of.Goals as goal
 
@@ -21,7 +20,7 @@ read_span-requires-clause-fits c =
 pub returns : goal.returns
 returns c =
     record {
-      job_exists = owner_exists c.args.plan.now c.args.job c.args.c c.requires.own;
+      number = refl;
       of_job = c.requires.own;
       command = c.command.result.now.command;
       found = ap (option_map (λ x. x.command)) c.command.ensures;

@@ -7,4 +7,4 @@ use Rattle.vq_order.proofs.races.accesses.all_accesses.Given as goal
 abbrev pub invariant-loop-c : goal.invariant-loop-c
 invariant-loop-c l =
     (length l.accesses.items ≡ l.c)
-    × ((i : ℕ) (a : MemoryAccess) → slice_get l.accesses.items i ≡ Some a → IsAccess l.plan i a)
+    × ((i : ℕ) (a : MemoryAccess) → slice_get l.accesses.items i ≡ Some a → IsAccess l.order i a)

@@ -1,9 +1,9 @@
-use Rattle.std.proofs.Common.{◌≡◌, ◌⊎◌, ℕ, true, take}
-use Rattle.vq_model.specs.Plan.{has}
-use Rattle.vq_order.specs.Swept.{AtOrBefore}
+use Rattle.std.proofs.Common.{◌⊎◌, take}
+use Rattle.vq_order.specs.declared.races.accesses.Visitor.{Visitor}
+use Rattle.vq_order.specs.Swept.{AtOrBefore, IsAmong}
 use Rattle.vq_order.proofs.races.cells.Cell.with_reader.Given as goal
 
 abbrev pub invariant-loop-reader : goal.invariant-loop-reader
 invariant-loop-reader l =
-    ((i : ℕ) → has (take l.reader-index l.reader-items) i ≡ true → AtOrBefore l.order i l.job ⊎ (has l.kept.items i ≡ true))
-    × ((i : ℕ) → has l.kept.items i ≡ true → has l.reader-items i ≡ true)
+    ((i : Visitor) → IsAmong (take l.reader-index l.reader-items) i → AtOrBefore l.order i l.by ⊎ IsAmong l.kept.items i)
+    × ((i : Visitor) → IsAmong l.kept.items i → IsAmong l.reader-items i)

@@ -11,12 +11,12 @@ use Rattle.vq_order.proofs.races.sweep.Sweep.job.Goals.{in-Some+in_ok-command, i
 use Rattle.vq_order.proofs.races.sweep.Sweep.job.Goals as goal
 
 pub loop-c-init : goal.loop-c-init
-loop-c-init c = sweeps_none c.args.self.now.order.now c.args.cells.now (TouchesAmong c.args.self.now.cuts.now c.args.accesses.now []) c.requires.fits.jobs (λ k j w t. false≢true t.listed)
+loop-c-init c = sweeps_none c.args.self.now.order.now c.args.cells.now (TouchesAmong c.args.self.now.cuts.now c.args.accesses.now []) c.requires.fits.kept (λ k j w t. false≢true t.listed)
 
-pub command-requires-clause-exists : goal.command-requires-clause-exists
-command-requires-clause-exists c =
+pub command-requires-clause-own : goal.command-requires-clause-own
+command-requires-clause-own c =
     let n = get_or c.as_slice-c-items.result.now c.loop-c.c-index 0 in
-    (c.requires.accesses.each n c.in-Some.access.now (got_some c.args.accesses.now n c.in-Some.access.now (c.in-Some.ensures.lookup.0, c.in-Some.ensures.lookup.1))).job_exists
+    (c.requires.accesses.each n c.in-Some.access.now (got_some c.args.accesses.now n c.in-Some.access.now (c.in-Some.ensures.lookup.0, c.in-Some.ensures.lookup.1))).of_job
 
 pub loop-c-preserved : goal.loop-c-preserved
 loop-c-preserved c =

@@ -4,13 +4,13 @@ use Rattle.std.proofs.lemmas.List.{take_all}
 use Rattle.vq_model.specs.Plan.{commands_of}
 use Rattle.vq_model.specs.SlowRun.{slow_order}
 use Rattle.vq_order.specs.Swept.{Sweeps, TouchesAmong, TouchesIn}
-use Rattle.vq_order.proofs.RowLaws.{slow_at}
+use Rattle.vq_clocks.proofs.Cited.{slow_at}
 use Rattle.vq_order.proofs.SweptCells.{sweeps_none, sweeps_then}
 use Rattle.vq_order.proofs.SweptRaces.{in_more}
 use Rattle.vq_order.proofs.races.sweep.Sweep.jobs.Goals as goal
 
 pub loop-j-init : goal.loop-j-init
-loop-j-init c = sweeps_none c.args.self.now.order.now c.args.cells.now (TouchesIn c.args.self.now.order.now c.args.self.now.cuts.now c.args.accesses.now []) c.requires.fits.jobs (λ k j w t. false≢true t.in_list)
+loop-j-init c = sweeps_none c.args.self.now.order.now c.args.cells.now (TouchesIn c.args.self.now.order.now c.args.self.now.cuts.now c.args.accesses.now []) c.requires.fits.kept (λ k j w t. false≢true t.in_list)
 
 pub job-requires-clause-exists : goal.job-requires-clause-exists
 job-requires-clause-exists c = (slow_at c.args.self.now.order.now c.slow_order-j-items.result.now c.slow_order-j-items.ensures.value c.loop-j.j-index c.loop-j-test.true).0

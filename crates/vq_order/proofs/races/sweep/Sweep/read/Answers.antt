@@ -8,11 +8,11 @@ pub returns-in-Some : goal.returns-in-Some
 returns-in-Some c =
     let cuts = c.args.self.now.cuts.now in
     let a = c.args.access.now in
-    on_ok_weaker c.range.result (λ s. sweeps_own c.args.self.now.order.now c.args.cells.now c.range.new.cells (TouchesSpan cuts c.in-Some.read a.job false) (ReadsCell cuts a) s (λ k j w m.
+    on_ok_weaker c.range.result (λ s. sweeps_own c.args.self.now.order.now c.args.cells.now c.range.new.cells (TouchesSpan cuts c.in-Some.read a.by false) (ReadsCell cuts a) s (λ k j w m.
     let e : Some m.span ≡ Some c.in-Some.read = sym m.is_read ∙ c.in-Some.is in
     let q : m.span ≡ c.in-Some.read = cc in
-    subst (λ s. TouchesSpan cuts s a.job false k j w) q m.touch)) c.range.ensures
+    subst (λ s. TouchesSpan cuts s a.by false k j w) q m.touch)) c.range.ensures
 
 pub returns-in-None : goal.returns-in-None
 returns-in-None c =
-    sweeps_none c.args.self.now.order.now c.args.cells.now (ReadsCell c.args.self.now.cuts.now c.args.access.now) c.requires.fits.jobs (λ k j w m. let e : None ≡ Some m.span = sym c.in-None.is ∙ m.is_read in cc)
+    sweeps_none c.args.self.now.order.now c.args.cells.now (ReadsCell c.args.self.now.cuts.now c.args.access.now) c.requires.fits.kept (λ k j w m. let e : None ≡ Some m.span = sym c.in-None.is ∙ m.is_read in cc)

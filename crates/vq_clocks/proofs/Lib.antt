@@ -1,0 +1,11 @@
+pub mod Cited
+mod SlowFacts
+mod Covering
+mod ClockLaws
+mod RowLaws
+mod CommandJobs
+mod CommandPlaces
+mod Marking
+mod NeedChains
+mod SortedLists
+mod PartLaws

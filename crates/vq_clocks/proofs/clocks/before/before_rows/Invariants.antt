@@ -1,0 +1,5 @@
+use Rattle.vq_clocks.specs.VectorClocks.{HasClocks}
+use Rattle.vq_clocks.proofs.clocks.before.before_rows.Given as goal
+
+abbrev pub invariant-loop-j : goal.invariant-loop-j
+invariant-loop-j l = HasClocks l.run l.rows l.j-index

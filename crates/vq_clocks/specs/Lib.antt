@@ -1,0 +1,3 @@
+pub mod VectorClocks
+pub mod PartClocks
+pub mod KeptClocks

@@ -1,0 +1,66 @@
+//! The rows of jobs that happen before a job.
+ghost use Rattle.std.specs.Prelude.{◌≡◌, ◌<◌, length, IfOk};
+ghost use Rattle.vq_model.specs.Edges.{AtEnd};
+ghost use Rattle.vq_model.specs.Lanes.{lane_at};
+ghost use Rattle.vq_model.specs.SlowRun.{slow_order};
+ghost use Rattle.vq_clocks.specs.VectorClocks.{in_row, itself, lanes, AddsEdge, AllBelow, Covers, HasClocks, IsClock};
+ghost use Rattle.vq_clocks.specs.VectorClocks.{MakesClock, PassesOne};
+
+use crate::clocks::rows::{Row, Rows};
+use crate::complete_run::CompleteRun;
+use std::alloc::{AllocError, Global};
+
+/// Adds an edge to a job to its row.
+fn add_edge(row: &mut Row, run: &CompleteRun, rows: &Rows, j: u32, edge: u32)
+    requires makes { MakesClock run.now rows.now j }
+    requires exists { edge < length run.now.jobs }
+    requires width { length row.old ≡ lanes run.now }
+    ensures adds { AddsEdge run.now j edge row.old row.new }
+    ensures width { length row.new ≡ lanes run.now }
+{
+    if run.comes_earlier(edge, j) {
+        row.join(rows.row(run.position(edge)), run.lane(edge), edge + 1);
+    }
+}
+
+/// The row of what comes before a job through these edges, from the rows of their jobs.
+pub(crate) fn row_through(
+    alloc: Global,
+    run: &CompleteRun,
+    rows: &Rows,
+    j: u32,
+    edges: &[u32],
+) -> Result<Row, AllocError>
+    requires makes { MakesClock run.now rows.now j }
+    requires exist { AllBelow (length run.now.jobs) edges.now }
+    ensures value { IfOk result (λ row.
+        Covers (lane_at run.now) itself (in_row row) (PassesOne run.now j edges.now)) }
+    ensures width { IfOk result (λ row. length row ≡ lanes run.now) }
+{
+    let mut row = Row::new(alloc, run.lanes())?;
+    for edge in edges {
+        add_edge(&mut row, run, rows, j, *edge);
+    }
+    Ok(row)
+}
+
+/// The row of a job, from those of the jobs before it in the slow run.
+fn before_row(alloc: Global, run: &CompleteRun, rows: &Rows, j: u32) -> Result<Row, AllocError>
+    requires { MakesClock run.now rows.now j }
+    ensures value { IfOk result (λ row. IsClock run.now j AtEnd (in_row row)) }
+    ensures width { IfOk result (λ row. length row ≡ lanes run.now) }
+{
+    row_through(alloc, run, rows, j, run.plan().edges(j))
+}
+
+/// The rows of all jobs, in the order of the slow run.
+pub(crate) fn before_rows(alloc: Global, run: &CompleteRun) -> Result<Rows, AllocError>
+    ensures { IfOk result (λ rows. HasClocks run.now rows (length (slow_order run.now))) }
+{
+    let mut rows = Rows::new(alloc);
+    for j in run.order() {
+        let row = before_row(alloc, run, &rows, *j)?;
+        rows.push(row)?;
+    }
+    Ok(rows)
+}

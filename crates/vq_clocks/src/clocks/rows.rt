@@ -1,0 +1,123 @@
+//! Tables of rows of numbers, one for each lane.
+ghost use Rattle.std.specs.Prelude.{◌≡◌, ◌<◌, ◌++◌, ◌∷◌, [], ℕ, max, length, replicate, IfOk};
+ghost use Rattle.std.specs.Prelude.{OnOk};
+ghost use Rattle.std.specs.Prelude.{◌==◌, if◌then◌else◌};
+ghost use Rattle.std.specs.List.{slice_index_or};
+ghost use Rattle.vq_clocks.specs.VectorClocks.{in_row, row_at, Joins};
+
+use std::alloc::{AllocError, Global};
+use std::marker::Model;
+
+/// A number for each lane.
+#[derive(Drop)]
+pub(crate) struct Row {
+    numbers: Vec<u32>,
+}
+
+impl Model for Row {
+    ghost use Rattle.std.specs.Prelude.{List, ℕ};
+
+    ghost Value = { List ℕ };
+
+    ghost view = { λ a. a.numbers.items };
+}
+
+impl Row {
+    /// A row of zeros.
+    pub(crate) fn new(alloc: Global, lanes: usize) -> Result<Row, AllocError>
+        ensures { IfOk result (λ row. row ≡ replicate lanes 0) }
+    {
+        Ok(Row {
+            numbers: vec![in alloc; 0; lanes]?,
+        })
+    }
+
+    /// The number of a lane.
+    fn at(&self, lane: usize) -> u32
+        requires { lane < length self.now }
+        ensures { result ≡ in_row self.now lane }
+    {
+        self.numbers[lane]
+    }
+
+    /// Raises each number of a row to that of another one, and one of them to a bound too.
+    pub(crate) fn join(&mut self, from: &Row, lane: usize, bound: u32)
+        requires same { length from.now ≡ length self.old }
+        requires exists { lane < length self.old }
+        ensures { Joins self.old from.now lane bound self.new }
+    {
+        raise_all(self.numbers.as_mut_slice(), from.numbers.as_slice());
+        raise(self.numbers.as_mut_slice(), lane, bound);
+    }
+}
+
+/// Raises each number of a row to that of another one.
+fn raise_all(row: &mut [u32], from: &[u32])
+    requires { length from.now ≡ length row.old }
+    ensures { (l : ℕ) → in_row row.new l ≡ max (in_row row.old l) (in_row from.now l) }
+{
+    for l in 0..row.len() {
+        raise(row, l, from[l]);
+    }
+}
+
+/// Raises a number of a row to a bound.
+fn raise(row: &mut [u32], lane: usize, bound: u32)
+    requires { lane < length row.old }
+    ensures { (l : ℕ) →
+        in_row row.new l ≡ max (in_row row.old l) (if lane == l then bound else 0) }
+{
+    if row[lane] < bound {
+        row[lane] = bound;
+    }
+}
+
+/// Rows, one after another.
+#[derive(Drop)]
+pub(crate) struct Rows {
+    rows: Vec<Row>,
+}
+
+impl Model for Rows {
+    ghost use Rattle.std.specs.Prelude.{List, ℕ};
+
+    ghost Value = { List (List ℕ) };
+
+    ghost view = { λ a. a.rows.items };
+}
+
+impl Rows {
+    /// No rows.
+    pub(crate) fn new(alloc: Global) -> Rows
+        ensures { result ≡ [] }
+    {
+        Rows {
+            rows: Vec::new(alloc),
+        }
+    }
+
+    /// Adds a row at the end.
+    pub(crate) fn push(&mut self, row: Row) -> Result<(), AllocError>
+        ensures { OnOk result (self.new ≡ self.old ++ row ∷ []) }
+    {
+        self.rows.push(row)?;
+        Ok(())
+    }
+
+    /// A row.
+    pub(crate) fn row(&self, n: usize) -> &Row
+        requires { n < length self.now }
+        ensures { result.now ≡ slice_index_or self.now n [] }
+    {
+        &self.rows[n]
+    }
+
+    /// A number of a row.
+    pub(crate) fn at(&self, n: usize, lane: usize) -> u32
+        requires row { n < length self.now }
+        requires lane { lane < length (slice_index_or self.now n []) }
+        ensures { result ≡ row_at self.now n lane }
+    {
+        self.row(n).at(lane)
+    }
+}

@@ -1,5 +1,0 @@
-use Rattle.vq_order.specs.VectorClocks.{HasClocks}
-use Rattle.vq_order.proofs.clocks.before.before_rows.Given as goal
-
-abbrev pub invariant-loop-j : goal.invariant-loop-j
-invariant-loop-j l = HasClocks l.run l.rows l.j-index

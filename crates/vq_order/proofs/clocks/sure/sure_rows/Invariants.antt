@@ -1,5 +1,0 @@
-use Rattle.vq_order.specs.VectorClocks.{HasSureClocks}
-use Rattle.vq_order.proofs.clocks.sure.sure_rows.Given as goal
-
-abbrev pub invariant-loop-j : goal.invariant-loop-j
-invariant-loop-j l = HasSureClocks l.run l.rows l.j-index
