@@ -20,12 +20,12 @@ use Rattle.vq_points.specs.Timeline.{Timeline, KeepsLists}
 use Rattle.vq_core_laws.specs.TimelineOf.{IsTimelineOf}
 use Rattle.vq_history_laws.specs.Histories.{points_after}
 use Rattle.vq_core_laws.proofs.Cited.{count_below, free_below, lane_rises, rising_at_least}
-use Rattle.vq_core.specs.declared.lanes.LaneState.{LaneState}
+use Rattle.vq_tables.specs.declared.lanes.LaneState.{LaneState}
 use Rattle.vq_core.specs.declared.state.Core.TheInside.{Inside}
 use Rattle.vq_core.specs.Kept.{IsCore, Tells}
-use Rattle.vq_core.specs.Lanes.{AreLanes, no_lane}
-use Rattle.vq_core.specs.Tables.{no_timeline, batches_before}
-use Rattle.vq_core.proofs.LaneNext.{own}
+use Rattle.vq_tables.specs.Lanes.{AreLanes, no_lane}
+use Rattle.vq_tables.specs.Tables.{no_timeline, batches_before}
+use Rattle.vq_tables.proofs.Cited.{own}
 use Rattle.vq_core.proofs.SubmitLaws.{next_batch, submit_batches}
 use Rattle.vq_core.proofs.Pushes.{inside_facts, inside_keeps}
 

@@ -1,5 +1,5 @@
 -- What histories lead to, and the core before the first event.
-use Rattle.std.proofs.Common.{◌≡◌, ℕ, ◌<◌, ◌≤◌, ◌&&◌, ◌∷◌, ◌++◌, [], not, Bool, true, false, List, length, refl, sym, ap, ◌∙◌, inl, inr, subst, arith}
+use Rattle.std.proofs.Common.{◌≡◌, ℕ, ◌<◌, ◌≤◌, ◌+◌, ◌&&◌, ◌∷◌, ◌++◌, [], not, Bool, true, false, List, length, refl, sym, ap, ◌∙◌, inl, inr, subst, arith}
 use Rattle.std.specs.Prelude.{IsTrue, ◌↔◌, nat_eq, count_by}
 use Rattle.std.specs.List.{list_any, range_with_len}
 use Rattle.std.specs.Vec.{vec_capacity}
@@ -9,12 +9,13 @@ use Rattle.vq_model.proofs.Lists.{has_here, has_there, has_cases}
 use Rattle.std.proofs.lemmas.List.FromFn.{length-range_with_len}
 use Rattle.vq_model.specs.Checks.{IsLawful}
 use Rattle.vq_model.specs.LoweringFaults.{IsPlan}
-use Rattle.vq_model.specs.Machine.{State, Run, IsFinished, AreFinished, state_after}
+use Rattle.vq_model.specs.Machine.{State, Run, IsFinished, AreFinished, state_after, put}
 use Rattle.vq_model.specs.Plan.{Plan, has, is_batch}
 use Rattle.vq_model.specs.OutputText.{answers_of, buffers_text}
 use Rattle.vq_model.specs.Outputs.{IsOutput}
 use Rattle.vq_model.specs.SlowRun.{bytes_after, final}
 use Rattle.vq_model.specs.ValidScripts.{sizes_of}
+use Rattle.vq_model.proofs.Puts.{put_here, put_there}
 use Rattle.vq_model.proofs.Numbers.{range-has, has-range_cases}
 use Rattle.vq_points.specs.HistoryLaws.{PointLaw, PendingLaw}
 use Rattle.vq_points.specs.Points.{HistoryFrom, opening_points, steps_of}
@@ -22,11 +23,13 @@ use Rattle.vq_points.proofs.Cited.{keeps_point_law, keeps_pending_law}
 use Rattle.vq_run_laws.proofs.Cited.{Leads, history_leads, follows_opening, one_result, run_gives_output}
 use Rattle.vq_history_laws.specs.Histories.{points_after, acts}
 use Rattle.vq_history_laws.proofs.Cited.{history_bounded, count_cons}
+use Rattle.vq_core_laws.proofs.Cited.{count_raised}
 use Rattle.vq_core.specs.declared.state.Core.TheInside.{Inside}
 use Rattle.vq_core.specs.CoreState.{Course, world, IsCourse}
 use Rattle.vq_core.specs.Kept.{IsCore, Tells, course_of}
-use Rattle.vq_core.specs.Opening.{unmarked}
-use Rattle.vq_core.specs.Tables.{AreSubmitted, batches_before, jobs_left}
+use Rattle.vq_tables.specs.Opening.{unmarked}
+use Rattle.vq_tables.specs.Tables.{AreSubmitted, batches_before}
+use Rattle.vq_core.specs.Tables.{jobs_left}
 use Rattle.vq_core.proofs.Courses.{plan_facts}
 use Rattle.vq_core.proofs.Holds.{none_iff_zero}
 
@@ -102,6 +105,12 @@ left_iff p finished n is =
     unless : (b : Bool) → not b ≡ false → b ≡ true
     unless true h = refl
     unless false h = absurd (false≢true (sym h))
+
+pub left_next : (p : Plan) (finished : ℕ → Bool) (j : ℕ) → j < length p.jobs → finished j ≡ false →
+    jobs_left p finished ≡ jobs_left p (put finished j true) + 1
+left_next p finished j l open_ =
+    count_raised (λ i. not (put finished j true i)) (λ i. not (finished i)) j (ap not (put_here finished j true)) (ap
+    not open_) (λ i n. ap not (sym (put_there finished j true i n))) 0 (length p.jobs) (omega arith) (omega arith)
 
 -- The opening
 

@@ -33,7 +33,7 @@ use Rattle.vq_model.proofs.Bools.{same_tests}
 use Rattle.vq_history_laws.proofs.Cited.{counted_any, none_counted}
 use Rattle.vq_points.specs.Points.{Reference, holds, is_reference, next_job, needs_resolved}
 use Rattle.vq_core.specs.CoreState.{Course, world, IsCourse}
-use Rattle.vq_core.specs.Notes.{held_by}
+use Rattle.vq_tables.specs.Notes.{held_by}
 use Rattle.vq_core.proofs.Courses.{world_keeps, counts_any}
 
 -- an element that passes a test

@@ -54,7 +54,7 @@ use Rattle.vq_spec.proofs.Cited.{has_at, op_exists}
 use Rattle.vq_spec.specs.SlowProgress.{payload_in}
 use Rattle.vq_core_laws.specs.Firsts.{AreFirst}
 use Rattle.vq_core_laws.proofs.Cited.{Facts, all_done, done_all}
-use Rattle.vq_core.specs.Tables.{ArePayloads}
+use Rattle.vq_tables.specs.Tables.{ArePayloads}
 
 -- whether all of a list are done
 pub all_test : (done : ℕ → Bool) (xs : List ℕ) (n : ℕ) → AreFirst done xs n → nat_eq n (length xs) ≡ list_all done xs

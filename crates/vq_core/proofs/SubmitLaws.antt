@@ -17,9 +17,7 @@ use Rattle.std.proofs.Common.{
   List,
   [],
   ◌∷◌,
-  ◌++◌,
   length,
-  get_or,
   Some,
   None,
   refl,
@@ -30,12 +28,9 @@ use Rattle.std.proofs.Common.{
   inr,
   arith,
 }
-use Rattle.std.specs.Prelude.{nat_lt, nat_le, count_by}
+use Rattle.std.specs.Prelude.{nat_lt, nat_le}
 use Rattle.std.specs.List.{list_all, range_with_len}
 use Rattle.std.proofs.lemmas.Bool.{cases_eq, cases_lt, false≢true, and_from, or_left, or_right, cond-true, cond-false, lt-ltb, le-ltb, le-leb, lt-leb, leb-true, not-true}
-use Rattle.std.proofs.lemmas.List.{get_or_push, get_or_append_left}
-use Rattle.std.proofs.lemmas.List.FromFn.{length-range_with_len}
-use Rattle.std.proofs.lemmas.List.Sums.{count_by-le-length}
 use Rattle.vq_model.specs.declared.plan.Lane.{Lane}
 use Rattle.vq_model.specs.declared.plan.Lane.TheVariants.{Host as HostLane, Queue as QueueLane}
 use Rattle.vq_model.specs.declared.plan.PlanJob.{PlanJob}
@@ -48,43 +43,18 @@ use Rattle.vq_model.proofs.Numbers.{has-range_cases, range-has}
 use Rattle.vq_model.proofs.Puts.{put_here, put_there}
 use Rattle.vq_model.proofs.Searches.{find_member, find_passes, find_fails}
 use Rattle.vq_model.proofs.Plans.{batch_of, batch_no_step}
-use Rattle.vq_history_laws.proofs.Cited.{count_cons}
 use Rattle.vq_history_laws.specs.Measure.{one}
 use Rattle.vq_points.specs.Points.{PointState, jobs_of_lane, written_before, CanSubmit}
 use Rattle.vq_core_laws.proofs.Cited.{lane_rises}
+use Rattle.vq_tables.proofs.Cited.{batches_more, batches_most}
 use Rattle.vq_core.specs.GuardParts.{are_batches_submitted, are_steps_finished}
-use Rattle.vq_core.specs.Tables.{batches_before, AreSubmitted}
-
-count_push : (test : ℕ → Bool) (a n : ℕ) →
-    count_by test (range_with_len a (suc n)) ≡ count_by test (range_with_len a n) + one (test (a + n))
-count_push test a zero =
-    let e : a ≡ a + 0 = omega arith in
-    let c = count_cons test a [] in
-    let o : one (test a) ≡ one (test (a + 0)) = ap (λ (k : ℕ). one (test k)) e in
-    omega arith
-count_push test a (suc n) =
-    let r = count_push test (a + 1) n in
-    let x = count_cons test a (range_with_len (a + 1) (suc n)) in
-    let y = count_cons test a (range_with_len (a + 1) n) in
-    let e : (a + 1) + n ≡ a + suc n = omega arith in
-    let o : one (test ((a + 1) + n)) ≡ one (test (a + suc n)) = ap (λ (k : ℕ). one (test k)) e in
-    omega arith
+use Rattle.vq_tables.specs.Tables.{batches_before, AreSubmitted}
 
 module _ (p : Plan) where
-  pub batches_more : (j : ℕ) → batches_before p (suc j) ≡ batches_before p j + one (is_batch p j)
-  batches_more j = count_push (is_batch p) 0 j ∙ (let e : 0 + j ≡ j = omega arith in
-      ap (λ (k : ℕ). batches_before p j + one (is_batch p k)) e)
-
-  pub batches_most : (j : ℕ) → batches_before p j ≤ j
-  batches_most j =
-      let most = count_by-le-length (is_batch p) (range_with_len 0 j) in
-      let size = length-range_with_len 0 j in
-      omega arith
-
   batches_below : (i j : ℕ) → i < j → is_batch p i ≡ true → batches_before p i < batches_before p j
   batches_below i zero l b = absurd (omega arith)
   batches_below i (suc j) l b =
-      let c = batches_more j in
+      let c = batches_more p j in
       elim (cases_eq i j) [
         | inl e ↦
             let o : one (is_batch p j) ≡ 1 = ap one (ap (is_batch p) (sym e) ∙ b) in
@@ -103,7 +73,7 @@ module _ (p : Plan) where
   batch_at : (j n : ℕ) → n < batches_before p j → BatchAt j n
   batch_at zero n l = absurd (omega arith)
   batch_at (suc j) n l =
-      let c = batches_more j in
+      let c = batches_more p j in
       elim (cases_lt n (batches_before p j)) [
         | inl m ↦
             let r = batch_at j n m in
@@ -169,7 +139,7 @@ module _ (p : Plan) where
       batches_before p j ≡ n → j < length p.jobs → AreSubmitted p (put submitted j true) (n + 1)
   submitted_next submitted n j are b e l =
       record {
-        within = (let m = batches_most j in omega arith);
+        within = (let m = batches_most p j in omega arith);
         each = λ i. elim (cases_eq i j) [
           | inl s ↦
               let k = ap (batches_before p) s in
@@ -321,33 +291,3 @@ module _ (p : Plan) (w : PointState) where
       unless : (b : Bool) → not b ≡ false → b ≡ true
       unless true h = refl
       unless false h = absurd (false≢true (sym h))
-
--- Counting batches job by job
-
--- the table of the first jobs, one job longer
-pub earlier_push : (p : Plan) (xs : List ℕ) (j : ℕ) → length xs ≡ j → ((k : ℕ) → k < j →
-    get_or xs k 0 ≡ batches_before p k) → (k : ℕ) → k < j + 1 →
-    get_or (xs ++ batches_before p j ∷ []) k 0 ≡ batches_before p k
-earlier_push p xs j size each k l = elim (cases_eq k j) [
-  | inl s ↦
-      let at = get_or_push xs (batches_before p j) 0 j size in
-      ap (λ (i : ℕ). get_or (xs ++ batches_before p j ∷ []) i 0) s ∙ (at ∙ ap (batches_before p) (sym s))
-  | inr d ↦
-      let m : k < j = grind arith in
-      get_or_append_left xs (batches_before p j ∷ []) 0 k (omega arith) ∙ each k m
-]
-
--- one job more
-pub count_more : (p : Plan) (j n m : ℕ) → n ≡ batches_before p j → m ≡ one (is_batch p j) →
-    n + m ≡ batches_before p (j + 1)
-count_more p j n m a b =
-    let e : j + 1 ≡ suc j = omega arith in
-    let c = batches_more p j in
-    let s = ap (batches_before p) e in
-    omega arith
-
-pub count_fits : (p : Plan) (j n m : ℕ) → n ≡ batches_before p j → m ≡ one (is_batch p j) → n + m ≤ j + 1
-count_fits p j n m a b =
-    let s = count_more p j n m a b in
-    let most = batches_most p (j + 1) in
-    omega arith

@@ -9,10 +9,10 @@ use Rattle.vq_points.specs.Points.{PointState, HistoryFrom, opening_points}
 use Rattle.vq_history_laws.specs.Histories.{points_after, acts}
 use Rattle.vq_core.specs.declared.state.Core.TheInside.{Inside}
 use Rattle.vq_core.specs.CoreState.{Course}
-use Rattle.vq_core.specs.Lanes.{AreLanes}
-use Rattle.vq_core.specs.Notes.{AreNotes}
-use Rattle.vq_core.specs.AnswerStates.{AreAnswerStates}
-use Rattle.vq_core.specs.Tables.{AreEarlier, AreSubmitted, AreJobs, ArePoints, AreMade, ArePayloads, AreTimelines}
+use Rattle.vq_tables.specs.Lanes.{AreLanes}
+use Rattle.vq_tables.specs.Notes.{AreNotes}
+use Rattle.vq_tables.specs.AnswerStates.{AreAnswerStates}
+use Rattle.vq_tables.specs.Tables.{AreEarlier, AreSubmitted, AreJobs, ArePoints, AreMade, ArePayloads, AreTimelines}
 use Rattle.vq_core.specs.Tables.{jobs_left}
 
 abbrev pub course_of : Inside → Course

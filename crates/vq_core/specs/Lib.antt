@@ -1,10 +1,5 @@
-pub mod Lanes
-pub mod Notes
 pub mod Tables
-pub mod AnswerStates
 pub mod CoreState
 pub mod Kept
 pub mod GuardParts
-pub mod Opening
-pub mod Opened
 pub mod Answered

@@ -4,37 +4,12 @@ ghost use Rattle.std.specs.Prelude.{ℕ};
 ghost use Rattle.std.specs.List.{list_any, list_all};
 ghost use Rattle.vq_model.specs.Machine.{may_answer, is_reached};
 ghost use Rattle.vq_model.specs.Plan.{question, asked, chain as ops_of, value as value_of, is_silent};
-ghost use Rattle.vq_core.specs.AnswerStates.{not_asked, is_asked_reached, payload_read};
-ghost use Rattle.vq_core.specs.AnswerStates.{IsAnswerState};
+ghost use Rattle.vq_tables.specs.AnswerStates.{is_asked_reached, payload_read, IsAnswerState};
 ghost use Rattle.vq_core.specs.CoreState.{world};
 
 use crate::state::Core;
 use vq_spec::{Answer, Question, all_reached, any_reached};
-
-/// What may be answered of a job by what was reached at its start. Later signals change nothing of it:
-/// payloads only rise.
-#[derive(Clone, Copy)]
-pub(crate) struct AnswerState {
-    /// Whether it is answered.
-    pub(crate) answered: bool,
-    /// Whether what it asks for was reached at its start: one pair where it asks for any, else all.
-    pub(crate) reached: bool,
-    /// The payload, at its start, of the chain that it reads.
-    pub(crate) payload: u64,
-}
-
-impl AnswerState {
-    /// Of a job that isn't started.
-    pub(crate) fn not_asked() -> AnswerState
-        ensures { result ≡ not_asked }
-    {
-        AnswerState {
-            answered: false,
-            reached: false,
-            payload: 0,
-        }
-    }
-}
+use vq_tables::AnswerState;
 
 impl Core {
     /// What a job asks.

@@ -1,23 +1,13 @@
 //! Batches and host steps, in the order of the script.
 ghost use Rattle.std.specs.Prelude.{◌≡◌, ◌<◌, ◌||◌, IsTrue, length};
-ghost use Rattle.vq_model.specs.Plan.{is_batch, is_host_lane, is_host_step};
+ghost use Rattle.vq_model.specs.Plan.{is_batch, is_host_step};
 ghost use Rattle.vq_points.specs.Points.{may_bind};
 ghost use Rattle.vq_core.specs.CoreState.{IsCourse, world};
 ghost use Rattle.vq_core.specs.GuardParts.{are_batches_submitted, are_steps_finished, may_start};
 
 use crate::state::Core;
 use vq_model::script::ActorName;
-use vq_spec::Lane;
-
-/// Whether a lane is the host's.
-pub(crate) fn is_host(lane: Lane) -> bool
-    ensures { result ≡ is_host_lane lane }
-{
-    match lane {
-        Lane::Host => true,
-        Lane::Queue(_) => false,
-    }
-}
+use vq_tables::is_host;
 
 impl Core {
     /// Whether a job is a step of the host.

@@ -6,12 +6,10 @@ ghost use Rattle.vq_points.specs.Points.{CanUnrefer, CanComplete, CanFree, CanSt
 ghost use Rattle.vq_points.specs.Points.{CanFinishNow};
 ghost use Rattle.vq_core.specs.CoreState.{world};
 
-use crate::answers::AnswerState;
-use crate::notes::Note;
 use crate::state::Core;
-use crate::table::{JobRecord, PointSlot};
 use vq_model::script::ActorName;
 use vq_spec::{Answer, Event, Op};
+use vq_tables::{AnswerState, JobRecord, Note, PointSlot};
 
 impl Core {
     fn submit(&mut self, job: u32)

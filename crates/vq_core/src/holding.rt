@@ -5,11 +5,11 @@ ghost use Rattle.vq_model.specs.Naming.{same_actor};
 ghost use Rattle.vq_model.specs.Plan.{of_job};
 ghost use Rattle.vq_points.specs.Points.{actor_of_lane, holds, needs_resolved};
 ghost use Rattle.vq_core.specs.CoreState.{world};
-ghost use Rattle.vq_core.specs.Notes.{IsNote};
+ghost use Rattle.vq_tables.specs.Notes.{IsNote};
 
-use crate::notes::Note;
 use crate::state::Core;
 use vq_model::script::ActorName;
+use vq_tables::Note;
 
 impl Core {
     /// The note on the references to an operation's point that were made for a job which needs it.

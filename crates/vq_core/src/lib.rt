@@ -10,13 +10,9 @@ mod batches;
 mod events;
 mod guards;
 mod holding;
-mod lanes;
 mod needs;
-mod notes;
-mod opening;
 mod progress;
 mod state;
-mod table;
 
 pub use answer_room::AnswerRoom;
 pub use state::{Core, CoreParts};

@@ -1,20 +1,18 @@
 //! What jobs have come to: their commands, their signals and their waits.
-ghost use Rattle.std.specs.Prelude.{◌≡◌, ◌<◌, ◌||◌, ◌&&◌, ◌+◌, ◌-◌, ◌↔◌, All, IsTrue};
-ghost use Rattle.std.specs.Prelude.{length, nat_lt, nat_le, true};
+ghost use Rattle.std.specs.Prelude.{◌≡◌, ◌<◌, ◌+◌, ◌-◌, ◌↔◌, IsTrue};
+ghost use Rattle.std.specs.Prelude.{length, true};
 ghost use Rattle.std.specs.Prelude.{false};
 ghost use Rattle.std.specs.List.{list_all, list_any, slice_get};
-ghost use Rattle.std.specs.Option.{option_to_list};
 ghost use Rattle.vq_model.specs.Edges.{At, AtEnd, needs_at};
 ghost use Rattle.vq_model.specs.Machine.{next, are_reached, is_reached};
 ghost use Rattle.vq_model.specs.Plan.{has, commands_of, signals_of, needs};
-ghost use Rattle.vq_points.specs.Points.{earlier_in_queue, are_needs_pending, resolves};
-ghost use Rattle.vq_spec.specs.SlowProgress.{payload_in};
+ghost use Rattle.vq_points.specs.Points.{earlier_in_queue};
 ghost use Rattle.vq_core.specs.CoreState.{world};
-ghost use Rattle.vq_core.specs.Tables.{IsJobState};
+ghost use Rattle.vq_tables.specs.Tables.{IsJobState};
 
 use crate::state::Core;
-use crate::table::JobRecord;
-use vq_spec::{Need, Plan, all_reached, any_reached, is_reached};
+use vq_spec::{all_reached, any_reached};
+use vq_tables::{JobRecord, one_reached_after, reached_after};
 
 /// An element of a list, if it has so many.
 fn element(items: &[u32], place: usize) -> Option<u32>
@@ -24,48 +22,6 @@ fn element(items: &[u32], place: usize) -> Option<u32>
         Some(item) => Some(*item),
         None => None,
     }
-}
-
-/// Whether a need is reached, if it holds back what comes after so many commands.
-fn is_passed(payloads: &[u64], need: Need, done: usize) -> bool
-    requires { need.chain < length payloads.now }
-    ensures { result ≡ (nat_lt done (need.from - 1) || is_reached (payload_in payloads.now) need) }
-{
-    done < need.from.saturating_sub(1) as usize || is_reached(payloads, need)
-}
-
-/// Whether all needs are reached that hold back what comes after so many commands.
-fn reached_after(payloads: &[u64], needs: &[Need], done: usize) -> bool
-    requires { All (λ n. n.chain < length payloads.now) needs.now }
-    ensures { result ≡ list_all (λ n. nat_lt done (n.from - 1) || is_reached (payload_in payloads.now) n) needs.now }
-{
-    for need in needs {
-        if !is_passed(payloads, *need, done) {
-            return false;
-        }
-    }
-    true
-}
-
-/// Whether a need is reached that holds back what comes after so many commands.
-fn is_let_through(payloads: &[u64], need: Need, done: usize) -> bool
-    requires { need.chain < length payloads.now }
-    ensures { result ≡ (nat_le need.from (done + 1) && is_reached (payload_in payloads.now) need) }
-{
-    need.from.saturating_sub(1) as usize <= done && is_reached(payloads, need)
-}
-
-/// Whether one of the needs is reached that hold back what comes after so many commands.
-fn one_reached_after(payloads: &[u64], needs: &[Need], done: usize) -> bool
-    requires { All (λ n. n.chain < length payloads.now) needs.now }
-    ensures { result ≡ list_any (λ n. nat_le n.from (done + 1) && is_reached (payload_in payloads.now) n) needs.now }
-{
-    for need in needs {
-        if is_let_through(payloads, *need, done) {
-            return true;
-        }
-    }
-    false
 }
 
 impl Core {

@@ -16,20 +16,16 @@ ghost use Rattle.vq_history_laws.specs.Histories.{acts};
 ghost use Rattle.vq_points.specs.Timeline.{KeepsLists};
 ghost use Rattle.vq_core_laws.specs.TimelineOf.{IsTimelineOf};
 ghost use Rattle.vq_core.specs.CoreState.{IsCourse, world};
-ghost use Rattle.vq_core.specs.Opened.{IsOpening};
+ghost use Rattle.vq_tables.specs.Opened.{IsOpening};
 ghost use Rattle.vq_core.specs.Tables.{jobs_left};
 
-use crate::answers::AnswerState;
-use crate::lanes::LaneTable;
-use crate::notes::NoteTable;
-use crate::opening::{Opening, open};
-use crate::table::{JobRecord, PointSlot, Table};
 use std::alloc::{AllocError, Global};
 use std::marker::Model;
 use vq_model::list::List;
 use vq_model::script::ActorName;
 use vq_order::Ordered;
 use vq_spec::{Buffers, Event, Op, Plan};
+use vq_tables::{AnswerState, JobRecord, LaneTable, NoteTable, Opening, PointSlot, Table, open};
 use vq_timeline_core::TimelineCore;
 
 /// A lawful plan, the events that came so far, and what they have come to. Each event came when it

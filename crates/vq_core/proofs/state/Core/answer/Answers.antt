@@ -3,11 +3,11 @@ use Rattle.vq_model.specs.declared.plan.Event.TheVariants.{Answer}
 use Rattle.vq_model.specs.Machine.{CanAnswer, put}
 use Rattle.vq_points.specs.Points.{after_event}
 use Rattle.vq_history_laws.specs.Histories.{points_after}
-use Rattle.vq_core.specs.AnswerStates.{AreAnswerStates, IsAnswerState}
+use Rattle.vq_tables.specs.AnswerStates.{AreAnswerStates, IsAnswerState}
 use Rattle.vq_core.specs.CoreState.{Course, world}
 use Rattle.vq_core.proofs.Pushes.{inside_keeps, more_room, core_next}
-use Rattle.vq_core.proofs.TableLaws.{answers_given}
-use Rattle.vq_core.proofs.TimelineTables.{timelines_by}
+use Rattle.vq_tables.proofs.Cited.{answers_given}
+use Rattle.vq_tables.proofs.Cited.{timelines_by}
 use Rattle.vq_core.proofs.state.Core.answer.Goals as goal
 
 pub push_reserved-requires : goal.push_reserved-requires

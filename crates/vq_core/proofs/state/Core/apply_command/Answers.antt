@@ -14,10 +14,10 @@ use Rattle.vq_points.specs.Points.{after_event}
 use Rattle.vq_history_laws.specs.Histories.{points_after}
 use Rattle.vq_core_laws.proofs.Cited.{next_is, rising_at_least}
 use Rattle.vq_core.specs.CoreState.{Course, world}
-use Rattle.vq_core.specs.Tables.{AreJobs, IsJobState}
+use Rattle.vq_tables.specs.Tables.{AreJobs, IsJobState}
 use Rattle.vq_core.proofs.Pushes.{inside_facts, inside_keeps, more_room, core_next}
-use Rattle.vq_core.proofs.TableLaws.{jobs_applied, bytes_push}
-use Rattle.vq_core.proofs.TimelineTables.{timelines_by}
+use Rattle.vq_tables.proofs.Cited.{jobs_applied, bytes_push}
+use Rattle.vq_tables.proofs.Cited.{timelines_by}
 use Rattle.vq_core.proofs.state.Core.apply_command.Goals as goal
 
 pub command-line-requires : goal.command-line-requires

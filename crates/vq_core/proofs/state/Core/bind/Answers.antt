@@ -7,11 +7,11 @@ use Rattle.vq_history_laws.specs.Histories.{points_after}
 use Rattle.vq_core_laws.specs.TimelineOf.{IsTimelineOf}
 use Rattle.vq_core_laws.proofs.Cited.{turn_place, own_bind, may_bind, other_bind}
 use Rattle.vq_core.specs.CoreState.{Course, world}
-use Rattle.vq_core.specs.Tables.{no_timeline}
+use Rattle.vq_tables.specs.Tables.{no_timeline}
 use Rattle.vq_core.proofs.EventParts.{timeline_read, is_ok, on_ok}
 use Rattle.vq_core.proofs.Ops.{here, of_chain, chain_exists}
 use Rattle.vq_core.proofs.Pushes.{inside_facts, inside_keeps, more_room, core_next}
-use Rattle.vq_core.proofs.TimelineTables.{timelines_next}
+use Rattle.vq_tables.proofs.Cited.{timelines_next}
 use Rattle.vq_core.proofs.state.Core.bind.Goals as goal
 
 pub bind-requires : goal.bind-requires

@@ -1,6 +1,6 @@
 use Rattle.std.proofs.Common.{◌≡◌, ◌∙◌, Some, false, get_or, sym, ap, subst}
 use Rattle.std.specs.Prelude.{IsTrue, ◌↔◌, nat_eq}
-use Rattle.vq_core.specs.declared.table.PointSlot.{PointSlot}
+use Rattle.vq_tables.specs.declared.table.PointSlot.{PointSlot}
 use Rattle.vq_core.specs.CoreState.{Course, world, IsCourse}
 use Rattle.vq_core.proofs.Courses.{carried_exists}
 use Rattle.vq_core.proofs.Tests.{some_iff, none_iff}

@@ -10,12 +10,12 @@ use Rattle.vq_history_laws.specs.Histories.{points_after}
 use Rattle.vq_core_laws.specs.TimelineOf.{IsTimelineOf}
 use Rattle.vq_core_laws.proofs.Cited.{turn_place, own_complete, other_complete}
 use Rattle.vq_core.specs.CoreState.{Course, world}
-use Rattle.vq_core.specs.Tables.{ArePoints, IsSlot, no_timeline}
+use Rattle.vq_tables.specs.Tables.{ArePoints, IsSlot, no_timeline}
 use Rattle.vq_core.proofs.EventParts.{timeline_read, points_few, bound_point, some_of_option}
 use Rattle.vq_core.proofs.Ops.{here, of_chain, chain_exists}
 use Rattle.vq_core.proofs.Pushes.{inside_facts, inside_keeps, more_room, core_next}
-use Rattle.vq_core.proofs.TableLaws.{slot_completed}
-use Rattle.vq_core.proofs.TimelineTables.{timelines_next}
+use Rattle.vq_tables.proofs.Cited.{slot_completed}
+use Rattle.vq_tables.proofs.Cited.{timelines_next}
 use Rattle.vq_core.proofs.state.Core.complete.Goals as goal
 
 pub unwrap-point-requires : goal.unwrap-point-requires

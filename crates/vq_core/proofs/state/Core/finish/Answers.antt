@@ -27,14 +27,15 @@ use Rattle.vq_model.specs.Naming.{same_actor}
 use Rattle.vq_points.specs.Points.{Reference, CanFinishNow, after_event, actor_of_lane}
 use Rattle.vq_history_laws.specs.Histories.{points_after}
 use Rattle.vq_core.specs.CoreState.{Course, world}
-use Rattle.vq_core.specs.Lanes.{AreLanes, no_lane}
-use Rattle.vq_core.specs.Tables.{AreJobs, IsJobState}
-use Rattle.vq_core.proofs.LaneLaws.{lane_within, lane_finished, finished_place}
-use Rattle.vq_core.proofs.NoteLaws.{notes_finished}
+use Rattle.vq_tables.specs.Lanes.{AreLanes, no_lane}
+use Rattle.vq_tables.specs.Tables.{AreJobs, IsJobState}
+use Rattle.vq_tables.proofs.Cited.{lane_within, lane_finished, finished_place}
+use Rattle.vq_tables.proofs.Cited.{notes_finished}
 use Rattle.vq_core.proofs.EventParts.{small_place}
 use Rattle.vq_core.proofs.Pushes.{inside_facts, inside_keeps, more_room, core_next}
-use Rattle.vq_core.proofs.TableLaws.{jobs_finished, left_next}
-use Rattle.vq_core.proofs.TimelineTables.{timelines_by}
+use Rattle.vq_core.proofs.Histories.{left_next}
+use Rattle.vq_tables.proofs.Cited.{jobs_finished}
+use Rattle.vq_tables.proofs.Cited.{timelines_by}
 use Rattle.vq_core.proofs.state.Core.finish.Goals as goal
 
 pub put-requires : goal.put-requires

@@ -8,9 +8,9 @@ use Rattle.vq_model.specs.Naming.{same_actor}
 use Rattle.vq_points.specs.Points.{Reference, actor_of_lane}
 use Rattle.vq_core.specs.CoreState.{Course, world}
 use Rattle.vq_core.specs.Kept.{course_of}
-use Rattle.vq_core.specs.Lanes.{no_lane}
+use Rattle.vq_tables.specs.Lanes.{no_lane}
 use Rattle.vq_core.proofs.Holds.{none_iff_zero}
-use Rattle.vq_core.proofs.LaneNext.{own}
+use Rattle.vq_tables.proofs.Cited.{own}
 use Rattle.vq_core.proofs.state.Core.holds_none.Goals as goal
 
 pub returns : goal.returns

@@ -3,7 +3,7 @@ use Rattle.std.specs.Prelude.{nat_lt}
 use Rattle.std.specs.List.{list_any}
 use Rattle.vq_core.specs.CoreState.{Course, world}
 use Rattle.vq_core.specs.Kept.{course_of}
-use Rattle.vq_core.specs.declared.table.PointSlot.{PointSlot}
+use Rattle.vq_tables.specs.declared.table.PointSlot.{PointSlot}
 use Rattle.vq_core.proofs.Courses.{counts_any}
 use Rattle.vq_core.proofs.state.Core.is_referenced.Goals as goal
 

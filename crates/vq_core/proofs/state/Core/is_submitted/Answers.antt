@@ -3,7 +3,7 @@ use Rattle.std.specs.Prelude.{nat_lt}
 use Rattle.vq_model.specs.Plan.{is_batch}
 use Rattle.vq_core.specs.CoreState.{Course, world}
 use Rattle.vq_core.specs.Kept.{course_of}
-use Rattle.vq_core.specs.Tables.{batches_before}
+use Rattle.vq_tables.specs.Tables.{batches_before}
 use Rattle.vq_core.proofs.state.Core.is_submitted.Goals as goal
 
 pub returns-then-not-is_batch : goal.returns-then-not-is_batch

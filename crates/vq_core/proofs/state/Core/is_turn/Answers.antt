@@ -5,8 +5,8 @@ use Rattle.vq_model.specs.Plan.{Plan}
 use Rattle.vq_points.specs.Points.{earlier_in_queue}
 use Rattle.vq_core.specs.CoreState.{Course, world}
 use Rattle.vq_core.specs.Kept.{course_of}
-use Rattle.vq_core.specs.Lanes.{no_lane}
-use Rattle.vq_core.proofs.LaneNext.{is_turn, has_turn}
+use Rattle.vq_tables.specs.Lanes.{no_lane}
+use Rattle.vq_tables.proofs.Cited.{is_turn, has_turn}
 use Rattle.vq_core.proofs.Tests.{some_iff, none_iff}
 use Rattle.vq_core.proofs.state.Core.is_turn.Goals as goal
 

@@ -5,10 +5,10 @@ use Rattle.vq_points.specs.Points.{CanLook, after_event, next_job, with_note, co
 use Rattle.vq_history_laws.specs.Histories.{points_after}
 use Rattle.vq_core_laws.proofs.Cited.{noted_few}
 use Rattle.vq_core.specs.CoreState.{Course, world}
-use Rattle.vq_core.specs.Notes.{AreNotes, IsNote, place_in, no_note}
-use Rattle.vq_core.proofs.NoteLaws.{note_within, notes_looked}
+use Rattle.vq_tables.specs.Notes.{AreNotes, IsNote, place_in, no_note}
+use Rattle.vq_tables.proofs.Cited.{note_within, notes_looked}
 use Rattle.vq_core.proofs.Pushes.{inside_facts, inside_keeps, more_room, few_events, core_next}
-use Rattle.vq_core.proofs.TimelineTables.{timelines_by}
+use Rattle.vq_tables.proofs.Cited.{timelines_by}
 use Rattle.vq_core.proofs.state.Core.look.Goals as goal
 
 pub overflow_add-note : goal.overflow_add-note

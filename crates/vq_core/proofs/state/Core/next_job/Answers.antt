@@ -3,8 +3,8 @@ use Rattle.vq_model.specs.Machine.{next}
 use Rattle.vq_points.specs.Points.{next_job, jobs_of_lane}
 use Rattle.vq_core.specs.CoreState.{Course, world}
 use Rattle.vq_core.specs.Kept.{course_of}
-use Rattle.vq_core.specs.Lanes.{lane_named}
-use Rattle.vq_core.proofs.LaneNext.{lane_next, next_exists}
+use Rattle.vq_tables.specs.Lanes.{lane_named}
+use Rattle.vq_tables.proofs.Cited.{lane_next, next_exists}
 use Rattle.vq_core.proofs.state.Core.next_job.Goals as goal
 
 pub returns-in-Host-clause-job : goal.returns-in-Host-clause-job

@@ -1,9 +1,9 @@
 use Rattle.std.proofs.Common.{◌∙◌, ◌<◌, ℕ, [], get_or, sym, ap, subst}
 use Rattle.vq_points.specs.Points.{needs_resolved}
-use Rattle.vq_core.specs.declared.notes.Note.{Note}
+use Rattle.vq_tables.specs.declared.notes.Note.{Note}
 use Rattle.vq_core.specs.CoreState.{Course, world}
 use Rattle.vq_core.specs.Kept.{course_of}
-use Rattle.vq_core.specs.Notes.{IsNote, place_in, no_note}
+use Rattle.vq_tables.specs.Notes.{IsNote, place_in, no_note}
 use Rattle.vq_core.proofs.state.Core.note.Goals as goal
 
 pub returns : goal.returns

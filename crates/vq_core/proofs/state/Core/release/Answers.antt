@@ -7,16 +7,16 @@ use Rattle.vq_model.specs.Plan.{Plan}
 use Rattle.vq_model.proofs.Plans.{batch_exists}
 use Rattle.vq_points.specs.Points.{CanRelease, after_event}
 use Rattle.vq_history_laws.specs.Histories.{points_after}
-use Rattle.vq_core.specs.declared.table.JobRecord.{JobRecord}
+use Rattle.vq_tables.specs.declared.table.JobRecord.{JobRecord}
 use Rattle.vq_core.specs.CoreState.{Course, world}
-use Rattle.vq_core.specs.Lanes.{AreLanes, no_lane}
-use Rattle.vq_core.specs.Tables.{AreJobs, IsJobState}
-use Rattle.vq_core.proofs.LaneLaws.{lane_within, lane_released}
-use Rattle.vq_core.proofs.LaneNext.{has_turn}
+use Rattle.vq_tables.specs.Lanes.{AreLanes, no_lane}
+use Rattle.vq_tables.specs.Tables.{AreJobs, IsJobState}
+use Rattle.vq_tables.proofs.Cited.{lane_within, lane_released}
+use Rattle.vq_tables.proofs.Cited.{has_turn}
 use Rattle.vq_core.proofs.EventParts.{small_place}
 use Rattle.vq_core.proofs.Pushes.{inside_facts, more_room, core_next}
-use Rattle.vq_core.proofs.TableLaws.{jobs_released}
-use Rattle.vq_core.proofs.TimelineTables.{timelines_by}
+use Rattle.vq_tables.proofs.Cited.{jobs_released}
+use Rattle.vq_tables.proofs.Cited.{timelines_by}
 use Rattle.vq_core.proofs.state.Core.release.Goals as goal
 
 pub release-requires-clause-exists : goal.release-requires-clause-exists

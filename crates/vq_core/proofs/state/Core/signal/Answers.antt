@@ -12,12 +12,12 @@ use Rattle.vq_points.specs.Points.{CanSignalNow}
 use Rattle.vq_history_laws.specs.Histories.{points_after}
 use Rattle.vq_core_laws.proofs.Cited.{next_is, rising_at_least}
 use Rattle.vq_core.specs.CoreState.{Course, world}
-use Rattle.vq_core.specs.Tables.{AreJobs, IsJobState, AreMade, ArePayloads}
+use Rattle.vq_tables.specs.Tables.{AreJobs, IsJobState, AreMade, ArePayloads}
 use Rattle.vq_core.proofs.EventParts.{signal_tells}
 use Rattle.vq_core.proofs.Ops.{of_chain, of_job as op_job, chain_exists}
 use Rattle.vq_core.proofs.Pushes.{inside_facts, inside_keeps, more_room, core_next}
-use Rattle.vq_core.proofs.TableLaws.{jobs_signaled, made_next, payload_next}
-use Rattle.vq_core.proofs.TimelineTables.{timelines_by}
+use Rattle.vq_tables.proofs.Cited.{jobs_signaled, made_next, payload_next}
+use Rattle.vq_tables.proofs.Cited.{timelines_by}
 use Rattle.vq_core.proofs.state.Core.signal.Goals as goal
 
 pub index_mut-requires : goal.index_mut-requires

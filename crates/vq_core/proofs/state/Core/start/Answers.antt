@@ -4,13 +4,13 @@ use Rattle.vq_model.specs.Machine.{put}
 use Rattle.vq_model.specs.Plan.{question, asked}
 use Rattle.vq_points.specs.Points.{CanStartNow, after_event}
 use Rattle.vq_history_laws.specs.Histories.{points_after}
-use Rattle.vq_core.specs.declared.table.JobRecord.{JobRecord}
+use Rattle.vq_tables.specs.declared.table.JobRecord.{JobRecord}
 use Rattle.vq_core.specs.CoreState.{Course, world}
-use Rattle.vq_core.specs.AnswerStates.{AreAnswerStates, IsAnswerState, is_asked_reached, payload_read}
-use Rattle.vq_core.specs.Tables.{AreJobs, IsJobState}
+use Rattle.vq_tables.specs.AnswerStates.{AreAnswerStates, IsAnswerState, is_asked_reached, payload_read}
+use Rattle.vq_tables.specs.Tables.{AreJobs, IsJobState}
 use Rattle.vq_core.proofs.Pushes.{more_room, core_next}
-use Rattle.vq_core.proofs.TableLaws.{jobs_started, answers_started}
-use Rattle.vq_core.proofs.TimelineTables.{timelines_by}
+use Rattle.vq_tables.proofs.Cited.{jobs_started, answers_started}
+use Rattle.vq_tables.proofs.Cited.{timelines_by}
 use Rattle.vq_core.proofs.state.Core.start.Goals as goal
 
 pub push_reserved-requires : goal.push_reserved-requires

@@ -6,8 +6,8 @@ use Rattle.vq_history_laws.specs.Histories.{points_after}
 use Rattle.vq_core.specs.CoreState.{Course, world}
 use Rattle.vq_core.proofs.EventParts.{submit_turn}
 use Rattle.vq_core.proofs.Pushes.{inside_facts, more_room, core_next}
-use Rattle.vq_core.proofs.SubmitLaws.{submitted_next, batches_most}
-use Rattle.vq_core.proofs.TimelineTables.{timelines_by}
+use Rattle.vq_core.proofs.SubmitLaws.{submitted_next}
+use Rattle.vq_tables.proofs.Cited.{batches_most, timelines_by}
 use Rattle.vq_core.proofs.state.Core.submit.Goals as goal
 
 pub overflow_add-self : goal.overflow_add-self

@@ -37,16 +37,16 @@ use Rattle.vq_points.specs.Points.{
 use Rattle.vq_history_laws.specs.Histories.{points_after}
 use Rattle.vq_core_laws.proofs.Cited.{carried_below}
 use Rattle.vq_core.specs.CoreState.{Course, world}
-use Rattle.vq_core.specs.Lanes.{AreLanes, no_lane}
-use Rattle.vq_core.specs.Notes.{AreNotes, IsNote, place_in, no_note}
-use Rattle.vq_core.specs.Tables.{ArePoints, IsSlot}
-use Rattle.vq_core.proofs.LaneLaws.{lane_within, lane_referred, actor_less, others_less, point_less, points_less}
-use Rattle.vq_core.proofs.LaneNext.{own}
-use Rattle.vq_core.proofs.NoteLaws.{note_within, notes_unreferred, some_held, next_actor}
+use Rattle.vq_tables.specs.Lanes.{AreLanes, no_lane}
+use Rattle.vq_tables.specs.Notes.{AreNotes, IsNote, place_in, no_note}
+use Rattle.vq_tables.specs.Tables.{ArePoints, IsSlot}
+use Rattle.vq_tables.proofs.Cited.{lane_within, lane_referred, actor_less, others_less, point_less, points_less}
+use Rattle.vq_tables.proofs.Cited.{own}
+use Rattle.vq_tables.proofs.Cited.{note_within, notes_unreferred, some_held, next_actor}
 use Rattle.vq_core.proofs.EventParts.{points_few, some_of_option}
 use Rattle.vq_core.proofs.Pushes.{inside_facts, inside_keeps, more_room, core_next}
-use Rattle.vq_core.proofs.TableLaws.{slot_referred}
-use Rattle.vq_core.proofs.TimelineTables.{timelines_by}
+use Rattle.vq_tables.proofs.Cited.{slot_referred}
+use Rattle.vq_tables.proofs.Cited.{timelines_by}
 use Rattle.vq_core.proofs.state.Core.unrefer.Goals as goal
 
 pub unwrap-job-requires : goal.unwrap-job-requires

@@ -6,7 +6,7 @@ use Rattle.vq_points.specs.Timeline.{Timeline}
 use Rattle.vq_turns.specs.Turns.{waiting_point}
 use Rattle.vq_core.specs.CoreState.{Course, world, IsCourse}
 use Rattle.vq_core.specs.Kept.{course_of}
-use Rattle.vq_core.specs.Tables.{no_timeline}
+use Rattle.vq_tables.specs.Tables.{no_timeline}
 use Rattle.vq_core.proofs.Collecting.{waiting_are}
 use Rattle.vq_core.proofs.state.Core.waiting_points.Goals as goal
 

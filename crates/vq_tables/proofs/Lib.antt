@@ -1,0 +1,8 @@
+pub mod Cited
+mod BatchCounts
+mod LaneNext
+mod TableLaws
+mod LaneLaws
+mod TimelineTables
+mod NoteLaws
+mod OpeningLaws
