@@ -1,2 +1,6 @@
+mod Passages
+mod Rosters
+mod RoundsPlayed
+mod RoundsTraced
 mod Schedules
 mod TraceEnds

@@ -66,13 +66,18 @@ module _ (p : Plan) (w : PointState) where
       (λ i q. either (is_deferred_queue p q) i)
       ∙ ap (with_parts (λ q. first_place)) (λ i q. either (is_deferred_queue p q) i)
 
+-- the scene of a new core
+pub opens : (p : Plan) (x : Cast) → x.course ≡ record { plan = p; history = [] } → places x ≡ first_places →
+    scene x ≡ first_scene (opening_points p)
+opens p x new first =
+    ap (λ (c : Course). scene_over c.plan (world c) (places x)) new
+    ∙ (ap (scene_over p (opening_points p)) first ∙ first_over p (opening_points p))
+
 module _ (p : Plan) (turns : List Turn) (x : Cast) where
   pub begins : x.course ≡ record { plan = p; history = [] } → places x ≡ first_places → HasPlayed p turns 0 [] x
   begins new first =
       let plan = ap (λ (c : Course). c.plan) new in
-      let there : scene x ≡ first_scene (opening_points p) =
-      ap (λ (c : Course). scene_over c.plan (world c) (places x)) new
-      ∙ (ap (scene_over p (opening_points p)) first ∙ first_over p (opening_points p)) in
+      let there = opens p x new first in
       record {
         plan = plan;
         all = sym (ap (λ (q : Plan). numbered_from 1 (actors_of turns) (played_from q (scene x) (actors_of turns))) plan

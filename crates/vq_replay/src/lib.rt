@@ -1,13 +1,16 @@
-//! Schedules: the turns that a script gives to its actors, played over a core, and the text of what they
-//! came to.
+//! Schedules: the turns that a script gives to its actors, or rounds of them, played over a core, and the text of
+//! what they came to.
 #![tactic(auto)]
 
+mod fair;
 mod played;
+mod roster;
 mod schedule;
 mod text;
 mod trace;
 mod words;
 
+pub use fair::{rounds, rounds_text};
 pub use played::Played;
 pub use schedule::{Replayed, replay};
 pub use text::trace_text;

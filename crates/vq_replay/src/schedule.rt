@@ -13,7 +13,7 @@ use vq_model::script::Turn;
 use vq_order::Ordered;
 use vq_troupe::Troupe;
 
-/// What a schedule came to: its turns, and the core after them.
+/// What a schedule came to, or rounds: its turns, of rounds those that moved, and the core after them.
 pub struct Replayed {
     pub played: Vec<Played>,
     pub core: Core,

@@ -1,0 +1,5 @@
+use Rattle.vq_replay.specs.Passages.{HasGone}
+use Rattle.vq_replay.proofs.fair.rounds.Given as goal
+
+abbrev pub invariant-loop-count : goal.invariant-loop-count
+invariant-loop-count l = HasGone l.fn.ordered l._count l.turns l.troupe l.played.items

@@ -1,0 +1,30 @@
+-- Turns over a cast, of which those that moved are kept. This project's own.
+use Rattle.std.specs.Prelude.{ℕ, ◌≡◌, ◌<◌, ◌+◌, List, [], ◌++◌, length}
+use Rattle.vq_model.specs.declared.script.ActorName.{ActorName}
+use Rattle.vq_model.specs.declared.plan.Event.{Event}
+use Rattle.vq_model.specs.Plan.{Plan}
+use Rattle.vq_model.specs.Machine.{AreFinished}
+use Rattle.vq_points.specs.Points.{opening_points}
+use Rattle.vq_turns.specs.Turns.{Scene, first_scene}
+use Rattle.vq_progress_laws.specs.Movers.{rounds_of}
+use Rattle.vq_progress_laws.specs.Scenes.{scene_after}
+use Rattle.vq_troupe.specs.Casts.{Cast, scene}
+use Rattle.vq_replay.specs.declared.played.Played.{Played}
+use Rattle.vq_replay.specs.Rounds.{moved_from}
+use Rattle.vq_replay.specs.Traces.{events_of}
+
+-- Turns of actors, numbered behind n others, led from a scene with a history to a cast; of them those that moved
+-- are kept behind the turns that were.
+pub record LeadsTo (p : Plan) (s : Scene) (before : List Event) (n : ℕ) (actors : List ActorName) (were : List Played)
+    (x : Cast) (played : List Played) : Type 0 where
+  pub plan : x.course.plan ≡ p
+  pub there : scene x ≡ scene_after p s actors
+  pub moved : played ≡ were ++ moved_from p (n + 1) s actors
+  pub history : x.course.history ≡ before ++ events_of (moved_from p (n + 1) s actors)
+
+-- So many rounds, of so many turns, were played over a new core, and no fewer finish it.
+pub record HasGone (p : Plan) (rounds turns : ℕ) (x : Cast) (played : List Played) : Type 0 where
+  pub leads : LeadsTo p (first_scene (opening_points p)) [] 0 (rounds_of rounds p) [] x played
+  pub count : turns ≡ length (rounds_of rounds p)
+  pub left : (m : ℕ) → m < rounds →
+      ¬ AreFinished p (scene_after p (first_scene (opening_points p)) (rounds_of m p)).world.machine.progress
