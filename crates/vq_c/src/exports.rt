@@ -21,9 +21,9 @@ pub struct Version {
 /// The version.
 #[unsafe(no_mangle)]
 pub extern "C" fn vq_version() -> Version
-    ensures { result ≡ record { face = 1; script = 1 } }
+    ensures { result ≡ record { face = 1; script = 2 } }
 {
-    Version { face: 1, script: 1 }
+    Version { face: 1, script: 2 }
 }
 
 /// Whether the script that a text holds is lawful, and if not, its first fault. Any bytes may be passed, from any

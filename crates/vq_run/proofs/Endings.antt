@@ -1,5 +1,5 @@
 -- What a run leaves in the sink, from the outcome of its input and from what writing it left.
-use Rattle.std.proofs.Common.{◌≡◌, ℕ, ◌<◌, ◌≤◌, List, length, Option, Some, None, IfSome, refl, subst, sym, arith, ap, ◌∙◌}
+use Rattle.std.proofs.Common.{◌≡◌, ℕ, ◌<◌, ◌≤◌, List, length, Option, Some, None, IfSome, refl, subst, sym, arith, ap, ◌∙◌, Bool, true, false, true≢false, cond}
 use Rattle.std.specs.Prelude.{Result, Ok, Err, IfOk, OnSome, []}
 use Rattle.std.proofs.lemmas.List.Elements.{All-nil}
 use Rattle.vq_model.specs.declared.script.Script.{Script}
@@ -8,31 +8,32 @@ use Rattle.vq_model.specs.declared.plan.PlanFault.TheVariants.{NoSignal, Signale
 use Rattle.vq_model.specs.declared.plan.OrderFault.{OrderFault}
 use Rattle.vq_model.specs.declared.plan.OrderFault.TheVariants.{Unreachable, Unordered, FenceBusy, NotPending, Race, Memory as NoMemoryToCheck}
 use Rattle.vq_model.specs.declared.statement.FaultKind.{FaultKind}
-use Rattle.vq_model.specs.Reading.{StandsFor, IsFirstFault}
+use Rattle.vq_model.specs.Reading.{IsFirstFault}
 use Rattle.vq_model.specs.Lowering.{plan_of}
 use Rattle.vq_model.specs.LoweringFaults.{lowering_fault, IsFirstLoweringFault, IsPlan, Lowers}
 use Rattle.vq_model.specs.Plan.{Plan}
 use Rattle.vq_model.specs.Checks.{IsLawful, IsFirstPlanFault, Checks}
-use Rattle.vq_model.specs.declared.statement.Form.TheVariants.{Plain, Scheduled}
 use Rattle.vq_model.specs.declared.script.Turn.{Turn}
 use Rattle.vq_model.specs.SameScript.{IsRead}
 use Rattle.vq_model.specs.ValidScripts.{IsActor}
 use Rattle.vq_reading_laws.proofs.Cited.{read_turns}
 use Rattle.vq_words.specs.declared.task.WordsFault.{WordsFault}
 use Rattle.vq_words.specs.declared.task.WordsFault.TheVariants.{Bad, Memory as NoMemoryForWords}
-use Rattle.vq_words.specs.Grammar.{Gives}
-use Rattle.vq_run.specs.Tasks.{form_of, input_of, planned, turns_for, RunsThreads}
+use Rattle.vq_words.specs.Grammar.{Gives, HasFewRounds}
+use Rattle.std.specs.Option.{option_map_or}
+use Rattle.vq_run.specs.Tasks.{form_of, generated_text, input_of, planned, row_of, turns_for, RunsThreads}
 use Rattle.vq_model.specs.Outputs.{IsOutput}
 use Rattle.vq_plan_laws.proofs.Cited.{kept_read, moved_read}
 use Rattle.vq_model.specs.Refusals.{too_long, line_refusal, plan_refusal, order_refusal}
 use Rattle.vq_order_laws.proofs.Cited.{lawful_without_fault}
 use Rattle.vq_words.specs.declared.task.Task.{Task}
-use Rattle.vq_words.specs.declared.task.Task.TheVariants.{Run, Check, Replay, Generate}
+use Rattle.vq_words.specs.declared.task.Task.TheVariants.{Run, Replay, Generate}
 use Rattle.vq_run.specs.declared.status.Status.{Status}
 use Rattle.vq_run.specs.declared.status.Status.TheVariants.{Done, BadWords, Refused, ReadFault, WriteFault, Memory}
 use Rattle.vq_messages.specs.Refused.{RefusesPlan, RefusesOrder, input_limit}
 use Rattle.vq_run.specs.Outcomes.{IsOutcome, is_too_long, has_faulty_line, has_no_plan, is_unlawful, gives_answer, Ends, AnswersTask, ReadsToEnd, IsLawfulInput, IsDoneOrMemory}
-use Rattle.vq_run.specs.Outcomes.{IsReadFor, ArePlayable, IsTrace, IsLawfulPlan, EndsForWords, WritesNothing}
+use Rattle.vq_run.specs.Outcomes.{IsReadFor, ArePlayable, IsLawfulPlan, EndsForWords, WritesNothing}
+use Rattle.vq_replay.specs.Traced.{IsTrace}
 use Rattle.vq_port.specs.Faults.{Rose}
 use Rattle.vq_port.specs.declared.read.ReadFault.{ReadFault as Unread}
 use Rattle.vq_port.specs.declared.read.ReadFault.TheVariants.{Failed, TooLong, Memory as NoMemoryToRead}
@@ -239,29 +240,23 @@ words_end task asked input NoMemoryForWords result before now g some memory w = 
 
 module _ (task : Task) (input : List ℕ) (s : Script) (turns : List Turn) (r : IsReadFor task input s turns) where
   pub read_for : IsRead s
-  read_for = subst IsRead (sym r.made) (by_task task r.stands)
+  read_for = subst IsRead (sym r.made) (by_turns (row_of task).plays_turns)
     where
-      by_task : (t : Task) → StandsFor input (form_of t) r.script → IsRead (planned t r.script)
-      by_task Run h = kept_read input Plain r.script h
-      by_task Check h = kept_read input Plain r.script h
-      by_task (Generate rounds) h = kept_read input Plain r.script h
-      by_task Replay h = moved_read input Scheduled r.script h
+      by_turns : (plays : Bool) → IsRead (cond plays (record r.script { turns = [] }) r.script)
+      by_turns true = moved_read input (form_of task) r.script r.stands
+      by_turns false = kept_read input (form_of task) r.script r.stands
 
   pub playable : ArePlayable s turns
   playable =
       subst (λ z. ArePlayable z turns) (sym r.made)
-      (subst (ArePlayable (planned task r.script)) (sym r.moved) (by_task task r.stands))
+      (subst (ArePlayable (planned task r.script)) (sym r.moved) (by_turns (row_of task).plays_turns))
     where
-      by_task : (t : Task) → StandsFor input (form_of t) r.script →
-          ArePlayable (planned t r.script) (turns_for t r.script)
-      by_task Run h = record { few = omega arith; actors = All-nil (λ t. IsActor r.script t.actor) }
-      by_task Check h = record { few = omega arith; actors = All-nil (λ t. IsActor r.script t.actor) }
-      by_task (Generate rounds) h =
-          record { few = omega arith; actors = All-nil (λ t. IsActor r.script t.actor) }
-      by_task Replay h =
-          let valid = read_turns r.script (kept_read input Scheduled r.script h) in
+      by_turns : (plays : Bool) → ArePlayable (cond plays (record r.script { turns = [] }) r.script) (cond plays r.script.turns [])
+      by_turns true =
+          let valid = read_turns r.script (kept_read input (form_of task) r.script r.stands) in
           let few = valid.few in
           record { few = omega arith; actors = valid.actors }
+      by_turns false = record { few = omega arith; actors = All-nil (λ t. IsActor r.script t.actor) }
 
   -- the script was refused for a fault of its lowering
   refused : (fault : PlanFault) (text : List ℕ) → length input ≤ input_limit →
@@ -299,10 +294,8 @@ module _ (task : Task) (input : List ℕ) (p : Plan) (turns : List Turn) (short 
       -- the turns that a task plays are those of the script that was read
       by_task : (t : Task) → turns ≡ turns_for t r.script → AnswersTask t p turns text →
           AnswersTask t p r.script.turns text
-      by_task Run same done = done
-      by_task Check same done = done
-      by_task (Generate rounds) same done = done
       by_task Replay same done = subst (λ ts. IsTrace p ts text) same done
+      by_task other same done = done
 
   -- it was refused for its first fault
   unlawful : (fault : OrderFault) (text : List ℕ) → IsFirstPlanFault p fault → text ≡ order_refusal fault →
@@ -334,8 +327,20 @@ pub runs_answer : (task : Task) (p : Plan) (turns : List Turn) (text : List ℕ)
     IsOutput p text → AnswersTask task p turns text
 runs_answer Run p turns text r o = o
 runs_answer (Generate rounds) p turns text r o = o
-runs_answer Check p turns text r o = absurd r
-runs_answer Replay p turns text r o = absurd r
+runs_answer other p turns text r o = absurd (true≢false (sym r))
+
+-- a task whose row has rounds makes a script of 1 to 500, and runs it
+pub makes_few : (task : Task) (rounds : ℕ) → (row_of task).rounds ≡ Some rounds → HasFewRounds task → (1 ≤ rounds) × (rounds ≤ 500) × RunsThreads task
+makes_few (Generate n) rounds e few = let same : n ≡ rounds = cc in subst (λ (k : ℕ). (1 ≤ k) × (k ≤ 500) × RunsThreads (Generate n)) same (few.0, few.1, refl)
+makes_few other rounds e few = absurd (let none : None ≡ Some rounds = e in cc)
+
+-- what is so for the input of a task, by the rounds of its row
+pub for_rounds : (P : List ℕ → Type 0) (task : Task) (rounds : ℕ) (left : Option (List ℕ)) → (row_of task).rounds ≡ Some rounds → P (generated_text rounds)
+    → IfSome (input_of task left) P
+for_rounds P task rounds left e h = subst (λ (o : Option ℕ). IfSome (option_map_or (λ n. Some (generated_text n)) o left) P) (sym e) h
+
+pub for_source : (P : List ℕ → Type 0) (task : Task) (left : Option (List ℕ)) → (row_of task).rounds ≡ None → IfSome left P → IfSome (input_of task left) P
+for_source P task left e h = subst (λ (o : Option ℕ). IfSome (option_map_or (λ n. Some (generated_text n)) o left) P) (sym e) h
 
 -- the plan of a script that was lowered is one of this script
 pub lowered_read : (task : Task) (input : List ℕ) (script : Script) (turns : List Turn) (p : Plan) →

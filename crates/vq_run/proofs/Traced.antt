@@ -11,7 +11,7 @@ use Rattle.vq_points.specs.Points.{HistoryFrom, opening_points, steps_of}
 use Rattle.vq_core.specs.CoreState.{Course, world}
 use Rattle.vq_replay.specs.declared.played.Played.{Played}
 use Rattle.vq_replay.specs.Traces.{events_of, played_turns, trace_text}
-use Rattle.vq_run.specs.Outcomes.{IsTrace}
+use Rattle.vq_replay.specs.Traced.{IsTrace}
 
 pub traced : (p : Plan) (turns : List Turn) (core : Course) (played : List Played) (text : List ℕ) →
     played ≡ played_turns p turns → core ≡ record { plan = p; history = events_of (played_turns p turns) } →

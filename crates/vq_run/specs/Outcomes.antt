@@ -10,57 +10,40 @@ use Rattle.vq_model.specs.Plan.{Plan}
 use Rattle.vq_model.specs.Lowering.{plan_of}
 use Rattle.vq_model.specs.LoweringFaults.{lowering_fault, IsFirstLoweringFault, Lowers}
 use Rattle.vq_model.specs.Checks.{IsLawful, IsFirstPlanFault}
-use Rattle.vq_model.specs.SlowRun.{bytes_after, final}
-use Rattle.vq_model.specs.OutputText.{answers_of, buffers_text, line_feed}
+use Rattle.vq_model.specs.Canonical.{canonical_text}
+use Rattle.vq_model.specs.OutputText.{line_feed}
 use Rattle.vq_model.specs.Outputs.{IsOutput}
 use Rattle.vq_model.specs.Refusals.{too_long, bad_words, line_refusal, plan_refusal, order_refusal}
-use Rattle.vq_model.specs.Machine.{AreFinished, State, Run as IsRunOf}
 use Rattle.vq_model.specs.ValidScripts.{IsActor}
-use Rattle.vq_points.specs.HistoryLaws.{PointLaw, PendingLaw}
-use Rattle.vq_history_laws.specs.Histories.{points_after}
-use Rattle.vq_points.specs.Points.{HistoryFrom, opening_points, steps_of}
-use Rattle.vq_replay.specs.Traces.{events_of, played_turns, trace_text}
+use Rattle.vq_replay.specs.Rounds.{IsRoundsTrace}
+use Rattle.vq_replay.specs.Traced.{IsTrace}
 use Rattle.vq_messages.specs.Refused.{input_limit}
 use Rattle.vq_run.specs.Tasks.{form_of, planned, turns_for}
 use Rattle.vq_run.specs.Writes.{SinkMoment, WroteAll, WrotePart, WroteNothing}
 use Rattle.vq_words.specs.declared.task.Task.{Task}
-use Rattle.vq_words.specs.declared.task.Task.TheVariants.{Run, Check, Replay, Generate}
+use Rattle.vq_words.specs.declared.task.Task.TheVariants.{Run, Check, Replay, Generate, Rounds, Upgrade}
 use Rattle.vq_run.specs.declared.reading.Reading.{Reading}
 use Rattle.vq_run.specs.declared.reading.Reading.TheVariants.{Lawful, Refused as RefusedReading}
 use Rattle.vq_run.specs.declared.status.Status.{Status}
 use Rattle.vq_run.specs.declared.status.Status.TheVariants.{Done, BadWords, Refused, ReadFault, WriteFault, Memory}
 
+-- the script as one of the second version
+abbrev pub upgraded : Script → Script
+upgraded s = record s { version = 2 }
+
 -- what is written of a lawful script that is only checked
 abbrev pub is_lawful_text : List ℕ
 is_lawful_text = codes "lawful" ++ line_feed
 
--- the state of the machine after a schedule's turns
-abbrev pub state_after_turns : Plan → List Turn → State
-state_after_turns p turns = (points_after p (events_of (played_turns p turns))).machine
-
--- The text of a schedule's turns over one core of a lawful plan. The events of the turns that moved are a
--- history of the plan: without those that show nothing of the machine they are a run of it, and they keep the
--- point law and the pending law. Where all jobs are finished, the bytes are those that the plan leaves, and the
--- answers with them, which stand behind the line `finished`, are an output of the plan.
-pub record IsTrace (p : Plan) (turns : List Turn) (text : List ℕ) : Type 0 where
-  pub spelled : text ≡ trace_text p (played_turns p turns) (state_after_turns p turns)
-  pub history : HistoryFrom p (opening_points p) (events_of (played_turns p turns))
-  pub run : IsRunOf p (steps_of (events_of (played_turns p turns)))
-  pub point_law : PointLaw p (events_of (played_turns p turns))
-  pub pending_law : PendingLaw p (events_of (played_turns p turns))
-  pub bytes : AreFinished p (state_after_turns p turns).progress →
-      bytes_after p (state_after_turns p turns).progress.applied ≡ final p
-  pub output : AreFinished p (state_after_turns p turns).progress →
-      IsOutput p (answers_of p (state_after_turns p turns)
-      ++ buffers_text p.script.buffers (bytes_after p (state_after_turns p turns).progress.applied))
-
 -- What a task writes for a lawful plan and the turns of a schedule: an output of the plan, that it is lawful,
--- or the trace of the turns.
+-- the trace of the turns, that of rounds to the end, or the canonical text of the script as one of the second version.
 abbrev pub AnswersTask : Task → Plan → List Turn → List ℕ → Type 0
 AnswersTask Run p turns text = IsOutput p text
 AnswersTask Check p turns text = text ≡ is_lawful_text
 AnswersTask Replay p turns text = IsTrace p turns text
 AnswersTask (Generate rounds) p turns text = IsOutput p text
+AnswersTask Rounds p turns text = IsRoundsTrace p text
+AnswersTask Upgrade p turns text = text ≡ canonical_text (upgraded p.script)
 
 -- What a task may answer for an input, with the text that it writes.
 pub data IsOutcome (task : Task) (input : List ℕ) : Status → List ℕ → Type 0 where

@@ -1,31 +1,41 @@
 -- What the tasks of the command line read and play. This project's own.
-use Rattle.std.specs.Prelude.{ℕ, Bool, true, false, List, [], Option, Some, None}
-use Rattle.vq_model.specs.declared.statement.Form.{Form}
+use Rattle.std.specs.Prelude.{ℕ, ◌≡◌, Bool, true, false, if◌then◌else◌, List, [], Option, Some, None, is_none}
+use Rattle.std.specs.Option.{option_map_or}
 use Rattle.vq_model.specs.declared.statement.Form.TheVariants.{Plain, Scheduled}
+use Rattle.vq_model.specs.declared.statement.Form.{Form}
 use Rattle.vq_model.specs.declared.script.Script.{Script}
 use Rattle.vq_model.specs.declared.script.Turn.{Turn}
 use Rattle.vq_model.specs.Canonical.{canonical_text}
 use Rattle.vq_generator.specs.Generated.{generated_script}
 use Rattle.vq_words.specs.declared.task.Task.{Task}
-use Rattle.vq_words.specs.declared.task.Task.TheVariants.{Run, Check, Replay, Generate}
+use Rattle.vq_words.specs.declared.task.Task.TheVariants.{Run, Check, Replay, Generate, Rounds, Upgrade}
+use Rattle.vq_run.specs.declared.task.TaskRow.{TaskRow}
+
+-- a task that reads a plain script, and starts no thread
+abbrev pub plain_row : TaskRow
+plain_row = record { form = Plain; plays_turns = false; runs_threads = false; rounds = None }
+
+-- the tasks, a row for each
+abbrev pub row_of : Task → TaskRow
+row_of Run = record plain_row { runs_threads = true }
+row_of Check = plain_row
+row_of Replay = record plain_row { form = Scheduled; plays_turns = true }
+row_of (Generate rounds) = record plain_row { runs_threads = true; rounds = Some rounds }
+row_of Rounds = plain_row
+row_of Upgrade = plain_row
 
 -- a task that starts no thread
 abbrev pub IsStill : Task → Type 0
-IsStill Check = Unit {0}
-IsStill Replay = Unit {0}
-IsStill other = ⊥
+IsStill task = (row_of task).runs_threads ≡ false
 
 -- a task that runs a script on threads
 abbrev pub RunsThreads : Task → Type 0
-RunsThreads Run = Unit {0}
-RunsThreads (Generate rounds) = Unit {0}
-RunsThreads other = ⊥
+RunsThreads task = (row_of task).runs_threads ≡ true
 
 -- Words ask for a task that reads the source: no other words, and no script that the program makes itself.
 abbrev pub reads_source : Option Task → Bool
 reads_source None = false
-reads_source (Some (Generate rounds)) = false
-reads_source (Some other) = true
+reads_source (Some task) = is_none (row_of task).rounds
 
 -- the text of the script of so many rounds that the program makes itself
 unfoldable pub generated_text : ℕ → List ℕ
@@ -33,20 +43,16 @@ generated_text rounds = canonical_text (generated_script rounds)
 
 -- the input of a task: the script that the program makes itself, or else what the source has
 abbrev pub input_of : Task → Option (List ℕ) → Option (List ℕ)
-input_of (Generate rounds) left = Some (generated_text rounds)
-input_of other left = left
+input_of task left = option_map_or (λ rounds. Some (generated_text rounds)) (row_of task).rounds left
 
 -- the form of the scripts that a task reads
 abbrev pub form_of : Task → Form
-form_of Replay = Scheduled
-form_of other = Plain
+form_of task = (row_of task).form
 
 -- The script of which a task makes a plan: the turns of a schedule are played, and are no part of it.
 abbrev pub planned : Task → Script → Script
-planned Replay s = record s { turns = [] }
-planned other s = s
+planned task s = if (row_of task).plays_turns then record s { turns = [] } else s
 
 -- the turns that a task plays
 abbrev pub turns_for : Task → Script → List Turn
-turns_for Replay s = s.turns
-turns_for other s = []
+turns_for task s = if (row_of task).plays_turns then s.turns else []

@@ -1,11 +1,13 @@
 //! What the program writes for an input.
 ghost use Rattle.std.specs.Prelude.{◌≡◌, ◌≤◌, ◌++◌, IfOk, length};
+ghost use Rattle.vq_model.specs.Canonical.{canonical_text};
 ghost use Rattle.vq_model.specs.Memory.{HasSizes};
 ghost use Rattle.vq_model.specs.OutputText.{answer_text, buffers_text};
 ghost use Rattle.vq_model.specs.Outputs.{IsOutput, asking};
 ghost use Rattle.vq_model.specs.ValidScripts.{sizes_of};
 ghost use Rattle.vq_messages.specs.Refused.{input_limit};
-ghost use Rattle.vq_run.specs.Outcomes.{AnswersTask, ArePlayable, IsOutcome, IsTrace};
+ghost use Rattle.vq_run.specs.Outcomes.{AnswersTask, ArePlayable, IsOutcome, upgraded};
+ghost use Rattle.vq_replay.specs.Traced.{IsTrace};
 ghost use Rattle.vq_run.specs.Tasks.{IsStill, RunsThreads};
 ghost use Rattle.vq_board.specs.Named.{bytes_of};
 ghost use Rattle.vq_spec.specs.TextRooms.{text_room};
@@ -18,8 +20,9 @@ use std::sync::Wait;
 use std::thread::Threads;
 use vq_model::script::Turn;
 use vq_order::Ordered;
-use vq_replay::{replay, trace_text};
+use vq_replay::{replay, rounds_text, trace_text};
 use vq_rings::{Gate, Opened, Report};
+use vq_script::print_as;
 use vq_spec::TextRoom;
 use vq_words::Task;
 
@@ -93,6 +96,13 @@ fn replay_text(alloc: Global, ordered: Ordered, turns: &[Turn]) -> Result<Vec<u8
     trace_text(alloc, &replayed)
 }
 
+/// The script of a lawful plan, written as one of the second version.
+fn upgraded_text(alloc: Global, ordered: &Ordered) -> Result<Vec<u8>, AllocError>
+    ensures { IfOk result (λ text. text.items ≡ canonical_text (upgraded ordered.now.script)) }
+{
+    print_as(alloc, ordered.plan().script(), 2)
+}
+
 /// What a task that starts no thread writes for a lawful plan.
 fn still_text(
     alloc: Global,
@@ -105,8 +115,11 @@ fn still_text(
     ensures { IfOk result (λ text. AnswersTask task ordered turns.now text.items) }
 {
     match task {
+        Task::Check => Vec::from_slice(alloc, b"lawful\n"),
         Task::Replay => replay_text(alloc, ordered, turns),
-        _ => Vec::from_slice(alloc, b"lawful\n"),
+        Task::Rounds => rounds_text(alloc, ordered),
+        Task::Upgrade => upgraded_text(alloc, &ordered),
+        Task::Run | Task::Generate(_) => unreachable!(),
     }
 }
 

@@ -5,7 +5,7 @@ ghost use Rattle.vq_messages.specs.Refused.{input_limit};
 ghost use Rattle.vq_run.specs.Outcomes.{IsReadFor, IsReading};
 ghost use Rattle.vq_run.specs.Tasks.{planned, turns_for};
 
-use crate::task::form_of;
+use crate::task::row_of;
 use std::alloc::{AllocError, Global};
 use std::mem::replace;
 use vq_messages::{line_refusal, order_refusal, plan_refusal};
@@ -75,9 +75,11 @@ fn move_turns(alloc: Global, task: Task, script: Script) -> Planned
     ensures turns { result.turns ≡ turns_for task script }
 {
     let mut script = script;
-    let turns = match task {
-        Task::Run | Task::Check | Task::Generate(_) => List::of(Vec::new(alloc)),
-        Task::Replay => replace(&mut script.turns, List::of(Vec::new(alloc))),
+    let none = List::of(Vec::new(alloc));
+    let turns = if row_of(task).plays_turns {
+        replace(&mut script.turns, none)
+    } else {
+        none
     };
     Planned { script, turns }
 }
@@ -87,7 +89,7 @@ pub fn read_input(alloc: Global, task: Task, input: &[u8]) -> Result<Reading, Al
     requires { length input.now ≤ input_limit }
     ensures { IfOk result (IsReading task input.now) }
 {
-    match parse(alloc, input, form_of(task)) {
+    match parse(alloc, input, row_of(task).form) {
         Ok(script) => {
             let Planned { script, turns } = move_turns(alloc, task, script);
             of_script(alloc, task, script, turns, input)

@@ -1,16 +1,54 @@
-//! The form of the scripts that a task reads.
+//! What the tasks need of the program, as a table: a row for each.
 ghost use Rattle.std.specs.Prelude.{◌≡◌};
-ghost use Rattle.vq_run.specs.Tasks.{form_of};
+ghost use Rattle.vq_run.specs.Tasks.{plain_row, row_of};
 
 use vq_script::Form;
 use vq_words::Task;
 
-/// The form of the scripts that a task reads.
-pub(crate) fn form_of(task: Task) -> Form
-    ensures { result ≡ form_of task }
+/// What a task needs of the program.
+#[derive(Clone, Copy)]
+pub struct TaskRow {
+    /// The form of the scripts that it reads.
+    pub form: Form,
+    /// Whether it plays the turns of a schedule, which are then no part of the plan.
+    pub plays_turns: bool,
+    /// Whether it runs the script on threads.
+    pub runs_threads: bool,
+    /// The rounds of the script that the program makes itself. Without them the source is read.
+    pub rounds: Option<u32>,
+}
+
+/// A task that reads a plain script, and starts no thread.
+fn plain_row() -> TaskRow
+    ensures { result ≡ plain_row }
+{
+    TaskRow {
+        form: Form::Plain,
+        plays_turns: false,
+        runs_threads: false,
+        rounds: None,
+    }
+}
+
+/// The row of a task.
+pub(crate) fn row_of(task: Task) -> TaskRow
+    ensures { result ≡ row_of task }
 {
     match task {
-        Task::Run | Task::Check | Task::Generate(_) => Form::Plain,
-        Task::Replay => Form::Scheduled,
+        Task::Run => TaskRow {
+            runs_threads: true,
+            ..plain_row()
+        },
+        Task::Replay => TaskRow {
+            form: Form::Scheduled,
+            plays_turns: true,
+            ..plain_row()
+        },
+        Task::Generate(rounds) => TaskRow {
+            runs_threads: true,
+            rounds: Some(rounds),
+            ..plain_row()
+        },
+        Task::Check | Task::Rounds | Task::Upgrade => plain_row(),
     }
 }

@@ -15,8 +15,8 @@ use vq_messages::INPUT_LIMIT;
 use vq_port::{Sink, Source, read_whole};
 use vq_words::Task;
 
-/// Does a task that starts no thread, a check or a replay, with the script that the source holds, and writes
-/// the answer. It waits for nobody, so it always returns.
+/// Does a task that starts no thread, a check, a replay, rounds or an upgrade, with the script that the source holds,
+/// and writes the answer. It waits for nobody, so it always returns.
 ///
 /// The source is read to its end. An input above 4,194,304 bytes, a faulty line, a script without a plan and
 /// an unlawful plan are `Refused`, with the line of the first fault. `ReadFault` comes only where the source

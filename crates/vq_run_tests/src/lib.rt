@@ -13,3 +13,5 @@ mod mode_tests;
 mod port_tests;
 #[cfg(test)]
 mod run_tests;
+#[cfg(test)]
+mod version_tests;

@@ -121,13 +121,15 @@ fn generated_scripts_are_run(rt: HostRuntime) -> Result<(), Fail> {
 }
 
 #[test]
-fn numbers_of_rounds_are_refused(rt: HostRuntime) -> Result<(), Fail> {
+fn other_words_are_refused(rt: HostRuntime) -> Result<(), Fail> {
     for words in [
         &["--generate", "0"] as &[&str],
         &["--generate=501"],
         &["--generate"],
         &["--check", "--replay"],
         &["--generate=5", "--check"],
+        &["--upgrade", "--check"],
+        &["--upgrade=2"],
     ] {
         let words = words_of(rt.alloc(), words)?;
         each_ends(
@@ -139,6 +141,76 @@ fn numbers_of_rounds_are_refused(rt: HostRuntime) -> Result<(), Fail> {
         )?;
     }
     Ok(())
+}
+
+#[test]
+fn rounds_are_played(rt: HostRuntime) -> Result<(), Fail> {
+    let words = words_of(rt.alloc(), &["--rounds"])?;
+    each_ends(
+        &rt,
+        rt.alloc(),
+        words.as_slice(),
+        Status::Done,
+        &[
+            ("", "finished\nend\n"),
+            (
+                "queue Q threaded\nsubmit Q\nend\n",
+                "1 host submit 2\n2 S:Q release 2\n3 R:Q start 2\n6 R:Q finish 2\nfinished\nend\n",
+            ),
+            (
+                "buffer X 8\nbuffer Y 8\ntimeline A 0\nqueue P threaded\nqueue Q threaded\nsubmit P\nwait A 1\n\
+                 copy X 0 Y 0 8\nend\nsubmit Q\nfill X 0 8 0x0a0b0c0d\nsignal A 1\nend\n",
+                "1 host submit 6\n6 host submit 10\n8 S:Q take A 1 fresh 0\n13 S:Q release 10\n15 R:Q start 10\n\
+                 18 S:Q bind A 1 0\n20 R:Q apply 11\n22 S:P release 6\n24 R:P refer 0 A 1\n25 R:Q signal A 1\n\
+                 29 R:P look 0 A 1\n30 R:Q finish 10\n34 R:P unref 0 A 1\n39 R:P start 6\n44 R:P apply 8\n\
+                 49 R:P finish 6\nfinished\nbuffer X 8\n0d0c0b0a0d0c0b0a\nbuffer Y 8\n0d0c0b0a0d0c0b0a\nend\n",
+            ),
+        ],
+    )
+}
+
+/// A script of the first version, and the same as it is written in the second.
+const FIRST_VERSION: &str =
+    "buffer X 4 # note\ntimeline A 0x10\nqueue Q threaded\nsubmit Q\nwait A 16\n\
+    fill X 0 whole 1\nend\n";
+
+const SECOND_VERSION: &str =
+    "version 2\nbuffer X 4\ntimeline A 16\nqueue Q threaded\nsubmit Q\nwait A 16\n\
+    fill X 0 whole 0x00000001\nend\n";
+
+#[test]
+fn scripts_are_upgraded(rt: HostRuntime) -> Result<(), Fail> {
+    let words = words_of(rt.alloc(), &["--upgrade"])?;
+    each_ends(
+        &rt,
+        rt.alloc(),
+        words.as_slice(),
+        Status::Done,
+        &[
+            ("", "version 2\n"),
+            (FIRST_VERSION, SECOND_VERSION),
+            // the text of an upgrade is its own upgrade
+            (SECOND_VERSION, SECOND_VERSION),
+        ],
+    )?;
+    each_ends(
+        &rt,
+        rt.alloc(),
+        words.as_slice(),
+        Status::Refused,
+        &[
+            (
+                "timeline A 0\nqueue P threaded\nqueue Q threaded\nsubmit P\nsignal A 1\nend\nsubmit Q\n\
+                 signal A 2\nend\n",
+                "error: unordered: lines 5 and 8\n",
+            ),
+            // a schedule is no part of what is upgraded
+            (
+                "queue Q threaded\nsubmit Q\nend\nschedule\nR:Q\n",
+                "error: syntax: line 4\n",
+            ),
+        ],
+    )
 }
 
 #[test]

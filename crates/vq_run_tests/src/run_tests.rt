@@ -165,7 +165,7 @@ fn faulty_lines_are_refused(rt: HostRuntime) -> Result<(), Fail> {
             // a batch that is left open
             ("queue Q immediate\nsubmit Q\n", "error: syntax: line 3\n"),
             ("queue Q immediate\nsubmit Q\n\r", "error: syntax: line 4\n"),
-            // a byte that may not stand in a line, forms that are not built
+            // a byte that may not stand in a line, a version that comes late, a wait of the second version in the first
             ("buffer X 4\nbuffer Y\u{e9} 4\n", "error: syntax: line 2\n"),
             ("buffer X 4\nversion 2\n", "error: syntax: line 2\n"),
             (

@@ -1,5 +1,5 @@
 -- Words that name an option, and all others.
-use Rattle.std.proofs.Common.{◌≡◌, ◌∙◌, ◌==◌, ◌+◌, ◌∷◌, ◌++◌, ℕ, suc, not, arith, List, [], Option, Some, None, Bool, true, false, true≢false, cond, refl, sym, ap, subst, codes}
+use Rattle.std.proofs.Common.{◌≡◌, ◌∙◌, ◌==◌, ◌+◌, ◌∷◌, ◌++◌, ℕ, suc, not, arith, List, [], Option, Some, None, Bool, true, false, true≢false, cond, refl, sym, ap, subst, map}
 use Rattle.std.proofs.lemmas.Bool.{eqb-true}
 use Rattle.std.proofs.lemmas.Slice.Eq.{bytes_eq-Decides}
 use Rattle.std.specs.List.{prefix_len}
@@ -7,9 +7,11 @@ use Rattle.std.specs.Option.{is_some}
 use Rattle.std.specs.Prelude.{option_and_then}
 use Rattle.std.specs.Str.{bytes_eq}
 use Rattle.clap.specs.Lexer.{has_byte, long_of, long_of_rest, name_and_value, short_of, short_of_rest, strip_byte}
-use Rattle.clap.specs.Simple.{built}
+use Rattle.clap.specs.Simple.{built, filled, with_index}
 use Rattle.clap.specs.Walk.{Rule, Text, arg_by_long}
-use Rattle.vq_words.specs.Options.{vq_options}
+use Rattle.vq_words.specs.Grammar.{Choice, options}
+use Rattle.vq_words.specs.Options.{option_rule, vq_options}
+use Rattle.vq_words.proofs.Rows.{Each, Shown}
 
 abbrev pub rules : List Rule
 rules = (built vq_options).top.rules
@@ -77,28 +79,30 @@ short_is word flags e = go (strip_byte 45 word) refl e
     go None same found = absurd (not_none flags (sym found))
     go (Some rest) same found = (rest, stripped 45 word rest same)
 
+-- an option's rule, as building the program leaves it
+abbrev built_rule : Choice → Rule
+built_rule choice = with_index 1 (filled (option_rule choice))
+
 -- what is shown of the words that name an option, and of those that name none, is shown of all
-pub by_word : (P : Text → Type 0) (word : Text) → P (codes "--check") → ((x : Text) → P (codes "--check=" ++ x)) → P (codes "--replay")
-    → ((x : Text) → P (codes "--replay=" ++ x)) → P (codes "--generate") → ((x : Text) → P (codes "--generate=" ++ x)) → (option_in word ≡ None → P word) → P word
-by_word P word check check_to replay replay_to generate generate_to other = start (long_of word) refl
+pub by_word : (P : Text → Type 0) (word : Text) → Each (Shown P) options → (option_in word ≡ None → P word) → P word
+by_word P word shown other = start (long_of word) refl
   where
-    pick : (name : Text) (value : Option Text) → P (45 ∷ 45 ∷ name) → ((x : Text) → P (45 ∷ 45 ∷ (name ++ 61 ∷ x))) → P (45 ∷ 45 ∷ joined name value)
-    pick name None bare with_value = bare
-    pick name (Some x) bare with_value = with_value x
+    named : (choice : Choice) (value : Option Text) → word ≡ 45 ∷ 45 ∷ joined choice.word value → Shown P choice → P word
+    named choice None is shown = subst P (sym is) shown.0
+    named choice (Some x) is shown = subst P (sym is) (shown.1 x)
 
-    named : (name known : Text) (value : Option Text) → word ≡ 45 ∷ 45 ∷ joined name value → bytes_eq known name ≡ true → P (45 ∷ 45 ∷ joined known value) → P word
-    named name known value is same shown =
-        subst P (ap (λ (n : Text). 45 ∷ 45 ∷ joined n value) ((bytes_eq-Decides known name).0 same) ∙ sym is) shown
-
-    go : (name : Text) (value : Option Text) → word ≡ 45 ∷ 45 ∷ joined name value → option_in word ≡ arg_by_long rules name
-        → (a b c : Bool) → bytes_eq (codes "check") name ≡ a → bytes_eq (codes "replay") name ≡ b → bytes_eq (codes "generate") name ≡ c → P word
-    go name value is found true b c ea eb ec = named name (codes "check") value is ea (pick (codes "check") value check check_to)
-    go name value is found false true c ea eb ec = named name (codes "replay") value is eb (pick (codes "replay") value replay replay_to)
-    go name value is found false false true ea eb ec = named name (codes "generate") value is ec (pick (codes "generate") value generate generate_to)
-    go name value is found false false false ea eb ec =
-        let none : arg_by_long rules name ≡ None = rw (ea, eb, ec) refl in
-        other (found ∙ none)
+    go : (name : Text) (value : Option Text) → word ≡ 45 ∷ 45 ∷ joined name value
+        → (choices : List Choice) → Each (Shown P) choices → option_in word ≡ arg_by_long (map built_rule choices) name → P word
+    go name value is [] shown found = other found
+    go name value is (choice ∷ choices) shown found = by_name (bytes_eq choice.word name) refl (go name value is choices shown.1)
+      where
+        by_name : (b : Bool) → bytes_eq choice.word name ≡ b → (option_in word ≡ arg_by_long (map built_rule choices) name → P word) → P word
+        by_name true same more =
+            named choice value (is ∙ ap (λ (n : Text). 45 ∷ 45 ∷ joined n value) (sym ((bytes_eq-Decides choice.word name).0 same))) shown.0
+        by_name false same more =
+            let next : arg_by_long (map built_rule (choice ∷ choices)) name ≡ arg_by_long (map built_rule choices) name = rw same refl in
+            more (found ∙ next)
 
     start : (o : Option (Text × Option Text)) → long_of word ≡ o → P word
     start None e = other (ap (option_and_then (λ p. arg_by_long rules p.0)) e)
-    start (Some p) e = go p.0 p.1 (long_is word p.0 p.1 e) (ap (option_and_then (λ q. arg_by_long rules q.0)) e) _ _ _ refl refl refl
+    start (Some p) e = go p.0 p.1 (long_is word p.0 p.1 e) options shown (ap (option_and_then (λ q. arg_by_long rules q.0)) e)

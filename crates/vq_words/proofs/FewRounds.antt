@@ -1,17 +1,20 @@
 -- A task that makes a script makes one of 1 to 500 rounds.
 use Rattle.std.proofs.Common.{◌≡◌, ℕ, ◌&&◌, Bool, true, false, cond, List, [], ◌∷◌, length, Option, Some, None, Result, Ok, Err, IfOk}
-use Rattle.std.proofs.Common.{refl, subst, codes, nat_lt, nat_le}
+use Rattle.std.proofs.Common.{refl, sym, subst, true≢false, nat_lt, nat_le}
 use Rattle.std.proofs.lemmas.Bool.{leb-true}
-use Rattle.std.specs.Prelude.{option_map, option_and_then}
+use Rattle.std.specs.Prelude.{not, option_map}
+use Rattle.std.specs.Option.{option_map_or}
 use Rattle.std.specs.Char.{digit_value}
 use Rattle.std.specs.List.{list_all}
-use Rattle.std.specs.Str.{bytes_eq}
 use Rattle.std.specs.Str.Parse.{digits_value}
+use Rattle.vq_words.specs.declared.table.Asks.{Asks}
+use Rattle.vq_words.specs.declared.table.Asks.TheVariants.{Alone, Numbered}
 use Rattle.vq_words.specs.declared.task.Task.{Task}
-use Rattle.vq_words.specs.declared.task.Task.TheVariants.{Run, Check, Replay, Generate}
+use Rattle.vq_words.specs.declared.task.Task.TheVariants.{Run, Generate}
 use Rattle.vq_words.specs.declared.task.WordsFault.{WordsFault}
 use Rattle.vq_words.specs.declared.task.WordsFault.TheVariants.{Bad, Memory}
-use Rattle.vq_words.specs.Grammar.{HasFewRounds, Gives, behind, generated, is_number_of_rounds, task_of}
+use Rattle.vq_words.specs.Grammar.{Choice, HasFewRounds, Gives, generated, given, is_number_of_rounds, options, task_among, task_by, task_of}
+use Rattle.vq_words.proofs.Rows.{Each, each_same}
 
 -- the last two of five tests that all hold
 last_two : (a b c d e : Bool) → (a && b && c && d && e) ≡ true → (d ≡ true) × (e ≡ true)
@@ -39,29 +42,44 @@ few_generated word task h = by_test (is_number_of_rounds word) refl h
         subst HasFewRounds same (few_number word e)
     by_test false e h = absurd (let none : None ≡ Some task = h in cc)
 
-few_behind : (o : Option (List ℕ)) (task : Task) → option_and_then generated o ≡ Some task → HasFewRounds task
-few_behind None task h = absurd (let none : None ≡ Some task = h in cc)
-few_behind (Some word) task h = few_generated word task h
+abbrev makes_script : Task → Bool
+makes_script (Generate rounds) = true
+makes_script other = false
+
+-- by its word alone an option asks for no task that makes a script
+abbrev makes_none : Choice → Bool
+makes_none choice = by_asks choice.asks
+  where
+    by_asks : Asks → Bool
+    by_asks (Alone task) = not (makes_script task)
+    by_asks Numbered = true
+
+few_other : (task : Task) → not (makes_script task) ≡ true → HasFewRounds task
+few_other (Generate rounds) h = absurd (true≢false (sym h))
+few_other other h = tt
+
+few_by : (choice : Choice) → makes_none choice ≡ true → (value : Option (List ℕ)) (task : Task) → task_by choice.asks value ≡ Some task → HasFewRounds task
+few_by choice none value task e = by_asks choice.asks none value e
+  where
+    by_asks : (asks : Asks) → makes_none (record { word = []; asks = asks }) ≡ true → (value : Option (List ℕ)) → task_by asks value ≡ Some task → HasFewRounds task
+    by_asks (Alone alone) h None e = let same : alone ≡ task = cc in subst HasFewRounds same (few_other alone h)
+    by_asks (Alone alone) h (Some word) e = absurd (let none : None ≡ Some task = e in cc)
+    by_asks Numbered h None e = absurd (let none : None ≡ Some task = e in cc)
+    by_asks Numbered h (Some word) e = few_generated word task e
+
+few_among : (choices : List Choice) → Each (λ c. makes_none c ≡ true) choices → (words : List (List ℕ)) (task : Task) → task_among choices words ≡ Some task
+    → HasFewRounds task
+few_among [] none words task e = absurd (let no : None ≡ Some task = e in cc)
+few_among (choice ∷ choices) none words task e = by_words (given choice words) e (few_among choices none.1 words task)
+  where
+    by_words : (o : Option (Option (List ℕ))) → option_map_or (task_by choice.asks) o (task_among choices words) ≡ Some task
+        → (task_among choices words ≡ Some task → HasFewRounds task) → HasFewRounds task
+    by_words None h more = more h
+    by_words (Some value) h more = few_by choice none.0 value task h
 
 few_asked : (words : List (List ℕ)) (task : Task) → task_of words ≡ Some task → HasFewRounds task
 few_asked [] task h = let same : Run ≡ task = cc in subst HasFewRounds same tt
-few_asked (word ∷ []) task h = by_check (bytes_eq word (codes "--check")) h
-  where
-    by_replay : (b : Bool) → cond b (Some Replay) (option_and_then generated (behind (codes "--generate=") word)) ≡ Some task →
-        HasFewRounds task
-    by_replay true h = let same : Replay ≡ task = cc in subst HasFewRounds same tt
-    by_replay false h = few_behind (behind (codes "--generate=") word) task h
-
-    by_check : (b : Bool) → cond b (Some Check) (cond (bytes_eq word (codes "--replay")) (Some Replay)
-        (option_and_then generated (behind (codes "--generate=") word))) ≡ Some task → HasFewRounds task
-    by_check true h = let same : Check ≡ task = cc in subst HasFewRounds same tt
-    by_check false h = by_replay (bytes_eq word (codes "--replay")) h
-few_asked (word ∷ number ∷ []) task h = by_test (bytes_eq word (codes "--generate")) h
-  where
-    by_test : (b : Bool) → cond b (generated number) None ≡ Some task → HasFewRounds task
-    by_test true h = few_generated number task h
-    by_test false h = absurd (let none : None ≡ Some task = h in cc)
-few_asked (word ∷ number ∷ more ∷ words) task h = absurd (let none : None ≡ Some task = h in cc)
+few_asked (word ∷ words) task h = few_among options (each_same makes_none (λ c. true) options refl) (word ∷ words) task h
 
 -- what was read
 pub few_given : (words : List (List ℕ)) (r : Result Task WordsFault) → Gives r (task_of words) → IfOk r HasFewRounds

@@ -1,4 +1,5 @@
-mod FewRounds
 mod AllWords
 mod ByWord
+mod FewRounds
+mod Rows
 mod Strays

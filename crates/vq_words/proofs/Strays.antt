@@ -1,30 +1,29 @@
 -- What `clap` makes of words against the task that they ask for; words that name no option.
-use Rattle.std.proofs.Common.{◌≡◌, ◌∙◌, ◌==◌, ◌∷◌, ◌++◌, ℕ, List, [], Option, Some, None, Bool, true, false, cond, refl, sym, ap, subst, length, codes}
+use Rattle.std.proofs.Common.{◌≡◌, ◌∙◌, ◌==◌, ◌∷◌, ◌++◌, ℕ, List, [], Option, Some, None, Bool, true, false, true≢false, cond, refl, sym, ap, subst, length, append_assoc, codes}
 use Rattle.std.proofs.lemmas.Bool.{eqb-true}
 use Rattle.std.proofs.lemmas.Slice.Eq.{bytes_eq-Decides}
 use Rattle.std.specs.Option.{is_some, option_map_or}
-use Rattle.std.specs.Prelude.{if◌then◌else◌, option_and_then, slice_get, unwrap_or}
+use Rattle.std.specs.Prelude.{if◌then◌else◌, option_and_then, option_map, slice_get, unwrap_or}
 use Rattle.std.specs.Str.{bytes_eq, chars}
 use Rattle.clap.specs.Faults.{bundle_fault, bundle_step_fault, check_fault, defaults_fault, entered_fault, fault_of, flag_word_fault, flags_fault, long_fault, settle_fault, step_fault, turn_fault, walk_fault}
 use Rattle.clap.specs.Kinds.{Kinds, or_else}
 use Rattle.clap.specs.Lexer.{long_of, short_of}
 use Rattle.clap.specs.Simple.{Shape, built, entered, matches_of}
-use Rattle.clap.specs.Walk.{Held, Row, Rule, Step, Text, Waiting, Walk, after_flag, after_step, arg_by_long, bundle_met, bundle_step, finished, first_of, idle, long_or_other, nothing_held, one_of, option, plain, settled, short_or_plain, trailing, walk_from}
+use Rattle.clap.specs.Walk.{Held, Row, Rule, Step, Text, Waiting, Walk, after_flag, after_step, arg_by_long, bundle_met, bundle_step, finished, first_of, idle, long_or_other, nothing_held, option, plain, settled, short_or_plain, trailing, walk_from}
 use Rattle.clap.proofs.OnLiterals.{clap_on_literals}
-use Rattle.vq_words.specs.Grammar.{behind, generated, task_of}
-use Rattle.vq_words.specs.Options.{task_by, vq_options}
+use Rattle.vq_words.specs.Grammar.{Choice, behind, generated, options, task_among, task_by, task_of, written}
+use Rattle.vq_words.specs.Options.{Nothing, found_among, task_given, vq_options}
 use Rattle.vq_words.specs.declared.task.Task.{Task}
-use Rattle.vq_words.specs.declared.task.Task.TheVariants.{Check, Replay}
+use Rattle.vq_words.proofs.Rows.{Each, Shown, shown_same}
 use Rattle.vq_words.proofs.ByWord.{long_is, not_none, option_in, rules, short_is}
 
-abbrev pub flag_text : Bool → Text
-flag_text b = cond b (codes "true") (codes "false")
+-- what is read of the answer: a task where no fault is found, and else none
+abbrev pub read_of : Kinds → List Row → Option Task
+read_of [] rows = task_given (found_among Nothing options (λ word. first_of word rows))
+read_of (k ∷ ks) rows = None
 
--- where no fault is found, the rows say the task; else there is none
 abbrev pub Tells : Kinds → List Row → Option Task → Type 0
-Tells [] rows task = (check replay : Bool) × (one_of (codes "check") rows ≡ Some (flag_text check)) × (one_of (codes "replay") rows ≡ Some (flag_text replay))
-    × (task_by check replay (first_of (codes "generate") rows) ≡ task)
-Tells (k ∷ ks) rows task = task ≡ None
+Tells kinds rows task = task ≡ read_of kinds rows
 
 abbrev pub Says : List Text → Type 0
 Says words = Tells (fault_of vq_options words) (matches_of vq_options words) (task_of words)
@@ -85,7 +84,7 @@ by_fault words found none = go (walk_fault shape [] (walk_from nothing_held) wor
     go [] g h = absurd h
     go (k ∷ ks) g h = none
 
--- a word that is not `--check`, `--replay` or `--generate=N` asks for nothing
+-- a word that names no option asks for nothing
 behind_is : (beginning word rest : Text) → behind beginning word ≡ Some rest → word ≡ beginning ++ rest
 behind_is [] word rest e = ap (λ (o : Option Text). unwrap_or o []) e
 behind_is (b ∷ beginning) [] rest e = absurd (not_none rest (sym e))
@@ -96,28 +95,44 @@ behind_is (b ∷ beginning) (c ∷ word) rest e = go (b == c) refl e (behind_is 
     go true is found more = ap (λ (y : ℕ). y ∷ word) (sym (eqb-true b c is)) ∙ ap (λ (ys : Text). b ∷ ys) (more found)
     go false is found more = absurd (not_none rest (sym found))
 
+-- the words of the options are found
+abbrev IsFound : Text → Type 0
+IsFound word = is_some (option_in word) ≡ true
+
+found_words : Each (Shown IsFound) options
+found_words = shown_same (λ w. is_some (option_in w)) (λ w. true) options refl refl
+
+is_not : (word known : Text) → option_in word ≡ None → word ≡ known → is_some (option_in known) ≡ true → ⊥
+is_not word known none is found = true≢false (sym found ∙ ap (λ (w : Text). is_some (option_in w)) (sym is) ∙ ap is_some none)
+
 pub stray_asks : (word : Text) → option_in word ≡ None → task_of (word ∷ []) ≡ None
-stray_asks word none = go _ _ _ refl refl refl
+stray_asks word none = go options found_words
   where
-    is_not : (known : Text) (rule : Rule) → word ≡ known → option_in known ≡ Some rule → ⊥
-    is_not known rule is found = not_none rule (sym found ∙ ap option_in (sym is) ∙ none)
+    go : (choices : List Choice) → Each (Shown IsFound) choices → task_among choices (word ∷ []) ≡ None
+    go [] found = refl
+    go (choice ∷ choices) found = by_words (bytes_eq word (written choice)) (behind (written choice ++ codes "=") word) refl refl (go choices found.1)
+      where
+        by_words : (a : Bool) (o : Option Text) → bytes_eq word (written choice) ≡ a → behind (written choice ++ codes "=") word ≡ o
+            → task_among choices (word ∷ []) ≡ None
+            → option_map_or (task_by choice.asks) (if a then Some None else option_map Some o) (task_among choices (word ∷ [])) ≡ None
+        by_words true o ea eo more = absurd (is_not word (written choice) none ((bytes_eq-Decides word (written choice)).0 ea) found.0.0)
+        by_words false (Some rest) ea eo more =
+            absurd (is_not word (written choice ++ 61 ∷ rest) none
+            (behind_is (written choice ++ codes "=") word rest eo ∙ append_assoc (written choice) (codes "=") rest) (found.0.1 rest))
+        by_words false None ea eo more = more
 
-    go : (a b : Bool) (o : Option Text) → bytes_eq word (codes "--check") ≡ a → bytes_eq word (codes "--replay") ≡ b → behind (codes "--generate=") word ≡ o
-        → (if a then Some Check else if b then Some Replay else option_and_then generated o) ≡ None
-    go true b o ea eb eo = absurd (is_not (codes "--check") _ ((bytes_eq-Decides word (codes "--check")).0 ea) refl)
-    go false true o ea eb eo = absurd (is_not (codes "--replay") _ ((bytes_eq-Decides word (codes "--replay")).0 eb) refl)
-    go false false (Some rest) ea eb eo = absurd (is_not (codes "--generate=" ++ rest) _ (behind_is (codes "--generate=") word rest eo) refl)
-    go false false None ea eb eo = refl
-
--- and before a number neither
-pub stray_asks_before : (word number : Text) → option_in word ≡ None → task_of (word ∷ number ∷ []) ≡ None
-stray_asks_before word number none = go _ refl
+-- and before a second word neither
+pub stray_asks_before : (word value : Text) → option_in word ≡ None → task_of (word ∷ value ∷ []) ≡ None
+stray_asks_before word value none = go options found_words
   where
-    go : (a : Bool) → bytes_eq word (codes "--generate") ≡ a → (if a then generated number else None) ≡ None
-    go true e =
-        let is : word ≡ codes "--generate" = (bytes_eq-Decides word (codes "--generate")).0 e in
-        absurd (not_none _ (ap option_in (sym is) ∙ none))
-    go false e = refl
+    go : (choices : List Choice) → Each (Shown IsFound) choices → task_among choices (word ∷ value ∷ []) ≡ None
+    go [] found = refl
+    go (choice ∷ choices) found = by_words (bytes_eq word (written choice)) refl (go choices found.1)
+      where
+        by_words : (a : Bool) → bytes_eq word (written choice) ≡ a → task_among choices (word ∷ value ∷ []) ≡ None
+            → option_map_or (task_by choice.asks) (if a then Some (Some value) else None) (task_among choices (word ∷ value ∷ [])) ≡ None
+        by_words true e more = absurd (is_not word (written choice) none ((bytes_eq-Decides word (written choice)).0 e) found.0.0)
+        by_words false e more = more
 
 -- ---- a word that names no option, where `--generate` waits for its value
 
@@ -149,15 +164,15 @@ value_flag : (o : Option ℕ) (flags : Text) (k : ℕ) (word : Text) → generat
     let after = after_flag rules waiting word met.0 met.1 in
     Ends word (bundle_step_fault rules false o flags 0 waiting_held (flags_fault rules false k)) after.0 after.1
 unfolding clap_on_literals
-value_flag None flags k word none = (false, false, refl, refl, refl)
+value_flag None flags k word none = refl
 value_flag (Some x) flags k word none = none
 
 value_short : (o : Option Text) (word : Text) → short_of word ≡ o
     → let met = short_or_plain rules waiting word o waiting_held in
     Ends word (option_map_or (λ flags. bundle_fault rules false flags waiting_held) o []) met.0 met.1
 unfolding clap_on_literals
-value_short None word e = (false, false, refl, refl, refl)
-value_short (Some []) word e = (false, false, refl, refl, refl)
+value_short None word e = refl
+value_short (Some []) word e = refl
 value_short (Some (x ∷ xs)) word e =
     let is = short_is word (x ∷ xs) e in
     value_flag (slice_get (chars (x ∷ xs)) 0) (x ∷ xs) (length xs) word (ap generated is.1)

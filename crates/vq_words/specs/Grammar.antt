@@ -1,12 +1,15 @@
 -- What the words of the command line ask for. This project's own.
-use Rattle.std.specs.Prelude.{◌≡◌, ◌≤◌, ℕ, ◌==◌, ◌&&◌, Bool, Result, Ok, Err, List, [], ◌∷◌, length, Option, Some, None, codes}
-use Rattle.std.specs.Prelude.{if◌then◌else◌, nat_lt, nat_le, option_and_then, option_map}
+use Rattle.std.specs.Prelude.{◌≡◌, ◌≤◌, ℕ, ◌==◌, ◌&&◌, Bool, Result, Ok, Err, List, [], ◌∷◌, ◌++◌, length, Option, Some, None, codes}
+use Rattle.std.specs.Prelude.{if◌then◌else◌, nat_lt, nat_le, option_map}
 use Rattle.std.specs.Char.{digit_value}
 use Rattle.std.specs.List.{list_all}
+use Rattle.std.specs.Option.{option_map_or}
 use Rattle.std.specs.Str.{bytes_eq}
 use Rattle.std.specs.Str.Parse.{digits_value}
+use Rattle.vq_words.specs.declared.table.Asks.{Asks}
+use Rattle.vq_words.specs.declared.table.Asks.TheVariants.{Alone, Numbered}
 use Rattle.vq_words.specs.declared.task.Task.{Task}
-use Rattle.vq_words.specs.declared.task.Task.TheVariants.{Run, Check, Replay, Generate}
+use Rattle.vq_words.specs.declared.task.Task.TheVariants.{Run, Check, Replay, Generate, Rounds, Upgrade}
 use Rattle.vq_words.specs.declared.task.WordsFault.{WordsFault}
 use Rattle.vq_words.specs.declared.task.WordsFault.TheVariants.{Bad, Memory}
 
@@ -30,16 +33,53 @@ behind [] word = Some word
 behind (b ∷ beginning) [] = None
 behind (b ∷ beginning) (c ∷ word) = if b == c then behind beginning word else None
 
--- no words; `--check`, `--replay` or `--generate=N` alone; or `--generate` and N
+-- an option: its word without hyphens, and what it asks for
+pub record Choice : Type 0 where
+  pub word : List ℕ
+  pub asks : Asks
+
+-- the options, a row for each
+abbrev pub options : List Choice
+options =
+    record { word = codes "check"; asks = Alone Check }
+    ∷ record { word = codes "replay"; asks = Alone Replay }
+    ∷ record { word = codes "rounds"; asks = Alone Rounds }
+    ∷ record { word = codes "upgrade"; asks = Alone Upgrade }
+    ∷ record { word = codes "generate"; asks = Numbered }
+    ∷ []
+
+-- an option as it is written
+abbrev pub written : Choice → List ℕ
+written choice = codes "--" ++ choice.word
+
+-- What words give an option, where they are its words: `--word` gives no value, and one is given by
+-- `--word=value` or by `--word` and `value`.
+abbrev pub given : Choice → List (List ℕ) → Option (Option (List ℕ))
+given choice [] = None
+given choice (word ∷ []) =
+    if bytes_eq word (written choice) then Some None
+    else option_map Some (behind (written choice ++ codes "=") word)
+given choice (word ∷ value ∷ []) =
+    if bytes_eq word (written choice) then Some (Some value) else None
+given choice (word ∷ value ∷ more ∷ words) = None
+
+-- the task of an option with what the words give it: some want a value, and the others none
+abbrev pub task_by : Asks → Option (List ℕ) → Option Task
+task_by (Alone task) None = Some task
+task_by (Alone task) (Some value) = None
+task_by Numbered None = None
+task_by Numbered (Some value) = generated value
+
+-- the task of the first option whose words these are
+abbrev pub task_among : List Choice → List (List ℕ) → Option Task
+task_among [] words = None
+task_among (choice ∷ choices) words =
+    option_map_or (task_by choice.asks) (given choice words) (task_among choices words)
+
+-- without words the script is run, and others are the words of an option
 abbrev pub task_of : List (List ℕ) → Option Task
 task_of [] = Some Run
-task_of (word ∷ []) =
-    if bytes_eq word (codes "--check") then Some Check
-    else if bytes_eq word (codes "--replay") then Some Replay
-    else option_and_then generated (behind (codes "--generate=") word)
-task_of (word ∷ number ∷ []) =
-    if bytes_eq word (codes "--generate") then generated number else None
-task_of (word ∷ number ∷ more ∷ words) = None
+task_of (word ∷ words) = task_among options (word ∷ words)
 
 -- a task that makes a script makes one of 1 to 500 rounds
 abbrev pub HasFewRounds : Task → Type 0

@@ -1,8 +1,9 @@
 //! The options, as `clap` knows them.
 ghost use Rattle.std.specs.Prelude.{◌≡◌, IfOk};
 ghost use Rattle.clap.specs.Words.{app_of, with_rule};
-ghost use Rattle.vq_words.specs.Options.{option_named, vq_options, without_options};
+ghost use Rattle.vq_words.specs.Options.{action_for, choice_of, option_rule, vq_options, without_options};
 
+use crate::table::{Asks, OptionRow, options};
 use clap::{Arg, ArgAction, Command};
 use std::alloc::{AllocError, Global};
 
@@ -15,23 +16,38 @@ fn plain<'a>(alloc: Global) -> Command<'a>
         .disable_help_flag(true)
 }
 
-/// The command with one option more, of this long name.
+/// What `clap` does with an option: it marks it, or keeps its value.
+fn action_for(asks: Asks) -> ArgAction
+    ensures { result ≡ action_for asks }
+{
+    match asks {
+        Asks::Alone(_) => ArgAction::SetTrue,
+        Asks::Numbered => ArgAction::Set,
+    }
+}
+
+/// The command with one option more.
 fn with_option<'a>(
     alloc: Global,
     command: Command<'a>,
-    name: &'a str,
-    action: ArgAction,
+    row: OptionRow,
 ) -> Result<Command<'a>, AllocError>
-    ensures { IfOk result (λ c. app_of c ≡ with_rule (app_of command.entry) (option_named name.entry.now action)) }
+    ensures { IfOk result (λ c. app_of c ≡ with_rule (app_of command.entry) (option_rule (choice_of row))) }
 {
-    command.arg(Arg::new(alloc, name).long(name).action(action))
+    command.arg(
+        Arg::new(alloc, row.word)
+            .long(row.word)
+            .action(action_for(row.asks)),
+    )
 }
 
-/// The command with its three options, and with neither help nor a version.
+/// The command with its options, and with neither help nor a version.
 pub fn command<'a>(alloc: Global) -> Result<Command<'a>, AllocError>
     ensures { IfOk result (λ c. app_of c ≡ vq_options) }
 {
-    let checks = with_option(alloc, plain(alloc), "check", ArgAction::SetTrue)?;
-    let replays = with_option(alloc, checks, "replay", ArgAction::SetTrue)?;
-    with_option(alloc, replays, "generate", ArgAction::Set)
+    let mut command = plain(alloc);
+    for row in options() {
+        command = with_option(alloc, command, *row)?;
+    }
+    Ok(command)
 }

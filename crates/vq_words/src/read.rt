@@ -1,12 +1,12 @@
 //! The words of the command line, read.
 //!
 //! Source: this project's own, where an item names no other.
-ghost use Rattle.std.specs.Prelude.{◌≡◌, IfOk, map, option_map, string_bytes};
+ghost use Rattle.std.specs.Prelude.{◌≡◌, IfOk, map, string_bytes};
 ghost use Rattle.vq_words.specs.Grammar.{Gives, HasFewRounds, task_of};
-ghost use Rattle.vq_words.specs.Options.{has_clap_form, task_by};
+ghost use Rattle.vq_words.specs.Options.{has_clap_form};
 
+use crate::asked::asked;
 use crate::command::command;
-use crate::rounds::number_of_rounds;
 use crate::task::{Task, WordsFault};
 use clap::error::ErrorKind;
 use std::alloc::Global;
@@ -23,23 +23,10 @@ fn has_clap_form(words: &[String]) -> bool
     }
 }
 
-/// The task that the options given ask for; none for two options, and for a number outside its form.
-fn task_by(check: bool, replay: bool, number: Option<&str>) -> Option<Task>
-    ensures { result ≡ task_by check replay (option_map (λ s. s.now) number.entry) }
-{
-    match (check, replay, number) {
-        (false, false, None) => Some(Task::Run),
-        (true, false, None) => Some(Task::Check),
-        (false, true, None) => Some(Task::Replay),
-        (false, false, Some(word)) => Some(Task::Generate(number_of_rounds(word.as_bytes())?)),
-        _ => None,
-    }
-}
-
 /// Reads the words of the command line, without the program's name.
 ///
-/// The words are none, `--check` alone, `--replay` alone, `--generate` and N, or `--generate=N` as one
-/// word, where N is one to three decimal digits that write a number from 1 to 500. `Bad` comes for every
+/// The words are none, one of `--check`, `--replay`, `--rounds` and `--upgrade` alone, `--generate` and N, or
+/// `--generate=N` as one word, where N is one to three decimal digits that write a number from 1 to 500. `Bad` comes for every
 /// other list, and `Memory` where memory is wanting.
 pub fn read_words(alloc: Global, words: &[String]) -> Result<Task, WordsFault>
     ensures asked { Gives result (task_of (map string_bytes words.now)) }
@@ -52,11 +39,7 @@ pub fn read_words(alloc: Global, words: &[String]) -> Result<Task, WordsFault>
         return Err(WordsFault::Memory);
     };
     match command.try_get_matches_from(words) {
-        Ok(matches) => {
-            let check = matches.get_flag("check");
-            let replay = matches.get_flag("replay");
-            task_by(check, replay, matches.get_str("generate")).ok_or(WordsFault::Bad)
-        }
+        Ok(matches) => asked(&matches).ok_or(WordsFault::Bad),
         Err(error) => match error.kind() {
             ErrorKind::OutOfMemory => Err(WordsFault::Memory),
             _ => Err(WordsFault::Bad),

@@ -13,6 +13,10 @@ pub enum Task {
     Replay,
     /// `--generate N` or `--generate=N`: a script of so many rounds is written, from 1 to 500.
     Generate(u32),
+    /// `--rounds`: a fair schedule is played over the script to its end, and the trace of its turns is written.
+    Rounds,
+    /// `--upgrade`: the script is written as one of the second version, and nothing is started.
+    Upgrade,
 }
 
 /// Why words are not read.

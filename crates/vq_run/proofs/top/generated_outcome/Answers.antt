@@ -1,5 +1,4 @@
 use Rattle.std.proofs.Common.{◌≤◌, ◌∙◌, ℕ, List, IfOk, length, subst, sym}
-use Rattle.vq_words.specs.declared.task.Task.TheVariants.{Generate}
 use Rattle.vq_generator.proofs.Cited.{generated_is_short}
 use Rattle.vq_run.specs.Tasks.{generated_text}
 use Rattle.vq_messages.specs.Refused.{input_limit}
@@ -14,5 +13,5 @@ run_outcome-requires-clause-short g c κs within =
 pub returns : goal.returns
 unfolding generated_text
 returns g c =
-    subst (λ (text : List ℕ). IfOk c.run_outcome.result (λ o. IsOutcome (Generate c.args.rounds) text o.status o.text.items))
+    subst (λ (text : List ℕ). IfOk c.run_outcome.result (λ o. IsOutcome c.args.task text o.status o.text.items))
     (c.as_slice.ensures.value ∙ c.in_ok-text.ensures) c.run_outcome.ensures

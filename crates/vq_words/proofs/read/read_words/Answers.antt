@@ -1,11 +1,11 @@
-use Rattle.std.proofs.Common.{rules, ◌≡◌, ◌∙◌, ap, sym, subst, map, string_bytes, true, codes}
+use Rattle.std.proofs.Common.{rules, ◌≡◌, ◌∙◌, ap, sym, subst, map, string_bytes, true, List, ℕ, Option}
 use Rattle.clap.specs.Faults.{is_simple_and_free}
-use Rattle.clap.specs.Matches.{found_of}
+use Rattle.clap.specs.Matches.{found_of, first_value}
 use Rattle.clap.specs.Simple.{app_of, is_simple}
-use Rattle.clap.specs.Walk.{rows_of}
-use Rattle.clap.proofs.WalkLemmas.{first_value-rows, one_text-rows}
-use Rattle.vq_words.specs.Grammar.{Gives, task_of}
-use Rattle.vq_words.specs.Options.{has_clap_form, task_by}
+use Rattle.clap.specs.Walk.{first_of, rows_of}
+use Rattle.clap.proofs.WalkLemmas.{first_value-rows}
+use Rattle.vq_words.specs.Grammar.{Gives, options, task_of}
+use Rattle.vq_words.specs.Options.{Nothing, found_among, has_clap_form, task_given}
 use Rattle.vq_words.proofs.FewRounds.{few_given}
 use Rattle.vq_words.proofs.AllWords.{answered, failed, gives}
 use Rattle.vq_words.proofs.read.read_words.Goals as goal
@@ -14,19 +14,13 @@ pub returns-in-Ok-try_get_matches_from : goal.returns-in-Ok-try_get_matches_from
 returns-in-Ok-try_get_matches_from c =
     let form : has_clap_form (map string_bytes c.args.words.now) ≡ true = search rules in
     let found = found_of c.in-Ok-try_get_matches_from.matches in
-    let check = one_text-rows found (codes "check") in
-    let replay = one_text-rows found (codes "replay") in
-    let said = answered (app_of c.in-Ok.command) (map string_bytes c.args.words.now) (rows_of found) c.get_flag-check.result c.get_flag-replay.result
+    let said = answered (app_of c.in-Ok.command) (map string_bytes c.args.words.now) (rows_of found)
     c.in-Ok.ensures form
     (c.in-Ok-try_get_matches_from.ensures.kinds (ap is_simple_and_free c.in-Ok.ensures))
-    (c.in-Ok-try_get_matches_from.ensures.matches (ap is_simple c.in-Ok.ensures)).0
-    (λ e. c.get_flag-check.ensures.value (check ∙ e))
-    (λ e. c.get_flag-check.ensures.other (check ∙ e))
-    (λ e. c.get_flag-replay.ensures.value (replay ∙ e))
-    (λ e. c.get_flag-replay.ensures.other (replay ∙ e)) in
-    let number = c.get_str.ensures ∙ first_value-rows found (codes "generate") in
-    let asked = c.task_by.ensures ∙ ap (task_by c.get_flag-check.result c.get_flag-replay.result) number ∙ said in
-    let given = subst (λ r. Gives r (task_of (map string_bytes c.args.words.now))) (sym c.ok_or.ensures.value) (gives c.task_by.result _ asked) in
+    (c.in-Ok-try_get_matches_from.ensures.matches (ap is_simple c.in-Ok.ensures)).0 in
+    let values : first_value found ≡ (λ word. first_of word (rows_of found)) = λ i word. first_value-rows found word i in
+    let asked = c.asked.ensures ∙ ap (λ (f : List ℕ → Option (List ℕ)). task_given (found_among Nothing options f)) values ∙ said in
+    let given = subst (λ r. Gives r (task_of (map string_bytes c.args.words.now))) (sym c.ok_or.ensures.value) (gives c.asked.result _ asked) in
     record { asked = given; rounds = few_given (map string_bytes c.args.words.now) c.ok_or.result given }
 
 pub returns : goal.returns
