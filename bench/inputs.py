@@ -179,6 +179,30 @@ def rounds_of_batches(batches, declared):
     return parts
 
 
+def held_waits(batches, commands):
+    """Batches of version 2 on 16 queues in turn, with so many fills each; each waits for the batch before it of every
+    queue, its own too, by waits that hold back a part of it: the k-th one from the k-th command on, or behind them."""
+    parts = ['version 2\nbuffer X 65536\n']
+    parts += [f'timeline T{queue} 0\n' for queue in range(16)] + [f'queue Q{queue} threaded\n' for queue in range(16)]
+    for batch in range(batches):
+        queue, number = batch % 16, batch // 16
+        parts.append(f'submit Q{queue}\n')
+        parts += [f'wait T{other} {number} from {min(place, commands) + 1}\n' for place, other in enumerate(range(16))]
+        parts += [f'fill X {queue * 4096 + place * 4} 4 {number}\n' for place in range(commands)]
+        parts.append(f'signal T{queue} {number + 1}\nend\n')
+    return ''.join(parts).encode()
+
+
+def most_held_waits():
+    """The 8,192 batches of the largest script of version 2, with 16 such waits and a fill each."""
+    return held_waits(8192, 1)
+
+
+def most_held_places():
+    """512 batches with 16 fills each, and for each of these a wait that holds back it and the later ones."""
+    return held_waits(512, 16)
+
+
 def scheduled(parts, turns):
     """A script with these turns, one to a line."""
     return ''.join(parts + ['schedule\n'] + [f'{actor}\n' for actor in turns]).encode()

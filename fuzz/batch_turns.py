@@ -1,4 +1,5 @@
 """The turns of those who move and run batches: a part of the second reading of docs/TURNS.md."""
+from order import END
 from scene import BLOCKED, ENDED
 from waiting import Waiter
 
@@ -52,8 +53,12 @@ class Ring:
             return BLOCKED
         if j not in scene.started:
             return self.waiter.wait(j) or scene.start(j)
-        if scene.applied[j] < len(job.commands):
-            return scene.apply(j)
+        applied = scene.applied[j]
+        if applied < len(job.commands):
+            return self.waiter.wait_for_all(j, applied + 1) or scene.apply(j)
+        text = self.waiter.wait_for_all(j, END)
+        if text:
+            return text
         for e in job.signals:
             if e not in scene.made:
                 return scene.signal(e) if e in scene.bound else BLOCKED

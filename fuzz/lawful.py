@@ -15,13 +15,16 @@ def kind(status, text):
 class Lawful:
     """Jobs that are mostly in a sure order, each a list of its lines, and what they left."""
 
-    def __init__(self, dice):
+    def __init__(self, dice, is_second=None):
         self.dice = dice
         self.is_hosted = dice.random() < 0.7
         self.modes = {name: dice.choice(['threaded'] * 3 + ['immediate', 'deferred']) for name in 'PQRT'[:dice.randrange(2, 5)]}
         self.tops = {'A': dice.choice([0, 0, 3]), 'B': dice.choice([0, 0, 5]), SILENT: dice.choice([0, 2])}
         self.sizes = dict(zip('XYZ', dice.choices([4, 8, 8, 12], k=dice.randrange(1, 4))))
-        declared = [f'queue {name} {mode}' for name, mode in self.modes.items()]
+        # Whether it is of version 2.
+        self.is_second = dice.random() < 0.4 if is_second is None else is_second
+        declared = ['version 2'] if self.is_second else []
+        declared += [f'queue {name} {mode}' for name, mode in self.modes.items()]
         declared += [f'timeline {name} {top}' for name, top in self.tops.items()]
         declared += [f'buffer {name} {size}' for name, size in self.sizes.items()]
         declared += ['binary S', 'binary U', 'fence F', 'fence G']
@@ -71,8 +74,15 @@ class Lawful:
             waits = []
         dice.shuffle(waits)
         dice.shuffle(signals)
-        commands = [self.command() for _ in range(dice.choice([0, 1, 1, 1, 2]))]
+        commands = [self.command() for _ in range(dice.choice([0, 1, 1, 2, 3] if self.is_second else [0, 1, 1, 1, 2]))]
+        waits = [self.held_wait(wait, len(commands)) for wait in waits]
         return [f'submit {queue}', *waits, *commands, *signals, *self.named(), 'end']
+
+    def held_wait(self, wait, count):
+        """A wait of a batch with so many commands: in version 2 it may hold back the later ones alone."""
+        if not self.is_second or self.dice.random() < 0.4:
+            return wait
+        return f'{wait} from {self.dice.randrange(1, count + 2)}'
 
     def raised(self, name):
         self.tops[name] += self.dice.choice([1, 1, 1, 2, 4])
@@ -154,7 +164,8 @@ class Lawful:
         made, value = self.ahead(name), self.raised(name)
         batch = self.batch()
         if self.modes[batch[0].split()[1]] != 'immediate' or self.dice.random() < 0.1:
-            batch.insert(1, f'wait {name} {value}')
+            count = sum(line.split()[0] in ('fill', 'update', 'copy') for line in batch)
+            batch.insert(1, self.held_wait(f'wait {name} {value}', count))
             batch = [line for line in batch if not line.startswith(f'signal {name} ')]
         asked = self.questions() if self.dice.random() < 0.3 else []
         self.tops[name] = value

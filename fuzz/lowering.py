@@ -22,6 +22,8 @@ class Job:
         self.previous = self.host_before = None
         # Pairs of a chain and a value: those that it waits for, with their lines, and those that it only looks at.
         self.needs, self.asked = [], []
+        # For each need of a batch the number of the first command that it holds back, counted from 1.
+        self.held_from = []
         # Whether one of the needs is enough.
         self.any = False
         # For an idle step: the last batch of each queue that is written before it.
@@ -29,6 +31,11 @@ class Job:
         self.commands = []
         # The numbers of its signals in `Plan.ops`.
         self.signals = []
+
+    def needs_from(self, least, most):
+        """The needs that hold back a command with one of these numbers, and none before it, each with its number."""
+        return [(number, t, value) for number, (_, t, value) in enumerate(self.needs)
+                if least <= (self.held_from[number] if self.held_from else 1) <= most]
 
     @property
     def is_asked(self):
@@ -89,6 +96,7 @@ class Plan:
 
     def lower_batch(self, job, batch):
         job.needs = [(line, t, self.awaited(line, t, value)) for line, t, value in batch.waits]
+        job.held_from = batch.held_from
         job.commands = batch.commands
         for line, t, value in batch.signals:
             self.signal(job, line, t, self.next_signal(line, t) if self.kinds[t] == 'binary' else value)

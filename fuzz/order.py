@@ -24,6 +24,10 @@ class Numbers:
         self.bits |= other.bits
 
 
+# Behind the last command of any batch.
+END = 66
+
+
 class Order:
     """The order of a plan, as far as its slow run comes."""
 
@@ -53,35 +57,50 @@ class Order:
             second, first = min((max(pair), min(pair)) for pair in pairs)
             raise Refusal(f'{kind}: lines {first} and {second}')
 
-    def edges(self, j):
-        """The jobs that must have come some way before this one starts, each with those of its signals made by then."""
+    def edges(self, j, last=END):
+        """The jobs that must have come some way before this one ends, each with those of its signals made by then.
+
+        Or before its command with this number: waits that hold back later ones only don't count.
+        """
         job = self.plan.jobs[j]
         for i in [job.previous, job.host_before, *job.idle_after]:
             if i is not None:
                 yield i, self.plan.jobs[i].signals
         # One of several pairs may do, so a wait for any of them is no promise of any.
-        for _, t, value in [] if job.any else job.needs:
+        for _, t, value in [] if job.any else job.needs_from(1, last):
             e = self.plan.awaited_signal(t, value)
             if e is not None:
                 i = self.plan.ops[e].job
                 yield i, [signal for signal in self.plan.jobs[i].signals if signal <= e]
 
     def find_paths(self):
-        """The jobs that happen before each job, and the signals that are sure to be made when it starts."""
-        place = {j: number for number, j in enumerate(self.slow)}
+        """The jobs that happen before each job, and the signals that are sure to be made when it ends."""
+        self.place = {j: number for number, j in enumerate(self.slow)}
         self.before, self.sure = {}, {}
-        # A path to a job leads through jobs that stand earlier in the slow run, so those have all theirs. What comes
-        # before a job that is found already is found with it.
+        # A path to a job leads through jobs that stand earlier in the slow run, so those have all theirs.
         for j in self.slow:
-            before, sure = Numbers(), Numbers()
-            edges = [(place[i], i, made) for i, made in self.edges(j) if i in place and place[i] < place[j]]
-            for _, i, made in sorted(edges, reverse=True):
-                sure.add(*made)
-                if i not in before:
-                    before.join(self.before[i])
-                    before.add(i)
-                    sure.join(self.sure[i])
-            self.before[j], self.sure[j] = before, sure
+            self.before[j], self.sure[j] = self.paths(j, END)
+
+    def paths(self, j, last):
+        """The jobs that happen before the end of one, or before its command with this number, and the signals sure by
+        then. What comes before a job that is found already is found with it."""
+        before, sure = Numbers(), Numbers()
+        edges = [(self.place[i], i, made) for i, made in self.edges(j, last)
+                 if i in self.place and self.place[i] < self.place[j]]
+        for _, i, made in sorted(edges, reverse=True):
+            sure.add(*made)
+            if i not in before:
+                before.join(self.before[i])
+                before.add(i)
+                sure.join(self.sure[i])
+        return before, sure
+
+    def before_commands(self, j):
+        """For each command of a job the jobs that happen before it."""
+        job = self.plan.jobs[j]
+        if all(held_from == 1 for held_from in job.held_from):
+            return [self.before[j]] * len(job.commands)
+        return [self.paths(j, number)[0] for number in range(1, len(job.commands) + 1)]
 
     def unordered(self):
         """The pairs of lines of signals, and of a binary wait and the next signal, that no order is sure for."""
@@ -126,12 +145,12 @@ class Order:
         return found
 
     def races(self):
-        """The lines of two commands with a byte in common that one of them writes, neither job before the other."""
-        commands = [(line, j, *touched(command)) for j, job in enumerate(self.plan.jobs)
-                    for line, command in job.commands]
-        return [(line, other) for number, (line, i, writes, reads) in enumerate(commands)
-                for other, j, others, read in commands[number + 1:]
-                if i != j and i not in self.before[j] and j not in self.before[i]
+        """The lines of two commands with a byte in common that one of them writes, neither before the other."""
+        commands = [(line, j, before, *touched(command)) for j, job in enumerate(self.plan.jobs)
+                    for (line, command), before in zip(job.commands, self.before_commands(j))]
+        return [(line, other) for number, (line, i, before, writes, reads) in enumerate(commands)
+                for other, j, later, others, read in commands[number + 1:]
+                if i != j and i not in later and j not in before
                 and (share(writes, others) or share(writes, read) or share(others, reads))]
 
 

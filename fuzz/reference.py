@@ -9,6 +9,7 @@ counted again.
 """
 import re
 
+from canonical import canonical
 from lowering import Plan, Refusal
 from order import Order, final_buffers
 from outputs import Outputs
@@ -44,6 +45,13 @@ OUTSIDE = [
     ('host fence reset', [b'host', b'fence', b'reset', 'fence name']),
     ('host idle', [b'host', b'idle']),
 ]
+# Only the first line with words may name the version.
+FIRST = [('version', [b'version', b'2'])]
+# In version 2 a wait may say from which command on it holds its batch back.
+HELD = [
+    ('wait', [b'wait', 'timeline name', 'numeral', b'from', 'numeral']),
+    ('wait', [b'wait', 'binary name', b'from', 'numeral']),
+]
 INSIDE = [
     ('wait', [b'wait', 'timeline name', 'numeral']),
     ('wait', [b'wait', 'binary name']),
@@ -63,6 +71,8 @@ SCHEDULE = [
 # The places that take a name.
 NAMED = ['new'] + [f'{kind} name' for kind in ('buffer', 'timeline', 'binary', 'fence', 'queue')]
 DECLARATIONS = ('buffer', 'timeline', 'binary', 'fence', 'queue')
+# How many queues and jobs a script of each version has at most.
+MOST = {1: (8, 4096), 2: (16, 8192)}
 PARTS = {'wait': 1, 'fill_whole': 2, 'fill': 2, 'update': 2, 'copy': 2, 'signal': 3, 'batch_fence': 4, 'end': 5}
 
 
@@ -93,6 +103,8 @@ class Batch:
     def __init__(self, line, queue):
         self.line, self.queue = line, queue
         self.waits, self.commands, self.signals, self.fence = [], [], [], None
+        # For each wait the number of the first command that it holds back, counted from 1.
+        self.held_from = []
 
 
 class Step:
@@ -107,6 +119,7 @@ class Reader:
     def __init__(self, scheduled=False):
         self.scheduled = scheduled
         self.turns_given = None
+        self.given_version, self.has_begun = 1, False
         self.names = {}
         self.buffers = []
         self.semaphores = []
@@ -155,6 +168,7 @@ class Reader:
             self.step(form, words)
         else:
             getattr(self, form)(words)
+        self.has_begun = True
         if self.batch:
             self.part = PARTS.get(form, 0)
 
@@ -184,10 +198,13 @@ class Reader:
 
     def forms(self):
         if self.batch:
-            return INSIDE
+            return INSIDE + (HELD if self.given_version == 2 else [])
         if self.turns_given is not None:
             return SCHEDULE
-        return OUTSIDE + ([('schedule', [b'schedule'])] if self.scheduled else [])
+        return OUTSIDE + ([('schedule', [b'schedule'])] if self.scheduled else []) + ([] if self.has_begun else FIRST)
+
+    def version(self, _):
+        self.given_version = 2
 
     def schedule(self, _):
         self.turns_given = []
@@ -226,13 +243,13 @@ class Reader:
         self.semaphore(words, 'fence', 0)
 
     def queue(self, words):
-        if len(self.queues) == 8:
+        if len(self.queues) == MOST[self.given_version][0]:
             raise Fault('limit')
         self.names[words[1]] = ('queue', len(self.queues))
         self.queues.append(words[2])
 
     def submit(self, words):
-        if len(self.jobs) == 4096:
+        if len(self.jobs) == MOST[self.given_version][1]:
             raise Fault('limit')
         self.batch = Batch(self.number, self.names[words[1]][1])
 
@@ -243,7 +260,7 @@ class Reader:
             pairs = [(words[0], None)]
         else:
             pairs = [(name, numeral(value)) for name, value in zip(words[::2], words[1::2])]
-        if len(self.jobs) == 4096 or len(pairs) > 16:
+        if len(self.jobs) == MOST[self.given_version][1] or len(pairs) > 16:
             raise Fault('limit')
         self.jobs.append(Step(self.number, kind, [(self.names[name][1], value) for name, value in pairs]))
 
@@ -251,9 +268,15 @@ class Reader:
         return self.number, self.names[words[1]][1], numeral(words[2]) if len(words) == 3 else None
 
     def wait(self, words):
+        held_from = 1
+        if words[-2] == b'from' and len(words) > 3:
+            words, held_from = words[:-2], numeral(words[-1])
+            if not 1 <= held_from <= 65:
+                raise Fault('range')
         if len(self.batch.waits) == 16:
             raise Fault('limit')
         self.batch.waits.append(self.mark(words))
+        self.batch.held_from.append(held_from)
 
     def signal(self, words):
         if len(self.batch.signals) == 16:
@@ -304,6 +327,8 @@ class Reader:
         self.command('copy', source, start, target, place, size)
 
     def end(self, _):
+        if any(held_from > len(self.batch.commands) + 1 for held_from in self.batch.held_from):
+            raise Fault('range')
         self.jobs.append(self.batch)
         self.batch = None
 
@@ -321,6 +346,9 @@ class Script:
         self.order = Order(self.plan)
         self.order.refuse()
         self.windows = Windows(self.plan, self.order)
+
+    def queue_names(self):
+        return {queue: name.decode() for name, (kind, queue) in self.reader.names.items() if kind == 'queue'}
 
     def buffers_text(self):
         text = []
@@ -364,7 +392,26 @@ def replay(data):
         script = Script(data, True)
     except Refusal as refusal:
         return refused(refusal)
-    names = {queue: name.decode() for name, (kind, queue) in script.reader.names.items() if kind == 'queue'}
     game = Game(script.plan)
-    text = game.trace(script.reader.turns_given, names)
+    text = game.trace(script.reader.turns_given, script.queue_names())
     return 0, text + (script.text(game.host.answers) if not game.left() else b'')
+
+
+def rounds(data):
+    """(status, text) for `--rounds`."""
+    try:
+        script = Script(data, False)
+    except Refusal as refusal:
+        return refused(refusal)
+    game = Game(script.plan)
+    text, _ = game.rounds(script.queue_names())
+    return 0, text + script.text(game.host.answers)
+
+
+def upgrade(data):
+    """(status, text) for `--upgrade`."""
+    try:
+        Script(data, False)
+    except Refusal as refusal:
+        return refused(refusal)
+    return 0, canonical(data, 2)

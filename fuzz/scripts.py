@@ -33,6 +33,14 @@ def command(dice):
     return ['copy', pick(dice, 'XY'), number(dice), pick(dice, 'XY'), number(dice), number(dice)]
 
 
+def wait(dice, held):
+    """A wait, which holds back a part of its batch so often."""
+    line = mark(dice, 'wait')
+    if dice.random() >= held:
+        return line
+    return line + ['from', dice.choice('1123') if dice.random() < 0.9 else dice.choice(['0', '64', '65', '66', number(dice)])]
+
+
 def mark(dice, word):
     """A wait or a signal."""
     if dice.random() < 0.7:
@@ -43,7 +51,7 @@ def mark(dice, word):
 def inside(dice):
     form = dice.random()
     if form < 0.2:
-        return mark(dice, 'wait')
+        return wait(dice, 0.1)
     if form < 0.5:
         return command(dice)
     if form < 0.7:
@@ -109,15 +117,22 @@ def fitting(dice):
                         ['copy', first, dice.choice('0123'), second, dice.choice('0123'), dice.choice('123456')]])
 
 
-def batch(dice):
+def batch(dice, is_second):
     """A batch whose lines stand in order."""
     lines = [['submit', dice.choice('PPQQR')]]
-    lines += [mark(dice, 'wait') for _ in range(dice.choice([0, 0, 1, 1, 2]))]
+    lines += [wait(dice, 0.5 if is_second else 0.02) for _ in range(dice.choice([0, 0, 1, 1, 2]))]
     lines += [fitting(dice) for _ in range(dice.choice([0, 0, 1, 1, 2]))]
     lines += [mark(dice, 'signal') for _ in range(dice.choice([0, 0, 1, 1, 2]))]
     if dice.random() < 0.1:
         lines.append(['fence', dice.choice('FG')])
     return lines + [['end']]
+
+
+def version(dice):
+    """The line that says the version, with other lines without words before it now and then."""
+    line = 'version 2' if dice.random() < 0.9 else dice.choice(['version', 'version 1', 'version 3',
+                                                                              'version 0x2', 'version 2 2', 'Version 2'])
+    return dice.choice(['', '', '', '# note\n', '\n', ' \t\n']) + line + dice.choice(ENDS[:14])
 
 
 def queues(dice):
@@ -128,16 +143,19 @@ def queues(dice):
                 'buffer X 16\n', 'buffer Y 0x18\n']
     dice.shuffle(declared)
     text = declared if dice.random() < 0.9 else declared[1:]
+    is_second = dice.random() < 0.4
+    if is_second:
+        text.insert(0, version(dice))
     hosted = dice.choice([0, 0, 0.3])
     for _ in range(dice.randrange(0, 7)):
-        job = [host(dice)] if dice.random() < hosted else batch(dice)
+        job = [host(dice)] if dice.random() < hosted else batch(dice, is_second)
         text += [' '.join(line) + '\n' if dice.random() < 0.97 else put(dice, line) for line in job]
     return text
 
 
 def lines(dice):
     """Lines in any order."""
-    text, opened = [], False
+    text, opened = [version(dice)] if dice.random() < 0.4 else [], False
     if dice.random() < 0.9:
         text.append('buffer X 16\nbuffer Y 0x18\ntimeline A 0\ntimeline B 2\nbinary S\nfence F\nqueue Q threaded\n'
                     'queue P immediate\n' if dice.random() < 0.7 else 'queue Q immediate\nbuffer X 8\n')

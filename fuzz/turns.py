@@ -5,7 +5,7 @@ the events in scene.py. A turn is the text of its event, `-` where it was blocke
 """
 from batch_turns import Ring, Submitter
 from host_turns import Host
-from scene import Scene
+from scene import BLOCKED, ENDED, Scene
 
 
 class Game:
@@ -28,9 +28,34 @@ class Game:
 
     def trace(self, turns, names):
         """The text of these turns, up to what a finished script leaves. Queues have these names."""
-        text = []
-        for number, (who, queue) in enumerate(turns, 1):
-            actor = who if who == 'host' else f'{who}:{names[queue]}'
-            text.append(f'{number} {actor} {self.turn(who, queue)}\n')
+        text = [self.line(number, who, queue, names) for number, (who, queue) in enumerate(turns, 1)]
+        return self.ended(text)
+
+    def rounds(self, names):
+        """The text of the turns that move where each actor has a turn a round, until all is finished; their number."""
+        queues = range(len(self.plan.modes))
+        round_of_turns = [('host', None), *(('S', queue) for queue in queues if self.plan.modes[queue] == b'threaded'),
+                          *(('R', queue) for queue in queues)]
+        text, number, rounds = [], 0, 0
+        while self.left():
+            rounds += 1
+            assert rounds <= self.acts(), 'more rounds than acts'
+            for who, queue in round_of_turns:
+                number += 1
+                line = self.line(number, who, queue, names)
+                if line.split()[2] not in (BLOCKED, ENDED):
+                    text.append(line)
+        return self.ended(text), rounds
+
+    def acts(self):
+        """How many events a run has at most: in each round some actor moves."""
+        jobs = self.plan.jobs
+        return 4 * len(jobs) + sum(len(job.commands) + 3 * len(job.needs) for job in jobs) + 5 * len(self.plan.ops)
+
+    def line(self, number, who, queue, names):
+        actor = who if who == 'host' else f'{who}:{names[queue]}'
+        return f'{number} {actor} {self.turn(who, queue)}\n'
+
+    def ended(self, text):
         text.append(f'unfinished {self.left()}\n' if self.left() else 'finished\n')
         return ''.join(text).encode()

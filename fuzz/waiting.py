@@ -21,10 +21,11 @@ class Waiter:
 
     def wait(self, j):
         """The text of a turn that still waits or gives references back, or nothing where the job can start."""
-        return self.wait_for_any(j) if self.scene.plan.jobs[j].any else self.wait_for_all(j)
+        return self.wait_for_any(j) if self.scene.plan.jobs[j].any else self.wait_for_all(j, 1)
 
-    def wait_for_all(self, j):
-        for number, (_, t, value) in enumerate(self.scene.plan.jobs[j].needs):
+    def wait_for_all(self, j, most):
+        """The same of the needs that hold back the command with this number, or one before it."""
+        for number, t, value in self.scene.plan.jobs[j].needs_from(1, most):
             if number not in self.met:
                 text = self.wait_for(number, t, value)
                 if text:

@@ -53,12 +53,18 @@ class Graph:
         others = [(i, 'idle') for i in job.idle_after]
         if job.host_before is not None:
             others.append((job.host_before, 'submitted behind it'))
-        found += [(plan.ops[e].job, f'{self.signal(e)}, line {self.asked.at(line)}') for e, line in waits]
+        found += [(plan.ops[e].job, f'{self.signal(e)}, line {self.asked.at(line)}{self.held_back(j, line)}')
+                  for e, line in waits]
         links = found + others
         found += [(i, why) for i, why in others if i not in [k for k, _ in found]
                   and not any(self.asked.is_before(i, k) for k, _ in links)]
         stuck = set(self.order.stuck)
         return [Edge(i, j, why, is_broken=j in stuck and i in stuck) for i, why in found]
+
+    def held_back(self, j, line):
+        """Which commands of a batch a wait holds back, where it isn't all of them."""
+        place = next((place for at, _, place in self.asked.held_waits(j) if at == line), 1)
+        return '' if place == 1 else f', from command {place} on'
 
     def signal(self, e):
         op = self.plan.ops[e]

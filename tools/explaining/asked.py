@@ -60,6 +60,23 @@ class Asked:
     def words(self, line):
         return self.page.lines[line - 1].split('#')[0].split()
 
+    def held_text(self, line):
+        """What a wait's line says of the commands that it holds back, with a space before it."""
+        words = self.words(line)
+        return f' from {words[-1]}' if len(words) > 3 and words[-2] == 'from' else ''
+
+    def place(self, j, line):
+        """Which command of a batch stands at a line, counted from 1."""
+        return next(place for place, (at, _) in enumerate(self.plan.jobs[j].commands, 1) if at == line)
+
+    def held_waits(self, j):
+        """The waits of a batch that hold back a part of it: the line, the signal, the first command held back."""
+        job = self.plan.jobs[j]
+        for (line, t, value), held_from in zip(job.needs, job.held_from):
+            e = self.plan.awaited_signal(t, value)
+            if held_from > 1 and e is not None:
+                yield line, e, held_from
+
     def declared(self, name):
         """The line that declares a name."""
         return next(line for line in range(1, len(self.page.lines) + 1) if self.words(line)[1:2] == [name])

@@ -2,16 +2,18 @@
 import itertools
 import re
 
-from reference import DECLARATIONS, INSIDE, NAME, OUTSIDE, PARTS, SCHEDULE, Fault, Reader, lines_of, numeral
+from reference import (DECLARATIONS, HELD, INSIDE, MOST, NAME, OUTSIDE, PARTS, SCHEDULE, Fault, Reader, lines_of,
+                       numeral)
 
 PART_NAMES = {1: 'waits', 2: 'commands', 3: 'signals', 4: 'the fence', 5: 'end'}
 LIMITS = {
     'buffer': 'at most 64 buffers, and 1,048,576 bytes in all of them together',
     'timeline': 'at most 256 semaphores', 'binary': 'at most 256 semaphores', 'fence': 'at most 256 semaphores',
-    'queue': 'at most 8 queues', 'submit': 'at most 4,096 batches and host lines',
     'wait': 'at most 16 waits in a batch', 'signal': 'at most 16 signals in a batch',
     'turns': 'at most 65,536 turns in a schedule',
 }
+# The greatest place of a wait: behind the 64 commands that a batch has at most.
+LAST_PLACE = 65
 # Bytes at the start of a text that some editors put there.
 BYTE_ORDER_MARKS = {b'\xef\xbb\xbf': 'a byte order mark of UTF-8', b'\xff\xfe': 'a byte order mark of UTF-16',
                     b'\xfe\xff': 'a byte order mark of UTF-16'}
@@ -41,7 +43,20 @@ class Line:
         return self.reader.names.get(name, (None, 0))[0]
 
     def section(self):
-        return INSIDE if self.reader.batch else SCHEDULE if self.reader.turns_given is not None else OUTSIDE
+        if self.reader.batch:
+            return INSIDE + (HELD if self.reader.given_version == 2 else [])
+        return SCHEDULE if self.reader.turns_given is not None else OUTSIDE
+
+    def is_held_wait(self):
+        """Whether the words are those of a wait of version 2."""
+        return any(self.words[:1] == [b'wait'] and len(places) == len(self.words) and self.words[-2] == b'from'
+                   for _, places in HELD)
+
+    def too_far(self):
+        """The waits of the open batch that hold back none of its commands, and not its signals either: their lines."""
+        batch = self.reader.batch
+        return [line for (line, _, _), held_from in zip(batch.waits, batch.held_from)
+                if held_from > len(batch.commands) + 1]
 
     def held(self, buffer):
         """How many bytes a buffer has."""
@@ -135,6 +150,15 @@ def unknown_line(page, line):
     place = 'inside a batch' if is_inside else 'in the schedule' if forms is SCHEDULE else 'outside a batch'
     same = alike(forms, line.words)
     line.mark(f'no line that stands {place} has these words')
+    if line.words[0] == b'version':
+        page.rule('the version is said by the line `version 2`, before all other lines with words; without it the script '
+                  'is of version 1')
+        page.help('write `version 2` as the first line, or take the line out')
+        return
+    if is_inside and line.is_held_wait():
+        page.rule('a wait holds back a part of its batch in version 2 alone')
+        page.help('write `version 2` as the first line of the script')
+        return
     if same:
         page.rule('lines that begin so here are ' + ', '.join(f'`{text}`' for text in same))
     else:
@@ -234,8 +258,13 @@ def twice(page, line):
 
 
 def out_of_range(page, line):
-    line.mark({'buffer': 'a buffer has at least one byte', 'turns': 'a count of turns is at least 1'}.get(
+    line.mark({'buffer': 'a buffer has at least one byte', 'turns': 'a count of turns is at least 1',
+               'wait': f'a wait holds back commands from 1 to {LAST_PLACE} on',
+               'end': f'the batch ends here, with {counted_commands(line)}'}.get(
         line.form, 'of no bytes, outside a buffer, or no multiple of 4'))
+    if line.form == 'end':
+        for number in line.too_far():
+            page.mark(number, 'holds back nothing of the batch, not even its signals')
     if line.form == 'buffer':
         page.rule('a buffer has 1 to 1,048,576 bytes')
         page.help('write how many bytes it has')
@@ -243,6 +272,12 @@ def out_of_range(page, line):
     if line.form == 'turns':
         page.rule('a line of turns has at least one')
         page.help('take the line out, or raise the count')
+        return
+    if line.form in ('wait', 'end'):
+        page.rule('`from K` names the first command that a wait holds back, counted from 1; one more than the batch has '
+                  'holds back its signals alone')
+        page.help(f'write a K of 1 to {len(line.reader.batch.commands) + 1}' if line.form == 'end' else
+                  'write a K of 1 to the number of commands and one more')
         return
     for place, word in zip(line.places, line.words):
         if place == 'buffer name':
@@ -255,6 +290,11 @@ def out_of_range(page, line):
     page.help('count the bytes; `fill B OFFSET whole WORD` fills up to the end')
 
 
+def counted_commands(line):
+    count = len(line.reader.batch.commands) if line.reader.batch else 0
+    return '1 command' if count == 1 else f'{count} commands'
+
+
 def overlap(page, line):
     start, place, size = (numeral(line.words[at]) for at in (2, 4, 5))
     held = line.words[1].decode()
@@ -265,8 +305,20 @@ def overlap(page, line):
 
 def limit(page, line):
     line.mark('one too many, or too large')
+    queues, jobs = MOST[line.reader.given_version]
+    version = f'of version {line.reader.given_version}'
     if line.form.startswith('host '):
-        page.rule('at most 4,096 batches and host lines, and 16 pairs in a host line')
+        page.rule(f'a script {version} has at most {jobs:,} batches and host lines, and a host line 16 pairs')
+    elif line.form == 'submit':
+        page.rule(f'a script {version} has at most {jobs:,} batches and host lines')
+    elif line.form == 'queue':
+        page.rule(f'a script {version} has at most {queues} queues')
     else:
         page.rule(LIMITS.get(line.form, 'at most 64 commands in a batch, and 8,192 in a script'))
-    page.help('cut the script in two')
+    page.help('write `version 2` as the first line: such a script may have more' if line.reader.given_version == 1 and
+              (line.form == 'queue' or line.form == 'submit' or line.form.startswith('host ')) and not too_many_pairs(line)
+              else 'cut the script in two')
+
+
+def too_many_pairs(line):
+    return line.form.startswith('host ') and len(line.words) > 3 + 2 * 16

@@ -2,7 +2,7 @@
 import difflib
 
 from draft import delete, insert, replace
-from line_faults import BYTE_ORDER_MARKS, is_submitted_by_host, wanted_names
+from line_faults import BYTE_ORDER_MARKS, is_submitted_by_host, too_many_pairs, wanted_names
 from reference import DECLARATIONS, INSIDE, NAME, OUTSIDE, PARTS, SCHEDULE, numeral
 
 FIRST_WORDS = sorted({form[1][0].decode() for form in INSIDE + OUTSIDE})
@@ -32,10 +32,24 @@ def syntax(line):
     if line.form:
         return [actors(line)] if line.form == 'turns' else [other_names(line)]
     words = [word.decode('latin-1') for word in line.words]
-    groups = [fitting(line, words), other_place(line, words), near_words(line, words)]
+    groups = [of_versions(line, words), fitting(line, words), other_place(line, words), near_words(line, words)]
     if words == ['end']:
         groups.append([('take the line out: no batch is open', [delete(line.number)])])
     return groups
+
+
+def of_versions(line, words):
+    """A line that says another version, or one of version 2 in a script of version 1."""
+    if words[0] == 'version':
+        mends = [('take the line out', [delete(line.number)])]
+        return mends if line.reader.has_begun else [rewritten(line, ['version', '2'])] + mends
+    if line.reader.batch and line.is_held_wait() and line.reader.given_version == 1:
+        return [second_version()]
+    return []
+
+
+def second_version():
+    return 'write `version 2` as the first line', [insert(1, 'version 2')]
 
 
 def without_odd_bytes(line):
@@ -259,6 +273,13 @@ def out_of_range(line):
         return [[('take the line out', [delete(line.number)])]]
     if line.form == 'buffer':
         return [[rewritten(line, ['buffer', words[1], '4'])]]
+    if line.form == 'wait':
+        return [[rewritten(line, words[:-2])]]
+    if line.form == 'end':
+        last = str(len(line.reader.batch.commands) + 1)
+        edits = [replace(number, ' '.join(line.page.lines[number - 1].split('#')[0].split()[:-1] + [last]))
+                 for number in line.too_far()]
+        return [[(f'write `from {last}`: such a wait holds back the signals alone', edits)]]
     if line.form in ('fill', 'fill_whole'):
         start = numeral(line.words[2])
         whole = [rewritten(line, ['fill', words[1], place, 'whole', words[-1]])
@@ -295,6 +316,9 @@ def overlap(line):
 
 def limit(line):
     """A declaration that needn't be there can go; all else is for the writer to choose."""
+    second = []
+    if line.reader.given_version == 1 and (line.form in ('queue', 'submit') or line.form.startswith('host ')):
+        second = [] if too_many_pairs(line) else [second_version()]
     if line.form in DECLARATIONS:
-        return [[('take the line out', [delete(line.number)])]]
-    return []
+        return [second, [('take the line out', [delete(line.number)])]]
+    return [second]

@@ -15,7 +15,17 @@ def order_mends(verdict, asked):
 
 def race(asked, first, second):
     i, j = asked.job_at(first), asked.job_at(second)
-    return woven(Behind(asked, i, j).groups(), Behind(asked, j, i).groups())
+    sooner = held_sooner(asked, i, j, second) + held_sooner(asked, j, i, first)
+    return [sooner] + woven(Behind(asked, i, j).groups(), Behind(asked, j, i).groups())
+
+
+def held_sooner(asked, i, j, line):
+    """The waits of job j that put it behind job i, but hold back only commands behind this line: they hold it back too."""
+    place = asked.place(j, line)
+    return [(f'let the wait of line {asked.at(at)} hold back line {asked.at(line)} too',
+             [replace(at, ' '.join(asked.words(at)[:-2] + (['from', str(place)] if place > 1 else [])))])
+            for at, e, held_from in asked.held_waits(j)
+            if held_from > place and asked.is_behind(asked.plan.ops[e].job, i)]
 
 
 # Signals.
@@ -89,7 +99,7 @@ def another_timeline(asked, op):
             if t == op.chain and e is not None and plan.ops[e] is op:
                 if job.queue is None:
                     return []
-                edits.append(replace(line, f'wait {name} {value}'))
+                edits.append(replace(line, f'wait {name} {value}{asked.held_text(line)}'))
     return [(f'signal a timeline of its own, {name}, in line {asked.at(op.line)}', edits)]
 
 
@@ -146,7 +156,7 @@ def unblocked(asked, j, line, numbers):
         t, value = need(job, line)
         least = {numbers[t], own_floor(asked, j, t)}
         groups.append([(f'wait for less: {plan.names[t]} is brought to {less}',
-                        [replace(line, f'wait {plan.names[t]} {less}')])
+                        [replace(line, f'wait {plan.names[t]} {less}{asked.held_text(line)}')])
                        for less in sorted(least, reverse=True) if plan.initial[t] < less < value])
         groups.append(signal_in_reach(asked, j, t, value))
     elif job.kind in ('host wait all', 'host wait any'):

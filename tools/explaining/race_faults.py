@@ -13,13 +13,23 @@ def race(asked, page, first, second):
     start, end, buffer = shared[0]
     page.note(f'both touch byte {start} of {asked.buffers[buffer]}' if end == start + 1 else
               f'both touch bytes {start} to {end - 1} of {asked.buffers[buffer]}')
+    mark_held(asked, page, i, j, second)
+    mark_held(asked, page, j, i, first)
     asked.note_before(i)
     asked.note_before(j)
     Guilty(asked, page, i, j).mark_all()
-    page.rule('of two commands that share a byte and one of which writes it, one batch comes before the other; '
+    page.rule('of two commands that share a byte and one of which writes it, one comes before the other; '
               f'{ORDERS}')
     page.help(f'let {asked.called(i)} signal a timeline, and {asked.called(j)} wait for that value, or the other way '
               'round')
+
+
+def mark_held(asked, page, i, j, line):
+    """Marks the waits that put job j behind job i, but not its command at this line."""
+    place = asked.place(j, line)
+    for at, e, held_from in asked.held_waits(j):
+        if held_from > place and asked.is_behind(asked.plan.ops[e].job, i):
+            page.mark(at, f'holds back what stands behind line {asked.at(line)}: the commands from number {held_from} on')
 
 
 def mark_command(asked, page, k, line):

@@ -5,7 +5,7 @@ import shutil
 import sys
 
 TOP = os.path.dirname(os.path.dirname(os.path.dirname(os.path.realpath(__file__))))
-VERSION = '1.0'
+VERSION = '1.1'
 # The statuses are those of vq: words, a refused script, reading, writing.
 DONE, WORDS, REFUSED, UNREADABLE, UNWRITABLE = range(5)
 # Where vq lies in a clone: as ./build leaves it, and as the gate does.

@@ -37,6 +37,15 @@ CAUSES = [
     ('no turns', 'queue Q immediate|submit Q|end|schedule|host 0', 5, 'a count of turns', '5 - host 0'),
     ('two waits of one signal', 'binary S|queue P threaded|queue Q threaded|submit P|signal S|end|submit Q|wait S|end|'
      'submit Q|wait S|end', 11, 'no signal is left', '1 + timeline S 0'),
+    ('a wait that holds back too little', 'version 2|buffer X 4|timeline T 0|queue P threaded|queue Q threaded|submit P|'
+     'fill X 0 4 1|signal T 1|end|submit Q|wait T 1 from 2|fill X 0 4 2|end', 11, 'holds back what stands behind line 12',
+     '11 + wait T 1'),
+    ('a wait that holds back nothing', 'version 2|timeline T 0|queue Q threaded|submit Q|wait T 0 from 2|end', 5,
+     'not even its signals', '5 + wait T 0 from 1'),
+    ('a wait of version 2', 'timeline T 0|queue Q threaded|submit Q|wait T 0 from 1|end', 4, 'no line that stands inside',
+     '+ version 2'),
+    ('a late version', 'timeline T 0|version 2', 2, 'no line that stands outside', '2 - version 2'),
+    ('a ninth queue', '|'.join(f'queue Q{n} threaded' for n in range(9)), 9, 'one too many', '+ version 2'),
     ('a byte order mark', '\ufeffbuffer X 4', 1, 'byte order mark', '1 + buffer X 4'),
 ]
 # A lawful script, and what is warned of at which line.

@@ -7,7 +7,8 @@ class Weighted(Lawful):
     """Jobs of a lawful script: those of the second reading's generator, and some that it makes seldom."""
 
     def __init__(self, dice, without=()):
-        super().__init__(dice)
+        # A driver is asked for what Vulkan's waits say alone: they hold back whole batches.
+        super().__init__(dice, is_second=False)
         self.is_hosted = True
         # The first words of lines that aren't made.
         self.without = tuple(without)

@@ -103,7 +103,7 @@ static void choose_queues(struct device *device, uint32_t indices[MOST_QUEUES], 
 
 static const char *open_queues(struct device *device)
 {
-    static const float priorities[MOST_QUEUES] = {1, 1, 1, 1, 1, 1, 1, 1};
+    static const float priorities[MOST_QUEUES] = {1, 1, 1, 1, 1, 1, 1, 1, 1, 1, 1, 1, 1, 1, 1, 1};
     uint32_t indices[MOST_QUEUES] = {0}, wanted[MOST_FAMILIES] = {0};
     VkDeviceQueueCreateInfo queues[MOST_QUEUES];
     VkPhysicalDeviceVulkan13Features newer = {

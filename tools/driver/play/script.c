@@ -337,6 +337,8 @@ static bool read_host(struct script *script, const struct words *words, uint32_t
 
 static bool read_outside(struct script *script, const struct words *words, uint32_t line)
 {
+    if (is(words, 0, "version"))
+        return is(words, 1, "2");
     if (is(words, 0, "buffer"))
         return declare_buffer(script, words);
     if (is(words, 0, "timeline"))

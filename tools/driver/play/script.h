@@ -1,5 +1,6 @@
-/* A script of version 1, as its lines say it: docs/LANGUAGE.md. It was checked by vq before, so reading has only to
-   understand it. */
+/* A script of either version, as its lines say it: docs/LANGUAGE.md. It was checked by vq before, so reading has only
+   to understand it. A wait that holds back a part of its batch is read as one that holds back the whole: no call of
+   Vulkan names commands, and what the script may give then it may give as it stands. */
 #ifndef SCRIPT_H
 #define SCRIPT_H
 
@@ -11,8 +12,8 @@ enum {
     NAME_SIZE = 17,
     MOST_BUFFERS = 64,
     MOST_SEMAPHORES = 256,
-    MOST_QUEUES = 8,
-    MOST_JOBS = 4096,
+    MOST_QUEUES = 16,
+    MOST_JOBS = 8192,
     MOST_COMMANDS = 8192,
     MOST_PAIRS = 16,
 };
