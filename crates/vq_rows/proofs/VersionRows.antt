@@ -121,8 +121,8 @@ eight_queues =
 
 abbrev more_queues : List ℕ
 more_queues =
-    codes "queue R1 threaded\nqueue R2 threaded\nqueue R3 threaded\nqueue R4 threaded\n"
-    ++ codes "queue R5 threaded\nqueue R6 threaded\nqueue R7 threaded\nqueue R8 threaded\n"
+    codes "queue N1 threaded\nqueue N2 threaded\nqueue N3 threaded\nqueue N4 threaded\n"
+    ++ codes "queue N5 threaded\nqueue N6 threaded\nqueue N7 threaded\nqueue N8 threaded\n"
 
 sixteen_queues : bytes_of (codes "version 2\n" ++ eight_queues ++ more_queues) ≡ Ok []
 sixteen_queues = refl
