@@ -117,7 +117,8 @@ impl Cell {
         ensures { IsTrue result → IsAfterSome order.now self.now.writer by }
     {
         match self.writer {
-            Some(writer) => is_at_or_before(order, writer, by),
+            // Most writes follow one of their own job, and that needs no clock.
+            Some(writer) => is_earlier(writer, by) || is_at_or_before(order, writer, by),
             None => true,
         }
     }
