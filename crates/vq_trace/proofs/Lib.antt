@@ -1,0 +1,11 @@
+mod CommandJobs
+mod EventShapes
+mod FirstInRange
+mod FirstNames
+mod FirstPlaces
+mod FirstWord
+mod Joined
+mod LineCuts
+mod Lookups
+mod Marking
+mod OtherWords

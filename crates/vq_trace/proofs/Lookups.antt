@@ -1,0 +1,194 @@
+-- What is looked up of a plan, by what its index has.
+use Rattle.std.proofs.Common.{ℕ, ◌≡◌, ◌<◌, ◌^◌, ◌⊎◌, inl, inr, Bool, true, false, cond, List, [], ◌∷◌, length, find, Some, None, get_or, arith, refl, sym, ap, subst, ◌∙◌}
+use Rattle.std.specs.Prelude.{◌==◌, nat_le}
+use Rattle.std.specs.List.{slice_get}
+use Rattle.std.specs.Str.{bytes_eq}
+use Rattle.std.specs.Option.{option_and_then, option_map, option_map_or}
+use Rattle.std.proofs.lemmas.Bool.Decides.{nat_tests}
+use Rattle.vq_model.specs.declared.script.Job.{Job}
+use Rattle.vq_model.specs.declared.script.Job.TheVariants.{Host, Batch}
+use Rattle.vq_model.specs.declared.script.Script.{Script}
+use Rattle.vq_model.specs.declared.plan.Event.TheVariants.{Apply as Applies}
+use Rattle.vq_model.specs.declared.plan.PlanJob.{PlanJob}
+use Rattle.vq_model.specs.declared.script.CommandLine.{CommandLine}
+use Rattle.vq_model.specs.Naming.{semaphore_name}
+use Rattle.vq_model.specs.Text.{numeral}
+use Rattle.vq_model.specs.LoweringFaults.{IsPlan}
+use Rattle.vq_model.specs.Lowering.{plan_job, plan_of}
+use Rattle.vq_model.specs.Plan.{Plan, chain, commands_of, has, line_of_command, line_of_job, resolver, value}
+use Rattle.vq_model.specs.ValidScripts.{HasRisingLines, job_lines}
+use Rattle.vq_model.specs.WellFormed.{AreInOrder}
+use Rattle.vq_model.proofs.Gets.{get_some, get_within}
+use Rattle.vq_model.proofs.Lists.{has_here, has_there}
+use Rattle.vq_model.proofs.Options.{some_of}
+use Rattle.vq_model.proofs.Searches.{find_member}
+use Rattle.vq_reading_laws.proofs.Cited.{queues_fit, read_lines_rise, read_valid}
+use Rattle.vq_plan_laws.proofs.Cited.{count_jobs, part_is, plan_semaphores, plan_well_formed}
+use Rattle.vq_order_laws.proofs.Cited.{lines_across}
+use Rattle.vq_trace.proofs.CommandJobs.{owner_exists}
+use Rattle.vq_given.specs.Words.{apply_said, command_at, command_said, job_with, semaphore_named}
+use Rattle.vq_trace.specs.PlanIndex.{HasOwners}
+use Rattle.vq_trace.proofs.FirstInRange.{first_in_range, found_below}
+
+-- The lines of jobs rise
+
+job_line : (s : Script) (j : ℕ) (job : Job) → slice_get s.jobs j ≡ Some job →
+    (line : ℕ) × (line_of_job (plan_of s) j ≡ line) × (has (job_lines job) line ≡ true)
+job_line s j (Host h) e = (
+  h.line,
+  part_is (λ x. x.line) 0 s j ∙ ap (λ o. option_map_or (λ job. (plan_job s (j, job)).line) o 0) e,
+  has_here h.line [],
+)
+job_line s j (Batch b) e = (
+  b.line,
+  part_is (λ x. x.line) 0 s j ∙ ap (λ o. option_map_or (λ job. (plan_job s (j, job)).line) o 0) e,
+  has_here b.line _,
+)
+
+script_jobs_rise : (s : Script) → HasRisingLines s → (i j : ℕ) → i < j → j < length (plan_of s).jobs →
+    line_of_job (plan_of s) i < line_of_job (plan_of s) j
+script_jobs_rise s r i j l h =
+    let count = count_jobs s in
+    let x = get_some s.jobs i (omega (arith, l, h, count)) in
+    let y = get_some s.jobs j (omega (arith, h, count)) in
+    let a = job_line s i x.0 x.1 in
+    let b = job_line s j y.0 y.1 in
+    let less = lines_across s.jobs i j x.0 y.0 a.0 b.0 r x.1 y.1 l a.2 b.2 in
+    let first = a.1 in
+    let second = b.1 in
+    omega (arith, less, first, second)
+
+pub jobs_rise : (p : Plan) → IsPlan p → (i j : ℕ) → i < j → j < length p.jobs → line_of_job p i < line_of_job p j
+jobs_rise p is =
+    subst (λ (q : Plan). (i j : ℕ) → i < j → j < length q.jobs → line_of_job q i < line_of_job q j)
+    (sym is.lowered) (script_jobs_rise p.script (read_lines_rise p.script is.of_script))
+
+-- The job of a command
+
+pub owner_is : (p : Plan) → IsPlan p → (owners : List ℕ) → HasOwners p owners → (c : ℕ) → c < length p.commands →
+    job_with p c ≡ Some (get_or owners c 0)
+owner_is p is owners has_owners c l =
+    let own = has_owners.each c l in
+    first_in_range (λ j. has (commands_of p j) c) (length p.jobs) (get_or owners c 0)
+    (owner_exists p (get_or owners c 0) c own) own
+    (λ j less. by_test (has (commands_of p j) c) j refl less own)
+  where
+    by_test : (b : Bool) (j : ℕ) → has (commands_of p j) c ≡ b → j < get_or owners c 0 →
+        has (commands_of p (get_or owners c 0)) c ≡ true → b ≡ false
+    by_test true j e less own =
+        let same = (plan_well_formed p is).one_job c j (get_or owners c 0) e own in absurd (omega (arith, same, less))
+    by_test false j e less own = refl
+
+-- The operation with a value, by the one that resolves a wait for it
+
+not_some : {A B : Type 0} (x : A) → None ≡ Some x → B
+not_some x e = absurd (cc)
+
+not_none : {A B : Type 0} (x : A) → Some x ≡ None → B
+not_none x e = absurd (cc)
+
+none_where : (test : ℕ → Bool) (xs : List ℕ) → ((f : ℕ) → has xs f ≡ true → test f ≡ false) → find test xs ≡ None
+none_where test [] h = refl
+none_where test (x ∷ xs) h =
+    ap (λ t. cond t (Some x) (find test xs)) (h x (has_here x xs))
+    ∙ none_where test xs (λ f m. h f (has_there x xs f m))
+
+module _ (p : Plan) (v : ℕ) where
+  abbrev reaches : ℕ → Bool
+  reaches e = nat_le v (value p e)
+
+  abbrev sets : ℕ → Bool
+  sets e = value p e == v
+
+  below : (x : ℕ) → reaches x ≡ false → sets x ≡ false
+  below x h = grind (arith, nat_tests)
+
+  pub none_reaches : (xs : List ℕ) → find reaches xs ≡ None → find sets xs ≡ None
+  none_reaches [] e = refl
+  none_reaches (x ∷ xs) e = by_test (reaches x) refl (none_reaches xs)
+    where
+      by_test : (b : Bool) → reaches x ≡ b → (find reaches xs ≡ None → find sets xs ≡ None) → find sets (x ∷ xs) ≡ None
+      by_test true h more = not_none x (sym (ap (λ t. cond t (Some x) (find reaches xs)) h) ∙ e)
+      by_test false h more =
+          ap (λ t. cond t (Some x) (find sets xs)) (below x h)
+          ∙ more (sym (ap (λ t. cond t (Some x) (find reaches xs)) h) ∙ e)
+
+  pub first_sets : (xs : List ℕ) (e : ℕ) → find reaches xs ≡ Some e → value p e ≡ v → find sets xs ≡ Some e
+  first_sets [] e f is = not_some e f
+  first_sets (x ∷ xs) e f is = by_test (reaches x) refl (first_sets xs e)
+    where
+      by_test : (b : Bool) → reaches x ≡ b → (find reaches xs ≡ Some e → value p e ≡ v → find sets xs ≡ Some e) →
+          find sets (x ∷ xs) ≡ Some e
+      by_test true h more =
+          let found : Some x ≡ Some e = sym (ap (λ t. cond t (Some x) (find reaches xs)) h) ∙ f in
+          let same : x ≡ e = cc in
+          let passes : sets x ≡ true = subst (λ y. sets y ≡ true) (sym same) (grind (arith, nat_tests)) in
+          ap (λ t. cond t (Some x) (find sets xs)) passes ∙ found
+      by_test false h more =
+          ap (λ t. cond t (Some x) (find sets xs)) (below x h)
+          ∙ more (sym (ap (λ t. cond t (Some x) (find reaches xs)) h) ∙ f) is
+
+  pub none_sets : (xs : List ℕ) (e : ℕ) → AreInOrder p xs → find reaches xs ≡ Some e → (value p e ≡ v → ⊥) →
+      find sets xs ≡ None
+  none_sets [] e r f not = refl
+  none_sets (x ∷ xs) e r f not = by_test (reaches x) refl (none_sets xs e r.1)
+    where
+      above : (y : ℕ) → reaches y ≡ true → (value p y ≡ v → ⊥) → v < value p y
+      above y h n = grind (arith, nat_tests)
+
+      later : (g : ℕ) → v < value p x → (value p x < value p g) ⊎ ((value p x ≡ value p g) × (x < g)) → sets g ≡ false
+      later g l (inl m) = grind (arith, nat_tests)
+      later g l (inr m) = let same = m.0 in grind (arith, nat_tests)
+
+      by_test : (b : Bool) → reaches x ≡ b →
+          (find reaches xs ≡ Some e → (value p e ≡ v → ⊥) → find sets xs ≡ None) → find sets (x ∷ xs) ≡ None
+      by_test true h more =
+          let found : Some x ≡ Some e = sym (ap (λ t. cond t (Some x) (find reaches xs)) h) ∙ f in
+          let same : x ≡ e = cc in
+          let far : v < value p x = above x h (subst (λ y. value p y ≡ v → ⊥) (sym same) not) in
+          let none : sets x ≡ false = grind (arith, nat_tests) in
+          ap (λ t. cond t (Some x) (find sets xs)) none
+          ∙ none_where sets xs (λ g m. later g far (r.0 g m))
+      by_test false h more =
+          ap (λ t. cond t (Some x) (find sets xs)) (below x h)
+          ∙ more (sym (ap (λ t. cond t (Some x) (find reaches xs)) h) ∙ f) not
+
+-- a resolver is an operation of the plan
+pub resolver_exists : (p : Plan) → IsPlan p → (t v e : ℕ) → Some e ≡ resolver p t v → e < length p.ops
+resolver_exists p is t v e f =
+    let chained = (plan_well_formed p is).of_chain e t (find_member (λ x. nat_le v (value p x)) (chain p t) e (sym f)) in
+    let op = some_of (λ o. o.chain) (slice_get p.ops e) t chained in
+    get_within p.ops e op.0 op.1
+
+-- a name that is found is of a chain
+pub semaphore_exists : (p : Plan) → IsPlan p → (name : List ℕ) (t : ℕ) → Some t ≡ semaphore_named p name → t < length p.chains
+semaphore_exists p is name t f =
+    let below = found_below (λ u. bytes_eq name (semaphore_name p.script u)) (length p.script.semaphores) t (sym f) in
+    let same = (plan_semaphores p is).chains in
+    omega (arith, below, same)
+
+-- a line that is found is of a command
+pub command_found : (p : Plan) (line c : ℕ) → Some c ≡ command_at p line → c < length p.commands
+command_found p line c f = found_below (λ d. line_of_command p d == line) (length p.commands) c (sym f)
+
+-- the start of a command
+pub applied : (p : Plan) → IsPlan p → (owners : List ℕ) → HasOwners p owners → (word : List ℕ) (n c : ℕ) →
+    Some n ≡ numeral word → Some c ≡ command_at p n → Some (Applies (get_or owners c 0) c) ≡ apply_said p word
+applied p is owners has_owners word n c num found =
+    let said : command_said p word ≡ Some c = ap (option_and_then (command_at p)) (sym num) ∙ sym found in
+    sym (ap (option_and_then (λ d. option_map (λ j. Applies j d) (job_with p d))) said
+    ∙ ap (option_map (λ j. Applies j c)) (owner_is p is owners has_owners c (command_found p n c found)))
+
+-- the line of a job, and of a command
+pub job_line_is : (p : Plan) (j : ℕ) (job : PlanJob) → slice_get p.jobs j ≡ Some job → job.line ≡ line_of_job p j
+job_line_is p j job e = sym (ap (λ o. option_map_or (λ x. x.line) o 0) e)
+
+pub command_line_is : (p : Plan) (c : ℕ) (x : CommandLine) → slice_get p.commands c ≡ Some x → x.line ≡ line_of_command p c
+command_line_is p c x e = sym (ap (λ o. option_map_or (λ y. y.line) o 0) e)
+
+-- the queues are few
+pub few_queues : (p : Plan) → IsPlan p → length p.script.queues < 2 ^ 32
+few_queues p is =
+    let few = (read_valid p.script is.of_script).limits.queues in
+    let fit = queues_fit p.script.version in
+    omega (arith, few, fit)
