@@ -3,7 +3,7 @@
 //! Source: this project's own.
 ghost use Rattle.std.specs.Prelude.{◌≡◌, IfOk};
 ghost use Rattle.vq_model.specs.Refusals.{at_line, at_lines, line_refusal};
-ghost use Rattle.vq_messages.specs.Refused.{RefusesOrder, RefusesPlan};
+ghost use Rattle.vq_messages.specs.Refused.{RefusesOrder, RefusesPlan, no_trace, trace_refusal};
 
 use std::alloc::{AllocError, Global};
 use vq_model::plan::{OrderFault, PlanFault};
@@ -60,4 +60,18 @@ pub fn order_refusal(alloc: Global, fault: OrderFault) -> Result<Vec<u8>, AllocE
         OrderFault::Race { first, second } => at_lines(alloc, "race", first, second),
         OrderFault::Memory => Err(AllocError),
     }
+}
+
+/// The text that refuses an input without a trace. The error is want of memory.
+pub fn no_trace_refusal(alloc: Global) -> Result<Vec<u8>, AllocError>
+    ensures { IfOk result (λ text. text.items ≡ no_trace) }
+{
+    Vec::from_slice(alloc, b"error: no trace\n")
+}
+
+/// The text that refuses a trace with a faulty line. The error is want of memory.
+pub fn trace_refusal(alloc: Global, line: u32) -> Result<Vec<u8>, AllocError>
+    ensures { IfOk result (λ text. text.items ≡ trace_refusal line) }
+{
+    at_line(alloc, "trace", line)
 }
