@@ -25,6 +25,8 @@ mod OrderedDeclarations
 mod OrderedReads
 mod PartsSaid
 mod SaidContext
+mod ReadNames
+mod ReadValues
 mod ScheduleParts
 mod ScheduleReads
 mod ScheduleTold

@@ -22,9 +22,22 @@ is_text_word word = nat_lt 0 (length word) && list_all is_word_byte word
 abbrev pub are_text_words : List (List ℕ) → Bool
 are_text_words words = list_all is_text_word words
 
+-- A byte that stays in its word where a text is cut into lines and words: it is above all blanks and ends of
+-- lines, and no hash sign.
+abbrev pub is_kept_byte : ℕ → Bool
+is_kept_byte b = nat_le 33 b && not (b == 35)
+
+-- one such byte or more
+abbrev pub is_kept_word : List ℕ → Bool
+is_kept_word word = nat_lt 0 (length word) && list_all is_kept_byte word
+
+-- such words
+abbrev pub are_kept_words : List (List ℕ) → Bool
+are_kept_words words = list_all is_kept_word words
+
 -- a byte of a line of such words
 abbrev is_line_byte : ℕ → Bool
-is_line_byte b = nat_le 32 b && nat_le b 126
+is_line_byte b = nat_le 32 b
 
 -- what all pass that pass another test
 pub all_weaker : {A : Type 0} (p q : A → Bool) → ((x : A) → p x ≡ true → q x ≡ true) →
@@ -49,41 +62,56 @@ word_byte b h =
 not_false : (x : Bool) → x ≡ false → not x ≡ true
 not_false x e = ap not e
 
--- a byte of a word is one of a line
-word_to_line : (b : ℕ) → is_word_byte b ≡ true → is_line_byte b ≡ true
-word_to_line b h =
-    let w = word_byte b h in
-    let l = w.0 in
-    let m = w.1 in
-    and_from (nat_le 32 b) (nat_le b 126) (le-leb 32 b (omega arith)) (le-leb b 126 m)
-
 -- a byte of a word is plain
 pub word_to_plain : (b : ℕ) → is_word_byte b ≡ true → is_plain b ≡ true
 word_to_plain b h =
-    or_left (nat_le 32 b && nat_le b 126) (b == 9) (word_to_line b h)
-
--- .. and no blank ..
-word_to_not_blank : (b : ℕ) → is_word_byte b ≡ true → not (is_blank b) ≡ true
-word_to_not_blank b h =
     let w = word_byte b h in
     let l = w.0 in
+    let m = w.1 in
+    or_left (nat_le 32 b && nat_le b 126) (b == 9)
+    (and_from (nat_le 32 b) (nat_le b 126) (le-leb 32 b (omega arith)) (le-leb b 126 m))
+
+-- it stays in its word
+word_to_kept : (b : ℕ) → is_word_byte b ≡ true → is_kept_byte b ≡ true
+word_to_kept b h =
+    let w = word_byte b h in
+    let l = w.0 in
+    and_from (nat_le 33 b) (not (b == 35)) (le-leb 33 b (omega arith)) (not_false (b == 35) w.2)
+
+-- such words are kept
+pub text_to_kept : (word : List ℕ) → is_text_word word ≡ true → is_kept_word word ≡ true
+text_to_kept word h =
+    let parts = and_parts (nat_lt 0 (length word)) (list_all is_word_byte word) h in
+    and_from (nat_lt 0 (length word)) (list_all is_kept_byte word) parts.0
+    (all_weaker is_word_byte is_kept_byte word_to_kept word parts.1)
+
+-- a byte that is kept is one of a line ..
+kept_to_line : (b : ℕ) → is_kept_byte b ≡ true → is_line_byte b ≡ true
+kept_to_line b h =
+    let l = leb-true 33 b (and_parts (nat_le 33 b) (not (b == 35)) h).0 in
+    le-leb 32 b (omega arith)
+
+-- .. and no blank ..
+kept_to_not_blank : (b : ℕ) → is_kept_byte b ≡ true → not (is_blank b) ≡ true
+kept_to_not_blank b h =
+    let l = leb-true 33 b (and_parts (nat_le 33 b) (not (b == 35)) h).0 in
     not_false (is_blank b)
     (or_from (b == 32) (b == 9) (ne_eqb b 32 (λ e. omega arith)) (ne_eqb b 9 (λ e. omega arith)))
 
 -- .. and no hash sign
-word_to_not_hash : (b : ℕ) → is_word_byte b ≡ true → not (b == 35) ≡ true
-word_to_not_hash b h = not_false (b == 35) (word_byte b h).2
+kept_to_not_hash : (b : ℕ) → is_kept_byte b ≡ true → not (b == 35) ≡ true
+kept_to_not_hash b h = (and_parts (nat_le 33 b) (not (b == 35)) h).1
 
 -- a byte of a line is no line feed ..
 line_to_not_feed : (b : ℕ) → is_line_byte b ≡ true → not (is_line_feed b) ≡ true
 line_to_not_feed b h =
-    let l = leb-true 32 b (and_parts (nat_le 32 b) (nat_le b 126) h).0 in
+    let l = leb-true 32 b h in
     not_false (b == 10) (ne_eqb b 10 (λ e. omega arith))
 
 -- .. and no carriage return
 line_to_not_return : (b : ℕ) → is_line_byte b ≡ true → not (b == 13) ≡ true
 line_to_not_return b h =
-    let l = leb-true 32 b (and_parts (nat_le 32 b) (nat_le b 126) h).0 in
+    let l = leb-true 32 b h in
     not_false (b == 13) (ne_eqb b 13 (λ e. omega arith))
 
 -- Splitting
@@ -137,72 +165,77 @@ before_none {X} p (x ∷ xs) h =
 -- The bytes of a line
 
 -- words joined by one space hold bytes of lines alone ..
-join_bytes : (words : List (List ℕ)) → are_text_words words ≡ true →
+join_bytes : (words : List (List ℕ)) → are_kept_words words ≡ true →
     list_all is_line_byte (join_with_byte 32 words) ≡ true
 join_bytes [] h = refl
 join_bytes (w ∷ []) h =
-    let word = (and_parts (is_text_word w) true h).0 in
-    all_weaker is_word_byte is_line_byte word_to_line w
-    (and_parts (nat_lt 0 (length w)) (list_all is_word_byte w) word).1
+    let word = (and_parts (is_kept_word w) true h).0 in
+    all_weaker is_kept_byte is_line_byte kept_to_line w
+    (and_parts (nat_lt 0 (length w)) (list_all is_kept_byte w) word).1
 join_bytes (w ∷ v ∷ words) h =
-    let parts = and_parts (is_text_word w) (are_text_words (v ∷ words)) h in
+    let parts = and_parts (is_kept_word w) (are_kept_words (v ∷ words)) h in
     list_all-append is_line_byte w (32 ∷ join_with_byte 32 (v ∷ words))
     ∙ and_from (list_all is_line_byte w) (list_all is_line_byte (join_with_byte 32 (v ∷ words)))
-    (all_weaker is_word_byte is_line_byte word_to_line w
-    (and_parts (nat_lt 0 (length w)) (list_all is_word_byte w) parts.0).1)
+    (all_weaker is_kept_byte is_line_byte kept_to_line w
+    (and_parts (nat_lt 0 (length w)) (list_all is_kept_byte w) parts.0).1)
     (join_bytes (v ∷ words) parts.1)
 
 -- .. and no hash sign
-join_no_hash : (words : List (List ℕ)) → are_text_words words ≡ true →
+join_no_hash : (words : List (List ℕ)) → are_kept_words words ≡ true →
     list_all (λ b. not (b == 35)) (join_with_byte 32 words) ≡ true
 join_no_hash [] h = refl
 join_no_hash (w ∷ []) h =
-    let word = (and_parts (is_text_word w) true h).0 in
-    all_weaker is_word_byte (λ b. not (b == 35)) word_to_not_hash w
-    (and_parts (nat_lt 0 (length w)) (list_all is_word_byte w) word).1
+    let word = (and_parts (is_kept_word w) true h).0 in
+    all_weaker is_kept_byte (λ b. not (b == 35)) kept_to_not_hash w
+    (and_parts (nat_lt 0 (length w)) (list_all is_kept_byte w) word).1
 join_no_hash (w ∷ v ∷ words) h =
-    let parts = and_parts (is_text_word w) (are_text_words (v ∷ words)) h in
+    let parts = and_parts (is_kept_word w) (are_kept_words (v ∷ words)) h in
     list_all-append (λ b. not (b == 35)) w (32 ∷ join_with_byte 32 (v ∷ words))
     ∙ and_from (list_all (λ b. not (b == 35)) w)
     (list_all (λ b. not (b == 35)) (join_with_byte 32 (v ∷ words)))
-    (all_weaker is_word_byte (λ b. not (b == 35)) word_to_not_hash w
-    (and_parts (nat_lt 0 (length w)) (list_all is_word_byte w) parts.0).1)
+    (all_weaker is_kept_byte (λ b. not (b == 35)) kept_to_not_hash w
+    (and_parts (nat_lt 0 (length w)) (list_all is_kept_byte w) parts.0).1)
     (join_no_hash (v ∷ words) parts.1)
 
 -- The words of a line
 
 -- a word is kept among the parts between blanks
-word_kept : (w : List ℕ) (rest : List (List ℕ)) → is_text_word w ≡ true →
+word_kept : (w : List ℕ) (rest : List (List ℕ)) → is_kept_word w ≡ true →
     filter is_some_word (w ∷ rest) ≡ w ∷ filter is_some_word rest
 word_kept [] rest h = absurd (false≢true h)
 word_kept (b ∷ w) rest h = refl
 
 -- the parts of joined words, without empty ones
-words_joined : (words : List (List ℕ)) → are_text_words words ≡ true →
+words_joined : (words : List (List ℕ)) → are_kept_words words ≡ true →
     words_in (join_with_byte 32 words) ≡ words
 words_joined [] h = refl
 words_joined (w ∷ []) h =
-    let word = (and_parts (is_text_word w) true h).0 in
+    let word = (and_parts (is_kept_word w) true h).0 in
     ap (filter is_some_word)
     (split_none is_blank w
-    (all_weaker is_word_byte (λ b. not (is_blank b)) word_to_not_blank w
-    (and_parts (nat_lt 0 (length w)) (list_all is_word_byte w) word).1))
+    (all_weaker is_kept_byte (λ b. not (is_blank b)) kept_to_not_blank w
+    (and_parts (nat_lt 0 (length w)) (list_all is_kept_byte w) word).1))
     ∙ word_kept w [] word
 words_joined (w ∷ v ∷ words) h =
-    let parts = and_parts (is_text_word w) (are_text_words (v ∷ words)) h in
+    let parts = and_parts (is_kept_word w) (are_kept_words (v ∷ words)) h in
     ap (filter is_some_word)
     (split_part is_blank w (join_with_byte 32 (v ∷ words)) 32
-    (all_weaker is_word_byte (λ b. not (is_blank b)) word_to_not_blank w
-    (and_parts (nat_lt 0 (length w)) (list_all is_word_byte w) parts.0).1) refl)
+    (all_weaker is_kept_byte (λ b. not (is_blank b)) kept_to_not_blank w
+    (and_parts (nat_lt 0 (length w)) (list_all is_kept_byte w) parts.0).1) refl)
     ∙ (word_kept w (slice_split is_blank (join_with_byte 32 (v ∷ words))) parts.0
     ∙ ap (λ (ws : List (List ℕ)). w ∷ ws) (words_joined (v ∷ words) parts.1))
 
 -- The words of words joined by one space are these words.
-pub words_back : (words : List (List ℕ)) → are_text_words words ≡ true →
+pub kept_words_back : (words : List (List ℕ)) → are_kept_words words ≡ true →
     words_of (join_with_byte 32 words) ≡ words
-words_back words h =
+kept_words_back words h =
     ap words_in (before_none (λ b. b == 35) (join_with_byte 32 words) (join_no_hash words h))
     ∙ words_joined words h
+
+-- .. also where the words are printable
+pub words_back : (words : List (List ℕ)) → are_text_words words ≡ true →
+    words_of (join_with_byte 32 words) ≡ words
+words_back words h = kept_words_back words (all_weaker is_text_word is_kept_word text_to_kept words h)
 
 -- The lines of a text
 
@@ -233,11 +266,11 @@ empty_end (line ∷ []) = refl
 empty_end (line ∷ next ∷ lines) = ap (λ (ls : List (List ℕ)). line ∷ ls) (empty_end (next ∷ lines))
 
 -- the parts of a text that is written line by line, and an empty one after the last line feed
-split_lines : (lines : List (List (List ℕ))) → list_all are_text_words lines ≡ true →
+split_lines : (lines : List (List (List ℕ))) → list_all are_kept_words lines ≡ true →
     slice_split is_line_feed (flat_map line_text lines) ≡ map (join_with_byte 32) lines ++ [] ∷ []
 split_lines [] h = refl
 split_lines (words ∷ lines) h =
-    let parts = and_parts (are_text_words words) (list_all are_text_words lines) h in
+    let parts = and_parts (are_kept_words words) (list_all are_kept_words lines) h in
     ap (slice_split is_line_feed)
     (append_assoc (join_with_byte 32 words) (10 ∷ []) (flat_map line_text lines))
     ∙ (split_part is_line_feed (join_with_byte 32 words) (flat_map line_text lines) 10
@@ -246,19 +279,26 @@ split_lines (words ∷ lines) h =
     ∙ ap (λ (ls : List (List ℕ)). join_with_byte 32 words ∷ ls) (split_lines lines parts.1))
 
 -- nothing is cut off the ends of lines
-returns_kept : (lines : List (List (List ℕ))) → list_all are_text_words lines ≡ true →
+returns_kept : (lines : List (List (List ℕ))) → list_all are_kept_words lines ≡ true →
     map strip_carriage_return (map (join_with_byte 32) lines) ≡ map (join_with_byte 32) lines
 returns_kept [] h = refl
 returns_kept (words ∷ lines) h =
-    let parts = and_parts (are_text_words words) (list_all are_text_words lines) h in
+    let parts = and_parts (are_kept_words words) (list_all are_kept_words lines) h in
     λ i. return_kept (join_with_byte 32 words) (join_bytes words parts.0) i ∷ returns_kept lines
     parts.1 i
 
 -- The lines of a text that is written line by line are these lines.
-pub lines_back : (lines : List (List (List ℕ))) → list_all are_text_words lines ≡ true →
+pub kept_lines_back : (lines : List (List (List ℕ))) → list_all are_kept_words lines ≡ true →
     lines_of (flat_map line_text lines) ≡ map (join_with_byte 32) lines
-lines_back lines h =
+kept_lines_back lines h =
     ap (λ (ls : List (List ℕ)). map strip_carriage_return (without_empty_end ls))
     (split_lines lines h)
     ∙ (ap (map strip_carriage_return) (empty_end (map (join_with_byte 32) lines))
     ∙ returns_kept lines h)
+
+-- .. also where the words are printable
+pub lines_back : (lines : List (List (List ℕ))) → list_all are_text_words lines ≡ true →
+    lines_of (flat_map line_text lines) ≡ map (join_with_byte 32) lines
+lines_back lines h =
+    kept_lines_back lines
+    (all_weaker are_text_words are_kept_words (λ ws. all_weaker is_text_word is_kept_word text_to_kept ws) lines h)

@@ -1,0 +1,14 @@
+mod EndWords
+mod EndsBack
+mod EventFacts
+mod EventsBack
+mod LinesBack
+mod Lookups
+mod Makers
+mod PlayedTurns
+mod SaidWords
+mod SmallLines
+mod TraceLaws
+mod TracesBack
+mod TurnsBack
+mod Values
