@@ -1,6 +1,6 @@
 -- What a run leaves in the sink, from the outcome of its input and from what writing it left.
 use Rattle.std.proofs.Common.{◌≡◌, ℕ, ◌<◌, ◌≤◌, List, length, Option, Some, None, IfSome, refl, subst, sym, arith, ap, ◌∙◌, Bool, true, false, true≢false, cond}
-use Rattle.std.specs.Prelude.{Result, Ok, Err, IfOk, OnSome, []}
+use Rattle.std.specs.Prelude.{MatchBool, Result, Ok, Err, IfOk, OnSome, [], take, drop}
 use Rattle.std.proofs.lemmas.List.Elements.{All-nil}
 use Rattle.vq_model.specs.declared.script.Script.{Script}
 use Rattle.vq_model.specs.declared.plan.PlanFault.{PlanFault}
@@ -8,7 +8,7 @@ use Rattle.vq_model.specs.declared.plan.PlanFault.TheVariants.{NoSignal, Signale
 use Rattle.vq_model.specs.declared.plan.OrderFault.{OrderFault}
 use Rattle.vq_model.specs.declared.plan.OrderFault.TheVariants.{Unreachable, Unordered, FenceBusy, NotPending, Race, Memory as NoMemoryToCheck}
 use Rattle.vq_model.specs.declared.statement.FaultKind.{FaultKind}
-use Rattle.vq_model.specs.Reading.{IsFirstFault}
+use Rattle.vq_model.specs.Reading.{IsFirstFault, StandsFor}
 use Rattle.vq_model.specs.Lowering.{plan_of}
 use Rattle.vq_model.specs.LoweringFaults.{lowering_fault, IsFirstLoweringFault, IsPlan, Lowers}
 use Rattle.vq_model.specs.Plan.{Plan}
@@ -21,18 +21,24 @@ use Rattle.vq_words.specs.declared.task.WordsFault.{WordsFault}
 use Rattle.vq_words.specs.declared.task.WordsFault.TheVariants.{Bad, Memory as NoMemoryForWords}
 use Rattle.vq_words.specs.Grammar.{Gives, HasFewRounds}
 use Rattle.std.specs.Option.{option_map_or}
-use Rattle.vq_run.specs.Tasks.{form_of, generated_text, input_of, planned, row_of, turns_for, RunsThreads}
+use Rattle.vq_run.specs.Tasks.{form_of, generated_text, input_of, planned, row_of, turns_for, ReadsTrace, RunsThreads}
 use Rattle.vq_model.specs.Outputs.{IsOutput}
 use Rattle.vq_plan_laws.proofs.Cited.{kept_read, moved_read}
 use Rattle.vq_model.specs.Refusals.{too_long, line_refusal, plan_refusal, order_refusal}
 use Rattle.vq_order_laws.proofs.Cited.{lawful_without_fault}
 use Rattle.vq_words.specs.declared.task.Task.{Task}
-use Rattle.vq_words.specs.declared.task.Task.TheVariants.{Run, Replay, Generate}
+use Rattle.vq_words.specs.declared.task.Task.TheVariants.{Run, Replay, Generate, Audit}
 use Rattle.vq_run.specs.declared.status.Status.{Status}
 use Rattle.vq_run.specs.declared.status.Status.TheVariants.{Done, BadWords, Refused, ReadFault, WriteFault, Memory}
-use Rattle.vq_messages.specs.Refused.{RefusesPlan, RefusesOrder, input_limit}
-use Rattle.vq_run.specs.Outcomes.{IsOutcome, is_too_long, has_faulty_line, has_no_plan, is_unlawful, gives_answer, Ends, AnswersTask, ReadsToEnd, IsLawfulInput, IsDoneOrMemory}
+use Rattle.vq_messages.specs.Refused.{RefusesPlan, RefusesOrder, input_limit, no_trace, trace_refusal}
+use Rattle.vq_run.specs.Outcomes.{IsOutcome, is_too_long, has_no_trace, has_faulty_line, has_no_plan, is_unlawful, has_faulty_trace, gives_answer, Ends, AnswersTask, AnswersTrace, ReadsToEnd, IsLawfulInput, IsDoneOrMemory}
+use Rattle.vq_run.specs.Outcomes.{HasLawfulPlan, HasReadableTrace, IsScriptText, IsTraceRead, LacksTrace}
 use Rattle.vq_run.specs.Outcomes.{IsReadFor, ArePlayable, IsLawfulPlan, EndsForWords, WritesNothing}
+use Rattle.vq_given.specs.declared.given.Cut.{Cut}
+use Rattle.vq_given.specs.declared.given.GivenTrace.{GivenTrace}
+use Rattle.vq_given.specs.Cutting.{IsCut, IsUncut}
+use Rattle.vq_given.specs.Reading.{read_trace}
+use Rattle.vq_audit.proofs.Cited.{cut_or_not, one_cut}
 use Rattle.vq_replay.specs.Traced.{IsTrace}
 use Rattle.vq_port.specs.Faults.{Rose}
 use Rattle.vq_port.specs.declared.read.ReadFault.{ReadFault as Unread}
@@ -181,20 +187,61 @@ no_lowering_fault script (SignaledTwice n) none some = cc
 no_lowering_fault script (FenceUsed n) none some = cc
 no_lowering_fault script NoMemoryToLower none some = some
 
--- a lawful input is not refused
-not_refused : (task : Task) (input text : List ℕ) → IsLawfulInput task input → IsOutcome task input Refused text → ⊥
-not_refused task input text l (is_too_long long) = let short = l.short in omega arith
-not_refused task input text l (has_faulty_line n kind short fault) = let stands = l.stands in cc
-not_refused task input text l (has_no_plan script fault short stands refused) =
-    let other = l.stands in
-    let same : l.script ≡ script = cc in
-    no_lowering_fault (planned task script) fault
-    (subst (λ s. lowering_fault (planned task s) ≡ None) same l.lowers) refused
-not_refused task input text l (is_unlawful script fault short stands lowers refused) =
-    let other = l.stands in
-    let same : l.script ≡ script = cc in
-    lawful_without_fault (plan_of (planned task script)) fault
-    (subst (λ s. IsLawful (plan_of (planned task s))) same l.lawful) refused
+-- The script and the trace of an input
+
+-- a task reads one text of an input as a script
+one_text : (task : Task) (input a b : List ℕ) → IsScriptText task input a → IsScriptText task input b → a ≡ b
+one_text task input a b x y = by_row (row_of task).reads_trace x y
+  where
+    by_row : (reads : Bool) → MatchBool reads ((cut : Cut) × IsCut input cut × (a ≡ take cut.script_end input)) (a ≡ input) →
+        MatchBool reads ((cut : Cut) × IsCut input cut × (b ≡ take cut.script_end input)) (b ≡ input) → a ≡ b
+    by_row true x y = x.2 ∙ (ap (λ (c : Cut). take c.script_end input) (one_cut input x.0 y.0 x.1 y.1) ∙ sym y.2)
+    by_row false x y = x ∙ sym y
+
+-- an input with a script has a trace behind it where the task reads one
+pub not_lacking : (task : Task) (input text : List ℕ) → IsScriptText task input text → LacksTrace task input → ⊥
+not_lacking task input text part l =
+    let cut : (cut : Cut) × IsCut input cut × (text ≡ take cut.script_end input) =
+    subst (λ (reads : Bool). MatchBool reads ((cut : Cut) × IsCut input cut × (text ≡ take cut.script_end input)) (text ≡ input)) l.reads part in
+    cut_or_not input cut.0 cut.1 l.uncut
+
+-- what is read of a trace is one thing
+one_reading : (input : List ℕ) (p : Plan) (a b : Result GivenTrace ℕ) → IsTraceRead input p a → IsTraceRead input p b → a ≡ b
+one_reading input p a b x y =
+    sym x.read ∙ (ap (λ (c : Cut). read_trace p c.first (drop c.trace_start input)) (one_cut input x.cut y.cut x.is_cut y.is_cut) ∙ y.read)
+
+not_unreadable : (task : Task) (input : List ℕ) (p : Plan) (n : ℕ) → HasReadableTrace task input p → ReadsTrace task →
+    IsTraceRead input p (Err n) → ⊥
+not_unreadable task input p n readable reads faulty =
+    let read : (given : GivenTrace) × IsTraceRead input p (Ok given) =
+    subst (λ (b : Bool). MatchBool b ((given : GivenTrace) × IsTraceRead input p (Ok given)) (Unit {0})) reads readable in
+    let same : Ok read.0 ≡ Err n = one_reading input p (Ok read.0) (Err n) read.1 faulty in
+    cc
+
+module _ (task : Task) (input : List ℕ) (l : IsLawfulInput task input) where
+  -- the script of a lawful input stands for each text that is read as one
+  stands_too : (text : List ℕ) → IsScriptText task input text → StandsFor text (form_of task) l.script
+  stands_too text part =
+      subst (λ (t : List ℕ). StandsFor t (form_of task) l.script) (one_text task input l.plan.text text l.plan.part part) l.plan.stands
+
+  same_script : (text : List ℕ) (script : Script) → IsScriptText task input text → StandsFor text (form_of task) script → l.script ≡ script
+  same_script text script part stands = let other = stands_too text part in cc
+
+  -- a lawful input is not refused
+  not_refused : (text : List ℕ) → IsOutcome task input Refused text → ⊥
+  not_refused text (is_too_long long) = let short = l.short in omega arith
+  not_refused text (has_no_trace short lacks) = not_lacking task input l.plan.text l.plan.part lacks
+  not_refused text (has_faulty_line part n kind short is fault) = let stands = stands_too part is in cc
+  not_refused text (has_no_plan part script fault short is stands refused) =
+      no_lowering_fault (planned task script) fault
+      (subst (λ s. lowering_fault (planned task s) ≡ None) (same_script part script is stands) l.plan.lowers) refused
+  not_refused text (is_unlawful part script fault short is stands lowers refused) =
+      lawful_without_fault (plan_of (planned task script)) fault
+      (subst (λ s. IsLawful (plan_of (planned task s))) (same_script part script is stands) l.plan.lawful) refused
+  not_refused text (has_faulty_trace script n short plan reads faulty) =
+      not_unreadable task input (plan_of (planned task script)) n
+      (subst (λ (s : Script). HasReadableTrace task input (plan_of (planned task s))) (same_script plan.text script plan.part plan.stands) l.trace)
+      reads faulty
 
 -- a lawful input is run, unless the source or the sink fails
 pub lawful_ends : (task : Task) (input : List ℕ) (result : Status) (before now : SinkMoment) →
@@ -205,7 +252,7 @@ lawful_ends task input Memory before now e r w l = tt
 lawful_ends task input BadWords before now e r w l = e
 lawful_ends task input ReadFault before now e r w l = r refl
 lawful_ends task input WriteFault before now e r w l = w refl
-lawful_ends task input Refused before now e r w l = not_refused task input e.0 l e.1
+lawful_ends task input Refused before now e r w l = not_refused task input l e.0 e.1
 
 -- for an input that the source told
 pub told_lawful : (task : Task) (left : Option (List ℕ)) (result : Status) (before now : SinkMoment) (A B : Type 0) →
@@ -243,8 +290,8 @@ module _ (task : Task) (input : List ℕ) (s : Script) (turns : List Turn) (r : 
   read_for = subst IsRead (sym r.made) (by_turns (row_of task).plays_turns)
     where
       by_turns : (plays : Bool) → IsRead (cond plays (record r.script { turns = [] }) r.script)
-      by_turns true = moved_read input (form_of task) r.script r.stands
-      by_turns false = kept_read input (form_of task) r.script r.stands
+      by_turns true = moved_read r.text (form_of task) r.script r.stands
+      by_turns false = kept_read r.text (form_of task) r.script r.stands
 
   pub playable : ArePlayable s turns
   playable =
@@ -253,7 +300,7 @@ module _ (task : Task) (input : List ℕ) (s : Script) (turns : List Turn) (r : 
     where
       by_turns : (plays : Bool) → ArePlayable (cond plays (record r.script { turns = [] }) r.script) (cond plays r.script.turns [])
       by_turns true =
-          let valid = read_turns r.script (kept_read input (form_of task) r.script r.stands) in
+          let valid = read_turns r.script (kept_read r.text (form_of task) r.script r.stands) in
           let few = valid.few in
           record { few = omega arith; actors = valid.actors }
       by_turns false = record { few = omega arith; actors = All-nil (λ t. IsActor r.script t.actor) }
@@ -263,7 +310,7 @@ module _ (task : Task) (input : List ℕ) (s : Script) (turns : List Turn) (r : 
       IsFirstLoweringFault s fault → text ≡ plan_refusal fault → IsOutcome task input Refused text
   refused fault text short f is =
       subst (λ t. IsOutcome task input Refused t) (sym is)
-      (has_no_plan r.script fault short r.stands (subst (λ z. IsFirstLoweringFault z fault) r.made f))
+      (has_no_plan r.text r.script fault short r.part r.stands (subst (λ z. IsFirstLoweringFault z fault) r.made f))
 
   pub refused_outcome : (fault : PlanFault) (text : List ℕ) → length input ≤ input_limit →
       Lowers s (Err fault) → RefusesPlan fault text → IsOutcome task input Refused text
@@ -285,24 +332,35 @@ module _ (task : Task) (input : List ℕ) (p : Plan) (turns : List Turn) (short 
   same_plan : p ≡ plan_of (planned task r.script)
   same_plan = l.1 ∙ ap plan_of r.made
 
+  plan_has : IsLawful p → HasLawfulPlan task input r.script
+  plan_has lawful =
+      record { text = r.text; part = r.part; stands = r.stands; lowers = lowers; lawful = subst IsLawful same_plan lawful }
+
   -- it was checked, and its task done
-  pub task_outcome : (text : List ℕ) → IsLawful p → AnswersTask task p turns text → IsOutcome task input Done text
+  pub task_outcome : (text : List ℕ) → IsLawful p → AnswersTask task input p turns text → IsOutcome task input Done text
   task_outcome text lawful is =
-      gives_answer r.script text short r.stands lowers (subst IsLawful same_plan lawful)
-      (subst (λ q. AnswersTask task q r.script.turns text) same_plan (by_task task r.moved is))
+      gives_answer r.script text short (plan_has lawful)
+      (subst (λ q. AnswersTask task input q r.script.turns text) same_plan (by_task task r.moved is))
     where
       -- the turns that a task plays are those of the script that was read
-      by_task : (t : Task) → turns ≡ turns_for t r.script → AnswersTask t p turns text →
-          AnswersTask t p r.script.turns text
+      by_task : (t : Task) → turns ≡ turns_for t r.script → AnswersTask t input p turns text →
+          AnswersTask t input p r.script.turns text
       by_task Replay same done = subst (λ ts. IsTrace p ts text) same done
       by_task other same done = done
+
+  -- it was checked, and a line of its trace is faulty
+  pub trace_outcome : (text : List ℕ) (n : ℕ) → IsLawful p → ReadsTrace task → IsTraceRead input p (Err n) → text ≡ trace_refusal n →
+      IsOutcome task input Refused text
+  trace_outcome text n lawful reads faulty is =
+      subst (λ t. IsOutcome task input Refused t) (sym is)
+      (has_faulty_trace r.script n short (plan_has lawful) reads (subst (λ q. IsTraceRead input q (Err n)) same_plan faulty))
 
   -- it was refused for its first fault
   unlawful : (fault : OrderFault) (text : List ℕ) → IsFirstPlanFault p fault → text ≡ order_refusal fault →
       IsOutcome task input Refused text
   unlawful fault text f is =
       subst (λ t. IsOutcome task input Refused t) (sym is)
-      (is_unlawful r.script fault short r.stands lowers (subst (λ q. IsFirstPlanFault q fault) same_plan f))
+      (is_unlawful r.text r.script fault short r.part r.stands lowers (subst (λ q. IsFirstPlanFault q fault) same_plan f))
 
   pub unlawful_outcome : (fault : OrderFault) (text : List ℕ) → Checks p (Err fault) → RefusesOrder fault text →
       IsOutcome task input Refused text
@@ -319,15 +377,43 @@ module _ (task : Task) (input : List ℕ) (p : Plan) (turns : List Turn) (l : Is
   pub lawful_playable : ArePlayable p.script turns
   lawful_playable = playable task input p.script turns l.read
 
-  pub lawful_done : (text : List ℕ) → AnswersTask task p turns text → IsOutcome task input Done text
+  pub lawful_done : (text : List ℕ) → AnswersTask task input p turns text → IsOutcome task input Done text
   lawful_done text is = task_outcome task input p turns l.short l.read l.lowers text l.lawful is
 
+  -- its trace was judged, or is faulty
+  pub trace_done : (status : Status) (text : List ℕ) → task ≡ Audit → AnswersTrace input p status text → IsOutcome task input status text
+  trace_done Done text is judged =
+      lawful_done text (subst (λ (t : Task). AnswersTask t input p turns text) (sym is) judged)
+  trace_done Refused text is faulty =
+      trace_outcome task input p turns l.short l.read l.lowers text faulty.0 l.lawful (ap (λ (t : Task). (row_of t).reads_trace) is)
+      faulty.1 faulty.2
+  trace_done BadWords text is none = absurd none
+  trace_done ReadFault text is none = absurd none
+  trace_done WriteFault text is none = absurd none
+  trace_done Memory text is none = absurd none
+
+  pub trace_came : {E : Type 0} → task ≡ Audit → (came : Result Outcome E) →
+      IfOk came (λ o. AnswersTrace input p o.status o.text.items) → IfOk came (λ o. IsOutcome task input o.status o.text.items)
+  trace_came is (Ok o) answers = trace_done o.status o.text.items is answers
+  trace_came is (Err e) answers = tt
+
+-- the one task that reads a trace
+pub audits : (task : Task) → ReadsTrace task → task ≡ Audit
+audits Audit r = refl
+audits other r = absurd (true≢false (sym r))
+
+-- the input of a task that reads a trace is cut
+pub is_cut_for : (task : Task) (input : List ℕ) (p : Plan) (turns : List Turn) → IsLawfulPlan task input p turns →
+    ReadsTrace task → IsUncut input → ⊥
+is_cut_for task input p turns l reads uncut =
+    not_lacking task input l.read.text l.read.part (record { reads = reads; uncut = uncut })
+
 -- the text of a run answers the tasks that run a script
-pub runs_answer : (task : Task) (p : Plan) (turns : List Turn) (text : List ℕ) → RunsThreads task →
-    IsOutput p text → AnswersTask task p turns text
-runs_answer Run p turns text r o = o
-runs_answer (Generate rounds) p turns text r o = o
-runs_answer other p turns text r o = absurd (true≢false (sym r))
+pub runs_answer : (task : Task) (input : List ℕ) (p : Plan) (turns : List Turn) (text : List ℕ) → RunsThreads task →
+    IsOutput p text → AnswersTask task input p turns text
+runs_answer Run input p turns text r o = o
+runs_answer (Generate rounds) input p turns text r o = o
+runs_answer other input p turns text r o = absurd (true≢false (sym r))
 
 -- a task whose row has rounds makes a script of 1 to 500, and runs it
 pub makes_few : (task : Task) (rounds : ℕ) → (row_of task).rounds ≡ Some rounds → HasFewRounds task → (1 ≤ rounds) × (rounds ≤ 500) × RunsThreads task
@@ -353,8 +439,14 @@ lowered_again script p l =
     subst (λ q. Lowers q.script (Ok p)) (sym l.1) l
 
 -- a faulty line was refused
-pub faulty_outcome : (task : Task) (input : List ℕ) (n : ℕ) (kind : FaultKind) (text : List ℕ) →
-    length input ≤ input_limit → IsFirstFault input (form_of task) n kind → text ≡ line_refusal n kind →
+pub faulty_outcome : (task : Task) (input part : List ℕ) (n : ℕ) (kind : FaultKind) (text : List ℕ) →
+    length input ≤ input_limit → IsScriptText task input part → IsFirstFault part (form_of task) n kind →
+    text ≡ line_refusal n kind → IsOutcome task input Refused text
+faulty_outcome task input part n kind text short is fault text_is =
+    subst (λ t. IsOutcome task input Refused t) (sym text_is) (has_faulty_line part n kind short is fault)
+
+-- an input without a trace was refused
+pub traceless_outcome : (task : Task) (input text : List ℕ) → length input ≤ input_limit → LacksTrace task input → text ≡ no_trace →
     IsOutcome task input Refused text
-faulty_outcome task input n kind text short fault text_is =
-    subst (λ t. IsOutcome task input Refused t) (sym text_is) (has_faulty_line n kind short fault)
+traceless_outcome task input text short lacks text_is =
+    subst (λ t. IsOutcome task input Refused t) (sym text_is) (has_no_trace short lacks)

@@ -1,2 +1,3 @@
 mod Endings
+mod TraceParts
 mod Traced

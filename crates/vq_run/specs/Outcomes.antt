@@ -1,5 +1,6 @@
 -- What a run of the program may write, and with which status it ends. This project's own.
-use Rattle.std.specs.Prelude.{ℕ, ◌≡◌, ◌<◌, ◌≤◌, ◌^◌, All, List, [], ◌++◌, length, Option, Some, None, Ok, IfSome, OnSome, codes}
+use Rattle.std.specs.Prelude.{ℕ, ◌≡◌, ◌<◌, ◌≤◌, ◌^◌, All, List, [], ◌++◌, length, Option, Some, None, Ok, Err, IfSome, OnSome, codes, Result, MatchBool, true, take, drop}
+use Rattle.std.specs.Fmt.{decimal}
 use Rattle.vq_model.specs.declared.statement.FaultKind.{FaultKind}
 use Rattle.vq_model.specs.declared.script.Script.{Script}
 use Rattle.vq_model.specs.declared.script.Turn.{Turn}
@@ -15,13 +16,21 @@ use Rattle.vq_model.specs.OutputText.{line_feed}
 use Rattle.vq_model.specs.Outputs.{IsOutput}
 use Rattle.vq_model.specs.Refusals.{too_long, bad_words, line_refusal, plan_refusal, order_refusal}
 use Rattle.vq_model.specs.ValidScripts.{IsActor}
+use Rattle.vq_given.specs.declared.given.Cut.{Cut}
+use Rattle.vq_given.specs.declared.given.GivenTrace.{GivenTrace}
+use Rattle.vq_given.specs.Cutting.{IsCut, IsUncut}
+use Rattle.vq_given.specs.Reading.{read_trace}
+use Rattle.vq_audit.specs.declared.verdict.Verdict.{Verdict}
+use Rattle.vq_audit.specs.declared.verdict.Verdict.TheVariants.{Lawful as LawfulTrace, Broken}
+use Rattle.vq_audit.specs.Audits.{IfLawful, KeepLaws}
+use Rattle.vq_audit.specs.Verdicts.{IsVerdict, made_events}
 use Rattle.vq_replay.specs.Rounds.{IsRoundsTrace}
 use Rattle.vq_replay.specs.Traced.{IsTrace}
-use Rattle.vq_messages.specs.Refused.{input_limit}
-use Rattle.vq_run.specs.Tasks.{form_of, planned, turns_for}
+use Rattle.vq_messages.specs.Refused.{input_limit, no_trace, trace_refusal}
+use Rattle.vq_run.specs.Tasks.{ReadsTrace, form_of, planned, row_of, turns_for}
 use Rattle.vq_run.specs.Writes.{SinkMoment, WroteAll, WrotePart, WroteNothing}
 use Rattle.vq_words.specs.declared.task.Task.{Task}
-use Rattle.vq_words.specs.declared.task.Task.TheVariants.{Run, Check, Replay, Generate, Rounds, Upgrade}
+use Rattle.vq_words.specs.declared.task.Task.TheVariants.{Run, Check, Replay, Generate, Rounds, Upgrade, Audit}
 use Rattle.vq_run.specs.declared.reading.Reading.{Reading}
 use Rattle.vq_run.specs.declared.reading.Reading.TheVariants.{Lawful, Refused as RefusedReading}
 use Rattle.vq_run.specs.declared.status.Status.{Status}
@@ -35,37 +44,100 @@ upgraded s = record s { version = 2 }
 abbrev pub is_lawful_text : List ℕ
 is_lawful_text = codes "lawful" ++ line_feed
 
--- What a task writes for a lawful plan and the turns of a schedule: an output of the plan, that it is lawful,
--- the trace of the turns, that of rounds to the end, or the canonical text of the script as one of the second version.
-abbrev pub AnswersTask : Task → Plan → List Turn → List ℕ → Type 0
-AnswersTask Run p turns text = IsOutput p text
-AnswersTask Check p turns text = text ≡ is_lawful_text
-AnswersTask Replay p turns text = IsTrace p turns text
-AnswersTask (Generate rounds) p turns text = IsOutput p text
-AnswersTask Rounds p turns text = IsRoundsTrace p text
-AnswersTask Upgrade p turns text = text ≡ canonical_text (upgraded p.script)
+-- The script and the trace of an input
+
+-- The text that a task reads as a script: the whole input, or, where a trace follows the script, what stands before
+-- the line that cuts the input.
+abbrev pub IsScriptText : Task → List ℕ → List ℕ → Type 0
+IsScriptText task input text =
+    MatchBool (row_of task).reads_trace
+    ((cut : Cut) × IsCut input cut × (text ≡ take cut.script_end input)) (text ≡ input)
+
+-- A trace was to follow the script, and no line cuts the input.
+pub record LacksTrace (task : Task) (input : List ℕ) : Type 0 where
+  pub reads : ReadsTrace task
+  pub uncut : IsUncut input
+
+-- What is read, for a plan, of the trace behind the line that cuts an input: the trace, or its first faulty line.
+pub record IsTraceRead (input : List ℕ) (p : Plan) (found : Result GivenTrace ℕ) : Type 0 where
+  pub cut : Cut
+  pub is_cut : IsCut input cut
+  pub read : read_trace p cut.first (drop cut.trace_start input) ≡ found
+
+-- where a trace follows the script, it can be read for a plan
+abbrev pub HasReadableTrace : Task → List ℕ → Plan → Type 0
+HasReadableTrace task input p =
+    MatchBool (row_of task).reads_trace ((given : GivenTrace) × IsTraceRead input p (Ok given)) (Unit {0})
+
+-- what is written of a trace that was judged
+abbrev pub verdict_text : Verdict → List ℕ
+verdict_text LawfulTrace = is_lawful_text
+verdict_text (Broken line) = codes "broken: line " ++ decimal line ++ line_feed
+
+-- The verdict on the trace that follows a script. The events of a lawful one are a run of the plan, without those that
+-- show nothing of the machine, and keep the point law and the pending law.
+pub record IsAudited (input : List ℕ) (p : Plan) (text : List ℕ) : Type 0 where
+  pub given : GivenTrace
+  pub read : IsTraceRead input p (Ok given)
+  pub verdict : Verdict
+  pub right : IsVerdict p given verdict
+  pub laws : IfLawful verdict (KeepLaws p (made_events given.events))
+  pub spelled : text ≡ verdict_text verdict
+
+-- How the trace of an input is answered: by the verdict on it, or by the refusal of its first faulty line.
+abbrev pub AnswersTrace : List ℕ → Plan → Status → List ℕ → Type 0
+AnswersTrace input p Done text = IsAudited input p text
+AnswersTrace input p Refused text = (n : ℕ) × IsTraceRead input p (Err n) × (text ≡ trace_refusal n)
+AnswersTrace input p other text = ⊥
+
+-- Answers
+
+-- What a task writes for an input with a lawful plan and the turns of a schedule: an output of the plan, that it is
+-- lawful, the trace of the turns, that of rounds to the end, the canonical text of the script as one of the second
+-- version, or the verdict on the trace that follows the script.
+abbrev pub AnswersTask : Task → List ℕ → Plan → List Turn → List ℕ → Type 0
+AnswersTask Run input p turns text = IsOutput p text
+AnswersTask Check input p turns text = text ≡ is_lawful_text
+AnswersTask Replay input p turns text = IsTrace p turns text
+AnswersTask (Generate rounds) input p turns text = IsOutput p text
+AnswersTask Rounds input p turns text = IsRoundsTrace p text
+AnswersTask Upgrade input p turns text = text ≡ canonical_text (upgraded p.script)
+AnswersTask Audit input p turns text = IsAudited input p text
+
+-- A part of an input stands for a script that has a plan, and the plan is lawful.
+pub record HasLawfulPlan (task : Task) (input : List ℕ) (script : Script) : Type 0 where
+  pub text : List ℕ
+  pub part : IsScriptText task input text
+  pub stands : StandsFor text (form_of task) script
+  pub lowers : lowering_fault (planned task script) ≡ None
+  pub lawful : IsLawful (plan_of (planned task script))
 
 -- What a task may answer for an input, with the text that it writes.
 pub data IsOutcome (task : Task) (input : List ℕ) : Status → List ℕ → Type 0 where
   -- the input is too long
   is_too_long : input_limit < length input → IsOutcome task input Refused too_long
-  -- a line is faulty: the first one of the text, by its first kind
-  has_faulty_line : (n : ℕ) (kind : FaultKind) → length input ≤ input_limit →
-      IsFirstFault input (form_of task) n kind → IsOutcome task input Refused (line_refusal n kind)
-  -- the script that the input stands for has no plan
-  has_no_plan : (script : Script) (fault : PlanFault) → length input ≤ input_limit →
-      StandsFor input (form_of task) script → IsFirstLoweringFault (planned task script) fault →
-      IsOutcome task input Refused (plan_refusal fault)
+  -- a trace was to follow the script, and there is none
+  has_no_trace : length input ≤ input_limit → LacksTrace task input → IsOutcome task input Refused no_trace
+  -- a line of the script is faulty: the first one of the text, by its first kind
+  has_faulty_line : (text : List ℕ) (n : ℕ) (kind : FaultKind) → length input ≤ input_limit →
+      IsScriptText task input text → IsFirstFault text (form_of task) n kind →
+      IsOutcome task input Refused (line_refusal n kind)
+  -- the script that the text stands for has no plan
+  has_no_plan : (text : List ℕ) (script : Script) (fault : PlanFault) → length input ≤ input_limit →
+      IsScriptText task input text → StandsFor text (form_of task) script →
+      IsFirstLoweringFault (planned task script) fault → IsOutcome task input Refused (plan_refusal fault)
   -- its plan is not lawful
-  is_unlawful : (script : Script) (fault : OrderFault) → length input ≤ input_limit →
-      StandsFor input (form_of task) script → lowering_fault (planned task script) ≡ None →
-      IsFirstPlanFault (plan_of (planned task script)) fault →
+  is_unlawful : (text : List ℕ) (script : Script) (fault : OrderFault) → length input ≤ input_limit →
+      IsScriptText task input text → StandsFor text (form_of task) script →
+      lowering_fault (planned task script) ≡ None → IsFirstPlanFault (plan_of (planned task script)) fault →
       IsOutcome task input Refused (order_refusal fault)
+  -- the script is lawful, and a line of the trace is faulty: the first one
+  has_faulty_trace : (script : Script) (n : ℕ) → length input ≤ input_limit → HasLawfulPlan task input script →
+      ReadsTrace task → IsTraceRead input (plan_of (planned task script)) (Err n) →
+      IsOutcome task input Refused (trace_refusal n)
   -- the script is lawful, and the text answers the task
-  gives_answer : (script : Script) (text : List ℕ) → length input ≤ input_limit →
-      StandsFor input (form_of task) script → lowering_fault (planned task script) ≡ None →
-      IsLawful (plan_of (planned task script)) →
-      AnswersTask task (plan_of (planned task script)) script.turns text → IsOutcome task input Done text
+  gives_answer : (script : Script) (text : List ℕ) → length input ≤ input_limit → HasLawfulPlan task input script →
+      AnswersTask task input (plan_of (planned task script)) script.turns text → IsOutcome task input Done text
 
 -- turns that can be played over a plan of a script: they are few, and each actor is one of the script
 pub record ArePlayable (s : Script) (turns : List Turn) : Type 0 where
@@ -74,8 +146,10 @@ pub record ArePlayable (s : Script) (turns : List Turn) : Type 0 where
 
 -- A script was read from an input for a task, and its turns were moved out where the task plays them.
 pub record IsReadFor (task : Task) (input : List ℕ) (s : Script) (turns : List Turn) : Type 0 where
+  pub text : List ℕ
+  pub part : IsScriptText task input text
   pub script : Script
-  pub stands : StandsFor input (form_of task) script
+  pub stands : StandsFor text (form_of task) script
   pub made : s ≡ planned task script
   pub moved : turns ≡ turns_for task script
 
@@ -121,13 +195,12 @@ ReadsToEnd Refused before now =
     IfSome before (λ input. length input ≤ input_limit → now ≡ Some [])
 ReadsToEnd other before now = Unit {0}
 
--- An input stands for a lawful script of the form that a task reads.
+-- An input stands for a lawful script of the form that a task reads, and has the trace that a task reads.
 pub record IsLawfulInput (task : Task) (input : List ℕ) : Type 0 where
   pub short : length input ≤ input_limit
   pub script : Script
-  pub stands : StandsFor input (form_of task) script
-  pub lowers : lowering_fault (planned task script) ≡ None
-  pub lawful : IsLawful (plan_of (planned task script))
+  pub plan : HasLawfulPlan task input script
+  pub trace : HasReadableTrace task input (plan_of (planned task script))
 
 -- a run ended with its whole text written, or for want of memory
 abbrev pub IsDoneOrMemory : Status → Type 0

@@ -1,6 +1,7 @@
 //! The top call, and what it does for a task that starts no thread.
 #![tactic(auto)]
 
+mod auditing;
 mod ending;
 mod outcome;
 mod reading;

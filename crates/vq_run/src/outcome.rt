@@ -6,14 +6,16 @@ ghost use Rattle.vq_model.specs.OutputText.{answer_text, buffers_text};
 ghost use Rattle.vq_model.specs.Outputs.{IsOutput, asking};
 ghost use Rattle.vq_model.specs.ValidScripts.{sizes_of};
 ghost use Rattle.vq_messages.specs.Refused.{input_limit};
-ghost use Rattle.vq_run.specs.Outcomes.{AnswersTask, ArePlayable, IsOutcome, upgraded};
+ghost use Rattle.vq_run.specs.Outcomes.{AnswersTask, ArePlayable, IsLawfulPlan, IsOutcome, upgraded};
 ghost use Rattle.vq_replay.specs.Traced.{IsTrace};
-ghost use Rattle.vq_run.specs.Tasks.{IsStill, RunsThreads};
+ghost use Rattle.vq_run.specs.Tasks.{IsStill, ReadsTrace, RunsThreads};
 ghost use Rattle.vq_board.specs.Named.{bytes_of};
 ghost use Rattle.vq_spec.specs.TextRooms.{text_room};
 
+use crate::auditing::trace_outcome;
 use crate::reading::{Reading, read_input};
 use crate::status::Status;
+use crate::task::row_of;
 use std::alloc::{AllocError, Global};
 use std::marker::Sync;
 use std::sync::Wait;
@@ -103,24 +105,46 @@ fn upgraded_text(alloc: Global, ordered: &Ordered) -> Result<Vec<u8>, AllocError
     print_as(alloc, ordered.plan().script(), 2)
 }
 
-/// What a task that starts no thread writes for a lawful plan.
+/// What a task that starts no thread and reads no trace writes for a lawful plan.
 fn still_text(
     alloc: Global,
     task: Task,
     ordered: Ordered,
     turns: &[Turn],
+    input: &[u8],
 ) -> Result<Vec<u8>, AllocError>
     requires still { IsStill task }
+    requires traceless { ¬ ReadsTrace task }
     requires playable { ArePlayable ordered.script turns.now }
-    ensures { IfOk result (λ text. AnswersTask task ordered turns.now text.items) }
+    ensures { IfOk result (λ text. AnswersTask task input.now ordered turns.now text.items) }
 {
+    let _ = input;
     match task {
         Task::Check => Vec::from_slice(alloc, b"lawful\n"),
         Task::Replay => replay_text(alloc, ordered, turns),
         Task::Rounds => rounds_text(alloc, ordered),
         Task::Upgrade => upgraded_text(alloc, &ordered),
-        Task::Run | Task::Generate(_) => unreachable!(),
+        Task::Run | Task::Generate(_) | Task::Audit => unreachable!(),
     }
+}
+
+/// What a task that starts no thread comes to for a lawful plan that was read from an input.
+fn plan_outcome(
+    alloc: Global,
+    task: Task,
+    ordered: Ordered,
+    turns: &[Turn],
+    input: &[u8],
+) -> Result<Outcome, AllocError>
+    requires still { IsStill task }
+    requires plan { IsLawfulPlan task input.now ordered turns.now }
+    ensures { IfOk result (λ outcome. IsOutcome task input.now outcome.status outcome.text.items) }
+{
+    if row_of(task).reads_trace {
+        return trace_outcome(alloc, ordered, input);
+    }
+    let text = still_text(alloc, task, ordered, turns, input)?;
+    Ok(Outcome::done(text))
 }
 
 /// What a task that starts no thread writes for an input. The error is want of memory.
@@ -131,8 +155,7 @@ pub fn still_outcome(alloc: Global, task: Task, input: &[u8]) -> Result<Outcome,
 {
     match read_input(alloc, task, input)? {
         Reading::Lawful { ordered, turns } => {
-            let text = still_text(alloc, task, ordered, turns.as_slice())?;
-            Ok(Outcome::done(text))
+            plan_outcome(alloc, task, ordered, turns.as_slice(), input)
         }
         Reading::Refused(text) => Ok(Outcome::refused(text)),
     }

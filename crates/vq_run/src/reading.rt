@@ -5,10 +5,11 @@ ghost use Rattle.vq_messages.specs.Refused.{input_limit};
 ghost use Rattle.vq_run.specs.Outcomes.{IsReadFor, IsReading};
 ghost use Rattle.vq_run.specs.Tasks.{planned, turns_for};
 
+use crate::auditing::script_text;
 use crate::task::row_of;
 use std::alloc::{AllocError, Global};
 use std::mem::replace;
-use vq_messages::{line_refusal, order_refusal, plan_refusal};
+use vq_messages::{line_refusal, no_trace_refusal, order_refusal, plan_refusal};
 use vq_model::list::List;
 use vq_model::script::Turn;
 use vq_order::{Ordered, check};
@@ -84,12 +85,16 @@ fn move_turns(alloc: Global, task: Task, script: Script) -> Planned
     Planned { script, turns }
 }
 
-/// Reads an input for a task: parses it, makes its plan and checks that. The error is want of memory.
+/// Reads an input for a task: parses its script, makes the plan and checks that. The error is want of memory.
+#[tactic(auto, using(crate::proofs::Endings::traceless_outcome))]
 pub fn read_input(alloc: Global, task: Task, input: &[u8]) -> Result<Reading, AllocError>
     requires { length input.now ≤ input_limit }
     ensures { IfOk result (IsReading task input.now) }
 {
-    match parse(alloc, input, row_of(task).form) {
+    let Some(text) = script_text(task, input) else {
+        return Ok(Reading::Refused(no_trace_refusal(alloc)?));
+    };
+    match parse(alloc, text, row_of(task).form) {
         Ok(script) => {
             let Planned { script, turns } = move_turns(alloc, task, script);
             of_script(alloc, task, script, turns, input)

@@ -10,6 +10,8 @@ use vq_words::Task;
 pub struct TaskRow {
     /// The form of the scripts that it reads.
     pub form: Form,
+    /// Whether a trace follows the script.
+    pub reads_trace: bool,
     /// Whether it plays the turns of a schedule, which are then no part of the plan.
     pub plays_turns: bool,
     /// Whether it runs the script on threads.
@@ -24,6 +26,7 @@ fn plain_row() -> TaskRow
 {
     TaskRow {
         form: Form::Plain,
+        reads_trace: false,
         plays_turns: false,
         runs_threads: false,
         rounds: None,
@@ -47,6 +50,10 @@ pub(crate) fn row_of(task: Task) -> TaskRow
         Task::Generate(rounds) => TaskRow {
             runs_threads: true,
             rounds: Some(rounds),
+            ..plain_row()
+        },
+        Task::Audit => TaskRow {
+            reads_trace: true,
             ..plain_row()
         },
         Task::Check | Task::Rounds | Task::Upgrade => plain_row(),

@@ -15,11 +15,12 @@ use vq_messages::INPUT_LIMIT;
 use vq_port::{Sink, Source, read_whole};
 use vq_words::Task;
 
-/// Does a task that starts no thread, a check, a replay, rounds or an upgrade, with the script that the source holds,
-/// and writes the answer. It waits for nobody, so it always returns.
+/// Does a task that starts no thread, a check, a replay, rounds, an upgrade or an audit, with the script that the
+/// source holds, and writes the answer. It waits for nobody, so it always returns.
 ///
-/// The source is read to its end. An input above 4,194,304 bytes, a faulty line, a script without a plan and
-/// an unlawful plan are `Refused`, with the line of the first fault. `ReadFault` comes only where the source
+/// The source is read to its end. An input above 4,194,304 bytes, for an audit one without a trace, a faulty line, a
+/// script without a plan, an unlawful plan and a faulty line of a trace are `Refused`, with the line of the first
+/// fault. `ReadFault` comes only where the source
 /// counted a fault in this call, `WriteFault` only where the sink did; `Memory` is want of memory, and
 /// `BadWords` never comes. The whole text is written at once, at the end.
 pub fn still<S: Source, K: Sink>(alloc: Global, task: &Task, source: &mut S, sink: &mut K) -> Status
@@ -29,7 +30,7 @@ pub fn still<S: Source, K: Sink>(alloc: Global, task: &Task, source: &mut S, sin
         Ends task.now input result
         (moment K.written K.room K.faults sink.old)
         (moment K.written K.room K.faults sink.new)) }
-    // A lawful script is answered, unless the source or the sink fails.
+    // A lawful script is answered, and the trace behind it if it can be read, unless the source or the sink fails.
     ensures lawful { IfSome (S.left source.old) (λ input. IsLawfulInput task.now input →
         ¬ Rose (S.faults source.old) (S.faults source.new) →
         ¬ Rose (K.faults sink.old) (K.faults sink.new) → IsDoneOrMemory result) }

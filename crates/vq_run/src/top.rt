@@ -152,15 +152,16 @@ fn do_task<R: Threads + Wait + Sync, S: Source, K: Sink, G: Gate>(
 ///
 /// Without words the script is run on threads, and the gate is called before each turn. With `--check`
 /// alone it is only said whether it is lawful. With `--upgrade` alone a lawful script is written as one of
-/// the second version. With `--replay` alone the script has a schedule, which is played turn by turn. With
+/// the second version. With `--replay` alone the script has a schedule, which is played turn by turn. With `--audit`
+/// alone a trace follows the script, behind the first line with the one word `trace`, and is judged. With
 /// `--generate N`, or `--generate=N`, the program makes a script of N rounds itself, from 1 to 500, and
 /// runs it on threads; nothing is read then. Only a script that is run needs threads, waits for them or
 /// calls the gate. Other words are `BadWords`, and nothing is read then. Else the source is read to its
-/// end. An input above 4,194,304 bytes, a faulty line, a script without a plan and an unlawful plan are
-/// `Refused`, with the line of the first fault; else the text is one that a run of the script may give,
-/// `lawful`, a trace or the upgraded script. `ReadFault` comes only where the source counted a fault in
-/// this call, `WriteFault` only where the sink did; `Memory` is want of memory. The whole text is written
-/// at once, at the end.
+/// end. An input above 4,194,304 bytes, with `--audit` one without a trace, a faulty line, a script without a
+/// plan, an unlawful plan and a faulty line of a trace are `Refused`, with the line of the first fault; else
+/// the text is one that a run of the script may give, `lawful`, a trace, the upgraded script or a verdict.
+/// `ReadFault` comes only where the source counted a fault in this call, `WriteFault` only where the sink did;
+/// `Memory` is want of memory. The whole text is written at once, at the end.
 pub fn run<R: Threads + Wait + Sync, S: Source, K: Sink, G: Gate>(
     rt: &R,
     alloc: Global,
@@ -178,7 +179,7 @@ pub fn run<R: Threads + Wait + Sync, S: Source, K: Sink, G: Gate>(
         (moment K.written K.room K.faults sink.old)
         (moment K.written K.room K.faults sink.new)) }
 
-    // A lawful script is answered, unless the source or the sink fails.
+    // A lawful script is answered, and the trace behind it if it can be read, unless the source or the sink fails.
     ensures lawful { (task : Task) → task_of (map string_bytes words.now) ≡ Some task →
         IfSome (input_of task (S.left source.old)) (λ input. IsLawfulInput task input →
         ¬ Rose (S.faults source.old) (S.faults source.new) →

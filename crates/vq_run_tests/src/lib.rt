@@ -2,6 +2,8 @@
 #![tactic(auto)]
 
 #[cfg(test)]
+mod audit_tests;
+#[cfg(test)]
 mod gate_tests;
 #[cfg(test)]
 mod host_tests;

@@ -25,7 +25,7 @@ fn has_clap_form(words: &[String]) -> bool
 
 /// Reads the words of the command line, without the program's name.
 ///
-/// The words are none, one of `--check`, `--replay`, `--rounds` and `--upgrade` alone, `--generate` and N, or
+/// The words are none, one of `--check`, `--replay`, `--rounds`, `--upgrade` and `--audit` alone, `--generate` and N, or
 /// `--generate=N` as one word, where N is one to three decimal digits that write a number from 1 to 500. `Bad` comes for every
 /// other list, and `Memory` where memory is wanting.
 pub fn read_words(alloc: Global, words: &[String]) -> Result<Task, WordsFault>

@@ -43,6 +43,10 @@ pub fn options() -> &'static [OptionRow]
             asks: Asks::Alone(Task::Upgrade),
         },
         OptionRow {
+            word: "audit",
+            asks: Asks::Alone(Task::Audit),
+        },
+        OptionRow {
             word: "generate",
             asks: Asks::Numbered,
         },

@@ -17,6 +17,8 @@ pub enum Task {
     Rounds,
     /// `--upgrade`: the script is written as one of the second version, and nothing is started.
     Upgrade,
+    /// `--audit`: the trace that follows the script is judged, and nothing is started.
+    Audit,
 }
 
 /// Why words are not read.

@@ -8,4 +8,4 @@ pub returns-in-Lawful : goal.returns-in-Lawful
 returns-in-Lawful g c =
     subst (λ (o : Outcome). IsOutcome c.args.task c.args.input.now o.status o.text.items) (sym c.done.ensures)
     (lawful_done _ _ _ _ (rw c.in-Lawful.is at c.in_ok-ordered.ensures) _
-    (runs_answer _ _ _ _ c.requires.runs c.in_ok-text-in-Lawful.ensures))
+    (runs_answer _ _ _ _ _ c.requires.runs c.in_ok-text-in-Lawful.ensures))
