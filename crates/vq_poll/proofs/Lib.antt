@@ -1,0 +1,11 @@
+pub mod Cited
+mod Arrived
+mod Coming
+mod Crossing
+mod Ended
+mod Learned
+mod Looked
+mod Missed
+mod Places
+mod Polled
+mod Waited

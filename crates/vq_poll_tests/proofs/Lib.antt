@@ -1,0 +1,3 @@
+pub mod Cited
+mod Watchables
+pub mod Answered

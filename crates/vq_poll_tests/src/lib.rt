@@ -1,0 +1,9 @@
+//! Run tests of waits as futures, through public calls alone, on the board of two batches of one queue that
+//! signal one timeline, with 2 and then with 7. Expected values are worked out by hand.
+#![tactic(auto)]
+
+#[cfg(test)]
+mod polls_tests;
+pub mod scene;
+pub mod steps;
+pub mod waits;

@@ -1,0 +1,95 @@
+//! What waits answer after the steps of both batches.
+ghost use Rattle.std.specs.Prelude.{◌≡◌, IfSome};
+ghost use Rattle.vq_poll_tests.specs.Scenes.{AreOfFirst};
+
+use crate::scene::{after_all, opened};
+use crate::waits::{blocked, collected, polled};
+use futures::task::Poll;
+use std::alloc::AllocGlobal;
+use std::random::RandomSource;
+use std::sync::Wait;
+use vq_poll::{Met, Pair, WaitMode};
+
+/// A pair of A.
+fn of_a(value: u64) -> Pair
+    ensures { result ≡ record { chain = 0; value = value } }
+{
+    Pair { chain: 0, value }
+}
+
+/// What a wait for this value answers in one poll after all steps.
+fn polled_after<R: Wait + RandomSource + AllocGlobal>(
+    rt: &R,
+    mode: WaitMode,
+    pairs: &[Pair],
+) -> Option<Poll<Met>>
+    requires { AreOfFirst pairs.now }
+{
+    let scene = after_all(rt, opened(rt.alloc())?)?;
+    polled(rt, scene, mode, pairs)
+}
+
+/// What one poll answers, if it does.
+fn met_in(polled: Option<Poll<Met>>) -> Option<Met> {
+    match polled {
+        Some(Poll::Ready(met)) => Some(met),
+        _ => None,
+    }
+}
+
+#[tactic(auto, using(crate::proofs::Watchables::one_first))]
+fn all_is_met<R: Wait + RandomSource + AllocGlobal>(rt: &R) -> bool {
+    let pairs = [of_a(3)];
+    met_in(polled_after(rt, WaitMode::All, &pairs)) == Some(Met { index: 0, value: 7 })
+}
+
+#[tactic(auto, using(crate::proofs::Watchables::two_first))]
+fn one_is_met<R: Wait + RandomSource + AllocGlobal>(rt: &R) -> bool {
+    let pairs = [of_a(9), of_a(2)];
+    met_in(polled_after(rt, WaitMode::Any, &pairs)) == Some(Met { index: 1, value: 7 })
+}
+
+#[tactic(auto, using(crate::proofs::Watchables::two_first))]
+fn none_is_pending<R: Wait + RandomSource + AllocGlobal>(rt: &R) -> bool {
+    let pairs = [of_a(2), of_a(9)];
+    matches!(polled_after(rt, WaitMode::All, &pairs), Some(Poll::Pending))
+}
+
+#[test]
+fn waits_after_all_steps_answer_at_once(rt: HostRuntime) {
+    assert!(rt; all_is_met(&rt) && one_is_met(&rt) && none_is_pending(&rt));
+}
+
+#[tactic(auto, using(crate::proofs::Watchables::one_first))]
+fn blocked_after<R: Wait + RandomSource + AllocGlobal>(rt: &R) -> Option<Met> {
+    let scene = after_all(rt, opened(rt.alloc())?)?;
+    let pairs = [of_a(3)];
+    blocked(rt, scene, WaitMode::All, &pairs)
+}
+
+#[test]
+fn a_thread_that_blocks_gets_the_value(rt: HostRuntime) {
+    assert!(rt; blocked_after(&rt) == Some(Met { index: 0, value: 7 }));
+}
+
+#[tactic(auto, using(crate::proofs::Watchables::two_first))]
+fn collected_after<R: Wait + RandomSource + AllocGlobal>(rt: &R) -> Option<Vec<Met>> {
+    let scene = after_all(rt, opened(rt.alloc())?)?;
+    let pairs = [of_a(7), of_a(2)];
+    collected(rt, scene, &pairs)
+}
+
+/// Whether these are the items of both pairs.
+fn are_both(items: Option<Vec<Met>>) -> bool {
+    match items {
+        Some(items) => {
+            items.as_slice() == [Met { index: 0, value: 7 }, Met { index: 1, value: 7 }].as_slice()
+        }
+        None => false,
+    }
+}
+
+#[test]
+fn each_pair_arrives_once(rt: HostRuntime) {
+    assert!(rt; are_both(collected_after(&rt)));
+}

@@ -1,0 +1,88 @@
+//! Waits for values of A, by the pass of the host.
+ghost use Rattle.std.specs.Prelude.{◌≡◌};
+ghost use Rattle.vq_poll_tests.specs.Scenes.{AreOfFirst, IsWatchable};
+
+use crate::scene::{Scene, watched_of};
+use futures::StreamExt;
+use futures::executor::block_on;
+use futures::task::Poll;
+use futures::test::MockTask;
+use std::alloc::AllocGlobal;
+use std::random::RandomSource;
+use std::sync::Wait;
+use vq_poll::{Arrivals, Met, Pair, WaitMode, WaitPairs};
+
+/// What a wait answers in one poll.
+#[tactic(auto, using(crate::proofs::Watchables::pairs_of_first, crate::proofs::Watchables::pass_kept, crate::proofs::Watchables::timelines_kept))]
+pub fn polled<R: RandomSource + AllocGlobal>(
+    rt: &R,
+    scene: Scene,
+    mode: WaitMode,
+    pairs: &[Pair],
+) -> Option<Poll<Met>>
+    requires scene { IsWatchable scene }
+    requires pairs { AreOfFirst pairs.now }
+{
+    let Scene {
+        ordered,
+        board,
+        timelines,
+        bells,
+        mut host,
+        submitter: _submitter,
+        ring: _ring,
+    } = scene;
+    let watched = watched_of(&ordered, &board, timelines.as_slice(), bells.as_slice());
+    let task = MockTask::new(rt).ok()?;
+    let mut wait = WaitPairs::new(rt.alloc(), watched, &mut host, mode, pairs).ok()?;
+    Some(task.poll(&mut wait))
+}
+
+/// What `block_on` answers of a wait with a lent pass.
+#[tactic(auto, using(crate::proofs::Watchables::pairs_of_first, crate::proofs::Watchables::pass_kept, crate::proofs::Watchables::timelines_kept))]
+pub fn blocked<R: Wait + RandomSource + AllocGlobal>(
+    rt: &R,
+    scene: Scene,
+    mode: WaitMode,
+    pairs: &[Pair],
+) -> Option<Met>
+    requires scene { IsWatchable scene }
+    requires pairs { AreOfFirst pairs.now }
+{
+    let Scene {
+        ordered,
+        board,
+        timelines,
+        bells,
+        mut host,
+        submitter: _submitter,
+        ring: _ring,
+    } = scene;
+    let watched = watched_of(&ordered, &board, timelines.as_slice(), bells.as_slice());
+    let wait = WaitPairs::new(rt.alloc(), watched, &mut host, mode, pairs).ok()?;
+    block_on(rt, wait).ok()
+}
+
+/// What arrives, to the end.
+#[tactic(auto, using(crate::proofs::Watchables::pairs_of_first, crate::proofs::Watchables::pass_kept, crate::proofs::Watchables::timelines_kept))]
+pub fn collected<R: Wait + RandomSource + AllocGlobal>(
+    rt: &R,
+    scene: Scene,
+    pairs: &[Pair],
+) -> Option<Vec<Met>>
+    requires scene { IsWatchable scene }
+    requires pairs { AreOfFirst pairs.now }
+{
+    let Scene {
+        ordered,
+        board,
+        timelines,
+        bells,
+        mut host,
+        submitter: _submitter,
+        ring: _ring,
+    } = scene;
+    let watched = watched_of(&ordered, &board, timelines.as_slice(), bells.as_slice());
+    let arrivals = Arrivals::new(rt.alloc(), watched, &mut host, pairs).ok()?;
+    block_on(rt, arrivals.collect(rt.alloc())).ok()?.ok()
+}
