@@ -1,13 +1,14 @@
-"""A trace, as `vq --replay` prints it: its turns, and what each point carries."""
+"""A trace, as `vq --replay` prints it or as another layer writes it: its turns, and what each point carries."""
 import re
 
-TURN = re.compile(r'([1-9]\d{0,5}) (host|[SR]:[A-Za-z_]\w{0,15}) (.+)')
+TURN = re.compile(r'(\d{1,20}) (host|[SR]:[A-Za-z_]\w{0,15}) (.+)')
+HEXADECIMAL = re.compile(r'0x[0-9a-fA-F]{1,16}')
 SIGNAL = r'[A-Za-z_]\w{0,15} \d+'
 EVENT = re.compile(
     r'[-.]|(submit|release|start|apply|finish) \d+'
     rf'|take {SIGNAL} (fresh|reused) \d+|bind {SIGNAL} \d+|(refer|look|unref) \d+ {SIGNAL}|(signal|complete) {SIGNAL}'
     r'|free \d+|answer \d+ (ok|timeout|not-ready|value \d+)')
-END = re.compile(r'finished|unfinished [1-9]\d*')
+END = re.compile(r'finished|unfinished \d+')
 
 
 class NoTrace(Exception):
@@ -15,10 +16,14 @@ class NoTrace(Exception):
 
 
 class Turn:
-    """Who moved at which turn, and the words of the event; a run of turns that didn't move counts as one."""
+    """Who moved at which turn, and the words of the event; a run of turns that didn't move counts as one.
 
-    def __init__(self, number, actor, words):
+    Turns are counted from 1; `written` is the number that stands in the trace, and `last_written` that of a run's last.
+    """
+
+    def __init__(self, number, written, actor, words):
         self.number, self.last, self.actor, self.words = number, number, actor, words
+        self.written = self.last_written = written
 
     @property
     def is_idle(self):
@@ -45,21 +50,30 @@ class Point:
         self.references.append((held[0], turn, actor))
 
 
+def plain(line):
+    """A line's words with one space between two, and numbers in decimal; without a comment."""
+    words = line.removesuffix('\r').split('#')[0].replace('\t', ' ').split(' ')
+    return ' '.join(str(int(word, 16)) if HEXADECIMAL.fullmatch(word) else word for word in words if word)
+
+
 def read_trace(text):
     """The turns of a trace and its last line; raises NoTrace for another text."""
-    lines = text.split('\n')
-    if not lines[0]:
+    if not text:
         raise NoTrace('it is empty')
-    turns = []
-    for number, line in enumerate(lines, 1):
+    turns, before = [], -1
+    for number, line in enumerate(map(plain, text.split('\n')), 1):
         if END.fullmatch(line):
             return turns, line
+        if not line:
+            continue
         turn = TURN.fullmatch(line)
         if not turn or not EVENT.fullmatch(turn[3]):
             raise NoTrace(f'line {number} is no turn')
-        if int(turn[1]) != number:
-            raise NoTrace(f'line {number} is turn {turn[1]}')
-        turns.append(Turn(number, turn[2], turn[3].split()))
+        written = int(turn[1])
+        if written <= before:
+            raise NoTrace(f'line {number} is turn {written}, after turn {before}')
+        turns.append(Turn(len(turns) + 1, written, turn[2], turn[3].split()))
+        before = written
     raise NoTrace('it has no line `finished` or `unfinished N`')
 
 
@@ -68,7 +82,7 @@ def folded(turns):
     found = []
     for turn in turns:
         if found and turn.is_idle and (found[-1].actor, found[-1].words) == (turn.actor, turn.words):
-            found[-1].last = turn.number
+            found[-1].last, found[-1].last_written = turn.number, turn.written
         else:
             found.append(turn)
     return found
@@ -81,7 +95,7 @@ def points_of(turns, end):
         try:
             take_event(points, of_signal, turn)
         except (KeyError, StopIteration):
-            raise NoTrace(f'turn {turn.number} doesn\'t fit those before it') from None
+            raise NoTrace(f'turn {turn.written} doesn\'t fit those before it') from None
     for point in points.values():
         point.becomes(None, end)
         point.references += [(since, end, actor) for since, actor in point.held]

@@ -96,7 +96,7 @@ class TracePicture:
         y += TOP
         self.svg.text(8, y - 10, 'turn', 10, '#666666')
         for turn in row.turns:
-            name = f'{turn.number}' if turn.number == turn.last else f'{turn.number}-{turn.last}'
+            name = f'{turn.written}' if turn.number == turn.last else f'{turn.written}-{turn.last_written}'
             self.svg.text(self.x(row, turn.number) + self.wide / 2, y - 10, name, 10, '#666666', 'middle')
         for actor in row.actors:
             self.lane(y, actor, width)

@@ -31,7 +31,7 @@ def test_draw(tests):
     lines = trace.split(b'\n')
     for what, data in (('nothing', b''), ('a word', b'hello\n'), ('an answer', b'lawful\n'),
                        ('no head', b'\n'.join(lines[4:])), ('no end', b'\n'.join(lines[:4])),
-                       ('a gap', b'\n'.join(lines[:1] + lines[2:])),
+                       ('a number again', b'\n'.join(lines[:1] + lines)),
                        ('no take', b'1 R:Q look 0 A 1\n2 R:Q signal A 1\nfinished\n'), ('bytes', b'\xff\xfe\x00')):
         done = tests.tool('draw', data=data, program=False)
         tests.check(f'draw refuses {what}', done.returncode == 2 and not done.stdout and done.stderr.count(b'\n') == 1
@@ -40,6 +40,7 @@ def test_draw(tests):
     picture(tests, 'draw', drawn, ['host', 'R:Q', 'point 1', 'turn', 'take', 'A 3, reused point 0', '6: submit P',
                                    'unfinished 3: of lines 10, 13, 16'])
     lines_are_those_of_vq(tests)
+    traces_of_others(tests)
     many_turns(tests)
     picture_of_the_documents(tests)
 
@@ -50,6 +51,14 @@ def lines_are_those_of_vq(tests):
     path = tests.write('odd.replay', script)
     drawn = tests.tool('draw', '--script', path, data=tests.vq(script, '--replay'), program=False).stdout
     picture(tests, 'draw with odd lines', drawn, ['3: submit xfer', 'finished'])
+
+
+def traces_of_others(tests):
+    """Numbers may have gaps and be hexadecimal, and lines may have comments: a trace that another layer wrote."""
+    trace = (b'# ours\n0x10 host submit 2\n\n20\tS:Q  take A 0x7 fresh 0 # new\r\n21 S:Q release 2\n30 S:Q bind A 7 0\n'
+             b'unfinished 1\n')
+    drawn = tests.tool('draw', data=trace, program=False).stdout
+    picture(tests, 'draw a given trace', drawn, ['16', '20', '30', 'A 7, fresh point 0', 'unfinished 1'])
 
 
 def many_turns(tests):
