@@ -53,7 +53,8 @@ any_is_counted {X} p (x ∷ xs) = by_test (p x) refl (any_is_counted p xs)
         let same : count_by p (x ∷ xs) ≡ count_by p xs = omega arith in
         ap (λ b. b || list_any p xs) e ∙ h ∙ sym (ap (nat_lt 0) same)
 
-begun_by : (lines : List Line) (k : Kept) (batch : Option Batch) → Holds lines k batch →
+-- a job has begun where what is kept says so
+pub begun_by : (lines : List Line) (k : Kept) (batch : Option Batch) → Holds lines k batch →
     has_begun lines ≡ (is_some batch || nat_lt 0 (length k.jobs))
 begun_by lines k None h =
     any_is_counted _ lines ∙ ap (nat_lt 0) h.all_jobs
@@ -63,7 +64,7 @@ begun_by lines k (Some b) h =
     ∙ (let e : nat_lt 0 (length k.jobs + 1) ≡ true = grind (arith, nat_tests) in e)
 
 -- What the parser keeps answers as the lines do.
-number_by : (lines : List Line) (k : Kept) → Declares lines k → number_at lines ≡ number_of k
+pub number_by : (lines : List Line) (k : Kept) → Declares lines k → number_at lines ≡ number_of k
 unfolding number_of
 number_by lines k d = λ i place name.
     number_among (d.all_buffers i) (d.all_semaphores i) (d.all_queues i) place name

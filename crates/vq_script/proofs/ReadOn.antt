@@ -6,11 +6,11 @@ use Rattle.vq_model.specs.declared.statement.Form.{Form}
 use Rattle.vq_model.specs.declared.statement.FaultKind.{FaultKind}
 use Rattle.vq_model.specs.Text.{lines_of, words_of}
 use Rattle.vq_model.specs.Reading.{read_line, read_lines, read_script, go_on}
-use Rattle.vq_script.specs.declared.known.Known.{Known}
+use Rattle.vq_script.specs.declared.line_reader.LineReader.{LineReader}
 use Rattle.vq_script.specs.declared.fault.ScriptFault.{ScriptFault}
 use Rattle.vq_script.specs.declared.fault.ScriptFault.TheVariants.{At, Memory}
 use Rattle.vq_script.specs.Outcomes.{Gives, IsFirst}
-use Rattle.vq_script.specs.Reads.{Reads, script_from}
+use Rattle.vq_script.specs.Reads.{HasReadNext, script_from}
 
 -- reading a text is reading its lines, and making a script of these
 pub reads_text : (text : List ℕ) (form : Form) → read_script text form ≡ script_from (read_lines form [] 1 (lines_of text))
@@ -32,15 +32,15 @@ on_fault form lines n line rest after kind e r = ap (read_lines form lines n) e 
 
 -- the fault of a line is that of the text
 pub gives_fault : (text : List ℕ) (form : Form) (lines : List Line) (n : ℕ) (line : List ℕ)
-    (rest after : List (List ℕ)) (fault : ScriptFault) (known : Known) → rest ≡ line ∷ after →
+    (rest after : List (List ℕ)) (fault : ScriptFault) (reader : LineReader) → rest ≡ line ∷ after →
     read_lines form lines n rest ≡ read_lines form [] 1 (lines_of text) →
-    Reads form lines n (words_of line) (Err fault) known →
+    HasReadNext form lines n (words_of line) (Err fault) reader →
     Gives (Err fault) (read_script text form)
-gives_fault text form lines n line rest after (At m kind) known e same r =
+gives_fault text form lines n line rest after (At m kind) reader e same r =
     reads_text text form
     ∙ ap script_from (sym same ∙ on_fault form lines n line rest after kind e r.1)
     ∙ (λ i. Err (sym r.0 i, kind))
-gives_fault text form lines n line rest after Memory known e same r = tt
+gives_fault text form lines n line rest after Memory reader e same r = tt
 
 -- what an exit by `?` returns
 pub returned : {A E : Type 0} (r : Result A E) (e : E) → IsErr r → IsErrAnd r (λ x. x ≡ e) → r ≡ Err e

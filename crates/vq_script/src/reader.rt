@@ -1,129 +1,31 @@
 //! A text, read line by line.
-ghost use Rattle.std.specs.Prelude.{◌≡◌, ◌<◌, ◌-◌, ◌^◌, IsTrue, nat_lt, List, [], length, IfOk};
-ghost use Rattle.std.specs.Prelude.{IfErr, ◌&&◌};
-ghost use Rattle.vq_model.specs.Meaning.{matches};
-ghost use Rattle.vq_model.specs.declared.statement.LineForm.TheVariants.{VersionLine};
+ghost use Rattle.std.specs.Prelude.{◌≡◌, ◌<◌, ◌-◌, ◌^◌, IsTrue, nat_lt, List, length, IfOk};
+ghost use Rattle.std.specs.Prelude.{IfErr};
 ghost use Rattle.vq_model.specs.declared.statement.Line.{Line};
-ghost use Rattle.std.specs.List.{list_all};
-ghost use Rattle.vq_model.specs.Text.{is_plain, lines_of, words_of};
-ghost use Rattle.vq_model.specs.Reading.{read_lines, read_script, StandsFor};
-ghost use Rattle.vq_script.specs.Holds.{Keeps, open_so_far};
-ghost use Rattle.vq_forms.specs.OpenWords.{opens};
+ghost use Rattle.vq_model.specs.Text.{lines_of, words_of};
+ghost use Rattle.vq_model.specs.Reading.{read_script, StandsFor};
 ghost use Rattle.vq_script.specs.Outcomes.{Gives, IsFirst};
-ghost use Rattle.vq_script.specs.Reads.{Takes, Reads, script_from};
-ghost use Rattle.vq_script.specs.SaidLines.{AreFound, Stands};
-ghost use Rattle.vq_lexer.specs.Words.{texts};
+ghost use Rattle.vq_script.specs.Reads.{HasRead, HasReadNext};
 
 use crate::fault::ScriptFault;
-use crate::known::Known;
-use crate::line_faults::said_by;
+use crate::line_reader::LineReader;
 use std::alloc::Global;
-use vq_forms::{OpenWord, find_open, form_of, is_version};
 use vq_lexer::{find_words, next_line};
 use vq_model::script::Script;
-use vq_model::statement::{FaultKind, Form, LineForm, Section};
-
-/// Reads a line of a form, whose words these are.
-fn read_open(
-    alloc: Global,
-    known: &mut Known,
-    number: u32,
-    form: LineForm,
-    words: &[OpenWord<'_>],
-) -> Result<(), ScriptFault>
-    requires found { AreFound form (opens words.now) }
-    requires stands { Stands form known.old.scheduled (open_so_far known.old.batch) }
-    ensures { (lines : List Line) → Keeps lines known.old →
-        Takes lines number (form, opens words.now) result known.new }
-{
-    match said_by(known, form, words) {
-        Ok(said) => {
-            known.add(alloc, number, said)?;
-            known.first = false;
-            Ok(())
-        }
-        Err(kind) => Err(ScriptFault::At { line: number, kind }),
-    }
-}
-
-/// Whether words name the version, as the first line with words may.
-fn names_version(known: &Known, words: &[&[u8]]) -> bool
-    ensures { result ≡ (known.now.first && matches (texts words.now) VersionLine) }
-{
-    known.first && is_version(words)
-}
-
-/// Reads the words of a line, whose bytes may stand outside a comment or not. A line without words says nothing.
-fn read_words<'a>(
-    alloc: Global,
-    form: Form,
-    known: &mut Known,
-    number: u32,
-    words: &[&'a [u8]],
-    plain: bool,
-    open: &mut Vec<OpenWord<'a>>,
-) -> Result<(), ScriptFault>
-    requires { plain ≡ list_all (list_all is_plain) (texts words.now) }
-    ensures { (lines : List Line) → Keeps lines known.old →
-        Reads form lines number (texts words.now) result known.new }
-{
-    if words.is_empty() {
-        return Ok(());
-    }
-    if !plain {
-        return Err(ScriptFault::At {
-            line: number,
-            kind: FaultKind::Syntax,
-        });
-    }
-    if names_version(known, words) {
-        *known = Known::new(alloc, 2, false);
-        return Ok(());
-    }
-    let Some(found) = form_of(form, known.version, known.section(), words) else {
-        return Err(ScriptFault::At {
-            line: number,
-            kind: FaultKind::Syntax,
-        });
-    };
-    find_open(found, words, open)?;
-    read_open(alloc, known, number, found, open)
-}
+use vq_model::statement::Form;
 
 /// Reads a line. Its words take the place of those of the line before.
 fn read_line<'a>(
-    alloc: Global,
-    form: Form,
-    known: &mut Known,
+    reader: &mut LineReader<'a>,
     number: u32,
     line: &'a [u8],
     words: &mut Vec<&'a [u8]>,
-    open: &mut Vec<OpenWord<'a>>,
 ) -> Result<(), ScriptFault>
-    ensures { (lines : List Line) → Keeps lines known.old →
-        Reads form lines number (words_of line.now) result known.new }
+    ensures { (form : Form) (lines : List Line) → HasRead form lines reader.old →
+        HasReadNext form lines number (words_of line.now) result reader.new }
 {
     let plain = find_words(line, words)?;
-    read_words(alloc, form, known, number, words, plain, open)
-}
-
-/// The script, where the text may end here. The line after the last is Syntax where a batch is
-/// open, or where the form asks for a schedule and none has begun.
-fn finish(form: Form, known: Known, number: u32) -> Result<Script, ScriptFault>
-    ensures { (lines : List Line) → Keeps lines known →
-        Gives result (script_from (read_lines form lines number [])) }
-{
-    match (form, known.section()) {
-        (_, Section::InBatch) => Err(ScriptFault::At {
-            line: number,
-            kind: FaultKind::Syntax,
-        }),
-        (Form::Scheduled, Section::Outside) => Err(ScriptFault::At {
-            line: number,
-            kind: FaultKind::Syntax,
-        }),
-        _ => Ok(known.into_script()),
-    }
+    reader.read(number, words, plain)
 }
 
 /// Whether a text has so few bytes that its lines can be counted: fewer than 2^32 - 1.
@@ -200,15 +102,14 @@ pub fn parse(alloc: Global, bytes: &[u8], form: Form) -> Result<Script, ScriptFa
     ensures stands { IfOk result (λ script. StandsFor bytes.now form script) }
     ensures fault { IfErr result (λ fault. IsFirst bytes.now form fault) }
 {
-    let mut known = Known::new(alloc, 1, true);
+    let mut reader = LineReader::new(alloc, form);
     let mut words = Vec::new(alloc);
-    let mut open = Vec::new(alloc);
     let mut number: u32 = 1;
     let mut rest = bytes;
     while let Some((line, after)) = next_line(rest) {
-        read_line(alloc, form, &mut known, number, line, &mut words, &mut open)?;
+        read_line(&mut reader, number, line, &mut words)?;
         rest = after;
         number += 1;
     }
-    finish(form, known, number)
+    reader.finish(number)
 }

@@ -19,7 +19,7 @@ use Rattle.vq_lexer.specs.Words.{texts}
 use Rattle.vq_script.proofs.FaultsFound.{reads_none, reads_form}
 use Rattle.vq_script.proofs.FormFound.{form_is, form_stands, words_found}
 use Rattle.vq_script.proofs.VersionNamed.{holds_version, none_before, not_version, reads_version}
-use Rattle.vq_script.proofs.reader.read_words.Goals as goal
+use Rattle.vq_script.proofs.line_reader.read_words.Goals as goal
 
 -- some word is there
 some_word : (words : List (Bor (List ℕ))) → eqb (length words) 0 ≡ false → 0 < length (texts words)
