@@ -1,0 +1,8 @@
+pub mod BlockForms
+pub mod Blocks
+pub mod BlockFaults
+pub mod BlockReading
+pub mod Compiled
+pub mod Origins
+pub mod HostsMachine
+pub mod HostsRuns
