@@ -3,6 +3,5 @@ pub mod Blocks
 pub mod BlockFaults
 pub mod BlockReading
 pub mod Compiled
-pub mod Origins
 pub mod HostsMachine
 pub mod HostsRuns
