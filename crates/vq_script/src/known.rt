@@ -8,13 +8,13 @@ ghost use Rattle.vq_script.specs.Names.{item_of, number_in};
 
 use crate::named_item::{NamedItem, semaphore_item};
 use crate::open_batch::OpenBatch;
+use crate::parts::ScriptParts;
 use std::alloc::{AllocError, Global};
 use std::collections::BTreeMap;
 use vq_forms::Token;
 use vq_lexer::{after_mark, is_marked};
 use vq_model::limits::Limits;
-use vq_model::list::List;
-use vq_model::script::{ActorName, Buffer, Job, Queue, Script, Semaphore, Turn};
+use vq_model::script::{ActorName, Buffer, Job, Queue, Semaphore, Turn};
 use vq_model::statement::Section;
 
 /// What the lines so far declare and submit.
@@ -46,7 +46,7 @@ pub struct Known {
     ghost small_bytes: { limits.bytes < 2 ^ 32 },
     ghost small_buffers: { limits.buffers < 2 ^ 32 },
     ghost small_semaphores: { limits.semaphores < 2 ^ 32 },
-    ghost small_queues: { limits.queues < 2 ^ 32 },
+    ghost small_queues: { limits.queues ≤ 16 },
     ghost small_commands: { limits.commands < 2 ^ 32 },
     ghost small_batches: { limits.batch_commands + 2 ≤ 2 ^ 32 },
     ghost few_bytes: { bytes ≤ limits.bytes },
@@ -66,6 +66,7 @@ impl Known {
     ghost use Rattle.vq_model.specs.declared.statement.Line.{Line};
     ghost use Rattle.vq_script.specs.Holds.{Holds, kept, nothing, last_part, named_fence, waits_of, waits_past};
     ghost use Rattle.vq_script.specs.Holds.{commands_of, open_jobs};
+    ghost use Rattle.vq_script.specs.Parts.{script_of_parts};
     ghost use Rattle.vq_script.specs.Holds.{signals_of, open_so_far, section_of, with_buffer, with_semaphore};
     ghost use Rattle.vq_script.specs.Holds.{with_queue, with_turns};
     ghost use Rattle.vq_script.specs.LineTests.{number_of};
@@ -94,18 +95,18 @@ impl Known {
         }
     }
 
-    /// The script of lines outside a batch.
-    pub fn into_script(self) -> Script
-        ensures { (lines : List Line) → Holds lines (kept self) None → result ≡ script_of lines }
+    /// The parts of the script of lines outside a batch.
+    pub fn into_parts(self) -> ScriptParts
+        ensures { (lines : List Line) → Holds lines (kept self) None → script_of_parts result ≡ script_of lines }
     {
-        Script {
+        ScriptParts {
             version: self.version,
-            buffers: List::of(self.buffers),
-            semaphores: List::of(self.semaphores),
-            queues: List::of(self.queues),
-            jobs: List::of(self.jobs),
+            buffers: self.buffers,
+            semaphores: self.semaphores,
+            queues: self.queues,
+            jobs: self.jobs,
             scheduled: self.scheduled,
-            turns: List::of(self.turns),
+            turns: self.turns,
         }
     }
 

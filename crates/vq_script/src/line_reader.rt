@@ -1,14 +1,15 @@
 //! A reader that is fed line by line.
-ghost use Rattle.std.specs.Prelude.{◌≡◌, ◌&&◌, List, []};
+ghost use Rattle.std.specs.Prelude.{◌≡◌, ◌≤◌, ◌&&◌, List, []};
 ghost use Rattle.vq_model.specs.Meaning.{matches, form_of};
 ghost use Rattle.vq_model.specs.declared.statement.LineForm.TheVariants.{VersionLine};
 ghost use Rattle.vq_model.specs.declared.statement.Line.{Line};
 ghost use Rattle.std.specs.List.{list_all};
 ghost use Rattle.vq_model.specs.Text.{is_plain};
 ghost use Rattle.vq_model.specs.Reading.{read_lines};
-ghost use Rattle.vq_script.specs.Holds.{Keeps, open_so_far};
+ghost use Rattle.vq_script.specs.Holds.{Keeps, are_none, open_so_far};
 ghost use Rattle.vq_forms.specs.OpenWords.{opens};
 ghost use Rattle.vq_script.specs.Outcomes.{Gives};
+ghost use Rattle.vq_script.specs.Parts.{GivesParts};
 ghost use Rattle.vq_script.specs.Reads.{Takes, Reads, script_from, HasRead, HasReadNext};
 ghost use Rattle.vq_script.specs.SaidLines.{AreFound, Stands};
 ghost use Rattle.vq_lexer.specs.Words.{texts};
@@ -16,6 +17,7 @@ ghost use Rattle.vq_lexer.specs.Words.{texts};
 use crate::fault::ScriptFault;
 use crate::known::Known;
 use crate::line_faults::said_by;
+use crate::parts::ScriptParts;
 use std::alloc::Global;
 use vq_forms::{OpenWord, Token, find_open, form_of, is_version};
 use vq_model::script::Script;
@@ -88,11 +90,11 @@ fn read_words<'a>(
     read_open(alloc, known, number, found, open)
 }
 
-/// The script, where the text may end here. The line after the last is Syntax where a batch is
+/// The parts of the script, where the text may end here. The line after the last is Syntax where a batch is
 /// open, or where the form asks for a schedule and none has begun.
-fn finish(form: Form, known: Known, number: u32) -> Result<Script, ScriptFault>
+fn finish(form: Form, known: Known, number: u32) -> Result<ScriptParts, ScriptFault>
     ensures { (lines : List Line) → Keeps lines known →
-        Gives result (script_from (read_lines form lines number [])) }
+        GivesParts result (script_from (read_lines form lines number [])) }
 {
     match (form, known.section()) {
         (_, Section::InBatch) => Err(ScriptFault::At {
@@ -103,7 +105,7 @@ fn finish(form: Form, known: Known, number: u32) -> Result<Script, ScriptFault>
             line: number,
             kind: FaultKind::Syntax,
         }),
-        _ => Ok(known.into_script()),
+        _ => Ok(known.into_parts()),
     }
 }
 
@@ -171,6 +173,14 @@ impl<'a> LineReader<'a> {
         form_of(self.form, self.known.version, self.known.section(), words)
     }
 
+    /// Whether these words name the version: the first line with words may.
+    pub fn names_version(&self, words: &[&[u8]]) -> bool
+        ensures { (form : Form) (lines : List Line) → HasRead form lines self.now →
+            result ≡ (are_none lines && matches (texts words.now) VersionLine) }
+    {
+        names_version(&self.known, words)
+    }
+
     /// The number of the timeline of a name.
     pub fn timeline(&self, name: &[u8]) -> Option<u32>
         ensures { (form : Form) (lines : List Line) → HasRead form lines self.now →
@@ -196,7 +206,8 @@ impl<'a> LineReader<'a> {
 
     /// How many queues are declared.
     pub fn queue_count(&self) -> usize
-        ensures { (form : Form) (lines : List Line) → HasRead form lines self.now →
+        ensures few { result ≤ 16 }
+        ensures exact { (form : Form) (lines : List Line) → HasRead form lines self.now →
             result ≡ length (queues lines) }
     {
         self.known.queues.len()
@@ -210,12 +221,23 @@ impl<'a> LineReader<'a> {
         self.known.job_count()
     }
 
-    /// The script of the lines that were read, where the text may end here. The line of this number, after the last, is
-    /// Syntax where a batch is open, or where the form asks for a schedule and none has begun.
+    /// The parts of the script of the lines that were read, where the text may end here. The line of this number, after
+    /// the last, is Syntax where a batch is open, or where the form asks for a schedule and none has begun.
+    pub fn finish_parts(self, number: u32) -> Result<ScriptParts, ScriptFault>
+        ensures { (form : Form) (lines : List Line) → HasRead form lines self.entry →
+            GivesParts result (script_from (read_lines form lines number [])) }
+    {
+        finish(self.form, self.known, number)
+    }
+
+    /// The script of the lines that were read, where the text may end here.
     pub fn finish(self, number: u32) -> Result<Script, ScriptFault>
         ensures { (form : Form) (lines : List Line) → HasRead form lines self.entry →
             Gives result (script_from (read_lines form lines number [])) }
     {
-        finish(self.form, self.known, number)
+        match finish(self.form, self.known, number) {
+            Ok(parts) => Ok(parts.into_script()),
+            Err(fault) => Err(fault),
+        }
     }
 }
