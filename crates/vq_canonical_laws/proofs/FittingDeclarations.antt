@@ -163,18 +163,19 @@ semaphores_follow v bs ss rest fits new few =
           omega arith,
         )
 
-pub queues_follow : (v : ℕ) (bs : List Buffer) (ss : List Semaphore) (qs : List Queue) →
+-- queues that follow others
+pub more_queues_follow : (v : ℕ) (bs : List Buffer) (ss : List Semaphore) (had qs : List Queue) →
     Every (λ q. queue_without_line q ≡ q) qs →
-    are_new (map (λ b. b.name) bs ++ map (λ x. x.name) ss) (map (λ q. q.name) qs ++ []) ≡ true →
-    length qs ≤ (limits_of v).queues →
-    Leads (declarations v bs ss []) (queue_statements qs) (declarations v bs ss qs)
-queues_follow v bs ss qs fits new few =
+    are_new (map (λ b. b.name) bs ++ map (λ x. x.name) ss ++ map (λ q. q.name) had)
+    (map (λ q. q.name) qs ++ []) ≡ true →
+    length had + length qs ≤ (limits_of v).queues →
+    Leads (declarations v bs ss had) (queue_statements qs) (declarations v bs ss (had ++ qs))
+more_queues_follow v bs ss had qs fits new few =
     (all_follow (λ q. DeclareQueue q.name q.mode) (λ q. q.name)
     (λ q. queue_without_line q ≡ q) (λ rs. declarations v bs ss rs) front []
     (λ before rs. length before + length rs ≤ (limits_of v).queues)
-    (λ before q fit. ap (λ (r : Queue). declarations v bs ss (before ++ r ∷ [])) fit) one [] qs fits
-    (subst (λ (ns : List (List ℕ)). are_new ns (map (λ q. q.name) qs ++ []) ≡ true)
-    (sym (append-nil front)) new) (omega arith)).0
+    (λ before q fit. ap (λ (r : Queue). declarations v bs ss (before ++ r ∷ [])) fit) one had qs fits
+    new few).0
   where
     front : List (List ℕ)
     front = map (λ b. b.name) bs ++ map (λ x. x.name) ss
@@ -210,3 +211,13 @@ queues_follow v bs ss qs fits new few =
           },
           omega arith,
         )
+
+pub queues_follow : (v : ℕ) (bs : List Buffer) (ss : List Semaphore) (qs : List Queue) →
+    Every (λ q. queue_without_line q ≡ q) qs →
+    are_new (map (λ b. b.name) bs ++ map (λ x. x.name) ss) (map (λ q. q.name) qs ++ []) ≡ true →
+    length qs ≤ (limits_of v).queues →
+    Leads (declarations v bs ss []) (queue_statements qs) (declarations v bs ss qs)
+queues_follow v bs ss qs fits new few =
+    more_queues_follow v bs ss [] qs fits
+    (subst (λ (ns : List (List ℕ)). are_new ns (map (λ q. q.name) qs ++ []) ≡ true)
+    (sym (append-nil (map (λ b. b.name) bs ++ map (λ x. x.name) ss))) new) (omega arith)

@@ -67,7 +67,7 @@ each_same g (x ∷ xs) e = let both = same_parts (g x) x (map g xs) xs e in (bot
 
 -- Jobs as their lines tell them
 
-abbrev told_of : Job → ToldJob
+abbrev pub told_of : Job → ToldJob
 told_of (Host h) = ToldStep h.step
 told_of (BatchJob b) = ToldBatch (batch_told b)
 
@@ -171,7 +171,7 @@ module _ (s : Script) (b : Batch) (fits : BatchFits s b) where
       )
 
   -- it has as many commands
-  commands_counted : count_by is_command all ≡ length b.commands
+  pub commands_counted : count_by is_command all ≡ length b.commands
   commands_counted =
       count_kept all ∙ (ap length commands_kept ∙ length-map b.commands command_without_line)
     where
@@ -214,7 +214,7 @@ told_items b =
     of_fence None = refl
     of_fence (Some m) = refl
 
-jobs_items : (jobs : List Job) → AllItems (map told_of jobs)
+pub jobs_items : (jobs : List Job) → AllItems (map told_of jobs)
 jobs_items [] = tt
 jobs_items (Host h ∷ jobs) = jobs_items jobs
 jobs_items (BatchJob b ∷ jobs) = (told_items b, jobs_items jobs)
@@ -222,7 +222,7 @@ jobs_items (BatchJob b ∷ jobs) = (told_items b, jobs_items jobs)
 -- The jobs
 
 module _ (s : Script) where
-  jobs_are : (jobs : List Job) → Every (JobFits s) jobs →
+  pub jobs_are : (jobs : List Job) → Every (JobFits s) jobs →
       map a_job (map told_of jobs) ≡ map job_without_lines jobs
   jobs_are [] fits = refl
   jobs_are (Host h ∷ jobs) fits =
@@ -230,10 +230,10 @@ module _ (s : Script) where
   jobs_are (BatchJob b ∷ jobs) fits = λ i. batch_is s b fits.0 i ∷ jobs_are jobs fits.1 i
 
   -- the parts with these jobs
-  abbrev with_jobs : List ToldJob → Parts
+  abbrev pub with_jobs : List ToldJob → Parts
   with_jobs jobs = parts s.version s.buffers s.semaphores s.queues jobs None
 
-  jobs_follow : IsOfAVersion s → (before : List ToldJob) (jobs : List Job) → Every (JobFits s) jobs →
+  pub jobs_follow : IsOfAVersion s → (before : List ToldJob) (jobs : List Job) → Every (JobFits s) jobs →
       length before + length jobs ≤ (limits_of s.version).jobs →
       commands_of before + sum (map commands_in jobs) ≤ (limits_of s.version).commands →
       Leads (with_jobs before) (flat_map job_statements (map told_of jobs))

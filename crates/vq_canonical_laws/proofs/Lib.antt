@@ -1,3 +1,4 @@
+mod AddedScripts
 mod BatchItems
 mod BatchLines
 mod CanonicalBatches

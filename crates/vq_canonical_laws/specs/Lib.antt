@@ -1,1 +1,2 @@
 pub mod FormatRules
+pub mod AddedJobs

@@ -1,9 +1,13 @@
 //! Laws over canonical texts. The functions do nothing: their contracts are the laws.
-ghost use Rattle.std.specs.Prelude.{◌≡◌, ◌++◌, codes};
+ghost use Rattle.std.specs.Prelude.{◌≡◌, ◌++◌, List, codes};
+ghost use Rattle.vq_model.specs.declared.script.Job.{Job};
+ghost use Rattle.vq_model.specs.declared.script.Queue.{Queue};
 ghost use Rattle.vq_model.specs.declared.script.Script.{Script};
 ghost use Rattle.vq_model.specs.SameScript.{SameButLines, IsRead, IsScript};
 ghost use Rattle.vq_model.specs.Canonical.{canonical_text, form_of_script};
 ghost use Rattle.vq_model.specs.Reading.{StandsFor};
+ghost use Rattle.vq_model.specs.ValidScripts.{IsUnscheduled};
+ghost use Rattle.vq_canonical_laws.specs.AddedJobs.{with_more, MayBeAdded};
 ghost use Rattle.vq_canonical_laws.specs.FormatRules.{KeepsRules};
 
 /// Scripts that are the same up to line numbers have the same canonical text.
@@ -33,6 +37,13 @@ pub fn read_scripts_can_be_written()
 /// A script without a schedule that keeps the rules of the format can be written.
 pub fn ruled_scripts_can_be_written()
     ensures { (s : Script) → KeepsRules s → IsScript s }
+{}
+
+/// A script that can be written can be written with more queues behind its own and more jobs before its own, in
+/// the second version of the format, where these have new names, fit, and keep its limits.
+pub fn written_scripts_take_queues_and_jobs()
+    ensures { (s : Script) → (qs : List Queue) → (jobs : List Job) → IsScript s → IsUnscheduled s →
+        MayBeAdded s qs jobs → IsScript (with_more s qs jobs) }
 {}
 
 /// A script that can be written can be written in the second version of the format too.
