@@ -273,7 +273,8 @@ none_told s (BatchJob b ∷ jobs) fit bare =
     let rest = none_told s jobs fit.1 bare.1 in
     let own = commands_counted s b fit.0 in
     let none : length b.commands ≡ 0 = bare.0 in
-    let all = sum_by-cons (λ (n : ℕ). n) (commands_told (told_of (BatchJob b))) (map commands_told (map told_of jobs)) in
+    let first = commands_told (told_of (BatchJob b)) in
+    let all = sum_by-cons (λ (n : ℕ). n) first (map commands_told (map told_of jobs)) in
     omega arith
 
 none_in : (jobs : List Job) → Every (λ job. commands_in job ≡ 0) jobs → sum (map commands_in jobs) ≡ 0
@@ -328,7 +329,8 @@ module _ (s : Script) (qs : List Queue) (jobs : List Job) (plain : IsUnscheduled
       let few = may.few_jobs in
       let none = none_in jobs may.bare in
       let nothing : commands_of [] ≡ 0 = refl in
-      subst (λ (xs : List Queue). Leads (declarations 2 bs ss xs) (flat_map job_statements js) (parts 2 bs ss xs js None))
+      subst (λ (xs : List Queue). Leads (declarations 2 bs ss xs) (flat_map job_statements js)
+      (parts 2 bs ss xs js None))
       queues_are (jobs_follow more (inr refl) [] jobs may.fit (omega arith) (omega arith))
 
   added_same : more ≡ script_of_parts (now bs ss had new told js)

@@ -117,7 +117,7 @@ line_to_not_return b h =
 -- Splitting
 
 -- a part without cuts, and what follows the cut after it
-split_part : {X : Type 0} (p : X → Bool) (part rest : List X) (c : X) →
+pub split_part : {X : Type 0} (p : X → Bool) (part rest : List X) (c : X) →
     list_all (λ x. not (p x)) part ≡ true → p c ≡ true →
     slice_split p (part ++ c ∷ rest) ≡ part ∷ slice_split p rest
 split_part p [] rest c h e =
@@ -260,7 +260,7 @@ return_kept bs h =
     bs h))
 
 -- the part after the last line feed is empty and no line
-empty_end : (lines : List (List ℕ)) → without_empty_end (lines ++ [] ∷ []) ≡ lines
+pub empty_end : (lines : List (List ℕ)) → without_empty_end (lines ++ [] ∷ []) ≡ lines
 empty_end [] = refl
 empty_end (line ∷ []) = refl
 empty_end (line ∷ next ∷ lines) = ap (λ (ls : List (List ℕ)). line ∷ ls) (empty_end (next ∷ lines))

@@ -1,0 +1,3 @@
+-- What other crates may cite of this one. All other files of proofs are private to it.
+pub use Rattle.vq_block_laws.proofs.CompiledScripts.{compiled_is_written, compiled_reads_back}
+pub use Rattle.vq_block_laws.proofs.CompiledScripts.{rest_is_read, rest_stands}
