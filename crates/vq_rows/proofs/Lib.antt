@@ -2,6 +2,7 @@ mod CanonicalRows
 mod FrameOrder
 mod FrameRows
 mod HeldRows
+mod HostsRows
 mod LimitRows
 mod OrderTests
 mod PlanRows
