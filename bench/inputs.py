@@ -226,22 +226,26 @@ def blocked_turns():
     return scheduled(rounds_of_batches(4096, ['buffer X 16\n']), ['R:Q0'] * 65536)
 
 
-def batch_of_round(r, q):
+def batch_of_round(r, q, with_copy=True):
     """The batch of a queue in a round."""
     source = f'B{(q + 1) % QUEUES}{(r - 1) % 2}'
     target = f'B{q}{r % 2}'
     lines = [f'submit Q{q}']
     lines += [f'wait T{other} {r - 1}' for other in range(QUEUES) if other != q]
-    lines += [f'copy {source} 0 {target} 0 64', f'fill {target} {r % 16 * 4} 4 0x{QUEUES * r + q:08x}']
-    return lines + [f'signal T{q} {r}', 'end']
+    lines += [f'copy {source} 0 {target} 0 64'] * with_copy
+    return lines + [f'fill {target} {r % 16 * 4} 4 0x{QUEUES * r + q:08x}', f'signal T{q} {r}', 'end']
 
 
-def generated(rounds):
-    """The script of --generate, of so many rounds."""
-    lines = [f'buffer B{q}{half} 64' for q in range(QUEUES) for half in range(2)]
+def generated(rounds, with_copies=True):
+    """The script of --generate, of so many rounds: 1,024 at most, which have as many commands as a script may have.
+
+    Without their copies the batches have one command each. Then 2,048 rounds are the most, of version 2 from 1,025 on.
+    """
+    lines = ['version 2'] if QUEUES * rounds > 4096 else []
+    lines += [f'buffer B{q}{half} 64' for q in range(QUEUES) for half in range(2)]
     lines += [f'timeline T{q} 0' for q in range(QUEUES)]
     lines += [f'queue Q{q} threaded' for q in range(QUEUES)]
     for r in range(1, rounds + 1):
         for q in range(QUEUES):
-            lines += batch_of_round(r, q)
+            lines += batch_of_round(r, q, with_copies)
     return ('\n'.join(lines) + '\n').encode()

@@ -7,18 +7,22 @@ ORDER = {b'buffer': 0, b'timeline': 1, b'binary': 1, b'fence': 1, b'queue': 2}
 
 def canonical(data, version):
     """The canonical text of a lawful script, as one of this version."""
+    declared, jobs = numbered(data)
+    first = [[b'version', b'2']] if version == 2 else []
+    lines = first + [words for _, words in declared + jobs]
+    return b''.join(b' '.join(words) + b'\n' for words in lines)
+
+
+def numbered(data):
+    """The lines of declarations and those of jobs as the canonical text has them, each with its number in a script."""
     declared, jobs = ([], [], []), []
-    for line in data.split(b'\n'):
+    for number, line in enumerate(data.split(b'\n'), 1):
         words = re.split(rb'[ \t]+', line.split(b'#', 1)[0].strip(b' \t\r'))
         if words[0] in (b'', b'version'):
             continue
-        if words[0] in ORDER and not jobs:
-            declared[ORDER[words[0]]].append(plain(words))
-        else:
-            jobs.append(plain(words))
-    first = [[b'version', b'2']] if version == 2 else []
-    lines = [*first, *declared[0], *declared[1], *declared[2], *jobs]
-    return b''.join(b' '.join(words) + b'\n' for words in lines)
+        part = declared[ORDER[words[0]]] if words[0] in ORDER and not jobs else jobs
+        part.append((number, plain(words)))
+    return declared[0] + declared[1] + declared[2], jobs
 
 
 def plain(words):

@@ -37,12 +37,16 @@ class Lawful:
     def text(self, jobs):
         return [line + '\n' for line in self.declared + [line for lines in jobs for line in lines]]
 
+    def found(self, jobs):
+        """What is said of the script with these jobs."""
+        return kind(*answer(''.join(self.text(jobs)).encode()))
+
     def grow(self):
         """Adds jobs: mostly such that the script stays lawful."""
         for _ in range(6):
             kept = dict(self.tops), dict(self.signaled), dict(self.fences)
             made = self.steps() if self.is_hosted and self.dice.random() < 0.55 else [self.batch()]
-            found = kind(*answer(''.join(self.text(self.jobs + made)).encode()))
+            found = self.found(self.jobs + made)
             if found == 'run' or self.dice.random() < (0.2 if found in ('race', 'fence busy', 'not pending') else 0.02):
                 break
             self.tops, self.signaled, self.fences = kept

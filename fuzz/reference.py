@@ -144,7 +144,7 @@ class Reader:
         for place, word in at:
             if place in NAMED and not NAME.fullmatch(word) or place == 'actor' and not ACTOR.fullmatch(word):
                 raise Fault('syntax')
-        if form in DECLARATIONS and (self.jobs or self.batch):
+        if self.is_late(form):
             raise Fault('order')
         if self.batch and (PARTS[form] < self.part or form == 'batch_fence' and self.batch.fence):
             raise Fault('order')
@@ -180,10 +180,18 @@ class Reader:
             for number, line in enumerate(lines, 1):
                 self.read(line, number)
             number = len(lines) + 1
-            if self.batch or self.scheduled and self.turns_given is None:
+            if self.is_open():
                 raise Fault('syntax')
         except Fault as fault:
             raise Refusal(f'{fault}: line {number}')
+
+    def is_open(self):
+        """Whether something is missing where a text ends here."""
+        return bool(self.batch) or self.scheduled and self.turns_given is None
+
+    def is_late(self, form):
+        """Whether a line outside a batch stands behind one that has to stand behind it."""
+        return form in DECLARATIONS and bool(self.jobs or self.batch)
 
     def form(self, words):
         for form, places in self.forms():
@@ -342,6 +350,10 @@ class Script:
             raise Refusal('too long')
         self.reader = Reader(scheduled)
         self.reader.read_all(data)
+        self.judge()
+
+    def judge(self):
+        """Raises the Refusal of lines that are faultless, but not lawful."""
         self.plan = Plan(self.reader)
         self.order = Order(self.plan)
         self.order.refuse()

@@ -1,4 +1,5 @@
 """Random scripts: lawful ones, ones nearly so, batches and steps of the host in any order, and lines in any order."""
+from block_scripts import block_script
 from lawful import Lawful
 from schedules import schedule
 
@@ -207,7 +208,10 @@ def turns(dice, queues, threaded):
     return text
 
 
-def script(dice):
+def script(dice, with_blocks=0):
+    """A text; so many of all have thread blocks."""
+    if with_blocks and dice.random() < with_blocks:
+        return block_script(dice, put)
     form = dice.random()
     if form < 0.35:
         return ''.join(ordered(dice)).encode()
