@@ -3,7 +3,7 @@ _vq() {
     COMPREPLY=()
     # Only a first word is completed.
     if [ "$COMP_CWORD" -eq 1 ]; then
-        mapfile -t COMPREPLY < <(compgen -W '--check --upgrade --replay --rounds --audit --generate' -- "${COMP_WORDS[1]}")
+        mapfile -t COMPREPLY < <(compgen -W '--check --upgrade --replay --rounds --audit --hosts --generate' -- "${COMP_WORDS[1]}")
     fi
 }
 
