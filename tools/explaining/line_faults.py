@@ -170,6 +170,8 @@ def unknown_line(page, line):
         page.help('close the batch before it with `end`' if is_inside else 'it belongs inside a batch, behind `submit`')
     elif line.words == [b'schedule']:
         page.help('a schedule is read with --replay alone')
+    elif line.words[0] == b'thread' and len(line.words) == 2 and not is_inside:
+        page.help('the blocks of threads are read by `vq --hosts` alone, which this tool doesn\'t ask')
     else:
         page.help('compare the line with the tables of docs/LANGUAGE.md')
 
