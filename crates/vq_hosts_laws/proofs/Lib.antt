@@ -1,0 +1,22 @@
+pub mod Cited
+mod AmongHosts
+mod AnswersAmong
+mod BegunBatches
+mod CompiledChains
+mod CompiledFinishes
+mod CompiledJobs
+mod CompiledLasts
+mod CompiledRuns
+mod CompiledSignals
+mod HostsRunsBack
+mod PlainScripts
+mod RestSteps
+mod SameHostsRuns
+mod SameLines
+mod SameRuns
+mod StepPlaces
+mod StepSignals
+mod ThreadKeeps
+mod ThreadSignals
+mod ThreadSteps
+mod ToldFacts
