@@ -4,6 +4,13 @@
 
 #[cfg(test)]
 mod polls_tests;
+#[cfg(test)]
+mod pool_tests;
 pub mod scene;
 pub mod steps;
-pub mod waits;
+#[cfg(test)]
+mod threads_tests;
+#[cfg(test)]
+mod waits;
+#[cfg(test)]
+mod wakes_tests;

@@ -1,9 +1,9 @@
 //! What waits answer after the steps of both batches.
 ghost use Rattle.std.specs.Prelude.{◌≡◌, IfSome};
-ghost use Rattle.vq_poll_tests.specs.Scenes.{AreOfFirst};
+ghost use Rattle.vq_poll_tests.specs.Scenes.{AreOfFirst, IsWatchable};
 
-use crate::scene::{after_all, opened};
-use crate::waits::{blocked, collected, polled};
+use crate::scene::{Scene, after_all, opened, timeline_of, watched_of};
+use crate::waits::{blocked, collected, given_back, polled};
 use futures::task::Poll;
 use std::alloc::AllocGlobal;
 use std::random::RandomSource;
@@ -70,6 +70,36 @@ fn blocked_after<R: Wait + RandomSource + AllocGlobal>(rt: &R) -> Option<Met> {
 #[test]
 fn a_thread_that_blocks_gets_the_value(rt: HostRuntime) {
     assert!(rt; blocked_after(&rt) == Some(Met { index: 0, value: 7 }));
+}
+
+/// What a wait that owns the pass of the host answers after all steps, and what its pass then reads.
+#[tactic(auto, using(crate::proofs::Watchables::one_first, crate::proofs::Watchables::pass_kept, crate::proofs::Watchables::pass_back, crate::proofs::Watchables::timelines_kept))]
+fn read_back<R: Wait + RandomSource + AllocGlobal>(rt: &R, scene: Scene) -> Option<(Met, u64)>
+    requires { IsWatchable scene }
+{
+    let Scene {
+        ordered,
+        board,
+        timelines,
+        bells,
+        host,
+        submitter: _submitter,
+        ring: _ring,
+    } = scene;
+    let timelines = timelines.as_slice();
+    let watched = watched_of(&ordered, &board, timelines, bells.as_slice());
+    let pairs = [of_a(3)];
+    let (met, mut host) = given_back(rt, watched, host, &pairs)?;
+    Some((met, timeline_of(&board, timelines).read(&board, &mut host)))
+}
+
+fn read_after<R: Wait + RandomSource + AllocGlobal>(rt: &R) -> Option<(Met, u64)> {
+    read_back(rt, after_all(rt, opened(rt.alloc())?)?)
+}
+
+#[test]
+fn a_wait_gives_its_pass_back(rt: HostRuntime) {
+    assert!(rt; read_after(&rt) == Some((Met { index: 0, value: 7 }, 7)));
 }
 
 #[tactic(auto, using(crate::proofs::Watchables::two_first))]

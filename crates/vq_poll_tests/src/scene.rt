@@ -142,7 +142,7 @@ fn set_up(alloc: Global, ordered: Ordered, board: Board, passes: Passes) -> Opti
 }
 
 /// The board of the plan, where that is the script's.
-fn scene_of(alloc: Global, ordered: Ordered) -> Option<Scene>
+pub fn scene_of(alloc: Global, ordered: Ordered) -> Option<Scene>
     ensures { IfSome result IsScene }
 {
     if !is_of_two_batches(ordered.plan()) {
@@ -152,11 +152,16 @@ fn scene_of(alloc: Global, ordered: Ordered) -> Option<Scene>
     set_up(alloc, ordered, board, passes)
 }
 
+/// The plan of the script.
+pub fn planned(alloc: Global) -> Option<Ordered> {
+    checked(alloc, SCRIPT)
+}
+
 /// The board of the script.
 pub fn opened(alloc: Global) -> Option<Scene>
     ensures { IfSome result IsScene }
 {
-    scene_of(alloc, checked(alloc, SCRIPT)?)
+    scene_of(alloc, planned(alloc)?)
 }
 
 /// All steps of both batches, with the bell rung after each signal. There is no board where one of them found

@@ -52,6 +52,7 @@ fn hand_second_on<R: Wait>(
     requires plan { IsOfTwoBatches (plan_of board.now) }
     requires timeline { IsFirstAt board.now timeline.now }
     requires submitter { HasReleased board.now submitter.old 0 (0 ∷ []) }
+    ensures { result ≡ true → HasReleased board.now submitter.new 0 (1 ∷ 0 ∷ []) }
 {
     timeline.take_for(rt, board, 1) == Ok(Taken::Fresh(1))
         && release_second(board, submitter)
@@ -68,8 +69,20 @@ pub fn hand_both_on<R: Wait>(
     requires plan { IsOfTwoBatches (plan_of board.now) }
     requires timeline { IsFirstAt board.now timeline.now }
     requires submitter { HasReleased board.now submitter.old 0 [] }
+    ensures { result ≡ true → HasReleased board.now submitter.new 0 (1 ∷ 0 ∷ []) }
 {
     hand_first_on(rt, board, timeline, submitter) && hand_second_on(rt, board, timeline, submitter)
+}
+
+/// The ring runs the first batch, and rings the bell after its signal.
+pub fn run_one(board: &Board, bell: &Bell, ring: &mut Pass) -> bool
+    requires plan { IsOfTwoBatches (plan_of board.now) }
+    requires ring { HasRun board.now ring.old [] }
+    ensures { result ≡ true → HasRunFirst board.now ring.new }
+{
+    let first = run_first(board, ring);
+    bell.ring();
+    first
 }
 
 /// The ring runs both batches, and rings the bell after each signal.
@@ -77,10 +90,9 @@ pub fn run_both(board: &Board, bell: &Bell, ring: &mut Pass) -> bool
     requires plan { IsOfTwoBatches (plan_of board.now) }
     requires ring { HasRun board.now ring.old [] }
 {
-    if !run_first(board, ring) {
+    if !run_one(board, bell, ring) {
         return false;
     }
-    bell.ring();
     let second = run_second(board, ring);
     bell.ring();
     second

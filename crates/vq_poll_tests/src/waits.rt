@@ -1,5 +1,8 @@
 //! Waits for values of A, by the pass of the host.
-ghost use Rattle.std.specs.Prelude.{◌≡◌};
+ghost use Rattle.std.specs.Prelude.{◌≡◌, IfSome};
+ghost use Rattle.vq_board.specs.Named.{IsOf};
+ghost use Rattle.vq_timeline_tests.specs.TwoBatches.{IsOfTwoBatches};
+ghost use Rattle.vq_poll.specs.Watching.{IsWatched, plan_at};
 ghost use Rattle.vq_poll_tests.specs.Scenes.{AreOfFirst, IsWatchable};
 
 use crate::scene::{Scene, watched_of};
@@ -10,7 +13,8 @@ use futures::test::MockTask;
 use std::alloc::AllocGlobal;
 use std::random::RandomSource;
 use std::sync::Wait;
-use vq_poll::{Arrivals, Met, Pair, WaitMode, WaitPairs};
+use vq_board::Pass;
+use vq_poll::{Arrivals, Met, Pair, WaitMode, WaitOwned, WaitPairs, WatchedBoard};
 
 /// What a wait answers in one poll.
 #[tactic(auto, using(crate::proofs::Watchables::pairs_of_first, crate::proofs::Watchables::pass_kept, crate::proofs::Watchables::timelines_kept))]
@@ -85,4 +89,22 @@ pub fn collected<R: Wait + RandomSource + AllocGlobal>(
     let watched = watched_of(&ordered, &board, timelines.as_slice(), bells.as_slice());
     let arrivals = Arrivals::new(rt.alloc(), watched, &mut host, pairs).ok()?;
     block_on(rt, arrivals.collect(rt.alloc())).ok()?.ok()
+}
+
+/// What `block_on` answers of a wait for A that owns its pass: the pass comes back.
+#[tactic(auto, using(crate::proofs::Watchables::pairs_of_first))]
+pub fn given_back<R: Wait + RandomSource + AllocGlobal>(
+    rt: &R,
+    watched: WatchedBoard<'_>,
+    pass: Pass,
+    pairs: &[Pair],
+) -> Option<(Met, Pass)>
+    requires watched { IsWatched watched }
+    requires plan { IsOfTwoBatches (plan_at watched) }
+    requires pass { IsOf watched.board.now pass }
+    requires pairs { AreOfFirst pairs.now }
+    ensures { IfSome result (λ o. IsOf watched.entry.board.now o.1) }
+{
+    let wait = WaitOwned::new(rt.alloc(), watched, pass, WaitMode::All, pairs).ok()?;
+    block_on(rt, wait).ok()
 }

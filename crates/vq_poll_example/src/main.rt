@@ -1,0 +1,116 @@
+//! A thread waits for a value of a timeline as a future, while another makes the timeline's signals and rings its bell.
+#![tactic(auto)]
+
+ghost use Rattle.std.specs.Prelude.{◌≡◌, [], length};
+ghost use Rattle.vq_board.specs.Named.{plan_of, IsOf};
+ghost use Rattle.vq_timeline_tests.specs.Acting.{HasRun};
+ghost use Rattle.vq_timeline_tests.specs.TwoBatches.{IsOfTwoBatches};
+ghost use Rattle.vq_poll.specs.Watching.{IsWatched, plan_at};
+ghost use Rattle.vq_poll_tests.specs.Scenes.{IsScene};
+
+use futures::executor::block_on;
+use std::alloc::AllocGlobal;
+use std::io;
+use std::process::ExitCode;
+use std::random::RandomSource;
+use std::sync::Wait;
+use std::thread::{Threads, join};
+use vq_board::{Board, Pass};
+use vq_poll::{Bell, Met, Pair, WaitMode, WaitOwned, WatchedBoard};
+use vq_poll_tests::scene::{Scene, bell_of, opened, timeline_of, watched_of};
+use vq_poll_tests::steps::{hand_both_on, run_both, submit_both};
+
+/// Wait: `block_on` polls the wait, and again each time that the bell of A has rung, until A has come to 3. The pass
+/// comes back with the answer.
+#[tactic(auto, using(vq_poll_tests::proofs::Cited::pairs_of_first, vq_poll_tests::proofs::Cited::one_first))]
+fn wait_for_three<R: Wait + RandomSource + AllocGlobal>(
+    rt: &R,
+    watched: WatchedBoard<'_>,
+    pass: Pass,
+) -> Option<Met>
+    requires watched { IsWatched watched }
+    requires plan { IsOfTwoBatches (plan_at watched) }
+    requires pass { IsOf watched.board.now pass }
+{
+    let pairs = [Pair { chain: 0, value: 3 }];
+    let wait = WaitOwned::new(rt.alloc(), watched, pass, WaitMode::All, &pairs).ok()?;
+    let (met, _pass) = block_on(rt, wait).ok()?;
+    Some(met)
+}
+
+/// Signal: the batches are run, which signal A with 2 and then with 7. The bell is rung after each signal.
+fn signal(board: &Board, bell: &Bell, ring: Pass) -> bool
+    requires plan { IsOfTwoBatches (plan_of board.now) }
+    requires ring { HasRun board.now ring [] }
+{
+    let mut ring = ring;
+    run_both(board, bell, &mut ring)
+}
+
+/// Both, each in a thread of its own.
+fn run<R: Threads + Wait + RandomSource + AllocGlobal + Sync>(
+    rt: &R,
+    watched: WatchedBoard<'_>,
+    host: Pass,
+    board: &Board,
+    bell: &Bell,
+    ring: Pass,
+) -> (Option<Met>, bool)
+    requires watched { IsWatched watched }
+    requires waits { IsOfTwoBatches (plan_at watched) }
+    requires host { IsOf watched.board.now host }
+    requires plan { IsOfTwoBatches (plan_of board.now) }
+    requires ring { HasRun board.now ring [] }
+{
+    join(
+        rt,
+        move || -> Option<Met>
+            requires watched { IsWatched watched }
+            requires waits { IsOfTwoBatches (plan_at watched) }
+            requires host { IsOf watched.board.now host }
+        { wait_for_three(rt, watched, host) },
+        move || -> bool
+            requires plan { IsOfTwoBatches (plan_of board.now) }
+            requires ring { HasRun board.now ring [] }
+        { signal(board, bell, ring) },
+    )
+}
+
+/// Submits both batches and hands them on, and then starts the threads. It says what the wait found.
+#[tactic(auto, using(vq_poll_tests::proofs::Cited::pass_kept, vq_poll_tests::proofs::Cited::timelines_kept))]
+fn found<R: Threads + Wait + RandomSource + AllocGlobal + Sync>(rt: &R, scene: Scene) -> Option<Met>
+    requires { IsScene scene }
+{
+    let Scene {
+        ordered,
+        board,
+        timelines,
+        bells,
+        mut host,
+        mut submitter,
+        ring,
+    } = scene;
+    let (timelines, bells) = (timelines.as_slice(), bells.as_slice());
+    submit_both(&board, &mut host);
+    if !hand_both_on(rt, &board, timeline_of(&board, timelines), &mut submitter) {
+        return None;
+    }
+    let watched = watched_of(&ordered, &board, timelines, bells);
+    match run(rt, watched, host, &board, bell_of(bells), ring) {
+        (met, true) => met,
+        (_, false) => None,
+    }
+}
+
+/// The same on a board of its own.
+fn told<R: Threads + Wait + RandomSource + AllocGlobal + Sync>(rt: &R) -> Option<Met> {
+    found(rt, opened(rt.alloc())?)
+}
+
+fn main(rt: HostRuntime) -> io::Result<ExitCode> {
+    let Some(met) = told(&rt) else {
+        return Ok(ExitCode::from(2));
+    };
+    println!(rt; "the wait for 3 ends, with A at {}", met.value)?;
+    Ok(ExitCode::SUCCESS)
+}

@@ -1,0 +1,119 @@
+//! Two threads: the one waits for A, the other makes the ring's steps and rings the bell.
+ghost use Rattle.std.specs.Prelude.{◌≡◌, [], length};
+ghost use Rattle.vq_board.specs.Named.{plan_of, IsOf};
+ghost use Rattle.vq_timeline_tests.specs.Acting.{HasRun};
+ghost use Rattle.vq_timeline_tests.specs.TwoBatches.{IsOfTwoBatches};
+ghost use Rattle.vq_poll.specs.Watching.{IsWatched, plan_at};
+ghost use Rattle.vq_poll_tests.specs.Scenes.{IsScene};
+
+use crate::scene::{Scene, bell_of, planned, scene_of, timeline_of, watched_of};
+use crate::steps::{hand_both_on, run_both, submit_both};
+use crate::waits::given_back;
+use std::alloc::AllocGlobal;
+use std::random::RandomSource;
+use std::sync::Wait;
+use std::thread::{Threads, join};
+use vq_board::{Board, Pass};
+use vq_order::Ordered;
+use vq_poll::{Bell, Met, Pair, WatchedBoard};
+
+/// Whether a wait for 3 finds the first pair reached, with 7.
+#[tactic(auto, using(crate::proofs::Watchables::one_first))]
+fn finds_seven<R: Wait + RandomSource + AllocGlobal>(
+    rt: &R,
+    watched: WatchedBoard<'_>,
+    pass: Pass,
+) -> bool
+    requires watched { IsWatched watched }
+    requires plan { IsOfTwoBatches (plan_at watched) }
+    requires pass { IsOf watched.board.now pass }
+{
+    let pairs = [Pair { chain: 0, value: 3 }];
+    match given_back(rt, watched, pass, &pairs) {
+        Some((met, _)) => met == Met { index: 0, value: 7 },
+        None => false,
+    }
+}
+
+/// The steps of the ring, with its pass.
+fn run_ring(board: &Board, bell: &Bell, ring: Pass) -> bool
+    requires plan { IsOfTwoBatches (plan_of board.now) }
+    requires ring { HasRun board.now ring [] }
+{
+    let mut ring = ring;
+    run_both(board, bell, &mut ring)
+}
+
+/// Both, each in a thread of its own.
+fn wait_and_run<R: Threads + Wait + RandomSource + AllocGlobal + Sync>(
+    rt: &R,
+    watched: WatchedBoard<'_>,
+    host: Pass,
+    board: &Board,
+    bell: &Bell,
+    ring: Pass,
+) -> (bool, bool)
+    requires watched { IsWatched watched }
+    requires waits { IsOfTwoBatches (plan_at watched) }
+    requires host { IsOf watched.board.now host }
+    requires plan { IsOfTwoBatches (plan_of board.now) }
+    requires ring { HasRun board.now ring [] }
+{
+    join(
+        rt,
+        move || -> bool
+            requires watched { IsWatched watched }
+            requires waits { IsOfTwoBatches (plan_at watched) }
+            requires host { IsOf watched.board.now host }
+        { finds_seven(rt, watched, host) },
+        move || -> bool
+            requires plan { IsOfTwoBatches (plan_of board.now) }
+            requires ring { HasRun board.now ring [] }
+        { run_ring(board, bell, ring) },
+    )
+}
+
+/// The submits, and all that hands the batches on and binds their signals, and then the two threads. Where the wait
+/// finds 7 and the steps are made, the plan comes back.
+#[tactic(auto, using(crate::proofs::Watchables::pass_kept, crate::proofs::Watchables::timelines_kept))]
+fn in_two_threads<R: Threads + Wait + RandomSource + AllocGlobal + Sync>(
+    rt: &R,
+    scene: Scene,
+) -> Option<Ordered>
+    requires { IsScene scene }
+{
+    let Scene {
+        ordered,
+        board,
+        timelines,
+        bells,
+        mut host,
+        mut submitter,
+        ring,
+    } = scene;
+    let (timelines, bells) = (timelines.as_slice(), bells.as_slice());
+    submit_both(&board, &mut host);
+    if !hand_both_on(rt, &board, timeline_of(&board, timelines), &mut submitter) {
+        return None;
+    }
+    let watched = watched_of(&ordered, &board, timelines, bells);
+    let done = wait_and_run(rt, watched, host, &board, bell_of(bells), ring);
+    if done != (true, true) {
+        return None;
+    }
+    Some(ordered)
+}
+
+/// All that again and again, each time on a board of its own. It says whether each wait ended.
+fn end_often<R: Threads + Wait + RandomSource + AllocGlobal + Sync>(rt: &R) -> Option<bool> {
+    let mut ordered = planned(rt.alloc())?;
+    for _ in 0..10_000u32 {
+        ordered = in_two_threads(rt, scene_of(rt.alloc(), ordered)?)?;
+    }
+    Some(true)
+}
+
+#[test]
+fn no_wait_sleeps_on(rt: HostRuntime) {
+    assert!(rt; end_often(&rt) == Some(true));
+}
