@@ -1,12 +1,12 @@
 //! A thread waits for a value of a timeline as a future, while another makes the timeline's signals and rings its bell.
 #![tactic(auto)]
 
-ghost use Rattle.std.specs.Prelude.{◌≡◌, [], length};
+ghost use Rattle.std.specs.Prelude.{◌≡◌, []};
 ghost use Rattle.vq_board.specs.Named.{plan_of, IsOf};
 ghost use Rattle.vq_timeline_tests.specs.Acting.{HasRun};
 ghost use Rattle.vq_timeline_tests.specs.TwoBatches.{IsOfTwoBatches};
 ghost use Rattle.vq_poll.specs.Watching.{IsWatched, plan_at};
-ghost use Rattle.vq_poll_tests.specs.Scenes.{IsScene};
+ghost use Rattle.vq_poll_stage.specs.Scenes.{IsScene};
 
 use futures::executor::block_on;
 use std::alloc::AllocGlobal;
@@ -17,12 +17,12 @@ use std::sync::Wait;
 use std::thread::{Threads, join};
 use vq_board::{Board, Pass};
 use vq_poll::{Bell, Met, Pair, WaitMode, WaitOwned, WatchedBoard};
-use vq_poll_tests::scene::{Scene, bell_of, opened, timeline_of, watched_of};
-use vq_poll_tests::steps::{hand_both_on, run_both, submit_both};
+use vq_poll_stage::scene::{Scene, bell_of, opened, timeline_of, watched_of};
+use vq_poll_stage::steps::{hand_both_on, run_both, submit_both};
 
 /// Wait: `block_on` polls the wait, and again each time that the bell of A has rung, until A has come to 3. The pass
 /// comes back with the answer.
-#[tactic(auto, using(vq_poll_tests::proofs::Cited::pairs_of_first, vq_poll_tests::proofs::Cited::one_first))]
+#[tactic(auto, using(vq_poll_stage::proofs::Cited::pairs_of_first, vq_poll_stage::proofs::Cited::one_first))]
 fn wait_for_three<R: Wait + RandomSource + AllocGlobal>(
     rt: &R,
     watched: WatchedBoard<'_>,
@@ -77,7 +77,7 @@ fn run<R: Threads + Wait + RandomSource + AllocGlobal + Sync>(
 }
 
 /// Submits both batches and hands them on, and then starts the threads. It says what the wait found.
-#[tactic(auto, using(vq_poll_tests::proofs::Cited::pass_kept, vq_poll_tests::proofs::Cited::timelines_kept))]
+#[tactic(auto, using(vq_poll_stage::proofs::Cited::pass_kept, vq_poll_stage::proofs::Cited::timelines_kept))]
 fn found<R: Threads + Wait + RandomSource + AllocGlobal + Sync>(rt: &R, scene: Scene) -> Option<Met>
     requires { IsScene scene }
 {

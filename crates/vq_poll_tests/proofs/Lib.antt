@@ -1,3 +1,1 @@
-pub mod Cited
-mod Watchables
-pub mod Answered
+mod Answered

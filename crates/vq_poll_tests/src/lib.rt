@@ -6,8 +6,6 @@
 mod polls_tests;
 #[cfg(test)]
 mod pool_tests;
-pub mod scene;
-pub mod steps;
 #[cfg(test)]
 mod threads_tests;
 #[cfg(test)]

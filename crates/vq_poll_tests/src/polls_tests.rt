@@ -1,14 +1,14 @@
 //! What waits answer after the steps of both batches.
 ghost use Rattle.std.specs.Prelude.{◌≡◌, IfSome};
-ghost use Rattle.vq_poll_tests.specs.Scenes.{AreOfFirst, IsWatchable};
+ghost use Rattle.vq_poll_stage.specs.Scenes.{AreOfFirst, IsWatchable};
 
-use crate::scene::{Scene, after_all, opened, timeline_of, watched_of};
 use crate::waits::{blocked, collected, given_back, polled};
 use futures::task::Poll;
 use std::alloc::AllocGlobal;
 use std::random::RandomSource;
 use std::sync::Wait;
 use vq_poll::{Met, Pair, WaitMode};
+use vq_poll_stage::scene::{Scene, after_all, opened, timeline_of, watched_of};
 
 /// A pair of A.
 fn of_a(value: u64) -> Pair
@@ -37,19 +37,19 @@ fn met_in(polled: Option<Poll<Met>>) -> Option<Met> {
     }
 }
 
-#[tactic(auto, using(crate::proofs::Watchables::one_first))]
+#[tactic(auto, using(vq_poll_stage::proofs::Cited::one_first))]
 fn all_is_met<R: Wait + RandomSource + AllocGlobal>(rt: &R) -> bool {
     let pairs = [of_a(3)];
     met_in(polled_after(rt, WaitMode::All, &pairs)) == Some(Met { index: 0, value: 7 })
 }
 
-#[tactic(auto, using(crate::proofs::Watchables::two_first))]
+#[tactic(auto, using(vq_poll_stage::proofs::Cited::two_first))]
 fn one_is_met<R: Wait + RandomSource + AllocGlobal>(rt: &R) -> bool {
     let pairs = [of_a(9), of_a(2)];
     met_in(polled_after(rt, WaitMode::Any, &pairs)) == Some(Met { index: 1, value: 7 })
 }
 
-#[tactic(auto, using(crate::proofs::Watchables::two_first))]
+#[tactic(auto, using(vq_poll_stage::proofs::Cited::two_first))]
 fn none_is_pending<R: Wait + RandomSource + AllocGlobal>(rt: &R) -> bool {
     let pairs = [of_a(2), of_a(9)];
     matches!(polled_after(rt, WaitMode::All, &pairs), Some(Poll::Pending))
@@ -60,7 +60,7 @@ fn waits_after_all_steps_answer_at_once(rt: HostRuntime) {
     assert!(rt; all_is_met(&rt) && one_is_met(&rt) && none_is_pending(&rt));
 }
 
-#[tactic(auto, using(crate::proofs::Watchables::one_first))]
+#[tactic(auto, using(vq_poll_stage::proofs::Cited::one_first))]
 fn blocked_after<R: Wait + RandomSource + AllocGlobal>(rt: &R) -> Option<Met> {
     let scene = after_all(rt, opened(rt.alloc())?)?;
     let pairs = [of_a(3)];
@@ -73,7 +73,7 @@ fn a_thread_that_blocks_gets_the_value(rt: HostRuntime) {
 }
 
 /// What a wait that owns the pass of the host answers after all steps, and what its pass then reads.
-#[tactic(auto, using(crate::proofs::Watchables::one_first, crate::proofs::Watchables::pass_kept, crate::proofs::Watchables::pass_back, crate::proofs::Watchables::timelines_kept))]
+#[tactic(auto, using(vq_poll_stage::proofs::Cited::one_first, vq_poll_stage::proofs::Cited::pass_kept, vq_poll_stage::proofs::Cited::pass_back, vq_poll_stage::proofs::Cited::timelines_kept))]
 fn read_back<R: Wait + RandomSource + AllocGlobal>(rt: &R, scene: Scene) -> Option<(Met, u64)>
     requires { IsWatchable scene }
 {
@@ -102,7 +102,7 @@ fn a_wait_gives_its_pass_back(rt: HostRuntime) {
     assert!(rt; read_after(&rt) == Some((Met { index: 0, value: 7 }, 7)));
 }
 
-#[tactic(auto, using(crate::proofs::Watchables::two_first))]
+#[tactic(auto, using(vq_poll_stage::proofs::Cited::two_first))]
 fn collected_after<R: Wait + RandomSource + AllocGlobal>(rt: &R) -> Option<Vec<Met>> {
     let scene = after_all(rt, opened(rt.alloc())?)?;
     let pairs = [of_a(7), of_a(2)];

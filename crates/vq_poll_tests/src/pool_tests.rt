@@ -1,13 +1,11 @@
 //! Tasks of one executor that wait at one bell.
-ghost use Rattle.std.specs.Prelude.{◌≡◌, IfSome};
+ghost use Rattle.std.specs.Prelude.{IfSome};
 ghost use Rattle.vq_board.specs.Named.{IsOf};
 ghost use Rattle.vq_timeline_tests.specs.TwoBatches.{IsOfTwoBatches};
 ghost use Rattle.vq_poll.specs.Owning.{CanWaitOwned};
 ghost use Rattle.vq_poll.specs.Watching.{IsWatched, plan_at};
-ghost use Rattle.vq_poll_tests.specs.Scenes.{IsScene};
+ghost use Rattle.vq_poll_stage.specs.Scenes.{IsScene};
 
-use crate::scene::{Scene, bell_of, opened, timeline_of, watched_of};
-use crate::steps::{hand_both_on, run_one, submit_both};
 use futures::Future;
 use futures::executor::{LocalPool, LocalSpawner};
 use futures::task::{Context, Poll};
@@ -17,6 +15,8 @@ use std::sync::Wait;
 use std::sync::atomic::{AtomicU64, Ordering};
 use vq_board::Pass;
 use vq_poll::{Pair, WaitMode, WaitOwned, WatchedBoard};
+use vq_poll_stage::scene::{Scene, bell_of, opened, timeline_of, watched_of};
+use vq_poll_stage::steps::{hand_both_on, run_one, submit_both};
 
 /// A task that waits, and counts itself once it has found its value.
 #[derive(Drop)]
@@ -44,7 +44,7 @@ impl Future for Counted<'_> {
 }
 
 /// A task that waits for A to come to 2.
-#[tactic(auto, using(crate::proofs::Watchables::pairs_of_first, crate::proofs::Watchables::one_first))]
+#[tactic(auto, using(vq_poll_stage::proofs::Cited::pairs_of_first, vq_poll_stage::proofs::Cited::one_first))]
 fn task_of<'a, R: AllocGlobal>(
     rt: &R,
     watched: WatchedBoard<'a>,
@@ -84,7 +84,7 @@ fn count_met(pool: &mut LocalPool<Counted<'_>>, met: &AtomicU64) -> u64 {
 }
 
 /// How many tasks have found their value before the first batch is run, and after it and one ring.
-#[tactic(auto, using(crate::proofs::Watchables::pass_kept, crate::proofs::Watchables::timelines_kept))]
+#[tactic(auto, using(vq_poll_stage::proofs::Cited::pass_kept, vq_poll_stage::proofs::Cited::timelines_kept))]
 fn counts<R: Wait + RandomSource + AllocGlobal>(rt: &R, scene: Scene) -> Option<(u64, u64)>
     requires { IsScene scene }
 {

@@ -1,13 +1,11 @@
 //! Two threads: the one waits for A, the other makes the ring's steps and rings the bell.
-ghost use Rattle.std.specs.Prelude.{◌≡◌, [], length};
+ghost use Rattle.std.specs.Prelude.{◌≡◌, []};
 ghost use Rattle.vq_board.specs.Named.{plan_of, IsOf};
 ghost use Rattle.vq_timeline_tests.specs.Acting.{HasRun};
 ghost use Rattle.vq_timeline_tests.specs.TwoBatches.{IsOfTwoBatches};
 ghost use Rattle.vq_poll.specs.Watching.{IsWatched, plan_at};
-ghost use Rattle.vq_poll_tests.specs.Scenes.{IsScene};
+ghost use Rattle.vq_poll_stage.specs.Scenes.{IsScene};
 
-use crate::scene::{Scene, bell_of, planned, scene_of, timeline_of, watched_of};
-use crate::steps::{hand_both_on, run_both, submit_both};
 use crate::waits::given_back;
 use std::alloc::AllocGlobal;
 use std::random::RandomSource;
@@ -16,9 +14,11 @@ use std::thread::{Threads, join};
 use vq_board::{Board, Pass};
 use vq_order::Ordered;
 use vq_poll::{Bell, Met, Pair, WatchedBoard};
+use vq_poll_stage::scene::{Scene, bell_of, planned, scene_of, timeline_of, watched_of};
+use vq_poll_stage::steps::{hand_both_on, run_both, submit_both};
 
 /// Whether a wait for 3 finds the first pair reached, with 7.
-#[tactic(auto, using(crate::proofs::Watchables::one_first))]
+#[tactic(auto, using(vq_poll_stage::proofs::Cited::one_first))]
 fn finds_seven<R: Wait + RandomSource + AllocGlobal>(
     rt: &R,
     watched: WatchedBoard<'_>,
@@ -75,7 +75,7 @@ fn wait_and_run<R: Threads + Wait + RandomSource + AllocGlobal + Sync>(
 
 /// The submits, and all that hands the batches on and binds their signals, and then the two threads. Where the wait
 /// finds 7 and the steps are made, the plan comes back.
-#[tactic(auto, using(crate::proofs::Watchables::pass_kept, crate::proofs::Watchables::timelines_kept))]
+#[tactic(auto, using(vq_poll_stage::proofs::Cited::pass_kept, vq_poll_stage::proofs::Cited::timelines_kept))]
 fn in_two_threads<R: Threads + Wait + RandomSource + AllocGlobal + Sync>(
     rt: &R,
     scene: Scene,

@@ -3,9 +3,8 @@ ghost use Rattle.std.specs.Prelude.{◌≡◌, IfSome};
 ghost use Rattle.vq_board.specs.Named.{IsOf};
 ghost use Rattle.vq_timeline_tests.specs.TwoBatches.{IsOfTwoBatches};
 ghost use Rattle.vq_poll.specs.Watching.{IsWatched, plan_at};
-ghost use Rattle.vq_poll_tests.specs.Scenes.{AreOfFirst, IsWatchable};
+ghost use Rattle.vq_poll_stage.specs.Scenes.{AreOfFirst, IsWatchable};
 
-use crate::scene::{Scene, watched_of};
 use futures::StreamExt;
 use futures::executor::block_on;
 use futures::task::Poll;
@@ -15,9 +14,10 @@ use std::random::RandomSource;
 use std::sync::Wait;
 use vq_board::Pass;
 use vq_poll::{Arrivals, Met, Pair, WaitMode, WaitOwned, WaitPairs, WatchedBoard};
+use vq_poll_stage::scene::{Scene, watched_of};
 
 /// What a wait answers in one poll.
-#[tactic(auto, using(crate::proofs::Watchables::pairs_of_first, crate::proofs::Watchables::pass_kept, crate::proofs::Watchables::timelines_kept))]
+#[tactic(auto, using(vq_poll_stage::proofs::Cited::pairs_of_first, vq_poll_stage::proofs::Cited::pass_kept, vq_poll_stage::proofs::Cited::timelines_kept))]
 pub fn polled<R: RandomSource + AllocGlobal>(
     rt: &R,
     scene: Scene,
@@ -43,7 +43,7 @@ pub fn polled<R: RandomSource + AllocGlobal>(
 }
 
 /// What `block_on` answers of a wait with a lent pass.
-#[tactic(auto, using(crate::proofs::Watchables::pairs_of_first, crate::proofs::Watchables::pass_kept, crate::proofs::Watchables::timelines_kept))]
+#[tactic(auto, using(vq_poll_stage::proofs::Cited::pairs_of_first, vq_poll_stage::proofs::Cited::pass_kept, vq_poll_stage::proofs::Cited::timelines_kept))]
 pub fn blocked<R: Wait + RandomSource + AllocGlobal>(
     rt: &R,
     scene: Scene,
@@ -68,7 +68,7 @@ pub fn blocked<R: Wait + RandomSource + AllocGlobal>(
 }
 
 /// What arrives, to the end.
-#[tactic(auto, using(crate::proofs::Watchables::pairs_of_first, crate::proofs::Watchables::pass_kept, crate::proofs::Watchables::timelines_kept))]
+#[tactic(auto, using(vq_poll_stage::proofs::Cited::pairs_of_first, vq_poll_stage::proofs::Cited::pass_kept, vq_poll_stage::proofs::Cited::timelines_kept))]
 pub fn collected<R: Wait + RandomSource + AllocGlobal>(
     rt: &R,
     scene: Scene,
@@ -92,7 +92,7 @@ pub fn collected<R: Wait + RandomSource + AllocGlobal>(
 }
 
 /// What `block_on` answers of a wait for A that owns its pass: the pass comes back.
-#[tactic(auto, using(crate::proofs::Watchables::pairs_of_first))]
+#[tactic(auto, using(vq_poll_stage::proofs::Cited::pairs_of_first))]
 pub fn given_back<R: Wait + RandomSource + AllocGlobal>(
     rt: &R,
     watched: WatchedBoard<'_>,

@@ -6,10 +6,8 @@ ghost use Rattle.vq_timeline_tests.specs.Acting.{HasRun};
 ghost use Rattle.vq_timeline_tests.specs.TwoBatches.{IsOfTwoBatches};
 ghost use Rattle.vq_poll.specs.Waiting.{CanWaitLent};
 ghost use Rattle.vq_poll.specs.Watching.{AreTimelines};
-ghost use Rattle.vq_poll_tests.specs.Scenes.{IsScene};
+ghost use Rattle.vq_poll_stage.specs.Scenes.{IsScene};
 
-use crate::scene::{Scene, bell_of, opened, timeline_of, watched_of};
-use crate::steps::{hand_both_on, run_both, submit_both};
 use futures::task::Poll;
 use futures::test::MockTask;
 use std::alloc::AllocGlobal;
@@ -17,6 +15,8 @@ use std::random::RandomSource;
 use std::sync::Wait;
 use vq_board::{Board, Pass};
 use vq_poll::{Bell, Met, Pair, WaitMode, WaitPairs};
+use vq_poll_stage::scene::{Scene, bell_of, opened, timeline_of, watched_of};
+use vq_poll_stage::steps::{hand_both_on, run_both, submit_both};
 use vq_timeline::LockedTimeline;
 
 /// All steps after the submits.
@@ -55,7 +55,7 @@ fn is_met(task: &MockTask, wait: &mut WaitPairs<'_>) -> bool
 
 /// Whether a wait that is polled after the submits alone rests, is woken by the other steps, and then finds its
 /// value.
-#[tactic(auto, using(crate::proofs::Watchables::pairs_of_first, crate::proofs::Watchables::one_first, crate::proofs::Watchables::pass_kept, crate::proofs::Watchables::timelines_kept))]
+#[tactic(auto, using(vq_poll_stage::proofs::Cited::pairs_of_first, vq_poll_stage::proofs::Cited::one_first, vq_poll_stage::proofs::Cited::pass_kept, vq_poll_stage::proofs::Cited::timelines_kept))]
 fn is_woken<R: Wait + RandomSource + AllocGlobal>(rt: &R, scene: Scene) -> Option<bool>
     requires scene { IsScene scene }
 {

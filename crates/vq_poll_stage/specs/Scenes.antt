@@ -7,7 +7,7 @@ use Rattle.vq_timeline_tests.specs.Acting.{HasRun}
 use Rattle.vq_timeline_tests.specs.TwoBatches.{IsOfTwoBatches}
 use Rattle.vq_poll.specs.declared.pairs.Pair.{Pair}
 use Rattle.vq_poll.specs.Watching.{AreTimelines}
-use Rattle.vq_poll_tests.specs.declared.scene.Scene.{Scene}
+use Rattle.vq_poll_stage.specs.declared.scene.Scene.{Scene}
 
 -- the plan, with what is lent to waits, and a pass of the board
 pub record IsWatchable (s : Scene) : Type 0 where

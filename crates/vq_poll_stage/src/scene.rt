@@ -5,7 +5,7 @@ ghost use Rattle.vq_board_stage.specs.Dealing.{AllFresh, AreNew};
 ghost use Rattle.vq_timeline_tests.specs.Locked.{IsFirstAt};
 ghost use Rattle.vq_timeline_tests.specs.TwoBatches.{IsOfTwoBatches};
 ghost use Rattle.vq_poll.specs.Watching.{AreTimelines, IsWatched, plan_at};
-ghost use Rattle.vq_poll_tests.specs.Scenes.{IsScene, IsWatchable};
+ghost use Rattle.vq_poll_stage.specs.Scenes.{IsScene, IsWatchable};
 
 use crate::steps::{hand_both_on, run_both, submit_both};
 use std::alloc::Global;
