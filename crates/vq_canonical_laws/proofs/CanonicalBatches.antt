@@ -28,7 +28,7 @@ use Rattle.vq_canonical_laws.proofs.BatchItems.{is_item, AllItems}
 -- Statements in the order of a batch's parts
 
 -- what no statement adds
-none_added : {A : Type 0} (part : Statement → Option A) (test : Statement → Bool) →
+pub none_added : {A : Type 0} (part : Statement → Option A) (test : Statement → Bool) →
     ((s : Statement) → test s ≡ false → part s ≡ None) → (told : List Statement) →
     list_any test told ≡ false → filter_map part told ≡ []
 none_added part test none [] h = refl
@@ -69,7 +69,7 @@ words_append p q (s ∷ first) second l =
     (words_append (after p s) q first second l.1)
 
 -- a chain, cut in two
-leads_split : (p r : Parts) (first second : List Statement) → Leads p (first ++ second) r →
+pub leads_split : (p r : Parts) (first second : List Statement) → Leads p (first ++ second) r →
     (q : Parts) × Leads p first q × Leads q second r
 leads_split p r [] second l = (p, refl, l)
 leads_split p r (s ∷ first) second l =
@@ -77,15 +77,15 @@ leads_split p r (s ∷ first) second l =
 
 module _ (v : ℕ) (bs : List Buffer) (ss : List Semaphore) (qs : List Queue) where
   -- the script whose names are written
-  abbrev whole : Script
+  abbrev pub whole : Script
   whole = declared_script (declarations v bs ss qs)
 
   -- lines
-  abbrev Lines : Type 0
+  abbrev pub Lines : Type 0
   Lines = List (List (List ℕ))
 
   -- the lines of waits, commands, signals and a fence
-  abbrev lines_of : List Mark → List CommandLine → List Mark → List Mark → Lines
+  abbrev pub lines_of : List Mark → List CommandLine → List Mark → List Mark → Lines
   lines_of ws cs ms fs =
       map (wait_words whole) ws
       ++ map (λ c. command_words whole c.command) cs
@@ -93,7 +93,7 @@ module _ (v : ℕ) (bs : List Buffer) (ss : List Semaphore) (qs : List Queue) wh
       ++ fence_lines whole (first_of_list fs)
 
   -- the canonical lines of statements
-  abbrev item_lines : List Statement → Lines
+  abbrev pub item_lines : List Statement → Lines
   item_lines told =
       lines_of (filter_map wait_in told) (filter_map command_in told) (filter_map signal_in told)
       (filter_map fence_in told)
@@ -229,15 +229,15 @@ module _ (v : ℕ) (bs : List Buffer) (ss : List Semaphore) (qs : List Queue) wh
         ∙ append-nil signal_lines)))
 
   -- the line after a batch's items
-  abbrev end_line : Lines
+  abbrev pub end_line : Lines
   end_line = (codes "end" ∷ []) ∷ []
 
   -- The rest of a batch leads out of it, and its lines are the canonical ones.
-  record IsAlong (jobs : List ToldJob) (q : ℕ) (told rest : List Statement) (r : Parts)
+  pub record IsAlong (jobs : List ToldJob) (q : ℕ) (told rest : List Statement) (r : Parts)
       : Type 0 where
-    more : List ToldJob
-    ends : r ≡ parts v bs ss qs more None
-    lines : item_lines (told ++ rest) ++ end_line
+    pub more : List ToldJob
+    pub ends : r ≡ parts v bs ss qs more None
+    pub lines : item_lines (told ++ rest) ++ end_line
         ≡ item_lines told
         ++ words_along (parts v bs ss qs jobs (Some (q, told))) (rest ++ EndBatch ∷ [])
 
@@ -271,7 +271,7 @@ module _ (v : ℕ) (bs : List Buffer) (ss : List Semaphore) (qs : List Queue) wh
       same_told a b e = cc
 
   -- the rest of a batch
-  items_along : (jobs : List ToldJob) (q : ℕ) (told rest : List Statement) (r : Parts) →
+  pub items_along : (jobs : List ToldJob) (q : ℕ) (told rest : List Statement) (r : Parts) →
       list_all is_item rest ≡ true →
       Leads (parts v bs ss qs jobs (Some (q, told))) (rest ++ EndBatch ∷ []) r →
       IsAlong jobs q told rest r

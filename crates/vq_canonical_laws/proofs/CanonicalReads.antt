@@ -1,5 +1,5 @@
 -- The canonical text of a script that can be written stands for it, up to line numbers.
-use Rattle.std.proofs.Common.{◌≡◌, ℕ, true, List, map, Ok, Bool, false, None, ap, ◌∙◌, ◌+◌, cond, [], ◌∷◌, Err, refl, subst, ◌++◌, append-nil, Option, sym, ◌≤◌, length, inl, inr, arith, codes}
+use Rattle.std.proofs.Common.{◌≡◌, ℕ, true, List, map, Ok, Bool, false, None, ap, ◌∙◌, ◌+◌, cond, [], ◌∷◌, Err, refl, subst, ◌++◌, append-nil, append_assoc, Option, sym, ◌≤◌, length, inl, inr, arith, codes}
 use Rattle.std.specs.List.{AllByRecursion as Every, list_any}
 use Rattle.vq_model.specs.Text.{words_of}
 use Rattle.vq_canonical_laws.proofs.ScheduleTold.{begins_schedule, schedule_told}
@@ -43,6 +43,7 @@ use Rattle.vq_model.specs.ScriptOfLines.{script_of}
 use Rattle.vq_model.specs.Text.{lines_of}
 use Rattle.vq_canonical_laws.proofs.OrderedReads.{said_script, HasParts, text_has_parts}
 use Rattle.vq_model.specs.declared.statement.Form.{Form}
+use Rattle.vq_canonical_laws.specs.CanonicalStatements.{numbered, version_statements}
 use Rattle.vq_canonical_laws.proofs.CanonicalLaws.{lines_same}
 
 -- Reading statements
@@ -57,6 +58,7 @@ record AreRead (form : Form) (before : List Line) (n : ℕ) (p : Parts) (stateme
       ≡ read_lines form all next rest
   say : Say all q
   names : AreNamed q
+  are_numbered : all ≡ before ++ numbered n statements
 
 -- lines that say no open batch may end, in a text without a schedule
 may_end : (before : List Line) (p : Parts) → Say before p → p.batch ≡ None →
@@ -79,6 +81,7 @@ statements_read form before n p [] q rest h named l =
       reads = refl;
       say = subst (Say before) l h;
       names = subst AreNamed l named;
+      are_numbered = sym (append-nil before);
     }
 statements_read form before n p (s ∷ statements) q rest h named l =
     let line = line_reads form before p h named s l.0 in
@@ -102,6 +105,8 @@ statements_read form before n p (s ∷ statements) q rest h named l =
           ∙ more.reads;
       say = more.say;
       names = more.names;
+      are_numbered = more.are_numbered
+          ∙ append_assoc before (record { number = n; statement = s } ∷ []) (numbered (n + 1) statements);
     }
 
 -- the line that begins the schedule is read before others
@@ -147,18 +152,18 @@ abbrev tells_schedule : List ℕ → Bool
 tells_schedule text = list_any begins_schedule (map words_of (lines_of text))
 
 -- the statements of parts, in the canonical order
-abbrev statements_of : Parts → List Statement
+abbrev pub statements_of : Parts → List Statement
 statements_of p =
     buffer_statements p.buffers ++ semaphore_statements p.semaphores
     ++ queue_statements p.queues ++ flat_map job_statements p.jobs
 
 module _ (p : Parts) (o : IsOrdered p) (items : HasItems p) (none : p.batch ≡ None) where
   -- the declarations
-  abbrev declared : Parts
+  abbrev pub declared : Parts
   declared = declarations p.version p.buffers p.semaphores p.queues
 
   -- the jobs follow the declarations, ..
-  jobs_lead : Leads declared (flat_map job_statements p.jobs) p
+  pub jobs_lead : Leads declared (flat_map job_statements p.jobs) p
   jobs_lead =
       subst (λ (xs : List Statement). Leads declared xs p)
       (append-nil (flat_map job_statements p.jobs))
@@ -326,6 +331,23 @@ module _ (p : Parts) (o : IsOrdered p) (items : HasItems p) (none : p.batch ≡ 
         said_script r.all p r.say none ∙ ap (scheduled_script p false) (sym empty),
         lines_tell p o items none false turns v.are_words r.are_words refl v.silent,
       )
+
+  -- its lines are numbered in their order
+  pub plain_numbered : read_lines Plain [] 1 (lines_of (canonical_text (script_of_parts p)))
+      ≡ Ok (numbered 1 (version_statements p.version ++ statements_of p))
+  plain_numbered =
+      let back : List (List ℕ) =
+      map (join_with_byte 32) (words_along (no_parts p.version) (statements_of p)) in
+      let v = version_read Plain p.version (back ++ []) o.of_a_version in
+      let r =
+      statements_read Plain v.lines v.next (no_parts p.version) (statements_of p) p [] v.say
+      (nothing_named p.version) (ordered_leads p o items none) in
+      ap (read_lines Plain [] 1) (lines_canonical p o items none false [] v.are_words r.are_words refl)
+      ∙ (v.reads
+      ∙ (r.reads
+      ∙ (ap (λ (b : Bool). cond {A = Result (List Line) (ℕ × FaultKind)} b (Err (r.next, Syntax)) (Ok r.all))
+      (may_end r.all p r.say none)
+      ∙ ap (λ (ls : List Line). Ok ls) (r.are_numbered ∙ v.are_numbered (statements_of p)))))
 
   -- with one
   scheduled_read_back : (turns : List Turn) → map turn_without_line turns ≡ turns →

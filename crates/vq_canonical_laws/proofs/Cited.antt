@@ -2,6 +2,9 @@
 pub use Rattle.vq_canonical_laws.proofs.AddedScripts.{added_is_written}
 pub use Rattle.vq_canonical_laws.proofs.CanonicalReads.{canonical_reads_back, read_is_written}
 pub use Rattle.vq_canonical_laws.proofs.FittingScripts.{ruled_is_written}
+pub use Rattle.vq_canonical_laws.proofs.NumberedLines.{canonical_numbered}
+pub use Rattle.vq_canonical_laws.proofs.OrderedReads.{read_jobs_said}
+pub use Rattle.vq_canonical_laws.proofs.StatementsSaid.{statements_counted}
 pub use Rattle.vq_canonical_laws.proofs.UpgradedScripts.{upgrade_is_written, upgrade_reads_back, upgrade_text}
 pub use Rattle.vq_canonical_laws.proofs.WrittenTexts.{is_kept_word, are_kept_words, is_kept_byte, all_weaker}
 pub use Rattle.vq_canonical_laws.proofs.WrittenTexts.{split_part, empty_end}

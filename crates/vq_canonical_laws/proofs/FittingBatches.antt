@@ -11,31 +11,19 @@ use Rattle.vq_model.specs.declared.script.CommandLine.{CommandLine}
 use Rattle.vq_model.specs.declared.script.Batch.{Batch}
 use Rattle.vq_model.specs.declared.script.Script.{Script}
 use Rattle.vq_model.specs.declared.statement.Statement.{Statement}
-use Rattle.vq_model.specs.declared.statement.Statement.TheVariants.{AddWait, AddCommand, AddSignal, AddFence, EndBatch}
+use Rattle.vq_model.specs.declared.statement.Statement.TheVariants.{AddFence, EndBatch}
 use Rattle.vq_model.specs.Context.{is_wait, is_command, is_signal, is_fence, is_batch_fence, held_from}
 use Rattle.vq_model.specs.Context.{part_of}
 use Rattle.vq_model.specs.Limits.{limits_of}
 use Rattle.vq_model.specs.declared.limits.Limits.{Limits}
 use Rattle.vq_model.specs.ValidScripts.{IsOfAVersion}
-use Rattle.vq_canonical_laws.specs.FormatRules.{pair_of, IsWaitOf, IsSignalOf, IsCommandOf, IsFenceOf, BatchFits}
+pub use Rattle.vq_canonical_laws.specs.CanonicalStatements.{wait_statement, command_statement, signal_statement, fence_statements}
+use Rattle.vq_canonical_laws.specs.FormatRules.{IsWaitOf, IsSignalOf, IsCommandOf, IsFenceOf, BatchFits}
 use Rattle.vq_canonical_laws.proofs.ScriptParts.{ToldJob, ToldBatch, Told, Parts, parts, after, May, commands_of}
 use Rattle.vq_canonical_laws.proofs.CanonicalOrder.{Leads, leads_on, leads_push, job_statements}
 use Rattle.vq_canonical_laws.proofs.LineWords.{not_past}
 
 -- The statements of a batch
-
-abbrev pub wait_statement : Mark → Statement
-wait_statement m = AddWait (pair_of m) m.from
-
-abbrev pub command_statement : CommandLine → Statement
-command_statement c = AddCommand c.command
-
-abbrev pub signal_statement : Mark → Statement
-signal_statement m = AddSignal (pair_of m)
-
-abbrev pub fence_statements : Option Mark → List Statement
-fence_statements None = []
-fence_statements (Some m) = AddFence m.semaphore ∷ []
 
 -- a statement of a part of a batch or an earlier part, which holds back the batch from a place on that
 -- isn't past `far`, or nothing

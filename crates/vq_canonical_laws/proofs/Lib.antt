@@ -17,12 +17,15 @@ mod FollowingSteps
 mod FollowingTurns
 mod HeldWaits
 mod HostLines
+mod JobLines
 mod JoinedTurns
 mod LineTests
 mod LineWords
 mod NamedParts
+mod NumberedLines
 mod OrderedBatches
 mod OrderedDeclarations
+mod OrderedItems
 mod OrderedReads
 mod PartsSaid
 mod SaidContext
@@ -34,6 +37,7 @@ mod ScheduleTold
 mod ScriptParts
 mod SilentStatements
 mod StatementPushes
+mod StatementsSaid
 mod ToldBatches
 mod UpgradedScripts
 mod VersionLines

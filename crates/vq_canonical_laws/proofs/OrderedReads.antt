@@ -9,8 +9,13 @@ use Rattle.vq_canonical_laws.proofs.ScheduleParts.{IsActorIn, SaySchedule, a_tur
 use Rattle.vq_canonical_laws.proofs.FollowingTurns.{turns_follow}
 use Rattle.vq_model.specs.declared.statement.Line.{Line}
 use Rattle.vq_canonical_laws.proofs.BatchItems.{HasItems, no_items, items_more}
-use Rattle.vq_canonical_laws.proofs.ScriptParts.{Parts, Say, no_parts, IsVersion, after, Told, a_job, script_of_parts, continued, part_of_batch}
-use Rattle.vq_canonical_laws.proofs.CanonicalOrder.{IsOrdered}
+use Rattle.vq_canonical_laws.proofs.ScriptParts.{Parts, Say, no_parts, IsVersion, after, Told, a_job, script_of_parts, continued, part_of_batch, statements_in}
+use Rattle.vq_canonical_laws.proofs.CanonicalOrder.{IsOrdered, Leads, declarations, job_statements, batch_statements}
+use Rattle.vq_canonical_laws.specs.CanonicalStatements.{lines_from_job, statements_of_job}
+use Rattle.vq_canonical_laws.proofs.OrderedItems.{jobs_again}
+use Rattle.vq_canonical_laws.proofs.StatementsSaid.{jobs_said}
+use Rattle.vq_model.specs.declared.script.Job.{Job}
+use Rattle.vq_canonical_laws.proofs.JobLines.{HoldJobs, holds_more}
 use Rattle.vq_canonical_laws.proofs.PartsSaid.{say_nothing, say_version, say_more}
 use Rattle.std.specs.Prelude.{Result}
 use Rattle.vq_model.specs.declared.statement.FaultKind.{FaultKind}
@@ -21,8 +26,8 @@ use Rattle.vq_model.specs.declared.statement.Statement.TheVariants.{HasVersion}
 use Rattle.vq_model.specs.Limits.{limits_of}
 use Rattle.vq_model.specs.Meaning.{meaning}
 use Rattle.vq_model.specs.LineFaults.{fault_of, ends_early}
-use Rattle.vq_model.specs.Reading.{with_line, without_fault, read_statement, read_line, read_lines, go_on, StandsFor}
-use Rattle.vq_reading_laws.proofs.Cited.{has_meaning, every_append}
+use Rattle.vq_model.specs.Reading.{with_line, without_fault, read_statement, read_line, read_lines, script_or_fault, go_on, StandsFor}
+use Rattle.vq_reading_laws.proofs.Cited.{has_meaning, every_append, plain_unscheduled}
 use Rattle.vq_canonical_laws.proofs.FollowingLines.{may_follow}
 use Rattle.vq_canonical_laws.proofs.OrderedBatches.{ordered_more}
 use Rattle.vq_model.specs.declared.statement.FaultKind.TheVariants.{Syntax}
@@ -43,11 +48,12 @@ record SayOrdered (before : List Line) : Type 0 where
   say : Say before said
   ordered : IsOrdered said
   items : HasItems said
+  holds : HoldJobs before said
 
 -- lines that say the version alone, or nothing
 version_ordered : (before : List Line) (v : ℕ) → IsVersion v → Say before (no_parts v) →
-    SayOrdered before
-version_ordered before v is say =
+    HoldJobs before (no_parts v) → SayOrdered before
+version_ordered before v is say holds =
     record {
       said = no_parts v;
       say = say;
@@ -59,6 +65,7 @@ version_ordered before v is say =
         batches_last = refl;
       };
       items = no_items v;
+      holds = holds;
     }
 
 same_lines : (a b : List Line) → ◌≡◌ {A = Result (List Line) FaultKind} (Ok a) (Ok b) → a ≡ b
@@ -96,6 +103,7 @@ text_more form before n words s e m (inl k) =
         say = say_more before n k.said k.say s may;
         ordered = ordered_more k.said k.ordered s may;
         items = items_more k.said s k.items may;
+        holds = holds_more before n k.said k.say k.holds s may;
       })
       | inr other ↦ elim other [
         | inl begins ↦ inr (subst (λ (z : Statement). SayScheduled (with_line before n z))
@@ -111,7 +119,7 @@ text_more form before n words s e m (inl k) =
             }))
         | inr names ↦ inl (subst (λ (z : List Line × Statement). SayOrdered (with_line z.0 n z.1))
             (λ i. (sym names.1 i, sym names.0 i))
-            (version_ordered (with_line [] n (HasVersion 2)) 2 (inr refl) (say_version n)))
+            (version_ordered (with_line [] n (HasVersion 2)) 2 (inr refl) (say_version n) refl))
       ]
     ]
 text_more form before n words s e m (inr k) =
@@ -281,6 +289,42 @@ text_has_parts text form s h = by_result (read_lines form [] 1 (lines_of text)) 
         read_lines form [] 1 (lines_of text) ≡ r → of_lines r ≡ Ok s → HasParts s
     by_result (Ok lines) e h =
         let k = ordered_lines form [] 1 (lines_of text) lines
-        (inl (version_ordered [] 1 (inl refl) say_nothing)) e in
+        (inl (version_ordered [] 1 (inl refl) say_nothing refl)) e in
         subst HasParts (same_script (script_of lines) s h) (by_text lines k.0 k.1)
     by_result (Err fault) e h = absurd (cc)
+
+-- The lines from the first job on hold the statements of the jobs in their order.
+pub read_jobs_said : (text : List ℕ) (lines : List Line) → read_lines Plain [] 1 (lines_of text) ≡ Ok lines →
+    map (λ line. line.statement) (lines_from_job lines) ≡ flat_map statements_of_job (jobs_of lines)
+read_jobs_said text lines h =
+    let plain = (plain_unscheduled text (script_of lines) (ap script_or_fault h)).unscheduled in
+    let k = ordered_lines Plain [] 1 (lines_of text) lines
+    (inl (version_ordered [] 1 (inl refl) say_nothing refl)) h in
+    elim k.0 [
+      | inl said ↦ of_said said (no_batch said.said.batch (ap ends (sym said.say.part) ∙ k.1))
+      | inr scheduled ↦ absurd (false≢true (sym plain ∙ scheduled.say.scheduled))
+    ]
+  where
+    ends : Section → Bool
+    ends InBatch = true
+    ends other = false
+
+    no_batch : (b : Option Told) → ends (part_of_batch b) ≡ false → b ≡ None
+    no_batch None e = refl
+    no_batch (Some t) e = absurd (false≢true (sym e))
+
+    of_said : (k : SayOrdered lines) → k.said.batch ≡ None →
+        statements_in (lines_from_job lines) ≡ flat_map statements_of_job (jobs_of lines)
+    of_said k closed =
+        let p : Parts = k.said in
+        let all : batch_statements p.jobs p.batch ≡ flat_map job_statements p.jobs =
+        ap (batch_statements p.jobs) closed ∙ append-nil (flat_map job_statements p.jobs) in
+        let lead : Leads (declarations p.version p.buffers p.semaphores p.queues) (flat_map job_statements p.jobs) p =
+        subst (λ (xs : List Statement). Leads (declarations p.version p.buffers p.semaphores p.queues) xs p) all
+        k.ordered.batches_last in
+        let jobs : map job_without_lines (jobs_of lines) ≡ map a_job p.jobs =
+        ap (λ (s : Script). s.jobs) (said_script lines p k.say closed) in
+        k.holds
+        ∙ (all
+        ∙ (jobs_again p.version p.buffers p.semaphores p.queues [] p.jobs p k.items.closed lead
+        ∙ (ap (λ (js : List Job). flat_map statements_of_job js) (sym jobs) ∙ jobs_said (jobs_of lines))))

@@ -6,9 +6,11 @@ use Rattle.vq_model.specs.declared.statement.FaultKind.{FaultKind}
 use Rattle.vq_model.specs.declared.statement.Form.{Form}
 use Rattle.vq_model.specs.declared.statement.Line.{Line}
 use Rattle.vq_model.specs.declared.statement.LineForm.TheVariants.{VersionLine}
+use Rattle.vq_model.specs.declared.statement.Statement.{Statement}
 use Rattle.vq_model.specs.declared.statement.Statement.TheVariants.{HasVersion}
 use Rattle.vq_model.specs.Canonical.{version_words}
 use Rattle.vq_model.specs.Reading.{with_line, read_statement, read_lines, go_on}
+use Rattle.vq_canonical_laws.specs.CanonicalStatements.{numbered, version_statements}
 use Rattle.vq_canonical_laws.proofs.LineTests.{PassesTests, read_tested}
 use Rattle.vq_canonical_laws.proofs.LineWords.{ReadsAs}
 use Rattle.vq_canonical_laws.proofs.PartsSaid.{say_nothing, say_version}
@@ -53,6 +55,8 @@ pub record ReadsVersion (form : Form) (v : ℕ) (rest : List (List ℕ)) : Type 
   pub reads : read_lines form [] 1 (map (join_with_byte 32) (version_words v) ++ rest)
       ≡ read_lines form lines next rest
   pub say : Say lines (no_parts v)
+  pub are_numbered : (statements : List Statement) →
+      lines ++ numbered next statements ≡ numbered 1 (version_statements v ++ statements)
 
 pub version_read : (form : Form) (v : ℕ) (rest : List (List ℕ)) → IsVersion v → ReadsVersion form v rest
 version_read form v rest is =
@@ -64,6 +68,7 @@ version_read form v rest is =
         next = 1;
         reads = refl;
         say = say_nothing;
+        are_numbered = λ statements. refl;
       })
       | inr second ↦ subst (λ (k : ℕ). ReadsVersion form k rest) (sym second) (record {
         are_words = refl;
@@ -75,6 +80,7 @@ version_read form v rest is =
             (ap (read_statement form [] 1) (words_back second_words (second_reads form).are_words)
             ∙ (second_reads form).reads 1);
         say = say_version 1;
+        are_numbered = λ statements. refl;
       })
     ]
 

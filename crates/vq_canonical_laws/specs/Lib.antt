@@ -1,2 +1,3 @@
 pub mod FormatRules
 pub mod AddedJobs
+pub mod CanonicalStatements

@@ -1,11 +1,17 @@
 //! Laws over canonical texts. The functions do nothing: their contracts are the laws.
-ghost use Rattle.std.specs.Prelude.{◌≡◌, ◌++◌, List, codes};
+ghost use Rattle.std.specs.Prelude.{ℕ, ◌≡◌, ◌++◌, List, [], length, map, Ok, codes};
+ghost use Rattle.std.specs.List.{flat_map};
+ghost use Rattle.vq_model.specs.declared.statement.Line.{Line};
+ghost use Rattle.vq_model.specs.ScriptOfLines.{jobs_of};
 ghost use Rattle.vq_model.specs.declared.script.Job.{Job};
 ghost use Rattle.vq_model.specs.declared.script.Queue.{Queue};
 ghost use Rattle.vq_model.specs.declared.script.Script.{Script};
 ghost use Rattle.vq_model.specs.SameScript.{SameButLines, IsRead, IsScript};
-ghost use Rattle.vq_model.specs.Canonical.{canonical_text, form_of_script};
-ghost use Rattle.vq_model.specs.Reading.{StandsFor};
+ghost use Rattle.vq_model.specs.Canonical.{canonical_lines, canonical_text, form_of_script};
+ghost use Rattle.vq_model.specs.Reading.{StandsFor, read_lines};
+ghost use Rattle.vq_model.specs.Text.{lines_of};
+ghost use Rattle.vq_model.specs.declared.statement.Form.TheVariants.{Plain};
+ghost use Rattle.vq_canonical_laws.specs.CanonicalStatements.{lines_from_job, numbered, statements_of_job, statements_of_script};
 ghost use Rattle.vq_model.specs.ValidScripts.{IsUnscheduled};
 ghost use Rattle.vq_canonical_laws.specs.AddedJobs.{with_more, MayBeAdded};
 ghost use Rattle.vq_canonical_laws.specs.FormatRules.{KeepsRules};
@@ -20,6 +26,22 @@ pub fn canonical_text_reads_back()
     ensures { (s : Script) → IsScript s →
         (read : Script) × StandsFor (canonical_text s) (form_of_script s) read
         × SameButLines read s }
+{}
+
+/// The lines of the canonical text of a script without a schedule are its statements, buffers before semaphores, queues
+/// and jobs, numbered from 1 on.
+pub fn canonical_lines_are_numbered()
+    ensures read { (s : Script) → IsScript s → IsUnscheduled s →
+        read_lines Plain [] 1 (lines_of (canonical_text s)) ≡ Ok (numbered 1 (statements_of_script s)) }
+    ensures counted { (s : Script) → IsUnscheduled s →
+        length (statements_of_script s) ≡ length (canonical_lines s) }
+{}
+
+/// The lines of a text from the first job on hold the statements of its jobs: of each its first line, the waits, the
+/// commands, the signals, the fence and the last line, in this order.
+pub fn job_lines_hold_their_statements()
+    ensures { (text : List ℕ) → (lines : List Line) → read_lines Plain [] 1 (lines_of text) ≡ Ok lines →
+        map (λ line. line.statement) (lines_from_job lines) ≡ flat_map statements_of_job (jobs_of lines) }
 {}
 
 /// Scripts that can be written have the same canonical text only where they are the same up to line
