@@ -1,1 +1,2 @@
 pub mod WithoutBlocks
+pub mod Renumbered

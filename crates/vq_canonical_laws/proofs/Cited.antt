@@ -2,6 +2,7 @@
 pub use Rattle.vq_canonical_laws.proofs.AddedScripts.{added_is_written}
 pub use Rattle.vq_canonical_laws.proofs.CanonicalReads.{canonical_reads_back, read_is_written}
 pub use Rattle.vq_canonical_laws.proofs.FittingScripts.{ruled_is_written}
+pub use Rattle.vq_canonical_laws.proofs.JobLines.{from_job_cons}
 pub use Rattle.vq_canonical_laws.proofs.NumberedLines.{canonical_numbered}
 pub use Rattle.vq_canonical_laws.proofs.OrderedReads.{read_jobs_said}
 pub use Rattle.vq_canonical_laws.proofs.StatementsSaid.{statements_counted}

@@ -11,7 +11,8 @@ ghost use Rattle.vq_model.specs.Canonical.{canonical_lines, canonical_text, form
 ghost use Rattle.vq_model.specs.Reading.{StandsFor, read_lines};
 ghost use Rattle.vq_model.specs.Text.{lines_of};
 ghost use Rattle.vq_model.specs.declared.statement.Form.TheVariants.{Plain};
-ghost use Rattle.vq_canonical_laws.specs.CanonicalStatements.{lines_from_job, numbered, statements_of_job, statements_of_script};
+ghost use Rattle.vq_canonical_laws.specs.CanonicalStatements.{numbered, statements_of_script};
+ghost use Rattle.vq_canonical_laws.specs.CanonicalStatements.{lines_from_job, statements_of_job};
 ghost use Rattle.vq_model.specs.ValidScripts.{IsUnscheduled};
 ghost use Rattle.vq_canonical_laws.specs.AddedJobs.{with_more, MayBeAdded};
 ghost use Rattle.vq_canonical_laws.specs.FormatRules.{KeepsRules};

@@ -1,0 +1,8 @@
+use Rattle.vq_block_laws.proofs.CompiledOrigins.{compiled_origins, origins_counted}
+use Rattle.vq_block_laws.proofs.laws.compiled_lines_come_from_the_input.Goals as goal
+
+pub returns-clause-numbers : goal.returns-clause-numbers
+returns-clause-numbers c = compiled_origins
+
+pub returns-clause-counted : goal.returns-clause-counted
+returns-clause-counted c = origins_counted
