@@ -1,6 +1,6 @@
 -- Each line of a compiled script comes from the line of the input that its origin says.
-use Rattle.std.proofs.Common.{ℕ, ◌≡◌, ◌-◌, List, [], length, map, Ok, sym, ap, ◌∙◌}
-use Rattle.std.specs.Prelude.{Result, slice_index}
+use Rattle.std.proofs.Common.{ℕ, ◌≡◌, List, [], ◌++◌, length, map, Ok, sym, ap, ◌∙◌}
+use Rattle.std.specs.Prelude.{Result}
 use Rattle.std.proofs.lemmas.List.{length-map}
 use Rattle.vq_model.specs.declared.script.Script.{Script}
 use Rattle.vq_model.specs.declared.script.Turn.{Turn}
@@ -19,12 +19,12 @@ use Rattle.vq_canonical_laws.specs.CanonicalStatements.{lines_from_job, numbered
 use Rattle.vq_canonical_laws.proofs.Cited.{canonical_numbered, read_jobs_said, statements_counted}
 use Rattle.vq_blocks.specs.BlockReading.{Tells}
 use Rattle.vq_blocks.specs.Blocks.{Told}
-use Rattle.vq_blocks.specs.Compiled.{origins, script_by_input}
-use Rattle.vq_block_laws.specs.Renumbered.{turn_renumbered, with_numbers}
+use Rattle.vq_blocks.specs.Compiled.{job_lines_in, origins, script_by_input}
+use Rattle.vq_block_laws.specs.Renumbered.{lines_with_numbers, nth_of, turn_renumbered, with_numbers}
 use Rattle.vq_block_laws.specs.WithoutBlocks.{without_blocks}
 use Rattle.vq_block_laws.proofs.CompiledScripts.{compiled_is_written, rest_is_read, rest_stands}
-use Rattle.vq_block_laws.proofs.OriginLines.{origin_lines, origins_numbered, origins_said, buffers_are, semaphores_are, queues_are, jobs_are}
-use Rattle.vq_block_laws.proofs.RenumberedLines.{restored, script_changed, with_number}
+use Rattle.vq_block_laws.proofs.OriginLines.{front_lines, origin_lines, rest_behind, origins_numbered, origins_said, buffers_are, semaphores_are, queues_are, jobs_are}
+use Rattle.vq_block_laws.proofs.RenumberedLines.{restored, script_changed}
 
 module _ (text : List ℕ) (told : Told) (h : Tells text told) where
   -- the lines of the rest from the first job on hold its jobs' statements
@@ -46,11 +46,10 @@ module _ (text : List ℕ) (told : Told) (h : Tells text told) where
       ∙ ap (λ (xs : List Statement). Ok (numbered 1 xs)) (sym (origins_said told held))
 
   -- they have the numbers of the input by the list of origins
-  lines_restored : map (with_number (λ n. slice_index (origins told) (n - 1)))
-      (numbered 1 (map (λ line. line.statement) (origin_lines told)))
+  lines_restored : lines_with_numbers (origins told) (numbered 1 (map (λ line. line.statement) (origin_lines told)))
       ≡ origin_lines told
   lines_restored =
-      ap (λ (ns : List ℕ). map (with_number (λ n. slice_index ns (n - 1)))
+      ap (λ (ns : List ℕ). lines_with_numbers ns
       (numbered 1 (map (λ (line : Line). line.statement) (origin_lines told))))
       (sym (origins_numbered told))
       ∙ restored (origin_lines told)
@@ -62,7 +61,7 @@ module _ (text : List ℕ) (told : Told) (h : Tells text told) where
         ap (with_numbers (origins told))
         (same_script script (script_of (numbered 1 (map (λ (line : Line). line.statement) (origin_lines told))))
         (sym stands ∙ ap script_or_fault lines_read))
-        ∙ (script_changed (λ n. slice_index (origins told) (n - 1))
+        ∙ (script_changed (nth_of (origins told))
         (numbered 1 (map (λ (line : Line). line.statement) (origin_lines told)))
         ∙ ap script_of lines_restored)
       where
@@ -78,7 +77,7 @@ module _ (text : List ℕ) (told : Told) (h : Tells text told) where
         sym (ap (λ (s : Script). s.scheduled) numbers_restored) ∙ (own.unscheduled ∙ sym rest_plain.unscheduled) in
         let turns : (script_of (origin_lines told)).turns ≡ (script_of told.rest).turns =
         sym (ap (λ (s : Script). s.turns) numbers_restored)
-        ∙ (ap (λ (ts : List Turn). map (turn_renumbered (λ n. slice_index (origins told) (n - 1))) ts) own.turns
+        ∙ (ap (λ (ts : List Turn). map (turn_renumbered (nth_of (origins told))) ts) own.turns
         ∙ sym rest_plain.turns) in
         numbers_restored
         ∙ (λ i.
@@ -91,6 +90,21 @@ module _ (text : List ℕ) (told : Told) (h : Tells text told) where
           scheduled = scheduled i;
           turns = turns i;
         })
+
+  -- With them in place of their numbers, the last of the lines read are those of the rest from the first job on.
+  pub rest_restored : (lines : List Line) →
+      read_lines Plain [] 1 (lines_of (canonical_text (script_by_input told))) ≡ Ok lines →
+      (front : List Line) × (lines_with_numbers (origins told) lines ≡ front ++ job_lines_in told.rest)
+  rest_restored lines read = (
+    front_lines told,
+    ap (lines_with_numbers (origins told))
+        (same_lines lines (numbered 1 (map (λ (line : Line). line.statement) (origin_lines told)))
+        (sym read ∙ lines_read))
+        ∙ (lines_restored ∙ rest_behind told),
+  )
+    where
+      same_lines : (a b : List Line) → ◌≡◌ {A = Result (List Line) (ℕ × FaultKind)} (Ok a) (Ok b) → a ≡ b
+      same_lines a b e = cc
 
   -- There is one for each line of the canonical text.
   pub origins_counted : length (origins told) ≡ length (canonical_lines (script_by_input told))

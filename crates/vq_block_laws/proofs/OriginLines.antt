@@ -189,6 +189,15 @@ module _ (told : Told) where
   abbrev pub origin_lines : List Line
   origin_lines = a_line (version_line told.rest) (HasVersion 2) ∷ (declaring ++ of_jobs)
 
+  -- those before the rest's jobs, and the rest's jobs behind them
+  abbrev pub front_lines : List Line
+  front_lines = a_line (version_line told.rest) (HasVersion 2) ∷ (declaring ++ of_steps)
+
+  pub rest_behind : origin_lines ≡ front_lines ++ lines_from_job told.rest
+  rest_behind =
+      ap (λ (ls : List Line). a_line (version_line told.rest) (HasVersion 2) ∷ ls)
+      (sym (append_assoc declaring of_steps (lines_from_job told.rest)))
+
   -- Numbers
 
   declaring_numbered : map (λ line. line.number) declaring

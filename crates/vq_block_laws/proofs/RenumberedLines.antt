@@ -13,7 +13,7 @@ use Rattle.vq_model.specs.Context.{buffer_of, semaphore_of, queue_of, is_end, so
 use Rattle.vq_model.specs.ScriptOfLines.{batch_lines, command_of, fence_of, first_of_list, is_schedule, job_at, jobs_of, script_of, signal_of, turns_at, wait_of}
 use Rattle.vq_reading_laws.proofs.Cited.{a_line, batch_lines_cons}
 use Rattle.vq_canonical_laws.specs.CanonicalStatements.{numbered}
-use Rattle.vq_block_laws.specs.Renumbered.{buffer_renumbered, command_renumbered, job_renumbered, mark_renumbered, queue_renumbered, renumbered, semaphore_renumbered, turn_renumbered}
+use Rattle.vq_block_laws.specs.Renumbered.{line_renumbered, lines_with_numbers, nth_of, buffer_renumbered, command_renumbered, job_renumbered, mark_renumbered, queue_renumbered, renumbered, semaphore_renumbered, turn_renumbered}
 
 -- Lists
 
@@ -32,15 +32,11 @@ copies_changed g zero x = refl
 copies_changed g (suc count) x = ap (λ (xs : List _). g x ∷ xs) (copies_changed g count x)
 
 module _ (number : ℕ → ℕ) where
-  -- a line with another number
-  abbrev pub with_number : Line → Line
-  with_number line = record line { number = number line.number }
-
   -- Parts
 
   part_changed : {A : Type 0} (part : Line → Option A) (g : A → A) →
-      ((line : Line) → option_map g (part line) ≡ part (with_number line)) → (lines : List Line) →
-      map g (filter_map part lines) ≡ filter_map part (map with_number lines)
+      ((line : Line) → option_map g (part line) ≡ part (line_renumbered number line)) → (lines : List Line) →
+      map g (filter_map part lines) ≡ filter_map part (map (line_renumbered number) lines)
   part_changed part g same [] = refl
   part_changed part g same (line ∷ lines) =
       option_changed g (part line) (filter_map part lines)
@@ -83,22 +79,24 @@ module _ (number : ℕ → ℕ) where
 
   -- Jobs
 
-  batch_changed : (lines : List Line) → batch_lines (map with_number lines) ≡ map with_number (batch_lines lines)
+  batch_changed : (lines : List Line) →
+      batch_lines (map (line_renumbered number) lines) ≡ map (line_renumbered number) (batch_lines lines)
   batch_changed [] = refl
   batch_changed (line ∷ lines) =
-      batch_lines_cons (with_number line) (map with_number lines)
+      batch_lines_cons (line_renumbered number line) (map (line_renumbered number) lines)
       ∙ (by_test (is_end line.statement) (batch_changed lines)
-      ∙ ap (map with_number) (sym (batch_lines_cons line lines)))
+      ∙ ap (map (line_renumbered number)) (sym (batch_lines_cons line lines)))
     where
-      by_test : (b : Bool) → batch_lines (map with_number lines) ≡ map with_number (batch_lines lines) →
-          cond b [] (with_number line ∷ batch_lines (map with_number lines))
-          ≡ map with_number (cond b [] (line ∷ batch_lines lines))
+      by_test : (b : Bool) →
+          batch_lines (map (line_renumbered number) lines) ≡ map (line_renumbered number) (batch_lines lines) →
+          cond b [] (line_renumbered number line ∷ batch_lines (map (line_renumbered number) lines))
+          ≡ map (line_renumbered number) (cond b [] (line ∷ batch_lines lines))
       by_test true h = refl
-      by_test false h = ap (λ (ls : List Line). with_number line ∷ ls) h
+      by_test false h = ap (λ (ls : List Line). line_renumbered number line ∷ ls) h
 
   job_changed : (n : ℕ) (s : Statement) (lines : List Line) →
       option_map (job_renumbered number) (job_at (a_line n s) lines)
-      ≡ job_at (a_line (number n) s) (map with_number lines)
+      ≡ job_at (a_line (number n) s) (map (line_renumbered number) lines)
   job_changed n (BeginBatch q) lines =
       let own = batch_lines lines in
       let marks = mark_renumbered number in
@@ -126,7 +124,8 @@ module _ (number : ℕ → ℕ) where
   job_changed n (TakeHostStep step) lines = refl
   job_changed n s lines = refl
 
-  jobs_changed : (lines : List Line) → map (job_renumbered number) (jobs_of lines) ≡ jobs_of (map with_number lines)
+  jobs_changed : (lines : List Line) →
+      map (job_renumbered number) (jobs_of lines) ≡ jobs_of (map (line_renumbered number) lines)
   jobs_changed [] = refl
   jobs_changed (line ∷ lines) =
       option_changed (job_renumbered number) (job_at line lines) (jobs_of lines)
@@ -134,7 +133,8 @@ module _ (number : ℕ → ℕ) where
 
   -- Schedules
 
-  schedule_changed : (lines : List Line) → some is_schedule lines ≡ some is_schedule (map with_number lines)
+  schedule_changed : (lines : List Line) →
+      some is_schedule lines ≡ some is_schedule (map (line_renumbered number) lines)
   schedule_changed [] = refl
   schedule_changed (line ∷ lines) = ap (λ (b : Bool). is_schedule line.statement || b) (schedule_changed lines)
 
@@ -145,19 +145,19 @@ module _ (number : ℕ → ℕ) where
   turn_changed n s = refl
 
   turns_changed : (lines : List Line) →
-      map (turn_renumbered number) (flat_map turns_at lines) ≡ flat_map turns_at (map with_number lines)
+      map (turn_renumbered number) (flat_map turns_at lines) ≡ flat_map turns_at (map (line_renumbered number) lines)
   turns_changed [] = refl
   turns_changed (line ∷ lines) =
       map-append (turn_renumbered number) (turns_at line) (flat_map turns_at lines)
       ∙ (λ i. turn_changed line.number line.statement i ++ turns_changed lines i)
 
-  version_changed : (lines : List Line) → version_of lines ≡ version_of (map with_number lines)
+  version_changed : (lines : List Line) → version_of lines ≡ version_of (map (line_renumbered number) lines)
   version_changed [] = refl
   version_changed (line ∷ lines) = refl
 
   -- The script of lines with other numbers is the script with these numbers.
   pub script_changed : (lines : List Line) →
-      renumbered number (script_of lines) ≡ script_of (map with_number lines)
+      renumbered number (script_of lines) ≡ script_of (map (line_renumbered number) lines)
   script_changed lines = λ i.
       record {
         version = version_changed lines i;
@@ -175,7 +175,7 @@ module _ (number : ℕ → ℕ) where
 -- Lines that were numbered in their order have their own numbers again, by the list of these.
 
 restored_behind : (front : List ℕ) (n : ℕ) (lines : List Line) → n ≡ length front + 1 →
-    map (with_number (λ k. slice_index (front ++ map (λ line. line.number) lines) (k - 1)))
+    map (line_renumbered (nth_of (front ++ map (λ line. line.number) lines)))
     (numbered n (map (λ line. line.statement) lines))
     ≡ lines
 restored_behind front n [] e = refl
@@ -188,12 +188,10 @@ restored_behind front n (line ∷ lines) e =
     let more = restored_behind (front ++ line.number ∷ []) (n + 1) lines (omega arith) in
     λ i.
     a_line (here i) line.statement
-    ∷ subst (λ (ns : List ℕ). map (with_number (λ k. slice_index ns (k - 1)))
+    ∷ subst (λ (ns : List ℕ). map (line_renumbered (nth_of ns))
     (numbered (n + 1) (map (λ (l : Line). l.statement) lines)) ≡ lines)
     (append_assoc front (line.number ∷ []) own) more i
 
 pub restored : (lines : List Line) →
-    map (with_number (λ k. slice_index (map (λ line. line.number) lines) (k - 1)))
-    (numbered 1 (map (λ line. line.statement) lines))
-    ≡ lines
+    lines_with_numbers (map (λ line. line.number) lines) (numbered 1 (map (λ line. line.statement) lines)) ≡ lines
 restored lines = restored_behind [] 1 lines (omega arith)

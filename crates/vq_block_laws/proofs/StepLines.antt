@@ -140,9 +140,6 @@ module _ (queue : ℕ) where
   step_given : (x : ThreadLine) → GiveJobs (step_lines queue x) (batch_of_step queue x ∷ [])
   step_given x more = by_step x.step
     where
-      job_first : Statement → List Line → Job
-      job_first s lines = BatchJob (batch_of x.line queue (batch_lines lines))
-
       by_step : (step : ThreadStep) →
           jobs_of (step_lines queue (record { line = x.line; step = step }) ++ more)
           ≡ batch_of_step queue (record { line = x.line; step = step }) ∷ jobs_of more

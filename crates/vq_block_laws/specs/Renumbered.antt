@@ -10,6 +10,7 @@ use Rattle.vq_model.specs.declared.script.Queue.{Queue}
 use Rattle.vq_model.specs.declared.script.Script.{Script}
 use Rattle.vq_model.specs.declared.script.Semaphore.{Semaphore}
 use Rattle.vq_model.specs.declared.script.Turn.{Turn}
+use Rattle.vq_model.specs.declared.statement.Line.{Line}
 
 abbrev pub mark_renumbered : (ℕ → ℕ) → Mark → Mark
 mark_renumbered number m = record m { line = number m.line }
@@ -56,6 +57,17 @@ renumbered number s =
       turns = map (turn_renumbered number) s.turns;
     }
 
--- The script in which line n has the n-th number of a list, which is at place n - 1.
+-- a line with another number
+abbrev pub line_renumbered : (ℕ → ℕ) → Line → Line
+line_renumbered number line = record line { number = number line.number }
+
+-- The number that line n gets from a list: the n-th, at place n - 1.
+abbrev pub nth_of : List ℕ → ℕ → ℕ
+nth_of numbers n = slice_index numbers (n - 1)
+
+-- The script, and lines, in which line n has the n-th number of a list.
 abbrev pub with_numbers : List ℕ → Script → Script
-with_numbers numbers s = renumbered (λ n. slice_index numbers (n - 1)) s
+with_numbers numbers s = renumbered (nth_of numbers) s
+
+abbrev pub lines_with_numbers : List ℕ → List Line → List Line
+lines_with_numbers numbers lines = map (line_renumbered (nth_of numbers)) lines
