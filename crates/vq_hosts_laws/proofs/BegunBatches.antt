@@ -1,20 +1,30 @@
 -- Where lines begin a batch, its queue is one that was declared before.
-use Rattle.std.proofs.Common.{◌≡◌, ℕ, ◌<◌, Bool, true, false, cond, List, [], ◌∷◌, map, length, Option, Some, None, refl, sym, ap, ◌∙◌, arith}
+use Rattle.std.proofs.Common.{◌≡◌, ℕ, ◌<◌, Bool, true, false, cond, List, [], ◌∷◌, map, length, Option, Some, None}
+use Rattle.std.proofs.Common.{refl, sym, ◌∙◌, arith}
 use Rattle.std.specs.Prelude.{nat_lt}
 use Rattle.std.specs.List.{position, position_or_len}
 use Rattle.std.specs.Option.{option_map, option_and_then}
 use Rattle.std.proofs.lemmas.Bool.{ltb-true}
-use Rattle.vq_model.specs.declared.script.ActorName.{ActorName}
 use Rattle.vq_model.specs.declared.script.Queue.{Queue}
 use Rattle.vq_model.specs.declared.statement.Form.{Form}
 use Rattle.vq_model.specs.declared.statement.Line.{Line}
 use Rattle.vq_model.specs.declared.statement.LineForm.{LineForm}
-use Rattle.vq_model.specs.declared.statement.LineForm.TheVariants.{VersionLine, BufferLine, TimelineLine, BinaryLine, FenceLine, QueueLine, SubmitLine, HostSignalLine, HostWaitAllLine, HostWaitAnyLine, HostPollAllLine, HostPollAnyLine, HostReadLine, HostFenceWaitLine, HostFencePollLine, HostFenceResetLine, HostIdleLine, ScheduleLine, WaitTimelineLine, WaitBinaryLine, HeldTimelineLine, HeldBinaryLine, FillWholeLine, FillLine, UpdateLine, CopyLine, SignalTimelineLine, SignalBinaryLine, BatchFenceLine, EndLine, TurnLine, TurnsLine}
+use Rattle.vq_model.specs.declared.statement.LineForm.TheVariants.{VersionLine, BufferLine, TimelineLine, BinaryLine}
+use Rattle.vq_model.specs.declared.statement.LineForm.TheVariants.{FenceLine, QueueLine, SubmitLine, HostSignalLine}
+use Rattle.vq_model.specs.declared.statement.LineForm.TheVariants.{HostWaitAllLine, HostWaitAnyLine, HostPollAllLine}
+use Rattle.vq_model.specs.declared.statement.LineForm.TheVariants.{HostPollAnyLine, HostReadLine, HostFenceWaitLine}
+use Rattle.vq_model.specs.declared.statement.LineForm.TheVariants.{HostFencePollLine, HostFenceResetLine}
+use Rattle.vq_model.specs.declared.statement.LineForm.TheVariants.{HostIdleLine, ScheduleLine, WaitTimelineLine}
+use Rattle.vq_model.specs.declared.statement.LineForm.TheVariants.{WaitBinaryLine, HeldTimelineLine, HeldBinaryLine}
+use Rattle.vq_model.specs.declared.statement.LineForm.TheVariants.{FillWholeLine, FillLine, UpdateLine, CopyLine}
+use Rattle.vq_model.specs.declared.statement.LineForm.TheVariants.{SignalTimelineLine, SignalBinaryLine}
+use Rattle.vq_model.specs.declared.statement.LineForm.TheVariants.{BatchFenceLine, EndLine, TurnLine, TurnsLine}
 use Rattle.vq_model.specs.declared.statement.Statement.{Statement}
 use Rattle.vq_model.specs.declared.statement.Statement.TheVariants.{BeginBatch}
 use Rattle.vq_model.specs.Context.{queues, number_at}
 use Rattle.vq_model.specs.Forms.{Slot, QueueName, BufferName, TimelineName, BinaryName, FenceName, places}
-use Rattle.vq_model.specs.Meaning.{of_two, of_three, of_four, of_five, pair_at, pairs_at, actor_at, small_numeral, hex_bytes, open_places, form_of, statement_of, meaning}
+use Rattle.vq_model.specs.Meaning.{of_two, of_three, of_four, of_five, pair_at, pairs_at, actor_at, small_numeral}
+use Rattle.vq_model.specs.Meaning.{open_places, form_of, statement_of, meaning}
 use Rattle.vq_model.specs.Text.{numeral}
 
 -- the queue of the batch that a statement begins
@@ -28,23 +38,30 @@ begun_by o = option_and_then begun o
 
 -- statements of one argument or more that begin no batch
 
-one : {A : Type 0} (f : A → Statement) → ((x : A) → begun (f x) ≡ None) → (o : Option A) → begun_by (option_map f o) ≡ None
+one : {A : Type 0} (f : A → Statement) → ((x : A) → begun (f x) ≡ None) → (o : Option A) → begun_by (option_map f o)
+    ≡ None
 one f never None = refl
 one f never (Some x) = never x
 
-two : {A B : Type 0} (f : A → B → Statement) → ((x : A) (y : B) → begun (f x y) ≡ None) → (a : Option A) (b : Option B) → begun_by (of_two f a b) ≡ None
+two : {A B : Type 0} (f : A → B → Statement) → ((x : A) (y : B) → begun (f x y) ≡ None) →
+    (a : Option A) (b : Option B) → begun_by (of_two f a b) ≡ None
 two f never None b = refl
 two f never (Some x) b = one (f x) (never x) b
 
-three : {A B C : Type 0} (f : A → B → C → Statement) → ((x : A) (y : B) (z : C) → begun (f x y z) ≡ None) → (a : Option A) (b : Option B) (c : Option C) → begun_by (of_three f a b c) ≡ None
+three : {A B C : Type 0} (f : A → B → C → Statement) → ((x : A) (y : B) (z : C) → begun (f x y z) ≡ None) →
+    (a : Option A) (b : Option B) (c : Option C) → begun_by (of_three f a b c) ≡ None
 three f never None b c = refl
 three f never (Some x) b c = two (f x) (never x) b c
 
-four : {A B C D : Type 0} (f : A → B → C → D → Statement) → ((x : A) (y : B) (z : C) (u : D) → begun (f x y z u) ≡ None) → (a : Option A) (b : Option B) (c : Option C) (d : Option D) → begun_by (of_four f a b c d) ≡ None
+four : {A B C D : Type 0} (f : A → B → C → D → Statement) →
+    ((x : A) (y : B) (z : C) (u : D) → begun (f x y z u) ≡ None) →
+    (a : Option A) (b : Option B) (c : Option C) (d : Option D) → begun_by (of_four f a b c d) ≡ None
 four f never None b c d = refl
 four f never (Some x) b c d = three (f x) (never x) b c d
 
-five : {A B C D E : Type 0} (f : A → B → C → D → E → Statement) → ((x : A) (y : B) (z : C) (u : D) (v : E) → begun (f x y z u v) ≡ None) → (a : Option A) (b : Option B) (c : Option C) (d : Option D) (e : Option E) → begun_by (of_five f a b c d e) ≡ None
+five : {A B C D E : Type 0} (f : A → B → C → D → E → Statement) →
+    ((x : A) (y : B) (z : C) (u : D) (v : E) → begun (f x y z u v) ≡ None) →
+    (a : Option A) (b : Option B) (c : Option C) (d : Option D) (e : Option E) → begun_by (of_five f a b c d e) ≡ None
 five f never None b c d e = refl
 five f never (Some x) b c d e = four (f x) (never x) b c d e
 
@@ -55,7 +72,8 @@ HasName number o = (q : ℕ) → o ≡ Some q → (name : List ℕ) × (number Q
 no_name : (number : Slot → List ℕ → Option ℕ) (o : Option ℕ) → o ≡ None → HasName number o
 no_name number o e q h = absurd (let c : None ≡ Some q = sym e ∙ h in cc)
 
-named : (number : Slot → List ℕ → Option ℕ) (form : LineForm) (words : List (List ℕ)) → HasName number (begun_by (statement_of number form words))
+named : (number : Slot → List ℕ → Option ℕ) (form : LineForm) (words : List (List ℕ)) →
+    HasName number (begun_by (statement_of number form words))
 named number VersionLine [] = no_name number None refl
 named number VersionLine words = no_name number None refl
 named number BufferLine (a ∷ b ∷ []) = no_name number _ (one _ (λ x. refl) (numeral b))
@@ -100,13 +118,17 @@ named number HeldTimelineLine (a ∷ b ∷ c ∷ []) = no_name number _ (two _ (
 named number HeldTimelineLine words = no_name number None refl
 named number HeldBinaryLine (a ∷ b ∷ []) = no_name number _ (two _ (λ x y. refl) (number BinaryName a) (numeral b))
 named number HeldBinaryLine words = no_name number None refl
-named number FillWholeLine (a ∷ b ∷ c ∷ []) = no_name number _ (three _ (λ x y z. refl) (number BufferName a) (numeral b) (small_numeral c))
+named number FillWholeLine (a ∷ b ∷ c ∷ []) =
+    no_name number _ (three _ (λ x y z. refl) (number BufferName a) (numeral b) (small_numeral c))
 named number FillWholeLine words = no_name number None refl
-named number FillLine (a ∷ b ∷ c ∷ d ∷ []) = no_name number _ (four _ (λ x y z u. refl) (number BufferName a) (numeral b) (numeral c) (small_numeral d))
+named number FillLine (a ∷ b ∷ c ∷ d ∷ []) =
+    no_name number _ (four _ (λ x y z u. refl) (number BufferName a) (numeral b) (numeral c) (small_numeral d))
 named number FillLine words = no_name number None refl
 named number UpdateLine (a ∷ b ∷ c ∷ []) = no_name number _ (two _ (λ x y. refl) (number BufferName a) (numeral b))
 named number UpdateLine words = no_name number None refl
-named number CopyLine (a ∷ b ∷ c ∷ d ∷ e ∷ []) = no_name number _ (five _ (λ x y z u v. refl) (number BufferName a) (numeral b) (number BufferName c) (numeral d) (numeral e))
+named number CopyLine (a ∷ b ∷ c ∷ d ∷ e ∷ []) =
+    no_name number _ (five _ (λ x y z u v. refl) (number BufferName a) (numeral b) (number BufferName c) (numeral d)
+    (numeral e))
 named number CopyLine words = no_name number None refl
 named number SignalTimelineLine (a ∷ b ∷ []) = no_name number _ (one _ (λ x. refl) (pair_at number a b))
 named number SignalTimelineLine words = no_name number None refl
@@ -125,7 +147,8 @@ named number TurnsLine words = no_name number None refl
 within : (test : Queue → Bool) (qs : List Queue) (q : ℕ) → position test qs ≡ Some q → q < length qs
 within test qs q h = by_test (nat_lt (position_or_len test qs) (length qs)) refl h
   where
-    by_test : (b : Bool) → nat_lt (position_or_len test qs) (length qs) ≡ b → cond b (Some (position_or_len test qs)) None ≡ Some q → q < length qs
+    by_test : (b : Bool) → nat_lt (position_or_len test qs) (length qs) ≡ b →
+        cond b (Some (position_or_len test qs)) None ≡ Some q → q < length qs
     by_test true e h =
         let l = ltb-true (position_or_len test qs) (length qs) e in
         let same : position_or_len test qs ≡ q = cc in
@@ -133,10 +156,13 @@ within test qs q h = by_test (nat_lt (position_or_len test qs) (length qs)) refl
     by_test false e h = absurd (cc)
 
 -- The queue of a batch that a line begins is declared before.
-pub begins_declared : (form : Form) (before : List Line) (words : List (List ℕ)) (q : ℕ) → begun_by (meaning form before words) ≡ Some q → q < length (queues before)
+pub begins_declared : (form : Form) (before : List Line) (words : List (List ℕ)) (q : ℕ) →
+    begun_by (meaning form before words) ≡ Some q → q < length (queues before)
 begins_declared form before words q h = by_form (form_of form before words) h
   where
-    by_form : (o : Option LineForm) → begun_by (option_and_then (λ f. statement_of (number_at before) f (map (λ x. x.1) (open_places (places f) words))) o) ≡ Some q → q < length (queues before)
+    by_form : (o : Option LineForm) →
+        begun_by (option_and_then (λ f. statement_of (number_at before) f
+        (map (λ x. x.1) (open_places (places f) words))) o) ≡ Some q → q < length (queues before)
     by_form None h = absurd (let c : None ≡ Some q = h in cc)
     by_form (Some f) h =
         let n = named (number_at before) f (map (λ x. x.1) (open_places (places f) words)) q h in

@@ -1,6 +1,5 @@
 -- The script that a text with blocks is compiled to, but that its first batches have no lines.
-use Rattle.std.proofs.Common.{◌≡◌, ℕ, ◌+◌, List, [], ◌∷◌, ◌++◌, map, length, Option, None, refl, sym, ap, ◌∙◌, arith}
-use Rattle.std.specs.List.{flat_map, enumerate_from}
+use Rattle.std.proofs.Common.{◌≡◌, ℕ, ◌+◌, List, [], ◌∷◌, ◌++◌, map, length, None, refl, sym, ap, ◌∙◌, arith}
 use Rattle.vq_model.specs.declared.script.Job.{Job}
 use Rattle.vq_model.specs.declared.script.Job.TheVariants.{Batch as BatchJob}
 use Rattle.vq_model.specs.declared.script.Mark.{Mark}
@@ -12,7 +11,6 @@ use Rattle.vq_blocks.specs.declared.block.HostThread.{HostThread}
 use Rattle.vq_blocks.specs.declared.block.ThreadLine.{ThreadLine}
 use Rattle.vq_blocks.specs.declared.block.ThreadStep.{ThreadStep}
 use Rattle.vq_blocks.specs.declared.block.ThreadStep.TheVariants.{Wait, Signal}
-use Rattle.vq_blocks.specs.Blocks.{waited_by, signaled_by}
 use Rattle.vq_blocks.specs.Compiled.{queue_of_thread, batch_of_step, thread_jobs, with_threads}
 use Rattle.vq_blocks.specs.HostsRuns.{steps_in_order}
 use Rattle.vq_hosts_laws.proofs.SameLines.{map_map}
@@ -36,20 +34,32 @@ plain_script s threads =
     }
 
 -- the batch of a step, without its lines
-without_line : (queue : ℕ) (x : ThreadLine) → job_without_lines (batch_of_step queue x) ≡ job_without_lines (batch_of_step queue (record { line = 0; step = x.step }))
+without_line : (queue : ℕ) (x : ThreadLine) → job_without_lines (batch_of_step queue x)
+    ≡ job_without_lines (batch_of_step queue (record { line = 0; step = x.step }))
 without_line queue x = by_step x.step
   where
-    marks : (pairs : List Pair) → map mark_without_line (map (λ pair. mark x.line pair 1) pairs) ≡ map mark_without_line (map (λ pair. mark 0 pair 1) pairs)
+    marks : (pairs : List Pair) → map mark_without_line (map (λ pair. mark x.line pair 1) pairs)
+        ≡ map mark_without_line (map (λ pair. mark 0 pair 1) pairs)
     marks pairs =
         map_map mark_without_line (λ pair. mark x.line pair 1) pairs
         ∙ sym (map_map mark_without_line (λ pair. mark 0 pair 1) pairs)
 
-    by_step : (step : ThreadStep) → job_without_lines (batch_of_step queue (record { line = x.line; step = step })) ≡ job_without_lines (batch_of_step queue (record { line = 0; step = step }))
+    by_step : (step : ThreadStep) → job_without_lines (batch_of_step queue (record { line = x.line; step = step }))
+        ≡ job_without_lines (batch_of_step queue (record { line = 0; step = step }))
     by_step (Wait pairs) =
-        ap (λ (ms : List Mark). BatchJob (record { line = 0; queue = queue; waits = ms; commands = []; signals = []; fence = None })) (marks pairs)
+        ap (λ (ms : List Mark). BatchJob (record {
+          line = 0;
+          queue = queue;
+          waits = ms;
+          commands = [];
+          signals =
+              [];
+          fence = None;
+        })) (marks pairs)
     by_step (Signal pair) = refl
 
-own_batches : (first n : ℕ) (steps : List ThreadLine) → map job_without_lines (map (batch_of_step (first + n)) steps) ≡ map job_without_lines (map (plain_batch first) (map (λ line. (n, line.step)) steps))
+own_batches : (first n : ℕ) (steps : List ThreadLine) → map job_without_lines (map (batch_of_step (first + n)) steps)
+    ≡ map job_without_lines (map (plain_batch first) (map (λ line. (n, line.step)) steps))
 own_batches first n [] = refl
 own_batches first n (x ∷ steps) =
     ap (λ y. y ∷ map job_without_lines (map (batch_of_step (first + n)) steps)) (without_line (first + n) x)
@@ -59,24 +69,31 @@ map_parts : {A B : Type 0} (f : A → B) (xs ys : List A) → map f (xs ++ ys) �
 map_parts f [] ys = refl
 map_parts f (x ∷ xs) ys = ap (λ zs. f x ∷ zs) (map_parts f xs ys)
 
-batches_from : (first n : ℕ) (threads : List HostThread) → map job_without_lines (thread_jobs (first + n) threads) ≡ map job_without_lines (map (plain_batch first) (steps_from n threads))
+batches_from : (first n : ℕ) (threads : List HostThread) → map job_without_lines (thread_jobs (first + n) threads)
+    ≡ map job_without_lines (map (plain_batch first) (steps_from n threads))
 batches_from first n [] = refl
 batches_from first n (x ∷ threads) =
     let z : (first + n) + 1 ≡ first + (n + 1) = omega arith in
     map_parts job_without_lines (map (batch_of_step (first + n)) x.steps) (thread_jobs ((first + n) + 1) threads)
     ∙ (ap (λ ys. ys ++ map job_without_lines (thread_jobs ((first + n) + 1) threads)) (own_batches first n x.steps)
-    ∙ (ap (λ ys. map job_without_lines (map (plain_batch first) (numbered_steps (n, x))) ++ ys) (ap (λ m. map job_without_lines (thread_jobs m threads)) z ∙ batches_from first (n + 1) threads)
-    ∙ (sym (map_parts job_without_lines (map (plain_batch first) (numbered_steps (n, x))) (map (plain_batch first) (steps_from (n + 1) threads)))
-    ∙ ap (map job_without_lines) (sym (map_parts (plain_batch first) (numbered_steps (n, x)) (steps_from (n + 1) threads))))))
+    ∙ (ap (λ ys. map job_without_lines (map (plain_batch first) (numbered_steps (n, x))) ++ ys)
+    (ap (λ m. map job_without_lines (thread_jobs m threads)) z ∙ batches_from first (n + 1) threads)
+    ∙ (sym (map_parts job_without_lines (map (plain_batch first) (numbered_steps (n, x)))
+    (map (plain_batch first) (steps_from (n + 1) threads)))
+    ∙ ap (map job_without_lines) (sym (map_parts (plain_batch first) (numbered_steps (n, x))
+    (steps_from (n + 1) threads))))))
 
 -- The compiled script is the same but for lines.
-pub plain_is_compiled : (s : Script) (threads : List HostThread) → SameButLines (with_threads s threads) (plain_script s threads)
+pub plain_is_compiled : (s : Script) (threads : List HostThread) →
+    SameButLines (with_threads s threads) (plain_script s threads)
 plain_is_compiled s threads =
     ap (λ (jobs : List Job). record (without_lines (plain_script s threads)) { jobs = jobs }) jobs
   where
-    jobs : map job_without_lines (thread_jobs (length s.queues) threads ++ s.jobs) ≡ map job_without_lines (plain_batches (length s.queues) threads ++ s.jobs)
+    jobs : map job_without_lines (thread_jobs (length s.queues) threads ++ s.jobs)
+        ≡ map job_without_lines (plain_batches (length s.queues) threads ++ s.jobs)
     jobs =
         let z : length s.queues ≡ length s.queues + 0 = omega arith in
         map_parts job_without_lines (thread_jobs (length s.queues) threads) s.jobs
-        ∙ (ap (λ ys. ys ++ map job_without_lines s.jobs) (ap (λ m. map job_without_lines (thread_jobs m threads)) z ∙ batches_from (length s.queues) 0 threads)
+        ∙ (ap (λ ys. ys ++ map job_without_lines s.jobs) (ap (λ m. map job_without_lines (thread_jobs m threads)) z
+        ∙ batches_from (length s.queues) 0 threads)
         ∙ sym (map_parts job_without_lines (plain_batches (length s.queues) threads) s.jobs))

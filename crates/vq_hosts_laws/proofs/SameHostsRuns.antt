@@ -1,5 +1,5 @@
 -- The runs of several hosts are those of the plan of a compiled script.
-use Rattle.std.proofs.Common.{◌≡◌, sym, ◌∙◌, subst, ℕ, List}
+use Rattle.std.proofs.Common.{sym, ◌∙◌, subst, ℕ, List}
 use Rattle.std.proofs.lemmas.Bool.{false≢true}
 use Rattle.vq_model.specs.declared.script.Script.{Script}
 use Rattle.vq_model.specs.Lowering.{plan_of}
@@ -31,8 +31,8 @@ module _ (text : List ℕ) (told : Told) (script : Script) (tells : Tells text t
       ComesFrom (plan_of script) told.threads steps
   hosts_run_comes steps r =
       let k =
-          hosts_is_seen told (told_fit text told tells) steps (opening_state (plan_of plain)) (λ t. 0)
-          (keeps_opening told.threads) (λ j l h. absurd (false≢true h)) r
+      hosts_is_seen told (told_fit text told tells) steps (opening_state (plan_of plain)) (λ t. 0)
+      (keeps_opening told.threads) (λ j l h. absurd (false≢true h)) r
       in
       record { run = k.run; runs = same_runs plain script (sym same_plain) k.run k.runs; seen = k.seen_as }
 

@@ -2,12 +2,18 @@
 ghost use Rattle.std.specs.Prelude.{ℕ, List, ◌↔◌};
 ghost use Rattle.vq_model.specs.declared.script.Script.{Script};
 ghost use Rattle.vq_model.specs.Lowering.{plan_of};
+ghost use Rattle.vq_model.specs.Machine.{Step, Run};
 ghost use Rattle.vq_model.specs.SameScript.{SameButLines};
 ghost use Rattle.vq_blocks.specs.Blocks.{Told};
 ghost use Rattle.vq_blocks.specs.BlockReading.{Tells};
 ghost use Rattle.vq_blocks.specs.Compiled.{script_by_input};
 ghost use Rattle.vq_blocks.specs.HostsMachine.{HostsStep, HostsRun};
 ghost use Rattle.vq_blocks.specs.HostsRuns.{ComesFrom};
+
+/// Scripts that are the same but for the numbers of their lines have plans with the same runs.
+pub fn runs_ignore_lines()
+    ensures { (a b : Script) → (steps : List Step) → SameButLines a b → Run (plan_of a) steps ↔ Run (plan_of b) steps }
+{}
 
 /// A text with blocks has the runs of its compiled plan: a list of steps among several hosts is a run of the machine
 /// with several host threads exactly where it comes from a run of the plan of the script that the text is compiled to.
