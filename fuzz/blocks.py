@@ -10,7 +10,7 @@ import re
 from canonical import numbered
 from lowering import Refusal
 from outputs import Outputs
-from reference import DECLARATIONS, LIMIT, Fault, Reader, Script, lines_of, numeral, refused
+from reference import DECLARATIONS, LIMIT, Batch, Fault, Reader, Script, lines_of, numeral, refused
 
 OUTSIDE = [('thread', [b'thread', 'new'])]
 IN_THREAD = [
@@ -99,6 +99,22 @@ class BlockReader(Reader):
     def step(self, kind, words):
         self.another_job()
         super().step(kind, words)
+
+    def lower_threads(self):
+        """Makes each thread a queue and each of its lines a batch, all with the lines of the text; once it is read."""
+        batches = []
+        for thread in self.threads:
+            self.names[thread.name] = ('queue', len(self.queues))
+            for step in thread.steps:
+                batch = Batch(step.line, len(self.queues))
+                marks = [(step.line, self.names[name][1], value) for name, value in step.pairs]
+                if step.kind == 'wait':
+                    batch.waits, batch.held_from = marks, [1] * len(marks)
+                else:
+                    batch.signals = marks
+                batches.append(batch)
+            self.queues.append(b'threaded')
+        self.jobs = batches + self.jobs
 
     def another_job(self):
         if len(self.jobs) == MOST_OTHER_JOBS:

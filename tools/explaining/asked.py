@@ -1,14 +1,17 @@
 """A script whose order is explained: its plan, its order, and how its jobs and signals are called."""
 from lowering import Plan, Refusal
 from order import Order
-from reference import Reader
+from reading import read_whole
 
 
 class Asked:
-    def __init__(self, page, is_scheduled):
+    def __init__(self, page, word):
         self.page, self.at = page, page.at
-        self.reader = Reader(is_scheduled)
-        self.reader.read_all(page.draft.data())
+        self.reader = read_whole(page.draft.data(), word)
+        # The threads, of which each line is a batch here, and the lines of their blocks.
+        self.threads, self.block_lines = [], set()
+        if word == '--hosts':
+            self.threads, self.block_lines = self.reader.threads, self.reader.block_lines
         self.plan = Plan(self.reader)
         self.order = Order(self.plan)
         self.queues, self.buffers = ({number: name.decode() for name, (kind, number) in self.reader.names.items()
@@ -16,10 +19,11 @@ class Asked:
         # The first and the last line of each job.
         self.first = [job.line for job in self.plan.jobs]
         self.last = []
-        ends = [line for line, text in enumerate(page.lines, 1) if text.split('#')[0].split() == ['end']]
+        ends = [line for line, text in enumerate(page.lines, 1)
+                if text.split('#')[0].split() == ['end'] and line not in self.block_lines]
         ends.reverse()
-        for job in self.plan.jobs:
-            self.last.append(job.line if job.queue is None else ends.pop())
+        for j, job in enumerate(self.plan.jobs):
+            self.last.append(job.line if job.queue is None or self.is_of_thread(j) else ends.pop())
 
     # What things are called.
 
@@ -27,6 +31,8 @@ class Asked:
         job = self.plan.jobs[j]
         if job.queue is None:
             return f'`{job.kind}` of line {self.at(job.line)}'
+        if self.is_of_thread(j):
+            return f'line {self.at(job.line)} of the thread {self.queues[job.queue]}'
         return f'the batch of {self.queues[job.queue]} at line {self.at(job.line)}'
 
     def signal(self, e):
@@ -45,6 +51,24 @@ class Asked:
         return next(j for j in range(len(self.first)) if self.first[j] <= line <= self.last[j])
 
     # What is where.
+
+    @property
+    def first_line(self):
+        """Where a declaration may be put in."""
+        return self.threads[0].line if self.threads else self.first[0]
+
+    @property
+    def end(self):
+        """Where a line of the host may be put in behind all others."""
+        return max([self.last[-1], *self.block_lines]) + 1
+
+    def is_of_thread(self, j):
+        """Whether a job is a line of a thread's block."""
+        return self.plan.jobs[j].line in self.block_lines
+
+    def has_pairs(self, line):
+        """Whether a line of a block waits for several pairs."""
+        return line in self.block_lines and len(self.words(line)) > 3
 
     def is_immediate(self, j):
         job = self.plan.jobs[j]
@@ -98,12 +122,14 @@ class Asked:
         """What leads to a job at once: the other job, and why."""
         job = self.plan.jobs[j]
         if job.previous is not None:
-            why = 'comes before it in the host\'s lines' if job.queue is None else 'comes before it in its queue'
+            why = f'comes before it in its {"thread" if self.is_of_thread(j) else "queue"}'
+            why = 'comes before it in the host\'s lines' if job.queue is None else why
             yield job.previous, why
         if job.host_before is not None:
             yield job.host_before, 'is the last host line before it'
         for i in job.idle_after:
-            yield i, 'is the last batch of its queue before `host idle`'
+            last = 'line of its thread' if self.is_of_thread(i) else 'batch of its queue'
+            yield i, f'is the last {last} before `host idle`'
         for line, t, value in [] if job.any else job.needs:
             e = self.plan.awaited_signal(t, value)
             if e is not None:
@@ -126,9 +152,9 @@ class Asked:
             self.page.note(f'through these {jobs} before {self.called(j)}')
 
 
-def asked_or_none(page, is_scheduled):
+def asked_or_none(page, word):
     """None where the script can't be read or lowered."""
     try:
-        return Asked(page, is_scheduled)
+        return Asked(page, word)
     except Refusal:
         return None

@@ -41,9 +41,13 @@ class Behind:
                        [insert(self.job.line, f'host wait all {held}')])
             return
         for line, t, value in self.job.needs:
-            if t == op.chain and value < op.value:
+            if t == op.chain and value < op.value and not asked.has_pairs(line):
                 yield f'wait for {held} at line {asked.at(line)}: {why}', [replace(line, f'wait {held}')]
-        yield (f'let {asked.called(self.j)} wait for {held}: {why}', [insert(self.job.line + 1, f'wait {held}')])
+        yield (f'let {asked.called(self.j)} wait for {held}: {why}', [insert(self.wait_place(), f'wait {held}')])
+
+    def wait_place(self):
+        """Where a wait of the job can be put in: a line of a thread has it before itself."""
+        return self.job.line + (0 if self.asked.is_of_thread(self.j) else 1)
 
     def fences(self):
         """Host's waits for fences of batches that come no sooner, while these are in use."""
@@ -59,9 +63,11 @@ class Behind:
     def of_its_own(self):
         """A timeline for this order alone."""
         asked, name = self.asked, self.asked.fresh('order')
-        declared = insert(asked.first[0], f'timeline {name} 0')
+        declared = insert(asked.first_line, f'timeline {name} 0')
         first = asked.reader.jobs[self.i]
-        if first.queue is None:
+        if asked.is_of_thread(self.i):
+            signal, who = insert(asked.last[self.i] + 1, f'signal {name} 1'), 'the thread behind it'
+        elif first.queue is None:
             signal, who = insert(asked.last[self.i] + 1, f'host signal {name} 1'), 'the host'
         else:
             signal = insert(first.fence[0] if first.fence else asked.last[self.i], f'signal {name} 1')
@@ -71,11 +77,11 @@ class Behind:
                 return []
             wait, waits = insert(self.job.line, f'host wait all {name} 1'), f'the host before {asked.called(self.j)}'
         else:
-            wait, waits = insert(self.job.line + 1, f'wait {name} 1'), asked.called(self.j)
+            wait, waits = insert(self.wait_place(), f'wait {name} 1'), asked.called(self.j)
         return [(f'let {who} signal a timeline {name}, and {waits} wait for it', [declared, signal, wait])]
 
     def idle(self):
-        if self.i > self.j:
+        if self.i > self.j or self.asked.is_of_thread(self.j):
             return []
         text = f'let the host wait for idle before {self.asked.called(self.j)}'
         return [(text, [insert(self.job.line, 'host idle')])]

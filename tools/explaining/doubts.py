@@ -1,7 +1,8 @@
 """What is lawful and surely not meant."""
 from lowering import Refusal
 from page import word_spans
-from reference import Reader, lines_of
+from reading import read_whole
+from reference import lines_of
 
 
 class Doubt:
@@ -14,11 +15,10 @@ class Doubt:
 class Doubts:
     """Looks at a lawful script, semaphore by semaphore."""
 
-    def __init__(self, data, is_scheduled):
+    def __init__(self, data, word):
         self.data, self.lines = data, [line.decode('latin-1') for line in lines_of(data)]
         self.found = []
-        self.reader = Reader(is_scheduled)
-        self.reader.read_all(data)
+        self.reader = read_whole(data, word)
         self.semaphores = [(name.decode(), kind) for name, (kind, _) in self.reader.names.items()
                            if kind not in ('buffer', 'queue')]
         self.sort_uses()
@@ -88,8 +88,8 @@ class Doubts:
                 self.warn(number, 'a carriage return alone ends no line: all behind it is a part of this comment')
 
 
-def doubts_of(data, is_scheduled):
+def doubts_of(data, word):
     try:
-        return Doubts(data, is_scheduled).all()
+        return Doubts(data, word).all()
     except Refusal:
         return []

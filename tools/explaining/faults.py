@@ -36,7 +36,7 @@ def page_of(trial, verdict, path, draft):
 def look(trial, page):
     """What is known of a refused script, by the kind of its fault."""
     reading = (Line if page.verdict.kind in LINE_FAULTS else Uses if page.verdict.kind in USE_FAULTS else Asked)
-    return reading(page, trial.is_scheduled)
+    return reading(page, trial.word)
 
 
 def groups_of(trial, path, page, looked_at, draft, verdict):

@@ -2,15 +2,19 @@
 import itertools
 import re
 
-from reference import (DECLARATIONS, HELD, INSIDE, MOST, NAME, OUTSIDE, PARTS, SCHEDULE, Fault, Reader, lines_of,
-                       numeral)
+from blocks import IN_THREAD, MOST_OTHER_JOBS, MOST_PAIRS
+from blocks import OUTSIDE as OUTSIDE_THREADS
+from reading import reader_of
+from reference import DECLARATIONS, HELD, INSIDE, MOST, NAME, OUTSIDE, PARTS, SCHEDULE, Fault, lines_of, numeral
 
 PART_NAMES = {1: 'waits', 2: 'commands', 3: 'signals', 4: 'the fence', 5: 'end'}
 LIMITS = {
     'buffer': 'at most 64 buffers, and 1,048,576 bytes in all of them together',
     'timeline': 'at most 256 semaphores', 'binary': 'at most 256 semaphores', 'fence': 'at most 256 semaphores',
     'wait': 'at most 16 waits in a batch', 'signal': 'at most 16 signals in a batch',
-    'turns': 'at most 65,536 turns in a schedule',
+    'turns': 'at most 65,536 turns in a schedule', 'thread': 'at most 16 queues and threads together',
+    'thread_wait': 'at most 16 pairs in a line of a thread, and 1,024 lines of all threads',
+    'thread_signal': 'at most 1,024 lines of all threads',
 }
 # The greatest place of a wait: behind the 64 commands that a batch has at most.
 LAST_PLACE = 65
@@ -22,9 +26,13 @@ BYTE_ORDER_MARKS = {b'\xef\xbb\xbf': 'a byte order mark of UTF-8', b'\xff\xfe': 
 class Line:
     """A faulty line: its number, its words, and the reader that has read all lines before it."""
 
-    def __init__(self, page, is_scheduled):
+    def __init__(self, page, word):
         self.page, self.at, [self.number] = page, page.at, page.verdict.lines
-        self.reader = read_up_to(page.draft.data(), self.number, is_scheduled)
+        self.reader = read_up_to(page.draft.data(), self.number, word)
+        # The threads before it, and the one whose block it stands in.
+        self.threads = self.reader.threads if word == '--hosts' else []
+        self.thread = self.reader.thread_open if word == '--hosts' else None
+        self.has_blocks = word == '--hosts'
         self.raw = page.draft.lines[self.number - 1] if self.number <= len(page.lines) else b''
         text = self.raw[:-1] if self.raw.endswith(b'\r') else self.raw
         self.text = text.split(b'#', 1)[0]
@@ -45,6 +53,8 @@ class Line:
     def section(self):
         if self.reader.batch:
             return INSIDE + (HELD if self.reader.given_version == 2 else [])
+        if self.has_blocks:
+            return IN_THREAD if self.thread else OUTSIDE + OUTSIDE_THREADS
         return SCHEDULE if self.reader.turns_given is not None else OUTSIDE
 
     def is_held_wait(self):
@@ -77,9 +87,9 @@ class Line:
         return [byte for byte in self.text if not 32 <= byte <= 126 and byte != 9]
 
 
-def read_up_to(data, number, is_scheduled):
+def read_up_to(data, number, word):
     """A reader that has read all lines before one."""
-    reader = Reader(is_scheduled)
+    reader = reader_of(word)
     for at, line in enumerate(lines_of(data)[:number - 1], 1):
         try:
             reader.read(line, at)
@@ -100,6 +110,8 @@ def written(form):
 def explain_line(page, line):
     if line.reader.batch:
         page.show(line.reader.batch.line)
+    if line.thread:
+        page.show(line.thread.line)
     {'syntax': syntax, 'order': order, 'number': number_fault, 'name': name, 'twice': twice, 'range': out_of_range,
      'overlap': overlap, 'limit': limit}[page.verdict.kind](page, line)
 
@@ -133,6 +145,10 @@ def missing_end(page, line):
     if line.reader.batch:
         page.rule(f'a batch ends with a line `end`; the one of line {line.at(line.reader.batch.line)} is still open')
         page.help('write `end` as the last line')
+    elif line.thread:
+        page.rule('the block of a thread ends with a line `end`; '
+                  f'that of line {line.at(line.thread.line)} is still open')
+        page.help('write `end` as the last line')
     else:
         page.rule('with --replay a script has a line `schedule` behind its batches, and then its turns')
         page.help('write `schedule` and the turns, or run the script without --replay')
@@ -147,7 +163,8 @@ def alike(forms, words):
 
 def unknown_line(page, line):
     is_inside, forms = bool(line.reader.batch), line.section()
-    place = 'inside a batch' if is_inside else 'in the schedule' if forms is SCHEDULE else 'outside a batch'
+    place = ('inside a batch' if is_inside else 'in the schedule' if forms is SCHEDULE else
+             'in the block of a thread' if line.thread else 'outside a batch')
     same = alike(forms, line.words)
     line.mark(f'no line that stands {place} has these words')
     if line.words[0] == b'version':
@@ -168,20 +185,23 @@ def unknown_line(page, line):
     others = OUTSIDE if is_inside else INSIDE
     if not same and any(form[1][0] == line.words[0] for form in others):
         page.help('close the batch before it with `end`' if is_inside else 'it belongs inside a batch, behind `submit`')
+    elif line.thread:
+        page.help('close the block before it with `end`, or let the host do it')
     elif line.words == [b'schedule']:
         page.help('a schedule is read with --replay alone')
-    elif line.words[0] == b'thread' and len(line.words) == 2 and not is_inside:
-        page.help('the blocks of threads are read by `vq --hosts` alone, which this tool doesn\'t ask')
     else:
         page.help('compare the line with the tables of docs/LANGUAGE.md')
 
 
 def order(page, line):
     reader = line.reader
-    if line.form in DECLARATIONS and not reader.batch:
-        line.mark('a declaration behind the first batch or host line')
-        page.show(reader.jobs[0].line)
-        page.rule('all declarations stand before the first `submit` and the first `host`')
+    if (line.form in DECLARATIONS or line.form == 'thread') and not reader.batch:
+        what = 'thread' if line.form == 'thread' else 'declaration'
+        behind = line.threads and not reader.jobs
+        line.mark(f'a {what} behind the first ' + ('thread' if behind else 'batch or host line'))
+        page.show(line.threads[0].line if behind else reader.jobs[0].line)
+        page.rule('all declarations stand before the first `submit` and the first `host`' +
+                  (', and before all blocks of threads, which stand before these too' if line.has_blocks else ''))
     elif line.form == 'batch_fence' and reader.batch.fence:
         line.mark('a second fence')
         page.mark(reader.batch.fence[0], 'the first one')
@@ -222,7 +242,9 @@ def name(page, line):
             line.mark(f'`{text.decode()}` is not threaded, so the host submits its batches', at)
     page.rule('each place takes names of one kind, declared above')
     kind = line.kind_of(line.words[1]) if len(line.words) > 1 else None
-    if line.words[0] in (b'wait', b'signal') and kind == 'timeline':
+    if line.thread:
+        page.help('the lines of threads are for timelines alone: declare it above, or correct the name')
+    elif line.words[0] in (b'wait', b'signal') and kind == 'timeline':
         page.help(f'a timeline has a value: `{line.words[0].decode()} {line.words[1].decode()} VALUE`')
     elif line.words[0] in (b'wait', b'signal') and kind == 'binary':
         page.help(f'a binary semaphore has no value: `{line.words[0].decode()} {line.words[1].decode()}`')
@@ -255,7 +277,8 @@ def twice(page, line):
                   if text.split('#')[0].split()[1:2] == [word.decode()]), None)
     if first:
         page.mark(first, 'here', 1)
-    page.rule('all names stand in one space: buffers, semaphores, fences and queues')
+    page.rule('all names stand in one space: buffers, semaphores, fences and queues' +
+              (', and threads' if line.has_blocks else ''))
     page.help('choose another name')
 
 
@@ -309,6 +332,8 @@ def limit(page, line):
     line.mark('one too many, or too large')
     queues, jobs = MOST[line.reader.given_version]
     version = f'of version {line.reader.given_version}'
+    if line.has_blocks and jobs > MOST_OTHER_JOBS:
+        jobs, version = MOST_OTHER_JOBS, 'with threads'
     if line.form.startswith('host '):
         page.rule(f'a script {version} has at most {jobs:,} batches and host lines, and a host line 16 pairs')
     elif line.form == 'submit':
@@ -323,4 +348,4 @@ def limit(page, line):
 
 
 def too_many_pairs(line):
-    return line.form.startswith('host ') and len(line.words) > 3 + 2 * 16
+    return line.form.startswith('host ') and len(line.words) > 3 + 2 * MOST_PAIRS

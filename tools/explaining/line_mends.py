@@ -25,7 +25,7 @@ def rewritten(line, words, why=None):
 
 def syntax(line):
     if line.is_at_end:
-        missing = 'end' if line.reader.batch else 'schedule'
+        missing = 'end' if line.reader.batch or line.thread else 'schedule'
         return [[(f'write `{missing}` as the last line', [insert(line.number, missing)])]]
     if line.odd_bytes():
         return [without_odd_bytes(line)]
@@ -117,6 +117,8 @@ def fitting(line, words):
 def other_place(line, words):
     """A line that belongs inside a batch, or outside one."""
     encoded = [word.encode('latin-1') for word in words]
+    if line.thread:
+        return [('close the block before it with `end`', [insert(line.number, 'end')])]
     if line.reader.batch:
         if any(form[1][0] == encoded[0] for form in OUTSIDE) and encoded[0] not in (b'fence',):
             return [('close the batch before it with `end`', [insert(line.number, 'end')])]
@@ -151,8 +153,10 @@ def near_words(line, words):
 
 def order(line):
     reader, text = line.reader, line.raw.rstrip(b'\r').decode('latin-1')
+    if line.form == 'thread':
+        return [moved_block(line)]
     if line.form in DECLARATIONS and not reader.batch:
-        first = reader.jobs[0].line
+        first = (line.threads or reader.jobs)[0].line
         return [[(f'move it up, before line {line.at(first)}', [insert(first, text), delete(line.number)])]]
     batch = reader.batch
     if line.form == 'batch_fence' and batch.fence:
@@ -166,6 +170,16 @@ def order(line):
     part = PARTS[line.form]
     later = [number for number in range(batch.line + 1, line.number) if part_of(line, number) > part]
     return [[(f'move it up, before line {line.at(later[0])}', [insert(later[0], text), delete(line.number)])]]
+
+
+def moved_block(line):
+    """The block of a thread, moved before the first job, where it is closed."""
+    first, texts = line.reader.jobs[0].line, line.page.lines[line.number - 1:]
+    end = next((at for at, text in enumerate(texts) if text.split('#')[0].split() == ['end']), None)
+    if end is None:
+        return []
+    moved = [edit for at, text in enumerate(texts[:end + 1]) for edit in (insert(first, text), delete(line.number + at))]
+    return [(f'move its block up, before line {line.at(first)}', moved)]
 
 
 def part_of(line, number):
@@ -200,7 +214,7 @@ def number_fault(line):
 def name(line):
     groups = []
     word = line.words[0]
-    if word in (b'wait', b'signal'):
+    if word in (b'wait', b'signal') and not line.thread:
         groups.append(values(line))
     for at, wanted, text, is_actor in wanted_names(line):
         if is_actor and is_submitted_by_host(line, at):
@@ -225,7 +239,7 @@ def near_names(line, at, wanted, text, is_actor):
 
 def declared(line, wanted, text):
     """A declaration of the name above the first job."""
-    jobs = line.reader.jobs or [line.reader.batch]
+    jobs = line.threads or line.reader.jobs or [line.reader.batch]
     first = jobs[0].line if jobs[0] else line.number
     if wanted == 'buffer':
         room = [start + size for buffer, start, size in line.ranges() if buffer == text] if sized(line) else [16]
@@ -307,7 +321,7 @@ def overlap(line):
     words, number = [word.decode() for word in line.words], 1
     while f'between_{number}'.encode() in line.reader.names:
         number += 1
-    between, first = f'between_{number}', (line.reader.jobs or [line.reader.batch])[0].line
+    between, first = f'between_{number}', (line.threads or line.reader.jobs or [line.reader.batch])[0].line
     return [[(f'copy through another buffer, {between}', [
         insert(first, f'buffer {between} {numeral(line.words[5])}'),
         insert(line.number, f'copy {words[1]} {words[2]} {between} 0 {words[5]}'),
@@ -319,6 +333,6 @@ def limit(line):
     second = []
     if line.reader.given_version == 1 and (line.form in ('queue', 'submit') or line.form.startswith('host ')):
         second = [] if too_many_pairs(line) else [second_version()]
-    if line.form in DECLARATIONS:
+    if line.form in (*DECLARATIONS, 'thread_wait', 'thread_signal'):
         return [second, [('take the line out', [delete(line.number)])]]
     return [second]

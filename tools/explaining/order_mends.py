@@ -91,13 +91,13 @@ def apart(asked, e, after):
 def another_timeline(asked, op):
     """A timeline of its own for one signal and for the waits that it alone reaches."""
     plan, name = asked.plan, asked.fresh(f'{asked.plan.names[op.chain]}'[:12] + '_own')
-    edits = [insert(asked.first[0], f'timeline {name} 0'),
+    edits = [insert(asked.first_line, f'timeline {name} 0'),
              replace(op.line, signal_line(asked, op, f'{name} {op.value}'))]
     for job in plan.jobs:
         for line, t, value in job.needs:
             e = plan.awaited_signal(t, value)
             if t == op.chain and e is not None and plan.ops[e] is op:
-                if job.queue is None:
+                if job.queue is None or asked.has_pairs(line):
                     return []
                 edits.append(replace(line, f'wait {name} {value}{asked.held_text(line)}'))
     return [(f'signal a timeline of its own, {name}, in line {asked.at(op.line)}', edits)]
@@ -152,20 +152,23 @@ def unblocked(asked, j, line, numbers):
     plan, job, words, groups = asked.plan, asked.plan.jobs[j], asked.words(line), []
     if job.queue is None:
         groups += host_wait_moved(asked, j, numbers)
-    if words[0] == 'wait' and plan.kinds[need(job, line)[0]] == 'timeline':
-        t, value = need(job, line)
+    missing = need(job, line, numbers)
+    if words[0] == 'wait' and missing and plan.kinds[missing[0]] == 'timeline':
+        t, value = missing
         least = {numbers[t], own_floor(asked, j, t)}
         groups.append([(f'wait for less: {plan.names[t]} is brought to {less}',
                         [replace(line, f'wait {plan.names[t]} {less}{asked.held_text(line)}')])
-                       for less in sorted(least, reverse=True) if plan.initial[t] < less < value])
+                       for less in sorted(least, reverse=True) if plan.initial[t] < less < value
+                       and not asked.has_pairs(line)])
         groups.append(signal_in_reach(asked, j, t, value))
     elif job.kind in ('host wait all', 'host wait any'):
         groups.append(fewer_pairs(asked, job, numbers))
     return groups
 
 
-def need(job, line):
-    return next((t, value) for at, t, value in job.needs if at == line)
+def need(job, line, numbers):
+    """The first need of a line that isn't reached."""
+    return next(((t, value) for at, t, value in job.needs if at == line and numbers[t] < value), None)
 
 
 def left_out(asked, line):
@@ -208,5 +211,5 @@ def signal_in_reach(asked, j, t, value):
     plan = asked.plan
     if plan.resolver(t, value) is not None:
         return []
-    name, end = plan.names[t], asked.last[-1] + 1
-    return [(f'let the host signal {name} {value}', [insert(end, f'host signal {name} {value}')])]
+    name = plan.names[t]
+    return [(f'let the host signal {name} {value}', [insert(asked.end, f'host signal {name} {value}')])]

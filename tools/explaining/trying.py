@@ -2,7 +2,7 @@
 import subprocess
 
 from lowering import Refusal
-from reference import Script
+from reading import script_of, word_of
 
 LINE_FAULTS = ('syntax', 'order', 'number', 'name', 'twice', 'range', 'overlap', 'limit')
 USE_FAULTS = ('no signal', 'signaled twice', 'fence used')
@@ -37,11 +37,11 @@ class Verdict:
 
 
 class Trial:
-    """Asks the program, or the second reading where there is none; knows whether a script ends with a schedule."""
+    """Asks the program, or the second reading where there is none; knows by which word a script is read."""
 
     def __init__(self, program, data):
         self.program, self.size = program, len(data)
-        self.is_scheduled = has_schedule(data)
+        self.word = word_of(data)
         self.parts = MOST_PARTS if len(data) < LARGE else 1
         self.most = max(LEAST_TRIES, min(MOST_TRIES, (BYTES_TRIED if program else BYTES_READ) // max(1, len(data))))
         self.tries = 0
@@ -56,22 +56,17 @@ class Trial:
     def ask(self, data):
         if self.program is None:
             return self.read(data)
-        words = ['--replay'] if self.is_scheduled else ['--check']
-        done = subprocess.run([self.program, *words], input=data, capture_output=True, check=False)
+        done = subprocess.run([self.program, self.word], input=data, capture_output=True, check=False)
         # A signal counts as for a shell.
         status = done.returncode if done.returncode >= 0 else 128 - done.returncode
         return Verdict(status, done.stdout.decode('latin-1'))
 
     def read(self, data):
         try:
-            Script(data, self.is_scheduled)
+            script_of(data, self.word)
         except Refusal as refusal:
             return Verdict(2, f'error: {refusal}\n')
         return Verdict(0, 'lawful\n')
-
-
-def has_schedule(data):
-    return any(line.split(b'#')[0].split() == [b'schedule'] for line in data.split(b'\n'))
 
 
 class Mend:

@@ -1,6 +1,6 @@
 """Faults in the use of binary semaphores and fences: all uses up to the faulty one, in the order of the lines."""
 from draft import delete, insert, replace
-from reference import Reader
+from reading import read_whole
 
 RULES = {
     'no signal': 'a wait of a binary semaphore takes an earlier signal that no earlier wait took (Vulkan, '
@@ -28,10 +28,9 @@ class Use:
 
 
 class Uses:
-    def __init__(self, page, is_scheduled):
+    def __init__(self, page, word):
         self.page, self.kind, [self.number] = page, page.verdict.kind, page.verdict.lines
-        self.reader = Reader(is_scheduled)
-        self.reader.read_all(page.draft.data())
+        self.reader = read_whole(page.draft.data(), word)
         uses = uses_of(self.reader)
         semaphore = next(use.semaphore for use in uses if use.line == self.number)
         self.uses = [use for use in uses if use.semaphore == semaphore]

@@ -46,6 +46,10 @@ CAUSES = [
      '+ version 2'),
     ('a late version', 'timeline T 0|version 2', 2, 'no line that stands outside', '2 - version 2'),
     ('a ninth queue', '|'.join(f'queue Q{n} threaded' for n in range(9)), 9, 'one too many', '+ version 2'),
+    ('a thread without a wait', 'buffer X 4|timeline A 0|queue P threaded|queue Q threaded|thread T|signal A 1|end|'
+     'submit P|fill X 0 4 1|end|submit Q|wait A 1|fill X 0 4 2|end', 13, 'writes bytes 0 to 3', '+ timeline order 0'),
+    ('a declaration behind a thread', 'thread T|end|timeline A 0', 3, 'behind the first thread', '+ timeline A 0'),
+    ('an open block', 'timeline A 0|thread T|wait A 0', 4, 'the text ends here', '+ end'),
     ('a byte order mark', '\ufeffbuffer X 4', 1, 'byte order mark', '1 + buffer X 4'),
 ]
 # A lawful script, and what is warned of at which line.
