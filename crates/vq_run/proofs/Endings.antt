@@ -1,5 +1,5 @@
 -- What a run leaves in the sink, from the outcome of its input and from what writing it left.
-use Rattle.std.proofs.Common.{◌≡◌, ℕ, ◌<◌, ◌≤◌, List, length, Option, Some, None, IfSome, refl, subst, sym, arith, ap, ◌∙◌, Bool, true, false, true≢false, cond}
+use Rattle.std.proofs.Common.{◌∷◌, ◌++◌, map, ◌≡◌, ℕ, ◌<◌, ◌≤◌, List, length, Option, Some, None, IfSome, refl, subst, sym, arith, ap, ◌∙◌, Bool, true, false, true≢false, cond}
 use Rattle.std.specs.Prelude.{MatchBool, Result, Ok, Err, IfOk, OnSome, [], take, drop}
 use Rattle.std.proofs.lemmas.List.Elements.{All-nil}
 use Rattle.vq_model.specs.declared.script.Script.{Script}
@@ -9,6 +9,12 @@ use Rattle.vq_model.specs.declared.plan.OrderFault.{OrderFault}
 use Rattle.vq_model.specs.declared.plan.OrderFault.TheVariants.{Unreachable, Unordered, FenceBusy, NotPending, Race, Memory as NoMemoryToCheck}
 use Rattle.vq_model.specs.declared.statement.FaultKind.{FaultKind}
 use Rattle.vq_model.specs.Reading.{IsFirstFault, StandsFor}
+use Rattle.vq_model.specs.Canonical.{canonical_text}
+use Rattle.vq_model.specs.declared.statement.Form.{Form}
+use Rattle.vq_model.specs.declared.statement.Form.TheVariants.{Plain}
+use Rattle.vq_blocks.specs.Blocks.{Told}
+use Rattle.vq_blocks.specs.BlockReading.{IsFirstHostsFault}
+use Rattle.vq_blocks.specs.Compiled.{IsCompiled, script_by_input}
 use Rattle.vq_model.specs.Lowering.{plan_of}
 use Rattle.vq_model.specs.LoweringFaults.{lowering_fault, IsFirstLoweringFault, IsPlan, Lowers}
 use Rattle.vq_model.specs.Plan.{Plan}
@@ -23,16 +29,19 @@ use Rattle.vq_words.specs.Grammar.{Gives, HasFewRounds}
 use Rattle.std.specs.Option.{option_map_or}
 use Rattle.vq_run.specs.Tasks.{form_of, generated_text, input_of, planned, row_of, turns_for, ReadsTrace, RunsThreads}
 use Rattle.vq_model.specs.Outputs.{IsOutput}
+use Rattle.vq_model.specs.OutputText.{answer_text, buffers_text}
+use Rattle.vq_model.specs.declared.plan.AnswerLine.{AnswerLine}
 use Rattle.vq_plan_laws.proofs.Cited.{kept_read, moved_read}
 use Rattle.vq_model.specs.Refusals.{too_long, line_refusal, plan_refusal, order_refusal}
 use Rattle.vq_order_laws.proofs.Cited.{lawful_without_fault}
 use Rattle.vq_words.specs.declared.task.Task.{Task}
-use Rattle.vq_words.specs.declared.task.Task.TheVariants.{Run, Replay, Generate, Audit}
+use Rattle.vq_words.specs.declared.task.Task.TheVariants.{Run, Replay, Generate, Audit, Hosts}
 use Rattle.vq_run.specs.declared.status.Status.{Status}
 use Rattle.vq_run.specs.declared.status.Status.TheVariants.{Done, BadWords, Refused, ReadFault, WriteFault, Memory}
 use Rattle.vq_messages.specs.Refused.{RefusesPlan, RefusesOrder, input_limit, no_trace, trace_refusal}
 use Rattle.vq_run.specs.Outcomes.{IsOutcome, is_too_long, has_no_trace, has_faulty_line, has_no_plan, is_unlawful, has_faulty_trace, gives_answer, Ends, AnswersTask, AnswersTrace, ReadsToEnd, IsLawfulInput, IsDoneOrMemory}
-use Rattle.vq_run.specs.Outcomes.{HasLawfulPlan, HasReadableTrace, IsScriptText, IsTraceRead, LacksTrace}
+use Rattle.vq_run.specs.Outcomes.{HasFirstFault, HasLawfulPlan, HasReadableTrace, IsScriptText, IsTraceRead, LacksTrace, ReadsAs}
+use Rattle.vq_run.specs.Origins.{IsOutputFrom, answer_origin, order_fault_origin, plan_fault_origin}
 use Rattle.vq_run.specs.Outcomes.{IsReadFor, ArePlayable, IsLawfulPlan, EndsForWords, WritesNothing}
 use Rattle.vq_given.specs.declared.given.Cut.{Cut}
 use Rattle.vq_given.specs.declared.given.GivenTrace.{GivenTrace}
@@ -218,29 +227,83 @@ not_unreadable task input p n readable reads faulty =
     let same : Ok read.0 ≡ Err n = one_reading input p (Ok read.0) (Err n) read.1 faulty in
     cc
 
-module _ (task : Task) (input : List ℕ) (l : IsLawfulInput task input) where
-  -- the script of a lawful input stands for each text that is read as one
-  stands_too : (text : List ℕ) → IsScriptText task input text → StandsFor text (form_of task) l.script
-  stands_too text part =
-      subst (λ (t : List ℕ). StandsFor t (form_of task) l.script) (one_text task input l.plan.text text l.plan.part part) l.plan.stands
+-- a text is compiled to one script
+one_compiled : (text : List ℕ) (a b : Script) (k l : List ℕ) → IsCompiled text a k → IsCompiled text b l → a ≡ b
+one_compiled text a b k l x y =
+    let first = x.tells in
+    let second = y.tells in
+    let same : x.told ≡ y.told = cc in
+    let there = subst (λ (t : Told). StandsFor (canonical_text (script_by_input t)) Plain a) same x.compiled.stands in
+    let here = y.compiled.stands in
+    cc
 
-  same_script : (text : List ℕ) (script : Script) → IsScriptText task input text → StandsFor text (form_of task) script → l.script ≡ script
-  same_script text script part stands = let other = stands_too text part in cc
+-- a task reads a text as one script
+one_script : (task : Task) (text : List ℕ) (a b : Script) (from other : Option (List ℕ)) → ReadsAs task text a from →
+    ReadsAs task text b other → a ≡ b
+one_script task text a b from other x y = by_row (row_of task).reads_threads x y
+  where
+    by_row : (threads : Bool) →
+        MatchBool threads ((k : List ℕ) × IsCompiled text a k × (from ≡ Some k)) (StandsFor text (form_of task) a × (from ≡ None)) →
+        MatchBool threads ((k : List ℕ) × IsCompiled text b k × (other ≡ Some k)) (StandsFor text (form_of task) b × (other ≡ None)) →
+        a ≡ b
+    by_row true x y = one_compiled text a b x.0 y.0 x.1 y.1
+    by_row false x y = let first = x.0 in let second = y.0 in cc
+
+-- a text that is read has no first fault
+not_faulty : (task : Task) (text : List ℕ) (script : Script) (from : Option (List ℕ)) (n : ℕ) (kind : FaultKind) →
+    ReadsAs task text script from → HasFirstFault task text n kind → ⊥
+not_faulty task text script from n kind x y = by_row (row_of task).reads_threads x y
+  where
+    by_row : (threads : Bool) →
+        MatchBool threads ((k : List ℕ) × IsCompiled text script k × (from ≡ Some k))
+        (StandsFor text (form_of task) script × (from ≡ None)) →
+        MatchBool threads (IsFirstHostsFault text n kind) (IsFirstFault text (form_of task) n kind) → ⊥
+    by_row true x y = let tells = x.1.tells in cc
+    by_row false x y = let stands = x.0 in cc
+
+-- a text that stands for a script, in a form
+pub record IsOfText (script : Script) : Type 0 where
+  pub text : List ℕ
+  pub form : Form
+  pub stands : StandsFor text form script
+
+-- some text stands for a script that was read
+of_text : (task : Task) (text : List ℕ) (script : Script) (from : Option (List ℕ)) → ReadsAs task text script from → IsOfText script
+of_text task text script from x = by_row (row_of task).reads_threads x
+  where
+    by_row : (threads : Bool) →
+        MatchBool threads ((k : List ℕ) × IsCompiled text script k × (from ≡ Some k))
+        (StandsFor text (form_of task) script × (from ≡ None)) → IsOfText script
+    by_row true x =
+        record { text = canonical_text (script_by_input x.1.told); form = Plain; stands = x.1.compiled.stands }
+    by_row false x = record { text = text; form = form_of task; stands = x.0 }
+
+module _ (task : Task) (input : List ℕ) (l : IsLawfulInput task input) where
+  -- each text that is read as a script is read as that of a lawful input
+  reads_too : (text : List ℕ) → IsScriptText task input text → ReadsAs task text l.script l.from
+  reads_too text part =
+      subst (λ (t : List ℕ). ReadsAs task t l.script l.from) (one_text task input l.plan.text text l.plan.part part) l.plan.reads
+
+  same_script : (text : List ℕ) (script : Script) (from : Option (List ℕ)) → IsScriptText task input text →
+      ReadsAs task text script from → l.script ≡ script
+  same_script text script from part reads = one_script task text l.script script l.from from (reads_too text part) reads
 
   -- a lawful input is not refused
   not_refused : (text : List ℕ) → IsOutcome task input Refused text → ⊥
   not_refused text (is_too_long long) = let short = l.short in omega arith
   not_refused text (has_no_trace short lacks) = not_lacking task input l.plan.text l.plan.part lacks
-  not_refused text (has_faulty_line part n kind short is fault) = let stands = stands_too part is in cc
-  not_refused text (has_no_plan part script fault short is stands refused) =
+  not_refused text (has_faulty_line part n kind short is fault) =
+      not_faulty task part l.script l.from n kind (reads_too part is) fault
+  not_refused text (has_no_plan part script from fault short is reads refused) =
       no_lowering_fault (planned task script) fault
-      (subst (λ s. lowering_fault (planned task s) ≡ None) (same_script part script is stands) l.plan.lowers) refused
-  not_refused text (is_unlawful part script fault short is stands lowers refused) =
+      (subst (λ s. lowering_fault (planned task s) ≡ None) (same_script part script from is reads) l.plan.lowers) refused
+  not_refused text (is_unlawful part script from fault short is reads lowers refused) =
       lawful_without_fault (plan_of (planned task script)) fault
-      (subst (λ s. IsLawful (plan_of (planned task s))) (same_script part script is stands) l.plan.lawful) refused
-  not_refused text (has_faulty_trace script n short plan reads faulty) =
+      (subst (λ s. IsLawful (plan_of (planned task s))) (same_script part script from is reads) l.plan.lawful) refused
+  not_refused text (has_faulty_trace script from n short plan reads faulty) =
       not_unreadable task input (plan_of (planned task script)) n
-      (subst (λ (s : Script). HasReadableTrace task input (plan_of (planned task s))) (same_script plan.text script plan.part plan.stands) l.trace)
+      (subst (λ (s : Script). HasReadableTrace task input (plan_of (planned task s)))
+      (same_script plan.text script from plan.part plan.reads) l.trace)
       reads faulty
 
 -- a lawful input is run, unless the source or the sink fails
@@ -285,13 +348,17 @@ words_end task asked input NoMemoryForWords result before now g some memory w = 
 
 -- What was read for a task
 
-module _ (task : Task) (input : List ℕ) (s : Script) (turns : List Turn) (r : IsReadFor task input s turns) where
+module _ (task : Task) (input : List ℕ) (s : Script) (turns : List Turn) (from : Option (List ℕ))
+    (r : IsReadFor task input s turns from) where
+  of : IsOfText r.script
+  of = of_text task r.text r.script from r.reads
+
   pub read_for : IsRead s
   read_for = subst IsRead (sym r.made) (by_turns (row_of task).plays_turns)
     where
       by_turns : (plays : Bool) → IsRead (cond plays (record r.script { turns = [] }) r.script)
-      by_turns true = moved_read r.text (form_of task) r.script r.stands
-      by_turns false = kept_read r.text (form_of task) r.script r.stands
+      by_turns true = moved_read of.text of.form r.script of.stands
+      by_turns false = kept_read of.text of.form r.script of.stands
 
   pub playable : ArePlayable s turns
   playable =
@@ -300,20 +367,20 @@ module _ (task : Task) (input : List ℕ) (s : Script) (turns : List Turn) (r : 
     where
       by_turns : (plays : Bool) → ArePlayable (cond plays (record r.script { turns = [] }) r.script) (cond plays r.script.turns [])
       by_turns true =
-          let valid = read_turns r.script (kept_read r.text (form_of task) r.script r.stands) in
+          let valid = read_turns r.script (kept_read of.text of.form r.script of.stands) in
           let few = valid.few in
           record { few = omega arith; actors = valid.actors }
       by_turns false = record { few = omega arith; actors = All-nil (λ t. IsActor r.script t.actor) }
 
   -- the script was refused for a fault of its lowering
   refused : (fault : PlanFault) (text : List ℕ) → length input ≤ input_limit →
-      IsFirstLoweringFault s fault → text ≡ plan_refusal fault → IsOutcome task input Refused text
+      IsFirstLoweringFault s fault → text ≡ plan_refusal (plan_fault_origin from fault) → IsOutcome task input Refused text
   refused fault text short f is =
       subst (λ t. IsOutcome task input Refused t) (sym is)
-      (has_no_plan r.text r.script fault short r.part r.stands (subst (λ z. IsFirstLoweringFault z fault) r.made f))
+      (has_no_plan r.text r.script from fault short r.part r.reads (subst (λ z. IsFirstLoweringFault z fault) r.made f))
 
   pub refused_outcome : (fault : PlanFault) (text : List ℕ) → length input ≤ input_limit →
-      Lowers s (Err fault) → RefusesPlan fault text → IsOutcome task input Refused text
+      Lowers s (Err fault) → RefusesPlan (plan_fault_origin from fault) text → IsOutcome task input Refused text
   refused_outcome (NoSignal n) text short l is = refused (NoSignal n) text short l is
   refused_outcome (SignaledTwice n) text short l is = refused (SignaledTwice n) text short l is
   refused_outcome (FenceUsed n) text short l is = refused (FenceUsed n) text short l is
@@ -321,10 +388,10 @@ module _ (task : Task) (input : List ℕ) (s : Script) (turns : List Turn) (r : 
 
 -- What comes of a plan that was read for a task
 
-module _ (task : Task) (input : List ℕ) (p : Plan) (turns : List Turn) (short : length input ≤ input_limit)
-    (r : IsReadFor task input p.script turns) (l : Lowers p.script (Ok p)) where
+module _ (task : Task) (input : List ℕ) (p : Plan) (turns : List Turn) (from : Option (List ℕ))
+    (short : length input ≤ input_limit) (r : IsReadFor task input p.script turns from) (l : Lowers p.script (Ok p)) where
   pub plan_is : IsPlan p
-  plan_is = record { of_script = read_for task input p.script turns r; faultless = l.0; lowered = l.1 }
+  plan_is = record { of_script = read_for task input p.script turns from r; faultless = l.0; lowered = l.1 }
 
   lowers : lowering_fault (planned task r.script) ≡ None
   lowers = subst (λ z. lowering_fault z ≡ None) r.made l.0
@@ -332,19 +399,19 @@ module _ (task : Task) (input : List ℕ) (p : Plan) (turns : List Turn) (short 
   same_plan : p ≡ plan_of (planned task r.script)
   same_plan = l.1 ∙ ap plan_of r.made
 
-  plan_has : IsLawful p → HasLawfulPlan task input r.script
+  plan_has : IsLawful p → HasLawfulPlan task input r.script from
   plan_has lawful =
-      record { text = r.text; part = r.part; stands = r.stands; lowers = lowers; lawful = subst IsLawful same_plan lawful }
+      record { text = r.text; part = r.part; reads = r.reads; lowers = lowers; lawful = subst IsLawful same_plan lawful }
 
   -- it was checked, and its task done
-  pub task_outcome : (text : List ℕ) → IsLawful p → AnswersTask task input p turns text → IsOutcome task input Done text
+  pub task_outcome : (text : List ℕ) → IsLawful p → AnswersTask task input p turns from text → IsOutcome task input Done text
   task_outcome text lawful is =
-      gives_answer r.script text short (plan_has lawful)
-      (subst (λ q. AnswersTask task input q r.script.turns text) same_plan (by_task task r.moved is))
+      gives_answer r.script from text short (plan_has lawful)
+      (subst (λ q. AnswersTask task input q r.script.turns from text) same_plan (by_task task r.moved is))
     where
       -- the turns that a task plays are those of the script that was read
-      by_task : (t : Task) → turns ≡ turns_for t r.script → AnswersTask t input p turns text →
-          AnswersTask t input p r.script.turns text
+      by_task : (t : Task) → turns ≡ turns_for t r.script → AnswersTask t input p turns from text →
+          AnswersTask t input p r.script.turns from text
       by_task Replay same done = subst (λ ts. IsTrace p ts text) same done
       by_task other same done = done
 
@@ -353,17 +420,17 @@ module _ (task : Task) (input : List ℕ) (p : Plan) (turns : List Turn) (short 
       IsOutcome task input Refused text
   trace_outcome text n lawful reads faulty is =
       subst (λ t. IsOutcome task input Refused t) (sym is)
-      (has_faulty_trace r.script n short (plan_has lawful) reads (subst (λ q. IsTraceRead input q (Err n)) same_plan faulty))
+      (has_faulty_trace r.script from n short (plan_has lawful) reads (subst (λ q. IsTraceRead input q (Err n)) same_plan faulty))
 
   -- it was refused for its first fault
-  unlawful : (fault : OrderFault) (text : List ℕ) → IsFirstPlanFault p fault → text ≡ order_refusal fault →
-      IsOutcome task input Refused text
+  unlawful : (fault : OrderFault) (text : List ℕ) → IsFirstPlanFault p fault →
+      text ≡ order_refusal (order_fault_origin from fault) → IsOutcome task input Refused text
   unlawful fault text f is =
       subst (λ t. IsOutcome task input Refused t) (sym is)
-      (is_unlawful r.text r.script fault short r.part r.stands lowers (subst (λ q. IsFirstPlanFault q fault) same_plan f))
+      (is_unlawful r.text r.script from fault short r.part r.reads lowers (subst (λ q. IsFirstPlanFault q fault) same_plan f))
 
-  pub unlawful_outcome : (fault : OrderFault) (text : List ℕ) → Checks p (Err fault) → RefusesOrder fault text →
-      IsOutcome task input Refused text
+  pub unlawful_outcome : (fault : OrderFault) (text : List ℕ) → Checks p (Err fault) →
+      RefusesOrder (order_fault_origin from fault) text → IsOutcome task input Refused text
   unlawful_outcome (Unreachable n) text f is = unlawful (Unreachable n) text f is
   unlawful_outcome (Unordered a b) text f is = unlawful (Unordered a b) text f is
   unlawful_outcome (FenceBusy n) text f is = unlawful (FenceBusy n) text f is
@@ -373,19 +440,20 @@ module _ (task : Task) (input : List ℕ) (p : Plan) (turns : List Turn) (short 
 
 -- What comes of a lawful plan that an input stands for
 
-module _ (task : Task) (input : List ℕ) (p : Plan) (turns : List Turn) (l : IsLawfulPlan task input p turns) where
+module _ (task : Task) (input : List ℕ) (p : Plan) (turns : List Turn) (from : Option (List ℕ))
+    (l : IsLawfulPlan task input p turns from) where
   pub lawful_playable : ArePlayable p.script turns
-  lawful_playable = playable task input p.script turns l.read
+  lawful_playable = playable task input p.script turns from l.read
 
-  pub lawful_done : (text : List ℕ) → AnswersTask task input p turns text → IsOutcome task input Done text
-  lawful_done text is = task_outcome task input p turns l.short l.read l.lowers text l.lawful is
+  pub lawful_done : (text : List ℕ) → AnswersTask task input p turns from text → IsOutcome task input Done text
+  lawful_done text is = task_outcome task input p turns from l.short l.read l.lowers text l.lawful is
 
   -- its trace was judged, or is faulty
   pub trace_done : (status : Status) (text : List ℕ) → task ≡ Audit → AnswersTrace input p status text → IsOutcome task input status text
   trace_done Done text is judged =
-      lawful_done text (subst (λ (t : Task). AnswersTask t input p turns text) (sym is) judged)
+      lawful_done text (subst (λ (t : Task). AnswersTask t input p turns from text) (sym is) judged)
   trace_done Refused text is faulty =
-      trace_outcome task input p turns l.short l.read l.lowers text faulty.0 l.lawful (ap (λ (t : Task). (row_of t).reads_trace) is)
+      trace_outcome task input p turns from l.short l.read l.lowers text faulty.0 l.lawful (ap (λ (t : Task). (row_of t).reads_trace) is)
       faulty.1 faulty.2
   trace_done BadWords text is none = absurd none
   trace_done ReadFault text is none = absurd none
@@ -403,17 +471,31 @@ audits Audit r = refl
 audits other r = absurd (true≢false (sym r))
 
 -- the input of a task that reads a trace is cut
-pub is_cut_for : (task : Task) (input : List ℕ) (p : Plan) (turns : List Turn) → IsLawfulPlan task input p turns →
-    ReadsTrace task → IsUncut input → ⊥
-is_cut_for task input p turns l reads uncut =
+pub is_cut_for : (task : Task) (input : List ℕ) (p : Plan) (turns : List Turn) (from : Option (List ℕ)) →
+    IsLawfulPlan task input p turns from → ReadsTrace task → IsUncut input → ⊥
+is_cut_for task input p turns from l reads uncut =
     not_lacking task input l.read.text l.read.part (record { reads = reads; uncut = uncut })
 
+-- answers keep their lines where these are those of the input
+kept_lines : (xs : List AnswerLine) → map (answer_origin None) xs ≡ xs
+kept_lines [] = refl
+kept_lines (x ∷ xs) = ap (λ (ys : List AnswerLine). x ∷ ys) (kept_lines xs)
+
+kept_output : (p : Plan) (from : Option (List ℕ)) (text : List ℕ) → from ≡ None → IsOutputFrom p from text → IsOutput p text
+kept_output p from text none o =
+    let same : map (answer_origin from) o.answers ≡ o.answers =
+    subst (λ (f : Option (List ℕ)). map (answer_origin f) o.answers ≡ o.answers) (sym none) (kept_lines o.answers) in
+    subst (IsOutput p)
+    (sym (o.spelled ∙ ap (λ (xs : List AnswerLine). answer_text xs ++ buffers_text p.script.buffers o.bytes) same)) o.output
+
 -- the text of a run answers the tasks that run a script
-pub runs_answer : (task : Task) (input : List ℕ) (p : Plan) (turns : List Turn) (text : List ℕ) → RunsThreads task →
-    IsOutput p text → AnswersTask task input p turns text
-runs_answer Run input p turns text r o = o
-runs_answer (Generate rounds) input p turns text r o = o
-runs_answer other input p turns text r o = absurd (true≢false (sym r))
+pub runs_answer : (task : Task) (input : List ℕ) (p : Plan) (turns : List Turn) (from : Option (List ℕ)) (text : List ℕ) →
+    RunsThreads task → IsLawfulPlan task input p turns from → IsOutputFrom p from text →
+    AnswersTask task input p turns from text
+runs_answer Run input p turns from text r l o = kept_output p from text l.read.reads.1 o
+runs_answer (Generate rounds) input p turns from text r l o = kept_output p from text l.read.reads.1 o
+runs_answer Hosts input p turns from text r l o = o
+runs_answer other input p turns from text r l o = absurd (true≢false (sym r))
 
 -- a task whose row has rounds makes a script of 1 to 500, and runs it
 pub makes_few : (task : Task) (rounds : ℕ) → (row_of task).rounds ≡ Some rounds → HasFewRounds task → (1 ≤ rounds) × (rounds ≤ 500) × RunsThreads task
@@ -429,10 +511,10 @@ pub for_source : (P : List ℕ → Type 0) (task : Task) (left : Option (List �
 for_source P task left e h = subst (λ (o : Option ℕ). IfSome (option_map_or (λ n. Some (generated_text n)) o left) P) (sym e) h
 
 -- the plan of a script that was lowered is one of this script
-pub lowered_read : (task : Task) (input : List ℕ) (script : Script) (turns : List Turn) (p : Plan) →
-    IsReadFor task input script turns → Lowers script (Ok p) → IsReadFor task input p.script turns
-lowered_read task input script turns p r l =
-    subst (λ q. IsReadFor task input q.script turns) (sym l.1) r
+pub lowered_read : (task : Task) (input : List ℕ) (script : Script) (turns : List Turn) (from : Option (List ℕ)) (p : Plan) →
+    IsReadFor task input script turns from → Lowers script (Ok p) → IsReadFor task input p.script turns from
+lowered_read task input script turns from p r l =
+    subst (λ q. IsReadFor task input q.script turns from) (sym l.1) r
 
 pub lowered_again : (script : Script) (p : Plan) → Lowers script (Ok p) → Lowers p.script (Ok p)
 lowered_again script p l =
@@ -440,7 +522,7 @@ lowered_again script p l =
 
 -- a faulty line was refused
 pub faulty_outcome : (task : Task) (input part : List ℕ) (n : ℕ) (kind : FaultKind) (text : List ℕ) →
-    length input ≤ input_limit → IsScriptText task input part → IsFirstFault part (form_of task) n kind →
+    length input ≤ input_limit → IsScriptText task input part → HasFirstFault task part n kind →
     text ≡ line_refusal n kind → IsOutcome task input Refused text
 faulty_outcome task input part n kind text short is fault text_is =
     subst (λ t. IsOutcome task input Refused t) (sym text_is) (has_faulty_line part n kind short is fault)

@@ -1,3 +1,4 @@
 mod Endings
+mod NamedOrigins
 mod TraceParts
 mod Traced

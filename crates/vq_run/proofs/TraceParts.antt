@@ -1,6 +1,6 @@
 -- The script and the trace of an input that is cut.
-use Rattle.std.proofs.Common.{◌≡◌, ◌∙◌, ◌≤◌, ◌<◌, ◌+◌, ◌++◌, ◌^◌, ℕ, Bool, true, false, List, length, take, drop, ◌-◌, refl, sym, ap, subst, arith}
-use Rattle.std.specs.Prelude.{MatchBool, Result, Ok, Err}
+use Rattle.std.proofs.Common.{◌≡◌, ◌≤◌, ◌<◌, ◌+◌, ◌++◌, ◌^◌, ℕ, Bool, true, false, List, length, take, drop, ◌-◌, refl, sym, ap, subst, arith}
+use Rattle.std.specs.Prelude.{MatchBool, Result, Ok}
 use Rattle.std.proofs.lemmas.List.{length-append, length-drop}
 use Rattle.std.proofs.Math.Seq.{take-length}
 use Rattle.vq_model.specs.Plan.{Plan}

@@ -1,3 +1,4 @@
 pub mod Tasks
+pub mod Origins
 pub mod Writes
 pub mod Outcomes

@@ -1,5 +1,5 @@
 -- What a run of the program may write, and with which status it ends. This project's own.
-use Rattle.std.specs.Prelude.{ℕ, ◌≡◌, ◌<◌, ◌≤◌, ◌^◌, All, List, [], ◌++◌, length, Option, Some, None, Ok, Err, IfSome, OnSome, codes, Result, MatchBool, true, take, drop}
+use Rattle.std.specs.Prelude.{ℕ, ◌≡◌, ◌<◌, ◌≤◌, ◌^◌, All, List, [], ◌++◌, length, Option, Some, None, Ok, Err, IfSome, OnSome, codes, Result, MatchBool, take, drop}
 use Rattle.std.specs.Fmt.{decimal}
 use Rattle.vq_model.specs.declared.statement.FaultKind.{FaultKind}
 use Rattle.vq_model.specs.declared.script.Script.{Script}
@@ -16,6 +16,8 @@ use Rattle.vq_model.specs.OutputText.{line_feed}
 use Rattle.vq_model.specs.Outputs.{IsOutput}
 use Rattle.vq_model.specs.Refusals.{too_long, bad_words, line_refusal, plan_refusal, order_refusal}
 use Rattle.vq_model.specs.ValidScripts.{IsActor}
+use Rattle.vq_blocks.specs.BlockReading.{IsFirstHostsFault}
+use Rattle.vq_blocks.specs.Compiled.{IsCompiled}
 use Rattle.vq_given.specs.declared.given.Cut.{Cut}
 use Rattle.vq_given.specs.declared.given.GivenTrace.{GivenTrace}
 use Rattle.vq_given.specs.Cutting.{IsCut, IsUncut}
@@ -25,12 +27,15 @@ use Rattle.vq_audit.specs.declared.verdict.Verdict.TheVariants.{Lawful as Lawful
 use Rattle.vq_audit.specs.Audits.{IfLawful, KeepLaws}
 use Rattle.vq_audit.specs.Verdicts.{IsVerdict, made_events}
 use Rattle.vq_replay.specs.Rounds.{IsRoundsTrace}
+use Rattle.vq_script.specs.declared.fault.ScriptFault.{ScriptFault}
+use Rattle.vq_script.specs.declared.fault.ScriptFault.TheVariants.{At, Memory as NoMemoryToParse}
 use Rattle.vq_replay.specs.Traced.{IsTrace}
 use Rattle.vq_messages.specs.Refused.{input_limit, no_trace, trace_refusal}
+use Rattle.vq_run.specs.Origins.{IsOutputFrom, order_fault_origin, plan_fault_origin}
 use Rattle.vq_run.specs.Tasks.{ReadsTrace, form_of, planned, row_of, turns_for}
 use Rattle.vq_run.specs.Writes.{SinkMoment, WroteAll, WrotePart, WroteNothing}
 use Rattle.vq_words.specs.declared.task.Task.{Task}
-use Rattle.vq_words.specs.declared.task.Task.TheVariants.{Run, Check, Replay, Generate, Rounds, Upgrade, Audit}
+use Rattle.vq_words.specs.declared.task.Task.TheVariants.{Run, Check, Replay, Generate, Rounds, Upgrade, Audit, Hosts}
 use Rattle.vq_run.specs.declared.reading.Reading.{Reading}
 use Rattle.vq_run.specs.declared.reading.Reading.TheVariants.{Lawful, Refused as RefusedReading}
 use Rattle.vq_run.specs.declared.status.Status.{Status}
@@ -52,6 +57,24 @@ abbrev pub IsScriptText : Task → List ℕ → List ℕ → Type 0
 IsScriptText task input text =
     MatchBool (row_of task).reads_trace
     ((cut : Cut) × IsCut input cut × (text ≡ take cut.script_end input)) (text ≡ input)
+
+-- The script that a task reads a text as, with the lines of the text from which its own come: where host threads stand
+-- in the text, it is compiled, and else its lines are those of the text.
+abbrev pub ReadsAs : Task → List ℕ → Script → Option (List ℕ) → Type 0
+ReadsAs task text script from =
+    MatchBool (row_of task).reads_threads
+    ((lines : List ℕ) × IsCompiled text script lines × (from ≡ Some lines))
+    (StandsFor text (form_of task) script × (from ≡ None))
+
+-- the first line of a text with a fault, as a task reads it, and that line's first kind
+abbrev pub HasFirstFault : Task → List ℕ → ℕ → FaultKind → Type 0
+HasFirstFault task text n kind =
+    MatchBool (row_of task).reads_threads (IsFirstHostsFault text n kind) (IsFirstFault text (form_of task) n kind)
+
+-- a fault is the first one of a text, as a task reads it; want of memory says nothing
+abbrev pub HasFaultOf : Task → List ℕ → ScriptFault → Type 0
+HasFaultOf task text (At n kind) = HasFirstFault task text n kind
+HasFaultOf task text NoMemoryToParse = Unit {0}
 
 -- A trace was to follow the script, and no line cuts the input.
 pub record LacksTrace (task : Task) (input : List ℕ) : Type 0 where
@@ -92,23 +115,25 @@ AnswersTrace input p other text = ⊥
 
 -- Answers
 
--- What a task writes for an input with a lawful plan and the turns of a schedule: an output of the plan, that it is
--- lawful, the trace of the turns, that of rounds to the end, the canonical text of the script as one of the second
--- version, or the verdict on the trace that follows the script.
-abbrev pub AnswersTask : Task → List ℕ → Plan → List Turn → List ℕ → Type 0
-AnswersTask Run input p turns text = IsOutput p text
-AnswersTask Check input p turns text = text ≡ is_lawful_text
-AnswersTask Replay input p turns text = IsTrace p turns text
-AnswersTask (Generate rounds) input p turns text = IsOutput p text
-AnswersTask Rounds input p turns text = IsRoundsTrace p text
-AnswersTask Upgrade input p turns text = text ≡ canonical_text (upgraded p.script)
-AnswersTask Audit input p turns text = IsAudited input p text
+-- What a task writes for an input with a lawful plan, the turns of a schedule, and the lines from which the script's
+-- come: an output of the plan, that it is lawful, the trace of the turns, that of rounds to the end, the canonical text
+-- of the script as one of the second version, the verdict on the trace that follows the script, or an output of the
+-- compiled plan with the lines of the input.
+abbrev pub AnswersTask : Task → List ℕ → Plan → List Turn → Option (List ℕ) → List ℕ → Type 0
+AnswersTask Run input p turns from text = IsOutput p text
+AnswersTask Check input p turns from text = text ≡ is_lawful_text
+AnswersTask Replay input p turns from text = IsTrace p turns text
+AnswersTask (Generate rounds) input p turns from text = IsOutput p text
+AnswersTask Rounds input p turns from text = IsRoundsTrace p text
+AnswersTask Upgrade input p turns from text = text ≡ canonical_text (upgraded p.script)
+AnswersTask Audit input p turns from text = IsAudited input p text
+AnswersTask Hosts input p turns from text = IsOutputFrom p from text
 
--- A part of an input stands for a script that has a plan, and the plan is lawful.
-pub record HasLawfulPlan (task : Task) (input : List ℕ) (script : Script) : Type 0 where
+-- A part of an input is read as a script that has a plan, with these lines, and the plan is lawful.
+pub record HasLawfulPlan (task : Task) (input : List ℕ) (script : Script) (from : Option (List ℕ)) : Type 0 where
   pub text : List ℕ
   pub part : IsScriptText task input text
-  pub stands : StandsFor text (form_of task) script
+  pub reads : ReadsAs task text script from
   pub lowers : lowering_fault (planned task script) ≡ None
   pub lawful : IsLawful (plan_of (planned task script))
 
@@ -120,49 +145,54 @@ pub data IsOutcome (task : Task) (input : List ℕ) : Status → List ℕ → Ty
   has_no_trace : length input ≤ input_limit → LacksTrace task input → IsOutcome task input Refused no_trace
   -- a line of the script is faulty: the first one of the text, by its first kind
   has_faulty_line : (text : List ℕ) (n : ℕ) (kind : FaultKind) → length input ≤ input_limit →
-      IsScriptText task input text → IsFirstFault text (form_of task) n kind →
+      IsScriptText task input text → HasFirstFault task text n kind →
       IsOutcome task input Refused (line_refusal n kind)
-  -- the script that the text stands for has no plan
-  has_no_plan : (text : List ℕ) (script : Script) (fault : PlanFault) → length input ≤ input_limit →
-      IsScriptText task input text → StandsFor text (form_of task) script →
-      IsFirstLoweringFault (planned task script) fault → IsOutcome task input Refused (plan_refusal fault)
+  -- the script that the text is read as has no plan
+  has_no_plan : (text : List ℕ) (script : Script) (from : Option (List ℕ)) (fault : PlanFault) →
+      length input ≤ input_limit → IsScriptText task input text → ReadsAs task text script from →
+      IsFirstLoweringFault (planned task script) fault →
+      IsOutcome task input Refused (plan_refusal (plan_fault_origin from fault))
   -- its plan is not lawful
-  is_unlawful : (text : List ℕ) (script : Script) (fault : OrderFault) → length input ≤ input_limit →
-      IsScriptText task input text → StandsFor text (form_of task) script →
+  is_unlawful : (text : List ℕ) (script : Script) (from : Option (List ℕ)) (fault : OrderFault) →
+      length input ≤ input_limit → IsScriptText task input text → ReadsAs task text script from →
       lowering_fault (planned task script) ≡ None → IsFirstPlanFault (plan_of (planned task script)) fault →
-      IsOutcome task input Refused (order_refusal fault)
+      IsOutcome task input Refused (order_refusal (order_fault_origin from fault))
   -- the script is lawful, and a line of the trace is faulty: the first one
-  has_faulty_trace : (script : Script) (n : ℕ) → length input ≤ input_limit → HasLawfulPlan task input script →
-      ReadsTrace task → IsTraceRead input (plan_of (planned task script)) (Err n) →
-      IsOutcome task input Refused (trace_refusal n)
+  has_faulty_trace : (script : Script) (from : Option (List ℕ)) (n : ℕ) → length input ≤ input_limit →
+      HasLawfulPlan task input script from → ReadsTrace task →
+      IsTraceRead input (plan_of (planned task script)) (Err n) → IsOutcome task input Refused (trace_refusal n)
   -- the script is lawful, and the text answers the task
-  gives_answer : (script : Script) (text : List ℕ) → length input ≤ input_limit → HasLawfulPlan task input script →
-      AnswersTask task input (plan_of (planned task script)) script.turns text → IsOutcome task input Done text
+  gives_answer : (script : Script) (from : Option (List ℕ)) (text : List ℕ) → length input ≤ input_limit →
+      HasLawfulPlan task input script from →
+      AnswersTask task input (plan_of (planned task script)) script.turns from text → IsOutcome task input Done text
 
 -- turns that can be played over a plan of a script: they are few, and each actor is one of the script
 pub record ArePlayable (s : Script) (turns : List Turn) : Type 0 where
   pub few : length turns < 2 ^ 32
   pub actors : All (λ t. IsActor s t.actor) turns
 
--- A script was read from an input for a task, and its turns were moved out where the task plays them.
-pub record IsReadFor (task : Task) (input : List ℕ) (s : Script) (turns : List Turn) : Type 0 where
+-- A script was read from an input for a task, and its turns were moved out where the task plays them; its lines come
+-- from these.
+pub record IsReadFor (task : Task) (input : List ℕ) (s : Script) (turns : List Turn) (from : Option (List ℕ)) : Type 0 where
   pub text : List ℕ
   pub part : IsScriptText task input text
   pub script : Script
-  pub stands : StandsFor text (form_of task) script
+  pub reads : ReadsAs task text script from
   pub made : s ≡ planned task script
   pub moved : turns ≡ turns_for task script
 
--- A lawful plan of a script that was read from an input for a task, and the turns that the task plays.
-pub record IsLawfulPlan (task : Task) (input : List ℕ) (p : Plan) (turns : List Turn) : Type 0 where
+-- A lawful plan of a script that was read from an input for a task, the turns that the task plays, and the lines from
+-- which the script's come.
+pub record IsLawfulPlan (task : Task) (input : List ℕ) (p : Plan) (turns : List Turn) (from : Option (List ℕ)) :
+    Type 0 where
   pub short : length input ≤ input_limit
-  pub read : IsReadFor task input p.script turns
+  pub read : IsReadFor task input p.script turns from
   pub lowers : Lowers p.script (Ok p)
   pub lawful : IsLawful p
 
 -- what an input comes to before its task is done: such a plan, or the text that refuses the input
 abbrev pub IsReading : Task → List ℕ → Reading → Type 0
-IsReading task input (Lawful ordered turns) = IsLawfulPlan task input ordered turns
+IsReading task input (Lawful ordered turns from) = IsLawfulPlan task input ordered turns from
 IsReading task input (RefusedReading text) = IsOutcome task input Refused text.items
 
 -- What a run for a task wrote to the sink, by the status that it ended with: a whole text; a part
@@ -195,11 +225,12 @@ ReadsToEnd Refused before now =
     IfSome before (λ input. length input ≤ input_limit → now ≡ Some [])
 ReadsToEnd other before now = Unit {0}
 
--- An input stands for a lawful script of the form that a task reads, and has the trace that a task reads.
+-- An input is read as a lawful script in the form that a task reads, and has the trace that a task reads.
 pub record IsLawfulInput (task : Task) (input : List ℕ) : Type 0 where
   pub short : length input ≤ input_limit
   pub script : Script
-  pub plan : HasLawfulPlan task input script
+  pub from : Option (List ℕ)
+  pub plan : HasLawfulPlan task input script from
   pub trace : HasReadableTrace task input (plan_of (planned task script))
 
 -- a run ended with its whole text written, or for want of memory

@@ -8,13 +8,20 @@ use Rattle.vq_model.specs.declared.script.Turn.{Turn}
 use Rattle.vq_model.specs.Canonical.{canonical_text}
 use Rattle.vq_generator.specs.Generated.{generated_script}
 use Rattle.vq_words.specs.declared.task.Task.{Task}
-use Rattle.vq_words.specs.declared.task.Task.TheVariants.{Run, Check, Replay, Generate, Rounds, Upgrade, Audit}
+use Rattle.vq_words.specs.declared.task.Task.TheVariants.{Run, Check, Replay, Generate, Rounds, Upgrade, Audit, Hosts}
 use Rattle.vq_run.specs.declared.task.TaskRow.{TaskRow}
 
 -- a task that reads a plain script, and starts no thread
 abbrev pub plain_row : TaskRow
 plain_row =
-    record { form = Plain; reads_trace = false; plays_turns = false; runs_threads = false; rounds = None }
+    record {
+      form = Plain;
+      reads_trace = false;
+      reads_threads = false;
+      plays_turns = false;
+      runs_threads = false;
+      rounds = None;
+    }
 
 -- the tasks, a row for each
 abbrev pub row_of : Task → TaskRow
@@ -25,6 +32,7 @@ row_of (Generate rounds) = record plain_row { runs_threads = true; rounds = Some
 row_of Rounds = plain_row
 row_of Upgrade = plain_row
 row_of Audit = record plain_row { reads_trace = true }
+row_of Hosts = record plain_row { reads_threads = true; runs_threads = true }
 
 -- a task that starts no thread
 abbrev pub IsStill : Task → Type 0
@@ -33,6 +41,10 @@ IsStill task = (row_of task).runs_threads ≡ false
 -- a task that reads a trace behind the script
 abbrev pub ReadsTrace : Task → Type 0
 ReadsTrace task = (row_of task).reads_trace ≡ true
+
+-- a task that reads a text in which host threads stand in blocks
+abbrev pub ReadsThreads : Task → Type 0
+ReadsThreads task = (row_of task).reads_threads ≡ true
 
 -- a task that runs a script on threads
 abbrev pub RunsThreads : Task → Type 0

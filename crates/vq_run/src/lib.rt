@@ -3,6 +3,7 @@
 
 mod auditing;
 mod ending;
+mod origins;
 mod outcome;
 mod reading;
 mod status;

@@ -1,9 +1,10 @@
 //! What the program writes for an input.
-ghost use Rattle.std.specs.Prelude.{◌≡◌, ◌≤◌, ◌++◌, IfOk, length};
+ghost use Rattle.std.specs.Prelude.{◌≡◌, ◌≤◌, ◌++◌, ℕ, IfOk, List, Option, length};
 ghost use Rattle.vq_model.specs.Canonical.{canonical_text};
 ghost use Rattle.vq_model.specs.Memory.{HasSizes};
 ghost use Rattle.vq_model.specs.OutputText.{answer_text, buffers_text};
-ghost use Rattle.vq_model.specs.Outputs.{IsOutput, asking};
+ghost use Rattle.vq_model.specs.Outputs.{asking};
+ghost use Rattle.vq_run.specs.Origins.{IsOutputFrom};
 ghost use Rattle.vq_model.specs.ValidScripts.{sizes_of};
 ghost use Rattle.vq_messages.specs.Refused.{input_limit};
 ghost use Rattle.vq_run.specs.Outcomes.{AnswersTask, ArePlayable, IsLawfulPlan, IsOutcome, upgraded};
@@ -13,6 +14,7 @@ ghost use Rattle.vq_board.specs.Named.{bytes_of};
 ghost use Rattle.vq_spec.specs.TextRooms.{text_room};
 
 use crate::auditing::trace_outcome;
+use crate::origins::name_origins;
 use crate::reading::{Reading, read_input};
 use crate::status::Status;
 use crate::task::row_of;
@@ -20,6 +22,7 @@ use std::alloc::{AllocError, Global};
 use std::marker::Sync;
 use std::sync::Wait;
 use std::thread::Threads;
+use vq_model::list::List;
 use vq_model::script::Turn;
 use vq_order::Ordered;
 use vq_replay::{replay, rounds_text, trace_text};
@@ -57,18 +60,20 @@ impl Outcome {
     }
 }
 
-/// What a lawful plan writes where its queues run on threads. All memory is taken before the first turn; the error is
-/// that there is none.
+/// What a lawful plan writes where its queues run on threads, with the lines of the input. All memory is taken before
+/// the first turn; the error is that there is none.
 fn run_text<R: Threads + Wait + Sync, G: Gate>(
     rt: &R,
     alloc: Global,
     ordered: Ordered,
+    from: &Option<List<u32>>,
     gate: &G,
 ) -> Result<Vec<u8>, AllocError>
-    ensures { IfOk result (λ text. IsOutput ordered text.items) }
+    ensures { IfOk result (λ text. IsOutputFrom ordered from.now text.items) }
 {
     let room = TextRoom::new(alloc, ordered.plan())?;
-    let report = Opened::new(alloc, ordered)?.drive(rt, gate);
+    let mut report = Opened::new(alloc, ordered)?.drive(rt, gate);
+    name_origins(from, &mut report.answers);
     Ok(report_text(room, &report))
 }
 
@@ -105,7 +110,7 @@ fn upgraded_text(alloc: Global, ordered: &Ordered) -> Result<Vec<u8>, AllocError
     print_as(alloc, ordered.plan().script(), 2)
 }
 
-/// What a task that starts no thread and reads no trace writes for a lawful plan.
+/// What a task that starts no thread and reads no trace writes for a lawful plan, wherever its script's lines come from.
 fn still_text(
     alloc: Global,
     task: Task,
@@ -116,7 +121,8 @@ fn still_text(
     requires still { IsStill task }
     requires traceless { ¬ ReadsTrace task }
     requires playable { ArePlayable ordered.script turns.now }
-    ensures { IfOk result (λ text. AnswersTask task input.now ordered turns.now text.items) }
+    ensures { (from : Option (List ℕ)) → IfOk result (λ text.
+        AnswersTask task input.now ordered turns.now from text.items) }
 {
     let _ = input;
     match task {
@@ -124,7 +130,7 @@ fn still_text(
         Task::Replay => replay_text(alloc, ordered, turns),
         Task::Rounds => rounds_text(alloc, ordered),
         Task::Upgrade => upgraded_text(alloc, &ordered),
-        Task::Run | Task::Generate(_) | Task::Audit => unreachable!(),
+        Task::Run | Task::Generate(_) | Task::Audit | Task::Hosts => unreachable!(),
     }
 }
 
@@ -137,7 +143,7 @@ fn plan_outcome(
     input: &[u8],
 ) -> Result<Outcome, AllocError>
     requires still { IsStill task }
-    requires plan { IsLawfulPlan task input.now ordered turns.now }
+    requires plan { (from : Option (List ℕ)) × IsLawfulPlan task input.now ordered turns.now from }
     ensures { IfOk result (λ outcome. IsOutcome task input.now outcome.status outcome.text.items) }
 {
     if row_of(task).reads_trace {
@@ -154,7 +160,7 @@ pub fn still_outcome(alloc: Global, task: Task, input: &[u8]) -> Result<Outcome,
     ensures { IfOk result (λ outcome. IsOutcome task input.now outcome.status outcome.text.items) }
 {
     match read_input(alloc, task, input)? {
-        Reading::Lawful { ordered, turns } => {
+        Reading::Lawful { ordered, turns, .. } => {
             plan_outcome(alloc, task, ordered, turns.as_slice(), input)
         }
         Reading::Refused(text) => Ok(Outcome::refused(text)),
@@ -174,8 +180,8 @@ pub fn run_outcome<R: Threads + Wait + Sync, G: Gate>(
     ensures { IfOk result (λ outcome. IsOutcome task input.now outcome.status outcome.text.items) }
 {
     match read_input(alloc, task, input)? {
-        Reading::Lawful { ordered, .. } => {
-            let text = run_text(rt, alloc, ordered, gate)?;
+        Reading::Lawful { ordered, from, .. } => {
+            let text = run_text(rt, alloc, ordered, &from, gate)?;
             Ok(Outcome::done(text))
         }
         Reading::Refused(text) => Ok(Outcome::refused(text)),

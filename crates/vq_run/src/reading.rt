@@ -1,14 +1,17 @@
 //! What an input comes to before its task is done: a lawful plan, or a refusal.
-ghost use Rattle.std.specs.Prelude.{◌≡◌, ◌≤◌, IfOk, Ok, length};
+ghost use Rattle.std.specs.Prelude.{◌≡◌, ◌≤◌, ◌<◌, ◌-◌, ◌^◌, IfOk, IfErr, Ok, length};
+ghost use Rattle.vq_model.specs.Text.{lines_of};
 ghost use Rattle.vq_model.specs.LoweringFaults.{Lowers};
 ghost use Rattle.vq_messages.specs.Refused.{input_limit};
-ghost use Rattle.vq_run.specs.Outcomes.{IsReadFor, IsReading};
+ghost use Rattle.vq_run.specs.Outcomes.{HasFaultOf, IsReadFor, IsReading, ReadsAs};
 ghost use Rattle.vq_run.specs.Tasks.{planned, turns_for};
 
 use crate::auditing::script_text;
+use crate::origins::{order_fault_origin, plan_fault_origin};
 use crate::task::row_of;
 use std::alloc::{AllocError, Global};
 use std::mem::replace;
+use vq_hosts::{Compiled, HostsFault, compile};
 use vq_messages::{line_refusal, no_trace_refusal, order_refusal, plan_refusal};
 use vq_model::list::List;
 use vq_model::script::Turn;
@@ -20,8 +23,13 @@ use vq_words::Task;
 /// What an input comes to before its task is done.
 #[derive(Drop)]
 pub enum Reading {
-    /// A lawful plan, and the turns that the task plays over it.
-    Lawful { ordered: Ordered, turns: List<Turn> },
+    /// A lawful plan, the turns that the task plays over it, and the lines of the input from which those of its script
+    /// come, where these aren't the same.
+    Lawful {
+        ordered: Ordered,
+        turns: List<Turn>,
+        from: Option<List<u32>>,
+    },
     /// The text that refuses the input.
     Refused(Vec<u8>),
 }
@@ -32,16 +40,24 @@ fn of_plan(
     task: Task,
     plan: Plan,
     turns: List<Turn>,
+    from: Option<List<u32>>,
     input: &[u8],
 ) -> Result<Reading, AllocError>
     requires short { length input.now ≤ input_limit }
-    requires read { IsReadFor task input.now plan.script turns }
+    requires read { IsReadFor task input.now plan.script turns from }
     requires lowers { Lowers plan.script (Ok plan) }
     ensures { IfOk result (IsReading task input.now) }
 {
     match check(alloc, plan) {
-        Ok(ordered) => Ok(Reading::Lawful { ordered, turns }),
-        Err(fault) => Ok(Reading::Refused(order_refusal(alloc, fault)?)),
+        Ok(ordered) => Ok(Reading::Lawful {
+            ordered,
+            turns,
+            from,
+        }),
+        Err(fault) => {
+            let fault = order_fault_origin(&from, fault);
+            Ok(Reading::Refused(order_refusal(alloc, fault)?))
+        }
     }
 }
 
@@ -51,15 +67,19 @@ fn of_script(
     task: Task,
     script: Script,
     turns: List<Turn>,
+    from: Option<List<u32>>,
     input: &[u8],
 ) -> Result<Reading, AllocError>
     requires short { length input.now ≤ input_limit }
-    requires read { IsReadFor task input.now script turns }
+    requires read { IsReadFor task input.now script turns from }
     ensures { IfOk result (IsReading task input.now) }
 {
     match Plan::lower(alloc, script) {
-        Ok(plan) => of_plan(alloc, task, plan, turns, input),
-        Err(fault) => Ok(Reading::Refused(plan_refusal(alloc, fault)?)),
+        Ok(plan) => of_plan(alloc, task, plan, turns, from, input),
+        Err(fault) => {
+            let fault = plan_fault_origin(&from, fault);
+            Ok(Reading::Refused(plan_refusal(alloc, fault)?))
+        }
     }
 }
 
@@ -85,6 +105,34 @@ fn move_turns(alloc: Global, task: Task, script: Script) -> Planned
     Planned { script, turns }
 }
 
+/// A script that was read, and the lines of the text from which its own come, where these aren't the same.
+#[derive(Drop)]
+struct Parsed {
+    script: Script,
+    from: Option<List<u32>>,
+}
+
+/// Reads a text as a task does: where host threads stand in it, it is compiled.
+fn parse_for(alloc: Global, task: Task, text: &[u8]) -> Result<Parsed, ScriptFault>
+    requires { length (lines_of text.now) < 2 ^ 32 - 1 }
+    ensures reads { IfOk result (λ parsed. ReadsAs task text.now parsed.script parsed.from) }
+    ensures fault { IfErr result (HasFaultOf task text.now) }
+{
+    let row = row_of(task);
+    if !row.reads_threads {
+        let script = parse(alloc, text, row.form)?;
+        return Ok(Parsed { script, from: None });
+    }
+    match compile(alloc, text) {
+        Ok(Compiled { script, lines }) => Ok(Parsed {
+            script,
+            from: Some(List::of(lines)),
+        }),
+        Err(HostsFault::At { line, kind }) => Err(ScriptFault::At { line, kind }),
+        Err(HostsFault::Memory) => Err(ScriptFault::Memory),
+    }
+}
+
 /// Reads an input for a task: parses its script, makes the plan and checks that. The error is want of memory.
 #[tactic(auto, using(crate::proofs::Endings::traceless_outcome))]
 pub fn read_input(alloc: Global, task: Task, input: &[u8]) -> Result<Reading, AllocError>
@@ -94,10 +142,10 @@ pub fn read_input(alloc: Global, task: Task, input: &[u8]) -> Result<Reading, Al
     let Some(text) = script_text(task, input) else {
         return Ok(Reading::Refused(no_trace_refusal(alloc)?));
     };
-    match parse(alloc, text, row_of(task).form) {
-        Ok(script) => {
+    match parse_for(alloc, task, text) {
+        Ok(Parsed { script, from }) => {
             let Planned { script, turns } = move_turns(alloc, task, script);
-            of_script(alloc, task, script, turns, input)
+            of_script(alloc, task, script, turns, from, input)
         }
         Err(ScriptFault::Memory) => Err(AllocError),
         Err(ScriptFault::At { line, kind }) => {

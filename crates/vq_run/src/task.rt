@@ -12,6 +12,8 @@ pub struct TaskRow {
     pub form: Form,
     /// Whether a trace follows the script.
     pub reads_trace: bool,
+    /// Whether host threads stand in blocks between the lines of the script.
+    pub reads_threads: bool,
     /// Whether it plays the turns of a schedule, which are then no part of the plan.
     pub plays_turns: bool,
     /// Whether it runs the script on threads.
@@ -27,6 +29,7 @@ fn plain_row() -> TaskRow
     TaskRow {
         form: Form::Plain,
         reads_trace: false,
+        reads_threads: false,
         plays_turns: false,
         runs_threads: false,
         rounds: None,
@@ -54,6 +57,11 @@ pub(crate) fn row_of(task: Task) -> TaskRow
         },
         Task::Audit => TaskRow {
             reads_trace: true,
+            ..plain_row()
+        },
+        Task::Hosts => TaskRow {
+            reads_threads: true,
+            runs_threads: true,
             ..plain_row()
         },
         Task::Check | Task::Rounds | Task::Upgrade => plain_row(),

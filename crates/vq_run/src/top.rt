@@ -152,16 +152,18 @@ fn do_task<R: Threads + Wait + Sync, S: Source, K: Sink, G: Gate>(
 ///
 /// Without words the script is run on threads, and the gate is called before each turn. With `--check`
 /// alone it is only said whether it is lawful. With `--upgrade` alone a lawful script is written as one of
-/// the second version. With `--replay` alone the script has a schedule, which is played turn by turn. With `--audit`
-/// alone a trace follows the script, behind the first line with the one word `trace`, and is judged. With
-/// `--generate N`, or `--generate=N`, the program makes a script of N rounds itself, from 1 to 500, and
-/// runs it on threads; nothing is read then. Only a script that is run needs threads, waits for them or
-/// calls the gate. Other words are `BadWords`, and nothing is read then. Else the source is read to its
-/// end. An input above 4,194,304 bytes, with `--audit` one without a trace, a faulty line, a script without a
-/// plan, an unlawful plan and a faulty line of a trace are `Refused`, with the line of the first fault; else
-/// the text is one that a run of the script may give, `lawful`, a trace, the upgraded script or a verdict.
-/// `ReadFault` comes only where the source counted a fault in this call, `WriteFault` only where the sink did;
-/// `Memory` is want of memory. The whole text is written at once, at the end.
+/// the second version. With `--hosts` alone further host threads stand in blocks of the script; it is
+/// compiled to one in which they are queues, and that is run. With `--replay` alone the script has a
+/// schedule, which is played turn by turn. With `--rounds` alone a fair schedule is played to the end. With
+/// `--audit` alone a trace follows the script, behind the first line with the one word `trace`, and is
+/// judged. With `--generate N`, or `--generate=N`, the program makes a script of N rounds itself, from 1 to
+/// 500, and runs it on threads; nothing is read then. Only a script that is run needs threads, waits for
+/// them or calls the gate. Other words are `BadWords`, and nothing is read then. Else the source is read to
+/// its end. An input above 4,194,304 bytes, with `--audit` one without a trace, a faulty line, a script
+/// without a plan, an unlawful plan and a faulty line of a trace are `Refused`, with the line of the first
+/// fault; else the text is one that a run of the script may give, `lawful`, a trace, the upgraded script or
+/// a verdict. `ReadFault` comes only where the source counted a fault in this call, `WriteFault` only where
+/// the sink did; `Memory` is want of memory. The whole text is written at once, at the end.
 pub fn run<R: Threads + Wait + Sync, S: Source, K: Sink, G: Gate>(
     rt: &R,
     alloc: Global,

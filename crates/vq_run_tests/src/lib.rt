@@ -8,6 +8,8 @@ mod gate_tests;
 #[cfg(test)]
 mod host_tests;
 #[cfg(test)]
+mod hosts_tests;
+#[cfg(test)]
 mod limit_tests;
 #[cfg(test)]
 mod mode_tests;

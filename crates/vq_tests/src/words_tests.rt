@@ -20,6 +20,7 @@ fn words_ask_for_a_task(rt: HostRuntime) -> Result<(), Fail> {
         ("--rounds", Task::Rounds),
         ("--upgrade", Task::Upgrade),
         ("--audit", Task::Audit),
+        ("--hosts", Task::Hosts),
         ("--generate 500", Task::Generate(500)),
         ("--generate=500", Task::Generate(500)),
         ("--generate 007", Task::Generate(7)),

@@ -9,7 +9,7 @@ use Rattle.std.specs.Str.Parse.{digits_value}
 use Rattle.vq_words.specs.declared.table.Asks.{Asks}
 use Rattle.vq_words.specs.declared.table.Asks.TheVariants.{Alone, Numbered}
 use Rattle.vq_words.specs.declared.task.Task.{Task}
-use Rattle.vq_words.specs.declared.task.Task.TheVariants.{Run, Check, Replay, Generate, Rounds, Upgrade, Audit}
+use Rattle.vq_words.specs.declared.task.Task.TheVariants.{Run, Check, Replay, Generate, Rounds, Upgrade, Audit, Hosts}
 use Rattle.vq_words.specs.declared.task.WordsFault.{WordsFault}
 use Rattle.vq_words.specs.declared.task.WordsFault.TheVariants.{Bad, Memory}
 
@@ -46,6 +46,7 @@ options =
     ∷ record { word = codes "rounds"; asks = Alone Rounds }
     ∷ record { word = codes "upgrade"; asks = Alone Upgrade }
     ∷ record { word = codes "audit"; asks = Alone Audit }
+    ∷ record { word = codes "hosts"; asks = Alone Hosts }
     ∷ record { word = codes "generate"; asks = Numbered }
     ∷ []
 

@@ -25,9 +25,9 @@ fn has_clap_form(words: &[String]) -> bool
 
 /// Reads the words of the command line, without the program's name.
 ///
-/// The words are none, one of `--check`, `--replay`, `--rounds`, `--upgrade` and `--audit` alone, `--generate` and N, or
-/// `--generate=N` as one word, where N is one to three decimal digits that write a number from 1 to 500. `Bad` comes for every
-/// other list, and `Memory` where memory is wanting.
+/// The words are none, one of `--check`, `--replay`, `--rounds`, `--upgrade`, `--audit` and `--hosts` alone, `--generate`
+/// and N, or `--generate=N` as one word, where N is one to three decimal digits that write a number from 1 to 500. `Bad`
+/// comes for every other list, and `Memory` where memory is wanting.
 pub fn read_words(alloc: Global, words: &[String]) -> Result<Task, WordsFault>
     ensures asked { Gives result (task_of (map string_bytes words.now)) }
     ensures rounds { IfOk result HasFewRounds }

@@ -47,6 +47,10 @@ pub fn options() -> &'static [OptionRow]
             asks: Asks::Alone(Task::Audit),
         },
         OptionRow {
+            word: "hosts",
+            asks: Asks::Alone(Task::Hosts),
+        },
+        OptionRow {
             word: "generate",
             asks: Asks::Numbered,
         },

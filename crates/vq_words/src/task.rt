@@ -19,6 +19,8 @@ pub enum Task {
     Upgrade,
     /// `--audit`: the trace that follows the script is judged, and nothing is started.
     Audit,
+    /// `--hosts`: the script, in which threads stand in blocks, is run, and its answers and buffers are written.
+    Hosts,
 }
 
 /// Why words are not read.

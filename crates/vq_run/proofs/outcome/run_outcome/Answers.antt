@@ -7,5 +7,5 @@ use Rattle.vq_run.proofs.outcome.run_outcome.Goals as goal
 pub returns-in-Lawful : goal.returns-in-Lawful
 returns-in-Lawful g c =
     subst (λ (o : Outcome). IsOutcome c.args.task c.args.input.now o.status o.text.items) (sym c.done.ensures)
-    (lawful_done _ _ _ _ (rw c.in-Lawful.is at c.in_ok-ordered.ensures) _
-    (runs_answer _ _ _ _ _ c.requires.runs c.in_ok-text-in-Lawful.ensures))
+    (let plan = rw c.in-Lawful.is at c.in_ok-ordered.ensures in
+    lawful_done _ _ _ _ _ plan _ (runs_answer _ _ _ _ _ _ c.requires.runs plan c.in_ok-text-in-Lawful.ensures))

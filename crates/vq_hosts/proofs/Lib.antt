@@ -1,0 +1,15 @@
+mod BlockFaultsFound
+mod BlockForms
+mod BlockKinds
+mod BlockNext
+mod JobLines
+mod JoinedTold
+mod Joining
+mod PairSteps
+mod ReadOn
+mod RestFaults
+mod RestLines
+mod RestTold
+mod StepKinds
+mod ThreadBatches
+mod VersionForms
