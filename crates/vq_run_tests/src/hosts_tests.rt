@@ -52,7 +52,10 @@ fn faulty_threads_are_refused(rt: HostRuntime) -> Result<(), Fail> {
             ),
             ("thread T\nend\ntimeline A 0\n", "error: order: line 3\n"),
             ("host idle\nthread T\nend\n", "error: order: line 2\n"),
-            ("timeline A 0\nthread T\nwait A\nend\n", "error: syntax: line 3\n"),
+            (
+                "timeline A 0\nthread T\nwait A\nend\n",
+                "error: syntax: line 3\n",
+            ),
             ("thread T\n", "error: syntax: line 2\n"),
             ("thread T\nwait A 1\nend\n", "error: name: line 2\n"),
             ("thread T\nend\nthread T\nend\n", "error: twice: line 3\n"),
