@@ -1,4 +1,5 @@
-/* The check of vq for C: whether a script of queues, timelines and batches is lawful, and if not, its first fault.
+/* vq for C: whether a script of queues, timelines and batches is lawful, and if not, its first fault; and runs of lawful
+ * scripts, whose actors a program drives from threads of its own.
  *
  * Link with libvq_c.a and with an allocator: rattle_alloc, rattle_realloc and rattle_dealloc, as the kit's liblibc_c.a
  * has them over malloc, realloc and free.
@@ -6,11 +7,13 @@
  * What a caller owes, in each call, and nothing checks: pointers are valid and not null, also at length 0; the text
  * doesn't change during the call, and the room isn't read or written by anybody else; malloc, realloc and free are of
  * one allocator and align to 16 bytes. A call may come from any thread, not from a signal handler, and not in the
- * child of a fork of a process with threads. No call keeps anything, waits, or ends the process.
+ * child of a fork of a process with threads. No call waits, starts a thread, or ends the process, and only vq_open keeps
+ * something, until vq_close.
  */
 #ifndef VQ_H
 #define VQ_H
 
+#include <stdbool.h>
 #include <stddef.h>
 #include <stdint.h>
 
@@ -39,6 +42,52 @@ enum vq_code {
     VQ_FENCE_BUSY = 50,     /* a fence is reset that may be in use */
     VQ_NOT_PENDING = 51,    /* a wait of an immediate queue may not be pending */
     VQ_RACE = 52,           /* commands of two batches share a byte, in no sure order */
+    VQ_DONE = 0,            /* the call did what it says */
+    VQ_MOVED = 64,          /* the turn made an event */
+    VQ_BLOCKED = 65,        /* the actor waits for something: nothing was done */
+    VQ_ENDED = 66,          /* nothing of the actor is left to do */
+    VQ_NO_ACTOR = 80,       /* no actor has this number: nothing was done */
+    VQ_NO_JOB = 81,         /* the plan has no such job */
+    VQ_NO_OP = 82,          /* the plan has no such signal operation */
+    VQ_NO_BUFFER = 83,      /* the plan has no such buffer */
+    VQ_UNFINISHED = 84,     /* not all jobs are finished yet */
+    VQ_NO_ROOM = 85,        /* the room is too small: it was filled, and the rest left out */
+};
+
+enum vq_event {
+    VQ_EVENT_SUBMIT = 1,   /* a batch was submitted */
+    VQ_EVENT_TAKE = 2,     /* a signal operation was given a point */
+    VQ_EVENT_RELEASE = 3,  /* a batch was released to its queue */
+    VQ_EVENT_BIND = 4,     /* a signal operation was bound to its point: it is pending */
+    VQ_EVENT_REFER = 5,    /* the actor refers to a point */
+    VQ_EVENT_LOOK = 6,     /* the actor saw a point signaled */
+    VQ_EVENT_UNREF = 7,    /* the actor gave back a reference */
+    VQ_EVENT_COMPLETE = 8, /* a signal operation is past */
+    VQ_EVENT_FREE = 9,     /* a point was freed */
+    VQ_EVENT_START = 10,   /* a batch or a host step was started */
+    VQ_EVENT_APPLY = 11,   /* a command was applied to the buffers */
+    VQ_EVENT_SIGNAL = 12,  /* a signal operation was signaled */
+    VQ_EVENT_FINISH = 13,  /* a batch or a host step was finished */
+    VQ_EVENT_ANSWER = 14,  /* a host step was answered */
+};
+
+enum vq_want {
+    VQ_WANT_SUBMITTED = 1,   /* a batch is submitted */
+    VQ_WANT_RELEASED = 2,    /* a batch is released */
+    VQ_WANT_BOUND = 3,       /* a signal operation is pending */
+    VQ_WANT_NEXT = 4,        /* a signal operation is pending that another one follows */
+    VQ_WANT_SIGNALED = 5,    /* a signal operation is signaled */
+    VQ_WANT_FINISHED = 6,    /* a job is finished */
+    VQ_WANT_MEMORY_TURN = 7, /* the buffers are free */
+    VQ_WANT_EXCHANGE = 8,    /* the word of a point wasn't changed just then */
+    VQ_WANT_LISTED = 9,      /* the lists of a chain are free */
+};
+
+enum vq_answer {
+    VQ_ANSWER_REACHED = 1,   /* ok */
+    VQ_ANSWER_TIMEOUT = 2,   /* timeout */
+    VQ_ANSWER_NOT_READY = 3, /* not-ready */
+    VQ_ANSWER_VALUE = 4,     /* value, and the payload that was read */
 };
 /* The end of the codes. */
 
@@ -66,6 +115,81 @@ struct vq_verdict vq_check(const uint8_t *text, size_t length);
  * bytes of these words as go into the room are written there, with no zero behind them; `*needed` is how many there
  * are. The rest of the room stays as it is. */
 struct vq_verdict vq_explain(const uint8_t *text, size_t length, uint8_t *room, size_t size, size_t *needed);
+
+/* A run of a lawful script. vq_open writes `at`, and vq_close ends what is there.
+ *
+ * What a caller owes of a run, and nothing checks: each call is given a run that vq_open opened and that isn't closed,
+ * as vq_open wrote it; two structs don't stand for one run; and calls on one run are made one at a time. Where several
+ * threads drive its actors, a mutex is held round each call. Runs are free of one another.
+ */
+struct vq_run {
+    void *at;
+};
+
+/* What a turn made (VQ_MOVED; `kind` is of enum vq_event), or what the actor waits for (VQ_BLOCKED; `kind` is of enum
+ * vq_want). Numbers that it doesn't speak of are VQ_NONE. `more` is 1 where VQ_EVENT_TAKE gives a new point, and of
+ * enum vq_answer for VQ_EVENT_ANSWER, where `value` is the payload that was read. */
+#define VQ_NONE UINT32_MAX
+struct vq_turn {
+    uint32_t kind;
+    uint32_t job;     /* a batch or a step of the host; vq_line has its line */
+    uint32_t op;      /* a signal operation; vq_op has what it signals */
+    uint32_t point;   /* a point: a semaphore of the device's own, which operations share by turns */
+    uint32_t command; /* a command */
+    uint32_t more;
+    uint64_t value;
+};
+
+/* A signal operation: the chain that it is of (that of a semaphore or a fence, in the order of the script), its place
+ * there, its job, its line, and the payload that it sets. */
+struct vq_signal {
+    uint32_t chain;
+    uint32_t index;
+    uint32_t job;
+    uint32_t line;
+    uint64_t value;
+};
+
+/* What a step of the host was answered: the step's line, a number of enum vq_answer, and the payload that was read. */
+struct vq_answered {
+    uint32_t line;
+    uint32_t kind;
+    uint64_t value;
+};
+
+/* The verdict of vq_check; where it is VQ_LAWFUL, `*run` is a run of the script before its first turn, and else it stays
+ * as it was. All memory of the run's turns is taken here. */
+struct vq_verdict vq_open(const uint8_t *text, size_t length, struct vq_run *run);
+
+/* How many numbers actors have: 0 is the host's, and of the queue q, from 0 in the order of the script, 2q + 1 its submit
+ * actor's and 2q + 2 its ring's. Where the host submits for a queue, no actor has the number 2q + 1. */
+uint64_t vq_actors(struct vq_run *run);
+
+/* One turn of an actor. VQ_MOVED: it made one event, told in `*turn`. VQ_BLOCKED: it waits for what `*turn` tells, which
+ * isn't so, and made nothing; ask again after another actor has moved. VQ_ENDED: nothing of it is left to do.
+ * VQ_NO_ACTOR: no actor has the number. With the last two `*turn` stays. It takes no memory. */
+uint32_t vq_turn(struct vq_run *run, uint32_t actor, struct vq_turn *turn);
+
+/* The line of a job, counted from 1; 0 where there is none. */
+uint32_t vq_line(struct vq_run *run, uint32_t job);
+
+/* What an operation signals. VQ_DONE, or VQ_NO_OP, and then `*signal` stays. */
+uint32_t vq_op(struct vq_run *run, uint32_t op, struct vq_signal *signal);
+
+/* Whether all jobs are finished. */
+bool vq_finished(struct vq_run *run);
+
+/* What the steps of the host were answered so far, in the order of the script. So many rows as go into the room are
+ * written to its front, and `*needed` is how many there are: VQ_DONE, or VQ_NO_ROOM where some were left out.
+ * VQ_NO_MEMORY: nothing was written. The size of the room is in rows. */
+uint32_t vq_answers(struct vq_run *run, struct vq_answered *room, size_t size, size_t *needed);
+
+/* The bytes of a buffer, numbered from 0 in the order of the script, once all jobs are finished: as vq_answers.
+ * VQ_UNFINISHED, VQ_NO_BUFFER, VQ_NO_MEMORY: nothing was written. */
+uint32_t vq_bytes(struct vq_run *run, uint32_t buffer, uint8_t *room, size_t size, size_t *needed);
+
+/* Ends a run, wherever it is, and frees its memory. */
+void vq_close(struct vq_run run);
 
 #ifdef __cplusplus
 }

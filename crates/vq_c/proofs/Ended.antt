@@ -1,5 +1,5 @@
 -- What the check of a text ends with, from what lowering and the check of the order answer.
-use Rattle.std.proofs.Common.{◌≡◌, ℕ, List, Ok, Err, subst}
+use Rattle.std.proofs.Common.{◌≡◌, ℕ, List, Ok, Err, ◌∙◌, subst}
 use Rattle.vq_model.specs.declared.script.Script.{Script}
 use Rattle.vq_model.specs.declared.plan.PlanFault.{PlanFault}
 use Rattle.vq_model.specs.declared.plan.PlanFault.TheVariants.{NoSignal, SignaledTwice, FenceUsed}
@@ -10,8 +10,7 @@ use Rattle.vq_model.specs.declared.plan.OrderFault.TheVariants.{Race, Memory as 
 use Rattle.vq_model.specs.Plan.{Plan}
 use Rattle.vq_model.specs.LoweringFaults.{Lowers}
 use Rattle.vq_model.specs.Checks.{Checks, IsLawful, IsFirstPlanFault}
-use Rattle.vq_c.specs.declared.ending.Ending.TheVariants.{Lawful}
-use Rattle.vq_c.specs.Endings.{IsEnding, IsReadFrom, ending_of_plan, ending_of_order}
+use Rattle.vq_c.specs.Endings.{IsEnding, IsLawfulPlanOf, IsReadFrom, ending_of_plan, ending_of_order}
 
 -- a fault of lowering
 pub no_plan : (text : List ℕ) (s : Script) → IsReadFrom text s → (fault : PlanFault) →
@@ -22,8 +21,8 @@ no_plan text s r (FenceUsed n) l = (s, r, l)
 no_plan text s r NoMemoryToLower l = tt
 
 module _ (text : List ℕ) (p : Plan) (r : IsReadFrom text p.script) (l : Lowers p.script (Ok p)) where
-  pub lawful : IsLawful p → IsEnding text Lawful
-  lawful h = (p.script, r, l.0, subst IsLawful l.1 h)
+  pub lawful : (q : Plan) → q ≡ p → IsLawful p → IsLawfulPlanOf text q
+  lawful q e h = (p.script, r, l.0, e ∙ l.1, subst IsLawful l.1 h)
 
   -- a fault of the order
   pub unlawful : (fault : OrderFault) → Checks p (Err fault) → IsEnding text (ending_of_order fault)

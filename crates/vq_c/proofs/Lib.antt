@@ -1,1 +1,3 @@
 mod Ended
+pub mod HandleValues
+mod TurnedSo

@@ -4,6 +4,7 @@ use Rattle.vq_model.specs.declared.script.Script.{Script}
 use Rattle.vq_model.specs.declared.statement.Form.TheVariants.{Plain}
 use Rattle.vq_model.specs.Reading.{StandsFor, IsFirstFault}
 use Rattle.vq_model.specs.Lowering.{plan_of}
+use Rattle.vq_model.specs.Plan.{Plan}
 use Rattle.vq_model.specs.LoweringFaults.{lowering_fault, IsFirstLoweringFault}
 use Rattle.vq_model.specs.Checks.{IsLawful, IsFirstPlanFault}
 use Rattle.vq_messages.specs.Refused.{input_limit}
@@ -30,6 +31,11 @@ IsEnding text (NoPlan fault) = (s : Script) × IsReadFrom text s × IsFirstLower
 IsEnding text (Unlawful fault) =
     (s : Script) × IsReadFrom text s × (lowering_fault s ≡ None)
     × IsFirstPlanFault (plan_of s) fault
+
+-- the plan is that of a script that the text stands for, and lawful
+abbrev pub IsLawfulPlanOf : List ℕ → Plan → Type 0
+IsLawfulPlanOf text p =
+    (s : Script) × IsReadFrom text s × (lowering_fault s ≡ None) × (p ≡ plan_of s) × IsLawful (plan_of s)
 
 -- what a fault ends with, among which is want of memory
 

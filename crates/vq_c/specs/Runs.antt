@@ -1,0 +1,111 @@
+-- Calls on a run, as C makes them. This project's own.
+use Rattle.std.specs.Prelude.{ℕ, ◌≡◌, ◌<◌, ◌≤◌, ◌++◌, List, [], ◌⊎◌, length, map, take, drop, nat_le, if◌then◌else◌}
+use Rattle.std.specs.Prelude.{Option, Some, None}
+use Rattle.std.specs.List.{slice_get, slice_index_or}
+use Rattle.vq_model.specs.declared.plan.AnswerLine.{AnswerLine}
+use Rattle.vq_model.specs.declared.plan.Op.{Op}
+use Rattle.vq_model.specs.Machine.{AreFinished}
+use Rattle.vq_model.specs.OutputText.{answers_of, buffers_text, lines_answered}
+use Rattle.vq_model.specs.Outputs.{IsOutput}
+use Rattle.vq_model.specs.Plan.{Plan}
+use Rattle.vq_model.specs.SlowRun.{final}
+use Rattle.vq_core.specs.CoreState.{world}
+use Rattle.vq_troupe.specs.Casts.{Cast, first_places, places}
+use Rattle.vq_turns.specs.declared.outcome.Outcome.{Outcome}
+use Rattle.vq_drive.specs.Driven.{IsTurnOf}
+use Rattle.vq_c.specs.declared.ending.Ending.{Ending}
+use Rattle.vq_c.specs.declared.ending.Ending.TheVariants.{Lawful}
+use Rattle.vq_c.specs.declared.reply.Reply.{Reply}
+use Rattle.vq_c.specs.declared.reply.Reply.TheVariants.{Done, NoMemory, NoOp, NoBuffer, Unfinished, NoRoom}
+use Rattle.vq_c.specs.declared.rows.AnswerRow.{AnswerRow}
+use Rattle.vq_c.specs.declared.rows.OpRow.{OpRow}
+use Rattle.vq_c.specs.declared.turn.Turn.{Turn}
+use Rattle.vq_c.specs.declared.verdict.Verdict.{Verdict}
+use Rattle.vq_c.specs.Endings.{IsEnding, IsLawfulPlanOf}
+use Rattle.vq_c.specs.Kinds.{answer_code, reply_code}
+use Rattle.vq_c.specs.Turns.{answer_number, reply_of, told}
+use Rattle.vq_c.specs.Verdicts.{verdict_of}
+
+-- a run of the lawful plan of a text, before its first turn
+abbrev pub IsRunOf : List ℕ → Cast → Type 0
+IsRunOf text x =
+    IsLawfulPlanOf text x.course.plan × (x.course.history ≡ []) × (places x ≡ first_places)
+
+-- Opening: the verdict is that of the text, and where it isn't lawful, what stood for the run stays.
+abbrev pub HasOpened : List ℕ → {A : Type 0} → A → A → Verdict → Type 0
+HasOpened text old new v =
+    (e : Ending) × IsEnding text e × (v ≡ verdict_of e) × ((e ≡ Lawful) ⊎ (new ≡ old))
+
+-- A turn: the run goes on by a turn of the actor with this number, whose outcome is told.
+abbrev pub HasTurned : Cast → Cast → ℕ → Turn → Turn → ℕ → Type 0
+HasTurned old new n before after code =
+    (o : Option Outcome) × IsTurnOf old new n o × (after ≡ told o before) × (code ≡ reply_code (reply_of o))
+
+-- Rooms
+
+-- a room with as many items in front as go into it; the rest is as it was
+abbrev pub with_front_of : {A : Type 0} → List A → List A → List A
+with_front_of items room = take (length room) items ++ drop (length items) room
+
+-- whether so many items go into so much room
+abbrev pub fit_reply : ℕ → ℕ → Reply
+fit_reply items room = if nat_le items room then Done else NoRoom
+
+-- Answers
+
+abbrev pub row_of : AnswerLine → AnswerRow
+row_of x = record { line = x.line; kind = answer_code x.answer; value = answer_number x.answer }
+
+abbrev pub rows_of : Cast → List AnswerRow
+rows_of x = map row_of (lines_answered x.course.plan (world x.course).machine)
+
+-- The answers so far stand in front of the room; or there was no memory.
+abbrev pub HasAnswered : Cast → List AnswerRow → List AnswerRow → ℕ → ℕ → ℕ → Type 0
+HasAnswered x old new before needed code =
+    ((new ≡ with_front_of (rows_of x) old) × (needed ≡ length (rows_of x))
+    × (code ≡ reply_code (fit_reply (length (rows_of x)) (length old))))
+    ⊎ ((new ≡ old) × (needed ≡ before) × (code ≡ reply_code NoMemory))
+
+-- Bytes
+
+-- All jobs are finished, these are the bytes that the plan leaves in the buffer, and all its bytes with the answers are
+-- one of its outputs.
+pub record IsLeft (x : Cast) (n : ℕ) (bytes : List ℕ) : Type 0 where
+  pub finished : AreFinished x.course.plan (world x.course).machine.progress
+  pub exists : n < length (final x.course.plan)
+  pub left : bytes ≡ slice_index_or (final x.course.plan) n []
+  pub output : IsOutput x.course.plan
+      (answers_of x.course.plan (world x.course).machine
+      ++ buffers_text x.course.plan.script.buffers (final x.course.plan))
+
+-- why no bytes were read
+abbrev pub IsUnread : Cast → ℕ → Reply → Type 0
+IsUnread x n NoMemory = Unit {0}
+IsUnread x n Unfinished = AreFinished x.course.plan (world x.course).machine.progress → ⊥
+IsUnread x n NoBuffer = length (final x.course.plan) ≤ n
+IsUnread x n other = ⊥
+
+-- The bytes stand in front of the room; or none were read.
+abbrev pub HasRead : Cast → ℕ → List ℕ → List ℕ → ℕ → ℕ → ℕ → Type 0
+HasRead x n old new before needed code =
+    ((bytes : List ℕ) × IsLeft x n bytes × (new ≡ with_front_of bytes old) × (needed ≡ length bytes)
+    × (code ≡ reply_code (fit_reply (length bytes) (length old))))
+    ⊎ ((r : Reply) × IsUnread x n r × (new ≡ old) × (needed ≡ before) × (code ≡ reply_code r))
+
+-- Signal operations
+
+abbrev pub op_row : Op → OpRow
+op_row o = record { chain = o.chain; index = o.index; job = o.job; line = o.line; value = o.value }
+
+abbrev pub op_told : Option Op → OpRow → OpRow
+op_told None before = before
+op_told (Some o) before = op_row o
+
+abbrev pub op_reply : Option Op → Reply
+op_reply None = NoOp
+op_reply (Some o) = Done
+
+abbrev pub HasOp : Cast → ℕ → OpRow → OpRow → ℕ → Type 0
+HasOp x e before after code =
+    let found : Option Op = slice_get x.course.plan.ops e in
+    (after ≡ op_told found before) × (code ≡ reply_code (op_reply found))
