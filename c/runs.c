@@ -16,10 +16,10 @@
 
 enum { LONGEST = 1 << 23, THREADS = 9, ANSWERS = 4096, BYTES = 1 << 22 };
 
+#ifndef WITHOUT_REFUSALS /* the linker sends malloc and realloc here */
+
 /* Allocations until one is refused; none while this is 0. */
 static _Thread_local unsigned long left;
-
-#ifndef WITHOUT_REFUSALS /* the linker sends malloc and realloc here */
 
 void *__real_malloc(size_t size);
 void *__real_realloc(void *block, size_t size);
