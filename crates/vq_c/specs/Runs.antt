@@ -7,7 +7,6 @@ use Rattle.vq_model.specs.declared.plan.Op.{Op}
 use Rattle.vq_model.specs.Machine.{AreFinished}
 use Rattle.vq_model.specs.OutputText.{answers_of, buffers_text, lines_answered}
 use Rattle.vq_model.specs.Outputs.{IsOutput}
-use Rattle.vq_model.specs.Plan.{Plan}
 use Rattle.vq_model.specs.SlowRun.{final}
 use Rattle.vq_core.specs.CoreState.{world}
 use Rattle.vq_troupe.specs.Casts.{Cast, first_places, places}

@@ -1,5 +1,5 @@
 -- What crosses to C of a turn. This project's own.
-use Rattle.std.specs.Prelude.{ℕ, Bool, true, false, Option, Some, None, if◌then◌else◌}
+use Rattle.std.specs.Prelude.{ℕ, Option, Some, None, if◌then◌else◌}
 use Rattle.vq_model.specs.declared.plan.Answer.{Answer}
 use Rattle.vq_model.specs.declared.plan.Answer.TheVariants.{Value}
 use Rattle.vq_model.specs.declared.plan.Event.{Event}
