@@ -7,6 +7,10 @@ mod polls_tests;
 #[cfg(test)]
 mod pool_tests;
 #[cfg(test)]
+mod pool_threads_tests;
+#[cfg(test)]
+mod pools;
+#[cfg(test)]
 mod threads_tests;
 #[cfg(test)]
 mod waits;
