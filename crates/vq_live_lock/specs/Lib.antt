@@ -1,0 +1,4 @@
+pub mod Gauges
+pub mod Named
+pub mod Keeping
+pub mod Locked

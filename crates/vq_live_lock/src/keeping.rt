@@ -1,0 +1,39 @@
+//! Showing a raised payload, and keeping the least value that is waited for.
+//!
+//! Source: this project's own.
+ghost use Rattle.std.specs.Prelude.{◌≡◌};
+ghost use Rattle.vq_live_lock.specs.Keeping.{IsHeld, IsShown};
+
+use crate::gauge::Gauge;
+use crate::kept::Kept;
+
+impl Kept {
+    /// Raises the gauge to the payload. It says whether a value is reached that somebody may wait for;
+    /// then nobody is known to wait.
+    pub(crate) fn publish(&mut self, gauge: &Gauge) -> bool
+        requires { IsHeld gauge.now self.old }
+        ensures shown { IsShown gauge.now self.new }
+        ensures timeline { self.new.timeline ≡ self.old.timeline }
+    {
+        let payload = self.timeline.value();
+        gauge.raise(&mut self.pen, payload);
+        match self.least {
+            Some(least) if least <= payload => {
+                self.least = None;
+                true
+            }
+            _ => false,
+        }
+    }
+
+    /// Notes that somebody waits for this value.
+    pub(crate) fn watch(&mut self, value: u64)
+        ensures timeline { self.new.timeline ≡ self.old.timeline }
+        ensures pen { self.new.pen ≡ self.old.pen }
+    {
+        self.least = match self.least {
+            Some(least) if least <= value => Some(least),
+            _ => Some(value),
+        };
+    }
+}

@@ -1,0 +1,18 @@
+//! A live timeline under a lock of its own, and waiting for its values: for one, for all of several, or
+//! for any of several, with no spinning.
+#![tactic(auto)]
+
+mod bell;
+mod gauge;
+mod keeping;
+mod kept;
+mod locked;
+mod locking;
+mod quiet;
+mod reading;
+mod ringing;
+mod rule;
+
+pub use bell::Bell;
+pub use gauge::Reached;
+pub use locked::{LiveGuard, LockedLive};

@@ -1,0 +1,64 @@
+//! The opening of a locked timeline, and its lock.
+//!
+//! Source: this project's own.
+ghost use Rattle.std.specs.Prelude.{◌≡◌, IfOk};
+ghost use Rattle.std.specs.Arc.{arc_value};
+ghost use Rattle.vq_live_lock.specs.Named.{initial_of};
+ghost use Rattle.vq_live_lock.specs.Locked.{IsFree, IsTaken};
+
+use crate::bell::Bell;
+use crate::gauge::Gauge;
+use crate::kept::{Home, Kept};
+use crate::locked::{LiveGuard, LockedLive};
+use std::alloc::{AllocError, Global};
+use std::snapshot::Snapshot;
+use std::sync::{Arc, Wait};
+use vq_live::LiveTimeline;
+use vq_lock::KeyedLock;
+
+impl LockedLive {
+    /// A timeline that reached this value, with no points, and with this bell. The error is want of
+    /// memory; of the other calls only `take` wants any.
+    pub fn new(
+        alloc: Global,
+        bell: &Arc<Bell, Global>,
+        initial: u64,
+    ) -> Result<LockedLive, AllocError>
+        ensures bell { IfOk result (λ t. arc_value t.bell ≡ arc_value bell.now) }
+        ensures from { IfOk result (λ t. initial_of t.gauge ≡ initial) }
+    {
+        let bell = Arc::try_clone(bell)?;
+        let (gauge, pen) = Gauge::new(alloc, initial)?;
+        let home = Home {
+            gauge: Snapshot::of(&gauge),
+        };
+        let kept = Kept {
+            timeline: LiveTimeline::new(alloc, initial),
+            pen,
+            least: None,
+        };
+        let lock = KeyedLock::new(alloc, &home, kept)?;
+        Ok(LockedLive { lock, gauge, bell })
+    }
+
+    /// Waits until the lock is free, and takes it.
+    pub fn lock<R: Wait>(&self, rt: &R) -> LiveGuard
+        ensures { IsFree self.now result }
+    {
+        LiveGuard {
+            guard: self.lock.lock(rt),
+        }
+    }
+
+    /// Shows the payload to all, frees the lock, and wakes who waits where a value is reached that somebody waits for.
+    pub fn unlock(&self, guard: LiveGuard)
+        requires { IsTaken self.now guard }
+    {
+        let LiveGuard { mut guard } = guard;
+        let rings = guard.content(&self.lock).publish(&self.gauge);
+        self.lock.unlock(guard);
+        if rings {
+            self.bell.ring();
+        }
+    }
+}
