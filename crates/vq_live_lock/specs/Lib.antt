@@ -2,3 +2,5 @@ pub mod Gauges
 pub mod Named
 pub mod Keeping
 pub mod Locked
+pub mod Answers
+pub mod Waits

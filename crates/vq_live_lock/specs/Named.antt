@@ -1,5 +1,5 @@
 -- A gauge, its pen and what shows a value of it, as contracts name them. This project's own.
-use Rattle.std.specs.Prelude.{ℕ, [], ◌≡◌}
+use Rattle.std.specs.Prelude.{ℕ, [], ◌≡◌, ◌≤◌}
 use Rattle.vq_live_lock.specs.declared.gauge.Gauge.{Gauge}
 use Rattle.vq_live_lock.specs.declared.gauge.Pen.{Pen}
 use Rattle.vq_live_lock.specs.declared.gauge.Reached.{Reached}
@@ -11,7 +11,8 @@ initial_of g = g.table.shared.key.initial
 
 -- the pen is the gauge's, which has this value
 abbrev pub IsPenOf : Gauge → Pen → ℕ → Type 0
-IsPenOf g pen n = (pen.seat.table_id ≡ g.table.shared.table_id) × (pen.seat.me ≡ (known n 1, []))
+IsPenOf g pen n =
+    (pen.seat.table_id ≡ g.table.shared.table_id) × (pen.seat.me ≡ (known n 1, [])) × (initial_of g ≤ n)
 
 -- it shows that the gauge reached this value
 abbrev pub Shows : Gauge → Reached → ℕ → Type 0

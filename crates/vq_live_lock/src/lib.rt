@@ -2,7 +2,9 @@
 //! for any of several, with no spinning.
 #![tactic(auto)]
 
+mod asking;
 mod bell;
+mod calls;
 mod gauge;
 mod keeping;
 mod kept;
@@ -12,7 +14,11 @@ mod quiet;
 mod reading;
 mod ringing;
 mod rule;
+mod waiting;
+mod waits;
 
 pub use bell::Bell;
 pub use gauge::Reached;
 pub use locked::{LiveGuard, LockedLive};
+pub use waiting::Wanted;
+pub use waits::wait_all;
