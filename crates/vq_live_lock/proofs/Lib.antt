@@ -1,2 +1,3 @@
-mod Rising
 mod InHand
+mod Meeting
+mod Rising

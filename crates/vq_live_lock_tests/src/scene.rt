@@ -1,0 +1,52 @@
+//! Two timelines with one bell, and one by which the waiting thread answers.
+ghost use Rattle.std.specs.Arc.{arc_value};
+ghost use Rattle.vq_live_lock.specs.Locked.{IsOn};
+
+use std::alloc::{AllocError, Global};
+use std::sync::{Arc, Wait};
+use vq_live_lock::{Bell, LockedLive};
+
+#[derive(Drop)]
+pub(crate) struct Scene {
+    pub(crate) bell: Arc<Bell, Global>,
+    pub(crate) first: LockedLive,
+    pub(crate) second: LockedLive,
+    pub(crate) done: LockedLive,
+    ghost first_on: { IsOn (arc_value bell) first },
+    ghost second_on: { IsOn (arc_value bell) second },
+}
+
+impl Scene {
+    pub(crate) fn new(alloc: Global) -> Result<Scene, AllocError> {
+        let bell = Arc::new(alloc, Bell::new(alloc)?)?;
+        let first = LockedLive::new(alloc, &bell, 0)?;
+        let second = LockedLive::new(alloc, &bell, 0)?;
+        let done = LockedLive::new(alloc, &bell, 0)?;
+        Ok(Scene {
+            bell,
+            first,
+            second,
+            done,
+        })
+    }
+}
+
+/// Takes a point for the value, installs it and completes it.
+pub(crate) fn reach<R: Wait>(rt: &R, timeline: &LockedLive, value: u64) -> bool {
+    let Ok(given) = timeline.take(rt, value) else {
+        return false;
+    };
+    if timeline.install(rt, given).is_err() {
+        return false;
+    }
+    timeline.complete(rt) == Some(given)
+}
+
+/// Reaches four values, of which the last is waited for.
+pub(crate) fn reach_four<R: Wait>(rt: &R, timeline: &LockedLive, last: u64) -> bool {
+    let mut is_right = true;
+    for below in [3, 2, 1, 0] {
+        is_right = reach(rt, timeline, last.wrapping_sub(below)) && is_right;
+    }
+    is_right
+}
