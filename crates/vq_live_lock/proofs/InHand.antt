@@ -24,7 +24,6 @@ pub shown : (h : Gauge) (l : KeyedLock Home Kept) (g : Guard Home Kept) (x y : K
     Has l g y → IsShown h y
 shown h l g x y a is b = subst (λ (z : Kept). IsShown h z) (same_content l g x y a b) is
 
-
 pub held : (h : Gauge) (x : Kept) (v : Live) → IsShown h x → KeepsLive v → x.timeline.payload ≤ v.payload →
     IsHeld h (record { timeline = v; pen = x.pen; least = x.least })
 held h x v is kept rises = (kept, (x.timeline.payload, is.1, rises))

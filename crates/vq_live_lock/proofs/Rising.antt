@@ -38,7 +38,7 @@ module _ {S : Type 0} where
       let n : ℕ = get_or s.words 0 0 in
       let w : Known = known n 0 in
       let old : (i : ℕ) (v : Known) → get_elem? (s.views ++ w ∷ []) i ≡ some v → v.writes ≡ 1 → get_elem? s.views i ≡ some v =
-          λ i v e g. ⊎_elim (λ a. a) (λ b. absurd (let t = ap writes_of b.1 in omega arith)) (at_end s.views w v i e) in (
+      λ i v e g. ⊎_elim (λ a. a) (λ b. absurd (let t = ap writes_of b.1 in omega arith)) (at_end s.views w v i e) in (
         w,
         record {
           wide = r.wide;
@@ -57,9 +57,9 @@ module _ {S : Type 0} where
       let w : Known = known n 0 in
       let now : get_or (set s.words 0 n) 0 0 ≡ n = get_or-set_same s.words 0 n 0 (let w = r.wide in omega arith) in
       let old : (i : ℕ) (v : Known) → get_elem? (set s.views id w) i ≡ some v → v.writes ≡ 1 → get_elem? s.views i ≡ some v =
-          λ i v e g. ⊎_elim (λ (t : (i ≡ id) × (w ≡ v)). absurd (let q = ap writes_of t.1 in omega arith)) (λ (t : (i ≢ id) × (get_elem? s.views i ≡ some v)). t.1) (at_set s.views id i w v e) in
+      λ i v e g. ⊎_elim (λ (t : (i ≡ id) × (w ≡ v)). absurd (let q = ap writes_of t.1 in omega arith)) (λ (t : (i ≢ id) × (get_elem? s.views i ≡ some v)). t.1) (at_set s.views id i w v e) in
       let below : (i : ℕ) (v : Known) → get_elem? (set s.views id w) i ≡ some v → v.floor ≤ n =
-          λ i v e. ⊎_elim (λ (t : (i ≡ id) × (w ≡ v)). subst (λ (k : ℕ). k ≤ n) (ap floor_of t.1) (le_refl n)) (λ (t : (i ≢ id) × (get_elem? s.views i ≡ some v)). r.below i v t.1) (at_set s.views id i w v e) in (
+      λ i v e. ⊎_elim (λ (t : (i ≡ id) × (w ≡ v)). subst (λ (k : ℕ). k ≤ n) (ap floor_of t.1) (le_refl n)) (λ (t : (i ≢ id) × (get_elem? s.views i ≡ some v)). r.below i v t.1) (at_set s.views id i w v e) in (
         w,
         keeps,
         tt,
@@ -81,9 +81,9 @@ module _ {S : Type 0} where
       let now : get_or (set s.words 0 new) 0 0 ≡ new = get_or-set_same s.words 0 new 0 (let w = r.wide in omega arith) in
       let rose : n ≤ new = subst (λ (k : ℕ). k ≤ new) (r.written id (known v 1) at refl) up in
       let mine : (i : ℕ) (u : Known) → get_elem? (set s.views id w) i ≡ some u → u.writes ≡ 1 → (i ≡ id) × (w ≡ u) =
-          λ i u e g. ⊎_elim (λ (t : (i ≡ id) × (w ≡ u)). t) (λ (t : (i ≢ id) × (get_elem? s.views i ≡ some u)). absurd (t.0 (r.one i id u (known v 1) t.1 at g refl))) (at_set s.views id i w u e) in
+      λ i u e g. ⊎_elim (λ (t : (i ≡ id) × (w ≡ u)). t) (λ (t : (i ≢ id) × (get_elem? s.views i ≡ some u)). absurd (t.0 (r.one i id u (known v 1) t.1 at g refl))) (at_set s.views id i w u e) in
       let below : (i : ℕ) (u : Known) → get_elem? (set s.views id w) i ≡ some u → u.floor ≤ new =
-          λ i u e. ⊎_elim (λ (t : (i ≡ id) × (w ≡ u)). subst (λ (k : ℕ). k ≤ new) (ap floor_of t.1) (le_refl new)) (λ (t : (i ≢ id) × (get_elem? s.views i ≡ some u)). le_trans (r.below i u t.1) rose) (at_set s.views id i w u e) in (
+      λ i u e. ⊎_elim (λ (t : (i ≡ id) × (w ≡ u)). subst (λ (k : ℕ). k ≤ new) (ap floor_of t.1) (le_refl new)) (λ (t : (i ≢ id) × (get_elem? s.views i ≡ some u)). le_trans (r.below i u t.1) rose) (at_set s.views id i w u e) in (
         w,
         keeps,
         tt,

@@ -4,3 +4,4 @@ pub mod Keeping
 pub mod Locked
 pub mod Answers
 pub mod Waits
+pub mod Lending

@@ -8,6 +8,7 @@ mod calls;
 mod gauge;
 mod keeping;
 mod kept;
+mod lending;
 mod locked;
 mod locking;
 mod quiet;

@@ -3,8 +3,7 @@
 //! Source: this project's own.
 ghost use Rattle.std.specs.Prelude.{◌≡◌, IfOk};
 ghost use Rattle.std.specs.Arc.{arc_value};
-ghost use Rattle.vq_live_lock.specs.Named.{initial_of};
-ghost use Rattle.vq_live_lock.specs.Locked.{IsFree, IsTaken};
+ghost use Rattle.vq_live_lock.specs.Locked.{IsFree, IsOn, IsTaken, started_with};
 
 use crate::bell::Bell;
 use crate::gauge::Gauge;
@@ -24,8 +23,8 @@ impl LockedLive {
         bell: &Arc<Bell, Global>,
         initial: u64,
     ) -> Result<LockedLive, AllocError>
-        ensures bell { IfOk result (λ t. arc_value t.bell ≡ arc_value bell.now) }
-        ensures from { IfOk result (λ t. initial_of t.gauge ≡ initial) }
+        ensures bell { IfOk result (IsOn (arc_value bell.now)) }
+        ensures from { IfOk result (λ t. started_with t ≡ initial) }
     {
         let bell = Arc::try_clone(bell)?;
         let (gauge, pen) = Gauge::new(alloc, initial)?;
@@ -50,7 +49,8 @@ impl LockedLive {
         }
     }
 
-    /// Shows the payload to all, frees the lock, and wakes who waits where a value is reached that somebody waits for.
+    /// Shows the payload to all, frees the lock, and wakes who waits, where a value is reached that
+    /// somebody waits for.
     pub fn unlock(&self, guard: LiveGuard)
         requires { IsTaken self.now guard }
     {

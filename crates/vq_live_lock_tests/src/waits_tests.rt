@@ -52,11 +52,7 @@ fn any_in_threads<R: Threads + Wait + Sync>(rt: &R, alloc: Global) -> bool {
     let Ok(scene) = Scene::new(alloc) else {
         return false;
     };
-    join(
-        rt,
-        || waits_for_any(rt, &scene),
-        || reaches_one(rt, &scene),
-    ) == (true, true)
+    join(rt, || waits_for_any(rt, &scene), || reaches_one(rt, &scene)) == (true, true)
 }
 
 /// Waits for both timelines.

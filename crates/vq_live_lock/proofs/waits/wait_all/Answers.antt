@@ -10,4 +10,4 @@ loop-pair-preserved g c =
     let ws = c.args.wanted.now in
     subst (λ (rs : List Reached). AreMet (take (i + 1) ws) rs) (sym c.in_ok-push.ensures.items)
     (met_more ws c.loop-pair.all.items i c.pair-item.result c.wait.result c.loop-pair-test.true c.pair-item.is
-        c.loop-pair.invariant c.wait.ensures)
+    c.loop-pair.invariant c.wait.ensures)
