@@ -1,6 +1,5 @@
 -- A timeline under its lock: what is known of it before a call, and again after it.
-use Rattle.std.proofs.Common.{◌≡◌, ◌≤◌, ◌⊎◌, ◌<◌, ◌↔◌, ◌∷◌, ℕ, List, [], Result, Ok, Err, Some, None, ap, sym, ◌∙◌, subst}
-use Rattle.std.specs.Prelude.{IfOk, IfErr, OnOk, OnErr, IsErr}
+use Rattle.std.proofs.Common.{◌≡◌, ◌≤◌, ◌∷◌, ℕ, List, [], ap, sym, ◌∙◌, subst}
 use Rattle.atomic_table.specs.Table.{Me}
 use Rattle.vq_live.specs.Live.{Live, KeepsLive}
 use Rattle.vq_lock.specs.declared.lock.KeyedLock.{KeyedLock}

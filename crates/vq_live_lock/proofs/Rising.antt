@@ -2,7 +2,7 @@
 use Rattle.std.proofs.Common.{◌≡◌, ◌≢◌, ◌≤◌, ℕ, List, [], ◌∷◌, ◌++◌, length, set, get_or, refl, ap, sym, ◌∙◌, subst, arith, ◌⊎◌, inl, inr, zero, suc, ⊎_elim, length-set, get_or-set_same, le_refl, le_trans}
 use mathlib.Core.Option.{some, none, some-injective, some-ne-none}
 use lib.ListN.{get_elem?}
-use Rattle.atomic_table.specs.Table.{Me, State, step, keeps, opening, Allows, Enters}
+use Rattle.atomic_table.specs.Table.{Me, step, keeps, opening, Allows, Enters}
 use Rattle.atomic_table.proofs.Lists.{at_set}
 use Rattle.vq_live_lock.specs.declared.rule.Known.{Known}
 use Rattle.vq_live_lock.specs.Gauges.{known, IsRising, looked, raised}

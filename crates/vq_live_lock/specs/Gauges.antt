@@ -1,5 +1,5 @@
 -- The rule of a gauge, a word that never falls, and what its seats know. This project's own.
-use Rattle.std.specs.Prelude.{ℕ, [], ◌∷◌, ◌≡◌, ◌≤◌, length, slice_index}
+use Rattle.std.specs.Prelude.{ℕ, [], ◌≡◌, ◌≤◌, length, slice_index}
 use mathlib.Core.Option.{some}
 use lib.ListN.{get_elem?}
 use Rattle.atomic_table.specs.Table as Table

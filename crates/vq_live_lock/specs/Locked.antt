@@ -1,5 +1,5 @@
 -- A locked timeline and its guard, as contracts name them. This project's own.
-use Rattle.std.specs.Prelude.{ℕ, List, [], ◌∷◌, ◌≡◌, ◌≤◌}
+use Rattle.std.specs.Prelude.{ℕ, ◌≡◌, ◌≤◌}
 use Rattle.std.specs.Arc.{arc_value}
 use Rattle.vq_live.specs.Live.{Live, KeepsLive}
 use Rattle.vq_lock.specs.Named.{Has}

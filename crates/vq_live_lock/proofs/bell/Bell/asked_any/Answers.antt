@@ -1,4 +1,4 @@
-use Rattle.std.proofs.Common.{Some, subst, Option}
+use Rattle.std.proofs.Common.{subst, Option}
 use Rattle.std.specs.Prelude.{IfSome}
 use Rattle.vq_live_lock.specs.declared.gauge.Reached.{Reached}
 use Rattle.vq_live_lock.specs.Waits.{IsMet}
