@@ -68,7 +68,8 @@ pub enum Found {
     NotYet,
 }
 
-/// A reference to a point. Only an unref takes it: it can't be copied, made up or dropped.
+/// A reference to a point. Only an unref takes it: it can't be copied, made up or dropped. Where it crosses to a caller
+/// who keeps numbers, as one in C does, it becomes its point's number and is made of it again.
 pub struct Held {
     pub(crate) point: u32,
 }
@@ -79,5 +80,23 @@ impl Held {
         ensures { result ≡ self.now.point }
     {
         self.point
+    }
+
+    /// The number of the point, which stands for the reference from now on: who keeps it owes the
+    /// timeline an unref of what `from_point` makes of it.
+    pub fn into_point(self) -> u32
+        ensures { result ≡ self.point }
+    {
+        let Held { point } = self;
+        point
+    }
+
+    /// The reference again that a number stands for. The caller answers for it that the number came of
+    /// `into_point` and is used once; else the timeline may free a point that somebody else holds, or
+    /// refuse the unref.
+    pub unsafe fn from_point(point: u32) -> Held
+        ensures { result.point ≡ point }
+    {
+        Held { point }
     }
 }
