@@ -11,10 +11,10 @@
 
 #include "vq_live.h"
 
+#ifndef WITHOUT_REFUSALS /* the linker sends malloc and realloc here */
+
 /* Allocations until one is refused; none while this is 0. */
 static unsigned long left;
-
-#ifndef WITHOUT_REFUSALS /* the linker sends malloc and realloc here */
 
 void *__real_malloc(size_t size);
 void *__real_realloc(void *block, size_t size);

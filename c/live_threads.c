@@ -9,13 +9,14 @@
  */
 #include <inttypes.h>
 #include <pthread.h>
+#include <stdatomic.h>
 #include <stdio.h>
 #include <stdlib.h>
 #include <string.h>
 
 #include "vq_live.h"
 
-enum { POINTS = 1 << 14, ROOM = 64, WAITERS = 3, AHEAD = 12 };
+enum { POINTS = 1 << 14, VALUES = 1 << 17, ROOM = 64, WAITERS = 3, AHEAD = 12 };
 
 struct sync {
     pthread_mutex_t mutex;
@@ -34,6 +35,7 @@ struct ring {
 
 static struct sync syncs[POINTS];
 static struct ring rings[2];
+static atomic_uchar is_done[VALUES]; /* by value: the device's work is done */
 static unsigned long rounds;
 static int is_late;
 
@@ -45,7 +47,7 @@ static uint64_t carries[POINTS];
 static uint32_t held[POINTS];
 static uint64_t last_taken, last_value, final_value;
 static uint32_t points_made;
-static unsigned long cancelled, waited, host_signals;
+static unsigned long cancelled, waited, slept, host_signals;
 
 static void fail(const char *what, uint64_t number)
 {
@@ -105,6 +107,8 @@ static void complete_first(struct vq_live_given first)
     must(vq_live_complete(&timeline, &given), VQ_LIVE_DONE, "complete");
     if (given.value != first.value || given.point != first.point || carries[given.point] != given.value)
         fail("another operation was completed", given.value);
+    if (!is_done[given.value])
+        fail("an operation was completed whose work isn't done", given.value);
     carries[given.point] = 0;
     look_at_value();
     if (last_value != given.value)
@@ -249,6 +253,7 @@ static void *runs(void *of)
         memmove(ring->room + place, ring->room + place + 1, (ring->count - place) * sizeof given);
         pthread_cond_broadcast(&ring->changed);
         pthread_mutex_unlock(&ring->mutex);
+        is_done[given.value] = 1;
         set(&syncs[given.point], 1);
     }
 }
@@ -274,6 +279,7 @@ static void wait_until(uint64_t value)
             must(vq_live_first(&timeline, &at), VQ_LIVE_DONE, "first");
         must(vq_live_refer(&timeline, at.point), VQ_LIVE_DONE, "refer");
         held[at.point]++;
+        slept++;
         pthread_mutex_unlock(&lock);
         wait_for(&syncs[at.point]);
         pthread_mutex_lock(&lock);
@@ -392,6 +398,8 @@ int main(int argc, char **argv)
     is_late = strcmp(argv[2], "late") == 0;
     unsigned submitters = is_late ? 1 : 2;
     rounds = strtoul(argv[1], NULL, 10) / submitters;
+    if (rounds * submitters >= VALUES / 4 - 1)
+        fail("too many rounds", rounds);
     begin();
     pthread_t submitting[2], devices[2], waiting[WAITERS + 1], host;
     uint32_t seeds[WAITERS + 1] = {11, 12, 13, 14};
@@ -411,8 +419,8 @@ int main(int argc, char **argv)
     pthread_join(host, NULL);
     for (unsigned i = 0; i < 2; i++)
         pthread_join(devices[i], NULL);
-    printf("value %" PRIu64 ", %lu cancelled, %lu waits, %lu signals of the host, %u points\n", vq_live_value(&timeline),
-           cancelled, waited, host_signals, points_made);
+    printf("value %" PRIu64 ", %lu cancelled, %lu waits, %lu of them for a sync, %lu signals of the host, %u points\n",
+           vq_live_value(&timeline), cancelled, waited, slept, host_signals, points_made);
     end();
     return 0;
 }
