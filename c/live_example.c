@@ -1,4 +1,4 @@
-/* A timeline as a driver uses it. Its binary syncs are flags here, and the device signals one where it is waited for. */
+/* A timeline as a driver uses it. Its binary syncs are flags here, which the device signals where one is waited for. */
 #include <inttypes.h>
 #include <stdio.h>
 

@@ -1,6 +1,6 @@
-/* Tests the live timeline for C: each call and each code once, with what vq_live.h says; the three orders of calls in which
- * a driver's layer was seen to go wrong (docs/DRIVERS.md); and refused memory. Stops with a line and status 1 where
- * something is not as it should be.
+/* Tests the live timeline for C: each call and each code once, with what vq_live.h says; the three orders of calls in
+ * which a driver's layer was seen to go wrong (docs/DRIVERS.md); and refused memory. Stops with a line and status 1
+ * where something is not as it should be.
  *
  * tests full: besides, that the last reference of a point is refused. It takes about a minute.
  */
@@ -365,8 +365,8 @@ static void a_reference_holds_nothing_back(void)
 }
 
 #ifndef WITHOUT_REFUSALS
-/* Takes 1 to 100 where the nth allocation is refused: that call says so and changes nothing, and the next one gives what
- * it would have given. Whether an allocation was refused. */
+/* Takes 1 to 100 where the nth allocation is refused: that call says so and changes nothing, and the next one gives
+ * what it would have given. Whether an allocation was refused. */
 static int takes_without_memory(unsigned long n)
 {
     struct vq_live timeline = {NULL};

@@ -1,11 +1,12 @@
-/* Drives one live timeline by eight threads over simulated binary syncs, one of each point: two submit, two are the device,
- * three wait and one is the host. A sync is a flag that the device signals, in order or not. Stops with a line and status 1
- * where the payload falls, a point is given that carries an operation or is held, or a value isn't reached.
+/* Drives one live timeline by eight threads over simulated binary syncs, one of each point: two submit, two are the
+ * device, three wait and one is the host. A sync is a flag that the device signals, in order or not. Stops with a
+ * line and status 1 where the payload falls, a point is given that carries an operation or is held, or a value isn't
+ * reached.
  *
  * live_threads ROUNDS late|first
  *
- * A round is a batch of one or two operations. With `first` an operation is installed before it is handed to the device,
- * with `late` after it; then one thread alone submits, and whoever looks helps.
+ * A round is a batch of one or two operations. With `first` an operation is installed before it is handed to the
+ * device, with `late` after it; then one thread alone submits, and whoever looks helps.
  */
 #include <inttypes.h>
 #include <pthread.h>
@@ -258,8 +259,8 @@ static void *runs(void *of)
     }
 }
 
-/* Waits until a value is reached: for the sync of the point that it needs, which it holds; where that is signaled before
- * those below it, for the first of these. The lock is held before and after. */
+/* Waits until a value is reached: for the sync of the point that it needs, which it holds; where that is signaled
+ * before those below it, for the first of these. The lock is held before and after. */
 static void wait_until(uint64_t value)
 {
     struct vq_live_given at;

@@ -1,22 +1,23 @@
-/* The live timeline for C: points for the values of one timeline semaphore, as submissions come. docs/LIVE.md says what it
- * is, and how a driver uses it.
+/* The live timeline for C: points for the values of one timeline semaphore, as submissions come. docs/LIVE.md says
+ * what it is, and how a driver uses it.
  *
  * Link with libvq_live_c.a and with an allocator: rattle_alloc, rattle_realloc and rattle_dealloc, as the kit's
  * liblibc_c.a has them over malloc, realloc and free.
  *
  * What a caller owes, and nothing checks:
- * - each call is given a timeline that vq_live_open opened and that isn't closed, as it was written; two structs don't
- *   stand for one timeline;
+ * - each call is given a timeline that vq_live_open opened and that isn't closed, as it was written; two structs
+ *   don't stand for one timeline;
  * - calls on one timeline are made one at a time: a mutex is held round each. Timelines are free of one another;
- * - pointers of one call are valid, not null and not the same; malloc, realloc and free are of one allocator and align to 16 bytes;
+ * - pointers of one call are valid, not null and not the same; malloc, realloc and free are of one allocator and
+ *   align to 16 bytes;
  * - no call comes from a signal handler, nor in the child of a fork of a process with threads;
- * - vq_live_complete is told only of a point whose sync is signaled, and a sync is reset between the take of its point and
- *   the submission;
- * - an operation that is passed is one that a call here wrote, and vq_live_unref gives back a reference of the caller's
- *   own.
+ * - vq_live_complete is told only of a point whose sync is signaled, and a sync is reset between the take of its
+ *   point and the submission (with help, under the lock that the take has);
+ * - an operation that is passed is one that a call here wrote, and vq_live_unref gives back a reference of the
+ *   caller's own.
  *
- * A call that isn't answered with VQ_LIVE_DONE changes nothing. No call waits, starts a thread or ends the process, and only
- * vq_live_open and vq_live_take want memory.
+ * A call that isn't answered with VQ_LIVE_DONE changes nothing. No call waits, starts a thread or ends the process,
+ * and only vq_live_open and vq_live_take want memory.
  */
 #ifndef VQ_LIVE_H
 #define VQ_LIVE_H
@@ -67,18 +68,18 @@ uint32_t vq_live_open(uint64_t initial, struct vq_live *timeline);
 /* Ends a timeline, whatever is taken, pending or held, and frees its memory. */
 void vq_live_close(struct vq_live timeline);
 
-/* Gives a point to an operation with this value: `*given`. The point is the free one that was freed last, or a fresh one,
- * numbered from 0 up. Takes needn't rise. VQ_LIVE_NOT_ABOVE: `given->value` is the pending value, and `given->point`
- * VQ_LIVE_NO_POINT. VQ_LIVE_TWICE, VQ_LIVE_FULL, VQ_LIVE_NO_MEMORY: `*given` stays. */
+/* Gives a point to an operation with this value: `*given`. The point is the free one that was freed last, or a fresh
+ * one, numbered from 0 up. Takes needn't rise. VQ_LIVE_NOT_ABOVE: `given->value` is the pending value, and
+ * `given->point` VQ_LIVE_NO_POINT. VQ_LIVE_TWICE, VQ_LIVE_FULL, VQ_LIVE_NO_MEMORY: `*given` stays. */
 uint32_t vq_live_take(struct vq_live *timeline, uint64_t value, struct vq_live_given *given);
 
 /* Makes the taken operation pending: its submission is made. VQ_LIVE_ALREADY: it was before, perhaps by a reader that
- * helped. VQ_LIVE_NOT_NEXT: another one is to be installed first, `*next`. VQ_LIVE_NOTHING_TAKEN. But for VQ_LIVE_NOT_NEXT
- * `*next` stays. */
+ * helped. VQ_LIVE_NOT_NEXT: another one is to be installed first, `*next`. VQ_LIVE_NOTHING_TAKEN. But for
+ * VQ_LIVE_NOT_NEXT `*next` stays. */
 uint32_t vq_live_install(struct vq_live *timeline, const struct vq_live_given *given, struct vq_live_given *next);
 
-/* Takes back an operation that is taken and not installed: its submission failed, or the reset of its sync. Its point is
- * free unless it is held. VQ_LIVE_ALREADY, VQ_LIVE_NOT_TAKEN. */
+/* Takes back an operation that is taken and not installed: its submission failed, or the reset of its sync. Its point
+ * is free unless it is held. VQ_LIVE_ALREADY, VQ_LIVE_NOT_TAKEN. */
 uint32_t vq_live_cancel(struct vq_live *timeline, const struct vq_live_given *given);
 
 /* Completes the first pending operation, `*given`: its value is reached, and its point is free unless it is held.
@@ -96,8 +97,9 @@ uint32_t vq_live_refer(struct vq_live *timeline, uint32_t point);
 /* Gives a reference back. VQ_LIVE_NOT_HELD: nobody holds the point. */
 uint32_t vq_live_unref(struct vq_live *timeline, uint32_t point);
 
-/* The host sets a value. VQ_LIVE_NOT_ABOVE: the timeline reached it, `*known` is the payload. VQ_LIVE_OUTSTANDING: the first
- * operation, which is taken or pending, has a value that isn't above it, `*known`. With VQ_LIVE_DONE `*known` stays. */
+/* The host sets a value. VQ_LIVE_NOT_ABOVE: the timeline reached it, `*known` is the payload. VQ_LIVE_OUTSTANDING:
+ * the first operation, which is taken or pending, has a value that isn't above it, `*known`. With VQ_LIVE_DONE
+ * `*known` stays. */
 uint32_t vq_live_signal(struct vq_live *timeline, uint64_t value, uint64_t *known);
 
 /* The value that the timeline has reached. */
