@@ -59,6 +59,15 @@ reads_none form lines n (word ∷ words) forms some plain is none =
     λ i. fault_with lines ws (plain i) ((is ∙ none) i) in
     λ i. without_fault (fault i) (option_map_or (with_line lines n) (meaning form lines ws) lines)
 
+-- words with a byte that may not stand outside a comment
+pub reads_unplain : (form : Form) (lines : List Line) (n : ℕ) (words : List (List ℕ)) → 0 < length words →
+    list_all (list_all is_plain) words ≡ false → read_statement form lines n words ≡ Err Syntax
+reads_unplain form lines n [] some plain = absurd (omega arith)
+reads_unplain form lines n (word ∷ words) some plain =
+    let ws = word ∷ words in
+    let fault : fault_of form lines ws ≡ Some Syntax = λ i. fault_with lines ws (plain i) (form_of form lines ws) in
+    λ i. without_fault (fault i) (option_map_or (with_line lines n) (meaning form lines ws) lines)
+
 -- a line that takes words of a form reads them
 pub reads_form : (form : Form) (lines : List Line) (n : ℕ) (words : List (List ℕ))
     (forms : List LineForm) (f : LineForm) (result : Result (Unit {0}) ScriptFault) (known : Known) →

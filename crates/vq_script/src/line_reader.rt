@@ -17,6 +17,7 @@ ghost use Rattle.vq_lexer.specs.Words.{texts};
 use crate::fault::ScriptFault;
 use crate::known::Known;
 use crate::line_faults::said_by;
+use crate::long_line::many_fault;
 use crate::parts::ScriptParts;
 use std::alloc::Global;
 use vq_forms::{OpenWord, Token, find_open, form_of, is_version};
@@ -123,7 +124,10 @@ pub struct LineReader<'a> {
 impl<'a> LineReader<'a> {
     ghost use Rattle.vq_model.specs.Context.{section, is_declared, number_at, has_begun, queues, count, is_job};
     ghost use Rattle.vq_model.specs.Forms.{TimelineName};
-    ghost use Rattle.std.specs.Prelude.{length};
+    ghost use Rattle.std.specs.Prelude.{length, ℕ, Err};
+    ghost use Rattle.vq_model.specs.Reading.{read_statement};
+    ghost use Rattle.vq_model.specs.Text.{words_in};
+    ghost use Rattle.vq_long_lines.specs.Few.{AreCutOff};
 
     /// A reader that has read no lines.
     pub fn new(alloc: Global, form: Form) -> LineReader<'a>
@@ -153,6 +157,16 @@ impl<'a> LineReader<'a> {
             plain,
             &mut self.open,
         )
+    }
+
+    /// The first kind of the faults that the next line has, whose words are those of a part: many, of which these are
+    /// the first.
+    pub(crate) fn many_fault(&self, words: &[&[u8]], part: &[u8]) -> FaultKind
+        requires { AreCutOff (texts words.now) (words_in part.now) }
+        ensures { (form : Form) (lines : List Line) (n : ℕ) → HasRead form lines self.now →
+            read_statement form lines n (words_in part.now) ≡ Err result }
+    {
+        many_fault(self.form, &self.known, words, part)
     }
 
     /// The part of the text in which the next line stands.

@@ -11,8 +11,30 @@ use crate::fault::ScriptFault;
 use crate::line_reader::LineReader;
 use std::alloc::Global;
 use vq_lexer::{find_words, next_line};
+use vq_long_lines::{are_plain, find_few, without_comment};
 use vq_model::script::Script;
 use vq_model::statement::Form;
+
+/// The most bytes of a line that is cut into all its words at once. A list of them takes many times the bytes.
+const SHORT: usize = 4096;
+
+/// Reads a line that may be long. Of its words no more are kept than a line without a fault has.
+fn read_long<'a>(
+    reader: &mut LineReader<'a>,
+    number: u32,
+    line: &'a [u8],
+    words: &mut Vec<&'a [u8]>,
+) -> Result<(), ScriptFault>
+    ensures { (form : Form) (lines : List Line) → HasRead form lines reader.old →
+        HasReadNext form lines number (words_of line.now) result reader.new }
+{
+    let part = without_comment(line);
+    if find_few(part, words)? {
+        return reader.read(number, words, are_plain(part));
+    }
+    let kind = reader.many_fault(words, part);
+    Err(ScriptFault::At { line: number, kind })
+}
 
 /// Reads a line. Its words take the place of those of the line before.
 fn read_line<'a>(
@@ -24,6 +46,9 @@ fn read_line<'a>(
     ensures { (form : Form) (lines : List Line) → HasRead form lines reader.old →
         HasReadNext form lines number (words_of line.now) result reader.new }
 {
+    if line.len() > SHORT {
+        return read_long(reader, number, line, words);
+    }
     let plain = find_words(line, words)?;
     reader.read(number, words, plain)
 }
