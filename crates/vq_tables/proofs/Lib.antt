@@ -5,4 +5,5 @@ mod TableLaws
 mod LaneLaws
 mod TimelineTables
 mod NoteLaws
+mod OtherChains
 mod OpeningLaws

@@ -1,15 +1,30 @@
 //! The needs that an operation resolves.
 ghost use Rattle.std.specs.Prelude.{◌≡◌, ◌<◌, ◌&&◌, All, if◌then◌else◌, length, nat_lt, nat_le, count_by};
+ghost use Rattle.std.specs.Prelude.{true, false};
 ghost use Rattle.std.specs.List.{list_any, position_or_len};
 ghost use Rattle.vq_points.specs.Points.{resolves};
 
 use vq_spec::{Need, Plan};
 
-/// Whether an operation resolves a need.
+/// Whether there is an operation of this number on another chain than a need's. It doesn't resolve the need then.
+fn is_elsewhere(plan: &Plan, need: Need, op: u32) -> bool
+    ensures { result ≡ true → resolves plan.now op need ≡ false }
+{
+    let _lawful = plan.script();
+    if op >= plan.ops() {
+        return false;
+    }
+    plan.op(op).chain != need.chain
+}
+
+/// Whether an operation resolves a need. Its chain is compared first: that takes less than a search in a chain.
 fn resolves(plan: &Plan, need: Need, op: u32) -> bool
     requires { need.chain < length plan.now.chains }
     ensures { result ≡ resolves plan.now op need }
 {
+    if is_elsewhere(plan, need, op) {
+        return false;
+    }
     match plan.resolver(need.chain, need.value) {
         Some(found) => found == op,
         None => false,
