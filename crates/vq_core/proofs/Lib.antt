@@ -1,3 +1,4 @@
+mod Filled
 mod Tests
 mod SubmitLaws
 mod Courses

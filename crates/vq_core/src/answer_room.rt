@@ -68,11 +68,7 @@ impl AnswerRoom {
 fn no_answers(alloc: Global, jobs: u32) -> Result<Vec<Option<Answer>>, AllocError>
     ensures { IfOk result (λ given. given.items ≡ map (λ j. None) (range_with_len 0 jobs)) }
 {
-    let mut given = Vec::with_capacity(alloc, jobs as usize)?;
-    for _ in 0..jobs {
-        given.push(None)?;
-    }
-    Ok(given)
+    vec![in alloc; None; jobs as usize]
 }
 
 /// Notes the answer that an event gives, if it gives one.

@@ -1,11 +1,10 @@
-use Rattle.std.proofs.Common.{◌++◌, ◌∷◌, [], ◌∙◌, ap, sym, zero-add, Option, None}
-use Rattle.std.proofs.lemmas.List.FromFn.{map-range_with_len_more}
+use Rattle.std.proofs.Common.{◌∙◌, Option, None, rules}
+use Rattle.std.proofs.lemmas.Result.{IfOk-weaker}
 use Rattle.vq_model.specs.declared.plan.Answer.{Answer}
+use Rattle.vq_core.proofs.Filled.{filled}
 use Rattle.vq_core.proofs.answer_room.no_answers.Goals as goal
 
-pub loop-preserved : goal.loop-preserved
-loop-preserved c =
-    (c.in_ok-push.ensures {u = tt}).items
-    ∙ (ap (λ ls. ls ++ None ∷ []) c.loop.invariant
-    ∙ sym (map-range_with_len_more {X = Option Answer} (λ q. None) 0 c.loop.counter c.loop.counter
-    (zero-add c.loop.counter)))
+pub returns : goal.returns
+returns c =
+    IfOk-weaker c.vec.result _ _ (λ v made. made (λ y same. search rules) ∙ filled (Option Answer) None c.args.jobs)
+    c.vec.ensures.items_if_clones_equal
