@@ -80,7 +80,7 @@ module _ (x : Post) (i : IsPlan x.ordered.now) (l : IsLawful x.ordered.now) wher
   releases_there j n = release_exists x.ordered.now i l x.actor x.seat.now.place.done j n
 
   pub signals_there : (j : ℕ) (job : PlanJob) → slice_get x.ordered.now.jobs j ≡ Some job → (e : ℕ) →
-      has job.signals e ≡ true → e < length (plan_of x.board.now).ops
+      has job.signals e ≡ true → e < length x.ordered.now.ops
   signals_there j job at e m =
-      of_board_plan x (λ p. e < length p.ops) (signal_exists x.ordered.now i l j e
-      (ap (λ (es : List ℕ). has es e) (signals_are x.ordered.now j job at) ∙ m))
+      signal_exists x.ordered.now i l j e
+      (ap (λ (es : List ℕ). has es e) (signals_are x.ordered.now j job at) ∙ m)

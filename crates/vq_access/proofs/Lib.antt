@@ -17,3 +17,4 @@ mod Pins
 mod TurnEnds
 mod Holds
 mod Sharing
+mod Naming

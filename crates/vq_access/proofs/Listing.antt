@@ -1,9 +1,11 @@
 -- What the lists of a chain tell an actor at a board.
-use Rattle.std.proofs.Common.{◌≡◌, ◌≤◌, ℕ, true, List, Err, Some, length, refl, sym, ap, subst, arith}
+use Rattle.std.proofs.Common.{◌≡◌, ◌≤◌, ℕ, true, List, Err, Some, length, option_map, refl, sym, ap, ◌∙◌, subst, arith}
+use Rattle.std.specs.List.{slice_get}
 use Rattle.std.specs.Borrow.{GName}
 use Rattle.vq_model.specs.Checks.{IsLawful}
 use Rattle.vq_model.specs.LoweringFaults.{IsPlan}
-use Rattle.vq_model.specs.Plan.{Plan, has, chain}
+use Rattle.vq_model.specs.Plan.{Plan, has, chain, chain_of}
+use Rattle.vq_model.specs.declared.plan.Op.{Op}
 use Rattle.vq_model.specs.declared.plan.Event.{Event}
 use Rattle.vq_model.specs.declared.script.ActorName.{ActorName}
 use Rattle.vq_points.specs.Points.{PointState}
@@ -46,6 +48,14 @@ completed_there p t u x y r e k is same =
 -- the timeline of the chain was asked
 pub asked_there : (p : Plan) (x y : LockedTimeline) (r : Collected) → Some x ≡ Some y → HasAsked p x r → HasAsked p y r
 asked_there p x y r e k = subst (λ (z : LockedTimeline). HasAsked p z r) (same_some x y e) k
+
+-- it is the timeline of the operation's chain
+pub asked_at : (b p : Plan) (ts : List LockedTimeline) (e t : ℕ) (o : Op) (x y : LockedTimeline) → b ≡ p →
+    slice_get b.ops e ≡ Some o → chain_of p e ≡ Some t → slice_get ts o.chain ≡ Some x → slice_get ts t ≡ Some y → x ≡ y
+asked_at b p ts e t o x y same is of here there =
+    let at = subst (λ (z : Plan). slice_get z.ops e ≡ Some o) same is in
+    let number = same_some o.chain t (sym (ap (option_map (λ (z : Op). z.chain)) at) ∙ of) in
+    same_some x y (sym here ∙ (ap (λ (n : ℕ). slice_get ts n) number ∙ there))
 
 -- a refusal of lists is kept
 pub refused_lists : (l : List GName) (p : Plan) (a : ActorName) (x : Place) (r s : Recent) (v : View) (f g : Refusals)

@@ -19,15 +19,14 @@ use Rattle.vq_access_laws.specs.TruePasses.{AreTrue}
 use Rattle.vq_access.specs.declared.post.Post.{Post}
 use Rattle.vq_access.specs.Pinned.{pins}
 use Rattle.vq_access.specs.Posts.{meaning, shows}
-use Rattle.vq_access.specs.Taken.{MayBe}
 use Rattle.vq_access.specs.Seatings.{Seating, places_of}
 use Rattle.vq_access.proofs.Pins.{pins_same}
 
 module _ (p : Plan) (b : Board) (owner : ActorName) (s : Seating) (a name : ActorName) (x : Place) (v : View)
-    (r : Refusals) (l m n h : ℕ) (y : Post) (o : Outcome) (planned : plan_of b ≡ p) (called : a ≡ name)
-    (k : IsTurn (meaning_of (l ∷ m ∷ n ∷ h ∷ pins owner s (id_of b)) p a x Other v r) (meaning y) (shows y) o) where
+    (r : Refusals) (l m n : ℕ) (y : Post) (o : Outcome) (planned : plan_of b ≡ p) (called : a ≡ name)
+    (k : IsTurn (meaning_of (l ∷ m ∷ n ∷ pins owner s (id_of b)) p a x Other v r) (meaning y) (shows y) o) where
   pinned : pins y.owner y.seats.now.value (id_of y.board.now) ≡ pins owner s (id_of b)
-  pinned = ap (λ (xs : List ℕ). drop 4 xs) k.kept.lenders
+  pinned = ap (λ (xs : List ℕ). drop 3 xs) k.kept.lenders
 
   same_pins : (y.owner ≡ owner) × (y.seats.now.value ≡ s) × (id_of y.board.now ≡ id_of b)
   same_pins = pins_same y.owner owner y.seats.now.value s (id_of y.board.now) (id_of b) pinned
@@ -47,9 +46,6 @@ module _ (p : Plan) (b : Board) (owner : ActorName) (s : Seating) (a name : Acto
   pub ends_fit : FitsIn (program p name) y.seat.now
   ends_fit =
       subst (λ (z : Plan × ActorName). FitsIn (program z.0 z.1) y.seat.now) (λ i. (k.kept.plan i, actor_is i)) y.fits
-
-  pub ends_points : MayBe p y.taken.now.items
-  ends_points = subst (λ (z : Plan). MayBe z y.taken.now.items) k.kept.plan y.points
 
   pub ends_turn : IsTurn (meaning_of [] p name x Other v r)
       (meaning_of [] p name y.seat.now.place Other (view y.pass.now) y.refused.now)

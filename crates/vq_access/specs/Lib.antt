@@ -4,6 +4,7 @@ pub mod Seatings
 pub mod Taken
 pub mod Found
 pub mod Timelines
+pub mod Asking
 pub mod Pinned
 pub mod Posts
 pub mod Grounding

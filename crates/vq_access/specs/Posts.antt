@@ -14,7 +14,7 @@ use Rattle.vq_access.specs.Pinned.{pins}
 -- board's table
 abbrev pub lenders_of : Post → List GName
 lenders_of x =
-    x.pass.ghost_name ∷ x.seat.ghost_name ∷ x.taken.ghost_name ∷ x.refused.ghost_name
+    x.pass.ghost_name ∷ x.seat.ghost_name ∷ x.refused.ghost_name
     ∷ pins x.owner x.seats.now.value (id_of x.board.now)
 
 abbrev pub meaning : Post → Meaning

@@ -1,10 +1,9 @@
--- The points that were taken for a batch's signals, and what looks at them show. This project's own.
-use Rattle.std.specs.Prelude.{ℕ, ◌≡◌, ◌<◌, true, List, Some, All, length}
+-- The points that lists have for a batch's signals, and what looks at them show. This project's own.
+use Rattle.std.specs.Prelude.{ℕ, ◌≡◌, ◌<◌, true, List, Some}
 use Rattle.std.specs.List.{slice_get}
 use Rattle.vq_model.specs.Plan.{Plan, has}
 use Rattle.vq_turns.specs.declared.outcome.Want.{Want}
 use Rattle.vq_turns.specs.declared.outcome.Want.TheVariants.{Exchange}
-use Rattle.vq_board_laws.specs.declared.view.Reference.{Reference}
 use Rattle.vq_board_laws.specs.declared.view.View.{View}
 use Rattle.vq_board_laws.specs.PointSteps.{sees}
 use Rattle.vq_board_laws.specs.Words.{Carries}
@@ -12,10 +11,6 @@ use Rattle.vq_board.specs.declared.parts.Pass.{Pass}
 use Rattle.vq_board.specs.Named.{view, board_of}
 use Rattle.vq_access_laws.specs.Learning.{Learns}
 use Rattle.vq_access_laws.specs.Tests.{knows_taken}
-
--- the points that are remembered may be
-abbrev pub MayBe : Plan → List Reference → Type 0
-MayBe p refs = All (λ r. r.point < length p.ops) refs
 
 -- the pass of the same board has looked and learned, and done nothing else
 abbrev pub HasLearned : Pass → Pass → Type 0

@@ -69,7 +69,7 @@ impl<'a, 'b, R: Wait> Access for BoardAccess<'a, 'b, R> {
     }
 
     fn release(&mut self, job: u32) -> Step {
-        self.post.release(job)
+        self.post.release(self.rt, job)
     }
 
     fn bind(&mut self, op: u32) -> Step {

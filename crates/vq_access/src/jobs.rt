@@ -13,6 +13,7 @@ ghost use Rattle.vq_turns.specs.declared.task.Task.{Task};
 use crate::last::Last;
 use crate::post::Post;
 use crate::takings::untaken;
+use std::sync::Wait;
 use vq_actor::Step;
 use vq_model::plan::Event;
 
@@ -30,8 +31,9 @@ impl<'a> Post<'a> {
         Event::Submit { job }
     }
 
-    /// Releases a batch, where the words of the points of its signals show them taken.
-    pub(crate) fn release(&mut self, job: u32) -> Step
+    /// Releases a batch, where the words of the points of its signals show them taken. Which points these are, the lists
+    /// of their chains say.
+    pub(crate) fn release<R: Wait>(&mut self, rt: &R, job: u32) -> Step
         requires { IsNext (meaning self.old) (Task.Release job) }
         ensures answer { AnswersTry (meaning self.old) (meaning self.new) (forward (meaning self.old).place)
             (λ w. Ok (Event.Release job)) (Is (Event.Release job)) (shows self.new) result }
@@ -39,11 +41,17 @@ impl<'a> Post<'a> {
     {
         self.last = Last::Other;
         let signals = self.ordered.plan().job(job).signals.as_slice();
-        if let Some(want) = untaken(self.board, self.pass, self.taken.as_slice(), signals) {
+        if let Some(want) = untaken(
+            rt,
+            self.ordered,
+            self.board,
+            self.timelines,
+            self.pass,
+            signals,
+        ) {
             return Err(want);
         }
         self.board.release(self.pass, job);
-        self.taken.clear();
         self.seat.forward();
         Ok(Event::Release { job })
     }

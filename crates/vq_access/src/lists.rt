@@ -4,12 +4,12 @@
 //! Source: this project's own.
 ghost use Rattle.std.specs.Prelude.{◌≡◌, ◌<◌, ℕ, Ok, Some, IfErr, length, true};
 ghost use Rattle.vq_access.specs.Posts.{meaning, shows};
+ghost use Rattle.vq_access.specs.Asking.{HasGiven, HasTied, take_of, want_by};
 ghost use Rattle.vq_access.specs.Timelines.{AreOf, HasAsked, collection};
 ghost use Rattle.vq_timeline.specs.declared.timeline.LockedTimeline.{LockedTimeline as Timeline};
 ghost use Rattle.vq_access.specs.Lasts.{recent_of};
 ghost use Rattle.vq_board.specs.Named.{plan_of};
-ghost use Rattle.vq_model.specs.Plan.{has, chain as chain_of_plan};
-ghost use Rattle.vq_timeline.specs.Answers.{taken_point};
+ghost use Rattle.vq_model.specs.Plan.{has, chain as chain_of_plan, chain_of};
 ghost use Rattle.vq_timeline.specs.Named.{IsAt, chain_at};
 ghost use Rattle.vq_timeline.specs.declared.parts.BindFault.{BindFault as AnyFault};
 ghost use Rattle.vq_timeline.specs.declared.parts.Collected.{Collected as AnyCollected};
@@ -26,7 +26,6 @@ ghost use Rattle.vq_turns.specs.declared.task.Task.{Task};
 
 use crate::last::Last;
 use crate::post::Post;
-use crate::takings::remember;
 use std::sync::Wait;
 use vq_actor::Step;
 use vq_board::Board;
@@ -37,27 +36,21 @@ use vq_timeline_core::Taken;
 use vq_turns::outcome::Want;
 
 /// The event that gives an operation a point.
-fn taking(op: u32, taken: Taken) -> (u32, Event)
-    ensures point { result.0 ≡ taken_point taken }
-    ensures event { IsTakeOf op result.1 }
+fn taking(op: u32, taken: Taken) -> Event
+    ensures event { IsTakeOf op result }
+    ensures named { result ≡ take_of op taken }
 {
     match taken {
-        Taken::Reused(point) => (
+        Taken::Reused(point) => Event::Take {
+            op,
             point,
-            Event::Take {
-                op,
-                point,
-                fresh: false,
-            },
-        ),
-        Taken::Fresh(point) => (
+            fresh: false,
+        },
+        Taken::Fresh(point) => Event::Take {
+            op,
             point,
-            Event::Take {
-                op,
-                point,
-                fresh: true,
-            },
-        ),
+            fresh: true,
+        },
     }
 }
 
@@ -67,6 +60,7 @@ fn held_back(ordered: &Ordered, op: u32, found: Op, fault: BindFault) -> Want
     requires next { (n : ℕ) → fault ≡ AnyFault.NotNext n → n < found.index }
     ensures wants { HoldsBackBind ordered.now op result }
     ensures lists { is_of_lists result ≡ true }
+    ensures fault { result ≡ want_by ordered.now found.chain op fault }
 {
     let plan = ordered.plan();
     match fault {
@@ -79,11 +73,16 @@ fn held_back(ordered: &Ordered, op: u32, found: Op, fault: BindFault) -> Want
 }
 
 /// The timeline of a chain.
-fn timeline_at<'t>(timelines: &'t [LockedTimeline], board: &Board, chain: u32) -> &'t LockedTimeline
+pub(crate) fn timeline_at<'t>(
+    timelines: &'t [LockedTimeline],
+    board: &Board,
+    chain: u32,
+) -> &'t LockedTimeline
     requires timelines { AreOf board.now timelines.now }
     requires exists { chain < length (plan_of board.now).chains }
     ensures board { IsAt board.now result.now }
     ensures chain { chain_at result.now ≡ chain }
+    ensures there { slice_get timelines.now chain ≡ Some result.now }
 {
     let _ = board;
     &timelines[chain as usize]
@@ -146,6 +145,8 @@ impl<'a> Post<'a> {
         ensures answer { AnswersTry (meaning self.old) (meaning self.new) (forward (meaning self.old).place)
             (λ w. Ok (taken w op (emptied (meaning self.old).recent))) (IsTakeOf op) (shows self.new) result }
         ensures wants { IfErr result (λ want. want ≡ AnyWant.Listed op) }
+        ensures asked { (x : Timeline) → slice_get self.old.timelines.now (emptied (meaning self.old).recent) ≡ Some x →
+            HasGiven (plan_of self.old.board.now) x op result }
     {
         let chain = emptied_chain(self.last);
         self.last = Last::Other;
@@ -153,12 +154,11 @@ impl<'a> Post<'a> {
         let timeline = timeline_at(self.timelines, self.board, chain);
         match timeline.take_for(rt, self.board, op) {
             Ok(taken) => {
-                let (point, event) = taking(op, taken);
-                remember(self.taken, point, op);
                 self.seat.forward();
-                Ok(event)
+                Ok(taking(op, taken))
             }
-            Err(_) => {
+            Err(place) => {
+                let _ = place;
                 self.refused.keep(Want::Listed { op });
                 Err(Want::Listed { op })
             }
@@ -171,6 +171,8 @@ impl<'a> Post<'a> {
         ensures answer { AnswersTry (meaning self.old) (meaning self.new) (forward (meaning self.old).place)
             (λ w. bound_or (meaning self.old).plan w op) (IsBindOf op) (shows self.new) result }
         ensures wants { IfErr result (HoldsBackBind (meaning self.old).plan op) }
+        ensures asked { (t : ℕ) (x : Timeline) → chain_of (plan_of self.old.board.now) op ≡ Some t →
+            slice_get self.old.timelines.now t ≡ Some x → HasTied (plan_of self.old.board.now) x op result }
     {
         self.last = Last::Other;
         let _lawful = self.ordered.plan();
@@ -178,7 +180,6 @@ impl<'a> Post<'a> {
         let timeline = timeline_at(self.timelines, self.board, found.chain);
         match timeline.bind(rt, self.board, op) {
             Ok(point) => {
-                self.taken.clear();
                 self.seat.forward();
                 Ok(Event::Bind { op, point })
             }

@@ -1,7 +1,7 @@
 //! An actor at a board.
 //!
 //! Source: this project's own.
-ghost use Rattle.std.specs.Prelude.{◌≡◌, ◌<◌, All, length, true};
+ghost use Rattle.std.specs.Prelude.{◌≡◌, All, true};
 ghost use Rattle.vq_access.specs.Lasts.{FindsTruly, IsFew, recent_of};
 ghost use Rattle.vq_access.specs.Seatings.{places_of};
 ghost use Rattle.vq_access.specs.Served.{is_served};
@@ -19,7 +19,6 @@ use crate::seats::Seats;
 use std::snapshot::Snapshot;
 use vq_actor::Tracker;
 use vq_board::{Board, Pass};
-use vq_board_laws::view::Reference;
 use vq_model::script::ActorName;
 use vq_order::Ordered;
 use vq_timeline::LockedTimeline;
@@ -33,8 +32,6 @@ pub struct Post<'a> {
     pub(crate) timelines: &'a [LockedTimeline],
     pub(crate) pass: &'a mut Pass,
     pub(crate) seat: &'a mut Tracker,
-    /// The points that were taken for the next batch.
-    pub(crate) taken: &'a mut Vec<Reference>,
     pub(crate) refused: &'a mut Refused,
     /// Whose pass it is, and the actor that is served.
     pub(crate) owner: ActorName,
@@ -51,14 +48,12 @@ pub struct Post<'a> {
     ghost fits: { FitsIn (program ordered.now actor) seat.now },
     ghost few: { All IsFew (program ordered.now actor) },
     ghost finds: { FindsTruly ordered.now actor seat.now.place (recent_of last) },
-    ghost points: { All (λ r. r.point < length ordered.now.ops) taken.now.items },
 }
 
 impl<'a> Post<'a> {
     ghost use Rattle.std.specs.Prelude.{◌∷◌};
     ghost use Rattle.vq_access.specs.Pinned.{pins};
     ghost use Rattle.vq_access.specs.Posts.{meaning};
-    ghost use Rattle.vq_access.specs.Taken.{MayBe};
     ghost use Rattle.vq_access_laws.specs.AccessMeanings.{meaning_of};
     ghost use Rattle.vq_actor.specs.Meanings.{Other};
     ghost use Rattle.vq_board.specs.Named.{id_of};
@@ -68,7 +63,6 @@ impl<'a> Post<'a> {
         grounds: &'a Grounds<'a, R>,
         pass: &'a mut Pass,
         seat: &'a mut Tracker,
-        taken: &'a mut Vec<Reference>,
         refused: &'a mut Refused,
         owner: ActorName,
         seats: &'a Snapshot<Seats>,
@@ -80,14 +74,12 @@ impl<'a> Post<'a> {
             (with_place (places_of owner seats.now.value) actor seat.old.place) }
         requires fits { FitsIn (program grounds.now.ordered.now actor) seat.old }
         requires few { All IsFew (program grounds.now.ordered.now actor) }
-        requires points { MayBe grounds.now.ordered.now taken.old.items }
         ensures meaning { meaning result ≡ meaning_of
-            (pass.entry.ghost_name ∷ seat.entry.ghost_name ∷ taken.entry.ghost_name ∷ refused.entry.ghost_name
+            (pass.entry.ghost_name ∷ seat.entry.ghost_name ∷ refused.entry.ghost_name
             ∷ pins owner seats.now.value (id_of grounds.now.board.now)) grounds.now.ordered.now actor seat.old.place
             Other (view pass.old) refused.old }
         ensures keeps_pass { result.pass.ghost_name ≡ pass.entry.ghost_name }
         ensures keeps_seat { result.seat.ghost_name ≡ seat.entry.ghost_name }
-        ensures keeps_taken { result.taken.ghost_name ≡ taken.entry.ghost_name }
         ensures keeps_refused { result.refused.ghost_name ≡ refused.entry.ghost_name }
         ensures starts { (view result.pass.now ≡ view pass.old) × (result.refused.now ≡ refused.old) }
     {
@@ -97,7 +89,6 @@ impl<'a> Post<'a> {
             timelines: grounds.timelines,
             pass,
             seat,
-            taken,
             refused,
             owner,
             actor,

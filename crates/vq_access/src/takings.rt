@@ -1,39 +1,59 @@
-//! The points that were taken for a batch, and looks at them before its release.
+//! The points that are taken for a batch, and looks at them before its release.
 //!
 //! Source: this project's own.
-ghost use Rattle.std.specs.Prelude.{◌≡◌, ◌<◌, ℕ, All, None, IfOk, IfErr, IfSome, length, true};
+ghost use Rattle.std.specs.Prelude.{◌≡◌, ◌<◌, ℕ, None, Some, IfOk, IfErr, IfSome, length, true};
+ghost use Rattle.std.specs.List.{slice_get};
+ghost use Rattle.vq_access.specs.Asking.{HasNamed, point_in};
 ghost use Rattle.vq_access.specs.Taken.{AreTaken, HasLearned, SawUntaken};
+ghost use Rattle.vq_access.specs.Timelines.{AreOf};
 ghost use Rattle.vq_board.specs.Named.{plan_of, view, board_of, IsOf};
-ghost use Rattle.vq_model.specs.Plan.{has};
+ghost use Rattle.vq_model.specs.Plan.{chain_of, has};
 ghost use Rattle.vq_board_laws.specs.Words.{Carries};
 ghost use Rattle.vq_board_laws.specs.PointSteps.{sees};
 ghost use Rattle.vq_point.specs.Word.{bits_of};
+ghost use Rattle.vq_timeline.specs.declared.timeline.LockedTimeline.{LockedTimeline as Timeline};
 
+use crate::lists::timeline_at;
+use std::sync::Wait;
 use vq_board::{Board, Pass};
-use vq_board_laws::view::Reference;
+use vq_order::Ordered;
 use vq_point::{CARRYING, PointWord, REFERENCE, SIGNAL};
+use vq_timeline::LockedTimeline;
+use vq_timeline_core::OpPlace;
 use vq_turns::outcome::Want;
 
-/// The point that was taken for an operation, 0 where none was.
-fn point_for(taken: &[Reference], op: u32) -> u32
-    ensures { (n : ℕ) → 0 < n → All (λ r. r.point < n) taken.now → result < n }
+/// The point that is taken for an operation which stands here, 0 where none is.
+fn point_in(place: OpPlace) -> u32
+    ensures { result ≡ point_in place }
 {
-    for k in 0..taken.len() {
-        if taken[k].op == op {
-            return taken[k].point;
-        }
+    match place {
+        OpPlace::Taken { point } => point,
+        OpPlace::Without => 0,
+        OpPlace::Pending { .. } => 0,
+        OpPlace::Past => 0,
     }
-    0
 }
 
-/// Remembers the point that was taken for an operation, where there is room. There is, for the operations of one
-/// batch.
-pub(crate) fn remember(taken: &mut Vec<Reference>, point: u32, op: u32)
-    ensures { (n : ℕ) → point < n → All (λ r. r.point < n) taken.old.items → All (λ r. r.point < n) taken.new.items }
+/// The point that the lists of an operation's chain have taken for it, 0 where they have none. Nothing is remembered of
+/// the take: turns of other actors of the same pass may lie between.
+fn point_of<R: Wait>(
+    rt: &R,
+    ordered: &Ordered,
+    board: &Board,
+    timelines: &[LockedTimeline],
+    op: u32,
+) -> u32
+    requires plan { plan_of board.now ≡ ordered.now }
+    requires timelines { AreOf board.now timelines.now }
+    requires exists { op < length ordered.now.ops }
+    ensures below { result < length ordered.now.ops }
+    ensures asked { (t : ℕ) (x : Timeline) → chain_of ordered.now op ≡ Some t → slice_get timelines.now t ≡ Some x →
+        HasNamed ordered.now x op result }
 {
-    if taken.len() < taken.capacity() {
-        taken.push_reserved(Reference { point, op });
-    }
+    let _lawful = ordered.plan();
+    let found = board.op(op);
+    let timeline = timeline_at(timelines, board, found.chain);
+    point_in(timeline.place_of(rt, board, op))
 }
 
 /// The word of a point as a number.
@@ -62,22 +82,26 @@ fn sees_taken(board: &Board, pass: &mut Pass, point: u32, op: u32) -> Result<(),
 }
 
 /// Looks at the points of operations, until one doesn't carry its operation: the want that this shows.
-pub(crate) fn untaken(
+pub(crate) fn untaken<R: Wait>(
+    rt: &R,
+    ordered: &Ordered,
     board: &Board,
+    timelines: &[LockedTimeline],
     pass: &mut Pass,
-    taken: &[Reference],
     ops: &[u32],
 ) -> Option<Want>
+    requires plan { plan_of board.now ≡ ordered.now }
+    requires timelines { AreOf board.now timelines.now }
     requires board { IsOf board.now pass.old }
-    requires points { All (λ r. r.point < length (plan_of board.now).ops) taken.now }
-    requires ops { (e : ℕ) → has ops.now e ≡ true → e < length (plan_of board.now).ops }
+    requires ops { (e : ℕ) → has ops.now e ≡ true → e < length ordered.now.ops }
     ensures pass { HasLearned pass.old pass.new }
     ensures taken { result ≡ None → AreTaken (view pass.new) ops.now (length ops.now) }
     ensures untaken { IfSome result (SawUntaken (view pass.old) (view pass.new) ops.now) }
 {
     for k in 0..ops.len() {
         let op = ops[k];
-        if let Err(found) = sees_taken(board, pass, point_for(taken, op), op) {
+        let point = point_of(rt, ordered, board, timelines, op);
+        if let Err(found) = sees_taken(board, pass, point, op) {
             return Some(Want::Exchange { op, found });
         }
     }

@@ -6,7 +6,6 @@ ghost use Rattle.vq_access.specs.Grounding.{plan_at, board_at};
 ghost use Rattle.vq_access.specs.Lasts.{IsFew};
 ghost use Rattle.vq_access.specs.Seatings.{places_of};
 ghost use Rattle.vq_access.specs.Served.{is_served};
-ghost use Rattle.vq_access.specs.Taken.{MayBe};
 ghost use Rattle.vq_access_laws.specs.AccessMeanings.{meaning_of};
 ghost use Rattle.vq_access_laws.specs.Causes.{IsShown};
 ghost use Rattle.vq_access_laws.specs.TruePasses.{AreTrue};
@@ -28,19 +27,16 @@ use std::snapshot::Snapshot;
 use std::sync::Wait;
 use vq_actor::{Actor, Tracker};
 use vq_board::Pass;
-use vq_board_laws::view::Reference;
 use vq_model::script::ActorName;
 use vq_turns::outcome::Outcome;
 
 /// One turn of an actor from its place, by the steps of a pass of the board that serves it. The places, with those that
-/// the seats kept before the turn, stay true of the pass, and all that is lent goes on as the turn left it: the points
-/// taken for the next batch, and the refusals met. A want is shown since the turn's start. It waits for nothing but the
-/// locks of timelines, and takes no memory.
+/// the seats kept before the turn, stay true of the pass, and all that is lent goes on as the turn left it, the refusals
+/// met too. A want is shown since the turn's start. It waits for nothing but the locks of timelines, and takes no memory.
 pub fn turn_at<R: Wait>(
     grounds: &Grounds<R>,
     pass: &mut Pass,
     seat: &mut Tracker,
-    taken: &mut Vec<Reference>,
     refused: &mut Refused,
     owner: ActorName,
     seats: Snapshot<Seats>,
@@ -53,12 +49,10 @@ pub fn turn_at<R: Wait>(
         (with_place (places_of owner seats.value) actor.now.name seat.old.place) }
     requires fits { FitsIn (program (plan_at grounds.now) actor.now.name) seat.old }
     requires few { All IsFew (program (plan_at grounds.now) actor.now.name) }
-    requires points { MayBe (plan_at grounds.now) taken.old.items }
     ensures board { IsOf (board_at grounds.now) pass.new }
     ensures places { AreTrue (plan_at grounds.now) owner (view pass.new)
         (with_place (places_of owner seats.value) actor.now.name seat.new.place) }
     ensures fits { FitsIn (program (plan_at grounds.now) actor.now.name) seat.new }
-    ensures points { MayBe (plan_at grounds.now) taken.new.items }
     ensures turn { IsTurn
         (meaning_of [] (plan_at grounds.now) actor.now.name seat.old.place Other (view pass.old) refused.old)
         (meaning_of [] (plan_at grounds.now) actor.now.name seat.new.place Other (view pass.new) refused.new)
@@ -66,16 +60,7 @@ pub fn turn_at<R: Wait>(
     ensures untouched { result ≡ AnyOutcome.Ended →
         ((view pass.new) ≡ (view pass.old)) × (refused.new ≡ refused.old) }
 {
-    let mut post = Post::new(
-        grounds,
-        pass,
-        seat,
-        taken,
-        refused,
-        owner,
-        &seats,
-        actor.name(),
-    );
+    let mut post = Post::new(grounds, pass, seat, refused, owner, &seats, actor.name());
     turn_over(grounds.rt, &mut post, actor)
 }
 
@@ -86,7 +71,6 @@ fn turn_over<R: Wait>(rt: &R, post: &mut Post, actor: &Actor) -> Outcome
     ensures untouched { result ≡ AnyOutcome.Ended → post.new ≡ post.old }
     ensures keeps_pass { post.new.pass.ghost_name ≡ post.old.pass.ghost_name }
     ensures keeps_seat { post.new.seat.ghost_name ≡ post.old.seat.ghost_name }
-    ensures keeps_taken { post.new.taken.ghost_name ≡ post.old.taken.ghost_name }
     ensures keeps_refused { post.new.refused.ghost_name ≡ post.old.refused.ghost_name }
 {
     let mut access = BoardAccess { rt, post };

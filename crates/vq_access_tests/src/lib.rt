@@ -3,8 +3,13 @@
 #![tactic(auto)]
 
 #[cfg(test)]
+mod deferred_tests;
+#[cfg(test)]
 mod events;
+#[cfg(test)]
+mod moves;
 #[cfg(test)]
 mod points_tests;
 pub mod rooms;
 pub mod scene;
+pub mod three;

@@ -1,14 +1,9 @@
 //! A point is completed while a reference is held to it, freed when that is given back, and used again.
 ghost use Rattle.std.specs.Prelude.{◌≡◌};
-ghost use Rattle.vq_access.specs.Grounding.{plan_at, board_at};
-ghost use Rattle.vq_access.specs.Timelines.{AreOf};
-ghost use Rattle.vq_access_tests.specs.Rooms.{ArePlaced};
-ghost use Rattle.vq_actor.specs.Companies.{IsCompanyOf};
 ghost use Rattle.vq_board.specs.Named.{plan_of};
 ghost use Rattle.vq_board_stage.specs.Dealing.{AreNew};
 
-use crate::events::is_same;
-use crate::rooms::turn_at;
+use crate::moves::{Turn, each_moves};
 use crate::scene::{SCRIPT, rooms_of, timelines_of};
 use std::alloc::Global;
 use std::sync::Wait;
@@ -20,8 +15,6 @@ use vq_board_stage::plans::checked;
 use vq_model::plan::Event;
 use vq_model::script::ActorName;
 use vq_order::Ordered;
-use vq_rooms::AccessRoom;
-use vq_turns::outcome::Outcome;
 
 /// Where the rooms lie.
 const HOST: usize = 0;
@@ -37,8 +30,8 @@ const RING_Q: usize = 4;
 /// The second ring.
 const Q: ActorName = ActorName::Ring(1);
 
-/// Who takes a turn, and the event that it makes.
-const TURNS: [(usize, Event); 21] = [
+/// A point is taken for the first signal, referred to, completed, and freed once it is given back.
+const TURNS: [Turn; 21] = [
     (HOST, Event::Submit { job: 0 }),
     (
         SUBMIT_P,
@@ -106,31 +99,6 @@ const TURNS: [(usize, Event); 21] = [
     ),
 ];
 
-/// Whether a turn made this event.
-fn has_made(outcome: Option<Outcome>, expected: Event) -> bool {
-    match outcome {
-        Some(Outcome::Moved(event)) => is_same(event, expected),
-        Some(Outcome::Blocked(_)) | Some(Outcome::Ended) | None => false,
-    }
-}
-
-/// Whether each turn makes its event.
-fn each_moves<R: Wait>(
-    grounds: &Grounds<R>,
-    company: &Company,
-    rooms: &mut [Option<AccessRoom>],
-) -> bool
-    requires company { IsCompanyOf (plan_at grounds.now) company.now }
-    requires rooms { ArePlaced (board_at grounds.now) rooms.old }
-{
-    for (place, expected) in TURNS {
-        if !has_made(turn_at(grounds, company, rooms, place), expected) {
-            return false;
-        }
-    }
-    true
-}
-
 /// All of that over a board with its passes.
 fn plays<R: Wait>(
     rt: &R,
@@ -148,7 +116,7 @@ fn plays<R: Wait>(
     let timelines = timelines_of(alloc, ordered, board, &mut passes.shelves)?;
     let mut rooms = rooms_of(alloc, ordered, board, &company, passes)?;
     let grounds = Grounds::new(rt, ordered, board, timelines.as_slice());
-    Some(each_moves(&grounds, &company, rooms.as_mut_slice()))
+    Some(each_moves(&grounds, &company, rooms.as_mut_slice(), &TURNS))
 }
 
 fn plays_over<R: Wait>(rt: &R, alloc: Global, ordered: &Ordered) -> Option<bool> {

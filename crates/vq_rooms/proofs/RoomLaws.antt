@@ -20,7 +20,6 @@ use Rattle.vq_turn_laws.specs.TruePlaces.{with_place}
 use Rattle.vq_actor.specs.Actors.{IsTurn}
 use Rattle.vq_actor.specs.Meanings.{Other}
 use Rattle.vq_actor.specs.Trackers.{Tracked, FitsIn}
-use Rattle.vq_board_laws.specs.declared.view.Reference.{Reference}
 use Rattle.vq_board_laws.specs.declared.view.View.{View}
 use Rattle.vq_access_laws.specs.AccessMeanings.{meaning_of}
 use Rattle.vq_access_laws.specs.Causes.{Refusals}
@@ -30,7 +29,6 @@ use Rattle.vq_access.specs.Lasts.{IsFew}
 use Rattle.vq_rooms.specs.Rooming.{AreFew, FitAll, HasQueues, IsRoom, served_queue}
 use Rattle.vq_access.specs.Seatings.{Seating, no_seat, places_of, seat_of, served_at}
 use Rattle.vq_access.specs.Served.{is_served}
-use Rattle.vq_access.specs.Taken.{MayBe}
 
 -- Names
 
@@ -202,7 +200,7 @@ module _ (p : Plan) (owner b : ActorName) (s t : Seating) (x y : Tracked) (k : I
   pub others_stand : (c : ActorName) → (c ≡ b → ⊥) → places_of owner t c ≡ places_of owner s c
   others_stand c apart = moved c ∙ elsewhere (places_of owner s) b c y.place apart
 
-  module _ (q : Plan) (e : q ≡ p) (v w : View) (refs more : List Reference) (room : IsRoom q owner v s refs) where
+  module _ (q : Plan) (e : q ≡ p) (v w : View) (room : IsRoom q owner v s) where
     pub true_before : AreTrue p owner v (with_place (places_of owner s) b x.place)
     true_before =
         true_alike p owner v (places_of owner s) (with_place (places_of owner s) b x.place)
@@ -224,13 +222,12 @@ module _ (p : Plan) (owner b : ActorName) (s t : Seating) (x y : Tracked) (k : I
         by_test false h = subst (λ (z : Plan). FitAll z owner s) e room.fits c served
 
     pub room_after : (r : Plan) → r ≡ p → AreTrue p owner w (with_place (places_of owner s) b y.place) →
-        FitsIn (program p b) y → MayBe p more → IsRoom r owner w t more
-    room_after r f truly fits points =
-        subst (λ (z : Plan). IsRoom z owner w t more) (sym f)
+        FitsIn (program p b) y → IsRoom r owner w t
+    room_after r f truly fits =
+        subst (λ (z : Plan). IsRoom z owner w t) (sym f)
         (record {
           places = true_alike p owner w (with_place (places_of owner s) b y.place) (places_of owner t) (λ c h. moved c) truly;
           fits = fits_after fits;
           few = subst (λ (z : Plan). AreFew z owner) e room.few;
           queues = λ whose. k.count ∙ (room.queues whose ∙ ap (λ (z : Plan). length z.script.queues) e);
-          points = points;
         })

@@ -10,7 +10,6 @@ use Rattle.vq_actor.specs.Actors.{events_by}
 use Rattle.vq_actor.specs.Meanings.{Meaning, Other}
 use Rattle.vq_actor.specs.Stages.{Staged}
 use Rattle.vq_actor.specs.Trackers.{FitsIn, Tracked}
-use Rattle.vq_board_laws.specs.declared.view.Reference.{Reference}
 use Rattle.vq_board_laws.specs.declared.view.View.{View}
 use Rattle.vq_board_laws.specs.Roles.{role_number}
 use Rattle.vq_board_laws.specs.Rule.{fresh}
@@ -29,15 +28,12 @@ use Rattle.vq_actor.specs.Companies.{member_at}
 use Rattle.vq_access.specs.Lasts.{IsFew}
 use Rattle.vq_access.specs.Seatings.{Seating, no_seat, places_of, seat_of}
 use Rattle.vq_access.specs.Served.{is_served}
-use Rattle.vq_access.specs.Taken.{MayBe}
 
--- a room: whose it is, the pass, the places of the actors that it serves, the points that were taken for the next
--- batch, and the refusals
+-- a room: whose it is, the pass, the places of the actors that it serves, and the refusals
 pub record Room : Type 0 where
   pub owner : ActorName
   pub pass : Pass
   pub seats : Seating
-  pub taken : List Reference
   pub refused : Refusals
 
 -- each actor that the pass serves has room for all its places
@@ -53,15 +49,14 @@ abbrev pub HasQueues : Plan → ActorName → Seating → Type 0
 HasQueues p owner s = owner ≡ HostActor → length s.submits ≡ length p.script.queues
 
 -- All places are true of the pass, and there is room for what is left to do.
-pub record IsRoom (p : Plan) (owner : ActorName) (v : View) (s : Seating) (taken : List Reference) : Type 0 where
+pub record IsRoom (p : Plan) (owner : ActorName) (v : View) (s : Seating) : Type 0 where
   pub places : AreTrue p owner v (places_of owner s)
   pub fits : FitAll p owner s
   pub few : AreFew p owner
   pub queues : HasQueues p owner s
-  pub points : MayBe p taken
 
-abbrev pub IsKept : ActorName → Pass → Seating → List Reference → Type 0
-IsKept owner x s taken = IsRoom (view x).plan owner (view x) s taken
+abbrev pub IsKept : ActorName → Pass → Seating → Type 0
+IsKept owner x s = IsRoom (view x).plan owner (view x) s
 
 -- the pass of an actor that has done nothing, but for the host's, off which others were cut
 abbrev pub IsIdle : Plan → ActorName → View → Type 0

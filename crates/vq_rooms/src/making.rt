@@ -16,9 +16,6 @@ use vq_board::Pass;
 use vq_model::script::ActorName;
 use vq_order::Ordered;
 
-/// For so many points there is room before a release: a batch has 16 signals at most, and a fence.
-const POINTS: usize = 17;
-
 /// The first place of an actor.
 fn own_seat(
     alloc: Global,
@@ -100,12 +97,10 @@ impl AccessRoom {
     {
         let _lawful = ordered.plan();
         let seats = first_seats(alloc, ordered, company, owner)?;
-        let taken = Vec::with_capacity(alloc, POINTS)?;
         Ok(AccessRoom {
             owner,
             pass,
             seats,
-            taken,
             refused: Refused::none(),
         })
     }

@@ -9,16 +9,14 @@ ghost use Rattle.vq_board_laws.specs.Roles.{role_number};
 use std::marker::Model;
 use vq_access::{Refused, Seats};
 use vq_board::Pass;
-use vq_board_laws::view::Reference;
 use vq_model::script::ActorName;
 
-/// All that the turns of an actor need at a board: its pass, its place with those of the actors that it serves,
-/// the points that were taken for the next batch, and the refusals that it met. All places are true of the pass.
+/// All that the turns of an actor need at a board: its pass, its place with those of the actors that it serves, and the
+/// refusals that it met. All places are true of the pass.
 pub struct AccessRoom {
     pub(crate) owner: ActorName,
     pub(crate) pass: Pass,
     pub(crate) seats: Seats,
-    pub(crate) taken: Vec<Reference>,
     pub(crate) refused: Refused,
 }
 
@@ -28,7 +26,6 @@ impl Drop for AccessRoom {
             owner: _owner,
             pass: _pass,
             seats: _seats,
-            taken: _taken,
             refused: _refused,
         } = self;
     }
@@ -44,9 +41,9 @@ impl Model for AccessRoom {
     ghost coded = { Prim.hlevel (codes, pass_row.the_row.coded) };
 
     ghost view = { λ a.
-        record { owner = a.owner; pass = a.pass; seats = a.seats; taken = a.taken.items; refused = a.refused } };
+        record { owner = a.owner; pass = a.pass; seats = a.seats; refused = a.refused } };
 
-    ghost invariant = { λ a. IsKept a.owner a.pass a.seats a.taken.items };
+    ghost invariant = { λ a. IsKept a.owner a.pass a.seats };
 }
 
 impl AccessRoom {
@@ -60,7 +57,6 @@ impl AccessRoom {
             owner: _owner,
             pass,
             seats: _seats,
-            taken: _taken,
             refused: _refused,
         } = self;
         pass

@@ -4,4 +4,4 @@ use Rattle.vq_access.proofs.takings.untaken.Given as goal
 
 -- so far each point carries its operation
 abbrev pub invariant-loop-k : goal.invariant-loop-k
-invariant-loop-k l = HasLearned l.fn.pass l.pass × AreTaken (view l.pass) l.fn.ops l.k
+invariant-loop-k g l = HasLearned l.fn.pass l.pass × AreTaken (view l.pass) l.fn.ops l.k

@@ -1,19 +1,17 @@
-use Rattle.std.proofs.Common.{List, [], ap, subst, sym, ◌∙◌}
+use Rattle.std.proofs.Common.{[], ap, subst, sym, ◌∙◌}
 use Rattle.vq_actor.specs.Actors.{IsTurn}
 use Rattle.vq_actor.specs.Meanings.{Meaning, Other}
 use Rattle.vq_actor.specs.Trackers.{FitsIn, Tracked}
 use Rattle.vq_access.specs.Posts.{meaning, shows}
-use Rattle.vq_access.specs.Taken.{MayBe}
 use Rattle.vq_access.specs.Seatings.{places_of}
 use Rattle.vq_access_laws.specs.AccessMeanings.{meaning_of}
 use Rattle.vq_access_laws.specs.Causes.{IsShown, Refusals}
 use Rattle.vq_access_laws.specs.TruePasses.{AreTrue}
 use Rattle.vq_board.specs.declared.parts.Pass.{Pass}
 use Rattle.vq_board.specs.Named.{view, IsOf}
-use Rattle.vq_board_laws.specs.declared.view.Reference.{Reference}
 use Rattle.vq_turn_laws.specs.TruePlaces.{with_place}
 use Rattle.vq_turns.specs.Programs.{program}
-use Rattle.vq_access.proofs.TurnEnds.{ends_fit, ends_of, ends_points, ends_true, ends_turn}
+use Rattle.vq_access.proofs.TurnEnds.{ends_fit, ends_of, ends_true, ends_turn}
 use Rattle.vq_access.proofs.turns.turn_at.Goals as goal
 
 pub returns-clause-board : goal.returns-clause-board
@@ -23,7 +21,7 @@ returns-clause-board g c =
     let pass_is = c.pass-1.given.1 (sym (c.turn_over.ensures.keeps_pass ∙ c.new-post.ensures.keeps_pass)) in
     subst (λ (z : Pass). IsOf c.args.grounds.now.board.now z) (sym pass_is)
     (ends_of c.args.grounds.now.ordered.now c.args.grounds.now.board.now c.args.owner c.args.seats.value c.name.result
-    c.args.actor.now.name c.args.seat.now.place (view c.args.pass.now) c.args.refused.now _ _ _ _ c.turn_over.new.post
+    c.args.actor.now.name c.args.seat.now.place (view c.args.pass.now) c.args.refused.now _ _ _ c.turn_over.new.post
     c.turn_over.result c.args.grounds.now.planned c.name.ensures k)
 
 pub returns-clause-places : goal.returns-clause-places
@@ -36,7 +34,7 @@ returns-clause-places g c =
     (with_place (places_of c.args.owner c.args.seats.value) c.args.actor.now.name z.1.place))
     (λ i. (sym pass_is i, sym seat_is i))
     (ends_true c.args.grounds.now.ordered.now c.args.grounds.now.board.now c.args.owner c.args.seats.value c.name.result
-    c.args.actor.now.name c.args.seat.now.place (view c.args.pass.now) c.args.refused.now _ _ _ _ c.turn_over.new.post
+    c.args.actor.now.name c.args.seat.now.place (view c.args.pass.now) c.args.refused.now _ _ _ c.turn_over.new.post
     c.turn_over.result c.args.grounds.now.planned c.name.ensures k)
 
 pub returns-clause-fits : goal.returns-clause-fits
@@ -46,17 +44,7 @@ returns-clause-fits g c =
     let seat_is = c.seat-1.given.1 (sym (c.turn_over.ensures.keeps_seat ∙ c.new-post.ensures.keeps_seat)) in
     subst (λ (z : Tracked). FitsIn (program c.args.grounds.now.ordered.now c.args.actor.now.name) z) (sym seat_is)
     (ends_fit c.args.grounds.now.ordered.now c.args.grounds.now.board.now c.args.owner c.args.seats.value c.name.result
-    c.args.actor.now.name c.args.seat.now.place (view c.args.pass.now) c.args.refused.now _ _ _ _ c.turn_over.new.post
-    c.turn_over.result c.args.grounds.now.planned c.name.ensures k)
-
-pub returns-clause-points : goal.returns-clause-points
-returns-clause-points g c =
-    let k = subst (λ (m : Meaning). IsTurn m (meaning c.turn_over.new.post) (shows c.turn_over.new.post)
-    c.turn_over.result) c.new-post.ensures.meaning c.turn_over.ensures.turn in
-    let taken_is = c.taken-1.given.1 (sym (c.turn_over.ensures.keeps_taken ∙ c.new-post.ensures.keeps_taken)) in
-    subst (λ (xs : List Reference). MayBe c.args.grounds.now.ordered.now xs) (λ i. (sym taken_is i).items)
-    (ends_points c.args.grounds.now.ordered.now c.args.grounds.now.board.now c.args.owner c.args.seats.value c.name.result
-    c.args.actor.now.name c.args.seat.now.place (view c.args.pass.now) c.args.refused.now _ _ _ _ c.turn_over.new.post
+    c.args.actor.now.name c.args.seat.now.place (view c.args.pass.now) c.args.refused.now _ _ _ c.turn_over.new.post
     c.turn_over.result c.args.grounds.now.planned c.name.ensures k)
 
 pub returns-clause-turn : goal.returns-clause-turn
@@ -72,7 +60,7 @@ returns-clause-turn g c =
     c.turn_over.result)
     (λ i. (sym pass_is i, (sym seat_is i, sym refused_is i)))
     (ends_turn c.args.grounds.now.ordered.now c.args.grounds.now.board.now c.args.owner c.args.seats.value c.name.result
-    c.args.actor.now.name c.args.seat.now.place (view c.args.pass.now) c.args.refused.now _ _ _ _ c.turn_over.new.post
+    c.args.actor.now.name c.args.seat.now.place (view c.args.pass.now) c.args.refused.now _ _ _ c.turn_over.new.post
     c.turn_over.result c.args.grounds.now.planned c.name.ensures k)
 
 pub returns-clause-untouched : goal.returns-clause-untouched

@@ -13,12 +13,7 @@ returns-clause-keeps_seat g c =
     ap (λ (y : Post). y.seat.ghost_name) (c.post-1.given.1 (sym c.turn_through.ensures.keeps))
     ∙ ap (λ (xs : List ℕ). slice_index xs 1) c.turn_through.ensures.turn.kept.lenders
 
-pub returns-clause-keeps_taken : goal.returns-clause-keeps_taken
-returns-clause-keeps_taken g c =
-    ap (λ (y : Post). y.taken.ghost_name) (c.post-1.given.1 (sym c.turn_through.ensures.keeps))
-    ∙ ap (λ (xs : List ℕ). slice_index xs 2) c.turn_through.ensures.turn.kept.lenders
-
 pub returns-clause-keeps_refused : goal.returns-clause-keeps_refused
 returns-clause-keeps_refused g c =
     ap (λ (y : Post). y.refused.ghost_name) (c.post-1.given.1 (sym c.turn_through.ensures.keeps))
-    ∙ ap (λ (xs : List ℕ). slice_index xs 3) c.turn_through.ensures.turn.kept.lenders
+    ∙ ap (λ (xs : List ℕ). slice_index xs 2) c.turn_through.ensures.turn.kept.lenders

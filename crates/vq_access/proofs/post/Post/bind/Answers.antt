@@ -1,10 +1,15 @@
-use Rattle.std.proofs.Common.{◌<◌, ◌≡◌, Some, length, subst, refl}
+use Rattle.std.proofs.Common.{◌<◌, ◌≡◌, ◌∙◌, Some, Ok, Err, length, subst, sym, ap, refl, inl, inr}
+use Rattle.vq_board.specs.Named.{plan_of}
+use Rattle.vq_model.specs.declared.plan.Event.TheVariants.{Bind as Binds}
+use Rattle.vq_timeline.specs.declared.timeline.LockedTimeline.{LockedTimeline}
+use Rattle.vq_timeline.specs.Named.{chain_at}
+use Rattle.vq_access.specs.Asking.{HasTied, want_by}
 use Rattle.std.specs.List.{slice_get}
 use Rattle.vq_model.specs.Plan.{Plan}
 use Rattle.vq_turns.specs.declared.task.Task.TheVariants.{Bind}
 use Rattle.vq_turns.specs.Turns.{forward}
 use Rattle.vq_access.proofs.Existing.{bind_exists, found_chain}
-use Rattle.vq_access.proofs.Listing.{binds_truly}
+use Rattle.vq_access.proofs.Listing.{asked_at, binds_truly}
 use Rattle.vq_access.proofs.Posting.{counts, fits_on, here, of_board_plan, seen_by, true_at}
 use Rattle.vq_access.proofs.post.Post.bind.Goals as goal
 
@@ -33,3 +38,25 @@ invariant_of-self-clause-places g c =
 pub invariant_of-self-clause-fits : goal.invariant_of-self-clause-fits
 invariant_of-self-clause-fits g c =
     fits_on c.args.self.now (Bind c.args.op) c.requires c.forward.new.self c.forward.ensures
+
+pub returns-in-Ok-clause-asked : goal.returns-in-Ok-clause-asked
+returns-in-Ok-clause-asked g c t x of at =
+    let y = c.args.self.now in
+    let b = plan_of y.board.now in
+    let same = asked_at b b y.timelines.now c.args.op t c.op-found.result c.timeline_at-timeline.result.now x refl
+    c.op-found.ensures of c.timeline_at-timeline.ensures.there at in
+    subst (λ (z : LockedTimeline). HasTied b z c.args.op (Ok (Binds c.args.op c.in-Ok.point))) same
+    (inl (c.in-Ok.point, refl, c.in-Ok.ensures.bound))
+
+pub returns-in-Err-clause-asked : goal.returns-in-Err-clause-asked
+returns-in-Err-clause-asked g c t x of at =
+    let y = c.args.self.now in
+    let b = plan_of y.board.now in
+    let same = asked_at b b y.timelines.now c.args.op t c.op-found.result c.timeline_at-timeline.result.now x refl
+    c.op-found.ensures of c.timeline_at-timeline.ensures.there at in
+    let chain : c.op-found.result.chain ≡ chain_at c.timeline_at-timeline.result.now =
+    sym c.timeline_at-timeline.ensures.chain in
+    let want = c.held_back-want.ensures.fault
+    ∙ (λ k. want_by (sym y.planned k) (chain k) c.args.op c.in-Err.fault) in
+    subst (λ (z : LockedTimeline). HasTied b z c.args.op (Err c.held_back-want.result)) same
+    (inr (c.in-Err.fault, ap Err want, c.in-Err.ensures.refused))

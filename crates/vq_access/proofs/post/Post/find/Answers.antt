@@ -33,7 +33,6 @@ invariant_of-self c =
           c.pass.ensures;
       few = x.few;
       finds = other_finds p x.actor c.pass.new.self.place;
-      points = x.points;
     }
 
 pub invariant_of-self-in-Pending : goal.invariant_of-self-in-Pending
@@ -55,7 +54,6 @@ invariant_of-self-in-Pending c =
       few = x.few;
       finds = finds_now p x.actor (here x) m.needs c.args.need c.in-Pending.op c.in-Pending.point c.args.chain
           c.args.value m.need m.is_next m.at m.chain m.value is;
-      points = x.points;
     }
 
 pub invariant_of-self-in-NotYet : goal.invariant_of-self-in-NotYet
@@ -73,5 +71,4 @@ invariant_of-self-in-NotYet c =
       fits = x.fits;
       few = x.few;
       finds = other_finds p x.actor (here x);
-      points = x.points;
     }

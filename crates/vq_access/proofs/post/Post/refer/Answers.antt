@@ -31,7 +31,6 @@ invariant_of-self c =
       fits = x.fits;
       few = x.few;
       finds = other_finds x.ordered.now x.actor (here x);
-      points = x.points;
     }
 
 pub invariant_of-self-in-Lost-1 : goal.invariant_of-self-in-Lost-1
@@ -47,7 +46,6 @@ invariant_of-self-in-Lost-1 c =
       fits = x.fits;
       few = x.few;
       finds = other_finds x.ordered.now x.actor (here x);
-      points = x.points;
     }
 
 pub refer-requires-2-clause-slot : goal.refer-requires-2-clause-slot

@@ -20,18 +20,18 @@ use Rattle.vq_access.proofs.Untaking.{refused_release}
 use Rattle.vq_access.proofs.post.Post.release.Goals as goal
 
 pub job-requires : goal.job-requires
-job-requires c =
+job-requires g c =
     subst (λ (p : Plan). c.args.job < length p.jobs) (sym c.plan.ensures.value)
     (releases_there c.args.self.now c.plan.ensures.read c.plan.ensures.lawful c.args.job c.requires)
 
 pub untaken-requires-clause-ops : goal.untaken-requires-clause-ops
-untaken-requires-clause-ops c e m =
+untaken-requires-clause-ops g c e m =
     signals_there c.args.self.now c.plan.ensures.read c.plan.ensures.lawful c.args.job c.job.result.now
     (ap (λ (p : Plan). slice_get p.jobs c.args.job) (sym c.plan.ensures.value) ∙ c.job.ensures) e
     (ap (λ (es : List ℕ). has es e) (sym c.as_slice-signals.ensures) ∙ m)
 
 pub invariant_of-self : goal.invariant_of-self
-invariant_of-self c =
+invariant_of-self g c =
     let x = c.args.self.now in
     let learning = c.untaken.ensures.pass in
     record {
@@ -44,18 +44,17 @@ invariant_of-self c =
       fits = x.fits;
       few = x.few;
       finds = other_finds x.ordered.now x.actor (here x);
-      points = x.points;
     }
 
 pub returns-in-Some-clause-answer : goal.returns-in-Some-clause-answer
-returns-in-Some-clause-answer c =
+returns-in-Some-clause-answer g c =
     let x = c.args.self.now in
     refused_release (lenders_of x) x.ordered.now x.actor (here x) (recent_of x.last) Other (seen_by x)
     (view c.untaken.new.pass) x.refused.now c.as_slice-signals.result.now c.in-Some.want c.in-Some.ensures.untaken
     (forward (here x)) (λ w. Ok (Releases c.args.job)) (Is (Releases c.args.job))
 
 pub release-requires-clause-may : goal.release-requires-clause-may
-release-requires-clause-may c =
+release-requires-clause-may g c =
     let x = c.args.self.now in
     let at = ap (λ (p : Plan). slice_get p.jobs c.args.job) (sym c.plan.ensures.value) ∙ c.job.ensures in
     let same = signals_are x.ordered.now c.args.job c.job.result.now at ∙ sym c.as_slice-signals.ensures in
@@ -65,10 +64,10 @@ release-requires-clause-may c =
     (all_taken (view c.untaken.new.pass) c.as_slice-signals.result.now (c.untaken.ensures.taken c.in_default.is)))
 
 pub forward-requires : goal.forward-requires
-forward-requires c = counts c.args.self.now (Release c.args.job) c.requires
+forward-requires g c = counts c.args.self.now (Release c.args.job) c.requires
 
 pub invariant_of-self-2-clause-places : goal.invariant_of-self-2-clause-places
-invariant_of-self-2-clause-places c =
+invariant_of-self-2-clause-places g c =
     let x = c.args.self.now in
     true_at x (view c.release.new.pass) (releases (view c.untaken.new.pass) c.args.job) c.forward.new.self
     (forward (here x)) c.release.ensures.pass.2 c.forward.ensures
@@ -76,5 +75,5 @@ invariant_of-self-2-clause-places c =
     c.args.job c.requires)
 
 pub invariant_of-self-2-clause-fits : goal.invariant_of-self-2-clause-fits
-invariant_of-self-2-clause-fits c =
+invariant_of-self-2-clause-fits g c =
     fits_on c.args.self.now (Release c.args.job) c.requires c.forward.new.self c.forward.ensures

@@ -1,11 +1,15 @@
-use Rattle.std.proofs.Common.{◌<◌, ◌≡◌, ℕ, Some, Ok, length, sym, subst, ap, ◌∙◌, refl}
+use Rattle.std.proofs.Common.{◌<◌, ◌≡◌, ℕ, Some, Ok, Err, length, sym, subst, ap, ◌∙◌, refl, inl, inr}
+use Rattle.std.specs.List.{slice_get}
+use Rattle.vq_model.proofs.Options.{same_some}
+use Rattle.vq_board.specs.Named.{plan_of}
+use Rattle.vq_timeline.specs.declared.timeline.LockedTimeline.{LockedTimeline}
+use Rattle.vq_access.specs.Asking.{HasGiven}
 use Rattle.vq_model.specs.Plan.{Plan, chain_of}
 use Rattle.vq_turns.specs.declared.outcome.Want.TheVariants.{Listed}
 use Rattle.vq_turns.specs.declared.task.Task.TheVariants.{Take}
 use Rattle.vq_turns.specs.Turns.{forward, taken}
 use Rattle.vq_actor.specs.Collections.{emptied, IsTakeOf}
 use Rattle.vq_actor.specs.Meanings.{Other}
-use Rattle.vq_timeline.specs.Answers.{taken_point}
 use Rattle.vq_access.specs.Lasts.{recent_of}
 use Rattle.vq_access.specs.Posts.{lenders_of}
 use Rattle.vq_access.proofs.Existing.{take_chain_there, chain_there}
@@ -46,16 +50,29 @@ invariant_of-self-clause-fits g c =
     let x = c.args.self.now in
     fits_on x (Take c.args.op (emptied (recent_of x.last))) c.requires.is_next c.forward.new.self c.forward.ensures
 
-pub invariant_of-self-clause-points : goal.invariant_of-self-clause-points
-invariant_of-self-clause-points g c =
-    let x = c.args.self.now in
-    c.remember.ensures (length x.ordered.now.ops)
-    (subst (λ (n : ℕ). n < length x.ordered.now.ops) (sym c.taking-point.ensures.point)
-    (subst (λ (p : Plan). taken_point c.in-Ok.taken < length p.ops) x.planned c.in-Ok.ensures.below)) x.points
-
 pub returns-in-Err-clause-answer : goal.returns-in-Err-clause-answer
 returns-in-Err-clause-answer g c =
     let x = c.args.self.now in
     refused_lists (lenders_of x) x.ordered.now x.actor (here x) (recent_of x.last) Other (seen_by x) x.refused.now
     c.keep.new.self (Listed c.args.op) refl c.keep.ensures.kept c.keep.ensures.more (forward (here x))
     (λ w. Ok (taken w c.args.op (emptied (recent_of x.last)))) (IsTakeOf c.args.op)
+
+pub returns-in-Ok-clause-asked : goal.returns-in-Ok-clause-asked
+returns-in-Ok-clause-asked g c x at =
+    let y = c.args.self.now in
+    let l = c.timeline_at-timeline.result.now in
+    let same = same_some l x
+    (sym c.timeline_at-timeline.ensures.there
+    ∙ (ap (λ (n : ℕ). slice_get y.timelines.now n) c.emptied_chain-chain.ensures ∙ at)) in
+    subst (λ (z : LockedTimeline). HasGiven (plan_of y.board.now) z c.args.op (Ok c.taking.result)) same
+    (inl (c.in-Ok.taken, ap Ok c.taking.ensures.named, c.in-Ok.ensures.taken))
+
+pub returns-in-Err-clause-asked : goal.returns-in-Err-clause-asked
+returns-in-Err-clause-asked g c x at =
+    let y = c.args.self.now in
+    let l = c.timeline_at-timeline.result.now in
+    let same = same_some l x
+    (sym c.timeline_at-timeline.ensures.there
+    ∙ (ap (λ (n : ℕ). slice_get y.timelines.now n) c.emptied_chain-chain.ensures ∙ at)) in
+    subst (λ (z : LockedTimeline). HasGiven (plan_of y.board.now) z c.args.op (Err (Listed c.args.op))) same
+    (inr (c.in-Err.place, refl, c.in-Err.ensures.refused))

@@ -33,7 +33,6 @@ invariant_of-self c =
       fits = x.fits;
       few = x.few;
       finds = other_finds x.ordered.now x.actor (here x);
-      points = x.points;
     }
 
 pub give_back-requires : goal.give_back-requires

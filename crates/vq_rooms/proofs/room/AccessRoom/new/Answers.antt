@@ -1,9 +1,6 @@
-use Rattle.std.proofs.Common.{◌<◌, length, sym, subst}
-use Rattle.std.proofs.lemmas.List.Elements.{All-nil}
+use Rattle.std.proofs.Common.{sym, subst}
 use Rattle.vq_model.specs.Plan.{Plan}
 use Rattle.vq_board.specs.Named.{view}
-use Rattle.vq_board_laws.specs.declared.view.Reference.{Reference}
-use Rattle.vq_access.specs.Taken.{MayBe}
 use Rattle.vq_rooms.specs.Rooming.{IsRoom}
 use Rattle.vq_rooms.proofs.Few.{program_few}
 use Rattle.vq_rooms.proofs.FirstRooms.{idle_plan, idle_true}
@@ -15,13 +12,11 @@ invariant_of-result c =
     let v = view c.args.pass in
     let s = c.in_ok-seats.seats in
     let k = c.in_ok-seats.ensures {u = tt} in
-    subst (λ (z : Plan). IsRoom z c.args.owner v s c.in_ok-taken.taken.items)
+    subst (λ (z : Plan). IsRoom z c.args.owner v s)
     (sym (idle_plan p c.args.owner v c.requires.idle))
     (record {
       places = idle_true p c.args.owner v s c.requires.idle k;
       fits = k.fits;
       few = λ b served. program_few p c.plan-lawful.ensures.read b;
       queues = k.queues;
-      points = subst (MayBe p) (sym (c.in_ok-taken.ensures {u = tt}).items)
-          (All-nil (λ (r : Reference). r.point < length p.ops));
     })

@@ -13,14 +13,14 @@ use Rattle.vq_rooms.proofs.RoomLaws.{few_before, fits_before, own_moved, place_h
 use Rattle.vq_rooms.proofs.room.AccessRoom.turn.Goals as goal
 
 abbrev room_of : Inside → Room
-room_of z = record { owner = z.owner; pass = z.pass; seats = z.seats; taken = z.taken.items; refused = z.refused }
+room_of z = record { owner = z.owner; pass = z.pass; seats = z.seats; refused = z.refused }
 
 pub turn_at-requires-clause-places : goal.turn_at-requires-clause-places
 turn_at-requires-clause-places g c =
     let raw = c.self-inside.inside.0 in
     let s : Seating = record { own = raw.1.1.0.own; submits = raw.1.1.0.submits.items } in
     let same : _ ≡ c.args.self.now = ap room_of c.self-inside.view_is ∙ c.self.view_is in
-    let room = subst (λ (z : Inside). IsKept z.owner z.pass z.seats z.taken.items) (sym c.self-inside.view_is)
+    let room = subst (λ (z : Inside). IsKept z.owner z.pass z.seats) (sym c.self-inside.view_is)
     c.self.invariant in
     let p = c.args.grounds.now.ordered.now in
     let name = c.args.actor.now.name in
@@ -36,14 +36,14 @@ turn_at-requires-clause-places g c =
     let t : Seating = record { own = raw.1.1.0.own; submits = set raw.1.1.0.submits.items q x } in
     subst (λ (z : Seating). AreTrue p raw.0 (view raw.1.0) (with_place (places_of raw.0 z) name x.place))
     (ap (λ (z : Inside). z.seats) c.self-inside.view_is ∙ sym c.of-seats.ensures)
-    (true_before p raw.0 name s t x x k _ e (view raw.1.0) (view raw.1.0) raw.1.1.1.0.items raw.1.1.1.0.items room)
+    (true_before p raw.0 name s t x x k _ e (view raw.1.0) (view raw.1.0) room)
 
 pub turn_at-requires-clause-fits : goal.turn_at-requires-clause-fits
 turn_at-requires-clause-fits g c =
     let raw = c.self-inside.inside.0 in
     let s : Seating = record { own = raw.1.1.0.own; submits = raw.1.1.0.submits.items } in
     let same : _ ≡ c.args.self.now = ap room_of c.self-inside.view_is ∙ c.self.view_is in
-    let room = subst (λ (z : Inside). IsKept z.owner z.pass z.seats z.taken.items) (sym c.self-inside.view_is)
+    let room = subst (λ (z : Inside). IsKept z.owner z.pass z.seats) (sym c.self-inside.view_is)
     c.self.invariant in
     let p = c.args.grounds.now.ordered.now in
     let name = c.args.actor.now.name in
@@ -57,14 +57,14 @@ turn_at-requires-clause-fits g c =
     let queues = subst (λ (z : Plan). HasQueues z raw.0 s) e room.queues in
     let k = queue_moved p raw.0 name s q x x served some queues c.index_mut.ensures.value in
     let t : Seating = record { own = raw.1.1.0.own; submits = set raw.1.1.0.submits.items q x } in
-    fits_before p raw.0 name s t x x k _ e (view raw.1.0) (view raw.1.0) raw.1.1.1.0.items raw.1.1.1.0.items room served
+    fits_before p raw.0 name s t x x k _ e (view raw.1.0) (view raw.1.0) room served
 
 pub turn_at-requires-clause-few : goal.turn_at-requires-clause-few
 turn_at-requires-clause-few g c =
     let raw = c.self-inside.inside.0 in
     let s : Seating = record { own = raw.1.1.0.own; submits = raw.1.1.0.submits.items } in
     let same : _ ≡ c.args.self.now = ap room_of c.self-inside.view_is ∙ c.self.view_is in
-    let room = subst (λ (z : Inside). IsKept z.owner z.pass z.seats z.taken.items) (sym c.self-inside.view_is)
+    let room = subst (λ (z : Inside). IsKept z.owner z.pass z.seats) (sym c.self-inside.view_is)
     c.self.invariant in
     let p = c.args.grounds.now.ordered.now in
     let name = c.args.actor.now.name in
@@ -78,14 +78,14 @@ turn_at-requires-clause-few g c =
     let queues = subst (λ (z : Plan). HasQueues z raw.0 s) e room.queues in
     let k = queue_moved p raw.0 name s q x x served some queues c.index_mut.ensures.value in
     let t : Seating = record { own = raw.1.1.0.own; submits = set raw.1.1.0.submits.items q x } in
-    few_before p raw.0 name s t x x k _ e (view raw.1.0) (view raw.1.0) raw.1.1.1.0.items raw.1.1.1.0.items room served
+    few_before p raw.0 name s t x x k _ e (view raw.1.0) (view raw.1.0) room served
 
 pub invariant_of-self : goal.invariant_of-self
 invariant_of-self g c =
     let raw = c.self-inside.inside.0 in
     let s : Seating = record { own = raw.1.1.0.own; submits = raw.1.1.0.submits.items } in
     let same : _ ≡ c.args.self.now = ap room_of c.self-inside.view_is ∙ c.self.view_is in
-    let room = subst (λ (z : Inside). IsKept z.owner z.pass z.seats z.taken.items) (sym c.self-inside.view_is)
+    let room = subst (λ (z : Inside). IsKept z.owner z.pass z.seats) (sym c.self-inside.view_is)
     c.self.invariant in
     let p = c.args.grounds.now.ordered.now in
     let name = c.args.actor.now.name in
@@ -101,17 +101,17 @@ invariant_of-self g c =
     let k = queue_moved p raw.0 name s q x y served some queues c.index_mut.ensures.value in
     let t : Seating = record { own = raw.1.1.0.own; submits = set raw.1.1.0.submits.items q y } in
     let m = c.turn_at.ensures in
-    room_after p raw.0 name s t x y k _ e (view raw.1.0) (view c.turn_at.new.pass) _ c.turn_at.new.taken.items room
+    room_after p raw.0 name s t x y k _ e (view raw.1.0) (view c.turn_at.new.pass) room
     (view c.turn_at.new.pass).plan (m.board.1 ∙ c.args.grounds.now.planned)
     (subst (λ (z : Seating). AreTrue p raw.0 (view c.turn_at.new.pass) (with_place (places_of raw.0 z) name y.place))
-    (sym (ap (λ (z : Inside). z.seats) c.self-inside.view_is ∙ sym c.of-seats.ensures)) m.places) m.fits m.points
+    (sym (ap (λ (z : Inside). z.seats) c.self-inside.view_is ∙ sym c.of-seats.ensures)) m.places) m.fits
 
 pub turn_at-requires-in-None-clause-few : goal.turn_at-requires-in-None-clause-few
 turn_at-requires-in-None-clause-few g c =
     let raw = c.self-inside.inside.0 in
     let s : Seating = record { own = raw.1.1.0.own; submits = raw.1.1.0.submits.items } in
     let same : _ ≡ c.args.self.now = ap room_of c.self-inside.view_is ∙ c.self.view_is in
-    let room = subst (λ (z : Inside). IsKept z.owner z.pass z.seats z.taken.items) (sym c.self-inside.view_is)
+    let room = subst (λ (z : Inside). IsKept z.owner z.pass z.seats) (sym c.self-inside.view_is)
     c.self.invariant in
     let p = c.args.grounds.now.ordered.now in
     let name = c.args.actor.now.name in
@@ -121,7 +121,7 @@ turn_at-requires-in-None-clause-few g c =
     let none : served_queue raw.0 name ≡ None =
     ap (served_queue raw.0) (sym c.name.ensures) ∙ (sym c.served_queue.ensures ∙ c.in-None.is) in
     let k = own_moved p raw.0 name s s.own served none in
-    few_before p raw.0 name s s s.own s.own k _ e (view raw.1.0) (view raw.1.0) raw.1.1.1.0.items raw.1.1.1.0.items room
+    few_before p raw.0 name s s s.own s.own k _ e (view raw.1.0) (view raw.1.0) room
     served
 
 pub turn_at-requires-in-None-clause-places : goal.turn_at-requires-in-None-clause-places
@@ -129,7 +129,7 @@ turn_at-requires-in-None-clause-places g c =
     let raw = c.self-inside.inside.0 in
     let s : Seating = record { own = raw.1.1.0.own; submits = raw.1.1.0.submits.items } in
     let same : _ ≡ c.args.self.now = ap room_of c.self-inside.view_is ∙ c.self.view_is in
-    let room = subst (λ (z : Inside). IsKept z.owner z.pass z.seats z.taken.items) (sym c.self-inside.view_is)
+    let room = subst (λ (z : Inside). IsKept z.owner z.pass z.seats) (sym c.self-inside.view_is)
     c.self.invariant in
     let p = c.args.grounds.now.ordered.now in
     let name = c.args.actor.now.name in
@@ -141,14 +141,14 @@ turn_at-requires-in-None-clause-places g c =
     let k = own_moved p raw.0 name s s.own served none in
     subst (λ (z : Seating). AreTrue p raw.0 (view raw.1.0) (with_place (places_of raw.0 z) name s.own.place))
     (ap (λ (z : Inside). z.seats) c.self-inside.view_is ∙ sym c.of-seats.ensures)
-    (true_before p raw.0 name s s s.own s.own k _ e (view raw.1.0) (view raw.1.0) raw.1.1.1.0.items raw.1.1.1.0.items room)
+    (true_before p raw.0 name s s s.own s.own k _ e (view raw.1.0) (view raw.1.0) room)
 
 pub invariant_of-self-in-None : goal.invariant_of-self-in-None
 invariant_of-self-in-None g c =
     let raw = c.self-inside.inside.0 in
     let s : Seating = record { own = raw.1.1.0.own; submits = raw.1.1.0.submits.items } in
     let same : _ ≡ c.args.self.now = ap room_of c.self-inside.view_is ∙ c.self.view_is in
-    let room = subst (λ (z : Inside). IsKept z.owner z.pass z.seats z.taken.items) (sym c.self-inside.view_is)
+    let room = subst (λ (z : Inside). IsKept z.owner z.pass z.seats) (sym c.self-inside.view_is)
     c.self.invariant in
     let p = c.args.grounds.now.ordered.now in
     let name = c.args.actor.now.name in
@@ -162,17 +162,17 @@ invariant_of-self-in-None g c =
     let y = c.turn_at-in-None.new.seat in
     let m = c.turn_at-in-None.ensures in
     let w = view c.turn_at-in-None.new.pass in
-    room_after p raw.0 name s t s.own y k _ e (view raw.1.0) w _ c.turn_at-in-None.new.taken.items room
+    room_after p raw.0 name s t s.own y k _ e (view raw.1.0) w room
     w.plan (m.board.1 ∙ c.args.grounds.now.planned)
     (subst (λ (z : Seating). AreTrue p raw.0 w (with_place (places_of raw.0 z) name y.place))
-    (sym (ap (λ (z : Inside). z.seats) c.self-inside.view_is ∙ sym c.of-seats.ensures)) m.places) m.fits m.points
+    (sym (ap (λ (z : Inside). z.seats) c.self-inside.view_is ∙ sym c.of-seats.ensures)) m.places) m.fits
 
 pub returns-in-Some-clause-turn : goal.returns-in-Some-clause-turn
 returns-in-Some-clause-turn g c =
     let raw = c.self-inside.inside.0 in
     let s : Seating = record { own = raw.1.1.0.own; submits = raw.1.1.0.submits.items } in
     let same : _ ≡ c.args.self.now = ap room_of c.self-inside.view_is ∙ c.self.view_is in
-    let room = subst (λ (z : Inside). IsKept z.owner z.pass z.seats z.taken.items) (sym c.self-inside.view_is)
+    let room = subst (λ (z : Inside). IsKept z.owner z.pass z.seats) (sym c.self-inside.view_is)
     c.self.invariant in
     let p = c.args.grounds.now.ordered.now in
     let name = c.args.actor.now.name in
@@ -192,12 +192,11 @@ returns-in-Some-clause-turn g c =
       owner = raw.0;
       pass = c.turn_at.new.pass;
       seats = t;
-      taken = c.turn_at.new.taken.items;
       refused = c.turn_at.new.refused;
     }) name)
     (IsShown (view c.turn_at.new.pass).steps c.turn_at.new.refused) c.turn_at.result) same
     (turn_alike p name x.place y.place (places_of raw.0 s name) (places_of raw.0 t name) (view raw.1.0)
-    (view c.turn_at.new.pass) raw.1.1.1.1.0 c.turn_at.new.refused (IsShown (view c.turn_at.new.pass).steps
+    (view c.turn_at.new.pass) raw.1.1.1.0 c.turn_at.new.refused (IsShown (view c.turn_at.new.pass).steps
     c.turn_at.new.refused) c.turn_at.result
     (place_here p raw.0 name s t x y k) (place_there p raw.0 name s t x y k) c.turn_at.ensures.turn)
 
@@ -206,7 +205,7 @@ returns-in-None-clause-turn g c =
     let raw = c.self-inside.inside.0 in
     let s : Seating = record { own = raw.1.1.0.own; submits = raw.1.1.0.submits.items } in
     let same : _ ≡ c.args.self.now = ap room_of c.self-inside.view_is ∙ c.self.view_is in
-    let room = subst (λ (z : Inside). IsKept z.owner z.pass z.seats z.taken.items) (sym c.self-inside.view_is)
+    let room = subst (λ (z : Inside). IsKept z.owner z.pass z.seats) (sym c.self-inside.view_is)
     c.self.invariant in
     let p = c.args.grounds.now.ordered.now in
     let name = c.args.actor.now.name in
@@ -224,11 +223,10 @@ returns-in-None-clause-turn g c =
       owner = raw.0;
       pass = c.turn_at-in-None.new.pass;
       seats = t;
-      taken = c.turn_at-in-None.new.taken.items;
       refused = c.turn_at-in-None.new.refused;
     }) name)
     (IsShown (view c.turn_at-in-None.new.pass).steps c.turn_at-in-None.new.refused) c.turn_at-in-None.result) same
     (turn_alike p name x.place y.place (places_of raw.0 s name) (places_of raw.0 t name) (view raw.1.0)
-    (view c.turn_at-in-None.new.pass) raw.1.1.1.1.0 c.turn_at-in-None.new.refused
+    (view c.turn_at-in-None.new.pass) raw.1.1.1.0 c.turn_at-in-None.new.refused
     (IsShown (view c.turn_at-in-None.new.pass).steps c.turn_at-in-None.new.refused) c.turn_at-in-None.result
     (place_here p raw.0 name s t x y k) (place_there p raw.0 name s t x y k) c.turn_at-in-None.ensures.turn)
