@@ -1,7 +1,7 @@
 -- The points that lists have for a batch's signals, and what looks at them show. This project's own.
 use Rattle.std.specs.Prelude.{ℕ, ◌≡◌, ◌<◌, true, List, Some}
 use Rattle.std.specs.List.{slice_get}
-use Rattle.vq_model.specs.Plan.{Plan, has}
+use Rattle.vq_model.specs.Plan.{has}
 use Rattle.vq_turns.specs.declared.outcome.Want.{Want}
 use Rattle.vq_turns.specs.declared.outcome.Want.TheVariants.{Exchange}
 use Rattle.vq_board_laws.specs.declared.view.View.{View}

@@ -4,7 +4,7 @@ use Rattle.vq_model.proofs.Options.{same_some}
 use Rattle.vq_board.specs.Named.{plan_of}
 use Rattle.vq_timeline.specs.declared.timeline.LockedTimeline.{LockedTimeline}
 use Rattle.vq_access.specs.Asking.{HasGiven}
-use Rattle.vq_model.specs.Plan.{Plan, chain_of}
+use Rattle.vq_model.specs.Plan.{chain_of}
 use Rattle.vq_turns.specs.declared.outcome.Want.TheVariants.{Listed}
 use Rattle.vq_turns.specs.declared.task.Task.TheVariants.{Take}
 use Rattle.vq_turns.specs.Turns.{forward, taken}
