@@ -82,9 +82,9 @@ impl Held {
         self.point
     }
 
-    /// The number of the point, which stands for the reference from now on: who keeps it owes the
-    /// timeline an unref of what `from_point` makes of it.
-    pub fn into_point(self) -> u32
+    /// The number of the point, which stands for the reference from now on. The caller answers for it
+    /// that the timeline gets an unref of what `from_point` makes of it; else the point stays held.
+    pub unsafe fn into_point(self) -> u32
         ensures { result ≡ self.point }
     {
         let Held { point } = self;

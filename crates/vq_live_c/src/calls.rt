@@ -105,7 +105,8 @@ pub(crate) fn referred(handle: Handle, point: u32) -> (Handle, Option<ReferFault
     let mut live = boxed(handle);
     match live.refer(point) {
         Ok(reference) => {
-            let _number = reference.into_point();
+            // the header makes it the caller's duty to give it back
+            let _number = unsafe { reference.into_point() };
             (held(live), None)
         }
         Err(fault) => (held(live), Some(fault)),
@@ -122,7 +123,8 @@ pub(crate) fn returned(handle: Handle, point: u32) -> (Handle, Reply)
     match live.unref(reference) {
         Ok(()) => (held(live), Reply::Done),
         Err(reference) => {
-            let _number = reference.into_point();
+            // it stood for no reference
+            let _number = unsafe { reference.into_point() };
             (held(live), Reply::NotHeld)
         }
     }
