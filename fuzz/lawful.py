@@ -18,7 +18,9 @@ class Lawful:
     def __init__(self, dice, is_second=None):
         self.dice = dice
         self.is_hosted = dice.random() < 0.7
-        self.modes = {name: dice.choice(['threaded'] * 3 + ['immediate', 'deferred']) for name in 'PQRT'[:dice.randrange(2, 5)]}
+        # Some have many queues that the host serves, between whose steps others come.
+        modes = ['threaded'] + ['deferred'] * 3 if dice.random() < 0.15 else ['threaded'] * 3 + ['immediate', 'deferred']
+        self.modes = {name: dice.choice(modes) for name in 'PQRT'[:dice.randrange(2, 5)]}
         self.tops = {'A': dice.choice([0, 0, 3]), 'B': dice.choice([0, 0, 5]), SILENT: dice.choice([0, 2])}
         self.sizes = dict(zip('XYZ', dice.choices([4, 8, 8, 12], k=dice.randrange(1, 4))))
         # Whether it is of version 2.
