@@ -10,10 +10,12 @@ use Rattle.vq_lock.specs.declared.lock.KeyedLock.{KeyedLock}
 use Rattle.vq_lock.specs.declared.lock.Guard.{Guard}
 use Rattle.vq_lock.specs.declared.parts.Turn.{Turn}
 use Rattle.vq_lock.specs.Named.{Has}
+use Rattle.vq_lock.specs.Lending.{guard_with}
+use Rattle.vq_lock.proofs.Cited.{wrote}
 use Rattle.vq_timeline.specs.declared.parts.Shelf.{Shelf}
 use Rattle.vq_timeline.specs.declared.parts.Home.{Home}
 use Rattle.vq_timeline.specs.declared.timeline.LockedTimeline.{LockedTimeline}
-use Rattle.vq_timeline.specs.Named.{IsAt, IsAtHome, IsShelf, IsShelfOf, home_of, chain_number}
+use Rattle.vq_timeline.specs.Named.{Holds, IsAt, IsAtHome, IsHeld, IsShelf, IsShelfOf, home_of, chain_at, chain_number}
 
 abbrev in_hand : Shelf → List (ℕ × Shelf) → Shelf
 in_hand x [] = x
@@ -41,3 +43,30 @@ if_ok (Err e) P Q f h = h
 pub if_err : {A E : Type 0} (r : Result A E) (P Q : E → Type 0) → ((e : E) → P e → Q e) → IfErr r P → IfErr r Q
 if_err (Ok a) P Q f h = h
 if_err (Err e) P Q f h = f e h
+
+-- the shelf under a timeline's lock is one of the board's, and the other way round
+pub of_board : (b : Board) (t : LockedTimeline) (x : Shelf) → IsAt b t → IsAtHome (home_of t) x → IsShelfOf b x
+of_board b t x at home =
+    subst (λ (z : TableId × Plan). IsOfBoard z.0 z.1 x.pass × IsShelf z.1 x) (λ i. (at.0 i, at.1 i)) home.1
+
+pub at_home_of : (b : Board) (t : LockedTimeline) (x : Shelf) → IsAt b t → chain_number x ≡ chain_at t →
+    IsShelfOf b x → IsAtHome (home_of t) x
+at_home_of b t x at same shelf = (
+  same,
+  subst (λ (z : TableId × Plan). IsOfBoard z.0 z.1 x.pass × IsShelf z.1 x) (λ i. (sym at.0 i, sym at.1 i)) shelf,
+)
+
+-- Guards that callers hold
+
+-- what a held guard lends is the board's shelf of the timeline's chain
+pub held_shelf : (b : Board) (t : LockedTimeline) (g : Guard Home Shelf) (x : Shelf) → IsHeld b t g → Holds t g x →
+    (chain_number x ≡ chain_at t) × IsShelfOf b x
+held_shelf b t g x held has =
+    subst (λ (z : Shelf). (chain_number z ≡ chain_at t) × IsShelfOf b z)
+    (same_content t.lock g held.0 x held.1 has) held.2
+
+-- it is still held with what calls on the shelf left
+pub still_held : (b : Board) (t : LockedTimeline) (g : Guard Home Shelf) (x y : Shelf) → IsHeld b t g → Holds t g x →
+    chain_number y ≡ chain_number x → IsShelfOf b y → IsHeld b t (guard_with g y)
+still_held b t g x y held has same shelf =
+    (y, wrote t.lock g x y has, same ∙ (held_shelf b t g x held has).0, shelf)

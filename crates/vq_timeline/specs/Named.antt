@@ -4,7 +4,8 @@ use Rattle.vq_model.specs.Plan.{Plan, chain}
 use Rattle.vq_board_laws.specs.declared.view.Role.TheVariants.{Shelf as ShelfRole}
 use Rattle.vq_board.specs.declared.parts.Board.{Board}
 use Rattle.vq_board.specs.Named.{plan_of, id_of, view, role_of, counts_of, IsOf}
-use Rattle.vq_lock.specs.Named.{key_of}
+use Rattle.vq_lock.specs.Named.{key_of, Has}
+use Rattle.vq_lock.specs.declared.lock.Guard.{Guard}
 use Rattle.vq_payload.specs.Chains.{PlanChain}
 use Rattle.vq_timeline_laws.specs.ChainOps.{of_host}
 use Rattle.vq_timeline_laws.specs.Shelves.{State, IsKept}
@@ -62,3 +63,11 @@ IsAt b t = IsSameBoard (home_of t).board.value b
 -- the timeline's shelf was asked, while the lock was taken; this holds of it before and after
 abbrev pub Asked : LockedTimeline → (Shelf → Shelf → Type 0) → Type 0
 Asked t P = (x : Shelf) × (y : Shelf) × IsAtHome (home_of t) x × IsAtHome (home_of t) y × P x y
+
+-- the guard of the timeline's lock has this shelf
+abbrev pub Holds : LockedTimeline → Guard Home Shelf → Shelf → Type 0
+Holds t g x = Has t.lock g x
+
+-- the guard has a shelf of the board, which is that of the timeline's chain
+abbrev pub IsHeld : Board → LockedTimeline → Guard Home Shelf → Type 0
+IsHeld b t g = (x : Shelf) × Holds t g x × (chain_number x ≡ chain_at t) × IsShelfOf b x

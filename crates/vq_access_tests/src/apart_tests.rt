@@ -1,0 +1,204 @@
+//! Two timelines of one board: while one thread holds the lock of A, another takes all turns of a batch that signals T.
+//! With one lock for both this would wait for ever.
+ghost use Rattle.std.specs.Prelude.{◌≡◌, ◌<◌, length};
+ghost use Rattle.vq_access.specs.Timelines.{AreOf};
+ghost use Rattle.vq_access_tests.specs.Rooms.{IsTimelineOf};
+ghost use Rattle.vq_board.specs.Named.{plan_of};
+ghost use Rattle.vq_board_stage.specs.Dealing.{AllFresh, AreNew, IsDealer};
+
+use crate::moves::{Turn, each_moves};
+use crate::three::{SCRIPT, rooms_of, timelines_of};
+use std::alloc::Global;
+use std::sync::Wait;
+use std::sync::atomic::{AtomicU64, Ordering};
+use std::thread::{Threads, join};
+use vq_access::Grounds;
+use vq_actor::Company;
+use vq_board::{Board, Pass, Passes};
+use vq_board_stage::passes::board_of;
+use vq_board_stage::plans::checked;
+use vq_model::plan::Event;
+use vq_order::Ordered;
+use vq_timeline::{Collected, LockedTimeline};
+
+/// Where the rooms lie.
+const HOST: usize = 0;
+
+const SUBMIT_P: usize = 1;
+
+const RING_P: usize = 2;
+
+/// The first batch of P to its end, and the takes of the second one, which complete its signal and use its point again.
+const TURNS: [Turn; 11] = [
+    (HOST, Event::Submit { job: 0 }),
+    (
+        SUBMIT_P,
+        Event::Take {
+            op: 0,
+            point: 0,
+            fresh: true,
+        },
+    ),
+    (SUBMIT_P, Event::Release { job: 0 }),
+    (SUBMIT_P, Event::Bind { op: 0, point: 0 }),
+    (RING_P, Event::Start { job: 0 }),
+    (RING_P, Event::Signal { op: 0 }),
+    (RING_P, Event::Finish { job: 0 }),
+    (HOST, Event::Submit { job: 1 }),
+    (SUBMIT_P, Event::Complete { op: 0 }),
+    (SUBMIT_P, Event::Free { point: 0 }),
+    (
+        SUBMIT_P,
+        Event::Take {
+            op: 1,
+            point: 0,
+            fresh: false,
+        },
+    ),
+];
+
+/// What one thread tells another: 0 until it does.
+fn tell(word: &AtomicU64) {
+    word.store(1, Ordering::SeqCst);
+    word.wake_all();
+}
+
+/// Waits until the other thread has told it.
+fn hear<R: Wait>(rt: &R, word: &AtomicU64) {
+    for _ in rt.forever() {
+        if word.load(Ordering::SeqCst) == 1 {
+            return;
+        }
+        word.park(rt, 0);
+    }
+}
+
+/// Holds the lock of a timeline until the other thread is done. It says whether there was nothing to collect.
+fn holds<R: Wait>(
+    rt: &R,
+    board: &Board,
+    timeline: &LockedTimeline,
+    held: &AtomicU64,
+    done: &AtomicU64,
+) -> bool
+    requires { IsTimelineOf board.now 1 timeline.now }
+{
+    let mut guard = timeline.lock(rt, board);
+    let collected = timeline.shelf(&mut guard).collect(board);
+    tell(held);
+    hear(rt, done);
+    timeline.unlock(board, guard);
+    collected == Collected::Nothing
+}
+
+/// The same of the second timeline of the list.
+fn holds_second<R: Wait>(
+    rt: &R,
+    board: &Board,
+    timelines: &[LockedTimeline],
+    held: &AtomicU64,
+    done: &AtomicU64,
+) -> bool
+    requires { AreOf board.now timelines.now }
+{
+    match timelines.get(1) {
+        Some(timeline) => holds(rt, board, timeline, held, done),
+        None => {
+            tell(held);
+            false
+        }
+    }
+}
+
+/// Whether each turn makes its event, over rooms that are made of these passes.
+fn plays<R: Wait>(
+    rt: &R,
+    alloc: Global,
+    ordered: &Ordered,
+    board: &Board,
+    timelines: &[LockedTimeline],
+    passes: Passes,
+) -> Option<bool>
+    requires plan { plan_of board.now ≡ ordered.now }
+    requires timelines { AreOf board.now timelines.now }
+    requires passes { AreNew board.now passes }
+{
+    let Ok(company) = Company::new(alloc, ordered) else {
+        return None;
+    };
+    let Passes {
+        host,
+        submits,
+        rings,
+        shelves: _shelves,
+    } = passes;
+    let mut rooms = rooms_of(alloc, ordered, board, &company, host, submits, rings)?;
+    let grounds = Grounds::new(rt, ordered, board, timelines);
+    Some(each_moves(&grounds, &company, rooms.as_mut_slice(), &TURNS))
+}
+
+/// The same once the other thread holds its lock, which hears when it is done.
+fn plays_meanwhile<R: Wait>(
+    rt: &R,
+    alloc: Global,
+    ordered: &Ordered,
+    board: &Board,
+    timelines: &[LockedTimeline],
+    passes: Passes,
+    held: &AtomicU64,
+    done: &AtomicU64,
+) -> bool
+    requires plan { plan_of board.now ≡ ordered.now }
+    requires timelines { AreOf board.now timelines.now }
+    requires passes { AreNew board.now passes }
+{
+    hear(rt, held);
+    let played = plays(rt, alloc, ordered, board, timelines, passes);
+    tell(done);
+    played == Some(true)
+}
+
+/// Both, each in a thread of its own.
+fn in_two_threads<R: Threads + Wait + Sync>(
+    rt: &R,
+    alloc: Global,
+    ordered: &Ordered,
+    board: &Board,
+    timelines: &[LockedTimeline],
+    passes: Passes,
+) -> (bool, bool)
+    requires plan { plan_of board.now ≡ ordered.now }
+    requires timelines { AreOf board.now timelines.now }
+    requires passes { AreNew board.now passes }
+{
+    let held = AtomicU64::new(0);
+    let done = AtomicU64::new(0);
+    let (held, done) = (&held, &done);
+    join(
+        rt,
+        move || -> bool
+            requires { AreOf board.now timelines.now }
+        { holds_second(rt, board, timelines, held, done) },
+        move || -> bool
+            requires plan { plan_of board.now ≡ ordered.now }
+            requires timelines { AreOf board.now timelines.now }
+            requires passes { AreNew board.now passes }
+        { plays_meanwhile(rt, alloc, ordered, board, timelines, passes, held, done) },
+    )
+}
+
+fn over<R: Threads + Wait + Sync>(rt: &R, alloc: Global, ordered: &Ordered) -> Option<bool> {
+    let (board, mut passes) = board_of(alloc, ordered)?;
+    let timelines = timelines_of(alloc, ordered, &board, &mut passes.shelves)?;
+    let both = in_two_threads(rt, alloc, ordered, &board, timelines.as_slice(), passes);
+    Some(both == (true, true))
+}
+
+fn are_apart<R: Threads + Wait + Sync>(rt: &R, alloc: Global) -> Option<bool> {
+    over(rt, alloc, &checked(alloc, SCRIPT)?)
+}
+
+#[test]
+fn a_batch_ends_while_the_lock_of_another_timeline_is_held(rt: HostRuntime) {
+    assert!(rt; are_apart(&rt, rt.alloc()) == Some(true));
+}
