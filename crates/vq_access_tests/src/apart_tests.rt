@@ -1,10 +1,10 @@
 //! Two timelines of one board: while one thread holds the lock of A, another takes all turns of a batch that signals T.
 //! With one lock for both this would wait for ever.
-ghost use Rattle.std.specs.Prelude.{◌≡◌, ◌<◌, length};
+ghost use Rattle.std.specs.Prelude.{◌≡◌};
 ghost use Rattle.vq_access.specs.Timelines.{AreOf};
-ghost use Rattle.vq_access_tests.specs.Rooms.{IsTimelineOf};
 ghost use Rattle.vq_board.specs.Named.{plan_of};
-ghost use Rattle.vq_board_stage.specs.Dealing.{AllFresh, AreNew, IsDealer};
+ghost use Rattle.vq_board_stage.specs.Dealing.{AreNew};
+ghost use Rattle.vq_timeline.specs.Named.{IsAt};
 
 use crate::moves::{Turn, each_moves};
 use crate::three::{SCRIPT, rooms_of, timelines_of};
@@ -14,7 +14,7 @@ use std::sync::atomic::{AtomicU64, Ordering};
 use std::thread::{Threads, join};
 use vq_access::Grounds;
 use vq_actor::Company;
-use vq_board::{Board, Pass, Passes};
+use vq_board::{Board, Passes};
 use vq_board_stage::passes::board_of;
 use vq_board_stage::plans::checked;
 use vq_model::plan::Event;
@@ -81,10 +81,10 @@ fn holds<R: Wait>(
     held: &AtomicU64,
     done: &AtomicU64,
 ) -> bool
-    requires { IsTimelineOf board.now 1 timeline.now }
+    requires { IsAt board.now timeline.now }
 {
     let mut guard = timeline.lock(rt, board);
-    let collected = timeline.shelf(&mut guard).collect(board);
+    let collected = guard.shelf(timeline).collect(board);
     tell(held);
     hear(rt, done);
     timeline.unlock(board, guard);

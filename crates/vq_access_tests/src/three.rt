@@ -89,7 +89,8 @@ pub fn timelines_of(
 ) -> Option<Vec<LockedTimeline>>
     requires plan { plan_of board.now ≡ ordered.now }
     requires shelves { AllFresh board.now shelves.old.items }
-    ensures { IfSome result (λ ts. AreOf board.now ts.items) }
+    ensures timelines { IfSome result (λ ts. AreOf board.now ts.items) }
+    ensures left { AllFresh board.now shelves.new.items }
 {
     if ordered.plan().chains() != 3 {
         return None;

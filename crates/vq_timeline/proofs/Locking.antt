@@ -10,11 +10,12 @@ use Rattle.vq_lock.specs.declared.lock.KeyedLock.{KeyedLock}
 use Rattle.vq_lock.specs.declared.lock.Guard.{Guard}
 use Rattle.vq_lock.specs.declared.parts.Turn.{Turn}
 use Rattle.vq_lock.specs.Named.{Has}
-use Rattle.vq_lock.specs.Lending.{guard_with}
 use Rattle.vq_lock.proofs.Cited.{wrote}
 use Rattle.vq_timeline.specs.declared.parts.Shelf.{Shelf}
 use Rattle.vq_timeline.specs.declared.parts.Home.{Home}
 use Rattle.vq_timeline.specs.declared.timeline.LockedTimeline.{LockedTimeline}
+use Rattle.vq_timeline.specs.declared.timeline.ShelfGuard.{ShelfGuard}
+use Rattle.vq_timeline.specs.Lending.{with_shelf}
 use Rattle.vq_timeline.specs.Named.{Holds, IsAt, IsAtHome, IsHeld, IsShelf, IsShelfOf, home_of, chain_at, chain_number}
 
 abbrev in_hand : Shelf → List (ℕ × Shelf) → Shelf
@@ -59,14 +60,14 @@ at_home_of b t x at same shelf = (
 -- Guards that callers hold
 
 -- what a held guard lends is the board's shelf of the timeline's chain
-pub held_shelf : (b : Board) (t : LockedTimeline) (g : Guard Home Shelf) (x : Shelf) → IsHeld b t g → Holds t g x →
+pub held_shelf : (b : Board) (t : LockedTimeline) (g : ShelfGuard) (x : Shelf) → IsHeld b t g → Holds t g x →
     (chain_number x ≡ chain_at t) × IsShelfOf b x
 held_shelf b t g x held has =
     subst (λ (z : Shelf). (chain_number z ≡ chain_at t) × IsShelfOf b z)
-    (same_content t.lock g held.0 x held.1 has) held.2
+    (same_content t.lock g.guard held.0 x held.1 has) (held.2, held.3)
 
 -- it is still held with what calls on the shelf left
-pub still_held : (b : Board) (t : LockedTimeline) (g : Guard Home Shelf) (x y : Shelf) → IsHeld b t g → Holds t g x →
-    chain_number y ≡ chain_number x → IsShelfOf b y → IsHeld b t (guard_with g y)
+pub still_held : (b : Board) (t : LockedTimeline) (g : ShelfGuard) (x y : Shelf) → IsHeld b t g → Holds t g x →
+    chain_number y ≡ chain_number x → IsShelfOf b y → IsHeld b t (with_shelf g y)
 still_held b t g x y held has same shelf =
-    (y, wrote t.lock g x y has, same ∙ (held_shelf b t g x held has).0, shelf)
+    (y, wrote t.lock g.guard x y has, same ∙ (held_shelf b t g x held has).0, shelf)

@@ -1,2 +1,3 @@
-pub mod Named
 pub mod Answers
+pub mod Lending
+pub mod Named

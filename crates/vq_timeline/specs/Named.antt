@@ -5,7 +5,6 @@ use Rattle.vq_board_laws.specs.declared.view.Role.TheVariants.{Shelf as ShelfRol
 use Rattle.vq_board.specs.declared.parts.Board.{Board}
 use Rattle.vq_board.specs.Named.{plan_of, id_of, view, role_of, counts_of, IsOf}
 use Rattle.vq_lock.specs.Named.{key_of, Has}
-use Rattle.vq_lock.specs.declared.lock.Guard.{Guard}
 use Rattle.vq_payload.specs.Chains.{PlanChain}
 use Rattle.vq_timeline_laws.specs.ChainOps.{of_host}
 use Rattle.vq_timeline_laws.specs.Shelves.{State, IsKept}
@@ -13,6 +12,7 @@ use Rattle.vq_timeline_laws.specs.Calls.{state}
 use Rattle.vq_timeline.specs.declared.parts.Shelf.{Shelf}
 use Rattle.vq_timeline.specs.declared.parts.Home.{Home}
 use Rattle.vq_timeline.specs.declared.timeline.LockedTimeline.{LockedTimeline}
+use Rattle.vq_timeline.specs.declared.timeline.ShelfGuard.{ShelfGuard}
 
 -- Shelves
 
@@ -65,9 +65,9 @@ abbrev pub Asked : LockedTimeline → (Shelf → Shelf → Type 0) → Type 0
 Asked t P = (x : Shelf) × (y : Shelf) × IsAtHome (home_of t) x × IsAtHome (home_of t) y × P x y
 
 -- the guard of the timeline's lock has this shelf
-abbrev pub Holds : LockedTimeline → Guard Home Shelf → Shelf → Type 0
-Holds t g x = Has t.lock g x
+abbrev pub Holds : LockedTimeline → ShelfGuard → Shelf → Type 0
+Holds t g x = Has t.lock g.guard x
 
 -- the guard has a shelf of the board, which is that of the timeline's chain
-abbrev pub IsHeld : Board → LockedTimeline → Guard Home Shelf → Type 0
+abbrev pub IsHeld : Board → LockedTimeline → ShelfGuard → Type 0
 IsHeld b t g = (x : Shelf) × Holds t g x × (chain_number x ≡ chain_at t) × IsShelfOf b x

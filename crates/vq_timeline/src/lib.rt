@@ -5,6 +5,7 @@
 
 mod collecting;
 mod giving;
+mod lending;
 mod locked;
 mod opening;
 mod parts;
@@ -12,4 +13,4 @@ mod reading;
 mod timeline;
 
 pub use parts::{BindFault, Collected, Home, Shelf};
-pub use timeline::LockedTimeline;
+pub use timeline::{LockedTimeline, ShelfGuard};

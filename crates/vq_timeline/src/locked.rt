@@ -3,22 +3,16 @@
 //!
 //! Source: this project's own.
 ghost use Rattle.std.specs.Prelude.{◌≡◌, ◌<◌, length, IfOk, IfErr, Some};
-ghost use Rattle.std.specs.Borrow.{sem};
 ghost use Rattle.vq_model.specs.Plan.{chain_of};
 ghost use Rattle.vq_board.specs.Named.{plan_of};
 ghost use Rattle.vq_timeline_laws.specs.Calls.{place_in, HasTaken, IsTakeRefused, HasBound};
-ghost use Rattle.vq_lock.specs.Lending.{LendsContent};
-ghost use Rattle.vq_timeline.specs.Named.{chain_at, state_of, IsAt, Asked, Holds, IsHeld};
-ghost use Rattle.vq_timeline.specs.declared.parts.Shelf.{Shelf as AnyShelf};
-ghost use Rattle.vq_timeline.specs.contracts.parts.Home as home;
-ghost use Rattle.vq_timeline.specs.contracts.parts.Shelf as content;
+ghost use Rattle.vq_timeline.specs.Named.{chain_at, state_of, IsAt, Asked, IsHeld};
 ghost use Rattle.vq_timeline.specs.Answers.{taken_point, IsBindRefused, Collects};
 
-use crate::parts::{BindFault, Collected, Home, Shelf};
-use crate::timeline::LockedTimeline;
+use crate::parts::{BindFault, Collected};
+use crate::timeline::{LockedTimeline, ShelfGuard};
 use std::sync::Wait;
 use vq_board::Board;
-use vq_lock::Guard;
 use vq_timeline_core::{OpPlace, Taken};
 
 impl LockedTimeline {
@@ -80,30 +74,23 @@ impl LockedTimeline {
 
     /// Waits until the lock is free and takes it, for several calls on the shelf. Until `unlock` frees it, who
     /// asks this timeline waits, and who asks another one doesn't. The guard can't be dropped.
-    pub fn lock<R: Wait>(&self, rt: &R, board: &Board) -> Guard<Home, Shelf>
+    pub fn lock<R: Wait>(&self, rt: &R, board: &Board) -> ShelfGuard
         requires { IsAt board.now self.now }
         ensures { IsHeld board.now self.now result }
     {
         let _ = board;
-        self.lock.lock(rt)
-    }
-
-    /// The shelf of the timeline whose lock is held. When the borrow ends, the guard has what the calls on the
-    /// shelf left.
-    pub fn shelf<'a>(&'a self, guard: &'a mut Guard<Home, Shelf>) -> &'a mut Shelf
-        requires { (x : AnyShelf) × Holds self.now guard.old x }
-        ensures* writes_back { sem 𝓛 (LendsContent home.the_row content.the_row guard.entry result) }
-        ensures value { Holds self.now guard.old result.now }
-    {
-        guard.content(&self.lock)
+        ShelfGuard {
+            guard: self.lock.lock(rt),
+        }
     }
 
     /// Frees the lock that was taken, with the shelf as the calls on it left it: each keeps what its board asks of it.
-    pub fn unlock(&self, board: &Board, guard: Guard<Home, Shelf>)
+    pub fn unlock(&self, board: &Board, guard: ShelfGuard)
         requires timeline { IsAt board.now self.now }
         requires held { IsHeld board.now self.now guard }
     {
         let _ = board;
+        let ShelfGuard { guard } = guard;
         self.lock.unlock(guard);
     }
 }

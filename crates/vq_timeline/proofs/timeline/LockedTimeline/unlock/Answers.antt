@@ -4,4 +4,4 @@ use Rattle.vq_timeline.proofs.timeline.LockedTimeline.unlock.Goals as goal
 pub unlock-requires : goal.unlock-requires
 unlock-requires c =
     let t = c.requires.held in
-    (t.0, t.1, at_home_of c.args.board.now c.args.self.now t.0 c.requires.timeline t.2.0 t.2.1)
+    (t.0, t.1, at_home_of c.args.board.now c.args.self.now t.0 c.requires.timeline t.2 t.3)
