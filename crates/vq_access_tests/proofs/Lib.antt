@@ -1,1 +1,1 @@
-mod Three
+mod Listed

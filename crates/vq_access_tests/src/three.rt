@@ -59,7 +59,7 @@ fn timeline_of(
 }
 
 /// Three timelines in one list.
-#[tactic(auto, using(crate::proofs::Three::three_are))]
+#[tactic(auto, using(crate::proofs::Listed::three_are))]
 fn listed(
     alloc: Global,
     board: &Board,
