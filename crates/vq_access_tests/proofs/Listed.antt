@@ -1,5 +1,5 @@
 -- Three timelines in a list.
-use Rattle.std.proofs.Common.{◌≡◌, ℕ, zero, suc, List, [], ◌∷◌, Some, length, sym, subst}
+use Rattle.std.proofs.Common.{◌≡◌, ℕ, zero, suc, [], ◌∷◌, Some, length, sym, subst}
 use Rattle.std.specs.List.{slice_get}
 use Rattle.vq_model.proofs.Options.{same_some}
 use Rattle.vq_board.specs.declared.parts.Board.{Board}

@@ -1,6 +1,5 @@
-use Rattle.std.proofs.Common.{◌≡◌, Option, Some, None, IfSome, rules, slice_set, sym, subst}
+use Rattle.std.proofs.Common.{Option, Some, IfSome, rules, slice_set, sym, subst}
 use Rattle.std.proofs.lemmas.List.Elements.{All-set}
-use Rattle.vq_model.specs.declared.script.ActorName.{ActorName}
 use Rattle.vq_model.specs.ValidScripts.{IsActor}
 use Rattle.vq_access.specs.Grounding.{board_at}
 use Rattle.vq_rooms.specs.Rooming.{Room}
