@@ -83,6 +83,43 @@ no_inner_form w ws a b c =
     ∙ fails_then (are_as_many (TimelineName ∷ Numeral ∷ []) ws) (agree (TimelineName ∷ Numeral ∷ []) ws))
     (ap (λ (t : Bool). are_as_many [] ws && (t && agree [] ws)) c ∙ fails_then (are_as_many [] ws) (agree [] ws))
 
+-- Many words
+
+unless_wait : (some even wait : Bool) → (wait && even) ≡ false → ((some && even) && (wait && true)) ≡ false
+unless_wait true true true h = absurd (cc)
+unless_wait true true false h = refl
+unless_wait true false wait h = refl
+unless_wait false even wait h = refl
+
+where_wait : (some even wait : Bool) → some ≡ true → (wait && even) ≡ true → ((some && even) && (wait && true)) ≡ true
+where_wait true true true some h = refl
+where_wait true true false some h = absurd (cc)
+where_wait true false true some h = absurd (cc)
+where_wait true false false some h = absurd (cc)
+where_wait false even wait some h = absurd (cc)
+
+-- behind the first word three and more have a form only as pairs of a wait
+pub many_unformed : (w : List ℕ) (ws : List (List ℕ)) → 2 < length ws →
+    (bytes_eq w (codes "wait") && (length ws % 2 == 0)) ≡ false → form_in true (w ∷ ws) ≡ None
+many_unformed w [] many h = absurd (omega arith)
+many_unformed w (a ∷ []) many h = absurd (omega arith)
+many_unformed w (a ∷ b ∷ []) many h = absurd (omega arith)
+many_unformed w (a ∷ b ∷ c ∷ ws) many h =
+    by_tests (w ∷ a ∷ b ∷ c ∷ ws) false false false
+    (unless_wait (nat_lt 0 (length (a ∷ b ∷ c ∷ ws))) (length (a ∷ b ∷ c ∷ ws) % 2 == 0) (bytes_eq w (codes "wait")) h)
+    refl refl
+
+pub many_formed : (w : List ℕ) (ws : List (List ℕ)) → 2 < length ws →
+    (bytes_eq w (codes "wait") && (length ws % 2 == 0)) ≡ true → form_in true (w ∷ ws) ≡ Some WaitForm
+many_formed w [] many h = absurd (omega arith)
+many_formed w (a ∷ []) many h = absurd (omega arith)
+many_formed w (a ∷ b ∷ []) many h = absurd (omega arith)
+many_formed w (a ∷ b ∷ c ∷ ws) many h =
+    let some : nat_lt 0 (length (a ∷ b ∷ c ∷ ws)) ≡ true = grind (arith, nat_tests) in
+    by_tests (w ∷ a ∷ b ∷ c ∷ ws) true false false
+    (where_wait (nat_lt 0 (length (a ∷ b ∷ c ∷ ws))) (length (a ∷ b ∷ c ∷ ws) % 2 == 0) (bytes_eq w (codes "wait")) some h)
+    refl refl
+
 -- the forms inside a block stand in one alone
 pub inside_of : (inside : Bool) (words : List (List ℕ)) (f : BlockForm) → form_in inside words ≡ Some f →
     (ThreadForm ≡ f → ⊥) → inside ≡ true

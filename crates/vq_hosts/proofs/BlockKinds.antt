@@ -9,7 +9,7 @@ use Rattle.vq_model.specs.declared.statement.FaultKind.{FaultKind}
 use Rattle.vq_model.specs.declared.statement.FaultKind.TheVariants.{Syntax, Order, Number, Name, Twice, Limit}
 use Rattle.vq_model.specs.Context.{has_begun, number_at, queues}
 use Rattle.vq_model.specs.Forms.{Slot, TimelineName}
-use Rattle.vq_model.specs.LineFaults.{is_new}
+use Rattle.vq_model.specs.LineFaults.{is_known, is_new, is_numeric, is_shaped}
 use Rattle.vq_model.specs.Meaning.{of_two, pair_at, pair_places, pairs_at}
 use Rattle.vq_model.specs.Text.{is_name, is_plain, numeral}
 use Rattle.vq_blocks.specs.declared.block.BlockForm.TheVariants.{ThreadForm, WaitForm, SignalForm, EndForm}
@@ -117,6 +117,23 @@ pairs_again number (w ∷ []) = refl
 pairs_again number (t ∷ v ∷ words) =
     ap (λ (o : Option (List Pair)). of_two (λ p ps. p ∷ ps) (pair_at number t v) o) (pairs_again number words)
 
+-- a wait, by the tests of its pairs
+pub pairs_tested : (told : Told) (first : List ℕ) (words : List (List ℕ)) →
+    is_of_block told (first ∷ words) ≡ true → block_form told (first ∷ words) ≡ Some WaitForm →
+    hosts_fault told (first ∷ words)
+    ≡ kind_of (not (plain_words (first ∷ words)) || not (list_all is_shaped (pair_places words))) false
+    (not (list_all is_numeric (pair_places words))) (not (list_all (is_known (number_at told.rest)) (pair_places words)))
+    false (option_map_or (λ ps. passes_block_limit told (TakeStep (Wait ps))) (pairs_at (number_at told.rest) words) false)
+pairs_tested told first words of_block form =
+    let number = number_at told.rest in
+    let kind : Bool → Bool → Option FaultKind = λ named full. kind_of
+    (not (plain_words (first ∷ words)) || not (list_all is_shaped (pair_places words))) false
+    (not (list_all is_numeric (pair_places words))) (not (list_all (is_known number) (pair_places words))) named full in
+    block_tested told (first ∷ words) of_block WaitForm form
+    ∙ (λ i. kind (not (new_pairs (is_named told) words i))
+    (option_map_or (passes_block_limit told) (option_map (λ ps. TakeStep (Wait ps)) (pairs_again number words i)) false))
+    ∙ ap (kind false) (said_after (λ ps. TakeStep (Wait ps)) (passes_block_limit told) (pairs_at number words))
+
 pub wait_kind : (told : Told) (first : List ℕ) (words : List (List ℕ)) (found : PairWords) →
     AreRead (number_at told.rest) words found → is_of_block told (first ∷ words) ≡ true →
     block_form told (first ∷ words) ≡ Some WaitForm →
@@ -127,12 +144,9 @@ wait_kind told first words found read of_block form =
     let number = number_at told.rest in
     let passes : List Pair → Bool = λ ps. passes_block_limit told (TakeStep (Wait ps)) in
     let plain = not (plain_words (first ∷ words)) in
-    block_tested told (first ∷ words) of_block WaitForm form
+    pairs_tested told first words of_block form
     ∙ (λ i. kind_of (plain || not (sym read.all_shaped i)) false (not (sym read.all_numeric i))
-    (not (sym read.all_known i)) (not (new_pairs (is_named told) words i))
-    (option_map_or (passes_block_limit told) (option_map (λ ps. TakeStep (Wait ps)) (pairs_again number words i)) false))
-    ∙ ap (λ (b : Bool). kind_of (plain || not found.shaped) false (not found.numeric) (not found.known) false b)
-    (said_after (λ ps. TakeStep (Wait ps)) (passes_block_limit told) (pairs_at number words))
+    (not (sym read.all_known i)) false (option_map_or passes (pairs_at number words) false))
     ∙ all_pairs (plain || not found.shaped) found.numeric found.known (pairs_at number words) found.pairs.items passes
     read.all_pairs
 

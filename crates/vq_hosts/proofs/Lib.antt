@@ -5,6 +5,8 @@ mod BlockNext
 mod JobLines
 mod JoinedTold
 mod Joining
+mod ManyPairs
+mod ManyWords
 mod PairSteps
 mod ReadOn
 mod RestFaults

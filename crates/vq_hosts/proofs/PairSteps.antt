@@ -1,12 +1,12 @@
 -- Words, read as pairs, a pair more.
-use Rattle.std.proofs.Common.{◌≡◌, ℕ, ◌<◌, ◌≤◌, drop, get_or, Bool, true, false, ◌&&◌, cond, List, [], ◌∷◌, ◌++◌, length, Option, Some, None, refl, sym, ap, ◌∙◌, arith}
+use Rattle.std.proofs.Common.{◌≡◌, ℕ, ◌<◌, ◌≤◌, drop, get_or, Bool, true, false, ◌&&◌, not, cond, List, [], ◌∷◌, ◌++◌, length, Option, Some, None, refl, sym, ap, ◌∙◌, arith}
 use Rattle.std.specs.Prelude.{is_some}
 use Rattle.std.specs.Borrow.{Bor}
 use Rattle.std.specs.List.{list_all}
 use Rattle.std.specs.Option.{option_map, option_to_list}
 use Rattle.std.proofs.lemmas.List.{append-nil, append_assoc}
 use Rattle.vq_model.specs.declared.script.Pair.{Pair}
-use Rattle.vq_model.specs.Forms.{Slot, TimelineName}
+use Rattle.vq_model.specs.Forms.{Slot, Numeral, TimelineName}
 use Rattle.vq_model.specs.LineFaults.{is_shaped, is_numeric, is_known}
 use Rattle.vq_model.specs.Meaning.{of_two, pair_places, pairs_at}
 use Rattle.vq_model.specs.Text.{is_name, numeral}
@@ -115,3 +115,12 @@ all_so_far number (a ∷ []) words found few h =
       all_pairs = h.all_pairs
           ∙ ap (λ (ps : List Pair). cond (found.numeric && found.known) (Some ps) None) (append-nil found.pairs.items);
     }
+
+-- a name more, which is that of a timeline or none
+pub next_known : (number : Slot → List ℕ → Option ℕ) (name value : List ℕ) (places more : List (Slot × List ℕ))
+    (found : Option ℕ) (unknown : Bool) → places ≡ (TimelineName, name) ∷ (Numeral, value) ∷ more →
+    found ≡ number TimelineName name → is_some found ≡ not unknown →
+    list_all (is_known number) places ≡ (not unknown && list_all (is_known number) more)
+next_known number name value places more found unknown e f u =
+    ap (λ (ps : List (Slot × List ℕ)). list_all (is_known number) ps) e
+    ∙ ap (λ (b : Bool). b && list_all (is_known number) more) (ap (λ (o : Option ℕ). is_some o) (sym f) ∙ u)

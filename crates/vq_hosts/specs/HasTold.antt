@@ -7,19 +7,13 @@ use Rattle.vq_script.specs.Reads.{HasRead}
 use Rattle.vq_blocks.specs.Blocks.{Told, told_with}
 use Rattle.vq_blocks.specs.BlockFaults.{hosts_fault, hosts_end_early, most_rest_jobs}
 use Rattle.vq_blocks.specs.BlockReading.{read_hosts_words}
-use Rattle.vq_blocks.specs.Compiled.{queue_of_thread, version_line, job_lines_in, script_by_input, origins}
-use Rattle.vq_hosts.specs.Batches.{thread_batches}
+use Rattle.vq_blocks.specs.Compiled.{version_line, job_lines_in, script_by_input, origins}
+use Rattle.vq_block_threads.specs.HasThreads.{HasThreads}
+use Rattle.vq_block_threads.specs.declared.threads.Threads.{Threads}
 use Rattle.vq_hosts.specs.declared.fault.HostsFault.{HostsFault}
 use Rattle.vq_hosts.specs.declared.fault.HostsFault.TheVariants.{At, Memory}
-use Rattle.vq_hosts.specs.declared.threads.Threads.{Threads}
 use Rattle.vq_hosts.specs.declared.hosts_reader.HostsReader.{HostsReader}
 use Rattle.vq_hosts.specs.declared.joined.Joined.{Joined}
-
--- the queues and batches of the threads, and whether a block is open
-pub record HasThreads (told : Told) (kept : Threads) : Type 0 where
-  pub all_queues : kept.queues.items ≡ map queue_of_thread told.threads
-  pub all_batches : kept.batches.items ≡ thread_batches 0 told.threads
-  pub is_inside : kept.inside ≡ told.inside
 
 -- A reader has read what was told.
 pub record HasTold (told : Told) (reader : HostsReader) : Type 0 where

@@ -1,22 +1,26 @@
 //! The lines of blocks: their faults in the order of the kinds, and what they leave told.
-ghost use Rattle.std.specs.Prelude.{◌≡◌, ◌<◌, ◌∷◌, List, ℕ, length, true, None, Some, []};
+ghost use Rattle.std.specs.Prelude.{◌≡◌, ◌<◌, ◌∷◌, ◌/◌, ◌%◌, ◌==◌, ◌&&◌, List, ℕ, codes, length, true, None, Some, []};
 ghost use Rattle.std.specs.List.{list_all};
-ghost use Rattle.vq_model.specs.Text.{is_plain};
+ghost use Rattle.std.specs.Str.{bytes_eq};
+ghost use Rattle.vq_model.specs.Text.{is_plain, words_in};
 ghost use Rattle.vq_model.specs.declared.statement.Form.TheVariants.{Plain};
+ghost use Rattle.vq_blocks.specs.BlockFaults.{hosts_fault};
 ghost use Rattle.vq_blocks.specs.Blocks.{Told, is_of_block};
 ghost use Rattle.vq_script.specs.Reads.{HasRead};
 ghost use Rattle.vq_lexer.specs.Words.{texts};
 ghost use Rattle.vq_hosts.specs.BlockTests.{first_kind};
 ghost use Rattle.vq_hosts.specs.BlockWords.{form_in};
 ghost use Rattle.vq_blocks.specs.declared.block.BlockForm.TheVariants.{ThreadForm, WaitForm, SignalForm, EndForm};
-ghost use Rattle.vq_hosts.specs.HasTold.{HasThreads, ReadsBlock};
+ghost use Rattle.vq_block_threads.specs.HasThreads.{HasThreads};
+ghost use Rattle.vq_hosts.specs.HasTold.{ReadsBlock};
 
 use crate::block_words::{BlockWords, block_words};
 use crate::fault::HostsFault;
-use crate::pairs::{marks, read_pairs};
-use crate::threads::Threads;
+use crate::pairs::{are_timelines, marks, read_pairs};
 use std::alloc::Global;
+use vq_block_threads::Threads;
 use vq_lexer::{is_name, numeral, owned_name};
+use vq_long_lines::{are_even, are_numerals, are_plain, are_shaped, next_word};
 use vq_model::script::Pair;
 use vq_model::statement::FaultKind;
 use vq_script::LineReader;
@@ -218,4 +222,50 @@ pub fn read_block(
         }
         Some(BlockWords::End) => end_thread(threads, number, plain),
     }
+}
+
+/// Whether a line inside a block waits, whose first word and what follows it these are.
+fn is_wait(first: &[u8], pairs: &[u8]) -> bool
+    ensures { result ≡ (bytes_eq first.now (codes "wait") && (length (words_in pairs.now) % 2 == 0)) }
+{
+    first == b"wait".as_slice() && are_even(pairs)
+}
+
+/// The first kind of the faults of a wait with these pairs, which are too many.
+fn pairs_fault(reader: &LineReader<'_>, pairs: &[u8], plain: bool) -> FaultKind
+    requires { 16 < length (words_in pairs.now) / 2 }
+    ensures { (told : Told) (first : List ℕ) → HasRead Plain told.rest reader.now →
+        is_of_block told (first ∷ words_in pairs.now) ≡ true →
+        plain ≡ list_all (list_all is_plain) (first ∷ words_in pairs.now) →
+        form_in told.inside (first ∷ words_in pairs.now) ≡ Some WaitForm →
+        hosts_fault told (first ∷ words_in pairs.now) ≡ Some result }
+{
+    let tests = BlockTests {
+        misshapen: !plain | !are_shaped(pairs),
+        late: false,
+        unnumbered: !are_numerals(pairs),
+        unknown: !are_timelines(reader, pairs),
+        named: false,
+        full: true,
+    };
+    let Some(kind) = tests.first() else {
+        unreachable!()
+    };
+    kind
+}
+
+/// The first kind of the faults of a line inside a block, whose words are those of a part: more than a line without a
+/// fault has. They are found again from its bytes for each test, so that no list of them is kept.
+pub fn many_fault(reader: &LineReader<'_>, part: &[u8]) -> FaultKind
+    requires { 63 < length (words_in part.now) }
+    ensures { (told : Told) → HasRead Plain told.rest reader.now → told.inside ≡ true →
+        hosts_fault told (words_in part.now) ≡ Some result }
+{
+    let Some((first, pairs)) = next_word(part) else {
+        unreachable!()
+    };
+    if !is_wait(first, pairs) {
+        return FaultKind::Syntax;
+    }
+    pairs_fault(reader, pairs, are_plain(part))
 }

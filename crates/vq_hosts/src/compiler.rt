@@ -14,9 +14,13 @@ use crate::fault::HostsFault;
 use crate::hosts_reader::HostsReader;
 use std::alloc::Global;
 use vq_lexer::{find_words, next_line};
+use vq_long_lines::{are_plain, find_few, without_comment};
 use vq_model::script::Script;
 use vq_model::statement::Form;
 use vq_script::{ScriptFault, is_short, parse, print};
+
+/// The most bytes of a line that is cut into all its words at once. A list of them takes many times the bytes.
+const SHORT: usize = 4096;
 
 /// A compiled script, and for each line of its canonical text the line of the input from which it comes; 0 for the line
 /// that names the version, where the input has none.
@@ -44,6 +48,24 @@ fn renumbered(alloc: Global, script: &Script) -> Result<Script, HostsFault>
     }
 }
 
+/// Reads a line that may be long. Of its words no more are kept than a line without a fault has.
+fn read_long<'a>(
+    reader: &mut HostsReader<'a>,
+    number: u32,
+    line: &'a [u8],
+    words: &mut Vec<&'a [u8]>,
+) -> Result<(), HostsFault>
+    ensures { (told : Told) → HasTold told reader.old →
+        HasToldNext told number (words_of line.now) result reader.new }
+{
+    let part = without_comment(line);
+    if find_few(part, words)? {
+        return reader.read(number, words, are_plain(part));
+    }
+    let kind = reader.many_fault(words, part);
+    Err(HostsFault::At { line: number, kind })
+}
+
 /// Reads a line. Its words take the place of those of the line before.
 fn read_line<'a>(
     reader: &mut HostsReader<'a>,
@@ -54,6 +76,9 @@ fn read_line<'a>(
     ensures { (told : Told) → HasTold told reader.old →
         HasToldNext told number (words_of line.now) result reader.new }
 {
+    if line.len() > SHORT {
+        return read_long(reader, number, line, words);
+    }
     let plain = find_words(line, words)?;
     reader.read(number, words, plain)
 }

@@ -8,13 +8,13 @@ ghost use Rattle.vq_lexer.specs.Words.{texts};
 ghost use Rattle.vq_hosts.specs.BlockTests.{late_kind};
 ghost use Rattle.vq_hosts.specs.HasTold.{HasTold, HasToldNext, IsJoined};
 
-use crate::block_lines::read_block;
+use crate::block_lines::{many_fault, read_block};
 use crate::block_words::is_thread;
 use crate::fault::HostsFault;
 use crate::joined::{Joined, join_parts};
 use crate::origins::push_line;
-use crate::threads::Threads;
 use std::alloc::{AllocError, Global};
+use vq_block_threads::Threads;
 use vq_forms::is_declaration;
 use vq_model::statement::{FaultKind, Form, Section};
 use vq_script::{LineReader, ScriptFault};
@@ -64,6 +64,11 @@ pub struct HostsReader<'a> {
 }
 
 impl<'a> HostsReader<'a> {
+    ghost use Rattle.std.specs.Prelude.{ℕ, Err};
+    ghost use Rattle.vq_model.specs.Text.{words_in};
+    ghost use Rattle.vq_long_lines.specs.Few.{AreCutOff};
+    ghost use Rattle.vq_blocks.specs.BlockReading.{read_hosts_words};
+
     /// A reader that has read no lines.
     pub fn new(alloc: Global) -> HostsReader<'a>
         ensures { HasTold nothing_told result }
@@ -156,6 +161,21 @@ impl<'a> HostsReader<'a> {
             )
         } else {
             self.read_rest(number, words, plain)
+        }
+    }
+
+    /// The first kind of the faults that the next line has, whose words are those of a part: many, of which these are
+    /// the first. Where no block is open it is that of a script's line: no line that begins a block, and no declaration,
+    /// has as many words.
+    pub fn many_fault(&self, words: &[&[u8]], part: &[u8]) -> FaultKind
+        requires { AreCutOff (texts words.now) (words_in part.now) }
+        ensures { (told : Told) (n : ℕ) → HasTold told self.now →
+            read_hosts_words told n (words_in part.now) ≡ Err result }
+    {
+        if self.threads.inside {
+            many_fault(&self.rest, part)
+        } else {
+            self.rest.many_fault(words, part)
         }
     }
 

@@ -9,7 +9,6 @@ mod hosts_reader;
 mod joined;
 mod origins;
 mod pairs;
-mod threads;
 
 pub use compiler::{Compiled, compile};
 pub use fault::HostsFault;

@@ -1,7 +1,10 @@
 //! The pairs of a block's lines.
 ghost use Rattle.std.specs.Prelude.{◌≡◌, ◌++◌, IfOk, OnOk, List, map};
 ghost use Rattle.std.specs.Option.{option_to_list};
-ghost use Rattle.vq_model.specs.Meaning.{of_two};
+ghost use Rattle.std.specs.List.{list_all};
+ghost use Rattle.vq_model.specs.LineFaults.{is_known};
+ghost use Rattle.vq_model.specs.Meaning.{of_two, pair_places};
+ghost use Rattle.vq_model.specs.Text.{words_in};
 ghost use Rattle.vq_model.specs.Context.{number_at};
 ghost use Rattle.vq_model.specs.ScriptOfLines.{mark};
 ghost use Rattle.vq_model.specs.declared.statement.Form.TheVariants.{Plain};
@@ -12,6 +15,7 @@ ghost use Rattle.vq_hosts.specs.Pairs.{AddsPair, AreRead};
 
 use std::alloc::{AllocError, Global};
 use vq_lexer::{is_name, numeral};
+use vq_long_lines::next_pair;
 use vq_model::script::{Mark, Pair};
 use vq_script::LineReader;
 
@@ -90,6 +94,21 @@ pub fn read_pairs(
         rest = after;
     }
     Ok(found)
+}
+
+/// Whether each pair of a part of a long line has the name of a timeline.
+pub fn are_timelines(reader: &LineReader<'_>, part: &[u8]) -> bool
+    ensures { (lines : List Line) → HasRead Plain lines reader.now →
+        result ≡ list_all (is_known (number_at lines)) (pair_places (words_in part.now)) }
+{
+    let mut rest = part;
+    while let Some((name, _, after)) = next_pair(rest) {
+        if reader.timeline(name).is_none() {
+            return false;
+        }
+        rest = after;
+    }
+    true
 }
 
 /// A pair as the mark of a line.

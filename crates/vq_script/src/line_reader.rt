@@ -161,7 +161,7 @@ impl<'a> LineReader<'a> {
 
     /// The first kind of the faults that the next line has, whose words are those of a part: many, of which these are
     /// the first.
-    pub(crate) fn many_fault(&self, words: &[&[u8]], part: &[u8]) -> FaultKind
+    pub fn many_fault(&self, words: &[&[u8]], part: &[u8]) -> FaultKind
         requires { AreCutOff (texts words.now) (words_in part.now) }
         ensures { (form : Form) (lines : List Line) (n : ℕ) → HasRead form lines self.now →
             read_statement form lines n (words_in part.now) ≡ Err result }

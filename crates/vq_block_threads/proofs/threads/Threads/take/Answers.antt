@@ -2,8 +2,8 @@ use Rattle.std.proofs.Common.{◌≡◌, ◌<◌, ◌+◌, ◌-◌, [], ◌∷�
 use Rattle.std.proofs.lemmas.List.{length-map}
 use Rattle.vq_blocks.specs.declared.block.ThreadLine.{ThreadLine}
 use Rattle.vq_blocks.specs.Compiled.{queue_of_thread}
-use Rattle.vq_hosts.proofs.ThreadBatches.{batches_with_step, queues_with_step}
-use Rattle.vq_hosts.proofs.threads.Threads.take.Goals as goal
+use Rattle.vq_block_threads.proofs.ThreadBatches.{batches_with_step, queues_with_step}
+use Rattle.vq_block_threads.proofs.threads.Threads.take.Goals as goal
 
 pub returns : goal.returns
 returns c = λ told step h w g.

@@ -3,8 +3,8 @@ use Rattle.std.proofs.lemmas.List.{map-append}
 use Rattle.vq_model.specs.declared.script.Queue.{Queue}
 use Rattle.vq_blocks.specs.declared.block.HostThread.{HostThread}
 use Rattle.vq_blocks.specs.Compiled.{queue_of_thread}
-use Rattle.vq_hosts.proofs.ThreadBatches.{batches_with_thread}
-use Rattle.vq_hosts.proofs.threads.Threads.begin.Goals as goal
+use Rattle.vq_block_threads.proofs.ThreadBatches.{batches_with_thread}
+use Rattle.vq_block_threads.proofs.threads.Threads.begin.Goals as goal
 
 pub returns : goal.returns
 returns c = λ told h.

@@ -24,7 +24,7 @@ impl Threads {
     ghost use Rattle.vq_blocks.specs.Blocks.{Told, nothing_told, signaled_by, waited_by, with_block_line};
     ghost use Rattle.vq_blocks.specs.declared.block.BlockStatement.TheVariants.{BeginThread, TakeStep, EndThread};
     ghost use Rattle.vq_blocks.specs.declared.block.ThreadStep.{ThreadStep};
-    ghost use Rattle.vq_hosts.specs.HasTold.{HasThreads};
+    ghost use Rattle.vq_block_threads.specs.HasThreads.{HasThreads};
     ghost use Rattle.std.specs.Prelude.{ℕ};
 
     /// No threads.
