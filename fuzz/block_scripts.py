@@ -159,12 +159,46 @@ def largest(dice):
     return [line + '\n' for line in lines]
 
 
+# What a long line begins with, inside a block and outside of one.
+INSIDE = [['wait']] * 12 + [['signal'], ['end'], ['waits'], ['host', 'wait', 'all'], []]
+OUTSIDE = [['host', 'wait', 'all'], ['host', 'poll', 'any']] * 6 + [['thread'], ['timeline'], ['queue'], ['wait'], []]
+
+
+def long_line(dice, head):
+    """A line of more than 4,096 bytes: of many words, or of few with many blanks between them."""
+    count = dice.choice([0, 1, 1, 2, 16, 17, 30, 31, 32, 33, 500, 1100, 2000])
+    words = head + [word for _ in range(count) for word in (pair(dice) if dice.random() < 3 / count else ['A', '0'])]
+    if dice.random() < 0.1:
+        words.append(dice.choice('AX0'))
+    for odd, share in ((['#'], 0.2), (['\x01', '\xe9', 'A\x7f'], 0.1)):
+        if dice.random() < share:
+            words.insert(dice.randrange(len(words) + 1), dice.choice(odd))
+    blank = dice.choice([' ', '\t']) * (4096 // (len(words) + 1) + 1)
+    return blank.join(['', *words, ''])
+
+
+def long_lines(dice):
+    """A text with a long line, before a block, inside one, behind one or in a batch."""
+    place = dice.choice(['before', 'inside', 'inside', 'inside', 'behind', 'behind', 'batch'])
+    lines = ['version 2'] * (dice.random() < 0.3) + DECLARED
+    block_lines = ['thread T', 'wait A 0', 'end']
+    long = long_line(dice, dice.choice(INSIDE if place in ('inside', 'batch') else OUTSIDE))
+    if place == 'inside':
+        block_lines.insert(dice.choice([1, 2]), long)
+    else:
+        lines = lines + [long] * (place == 'before')
+    behind = {'behind': [long, 'host idle'], 'batch': ['submit Q', long, 'end']}.get(place, ['host idle'])
+    return [line + '\n' for line in lines + block_lines + behind]
+
+
 def block_script(dice, put):
     form = dice.random()
     if form < 0.65:
         text = threaded(dice)
+    elif form < 0.96:
+        text = any_lines(dice, put)
     else:
-        text = any_lines(dice, put) if form < 0.98 else largest(dice)
+        text = largest(dice) if form < 0.98 else long_lines(dice)
     data = ''.join(text).encode('latin-1')
     if dice.random() < 0.05 and data:
         data = data[:dice.randrange(len(data))]
