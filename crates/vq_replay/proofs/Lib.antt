@@ -1,3 +1,5 @@
+mod Idle
+mod Known
 mod Passages
 mod Rosters
 mod RoundsPlayed

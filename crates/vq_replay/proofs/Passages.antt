@@ -1,6 +1,6 @@
 -- Turns over a cast, one after another, of which those that moved are kept.
-use Rattle.std.proofs.Common.{◌≡◌, ℕ, suc, ◌+◌, ◌<◌, List, [], ◌∷◌, ◌++◌, length, take, filter, get_or}
-use Rattle.std.proofs.Common.{refl, sym, subst, ap, ◌∙◌, arith, append_assoc, append-nil}
+use Rattle.std.proofs.Common.{◌≡◌, ℕ, suc, ◌+◌, ◌<◌, Bool, if◌then◌else◌, List, [], ◌∷◌, ◌++◌, length, take, filter}
+use Rattle.std.proofs.Common.{get_or, refl, sym, subst, ap, ◌∙◌, arith, append_assoc, append-nil}
 use Rattle.std.proofs.Math.Seq.{take-suc}
 use Rattle.std.proofs.lemmas.List.{length-take-le}
 use Rattle.std.proofs.lemmas.List.Elements.{filter-append, filter_map-append}
@@ -18,6 +18,7 @@ use Rattle.vq_troupe.specs.Casts.{Cast, Plays, course_after, first_places, place
 use Rattle.vq_troupe.proofs.Cited.{plan_kept}
 use Rattle.vq_replay.specs.declared.played.Played.{Played}
 use Rattle.vq_replay.specs.Passages.{LeadsTo}
+use Rattle.vq_replay.specs.Resting.{ChangesNothing}
 use Rattle.vq_replay.specs.Rounds.{has_moved, moved_from}
 use Rattle.vq_replay.specs.Traces.{event_of, events_of, numbered_from}
 use Rattle.vq_replay.proofs.Schedules.{opens}
@@ -126,22 +127,50 @@ module _ (x y : Cast) (a : ActorName) (o : Outcome) (h : Plays x y a o) (n : ℕ
             ∙ ap (λ (ps : List Played). x.course.history ++ events_of ps) (one_moved x y a o h (n + 1) played));
       }
 
+-- A turn that changes nothing
+module _ (x : Cast) (a : ActorName) (h : ChangesNothing x.course.plan (scene x) a) (n : ℕ) (played : List Played) where
+  nothing_moved : moved_from x.course.plan (n + 1) (scene x) (a ∷ []) ≡ []
+  nothing_moved =
+      let last = turn (n + 1) a (plays x.course.plan (scene x) a).0 in
+      ap (λ (b : Bool). if b then last ∷ [] else []) h.no_event
+
+  nothing_leads : LeadsTo x.course.plan (scene x) x.course.history n (a ∷ []) played x played
+  nothing_leads =
+      record {
+        plan = refl;
+        there = sym h.stays;
+        moved = sym (ap (λ (ps : List Played). played ++ ps) nothing_moved ∙ append-nil played);
+        history = sym (ap (λ (ps : List Played). x.course.history ++ events_of ps) nothing_moved
+            ∙ append-nil x.course.history);
+      }
+
 -- One turn more of some actors.
-pub goes_further : (p : Plan) (s : Scene) (before : List Event) (n : ℕ) (actors : List ActorName) (were : List Played)
-    (x y : Cast) (played more : List Played) (i : ℕ) (a d : ActorName) (o : Outcome) →
-    LeadsTo p s before n (take i actors) were x played → i < length actors → get_or actors i d ≡ a → Plays x y a o →
-    more ≡ played ++ filter has_moved (turn (n + i + 1) a o ∷ []) → LeadsTo p s before n (take (i + 1) actors) were y more
-goes_further p s before n actors were x y played more i a d o h within is k e =
-    let count : length (take i actors) ≡ i = length-take-le i actors (omega arith) in
-    let next : suc i ≡ i + 1 = omega arith in
-    let grown : take i actors ++ a ∷ [] ≡ take (i + 1) actors =
-    ap (λ (b : ActorName). take i actors ++ b ∷ []) (sym is)
-    ∙ (sym (take-suc actors i d within) ∙ ap (λ (m : ℕ). take m actors) next) in
-    let same : played ++ filter has_moved (turn (n + length (take i actors) + 1) a o ∷ []) ≡ more =
-    ap (λ (m : ℕ). played ++ filter has_moved (turn (n + m + 1) a o ∷ [])) count ∙ sym e in
-    subst (λ (ps : List Played). LeadsTo p s before n (take (i + 1) actors) were y ps) same
-    (subst (λ (bs : List ActorName). LeadsTo p s before n bs were y
-    (played ++ filter has_moved (turn (n + length (take i actors) + 1) a o ∷ []))) grown
-    (leads_on p s before n (take i actors) were x played h (a ∷ []) y
-    (played ++ filter has_moved (turn (n + length (take i actors) + 1) a o ∷ []))
-    (one_leads x y a o k (n + length (take i actors)) played)))
+module _ (p : Plan) (s : Scene) (before : List Event) (n : ℕ) (actors : List ActorName) (were : List Played)
+    (x : Cast) (played : List Played) (i : ℕ) (a d : ActorName)
+    (h : LeadsTo p s before n (take i actors) were x played) (within : i < length actors)
+    (is : get_or actors i d ≡ a) where
+  further : (y : Cast) (more : List Played) →
+      LeadsTo x.course.plan (scene x) x.course.history (n + length (take i actors)) (a ∷ []) played y more →
+      LeadsTo p s before n (take (i + 1) actors) were y more
+  further y more k =
+      let next : suc i ≡ i + 1 = omega arith in
+      let grown : take i actors ++ a ∷ [] ≡ take (i + 1) actors =
+      ap (λ (b : ActorName). take i actors ++ b ∷ []) (sym is)
+      ∙ (sym (take-suc actors i d within) ∙ ap (λ (m : ℕ). take m actors) next) in
+      subst (λ (bs : List ActorName). LeadsTo p s before n bs were y more) grown
+      (leads_on p s before n (take i actors) were x played h (a ∷ []) y more k)
+
+  pub goes_further : (y : Cast) (more : List Played) (o : Outcome) → Plays x y a o →
+      more ≡ played ++ filter has_moved (turn (n + i + 1) a o ∷ []) →
+      LeadsTo p s before n (take (i + 1) actors) were y more
+  goes_further y more o k e =
+      let count : length (take i actors) ≡ i = length-take-le i actors (omega arith) in
+      let same : played ++ filter has_moved (turn (n + length (take i actors) + 1) a o ∷ []) ≡ more =
+      ap (λ (m : ℕ). played ++ filter has_moved (turn (n + m + 1) a o ∷ [])) count ∙ sym e in
+      subst (λ (ps : List Played). LeadsTo p s before n (take (i + 1) actors) were y ps) same
+      (further y (played ++ filter has_moved (turn (n + length (take i actors) + 1) a o ∷ []))
+      (one_leads x y a o k (n + length (take i actors)) played))
+
+  pub waits_further : ChangesNothing x.course.plan (scene x) a →
+      LeadsTo p s before n (take (i + 1) actors) were x played
+  waits_further k = further x played (nothing_leads x a k (n + length (take i actors)) played)

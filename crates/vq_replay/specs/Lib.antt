@@ -1,4 +1,5 @@
 pub mod Passages
+pub mod Resting
 pub mod Rounds
 pub mod Schedules
 pub mod SpacedWords

@@ -5,13 +5,16 @@ ghost use Rattle.std.specs.Prelude.{◌≡◌, ◌<◌, ◌+◌, ◌^◌, ◌++�
 ghost use Rattle.vq_model.specs.ValidScripts.{IsActor};
 ghost use Rattle.vq_troupe.specs.Casts.{scene};
 ghost use Rattle.vq_replay.specs.Passages.{LeadsTo};
+ghost use Rattle.vq_replay.specs.Resting.{AreKnown};
 ghost use Rattle.vq_replay.specs.Rounds.{HaveFinished, IsRoundsTrace, has_moved};
 
 use crate::played::Played;
+use crate::rests::Rests;
 use crate::roster::roster;
 use crate::schedule::Replayed;
 use crate::text::trace_text;
 use std::alloc::{AllocError, Global};
+use vq_actor::queue_count;
 use vq_model::script::ActorName;
 use vq_order::Ordered;
 use vq_troupe::Troupe;
@@ -27,21 +30,29 @@ fn keep_moved(played: &mut Vec<Played>, turn: Played) -> Result<(), AllocError>
     Ok(())
 }
 
-/// Plays a round, behind so many turns: a turn of each of these actors, in their order. The turns that move are kept.
+/// Plays a round, behind so many turns: a turn of each of these actors, in their order. The turns that move are kept,
+/// and those that are known to change nothing are only counted.
 fn play_round(
     troupe: &mut Troupe,
+    rests: &mut Rests,
     played: &mut Vec<Played>,
     round: &[ActorName],
     before: u32,
 ) -> Result<(), AllocError>
     requires few { before + length round.now < 2 ^ 32 }
     requires actors { All (IsActor troupe.old.course.plan.script) round.now }
-    ensures { OnOk result (LeadsTo troupe.old.course.plan (scene troupe.old) troupe.old.course.history before round.now
-        played.old.items troupe.new played.new.items) }
+    requires known { AreKnown troupe.old.course.plan (scene troupe.old) rests.old }
+    ensures turns { OnOk result (LeadsTo troupe.old.course.plan (scene troupe.old) troupe.old.course.history before
+        round.now played.old.items troupe.new played.new.items) }
+    ensures known { OnOk result (AreKnown troupe.new.course.plan (scene troupe.new) rests.new) }
 {
     for turn in 0..round.len() {
         let actor = round[turn];
+        if rests.is_idle(troupe.core(), actor) {
+            continue;
+        }
         let outcome = troupe.play(actor);
+        rests.note(actor, outcome);
         let number = before + turn as u32 + 1;
         keep_moved(
             played,
@@ -64,6 +75,7 @@ pub fn rounds(alloc: Global, ordered: Ordered) -> Result<Replayed, AllocError>
 {
     let _lawful = ordered.plan();
     let round = roster(alloc, &ordered)?;
+    let mut rests = Rests::new(alloc, queue_count(&ordered))?;
     let mut troupe = Troupe::new(alloc, ordered)?;
     let mut played = Vec::new(alloc);
     let mut turns: u32 = 0;
@@ -72,7 +84,13 @@ pub fn rounds(alloc: Global, ordered: Ordered) -> Result<Replayed, AllocError>
             let core = troupe.into_core();
             return Ok(Replayed { played, core });
         }
-        play_round(&mut troupe, &mut played, round.as_slice(), turns)?;
+        play_round(
+            &mut troupe,
+            &mut rests,
+            &mut played,
+            round.as_slice(),
+            turns,
+        )?;
         turns += round.len() as u32;
     }
     unreachable!()

@@ -4,6 +4,7 @@
 
 mod fair;
 mod played;
+mod rests;
 mod roster;
 mod schedule;
 mod text;
