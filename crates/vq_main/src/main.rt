@@ -2,9 +2,13 @@
 //! writes to standard output what the words of its command line ask for.
 #![tactic(auto)]
 
+mod file_limit;
+mod output;
+
+use crate::output::Output;
 use std::process::ExitCode;
 use std::{env, io};
-use vq_port::{StdSink, StdSource, write_whole};
+use vq_port::{StdSource, write_whole};
 use vq_rings::OpenGate;
 use vq_run::Status;
 pub use vq_run::{generate, run, still};
@@ -20,7 +24,7 @@ fn words(rt: &HostRuntime) -> io::Result<Vec<String>> {
 
 fn main(rt: HostRuntime) -> ExitCode {
     let mut source = StdSource::new(rt.stdin());
-    let mut sink = StdSink::new(rt.stdout());
+    let mut sink = Output::new(&rt);
     let status = match words(&rt) {
         Ok(words) => run(
             &rt,
