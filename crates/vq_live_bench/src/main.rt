@@ -1,29 +1,22 @@
-//! Makes so many steps of one kind on a live timeline, so that their time can be measured from outside.
+//! Makes so many steps of one kind on a live timeline, so that their time can be measured from outside:
+//! on one without a lock, or on one under its lock, by one thread or by two.
 #![tactic(auto)]
 
+mod alone;
+mod locked;
 mod step;
+mod wake;
 
 use std::alloc::Global;
 use std::process::ExitCode;
+use std::sync::Wait;
 use std::sync::atomic::AtomicU64;
-use std::sync::{Mutex, Wait};
 use std::thread::{Threads, join};
 use std::{env, io};
-use step::{Step, exchanged, made};
-use vq_live::LiveTimeline;
+use step::{Step, Task, exchanged};
 
 const USAGE: &str = "usage: vq_live_bench KIND ROUNDS FLIGHT [locked | pairs]
-    bare-cas, value, find, refer, cancel, turn, whole, signal";
-
-/// A timeline with so many operations pending, with the values from 1.
-fn filled(alloc: Global, flight: u64) -> Option<LiveTimeline> {
-    let mut timeline = LiveTimeline::new(alloc, 0);
-    for before in 0..flight {
-        let given = timeline.take(before.wrapping_add(1)).ok()?;
-        timeline.install(given).ok()?;
-    }
-    Some(timeline)
-}
+    bare-cas, wake, value, look, find, refer, cancel, turn, whole, signal";
 
 fn bare(rounds: u64) -> bool {
     let word = AtomicU64::new(0);
@@ -34,27 +27,26 @@ fn bare(rounds: u64) -> bool {
     is_right
 }
 
-fn alone(timeline: &mut LiveTimeline, step: Step, rounds: u64, flight: u64) -> bool {
-    let mut is_right = true;
-    for _ in 0..rounds {
-        is_right = made(timeline, step, flight) && is_right;
-    }
-    is_right
-}
-
-/// Takes the lock for each step.
-fn locked<R: Wait>(
+/// Makes the steps under a lock, in one thread or in two.
+fn run_locked<R: Threads + Wait + Sync>(
     rt: &R,
-    shared: &Mutex<LiveTimeline>,
-    step: Step,
-    rounds: u64,
-    flight: u64,
-) -> bool {
-    let mut is_right = true;
-    for _ in 0..rounds {
-        is_right = made(&mut shared.lock(rt), step, flight) && is_right;
+    alloc: Global,
+    task: Task,
+    how: &str,
+) -> Option<bool> {
+    let timeline = locked::filled(rt, alloc, task.flight)?;
+    match how {
+        "locked" => Some(locked::are_made(rt, &timeline, task, 1)),
+        "pairs" => {
+            let both = join(
+                rt,
+                || locked::are_made(rt, &timeline, task, 1),
+                || locked::are_made(rt, &timeline, task, 2),
+            );
+            Some(both == (true, true))
+        }
+        _ => None,
     }
-    is_right
 }
 
 /// Makes the steps that the words ask for. It says whether they came out as wanted.
@@ -64,24 +56,25 @@ fn run<R: Threads + Wait + Sync>(rt: &R, alloc: Global, words: &[String]) -> Opt
     };
     let rounds = rounds.as_str().parse::<u64>().ok()?;
     let flight = flight.as_str().parse::<u64>().ok()?;
-    if name.as_str() == "bare-cas" {
-        return Some(bare(rounds));
+    match name.as_str() {
+        "bare-cas" => Some(bare(rounds)),
+        "wake" => {
+            let timeline = locked::filled(rt, alloc, flight)?;
+            Some(wake::is_woken(rt, &timeline, rounds, flight))
+        }
+        kind => {
+            let step = Step::named(kind)?;
+            let task = Task {
+                step,
+                rounds,
+                flight,
+            };
+            match how.first() {
+                Some(how) => run_locked(rt, alloc, task, how.as_str()),
+                None => Some(alone::are_made(&mut alone::filled(alloc, flight)?, task)),
+            }
+        }
     }
-    let step = Step::named(name.as_str())?;
-    let mut timeline = filled(alloc, flight)?;
-    let Some(how) = how.first() else {
-        return Some(alone(&mut timeline, step, rounds, flight));
-    };
-    let shared = Mutex::new(timeline);
-    if how.as_str() == "locked" {
-        return Some(locked(rt, &shared, step, rounds, flight));
-    }
-    let both = join(
-        rt,
-        || locked(rt, &shared, step, rounds, flight),
-        || locked(rt, &shared, step, rounds, flight),
-    );
-    Some(both == (true, true))
 }
 
 fn main(rt: HostRuntime) -> io::Result<ExitCode> {

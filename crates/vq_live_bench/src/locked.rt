@@ -1,0 +1,101 @@
+//! The steps on a timeline under its lock, as threads of a driver make them. A call that needs no other
+//! beside it takes the lock by itself.
+use crate::alone::{held_at, is_given_back, is_pending, turned};
+use crate::step::{Step, Task};
+use std::alloc::Global;
+use std::sync::{Arc, Wait};
+use vq_live::SignalFault;
+use vq_live_lock::{Bell, LockedLive};
+
+/// A timeline with so many operations pending, with the values from 1.
+pub(crate) fn filled<R: Wait>(rt: &R, alloc: Global, flight: u64) -> Option<LockedLive> {
+    let bell = Arc::new(alloc, Bell::new(alloc).ok()?).ok()?;
+    let timeline = LockedLive::new(alloc, &bell, 0).ok()?;
+    for before in 0..flight {
+        let given = timeline.take(rt, before.wrapping_add(1)).ok()?;
+        timeline.install(rt, given).ok()?;
+    }
+    Some(timeline)
+}
+
+/// Makes the steps of a thread, which has this number. It says whether they came out as wanted.
+pub(crate) fn are_made<R: Wait>(rt: &R, timeline: &LockedLive, task: Task, thread: u64) -> bool {
+    let mut is_right = true;
+    for _ in 0..task.rounds {
+        is_right = is_made(rt, timeline, task, thread) && is_right;
+    }
+    is_right
+}
+
+fn is_made<R: Wait>(rt: &R, timeline: &LockedLive, task: Task, thread: u64) -> bool {
+    let flight = task.flight;
+    match task.step {
+        Step::Value => timeline.value(rt) == 0,
+        Step::Look => timeline.look().0 == 0,
+        Step::Find => is_pending(timeline.find(rt, flight / 2 + 1)),
+        Step::Refer => is_held(rt, timeline, 0),
+        Step::Cancel => is_cancelled(rt, timeline, flight.wrapping_add(thread)),
+        Step::Turn => turned_once(rt, timeline, flight).is_some(),
+        Step::Whole => is_whole(rt, timeline, flight),
+        Step::Signal => is_signaled(rt, timeline),
+    }
+}
+
+/// Takes a reference and gives it back, by a call each.
+fn is_held<R: Wait>(rt: &R, timeline: &LockedLive, point: u32) -> bool {
+    match timeline.refer(rt, point) {
+        Err(_) => false,
+        Ok(held) => is_given_back(timeline.unref(rt, held)),
+    }
+}
+
+/// Takes a value and cancels it, by a call each.
+fn is_cancelled<R: Wait>(rt: &R, timeline: &LockedLive, value: u64) -> bool {
+    match timeline.take(rt, value) {
+        Err(_) => false,
+        Ok(given) => timeline.cancel(rt, given).is_ok(),
+    }
+}
+
+/// A turn under one lock: where several threads submit, the next value is chosen, taken and installed
+/// before another thread chooses. The completion stands there as a driver's, which collects before it
+/// takes.
+pub(crate) fn turned_once<R: Wait>(rt: &R, timeline: &LockedLive, flight: u64) -> Option<u64> {
+    let mut guard = timeline.lock(rt);
+    let value = turned(guard.timeline(timeline), flight);
+    timeline.unlock(guard);
+    value
+}
+
+/// A turn, and three look-ups of the value that was taken.
+fn is_whole<R: Wait>(rt: &R, timeline: &LockedLive, flight: u64) -> bool {
+    let Some(value) = turned_once(rt, timeline, flight) else {
+        return false;
+    };
+    let mut is_right = true;
+    for _ in 0..3 {
+        is_right = is_looked_up(rt, timeline, value) && is_right;
+    }
+    is_right
+}
+
+/// Looks a value up and holds its point under one lock, as a waiter does before it leaves the lock, and
+/// gives the reference back under the next. There is none where the value is past.
+fn is_looked_up<R: Wait>(rt: &R, timeline: &LockedLive, value: u64) -> bool {
+    let mut guard = timeline.lock(rt);
+    let held = held_at(guard.timeline(timeline), value);
+    timeline.unlock(guard);
+    match held {
+        None => timeline.reached(value).is_some(),
+        Some(held) => is_given_back(timeline.unref(rt, held)),
+    }
+}
+
+/// Signals the value after the payload. Another thread may have signaled it since the look.
+fn is_signaled<R: Wait>(rt: &R, timeline: &LockedLive) -> bool {
+    let next = timeline.look().0.wrapping_add(1);
+    match timeline.signal(rt, next) {
+        Ok(()) | Err(SignalFault::NotAbove { .. }) => true,
+        Err(SignalFault::Outstanding { .. }) => false,
+    }
+}
