@@ -1,6 +1,6 @@
 -- Rounds, one after another, until all jobs are finished.
 use Rattle.std.proofs.Common.{◌≡◌, ℕ, suc, ◌+◌, ◌-◌, ◌<◌, ◌≤◌, ◌^◌, ◌↔◌, inl, inr, Bool, true, false, IsTrue, List, [], ◌++◌, length}
-use Rattle.std.proofs.Common.{refl, sym, subst, ap, ◌∙◌, arith}
+use Rattle.std.proofs.Common.{refl, sym, subst, ap, ◌∙◌, append_assoc, arith}
 use Rattle.std.proofs.lemmas.Bool.{cases_eq, cases_lt, false≢true}
 use Rattle.std.proofs.lemmas.List.{length-append}
 use Rattle.vq_model.specs.declared.script.ActorName.{ActorName}
@@ -18,8 +18,9 @@ use Rattle.vq_progress_laws.proofs.Cited.{few_acts, few_turns, opening_scene, ro
 use Rattle.vq_core.specs.CoreState.{Course, world}
 use Rattle.vq_troupe.specs.Casts.{Cast, first_places, places, scene}
 use Rattle.vq_replay.specs.declared.played.Played.{Played}
-use Rattle.vq_replay.specs.Passages.{HasGone, LeadsTo}
-use Rattle.vq_replay.specs.Rounds.{HaveFinished}
+use Rattle.vq_replay.specs.Passages.{AreUnderWay, HasGone, LeadsTo}
+use Rattle.vq_replay.specs.Resting.{AreKnown, Resting}
+use Rattle.vq_replay.specs.Rounds.{HaveFinished, moved_from, moved_turns}
 use Rattle.vq_replay.proofs.Passages.{leads_first, leads_on}
 
 abbrev first : Plan → Scene
@@ -153,3 +154,95 @@ module _ (p : Plan) (n turns : ℕ) (x : Cast) (played : List Played) (h : HasGo
       where
         with_history : Plan → List Event → Course
         with_history q es = record { plan = q; history = es }
+
+-- Rounds under way
+
+-- the same turns, kept behind others
+rebased : (p : Plan) (s : Scene) (before : List Event) (n : ℕ) (actors : List ActorName) (were other : List Played)
+    (x : Cast) (played : List Played) → LeadsTo p s before n actors were x played →
+    LeadsTo p s before n actors other x (other ++ moved_from p (n + 1) s actors)
+rebased p s before n actors were other x played h =
+    record { plan = h.plan; there = h.there; moved = refl; history = h.history }
+
+-- Before the first round.
+pub under_way_first : (p : Plan) (x : Cast) (rests : Resting) (each : List ActorName) →
+    x.course ≡ record { plan = p; history = [] } → places x ≡ first_places → AreKnown x.course.plan (scene x) rests →
+    each ≡ round p → AreUnderWay x.course.plan 0 0 x rests each
+under_way_first p x rests each new at known actors =
+    subst (λ (q : Plan). AreUnderWay q 0 0 x rests each) (sym (ap (λ (c : Course). c.plan) new))
+    (record { gone = gone_first p x new at; known = known; actors = actors })
+
+module _ (n turns : ℕ) (x : Cast) (rests : Resting) (each : List ActorName)
+    (u : AreUnderWay x.course.plan n turns x rests each) (unfinished : ¬ IsEndOf x) where
+  -- One round more.
+  module _ (were more : List Played) (y : Cast) (later : Resting) (m : ℕ) (count : m ≡ turns + length each)
+      (k : LeadsTo x.course.plan (scene x) x.course.history turns each were y more)
+      (known : AreKnown y.course.plan (scene y) later) where
+    abbrev q : Plan
+    q = x.course.plan
+
+    in_round : LeadsTo q (scene x) x.course.history turns (round q) were y more
+    in_round = subst (λ (us : List ActorName). LeadsTo q (scene x) x.course.history turns us were y more) u.actors k
+
+    abbrev last : List Played
+    last = moved_from q (turns + 1) (scene x) (round q)
+
+    gone : HasGone q (n + 1) m y (moved_turns q n ++ last)
+    gone =
+        goes_round q n turns x (moved_turns q n) u.gone unfinished y (moved_turns q n ++ last) m
+        (rebased q (scene x) x.course.history turns (round q) were (moved_turns q n) y more in_round)
+        (count ∙ ap (λ (us : List ActorName). turns + length us) u.actors)
+
+    all_moved : moved_turns q n ++ last ≡ moved_turns q (n + 1)
+    all_moved = gone.leads.moved
+
+    pub under_way_more : AreUnderWay y.course.plan (n + 1) m y later each
+    under_way_more =
+        subst (λ (r : Plan). AreUnderWay r (n + 1) m y later each) (sym gone.leads.plan)
+        (record {
+          gone = subst (HasGone q (n + 1) m y) all_moved gone;
+          known = known;
+          actors = u.actors;
+        })
+
+    pub kept_more : (before : List Played) → before ++ were ≡ moved_turns x.course.plan n →
+        before ++ more ≡ moved_turns x.course.plan (n + 1)
+    kept_more before is =
+        ap (λ (ps : List Played). before ++ ps) in_round.moved
+        ∙ (sym (append_assoc before were last) ∙ (ap (λ (ps : List Played). ps ++ last) is ∙ all_moved))
+
+  -- It can be counted.
+  pub few_rounds : IsPlan x.course.plan → IsLawful x.course.plan → n + 1 < 2 ^ 32
+  few_rounds i l =
+      let one = one_left x.course.plan n turns x (moved_turns x.course.plan n) u.gone i l unfinished in
+      let few = few_acts x.course.plan i in
+      omega arith
+
+  pub few_turns_more : IsPlan x.course.plan → IsLawful x.course.plan → turns + length each < 2 ^ 32
+  few_turns_more i l =
+      countable x.course.plan n turns x (moved_turns x.course.plan n) u.gone i l unfinished each u.actors
+
+-- What a call that plays to the end has: so many rounds of a plan, and which turns are kept.
+module _ (p : Plan) (n count turns : ℕ) (x : Cast) (rests : Resting) (each : List ActorName)
+    (u : AreUnderWay x.course.plan n turns x rests each) (of_plan : x.course.plan ≡ p) (rounds : n ≡ count) where
+  gone_there : HasGone p count turns x (moved_turns p count)
+  gone_there =
+      subst (λ (m : ℕ). HasGone p m turns x (moved_turns p m)) rounds
+      (subst (λ (q : Plan). HasGone q n turns x (moved_turns q n)) of_plan u.gone)
+
+  pub all_finished : IsPlan p → IsLawful p → IsEndOf x → (played : List Played) → played ≡ moved_turns p count →
+      HaveFinished p played x.course
+  all_finished i l done played is =
+      subst (λ (ps : List Played). HaveFinished p ps x.course) (sym is)
+      (have_finished p count turns x (moved_turns p count) gone_there i l done)
+
+  pub not_past : IsPlan p → IsLawful p → 2 ^ 32 - 1 ≤ count → ⊥
+  not_past i l past = never_past p count turns x (moved_turns p count) gone_there i l past
+
+-- the same of the plan and the count of a call
+pub kept_on : (p q : Plan) (n m : ℕ) → q ≡ p → n ≡ m → (were more : List Played) →
+    ((before : List Played) → before ++ were ≡ moved_turns q n → before ++ more ≡ moved_turns q (n + 1)) →
+    (before : List Played) → before ++ were ≡ moved_turns p m → before ++ more ≡ moved_turns p (m + 1)
+kept_on p q n m of_plan rounds were more f =
+    subst (λ (z : Plan × ℕ). (before : List Played) → before ++ were ≡ moved_turns z.0 z.1 →
+    before ++ more ≡ moved_turns z.0 (z.1 + 1)) (λ k. (of_plan k, rounds k)) f

@@ -1,17 +1,19 @@
 -- Turns over a cast, of which those that moved are kept. This project's own.
 use Rattle.std.specs.Prelude.{ℕ, ◌≡◌, ◌<◌, ◌+◌, List, [], ◌++◌, length}
+use Rattle.std.specs.List.{flat_map}
 use Rattle.vq_model.specs.declared.script.ActorName.{ActorName}
 use Rattle.vq_model.specs.declared.plan.Event.{Event}
 use Rattle.vq_model.specs.Plan.{Plan}
 use Rattle.vq_model.specs.Machine.{AreFinished}
 use Rattle.vq_points.specs.Points.{opening_points}
 use Rattle.vq_turns.specs.Turns.{Scene, first_scene}
-use Rattle.vq_progress_laws.specs.Movers.{rounds_of}
+use Rattle.vq_progress_laws.specs.Movers.{round, rounds_of}
 use Rattle.vq_progress_laws.specs.Scenes.{scene_after}
 use Rattle.vq_troupe.specs.Casts.{Cast, scene}
 use Rattle.vq_replay.specs.declared.played.Played.{Played}
-use Rattle.vq_replay.specs.Rounds.{moved_from}
-use Rattle.vq_replay.specs.Traces.{events_of}
+use Rattle.vq_replay.specs.Resting.{AreKnown, Resting}
+use Rattle.vq_replay.specs.Rounds.{moved_from, moved_turns}
+use Rattle.vq_replay.specs.Traces.{events_of, turn_line}
 
 -- Turns of actors, numbered behind n others, led from a scene with a history to a cast; of them those that moved
 -- are kept behind the turns that were.
@@ -28,3 +30,16 @@ pub record HasGone (p : Plan) (rounds turns : ℕ) (x : Cast) (played : List Pla
   pub count : turns ≡ length (rounds_of rounds p)
   pub left : (m : ℕ) → m < rounds →
       ¬ AreFinished p (scene_after p (first_scene (opening_points p)) (rounds_of m p)).world.machine.progress
+
+-- So many rounds, of so many turns, led here from a new core; what is known of the actors is so, and these are the
+-- actors of a round.
+pub record AreUnderWay (p : Plan) (rounds turns : ℕ) (x : Cast) (rests : Resting) (each : List ActorName) : Type 0 where
+  pub gone : HasGone p rounds turns x (moved_turns p rounds)
+  pub known : AreKnown x.course.plan (scene x) rests
+  pub actors : each ≡ round p
+
+-- The lines of the first of some turns stand in a text, and the others are kept.
+pub record AreWritten (p : Plan) (turns : List Played) (text : List ℕ) (kept : List Played) : Type 0 where
+  pub written : List Played
+  pub both : written ++ kept ≡ turns
+  pub lines : text ≡ flat_map (turn_line p) written

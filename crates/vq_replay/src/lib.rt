@@ -3,6 +3,7 @@
 #![tactic(auto)]
 
 mod fair;
+mod fair_play;
 mod played;
 mod rests;
 mod roster;

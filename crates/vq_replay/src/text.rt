@@ -35,7 +35,7 @@ fn push_answers(alloc: Global, out: &mut Vec<u8>, core: &Core) -> Result<(), All
 }
 
 /// Adds the end of a trace that leaves no job: what was answered, and the buffers.
-fn push_finished(alloc: Global, out: &mut Vec<u8>, core: &Core) -> Result<(), AllocError>
+pub(crate) fn push_finished(alloc: Global, out: &mut Vec<u8>, core: &Core) -> Result<(), AllocError>
     ensures { OnOk result (out.new.items
         ≡ out.old.items ++ finished_text core.now.plan (world core.now).machine) }
 {

@@ -1,9 +1,11 @@
-use Rattle.vq_troupe.specs.Casts.{scene}
-use Rattle.vq_replay.specs.Passages.{HasGone}
-use Rattle.vq_replay.specs.Resting.{AreKnown}
+use Rattle.std.proofs.Common.{◌≡◌}
+use Rattle.vq_replay.specs.Passages.{AreUnderWay}
+use Rattle.vq_replay.specs.Rounds.{moved_turns}
 use Rattle.vq_replay.proofs.fair.rounds.Given as goal
 
 abbrev pub invariant-loop-count : goal.invariant-loop-count
 invariant-loop-count l =
-    HasGone l.fn.ordered l._count l.turns l.troupe l.played.items
-    × AreKnown l.troupe.course.plan (scene l.troupe) l.rests
+    (l.fair.troupe.course.plan ≡ l.fn.ordered)
+    × ((l.fair.rounds ≡ l._count)
+    × (AreUnderWay l.fair.troupe.course.plan l.fair.rounds l.fair.turns l.fair.troupe l.fair.rests l.fair.round.items
+    × (l.played.items ≡ moved_turns l.fn.ordered l._count)))

@@ -2,7 +2,7 @@ use Rattle.std.proofs.Common.{take}
 use Rattle.vq_troupe.specs.Casts.{scene}
 use Rattle.vq_replay.specs.Passages.{LeadsTo}
 use Rattle.vq_replay.specs.Resting.{AreKnown}
-use Rattle.vq_replay.proofs.fair.play_round.Given as goal
+use Rattle.vq_replay.proofs.fair_play.play_turns.Given as goal
 
 abbrev pub invariant-loop-turn : goal.invariant-loop-turn
 invariant-loop-turn l =

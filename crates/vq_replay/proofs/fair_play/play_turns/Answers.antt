@@ -8,7 +8,7 @@ use Rattle.vq_replay.specs.Resting.{AreKnown, ChangesNothing}
 use Rattle.vq_replay.proofs.Known.{has_room, known_played}
 use Rattle.vq_replay.proofs.Passages.{goes_further, leads_nowhere, waits_further}
 use Rattle.vq_replay.proofs.Rosters.{acts_there}
-use Rattle.vq_replay.proofs.fair.play_round.Goals as goal
+use Rattle.vq_replay.proofs.fair_play.play_turns.Goals as goal
 
 pub loop-turn-init : goal.loop-turn-init
 loop-turn-init c =
