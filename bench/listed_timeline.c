@@ -29,7 +29,7 @@ struct timeline {
 
 struct work {
     struct timeline *timeline;
-    const char *kind;
+    bool (*step)(struct work *w, uint64_t round);
     uint64_t rounds, flight, thread;
     bool is_right;
 };
@@ -90,10 +90,33 @@ static struct point *find(struct timeline *t, uint64_t value)
     return known;
 }
 
-static bool is_found(struct timeline *t, uint64_t value)
+static bool value_step(struct work *w, uint64_t round)
 {
+    struct timeline *t = w->timeline;
     pthread_mutex_lock(&t->lock);
-    struct point *found = find(t, value);
+    collect(t);
+    uint64_t value = t->past;
+    pthread_mutex_unlock(&t->lock);
+    return value <= round;
+}
+
+static bool signal_step(struct work *w, uint64_t round)
+{
+    struct timeline *t = w->timeline;
+    pthread_mutex_lock(&t->lock);
+    collect(t);
+    t->past = t->pending = t->past + 1;
+    bool is_right = t->past > round;
+    pthread_mutex_unlock(&t->lock);
+    return is_right;
+}
+
+static bool find_step(struct work *w, uint64_t round)
+{
+    struct timeline *t = w->timeline;
+    (void)round;
+    pthread_mutex_lock(&t->lock);
+    struct point *found = find(t, w->flight / 2 + 1);
     pthread_mutex_unlock(&t->lock);
     return found;
 }
@@ -115,10 +138,18 @@ static bool looked_up(struct timeline *t, uint64_t value)
     return true;
 }
 
-static bool cancelled(struct timeline *t, uint64_t value)
+static bool refer_step(struct work *w, uint64_t round)
 {
+    (void)round;
+    return looked_up(w->timeline, 1);
+}
+
+static bool cancel_step(struct work *w, uint64_t round)
+{
+    struct timeline *t = w->timeline;
+    (void)round;
     pthread_mutex_lock(&t->lock);
-    struct point *given = take(t, value);
+    struct point *given = take(t, w->flight + w->thread);
     pthread_mutex_unlock(&t->lock);
     if (!given)
         return false;
@@ -128,8 +159,8 @@ static bool cancelled(struct timeline *t, uint64_t value)
     return true;
 }
 
-/* A submission, and the device's signal of the oldest that runs. */
-static bool turned(struct timeline *t, int looks)
+/* A submission, and the device's signal of the oldest that runs. It answers the value, or 0. */
+static uint64_t turned(struct timeline *t)
 {
     pthread_mutex_lock(&t->lock);
     uint64_t value = t->pending + 1;
@@ -141,9 +172,22 @@ static bool turned(struct timeline *t, int looks)
         collect(t);
     }
     pthread_mutex_unlock(&t->lock);
-    bool is_right = given;
-    for (int i = 0; i < looks; i++)
-        is_right = looked_up(t, value) && is_right;
+    return given ? value : 0;
+}
+
+static bool turn_step(struct work *w, uint64_t round)
+{
+    (void)round;
+    return turned(w->timeline);
+}
+
+static bool whole_step(struct work *w, uint64_t round)
+{
+    (void)round;
+    uint64_t value = turned(w->timeline);
+    bool is_right = value;
+    for (int i = 0; i < 3; i++)
+        is_right = looked_up(w->timeline, value) && is_right;
     return is_right;
 }
 
@@ -156,66 +200,61 @@ static void wait_for(struct timeline *t, uint64_t value)
 }
 
 /* A turn, which reaches the value that the other thread waits for, and a wait for what that thread reaches. */
-static bool woken(struct work *w, uint64_t round)
+static bool wake_step(struct work *w, uint64_t round)
 {
     if (w->thread == 2)
         wait_for(w->timeline, 2 * round + 1);
-    bool is_right = turned(w->timeline, 0);
+    bool is_right = turned(w->timeline);
     if (w->thread == 1)
         wait_for(w->timeline, 2 * round + 2);
     return is_right;
 }
 
-static bool made(struct work *w, uint64_t round)
-{
-    struct timeline *t = w->timeline;
-    if (!strcmp(w->kind, "wake"))
-        return woken(w, round);
-    if (!strcmp(w->kind, "turn") || !strcmp(w->kind, "whole"))
-        return turned(t, w->kind[0] == 'w' ? 3 : 0);
-    if (!strcmp(w->kind, "find"))
-        return is_found(t, 1 + w->flight / 2);
-    if (!strcmp(w->kind, "refer"))
-        return looked_up(t, 1);
-    if (!strcmp(w->kind, "cancel"))
-        return cancelled(t, w->flight + w->thread);
-    pthread_mutex_lock(&t->lock);
-    collect(t);
-    if (w->kind[0] == 's')
-        t->past = t->pending = t->past + 1;
-    pthread_mutex_unlock(&t->lock);
-    return true;
-}
+static const struct {
+    const char *kind;
+    bool (*step)(struct work *w, uint64_t round);
+} steps[] = {
+    { "wake", wake_step },     { "value", value_step }, { "find", find_step },   { "refer", refer_step },
+    { "cancel", cancel_step }, { "turn", turn_step },   { "whole", whole_step }, { "signal", signal_step },
+};
 
 static void *make_all(void *given)
 {
     struct work *w = given;
-    for (uint64_t i = 0; i < w->rounds; i++)
-        w->is_right = made(w, i) && w->is_right;
+    bool is_right = true;
+    for (uint64_t round = 0; round < w->rounds; round++)
+        is_right = w->step(w, round) && is_right;
+    w->is_right = is_right;
     return NULL;
 }
 
 int main(int count, char **words)
 {
-    if (count < 4)
-        return 2;
-    bool is_pair = count > 4 || !strcmp(words[1], "wake");
     struct timeline t = { .lock = PTHREAD_MUTEX_INITIALIZER, .changed = PTHREAD_COND_INITIALIZER };
-    struct work first = { &t, words[1], strtoull(words[2], NULL, 10), strtoull(words[3], NULL, 10), 1, true };
+    struct work first = { .timeline = &t, .thread = 1 };
+    for (size_t i = 0; count >= 4 && i < sizeof steps / sizeof *steps; i++)
+        if (!strcmp(words[1], steps[i].kind))
+            first.step = steps[i].step;
+    if (!first.step)
+        return 2;
+    first.rounds = strtoull(words[2], NULL, 10);
+    first.flight = strtoull(words[3], NULL, 10);
     for (uint64_t value = 1; value <= first.flight; value++) {
         struct point *given = take(&t, value);
         if (!given)
             return 1;
         install(&t, given);
     }
+    /* there is a second thread always: in a process that has had but one, the C library's mutex is cheaper */
     struct work second = first;
     second.thread = 2;
+    if (count == 4 && first.step != wake_step)
+        second.rounds = 0;
     pthread_t other;
-    if (is_pair && pthread_create(&other, NULL, make_all, &second))
+    if (pthread_create(&other, NULL, make_all, &second))
         return 1;
     make_all(&first);
-    if (is_pair)
-        pthread_join(other, NULL);
+    pthread_join(other, NULL);
     puts(first.is_right && second.is_right ? "done" : "failed");
     return 0;
 }
