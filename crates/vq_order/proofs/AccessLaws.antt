@@ -14,6 +14,7 @@ use Rattle.vq_model.specs.declared.ranges.Range.{Range}
 use Rattle.vq_model.specs.Ranges.{Fits, share, conflict, written_range, read_range}
 use Rattle.vq_model.specs.WellFormed.{IsWellFormed}
 use Rattle.vq_plan_laws.proofs.Cited.{plan_well_formed}
+use Rattle.vq_order.specs.CellRanges.{AreCuts}
 use Rattle.vq_order.specs.Accessed.{span_of, spans_share, accesses_conflict, access_in, IsAccess, AreAccesses, AreAllInOrder, HasNoRaceBelow, IsJobInOrder, IsQuiet, RaceBy}
 use Rattle.vq_order.specs.Swept.{AreInOrder, IsOfJob}
 use Rattle.vq_order.specs.declared.races.accesses.MemoryAccess.{MemoryAccess}
@@ -180,4 +181,13 @@ first_accesses p n accesses l h =
       plan = h.plan;
       within = let e = length-take-le n accesses l in let w = h.within in omega arith;
       each = λ c a e. h.each c a (get_take n accesses c a e);
+    }
+
+-- where the ranges of all commands begin, those of the first ones do too
+pub first_cuts : (n : ℕ) (accesses : List MemoryAccess) (cuts : List ℕ) → AreCuts accesses cuts → AreCuts (take n accesses) cuts
+first_cuts n accesses cuts h =
+    record {
+      rise = h.rise;
+      written = λ c a e. h.written c a (get_take n accesses c a e);
+      read = λ c a s e. h.read c a s (get_take n accesses c a e);
     }

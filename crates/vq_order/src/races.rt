@@ -2,6 +2,7 @@
 ghost use Rattle.std.specs.Prelude.{◌≡◌, ◌<◌, ◌↔◌, Some, length, IfOk, IsTrue};
 ghost use Rattle.vq_model.specs.Checks.{IsRaceAt};
 ghost use Rattle.vq_order.specs.Accessed.{AreAccesses, AreAllInOrder, HasNoRaceBelow, IsFirstRacing};
+ghost use Rattle.vq_order.specs.CellRanges.{AreCuts};
 ghost use Rattle.vq_order.specs.LeastLines.{AreLeastOrNone};
 ghost use Rattle.vq_order.specs.Swept.{AreInOrder, IsOfJob};
 
@@ -13,6 +14,7 @@ mod sweep;
 use crate::lines::Lines;
 use crate::races::accesses::{MemoryAccess, Visitor, all_accesses, conflict};
 use crate::races::cells::{Halt, is_at_or_before};
+use crate::races::cuts::make_cuts;
 use crate::races::sweep::{go_through, overlap_much};
 use std::alloc::{AllocError, Global};
 use vq_clocks::Clocked;
@@ -115,11 +117,17 @@ fn least_race(order: &Clocked, accesses: &[MemoryAccess], clean: u32) -> Option<
 }
 
 /// Whether going through commands once finds no conflict out of order.
-fn is_clean(alloc: Global, order: &Clocked, accesses: &[MemoryAccess]) -> Result<bool, AllocError>
-    requires { AreAccesses order.now accesses.now }
+fn is_clean(
+    alloc: Global,
+    order: &Clocked,
+    cuts: &[u64],
+    accesses: &[MemoryAccess],
+) -> Result<bool, AllocError>
+    requires accesses { AreAccesses order.now accesses.now }
+    requires cuts { AreCuts accesses.now cuts.now }
     ensures { IfOk result (λ clean. IsTrue clean → HasNoRaceBelow order.now (length accesses.now)) }
 {
-    match go_through(alloc, order, accesses) {
+    match go_through(alloc, order, cuts, accesses) {
         Ok(()) => Ok(true),
         Err(Halt::Conflict) => Ok(false),
         Err(Halt::Memory(error)) => Err(error),
@@ -131,8 +139,14 @@ const FEW_COMMANDS: u32 = 256;
 
 /// A number of commands, the first ones, of which no two race. The search is by halves, so where not
 /// all are such ones, one of the next few races with one of them.
-fn count_clean(alloc: Global, order: &Clocked, accesses: &[MemoryAccess]) -> Result<u32, AllocError>
+fn count_clean(
+    alloc: Global,
+    order: &Clocked,
+    cuts: &[u64],
+    accesses: &[MemoryAccess],
+) -> Result<u32, AllocError>
     requires accesses { AreAccesses order.now accesses.now }
+    requires cuts { AreCuts accesses.now cuts.now }
     requires all { length accesses.now ≡ length order.now.commands }
     ensures { IfOk result (HasNoRaceBelow order.now) }
 {
@@ -140,7 +154,7 @@ fn count_clean(alloc: Global, order: &Clocked, accesses: &[MemoryAccess]) -> Res
     let mut high = order.plan().commands();
     while high - low > FEW_COMMANDS {
         let middle = low + (high - low) / 2;
-        if is_clean(alloc, order, &accesses[..middle as usize])? {
+        if is_clean(alloc, order, cuts, &accesses[..middle as usize])? {
             low = middle;
         } else {
             high = middle;
@@ -157,12 +171,14 @@ pub(crate) fn first_race(alloc: Global, order: &Clocked) -> Result<Option<Lines>
 {
     let accesses = all_accesses(alloc, order)?;
     let accesses = accesses.as_slice();
-    if overlap_much(alloc, accesses)? {
+    let cuts = make_cuts(alloc, accesses)?;
+    let cuts = cuts.as_slice();
+    if overlap_much(cuts, accesses) {
         return Ok(least_race(order, accesses, 0));
     }
-    if is_clean(alloc, order, accesses)? {
+    if is_clean(alloc, order, cuts, accesses)? {
         return Ok(None);
     }
-    let clean = count_clean(alloc, order, accesses)?;
+    let clean = count_clean(alloc, order, cuts, accesses)?;
     Ok(least_race(order, accesses, clean))
 }

@@ -39,7 +39,7 @@ pub(crate) fn push_some(numbers: &mut Vec<u32>, number: Option<u32>) -> Result<(
 fn finished_before(alloc: Global, job: &PlanJob) -> Result<List<u32>, AllocError>
     ensures { IfOk result (λ jobs. jobs ≡ finished_before job.now) }
 {
-    let mut jobs = Vec::new(alloc);
+    let mut jobs = Vec::with_capacity(alloc, job.idle_after.len().saturating_add(2))?;
     push_some(&mut jobs, job.previous)?;
     push_some(&mut jobs, job.host_before)?;
     jobs.extend_from_slice(job.idle_after.as_slice())?;
@@ -78,10 +78,10 @@ fn awaited(
     requires exist { All (λ n. n.chain < length script.now.semaphores) job.now.needs }
     ensures { IfOk result (λ ops. ops ≡ awaited_by (plan_of script.now) job.now) }
 {
-    let mut ops = Vec::new(alloc);
     if job.any {
-        return Ok(List::of(ops));
+        return Ok(List::of(Vec::new(alloc)));
     }
+    let mut ops = Vec::with_capacity(alloc, job.needs.len())?;
     for need in job.needs.as_slice() {
         push_resolving(&mut ops, script, chains, need)?;
     }
@@ -105,7 +105,8 @@ fn with_jobs_of(
     ensures { IfOk result (λ jobs. jobs ≡ firsts.now
         ++ filter_map (λ e. option_map (λ o. o.job) (slice_get ops.now e)) awaited.now) }
 {
-    let mut jobs = Vec::from_slice(alloc, firsts)?;
+    let mut jobs = Vec::with_capacity(alloc, firsts.len().saturating_add(awaited.len()))?;
+    jobs.extend_from_slice(firsts)?;
     for op in awaited {
         push_some(&mut jobs, job_of(ops, *op))?;
     }

@@ -155,7 +155,7 @@ impl Lowered {
     {
         let queues = script.queues.as_slice().len();
         Ok(Lowered {
-            jobs: Vec::new(alloc),
+            jobs: Vec::with_capacity(alloc, script.jobs.len())?,
             commands: 0,
             last: no_jobs(alloc, queues)?,
             host: None,

@@ -91,7 +91,24 @@ impl Cell {
         if !self.follows_writer(order, by) {
             return Err(Halt::Conflict);
         }
-        self.readers = self.with_reader(alloc, order, by)?;
+        self.keep_reader(alloc, order, by)?;
+        Ok(())
+    }
+
+    /// Keeps one reader more. Those that come before it go.
+    fn keep_reader(&mut self, alloc: Global, order: &Clocked, by: Visitor) -> Result<(), AllocError>
+        requires { MayTouch order.now self.old by }
+        ensures kept { OnOk result
+            (KeepsLater order.now self.old.readers.items by self.new.readers.items) }
+        ensures writer { OnOk result (self.new.writer ≡ self.old.writer) }
+    {
+        // Most often all of them go, and their room is there.
+        if !self.follows_readers(order, by) {
+            self.readers = self.with_reader(alloc, order, by)?;
+            return Ok(());
+        }
+        self.readers.clear();
+        self.readers.push(by)?;
         Ok(())
     }
 

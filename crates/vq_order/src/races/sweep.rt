@@ -5,13 +5,14 @@ ghost use Rattle.std.specs.List.Sorted.{IsNonDecreasing};
 ghost use Rattle.vq_model.specs.Plan.{commands_of};
 ghost use Rattle.vq_model.specs.SlowRun.{slow_order};
 ghost use Rattle.vq_order.specs.Accessed.{AreAccesses, HasNoRaceBelow};
+ghost use Rattle.vq_order.specs.CellRanges.{AreCuts};
 ghost use Rattle.vq_order.specs.Swept.{is_write, AreUntouched, FitsSweep, IsOfJob, ReadsCell, Sweeps};
 ghost use Rattle.vq_order.specs.Swept.{TouchesAmong, TouchesBy, TouchesIn, TouchesSpan};
 ghost use Rattle.vq_clocks.specs.VectorClocks.{IsComplete};
 
 use crate::races::accesses::{MemoryAccess, Span, Visitor};
 use crate::races::cells::{Cell, Halt, Touch};
-use crate::races::cuts::{Reach, make_cuts, reach_of};
+use crate::races::cuts::{Reach, reach_of};
 use std::alloc::{AllocError, Global};
 use vq_clocks::Clocked;
 
@@ -134,9 +135,9 @@ const MOST_CELLS: usize = 32;
 
 /// Whether ranges overlap so much that comparing all pairs of commands is quicker than going through
 /// their cells.
-pub(crate) fn overlap_much(alloc: Global, accesses: &[MemoryAccess]) -> Result<bool, AllocError> {
-    let cuts = make_cuts(alloc, accesses)?;
-    let cuts = cuts.as_slice();
+pub(crate) fn overlap_much(cuts: &[u64], accesses: &[MemoryAccess]) -> bool
+    requires { IsNonDecreasing cuts.now }
+{
     let mut count: usize = 0;
     for access in accesses {
         count = count.saturating_add(cell_count(cuts, access.written));
@@ -144,24 +145,23 @@ pub(crate) fn overlap_much(alloc: Global, accesses: &[MemoryAccess]) -> Result<b
             count = count.saturating_add(cell_count(cuts, read));
         }
     }
-    Ok(count / MOST_CELLS > accesses.len())
+    count / MOST_CELLS > accesses.len()
 }
 
-/// Goes through the first commands of a plan, in the order of the slow run. The error is a command
-/// that comes after one that it conflicts with and that isn't before it, or want of memory.
+/// Goes through the first commands of a plan, in the order of the slow run, whose cells begin at
+/// these cuts. The error is a command that comes after one that it conflicts with and that isn't
+/// before it, or want of memory.
 pub(crate) fn go_through(
     alloc: Global,
     order: &Clocked,
+    cuts: &[u64],
     accesses: &[MemoryAccess],
 ) -> Result<(), Halt>
-    requires { AreAccesses order.now accesses.now }
+    requires accesses { AreAccesses order.now accesses.now }
+    requires cuts { AreCuts accesses.now cuts.now }
     ensures { OnOk result (HasNoRaceBelow order.now (length accesses.now)) }
 {
-    let cuts = make_cuts(alloc, accesses)?;
     let mut cells = untouched(alloc, cuts.len())?;
-    let sweep = Sweep {
-        order,
-        cuts: cuts.as_slice(),
-    };
+    let sweep = Sweep { order, cuts };
     sweep.jobs(alloc, cells.as_mut_slice(), accesses)
 }

@@ -1,6 +1,5 @@
-use Rattle.std.proofs.Common.{◌≡◌, [], sym, ◌∙◌, length, List, ℕ, subst, rules}
+use Rattle.std.proofs.Common.{◌≡◌, [], ◌∙◌, length, rules}
 use Rattle.std.proofs.lemmas.Result.{on_ok_weaker}
-use Rattle.vq_order.specs.CellRanges.{AreCuts}
 use Rattle.vq_order.proofs.SweptCells.{untouched_keeps}
 use Rattle.vq_order.proofs.SweptRaces.{swept_without_race}
 use Rattle.vq_order.proofs.races.sweep.go_through.Goals as goal
@@ -9,8 +8,7 @@ pub returns : goal.returns
 returns c =
     let p = c.args.order.now in
     let accesses = c.args.accesses.now in
-    let cuts = c.as_slice.result.now in
+    let cuts = c.args.cuts.now in
     let old = c.as_mut_slice.result.now in
     let n : length old ≡ length cuts = search rules in
-    let cut : AreCuts accesses cuts = subst (λ (xs : List ℕ). AreCuts accesses xs) (sym c.as_slice.ensures.value) c.in_ok-cuts.ensures in
-    on_ok_weaker c.jobs.result (λ s. swept_without_race p c.jobs.ensures.complete accesses c.requires cuts cut c.jobs.new.cells (s.count ∙ n) (s.extends [] (untouched_keeps p old))) c.jobs.ensures.swept
+    on_ok_weaker c.jobs.result (λ s. swept_without_race p c.jobs.ensures.complete accesses c.requires.accesses cuts c.requires.cuts c.jobs.new.cells (s.count ∙ n) (s.extends [] (untouched_keeps p old))) c.jobs.ensures.swept
