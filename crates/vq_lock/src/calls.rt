@@ -80,6 +80,15 @@ impl<K, T: Fits<K>> KeyedLock<K, T> {
         }
     }
 
+    /// Frees the lock, with content that fits its key, and wakes nobody. It is for a lock that nobody waits
+    /// for, as all who take it do so by `try_lock`; who waits by `lock` might else sleep for ever.
+    pub fn unlock_quietly(&self, guard: Guard<K, T>)
+        requires { (x : T) × Has self.now guard x × T.fits (key_of self.now) x }
+    {
+        let Guard { mut seat } = guard;
+        self.table.shared.swap::<Give>(&mut seat, 0, FREE);
+    }
+
     /// Takes the content out. It fits the key where the lock was free; it is an error where a guard was
     /// lost, and then nothing is known of the content.
     pub fn into_inner(self) -> Result<T, T>
