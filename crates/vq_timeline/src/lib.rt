@@ -1,6 +1,7 @@
 //! The points of a timeline under a lock of its own: which operation has which point, which are bound and
 //! completed, and the pass that makes their steps on the board. Two timelines wait for each other nowhere.
-//! Nothing here but the calls that take the lock can wait, and nothing but the opening takes memory.
+//! Nothing here but the calls that take the lock can wait, and those that try it can't; nothing but the opening takes
+//! memory.
 #![tactic(auto)]
 
 mod collecting;
@@ -11,6 +12,7 @@ mod opening;
 mod parts;
 mod reading;
 mod timeline;
+mod trying;
 
 pub use parts::{BindFault, Collected, Home, Shelf};
 pub use timeline::{LockedTimeline, ShelfGuard};
