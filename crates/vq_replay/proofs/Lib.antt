@@ -5,4 +5,6 @@ mod Rosters
 mod RoundsPlayed
 mod RoundsTraced
 mod Schedules
+mod SpelledWords
 mod TraceEnds
+mod TurnsTraced

@@ -1,3 +1,4 @@
+pub mod OpWords
 pub mod Passages
 pub mod Resting
 pub mod Rounds

@@ -1,6 +1,6 @@
 -- Schedules that are played over a core with all actors. This project's own.
 use Rattle.std.specs.Prelude.{ℕ, ◌≡◌, ◌+◌, ◌++◌, List, drop, take, Some}
-use Rattle.std.specs.List.{slice_get}
+use Rattle.std.specs.List.{flat_map, slice_get}
 use Rattle.vq_model.specs.declared.script.ActorName.{ActorName}
 use Rattle.vq_model.specs.declared.script.Turn.{Turn}
 use Rattle.vq_model.specs.Plan.{Plan}
@@ -11,7 +11,7 @@ use Rattle.vq_turns.specs.Turns.{played_from}
 use Rattle.vq_turns.specs.Wants.{IsNotSo}
 use Rattle.vq_troupe.specs.Casts.{Cast, scene}
 use Rattle.vq_replay.specs.declared.played.Played.{Played}
-use Rattle.vq_replay.specs.Traces.{actors_of, events_of, numbered_from, played_turns}
+use Rattle.vq_replay.specs.Traces.{actors_of, events_of, numbered_from, played_turns, turn_line}
 
 -- Where a turn was blocked, the thing that its want names wasn't so in the state that the turns before it left.
 abbrev pub AreBlockedSo : Plan → List Played → Type 0
@@ -29,3 +29,9 @@ pub record HasPlayed (p : Plan) (turns : List Turn) (n : ℕ) (played : List Pla
   pub all : played_turns p turns ≡ played ++ plays_on x (n + 1) (actors_of (drop n turns))
   pub history : x.course.history ≡ events_of played
   pub blocked : AreBlockedSo p played
+
+-- So many turns of a schedule were played, each with its line in a text, and led here.
+pub record HasWritten (p : Plan) (turns : List Turn) (n : ℕ) (text : List ℕ) (x : Cast) : Type 0 where
+  pub played : List Played
+  pub goes : HasPlayed p turns n played x
+  pub lines : text ≡ flat_map (turn_line p) played

@@ -3,14 +3,16 @@
 //! Source: this project's own, where an item names no other.
 ghost use Rattle.std.specs.Prelude.{IfOk, List, OnOk};
 ghost use Rattle.vq_replay.specs.declared.played.Played.{Played as Turn};
+ghost use Rattle.vq_replay.specs.OpWords.{Spells};
 ghost use Rattle.vq_replay.specs.Passages.{AreWritten};
 ghost use Rattle.vq_replay.specs.Rounds.{HaveFinished, IsRoundsTrace};
 
 use crate::fair_play::FairPlay;
+use crate::op_words::OpWords;
 use crate::played::Played;
 use crate::schedule::Replayed;
 use crate::text::push_finished;
-use crate::trace::push_turns;
+use crate::trace::push_lines;
 use std::alloc::{AllocError, Global};
 use vq_order::Ordered;
 use vq_spec::Plan;
@@ -39,14 +41,20 @@ pub fn rounds(alloc: Global, ordered: Ordered) -> Result<Replayed, AllocError>
 }
 
 /// Adds the lines of turns to a text once there are many, and keeps these turns no longer.
-fn write_many(text: &mut Vec<u8>, plan: &Plan, played: &mut Vec<Played>) -> Result<(), AllocError>
+fn write_many(
+    text: &mut Vec<u8>,
+    plan: &Plan,
+    words: &OpWords,
+    played: &mut Vec<Played>,
+) -> Result<(), AllocError>
+    requires { Spells plan.now words.now }
     ensures { OnOk result ((turns : List Turn) → AreWritten plan.now turns text.old.items played.old.items →
         AreWritten plan.now turns text.new.items played.new.items) }
 {
     if played.len() < MANY {
         return Ok(());
     }
-    push_turns(text, plan, played.as_slice())?;
+    push_lines(text, plan, words, played.as_slice())?;
     played.clear();
     Ok(())
 }
@@ -56,7 +64,8 @@ fn write_many(text: &mut Vec<u8>, plan: &Plan, played: &mut Vec<Played>) -> Resu
 pub fn rounds_text(alloc: Global, ordered: Ordered) -> Result<Vec<u8>, AllocError>
     ensures { IfOk result (λ text. IsRoundsTrace ordered text.items) }
 {
-    let _lawful = ordered.plan();
+    let lawful = ordered.plan();
+    let words = OpWords::of(alloc, lawful)?;
     let mut fair = FairPlay::new(alloc, ordered)?;
     let mut played = Vec::new(alloc);
     let mut text = Vec::new(alloc);
@@ -66,11 +75,11 @@ pub fn rounds_text(alloc: Global, ordered: Ordered) -> Result<Vec<u8>, AllocErro
         if core.finished() {
             let _history = core.history();
             let _buffers = core.buffers();
-            push_turns(&mut text, plan, played.as_slice())?;
+            push_lines(&mut text, plan, &words, played.as_slice())?;
             push_finished(alloc, &mut text, core)?;
             return Ok(text);
         }
-        write_many(&mut text, plan, &mut played)?;
+        write_many(&mut text, plan, &words, &mut played)?;
         fair.play_round(&mut played)?;
     }
     unreachable!()

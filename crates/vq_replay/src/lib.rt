@@ -4,6 +4,7 @@
 
 mod fair;
 mod fair_play;
+mod op_words;
 mod played;
 mod rests;
 mod roster;
@@ -15,5 +16,5 @@ mod words;
 pub use fair::{rounds, rounds_text};
 pub use played::Played;
 pub use schedule::{Replayed, replay};
-pub use text::trace_text;
+pub use text::{replay_text, trace_text};
 pub use trace::push_turns;

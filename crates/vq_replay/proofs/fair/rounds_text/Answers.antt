@@ -6,12 +6,29 @@ use Rattle.vq_model.specs.Outputs.{IsOutput}
 use Rattle.vq_model.specs.Plan.{Plan}
 use Rattle.vq_core.specs.CoreState.{Course, world}
 use Rattle.vq_replay.specs.declared.played.Played.{Played}
+use Rattle.vq_replay.specs.OpWords.{Spells}
 use Rattle.vq_replay.specs.Passages.{AreWritten}
 use Rattle.vq_replay.specs.Rounds.{HaveFinished, moved_turns}
 use Rattle.vq_replay.specs.Traces.{finished_text, turn_line}
 use Rattle.vq_replay.proofs.RoundsPlayed.{all_finished, kept_on, not_past, told_end, told_left}
 use Rattle.vq_replay.proofs.RoundsTraced.{all_written, rounds_traced, written_more}
 use Rattle.vq_replay.proofs.fair.rounds_text.Goals as goal
+
+pub push_lines-requires : goal.push_lines-requires
+push_lines-requires c =
+    let of_plan : c.plan-plan.result.now ≡ c.args.ordered =
+    c.plan-plan.ensures.value
+    ∙ (c.ordered.ensures.value ∙ (ap (λ (d : Course). d.plan) c.core-core.ensures ∙ c.loop-count.invariant.0)) in
+    subst (λ (q : Plan). Spells q c.in_ok-words.words) (c.plan-lawful.ensures.value ∙ sym of_plan)
+    (c.in_ok-words.ensures {u = tt})
+
+pub write_many-requires : goal.write_many-requires
+write_many-requires c =
+    let of_plan : c.plan-plan.result.now ≡ c.args.ordered =
+    c.plan-plan.ensures.value
+    ∙ (c.ordered.ensures.value ∙ (ap (λ (d : Course). d.plan) c.core-core.ensures ∙ c.loop-count.invariant.0)) in
+    subst (λ (q : Plan). Spells q c.in_ok-words.words) (c.plan-lawful.ensures.value ∙ sym of_plan)
+    (c.in_ok-words.ensures {u = tt})
 
 pub returns-then-finished : goal.returns-then-finished
 returns-then-finished c =
@@ -30,9 +47,9 @@ returns-then-finished c =
     subst (HaveFinished p turns) (sym c.core-core.ensures)
     (all_finished p x.rounds c.loop-count._count x.turns x.troupe x.rests x.round.items so.1.1.0 so.0 so.1.0
     lawful.read lawful.lawful done turns refl) in
-    let lines : c.push_turns.new.out.items ≡ flat_map (turn_line p) turns =
-    all_written p turns c.loop-count.text.items c.push_turns.new.out.items c.loop-count.played.items so.1.1.1
-    (c.in_ok-push_turns.ensures {u = tt}
+    let lines : c.push_lines.new.out.items ≡ flat_map (turn_line p) turns =
+    all_written p turns c.loop-count.text.items c.push_lines.new.out.items c.loop-count.played.items so.1.1.1
+    (c.in_ok-push_lines.ensures {u = tt}
     ∙ (ap (λ (q : Plan). c.loop-count.text.items ++ flat_map (turn_line q) c.as_slice.result.now) of_plan
     ∙ ap (λ (ps : List Played). c.loop-count.text.items ++ flat_map (turn_line p) ps) c.as_slice.ensures.value)) in
     let spelled = c.in_ok-push_finished.ensures {u = tt}
