@@ -57,6 +57,7 @@ impl Rests {
     }
 
     /// What is known of an actor's next turn; of the host's nothing is.
+    #[inline(always)]
     fn of(&self, actor: ActorName) -> Rest
         ensures { result ≡ known self.now actor }
     {
@@ -68,6 +69,7 @@ impl Rests {
     }
 
     /// Whether an actor's next turn is known to change nothing.
+    #[inline(always)]
     pub(crate) fn is_idle(&self, core: &Core, actor: ActorName) -> bool
         ensures { result ≡ true → (s : Scene) → s.world ≡ world core.now → AreKnown core.now.plan s self.now →
             ChangesNothing core.now.plan s actor }
@@ -100,6 +102,7 @@ fn rest_after(outcome: Outcome) -> Rest
 }
 
 /// Whether an operation may be bound.
+#[inline(always)]
 fn is_bound(core: &Core, op: u32) -> bool
     ensures { result ≡ false → (world core.now).bound op ≡ false }
 {
@@ -110,6 +113,7 @@ fn is_bound(core: &Core, op: u32) -> bool
 }
 
 /// Whether the thing that a want names may be so.
+#[inline(always)]
 fn is_so(core: &Core, want: Want) -> bool
     ensures { result ≡ false → IsNotSo (world core.now) want }
 {
@@ -127,6 +131,7 @@ fn is_so(core: &Core, want: Want) -> bool
 }
 
 /// Whether a turn of which so much is known changes nothing, where a core stands now.
+#[inline(always)]
 fn is_still(core: &Core, rest: Rest) -> bool
     ensures something { result ≡ true → rest ≡ Unknown → ⊥ }
     ensures idle { result ≡ true → (a : Name) → (x : Place) → Knows core.now.plan a x rest →
