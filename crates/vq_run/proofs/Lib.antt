@@ -1,4 +1,3 @@
 mod Endings
 mod NamedOrigins
 mod TraceParts
-mod Traced

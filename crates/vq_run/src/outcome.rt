@@ -8,7 +8,6 @@ ghost use Rattle.vq_run.specs.Origins.{IsOutputFrom};
 ghost use Rattle.vq_model.specs.ValidScripts.{sizes_of};
 ghost use Rattle.vq_messages.specs.Refused.{input_limit};
 ghost use Rattle.vq_run.specs.Outcomes.{AnswersTask, ArePlayable, IsLawfulPlan, IsOutcome, upgraded};
-ghost use Rattle.vq_replay.specs.Traced.{IsTrace};
 ghost use Rattle.vq_run.specs.Tasks.{IsStill, ReadsTrace, RunsThreads};
 ghost use Rattle.vq_board.specs.Named.{bytes_of};
 ghost use Rattle.vq_spec.specs.TextRooms.{text_room};
@@ -25,7 +24,7 @@ use std::thread::Threads;
 use vq_model::list::List;
 use vq_model::script::Turn;
 use vq_order::Ordered;
-use vq_replay::{replay, rounds_text, trace_text};
+use vq_replay::{replay_text, rounds_text};
 use vq_rings::{Gate, Opened, Report};
 use vq_script::print_as;
 use vq_spec::TextRoom;
@@ -90,17 +89,6 @@ fn report_text(room: TextRoom, report: &Report) -> Vec<u8>
         report.answers.as_slice(),
         report.closed.buffers(),
     )
-}
-
-/// The trace of turns over a lawful plan.
-fn replay_text(alloc: Global, ordered: Ordered, turns: &[Turn]) -> Result<Vec<u8>, AllocError>
-    requires { ArePlayable ordered.script turns.now }
-    ensures { IfOk result (λ text. IsTrace ordered turns.now text.items) }
-{
-    let replayed = replay(alloc, ordered, turns)?;
-    let _history = replayed.core.history();
-    let _buffers = replayed.core.buffers();
-    trace_text(alloc, &replayed)
 }
 
 /// The script of a lawful plan, written as one of the second version.
