@@ -1,2 +1,2 @@
 -- What other crates may cite of this one. All other files of proofs are private to it.
-pub use Rattle.vq_access.proofs.Sharing.{grounds_sync}
+pub use Rattle.vq_access.proofs.Sharing.{grounds_sync, waiting_sync}

@@ -9,7 +9,7 @@ mod Jobbing
 mod TakenLooks
 mod Commanding
 mod Untaking
-mod Waiting
+mod Waits
 mod Finds
 mod Telling
 mod Listing

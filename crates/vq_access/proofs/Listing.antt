@@ -1,5 +1,5 @@
 -- What the lists of a chain tell an actor at a board.
-use Rattle.std.proofs.Common.{◌≡◌, ◌≤◌, ℕ, true, List, Err, Some, length, option_map, refl, sym, ap, ◌∙◌, subst, arith}
+use Rattle.std.proofs.Common.{◌≡◌, ◌≤◌, ℕ, true, List, Option, Err, Some, None, IfSome, length, option_map, refl, sym, ap, ◌∙◌, subst, arith}
 use Rattle.std.specs.List.{slice_get}
 use Rattle.std.specs.Borrow.{GName}
 use Rattle.vq_model.specs.Checks.{IsLawful}
@@ -13,7 +13,7 @@ use Rattle.vq_core_laws.proofs.Cited.{stands}
 use Rattle.vq_turns.specs.declared.outcome.Want.{Want}
 use Rattle.vq_turns.specs.declared.task.Task.TheVariants.{Take, Bind, Compare}
 use Rattle.vq_turns.specs.Turns.{Place, forward, seeing}
-use Rattle.std.specs.Prelude.{Result}
+use Rattle.std.specs.Prelude.{Result, Ok, IfOk, IfErr}
 use Rattle.vq_actor.specs.Answers.{AnswersTry}
 use Rattle.vq_actor.specs.Collections.{AnswersPast}
 use Rattle.vq_actor.specs.Meanings.{Recent}
@@ -25,8 +25,9 @@ use Rattle.vq_timeline.specs.declared.parts.Collected.TheVariants.{Completed}
 use Rattle.vq_timeline_laws.specs.Shelves.{State}
 use Rattle.vq_timeline.specs.declared.timeline.LockedTimeline.{LockedTimeline}
 use Rattle.vq_model.proofs.Options.{same_some}
-use Rattle.vq_access.specs.Timelines.{HasAsked}
+use Rattle.vq_access.specs.Timelines.{HasAsked, HasAskedOr}
 use Rattle.vq_timeline.specs.Answers.{Collects}
+use Rattle.vq_timeline.specs.Named.{chain_at, state_of}
 use Rattle.vq_access_laws.specs.AccessMeanings.{meaning_of, answers_told}
 use Rattle.vq_access_laws.specs.Causes.{Refusals, IsShown, refused, is_of_lists}
 use Rattle.vq_access_laws.specs.Learning.{Learns}
@@ -45,9 +46,29 @@ completed_there p t u x y r e k is same =
     let done = subst (Collects p t x y) is k in
     subst (λ (z : ℕ). has (chain p z) e ≡ true) same (stands (chain p t) done.entry.index e done.operation)
 
--- the timeline of the chain was asked
-pub asked_there : (p : Plan) (x y : LockedTimeline) (r : Collected) → Some x ≡ Some y → HasAsked p x r → HasAsked p y r
-asked_there p x y r e k = subst (λ (z : LockedTimeline). HasAsked p z r) (same_some x y e) k
+-- the same of what was asked, where it was
+pub completed_by : (p : Plan) (x : LockedTimeline) (u : ℕ) (r : Option Collected) → IfSome r (HasAsked p x) →
+    chain_at x ≡ u → IfSome r (λ k. (e : ℕ) → k ≡ Completed e → has (chain p u) e ≡ true)
+completed_by p x u None k same = tt
+completed_by p x u (Some r) k same = λ e is.
+    completed_there p (chain_at x) u (state_of k.0) (state_of k.1) r e k.4 is same
+
+-- what was answered, where it is known
+pub ok_of : {A E : Type 0} (r : Result A E) (P : A → Type 0) (a : A) → r ≡ Ok a → IfOk r P → P a
+ok_of r P a e h = subst (λ z. IfOk z P) e h
+
+pub err_of : {A E : Type 0} (r : Result A E) (P : E → Type 0) (x : E) → r ≡ Err x → IfErr r P → P x
+err_of r P x e h = subst (λ z. IfErr z P) e h
+
+-- the timeline of the chain was asked, or its lists were in use
+pub asked_or : (tries : Type 0) (p : Plan) (x : LockedTimeline) (r : Option Collected) → IfSome r (HasAsked p x) →
+    (r ≡ None → tries) → HasAskedOr tries p x r
+asked_or tries p x None k in_use = in_use refl
+asked_or tries p x (Some r) k in_use = k
+
+pub asked_there : (tries : Type 0) (p : Plan) (x y : LockedTimeline) (r : Option Collected) → Some x ≡ Some y →
+    HasAskedOr tries p x r → HasAskedOr tries p y r
+asked_there tries p x y r e k = subst (λ (z : LockedTimeline). HasAskedOr tries p z r) (same_some x y e) k
 
 -- it is the timeline of the operation's chain
 pub asked_at : (b p : Plan) (ts : List LockedTimeline) (e t : ℕ) (o : Op) (x y : LockedTimeline) → b ≡ p →

@@ -20,6 +20,11 @@ pub record AreOf (b : Board) (ts : List LockedTimeline) : Type 0 where
 abbrev pub HasAsked : Plan → LockedTimeline → Collected → Type 0
 HasAsked p t result = Asked t (λ x y. Collects p (chain_at t) (state_of x) (state_of y) result)
 
+-- they were asked, and answered this; or they were in use, where they may be
+abbrev pub HasAskedOr : Type 0 → Plan → LockedTimeline → Option Collected → Type 0
+HasAskedOr tries p t (Some result) = HasAsked p t result
+HasAskedOr tries p t None = tries
+
 -- the event that a collection made
 abbrev pub collection : Collected → Option Event
 collection (Completed e) = Some (Complete e)

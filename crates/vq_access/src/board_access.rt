@@ -1,8 +1,8 @@
 //! The access round a board.
 //!
 //! Source: this project's own, where an item names no other.
+use crate::asking::Lists;
 use crate::post::Post;
-use std::sync::Wait;
 use vq_actor::{Access, Step, Tracker};
 use vq_model::plan::{Answer, Event};
 use vq_model::script::ActorName;
@@ -10,14 +10,14 @@ use vq_order::Ordered;
 use vq_turns::look::Found;
 
 /// An access of one actor over a board, for one turn. It makes the actor's events by steps of the pass that serves
-/// the actor, and waits for nothing but the lock of a timeline.
+/// the actor, and waits for nothing but the lock of a timeline, if its lists wait for that.
 #[derive(Drop)]
-pub struct BoardAccess<'a, 'b, R: Wait> {
-    pub(crate) rt: &'a R,
+pub struct BoardAccess<'a, 'b, L> {
+    pub(crate) lists: &'a L,
     pub(crate) post: &'a mut Post<'b>,
 }
 
-impl<'a, 'b, R: Wait> Access for BoardAccess<'a, 'b, R> {
+impl<'a, 'b, L: Lists> Access for BoardAccess<'a, 'b, L> {
     ghost use Rattle.vq_access.specs.Posts.{held_by, meaning as post_meaning, shows as post_shows};
 
     ghost meaning = { λ x. held_by x.post.ghost_name (post_meaning x.post.now) };
@@ -61,19 +61,19 @@ impl<'a, 'b, R: Wait> Access for BoardAccess<'a, 'b, R> {
     }
 
     fn collect(&mut self, chain: u32) -> Option<Event> {
-        self.post.collect(self.rt, chain)
+        self.post.collect(self.lists, chain)
     }
 
     fn take(&mut self, op: u32) -> Step {
-        self.post.take(self.rt, op)
+        self.post.take(self.lists, op)
     }
 
     fn release(&mut self, job: u32) -> Step {
-        self.post.release(self.rt, job)
+        self.post.release(self.lists, job)
     }
 
     fn bind(&mut self, op: u32) -> Step {
-        self.post.bind(self.rt, op)
+        self.post.bind(self.lists, op)
     }
 
     fn refer(&mut self, actor: ActorName, point: u32, op: u32) -> Step {

@@ -2,7 +2,7 @@
 //!
 //! Source: this project's own.
 ghost use Rattle.std.specs.Prelude.{◌≡◌};
-ghost use Rattle.vq_access.specs.Grounding.{plan_at, board_at, waiter_at};
+ghost use Rattle.vq_access.specs.Grounding.{plan_at, board_at, lists_at};
 ghost use Rattle.vq_access.specs.Timelines.{AreOf};
 ghost use Rattle.vq_board.specs.Named.{plan_of};
 
@@ -11,32 +11,32 @@ use vq_board::Board;
 use vq_order::Ordered;
 use vq_timeline::LockedTimeline;
 
-impl<'a, R> Grounds<'a, R> {
-    /// The plan, its board, and a timeline for each of its chains.
+impl<'a, L> Grounds<'a, L> {
+    /// Who asks the lists, the plan, its board, and a timeline for each of its chains.
     pub fn new(
-        rt: &'a R,
+        lists: &'a L,
         ordered: &'a Ordered,
         board: &'a Board,
         timelines: &'a [LockedTimeline],
-    ) -> Grounds<'a, R>
+    ) -> Grounds<'a, L>
         requires plan { plan_of board.now ≡ ordered.now }
         requires timelines { AreOf board.now timelines.now }
         ensures plan { plan_at result ≡ ordered.now }
         ensures board { board_at result ≡ board.now }
     {
         Grounds {
-            rt,
+            lists,
             ordered,
             board,
             timelines,
         }
     }
 
-    /// Who can wait.
-    pub fn rt(&self) -> &'a R
-        ensures { result.now ≡ waiter_at self.now }
+    /// Who asks the lists.
+    pub fn lists(&self) -> &'a L
+        ensures { result.now ≡ lists_at self.now }
     {
-        self.rt
+        self.lists
     }
 
     /// The plan.

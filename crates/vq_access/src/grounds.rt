@@ -9,10 +9,10 @@ use vq_board::Board;
 use vq_order::Ordered;
 use vq_timeline::LockedTimeline;
 
-/// What turns at a board go over: the plan, its board and its timelines, and who can wait.
+/// What turns at a board go over: the plan, its board and its timelines, and who asks their lists.
 #[derive(Drop)]
-pub struct Grounds<'a, R> {
-    pub(crate) rt: &'a R,
+pub struct Grounds<'a, L> {
+    pub(crate) lists: &'a L,
     pub(crate) ordered: &'a Ordered,
     pub(crate) board: &'a Board,
     pub(crate) timelines: &'a [LockedTimeline],

@@ -10,10 +10,10 @@ ghost use Rattle.vq_model.specs.Plan.{signals_of};
 ghost use Rattle.vq_turns.specs.Turns.{forward};
 ghost use Rattle.vq_turns.specs.declared.task.Task.{Task};
 
+use crate::asking::Lists;
 use crate::last::Last;
 use crate::post::Post;
 use crate::takings::untaken;
-use std::sync::Wait;
 use vq_actor::Step;
 use vq_model::plan::Event;
 
@@ -32,8 +32,8 @@ impl<'a> Post<'a> {
     }
 
     /// Releases a batch, where the words of the points of its signals show them taken. Which points these are, the lists
-    /// of their chains say.
-    pub(crate) fn release<R: Wait>(&mut self, rt: &R, job: u32) -> Step
+    /// of their chains say; where these are in use it looks where it would where they have no point.
+    pub(crate) fn release<L: Lists>(&mut self, lists: &L, job: u32) -> Step
         requires { IsNext (meaning self.old) (Task.Release job) }
         ensures answer { AnswersTry (meaning self.old) (meaning self.new) (forward (meaning self.old).place)
             (λ w. Ok (Event.Release job)) (Is (Event.Release job)) (shows self.new) result }
@@ -42,7 +42,7 @@ impl<'a> Post<'a> {
         self.last = Last::Other;
         let signals = self.ordered.plan().job(job).signals.as_slice();
         if let Some(want) = untaken(
-            rt,
+            lists,
             self.ordered,
             self.board,
             self.timelines,

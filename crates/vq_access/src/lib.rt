@@ -2,6 +2,7 @@
 #![tactic(auto)]
 
 mod answering;
+mod asking;
 mod board_access;
 mod commands;
 mod finding;
@@ -18,6 +19,7 @@ mod seats;
 mod takings;
 mod turns;
 
+pub use asking::{Lists, Trying, Waiting};
 pub use board_access::BoardAccess;
 pub use grounds::Grounds;
 pub use last::Last;

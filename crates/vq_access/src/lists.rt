@@ -2,10 +2,10 @@
 //! payload, which take no lock.
 //!
 //! Source: this project's own.
-ghost use Rattle.std.specs.Prelude.{◌≡◌, ◌<◌, ℕ, Ok, Some, IfErr, length, true};
+ghost use Rattle.std.specs.Prelude.{◌≡◌, ◌<◌, ◌⊎◌, ℕ, Ok, Err, Some, None, IfErr, IfSome, length, true};
 ghost use Rattle.vq_access.specs.Posts.{meaning, shows};
 ghost use Rattle.vq_access.specs.Asking.{HasGiven, HasTied, take_of, want_by};
-ghost use Rattle.vq_access.specs.Timelines.{AreOf, HasAsked, collection};
+ghost use Rattle.vq_access.specs.Timelines.{AreOf, HasAsked, HasAskedOr, collection};
 ghost use Rattle.vq_timeline.specs.declared.timeline.LockedTimeline.{LockedTimeline as Timeline};
 ghost use Rattle.vq_access.specs.Lasts.{recent_of};
 ghost use Rattle.vq_board.specs.Named.{plan_of};
@@ -24,9 +24,9 @@ ghost use Rattle.vq_turns.specs.Turns.{forward, taken};
 ghost use Rattle.vq_turns.specs.declared.outcome.Want.{Want as AnyWant};
 ghost use Rattle.vq_turns.specs.declared.task.Task.{Task};
 
+use crate::asking::Lists;
 use crate::last::Last;
 use crate::post::Post;
-use std::sync::Wait;
 use vq_actor::Step;
 use vq_board::Board;
 use vq_model::plan::{Event, Op};
@@ -88,22 +88,22 @@ pub(crate) fn timeline_at<'t>(
     &timelines[chain as usize]
 }
 
-/// Collects on a chain, where it is there.
-fn collected_on<R: Wait>(
-    rt: &R,
+/// Collects on a chain, where it is there; nothing where its lists are in use.
+fn collected_on<L: Lists>(
+    lists: &L,
     board: &Board,
     timelines: &[LockedTimeline],
     chain: u32,
-) -> Collected
+) -> Option<Collected>
     requires { AreOf board.now timelines.now }
-    ensures completed { (e : ℕ) → result ≡ AnyCollected.Completed e →
-        has (chain_of_plan (plan_of board.now) chain) e ≡ true }
+    ensures completed { IfSome result (λ r. (e : ℕ) → r ≡ AnyCollected.Completed e →
+        has (chain_of_plan (plan_of board.now) chain) e ≡ true) }
     ensures asked { (x : Timeline) → slice_get timelines.now chain ≡ Some x →
-        HasAsked (plan_of board.now) x result }
+        HasAskedOr (L.tries lists.now) (plan_of board.now) x result }
 {
     match timelines.get(chain as usize) {
-        Some(timeline) => timeline.collect(rt, board),
-        None => Collected::Nothing,
+        Some(timeline) => lists.collect(timeline, board),
+        None => Some(Collected::Nothing),
     }
 }
 
@@ -120,16 +120,21 @@ fn emptied_chain(last: Last) -> u32
 
 impl<'a> Post<'a> {
     /// Makes the least pending operation of a chain past, or frees a point of it; nothing where its looks found
-    /// nothing to complete or to free.
-    pub(crate) fn collect<R: Wait>(&mut self, rt: &R, chain: u32) -> Option<Event>
+    /// nothing to complete or to free, or another is at its lists just now.
+    pub(crate) fn collect<L: Lists>(&mut self, lists: &L, chain: u32) -> Option<Event>
         requires { MayCollect (meaning self.old) chain }
         ensures answer { AnswersCollect (meaning self.old) (meaning self.new) chain result }
         ensures asked { (x : Timeline) → slice_get self.old.timelines.now chain ≡ Some x →
-            (collected : AnyCollected) × (result ≡ collection collected)
-            × HasAsked (plan_of self.old.board.now) x collected }
+            ((collected : AnyCollected) × (result ≡ collection collected)
+            × HasAsked (plan_of self.old.board.now) x collected)
+            ⊎ (L.tries lists.now × (result ≡ None)) }
     {
         self.last = Last::Other;
-        match collected_on(rt, self.board, self.timelines, chain) {
+        let Some(collected) = collected_on(lists, self.board, self.timelines, chain) else {
+            self.last = Last::Collected { chain };
+            return None;
+        };
+        match collected {
             Collected::Completed(op) => Some(Event::Complete { op }),
             Collected::Freed(point) => Some(Event::Free { point }),
             Collected::Nothing => {
@@ -140,19 +145,24 @@ impl<'a> Post<'a> {
     }
 
     /// Gives an operation a point, where the lists of its chain give it one.
-    pub(crate) fn take<R: Wait>(&mut self, rt: &R, op: u32) -> Step
+    pub(crate) fn take<L: Lists>(&mut self, lists: &L, op: u32) -> Step
         requires { MayTake (meaning self.old) op }
         ensures answer { AnswersTry (meaning self.old) (meaning self.new) (forward (meaning self.old).place)
             (λ w. Ok (taken w op (emptied (meaning self.old).recent))) (IsTakeOf op) (shows self.new) result }
         ensures wants { IfErr result (λ want. want ≡ AnyWant.Listed op) }
         ensures asked { (x : Timeline) → slice_get self.old.timelines.now (emptied (meaning self.old).recent) ≡ Some x →
-            HasGiven (plan_of self.old.board.now) x op result }
+            HasGiven (plan_of self.old.board.now) x op result
+            ⊎ (L.tries lists.now × (result ≡ Err (AnyWant.Listed op))) }
     {
         let chain = emptied_chain(self.last);
         self.last = Last::Other;
         let _lawful = self.ordered.plan();
         let timeline = timeline_at(self.timelines, self.board, chain);
-        match timeline.take_for(rt, self.board, op) {
+        let Some(answer) = lists.take_for(timeline, self.board, op) else {
+            self.refused.keep(Want::Listed { op });
+            return Err(Want::Listed { op });
+        };
+        match answer {
             Ok(taken) => {
                 self.seat.forward();
                 Ok(taking(op, taken))
@@ -166,19 +176,24 @@ impl<'a> Post<'a> {
     }
 
     /// Binds an operation, where the lists of its chain let it be next and its job is far enough.
-    pub(crate) fn bind<R: Wait>(&mut self, rt: &R, op: u32) -> Step
+    pub(crate) fn bind<L: Lists>(&mut self, lists: &L, op: u32) -> Step
         requires { IsNext (meaning self.old) (Task.Bind op) }
         ensures answer { AnswersTry (meaning self.old) (meaning self.new) (forward (meaning self.old).place)
             (λ w. bound_or (meaning self.old).plan w op) (IsBindOf op) (shows self.new) result }
         ensures wants { IfErr result (HoldsBackBind (meaning self.old).plan op) }
         ensures asked { (t : ℕ) (x : Timeline) → chain_of (plan_of self.old.board.now) op ≡ Some t →
-            slice_get self.old.timelines.now t ≡ Some x → HasTied (plan_of self.old.board.now) x op result }
+            slice_get self.old.timelines.now t ≡ Some x → HasTied (plan_of self.old.board.now) x op result
+            ⊎ (L.tries lists.now × (result ≡ Err (AnyWant.Listed op))) }
     {
         self.last = Last::Other;
         let _lawful = self.ordered.plan();
         let found = self.board.op(op);
         let timeline = timeline_at(self.timelines, self.board, found.chain);
-        match timeline.bind(rt, self.board, op) {
+        let Some(answer) = lists.bind(timeline, self.board, op) else {
+            self.refused.keep(Want::Listed { op });
+            return Err(Want::Listed { op });
+        };
+        match answer {
             Ok(point) => {
                 self.seat.forward();
                 Ok(Event::Bind { op, point })

@@ -59,8 +59,8 @@ impl<'a> Post<'a> {
     ghost use Rattle.vq_board.specs.Named.{id_of};
 
     /// An actor at its place before one turn, with the pass that serves it.
-    pub(crate) fn new<R>(
-        grounds: &'a Grounds<'a, R>,
+    pub(crate) fn new<L>(
+        grounds: &'a Grounds<'a, L>,
         pass: &'a mut Pass,
         seat: &'a mut Tracker,
         refused: &'a mut Refused,

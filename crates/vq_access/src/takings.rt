@@ -1,7 +1,7 @@
 //! The points that are taken for a batch, and looks at them before its release.
 //!
 //! Source: this project's own.
-ghost use Rattle.std.specs.Prelude.{◌≡◌, ◌<◌, ℕ, None, Some, IfOk, IfErr, IfSome, length, true};
+ghost use Rattle.std.specs.Prelude.{◌≡◌, ◌<◌, ◌⊎◌, ℕ, None, Some, IfOk, IfErr, IfSome, length, true};
 ghost use Rattle.std.specs.List.{slice_get};
 ghost use Rattle.vq_access.specs.Asking.{HasNamed, point_in};
 ghost use Rattle.vq_access.specs.Taken.{AreTaken, HasLearned, SawUntaken};
@@ -13,8 +13,8 @@ ghost use Rattle.vq_board_laws.specs.PointSteps.{sees};
 ghost use Rattle.vq_point.specs.Word.{bits_of};
 ghost use Rattle.vq_timeline.specs.declared.timeline.LockedTimeline.{LockedTimeline as Timeline};
 
+use crate::asking::Lists;
 use crate::lists::timeline_at;
-use std::sync::Wait;
 use vq_board::{Board, Pass};
 use vq_order::Ordered;
 use vq_point::{CARRYING, PointWord, REFERENCE, SIGNAL};
@@ -34,10 +34,10 @@ fn point_in(place: OpPlace) -> u32
     }
 }
 
-/// The point that the lists of an operation's chain have taken for it, 0 where they have none. Nothing is remembered of
-/// the take: turns of other actors of the same pass may lie between.
-fn point_of<R: Wait>(
-    rt: &R,
+/// The point that the lists of an operation's chain have taken for it, 0 where they have none or are in use. Nothing is
+/// remembered of the take: turns of other actors of the same pass may lie between.
+fn point_of<L: Lists>(
+    lists: &L,
     ordered: &Ordered,
     board: &Board,
     timelines: &[LockedTimeline],
@@ -48,12 +48,15 @@ fn point_of<R: Wait>(
     requires exists { op < length ordered.now.ops }
     ensures below { result < length ordered.now.ops }
     ensures asked { (t : ℕ) (x : Timeline) → chain_of ordered.now op ≡ Some t → slice_get timelines.now t ≡ Some x →
-        HasNamed ordered.now x op result }
+        HasNamed ordered.now x op result ⊎ (L.tries lists.now × (result ≡ 0)) }
 {
     let _lawful = ordered.plan();
     let found = board.op(op);
     let timeline = timeline_at(timelines, board, found.chain);
-    point_in(timeline.place_of(rt, board, op))
+    match lists.place_of(timeline, board, op) {
+        Some(place) => point_in(place),
+        None => 0,
+    }
 }
 
 /// The word of a point as a number.
@@ -82,8 +85,8 @@ fn sees_taken(board: &Board, pass: &mut Pass, point: u32, op: u32) -> Result<(),
 }
 
 /// Looks at the points of operations, until one doesn't carry its operation: the want that this shows.
-pub(crate) fn untaken<R: Wait>(
-    rt: &R,
+pub(crate) fn untaken<L: Lists>(
+    lists: &L,
     ordered: &Ordered,
     board: &Board,
     timelines: &[LockedTimeline],
@@ -100,7 +103,7 @@ pub(crate) fn untaken<R: Wait>(
 {
     for k in 0..ops.len() {
         let op = ops[k];
-        let point = point_of(rt, ordered, board, timelines, op);
+        let point = point_of(lists, ordered, board, timelines, op);
         if let Err(found) = sees_taken(board, pass, point, op) {
             return Some(Want::Exchange { op, found });
         }

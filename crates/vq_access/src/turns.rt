@@ -18,13 +18,13 @@ ghost use Rattle.vq_turn_laws.specs.TruePlaces.{with_place};
 ghost use Rattle.vq_turns.specs.Programs.{program};
 ghost use Rattle.vq_turns.specs.declared.outcome.Outcome.{Outcome as AnyOutcome};
 
+use crate::asking::Lists;
 use crate::board_access::BoardAccess;
 use crate::grounds::Grounds;
 use crate::post::Post;
 use crate::refused::Refused;
 use crate::seats::Seats;
 use std::snapshot::Snapshot;
-use std::sync::Wait;
 use vq_actor::{Actor, Tracker};
 use vq_board::Pass;
 use vq_model::script::ActorName;
@@ -32,9 +32,10 @@ use vq_turns::outcome::Outcome;
 
 /// One turn of an actor from its place, by the steps of a pass of the board that serves it. The places, with those that
 /// the seats kept before the turn, stay true of the pass, and all that is lent goes on as the turn left it, the refusals
-/// met too. A want is shown since the turn's start. It waits for nothing but the locks of timelines, and takes no memory.
-pub fn turn_at<R: Wait>(
-    grounds: &Grounds<R>,
+/// met too. A want is shown since the turn's start. It waits for nothing but the locks of
+/// timelines, and for these where its lists wait, and takes no memory.
+pub fn turn_at<L: Lists>(
+    grounds: &Grounds<L>,
     pass: &mut Pass,
     seat: &mut Tracker,
     refused: &mut Refused,
@@ -61,11 +62,11 @@ pub fn turn_at<R: Wait>(
         ((view pass.new) ≡ (view pass.old)) × (refused.new ≡ refused.old) }
 {
     let mut post = Post::new(grounds, pass, seat, refused, owner, &seats, actor.name());
-    turn_over(grounds.rt, &mut post, actor)
+    turn_over(grounds.lists, &mut post, actor)
 }
 
 /// One turn of an actor at a board, which goes on to write through the same references.
-fn turn_over<R: Wait>(rt: &R, post: &mut Post, actor: &Actor) -> Outcome
+fn turn_over<L: Lists>(lists: &L, post: &mut Post, actor: &Actor) -> Outcome
     requires { IsServed actor.now (meaning post.old) }
     ensures turn { IsTurn (meaning post.old) (meaning post.new) (shows post.new) result }
     ensures untouched { result ≡ AnyOutcome.Ended → post.new ≡ post.old }
@@ -73,12 +74,12 @@ fn turn_over<R: Wait>(rt: &R, post: &mut Post, actor: &Actor) -> Outcome
     ensures keeps_seat { post.new.seat.ghost_name ≡ post.old.seat.ghost_name }
     ensures keeps_refused { post.new.refused.ghost_name ≡ post.old.refused.ghost_name }
 {
-    let mut access = BoardAccess { rt, post };
+    let mut access = BoardAccess { lists, post };
     turn_through(&mut access, actor)
 }
 
 /// One turn over an access, which keeps its reference.
-fn turn_through<R: Wait>(access: &mut BoardAccess<R>, actor: &Actor) -> Outcome
+fn turn_through<L: Lists>(access: &mut BoardAccess<L>, actor: &Actor) -> Outcome
     requires { IsServed actor.now (meaning access.old.post.now) }
     ensures turn { IsTurn (meaning access.old.post.now) (meaning access.new.post.now) (shows access.new.post.now)
         result }

@@ -12,7 +12,7 @@ use std::alloc::Global;
 use std::sync::Wait;
 use std::sync::atomic::{AtomicU64, Ordering};
 use std::thread::{Threads, join};
-use vq_access::Grounds;
+use vq_access::{Grounds, Waiting};
 use vq_actor::Company;
 use vq_board::{Board, Passes};
 use vq_board_stage::passes::board_of;
@@ -133,7 +133,8 @@ fn plays<R: Wait>(
         shelves: _shelves,
     } = passes;
     let mut rooms = rooms_of(alloc, ordered, board, &company, host, submits, rings)?;
-    let grounds = Grounds::new(rt, ordered, board, timelines);
+    let waiting = Waiting::new(rt);
+    let grounds = Grounds::new(&waiting, ordered, board, timelines);
     Some(each_moves(&grounds, &company, rooms.as_mut_slice(), &TURNS))
 }
 

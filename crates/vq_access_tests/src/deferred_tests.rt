@@ -7,7 +7,7 @@ use crate::moves::{Turn, each_moves};
 use crate::three::{SCRIPT, rooms_of, timelines_of};
 use std::alloc::Global;
 use std::sync::Wait;
-use vq_access::Grounds;
+use vq_access::{Grounds, Waiting};
 use vq_actor::Company;
 use vq_board::{Board, Passes};
 use vq_board_stage::passes::board_of;
@@ -79,7 +79,8 @@ fn plays<R: Wait>(
         shelves: _shelves,
     } = passes;
     let mut rooms = rooms_of(alloc, ordered, board, &company, host, submits, rings)?;
-    let grounds = Grounds::new(rt, ordered, board, timelines.as_slice());
+    let waiting = Waiting::new(rt);
+    let grounds = Grounds::new(&waiting, ordered, board, timelines.as_slice());
     Some(each_moves(&grounds, &company, rooms.as_mut_slice(), &TURNS))
 }
 

@@ -15,3 +15,5 @@ mod points_tests;
 pub mod rooms;
 pub mod scene;
 pub mod three;
+#[cfg(test)]
+mod trying_tests;

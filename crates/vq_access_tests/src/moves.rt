@@ -5,8 +5,7 @@ ghost use Rattle.vq_actor.specs.Companies.{IsCompanyOf};
 
 use crate::events::is_same;
 use crate::rooms::turn_at;
-use std::sync::Wait;
-use vq_access::Grounds;
+use vq_access::{Grounds, Lists};
 use vq_actor::Company;
 use vq_model::plan::Event;
 use vq_rooms::AccessRoom;
@@ -24,8 +23,8 @@ fn has_made(outcome: Option<Outcome>, expected: Event) -> bool {
 }
 
 /// Whether each turn makes its event.
-pub(crate) fn each_moves<R: Wait>(
-    grounds: &Grounds<R>,
+pub(crate) fn each_moves<L: Lists>(
+    grounds: &Grounds<L>,
     company: &Company,
     rooms: &mut [Option<AccessRoom>],
     turns: &[Turn],

@@ -7,7 +7,7 @@ use crate::moves::{Turn, each_moves};
 use crate::scene::{SCRIPT, rooms_of, timelines_of};
 use std::alloc::Global;
 use std::sync::Wait;
-use vq_access::Grounds;
+use vq_access::{Grounds, Lists, Trying, Waiting};
 use vq_actor::Company;
 use vq_board::{Board, Passes};
 use vq_board_stage::passes::board_of;
@@ -100,8 +100,8 @@ const TURNS: [Turn; 21] = [
 ];
 
 /// All of that over a board with its passes.
-fn plays<R: Wait>(
-    rt: &R,
+fn plays<L: Lists>(
+    lists: &L,
     alloc: Global,
     ordered: &Ordered,
     board: &Board,
@@ -115,20 +115,29 @@ fn plays<R: Wait>(
     };
     let timelines = timelines_of(alloc, ordered, board, &mut passes.shelves)?;
     let mut rooms = rooms_of(alloc, ordered, board, &company, passes)?;
-    let grounds = Grounds::new(rt, ordered, board, timelines.as_slice());
+    let grounds = Grounds::new(lists, ordered, board, timelines.as_slice());
     Some(each_moves(&grounds, &company, rooms.as_mut_slice(), &TURNS))
 }
 
-fn plays_over<R: Wait>(rt: &R, alloc: Global, ordered: &Ordered) -> Option<bool> {
+fn plays_over<L: Lists>(lists: &L, alloc: Global, ordered: &Ordered) -> Option<bool> {
     let (board, passes) = board_of(alloc, ordered)?;
-    plays(rt, alloc, ordered, &board, passes)
+    plays(lists, alloc, ordered, &board, passes)
 }
 
-fn play<R: Wait>(rt: &R, alloc: Global) -> Option<bool> {
-    plays_over(rt, alloc, &checked(alloc, SCRIPT)?)
+fn play<L: Lists>(lists: &L, alloc: Global) -> Option<bool> {
+    plays_over(lists, alloc, &checked(alloc, SCRIPT)?)
+}
+
+fn play_waiting<R: Wait>(rt: &R, alloc: Global) -> Option<bool> {
+    play(&Waiting::new(rt), alloc)
 }
 
 #[test]
 fn a_point_that_is_held_is_not_used_again(rt: HostRuntime) {
-    assert!(rt; play(&rt, rt.alloc()) == Some(true));
+    assert!(rt; play_waiting(&rt, rt.alloc()) == Some(true));
+}
+
+#[test]
+fn no_turn_has_to_wait_where_nobody_else_asks(rt: HostRuntime) {
+    assert!(rt; play(&Trying, rt.alloc()) == Some(true));
 }

@@ -7,8 +7,7 @@ ghost use Rattle.vq_board.specs.Named.{plan_of};
 ghost use Rattle.vq_board_stage.specs.Dealing.{AllFresh, IsDealer};
 
 use std::alloc::Global;
-use std::sync::Wait;
-use vq_access::Grounds;
+use vq_access::{Grounds, Lists};
 use vq_actor::{Company, queue_count};
 use vq_board::{Board, Pass, Role};
 use vq_board_stage::passes::dealt;
@@ -88,8 +87,8 @@ pub fn ring_room(
 }
 
 /// A turn of the actor whose room lies in this place, where there is one. The room is put back.
-pub fn turn_at<R: Wait>(
-    grounds: &Grounds<R>,
+pub fn turn_at<L: Lists>(
+    grounds: &Grounds<L>,
     company: &Company,
     rooms: &mut [Option<AccessRoom>],
     place: usize,

@@ -15,7 +15,7 @@ use crate::gate::Gate;
 use crate::rest::Rest;
 use crate::rounds::{Hand, round};
 use std::sync::Wait;
-use vq_access::Grounds;
+use vq_access::{Grounds, Waiting};
 use vq_actor::Company;
 use vq_board::{JobState, Pass};
 use vq_model::plan::{Answer, AnswerLine, Event};
@@ -61,7 +61,7 @@ fn answer_of(outcome: Outcome) -> Option<(u32, Answer)>
 /// A turn of the host. An answer that it gives is kept: there is room for one to each step that asks something, and
 /// none is answered twice.
 fn host_turn<R: Wait>(
-    grounds: &Grounds<R>,
+    grounds: &Grounds<Waiting<R>>,
     company: &Company,
     room: AccessRoom,
     answers: &mut Vec<AnswerLine>,
@@ -81,7 +81,7 @@ fn host_turn<R: Wait>(
 
 /// The turns of the host until it has ended, with those of the actors that have no thread.
 pub(crate) fn host_turns<R: Wait, G: Gate>(
-    grounds: &Grounds<R>,
+    grounds: &Grounds<Waiting<R>>,
     company: &Company,
     berths: &[Berth],
     hands: &mut [Hand],
@@ -100,7 +100,7 @@ pub(crate) fn host_turns<R: Wait, G: Gate>(
 {
     let mut rest = Rest::new(is_alone);
     let mut number = 0u64;
-    for _ in grounds.rt().forever() {
+    for _ in grounds.lists().rt().forever() {
         gate.at(ActorName::Host, number);
         let (next, outcome) = host_turn(grounds, company, room, answers);
         room = next;
@@ -108,7 +108,7 @@ pub(crate) fn host_turns<R: Wait, G: Gate>(
         match outcome {
             Outcome::Moved(_) => rest.moved(),
             Outcome::Blocked(_) if has_moved => rest.moved(),
-            Outcome::Blocked(_) => rest.blocked(grounds.rt()),
+            Outcome::Blocked(_) => rest.blocked(grounds.lists().rt()),
             Outcome::Ended => return room,
         }
         number = number.saturating_add(1);
@@ -118,7 +118,7 @@ pub(crate) fn host_turns<R: Wait, G: Gate>(
 
 /// Looks at the jobs until all are finished, and takes the turns of the actors that have no thread.
 pub(crate) fn see_all<R: Wait, G: Gate>(
-    grounds: &Grounds<R>,
+    grounds: &Grounds<Waiting<R>>,
     company: &Company,
     berths: &[Berth],
     hands: &mut [Hand],
@@ -136,7 +136,7 @@ pub(crate) fn see_all<R: Wait, G: Gate>(
     let jobs = grounds.ordered().plan().jobs();
     let mut rest = Rest::new(is_alone);
     let mut seen = 0u32;
-    for _ in grounds.rt().forever() {
+    for _ in grounds.lists().rt().forever() {
         if seen >= jobs {
             return;
         }
@@ -147,7 +147,7 @@ pub(crate) fn see_all<R: Wait, G: Gate>(
         } else if has_moved {
             rest.moved();
         } else {
-            rest.blocked(grounds.rt());
+            rest.blocked(grounds.lists().rt());
         }
     }
     unreachable!()

@@ -17,7 +17,7 @@ use std::alloc::{AllocError, Global};
 use std::marker::Model;
 use std::sync::Wait;
 use std::thread::Threads;
-use vq_access::Grounds;
+use vq_access::{Grounds, Waiting};
 use vq_order::Ordered;
 
 /// A run of a plan with all that it needs: no memory is taken after it was made. Contracts see the plan.
@@ -74,7 +74,8 @@ impl Opened {
             berths,
             mut hands,
         } = parts;
-        let grounds = Grounds::new(rt, &ordered, &board, timelines.as_slice());
+        let waiting = Waiting::new(rt);
+        let grounds = Grounds::new(&waiting, &ordered, &board, timelines.as_slice());
         let Done { pass, answers } = run_threads(
             &grounds,
             &company,

@@ -13,7 +13,7 @@ use crate::rest::{Rest, is_alone};
 use std::alloc::{AllocError, Global};
 use std::sync::Wait;
 use std::thread::Threads;
-use vq_access::Grounds;
+use vq_access::{Grounds, Waiting};
 use vq_actor::Company;
 use vq_rooms::AccessRoom;
 use vq_turns::outcome::Outcome;
@@ -42,7 +42,7 @@ pub(crate) fn all_hands(alloc: Global, count: usize) -> Result<Vec<Hand>, AllocE
 
 /// A thread: it takes its berth, once, and takes the actor's turns until that has ended.
 pub(crate) fn work<R: Threads + Wait, G: Gate>(
-    grounds: &Grounds<R>,
+    grounds: &Grounds<Waiting<R>>,
     company: &Company,
     berth: &Berth,
     gate: &G,
@@ -50,12 +50,12 @@ pub(crate) fn work<R: Threads + Wait, G: Gate>(
     requires company { IsCompanyOf (plan_at grounds.now) company.now }
     requires berth { IsAt (board_at grounds.now) berth.now }
 {
-    let mut guard = berth.lock(grounds.rt());
+    let mut guard = berth.lock(grounds.lists().rt());
     take_turns(
         grounds,
         company,
         guard.content(berth),
-        is_alone(grounds.rt()),
+        is_alone(grounds.lists().rt()),
         gate,
     );
     berth.unlock(guard);
@@ -63,7 +63,7 @@ pub(crate) fn work<R: Threads + Wait, G: Gate>(
 
 /// The turns of the actor of a room, until it has ended. The room is put back then.
 fn take_turns<R: Wait, G: Gate>(
-    grounds: &Grounds<R>,
+    grounds: &Grounds<Waiting<R>>,
     company: &Company,
     content: &mut Option<AccessRoom>,
     is_alone: bool,
@@ -81,13 +81,13 @@ fn take_turns<R: Wait, G: Gate>(
     let name = room.owner();
     let mut rest = Rest::new(is_alone);
     let mut number = 0u64;
-    for _ in grounds.rt().forever() {
+    for _ in grounds.lists().rt().forever() {
         gate.at(name, number);
         let (next, outcome) = room.take_turn(grounds, company);
         room = next;
         match outcome {
             Outcome::Moved(_) => rest.moved(),
-            Outcome::Blocked(_) => rest.blocked(grounds.rt()),
+            Outcome::Blocked(_) => rest.blocked(grounds.lists().rt()),
             Outcome::Ended => {
                 *content = Some(room);
                 return;
@@ -100,7 +100,7 @@ fn take_turns<R: Wait, G: Gate>(
 
 /// One turn of the actor of a room, where the room is there. The room is put back.
 fn turn_in<R: Wait, G: Gate>(
-    grounds: &Grounds<R>,
+    grounds: &Grounds<Waiting<R>>,
     company: &Company,
     content: &mut Option<AccessRoom>,
     gate: &G,
@@ -121,7 +121,7 @@ fn turn_in<R: Wait, G: Gate>(
 
 /// One turn of the actor in a berth, by the caller. `None` where the berth is taken.
 fn turn<R: Wait, G: Gate>(
-    grounds: &Grounds<R>,
+    grounds: &Grounds<Waiting<R>>,
     company: &Company,
     berth: &Berth,
     gate: &G,
@@ -138,7 +138,7 @@ fn turn<R: Wait, G: Gate>(
 
 /// One turn of each actor whose turns the caller takes. True if one of them moved.
 pub(crate) fn round<R: Wait, G: Gate>(
-    grounds: &Grounds<R>,
+    grounds: &Grounds<Waiting<R>>,
     company: &Company,
     berths: &[Berth],
     hands: &mut [Hand],

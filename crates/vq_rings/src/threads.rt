@@ -15,7 +15,7 @@ use crate::rounds::{Hand, work};
 use std::sync::Wait;
 use std::thread;
 use std::thread::Threads;
-use vq_access::Grounds;
+use vq_access::{Grounds, Waiting};
 use vq_actor::Company;
 use vq_board::Pass;
 use vq_model::plan::AnswerLine;
@@ -37,7 +37,7 @@ pub(crate) struct Done {
 
 /// A thread for each berth, and the caller for the host and for each actor whose thread was refused.
 pub(crate) fn run_threads<R: Threads + Wait + Sync, G: Gate>(
-    grounds: &Grounds<R>,
+    grounds: &Grounds<Waiting<R>>,
     company: &Company,
     berths: &[Berth],
     hands: &mut [Hand],
@@ -53,7 +53,7 @@ pub(crate) fn run_threads<R: Threads + Wait + Sync, G: Gate>(
 {
     thread::scope(
         thread::scope_env(),
-        grounds.rt(),
+        grounds.lists().rt(),
         |scope| -> Done
             requires { IsCompanyOf (plan_at grounds.now) company.now × AreAt (board_at grounds.now) berths.now
                 × (length hands.now ≡ length berths.now)
@@ -81,7 +81,7 @@ pub(crate) fn run_threads<R: Threads + Wait + Sync, G: Gate>(
 /// The caller: the turns of the host, and of the actors without a thread, until the host's pass knows all jobs
 /// finished.
 fn finish<R: Threads + Wait, G: Gate>(
-    grounds: &Grounds<R>,
+    grounds: &Grounds<Waiting<R>>,
     company: &Company,
     berths: &[Berth],
     hands: &mut [Hand],
@@ -96,7 +96,7 @@ fn finish<R: Threads + Wait, G: Gate>(
     ensures { IsDone (board_at grounds.now) result.pass result.answers.items }
 {
     let Lead { room, mut answers } = lead;
-    let is_alone = is_alone(grounds.rt());
+    let is_alone = is_alone(grounds.lists().rt());
     let room = host_turns(
         grounds,
         company,

@@ -11,8 +11,7 @@ ghost use Rattle.vq_model.specs.ValidScripts.{IsActor};
 
 use crate::room::AccessRoom;
 use std::marker::{Brand, PhantomData};
-use std::sync::Wait;
-use vq_access::Grounds;
+use vq_access::{Grounds, Lists};
 use vq_actor::{Actor, Company, Stage};
 use vq_order::Ordered;
 use vq_turns::outcome::Outcome;
@@ -37,16 +36,16 @@ impl Lent for Brand {
 }
 
 /// A room with what its turns go over.
-pub struct RoomStage<'a, R, J: Lent> {
+pub struct RoomStage<'a, L, J: Lent> {
     room: AccessRoom,
-    grounds: &'a Grounds<'a, R>,
+    grounds: &'a Grounds<'a, L>,
     of: PhantomData<J>,
     ghost board: { IsRoomOf (board_at grounds.now) room },
     ghost same_owner: { room.owner ≡ J.owner },
     ghost same_table: { id_of (board_at grounds.now) ≡ J.table },
 }
 
-impl<'a, R: Wait, J: Lent> Stage for RoomStage<'a, R, J> {
+impl<'a, L: Lists, J: Lent> Stage for RoomStage<'a, L, J> {
     ghost use Rattle.std.specs.Prelude.{true};
     ghost use Rattle.vq_rooms.specs.Rooming.{shown_by, staged};
     ghost use Rattle.vq_access.specs.Served.{is_served};
@@ -67,9 +66,9 @@ impl<'a, R: Wait, J: Lent> Stage for RoomStage<'a, R, J> {
 }
 
 /// One turn over a stage that is made for it.
-fn turn_named<J: Lent, R: Wait>(
+fn turn_named<J: Lent, L: Lists>(
     room: AccessRoom,
-    grounds: &Grounds<R>,
+    grounds: &Grounds<L>,
     company: &Company,
 ) -> (AccessRoom, Outcome)
     requires company { IsCompanyOf (plan_at grounds.now) company.now }
@@ -83,7 +82,7 @@ fn turn_named<J: Lent, R: Wait>(
     ensures shown { ShowsBlocked room result.0 result.1 }
 {
     let owner = room.owner();
-    let mut stage = RoomStage::<R, J> {
+    let mut stage = RoomStage::<L, J> {
         room,
         grounds,
         of: PhantomData,
@@ -101,10 +100,10 @@ impl AccessRoom {
     /// One turn of the room's own actor: the room after it, with the event that was made, or why none was. The host's
     /// serves the submit actors of deferred queues too. Where nothing could be done, the room shows the want since the
     /// turn's start. All its turns together answer each host step that asks something once at most. It waits for
-    /// nothing but the locks of timelines, and takes no memory.
-    pub fn take_turn<R: Wait>(
+    /// nothing but the locks of timelines, and for these where the lists of the grounds wait, and takes no memory.
+    pub fn take_turn<L: Lists>(
         self,
-        grounds: &Grounds<R>,
+        grounds: &Grounds<L>,
         company: &Company,
     ) -> (AccessRoom, Outcome)
         requires company { IsCompanyOf (plan_at grounds.now) company.now }
@@ -116,7 +115,7 @@ impl AccessRoom {
         ensures few { length (view_of result.0).told ≤ length (asking (plan_at grounds.now)) }
         ensures shown { ShowsBlocked self result.0 result.1 }
     {
-        let (room, outcome) = turn_named::<Brand, R>(self, grounds, company);
+        let (room, outcome) = turn_named::<Brand, L>(self, grounds, company);
         let _ = &room.owner;
         (room, outcome)
     }

@@ -13,8 +13,7 @@ ghost use Rattle.vq_turns.specs.declared.outcome.Outcome.{Outcome as AnyOutcome}
 
 use crate::room::AccessRoom;
 use std::snapshot::Snapshot;
-use std::sync::Wait;
-use vq_access::{Grounds, turn_at};
+use vq_access::{Grounds, Lists, turn_at};
 use vq_actor::Actor;
 use vq_model::script::ActorName;
 use vq_turns::outcome::Outcome;
@@ -34,7 +33,7 @@ fn served_queue(owner: ActorName, name: ActorName) -> Option<u32>
 
 impl AccessRoom {
     /// One turn of an actor that the room serves.
-    pub(crate) fn turn<R: Wait>(&mut self, grounds: &Grounds<R>, actor: &Actor) -> Outcome
+    pub(crate) fn turn<L: Lists>(&mut self, grounds: &Grounds<L>, actor: &Actor) -> Outcome
         requires board { IsRoomOf (board_at grounds.now) self.old }
         requires own { actor.now ≡ acting_of (plan_at grounds.now) actor.now.name }
         requires serves { is_served (plan_at grounds.now) self.old.owner actor.now.name ≡ true }

@@ -14,3 +14,5 @@ pub mod rings;
 pub mod scene;
 pub mod shelves;
 pub mod submitting;
+#[cfg(test)]
+mod trying_tests;

@@ -3,18 +3,18 @@ use Rattle.std.proofs.lemmas.Bool.{ltb-true}
 use Rattle.std.proofs.lemmas.Option.{slice_get-get_or}
 use Rattle.std.proofs.Common.{length}
 use Rattle.vq_board.specs.Named.{plan_of}
-use Rattle.vq_access.proofs.Listing.{asked_there, completed_there}
+use Rattle.vq_access.proofs.Listing.{asked_or, asked_there, completed_by}
 use Rattle.vq_access.proofs.lists.collected_on.Goals as goal
 
 pub returns-in-Some-clause-completed : goal.returns-in-Some-clause-completed
-returns-in-Some-clause-completed g c e is =
+returns-in-Some-clause-completed g c =
     let found = c.in-Some.ensures.lookup in
     let at =
     slice_get-get_or c.args.timelines.now c.args.chain c.in-Some.timeline.now
     (ltb-true c.args.chain (length c.args.timelines.now) (sym found.0))
     ∙ ap Some (sym found.1) in
-    completed_there (plan_of c.args.board.now) _ c.args.chain _ _ c.collect.result e c.collect.ensures.4 is
-    (c.requires.each c.args.chain c.in-Some.timeline.now at).1
+    completed_by (plan_of c.args.board.now) c.in-Some.timeline.now c.args.chain c.collect.result
+    c.collect.ensures.asked (c.requires.each c.args.chain c.in-Some.timeline.now at).1
 
 pub returns-in-Some-clause-asked : goal.returns-in-Some-clause-asked
 returns-in-Some-clause-asked g c x at =
@@ -23,4 +23,5 @@ returns-in-Some-clause-asked g c x at =
     slice_get-get_or c.args.timelines.now c.args.chain c.in-Some.timeline.now
     (ltb-true c.args.chain (length c.args.timelines.now) (sym found.0))
     ∙ ap Some (sym found.1) in
-    asked_there (plan_of c.args.board.now) c.in-Some.timeline.now x c.collect.result (sym here ∙ at) c.collect.ensures
+    asked_there (g.L.Lists.tries c.args.lists.now) (plan_of c.args.board.now) c.in-Some.timeline.now x c.collect.result
+    (sym here ∙ at) (asked_or (g.L.Lists.tries c.args.lists.now) (plan_of c.args.board.now) c.in-Some.timeline.now c.collect.result c.collect.ensures.asked c.collect.ensures.in_use)

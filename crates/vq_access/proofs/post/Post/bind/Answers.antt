@@ -2,14 +2,21 @@ use Rattle.std.proofs.Common.{◌<◌, ◌≡◌, ◌∙◌, Some, Ok, Err, leng
 use Rattle.vq_board.specs.Named.{plan_of}
 use Rattle.vq_model.specs.declared.plan.Event.TheVariants.{Bind as Binds}
 use Rattle.vq_timeline.specs.declared.timeline.LockedTimeline.{LockedTimeline}
-use Rattle.vq_timeline.specs.Named.{chain_at}
+use Rattle.vq_timeline.specs.Answers.{IsBindRefused}
+use Rattle.vq_timeline.specs.Named.{Asked, chain_at, state_of}
+use Rattle.vq_timeline_laws.specs.Calls.{HasBound}
 use Rattle.vq_access.specs.Asking.{HasTied, want_by}
+use Rattle.vq_access.specs.Lasts.{recent_of}
+use Rattle.vq_access.specs.Posts.{lenders_of}
+use Rattle.vq_actor.specs.Answers.{IsBindOf, bound_or}
+use Rattle.vq_actor.specs.Meanings.{Other}
+use Rattle.vq_turns.specs.declared.outcome.Want.TheVariants.{Listed}
 use Rattle.std.specs.List.{slice_get}
 use Rattle.vq_model.specs.Plan.{Plan}
 use Rattle.vq_turns.specs.declared.task.Task.TheVariants.{Bind}
 use Rattle.vq_turns.specs.Turns.{forward}
 use Rattle.vq_access.proofs.Existing.{bind_exists, found_chain}
-use Rattle.vq_access.proofs.Listing.{asked_at, binds_truly}
+use Rattle.vq_access.proofs.Listing.{asked_at, binds_truly, err_of, ok_of, refused_lists}
 use Rattle.vq_access.proofs.Posting.{counts, fits_on, here, of_board_plan, seen_by, true_at}
 use Rattle.vq_access.proofs.post.Post.bind.Goals as goal
 
@@ -29,14 +36,14 @@ timeline_at-timeline-requires-clause-exists g c =
 pub forward-requires : goal.forward-requires
 forward-requires g c = counts c.args.self.now (Bind c.args.op) c.requires
 
-pub invariant_of-self-clause-places : goal.invariant_of-self-clause-places
-invariant_of-self-clause-places g c =
+pub invariant_of-self-in-Ok-clause-places : goal.invariant_of-self-in-Ok-clause-places
+invariant_of-self-in-Ok-clause-places g c =
     let x = c.args.self.now in
     true_at x (seen_by x) (seen_by x) c.forward.new.self (forward (here x)) refl c.forward.ensures
     (binds_truly x c.plan-lawful.ensures.read c.plan-lawful.ensures.lawful c.args.op c.requires)
 
-pub invariant_of-self-clause-fits : goal.invariant_of-self-clause-fits
-invariant_of-self-clause-fits g c =
+pub invariant_of-self-in-Ok-clause-fits : goal.invariant_of-self-in-Ok-clause-fits
+invariant_of-self-in-Ok-clause-fits g c =
     fits_on c.args.self.now (Bind c.args.op) c.requires c.forward.new.self c.forward.ensures
 
 pub returns-in-Ok-clause-asked : goal.returns-in-Ok-clause-asked
@@ -45,8 +52,14 @@ returns-in-Ok-clause-asked g c t x of at =
     let b = plan_of y.board.now in
     let same = asked_at b b y.timelines.now c.args.op t c.op-found.result c.timeline_at-timeline.result.now x refl
     c.op-found.ensures of c.timeline_at-timeline.ensures.there at in
-    subst (λ (z : LockedTimeline). HasTied b z c.args.op (Ok (Binds c.args.op c.in-Ok.point))) same
-    (inl (c.in-Ok.point, refl, c.in-Ok.ensures.bound))
+    inl (subst (λ (z : LockedTimeline). HasTied b z c.args.op (Ok (Binds c.args.op c.in-Ok.point))) same
+    (inl (
+      c.in-Ok.point,
+      refl,
+      ok_of c.in-Some.answer
+          (λ q. Asked c.timeline_at-timeline.result.now (λ u v. HasBound b (state_of u) (state_of v) c.args.op q)) c.in-Ok.point
+          c.in-Ok.is c.in-Some.ensures.bound,
+    )))
 
 pub returns-in-Err-clause-asked : goal.returns-in-Err-clause-asked
 returns-in-Err-clause-asked g c t x of at =
@@ -58,5 +71,21 @@ returns-in-Err-clause-asked g c t x of at =
     sym c.timeline_at-timeline.ensures.chain in
     let want = c.held_back-want.ensures.fault
     ∙ (λ k. want_by (sym y.planned k) (chain k) c.args.op c.in-Err.fault) in
-    subst (λ (z : LockedTimeline). HasTied b z c.args.op (Err c.held_back-want.result)) same
-    (inr (c.in-Err.fault, ap Err want, c.in-Err.ensures.refused))
+    inl (subst (λ (z : LockedTimeline). HasTied b z c.args.op (Err c.held_back-want.result)) same
+    (inr (
+      c.in-Err.fault,
+      ap Err want,
+      err_of c.in-Some.answer
+          (λ k. Asked c.timeline_at-timeline.result.now (λ u v. IsBindRefused b (state_of u) (state_of v) c.args.op k)) c.in-Err.fault
+          c.in-Err.is c.in-Some.ensures.refused,
+    )))
+
+pub returns-in_default-clause-answer : goal.returns-in_default-clause-answer
+returns-in_default-clause-answer g c =
+    let x = c.args.self.now in
+    refused_lists (lenders_of x) x.ordered.now x.actor (here x) (recent_of x.last) Other (seen_by x) x.refused.now
+    c.keep.new.self (Listed c.args.op) refl c.keep.ensures.kept c.keep.ensures.more (forward (here x))
+    (λ w. bound_or x.ordered.now w c.args.op) (IsBindOf c.args.op)
+
+pub returns-in_default-clause-asked : goal.returns-in_default-clause-asked
+returns-in_default-clause-asked g c t x of at = inr (c.bind.ensures.in_use c.in_default.is, refl)

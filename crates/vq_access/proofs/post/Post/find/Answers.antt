@@ -7,7 +7,7 @@ use Rattle.vq_board.specs.Named.{view}
 use Rattle.vq_access.proofs.Finds.{found_learned, found_past, found_pending, finds_now}
 use Rattle.vq_access.proofs.Looking.{learned}
 use Rattle.vq_access.proofs.Posting.{counts, here, learned_of, other_finds, true_at}
-use Rattle.vq_access.proofs.Waiting.{passes_truly}
+use Rattle.vq_access.proofs.Waits.{passes_truly}
 use Rattle.vq_access.proofs.post.Post.find.Goals as goal
 
 pub pass-requires : goal.pass-requires

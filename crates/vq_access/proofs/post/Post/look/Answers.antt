@@ -12,7 +12,7 @@ use Rattle.vq_board.specs.Named.{view}
 use Rattle.vq_board_laws.specs.PointSteps.{sees}
 use Rattle.vq_access.proofs.Posting.{here, seen_by, true_at}
 use Rattle.vq_access.proofs.Untaking.{refused_look}
-use Rattle.vq_access.proofs.Waiting.{carried, fits_here, not_set, set_so, looks_there, looks_listed, looked_at_point, meets_truly}
+use Rattle.vq_access.proofs.Waits.{carried, fits_here, not_set, set_so, looks_there, looks_listed, looked_at_point, meets_truly}
 use Rattle.vq_access.proofs.post.Post.look.Goals as goal
 
 pub look-requires-clause-exists : goal.look-requires-clause-exists

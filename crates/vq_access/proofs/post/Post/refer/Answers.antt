@@ -8,7 +8,7 @@ use Rattle.vq_board.specs.Named.{view}
 use Rattle.vq_board_laws.specs.PointSteps.{sees, refers}
 use Rattle.vq_access.specs.Lasts.{recent_of}
 use Rattle.vq_access.proofs.Posting.{few_needs, here, other_finds, seen_by, true_at}
-use Rattle.vq_access.proofs.Waiting.{fits_here, lost_of, moved_of, moved_point, refers_may, refers_truly, lost_point}
+use Rattle.vq_access.proofs.Waits.{fits_here, lost_of, moved_of, moved_point, refers_may, refers_truly, lost_point}
 use Rattle.vq_access.proofs.post.Post.refer.Goals as goal
 
 pub refer-requires-clause-may : goal.refer-requires-clause-may

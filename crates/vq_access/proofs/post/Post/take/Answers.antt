@@ -13,7 +13,9 @@ use Rattle.vq_actor.specs.Meanings.{Other}
 use Rattle.vq_access.specs.Lasts.{recent_of}
 use Rattle.vq_access.specs.Posts.{lenders_of}
 use Rattle.vq_access.proofs.Existing.{take_chain_there, chain_there}
-use Rattle.vq_access.proofs.Listing.{refused_lists, takes_truly}
+use Rattle.vq_access.proofs.Listing.{err_of, ok_of, refused_lists, takes_truly}
+use Rattle.vq_timeline.specs.Named.{Asked, state_of}
+use Rattle.vq_timeline_laws.specs.Calls.{HasTaken, IsTakeRefused}
 use Rattle.vq_access.proofs.Posting.{counts, fits_on, here, of_board_plan, seen_by, true_at}
 use Rattle.vq_access.proofs.post.Post.take.Goals as goal
 
@@ -39,19 +41,26 @@ forward-requires g c =
     let x = c.args.self.now in
     counts x (Take c.args.op (emptied (recent_of x.last))) c.requires.is_next
 
-pub invariant_of-self-clause-places : goal.invariant_of-self-clause-places
-invariant_of-self-clause-places g c =
+pub invariant_of-self-in-Ok-clause-places : goal.invariant_of-self-in-Ok-clause-places
+invariant_of-self-in-Ok-clause-places g c =
     let x = c.args.self.now in
     true_at x (seen_by x) (seen_by x) c.forward.new.self (forward (here x)) refl c.forward.ensures
     (takes_truly x c.plan-lawful.ensures.read c.plan-lawful.ensures.lawful c.args.op (emptied (recent_of x.last)) c.requires.is_next)
 
-pub invariant_of-self-clause-fits : goal.invariant_of-self-clause-fits
-invariant_of-self-clause-fits g c =
+pub invariant_of-self-in-Ok-clause-fits : goal.invariant_of-self-in-Ok-clause-fits
+invariant_of-self-in-Ok-clause-fits g c =
     let x = c.args.self.now in
     fits_on x (Take c.args.op (emptied (recent_of x.last))) c.requires.is_next c.forward.new.self c.forward.ensures
 
 pub returns-in-Err-clause-answer : goal.returns-in-Err-clause-answer
 returns-in-Err-clause-answer g c =
+    let x = c.args.self.now in
+    refused_lists (lenders_of x) x.ordered.now x.actor (here x) (recent_of x.last) Other (seen_by x) x.refused.now
+    c.keep-in-Err.new.self (Listed c.args.op) refl c.keep-in-Err.ensures.kept c.keep-in-Err.ensures.more (forward (here x))
+    (λ w. Ok (taken w c.args.op (emptied (recent_of x.last)))) (IsTakeOf c.args.op)
+
+pub returns-in_default-clause-answer : goal.returns-in_default-clause-answer
+returns-in_default-clause-answer g c =
     let x = c.args.self.now in
     refused_lists (lenders_of x) x.ordered.now x.actor (here x) (recent_of x.last) Other (seen_by x) x.refused.now
     c.keep.new.self (Listed c.args.op) refl c.keep.ensures.kept c.keep.ensures.more (forward (here x))
@@ -64,8 +73,14 @@ returns-in-Ok-clause-asked g c x at =
     let same = same_some l x
     (sym c.timeline_at-timeline.ensures.there
     ∙ (ap (λ (n : ℕ). slice_get y.timelines.now n) c.emptied_chain-chain.ensures ∙ at)) in
-    subst (λ (z : LockedTimeline). HasGiven (plan_of y.board.now) z c.args.op (Ok c.taking.result)) same
-    (inl (c.in-Ok.taken, ap Ok c.taking.ensures.named, c.in-Ok.ensures.taken))
+    inl (subst (λ (z : LockedTimeline). HasGiven (plan_of y.board.now) z c.args.op (Ok c.taking.result)) same
+    (inl (
+      c.in-Ok.taken,
+      ap Ok c.taking.ensures.named,
+      ok_of c.in-Some.answer
+          (λ t. Asked l (λ u v. HasTaken (plan_of y.board.now) (state_of u) (state_of v) c.args.op t)) c.in-Ok.taken c.in-Ok.is
+          c.in-Some.ensures.taken,
+    )))
 
 pub returns-in-Err-clause-asked : goal.returns-in-Err-clause-asked
 returns-in-Err-clause-asked g c x at =
@@ -74,5 +89,14 @@ returns-in-Err-clause-asked g c x at =
     let same = same_some l x
     (sym c.timeline_at-timeline.ensures.there
     ∙ (ap (λ (n : ℕ). slice_get y.timelines.now n) c.emptied_chain-chain.ensures ∙ at)) in
-    subst (λ (z : LockedTimeline). HasGiven (plan_of y.board.now) z c.args.op (Err (Listed c.args.op))) same
-    (inr (c.in-Err.place, refl, c.in-Err.ensures.refused))
+    inl (subst (λ (z : LockedTimeline). HasGiven (plan_of y.board.now) z c.args.op (Err (Listed c.args.op))) same
+    (inr (
+      c.in-Err.place,
+      refl,
+      err_of c.in-Some.answer
+          (λ t. Asked l (λ u v. IsTakeRefused (plan_of y.board.now) (state_of u) (state_of v) c.args.op t)) c.in-Err.place c.in-Err.is
+          c.in-Some.ensures.refused,
+    )))
+
+pub returns-in_default-clause-asked : goal.returns-in_default-clause-asked
+returns-in_default-clause-asked g c x at = inr (c.take_for.ensures.in_use c.in_default.is, refl)

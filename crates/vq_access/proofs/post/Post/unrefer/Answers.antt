@@ -5,7 +5,7 @@ use Rattle.vq_actor.proofs.Cited.{fits_give_back}
 use Rattle.vq_board.specs.Named.{view}
 use Rattle.vq_board_laws.specs.PointSteps.{sees, unrefers}
 use Rattle.vq_access.proofs.Posting.{counts, here, other_finds, seen_by, true_at}
-use Rattle.vq_access.proofs.Waiting.{lost_of, gives_there, gives_listed, gives_truly, lost_point}
+use Rattle.vq_access.proofs.Waits.{lost_of, gives_there, gives_listed, gives_truly, lost_point}
 use Rattle.vq_access.proofs.post.Post.unrefer.Goals as goal
 
 pub unrefer-requires-clause-exists : goal.unrefer-requires-clause-exists

@@ -1,0 +1,111 @@
+//! What the calls that try a timeline's lock answer: nothing while it is held, and else what those that wait for it
+//! answer.
+ghost use Rattle.std.specs.Prelude.{[]};
+ghost use Rattle.vq_board.specs.Named.{plan_of};
+ghost use Rattle.vq_board_actors.specs.Holders.{HasSubmitted, HasReleased};
+ghost use Rattle.vq_board_stage.specs.Dealing.{AreNew};
+ghost use Rattle.vq_timeline_tests.specs.TwoBatches.{IsOfTwoBatches};
+ghost use Rattle.vq_timeline_tests.specs.Locked.{IsFirstAt};
+
+use crate::host::submit;
+use crate::locked::locked;
+use crate::rings::{ring, run_first};
+use crate::submitting::{release_first, submitter};
+use std::alloc::Global;
+use std::sync::Wait;
+use vq_board::{Board, JobState, Pass, Passes};
+use vq_timeline::{BindFault, Collected, LockedTimeline};
+use vq_timeline_core::{OpPlace, Taken};
+
+/// No call has an answer.
+fn answers_nothing(board: &Board, timeline: &LockedTimeline) -> bool
+    requires plan { IsOfTwoBatches (plan_of board.now) }
+    requires timeline { IsFirstAt board.now timeline.now }
+{
+    timeline.try_place_of(board, 0).is_none()
+        && timeline.try_take_for(board, 0).is_none()
+        && timeline.try_bind(board, 0).is_none()
+        && timeline.try_collect(board).is_none()
+}
+
+/// So it is while the lock is held.
+fn finds_in_use<R: Wait>(rt: &R, board: &Board, timeline: &LockedTimeline) -> bool
+    requires plan { IsOfTwoBatches (plan_of board.now) }
+    requires timeline { IsFirstAt board.now timeline.now }
+{
+    let guard = timeline.lock(rt, board);
+    let nothing = answers_nothing(board, timeline);
+    timeline.unlock(board, guard);
+    nothing
+}
+
+/// Operation 0 has no point, is given point 0, and isn't given another.
+fn takes_once(board: &Board, timeline: &LockedTimeline) -> bool
+    requires plan { IsOfTwoBatches (plan_of board.now) }
+    requires timeline { IsFirstAt board.now timeline.now }
+{
+    timeline.try_place_of(board, 0) == Some(OpPlace::Without)
+        && timeline.try_take_for(board, 0) == Some(Ok(Taken::Fresh(0)))
+        && timeline.try_take_for(board, 0) == Some(Err(OpPlace::Taken { point: 0 }))
+}
+
+/// It isn't bound while its batch, which is submitted, isn't released; it is once it is.
+fn binds_released(
+    board: &Board,
+    timeline: &LockedTimeline,
+    host: &mut Pass,
+    submitter: &mut Pass,
+) -> bool
+    requires plan { IsOfTwoBatches (plan_of board.now) }
+    requires timeline { IsFirstAt board.now timeline.now }
+    requires host { HasSubmitted board.now host.old 0 }
+    requires submitter { HasReleased board.now submitter.old 0 [] }
+{
+    submit(board, host, 0);
+    let seen = JobState::Submitted;
+    timeline.try_bind(board, 0) == Some(Err(BindFault::NotReleased { seen }))
+        && release_first(board, submitter)
+        && timeline.try_bind(board, 0) == Some(Ok(0))
+}
+
+/// Once its signal is made, it is completed and its point freed.
+fn collects_all(board: &Board, timeline: &LockedTimeline) -> bool
+    requires plan { IsOfTwoBatches (plan_of board.now) }
+    requires timeline { IsFirstAt board.now timeline.now }
+{
+    timeline.try_collect(board) == Some(Collected::Completed(0))
+        && timeline.try_collect(board) == Some(Collected::Freed(0))
+        && timeline.try_collect(board) == Some(Collected::Nothing)
+}
+
+/// All of that on a board of its own.
+fn goes_on<R: Wait>(
+    rt: &R,
+    board: &Board,
+    timeline: &LockedTimeline,
+    passes: &mut Passes,
+) -> Option<bool>
+    requires plan { IsOfTwoBatches (plan_of board.now) }
+    requires timeline { IsFirstAt board.now timeline.now }
+    requires passes { AreNew board.now passes.old }
+{
+    let mut submitter = submitter(board, &mut passes.submits)?;
+    let mut ring = ring(board, &mut passes.rings)?;
+    Some(
+        finds_in_use(rt, board, timeline)
+            && takes_once(board, timeline)
+            && binds_released(board, timeline, &mut passes.host, &mut submitter)
+            && run_first(board, &mut ring)
+            && collects_all(board, timeline),
+    )
+}
+
+fn has_gone_on<R: Wait>(rt: &R, alloc: Global) -> Option<bool> {
+    let (board, timeline, mut passes) = locked(alloc)?;
+    goes_on(rt, &board, &timeline, &mut passes)
+}
+
+#[test]
+fn lists_in_use_have_no_answer(rt: HostRuntime) {
+    assert!(rt; has_gone_on(&rt, rt.alloc()) == Some(true));
+}
