@@ -98,17 +98,6 @@ pub fn places(form: LineForm) -> &'static [Token]
     }
 }
 
-/// The forms of a batch that the second version adds: waits that hold back a part of it.
-fn held_forms(version: u32) -> &'static [LineForm]
-    ensures { result.now ≡ held_forms version }
-{
-    if version == 2 {
-        &[HeldTimelineLine, HeldBinaryLine]
-    } else {
-        &[]
-    }
-}
-
 /// The line that begins a schedule stands in a text with one alone.
 fn schedule_forms(form: Form) -> &'static [LineForm]
     ensures { result.now ≡ schedule_forms form }
@@ -233,6 +222,7 @@ fn matches(words: &[&[u8]], form: LineForm) -> bool
 }
 
 /// The first of these forms that words match.
+#[inline(always)]
 fn first_match(forms: &[LineForm], words: &[&[u8]]) -> Option<LineForm>
     ensures { result ≡ find (matches (texts words.now)) forms.now }
 {
@@ -251,13 +241,25 @@ pub fn is_version(words: &[&[u8]]) -> bool
     matches(words, VersionLine)
 }
 
+/// The first that words match of the forms of a batch that the second version adds: waits that hold back a part of it.
+fn held_match(version: u32, words: &[&[u8]]) -> Option<LineForm>
+    ensures { result ≡ find (matches (texts words.now)) (held_forms version) }
+{
+    if version == 2 {
+        first_match(&[HeldTimelineLine, HeldBinaryLine], words)
+    } else {
+        None
+    }
+}
+
 /// The form of a line's words in a part of a text of this form and version. The line that names the version
 /// is none of them.
+#[inline(always)]
 pub fn form_of(form: Form, version: u32, section: Section, words: &[&[u8]]) -> Option<LineForm>
     ensures { result ≡ find (matches (texts words.now)) (forms_of form version section) }
 {
     if let Section::InBatch = section {
-        if let Some(found) = first_match(held_forms(version), words) {
+        if let Some(found) = held_match(version, words) {
             return Some(found);
         }
     }
