@@ -3,7 +3,6 @@ use Rattle.std.proofs.Common.{ℕ, ◌≡◌, ◌+◌, Bool, true, false, ◌||�
 use Rattle.std.specs.List.{position, position_or_len, list_any}
 use Rattle.std.specs.Option.{is_some}
 use Rattle.std.specs.Str.{bytes_eq}
-use Rattle.std.specs.declared.cmp.Ordering.{Ordering}
 use Rattle.std.specs.Ordering.{is_eq, nat_cmp, eq_by_cmp}
 use Rattle.std.specs.Cmp.Lexicographic.{slice_cmp}
 use Rattle.std.specs.BTreeMap.{BTreeMap, Updates, is_at}
@@ -16,6 +15,10 @@ use Rattle.std.proofs.lemmas.Bool.Decides.{nat_tests}
 use Rattle.std.proofs.lemmas.Map.Text.{is_eq-slice_cmp}
 use Rattle.std.proofs.lemmas.Slice.Eq.{bytes_eq-Decides}
 use Rattle.std.proofs.lemmas.Bool.{or_parts}
+use Rattle.std.proofs.lemmas.List.Elements.{All-weaker}
+use Rattle.std.proofs.lemmas.Option.{none-some}
+use Rattle.std.specs.List.{All}
+use Rattle.vq_script.specs.declared.names.Entry.{Entry}
 use Rattle.vq_model.specs.declared.script.Buffer.{Buffer}
 use Rattle.vq_model.specs.declared.script.Semaphore.{Semaphore}
 use Rattle.vq_model.specs.declared.script.SemaphoreKind.{SemaphoreKind}
@@ -27,7 +30,7 @@ use Rattle.vq_model.specs.Context.{is_timeline, is_binary, is_fence, is_threaded
 use Rattle.vq_model.specs.Forms.{Slot, BufferName, TimelineName, BinaryName, FenceName, QueueName, ThreadedName}
 use Rattle.vq_script.specs.declared.named_item.NamedItem.{NamedItem}
 use Rattle.vq_script.specs.declared.named_item.NamedItem.TheVariants.{Buffer as BufferAt, Timeline as TimelineAt, Binary as BinaryAt, Fence as FenceAt, Queue as QueueAt}
-use Rattle.vq_script.specs.Names.{item_of, semaphore_item, number_in, names_buffer, names_timeline, names_binary, names_fence, names_queue, names_threaded}
+use Rattle.vq_script.specs.Names.{item_of, key_cmp, semaphore_item, number_in, names_buffer, names_timeline, names_binary, names_fence, names_queue, names_threaded}
 use Rattle.vq_model.specs.Context.{number_in as number_among, is_taken}
 
 -- the first place that passes is in the list where any element passes
@@ -74,10 +77,6 @@ same_found p xs x e =
     let more = position_or_len_push p xs x in
     grind (arith, nat_tests)
 
--- how the map's keys compare
-abbrev key_cmp : Vec ℕ → Vec ℕ → Ordering
-key_cmp x y = slice_cmp nat_cmp x.items y.items
-
 -- the test of a key by its bytes
 abbrev has_bytes : List ℕ → Vec ℕ → Bool
 has_bytes name = is_at (λ k. slice_cmp nat_cmp name k.items)
@@ -93,7 +92,7 @@ other_names old new test h = h
 
 -- after a name is put into the map, it stands for what was put there, and each other name for what
 -- it stood for
-after_put : (old new : BTreeMap (Vec ℕ) NamedItem) (k : Vec ℕ) (d : NamedItem) →
+pub after_put : (old new : BTreeMap (Vec ℕ) NamedItem) (k : Vec ℕ) (d : NamedItem) →
     Updates key_cmp old new k (Some d) → (name : List ℕ) (b : Bool) → bytes_eq name k.items ≡ b →
     item_of new name ≡ cond b (Some d) (item_of old name)
 after_put old new k d put name true e =
@@ -320,6 +319,19 @@ abbrev pub HasNames : BTreeMap (Vec ℕ) NamedItem → List Buffer → List Sema
 HasNames names buffers semaphores queues = (place : Slot) (name : List ℕ) →
     number_in place (item_of names name) ≡ number_among buffers semaphores queues place name
 
+-- a name that nothing declared has stands for nothing
+pub name_free : (names : BTreeMap (Vec ℕ) NamedItem) (buffers : List Buffer) (semaphores : List Semaphore)
+    (queues : List Queue) (name : List ℕ) → HasNames names buffers semaphores queues →
+    is_taken buffers semaphores queues name ≡ false → item_of names name ≡ None
+name_free names buffers semaphores queues name was fresh =
+    by_item (item_of names name)
+    (taken_found buffers semaphores queues name (item_of names name) (was BufferName name) (was TimelineName name)
+    (was BinaryName name) (was FenceName name) (was QueueName name) ∙ fresh)
+  where
+    by_item : (d : Option NamedItem) → is_some d ≡ false → d ≡ None
+    by_item None h = refl
+    by_item (Some d) h = absurd (cc)
+
 module _ (old new : BTreeMap (Vec ℕ) NamedItem) (k : Vec ℕ) (d : NamedItem)
     (buffers : List Buffer) (semaphores : List Semaphore) (queues : List Queue)
     (put : Updates key_cmp old new k (Some d)) (was : HasNames old buffers semaphores queues)
@@ -439,3 +451,27 @@ module _ (old new : BTreeMap (Vec ℕ) NamedItem) (k : Vec ℕ) (d : NamedItem)
       others_threaded (ap (λ (i : NamedItem). number_in ThreadedName (Some i)) is ∙ no_threaded x.kind n)
       name
   semaphore_named n x is named last other name = refl
+
+-- Each entry has what its name stands for.
+abbrev pub IsFound : BTreeMap (Vec ℕ) NamedItem → Entry → Type 0
+IsFound names e = item_of names e.name.items ≡ Some e.item
+
+-- .. also after a name is put into the map that stood for nothing
+pub still_found : (old new : BTreeMap (Vec ℕ) NamedItem) (k : Vec ℕ) (d : NamedItem) →
+    Updates key_cmp old new k (Some d) → item_of old k.items ≡ None → (entries : List Entry) →
+    All (IsFound old) entries → All (IsFound new) entries
+still_found old new k d put free entries was =
+    All-weaker (IsFound old) (IsFound new)
+    (λ e found. by_test e found (bytes_eq e.name.items k.items) refl) entries was
+  where
+    by_test : (e : Entry) → IsFound old e → (b : Bool) → bytes_eq e.name.items k.items ≡ b → IsFound new e
+    by_test e found true same =
+        absurd (none-some e.item (sym free
+        ∙ ap (item_of old) (sym ((bytes_eq-Decides e.name.items k.items).0 same)) ∙ found))
+    by_test e found false other = after_put old new k d put e.name.items false other ∙ found
+
+-- the name that is put stands for what was put there
+pub now_found : (old new : BTreeMap (Vec ℕ) NamedItem) (k : Vec ℕ) (d : NamedItem) →
+    Updates key_cmp old new k (Some d) → (name : List ℕ) → name ≡ k.items → item_of new name ≡ Some d
+now_found old new k d put name same =
+    after_put old new k d put name true ((bytes_eq-Decides name k.items).1 same)

@@ -2,6 +2,7 @@
 use Rattle.std.specs.Prelude.{ℕ, Bool, ◌&&◌, List, Option, Some, None}
 use Rattle.std.specs.Str.{bytes_eq}
 use Rattle.std.specs.Ordering.{nat_cmp}
+use Rattle.std.specs.declared.cmp.Ordering.{Ordering}
 use Rattle.std.specs.Cmp.Lexicographic.{slice_cmp}
 use Rattle.std.specs.BTreeMap.{BTreeMap, get_by}
 use Rattle.std.specs.Global.{Vec}
@@ -17,6 +18,10 @@ use Rattle.vq_script.specs.declared.named_item.NamedItem.{NamedItem}
 use Rattle.vq_script.specs.declared.named_item.NamedItem.TheVariants.{Buffer as BufferAt, Timeline as TimelineAt}
 use Rattle.vq_script.specs.declared.named_item.NamedItem.TheVariants.{Binary as BinaryAt, Fence as FenceAt}
 use Rattle.vq_script.specs.declared.named_item.NamedItem.TheVariants.{Queue as QueueAt}
+
+-- how the map's keys compare
+abbrev pub key_cmp : Vec ℕ → Vec ℕ → Ordering
+key_cmp x y = slice_cmp nat_cmp x.items y.items
 
 -- what the bytes of a name stand for in the map
 abbrev pub item_of : BTreeMap (Vec ℕ) NamedItem → List ℕ → Option NamedItem

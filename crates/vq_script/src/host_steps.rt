@@ -48,6 +48,7 @@ impl SaidStep<'_> {
 }
 
 /// The pair of a timeline's name and a numeral, where both are read.
+#[inline(always)]
 pub fn pair(known: &Known, timeline: &[u8], value: &[u8]) -> Option<Pair>
     ensures { result ≡ pair_at (number_of (kept known.now)) timeline.now value.now }
 {

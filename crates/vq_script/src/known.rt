@@ -7,10 +7,10 @@ ghost use Rattle.vq_model.specs.Context.{number_in as number_among, is_taken};
 ghost use Rattle.vq_script.specs.Names.{item_of, number_in};
 
 use crate::named_item::{NamedItem, semaphore_item};
+use crate::names::Names;
 use crate::open_batch::OpenBatch;
 use crate::parts::ScriptParts;
 use std::alloc::{AllocError, Global};
-use std::collections::BTreeMap;
 use vq_forms::Token;
 use vq_lexer::{after_mark, is_marked};
 use vq_model::limits::Limits;
@@ -42,7 +42,7 @@ pub struct Known {
     /// The turns of the schedule so far.
     pub turns: Vec<Turn>,
     /// What each declared name stands for.
-    names: BTreeMap<Vec<u8>, NamedItem>,
+    names: Names,
     ghost small_bytes: { limits.bytes < 2 ^ 32 },
     ghost small_buffers: { limits.buffers < 2 ^ 32 },
     ghost small_semaphores: { limits.semaphores < 2 ^ 32 },
@@ -53,7 +53,7 @@ pub struct Known {
     ghost few_buffers: { length buffers.items ≤ limits.buffers },
     ghost few_semaphores: { length semaphores.items ≤ limits.semaphores },
     ghost few_queues: { length queues.items ≤ limits.queues },
-    ghost all_names: { (place : Slot) (name : List ℕ) → number_in place (item_of names name)
+    ghost all_names: { (place : Slot) (name : List ℕ) → number_in place (item_of names.map name)
         ≡ number_among buffers.items semaphores.items queues.items place name },
     ghost few_turns: { length turns.items ≤ limits.turns },
 }
@@ -91,7 +91,7 @@ impl Known {
             batch: None,
             scheduled: false,
             turns: Vec::new(alloc),
-            names: BTreeMap::new(alloc),
+            names: Names::new(alloc),
         }
     }
 
@@ -150,7 +150,7 @@ impl Known {
         ensures { result ≡ is_taken self.now.buffers.items self.now.semaphores.items
             self.now.queues.items name.now }
     {
-        self.names.contains_key(name)
+        self.names.get(name).is_some()
     }
 
     /// The size of a buffer.
@@ -281,7 +281,7 @@ impl Known {
         let item = NamedItem::Buffer(self.buffers.len() as u32);
         // Room comes first, so that the name never stands in the map without its buffer.
         self.buffers.reserve(1)?;
-        self.names.insert(name, item)?;
+        self.names.insert(alloc, name, item)?;
         self.bytes += buffer.size;
         self.buffers.push_reserved(buffer);
         Ok(())
@@ -299,7 +299,7 @@ impl Known {
         let name = Vec::from_slice(alloc, semaphore.name.as_slice())?;
         let item = semaphore_item(semaphore.kind, self.semaphores.len() as u32);
         self.semaphores.reserve(1)?;
-        self.names.insert(name, item)?;
+        self.names.insert(alloc, name, item)?;
         self.semaphores.push_reserved(semaphore);
         Ok(())
     }
@@ -315,7 +315,7 @@ impl Known {
         let name = Vec::from_slice(alloc, queue.name.as_slice())?;
         let item = NamedItem::Queue(self.queues.len() as u32, queue.mode);
         self.queues.reserve(1)?;
-        self.names.insert(name, item)?;
+        self.names.insert(alloc, name, item)?;
         self.queues.push_reserved(queue);
         Ok(())
     }

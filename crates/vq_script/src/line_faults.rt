@@ -20,6 +20,7 @@ use vq_model::statement::{FaultKind, LineForm};
 
 /// Whether a form is out of order: a declaration after the first batch or step of the host, a line of an earlier part
 /// of the batch, or a second fence.
+#[inline(always)]
 pub fn is_late(known: &Known, form: LineForm) -> bool
     ensures { result ≡ is_out_of_order (earlier_in (kept known.now) (open_so_far known.now.batch)) form }
 {

@@ -1,8 +1,17 @@
 use Rattle.std.proofs.Common.{◌≡◌, ◌++◌, ◌∷◌, [], refl, sym, subst, ◌∙◌, List, ℕ, false, length, arith}
 use Rattle.vq_model.specs.declared.script.Queue.{Queue}
 use Rattle.vq_model.specs.Context.{is_taken}
-use Rattle.vq_script.proofs.NamesFound.{HasNames, queue_named}
+use Rattle.vq_script.proofs.NamesFound.{HasNames, queue_named, name_free}
 use Rattle.vq_script.proofs.known.Known.add_queue.Goals as goal
+
+pub insert-requires : goal.insert-requires
+insert-requires c =
+    let known = c.args.self.now in
+    let key : c.in_ok-name.name.items ≡ c.args.queue.name = c.in_ok-name.ensures.items ∙ c.as_slice.ensures in
+    name_free known.names.map known.buffers.items known.semaphores.items known.queues.items c.in_ok-name.name.items
+    known.all_names
+    (subst (λ (bs : List ℕ). is_taken known.buffers.items known.semaphores.items known.queues.items bs ≡ false)
+    (sym key) c.requires.fresh)
 
 pub invariant_of-self-2-clause-all_names : goal.invariant_of-self-2-clause-all_names
 invariant_of-self-2-clause-all_names c =
@@ -10,8 +19,8 @@ invariant_of-self-2-clause-all_names c =
     let key : c.in_ok-name.name.items ≡ c.args.queue.name = c.in_ok-name.ensures.items ∙ c.as_slice.ensures in
     let last : c.len.result ≡ length known.queues.items = grind arith in
     let pushed : c.push_reserved.new.self.items ≡ known.queues.items ++ c.args.queue ∷ [] = grind arith in
-    subst (λ (xs : List Queue). HasNames c.insert.new.self known.buffers.items known.semaphores.items xs) (sym pushed)
-    (queue_named known.names c.insert.new.self c.in_ok-name.name _ known.buffers.items known.semaphores.items
-    known.queues.items c.in_ok-insert.ensures.updates known.all_names
+    subst (λ (xs : List Queue). HasNames c.insert.new.self.map known.buffers.items known.semaphores.items xs) (sym pushed)
+    (queue_named known.names.map c.insert.new.self.map c.in_ok-name.name _ known.buffers.items known.semaphores.items
+    known.queues.items c.in_ok-insert.ensures.put known.all_names
     (subst (λ (bs : List ℕ). is_taken known.buffers.items known.semaphores.items known.queues.items bs ≡ false)
     (sym key) c.requires.fresh) c.len.result c.args.queue refl key last)
