@@ -1,8 +1,2 @@
 mod Berthing
-mod Crewing
 mod Crossing
-mod Dealt
-mod Leading
-mod Seeing
-mod Shelving
-mod Told

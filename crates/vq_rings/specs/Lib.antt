@@ -1,4 +1,2 @@
-pub mod Answered
 pub mod Berths
-pub mod Crews
 pub mod Openings

@@ -1,13 +1,11 @@
 //! The caller: the host's turns with the answers that they give, and the look at the end.
-ghost use Rattle.std.specs.Prelude.{◌≡◌, ◌<◌, ◌≤◌, ◌++◌, [], ◌∷◌, length};
-ghost use Rattle.std.specs.Vec.{vec_len, vec_capacity};
+ghost use Rattle.std.specs.Prelude.{◌≡◌, ◌≤◌, length};
+ghost use Rattle.std.specs.Vec.{vec_capacity};
 ghost use Rattle.vq_access.specs.Grounding.{plan_at, board_at};
 ghost use Rattle.vq_actor.specs.Companies.{IsCompanyOf};
 ghost use Rattle.vq_board.specs.Named.{view};
+ghost use Rattle.vq_crew.specs.Answered.{HasSeen, IsLead};
 ghost use Rattle.vq_model.specs.Outputs.{asking};
-ghost use Rattle.vq_model.specs.OutputText.{answer_at};
-ghost use Rattle.vq_model.specs.Plan.{line_of_job};
-ghost use Rattle.vq_rings.specs.Answered.{HasSeen, IsLead, answer_by};
 ghost use Rattle.vq_rings.specs.Berths.{AreAt};
 
 use crate::berth::Berth;
@@ -17,67 +15,12 @@ use crate::rounds::{Hand, round};
 use std::sync::Wait;
 use vq_access::{Grounds, Waiting};
 use vq_actor::Company;
-use vq_board::{JobState, Pass};
-use vq_model::plan::{Answer, AnswerLine, Event};
+use vq_board::Pass;
+use vq_crew::{host_turn, sees_finished};
+use vq_model::plan::AnswerLine;
 use vq_model::script::ActorName;
 use vq_rooms::AccessRoom;
-use vq_spec::Plan;
 use vq_turns::outcome::Outcome;
-
-/// The line of a job, 0 where there is no such job.
-fn line_of(plan: &Plan, job: u32) -> u32
-    ensures { result ≡ line_of_job plan.now job }
-{
-    if job < plan.jobs() {
-        plan.job(job).line
-    } else {
-        0
-    }
-}
-
-/// Keeps an answer, with the line of its job, in room that is there.
-fn keep(plan: &Plan, answers: &mut Vec<AnswerLine>, job: u32, answer: Answer)
-    requires { vec_len answers.old < vec_capacity answers.old }
-    ensures items { answers.new.items ≡ answers.old.items ++ answer_at plan.now job answer ∷ [] }
-    ensures room { vec_capacity answers.new ≡ vec_capacity answers.old }
-{
-    let line = line_of(plan, job);
-    answers.push_reserved(AnswerLine { line, answer });
-}
-
-/// The answer that a turn gave, with its job.
-fn answer_of(outcome: Outcome) -> Option<(u32, Answer)>
-    ensures { result ≡ answer_by outcome }
-{
-    match outcome {
-        Outcome::Moved(event) => match event {
-            Event::Answer { job, answer } => Some((job, answer)),
-            _ => None,
-        },
-        Outcome::Blocked(_) | Outcome::Ended => None,
-    }
-}
-
-/// A turn of the host. An answer that it gives is kept: there is room for one to each step that asks something, and
-/// none is answered twice.
-fn host_turn<R: Wait>(
-    grounds: &Grounds<Waiting<R>>,
-    company: &Company,
-    room: AccessRoom,
-    answers: &mut Vec<AnswerLine>,
-) -> (AccessRoom, Outcome)
-    requires company { IsCompanyOf (plan_at grounds.now) company.now }
-    requires lead { IsLead (board_at grounds.now) room answers.old.items }
-    requires reserved { length (asking (plan_at grounds.now)) ≤ vec_capacity answers.old }
-    ensures lead { IsLead (board_at grounds.now) result.0 answers.new.items }
-    ensures reserved { vec_capacity answers.new ≡ vec_capacity answers.old }
-{
-    let (room, outcome) = room.take_turn(grounds, company);
-    if let Some((job, answer)) = answer_of(outcome) {
-        keep(grounds.ordered().plan(), answers, job, answer);
-    }
-    (room, outcome)
-}
 
 /// The turns of the host until it has ended, with those of the actors that have no thread.
 pub(crate) fn host_turns<R: Wait, G: Gate>(
@@ -141,7 +84,7 @@ pub(crate) fn see_all<R: Wait, G: Gate>(
             return;
         }
         let has_moved = round(grounds, company, berths, hands, gate);
-        if grounds.board().job_state(pass, seen) == JobState::Finished {
+        if sees_finished(grounds.board(), pass, seen) {
             seen += 1;
             rest.moved();
         } else if has_moved {

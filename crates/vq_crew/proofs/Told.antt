@@ -18,7 +18,7 @@ use Rattle.vq_board_laws.specs.Reached.{lines_told}
 use Rattle.vq_access_laws.specs.AccessMeanings.{answers_told, is_answer}
 use Rattle.vq_rooms.specs.Rooming.{TellsBy}
 use Rattle.vq_model.proofs.Options.{same_some}
-use Rattle.vq_rings.specs.Answered.{answer_by}
+use Rattle.vq_crew.specs.Answered.{answer_by}
 
 -- as many lines as answers that were told
 pub lines_count : (p : Plan) (told : List Told) → length (lines_told p told) ≡ length told

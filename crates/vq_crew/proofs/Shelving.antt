@@ -13,7 +13,7 @@ use Rattle.vq_board.specs.Named.{plan_of, role_of, AreFresh, IsFresh}
 use Rattle.vq_access.specs.Timelines.{AreOf}
 use Rattle.vq_timeline.specs.declared.timeline.LockedTimeline.{LockedTimeline}
 use Rattle.vq_timeline.specs.Named.{IsAt, chain_at}
-use Rattle.vq_rings.proofs.Dealt.{dealt_count, dealt_fresh, dealt_role}
+use Rattle.vq_crew.proofs.Dealt.{dealt_count, dealt_fresh, dealt_role}
 
 -- a chain with the pass of its shelf, which has done nothing
 pub record IsShelved (b : Board) (n k : ℕ) (y : ℕ × Pass) : Type 0 where

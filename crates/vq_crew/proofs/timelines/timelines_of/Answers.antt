@@ -6,8 +6,8 @@ use Rattle.std.proofs.lemmas.Iterator.Adapters.{YieldsList-from_vec}
 use Rattle.std.proofs.lemmas.Iterator.Consumers.{YieldsList-turn, YieldsList-end}
 use Rattle.vq_model.specs.Plan.{Plan}
 use Rattle.vq_board_laws.specs.declared.view.Role.TheVariants.{Shelf as ShelfRole}
-use Rattle.vq_rings.proofs.Shelving.{next_shelf, timelines_all, timelines_more, zipped}
-use Rattle.vq_rings.proofs.opening.timelines_of.Goals as goal
+use Rattle.vq_crew.proofs.Shelving.{next_shelf, timelines_all, timelines_more, zipped}
+use Rattle.vq_crew.proofs.timelines.timelines_of.Goals as goal
 
 pub new-requires : goal.new-requires
 new-requires c =

@@ -11,13 +11,16 @@ use Rattle.vq_model.specs.Plan.{Plan}
 use Rattle.vq_model.specs.ValidScripts.{IsActor}
 use Rattle.vq_board_laws.specs.declared.view.Role.{Role}
 use Rattle.vq_board_laws.specs.declared.view.Role.TheVariants.{Host, Submit, Ring}
-use Rattle.vq_board_laws.specs.Roles.{is_threaded, threaded_queues}
+use Rattle.vq_board_laws.specs.Roles.{is_threaded, role_number, threaded_queues}
+use Rattle.vq_board_laws.specs.Rule.{fresh}
 use Rattle.vq_board.specs.declared.parts.Board.{Board}
 use Rattle.vq_board.specs.declared.parts.Pass.{Pass}
-use Rattle.vq_board.specs.Named.{role_of, AreFresh, IsFresh}
+use Rattle.vq_board.specs.Named.{plan_of, role_of, view, AreFresh, IsFresh, IsOf}
 use Rattle.vq_access_laws.specs.TruePasses.{role_of_actor}
-use Rattle.vq_rings.specs.Crews.{worker_of, workers}
-use Rattle.vq_rings.proofs.Dealt.{dealt_count, dealt_fresh, dealt_role}
+use Rattle.vq_rooms.specs.Rooming.{Room, IsIdle}
+use Rattle.vq_crew.specs.Crewed.{IsWorkerOf}
+use Rattle.vq_crew.specs.Crews.{worker_of, workers}
+use Rattle.vq_crew.proofs.Dealt.{dealt_count, dealt_fresh, dealt_role}
 
 -- a worker with a pass of this role is one of the plan, and the role is its own
 abbrev pub IsOwnOf : Plan → Role → Type 0
@@ -62,6 +65,19 @@ all_due b p xs roles h own k d l =
       dealt_fresh b xs roles h k d l,
       subst (IsOwnOf p) (sym (dealt_role b xs roles h k d (role_of d) l)) (own k (role_of d) (omega arith)),
     )
+
+-- so an actor with that role has done nothing,
+pub idle_of : (b : Board) (p : Plan) (a : ActorName) (x : Pass) → plan_of b ≡ p → IsFresh b x →
+    role_of_actor p a ≡ role_of x → IsIdle p a (view x)
+idle_of b p a x plan idle role = (0, idle.1 ∙ (λ i. fresh (plan i) (role_number (plan i) (sym role i))))
+
+-- and its room is a worker's
+pub worker_room : (b : Board) (p : Plan) (a : ActorName) (x : Pass) (r : Room) → plan_of b ≡ p → IsFresh b x →
+    IsActor p.script a → r.pass ≡ x → r.owner ≡ a → IsWorkerOf b r
+worker_room b p a x r plan idle actor same owner = (
+  subst (IsOf b) (sym same) idle.0,
+  subst (λ (z : Plan × ActorName). IsActor z.0.script z.1) (λ i. (sym plan i, sym owner i)) actor,
+)
 
 abbrev pub worker_at : Pass → Option ActorName
 worker_at x = worker_of (role_of x)

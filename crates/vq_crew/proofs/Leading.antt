@@ -10,8 +10,8 @@ use Rattle.vq_board_laws.specs.Reached.{lines_told}
 use Rattle.vq_board.specs.declared.parts.Board.{Board}
 use Rattle.vq_board.specs.Named.{plan_of}
 use Rattle.vq_rooms.specs.Rooming.{Room, IsRoomOf, TellsBy, view_of}
-use Rattle.vq_rings.specs.Answered.{AreToldBy, IsLead, answer_by}
-use Rattle.vq_rings.proofs.Told.{answer_adds, other_adds, lines_count}
+use Rattle.vq_crew.specs.Answered.{AreToldBy, IsLead, answer_by}
+use Rattle.vq_crew.proofs.Told.{answer_adds, other_adds, lines_count}
 
 -- A turn of the host's room, after which it is another, with this outcome.
 module _ (b : Board) (x y : Room) (o : Outcome) (before : List AnswerLine) (lead : IsLead b x before)

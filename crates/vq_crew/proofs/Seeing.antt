@@ -11,7 +11,7 @@ use Rattle.vq_board_laws.specs.Steps.{looks}
 use Rattle.vq_board.specs.declared.parts.Board.{Board}
 use Rattle.vq_board.specs.declared.parts.Pass.{Pass}
 use Rattle.vq_board.specs.Named.{view, IsOf, Turns}
-use Rattle.vq_rings.specs.Answered.{HasSeen}
+use Rattle.vq_crew.specs.Answered.{HasSeen}
 
 -- A pass looked at a job and found it in this state.
 module _ (b : Board) (x y : Pass) (n : ℕ) (s : JobState) (before : HasSeen b x n)

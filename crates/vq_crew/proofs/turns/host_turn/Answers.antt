@@ -4,9 +4,9 @@ use Rattle.vq_model.specs.Plan.{Plan}
 use Rattle.vq_access.specs.Grounding.{plan_at, board_at}
 use Rattle.vq_board.specs.Named.{plan_of}
 use Rattle.vq_rooms.specs.Rooming.{view_of}
-use Rattle.vq_rings.proofs.Leading.{lead_answered, lead_other, has_room}
-use Rattle.vq_rings.proofs.lead.host_turn.Goals as goal
-use Rattle.vq_rings.proofs.lead.host_turn.Goals.{in-Some, in_default}
+use Rattle.vq_crew.proofs.Leading.{lead_answered, lead_other, has_room}
+use Rattle.vq_crew.proofs.turns.host_turn.Goals as goal
+use Rattle.vq_crew.proofs.turns.host_turn.Goals.{in-Some, in_default}
 
 pub keep-requires : goal.keep-requires
 keep-requires g c =

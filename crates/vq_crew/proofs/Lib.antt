@@ -1,0 +1,6 @@
+mod Crewing
+mod Dealt
+mod Leading
+mod Seeing
+mod Shelving
+mod Told

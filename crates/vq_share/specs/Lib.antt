@@ -1,0 +1,3 @@
+pub mod Players
+pub mod Shown
+pub mod Stands
