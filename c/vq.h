@@ -1,5 +1,6 @@
 /* vq for C: whether a script of queues, timelines and batches is lawful, and if not, its first fault; and runs of lawful
- * scripts, whose actors a program drives from threads of its own.
+ * scripts, whose actors a program drives from threads of its own: over one core, one call at a time, or over a board that
+ * the threads share.
  *
  * Link with libvq_c.a and with an allocator: rattle_alloc, rattle_realloc and rattle_dealloc, as the kit's liblibc_c.a
  * has them over malloc, realloc and free.
@@ -7,8 +8,8 @@
  * What a caller owes, in each call, and nothing checks: pointers are valid and not null, also at length 0; the text
  * doesn't change during the call, and the room isn't read or written by anybody else; malloc, realloc and free are of
  * one allocator and align to 16 bytes. A call may come from any thread, not from a signal handler, and not in the
- * child of a fork of a process with threads. No call waits, starts a thread, or ends the process, and only vq_open keeps
- * something, until vq_close.
+ * child of a fork of a process with threads. No call waits, starts a thread, or ends the process, and only vq_open and
+ * vq_share keep something, until vq_close and vq_actor_close.
  */
 #ifndef VQ_H
 #define VQ_H
@@ -52,6 +53,8 @@ enum vq_code {
     VQ_NO_BUFFER = 83,      /* the plan has no such buffer */
     VQ_UNFINISHED = 84,     /* not all jobs are finished yet */
     VQ_NO_ROOM = 85,        /* the room is too small: it was filled, and the rest left out */
+    VQ_NOT_HOST = 86,       /* the handle isn't the host's: nothing was done */
+    VQ_SHARED = 87,         /* other actors' handles are open still: nothing was done */
 };
 
 enum vq_event {
@@ -190,6 +193,49 @@ uint32_t vq_bytes(struct vq_run *run, uint32_t buffer, uint8_t *room, size_t siz
 
 /* Ends a run, wherever it is, and frees its memory. */
 void vq_close(struct vq_run run);
+
+/* An actor of a run that threads share, with its share of the run. vq_share writes `at`, and vq_actor_close ends it.
+ *
+ * Turns of different actors may be taken at the same time, from any threads, with nothing held round them: no call waits
+ * for another, and none wakes one. What a caller owes of an actor, and nothing checks: each call is given one that
+ * vq_share handed out and that isn't closed, as it was written; two structs don't stand for one actor; calls on one actor
+ * are made one at a time, and where it moves to another thread, a lock, a join or the like stands between.
+ */
+struct vq_actor {
+    void *at;
+};
+
+/* The most numbers that the actors of a script have: two for each of 16 queues, and the host's. */
+#define VQ_MOST_ACTORS 33
+
+/* The verdict of vq_check; where it is VQ_LAWFUL, the room has the actors of a run of the script before its first turn,
+ * each at its number (as for vq_actors, the host's is 0), and NULL in all other places; `*needed` is how many numbers
+ * there are. VQ_NO_ROOM: the script is lawful, and the room has less places than `*needed` says; the room stays. With any
+ * other code room and number stay. The size of the room is in actors. All memory of the run's turns is taken here. */
+struct vq_verdict vq_share(const uint8_t *text, size_t length, struct vq_actor *room, size_t size, size_t *needed);
+
+/* One turn of the actor: VQ_MOVED, VQ_BLOCKED or VQ_ENDED, as vq_turn has it. While another actor asks the lists of the
+ * same chain, a turn may be blocked with VQ_WANT_LISTED: nothing was done, ask again. It takes no memory. */
+uint32_t vq_actor_turn(struct vq_actor *actor, struct vq_turn *turn);
+
+/* Whether all jobs are finished, as the host sees them once it has ended: VQ_DONE, or VQ_UNFINISHED, and then ask again.
+ * VQ_NOT_HOST: another actor was asked. */
+uint32_t vq_actor_finished(struct vq_actor *host);
+
+/* What the steps of the host were answered so far, as vq_answers has it, and VQ_NOT_HOST. */
+uint32_t vq_actor_answers(struct vq_actor *host, struct vq_answered *room, size_t size, size_t *needed);
+
+/* The bytes of a buffer, as vq_bytes has it, once all jobs are finished and the host is the only actor of the run that
+ * isn't closed. VQ_UNFINISHED, VQ_SHARED (another actor is open), VQ_NOT_HOST, VQ_NO_BUFFER, VQ_NO_MEMORY: nothing was
+ * written. */
+uint32_t vq_actor_bytes(struct vq_actor *host, uint32_t buffer, uint8_t *room, size_t size, size_t *needed);
+
+/* The line of a job and what an operation signals, as vq_line and vq_op have them. */
+uint32_t vq_actor_line(struct vq_actor *actor, uint32_t job);
+uint32_t vq_actor_op(struct vq_actor *actor, uint32_t op, struct vq_signal *signal);
+
+/* Gives up an actor, wherever it is. The last one of a run frees the run's memory. */
+void vq_actor_close(struct vq_actor actor);
 
 #ifdef __cplusplus
 }

@@ -1,3 +1,3 @@
-mod Ended
+pub mod ActorValues
 pub mod HandleValues
 mod TurnedSo

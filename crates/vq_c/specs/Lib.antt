@@ -1,8 +1,4 @@
-pub mod Endings
-pub mod Codes
-pub mod Verdicts
-pub mod Explanations
-pub mod Kinds
-pub mod Turns
+pub mod ActorHandles
+pub mod Actors
 pub mod Handles
 pub mod Runs

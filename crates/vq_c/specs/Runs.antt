@@ -1,9 +1,7 @@
 -- Calls on a run, as C makes them. This project's own.
-use Rattle.std.specs.Prelude.{ℕ, ◌≡◌, ◌<◌, ◌≤◌, ◌++◌, List, [], ◌⊎◌, length, map, take, drop, nat_le, if◌then◌else◌}
-use Rattle.std.specs.Prelude.{Option, Some, None}
-use Rattle.std.specs.List.{slice_get, slice_index_or}
+use Rattle.std.specs.Prelude.{ℕ, ◌≡◌, ◌<◌, ◌≤◌, ◌++◌, List, [], ◌⊎◌, length, Option}
+use Rattle.std.specs.List.{slice_index_or}
 use Rattle.vq_model.specs.declared.plan.AnswerLine.{AnswerLine}
-use Rattle.vq_model.specs.declared.plan.Op.{Op}
 use Rattle.vq_model.specs.Machine.{AreFinished}
 use Rattle.vq_model.specs.OutputText.{answers_of, buffers_text, lines_answered}
 use Rattle.vq_model.specs.Outputs.{IsOutput}
@@ -12,18 +10,17 @@ use Rattle.vq_core.specs.CoreState.{world}
 use Rattle.vq_troupe.specs.Casts.{Cast, first_places, places}
 use Rattle.vq_turns.specs.declared.outcome.Outcome.{Outcome}
 use Rattle.vq_drive.specs.Driven.{IsTurnOf}
-use Rattle.vq_c.specs.declared.ending.Ending.{Ending}
-use Rattle.vq_c.specs.declared.ending.Ending.TheVariants.{Lawful}
-use Rattle.vq_c.specs.declared.reply.Reply.{Reply}
-use Rattle.vq_c.specs.declared.reply.Reply.TheVariants.{Done, NoMemory, NoOp, NoBuffer, Unfinished, NoRoom}
-use Rattle.vq_c.specs.declared.rows.AnswerRow.{AnswerRow}
-use Rattle.vq_c.specs.declared.rows.OpRow.{OpRow}
-use Rattle.vq_c.specs.declared.turn.Turn.{Turn}
-use Rattle.vq_c.specs.declared.verdict.Verdict.{Verdict}
-use Rattle.vq_c.specs.Endings.{IsEnding, IsLawfulPlanOf}
-use Rattle.vq_c.specs.Kinds.{answer_code, reply_code}
-use Rattle.vq_c.specs.Turns.{answer_number, reply_of, told}
-use Rattle.vq_c.specs.Verdicts.{verdict_of}
+use Rattle.vq_face.specs.declared.ending.Ending.{Ending}
+use Rattle.vq_face.specs.declared.ending.Ending.TheVariants.{Lawful}
+use Rattle.vq_face.specs.declared.reply.Reply.{Reply}
+use Rattle.vq_face.specs.declared.reply.Reply.TheVariants.{NoMemory, NoBuffer, Unfinished}
+use Rattle.vq_face.specs.declared.turn.Turn.{Turn}
+use Rattle.vq_face.specs.declared.verdict.Verdict.{Verdict}
+use Rattle.vq_face.specs.Endings.{IsEnding, IsLawfulPlanOf}
+use Rattle.vq_face.specs.Kinds.{reply_code}
+use Rattle.vq_face.specs.Rows.{fit_reply, with_front_of}
+use Rattle.vq_face.specs.Turns.{reply_of, told}
+use Rattle.vq_face.specs.Verdicts.{verdict_of}
 
 -- a run of the lawful plan of a text, before its first turn
 abbrev pub IsRunOf : List ℕ → Cast → Type 0
@@ -40,30 +37,9 @@ abbrev pub HasTurned : Cast → Cast → ℕ → Turn → Turn → ℕ → Type 
 HasTurned old new n before after code =
     (o : Option Outcome) × IsTurnOf old new n o × (after ≡ told o before) × (code ≡ reply_code (reply_of o))
 
--- Rooms
-
--- a room with as many items in front as go into it; the rest is as it was
-abbrev pub with_front_of : {A : Type 0} → List A → List A → List A
-with_front_of items room = take (length room) items ++ drop (length items) room
-
--- whether so many items go into so much room
-abbrev pub fit_reply : ℕ → ℕ → Reply
-fit_reply items room = if nat_le items room then Done else NoRoom
-
--- Answers
-
-abbrev pub row_of : AnswerLine → AnswerRow
-row_of x = record { line = x.line; kind = answer_code x.answer; value = answer_number x.answer }
-
-abbrev pub rows_of : Cast → List AnswerRow
-rows_of x = map row_of (lines_answered x.course.plan (world x.course).machine)
-
--- The answers so far stand in front of the room; or there was no memory.
-abbrev pub HasAnswered : Cast → List AnswerRow → List AnswerRow → ℕ → ℕ → ℕ → Type 0
-HasAnswered x old new before needed code =
-    ((new ≡ with_front_of (rows_of x) old) × (needed ≡ length (rows_of x))
-    × (code ≡ reply_code (fit_reply (length (rows_of x)) (length old))))
-    ⊎ ((new ≡ old) × (needed ≡ before) × (code ≡ reply_code NoMemory))
+-- what the steps of the host were answered so far
+abbrev pub answers_so_far : Cast → List AnswerLine
+answers_so_far x = lines_answered x.course.plan (world x.course).machine
 
 -- Bytes
 
@@ -90,21 +66,3 @@ HasRead x n old new before needed code =
     ((bytes : List ℕ) × IsLeft x n bytes × (new ≡ with_front_of bytes old) × (needed ≡ length bytes)
     × (code ≡ reply_code (fit_reply (length bytes) (length old))))
     ⊎ ((r : Reply) × IsUnread x n r × (new ≡ old) × (needed ≡ before) × (code ≡ reply_code r))
-
--- Signal operations
-
-abbrev pub op_row : Op → OpRow
-op_row o = record { chain = o.chain; index = o.index; job = o.job; line = o.line; value = o.value }
-
-abbrev pub op_told : Option Op → OpRow → OpRow
-op_told None before = before
-op_told (Some o) before = op_row o
-
-abbrev pub op_reply : Option Op → Reply
-op_reply None = NoOp
-op_reply (Some o) = Done
-
-abbrev pub HasOp : Cast → ℕ → OpRow → OpRow → ℕ → Type 0
-HasOp x e before after code =
-    let found : Option Op = slice_get x.course.plan.ops e in
-    (after ≡ op_told found before) × (code ≡ reply_code (op_reply found))

@@ -2,13 +2,11 @@
 //!
 //! Source: this project's own.
 ghost use Rattle.std.specs.Prelude.{◌≡◌};
-ghost use Rattle.vq_c.specs.Explanations.{IsExplained};
-ghost use Rattle.vq_c.specs.Verdicts.{IsVerdict};
+ghost use Rattle.vq_face.specs.Explanations.{IsExplained};
+ghost use Rattle.vq_face.specs.Verdicts.{IsVerdict};
 
-use crate::ending::{Ending, ending_of};
-use crate::explanation::{NO_MEMORY, explained, put};
-use crate::verdict::{Verdict, verdict_of};
 use std::alloc::Global;
+use vq_face::{Ending, NO_MEMORY, Verdict, ending_of, explained, put, verdict_of};
 
 /// The version of this face, and the latest version of scripts that it reads.
 #[repr(C)]
@@ -21,9 +19,9 @@ pub struct Version {
 /// The version.
 #[unsafe(no_mangle)]
 pub extern "C" fn vq_version() -> Version
-    ensures { result ≡ record { face = 1; script = 2 } }
+    ensures { result ≡ record { face = 2; script = 2 } }
 {
-    Version { face: 1, script: 2 }
+    Version { face: 2, script: 2 }
 }
 
 /// Whether the script that a text holds is lawful, and if not, its first fault. Any bytes may be passed, from any

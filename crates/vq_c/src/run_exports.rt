@@ -5,22 +5,21 @@ ghost use Rattle.std.specs.Prelude.{◌≡◌, ◌+◌, ◌*◌, ◌↔◌, IsTr
 ghost use Rattle.vq_core.specs.CoreState.{world};
 ghost use Rattle.vq_model.specs.Machine.{AreFinished};
 ghost use Rattle.vq_model.specs.Plan.{line_of_job};
-ghost use Rattle.vq_c.specs.Runs.{HasAnswered, HasOp, HasOpened, HasRead, HasTurned};
+ghost use Rattle.vq_c.specs.Runs.{HasOpened, HasRead, HasTurned, answers_so_far};
+ghost use Rattle.vq_face.specs.Rows.{HasAnswered, HasOp};
 
-use crate::ending::{Ending, opened};
-use crate::explanation::put;
 use crate::handle::Handle;
-use crate::kinds::reply_code;
-use crate::reply::Reply;
-use crate::rows::{AnswerRow, OpRow, fit_reply, op_reply, op_told, put_rows, rows_of};
+use crate::opening::opened;
 use crate::runs::{answered, close, counted, finished, found_op, lined, read, turned};
-use crate::turn::{Turn, reply_of, told};
-use crate::verdict::{Verdict, verdict_of};
 use core::mem::replace_with;
 use std::alloc::Global;
+use vq_face::{
+    AnswerRow, Ending, OpRow, Reply, Turn, Verdict, fit_reply, op_reply, op_told, put, put_rows,
+    reply_code, reply_of, rows_of, told, verdict_of,
+};
 
-/// The verdict on a script, and where it is lawful, a run of it before its first turn, at `run`. It takes the memory for
-/// all turns.
+/// The verdict on a script, and where it is lawful, a run of it before its first turn, at `run`. It takes the memory
+/// for all turns.
 #[unsafe(no_mangle)]
 pub extern "C" fn vq_open(alloc: Global, text: &[u8], run: &mut *mut u8) -> Verdict
     ensures { HasOpened text.now run.old run.new result }
@@ -66,7 +65,7 @@ pub extern "C" fn vq_line(run: &mut Handle, job: u32) -> u32
 #[unsafe(no_mangle)]
 pub extern "C" fn vq_op(run: &mut Handle, op: u32, row: &mut OpRow) -> u32
     ensures same { run.new.value ≡ run.old.value }
-    ensures op { HasOp run.old.value op row.old row.new result }
+    ensures op { HasOp run.old.value.course.plan.ops op row.old row.new result }
 {
     let found = replace_with(run, op, found_op);
     *row = op_told(found, *row);
@@ -93,7 +92,7 @@ pub extern "C" fn vq_answers(
     needed: &mut usize,
 ) -> u32
     ensures same { run.new.value ≡ run.old.value }
-    ensures answers { HasAnswered run.old.value room.old room.new needed.old needed.new result }
+    ensures answers { HasAnswered (answers_so_far run.old.value) room.old room.new needed.old needed.new result }
 {
     let Ok(lines) = replace_with(run, alloc, answered) else {
         return reply_code(Reply::NoMemory);

@@ -11,9 +11,9 @@ ghost use Rattle.vq_model.specs.Plan.{line_of_job};
 ghost use Rattle.vq_c.specs.Runs.{IsLeft, IsUnread};
 
 use crate::handle::Handle;
-use crate::reply::Reply;
 use std::alloc::{AllocError, Global};
 use vq_drive::{Drive, actor_count};
+use vq_face::Reply;
 use vq_loose::Loose;
 use vq_model::plan::{AnswerLine, Op};
 use vq_turns::outcome::Outcome;
