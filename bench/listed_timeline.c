@@ -2,7 +2,7 @@
  * oldest point. It is written for the comparison with vq_live, and makes the same steps with as many locks. The sync
  * object of a point is a flag here, and waits sleep on one condition variable, which each install wakes.
  *
- * listed_timeline KIND ROUNDS FLIGHT [pairs]
+ * listed_timeline KIND ROUNDS FLIGHT THREADS
  *     wake, value, find, refer, cancel, turn, whole, signal
  */
 #include <pthread.h>
@@ -232,7 +232,7 @@ int main(int count, char **words)
 {
     struct timeline t = { .lock = PTHREAD_MUTEX_INITIALIZER, .changed = PTHREAD_COND_INITIALIZER };
     struct work first = { .timeline = &t, .thread = 1 };
-    for (size_t i = 0; count >= 4 && i < sizeof steps / sizeof *steps; i++)
+    for (size_t i = 0; count == 5 && i < sizeof steps / sizeof *steps; i++)
         if (!strcmp(words[1], steps[i].kind))
             first.step = steps[i].step;
     if (!first.step)
@@ -248,7 +248,7 @@ int main(int count, char **words)
     /* there is a second thread always: in a process that has had but one, the C library's mutex is cheaper */
     struct work second = first;
     second.thread = 2;
-    if (count == 4 && first.step != wake_step)
+    if (strcmp(words[4], "2"))
         second.rounds = 0;
     pthread_t other;
     if (pthread_create(&other, NULL, make_all, &second))

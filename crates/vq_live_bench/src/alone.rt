@@ -7,18 +7,33 @@ use crate::step::{Step, Task};
 use std::alloc::Global;
 use vq_live::{Found, Held, LiveTimeline};
 
-/// A timeline with so many operations pending, with the values from 1.
-pub(crate) fn filled(alloc: Global, flight: u64) -> Option<LiveTimeline> {
+/// Makes the steps on a timeline of their own. It says whether they came out as wanted.
+pub(crate) fn are_made(alloc: Global, task: Task) -> bool {
     let mut timeline = LiveTimeline::new(alloc, 0);
-    for before in 0..flight {
-        let given = timeline.take(before.wrapping_add(1)).ok()?;
-        timeline.install(given).ok()?;
-    }
-    Some(timeline)
+    is_filled(&mut timeline, task.flight) && make_all(&mut timeline, task)
 }
 
-/// Makes the steps. It says whether they came out as wanted.
-pub(crate) fn are_made(timeline: &mut LiveTimeline, task: Task) -> bool {
+/// Takes and installs so many values, from 1 on.
+fn is_filled(timeline: &mut LiveTimeline, flight: u64) -> bool {
+    let mut is_right = true;
+    for before in 0..flight {
+        is_right = is_installed(timeline, before.wrapping_add(1)) && is_right;
+    }
+    is_right
+}
+
+/// Takes a value and installs it.
+fn is_installed(timeline: &mut LiveTimeline, value: u64) -> bool
+    ensures kept { KeepsLive timeline.new }
+    ensures rises { timeline.old.payload ≤ timeline.new.payload }
+{
+    match timeline.take(value) {
+        Err(_) => false,
+        Ok(given) => timeline.install(given).is_ok(),
+    }
+}
+
+fn make_all(timeline: &mut LiveTimeline, task: Task) -> bool {
     let mut is_right = true;
     for _ in 0..task.rounds {
         is_right = is_made(timeline, task.step, task.flight) && is_right;
@@ -35,6 +50,8 @@ fn is_made(timeline: &mut LiveTimeline, step: Step, flight: u64) -> bool {
         Step::Turn => turned(timeline, flight).is_some(),
         Step::Whole => is_whole(timeline, flight),
         Step::Signal => is_signaled(timeline),
+        // a wake needs two threads
+        Step::Exchange | Step::Wake => false,
     }
 }
 
@@ -78,10 +95,11 @@ pub(crate) fn turned(timeline: &mut LiveTimeline, flight: u64) -> Option<u64>
     ensures rises { timeline.old.payload ≤ timeline.new.payload }
 {
     let value = timeline.value().wrapping_add(flight).wrapping_add(1);
-    let given = timeline.take(value).ok()?;
-    timeline.install(given).ok()?;
-    timeline.complete()?;
-    Some(value)
+    if is_installed(timeline, value) && timeline.complete().is_some() {
+        Some(value)
+    } else {
+        None
+    }
 }
 
 /// Looks a value up, and holds the point at which it is pending.

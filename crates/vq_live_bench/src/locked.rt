@@ -4,30 +4,42 @@ use crate::alone::{held_at, is_given_back, is_pending, turned};
 use crate::step::{Step, Task};
 use std::alloc::Global;
 use std::sync::{Arc, Wait};
-use vq_live::SignalFault;
+use vq_live::{Held, SignalFault};
 use vq_live_lock::{Bell, LockedLive};
 
-/// A timeline with so many operations pending, with the values from 1.
-pub(crate) fn filled<R: Wait>(rt: &R, alloc: Global, flight: u64) -> Option<LockedLive> {
+/// A timeline with a bell of its own.
+pub(crate) fn opened(alloc: Global) -> Option<LockedLive> {
     let bell = Arc::new(alloc, Bell::new(alloc).ok()?).ok()?;
-    let timeline = LockedLive::new(alloc, &bell, 0).ok()?;
+    LockedLive::new(alloc, &bell, 0).ok()
+}
+
+/// Takes and installs so many values, from 1 on.
+pub(crate) fn is_filled<R: Wait>(rt: &R, timeline: &LockedLive, flight: u64) -> bool {
+    let mut is_right = true;
     for before in 0..flight {
-        let given = timeline.take(rt, before.wrapping_add(1)).ok()?;
-        timeline.install(rt, given).ok()?;
+        is_right = is_installed(rt, timeline, before.wrapping_add(1)) && is_right;
     }
-    Some(timeline)
+    is_right
+}
+
+/// Takes a value and installs it, by a call each.
+fn is_installed<R: Wait>(rt: &R, timeline: &LockedLive, value: u64) -> bool {
+    match timeline.take(rt, value) {
+        Err(_) => false,
+        Ok(given) => timeline.install(rt, given).is_ok(),
+    }
 }
 
 /// Makes the steps of a thread, which has this number. It says whether they came out as wanted.
 pub(crate) fn are_made<R: Wait>(rt: &R, timeline: &LockedLive, task: Task, thread: u64) -> bool {
     let mut is_right = true;
-    for _ in 0..task.rounds {
-        is_right = is_made(rt, timeline, task, thread) && is_right;
+    for round in 0..task.rounds {
+        is_right = is_made(rt, timeline, task, thread, round) && is_right;
     }
     is_right
 }
 
-fn is_made<R: Wait>(rt: &R, timeline: &LockedLive, task: Task, thread: u64) -> bool {
+fn is_made<R: Wait>(rt: &R, timeline: &LockedLive, task: Task, thread: u64, round: u64) -> bool {
     let flight = task.flight;
     match task.step {
         Step::Value => timeline.value(rt) == 0,
@@ -38,6 +50,8 @@ fn is_made<R: Wait>(rt: &R, timeline: &LockedLive, task: Task, thread: u64) -> b
         Step::Turn => turned_once(rt, timeline, flight).is_some(),
         Step::Whole => is_whole(rt, timeline, flight),
         Step::Signal => is_signaled(rt, timeline),
+        Step::Wake => is_woken(rt, timeline, flight, thread, round),
+        Step::Exchange => false,
     }
 }
 
@@ -60,7 +74,7 @@ fn is_cancelled<R: Wait>(rt: &R, timeline: &LockedLive, value: u64) -> bool {
 /// A turn under one lock: where several threads submit, the next value is chosen, taken and installed
 /// before another thread chooses. The completion stands there as a driver's, which collects before it
 /// takes.
-pub(crate) fn turned_once<R: Wait>(rt: &R, timeline: &LockedLive, flight: u64) -> Option<u64> {
+fn turned_once<R: Wait>(rt: &R, timeline: &LockedLive, flight: u64) -> Option<u64> {
     let mut guard = timeline.lock(rt);
     let value = turned(guard.timeline(timeline), flight);
     timeline.unlock(guard);
@@ -79,13 +93,17 @@ fn is_whole<R: Wait>(rt: &R, timeline: &LockedLive, flight: u64) -> bool {
     is_right
 }
 
-/// Looks a value up and holds its point under one lock, as a waiter does before it leaves the lock, and
-/// gives the reference back under the next. There is none where the value is past.
-fn is_looked_up<R: Wait>(rt: &R, timeline: &LockedLive, value: u64) -> bool {
+/// Looks a value up and holds its point under one lock, as a waiter does before it leaves the lock.
+fn held_once<R: Wait>(rt: &R, timeline: &LockedLive, value: u64) -> Option<Held> {
     let mut guard = timeline.lock(rt);
     let held = held_at(guard.timeline(timeline), value);
     timeline.unlock(guard);
-    match held {
+    held
+}
+
+/// Does so, and gives the reference back under the next lock. There is none where the value is past.
+fn is_looked_up<R: Wait>(rt: &R, timeline: &LockedLive, value: u64) -> bool {
+    match held_once(rt, timeline, value) {
         None => timeline.reached(value).is_some(),
         Some(held) => is_given_back(timeline.unref(rt, held)),
     }
@@ -98,4 +116,21 @@ fn is_signaled<R: Wait>(rt: &R, timeline: &LockedLive) -> bool {
         Ok(()) | Err(SignalFault::NotAbove { .. }) => true,
         Err(SignalFault::Outstanding { .. }) => false,
     }
+}
+
+/// Waits until the value is reached.
+fn is_waited_for<R: Wait>(rt: &R, timeline: &LockedLive, value: u64) -> bool {
+    let _shown = timeline.wait(rt, value);
+    true
+}
+
+/// A turn, which reaches the value that the other thread waits for, and a wait for what that thread's
+/// turn reaches: the first thread's turns reach the odd values, and the second's the even ones.
+fn is_woken<R: Wait>(rt: &R, timeline: &LockedLive, flight: u64, thread: u64, round: u64) -> bool {
+    let odd = round.wrapping_mul(2).wrapping_add(1);
+    if thread == 1 {
+        return turned_once(rt, timeline, flight).is_some()
+            && is_waited_for(rt, timeline, odd.wrapping_add(1));
+    }
+    is_waited_for(rt, timeline, odd) && turned_once(rt, timeline, flight).is_some()
 }

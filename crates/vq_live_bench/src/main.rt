@@ -5,88 +5,92 @@
 mod alone;
 mod locked;
 mod step;
-mod wake;
 
 use std::alloc::Global;
 use std::process::ExitCode;
 use std::sync::Wait;
-use std::sync::atomic::AtomicU64;
 use std::thread::{Threads, join};
 use std::{env, io};
-use step::{Step, Task, exchanged};
+use step::{Step, Task, are_exchanged};
+use vq_live_lock::LockedLive;
 
-const USAGE: &str = "usage: vq_live_bench KIND ROUNDS FLIGHT [locked | pairs]
-    bare-cas, wake, value, look, find, refer, cancel, turn, whole, signal";
-
-fn bare(rounds: u64) -> bool {
-    let word = AtomicU64::new(0);
-    let mut is_right = true;
-    for round in 0..rounds {
-        is_right = exchanged(&word, round) && is_right;
-    }
-    is_right
-}
+const USAGE: &str = "usage: vq_live_bench KIND ROUNDS FLIGHT THREADS
+    bare-cas, value, look, find, refer, cancel, turn, whole, signal, wake;
+    0 threads: without a lock";
 
 /// Makes the steps under a lock, in one thread or in two.
-fn run_locked<R: Threads + Wait + Sync>(
-    rt: &R,
-    alloc: Global,
-    task: Task,
-    how: &str,
-) -> Option<bool> {
-    let timeline = locked::filled(rt, alloc, task.flight)?;
-    match how {
-        "locked" => Some(locked::are_made(rt, &timeline, task, 1)),
-        "pairs" => {
-            let both = join(
-                rt,
-                || locked::are_made(rt, &timeline, task, 1),
-                || locked::are_made(rt, &timeline, task, 2),
-            );
-            Some(both == (true, true))
-        }
-        _ => None,
+fn are_made<R: Threads + Wait + Sync>(rt: &R, timeline: &LockedLive, task: Task) -> bool {
+    if task.threads == 1 {
+        return locked::are_made(rt, timeline, task, 1);
+    }
+    join(
+        rt,
+        || locked::are_made(rt, timeline, task, 1),
+        || locked::are_made(rt, timeline, task, 2),
+    ) == (true, true)
+}
+
+/// Does so once the timeline has what is to be in flight.
+fn is_run_on<R: Threads + Wait + Sync>(rt: &R, timeline: &LockedLive, task: Task) -> bool {
+    locked::is_filled(rt, timeline, task.flight) && are_made(rt, timeline, task)
+}
+
+/// The same on a timeline of its own.
+fn is_run_locked<R: Threads + Wait + Sync>(rt: &R, alloc: Global, task: Task) -> bool {
+    match locked::opened(alloc) {
+        Some(timeline) => is_run_on(rt, &timeline, task),
+        None => false,
     }
 }
 
-/// Makes the steps that the words ask for. It says whether they came out as wanted.
-fn run<R: Threads + Wait + Sync>(rt: &R, alloc: Global, words: &[String]) -> Option<bool> {
-    let [_, name, rounds, flight, how @ ..] = words else {
+/// Makes the steps. It says whether they came out as wanted.
+fn is_run<R: Threads + Wait + Sync>(rt: &R, alloc: Global, task: Task) -> bool {
+    if let Step::Exchange = task.step {
+        return are_exchanged(task.rounds);
+    }
+    if task.threads == 0 {
+        return alone::are_made(alloc, task);
+    }
+    is_run_locked(rt, alloc, task)
+}
+
+fn number(word: &String) -> Option<u64> {
+    word.as_str().parse::<u64>().ok()
+}
+
+/// What the words ask for.
+fn task_of(words: &[String]) -> Option<Task> {
+    let [_, name, rounds, flight, threads] = words else {
         return None;
     };
-    let rounds = rounds.as_str().parse::<u64>().ok()?;
-    let flight = flight.as_str().parse::<u64>().ok()?;
-    match name.as_str() {
-        "bare-cas" => Some(bare(rounds)),
-        "wake" => {
-            let timeline = locked::filled(rt, alloc, flight)?;
-            Some(wake::is_woken(rt, &timeline, rounds, flight))
-        }
-        kind => {
-            let step = Step::named(kind)?;
-            let task = Task {
-                step,
-                rounds,
-                flight,
-            };
-            match how.first() {
-                Some(how) => run_locked(rt, alloc, task, how.as_str()),
-                None => Some(alone::are_made(&mut alone::filled(alloc, flight)?, task)),
-            }
-        }
+    Some(Task {
+        step: Step::named(name.as_str())?,
+        rounds: number(rounds)?,
+        flight: number(flight)?,
+        threads: number(threads)?,
+    })
+}
+
+/// What is printed, and the status.
+fn answer<R: Threads + Wait + Sync>(rt: &R, alloc: Global, words: &[String]) -> (&'static str, u8) {
+    match task_of(words) {
+        None => (USAGE, 2),
+        Some(task) if is_run(rt, alloc, task) => ("done", 0),
+        Some(_) => ("failed", 1),
     }
+}
+
+/// The words of the command line.
+fn words(rt: &HostRuntime) -> io::Result<Vec<String>> {
+    let mut words = Vec::new(rt.alloc());
+    for word in env::args(rt)? {
+        words.push(word)?;
+    }
+    Ok(words)
 }
 
 fn main(rt: HostRuntime) -> io::Result<ExitCode> {
-    let mut words = Vec::new(rt.alloc());
-    for word in env::args(&rt)? {
-        words.push(word)?;
-    }
-    let (said, status) = match run(&rt, rt.alloc(), words.as_slice()) {
-        Some(true) => ("done", 0),
-        Some(false) => ("failed", 1),
-        None => (USAGE, 2),
-    };
+    let (said, status) = answer(&rt, rt.alloc(), words(&rt)?.as_slice());
     println!(rt; "{said}")?;
     Ok(ExitCode::from(status))
 }

@@ -1,5 +1,5 @@
 use Rattle.vq_live_bench.proofs.Returned.{may_be_freed}
-use Rattle.vq_live_bench.proofs.locked.is_looked_up.Goals as goal
+use Rattle.vq_live_bench.proofs.locked.held_once.Goals as goal
 
 pub unlock-requires : goal.unlock-requires
 unlock-requires g c =
