@@ -15,4 +15,6 @@ pub mod scene;
 pub mod shelves;
 pub mod submitting;
 #[cfg(test)]
+mod tried;
+#[cfg(test)]
 mod trying_tests;

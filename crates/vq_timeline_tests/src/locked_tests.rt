@@ -8,10 +8,9 @@ ghost use Rattle.vq_timeline_tests.specs.Acting.{HasRun};
 ghost use Rattle.vq_timeline_tests.specs.Locked.{IsFirstAt};
 
 use crate::host::submit;
-use crate::locked::locked;
-use crate::rings::{ring, run_first};
+use crate::rings::run_first;
 use crate::submitting::{release_first, submitter};
-use std::alloc::Global;
+use crate::tried::{Tried, first_two, is_so};
 use std::sync::Wait;
 use std::thread::{Threads, join};
 use vq_board::{Board, JobState, Pass, Passes};
@@ -71,34 +70,46 @@ fn finds_pending<R: Wait>(rt: &R, board: &Board, timeline: &LockedTimeline, host
         && timeline.collect(rt, board) == Collected::Nothing
 }
 
-/// All of that on a board of its own.
-fn refuses<R: Wait>(
+/// All of that by the passes that submit.
+fn are_refused_to<R: Wait>(
+    rt: &R,
+    board: &Board,
+    timeline: &LockedTimeline,
+    host: &mut Pass,
+    submitter: &mut Pass,
+) -> bool
+    requires plan { IsOfTwoBatches (plan_of board.now) }
+    requires timeline { IsFirstAt board.now timeline.now }
+    requires host { HasSubmitted board.now host.old 0 }
+    requires submitter { HasReleased board.now submitter.old 0 [] }
+{
+    takes_once(rt, board, timeline)
+        && binds_in_order(rt, board, timeline)
+        && binds_released(rt, board, timeline, host, submitter)
+        && finds_pending(rt, board, timeline, host)
+}
+
+pub(crate) fn refuses<R: Wait>(
     rt: &R,
     board: &Board,
     timeline: &LockedTimeline,
     passes: &mut Passes,
-) -> Option<bool>
+) -> bool
     requires plan { IsOfTwoBatches (plan_of board.now) }
     requires timeline { IsFirstAt board.now timeline.now }
     requires passes { AreNew board.now passes.old }
 {
-    let mut submitter = submitter(board, &mut passes.submits)?;
-    Some(
-        takes_once(rt, board, timeline)
-            && binds_in_order(rt, board, timeline)
-            && binds_released(rt, board, timeline, &mut passes.host, &mut submitter)
-            && finds_pending(rt, board, timeline, &mut passes.host),
-    )
-}
-
-fn are_refused<R: Wait>(rt: &R, alloc: Global) -> Option<bool> {
-    let (board, timeline, mut passes) = locked(alloc)?;
-    refuses(rt, &board, &timeline, &mut passes)
+    match submitter(board, &mut passes.submits) {
+        Some(mut submitter) => {
+            are_refused_to(rt, board, timeline, &mut passes.host, &mut submitter)
+        }
+        None => false,
+    }
 }
 
 #[test]
 fn each_call_is_refused_by_its_cause(rt: HostRuntime) {
-    assert!(rt; are_refused(&rt, rt.alloc()) == Some(true));
+    assert!(rt; is_so(&rt, rt.alloc(), Tried::Refusals));
 }
 
 /// Once its signal is made, operation 0 is completed and its point freed, which is used again.
@@ -113,34 +124,52 @@ fn uses_again<R: Wait>(rt: &R, board: &Board, timeline: &LockedTimeline) -> bool
 }
 
 /// The first batch is run, and what comes after it.
-fn goes_round<R: Wait>(
+fn goes_round_by<R: Wait>(
+    rt: &R,
+    board: &Board,
+    timeline: &LockedTimeline,
+    host: &mut Pass,
+    submitter: &mut Pass,
+    ring: &mut Pass,
+) -> bool
+    requires plan { IsOfTwoBatches (plan_of board.now) }
+    requires timeline { IsFirstAt board.now timeline.now }
+    requires host { HasSubmitted board.now host.old 0 }
+    requires submitter { HasReleased board.now submitter.old 0 [] }
+    requires ring { HasRun board.now ring.old [] }
+{
+    takes_once(rt, board, timeline)
+        && binds_released(rt, board, timeline, host, submitter)
+        && run_first(board, ring)
+        && uses_again(rt, board, timeline)
+}
+
+pub(crate) fn goes_round<R: Wait>(
     rt: &R,
     board: &Board,
     timeline: &LockedTimeline,
     passes: &mut Passes,
-) -> Option<bool>
+) -> bool
     requires plan { IsOfTwoBatches (plan_of board.now) }
     requires timeline { IsFirstAt board.now timeline.now }
     requires passes { AreNew board.now passes.old }
 {
-    let mut submitter = submitter(board, &mut passes.submits)?;
-    let mut ring = ring(board, &mut passes.rings)?;
-    Some(
-        takes_once(rt, board, timeline)
-            && binds_released(rt, board, timeline, &mut passes.host, &mut submitter)
-            && run_first(board, &mut ring)
-            && uses_again(rt, board, timeline),
-    )
-}
-
-fn has_gone_round<R: Wait>(rt: &R, alloc: Global) -> Option<bool> {
-    let (board, timeline, mut passes) = locked(alloc)?;
-    goes_round(rt, &board, &timeline, &mut passes)
+    match first_two(board, &mut passes.submits, &mut passes.rings) {
+        Some((mut submitter, mut ring)) => goes_round_by(
+            rt,
+            board,
+            timeline,
+            &mut passes.host,
+            &mut submitter,
+            &mut ring,
+        ),
+        None => false,
+    }
 }
 
 #[test]
 fn a_freed_point_is_used_again(rt: HostRuntime) {
-    assert!(rt; has_gone_round(&rt, rt.alloc()) == Some(true));
+    assert!(rt; is_so(&rt, rt.alloc(), Tried::Round));
 }
 
 /// Gives a point to an operation. It says whether that had none.
@@ -172,14 +201,19 @@ fn takes_by_two<R: Threads + Wait + Sync>(rt: &R, board: &Board, timeline: &Lock
 }
 
 /// And whether these are two points.
-fn takes_two<R: Threads + Wait + Sync>(rt: &R, alloc: Global) -> Option<bool> {
-    let (board, timeline, passes) = locked(alloc)?;
-    let _ = passes;
-    let both = takes_by_two(rt, &board, &timeline);
-    Some(both && timeline.place_of(rt, &board, 0) != timeline.place_of(rt, &board, 1))
+pub(crate) fn takes_two<R: Threads + Wait + Sync>(
+    rt: &R,
+    board: &Board,
+    timeline: &LockedTimeline,
+) -> bool
+    requires plan { IsOfTwoBatches (plan_of board.now) }
+    requires timeline { IsFirstAt board.now timeline.now }
+{
+    takes_by_two(rt, board, timeline)
+        && timeline.place_of(rt, board, 0) != timeline.place_of(rt, board, 1)
 }
 
 #[test]
 fn two_threads_take_two_points(rt: HostRuntime) {
-    assert!(rt; takes_two(&rt, rt.alloc()) == Some(true));
+    assert!(rt; is_so(&rt, rt.alloc(), Tried::ByTwo));
 }

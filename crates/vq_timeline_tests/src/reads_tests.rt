@@ -7,10 +7,11 @@ ghost use Rattle.vq_timeline_tests.specs.TwoBatches.{IsOfTwoBatches};
 ghost use Rattle.vq_timeline_tests.specs.Acting.{IsFirstOf, HasBoth, HasRun};
 
 use crate::host::{find_both, read, seen_made, submit};
-use crate::rings::{ring, run_first, run_second};
+use crate::rings::{run_first, run_second};
 use crate::scene::opened;
 use crate::shelves::{bind_first, bind_second, take_both};
-use crate::submitting::{release_first, release_second, submitter};
+use crate::submitting::{release_first, release_second};
+use crate::tried::first_two;
 use std::alloc::Global;
 use vq_board::{Board, Pass, Passes};
 use vq_board_actors::actors::shelf;
@@ -44,61 +45,79 @@ fn run_both(board: &Board, shelf: &mut Pass, ring: &mut Pass) -> bool
         && run_second(board, ring)
 }
 
-/// What the host reads before the batches' steps; how many signals its own steps then showed made; and what
-/// it reads after them.
-fn reads_around(board: &Board, chain: &Chain, passes: &mut Passes) -> Option<(u64, u32, u64)>
+/// The host reads 0 before the batches' steps; none of its own steps then showed a signal made; and it reads 7
+/// after them.
+fn reads_around(
+    board: &Board,
+    chain: &Chain,
+    host: &mut Pass,
+    submitter: &mut Pass,
+    shelf: &mut Pass,
+    ring: &mut Pass,
+) -> bool
+    requires plan { IsOfTwoBatches (plan_of board.now) }
+    requires chain { IsFirstOf board.now chain.now }
+    requires host { HasSubmitted board.now host.old 0 }
+    requires submitter { HasReleased board.now submitter.old 0 [] }
+    requires shelf { HasPoints board.now shelf.old [] [] [] [] }
+    requires ring { HasRun board.now ring.old [] }
+{
+    read(board, chain, host, 0) == 0
+        && hand_both_on(board, host, submitter, shelf)
+        && run_both(board, shelf, ring)
+        && seen_made(board, host) == 0
+        && read(board, chain, host, 2) == 7
+}
+
+/// The host finds the value 2 pending and the value 3 not yet, while the first signal alone is bound.
+fn finds_between(
+    board: &Board,
+    chain: &Chain,
+    host: &mut Pass,
+    submitter: &mut Pass,
+    shelf: &mut Pass,
+) -> bool
+    requires plan { IsOfTwoBatches (plan_of board.now) }
+    requires chain { IsFirstOf board.now chain.now }
+    requires host { HasSubmitted board.now host.old 0 }
+    requires submitter { HasReleased board.now submitter.old 0 [] }
+    requires shelf { HasPoints board.now shelf.old [] [] [] [] }
+{
+    if !hand_both_on(board, host, submitter, shelf) || !bind_first(board, shelf) {
+        return false;
+    }
+    let pending = Found::Pending { index: 0, point: 0 };
+    find_both(board, chain, host) == (pending, Found::NotYet { bound: 1 })
+}
+
+/// One of both, by the passes that take part.
+fn holds(board: &Board, chain: &Chain, passes: &mut Passes, reads: bool) -> Option<bool>
     requires plan { IsOfTwoBatches (plan_of board.now) }
     requires chain { IsFirstOf board.now chain.now }
     requires passes { AreNew board.now passes.old }
 {
-    let mut submitter = submitter(board, &mut passes.submits)?;
-    let mut ring = ring(board, &mut passes.rings)?;
+    let (mut submitter, mut ring) = first_two(board, &mut passes.submits, &mut passes.rings)?;
     let mut shelf = shelf(board, &mut passes.shelves)?;
-    let before = read(board, chain, &mut passes.host, 0);
-    if !hand_both_on(board, &mut passes.host, &mut submitter, &mut shelf)
-        || !run_both(board, &mut shelf, &mut ring)
-    {
-        return None;
-    }
-    let seen = seen_made(board, &passes.host);
-    Some((before, seen, read(board, chain, &mut passes.host, 2)))
+    let (host, submitter, shelf, ring) = (&mut passes.host, &mut submitter, &mut shelf, &mut ring);
+    Some(if reads {
+        reads_around(board, chain, host, submitter, shelf, ring)
+    } else {
+        finds_between(board, chain, host, submitter, shelf)
+    })
 }
 
 /// The same on a board of its own.
-fn is_read_around(alloc: Global) -> Option<(u64, u32, u64)> {
+fn is_so(alloc: Global, reads: bool) -> Option<bool> {
     let (board, chain, mut passes) = opened(alloc)?;
-    reads_around(&board, &chain, &mut passes)
+    holds(&board, &chain, &mut passes, reads)
 }
 
 #[test]
 fn a_read_finds_signals_of_which_the_pass_learnt_nothing(rt: HostRuntime) {
-    assert!(rt; is_read_around(rt.alloc()) == Some((0, 0, 7)));
-}
-
-/// Where the host finds the values 2 and 3 while the first signal alone is bound.
-fn finds_between(board: &Board, chain: &Chain, passes: &mut Passes) -> Option<(Found, Found)>
-    requires plan { IsOfTwoBatches (plan_of board.now) }
-    requires chain { IsFirstOf board.now chain.now }
-    requires passes { AreNew board.now passes.old }
-{
-    let mut submitter = submitter(board, &mut passes.submits)?;
-    let mut shelf = shelf(board, &mut passes.shelves)?;
-    if !hand_both_on(board, &mut passes.host, &mut submitter, &mut shelf)
-        || !bind_first(board, &mut shelf)
-    {
-        return None;
-    }
-    Some(find_both(board, chain, &mut passes.host))
-}
-
-/// The same on a board of its own.
-fn is_found_between(alloc: Global) -> Option<(Found, Found)> {
-    let (board, chain, mut passes) = opened(alloc)?;
-    finds_between(&board, &chain, &mut passes)
+    assert!(rt; is_so(rt.alloc(), true) == Some(true));
 }
 
 #[test]
 fn a_value_is_pending_once_its_signal_is_bound(rt: HostRuntime) {
-    let pending = Found::Pending { index: 0, point: 0 };
-    assert!(rt; is_found_between(rt.alloc()) == Some((pending, Found::NotYet { bound: 1 })));
+    assert!(rt; is_so(rt.alloc(), false) == Some(true));
 }

@@ -5,13 +5,13 @@ ghost use Rattle.vq_board.specs.Named.{plan_of};
 ghost use Rattle.vq_board_actors.specs.Holders.{HasSubmitted, HasReleased};
 ghost use Rattle.vq_board_stage.specs.Dealing.{AreNew};
 ghost use Rattle.vq_timeline_tests.specs.TwoBatches.{IsOfTwoBatches};
+ghost use Rattle.vq_timeline_tests.specs.Acting.{HasRun};
 ghost use Rattle.vq_timeline_tests.specs.Locked.{IsFirstAt};
 
 use crate::host::submit;
-use crate::locked::locked;
-use crate::rings::{ring, run_first};
-use crate::submitting::{release_first, submitter};
-use std::alloc::Global;
+use crate::rings::run_first;
+use crate::submitting::release_first;
+use crate::tried::{Tried, first_two, is_so};
 use std::sync::Wait;
 use vq_board::{Board, JobState, Pass, Passes};
 use vq_timeline::{BindFault, Collected, LockedTimeline};
@@ -78,34 +78,52 @@ fn collects_all(board: &Board, timeline: &LockedTimeline) -> bool
         && timeline.try_collect(board) == Some(Collected::Nothing)
 }
 
-/// All of that on a board of its own.
-fn goes_on<R: Wait>(
+/// All of that by the passes that take part.
+fn goes_on_by<R: Wait>(
+    rt: &R,
+    board: &Board,
+    timeline: &LockedTimeline,
+    host: &mut Pass,
+    submitter: &mut Pass,
+    ring: &mut Pass,
+) -> bool
+    requires plan { IsOfTwoBatches (plan_of board.now) }
+    requires timeline { IsFirstAt board.now timeline.now }
+    requires host { HasSubmitted board.now host.old 0 }
+    requires submitter { HasReleased board.now submitter.old 0 [] }
+    requires ring { HasRun board.now ring.old [] }
+{
+    finds_in_use(rt, board, timeline)
+        && takes_once(board, timeline)
+        && binds_released(board, timeline, host, submitter)
+        && run_first(board, ring)
+        && collects_all(board, timeline)
+}
+
+pub(crate) fn goes_on<R: Wait>(
     rt: &R,
     board: &Board,
     timeline: &LockedTimeline,
     passes: &mut Passes,
-) -> Option<bool>
+) -> bool
     requires plan { IsOfTwoBatches (plan_of board.now) }
     requires timeline { IsFirstAt board.now timeline.now }
     requires passes { AreNew board.now passes.old }
 {
-    let mut submitter = submitter(board, &mut passes.submits)?;
-    let mut ring = ring(board, &mut passes.rings)?;
-    Some(
-        finds_in_use(rt, board, timeline)
-            && takes_once(board, timeline)
-            && binds_released(board, timeline, &mut passes.host, &mut submitter)
-            && run_first(board, &mut ring)
-            && collects_all(board, timeline),
-    )
-}
-
-fn has_gone_on<R: Wait>(rt: &R, alloc: Global) -> Option<bool> {
-    let (board, timeline, mut passes) = locked(alloc)?;
-    goes_on(rt, &board, &timeline, &mut passes)
+    match first_two(board, &mut passes.submits, &mut passes.rings) {
+        Some((mut submitter, mut ring)) => goes_on_by(
+            rt,
+            board,
+            timeline,
+            &mut passes.host,
+            &mut submitter,
+            &mut ring,
+        ),
+        None => false,
+    }
 }
 
 #[test]
 fn lists_in_use_have_no_answer(rt: HostRuntime) {
-    assert!(rt; has_gone_on(&rt, rt.alloc()) == Some(true));
+    assert!(rt; is_so(&rt, rt.alloc(), Tried::InUse));
 }
