@@ -6,17 +6,13 @@ ghost use Rattle.vq_board.specs.Named.{plan_of};
 ghost use Rattle.vq_board_stage.specs.Dealing.{AreNew};
 ghost use Rattle.vq_timeline.specs.Named.{IsAt};
 
-use crate::moves::{Turn, each_moves};
-use crate::three::{SCRIPT, rooms_of, timelines_of};
+use crate::moves::Turn;
+use crate::three::{play, plays};
 use std::alloc::Global;
 use std::sync::Wait;
 use std::sync::atomic::{AtomicU64, Ordering};
 use std::thread::{Threads, join};
-use vq_access::{Grounds, Waiting};
-use vq_actor::Company;
 use vq_board::{Board, Passes};
-use vq_board_stage::passes::board_of;
-use vq_board_stage::plans::checked;
 use vq_model::plan::Event;
 use vq_order::Ordered;
 use vq_timeline::{Collected, LockedTimeline};
@@ -110,34 +106,6 @@ fn holds_second<R: Wait>(
     }
 }
 
-/// Whether each turn makes its event, over rooms that are made of these passes.
-fn plays<R: Wait>(
-    rt: &R,
-    alloc: Global,
-    ordered: &Ordered,
-    board: &Board,
-    timelines: &[LockedTimeline],
-    passes: Passes,
-) -> Option<bool>
-    requires plan { plan_of board.now ≡ ordered.now }
-    requires timelines { AreOf board.now timelines.now }
-    requires passes { AreNew board.now passes }
-{
-    let Ok(company) = Company::new(alloc, ordered) else {
-        return None;
-    };
-    let Passes {
-        host,
-        submits,
-        rings,
-        shelves: _shelves,
-    } = passes;
-    let mut rooms = rooms_of(alloc, ordered, board, &company, host, submits, rings)?;
-    let waiting = Waiting::new(rt);
-    let grounds = Grounds::new(&waiting, ordered, board, timelines);
-    Some(each_moves(&grounds, &company, rooms.as_mut_slice(), &TURNS))
-}
-
 /// The same once the other thread holds its lock, which hears when it is done.
 fn plays_meanwhile<R: Wait>(
     rt: &R,
@@ -154,20 +122,20 @@ fn plays_meanwhile<R: Wait>(
     requires passes { AreNew board.now passes }
 {
     hear(rt, held);
-    let played = plays(rt, alloc, ordered, board, timelines, passes);
+    let played = plays(rt, alloc, ordered, board, timelines, passes, &TURNS);
     tell(done);
     played == Some(true)
 }
 
 /// Both, each in a thread of its own.
-fn in_two_threads<R: Threads + Wait + Sync>(
+pub(crate) fn are_apart<R: Threads + Wait + Sync>(
     rt: &R,
     alloc: Global,
     ordered: &Ordered,
     board: &Board,
     timelines: &[LockedTimeline],
     passes: Passes,
-) -> (bool, bool)
+) -> bool
     requires plan { plan_of board.now ≡ ordered.now }
     requires timelines { AreOf board.now timelines.now }
     requires passes { AreNew board.now passes }
@@ -185,21 +153,10 @@ fn in_two_threads<R: Threads + Wait + Sync>(
             requires timelines { AreOf board.now timelines.now }
             requires passes { AreNew board.now passes }
         { plays_meanwhile(rt, alloc, ordered, board, timelines, passes, held, done) },
-    )
-}
-
-fn over<R: Threads + Wait + Sync>(rt: &R, alloc: Global, ordered: &Ordered) -> Option<bool> {
-    let (board, mut passes) = board_of(alloc, ordered)?;
-    let timelines = timelines_of(alloc, ordered, &board, &mut passes.shelves)?;
-    let both = in_two_threads(rt, alloc, ordered, &board, timelines.as_slice(), passes);
-    Some(both == (true, true))
-}
-
-fn are_apart<R: Threads + Wait + Sync>(rt: &R, alloc: Global) -> Option<bool> {
-    over(rt, alloc, &checked(alloc, SCRIPT)?)
+    ) == (true, true)
 }
 
 #[test]
 fn a_batch_ends_while_the_lock_of_another_timeline_is_held(rt: HostRuntime) {
-    assert!(rt; are_apart(&rt, rt.alloc()) == Some(true));
+    assert!(rt; play(&rt, rt.alloc(), true) == Some(true));
 }

@@ -2,81 +2,59 @@
 use vq_model::plan::Event;
 use vq_model::script::ActorName;
 
-/// Whether it is the same actor.
-fn is_same_actor(one: ActorName, other: ActorName) -> bool {
-    match (one, other) {
-        (ActorName::Host, ActorName::Host) => true,
-        (ActorName::Submit(p), ActorName::Submit(q)) => p == q,
-        (ActorName::Ring(p), ActorName::Ring(q)) => p == q,
-        _ => false,
+/// An event in numbers: its kind, the kind of an actor and its number, and two numbers more.
+type Numbers = (u32, u32, u32, u32, u32);
+
+fn of_actor(actor: ActorName) -> (u32, u32) {
+    match actor {
+        ActorName::Host => (0, 0),
+        ActorName::Submit(queue) => (1, queue),
+        ActorName::Ring(queue) => (2, queue),
     }
 }
 
-/// The actor, the point and the operation of an event at a reference; `None` of another.
-fn at_reference(event: Event) -> Option<(ActorName, u32, u32)> {
+/// The numbers of an event at a reference.
+fn at_reference(kind: u32, actor: ActorName, point: u32, op: u32) -> Numbers {
+    let (of, number) = of_actor(actor);
+    (kind, of, number, point, op)
+}
+
+/// The numbers of a step of a job; none of another event.
+fn of_job(event: Event) -> Option<Numbers> {
     match event {
-        Event::Refer { actor, point, op } => Some((actor, point, op)),
-        Event::Look { actor, point, op } => Some((actor, point, op)),
-        Event::Unref { actor, point, op } => Some((actor, point, op)),
+        Event::Submit { job } => Some((0, 0, 0, job, 0)),
+        Event::Release { job } => Some((1, 0, 0, job, 0)),
+        Event::Start { job } => Some((2, 0, 0, job, 0)),
+        Event::Finish { job } => Some((3, 0, 0, job, 0)),
+        Event::Apply { job, command } => Some((4, 0, 0, job, command)),
         _ => None,
     }
 }
 
-/// Whether both are events at the same reference.
-fn is_at_same_reference(one: Event, other: Event) -> bool {
-    match (at_reference(one), at_reference(other)) {
-        (Some((actor, point, op)), Some((a, q, e))) => {
-            is_same_actor(actor, a) && point == q && op == e
-        }
-        _ => false,
+/// The numbers of a step of the lists, or at a reference; none of another event. Answers are never taken for the
+/// same.
+fn of_lists(event: Event) -> Option<Numbers> {
+    match event {
+        Event::Take { op, point, fresh } => Some((5, 0, u32::from(fresh), point, op)),
+        Event::Bind { op, point } => Some((6, 0, 0, point, op)),
+        Event::Complete { op } => Some((7, 0, 0, op, 0)),
+        Event::Free { point } => Some((8, 0, 0, point, 0)),
+        Event::Signal { op } => Some((9, 0, 0, op, 0)),
+        Event::Refer { actor, point, op } => Some(at_reference(10, actor, point, op)),
+        Event::Look { actor, point, op } => Some(at_reference(11, actor, point, op)),
+        Event::Unref { actor, point, op } => Some(at_reference(12, actor, point, op)),
+        _ => None,
     }
 }
 
-/// Whether both are the same step of the same job.
-fn is_same_of_job(one: Event, other: Event) -> bool {
+fn are_same(one: Option<Numbers>, other: Option<Numbers>) -> bool {
     match (one, other) {
-        (Event::Submit { job: i }, Event::Submit { job: j }) => i == j,
-        (Event::Release { job: i }, Event::Release { job: j }) => i == j,
-        (Event::Start { job: i }, Event::Start { job: j }) => i == j,
-        (Event::Finish { job: i }, Event::Finish { job: j }) => i == j,
-        (Event::Apply { job: i, command: c }, Event::Apply { job: j, command: d }) => i == j
-            && c == d,
+        (Some(one), Some(other)) => one == other,
         _ => false,
     }
 }
 
-/// Whether both are the same step of the same lists.
-fn is_same_of_lists(one: Event, other: Event) -> bool {
-    match (one, other) {
-        (
-            Event::Take {
-                op: e,
-                point: q,
-                fresh: is_fresh,
-            },
-            Event::Take { op, point, fresh },
-        ) => { e == op && q == point && is_fresh == fresh }
-        (Event::Bind { op: e, point: q }, Event::Bind { op, point }) => e == op && q == point,
-        (Event::Complete { op: e }, Event::Complete { op }) => e == op,
-        (Event::Free { point: q }, Event::Free { point }) => q == point,
-        (Event::Signal { op: e }, Event::Signal { op }) => e == op,
-        _ => false,
-    }
-}
-
-/// Whether both are events of one kind at a reference.
-fn is_same_kind_of_reference(one: Event, other: Event) -> bool {
-    match (one, other) {
-        (Event::Refer { .. }, Event::Refer { .. }) => true,
-        (Event::Look { .. }, Event::Look { .. }) => true,
-        (Event::Unref { .. }, Event::Unref { .. }) => true,
-        _ => false,
-    }
-}
-
-/// Whether two events are the same. Answers are never taken for the same.
+/// Whether two events are the same.
 pub(crate) fn is_same(one: Event, other: Event) -> bool {
-    is_same_of_job(one, other)
-        || is_same_of_lists(one, other)
-        || (is_same_kind_of_reference(one, other) && is_at_same_reference(one, other))
+    are_same(of_job(one), of_job(other)) || are_same(of_lists(one), of_lists(other))
 }

@@ -12,8 +12,13 @@ mod events;
 mod moves;
 #[cfg(test)]
 mod points_tests;
-pub mod rooms;
-pub mod scene;
-pub mod three;
+#[cfg(test)]
+mod rooms;
+#[cfg(test)]
+mod scene;
+#[cfg(test)]
+mod share_tests;
+#[cfg(test)]
+mod three;
 #[cfg(test)]
 mod trying_tests;

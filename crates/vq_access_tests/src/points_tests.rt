@@ -1,20 +1,15 @@
 //! A point is completed while a reference is held to it, freed when that is given back, and used again.
-ghost use Rattle.std.specs.Prelude.{◌≡◌};
-ghost use Rattle.vq_board.specs.Named.{plan_of};
-ghost use Rattle.vq_board_stage.specs.Dealing.{AreNew};
+ghost use Rattle.vq_access.specs.Grounding.{plan_at, board_at};
+ghost use Rattle.vq_access_tests.specs.Rooms.{ArePlaced};
+ghost use Rattle.vq_actor.specs.Companies.{IsCompanyOf};
 
 use crate::moves::{Turn, each_moves};
-use crate::scene::{SCRIPT, rooms_of, timelines_of};
-use std::alloc::Global;
-use std::sync::Wait;
+use crate::scene::{Part, play};
 use vq_access::{Grounds, Lists, Trying, Waiting};
 use vq_actor::Company;
-use vq_board::{Board, Passes};
-use vq_board_stage::passes::board_of;
-use vq_board_stage::plans::checked;
 use vq_model::plan::Event;
 use vq_model::script::ActorName;
-use vq_order::Ordered;
+use vq_rooms::AccessRoom;
 
 /// Where the rooms lie.
 const HOST: usize = 0;
@@ -99,45 +94,24 @@ const TURNS: [Turn; 21] = [
     ),
 ];
 
-/// All of that over a board with its passes.
-fn plays<L: Lists>(
-    lists: &L,
-    alloc: Global,
-    ordered: &Ordered,
-    board: &Board,
-    mut passes: Passes,
-) -> Option<bool>
-    requires plan { plan_of board.now ≡ ordered.now }
-    requires passes { AreNew board.now passes }
+/// Whether each of these turns makes its event.
+pub(crate) fn makes_all<L: Lists>(
+    grounds: &Grounds<L>,
+    company: &Company,
+    rooms: &mut [Option<AccessRoom>],
+) -> bool
+    requires company { IsCompanyOf (plan_at grounds.now) company.now }
+    requires rooms { ArePlaced (board_at grounds.now) rooms.old }
 {
-    let Ok(company) = Company::new(alloc, ordered) else {
-        return None;
-    };
-    let timelines = timelines_of(alloc, ordered, board, &mut passes.shelves)?;
-    let mut rooms = rooms_of(alloc, ordered, board, &company, passes)?;
-    let grounds = Grounds::new(lists, ordered, board, timelines.as_slice());
-    Some(each_moves(&grounds, &company, rooms.as_mut_slice(), &TURNS))
-}
-
-fn plays_over<L: Lists>(lists: &L, alloc: Global, ordered: &Ordered) -> Option<bool> {
-    let (board, passes) = board_of(alloc, ordered)?;
-    plays(lists, alloc, ordered, &board, passes)
-}
-
-fn play<L: Lists>(lists: &L, alloc: Global) -> Option<bool> {
-    plays_over(lists, alloc, &checked(alloc, SCRIPT)?)
-}
-
-fn play_waiting<R: Wait>(rt: &R, alloc: Global) -> Option<bool> {
-    play(&Waiting::new(rt), alloc)
+    each_moves(grounds, company, rooms, &TURNS)
 }
 
 #[test]
 fn a_point_that_is_held_is_not_used_again(rt: HostRuntime) {
-    assert!(rt; play_waiting(&rt, rt.alloc()) == Some(true));
+    assert!(rt; play(&rt, &Waiting::new(&rt), rt.alloc(), Part::Points) == Some(true));
 }
 
 #[test]
 fn no_turn_has_to_wait_where_nobody_else_asks(rt: HostRuntime) {
-    assert!(rt; play(&Trying, rt.alloc()) == Some(true));
+    assert!(rt; play(&rt, &Trying, rt.alloc(), Part::Points) == Some(true));
 }

@@ -17,7 +17,7 @@ use vq_rooms::AccessRoom;
 use vq_turns::outcome::Outcome;
 
 /// The room of the host.
-pub fn host_room(
+pub(crate) fn host_room(
     alloc: Global,
     ordered: &Ordered,
     board: &Board,
@@ -37,7 +37,7 @@ pub fn host_room(
 }
 
 /// The room of the submitting thread of a threaded queue, where its pass is the last of the list.
-pub fn submit_room(
+pub(crate) fn submit_room(
     alloc: Global,
     ordered: &Ordered,
     board: &Board,
@@ -62,7 +62,7 @@ pub fn submit_room(
 }
 
 /// The room of the ring of a queue, where its pass is the last of the list.
-pub fn ring_room(
+pub(crate) fn ring_room(
     alloc: Global,
     ordered: &Ordered,
     board: &Board,
@@ -87,7 +87,7 @@ pub fn ring_room(
 }
 
 /// A turn of the actor whose room lies in this place, where there is one. The room is put back.
-pub fn turn_at<L: Lists>(
+pub(crate) fn turn_at<L: Lists>(
     grounds: &Grounds<L>,
     company: &Company,
     rooms: &mut [Option<AccessRoom>],

@@ -1,25 +1,17 @@
 //! A turn that tries lists which are in use makes nothing, and says so; once they are free it goes on.
-ghost use Rattle.std.specs.Prelude.{◌≡◌};
 ghost use Rattle.vq_access.specs.Grounding.{plan_at, board_at};
 ghost use Rattle.vq_access.specs.Timelines.{AreOf};
 ghost use Rattle.vq_access_tests.specs.Rooms.{ArePlaced};
 ghost use Rattle.vq_actor.specs.Companies.{IsCompanyOf};
-ghost use Rattle.vq_board.specs.Named.{plan_of};
-ghost use Rattle.vq_board_stage.specs.Dealing.{AreNew};
 ghost use Rattle.vq_timeline.specs.Named.{IsAt};
 
 use crate::moves::{Turn, each_moves};
 use crate::rooms::turn_at;
-use crate::scene::{SCRIPT, rooms_of, timelines_of};
-use std::alloc::Global;
+use crate::scene::{Part, play};
 use std::sync::Wait;
-use vq_access::{Grounds, Trying};
+use vq_access::{Grounds, Lists, Trying};
 use vq_actor::Company;
-use vq_board::{Board, Passes};
-use vq_board_stage::passes::board_of;
-use vq_board_stage::plans::checked;
 use vq_model::plan::Event;
-use vq_order::Ordered;
 use vq_rooms::AccessRoom;
 use vq_timeline::LockedTimeline;
 use vq_turns::outcome::{Outcome, Want};
@@ -53,9 +45,9 @@ fn is_held_back(outcome: Option<Outcome>) -> bool {
 }
 
 /// Whether a turn that would take a point is held back while the lock of the timeline is held.
-fn finds_in_use<R: Wait>(
+fn finds_in_use<R: Wait, L: Lists>(
     rt: &R,
-    grounds: &Grounds<Trying>,
+    grounds: &Grounds<L>,
     timeline: &LockedTimeline,
     company: &Company,
     rooms: &mut [Option<AccessRoom>],
@@ -73,9 +65,9 @@ fn finds_in_use<R: Wait>(
 }
 
 /// All turns over grounds, in order.
-fn plays_on<R: Wait>(
+fn plays_on<R: Wait, L: Lists>(
     rt: &R,
-    grounds: &Grounds<Trying>,
+    grounds: &Grounds<L>,
     timeline: &LockedTimeline,
     company: &Company,
     rooms: &mut [Option<AccessRoom>],
@@ -90,60 +82,24 @@ fn plays_on<R: Wait>(
 }
 
 /// The same with the first of the timelines.
-fn plays_with<R: Wait>(
+pub(crate) fn plays_with<R: Wait, L: Lists>(
     rt: &R,
-    ordered: &Ordered,
-    board: &Board,
+    grounds: &Grounds<L>,
     timelines: &[LockedTimeline],
     company: &Company,
     rooms: &mut [Option<AccessRoom>],
-) -> Option<bool>
-    requires plan { plan_of board.now ≡ ordered.now }
-    requires timelines { AreOf board.now timelines.now }
-    requires company { IsCompanyOf ordered.now company.now }
-    requires rooms { ArePlaced board.now rooms.old }
+) -> bool
+    requires timelines { AreOf (board_at grounds.now) timelines.now }
+    requires company { IsCompanyOf (plan_at grounds.now) company.now }
+    requires rooms { ArePlaced (board_at grounds.now) rooms.old }
 {
-    let grounds = Grounds::new(&Trying, ordered, board, timelines);
-    let timeline = timelines.first()?;
-    Some(plays_on(rt, &grounds, timeline, company, rooms))
-}
-
-/// All of that over a board with its passes.
-fn plays<R: Wait>(
-    rt: &R,
-    alloc: Global,
-    ordered: &Ordered,
-    board: &Board,
-    mut passes: Passes,
-) -> Option<bool>
-    requires plan { plan_of board.now ≡ ordered.now }
-    requires passes { AreNew board.now passes }
-{
-    let Ok(company) = Company::new(alloc, ordered) else {
-        return None;
-    };
-    let timelines = timelines_of(alloc, ordered, board, &mut passes.shelves)?;
-    let mut rooms = rooms_of(alloc, ordered, board, &company, passes)?;
-    plays_with(
-        rt,
-        ordered,
-        board,
-        timelines.as_slice(),
-        &company,
-        rooms.as_mut_slice(),
-    )
-}
-
-fn plays_over<R: Wait>(rt: &R, alloc: Global, ordered: &Ordered) -> Option<bool> {
-    let (board, passes) = board_of(alloc, ordered)?;
-    plays(rt, alloc, ordered, &board, passes)
-}
-
-fn play<R: Wait>(rt: &R, alloc: Global) -> Option<bool> {
-    plays_over(rt, alloc, &checked(alloc, SCRIPT)?)
+    match timelines.first() {
+        Some(timeline) => plays_on(rt, grounds, timeline, company, rooms),
+        None => false,
+    }
 }
 
 #[test]
 fn a_turn_is_held_back_while_lists_are_in_use(rt: HostRuntime) {
-    assert!(rt; play(&rt, rt.alloc()) == Some(true));
+    assert!(rt; play(&rt, &Trying, rt.alloc(), Part::InUse) == Some(true));
 }

@@ -2,7 +2,7 @@ use denote.Param.Send.{sendable}
 use Rattle.std.proofs.Crossing.{crosses}
 use Rattle.vq_board.proofs.Cited.{board_sync}
 use Rattle.vq_timeline.proofs.Cited.{timeline_sync}
-use Rattle.vq_access_tests.proofs.apart_tests.in_two_threads.Goals as goal
+use Rattle.vq_access_tests.proofs.apart_tests.are_apart.Goals as goal
 
 pub join-requires-send-F : goal.join-requires-send-F
 join-requires-send-F g c κs within =
