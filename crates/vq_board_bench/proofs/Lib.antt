@@ -4,6 +4,5 @@ mod HostRowSteps
 mod OnePoint
 mod ReadSteps
 mod RingSteps
-mod Shared
 mod Shares
 mod ShelfRowSteps
