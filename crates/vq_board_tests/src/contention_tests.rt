@@ -123,19 +123,33 @@ fn run_all<R: Threads + Wait + Sync>(rt: &R, board: &Board, passes: &mut Passes)
     }
 }
 
-/// Whether the board, after all batches ran, has the bytes of all.
-fn runs_all<R: Threads + Wait + Sync>(rt: &R, alloc: Global) -> Option<bool> {
+/// Whether the board has the bytes of all.
+fn has_all(closed: &Closed) -> bool {
+    let buffers = closed.buffers();
+    buffers.count() == 1 && are_counted(buffers.bytes(0))
+}
+
+/// The board is closed after all batches ran.
+fn all_run<R: Threads + Wait + Sync>(rt: &R, alloc: Global) -> Option<Closed> {
     let (board, mut passes) = opened(alloc, Scene::Contending)?;
-    if !run_all(rt, &board, &mut passes) {
-        return None;
+    if run_all(rt, &board, &mut passes) {
+        closed(board, passes.host)
+    } else {
+        None
     }
-    let closed = closed(board, passes.host)?;
-    Some(closed.buffers().count() == 1 && are_counted(closed.buffers().bytes(0)))
+}
+
+/// Whether it has the bytes of all then.
+fn runs_all<R: Threads + Wait + Sync>(rt: &R, alloc: Global) -> bool {
+    match all_run(rt, alloc) {
+        Some(closed) => has_all(&closed),
+        None => false,
+    }
 }
 
 #[test]
 fn four_batches_leave_their_bytes(rt: HostRuntime) {
-    assert!(rt; runs_all(&rt, rt.alloc()) == Some(true));
+    assert!(rt; runs_all(&rt, rt.alloc()));
 }
 
 /// While one pass has the turn the other doesn't get it; then it does.
@@ -146,11 +160,19 @@ fn take_turns(board: &Board, first: &mut Pass, second: &mut Pass) -> bool
     let Some(held) = board.take_memory(first) else {
         return false;
     };
-    if board.take_memory(second).is_some() {
-        return false;
-    }
+    let too_soon = board.take_memory(second).is_some();
     board.give_memory(first, held);
-    board.take_memory(second).is_some()
+    !too_soon && board.take_memory(second).is_some()
+}
+
+/// The same once both batches are started.
+fn start_and_take(board: &Board, first: &mut Pass, second: &mut Pass) -> bool
+    requires first { IsReady board.now first.old 0 (0 ∷ 1 ∷ 2 ∷ []) }
+    requires second { IsReady board.now second.old 1 (3 ∷ 4 ∷ 5 ∷ []) }
+{
+    start(board, first, 0, &[0, 1, 2])
+        && start(board, second, 1, &[3, 4, 5])
+        && take_turns(board, first, second)
 }
 
 /// Whether the turn is had by one pass at a time.
@@ -159,11 +181,8 @@ fn turns_are_taken(board: &Board, passes: &mut Passes) -> Option<bool>
     requires passes { AreNew board.now passes.old }
 {
     hand_all_on(board, &mut passes.host);
-    let ((mut first, mut second), _) = all_rings(board, &mut passes.rings)?;
-    if !start(board, &mut first, 0, &[0, 1, 2]) || !start(board, &mut second, 1, &[3, 4, 5]) {
-        return None;
-    }
-    Some(take_turns(board, &mut first, &mut second))
+    let (mut rings, _) = all_rings(board, &mut passes.rings)?;
+    Some(start_and_take(board, &mut rings.0, &mut rings.1))
 }
 
 /// The same on a board of its own.

@@ -1,21 +1,20 @@
 //! A point that is made, referred to, freed and used again; and a signal that comes before its point.
-ghost use Rattle.std.specs.Prelude.{◌≡◌, true, [], ◌∷◌};
+ghost use Rattle.std.specs.Prelude.{◌≡◌, true, [], ◌∷◌, IfSome};
 ghost use Rattle.vq_board_laws.specs.declared.view.Role.TheVariants.{Ring};
 ghost use Rattle.vq_board_laws.specs.Points.{reference};
-ghost use Rattle.vq_board.specs.Named.{plan_of};
+ghost use Rattle.vq_board.specs.Named.{plan_of, IsOf};
 ghost use Rattle.vq_board_stage.specs.Dealing.{AreNew, IsNew};
 ghost use Rattle.vq_board_actors.specs.Holders.{HasSubmitted, HasReleased, HasPoints, HasReferences};
 ghost use Rattle.vq_board_actors.specs.Holders.{HasFirst, HasBoth, IsToBind};
 ghost use Rattle.vq_board_actors.specs.ThreeSignals.{IsOfThreeSignals};
 
-use std::alloc::Global;
+use crate::tried::{Tried, is_so};
 use vq_board::{Board, Pass, Passes};
 use vq_board_actors::actors::{both_rings, both_submits, shelf};
 use vq_board_actors::rings::{
     fill_first, finds_it_moved_on, is_unbound, refer_first, sees_it_made, signal_first,
     unrefer_first,
 };
-use vq_board_actors::scenes::{Scene, opened};
 use vq_board_actors::shelves::{
     bind_first, bind_second, complete_first, finds_released, give_again, is_in_use, take_first,
     take_second,
@@ -77,99 +76,144 @@ fn use_again(board: &Board, ring: &mut Pass, shelf: &mut Pass) -> bool
         && finds_it_moved_on(board, ring)
 }
 
+/// The first batch is handed on and bound, and run while Q's ring refers to point 0.
+fn runs_first(
+    board: &Board,
+    host: &mut Pass,
+    submits: &mut (Pass, Pass),
+    rings: &mut (Pass, Pass),
+    shelf: &mut Pass,
+) -> bool
+    requires plan { IsOfThreeSignals (plan_of board.now) }
+    requires host { HasSubmitted board.now host.old 0 }
+    requires submitter { HasReleased board.now submits.old.0 0 [] }
+    requires waiting { HasReleased board.now submits.old.1 1 [] }
+    requires first { IsNew board.now rings.old.0 (Ring 0) }
+    requires second { HasReferences board.now rings.old.1 1 [] }
+    requires shelf { HasPoints board.now shelf.old [] [] [] [] }
+    ensures host { result ≡ true → HasSubmitted board.now host.new 2 }
+    ensures submitter { result ≡ true → HasReleased board.now submits.new.0 0 (0 ∷ []) }
+    ensures held { result ≡ true → HasReferences board.now rings.new.1 1 (reference 0 0 ∷ []) }
+    ensures shelf { result ≡ true → HasFirst board.now shelf.new (0 ∷ []) [] }
+{
+    if !hand_first_on(board, host, &mut submits.0, shelf) {
+        return false;
+    }
+    bind_first(board, shelf);
+    submit(board, host, 1);
+    release_waiting(board, &mut submits.1) && run_first(board, &mut rings.0, &mut rings.1)
+}
+
+/// The passes of the threads that submit, of the rings and of the shelf.
+fn all_passes(board: &Board, passes: &mut Passes) -> Option<((Pass, Pass), (Pass, Pass), Pass)>
+    requires { AreNew board.now passes.old }
+    ensures host { passes.new.host ≡ passes.old.host }
+    ensures submitter { IfSome result (λ t. HasReleased board.now t.0.0 0 []) }
+    ensures waiting { IfSome result (λ t. HasReleased board.now t.0.1 1 []) }
+    ensures first { IfSome result (λ t. IsNew board.now t.1.0 (Ring 0)) }
+    ensures second { IfSome result (λ t. IsNew board.now t.1.1 (Ring 1)) }
+    ensures shelf { IfSome result (λ t. HasPoints board.now t.2 [] [] [] []) }
+{
+    let submits = both_submits(board, &mut passes.submits)?;
+    let rings = both_rings(board, &mut passes.rings)?;
+    let shelf = shelf(board, &mut passes.shelves)?;
+    Some((submits, rings, shelf))
+}
+
 /// Whether point 0 is used again as soon as no one refers to it, and not before.
-fn uses_again(board: &Board, passes: &mut Passes) -> Option<bool>
+pub(crate) fn uses_again(board: &Board, passes: &mut Passes) -> bool
     requires plan { IsOfThreeSignals (plan_of board.now) }
     requires passes { AreNew board.now passes.old }
 {
-    let (mut first_submit, mut second_submit) = both_submits(board, &mut passes.submits)?;
-    let (mut first_ring, mut second_ring) = both_rings(board, &mut passes.rings)?;
-    let mut shelf = shelf(board, &mut passes.shelves)?;
-    if !hand_first_on(board, &mut passes.host, &mut first_submit, &mut shelf) {
-        return None;
-    }
-    bind_first(board, &mut shelf);
-    submit(board, &mut passes.host, 1);
-    if !release_waiting(board, &mut second_submit)
-        || !run_first(board, &mut first_ring, &mut second_ring)
-    {
-        return None;
-    }
-    if !hand_second_on(board, &mut passes.host, &mut first_submit, &mut shelf) {
-        return None;
-    }
-    Some(use_again(board, &mut second_ring, &mut shelf))
-}
-
-/// The same on a board of its own.
-fn is_used_again(alloc: Global) -> Option<bool> {
-    let (board, mut passes) = opened(alloc, Scene::Signaling)?;
-    uses_again(&board, &mut passes)
+    let Some((mut submits, mut rings, mut shelf)) = all_passes(board, passes) else {
+        return false;
+    };
+    runs_first(
+        board,
+        &mut passes.host,
+        &mut submits,
+        &mut rings,
+        &mut shelf,
+    ) && hand_second_on(board, &mut passes.host, &mut submits.0, &mut shelf)
+        && use_again(board, &mut rings.1, &mut shelf)
 }
 
 #[test]
 fn a_point_is_used_again(rt: HostRuntime) {
-    assert!(rt; is_used_again(rt.alloc()) == Some(true));
+    assert!(rt; is_so(&rt, rt.alloc(), Tried::Again));
 }
 
-/// Whether a signal comes only once its operation is bound.
-fn binds_before_it_signals(board: &Board, passes: &mut Passes) -> Option<bool>
+/// Whether a signal comes only once its operation is bound, by the passes that take part.
+fn signals_bound(
+    board: &Board,
+    host: &mut Pass,
+    submitter: &mut Pass,
+    ring: &mut Pass,
+    shelf: &mut Pass,
+) -> bool
+    requires plan { IsOfThreeSignals (plan_of board.now) }
+    requires host { HasSubmitted board.now host.old 0 }
+    requires submitter { HasReleased board.now submitter.old 0 [] }
+    requires ring { IsNew board.now ring.old (Ring 0) }
+    requires shelf { HasPoints board.now shelf.old [] [] [] [] }
+{
+    if !hand_first_on(board, host, submitter, shelf) || !fill_first(board, ring) {
+        return false;
+    }
+    if !is_unbound(board, ring) {
+        return false;
+    }
+    bind_first(board, shelf);
+    signal_first(board, ring)
+}
+
+pub(crate) fn binds_before_it_signals(board: &Board, passes: &mut Passes) -> bool
     requires plan { IsOfThreeSignals (plan_of board.now) }
     requires passes { AreNew board.now passes.old }
 {
-    let (mut submitter, _) = both_submits(board, &mut passes.submits)?;
-    let (mut ring, _) = both_rings(board, &mut passes.rings)?;
-    let mut shelf = shelf(board, &mut passes.shelves)?;
-    if !hand_first_on(board, &mut passes.host, &mut submitter, &mut shelf)
-        || !fill_first(board, &mut ring)
-    {
-        return None;
-    }
-    if !is_unbound(board, &mut ring) {
-        return None;
-    }
-    bind_first(board, &mut shelf);
-    Some(signal_first(board, &mut ring))
-}
-
-/// The same on a board of its own.
-fn is_bound_before_it_is_signaled(alloc: Global) -> Option<bool> {
-    let (board, mut passes) = opened(alloc, Scene::Signaling)?;
-    binds_before_it_signals(&board, &mut passes)
+    let Some((mut submits, mut rings, mut shelf)) = all_passes(board, passes) else {
+        return false;
+    };
+    signals_bound(
+        board,
+        &mut passes.host,
+        &mut submits.0,
+        &mut rings.0,
+        &mut shelf,
+    )
 }
 
 #[test]
 fn an_unbound_operation_is_not_signaled(rt: HostRuntime) {
-    assert!(rt; is_bound_before_it_is_signaled(rt.alloc()) == Some(true));
+    assert!(rt; is_so(&rt, rt.alloc(), Tried::Unbound));
 }
 
-/// What the words of the first two points say, once one is made.
-fn two_words(board: &Board, passes: &mut Passes) -> Option<(PointWord, PointWord)>
+/// Whether a pass finds the first point made, and the second one not.
+fn finds_one(board: &Board, host: &mut Pass) -> bool
     requires plan { IsOfThreeSignals (plan_of board.now) }
-    requires passes { AreNew board.now passes.old }
+    requires host { IsOf board.now host.old }
 {
-    let mut shelf = shelf(board, &mut passes.shelves)?;
-    if !take_first(board, &mut shelf) {
-        return None;
-    }
-    let first = board.look(&mut passes.host, 0);
-    Some((first, board.look(&mut passes.host, 1)))
-}
-
-/// The same on a board of its own.
-fn words_of_two(alloc: Global) -> Option<(PointWord, PointWord)> {
-    let (board, mut passes) = opened(alloc, Scene::Signaling)?;
-    two_words(&board, &mut passes)
-}
-
-#[test]
-fn a_point_that_is_not_made_says_nothing(rt: HostRuntime) {
-    let made = carrying(0, 0, false);
     let unmade = PointWord {
         op: 0,
         refs: 0,
         signaled: false,
         held: false,
     };
-    assert!(rt; words_of_two(rt.alloc()) == Some((made, unmade)));
+    board.look(host, 0) == carrying(0, 0, false) && board.look(host, 1) == unmade
+}
+
+/// What the words of the first two points say, once one is made.
+pub(crate) fn has_two_words(board: &Board, passes: &mut Passes) -> bool
+    requires plan { IsOfThreeSignals (plan_of board.now) }
+    requires passes { AreNew board.now passes.old }
+{
+    match shelf(board, &mut passes.shelves) {
+        Some(mut shelf) => take_first(board, &mut shelf) && finds_one(board, &mut passes.host),
+        None => false,
+    }
+}
+
+#[test]
+fn a_point_that_is_not_made_says_nothing(rt: HostRuntime) {
+    assert!(rt; is_so(&rt, rt.alloc(), Tried::Words));
 }

@@ -2,19 +2,17 @@
 ghost use Rattle.std.specs.Prelude.{◌≡◌, true, [], ◌∷◌};
 ghost use Rattle.vq_board_laws.specs.Points.{reference};
 ghost use Rattle.vq_board.specs.Named.{plan_of};
-ghost use Rattle.vq_board_stage.specs.Dealing.{AreNew};
+ghost use Rattle.vq_board_stage.specs.Dealing.{AllFresh, AreNew};
 ghost use Rattle.vq_board_actors.specs.Holders.{HasReferences};
 ghost use Rattle.vq_board_actors.specs.ThreeSignals.{IsOfThreeSignals};
 
-use std::alloc::Global;
+use crate::tried::{Tried, is_so};
 use std::sync::Wait;
 use std::thread::{Threads, join, yield_now};
 use vq_board::{Board, Pass, Passes, Referred};
 use vq_board_actors::actors::{both_rings, shelf};
-use vq_board_actors::scenes::{Scene, opened};
 use vq_board_actors::shelves::take_first;
 use vq_board_actors::submitting::carrying;
-use vq_point::PointWord;
 
 /// Takes a reference to point 0 for operation 0, as soon as no one changes the point's word meanwhile. It
 /// says whether it did.
@@ -70,13 +68,9 @@ fn refer_often<R: Wait>(rt: &R, board: &Board, mut pass: Pass, queue: u32) -> bo
     true
 }
 
-/// Two passes take references to the point and give them back, each in a thread of its own.
-fn refer_both<R: Threads + Wait + Sync>(
-    rt: &R,
-    board: &Board,
-    first: Pass,
-    second: Pass,
-) -> (bool, bool)
+/// Two passes take references to the point and give them back, each in a thread of its own. It says whether each
+/// reference was had.
+fn refer_both<R: Threads + Wait + Sync>(rt: &R, board: &Board, first: Pass, second: Pass) -> bool
     requires plan { IsOfThreeSignals (plan_of board.now) }
     requires first { HasReferences board.now first 0 [] }
     requires second { HasReferences board.now second 1 [] }
@@ -91,33 +85,41 @@ fn refer_both<R: Threads + Wait + Sync>(
             requires plan { IsOfThreeSignals (plan_of board.now) }
             requires second { HasReferences board.now second 1 [] }
         { refer_often(rt, board, second, 1) },
-    )
+    ) == (true, true)
 }
 
-/// What the point's word says once each pass has given back what it took.
-fn word_after<R: Threads + Wait + Sync>(
+/// The same with the passes of both rings.
+fn refer_by_two<R: Threads + Wait + Sync>(rt: &R, board: &Board, rings: &mut Vec<Pass>) -> bool
+    requires plan { IsOfThreeSignals (plan_of board.now) }
+    requires rings { AllFresh board.now rings.old.items }
+{
+    match both_rings(board, rings) {
+        Some((first, second)) => refer_both(rt, board, first, second),
+        None => false,
+    }
+}
+
+/// Whether the point's word says that it carries operation 0 and nobody refers to it, once each pass has given back
+/// what it took.
+pub(crate) fn gives_back<R: Threads + Wait + Sync>(
     rt: &R,
     board: &Board,
     passes: &mut Passes,
-) -> Option<PointWord>
+) -> bool
     requires plan { IsOfThreeSignals (plan_of board.now) }
     requires passes { AreNew board.now passes.old }
 {
-    let (first, second) = both_rings(board, &mut passes.rings)?;
-    let mut shelf = shelf(board, &mut passes.shelves)?;
-    if !take_first(board, &mut shelf) || refer_both(rt, board, first, second) != (true, true) {
-        return None;
+    match shelf(board, &mut passes.shelves) {
+        Some(mut shelf) => {
+            take_first(board, &mut shelf)
+                && refer_by_two(rt, board, &mut passes.rings)
+                && board.look(&mut shelf, 0) == carrying(0, 0, false)
+        }
+        None => false,
     }
-    Some(board.look(&mut shelf, 0))
-}
-
-/// The same on a board of its own.
-fn last_word<R: Threads + Wait + Sync>(rt: &R, alloc: Global) -> Option<PointWord> {
-    let (board, mut passes) = opened(alloc, Scene::Signaling)?;
-    word_after(rt, &board, &mut passes)
 }
 
 #[test]
 fn references_are_given_back(rt: HostRuntime) {
-    assert!(rt; last_word(&rt, rt.alloc()) == Some(carrying(0, 0, false)));
+    assert!(rt; is_so(&rt, rt.alloc(), Tried::References));
 }

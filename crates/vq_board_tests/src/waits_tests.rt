@@ -2,7 +2,7 @@
 ghost use Rattle.std.specs.Prelude.{[], IfSome};
 ghost use Rattle.vq_board_laws.specs.declared.view.Role.TheVariants.{Shelf};
 ghost use Rattle.vq_board.specs.Named.{plan_of};
-ghost use Rattle.vq_board_stage.specs.Dealing.{AllFresh, AreNew, IsNew};
+ghost use Rattle.vq_board_stage.specs.Dealing.{AllFresh, AreNew, IsDealer, IsNew};
 ghost use Rattle.vq_board_actors.specs.TwoWaits.{IsOfTwoWaits, IsToStart};
 
 use std::alloc::Global;
@@ -33,38 +33,48 @@ fn ring(board: &Board, rings: &mut Vec<Pass>) -> Option<Pass>
 }
 
 /// P's ring runs the batch, once it sees both signals. It says whether it did.
-fn run(board: &Board, mut ring: Pass) -> bool
+fn run(board: &Board, ring: &mut Pass) -> bool
     requires plan { IsOfTwoWaits (plan_of board.now) }
-    requires ring { IsToStart board.now ring [] }
+    requires ring { IsToStart board.now ring.old [] }
 {
-    refer_to_both(board, &mut ring)
-        && start_waiting(board, &mut ring)
-        && finish_waiting(board, &mut ring)
+    refer_to_both(board, ring) && start_waiting(board, ring) && finish_waiting(board, ring)
 }
 
 /// Whether all jobs are found finished, where the host made both signals and the ring then ran the
 /// batch.
-fn runs_after_both(board: &Board, passes: &mut Passes) -> Option<bool>
+fn runs_after_both(
+    board: &Board,
+    host: &mut Pass,
+    shelves: &mut (Pass, Pass),
+    ring: &mut Pass,
+) -> bool
+    requires plan { IsOfTwoWaits (plan_of board.now) }
+    requires host { IsDealer board.now host.old }
+    requires first { IsNew board.now shelves.old.0 (Shelf 0) }
+    requires second { IsNew board.now shelves.old.1 (Shelf 1) }
+    requires ring { IsToStart board.now ring.old [] }
+{
+    make_signal(board, host, &mut shelves.0, 0, 0)
+        && make_signal(board, host, &mut shelves.1, 1, 1)
+        && hand_on_waiting(board, host)
+        && run(board, ring)
+        && all_finished(board, host, 3)
+}
+
+/// The same with the passes that take part.
+fn runs(board: &Board, passes: &mut Passes) -> Option<bool>
     requires plan { IsOfTwoWaits (plan_of board.now) }
     requires passes { AreNew board.now passes.old }
 {
-    let (mut first, mut second) = both_shelves(board, &mut passes.shelves)?;
-    let ring = ring(board, &mut passes.rings)?;
-    if !make_signal(board, &mut passes.host, &mut first, 0, 0)
-        || !make_signal(board, &mut passes.host, &mut second, 1, 1)
-    {
-        return None;
-    }
-    if !hand_on_waiting(board, &mut passes.host) || !run(board, ring) {
-        return None;
-    }
-    Some(all_finished(board, &mut passes.host, 3))
+    let mut shelves = both_shelves(board, &mut passes.shelves)?;
+    let mut ring = ring(board, &mut passes.rings)?;
+    Some(runs_after_both(board, &mut passes.host, &mut shelves, &mut ring))
 }
 
 /// The same on a board of its own.
 fn is_run_after_both(alloc: Global) -> Option<bool> {
     let (board, mut passes) = opened(alloc, Scene::Waiting)?;
-    runs_after_both(&board, &mut passes)
+    runs(&board, &mut passes)
 }
 
 #[test]
