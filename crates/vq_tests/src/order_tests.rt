@@ -1,11 +1,10 @@
 //! The order of a plan of two queues and two timelines, and waits on immediate queues.
+use crate::plan_tests::lowered;
 use std::alloc::Global;
 use vq_order::{OrderFault, Ordered, check};
-use vq_script::{Form, is_short, parse};
-use vq_spec::Plan;
 
 /// P signals A in two batches; the first batch of Q waits for the first of them and signals B, the
-/// second waits for the second.
+/// second waits for the second. So there are four jobs, three signal operations and two chains.
 const SCRIPT: &[u8] = b"timeline A 0
 timeline B 0
 queue P threaded
@@ -27,16 +26,10 @@ end
 
 /// What a check says of a text that has a plan.
 fn checked(alloc: Global, text: &[u8]) -> Option<Result<Ordered, OrderFault>> {
-    if !is_short(text) {
-        return None;
+    match lowered(alloc, text) {
+        Some(Ok(plan)) => Some(check(alloc, plan)),
+        _ => None,
     }
-    let script = parse(alloc, text, Form::Plain).ok()?;
-    Some(check(alloc, Plan::lower(alloc, script).ok()?))
-}
-
-/// The lawful plan of the script, which has four jobs, three signal operations and two chains.
-fn ordered(alloc: Global) -> Option<Ordered> {
-    checked(alloc, SCRIPT)?.ok()
 }
 
 /// Whether one job of a plan happens before another.
@@ -48,97 +41,127 @@ fn is_before(ordered: &Ordered, first: u32, second: u32) -> Option<bool> {
     Some(ordered.before(first, second))
 }
 
-/// Whether one job happens before another.
-fn before(alloc: Global, first: u32, second: u32) -> Option<bool> {
-    let ordered = ordered(alloc)?;
-    is_before(&ordered, first, second)
-}
+/// Which job happens before which, and which doesn't.
+const JOBS: [(u32, u32, bool); 9] = [
+    (0, 1, true),
+    (0, 2, true),
+    (0, 3, true),
+    (1, 3, true),
+    (2, 3, true),
+    (1, 2, false),
+    (2, 1, false),
+    (1, 0, false),
+    (3, 3, false),
+];
 
-#[test]
-fn jobs_are_in_order(rt: HostRuntime) {
-    for (first, second, want) in [
-        (0, 1, true),
-        (0, 2, true),
-        (0, 3, true),
-        (1, 3, true),
-        (2, 3, true),
-        (1, 2, false),
-        (2, 1, false),
-        (1, 0, false),
-        (3, 3, false),
-    ] {
-        assert!(rt; before(rt.alloc(), first, second) == Some(want));
+/// Whether jobs are in this order.
+fn are_before(ordered: &Ordered, rows: &[(u32, u32, bool)]) -> bool {
+    for (first, second, want) in rows {
+        if is_before(ordered, *first, *second) != Some(*want) {
+            return false;
+        }
     }
+    true
 }
 
 /// Whether an operation of a plan is sure for a job.
-fn is_sure_in(ordered: &Ordered, op: u32, job: u32) -> Option<bool> {
+fn is_sure(ordered: &Ordered, op: u32, job: u32) -> Option<bool> {
     if op >= ordered.plan().ops() || job >= ordered.plan().jobs() {
         return None;
     }
     Some(ordered.is_sure(op, job))
 }
 
-/// Whether an operation is sure for a job.
-fn is_sure(alloc: Global, op: u32, job: u32) -> Option<bool> {
-    let ordered = ordered(alloc)?;
-    is_sure_in(&ordered, op, job)
-}
+/// Which operation is sure for which job, and which isn't.
+const SIGNALS: [(u32, u32, bool); 6] = [
+    (0, 1, true),
+    (0, 2, true),
+    (1, 2, false),
+    (1, 3, true),
+    (2, 1, false),
+    (2, 3, true),
+];
 
-#[test]
-fn signals_are_sure(rt: HostRuntime) {
-    for (op, job, want) in [
-        (0, 1, true),
-        (0, 2, true),
-        (1, 2, false),
-        (1, 3, true),
-        (2, 1, false),
-        (2, 3, true),
-    ] {
-        assert!(rt; is_sure(rt.alloc(), op, job) == Some(want));
+/// Whether operations are so sure.
+fn are_sure(ordered: &Ordered, rows: &[(u32, u32, bool)]) -> bool {
+    for (op, job, want) in rows {
+        if is_sure(ordered, *op, *job) != Some(*want) {
+            return false;
+        }
     }
+    true
 }
 
 /// Whether a chain of a plan has at least and at most so much when a job starts and while it runs.
-fn has_bounds(ordered: &Ordered, job: u32, chain: u32, floor: u64, ceiling: u64) -> bool {
+fn is_between(ordered: &Ordered, job: u32, chain: u32, floor: u64, ceiling: u64) -> bool {
     if job >= ordered.plan().jobs() || chain >= ordered.plan().chains() {
         return false;
     }
     ordered.floor(job, chain) == floor && ordered.ceiling(job, chain) == ceiling
 }
 
-/// Whether a chain has at least and at most so much when a job starts and while it runs.
-fn is_between(alloc: Global, job: u32, chain: u32, floor: u64, ceiling: u64) -> bool {
-    match ordered(alloc) {
-        Some(ordered) => has_bounds(&ordered, job, chain, floor, ceiling),
+/// What a job finds in a chain, at least and at most.
+const CHAINS: [(u32, u32, u64, u64); 8] = [
+    (0, 0, 0, 0),
+    (1, 0, 2, 2),
+    (2, 0, 2, 7),
+    (3, 0, 7, 7),
+    (0, 1, 0, 0),
+    (1, 1, 0, 4),
+    (2, 1, 0, 0),
+    (3, 1, 4, 4),
+];
+
+/// Whether chains are between these bounds.
+fn are_between(ordered: &Ordered, rows: &[(u32, u32, u64, u64)]) -> bool {
+    for (job, chain, floor, ceiling) in rows {
+        if !is_between(ordered, *job, *chain, *floor, *ceiling) {
+            return false;
+        }
+    }
+    true
+}
+
+/// Whether the order of a plan is that of the script.
+fn is_of_script(ordered: &Ordered) -> bool {
+    are_before(ordered, &JOBS) && are_sure(ordered, &SIGNALS) && are_between(ordered, &CHAINS)
+}
+
+/// Whether the script is lawful, and its order is right.
+fn is_ordered(alloc: Global) -> bool {
+    match checked(alloc, SCRIPT) {
+        Some(Ok(ordered)) => is_of_script(&ordered),
+        _ => false,
+    }
+}
+
+#[test]
+fn jobs_signals_and_chains_are_in_order(rt: HostRuntime) {
+    assert!(rt; is_ordered(rt.alloc()));
+}
+
+/// Whether a text that has a plan has this fault, or is lawful where that is none.
+fn has_fault(alloc: Global, text: &[u8], want: Option<OrderFault>) -> bool {
+    match checked(alloc, text) {
+        Some(Ok(_ordered)) => want.is_none(),
+        Some(Err(fault)) => want == Some(fault),
         None => false,
     }
 }
 
-#[test]
-fn chains_are_between_floor_and_ceiling(rt: HostRuntime) {
-    for (job, chain, floor, ceiling) in [
-        (0, 0, 0, 0),
-        (1, 0, 2, 2),
-        (2, 0, 2, 7),
-        (3, 0, 7, 7),
-        (0, 1, 0, 0),
-        (1, 1, 0, 4),
-        (2, 1, 0, 0),
-        (3, 1, 4, 4),
-    ] {
-        assert!(rt; is_between(rt.alloc(), job, chain, floor, ceiling));
+/// Whether texts have these faults, or none.
+fn have_faults(alloc: Global, rows: &[(&[u8], Option<OrderFault>)]) -> bool {
+    for (text, fault) in rows {
+        if !has_fault(alloc, text, *fault) {
+            return false;
+        }
     }
-}
-
-/// The fault of a text that has a plan; none within says that it is lawful.
-fn fault(alloc: Global, text: &[u8]) -> Option<Option<OrderFault>> {
-    Some(checked(alloc, text)?.err())
+    true
 }
 
 #[test]
 fn immediate_batches_wait_for_pending_signals(rt: HostRuntime) {
-    for (text, want) in [
+    let rows = [
         // the signal is written after the wait
         (
             b"timeline A 0
@@ -222,7 +245,6 @@ end
 ",
             None,
         ),
-    ] {
-        assert!(rt; fault(rt.alloc(), text) == Some(want));
-    }
+    ];
+    assert!(rt; have_faults(rt.alloc(), &rows));
 }

@@ -25,68 +25,63 @@ signal A 9
 end
 ";
 
+/// The text of the buffer after the script.
+const BUFFERS: &[u8] = b"buffer X 17\n01000000020000000300000000000000\n00\nend\n";
+
 /// The plan of a text that stands for a script, or why it has none.
 pub(crate) fn lowered(alloc: Global, text: &[u8]) -> Option<Result<Plan, PlanFault>> {
     if !is_short(text) {
         return None;
     }
-    let script = parse(alloc, text, Form::Plain).ok()?;
-    Some(Plan::lower(alloc, script))
-}
-
-/// The plan of the script.
-fn plan(alloc: Global) -> Option<Plan> {
-    lowered(alloc, SCRIPT)?.ok()
+    match parse(alloc, text, Form::Plain) {
+        Ok(script) => Some(Plan::lower(alloc, script)),
+        Err(_) => None,
+    }
 }
 
 /// Whether this operation, or none, resolves a wait for a value of a chain.
-fn resolves(alloc: Global, chain: u32, value: u64, op: Option<u32>) -> bool {
-    match plan(alloc) {
-        Some(plan) => chain < plan.chains() && plan.resolver(chain, value) == op,
-        None => false,
-    }
+fn resolves(plan: &Plan, chain: u32, value: u64, op: Option<u32>) -> bool {
+    chain < plan.chains() && plan.resolver(chain, value) == op
 }
 
-#[test]
-fn waits_are_resolved(rt: HostRuntime) {
-    for (chain, value, op) in [
-        (0, 3, Some(1)),
-        (0, 5, Some(1)),
-        (0, 6, Some(2)),
-        (0, 10, None),
-        (1, 1, Some(0)),
-        (1, 2, None),
-    ] {
-        assert!(rt; resolves(rt.alloc(), chain, value, op));
+/// Which operation resolves a wait for which value of which chain.
+const WAITS: [(u32, u64, Option<u32>); 6] = [
+    (0, 3, Some(1)),
+    (0, 5, Some(1)),
+    (0, 6, Some(2)),
+    (0, 10, None),
+    (1, 1, Some(0)),
+    (1, 2, None),
+];
+
+/// Whether these operations resolve waits.
+fn are_resolved(plan: &Plan, rows: &[(u32, u64, Option<u32>)]) -> bool {
+    for (chain, value, op) in rows {
+        if !resolves(plan, *chain, *value, *op) {
+            return false;
+        }
     }
+    true
 }
 
 /// Whether a job waits for these jobs and these operations, and has these edges.
-fn waits(alloc: Global, j: u32, firsts: &[u32], ops: &[u32], edges: &[u32]) -> bool {
-    match plan(alloc) {
-        Some(plan) => {
-            j < plan.jobs()
-                && plan.must_finish(j) == firsts
-                && plan.awaited(j) == ops
-                && plan.edges(j) == edges
-        }
-        None => false,
-    }
+fn waits(plan: &Plan, j: u32, firsts: &[u32], ops: &[u32], edges: &[u32]) -> bool {
+    j < plan.jobs()
+        && plan.must_finish(j) == firsts
+        && plan.awaited(j) == ops
+        && plan.edges(j) == edges
 }
 
-#[test]
-fn jobs_have_edges(rt: HostRuntime) {
-    assert!(rt; waits(rt.alloc(), 0, &[], &[1], &[1]));
-    assert!(rt; waits(rt.alloc(), 1, &[], &[], &[]));
-    assert!(rt; waits(rt.alloc(), 2, &[1], &[0], &[1, 0]));
+/// Whether the jobs of the script wait so.
+fn jobs_wait(plan: &Plan) -> bool {
+    waits(plan, 0, &[], &[1], &[1])
+        && waits(plan, 1, &[], &[], &[])
+        && waits(plan, 2, &[1], &[0], &[1, 0])
 }
 
-/// Whether the slow run does all jobs in this order, and leaves these payloads.
-fn runs(alloc: Global, order: &[u32], payloads: &[u64]) -> bool {
-    let Some(plan) = plan(alloc) else {
-        return false;
-    };
-    match slow_order(alloc, &plan) {
+/// Whether the slow order does all jobs in this order, and leaves these payloads.
+fn runs(alloc: Global, plan: &Plan, order: &[u32], payloads: &[u64]) -> bool {
+    match slow_order(alloc, plan) {
         Ok(run) => {
             run.order.as_slice() == order
                 && run.stuck.len() == 0
@@ -96,37 +91,64 @@ fn runs(alloc: Global, order: &[u32], payloads: &[u64]) -> bool {
     }
 }
 
-#[test]
-fn the_slow_order_does_the_lowest_ready_job(rt: HostRuntime) {
-    assert!(rt; runs(rt.alloc(), &[1, 0, 2], &[9, 1]));
-}
-
 /// The text of the buffers after the slow run of a plan.
 fn text_of(alloc: Global, plan: &Plan) -> Option<Vec<u8>> {
-    let run = slow_run(alloc, plan).ok()?;
-    buffers_text(alloc, plan, &run.buffers).ok()
+    match slow_run(alloc, plan) {
+        Ok(run) => buffers_text(alloc, plan, &run.buffers).ok(),
+        Err(_) => None,
+    }
 }
 
-/// The text of the buffers after the slow run.
-fn text(alloc: Global) -> Option<Vec<u8>> {
-    let plan = plan(alloc)?;
-    text_of(alloc, &plan)
+/// Whether the slow run of a plan leaves buffers with this text.
+fn leaves(alloc: Global, plan: &Plan, want: &[u8]) -> bool {
+    match text_of(alloc, plan) {
+        Some(text) => text.as_slice() == want,
+        None => false,
+    }
+}
+
+/// Whether a plan is that of the script: the lowest job that is ready is done first.
+fn is_of_script(alloc: Global, plan: &Plan) -> bool {
+    are_resolved(plan, &WAITS)
+        && jobs_wait(plan)
+        && runs(alloc, plan, &[1, 0, 2], &[9, 1])
+        && leaves(alloc, plan, BUFFERS)
+}
+
+/// Whether the script has its plan.
+fn is_planned(alloc: Global) -> bool {
+    match lowered(alloc, SCRIPT) {
+        Some(Ok(plan)) => is_of_script(alloc, &plan),
+        _ => false,
+    }
 }
 
 #[test]
-fn buffers_are_written_as_text(rt: HostRuntime) {
-    let want = b"buffer X 17\n01000000020000000300000000000000\n00\nend\n";
-    assert!(rt; text(rt.alloc()).is_some_and(|text| text.as_slice() == want.as_slice()));
+fn waits_are_resolved_and_jobs_are_done(rt: HostRuntime) {
+    assert!(rt; is_planned(rt.alloc()));
 }
 
-/// Why a script has no plan.
-fn fault(alloc: Global, text: &[u8]) -> Option<PlanFault> {
-    lowered(alloc, text)?.err()
+/// Whether a script has no plan for this fault.
+fn has_fault(alloc: Global, text: &[u8], want: PlanFault) -> bool {
+    match lowered(alloc, text) {
+        Some(Err(fault)) => fault == want,
+        _ => false,
+    }
+}
+
+/// Whether scripts have no plan for these faults.
+fn have_faults(alloc: Global, rows: &[(&[u8], PlanFault)]) -> bool {
+    for (text, fault) in rows {
+        if !has_fault(alloc, text, *fault) {
+            return false;
+        }
+    }
+    true
 }
 
 #[test]
 fn faulty_uses_are_found(rt: HostRuntime) {
-    for (text, want) in [
+    let rows = [
         (
             b"binary S\nqueue Q threaded\nsubmit Q\nwait S\nend\n".as_slice(),
             PlanFault::NoSignal { line: 4 },
@@ -154,7 +176,6 @@ end
 ",
             PlanFault::NoSignal { line: 10 },
         ),
-    ] {
-        assert!(rt; fault(rt.alloc(), text) == Some(want));
-    }
+    ];
+    assert!(rt; have_faults(rt.alloc(), &rows));
 }

@@ -1,18 +1,10 @@
 //! Texts with a schedule, with what the rules of the format say of them.
-use crate::script_tests::{at, printed, text_of, verdict};
+use crate::script_tests::{
+    are_faulty, are_fine, have_canonical, is_faulty, is_fine, script_of_lines,
+};
 use std::alloc::Global;
 use vq_model::script::{ActorName, Script};
 use vq_model::statement::{FaultKind, Form};
-use vq_script::{ScriptFault, is_short, parse};
-
-/// The script that lines with a schedule stand for, with ` / ` between them.
-fn scheduled(alloc: Global, lines: &str) -> Result<Script, ScriptFault> {
-    let text = text_of(alloc, lines, "", 0)?;
-    if !is_short(text.as_bytes()) {
-        return Err(ScriptFault::Memory);
-    }
-    parse(alloc, text.as_bytes(), Form::Scheduled)
-}
 
 fn same_actor(one: ActorName, other: ActorName) -> bool {
     match (one, other) {
@@ -39,108 +31,100 @@ fn has_turns(script: &Script, wanted: &[(u32, ActorName, usize)]) -> bool {
     turns.next().is_none()
 }
 
+/// Whether lines stand for a script with these turns.
+fn schedules(alloc: Global, lines: &str, wanted: &[(u32, ActorName, usize)]) -> bool {
+    match script_of_lines(alloc, lines, Form::Scheduled) {
+        Ok(script) => script.scheduled && has_turns(&script, wanted),
+        Err(_) => false,
+    }
+}
+
+/// The turns of the lines in `turns_of_schedules`.
+const TURNS: [(u32, ActorName, usize); 5] = [
+    (7, ActorName::Host, 1),
+    (9, ActorName::Submit(0), 3),
+    (11, ActorName::Ring(1), 4),
+    (12, ActorName::Ring(0), 2),
+    (13, ActorName::Host, 1),
+];
+
 #[test]
 fn turns_of_schedules(rt: HostRuntime) {
     let lines =
         "buffer X 4 / queue P threaded / queue Q immediate / submit P / end / schedule # of turns / host /  / \
          \tS:P  3 # three / # none / R:Q 4 / R:P 0x2 / host 001";
-    let script = scheduled(rt.alloc(), lines).expect(&rt, "the text has no fault");
-    let wanted = [
-        (7, ActorName::Host, 1),
-        (9, ActorName::Submit(0), 3),
-        (11, ActorName::Ring(1), 4),
-        (12, ActorName::Ring(0), 2),
-        (13, ActorName::Host, 1),
-    ];
-    assert!(rt; script.scheduled);
-    assert!(rt; has_turns(&script, &wanted));
-    let empty = scheduled(rt.alloc(), "schedule").expect(&rt, "the text has no fault");
-    assert!(rt; empty.scheduled);
-    assert!(rt; has_turns(&empty, &[]));
+    assert!(rt; schedules(rt.alloc(), lines, &TURNS));
+    assert!(rt; schedules(rt.alloc(), "schedule", &[]));
 }
+
+const DECLARED: &str = "timeline T 0 / queue P threaded / queue I immediate / schedule / host";
+
+/// Lines behind these with a fault.
+const FAULTY: [(&str, u32, FaultKind); 16] = [
+    ("host 1 2", 6, FaultKind::Syntax),
+    ("s:P", 6, FaultKind::Syntax),
+    ("X:P", 6, FaultKind::Syntax),
+    ("S:", 6, FaultKind::Syntax),
+    ("S:9", 6, FaultKind::Syntax),
+    ("P", 6, FaultKind::Syntax),
+    ("submit P", 6, FaultKind::Syntax),
+    ("schedule", 6, FaultKind::Syntax),
+    ("host idle", 6, FaultKind::Number),
+    ("S:I 18446744073709551616", 6, FaultKind::Number),
+    ("S:I 0", 6, FaultKind::Name),
+    ("R:N", 6, FaultKind::Name),
+    ("S:T", 6, FaultKind::Name),
+    ("S:P 0", 6, FaultKind::Range),
+    ("host 65536", 6, FaultKind::Limit),
+    ("R:P 18446744073709551615", 6, FaultKind::Limit),
+];
 
 #[test]
 fn faults_of_turns(rt: HostRuntime) {
-    let declared = "timeline T 0 / queue P threaded / queue I immediate / schedule / host";
-    let lines = [
-        ("R:I", Ok(())),
-        ("host 65535", Ok(())),
-        ("host 1 2", at(6, FaultKind::Syntax)),
-        ("s:P", at(6, FaultKind::Syntax)),
-        ("X:P", at(6, FaultKind::Syntax)),
-        ("S:", at(6, FaultKind::Syntax)),
-        ("S:9", at(6, FaultKind::Syntax)),
-        ("P", at(6, FaultKind::Syntax)),
-        ("submit P", at(6, FaultKind::Syntax)),
-        ("schedule", at(6, FaultKind::Syntax)),
-        ("host idle", at(6, FaultKind::Number)),
-        ("S:I 18446744073709551616", at(6, FaultKind::Number)),
-        ("S:I 0", at(6, FaultKind::Name)),
-        ("R:N", at(6, FaultKind::Name)),
-        ("S:T", at(6, FaultKind::Name)),
-        ("S:P 0", at(6, FaultKind::Range)),
-        ("host 65536", at(6, FaultKind::Limit)),
-        ("R:P 18446744073709551615", at(6, FaultKind::Limit)),
-    ];
-    for (line, want) in lines {
-        let text = text_of(rt.alloc(), declared, line, 1).expect(&rt, "memory");
-        assert_eq!(rt;
-            verdict(rt.alloc(), text.as_bytes(), Form::Scheduled),
-            want,
-            "{line}"
-        );
+    let (alloc, form) = (rt.alloc(), Form::Scheduled);
+    assert!(rt; are_fine(alloc, form, DECLARED, &["R:I", "host 65535"]));
+    assert!(rt; are_faulty(alloc, form, DECLARED, &FAULTY));
+}
+
+/// Texts whose schedule is missing, stands at a wrong place or is written wrongly.
+const PLACES: [(&str, u32); 7] = [
+    ("", 1),
+    ("queue P threaded", 2),
+    ("queue P threaded / submit P", 3),
+    ("queue P threaded / submit P / schedule", 3),
+    ("schedule / queue P threaded", 2),
+    ("schedule 1", 1),
+    ("host", 1),
+];
+
+/// Whether each has its first fault there.
+fn are_misplaced(alloc: Global, rows: &[(&str, u32)]) -> bool {
+    for (lines, line) in rows {
+        if !is_faulty(
+            alloc,
+            Form::Scheduled,
+            lines,
+            "",
+            0,
+            (*line, FaultKind::Syntax),
+        ) {
+            return false;
+        }
     }
+    true
 }
 
 #[test]
 fn places_of_schedules(rt: HostRuntime) {
-    let texts = [
-        ("", Form::Scheduled, at(1, FaultKind::Syntax)),
-        (
-            "queue P threaded",
-            Form::Scheduled,
-            at(2, FaultKind::Syntax),
-        ),
-        ("queue P threaded / schedule", Form::Scheduled, Ok(())),
-        (
-            "queue P threaded / schedule",
-            Form::Plain,
-            at(2, FaultKind::Syntax),
-        ),
-        (
-            "queue P threaded / submit P",
-            Form::Scheduled,
-            at(3, FaultKind::Syntax),
-        ),
-        (
-            "queue P threaded / submit P / schedule",
-            Form::Scheduled,
-            at(3, FaultKind::Syntax),
-        ),
-        (
-            "schedule / queue P threaded",
-            Form::Scheduled,
-            at(2, FaultKind::Syntax),
-        ),
-        ("schedule 1", Form::Scheduled, at(1, FaultKind::Syntax)),
-        ("host", Form::Scheduled, at(1, FaultKind::Syntax)),
-    ];
-    for (lines, form, want) in texts {
-        let text = text_of(rt.alloc(), lines, "", 0).expect(&rt, "memory");
-        assert_eq!(rt; verdict(rt.alloc(), text.as_bytes(), form), want, "{lines}");
-    }
-    for (again, count, want) in [
-        ("R:P 0x4000", 4, Ok(())),
-        ("R:P 0x4000", 5, at(7, FaultKind::Limit)),
-    ] {
-        let declared = "queue P threaded / schedule";
-        let text = text_of(rt.alloc(), declared, again, count).expect(&rt, "memory");
-        assert_eq!(rt;
-            verdict(rt.alloc(), text.as_bytes(), Form::Scheduled),
-            want,
-            "{count}"
-        );
-    }
+    let (alloc, form) = (rt.alloc(), Form::Scheduled);
+    let declared = "queue P threaded / schedule";
+    assert!(rt; are_misplaced(alloc, &PLACES));
+    let (late, many) = ((2, FaultKind::Syntax), (7, FaultKind::Limit));
+    assert!(rt; is_faulty(alloc, Form::Plain, declared, "", 0, late));
+    assert!(rt;
+        is_fine(alloc, form, declared, "", 0) && is_fine(alloc, form, declared, "R:P 0x4000", 4)
+    );
+    assert!(rt; is_faulty(alloc, form, declared, "R:P 0x4000", 5, many));
 }
 
 #[test]
@@ -157,14 +141,5 @@ fn canonical_schedules(rt: HostRuntime) {
             "fence F\nqueue P threaded\nsubmit P\nfence F\nend\nschedule\nR:P 65536\n",
         ),
     ];
-    for (text, canonical) in texts {
-        // A canonical text is that of the script that it stands for.
-        for text in [text, canonical] {
-            let bytes = printed(rt.alloc(), text.as_bytes(), Form::Scheduled).expect(
-                &rt,
-                "the text has no fault",
-            );
-            assert_eq!(rt; bytes.as_slice(), canonical.as_bytes(), "{text:?}");
-        }
-    }
+    assert!(rt; have_canonical(rt.alloc(), Form::Scheduled, &texts));
 }

@@ -21,26 +21,88 @@ pub(crate) fn text_of(
     Ok(text)
 }
 
-/// The script that lines stand for, with ` / ` between them.
-fn script_of(alloc: Global, lines: &str) -> Result<Script, ScriptFault> {
-    let text = text_of(alloc, lines, "", 0)?;
-    if !is_short(text.as_bytes()) {
-        return Err(ScriptFault::Memory);
-    }
-    parse(alloc, text.as_bytes(), Form::Plain)
-}
-
-/// The first fault of a text, if it has one.
-pub(crate) fn verdict(alloc: Global, text: &[u8], form: Form) -> Result<(), ScriptFault> {
+/// The script that a text stands for.
+fn script_of(alloc: Global, text: &[u8], form: Form) -> Result<Script, ScriptFault> {
     if !is_short(text) {
         return Err(ScriptFault::Memory);
     }
-    parse(alloc, text, form)?;
-    Ok(())
+    parse(alloc, text, form)
 }
 
-pub(crate) fn at(line: u32, kind: FaultKind) -> Result<(), ScriptFault> {
-    Err(ScriptFault::At { line, kind })
+/// The script that lines stand for, with ` / ` between them.
+pub(crate) fn script_of_lines(
+    alloc: Global,
+    lines: &str,
+    form: Form,
+) -> Result<Script, ScriptFault> {
+    let text = text_of(alloc, lines, "", 0)?;
+    script_of(alloc, text.as_bytes(), form)
+}
+
+/// The first fault of a text, if it has one.
+fn verdict(alloc: Global, text: &[u8], form: Form) -> Result<(), ScriptFault> {
+    match script_of(alloc, text, form) {
+        Ok(_script) => Ok(()),
+        Err(fault) => Err(fault),
+    }
+}
+
+/// What is said of lines, and of others after them so many times.
+fn verdict_of(
+    alloc: Global,
+    form: Form,
+    first: &str,
+    again: &str,
+    count: usize,
+) -> Result<(), ScriptFault> {
+    let text = text_of(alloc, first, again, count)?;
+    verdict(alloc, text.as_bytes(), form)
+}
+
+/// Whether such a text has no fault.
+pub(crate) fn is_fine(alloc: Global, form: Form, first: &str, again: &str, count: usize) -> bool {
+    verdict_of(alloc, form, first, again, count) == Ok(())
+}
+
+/// A first fault: its line and its kind.
+pub(crate) type At = (u32, FaultKind);
+
+/// Whether such a text has this first fault.
+pub(crate) fn is_faulty(
+    alloc: Global,
+    form: Form,
+    first: &str,
+    again: &str,
+    count: usize,
+    at: At,
+) -> bool {
+    let (line, kind) = at;
+    verdict_of(alloc, form, first, again, count) == Err(ScriptFault::At { line, kind })
+}
+
+/// Whether each of these lines behind others has no fault.
+pub(crate) fn are_fine(alloc: Global, form: Form, first: &str, lines: &[&str]) -> bool {
+    for line in lines {
+        if !is_fine(alloc, form, first, line, 1) {
+            return false;
+        }
+    }
+    true
+}
+
+/// Whether each of these lines behind others has its first fault.
+pub(crate) fn are_faulty(
+    alloc: Global,
+    form: Form,
+    first: &str,
+    rows: &[(&str, u32, FaultKind)],
+) -> bool {
+    for (lines, line, kind) in rows {
+        if !is_faulty(alloc, form, first, lines, 1, (*line, *kind)) {
+            return false;
+        }
+    }
+    true
 }
 
 /// Whether a script has the declarations of the text in `declarations_and_marks`.
@@ -85,14 +147,20 @@ fn has_marks(script: &Script) -> bool {
         && last.fence.is_none()
 }
 
+/// Whether lines stand for a script with those declarations and batches.
+fn has_both(alloc: Global, lines: &str) -> bool {
+    match script_of_lines(alloc, lines, Form::Plain) {
+        Ok(script) => has_declarations(&script) && has_marks(&script),
+        Err(_) => false,
+    }
+}
+
 #[test]
 fn declarations_and_marks(rt: HostRuntime) {
     let lines =
         "buffer X 8 # bytes / timeline T 0x5 / binary S / fence F / queue I immediate /  / queue Q deferred \r / \
          submit Q / wait T 7 / wait S / signal T 9 / signal S / fence F / end / submit I / wait S / end";
-    let script = script_of(rt.alloc(), lines).expect(&rt, "the text has no fault");
-    assert!(rt; has_declarations(&script));
-    assert!(rt; has_marks(&script));
+    assert!(rt; has_both(rt.alloc(), lines));
 }
 
 /// Whether commands are those of the text in `commands`.
@@ -144,108 +212,143 @@ fn is_update(command: &Command) -> bool {
     }
 }
 
+/// Whether a script has one batch, with those commands.
+fn has_commands(script: &Script) -> bool {
+    match script.jobs.as_slice() {
+        [Job::Batch(batch)] => are_commands(batch.commands.as_slice()),
+        _ => false,
+    }
+}
+
+/// Whether lines stand for such a script.
+fn say_commands(alloc: Global, lines: &str) -> bool {
+    match script_of_lines(alloc, lines, Form::Plain) {
+        Ok(script) => has_commands(&script),
+        Err(_) => false,
+    }
+}
+
 #[test]
 fn commands(rt: HostRuntime) {
     let lines =
         "buffer X 16 / buffer Y 8 / queue Q immediate / submit Q / fill Y 4 whole 7 / fill X 0 8 0xFF / \
          update X 8 01fFA0b1 / copy X 3 Y 2 5 / end";
-    let script = script_of(rt.alloc(), lines).expect(&rt, "the text has no fault");
-    let [Job::Batch(batch)] = script.jobs.as_slice() else {
-        panic!(rt; "one batch is wanted");
-    };
-    assert!(rt; are_commands(batch.commands.as_slice()));
+    assert!(rt; say_commands(rt.alloc(), lines));
 }
+
+/// A fault of each kind, behind a comment and four declarations.
+const KINDS: [(&str, u32, FaultKind); 11] = [
+    ("version 2", 6, FaultKind::Syntax),
+    ("submit I / wait T 1 from 1", 7, FaultKind::Syntax),
+    ("submit Q / end / buffer Y 0y", 8, FaultKind::Order),
+    ("submit Q / signal T 1 / wait T 1", 8, FaultKind::Order),
+    ("buffer X 0y", 6, FaultKind::Number),
+    ("submit Q / fill T 9 9 0", 7, FaultKind::Name),
+    ("queue X threaded", 6, FaultKind::Twice),
+    (
+        "submit Q / fill X 4 18446744073709551612 0",
+        7,
+        FaultKind::Range,
+    ),
+    ("submit Q / copy X 0 X 3 4", 7, FaultKind::Overlap),
+    ("buffer Y 1048569", 6, FaultKind::Limit),
+    ("submit Q", 7, FaultKind::Syntax),
+];
 
 #[test]
 fn kinds_of_faults(rt: HostRuntime) {
-    let declared = "buffer X 8 / timeline T 0 / queue I immediate / queue Q threaded";
-    let lines = [
-        ("version 2", 6, FaultKind::Syntax),
-        ("submit I / wait T 1 from 1", 7, FaultKind::Syntax),
-        ("submit Q / end / buffer Y 0y", 8, FaultKind::Order),
-        ("submit Q / signal T 1 / wait T 1", 8, FaultKind::Order),
-        ("buffer X 0y", 6, FaultKind::Number),
-        ("submit Q / fill T 9 9 0", 7, FaultKind::Name),
-        ("queue X threaded", 6, FaultKind::Twice),
-        (
-            "submit Q / fill X 4 18446744073709551612 0",
-            7,
-            FaultKind::Range,
-        ),
-        ("submit Q / copy X 0 X 3 4", 7, FaultKind::Overlap),
-        ("buffer Y 1048569", 6, FaultKind::Limit),
-        ("submit Q", 7, FaultKind::Syntax),
-    ];
-    for (faulty, line, kind) in lines {
-        let text = text_of(rt.alloc(), declared, faulty, 1).expect(&rt, "memory");
-        let text = text_of(rt.alloc(), "# a text", text.as_str(), 1).expect(&rt, "memory");
-        assert_eq!(rt;
-            verdict(rt.alloc(), text.as_bytes(), Form::Plain),
-            at(line, kind),
-            "{faulty}"
-        );
-    }
+    let declared = "# a text / buffer X 8 / timeline T 0 / queue I immediate / queue Q threaded";
+    assert!(rt; are_faulty(rt.alloc(), Form::Plain, declared, &KINDS));
+}
+
+/// Whether a line may stand in a batch so many times, and no more: with as many as may be the text ends inside the
+/// batch.
+fn may_stand(alloc: Global, again: &str, most: usize, line: u32) -> bool {
+    let submitted = "buffer X 8 / timeline T 0 / queue Q threaded / submit Q";
+    let (open, many) = ((line, FaultKind::Syntax), (line, FaultKind::Limit));
+    is_faulty(alloc, Form::Plain, submitted, again, most, open)
+        && is_faulty(
+            alloc,
+            Form::Plain,
+            submitted,
+            again,
+            most.saturating_add(1),
+            many,
+        )
 }
 
 #[test]
 fn limits(rt: HostRuntime) {
-    let declared = "buffer X 8 / timeline T 0 / queue Q threaded";
-    let lines = [
-        ("submit Q / end", 4096, Ok(())),
-        ("submit Q / end", 4097, at(8196, FaultKind::Limit)),
-    ];
-    for (again, count, want) in lines {
-        let text = text_of(rt.alloc(), declared, again, count).expect(&rt, "memory");
-        assert_eq!(rt;
-            verdict(rt.alloc(), text.as_bytes(), Form::Plain),
-            want,
-            "{count}"
-        );
+    let (alloc, form) = (rt.alloc(), Form::Plain);
+    let (declared, batch) = ("queue Q threaded", "submit Q / end");
+    let many = (8194, FaultKind::Limit);
+    assert!(rt; is_fine(alloc, form, declared, batch, 4096));
+    assert!(rt; is_faulty(alloc, form, declared, batch, 4097, many));
+    assert!(rt; may_stand(alloc, "wait T 1", 16, 21) && may_stand(alloc, "signal T 1", 16, 21));
+    assert!(rt; may_stand(alloc, "fill X 0 8 0", 64, 69));
+}
+
+/// Whether an update of so many bytes has this first fault, or none.
+fn update_is(alloc: Global, bytes: usize, want: Result<(), ScriptFault>) -> bool {
+    match update_of(alloc, bytes) {
+        Ok(text) => verdict(alloc, text.as_bytes(), Form::Plain) == want,
+        Err(_) => false,
     }
-    for (again, most) in [("wait T 1", 16), ("fill X 0 8 0", 64), ("signal T 1", 16)] {
-        let submitted = "buffer X 8 / timeline T 0 / queue Q threaded / submit Q";
-        let text = text_of(rt.alloc(), submitted, again, most).expect(&rt, "memory");
-        let line = 5 + most as u32;
-        // With as many as may be the text ends inside the batch.
-        assert_eq!(rt;
-            verdict(rt.alloc(), text.as_bytes(), Form::Plain),
-            at(line, FaultKind::Syntax),
-            "{again}"
-        );
-        let text = text_of(rt.alloc(), text.as_str(), again, 1).expect(&rt, "memory");
-        assert_eq!(rt;
-            verdict(rt.alloc(), text.as_bytes(), Form::Plain),
-            at(line, FaultKind::Limit),
-            "{again}"
-        );
+}
+
+/// A text with an update of so many bytes in its fourth line.
+fn update_of(alloc: Global, bytes: usize) -> Result<String, AllocError> {
+    let mut text = String::from_str(
+        alloc,
+        "buffer X 65544\nqueue Q immediate\nsubmit Q\nupdate X 0 ",
+    )?;
+    for _ in 0..bytes {
+        text.push_str("0a")?;
     }
+    text.push_str("\nend")?;
+    Ok(text)
 }
 
 #[test]
 fn largest_updates(rt: HostRuntime) {
-    for (bytes, want) in [(65_536, Ok(())), (65_540, at(4, FaultKind::Range))] {
-        let digits = "0a".repeat(rt.alloc(), bytes).expect(&rt, "memory");
-        let line = format!(in rt.alloc(); "update X 0 {digits}\nend").expect(&rt, "memory");
-        let declared = "buffer X 65544 / queue Q immediate / submit Q";
-        let text = text_of(rt.alloc(), declared, line.as_str(), 1).expect(&rt, "memory");
-        assert_eq!(rt;
-            verdict(rt.alloc(), text.as_bytes(), Form::Plain),
-            want,
-            "{bytes}"
-        );
-    }
+    let too_large = ScriptFault::At {
+        line: 4,
+        kind: FaultKind::Range,
+    };
+    assert!(rt; update_is(rt.alloc(), 65_536, Ok(())));
+    assert!(rt; update_is(rt.alloc(), 65_540, Err(too_large)));
 }
 
 /// The canonical text of the script that a text stands for.
-pub(crate) fn printed(alloc: Global, text: &[u8], form: Form) -> Result<Vec<u8>, ScriptFault> {
-    if !is_short(text) {
-        return Err(ScriptFault::Memory);
-    }
-    let script = parse(alloc, text, form)?;
+fn printed(alloc: Global, text: &[u8], form: Form) -> Result<Vec<u8>, ScriptFault> {
+    let script = script_of(alloc, text, form)?;
     match print(alloc, &script) {
         Ok(text) => Ok(text),
         Err(_) => Err(ScriptFault::Memory),
     }
+}
+
+/// Whether a text stands for a script with this canonical text.
+fn prints(alloc: Global, text: &str, form: Form, canonical: &str) -> bool {
+    match printed(alloc, text.as_bytes(), form) {
+        Ok(bytes) => bytes.as_slice() == canonical.as_bytes(),
+        Err(_) => false,
+    }
+}
+
+/// Whether a text stands for a script with this canonical text, and the canonical text for the same.
+fn has_canonical(alloc: Global, text: &str, form: Form, canonical: &str) -> bool {
+    prints(alloc, text, form, canonical) && prints(alloc, canonical, form, canonical)
+}
+
+/// Whether each text and its canonical text do.
+pub(crate) fn have_canonical(alloc: Global, form: Form, rows: &[(&str, &str)]) -> bool {
+    for (text, canonical) in rows {
+        if !has_canonical(alloc, text, form, canonical) {
+            return false;
+        }
+    }
+    true
 }
 
 #[test]
@@ -268,14 +371,5 @@ fn canonical_texts(rt: HostRuntime) {
              signal T 18446744073709551615\nend\n",
         ),
     ];
-    for (text, canonical) in texts {
-        // A canonical text is that of the script that it stands for.
-        for text in [text, canonical] {
-            let bytes = printed(rt.alloc(), text.as_bytes(), Form::Plain).expect(
-                &rt,
-                "the text has no fault",
-            );
-            assert_eq!(rt; bytes.as_slice(), canonical.as_bytes(), "{text:?}");
-        }
-    }
+    assert!(rt; have_canonical(rt.alloc(), Form::Plain, &texts));
 }

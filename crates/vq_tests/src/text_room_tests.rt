@@ -1,7 +1,6 @@
 //! The text of a run, written into room that was taken before.
 use crate::plan_tests::lowered;
 use std::alloc::Global;
-use std::test::Fail;
 use vq_spec::{Answer, AnswerLine, Plan, TextRoom, asking, slow_run};
 
 /// Two steps of the host ask something, and one doesn't.
@@ -26,60 +25,68 @@ buffer Y 16
 end
 ";
 
-/// The plan of the script.
-fn plan(alloc: Global) -> Option<Plan> {
-    lowered(alloc, SCRIPT)?.ok()
-}
-
 /// What a room for a plan is filled with, for these answers and the bytes of the slow run; none where
 /// there are more answers than steps that ask something.
 fn filled(alloc: Global, plan: &Plan, answers: &[AnswerLine]) -> Option<Vec<u8>> {
-    let run = slow_run(alloc, plan).ok()?;
-    let room = TextRoom::new(alloc, plan).ok()?;
     if answers.len() > asking(plan) {
         return None;
     }
+    let run = slow_run(alloc, plan).ok()?;
+    let room = TextRoom::new(alloc, plan).ok()?;
     Some(room.fill(plan, answers, &run.buffers))
 }
 
-/// Whether a room for the script is filled with these bytes, and then those of the buffers.
-fn fills(alloc: Global, answers: &[AnswerLine], want: &[u8]) -> bool {
-    let Some(plan) = plan(alloc) else {
-        return false;
-    };
-    match filled(alloc, &plan, answers) {
-        Some(text) => {
-            let (front, back) = text.as_slice().split_at(want.len().min(text.len()));
-            front == want && back == BUFFERS
-        }
+/// Whether a text is these answers, and then the bytes of the buffers.
+fn is_text(text: &[u8], answers: &[u8]) -> bool {
+    let (front, back) = text.split_at(answers.len().min(text.len()));
+    front == answers && back == BUFFERS
+}
+
+/// Whether a room for a plan is filled with the text of these answers, and then that of the buffers.
+fn fills(alloc: Global, plan: &Plan, answers: &[AnswerLine], want: &[u8]) -> bool {
+    match filled(alloc, plan, answers) {
+        Some(text) => is_text(text.as_slice(), want),
         None => false,
     }
 }
 
-#[test]
-fn rooms_hold_answers_and_buffers(rt: HostRuntime) -> Result<(), Fail> {
-    assert!(rt; fills(rt.alloc(), &[], b""));
-    let read = AnswerLine {
-        line: 5,
-        answer: Answer::Value(3),
-    };
-    let poll = AnswerLine {
-        line: 7,
-        answer: Answer::Reached,
-    };
-    assert!(rt; fills(rt.alloc(), &[read], b"5 value 3\n"));
-    assert!(rt; fills(rt.alloc(), &[read, poll], b"5 value 3\n7 ok\n"));
-    assert!(rt; !fills(rt.alloc(), &[read, poll, poll], b"5 value 3\n7 ok\n7 ok\n"));
-    Ok(())
+const READ: AnswerLine = AnswerLine {
+    line: 5,
+    answer: Answer::Value(3),
+};
+
+const POLL: AnswerLine = AnswerLine {
+    line: 7,
+    answer: Answer::Reached,
+};
+
+const LONGEST: AnswerLine = AnswerLine {
+    line: 4_294_967_295,
+    answer: Answer::Value(18_446_744_073_709_551_615),
+};
+
+/// The text of two longest answers.
+const LONGEST_TWICE: &[u8] =
+    b"4294967295 value 18446744073709551615\n4294967295 value 18446744073709551615\n";
+
+/// Whether rooms for a plan hold no answer, one and two, the longest lines among them, and not three.
+fn holds_answers(alloc: Global, plan: &Plan) -> bool {
+    fills(alloc, plan, &[], b"")
+        && fills(alloc, plan, &[READ], b"5 value 3\n")
+        && fills(alloc, plan, &[READ, POLL], b"5 value 3\n7 ok\n")
+        && fills(alloc, plan, &[LONGEST, LONGEST], LONGEST_TWICE)
+        && filled(alloc, plan, &[READ, POLL, POLL]).is_none()
+}
+
+/// Whether rooms for the plan of the script do.
+fn is_held(alloc: Global) -> bool {
+    match lowered(alloc, SCRIPT) {
+        Some(Ok(plan)) => holds_answers(alloc, &plan),
+        _ => false,
+    }
 }
 
 #[test]
-fn rooms_hold_the_longest_lines(rt: HostRuntime) -> Result<(), Fail> {
-    let longest = AnswerLine {
-        line: 4_294_967_295,
-        answer: Answer::Value(18_446_744_073_709_551_615),
-    };
-    let want = b"4294967295 value 18446744073709551615\n4294967295 value 18446744073709551615\n";
-    assert!(rt; fills(rt.alloc(), &[longest, longest], want));
-    Ok(())
+fn rooms_hold_answers_and_buffers(rt: HostRuntime) {
+    assert!(rt; is_held(rt.alloc()));
 }

@@ -1,6 +1,5 @@
 //! What fills, updates and copies leave in small buffers, and which commands fit.
 use std::alloc::{AllocError, Global};
-use std::test::Fail;
 use vq_model::list::Bytes;
 use vq_model::script::{Command, FillSize};
 use vq_transfer::Buffers;
@@ -41,116 +40,173 @@ fn leaves(buffers: &mut Buffers, command: &Command, first: &[u8], second: &[u8])
     buffers.count() == 2 && buffers.bytes(0) == first && buffers.bytes(1) == second
 }
 
-#[test]
-fn fills_and_updates_leave_bytes(rt: HostRuntime) -> Result<(), Fail> {
-    let mut buffers = Buffers::new(rt.alloc(), &[8, 7])?;
+/// Whether an update leaves these bytes.
+fn update_leaves(
+    alloc: Global,
+    buffers: &mut Buffers,
+    offset: u32,
+    bytes: &[u8],
+    first: &[u8],
+    second: &[u8],
+) -> bool {
+    match update(alloc, 0, offset, bytes) {
+        Ok(command) => leaves(buffers, &command, first, second),
+        Err(_) => false,
+    }
+}
+
+/// Whether fills of both kinds, and an update between them, leave their bytes in buffers of 8 and 7 bytes.
+fn are_written(alloc: Global, buffers: &mut Buffers) -> bool {
     let rest = fill(1, 0, FillSize::Whole, 0xffff_ffff);
-    assert!(rt; leaves(&mut buffers, &rest, &[0; 8], b"\xff\xff\xff\xff\0\0\0"));
-    let bytes = update(rt.alloc(), 0, 4, &[1, 2, 3, 4])?;
-    assert!(rt;
-        leaves(
-            &mut buffers,
-            &bytes,
-            &[0, 0, 0, 0, 1, 2, 3, 4],
-            b"\xff\xff\xff\xff\0\0\0"
-        )
-    );
     let word = fill(0, 0, FillSize::Count(4), 0x1122_3344);
-    assert!(rt;
-        leaves(
-            &mut buffers,
-            &word,
-            b"\x44\x33\x22\x11\x01\x02\x03\x04",
-            b"\xff\xff\xff\xff\0\0\0"
+    let second = b"\xff\xff\xff\xff\0\0\0";
+    leaves(buffers, &rest, &[0; 8], second)
+        && update_leaves(
+            alloc,
+            buffers,
+            4,
+            &[1, 2, 3, 4],
+            &[0, 0, 0, 0, 1, 2, 3, 4],
+            second,
         )
-    );
-    Ok(())
+        && leaves(buffers, &word, b"\x44\x33\x22\x11\x01\x02\x03\x04", second)
+}
+
+/// Whether they do in new buffers.
+fn writes(alloc: Global) -> bool {
+    match Buffers::new(alloc, &[8, 7]) {
+        Ok(mut buffers) => are_written(alloc, &mut buffers),
+        Err(_) => false,
+    }
 }
 
 #[test]
-fn copies_leave_bytes(rt: HostRuntime) -> Result<(), Fail> {
-    let mut buffers = Buffers::new(rt.alloc(), &[8, 5])?;
-    let bytes = update(rt.alloc(), 0, 0, &[1, 2, 3, 4])?;
-    assert!(rt; leaves(&mut buffers, &bytes, &[1, 2, 3, 4, 0, 0, 0, 0], &[0; 5]));
-    for (command, first, second) in [
-        (
-            copy(0, 0, 0, 4, 4),
-            [1, 2, 3, 4, 1, 2, 3, 4],
-            [0, 0, 0, 0, 0],
-        ),
-        (
-            copy(0, 5, 0, 1, 2),
-            [1, 2, 3, 4, 1, 2, 3, 4],
-            [0, 0, 0, 0, 0],
-        ),
-        (
-            copy(0, 2, 1, 1, 3),
-            [1, 2, 3, 4, 1, 2, 3, 4],
-            [0, 3, 4, 1, 0],
-        ),
-        (
-            copy(1, 0, 0, 3, 3),
-            [1, 2, 3, 0, 3, 4, 3, 4],
-            [0, 3, 4, 1, 0],
-        ),
-    ] {
-        assert!(rt; leaves(&mut buffers, &command, &first, &second));
-    }
-    Ok(())
+fn fills_and_updates_leave_bytes(rt: HostRuntime) {
+    assert!(rt; writes(rt.alloc()));
 }
 
-/// Whether a command fits buffers of 16 and 7 bytes.
-fn fits(alloc: Global, command: &Command) -> Result<bool, AllocError> {
-    Ok(Buffers::new(alloc, &[16, 7])?.fits(command))
+/// Copies one after another, and what each leaves in buffers of 8 and 5 bytes.
+const COPIES: [(u32, u32, u32, u32, u32, [u8; 8], [u8; 5]); 4] = [
+    (0, 0, 0, 4, 4, [1, 2, 3, 4, 1, 2, 3, 4], [0, 0, 0, 0, 0]),
+    (0, 5, 0, 1, 2, [1, 2, 3, 4, 1, 2, 3, 4], [0, 0, 0, 0, 0]),
+    (0, 2, 1, 1, 3, [1, 2, 3, 4, 1, 2, 3, 4], [0, 3, 4, 1, 0]),
+    (1, 0, 0, 3, 3, [1, 2, 3, 0, 3, 4, 3, 4], [0, 3, 4, 1, 0]),
+];
+
+/// Whether each copy leaves its bytes, once an update has written the first four.
+fn are_copied(alloc: Global, buffers: &mut Buffers) -> bool {
+    if !update_leaves(
+        alloc,
+        buffers,
+        0,
+        &[1, 2, 3, 4],
+        &[1, 2, 3, 4, 0, 0, 0, 0],
+        &[0; 5],
+    ) {
+        return false;
+    }
+    for (source, from, target, to, size, first, second) in &COPIES {
+        if !leaves(
+            buffers,
+            &copy(*source, *from, *target, *to, *size),
+            first,
+            second,
+        ) {
+            return false;
+        }
+    }
+    true
 }
 
-#[test]
-fn fills_fit(rt: HostRuntime) -> Result<(), Fail> {
-    for (buffer, offset, size, want) in [
-        (0, 0, FillSize::Count(16), true),
-        (0, 4, FillSize::Count(16), false),
-        (0, 2, FillSize::Count(4), false),
-        (0, 0, FillSize::Count(6), false),
-        (0, 0xffff_fffc, FillSize::Count(4), false),
-        (0, 16, FillSize::Whole, true),
-        (0, 20, FillSize::Whole, false),
-        (1, 0, FillSize::Count(8), false),
-        (2, 0, FillSize::Whole, false),
-    ] {
-        assert!(rt; fits(rt.alloc(), &fill(buffer, offset, size, 1))? == want);
+/// Whether they do in new buffers.
+fn copies(alloc: Global) -> bool {
+    match Buffers::new(alloc, &[8, 5]) {
+        Ok(mut buffers) => are_copied(alloc, &mut buffers),
+        Err(_) => false,
     }
-    Ok(())
 }
 
 #[test]
-fn updates_fit(rt: HostRuntime) -> Result<(), Fail> {
-    let alloc = rt.alloc();
-    for (offset, bytes, want) in [
-        (12, b"1234".as_slice(), true),
-        (13, b"1234", false),
-        (16, b"1234", false),
-        (0, b"123", false),
-    ] {
-        assert!(rt; fits(alloc, &update(alloc, 0, offset, bytes)?)? == want);
+fn copies_leave_bytes(rt: HostRuntime) {
+    assert!(rt; copies(rt.alloc()));
+}
+
+/// Fills, and whether each fits buffers of 16 and 7 bytes.
+const FILLS: [(u32, u32, FillSize, bool); 9] = [
+    (0, 0, FillSize::Count(16), true),
+    (0, 4, FillSize::Count(16), false),
+    (0, 2, FillSize::Count(4), false),
+    (0, 0, FillSize::Count(6), false),
+    (0, 0xffff_fffc, FillSize::Count(4), false),
+    (0, 16, FillSize::Whole, true),
+    (0, 20, FillSize::Whole, false),
+    (1, 0, FillSize::Count(8), false),
+    (2, 0, FillSize::Whole, false),
+];
+
+/// Whether fills fit so.
+fn fills_fit(buffers: &Buffers, rows: &[(u32, u32, FillSize, bool)]) -> bool {
+    for (buffer, offset, size, want) in rows {
+        if buffers.fits(&fill(*buffer, *offset, *size, 1)) != *want {
+            return false;
+        }
     }
-    Ok(())
+    true
+}
+
+/// Whether an update fits, or doesn't.
+fn update_fits(alloc: Global, buffers: &Buffers, offset: u32, bytes: &[u8], want: bool) -> bool {
+    match update(alloc, 0, offset, bytes) {
+        Ok(command) => buffers.fits(&command) == want,
+        Err(_) => false,
+    }
+}
+
+/// Whether updates at their limits fit as they should.
+fn updates_fit(alloc: Global, buffers: &Buffers) -> bool {
+    update_fits(alloc, buffers, 12, b"1234", true)
+        && update_fits(alloc, buffers, 13, b"1234", false)
+        && update_fits(alloc, buffers, 16, b"1234", false)
+        && update_fits(alloc, buffers, 0, b"123", false)
+}
+
+/// Copies, and whether each fits.
+const RANGES: [(u32, u32, u32, u32, u32, bool); 10] = [
+    (0, 0, 0, 8, 8, true),
+    (0, 8, 0, 0, 8, true),
+    (0, 0, 0, 7, 8, false),
+    (0, 7, 0, 0, 8, false),
+    (0, 9, 1, 0, 7, true),
+    (0, 10, 1, 0, 7, false),
+    (1, 0, 0, 10, 7, false),
+    (0, 0, 0, u32::MAX, 2, false),
+    (0, u32::MAX, 1, 0, 2, false),
+    (0, 0, 2, 0, 4, false),
+];
+
+/// Whether copies fit so.
+fn copies_fit(buffers: &Buffers, rows: &[(u32, u32, u32, u32, u32, bool)]) -> bool {
+    for (source, from, target, to, size, want) in rows {
+        if buffers.fits(&copy(*source, *from, *target, *to, *size)) != *want {
+            return false;
+        }
+    }
+    true
+}
+
+/// Whether commands fit as they should.
+fn fit(alloc: Global) -> bool {
+    match Buffers::new(alloc, &[16, 7]) {
+        Ok(buffers) => {
+            fills_fit(&buffers, &FILLS)
+                && updates_fit(alloc, &buffers)
+                && copies_fit(&buffers, &RANGES)
+        }
+        Err(_) => false,
+    }
 }
 
 #[test]
-fn copies_fit(rt: HostRuntime) -> Result<(), Fail> {
-    for (source, from, target, to, size, want) in [
-        (0, 0, 0, 8, 8, true),
-        (0, 8, 0, 0, 8, true),
-        (0, 0, 0, 7, 8, false),
-        (0, 7, 0, 0, 8, false),
-        (0, 9, 1, 0, 7, true),
-        (0, 10, 1, 0, 7, false),
-        (1, 0, 0, 10, 7, false),
-        (0, 0, 0, u32::MAX, 2, false),
-        (0, u32::MAX, 1, 0, 2, false),
-        (0, 0, 2, 0, 4, false),
-    ] {
-        assert!(rt; fits(rt.alloc(), &copy(source, from, target, to, size))? == want);
-    }
-    Ok(())
+fn commands_fit(rt: HostRuntime) {
+    assert!(rt; fit(rt.alloc()));
 }

@@ -1,74 +1,93 @@
 //! The words of the command line, and what they ask for.
 use std::alloc::{AllocError, Global};
-use std::test::Fail;
 use vq_words::{Task, WordsFault, read_words};
 
-/// What the words of a line ask for, with one blank between two words.
-fn read_line(alloc: Global, line: &str) -> Result<Result<Task, WordsFault>, AllocError> {
+/// The words of a line, with one blank between two words.
+fn words_of(alloc: Global, line: &str) -> Result<Vec<String>, AllocError> {
     let mut words = Vec::new(alloc);
     for word in line.split(' ') {
         words.push(String::from_str(alloc, word)?)?;
     }
-    Ok(read_words(alloc, words.as_slice()))
+    Ok(words)
+}
+
+/// Whether the words of a line ask for this task, or for none.
+fn asks(alloc: Global, line: &str, want: Result<Task, WordsFault>) -> bool {
+    match words_of(alloc, line) {
+        Ok(words) => read_words(alloc, words.as_slice()) == want,
+        Err(_) => false,
+    }
+}
+
+const TASKS: [(&str, Task); 10] = [
+    ("--check", Task::Check),
+    ("--replay", Task::Replay),
+    ("--rounds", Task::Rounds),
+    ("--upgrade", Task::Upgrade),
+    ("--audit", Task::Audit),
+    ("--hosts", Task::Hosts),
+    ("--generate 500", Task::Generate(500)),
+    ("--generate=500", Task::Generate(500)),
+    ("--generate 007", Task::Generate(7)),
+    ("--generate=1", Task::Generate(1)),
+];
+
+/// Whether lines ask for these tasks.
+fn ask(alloc: Global, rows: &[(&str, Task)]) -> bool {
+    for (line, task) in rows {
+        if !asks(alloc, line, Ok(*task)) {
+            return false;
+        }
+    }
+    true
 }
 
 #[test]
-fn words_ask_for_a_task(rt: HostRuntime) -> Result<(), Fail> {
-    let rows = [
-        ("--check", Task::Check),
-        ("--replay", Task::Replay),
-        ("--rounds", Task::Rounds),
-        ("--upgrade", Task::Upgrade),
-        ("--audit", Task::Audit),
-        ("--hosts", Task::Hosts),
-        ("--generate 500", Task::Generate(500)),
-        ("--generate=500", Task::Generate(500)),
-        ("--generate 007", Task::Generate(7)),
-        ("--generate=1", Task::Generate(1)),
-    ];
-    for (line, task) in &rows {
-        assert!(rt; read_line(rt.alloc(), line)? == Ok(*task), "{line:?}");
+fn words_ask_for_a_task(rt: HostRuntime) {
+    assert!(rt; ask(rt.alloc(), &TASKS));
+    assert!(rt; read_words(rt.alloc(), &[]) == Ok(Task::Run));
+}
+
+const BAD: [&str; 26] = [
+    "",
+    "x",
+    "--",
+    "-h",
+    "--help",
+    "--version",
+    "--check=1",
+    "--check --",
+    "--check --check",
+    "--check --replay",
+    "--rounds 3",
+    "--rounds=3",
+    "--upgrade=2",
+    "--upgrade --upgrade",
+    "--replay --upgrade",
+    "--audit=1",
+    "--check --audit",
+    "--generate",
+    "--generate=",
+    "--generate 0",
+    "--generate 501",
+    "--generate 0500",
+    "--generate +5",
+    "--generate -- 5",
+    "--generate=5 --check",
+    "--gen 5",
+];
+
+/// Whether lines ask for nothing.
+fn are_bad(alloc: Global, lines: &[&str]) -> bool {
+    for line in lines {
+        if !asks(alloc, line, Err(WordsFault::Bad)) {
+            return false;
+        }
     }
-    let none: Vec<String> = Vec::new(rt.alloc());
-    assert!(rt; read_words(rt.alloc(), none.as_slice()) == Ok(Task::Run));
-    Ok(())
+    true
 }
 
 #[test]
-fn other_words_are_bad(rt: HostRuntime) -> Result<(), Fail> {
-    let lines = [
-        "",
-        "x",
-        "--",
-        "-h",
-        "--help",
-        "--version",
-        "--check=1",
-        "--check --",
-        "--check --check",
-        "--check --replay",
-        "--rounds 3",
-        "--rounds=3",
-        "--upgrade=2",
-        "--upgrade --upgrade",
-        "--replay --upgrade",
-        "--audit=1",
-        "--check --audit",
-        "--generate",
-        "--generate=",
-        "--generate 0",
-        "--generate 501",
-        "--generate 0500",
-        "--generate +5",
-        "--generate -- 5",
-        "--generate=5 --check",
-        "--gen 5",
-    ];
-    for line in &lines {
-        assert!(rt;
-            read_line(rt.alloc(), line)? == Err(WordsFault::Bad),
-            "{line:?}"
-        );
-    }
-    Ok(())
+fn other_words_are_bad(rt: HostRuntime) {
+    assert!(rt; are_bad(rt.alloc(), &BAD));
 }
