@@ -1,10 +1,12 @@
 mod Idle
 mod Known
+mod Numerals
 mod Passages
+mod PieceLists
 mod Rosters
 mod RoundsPlayed
 mod RoundsTraced
 mod Schedules
-mod SpelledWords
 mod TraceEnds
+mod TurnLines
 mod TurnsTraced

@@ -1,8 +1,10 @@
-pub mod OpWords
+pub mod Digits
 pub mod Passages
+pub mod Pieces
 pub mod Resting
 pub mod Rounds
 pub mod Schedules
 pub mod SpacedWords
+pub mod SpelledWords
 pub mod Traced
 pub mod Traces

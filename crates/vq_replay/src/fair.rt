@@ -3,16 +3,16 @@
 //! Source: this project's own, where an item names no other.
 ghost use Rattle.std.specs.Prelude.{IfOk, List, OnOk};
 ghost use Rattle.vq_replay.specs.declared.played.Played.{Played as Turn};
-ghost use Rattle.vq_replay.specs.OpWords.{Spells};
 ghost use Rattle.vq_replay.specs.Passages.{AreWritten};
 ghost use Rattle.vq_replay.specs.Rounds.{HaveFinished, IsRoundsTrace};
+ghost use Rattle.vq_replay.specs.SpelledWords.{Spells};
 
 use crate::fair_play::FairPlay;
-use crate::op_words::OpWords;
 use crate::played::Played;
 use crate::schedule::Replayed;
+use crate::spelled::Spelled;
 use crate::text::push_finished;
-use crate::trace::push_lines;
+use crate::writer::Writer;
 use std::alloc::{AllocError, Global};
 use vq_order::Ordered;
 use vq_spec::Plan;
@@ -42,19 +42,19 @@ pub fn rounds(alloc: Global, ordered: Ordered) -> Result<Replayed, AllocError>
 
 /// Adds the lines of turns to a text once there are many, and keeps these turns no longer.
 fn write_many(
-    text: &mut Vec<u8>,
+    text: &mut Writer,
     plan: &Plan,
-    words: &OpWords,
+    words: &Spelled,
     played: &mut Vec<Played>,
 ) -> Result<(), AllocError>
     requires { Spells plan.now words.now }
-    ensures { OnOk result ((turns : List Turn) → AreWritten plan.now turns text.old.items played.old.items →
-        AreWritten plan.now turns text.new.items played.new.items) }
+    ensures { OnOk result ((turns : List Turn) → AreWritten plan.now turns text.old played.old.items →
+        AreWritten plan.now turns text.new played.new.items) }
 {
     if played.len() < MANY {
         return Ok(());
     }
-    push_lines(text, plan, words, played.as_slice())?;
+    text.add(plan, words, played.as_slice())?;
     played.clear();
     Ok(())
 }
@@ -65,17 +65,18 @@ pub fn rounds_text(alloc: Global, ordered: Ordered) -> Result<Vec<u8>, AllocErro
     ensures { IfOk result (λ text. IsRoundsTrace ordered text.items) }
 {
     let lawful = ordered.plan();
-    let words = OpWords::of(alloc, lawful)?;
+    let words = Spelled::of(alloc, lawful)?;
     let mut fair = FairPlay::new(alloc, ordered)?;
     let mut played = Vec::new(alloc);
-    let mut text = Vec::new(alloc);
+    let mut text = Writer::new(alloc, 0)?;
     for _count in 0..u32::MAX {
         let core = fair.core();
         let plan = core.ordered().plan();
         if core.finished() {
             let _history = core.history();
             let _buffers = core.buffers();
-            push_lines(&mut text, plan, &words, played.as_slice())?;
+            text.add(plan, &words, played.as_slice())?;
+            let mut text = text.finish()?;
             push_finished(alloc, &mut text, core)?;
             return Ok(text);
         }

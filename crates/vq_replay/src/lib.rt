@@ -2,16 +2,20 @@
 //! what they came to.
 #![tactic(auto)]
 
+mod digits;
 mod fair;
 mod fair_play;
-mod op_words;
+mod lines;
+mod pieces;
 mod played;
 mod rests;
 mod roster;
 mod schedule;
+mod spelled;
 mod text;
 mod trace;
 mod words;
+mod writer;
 
 pub use fair::{rounds, rounds_text};
 pub use played::Played;

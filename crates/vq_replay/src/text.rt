@@ -7,14 +7,15 @@ ghost use Rattle.vq_model.specs.OutputText.{answers_of, line_feed};
 ghost use Rattle.vq_model.specs.ValidScripts.{IsActor};
 ghost use Rattle.vq_core.specs.CoreState.{world};
 ghost use Rattle.vq_core.specs.Tables.{jobs_left};
-ghost use Rattle.vq_replay.specs.OpWords.{Spells};
+ghost use Rattle.vq_replay.specs.SpelledWords.{Spells};
 ghost use Rattle.vq_replay.specs.Traced.{IsTrace};
 ghost use Rattle.vq_replay.specs.Traces.{end_text, finished_text, trace_text};
 
-use crate::op_words::OpWords;
 use crate::played::Played;
 use crate::schedule::Replayed;
-use crate::trace::{push_turn, push_turns};
+use crate::spelled::Spelled;
+use crate::trace::push_turns;
+use crate::writer::Writer;
 use std::alloc::{AllocError, Global};
 use vq_core::{AnswerRoom, Core};
 use vq_model::script::Turn;
@@ -82,14 +83,14 @@ pub fn trace_text(alloc: Global, replayed: &Replayed) -> Result<Vec<u8>, AllocEr
     Ok(text)
 }
 
-/// The words of a plan's signal operations, where there are as many turns at least; else none.
-fn words_for(alloc: Global, plan: &Plan, turns: usize) -> Result<OpWords, AllocError>
+/// The words of a plan's signal operations and queues, where there are as many turns at least; else none.
+fn words_for(alloc: Global, plan: &Plan, turns: usize) -> Result<Spelled, AllocError>
     ensures { IfOk result (λ words. Spells plan.now words) }
 {
     if turns < plan.ops() as usize {
-        return Ok(OpWords::none(alloc));
+        return Ok(Spelled::none(alloc));
     }
-    OpWords::of(alloc, plan)
+    Spelled::of(alloc, plan)
 }
 
 /// Plays the turns of a schedule, as `replay` does, and writes the line of each turn when it has come. The text is
@@ -102,7 +103,7 @@ pub fn replay_text(alloc: Global, ordered: Ordered, turns: &[Turn]) -> Result<Ve
     let lawful = ordered.plan();
     let words = words_for(alloc, lawful, turns.len())?;
     let mut troupe = Troupe::new(alloc, ordered)?;
-    let mut text = Vec::with_capacity(alloc, LEAST_LINE * turns.len())?;
+    let mut text = Writer::new(alloc, LEAST_LINE * turns.len())?;
     for turn in 0..turns.len() {
         let actor = turns[turn].actor;
         let outcome = troupe.play(actor);
@@ -111,8 +112,9 @@ pub fn replay_text(alloc: Global, ordered: Ordered, turns: &[Turn]) -> Result<Ve
             actor,
             outcome,
         };
-        push_turn(&mut text, troupe.core().ordered().plan(), &words, played)?;
+        text.add_turn(troupe.core().ordered().plan(), &words, &played)?;
     }
+    let mut text = text.finish()?;
     let core = troupe.core();
     let _history = core.history();
     let _buffers = core.buffers();

@@ -88,8 +88,8 @@ pub(crate) fn push_count(out: &mut Vec<u8>, word: &[u8], number: u32) -> Result<
     Ok(())
 }
 
-/// Spells the words of a signal operation: its semaphore and its value; none for one that isn't there.
-pub(crate) fn spell_op(out: &mut Vec<u8>, plan: &Plan, op: u32) -> Result<(), AllocError>
+/// Adds the words of a signal operation: its semaphore and its value; none for one that isn't there.
+pub(crate) fn push_op(out: &mut Vec<u8>, plan: &Plan, op: u32) -> Result<(), AllocError>
     ensures { OnOk result (out.new.items ≡ out.old.items ++ spaced (op_words plan.now op)) }
 {
     if op >= plan.ops() {

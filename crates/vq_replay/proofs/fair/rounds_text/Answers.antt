@@ -6,7 +6,7 @@ use Rattle.vq_model.specs.Outputs.{IsOutput}
 use Rattle.vq_model.specs.Plan.{Plan}
 use Rattle.vq_core.specs.CoreState.{Course, world}
 use Rattle.vq_replay.specs.declared.played.Played.{Played}
-use Rattle.vq_replay.specs.OpWords.{Spells}
+use Rattle.vq_replay.specs.SpelledWords.{Spells}
 use Rattle.vq_replay.specs.Passages.{AreWritten}
 use Rattle.vq_replay.specs.Rounds.{HaveFinished, moved_turns}
 use Rattle.vq_replay.specs.Traces.{finished_text, turn_line}
@@ -14,8 +14,8 @@ use Rattle.vq_replay.proofs.RoundsPlayed.{all_finished, kept_on, not_past, told_
 use Rattle.vq_replay.proofs.RoundsTraced.{all_written, rounds_traced, written_more}
 use Rattle.vq_replay.proofs.fair.rounds_text.Goals as goal
 
-pub push_lines-requires : goal.push_lines-requires
-push_lines-requires c =
+pub add-requires : goal.add-requires
+add-requires c =
     let of_plan : c.plan-plan.result.now ≡ c.args.ordered =
     c.plan-plan.ensures.value
     ∙ (c.ordered.ensures.value ∙ (ap (λ (d : Course). d.plan) c.core-core.ensures ∙ c.loop-count.invariant.0)) in
@@ -47,13 +47,13 @@ returns-then-finished c =
     subst (HaveFinished p turns) (sym c.core-core.ensures)
     (all_finished p x.rounds c.loop-count._count x.turns x.troupe x.rests x.round.items so.1.1.0 so.0 so.1.0
     lawful.read lawful.lawful done turns refl) in
-    let lines : c.push_lines.new.out.items ≡ flat_map (turn_line p) turns =
-    all_written p turns c.loop-count.text.items c.push_lines.new.out.items c.loop-count.played.items so.1.1.1
-    (c.in_ok-push_lines.ensures {u = tt}
-    ∙ (ap (λ (q : Plan). c.loop-count.text.items ++ flat_map (turn_line q) c.as_slice.result.now) of_plan
-    ∙ ap (λ (ps : List Played). c.loop-count.text.items ++ flat_map (turn_line p) ps) c.as_slice.ensures.value)) in
+    let lines : c.add.new.self ≡ flat_map (turn_line p) turns =
+    all_written p turns c.loop-count.text c.add.new.self c.loop-count.played.items so.1.1.1
+    (c.in_ok-add.ensures {u = tt}
+    ∙ (ap (λ (q : Plan). c.loop-count.text ++ flat_map (turn_line q) c.as_slice.result.now) of_plan
+    ∙ ap (λ (ps : List Played). c.loop-count.text ++ flat_map (turn_line p) ps) c.as_slice.ensures.value)) in
     let spelled = c.in_ok-push_finished.ensures {u = tt}
-    ∙ (ap (λ (xs : List ℕ). xs ++ finished_text core.plan (world core).machine) lines
+    ∙ (ap (λ (xs : List ℕ). xs ++ finished_text core.plan (world core).machine) (c.in_ok-text-2.ensures {u = tt} ∙ lines)
     ∙ ap (λ (q : Plan). flat_map (turn_line q) turns ++ finished_text core.plan (world core).machine) (sym of_core)) in
     rounds_traced p core turns c.push_finished.new.out.items have spelled
     history.course history.run history.points history.pending
@@ -76,17 +76,17 @@ loop-count-preserved c =
     let of_plan : c.plan-plan.result.now ≡ p =
     c.plan-plan.ensures.value
     ∙ (c.ordered.ensures.value ∙ (ap (λ (d : Course). d.plan) c.core-core.ensures ∙ so.0)) in
-    let written : AreWritten p (moved_turns p n) c.write_many.new.text.items c.write_many.new.played.items =
-    subst (λ (q : Plan). AreWritten q (moved_turns p n) c.write_many.new.text.items c.write_many.new.played.items) of_plan
+    let written : AreWritten p (moved_turns p n) c.write_many.new.text c.write_many.new.played.items =
+    subst (λ (q : Plan). AreWritten q (moved_turns p n) c.write_many.new.text c.write_many.new.played.items) of_plan
     (c.in_ok-write_many.ensures {u = tt} (moved_turns p n)
-    (subst (λ (q : Plan). AreWritten q (moved_turns p n) c.loop-count.text.items c.loop-count.played.items)
+    (subst (λ (q : Plan). AreWritten q (moved_turns p n) c.loop-count.text c.loop-count.played.items)
     (sym of_plan) so.1.1.1)) in (
       more.plan ∙ so.0,
       (
         more.rounds ∙ ap (λ (m : ℕ). m + 1) so.1.0,
         (
           more.under_way,
-          written_more p (moved_turns p n) (moved_turns p (n + 1)) c.write_many.new.text.items c.write_many.new.played.items
+          written_more p (moved_turns p n) (moved_turns p (n + 1)) c.write_many.new.text c.write_many.new.played.items
               c.play_round.new.played.items written
               (kept_on p x.troupe.course.plan x.rounds n so.0 so.1.0 c.write_many.new.played.items c.play_round.new.played.items
               more.played),

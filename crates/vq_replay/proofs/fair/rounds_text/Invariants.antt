@@ -8,4 +8,4 @@ invariant-loop-count l =
     (l.fair.troupe.course.plan ≡ l.fn.ordered)
     × ((l.fair.rounds ≡ l._count)
     × (AreUnderWay l.fair.troupe.course.plan l.fair.rounds l.fair.turns l.fair.troupe l.fair.rests l.fair.round.items
-    × AreWritten l.fn.ordered (moved_turns l.fn.ordered l._count) l.text.items l.played.items))
+    × AreWritten l.fn.ordered (moved_turns l.fn.ordered l._count) l.text l.played.items))

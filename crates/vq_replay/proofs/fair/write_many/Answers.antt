@@ -8,8 +8,8 @@ use Rattle.vq_replay.proofs.fair.write_many.Goals as goal
 
 pub returns : goal.returns
 returns c = λ turns w.
-    subst (AreWritten c.args.plan.now turns c.push_lines.new.out.items) (sym c.clear.ensures.items)
-    (written_on c.args.plan.now turns c.args.text.now.items c.push_lines.new.out.items c.args.played.now.items w
-    (c.in_ok-push_lines.ensures {u = tt}
-    ∙ ap (λ (ps : List Played). c.args.text.now.items ++ flat_map (turn_line c.args.plan.now) ps)
+    subst (AreWritten c.args.plan.now turns c.add.new.self) (sym c.clear.ensures.items)
+    (written_on c.args.plan.now turns c.args.text.now c.add.new.self c.args.played.now.items w
+    (c.in_ok-add.ensures {u = tt}
+    ∙ ap (λ (ps : List Played). c.args.text.now ++ flat_map (turn_line c.args.plan.now) ps)
     c.as_slice.ensures.value))

@@ -1,7 +1,7 @@
 use Rattle.std.proofs.Common.{◌≡◌, ◌++◌, take}
 use Rattle.std.specs.List.{flat_map}
 use Rattle.vq_replay.specs.Traces.{turn_line}
-use Rattle.vq_replay.proofs.trace.push_lines.Given as goal
+use Rattle.vq_replay.proofs.trace.push_turns.Given as goal
 
 abbrev pub invariant-loop-turn : goal.invariant-loop-turn
 invariant-loop-turn l =

@@ -1,6 +1,6 @@
 use Rattle.std.proofs.Common.{arith}
 use Rattle.std.proofs.lemmas.Fmt.{length-decimal-le}
-use Rattle.vq_replay.proofs.words.spell_op.Goals as goal
+use Rattle.vq_replay.proofs.words.push_op.Goals as goal
 
 pub put_number-requires : goal.put_number-requires
 put_number-requires c =
