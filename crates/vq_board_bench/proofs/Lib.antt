@@ -4,5 +4,6 @@ mod HostRowSteps
 mod OnePoint
 mod ReadSteps
 mod RingSteps
+mod Shared
 mod Shares
 mod ShelfRowSteps

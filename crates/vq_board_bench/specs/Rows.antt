@@ -16,6 +16,9 @@ use Rattle.vq_board_laws.specs.declared.view.Role.TheVariants.{Ring, Shelf}
 use Rattle.vq_board_laws.specs.Knowledge.{Knows}
 use Rattle.vq_board_laws.specs.Points.{reference, Lists}
 use Rattle.vq_board_laws.specs.Roles.{runner, submitter, role_number}
+use Rattle.vq_board.specs.declared.parts.Board.{Board}
+use Rattle.vq_board.specs.declared.parts.Pass.{Pass}
+use Rattle.vq_board.specs.Named.{plan_of, view, IsOf}
 use Rattle.vq_board_bench.specs.Making.{HasShare}
 
 -- The plan
@@ -135,3 +138,12 @@ pub record IsInside (p : Plan) (v : View) (j entered signaled : ℕ) : Type 0 wh
   pub runs : v.runs ≡ Some j
   pub entered_all : v.entered ≡ entered
   pub signaled_all : v.signaled ≡ signaled
+
+-- the passes of the host, the shelf and the ring before the first batch
+pub record AreReady (b : Board) (host shelf ring : Pass) : Type 0 where
+  pub host_of : IsOf b host
+  pub shelf_of : IsOf b shelf
+  pub ring_of : IsOf b ring
+  pub hosting : IsHost (view host) 0 0 0
+  pub shelving : IsShelf (plan_of b) (view shelf) 0 0 0 0
+  pub between : IsBetween (plan_of b) (view ring) 0

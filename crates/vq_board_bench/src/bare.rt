@@ -45,31 +45,29 @@ pub(crate) struct Bare {
 pub(crate) type BareSeat = Seat<u64, u64>;
 
 impl Bare {
-    /// A table with some words that are 0, and two seats.
-    pub(crate) fn new(alloc: Global) -> Result<(Bare, BareSeat, BareSeat), AllocError>
+    /// A table with so many words that are 0, and two seats.
+    pub(crate) fn new(alloc: Global, count: usize) -> Result<(Bare, BareSeat, BareSeat), AllocError>
+        requires { 2 < count }
         ensures first { IfOk result (λ t. t.1.table_id ≡ t.0.table.shared.table_id) }
         ensures second { IfOk result (λ t. t.2.table_id ≡ t.0.table.shared.table_id) }
     {
-        let (table, mut first) = Table::of_words(alloc, &[0; 8], &0)?;
+        let words = vec![in alloc; 0u64; count]?;
+        let (table, mut first) = Table::of_words(alloc, words.as_slice(), &0)?;
         let second = table.shared.split_seat::<Cut>(&mut first);
         Ok((Bare { table }, first, second))
-    }
-
-    /// Loads twice. It says whether both loads found 0.
-    fn loads_two(&self, seat: &mut BareSeat) -> bool
-        requires { seat.old.table_id ≡ self.now.table.shared.table_id }
-        ensures { seat.new.table_id ≡ self.now.table.shared.table_id }
-    {
-        let table = &self.table.shared;
-        table.load::<Silent>(seat, 2) == 0 && table.load::<Silent>(seat, 2) == 0
     }
 
     /// Loads so often. It says whether each load found 0.
     fn loads(&self, seat: &mut BareSeat, rounds: u64) -> bool
         requires { seat.old.table_id ≡ self.now.table.shared.table_id }
     {
+        let table = &self.table.shared;
         for _ in 0..rounds / 4 {
-            if !self.loads_two(seat) || !self.loads_two(seat) {
+            if table.load::<Silent>(seat, 2) != 0
+                || table.load::<Silent>(seat, 2) != 0
+                || table.load::<Silent>(seat, 2) != 0
+                || table.load::<Silent>(seat, 2) != 0
+            {
                 return false;
             }
         }

@@ -36,43 +36,21 @@ pub(crate) enum Kind {
     Reads { whole: bool },
 }
 
-impl BareStep {
-    fn named(name: &str) -> Option<BareStep> {
-        match name {
-            "bare-load" => Some(BareStep::Load),
-            "bare-store" => Some(BareStep::Store),
-            "bare-cas" => Some(BareStep::Exchange),
-            "bare-add" => Some(BareStep::Add),
-            "bare-refer" => Some(BareStep::Reference),
-            "bare-turn" => Some(BareStep::Turn),
-            _ => None,
-        }
-    }
-}
-
-impl BoardStep {
-    fn named(name: &str) -> Option<BoardStep> {
-        match name {
-            "job_state" => Some(BoardStep::Ask(Question::Job)),
-            "recall" => Some(BoardStep::Ask(Question::Recall)),
-            "look" => Some(BoardStep::Ask(Question::Look)),
-            "refer" => Some(BoardStep::Reference),
-            "turn" => Some(BoardStep::Turn),
-            _ => None,
-        }
-    }
-}
-
 impl Kind {
     /// The kind with this name.
     pub(crate) fn named(name: &str) -> Option<Kind> {
-        if let Some(step) = BareStep::named(name) {
-            return Some(Kind::Bare(step));
-        }
-        if let Some(step) = BoardStep::named(name) {
-            return Some(Kind::Board(step));
-        }
         match name {
+            "bare-load" => Some(Kind::Bare(BareStep::Load)),
+            "bare-store" => Some(Kind::Bare(BareStep::Store)),
+            "bare-cas" => Some(Kind::Bare(BareStep::Exchange)),
+            "bare-add" => Some(Kind::Bare(BareStep::Add)),
+            "bare-refer" => Some(Kind::Bare(BareStep::Reference)),
+            "bare-turn" => Some(Kind::Bare(BareStep::Turn)),
+            "job_state" => Some(Kind::Board(BoardStep::Ask(Question::Job))),
+            "recall" => Some(Kind::Board(BoardStep::Ask(Question::Recall))),
+            "look" => Some(Kind::Board(BoardStep::Ask(Question::Look))),
+            "refer" => Some(Kind::Board(BoardStep::Reference)),
+            "turn" => Some(Kind::Board(BoardStep::Turn)),
             "answer" => Some(Kind::Reads { whole: true }),
             "open-answers" => Some(Kind::Reads { whole: false }),
             _ => None,
@@ -89,35 +67,26 @@ pub(crate) struct Form {
 }
 
 impl Form {
-    const WIDE: Form = Form {
-        command: true,
-        signal: true,
-        wide: true,
-    };
-
-    const fn of(command: bool, signal: bool) -> Form {
-        Form {
-            command,
-            signal,
-            wide: false,
-        }
-    }
-
     /// The form with this name.
     pub(crate) fn named(name: &str) -> Option<Form> {
-        match name {
-            "idle" => Some(Form::of(false, false)),
-            "command" => Some(Form::of(true, false)),
-            "signal" => Some(Form::of(false, true)),
-            "whole" => Some(Form::of(true, true)),
-            "wide" => Some(Form::WIDE),
-            _ => None,
-        }
+        let (command, signal, wide) = match name {
+            "idle" => (false, false, false),
+            "command" => (true, false, false),
+            "signal" => (false, true, false),
+            "whole" => (true, true, false),
+            "wide" => (true, true, true),
+            _ => return None,
+        };
+        Some(Form {
+            command,
+            signal,
+            wide,
+        })
     }
 }
 
 /// How far a row of batches is taken: all of them through one kind of step, then all through the next.
-#[derive(Clone, Copy, PartialEq, Eq)]
+#[derive(Clone, Copy, PartialEq, Eq, PartialOrd, Ord)]
 pub(crate) enum Phase {
     Opened,
     Submitted,
@@ -148,13 +117,6 @@ impl Phase {
             "assigned" => Some(Phase::Assigned),
             "found" => Some(Phase::Found),
             "released" => Some(Phase::Released),
-            _ => Phase::late(name),
-        }
-    }
-
-    /// The same of those behind.
-    fn late(name: &str) -> Option<Phase> {
-        match name {
             "known" => Some(Phase::Known),
             "bound" => Some(Phase::Bound),
             "run" => Some(Phase::Run),

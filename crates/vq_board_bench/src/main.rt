@@ -2,10 +2,6 @@
 //! measured from outside.
 #![tactic(auto)]
 
-ghost use Rattle.vq_board.specs.Named.{plan_of};
-ghost use Rattle.vq_board_stage.specs.Dealing.{AreNew};
-ghost use Rattle.vq_board_bench.specs.Idle.{IsOfWorkers};
-
 mod bare;
 mod batches;
 mod ending;
@@ -22,8 +18,8 @@ mod running;
 mod steps;
 
 use bare::Bare;
-use kind::{BareStep, BoardStep, Form, Kind, Phase};
-use opened::{opened, two_workers};
+use kind::{Form, Kind, Phase};
+use opened::opened;
 use pairs::{bare_pair, board_pair};
 use rows::{Row, reads};
 use std::alloc::Global;
@@ -31,7 +27,6 @@ use std::process::ExitCode;
 use std::thread::Threads;
 use std::{env, io};
 use steps::steps;
-use vq_board::{Board, Passes};
 
 const USAGE: &str = "usage: vq_board_bench KIND ROUNDS [pairs]
     bare-load, bare-store, bare-cas, bare-add, bare-refer, bare-turn,
@@ -43,65 +38,33 @@ usage: vq_board_bench row FORM PHASE ROUNDS SIZE
     phases: opened, submitted, made, assigned, found, released,
         known, bound, run, seen, completed, retired";
 
-/// Makes so many bare steps of a kind, in one thread or in each of two. It says whether they came out as
-/// wanted.
-fn on_bare<R: Threads + Sync>(
-    rt: &R,
-    alloc: Global,
-    step: BareStep,
-    rounds: u64,
-    pairs: bool,
-) -> Option<bool> {
-    let (bare, first, second) = Bare::new(alloc).ok()?;
-    if pairs {
-        return Some(bare_pair(rt, &bare, first, second, step, rounds));
-    }
-    Some(bare.steps(first, step, rounds))
-}
-
-/// Makes so many steps of a board of the script, likewise.
-fn on_board<R: Threads + Sync>(
-    rt: &R,
-    board: &Board,
-    passes: &mut Passes,
-    step: BoardStep,
-    rounds: u64,
-    pairs: bool,
-) -> Option<bool>
-    requires plan { IsOfWorkers (plan_of board.now) }
-    requires passes { AreNew board.now passes.old }
-{
-    let (first, second) = two_workers(board, passes)?;
-    if pairs {
-        return Some(board_pair(rt, board, first, second, step, rounds));
-    }
-    Some(steps(board, first, step, rounds))
-}
-
-/// The same on a board of its own.
-fn over_board<R: Threads + Sync>(
-    rt: &R,
-    alloc: Global,
-    step: BoardStep,
-    rounds: u64,
-    pairs: bool,
-) -> Option<bool> {
-    let (board, mut passes) = opened(alloc)?;
-    on_board(rt, &board, &mut passes, step, rounds, pairs)
-}
-
-/// Makes so many steps of a kind in a loop, in one thread or in each of two.
-fn in_loop<R: Threads + Sync>(
-    rt: &R,
-    alloc: Global,
-    kind: Kind,
-    rounds: u64,
-    pairs: bool,
-) -> Option<bool> {
+/// Makes so many steps of a kind in one thread. It says whether they came out as wanted.
+fn alone(alloc: Global, kind: Kind, rounds: u64) -> Option<bool> {
     match kind {
-        Kind::Bare(step) => on_bare(rt, alloc, step, rounds, pairs),
-        Kind::Board(step) => over_board(rt, alloc, step, rounds, pairs),
-        Kind::Reads { .. } => None,
+        Kind::Bare(step) => {
+            let (bare, seat, _) = Bare::new(alloc, 8).ok()?;
+            Some(bare.steps(seat, step, rounds))
+        }
+        Kind::Board(step) => {
+            let (board, pass, _) = opened(alloc)?;
+            Some(steps(&board, pass, step, rounds))
+        }
+        _ => None,
+    }
+}
+
+/// Makes so many steps of a kind in each of two threads. It says whether they came out as wanted.
+fn in_pairs<R: Threads + Sync>(rt: &R, alloc: Global, kind: Kind, rounds: u64) -> Option<bool> {
+    match kind {
+        Kind::Bare(step) => {
+            let (bare, first, second) = Bare::new(alloc, 8).ok()?;
+            Some(bare_pair(rt, &bare, first, second, step, rounds))
+        }
+        Kind::Board(step) => {
+            let (board, first, second) = opened(alloc)?;
+            Some(board_pair(rt, &board, first, second, step, rounds))
+        }
+        _ => None,
     }
 }
 
@@ -113,14 +76,6 @@ fn in_rows(alloc: Global, kind: Kind, size: u32, rounds: u64) -> Option<bool> {
     }
 }
 
-fn rounds_of(word: &String) -> Option<u64> {
-    word.as_str().parse::<u64>().ok()
-}
-
-fn size_of(word: &String) -> Option<u32> {
-    word.as_str().parse::<u32>().ok()
-}
-
 /// Takes a row of batches up to a phase so often, as the words say.
 fn in_phases(alloc: Global, words: &[String]) -> Option<bool> {
     let [form, phase, rounds, size] = words else {
@@ -129,65 +84,52 @@ fn in_phases(alloc: Global, words: &[String]) -> Option<bool> {
     let row = Row {
         form: Form::named(form.as_str())?,
         last: Phase::named(phase.as_str())?,
-        batches: size_of(size)?,
+        batches: size.as_str().parse::<u32>().ok()?,
     };
-    row.take(alloc, rounds_of(rounds)?)
+    let rounds = rounds.as_str().parse::<u64>().ok()?;
+    row.take(alloc, rounds)
 }
 
-/// Makes so many steps of a kind, as the words behind say.
-fn made<R: Threads + Sync>(
-    rt: &R,
-    alloc: Global,
-    kind: Kind,
-    rounds: u64,
-    words: &[String],
-) -> Option<bool> {
-    let [word, ..] = words else {
-        return in_loop(rt, alloc, kind, rounds, false);
+/// Makes the steps that the words ask for.
+fn made<R: Threads + Sync>(rt: &R, alloc: Global, words: &[String]) -> Option<bool> {
+    let (Some(name), Some(rounds)) = (words.get(1), words.get(2)) else {
+        return None;
     };
-    if word.as_str() == "pairs" {
-        return in_loop(rt, alloc, kind, rounds, true);
+    let kind = Kind::named(name.as_str())?;
+    let rounds = rounds.as_str().parse::<u64>().ok()?;
+    match words.get(3) {
+        Some(word) => {
+            if word.as_str() == "pairs" {
+                in_pairs(rt, alloc, kind, rounds)
+            } else {
+                in_rows(alloc, kind, word.as_str().parse::<u32>().ok()?, rounds)
+            }
+        }
+        None => alone(alloc, kind, rounds),
     }
-    in_rows(alloc, kind, size_of(word)?, rounds)
 }
 
 /// Does what the words ask for.
 fn run<R: Threads + Sync>(rt: &R, alloc: Global, words: &[String]) -> Option<bool> {
-    let [_, name, rounds, rest @ ..] = words else {
-        return None;
-    };
-    if name.as_str() == "row" {
-        return in_phases(alloc, words.get(2..)?);
+    match words {
+        [_, name, rest @ ..] => match name.as_str() {
+            "row" => in_phases(alloc, rest),
+            _ => made(rt, alloc, words),
+        },
+        _ => None,
     }
-    made(
-        rt,
-        alloc,
-        Kind::named(name.as_str())?,
-        rounds_of(rounds)?,
-        rest,
-    )
-}
-
-/// What is printed, and the status.
-fn answer<R: Threads + Sync>(rt: &R, alloc: Global, words: &[String]) -> (&'static str, u8) {
-    match run(rt, alloc, words) {
-        Some(true) => ("done", 0),
-        Some(false) => ("failed", 1),
-        None => (USAGE, if words.len() <= 1 { 0 } else { 2 }),
-    }
-}
-
-/// The words of the command line.
-fn words(rt: &HostRuntime) -> io::Result<Vec<String>> {
-    let mut words = Vec::new(rt.alloc());
-    for word in env::args(rt)? {
-        words.push(word)?;
-    }
-    Ok(words)
 }
 
 fn main(rt: HostRuntime) -> io::Result<ExitCode> {
-    let (said, status) = answer(&rt, rt.alloc(), words(&rt)?.as_slice());
+    let mut words = Vec::new(rt.alloc());
+    for word in env::args(&rt)? {
+        words.push(word)?;
+    }
+    let (said, status) = match run(&rt, rt.alloc(), words.as_slice()) {
+        Some(true) => ("done", 0),
+        Some(false) => ("failed", 1),
+        None => (USAGE, if words.len() <= 1 { 0 } else { 2 }),
+    };
     println!(rt; "{said}")?;
     Ok(ExitCode::from(status))
 }

@@ -77,63 +77,59 @@ fn give_point(board: &Board, shelf: &mut Pass) -> bool
 }
 
 /// The passes of the first two rings, each of which has started its batch.
-fn workers(board: &Board, rings: &mut Vec<Pass>) -> Option<(Pass, Pass)>
+fn workers(board: &Board, mut rings: Vec<Pass>) -> Option<(Pass, Pass)>
     requires plan { IsOfWorkers (plan_of board.now) }
-    requires fresh { AllFresh board.now rings.old.items }
+    requires fresh { AllFresh board.now rings.items }
     ensures first { IfSome result (λ t. IsReferring board.now t.0 false) }
     ensures second { IfSome result (λ t. IsReferring board.now t.1 false) }
 {
-    drop(dealt(board, rings, Role::Ring(2))?);
-    let second = started(board, rings, 1)?;
-    let first = started(board, rings, 0)?;
+    drop(dealt(board, &mut rings, Role::Ring(2))?);
+    let second = started(board, &mut rings, 1)?;
+    let first = started(board, &mut rings, 0)?;
     Some((first, second))
 }
 
-/// The host hands the first two batches over, and the shelf gives the first point to the first operation.
-/// It says whether that had the first number.
-fn are_handed(board: &Board, passes: &mut Passes) -> bool
+/// The passes of the rings, where the host has handed the first two batches over, and the first point
+/// carries the first operation.
+fn handed(board: &Board, passes: Passes) -> Option<Vec<Pass>>
     requires plan { IsOfWorkers (plan_of board.now) }
-    requires passes { AreNew board.now passes.old }
-    ensures { AllFresh board.now passes.new.rings.items }
+    requires passes { AreNew board.now passes }
+    ensures { IfSome result (λ v. AllFresh board.now v.items) }
 {
-    hand_on(board, &mut passes.host, 0, &[]);
-    hand_on(board, &mut passes.host, 1, &[]);
-    match dealt(board, &mut passes.shelves, Role::Shelf(0)) {
-        Some(mut shelf) => give_point(board, &mut shelf),
-        None => false,
-    }
-}
-
-/// Two passes that run a batch each, where the first point carries the first operation.
-pub(crate) fn two_workers(board: &Board, passes: &mut Passes) -> Option<(Pass, Pass)>
-    requires plan { IsOfWorkers (plan_of board.now) }
-    requires passes { AreNew board.now passes.old }
-    ensures first { IfSome result (λ t. IsReferring board.now t.0 false) }
-    ensures second { IfSome result (λ t. IsReferring board.now t.1 false) }
-{
-    if are_handed(board, passes) {
-        workers(board, &mut passes.rings)
+    let Passes {
+        mut host,
+        submits: _,
+        rings,
+        mut shelves,
+    } = passes;
+    hand_on(board, &mut host, 0, &[]);
+    hand_on(board, &mut host, 1, &[]);
+    let mut shelf = dealt(board, &mut shelves, Role::Shelf(0))?;
+    if give_point(board, &mut shelf) {
+        Some(rings)
     } else {
         None
     }
 }
 
-/// The board of the plan, where that is the script's, with its passes.
-fn opened_of(alloc: Global, ordered: &Ordered) -> Option<(Board, Passes)>
-    ensures plan { IfSome result (λ t. IsOfWorkers (plan_of t.0)) }
-    ensures passes { IfSome result (λ t. AreNew t.0 t.1) }
+/// The board of the plan, where that is the script's, with its first point and these passes.
+fn opened_of(alloc: Global, ordered: &Ordered) -> Option<(Board, Pass, Pass)>
+    ensures first { IfSome result (λ t. IsReferring t.0 t.1 false) }
+    ensures second { IfSome result (λ t. IsReferring t.0 t.2 false) }
 {
-    if is_of_workers(ordered.plan()) {
-        board_of(alloc, ordered)
-    } else {
-        None
+    if !is_of_workers(ordered.plan()) {
+        return None;
     }
+    let (board, passes) = board_of(alloc, ordered)?;
+    let rings = handed(&board, passes)?;
+    let (first, second) = workers(&board, rings)?;
+    Some((board, first, second))
 }
 
-/// The board of the script, with its passes.
-pub(crate) fn opened(alloc: Global) -> Option<(Board, Passes)>
-    ensures plan { IfSome result (λ t. IsOfWorkers (plan_of t.0)) }
-    ensures passes { IfSome result (λ t. AreNew t.0 t.1) }
+/// A board whose first point carries the first operation, and two passes that run a batch each.
+pub(crate) fn opened(alloc: Global) -> Option<(Board, Pass, Pass)>
+    ensures first { IfSome result (λ t. IsReferring t.0 t.1 false) }
+    ensures second { IfSome result (λ t. IsReferring t.0 t.2 false) }
 {
     opened_of(alloc, &checked(alloc, SCRIPT)?)
 }

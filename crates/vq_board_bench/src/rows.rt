@@ -1,7 +1,7 @@
 //! Rows of batches and of reads, again and again.
 ghost use Rattle.vq_board_bench.specs.Rows.{IsRow};
 
-use crate::batches::{opened_row, taken_up_to};
+use crate::batches::opened_row;
 use crate::kind::{Form, Phase};
 use crate::reading::reading;
 use crate::reads::{is_of_reads, reads_text};
@@ -33,8 +33,8 @@ impl Row {
     fn once(&self, alloc: Global, ordered: &Ordered, commands: u32, signals: u32) -> Option<bool>
         requires { IsRow ordered.now self.now.batches commands signals }
     {
-        let (batches, mut passes) = opened_row(alloc, ordered, self.batches, commands, signals)?;
-        taken_up_to(&batches, &mut passes, self.last)
+        let (batches, workers) = opened_row(alloc, ordered, self.batches, commands, signals)?;
+        Some(batches.take(workers, self.last))
     }
 
     /// Does so with so many boards of the plan, where its batches are in such a row.
@@ -52,15 +52,10 @@ impl Row {
         Some(true)
     }
 
-    /// The plan of the row.
-    fn plan(&self, alloc: Global) -> Option<Ordered> {
-        let text = row_text(alloc, self.batches, self.form).ok()?;
-        checked(alloc, text.as_str().as_bytes())
-    }
-
     /// Does so with so many boards. It says whether all came out as wanted.
     pub(crate) fn take(&self, alloc: Global, rounds: u64) -> Option<bool> {
-        self.take_all(alloc, &self.plan(alloc)?, rounds)
+        let text = row_text(alloc, self.batches, self.form).ok()?;
+        self.take_all(alloc, &checked(alloc, text.as_str().as_bytes())?, rounds)
     }
 }
 
@@ -80,14 +75,10 @@ fn reads_of(alloc: Global, ordered: &Ordered, whole: bool, rounds: u64) -> Optio
     Some(true)
 }
 
-/// The plan of so many reads.
-fn plan_of_reads(alloc: Global, reads: u32) -> Option<Ordered> {
-    let text = reads_text(alloc, reads).ok()?;
-    checked(alloc, text.as_str().as_bytes())
-}
-
 /// Opens so many boards for a row of so many of the host's reads, and takes the whole row through its
 /// steps, or none of it. It says whether all came out as wanted.
 pub(crate) fn reads(alloc: Global, reads: u32, whole: bool, rounds: u64) -> Option<bool> {
-    reads_of(alloc, &plan_of_reads(alloc, reads)?, whole, rounds)
+    let text = reads_text(alloc, reads).ok()?;
+    let ordered = checked(alloc, text.as_str().as_bytes())?;
+    reads_of(alloc, &ordered, whole, rounds)
 }

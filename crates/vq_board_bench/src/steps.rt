@@ -76,20 +76,16 @@ fn asked(board: &Board, pass: &mut Pass, question: Question) -> bool
     }
 }
 
-/// Whether so it is at both of two looks.
-fn asked_twice(board: &Board, pass: &mut Pass, question: Question) -> bool
-    requires { IsWorker board.now pass.old }
-    ensures { IsWorker board.now pass.new }
-{
-    asked(board, pass, question) && asked(board, pass, question)
-}
-
 /// Asks so often, four times a round. It says whether the answer was always yes.
 fn asks(board: &Board, pass: &mut Pass, question: Question, steps: u64) -> bool
     requires { IsWorker board.now pass.old }
 {
     for _ in 0..steps / 4 {
-        if !asked_twice(board, pass, question) || !asked_twice(board, pass, question) {
+        if !asked(board, pass, question)
+            || !asked(board, pass, question)
+            || !asked(board, pass, question)
+            || !asked(board, pass, question)
+        {
             return false;
         }
     }
