@@ -13,7 +13,7 @@ static void *turns(void *of)
     uint32_t code;
     while ((code = vq_actor_turn(actor, &turn)) != VQ_ENDED) {
         if (code == VQ_MOVED) {
-            /* here a driver makes the step that turn.kind names, with its own sync of the point turn.point */
+            /* here a driver makes the step that turn.kind names; others may know of it already (docs/C.md) */
         } else {
             sched_yield(); /* or waits for what turn.kind names */
         }

@@ -215,7 +215,8 @@ struct vq_actor {
 struct vq_verdict vq_share(const uint8_t *text, size_t length, struct vq_actor *room, size_t size, size_t *needed);
 
 /* One turn of the actor: VQ_MOVED, VQ_BLOCKED or VQ_ENDED, as vq_turn has it. While another actor asks the lists of the
- * same chain, a turn may be blocked with VQ_WANT_LISTED: nothing was done, ask again. It takes no memory. */
+ * same chain, a turn may be blocked with VQ_WANT_LISTED: nothing was done, ask again. Other actors may see what the turn
+ * made before the call returns (docs/C.md, "Runs that threads share"). It takes no memory. */
 uint32_t vq_actor_turn(struct vq_actor *actor, struct vq_turn *turn);
 
 /* Whether all jobs are finished, as the host sees them once it has ended: VQ_DONE, or VQ_UNFINISHED, and then ask again.
