@@ -26,7 +26,7 @@ module _ (h : GName) (m n : Meaning) where
         lenders = ap (λ (xs : List GName). h ∷ xs) k.lenders;
       }
 
-  pub held_look : (test : PointState → Bool) (want : Want) (shown : Want → ℕ × ℕ → Type 0) (r : Bool) →
+  pub held_look : (test : PointState → Bool) (want : Want) (shown : Outcome → ℕ × ℕ → Type 0) (r : Bool) →
       AnswersLook m n test want shown r → AnswersLook (held_by h m) (held_by h n) test want shown r
   held_look test want shown r k =
       record {
@@ -39,7 +39,7 @@ module _ (h : GName) (m n : Meaning) where
       }
 
   pub held_try : (moved : Place) (expected : PointState → Result Event Want) (names : Event → Type 0)
-      (shown : Want → ℕ × ℕ → Type 0) (r : Result Event Want) →
+      (shown : Outcome → ℕ × ℕ → Type 0) (r : Result Event Want) →
       AnswersTry m n moved expected names shown r →
       AnswersTry (held_by h m) (held_by h n) moved expected names shown r
   held_try moved expected names shown r k =
@@ -49,23 +49,25 @@ module _ (h : GName) (m n : Meaning) where
         place = k.place;
         state = k.state;
         named = k.named;
+        made = k.made;
         shown = k.shown;
       }
 
-  pub held_event : (moved : Place) (event r : Event) →
-      AnswersEvent m n moved event r → AnswersEvent (held_by h m) (held_by h n) moved event r
-  held_event moved event r k =
+  pub held_event : (moved : Place) (event : Event) (shown : Outcome → ℕ × ℕ → Type 0) (r : Event) →
+      AnswersEvent m n moved event shown r → AnswersEvent (held_by h m) (held_by h n) moved event shown r
+  held_event moved event shown r k =
       record {
         kept = held k.kept;
         events = k.events;
         place = k.place;
         named = k.named;
         state = k.state;
+        made = k.made;
       }
 
-  pub held_collect : (t : ℕ) (r : Option Event) →
-      AnswersCollect m n t r → AnswersCollect (held_by h m) (held_by h n) t r
-  held_collect t r k =
+  pub held_collect : (t : ℕ) (shown : Outcome → ℕ × ℕ → Type 0) (r : Option Event) →
+      AnswersCollect m n t shown r → AnswersCollect (held_by h m) (held_by h n) t shown r
+  held_collect t shown r k =
       record {
         kept = held k.kept;
         events = k.events;
@@ -73,6 +75,7 @@ module _ (h : GName) (m n : Meaning) where
         recent = k.recent;
         state = k.state;
         named = k.named;
+        made = k.made;
       }
 
   pub held_past : (t wanted r : ℕ) →
@@ -86,7 +89,7 @@ module _ (h : GName) (m n : Meaning) where
         true_of_state = k.true_of_state;
       }
 
-  pub held_find : (i t v : ℕ) (shown : Want → ℕ × ℕ → Type 0) (r : Found) →
+  pub held_find : (i t v : ℕ) (shown : Outcome → ℕ × ℕ → Type 0) (r : Found) →
       AnswersFind m n i t v shown r → AnswersFind (held_by h m) (held_by h n) i t v shown r
   held_find i t v shown r k =
       record {
@@ -100,7 +103,7 @@ module _ (h : GName) (m n : Meaning) where
       }
 
   -- and back, for a turn
-  pub free_turn : (f : GName) (shown : Want → ℕ × ℕ → Type 0) (o : Outcome) →
+  pub free_turn : (f : GName) (shown : Outcome → ℕ × ℕ → Type 0) (o : Outcome) →
       IsTurn (held_by h m) (held_by f n) shown o → IsTurn m n shown o
   free_turn f shown o k =
       record {
@@ -113,6 +116,7 @@ module _ (h : GName) (m n : Meaning) where
         };
         events = k.events;
         named = k.named;
+        made = k.made;
         shown = k.shown;
         ended = k.ended;
       }

@@ -1,4 +1,5 @@
 pub mod Cited
+mod Making
 mod Replies
 mod Serving
 mod Ranges
@@ -12,6 +13,7 @@ mod Untaking
 mod Waits
 mod Finds
 mod Telling
+mod Giving
 mod Listing
 mod Pins
 mod TurnEnds

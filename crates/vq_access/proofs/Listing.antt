@@ -2,6 +2,7 @@
 use Rattle.std.proofs.Common.{◌≡◌, ◌≤◌, ℕ, true, List, Option, Err, Some, None, IfSome, length, option_map, refl, sym, ap, ◌∙◌, subst, arith}
 use Rattle.std.specs.List.{slice_get}
 use Rattle.std.specs.Borrow.{GName}
+use Rattle.atomic_table.specs.Seated.{TableId}
 use Rattle.vq_model.specs.Checks.{IsLawful}
 use Rattle.vq_model.specs.LoweringFaults.{IsPlan}
 use Rattle.vq_model.specs.Plan.{Plan, has, chain, chain_of}
@@ -28,6 +29,7 @@ use Rattle.vq_model.proofs.Options.{same_some}
 use Rattle.vq_access.specs.Timelines.{HasAsked, HasAskedOr}
 use Rattle.vq_timeline.specs.Answers.{Collects}
 use Rattle.vq_timeline.specs.Named.{chain_at, state_of}
+use Rattle.vq_access.specs.Shown.{IsShownAt}
 use Rattle.vq_access_laws.specs.AccessMeanings.{meaning_of, answers_told}
 use Rattle.vq_access_laws.specs.Causes.{Refusals, IsShown, refused, is_of_lists}
 use Rattle.vq_access_laws.specs.Learning.{Learns}
@@ -79,15 +81,15 @@ asked_at b p ts e t o x y same is of here there =
     same_some x y (sym here ∙ (ap (λ (n : ℕ). slice_get ts n) number ∙ there))
 
 -- a refusal of lists is kept
-pub refused_lists : (l : List GName) (p : Plan) (a : ActorName) (x : Place) (r s : Recent) (v : View) (f g : Refusals)
-    (want : Want) → is_of_lists want ≡ true → g ≡ refused f want → f.count ≤ g.count → (to : Place)
+pub refused_lists : (id : TableId) (l : List GName) (p : Plan) (a : ActorName) (x : Place) (r s : Recent) (v : View)
+    (f g : Refusals) (want : Want) → is_of_lists want ≡ true → g ≡ refused f want → f.count ≤ g.count → (to : Place)
     (expected : PointState → Result Event Want) (Names : Event → Type 0) →
     AnswersTry (meaning_of l p a x r v f) (meaning_of l p a x s v g) to expected Names
-    (λ u t. IsShown v.steps g u t) (Err want)
-refused_lists l p a x r s v f g want lists same more to expected Names =
+    (λ o t. IsShownAt id v g o t) (Err want)
+refused_lists id l p a x r s v f g want lists same more to expected Names =
     subst (λ (h : Refusals). AnswersTry (meaning_of l p a x r v f) (meaning_of l p a x s v h) to expected Names
-    (λ u t. IsShown v.steps h u t) (Err want)) (sym same)
-    (refuses l p a x x r s v v f (refused f want) (omega arith)
+    (λ o t. IsShownAt id v h o t) (Err want)) (sym same)
+    (refuses id l p a x x r s v v f (refused f want) (omega arith)
     (subst (λ (h : Refusals). f.count ≤ h.count) same more) to expected Names want refl refl
     (refused_now v.steps f (length v.steps) want lists))
 

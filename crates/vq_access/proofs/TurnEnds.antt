@@ -14,11 +14,12 @@ use Rattle.vq_board_laws.specs.declared.view.View.{View}
 use Rattle.vq_board.specs.declared.parts.Board.{Board}
 use Rattle.vq_board.specs.Named.{id_of, plan_of, view, IsOf}
 use Rattle.vq_access_laws.specs.AccessMeanings.{meaning_of}
-use Rattle.vq_access_laws.specs.Causes.{IsShown, Refusals}
+use Rattle.vq_access_laws.specs.Causes.{Refusals}
 use Rattle.vq_access_laws.specs.TruePasses.{AreTrue}
 use Rattle.vq_access.specs.declared.post.Post.{Post}
 use Rattle.vq_access.specs.Pinned.{pins}
 use Rattle.vq_access.specs.Posts.{meaning, shows}
+use Rattle.vq_access.specs.Shown.{IsShownBy}
 use Rattle.vq_access.specs.Seatings.{Seating, places_of}
 use Rattle.vq_access.proofs.Pins.{pins_same}
 
@@ -49,12 +50,13 @@ module _ (p : Plan) (b : Board) (owner : ActorName) (s : Seating) (a name : Acto
 
   pub ends_turn : IsTurn (meaning_of [] p name x Other v r)
       (meaning_of [] p name y.seat.now.place Other (view y.pass.now) y.refused.now)
-      (IsShown (view y.pass.now).steps y.refused.now) o
+      (IsShownBy y.pass.now y.refused.now) o
   ends_turn =
       record {
         kept = record { plan = refl; actor = refl; noted = refl; steps = k.kept.steps; lenders = refl };
         events = k.events;
         named = λ w e. absurd (cc);
+        made = k.made;
         shown = k.shown;
         ended = λ e. subst (λ (z : Plan × ActorName). slice_get (program z.0 z.1) y.seat.now.place.done ≡ None)
             (λ i. (k.kept.plan i, actor_is i)) (k.ended e);

@@ -2,6 +2,7 @@
 use Rattle.std.proofs.Common.{◌≡◌, ◌≤◌, ◌+◌, ℕ, List, true, false, Err, Result, length, refl, sym, ap, ◌∙◌, subst, arith, inl}
 use Rattle.std.proofs.lemmas.List.{length-append}
 use Rattle.std.specs.Borrow.{GName}
+use Rattle.atomic_table.specs.Seated.{TableId}
 use Rattle.vq_model.specs.declared.script.ActorName.{ActorName}
 use Rattle.vq_model.specs.declared.plan.Event.{Event}
 use Rattle.vq_model.specs.Plan.{Plan, has}
@@ -18,6 +19,7 @@ use Rattle.vq_board_laws.specs.declared.view.View.{View}
 use Rattle.vq_board_laws.specs.PointSteps.{sees}
 use Rattle.vq_board_laws.specs.Words.{Carries}
 use Rattle.vq_points.specs.PointWord.{parts}
+use Rattle.vq_access.specs.Shown.{IsShownAt}
 use Rattle.vq_access_laws.specs.AccessMeanings.{meaning_of}
 use Rattle.vq_access_laws.specs.Causes.{Refusals, IsShown}
 use Rattle.vq_access_laws.specs.Learning.{Learns}
@@ -34,16 +36,17 @@ learned_steps v w k =
 pub learned_told : (v w : View) → Learns v w → w.told ≡ v.told
 learned_told v w k = ap (λ (z : View). z.told) k.same
 
-module _ (l : List GName) (p : Plan) (a : ActorName) (x : Place) (r s : Recent) (v w : View) (f : Refusals) where
+module _ (id : TableId) (l : List GName) (p : Plan) (a : ActorName) (x : Place) (r s : Recent) (v w : View)
+    (f : Refusals) where
   refused_for : (es : List ℕ) (e found : ℕ) → IsUntaken v w es e found → (to : Place)
       (expected : PointState → Result Event Want) (Names : Event → Type 0) →
       AnswersTry (meaning_of l p a x r v f) (meaning_of l p a x s w f) to expected Names
-      (λ u t. IsShown w.steps f u t) (Err (Exchange e found))
+      (λ o t. IsShownAt id w f o t) (Err (Exchange e found))
   refused_for es e found k to expected Names =
       let low = learned_steps v k.before k.learned in
       let more : length v.steps ≤ length w.steps =
       subst (λ (z : View). length v.steps ≤ length z.steps) (sym k.last) (omega arith) in
-      refuses l p a x x r s v w f f more (omega arith) to expected Names (Exchange e found)
+      refuses id l p a x x r s v w f f more (omega arith) to expected Names (Exchange e found)
       (ap (λ (z : View). z.told) k.last ∙ learned_told v k.before k.learned) refl
       (λ t le. subst (λ (z : View). IsShown z.steps f (Exchange e found) t) (sym k.last)
       (inl (inl (
@@ -57,7 +60,7 @@ module _ (l : List GName) (p : Plan) (a : ActorName) (x : Place) (r s : Recent) 
   pub refused_release : (es : List ℕ) (want : Want) → SawUntaken v w es want → (to : Place)
       (expected : PointState → Result Event Want) (Names : Event → Type 0) →
       AnswersTry (meaning_of l p a x r v f) (meaning_of l p a x s w f) to expected Names
-      (λ u t. IsShown w.steps f u t) (Err want)
+      (λ o t. IsShownAt id w f o t) (Err want)
   refused_release es (Exchange e found) k to expected Names = refused_for es e found k to expected Names
   refused_release es (Submitted j) k to expected Names = absurd k
   refused_release es (Released j) k to expected Names = absurd k
@@ -81,15 +84,16 @@ among_exchanges v w es fs MemoryTurn same k = absurd k
 among_exchanges v w es fs (Listed e) same k = absurd k
 
 -- A look at a point that carries an operation unsignaled.
-module _ (l : List GName) (p : Plan) (a : ActorName) (x : Place) (r s : Recent) (v w : View) (f : Refusals) where
+module _ (id : TableId) (l : List GName) (p : Plan) (a : ActorName) (x : Place) (r s : Recent) (v w : View)
+    (f : Refusals) where
   pub refused_look : (q n e : ℕ) → w ≡ sees v q n → Carries n e → (parts n).signaled ≡ false → (to : Place)
       (expected : PointState → Result Event Want) (Names : Event → Type 0) →
       AnswersTry (meaning_of l p a x r v f) (meaning_of l p a x s w f) to expected Names
-      (λ u t. IsShown w.steps f u t) (Err (Signaled e))
+      (λ o t. IsShownAt id w f o t) (Err (Signaled e))
   refused_look q n e same c clear to expected Names =
       let more : length v.steps ≤ length w.steps =
       subst (λ (z : View). length v.steps ≤ length z.steps) (sym same) (omega arith) in
-      refuses l p a x x r s v w f f more (omega arith) to expected Names (Signaled e)
+      refuses id l p a x x r s v w f f more (omega arith) to expected Names (Signaled e)
       (ap (λ (z : View). z.told) same) refl
       (λ t le. subst (λ (z : View). IsShown z.steps f (Signaled e) t) (sym same)
       (inl (inl (le.0, (q, refl, c, clear)))))

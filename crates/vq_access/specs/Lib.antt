@@ -5,6 +5,7 @@ pub mod Taken
 pub mod Found
 pub mod Timelines
 pub mod Asking
+pub mod Shown
 pub mod Pinned
 pub mod Posts
 pub mod Grounding

@@ -1,7 +1,7 @@
 //! The answers to the host's steps.
 //!
 //! Source: this project's own.
-ghost use Rattle.vq_access.specs.Posts.{meaning};
+ghost use Rattle.vq_access.specs.Posts.{meaning, shows};
 ghost use Rattle.vq_actor.specs.Answers.{AnswersEvent, MayAnswer, answered};
 
 use crate::last::Last;
@@ -13,7 +13,7 @@ impl<'a> Post<'a> {
     pub(crate) fn answer(&mut self, job: u32, answer: Answer) -> Event
         requires { MayAnswer (meaning self.old) job answer }
         ensures { AnswersEvent (meaning self.old) (meaning self.new) (answered (meaning self.old).place)
-            (Event.Answer job answer) result }
+            (Event.Answer job answer) (shows self.new) result }
     {
         self.last = Last::Other;
         let _lawful = self.ordered.plan();

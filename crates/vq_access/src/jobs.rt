@@ -22,7 +22,7 @@ impl<'a> Post<'a> {
     pub(crate) fn submit(&mut self, job: u32) -> Event
         requires { IsNext (meaning self.old) (Task.Submit job) }
         ensures { AnswersEvent (meaning self.old) (meaning self.new) (forward (meaning self.old).place)
-            (Event.Submit job) result }
+            (Event.Submit job) (shows self.new) result }
     {
         self.last = Last::Other;
         let _lawful = self.ordered.plan();
@@ -60,7 +60,7 @@ impl<'a> Post<'a> {
     pub(crate) fn start(&mut self, job: u32) -> Event
         requires { IsNext (meaning self.old) (Task.Start job) }
         ensures { AnswersEvent (meaning self.old) (meaning self.new) (forward (meaning self.old).place)
-            (Event.Start job) result }
+            (Event.Start job) (shows self.new) result }
     {
         self.last = Last::Other;
         let _lawful = self.ordered.plan();
@@ -73,7 +73,7 @@ impl<'a> Post<'a> {
     pub(crate) fn finish(&mut self, job: u32) -> Event
         requires { IsNext (meaning self.old) (Task.Finish job) }
         ensures { AnswersEvent (meaning self.old) (meaning self.new) (forward (meaning self.old).place)
-            (Event.Finish job) result }
+            (Event.Finish job) (shows self.new) result }
     {
         self.last = Last::Other;
         let _lawful = self.ordered.plan();

@@ -8,7 +8,9 @@ ghost use Rattle.vq_access.specs.Asking.{HasGiven, HasTied, take_of, want_by};
 ghost use Rattle.vq_access.specs.Timelines.{AreOf, HasAsked, HasAskedOr, collection};
 ghost use Rattle.vq_timeline.specs.declared.timeline.LockedTimeline.{LockedTimeline as Timeline};
 ghost use Rattle.vq_access.specs.Lasts.{recent_of};
-ghost use Rattle.vq_board.specs.Named.{plan_of};
+ghost use Rattle.vq_access.specs.Shown.{IsGiven};
+ghost use Rattle.vq_board.specs.Named.{id_of, plan_of};
+ghost use Rattle.vq_model.specs.declared.plan.Event.{Event as AnyEvent};
 ghost use Rattle.vq_model.specs.Plan.{has, chain as chain_of_plan, chain_of};
 ghost use Rattle.vq_timeline.specs.Named.{IsAt, chain_at};
 ghost use Rattle.vq_timeline.specs.declared.parts.BindFault.{BindFault as AnyFault};
@@ -100,6 +102,8 @@ fn collected_on<L: Lists>(
         has (chain_of_plan (plan_of board.now) chain) e ≡ true) }
     ensures asked { (x : Timeline) → slice_get timelines.now chain ≡ Some x →
         HasAskedOr (L.tries lists.now) (plan_of board.now) x result }
+    ensures given { IfSome result (λ r. (event : AnyEvent) → collection r ≡ Some event →
+        IsGiven (id_of board.now) (plan_of board.now) event) }
 {
     match timelines.get(chain as usize) {
         Some(timeline) => lists.collect(timeline, board),
@@ -123,7 +127,7 @@ impl<'a> Post<'a> {
     /// nothing to complete or to free, or another is at its lists just now.
     pub(crate) fn collect<L: Lists>(&mut self, lists: &L, chain: u32) -> Option<Event>
         requires { MayCollect (meaning self.old) chain }
-        ensures answer { AnswersCollect (meaning self.old) (meaning self.new) chain result }
+        ensures answer { AnswersCollect (meaning self.old) (meaning self.new) chain (shows self.new) result }
         ensures asked { (x : Timeline) → slice_get self.old.timelines.now chain ≡ Some x →
             ((collected : AnyCollected) × (result ≡ collection collected)
             × HasAsked (plan_of self.old.board.now) x collected)

@@ -6,8 +6,8 @@ ghost use Rattle.vq_access.specs.Grounding.{plan_at, board_at};
 ghost use Rattle.vq_access.specs.Lasts.{IsFew};
 ghost use Rattle.vq_access.specs.Seatings.{places_of};
 ghost use Rattle.vq_access.specs.Served.{is_served};
+ghost use Rattle.vq_access.specs.Shown.{IsShownBy};
 ghost use Rattle.vq_access_laws.specs.AccessMeanings.{meaning_of};
-ghost use Rattle.vq_access_laws.specs.Causes.{IsShown};
 ghost use Rattle.vq_access_laws.specs.TruePasses.{AreTrue};
 ghost use Rattle.vq_access.specs.Posts.{meaning, shows};
 ghost use Rattle.vq_actor.specs.Actors.{IsServed, IsTurn, acting_of};
@@ -32,7 +32,7 @@ use vq_turns::outcome::Outcome;
 
 /// One turn of an actor from its place, by the steps of a pass of the board that serves it. The places, with those that
 /// the seats kept before the turn, stay true of the pass, and all that is lent goes on as the turn left it, the refusals
-/// met too. A want is shown since the turn's start. It waits for nothing but the locks of
+/// met too. What it came to, an event or a want, is shown since the turn's start. It waits for nothing but the locks of
 /// timelines, and for these where its lists wait, and takes no memory.
 pub fn turn_at<L: Lists>(
     grounds: &Grounds<L>,
@@ -57,7 +57,7 @@ pub fn turn_at<L: Lists>(
     ensures turn { IsTurn
         (meaning_of [] (plan_at grounds.now) actor.now.name seat.old.place Other (view pass.old) refused.old)
         (meaning_of [] (plan_at grounds.now) actor.now.name seat.new.place Other (view pass.new) refused.new)
-        (IsShown (view pass.new).steps refused.new) result }
+        (IsShownBy pass.new refused.new) result }
     ensures untouched { result ≡ AnyOutcome.Ended →
         ((view pass.new) ≡ (view pass.old)) × (refused.new ≡ refused.old) }
 {

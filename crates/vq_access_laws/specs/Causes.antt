@@ -1,13 +1,24 @@
--- The wants that an access over the board shows: by a step of its pass, or by the last refusal of a chain's lists.
--- This project's own.
-use Rattle.std.specs.Prelude.{ℕ, ◌≡◌, ◌≢◌, ◌<◌, ◌+◌, ◌⊎◌, min, Bool, true, false, List, Option, Some}
+-- What an access over the board shows of a turn: a want by a step of its pass, or by the last refusal of a chain's
+-- lists; an event by the last steps of its pass. This project's own.
+use Rattle.std.specs.Prelude.{ℕ, ◌≡◌, ◌≢◌, ◌<◌, ◌≤◌, ◌+◌, ◌⊎◌, suc, min, Bool, true, false, List, [], ◌∷◌, length}
+use Rattle.std.specs.Prelude.{Option, Some, None}
+use Rattle.vq_model.specs.Plan.{has}
+use Rattle.vq_model.specs.declared.plan.Event.{Event}
+use Rattle.vq_model.specs.declared.plan.Event.TheVariants.{Submit, Release, Start, Apply, Signal, Finish, Answer}
+use Rattle.vq_model.specs.declared.plan.Event.TheVariants.{Refer, Look, Unref}
 use Rattle.vq_points.specs.PointWord.{parts}
 use Rattle.vq_turns.specs.declared.outcome.Want.{Want}
 use Rattle.vq_turns.specs.declared.outcome.Want.TheVariants.{Submitted, Released, Bound, Next, Signaled, Finished}
 use Rattle.vq_turns.specs.declared.outcome.Want.TheVariants.{MemoryTurn, Exchange, Listed}
+use Rattle.vq_board_laws.specs.declared.view.Fact.TheVariants.{Made}
 use Rattle.vq_board_laws.specs.declared.view.OwnStep.{OwnStep}
+use Rattle.vq_board_laws.specs.declared.view.View.{View}
+use Rattle.vq_board_laws.specs.Knowledge.{Knows}
 use Rattle.vq_board_laws.specs.OwnSteps.{HasStep, HasBefore}
-use Rattle.vq_board_laws.specs.Words.{turn_word, job_word, op_word, point_word, Carries}
+use Rattle.vq_board_laws.specs.Points.{reference, Lists}
+use Rattle.vq_board_laws.specs.Reached.{answer_told}
+use Rattle.vq_board_laws.specs.Steps.{own_step}
+use Rattle.vq_board_laws.specs.Words.{turn_word, job_word, op_word, point_word, place_word, Carries}
 
 -- the step read a number below this one
 abbrev pub FoundBelow : ℕ → ℕ → OwnStep → Type 0
@@ -54,3 +65,39 @@ IsShown steps r want since = HasStep since.0 (IsStepFor since.0 want) steps ⊎ 
 -- the refusals after one more, which is counted as long as 64 bits count it
 abbrev pub refused : Refusals → Want → Refusals
 refused r want = record { count = min (r.count + 1) 18446744073709551615; last = Some want }
+
+-- Events
+
+-- the step stands right behind this one
+abbrev pub IsBehind : OwnStep → List OwnStep → Type 0
+IsBehind before ss = (earlier : List OwnStep) × (ss ≡ before ∷ earlier)
+
+-- What the last step of a pass says of an event that it made: the store of a job's word, with the job on the pass's
+-- lists; the step on the turn that gave it back, behind the one that wrote the command into the log; the step on the
+-- word of the point to which the operation was found bound right before; or the step on a point's word that carries
+-- the operation: signaled, or with a reference more that the pass has, or found so twice, as where one is given back.
+-- Points are given, bound, completed and freed by their chain's lists, and not by the pass.
+abbrev pub IsStepOf : View → Event → OwnStep → List OwnStep → Type 0
+IsStepOf v (Submit j) s ss = (s ≡ own_step (job_word j) 1) × (has v.submitted j ≡ true)
+IsStepOf v (Release j) s ss = (s ≡ own_step (job_word j) 2) × (has v.released j ≡ true)
+IsStepOf v (Start j) s ss = (s ≡ own_step (job_word j) 3) × (v.runs ≡ Some j) × (has v.begun j ≡ true)
+IsStepOf v (Finish j) s ss = (s ≡ own_step (job_word j) 4) × (v.runs ≡ None)
+IsStepOf v (Answer j a) s ss = (s ≡ own_step (job_word j) 3) × (answer_told v.told j ≡ Some a)
+IsStepOf v (Apply j c) s ss =
+    (s ≡ own_step turn_word 0) × (v.runs ≡ Some j) × ((n : ℕ) × IsBehind (own_step (place_word n) (suc c)) ss)
+IsStepOf v (Signal e) s ss =
+    (q : ℕ) × (s.word ≡ point_word q) × Knows v.known (Made e) × IsBehind (own_step (op_word e) (q + 2)) ss
+IsStepOf v (Refer a q e) s ss = (s.word ≡ point_word q) × Carries s.found e × Lists v.refs (reference q e)
+IsStepOf v (Look a q e) s ss =
+    (s.word ≡ point_word q) × Carries s.found e × ((parts s.found).signaled ≡ true)
+IsStepOf v (Unref a q e) s ss = (s.word ≡ point_word q) × IsBehind s ss
+IsStepOf v other s ss = ⊥
+
+-- a step stands behind so many others
+abbrev pub IsLast : ℕ → (OwnStep → List OwnStep → Type 0) → List OwnStep → Type 0
+IsLast n P [] = ⊥
+IsLast n P (s ∷ ss) = (n ≤ length ss) × P s ss
+
+-- the last step of the pass has a number above n, and made the event
+abbrev pub IsMade : View → Event → ℕ → Type 0
+IsMade v event n = IsLast n (IsStepOf v event) v.steps

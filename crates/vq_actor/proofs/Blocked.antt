@@ -8,7 +8,8 @@ use Rattle.vq_points.specs.Points.{PointState}
 use Rattle.vq_turns.specs.declared.task.Task.TheVariants.{Bind, Signal}
 use Rattle.vq_turns.specs.declared.outcome.Want.{Want}
 use Rattle.vq_turns.specs.declared.outcome.Want.TheVariants.{Next, Bound}
-use Rattle.vq_turns.specs.declared.outcome.Outcome.TheVariants.{Blocked}
+use Rattle.vq_turns.specs.declared.outcome.Outcome.{Outcome}
+use Rattle.vq_turns.specs.declared.outcome.Outcome.TheVariants.{Moved, Blocked}
 use Rattle.vq_turns.specs.Turns.{Ends as EndsAt, does, forward, moves, unbound_before, point_of}
 use Rattle.vq_actor.specs.declared.doing.Doing.TheVariants.{Ends}
 use Rattle.vq_actor.specs.Meanings.{Meaning, IsShownSince}
@@ -30,7 +31,10 @@ refused_by false x v want e = (refl, cc)
 pub same_want : (want v : Want) → outcome_of (Ends (Blocked want)) ≡ Some (Blocked v) → want ≡ v
 same_want want v q = cc
 
-module _ (a : Meaning) (b : Meaning) (shows : Want → ℕ × ℕ → Type 0) (want : Want) where
+pub same_event : (event other : Event) → outcome_of (Ends (Moved event)) ≡ Some (Moved other) → event ≡ other
+same_event event other q = cc
+
+module _ (a : Meaning) (b : Meaning) (shows : Outcome → ℕ × ℕ → Type 0) (want : Want) where
   pub bind_blocked : (e : ℕ) →
       AnswersTry a b (forward a.place) (λ w. bound_or a.plan w e) (IsBindOf e) shows (Err want) →
       DidTo a b (Bind e) shows (Ends (Blocked want))
@@ -44,7 +48,8 @@ module _ (a : Meaning) (b : Meaning) (shows : Want → ℕ × ℕ → Type 0) (w
           by_unbound w (unbound_before a.plan w e) (k.state w is).0 ∙ ap (EndsAt (Blocked want)) (sym k.place),
           (k.state w is).1,
         );
-        shown = λ v x. subst (λ (u : Want). IsShownSince a.steps (shows u)) (same_want want v x) k.shown;
+        made = λ event x. absurd (cc);
+        shown = λ v x. subst (λ (u : Want). IsShownSince a.steps (shows (Blocked u))) (same_want want v x) k.shown;
         unended = λ x. cc;
       }
     where
@@ -69,7 +74,8 @@ module _ (a : Meaning) (b : Meaning) (shows : Want → ℕ × ℕ → Type 0) (w
               ∙ ap (EndsAt (Blocked want)) (sym k.place),
           (k.state w is).1,
         );
-        shown = λ v x. subst (λ (u : Want). IsShownSince a.steps (shows u)) (same_want want v x) k.shown;
+        made = λ event x. absurd (cc);
+        shown = λ v x. subst (λ (u : Want). IsShownSince a.steps (shows (Blocked u))) (same_want want v x) k.shown;
         unended = λ x. cc;
       }
     where

@@ -1,16 +1,17 @@
 -- A comparison begins with a collection.
-use Rattle.std.proofs.Common.{◌≡◌, ℕ, Option, Some, None, refl, sym, ap, ◌∙◌}
+use Rattle.std.proofs.Common.{◌≡◌, ℕ, Option, Some, None, refl, sym, subst, ap, ◌∙◌}
 use Rattle.std.specs.Option.{option_map_or}
 use Rattle.vq_model.specs.declared.plan.Event.{Event}
 use Rattle.vq_points.specs.Points.{PointState}
 use Rattle.vq_turns.specs.declared.task.Task.TheVariants.{Compare}
-use Rattle.vq_turns.specs.declared.outcome.Want.{Want}
+use Rattle.vq_turns.specs.declared.outcome.Outcome.{Outcome}
 use Rattle.vq_turns.specs.declared.outcome.Outcome.TheVariants.{Moved}
 use Rattle.vq_turns.specs.Turns.{Place, GoesOn as GoesOnAt, Ends as EndsAt, does, seeing, collected, past_value}
 use Rattle.vq_actor.specs.declared.doing.Doing.TheVariants.{GoesOn, Ends}
-use Rattle.vq_actor.specs.Meanings.{Meaning, IsNext}
+use Rattle.vq_actor.specs.Meanings.{Meaning, IsNext, IsShownSince}
 use Rattle.vq_actor.specs.Collections.{AnswersCollect, AnswersPast, MayLookPast}
 use Rattle.vq_actor.specs.Doings.{DidTo}
+use Rattle.vq_actor.proofs.Blocked.{same_event}
 use Rattle.vq_actor.proofs.Keeping.{keeps_along}
 use Rattle.vq_actor.proofs.Seeking.{same_next}
 
@@ -24,8 +25,8 @@ module _ (a : Meaning) (t v : ℕ) (is_next : IsNext a (Compare t v)) where
       (GoesOnAt (seeing a.place v (past_value a.plan w t))))
       (sym is)
 
-  pub compare_collects : (b : Meaning) (shows : Want → ℕ × ℕ → Type 0) (event : Event) →
-      AnswersCollect a b t (Some event) → DidTo a b (Compare t v) shows (Ends (Moved event))
+  pub compare_collects : (b : Meaning) (shows : Outcome → ℕ × ℕ → Type 0) (event : Event) →
+      AnswersCollect a b t shows (Some event) → DidTo a b (Compare t v) shows (Ends (Moved event))
   compare_collects b shows event h =
       record {
         kept = h.kept;
@@ -36,11 +37,13 @@ module _ (a : Meaning) (t v : ℕ) (is_next : IsNext a (Compare t v)) where
           collects w (Some event) (h.state w is).0 ∙ ap (EndsAt (Moved event)) (sym h.place),
           (h.state w is).1,
         );
+        made = λ other x. subst (λ (u : Event). IsShownSince a.steps (shows (Moved u))) (same_event event other x)
+            (h.made event refl);
         shown = λ want x. absurd (cc);
         unended = λ x. cc;
       }
 
-  module _ (m : Meaning) (h : AnswersCollect a m t None) where
+  module _ (m : Meaning) (before : Outcome → ℕ × ℕ → Type 0) (h : AnswersCollect a m t before None) where
     pub may_look_past : MayLookPast m t v
     may_look_past =
         record {
@@ -48,7 +51,7 @@ module _ (a : Meaning) (t v : ℕ) (is_next : IsNext a (Compare t v)) where
           collected = h.recent;
         }
 
-    pub compare_sees : (b : Meaning) (shows : Want → ℕ × ℕ → Type 0) (past : ℕ) → AnswersPast m b t v past →
+    pub compare_sees : (b : Meaning) (shows : Outcome → ℕ × ℕ → Type 0) (past : ℕ) → AnswersPast m b t v past →
         DidTo a b (Compare t v) shows GoesOn
     compare_sees b shows past k =
         let there : b.place ≡ seeing a.place v past =
@@ -66,6 +69,7 @@ module _ (a : Meaning) (t v : ℕ) (is_next : IsNext a (Compare t v)) where
                     ∙ ap GoesOnAt (sym there))),
                 k.state ∙ here,
               );
+          made = λ event x. absurd (cc);
           shown = λ want x. absurd (cc);
           unended = λ x. cc;
         }

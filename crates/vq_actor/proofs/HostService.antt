@@ -227,7 +227,7 @@ module _ (p : Plan) (w v : PointState) (f g : ActorName → Place) (q : ℕ) whe
 
 -- A turn of one actor that serves no other
 
-module _ (old new : Staged) (shows : Want → ℕ × ℕ → Type 0) (q : ℕ) (o : Outcome) where
+module _ (old new : Staged) (shows : Outcome → ℕ × ℕ → Type 0) (q : ℕ) (o : Outcome) where
   pub ring_play : IsTurn (part old (RingActor q)) (part new (RingActor q)) shows o →
       Others old.places new.places (λ b. b ≡ RingActor q) → IsPlay old new shows (RingActor q) o
   ring_play t others =
@@ -243,6 +243,7 @@ module _ (old new : Staged) (shows : Want → ℕ × ℕ → Type 0) (q : ℕ) (
               ∙ ap (ring_plays old.plan (scene_over old.plan w old.places) q) (t.named w is).0,
           (t.named w is).1,
         );
+        made = t.made;
         shown = t.shown;
         ended = λ e b is. ap (λ (a : ActorName). next_task (part new a)) is ∙ t.ended e;
       }
@@ -265,6 +266,7 @@ module _ (old new : Staged) (shows : Want → ℕ × ℕ → Type 0) (q : ℕ) (
                   ((t.named w is).0 ∙ ap (turn_of old.plan w (SubmitActor q)) own),
               (t.named w is).1,
             );
+        made = t.made;
         shown = t.shown;
         ended = λ e b is. ap (λ (a : ActorName). next_task (part new a)) is ∙ t.ended e;
       }
@@ -275,7 +277,7 @@ abbrev turns_from : Staged → PointState → ℕ → Outcome → (ActorName →
 turns_from old w k last at = host_turn_from old.plan w (deferred_from old.plan k) last (host_at old.plan at)
 
 -- How far the host has come: the deferred queues before this one were served, and none of their turns moved.
-pub record Serving (old now : Staged) (shows : Want → ℕ × ℕ → Type 0) (k : ℕ) (last : Outcome) : Type 0 where
+pub record Serving (old now : Staged) (shows : Outcome → ℕ × ℕ → Type 0) (k : ℕ) (last : Outcome) : Type 0 where
   pub plan : now.plan ≡ old.plan
   pub noted : now.noted ≡ old.noted
   pub steps : IsEarlier old.steps now.steps
@@ -285,7 +287,7 @@ pub record Serving (old now : Staged) (shows : Want → ℕ × ℕ → Type 0) (
   pub still : IsStill last
   pub turn : (w : PointState) → old.state ≡ Some w →
       turns_from old w 0 Ended old.places ≡ turns_from old w k last now.places
-  pub shown : (want : Want) → last ≡ Blocked want → IsShownSince old.steps (shows want)
+  pub shown : (want : Want) → last ≡ Blocked want → IsShownSince old.steps (shows (Blocked want))
   pub ended : last ≡ Ended → (q : ℕ) → q < k → is_deferred_queue old.plan q ≡ true →
       next_task (part now (SubmitActor q)) ≡ None
 
@@ -296,7 +298,7 @@ next_there old new a e f =
     ap (λ (p : Plan). slice_get (program p a) (new.places a).done) e
     ∙ ap (λ (x : Place). slice_get (program old.plan a) x.done) f
 
-module _ (old now : Staged) (shows : Want → ℕ × ℕ → Type 0) (k : ℕ) (last : Outcome)
+module _ (old now : Staged) (shows : Outcome → ℕ × ℕ → Type 0) (k : ℕ) (last : Outcome)
     (s : Serving old now shows k last) where
   abbrev p : Plan
   p = old.plan
@@ -341,7 +343,7 @@ module _ (old now : Staged) (shows : Want → ℕ × ℕ → Type 0) (k : ℕ) (
       (sym e ∙ ap (λ (qs : List ℕ). host_turn_from p w qs Ended (host_at p old.places)) (all_left p))
 
   -- The submit actor of a deferred queue had its turn.
-  module _ (next : Staged) (after : Want → ℕ × ℕ → Type 0) (o : Outcome) (within : k < length p.script.queues)
+  module _ (next : Staged) (after : Outcome → ℕ × ℕ → Type 0) (o : Outcome) (within : k < length p.script.queues)
       (d : is_deferred_queue p k ≡ true)
       (t : IsTurn (part now (SubmitActor k)) (part next (SubmitActor k)) after o)
       (rest : Others now.places next.places (λ b. b ≡ SubmitActor k)) where
@@ -393,6 +395,7 @@ module _ (old now : Staged) (shows : Want → ℕ × ℕ → Type 0) (k : ℕ) (
                 ∙ (ap (λ (q : Plan). Some (world_after q w o)) s.plan
                 ∙ ap (λ (r : Outcome). Some (world_after p w r)) is_o),
           );
+          made = λ other e. shown_before old.steps now.steps (after (Moved other)) s.steps (t.made other (is_o ∙ e));
           shown = λ want e. absurd (cc);
           ended = λ e. absurd (cc);
         }
@@ -401,13 +404,13 @@ module _ (old now : Staged) (shows : Want → ℕ × ℕ → Type 0) (k : ℕ) (
         moved_to x = record { outcome = Moved event; place = x }
 
     abbrev Grows : Type 0
-    Grows = (want : Want) (since : ℕ × ℕ) → shows want since → after want since
+    Grows = (want : Want) (since : ℕ × ℕ) → shows (Blocked want) since → after (Blocked want) since
 
     goes_on : (v : Outcome) → IsStill v → IsStill o →
         ((w : PointState) → after_served there (record { outcome = o; place = served_place }) k last
         (host_turn_from p w (deferred_from p (k + 1))) ≡ host_turn_from p w (deferred_from p (k + 1)) v
         (serving there k served_place)) →
-        ((want : Want) → v ≡ Blocked want → IsShownSince old.steps (after want)) →
+        ((want : Want) → v ≡ Blocked want → IsShownSince old.steps (after (Blocked want))) →
         (v ≡ Ended → (q : ℕ) → q < k + 1 → is_deferred_queue p q ≡ true →
         next_task (part next (SubmitActor q)) ≡ None) → Serving old next after (k + 1) v
     goes_on v still still_o follows shown ended =
@@ -434,7 +437,7 @@ module _ (old now : Staged) (shows : Want → ℕ × ℕ → Type 0) (k : ℕ) (
         goes_on (Blocked want) tt (subst IsStill (sym is) tt)
         (λ w. ap (λ (r : Outcome). after_served there (record { outcome = r; place = served_place }) k last
         (host_turn_from p w (deferred_from p (k + 1)))) is)
-        (λ v e. shown_before old.steps now.steps (after v) s.steps (t.shown v (is ∙ e)))
+        (λ v e. shown_before old.steps now.steps (after (Blocked v)) s.steps (t.shown v (is ∙ e)))
         (λ e. absurd (cc))
 
     pub serving_ended : o ≡ Ended → Grows → Serving old next after (k + 1) last
@@ -454,7 +457,7 @@ module _ (old now : Staged) (shows : Want → ℕ × ℕ → Type 0) (k : ℕ) (
             ∙ s.ended e q (omega (arith, l, other)) d'
 
   -- The host's own program had its turn, after all deferred queues.
-  module _ (next : Staged) (after : Want → ℕ × ℕ → Type 0) (o : Outcome) (past : length p.script.queues ≤ k)
+  module _ (next : Staged) (after : Outcome → ℕ × ℕ → Type 0) (o : Outcome) (past : length p.script.queues ≤ k)
       (t : IsTurn (part now HostActor) (part next HostActor) after o)
       (rest : Others now.places next.places (λ b. b ≡ HostActor)) where
     abbrev mine : HostPlace
@@ -484,10 +487,11 @@ module _ (old now : Staged) (shows : Want → ℕ × ℕ → Type 0) (k : ℕ) (
         own_turn last mine (record { outcome = o; place = next.places HostActor })
         ≡ record { outcome = r; place = record mine { own = next.places HostActor } } →
         ((w : PointState) → world_after p w o ≡ world_after p w r) → events_by o ≡ events_by r →
-        ((want : Want) → r ≡ Blocked want → IsShownSince old.steps (after want)) →
+        ((event : Event) → r ≡ Moved event → IsShownSince old.steps (after (Moved event))) →
+        ((want : Want) → r ≡ Blocked want → IsShownSince old.steps (after (Blocked want))) →
         (r ≡ Ended → (b : ActorName) → Serves p HostActor b → next_task (part next b) ≡ None) →
         IsPlay old next after HostActor r
-    comes_to r is same_world same_events shown ended =
+    comes_to r is same_world same_events made shown ended =
         record {
           plan = t.kept.plan ∙ s.plan;
           noted = t.kept.noted ∙ s.noted;
@@ -502,6 +506,7 @@ module _ (old now : Staged) (shows : Want → ℕ × ℕ → Type 0) (k : ℕ) (
             (t.named w (s.state w at)).1
                 ∙ (ap (λ (q : Plan). Some (world_after q w o)) s.plan ∙ ap Some (same_world w)),
           );
+          made = made;
           shown = shown;
           ended = ended;
         }
@@ -510,13 +515,15 @@ module _ (old now : Staged) (shows : Want → ℕ × ℕ → Type 0) (k : ℕ) (
         come_to z x = record { outcome = z; place = x }
 
     -- its own program is at its end
-    pub host_ends : o ≡ Ended → ((want : Want) (since : ℕ × ℕ) → shows want since → after want since) →
+    pub host_ends : o ≡ Ended →
+        ((want : Want) (since : ℕ × ℕ) → shows (Blocked want) since → after (Blocked want) since) →
         IsPlay old next after HostActor last
     host_ends is grows =
         comes_to last
         (ap (λ (z : Outcome). own_turn last mine (record { outcome = z; place = next.places HostActor })) is)
         (λ w. ap (world_after p w) is ∙ sym (still_world p w last s.still))
         (ap events_by is ∙ sym (still_events last s.still))
+        (λ event e. absurd (subst IsStill e s.still))
         (λ want e since le. grows want since (s.shown want e since le)) all_ended
       where
         all_ended : last ≡ Ended → (b : ActorName) → Serves p HostActor b → next_task (part next b) ≡ None
@@ -531,7 +538,9 @@ module _ (old now : Staged) (shows : Want → ℕ × ℕ → Type 0) (k : ℕ) (
     pub host_does : (o ≡ Ended → ⊥) → IsPlay old next after HostActor o
     host_does other =
         comes_to o (own_is o other) (λ w. refl) refl
-        (λ want e. shown_before old.steps now.steps (after want) s.steps (t.shown want e)) (λ e. absurd (other e))
+        (λ event e. shown_before old.steps now.steps (after (Moved event)) s.steps (t.made event e))
+        (λ want e. shown_before old.steps now.steps (after (Blocked want)) s.steps (t.shown want e))
+        (λ e. absurd (other e))
       where
         own_is : (r : Outcome) → (r ≡ Ended → ⊥) →
             own_turn last mine (record { outcome = r; place = next.places HostActor })

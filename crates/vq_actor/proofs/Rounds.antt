@@ -10,6 +10,8 @@ use Rattle.vq_points.specs.Points.{PointState}
 use Rattle.vq_turns.specs.declared.look.Found.TheVariants.{Past}
 use Rattle.vq_turns.specs.declared.task.Task.TheVariants.{AwaitNeeds}
 use Rattle.vq_turns.specs.declared.outcome.Want.{Want}
+use Rattle.vq_turns.specs.declared.outcome.Outcome.{Outcome}
+use Rattle.vq_turns.specs.declared.outcome.Outcome.TheVariants.{Moved, Blocked}
 use Rattle.vq_turns.specs.Turns.{Place, Did, found_by, by_found, one_need, held_for, gives_back}
 use Rattle.vq_turns.specs.Turns.{awaits_needs}
 use Rattle.vq_actor.specs.declared.doing.Doing.{Doing}
@@ -46,7 +48,7 @@ left_step ns k n e =
     ∙ ap (λ (i : ℕ). (k, n) ∷ enumerate_from (k + 1) (drop i ns)) more
 
 -- How far a wait has come: the needs before an index were passed, and this is the last want.
-pub record Round (a m : Meaning) (ns : List Need) (shows : Want → ℕ × ℕ → Type 0) (k : ℕ)
+pub record Round (a m : Meaning) (ns : List Need) (shows : Outcome → ℕ × ℕ → Type 0) (k : ℕ)
     (last : Option Want) : Type 0 where
   pub kept : Keeps a m
   pub place : m.place ≡ a.place
@@ -55,12 +57,12 @@ pub record Round (a m : Meaning) (ns : List Need) (shows : Want → ℕ × ℕ �
   pub turn : (w : PointState) → a.state ≡ Some w →
       awaits_needs a.plan w a.actor a.place (enumerate_from 0 ns) None
       ≡ awaits_needs a.plan w a.actor a.place (left ns k) last
-  pub shown : (want : Want) → last ≡ Some want → IsShownSince a.steps (shows want)
+  pub shown : (want : Want) → last ≡ Some want → IsShownSince a.steps (shows (Blocked want))
   -- a need that is resolved was asked for, or is still to come
   pub asked : last ≡ None → (i : ℕ) (n : Need) → slice_get ns i ≡ Some n →
       is_resolved a.plan n.chain n.value ≡ true → k ≤ i
 
-module _ (a : Meaning) (m : Meaning) (ns : List Need) (shows : Want → ℕ × ℕ → Type 0) (k : ℕ)
+module _ (a : Meaning) (m : Meaning) (ns : List Need) (shows : Outcome → ℕ × ℕ → Type 0) (k : ℕ)
     (last : Option Want) (r : Round a m ns shows k last) where
   module _ (n : Need) (at : slice_get ns k ≡ Some n) where
     steps_to : (w : PointState) → a.state ≡ Some w →
@@ -119,7 +121,7 @@ module _ (a : Meaning) (m : Meaning) (ns : List Need) (shows : Want → ℕ × �
         not_this i o is resolved le (inr other) isnt = omega (arith, other)
 
     -- a need that isn't met yet
-    pub passes : (b : Meaning) (finds : Want → ℕ × ℕ → Type 0) (want : Want) → PassedNeed m b k n finds want →
+    pub passes : (b : Meaning) (finds : Outcome → ℕ × ℕ → Type 0) (want : Want) → PassedNeed m b k n finds want →
         Round a b ns finds (k + 1) (Some want)
     passes b finds want h =
         record {
@@ -131,8 +133,8 @@ module _ (a : Meaning) (m : Meaning) (ns : List Need) (shows : Want → ℕ × �
               steps_to w is
               ∙ (same_need w (awaits_needs a.plan w a.actor a.place (left ns (k + 1))) last
               ∙ h.state w (r.is_state w is) (awaits_needs a.plan w a.actor a.place (left ns (k + 1))) last);
-          shown = λ v x. subst (λ (u : Want). IsShownSince a.steps (finds u)) (same_some v x)
-              (shown_before a.steps m.steps (finds want) r.kept.steps h.shown);
+          shown = λ v x. subst (λ (u : Want). IsShownSince a.steps (finds (Blocked u))) (same_some v x)
+              (shown_before a.steps m.steps (finds (Blocked want)) r.kept.steps h.shown);
           asked = λ x. absurd (cc);
         }
       where
@@ -140,7 +142,7 @@ module _ (a : Meaning) (m : Meaning) (ns : List Need) (shows : Want → ℕ × �
         same_some v x = cc
 
     -- a need that ends the round
-    pub ends_round : (b : Meaning) (finds : Want → ℕ × ℕ → Type 0) (did : Doing) → a.place.met ≡ false →
+    pub ends_round : (b : Meaning) (finds : Outcome → ℕ × ℕ → Type 0) (did : Doing) → a.place.met ≡ false →
         DidNeed m b k n finds did → DidTo a b (AwaitNeeds ns) finds did
     ends_round b finds did waiting d =
         record {
@@ -156,7 +158,8 @@ module _ (a : Meaning) (m : Meaning) (ns : List Need) (shows : Want → ℕ × �
                     ∙ (same_need w next_need last ∙ (d.state w (r.is_state w is)).0 next_need last)),
                 (d.state w (r.is_state w is)).1 ∙ ap (λ p. Some (world_left p w did)) r.kept.plan,
               );
-          shown = λ want x. shown_before a.steps m.steps (finds want) r.kept.steps (d.shown want x);
+          made = λ event x. shown_before a.steps m.steps (finds (Moved event)) r.kept.steps (d.made event x);
+          shown = λ want x. shown_before a.steps m.steps (finds (Blocked want)) r.kept.steps (d.shown want x);
           unended = d.unended;
         }
       where

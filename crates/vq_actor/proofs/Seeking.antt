@@ -1,6 +1,6 @@
 -- One need of a wait: it is looked for, or its reference is looked at. References are given back.
 use Rattle.std.proofs.Common.{◌≡◌, ℕ, ◌+◌, Bool, true, false, if◌then◌else◌, List, [], ◌∷◌, Option, Some, None}
-use Rattle.std.proofs.Common.{Result, Ok, Err, refl, sym, ap, ◌∙◌, append-nil}
+use Rattle.std.proofs.Common.{Result, Ok, Err, refl, sym, subst, ap, ◌∙◌, append-nil}
 use Rattle.std.specs.List.{slice_get}
 use Rattle.vq_model.specs.declared.script.ActorName.{ActorName}
 use Rattle.vq_model.specs.declared.plan.Need.{Need}
@@ -15,19 +15,21 @@ use Rattle.vq_turns.specs.declared.task.Task.{Task}
 use Rattle.vq_turns.specs.declared.task.Task.TheVariants.{AwaitNeeds}
 use Rattle.vq_turns.specs.declared.outcome.Want.{Want}
 use Rattle.vq_turns.specs.declared.outcome.Want.TheVariants.{Bound, Signaled}
-use Rattle.vq_turns.specs.declared.outcome.Outcome.TheVariants.{Moved}
+use Rattle.vq_turns.specs.declared.outcome.Outcome.{Outcome}
+use Rattle.vq_turns.specs.declared.outcome.Outcome.TheVariants.{Moved, Blocked}
 use Rattle.vq_turns.specs.Programs.{program}
 use Rattle.vq_turns.specs.Turns.{Place, Did, Ends as EndsAt, GoesOn as GoesOnAt, does, found, forward, by_found, one_need}
 use Rattle.vq_turns.specs.Turns.{held_for, holding_also, gives_back}
 use Rattle.vq_actor.specs.declared.doing.Doing.{Doing}
 use Rattle.vq_actor.specs.declared.doing.Doing.TheVariants.{GoesOn, Ends}
 use Rattle.vq_actor.specs.declared.held.Held.{Held}
-use Rattle.vq_actor.specs.Meanings.{Meaning, Keeps, Recent, IsNext}
+use Rattle.vq_actor.specs.Meanings.{Meaning, Keeps, Recent, IsNext, IsShownSince}
 use Rattle.vq_actor.specs.Answers.{AnswersTry, Is, signaled_or}
 use Rattle.vq_actor.specs.Waits.{MayFind, AnswersFind, MayRefer, is_resolved, met_at, need_found}
 use Rattle.vq_actor.specs.Waits.{referred, looked_at}
 use Rattle.vq_actor.specs.Positions.{holding_of}
 use Rattle.vq_actor.specs.Doings.{DidTo, DidNeed, PassedNeed, GoesFurther, events_by_task, world_left}
+use Rattle.vq_actor.proofs.Blocked.{same_event}
 use Rattle.vq_actor.proofs.Keeping.{keeps_along, shown_before, none_noted, noted_behind}
 
 abbrev refused : Want → Result Event Want
@@ -92,7 +94,7 @@ module _ (a : Meaning) (ns : List Need) (actor : ActorName) (k : ℕ) (n : Need)
       ap (λ o. one_need a.plan w a.actor a.place k n o next_need want) without
       ∙ ap (by_found a.actor a.place k next_need want) is
 
-  module _ (m : Meaning) (finds : Want → ℕ × ℕ → Type 0) where
+  module _ (m : Meaning) (finds : Outcome → ℕ × ℕ → Type 0) where
     pub may_refer : (e q : ℕ) → AnswersFind a m k n.chain n.value finds (Pending e q) → MayRefer m actor q e
     may_refer e q h =
         let first : need_found m.recent ≡ k = ap need_found h.recent in
@@ -140,6 +142,7 @@ module _ (a : Meaning) (ns : List Need) (actor : ActorName) (k : ℕ) (n : Need)
                 ∙ (ap (gives_back a.actor a.place) empty ∙ (ap GoesOnAt same ∙ ap GoesOnAt (sym there))),
             h.state ∙ is,
           );
+          made = λ event x. absurd (cc);
           shown = λ want x. absurd (cc);
           unended = λ x. cc;
         }
@@ -157,7 +160,7 @@ module _ (a : Meaning) (ns : List Need) (actor : ActorName) (k : ℕ) (n : Need)
       same_return v x g [] = refl
       same_return v x g (f ∷ hs) = refl
 
-      pub gives_past : (b : Meaning) (shows : Want → ℕ × ℕ → Type 0) (did : Doing) →
+      pub gives_past : (b : Meaning) (shows : Outcome → ℕ × ℕ → Type 0) (did : Doing) →
           DidTo m b (AwaitNeeds ns) shows did → DidNeed a b k n shows did
       gives_past b shows did d =
           let g = holds.0 in
@@ -174,7 +177,8 @@ module _ (a : Meaning) (ns : List Need) (actor : ActorName) (k : ℕ) (n : Need)
                   ∙ (sym (does_return w g gs held) ∙ (d.state w (h.state ∙ is)).0))),
               (d.state w (h.state ∙ is)).1 ∙ ap (λ p. Some (world_left p w did)) h.kept.plan,
             );
-            shown = λ want x. shown_before a.steps m.steps (shows want) h.kept.steps (d.shown want x);
+            made = λ event x. shown_before a.steps m.steps (shows (Moved event)) h.kept.steps (d.made event x);
+            shown = λ want x. shown_before a.steps m.steps (shows (Blocked want)) h.kept.steps (d.shown want x);
             unended = d.unended;
           }
         where
@@ -187,7 +191,7 @@ module _ (a : Meaning) (ns : List Need) (actor : ActorName) (k : ℕ) (n : Need)
               ∙ ap (gives_back a.actor (record a.place { met = true })) held)
 
     -- a pending point is found
-    module _ (b : Meaning) (shows : Want → ℕ × ℕ → Type 0) (e q : ℕ)
+    module _ (b : Meaning) (shows : Outcome → ℕ × ℕ → Type 0) (e q : ℕ)
         (h : AnswersFind a m k n.chain n.value finds (Pending e q)) where
       -- a reference is taken
       pub refers : (event : Event) →
@@ -210,6 +214,8 @@ module _ (a : Meaning) (ns : List Need) (actor : ActorName) (k : ℕ) (n : Need)
                   ∙ ap (EndsAt (Moved event)) (sym there)),
               (t.state w (h.state ∙ is)).1 ∙ ap (λ p. Some (after_event p w event)) h.kept.plan,
             );
+            made = λ other x. subst (λ (u : Event). IsShownSince a.steps (shows (Moved u))) (same_event event other x)
+                (shown_before a.steps m.steps (shows (Moved event)) h.kept.steps t.made);
             shown = λ want x. absurd (cc);
             unended = λ x. cc;
           }
@@ -225,7 +231,7 @@ module _ (a : Meaning) (ns : List Need) (actor : ActorName) (k : ℕ) (n : Need)
   refused_by true x v want e = absurd (cc)
   refused_by false x v want e = (refl, cc)
 
-  module _ (b : Meaning) (shows : Want → ℕ × ℕ → Type 0) where
+  module _ (b : Meaning) (shows : Outcome → ℕ × ℕ → Type 0) where
     pub sees_not : (want : Want) →
         AnswersTry a b (looked_at a.place) (λ w. signaled_or w (Look actor h.point h.op) h.op)
         (Is (Look actor h.point h.op)) shows (Err want) → PassedNeed a b k n shows want

@@ -1,10 +1,11 @@
 -- A take begins with a collection.
-use Rattle.std.proofs.Common.{◌≡◌, ℕ, append-nil, Option, Some, None, Result, Ok, Err, sym, subst, ap, ◌∙◌, ◌∷◌, []}
+use Rattle.std.proofs.Common.{◌≡◌, ℕ, append-nil, Option, Some, None, Result, Ok, Err, refl, sym, subst, ap, ◌∙◌, ◌∷◌, []}
 use Rattle.std.specs.Option.{option_map_or}
 use Rattle.vq_model.specs.declared.plan.Event.{Event}
 use Rattle.vq_points.specs.Points.{PointState, after_event}
 use Rattle.vq_turns.specs.declared.task.Task.TheVariants.{Take}
 use Rattle.vq_turns.specs.declared.outcome.Want.{Want}
+use Rattle.vq_turns.specs.declared.outcome.Outcome.{Outcome}
 use Rattle.vq_turns.specs.declared.outcome.Outcome.TheVariants.{Moved, Blocked}
 use Rattle.vq_turns.specs.Turns.{forward, Ends as EndsAt, does, moves, collected, taken}
 use Rattle.vq_actor.specs.declared.doing.Doing.TheVariants.{Ends}
@@ -12,7 +13,7 @@ use Rattle.vq_actor.specs.Meanings.{Meaning, IsShownSince}
 use Rattle.vq_actor.specs.Answers.{AnswersTry}
 use Rattle.vq_actor.specs.Collections.{AnswersCollect, IsTakeOf, emptied}
 use Rattle.vq_actor.specs.Doings.{DidTo}
-use Rattle.vq_actor.proofs.Blocked.{same_want}
+use Rattle.vq_actor.proofs.Blocked.{same_event, same_want}
 use Rattle.vq_actor.proofs.Keeping.{keeps_along, shown_before, noted_behind}
 
 abbrev made : Event → Result Event Want
@@ -27,9 +28,9 @@ collects : (a : Meaning) (w : PointState) (e t : ℕ) (found : Option Event) →
 collects a w e t found is =
     ap (λ o. option_map_or (λ event. EndsAt (Moved event) a.place) o (moves (taken w e t) a.place)) (sym is)
 
-module _ (a : Meaning) (b : Meaning) (e : ℕ) (shows : Want → ℕ × ℕ → Type 0) where
+module _ (a : Meaning) (b : Meaning) (e : ℕ) (shows : Outcome → ℕ × ℕ → Type 0) where
   -- the collection made an event, which is the turn
-  pub take_collects : (t : ℕ) (event : Event) → AnswersCollect a b t (Some event) →
+  pub take_collects : (t : ℕ) (event : Event) → AnswersCollect a b t shows (Some event) →
       DidTo a b (Take e t) shows (Ends (Moved event))
   take_collects t event h =
       record {
@@ -41,12 +42,14 @@ module _ (a : Meaning) (b : Meaning) (e : ℕ) (shows : Want → ℕ × ℕ → 
           collects a w e t (Some event) (h.state w is).0 ∙ ap (EndsAt (Moved event)) (sym h.place),
           (h.state w is).1,
         );
+        made = λ other x. subst (λ (u : Event). IsShownSince a.steps (shows (Moved u))) (same_event event other x)
+            (h.made event refl);
         shown = λ want x. absurd (cc);
         unended = λ x. cc;
       }
 
   -- the collection found nothing
-  module _ (m : Meaning) (t : ℕ) (h : AnswersCollect a m t None) where
+  module _ (m : Meaning) (t : ℕ) (before : Outcome → ℕ × ℕ → Type 0) (h : AnswersCollect a m t before None) where
     same_world : (w : PointState) → a.state ≡ Some w → m.state ≡ Some w
     same_world w is = (h.state w is).1
 
@@ -78,6 +81,8 @@ module _ (a : Meaning) (b : Meaning) (e : ℕ) (shows : Want → ℕ × ℕ → 
                 ∙ ap (EndsAt (Moved event)) (sym there))),
             (k.state w (same_world w is)).1 ∙ ap (λ p. Some (after_event p w event)) h.kept.plan,
           );
+          made = λ other x. subst (λ (u : Event). IsShownSince a.steps (shows (Moved u))) (same_event event other x)
+              (shown_before a.steps m.steps (shows (Moved event)) h.kept.steps k.made);
           shown = λ want x. absurd (cc);
           unended = λ x. cc;
         }
@@ -95,8 +100,9 @@ module _ (a : Meaning) (b : Meaning) (e : ℕ) (shows : Want → ℕ × ℕ → 
           further = tt;
           quiet = tt;
           state = λ w is. absurd (never w (k.state w (same_world w is)).0);
-          shown = λ v x. subst (λ (u : Want). IsShownSince a.steps (shows u)) (same_want want v x)
-              (shown_before a.steps m.steps (shows want) h.kept.steps k.shown);
+          made = λ event x. absurd (cc);
+          shown = λ v x. subst (λ (u : Want). IsShownSince a.steps (shows (Blocked u))) (same_want want v x)
+              (shown_before a.steps m.steps (shows (Blocked want)) h.kept.steps k.shown);
           unended = λ x. cc;
         }
       where

@@ -6,9 +6,8 @@ use Rattle.std.proofs.lemmas.List.{drop_all}
 use Rattle.std.proofs.lemmas.List.Elements.{All-head, All-tail}
 use Rattle.vq_points.specs.Points.{PointState}
 use Rattle.vq_turns.specs.declared.task.Task.{Task}
-use Rattle.vq_turns.specs.declared.outcome.Want.{Want}
 use Rattle.vq_turns.specs.declared.outcome.Outcome.{Outcome}
-use Rattle.vq_turns.specs.declared.outcome.Outcome.TheVariants.{Ended}
+use Rattle.vq_turns.specs.declared.outcome.Outcome.TheVariants.{Moved, Blocked, Ended}
 use Rattle.vq_turns.specs.Programs.{program}
 use Rattle.vq_turns.specs.Turns.{Place, Turned, does, and_then, turn_from, turn_of, world_after}
 use Rattle.vq_actor.specs.declared.doing.Doing.{Doing}
@@ -74,7 +73,7 @@ next_at a m tasks k e h =
 
 module _ (a : Meaning) (m : Meaning) (tasks : List Task) (k : ℕ) (t : Task) (h : Going a m tasks k)
     (at : slice_get tasks k ≡ Some t) where
-  module _ (n : Meaning) (shows : Want → ℕ × ℕ → Type 0) where
+  module _ (n : Meaning) (shows : Outcome → ℕ × ℕ → Type 0) where
     module _ (did : Doing) (d : DidTo m n t shows did) where
       unfolds : (w : PointState) → a.state ≡ Some w →
           turn_of a.plan w a.actor a.place
@@ -108,12 +107,15 @@ module _ (a : Meaning) (m : Meaning) (tasks : List Task) (k : ℕ) (t : Task) (h
             sym (unfolds (Ends o) d w is),
             (d.state w (h.state w is)).1 ∙ ap (λ p. Some (world_after p w o)) h.kept.plan,
           );
-          shown = λ want x. shown_before a.steps m.steps (shows want) h.kept.steps (d.shown want (ap Some x));
+          made = λ event x.
+              shown_before a.steps m.steps (shows (Moved event)) h.kept.steps (d.made event (ap Some x));
+          shown = λ want x.
+              shown_before a.steps m.steps (shows (Blocked want)) h.kept.steps (d.shown want (ap Some x));
           ended = λ x. absurd (d.unended (ap Some x));
         }
 
 -- no task is left
-pub is_over : (a m : Meaning) (tasks : List Task) (shows : Want → ℕ × ℕ → Type 0) (k : ℕ) → length tasks ≤ k →
+pub is_over : (a m : Meaning) (tasks : List Task) (shows : Outcome → ℕ × ℕ → Type 0) (k : ℕ) → length tasks ≤ k →
     tasks ≡ program a.plan a.actor → Going a m tasks k → IsTurn a m shows Ended
 is_over a m tasks shows k past e h =
     record {
@@ -123,6 +125,7 @@ is_over a m tasks shows k past e h =
         sym (h.turn w is ∙ ap (λ ts. turn_from a.plan w a.actor m.place ts) (drop_all k tasks past)),
         h.state w is,
       );
+      made = λ event x. absurd (cc);
       shown = λ want x. absurd (cc);
       ended = λ x. next_at a m tasks k e h ∙ none_at tasks k past;
     }

@@ -32,13 +32,14 @@ events_by (Moved event) = event ∷ []
 events_by other = []
 
 -- A turn. Where the state is told, its outcome and the place after it are those of its definition, and the
--- state after it is that after the outcome's event. A want is shown since the turn's start. It is `Ended`
--- only where no task is left.
-pub record IsTurn (old new : Meaning) (shows : Want → ℕ × ℕ → Type 0) (outcome : Outcome) : Type 0 where
+-- state after it is that after the outcome's event. What it came to, an event or a want, is shown since the
+-- turn's start. It is `Ended` only where no task is left.
+pub record IsTurn (old new : Meaning) (shows : Outcome → ℕ × ℕ → Type 0) (outcome : Outcome) : Type 0 where
   pub kept : Keeps old new
   pub events : new.events ≡ noting old (events_by outcome)
   pub named : (w : PointState) → old.state ≡ Some w →
       (record { outcome = outcome; place = new.place } ≡ turn_of old.plan w old.actor old.place)
       × (new.state ≡ Some (world_after old.plan w outcome))
-  pub shown : (want : Want) → outcome ≡ Blocked want → IsShownSince old.steps (shows want)
+  pub made : (event : Event) → outcome ≡ Moved event → IsShownSince old.steps (shows (Moved event))
+  pub shown : (want : Want) → outcome ≡ Blocked want → IsShownSince old.steps (shows (Blocked want))
   pub ended : outcome ≡ Ended → next_task new ≡ None

@@ -9,7 +9,9 @@ use Rattle.vq_points.specs.Points.{PointState, after_event}
 use Rattle.vq_turns.specs.declared.task.Task.{Task}
 use Rattle.vq_turns.specs.declared.task.Task.TheVariants.{Take, Compare}
 use Rattle.vq_turns.specs.Turns.{seeing, collected, past_value}
-use Rattle.vq_actor.specs.Meanings.{Meaning, Recent, Other, Collected, IsNext, Keeps, noting}
+use Rattle.vq_turns.specs.declared.outcome.Outcome.{Outcome}
+use Rattle.vq_turns.specs.declared.outcome.Outcome.TheVariants.{Moved}
+use Rattle.vq_actor.specs.Meanings.{Meaning, Recent, Other, Collected, IsNext, IsShownSince, Keeps, noting}
 
 -- Collections
 
@@ -38,7 +40,9 @@ IsCollection p t (Complete e) = has (chain p t) e ≡ true
 IsCollection p t (Free q) = Unit {0}
 IsCollection p t other = ⊥
 
-pub record AnswersCollect (old new : Meaning) (t : ℕ) (result : Option Event) : Type 0 where
+-- what was made is shown since the call's start
+pub record AnswersCollect (old new : Meaning) (t : ℕ) (shows : Outcome → ℕ × ℕ → Type 0)
+    (result : Option Event) : Type 0 where
   pub kept : Keeps old new
   pub events : new.events ≡ noting old (option_to_list result)
   pub place : new.place ≡ old.place
@@ -46,6 +50,7 @@ pub record AnswersCollect (old new : Meaning) (t : ℕ) (result : Option Event) 
   pub state : (w : PointState) → old.state ≡ Some w →
       (result ≡ collected old.plan w t) × (new.state ≡ Some (left_by_option old.plan w result))
   pub named : (event : Event) → result ≡ Some event → IsCollection old.plan t event
+  pub made : (event : Event) → result ≡ Some event → IsShownSince old.steps (shows (Moved event))
 
 -- After a collection that found nothing
 

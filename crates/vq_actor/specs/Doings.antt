@@ -9,7 +9,7 @@ use Rattle.vq_turns.specs.declared.task.Task.TheVariants.{AwaitSubmitted, AwaitR
 use Rattle.vq_turns.specs.declared.task.Task.TheVariants.{AwaitNeeds, Compare}
 use Rattle.vq_turns.specs.declared.outcome.Want.{Want}
 use Rattle.vq_turns.specs.declared.outcome.Outcome.{Outcome}
-use Rattle.vq_turns.specs.declared.outcome.Outcome.TheVariants.{Blocked, Ended}
+use Rattle.vq_turns.specs.declared.outcome.Outcome.TheVariants.{Moved, Blocked, Ended}
 use Rattle.vq_turns.specs.Turns.{Place, Did, GoesOn as GoesOnAt, Ends as EndsAt, does, one_need, held_for, world_after}
 use Rattle.vq_actor.specs.declared.doing.Doing.{Doing}
 use Rattle.vq_actor.specs.declared.doing.Doing.TheVariants.{GoesOn, Ends}
@@ -55,20 +55,21 @@ IsQuiet GoesOn t = makes_event t ≡ false
 IsQuiet (Ends o) t = Unit {0}
 
 -- A task was done, or ended the turn.
-pub record DidTo (a b : Meaning) (t : Task) (shows : Want → ℕ × ℕ → Type 0) (did : Doing) : Type 0 where
+pub record DidTo (a b : Meaning) (t : Task) (shows : Outcome → ℕ × ℕ → Type 0) (did : Doing) : Type 0 where
   pub kept : Keeps a b
   pub events : b.events ≡ noting a (events_by_task did)
   pub further : GoesFurther did a.place b.place
   pub quiet : IsQuiet did t
   pub state : (w : PointState) → a.state ≡ Some w →
       (does a.plan w a.actor a.place t ≡ did_of did b.place) × (b.state ≡ Some (world_left a.plan w did))
-  pub shown : (want : Want) → outcome_of did ≡ Some (Blocked want) → IsShownSince a.steps (shows want)
+  pub made : (event : Event) → outcome_of did ≡ Some (Moved event) → IsShownSince a.steps (shows (Moved event))
+  pub shown : (want : Want) → outcome_of did ≡ Some (Blocked want) → IsShownSince a.steps (shows (Blocked want))
   pub unended : outcome_of did ≡ Some Ended → ⊥
 
 -- Waits
 
 -- A need of a wait was met, or an event made for it, or a call refused: that is what the task comes to.
-pub record DidNeed (a b : Meaning) (k : ℕ) (n : Need) (shows : Want → ℕ × ℕ → Type 0) (did : Doing) : Type 0 where
+pub record DidNeed (a b : Meaning) (k : ℕ) (n : Need) (shows : Outcome → ℕ × ℕ → Type 0) (did : Doing) : Type 0 where
   pub kept : Keeps a b
   pub events : b.events ≡ noting a (events_by_task did)
   pub further : GoesFurther did a.place b.place
@@ -76,11 +77,12 @@ pub record DidNeed (a b : Meaning) (k : ℕ) (n : Need) (shows : Want → ℕ ×
       ((next_need : Option Want → Did) (want : Option Want) →
       one_need a.plan w a.actor a.place k n (held_for k a.place.holding) next_need want ≡ did_of did b.place)
       × (b.state ≡ Some (world_left a.plan w did))
-  pub shown : (want : Want) → outcome_of did ≡ Some (Blocked want) → IsShownSince a.steps (shows want)
+  pub made : (event : Event) → outcome_of did ≡ Some (Moved event) → IsShownSince a.steps (shows (Moved event))
+  pub shown : (want : Want) → outcome_of did ≡ Some (Blocked want) → IsShownSince a.steps (shows (Blocked want))
   pub unended : outcome_of did ≡ Some Ended → ⊥
 
 -- A need isn't met yet, and the next one is looked for.
-pub record PassedNeed (a b : Meaning) (k : ℕ) (n : Need) (shows : Want → ℕ × ℕ → Type 0)
+pub record PassedNeed (a b : Meaning) (k : ℕ) (n : Need) (shows : Outcome → ℕ × ℕ → Type 0)
     (want : Want) : Type 0 where
   pub kept : Keeps a b
   pub place : b.place ≡ a.place
@@ -88,9 +90,9 @@ pub record PassedNeed (a b : Meaning) (k : ℕ) (n : Need) (shows : Want → ℕ
   pub is_state : (w : PointState) → a.state ≡ Some w → b.state ≡ Some w
   pub state : (w : PointState) → a.state ≡ Some w → (next_need : Option Want → Did) (before : Option Want) →
       one_need a.plan w a.actor a.place k n (held_for k a.place.holding) next_need before ≡ next_need (Some want)
-  pub shown : IsShownSince a.steps (shows want)
+  pub shown : IsShownSince a.steps (shows (Blocked want))
 
 -- what a need comes to
-abbrev pub AskedNeed : Meaning → Meaning → ℕ → Need → (Want → ℕ × ℕ → Type 0) → Result Doing Want → Type 0
+abbrev pub AskedNeed : Meaning → Meaning → ℕ → Need → (Outcome → ℕ × ℕ → Type 0) → Result Doing Want → Type 0
 AskedNeed a b k n shows (Ok did) = DidNeed a b k n shows did
 AskedNeed a b k n shows (Err want) = PassedNeed a b k n shows want

@@ -8,7 +8,7 @@ use Rattle.vq_model.specs.Plan.{Plan}
 use Rattle.vq_points.specs.Points.{PointState}
 use Rattle.vq_turns.specs.declared.outcome.Want.{Want}
 use Rattle.vq_turns.specs.declared.outcome.Outcome.{Outcome}
-use Rattle.vq_turns.specs.declared.outcome.Outcome.TheVariants.{Blocked, Ended}
+use Rattle.vq_turns.specs.declared.outcome.Outcome.TheVariants.{Moved, Blocked, Ended}
 use Rattle.vq_turns.specs.Programs.{is_deferred_queue}
 use Rattle.vq_turns.specs.Turns.{Place, HostPlace, Scene, first_place, plays, world_after}
 use Rattle.vq_actor.specs.Meanings.{Meaning, Other, IsEarlier, IsShownSince, next_task}
@@ -69,9 +69,9 @@ Serves p HostActor (SubmitActor q) = is_deferred_queue p q ≡ true
 Serves p a b = b ≡ a
 
 -- A turn of an actor, and of those that it serves. Where the state is told, its outcome and the places after it
--- are those of its definition, and the state after it is that after the outcome's event. A want is shown since
--- the turn's start. It is `Ended` only where no task is left.
-pub record IsPlay (old new : Staged) (shows : Want → ℕ × ℕ → Type 0) (a : ActorName) (outcome : Outcome) : Type 0 where
+-- are those of its definition, and the state after it is that after the outcome's event. What it came to, an
+-- event or a want, is shown since the turn's start. It is `Ended` only where no task is left.
+pub record IsPlay (old new : Staged) (shows : Outcome → ℕ × ℕ → Type 0) (a : ActorName) (outcome : Outcome) : Type 0 where
   pub plan : new.plan ≡ old.plan
   pub noted : new.noted ≡ old.noted
   pub steps : IsEarlier old.steps new.steps
@@ -81,5 +81,6 @@ pub record IsPlay (old new : Staged) (shows : Want → ℕ × ℕ → Type 0) (a
       ((outcome, scene_over old.plan (world_after old.plan w outcome) new.places)
       ≡ plays old.plan (scene_over old.plan w old.places) a)
       × (new.state ≡ Some (world_after old.plan w outcome))
-  pub shown : (want : Want) → outcome ≡ Blocked want → IsShownSince old.steps (shows want)
+  pub made : (event : Event) → outcome ≡ Moved event → IsShownSince old.steps (shows (Moved event))
+  pub shown : (want : Want) → outcome ≡ Blocked want → IsShownSince old.steps (shows (Blocked want))
   pub ended : outcome ≡ Ended → (b : ActorName) → Serves old.plan a b → next_task (part new b) ≡ None

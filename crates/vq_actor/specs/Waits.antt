@@ -10,7 +10,8 @@ use Rattle.vq_points.specs.Points.{PointState}
 use Rattle.vq_turns.specs.declared.look.Found.{Found}
 use Rattle.vq_turns.specs.declared.look.Found.TheVariants.{Past, Pending, NotYet}
 use Rattle.vq_turns.specs.declared.look.Holding.{Holding}
-use Rattle.vq_turns.specs.declared.outcome.Want.{Want}
+use Rattle.vq_turns.specs.declared.outcome.Outcome.{Outcome}
+use Rattle.vq_turns.specs.declared.outcome.Outcome.TheVariants.{Blocked}
 use Rattle.vq_turns.specs.declared.outcome.Want.TheVariants.{Bound}
 use Rattle.vq_turns.specs.declared.task.Task.TheVariants.{AwaitNeeds}
 use Rattle.vq_turns.specs.Turns.{Place, forward, held_for, holding_also, without_first, found}
@@ -47,7 +48,7 @@ abbrev pub recent_found : ℕ → Found → Recent
 recent_found k (Pending e q) = FoundAt k e q
 recent_found k other = Other
 
-pub record AnswersFind (old new : Meaning) (k t v : ℕ) (shows : Want → ℕ × ℕ → Type 0)
+pub record AnswersFind (old new : Meaning) (k t v : ℕ) (shows : Outcome → ℕ × ℕ → Type 0)
     (result : Found) : Type 0 where
   pub kept : Keeps old new
   pub events : new.events ≡ old.events
@@ -55,7 +56,7 @@ pub record AnswersFind (old new : Meaning) (k t v : ℕ) (shows : Want → ℕ �
   pub place : new.place ≡ place_found old.place result
   pub recent : new.recent ≡ recent_found k result
   pub true_of_state : (w : PointState) → old.state ≡ Some w → found old.plan w t v ≡ Some result
-  pub shown : (e : ℕ) → result ≡ NotYet e → IsShownSince old.steps (shows (Bound e))
+  pub shown : (e : ℕ) → result ≡ NotYet e → IsShownSince old.steps (shows (Blocked (Bound e)))
 
 -- References
 

@@ -5,6 +5,7 @@ ghost use Rattle.std.specs.Prelude.{◌≡◌, ℕ, Ok, [], ◌∷◌, IfErr};
 ghost use Rattle.vq_model.specs.declared.plan.Event.{Event};
 ghost use Rattle.vq_model.specs.Plan.{signals_of};
 ghost use Rattle.vq_turns.specs.declared.task.Task.{Task};
+ghost use Rattle.vq_turns.specs.declared.outcome.Outcome.{Outcome};
 ghost use Rattle.vq_turns.specs.declared.outcome.Want.{Want};
 ghost use Rattle.vq_turns.specs.Turns.{forward, taken};
 ghost use Rattle.vq_actor.specs.Meanings.{Meaning, IsNext};
@@ -28,15 +29,15 @@ pub type Step = Result<Event, Want>;
 
 /// What the turns of one actor go over. It keeps the place of the actor, and each call leaves it where the
 /// answer leads. Each look may find that a thing is so, and each other call is one try of one event. A call may be
-/// asked where the actor's next task begins with it. An event that is given was made. A want that is given is
-/// shown by the access since the call's start, and no event was made.
+/// asked where the actor's next task begins with it. An event that is given was made; with a want none was.
+/// What is given is shown by the access since the call's start.
 pub trait Access {
     /// Whom it serves and how far that actor is, the state where it is told, the events that it notes and those
     /// of them that were made, and how far its record goes.
     ghost meaning: { Self → Meaning };
 
-    /// Whether its record shows a want since an earlier moment of the record.
-    ghost shows: { Self → Want → ℕ × ℕ → Type 0 };
+    /// Whether its record shows what a turn came to, an event or a want, since an earlier moment of the record.
+    ghost shows: { Self → Outcome → ℕ × ℕ → Type 0 };
 
     /// The plan that is run.
     fn ordered(&self) -> &Ordered
@@ -85,13 +86,13 @@ pub trait Access {
     fn submit(&mut self, job: u32) -> Event
         requires { IsNext (meaning self.old) (Task.Submit job) }
         ensures { AnswersEvent (meaning self.old) (meaning self.new) (forward (meaning self.old).place)
-            (Event.Submit job) result };
+            (Event.Submit job) (shows self.new) result };
 
     /// Makes the least pending operation of a chain past, or frees a point of it; nothing where its looks
     /// found nothing to complete or to free.
     fn collect(&mut self, chain: u32) -> Option<Event>
         requires { MayCollect (meaning self.old) chain }
-        ensures { AnswersCollect (meaning self.old) (meaning self.new) chain result };
+        ensures { AnswersCollect (meaning self.old) (meaning self.new) chain (shows self.new) result };
 
     /// Gives an operation a point: the one of its chain that was freed last, or a new one.
     fn take(&mut self, op: u32) -> Step
@@ -141,7 +142,7 @@ pub trait Access {
     fn start(&mut self, job: u32) -> Event
         requires { IsNext (meaning self.old) (Task.Start job) }
         ensures { AnswersEvent (meaning self.old) (meaning self.new) (forward (meaning self.old).place)
-            (Event.Start job) result };
+            (Event.Start job) (shows self.new) result };
 
     /// Applies a command of a job.
     fn apply(&mut self, job: u32, command: u32) -> Step
@@ -161,11 +162,11 @@ pub trait Access {
     fn finish(&mut self, job: u32) -> Event
         requires { IsNext (meaning self.old) (Task.Finish job) }
         ensures { AnswersEvent (meaning self.old) (meaning self.new) (forward (meaning self.old).place)
-            (Event.Finish job) result };
+            (Event.Finish job) (shows self.new) result };
 
     /// Answers what a job asks.
     fn answer(&mut self, job: u32, answer: Answer) -> Event
         requires { MayAnswer (meaning self.old) job answer }
         ensures { AnswersEvent (meaning self.old) (meaning self.new) (answered (meaning self.old).place)
-            (Event.Answer job answer) result };
+            (Event.Answer job answer) (shows self.new) result };
 }

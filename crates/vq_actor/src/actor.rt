@@ -75,8 +75,8 @@ impl Actor {
 
     /// One turn over an access that serves this actor. It does the tasks that are left until one makes an
     /// event or is blocked. Where the access tells the state, the outcome is the one that the definition of
-    /// turns names; a want is shown by the access since the turn's start. `Ended` says that no task is left, and
-    /// then nothing was asked of the access.
+    /// turns names; what it came to, an event or a want, is shown by the access since the turn's start. `Ended`
+    /// says that no task is left, and then nothing was asked of the access.
     pub fn turn<A: Access>(&self, access: &mut A) -> Outcome
         requires { IsServed self.now (A.meaning access.old) }
         ensures turn { IsTurn (A.meaning access.old) (A.meaning access.new) (A.shows access.new) result }

@@ -81,8 +81,8 @@ impl Company {
     /// A turn of an actor: the event that it made, or why it made none. The host serves the submit actors of
     /// deferred queues, in the order of the queues, before it goes on with its own program; at the end of that it
     /// is blocked as the last of them is. Where the stage tells the state, the outcome is the one that the
-    /// definition of turns names; a want is shown by the stage since the turn's start. `Ended` says that nothing
-    /// is left to do, of the actor and of those that it serves.
+    /// definition of turns names; what it came to, an event or a want, is shown by the stage since the turn's
+    /// start. `Ended` says that nothing is left to do, of the actor and of those that it serves.
     pub fn turn<S: Stage>(&self, stage: &mut S, actor: ActorName) -> Outcome
         requires company { IsCompanyOf (S.staged stage.old).plan self.now }
         requires actor { IsActor (S.staged stage.old).plan.script actor }

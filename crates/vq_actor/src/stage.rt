@@ -22,8 +22,8 @@ pub trait Stage {
     /// Whether it keeps the place of an actor.
     ghost has: { Self → ActorName → Type 0 };
 
-    /// Whether its record shows a want since an earlier moment of the record.
-    ghost shows: { Self → Want → ℕ × ℕ → Type 0 };
+    /// Whether its record shows what a turn came to, an event or a want, since an earlier moment of the record.
+    ghost shows: { Self → AnyOutcome → ℕ × ℕ → Type 0 };
 
     /// The plan that is run.
     fn ordered(&self) -> &Ordered
@@ -39,5 +39,5 @@ pub trait Stage {
             (staged self.new).places a ≡ (staged self.old).places a }
         ensures still_has { (a : ActorName) → has self.old a → has self.new a }
         ensures still_shows { result ≡ AnyOutcome.Ended → (want : Want) → (since : ℕ × ℕ) →
-            shows self.old want since → shows self.new want since };
+            shows self.old (AnyOutcome.Blocked want) since → shows self.new (AnyOutcome.Blocked want) since };
 }

@@ -9,7 +9,7 @@ ghost use Rattle.vq_crew.specs.Answered.{IsLead, answer_by, lines_of};
 ghost use Rattle.vq_model.specs.Outputs.{asking};
 ghost use Rattle.vq_model.specs.OutputText.{answer_at};
 ghost use Rattle.vq_model.specs.Plan.{line_of_job};
-ghost use Rattle.vq_rooms.specs.Rooming.{ShowsBlocked, TellsBy, view_of};
+ghost use Rattle.vq_rooms.specs.Rooming.{IsRoomTurn, ShowsBlocked, TellsBy, view_of};
 
 use vq_access::{Grounds, Lists};
 use vq_actor::Company;
@@ -70,6 +70,7 @@ pub fn host_turn<L: Lists>(
     ensures owner { result.0.owner ≡ room.owner }
     ensures told { TellsBy (view_of room) (view_of result.0) result.1 }
     ensures shown { ShowsBlocked room result.0 result.1 }
+    ensures turn { IsRoomTurn (plan_at grounds.now) room result.0 result.1 }
 {
     let (room, outcome) = room.take_turn(grounds, company);
     if let Some((job, answer)) = answer_of(outcome) {

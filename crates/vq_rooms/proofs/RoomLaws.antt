@@ -12,13 +12,13 @@ use Rattle.vq_model.specs.Context.{is_deferred}
 use Rattle.vq_model.specs.Naming.{same_actor}
 use Rattle.vq_model.specs.Plan.{Plan}
 use Rattle.vq_model.proofs.Actors.{same_actor_is, same_actor_self}
-use Rattle.vq_turns.specs.declared.outcome.Want.{Want}
 use Rattle.vq_turns.specs.declared.outcome.Outcome.{Outcome}
 use Rattle.vq_turns.specs.Programs.{program, is_deferred_queue}
 use Rattle.vq_turns.specs.Turns.{Place}
 use Rattle.vq_turn_laws.specs.TruePlaces.{with_place}
 use Rattle.vq_actor.specs.Actors.{IsTurn}
 use Rattle.vq_actor.specs.Meanings.{Other}
+use Rattle.vq_actor.specs.Stages.{IsPlay}
 use Rattle.vq_actor.specs.Trackers.{Tracked, FitsIn}
 use Rattle.vq_board_laws.specs.declared.view.View.{View}
 use Rattle.vq_access_laws.specs.AccessMeanings.{meaning_of}
@@ -26,7 +26,7 @@ use Rattle.vq_access_laws.specs.Causes.{Refusals}
 use Rattle.vq_access_laws.specs.TruePasses.{AreTrue}
 use Rattle.vq_access_laws.proofs.Cited.{true_alike}
 use Rattle.vq_access.specs.Lasts.{IsFew}
-use Rattle.vq_rooms.specs.Rooming.{AreFew, FitAll, HasQueues, IsRoom, served_queue}
+use Rattle.vq_rooms.specs.Rooming.{AreFew, FitAll, HasQueues, IsRoom, IsRoomTurn, Room, served_queue, shown_by, staged}
 use Rattle.vq_access.specs.Seatings.{Seating, no_seat, places_of, seat_of, served_at}
 use Rattle.vq_access.specs.Served.{is_served}
 
@@ -174,9 +174,15 @@ stands f b y e c = by_test (same_actor c b) refl
     by_test true h = sym e ∙ ap f (sym (same_actor_is c b h))
     by_test false h = refl
 
+-- a turn over a stage that kept the room is one of the room
+pub room_turn : (p q : Plan) (r s : Room) (a : ActorName) (o : Outcome) → q ≡ p → a ≡ r.owner →
+    IsPlay (staged p r) (staged q s) (shown_by s) a o → IsRoomTurn p r s o
+room_turn p q r s a o same owner k =
+    subst (λ (z : Plan × ActorName). IsPlay (staged p r) (staged z.0 s) (shown_by s) z.1 o) (λ i. (same i, owner i)) k
+
 -- a turn from and to the same places
 pub turn_alike : (p : Plan) (a : ActorName) (x y from to : Place) (v w : View) (r s : Refusals)
-    (shows : Want → ℕ × ℕ → Type 0) (o : Outcome) → from ≡ x → to ≡ y →
+    (shows : Outcome → ℕ × ℕ → Type 0) (o : Outcome) → from ≡ x → to ≡ y →
     IsTurn (meaning_of [] p a x Other v r) (meaning_of [] p a y Other w s) shows o →
     IsTurn (meaning_of [] p a from Other v r) (meaning_of [] p a to Other w s) shows o
 turn_alike p a x y from to v w r s shows o e f k =

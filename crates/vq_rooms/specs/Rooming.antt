@@ -8,7 +8,7 @@ use Rattle.vq_turns.specs.declared.outcome.Outcome.TheVariants.{Blocked}
 use Rattle.vq_turns.specs.Programs.{program}
 use Rattle.vq_actor.specs.Actors.{events_by}
 use Rattle.vq_actor.specs.Meanings.{Meaning, Other}
-use Rattle.vq_actor.specs.Stages.{Staged}
+use Rattle.vq_actor.specs.Stages.{IsPlay, Staged}
 use Rattle.vq_actor.specs.Trackers.{FitsIn, Tracked}
 use Rattle.vq_board_laws.specs.declared.view.View.{View}
 use Rattle.vq_board_laws.specs.Roles.{role_number}
@@ -19,7 +19,6 @@ use Rattle.vq_access_laws.specs.TruePasses.{AreTrue, role_of_actor}
 use Rattle.vq_board.specs.declared.parts.Board.{Board}
 use Rattle.vq_board.specs.declared.parts.Pass.{Pass}
 use Rattle.vq_board.specs.Named.{view, IsOf}
-use Rattle.vq_access_laws.specs.Causes.{IsShown}
 use Rattle.vq_turns.specs.declared.outcome.Want.{Want}
 use Rattle.std.specs.List.{slice_index_or}
 use Rattle.vq_turns.specs.Turns.{first_place}
@@ -28,6 +27,7 @@ use Rattle.vq_actor.specs.Companies.{member_at}
 use Rattle.vq_access.specs.Lasts.{IsFew}
 use Rattle.vq_access.specs.Seatings.{Seating, no_seat, places_of, seat_of}
 use Rattle.vq_access.specs.Served.{is_served}
+use Rattle.vq_access.specs.Shown.{IsShownBy}
 
 -- a room: whose it is, the pass, the places of the actors that it serves, and the refusals
 pub record Room : Type 0 where
@@ -102,8 +102,9 @@ staged p r = staged_of p r.owner r.seats (view r.pass) r.refused
 abbrev pub lent_by : Plan → Room → ActorName → Meaning
 lent_by p r a = lent p r.owner r.seats (view r.pass) r.refused a
 
-abbrev pub shown_by : Room → Want → ℕ × ℕ → Type 0
-shown_by r want since = IsShown (view r.pass).steps r.refused want since
+-- what its record shows of what a turn came to
+abbrev pub shown_by : Room → Outcome → ℕ × ℕ → Type 0
+shown_by r = IsShownBy r.pass r.refused
 
 -- how far a room's record goes: the steps of its pass, and the refusals of lists
 abbrev pub moment_of : Room → ℕ × ℕ
@@ -111,7 +112,13 @@ moment_of r = (length (view r.pass).steps, r.refused.count)
 
 -- after a turn that was blocked, the room shows the want since the turn's start
 abbrev pub ShowsBlocked : Room → Room → Outcome → Type 0
-ShowsBlocked r s o = (want : Want) → o ≡ Blocked want → shown_by s want (moment_of r)
+ShowsBlocked r s o = (want : Want) → o ≡ Blocked want → shown_by s (Blocked want) (moment_of r)
+
+-- A turn of a room's actor, and of those that it serves, as the definition of turns has it of a stage: the answers told
+-- are those before, and the one that the turn gave; the places of all others stay; and what it came to, an event or a
+-- want, is shown since its start.
+abbrev pub IsRoomTurn : Plan → Room → Room → Outcome → Type 0
+IsRoomTurn p r s o = IsPlay (staged p r) (staged p s) (shown_by s) r.owner o
 
 -- Seats before the first turns
 

@@ -3,7 +3,7 @@
 //! Source: this project's own.
 ghost use Rattle.std.specs.Prelude.{◌≡◌, ◌≤◌, length};
 ghost use Rattle.vq_access.specs.Grounding.{plan_at, board_at};
-ghost use Rattle.vq_rooms.specs.Rooming.{IsRoomOf, ShowsBlocked, TellsBy, view_of};
+ghost use Rattle.vq_rooms.specs.Rooming.{IsRoomOf, IsRoomTurn, ShowsBlocked, TellsBy, view_of};
 ghost use Rattle.vq_actor.specs.Companies.{IsCompanyOf};
 ghost use Rattle.vq_board.specs.Named.{id_of};
 ghost use Rattle.vq_model.specs.Outputs.{asking};
@@ -80,6 +80,7 @@ fn turn_named<J: Lent, L: Lists>(
     ensures owner { result.0.owner ≡ room.owner }
     ensures told { TellsBy (view_of room) (view_of result.0) result.1 }
     ensures shown { ShowsBlocked room result.0 result.1 }
+    ensures turn { IsRoomTurn (plan_at grounds.now) room result.0 result.1 }
 {
     let owner = room.owner();
     let mut stage = RoomStage::<L, J> {
@@ -98,8 +99,8 @@ fn turn_named<J: Lent, L: Lists>(
 
 impl AccessRoom {
     /// One turn of the room's own actor: the room after it, with the event that was made, or why none was. The host's
-    /// serves the submit actors of deferred queues too. Where nothing could be done, the room shows the want since the
-    /// turn's start. All its turns together answer each host step that asks something once at most. It waits for
+    /// serves the submit actors of deferred queues too. The room shows the event, or the want where nothing could be
+    /// done, since the turn's start: by the last steps of its pass, or by what lists answered. All its turns together answer each host step that asks something once at most. It waits for
     /// nothing but the locks of timelines, and for these where the lists of the grounds wait, and takes no memory.
     pub fn take_turn<L: Lists>(
         self,
@@ -114,6 +115,7 @@ impl AccessRoom {
         ensures told { TellsBy (view_of self) (view_of result.0) result.1 }
         ensures few { length (view_of result.0).told ≤ length (asking (plan_at grounds.now)) }
         ensures shown { ShowsBlocked self result.0 result.1 }
+        ensures turn { IsRoomTurn (plan_at grounds.now) self result.0 result.1 }
     {
         let (room, outcome) = turn_named::<Brand, L>(self, grounds, company);
         let _ = &room.owner;

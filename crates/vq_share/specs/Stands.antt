@@ -13,7 +13,7 @@ use Rattle.vq_turns.specs.declared.outcome.Outcome.TheVariants.{Ended as HasEnde
 use Rattle.vq_board.specs.declared.parts.Board.{Board}
 use Rattle.vq_board.specs.declared.parts.Pass.{Pass}
 use Rattle.vq_board.specs.Named.{plan_of, view, IsOf}
-use Rattle.vq_rooms.specs.Rooming.{Room, ShowsBlocked, TellsBy, view_of}
+use Rattle.vq_rooms.specs.Rooming.{IsRoomTurn, Room, ShowsBlocked, TellsBy, view_of}
 use Rattle.vq_crew.specs.Answered.{AreToldBy, FindsUnfinished, answer_by, lines_of}
 use Rattle.vq_crew.specs.Crewed.{IsWorkerOf, MayLead}
 use Rattle.vq_share.specs.declared.answers.Look.{Look}
@@ -49,19 +49,22 @@ at_prop b (Ended w) = Prim.hlevel props
 
 -- Turns
 
--- One turn in a room: it stays its actor's, answers are told where the outcome is one, and where it is a want, the
--- room shows that.
-pub record IsTurnIn (r s : Room) (o : Outcome) : Type 0 where
+-- One turn in a room: it is one of its actor, with the event or the want shown since its start. The room stays its
+-- actor's, answers are told where the outcome is one, and where it is a want, the room shows that.
+pub record IsTurnIn (p : Plan) (r s : Room) (o : Outcome) : Type 0 where
+  pub turn : IsRoomTurn p r s o
   pub owner : s.owner ≡ r.owner
   pub told : TellsBy (view_of r) (view_of s) o
   pub shown : ShowsBlocked r s o
 
 -- One turn of an actor of a run of the plan. The host keeps its answers, and watches once its program has ended.
 abbrev pub IsTurnOf : Plan → Stand → Stand → Outcome → Type 0
-IsTurnOf p (Worker r) (Worker s) o = IsTurnIn r s o
+IsTurnOf p (Worker r) (Worker s) o = IsTurnIn p r s o
 IsTurnOf p (Host l) (Host m) o =
-    IsTurnIn l.room m.room o × (m.answers.items ≡ l.answers.items ++ lines_of p (answer_by o))
-IsTurnOf p (Host l) (Ended w) o = (o ≡ HasEnded) × (w.answers ≡ l.answers.items) × (w.seen ≡ 0)
+    IsTurnIn p l.room m.room o × (m.answers.items ≡ l.answers.items ++ lines_of p (answer_by o))
+IsTurnOf p (Host l) (Ended w) o =
+    (o ≡ HasEnded) × (w.answers ≡ l.answers.items) × (w.seen ≡ 0)
+    × ((s : Room) × (w.pass ≡ s.pass) × IsTurnIn p l.room s o)
 IsTurnOf p (Ended v) (Ended w) o = (o ≡ HasEnded) × (w ≡ v)
 IsTurnOf p s t o = ⊥
 

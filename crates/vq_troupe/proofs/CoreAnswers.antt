@@ -80,6 +80,7 @@ module _ (l : List GName) (c : Course) (a : ActorName) (x : Place) (r : Recent) 
               ∙ ap (λ z. after_event c.plan z event) (some_same (world c) v is)),
         );
         named = named;
+        made = λ t le. tt;
         shown = tt;
       }
 
@@ -93,11 +94,12 @@ module _ (l : List GName) (c : Course) (a : ActorName) (x : Place) (r : Recent) 
         place = refl;
         state = λ v is. (e ∙ ap expected (some_same (world c) v is), is);
         named = tt;
+        made = tt;
         shown = λ t le. isnt;
       }
 
   pub event_made : (d : Course) (y moved : Place) (event : Event) → d ≡ with_event c event → y ≡ moved →
-      AnswersEvent (meaning_of l c a x r) (meaning_of l d a y Other) moved event event
+      AnswersEvent (meaning_of l c a x r) (meaning_of l d a y Other) moved event (shown_by d) event
   event_made d y moved event after at =
       record {
         kept = same_moment d y Other (ap (λ (z : Course). z.plan) after);
@@ -106,6 +108,7 @@ module _ (l : List GName) (c : Course) (a : ActorName) (x : Place) (r : Recent) 
         named = refl;
         state = λ v is. ap Some (world_of d event after
             ∙ ap (λ z. after_event c.plan z event) (some_same (world c) v is));
+        made = λ t le. tt;
       }
 
 -- Expected events
@@ -207,7 +210,7 @@ is_collection p w t event e = by_complete (find (is_pending w) (chain p t)) refl
 module _ (l : List GName) (c : Course) (a : ActorName) (x : Place) (r : Recent) where
   pub collection_made : (d : Course) (t : ℕ) (event : Event) → d ≡ with_event c event →
       collected c.plan (world c) t ≡ Some event →
-      AnswersCollect (meaning_of l c a x r) (meaning_of l d a x Other) t (Some event)
+      AnswersCollect (meaning_of l c a x r) (meaning_of l d a x Other) t (shown_by d) (Some event)
   collection_made d t event after is =
       let k = is_collection c.plan (world c) t event is in
       record {
@@ -221,10 +224,11 @@ module _ (l : List GName) (c : Course) (a : ActorName) (x : Place) (r : Recent) 
               c a x r d event after ∙ ap (λ z. after_event c.plan z event) (some_same (world c) v same)),
         );
         named = λ other e. subst (IsCollection c.plan t) (some_event event other e) k;
+        made = λ other e s le. tt;
       }
 
   pub collection_found_none : (t : ℕ) → collected c.plan (world c) t ≡ None →
-      AnswersCollect (meaning_of l c a x r) (meaning_of l c a x (Collected t)) t None
+      AnswersCollect (meaning_of l c a x r) (meaning_of l c a x (Collected t)) t (shown_by c) None
   collection_found_none t is =
       record {
         kept = same_moment l c a x r c x (Collected t) refl;
@@ -233,6 +237,7 @@ module _ (l : List GName) (c : Course) (a : ActorName) (x : Place) (r : Recent) 
         recent = refl;
         state = λ v same. (sym is ∙ ap (λ z. collected c.plan z t) (some_same (world c) v same), same);
         named = λ other e. absurd (cc);
+        made = λ other e. absurd (cc);
       }
 
   -- Finding

@@ -3,7 +3,8 @@ use Rattle.std.specs.Prelude.{ℕ, ◌≡◌, true, List, [], ◌∷◌, ◌++�
 use Rattle.std.specs.Borrow.{GName}
 use Rattle.vq_model.specs.declared.script.ActorName.{ActorName}
 use Rattle.vq_model.specs.declared.plan.Event.{Event}
-use Rattle.vq_turns.specs.declared.outcome.Want.{Want}
+use Rattle.vq_turns.specs.declared.outcome.Outcome.{Outcome}
+use Rattle.vq_turns.specs.declared.outcome.Outcome.TheVariants.{Blocked}
 use Rattle.vq_turns.specs.Turns.{Place, collected}
 use Rattle.vq_turns.specs.Wants.{IsNotSo}
 use Rattle.vq_actor.specs.Meanings.{Meaning, Recent, Other, Collected, FoundAt}
@@ -35,8 +36,10 @@ meaning_of lenders c a x recent =
       lenders = lenders;
     }
 
-abbrev pub shown_by : Course → Want → ℕ × ℕ → Type 0
-shown_by c want since = IsNotSo (world c) want
+-- a want isn't so; of an event nothing is shown beyond that it is noted
+abbrev pub shown_by : Course → Outcome → ℕ × ℕ → Type 0
+shown_by c (Blocked want) since = IsNotSo (world c) want
+shown_by c other since = Unit {0}
 
 -- one event more
 abbrev pub with_event : Course → Event → Course

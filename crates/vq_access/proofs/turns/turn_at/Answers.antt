@@ -5,7 +5,8 @@ use Rattle.vq_actor.specs.Trackers.{FitsIn, Tracked}
 use Rattle.vq_access.specs.Posts.{meaning, shows}
 use Rattle.vq_access.specs.Seatings.{places_of}
 use Rattle.vq_access_laws.specs.AccessMeanings.{meaning_of}
-use Rattle.vq_access_laws.specs.Causes.{IsShown, Refusals}
+use Rattle.vq_access.specs.Shown.{IsShownBy}
+use Rattle.vq_access_laws.specs.Causes.{Refusals}
 use Rattle.vq_access_laws.specs.TruePasses.{AreTrue}
 use Rattle.vq_board.specs.declared.parts.Pass.{Pass}
 use Rattle.vq_board.specs.Named.{view, IsOf}
@@ -56,7 +57,7 @@ returns-clause-turn g c =
     let refused_is = c.refused-1.given.1 (sym (c.turn_over.ensures.keeps_refused ∙ c.new-post.ensures.keeps_refused)) in
     subst (λ (z : Pass × (Tracked × Refusals)). IsTurn
     (meaning_of [] c.args.grounds.now.ordered.now c.args.actor.now.name c.args.seat.now.place Other (view c.args.pass.now) c.args.refused.now)
-    (meaning_of [] c.args.grounds.now.ordered.now c.args.actor.now.name z.1.0.place Other (view z.0) z.1.1) (IsShown (view z.0).steps z.1.1)
+    (meaning_of [] c.args.grounds.now.ordered.now c.args.actor.now.name z.1.0.place Other (view z.0) z.1.1) (IsShownBy z.0 z.1.1)
     c.turn_over.result)
     (λ i. (sym pass_is i, (sym seat_is i, sym refused_is i)))
     (ends_turn c.args.grounds.now.ordered.now c.args.grounds.now.board.now c.args.owner c.args.seats.value c.name.result

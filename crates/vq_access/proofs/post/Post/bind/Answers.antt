@@ -1,5 +1,5 @@
-use Rattle.std.proofs.Common.{◌<◌, ◌≡◌, ◌∙◌, Some, Ok, Err, length, subst, sym, ap, refl, inl, inr}
-use Rattle.vq_board.specs.Named.{plan_of}
+use Rattle.std.proofs.Common.{◌<◌, ◌≡◌, ◌∙◌, Some, Ok, Err, length, subst, sym, ap, refl, inl, inr, arith, false}
+use Rattle.vq_board.specs.Named.{plan_of, id_of}
 use Rattle.vq_model.specs.declared.plan.Event.TheVariants.{Bind as Binds}
 use Rattle.vq_timeline.specs.declared.timeline.LockedTimeline.{LockedTimeline}
 use Rattle.vq_timeline.specs.Answers.{IsBindRefused}
@@ -18,6 +18,12 @@ use Rattle.vq_turns.specs.Turns.{forward}
 use Rattle.vq_access.proofs.Existing.{bind_exists, found_chain}
 use Rattle.vq_access.proofs.Listing.{asked_at, binds_truly, err_of, ok_of, refused_lists}
 use Rattle.vq_access.proofs.Posting.{counts, fits_on, here, of_board_plan, seen_by, true_at}
+use Rattle.vq_actor.specs.Trackers.{Tracked}
+use Rattle.vq_access.proofs.Replies.{moves_step}
+use Rattle.vq_access.specs.Shown.{IsGiven}
+use Rattle.vq_access.proofs.Giving.{given_here}
+use Rattle.vq_access.proofs.Making.{shows_given}
+use Rattle.vq_model.specs.declared.plan.Event.{Event}
 use Rattle.vq_access.proofs.post.Post.bind.Goals as goal
 
 pub op-found-requires : goal.op-found-requires
@@ -83,9 +89,24 @@ returns-in-Err-clause-asked g c t x of at =
 pub returns-in_default-clause-answer : goal.returns-in_default-clause-answer
 returns-in_default-clause-answer g c =
     let x = c.args.self.now in
-    refused_lists (lenders_of x) x.ordered.now x.actor (here x) (recent_of x.last) Other (seen_by x) x.refused.now
+    refused_lists _ (lenders_of x) x.ordered.now x.actor (here x) (recent_of x.last) Other (seen_by x) x.refused.now
     c.keep.new.self (Listed c.args.op) refl c.keep.ensures.kept c.keep.ensures.more (forward (here x))
     (λ w. bound_or x.ordered.now w c.args.op) (IsBindOf c.args.op)
 
 pub returns-in_default-clause-asked : goal.returns-in_default-clause-asked
 returns-in_default-clause-asked g c t x of at = inr (c.bind.ensures.in_use c.in_default.is, refl)
+
+pub returns-in-Ok-clause-answer : goal.returns-in-Ok-clause-answer
+returns-in-Ok-clause-answer g c =
+    let x = c.args.self.now in
+    let l = c.timeline_at-timeline.result.now in
+    let event = Binds c.args.op c.in-Ok.point in
+    let asked = ok_of c.in-Some.answer
+    (λ q. Asked l (λ u v. HasBound (plan_of x.board.now) (state_of u) (state_of v) c.args.op q)) c.in-Ok.point c.in-Ok.is
+    c.in-Some.ensures.bound in
+    moves_step _ (lenders_of x) x.ordered.now x.actor (here x) c.forward.new.self.place (recent_of x.last) (seen_by x)
+    (seen_by x) (seen_by x) x.refused.now refl (omega arith) refl event refl (forward (here x))
+    (ap (λ (t : Tracked). t.place) c.forward.ensures)
+    (shows_given _ (seen_by x) (seen_by x) x.refused.now x.refused.now event
+    (given_here x event (l, c.timeline_at-timeline.ensures.board, asked)))
+    (λ w. bound_or x.ordered.now w c.args.op) (IsBindOf c.args.op) refl

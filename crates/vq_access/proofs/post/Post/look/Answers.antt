@@ -1,4 +1,4 @@
-use Rattle.std.proofs.Common.{ap, ◌∙◌, refl}
+use Rattle.std.proofs.Common.{ap, ◌∙◌, refl, arith, Ok}
 use Rattle.vq_turns.specs.declared.task.Task.TheVariants.{AwaitNeeds}
 use Rattle.vq_actor.specs.Waits.{looked_at}
 use Rattle.vq_actor.specs.Answers.{Is, signaled_or}
@@ -8,11 +8,14 @@ use Rattle.vq_access.specs.Lasts.{recent_of}
 use Rattle.vq_access.specs.Posts.{lenders_of}
 use Rattle.vq_points.specs.PointWord.{PointWord as PointParts}
 use Rattle.vq_point.specs.Word.{bits_of}
-use Rattle.vq_board.specs.Named.{view}
+use Rattle.vq_board.specs.Named.{board_of, view}
 use Rattle.vq_board_laws.specs.PointSteps.{sees}
 use Rattle.vq_access.proofs.Posting.{here, seen_by, true_at}
 use Rattle.vq_access.proofs.Untaking.{refused_look}
 use Rattle.vq_access.proofs.Waits.{carried, fits_here, not_set, set_so, looks_there, looks_listed, looked_at_point, meets_truly}
+use Rattle.vq_actor.specs.Trackers.{Tracked}
+use Rattle.vq_access.proofs.Replies.{moves_step}
+use Rattle.vq_access.proofs.Making.{shows_look}
 use Rattle.vq_access.proofs.post.Post.look.Goals as goal
 
 pub look-requires-clause-exists : goal.look-requires-clause-exists
@@ -32,7 +35,7 @@ returns-then-not-look-clause-answer c =
     let m = c.requires in
     let is = c.look.ensures.referred c.args.op (looks_listed x c.plan-lawful.ensures.read c.plan-lawful.ensures.lawful m.needs m.is_next m.need c.args.point c.args.op
     m.held) in
-    refused_look (lenders_of x) x.ordered.now x.actor (here x) (recent_of x.last) Other (seen_by x)
+    refused_look _ (lenders_of x) x.ordered.now x.actor (here x) (recent_of x.last) Other (seen_by x)
     (view c.look.new.pass) x.refused.now c.args.point (bits_of c.look.result) c.args.op c.look.ensures.pass.2
     (carried c.look.result c.args.op c.look.ensures.parts is)
     (ap (λ (w : PointParts). w.signaled) c.look.ensures.parts ∙ not_set c.look.result.signaled c.if-not-look.true)
@@ -56,3 +59,19 @@ invariant_of-self-2-clause-fits c =
     let x = c.args.self.now in
     fits_here x (AwaitNeeds c.requires.needs) c.requires.is_next c.meet.new.self (looked_at (here x)) c.meet.ensures refl
     refl
+
+pub returns-clause-answer : goal.returns-clause-answer
+returns-clause-answer c =
+    let x = c.args.self.now in
+    let m = c.requires in
+    let is = c.look.ensures.referred c.args.op (looks_listed x c.plan-lawful.ensures.read c.plan-lawful.ensures.lawful m.needs m.is_next m.need c.args.point c.args.op
+    m.held) in
+    let bits = bits_of c.look.result in
+    moves_step (board_of c.look.new.pass) (lenders_of x) x.ordered.now x.actor (here x) c.meet.new.self.place (recent_of x.last) (seen_by x)
+    (view c.look.new.pass) (sees (seen_by x) c.args.point bits) x.refused.now c.look.ensures.pass.2 (omega arith) refl
+    (Look c.args.actor c.args.point c.args.op) refl (looked_at (here x)) (ap (λ (t : Tracked). t.place) c.meet.ensures)
+    (shows_look (board_of c.look.new.pass) (seen_by x) (view c.look.new.pass) x.refused.now x.refused.now c.args.actor c.args.point c.args.op
+    bits (carried c.look.result c.args.op c.look.ensures.parts is)
+    (ap (λ (w : PointParts). w.signaled) c.look.ensures.parts ∙ set_so c.look.result.signaled c.if-not-look.false)
+    c.look.ensures.pass.2) (λ w. signaled_or w (Look c.args.actor c.args.point c.args.op) c.args.op)
+    (Is (Look c.args.actor c.args.point c.args.op)) refl

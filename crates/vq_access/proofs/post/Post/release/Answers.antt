@@ -1,4 +1,4 @@
-use Rattle.std.proofs.Common.{◌≡◌, ◌<◌, ℕ, true, List, Ok, length, refl, sym, subst, ap, ◌∙◌}
+use Rattle.std.proofs.Common.{◌≡◌, ◌<◌, ℕ, true, List, Ok, length, refl, sym, subst, ap, ◌∙◌, arith}
 use Rattle.std.specs.List.{slice_get, list_all}
 use Rattle.vq_model.specs.declared.plan.Event.TheVariants.{Release as Releases}
 use Rattle.vq_model.specs.Plan.{Plan, has}
@@ -6,7 +6,7 @@ use Rattle.vq_turns.specs.declared.task.Task.TheVariants.{Release}
 use Rattle.vq_turns.specs.Turns.{forward}
 use Rattle.vq_actor.specs.Answers.{Is}
 use Rattle.vq_actor.specs.Meanings.{Other}
-use Rattle.vq_board.specs.Named.{view}
+use Rattle.vq_board.specs.Named.{board_of, view}
 use Rattle.vq_board_laws.specs.Steps.{releases}
 use Rattle.vq_access_laws.specs.Tests.{knows_taken}
 use Rattle.vq_access.specs.Lasts.{recent_of}
@@ -16,7 +16,11 @@ use Rattle.vq_access.proofs.Jobbing.{releases_may, releases_there, releases_trul
 use Rattle.vq_access.proofs.Looking.{learned}
 use Rattle.vq_access.proofs.Posting.{counts, fits_on, here, learned_of, other_finds, seen_by, true_at}
 use Rattle.vq_access.proofs.TakenLooks.{all_taken}
-use Rattle.vq_access.proofs.Untaking.{refused_release}
+use Rattle.vq_access.proofs.Untaking.{refused_release, learned_steps, learned_told}
+use Rattle.vq_actor.specs.Trackers.{Tracked}
+use Rattle.vq_access.proofs.Replies.{moves_step}
+use Rattle.vq_access.proofs.Making.{shows_release}
+use Rattle.vq_board_laws.specs.declared.view.View.{View}
 use Rattle.vq_access.proofs.post.Post.release.Goals as goal
 
 pub job-requires : goal.job-requires
@@ -49,7 +53,7 @@ invariant_of-self g c =
 pub returns-in-Some-clause-answer : goal.returns-in-Some-clause-answer
 returns-in-Some-clause-answer g c =
     let x = c.args.self.now in
-    refused_release (lenders_of x) x.ordered.now x.actor (here x) (recent_of x.last) Other (seen_by x)
+    refused_release _ (lenders_of x) x.ordered.now x.actor (here x) (recent_of x.last) Other (seen_by x)
     (view c.untaken.new.pass) x.refused.now c.as_slice-signals.result.now c.in-Some.want c.in-Some.ensures.untaken
     (forward (here x)) (λ w. Ok (Releases c.args.job)) (Is (Releases c.args.job))
 
@@ -77,3 +81,16 @@ invariant_of-self-2-clause-places g c =
 pub invariant_of-self-2-clause-fits : goal.invariant_of-self-2-clause-fits
 invariant_of-self-2-clause-fits g c =
     fits_on c.args.self.now (Release c.args.job) c.requires c.forward.new.self c.forward.ensures
+
+pub returns-clause-answer : goal.returns-clause-answer
+returns-clause-answer g c =
+    let x = c.args.self.now in
+    let u = view c.untaken.new.pass in
+    let learned = c.untaken.ensures.pass.1 in
+    let more = learned_steps (seen_by x) u learned in
+    moves_step (board_of c.release.new.pass) (lenders_of x) x.ordered.now x.actor (here x) c.forward.new.self.place (recent_of x.last) (seen_by x)
+    (view c.release.new.pass) (releases u c.args.job) x.refused.now c.release.ensures.pass.2 (omega (arith, more))
+    (learned_told (seen_by x) u learned) (Releases c.args.job) refl (forward (here x))
+    (ap (λ (t : Tracked). t.place) c.forward.ensures)
+    (shows_release (board_of c.release.new.pass) (seen_by x) (view c.release.new.pass) x.refused.now x.refused.now u c.args.job more
+    c.release.ensures.pass.2) (λ w. Ok (Releases c.args.job)) (Is (Releases c.args.job)) refl

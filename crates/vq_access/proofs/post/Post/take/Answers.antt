@@ -1,7 +1,7 @@
-use Rattle.std.proofs.Common.{◌<◌, ◌≡◌, ℕ, Some, Ok, Err, length, sym, subst, ap, ◌∙◌, refl, inl, inr}
+use Rattle.std.proofs.Common.{◌<◌, ◌≡◌, ℕ, Some, Ok, Err, length, sym, subst, ap, ◌∙◌, refl, inl, inr, arith, false}
 use Rattle.std.specs.List.{slice_get}
 use Rattle.vq_model.proofs.Options.{same_some}
-use Rattle.vq_board.specs.Named.{plan_of}
+use Rattle.vq_board.specs.Named.{plan_of, id_of}
 use Rattle.vq_timeline.specs.declared.timeline.LockedTimeline.{LockedTimeline}
 use Rattle.vq_access.specs.Asking.{HasGiven}
 use Rattle.vq_model.specs.Plan.{chain_of}
@@ -17,6 +17,13 @@ use Rattle.vq_access.proofs.Listing.{err_of, ok_of, refused_lists, takes_truly}
 use Rattle.vq_timeline.specs.Named.{Asked, state_of}
 use Rattle.vq_timeline_laws.specs.Calls.{HasTaken, IsTakeRefused}
 use Rattle.vq_access.proofs.Posting.{counts, fits_on, here, of_board_plan, seen_by, true_at}
+use Rattle.vq_actor.specs.Trackers.{Tracked}
+use Rattle.vq_access.proofs.Replies.{moves_step}
+use Rattle.vq_access.specs.Shown.{IsGiven}
+use Rattle.vq_access.proofs.Giving.{given_here, given_take, take_quiet}
+use Rattle.vq_access.proofs.Making.{shows_given}
+use Rattle.vq_model.specs.declared.plan.Event.{Event}
+use Rattle.vq_access_laws.specs.AccessMeanings.{is_answer}
 use Rattle.vq_access.proofs.post.Post.take.Goals as goal
 
 pub timeline_at-timeline-requires-clause-exists : goal.timeline_at-timeline-requires-clause-exists
@@ -55,14 +62,14 @@ invariant_of-self-in-Ok-clause-fits g c =
 pub returns-in-Err-clause-answer : goal.returns-in-Err-clause-answer
 returns-in-Err-clause-answer g c =
     let x = c.args.self.now in
-    refused_lists (lenders_of x) x.ordered.now x.actor (here x) (recent_of x.last) Other (seen_by x) x.refused.now
+    refused_lists _ (lenders_of x) x.ordered.now x.actor (here x) (recent_of x.last) Other (seen_by x) x.refused.now
     c.keep-in-Err.new.self (Listed c.args.op) refl c.keep-in-Err.ensures.kept c.keep-in-Err.ensures.more (forward (here x))
     (λ w. Ok (taken w c.args.op (emptied (recent_of x.last)))) (IsTakeOf c.args.op)
 
 pub returns-in_default-clause-answer : goal.returns-in_default-clause-answer
 returns-in_default-clause-answer g c =
     let x = c.args.self.now in
-    refused_lists (lenders_of x) x.ordered.now x.actor (here x) (recent_of x.last) Other (seen_by x) x.refused.now
+    refused_lists _ (lenders_of x) x.ordered.now x.actor (here x) (recent_of x.last) Other (seen_by x) x.refused.now
     c.keep.new.self (Listed c.args.op) refl c.keep.ensures.kept c.keep.ensures.more (forward (here x))
     (λ w. Ok (taken w c.args.op (emptied (recent_of x.last)))) (IsTakeOf c.args.op)
 
@@ -100,3 +107,22 @@ returns-in-Err-clause-asked g c x at =
 
 pub returns-in_default-clause-asked : goal.returns-in_default-clause-asked
 returns-in_default-clause-asked g c x at = inr (c.take_for.ensures.in_use c.in_default.is, refl)
+
+pub returns-in-Ok-clause-answer : goal.returns-in-Ok-clause-answer
+returns-in-Ok-clause-answer g c =
+    let x = c.args.self.now in
+    let l = c.timeline_at-timeline.result.now in
+    let event = c.taking.result in
+    let named = sym c.taking.ensures.named in
+    let asked = ok_of c.in-Some.answer
+    (λ t. Asked l (λ u v. HasTaken (plan_of x.board.now) (state_of u) (state_of v) c.args.op t)) c.in-Ok.taken c.in-Ok.is
+    c.in-Some.ensures.taken in
+    let given = subst (λ (e : Event). IsGiven (id_of x.board.now) (plan_of x.board.now) e) named
+    (given_take (id_of x.board.now) (plan_of x.board.now) l c.timeline_at-timeline.ensures.board c.args.op
+    c.in-Ok.taken asked) in
+    moves_step _ (lenders_of x) x.ordered.now x.actor (here x) c.forward.new.self.place (recent_of x.last) (seen_by x)
+    (seen_by x) (seen_by x) x.refused.now refl (omega arith) refl event
+    (subst (λ (e : Event). is_answer e ≡ false) named (take_quiet c.args.op c.in-Ok.taken)) (forward (here x))
+    (ap (λ (t : Tracked). t.place) c.forward.ensures)
+    (shows_given _ (seen_by x) (seen_by x) x.refused.now x.refused.now event (given_here x event given))
+    (λ w. Ok (taken w c.args.op (emptied (recent_of x.last)))) (IsTakeOf c.args.op) c.taking.ensures.event

@@ -2,10 +2,18 @@ use Rattle.vq_turns.specs.declared.task.Task.TheVariants.{AwaitNeeds}
 use Rattle.vq_turns.specs.Programs.{program}
 use Rattle.vq_actor.specs.Waits.{given_back}
 use Rattle.vq_actor.proofs.Cited.{fits_give_back}
-use Rattle.vq_board.specs.Named.{view}
+use Rattle.vq_board.specs.Named.{board_of, view}
 use Rattle.vq_board_laws.specs.PointSteps.{sees, unrefers}
 use Rattle.vq_access.proofs.Posting.{counts, here, other_finds, seen_by, true_at}
 use Rattle.vq_access.proofs.Waits.{lost_of, gives_there, gives_listed, gives_truly, lost_point}
+use Rattle.std.proofs.Common.{ap, refl, arith, Ok}
+use Rattle.vq_actor.specs.Trackers.{Tracked}
+use Rattle.vq_access.specs.Lasts.{recent_of}
+use Rattle.vq_access.specs.Posts.{lenders_of}
+use Rattle.vq_access.proofs.Replies.{moves_step}
+use Rattle.vq_actor.specs.Answers.{Is}
+use Rattle.vq_access.proofs.Making.{shows_unref}
+use Rattle.vq_model.specs.declared.plan.Event.TheVariants.{Unref}
 use Rattle.vq_access.proofs.post.Post.unrefer.Goals as goal
 
 pub unrefer-requires-clause-exists : goal.unrefer-requires-clause-exists
@@ -53,3 +61,15 @@ invariant_of-self-2-clause-fits c =
     let x = c.args.self.now in
     fits_give_back (program x.ordered.now x.actor) x.seat.now (AwaitNeeds c.requires.needs) c.requires.is_next x.fits
     c.give_back.new.self c.give_back.ensures
+
+pub returns-clause-answer : goal.returns-clause-answer
+returns-clause-answer c =
+    let x = c.args.self.now in
+    let given = c.in_default.ensures.given in
+    moves_step (board_of c.unrefer.new.pass) (lenders_of x) x.ordered.now x.actor (here x) c.give_back.new.self.place (recent_of x.last) (seen_by x)
+    (view c.unrefer.new.pass) (unrefers (sees (seen_by x) c.args.point given.0) c.args.point c.args.op given.0)
+    x.refused.now given.1.2 (omega arith) refl (Unref c.args.actor c.args.point c.args.op) refl
+    (given_back (here x) (here x).holding) (ap (λ (t : Tracked). t.place) c.give_back.ensures)
+    (shows_unref (board_of c.unrefer.new.pass) (seen_by x) (view c.unrefer.new.pass) x.refused.now x.refused.now c.args.actor c.args.point
+    c.args.op given.0 given.1.2) (λ w. Ok (Unref c.args.actor c.args.point c.args.op))
+    (Is (Unref c.args.actor c.args.point c.args.op)) refl

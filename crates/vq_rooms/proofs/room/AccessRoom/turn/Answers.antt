@@ -3,7 +3,7 @@ use Rattle.vq_model.specs.Plan.{Plan}
 use Rattle.vq_board.specs.Named.{view}
 use Rattle.vq_rooms.specs.declared.room.AccessRoom.TheInside.{Inside}
 use Rattle.vq_rooms.specs.Rooming.{HasQueues, IsKept, IsRoomOf, Room, lent_by, served_queue}
-use Rattle.vq_access_laws.specs.Causes.{IsShown}
+use Rattle.vq_access.specs.Shown.{IsShownBy}
 use Rattle.vq_access_laws.specs.TruePasses.{AreTrue}
 use Rattle.vq_actor.specs.Actors.{IsTurn}
 use Rattle.vq_turn_laws.specs.TruePlaces.{with_place}
@@ -194,9 +194,9 @@ returns-in-Some-clause-turn g c =
       seats = t;
       refused = c.turn_at.new.refused;
     }) name)
-    (IsShown (view c.turn_at.new.pass).steps c.turn_at.new.refused) c.turn_at.result) same
+    (IsShownBy c.turn_at.new.pass c.turn_at.new.refused) c.turn_at.result) same
     (turn_alike p name x.place y.place (places_of raw.0 s name) (places_of raw.0 t name) (view raw.1.0)
-    (view c.turn_at.new.pass) raw.1.1.1.0 c.turn_at.new.refused (IsShown (view c.turn_at.new.pass).steps
+    (view c.turn_at.new.pass) raw.1.1.1.0 c.turn_at.new.refused (IsShownBy c.turn_at.new.pass
     c.turn_at.new.refused) c.turn_at.result
     (place_here p raw.0 name s t x y k) (place_there p raw.0 name s t x y k) c.turn_at.ensures.turn)
 
@@ -225,8 +225,8 @@ returns-in-None-clause-turn g c =
       seats = t;
       refused = c.turn_at-in-None.new.refused;
     }) name)
-    (IsShown (view c.turn_at-in-None.new.pass).steps c.turn_at-in-None.new.refused) c.turn_at-in-None.result) same
+    (IsShownBy c.turn_at-in-None.new.pass c.turn_at-in-None.new.refused) c.turn_at-in-None.result) same
     (turn_alike p name x.place y.place (places_of raw.0 s name) (places_of raw.0 t name) (view raw.1.0)
     (view c.turn_at-in-None.new.pass) raw.1.1.1.0 c.turn_at-in-None.new.refused
-    (IsShown (view c.turn_at-in-None.new.pass).steps c.turn_at-in-None.new.refused) c.turn_at-in-None.result
+    (IsShownBy c.turn_at-in-None.new.pass c.turn_at-in-None.new.refused) c.turn_at-in-None.result
     (place_here p raw.0 name s t x y k) (place_there p raw.0 name s t x y k) c.turn_at-in-None.ensures.turn)
