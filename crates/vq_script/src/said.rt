@@ -2,6 +2,7 @@
 ghost use Rattle.std.specs.Prelude.{◌≡◌, true, false, IfSome};
 ghost use Rattle.std.specs.Option.{option_map};
 ghost use Rattle.vq_model.specs.Forms.{BinaryName};
+ghost use Rattle.vq_model.specs.declared.statement.LineForm.{LineForm as Form};
 ghost use Rattle.vq_model.specs.Meaning.{binary_pair};
 ghost use Rattle.vq_script.specs.LineTests.{number_of};
 ghost use Rattle.vq_script.specs.Holds.{Kept, kept};
@@ -112,6 +113,76 @@ fn declaration<'a>(form: LineForm, words: &[OpenWord<'a>]) -> Option<Said<'a>>
     }
 }
 
+/// What a fill of a whole buffer says, where its numbers and names are read.
+fn fill_whole<'a>(known: &Known, words: &[OpenWord<'a>]) -> Option<Said<'a>>
+    requires { AreOf Form.FillWholeLine (opens words.now) }
+    ensures says { Says (kept known.now) Form.FillWholeLine (opens words.now) result }
+    ensures suits { IfSome result (Suits Form.FillWholeLine (opens words.now)) }
+{
+    let [buffer, offset, word] = words else {
+        unreachable!();
+    };
+    Some(Said::FillWhole {
+        buffer: known.number_of(Token::BufferToken, buffer.word)?,
+        offset: numeral(offset.word)?,
+        word: small_numeral(word.word)?,
+    })
+}
+
+/// What a fill of a part of a buffer says, where its numbers and names are read.
+fn fill<'a>(known: &Known, words: &[OpenWord<'a>]) -> Option<Said<'a>>
+    requires { AreOf Form.FillLine (opens words.now) }
+    ensures says { Says (kept known.now) Form.FillLine (opens words.now) result }
+    ensures suits { IfSome result (Suits Form.FillLine (opens words.now)) }
+{
+    let [buffer, offset, size, word] = words else {
+        unreachable!();
+    };
+    Some(Said::Fill {
+        buffer: known.number_of(Token::BufferToken, buffer.word)?,
+        offset: numeral(offset.word)?,
+        size: numeral(size.word)?,
+        word: small_numeral(word.word)?,
+    })
+}
+
+/// What an update says, where its digits, its numbers and names are read.
+fn update<'a>(known: &Known, words: &[OpenWord<'a>]) -> Option<Said<'a>>
+    requires { AreOf Form.UpdateLine (opens words.now) }
+    ensures says { Says (kept known.now) Form.UpdateLine (opens words.now) result }
+    ensures suits { IfSome result (Suits Form.UpdateLine (opens words.now)) }
+{
+    let [buffer, offset, digits] = words else {
+        unreachable!();
+    };
+    if !is_hex(digits.word) {
+        return None;
+    }
+    Some(Said::Update {
+        buffer: known.number_of(Token::BufferToken, buffer.word)?,
+        offset: numeral(offset.word)?,
+        digits: digits.word,
+    })
+}
+
+/// What a copy says, where its numbers and names are read.
+fn copy<'a>(known: &Known, words: &[OpenWord<'a>]) -> Option<Said<'a>>
+    requires { AreOf Form.CopyLine (opens words.now) }
+    ensures says { Says (kept known.now) Form.CopyLine (opens words.now) result }
+    ensures suits { IfSome result (Suits Form.CopyLine (opens words.now)) }
+{
+    let [source, from, target, to, size] = words else {
+        unreachable!();
+    };
+    Some(Said::Copy {
+        source: known.number_of(Token::BufferToken, source.word)?,
+        source_offset: numeral(from.word)?,
+        target: known.number_of(Token::BufferToken, target.word)?,
+        target_offset: numeral(to.word)?,
+        size: numeral(size.word)?,
+    })
+}
+
 /// What a line says that is a command, where its numbers and names are read.
 fn command<'a>(known: &Known, form: LineForm, words: &[OpenWord<'a>]) -> Option<Said<'a>>
     requires of { AreOf form (opens words.now) }
@@ -119,35 +190,11 @@ fn command<'a>(known: &Known, form: LineForm, words: &[OpenWord<'a>]) -> Option<
     ensures says { Says (kept known.now) form (opens words.now) result }
     ensures suits { IfSome result (Suits form (opens words.now)) }
 {
-    match (form, words) {
-        (LineForm::FillWholeLine, [buffer, offset, word]) => Some(Said::FillWhole {
-            buffer: known.number_of(Token::BufferToken, buffer.word)?,
-            offset: numeral(offset.word)?,
-            word: small_numeral(word.word)?,
-        }),
-        (LineForm::FillLine, [buffer, offset, size, word]) => Some(Said::Fill {
-            buffer: known.number_of(Token::BufferToken, buffer.word)?,
-            offset: numeral(offset.word)?,
-            size: numeral(size.word)?,
-            word: small_numeral(word.word)?,
-        }),
-        (LineForm::UpdateLine, [buffer, offset, digits]) => {
-            if !is_hex(digits.word) {
-                return None;
-            }
-            Some(Said::Update {
-                buffer: known.number_of(Token::BufferToken, buffer.word)?,
-                offset: numeral(offset.word)?,
-                digits: digits.word,
-            })
-        }
-        (LineForm::CopyLine, [source, from, target, to, size]) => Some(Said::Copy {
-            source: known.number_of(Token::BufferToken, source.word)?,
-            source_offset: numeral(from.word)?,
-            target: known.number_of(Token::BufferToken, target.word)?,
-            target_offset: numeral(to.word)?,
-            size: numeral(size.word)?,
-        }),
+    match form {
+        LineForm::FillWholeLine => fill_whole(known, words),
+        LineForm::FillLine => fill(known, words),
+        LineForm::UpdateLine => update(known, words),
+        LineForm::CopyLine => copy(known, words),
         _ => unreachable!(),
     }
 }
