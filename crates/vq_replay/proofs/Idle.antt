@@ -25,6 +25,7 @@ use Rattle.vq_turns.specs.declared.look.Found.TheVariants.{Past, Pending, NotYet
 use Rattle.vq_turns.specs.declared.look.Holding.{Holding}
 use Rattle.vq_turns.specs.declared.outcome.Want.{Want}
 use Rattle.vq_turns.specs.declared.outcome.Want.TheVariants.{Submitted, Released, Bound, Next, Signaled, Finished}
+use Rattle.vq_turns.specs.declared.outcome.Want.TheVariants.{MemoryTurn, Exchange, Listed}
 use Rattle.vq_turns.specs.declared.outcome.Outcome.{Outcome}
 use Rattle.vq_turns.specs.declared.outcome.Outcome.TheVariants.{Moved, Blocked, Ended}
 use Rattle.vq_turns.specs.Programs.{program, waits_where, takes, submits_batch, runs_command, runs_batch}
@@ -35,7 +36,7 @@ use Rattle.vq_turns.specs.Wants.{IsNotSo}
 use Rattle.vq_turn_laws.specs.Tasks.{Each}
 use Rattle.vq_turn_laws.proofs.Cited.{GoesForward, does_forward, next_at}
 use Rattle.vq_replay.specs.Rounds.{is_moved}
-use Rattle.vq_replay.specs.Resting.{IsIdle, Knows, rest_after}
+use Rattle.vq_replay.specs.Resting.{HoldsUntil, IsIdle, rest_of, rest_until}
 
 -- One task
 
@@ -73,7 +74,7 @@ first_unbound w v (x ∷ xs) e h n = here (v.bound x) refl (w.bound x) refl (fir
 
 module _ (p : Plan) (a : ActorName) (x : Place) where
   -- a task makes no event in a world, and leaves the place as it is
-  abbrev IsStill : PointState → Task → Type 0
+  abbrev pub IsStill : PointState → Task → Type 0
   IsStill v t = (o : Outcome) × (is_moved o ≡ false) × (does p v a x t ≡ Ends o x)
 
   -- what a task that ended a turn tells of other worlds
@@ -277,13 +278,13 @@ module _ (p : Plan) (a : ActorName) where
   TellsOn (Blocked want) y = (v : PointState) → PastIsBound v → IsNotSo v want → IsIdle p v a y
   TellsOn Ended y = (v : PointState) → IsIdle p v a y
 
-  idle_by : (v : PointState) (x : Place) (o : Outcome) → is_moved o ≡ false →
+  pub idle_by : (v : PointState) (x : Place) (o : Outcome) → is_moved o ≡ false →
       turn_of p v a x ≡ record { outcome = o; place = x } → IsIdle p v a x
   idle_by v x o m s =
       record { no_event = ap (λ (t : Turned). is_moved t.outcome) s ∙ m; stays = ap (λ (t : Turned). t.place) s }
 
   -- a task that is next and makes no event
-  still_idle : (v : PointState) (x : Place) (t : Task) (ts : List Task) → drop x.done (program p a) ≡ t ∷ ts →
+  pub still_idle : (v : PointState) (x : Place) (t : Task) (ts : List Task) → drop x.done (program p a) ≡ t ∷ ts →
       IsStill p a x v t → IsIdle p v a x
   still_idle v x t ts s h =
       idle_by v x h.0 h.1
@@ -373,19 +374,33 @@ program_single p Host h = absurd h
 program_single p (SubmitActor q) h = each_single (submits_batch p) (jobs_of_lane p (QueueLane q)) (moves_single p)
 program_single p (RingActor q) h = each_single (runs_batch p) (jobs_of_lane p (QueueLane q)) (runs_single p)
 
+-- What is so after a turn, until what it waited for is so.
+module _ (p : Plan) (P : PointState → Type 0) where
+  bound : (events : List Event) → HistoryFrom p (opening_points p) events → PastIsBound (points_after p events)
+  bound events h = (history_reaches p events h).facts.ops.past_bound
+
+  so_until : (want : Want) → ((v : PointState) → PastIsBound v → IsNotSo v want → P v) →
+      HoldsUntil p (rest_until want) P
+  so_until (Submitted j) f = λ events h n. f (points_after p events) (bound events h) n
+  so_until (Released j) f = λ events h n. f (points_after p events) (bound events h) n
+  so_until (Bound e) f = λ events h n. f (points_after p events) (bound events h) n
+  so_until (Next e) f = λ events h n. f (points_after p events) (bound events h) n
+  so_until (Signaled e) f = λ events h n. f (points_after p events) (bound events h) n
+  so_until (Finished j) f = λ events h n. f (points_after p events) (bound events h) n
+  so_until MemoryTurn f = tt
+  so_until (Exchange e found) f = tt
+  so_until (Listed e) f = tt
+
 -- A turn that made no event tells of the next ones.
 pub turn_known : (p : Plan) (w : PointState) (a : ActorName) → IsNoHost a → (x : Place) →
-    Knows p a (turn_of p w a x).place (rest_after (turn_of p w a x).outcome)
+    HoldsUntil p (rest_of (turn_of p w a x).outcome) (λ v. IsIdle p v a (turn_of p w a x).place)
 turn_known p w a h x =
     by_outcome (turn_of p w a x).outcome
     (turn_tells p a w (drop x.done (program p a)) x refl
     (each_drop x.done (program p a) (program_single p a h)))
   where
-    bound : (events : List Event) → HistoryFrom p (opening_points p) events → PastIsBound (points_after p events)
-    bound events h = (history_reaches p events h).facts.ops.past_bound
-
     by_outcome : (o : Outcome) → TellsOn p a o (turn_of p w a x).place →
-        Knows p a (turn_of p w a x).place (rest_after o)
+        HoldsUntil p (rest_of o) (λ v. IsIdle p v a (turn_of p w a x).place)
     by_outcome (Moved e) k = tt
-    by_outcome (Blocked want) k = λ events h n. k (points_after p events) (bound events h) n
+    by_outcome (Blocked want) k = so_until p (λ v. IsIdle p v a (turn_of p w a x).place) want k
     by_outcome Ended k = λ events h. k (points_after p events)

@@ -1,8 +1,10 @@
+mod Ends
 mod Idle
 mod Known
 mod Numerals
 mod Passages
 mod PieceLists
+mod Places
 mod Rosters
 mod RoundsPlayed
 mod RoundsTraced

@@ -1,8 +1,10 @@
 -- The actors of a round.
-use Rattle.std.proofs.Common.{◌≡◌, ℕ, zero, suc, ◌+◌, ◌<◌, List, [], ◌∷◌, ◌++◌, length, filter, map, All, get_or}
+use Rattle.std.proofs.Common.{◌≡◌, ℕ, zero, suc, ◌+◌, ◌<◌, ◌≤◌, Bool, true, false, if◌then◌else◌, List, [], ◌∷◌, ◌++◌}
+use Rattle.std.proofs.Common.{length, filter, map, All, get_or, inl, inr}
 use Rattle.std.proofs.Common.{sym, subst, ap, ◌∙◌, arith, append_assoc}
 use Rattle.std.specs.List.{range_with_len}
 use Rattle.std.proofs.lemmas.List.Elements.{All-append, All-cons, All-map, All-nil, filter-append, filter_passes}
+use Rattle.std.proofs.lemmas.Bool.{cases_lt}
 use Rattle.std.proofs.lemmas.List.{map-append}
 use Rattle.vq_model.specs.declared.script.ActorName.{ActorName}
 use Rattle.vq_model.specs.declared.script.ActorName.TheVariants.{Host, Submit, Ring}
@@ -11,6 +13,7 @@ use Rattle.vq_model.specs.Plan.{Plan}
 use Rattle.vq_model.specs.ValidScripts.{IsActor, is_threaded_queue}
 use Rattle.vq_model.proofs.Numbers.{range_more}
 use Rattle.vq_progress_laws.specs.Movers.{all_queues, round}
+use Rattle.vq_replay.specs.Resting.{AreApart}
 
 abbrev pub submits_of : Script → List ℕ → List ActorName
 submits_of s qs = map Submit (filter (is_threaded_queue s) qs)
@@ -72,3 +75,82 @@ are_round p s n host some all script count first second third =
     ∙ (ap (λ (xs : List ActorName). (xs ++ submits_of s (range_with_len 0 n)) ++ map Ring (range_with_len 0 n)) first
     ∙ (ap (λ (m : ℕ). Host ∷ (submits_of s (range_with_len 0 m) ++ map Ring (range_with_len 0 m))) count
     ∙ ap (λ (t : Script). Host ∷ (submits_of t (all_queues p) ++ map Ring (all_queues p))) script)))
+
+-- No actor has two turns in a round: by numbers that rise along it.
+module _ (n : ℕ) where
+  abbrev rank : ActorName → ℕ
+  rank Host = 0
+  rank (Submit q) = 1 + q
+  rank (Ring q) = 1 + n + q
+
+  abbrev Rises : ℕ → List ActorName → Type 0
+  Rises m [] = Unit {0}
+  Rises m (a ∷ actors) = (m ≤ rank a) × Rises (suc (rank a)) actors
+
+  rises_below : (k m : ℕ) (actors : List ActorName) → k ≤ m → Rises m actors → Rises k actors
+  rises_below k m [] less h = tt
+  rises_below k m (a ∷ actors) less h = (let z = h.0 in omega arith, h.1)
+
+  rings_rise : (count q m : ℕ) → m ≤ 1 + n + q → Rises m (map Ring (range_with_len q count))
+  rings_rise zero q m low = tt
+  rings_rise (suc count) q m low = (low, rings_rise count (q + 1) (suc (1 + n + q)) (omega arith))
+
+  submits_rise : (s : Script) (count q m : ℕ) (others : List ActorName) → m ≤ 1 + q → q + count ≤ n →
+      Rises (1 + n) others → Rises m (submits_of s (range_with_len q count) ++ others)
+  submits_rise s zero q m others low high h = rises_below m (1 + n) others (omega arith) h
+  submits_rise s (suc count) q m others low high h =
+      by_test (is_threaded_queue s q)
+      (submits_rise s count (q + 1) (suc (1 + q)) others (omega arith) (omega arith) h)
+      (submits_rise s count (q + 1) m others (omega arith) (omega arith) h)
+    where
+      later : List ℕ
+      later = filter (is_threaded_queue s) (range_with_len (q + 1) count)
+
+      by_test : (b : Bool) → Rises (suc (1 + q)) (map Submit later ++ others) → Rises m (map Submit later ++ others) →
+          Rises m (map Submit (if b then q ∷ later else later) ++ others)
+      by_test true first other = (low, first)
+      by_test false first other = other
+
+  rises_at : (m : ℕ) (actors : List ActorName) → Rises m actors → (i : ℕ) (d : ActorName) → i < length actors →
+      m ≤ rank (get_or actors i d)
+  rises_at m [] h i d less = absurd (omega arith)
+  rises_at m (a ∷ actors) h zero d less = h.0
+  rises_at m (a ∷ actors) h (suc i) d less =
+      let first = h.0 in
+      let later = rises_at (suc (rank a)) actors h.1 i d (omega arith) in
+      omega arith
+
+  rises_before : (m : ℕ) (actors : List ActorName) → Rises m actors → (i k : ℕ) (d : ActorName) → i < k →
+      k < length actors → rank (get_or actors i d) < rank (get_or actors k d)
+  rises_before m [] h i k d before less = absurd (omega arith)
+  rises_before m (a ∷ actors) h i zero d before less = absurd (omega arith)
+  rises_before m (a ∷ actors) h zero (suc k) d before less =
+      let later = rises_at (suc (rank a)) actors h.1 k d (omega arith) in
+      omega arith
+  rises_before m (a ∷ actors) h (suc i) (suc k) d before less =
+      rises_before (suc (rank a)) actors h.1 i k d (omega arith) (omega arith)
+
+  rises_apart : (m : ℕ) (actors : List ActorName) → Rises m actors → AreApart actors
+  rises_apart m actors h d i k first second same =
+      let ranks : rank (get_or actors i d) ≡ rank (get_or actors k d) = ap rank same in
+      elim (cases_lt i k) [
+        | inl l ↦
+            let r = rises_before m actors h i k d l second in
+            absurd (omega arith)
+        | inr l ↦
+            elim (cases_lt k i) [
+              | inl u ↦
+                  let r = rises_before m actors h k i d u first in
+                  absurd (omega arith)
+              | inr u ↦ omega arith
+            ]
+      ]
+
+pub round_apart : (p : Plan) → AreApart (round p)
+round_apart p =
+    let n = length p.script.queues in
+    rises_apart n 0 (round p) (
+      omega arith,
+      submits_rise n p.script n 0 1 (map Ring (all_queues p)) (omega arith) (omega arith)
+          (rings_rise n n 0 (1 + n) (omega arith)),
+    )

@@ -18,8 +18,9 @@ use Rattle.vq_progress_laws.proofs.Cited.{few_acts, few_turns, opening_scene, ro
 use Rattle.vq_core.specs.CoreState.{Course, world}
 use Rattle.vq_troupe.specs.Casts.{Cast, first_places, places, scene}
 use Rattle.vq_replay.specs.declared.played.Played.{Played}
+use Rattle.vq_replay.specs.declared.rests.Rest.{Rest}
 use Rattle.vq_replay.specs.Passages.{AreUnderWay, HasGone, LeadsTo}
-use Rattle.vq_replay.specs.Resting.{AreKnown, Resting}
+use Rattle.vq_replay.specs.Resting.{AreKnown}
 use Rattle.vq_replay.specs.Rounds.{HaveFinished, moved_from, moved_turns}
 use Rattle.vq_replay.proofs.Passages.{leads_first, leads_on}
 
@@ -165,19 +166,19 @@ rebased p s before n actors were other x played h =
     record { plan = h.plan; there = h.there; moved = refl; history = h.history }
 
 -- Before the first round.
-pub under_way_first : (p : Plan) (x : Cast) (rests : Resting) (each : List ActorName) →
-    x.course ≡ record { plan = p; history = [] } → places x ≡ first_places → AreKnown x.course.plan (scene x) rests →
-    each ≡ round p → AreUnderWay x.course.plan 0 0 x rests each
+pub under_way_first : (p : Plan) (x : Cast) (rests : List Rest) (each : List ActorName) →
+    x.course ≡ record { plan = p; history = [] } → places x ≡ first_places →
+    AreKnown x.course.plan (scene x) each rests → each ≡ round p → AreUnderWay x.course.plan 0 0 x rests each
 under_way_first p x rests each new at known actors =
     subst (λ (q : Plan). AreUnderWay q 0 0 x rests each) (sym (ap (λ (c : Course). c.plan) new))
     (record { gone = gone_first p x new at; known = known; actors = actors })
 
-module _ (n turns : ℕ) (x : Cast) (rests : Resting) (each : List ActorName)
+module _ (n turns : ℕ) (x : Cast) (rests : List Rest) (each : List ActorName)
     (u : AreUnderWay x.course.plan n turns x rests each) (unfinished : ¬ IsEndOf x) where
   -- One round more.
-  module _ (were more : List Played) (y : Cast) (later : Resting) (m : ℕ) (count : m ≡ turns + length each)
+  module _ (were more : List Played) (y : Cast) (later : List Rest) (m : ℕ) (count : m ≡ turns + length each)
       (k : LeadsTo x.course.plan (scene x) x.course.history turns each were y more)
-      (known : AreKnown y.course.plan (scene y) later) where
+      (known : AreKnown y.course.plan (scene y) each later) where
     abbrev q : Plan
     q = x.course.plan
 
@@ -223,7 +224,7 @@ module _ (n turns : ℕ) (x : Cast) (rests : Resting) (each : List ActorName)
       countable x.course.plan n turns x (moved_turns x.course.plan n) u.gone i l unfinished each u.actors
 
 -- What a call that plays to the end has: so many rounds of a plan, and which turns are kept.
-module _ (p : Plan) (n count turns : ℕ) (x : Cast) (rests : Resting) (each : List ActorName)
+module _ (p : Plan) (n count turns : ℕ) (x : Cast) (rests : List Rest) (each : List ActorName)
     (u : AreUnderWay x.course.plan n turns x rests each) (of_plan : x.course.plan ≡ p) (rounds : n ≡ count) where
   gone_there : HasGone p count turns x (moved_turns p count)
   gone_there =

@@ -11,7 +11,8 @@ use Rattle.vq_progress_laws.specs.Movers.{round, rounds_of}
 use Rattle.vq_progress_laws.specs.Scenes.{scene_after}
 use Rattle.vq_troupe.specs.Casts.{Cast, scene}
 use Rattle.vq_replay.specs.declared.played.Played.{Played}
-use Rattle.vq_replay.specs.Resting.{AreKnown, Resting}
+use Rattle.vq_replay.specs.declared.rests.Rest.{Rest}
+use Rattle.vq_replay.specs.Resting.{AreKnown}
 use Rattle.vq_replay.specs.Rounds.{moved_from, moved_turns}
 use Rattle.vq_replay.specs.Traces.{events_of, turn_line}
 
@@ -33,9 +34,10 @@ pub record HasGone (p : Plan) (rounds turns : ℕ) (x : Cast) (played : List Pla
 
 -- So many rounds, of so many turns, led here from a new core; what is known of the actors is so, and these are the
 -- actors of a round.
-pub record AreUnderWay (p : Plan) (rounds turns : ℕ) (x : Cast) (rests : Resting) (each : List ActorName) : Type 0 where
+pub record AreUnderWay (p : Plan) (rounds turns : ℕ) (x : Cast) (rests : List Rest)
+    (each : List ActorName) : Type 0 where
   pub gone : HasGone p rounds turns x (moved_turns p rounds)
-  pub known : AreKnown x.course.plan (scene x) rests
+  pub known : AreKnown x.course.plan (scene x) each rests
   pub actors : each ≡ round p
 
 -- The lines of the first of some turns stand in a text, and the others are kept.

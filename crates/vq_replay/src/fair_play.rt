@@ -8,14 +8,13 @@ ghost use Rattle.vq_core.specs.CoreState.{world};
 ghost use Rattle.vq_troupe.specs.Casts.{scene};
 ghost use Rattle.vq_replay.specs.declared.played.Played.{Played as Turn};
 ghost use Rattle.vq_replay.specs.Passages.{AreUnderWay, LeadsTo};
-ghost use Rattle.vq_replay.specs.Resting.{AreKnown};
+ghost use Rattle.vq_replay.specs.Resting.{AreApart, AreKnown};
 ghost use Rattle.vq_replay.specs.Rounds.{has_moved, moved_turns};
 
 use crate::played::Played;
 use crate::rests::Rests;
 use crate::roster::roster;
 use std::alloc::{AllocError, Global};
-use vq_actor::queue_count;
 use vq_core::Core;
 use vq_model::script::ActorName;
 use vq_order::Ordered;
@@ -55,7 +54,7 @@ impl FairPlay {
         ensures rounds { IfOk result (λ f. f.rounds ≡ 0) }
     {
         let round = roster(alloc, &ordered)?;
-        let rests = Rests::new(alloc, queue_count(&ordered))?;
+        let rests = Rests::new(alloc, round.len())?;
         let troupe = Troupe::new(alloc, ordered)?;
         Ok(FairPlay {
             round,
@@ -135,18 +134,19 @@ fn play_turns(
 ) -> Result<(), AllocError>
     requires few { before + length round.now < 2 ^ 32 }
     requires actors { All (IsActor troupe.old.course.plan.script) round.now }
-    requires known { AreKnown troupe.old.course.plan (scene troupe.old) rests.old }
+    requires apart { AreApart round.now }
+    requires known { AreKnown troupe.old.course.plan (scene troupe.old) round.now rests.old }
     ensures turns { OnOk result (LeadsTo troupe.old.course.plan (scene troupe.old) troupe.old.course.history before
         round.now played.old.items troupe.new played.new.items) }
-    ensures known { OnOk result (AreKnown troupe.new.course.plan (scene troupe.new) rests.new) }
+    ensures known { OnOk result (AreKnown troupe.new.course.plan (scene troupe.new) round.now rests.new) }
 {
     for turn in 0..round.len() {
-        let actor = round[turn];
-        if rests.is_idle(troupe.core(), actor) {
+        if rests.is_idle(troupe.core(), turn) {
             continue;
         }
+        let actor = round[turn];
         let outcome = troupe.play(actor);
-        rests.note(actor, outcome);
+        rests.note(turn, actor, outcome);
         let number = before + turn as u32 + 1;
         keep_moved(
             played,

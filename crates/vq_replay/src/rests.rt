@@ -1,20 +1,20 @@
 //! What is known of turns that are still to come: those that change nothing needn't be played.
 //!
 //! Source: this project's own.
-ghost use Rattle.std.specs.Prelude.{◌≡◌, true, false, IfOk};
+ghost use Rattle.std.specs.Prelude.{◌≡◌, ◌<◌, true, false, length, replicate, IfOk};
+ghost use Rattle.std.specs.List.{slice_index_or};
+ghost use Rattle.std.proofs.Math.ListN.{set};
 ghost use Rattle.vq_core.specs.CoreState.{world};
-ghost use Rattle.vq_turns.specs.Turns.{Place, Scene};
-ghost use Rattle.vq_turns.specs.Wants.{IsNotSo};
+ghost use Rattle.vq_turns.specs.Turns.{Scene};
 ghost use Rattle.vq_model.specs.declared.script.ActorName.{ActorName as Name};
 ghost use Rattle.vq_replay.specs.declared.rests.Rest.TheVariants.{Unknown};
-ghost use Rattle.vq_replay.specs.Resting.{AreKnown, ChangesNothing, HasRoom, IsIdle, Knows};
-ghost use Rattle.vq_replay.specs.Resting.{known, knowing, none_known, rest_after};
+ghost use Rattle.vq_replay.specs.Resting.{ChangesNothing, IsIdleIn, Knows};
+ghost use Rattle.vq_replay.specs.Resting.{host_rest, rest_after, rest_of, rest_until};
 
 use std::alloc::{AllocError, Global};
 use std::marker::Model;
 use vq_core::Core;
 use vq_model::script::ActorName;
-use vq_tables::Table;
 use vq_turns::outcome::{Outcome, Want};
 
 /// What is known of an actor's next turn.
@@ -22,82 +22,115 @@ use vq_turns::outcome::{Outcome, Want};
 pub(crate) enum Rest {
     /// Nothing.
     Unknown,
-    /// It changes nothing as long as this isn't so.
-    Until(Want),
     /// It changes nothing.
     Over,
+    /// It changes nothing until this batch is submitted.
+    Unsubmitted { job: u32 },
+    /// It changes nothing until this batch is released.
+    Unreleased { job: u32 },
+    /// It changes nothing until this operation is bound.
+    Unbound { op: u32 },
+    /// It changes nothing until this operation is signaled.
+    Unsignaled { op: u32 },
+    /// It changes nothing until this job is finished.
+    Unfinished { job: u32 },
 }
 
-/// What is known of the next turn of each submit actor and of each ring, by queue.
+/// What is known of the next turn of each actor of a round, by the actor's place in the round.
 #[derive(Drop)]
 pub(crate) struct Rests {
-    submits: Table<Rest>,
-    rings: Table<Rest>,
+    items: Vec<Rest>,
 }
 
 impl Model for Rests {
-    ghost use Rattle.vq_replay.specs.Resting.{Resting};
+    ghost use Rattle.std.specs.Prelude.{List};
+    ghost use Rattle.vq_replay.specs.declared.rests.Rest.{Rest as AnyRest};
 
-    ghost Value = { Resting };
+    ghost Value = { List AnyRest };
 
-    ghost view = { λ a. record { submits = a.submits; rings = a.rings } };
+    ghost view = { λ a. a.items.items };
 }
 
 impl Rests {
-    /// Nothing is known of the actors of so many queues. The error is that there is no memory.
-    pub(crate) fn new(alloc: Global, queues: u32) -> Result<Rests, AllocError>
-        ensures { IfOk result (λ rests. rests ≡ none_known queues) }
+    /// Nothing is known of so many actors. The error is that there is no memory.
+    pub(crate) fn new(alloc: Global, actors: usize) -> Result<Rests, AllocError>
+        ensures { IfOk result (λ rests. rests ≡ replicate actors Unknown) }
     {
-        let submits = vec![in alloc; Rest::Unknown; queues as usize]?;
-        let rings = vec![in alloc; Rest::Unknown; queues as usize]?;
-        Ok(Rests {
-            submits: Table::of(submits),
-            rings: Table::of(rings),
-        })
+        let items = vec![in alloc; Rest::Unknown; actors]?;
+        Ok(Rests { items })
     }
 
-    /// What is known of an actor's next turn; of the host's nothing is.
+    /// Whether the next turn of the actor at a place is known to change nothing.
     #[inline(always)]
-    fn of(&self, actor: ActorName) -> Rest
-        ensures { result ≡ known self.now actor }
+    pub(crate) fn is_idle(&self, core: &Core, place: usize) -> bool
+        requires { place < length self.now }
+        ensures { result ≡ true → (s : Scene) → s.world ≡ world core.now → (a : Name) →
+            Knows core.now.plan s a (slice_index_or self.now place Unknown) → ChangesNothing core.now.plan s a }
     {
-        match actor {
-            ActorName::Host => Rest::Unknown,
-            ActorName::Submit(queue) => self.submits.at(queue, Rest::Unknown),
-            ActorName::Ring(queue) => self.rings.at(queue, Rest::Unknown),
-        }
+        is_still(core, self.items[place])
     }
 
-    /// Whether an actor's next turn is known to change nothing.
+    /// Keeps what a turn of the actor at a place tells of its next one.
     #[inline(always)]
-    pub(crate) fn is_idle(&self, core: &Core, actor: ActorName) -> bool
-        ensures { result ≡ true → (s : Scene) → s.world ≡ world core.now → AreKnown core.now.plan s self.now →
-            ChangesNothing core.now.plan s actor }
+    pub(crate) fn note(&mut self, place: usize, actor: ActorName, outcome: Outcome)
+        requires { place < length self.old }
+        ensures { self.new ≡ set self.old place (rest_after actor outcome) }
     {
-        is_still(core, self.of(actor))
-    }
-
-    /// Keeps what a turn of an actor tells of its next one.
-    pub(crate) fn note(&mut self, actor: ActorName, outcome: Outcome)
-        requires { HasRoom self.old actor }
-        ensures { self.new ≡ knowing self.old actor (rest_after outcome) }
-    {
-        match actor {
-            ActorName::Host => {}
-            ActorName::Submit(queue) => self.submits.put(queue, rest_after(outcome)),
-            ActorName::Ring(queue) => self.rings.put(queue, rest_after(outcome)),
-        }
+        self.items[place] = rest_after(actor, outcome);
     }
 }
 
-/// What a turn tells of the actor's next one.
-fn rest_after(outcome: Outcome) -> Rest
-    ensures { result ≡ rest_after outcome }
+/// What is known of the turns of an actor that waits for this.
+#[inline(always)]
+fn rest_until(want: Want) -> Rest
+    ensures { result ≡ rest_until want }
+{
+    match want {
+        Want::Submitted { job } => Rest::Unsubmitted { job },
+        Want::Released { job } => Rest::Unreleased { job },
+        Want::Bound { op } => Rest::Unbound { op },
+        Want::Next { op } => Rest::Unbound { op },
+        Want::Signaled { op } => Rest::Unsignaled { op },
+        Want::Finished { job } => Rest::Unfinished { job },
+        Want::MemoryTurn => Rest::Unknown,
+        Want::Exchange { .. } => Rest::Unknown,
+        Want::Listed { .. } => Rest::Unknown,
+    }
+}
+
+/// What a turn of a submit actor or of a ring tells of its next one.
+#[inline(always)]
+fn rest_of(outcome: Outcome) -> Rest
+    ensures { result ≡ rest_of outcome }
 {
     match outcome {
         Outcome::Moved(_) => Rest::Unknown,
-        Outcome::Blocked(want) => Rest::Until(want),
+        Outcome::Blocked(want) => rest_until(want),
         Outcome::Ended => Rest::Over,
+    }
+}
+
+/// What a turn of the host tells of its next one: where it is blocked, it may serve another queue.
+#[inline(always)]
+fn host_rest(outcome: Outcome) -> Rest
+    ensures { result ≡ host_rest outcome }
+{
+    match outcome {
+        Outcome::Moved(_) => Rest::Unknown,
+        Outcome::Blocked(_) => Rest::Unknown,
+        Outcome::Ended => Rest::Over,
+    }
+}
+
+/// What a turn of an actor tells of its next one.
+#[inline(always)]
+fn rest_after(actor: ActorName, outcome: Outcome) -> Rest
+    ensures { result ≡ rest_after actor outcome }
+{
+    match actor {
+        ActorName::Host => host_rest(outcome),
+        ActorName::Submit(_) => rest_of(outcome),
+        ActorName::Ring(_) => rest_of(outcome),
     }
 }
 
@@ -112,35 +145,20 @@ fn is_bound(core: &Core, op: u32) -> bool
     core.is_bound(op)
 }
 
-/// Whether the thing that a want names may be so.
-#[inline(always)]
-fn is_so(core: &Core, want: Want) -> bool
-    ensures { result ≡ false → IsNotSo (world core.now) want }
-{
-    match want {
-        Want::Submitted { job } => core.is_submitted(job),
-        Want::Released { job } => core.is_released(job),
-        Want::Bound { op } => is_bound(core, op),
-        Want::Next { op } => is_bound(core, op),
-        Want::Signaled { op } => core.is_signaled(op),
-        Want::Finished { job } => core.is_finished(job),
-        Want::MemoryTurn => true,
-        Want::Exchange { .. } => true,
-        Want::Listed { .. } => true,
-    }
-}
-
 /// Whether a turn of which so much is known changes nothing, where a core stands now.
 #[inline(always)]
 fn is_still(core: &Core, rest: Rest) -> bool
-    ensures something { result ≡ true → rest ≡ Unknown → ⊥ }
-    ensures idle { result ≡ true → (a : Name) → (x : Place) → Knows core.now.plan a x rest →
-        IsIdle core.now.plan (world core.now) a x }
+    ensures { result ≡ true → (s : Scene) → (a : Name) → Knows core.now.plan s a rest →
+        IsIdleIn core.now.plan s a (world core.now) }
 {
     let _lawful = core.ordered();
     match rest {
         Rest::Unknown => false,
-        Rest::Until(want) => !is_so(core, want),
         Rest::Over => true,
+        Rest::Unsubmitted { job } => !core.is_submitted(job),
+        Rest::Unreleased { job } => !core.is_released(job),
+        Rest::Unbound { op } => !is_bound(core, op),
+        Rest::Unsignaled { op } => !core.is_signaled(op),
+        Rest::Unfinished { job } => !core.is_finished(job),
     }
 }

@@ -1,11 +1,13 @@
-use Rattle.std.proofs.Common.{◌≤◌, length, refl, sym, subst, ap, get_or, List}
+use Rattle.std.proofs.Common.{ℕ, ◌<◌, ◌≤◌, length, refl, sym, subst, ap, get_or, List}
 use Rattle.std.proofs.lemmas.List.{take_all}
 use Rattle.vq_model.specs.declared.script.ActorName.{ActorName}
+use Rattle.vq_model.specs.declared.script.ActorName.TheVariants.{Host}
 use Rattle.vq_core.specs.CoreState.{Course, world}
 use Rattle.vq_troupe.specs.Casts.{scene}
+use Rattle.vq_replay.specs.declared.rests.Rest.TheVariants.{Unknown}
 use Rattle.vq_replay.specs.Passages.{LeadsTo}
-use Rattle.vq_replay.specs.Resting.{AreKnown, ChangesNothing}
-use Rattle.vq_replay.proofs.Known.{has_room, known_played}
+use Rattle.vq_replay.specs.Resting.{AreKnown, ChangesNothing, Knows}
+use Rattle.vq_replay.proofs.Known.{known_played}
 use Rattle.vq_replay.proofs.Passages.{goes_further, leads_nowhere, waits_further}
 use Rattle.vq_replay.proofs.Rosters.{acts_there}
 use Rattle.vq_replay.proofs.fair_play.play_turns.Goals as goal
@@ -19,42 +21,42 @@ play-outcome-requires c =
     acts_there c.args.troupe.now.course.plan c.loop-turn.troupe.course.plan c.loop-turn.invariant.0.plan c.args.round.now
     c.requires.actors c.loop-turn.turn _ c.loop-turn-test.true
 
+pub is_idle-requires : goal.is_idle-requires
+is_idle-requires c =
+    subst (λ (n : ℕ). c.loop-turn.turn < n) (sym c.loop-turn.invariant.1.count) c.loop-turn-test.true
+
 pub loop-turn-preserved-then-is_idle : goal.loop-turn-preserved-then-is_idle
 loop-turn-preserved-then-is_idle c =
     let x = c.args.troupe.now in
     let y = c.loop-turn.troupe in
-    let a = get_or c.args.round.now c.loop-turn.turn _ in
     let known = c.loop-turn.invariant.1 in
-    let idle = c.is_idle.ensures c.if-is_idle.true (scene y)
-    (ap world (sym c.core.ensures))
-    (subst (λ (d : Course). AreKnown d.plan (scene y) c.loop-turn.rests) (sym c.core.ensures) known) in (
+    let a = get_or c.args.round.now c.loop-turn.turn Host in
+    let idle = c.is_idle.ensures c.if-is_idle.true (scene y) (ap world (sym c.core.ensures)) a
+    (subst (λ (d : Course). Knows d.plan (scene y) a (get_or c.loop-turn.rests c.loop-turn.turn Unknown))
+    (sym c.core.ensures) (known.each Host c.loop-turn.turn c.loop-turn-test.true)) in (
       waits_further x.course.plan (scene x) x.course.history c.args.before c.args.round.now c.args.played.now.items y
-          c.loop-turn.played.items c.loop-turn.turn a _ c.loop-turn.invariant.0 c.loop-turn-test.true refl
+          c.loop-turn.played.items c.loop-turn.turn a Host c.loop-turn.invariant.0 c.loop-turn-test.true refl
           (subst (λ (d : Course). ChangesNothing d.plan (scene y) a) c.core.ensures idle),
       known,
     )
 
 pub note-requires : goal.note-requires
 note-requires c =
-    let y = c.loop-turn.troupe in
-    has_room y.course.plan (scene y) c.loop-turn.rests c.loop-turn.invariant.1 _
-    (acts_there c.args.troupe.now.course.plan y.course.plan c.loop-turn.invariant.0.plan c.args.round.now
-    c.requires.actors c.loop-turn.turn _ c.loop-turn-test.true)
+    subst (λ (n : ℕ). c.loop-turn.turn < n) (sym c.loop-turn.invariant.1.count) c.loop-turn-test.true
 
 pub loop-turn-preserved : goal.loop-turn-preserved
 loop-turn-preserved c =
     let x = c.args.troupe.now in
     let y = c.loop-turn.troupe in
-    let a = get_or c.args.round.now c.loop-turn.turn _ in
-    let actor = acts_there x.course.plan y.course.plan c.loop-turn.invariant.0.plan c.args.round.now
-    c.requires.actors c.loop-turn.turn _ c.loop-turn-test.true in (
+    let a = get_or c.args.round.now c.loop-turn.turn _ in (
       goes_further x.course.plan (scene x) x.course.history c.args.before c.args.round.now c.args.played.now.items y
           c.loop-turn.played.items c.loop-turn.turn a _ c.loop-turn.invariant.0 c.loop-turn-test.true refl
           c.play-outcome.new.self c.keep_moved.new.played.items c.play-outcome.result c.play-outcome.ensures.turn
           (c.in_ok-keep_moved.ensures {u = tt}),
-      subst (AreKnown c.play-outcome.new.self.course.plan (scene c.play-outcome.new.self)) (sym c.note.ensures)
-          (known_played y c.play-outcome.new.self a c.play-outcome.result c.play-outcome.ensures.turn c.loop-turn.rests
-          c.loop-turn.invariant.1 (has_room y.course.plan (scene y) c.loop-turn.rests c.loop-turn.invariant.1 a actor)),
+      subst (AreKnown c.play-outcome.new.self.course.plan (scene c.play-outcome.new.self) c.args.round.now)
+          (sym c.note.ensures)
+          (known_played y c.play-outcome.new.self a c.play-outcome.result c.play-outcome.ensures.turn c.args.round.now
+          c.requires.apart c.loop-turn.rests c.loop-turn.invariant.1 c.loop-turn.turn c.loop-turn-test.true _ refl),
     )
 
 pub returns-clause-turns : goal.returns-clause-turns

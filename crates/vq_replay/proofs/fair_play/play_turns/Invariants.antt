@@ -8,4 +8,4 @@ abbrev pub invariant-loop-turn : goal.invariant-loop-turn
 invariant-loop-turn l =
     LeadsTo l.fn.troupe.course.plan (scene l.fn.troupe) l.fn.troupe.course.history l.before (take l.turn l.round)
     l.fn.played.items l.troupe l.played.items
-    × AreKnown l.troupe.course.plan (scene l.troupe) l.rests
+    × AreKnown l.troupe.course.plan (scene l.troupe) l.round l.rests
