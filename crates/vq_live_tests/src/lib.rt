@@ -6,3 +6,5 @@
 mod order_tests;
 #[cfg(test)]
 mod point_tests;
+#[cfg(test)]
+mod steps;

@@ -1,70 +1,67 @@
 //! The order of takes, installs and completions, in each way that drivers call them.
+use crate::steps::{Step, go};
 use std::alloc::Global;
-use std::test::Fail;
 use vq_live::{CancelFault, Found, Given, InstallFault, LiveTimeline, SignalFault, TakeFault};
 
 const ONE: Given = Given { value: 1, point: 1 };
 
 const TWO: Given = Given { value: 2, point: 0 };
 
-/// A timeline where 2 is taken before 1.
-fn falling(alloc: Global) -> Result<LiveTimeline, TakeFault> {
+/// Of a timeline where 2 is taken before 1.
+const FALLING: [Step; 2] = [Step::Take(2, Ok(TWO)), Step::Take(1, Ok(ONE))];
+
+/// Whether these steps come out as wanted on a new timeline where 2 is taken before 1.
+fn go_on(alloc: Global, steps: &[Step]) -> bool {
     let mut timeline = LiveTimeline::new(alloc, 0);
-    timeline.take(2)?;
-    timeline.take(1)?;
-    Ok(timeline)
+    go(&mut timeline, &FALLING) && go(&mut timeline, steps)
 }
+
+const RISING: [Step; 7] = [
+    Step::Take(2, Err(TakeFault::Twice)),
+    Step::Install(TWO, Err(InstallFault::NotNext { next: ONE })),
+    Step::Find(1, Found::NotYet),
+    Step::Signal(1, Err(SignalFault::Outstanding { first: 1 })),
+    Step::Install(ONE, Ok(())),
+    Step::Find(1, Found::Pending { at: ONE }),
+    Step::Take(1, Err(TakeFault::NotAbove { pending: 1 })),
+];
 
 /// Takes needn't rise, installs do, and nothing is found before it is installed.
 #[test]
-fn installs_rise(rt: HostRuntime) -> Result<(), Fail> {
-    let mut timeline = falling(rt.alloc())?;
-    assert_eq!(rt; timeline.take(2), Err(TakeFault::Twice));
-    assert_eq!(rt;
-        timeline.install(TWO),
-        Err(InstallFault::NotNext { next: ONE })
-    );
-    assert_eq!(rt; timeline.find(1), Found::NotYet);
-    assert_eq!(rt;
-        timeline.signal(1),
-        Err(SignalFault::Outstanding { first: 1 })
-    );
-    assert_eq!(rt; timeline.install(ONE), Ok(()));
-    assert_eq!(rt; timeline.find(1), Found::Pending { at: ONE });
-    assert_eq!(rt; timeline.take(1), Err(TakeFault::NotAbove { pending: 1 }));
-    Ok(())
+fn installs_rise(rt: HostRuntime) {
+    assert!(rt; go_on(rt.alloc(), &RISING));
 }
+
+const LATE: [Step; 8] = [
+    Step::LeastTaken(Some(ONE)),
+    Step::Install(ONE, Ok(())),
+    Step::First(Some(ONE)),
+    Step::Complete(Some(ONE)),
+    Step::Install(ONE, Err(InstallFault::Already)),
+    Step::Cancel(ONE, Err(CancelFault::Already)),
+    Step::Value(1),
+    Step::Find(1, Found::Past),
+];
 
 /// A reader installs and completes for the submitting thread, which comes late.
 #[test]
-fn late_install_is_answered(rt: HostRuntime) -> Result<(), Fail> {
-    let mut timeline = falling(rt.alloc())?;
-    assert_eq!(rt; timeline.least_taken(), Some(ONE));
-    assert_eq!(rt; timeline.install(ONE), Ok(()));
-    assert_eq!(rt; timeline.first(), Some(ONE));
-    assert_eq!(rt; timeline.complete(), Some(ONE));
-    assert_eq!(rt; timeline.install(ONE), Err(InstallFault::Already));
-    assert_eq!(rt; timeline.cancel(ONE), Err(CancelFault::Already));
-    assert_eq!(rt; timeline.value(), 1);
-    assert_eq!(rt; timeline.find(1), Found::Past);
-    Ok(())
+fn late_install_is_answered(rt: HostRuntime) {
+    assert!(rt; go_on(rt.alloc(), &LATE));
 }
+
+const CANCELLED: [Step; 8] = [
+    Step::Cancel(Given { value: 2, point: 1 }, Err(CancelFault::NotTaken)),
+    Step::Cancel(ONE, Ok(())),
+    Step::Take(1, Ok(ONE)),
+    Step::Cancel(ONE, Ok(())),
+    Step::Signal(1, Ok(())),
+    Step::Signal(1, Err(SignalFault::NotAbove { payload: 1 })),
+    Step::Cancel(TWO, Ok(())),
+    Step::Install(TWO, Err(InstallFault::NothingTaken)),
+];
 
 /// A submission fails, and its value may be taken again; the host signals what is left.
 #[test]
-fn taken_values_are_cancelled(rt: HostRuntime) -> Result<(), Fail> {
-    let mut timeline = falling(rt.alloc())?;
-    let other = Given { value: 2, point: 1 };
-    assert_eq!(rt; timeline.cancel(other), Err(CancelFault::NotTaken));
-    assert_eq!(rt; timeline.cancel(ONE), Ok(()));
-    assert_eq!(rt; timeline.take(1), Ok(ONE));
-    assert_eq!(rt; timeline.cancel(ONE), Ok(()));
-    assert_eq!(rt; timeline.signal(1), Ok(()));
-    assert_eq!(rt;
-        timeline.signal(1),
-        Err(SignalFault::NotAbove { payload: 1 })
-    );
-    assert_eq!(rt; timeline.cancel(TWO), Ok(()));
-    assert_eq!(rt; timeline.install(TWO), Err(InstallFault::NothingTaken));
-    Ok(())
+fn taken_values_are_cancelled(rt: HostRuntime) {
+    assert!(rt; go_on(rt.alloc(), &CANCELLED));
 }
