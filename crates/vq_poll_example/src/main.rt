@@ -6,7 +6,7 @@ ghost use Rattle.vq_board.specs.Named.{plan_of, IsOf};
 ghost use Rattle.vq_timeline_tests.specs.Acting.{HasRun};
 ghost use Rattle.vq_timeline_tests.specs.TwoBatches.{IsOfTwoBatches};
 ghost use Rattle.vq_poll.specs.Watching.{IsWatched, plan_at};
-ghost use Rattle.vq_poll_stage.specs.Scenes.{IsScene};
+ghost use Rattle.vq_poll_stage.specs.Scenes.{AreHandedOn, AreIdle, IsScene};
 
 use futures::executor::block_on;
 use std::alloc::AllocGlobal;
@@ -16,9 +16,18 @@ use std::random::RandomSource;
 use std::sync::Wait;
 use std::thread::{Threads, join};
 use vq_board::{Board, Pass};
+use vq_order::Ordered;
 use vq_poll::{Bell, Met, Pair, WaitMode, WaitOwned, WatchedBoard};
-use vq_poll_stage::scene::{Scene, bell_of, opened, timeline_of, watched_of};
-use vq_poll_stage::steps::{hand_both_on, run_both, submit_both};
+use vq_poll_stage::scene::{Actors, Scene, bell_of, hand_on, planned, scene_of, watched_of};
+use vq_poll_stage::steps::run_both;
+
+/// What was found, without the pass.
+fn met_in(answer: Option<(Met, Pass)>) -> Option<Met> {
+    match answer {
+        Some((met, _pass)) => Some(met),
+        None => None,
+    }
+}
 
 /// Wait: `block_on` polls the wait, and again each time that the bell of A has rung, until A has come to 3. The pass
 /// comes back with the answer.
@@ -33,9 +42,10 @@ fn wait_for_three<R: Wait + RandomSource + AllocGlobal>(
     requires pass { IsOf watched.board.now pass }
 {
     let pairs = [Pair { chain: 0, value: 3 }];
-    let wait = WaitOwned::new(rt.alloc(), watched, pass, WaitMode::All, &pairs).ok()?;
-    let (met, _pass) = block_on(rt, wait).ok()?;
-    Some(met)
+    match WaitOwned::new(rt.alloc(), watched, pass, WaitMode::All, &pairs) {
+        Ok(wait) => met_in(block_on(rt, wait).ok()),
+        Err(_) => None,
+    }
 }
 
 /// Signal: the batches are run, which signal A with 2 and then with 7. The bell is rung after each signal.
@@ -76,35 +86,69 @@ fn run<R: Threads + Wait + RandomSource + AllocGlobal + Sync>(
     )
 }
 
-/// Submits both batches and hands them on, and then starts the threads. It says what the wait found.
-#[tactic(auto, using(vq_poll_stage::proofs::Cited::pass_kept, vq_poll_stage::proofs::Cited::timelines_kept))]
-fn found<R: Threads + Wait + RandomSource + AllocGlobal + Sync>(rt: &R, scene: Scene) -> Option<Met>
-    requires { IsScene scene }
+/// Both on this board, where the batches are handed on. It says what the wait found.
+#[tactic(auto, using(vq_poll_stage::proofs::Cited::pass_kept))]
+fn found<R: Threads + Wait + RandomSource + AllocGlobal + Sync>(
+    rt: &R,
+    watched: WatchedBoard<'_>,
+    scene: &Scene,
+    actors: Actors,
+) -> Option<Met>
+    requires watched { IsWatched watched }
+    requires plan { IsOfTwoBatches (plan_at watched) }
+    requires board { watched.board.now ≡ scene.now.board }
+    requires scene { IsScene scene.now }
+    requires actors { AreHandedOn scene.now.board actors }
 {
-    let Scene {
-        ordered,
-        board,
-        timelines,
-        bells,
-        mut host,
-        mut submitter,
+    let Actors {
+        host,
+        submitter: _submitter,
         ring,
-    } = scene;
-    let (timelines, bells) = (timelines.as_slice(), bells.as_slice());
-    submit_both(&board, &mut host);
-    if !hand_both_on(rt, &board, timeline_of(&board, timelines), &mut submitter) {
-        return None;
-    }
-    let watched = watched_of(&ordered, &board, timelines, bells);
-    match run(rt, watched, host, &board, bell_of(bells), ring) {
+    } = actors;
+    match run(rt, watched, host, &scene.board, bell_of(scene), ring) {
         (met, true) => met,
         (_, false) => None,
     }
 }
 
-/// The same on a board of its own.
+/// Submits both batches and hands them on, and then starts the threads.
+fn told_on<R: Threads + Wait + RandomSource + AllocGlobal + Sync>(
+    rt: &R,
+    watched: WatchedBoard<'_>,
+    scene: &Scene,
+    actors: Actors,
+) -> Option<Met>
+    requires watched { IsWatched watched }
+    requires plan { IsOfTwoBatches (plan_at watched) }
+    requires board { watched.board.now ≡ scene.now.board }
+    requires scene { IsScene scene.now }
+    requires actors { AreIdle scene.now.board actors }
+{
+    let mut actors = actors;
+    if hand_on(rt, scene, &mut actors) {
+        found(rt, watched, scene, actors)
+    } else {
+        None
+    }
+}
+
+/// The same on a board of this plan,
+fn told_of<R: Threads + Wait + RandomSource + AllocGlobal + Sync>(
+    rt: &R,
+    ordered: &Ordered,
+) -> Option<Met> {
+    match scene_of(rt.alloc(), ordered) {
+        Some((scene, actors)) => told_on(rt, watched_of(ordered, &scene), &scene, actors),
+        None => None,
+    }
+}
+
+/// and of the script's plan.
 fn told<R: Threads + Wait + RandomSource + AllocGlobal + Sync>(rt: &R) -> Option<Met> {
-    found(rt, opened(rt.alloc())?)
+    match planned(rt.alloc()) {
+        Some(ordered) => told_of(rt, &ordered),
+        None => None,
+    }
 }
 
 fn main(rt: HostRuntime) -> io::Result<ExitCode> {

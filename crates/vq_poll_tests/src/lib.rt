@@ -3,11 +3,11 @@
 #![tactic(auto)]
 
 #[cfg(test)]
+mod asked;
+#[cfg(test)]
 mod polls_tests;
 #[cfg(test)]
 mod pool_tests;
-#[cfg(test)]
-mod pool_threads_tests;
 #[cfg(test)]
 mod pools;
 #[cfg(test)]

@@ -1,14 +1,21 @@
 //! Tasks of one executor that wait at one bell.
-ghost use Rattle.vq_poll_stage.specs.Scenes.{IsScene};
+ghost use Rattle.std.specs.Prelude.{◌≡◌, []};
+ghost use Rattle.vq_timeline_tests.specs.Acting.{HasRun};
+ghost use Rattle.vq_timeline_tests.specs.TwoBatches.{IsOfTwoBatches};
+ghost use Rattle.vq_poll.specs.Watching.{IsWatched, plan_at};
+ghost use Rattle.vq_poll_stage.specs.Scenes.{AreHandedOn, AreIdle, IsScene};
 
-use crate::pools::{Counted, pool_of, task_of};
+use crate::asked::{Asked, is_so};
+use crate::pools::{Counted, pool_for};
 use futures::executor::LocalPool;
 use std::alloc::AllocGlobal;
 use std::random::RandomSource;
 use std::sync::Wait;
 use std::sync::atomic::{AtomicU64, Ordering};
-use vq_poll_stage::scene::{Scene, bell_of, opened, timeline_of, watched_of};
-use vq_poll_stage::steps::{hand_both_on, run_one, submit_both};
+use vq_board::Pass;
+use vq_poll::WatchedBoard;
+use vq_poll_stage::scene::{Actors, Scene, bell_of, hand_on};
+use vq_poll_stage::steps::run_one;
 
 /// Polls the tasks that are woken, and says how many have found their value so far.
 fn count_met(pool: &mut LocalPool<Counted<'_>>, met: &AtomicU64) -> u64 {
@@ -16,42 +23,65 @@ fn count_met(pool: &mut LocalPool<Counted<'_>>, met: &AtomicU64) -> u64 {
     met.load(Ordering::SeqCst)
 }
 
-/// How many tasks have found their value before the first batch is run, and after it and one ring.
-#[tactic(auto, using(vq_poll_stage::proofs::Cited::pass_kept, vq_poll_stage::proofs::Cited::timelines_kept))]
-fn counts<R: Wait + RandomSource + AllocGlobal>(rt: &R, scene: Scene) -> Option<(u64, u64)>
-    requires { IsScene scene }
+/// Whether no task has found its value before the first batch is run, and each has after it and one ring.
+fn both_are_woken(
+    scene: &Scene,
+    ring: &mut Pass,
+    pool: &mut LocalPool<Counted<'_>>,
+    met: &AtomicU64,
+) -> bool
+    requires scene { IsScene scene.now }
+    requires ring { HasRun scene.now.board ring.old [] }
 {
-    let Scene {
-        ordered,
-        board,
-        timelines,
-        bells,
-        mut host,
-        mut submitter,
-        mut ring,
-    } = scene;
-    let (timelines, bells) = (timelines.as_slice(), bells.as_slice());
-    submit_both(&board, &mut host);
-    if !hand_both_on(rt, &board, timeline_of(&board, timelines), &mut submitter) {
-        return None;
-    }
-    let met = AtomicU64::new(0);
-    let watched = watched_of(&ordered, &board, timelines, bells);
-    let first = task_of(rt, watched, host, &met, 2)?;
-    let second = task_of(rt, watched, submitter, &met, 2)?;
-    let mut pool = pool_of(rt, first, second)?;
-    let before = count_met(&mut pool, &met);
-    if !run_one(&board, bell_of(bells), &mut ring) {
-        return None;
-    }
-    Some((before, count_met(&mut pool, &met)))
+    count_met(pool, met) == 0
+        && run_one(&scene.board, bell_of(scene), ring)
+        && count_met(pool, met) == 2
 }
 
-fn counts_once<R: Wait + RandomSource + AllocGlobal>(rt: &R) -> Option<(u64, u64)> {
-    counts(rt, opened(rt.alloc())?)
+/// Whether it is so of two tasks that wait for 2, once both batches are handed on.
+#[tactic(auto, using(vq_poll_stage::proofs::Cited::pass_kept))]
+fn wake<R: RandomSource + AllocGlobal>(
+    rt: &R,
+    watched: WatchedBoard<'_>,
+    scene: &Scene,
+    actors: Actors,
+) -> bool
+    requires watched { IsWatched watched }
+    requires plan { IsOfTwoBatches (plan_at watched) }
+    requires board { watched.board.now ≡ scene.now.board }
+    requires scene { IsScene scene.now }
+    requires actors { AreHandedOn scene.now.board actors }
+{
+    let Actors {
+        host,
+        submitter,
+        mut ring,
+    } = actors;
+    let met = AtomicU64::new(0);
+    match pool_for(rt, watched, host, submitter, &met, (2, 2)) {
+        Some(mut pool) => both_are_woken(scene, &mut ring, &mut pool, &met),
+        None => false,
+    }
+}
+
+/// The same with the steps that hand them on.
+pub(crate) fn wakes_both<R: Wait + RandomSource + AllocGlobal>(
+    rt: &R,
+    watched: WatchedBoard<'_>,
+    scene: &Scene,
+    actors: Actors,
+) -> bool
+    requires watched { IsWatched watched }
+    requires plan { IsOfTwoBatches (plan_at watched) }
+    requires board { watched.board.now ≡ scene.now.board }
+    requires scene { IsScene scene.now }
+    requires actors { AreIdle scene.now.board actors }
+{
+    let mut actors = actors;
+    hand_on(rt, scene, &mut actors) && wake(rt, watched, scene, actors)
 }
 
 #[test]
 fn one_ring_wakes_each_task(rt: HostRuntime) {
-    assert!(rt; counts_once(&rt) == Some((0, 2)));
+    assert!(rt; is_so(&rt, Asked::WakesBoth, 1));
 }

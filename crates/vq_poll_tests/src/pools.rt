@@ -6,7 +6,7 @@ ghost use Rattle.vq_poll.specs.Owning.{CanWaitOwned};
 ghost use Rattle.vq_poll.specs.Watching.{IsWatched, plan_at};
 
 use futures::Future;
-use futures::executor::{LocalPool, LocalSpawner};
+use futures::executor::LocalPool;
 use futures::task::{Context, Doorbell, Poll};
 use std::alloc::AllocGlobal;
 use std::random::RandomSource;
@@ -41,7 +41,7 @@ impl Future for Counted<'_> {
 
 /// A task that waits for A to come to this value.
 #[tactic(auto, using(vq_poll_stage::proofs::Cited::pairs_of_first, vq_poll_stage::proofs::Cited::one_first))]
-pub fn task_of<'a, R: AllocGlobal>(
+fn task_of<'a, R: AllocGlobal>(
     rt: &R,
     watched: WatchedBoard<'a>,
     pass: Pass,
@@ -54,12 +54,27 @@ pub fn task_of<'a, R: AllocGlobal>(
     ensures { IfSome result (λ c. CanWaitOwned c.wait) }
 {
     let pairs = [Pair { chain: 0, value }];
-    let wait = WaitOwned::new(rt.alloc(), watched, pass, WaitMode::All, &pairs).ok()?;
-    Some(Counted { wait, met })
+    match WaitOwned::new(rt.alloc(), watched, pass, WaitMode::All, &pairs) {
+        Ok(wait) => Some(Counted { wait, met }),
+        Err(_) => None,
+    }
+}
+
+/// Hands both tasks to the pool. It says whether there was memory.
+fn spawn_both<'a>(pool: &LocalPool<Counted<'a>>, first: Counted<'a>, second: Counted<'a>) -> bool
+    requires first { CanWaitOwned first.wait }
+    requires second { CanWaitOwned second.wait }
+{
+    let Ok(spawner) = pool.spawner() else {
+        return false;
+    };
+    let one = spawner.spawn(first).is_ok();
+    let two = spawner.spawn(second).is_ok();
+    one && two
 }
 
 /// Two such tasks in a pool, whose thread sleeps while none of them is woken.
-pub fn pool_of<'a, R: RandomSource + AllocGlobal>(
+fn pool_of<'a, R: RandomSource + AllocGlobal>(
     rt: &R,
     first: Counted<'a>,
     second: Counted<'a>,
@@ -67,9 +82,31 @@ pub fn pool_of<'a, R: RandomSource + AllocGlobal>(
     requires first { CanWaitOwned first.wait }
     requires second { CanWaitOwned second.wait }
 {
-    let pool = LocalPool::with_doorbell(rt, Doorbell::parking()).ok()?;
-    let spawner = pool.spawner().ok()?;
-    spawner.spawn(first).ok()?;
-    spawner.spawn(second).ok()?;
-    Some(pool)
+    let Ok(pool) = LocalPool::with_doorbell(rt, Doorbell::parking()) else {
+        return None;
+    };
+    if spawn_both(&pool, first, second) {
+        Some(pool)
+    } else {
+        None
+    }
+}
+
+/// A pool of two tasks, by these passes, which wait for these values.
+pub fn pool_for<'a, R: RandomSource + AllocGlobal>(
+    rt: &R,
+    watched: WatchedBoard<'a>,
+    host: Pass,
+    submitter: Pass,
+    met: &'a AtomicU64,
+    values: (u64, u64),
+) -> Option<LocalPool<Counted<'a>>>
+    requires watched { IsWatched watched }
+    requires plan { IsOfTwoBatches (plan_at watched) }
+    requires host { IsOf watched.board.now host }
+    requires submitter { IsOf watched.board.now submitter }
+{
+    let first = task_of(rt, watched, host, met, values.0)?;
+    let second = task_of(rt, watched, submitter, met, values.1)?;
+    pool_of(rt, first, second)
 }

@@ -1,21 +1,33 @@
-//! Two threads: the one waits for A, the other makes the ring's steps and rings the bell.
+//! Two threads: in the one A is waited for, by one wait or by two tasks of one executor; the other makes the ring's
+//! steps and rings the bell.
 ghost use Rattle.std.specs.Prelude.{◌≡◌, []};
 ghost use Rattle.vq_board.specs.Named.{plan_of, IsOf};
 ghost use Rattle.vq_timeline_tests.specs.Acting.{HasRun};
 ghost use Rattle.vq_timeline_tests.specs.TwoBatches.{IsOfTwoBatches};
 ghost use Rattle.vq_poll.specs.Watching.{IsWatched, plan_at};
-ghost use Rattle.vq_poll_stage.specs.Scenes.{IsScene};
+ghost use Rattle.vq_poll_stage.specs.Scenes.{AreHandedOn, AreIdle, IsScene};
 
+use crate::asked::{Asked, is_so};
+use crate::pools::pool_for;
 use crate::waits::given_back;
 use std::alloc::AllocGlobal;
 use std::random::RandomSource;
 use std::sync::Wait;
+use std::sync::atomic::{AtomicU64, Ordering};
 use std::thread::{Threads, join};
 use vq_board::{Board, Pass};
-use vq_order::Ordered;
 use vq_poll::{Bell, Met, Pair, WatchedBoard};
-use vq_poll_stage::scene::{Scene, bell_of, planned, scene_of, timeline_of, watched_of};
-use vq_poll_stage::steps::{hand_both_on, run_both, submit_both};
+use vq_poll_stage::scene::{Actors, Scene, bell_of, hand_on};
+use vq_poll_stage::steps::run_both;
+
+/// What waits for A.
+#[derive(Clone, Copy)]
+pub(crate) enum Waiting {
+    /// One wait.
+    Alone,
+    /// Two tasks of one executor.
+    Tasks,
+}
 
 /// Whether a wait for 3 finds the first pair reached, with 7.
 #[tactic(auto, using(vq_poll_stage::proofs::Cited::one_first))]
@@ -35,6 +47,47 @@ fn finds_seven<R: Wait + RandomSource + AllocGlobal>(
     }
 }
 
+/// Runs two tasks to their end, which wait for 3 and for 7. It says whether both have found their value.
+fn find_both<R: Wait + RandomSource + AllocGlobal>(
+    rt: &R,
+    watched: WatchedBoard<'_>,
+    host: Pass,
+    submitter: Pass,
+) -> bool
+    requires watched { IsWatched watched }
+    requires plan { IsOfTwoBatches (plan_at watched) }
+    requires host { IsOf watched.board.now host }
+    requires submitter { IsOf watched.board.now submitter }
+{
+    let met = AtomicU64::new(0);
+    match pool_for(rt, watched, host, submitter, &met, (3, 7)) {
+        Some(mut pool) => {
+            pool.run(rt);
+            met.load(Ordering::SeqCst) == 2
+        }
+        None => false,
+    }
+}
+
+/// Whether what waits comes to its end.
+fn ends<R: Wait + RandomSource + AllocGlobal>(
+    rt: &R,
+    watched: WatchedBoard<'_>,
+    host: Pass,
+    submitter: Pass,
+    waiting: Waiting,
+) -> bool
+    requires watched { IsWatched watched }
+    requires plan { IsOfTwoBatches (plan_at watched) }
+    requires host { IsOf watched.board.now host }
+    requires submitter { IsOf watched.board.now submitter }
+{
+    match waiting {
+        Waiting::Alone => finds_seven(rt, watched, host),
+        Waiting::Tasks => find_both(rt, watched, host, submitter),
+    }
+}
+
 /// The steps of the ring, with its pass.
 fn run_ring(board: &Board, bell: &Bell, ring: Pass) -> bool
     requires plan { IsOfTwoBatches (plan_of board.now) }
@@ -49,6 +102,8 @@ fn wait_and_run<R: Threads + Wait + RandomSource + AllocGlobal + Sync>(
     rt: &R,
     watched: WatchedBoard<'_>,
     host: Pass,
+    submitter: Pass,
+    waiting: Waiting,
     board: &Board,
     bell: &Bell,
     ring: Pass,
@@ -56,6 +111,7 @@ fn wait_and_run<R: Threads + Wait + RandomSource + AllocGlobal + Sync>(
     requires watched { IsWatched watched }
     requires waits { IsOfTwoBatches (plan_at watched) }
     requires host { IsOf watched.board.now host }
+    requires submitter { IsOf watched.board.now submitter }
     requires plan { IsOfTwoBatches (plan_of board.now) }
     requires ring { HasRun board.now ring [] }
 {
@@ -65,7 +121,8 @@ fn wait_and_run<R: Threads + Wait + RandomSource + AllocGlobal + Sync>(
             requires watched { IsWatched watched }
             requires waits { IsOfTwoBatches (plan_at watched) }
             requires host { IsOf watched.board.now host }
-        { finds_seven(rt, watched, host) },
+            requires submitter { IsOf watched.board.now submitter }
+        { ends(rt, watched, host, submitter, waiting) },
         move || -> bool
             requires plan { IsOfTwoBatches (plan_of board.now) }
             requires ring { HasRun board.now ring [] }
@@ -73,47 +130,55 @@ fn wait_and_run<R: Threads + Wait + RandomSource + AllocGlobal + Sync>(
     )
 }
 
-/// The submits, and all that hands the batches on and binds their signals, and then the two threads. Where the wait
-/// finds 7 and the steps are made, the plan comes back.
-#[tactic(auto, using(vq_poll_stage::proofs::Cited::pass_kept, vq_poll_stage::proofs::Cited::timelines_kept))]
-fn in_two_threads<R: Threads + Wait + RandomSource + AllocGlobal + Sync>(
+/// Both on this board, where the batches are handed on.
+#[tactic(auto, using(vq_poll_stage::proofs::Cited::pass_kept))]
+fn end_both<R: Threads + Wait + RandomSource + AllocGlobal + Sync>(
     rt: &R,
-    scene: Scene,
-) -> Option<Ordered>
-    requires { IsScene scene }
+    watched: WatchedBoard<'_>,
+    scene: &Scene,
+    actors: Actors,
+    waiting: Waiting,
+) -> bool
+    requires watched { IsWatched watched }
+    requires plan { IsOfTwoBatches (plan_at watched) }
+    requires board { watched.board.now ≡ scene.now.board }
+    requires scene { IsScene scene.now }
+    requires actors { AreHandedOn scene.now.board actors }
 {
-    let Scene {
-        ordered,
-        board,
-        timelines,
-        bells,
-        mut host,
-        mut submitter,
+    let Actors {
+        host,
+        submitter,
         ring,
-    } = scene;
-    let (timelines, bells) = (timelines.as_slice(), bells.as_slice());
-    submit_both(&board, &mut host);
-    if !hand_both_on(rt, &board, timeline_of(&board, timelines), &mut submitter) {
-        return None;
-    }
-    let watched = watched_of(&ordered, &board, timelines, bells);
-    let done = wait_and_run(rt, watched, host, &board, bell_of(bells), ring);
-    if done != (true, true) {
-        return None;
-    }
-    Some(ordered)
+    } = actors;
+    let (board, bell) = (&scene.board, bell_of(scene));
+    wait_and_run(rt, watched, host, submitter, waiting, board, bell, ring) == (true, true)
 }
 
-/// All that again and again, each time on a board of its own. It says whether each wait ended.
-fn end_often<R: Threads + Wait + RandomSource + AllocGlobal + Sync>(rt: &R) -> Option<bool> {
-    let mut ordered = planned(rt.alloc())?;
-    for _ in 0..10_000u32 {
-        ordered = in_two_threads(rt, scene_of(rt.alloc(), ordered)?)?;
-    }
-    Some(true)
+/// The submits, and all that hands the batches on and binds their signals, and then the two threads. It says whether
+/// what waits finds its value, and the steps are made.
+pub(crate) fn ends_in_threads<R: Threads + Wait + RandomSource + AllocGlobal + Sync>(
+    rt: &R,
+    watched: WatchedBoard<'_>,
+    scene: &Scene,
+    actors: Actors,
+    waiting: Waiting,
+) -> bool
+    requires watched { IsWatched watched }
+    requires plan { IsOfTwoBatches (plan_at watched) }
+    requires board { watched.board.now ≡ scene.now.board }
+    requires scene { IsScene scene.now }
+    requires actors { AreIdle scene.now.board actors }
+{
+    let mut actors = actors;
+    hand_on(rt, scene, &mut actors) && end_both(rt, watched, scene, actors, waiting)
 }
 
 #[test]
 fn no_wait_sleeps_on(rt: HostRuntime) {
-    assert!(rt; end_often(&rt) == Some(true));
+    assert!(rt; is_so(&rt, Asked::Ends(Waiting::Alone), 10_000));
+}
+
+#[test]
+fn no_task_sleeps_on(rt: HostRuntime) {
+    assert!(rt; is_so(&rt, Asked::Ends(Waiting::Tasks), 10_000));
 }

@@ -1,41 +1,32 @@
 //! A wait that finds its value missing, and is polled again once it is woken.
-ghost use Rattle.std.specs.Prelude.{◌≡◌, true, [], length};
-ghost use Rattle.vq_board.specs.Named.{plan_of};
+ghost use Rattle.std.specs.Prelude.{◌≡◌, true, []};
+ghost use Rattle.vq_board.specs.Named.{IsOf};
 ghost use Rattle.vq_board_actors.specs.Holders.{HasReleased};
 ghost use Rattle.vq_timeline_tests.specs.Acting.{HasRun};
 ghost use Rattle.vq_timeline_tests.specs.TwoBatches.{IsOfTwoBatches};
 ghost use Rattle.vq_poll.specs.Waiting.{CanWaitLent};
-ghost use Rattle.vq_poll.specs.Watching.{AreTimelines};
-ghost use Rattle.vq_poll_stage.specs.Scenes.{IsScene};
+ghost use Rattle.vq_poll.specs.Watching.{IsWatched, plan_at};
+ghost use Rattle.vq_poll_stage.specs.Scenes.{AreIdle, IsScene};
 
+use crate::asked::{Asked, is_so};
 use futures::task::Poll;
 use futures::test::MockTask;
 use std::alloc::AllocGlobal;
 use std::random::RandomSource;
 use std::sync::Wait;
-use vq_board::{Board, Pass};
-use vq_poll::{Bell, Met, Pair, WaitMode, WaitPairs};
-use vq_poll_stage::scene::{Scene, bell_of, opened, timeline_of, watched_of};
+use vq_board::Pass;
+use vq_poll::{Met, Pair, WaitMode, WaitPairs, WatchedBoard};
+use vq_poll_stage::scene::{Actors, Scene, bell_of, timeline_of};
 use vq_poll_stage::steps::{hand_both_on, run_both, submit_both};
-use vq_timeline::LockedTimeline;
 
 /// All steps after the submits.
-fn run_all<R: Wait>(
-    rt: &R,
-    board: &Board,
-    timelines: &[LockedTimeline],
-    bells: &[Bell],
-    submitter: &mut Pass,
-    ring: &mut Pass,
-) -> bool
-    requires plan { IsOfTwoBatches (plan_of board.now) }
-    requires timelines { AreTimelines board.now timelines.now }
-    requires bells { length bells.now ≡ 1 }
-    requires submitter { HasReleased board.now submitter.old 0 [] }
-    requires ring { HasRun board.now ring.old [] }
+fn run_all<R: Wait>(rt: &R, scene: &Scene, submitter: &mut Pass, ring: &mut Pass) -> bool
+    requires scene { IsScene scene.now }
+    requires submitter { HasReleased scene.now.board submitter.old 0 [] }
+    requires ring { HasRun scene.now.board ring.old [] }
 {
-    hand_both_on(rt, board, timeline_of(board, timelines), submitter)
-        && run_both(board, bell_of(bells), ring)
+    hand_both_on(rt, &scene.board, timeline_of(scene), submitter)
+        && run_both(&scene.board, bell_of(scene), ring)
 }
 
 /// Polls the wait, and says whether it goes on and nothing has woken its task.
@@ -53,39 +44,74 @@ fn is_met(task: &MockTask, wait: &mut WaitPairs<'_>) -> bool
     task.is_woken() && matches!(task.poll(wait), Poll::Ready(Met { index: 0, value: 7 }))
 }
 
-/// Whether a wait that is polled after the submits alone rests, is woken by the other steps, and then finds its
-/// value.
-#[tactic(auto, using(vq_poll_stage::proofs::Cited::pairs_of_first, vq_poll_stage::proofs::Cited::one_first, vq_poll_stage::proofs::Cited::pass_kept, vq_poll_stage::proofs::Cited::timelines_kept))]
-fn is_woken<R: Wait + RandomSource + AllocGlobal>(rt: &R, scene: Scene) -> Option<bool>
-    requires scene { IsScene scene }
+/// Whether this wait rests, is woken by the steps after the submits, and then finds its value.
+fn goes_on<R: Wait>(
+    rt: &R,
+    scene: &Scene,
+    wait: &mut WaitPairs<'_>,
+    task: &MockTask,
+    submitter: &mut Pass,
+    ring: &mut Pass,
+) -> bool
+    requires scene { IsScene scene.now }
+    requires wait { CanWaitLent wait.old }
+    requires submitter { HasReleased scene.now.board submitter.old 0 [] }
+    requires ring { HasRun scene.now.board ring.old [] }
 {
-    let Scene {
-        ordered,
-        board,
-        timelines,
-        bells,
+    rests(task, wait) && run_all(rt, scene, submitter, ring) && is_met(task, wait)
+}
+
+/// Whether a wait by this pass does.
+#[tactic(auto, using(vq_poll_stage::proofs::Cited::pairs_of_first, vq_poll_stage::proofs::Cited::one_first))]
+fn is_woken<R: Wait + RandomSource + AllocGlobal>(
+    rt: &R,
+    watched: WatchedBoard<'_>,
+    host: &mut Pass,
+    scene: &Scene,
+    submitter: &mut Pass,
+    ring: &mut Pass,
+) -> bool
+    requires watched { IsWatched watched }
+    requires plan { IsOfTwoBatches (plan_at watched) }
+    requires host { IsOf watched.board.now host.old }
+    requires scene { IsScene scene.now }
+    requires submitter { HasReleased scene.now.board submitter.old 0 [] }
+    requires ring { HasRun scene.now.board ring.old [] }
+{
+    let Ok(task) = MockTask::new(rt) else {
+        return false;
+    };
+    let pairs = [Pair { chain: 0, value: 3 }];
+    match WaitPairs::new(rt.alloc(), watched, host, WaitMode::All, &pairs) {
+        Ok(mut wait) => goes_on(rt, scene, &mut wait, &task, submitter, ring),
+        Err(_) => false,
+    }
+}
+
+/// Whether a wait that is polled after the submits alone does.
+#[tactic(auto, using(vq_poll_stage::proofs::Cited::pass_kept))]
+pub(crate) fn wakes<R: Wait + RandomSource + AllocGlobal>(
+    rt: &R,
+    watched: WatchedBoard<'_>,
+    scene: &Scene,
+    actors: Actors,
+) -> bool
+    requires watched { IsWatched watched }
+    requires plan { IsOfTwoBatches (plan_at watched) }
+    requires board { watched.board.now ≡ scene.now.board }
+    requires scene { IsScene scene.now }
+    requires actors { AreIdle scene.now.board actors }
+{
+    let Actors {
         mut host,
         mut submitter,
         mut ring,
-    } = scene;
-    submit_both(&board, &mut host);
-    let (timelines, bells) = (timelines.as_slice(), bells.as_slice());
-    let watched = watched_of(&ordered, &board, timelines, bells);
-    let task = MockTask::new(rt).ok()?;
-    let pairs = [Pair { chain: 0, value: 3 }];
-    let mut wait = WaitPairs::new(rt.alloc(), watched, &mut host, WaitMode::All, &pairs).ok()?;
-    if !rests(&task, &mut wait) {
-        return Some(false);
-    }
-    let run = run_all(rt, &board, timelines, bells, &mut submitter, &mut ring);
-    Some(run && is_met(&task, &mut wait))
-}
-
-fn woken_once<R: Wait + RandomSource + AllocGlobal>(rt: &R) -> Option<bool> {
-    is_woken(rt, opened(rt.alloc())?)
+    } = actors;
+    submit_both(&scene.board, &mut host);
+    is_woken(rt, watched, &mut host, scene, &mut submitter, &mut ring)
 }
 
 #[test]
 fn a_wait_is_woken_by_the_bell(rt: HostRuntime) {
-    assert!(rt; woken_once(&rt) == Some(true));
+    assert!(rt; is_so(&rt, Asked::Wakes, 1));
 }
