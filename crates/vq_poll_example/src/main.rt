@@ -18,16 +18,8 @@ use std::thread::{Threads, join};
 use vq_board::{Board, Pass};
 use vq_order::Ordered;
 use vq_poll::{Bell, Met, Pair, WaitMode, WaitOwned, WatchedBoard};
-use vq_poll_stage::scene::{Actors, Scene, bell_of, hand_on, planned, scene_of, watched_of};
+use vq_poll_stage::scene::{Actors, Scene, bell_of, close, hand_on, planned, scene_of, watched_of};
 use vq_poll_stage::steps::run_both;
-
-/// What was found, without the pass.
-fn met_in(answer: Option<(Met, Pass)>) -> Option<Met> {
-    match answer {
-        Some((met, _pass)) => Some(met),
-        None => None,
-    }
-}
 
 /// Wait: `block_on` polls the wait, and again each time that the bell of A has rung, until A has come to 3. The pass
 /// comes back with the answer.
@@ -42,10 +34,9 @@ fn wait_for_three<R: Wait + RandomSource + AllocGlobal>(
     requires pass { IsOf watched.board.now pass }
 {
     let pairs = [Pair { chain: 0, value: 3 }];
-    match WaitOwned::new(rt.alloc(), watched, pass, WaitMode::All, &pairs) {
-        Ok(wait) => met_in(block_on(rt, wait).ok()),
-        Err(_) => None,
-    }
+    let wait = WaitOwned::new(rt.alloc(), watched, pass, WaitMode::All, &pairs).ok()?;
+    let (met, _pass) = block_on(rt, wait).ok()?;
+    Some(met)
 }
 
 /// Signal: the batches are run, which signal A with 2 and then with 7. The bell is rung after each signal.
@@ -138,7 +129,11 @@ fn told_of<R: Threads + Wait + RandomSource + AllocGlobal + Sync>(
     ordered: &Ordered,
 ) -> Option<Met> {
     match scene_of(rt.alloc(), ordered) {
-        Some((scene, actors)) => told_on(rt, watched_of(ordered, &scene), &scene, actors),
+        Some((scene, actors)) => {
+            let met = told_on(rt, watched_of(ordered, &scene), &scene, actors);
+            close(scene);
+            met
+        }
         None => None,
     }
 }

@@ -14,7 +14,7 @@ use std::sync::Wait;
 use std::thread::Threads;
 use vq_order::Ordered;
 use vq_poll::WatchedBoard;
-use vq_poll_stage::scene::{Actors, Scene, planned, scene_of, watched_of};
+use vq_poll_stage::scene::{Actors, Scene, close, planned, scene_of, watched_of};
 
 /// What is asked.
 #[derive(Clone, Copy)]
@@ -62,7 +62,9 @@ fn is_so_once<R: Threads + Wait + RandomSource + AllocGlobal + Sync>(
 ) -> bool {
     match scene_of(rt.alloc(), ordered) {
         Some((scene, actors)) => {
-            is_so_on(rt, watched_of(ordered, &scene), &scene, actors, asked)
+            let so = is_so_on(rt, watched_of(ordered, &scene), &scene, actors, asked);
+            close(scene);
+            so
         }
         None => false,
     }

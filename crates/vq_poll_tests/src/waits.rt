@@ -9,14 +9,34 @@ use futures::StreamExt;
 use futures::executor::block_on;
 use futures::task::Poll;
 use futures::test::MockTask;
-use std::alloc::AllocGlobal;
+use std::alloc::{AllocGlobal, Global};
 use std::random::RandomSource;
 use std::sync::Wait;
 use vq_board::Pass;
 use vq_poll::{Arrivals, Met, Pair, WaitMode, WaitOwned, WaitPairs, WatchedBoard};
 
-/// What a wait answers in one poll.
+/// What a wait answers this task in one poll.
 #[tactic(auto, using(vq_poll_stage::proofs::Cited::pairs_of_first))]
+fn polled_by(
+    alloc: Global,
+    task: &MockTask,
+    watched: WatchedBoard<'_>,
+    host: &mut Pass,
+    mode: WaitMode,
+    pairs: &[Pair],
+) -> Option<Poll<Met>>
+    requires watched { IsWatched watched }
+    requires plan { IsOfTwoBatches (plan_at watched) }
+    requires host { IsOf watched.board.now host.old }
+    requires pairs { AreOfFirst pairs.now }
+{
+    match WaitPairs::new(alloc, watched, host, mode, pairs) {
+        Ok(mut wait) => Some(task.poll(&mut wait)),
+        Err(_) => None,
+    }
+}
+
+/// What a wait answers in one poll.
 pub fn polled<R: RandomSource + AllocGlobal>(
     rt: &R,
     watched: WatchedBoard<'_>,
@@ -29,11 +49,8 @@ pub fn polled<R: RandomSource + AllocGlobal>(
     requires host { IsOf watched.board.now host.old }
     requires pairs { AreOfFirst pairs.now }
 {
-    let Ok(task) = MockTask::new(rt) else {
-        return None;
-    };
-    match WaitPairs::new(rt.alloc(), watched, host, mode, pairs) {
-        Ok(mut wait) => Some(task.poll(&mut wait)),
+    match MockTask::new(rt) {
+        Ok(task) => polled_by(rt.alloc(), &task, watched, host, mode, pairs),
         Err(_) => None,
     }
 }

@@ -61,8 +61,32 @@ fn goes_on<R: Wait>(
     rests(task, wait) && run_all(rt, scene, submitter, ring) && is_met(task, wait)
 }
 
-/// Whether a wait by this pass does.
+/// Whether a wait by this pass does, polled by this task.
 #[tactic(auto, using(vq_poll_stage::proofs::Cited::pairs_of_first, vq_poll_stage::proofs::Cited::one_first))]
+fn is_woken_by<R: Wait + AllocGlobal>(
+    rt: &R,
+    task: &MockTask,
+    watched: WatchedBoard<'_>,
+    host: &mut Pass,
+    scene: &Scene,
+    submitter: &mut Pass,
+    ring: &mut Pass,
+) -> bool
+    requires watched { IsWatched watched }
+    requires plan { IsOfTwoBatches (plan_at watched) }
+    requires host { IsOf watched.board.now host.old }
+    requires scene { IsScene scene.now }
+    requires submitter { HasReleased scene.now.board submitter.old 0 [] }
+    requires ring { HasRun scene.now.board ring.old [] }
+{
+    let pairs = [Pair { chain: 0, value: 3 }];
+    match WaitPairs::new(rt.alloc(), watched, host, WaitMode::All, &pairs) {
+        Ok(mut wait) => goes_on(rt, scene, &mut wait, task, submitter, ring),
+        Err(_) => false,
+    }
+}
+
+/// The same by a task of its own.
 fn is_woken<R: Wait + RandomSource + AllocGlobal>(
     rt: &R,
     watched: WatchedBoard<'_>,
@@ -78,12 +102,8 @@ fn is_woken<R: Wait + RandomSource + AllocGlobal>(
     requires submitter { HasReleased scene.now.board submitter.old 0 [] }
     requires ring { HasRun scene.now.board ring.old [] }
 {
-    let Ok(task) = MockTask::new(rt) else {
-        return false;
-    };
-    let pairs = [Pair { chain: 0, value: 3 }];
-    match WaitPairs::new(rt.alloc(), watched, host, WaitMode::All, &pairs) {
-        Ok(mut wait) => goes_on(rt, scene, &mut wait, &task, submitter, ring),
+    match MockTask::new(rt) {
+        Ok(task) => is_woken_by(rt, &task, watched, host, scene, submitter, ring),
         Err(_) => false,
     }
 }
