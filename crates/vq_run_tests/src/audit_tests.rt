@@ -1,7 +1,6 @@
 //! Traces that follow a script, and are judged.
-use crate::run_tests::each_ends;
-use std::alloc::{AllocError, Global};
-use std::test::Fail;
+use crate::cases::each_ends;
+use crate::pieces::{Piece, pieces_end};
 use vq_run::Status;
 
 /// A script whose batches use a point again, its trace up to turn 16, and the rest of the trace.
@@ -23,20 +22,12 @@ const ITS_END: &str = "\
 const FREED_EARLY: &str = "\
 17 S:P free 0\n18 R:Q unref 0 A 1\n19 host submit 15\n20 S:P free 0\n21 S:P take A 3 reused 0\nunfinished 3\n";
 
-/// The words of an audit.
-fn audit(alloc: Global) -> Result<Vec<String>, AllocError> {
-    let mut words = Vec::new(alloc);
-    words.push(String::from_str(alloc, "--audit")?)?;
-    Ok(words)
-}
-
 #[test]
-fn traces_are_judged(rt: HostRuntime) -> Result<(), Fail> {
-    let words = audit(rt.alloc())?;
+fn traces_are_judged(rt: HostRuntime) {
     each_ends(
         &rt,
         rt.alloc(),
-        words.as_slice(),
+        &["--audit"],
         Status::Done,
         &[
             (
@@ -65,33 +56,26 @@ fn traces_are_judged(rt: HostRuntime) -> Result<(), Fail> {
             ),
             ("trace # here\nfinished\nend\nend\n", "broken: line 4\n"),
         ],
-    )
+    );
 }
 
 #[test]
-fn points_are_freed_without_references(rt: HostRuntime) -> Result<(), Fail> {
-    let words = audit(rt.alloc())?;
-    let lawful = format!(in rt.alloc(); "{REUSED_POINT}{ITS_END}")?;
-    let broken = format!(in rt.alloc(); "{REUSED_POINT}{FREED_EARLY}")?;
-    each_ends(
-        &rt,
-        rt.alloc(),
-        words.as_slice(),
-        Status::Done,
-        &[
-            (lawful.as_str(), "lawful\n"),
-            (broken.as_str(), "broken: line 35\n"),
-        ],
-    )
+fn points_are_freed_without_references(rt: HostRuntime) {
+    for (rest, verdict) in [(ITS_END, "lawful\n"), (FREED_EARLY, "broken: line 35\n")].as_slice() {
+        let input = [Piece::Once(REUSED_POINT), Piece::Once(rest)];
+        assert!(rt;
+            pieces_end(&rt, rt.alloc(), &["--audit"], &input, verdict, Status::Done),
+            "{rest:?}"
+        );
+    }
 }
 
 #[test]
-fn faulty_traces_are_refused(rt: HostRuntime) -> Result<(), Fail> {
-    let words = audit(rt.alloc())?;
+fn faulty_traces_are_refused(rt: HostRuntime) {
     each_ends(
         &rt,
         rt.alloc(),
-        words.as_slice(),
+        &["--audit"],
         Status::Refused,
         &[
             ("queue Q threaded\nsubmit Q\nend\n", "error: no trace\n"),
@@ -115,5 +99,5 @@ fn faulty_traces_are_refused(rt: HostRuntime) -> Result<(), Fail> {
                 "error: trace: line 6\n",
             ),
         ],
-    )
+    );
 }

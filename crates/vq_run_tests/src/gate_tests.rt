@@ -1,8 +1,11 @@
 //! Runs in which a gate holds actors, so that each answer but one is ruled out.
-use crate::run_tests::answers_at;
+use crate::cases::{Case, ends_at};
+use std::alloc::Global;
 use std::hint;
+use std::marker::Sync;
+use std::sync::Wait;
 use std::sync::atomic::{AtomicBool, Ordering};
-use std::test::Fail;
+use std::thread::Threads;
 use vq_model::script::ActorName;
 use vq_rings::Gate;
 use vq_run::Status;
@@ -99,6 +102,30 @@ impl Gate for HoldsTwice {
     }
 }
 
+/// Whether a run with this gate is done and writes this text.
+fn gives<'a, R: Threads + Wait + Sync, G: Gate>(
+    rt: &R,
+    alloc: Global,
+    input: &'a [u8],
+    text: &'a [u8],
+    gate: &G,
+) -> bool {
+    ends_at(rt, alloc, &Case::new(&[], input, text, Status::Done), gate)
+}
+
+/// Whether a run gives this text, with an actor held at a turn until another has come to one.
+fn gives_held<R: Threads + Wait + Sync>(
+    rt: &R,
+    alloc: Global,
+    input: &[u8],
+    text: &[u8],
+    held: (ActorName, u64),
+    until: (ActorName, u64),
+) -> bool {
+    let gate = Holds::new(held, until);
+    gives(rt, alloc, input, text, &gate) && gate.was_met()
+}
+
 /// Two queues with a batch each, neither of which waits for the other.
 const APART: &[u8] = b"queue P threaded
 queue Q threaded
@@ -109,21 +136,15 @@ end
 ";
 
 #[test]
-fn first_ring_waits_for_the_second(rt: HostRuntime) -> Result<(), Fail> {
-    let gate = Holds::new((ActorName::Ring(0), 0), (ActorName::Ring(1), 0));
-    let done = Status::Done;
-    assert!(rt; answers_at(&rt, rt.alloc(), &[], APART, b"end\n", done, &gate)?);
-    assert!(rt; gate.was_met());
-    Ok(())
+fn first_ring_waits_for_the_second(rt: HostRuntime) {
+    let (first, second) = ((ActorName::Ring(0), 0), (ActorName::Ring(1), 0));
+    assert!(rt; gives_held(&rt, rt.alloc(), APART, b"end\n", first, second));
 }
 
 #[test]
-fn second_ring_waits_for_the_first(rt: HostRuntime) -> Result<(), Fail> {
-    let gate = Holds::new((ActorName::Ring(1), 0), (ActorName::Ring(0), 0));
-    let done = Status::Done;
-    assert!(rt; answers_at(&rt, rt.alloc(), &[], APART, b"end\n", done, &gate)?);
-    assert!(rt; gate.was_met());
-    Ok(())
+fn second_ring_waits_for_the_first(rt: HostRuntime) {
+    let (first, second) = ((ActorName::Ring(0), 0), (ActorName::Ring(1), 0));
+    assert!(rt; gives_held(&rt, rt.alloc(), APART, b"end\n", second, first));
 }
 
 /// A read beside the batch that signals what is read.
@@ -135,26 +156,30 @@ end
 host read A
 ";
 
-#[test]
-fn reads_see_a_signal_that_came_before(rt: HostRuntime) -> Result<(), Fail> {
-    // The host submits, takes a point, releases and binds, and reads from turn 4 on; the ring starts and signals.
+/// Whether a run gives this text, with the ring held until the host has come to its turn 4, and the host there until
+/// the ring has come to its turn 2.
+fn gives_held_twice<R: Threads + Wait + Sync>(
+    rt: &R,
+    alloc: Global,
+    input: &[u8],
+    text: &[u8],
+) -> bool {
     let gate = HoldsTwice {
         first: Holds::new((ActorName::Ring(0), 0), (ActorName::Host, 4)),
         second: Holds::new((ActorName::Host, 4), (ActorName::Ring(0), 2)),
     };
-    let done = Status::Done;
-    assert!(rt; answers_at(&rt, rt.alloc(), &[], READ, b"6 value 9\nend\n", done, &gate)?);
-    assert!(rt; gate.first.was_met());
-    assert!(rt; gate.second.was_met());
-    Ok(())
+    gives(rt, alloc, input, text, &gate) && gate.first.was_met() && gate.second.was_met()
 }
 
 #[test]
-fn reads_miss_a_signal_that_comes_later(rt: HostRuntime) -> Result<(), Fail> {
+fn reads_see_a_signal_that_came_before(rt: HostRuntime) {
+    // The host submits, takes a point, releases and binds, and reads from turn 4 on; the ring starts and signals.
+    assert!(rt; gives_held_twice(&rt, rt.alloc(), READ, b"6 value 9\nend\n"));
+}
+
+#[test]
+fn reads_miss_a_signal_that_comes_later(rt: HostRuntime) {
     // At turn 6 the host has started the read and answered it.
-    let gate = Holds::new((ActorName::Ring(0), 0), (ActorName::Host, 6));
-    let done = Status::Done;
-    assert!(rt; answers_at(&rt, rt.alloc(), &[], READ, b"6 value 0\nend\n", done, &gate)?);
-    assert!(rt; gate.was_met());
-    Ok(())
+    let (ring, host) = ((ActorName::Ring(0), 0), (ActorName::Host, 6));
+    assert!(rt; gives_held(&rt, rt.alloc(), READ, b"6 value 0\nend\n", ring, host));
 }

@@ -1,8 +1,11 @@
 //! Scripts with steps of the host: their answers, their faults and their replays.
 
-use crate::run_tests::{each_ends, replay};
-use std::alloc::{AllocError, Global};
-use std::test::Fail;
+use crate::cases::each_ends;
+use crate::pieces::{Piece, pieces_end};
+use std::alloc::Global;
+use std::marker::Sync;
+use std::sync::Wait;
+use std::thread::Threads;
 use vq_run::Status;
 
 /// Three queues and three frames in flight: the first three frames of four.
@@ -121,24 +124,39 @@ buffer O2 16
 end
 ";
 
-/// Four frames, with these lines before the fourth.
-fn frames(alloc: Global, before_fourth: &str) -> Result<String, AllocError> {
-    let mut text = String::from_str(alloc, FRAMES)?;
-    text.push_str(before_fourth)?;
-    text.push_str(FOURTH_FRAME)?;
-    Ok(text)
+/// Whether a run of the four frames, with these lines before the fourth, writes this text and ends so.
+fn frames_end<R: Threads + Wait + Sync>(
+    rt: &R,
+    alloc: Global,
+    before_fourth: &str,
+    text: &str,
+    status: Status,
+) -> bool {
+    let frames = [
+        Piece::Once(FRAMES),
+        Piece::Once(before_fourth),
+        Piece::Once(FOURTH_FRAME),
+    ];
+    pieces_end(rt, alloc, &[], &frames, text, status)
 }
 
 #[test]
-fn host_steps_are_answered(rt: HostRuntime) -> Result<(), Fail> {
-    let four_frames = frames(rt.alloc(), FIRST_FRAME_IS_OVER)?;
+fn frames_are_answered(rt: HostRuntime) {
+    let before_fourth = FIRST_FRAME_IS_OVER;
+    assert!(rt; frames_end(&rt, rt.alloc(), before_fourth, FRAMES_DONE, Status::Done));
+    // the frames without the wait and the reset of their first fence
+    let text = "error: fence used: line 83\n";
+    assert!(rt; frames_end(&rt, rt.alloc(), "", text, Status::Refused));
+}
+
+#[test]
+fn host_steps_are_answered(rt: HostRuntime) {
     each_ends(
         &rt,
         rt.alloc(),
         &[],
         Status::Done,
         &[
-            (four_frames.as_str(), FRAMES_DONE),
             // a wait that several signals reach, and a read after all of them
             (
                 "timeline A 0
@@ -283,12 +301,11 @@ host wait all A 1 A 2
                 "8 ok\n13 ok\nbuffer X 4\n02000000\nend\n",
             ),
         ],
-    )
+    );
 }
 
 #[test]
-fn host_steps_are_refused(rt: HostRuntime) -> Result<(), Fail> {
-    let four_frames = frames(rt.alloc(), "")?;
+fn host_steps_are_refused(rt: HostRuntime) {
     each_ends(
         &rt,
         rt.alloc(),
@@ -313,8 +330,6 @@ host signal A 18446744073709551615
 ",
                 "error: unordered: lines 3 and 3\n",
             ),
-            // the frames without the wait and the reset of their first fence
-            (four_frames.as_str(), "error: fence used: line 83\n"),
             // a reset of a fence that may be in use
             (
                 "buffer X 4
@@ -373,16 +388,15 @@ end
             // a fence is no timeline
             ("fence F\nhost wait any F 1\n", "error: name: line 2\n"),
         ],
-    )
+    );
 }
 
 #[test]
-fn host_steps_are_replayed(rt: HostRuntime) -> Result<(), Fail> {
-    let words = replay(rt.alloc())?;
+fn host_steps_are_replayed(rt: HostRuntime) {
     each_ends(
         &rt,
         rt.alloc(),
-        words.as_slice(),
+        &["--replay"],
         Status::Done,
         &[
             // a host signal goes through a point, and a read collects it
@@ -492,5 +506,5 @@ end
 ",
             ),
         ],
-    )
+    );
 }

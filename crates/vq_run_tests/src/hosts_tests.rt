@@ -1,23 +1,13 @@
 //! Scripts in which further host threads stand in blocks.
-use crate::run_tests::each_ends;
-use std::alloc::{AllocError, Global};
-use std::test::Fail;
+use crate::cases::each_ends;
 use vq_run::Status;
 
-/// The words of a run with several host threads.
-fn hosts(alloc: Global) -> Result<Vec<String>, AllocError> {
-    let mut words = Vec::new(alloc);
-    words.push(String::from_str(alloc, "--hosts")?)?;
-    Ok(words)
-}
-
 #[test]
-fn threads_signal_and_wait(rt: HostRuntime) -> Result<(), Fail> {
-    let words = hosts(rt.alloc())?;
+fn threads_signal_and_wait(rt: HostRuntime) {
     each_ends(
         &rt,
         rt.alloc(),
-        words.as_slice(),
+        &["--hosts"],
         Status::Done,
         &[
             (
@@ -33,16 +23,15 @@ fn threads_signal_and_wait(rt: HostRuntime) -> Result<(), Fail> {
             // threads without lines, and a version behind them
             ("thread T\nend\nversion 2\nthread U\nend\n", "end\n"),
         ],
-    )
+    );
 }
 
 #[test]
-fn faulty_threads_are_refused(rt: HostRuntime) -> Result<(), Fail> {
-    let words = hosts(rt.alloc())?;
+fn faulty_threads_are_refused(rt: HostRuntime) {
     each_ends(
         &rt,
         rt.alloc(),
-        words.as_slice(),
+        &["--hosts"],
         Status::Refused,
         &[
             (
@@ -65,5 +54,5 @@ fn faulty_threads_are_refused(rt: HostRuntime) -> Result<(), Fail> {
                 "error: unordered: lines 3 and 7\n",
             ),
         ],
-    )
+    );
 }

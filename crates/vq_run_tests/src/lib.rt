@@ -4,6 +4,8 @@
 #[cfg(test)]
 mod audit_tests;
 #[cfg(test)]
+mod cases;
+#[cfg(test)]
 mod gate_tests;
 #[cfg(test)]
 mod host_tests;
@@ -13,6 +15,8 @@ mod hosts_tests;
 mod limit_tests;
 #[cfg(test)]
 mod mode_tests;
+#[cfg(test)]
+mod pieces;
 #[cfg(test)]
 mod port_tests;
 #[cfg(test)]

@@ -1,7 +1,5 @@
 //! Generated scripts, and queues of each mode.
-use crate::run_tests::{each_ends, replay};
-use std::alloc::{AllocError, Global};
-use std::test::Fail;
+use crate::cases::{each_ends, refuses_words};
 use vq_run::Status;
 
 // The buffers that the generated scripts leave, by the rule that each word is passed on from queue to queue: after r
@@ -92,64 +90,37 @@ a2070000a5070000a8070000af070000\n\
 b2070000b5070000b8070000bf070000\n\
 end\n";
 
-/// Some words.
-fn words_of(alloc: Global, words: &[&str]) -> Result<Vec<String>, AllocError> {
-    let mut made = Vec::new(alloc);
-    for word in words {
-        made.push(String::from_str(alloc, word)?)?;
+#[test]
+fn generated_scripts_are_run(rt: HostRuntime) {
+    // The input isn't read, so it may be anything.
+    let (one, most) = (&["--generate", "001"], &["--generate=500"]);
+    each_ends(&rt, rt.alloc(), one, Status::Done, &[("x\n", ONE_ROUND)]);
+    each_ends(&rt, rt.alloc(), most, Status::Done, &[("x\n", MOST_ROUNDS)]);
+}
+
+const OTHER_WORDS: &[&[&str]] = &[
+    &["--generate", "0"],
+    &["--generate=501"],
+    &["--generate"],
+    &["--check", "--replay"],
+    &["--generate=5", "--check"],
+    &["--upgrade", "--check"],
+    &["--upgrade=2"],
+];
+
+#[test]
+fn other_words_are_refused(rt: HostRuntime) {
+    for words in OTHER_WORDS {
+        assert!(rt; refuses_words(&rt, rt.alloc(), words, ""), "{words:?}");
     }
-    Ok(made)
 }
 
 #[test]
-fn generated_scripts_are_run(rt: HostRuntime) -> Result<(), Fail> {
-    for (words, text) in [
-        (&["--generate", "001"] as &[&str], ONE_ROUND),
-        (&["--generate=500"], MOST_ROUNDS),
-    ] {
-        let words = words_of(rt.alloc(), words)?;
-        // The input isn't read, so it may be anything.
-        each_ends(
-            &rt,
-            rt.alloc(),
-            words.as_slice(),
-            Status::Done,
-            &[("x\n", text)],
-        )?;
-    }
-    Ok(())
-}
-
-#[test]
-fn other_words_are_refused(rt: HostRuntime) -> Result<(), Fail> {
-    for words in [
-        &["--generate", "0"] as &[&str],
-        &["--generate=501"],
-        &["--generate"],
-        &["--check", "--replay"],
-        &["--generate=5", "--check"],
-        &["--upgrade", "--check"],
-        &["--upgrade=2"],
-    ] {
-        let words = words_of(rt.alloc(), words)?;
-        each_ends(
-            &rt,
-            rt.alloc(),
-            words.as_slice(),
-            Status::BadWords,
-            &[("", "error: words\n")],
-        )?;
-    }
-    Ok(())
-}
-
-#[test]
-fn rounds_are_played(rt: HostRuntime) -> Result<(), Fail> {
-    let words = words_of(rt.alloc(), &["--rounds"])?;
+fn rounds_are_played(rt: HostRuntime) {
     each_ends(
         &rt,
         rt.alloc(),
-        words.as_slice(),
+        &["--rounds"],
         Status::Done,
         &[
             ("", "finished\nend\n"),
@@ -166,7 +137,7 @@ fn rounds_are_played(rt: HostRuntime) -> Result<(), Fail> {
                  49 R:P finish 6\nfinished\nbuffer X 8\n0d0c0b0a0d0c0b0a\nbuffer Y 8\n0d0c0b0a0d0c0b0a\nend\n",
             ),
         ],
-    )
+    );
 }
 
 /// A script of the first version, and the same as it is written in the second.
@@ -179,12 +150,11 @@ const SECOND_VERSION: &str =
     fill X 0 whole 0x00000001\nend\n";
 
 #[test]
-fn scripts_are_upgraded(rt: HostRuntime) -> Result<(), Fail> {
-    let words = words_of(rt.alloc(), &["--upgrade"])?;
+fn scripts_are_upgraded(rt: HostRuntime) {
     each_ends(
         &rt,
         rt.alloc(),
-        words.as_slice(),
+        &["--upgrade"],
         Status::Done,
         &[
             ("", "version 2\n"),
@@ -192,11 +162,11 @@ fn scripts_are_upgraded(rt: HostRuntime) -> Result<(), Fail> {
             // the text of an upgrade is its own upgrade
             (SECOND_VERSION, SECOND_VERSION),
         ],
-    )?;
+    );
     each_ends(
         &rt,
         rt.alloc(),
-        words.as_slice(),
+        &["--upgrade"],
         Status::Refused,
         &[
             (
@@ -210,11 +180,11 @@ fn scripts_are_upgraded(rt: HostRuntime) -> Result<(), Fail> {
                 "error: syntax: line 4\n",
             ),
         ],
-    )
+    );
 }
 
 #[test]
-fn immediate_batches_wait_for_what_is_pending(rt: HostRuntime) -> Result<(), Fail> {
+fn immediate_batches_wait_for_what_is_pending(rt: HostRuntime) {
     each_ends(
         &rt,
         rt.alloc(),
@@ -232,7 +202,7 @@ fn immediate_batches_wait_for_what_is_pending(rt: HostRuntime) -> Result<(), Fai
                 "error: not pending: line 8\n",
             ),
         ],
-    )?;
+    );
     each_ends(
         &rt,
         rt.alloc(),
@@ -249,11 +219,11 @@ fn immediate_batches_wait_for_what_is_pending(rt: HostRuntime) -> Result<(), Fai
                 "7 ok\nend\n",
             ),
         ],
-    )
+    );
 }
 
 #[test]
-fn deferred_queues_are_served_by_the_host(rt: HostRuntime) -> Result<(), Fail> {
+fn deferred_queues_are_served_by_the_host(rt: HostRuntime) {
     each_ends(
         &rt,
         rt.alloc(),
@@ -263,17 +233,16 @@ fn deferred_queues_are_served_by_the_host(rt: HostRuntime) -> Result<(), Fail> {
             "timeline A 0\nqueue P deferred\nqueue Q threaded\nsubmit P\nwait A 1\nend\nsubmit Q\nsignal A 1\nend\n",
             "end\n",
         )],
-    )?;
-    let words = replay(rt.alloc())?;
+    );
     each_ends(
         &rt,
         rt.alloc(),
-        words.as_slice(),
+        &["--replay"],
         Status::Done,
         &[(
             "timeline A 0\nqueue P deferred\nsubmit P\nsignal A 1\nend\nschedule\nhost 5\nR:P 4\n",
             "1 host submit 3\n2 host take A 1 fresh 0\n3 host release 3\n4 host bind A 1 0\n5 host .\n\
              6 R:P start 3\n7 R:P signal A 1\n8 R:P finish 3\n9 R:P .\nfinished\nend\n",
         )],
-    )
+    );
 }

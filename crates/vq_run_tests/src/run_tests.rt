@@ -1,79 +1,14 @@
 //! Scripts, with what a run of each writes and how it ends.
-use std::alloc::{AllocError, Global};
-use std::marker::Sync;
-use std::process::Abort;
-use std::sync::Wait;
-use std::test::Fail;
-use std::thread::Threads;
-use vq_port::{MemorySink, MemorySource};
-use vq_rings::{Gate, OpenGate};
-use vq_run::{Status, run};
-
-pub(crate) const FILL: &str =
-    "buffer X 8\nqueue Q immediate\nsubmit Q\nfill X 0 8 0x01020304\nend\n";
-
-pub(crate) const FILLED: &str = "buffer X 8\n0403020104030201\nend\n";
-
-/// Whether a run over memory, with this gate, writes this text and ends so.
-pub(crate) fn answers_at<R: Threads + Wait + Sync, G: Gate>(
-    rt: &R,
-    alloc: Global,
-    words: &[String],
-    input: &[u8],
-    text: &[u8],
-    status: Status,
-    gate: &G,
-) -> Result<bool, AllocError> {
-    let mut sink = MemorySink::new(alloc, 4096, Vec::new(alloc))?;
-    let mut source = MemorySource::new(input.to_vec(alloc)?, 4096, Vec::new(alloc));
-    let ended = run(rt, alloc, words, &mut source, &mut sink, gate);
-    Ok(ended == status && sink.written() == text)
-}
-
-/// Whether a run over memory writes this text and ends so.
-fn answers<R: Threads + Wait + Sync>(
-    rt: &R,
-    alloc: Global,
-    words: &[String],
-    input: &[u8],
-    text: &[u8],
-    status: Status,
-) -> Result<bool, AllocError> {
-    answers_at(rt, alloc, words, input, text, status, &OpenGate)
-}
-
-/// Runs each input, and compares the text that is written and how the run ends.
-pub(crate) fn each_ends<R: Threads + Wait + Abort + Sync>(
-    rt: &R,
-    alloc: Global,
-    words: &[String],
-    status: Status,
-    rows: &[(&str, &str)],
-) -> Result<(), Fail> {
-    for (input, text) in rows {
-        let is_right = answers(rt, alloc, words, input.as_bytes(), text.as_bytes(), status)?;
-        assert!(rt; is_right, "{input:?}");
-    }
-    Ok(())
-}
-
-/// The word `--check`.
-fn check(alloc: Global) -> Result<Vec<String>, AllocError> {
-    Ok(vec![in alloc; String::from_str(alloc, "--check")?]?)
-}
-
-/// The word `--replay`.
-pub(crate) fn replay(alloc: Global) -> Result<Vec<String>, AllocError> {
-    Ok(vec![in alloc; String::from_str(alloc, "--replay")?]?)
-}
+use crate::cases::{FILL, FILLED, each_ends, refuses_words};
+use crate::pieces::{Piece, pieces_end, pieces_give};
+use vq_run::Status;
 
 #[test]
-fn schedules_are_replayed(rt: HostRuntime) -> Result<(), Fail> {
-    let words = replay(rt.alloc())?;
+fn schedules_are_replayed(rt: HostRuntime) {
     each_ends(
         &rt,
         rt.alloc(),
-        words.as_slice(),
+        &["--replay"],
         Status::Done,
         &[
             (
@@ -86,11 +21,11 @@ fn schedules_are_replayed(rt: HostRuntime) -> Result<(), Fail> {
                  finished\nbuffer X 4\n07000000\nend\n",
             ),
         ],
-    )
+    );
 }
 
 #[test]
-fn scripts_are_run(rt: HostRuntime) -> Result<(), Fail> {
+fn scripts_are_run(rt: HostRuntime) {
     each_ends(
         &rt,
         rt.alloc(),
@@ -119,11 +54,11 @@ end",
                 "buffer X 20\nffffffffb2a10000b2a10000ffffffff\nffffffff\nend\n",
             ),
         ],
-    )
+    );
 }
 
 #[test]
-fn commands_leave_bytes(rt: HostRuntime) -> Result<(), Fail> {
+fn commands_leave_bytes(rt: HostRuntime) {
     each_ends(
         &rt,
         rt.alloc(),
@@ -151,11 +86,11 @@ end",
                 "buffer Y 5\n0000ff00b1\nbuffer X 4\n0aff00b1\nend\n",
             ),
         ],
-    )
+    );
 }
 
 #[test]
-fn faulty_lines_are_refused(rt: HostRuntime) -> Result<(), Fail> {
+fn faulty_lines_are_refused(rt: HostRuntime) {
     each_ends(
         &rt,
         rt.alloc(),
@@ -174,11 +109,11 @@ fn faulty_lines_are_refused(rt: HostRuntime) -> Result<(), Fail> {
             ),
             ("host idle A\n", "error: syntax: line 1\n"),
         ],
-    )
+    );
 }
 
 #[test]
-fn first_kinds_are_named(rt: HostRuntime) -> Result<(), Fail> {
+fn first_kinds_are_named(rt: HostRuntime) {
     each_ends(
         &rt,
         rt.alloc(),
@@ -199,7 +134,7 @@ fn first_kinds_are_named(rt: HostRuntime) -> Result<(), Fail> {
                 "error: overlap: line 5\n",
             ),
         ],
-    )
+    );
 }
 
 /// Q writes X, and P copies it once that is done.
@@ -219,7 +154,7 @@ end
 ";
 
 #[test]
-fn queues_wait_for_each_other(rt: HostRuntime) -> Result<(), Fail> {
+fn queues_wait_for_each_other(rt: HostRuntime) {
     each_ends(
         &rt,
         rt.alloc(),
@@ -272,11 +207,11 @@ end
                 "buffer X 4\n05000000\nend\n",
             ),
         ],
-    )
+    );
 }
 
 #[test]
-fn unreached_waits_are_refused(rt: HostRuntime) -> Result<(), Fail> {
+fn unreached_waits_are_refused(rt: HostRuntime) {
     each_ends(
         &rt,
         rt.alloc(),
@@ -306,11 +241,11 @@ end
                 "error: unreachable: line 4\n",
             ),
         ],
-    )
+    );
 }
 
 #[test]
-fn scripts_without_a_plan_are_refused(rt: HostRuntime) -> Result<(), Fail> {
+fn scripts_without_a_plan_are_refused(rt: HostRuntime) {
     each_ends(
         &rt,
         rt.alloc(),
@@ -331,130 +266,70 @@ fn scripts_without_a_plan_are_refused(rt: HostRuntime) -> Result<(), Fail> {
                 "error: fence used: line 7\n",
             ),
         ],
-    )
-}
-
-/// A script with an update of so many bytes.
-fn update(alloc: Global, count: usize) -> Result<Vec<u8>, AllocError> {
-    let head = b"buffer X 65540\nqueue Q immediate\nsubmit Q\nupdate X 0 ";
-    let mut script = Vec::from_slice(alloc, head)?;
-    for _ in 0..count {
-        script.extend_from_slice(b"ab")?;
-    }
-    script.extend_from_slice(b"\nend\n")?;
-    Ok(script)
-}
-
-/// The text of the buffer after an update of 65,536 bytes.
-fn updated(alloc: Global) -> Result<Vec<u8>, AllocError> {
-    let mut text = Vec::from_slice(alloc, b"buffer X 65540\n")?;
-    for _ in 0..4096 {
-        text.extend_from_slice(b"abababababababababababababababab\n")?;
-    }
-    text.extend_from_slice(b"00000000\nend\n")?;
-    Ok(text)
-}
-
-#[test]
-fn updates_have_a_greatest_size(rt: HostRuntime) -> Result<(), Fail> {
-    let alloc = rt.alloc();
-    let (most, text) = (update(alloc, 65_536)?, updated(alloc)?);
-    assert!(rt;
-        answers(
-            &rt,
-            alloc,
-            &[],
-            most.as_slice(),
-            text.as_slice(),
-            Status::Done
-        )?
     );
-    let more = update(alloc, 65_540)?;
-    assert!(rt;
-        answers(
-            &rt,
-            alloc,
-            &[],
-            more.as_slice(),
-            b"error: range: line 4\n",
-            Status::Refused
-        )?
-    );
-    Ok(())
 }
 
-/// Whether a run with one word or two says that the words are wrong.
-fn refuses_words<R: Threads + Wait + Sync>(
-    rt: &R,
-    alloc: Global,
-    first: &str,
-    second: Option<&str>,
-) -> Result<bool, AllocError> {
-    let mut words = vec![in alloc; String::from_str(alloc, first)?]?;
-    if let Some(word) = second {
-        words.push(String::from_str(alloc, word)?)?;
+/// What stands before the bytes of an update.
+const UPDATE: Piece = Piece::Once("buffer X 65540\nqueue Q immediate\nsubmit Q\nupdate X 0 ");
+
+#[test]
+fn updates_have_a_greatest_size(rt: HostRuntime) {
+    let end = Piece::Once("\nend\n");
+    let most = [UPDATE, Piece::Times(65_536, "ab"), end];
+    let updated = [
+        Piece::Once("buffer X 65540\n"),
+        Piece::Times(4096, "abababababababababababababababab\n"),
+        Piece::Once("00000000\nend\n"),
+    ];
+    assert!(rt; pieces_give(&rt, rt.alloc(), &most, &updated));
+    let more = [UPDATE, Piece::Times(65_540, "ab"), end];
+    let text = "error: range: line 4\n";
+    assert!(rt; pieces_end(&rt, rt.alloc(), &[], &more, text, Status::Refused));
+}
+
+const OTHER_WORDS: &[&[&str]] = &[
+    &[""],
+    &["--chec"],
+    &["--check "],
+    &["check"],
+    &["--check", "--check"],
+    &["", "--check"],
+];
+
+#[test]
+fn words_are_refused(rt: HostRuntime) {
+    for words in OTHER_WORDS {
+        assert!(rt; refuses_words(&rt, rt.alloc(), words, FILL), "{words:?}");
     }
-    answers(
-        rt,
-        alloc,
-        words.as_slice(),
-        FILL.as_bytes(),
-        b"error: words\n",
-        Status::BadWords,
-    )
+}
+
+/// The longest input, a comment.
+const LONGEST: Piece = Piece::Times(
+    65_536,
+    "################################################################",
+);
+
+#[test]
+fn long_inputs_are_refused(rt: HostRuntime) {
+    assert!(rt; pieces_end(&rt, rt.alloc(), &[], &[LONGEST], "end\n", Status::Done));
+    let more = [LONGEST, Piece::Once("#")];
+    let text = "error: too long\n";
+    assert!(rt; pieces_end(&rt, rt.alloc(), &[], &more, text, Status::Refused));
 }
 
 #[test]
-fn words_are_refused(rt: HostRuntime) -> Result<(), Fail> {
-    for (first, second) in [
-        ("", None),
-        ("--chec", None),
-        ("--check ", None),
-        ("check", None),
-        ("--check", Some("--check")),
-        ("", Some("--check")),
-    ] {
-        assert!(rt;
-            refuses_words(&rt, rt.alloc(), first, second)?,
-            "{first:?}, then {second:?}"
-        );
-    }
-    Ok(())
-}
-
-#[test]
-fn long_inputs_are_refused(rt: HostRuntime) -> Result<(), Fail> {
-    let alloc = rt.alloc();
-    let most = vec![in alloc; b'#'; 4_194_304]?;
-    assert!(rt; answers(&rt, alloc, &[], most.as_slice(), b"end\n", Status::Done)?);
-    let more = vec![in alloc; b'#'; 4_194_305]?;
-    assert!(rt;
-        answers(
-            &rt,
-            alloc,
-            &[],
-            more.as_slice(),
-            b"error: too long\n",
-            Status::Refused
-        )?
-    );
-    Ok(())
-}
-
-#[test]
-fn scripts_are_only_checked(rt: HostRuntime) -> Result<(), Fail> {
-    let words = check(rt.alloc())?;
+fn scripts_are_only_checked(rt: HostRuntime) {
     each_ends(
         &rt,
         rt.alloc(),
-        words.as_slice(),
+        &["--check"],
         Status::Done,
         &[("", "lawful\n"), (FILL, "lawful\n"), (COPY, "lawful\n")],
-    )?;
+    );
     each_ends(
         &rt,
         rt.alloc(),
-        words.as_slice(),
+        &["--check"],
         Status::Refused,
         &[
             (
@@ -464,16 +339,15 @@ fn scripts_are_only_checked(rt: HostRuntime) -> Result<(), Fail> {
             ("buffer X 4\nsubmit Q\n", "error: name: line 2\n"),
             ("queue Q immediate\nsubmit Q\n", "error: syntax: line 3\n"),
         ],
-    )
+    );
 }
 
 #[test]
-fn signals_of_queues_are_in_a_sure_order(rt: HostRuntime) -> Result<(), Fail> {
-    let words = check(rt.alloc())?;
+fn signals_of_queues_are_in_a_sure_order(rt: HostRuntime) {
     each_ends(
         &rt,
         rt.alloc(),
-        words.as_slice(),
+        &["--check"],
         Status::Done,
         &[
             // the same, once the second waits for the first
@@ -492,11 +366,11 @@ end
                 "lawful\n",
             ),
         ],
-    )?;
+    );
     each_ends(
         &rt,
         rt.alloc(),
-        words.as_slice(),
+        &["--check"],
         Status::Refused,
         &[ // two queues that signal one timeline
             (
@@ -518,16 +392,15 @@ end
                 "error: unordered: lines 4 and 4\n",
             ),
         ],
-    )
+    );
 }
 
 #[test]
-fn signals_of_batches_are_in_a_sure_order(rt: HostRuntime) -> Result<(), Fail> {
-    let words = check(rt.alloc())?;
+fn signals_of_batches_are_in_a_sure_order(rt: HostRuntime) {
     each_ends(
         &rt,
         rt.alloc(),
-        words.as_slice(),
+        &["--check"],
         Status::Done,
         &[(
             "timeline A 0
@@ -545,11 +418,11 @@ end
 ",
             "lawful\n",
         )],
-    )?;
+    );
     each_ends(
         &rt,
         rt.alloc(),
-        words.as_slice(),
+        &["--check"],
         Status::Refused,
         &[ // a batch's signals aren't sure to one that waits for another of them, but for their job
             (
@@ -586,16 +459,15 @@ end
                 "error: unordered: lines 8 and 11\n",
             ),
         ],
-    )
+    );
 }
 
 #[test]
-fn conflicting_commands_are_ordered(rt: HostRuntime) -> Result<(), Fail> {
-    let words = check(rt.alloc())?;
+fn conflicting_commands_are_ordered(rt: HostRuntime) {
     each_ends(
         &rt,
         rt.alloc(),
-        words.as_slice(),
+        &["--check"],
         Status::Done,
         &[(
             "buffer X 8
@@ -611,11 +483,11 @@ end
 ",
             "lawful\n",
         )],
-    )?;
+    );
     each_ends(
         &rt,
         rt.alloc(),
-        words.as_slice(),
+        &["--check"],
         Status::Refused,
         &[ // the copy doesn't wait: a wait for 0 waits for nothing
             (
@@ -671,16 +543,15 @@ end
                 "error: race: lines 6 and 9\n",
             ),
         ],
-    )
+    );
 }
 
 #[test]
-fn commands_that_are_ordered_or_apart_are_lawful(rt: HostRuntime) -> Result<(), Fail> {
-    let words = check(rt.alloc())?;
+fn commands_that_are_ordered_or_apart_are_lawful(rt: HostRuntime) {
     each_ends(
         &rt,
         rt.alloc(),
-        words.as_slice(),
+        &["--check"],
         Status::Done,
         &[ // two readers
             (
@@ -741,5 +612,5 @@ end
                 "lawful\n",
             ),
         ],
-    )
+    );
 }

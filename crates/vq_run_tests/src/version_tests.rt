@@ -1,7 +1,9 @@
 //! Scripts of the second version: waits that hold back a part of their batch, and larger limits.
-use crate::run_tests::{each_ends, replay};
-use std::alloc::{AllocError, Global};
-use std::test::Fail;
+use crate::pieces::{Piece, pieces_end};
+use std::alloc::Global;
+use std::marker::Sync;
+use std::sync::Wait;
+use std::thread::Threads;
 use vq_run::Status;
 
 /// A batch that fills a buffer of its own and copies once another batch is done, up to the place from which its wait
@@ -13,105 +15,117 @@ const HELD: &str =
 const COPIED: &str =
     "\nfill Y 0 8 5\ncopy X 0 Y 0 4\nend\nsubmit Q\nfill X 0 8 9\nsignal A 1\nend\n";
 
-/// The script of a version whose wait holds back from a place on, and what follows it.
-fn held(alloc: Global, version: &str, place: &str, last: &str) -> Result<String, AllocError> {
-    let mut script = String::from_str(alloc, version)?;
-    for part in [HELD, place, COPIED, last] {
-        script.push_str(part)?;
-    }
-    Ok(script)
+/// What a run of such a script gives.
+#[derive(Clone, Copy)]
+struct Held {
+    version: &'static str,
+    place: &'static str,
+    status: Status,
+    text: &'static str,
 }
 
-#[test]
-fn held_waits_order_what_they_hold_back(rt: HostRuntime) -> Result<(), Fail> {
-    let rows = [
-        (
-            "version 2\n",
-            "2",
-            Status::Done,
-            "buffer X 8\n0900000009000000\nbuffer Y 8\n0900000005000000\nend\n",
-        ),
-        (
-            "version 2\n",
-            "3",
-            Status::Refused,
-            "error: race: lines 10 and 13\n",
-        ),
-        (
-            "version 2\n",
-            "4",
-            Status::Refused,
-            "error: range: line 11\n",
-        ),
-        (
-            "version 2\n",
-            "0",
-            Status::Refused,
-            "error: range: line 8\n",
-        ),
-        ("", "2", Status::Refused, "error: syntax: line 7\n"),
-        (
-            "# first\n\nversion 2 # the second\n",
-            "3",
-            Status::Refused,
-            "error: race: lines 12 and 15\n",
-        ),
+/// Whether a run with these words of such a script, with these lines behind it, gives what it is to.
+fn held_ends<R: Threads + Wait + Sync>(
+    rt: &R,
+    alloc: Global,
+    words: &[&str],
+    held: Held,
+    last: &str,
+) -> bool {
+    let script = [
+        Piece::Once(held.version),
+        Piece::Once(HELD),
+        Piece::Once(held.place),
+        Piece::Once(COPIED),
+        Piece::Once(last),
     ];
-    for (version, place, status, text) in rows {
-        let script = held(rt.alloc(), version, place, "")?;
-        each_ends(&rt, rt.alloc(), &[], status, &[(script.as_str(), text)])?;
-    }
-    Ok(())
+    pieces_end(rt, alloc, words, &script, held.text, held.status)
 }
+
+const ORDERED: &[Held] = &[
+    Held {
+        version: "version 2\n",
+        place: "2",
+        status: Status::Done,
+        text: "buffer X 8\n0900000009000000\nbuffer Y 8\n0900000005000000\nend\n",
+    },
+    Held {
+        version: "version 2\n",
+        place: "3",
+        status: Status::Refused,
+        text: "error: race: lines 10 and 13\n",
+    },
+    Held {
+        version: "version 2\n",
+        place: "4",
+        status: Status::Refused,
+        text: "error: range: line 11\n",
+    },
+    Held {
+        version: "version 2\n",
+        place: "0",
+        status: Status::Refused,
+        text: "error: range: line 8\n",
+    },
+    Held {
+        version: "",
+        place: "2",
+        status: Status::Refused,
+        text: "error: syntax: line 7\n",
+    },
+    Held {
+        version: "# first\n\nversion 2 # the second\n",
+        place: "3",
+        status: Status::Refused,
+        text: "error: race: lines 12 and 15\n",
+    },
+];
 
 #[test]
-fn held_waits_are_replayed(rt: HostRuntime) -> Result<(), Fail> {
-    let words = replay(rt.alloc())?;
-    let script = held(
-        rt.alloc(),
-        "version 2\n",
-        "2",
-        "schedule\nhost 2\nS:Q 3\nS:P\nR:P 4\n",
-    )?;
-    let text =
-        "1 host submit 7\n2 host submit 12\n3 S:Q take A 1 fresh 0\n4 S:Q release 12\n5 S:Q bind A 1 0\n\
-                6 S:P release 7\n7 R:P start 7\n8 R:P apply 9\n9 R:P refer 0 A 1\n10 R:P -\nunfinished 2\n";
-    each_ends(
-        &rt,
-        rt.alloc(),
-        words.as_slice(),
-        Status::Done,
-        &[(script.as_str(), text)],
-    )
+fn held_waits_order_what_they_hold_back(rt: HostRuntime) {
+    for held in ORDERED {
+        let text = held.text;
+        assert!(rt; held_ends(&rt, rt.alloc(), &[], *held, ""), "{text:?}");
+    }
 }
 
-/// A script of a version with 16 queues, and one more line.
-fn many_queues(alloc: Global, version: &str, last: &str) -> Result<String, AllocError> {
-    let mut script = String::from_str(alloc, version)?;
-    for queue in 0..16u32 {
-        script.push_str("queue Q")?;
-        script.push_str(queue.to_string(alloc)?.as_str())?;
-        script.push_str(" threaded\n")?;
-    }
-    script.push_str(last)?;
-    Ok(script)
-}
+const REPLAYED: Held = Held {
+    version: "version 2\n",
+    place: "2",
+    status: Status::Done,
+    text: "1 host submit 7\n2 host submit 12\n3 S:Q take A 1 fresh 0\n4 S:Q release 12\n5 S:Q bind A 1 0\n\
+           6 S:P release 7\n7 R:P start 7\n8 R:P apply 9\n9 R:P refer 0 A 1\n10 R:P -\nunfinished 2\n",
+};
 
 #[test]
-fn queues_are_counted_by_the_version(rt: HostRuntime) -> Result<(), Fail> {
-    let rows = [
-        ("version 2\n", "", Status::Done, "end\n"),
-        (
-            "version 2\n",
-            "queue Q threaded\n",
-            Status::Refused,
-            "error: limit: line 18\n",
-        ),
-        ("", "", Status::Refused, "error: limit: line 9\n"),
+fn held_waits_are_replayed(rt: HostRuntime) {
+    let schedule = "schedule\nhost 2\nS:Q 3\nS:P\nR:P 4\n";
+    assert!(rt; held_ends(&rt, rt.alloc(), &["--replay"], REPLAYED, schedule));
+}
+
+/// Whether a run of a script of a version with 16 queues, and one more line, writes this text and ends so.
+fn queues_end<'a, R: Threads + Wait + Sync>(
+    rt: &R,
+    alloc: Global,
+    version: &'a str,
+    last: &'a str,
+    text: &str,
+    status: Status,
+) -> bool {
+    let script = [
+        Piece::Once(version),
+        Piece::Numbers(0, 16, "queue Q", " threaded\n"),
+        Piece::Once(last),
     ];
-    for (version, last, status, text) in rows {
-        let script = many_queues(rt.alloc(), version, last)?;
-        each_ends(&rt, rt.alloc(), &[], status, &[(script.as_str(), text)])?;
-    }
-    Ok(())
+    pieces_end(rt, alloc, &[], &script, text, status)
+}
+
+#[test]
+fn queues_are_counted_by_the_version(rt: HostRuntime) {
+    let (second, more) = ("version 2\n", "queue Q threaded\n");
+    assert!(rt; queues_end(&rt, rt.alloc(), second, "", "end\n", Status::Done));
+    let text = "error: limit: line 18\n";
+    assert!(rt; queues_end(&rt, rt.alloc(), second, more, text, Status::Refused));
+    let text = "error: limit: line 9\n";
+    assert!(rt; queues_end(&rt, rt.alloc(), "", "", text, Status::Refused));
 }
