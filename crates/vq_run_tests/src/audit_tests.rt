@@ -1,6 +1,6 @@
 //! Traces that follow a script, and are judged.
 use crate::cases::each_ends;
-use crate::pieces::{Piece, pieces_end};
+use crate::pieces::{Piece, Row, each_script_ends};
 use vq_run::Status;
 
 /// A script whose batches use a point again, its trace up to turn 16, and the rest of the trace.
@@ -59,15 +59,22 @@ fn traces_are_judged(rt: HostRuntime) {
     );
 }
 
+const FREED: &[Row] = &[
+    (
+        &[Piece::Once(REUSED_POINT), Piece::Once(ITS_END)],
+        "lawful\n",
+        Status::Done,
+    ),
+    (
+        &[Piece::Once(REUSED_POINT), Piece::Once(FREED_EARLY)],
+        "broken: line 35\n",
+        Status::Done,
+    ),
+];
+
 #[test]
 fn points_are_freed_without_references(rt: HostRuntime) {
-    for (rest, verdict) in [(ITS_END, "lawful\n"), (FREED_EARLY, "broken: line 35\n")].as_slice() {
-        let input = [Piece::Once(REUSED_POINT), Piece::Once(rest)];
-        assert!(rt;
-            pieces_end(&rt, rt.alloc(), &["--audit"], &input, verdict, Status::Done),
-            "{rest:?}"
-        );
-    }
+    each_script_ends(&rt, rt.alloc(), &["--audit"], FREED);
 }
 
 #[test]

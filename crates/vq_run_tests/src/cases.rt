@@ -183,8 +183,28 @@ pub(crate) fn fills_at<R: Threads + Wait + Sync>(
     ends(rt, alloc, &case)
 }
 
+/// Runs `FILL` with a fault at one read and one write by their numbers, over a source that gives so many bytes at a
+/// time, and compares the text that is written and how the run ends.
+pub(crate) fn each_fault_ends<R: Threads + Wait + Abort + Sync>(
+    rt: &R,
+    alloc: Global,
+    piece: usize,
+    rows: &[(u32, u32, &str, Status)],
+) {
+    for (fails, write, text, status) in rows {
+        let reads = Moves {
+            piece,
+            fails: *fails,
+        };
+        assert!(rt;
+            fills_at(rt, alloc, reads, *write, text, *status),
+            "at read {fails}, write {write}"
+        );
+    }
+}
+
 /// Whether a run with these words says that they are wrong.
-pub(crate) fn refuses_words<'a, R: Threads + Wait + Sync>(
+fn refuses_words<'a, R: Threads + Wait + Sync>(
     rt: &R,
     alloc: Global,
     words: &'a [&'a str],
@@ -192,4 +212,16 @@ pub(crate) fn refuses_words<'a, R: Threads + Wait + Sync>(
 ) -> bool {
     let case = Case::new(words, input.as_bytes(), b"error: words\n", Status::BadWords);
     ends(rt, alloc, &case)
+}
+
+/// Runs with the words of each row, which are to be refused.
+pub(crate) fn each_is_refused<'a, R: Threads + Wait + Abort + Sync>(
+    rt: &R,
+    alloc: Global,
+    rows: &'a [&'a [&'a str]],
+    input: &'a str,
+) {
+    for words in rows {
+        assert!(rt; refuses_words(rt, alloc, words, input), "{words:?}");
+    }
 }

@@ -1,11 +1,7 @@
 //! Scripts with steps of the host: their answers, their faults and their replays.
 
 use crate::cases::each_ends;
-use crate::pieces::{Piece, pieces_end};
-use std::alloc::Global;
-use std::marker::Sync;
-use std::sync::Wait;
-use std::thread::Threads;
+use crate::pieces::{Piece, Row, each_script_ends};
 use vq_run::Status;
 
 /// Three queues and three frames in flight: the first three frames of four.
@@ -124,29 +120,27 @@ buffer O2 16
 end
 ";
 
-/// Whether a run of the four frames, with these lines before the fourth, writes this text and ends so.
-fn frames_end<R: Threads + Wait + Sync>(
-    rt: &R,
-    alloc: Global,
-    before_fourth: &str,
-    text: &str,
-    status: Status,
-) -> bool {
-    let frames = [
-        Piece::Once(FRAMES),
-        Piece::Once(before_fourth),
-        Piece::Once(FOURTH_FRAME),
-    ];
-    pieces_end(rt, alloc, &[], &frames, text, status)
-}
+const FOUR_FRAMES: &[Row] = &[
+    (
+        &[
+            Piece::Once(FRAMES),
+            Piece::Once(FIRST_FRAME_IS_OVER),
+            Piece::Once(FOURTH_FRAME),
+        ],
+        FRAMES_DONE,
+        Status::Done,
+    ),
+    // without the wait and the reset of their first fence
+    (
+        &[Piece::Once(FRAMES), Piece::Once(FOURTH_FRAME)],
+        "error: fence used: line 83\n",
+        Status::Refused,
+    ),
+];
 
 #[test]
 fn frames_are_answered(rt: HostRuntime) {
-    let before_fourth = FIRST_FRAME_IS_OVER;
-    assert!(rt; frames_end(&rt, rt.alloc(), before_fourth, FRAMES_DONE, Status::Done));
-    // the frames without the wait and the reset of their first fence
-    let text = "error: fence used: line 83\n";
-    assert!(rt; frames_end(&rt, rt.alloc(), "", text, Status::Refused));
+    each_script_ends(&rt, rt.alloc(), &[], FOUR_FRAMES);
 }
 
 #[test]

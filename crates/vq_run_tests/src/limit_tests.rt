@@ -1,8 +1,8 @@
 //! Inputs that end early, ports that fail at each of their calls, and inputs at the limits of the language.
 ghost use Rattle.std.specs.Prelude.{◌≤◌, length};
 
-use crate::cases::{Case, FILLED, Moves, each_ends, ends, fills_at};
-use crate::pieces::{Piece, pieces_end};
+use crate::cases::{Case, FILLED, Moves, each_ends, each_fault_ends, ends, fills_at};
+use crate::pieces::{Piece, Row, each_script_ends};
 use std::alloc::Global;
 use std::marker::Sync;
 use std::sync::Wait;
@@ -84,106 +84,80 @@ fn inputs_end_early(rt: HostRuntime) {
     }
 }
 
-/// Whether a run writes this text and ends so where the source gives one byte at a time and fails at one read, and the
-/// sink fails at one write.
-fn fails_at<R: Threads + Wait + Sync>(
-    rt: &R,
-    alloc: Global,
-    read: u32,
-    write: u32,
-    text: &str,
-    status: Status,
-) -> bool {
-    let reads = Moves {
-        piece: 1,
-        fails: read,
-    };
-    fills_at(rt, alloc, reads, write, text, status)
-}
-
 #[test]
 fn each_read_may_fail(rt: HostRuntime) {
-    // The input has 64 bytes; the last read finds its end.
-    for read in 1..66u32 {
+    // The input has 64 bytes, of which a read gives one; the last read finds its end.
+    for fails in 1..66u32 {
+        let reads = Moves { piece: 1, fails };
         let status = Status::ReadFault;
         assert!(rt;
-            fails_at(&rt, rt.alloc(), read, 0, "", status),
-            "read {read}"
+            fills_at(&rt, rt.alloc(), reads, 0, "", status),
+            "read {fails}"
         );
     }
-    assert!(rt; fails_at(&rt, rt.alloc(), 66, 0, FILLED, Status::Done));
+    each_fault_ends(&rt, rt.alloc(), 1, &[(66, 0, FILLED, Status::Done)]);
 }
 
-/// The write that fails, and what is written before it.
-const WRITES: &[(u32, &str)] = &[
-    (1, ""),
-    (2, "buffer X"),
-    (3, "buffer X 8\n04030"),
-    (4, "buffer X 8\n0403020104030"),
+/// The text has 32 bytes, of which a write takes eight.
+const WRITES: &[(u32, u32, &str, Status)] = &[
+    (0, 1, "", Status::WriteFault),
+    (0, 2, "buffer X", Status::WriteFault),
+    (0, 3, "buffer X 8\n04030", Status::WriteFault),
+    (0, 4, "buffer X 8\n0403020104030", Status::WriteFault),
+    (0, 5, FILLED, Status::Done),
 ];
 
 #[test]
 fn each_write_may_fail(rt: HostRuntime) {
-    // The text has 32 bytes.
-    for (write, text) in WRITES {
-        let status = Status::WriteFault;
-        assert!(rt;
-            fails_at(&rt, rt.alloc(), 0, *write, text, status),
-            "write {write}"
-        );
-    }
-    assert!(rt; fails_at(&rt, rt.alloc(), 0, 5, FILLED, Status::Done));
+    each_fault_ends(&rt, rt.alloc(), 1, WRITES);
 }
 
-/// Whether a script with 4,096 batches of two fills each, and what follows them, writes this text and ends so.
-fn batches_end<R: Threads + Wait + Sync>(
-    rt: &R,
-    alloc: Global,
-    last: &str,
-    text: &str,
-    status: Status,
-) -> bool {
-    let script = [
-        Piece::Once("buffer X 4\nqueue Q threaded\n"),
-        Piece::Numbers(1, 4097, "submit Q\nfill X 0 4 0\nfill X 0 4 ", "\nend\n"),
-        Piece::Once(last),
-    ];
-    pieces_end(rt, alloc, &[], &script, text, status)
-}
+/// The declarations for the batches that are counted.
+const DECLARED: Piece = Piece::Once("buffer X 4\nqueue Q threaded\n");
+
+/// 4,096 batches of two fills each.
+const BATCHES: Piece = Piece::Numbers(1, 4097, "submit Q\nfill X 0 4 0\nfill X 0 4 ", "\nend\n");
+
+const COUNTED_BATCHES: &[Row] = &[
+    (
+        &[DECLARED, BATCHES],
+        "buffer X 4\n00100000\nend\n",
+        Status::Done,
+    ),
+    (
+        &[DECLARED, BATCHES, Piece::Once("submit Q\n")],
+        "error: limit: line 16387\n",
+        Status::Refused,
+    ),
+];
 
 #[test]
 fn batches_are_counted(rt: HostRuntime) {
-    let text = "buffer X 4\n00100000\nend\n";
-    assert!(rt; batches_end(&rt, rt.alloc(), "", text, Status::Done));
-    let text = "error: limit: line 16387\n";
-    assert!(rt; batches_end(&rt, rt.alloc(), "submit Q\n", text, Status::Refused));
+    each_script_ends(&rt, rt.alloc(), &[], COUNTED_BATCHES);
 }
 
-/// Whether a batch with so many of one line writes this text and is refused.
-fn lines_end<'a, R: Threads + Wait + Sync>(
-    rt: &R,
-    alloc: Global,
-    head: &'a str,
-    line: &'a str,
-    count: u32,
-    text: &str,
-) -> bool {
-    let script = [Piece::Once(head), Piece::Times(count, line)];
-    pieces_end(rt, alloc, &[], &script, text, Status::Refused)
-}
+const COUNTED_LINES: &[Row] = &[
+    (
+        &[
+            Piece::Once("buffer X 4\nqueue Q immediate\nsubmit Q\n"),
+            Piece::Times(65, "fill X 0 4 1\n"),
+        ],
+        "error: limit: line 68\n",
+        Status::Refused,
+    ),
+    (
+        &[
+            Piece::Once("timeline A 0\nqueue Q threaded\nsubmit Q\n"),
+            Piece::Times(17, "wait A 0\n"),
+        ],
+        "error: limit: line 20\n",
+        Status::Refused,
+    ),
+];
 
 #[test]
 fn lines_of_a_batch_are_counted(rt: HostRuntime) {
-    let (head, text) = (
-        "buffer X 4\nqueue Q immediate\nsubmit Q\n",
-        "error: limit: line 68\n",
-    );
-    assert!(rt; lines_end(&rt, rt.alloc(), head, "fill X 0 4 1\n", 65, text));
-    let (head, text) = (
-        "timeline A 0\nqueue Q threaded\nsubmit Q\n",
-        "error: limit: line 20\n",
-    );
-    assert!(rt; lines_end(&rt, rt.alloc(), head, "wait A 0\n", 17, text));
+    each_script_ends(&rt, rt.alloc(), &[], COUNTED_LINES);
 }
 
 #[test]

@@ -1,5 +1,5 @@
 //! Generated scripts, and queues of each mode.
-use crate::cases::{each_ends, refuses_words};
+use crate::cases::{each_ends, each_is_refused};
 use vq_run::Status;
 
 // The buffers that the generated scripts leave, by the rule that each word is passed on from queue to queue: after r
@@ -110,9 +110,7 @@ const OTHER_WORDS: &[&[&str]] = &[
 
 #[test]
 fn other_words_are_refused(rt: HostRuntime) {
-    for words in OTHER_WORDS {
-        assert!(rt; refuses_words(&rt, rt.alloc(), words, ""), "{words:?}");
-    }
+    each_is_refused(&rt, rt.alloc(), OTHER_WORDS, "");
 }
 
 #[test]

@@ -2,18 +2,19 @@
 use crate::cases::{Case, ends};
 use std::alloc::{AllocError, Global};
 use std::marker::Sync;
+use std::process::Abort;
 use std::sync::Wait;
 use std::thread::Threads;
 use vq_run::Status;
 
 /// A piece of a text.
 #[derive(Clone, Copy)]
-pub(crate) enum Piece<'a> {
-    Once(&'a str),
+pub(crate) enum Piece {
+    Once(&'static str),
     /// The same text so many times.
-    Times(u32, &'a str),
+    Times(u32, &'static str),
     /// Each number from the first up to the second, which is left out, between two texts.
-    Numbers(u32, u32, &'a str, &'a str),
+    Numbers(u32, u32, &'static str, &'static str),
 }
 
 /// Appends the same text so many times.
@@ -59,7 +60,7 @@ fn add_all(alloc: Global, text: &mut Vec<u8>, pieces: &[Piece]) -> Result<(), Al
 }
 
 /// Whether a run of the script of these pieces writes this text and ends so.
-pub(crate) fn pieces_end<'a, R: Threads + Wait + Sync>(
+fn pieces_end<'a, R: Threads + Wait + Sync>(
     rt: &R,
     alloc: Global,
     words: &'a [&'a str],
@@ -91,4 +92,22 @@ pub(crate) fn pieces_give<R: Threads + Wait + Sync>(
     let mut input = Vec::new(alloc);
     let is_made = add_all(alloc, &mut input, pieces).is_ok();
     is_made && gives(rt, alloc, input.as_slice(), written)
+}
+
+/// The pieces of a script, with what a run of it writes and how it ends.
+pub(crate) type Row = (&'static [Piece], &'static str, Status);
+
+/// Runs the script of each row, and compares the text that is written and how the run ends.
+pub(crate) fn each_script_ends<'a, R: Threads + Wait + Abort + Sync>(
+    rt: &R,
+    alloc: Global,
+    words: &'a [&'a str],
+    rows: &'a [Row],
+) {
+    for (pieces, text, status) in rows {
+        assert!(rt;
+            pieces_end(rt, alloc, words, pieces, text, *status),
+            "{text:?}"
+        );
+    }
 }

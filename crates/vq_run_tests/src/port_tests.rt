@@ -1,5 +1,5 @@
 //! Runs over ports that fail, and over ports that never do.
-use crate::cases::{FILL, FILLED, Moves, fills_at};
+use crate::cases::{FILL, FILLED, each_fault_ends};
 use std::alloc::{AllocError, Global};
 use std::marker::Sync;
 use std::sync::Wait;
@@ -20,16 +20,7 @@ const FAULTS: &[(u32, u32, &str, Status)] = &[
 
 #[test]
 fn faults_of_reading_and_writing_end_a_run(rt: HostRuntime) {
-    for (fails, writes, text, status) in FAULTS {
-        let reads = Moves {
-            piece: 4096,
-            fails: *fails,
-        };
-        assert!(rt;
-            fills_at(&rt, rt.alloc(), reads, *writes, text, *status),
-            "at read {fails}, write {writes}"
-        );
-    }
+    each_fault_ends(&rt, rt.alloc(), 4096, FAULTS);
 }
 
 /// Whether a run into this sink is done and leaves this.

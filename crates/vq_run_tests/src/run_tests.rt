@@ -1,6 +1,6 @@
 //! Scripts, with what a run of each writes and how it ends.
-use crate::cases::{FILL, FILLED, each_ends, refuses_words};
-use crate::pieces::{Piece, pieces_end, pieces_give};
+use crate::cases::{FILL, FILLED, each_ends, each_is_refused};
+use crate::pieces::{Piece, Row, each_script_ends, pieces_give};
 use vq_run::Status;
 
 #[test]
@@ -272,19 +272,29 @@ fn scripts_without_a_plan_are_refused(rt: HostRuntime) {
 /// What stands before the bytes of an update.
 const UPDATE: Piece = Piece::Once("buffer X 65540\nqueue Q immediate\nsubmit Q\nupdate X 0 ");
 
+/// What stands behind them.
+const UPDATE_END: Piece = Piece::Once("\nend\n");
+
+/// An update of 65,536 bytes.
+const LARGEST: &[Piece] = &[UPDATE, Piece::Times(65_536, "ab"), UPDATE_END];
+
+/// What it leaves.
+const UPDATED: &[Piece] = &[
+    Piece::Once("buffer X 65540\n"),
+    Piece::Times(4096, "abababababababababababababababab\n"),
+    Piece::Once("00000000\nend\n"),
+];
+
+const TOO_LARGE: &[Row] = &[(
+    &[UPDATE, Piece::Times(65_540, "ab"), UPDATE_END],
+    "error: range: line 4\n",
+    Status::Refused,
+)];
+
 #[test]
 fn updates_have_a_greatest_size(rt: HostRuntime) {
-    let end = Piece::Once("\nend\n");
-    let most = [UPDATE, Piece::Times(65_536, "ab"), end];
-    let updated = [
-        Piece::Once("buffer X 65540\n"),
-        Piece::Times(4096, "abababababababababababababababab\n"),
-        Piece::Once("00000000\nend\n"),
-    ];
-    assert!(rt; pieces_give(&rt, rt.alloc(), &most, &updated));
-    let more = [UPDATE, Piece::Times(65_540, "ab"), end];
-    let text = "error: range: line 4\n";
-    assert!(rt; pieces_end(&rt, rt.alloc(), &[], &more, text, Status::Refused));
+    assert!(rt; pieces_give(&rt, rt.alloc(), LARGEST, UPDATED));
+    each_script_ends(&rt, rt.alloc(), &[], TOO_LARGE);
 }
 
 const OTHER_WORDS: &[&[&str]] = &[
@@ -298,9 +308,7 @@ const OTHER_WORDS: &[&[&str]] = &[
 
 #[test]
 fn words_are_refused(rt: HostRuntime) {
-    for words in OTHER_WORDS {
-        assert!(rt; refuses_words(&rt, rt.alloc(), words, FILL), "{words:?}");
-    }
+    each_is_refused(&rt, rt.alloc(), OTHER_WORDS, FILL);
 }
 
 /// The longest input, a comment.
@@ -309,12 +317,18 @@ const LONGEST: Piece = Piece::Times(
     "################################################################",
 );
 
+const LONG: &[Row] = &[
+    (&[LONGEST], "end\n", Status::Done),
+    (
+        &[LONGEST, Piece::Once("#")],
+        "error: too long\n",
+        Status::Refused,
+    ),
+];
+
 #[test]
 fn long_inputs_are_refused(rt: HostRuntime) {
-    assert!(rt; pieces_end(&rt, rt.alloc(), &[], &[LONGEST], "end\n", Status::Done));
-    let more = [LONGEST, Piece::Once("#")];
-    let text = "error: too long\n";
-    assert!(rt; pieces_end(&rt, rt.alloc(), &[], &more, text, Status::Refused));
+    each_script_ends(&rt, rt.alloc(), &[], LONG);
 }
 
 #[test]
