@@ -1,5 +1,5 @@
-/* What a turn costs that C takes, by one thread: of a run over one core (vq_turn), of one that threads share
- * (vq_actor_turn); and what the handle of an actor costs, by a call that asks next to nothing (vq_actor_line).
+/* What a turn costs that C takes, by one thread: of a run over one core (vq_turn_of), of one that threads
+ * share (vq_turn); and what a handle costs, by a call that asks next to nothing (vq_line).
  *
  * handles SCRIPT TIMES
  */
@@ -22,7 +22,7 @@ static double now(void)
 /* The turns of a run over one core, each actor in turn until all have ended. */
 static unsigned long over_core(size_t length, double *took)
 {
-    struct vq_run run;
+    struct vq_handle run;
     struct vq_turn turn;
     unsigned long turns = 0;
     if (vq_open(text, length, &run).code != VQ_LAWFUL)
@@ -32,7 +32,7 @@ static unsigned long over_core(size_t length, double *took)
     for (int is_left = 1; is_left;) {
         is_left = 0;
         for (uint32_t i = 0; i < count; i++, turns++) {
-            uint32_t code = vq_turn(&run, i, &turn);
+            uint32_t code = vq_turn_of(&run, i, &turn);
             is_left |= code == VQ_MOVED || code == VQ_BLOCKED;
         }
     }
@@ -44,7 +44,7 @@ static unsigned long over_core(size_t length, double *took)
 /* The same of a run that is shared, and so many calls through its host's handle that ask next to nothing. */
 static unsigned long over_board(size_t length, double *took, double *asked, unsigned long asks)
 {
-    struct vq_actor actors[VQ_MOST_ACTORS];
+    struct vq_handle actors[VQ_MOST_ACTORS];
     struct vq_turn turn;
     unsigned long turns = 0;
     size_t count;
@@ -54,19 +54,19 @@ static unsigned long over_board(size_t length, double *took, double *asked, unsi
     for (int is_left = 1; is_left;) {
         is_left = 0;
         for (size_t i = 0; i < count; i++, turns++) {
-            uint32_t code = actors[i].at == NULL ? VQ_ENDED : vq_actor_turn(&actors[i], &turn);
+            uint32_t code = actors[i].at == NULL ? VQ_ENDED : vq_turn(&actors[i], &turn);
             is_left |= code != VQ_ENDED;
         }
     }
     *took += now() - begun;
     begun = now();
     for (unsigned long i = 0; i < asks; i++)
-        if (vq_actor_line(&actors[0], UINT32_MAX) != 0)
+        if (vq_line(&actors[0], UINT32_MAX) != 0)
             exit(1);
     *asked += now() - begun;
     for (size_t i = 0; i < count; i++)
         if (actors[i].at != NULL)
-            vq_actor_close(actors[i]);
+            vq_close(actors[i]);
     return turns;
 }
 

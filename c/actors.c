@@ -69,7 +69,7 @@ struct script {
 /* An actor's thread. */
 struct part {
     const char *name;
-    struct vq_actor actor;
+    struct vq_handle actor;
     pthread_t thread;
 };
 
@@ -91,7 +91,7 @@ static void *drive(void *of)
     struct vq_turn turn;
     unsigned long blocked = 0;
     uint32_t code;
-    while ((code = vq_actor_turn(&part->actor, &turn)) != VQ_ENDED) {
+    while ((code = vq_turn(&part->actor, &turn)) != VQ_ENDED) {
         if (code == VQ_MOVED)
             blocked = 0;
         else if (code == VQ_BLOCKED)
@@ -100,7 +100,7 @@ static void *drive(void *of)
             fail(part->name, "a turn got another code");
     }
     blocked = 0;
-    while ((code = vq_actor_finished(&part->actor)) == VQ_UNFINISHED)
+    while ((code = vq_finished(&part->actor)) == VQ_UNFINISHED)
         rest(&blocked);
     if (code != VQ_DONE && code != VQ_NOT_HOST)
         fail(part->name, "a look got another code");
@@ -109,11 +109,11 @@ static void *drive(void *of)
 
 static const char *const answer_words[] = {"?", "ok", "timeout", "not-ready", "value"};
 
-static void print_answers(const char *name, struct vq_actor *host)
+static void print_answers(const char *name, struct vq_handle *host)
 {
     static struct vq_answered rows[ANSWERS];
     size_t count;
-    if (vq_actor_answers(host, rows, ANSWERS, &count) != VQ_DONE)
+    if (vq_answers(host, rows, ANSWERS, &count) != VQ_DONE)
         fail(name, "no answers");
     for (size_t i = 0; i < count; i++) {
         printf("%" PRIu32 " %s", rows[i].line, answer_words[rows[i].kind]);
@@ -124,7 +124,7 @@ static void print_answers(const char *name, struct vq_actor *host)
 }
 
 /* The buffers, with the names that the script's lines give. */
-static void print_buffers(const struct script *script, struct vq_actor *host, uint8_t *room)
+static void print_buffers(const struct script *script, struct vq_handle *host, uint8_t *room)
 {
     uint32_t buffer = 0;
     size_t size;
@@ -133,19 +133,19 @@ static void print_buffers(const struct script *script, struct vq_actor *host, ui
         char name[256];
         if (sscanf(line, "buffer %255s", name) != 1 || strncmp(line, "buffer ", 7) != 0)
             continue;
-        if (vq_actor_bytes(host, buffer++, room, BYTES, &size) != VQ_DONE)
+        if (vq_bytes(host, buffer++, room, BYTES, &size) != VQ_DONE)
             fail(script->name, "no bytes");
         printf("buffer %s %zu\n", name, size);
         for (size_t i = 0; i < size; i++)
             printf("%02x%s", room[i], i % 16 == 15 || i == size - 1 ? "\n" : "");
     }
     printf("end\n");
-    if (vq_actor_bytes(host, buffer, room, BYTES, &size) != VQ_NO_BUFFER)
+    if (vq_bytes(host, buffer, room, BYTES, &size) != VQ_NO_BUFFER)
         fail(script->name, "a buffer too many");
 }
 
 /* What is asked of the wrong actor, or too early: nothing is done, and what was there stays. */
-static void misuse(const char *name, struct vq_actor *actors, size_t count)
+static void misuse(const char *name, struct vq_handle *actors, size_t count)
 {
     struct vq_signal signal;
     struct vq_answered row;
@@ -153,54 +153,90 @@ static void misuse(const char *name, struct vq_actor *actors, size_t count)
     size_t needed = 77;
     for (size_t i = 1; i < count; i++)
         if (actors[i].at != NULL
-            && (vq_actor_finished(&actors[i]) != VQ_NOT_HOST
-                || vq_actor_answers(&actors[i], &row, 1, &needed) != VQ_NOT_HOST
-                || vq_actor_bytes(&actors[i], 0, room, sizeof room, &needed) != VQ_NOT_HOST))
+            && (vq_finished(&actors[i]) != VQ_NOT_HOST
+                || vq_answers(&actors[i], &row, 1, &needed) != VQ_NOT_HOST
+                || vq_bytes(&actors[i], 0, room, sizeof room, &needed) != VQ_NOT_HOST))
             fail(name, "an actor that isn't the host answered for it");
-    if (vq_actor_finished(&actors[0]) != VQ_UNFINISHED
-        || vq_actor_bytes(&actors[0], 0, room, sizeof room, &needed) != VQ_UNFINISHED)
+    if (vq_finished(&actors[0]) != VQ_UNFINISHED
+        || vq_bytes(&actors[0], 0, room, sizeof room, &needed) != VQ_UNFINISHED)
         fail(name, "a run that hasn't begun is finished");
-    if (vq_actor_op(&actors[0], UINT32_MAX, &signal) != VQ_NO_OP || vq_actor_line(&actors[0], UINT32_MAX) != 0)
+    if (vq_op(&actors[0], UINT32_MAX, &signal) != VQ_NO_OP || vq_line(&actors[0], UINT32_MAX) != 0)
         fail(name, "an operation or a job that isn't there was found");
     if (needed != 77 || room[0] != 0xaa)
         fail(name, "a refused call wrote something");
 }
 
+/* What isn't of the kind that a handle holds: nothing is done, and what was there stays. */
+static void of_wrong_kind(const struct script *script, struct vq_handle *actor)
+{
+    struct vq_handle plan, run;
+    struct vq_turn turn, same;
+    struct vq_answered row;
+    uint8_t room[1] = {0xaa};
+    size_t needed = 77;
+    memset(&turn, 0xaa, sizeof turn);
+    same = turn;
+    if (vq_plan(script->text, script->length, &plan).code != VQ_LAWFUL
+        || vq_open(script->text, script->length, &run).code != VQ_LAWFUL)
+        fail(script->name, "another verdict");
+    if (vq_turn(&plan, &turn) != VQ_WRONG_KIND || vq_turn(&run, &turn) != VQ_WRONG_KIND
+        || vq_turn_of(&plan, 0, &turn) != VQ_WRONG_KIND || vq_turn_of(actor, 0, &turn) != VQ_WRONG_KIND
+        || memcmp(&turn, &same, sizeof turn) != 0)
+        fail(script->name, "a turn of what has none");
+    if (vq_finished(&plan) != VQ_WRONG_KIND || vq_answers(&plan, &row, 1, &needed) != VQ_WRONG_KIND
+        || vq_bytes(&plan, 0, room, sizeof room, &needed) != VQ_WRONG_KIND || needed != 77 || room[0] != 0xaa)
+        fail(script->name, "a plan was run");
+    if (vq_actors(&plan) != vq_actors(&run) || vq_actors(&plan) != vq_actors(actor))
+        fail(script->name, "handles of one script differ in their actors");
+    struct vq_signal by_plan = {0}, by_run = {0}, by_actor = {0};
+    uint32_t code;
+    for (uint32_t op = 0; (code = vq_op(&plan, op, &by_plan)) == VQ_DONE; op++)
+        if (vq_op(&run, op, &by_run) != VQ_DONE || vq_op(actor, op, &by_actor) != VQ_DONE
+            || memcmp(&by_plan, &by_run, sizeof by_plan) != 0 || memcmp(&by_plan, &by_actor, sizeof by_plan) != 0
+            || vq_line(&plan, by_plan.job) == 0 || vq_line(&plan, by_plan.job) != vq_line(actor, by_plan.job)
+            || vq_line(&plan, by_plan.job) != vq_line(&run, by_plan.job))
+            fail(script->name, "handles of one script differ in a signal operation");
+    if (code != VQ_NO_OP)
+        fail(script->name, "another code of a signal operation");
+    vq_close(plan);
+    vq_close(run);
+}
+
 /* Too little room: what goes in is written, and the number says how much there is. */
-static void in_little_room(const char *name, struct vq_actor *host, uint8_t *whole)
+static void in_little_room(const char *name, struct vq_handle *host, uint8_t *whole)
 {
     size_t size, again;
-    if (vq_actor_bytes(host, 0, whole, BYTES, &size) != VQ_DONE || size == 0)
+    if (vq_bytes(host, 0, whole, BYTES, &size) != VQ_DONE || size == 0)
         return;
     uint8_t *room = malloc(size);
     if (room == NULL)
         fail(name, "no memory");
     memset(room, 0xaa, size);
-    if (vq_actor_bytes(host, 0, room, size - 1, &again) != VQ_NO_ROOM || again != size
+    if (vq_bytes(host, 0, room, size - 1, &again) != VQ_NO_ROOM || again != size
         || memcmp(room, whole, size - 1) != 0 || room[size - 1] != 0xaa)
         fail(name, "a smaller room got other bytes");
     free(room);
 }
 
 /* Where a copy's memory is refused, nothing is written. */
-static void without_copies(const char *name, struct vq_actor *host, uint8_t *whole)
+static void without_copies(const char *name, struct vq_handle *host, uint8_t *whole)
 {
 #ifndef WITHOUT_REFUSALS
     static struct vq_answered rows[ANSWERS];
     uint8_t room[1] = {0xaa};
     size_t size, count, needed = 77;
-    if (vq_actor_answers(host, rows, ANSWERS, &count) != VQ_DONE)
+    if (vq_answers(host, rows, ANSWERS, &count) != VQ_DONE)
         fail(name, "no answers");
     left = 1;
-    uint32_t code = vq_actor_answers(host, rows, ANSWERS, &needed);
+    uint32_t code = vq_answers(host, rows, ANSWERS, &needed);
     left = 0;
     if (count > 0 && (code != VQ_NO_MEMORY || needed != 77))
         fail(name, "answers without memory");
-    if (vq_actor_bytes(host, 0, whole, BYTES, &size) != VQ_DONE)
+    if (vq_bytes(host, 0, whole, BYTES, &size) != VQ_DONE)
         return;
     needed = 77;
     left = 1;
-    code = vq_actor_bytes(host, 0, room, sizeof room, &needed);
+    code = vq_bytes(host, 0, room, sizeof room, &needed);
     left = 0;
     if (code != VQ_NO_MEMORY || needed != 77 || room[0] != 0xaa)
         fail(name, "bytes without memory");
@@ -217,13 +253,13 @@ static void close_workers(const char *name, struct part *parts, size_t count)
     for (size_t i = count - 1; i > 0; i--) {
         if (parts[i].actor.at == NULL)
             continue;
-        if (vq_actor_bytes(&parts[0].actor, 0, room, sizeof room, &needed) != VQ_SHARED)
+        if (vq_bytes(&parts[0].actor, 0, room, sizeof room, &needed) != VQ_SHARED)
             fail(name, "bytes while another actor is open");
-        vq_actor_close(parts[i].actor);
+        vq_close(parts[i].actor);
     }
 }
 
-static void run(const struct script *script, struct vq_actor *actors, size_t count, uint8_t *room, int is_first)
+static void run(const struct script *script, struct vq_handle *actors, size_t count, uint8_t *room, int is_first)
 {
     static struct part parts[VQ_MOST_ACTORS];
     for (size_t i = 0; i < count; i++) {
@@ -243,15 +279,15 @@ static void run(const struct script *script, struct vq_actor *actors, size_t cou
         without_copies(script->name, &parts[0].actor, room);
     }
     struct vq_turn turn;
-    if (vq_actor_turn(&parts[0].actor, &turn) != VQ_ENDED || vq_actor_finished(&parts[0].actor) != VQ_DONE)
+    if (vq_turn(&parts[0].actor, &turn) != VQ_CLOSED || vq_finished(&parts[0].actor) != VQ_DONE)
         fail(script->name, "a run that is closed isn't at its end");
-    vq_actor_close(parts[0].actor);
+    vq_close(parts[0].actor);
 }
 
 /* Some turns of each actor, and then all are closed, the host first or last. */
 static void given_up(const struct script *script, int turns, int is_host_first)
 {
-    struct vq_actor actors[VQ_MOST_ACTORS];
+    struct vq_handle actors[VQ_MOST_ACTORS];
     struct vq_turn turn;
     size_t count;
     if (vq_share(script->text, script->length, actors, VQ_MOST_ACTORS, &count).code != VQ_LAWFUL)
@@ -259,20 +295,33 @@ static void given_up(const struct script *script, int turns, int is_host_first)
     for (int k = 0; k < turns; k++)
         for (size_t i = 0; i < count; i++)
             if (actors[i].at != NULL)
-                vq_actor_turn(&actors[i], &turn);
+                vq_turn(&actors[i], &turn);
     for (size_t i = 0; i < count; i++) {
         size_t which = is_host_first ? i : count - 1 - i;
         if (actors[which].at != NULL)
-            vq_actor_close(actors[which]);
+            vq_close(actors[which]);
     }
 }
 
-/* Each allocation of an opening in turn is refused: then there is no run, and nothing is lost. */
+/* Each allocation of an opening in turn is refused: then nothing is opened, and nothing is lost. */
 static void without_memory(const struct script *script)
 {
 #ifndef WITHOUT_REFUSALS
+    for (unsigned long n = 1;; n += 1 + n / 20) {
+        struct vq_handle plan = {NULL};
+        left = n;
+        struct vq_verdict verdict = vq_plan(script->text, script->length, &plan);
+        int came = left == 0;
+        left = 0;
+        if (verdict.code == VQ_LAWFUL)
+            vq_close(plan);
+        if (!came)
+            break;
+        if (verdict.code != VQ_LAWFUL && (verdict.code != VQ_NO_MEMORY || plan.at != NULL))
+            fail(script->name, "another end of a plan for want of memory");
+    }
     for (unsigned long n = 1;; n += 1 + n / 400) {
-        struct vq_actor actors[VQ_MOST_ACTORS] = {{NULL}};
+        struct vq_handle actors[VQ_MOST_ACTORS] = {{NULL}};
         size_t count = 77;
         left = n;
         struct vq_verdict verdict = vq_share(script->text, script->length, actors, VQ_MOST_ACTORS, &count);
@@ -281,7 +330,7 @@ static void without_memory(const struct script *script)
         if (verdict.code == VQ_LAWFUL)
             for (size_t i = 0; i < count; i++)
                 if (actors[i].at != NULL)
-                    vq_actor_close(actors[i]);
+                    vq_close(actors[i]);
         if (!came)
             return;
         if (verdict.code != VQ_LAWFUL && (verdict.code != VQ_NO_MEMORY || actors[0].at != NULL || count != 77))
@@ -295,10 +344,10 @@ static void without_memory(const struct script *script)
 /* A room that is one too small for the actors gets none, and says how many there are. */
 static void in_few_places(const struct script *script, size_t count)
 {
-    struct vq_actor actors[VQ_MOST_ACTORS];
+    struct vq_handle actors[VQ_MOST_ACTORS];
     size_t needed = 0;
     memset(actors, 0xaa, sizeof actors);
-    struct vq_actor before = actors[0];
+    struct vq_handle before = actors[0];
     if (vq_share(script->text, script->length, actors, count - 1, &needed).code != VQ_NO_ROOM || needed != count
         || memcmp(&actors[0], &before, sizeof before) != 0)
         fail(script->name, "actors went into too small a room");
@@ -307,7 +356,7 @@ static void in_few_places(const struct script *script, size_t count)
 static void test(int times, const struct script *script, uint8_t *room)
 {
     for (int time = 0; time < times; time++) {
-        struct vq_actor actors[VQ_MOST_ACTORS];
+        struct vq_handle actors[VQ_MOST_ACTORS];
         size_t count = 77;
         memset(actors, 0xaa, sizeof actors);
         struct vq_verdict verdict = vq_share(script->text, script->length, actors, VQ_MOST_ACTORS, &count);
@@ -320,6 +369,7 @@ static void test(int times, const struct script *script, uint8_t *room)
         }
         if (time == 0) {
             misuse(script->name, actors, count);
+            of_wrong_kind(script, &actors[0]);
             in_few_places(script, count);
         }
         run(script, actors, count, room, time == 0);

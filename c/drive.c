@@ -5,7 +5,7 @@
 
 #include "vq.h"
 
-static struct vq_run run;
+static struct vq_handle run;
 static pthread_mutex_t mutex = PTHREAD_MUTEX_INITIALIZER; /* held round each call on the run */
 static pthread_cond_t moved = PTHREAD_COND_INITIALIZER;
 
@@ -15,7 +15,7 @@ static void *turns(void *of)
     uint32_t actor = *(uint32_t *)of, code;
     struct vq_turn turn;
     pthread_mutex_lock(&mutex);
-    while ((code = vq_turn(&run, actor, &turn)) == VQ_MOVED || code == VQ_BLOCKED) {
+    while ((code = vq_turn_of(&run, actor, &turn)) == VQ_MOVED || code == VQ_BLOCKED) {
         if (code == VQ_MOVED) {
             /* here a driver makes the step that the event names, before the others see it */
             printf("actor %u made event %u\n", (unsigned)actor, (unsigned)turn.kind);

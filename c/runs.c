@@ -53,7 +53,7 @@ struct shared {
     pthread_mutex_t mutex;
     pthread_cond_t moved;
     unsigned long moves;
-    struct vq_run run;
+    struct vq_handle run;
 };
 
 struct part {
@@ -66,7 +66,7 @@ static uint32_t one_turn(struct shared *shared, uint32_t actor)
 {
     struct vq_turn turn;
     pthread_mutex_lock(&shared->mutex);
-    uint32_t code = vq_turn(&shared->run, actor, &turn);
+    uint32_t code = vq_turn_of(&shared->run, actor, &turn);
     if (code == VQ_MOVED) {
         shared->moves++;
         pthread_cond_broadcast(&shared->moved);
@@ -147,7 +147,7 @@ static void run(struct shared *shared)
     }
     for (int i = 0; i < THREADS; i++)
         pthread_join(threads[i], NULL);
-    if (!vq_finished(&shared->run))
+    if (vq_finished(&shared->run) != VQ_DONE)
         fail(shared->name, "all actors have ended, and not all jobs are finished");
 }
 
@@ -160,11 +160,11 @@ static void misuse(struct shared *shared)
     size_t needed = 77;
     memset(&turn, 0xaa, sizeof turn);
     same = turn;
-    if (vq_turn(&shared->run, UINT32_MAX, &turn) != VQ_NO_ACTOR || memcmp(&turn, &same, sizeof turn) != 0)
+    if (vq_turn_of(&shared->run, UINT32_MAX, &turn) != VQ_NO_ACTOR || memcmp(&turn, &same, sizeof turn) != 0)
         fail(shared->name, "an actor that isn't there had a turn");
     if (vq_op(&shared->run, UINT32_MAX, &signal) != VQ_NO_OP || vq_line(&shared->run, UINT32_MAX) != 0)
         fail(shared->name, "an operation or a job that isn't there was found");
-    if (!vq_finished(&shared->run)
+    if (vq_finished(&shared->run) == VQ_UNFINISHED
         && (vq_bytes(&shared->run, 0, room, sizeof room, &needed) != VQ_UNFINISHED || needed != 77 || room[0] != 0xaa))
         fail(shared->name, "bytes of an unfinished run");
 }
@@ -190,7 +190,7 @@ static void without_memory(const char *name, const uint8_t *text, size_t length)
 {
 #ifndef WITHOUT_REFUSALS
     for (unsigned long n = 1;; n += 1 + n / 20) {
-        struct vq_run run = {NULL};
+        struct vq_handle run = {NULL};
         left = n;
         struct vq_verdict verdict = vq_open(text, length, &run);
         int came = left == 0;

@@ -8,17 +8,17 @@
 /* The turns of an actor until it has ended. Nothing is held round a call; who is blocked looks again. */
 static void *turns(void *of)
 {
-    struct vq_actor *actor = of;
+    struct vq_handle *actor = of;
     struct vq_turn turn;
     uint32_t code;
-    while ((code = vq_actor_turn(actor, &turn)) != VQ_ENDED) {
+    while ((code = vq_turn(actor, &turn)) != VQ_ENDED) {
         if (code == VQ_MOVED) {
             /* here a driver makes the step that turn.kind names; others may know of it already (docs/C.md) */
         } else {
             sched_yield(); /* or waits for what turn.kind names */
         }
     }
-    while (vq_actor_finished(actor) == VQ_UNFINISHED) /* VQ_NOT_HOST, but for the host */
+    while (vq_finished(actor) == VQ_UNFINISHED) /* VQ_NOT_HOST, but for the host */
         sched_yield();
     return NULL;
 }
@@ -26,7 +26,7 @@ static void *turns(void *of)
 int main(void)
 {
     static uint8_t text[1 << 22], bytes[1 << 16];
-    static struct vq_actor actors[VQ_MOST_ACTORS];
+    static struct vq_handle actors[VQ_MOST_ACTORS];
     pthread_t threads[VQ_MOST_ACTORS];
     size_t count, needed;
     struct vq_verdict verdict =
@@ -43,9 +43,9 @@ int main(void)
             pthread_join(threads[i], NULL);
     for (size_t i = 1; i < count; i++)
         if (actors[i].at != NULL)
-            vq_actor_close(actors[i]);
-    for (uint32_t buffer = 0; vq_actor_bytes(&actors[0], buffer, bytes, sizeof bytes, &needed) == VQ_DONE; buffer++)
+            vq_close(actors[i]);
+    for (uint32_t buffer = 0; vq_bytes(&actors[0], buffer, bytes, sizeof bytes, &needed) == VQ_DONE; buffer++)
         printf("buffer %u begins with %02x\n", (unsigned)buffer, bytes[0]);
-    vq_actor_close(actors[0]);
+    vq_close(actors[0]);
     return 0;
 }

@@ -8,13 +8,12 @@
  * What a caller owes, in each call, and nothing checks: pointers are valid and not null, also at length 0; the text
  * doesn't change during the call, and the room isn't read or written by anybody else; malloc, realloc and free are of
  * one allocator and align to 16 bytes. A call may come from any thread, not from a signal handler, and not in the
- * child of a fork of a process with threads. No call waits, starts a thread, or ends the process, and only vq_open and
- * vq_share keep something, until vq_close and vq_actor_close.
+ * child of a fork of a process with threads. No call waits, starts a thread, or ends the process, and only vq_plan,
+ * vq_open and vq_share keep something, until vq_close.
  */
 #ifndef VQ_H
 #define VQ_H
 
-#include <stdbool.h>
 #include <stddef.h>
 #include <stdint.h>
 
@@ -48,13 +47,14 @@ enum vq_code {
     VQ_BLOCKED = 65,        /* the actor waits for something: nothing was done */
     VQ_ENDED = 66,          /* nothing of the actor is left to do */
     VQ_NO_ACTOR = 80,       /* no actor has this number: nothing was done */
-    VQ_NO_JOB = 81,         /* the plan has no such job */
     VQ_NO_OP = 82,          /* the plan has no such signal operation */
     VQ_NO_BUFFER = 83,      /* the plan has no such buffer */
     VQ_UNFINISHED = 84,     /* not all jobs are finished yet */
     VQ_NO_ROOM = 85,        /* the room is too small: it was filled, and the rest left out */
     VQ_NOT_HOST = 86,       /* the handle isn't the host's: nothing was done */
     VQ_SHARED = 87,         /* other actors' handles are open still: nothing was done */
+    VQ_WRONG_KIND = 88,     /* the handle holds something of another kind: nothing was done */
+    VQ_CLOSED = 89,         /* the board is closed: nothing was done */
 };
 
 enum vq_event {
@@ -119,13 +119,18 @@ struct vq_verdict vq_check(const uint8_t *text, size_t length);
  * are. The rest of the room stays as it is. */
 struct vq_verdict vq_explain(const uint8_t *text, size_t length, uint8_t *room, size_t size, size_t *needed);
 
-/* A run of a lawful script. vq_open writes `at`, and vq_close ends what is there.
+/* What a program holds of a lawful script: a plan (vq_plan), a run of it over one core with all its actors (vq_open), or
+ * one actor of a run over a board, with its share of the board and its timelines (vq_share). These write `at`, and
+ * vq_close ends what is there. A call that isn't of a handle's kind answers VQ_WRONG_KIND, and does nothing.
  *
- * What a caller owes of a run, and nothing checks: each call is given a run that vq_open opened and that isn't closed,
- * as vq_open wrote it; two structs don't stand for one run; and calls on one run are made one at a time. Where several
- * threads drive its actors, a mutex is held round each call. Runs are free of one another.
+ * What a caller owes of a handle, and nothing checks: each call is given one that was opened and isn't closed, as it was
+ * written; two structs don't stand for one handle; calls on one handle are made one at a time, and where it moves to
+ * another thread, a lock, a join or the like stands between. So where several threads drive the actors of one run over
+ * one core, a mutex is held round each call; turns of actors with handles of their own may be taken at the same time,
+ * from any threads, with nothing held round them: no call waits for another, and none wakes one. Runs are free of one
+ * another.
  */
-struct vq_run {
+struct vq_handle {
     void *at;
 };
 
@@ -160,83 +165,62 @@ struct vq_answered {
     uint64_t value;
 };
 
-/* The verdict of vq_check; where it is VQ_LAWFUL, `*run` is a run of the script before its first turn, and else it stays
- * as it was. All memory of the run's turns is taken here. */
-struct vq_verdict vq_open(const uint8_t *text, size_t length, struct vq_run *run);
+/* The verdict of vq_check; where it is VQ_LAWFUL, `*plan` holds the script's plan, and else it stays as it was. */
+struct vq_verdict vq_plan(const uint8_t *text, size_t length, struct vq_handle *plan);
 
-/* How many numbers actors have: 0 is the host's, and of the queue q, from 0 in the order of the script, 2q + 1 its submit
- * actor's and 2q + 2 its ring's. Where the host submits for a queue, no actor has the number 2q + 1. */
-uint64_t vq_actors(struct vq_run *run);
-
-/* One turn of an actor. VQ_MOVED: it made one event, told in `*turn`. VQ_BLOCKED: it waits for what `*turn` tells, which
- * isn't so, and made nothing; ask again after another actor has moved. VQ_ENDED: nothing of it is left to do.
- * VQ_NO_ACTOR: no actor has the number. With the last two `*turn` stays. It takes no memory. */
-uint32_t vq_turn(struct vq_run *run, uint32_t actor, struct vq_turn *turn);
-
-/* The line of a job, counted from 1; 0 where there is none. */
-uint32_t vq_line(struct vq_run *run, uint32_t job);
-
-/* What an operation signals. VQ_DONE, or VQ_NO_OP, and then `*signal` stays. */
-uint32_t vq_op(struct vq_run *run, uint32_t op, struct vq_signal *signal);
-
-/* Whether all jobs are finished. */
-bool vq_finished(struct vq_run *run);
-
-/* What the steps of the host were answered so far, in the order of the script. So many rows as go into the room are
- * written to its front, and `*needed` is how many there are: VQ_DONE, or VQ_NO_ROOM where some were left out.
- * VQ_NO_MEMORY: nothing was written. The size of the room is in rows. */
-uint32_t vq_answers(struct vq_run *run, struct vq_answered *room, size_t size, size_t *needed);
-
-/* The bytes of a buffer, numbered from 0 in the order of the script, once all jobs are finished: as vq_answers.
- * VQ_UNFINISHED, VQ_NO_BUFFER, VQ_NO_MEMORY: nothing was written. */
-uint32_t vq_bytes(struct vq_run *run, uint32_t buffer, uint8_t *room, size_t size, size_t *needed);
-
-/* Ends a run, wherever it is, and frees its memory. */
-void vq_close(struct vq_run run);
-
-/* An actor of a run that threads share, with its share of the run. vq_share writes `at`, and vq_actor_close ends it.
- *
- * Turns of different actors may be taken at the same time, from any threads, with nothing held round them: no call waits
- * for another, and none wakes one. What a caller owes of an actor, and nothing checks: each call is given one that
- * vq_share handed out and that isn't closed, as it was written; two structs don't stand for one actor; calls on one actor
- * are made one at a time, and where it moves to another thread, a lock, a join or the like stands between.
- */
-struct vq_actor {
-    void *at;
-};
+/* The verdict of vq_check; where it is VQ_LAWFUL, `*run` holds a run of the script over one core, before its first turn,
+ * and else it stays as it was. All memory of the run's turns is taken here. */
+struct vq_verdict vq_open(const uint8_t *text, size_t length, struct vq_handle *run);
 
 /* The most numbers that the actors of a script have: two for each of 16 queues, and the host's. */
 #define VQ_MOST_ACTORS 33
 
-/* The verdict of vq_check; where it is VQ_LAWFUL, the room has the actors of a run of the script before its first turn,
- * each at its number (as for vq_actors, the host's is 0), and NULL in all other places; `*needed` is how many numbers
- * there are. VQ_NO_ROOM: the script is lawful, and the room has less places than `*needed` says; the room stays. With any
- * other code room and number stay. The size of the room is in actors. All memory of the run's turns is taken here. */
-struct vq_verdict vq_share(const uint8_t *text, size_t length, struct vq_actor *room, size_t size, size_t *needed);
+/* The verdict of vq_check; where it is VQ_LAWFUL, the room has the actors of a run of the script over a board, before its
+ * first turn, each at its number (as for vq_actors, the host's is 0), and NULL in all other places; `*needed` is how many
+ * numbers there are. VQ_NO_ROOM: the script is lawful, and the room has less places than `*needed` says; the room stays.
+ * With any other code room and number stay. The size of the room is in actors. All memory of the run's turns is taken
+ * here. */
+struct vq_verdict vq_share(const uint8_t *text, size_t length, struct vq_handle *room, size_t size, size_t *needed);
 
-/* One turn of the actor: VQ_MOVED, VQ_BLOCKED or VQ_ENDED, as vq_turn has it. While another actor asks the lists of the
- * same chain, a turn may be blocked with VQ_WANT_LISTED: nothing was done, ask again. Other actors may see what the turn
- * made before the call returns (docs/C.md, "Runs that threads share"). It takes no memory. */
-uint32_t vq_actor_turn(struct vq_actor *actor, struct vq_turn *turn);
+/* How many numbers the actors of the plan have: 0 is the host's, and of the queue q, from 0 in the order of the script,
+ * 2q + 1 its submit actor's and 2q + 2 its ring's. Where the host submits for a queue, no actor has the number 2q + 1. */
+uint64_t vq_actors(struct vq_handle *handle);
 
-/* Whether all jobs are finished, as the host sees them once it has ended: VQ_DONE, or VQ_UNFINISHED, and then ask again.
- * VQ_NOT_HOST: another actor was asked. */
-uint32_t vq_actor_finished(struct vq_actor *host);
+/* One turn of the actor that is held. VQ_MOVED: it made one event, told in `*turn`. VQ_BLOCKED: it waits for what `*turn`
+ * tells, and made nothing; ask again after another actor has moved. VQ_ENDED: nothing of it is left to do. VQ_CLOSED:
+ * vq_bytes has closed its board. VQ_WRONG_KIND: no actor is held. With the last three `*turn` stays. While another actor
+ * asks the lists of the same chain, a turn may be blocked with VQ_WANT_LISTED: nothing was done, ask again. Other actors
+ * may see what the turn made before the call returns (docs/C.md, "Runs that threads share"). It takes no memory. */
+uint32_t vq_turn(struct vq_handle *actor, struct vq_turn *turn);
 
-/* What the steps of the host were answered so far, as vq_answers has it, and VQ_NOT_HOST. */
-uint32_t vq_actor_answers(struct vq_actor *host, struct vq_answered *room, size_t size, size_t *needed);
+/* One turn of the actor with a number, of the run over one core that is held: as vq_turn. What a blocked one waits for
+ * isn't so. VQ_NO_ACTOR: no actor has the number. VQ_WRONG_KIND: no run over one core is held. Then `*turn` stays. */
+uint32_t vq_turn_of(struct vq_handle *run, uint32_t actor, struct vq_turn *turn);
 
-/* The bytes of a buffer, as vq_bytes has it, once all jobs are finished and the host is the only actor of the run that
- * isn't closed. VQ_UNFINISHED, VQ_SHARED (another actor is open), VQ_NOT_HOST, VQ_NO_BUFFER, VQ_NO_MEMORY: nothing was
+/* The line of a job of the plan, counted from 1; 0 where there is none. */
+uint32_t vq_line(struct vq_handle *handle, uint32_t job);
+
+/* What an operation of the plan signals. VQ_DONE, or VQ_NO_OP, and then `*signal` stays. */
+uint32_t vq_op(struct vq_handle *handle, uint32_t op, struct vq_signal *signal);
+
+/* Whether all jobs are finished: VQ_DONE or VQ_UNFINISHED. Of a run over a board the host sees that, once its program has
+ * ended: after VQ_UNFINISHED ask again. VQ_NOT_HOST: another actor is held. VQ_WRONG_KIND: a plan is held. */
+uint32_t vq_finished(struct vq_handle *handle);
+
+/* What the steps of the host were answered so far, in the order of the script. So many rows as go into the room are
+ * written to its front, and `*needed` is how many there are: VQ_DONE, or VQ_NO_ROOM where some were left out.
+ * VQ_NO_MEMORY, VQ_NOT_HOST (another actor is held), VQ_WRONG_KIND (a plan is held): nothing was written. The size of the
+ * room is in rows. */
+uint32_t vq_answers(struct vq_handle *handle, struct vq_answered *room, size_t size, size_t *needed);
+
+/* The bytes of a buffer, numbered from 0 in the order of the script, once all jobs are finished: as vq_answers. Of a run
+ * over a board the host is asked, once no other actor of it is open; the board is closed by that.
+ * VQ_UNFINISHED, VQ_SHARED (another actor is open), VQ_NO_BUFFER, VQ_NO_MEMORY, VQ_NOT_HOST, VQ_WRONG_KIND: nothing was
  * written. */
-uint32_t vq_actor_bytes(struct vq_actor *host, uint32_t buffer, uint8_t *room, size_t size, size_t *needed);
+uint32_t vq_bytes(struct vq_handle *handle, uint32_t buffer, uint8_t *room, size_t size, size_t *needed);
 
-/* The line of a job and what an operation signals, as vq_line and vq_op have them. */
-uint32_t vq_actor_line(struct vq_actor *actor, uint32_t job);
-uint32_t vq_actor_op(struct vq_actor *actor, uint32_t op, struct vq_signal *signal);
-
-/* Gives up an actor, wherever it is. The last one of a run frees the run's memory. */
-void vq_actor_close(struct vq_actor actor);
+/* Ends what is held, wherever its run is, and frees its memory; of the actors of a board the last one frees the run's. */
+void vq_close(struct vq_handle handle);
 
 #ifdef __cplusplus
 }

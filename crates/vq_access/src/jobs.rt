@@ -31,8 +31,8 @@ impl<'a> Post<'a> {
         Event::Submit { job }
     }
 
-    /// Releases a batch, where the words of the points of its signals show them taken. Which points these are, the lists
-    /// of their chains say; where these are in use it looks where it would where they have no point.
+    /// Releases a batch, where the words of the points of its signals show them taken. Which points these are, the
+    /// lists of their chains say; where these are in use it looks where it would where they have no point.
     pub(crate) fn release<L: Lists>(&mut self, lists: &L, job: u32) -> Step
         requires { IsNext (meaning self.old) (Task.Release job) }
         ensures answer { AnswersTry (meaning self.old) (meaning self.new) (forward (meaning self.old).place)

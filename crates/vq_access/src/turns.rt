@@ -30,10 +30,10 @@ use vq_board::Pass;
 use vq_model::script::ActorName;
 use vq_turns::outcome::Outcome;
 
-/// One turn of an actor from its place, by the steps of a pass of the board that serves it. The places, with those that
-/// the seats kept before the turn, stay true of the pass, and all that is lent goes on as the turn left it, the refusals
-/// met too. What it came to, an event or a want, is shown since the turn's start. It waits for nothing but the locks of
-/// timelines, and for these where its lists wait, and takes no memory.
+/// One turn of an actor from its place, by the steps of a pass of the board that serves it. The places, with those
+/// that the seats kept before the turn, stay true of the pass, and all that is lent goes on as the turn left it, the
+/// refusals met too. What it came to, an event or a want, is shown since the turn's start. It waits for nothing but the
+/// locks of timelines, and for these where its lists wait, and takes no memory.
 pub fn turn_at<L: Lists>(
     grounds: &Grounds<L>,
     pass: &mut Pass,

@@ -9,7 +9,8 @@ use Rattle.vq_model.specs.declared.statement.FaultKind.TheVariants.{Syntax, Orde
 use Rattle.vq_model.specs.declared.statement.Form.TheVariants.{Plain}
 use Rattle.vq_model.specs.Context.{has_begun, number_at, queues, count, is_job}
 use Rattle.vq_model.specs.Forms.{Slot}
-use Rattle.vq_model.specs.LineFaults.{has_fault, kinds, is_declaration, is_shaped, is_numeric, is_known, is_new, ends_early}
+use Rattle.vq_model.specs.LineFaults.{has_fault, kinds, is_declaration, is_shaped, is_numeric, is_known}
+use Rattle.vq_model.specs.LineFaults.{is_new, ends_early}
 use Rattle.vq_model.specs.Meaning.{open_places, form_of, meaning}
 use Rattle.vq_model.specs.Text.{is_plain}
 use Rattle.vq_blocks.specs.declared.block.BlockForm.{BlockForm}

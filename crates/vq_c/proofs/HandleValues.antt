@@ -23,13 +23,13 @@ use Rattle.std.specs.contracts.alloc.Global as heap
 use Rattle.std.specs.contracts.impls.GlobalAllocator.TheImpl.{ghosts}
 use Rattle.std.proofs.alloc.Global.TheLaws as heap_laws
 use Rattle.vq_loose.proofs.Values.{both}
-use Rattle.vq_troupe.specs.Casts.{Cast}
+use Rattle.vq_c.specs.declared.object.Object.{Object}
 use Rattle.vq_c.specs.declared.handle.Handle.{Handle}
-use Rattle.vq_drive.specs.contracts.drive.Drive as drive
+use Rattle.vq_c.specs.contracts.object.Object as object
 use Rattle.vq_c.specs.contracts.handle.Handle as handle
 
 abbrev pub R : RattleType
-R = drive.the_row
+R = object.the_row
 
 abbrev pub Z : RattleType
 Z = heap.the_row
@@ -47,7 +47,7 @@ module _ {M : Type 1} {𝓤 : Ura M} {𝓛 : Logic 𝓤} {K : Type 0} {Γ : List
       (subst (λ (p : Ptr). vs ≡ vstruct (of_list (ptr_val p ∷ h ∷ [])) ∷ []) e
       (subst (λ (ws : List Val). vs ≡ vstruct (of_list (ptr_val d.at ∷ (ws ++ []))) ∷ []) ea (subst (λ (ps : List Val). vs ≡ vstruct (of_list (ps ++ (vss.1.0 ++ []))) ∷ []) ep ev))) fits)))))
 
-  pub handle_in : K → (b o : ℕ) (h : Val) (a : Global) (x : Cast)
+  pub handle_in : K → (b o : ℕ) (h : Val) (a : Global) (x : Object)
       → Step K 𝓛 (‵ (handle.the_row.own_val (record { at = block_ptr b o; alloc = a; value = x }) (both (vptr b o) h ∷ [])) ∷ Γ) G (‵ (box_owns (ghosts.dealloc_token a) R (block_ptr b o) x) ∷ ‵ (Z.own_val a (h ∷ [])) ∷ Γ) G
   handle_in t b o h a x = step (λ s. let v : Val = both (vptr b o) h in
       nothing t $ move t (2 ∷ 0 ∷ []) $ fjoin t $ feq_i t (List Val) (vptr b o ∷ []) (vptr b o ∷ []) refl $ fjoin t $ feq_i t (List Val) (v ∷ []) (v ∷ []) refl $ fjoin t $

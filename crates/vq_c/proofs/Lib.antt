@@ -1,3 +1,1 @@
-pub mod ActorValues
 pub mod HandleValues
-mod TurnedSo

@@ -4,9 +4,9 @@ use denote.RawPtr.{Ptr}
 use Rattle.std.specs.Box.Ownership.{box_owns}
 use Rattle.std.specs.declared.alloc.Global.{Global}
 use Rattle.std.specs.contracts.impls.GlobalAllocator.TheImpl.{ghosts}
-use Rattle.vq_troupe.specs.Casts.{Cast}
-use Rattle.vq_drive.specs.contracts.drive.Drive.{the_row}
+use Rattle.vq_c.specs.declared.object.Object.{Object}
+use Rattle.vq_c.specs.contracts.object.Object.{the_row}
 
--- the run x lies at p, and its block may be freed
-abbrev pub holds : Global → Ptr → Cast → Fml
+-- the object x lies at p, and its block may be freed
+abbrev pub holds : Global → Ptr → Object → Fml
 holds alloc = box_owns (ghosts.dealloc_token alloc) the_row

@@ -1,4 +1,7 @@
-pub mod ActorHandles
-pub mod Actors
+pub mod Objects
 pub mod Handles
-pub mod Runs
+pub mod Opened
+pub mod Turns
+pub mod Looks
+pub mod Answers
+pub mod Bytes

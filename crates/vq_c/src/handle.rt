@@ -1,20 +1,21 @@
-//! A run as C holds it.
+//! An object as C holds it.
 //!
 //! Source: this project's own.
 ghost use Rattle.std.specs.Prelude.{◌≡◌};
-ghost use Rattle.vq_troupe.specs.Casts.{Cast};
+ghost use Rattle.vq_c.specs.contracts.object.Object as object_row;
+ghost use Rattle.vq_c.specs.declared.object.Object.{Object as AnyObject};
 
+use crate::object::Object;
 use std::alloc::Global;
 use std::marker::Model;
-use vq_drive::Drive;
 use vq_loose::Loose;
 
-/// A run as its pointer, which C keeps. It owns the run, and has to be closed.
+/// An object as its pointer, which C keeps. It owns the object, and has to be closed.
 #[repr(C)]
 pub struct Handle {
     at: *mut u8,
     alloc: Global,
-    pub ghost value: { Cast },
+    pub ghost value: { AnyObject } by { object_row.the_row.coded },
 }
 
 impl Model for Handle {
@@ -25,7 +26,7 @@ impl Model for Handle {
 
 impl Handle {
     /// The pointer of a box, as C keeps it.
-    pub(crate) fn of(loose: Loose<Drive, Global>) -> Handle
+    pub(crate) fn of(loose: Loose<Object, Global>) -> Handle
         ensures { result.value ≡ loose.value }
     {
         let Loose { at, alloc } = loose;
@@ -34,11 +35,11 @@ impl Handle {
     }
 
     /// The pointer of a box again.
-    pub(crate) fn into_loose(self) -> Loose<Drive, Global>
+    pub(crate) fn into_loose(self) -> Loose<Object, Global>
         ensures { result.value ≡ self.value }
     {
         let Handle { at, alloc } = self;
-        let at = at as *mut Drive;
+        let at = at as *mut Object;
         Loose { at, alloc }
     }
 }

@@ -2,22 +2,22 @@
 //! the declarations.
 #![tactic(auto)]
 
-mod actor;
-mod actor_exports;
-mod actors;
+mod answers;
+mod bytes;
+mod calls;
 mod exports;
 mod handle;
+mod looks;
+mod object;
+mod open_exports;
 mod opening;
 mod run_exports;
-mod runs;
+mod turns;
 
-pub use actor::ActorHandle;
-pub use actor_exports::{
-    vq_actor_answers, vq_actor_bytes, vq_actor_close, vq_actor_finished, vq_actor_line,
-    vq_actor_op, vq_actor_turn, vq_share,
-};
 pub use exports::{Version, vq_check, vq_explain, vq_version};
 pub use handle::Handle;
+pub use object::Object;
+pub use open_exports::{vq_close, vq_open, vq_plan, vq_share};
 pub use run_exports::{
-    vq_actors, vq_answers, vq_bytes, vq_close, vq_finished, vq_line, vq_op, vq_open, vq_turn,
+    vq_actors, vq_answers, vq_bytes, vq_finished, vq_line, vq_op, vq_turn, vq_turn_of,
 };

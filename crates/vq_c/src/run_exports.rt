@@ -1,85 +1,91 @@
-//! What C calls on a run.
+//! What C calls on a handle.
 //!
 //! Source: this project's own.
-ghost use Rattle.std.specs.Prelude.{◌≡◌, ◌+◌, ◌*◌, ◌↔◌, IsTrue, length};
-ghost use Rattle.vq_core.specs.CoreState.{world};
-ghost use Rattle.vq_model.specs.Machine.{AreFinished};
+ghost use Rattle.std.specs.Prelude.{◌≡◌};
+ghost use Rattle.vq_c.specs.Answers.{AreRowsOf, IsUntold, answers_in};
+ghost use Rattle.vq_c.specs.Bytes.{IsRead, IsUnread};
+ghost use Rattle.vq_c.specs.Looks.{HasLooked};
+ghost use Rattle.vq_c.specs.Objects.{plan_of};
+ghost use Rattle.vq_c.specs.Opened.{count_of};
+ghost use Rattle.vq_c.specs.Turns.{HasTurned, HasTurnedOf, IsTold};
+ghost use Rattle.vq_face.specs.Kinds.{reply_code};
+ghost use Rattle.vq_face.specs.Rows.{HasOp, HasPut};
 ghost use Rattle.vq_model.specs.Plan.{line_of_job};
-ghost use Rattle.vq_c.specs.Runs.{HasOpened, HasRead, HasTurned, answers_so_far};
-ghost use Rattle.vq_face.specs.Rows.{HasAnswered, HasOp};
 
+use crate::calls::{acted, counted, found_op, lined, looked, played, read, told as rows_told};
 use crate::handle::Handle;
-use crate::opening::opened;
-use crate::runs::{answered, close, counted, finished, found_op, lined, read, turned};
 use core::mem::replace_with;
 use std::alloc::Global;
 use vq_face::{
-    AnswerRow, Ending, OpRow, Reply, Turn, Verdict, fit_reply, op_reply, op_told, put, put_rows,
-    reply_code, reply_of, rows_of, told, verdict_of,
+    AnswerRow, OpRow, Reply, Turn, fit_reply, op_reply, op_told, put, put_rows, reply_code,
+    reply_of, told,
 };
+use vq_turns::outcome::Outcome;
 
-/// The verdict on a script, and where it is lawful, a run of it before its first turn, at `run`. It takes the memory
-/// for all turns.
-#[unsafe(no_mangle)]
-pub extern "C" fn vq_open(alloc: Global, text: &[u8], run: &mut *mut u8) -> Verdict
-    ensures { HasOpened text.now run.old run.new result }
+/// Tells what came of a turn, and gives its code.
+fn tell(came: Result<Outcome, Reply>, turn: &mut Turn) -> u32
+    ensures { IsTold came turn.old turn.new result }
 {
-    match opened(alloc, text) {
-        Ok(drive) => {
-            *run = Box::into_raw(drive) as *mut u8;
-            verdict_of(Ending::Lawful)
+    match came {
+        Ok(outcome) => {
+            *turn = told(outcome, *turn);
+            reply_code(reply_of(outcome))
         }
-        Err(ending) => verdict_of(ending),
+        Err(reply) => reply_code(reply),
     }
+}
+
+/// A turn of the actor that is held: the code says whether it moved, is blocked or has ended, and `turn` with what.
+#[unsafe(no_mangle)]
+pub extern "C" fn vq_turn(actor: &mut Handle, turn: &mut Turn) -> u32
+    ensures { HasTurned actor.old.value actor.new.value turn.old turn.new result }
+{
+    tell(replace_with(actor, (), acted), turn)
+}
+
+/// A turn of the actor with a number, of the run that is held.
+#[unsafe(no_mangle)]
+pub extern "C" fn vq_turn_of(run: &mut Handle, actor: u32, turn: &mut Turn) -> u32
+    ensures { HasTurnedOf run.old.value run.new.value actor turn.old turn.new result }
+{
+    tell(replace_with(run, actor, played), turn)
 }
 
 /// How many numbers actors have: 0 is the host's, and of queue q 2q + 1 its submit actor's and 2q + 2 its ring's.
 #[unsafe(no_mangle)]
-pub extern "C" fn vq_actors(run: &mut Handle) -> u64
-    ensures same { run.new.value ≡ run.old.value }
-    ensures count { result ≡ 2 * length run.old.value.course.plan.script.queues + 1 }
+pub extern "C" fn vq_actors(handle: &mut Handle) -> u64
+    ensures same { handle.new.value ≡ handle.old.value }
+    ensures count { result ≡ count_of (plan_of handle.old.value) }
 {
-    replace_with(run, (), counted)
-}
-
-/// A turn of an actor: the code says whether it moved, is blocked or has ended, and `turn` with what.
-#[unsafe(no_mangle)]
-pub extern "C" fn vq_turn(run: &mut Handle, actor: u32, turn: &mut Turn) -> u32
-    ensures { HasTurned run.old.value run.new.value actor turn.old turn.new result }
-{
-    let outcome = replace_with(run, actor, turned);
-    *turn = told(outcome, *turn);
-    reply_code(reply_of(outcome))
+    replace_with(handle, (), counted)
 }
 
 /// The line of a job, 0 where there is none.
 #[unsafe(no_mangle)]
-pub extern "C" fn vq_line(run: &mut Handle, job: u32) -> u32
-    ensures same { run.new.value ≡ run.old.value }
-    ensures line { result ≡ line_of_job run.old.value.course.plan job }
+pub extern "C" fn vq_line(handle: &mut Handle, job: u32) -> u32
+    ensures same { handle.new.value ≡ handle.old.value }
+    ensures line { result ≡ line_of_job (plan_of handle.old.value) job }
 {
-    replace_with(run, job, lined)
+    replace_with(handle, job, lined)
 }
 
 /// A signal operation.
 #[unsafe(no_mangle)]
-pub extern "C" fn vq_op(run: &mut Handle, op: u32, row: &mut OpRow) -> u32
-    ensures same { run.new.value ≡ run.old.value }
-    ensures op { HasOp run.old.value.course.plan.ops op row.old row.new result }
+pub extern "C" fn vq_op(handle: &mut Handle, op: u32, row: &mut OpRow) -> u32
+    ensures same { handle.new.value ≡ handle.old.value }
+    ensures op { HasOp (plan_of handle.old.value).ops op row.old row.new result }
 {
-    let found = replace_with(run, op, found_op);
+    let found = replace_with(handle, op, found_op);
     *row = op_told(found, *row);
     reply_code(op_reply(found))
 }
 
-/// Whether all jobs are finished.
+/// Whether all jobs are finished. Of a run over a board the host sees that, once its program has ended.
 #[unsafe(no_mangle)]
-pub extern "C" fn vq_finished(run: &mut Handle) -> bool
-    ensures same { run.new.value ≡ run.old.value }
-    ensures finished { IsTrue result
-        ↔ AreFinished run.old.value.course.plan (world run.old.value.course).machine.progress }
+pub extern "C" fn vq_finished(handle: &mut Handle) -> u32
+    ensures { (reply : Reply) × HasLooked handle.old.value handle.new.value reply × (result ≡ reply_code reply) }
 {
-    replace_with(run, (), finished)
+    reply_code(replace_with(handle, (), looked))
 }
 
 /// What the steps of the host were answered so far, in the order of the script: as many rows as go into the room, and
@@ -87,37 +93,38 @@ pub extern "C" fn vq_finished(run: &mut Handle) -> bool
 #[unsafe(no_mangle)]
 pub extern "C" fn vq_answers(
     alloc: Global,
-    run: &mut Handle,
+    handle: &mut Handle,
     room: &mut [AnswerRow],
     needed: &mut usize,
 ) -> u32
-    ensures same { run.new.value ≡ run.old.value }
-    ensures answers { HasAnswered (answers_so_far run.old.value) room.old room.new needed.old needed.new result }
+    ensures same { handle.new.value ≡ handle.old.value }
+    ensures answers { HasPut (AreRowsOf (answers_in handle.old.value)) (IsUntold handle.old.value)
+        room.old room.new needed.old needed.new result }
 {
-    let Ok(lines) = replace_with(run, alloc, answered) else {
-        return reply_code(Reply::NoMemory);
-    };
-    let Ok(rows) = rows_of(alloc, lines.as_slice()) else {
-        return reply_code(Reply::NoMemory);
-    };
-    *needed = rows.len();
-    put_rows(rows.as_slice(), room);
-    reply_code(fit_reply(rows.len(), room.len()))
+    match replace_with(handle, alloc, rows_told) {
+        Ok(rows) => {
+            *needed = rows.len();
+            put_rows(rows.as_slice(), room);
+            reply_code(fit_reply(rows.len(), room.len()))
+        }
+        Err(reply) => reply_code(reply),
+    }
 }
 
-/// The bytes of a buffer, once all jobs are finished: as many as go into the room, and how many there are.
+/// The bytes of a buffer, once all jobs are finished, and of a run over a board once no other actor of it is open: as
+/// many as go into the room, and how many there are.
 #[unsafe(no_mangle)]
 pub extern "C" fn vq_bytes(
     alloc: Global,
-    run: &mut Handle,
+    handle: &mut Handle,
     buffer: u32,
     room: &mut [u8],
     needed: &mut usize,
 ) -> u32
-    ensures same { run.new.value ≡ run.old.value }
-    ensures bytes { HasRead run.old.value buffer room.old room.new needed.old needed.new result }
+    ensures { HasPut (IsRead handle.old.value handle.new.value buffer)
+        (IsUnread handle.old.value handle.new.value buffer) room.old room.new needed.old needed.new result }
 {
-    match replace_with(run, (alloc, buffer), read) {
+    match replace_with(handle, (alloc, buffer), read) {
         Ok(bytes) => {
             *needed = bytes.len();
             put(bytes.as_slice(), room);
@@ -125,10 +132,4 @@ pub extern "C" fn vq_bytes(
         }
         Err(reply) => reply_code(reply),
     }
-}
-
-/// Ends a run, wherever it is, and gives back its memory.
-#[unsafe(no_mangle)]
-pub extern "C" fn vq_close(run: Handle) {
-    close(run);
 }

@@ -3,8 +3,8 @@
 use Rattle.std.specs.Prelude.{ℕ}
 use Rattle.vq_face.specs.declared.reply.Reply.{Reply}
 use Rattle.vq_face.specs.declared.reply.Reply.TheVariants.{NoMemory, Done, Moved, Blocked, Ended, NoActor}
-use Rattle.vq_face.specs.declared.reply.Reply.TheVariants.{NoJob, NoOp, NoBuffer, Unfinished, NoRoom, NotHost}
-use Rattle.vq_face.specs.declared.reply.Reply.TheVariants.{Shared}
+use Rattle.vq_face.specs.declared.reply.Reply.TheVariants.{NoOp, NoBuffer, Unfinished, NoRoom, NotHost, Shared}
+use Rattle.vq_face.specs.declared.reply.Reply.TheVariants.{WrongKind, Closed}
 use Rattle.vq_model.specs.declared.plan.Event.{Event}
 use Rattle.vq_model.specs.declared.plan.Event.TheVariants.{Submit, Take, Release, Bind, Refer, Look}
 use Rattle.vq_model.specs.declared.plan.Event.TheVariants.{Unref, Complete, Free, Start, Apply, Signal}
@@ -22,13 +22,14 @@ reply_code Moved = 64
 reply_code Blocked = 65
 reply_code Ended = 66
 reply_code NoActor = 80
-reply_code NoJob = 81
 reply_code NoOp = 82
 reply_code NoBuffer = 83
 reply_code Unfinished = 84
 reply_code NoRoom = 85
 reply_code NotHost = 86
 reply_code Shared = 87
+reply_code WrongKind = 88
+reply_code Closed = 89
 
 abbrev pub event_code : Event → ℕ
 event_code (Submit a) = 1

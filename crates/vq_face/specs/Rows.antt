@@ -5,7 +5,7 @@ use Rattle.std.specs.List.{slice_get}
 use Rattle.vq_model.specs.declared.plan.AnswerLine.{AnswerLine}
 use Rattle.vq_model.specs.declared.plan.Op.{Op}
 use Rattle.vq_face.specs.declared.reply.Reply.{Reply}
-use Rattle.vq_face.specs.declared.reply.Reply.TheVariants.{Done, NoMemory, NoOp, NoRoom}
+use Rattle.vq_face.specs.declared.reply.Reply.TheVariants.{Done, NoOp, NoRoom}
 use Rattle.vq_face.specs.declared.rows.AnswerRow.{AnswerRow}
 use Rattle.vq_face.specs.declared.rows.OpRow.{OpRow}
 use Rattle.vq_face.specs.Kinds.{answer_code, reply_code}
@@ -21,6 +21,14 @@ with_front_of items room = take (length room) items ++ drop (length items) room
 abbrev pub fit_reply : ℕ → ℕ → Reply
 fit_reply items room = if nat_le items room then Done else NoRoom
 
+-- Items that are so stand in front of the room, as many as go in, and how many there are is told; or none were written,
+-- for this reason, and room and number stay.
+abbrev pub HasPut : {A : Type 0} → (List A → Type 0) → (Reply → Type 0) → List A → List A → ℕ → ℕ → ℕ → Type 0
+HasPut {A} are why old new before needed code =
+    ((items : List A) × are items × (new ≡ with_front_of items old) × (needed ≡ length items)
+    × (code ≡ reply_code (fit_reply (length items) (length old))))
+    ⊎ ((r : Reply) × why r × (new ≡ old) × (needed ≡ before) × (code ≡ reply_code r))
+
 -- Answers
 
 abbrev pub row_of : AnswerLine → AnswerRow
@@ -28,13 +36,6 @@ row_of x = record { line = x.line; kind = answer_code x.answer; value = answer_n
 
 abbrev pub rows_of : List AnswerLine → List AnswerRow
 rows_of lines = map row_of lines
-
--- The answers stand in front of the room; or there was no memory.
-abbrev pub HasAnswered : List AnswerLine → List AnswerRow → List AnswerRow → ℕ → ℕ → ℕ → Type 0
-HasAnswered lines old new before needed code =
-    ((new ≡ with_front_of (rows_of lines) old) × (needed ≡ length (rows_of lines))
-    × (code ≡ reply_code (fit_reply (length (rows_of lines)) (length old))))
-    ⊎ ((new ≡ old) × (needed ≡ before) × (code ≡ reply_code NoMemory))
 
 -- Signal operations
 

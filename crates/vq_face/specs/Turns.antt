@@ -1,5 +1,5 @@
 -- What crosses to C of a turn. This project's own.
-use Rattle.std.specs.Prelude.{ℕ, Option, Some, None, if◌then◌else◌}
+use Rattle.std.specs.Prelude.{ℕ, if◌then◌else◌}
 use Rattle.vq_model.specs.declared.plan.Answer.{Answer}
 use Rattle.vq_model.specs.declared.plan.Answer.TheVariants.{Value}
 use Rattle.vq_model.specs.declared.plan.Event.{Event}
@@ -13,7 +13,7 @@ use Rattle.vq_turns.specs.declared.outcome.Outcome.{Outcome}
 use Rattle.vq_turns.specs.declared.outcome.Outcome.TheVariants.{Moved as HasMoved, Blocked as IsBlocked}
 use Rattle.vq_turns.specs.declared.outcome.Outcome.TheVariants.{Ended as HasEnded}
 use Rattle.vq_face.specs.declared.reply.Reply.{Reply}
-use Rattle.vq_face.specs.declared.reply.Reply.TheVariants.{Moved, Blocked, Ended, NoActor}
+use Rattle.vq_face.specs.declared.reply.Reply.TheVariants.{Moved, Blocked, Ended}
 use Rattle.vq_face.specs.declared.turn.Turn.{Turn}
 use Rattle.vq_face.specs.Kinds.{answer_code, event_code, want_code}
 
@@ -76,16 +76,14 @@ want_turn MemoryTurn = blank (want_code MemoryTurn)
 want_turn (Exchange e n) = at_op (want_code (Exchange e n)) e
 want_turn (Listed e) = at_op (want_code (Listed e)) e
 
--- what a call answers that asked for a turn
-abbrev pub reply_of : Option Outcome → Reply
-reply_of None = NoActor
-reply_of (Some (HasMoved event)) = Moved
-reply_of (Some (IsBlocked want)) = Blocked
-reply_of (Some HasEnded) = Ended
+-- what a call answers that took a turn
+abbrev pub reply_of : Outcome → Reply
+reply_of (HasMoved event) = Moved
+reply_of (IsBlocked want) = Blocked
+reply_of HasEnded = Ended
 
--- what crosses of it; of an answer without event and want nothing, and what was there stays
-abbrev pub told : Option Outcome → Turn → Turn
-told None before = before
-told (Some (HasMoved event)) before = event_turn event
-told (Some (IsBlocked want)) before = want_turn want
-told (Some HasEnded) before = before
+-- what crosses of it; of one that has ended nothing, and what was there stays
+abbrev pub told : Outcome → Turn → Turn
+told (HasMoved event) before = event_turn event
+told (IsBlocked want) before = want_turn want
+told HasEnded before = before

@@ -19,13 +19,14 @@ pub fn reply_code(reply: Reply) -> u32
         Reply::Blocked => 65,
         Reply::Ended => 66,
         Reply::NoActor => 80,
-        Reply::NoJob => 81,
         Reply::NoOp => 82,
         Reply::NoBuffer => 83,
         Reply::Unfinished => 84,
         Reply::NoRoom => 85,
         Reply::NotHost => 86,
         Reply::Shared => 87,
+        Reply::WrongKind => 88,
+        Reply::Closed => 89,
     }
 }
 

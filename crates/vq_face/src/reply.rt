@@ -1,8 +1,8 @@
-//! What a call on a run answers.
+//! What a call on a handle answers.
 //!
 //! Source: this project's own.
 
-/// What a call on a run answers.
+/// What a call on a handle answers: that it is done, what a turn came to, or why nothing was done.
 #[derive(Clone, Copy)]
 pub enum Reply {
     Done,
@@ -11,11 +11,12 @@ pub enum Reply {
     Blocked,
     Ended,
     NoActor,
-    NoJob,
     NoOp,
     NoBuffer,
     Unfinished,
     NoRoom,
     NotHost,
     Shared,
+    WrongKind,
+    Closed,
 }

@@ -159,26 +159,24 @@ fn want_turn(want: Want) -> Turn
     }
 }
 
-/// What a call answers that asked for a turn.
-pub fn reply_of(outcome: Option<Outcome>) -> Reply
+/// What a call answers that took a turn.
+pub fn reply_of(outcome: Outcome) -> Reply
     ensures { result ≡ reply_of outcome }
 {
     match outcome {
-        None => Reply::NoActor,
-        Some(Outcome::Moved(_)) => Reply::Moved,
-        Some(Outcome::Blocked(_)) => Reply::Blocked,
-        Some(Outcome::Ended) => Reply::Ended,
+        Outcome::Moved(_) => Reply::Moved,
+        Outcome::Blocked(_) => Reply::Blocked,
+        Outcome::Ended => Reply::Ended,
     }
 }
 
-/// What crosses of the outcome of a turn; of other answers nothing, and what was there stays.
-pub fn told(outcome: Option<Outcome>, before: Turn) -> Turn
+/// What crosses of the outcome of a turn; of one that has ended nothing, and what was there stays.
+pub fn told(outcome: Outcome, before: Turn) -> Turn
     ensures { result ≡ told outcome before }
 {
     match outcome {
-        None => before,
-        Some(Outcome::Moved(event)) => event_turn(event),
-        Some(Outcome::Blocked(want)) => want_turn(want),
-        Some(Outcome::Ended) => before,
+        Outcome::Moved(event) => event_turn(event),
+        Outcome::Blocked(want) => want_turn(want),
+        Outcome::Ended => before,
     }
 }

@@ -1,6 +1,12 @@
-use Rattle.std.proofs.Common.{ap, ◌∙◌}
-use Rattle.vq_troupe.specs.Casts.{Cast, places}
+use Rattle.std.proofs.Common.{ap, subst, sym}
+use Rattle.vq_core.specs.CoreState.{Course}
+use Rattle.vq_face.specs.Endings.{IsLawfulPlanOf}
 use Rattle.vq_c.proofs.opening.drive_of.Goals as goal
 
-pub returns-in-Ok-clause-first : goal.returns-in-Ok-clause-first
-returns-in-Ok-clause-first c = ap (λ (x : Cast). places x) c.in-Ok.ensures.ok ∙ c.in_ok-drive.ensures.first
+pub returns-in-Ok-clause-lawful : goal.returns-in-Ok-clause-lawful
+returns-in-Ok-clause-lawful c =
+    let e = c.in-Ok.ensures.course in (
+      subst (IsLawfulPlanOf c.args.text.now) (sym (ap (λ (x : Course). x.plan) e)) c.in_ok-ordered.ensures.lawful,
+      ap (λ (x : Course). x.history) e,
+      c.in-Ok.ensures.first,
+    )

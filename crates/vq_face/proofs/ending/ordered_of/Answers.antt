@@ -1,4 +1,4 @@
-use Rattle.std.proofs.Common.{◌≡◌, sym, subst}
+use Rattle.std.proofs.Common.{sym, subst}
 use Rattle.vq_face.specs.Endings.{IsRefusal}
 use Rattle.vq_face.proofs.Ended.{lawful, order_refused, unlawful}
 use Rattle.vq_face.proofs.ending.ordered_of.Goals as goal
