@@ -136,7 +136,7 @@ static void test(const char *name, uint8_t *bytes)
 int main(int argc, char **argv)
 {
     struct vq_version version = vq_version();
-    if (version.face != 2 || version.script != 2)
+    if (version.face != 3 || version.script != 2)
         fail("vq_version", "another version");
     uint8_t *bytes = malloc(LONGEST);
     if (bytes == NULL)
