@@ -6,8 +6,6 @@ mod calls;
 mod content;
 mod lock;
 mod parts;
-#[cfg(test)]
-mod tests;
 
 pub use lock::{Guard, KeyedLock};
 pub use parts::Fits;

@@ -8,8 +8,8 @@ use Rattle.vq_board.specs.declared.parts.Pass.{Pass}
 use Rattle.vq_board.specs.Named.{plan_of, IsOf}
 use Rattle.vq_timeline.specs.declared.timeline.LockedTimeline.{LockedTimeline}
 use Rattle.vq_timeline.specs.Named.{IsAt, chain_at}
-use Rattle.vq_timeline_tests.specs.Locked.{IsFirstAt}
-use Rattle.vq_timeline_tests.specs.TwoBatches.{IsOfTwoBatches}
+use Rattle.vq_timeline_stage.specs.Locked.{IsFirstAt}
+use Rattle.vq_timeline_stage.specs.TwoBatches.{IsOfTwoBatches}
 use Rattle.vq_poll.specs.declared.bell.Bell.{Bell}
 use Rattle.vq_poll.specs.declared.pairs.Pair.{Pair}
 use Rattle.vq_poll.specs.declared.watched.WatchedBoard.{WatchedBoard}

@@ -2,8 +2,8 @@
 ghost use Rattle.std.specs.Prelude.{◌≡◌, ◌<◌, [], ◌∷◌, true, length, IfSome};
 ghost use Rattle.vq_board.specs.Named.{plan_of, IsOf};
 ghost use Rattle.vq_board_stage.specs.Dealing.{AllFresh, AreNew, IsDealer};
-ghost use Rattle.vq_timeline_tests.specs.Locked.{IsFirstAt};
-ghost use Rattle.vq_timeline_tests.specs.TwoBatches.{IsOfTwoBatches};
+ghost use Rattle.vq_timeline_stage.specs.Locked.{IsFirstAt};
+ghost use Rattle.vq_timeline_stage.specs.TwoBatches.{IsOfTwoBatches};
 ghost use Rattle.vq_poll.specs.Watching.{AreTimelines, IsWatched, plan_at};
 ghost use Rattle.vq_poll_stage.specs.Scenes.{AreHandedOn, AreIdle, IsScene};
 
@@ -16,9 +16,9 @@ use vq_board_stage::plans::checked;
 use vq_order::Ordered;
 use vq_poll::{Bell, WatchedBoard};
 use vq_timeline::LockedTimeline;
-use vq_timeline_tests::plans::is_of_two_batches;
-use vq_timeline_tests::rings::ring;
-use vq_timeline_tests::submitting::submitter;
+use vq_timeline_stage::plans::is_of_two_batches;
+use vq_timeline_stage::rings::ring;
+use vq_timeline_stage::submitting::submitter;
 
 /// Two batches signal A, with 2 and then with 7.
 const SCRIPT: &[u8] = b"timeline A 0

@@ -2,18 +2,18 @@
 ghost use Rattle.std.specs.Prelude.{◌≡◌, true, [], ◌∷◌};
 ghost use Rattle.vq_board.specs.Named.{plan_of};
 ghost use Rattle.vq_board_actors.specs.Holders.{HasSubmitted, HasReleased};
-ghost use Rattle.vq_timeline_tests.specs.TwoBatches.{IsOfTwoBatches};
-ghost use Rattle.vq_timeline_tests.specs.Acting.{HasRun, HasRunFirst};
-ghost use Rattle.vq_timeline_tests.specs.Locked.{IsFirstAt};
+ghost use Rattle.vq_timeline_stage.specs.TwoBatches.{IsOfTwoBatches};
+ghost use Rattle.vq_timeline_stage.specs.Acting.{HasRun, HasRunFirst};
+ghost use Rattle.vq_timeline_stage.specs.Locked.{IsFirstAt};
 
 use std::sync::Wait;
 use vq_board::{Board, Pass};
 use vq_poll::Bell;
 use vq_timeline::LockedTimeline;
 use vq_timeline_core::Taken;
-use vq_timeline_tests::host::submit;
-use vq_timeline_tests::rings::{run_first, run_second};
-use vq_timeline_tests::submitting::{release_first, release_second};
+use vq_timeline_stage::host::submit;
+use vq_timeline_stage::rings::{run_first, run_second};
+use vq_timeline_stage::submitting::{release_first, release_second};
 
 /// The host submits both batches.
 pub fn submit_both(board: &Board, host: &mut Pass)

@@ -1,6 +1,6 @@
 //! What is asked of waits on boards of their own.
 ghost use Rattle.std.specs.Prelude.{◌≡◌};
-ghost use Rattle.vq_timeline_tests.specs.TwoBatches.{IsOfTwoBatches};
+ghost use Rattle.vq_timeline_stage.specs.TwoBatches.{IsOfTwoBatches};
 ghost use Rattle.vq_poll.specs.Watching.{IsWatched, plan_at};
 ghost use Rattle.vq_poll_stage.specs.Scenes.{AreIdle, IsScene};
 

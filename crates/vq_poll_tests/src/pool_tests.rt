@@ -1,7 +1,7 @@
 //! Tasks of one executor that wait at one bell.
 ghost use Rattle.std.specs.Prelude.{◌≡◌, []};
-ghost use Rattle.vq_timeline_tests.specs.Acting.{HasRun};
-ghost use Rattle.vq_timeline_tests.specs.TwoBatches.{IsOfTwoBatches};
+ghost use Rattle.vq_timeline_stage.specs.Acting.{HasRun};
+ghost use Rattle.vq_timeline_stage.specs.TwoBatches.{IsOfTwoBatches};
 ghost use Rattle.vq_poll.specs.Watching.{IsWatched, plan_at};
 ghost use Rattle.vq_poll_stage.specs.Scenes.{AreHandedOn, AreIdle, IsScene};
 

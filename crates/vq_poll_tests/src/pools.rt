@@ -1,7 +1,7 @@
 //! Tasks of one executor that wait for A.
 ghost use Rattle.std.specs.Prelude.{IfSome};
 ghost use Rattle.vq_board.specs.Named.{IsOf};
-ghost use Rattle.vq_timeline_tests.specs.TwoBatches.{IsOfTwoBatches};
+ghost use Rattle.vq_timeline_stage.specs.TwoBatches.{IsOfTwoBatches};
 ghost use Rattle.vq_poll.specs.Owning.{CanWaitOwned};
 ghost use Rattle.vq_poll.specs.Watching.{IsWatched, plan_at};
 

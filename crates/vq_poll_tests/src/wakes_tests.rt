@@ -2,8 +2,8 @@
 ghost use Rattle.std.specs.Prelude.{◌≡◌, true, []};
 ghost use Rattle.vq_board.specs.Named.{IsOf};
 ghost use Rattle.vq_board_actors.specs.Holders.{HasReleased};
-ghost use Rattle.vq_timeline_tests.specs.Acting.{HasRun};
-ghost use Rattle.vq_timeline_tests.specs.TwoBatches.{IsOfTwoBatches};
+ghost use Rattle.vq_timeline_stage.specs.Acting.{HasRun};
+ghost use Rattle.vq_timeline_stage.specs.TwoBatches.{IsOfTwoBatches};
 ghost use Rattle.vq_poll.specs.Waiting.{CanWaitLent};
 ghost use Rattle.vq_poll.specs.Watching.{IsWatched, plan_at};
 ghost use Rattle.vq_poll_stage.specs.Scenes.{AreIdle, IsScene};

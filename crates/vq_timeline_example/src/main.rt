@@ -6,8 +6,8 @@ ghost use Rattle.std.specs.Prelude.{◌≡◌, true, [], ◌∷◌};
 ghost use Rattle.vq_board.specs.Named.{plan_of};
 ghost use Rattle.vq_board_actors.specs.Holders.{HasSubmitted, HasReleased};
 ghost use Rattle.vq_board_stage.specs.Dealing.{AreNew};
-ghost use Rattle.vq_timeline_tests.specs.TwoBatches.{IsOfTwoBatches};
-ghost use Rattle.vq_timeline_tests.specs.Locked.{IsFirstAt};
+ghost use Rattle.vq_timeline_stage.specs.TwoBatches.{IsOfTwoBatches};
+ghost use Rattle.vq_timeline_stage.specs.Locked.{IsFirstAt};
 
 use std::alloc::Global;
 use std::io;
@@ -16,10 +16,10 @@ use std::sync::Wait;
 use vq_board::{Board, Pass, Passes};
 use vq_timeline::LockedTimeline;
 use vq_timeline_core::{Found, Taken};
-use vq_timeline_tests::host::submit;
-use vq_timeline_tests::locked::locked;
-use vq_timeline_tests::rings::{ring, run_first};
-use vq_timeline_tests::submitting::{release_first, submitter};
+use vq_timeline_stage::host::submit;
+use vq_timeline_stage::locked::locked;
+use vq_timeline_stage::rings::{ring, run_first};
+use vq_timeline_stage::submitting::{release_first, submitter};
 
 /// Submit: the batch is written, its signal gets a point from the timeline's lists, the batch is handed on, and then its
 /// signal is pending. Only `take_for` and `bind` wait, for the lock of this timeline.

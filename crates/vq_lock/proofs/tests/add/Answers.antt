@@ -1,7 +1,0 @@
-use Rattle.vq_lock.proofs.Guards.{wrote}
-use Rattle.vq_lock.proofs.tests.add.Goals as goal
-
-pub unlock-requires : goal.unlock-requires
-unlock-requires g c =
-    let t = c.lock-guard.ensures in
-    (c.add.new.self, wrote c.args.lock.now c.lock-guard.result t.0 c.add.new.self t.1, tt)

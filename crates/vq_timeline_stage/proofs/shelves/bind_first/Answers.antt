@@ -1,0 +1,10 @@
+use Rattle.std.proofs.Common.{arith, rules}
+use Rattle.vq_board.specs.Named.{plan_of, view}
+use Rattle.vq_timeline_stage.proofs.TwoChains.{may_bind, smaller}
+use Rattle.vq_timeline_stage.proofs.shelves.bind_first.Goals as goal
+
+pub bind-requires-clause-may : goal.bind-requires-clause-may
+bind-requires-clause-may c =
+    let p = plan_of c.args.board.now in
+    let k = c.requires.plan in
+    may_bind p (view c.job_state.new.pass) 0 0 0 k.signals.first.its_job (search rules) (search rules) (λ f s. absurd (let below = smaller p f 0 k.signals s in omega arith)) k.first.step (search rules)
