@@ -7,15 +7,15 @@ ghost use Rattle.vq_timeline_stage.specs.TwoBatches.{IsOfTwoBatches};
 ghost use Rattle.vq_timeline_stage.specs.Acting.{HasRun};
 ghost use Rattle.vq_timeline_stage.specs.Locked.{IsFirstAt};
 
-use vq_timeline_stage::host::submit;
-use vq_timeline_stage::rings::run_first;
-use vq_timeline_stage::submitting::{release_first, submitter};
 use crate::tried::{Tried, first_two, is_so};
 use std::sync::Wait;
 use std::thread::{Threads, join};
 use vq_board::{Board, JobState, Pass, Passes};
 use vq_timeline::{BindFault, Collected, LockedTimeline};
 use vq_timeline_core::{Found, OpPlace, Taken};
+use vq_timeline_stage::host::submit;
+use vq_timeline_stage::rings::run_first;
+use vq_timeline_stage::submitting::{release_first, submitter};
 
 /// Operation 0 has no point, is given point 0, and isn't given another.
 fn takes_once<R: Wait>(rt: &R, board: &Board, timeline: &LockedTimeline) -> bool

@@ -8,14 +8,14 @@ ghost use Rattle.vq_timeline_stage.specs.TwoBatches.{IsOfTwoBatches};
 ghost use Rattle.vq_timeline_stage.specs.Acting.{HasRun};
 ghost use Rattle.vq_timeline_stage.specs.Locked.{IsFirstAt};
 
-use vq_timeline_stage::host::submit;
-use vq_timeline_stage::rings::run_first;
-use vq_timeline_stage::submitting::release_first;
 use crate::tried::{Tried, first_two, is_so};
 use std::sync::Wait;
 use vq_board::{Board, JobState, Pass, Passes};
 use vq_timeline::{BindFault, Collected, LockedTimeline};
 use vq_timeline_core::{OpPlace, Taken};
+use vq_timeline_stage::host::submit;
+use vq_timeline_stage::rings::run_first;
+use vq_timeline_stage::submitting::release_first;
 
 /// No call has an answer.
 fn answers_nothing(board: &Board, timeline: &LockedTimeline) -> bool

@@ -6,17 +6,17 @@ ghost use Rattle.vq_board_stage.specs.Dealing.{AreNew};
 ghost use Rattle.vq_timeline_stage.specs.TwoBatches.{IsOfTwoBatches};
 ghost use Rattle.vq_timeline_stage.specs.Acting.{IsFirstOf, HasBoth, HasRun};
 
-use vq_timeline_stage::host::{find_both, read, seen_made, submit};
-use vq_timeline_stage::rings::{run_first, run_second};
-use vq_timeline_stage::scene::opened;
-use vq_timeline_stage::shelves::{bind_first, bind_second, take_both};
-use vq_timeline_stage::submitting::{release_first, release_second};
 use crate::tried::first_two;
 use std::alloc::Global;
 use vq_board::{Board, Pass, Passes};
 use vq_board_actors::actors::shelf;
 use vq_payload::Chain;
 use vq_timeline_core::Found;
+use vq_timeline_stage::host::{find_both, read, seen_made, submit};
+use vq_timeline_stage::rings::{run_first, run_second};
+use vq_timeline_stage::scene::opened;
+use vq_timeline_stage::shelves::{bind_first, bind_second, take_both};
+use vq_timeline_stage::submitting::{release_first, release_second};
 
 /// Both batches are submitted and handed on, and their signals have points. It says whether all came out
 /// as wanted.

@@ -7,16 +7,16 @@ ghost use Rattle.vq_timeline_stage.specs.TwoBatches.{IsOfTwoBatches};
 ghost use Rattle.vq_timeline_stage.specs.Acting.{HasRun};
 ghost use Rattle.vq_timeline_stage.specs.Locked.{IsFirstAt};
 
-use vq_timeline_stage::locked::locked;
 use crate::locked_tests::{goes_round, refuses, takes_two};
-use vq_timeline_stage::rings::ring;
-use vq_timeline_stage::submitting::submitter;
 use crate::locked_trying_tests::goes_on;
 use std::alloc::Global;
 use std::sync::Wait;
 use std::thread::Threads;
 use vq_board::{Board, Pass, Passes};
 use vq_timeline::LockedTimeline;
+use vq_timeline_stage::locked::locked;
+use vq_timeline_stage::rings::ring;
+use vq_timeline_stage::submitting::submitter;
 
 /// What is tried.
 #[derive(Clone, Copy)]
