@@ -166,6 +166,19 @@ static void misuse(const char *name, struct vq_handle *actors, size_t count)
         fail(name, "a refused call wrote something");
 }
 
+/* An actor stands at each number that has one in a run over one core, and at no other. */
+static void at_their_numbers(const struct script *script, const struct vq_handle *actors, size_t count)
+{
+    struct vq_handle run;
+    struct vq_turn turn;
+    if (vq_open(script->text, script->length, &run).code != VQ_LAWFUL || vq_actors(&run) != count)
+        fail(script->name, "another number of actors");
+    for (uint32_t i = 0; i < VQ_MOST_ACTORS; i++)
+        if ((vq_turn_of(&run, i, &turn) == VQ_NO_ACTOR) != (actors[i].at == NULL))
+            fail(script->name, "an actor stands at another number");
+    vq_close(run);
+}
+
 /* What isn't of the kind that a handle holds: nothing is done, and what was there stays. */
 static void of_wrong_kind(const struct script *script, struct vq_handle *actor)
 {
@@ -370,6 +383,7 @@ static void test(int times, const struct script *script, uint8_t *room)
         if (time == 0) {
             misuse(script->name, actors, count);
             of_wrong_kind(script, &actors[0]);
+            at_their_numbers(script, actors, count);
             in_few_places(script, count);
         }
         run(script, actors, count, room, time == 0);
