@@ -13,12 +13,13 @@ ghost use Rattle.vq_clocks.specs.VectorClocks.{IsComplete, IsOfSomeJob};
 
 use crate::clocks::before::before_rows;
 use crate::clocks::parts::{Parts, all_parts, ends_before};
-use crate::clocks::rows::Rows;
+use crate::clocks::rows::at;
 use crate::clocks::sure::sure_rows;
 use crate::complete_run::CompleteRun;
 use crate::owners::owners;
 use std::alloc::{AllocError, Global};
 use std::marker::Model;
+use vq_lists::Rows;
 use vq_model::list::List;
 use vq_model::plan::{Op, PlanJob};
 use vq_model::script::SemaphoreKind;
@@ -88,7 +89,7 @@ impl Clocked {
         requires second { j < length self.now.jobs }
         ensures { IsTrue result ↔ HappensBefore self.now i j }
     {
-        i < self.before.at(self.run.position(j), self.run.lane(i))
+        i < at(&self.before, self.run.position(j), self.run.lane(i))
     }
 
     /// The job of a command.
@@ -124,7 +125,7 @@ impl Clocked {
         if part == parts.ends.len() {
             return self.before(i, j);
         }
-        i < parts.rows.at(part, self.run.lane(i))
+        i < at(&parts.rows, part, self.run.lane(i))
     }
 
     /// Whether a signal operation is sure to be made before a job ends.
@@ -136,7 +137,7 @@ impl Clocked {
         ensures { IsTrue result ↔ IsSure self.now op j }
     {
         let job = self.run.plan().op(op).job;
-        op < self.sure.at(self.run.position(j), self.run.lane(job))
+        op < at(&self.sure, self.run.position(j), self.run.lane(job))
     }
 
     /// The plan.

@@ -1,9 +1,10 @@
 -- All that is kept of a plan.
-use Rattle.std.proofs.Common.{◌≡◌, ℕ, ◌<◌, ◌≤◌, ◌^◌, length, map, get_or, zero-add, Some, None, refl, ap, ◌∙◌, arith}
+use Rattle.std.proofs.Common.{◌≡◌, ℕ, ◌<◌, ◌≤◌, ◌^◌, length, map, get_or, zero-add, List, [], Some, None, refl, ap, ◌∙◌, arith, subst}
 use Rattle.std.specs.List.{enumerate_from, range_with_len, flat_map}
 use Rattle.std.proofs.lemmas.List.{length-map}
 use Rattle.std.proofs.lemmas.List.FromFn.{length-map-range_with_len, get_or-map-range_with_len}
 use Rattle.vq_model.specs.declared.script.Script.{Script}
+use Rattle.vq_model.specs.Edges.{AtEnd, awaited_at, edges_to, must_finish}
 use Rattle.vq_model.specs.Lowering.{plan_of, plan_job}
 use Rattle.vq_model.specs.LoweringFaults.{lowering_fault, IsPlan}
 use Rattle.vq_model.specs.Plan.{Plan}
@@ -11,12 +12,11 @@ use Rattle.vq_model.specs.SameScript.{IsRead}
 use Rattle.vq_model.specs.Signals.{job_signals, all_signals, chain_ops}
 use Rattle.vq_model.specs.Limits.{limits_of}
 use Rattle.vq_reading_laws.proofs.Cited.{read_valid}
-use Rattle.vq_spec.specs.declared.edges.JobWaits.{JobWaits}
 use Rattle.vq_spec.specs.declared.lowering.Lowered.{Lowered}
 use Rattle.vq_spec.specs.declared.lowering.Tables.{Tables}
 use Rattle.vq_spec.specs.ChainParts.{AreChains}
 use Rattle.vq_spec.specs.Counts.{AreLowered, first_ops, unplaced}
-use Rattle.vq_spec.specs.Jobs.{waits_of}
+use Rattle.vq_spec.specs.Waits.{AreWaits}
 use Rattle.vq_spec.specs.PlanTables.{KeepsPlan}
 use Rattle.vq_spec.specs.Places.{command_there}
 use Rattle.vq_spec.proofs.Lowered.{few_jobs, few_commands, plan_length}
@@ -55,7 +55,7 @@ few_chains s i = (read_valid s i).limits.semaphores
 
 pub kept : (s : Script) → IsRead s → lowering_fault s ≡ None → (t : Tables) →
     t.jobs.items ≡ (plan_of s).jobs →
-    t.waits.items ≡ map (waits_of (plan_of s)) (range_with_len 0 (length t.jobs.items)) →
+    AreWaits (plan_of s) (length t.jobs.items) t.waits →
     map (command_there s.jobs) t.places.items ≡ map Some (plan_of s).commands →
     t.ops.items ≡ (plan_of s).ops → AreChains s t.chains.items → KeepsPlan s t
 kept s i none t jobs waits places ops chains =
@@ -75,8 +75,7 @@ kept s i none t jobs waits places ops chains =
       script = i;
       faultless = none;
       jobs = jobs;
-      waits = waits ∙ ap (λ n. map (waits_of (plan_of s)) (range_with_len 0 n))
-          (all_jobs ∙ counted);
+      waits = subst (λ n. AreWaits (plan_of s) n t.waits) (all_jobs ∙ counted) waits;
       places = places;
       ops = ops;
       chains = chains;
@@ -93,22 +92,33 @@ is_plan s t k = record { of_script = k.script; faultless = k.faultless; lowered 
 -- what is kept of one job
 module _ (s : Script) (t : Tables) (k : KeepsPlan s t) (p : Plan) (is : plan_of s ≡ p) (j : ℕ)
     (exists : j < length p.jobs) where
-  pub waits_within : j < length t.waits.items
-  waits_within = omega (
-    arith,
-    ap length k.waits,
-    length-map-range_with_len
-        (waits_of (plan_of s)) 0 (length s.jobs),
-    plan_length s k.script,
-    ap (λ (x : Plan). length x.jobs)
-        is,
-    exists,
-  )
+  inside : j < length s.jobs
+  inside = omega (arith, plan_length s k.script, ap (λ (x : Plan). length x.jobs) is, exists)
 
-  pub waits_read : (w : JobWaits) → w ≡ get_or t.waits.items j w → w ≡ waits_of p j
-  waits_read w r =
-      let inside : j < length s.jobs = omega
-      (arith, plan_length s k.script, ap (λ (x : Plan). length x.jobs) is, exists) in
-      r ∙ (ap (λ xs. get_or xs j w) k.waits
-      ∙ (get_or-map-range_with_len (waits_of (plan_of s)) 0 (length s.jobs) j j w inside
-      (zero-add j) ∙ ap (λ p. waits_of p j) is))
+  -- a row of a table that has one for each job
+  within : (f : ℕ → List ℕ) (rows : List (List ℕ)) → rows ≡ map f (range_with_len 0 (length s.jobs)) → j < length rows
+  within f rows all = omega (arith, ap length all, length-map-range_with_len f 0 (length s.jobs), inside)
+
+  read : (f : ℕ → List ℕ) (rows : List (List ℕ)) → rows ≡ map f (range_with_len 0 (length s.jobs)) →
+      get_or rows j [] ≡ f j
+  read f rows all = ap (λ xs. get_or xs j []) all
+      ∙ get_or-map-range_with_len f 0 (length s.jobs) j j [] inside (zero-add j)
+
+  pub firsts_within : j < length t.waits.firsts
+  firsts_within = within (must_finish (plan_of s)) t.waits.firsts k.waits.firsts
+
+  pub awaited_within : j < length t.waits.awaited
+  awaited_within = within (λ i. awaited_at (plan_of s) i AtEnd) t.waits.awaited k.waits.awaited
+
+  pub edges_within : j < length t.waits.edges
+  edges_within = within (edges_to (plan_of s)) t.waits.edges k.waits.edges
+
+  pub firsts_read : get_or t.waits.firsts j [] ≡ must_finish p j
+  firsts_read = read (must_finish (plan_of s)) t.waits.firsts k.waits.firsts ∙ ap (λ x. must_finish x j) is
+
+  pub awaited_read : get_or t.waits.awaited j [] ≡ awaited_at p j AtEnd
+  awaited_read = read (λ i. awaited_at (plan_of s) i AtEnd) t.waits.awaited k.waits.awaited
+      ∙ ap (λ x. awaited_at x j AtEnd) is
+
+  pub edges_read : get_or t.waits.edges j [] ≡ edges_to p j
+  edges_read = read (edges_to (plan_of s)) t.waits.edges k.waits.edges ∙ ap (λ x. edges_to x j) is

@@ -16,6 +16,7 @@ use Rattle.vq_model.specs.declared.script.Job.TheVariants.{Host, Batch as BatchJ
 use Rattle.vq_model.specs.declared.plan.Need.{Need}
 use Rattle.vq_model.specs.declared.plan.PlanJob.{PlanJob}
 use Rattle.vq_model.specs.Lowering.{plan_of, plan_job, of_pair, of_wait, step_needs}
+use Rattle.vq_model.specs.Edges.{AtEnd, awaited_at, edges_to, must_finish}
 use Rattle.vq_model.specs.Context.{is_fence, is_timeline}
 use Rattle.vq_model.specs.Plan.{Plan, has, value, chain, chain_of, resolver, initial, job_of}
 use Rattle.vq_model.specs.SameScript.{IsRead}
@@ -30,9 +31,10 @@ use Rattle.vq_model.proofs.Options.{some_of}
 use Rattle.vq_model.proofs.Searches.{find_member}
 use Rattle.vq_reading_laws.proofs.Cited.{kind_exists, read_batches, read_steps}
 use Rattle.vq_spec.specs.declared.chains.Chain.{Chain}
-use Rattle.vq_spec.specs.declared.edges.JobWaits.{JobWaits}
 use Rattle.vq_spec.specs.ChainParts.{AreChains, first_with}
-use Rattle.vq_spec.specs.Jobs.{resolving, waits_by, waits_of}
+use Rattle.vq_spec.specs.declared.edges.Waits.{Waits}
+use Rattle.vq_spec.specs.Jobs.{awaited_by, finished_before, resolving}
+use Rattle.vq_spec.specs.Waits.{AreWaits}
 use Rattle.vq_spec.proofs.PlanChains.{chain_read, resolver_is}
 use Rattle.vq_spec.proofs.Ranges.{take_push}
 
@@ -140,25 +142,24 @@ jobs_push f front now new es i e o at h is a =
 -- Jobs
 
 -- what a job waits for by its number is what it waits for by its own words
-pub waits_are : (p : Plan) (j : ℕ) (job : PlanJob) → slice_get p.jobs j ≡ Some job →
-    waits_of p j ≡ waits_by p job
-waits_are p j job at = ap of at
-  where
-    firsts : Option PlanJob → List ℕ
-    firsts o = option_to_list (option_map_or (λ (x : PlanJob). x.previous) o None)
-        ++ option_to_list (option_map_or (λ (x : PlanJob). x.host_before) o None)
-        ++ option_map_or (λ (x : PlanJob). x.idle_after) o []
+module _ (p : Plan) (j : ℕ) (job : PlanJob) (at : slice_get p.jobs j ≡ Some job) where
+  abbrev firsts : Option PlanJob → List ℕ
+  firsts o = option_to_list (option_map_or (λ (x : PlanJob). x.previous) o None)
+      ++ option_to_list (option_map_or (λ (x : PlanJob). x.host_before) o None)
+      ++ option_map_or (λ (x : PlanJob). x.idle_after) o []
 
-    awaited : Option PlanJob → List ℕ
-    awaited o = cond (option_map_or (λ (x : PlanJob). x.any) o false) []
-        (resolving p (option_map_or (λ (x : PlanJob). x.needs) o []))
+  abbrev awaited : Option PlanJob → List ℕ
+  awaited o = cond (option_map_or (λ (x : PlanJob). x.any) o false) []
+      (resolving p (option_map_or (λ (x : PlanJob). x.needs) o []))
 
-    of : Option PlanJob → JobWaits
-    of o = record {
-      firsts = firsts o;
-      awaited = awaited o;
-      edges = firsts o ++ filter_map (job_of p) (awaited o);
-    }
+  firsts_are : must_finish p j ≡ finished_before job
+  firsts_are = ap firsts at
+
+  awaited_are : awaited_at p j AtEnd ≡ awaited_by p job
+  awaited_are = ap awaited at
+
+  edges_are : edges_to p j ≡ finished_before job ++ filter_map (job_of p) (awaited_by p job)
+  edges_are = ap (λ o. firsts o ++ filter_map (job_of p) (awaited o)) at
 
 -- what a host step waits for exists
 module _ (s : Script) (j line : ℕ) where
@@ -201,11 +202,22 @@ module _ (s : Script) (i : IsRead s) (j : ℕ) (job : PlanJob)
       (sym (job_is s j) ∙ at) in
       needs_exist_at x.0 x.1 x.2
 
-  pub waits_push : (now new : List JobWaits) (own : JobWaits) →
-      now ≡ map (waits_of (plan_of s)) (range_with_len 0 j) →
-      own ≡ waits_by (plan_of s) job → new ≡ now ++ own ∷ [] →
-      new ≡ map (waits_of (plan_of s)) (range_with_len 0 (j + 1))
-  waits_push now new own h e a =
-      a
-      ∙ ((λ t. h t ++ (e ∙ sym (waits_are (plan_of s) j job at)) t ∷ [])
-      ∙ sym (map-range_with_len_more {X = JobWaits} (waits_of (plan_of s)) 0 j j (zero-add j)))
+  -- one job more
+  row_more : (f : ℕ → List ℕ) (now new : List (List ℕ)) (own row : List ℕ) → now ≡ map f (range_with_len 0 j) →
+      own ≡ row → f j ≡ row → new ≡ now ++ own ∷ [] → new ≡ map f (range_with_len 0 (j + 1))
+  row_more f now new own row h e is a =
+      a ∙ ((λ t. h t ++ (e ∙ sym is) t ∷ []) ∙ sym (map-range_with_len_more {X = List ℕ} f 0 j j (zero-add j)))
+
+  pub waits_push : (now new : Waits) (f a e : List ℕ) → AreWaits (plan_of s) j now →
+      f ≡ finished_before job → a ≡ awaited_by (plan_of s) job →
+      e ≡ finished_before job ++ filter_map (job_of (plan_of s)) (awaited_by (plan_of s) job) →
+      new.firsts ≡ now.firsts ++ f ∷ [] → new.awaited ≡ now.awaited ++ a ∷ [] →
+      new.edges ≡ now.edges ++ e ∷ [] → AreWaits (plan_of s) (j + 1) new
+  waits_push now new f a e h own_firsts own_awaited own_edges firsts awaited edges =
+      let p = plan_of s in
+      record {
+        firsts = row_more (must_finish p) now.firsts new.firsts _ _ h.firsts own_firsts (firsts_are p j job at) firsts;
+        awaited = row_more (λ k. awaited_at p k AtEnd) now.awaited new.awaited _ _ h.awaited own_awaited
+            (awaited_are p j job at) awaited;
+        edges = row_more (edges_to p) now.edges new.edges _ _ h.edges own_edges (edges_are p j job at) edges;
+      }

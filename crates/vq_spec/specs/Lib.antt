@@ -2,6 +2,7 @@ pub mod ChainParts
 pub mod Counts
 pub mod Fences
 pub mod Jobs
+pub mod Waits
 pub mod PlanTables
 pub mod Places
 pub mod SlowProgress

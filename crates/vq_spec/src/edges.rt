@@ -4,25 +4,35 @@ ghost use Rattle.std.specs.Prelude.{option_map};
 ghost use Rattle.std.specs.List.{filter_map, range_with_len, slice_get};
 ghost use Rattle.std.specs.Option.{option_to_list};
 ghost use Rattle.vq_model.specs.Lowering.{plan_of};
+ghost use Rattle.vq_model.specs.Plan.{job_of};
 ghost use Rattle.vq_model.specs.SameScript.{IsRead};
 ghost use Rattle.vq_spec.specs.ChainParts.{AreChains, AreParts};
-ghost use Rattle.vq_spec.specs.Jobs.{awaited_by, finished_before, resolving, waits_by, waits_of};
+ghost use Rattle.vq_spec.specs.Jobs.{awaited_by, finished_before, resolving};
+ghost use Rattle.vq_spec.specs.Waits.{AreWaits};
 
 use crate::chains::Chain;
 use std::alloc::{AllocError, Global};
-use vq_model::list::List;
+use vq_lists::Rows;
 use vq_model::plan::{Need, Op, PlanJob};
 use vq_model::script::Script;
 
-/// What a job waits for.
+/// What each job waits for, job by job.
+#[derive(Drop)]
+pub(crate) struct Waits {
+    /// The jobs that must be finished before it starts.
+    pub(crate) firsts: Rows,
+    /// The signal operations that it waits for: those that resolve its needs.
+    pub(crate) awaited: Rows,
+    /// The jobs with an edge to it: those that must be finished, and then those of the operations.
+    pub(crate) edges: Rows,
+}
+
+/// What one job waits for, until it stands with the others.
 #[derive(Drop)]
 pub(crate) struct JobWaits {
-    /// The jobs that must be finished before it starts.
-    pub(crate) firsts: List<u32>,
-    /// The signal operations that it waits for: those that resolve its needs.
-    pub(crate) awaited: List<u32>,
-    /// The jobs with an edge to it: those of `firsts`, and then those of `awaited`.
-    pub(crate) edges: List<u32>,
+    pub(crate) firsts: Vec<u32>,
+    pub(crate) awaited: Vec<u32>,
+    pub(crate) edges: Vec<u32>,
 }
 
 /// Adds a number, if there is one.
@@ -35,15 +45,14 @@ pub(crate) fn push_some(numbers: &mut Vec<u32>, number: Option<u32>) -> Result<(
     Ok(())
 }
 
-/// The jobs that must be finished before a job starts.
-fn finished_before(alloc: Global, job: &PlanJob) -> Result<List<u32>, AllocError>
-    ensures { IfOk result (λ jobs. jobs ≡ finished_before job.now) }
+/// Puts the jobs that must be finished before a job starts in the place of others.
+fn finished_before(jobs: &mut Vec<u32>, job: &PlanJob) -> Result<(), AllocError>
+    ensures { OnOk result (jobs.new.items ≡ finished_before job.now) }
 {
-    let mut jobs = Vec::with_capacity(alloc, job.idle_after.len().saturating_add(2))?;
-    push_some(&mut jobs, job.previous)?;
-    push_some(&mut jobs, job.host_before)?;
-    jobs.extend_from_slice(job.idle_after.as_slice())?;
-    Ok(List::of(jobs))
+    jobs.clear();
+    push_some(jobs, job.previous)?;
+    push_some(jobs, job.host_before)?;
+    jobs.extend_from_slice(job.idle_after.as_slice())
 }
 
 /// Adds the operation that resolves a need. A need that the initial value meets waits for none.
@@ -66,26 +75,26 @@ fn push_resolving(
     Ok(())
 }
 
-/// The signal operations that a job waits for.
+/// Puts the signal operations that a job waits for in the place of others.
 fn awaited(
-    alloc: Global,
+    ops: &mut Vec<u32>,
     script: &Script,
     chains: &[Chain],
     job: &PlanJob,
-) -> Result<List<u32>, AllocError>
+) -> Result<(), AllocError>
     requires read { IsRead script.now }
     requires chains { AreChains script.now chains.now }
     requires exist { All (λ n. n.chain < length script.now.semaphores) job.now.needs }
-    ensures { IfOk result (λ ops. ops ≡ awaited_by (plan_of script.now) job.now) }
+    ensures { OnOk result (ops.new.items ≡ awaited_by (plan_of script.now) job.now) }
 {
+    ops.clear();
     if job.any {
-        return Ok(List::of(Vec::new(alloc)));
+        return Ok(());
     }
-    let mut ops = Vec::with_capacity(alloc, job.needs.len())?;
     for need in job.needs.as_slice() {
-        push_resolving(&mut ops, script, chains, need)?;
+        push_resolving(ops, script, chains, need)?;
     }
-    Ok(List::of(ops))
+    Ok(())
 }
 
 /// The job of an operation.
@@ -95,44 +104,84 @@ fn job_of(ops: &[Op], op: u32) -> Option<u32>
     Some(ops.get(op as usize)?.job)
 }
 
-/// Some jobs, and then those of operations.
+/// Puts some jobs, and then those of operations, in the place of others.
 fn with_jobs_of(
-    alloc: Global,
+    jobs: &mut Vec<u32>,
     ops: &[Op],
     firsts: &[u32],
     awaited: &[u32],
-) -> Result<List<u32>, AllocError>
-    ensures { IfOk result (λ jobs. jobs ≡ firsts.now
+) -> Result<(), AllocError>
+    ensures { OnOk result (jobs.new.items ≡ firsts.now
         ++ filter_map (λ e. option_map (λ o. o.job) (slice_get ops.now e)) awaited.now) }
 {
-    let mut jobs = Vec::with_capacity(alloc, firsts.len().saturating_add(awaited.len()))?;
+    jobs.clear();
     jobs.extend_from_slice(firsts)?;
     for op in awaited {
-        push_some(&mut jobs, job_of(ops, *op))?;
+        push_some(jobs, job_of(ops, *op))?;
     }
-    Ok(List::of(jobs))
+    Ok(())
 }
 
-/// What a job waits for.
-fn waits_of(
-    alloc: Global,
-    script: &Script,
-    ops: &[Op],
-    chains: &[Chain],
-    job: &PlanJob,
-) -> Result<JobWaits, AllocError>
-    requires parts { AreParts script.now ops.now chains.now }
-    requires exist { All (λ n. n.chain < length script.now.semaphores) job.now.needs }
-    ensures { IfOk result (λ waits. waits ≡ waits_by (plan_of script.now) job.now) }
-{
-    let firsts = finished_before(alloc, job)?;
-    let awaited = awaited(alloc, script, chains, job)?;
-    let edges = with_jobs_of(alloc, ops, firsts.as_slice(), awaited.as_slice())?;
-    Ok(JobWaits {
-        firsts,
-        awaited,
-        edges,
-    })
+impl JobWaits {
+    /// Nothing is waited for. It takes no memory.
+    fn new(alloc: Global) -> JobWaits {
+        JobWaits {
+            firsts: Vec::new(alloc),
+            awaited: Vec::new(alloc),
+            edges: Vec::new(alloc),
+        }
+    }
+
+    /// Puts what a job waits for in the place of what stood there.
+    fn take(
+        &mut self,
+        script: &Script,
+        ops: &[Op],
+        chains: &[Chain],
+        job: &PlanJob,
+    ) -> Result<(), AllocError>
+        requires parts { AreParts script.now ops.now chains.now }
+        requires exist { All (λ n. n.chain < length script.now.semaphores) job.now.needs }
+        ensures firsts { OnOk result (self.new.firsts.items ≡ finished_before job.now) }
+        ensures awaited { OnOk result (self.new.awaited.items ≡ awaited_by (plan_of script.now) job.now) }
+        ensures edges { OnOk result (self.new.edges.items ≡ finished_before job.now
+            ++ filter_map (job_of (plan_of script.now)) (awaited_by (plan_of script.now) job.now)) }
+    {
+        finished_before(&mut self.firsts, job)?;
+        awaited(&mut self.awaited, script, chains, job)?;
+        with_jobs_of(
+            &mut self.edges,
+            ops,
+            self.firsts.as_slice(),
+            self.awaited.as_slice(),
+        )
+    }
+}
+
+impl Waits {
+    /// What no job waits for, with room for so many jobs.
+    fn new(alloc: Global, jobs: usize) -> Result<Waits, AllocError>
+        ensures firsts { IfOk result (λ waits. waits.firsts ≡ []) }
+        ensures awaited { IfOk result (λ waits. waits.awaited ≡ []) }
+        ensures edges { IfOk result (λ waits. waits.edges ≡ []) }
+    {
+        Ok(Waits {
+            firsts: Rows::with_room(alloc, jobs, jobs)?,
+            awaited: Rows::with_room(alloc, jobs, jobs)?,
+            edges: Rows::with_room(alloc, jobs, jobs)?,
+        })
+    }
+
+    /// Adds what the next job waits for.
+    fn push(&mut self, own: &JobWaits) -> Result<(), AllocError>
+        ensures firsts { OnOk result (self.new.firsts ≡ self.old.firsts ++ own.now.firsts.items ∷ []) }
+        ensures awaited { OnOk result (self.new.awaited ≡ self.old.awaited ++ own.now.awaited.items ∷ []) }
+        ensures edges { OnOk result (self.new.edges ≡ self.old.edges ++ own.now.edges.items ∷ []) }
+    {
+        self.firsts.push(own.firsts.as_slice())?;
+        self.awaited.push(own.awaited.as_slice())?;
+        self.edges.push(own.edges.as_slice())
+    }
 }
 
 /// What each job waits for.
@@ -142,15 +191,16 @@ pub(crate) fn lower_waits(
     ops: &[Op],
     chains: &[Chain],
     jobs: &[PlanJob],
-) -> Result<Vec<JobWaits>, AllocError>
+) -> Result<Waits, AllocError>
     requires parts { AreParts script.now ops.now chains.now }
     requires jobs { jobs.now ≡ (plan_of script.now).jobs }
-    ensures { IfOk result (λ waits. waits.items
-        ≡ map (waits_of (plan_of script.now)) (range_with_len 0 (length jobs.now))) }
+    ensures { IfOk result (λ waits. AreWaits (plan_of script.now) (length jobs.now) waits) }
 {
-    let mut waits = Vec::with_capacity(alloc, jobs.len())?;
+    let mut waits = Waits::new(alloc, jobs.len())?;
+    let mut own = JobWaits::new(alloc);
     for job in jobs {
-        waits.push(waits_of(alloc, script, ops, chains, job)?)?;
+        own.take(script, ops, chains, job)?;
+        waits.push(&own)?;
     }
     Ok(waits)
 }

@@ -9,7 +9,7 @@ ghost use Rattle.vq_model.specs.declared.script.Job.TheVariants.{Host, Batch as 
 ghost use Rattle.vq_spec.specs.Counts.{AreLowered, batch_job, need_by};
 
 use crate::chains::{Chain, lower_chains, place_ops};
-use crate::edges::{JobWaits, lower_waits};
+use crate::edges::{Waits, lower_waits};
 use crate::fences::{FenceState, no_fences, take_batch, take_step};
 use crate::host_steps::{push_signals, step_job};
 use crate::places::{CommandAt, lower_places};
@@ -23,7 +23,7 @@ use vq_model::script::{Batch, HostLine, Job, Mark, Script};
 pub(crate) struct Tables {
     pub(crate) jobs: Vec<PlanJob>,
     /// What each job waits for.
-    pub(crate) waits: Vec<JobWaits>,
+    pub(crate) waits: Waits,
     /// Where each command stands in the script.
     pub(crate) places: Vec<CommandAt>,
     pub(crate) ops: Vec<Op>,

@@ -189,7 +189,7 @@ impl Plan {
         requires { j < length self.now.jobs }
         ensures { result.now ≡ must_finish self.now j }
     {
-        self.tables.waits[j as usize].firsts.as_slice()
+        self.tables.waits.firsts.row(j as usize)
     }
 
     /// The signal operations that a job waits for: those that resolve its needs above the initial
@@ -200,7 +200,7 @@ impl Plan {
         requires { j < length self.now.jobs }
         ensures { result.now ≡ awaited_at self.now j AtEnd }
     {
-        self.tables.waits[j as usize].awaited.as_slice()
+        self.tables.waits.awaited.row(j as usize)
     }
 
     /// The jobs with an edge to a job: those that must be finished before it starts, and those
@@ -211,6 +211,6 @@ impl Plan {
         requires { j < length self.now.jobs }
         ensures { result.now ≡ edges_to self.now j }
     {
-        self.tables.waits[j as usize].edges.as_slice()
+        self.tables.waits.edges.row(j as usize)
     }
 }

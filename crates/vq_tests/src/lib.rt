@@ -9,6 +9,8 @@ mod generator_tests;
 #[cfg(test)]
 mod host_tests;
 #[cfg(test)]
+mod lists_tests;
+#[cfg(test)]
 mod order_tests;
 #[cfg(test)]
 mod plan_tests;

@@ -6,9 +6,10 @@ ghost use Rattle.vq_model.specs.SlowRun.{slow_order};
 ghost use Rattle.vq_clocks.specs.VectorClocks.{in_row, itself, lanes, AddsEdge, AllBelow, Covers, HasClocks, IsClock};
 ghost use Rattle.vq_clocks.specs.VectorClocks.{MakesClock, PassesOne};
 
-use crate::clocks::rows::{Row, Rows};
+use crate::clocks::rows::Row;
 use crate::complete_run::CompleteRun;
 use std::alloc::{AllocError, Global};
+use vq_lists::Rows;
 
 /// Adds an edge to a job to its row.
 fn add_edge(row: &mut Row, run: &CompleteRun, rows: &Rows, j: u32, edge: u32)
@@ -57,10 +58,11 @@ fn before_row(alloc: Global, run: &CompleteRun, rows: &Rows, j: u32) -> Result<R
 pub(crate) fn before_rows(alloc: Global, run: &CompleteRun) -> Result<Rows, AllocError>
     ensures { IfOk result (λ rows. HasClocks run.now rows (length (slow_order run.now))) }
 {
-    let mut rows = Rows::new(alloc);
+    let (jobs, lanes) = (run.order().len(), run.lanes());
+    let mut rows = Rows::with_room(alloc, jobs, jobs.saturating_mul(lanes))?;
     for j in run.order() {
         let row = before_row(alloc, run, &rows, *j)?;
-        rows.push(row)?;
+        rows.push(row.as_slice())?;
     }
     Ok(rows)
 }

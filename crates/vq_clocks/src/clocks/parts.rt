@@ -10,9 +10,10 @@ ghost use Rattle.vq_clocks.specs.PartClocks.{end_before, jobs_for, AreParts, Hav
 ghost use Rattle.vq_clocks.specs.VectorClocks.{in_row, lanes, HasClocks, IsClock, MakesClock};
 
 use crate::clocks::before::row_through;
-use crate::clocks::rows::{Row, Rows};
+use crate::clocks::rows::Row;
 use crate::complete_run::CompleteRun;
 use std::alloc::{AllocError, Global};
+use vq_lists::Rows;
 use vq_model::plan::Need;
 use vq_spec::Plan;
 
@@ -153,7 +154,7 @@ fn parts_of(alloc: Global, run: &CompleteRun, rows: &Rows, j: u32) -> Result<Par
     let mut of_parts = Rows::new(alloc);
     for end in ends.as_slice() {
         let row = place_row(alloc, run, rows, j, *end)?;
-        of_parts.push(row)?;
+        of_parts.push(row.as_slice())?;
     }
     Ok(Parts {
         ends,

@@ -1,12 +1,12 @@
-//! Tables of rows of numbers, one for each lane.
-ghost use Rattle.std.specs.Prelude.{◌≡◌, ◌<◌, ◌++◌, ◌∷◌, [], ℕ, max, length, replicate, IfOk};
-ghost use Rattle.std.specs.Prelude.{OnOk};
+//! Rows of numbers, one for each lane.
+ghost use Rattle.std.specs.Prelude.{◌≡◌, ◌<◌, [], ℕ, max, length, replicate, IfOk};
 ghost use Rattle.std.specs.Prelude.{◌==◌, if◌then◌else◌};
 ghost use Rattle.std.specs.List.{slice_index_or};
 ghost use Rattle.vq_clocks.specs.VectorClocks.{in_row, row_at, Joins};
 
 use std::alloc::{AllocError, Global};
 use std::marker::Model;
+use vq_lists::Rows;
 
 /// A number for each lane.
 #[derive(Drop)]
@@ -32,21 +32,20 @@ impl Row {
         })
     }
 
-    /// The number of a lane.
-    fn at(&self, lane: usize) -> u32
-        requires { lane < length self.now }
-        ensures { result ≡ in_row self.now lane }
+    /// The numbers, lane by lane.
+    pub(crate) fn as_slice(&self) -> &[u32]
+        ensures { result.now ≡ self.now }
     {
-        self.numbers[lane]
+        self.numbers.as_slice()
     }
 
     /// Raises each number of a row to that of another one, and one of them to a bound too.
-    pub(crate) fn join(&mut self, from: &Row, lane: usize, bound: u32)
+    pub(crate) fn join(&mut self, from: &[u32], lane: usize, bound: u32)
         requires same { length from.now ≡ length self.old }
         requires exists { lane < length self.old }
         ensures { Joins self.old from.now lane bound self.new }
     {
-        raise_all(self.numbers.as_mut_slice(), from.numbers.as_slice());
+        raise_all(self.numbers.as_mut_slice(), from);
         raise(self.numbers.as_mut_slice(), lane, bound);
     }
 }
@@ -72,52 +71,11 @@ fn raise(row: &mut [u32], lane: usize, bound: u32)
     }
 }
 
-/// Rows, one after another.
-#[derive(Drop)]
-pub(crate) struct Rows {
-    rows: Vec<Row>,
-}
-
-impl Model for Rows {
-    ghost use Rattle.std.specs.Prelude.{List, ℕ};
-
-    ghost Value = { List (List ℕ) };
-
-    ghost view = { λ a. a.rows.items };
-}
-
-impl Rows {
-    /// No rows.
-    pub(crate) fn new(alloc: Global) -> Rows
-        ensures { result ≡ [] }
-    {
-        Rows {
-            rows: Vec::new(alloc),
-        }
-    }
-
-    /// Adds a row at the end.
-    pub(crate) fn push(&mut self, row: Row) -> Result<(), AllocError>
-        ensures { OnOk result (self.new ≡ self.old ++ row ∷ []) }
-    {
-        self.rows.push(row)?;
-        Ok(())
-    }
-
-    /// A row.
-    pub(crate) fn row(&self, n: usize) -> &Row
-        requires { n < length self.now }
-        ensures { result.now ≡ slice_index_or self.now n [] }
-    {
-        &self.rows[n]
-    }
-
-    /// A number of a row.
-    pub(crate) fn at(&self, n: usize, lane: usize) -> u32
-        requires row { n < length self.now }
-        requires lane { lane < length (slice_index_or self.now n []) }
-        ensures { result ≡ row_at self.now n lane }
-    {
-        self.row(n).at(lane)
-    }
+/// A number of a row.
+pub(crate) fn at(rows: &Rows, n: usize, lane: usize) -> u32
+    requires row { n < length rows.now }
+    requires lane { lane < length (slice_index_or rows.now n []) }
+    ensures { result ≡ row_at rows.now n lane }
+{
+    rows.row(n)[lane]
 }

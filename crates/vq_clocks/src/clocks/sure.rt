@@ -6,9 +6,10 @@ ghost use Rattle.vq_model.specs.SlowRun.{slow_order};
 ghost use Rattle.vq_clocks.specs.VectorClocks.{in_row, lanes, AddsJob, AddsOp, EndsOps, HasSureClocks, IsSureClock};
 ghost use Rattle.vq_clocks.specs.VectorClocks.{MakesSureClock};
 
-use crate::clocks::rows::{Row, Rows};
+use crate::clocks::rows::Row;
 use crate::complete_run::CompleteRun;
 use std::alloc::{AllocError, Global};
+use vq_lists::Rows;
 
 /// A bound on a job's signal operations. Those of later jobs are at or above it.
 fn ops_end(run: &CompleteRun, j: u32) -> u32
@@ -68,10 +69,11 @@ fn sure_row(alloc: Global, run: &CompleteRun, rows: &Rows, j: u32) -> Result<Row
 pub(crate) fn sure_rows(alloc: Global, run: &CompleteRun) -> Result<Rows, AllocError>
     ensures { IfOk result (λ rows. HasSureClocks run.now rows (length (slow_order run.now))) }
 {
-    let mut rows = Rows::new(alloc);
+    let (jobs, lanes) = (run.order().len(), run.lanes());
+    let mut rows = Rows::with_room(alloc, jobs, jobs.saturating_mul(lanes))?;
     for j in run.order() {
         let row = sure_row(alloc, run, &rows, *j)?;
-        rows.push(row)?;
+        rows.push(row.as_slice())?;
     }
     Ok(rows)
 }

@@ -1,4 +1,4 @@
-use Rattle.std.proofs.Common.{◌+◌, ◌<◌, ℕ, List, length, get_or, sym, subst, arith}
+use Rattle.std.proofs.Common.{◌++◌, ◌∷◌, [], ◌∙◌, ap, ◌+◌, ◌<◌, ℕ, List, length, get_or, sym, subst, arith}
 use Rattle.vq_model.specs.Edges.{AtEnd}
 use Rattle.vq_model.specs.SlowRun.{slow_order}
 use Rattle.vq_clocks.specs.VectorClocks.{HasSureClocks, IsSureClock, in_row}
@@ -24,4 +24,6 @@ loop-j-preserved c =
     let e = c.order-j-items.ensures.value in
     let k : IsSureClock p (get_or (slow_order p) i 0) AtEnd (in_row row) = subst (λ (xs : List ℕ). IsSureClock p (get_or xs i 0) AtEnd (in_row row)) e c.in_ok-row.ensures.value in
     let l : i < length (slow_order p) = subst (λ (xs : List ℕ). i < length xs) e c.loop-j-test.true in
-    subst (λ (rows : List (List ℕ)). HasSureClocks p rows (i + 1)) (sym c.in_ok-push.ensures) (rows_push p (λ j. IsSureClock p j AtEnd) c.loop-j.rows row i l c.loop-j.invariant k c.in_ok-row.ensures.width)
+    subst (λ (rows : List (List ℕ)). HasSureClocks p rows (i + 1))
+    (ap (λ (r : List ℕ). c.loop-j.rows ++ r ∷ []) (sym c.as_slice.ensures) ∙ sym c.in_ok-push.ensures)
+    (rows_push p (λ j. IsSureClock p j AtEnd) c.loop-j.rows row i l c.loop-j.invariant k c.in_ok-row.ensures.width)

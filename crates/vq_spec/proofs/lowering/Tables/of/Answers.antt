@@ -1,10 +1,10 @@
 use Rattle.std.proofs.Common.{◌≡◌, ◌∙◌, ap, sym, length, map, subst, All, List, ℕ, ◌<◌, ◌^◌, arith}
-use Rattle.std.specs.List.{enumerate_from, range_with_len}
+use Rattle.std.specs.List.{enumerate_from}
 use Rattle.vq_model.specs.declared.plan.Op.{Op}
 use Rattle.vq_model.specs.Lowering.{plan_of}
 use Rattle.vq_spec.specs.declared.chains.Chain.{Chain}
 use Rattle.vq_spec.specs.ChainParts.{placed, IsSearchable, AreSorted, AreChains}
-use Rattle.vq_spec.specs.Jobs.{waits_of}
+use Rattle.vq_spec.specs.Waits.{AreWaits}
 use Rattle.vq_spec.proofs.KeptTables.{lowered_jobs, lowered_ops, lowered_few, kept}
 use Rattle.vq_spec.proofs.PlanChains.{unplaced_ops, are_chains, searchable, placed_ops, unplaced_exist}
 use Rattle.vq_spec.proofs.lowering.Tables.of.Goals as goal
@@ -85,9 +85,8 @@ returns c =
     (ap length c.as_slice.ensures) (c.in_ok-chains.ensures {u = tt})) in
     let jobs = lowered_jobs s c.in_ok-jobs.field-0 (c.in_ok-jobs.ensures {u = tt}) in
     kept s c.requires.read c.requires.faultless _ jobs
-    (c.in_ok-waits.ensures {u = tt}
-    ∙ ap (λ js. map (waits_of (plan_of s)) (range_with_len 0 (length js)))
-    c.as_slice-5.ensures.value)
+    (subst (λ (n : ℕ). AreWaits (plan_of s) n c.in_ok-waits.waits) (ap length c.as_slice-5.ensures.value)
+    (c.in_ok-waits.ensures {u = tt}))
     (c.in_ok-lower_places.ensures {u = tt})
     (c.in_ok-ops.ensures {u = tt}
     ∙ ((λ i. map (placed (c.as_slice-2.ensures.value i)) (enumerate_from 0 (ops i)))
