@@ -53,6 +53,10 @@ pub further_from : (did : Doing) (x y z : Place) → z.done ≡ x.done → GoesF
 further_from GoesOn x y z e h = h ∙ ap (λ (n : ℕ). n + 1) e
 further_from (Ends o) x y z e h = tt
 
+-- one need stands at an index
+pub same_need : (ns : List Need) (k : ℕ) (m n : Need) → slice_get ns k ≡ Some m → slice_get ns k ≡ Some n → m ≡ n
+same_need ns k m n e f = cc
+
 -- A look that finds its need past ends the waiting where something is held.
 
 pub not_met : (x : Place) (hs : List Holding) → (met_at x hs).met ≡ false → hs ≡ []

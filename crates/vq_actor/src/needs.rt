@@ -16,10 +16,11 @@ use vq_model::plan::Need;
 use vq_model::script::ActorName;
 use vq_spec::Plan;
 use vq_turns::look::Found;
+use vq_turns::needs::Needs;
 use vq_turns::outcome::{Outcome, Want};
 
 /// Gives back the first reference, after the waiting. The task is done with the last one.
-fn give_back<A: Access>(access: &mut A, actor: ActorName, needs: &[Need]) -> Doing
+fn give_back<A: Access>(access: &mut A, actor: ActorName, needs: &Needs) -> Doing
     requires next { IsNext (A.meaning access.old) (Task.AwaitNeeds needs.now) }
     requires actor { actor ≡ (A.meaning access.old).actor }
     requires ended { (A.meaning access.old).place.met ≡ true }
@@ -54,7 +55,7 @@ fn is_asked(plan: &Plan, need: &Need, held: Option<Held>) -> bool
 fn find_need<A: Access>(
     access: &mut A,
     actor: ActorName,
-    needs: &[Need],
+    needs: &Needs,
     k: usize,
 ) -> Result<Doing, Want>
     requires next { IsNext (A.meaning access.old) (Task.AwaitNeeds needs.now) }
@@ -67,7 +68,7 @@ fn find_need<A: Access>(
     ensures { (n : Need) → slice_get needs.now k ≡ Some n →
         AskedNeed (A.meaning access.old) (A.meaning access.new) k n (A.shows access.new) result }
 {
-    let need = &needs[k];
+    let need = needs.at(k);
     match access.find(k, need.chain, need.value) {
         Found::Past => {
             if access.place().met() {
@@ -88,7 +89,7 @@ fn find_need<A: Access>(
 fn ask_need<A: Access>(
     access: &mut A,
     actor: ActorName,
-    needs: &[Need],
+    needs: &Needs,
     k: usize,
 ) -> Result<Doing, Want>
     requires next { IsNext (A.meaning access.old) (Task.AwaitNeeds needs.now) }
@@ -112,7 +113,7 @@ fn ask_need<A: Access>(
 
 /// Asks for each need in order, until one is met or makes an event. Else the last one that was asked for
 /// blocks the turn.
-fn seek<A: Access>(access: &mut A, actor: ActorName, needs: &[Need]) -> Doing
+fn seek<A: Access>(access: &mut A, actor: ActorName, needs: &Needs) -> Doing
     requires next { IsNext (A.meaning access.old) (Task.AwaitNeeds needs.now) }
     requires actor { actor ≡ (A.meaning access.old).actor }
     requires awaitable { IsAwaitable (A.meaning access.old).plan needs.now }
@@ -123,7 +124,7 @@ fn seek<A: Access>(access: &mut A, actor: ActorName, needs: &[Need]) -> Doing
     let mut last = None;
     for k in 0..needs.len() {
         let held = access.place().held(k);
-        if !is_asked(access.ordered().plan(), &needs[k], held) {
+        if !is_asked(access.ordered().plan(), &needs.at(k), held) {
             continue;
         }
         match ask_need(access, actor, needs, k) {
@@ -138,7 +139,7 @@ fn seek<A: Access>(access: &mut A, actor: ActorName, needs: &[Need]) -> Doing
 }
 
 /// Goes on once one of these needs is met, and the references that were taken for them are given back.
-pub(crate) fn await_needs<A: Access>(access: &mut A, actor: ActorName, needs: &[Need]) -> Doing
+pub(crate) fn await_needs<A: Access>(access: &mut A, actor: ActorName, needs: &Needs) -> Doing
     requires next { IsNext (A.meaning access.old) (Task.AwaitNeeds needs.now) }
     requires actor { actor ≡ (A.meaning access.old).actor }
     requires awaitable { IsAwaitable (A.meaning access.old).plan needs.now }

@@ -26,7 +26,7 @@ pub(crate) fn do_task<A: Access>(access: &mut A, actor: ActorName, task: &Task) 
         Task::AwaitReleased { job } => await_released(access, *job),
         Task::AwaitFinished { job } => await_finished(access, *job),
         Task::AwaitBound { op } => await_bound(access, *op),
-        Task::AwaitNeeds { needs } => await_needs(access, actor, needs.as_slice()),
+        Task::AwaitNeeds { needs } => await_needs(access, actor, needs),
         Task::Submit { job } => submit(access, *job),
         Task::Take { op, chain } => take(access, *chain, *op),
         Task::Release { job } => release(access, *job),

@@ -1,3 +1,4 @@
+pub mod KeptNeeds
 pub mod Programs
 pub mod Turns
 pub mod Wants

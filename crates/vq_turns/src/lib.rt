@@ -3,5 +3,6 @@
 #![tactic(auto)]
 
 pub mod look;
+pub mod needs;
 pub mod outcome;
 pub mod task;

@@ -1,6 +1,6 @@
 //! The tasks of an actor's program.
-use vq_model::list::List;
-use vq_model::plan::{Need, Question};
+use crate::needs::Needs;
+use vq_model::plan::Question;
 
 /// A part of an actor's program. It has all that a turn needs of the plan, whose jobs, operations, chains and
 /// commands it names by number. Source: this project's own, over Vulkan 1.3, "Queue Submission" and
@@ -17,7 +17,7 @@ pub enum Task {
     AwaitBound { op: u32 },
     /// Waits until one of these needs is met, and gives back the references that were taken for them. A wait
     /// for all of several needs is one such task for each of them.
-    AwaitNeeds { needs: List<Need> },
+    AwaitNeeds { needs: Needs },
     /// Submits a batch.
     Submit { job: u32 },
     /// Gives a signal operation of this chain a point.

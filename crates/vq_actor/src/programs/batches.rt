@@ -39,12 +39,7 @@ fn push_submits(tasks: &mut Vec<Task>, plan: &Plan, j: u32) -> Result<(), AllocE
 }
 
 /// Adds the commands of a batch, each after the waits that hold back its place.
-fn push_commands(
-    alloc: Global,
-    tasks: &mut Vec<Task>,
-    plan: &Plan,
-    j: u32,
-) -> Result<(), AllocError>
+fn push_commands(tasks: &mut Vec<Task>, plan: &Plan, j: u32) -> Result<(), AllocError>
     requires exists { j < length plan.now.jobs }
     ensures { OnOk result (tasks.new.items ≡ tasks.old.items
         ++ flat_map (runs_command plan.now j) (enumerate_from 1 (commands_of plan.now j))) }
@@ -52,7 +47,7 @@ fn push_commands(
     let job = plan.job(j);
     let commands = job.commands.as_slice();
     for place in 0..commands.len() {
-        push_waits(alloc, tasks, Within::Place(place + 1), job.needs.as_slice())?;
+        push_waits(tasks, Within::Place(place + 1), job.needs.as_slice())?;
         tasks.push(Task::Apply {
             job: j,
             command: commands[place],
@@ -62,17 +57,17 @@ fn push_commands(
 }
 
 /// Adds the tasks of a batch that its queue's ring does.
-fn push_runs(alloc: Global, tasks: &mut Vec<Task>, plan: &Plan, j: u32) -> Result<(), AllocError>
+fn push_runs(tasks: &mut Vec<Task>, plan: &Plan, j: u32) -> Result<(), AllocError>
     requires exists { j < length plan.now.jobs }
     ensures { OnOk result (tasks.new.items ≡ tasks.old.items ++ runs_batch plan.now j) }
 {
     let job = plan.job(j);
     let needs = job.needs.as_slice();
     tasks.push(Task::AwaitReleased { job: j })?;
-    push_waits(alloc, tasks, Within::Start, needs)?;
+    push_waits(tasks, Within::Start, needs)?;
     tasks.push(Task::Start { job: j })?;
-    push_commands(alloc, tasks, plan, j)?;
-    push_waits(alloc, tasks, Within::Behind(job.commands.len()), needs)?;
+    push_commands(tasks, plan, j)?;
+    push_waits(tasks, Within::Behind(job.commands.len()), needs)?;
     push_signals(tasks, job.signals.as_slice())?;
     tasks.push(Task::Finish { job: j })?;
     Ok(())
@@ -116,7 +111,7 @@ pub(crate) fn ring_program(alloc: Global, plan: &Plan, queue: u32) -> Result<Vec
         if !is_of_queue(plan.job(j), queue) {
             continue;
         }
-        push_runs(alloc, &mut tasks, plan, j)?;
+        push_runs(&mut tasks, plan, j)?;
     }
     Ok(tasks)
 }

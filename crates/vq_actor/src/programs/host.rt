@@ -12,9 +12,9 @@ use crate::programs::batches::push_moves;
 use crate::programs::signals::{push_binds, push_signals, push_takes};
 use crate::programs::waits::{Within, push_waits};
 use std::alloc::{AllocError, Global};
-use vq_model::list::List;
 use vq_model::plan::{Lane, Need, Question};
 use vq_spec::Plan;
+use vq_turns::needs::Needs;
 use vq_turns::task::Task;
 
 /// Adds the waits of a host step: one for any of its needs, or one for each.
@@ -30,11 +30,11 @@ fn push_host_waits(
     let job = plan.job(j);
     let needs = job.needs.as_slice();
     if job.any {
-        let needs = List::of(Vec::from_slice(alloc, needs)?);
+        let needs = Needs::of(alloc, needs)?;
         tasks.push(Task::AwaitNeeds { needs })?;
         return Ok(());
     }
-    push_waits(alloc, tasks, Within::Whole, needs)
+    push_waits(tasks, Within::Whole, needs)
 }
 
 /// Adds tasks that wait until these jobs are finished.

@@ -1,11 +1,11 @@
 //! The tasks for needs, one for each.
-ghost use Rattle.std.specs.Prelude.{◌≡◌, ◌++◌, [], ◌∷◌, filter, map, OnOk, IfOk};
+ghost use Rattle.std.specs.Prelude.{◌≡◌, ◌++◌, [], ◌∷◌, filter, map, OnOk};
 ghost use Rattle.vq_turns.specs.declared.task.Task.{Task};
 ghost use Rattle.vq_actor.specs.ProgramParts.{is_within, wait_where};
 
-use std::alloc::{AllocError, Global};
-use vq_model::list::List;
+use std::alloc::AllocError;
 use vq_model::plan::Need;
+use vq_turns::needs::Needs;
 use vq_turns::task::Task;
 
 /// Which needs of a job: those that hold it back as a whole, those from a later place, those from behind so
@@ -33,26 +33,12 @@ impl Within {
     }
 }
 
-/// A list of one need.
-fn one(alloc: Global, need: Need) -> Result<List<Need>, AllocError>
-    ensures { IfOk result (λ needs. needs ≡ need ∷ []) }
-{
-    let mut needs = Vec::with_capacity(alloc, 1)?;
-    needs.push(need)?;
-    Ok(List::of(needs))
-}
-
 /// Adds a wait for a need, where it is one of these.
-fn push_wait(
-    alloc: Global,
-    tasks: &mut Vec<Task>,
-    within: Within,
-    need: &Need,
-) -> Result<(), AllocError>
+fn push_wait(tasks: &mut Vec<Task>, within: Within, need: &Need) -> Result<(), AllocError>
     ensures { OnOk result (tasks.new.items ≡ tasks.old.items ++ wait_where within need.now) }
 {
     if within.has(need) {
-        let needs = one(alloc, *need)?;
+        let needs = Needs::one(*need);
         tasks.push(Task::AwaitNeeds { needs })?;
     }
     Ok(())
@@ -60,7 +46,6 @@ fn push_wait(
 
 /// Adds waits for those of the needs, each by itself.
 pub(crate) fn push_waits(
-    alloc: Global,
     tasks: &mut Vec<Task>,
     within: Within,
     needs: &[Need],
@@ -69,7 +54,7 @@ pub(crate) fn push_waits(
         ++ map (λ n. Task.AwaitNeeds (n ∷ [])) (filter (is_within within) needs.now)) }
 {
     for need in needs {
-        push_wait(alloc, tasks, within, need)?;
+        push_wait(tasks, within, need)?;
     }
     Ok(())
 }

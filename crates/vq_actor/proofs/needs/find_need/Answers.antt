@@ -1,27 +1,19 @@
-use Rattle.std.proofs.Common.{◌≡◌, ◌∙◌, ℕ, List, Some, get_or, sym, subst, ap}
-use Rattle.std.specs.List.{slice_get}
-use Rattle.std.proofs.lemmas.Option.{slice_get-get_or}
+use Rattle.std.proofs.Common.{◌∙◌, sym, subst, ap}
 use Rattle.vq_model.specs.declared.plan.Need.{Need}
 use Rattle.vq_turns.specs.Turns.{Place}
 use Rattle.vq_turns.specs.declared.outcome.Outcome.TheVariants.{Moved}
 use Rattle.vq_turns.specs.declared.outcome.Want.TheVariants.{Bound}
 use Rattle.vq_actor.specs.declared.doing.Doing.TheVariants.{GoesOn, Ends}
 use Rattle.vq_actor.specs.Doings.{DidNeed, PassedNeed}
-use Rattle.vq_actor.proofs.Seeking.{may_find, may_refer, not_yet, goes_past, gives_past, refers}
+use Rattle.vq_actor.proofs.Seeking.{may_find, may_refer, not_yet, goes_past, gives_past, refers, same_need}
 use Rattle.vq_actor.proofs.needs.find_need.Goals as goal
-
-abbrev no_need : Need
-no_need = record { line = 0; chain = 0; value = 0; from = 0 }
-
-same_need : (ns : List Need) (k : ℕ) (m n : Need) → slice_get ns k ≡ Some m → slice_get ns k ≡ Some n → m ≡ n
-same_need ns k m n e f = cc
 
 pub find-requires : goal.find-requires
 find-requires g c =
     let a = g.A.Access.meaning c.args.access.now in
     let ns = c.args.needs.now in
-    let n = get_or ns c.args.k no_need in
-    let at = slice_get-get_or ns c.args.k no_need c.requires.index in
+    let n = c.at-need.result in
+    let at = c.at-need.ensures in
     may_find a ns c.args.actor c.args.k n c.requires.next c.requires.actor at c.requires.without c.requires.waiting
     (c.requires.resolved n at)
 
@@ -29,8 +21,8 @@ pub refer-requires : goal.refer-requires
 refer-requires g c =
     let a = g.A.Access.meaning c.args.access.now in
     let ns = c.args.needs.now in
-    let n = get_or ns c.args.k no_need in
-    let at = slice_get-get_or ns c.args.k no_need c.requires.index in
+    let n = c.at-need.result in
+    let at = c.at-need.ensures in
     may_refer a ns c.args.actor c.args.k n c.requires.next c.requires.actor at c.requires.without c.requires.waiting
     (g.A.Access.meaning c.find.new.self) (g.A.Access.shows c.find.new.self) c.in-Pending.op c.in-Pending.point
     c.in-Pending.ensures
@@ -43,8 +35,8 @@ returns-then-met g c n is =
     let shows = g.A.Access.shows c.give_back.new.access in
     let ns = c.args.needs.now in
     let k = c.args.k in
-    let o = get_or ns k no_need in
-    let at = slice_get-get_or ns k no_need c.requires.index in
+    let o = c.at-need.result in
+    let at = c.at-need.ensures in
     let met = ap (λ (x : Place). x.met) (sym c.place.ensures) ∙ sym c.if-met.ensures.is in
     subst (λ (x : Need). DidNeed a b k x shows c.give_back.result) (same_need ns k o n at is)
     (gives_past a ns c.args.actor k o c.requires.next c.requires.actor at c.requires.without c.requires.waiting m
@@ -57,8 +49,8 @@ returns-else-met g c n is =
     let shows = g.A.Access.shows c.find.new.self in
     let ns = c.args.needs.now in
     let k = c.args.k in
-    let o = get_or ns k no_need in
-    let at = slice_get-get_or ns k no_need c.requires.index in
+    let o = c.at-need.result in
+    let at = c.at-need.ensures in
     let unmet = ap (λ (x : Place). x.met) (sym c.place.ensures) ∙ sym c.if-met.ensures.is in
     subst (λ (x : Need). DidNeed a m k x shows GoesOn) (same_need ns k o n at is)
     (goes_past a ns c.args.actor k o c.requires.next c.requires.actor at c.requires.without c.requires.waiting m shows
@@ -71,8 +63,8 @@ returns-in-NotYet g c n is =
     let shows = g.A.Access.shows c.find.new.self in
     let ns = c.args.needs.now in
     let k = c.args.k in
-    let o = get_or ns k no_need in
-    let at = slice_get-get_or ns k no_need c.requires.index in
+    let o = c.at-need.result in
+    let at = c.at-need.ensures in
     subst (λ (x : Need). PassedNeed a m k x shows (Bound c.in-NotYet.op)) (same_need ns k o n at is)
     (not_yet a ns c.args.actor k o c.requires.next c.requires.actor at c.requires.without c.requires.waiting m shows
     c.in-NotYet.op c.in-NotYet.ensures)
@@ -85,8 +77,8 @@ returns-in-Ok g c n is =
     let shows = g.A.Access.shows c.refer.new.self in
     let ns = c.args.needs.now in
     let k = c.args.k in
-    let o = get_or ns k no_need in
-    let at = slice_get-get_or ns k no_need c.requires.index in
+    let o = c.at-need.result in
+    let at = c.at-need.ensures in
     subst (λ (x : Need). DidNeed a b k x shows (Ends (Moved c.in-Ok.event))) (same_need ns k o n at is)
     (refers a ns c.args.actor k o c.requires.next c.requires.actor at c.requires.without c.requires.waiting m
     (g.A.Access.shows c.find.new.self) b shows c.in-Pending.op c.in-Pending.point c.in-Pending.ensures
