@@ -6,7 +6,7 @@ ghost use Rattle.vq_board.specs.Named.{plan_of, IsOf};
 ghost use Rattle.vq_timeline_stage.specs.Acting.{HasRun};
 ghost use Rattle.vq_timeline_stage.specs.TwoBatches.{IsOfTwoBatches};
 ghost use Rattle.vq_poll.specs.Watching.{IsWatched, plan_at};
-ghost use Rattle.vq_poll_stage.specs.Scenes.{AreHandedOn, AreIdle, IsScene};
+ghost use Rattle.vq_timeline_stage.specs.Scenes.{AreHandedOn, AreIdle, IsScene};
 
 use futures::executor::block_on;
 use std::alloc::AllocGlobal;
@@ -18,12 +18,14 @@ use std::thread::{Threads, join};
 use vq_board::{Board, Pass};
 use vq_order::Ordered;
 use vq_poll::{Bell, Met, Pair, WaitMode, WaitOwned, WatchedBoard};
-use vq_poll_stage::scene::{Actors, Scene, bell_of, close, hand_on, planned, scene_of, watched_of};
-use vq_poll_stage::steps::run_both;
+use vq_timeline_stage::watched::{
+    Actors, Scene, bell_of, close, hand_on, planned, scene_of, watched_of,
+};
+use vq_timeline_stage::watched_steps::run_both;
 
 /// Wait: `block_on` polls the wait, and again each time that the bell of A has rung, until A has come to 3. The pass
 /// comes back with the answer.
-#[tactic(auto, using(vq_poll_stage::proofs::Cited::pairs_of_first, vq_poll_stage::proofs::Cited::one_first))]
+#[tactic(auto, using(vq_timeline_stage::proofs::Cited::pairs_of_first, vq_timeline_stage::proofs::Cited::one_first))]
 fn wait_for_three<R: Wait + RandomSource + AllocGlobal>(
     rt: &R,
     watched: WatchedBoard<'_>,
@@ -78,7 +80,7 @@ fn run<R: Threads + Wait + RandomSource + AllocGlobal + Sync>(
 }
 
 /// Both on this board, where the batches are handed on. It says what the wait found.
-#[tactic(auto, using(vq_poll_stage::proofs::Cited::pass_kept))]
+#[tactic(auto, using(vq_timeline_stage::proofs::Cited::pass_kept))]
 fn found<R: Threads + Wait + RandomSource + AllocGlobal + Sync>(
     rt: &R,
     watched: WatchedBoard<'_>,

@@ -1,2 +1,4 @@
+pub mod Cited
 mod Asks
 mod TwoChains
+mod Watchables

@@ -1,3 +1,4 @@
 pub mod TwoBatches
 pub mod Acting
 pub mod Locked
+pub mod Scenes

@@ -5,9 +5,12 @@ ghost use Rattle.vq_board_stage.specs.Dealing.{AllFresh, AreNew, IsDealer};
 ghost use Rattle.vq_timeline_stage.specs.Locked.{IsFirstAt};
 ghost use Rattle.vq_timeline_stage.specs.TwoBatches.{IsOfTwoBatches};
 ghost use Rattle.vq_poll.specs.Watching.{AreTimelines, IsWatched, plan_at};
-ghost use Rattle.vq_poll_stage.specs.Scenes.{AreHandedOn, AreIdle, IsScene};
+ghost use Rattle.vq_timeline_stage.specs.Scenes.{AreHandedOn, AreIdle, IsScene};
 
-use crate::steps::{hand_both_on, run_both, submit_both};
+use crate::plans::is_of_two_batches;
+use crate::rings::ring;
+use crate::submitting::submitter;
+use crate::watched_steps::{hand_both_on, run_both, submit_both};
 use std::alloc::Global;
 use std::sync::Wait;
 use vq_board::{Board, Pass, Passes, Role};
@@ -16,9 +19,6 @@ use vq_board_stage::plans::checked;
 use vq_order::Ordered;
 use vq_poll::{Bell, WatchedBoard};
 use vq_timeline::LockedTimeline;
-use vq_timeline_stage::plans::is_of_two_batches;
-use vq_timeline_stage::rings::ring;
-use vq_timeline_stage::submitting::submitter;
 
 /// Two batches signal A, with 2 and then with 7.
 const SCRIPT: &[u8] = b"timeline A 0

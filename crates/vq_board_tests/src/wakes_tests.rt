@@ -6,7 +6,7 @@ ghost use Rattle.vq_timeline_stage.specs.Acting.{HasRun};
 ghost use Rattle.vq_timeline_stage.specs.TwoBatches.{IsOfTwoBatches};
 ghost use Rattle.vq_poll.specs.Waiting.{CanWaitLent};
 ghost use Rattle.vq_poll.specs.Watching.{IsWatched, plan_at};
-ghost use Rattle.vq_poll_stage.specs.Scenes.{AreIdle, IsScene};
+ghost use Rattle.vq_timeline_stage.specs.Scenes.{AreIdle, IsScene};
 
 use crate::asked::{Asked, is_so};
 use futures::task::Poll;
@@ -16,8 +16,8 @@ use std::random::RandomSource;
 use std::sync::Wait;
 use vq_board::Pass;
 use vq_poll::{Met, Pair, WaitMode, WaitPairs, WatchedBoard};
-use vq_poll_stage::scene::{Actors, Scene, bell_of, timeline_of};
-use vq_poll_stage::steps::{hand_both_on, run_both, submit_both};
+use vq_timeline_stage::watched::{Actors, Scene, bell_of, timeline_of};
+use vq_timeline_stage::watched_steps::{hand_both_on, run_both, submit_both};
 
 /// All steps after the submits.
 fn run_all<R: Wait>(rt: &R, scene: &Scene, submitter: &mut Pass, ring: &mut Pass) -> bool
@@ -62,7 +62,7 @@ fn goes_on<R: Wait>(
 }
 
 /// Whether a wait by this pass does, polled by this task.
-#[tactic(auto, using(vq_poll_stage::proofs::Cited::pairs_of_first, vq_poll_stage::proofs::Cited::one_first))]
+#[tactic(auto, using(vq_timeline_stage::proofs::Cited::pairs_of_first, vq_timeline_stage::proofs::Cited::one_first))]
 fn is_woken_by<R: Wait + AllocGlobal>(
     rt: &R,
     task: &MockTask,
@@ -109,7 +109,7 @@ fn is_woken<R: Wait + RandomSource + AllocGlobal>(
 }
 
 /// Whether a wait that is polled after the submits alone does.
-#[tactic(auto, using(vq_poll_stage::proofs::Cited::pass_kept))]
+#[tactic(auto, using(vq_timeline_stage::proofs::Cited::pass_kept))]
 pub(crate) fn wakes<R: Wait + RandomSource + AllocGlobal>(
     rt: &R,
     watched: WatchedBoard<'_>,

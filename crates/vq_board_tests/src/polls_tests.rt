@@ -3,7 +3,7 @@ ghost use Rattle.std.specs.Prelude.{◌≡◌};
 ghost use Rattle.vq_board.specs.Named.{IsOf};
 ghost use Rattle.vq_timeline_stage.specs.TwoBatches.{IsOfTwoBatches};
 ghost use Rattle.vq_poll.specs.Watching.{IsWatched, plan_at};
-ghost use Rattle.vq_poll_stage.specs.Scenes.{AreIdle, IsScene};
+ghost use Rattle.vq_timeline_stage.specs.Scenes.{AreIdle, IsScene};
 
 use crate::asked::{Asked, is_so};
 use crate::waits::{blocked, collected, given_back, polled};
@@ -13,7 +13,7 @@ use std::random::RandomSource;
 use std::sync::Wait;
 use vq_board::Pass;
 use vq_poll::{Met, Pair, WaitMode, WatchedBoard};
-use vq_poll_stage::scene::{Actors, Scene, make_all, timeline_of};
+use vq_timeline_stage::watched::{Actors, Scene, make_all, timeline_of};
 
 /// What a wait with a lent pass answers.
 #[derive(Clone, Copy)]
@@ -45,7 +45,7 @@ fn is_met(polled: Option<Poll<Met>>, index: u32) -> bool {
     }
 }
 
-#[tactic(auto, using(vq_poll_stage::proofs::Cited::one_first))]
+#[tactic(auto, using(vq_timeline_stage::proofs::Cited::one_first))]
 fn all_is_met<R: RandomSource + AllocGlobal>(
     rt: &R,
     watched: WatchedBoard<'_>,
@@ -59,7 +59,7 @@ fn all_is_met<R: RandomSource + AllocGlobal>(
     is_met(polled(rt, watched, host, WaitMode::All, &pairs), 0)
 }
 
-#[tactic(auto, using(vq_poll_stage::proofs::Cited::two_first))]
+#[tactic(auto, using(vq_timeline_stage::proofs::Cited::two_first))]
 fn one_is_met<R: RandomSource + AllocGlobal>(
     rt: &R,
     watched: WatchedBoard<'_>,
@@ -73,7 +73,7 @@ fn one_is_met<R: RandomSource + AllocGlobal>(
     is_met(polled(rt, watched, host, WaitMode::Any, &pairs), 1)
 }
 
-#[tactic(auto, using(vq_poll_stage::proofs::Cited::two_first))]
+#[tactic(auto, using(vq_timeline_stage::proofs::Cited::two_first))]
 fn is_pending<R: RandomSource + AllocGlobal>(
     rt: &R,
     watched: WatchedBoard<'_>,
@@ -90,7 +90,7 @@ fn is_pending<R: RandomSource + AllocGlobal>(
     )
 }
 
-#[tactic(auto, using(vq_poll_stage::proofs::Cited::one_first))]
+#[tactic(auto, using(vq_timeline_stage::proofs::Cited::one_first))]
 fn blocks<R: Wait + RandomSource + AllocGlobal>(
     rt: &R,
     watched: WatchedBoard<'_>,
@@ -114,7 +114,7 @@ fn are_both(items: Option<Vec<Met>>) -> bool {
     }
 }
 
-#[tactic(auto, using(vq_poll_stage::proofs::Cited::two_first))]
+#[tactic(auto, using(vq_timeline_stage::proofs::Cited::two_first))]
 fn arrive<R: Wait + RandomSource + AllocGlobal>(
     rt: &R,
     watched: WatchedBoard<'_>,
@@ -149,7 +149,7 @@ fn answers<R: Wait + RandomSource + AllocGlobal>(
 }
 
 /// Whether it does after all steps.
-#[tactic(auto, using(vq_poll_stage::proofs::Cited::pass_kept))]
+#[tactic(auto, using(vq_timeline_stage::proofs::Cited::pass_kept))]
 pub(crate) fn is_answered<R: Wait + RandomSource + AllocGlobal>(
     rt: &R,
     watched: WatchedBoard<'_>,
@@ -187,7 +187,7 @@ fn each_pair_arrives_once(rt: HostRuntime) {
 }
 
 /// Whether a wait that owns the pass finds 7, and its pass then reads 7.
-#[tactic(auto, using(vq_poll_stage::proofs::Cited::one_first, vq_poll_stage::proofs::Cited::pass_back))]
+#[tactic(auto, using(vq_timeline_stage::proofs::Cited::one_first, vq_timeline_stage::proofs::Cited::pass_back))]
 fn reads_on<R: Wait + RandomSource + AllocGlobal>(
     rt: &R,
     watched: WatchedBoard<'_>,
@@ -211,7 +211,7 @@ fn reads_on<R: Wait + RandomSource + AllocGlobal>(
 }
 
 /// Whether it does so after all steps.
-#[tactic(auto, using(vq_poll_stage::proofs::Cited::pass_kept))]
+#[tactic(auto, using(vq_timeline_stage::proofs::Cited::pass_kept))]
 pub(crate) fn gives_back<R: Wait + RandomSource + AllocGlobal>(
     rt: &R,
     watched: WatchedBoard<'_>,

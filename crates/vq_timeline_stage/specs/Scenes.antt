@@ -8,8 +8,8 @@ use Rattle.vq_timeline_stage.specs.Acting.{HasRun}
 use Rattle.vq_timeline_stage.specs.TwoBatches.{IsOfTwoBatches}
 use Rattle.vq_poll.specs.declared.pairs.Pair.{Pair}
 use Rattle.vq_poll.specs.Watching.{AreTimelines}
-use Rattle.vq_poll_stage.specs.declared.scene.Actors.{Actors}
-use Rattle.vq_poll_stage.specs.declared.scene.Scene.{Scene}
+use Rattle.vq_timeline_stage.specs.declared.watched.Actors.{Actors}
+use Rattle.vq_timeline_stage.specs.declared.watched.Scene.{Scene}
 
 -- the plan, with what is lent to waits
 pub record IsScene (s : Scene) : Type 0 where

@@ -3,7 +3,7 @@ ghost use Rattle.std.specs.Prelude.{◌≡◌, IfSome};
 ghost use Rattle.vq_board.specs.Named.{IsOf};
 ghost use Rattle.vq_timeline_stage.specs.TwoBatches.{IsOfTwoBatches};
 ghost use Rattle.vq_poll.specs.Watching.{IsWatched, plan_at};
-ghost use Rattle.vq_poll_stage.specs.Scenes.{AreOfFirst};
+ghost use Rattle.vq_timeline_stage.specs.Scenes.{AreOfFirst};
 
 use futures::StreamExt;
 use futures::executor::block_on;
@@ -16,7 +16,7 @@ use vq_board::Pass;
 use vq_poll::{Arrivals, Met, Pair, WaitMode, WaitOwned, WaitPairs, WatchedBoard};
 
 /// What a wait answers this task in one poll.
-#[tactic(auto, using(vq_poll_stage::proofs::Cited::pairs_of_first))]
+#[tactic(auto, using(vq_timeline_stage::proofs::Cited::pairs_of_first))]
 fn polled_by(
     alloc: Global,
     task: &MockTask,
@@ -56,7 +56,7 @@ pub fn polled<R: RandomSource + AllocGlobal>(
 }
 
 /// What `block_on` answers of a wait with a lent pass.
-#[tactic(auto, using(vq_poll_stage::proofs::Cited::pairs_of_first))]
+#[tactic(auto, using(vq_timeline_stage::proofs::Cited::pairs_of_first))]
 pub fn blocked<R: Wait + RandomSource + AllocGlobal>(
     rt: &R,
     watched: WatchedBoard<'_>,
@@ -76,7 +76,7 @@ pub fn blocked<R: Wait + RandomSource + AllocGlobal>(
 }
 
 /// What arrives, to the end.
-#[tactic(auto, using(vq_poll_stage::proofs::Cited::pairs_of_first))]
+#[tactic(auto, using(vq_timeline_stage::proofs::Cited::pairs_of_first))]
 pub fn collected<R: Wait + RandomSource + AllocGlobal>(
     rt: &R,
     watched: WatchedBoard<'_>,
@@ -95,7 +95,7 @@ pub fn collected<R: Wait + RandomSource + AllocGlobal>(
 }
 
 /// What `block_on` answers of a wait for A that owns its pass: the pass comes back.
-#[tactic(auto, using(vq_poll_stage::proofs::Cited::pairs_of_first))]
+#[tactic(auto, using(vq_timeline_stage::proofs::Cited::pairs_of_first))]
 pub fn given_back<R: Wait + RandomSource + AllocGlobal>(
     rt: &R,
     watched: WatchedBoard<'_>,

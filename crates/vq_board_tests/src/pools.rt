@@ -40,7 +40,7 @@ impl Future for Counted<'_> {
 }
 
 /// A task that waits for A to come to this value.
-#[tactic(auto, using(vq_poll_stage::proofs::Cited::pairs_of_first, vq_poll_stage::proofs::Cited::one_first))]
+#[tactic(auto, using(vq_timeline_stage::proofs::Cited::pairs_of_first, vq_timeline_stage::proofs::Cited::one_first))]
 fn task_of<'a, R: AllocGlobal>(
     rt: &R,
     watched: WatchedBoard<'a>,

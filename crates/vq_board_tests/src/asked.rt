@@ -2,7 +2,7 @@
 ghost use Rattle.std.specs.Prelude.{◌≡◌};
 ghost use Rattle.vq_timeline_stage.specs.TwoBatches.{IsOfTwoBatches};
 ghost use Rattle.vq_poll.specs.Watching.{IsWatched, plan_at};
-ghost use Rattle.vq_poll_stage.specs.Scenes.{AreIdle, IsScene};
+ghost use Rattle.vq_timeline_stage.specs.Scenes.{AreIdle, IsScene};
 
 use crate::polls_tests::{Answer, gives_back, is_answered};
 use crate::pool_tests::wakes_both;
@@ -14,7 +14,7 @@ use std::sync::Wait;
 use std::thread::Threads;
 use vq_order::Ordered;
 use vq_poll::WatchedBoard;
-use vq_poll_stage::scene::{Actors, Scene, close, planned, scene_of, watched_of};
+use vq_timeline_stage::watched::{Actors, Scene, close, planned, scene_of, watched_of};
 
 /// What is asked.
 #[derive(Clone, Copy)]

@@ -5,7 +5,7 @@ ghost use Rattle.vq_board.specs.Named.{plan_of, IsOf};
 ghost use Rattle.vq_timeline_stage.specs.Acting.{HasRun};
 ghost use Rattle.vq_timeline_stage.specs.TwoBatches.{IsOfTwoBatches};
 ghost use Rattle.vq_poll.specs.Watching.{IsWatched, plan_at};
-ghost use Rattle.vq_poll_stage.specs.Scenes.{AreHandedOn, AreIdle, IsScene};
+ghost use Rattle.vq_timeline_stage.specs.Scenes.{AreHandedOn, AreIdle, IsScene};
 
 use crate::asked::{Asked, is_so};
 use crate::pools::pool_for;
@@ -17,8 +17,8 @@ use std::sync::atomic::{AtomicU64, Ordering};
 use std::thread::{Threads, join};
 use vq_board::{Board, Pass};
 use vq_poll::{Bell, Met, Pair, WatchedBoard};
-use vq_poll_stage::scene::{Actors, Scene, bell_of, hand_on};
-use vq_poll_stage::steps::run_both;
+use vq_timeline_stage::watched::{Actors, Scene, bell_of, hand_on};
+use vq_timeline_stage::watched_steps::run_both;
 
 /// What waits for A.
 #[derive(Clone, Copy)]
@@ -30,7 +30,7 @@ pub(crate) enum Waiting {
 }
 
 /// Whether a wait for 3 finds the first pair reached, with 7.
-#[tactic(auto, using(vq_poll_stage::proofs::Cited::one_first))]
+#[tactic(auto, using(vq_timeline_stage::proofs::Cited::one_first))]
 fn finds_seven<R: Wait + RandomSource + AllocGlobal>(
     rt: &R,
     watched: WatchedBoard<'_>,
@@ -131,7 +131,7 @@ fn wait_and_run<R: Threads + Wait + RandomSource + AllocGlobal + Sync>(
 }
 
 /// Both on this board, where the batches are handed on.
-#[tactic(auto, using(vq_poll_stage::proofs::Cited::pass_kept))]
+#[tactic(auto, using(vq_timeline_stage::proofs::Cited::pass_kept))]
 fn end_both<R: Threads + Wait + RandomSource + AllocGlobal + Sync>(
     rt: &R,
     watched: WatchedBoard<'_>,

@@ -6,14 +6,14 @@ ghost use Rattle.vq_timeline_stage.specs.TwoBatches.{IsOfTwoBatches};
 ghost use Rattle.vq_timeline_stage.specs.Acting.{HasRun, HasRunFirst};
 ghost use Rattle.vq_timeline_stage.specs.Locked.{IsFirstAt};
 
+use crate::host::submit;
+use crate::rings::{run_first, run_second};
+use crate::submitting::{release_first, release_second};
 use std::sync::Wait;
 use vq_board::{Board, Pass};
 use vq_poll::Bell;
 use vq_timeline::LockedTimeline;
 use vq_timeline_core::Taken;
-use vq_timeline_stage::host::submit;
-use vq_timeline_stage::rings::{run_first, run_second};
-use vq_timeline_stage::submitting::{release_first, release_second};
 
 /// The host submits both batches.
 pub fn submit_both(board: &Board, host: &mut Pass)

@@ -14,7 +14,7 @@ use Rattle.vq_poll.specs.declared.bell.Bell.{Bell}
 use Rattle.vq_poll.specs.declared.pairs.Pair.{Pair}
 use Rattle.vq_poll.specs.declared.watched.WatchedBoard.{WatchedBoard}
 use Rattle.vq_poll.specs.Watching.{ArePairs, AreTimelines, plan_at}
-use Rattle.vq_poll_stage.specs.Scenes.{AreOfFirst}
+use Rattle.vq_timeline_stage.specs.Scenes.{AreOfFirst}
 
 -- what holds of the one element at its place
 one_each : {X : Type 0} (P : ℕ → X → Type 0) (x : X) → P 0 x → (t : ℕ) (y : X) → slice_get (x ∷ []) t ≡ Some y → P t y

@@ -3,7 +3,7 @@ ghost use Rattle.std.specs.Prelude.{◌≡◌, []};
 ghost use Rattle.vq_timeline_stage.specs.Acting.{HasRun};
 ghost use Rattle.vq_timeline_stage.specs.TwoBatches.{IsOfTwoBatches};
 ghost use Rattle.vq_poll.specs.Watching.{IsWatched, plan_at};
-ghost use Rattle.vq_poll_stage.specs.Scenes.{AreHandedOn, AreIdle, IsScene};
+ghost use Rattle.vq_timeline_stage.specs.Scenes.{AreHandedOn, AreIdle, IsScene};
 
 use crate::asked::{Asked, is_so};
 use crate::pools::{Counted, pool_for};
@@ -14,8 +14,8 @@ use std::sync::Wait;
 use std::sync::atomic::{AtomicU64, Ordering};
 use vq_board::Pass;
 use vq_poll::WatchedBoard;
-use vq_poll_stage::scene::{Actors, Scene, bell_of, hand_on};
-use vq_poll_stage::steps::run_one;
+use vq_timeline_stage::watched::{Actors, Scene, bell_of, hand_on};
+use vq_timeline_stage::watched_steps::run_one;
 
 /// Polls the tasks that are woken, and says how many have found their value so far.
 fn count_met(pool: &mut LocalPool<Counted<'_>>, met: &AtomicU64) -> u64 {
@@ -39,7 +39,7 @@ fn both_are_woken(
 }
 
 /// Whether it is so of two tasks that wait for 2, once both batches are handed on.
-#[tactic(auto, using(vq_poll_stage::proofs::Cited::pass_kept))]
+#[tactic(auto, using(vq_timeline_stage::proofs::Cited::pass_kept))]
 fn wake<R: RandomSource + AllocGlobal>(
     rt: &R,
     watched: WatchedBoard<'_>,

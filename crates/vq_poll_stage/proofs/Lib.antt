@@ -1,2 +1,0 @@
-pub mod Cited
-mod Watchables
