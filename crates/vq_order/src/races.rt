@@ -15,7 +15,7 @@ use crate::lines::Lines;
 use crate::races::accesses::{MemoryAccess, Visitor, all_accesses, conflict};
 use crate::races::cells::{Halt, is_at_or_before};
 use crate::races::cuts::make_cuts;
-use crate::races::sweep::{go_through, overlap_much};
+use crate::races::sweep::go_through;
 use std::alloc::{AllocError, Global};
 use vq_clocks::Clocked;
 
@@ -116,7 +116,7 @@ fn least_race(order: &Clocked, accesses: &[MemoryAccess], clean: u32) -> Option<
     None
 }
 
-/// Whether going through commands once finds no conflict out of order.
+/// Whether going through commands once finds no conflict out of order and not too many cells.
 fn is_clean(
     alloc: Global,
     order: &Clocked,
@@ -129,7 +129,7 @@ fn is_clean(
 {
     match go_through(alloc, order, cuts, accesses) {
         Ok(()) => Ok(true),
-        Err(Halt::Conflict) => Ok(false),
+        Err(Halt::Conflict | Halt::TooMany) => Ok(false),
         Err(Halt::Memory(error)) => Err(error),
     }
 }
@@ -138,7 +138,7 @@ fn is_clean(
 const FEW_COMMANDS: u32 = 256;
 
 /// A number of commands, the first ones, of which no two race. The search is by halves, so where not
-/// all are such ones, one of the next few races with one of them.
+/// all are such ones, one of the next few races with one of them, unless there were too many cells.
 fn count_clean(
     alloc: Global,
     order: &Clocked,
@@ -165,7 +165,8 @@ fn count_clean(
 
 /// The least pair of lines of commands that race, by the second line and then by the first, or
 /// none. Commands are gone through cell by cell. Where that finds a race, the second command is
-/// looked for by halves, and compared with each one before it.
+/// looked for by halves, and compared with each one before it. Where there are too many cells, each
+/// command is compared with each one before it.
 pub(crate) fn first_race(alloc: Global, order: &Clocked) -> Result<Option<Lines>, AllocError>
     ensures { IfOk result (AreLeastOrNone (IsRaceAt order.now)) }
 {
@@ -173,12 +174,13 @@ pub(crate) fn first_race(alloc: Global, order: &Clocked) -> Result<Option<Lines>
     let accesses = accesses.as_slice();
     let cuts = make_cuts(alloc, accesses)?;
     let cuts = cuts.as_slice();
-    if overlap_much(cuts, accesses) {
-        return Ok(least_race(order, accesses, 0));
+    match go_through(alloc, order, cuts, accesses) {
+        Ok(()) => Ok(None),
+        Err(Halt::Conflict) => {
+            let clean = count_clean(alloc, order, cuts, accesses)?;
+            Ok(least_race(order, accesses, clean))
+        }
+        Err(Halt::TooMany) => Ok(least_race(order, accesses, 0)),
+        Err(Halt::Memory(error)) => Err(error),
     }
-    if is_clean(alloc, order, cuts, accesses)? {
-        return Ok(None);
-    }
-    let clean = count_clean(alloc, order, cuts, accesses)?;
-    Ok(least_race(order, accesses, clean))
 }

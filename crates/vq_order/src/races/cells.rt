@@ -19,6 +19,8 @@ pub(crate) enum Touch {
 pub(crate) enum Halt {
     /// A command comes after one that it conflicts with and that isn't before it.
     Conflict,
+    /// There are more cells to go through than comparing all pairs of commands is worth.
+    TooMany,
     /// Want of memory.
     Memory(AllocError),
 }

@@ -1,7 +1,7 @@
 //! Going through all commands in the order of the slow run, cell by cell. As happens-before agrees
-//! with that order, it is enough to ask whether what has touched a cell before comes before.
-ghost use Rattle.std.specs.Prelude.{◌≡◌, ◌<◌, true, false, length, IfOk, OnOk};
-ghost use Rattle.std.specs.List.Sorted.{IsNonDecreasing};
+//! with that order, it is enough to ask whether what has touched a cell before comes before. It ends
+//! early where there are so many cells that comparing all pairs of commands is quicker.
+ghost use Rattle.std.specs.Prelude.{◌≡◌, ◌<◌, ◌+◌, true, false, length, IfOk, OnOk};
 ghost use Rattle.vq_model.specs.Plan.{commands_of};
 ghost use Rattle.vq_model.specs.SlowRun.{slow_order};
 ghost use Rattle.vq_order.specs.Accessed.{AreAccesses, HasNoRaceBelow};
@@ -16,6 +16,23 @@ use crate::races::cuts::{Reach, reach_of};
 use std::alloc::{AllocError, Global};
 use vq_clocks::Clocked;
 
+/// With more cells than this to go through for each command of the plan, on the average, comparing
+/// all pairs of commands is quicker.
+const MOST_CELLS: usize = 32;
+
+/// Counts cells down from how many may still be gone through. The error is that they are more.
+fn count_down(left: &mut usize, cells: usize) -> Result<(), Halt>
+    ensures { OnOk result (left.new + cells ≡ left.old) }
+{
+    match left.checked_sub(cells) {
+        Some(rest) => {
+            *left = rest;
+            Ok(())
+        }
+        None => Err(Halt::TooMany),
+    }
+}
+
 /// What stays the same while commands are gone through: the order of the jobs, and where cells
 /// begin.
 #[derive(Clone, Copy)]
@@ -25,7 +42,7 @@ struct Sweep<'a> {
 }
 
 impl Sweep<'_> {
-    /// Goes through the cells of a range.
+    /// Goes through the cells of a range, unless they are more than are left.
     fn range(
         &self,
         alloc: Global,
@@ -33,6 +50,7 @@ impl Sweep<'_> {
         span: Span,
         by: Visitor,
         touch: Touch,
+        left: &mut usize,
     ) -> Result<(), Halt>
         requires fits { FitsSweep self.now.order.now self.now.cuts.now cells.old }
         requires own { IsOfJob self.now.order.now by }
@@ -40,6 +58,7 @@ impl Sweep<'_> {
             (TouchesSpan self.now.cuts.now span by (is_write touch))) }
     {
         let Reach { first, end } = reach_of(self.cuts, span);
+        count_down(left, end.saturating_sub(first))?;
         for k in first..end {
             cells[k].touch(alloc, self.order, by, touch)?;
         }
@@ -47,27 +66,39 @@ impl Sweep<'_> {
     }
 
     /// Goes through the cells that a command reads.
-    fn read(&self, alloc: Global, cells: &mut [Cell], access: &MemoryAccess) -> Result<(), Halt>
+    fn read(
+        &self,
+        alloc: Global,
+        cells: &mut [Cell],
+        access: &MemoryAccess,
+        left: &mut usize,
+    ) -> Result<(), Halt>
         requires fits { FitsSweep self.now.order.now self.now.cuts.now cells.old }
         requires own { IsOfJob self.now.order.now access.now.by }
         ensures { OnOk result (Sweeps self.now.order.now cells.old cells.new
             (ReadsCell self.now.cuts.now access.now)) }
     {
         match access.read {
-            Some(read) => self.range(alloc, cells, read, access.by, Touch::Reads),
+            Some(read) => self.range(alloc, cells, read, access.by, Touch::Reads, left),
             None => Ok(()),
         }
     }
 
     /// Goes through the cells of a command.
-    fn command(&self, alloc: Global, cells: &mut [Cell], access: &MemoryAccess) -> Result<(), Halt>
+    fn command(
+        &self,
+        alloc: Global,
+        cells: &mut [Cell],
+        access: &MemoryAccess,
+        left: &mut usize,
+    ) -> Result<(), Halt>
         requires fits { FitsSweep self.now.order.now self.now.cuts.now cells.old }
         requires own { IsOfJob self.now.order.now access.now.by }
         ensures { OnOk result (Sweeps self.now.order.now cells.old cells.new
             (TouchesBy self.now.cuts.now access.now)) }
     {
-        self.read(alloc, cells, access)?;
-        self.range(alloc, cells, access.written, access.by, Touch::Writes)
+        self.read(alloc, cells, access, left)?;
+        self.range(alloc, cells, access.written, access.by, Touch::Writes, left)
     }
 
     /// Goes through those commands of a job whose accesses are given: those of the first commands
@@ -78,6 +109,7 @@ impl Sweep<'_> {
         cells: &mut [Cell],
         accesses: &[MemoryAccess],
         j: u32,
+        left: &mut usize,
     ) -> Result<(), Halt>
         requires fits { FitsSweep self.now.order.now self.now.cuts.now cells.old }
         requires accesses { AreAccesses self.now.order.now accesses.now }
@@ -87,14 +119,20 @@ impl Sweep<'_> {
     {
         for c in self.order.job(j).commands.as_slice() {
             if let Some(access) = accesses.get(*c as usize) {
-                self.command(alloc, cells, access)?;
+                self.command(alloc, cells, access, left)?;
             }
         }
         Ok(())
     }
 
     /// Goes through commands in the order of the slow run.
-    fn jobs(&self, alloc: Global, cells: &mut [Cell], accesses: &[MemoryAccess]) -> Result<(), Halt>
+    fn jobs(
+        &self,
+        alloc: Global,
+        cells: &mut [Cell],
+        accesses: &[MemoryAccess],
+        left: &mut usize,
+    ) -> Result<(), Halt>
         requires fits { FitsSweep self.now.order.now self.now.cuts.now cells.old }
         requires accesses { AreAccesses self.now.order.now accesses.now }
         ensures swept { OnOk result (Sweeps self.now.order.now cells.old cells.new
@@ -103,7 +141,7 @@ impl Sweep<'_> {
         ensures complete { IsComplete self.now.order.now }
     {
         for j in self.order.slow_order() {
-            self.job(alloc, cells, accesses, *j)?;
+            self.job(alloc, cells, accesses, *j, left)?;
         }
         Ok(())
     }
@@ -121,36 +159,9 @@ fn untouched(alloc: Global, count: usize) -> Result<Vec<Cell>, AllocError>
     Ok(cells)
 }
 
-/// How many cells a range has.
-fn cell_count(cuts: &[u64], span: Span) -> usize
-    requires { IsNonDecreasing cuts.now }
-{
-    let Reach { first, end } = reach_of(cuts, span);
-    end.saturating_sub(first)
-}
-
-/// With more cells than this to go through for each command, on the average, comparing all pairs of
-/// commands is quicker.
-const MOST_CELLS: usize = 32;
-
-/// Whether ranges overlap so much that comparing all pairs of commands is quicker than going through
-/// their cells.
-pub(crate) fn overlap_much(cuts: &[u64], accesses: &[MemoryAccess]) -> bool
-    requires { IsNonDecreasing cuts.now }
-{
-    let mut count: usize = 0;
-    for access in accesses {
-        count = count.saturating_add(cell_count(cuts, access.written));
-        if let Some(read) = access.read {
-            count = count.saturating_add(cell_count(cuts, read));
-        }
-    }
-    count / MOST_CELLS > accesses.len()
-}
-
 /// Goes through the first commands of a plan, in the order of the slow run, whose cells begin at
 /// these cuts. The error is a command that comes after one that it conflicts with and that isn't
-/// before it, or want of memory.
+/// before it, too many cells, or want of memory.
 pub(crate) fn go_through(
     alloc: Global,
     order: &Clocked,
@@ -163,5 +174,6 @@ pub(crate) fn go_through(
 {
     let mut cells = untouched(alloc, cuts.len())?;
     let sweep = Sweep { order, cuts };
-    sweep.jobs(alloc, cells.as_mut_slice(), accesses)
+    let mut left = MOST_CELLS.saturating_mul(order.plan().commands() as usize);
+    sweep.jobs(alloc, cells.as_mut_slice(), accesses, &mut left)
 }
