@@ -8,7 +8,7 @@ use Rattle.vq_model.specs.LoweringFaults.{IsPlan}
 use Rattle.vq_model.specs.Plan.{Plan}
 use Rattle.vq_order.specs.declared.races.accesses.Visitor.{Visitor}
 use Rattle.vq_order.specs.declared.races.cells.Cell.{Cell}
-use Rattle.vq_order.specs.Swept.{AtOrBefore, IsOfJob, Visit, Touched, ByWriter, ByReader, KeepsCell, HasCommands, IsAmong, IsAfterSome, IsAfterAll, KeepsLater}
+use Rattle.vq_order.specs.Swept.{AtOrBefore, IsOfJob, Visit, Touched, ByWriter, ByReader, KeepsCell, HasCommands, IsAmong, IsAfterSome, IsAfterAll, IsKnown, KeepsLater}
 use Rattle.vq_clocks.proofs.Cited.{later_command}
 use Rattle.vq_order.proofs.WindowLaws.{before_then}
 use Rattle.vq_order_laws.proofs.Cited.{before_end}
@@ -16,6 +16,9 @@ use Rattle.vq_order_laws.proofs.Cited.{before_end}
 -- a command is at or before itself
 itself_earlier : {p : Plan} (d j : Visitor) → d ≡ j → AtOrBefore p j d
 itself_earlier {p} d j e = inl (sym (ap (λ (v : Visitor). v.job) e), let s = ap (λ (v : Visitor). v.command) e in omega arith)
+
+pub itself_known : (p : Plan) (a : Visitor) → IsOfJob p a → IsKnown p a a
+itself_known p a own = record { own = own; comes = itself_earlier a a refl }
 
 module _ (p : Plan) (plan : IsPlan p) where
   pub then_before : (h i j : Visitor) → IsOfJob p i → AtOrBefore p h i → AtOrBefore p i j → AtOrBefore p h j

@@ -11,6 +11,7 @@ use Rattle.vq_order.specs.CellRanges.{IsCellOf}
 use Rattle.vq_order.specs.declared.races.accesses.MemoryAccess.{MemoryAccess}
 use Rattle.vq_order.specs.declared.races.accesses.Visitor.{Visitor}
 use Rattle.vq_order.specs.declared.races.cells.Cell.{Cell}
+use Rattle.vq_order.specs.declared.races.cells.Known.{Known}
 use Rattle.vq_order.specs.declared.races.cells.Touch.{Touch}
 use Rattle.vq_order.specs.declared.races.cells.Touch.TheVariants.{Reads, Writes}
 use Rattle.vq_order.specs.declared.races.accesses.Span.{Span}
@@ -82,6 +83,16 @@ pub record MayTouch (p : Plan) (cell : Cell) (by : Visitor) : Type 0 where
   pub plan : IsPlan p
   pub kept : HasCommands p cell
   pub own : IsOfJob p by
+
+-- A command of the plan is known to be another one or an earlier one of its job, or to happen before
+-- it.
+pub record IsKnown (p : Plan) (known by : Visitor) : Type 0 where
+  pub own : IsOfJob p known
+  pub comes : AtOrBefore p known by
+
+-- both commands that are remembered are known so
+abbrev pub AreKnown : Plan → Known → Visitor → Type 0
+AreKnown p known by = IsKnown p known.writer by × IsKnown p known.reader by
 
 abbrev pub IsAfterSome : Plan → Option Visitor → Visitor → Type 0
 IsAfterSome p writer j = (i : Visitor) → writer ≡ Some i → AtOrBefore p i j

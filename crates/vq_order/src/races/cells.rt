@@ -1,7 +1,8 @@
 //! Cells: bytes that each command covers whole or not at all.
 ghost use Rattle.std.specs.Prelude.{◌≡◌, ◌↔◌, true, false, IsTrue, None, [], IfOk, OnOk};
+ghost use Rattle.vq_model.specs.LoweringFaults.{IsPlan};
 ghost use Rattle.vq_order.specs.Swept.{is_write, AtOrBefore, IsEarlier, IsOfJob, MayTouch, Touches};
-ghost use Rattle.vq_order.specs.Swept.{IsAfterSome, IsAfterAll, KeepsLater};
+ghost use Rattle.vq_order.specs.Swept.{AreKnown, IsAfterSome, IsAfterAll, IsKnown, KeepsLater};
 
 use crate::races::accesses::Visitor;
 use std::alloc::{AllocError, Global};
@@ -55,6 +56,34 @@ fn is_earlier(a: Visitor, b: Visitor) -> bool
     a.job == b.job && a.command <= b.command
 }
 
+/// While a command goes through cells: the last writer and the last reader that were found to come
+/// before it, at first the command itself. Neighbouring cells were mostly touched by the same ones.
+#[derive(Clone, Copy)]
+pub(crate) struct Known {
+    pub(crate) writer: Visitor,
+    pub(crate) reader: Visitor,
+}
+
+/// Whether a command comes before the one that goes through cells, or is that one. The clocks are
+/// asked only where it isn't the known one or an earlier one of its job.
+fn is_before(order: &Clocked, a: Visitor, by: Visitor, known: &mut Visitor) -> bool
+    requires plan { IsPlan order.now }
+    requires first { IsOfJob order.now a }
+    requires second { IsOfJob order.now by }
+    requires known { IsKnown order.now known.old by }
+    ensures before { IsTrue result → AtOrBefore order.now a by }
+    ensures known { IsKnown order.now known.new by }
+{
+    if is_earlier(a, *known) {
+        return true;
+    }
+    if !is_at_or_before(order, a, by) {
+        return false;
+    }
+    *known = a;
+    true
+}
+
 impl Cell {
     /// A cell that nothing has touched.
     pub(crate) fn new(alloc: Global) -> Cell
@@ -75,37 +104,56 @@ impl Cell {
         order: &Clocked,
         by: Visitor,
         touch: Touch,
+        known: &mut Known,
     ) -> Result<(), Halt>
-        requires { MayTouch order.now self.old by }
-        ensures { OnOk result (Touches order.now by (is_write touch) self.old self.new) }
+        requires may { MayTouch order.now self.old by }
+        requires known { AreKnown order.now known.old by }
+        ensures touches { OnOk result (Touches order.now by (is_write touch) self.old self.new) }
+        ensures known { AreKnown order.now known.new by }
     {
         match touch {
-            Touch::Reads => self.read(alloc, order, by),
-            Touch::Writes => self.write(order, by),
+            Touch::Reads => self.read(alloc, order, by, known),
+            Touch::Writes => self.write(order, by, known),
         }
     }
 
     /// Reads a cell.
-    fn read(&mut self, alloc: Global, order: &Clocked, by: Visitor) -> Result<(), Halt>
-        requires { MayTouch order.now self.old by }
-        ensures { OnOk result (Touches order.now by false self.old self.new) }
+    fn read(
+        &mut self,
+        alloc: Global,
+        order: &Clocked,
+        by: Visitor,
+        known: &mut Known,
+    ) -> Result<(), Halt>
+        requires may { MayTouch order.now self.old by }
+        requires known { AreKnown order.now known.old by }
+        ensures touches { OnOk result (Touches order.now by false self.old self.new) }
+        ensures known { AreKnown order.now known.new by }
     {
-        if !self.follows_writer(order, by) {
+        if !self.follows_writer(order, by, &mut known.writer) {
             return Err(Halt::Conflict);
         }
-        self.keep_reader(alloc, order, by)?;
+        self.keep_reader(alloc, order, by, &mut known.reader)?;
         Ok(())
     }
 
     /// Keeps one reader more. Those that come before it go.
-    fn keep_reader(&mut self, alloc: Global, order: &Clocked, by: Visitor) -> Result<(), AllocError>
-        requires { MayTouch order.now self.old by }
+    fn keep_reader(
+        &mut self,
+        alloc: Global,
+        order: &Clocked,
+        by: Visitor,
+        known: &mut Visitor,
+    ) -> Result<(), AllocError>
+        requires may { MayTouch order.now self.old by }
+        requires known { IsKnown order.now known.old by }
         ensures kept { OnOk result
             (KeepsLater order.now self.old.readers.items by self.new.readers.items) }
         ensures writer { OnOk result (self.new.writer ≡ self.old.writer) }
+        ensures known { IsKnown order.now known.new by }
     {
         // Most often all of them go, and their room is there.
-        if !self.follows_readers(order, by) {
+        if !self.follows_readers(order, by, known) {
             self.readers = self.with_reader(alloc, order, by)?;
             return Ok(());
         }
@@ -115,14 +163,16 @@ impl Cell {
     }
 
     /// Writes a cell.
-    fn write(&mut self, order: &Clocked, by: Visitor) -> Result<(), Halt>
-        requires { MayTouch order.now self.old by }
-        ensures { OnOk result (Touches order.now by true self.old self.new) }
+    fn write(&mut self, order: &Clocked, by: Visitor, known: &mut Known) -> Result<(), Halt>
+        requires may { MayTouch order.now self.old by }
+        requires known { AreKnown order.now known.old by }
+        ensures touches { OnOk result (Touches order.now by true self.old self.new) }
+        ensures known { AreKnown order.now known.new by }
     {
-        if !self.follows_writer(order, by) {
+        if !self.follows_writer(order, by, &mut known.writer) {
             return Err(Halt::Conflict);
         }
-        if !self.follows_readers(order, by) {
+        if !self.follows_readers(order, by, &mut known.reader) {
             return Err(Halt::Conflict);
         }
         self.writer = Some(by);
@@ -131,24 +181,27 @@ impl Cell {
     }
 
     /// Whether a command comes after the last one that wrote the cell, if there is one.
-    fn follows_writer(&self, order: &Clocked, by: Visitor) -> bool
-        requires { MayTouch order.now self.now by }
-        ensures { IsTrue result → IsAfterSome order.now self.now.writer by }
+    fn follows_writer(&self, order: &Clocked, by: Visitor, known: &mut Visitor) -> bool
+        requires may { MayTouch order.now self.now by }
+        requires known { IsKnown order.now known.old by }
+        ensures after { IsTrue result → IsAfterSome order.now self.now.writer by }
+        ensures known { IsKnown order.now known.new by }
     {
         match self.writer {
-            // Most writes follow one of their own job, and that needs no clock.
-            Some(writer) => is_earlier(writer, by) || is_at_or_before(order, writer, by),
+            Some(writer) => is_before(order, writer, by, known),
             None => true,
         }
     }
 
     /// Whether a command comes after all that have read the cell since.
-    fn follows_readers(&self, order: &Clocked, by: Visitor) -> bool
-        requires { MayTouch order.now self.now by }
-        ensures { IsTrue result → IsAfterAll order.now self.now.readers.items by }
+    fn follows_readers(&self, order: &Clocked, by: Visitor, known: &mut Visitor) -> bool
+        requires may { MayTouch order.now self.now by }
+        requires known { IsKnown order.now known.old by }
+        ensures after { IsTrue result → IsAfterAll order.now self.now.readers.items by }
+        ensures known { IsKnown order.now known.new by }
     {
         for reader in self.readers.as_slice() {
-            if !is_at_or_before(order, *reader, by) {
+            if !is_before(order, *reader, by, known) {
                 return false;
             }
         }

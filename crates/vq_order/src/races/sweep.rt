@@ -11,7 +11,7 @@ ghost use Rattle.vq_order.specs.Swept.{TouchesAmong, TouchesBy, TouchesIn, Touch
 ghost use Rattle.vq_clocks.specs.VectorClocks.{IsComplete};
 
 use crate::races::accesses::{MemoryAccess, Span, Visitor};
-use crate::races::cells::{Cell, Halt, Touch};
+use crate::races::cells::{Cell, Halt, Known, Touch};
 use crate::races::cuts::{Reach, reach_of};
 use std::alloc::{AllocError, Global};
 use vq_clocks::Clocked;
@@ -59,8 +59,12 @@ impl Sweep<'_> {
     {
         let Reach { first, end } = reach_of(self.cuts, span);
         count_down(left, end.saturating_sub(first))?;
+        let mut known = Known {
+            writer: by,
+            reader: by,
+        };
         for k in first..end {
-            cells[k].touch(alloc, self.order, by, touch)?;
+            cells[k].touch(alloc, self.order, by, touch, &mut known)?;
         }
         Ok(())
     }
