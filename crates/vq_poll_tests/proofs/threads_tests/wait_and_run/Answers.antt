@@ -2,7 +2,7 @@ use denote.Param.Send.{sendable}
 use Rattle.std.proofs.Crossing.{crosses}
 use Rattle.vq_board.proofs.parts.Pass.TheSendSync as pass
 use Rattle.vq_poll.proofs.Cited.{watched_send}
-use Rattle.vq_board_tests.proofs.threads_tests.wait_and_run.Goals as goal
+use Rattle.vq_poll_tests.proofs.threads_tests.wait_and_run.Goals as goal
 
 pub join-requires-send-F : goal.join-requires-send-F
 join-requires-send-F g c κs within =
