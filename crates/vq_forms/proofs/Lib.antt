@@ -1,4 +1,2 @@
-mod AsMany
-mod LikelyForms
 mod Opened
-mod TableSteps
+mod WordsGiven

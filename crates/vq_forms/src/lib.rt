@@ -2,11 +2,12 @@
 //! whether each has the shape of its place.
 #![tactic(auto)]
 
-mod likely;
+mod matching;
 mod open_words;
 mod shapes;
 mod table;
 
+pub use matching::{form_of, is_version};
 pub use open_words::{OpenWord, find_open};
 pub use shapes::{are_numeric, are_shaped};
-pub use table::{Token, form_of, is_declaration, is_version, part_of_form};
+pub use table::{Token, is_declaration, part_of_form};
