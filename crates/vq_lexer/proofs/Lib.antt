@@ -2,6 +2,7 @@ pub mod Cited
 mod DigitsRead
 mod FirstFound
 mod FirstLine
+mod Marks
 mod PlainParts
 mod PlainWords
 mod WordsCut
