@@ -1,10 +1,11 @@
 //! Numerals.
-ghost use Rattle.std.specs.Prelude.{◌≡◌, ◌≤◌, ◌<◌, ◌+◌, ◌*◌, ◌^◌, true, length, nat_lt};
-ghost use Rattle.std.specs.Prelude.{IfOk};
+ghost use Rattle.std.specs.Prelude.{◌≡◌, ◌≤◌, ◌<◌, ◌+◌, ◌*◌, ◌^◌, ◌&&◌, if◌then◌else◌, true, length, nat_lt};
+ghost use Rattle.std.specs.Prelude.{IfOk, None, Some};
 ghost use Rattle.std.specs.List.{list_all};
 ghost use Rattle.std.specs.Char.{digit_value};
 ghost use Rattle.std.specs.Option.{option_and_then};
 ghost use Rattle.vq_model.specs.Text.{numeral, numeral_in};
+ghost use Rattle.std.specs.Str.Parse.{digits_value};
 ghost use Rattle.vq_model.specs.Meaning.{small_numeral, is_hex, hex_bytes};
 
 use std::alloc::{AllocError, Global};
@@ -21,29 +22,69 @@ pub fn digit(byte: u8) -> u32
     }
 }
 
-/// The number that a word's digits stand for.
-fn numeral_in(base: u32, most: usize, digits: &[u8]) -> Option<u64>
-    requires { 1 ≤ base }
-    ensures { result ≡ numeral_in base most digits.now }
+/// The number that digits stand for, of which there are so few that it is below 2^64.
+fn few_digits(base: u32, digits: &[u8]) -> Option<u64>
+    requires base { 1 ≤ base }
+    requires few { base ^ length digits.now ≤ 2 ^ 64 }
+    ensures { result ≡ if list_all (λ b. nat_lt (digit_value b) base) digits.now
+        then Some (digits_value base digits.now) else None }
 {
-    if digits.is_empty() || digits.len() > most {
-        return None;
-    }
     let mut number: u64 = 0;
     for byte in digits {
         let value = digit(*byte);
         if value >= base {
             return None;
         }
-        let Some(product) = number.checked_mul(u64::from(base)) else {
-            return None;
-        };
-        let Some(sum) = product.checked_add(u64::from(value)) else {
-            return None;
-        };
-        number = sum;
+        number = number * u64::from(base) + u64::from(value);
     }
     Some(number)
+}
+
+/// A number with one decimal digit more, if it is below 2^64.
+fn one_more(number: u64, byte: u8) -> Option<u64>
+    ensures { result ≡ if nat_lt (digit_value byte) 10 && nat_lt (number * 10 + digit_value byte) (2 ^ 64)
+        then Some (number * 10 + digit_value byte) else None }
+{
+    let value = digit(byte);
+    if value >= 10 {
+        return None;
+    }
+    let Some(product) = number.checked_mul(10) else {
+        return None;
+    };
+    product.checked_add(u64::from(value))
+}
+
+/// The number of a decimal numeral of twenty digits, the only one that may be too large.
+fn twenty_digits(word: &[u8]) -> Option<u64>
+    requires { length word.now ≡ 20 }
+    ensures { result ≡ numeral_in 10 20 word.now }
+{
+    match few_digits(10, &word[..19]) {
+        Some(number) => one_more(number, word[19]),
+        None => None,
+    }
+}
+
+/// The number of a decimal numeral.
+fn decimal(word: &[u8]) -> Option<u64>
+    ensures { result ≡ numeral_in 10 20 word.now }
+{
+    match word.len() {
+        1..=19 => few_digits(10, word),
+        20 => twenty_digits(word),
+        _ => None,
+    }
+}
+
+/// The number of hexadecimal digits.
+fn hexadecimal(digits: &[u8]) -> Option<u64>
+    ensures { result ≡ numeral_in 16 16 digits.now }
+{
+    match digits.len() {
+        1..=16 => few_digits(16, digits),
+        _ => None,
+    }
 }
 
 /// The number that a numeral stands for, in decimal or after `0x`.
@@ -51,8 +92,8 @@ pub fn numeral(word: &[u8]) -> Option<u64>
     ensures { result ≡ numeral word.now }
 {
     match word {
-        [b'0', b'x', digits @ ..] => numeral_in(16, 16, digits),
-        _ => numeral_in(10, 20, word),
+        [b'0', b'x', digits @ ..] => hexadecimal(digits),
+        _ => decimal(word),
     }
 }
 
