@@ -1,3 +1,4 @@
+mod Blanks
 pub mod Cited
 mod DigitsRead
 mod FirstFound

@@ -35,7 +35,7 @@ no_hash b h = by_test (is_hash b) refl
 comment_here : (b : ℕ) (bs : List ℕ) → is_hash b ≡ true → without_comment (b ∷ bs) ≡ []
 comment_here b bs h = rw h refl
 
-comment_later : (b : ℕ) (bs : List ℕ) → is_hash b ≡ false → without_comment (b ∷ bs) ≡ b ∷ without_comment bs
+pub comment_later : (b : ℕ) (bs : List ℕ) → is_hash b ≡ false → without_comment (b ∷ bs) ≡ b ∷ without_comment bs
 comment_later b bs h =
     let next : position_or_len is_hash (b ∷ bs) ≡ suc (position_or_len is_hash bs) = rw h (omega arith) in
     ap (λ (n : ℕ). take n (b ∷ bs)) next

@@ -4,11 +4,21 @@ use Rattle.std.specs.List.{list_all}
 use Rattle.std.specs.Borrow.{Bor}
 use Rattle.std.proofs.lemmas.Bool.Decides.{nat_tests}
 use Rattle.std.proofs.lemmas.List.{append_assoc, length-drop}
-use Rattle.vq_model.specs.Text.{is_blank, is_plain, without_comment}
+use Rattle.vq_model.specs.Text.{is_blank, is_plain, without_comment, words_in}
 use Rattle.vq_lexer.specs.Words.{some_word, texts}
+use Rattle.vq_lexer.proofs.Blanks.{plain_of_simple, words_of_simple}
 use Rattle.vq_lexer.proofs.PlainParts.{and_again, blank_plain, words_plain}
 use Rattle.vq_lexer.proofs.WordsCut.{cut, cut_is, cut_blank, cut_common, cut_more, is_common, is_hash, no_hash, plain_common, plain_more, plain_end}
 use Rattle.vq_lexer.proofs.words.find_words.Goals as goal
+
+pub returns-in-Some-clause-words : goal.returns-in-Some-clause-words
+returns-in-Some-clause-words c =
+    c.in_ok-cut_at_blanks.ensures {u = tt}
+    ∙ ap (λ (ws : List (Bor (List ℕ))). texts ws ++ words_in c.args.line.now) c.clear.ensures.items
+    ∙ words_of_simple c.args.line.now c.in-Some.blanks c.in-Some.ensures.0
+
+pub returns-in-Some-clause-plain : goal.returns-in-Some-clause-plain
+returns-in-Some-clause-plain c = plain_of_simple c.args.line.now c.in-Some.blanks c.in-Some.ensures.0
 
 pub loop-length-init : goal.loop-length-init
 loop-length-init c = record {
