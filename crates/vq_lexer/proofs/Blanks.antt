@@ -14,7 +14,7 @@ use Rattle.vq_model.specs.Text.{is_blank, is_plain, is_some_word, without_commen
 use Rattle.vq_lexer.specs.Words.{AreBlanks, is_simple, some_word}
 use Rattle.vq_lexer.proofs.Marks.{first_marked}
 use Rattle.vq_lexer.proofs.PlainParts.{words_plain}
-use Rattle.vq_lexer.proofs.WordsCut.{comment_later}
+use Rattle.vq_lexer.proofs.WordsCut.{comment_later, kept}
 
 -- equal masks have equal bits
 equal_bits : (s t : Bool) (m n : ℕ) → cond s 1 0 + 2 * m ≡ cond t 1 0 + 2 * n → (s ≡ t) × (m ≡ n)
@@ -39,7 +39,8 @@ pub blanks_from_tests : (bytes : List ℕ) → mask_l (map (λ b. nat_lt b 36) b
     AreBlanks bytes (mask_l (map (λ b. b == 32) bytes))
 blanks_from_tests [] h e = record { simple = refl; bits = refl }
 blanks_from_tests (b ∷ bytes) h e =
-    let low = equal_bits (nat_lt b 36) (b == 32) (mask_l (map (λ b. nat_lt b 36) bytes)) (mask_l (map (λ b. b == 32) bytes)) h in
+    let low = equal_bits (nat_lt b 36) (b == 32) (mask_l (map (λ b. nat_lt b 36) bytes))
+    (mask_l (map (λ b. b == 32) bytes)) h in
     let plain = set_bits (nat_lt b 127) (mask_l (map (λ b. nat_lt b 127) bytes)) (2 ^ length bytes) (rw pow-suc at e) in
     let more = blanks_from_tests bytes low.1 plain.1 in
     record {
@@ -66,7 +67,8 @@ drop_blanks (suc n) (b ∷ bytes) mask h =
     (drop_blanks n bytes (mask / 2) (record { simple = parts.1; bits = later }))
 
 -- the blanks of two parts, one after the other
-pub append_blanks : (xs ys : List ℕ) (m n : ℕ) → AreBlanks xs m → AreBlanks ys n → AreBlanks (xs ++ ys) (m + 2 ^ length xs * n)
+pub append_blanks : (xs ys : List ℕ) (m n : ℕ) → AreBlanks xs m → AreBlanks ys n →
+    AreBlanks (xs ++ ys) (m + 2 ^ length xs * n)
 append_blanks [] ys m n h k =
     let none : m ≡ 0 = h.bits in
     subst (λ (mask : ℕ). AreBlanks ys mask) (omega arith) k
@@ -96,7 +98,8 @@ module _ (n : ℕ) (bytes : List ℕ) (first last : ℕ) (some : n ≤ length by
       let places : from + left ≡ n = omega arith in
       let end : drop left (chunk from n bytes) ≡ drop n bytes
       = ap (drop left) tail ∙ drop-drop left from bytes ∙ ap (λ (i : ℕ). drop i bytes) places in
-      let later = subst (λ (part : List ℕ). AreBlanks part (last / 2 ^ left)) end (drop_blanks left (chunk from n bytes) last k) in
+      let later = subst (λ (part : List ℕ). AreBlanks part (last / 2 ^ left)) end
+      (drop_blanks left (chunk from n bytes) last k) in
       let both = append_blanks (chunk 0 n bytes) (drop n bytes) first (last / 2 ^ left) h later in
       subst (λ (x : List ℕ × ℕ). AreBlanks x.0 (first + 2 ^ x.1 * (last / 2 ^ left)))
       (λ i. (take-append-drop n bytes i, long i)) both
@@ -116,14 +119,9 @@ first_blank bytes mask h short some =
     let whole : chunk 0 (length bytes) bytes ≡ bytes = take_all (length bytes) bytes (omega arith) in
     let same : mask_l (map is_blank (chunk 0 (length bytes) bytes)) ≡ mask
     = ap (λ (part : List ℕ). mask_l (map is_blank part)) whole ∙ sym h.bits in
-    subst (λ (m : ℕ). (count_trailing_zeros 64 m < length bytes) × (position_or_len is_blank bytes ≡ count_trailing_zeros 64 m)) same
+    subst (λ (m : ℕ). (count_trailing_zeros 64 m < length bytes)
+    × (position_or_len is_blank bytes ≡ count_trailing_zeros 64 m)) same
     (first_marked is_blank bytes (length bytes) (omega arith) (omega arith) (rw same some))
-
--- a part is kept if it has a byte
-kept : (word : List ℕ) (parts : List (List ℕ)) →
-    filter is_some_word (word ∷ parts) ≡ some_word word ++ filter is_some_word parts
-kept [] parts = refl
-kept (b ∷ bs) parts = refl
 
 -- the words of a part with a blank
 pub words_next : (bytes : List ℕ) (n : ℕ) → n < length bytes → position_or_len is_blank bytes ≡ n →
@@ -172,4 +170,5 @@ all_plain (b ∷ bytes) h =
 pub plain_of_simple : (bytes : List ℕ) (mask : ℕ) → AreBlanks bytes mask →
     true ≡ list_all (list_all is_plain) (words_of bytes)
 plain_of_simple bytes mask h =
-    sym (words_plain (without_comment bytes) ∙ ap (list_all is_plain) (no_comment bytes h.simple) ∙ all_plain bytes h.simple)
+    sym (words_plain (without_comment bytes) ∙ ap (list_all is_plain) (no_comment bytes h.simple)
+    ∙ all_plain bytes h.simple)

@@ -58,7 +58,7 @@ before_blank (x ∷ word) b rest h e =
     ∙ ap (onto_first x) (before_blank word b rest parts.1 e)
 
 -- a part is kept if it has a byte
-kept : (word : List ℕ) (parts : List (List ℕ)) →
+pub kept : (word : List ℕ) (parts : List (List ℕ)) →
     filter is_some_word (word ∷ parts) ≡ some_word word ++ filter is_some_word parts
 kept [] parts = refl
 kept (b ∷ bs) parts = refl

@@ -11,7 +11,8 @@ returns-then-plain-eq65535 c =
     let bytes = chunk c.args.from 16 c.args.part.now in
     let long = length-chunk c.args.from 16 c.args.part.now c.requires in
     let low : mask_l (map (λ b. nat_lt b 36) bytes) ≡ mask_l (map (λ b. b == 32) bytes)
-    = sym (bitmask_splat w8 ltb bytes 16 36 long (omega arith)) ∙ c.if-low-blanks.true ∙ bitmask_splat w8 eqb bytes 16 32 long (omega arith) in
+    = sym (bitmask_splat w8 ltb bytes 16 36 long (omega arith)) ∙ c.if-low-blanks.true
+    ∙ bitmask_splat w8 eqb bytes 16 32 long (omega arith) in
     let plain : mask_l (map (λ b. nat_lt b 127) bytes) ≡ 65535
     = sym (bitmask_splat w8 ltb bytes 16 127 long (omega arith)) ∙ c.if-plain-eq65535.true in
     let full : mask_l (map (λ b. nat_lt b 127) bytes) + 1 ≡ 2 ^ length bytes = rw (plain, long) refl in

@@ -11,7 +11,8 @@ returns-then-plain-eq255 c =
     let bytes = chunk c.args.from 8 c.args.part.now in
     let long = length-chunk c.args.from 8 c.args.part.now c.requires in
     let low : mask_l (map (λ b. nat_lt b 36) bytes) ≡ mask_l (map (λ b. b == 32) bytes)
-    = sym (bitmask_splat w8 ltb bytes 8 36 long (omega arith)) ∙ c.if-low-blanks.true ∙ bitmask_splat w8 eqb bytes 8 32 long (omega arith) in
+    = sym (bitmask_splat w8 ltb bytes 8 36 long (omega arith)) ∙ c.if-low-blanks.true
+    ∙ bitmask_splat w8 eqb bytes 8 32 long (omega arith) in
     let plain : mask_l (map (λ b. nat_lt b 127) bytes) ≡ 255
     = sym (bitmask_splat w8 ltb bytes 8 127 long (omega arith)) ∙ c.if-plain-eq255.true in
     let full : mask_l (map (λ b. nat_lt b 127) bytes) + 1 ≡ 2 ^ length bytes = rw (plain, long) refl in

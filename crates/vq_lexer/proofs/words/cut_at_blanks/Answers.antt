@@ -8,13 +8,15 @@ use Rattle.vq_lexer.proofs.words.cut_at_blanks.Goals as goal
 pub front-requires : goal.front-requires
 front-requires c =
     let some : 0 < c.loop-left.left = omega (arith, c.loop-left-test.true) in
-    let found = first_blank c.loop-left.rest.now c.loop-left.left c.loop-left.invariant.blanks c.loop-left.invariant.short some in
+    let found = first_blank c.loop-left.rest.now c.loop-left.left c.loop-left.invariant.blanks
+    c.loop-left.invariant.short some in
     omega (arith, found)
 
 pub behind-rest-requires : goal.behind-rest-requires
 behind-rest-requires c =
     let some : 0 < c.loop-left.left = omega (arith, c.loop-left-test.true) in
-    let found = first_blank c.loop-left.rest.now c.loop-left.left c.loop-left.invariant.blanks c.loop-left.invariant.short some in
+    let found = first_blank c.loop-left.rest.now c.loop-left.left c.loop-left.invariant.blanks
+    c.loop-left.invariant.short some in
     omega (arith, found)
 
 pub overflow_shr-left : goal.overflow_shr-left
