@@ -522,13 +522,13 @@ all_read k form words found = by_pairs (end_with_pairs (places form)) refl
 
 pub unread_first : (k : Kept) (batch : Option Batch) (form : LineForm)
     (words : List (Slot × List ℕ)) → AreFound form words →
-    word_fault (earlier_in k batch) form words ≡ None →
     None ≡ named_in k form (map (λ x. x.1) words) →
-    fault_by (earlier_in k batch) (form, words) ≡ Some (cond (list_all is_numeric words) Name Number)
-unread_first k batch form words found none said =
-    words_by e form words None none
-    ∙ by_numeric (list_all is_numeric words) (list_all (is_known (number_of k)) words)
-    (all_read k form words found ∙ ap (λ (o : Option Statement). is_some o) (sym said))
+    fault_by (earlier_in k batch) (form, words)
+    ≡ option_or (word_fault (earlier_in k batch) form words) (Some (cond (list_all is_numeric words) Name Number))
+unread_first k batch form words found said =
+    words_by e form words (word_fault e form words) refl
+    ∙ ap (option_or (word_fault e form words)) (by_numeric (list_all is_numeric words) (list_all (is_known (number_of k)) words)
+    (all_read k form words found ∙ ap (λ (o : Option Statement). is_some o) (sym said)))
   where
     e : Earlier
     e = earlier_in k batch

@@ -49,7 +49,7 @@ found_is_some true n = refl
 found_is_some false n = refl
 
 -- a list has a first that passes where any passes
-any_found : {X : Type 0} (p : X → Bool) (xs : List X) → is_some (position p xs) ≡ list_any p xs
+pub any_found : {X : Type 0} (p : X → Bool) (xs : List X) → is_some (position p xs) ≡ list_any p xs
 any_found p xs = found_is_some (nat_lt (position_or_len p xs) (length xs)) (position_or_len p xs) ∙ any_within p xs
 
 none_found : {X : Type 0} (p : X → Bool) (xs : List X) → list_any p xs ≡ false → position p xs ≡ None

@@ -25,7 +25,7 @@ use Rattle.vq_model.specs.declared.statement.Statement.TheVariants.{DeclareSemap
 use Rattle.vq_model.specs.declared.statement.Statement.TheVariants.{BeginSchedule, TakeTurns, TakeHostStep}
 use Rattle.vq_model.specs.Forms.{Slot, NewName, HexDigits}
 use Rattle.vq_model.specs.Forms.{Fixed, Pairs, places}
-use Rattle.vq_model.specs.LineFaults.{part_of_form}
+use Rattle.vq_model.specs.LineFaults.{is_declaration, part_of_form}
 use Rattle.vq_model.specs.Meaning.{is_hex, hex_bytes}
 use Rattle.vq_model.specs.Meaning.{statement_of, pair_places}
 use Rattle.vq_model.specs.ScriptOfLines.{mark}
@@ -97,6 +97,10 @@ abbrev pub is_turn_form : LineForm → Bool
 is_turn_form TurnLine = true
 is_turn_form TurnsLine = true
 is_turn_form other = false
+
+-- whether a word of a form may lack its shape though it is read: a name that is declared, or an actor's
+abbrev pub may_be_misshapen : LineForm → Bool
+may_be_misshapen form = is_declaration form || is_turn_form form
 
 -- whether turns stand where the next line stands
 abbrev pub takes_turns : Bool → Option Batch → Bool

@@ -1,9 +1,10 @@
 //! What the lines so far declare and submit.
 ghost use Rattle.std.specs.Prelude.{◌≡◌, ◌+◌, ◌<◌, ◌≤◌, ◌^◌, ◌||◌, ◌++◌, ◌∷◌, [], ℕ};
 ghost use Rattle.std.specs.Prelude.{List, nat_lt, length, false, is_some};
-ghost use Rattle.std.specs.Prelude.{not, OnOk};
+ghost use Rattle.std.specs.Prelude.{not, true, All, OnOk};
 ghost use Rattle.vq_model.specs.Forms.{Slot};
 ghost use Rattle.vq_model.specs.Context.{number_in as number_among, is_taken};
+ghost use Rattle.vq_model.specs.Text.{is_name};
 ghost use Rattle.vq_script.specs.Names.{item_of, number_in};
 
 use crate::named_item::{NamedItem, semaphore_item};
@@ -56,6 +57,9 @@ pub struct Known {
     ghost all_names: { (place : Slot) (name : List ℕ) → number_in place (item_of names.map name)
         ≡ number_among buffers.items semaphores.items queues.items place name },
     ghost few_turns: { length turns.items ≤ limits.turns },
+    ghost named_buffers: { All (λ b. is_name b.name ≡ true) buffers.items },
+    ghost named_semaphores: { All (λ s. is_name s.name ≡ true) semaphores.items },
+    ghost named_queues: { All (λ q. is_name q.name ≡ true) queues.items },
 }
 
 impl Known {
@@ -274,6 +278,7 @@ impl Known {
         requires few_bytes { self.old.bytes + buffer.size ≤ self.old.limits.bytes }
         requires fresh { is_taken self.old.buffers.items self.old.semaphores.items
             self.old.queues.items buffer.name ≡ false }
+        requires named { is_name buffer.name ≡ true }
         ensures added { OnOk result (kept self.new ≡ with_buffer (kept self.old) buffer) }
         ensures open { self.new.batch ≡ self.old.batch }
     {
@@ -293,6 +298,7 @@ impl Known {
         requires room { length self.old.semaphores.items < self.old.limits.semaphores }
         requires fresh { is_taken self.old.buffers.items self.old.semaphores.items
             self.old.queues.items semaphore.name ≡ false }
+        requires named { is_name semaphore.name ≡ true }
         ensures added { OnOk result (kept self.new ≡ with_semaphore (kept self.old) semaphore) }
         ensures open { self.new.batch ≡ self.old.batch }
     {
@@ -309,6 +315,7 @@ impl Known {
         requires room { length self.old.queues.items < self.old.limits.queues }
         requires fresh { is_taken self.old.buffers.items self.old.semaphores.items
             self.old.queues.items queue.name ≡ false }
+        requires named { is_name queue.name ≡ true }
         ensures added { OnOk result (kept self.new ≡ with_queue (kept self.old) queue) }
         ensures open { self.new.batch ≡ self.old.batch }
     {

@@ -1,14 +1,18 @@
 //! The first fault of a line: its words first, then what it says.
-ghost use Rattle.std.specs.Prelude.{◌≡◌, ◌<◌, ◌^◌, List, None, IsTrue, IfOk, cond};
+ghost use Rattle.std.specs.Prelude.{◌≡◌, ◌<◌, ◌^◌, List, None, Some, IsTrue, IfOk, cond, is_some, map, not, true};
 ghost use Rattle.std.specs.List.{list_all};
-ghost use Rattle.vq_model.specs.LineFaults.{is_numeric, is_out_of_order, is_within, is_in_range, overlaps, passes_limit};
-ghost use Rattle.vq_model.specs.declared.statement.FaultKind.TheVariants.{Name, Number};
+ghost use Rattle.std.specs.Option.{option_or};
+ghost use Rattle.vq_model.specs.Context.{is_taken};
+ghost use Rattle.vq_model.specs.LineFaults.{is_new, is_numeric, is_shaped, is_out_of_order, is_within, is_in_range};
+ghost use Rattle.vq_model.specs.LineFaults.{overlaps, passes_limit};
+ghost use Rattle.vq_model.specs.declared.statement.FaultKind.TheVariants.{Name, Number, Syntax, Order};
 ghost use Rattle.vq_model.specs.declared.statement.Line.{Line};
 ghost use Rattle.vq_script.specs.Faults.{Tells};
 ghost use Rattle.vq_script.specs.Holds.{Keeps, Kept, kept, open_so_far};
 ghost use Rattle.vq_script.specs.LineTests.{earlier_in, word_fault, said_fault};
 ghost use Rattle.vq_forms.specs.OpenWords.{opens};
 ghost use Rattle.vq_script.specs.SaidLines.{AreFound, IsWhollyRead, IsSmall, May, Stands, statement_in};
+ghost use Rattle.vq_script.specs.SaidLines.{may_be_misshapen, named_in};
 
 use crate::known::Known;
 use crate::place_faults::are_new;
@@ -29,18 +33,44 @@ pub fn is_late(known: &Known, form: LineForm) -> bool
         || (matches!(form, LineForm::BatchFenceLine) && known.has_fence())
 }
 
-/// The first kind of the faults that the words of a line have before they are read.
-fn word_fault(known: &Known, form: LineForm, words: &[OpenWord<'_>]) -> Option<FaultKind>
-    ensures { result ≡ word_fault (earlier_in (kept known.now) (open_so_far known.now.batch)) form
-        (opens words.now) }
+/// The first kind of the faults that the words of a line have before they are read, by whether each has its shape.
+fn word_fault(known: &Known, form: LineForm, shaped: bool) -> Option<FaultKind>
+    ensures { result ≡ cond (not shaped) (Some Syntax)
+        (cond (is_out_of_order (earlier_in (kept known.now) (open_so_far known.now.batch)) form) (Some Order) None) }
 {
-    if !are_shaped(words) {
+    if !shaped {
         return Some(FaultKind::Syntax);
     }
     if is_late(known, form) {
         return Some(FaultKind::Order);
     }
     None
+}
+
+/// Whether a word of a form may lack its shape though it is read: a name that is declared, or an actor's.
+fn may_be_misshapen(form: LineForm) -> bool
+    ensures { result ≡ may_be_misshapen form }
+{
+    is_declaration(form) || matches!(form, LineForm::TurnLine | LineForm::TurnsLine)
+}
+
+/// Whether each word of a line has its shape, where all are read.
+fn are_read_shaped(known: &Known, form: LineForm, words: &[OpenWord<'_>]) -> bool
+    requires found { AreFound form (opens words.now) }
+    requires read { is_some (named_in (kept known.now) form (map (λ x. x.1) (opens words.now))) ≡ true }
+    ensures { result ≡ list_all is_shaped (opens words.now) }
+{
+    !may_be_misshapen(form) || are_shaped(words)
+}
+
+/// Whether each name that a line declares is new.
+fn has_new_names(known: &Known, form: LineForm, words: &[OpenWord<'_>]) -> bool
+    requires { AreFound form (opens words.now) }
+    ensures { result ≡ list_all
+        (is_new (is_taken known.now.buffers.items known.now.semaphores.items known.now.queues.items))
+        (opens words.now) }
+{
+    !is_declaration(form) || are_new(known, words)
 }
 
 /// Whether bytes begin in a buffer, are one at least, and end in it.
@@ -147,13 +177,19 @@ fn passes_limit(known: &Known, said: &Said<'_>) -> bool
 }
 
 /// The first kind of the faults that a line has whose words are read.
-fn said_fault(known: &Known, words: &[OpenWord<'_>], said: &Said<'_>) -> Option<FaultKind>
+fn said_fault(
+    known: &Known,
+    form: LineForm,
+    words: &[OpenWord<'_>],
+    said: &Said<'_>,
+) -> Option<FaultKind>
+    requires found { AreFound form (opens words.now) }
     requires read { IsWhollyRead (kept known.now) said.now }
     ensures exact { result ≡ said_fault (earlier_in (kept known.now) (open_so_far known.now.batch)) (opens words.now)
         (statement_in (kept known.now) said.now) }
     ensures small { result ≡ None → IsSmall said.now }
 {
-    if !are_new(known, words) {
+    if !has_new_names(known, form, words) {
         return Some(FaultKind::Twice);
     }
     if !is_in_range(known, said) {
@@ -168,10 +204,15 @@ fn said_fault(known: &Known, words: &[OpenWord<'_>], said: &Said<'_>) -> Option<
     None
 }
 
-/// The first kind of the faults that words have which aren't all read.
-fn unread_fault(words: &[OpenWord<'_>]) -> FaultKind
-    ensures { result ≡ cond (list_all is_numeric (opens words.now)) Name Number }
+/// The first kind of the faults that a line has whose words aren't all read.
+fn unread_fault(known: &Known, form: LineForm, words: &[OpenWord<'_>]) -> FaultKind
+    ensures { Some result ≡ option_or
+        (word_fault (earlier_in (kept known.now) (open_so_far known.now.batch)) form (opens words.now))
+        (Some (cond (list_all is_numeric (opens words.now)) Name Number)) }
 {
+    if let Some(kind) = word_fault(known, form, are_shaped(words)) {
+        return kind;
+    }
     if are_numeric(words) {
         FaultKind::Name
     } else {
@@ -179,7 +220,7 @@ fn unread_fault(words: &[OpenWord<'_>]) -> FaultKind
     }
 }
 
-/// What a line of a form says, or the first kind of its faults.
+/// What a line of a form says, or the first kind of its faults. Most words that are read have no fault of their own.
 pub fn said_by<'a>(
     known: &Known,
     form: LineForm,
@@ -191,13 +232,14 @@ pub fn said_by<'a>(
         Tells lines (form, opens words.now) (statement_in (kept known.now)) result }
     ensures may { IfOk result (May (kept known.now) (open_so_far known.now.batch)) }
 {
-    if let Some(kind) = word_fault(known, form, words) {
+    let Some(said) = statement_of(known, form, words) else {
+        return Err(unread_fault(known, form, words));
+    };
+    let shaped = are_read_shaped(known, form, words);
+    if let Some(kind) = word_fault(known, form, shaped) {
         return Err(kind);
     }
-    let Some(said) = statement_of(known, form, words) else {
-        return Err(unread_fault(words));
-    };
-    if let Some(kind) = said_fault(known, words, &said) {
+    if let Some(kind) = said_fault(known, form, words, &said) {
         return Err(kind);
     }
     Ok(said)

@@ -1,6 +1,9 @@
-use Rattle.std.proofs.Common.{◌≡◌, ◌++◌, ◌∷◌, [], refl, sym, subst, ◌∙◌, List, ℕ, false, length, arith}
+use Rattle.std.proofs.Common.{◌≡◌, ◌++◌, ◌∷◌, [], refl, sym, subst, ◌∙◌, List, ℕ, true, false, length, arith}
 use Rattle.vq_model.specs.declared.script.Queue.{Queue}
+use Rattle.std.specs.List.{All}
+use Rattle.std.proofs.lemmas.List.Elements.{All-push}
 use Rattle.vq_model.specs.Context.{is_taken}
+use Rattle.vq_model.specs.Text.{is_name}
 use Rattle.vq_script.proofs.NamesFound.{HasNames, queue_named, name_free}
 use Rattle.vq_script.proofs.known.Known.add_queue.Goals as goal
 
@@ -12,6 +15,14 @@ insert-requires c =
     known.all_names
     (subst (λ (bs : List ℕ). is_taken known.buffers.items known.semaphores.items known.queues.items bs ≡ false)
     (sym key) c.requires.fresh)
+
+pub invariant_of-self-2-clause-named_queues : goal.invariant_of-self-2-clause-named_queues
+invariant_of-self-2-clause-named_queues c =
+    let known = c.args.self.now in
+    let is_named : Queue → Type 0 = λ x. is_name x.name ≡ true in
+    let pushed : c.push_reserved.new.self.items ≡ known.queues.items ++ c.args.queue ∷ [] = grind arith in
+    subst (λ (xs : List Queue). All is_named xs) (sym pushed)
+    (All-push is_named known.queues.items c.args.queue known.named_queues c.requires.named)
 
 pub invariant_of-self-2-clause-all_names : goal.invariant_of-self-2-clause-all_names
 invariant_of-self-2-clause-all_names c =

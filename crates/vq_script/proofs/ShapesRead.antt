@@ -1,0 +1,176 @@
+-- Words that are read: those that name something declared are names, and only declarations have new ones.
+use Rattle.std.proofs.Common.{◌≡◌, ℕ, Bool, true, false, ◌||◌, ◌&&◌, List, [], ◌∷◌, map, Option, Some, None, is_some, refl, sym, ap, subst, ◌∙◌}
+use Rattle.std.specs.List.{All, list_all, list_any}
+use Rattle.std.specs.Str.{bytes_eq}
+use Rattle.std.proofs.lemmas.Bool.{and_parts, false≢true}
+use Rattle.std.proofs.lemmas.List.Elements.{All-head, All-tail}
+use Rattle.std.proofs.lemmas.Slice.Eq.{bytes_eq-Decides}
+use Rattle.vq_model.specs.declared.script.Buffer.{Buffer}
+use Rattle.vq_model.specs.declared.script.Semaphore.{Semaphore}
+use Rattle.vq_model.specs.declared.script.Queue.{Queue}
+use Rattle.vq_model.specs.declared.statement.LineForm.{LineForm}
+use Rattle.vq_model.specs.declared.statement.LineForm.TheVariants.{BufferLine, TimelineLine, BinaryLine, FenceLine, QueueLine, HostWaitAllLine, HostWaitAnyLine, HostPollAllLine, HostPollAnyLine, TurnLine, TurnsLine}
+use Rattle.vq_model.specs.Context.{is_timeline, is_binary, is_fence, is_threaded, is_taken}
+use Rattle.vq_model.specs.Forms.{Slot, NewName, Actor, Numeral, BufferName, TimelineName, BinaryName, FenceName, QueueName, ThreadedName, places}
+use Rattle.vq_model.specs.LineFaults.{is_declaration, is_known, is_new, is_numeric, is_shaped}
+use Rattle.vq_model.specs.Meaning.{pair_places}
+use Rattle.vq_model.specs.Text.{is_name}
+use Rattle.vq_script.specs.Holds.{Kept}
+use Rattle.vq_script.specs.LineTests.{number_of}
+use Rattle.vq_script.specs.SaidLines.{AreFound, end_with_pairs, may_be_misshapen, named_in, open_kinds}
+use Rattle.vq_script.proofs.LineTold.{all_read}
+use Rattle.vq_script.proofs.NamesFound.{any_found}
+
+-- The name of what is declared is a name.
+pub record AreNamed (k : Kept) : Type 0 where
+  pub named_buffers : All (λ (b : Buffer). is_name b.name ≡ true) k.buffers
+  pub named_semaphores : All (λ (s : Semaphore). is_name s.name ≡ true) k.semaphores
+  pub named_queues : All (λ (q : Queue). is_name q.name ≡ true) k.queues
+
+any_named : {X : Type 0} (name_of : X → List ℕ) (p : X → Bool) (name : List ℕ) (xs : List X) →
+    All (λ x. is_name (name_of x) ≡ true) xs → ((x : X) → p x ≡ true → bytes_eq name (name_of x) ≡ true) →
+    list_any p xs ≡ true → is_name name ≡ true
+any_named name_of p name [] all passes some = absurd (false≢true some)
+any_named {X} name_of p name (x ∷ xs) all passes some =
+    by_test (p x) refl some (any_named name_of p name xs (All-tail (λ y. is_name (name_of y) ≡ true) x xs all) passes)
+  where
+    by_test : (b : Bool) → p x ≡ b → (b || list_any p xs) ≡ true → (list_any p xs ≡ true → is_name name ≡ true) →
+        is_name name ≡ true
+    by_test true e s more =
+        subst (λ (w : List ℕ). is_name w ≡ true) (sym ((bytes_eq-Decides name (name_of x)).0 (passes x e)))
+        (All-head (λ y. is_name (name_of y) ≡ true) x xs all)
+    by_test false e s more = more s
+
+-- what has a number has a name
+number_named : (k : Kept) → AreNamed k → (place : Slot) (name : List ℕ) →
+    is_some (number_of k place name) ≡ true → is_name name ≡ true
+unfolding number_of
+number_named k named BufferName name h =
+    any_named (λ (b : Buffer). b.name) (λ (b : Buffer). bytes_eq name b.name) name k.buffers named.named_buffers
+    (λ b e. e) (sym (any_found _ k.buffers) ∙ h)
+number_named k named TimelineName name h =
+    any_named (λ (s : Semaphore). s.name) (λ (s : Semaphore). bytes_eq name s.name && is_timeline s.kind) name
+    k.semaphores named.named_semaphores (λ s e. (and_parts (bytes_eq name s.name) (is_timeline s.kind) e).0)
+    (sym (any_found _ k.semaphores) ∙ h)
+number_named k named BinaryName name h =
+    any_named (λ (s : Semaphore). s.name) (λ (s : Semaphore). bytes_eq name s.name && is_binary s.kind) name
+    k.semaphores named.named_semaphores (λ s e. (and_parts (bytes_eq name s.name) (is_binary s.kind) e).0)
+    (sym (any_found _ k.semaphores) ∙ h)
+number_named k named FenceName name h =
+    any_named (λ (s : Semaphore). s.name) (λ (s : Semaphore). bytes_eq name s.name && is_fence s.kind) name
+    k.semaphores named.named_semaphores (λ s e. (and_parts (bytes_eq name s.name) (is_fence s.kind) e).0)
+    (sym (any_found _ k.semaphores) ∙ h)
+number_named k named QueueName name h =
+    any_named (λ (q : Queue). q.name) (λ (q : Queue). bytes_eq name q.name) name k.queues named.named_queues
+    (λ q e. e) (sym (any_found _ k.queues) ∙ h)
+number_named k named ThreadedName name h =
+    any_named (λ (q : Queue). q.name) (λ (q : Queue). bytes_eq name q.name && is_threaded q.mode) name
+    k.queues named.named_queues (λ q e. (and_parts (bytes_eq name q.name) (is_threaded q.mode) e).0)
+    (sym (any_found _ k.queues) ∙ h)
+number_named k named other name h = absurd (false≢true h)
+
+-- at this place what is known is shaped
+abbrev shows_shape : Slot → Bool
+shows_shape NewName = false
+shows_shape Actor = false
+shows_shape other = true
+
+known_shaped : (k : Kept) → AreNamed k → (place : Slot) (word : List ℕ) → shows_shape place ≡ true →
+    is_known (number_of k) (place, word) ≡ true → is_shaped (place, word) ≡ true
+known_shaped k named BufferName word s h = number_named k named BufferName word h
+known_shaped k named TimelineName word s h = number_named k named TimelineName word h
+known_shaped k named BinaryName word s h = number_named k named BinaryName word h
+known_shaped k named FenceName word s h = number_named k named FenceName word h
+known_shaped k named QueueName word s h = number_named k named QueueName word h
+known_shaped k named NewName word s h = absurd (false≢true s)
+known_shaped k named Actor word s h = absurd (false≢true s)
+known_shaped k named other word s h = refl
+
+all_shaped : (k : Kept) → AreNamed k → (words : List (Slot × List ℕ)) →
+    list_all shows_shape (map (λ x. x.0) words) ≡ true → list_all (is_known (number_of k)) words ≡ true →
+    list_all is_shaped words ≡ true
+all_shaped k named [] s h = refl
+all_shaped k named ((place, word) ∷ words) s h =
+    let shown = and_parts (shows_shape place) (list_all shows_shape (map (λ x. x.0) words)) s in
+    let known = and_parts (is_known (number_of k) (place, word)) (list_all (is_known (number_of k)) words) h in
+    λ i. known_shaped k named place word shown.0 known.0 i && all_shaped k named words shown.1 known.1 i
+
+-- a place that isn't a new name
+abbrev is_old : Slot → Bool
+is_old NewName = false
+is_old other = true
+
+old_new : (taken : List ℕ → Bool) (place : Slot) (word : List ℕ) → is_old place ≡ true →
+    is_new taken (place, word) ≡ true
+old_new taken NewName word h = absurd (false≢true h)
+old_new taken other word h = refl
+
+all_new : (taken : List ℕ → Bool) (words : List (Slot × List ℕ)) → list_all is_old (map (λ x. x.0) words) ≡ true →
+    list_all (is_new taken) words ≡ true
+all_new taken [] h = refl
+all_new taken ((place, word) ∷ words) h =
+    let both = and_parts (is_old place) (list_all is_old (map (λ x. x.0) words)) h in
+    λ i. old_new taken place word both.0 i && all_new taken words both.1 i
+
+-- The places of words at the open places of a form pass a test that the form's places and those of pairs pass.
+pairs_pass : (test : Slot → Bool) → test TimelineName ≡ true → test Numeral ≡ true → (texts : List (List ℕ)) →
+    list_all test (map (λ x. x.0) (pair_places texts)) ≡ true
+pairs_pass test t n [] = refl
+pairs_pass test t n (name ∷ []) = refl
+pairs_pass test t n (name ∷ value ∷ texts) = λ i. t i && (n i && pairs_pass test t n texts i)
+
+found_pass : (test : Slot → Bool) (form : LineForm) (words : List (Slot × List ℕ)) → AreFound form words →
+    test TimelineName ≡ true → test Numeral ≡ true →
+    (end_with_pairs (places form) ≡ false → list_all test (open_kinds (places form)) ≡ true) →
+    list_all test (map (λ x. x.0) words) ≡ true
+found_pass test form words found t n kinds = by_pairs (end_with_pairs (places form)) refl
+  where
+    by_pairs : (b : Bool) → end_with_pairs (places form) ≡ b → list_all test (map (λ x. x.0) words) ≡ true
+    by_pairs true e =
+        ap (λ (ws : List (Slot × List ℕ)). list_all test (map (λ x. x.0) ws)) (found.pairs e)
+        ∙ pairs_pass test t n (map (λ x. x.1) words)
+    by_pairs false e = ap (list_all test) (found.each e) ∙ kinds e
+
+form_shows : (form : LineForm) → may_be_misshapen form ≡ false → end_with_pairs (places form) ≡ false →
+    list_all shows_shape (open_kinds (places form)) ≡ true
+form_shows BufferLine h e = absurd (false≢true (sym h))
+form_shows TimelineLine h e = absurd (false≢true (sym h))
+form_shows BinaryLine h e = absurd (false≢true (sym h))
+form_shows FenceLine h e = absurd (false≢true (sym h))
+form_shows (QueueLine mode) h e = absurd (false≢true (sym h))
+form_shows TurnLine h e = absurd (false≢true (sym h))
+form_shows TurnsLine h e = absurd (false≢true (sym h))
+form_shows HostWaitAllLine h e = absurd (false≢true (sym e))
+form_shows HostWaitAnyLine h e = absurd (false≢true (sym e))
+form_shows HostPollAllLine h e = absurd (false≢true (sym e))
+form_shows HostPollAnyLine h e = absurd (false≢true (sym e))
+form_shows other h e = refl
+
+form_old : (form : LineForm) → is_declaration form ≡ false → end_with_pairs (places form) ≡ false →
+    list_all is_old (open_kinds (places form)) ≡ true
+form_old BufferLine h e = absurd (false≢true (sym h))
+form_old TimelineLine h e = absurd (false≢true (sym h))
+form_old BinaryLine h e = absurd (false≢true (sym h))
+form_old FenceLine h e = absurd (false≢true (sym h))
+form_old (QueueLine mode) h e = absurd (false≢true (sym h))
+form_old HostWaitAllLine h e = absurd (false≢true (sym e))
+form_old HostWaitAnyLine h e = absurd (false≢true (sym e))
+form_old HostPollAllLine h e = absurd (false≢true (sym e))
+form_old HostPollAnyLine h e = absurd (false≢true (sym e))
+form_old other h e = refl
+
+-- words that are read are shaped, but for new names and actors
+pub read_shaped : (k : Kept) (form : LineForm) (words : List (Slot × List ℕ)) → AreNamed k → AreFound form words →
+    is_some (named_in k form (map (λ x. x.1) words)) ≡ true → may_be_misshapen form ≡ false →
+    list_all is_shaped words ≡ true
+read_shaped k form words named found read m =
+    all_shaped k named words (found_pass shows_shape form words found refl refl (form_shows form m))
+    (and_parts (list_all is_numeric words) (list_all (is_known (number_of k)) words)
+    (all_read k form words found ∙ read)).1
+
+-- a line that declares nothing has no new names
+pub none_new : (k : Kept) (form : LineForm) (words : List (Slot × List ℕ)) → AreFound form words →
+    is_declaration form ≡ false → list_all (is_new (is_taken k.buffers k.semaphores k.queues)) words ≡ true
+none_new k form words found h =
+    all_new (is_taken k.buffers k.semaphores k.queues) words
+    (found_pass is_old form words found refl refl (form_old form h))
