@@ -1,5 +1,5 @@
-//! The forms of a script's lines: which form the words of a line have, the words at its open places, and
-//! whether each has the shape of its place.
+//! The forms of a script's lines: which form the words of a line have, and whether each word has the shape of its
+//! place.
 #![tactic(auto)]
 
 mod matching;
@@ -8,6 +8,5 @@ mod shapes;
 mod table;
 
 pub use matching::{form_of, is_version};
-pub use open_words::{OpenWord, find_open};
 pub use shapes::{are_numeric, are_shaped};
 pub use table::{Token, is_declaration, part_of_form};

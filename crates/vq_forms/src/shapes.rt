@@ -6,9 +6,10 @@ ghost use Rattle.vq_model.specs.LineFaults.{is_shaped, is_numeric};
 ghost use Rattle.vq_forms.specs.Table.{place_of};
 ghost use Rattle.vq_forms.specs.OpenWords.{opens};
 
-use crate::open_words::OpenWord;
-use crate::table::Token;
+use crate::open_words::{PlacedWords, next_placed};
+use crate::table::{Token, places};
 use vq_lexer::{is_hex, is_name, numeral, small_numeral};
+use vq_model::statement::LineForm;
 
 /// Whether a word is an actor of the schedule: `host`, or a name after `S:` or `R:`.
 fn is_actor(word: &[u8]) -> bool
@@ -37,14 +38,20 @@ fn is_shaped(place: Token, word: &[u8]) -> bool
     }
 }
 
-/// Whether each word has the shape of its place.
-pub fn are_shaped(words: &[OpenWord<'_>]) -> bool
-    ensures { result ≡ list_all is_shaped (opens words.now) }
+/// Whether each word of a line of a form has the shape of its place.
+#[tactic(auto, using(crate::proofs::Opened::passes))]
+pub fn are_shaped(form: LineForm, words: &[&[u8]]) -> bool
+    ensures { result ≡ list_all is_shaped (opens form words.now) }
 {
-    for x in words {
-        if !is_shaped(x.place, x.word) {
+    let mut left = PlacedWords {
+        places: places(form),
+        words,
+    };
+    while let Some((place, word, after)) = next_placed(left) {
+        if !is_shaped(place, word) {
             return false;
         }
+        left = after;
     }
     true
 }
@@ -61,14 +68,20 @@ fn is_numeric(place: Token, word: &[u8]) -> bool
     }
 }
 
-/// Whether each numeral's place holds a numeral.
-pub fn are_numeric(words: &[OpenWord<'_>]) -> bool
-    ensures { result ≡ list_all is_numeric (opens words.now) }
+/// Whether each numeral's place of a form holds a numeral.
+#[tactic(auto, using(crate::proofs::Opened::passes))]
+pub fn are_numeric(form: LineForm, words: &[&[u8]]) -> bool
+    ensures { result ≡ list_all is_numeric (opens form words.now) }
 {
-    for x in words {
-        if !is_numeric(x.place, x.word) {
+    let mut left = PlacedWords {
+        places: places(form),
+        words,
+    };
+    while let Some((place, word, after)) = next_placed(left) {
+        if !is_numeric(place, word) {
             return false;
         }
+        left = after;
     }
     true
 }

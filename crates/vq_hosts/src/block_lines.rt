@@ -73,7 +73,7 @@ const MOST_PAIRS: usize = 16;
 /// Begins the block of a thread of this name.
 fn begin_thread(
     alloc: Global,
-    reader: &LineReader<'_>,
+    reader: &LineReader,
     threads: &mut Threads,
     number: u32,
     name: &[u8],
@@ -105,7 +105,7 @@ fn begin_thread(
 /// Takes a signal of the last thread.
 fn take_signal(
     alloc: Global,
-    reader: &LineReader<'_>,
+    reader: &LineReader,
     threads: &mut Threads,
     number: u32,
     timeline: &[u8],
@@ -144,7 +144,7 @@ fn take_signal(
 /// Takes a wait of the last thread.
 fn take_wait(
     alloc: Global,
-    reader: &LineReader<'_>,
+    reader: &LineReader,
     threads: &mut Threads,
     number: u32,
     words: &[&[u8]],
@@ -195,7 +195,7 @@ fn end_thread(threads: &mut Threads, number: u32, plain: bool) -> Result<(), Hos
 /// Reads a line of a block, of these words, whose bytes may stand outside a comment or not.
 pub fn read_block(
     alloc: Global,
-    reader: &LineReader<'_>,
+    reader: &LineReader,
     threads: &mut Threads,
     number: u32,
     words: &[&[u8]],
@@ -232,7 +232,7 @@ fn is_wait(first: &[u8], pairs: &[u8]) -> bool
 }
 
 /// The first kind of the faults of a wait with these pairs, which are too many.
-fn pairs_fault(reader: &LineReader<'_>, pairs: &[u8], plain: bool) -> FaultKind
+fn pairs_fault(reader: &LineReader, pairs: &[u8], plain: bool) -> FaultKind
     requires { 16 < length (words_in pairs.now) / 2 }
     ensures { (told : Told) (first : List ℕ) → HasRead Plain told.rest reader.now →
         is_of_block told (first ∷ words_in pairs.now) ≡ true →
@@ -256,7 +256,7 @@ fn pairs_fault(reader: &LineReader<'_>, pairs: &[u8], plain: bool) -> FaultKind
 
 /// The first kind of the faults of a line inside a block, whose words are those of a part: more than a line without a
 /// fault has. They are found again from its bytes for each test, so that no list of them is kept.
-pub fn many_fault(reader: &LineReader<'_>, part: &[u8]) -> FaultKind
+pub fn many_fault(reader: &LineReader, part: &[u8]) -> FaultKind
     requires { 63 < length (words_in part.now) }
     ensures { (told : Told) → HasRead Plain told.rest reader.now → told.inside ≡ true →
         hosts_fault told (words_in part.now) ≡ Some result }

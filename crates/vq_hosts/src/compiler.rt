@@ -50,7 +50,7 @@ fn renumbered(alloc: Global, script: &Script) -> Result<Script, HostsFault>
 
 /// Reads a line that may be long. Of its words no more are kept than a line without a fault has.
 fn read_long<'a>(
-    reader: &mut HostsReader<'a>,
+    reader: &mut HostsReader,
     number: u32,
     line: &'a [u8],
     words: &mut Vec<&'a [u8]>,
@@ -68,7 +68,7 @@ fn read_long<'a>(
 
 /// Reads a line. Its words take the place of those of the line before.
 fn read_line<'a>(
-    reader: &mut HostsReader<'a>,
+    reader: &mut HostsReader,
     number: u32,
     line: &'a [u8],
     words: &mut Vec<&'a [u8]>,

@@ -52,10 +52,10 @@ fn line_where(test: bool, line: u32, other: u32) -> u32
 
 /// A reader of a text with blocks.
 #[derive(Drop)]
-pub struct HostsReader<'a> {
+pub struct HostsReader {
     alloc: Global,
     /// The lines that belong to no block.
-    rest: LineReader<'a>,
+    rest: LineReader,
     threads: Threads,
     /// The line that names the version, 0 where none does.
     version_line: u32,
@@ -63,14 +63,14 @@ pub struct HostsReader<'a> {
     job_lines: Vec<u32>,
 }
 
-impl<'a> HostsReader<'a> {
+impl HostsReader {
     ghost use Rattle.std.specs.Prelude.{ℕ, Err};
     ghost use Rattle.vq_model.specs.Text.{words_in};
     ghost use Rattle.vq_long_lines.specs.Few.{AreCutOff};
     ghost use Rattle.vq_blocks.specs.BlockReading.{read_hosts_words};
 
     /// A reader that has read no lines.
-    pub fn new(alloc: Global) -> HostsReader<'a>
+    pub fn new(alloc: Global) -> HostsReader
         ensures { HasTold nothing_told result }
     {
         HostsReader {
@@ -103,7 +103,7 @@ impl<'a> HostsReader<'a> {
     }
 
     /// Reads a line that belongs to no block.
-    fn read_rest(&mut self, number: u32, words: &[&'a [u8]], plain: bool) -> Result<(), HostsFault>
+    fn read_rest(&mut self, number: u32, words: &[&[u8]], plain: bool) -> Result<(), HostsFault>
         requires plain { plain ≡ list_all (list_all is_plain) (texts words.now) }
         requires some { 0 < length words.now }
         ensures { (told : Told) → HasTold told self.old → is_of_block told (texts words.now) ≡ false →
@@ -142,7 +142,7 @@ impl<'a> HostsReader<'a> {
 
     /// Reads the line of this number, whose words these are, as `vq_lexer::find_words` cuts them: it also says whether
     /// all their bytes may stand outside a comment. A line without words says nothing.
-    pub fn read(&mut self, number: u32, words: &[&'a [u8]], plain: bool) -> Result<(), HostsFault>
+    pub fn read(&mut self, number: u32, words: &[&[u8]], plain: bool) -> Result<(), HostsFault>
         requires { plain ≡ list_all (list_all is_plain) (texts words.now) }
         ensures { (told : Told) → HasTold told self.old →
             HasToldNext told number (texts words.now) result self.new }
@@ -182,7 +182,7 @@ impl<'a> HostsReader<'a> {
     /// The script of what was told by the lines of the input, and the lines from which those of its canonical text come,
     /// where the text may end here. The line of this number, after the last, is Syntax where a block or a batch is open.
     pub fn finish(self, number: u32) -> Result<Joined, HostsFault>
-        ensures { (told : Told) → HasTold told self.entry → IsJoined told number result }
+        ensures { (told : Told) → HasTold told self → IsJoined told number result }
     {
         if self.threads.inside {
             return Err(HostsFault::At {

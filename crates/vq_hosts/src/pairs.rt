@@ -31,12 +31,7 @@ pub struct PairWords {
 
 impl PairWords {
     /// Adds a pair of words.
-    fn add(
-        &mut self,
-        reader: &LineReader<'_>,
-        timeline: &[u8],
-        value: &[u8],
-    ) -> Result<(), AllocError>
+    fn add(&mut self, reader: &LineReader, timeline: &[u8], value: &[u8]) -> Result<(), AllocError>
         ensures { OnOk result ((lines : List Line) → HasRead Plain lines reader.now →
             AddsPair (number_at lines) timeline.now value.now self.old self.new) }
     {
@@ -76,7 +71,7 @@ fn push_some(pairs: &mut Vec<Pair>, pair: Option<Pair>) -> Result<(), AllocError
 /// Reads words as pairs.
 pub fn read_pairs(
     alloc: Global,
-    reader: &LineReader<'_>,
+    reader: &LineReader,
     words: &[&[u8]],
 ) -> Result<PairWords, AllocError>
     ensures { IfOk result (λ found. (lines : List Line) → HasRead Plain lines reader.now →
@@ -97,7 +92,7 @@ pub fn read_pairs(
 }
 
 /// Whether each pair of a part of a long line has the name of a timeline.
-pub fn are_timelines(reader: &LineReader<'_>, part: &[u8]) -> bool
+pub fn are_timelines(reader: &LineReader, part: &[u8]) -> bool
     ensures { (lines : List Line) → HasRead Plain lines reader.now →
         result ≡ list_all (is_known (number_at lines)) (pair_places (words_in part.now)) }
 {

@@ -1,5 +1,7 @@
 -- The form of a line's words, by what is kept of the lines before it.
-use Rattle.std.proofs.Common.{◌≡◌, ℕ, Bool, true, false, not, cond, List, [], ◌∷◌, ◌++◌, map, Option, Some, None, refl, ap}
+use Rattle.std.proofs.Common.{◌≡◌, ◌≤◌, ℕ, Bool, true, false, not, cond, List, [], ◌∷◌, ◌++◌, map, Option, Some, None, length, arith, refl, ap}
+use Rattle.std.specs.Borrow.{Bor}
+use Rattle.std.proofs.lemmas.List.{length-map}
 use Rattle.std.specs.Prelude.{find, nat_lt, ◌==◌}
 use Rattle.std.specs.List.{list_all}
 use Rattle.std.proofs.lemmas.Bool.{and_parts, false≢true}
@@ -17,8 +19,9 @@ use Rattle.vq_model.specs.Meaning.{matches, form_of, are_as_many, agree, open_pl
 use Rattle.vq_model.proofs.Bools.{not_true}
 use Rattle.vq_reading_laws.proofs.Cited.{found_belongs, found_passes}
 use Rattle.vq_script.specs.Holds.{Holds, Kept, section_of, are_none}
-use Rattle.vq_script.specs.SaidLines.{AreFound, Stands, end_with_pairs, is_turn_form, is_version_form, open_kinds}
+use Rattle.vq_script.specs.SaidLines.{Fits, Stands, end_with_pairs, is_turn_form, is_version_form, open_kinds}
 use Rattle.vq_forms.specs.Table.{forms_of}
+use Rattle.vq_lexer.specs.Words.{texts}
 
 -- the form of a line outside a batch, which doesn't name the version
 form_outside_is : (form : Form) (before : List Line) (words : List (List ℕ)) →
@@ -147,12 +150,42 @@ pairs_found HostPollAnyLine (a ∷ b ∷ c ∷ words) m e = pairs_again words
 pairs_found HostPollAnyLine words m e = absurd (cc)
 pairs_found other words m e = absurd (false≢true e)
 
-pub words_found : (words : List (List ℕ)) (forms : List LineForm) (f : LineForm) →
-    find (matches words) forms ≡ Some f → AreFound f (open_places (places f) words)
-words_found words forms f e =
-    let many = (and_parts (are_as_many (places f) words) (agree (places f) words)
-    (found_passes (matches words) forms f e)).0 in
+-- words are as many as places that don't end with pairs, and more where they do
+are_each : (ps : List Slot) (words : List (List ℕ)) → are_as_many ps words ≡ true →
+    end_with_pairs ps ≡ false → length words ≡ length ps
+are_each [] [] m p = refl
+are_each [] (w ∷ words) m p = absurd (cc)
+are_each (Pairs ∷ []) words m p = absurd (cc)
+are_each (Pairs ∷ q ∷ more) [] m p = absurd (cc)
+are_each (Pairs ∷ q ∷ more) (w ∷ words) m p = let rest = are_each (q ∷ more) words m p in omega arith
+are_each (Fixed text ∷ more) [] m p = absurd (cc)
+are_each (Fixed text ∷ more) (w ∷ words) m p = let rest = are_each more words m p in omega arith
+are_each (place ∷ more) [] m p = absurd (cc)
+are_each (place ∷ more) (w ∷ words) m p = let rest = are_each more words m p in omega arith
+
+are_more : (f : LineForm) (words : List (List ℕ)) → are_as_many (places f) words ≡ true →
+    end_with_pairs (places f) ≡ true → 3 ≤ length words
+are_more HostWaitAllLine (a ∷ b ∷ c ∷ words) m e = omega arith
+are_more HostWaitAllLine words m e = absurd (cc)
+are_more HostWaitAnyLine (a ∷ b ∷ c ∷ words) m e = omega arith
+are_more HostWaitAnyLine words m e = absurd (cc)
+are_more HostPollAllLine (a ∷ b ∷ c ∷ words) m e = omega arith
+are_more HostPollAllLine words m e = absurd (cc)
+are_more HostPollAnyLine (a ∷ b ∷ c ∷ words) m e = omega arith
+are_more HostPollAnyLine words m e = absurd (cc)
+are_more other words m e = absurd (false≢true e)
+
+pub words_fit : (words : List (Bor (List ℕ))) (forms : List LineForm) (f : LineForm) →
+    find (matches (texts words)) forms ≡ Some f → Fits f words
+words_fit words forms f e =
+    let many = (and_parts (are_as_many (places f) (texts words)) (agree (places f) (texts words))
+    (found_passes (matches (texts words)) forms f e)).0 in
+    let long = length-map words (λ (w : Bor (List ℕ)). w.now) in
     record {
-      each = are_of (places f) words many;
-      pairs = pairs_found f words many;
+      each = λ p. let same = are_each (places f) (texts words) many p in omega arith;
+      pairs = λ p. let more = are_more f (texts words) many p in omega arith;
+      found = record {
+        each = are_of (places f) (texts words) many;
+        pairs = pairs_found f (texts words) many;
+      };
     }

@@ -1,5 +1,5 @@
 -- Words that are read: those that name something declared are names, and only declarations have new ones.
-use Rattle.std.proofs.Common.{◌≡◌, ℕ, Bool, true, false, ◌||◌, ◌&&◌, List, [], ◌∷◌, map, Option, Some, None, is_some, refl, sym, ap, subst, ◌∙◌}
+use Rattle.std.proofs.Common.{◌≡◌, ℕ, Bool, true, false, ◌||◌, ◌&&◌, List, [], ◌∷◌, map, is_some, length, get_or, not, refl, sym, ap, subst, arith, ◌∙◌}
 use Rattle.std.specs.List.{All, list_all, list_any}
 use Rattle.std.specs.Str.{bytes_eq}
 use Rattle.std.proofs.lemmas.Bool.{and_parts, false≢true}
@@ -15,9 +15,11 @@ use Rattle.vq_model.specs.Forms.{Slot, NewName, Actor, Numeral, BufferName, Time
 use Rattle.vq_model.specs.LineFaults.{is_declaration, is_known, is_new, is_numeric, is_shaped}
 use Rattle.vq_model.specs.Meaning.{pair_places}
 use Rattle.vq_model.specs.Text.{is_name}
+use Rattle.std.specs.Borrow.{Bor}
+use Rattle.vq_forms.specs.OpenWords.{opens}
 use Rattle.vq_script.specs.Holds.{Kept}
 use Rattle.vq_script.specs.LineTests.{number_of}
-use Rattle.vq_script.specs.SaidLines.{AreFound, end_with_pairs, may_be_misshapen, named_in, open_kinds}
+use Rattle.vq_script.specs.SaidLines.{AreFound, Fits, end_with_pairs, may_be_misshapen, named_in, open_kinds}
 use Rattle.vq_script.proofs.LineTold.{all_read}
 use Rattle.vq_script.proofs.NamesFound.{any_found}
 
@@ -174,3 +176,31 @@ pub none_new : (k : Kept) (form : LineForm) (words : List (Slot × List ℕ)) �
 none_new k form words found h =
     all_new (is_taken k.buffers k.semaphores k.queues) words
     (found_pass is_old form words found refl refl (form_old form h))
+
+alone : (t : Bool) → t ≡ (t && true)
+alone true = refl
+alone false = refl
+
+-- a declaration's second word alone is a new name
+counted_new : (taken : List ℕ → Bool) (form : LineForm) (words : List (Bor (List ℕ))) (d : Bor (List ℕ)) →
+    is_declaration form ≡ true → length words ≡ length (places form) →
+    not (taken (get_or words 1 d).now) ≡ list_all (is_new taken) (opens form words)
+counted_new taken BufferLine (a ∷ name ∷ size ∷ []) d h e = alone (not (taken name.now))
+counted_new taken TimelineLine (a ∷ name ∷ value ∷ []) d h e = alone (not (taken name.now))
+counted_new taken BinaryLine (a ∷ name ∷ []) d h e = alone (not (taken name.now))
+counted_new taken FenceLine (a ∷ name ∷ []) d h e = alone (not (taken name.now))
+counted_new taken (QueueLine mode) (a ∷ name ∷ b ∷ []) d h e = alone (not (taken name.now))
+counted_new taken form words d h e = absurd (grind arith)
+
+declared_single : (form : LineForm) → is_declaration form ≡ true → end_with_pairs (places form) ≡ false
+declared_single BufferLine h = refl
+declared_single TimelineLine h = refl
+declared_single BinaryLine h = refl
+declared_single FenceLine h = refl
+declared_single (QueueLine mode) h = refl
+declared_single other h = absurd (false≢true h)
+
+pub one_new : (taken : List ℕ → Bool) (form : LineForm) (words : List (Bor (List ℕ))) (d : Bor (List ℕ)) →
+    is_declaration form ≡ true → Fits form words →
+    not (taken (get_or words 1 d).now) ≡ list_all (is_new taken) (opens form words)
+one_new taken form words d h fits = counted_new taken form words d h (fits.each (declared_single form h))

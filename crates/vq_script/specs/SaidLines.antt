@@ -2,6 +2,7 @@
 use Rattle.std.specs.Prelude.{ℕ, cond, ◌≡◌, ◌||◌, ◌+◌, ◌<◌, ◌≤◌, ◌^◌, Bool, true, false}
 use Rattle.std.specs.Prelude.{nat_lt, List, [], ◌∷◌, ◌++◌}
 use Rattle.std.specs.Prelude.{Option, Some, None, is_some, map, length, ⊤}
+use Rattle.std.specs.Borrow.{Bor}
 use Rattle.std.specs.Option.{option_map}
 use Rattle.vq_model.specs.declared.script.Batch.{Batch}
 use Rattle.vq_model.specs.declared.script.Command.{Command}
@@ -30,6 +31,7 @@ use Rattle.vq_model.specs.Meaning.{is_hex, hex_bytes}
 use Rattle.vq_model.specs.Meaning.{statement_of, pair_places}
 use Rattle.vq_model.specs.ScriptOfLines.{mark}
 use Rattle.vq_model.specs.Text.{is_name}
+use Rattle.vq_forms.specs.OpenWords.{opens}
 use Rattle.vq_script.specs.declared.said.Said.{Said}
 use Rattle.vq_script.specs.declared.said.Said.TheVariants.{Buffer, Semaphore, Queue, Submit, Wait, FillWhole}
 use Rattle.vq_script.specs.declared.said.Said.TheVariants.{Fill as SaidFill, Update as SaidUpdate, Copy as SaidCopy}
@@ -91,6 +93,16 @@ end_with_pairs (place ∷ more) = end_with_pairs more
 pub record AreFound (form : LineForm) (words : List (Slot × List ℕ)) : Type 0 where
   pub each : end_with_pairs (places form) ≡ false → AreOf form words
   pub pairs : end_with_pairs (places form) ≡ true → words ≡ pair_places (map (λ x. x.1) words)
+
+-- One word stands at each place of a form.
+abbrev pub AreEach : LineForm → List (Bor (List ℕ)) → Type 0
+AreEach form words = length words ≡ length (places form)
+
+-- Words stand at the places of a form: one at each, or pairs behind the first three where it ends with them.
+pub record Fits (form : LineForm) (words : List (Bor (List ℕ))) : Type 0 where
+  pub each : end_with_pairs (places form) ≡ false → AreEach form words
+  pub pairs : end_with_pairs (places form) ≡ true → 3 ≤ length words
+  pub found : AreFound form (opens form words)
 
 -- whether a form is one of the schedule's turns
 abbrev pub is_turn_form : LineForm → Bool

@@ -1,12 +1,13 @@
 -- What a line says of a step of the host, and the step.
-use Rattle.std.specs.Prelude.{◌≡◌, true, is_some, List, [], ⊤}
+use Rattle.std.specs.Prelude.{ℕ, ◌≡◌, true, is_some, List, [], ⊤}
+use Rattle.std.specs.Borrow.{Bor}
 use Rattle.std.specs.Option.{unwrap_or}
 use Rattle.vq_model.specs.declared.script.Pair.{Pair}
 use Rattle.vq_model.specs.declared.script.HostStep.{HostStep}
 use Rattle.vq_model.specs.declared.script.HostStep.TheVariants.{Signal, WaitAll, WaitAny, PollAll, PollAny, Read}
 use Rattle.vq_model.specs.declared.script.HostStep.TheVariants.{FenceWait, FencePoll, FenceReset, Idle}
 use Rattle.vq_model.specs.Meaning.{pairs_at}
-use Rattle.vq_forms.specs.declared.open_words.OpenWord.{OpenWord}
+use Rattle.vq_lexer.specs.Words.{texts}
 use Rattle.vq_script.specs.declared.host_steps.SaidStep.{SaidStep}
 use Rattle.vq_script.specs.declared.host_steps.SaidStep.TheVariants.{Signal as SaysSignal, WaitAll as SaysWaitAll}
 use Rattle.vq_script.specs.declared.host_steps.SaidStep.TheVariants.{WaitAny as SaysWaitAny, PollAll as SaysPollAll}
@@ -16,11 +17,10 @@ use Rattle.vq_script.specs.declared.host_steps.SaidStep.TheVariants.{FencePoll a
 use Rattle.vq_script.specs.declared.host_steps.SaidStep.TheVariants.{FenceReset as SaysFenceReset, Idle as SaysIdle}
 use Rattle.vq_script.specs.Holds.{Kept}
 use Rattle.vq_script.specs.LineTests.{number_of}
-use Rattle.vq_forms.specs.OpenWords.{texts_of}
 
 -- the pairs of words that are read
-abbrev pub read_pairs : Kept → List OpenWord → List Pair
-read_pairs k words = unwrap_or (pairs_at (number_of k) (texts_of words)) []
+abbrev pub read_pairs : Kept → List (Bor (List ℕ)) → List Pair
+read_pairs k words = unwrap_or (pairs_at (number_of k) (texts words)) []
 
 -- the step that a line says
 abbrev pub step_in : Kept → SaidStep → HostStep
@@ -36,8 +36,8 @@ step_in k (SaysFenceReset f) = FenceReset f
 step_in k SaysIdle = Idle
 
 -- the pairs of words are read
-abbrev pub AreRead : Kept → List OpenWord → Type 0
-AreRead k words = is_some (pairs_at (number_of k) (texts_of words)) ≡ true
+abbrev pub AreRead : Kept → List (Bor (List ℕ)) → Type 0
+AreRead k words = is_some (pairs_at (number_of k) (texts words)) ≡ true
 
 -- .. of a step
 abbrev pub IsReadStep : Kept → SaidStep → Type 0

@@ -4,13 +4,14 @@ ghost use Rattle.vq_model.specs.LineFaults.{pairs_of};
 ghost use Rattle.vq_model.specs.Meaning.{pair_at, pairs_at};
 ghost use Rattle.vq_script.specs.LineTests.{number_of};
 ghost use Rattle.vq_script.specs.Holds.{Kept, kept};
-ghost use Rattle.vq_forms.specs.OpenWords.{opens, texts_of};
-ghost use Rattle.vq_script.specs.SaidLines.{AreOf, is_step_line, is_pairs_line, SaysStep};
+ghost use Rattle.vq_forms.specs.OpenWords.{opens};
+ghost use Rattle.vq_lexer.specs.Words.{texts};
+ghost use Rattle.vq_script.specs.SaidLines.{AreEach, Fits, is_step_line, is_pairs_line, SaysStep};
 ghost use Rattle.vq_script.specs.SaidSteps.{step_in, IsReadStep};
 
 use crate::known::Known;
 use std::alloc::{AllocError, Global};
-use vq_forms::{OpenWord, Token};
+use vq_forms::Token;
 use vq_lexer::numeral;
 use vq_model::list::List;
 use vq_model::script::{HostStep, Pair};
@@ -21,10 +22,10 @@ use vq_model::statement::LineForm;
 #[derive(Clone, Copy)]
 pub enum SaidStep<'a> {
     Signal(Pair),
-    WaitAll(&'a [OpenWord<'a>]),
-    WaitAny(&'a [OpenWord<'a>]),
-    PollAll(&'a [OpenWord<'a>]),
-    PollAny(&'a [OpenWord<'a>]),
+    WaitAll(&'a [&'a [u8]]),
+    WaitAny(&'a [&'a [u8]]),
+    PollAll(&'a [&'a [u8]]),
+    PollAny(&'a [&'a [u8]]),
     Read(u32),
     FenceWait(u32),
     FencePoll(u32),
@@ -60,12 +61,12 @@ pub fn pair(known: &Known, timeline: &[u8], value: &[u8]) -> Option<Pair>
 
 /// Whether the pairs of these words are read.
 #[tactic(auto, using(crate::proofs::PairsRead::few_words))]
-fn are_read(known: &Known, words: &[OpenWord<'_>]) -> bool
-    ensures { result ≡ is_some (pairs_at (number_of (kept known.now)) (texts_of words.now)) }
+fn are_read(known: &Known, words: &[&[u8]]) -> bool
+    ensures { result ≡ is_some (pairs_at (number_of (kept known.now)) (texts words.now)) }
 {
     let mut rest = words;
     while let [timeline, value, after @ ..] = rest {
-        if pair(known, timeline.word, value.word).is_none() {
+        if pair(known, timeline, value).is_none() {
             return false;
         }
         rest = after;
@@ -74,18 +75,14 @@ fn are_read(known: &Known, words: &[OpenWord<'_>]) -> bool
 }
 
 /// The pairs of words that are read.
-fn owned_pairs(
-    alloc: Global,
-    known: &Known,
-    words: &[OpenWord<'_>],
-) -> Result<List<Pair>, AllocError>
-    requires { is_some (pairs_at (number_of (kept known.now)) (texts_of words.now)) ≡ true }
-    ensures { IfOk result (λ pairs. pairs_at (number_of (kept known.now)) (texts_of words.now) ≡ Some pairs) }
+fn owned_pairs(alloc: Global, known: &Known, words: &[&[u8]]) -> Result<List<Pair>, AllocError>
+    requires { is_some (pairs_at (number_of (kept known.now)) (texts words.now)) ≡ true }
+    ensures { IfOk result (λ pairs. pairs_at (number_of (kept known.now)) (texts words.now) ≡ Some pairs) }
 {
     let mut pairs = Vec::new(alloc);
     let mut rest = words;
     while let [timeline, value, after @ ..] = rest {
-        let Some(pair) = pair(known, timeline.word, value.word) else {
+        let Some(pair) = pair(known, timeline, value) else {
             unreachable!()
         };
         pairs.push(pair)?;
@@ -127,23 +124,23 @@ pub fn is_pairs_line(form: LineForm) -> bool
 }
 
 /// What a line with pairs says, where its numbers and names are read.
-pub fn pairs_line<'a>(
-    known: &Known,
-    form: LineForm,
-    words: &'a [OpenWord<'a>],
-) -> Option<SaidStep<'a>>
-    requires { is_pairs_line form ≡ true }
-    ensures says { SaysStep (kept known.now) form (opens words.now) result }
+pub fn pairs_line<'a>(known: &Known, form: LineForm, words: &'a [&'a [u8]]) -> Option<SaidStep<'a>>
+    requires fits { Fits form words.now }
+    requires pairs { is_pairs_line form ≡ true }
+    ensures says { SaysStep (kept known.now) form (opens form words.now) result }
     ensures read { IfSome result (IsReadStep (kept known.now)) }
 {
-    if !are_read(known, words) {
+    let [_, _, _, pairs @ ..] = words else {
+        unreachable!();
+    };
+    if !are_read(known, pairs) {
         return None;
     }
     match form {
-        LineForm::HostWaitAllLine => Some(SaidStep::WaitAll(words)),
-        LineForm::HostWaitAnyLine => Some(SaidStep::WaitAny(words)),
-        LineForm::HostPollAllLine => Some(SaidStep::PollAll(words)),
-        LineForm::HostPollAnyLine => Some(SaidStep::PollAny(words)),
+        LineForm::HostWaitAllLine => Some(SaidStep::WaitAll(pairs)),
+        LineForm::HostWaitAnyLine => Some(SaidStep::WaitAny(pairs)),
+        LineForm::HostPollAllLine => Some(SaidStep::PollAll(pairs)),
+        LineForm::HostPollAnyLine => Some(SaidStep::PollAny(pairs)),
         _ => unreachable!(),
     }
 }
@@ -164,33 +161,32 @@ pub fn is_step_line(form: LineForm) -> bool
 }
 
 /// What another line of the host says, where its numbers and names are read.
-pub fn step_line<'a>(known: &Known, form: LineForm, words: &[OpenWord<'a>]) -> Option<SaidStep<'a>>
-    requires of { AreOf form (opens words.now) }
+pub fn step_line<'a>(known: &Known, form: LineForm, words: &[&'a [u8]]) -> Option<SaidStep<'a>>
+    requires each { AreEach form words.now }
     requires step { is_step_line form ≡ true }
-    ensures says { SaysStep (kept known.now) form (opens words.now) result }
+    ensures says { SaysStep (kept known.now) form (opens form words.now) result }
     ensures read { IfSome result (IsReadStep (kept known.now)) }
 {
     match (form, words) {
-        (LineForm::HostSignalLine, [timeline, value]) => {
-            Some(SaidStep::Signal(pair(known, timeline.word, value.word)?))
+        (LineForm::HostSignalLine, [_, _, timeline, value]) => {
+            Some(SaidStep::Signal(pair(known, timeline, value)?))
         }
-        (LineForm::HostReadLine, [timeline]) => Some(SaidStep::Read(known.number_of(
+        (LineForm::HostReadLine, [_, _, timeline]) => Some(SaidStep::Read(known.number_of(
             Token::TimelineToken,
-            timeline.word,
+            timeline,
         )?)),
-        (LineForm::HostFenceWaitLine, [fence]) => Some(SaidStep::FenceWait(known.number_of(
+        (LineForm::HostFenceWaitLine, [_, _, _, fence]) => Some(SaidStep::FenceWait(known.number_of(
             Token::FenceToken,
-            fence.word,
+            fence,
         )?)),
-        (LineForm::HostFencePollLine, [fence]) => Some(SaidStep::FencePoll(known.number_of(
+        (LineForm::HostFencePollLine, [_, _, _, fence]) => Some(SaidStep::FencePoll(known.number_of(
             Token::FenceToken,
-            fence.word,
+            fence,
         )?)),
-        (LineForm::HostFenceResetLine, [fence]) => Some(SaidStep::FenceReset(known.number_of(
-            Token::FenceToken,
-            fence.word,
-        )?)),
-        (LineForm::HostIdleLine, []) => Some(SaidStep::Idle),
+        (LineForm::HostFenceResetLine, [_, _, _, fence]) => Some(SaidStep::FenceReset(
+            known.number_of(Token::FenceToken, fence)?,
+        )),
+        (LineForm::HostIdleLine, [_, _]) => Some(SaidStep::Idle),
         _ => unreachable!(),
     }
 }

@@ -2,8 +2,7 @@
 ghost use Rattle.std.specs.Prelude.{◌≡◌, ◌<◌, ◌^◌, List, None, Some, IsTrue, IfOk, cond, is_some, map, not, true};
 ghost use Rattle.std.specs.List.{list_all};
 ghost use Rattle.std.specs.Option.{option_or};
-ghost use Rattle.vq_model.specs.Context.{is_taken};
-ghost use Rattle.vq_model.specs.LineFaults.{is_new, is_numeric, is_shaped, is_out_of_order, is_within, is_in_range};
+ghost use Rattle.vq_model.specs.LineFaults.{is_numeric, is_shaped, is_out_of_order, is_within, is_in_range};
 ghost use Rattle.vq_model.specs.LineFaults.{overlaps, passes_limit};
 ghost use Rattle.vq_model.specs.declared.statement.FaultKind.TheVariants.{Name, Number, Syntax, Order};
 ghost use Rattle.vq_model.specs.declared.statement.Line.{Line};
@@ -11,13 +10,13 @@ ghost use Rattle.vq_script.specs.Faults.{Tells};
 ghost use Rattle.vq_script.specs.Holds.{Keeps, Kept, kept, open_so_far};
 ghost use Rattle.vq_script.specs.LineTests.{earlier_in, word_fault, said_fault};
 ghost use Rattle.vq_forms.specs.OpenWords.{opens};
-ghost use Rattle.vq_script.specs.SaidLines.{AreFound, IsWhollyRead, IsSmall, May, Stands, statement_in};
+ghost use Rattle.vq_script.specs.SaidLines.{Fits, IsWhollyRead, IsSmall, May, Stands, statement_in};
 ghost use Rattle.vq_script.specs.SaidLines.{may_be_misshapen, named_in};
 
 use crate::known::Known;
-use crate::place_faults::are_new;
+use crate::place_faults::has_new_names;
 use crate::said::{Said, statement_of};
-use vq_forms::{OpenWord, are_numeric, are_shaped, is_declaration, part_of_form};
+use vq_forms::{are_numeric, are_shaped, is_declaration, part_of_form};
 use vq_model::limits::UPDATE_BYTES;
 use vq_model::ranges::is_aligned;
 use vq_model::statement::{FaultKind, LineForm};
@@ -55,22 +54,12 @@ fn may_be_misshapen(form: LineForm) -> bool
 }
 
 /// Whether each word of a line has its shape, where all are read.
-fn are_read_shaped(known: &Known, form: LineForm, words: &[OpenWord<'_>]) -> bool
-    requires found { AreFound form (opens words.now) }
-    requires read { is_some (named_in (kept known.now) form (map (λ x. x.1) (opens words.now))) ≡ true }
-    ensures { result ≡ list_all is_shaped (opens words.now) }
+fn are_read_shaped(known: &Known, form: LineForm, words: &[&[u8]]) -> bool
+    requires fits { Fits form words.now }
+    requires read { is_some (named_in (kept known.now) form (map (λ x. x.1) (opens form words.now))) ≡ true }
+    ensures { result ≡ list_all is_shaped (opens form words.now) }
 {
-    !may_be_misshapen(form) || are_shaped(words)
-}
-
-/// Whether each name that a line declares is new.
-fn has_new_names(known: &Known, form: LineForm, words: &[OpenWord<'_>]) -> bool
-    requires { AreFound form (opens words.now) }
-    ensures { result ≡ list_all
-        (is_new (is_taken known.now.buffers.items known.now.semaphores.items known.now.queues.items))
-        (opens words.now) }
-{
-    !is_declaration(form) || are_new(known, words)
+    !may_be_misshapen(form) || are_shaped(form, words)
 }
 
 /// Whether bytes begin in a buffer, are one at least, and end in it.
@@ -177,15 +166,10 @@ fn passes_limit(known: &Known, said: &Said<'_>) -> bool
 }
 
 /// The first kind of the faults that a line has whose words are read.
-fn said_fault(
-    known: &Known,
-    form: LineForm,
-    words: &[OpenWord<'_>],
-    said: &Said<'_>,
-) -> Option<FaultKind>
-    requires found { AreFound form (opens words.now) }
+fn said_fault(known: &Known, form: LineForm, words: &[&[u8]], said: &Said<'_>) -> Option<FaultKind>
+    requires fits { Fits form words.now }
     requires read { IsWhollyRead (kept known.now) said.now }
-    ensures exact { result ≡ said_fault (earlier_in (kept known.now) (open_so_far known.now.batch)) (opens words.now)
+    ensures exact { result ≡ said_fault (earlier_in (kept known.now) (open_so_far known.now.batch)) (opens form words.now)
         (statement_in (kept known.now) said.now) }
     ensures small { result ≡ None → IsSmall said.now }
 {
@@ -205,15 +189,15 @@ fn said_fault(
 }
 
 /// The first kind of the faults that a line has whose words aren't all read.
-fn unread_fault(known: &Known, form: LineForm, words: &[OpenWord<'_>]) -> FaultKind
+fn unread_fault(known: &Known, form: LineForm, words: &[&[u8]]) -> FaultKind
     ensures { Some result ≡ option_or
-        (word_fault (earlier_in (kept known.now) (open_so_far known.now.batch)) form (opens words.now))
-        (Some (cond (list_all is_numeric (opens words.now)) Name Number)) }
+        (word_fault (earlier_in (kept known.now) (open_so_far known.now.batch)) form (opens form words.now))
+        (Some (cond (list_all is_numeric (opens form words.now)) Name Number)) }
 {
-    if let Some(kind) = word_fault(known, form, are_shaped(words)) {
+    if let Some(kind) = word_fault(known, form, are_shaped(form, words)) {
         return kind;
     }
-    if are_numeric(words) {
+    if are_numeric(form, words) {
         FaultKind::Name
     } else {
         FaultKind::Number
@@ -224,12 +208,12 @@ fn unread_fault(known: &Known, form: LineForm, words: &[OpenWord<'_>]) -> FaultK
 pub fn said_by<'a>(
     known: &Known,
     form: LineForm,
-    words: &'a [OpenWord<'a>],
+    words: &'a [&'a [u8]],
 ) -> Result<Said<'a>, FaultKind>
-    requires found { AreFound form (opens words.now) }
+    requires fits { Fits form words.now }
     requires stands { Stands form known.now.scheduled (open_so_far known.now.batch) }
     ensures told { (lines : List Line) → Keeps lines known.now →
-        Tells lines (form, opens words.now) (statement_in (kept known.now)) result }
+        Tells lines (form, opens form words.now) (statement_in (kept known.now)) result }
     ensures may { IfOk result (May (kept known.now) (open_so_far known.now.batch)) }
 {
     let Some(said) = statement_of(known, form, words) else {

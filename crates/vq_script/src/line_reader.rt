@@ -11,7 +11,7 @@ ghost use Rattle.vq_forms.specs.OpenWords.{opens};
 ghost use Rattle.vq_script.specs.Outcomes.{Gives};
 ghost use Rattle.vq_script.specs.Parts.{GivesParts};
 ghost use Rattle.vq_script.specs.Reads.{Takes, Reads, script_from, HasRead, HasReadNext};
-ghost use Rattle.vq_script.specs.SaidLines.{AreFound, Stands};
+ghost use Rattle.vq_script.specs.SaidLines.{Fits, Stands};
 ghost use Rattle.vq_lexer.specs.Words.{texts};
 
 use crate::fault::ScriptFault;
@@ -20,7 +20,7 @@ use crate::line_faults::said_by;
 use crate::long_line::many_fault;
 use crate::parts::ScriptParts;
 use std::alloc::Global;
-use vq_forms::{OpenWord, Token, find_open, form_of, is_version};
+use vq_forms::{Token, form_of, is_version};
 use vq_model::script::Script;
 use vq_model::statement::{FaultKind, Form, LineForm, Section};
 
@@ -30,12 +30,12 @@ fn read_open(
     known: &mut Known,
     number: u32,
     form: LineForm,
-    words: &[OpenWord<'_>],
+    words: &[&[u8]],
 ) -> Result<(), ScriptFault>
-    requires found { AreFound form (opens words.now) }
+    requires fits { Fits form words.now }
     requires stands { Stands form known.old.scheduled (open_so_far known.old.batch) }
     ensures { (lines : List Line) → Keeps lines known.old →
-        Takes lines number (form, opens words.now) result known.new }
+        Takes lines number (form, opens form words.now) result known.new }
 {
     match said_by(known, form, words) {
         Ok(said) => {
@@ -55,14 +55,13 @@ fn names_version(known: &Known, words: &[&[u8]]) -> bool
 }
 
 /// Reads the words of a line, whose bytes may stand outside a comment or not. A line without words says nothing.
-fn read_words<'a>(
+fn read_words(
     alloc: Global,
     form: Form,
     known: &mut Known,
     number: u32,
-    words: &[&'a [u8]],
+    words: &[&[u8]],
     plain: bool,
-    open: &mut Vec<OpenWord<'a>>,
 ) -> Result<(), ScriptFault>
     requires { plain ≡ list_all (list_all is_plain) (texts words.now) }
     ensures { (lines : List Line) → Keeps lines known.old →
@@ -87,8 +86,7 @@ fn read_words<'a>(
             kind: FaultKind::Syntax,
         });
     };
-    find_open(found, words, open)?;
-    read_open(alloc, known, number, found, open)
+    read_open(alloc, known, number, found, words)
 }
 
 /// The parts of the script, where the text may end here. The line after the last is Syntax where a batch is
@@ -113,15 +111,13 @@ fn finish(form: Form, known: Known, number: u32) -> Result<ScriptParts, ScriptFa
 /// A reader of a script in a form, which is fed line by line: so a text may have other lines between those of the
 /// script. It has read the lines that it was fed; after an `Err` nothing is said of it.
 #[derive(Drop)]
-pub struct LineReader<'a> {
+pub struct LineReader {
     alloc: Global,
     form: Form,
     known: Known,
-    /// Room for the words at the open places of a line.
-    open: Vec<OpenWord<'a>>,
 }
 
-impl<'a> LineReader<'a> {
+impl LineReader {
     ghost use Rattle.vq_model.specs.Context.{section, is_declared, number_at, has_begun, queues, count, is_job};
     ghost use Rattle.vq_model.specs.Forms.{TimelineName};
     ghost use Rattle.std.specs.Prelude.{length, ℕ, Err};
@@ -130,33 +126,24 @@ impl<'a> LineReader<'a> {
     ghost use Rattle.vq_long_lines.specs.Few.{AreCutOff};
 
     /// A reader that has read no lines.
-    pub fn new(alloc: Global, form: Form) -> LineReader<'a>
+    pub fn new(alloc: Global, form: Form) -> LineReader
         ensures { HasRead form [] result }
     {
         LineReader {
             alloc,
             form,
             known: Known::new(alloc, 1, true),
-            open: Vec::new(alloc),
         }
     }
 
     /// Reads the line of this number, whose words these are, as `vq_lexer::find_words` cuts them: it also says whether
     /// all their bytes may stand outside a comment. A line without words says nothing.
-    pub fn read(&mut self, number: u32, words: &[&'a [u8]], plain: bool) -> Result<(), ScriptFault>
+    pub fn read(&mut self, number: u32, words: &[&[u8]], plain: bool) -> Result<(), ScriptFault>
         requires { plain ≡ list_all (list_all is_plain) (texts words.now) }
         ensures { (form : Form) (lines : List Line) → HasRead form lines self.old →
             HasReadNext form lines number (texts words.now) result self.new }
     {
-        read_words(
-            self.alloc,
-            self.form,
-            &mut self.known,
-            number,
-            words,
-            plain,
-            &mut self.open,
-        )
+        read_words(self.alloc, self.form, &mut self.known, number, words, plain)
     }
 
     /// The first kind of the faults that the next line has, whose words are those of a part: many, of which these are
@@ -238,7 +225,7 @@ impl<'a> LineReader<'a> {
     /// The parts of the script of the lines that were read, where the text may end here. The line of this number, after
     /// the last, is Syntax where a batch is open, or where the form asks for a schedule and none has begun.
     pub fn finish_parts(self, number: u32) -> Result<ScriptParts, ScriptFault>
-        ensures { (form : Form) (lines : List Line) → HasRead form lines self.entry →
+        ensures { (form : Form) (lines : List Line) → HasRead form lines self →
             GivesParts result (script_from (read_lines form lines number [])) }
     {
         finish(self.form, self.known, number)
@@ -246,7 +233,7 @@ impl<'a> LineReader<'a> {
 
     /// The script of the lines that were read, where the text may end here.
     pub fn finish(self, number: u32) -> Result<Script, ScriptFault>
-        ensures { (form : Form) (lines : List Line) → HasRead form lines self.entry →
+        ensures { (form : Form) (lines : List Line) → HasRead form lines self →
             Gives result (script_from (read_lines form lines number [])) }
     {
         match finish(self.form, self.known, number) {

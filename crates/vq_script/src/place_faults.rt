@@ -3,33 +3,25 @@ ghost use Rattle.std.specs.Prelude.{◌≡◌};
 ghost use Rattle.std.specs.List.{list_all};
 ghost use Rattle.vq_model.specs.Context.{is_taken};
 ghost use Rattle.vq_model.specs.LineFaults.{is_new};
-ghost use Rattle.vq_forms.specs.Table.{place_of};
 ghost use Rattle.vq_forms.specs.OpenWords.{opens};
+ghost use Rattle.vq_script.specs.SaidLines.{Fits};
 
 use crate::known::Known;
-use vq_forms::{OpenWord, Token};
+use vq_forms::is_declaration;
+use vq_model::statement::LineForm;
 
-/// Whether a name that a line declares is new.
-fn is_new(known: &Known, place: Token, word: &[u8]) -> bool
-    ensures { result ≡ is_new (is_taken known.now.buffers.items known.now.semaphores.items known.now.queues.items)
-        (place_of place, word.now) }
-{
-    match place {
-        Token::Name => !known.is_declared(word),
-        _ => true,
-    }
-}
-
-/// Whether each name that a line declares is new.
-pub fn are_new(known: &Known, words: &[OpenWord<'_>]) -> bool
+/// Whether each name that a line declares is new: it declares one, its second word, or none.
+pub fn has_new_names(known: &Known, form: LineForm, words: &[&[u8]]) -> bool
+    requires { Fits form words.now }
     ensures { result ≡ list_all
         (is_new (is_taken known.now.buffers.items known.now.semaphores.items known.now.queues.items))
-        (opens words.now) }
+        (opens form words.now) }
 {
-    for x in words {
-        if !is_new(known, x.place, x.word) {
-            return false;
-        }
+    if !is_declaration(form) {
+        return true;
     }
-    true
+    let [_, name, ..] = words else {
+        unreachable!();
+    };
+    !known.is_declared(name)
 }

@@ -20,7 +20,7 @@ const SHORT: usize = 4096;
 
 /// Reads a line that may be long. Of its words no more are kept than a line without a fault has.
 fn read_long<'a>(
-    reader: &mut LineReader<'a>,
+    reader: &mut LineReader,
     number: u32,
     line: &'a [u8],
     words: &mut Vec<&'a [u8]>,
@@ -38,7 +38,7 @@ fn read_long<'a>(
 
 /// Reads a line. Its words take the place of those of the line before.
 fn read_line<'a>(
-    reader: &mut LineReader<'a>,
+    reader: &mut LineReader,
     number: u32,
     line: &'a [u8],
     words: &mut Vec<&'a [u8]>,

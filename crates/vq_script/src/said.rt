@@ -7,13 +7,13 @@ ghost use Rattle.vq_model.specs.Meaning.{binary_pair};
 ghost use Rattle.vq_script.specs.LineTests.{number_of};
 ghost use Rattle.vq_script.specs.Holds.{Kept, kept};
 ghost use Rattle.vq_forms.specs.OpenWords.{opens};
-ghost use Rattle.vq_script.specs.SaidLines.{AreOf, AreFound, IsWhollyRead, Says, Suits};
+ghost use Rattle.vq_script.specs.SaidLines.{AreEach, Fits, IsWhollyRead, Says, Suits};
 ghost use Rattle.vq_script.specs.SaidLines.{is_batch_line, is_schedule_line, is_host_line, is_version_form};
 ghost use Rattle.vq_model.specs.LineFaults.{is_declaration, part_of_form};
 
 use crate::host_steps::{SaidStep, is_pairs_line, is_step_line, pair, pairs_line, step_line};
 use crate::known::Known;
-use vq_forms::{OpenWord, Token, is_declaration, part_of_form};
+use vq_forms::{Token, is_declaration, part_of_form};
 use vq_lexer::{is_hex, numeral, small_numeral};
 use vq_model::script::{ActorName, Mode, Pair, SemaphoreKind};
 use vq_model::statement::LineForm;
@@ -82,113 +82,110 @@ pub enum Said<'a> {
 }
 
 /// What a line says that declares, where its numbers are read.
-fn declaration<'a>(form: LineForm, words: &[OpenWord<'a>]) -> Option<Said<'a>>
-    requires of { AreOf form (opens words.now) }
+fn declaration<'a>(form: LineForm, words: &[&'a [u8]]) -> Option<Said<'a>>
+    requires each { AreEach form words.now }
     requires declares { is_declaration form ≡ true }
-    ensures says { (k : Kept) → Says k form (opens words.now) result }
-    ensures suits { IfSome result (Suits form (opens words.now)) }
+    ensures says { (k : Kept) → Says k form (opens form words.now) result }
+    ensures suits { IfSome result (Suits form (opens form words.now)) }
 {
     match (form, words) {
-        (LineForm::BufferLine, [name, size]) => Some(Said::Buffer {
-            name: name.word,
-            size: numeral(size.word)?,
+        (LineForm::BufferLine, [_, name, size]) => Some(Said::Buffer {
+            name: *name,
+            size: numeral(size)?,
         }),
-        (LineForm::TimelineLine, [name, value]) => Some(Said::Semaphore {
-            name: name.word,
-            kind: SemaphoreKind::Timeline(numeral(value.word)?),
+        (LineForm::TimelineLine, [_, name, value]) => Some(Said::Semaphore {
+            name: *name,
+            kind: SemaphoreKind::Timeline(numeral(value)?),
         }),
-        (LineForm::BinaryLine, [name]) => Some(Said::Semaphore {
-            name: name.word,
+        (LineForm::BinaryLine, [_, name]) => Some(Said::Semaphore {
+            name: *name,
             kind: SemaphoreKind::Binary,
         }),
-        (LineForm::FenceLine, [name]) => Some(Said::Semaphore {
-            name: name.word,
+        (LineForm::FenceLine, [_, name]) => Some(Said::Semaphore {
+            name: *name,
             kind: SemaphoreKind::Fence,
         }),
-        (LineForm::QueueLine(mode), [name]) => Some(Said::Queue {
-            name: name.word,
-            mode,
-        }),
+        (LineForm::QueueLine(mode), [_, name, _]) => Some(Said::Queue { name: *name, mode }),
         _ => unreachable!(),
     }
 }
 
 /// What a fill of a whole buffer says, where its numbers and names are read.
-fn fill_whole<'a>(known: &Known, words: &[OpenWord<'a>]) -> Option<Said<'a>>
-    requires { AreOf Form.FillWholeLine (opens words.now) }
-    ensures says { Says (kept known.now) Form.FillWholeLine (opens words.now) result }
-    ensures suits { IfSome result (Suits Form.FillWholeLine (opens words.now)) }
+fn fill_whole<'a>(known: &Known, words: &[&'a [u8]]) -> Option<Said<'a>>
+    requires { AreEach Form.FillWholeLine words.now }
+    ensures says { Says (kept known.now) Form.FillWholeLine (opens Form.FillWholeLine words.now) result }
+    ensures suits { IfSome result (Suits Form.FillWholeLine (opens Form.FillWholeLine words.now)) }
 {
-    let [buffer, offset, word] = words else {
+    let [_, buffer, offset, _, word] = words else {
         unreachable!();
     };
     Some(Said::FillWhole {
-        buffer: known.number_of(Token::BufferToken, buffer.word)?,
-        offset: numeral(offset.word)?,
-        word: small_numeral(word.word)?,
+        buffer: known.number_of(Token::BufferToken, buffer)?,
+        offset: numeral(offset)?,
+        word: small_numeral(word)?,
     })
 }
 
 /// What a fill of a part of a buffer says, where its numbers and names are read.
-fn fill<'a>(known: &Known, words: &[OpenWord<'a>]) -> Option<Said<'a>>
-    requires { AreOf Form.FillLine (opens words.now) }
-    ensures says { Says (kept known.now) Form.FillLine (opens words.now) result }
-    ensures suits { IfSome result (Suits Form.FillLine (opens words.now)) }
+fn fill<'a>(known: &Known, words: &[&'a [u8]]) -> Option<Said<'a>>
+    requires { AreEach Form.FillLine words.now }
+    ensures says { Says (kept known.now) Form.FillLine (opens Form.FillLine words.now) result }
+    ensures suits { IfSome result (Suits Form.FillLine (opens Form.FillLine words.now)) }
 {
-    let [buffer, offset, size, word] = words else {
+    let [_, buffer, offset, size, word] = words else {
         unreachable!();
     };
     Some(Said::Fill {
-        buffer: known.number_of(Token::BufferToken, buffer.word)?,
-        offset: numeral(offset.word)?,
-        size: numeral(size.word)?,
-        word: small_numeral(word.word)?,
+        buffer: known.number_of(Token::BufferToken, buffer)?,
+        offset: numeral(offset)?,
+        size: numeral(size)?,
+        word: small_numeral(word)?,
     })
 }
 
 /// What an update says, where its digits, its numbers and names are read.
-fn update<'a>(known: &Known, words: &[OpenWord<'a>]) -> Option<Said<'a>>
-    requires { AreOf Form.UpdateLine (opens words.now) }
-    ensures says { Says (kept known.now) Form.UpdateLine (opens words.now) result }
-    ensures suits { IfSome result (Suits Form.UpdateLine (opens words.now)) }
+fn update<'a>(known: &Known, words: &[&'a [u8]]) -> Option<Said<'a>>
+    requires { AreEach Form.UpdateLine words.now }
+    ensures says { Says (kept known.now) Form.UpdateLine (opens Form.UpdateLine words.now) result }
+    ensures suits { IfSome result (Suits Form.UpdateLine (opens Form.UpdateLine words.now)) }
 {
-    let [buffer, offset, digits] = words else {
+    let [_, buffer, offset, digits] = words else {
         unreachable!();
     };
-    if !is_hex(digits.word) {
+    if !is_hex(digits) {
         return None;
     }
     Some(Said::Update {
-        buffer: known.number_of(Token::BufferToken, buffer.word)?,
-        offset: numeral(offset.word)?,
-        digits: digits.word,
+        buffer: known.number_of(Token::BufferToken, buffer)?,
+        offset: numeral(offset)?,
+        digits: *digits,
     })
 }
 
 /// What a copy says, where its numbers and names are read.
-fn copy<'a>(known: &Known, words: &[OpenWord<'a>]) -> Option<Said<'a>>
-    requires { AreOf Form.CopyLine (opens words.now) }
-    ensures says { Says (kept known.now) Form.CopyLine (opens words.now) result }
-    ensures suits { IfSome result (Suits Form.CopyLine (opens words.now)) }
+fn copy<'a>(known: &Known, words: &[&'a [u8]]) -> Option<Said<'a>>
+    requires { AreEach Form.CopyLine words.now }
+    ensures says { Says (kept known.now) Form.CopyLine (opens Form.CopyLine words.now) result }
+    ensures suits { IfSome result (Suits Form.CopyLine (opens Form.CopyLine words.now)) }
 {
-    let [source, from, target, to, size] = words else {
+    let [_, source, from, target, to, size] = words else {
         unreachable!();
     };
     Some(Said::Copy {
-        source: known.number_of(Token::BufferToken, source.word)?,
-        source_offset: numeral(from.word)?,
-        target: known.number_of(Token::BufferToken, target.word)?,
-        target_offset: numeral(to.word)?,
-        size: numeral(size.word)?,
+        source: known.number_of(Token::BufferToken, source)?,
+        source_offset: numeral(from)?,
+        target: known.number_of(Token::BufferToken, target)?,
+        target_offset: numeral(to)?,
+        size: numeral(size)?,
     })
 }
 
 /// What a line says that is a command, where its numbers and names are read.
-fn command<'a>(known: &Known, form: LineForm, words: &[OpenWord<'a>]) -> Option<Said<'a>>
-    requires of { AreOf form (opens words.now) }
+fn command<'a>(known: &Known, form: LineForm, words: &[&'a [u8]]) -> Option<Said<'a>>
+    requires each { AreEach form words.now }
     requires part { part_of_form form ≡ 2 }
-    ensures says { Says (kept known.now) form (opens words.now) result }
-    ensures suits { IfSome result (Suits form (opens words.now)) }
+    ensures says { Says (kept known.now) form (opens form words.now) result }
+    ensures suits { IfSome result (Suits form (opens form words.now)) }
 {
     match form {
         LineForm::FillWholeLine => fill_whole(known, words),
@@ -211,31 +208,31 @@ fn binary_pair(known: &Known, semaphore: &[u8]) -> Option<Pair>
 
 /// What a line says that is a wait, where its numbers and names are read. A wait that names no place holds
 /// back its whole batch.
-fn wait<'a>(known: &Known, form: LineForm, words: &[OpenWord<'a>]) -> Option<Said<'a>>
-    requires of { AreOf form (opens words.now) }
+fn wait<'a>(known: &Known, form: LineForm, words: &[&'a [u8]]) -> Option<Said<'a>>
+    requires each { AreEach form words.now }
     requires part { part_of_form form ≡ 1 }
-    ensures says { Says (kept known.now) form (opens words.now) result }
-    ensures suits { IfSome result (Suits form (opens words.now)) }
+    ensures says { Says (kept known.now) form (opens form words.now) result }
+    ensures suits { IfSome result (Suits form (opens form words.now)) }
 {
     match (form, words) {
-        (LineForm::WaitTimelineLine, [timeline, value]) => Some(Said::Wait {
-            pair: pair(known, timeline.word, value.word)?,
+        (LineForm::WaitTimelineLine, [_, timeline, value]) => Some(Said::Wait {
+            pair: pair(known, timeline, value)?,
             from: 1,
         }),
-        (LineForm::WaitBinaryLine, [semaphore]) => Some(Said::Wait {
-            pair: binary_pair(known, semaphore.word)?,
+        (LineForm::WaitBinaryLine, [_, semaphore]) => Some(Said::Wait {
+            pair: binary_pair(known, semaphore)?,
             from: 1,
         }),
-        (LineForm::HeldTimelineLine, [timeline, value, place]) => Some(Said::Wait {
-            pair: pair(known, timeline.word, value.word)?,
-            from: numeral(place.word)?,
+        (LineForm::HeldTimelineLine, [_, timeline, value, _, place]) => Some(Said::Wait {
+            pair: pair(known, timeline, value)?,
+            from: numeral(place)?,
         }),
-        (LineForm::HeldBinaryLine, [semaphore, place]) => Some(Said::Wait {
+        (LineForm::HeldBinaryLine, [_, semaphore, _, place]) => Some(Said::Wait {
             pair: Pair {
-                semaphore: known.number_of(Token::BinaryToken, semaphore.word)?,
+                semaphore: known.number_of(Token::BinaryToken, semaphore)?,
                 value: 0,
             },
-            from: numeral(place.word)?,
+            from: numeral(place)?,
         }),
         _ => unreachable!(),
     }
@@ -243,47 +240,47 @@ fn wait<'a>(known: &Known, form: LineForm, words: &[OpenWord<'a>]) -> Option<Sai
 
 /// What a line says that begins a batch or ends it, or names what it signals, where its numbers and names
 /// are read.
-fn batch_line<'a>(known: &Known, form: LineForm, words: &[OpenWord<'a>]) -> Option<Said<'a>>
-    requires of { AreOf form (opens words.now) }
+fn batch_line<'a>(known: &Known, form: LineForm, words: &[&'a [u8]]) -> Option<Said<'a>>
+    requires each { AreEach form words.now }
     requires part { is_batch_line form ≡ true }
-    ensures says { Says (kept known.now) form (opens words.now) result }
-    ensures suits { IfSome result (Suits form (opens words.now)) }
+    ensures says { Says (kept known.now) form (opens form words.now) result }
+    ensures suits { IfSome result (Suits form (opens form words.now)) }
 {
     match (form, words) {
-        (LineForm::SubmitLine, [queue]) => Some(Said::Submit {
-            queue: known.number_of(Token::QueueToken, queue.word)?,
+        (LineForm::SubmitLine, [_, queue]) => Some(Said::Submit {
+            queue: known.number_of(Token::QueueToken, queue)?,
         }),
-        (LineForm::SignalTimelineLine, [timeline, value]) => Some(Said::Signal {
-            pair: pair(known, timeline.word, value.word)?,
+        (LineForm::SignalTimelineLine, [_, timeline, value]) => Some(Said::Signal {
+            pair: pair(known, timeline, value)?,
         }),
-        (LineForm::SignalBinaryLine, [semaphore]) => Some(Said::Signal {
-            pair: binary_pair(known, semaphore.word)?,
+        (LineForm::SignalBinaryLine, [_, semaphore]) => Some(Said::Signal {
+            pair: binary_pair(known, semaphore)?,
         }),
-        (LineForm::BatchFenceLine, [fence]) => Some(Said::Fence {
-            fence: known.number_of(Token::FenceToken, fence.word)?,
+        (LineForm::BatchFenceLine, [_, fence]) => Some(Said::Fence {
+            fence: known.number_of(Token::FenceToken, fence)?,
         }),
-        (LineForm::EndLine, []) => Some(Said::End),
+        (LineForm::EndLine, [_]) => Some(Said::End),
         _ => unreachable!(),
     }
 }
 
 /// What a line of the schedule says, or the line that begins it, where its numbers and names are
 /// read. An actor alone takes one turn.
-fn schedule_line<'a>(known: &Known, form: LineForm, words: &[OpenWord<'a>]) -> Option<Said<'a>>
-    requires of { AreOf form (opens words.now) }
+fn schedule_line<'a>(known: &Known, form: LineForm, words: &[&'a [u8]]) -> Option<Said<'a>>
+    requires each { AreEach form words.now }
     requires part { is_schedule_line form ≡ true }
-    ensures says { Says (kept known.now) form (opens words.now) result }
-    ensures suits { IfSome result (Suits form (opens words.now)) }
+    ensures says { Says (kept known.now) form (opens form words.now) result }
+    ensures suits { IfSome result (Suits form (opens form words.now)) }
 {
     match (form, words) {
-        (LineForm::ScheduleLine, []) => Some(Said::Schedule),
+        (LineForm::ScheduleLine, [_]) => Some(Said::Schedule),
         (LineForm::TurnLine, [actor]) => Some(Said::Turns {
-            actor: known.actor(actor.word)?,
+            actor: known.actor(actor)?,
             count: 1,
         }),
         (LineForm::TurnsLine, [actor, count]) => Some(Said::Turns {
-            actor: known.actor(actor.word)?,
-            count: numeral(count.word)?,
+            actor: known.actor(actor)?,
+            count: numeral(count)?,
         }),
         _ => unreachable!(),
     }
@@ -300,11 +297,11 @@ fn is_schedule_line(form: LineForm) -> bool
 }
 
 /// What a line of the host says, where its numbers and names are read.
-fn host_line<'a>(known: &Known, form: LineForm, words: &'a [OpenWord<'a>]) -> Option<Said<'a>>
-    requires found { AreFound form (opens words.now) }
+fn host_line<'a>(known: &Known, form: LineForm, words: &'a [&'a [u8]]) -> Option<Said<'a>>
+    requires fits { Fits form words.now }
     requires part { is_host_line form ≡ true }
-    ensures says { Says (kept known.now) form (opens words.now) result }
-    ensures suits { IfSome result (Suits form (opens words.now)) }
+    ensures says { Says (kept known.now) form (opens form words.now) result }
+    ensures suits { IfSome result (Suits form (opens form words.now)) }
     ensures read { IfSome result (IsWhollyRead (kept known.now)) }
 {
     let step = if is_pairs_line(form) {
@@ -324,15 +321,11 @@ fn is_host_line(form: LineForm) -> bool
 
 #[tactic(auto, using(crate::proofs::LineTold::batch_line_left))]
 /// What a line of a form says, where its numbers and names are read.
-pub fn statement_of<'a>(
-    known: &Known,
-    form: LineForm,
-    words: &'a [OpenWord<'a>],
-) -> Option<Said<'a>>
-    requires found { AreFound form (opens words.now) }
+pub fn statement_of<'a>(known: &Known, form: LineForm, words: &'a [&'a [u8]]) -> Option<Said<'a>>
+    requires fits { Fits form words.now }
     requires later { is_version_form form ≡ false }
-    ensures says { Says (kept known.now) form (opens words.now) result }
-    ensures suits { IfSome result (Suits form (opens words.now)) }
+    ensures says { Says (kept known.now) form (opens form words.now) result }
+    ensures suits { IfSome result (Suits form (opens form words.now)) }
     ensures read { IfSome result (IsWhollyRead (kept known.now)) }
 {
     if is_declaration(form) {

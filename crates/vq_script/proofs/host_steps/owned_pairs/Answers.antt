@@ -2,7 +2,7 @@ use Rattle.std.proofs.Common.{List, Some, option_map, ◌++◌, ap, sym, ◌∙�
 use Rattle.std.proofs.lemmas.List.{append-nil, take_rest}
 use Rattle.vq_model.specs.Meaning.{pairs_at}
 use Rattle.vq_script.specs.LineTests.{number_of}
-use Rattle.vq_forms.specs.OpenWords.{texts_of}
+use Rattle.vq_lexer.specs.Words.{texts}
 use Rattle.vq_model.specs.declared.script.Pair.{Pair}
 use Rattle.vq_script.specs.Holds.{kept}
 use Rattle.vq_script.proofs.PairsRead.{few_words, pairs_owned}
@@ -23,7 +23,7 @@ loop-rest-preserved c =
     let items = c.loop-rest.pairs.items in
     rw (take_rest rest 2)
     (ap (λ (xs : List Pair). option_map (λ ps. xs ++ ps)
-    (pairs_at (number_of k) (texts_of (drop 2 rest)))) c.in_ok-push.ensures.items
+    (pairs_at (number_of k) (texts (drop 2 rest)))) c.in_ok-push.ensures.items
     ∙ pairs_owned k _ rest items c.in-Some.pair c.in-len2-up.len_at_least
     (sym c.pair.ensures ∙ c.in-Some.is)
     ∙ c.loop-rest.invariant)

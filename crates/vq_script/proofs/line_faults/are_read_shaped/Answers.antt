@@ -8,9 +8,9 @@ pub returns-then-not-may_be_misshapen : goal.returns-then-not-may_be_misshapen
 returns-then-not-may_be_misshapen c =
     let known = c.args.known.now in
     let no : c.may_be_misshapen.result ≡ false = cc in
-    ap not no ∙ sym (read_shaped (kept known) c.args.form (opens c.args.words.now)
+    ap not no ∙ sym (read_shaped (kept known) c.args.form (opens c.args.form c.args.words.now)
     (record {
       named_buffers = known.named_buffers;
       named_semaphores = known.named_semaphores;
       named_queues = known.named_queues;
-    }) c.requires.found c.requires.read (sym c.may_be_misshapen.ensures ∙ no))
+    }) c.requires.fits.found c.requires.read (sym c.may_be_misshapen.ensures ∙ no))

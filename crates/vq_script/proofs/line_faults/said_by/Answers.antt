@@ -1,13 +1,12 @@
-use Rattle.std.proofs.Common.{◌≡◌, Bool, List, ℕ, cond, not, true, is_some, Some, None, Option, refl, sym, ap, ◌∙◌}
+use Rattle.std.proofs.Common.{◌≡◌, Bool, List, ℕ, cond, not, is_some, Some, None, Option, refl, sym, ap, ◌∙◌}
 use Rattle.std.specs.List.{list_all}
-use Rattle.vq_model.specs.declared.script.Batch.{Batch}
 use Rattle.vq_model.specs.declared.statement.FaultKind.{FaultKind}
 use Rattle.vq_model.specs.declared.statement.FaultKind.TheVariants.{Syntax, Order}
 use Rattle.vq_model.specs.declared.statement.LineForm.{LineForm}
 use Rattle.vq_model.specs.declared.statement.Statement.{Statement}
 use Rattle.vq_model.specs.Forms.{Slot}
 use Rattle.vq_model.specs.LineFaults.{is_out_of_order, is_shaped}
-use Rattle.vq_script.specs.Holds.{Kept, kept, open_so_far}
+use Rattle.vq_script.specs.Holds.{kept, open_so_far}
 use Rattle.vq_forms.specs.OpenWords.{opens}
 use Rattle.vq_script.specs.SaidLines.{statement_in}
 use Rattle.vq_script.proofs.LineTold.{earlier_by, words_by, unread_first, read_first, read_numeric, said_read, passed, passed_later, may_keep}
@@ -26,9 +25,9 @@ word_fault_is e form words shaped o s is =
 
 pub returns-in_default-clause-told : goal.returns-in_default-clause-told
 returns-in_default-clause-told c = λ lines h.
-    ap (λ (x : Earlier). fault_by x (c.args.form, opens c.args.words.now)) (earlier_by lines _ _ h.holds)
+    ap (λ (x : Earlier). fault_by x (c.args.form, opens c.args.form c.args.words.now)) (earlier_by lines _ _ h.holds)
     ∙ unread_first (kept c.args.known.now) (open_so_far c.args.known.now.batch) c.args.form
-    (opens c.args.words.now) c.requires.found c.in_default.ensures.says
+    (opens c.args.form c.args.words.now) c.requires.fits.found c.in_default.ensures.says
     ∙ sym c.unread_fault.ensures
 
 pub are_read_shaped-shaped-requires-clause-read : goal.are_read_shaped-shaped-requires-clause-read
@@ -38,7 +37,7 @@ are_read_shaped-shaped-requires-clause-read c =
 pub returns-in-Some-word_fault-clause-told : goal.returns-in-Some-word_fault-clause-told
 returns-in-Some-word_fault-clause-told c = λ lines h.
     let e = earlier_in (kept c.args.known.now) (open_so_far c.args.known.now.batch) in
-    let words = opens c.args.words.now in
+    let words = opens c.args.form c.args.words.now in
     ap (λ (x : Earlier). fault_by x (c.args.form, words)) (earlier_by lines _ _ h.holds)
     ∙ words_by e c.args.form words (Some c.in-Some-word_fault.kind)
     (word_fault_is e c.args.form words _ _ c.are_read_shaped-shaped.ensures c.in-Some-word_fault.ensures)
@@ -47,9 +46,9 @@ pub returns-in-Some-said_fault-clause-told : goal.returns-in-Some-said_fault-cla
 returns-in-Some-said_fault-clause-told c = λ lines h.
     let k = kept c.args.known.now in
     let batch = open_so_far c.args.known.now.batch in
-    let words = opens c.args.words.now in
+    let words = opens c.args.form c.args.words.now in
     ap (λ (x : Earlier). fault_by x (c.args.form, words)) (earlier_by lines _ _ h.holds)
-    ∙ read_first k batch c.args.form words c.requires.found
+    ∙ read_first k batch c.args.form words c.requires.fits.found
     (word_fault_is (earlier_in k batch) c.args.form words _ _ c.are_read_shaped-shaped.ensures c.in_default-word_fault.ensures)
     (statement_in k c.in-Some.said) c.in-Some.ensures.says
     ∙ sym c.in-Some-said_fault.ensures.exact
@@ -58,10 +57,10 @@ pub returns-clause-told : goal.returns-clause-told
 returns-clause-told c = λ lines h.
     let k = kept c.args.known.now in
     let batch = open_so_far c.args.known.now.batch in
-    let words = opens c.args.words.now in
+    let words = opens c.args.form c.args.words.now in
     let s = statement_in k c.in-Some.said in (
       ap (λ (x : Earlier). fault_by x (c.args.form, words)) (earlier_by lines _ _ h.holds)
-          ∙ read_first k batch c.args.form words c.requires.found
+          ∙ read_first k batch c.args.form words c.requires.fits.found
           (word_fault_is (earlier_in k batch) c.args.form words _ _ c.are_read_shaped-shaped.ensures c.in_default-word_fault.ensures)
           s c.in-Some.ensures.says
           ∙ sym c.in_default-said_fault.ensures.exact,
@@ -73,11 +72,11 @@ pub returns-clause-may : goal.returns-clause-may
 returns-clause-may c =
     let k = kept c.args.known.now in
     let batch = open_so_far c.args.known.now.batch in
-    let words = opens c.args.words.now in
+    let words = opens c.args.form c.args.words.now in
     let said = c.in-Some.said in
     let p = passed k batch c.args.form words
     (word_fault_is (earlier_in k batch) c.args.form words _ _ c.are_read_shaped-shaped.ensures c.in_default-word_fault.ensures) in
-    let found = c.requires.found in
+    let found = c.requires.fits.found in
     record {
       keep = may_keep k c.args.form words found batch said c.requires.stands
           c.in-Some.ensures.suits c.in-Some.ensures.read p

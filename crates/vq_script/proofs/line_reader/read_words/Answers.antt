@@ -3,7 +3,6 @@ use Rattle.std.specs.Borrow.{Bor}
 use Rattle.std.proofs.lemmas.Bool.{and_parts}
 use Rattle.vq_model.specs.declared.statement.Line.{Line}
 use Rattle.vq_model.specs.declared.statement.LineForm.TheVariants.{VersionLine}
-use Rattle.vq_model.specs.Forms.{Slot}
 use Rattle.vq_model.specs.Meaning.{matches}
 use Rattle.vq_script.specs.declared.known.Known.{Known}
 use Rattle.vq_model.specs.declared.statement.Statement.TheVariants.{HasVersion}
@@ -11,13 +10,10 @@ use Rattle.vq_model.specs.declared.script.Batch.{Batch}
 use Rattle.vq_model.specs.Reading.{read_statement}
 use Rattle.vq_script.specs.Holds.{Holds, Keeps, Kept, are_none, open_so_far}
 use Rattle.vq_script.proofs.LineMore.{numbered}
-use Rattle.vq_forms.specs.OpenWords.{opens}
-use Rattle.vq_script.specs.Reads.{Takes}
-use Rattle.vq_script.specs.SaidLines.{AreFound}
 use Rattle.vq_forms.specs.Table.{forms_of}
 use Rattle.vq_lexer.specs.Words.{texts}
 use Rattle.vq_script.proofs.FaultsFound.{reads_none, reads_form}
-use Rattle.vq_script.proofs.FormFound.{form_is, form_stands, words_found}
+use Rattle.vq_script.proofs.FormFound.{form_is, form_stands, words_fit}
 use Rattle.vq_script.proofs.VersionNamed.{holds_version, none_before, not_version, reads_version}
 use Rattle.vq_script.proofs.line_reader.read_words.Goals as goal
 
@@ -61,13 +57,10 @@ returns-in_default c = λ lines h. (
       c.section.ensures)),
 )
 
-pub read_open-requires-clause-found : goal.read_open-requires-clause-found
-read_open-requires-clause-found c =
-    subst (λ (ws : List (Slot × List ℕ)). AreFound c.in-Some.found ws)
-    (sym (ap opens c.deref.ensures.value ∙ c.in_ok-find_open.ensures))
-    (words_found (texts c.args.words.now)
-    (forms_of c.args.form c.args.known.now.version c.section.result) c.in-Some.found
-    (sym c.in-Some.ensures))
+pub read_open-requires-clause-fits : goal.read_open-requires-clause-fits
+read_open-requires-clause-fits c =
+    words_fit c.args.words.now (forms_of c.args.form c.args.known.now.version c.section.result) c.in-Some.found
+    (sym c.in-Some.ensures)
 
 pub read_open-requires-clause-stands : goal.read_open-requires-clause-stands
 read_open-requires-clause-stands c =
@@ -87,5 +80,4 @@ returns c = λ lines h.
     (sym (c.in-Some.ensures
     ∙ ap (λ s. find (matches (texts c.args.words.now)) (forms_of c.args.form c.args.known.now.version s))
     c.section.ensures))
-    (subst (λ (ws : List (Slot × List ℕ)). Takes lines c.args.number (c.in-Some.found, ws) c.read_open.result c.read_open.new.known)
-    (ap opens c.deref.ensures.value ∙ c.in_ok-find_open.ensures) (c.read_open.ensures lines h))
+    (c.read_open.ensures lines h)
