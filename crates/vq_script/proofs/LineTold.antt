@@ -1,5 +1,5 @@
 -- What the parser keeps tells the tests of a line, and what a line without a fault says may be kept.
-use Rattle.std.proofs.Common.{◌≡◌, ℕ, ◌+◌, Bool, true, false, cond, not, ◌||◌, ◌&&◌, ◌==◌, List, [], ◌∷◌, length, map, Option, Some, None, is_some, refl, sym, ap, subst, ◌∙◌, nat_lt, arith}
+use Rattle.std.proofs.Common.{◌≡◌, ℕ, ◌+◌, Bool, true, false, cond, not, ◌||◌, ◌&&◌, List, [], ◌∷◌, length, map, Option, Some, None, is_some, refl, sym, ap, subst, ◌∙◌, nat_lt, arith}
 use Rattle.std.specs.List.{list_all, list_any, count_by}
 use Rattle.std.specs.Option.{option_map, option_map_or, option_or}
 use Rattle.std.proofs.lemmas.Bool.{and_parts, or_parts, ltb-false, false≢true}
@@ -27,7 +27,7 @@ use Rattle.vq_script.specs.declared.said.Said.TheVariants.{Buffer as SaysBuffer,
 use Rattle.vq_script.specs.Faults.{fault_by, said_at}
 use Rattle.vq_script.specs.Holds.{Holds, Declares, Kept, last_part, named_fence, waits_of, waits_past}
 use Rattle.vq_script.specs.LineTests.{number_of, word_fault, said_fault, earlier_in}
-use Rattle.vq_script.specs.SaidLines.{AreFound, Stands, Suits, MayKeep, MayCommand, IsNewName, end_with_pairs, open_kinds, statement_in, part_in, copied, new_name, is_batch_line, is_schedule_line, is_host_line, is_version_form, named_in, placed, are_one_each, IsWhollyRead, are_digits}
+use Rattle.vq_script.specs.SaidLines.{AreFound, Stands, Suits, MayKeep, MayCommand, IsNewName, end_with_pairs, open_kinds, statement_in, part_in, copied, new_name, named_in, placed, are_one_each, IsWhollyRead, are_digits}
 use Rattle.vq_model.specs.Earlier.{Earlier, earlier}
 use Rattle.vq_model.specs.Context.{number_at, number_in as number_among, is_taken}
 use Rattle.std.specs.Prelude.{sum}
@@ -299,19 +299,6 @@ module _ (k : Kept) (form : LineForm) (words : List (Slot × List ℕ)) (found :
   may_keep (Some b) End st su r p l = tt
   may_keep (Some b) other st su r p l =
       absurd (let c : nat_lt 0 (part_in other) ≡ true = ap (nat_lt 0) su.part ∙ st.inside in cc)
-
--- the forms but for the version are declarations, waits, commands, lines of the schedule, steps of the
--- host and the other lines of batches
-pub batch_line_left : (form : LineForm) →
-    is_version_form form ≡ false → is_declaration form ≡ false → (part_of_form form == 1) ≡ false →
-    (part_of_form form == 2) ≡ false → is_schedule_line form ≡ false → is_host_line form ≡ false →
-    is_batch_line form ≡ true
-batch_line_left SubmitLine b d w p c h = refl
-batch_line_left SignalTimelineLine b d w p c h = refl
-batch_line_left SignalBinaryLine b d w p c h = refl
-batch_line_left BatchFenceLine b d w p c h = refl
-batch_line_left EndLine b d w p c h = refl
-batch_line_left other b d w p c h = absurd (cc)
 
 -- Whether a line's words are read
 

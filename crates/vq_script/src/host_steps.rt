@@ -145,21 +145,6 @@ pub fn pairs_line<'a>(known: &Known, form: LineForm, words: &'a [&'a [u8]]) -> O
     }
 }
 
-/// Whether a form is a step of the host without a list of pairs.
-pub fn is_step_line(form: LineForm) -> bool
-    ensures { result ≡ is_step_line form }
-{
-    matches!(
-        form,
-        LineForm::HostSignalLine
-            | LineForm::HostReadLine
-            | LineForm::HostFenceWaitLine
-            | LineForm::HostFencePollLine
-            | LineForm::HostFenceResetLine
-            | LineForm::HostIdleLine
-    )
-}
-
 /// What another line of the host says, where its numbers and names are read.
 pub fn step_line<'a>(known: &Known, form: LineForm, words: &[&'a [u8]]) -> Option<SaidStep<'a>>
     requires each { AreEach form words.now }

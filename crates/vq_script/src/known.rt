@@ -126,6 +126,7 @@ impl Known {
     }
 
     /// The number of what has this name, if it is of the kind that a place needs.
+    #[inline(always)]
     #[tactic(auto, unfolding(crate::specs::LineTests::number_of))]
     pub fn number_of(&self, place: Token, name: &[u8]) -> Option<u32>
         ensures { result ≡ number_of (kept self.now) (place_of place) name.now }

@@ -33,6 +33,7 @@ pub fn is_late(known: &Known, form: LineForm) -> bool
 }
 
 /// The first kind of the faults that the words of a line have before they are read, by whether each has its shape.
+#[inline(always)]
 fn word_fault(known: &Known, form: LineForm, shaped: bool) -> Option<FaultKind>
     ensures { result ≡ cond (not shaped) (Some Syntax)
         (cond (is_out_of_order (earlier_in (kept known.now) (open_so_far known.now.batch)) form) (Some Order) None) }
@@ -73,6 +74,7 @@ fn is_within(known: &Known, buffer: u32, offset: u64, size: u64) -> bool
 
 /// Whether the sizes, offsets and places of what a line says are in range.
 #[tactic(auto, using(vq_lexer::proofs::Cited::hex_length, vq_lexer::proofs::Cited::hex_limit))]
+#[inline(always)]
 fn is_in_range(known: &Known, said: &Said<'_>) -> bool
     ensures exact { result ≡ is_in_range (earlier_in (kept known.now) (open_so_far known.now.batch))
         (statement_in (kept known.now) said.now) }
@@ -134,6 +136,7 @@ fn overlaps(said: &Said<'_>) -> bool
 }
 
 /// Whether what a line says takes a quantity past its limit.
+#[inline(always)]
 fn passes_limit(known: &Known, said: &Said<'_>) -> bool
     requires read { IsWhollyRead (kept known.now) said.now }
     ensures exact { result ≡ passes_limit (earlier_in (kept known.now) (open_so_far known.now.batch))
@@ -166,6 +169,7 @@ fn passes_limit(known: &Known, said: &Said<'_>) -> bool
 }
 
 /// The first kind of the faults that a line has whose words are read.
+#[inline(always)]
 fn said_fault(known: &Known, form: LineForm, words: &[&[u8]], said: &Said<'_>) -> Option<FaultKind>
     requires fits { Fits form words.now }
     requires read { IsWhollyRead (kept known.now) said.now }
@@ -205,6 +209,7 @@ fn unread_fault(known: &Known, form: LineForm, words: &[&[u8]]) -> FaultKind
 }
 
 /// What a line of a form says, or the first kind of its faults. Most words that are read have no fault of their own.
+#[inline(always)]
 pub fn said_by<'a>(
     known: &Known,
     form: LineForm,

@@ -25,6 +25,7 @@ use vq_model::script::Script;
 use vq_model::statement::{FaultKind, Form, LineForm, Section};
 
 /// Reads a line of a form, whose words these are.
+#[inline(always)]
 fn read_open(
     alloc: Global,
     known: &mut Known,

@@ -11,9 +11,9 @@ ghost use Rattle.vq_script.specs.SaidLines.{AreEach, Fits, IsWhollyRead, Says, S
 ghost use Rattle.vq_script.specs.SaidLines.{is_batch_line, is_schedule_line, is_host_line, is_version_form};
 ghost use Rattle.vq_model.specs.LineFaults.{is_declaration, part_of_form};
 
-use crate::host_steps::{SaidStep, is_pairs_line, is_step_line, pair, pairs_line, step_line};
+use crate::host_steps::{SaidStep, is_pairs_line, pair, pairs_line, step_line};
 use crate::known::Known;
-use vq_forms::{Token, is_declaration, part_of_form};
+use vq_forms::Token;
 use vq_lexer::{is_hex, numeral, small_numeral};
 use vq_model::script::{ActorName, Mode, Pair, SemaphoreKind};
 use vq_model::statement::LineForm;
@@ -180,22 +180,6 @@ fn copy<'a>(known: &Known, words: &[&'a [u8]]) -> Option<Said<'a>>
     })
 }
 
-/// What a line says that is a command, where its numbers and names are read.
-fn command<'a>(known: &Known, form: LineForm, words: &[&'a [u8]]) -> Option<Said<'a>>
-    requires each { AreEach form words.now }
-    requires part { part_of_form form ≡ 2 }
-    ensures says { Says (kept known.now) form (opens form words.now) result }
-    ensures suits { IfSome result (Suits form (opens form words.now)) }
-{
-    match form {
-        LineForm::FillWholeLine => fill_whole(known, words),
-        LineForm::FillLine => fill(known, words),
-        LineForm::UpdateLine => update(known, words),
-        LineForm::CopyLine => copy(known, words),
-        _ => unreachable!(),
-    }
-}
-
 /// The pair of a binary semaphore's name, where it is read.
 fn binary_pair(known: &Known, semaphore: &[u8]) -> Option<Pair>
     ensures { result ≡ option_map binary_pair (number_of (kept known.now) BinaryName semaphore.now) }
@@ -286,16 +270,6 @@ fn schedule_line<'a>(known: &Known, form: LineForm, words: &[&'a [u8]]) -> Optio
     }
 }
 
-/// Whether a form is of the schedule, or begins it.
-fn is_schedule_line(form: LineForm) -> bool
-    ensures { result ≡ is_schedule_line form }
-{
-    matches!(
-        form,
-        LineForm::ScheduleLine | LineForm::TurnLine | LineForm::TurnsLine
-    )
-}
-
 /// What a line of the host says, where its numbers and names are read.
 fn host_line<'a>(known: &Known, form: LineForm, words: &'a [&'a [u8]]) -> Option<Said<'a>>
     requires fits { Fits form words.now }
@@ -312,14 +286,6 @@ fn host_line<'a>(known: &Known, form: LineForm, words: &'a [&'a [u8]]) -> Option
     Some(Said::Host { step })
 }
 
-/// Whether a form is a step of the host.
-fn is_host_line(form: LineForm) -> bool
-    ensures { result ≡ is_host_line form }
-{
-    is_pairs_line(form) || is_step_line(form)
-}
-
-#[tactic(auto, using(crate::proofs::LineTold::batch_line_left))]
 /// What a line of a form says, where its numbers and names are read.
 pub fn statement_of<'a>(known: &Known, form: LineForm, words: &'a [&'a [u8]]) -> Option<Said<'a>>
     requires fits { Fits form words.now }
@@ -328,17 +294,38 @@ pub fn statement_of<'a>(known: &Known, form: LineForm, words: &'a [&'a [u8]]) ->
     ensures suits { IfSome result (Suits form (opens form words.now)) }
     ensures read { IfSome result (IsWhollyRead (kept known.now)) }
 {
-    if is_declaration(form) {
-        declaration(form, words)
-    } else if part_of_form(form) == 1 {
-        wait(known, form, words)
-    } else if part_of_form(form) == 2 {
-        command(known, form, words)
-    } else if is_schedule_line(form) {
-        schedule_line(known, form, words)
-    } else if is_host_line(form) {
-        host_line(known, form, words)
-    } else {
-        batch_line(known, form, words)
+    match form {
+        LineForm::VersionLine => unreachable!(),
+        LineForm::BufferLine
+        | LineForm::TimelineLine
+        | LineForm::BinaryLine
+        | LineForm::FenceLine
+        | LineForm::QueueLine(_) => declaration(form, words),
+        LineForm::WaitTimelineLine
+        | LineForm::WaitBinaryLine
+        | LineForm::HeldTimelineLine
+        | LineForm::HeldBinaryLine => wait(known, form, words),
+        LineForm::FillWholeLine => fill_whole(known, words),
+        LineForm::FillLine => fill(known, words),
+        LineForm::UpdateLine => update(known, words),
+        LineForm::CopyLine => copy(known, words),
+        LineForm::SubmitLine
+        | LineForm::SignalTimelineLine
+        | LineForm::SignalBinaryLine
+        | LineForm::BatchFenceLine
+        | LineForm::EndLine => batch_line(known, form, words),
+        LineForm::ScheduleLine | LineForm::TurnLine | LineForm::TurnsLine => {
+            schedule_line(known, form, words)
+        }
+        LineForm::HostSignalLine
+        | LineForm::HostWaitAllLine
+        | LineForm::HostWaitAnyLine
+        | LineForm::HostPollAllLine
+        | LineForm::HostPollAnyLine
+        | LineForm::HostReadLine
+        | LineForm::HostFenceWaitLine
+        | LineForm::HostFencePollLine
+        | LineForm::HostFenceResetLine
+        | LineForm::HostIdleLine => host_line(known, form, words),
     }
 }
