@@ -391,7 +391,7 @@ some_number : {B : Type 0} (f : ℕ → B) (a : Option ℕ) →
 some_number f None = refl
 some_number f (Some x) = refl
 
-some_mapped : {A B : Type 0} (f : A → B) (a : Option A) → is_some (option_map f a) ≡ is_some a
+pub some_mapped : {A B : Type 0} (f : A → B) (a : Option A) → is_some (option_map f a) ≡ is_some a
 some_mapped f None = refl
 some_mapped f (Some x) = refl
 

@@ -1,6 +1,8 @@
 -- Words that are read: those that name something declared are names, and only declarations have new ones.
-use Rattle.std.proofs.Common.{◌≡◌, ℕ, Bool, true, false, ◌||◌, ◌&&◌, List, [], ◌∷◌, map, is_some, length, get_or, not, refl, sym, ap, subst, arith, ◌∙◌}
+use Rattle.std.proofs.Common.{◌≡◌, ℕ, Option, Some, None, Bool, true, false, ◌||◌, ◌&&◌, List, [], ◌∷◌, map, is_some, length, get_or, not, refl, sym, ap, subst, arith, ◌∙◌}
 use Rattle.std.specs.List.{All, list_all, list_any}
+use Rattle.std.specs.Option.{option_map}
+use Rattle.std.specs.Prelude.{codes, drop, if◌then◌else◌}
 use Rattle.std.specs.Str.{bytes_eq}
 use Rattle.std.proofs.lemmas.Bool.{and_parts, false≢true}
 use Rattle.std.proofs.lemmas.List.Elements.{All-head, All-tail}
@@ -13,15 +15,20 @@ use Rattle.vq_model.specs.declared.statement.LineForm.TheVariants.{BufferLine, T
 use Rattle.vq_model.specs.Context.{is_timeline, is_binary, is_fence, is_threaded, is_taken}
 use Rattle.vq_model.specs.Forms.{Slot, NewName, Actor, Numeral, BufferName, TimelineName, BinaryName, FenceName, QueueName, ThreadedName, places}
 use Rattle.vq_model.specs.LineFaults.{is_declaration, is_known, is_new, is_numeric, is_shaped}
-use Rattle.vq_model.specs.Meaning.{pair_places}
-use Rattle.vq_model.specs.Text.{is_name}
+use Rattle.vq_model.specs.Meaning.{actor_at, is_actor, is_marked, of_two, pair_places}
+use Rattle.vq_model.specs.declared.script.ActorName.TheVariants.{Host as HostActor, Submit as SubmitActor, Ring as RingActor}
+use Rattle.vq_model.specs.Text.{is_name, numeral}
 use Rattle.std.specs.Borrow.{Bor}
 use Rattle.vq_forms.specs.OpenWords.{opens}
 use Rattle.vq_script.specs.Holds.{Kept}
 use Rattle.vq_script.specs.LineTests.{number_of}
-use Rattle.vq_script.specs.SaidLines.{AreFound, Fits, end_with_pairs, may_be_misshapen, named_in, open_kinds}
-use Rattle.vq_script.proofs.LineTold.{all_read}
+use Rattle.vq_script.specs.SaidLines.{AreFound, Fits, end_with_pairs, is_actor_or_marked, is_turn_form, named_in, open_kinds}
+use Rattle.vq_script.proofs.LineTold.{all_read, some_mapped}
 use Rattle.vq_script.proofs.NamesFound.{any_found}
+
+alone : (t : Bool) → t ≡ (t && true)
+alone true = refl
+alone false = refl
 
 -- The name of what is declared is a name.
 pub record AreNamed (k : Kept) : Type 0 where
@@ -133,20 +140,20 @@ found_pass test form words found t n kinds = by_pairs (end_with_pairs (places fo
         ∙ pairs_pass test t n (map (λ x. x.1) words)
     by_pairs false e = ap (list_all test) (found.each e) ∙ kinds e
 
-form_shows : (form : LineForm) → may_be_misshapen form ≡ false → end_with_pairs (places form) ≡ false →
-    list_all shows_shape (open_kinds (places form)) ≡ true
-form_shows BufferLine h e = absurd (false≢true (sym h))
-form_shows TimelineLine h e = absurd (false≢true (sym h))
-form_shows BinaryLine h e = absurd (false≢true (sym h))
-form_shows FenceLine h e = absurd (false≢true (sym h))
-form_shows (QueueLine mode) h e = absurd (false≢true (sym h))
-form_shows TurnLine h e = absurd (false≢true (sym h))
-form_shows TurnsLine h e = absurd (false≢true (sym h))
-form_shows HostWaitAllLine h e = absurd (false≢true (sym e))
-form_shows HostWaitAnyLine h e = absurd (false≢true (sym e))
-form_shows HostPollAllLine h e = absurd (false≢true (sym e))
-form_shows HostPollAnyLine h e = absurd (false≢true (sym e))
-form_shows other h e = refl
+form_shows : (form : LineForm) → is_declaration form ≡ false → is_turn_form form ≡ false →
+    end_with_pairs (places form) ≡ false → list_all shows_shape (open_kinds (places form)) ≡ true
+form_shows BufferLine d t e = absurd (false≢true (sym d))
+form_shows TimelineLine d t e = absurd (false≢true (sym d))
+form_shows BinaryLine d t e = absurd (false≢true (sym d))
+form_shows FenceLine d t e = absurd (false≢true (sym d))
+form_shows (QueueLine mode) d t e = absurd (false≢true (sym d))
+form_shows TurnLine d t e = absurd (false≢true (sym t))
+form_shows TurnsLine d t e = absurd (false≢true (sym t))
+form_shows HostWaitAllLine d t e = absurd (false≢true (sym e))
+form_shows HostWaitAnyLine d t e = absurd (false≢true (sym e))
+form_shows HostPollAllLine d t e = absurd (false≢true (sym e))
+form_shows HostPollAnyLine d t e = absurd (false≢true (sym e))
+form_shows other d t e = refl
 
 form_old : (form : LineForm) → is_declaration form ≡ false → end_with_pairs (places form) ≡ false →
     list_all is_old (open_kinds (places form)) ≡ true
@@ -163,10 +170,10 @@ form_old other h e = refl
 
 -- words that are read are shaped, but for new names and actors
 pub read_shaped : (k : Kept) (form : LineForm) (words : List (Slot × List ℕ)) → AreNamed k → AreFound form words →
-    is_some (named_in k form (map (λ x. x.1) words)) ≡ true → may_be_misshapen form ≡ false →
-    list_all is_shaped words ≡ true
-read_shaped k form words named found read m =
-    all_shaped k named words (found_pass shows_shape form words found refl refl (form_shows form m))
+    is_some (named_in k form (map (λ x. x.1) words)) ≡ true → is_declaration form ≡ false →
+    is_turn_form form ≡ false → list_all is_shaped words ≡ true
+read_shaped k form words named found read d t =
+    all_shaped k named words (found_pass shows_shape form words found refl refl (form_shows form d t))
     (and_parts (list_all is_numeric words) (list_all (is_known (number_of k)) words)
     (all_read k form words found ∙ read)).1
 
@@ -176,10 +183,6 @@ pub none_new : (k : Kept) (form : LineForm) (words : List (Slot × List ℕ)) �
 none_new k form words found h =
     all_new (is_taken k.buffers k.semaphores k.queues) words
     (found_pass is_old form words found refl refl (form_old form h))
-
-alone : (t : Bool) → t ≡ (t && true)
-alone true = refl
-alone false = refl
 
 -- a declaration's second word alone is a new name
 counted_new : (taken : List ℕ → Bool) (form : LineForm) (words : List (Bor (List ℕ))) (d : Bor (List ℕ)) →
@@ -204,3 +207,61 @@ pub one_new : (taken : List ℕ → Bool) (form : LineForm) (words : List (Bor (
     is_declaration form ≡ true → Fits form words →
     not (taken (get_or words 1 d).now) ≡ list_all (is_new taken) (opens form words)
 one_new taken form words d h fits = counted_new taken form words d h (fits.each (declared_single form h))
+
+-- The actor of a turn that is read is named by a name.
+module _ (k : Kept) (named : AreNamed k) (word : List ℕ) where
+  actor_named : (host threads : Bool) →
+      is_some (if host then Some HostActor else if threads then option_map (λ q. SubmitActor q)
+      (number_of k ThreadedName (drop 2 word)) else option_map (λ q. RingActor q)
+      (number_of k QueueName (drop 2 word))) ≡ true →
+      host ≡ false → is_name (drop 2 word) ≡ true
+  actor_named true threads some h = absurd (false≢true (sym h))
+  actor_named false true some h =
+      number_named k named ThreadedName (drop 2 word)
+      (sym (some_mapped (λ q. SubmitActor q) (number_of k ThreadedName (drop 2 word))) ∙ some)
+  actor_named false false some h =
+      number_named k named QueueName (drop 2 word)
+      (sym (some_mapped (λ q. RingActor q) (number_of k QueueName (drop 2 word))) ∙ some)
+
+  by_marks : (host threads rings name : Bool) → (host ≡ false → name ≡ true) →
+      (host || threads || rings) ≡ (host || ((threads || rings) && name))
+  by_marks true threads rings name f = refl
+  by_marks false true rings name f = sym (f refl)
+  by_marks false false rings name f = alone rings ∙ (λ i. rings && sym (f refl) i)
+
+  -- so its mark alone tells whether it is an actor
+  actor_is : is_some (actor_at (number_of k) word) ≡ true → is_actor_or_marked word ≡ is_actor word
+  actor_is some =
+      by_marks (bytes_eq word (codes "host")) (is_marked 83 word) (is_marked 82 word) (is_name (drop 2 word))
+      (actor_named (bytes_eq word (codes "host")) (is_marked 83 word) some)
+
+  turn_is : is_some (actor_at (number_of k) word) ≡ true →
+      is_actor_or_marked word ≡ (is_actor word && true)
+  turn_is some = actor_is some ∙ alone (is_actor word)
+
+some_first : {A B C : Type 0} (f : A → B → C) (a : Option A) (b : Option B) → is_some (of_two f a b) ≡ true →
+    is_some a ≡ true
+some_first f None b some = absurd (false≢true some)
+some_first f (Some x) b some = refl
+
+counted_turn : (k : Kept) (form : LineForm) (words : List (Bor (List ℕ))) (d : Bor (List ℕ)) → AreNamed k →
+    is_turn_form form ≡ true → length words ≡ length (places form) →
+    is_some (named_in k form (map (λ x. x.1) (opens form words))) ≡ true →
+    is_actor_or_marked (get_or words 0 d).now ≡ list_all is_shaped (opens form words)
+counted_turn k TurnLine (actor ∷ []) d named t e read =
+    turn_is k named actor.now (sym (some_mapped _ (actor_at (number_of k) actor.now)) ∙ read)
+counted_turn k TurnsLine (actor ∷ count ∷ []) d named t e read =
+    turn_is k named actor.now (some_first _ (actor_at (number_of k) actor.now) (numeral count.now) read)
+counted_turn k form words d named t e read = absurd (grind arith)
+
+turn_single : (form : LineForm) → is_turn_form form ≡ true → end_with_pairs (places form) ≡ false
+turn_single TurnLine t = refl
+turn_single TurnsLine t = refl
+turn_single other t = absurd (false≢true t)
+
+pub turn_shaped : (k : Kept) (form : LineForm) (words : List (Bor (List ℕ))) (d : Bor (List ℕ)) → AreNamed k →
+    is_turn_form form ≡ true → Fits form words →
+    is_some (named_in k form (map (λ x. x.1) (opens form words))) ≡ true →
+    is_actor_or_marked (get_or words 0 d).now ≡ list_all is_shaped (opens form words)
+turn_shaped k form words d named t fits read =
+    counted_turn k form words d named t (fits.each (turn_single form t)) read

@@ -1,9 +1,10 @@
 -- What a line says, before it is kept, and what is kept after it.
 use Rattle.std.specs.Prelude.{ℕ, cond, ◌≡◌, ◌||◌, ◌+◌, ◌<◌, ◌≤◌, ◌^◌, Bool, true, false}
-use Rattle.std.specs.Prelude.{nat_lt, List, [], ◌∷◌, ◌++◌}
+use Rattle.std.specs.Prelude.{codes, nat_lt, List, [], ◌∷◌, ◌++◌}
 use Rattle.std.specs.Prelude.{Option, Some, None, is_some, map, length, ⊤}
 use Rattle.std.specs.Borrow.{Bor}
 use Rattle.std.specs.Option.{option_map}
+use Rattle.std.specs.Str.{bytes_eq}
 use Rattle.vq_model.specs.declared.script.Batch.{Batch}
 use Rattle.vq_model.specs.declared.script.Command.{Command}
 use Rattle.vq_model.specs.declared.script.Command.TheVariants.{Fill, Update, Copy}
@@ -26,8 +27,8 @@ use Rattle.vq_model.specs.declared.statement.Statement.TheVariants.{DeclareSemap
 use Rattle.vq_model.specs.declared.statement.Statement.TheVariants.{BeginSchedule, TakeTurns, TakeHostStep}
 use Rattle.vq_model.specs.Forms.{Slot, NewName, HexDigits}
 use Rattle.vq_model.specs.Forms.{Fixed, Pairs, places}
-use Rattle.vq_model.specs.LineFaults.{is_declaration, part_of_form}
-use Rattle.vq_model.specs.Meaning.{is_hex, hex_bytes}
+use Rattle.vq_model.specs.LineFaults.{part_of_form}
+use Rattle.vq_model.specs.Meaning.{is_hex, is_marked, hex_bytes}
 use Rattle.vq_model.specs.Meaning.{statement_of, pair_places}
 use Rattle.vq_model.specs.ScriptOfLines.{mark}
 use Rattle.vq_model.specs.Text.{is_name}
@@ -110,9 +111,9 @@ is_turn_form TurnLine = true
 is_turn_form TurnsLine = true
 is_turn_form other = false
 
--- whether a word of a form may lack its shape though it is read: a name that is declared, or an actor's
-abbrev pub may_be_misshapen : LineForm → Bool
-may_be_misshapen form = is_declaration form || is_turn_form form
+-- whether a word is the host, or begins as the other actors do
+abbrev pub is_actor_or_marked : List ℕ → Bool
+is_actor_or_marked word = bytes_eq word (codes "host") || is_marked 83 word || is_marked 82 word
 
 -- whether turns stand where the next line stands
 abbrev pub takes_turns : Bool → Option Batch → Bool

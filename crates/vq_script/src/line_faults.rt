@@ -11,12 +11,13 @@ ghost use Rattle.vq_script.specs.Holds.{Keeps, Kept, kept, open_so_far};
 ghost use Rattle.vq_script.specs.LineTests.{earlier_in, word_fault, said_fault};
 ghost use Rattle.vq_forms.specs.OpenWords.{opens};
 ghost use Rattle.vq_script.specs.SaidLines.{Fits, IsWhollyRead, IsSmall, May, Stands, statement_in};
-ghost use Rattle.vq_script.specs.SaidLines.{may_be_misshapen, named_in};
+ghost use Rattle.vq_script.specs.SaidLines.{is_actor_or_marked, is_turn_form, named_in};
 
 use crate::known::Known;
 use crate::place_faults::has_new_names;
 use crate::said::{Said, statement_of};
 use vq_forms::{are_numeric, are_shaped, is_declaration, part_of_form};
+use vq_lexer::is_marked;
 use vq_model::limits::UPDATE_BYTES;
 use vq_model::ranges::is_aligned;
 use vq_model::statement::{FaultKind, LineForm};
@@ -47,20 +48,37 @@ fn word_fault(known: &Known, form: LineForm, shaped: bool) -> Option<FaultKind>
     None
 }
 
-/// Whether a word of a form may lack its shape though it is read: a name that is declared, or an actor's.
-fn may_be_misshapen(form: LineForm) -> bool
-    ensures { result ≡ may_be_misshapen form }
+/// Whether a form is one of the schedule's turns.
+fn is_turn(form: LineForm) -> bool
+    ensures { result ≡ is_turn_form form }
 {
-    is_declaration(form) || matches!(form, LineForm::TurnLine | LineForm::TurnsLine)
+    matches!(form, LineForm::TurnLine | LineForm::TurnsLine)
 }
 
-/// Whether each word of a line has its shape, where all are read.
+/// Whether a word is `host`, or begins as the other actors of the schedule do.
+fn is_actor_or_marked(word: &[u8]) -> bool
+    ensures { result ≡ is_actor_or_marked word.now }
+{
+    word == b"host".as_slice() || is_marked(b'S', word) || is_marked(b'R', word)
+}
+
+/// Whether each word of a line has its shape, where all are read: a name that is declared needs no look.
+#[inline(always)]
 fn are_read_shaped(known: &Known, form: LineForm, words: &[&[u8]]) -> bool
     requires fits { Fits form words.now }
     requires read { is_some (named_in (kept known.now) form (map (λ x. x.1) (opens form words.now))) ≡ true }
     ensures { result ≡ list_all is_shaped (opens form words.now) }
 {
-    !may_be_misshapen(form) || are_shaped(form, words)
+    if is_declaration(form) {
+        return are_shaped(form, words);
+    }
+    if !is_turn(form) {
+        return true;
+    }
+    let [actor, ..] = words else {
+        unreachable!();
+    };
+    is_actor_or_marked(actor)
 }
 
 /// Whether bytes begin in a buffer, are one at least, and end in it.
