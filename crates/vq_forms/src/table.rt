@@ -94,6 +94,7 @@ pub fn places(form: LineForm) -> &'static [Token]
 
 /// The part of a batch to which a line belongs: 1 for its waits, 2 for its commands, 3 for its signals,
 /// 4 for its fence, 5 for its end; a line of no batch has part 0.
+#[inline(always)]
 pub fn part_of_form(form: LineForm) -> u32
     ensures { result ≡ part_of_form form }
 {

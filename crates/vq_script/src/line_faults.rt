@@ -191,8 +191,8 @@ fn passes_limit(known: &Known, said: &Said<'_>) -> bool
 fn said_fault(known: &Known, form: LineForm, words: &[&[u8]], said: &Said<'_>) -> Option<FaultKind>
     requires fits { Fits form words.now }
     requires read { IsWhollyRead (kept known.now) said.now }
-    ensures exact { result ≡ said_fault (earlier_in (kept known.now) (open_so_far known.now.batch)) (opens form words.now)
-        (statement_in (kept known.now) said.now) }
+    ensures exact { result ≡ said_fault (earlier_in (kept known.now) (open_so_far known.now.batch))
+        (opens form words.now) (statement_in (kept known.now) said.now) }
     ensures small { result ≡ None → IsSmall said.now }
 {
     if !has_new_names(known, form, words) {
