@@ -89,6 +89,10 @@ impl OpenBatch {
     pub fn add_command(&mut self, number: u32, command: Command) -> Result<(), AllocError>
         ensures { OnOk result (batch_so_far self.new ≡ commanding (batch_so_far self.old) number command) }
     {
+        // Most batches have few commands, and a place has many bytes.
+        if self.commands.is_empty() {
+            self.commands.reserve_exact(2)?;
+        }
         self.commands.push(CommandLine {
             line: number,
             command,
@@ -100,6 +104,10 @@ impl OpenBatch {
     pub fn add_signal(&mut self, number: u32, pair: Pair) -> Result<(), AllocError>
         ensures { OnOk result (batch_so_far self.new ≡ signaling (batch_so_far self.old) number pair) }
     {
+        // Most batches have one signal.
+        if self.signals.is_empty() {
+            self.signals.reserve_exact(1)?;
+        }
         self.signals.push(mark(number, pair, 1))?;
         Ok(())
     }
