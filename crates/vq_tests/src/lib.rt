@@ -7,8 +7,6 @@ mod answer_tests;
 #[cfg(test)]
 mod generator_tests;
 #[cfg(test)]
-mod host_tests;
-#[cfg(test)]
 mod lists_tests;
 #[cfg(test)]
 mod order_tests;
@@ -18,8 +16,6 @@ mod plan_tests;
 mod point_tests;
 #[cfg(test)]
 mod port_tests;
-#[cfg(test)]
-mod schedule_tests;
 #[cfg(test)]
 mod script_tests;
 #[cfg(test)]

@@ -1,4 +1,4 @@
-//! Plans of small scripts: what resolves a wait, the slow run, and the text of buffers.
+//! Plans of small scripts: the slow run, the text of buffers, and the faults of uses.
 use std::alloc::Global;
 use vq_script::{Form, is_short, parse};
 use vq_spec::{Plan, PlanFault, buffers_text, slow_order, slow_run};
@@ -39,46 +39,6 @@ pub(crate) fn lowered(alloc: Global, text: &[u8]) -> Option<Result<Plan, PlanFau
     }
 }
 
-/// Whether this operation, or none, resolves a wait for a value of a chain.
-fn resolves(plan: &Plan, chain: u32, value: u64, op: Option<u32>) -> bool {
-    chain < plan.chains() && plan.resolver(chain, value) == op
-}
-
-/// Which operation resolves a wait for which value of which chain.
-const WAITS: [(u32, u64, Option<u32>); 6] = [
-    (0, 3, Some(1)),
-    (0, 5, Some(1)),
-    (0, 6, Some(2)),
-    (0, 10, None),
-    (1, 1, Some(0)),
-    (1, 2, None),
-];
-
-/// Whether these operations resolve waits.
-fn are_resolved(plan: &Plan, rows: &[(u32, u64, Option<u32>)]) -> bool {
-    for (chain, value, op) in rows {
-        if !resolves(plan, *chain, *value, *op) {
-            return false;
-        }
-    }
-    true
-}
-
-/// Whether a job waits for these jobs and these operations, and has these edges.
-fn waits(plan: &Plan, j: u32, firsts: &[u32], ops: &[u32], edges: &[u32]) -> bool {
-    j < plan.jobs()
-        && plan.must_finish(j) == firsts
-        && plan.awaited(j) == ops
-        && plan.edges(j) == edges
-}
-
-/// Whether the jobs of the script wait so.
-fn jobs_wait(plan: &Plan) -> bool {
-    waits(plan, 0, &[], &[1], &[1])
-        && waits(plan, 1, &[], &[], &[])
-        && waits(plan, 2, &[1], &[0], &[1, 0])
-}
-
 /// Whether the slow order does all jobs in this order, and leaves these payloads.
 fn runs(alloc: Global, plan: &Plan, order: &[u32], payloads: &[u64]) -> bool {
     match slow_order(alloc, plan) {
@@ -109,10 +69,7 @@ fn leaves(alloc: Global, plan: &Plan, want: &[u8]) -> bool {
 
 /// Whether a plan is that of the script: the lowest job that is ready is done first.
 fn is_of_script(alloc: Global, plan: &Plan) -> bool {
-    are_resolved(plan, &WAITS)
-        && jobs_wait(plan)
-        && runs(alloc, plan, &[1, 0, 2], &[9, 1])
-        && leaves(alloc, plan, BUFFERS)
+    runs(alloc, plan, &[1, 0, 2], &[9, 1]) && leaves(alloc, plan, BUFFERS)
 }
 
 /// Whether the script has its plan.
@@ -124,7 +81,7 @@ fn is_planned(alloc: Global) -> bool {
 }
 
 #[test]
-fn waits_are_resolved_and_jobs_are_done(rt: HostRuntime) {
+fn jobs_are_done(rt: HostRuntime) {
     assert!(rt; is_planned(rt.alloc()));
 }
 
@@ -160,21 +117,6 @@ fn faulty_uses_are_found(rt: HostRuntime) {
         (
             b"fence F\nqueue Q threaded\nsubmit Q\nfence F\nend\nsubmit Q\nfence F\nend\n",
             PlanFault::FenceUsed { line: 7 },
-        ),
-        (
-            b"binary S
-queue Q threaded
-submit Q
-signal S
-end
-submit Q
-wait S
-end
-submit Q
-wait S
-end
-",
-            PlanFault::NoSignal { line: 10 },
         ),
     ];
     assert!(rt; have_faults(rt.alloc(), &rows));

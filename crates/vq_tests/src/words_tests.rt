@@ -48,32 +48,21 @@ fn words_ask_for_a_task(rt: HostRuntime) {
     assert!(rt; read_words(rt.alloc(), &[]) == Ok(Task::Run));
 }
 
-const BAD: [&str; 26] = [
+const BAD: [&str; 15] = [
     "",
     "x",
     "--",
-    "-h",
     "--help",
-    "--version",
     "--check=1",
-    "--check --",
-    "--check --check",
     "--check --replay",
-    "--rounds 3",
     "--rounds=3",
-    "--upgrade=2",
-    "--upgrade --upgrade",
-    "--replay --upgrade",
     "--audit=1",
-    "--check --audit",
     "--generate",
     "--generate=",
-    "--generate 0",
     "--generate 501",
     "--generate 0500",
     "--generate +5",
     "--generate -- 5",
-    "--generate=5 --check",
     "--gen 5",
 ];
 
