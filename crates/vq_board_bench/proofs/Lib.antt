@@ -2,8 +2,6 @@ mod Below
 mod Facts
 mod HostRowSteps
 mod OnePoint
-mod ReadSteps
 mod RingSteps
-mod Shared
 mod Shares
 mod ShelfRowSteps

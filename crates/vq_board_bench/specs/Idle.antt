@@ -10,10 +10,9 @@ use Rattle.vq_board.specs.Named.{plan_of, view, IsOf}
 use Rattle.vq_board_stage.specs.Batches.{IsAlone}
 use Rattle.vq_board_bench.specs.Making.{HasShare}
 
--- the first two jobs do nothing, and the first operation is one of the first chain
-pub record IsOfWorkers (p : Plan) : Type 0 where
+-- the first job does nothing, and the first operation is one of the first chain
+pub record IsOfWorker (p : Plan) : Type 0 where
   pub first : IsAlone p 0 []
-  pub second : IsAlone p 1 []
   pub exists : 0 < length p.ops
   pub in_chain : chain_of p 0 ≡ Some 0
   pub share : HasShare p 0 1

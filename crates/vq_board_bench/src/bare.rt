@@ -2,9 +2,8 @@
 ghost use Rattle.std.specs.Prelude.{◌≡◌, ◌<◌, IfOk};
 
 use crate::kind::BareStep;
-use atomic_table::{Play, Seat, Split, Table, TableRule};
+use atomic_table::{Play, Seat, Table, TableRule};
 use std::alloc::{AllocError, Global};
-use vq_point::REFERENCE;
 
 /// A rule that holds of every table.
 pub(crate) struct Anything;
@@ -26,15 +25,6 @@ impl Play<u64, u64> for Silent {
     ghost then = { nothing };
 }
 
-/// A second seat is cut off the first.
-struct Cut;
-
-impl Split<u64> for Cut {
-    ghost left = { λ v. v };
-
-    ghost right = { λ v. v };
-}
-
 /// A table with three words or more, and no slot.
 #[derive(Drop)]
 pub(crate) struct Bare {
@@ -45,16 +35,14 @@ pub(crate) struct Bare {
 pub(crate) type BareSeat = Seat<u64, u64>;
 
 impl Bare {
-    /// A table with so many words that are 0, and two seats.
-    pub(crate) fn new(alloc: Global, count: usize) -> Result<(Bare, BareSeat, BareSeat), AllocError>
+    /// A table with so many words that are 0, and a seat.
+    pub(crate) fn new(alloc: Global, count: usize) -> Result<(Bare, BareSeat), AllocError>
         requires { 2 < count }
-        ensures first { IfOk result (λ t. t.1.table_id ≡ t.0.table.shared.table_id) }
-        ensures second { IfOk result (λ t. t.2.table_id ≡ t.0.table.shared.table_id) }
+        ensures { IfOk result (λ t. t.1.table_id ≡ t.0.table.shared.table_id) }
     {
         let words = vec![in alloc; 0u64; count]?;
-        let (table, mut first) = Table::of_words(alloc, words.as_slice(), &0)?;
-        let second = table.shared.split_seat::<Cut>(&mut first);
-        Ok((Bare { table }, first, second))
+        let (table, seat) = Table::of_words(alloc, words.as_slice(), &0)?;
+        Ok((Bare { table }, seat))
     }
 
     /// Loads so often. It says whether each load found 0.
@@ -110,39 +98,6 @@ impl Bare {
         last != 1
     }
 
-    /// Loads the word, and exchanges it for what it comes to by one reference more and one less in
-    /// turns, so often.
-    fn references(&self, seat: &mut BareSeat, rounds: u64) -> bool
-        requires { seat.old.table_id ≡ self.now.table.shared.table_id }
-    {
-        let table = &self.table.shared;
-        let mut holds = false;
-        for _ in 0..rounds {
-            let loaded = table.load::<Silent>(seat, 2);
-            let wanted = if holds {
-                loaded.wrapping_sub(REFERENCE)
-            } else {
-                loaded.wrapping_add(REFERENCE)
-            };
-            if table.compare_exchange::<Silent>(seat, 2, loaded, wanted) == loaded {
-                holds = !holds;
-            }
-        }
-        true
-    }
-
-    /// Exchanges 0 for 1, and where that hits stores 0, so often.
-    fn turns(&self, seat: &mut BareSeat, rounds: u64) -> bool
-        requires { seat.old.table_id ≡ self.now.table.shared.table_id }
-    {
-        for _ in 0..rounds {
-            if self.table.shared.compare_exchange::<Silent>(seat, 2, 0, 1) == 0 {
-                self.table.shared.store::<Silent>(seat, 2, 0);
-            }
-        }
-        true
-    }
-
     /// Makes so many steps of a kind. It says whether they came out as wanted.
     pub(crate) fn steps(&self, mut seat: BareSeat, step: BareStep, rounds: u64) -> bool
         requires { seat.table_id ≡ self.now.table.shared.table_id }
@@ -152,8 +107,6 @@ impl Bare {
             BareStep::Store => self.stores(&mut seat, rounds),
             BareStep::Exchange => self.exchanges(&mut seat, rounds),
             BareStep::Add => self.adds(&mut seat, rounds),
-            BareStep::Reference => self.references(&mut seat, rounds),
-            BareStep::Turn => self.turns(&mut seat, rounds),
         }
     }
 }

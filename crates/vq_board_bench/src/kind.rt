@@ -7,8 +7,6 @@ pub(crate) enum BareStep {
     Store,
     Exchange,
     Add,
-    Reference,
-    Turn,
 }
 
 /// A question of one load: how far a job is, or an operation, or what a point carries.
@@ -32,8 +30,6 @@ pub(crate) enum BoardStep {
 pub(crate) enum Kind {
     Bare(BareStep),
     Board(BoardStep),
-    /// A board is opened and a row of the host's reads taken through its steps, or none of them.
-    Reads { whole: bool },
 }
 
 impl Kind {
@@ -44,44 +40,34 @@ impl Kind {
             "bare-store" => Some(Kind::Bare(BareStep::Store)),
             "bare-cas" => Some(Kind::Bare(BareStep::Exchange)),
             "bare-add" => Some(Kind::Bare(BareStep::Add)),
-            "bare-refer" => Some(Kind::Bare(BareStep::Reference)),
-            "bare-turn" => Some(Kind::Bare(BareStep::Turn)),
             "job_state" => Some(Kind::Board(BoardStep::Ask(Question::Job))),
             "recall" => Some(Kind::Board(BoardStep::Ask(Question::Recall))),
             "look" => Some(Kind::Board(BoardStep::Ask(Question::Look))),
             "refer" => Some(Kind::Board(BoardStep::Reference)),
             "turn" => Some(Kind::Board(BoardStep::Turn)),
-            "answer" => Some(Kind::Reads { whole: true }),
-            "open-answers" => Some(Kind::Reads { whole: false }),
             _ => None,
         }
     }
 }
 
-/// What the batches of a row have, and whether their script is a wide one.
+/// What the batches of a row have.
 #[derive(Clone, Copy)]
 pub(crate) struct Form {
     pub(crate) command: bool,
     pub(crate) signal: bool,
-    pub(crate) wide: bool,
 }
 
 impl Form {
     /// The form with this name.
     pub(crate) fn named(name: &str) -> Option<Form> {
-        let (command, signal, wide) = match name {
-            "idle" => (false, false, false),
-            "command" => (true, false, false),
-            "signal" => (false, true, false),
-            "whole" => (true, true, false),
-            "wide" => (true, true, true),
+        let (command, signal) = match name {
+            "idle" => (false, false),
+            "command" => (true, false),
+            "signal" => (false, true),
+            "whole" => (true, true),
             _ => return None,
         };
-        Some(Form {
-            command,
-            signal,
-            wide,
-        })
+        Some(Form { command, signal })
     }
 }
 

@@ -1,12 +1,11 @@
-//! A board with two passes that run batches, and a point that carries an operation.
+//! A board with a pass that runs a batch, and a point that carries an operation.
 ghost use Rattle.std.specs.Prelude.{◌≡◌, ◌<◌, length, true, false, Some, [], IfSome};
 ghost use Rattle.vq_model.specs.LoweringFaults.{IsPlan};
 ghost use Rattle.vq_model.specs.Plan.{chain_of};
 ghost use Rattle.vq_board_laws.specs.declared.view.Role.TheVariants.{Shelf};
 ghost use Rattle.vq_board.specs.Named.{plan_of};
-ghost use Rattle.vq_board_stage.specs.Batches.{IsAlone};
 ghost use Rattle.vq_board_stage.specs.Dealing.{AllFresh, AreNew, IsNew};
-ghost use Rattle.vq_board_bench.specs.Idle.{IsOfWorkers, IsReferring};
+ghost use Rattle.vq_board_bench.specs.Idle.{IsOfWorker, IsReferring};
 ghost use Rattle.vq_board_bench.specs.Making.{HasShare};
 
 use crate::row::has_share;
@@ -18,16 +17,13 @@ use vq_board_stage::plans::checked;
 use vq_order::Ordered;
 use vq_spec::Plan;
 
-/// The first two batches wait for nothing and do nothing; the third has a signal.
+/// The first batch waits for nothing and does nothing; the second has a signal.
 const SCRIPT: &[u8] = b"timeline A 0
 queue P immediate
 queue Q immediate
-queue R immediate
 submit P
 end
 submit Q
-end
-submit R
 signal A 1
 end
 ";
@@ -43,32 +39,16 @@ fn is_signaled(plan: &Plan) -> bool
 }
 
 /// Whether the plan is that of the script.
-fn is_of_workers(plan: &Plan) -> bool
+fn is_of_worker(plan: &Plan) -> bool
     requires { IsPlan plan.now }
-    ensures { result ≡ true → IsOfWorkers plan.now }
+    ensures { result ≡ true → IsOfWorker plan.now }
 {
-    is_alone(plan, 0, &[]) && is_alone(plan, 1, &[]) && is_signaled(plan)
-}
-
-/// The pass of the next ring starts its batch, where that is released.
-fn started(board: &Board, rings: &mut Vec<Pass>, j: u32) -> Option<Pass>
-    requires fresh { AllFresh board.now rings.old.items }
-    requires idle { IsAlone (plan_of board.now) j [] }
-    requires ops { 0 < length (plan_of board.now).ops }
-    ensures pass { IfSome result (λ x. IsReferring board.now x false) }
-    ensures left { AllFresh board.now rings.new.items }
-{
-    let mut pass = dealt(board, rings, Role::Ring(j))?;
-    if start(board, &mut pass, j, &[]) {
-        Some(pass)
-    } else {
-        None
-    }
+    is_alone(plan, 0, &[]) && is_signaled(plan)
 }
 
 /// The shelf gives a new point to the first operation. It says whether it is the first point.
 fn give_point(board: &Board, shelf: &mut Pass) -> bool
-    requires plan { IsOfWorkers (plan_of board.now) }
+    requires plan { IsOfWorker (plan_of board.now) }
     requires shelf { IsNew board.now shelf.old (Shelf 0) }
 {
     let point = board.make(shelf);
@@ -76,23 +56,25 @@ fn give_point(board: &Board, shelf: &mut Pass) -> bool
     point == 0
 }
 
-/// The passes of the first two rings, each of which has started its batch.
-fn workers(board: &Board, mut rings: Vec<Pass>) -> Option<(Pass, Pass)>
-    requires plan { IsOfWorkers (plan_of board.now) }
+/// The pass of the first ring starts its batch, where that is released.
+fn worker(board: &Board, mut rings: Vec<Pass>) -> Option<Pass>
+    requires plan { IsOfWorker (plan_of board.now) }
     requires fresh { AllFresh board.now rings.items }
-    ensures first { IfSome result (λ t. IsReferring board.now t.0 false) }
-    ensures second { IfSome result (λ t. IsReferring board.now t.1 false) }
+    ensures { IfSome result (λ x. IsReferring board.now x false) }
 {
-    drop(dealt(board, &mut rings, Role::Ring(2))?);
-    let second = started(board, &mut rings, 1)?;
-    let first = started(board, &mut rings, 0)?;
-    Some((first, second))
+    drop(dealt(board, &mut rings, Role::Ring(1))?);
+    let mut pass = dealt(board, &mut rings, Role::Ring(0))?;
+    if start(board, &mut pass, 0, &[]) {
+        Some(pass)
+    } else {
+        None
+    }
 }
 
-/// The passes of the rings, where the host has handed the first two batches over, and the first point
-/// carries the first operation.
+/// The passes of the rings, where the host has handed the first batch over, and the first point carries
+/// the first operation.
 fn handed(board: &Board, passes: Passes) -> Option<Vec<Pass>>
-    requires plan { IsOfWorkers (plan_of board.now) }
+    requires plan { IsOfWorker (plan_of board.now) }
     requires passes { AreNew board.now passes }
     ensures { IfSome result (λ v. AllFresh board.now v.items) }
 {
@@ -103,7 +85,6 @@ fn handed(board: &Board, passes: Passes) -> Option<Vec<Pass>>
         mut shelves,
     } = passes;
     hand_on(board, &mut host, 0, &[]);
-    hand_on(board, &mut host, 1, &[]);
     let mut shelf = dealt(board, &mut shelves, Role::Shelf(0))?;
     if give_point(board, &mut shelf) {
         Some(rings)
@@ -112,24 +93,22 @@ fn handed(board: &Board, passes: Passes) -> Option<Vec<Pass>>
     }
 }
 
-/// The board of the plan, where that is the script's, with its first point and these passes.
-fn opened_of(alloc: Global, ordered: &Ordered) -> Option<(Board, Pass, Pass)>
-    ensures first { IfSome result (λ t. IsReferring t.0 t.1 false) }
-    ensures second { IfSome result (λ t. IsReferring t.0 t.2 false) }
+/// The board of the plan, where that is the script's, with its first point and this pass.
+fn opened_of(alloc: Global, ordered: &Ordered) -> Option<(Board, Pass)>
+    ensures { IfSome result (λ t. IsReferring t.0 t.1 false) }
 {
-    if !is_of_workers(ordered.plan()) {
+    if !is_of_worker(ordered.plan()) {
         return None;
     }
     let (board, passes) = board_of(alloc, ordered)?;
     let rings = handed(&board, passes)?;
-    let (first, second) = workers(&board, rings)?;
-    Some((board, first, second))
+    let pass = worker(&board, rings)?;
+    Some((board, pass))
 }
 
-/// A board whose first point carries the first operation, and two passes that run a batch each.
-pub(crate) fn opened(alloc: Global) -> Option<(Board, Pass, Pass)>
-    ensures first { IfSome result (λ t. IsReferring t.0 t.1 false) }
-    ensures second { IfSome result (λ t. IsReferring t.0 t.2 false) }
+/// A board whose first point carries the first operation, and a pass that runs a batch.
+pub(crate) fn opened(alloc: Global) -> Option<(Board, Pass)>
+    ensures { IfSome result (λ t. IsReferring t.0 t.1 false) }
 {
     opened_of(alloc, &checked(alloc, SCRIPT)?)
 }

@@ -8,23 +8,7 @@ ghost use Rattle.vq_board_bench.specs.Rows.{IsOneOfFirst, IsLink, IsLinked, IsRo
 
 use crate::kind::Form;
 use std::alloc::{AllocError, Global};
-use vq_board_stage::alone::is_hosted;
 use vq_spec::{Lane, Plan, PlanJob, Question};
-
-/// Adds the declarations of a timeline and two queues. A wide script has as many queues and timelines
-/// as one may have, which nothing uses.
-fn push_declarations(alloc: Global, text: &mut String, wide: bool) -> Result<(), AllocError> {
-    let (timelines, queues) = if wide { (255u32, 6u32) } else { (0, 0) };
-    text.push_str("buffer X 8\ntimeline A 0\n")?;
-    for k in 0..timelines {
-        text.push_str(format!(in alloc; "timeline B{k} 0\n")?.as_str())?;
-    }
-    text.push_str("queue P immediate\nqueue Q immediate\n")?;
-    for k in 0..queues {
-        text.push_str(format!(in alloc; "queue R{k} immediate\n")?.as_str())?;
-    }
-    Ok(())
-}
 
 /// Adds a batch on the first queue.
 fn push_batch(alloc: Global, text: &mut String, form: Form, value: u64) -> Result<(), AllocError> {
@@ -40,8 +24,10 @@ fn push_batch(alloc: Global, text: &mut String, form: Form, value: u64) -> Resul
 
 /// The script of so many batches on the first of two queues.
 pub(crate) fn row_text(alloc: Global, batches: u32, form: Form) -> Result<String, AllocError> {
-    let mut text = String::new(alloc);
-    push_declarations(alloc, &mut text, form.wide)?;
+    let mut text = String::from_str(
+        alloc,
+        "buffer X 8\ntimeline A 0\nqueue P immediate\nqueue Q immediate\n",
+    )?;
     for j in 0..batches {
         push_batch(alloc, &mut text, form, u64::from(j) + 1)?;
     }
@@ -60,7 +46,7 @@ fn is_one_of_first(list: &[u32], count: u32, j: u32) -> bool
 }
 
 /// Whether there is no job before a job, or the one with the number before it.
-pub(crate) fn is_next(previous: Option<u32>, j: u32) -> bool
+fn is_next(previous: Option<u32>, j: u32) -> bool
     ensures { result ≡ true → (i : ℕ) → previous ≡ Some i → i + 1 ≡ j }
 {
     match previous {
@@ -107,7 +93,7 @@ fn is_linked(plan: &Plan, commands: u32, signals: u32, j: u32) -> bool
     if j < signals && !is_own(plan, j) {
         return false;
     }
-    is_hosted(plan.script(), 0) && is_link(plan.job(j), commands, signals, j)
+    !plan.script().is_threaded(0) && is_link(plan.job(j), commands, signals, j)
 }
 
 /// Whether each number of a list is that of its place.

@@ -1,10 +1,8 @@
-//! Rows of batches and of reads, again and again.
+//! Rows of batches, again and again.
 ghost use Rattle.vq_board_bench.specs.Rows.{IsRow};
 
 use crate::batches::opened_row;
 use crate::kind::{Form, Phase};
-use crate::reading::reading;
-use crate::reads::{is_of_reads, reads_text};
 use crate::row::{is_row, row_text};
 use std::alloc::Global;
 use vq_board_stage::plans::checked;
@@ -57,28 +55,4 @@ impl Row {
         let text = row_text(alloc, self.batches, self.form).ok()?;
         self.take_all(alloc, &checked(alloc, text.as_str().as_bytes())?, rounds)
     }
-}
-
-/// Opens so many boards of the plan, where it is of reads, and takes them through their steps, or none
-/// of them.
-fn reads_of(alloc: Global, ordered: &Ordered, whole: bool, rounds: u64) -> Option<bool> {
-    let plan = ordered.plan();
-    if !is_of_reads(plan) {
-        return None;
-    }
-    let count = if whole { plan.jobs() } else { 0 };
-    for _ in 0..rounds {
-        if !reading(alloc, ordered, count)? {
-            return Some(false);
-        }
-    }
-    Some(true)
-}
-
-/// Opens so many boards for a row of so many of the host's reads, and takes the whole row through its
-/// steps, or none of it. It says whether all came out as wanted.
-pub(crate) fn reads(alloc: Global, reads: u32, whole: bool, rounds: u64) -> Option<bool> {
-    let text = reads_text(alloc, reads).ok()?;
-    let ordered = checked(alloc, text.as_str().as_bytes())?;
-    reads_of(alloc, &ordered, whole, rounds)
 }
