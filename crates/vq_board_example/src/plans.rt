@@ -1,23 +1,11 @@
 //! Whether a plan is the one for which the steps of this program are written.
 ghost use Rattle.std.specs.Prelude.{◌≡◌, ◌<◌, length, [], ◌∷◌, true, Some};
 ghost use Rattle.vq_model.specs.Plan.{needs, resolver};
-ghost use Rattle.vq_model.specs.ValidScripts.{is_threaded_queue};
 ghost use Rattle.vq_board_example.specs.FillAndCopy.{IsBatch, HasBatch, IsRead, HasRead, WaitsFor};
 ghost use Rattle.vq_board_example.specs.FillAndCopy.{HasJobs, HasSignal, IsFillAndCopy};
 
 use vq_board_stage::alone::is_same;
-use vq_model::script::{Mode, Script};
 use vq_spec::{Lane, Need, Plan, PlanJob, Question};
-
-/// Whether a queue has a submitting thread.
-fn is_threaded(script: &Script, queue: u32) -> bool
-    ensures { result ≡ true → is_threaded_queue script.now queue ≡ true }
-{
-    match script.queues.as_slice().get(queue as usize) {
-        Some(queue) => matches!(queue.mode, Mode::Threaded),
-        None => false,
-    }
-}
 
 /// Whether a job is a batch of the queue with these commands and signals, and the first of its queue.
 fn is_batch(job: &PlanJob, queue: u32, commands: &[u32], signals: &[u32]) -> bool
@@ -42,7 +30,7 @@ fn has_batch(plan: &Plan, j: u32, commands: &[u32], signals: &[u32]) -> bool
     if j >= plan.jobs() {
         return false;
     }
-    is_threaded(plan.script(), j) && is_batch(plan.job(j), j, commands, signals)
+    plan.script().is_threaded(j) && is_batch(plan.job(j), j, commands, signals)
 }
 
 /// Whether a job is the host's first step, and reads this chain.
