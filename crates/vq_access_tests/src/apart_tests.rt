@@ -6,50 +6,47 @@ ghost use Rattle.vq_board.specs.Named.{plan_of};
 ghost use Rattle.vq_board_stage.specs.Dealing.{AreNew};
 ghost use Rattle.vq_timeline.specs.Named.{IsAt};
 
-use crate::moves::Turn;
-use crate::three::{play, plays};
+use crate::scene::{HOST, Part, RING_P, SUBMIT_P, play, plays};
+use crate::turns::Expected::Makes;
+use crate::turns::Turn;
 use std::alloc::Global;
 use std::sync::Wait;
 use std::sync::atomic::{AtomicU64, Ordering};
 use std::thread::{Threads, join};
+use vq_access::Waiting;
 use vq_board::{Board, Passes};
 use vq_model::plan::Event;
 use vq_order::Ordered;
 use vq_timeline::{Collected, LockedTimeline};
 
-/// Where the rooms lie.
-const HOST: usize = 0;
-
-const SUBMIT_P: usize = 1;
-
-const RING_P: usize = 2;
-
-/// The first batch of P to its end, and the takes of the second one, which complete its signal and use its point again.
-const TURNS: [Turn; 11] = [
-    (HOST, Event::Submit { job: 0 }),
+/// The first batch of P to its end, and the take of the second one, which completes its signal and uses its point again.
+const TURNS: [Turn; 13] = [
+    (HOST, Makes(Event::Submit { job: 0 })),
     (
         SUBMIT_P,
-        Event::Take {
+        Makes(Event::Take {
             op: 0,
             point: 0,
             fresh: true,
-        },
+        }),
     ),
-    (SUBMIT_P, Event::Release { job: 0 }),
-    (SUBMIT_P, Event::Bind { op: 0, point: 0 }),
-    (RING_P, Event::Start { job: 0 }),
-    (RING_P, Event::Signal { op: 0 }),
-    (RING_P, Event::Finish { job: 0 }),
-    (HOST, Event::Submit { job: 1 }),
-    (SUBMIT_P, Event::Complete { op: 0 }),
-    (SUBMIT_P, Event::Free { point: 0 }),
+    (SUBMIT_P, Makes(Event::Release { job: 0 })),
+    (SUBMIT_P, Makes(Event::Bind { op: 0, point: 0 })),
+    (RING_P, Makes(Event::Start { job: 0 })),
+    (RING_P, Makes(Event::Apply { job: 0, command: 0 })),
+    (RING_P, Makes(Event::Signal { op: 0 })),
+    (RING_P, Makes(Event::Finish { job: 0 })),
+    (HOST, Makes(Event::Submit { job: 1 })),
+    (HOST, Makes(Event::Submit { job: 2 })),
+    (SUBMIT_P, Makes(Event::Complete { op: 0 })),
+    (SUBMIT_P, Makes(Event::Free { point: 0 })),
     (
         SUBMIT_P,
-        Event::Take {
+        Makes(Event::Take {
             op: 1,
             point: 0,
             fresh: false,
-        },
+        }),
     ),
 ];
 
@@ -122,7 +119,8 @@ fn plays_meanwhile<R: Wait>(
     requires passes { AreNew board.now passes }
 {
     hear(rt, held);
-    let played = plays(rt, alloc, ordered, board, timelines, passes, &TURNS);
+    let lists = Waiting::new(rt);
+    let played = plays(rt, &lists, alloc, ordered, board, timelines, passes, &TURNS);
     tell(done);
     played == Some(true)
 }
@@ -158,5 +156,5 @@ pub(crate) fn are_apart<R: Threads + Wait + Sync>(
 
 #[test]
 fn a_batch_ends_while_the_lock_of_another_timeline_is_held(rt: HostRuntime) {
-    assert!(rt; play(&rt, rt.alloc(), true) == Some(true));
+    assert!(rt; play(&rt, rt.alloc(), Part::Apart) == Some(true));
 }

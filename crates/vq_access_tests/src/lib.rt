@@ -1,24 +1,11 @@
-//! Run tests of timelines over a board, and of the turns of actors over both, through public calls alone: what passes
-//! find of a timeline before and after their steps; a schedule of turns, each of an actor's own room, with the event that
-//! each makes. Expected values are worked out by hand.
+//! Run tests of turns of actors over a board and its timelines, through public calls alone: schedules of turns, each of an
+//! actor's own room, with what each comes to. Expected values are worked out by hand.
 #![tactic(auto)]
 
 #[cfg(test)]
 mod apart_tests;
 #[cfg(test)]
-mod deferred_tests;
-#[cfg(test)]
 mod events;
-#[cfg(test)]
-mod locked_tests;
-#[cfg(test)]
-mod locked_trying_tests;
-#[cfg(test)]
-mod moves;
-#[cfg(test)]
-mod points_tests;
-#[cfg(test)]
-mod reads_tests;
 #[cfg(test)]
 mod rooms;
 #[cfg(test)]
@@ -26,8 +13,6 @@ mod scene;
 #[cfg(test)]
 mod share_tests;
 #[cfg(test)]
-mod three;
+mod turns;
 #[cfg(test)]
-mod tried;
-#[cfg(test)]
-mod trying_tests;
+mod turns_tests;
