@@ -1,2 +1,10 @@
 pub mod Batches
 pub mod Dealing
+pub mod FourBatches
+pub mod Holders
+pub mod HostSteps
+pub mod Reads
+pub mod Runs
+pub mod Scenes
+pub mod ThreeSignals
+pub mod TwoWaits

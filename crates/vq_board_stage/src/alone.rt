@@ -1,11 +1,9 @@
 //! Batches that have nothing to do with other jobs, handed on by the host and started by their rings.
-ghost use Rattle.std.specs.Prelude.{◌≡◌, ◌+◌, true, false};
-ghost use Rattle.vq_model.specs.ValidScripts.{is_threaded_queue};
+ghost use Rattle.std.specs.Prelude.{◌≡◌, ◌+◌, true};
 ghost use Rattle.vq_board.specs.Named.{plan_of, view};
 ghost use Rattle.vq_board_stage.specs.Batches.{AllExist, IsPlain, IsAlone, HasHandedOn, IsReady, IsRunning};
 
 use vq_board::{Board, JobState, Pass};
-use vq_model::script::{Mode, Script};
 use vq_spec::{Lane, Plan, PlanJob, Question};
 
 /// Whether two lists of numbers are the same.
@@ -31,16 +29,6 @@ fn is_plain(job: &PlanJob, queue: u32, commands: &[u32]) -> bool
     is_same(job.commands.as_slice(), commands) && matches!(job.question, Question::Silent)
 }
 
-/// Whether the host hands the batches of a queue to the device.
-pub fn is_hosted(script: &Script, queue: u32) -> bool
-    ensures { result ≡ true → is_threaded_queue script.now queue ≡ false }
-{
-    match script.queues.as_slice().get(queue as usize) {
-        Some(queue) => !matches!(queue.mode, Mode::Threaded),
-        None => true,
-    }
-}
-
 /// Whether each of the commands is one of the plan.
 fn all_exist(plan: &Plan, commands: &[u32]) -> bool
     ensures { result ≡ true → AllExist plan.now commands.now }
@@ -60,7 +48,7 @@ pub fn is_alone(plan: &Plan, j: u32, commands: &[u32]) -> bool
     if j >= plan.jobs() || !all_exist(plan, commands) {
         return false;
     }
-    is_hosted(plan.script(), j) && is_plain(plan.job(j), j, commands)
+    !plan.script().is_threaded(j) && is_plain(plan.job(j), j, commands)
 }
 
 /// The host submits and releases the next job.

@@ -2,14 +2,14 @@
 ghost use Rattle.std.specs.Prelude.{◌≡◌, true};
 ghost use Rattle.vq_board.specs.Named.{plan_of};
 ghost use Rattle.vq_board_stage.specs.Dealing.{AreNew};
-ghost use Rattle.vq_board_actors.specs.HostSteps.{HasFinished};
-ghost use Rattle.vq_board_actors.specs.Reads.{IsOfReads};
+ghost use Rattle.vq_board_stage.specs.HostSteps.{HasFinished};
+ghost use Rattle.vq_board_stage.specs.Reads.{IsOfReads};
 
 use std::alloc::Global;
 use vq_board::{Board, Closed, Passes, Role};
-use vq_board_actors::host_steps::{make_signal, read_first, read_last};
-use vq_board_actors::scenes::{Scene, opened};
+use vq_board_stage::host_steps::{make_signal, read_first, read_last};
 use vq_board_stage::passes::dealt;
+use vq_board_stage::scenes::{Scene, opened};
 
 /// The host's steps are made, one after another. It says whether they came out as wanted.
 fn reads_around(board: &Board, passes: &mut Passes) -> bool

@@ -3,16 +3,16 @@ ghost use Rattle.std.specs.Prelude.{◌≡◌, [], ◌∷◌, length, IfSome};
 ghost use Rattle.vq_board.specs.Named.{plan_of};
 ghost use Rattle.vq_board_stage.specs.Batches.{HasHandedOn, IsReady, IsRunning};
 ghost use Rattle.vq_board_stage.specs.Dealing.{AllFresh, AreNew};
-ghost use Rattle.vq_board_actors.specs.FourBatches.{AreFour, AreReady};
+ghost use Rattle.vq_board_stage.specs.FourBatches.{AreFour, AreReady};
 
 use std::alloc::Global;
 use std::sync::Wait;
 use std::thread::{Threads, join};
 use vq_board::{Board, Closed, Pass, Passes, Role};
-use vq_board_actors::scenes::{Scene, opened};
 use vq_board_stage::alone::{hand_on, start};
 use vq_board_stage::passes::dealt;
 use vq_board_stage::running::{all_finished, work};
+use vq_board_stage::scenes::{Scene, opened};
 
 /// The host submits and releases all batches.
 fn hand_all_on(board: &Board, host: &mut Pass)

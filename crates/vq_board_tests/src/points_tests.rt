@@ -4,22 +4,22 @@ ghost use Rattle.vq_board_laws.specs.declared.view.Role.TheVariants.{Ring};
 ghost use Rattle.vq_board_laws.specs.Points.{reference};
 ghost use Rattle.vq_board.specs.Named.{plan_of, IsOf};
 ghost use Rattle.vq_board_stage.specs.Dealing.{AreNew, IsNew};
-ghost use Rattle.vq_board_actors.specs.Holders.{HasSubmitted, HasReleased, HasPoints, HasReferences};
-ghost use Rattle.vq_board_actors.specs.Holders.{HasFirst, HasBoth, IsToBind};
-ghost use Rattle.vq_board_actors.specs.ThreeSignals.{IsOfThreeSignals};
+ghost use Rattle.vq_board_stage.specs.Holders.{HasSubmitted, HasReleased, HasPoints, HasReferences};
+ghost use Rattle.vq_board_stage.specs.Holders.{HasFirst, HasBoth, IsToBind};
+ghost use Rattle.vq_board_stage.specs.ThreeSignals.{IsOfThreeSignals};
 
 use crate::tried::{Tried, is_so};
 use vq_board::{Board, Pass, Passes};
-use vq_board_actors::actors::{both_rings, both_submits, shelf};
-use vq_board_actors::rings::{
+use vq_board_stage::actors::{both_rings, both_submits, shelf};
+use vq_board_stage::rings::{
     fill_first, finds_it_moved_on, is_unbound, refer_first, sees_it_made, signal_first,
     unrefer_first,
 };
-use vq_board_actors::shelves::{
+use vq_board_stage::shelves::{
     bind_first, bind_second, complete_first, finds_released, give_again, is_in_use, take_first,
     take_second,
 };
-use vq_board_actors::submitting::{
+use vq_board_stage::submitting::{
     carrying, release_first, release_second, release_waiting, submit,
 };
 use vq_point::PointWord;

@@ -3,16 +3,16 @@ ghost use Rattle.std.specs.Prelude.{◌≡◌, true, [], ◌∷◌};
 ghost use Rattle.vq_board_laws.specs.Points.{reference};
 ghost use Rattle.vq_board.specs.Named.{plan_of};
 ghost use Rattle.vq_board_stage.specs.Dealing.{AllFresh, AreNew};
-ghost use Rattle.vq_board_actors.specs.Holders.{HasReferences};
-ghost use Rattle.vq_board_actors.specs.ThreeSignals.{IsOfThreeSignals};
+ghost use Rattle.vq_board_stage.specs.Holders.{HasReferences};
+ghost use Rattle.vq_board_stage.specs.ThreeSignals.{IsOfThreeSignals};
 
 use crate::tried::{Tried, is_so};
 use std::sync::Wait;
 use std::thread::{Threads, join, yield_now};
 use vq_board::{Board, Pass, Passes, Referred};
-use vq_board_actors::actors::{both_rings, shelf};
-use vq_board_actors::shelves::take_first;
-use vq_board_actors::submitting::carrying;
+use vq_board_stage::actors::{both_rings, shelf};
+use vq_board_stage::shelves::take_first;
+use vq_board_stage::submitting::carrying;
 
 /// Takes a reference to point 0 for operation 0, as soon as no one changes the point's word meanwhile. It
 /// says whether it did.

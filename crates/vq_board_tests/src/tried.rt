@@ -1,7 +1,7 @@
 //! What is tried on boards of their own, of the script with three signals.
 ghost use Rattle.vq_board.specs.Named.{plan_of};
 ghost use Rattle.vq_board_stage.specs.Dealing.{AreNew};
-ghost use Rattle.vq_board_actors.specs.ThreeSignals.{IsOfThreeSignals};
+ghost use Rattle.vq_board_stage.specs.ThreeSignals.{IsOfThreeSignals};
 
 use crate::points_tests::{binds_before_it_signals, has_two_words, uses_again};
 use crate::references_tests::gives_back;
@@ -9,7 +9,7 @@ use std::alloc::Global;
 use std::sync::Wait;
 use std::thread::Threads;
 use vq_board::{Board, Passes};
-use vq_board_actors::scenes::{Scene, opened};
+use vq_board_stage::scenes::{Scene, opened};
 
 /// What is tried.
 #[derive(Clone, Copy)]

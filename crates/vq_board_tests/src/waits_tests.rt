@@ -3,15 +3,15 @@ ghost use Rattle.std.specs.Prelude.{[], IfSome};
 ghost use Rattle.vq_board_laws.specs.declared.view.Role.TheVariants.{Shelf};
 ghost use Rattle.vq_board.specs.Named.{plan_of};
 ghost use Rattle.vq_board_stage.specs.Dealing.{AllFresh, AreNew, IsDealer, IsNew};
-ghost use Rattle.vq_board_actors.specs.TwoWaits.{IsOfTwoWaits, IsToStart};
+ghost use Rattle.vq_board_stage.specs.TwoWaits.{IsOfTwoWaits, IsToStart};
 
 use std::alloc::Global;
 use vq_board::{Board, Pass, Passes, Role};
-use vq_board_actors::host_steps::make_signal;
-use vq_board_actors::scenes::{Scene, opened};
-use vq_board_actors::waiting::{finish_waiting, hand_on_waiting, refer_to_both, start_waiting};
+use vq_board_stage::host_steps::make_signal;
 use vq_board_stage::passes::dealt;
 use vq_board_stage::running::all_finished;
+use vq_board_stage::scenes::{Scene, opened};
+use vq_board_stage::waiting::{finish_waiting, hand_on_waiting, refer_to_both, start_waiting};
 
 /// The passes of both shelves.
 fn both_shelves(board: &Board, shelves: &mut Vec<Pass>) -> Option<(Pass, Pass)>

@@ -1,7 +1,7 @@
 //! A wait that finds its value missing, and is polled again once it is woken.
 ghost use Rattle.std.specs.Prelude.{◌≡◌, true, []};
 ghost use Rattle.vq_board.specs.Named.{IsOf};
-ghost use Rattle.vq_board_actors.specs.Holders.{HasReleased};
+ghost use Rattle.vq_board_stage.specs.Holders.{HasReleased};
 ghost use Rattle.vq_timeline_stage.specs.Acting.{HasRun};
 ghost use Rattle.vq_timeline_stage.specs.TwoBatches.{IsOfTwoBatches};
 ghost use Rattle.vq_poll.specs.Waiting.{CanWaitLent};

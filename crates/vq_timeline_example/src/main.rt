@@ -1,107 +1,79 @@
-//! How a board and a locked timeline are called together: a batch is submitted and handed on, its signal gets a point
-//! and becomes pending, the device's side runs the batch, and the host waits for the value and reads the timeline.
+//! How a board and a locked timeline are called together: a batch is submitted and handed on, its signal gets a point and
+//! becomes pending, the device's side runs the batch, and the host finds the value and reads the timeline. Then a thread
+//! waits for the signal of a second batch as a future, while another makes it and rings the timeline's bell.
 #![tactic(auto)]
 
-ghost use Rattle.std.specs.Prelude.{◌≡◌, true, [], ◌∷◌};
-ghost use Rattle.vq_board.specs.Named.{plan_of};
-ghost use Rattle.vq_board_actors.specs.Holders.{HasSubmitted, HasReleased};
-ghost use Rattle.vq_board_stage.specs.Dealing.{AreNew};
+ghost use Rattle.std.specs.Prelude.{◌≡◌};
+ghost use Rattle.vq_poll.specs.Watching.{IsWatched, plan_at};
+ghost use Rattle.vq_timeline_stage.specs.Scenes.{AreIdle, IsScene};
 ghost use Rattle.vq_timeline_stage.specs.TwoBatches.{IsOfTwoBatches};
-ghost use Rattle.vq_timeline_stage.specs.Locked.{IsFirstAt};
 
-use std::alloc::Global;
+mod calls;
+mod waiting;
+
+use calls::{Seen, call};
+use std::alloc::AllocGlobal;
 use std::io;
 use std::process::ExitCode;
+use std::random::RandomSource;
 use std::sync::Wait;
-use vq_board::{Board, Pass, Passes};
-use vq_timeline::LockedTimeline;
-use vq_timeline_core::{Found, Taken};
-use vq_timeline_stage::host::submit;
-use vq_timeline_stage::locked::locked;
-use vq_timeline_stage::rings::{ring, run_first};
-use vq_timeline_stage::submitting::{release_first, submitter};
+use std::thread::Threads;
+use vq_order::Ordered;
+use vq_poll::{Met, WatchedBoard};
+use vq_timeline_stage::watched::{
+    Actors, Scene, close, planned, scene_of, timeline_of, watched_of,
+};
+use waiting::wait;
 
-/// Submit: the batch is written, its signal gets a point from the timeline's lists, the batch is handed on, and then its
-/// signal is pending. Only `take_for` and `bind` wait, for the lock of this timeline.
-fn hand_on<R: Wait>(
+/// What the calls show, and what the wait finds.
+fn told_on<R: Threads + Wait + RandomSource + AllocGlobal + Sync>(
     rt: &R,
-    board: &Board,
-    timeline: &LockedTimeline,
-    host: &mut Pass,
-    submitter: &mut Pass,
-) -> bool
-    requires plan { IsOfTwoBatches (plan_of board.now) }
-    requires timeline { IsFirstAt board.now timeline.now }
-    requires host { HasSubmitted board.now host.old 0 }
-    requires submitter { HasReleased board.now submitter.old 0 [] }
-    ensures host { HasSubmitted board.now host.new 1 }
+    watched: WatchedBoard<'_>,
+    scene: &Scene,
+    actors: Actors,
+) -> Option<(Seen, Met)>
+    requires watched { IsWatched watched }
+    requires plan { IsOfTwoBatches (plan_at watched) }
+    requires board { watched.board.now ≡ scene.now.board }
+    requires scene { IsScene scene.now }
+    requires actors { AreIdle scene.now.board actors }
 {
-    submit(board, host, 0);
-    timeline.take_for(rt, board, 0) == Ok(Taken::Fresh(0))
-        && release_first(board, submitter)
-        && timeline.bind(rt, board, 0) == Ok(0)
+    let mut actors = actors;
+    let seen = call(rt, &scene.board, timeline_of(scene), &mut actors)?;
+    let met = wait(rt, watched, scene, actors)?;
+    Some((seen, met))
 }
 
-/// Wait: which point shows the value 2, where a driver waits for the sync of that point. No lock is taken.
-fn pending_point(board: &Board, timeline: &LockedTimeline, host: &mut Pass) -> Option<u32>
-    requires plan { IsOfTwoBatches (plan_of board.now) }
-    requires timeline { IsFirstAt board.now timeline.now }
-    requires host { HasSubmitted board.now host.old 1 }
-    ensures { HasSubmitted board.now host.new 1 }
-{
-    match timeline.find(board, host, 2) {
-        Found::Pending { point, .. } => Some(point),
-        Found::Past { .. } | Found::NotYet { .. } => None,
-    }
-}
-
-/// Read: the payload, from the words alone.
-fn payload(board: &Board, timeline: &LockedTimeline, host: &mut Pass, submitted: u32) -> u64
-    requires timeline { IsFirstAt board.now timeline.now }
-    requires host { HasSubmitted board.now host.old submitted }
-    ensures { HasSubmitted board.now host.new submitted }
-{
-    let _ = submitted;
-    timeline.read(board, host)
-}
-
-/// What the host reads before, the point that it waits for, and what it reads after the batch has run.
-fn run<R: Wait>(
+/// The same on a board of this plan,
+fn told_of<R: Threads + Wait + RandomSource + AllocGlobal + Sync>(
     rt: &R,
-    board: &Board,
-    timeline: &LockedTimeline,
-    passes: &mut Passes,
-) -> Option<(u64, u32, u64)>
-    requires plan { IsOfTwoBatches (plan_of board.now) }
-    requires timeline { IsFirstAt board.now timeline.now }
-    requires passes { AreNew board.now passes.old }
-{
-    let mut submitter = submitter(board, &mut passes.submits)?;
-    let mut ring = ring(board, &mut passes.rings)?;
-    let host = &mut passes.host;
-    let before = payload(board, timeline, host, 0);
-    if !hand_on(rt, board, timeline, host, &mut submitter) {
-        return None;
+    ordered: &Ordered,
+) -> Option<(Seen, Met)> {
+    match scene_of(rt.alloc(), ordered) {
+        Some((scene, actors)) => {
+            let told = told_on(rt, watched_of(ordered, &scene), &scene, actors);
+            close(scene);
+            told
+        }
+        None => None,
     }
-    let point = pending_point(board, timeline, host)?;
-    if !run_first(board, &mut ring) {
-        return None;
-    }
-    Some((before, point, payload(board, timeline, host, 1)))
 }
 
-/// The same on a board of its own.
-fn told<R: Wait>(rt: &R, alloc: Global) -> Option<(u64, u32, u64)> {
-    let (board, timeline, mut passes) = locked(alloc)?;
-    run(rt, &board, &timeline, &mut passes)
+/// and of the script's plan.
+fn told<R: Threads + Wait + RandomSource + AllocGlobal + Sync>(rt: &R) -> Option<(Seen, Met)> {
+    match planned(rt.alloc()) {
+        Some(ordered) => told_of(rt, &ordered),
+        None => None,
+    }
 }
 
 fn main(rt: HostRuntime) -> io::Result<ExitCode> {
-    let Some((before, point, after)) = told(&rt, rt.alloc()) else {
+    let Some((seen, met)) = told(&rt) else {
         return Ok(ExitCode::from(2));
     };
-    println!(rt; "A is {before}")?;
-    println!(rt; "A gets 2 when point {point} is signaled")?;
-    println!(rt; "A is {after}")?;
+    println!(rt; "A is {}", seen.before)?;
+    println!(rt; "A gets 2 when point {} is signaled", seen.point)?;
+    println!(rt; "A is {}", seen.after)?;
+    println!(rt; "the wait for 3 ends, with A at {}", met.value)?;
     Ok(ExitCode::SUCCESS)
 }

@@ -1,4 +1,3 @@
 pub mod Cited
 mod Asks
-mod TwoChains
 mod Watchables

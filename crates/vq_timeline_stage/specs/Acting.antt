@@ -4,22 +4,10 @@ use Rattle.vq_board_laws.specs.declared.view.Fact.TheVariants.{Job}
 use Rattle.vq_board_laws.specs.declared.view.JobState.TheVariants.{Finished}
 use Rattle.vq_board_laws.specs.declared.view.Role.TheVariants.{Ring}
 use Rattle.vq_board_laws.specs.Knowledge.{Knows}
-use Rattle.vq_board_laws.specs.Points.{reference}
 use Rattle.vq_board_laws.specs.Roles.{role_number}
 use Rattle.vq_board.specs.declared.parts.Board.{Board}
 use Rattle.vq_board.specs.declared.parts.Pass.{Pass}
 use Rattle.vq_board.specs.Named.{plan_of, view, IsOf}
-use Rattle.vq_payload.specs.Chains.{PlanChain}
-use Rattle.vq_board_actors.specs.Holders.{HasPoints}
-
--- the first chain of the board's plan
-abbrev pub IsFirstOf : Board → PlanChain → Type 0
-IsFirstOf b c = c ≡ record { plan = plan_of b; number = 0 }
-
--- the shelf has points 0 and 1, for the operations 0 and 1
-abbrev pub HasBoth : Board → Pass → List ℕ → Type 0
-HasBoth b x its_bound =
-    HasPoints b x (1 ∷ 0 ∷ []) (reference 1 1 ∷ reference 0 0 ∷ []) its_bound []
 
 -- the ring has run these jobs, of which the last one stands first, and runs none now
 pub record HasRun (b : Board) (x : Pass) (jobs : List ℕ) : Type 0 where

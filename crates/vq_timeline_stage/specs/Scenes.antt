@@ -3,7 +3,7 @@ use Rattle.std.specs.Prelude.{ℕ, List, [], ◌≡◌, ◌<◌, ◌≤◌, Some
 use Rattle.std.specs.List.{slice_get}
 use Rattle.vq_board.specs.declared.parts.Board.{Board}
 use Rattle.vq_board.specs.Named.{plan_of, IsOf}
-use Rattle.vq_board_actors.specs.Holders.{HasSubmitted, HasReleased}
+use Rattle.vq_board_stage.specs.Holders.{HasSubmitted, HasReleased}
 use Rattle.vq_timeline_stage.specs.Acting.{HasRun}
 use Rattle.vq_timeline_stage.specs.TwoBatches.{IsOfTwoBatches}
 use Rattle.vq_poll.specs.declared.pairs.Pair.{Pair}

@@ -2,7 +2,7 @@
 use Rattle.std.specs.Prelude.{[], ◌∷◌, ◌≡◌, Some, None, length}
 use Rattle.vq_model.specs.Plan.{Plan, previous, needs, chain, initial, resolver}
 use Rattle.vq_board_laws.specs.declared.view.Role.TheVariants.{Submit}
-use Rattle.vq_board_actors.specs.ThreeSignals.{HasBatch, IsSignal}
+use Rattle.vq_board_stage.specs.ThreeSignals.{HasBatch, IsSignal}
 
 pub record HasSignals (p : Plan) : Type 0 where
   pub count : length p.ops ≡ 2

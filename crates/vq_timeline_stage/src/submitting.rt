@@ -1,13 +1,13 @@
 //! The batches that the queue's submitting thread hands on.
 ghost use Rattle.std.specs.Prelude.{◌≡◌, true, [], ◌∷◌, IfSome};
 ghost use Rattle.vq_board.specs.Named.{plan_of};
-ghost use Rattle.vq_board_actors.specs.Holders.{HasReleased};
+ghost use Rattle.vq_board_stage.specs.Holders.{HasReleased};
 ghost use Rattle.vq_board_stage.specs.Dealing.{AllFresh};
 ghost use Rattle.vq_timeline_stage.specs.TwoBatches.{IsOfTwoBatches};
 
 use vq_board::{Board, JobState, Pass, Role};
-use vq_board_actors::submitting::carrying;
 use vq_board_stage::passes::dealt;
+use vq_board_stage::submitting::carrying;
 
 /// The pass of the submitting thread.
 pub fn submitter(board: &Board, submits: &mut Vec<Pass>) -> Option<Pass>

@@ -1,7 +1,7 @@
 //! The steps of the passes.
 ghost use Rattle.std.specs.Prelude.{◌≡◌, true, [], ◌∷◌};
 ghost use Rattle.vq_board.specs.Named.{plan_of};
-ghost use Rattle.vq_board_actors.specs.Holders.{HasSubmitted, HasReleased};
+ghost use Rattle.vq_board_stage.specs.Holders.{HasSubmitted, HasReleased};
 ghost use Rattle.vq_timeline_stage.specs.TwoBatches.{IsOfTwoBatches};
 ghost use Rattle.vq_timeline_stage.specs.Acting.{HasRun, HasRunFirst};
 ghost use Rattle.vq_timeline_stage.specs.Locked.{IsFirstAt};
@@ -43,7 +43,7 @@ fn hand_first_on<R: Wait>(
 }
 
 /// And so the second.
-fn hand_second_on<R: Wait>(
+pub fn hand_second_on<R: Wait>(
     rt: &R,
     board: &Board,
     timeline: &LockedTimeline,

@@ -1,5 +1,5 @@
 use Rattle.std.proofs.Common.{[]}
-use Rattle.vq_board_actors.specs.Holders.{HasReferences}
+use Rattle.vq_board_stage.specs.Holders.{HasReferences}
 use Rattle.vq_board_tests.proofs.references_tests.refer.Given as goal
 
 abbrev pub invariant-loop : goal.invariant-loop

@@ -1,6 +1,0 @@
-mod Asks
-mod Binds
-mod Chains
-mod SeenMade
-mod Shares
-mod Waits

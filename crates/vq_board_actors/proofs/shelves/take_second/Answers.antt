@@ -1,8 +1,0 @@
-use Rattle.std.proofs.Common.{List, ap, arith, length, ℕ}
-use Rattle.vq_board.specs.Named.{plan_of, view}
-use Rattle.vq_board_actors.proofs.Shares.{may_make}
-use Rattle.vq_board_actors.proofs.shelves.take_second.Goals as goal
-
-pub make-requires-clause-may : goal.make-requires-clause-may
-make-requires-clause-may c =
-    let few = ap (λ (xs : List ℕ). length xs) c.requires.shelf.owned in may_make (plan_of c.args.board.now) (view c.args.shelf.now) c.requires.plan.signals c.requires.shelf.role (omega arith)
