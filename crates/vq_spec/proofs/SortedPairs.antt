@@ -1,18 +1,20 @@
 -- Lists of pairs in the order of their parts: what a search finds, and when two are one list.
-use Rattle.std.proofs.Common.{◌≡◌, ◌≢◌, ℕ, zero, suc, ◌+◌, ◌<◌, ◌≤◌, Bool, true, false, ◌&&◌, cond, eqb, ltb, List, [], ◌∷◌, length, get_or, map, All, refl, sym, ap, ◌∙◌, ◌⊎◌, inl, inr, arith}
+use Rattle.std.proofs.Common.{◌≡◌, ◌≢◌, ℕ, zero, suc, ◌+◌, ◌<◌, ◌≤◌, Bool, true, false, ◌&&◌, cond, eqb, ltb, List, [], ◌∷◌, length, get_or, map, All, subst, ◌||◌, refl, sym, ap, ◌∙◌, ◌⊎◌, inl, inr, arith}
 use Rattle.std.specs.List.{count_by, prefix_len, AllByRecursion}
 use Rattle.std.specs.List.Sorted.{IsPermutation, IsSorted, IsPartitionedBy, IsPartitionPoint}
+use Rattle.std.specs.List.{AllWithin}
 use Rattle.std.specs.Ordering.{is_lt, ordering_then, nat_cmp}
 use Rattle.std.specs.declared.cmp.Ordering.TheVariants.{Less, Equal, Greater}
 use Rattle.std.specs.Cmp.{IsTotalOrder}
 use Rattle.std.proofs.lemmas.Bool.{cases_eq, cases_lt, cond-true, cond-false, eq-eqb, eqb-true, lt-ltb, le-ltb, ltb-true, false≢true, or_cases, or_left, or_right, and_parts, and_from}
 use Rattle.std.proofs.lemmas.Cmp.{then_total, on_total, nat_cmp_total}
-use Rattle.std.proofs.lemmas.List.Sorted.{sorted_far, ranks_by, All-permutation, sum_by-IsPermutation, IsPartitionedBy-ltb}
+use Rattle.std.proofs.lemmas.List.Sorted.{sorted_far, ranks_by, All-permutation, sum_by-IsPermutation}
 use Rattle.std.proofs.lemmas.List.Elements.{recursion_from_All}
+use Rattle.std.proofs.lemmas.List.{get_or_default}
 use Rattle.std.proofs.lemmas.List.Sums.{sum_by-cons}
 use Rattle.vq_model.specs.Plan.{has}
 use Rattle.vq_model.proofs.Lists.{has_there, has_cases}
-use Rattle.vq_spec.specs.ChainParts.{pair_cmp, is_before}
+use Rattle.vq_spec.specs.ChainParts.{pair_cmp, is_before, place_in}
 
 -- Pairs
 
@@ -86,14 +88,6 @@ parted_before xs v e h i j d l m t =
     lower a b (inr l) (inr m) = let q = l.0 in let r = m.0 in let u = l.1 in let w = m.1 in
         inr (omega arith, omega arith)
 
-pub parted_below : (xs : List (ℕ × ℕ)) (v : ℕ) → IsSorted pair_cmp xs →
-    IsPartitionedBy (λ p. ltb p.0 v) xs
-parted_below xs v h = IsPartitionedBy-ltb (λ (p : ℕ × ℕ). p.0) xs v (λ i j d l m.
-    elim (not_less (get_or xs j d) (get_or xs i d) (far xs h i j d l m)) [
-      | inl k ↦ (omega arith)
-      | inr k ↦ let q = k.0 in (omega arith)
-    ])
-
 -- where a search ends
 pub prefix_len_is : {X : Type 0} (q : X → Bool) (xs : List X) (i : ℕ) → i ≤ length xs →
     IsPartitionPoint (λ y. q y ≡ true) (λ y. q y ≡ false) xs i → i ≡ prefix_len q xs
@@ -107,6 +101,41 @@ prefix_len_is q (x ∷ xs) (suc i) l h =
     ) in
     (let z : suc i ≡ 1 + prefix_len q xs = omega arith in z)
     ∙ sym (cond-true (q x) (1 + prefix_len q xs) 0 (h.0 0 x (omega arith) (omega arith)))
+
+-- a place whose pair isn't before others, and in front of which stands one that is
+pub place_is : (xs : List (ℕ × ℕ)) (v e i : ℕ) (d : ℕ × ℕ) → IsSorted pair_cmp xs →
+    i < length xs → is_before (get_or xs i d) v e ≡ false →
+    ((k : ℕ) → suc k ≡ i → is_before (get_or xs k d) v e ≡ true) → i ≡ place_in xs v e
+place_is xs v e i d h l here front =
+    prefix_len_is (λ p. is_before p v e) xs i (omega arith)
+    (before i front (omega arith), λ k f a b. behind k f a b (is_before (get_or xs k f) v e) refl)
+  where
+    parted : IsPartitionedBy (λ p. is_before p v e) xs
+    parted = parted_before xs v e h
+
+    before : (n : ℕ) → ((k : ℕ) → suc k ≡ n → is_before (get_or xs k d) v e ≡ true) →
+        n ≤ length xs → AllWithin (λ p. is_before p v e ≡ true) xs 0 n
+    before zero t w k f a b = absurd (omega arith)
+    before (suc n) t w k f a b = parted k n f (omega arith) (omega arith)
+        (subst (λ p. is_before p v e ≡ true) (get_or_default xs n d f (omega arith)) (t n refl))
+
+    behind : (k : ℕ) (f : ℕ × ℕ) → i ≤ k → k < length xs → (b : Bool) →
+        is_before (get_or xs k f) v e ≡ b → b ≡ false
+    behind k f a m true t = absurd (false≢true (sym here
+        ∙ subst (λ p. is_before p v e ≡ true) (get_or_default xs i f d l)
+        (parted i k f a m t)))
+    behind k f a m false t = refl
+
+-- as many pairs have less than a value as are before it and the first operation
+pub below_is : (xs : List (ℕ × ℕ)) (v : ℕ) →
+    place_in xs v 0 ≡ prefix_len (λ p. ltb p.0 v) xs
+below_is xs v = ap (λ (q : ℕ × ℕ → Bool). prefix_len q xs)
+    (λ i p. least (ltb p.0 v) (eqb p.0 v) (ltb p.1 0) (le-ltb p.1 0 (omega arith)) i)
+  where
+    least : (a b c : Bool) → c ≡ false → (a || (b && c)) ≡ a
+    least true b c h = refl
+    least false true c h = h
+    least false false c h = refl
 
 -- Two lists of the same elements
 

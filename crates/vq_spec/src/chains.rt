@@ -1,6 +1,6 @@
 //! The chains of signal operations: those of each semaphore and each fence, by value and then by
 //! line.
-ghost use Rattle.std.specs.Prelude.{◌≡◌, ◌<◌, ◌^◌, [], All, IfOk, map, length};
+ghost use Rattle.std.specs.Prelude.{◌≡◌, ◌<◌, ◌^◌, [], All, IfOk, map, length, true};
 ghost use Rattle.std.specs.List.{enumerate_from, range_with_len};
 ghost use Rattle.std.specs.List.Sorted.{IsSorted};
 ghost use Rattle.vq_spec.specs.ChainParts.{members, is_before, pair_cmp, placed, Sorts, AreSorted, IsSearchable};
@@ -23,6 +23,33 @@ fn is_before(pair: (u64, u32), value: u64, op: u32) -> bool
     ensures { result ≡ is_before pair value op }
 {
     pair.0 < value || (pair.0 == value && pair.1 < op)
+}
+
+/// Where a value stands if the values go up by one from the first, as they mostly do.
+fn guessed_place(pairs: &[(u64, u32)], value: u64) -> usize {
+    if pairs.is_empty() {
+        0
+    } else {
+        value.saturating_sub(pairs[0].0) as usize
+    }
+}
+
+/// Whether of a value and an operation the place is this one: what stands there isn't before them, and what
+/// stands in front of it is.
+fn is_place(pairs: &[(u64, u32)], place: usize, value: u64, op: u32) -> bool
+    requires { IsSorted pair_cmp pairs.now }
+    ensures { result ≡ true → place ≡ place_in pairs.now value op }
+{
+    if place >= pairs.len() {
+        return false;
+    }
+    if is_before(pairs[place], value, op) {
+        return false;
+    }
+    if place == 0 {
+        return true;
+    }
+    is_before(pairs[place - 1], value, op)
 }
 
 /// The operations that stand behind values.
@@ -52,7 +79,7 @@ impl Chain {
         requires { IsSorted pair_cmp self.now.pairs.items }
         ensures { result ≡ first_with self.now.pairs.items value }
     {
-        let place = self.pairs.as_slice().partition_point(|pair| pair.0 < value);
+        let place = self.place(value, 0);
         if place < self.pairs.len() {
             Some(self.pairs[place].1)
         } else {
@@ -65,9 +92,12 @@ impl Chain {
         requires { IsSorted pair_cmp self.now.pairs.items }
         ensures { result ≡ place_in self.now.pairs.items value op }
     {
-        self.pairs
-            .as_slice()
-            .partition_point(|pair| is_before(*pair, value, op))
+        let pairs = self.pairs.as_slice();
+        let guess = guessed_place(pairs, value);
+        if is_place(pairs, guess, value, op) {
+            return guess;
+        }
+        pairs.partition_point(|pair| is_before(*pair, value, op))
     }
 }
 
