@@ -49,6 +49,7 @@ impl Rows {
     }
 
     /// Adds a row behind the others. The error is want of memory.
+    #[inline(always)]
     #[tactic(auto, using(crate::proofs::Cuts::ends_pushed, crate::proofs::Cuts::row_pushed))]
     pub fn push(&mut self, row: &[u32]) -> Result<(), AllocError>
         ensures { OnOk result (self.new ≡ self.old ++ row.now ∷ []) }

@@ -22,7 +22,7 @@ use Rattle.vq_spec.specs.Places.{command_there}
 use Rattle.vq_spec.proofs.Lowered.{few_jobs, few_commands, plan_length}
 use Rattle.vq_spec.proofs.PlanChains.{unplaced_ops}
 use Rattle.vq_spec.proofs.Ranges.{take_all}
-use Rattle.vq_spec.proofs.SignalOrder.{few_signals}
+use Rattle.vq_spec.proofs.SignalOrder.{counts_length, few_signals}
 use Rattle.vq_plan_laws.proofs.Cited.{count_ops}
 
 -- Where all jobs are lowered
@@ -41,6 +41,9 @@ module _ (s : Script) (x : Lowered) (k : AreLowered s (length s.jobs) x) where
       ∙ (ap (first_ops s) all_counted
       ∙ ap (λ xs. map (unplaced s) (enumerate_from 0 xs))
       (take_all (all_signals s)))
+
+  pub lowered_counts : length x.signals.counts.items ≡ length s.semaphores
+  lowered_counts = counts_length s x.signals k.signals
 
   pub lowered_few : IsRead s → length x.signals.ops.items < 2 ^ 32
   lowered_few i = let n = all_counted in let m = few_signals s i in omega arith

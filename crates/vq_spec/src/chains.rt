@@ -101,44 +101,44 @@ impl Chain {
     }
 }
 
-/// So many empty lists.
-fn no_members(alloc: Global, count: usize) -> Result<Vec<Vec<(u64, u32)>>, AllocError>
+/// An empty list for each chain, with room for so many operations.
+fn no_members(alloc: Global, counts: &[u64]) -> Result<Vec<Vec<(u64, u32)>>, AllocError>
     ensures { IfOk result (λ lists. map (λ v. v.items) lists.items
-        ≡ map (λ t. []) (range_with_len 0 count)) }
+        ≡ map (λ t. []) (range_with_len 0 (length counts.now))) }
 {
-    let mut lists = Vec::with_capacity(alloc, count)?;
-    for _ in 0..count {
-        lists.push(Vec::new(alloc))?;
+    let mut lists = Vec::with_capacity(alloc, counts.len())?;
+    for count in counts {
+        lists.push(Vec::with_capacity(alloc, *count as usize)?)?;
     }
     Ok(lists)
 }
 
-/// The operations of each chain behind their values, in the order of the script.
-fn gather(alloc: Global, ops: &[Op], count: usize) -> Result<Vec<Vec<(u64, u32)>>, AllocError>
+/// The operations of each chain behind their values, in the order of the script. The chains have so many.
+fn gather(alloc: Global, ops: &[Op], counts: &[u64]) -> Result<Vec<Vec<(u64, u32)>>, AllocError>
     requires few { length ops.now < 2 ^ 32 }
-    requires exist { All (λ o. o.chain < count) ops.now }
+    requires exist { All (λ o. o.chain < length counts.now) ops.now }
     ensures { IfOk result (λ lists. map (λ v. v.items) lists.items
-        ≡ map (members ops.now) (range_with_len 0 count)) }
+        ≡ map (members ops.now) (range_with_len 0 (length counts.now))) }
 {
-    let mut lists = no_members(alloc, count)?;
+    let mut lists = no_members(alloc, counts)?;
     for (e, op) in ops.iter().enumerate() {
         lists[op.chain as usize].push((op.value, e as u32))?;
     }
     Ok(lists)
 }
 
-/// The chains of operations whose places aren't known yet.
+/// The chains of operations whose places aren't known yet. They have so many.
 pub(crate) fn lower_chains(
     alloc: Global,
     ops: &[Op],
-    count: usize,
+    counts: &[u64],
 ) -> Result<Vec<Chain>, AllocError>
     requires few { length ops.now < 2 ^ 32 }
-    requires exist { All (λ o. o.chain < count) ops.now }
-    ensures { IfOk result (λ chains. AreSorted ops.now count chains.items) }
+    requires exist { All (λ o. o.chain < length counts.now) ops.now }
+    ensures { IfOk result (λ chains. AreSorted ops.now (length counts.now) chains.items) }
 {
-    let lists = gather(alloc, ops, count)?;
-    let mut chains = Vec::with_capacity(alloc, count)?;
+    let lists = gather(alloc, ops, counts)?;
+    let mut chains = Vec::with_capacity(alloc, counts.len())?;
     for members in &lists {
         chains.push(Chain::of(alloc, members.as_slice())?)?;
     }

@@ -258,9 +258,14 @@ impl Tables {
         requires faultless { lowering_fault script.now ≡ None }
         ensures { IfOk result (λ tables. KeepsPlan script.now tables) }
     {
-        let Lowered { jobs, signals, .. } = lower_jobs(alloc, script)?;
+        let Lowered {
+            jobs,
+            commands,
+            signals,
+            ..
+        } = lower_jobs(alloc, script)?;
         let unplaced = signals.ops.as_slice();
-        let chains = lower_chains(alloc, unplaced, script.semaphores.as_slice().len())?;
+        let chains = lower_chains(alloc, unplaced, signals.counts.as_slice())?;
         let ops = place_ops(alloc, unplaced, chains.as_slice())?;
         let waits = lower_waits(
             alloc,
@@ -272,7 +277,7 @@ impl Tables {
         Ok(Tables {
             jobs,
             waits,
-            places: lower_places(alloc, script)?,
+            places: lower_places(alloc, script, commands)?,
             ops,
             chains,
         })

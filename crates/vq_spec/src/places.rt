@@ -34,13 +34,17 @@ fn push_places(places: &mut Vec<CommandAt>, job: u32, count: u32) -> Result<(), 
     Ok(())
 }
 
-/// Where each command stands.
-pub(crate) fn lower_places(alloc: Global, script: &Script) -> Result<Vec<CommandAt>, AllocError>
+/// Where each command stands. There is room for so many of them.
+pub(crate) fn lower_places(
+    alloc: Global,
+    script: &Script,
+    room: u32,
+) -> Result<Vec<CommandAt>, AllocError>
     requires { IsRead script.now }
     ensures { IfOk result (λ places. map (command_there script.now.jobs) places.items
         ≡ map Some (plan_of script.now).commands) }
 {
-    let mut places = Vec::new(alloc);
+    let mut places = Vec::with_capacity(alloc, room as usize)?;
     let jobs = script.jobs.as_slice();
     for j in 0..jobs.len() as u32 {
         push_places(&mut places, j, commands_in(&jobs[j as usize]) as u32)?;

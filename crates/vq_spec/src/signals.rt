@@ -50,7 +50,8 @@ impl Signals {
         ensures none { IfOk result (λ signals. length signals.ops.items ≡ 0) }
     {
         Ok(Signals {
-            ops: Vec::new(alloc),
+            // most jobs make one
+            ops: Vec::with_capacity(alloc, script.jobs.as_slice().len())?,
             counts: zeros(alloc, script.semaphores.as_slice().len())?,
         })
     }

@@ -5,7 +5,7 @@ use Rattle.vq_model.specs.Lowering.{plan_of}
 use Rattle.vq_spec.specs.declared.chains.Chain.{Chain}
 use Rattle.vq_spec.specs.ChainParts.{placed, IsSearchable, AreSorted, AreChains}
 use Rattle.vq_spec.specs.Waits.{AreWaits}
-use Rattle.vq_spec.proofs.KeptTables.{lowered_jobs, lowered_ops, lowered_few, kept}
+use Rattle.vq_spec.proofs.KeptTables.{lowered_jobs, lowered_ops, lowered_counts, lowered_few, kept}
 use Rattle.vq_spec.proofs.PlanChains.{unplaced_ops, are_chains, searchable, placed_ops, unplaced_exist}
 use Rattle.vq_spec.proofs.lowering.Tables.of.Goals as goal
 
@@ -20,10 +20,13 @@ lower_chains-requires-clause-few c = omega (
 pub lower_chains-requires-clause-exist : goal.lower_chains-requires-clause-exist
 lower_chains-requires-clause-exist c =
     let s = c.args.script.now in
+    let counts : length c.as_slice.result.now ≡ length s.semaphores =
+    ap length c.as_slice.ensures.value
+    ∙ lowered_counts s c.in_ok-jobs.field-0 (c.in_ok-jobs.ensures {u = tt}) in
     let ops : c.as_slice-unplaced.result.now ≡ unplaced_ops s = c.as_slice-unplaced.ensures.value
     ∙ lowered_ops s c.in_ok-jobs.field-0 (c.in_ok-jobs.ensures {u = tt}) in
     subst (λ (z : List Op × ℕ). All (λ o. o.chain < z.1) z.0)
-    (λ i. (sym ops i, sym (ap length c.as_slice.ensures) i)) (unplaced_exist s c.requires.read)
+    (λ i. (sym ops i, sym counts i)) (unplaced_exist s c.requires.read)
 
 pub place_ops-requires-clause-few : goal.place_ops-requires-clause-few
 place_ops-requires-clause-few c = omega (
@@ -36,11 +39,14 @@ place_ops-requires-clause-few c = omega (
 pub place_ops-requires-clause-exist : goal.place_ops-requires-clause-exist
 place_ops-requires-clause-exist c =
     let s = c.args.script.now in
+    let counts : length c.as_slice.result.now ≡ length s.semaphores =
+    ap length c.as_slice.ensures.value
+    ∙ lowered_counts s c.in_ok-jobs.field-0 (c.in_ok-jobs.ensures {u = tt}) in
     let ops : c.as_slice-unplaced.result.now ≡ unplaced_ops s = c.as_slice-unplaced.ensures.value
     ∙ lowered_ops s c.in_ok-jobs.field-0 (c.in_ok-jobs.ensures {u = tt}) in
     let sorted = c.in_ok-chains.ensures {u = tt} in
     let count : length c.as_slice-2.result.now ≡ length s.semaphores = ap length
-    c.as_slice-2.ensures.value ∙ (sorted.number ∙ ap length c.as_slice.ensures) in
+    c.as_slice-2.ensures.value ∙ (sorted.number ∙ counts) in
     subst (λ (z : List Op × ℕ). All (λ o. o.chain < z.1) z.0) (λ i. (sym ops i, sym count i))
     (unplaced_exist s c.requires.read)
 
@@ -60,11 +66,14 @@ pub lower_waits-requires-clause-parts : goal.lower_waits-requires-clause-parts
 lower_waits-requires-clause-parts c =
     let s = c.args.script.now in
     let chains = c.in_ok-chains.chains.items in
+    let counts : length c.as_slice.result.now ≡ length s.semaphores =
+    ap length c.as_slice.ensures.value
+    ∙ lowered_counts s c.in_ok-jobs.field-0 (c.in_ok-jobs.ensures {u = tt}) in
     let ops : c.as_slice-unplaced.result.now ≡ unplaced_ops s = c.as_slice-unplaced.ensures.value
     ∙ lowered_ops s c.in_ok-jobs.field-0 (c.in_ok-jobs.ensures {u = tt}) in
     let are = are_chains s c.requires.read c.as_slice-unplaced.result.now ops chains
     (subst (λ (n : ℕ). AreSorted c.as_slice-unplaced.result.now n chains)
-    (ap length c.as_slice.ensures) (c.in_ok-chains.ensures {u = tt})) in
+    counts (c.in_ok-chains.ensures {u = tt})) in
     record {
       read = c.requires.read;
       ops = c.as_slice-3.ensures.value
@@ -78,11 +87,14 @@ pub returns : goal.returns
 returns c =
     let s = c.args.script.now in
     let chains = c.in_ok-chains.chains.items in
+    let counts : length c.as_slice.result.now ≡ length s.semaphores =
+    ap length c.as_slice.ensures.value
+    ∙ lowered_counts s c.in_ok-jobs.field-0 (c.in_ok-jobs.ensures {u = tt}) in
     let ops : c.as_slice-unplaced.result.now ≡ unplaced_ops s = c.as_slice-unplaced.ensures.value
     ∙ lowered_ops s c.in_ok-jobs.field-0 (c.in_ok-jobs.ensures {u = tt}) in
     let are = are_chains s c.requires.read c.as_slice-unplaced.result.now ops chains
     (subst (λ (n : ℕ). AreSorted c.as_slice-unplaced.result.now n chains)
-    (ap length c.as_slice.ensures) (c.in_ok-chains.ensures {u = tt})) in
+    counts (c.in_ok-chains.ensures {u = tt})) in
     let jobs = lowered_jobs s c.in_ok-jobs.field-0 (c.in_ok-jobs.ensures {u = tt}) in
     kept s c.requires.read c.requires.faultless _ jobs
     (subst (λ (n : ℕ). AreWaits (plan_of s) n c.in_ok-waits.waits) (ap length c.as_slice-5.ensures.value)
