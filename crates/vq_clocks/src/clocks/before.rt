@@ -1,5 +1,5 @@
 //! The rows of jobs that happen before a job.
-ghost use Rattle.std.specs.Prelude.{◌≡◌, ◌<◌, length, IfOk};
+ghost use Rattle.std.specs.Prelude.{◌≡◌, ◌<◌, length, replicate, IfOk};
 ghost use Rattle.vq_model.specs.Edges.{AtEnd};
 ghost use Rattle.vq_model.specs.Lanes.{lane_at};
 ghost use Rattle.vq_model.specs.SlowRun.{slow_order};
@@ -24,34 +24,29 @@ fn add_edge(row: &mut Row, run: &CompleteRun, rows: &Rows, j: u32, edge: u32)
     }
 }
 
-/// The row of what comes before a job through these edges, from the rows of their jobs.
-pub(crate) fn row_through(
-    alloc: Global,
-    run: &CompleteRun,
-    rows: &Rows,
-    j: u32,
-    edges: &[u32],
-) -> Result<Row, AllocError>
+/// Makes a row of zeros that of what comes before a job through these edges, from the rows of their
+/// jobs.
+pub(crate) fn row_through(run: &CompleteRun, rows: &Rows, j: u32, edges: &[u32], row: &mut Row)
     requires makes { MakesClock run.now rows.now j }
     requires exist { AllBelow (length run.now.jobs) edges.now }
-    ensures value { IfOk result (λ row.
-        Covers (lane_at run.now) itself (in_row row) (PassesOne run.now j edges.now)) }
-    ensures width { IfOk result (λ row. length row ≡ lanes run.now) }
+    requires zeros { row.old ≡ replicate (lanes run.now) 0 }
+    ensures value { Covers (lane_at run.now) itself (in_row row.new) (PassesOne run.now j edges.now) }
+    ensures width { length row.new ≡ lanes run.now }
 {
-    let mut row = Row::new(alloc, run.lanes())?;
     for edge in edges {
-        add_edge(&mut row, run, rows, j, *edge);
+        add_edge(row, run, rows, j, *edge);
     }
-    Ok(row)
 }
 
-/// The row of a job, from those of the jobs before it in the slow run.
-fn before_row(alloc: Global, run: &CompleteRun, rows: &Rows, j: u32) -> Result<Row, AllocError>
-    requires { MakesClock run.now rows.now j }
-    ensures value { IfOk result (λ row. IsClock run.now j AtEnd (in_row row)) }
-    ensures width { IfOk result (λ row. length row ≡ lanes run.now) }
+/// Makes a row that of a job, from those of the jobs before it in the slow run.
+fn make_before_row(run: &CompleteRun, rows: &Rows, j: u32, row: &mut Row)
+    requires makes { MakesClock run.now rows.now j }
+    requires width { length row.old ≡ lanes run.now }
+    ensures value { IsClock run.now j AtEnd (in_row row.new) }
+    ensures width { length row.new ≡ lanes run.now }
 {
-    row_through(alloc, run, rows, j, run.plan().edges(j))
+    row.clear();
+    row_through(run, rows, j, run.plan().edges(j), row);
 }
 
 /// The rows of all jobs, in the order of the slow run.
@@ -60,8 +55,9 @@ pub(crate) fn before_rows(alloc: Global, run: &CompleteRun) -> Result<Rows, Allo
 {
     let (jobs, lanes) = (run.order().len(), run.lanes());
     let mut rows = Rows::with_room(alloc, jobs, jobs.saturating_mul(lanes))?;
+    let mut row = Row::new(alloc, lanes)?;
     for j in run.order() {
-        let row = before_row(alloc, run, &rows, *j)?;
+        make_before_row(run, &rows, *j, &mut row);
         rows.push(row.as_slice())?;
     }
     Ok(rows)

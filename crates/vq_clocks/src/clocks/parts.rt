@@ -142,7 +142,9 @@ fn place_row(
     ensures width { IfOk result (λ row. length row ≡ lanes run.now) }
 {
     let edges = edges_at(alloc, run.plan(), j, place)?;
-    row_through(alloc, run, rows, j, edges.as_slice())
+    let mut row = Row::new(alloc, run.lanes())?;
+    row_through(run, rows, j, edges.as_slice(), &mut row);
+    Ok(row)
 }
 
 /// The clocks of a job's parts.

@@ -32,6 +32,13 @@ impl Row {
         })
     }
 
+    /// Makes each number zero.
+    pub(crate) fn clear(&mut self)
+        ensures { self.new ≡ replicate (length self.old) 0 }
+    {
+        clear_all(self.numbers.as_mut_slice());
+    }
+
     /// The numbers, lane by lane.
     pub(crate) fn as_slice(&self) -> &[u32]
         ensures { result.now ≡ self.now }
@@ -47,6 +54,15 @@ impl Row {
     {
         raise_all(self.numbers.as_mut_slice(), from);
         raise(self.numbers.as_mut_slice(), lane, bound);
+    }
+}
+
+/// Makes each number of a row zero.
+fn clear_all(row: &mut [u32])
+    ensures { row.new ≡ replicate (length row.old) 0 }
+{
+    for l in 0..row.len() {
+        row[l] = 0;
     }
 }
 

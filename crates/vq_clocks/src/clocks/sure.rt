@@ -48,21 +48,21 @@ fn add_op(row: &mut Row, run: &CompleteRun, rows: &Rows, j: u32, op: u32)
     }
 }
 
-/// The row of operations that are sure for a job, from the rows of the jobs before it in the slow
-/// run.
-fn sure_row(alloc: Global, run: &CompleteRun, rows: &Rows, j: u32) -> Result<Row, AllocError>
-    requires { MakesSureClock run.now rows.now j }
-    ensures value { IfOk result (λ row. IsSureClock run.now j AtEnd (in_row row)) }
-    ensures width { IfOk result (λ row. length row ≡ lanes run.now) }
+/// Makes a row that of operations that are sure for a job, from the rows of the jobs before it in
+/// the slow run.
+fn make_sure_row(run: &CompleteRun, rows: &Rows, j: u32, row: &mut Row)
+    requires makes { MakesSureClock run.now rows.now j }
+    requires width { length row.old ≡ lanes run.now }
+    ensures value { IsSureClock run.now j AtEnd (in_row row.new) }
+    ensures width { length row.new ≡ lanes run.now }
 {
-    let mut row = Row::new(alloc, run.lanes())?;
+    row.clear();
     for first in run.plan().must_finish(j) {
-        add_job(&mut row, run, rows, j, *first);
+        add_job(row, run, rows, j, *first);
     }
     for op in run.plan().awaited(j) {
-        add_op(&mut row, run, rows, j, *op);
+        add_op(row, run, rows, j, *op);
     }
-    Ok(row)
 }
 
 /// The rows of sure operations of all jobs, in the order of the slow run.
@@ -71,8 +71,9 @@ pub(crate) fn sure_rows(alloc: Global, run: &CompleteRun) -> Result<Rows, AllocE
 {
     let (jobs, lanes) = (run.order().len(), run.lanes());
     let mut rows = Rows::with_room(alloc, jobs, jobs.saturating_mul(lanes))?;
+    let mut row = Row::new(alloc, lanes)?;
     for j in run.order() {
-        let row = sure_row(alloc, run, &rows, *j)?;
+        make_sure_row(run, &rows, *j, &mut row);
         rows.push(row.as_slice())?;
     }
     Ok(rows)

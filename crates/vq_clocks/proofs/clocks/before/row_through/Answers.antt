@@ -3,7 +3,7 @@ use Rattle.std.proofs.Math.Seq.{take-suc}
 use Rattle.std.proofs.lemmas.Bool.{false≢true}
 use Rattle.std.proofs.lemmas.List.{take_all, length-replicate}
 use Rattle.vq_model.specs.Lanes.{lane_at}
-use Rattle.vq_clocks.specs.VectorClocks.{Covers, itself, PassesOne, in_row}
+use Rattle.vq_clocks.specs.VectorClocks.{Covers, itself, lanes, PassesOne, in_row}
 use Rattle.vq_clocks.proofs.RowLaws.{zeros_cover}
 use Rattle.vq_spec.proofs.Cited.{has_at}
 use Rattle.vq_clocks.proofs.clocks.before.row_through.Goals as goal
@@ -11,9 +11,9 @@ use Rattle.vq_clocks.proofs.clocks.before.row_through.Goals as goal
 pub loop-edge-init : goal.loop-edge-init
 loop-edge-init c =
     let p = c.args.run.now in
-    let zeros = c.in_ok-row.ensures in (
-      subst (λ (r : List ℕ). Covers (lane_at p) itself (in_row r) (PassesOne p c.args.j [])) (sym zeros) (zeros_cover (lane_at p) itself (PassesOne p c.args.j []) (λ x q. false≢true q.listed) c.lanes.result),
-      ap length zeros ∙ (length-replicate c.lanes.result 0 ∙ c.lanes.ensures),
+    let zeros = c.requires.zeros in (
+      subst (λ (r : List ℕ). Covers (lane_at p) itself (in_row r) (PassesOne p c.args.j [])) (sym zeros) (zeros_cover (lane_at p) itself (PassesOne p c.args.j []) (λ x q. false≢true q.listed) (lanes p)),
+      ap length zeros ∙ length-replicate (lanes p) 0,
     )
 
 pub loop-edge-preserved : goal.loop-edge-preserved

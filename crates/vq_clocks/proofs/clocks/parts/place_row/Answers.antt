@@ -1,10 +1,9 @@
 use Rattle.std.proofs.Common.{◌≡◌, List, ℕ, true, ap, ◌∙◌, subst}
-use Rattle.std.proofs.lemmas.Result.{IfOk-weaker}
 use Rattle.vq_plan_laws.proofs.Cited.{plan_lanes}
 use Rattle.vq_model.specs.Edges.{At, edges_at}
 use Rattle.vq_model.specs.Lanes.{lane_at}
 use Rattle.vq_model.specs.Plan.{Plan, has}
-use Rattle.vq_clocks.specs.VectorClocks.{Covers, IsClock, itself, PassesOne, in_row}
+use Rattle.vq_clocks.specs.VectorClocks.{Covers, itself, PassesOne, in_row}
 use Rattle.vq_clocks.proofs.ClockLaws.{clock_end}
 use Rattle.vq_clocks.proofs.RowLaws.{edge_exists}
 use Rattle.vq_clocks.proofs.clocks.parts.place_row.Goals as goal
@@ -19,5 +18,5 @@ pub returns-clause-value : goal.returns-clause-value
 returns-clause-value c =
     let p = c.args.run.now in
     let are : c.as_slice.result.now ≡ edges_at p c.args.j (At c.args.place) = c.as_slice.ensures.value ∙ (c.in_ok-edges.ensures ∙ ap (λ (q : Plan). edges_at q c.args.j (At c.args.place)) c.plan.ensures.value) in
-    IfOk-weaker c.row_through.result (λ row. Covers (lane_at p) itself (in_row row) (PassesOne p c.args.j c.as_slice.result.now)) (λ row. IsClock p c.args.j (At c.args.place) (in_row row))
-    (λ row k. clock_end p c.args.j (At c.args.place) (in_row row) (subst (λ (es : List ℕ). Covers (lane_at p) itself (in_row row) (PassesOne p c.args.j es)) are k)) c.row_through.ensures.value
+    let row = c.row_through.new.row in
+    clock_end p c.args.j (At c.args.place) (in_row row) (subst (λ (es : List ℕ). Covers (lane_at p) itself (in_row row) (PassesOne p c.args.j es)) are c.row_through.ensures.value)

@@ -10,14 +10,14 @@ use Rattle.vq_clocks.specs.VectorClocks.{Covers, SureByJob, IsSureBy, in_row}
 use Rattle.vq_clocks.proofs.ClockLaws.{sure_end}
 use Rattle.vq_spec.proofs.Cited.{has_at}
 use Rattle.vq_clocks.proofs.RowLaws.{zeros_cover, sure_middle}
-use Rattle.vq_clocks.proofs.clocks.sure.sure_row.Goals as goal
+use Rattle.vq_clocks.proofs.clocks.sure.make_sure_row.Goals as goal
 
 pub loop-first-init : goal.loop-first-init
 loop-first-init c =
     let p = c.args.run.now in
-    let zeros = c.in_ok-row.ensures in (
-      subst (λ (r : List ℕ). Covers (lane_at p) (job_of p) (in_row r) (SureByJob p [])) (sym zeros) (zeros_cover (lane_at p) (job_of p) (SureByJob p []) (λ x q. false≢true q.listed) c.lanes.result),
-      ap length zeros ∙ (length-replicate c.lanes.result 0 ∙ c.lanes.ensures),
+    let zeros = c.clear.ensures in (
+      subst (λ (r : List ℕ). Covers (lane_at p) (job_of p) (in_row r) (SureByJob p [])) (sym zeros) (zeros_cover (lane_at p) (job_of p) (SureByJob p []) (λ x q. false≢true q.listed) (length c.args.row.now)),
+      ap length zeros ∙ (length-replicate (length c.args.row.now) 0 ∙ c.requires.width),
     )
 
 pub loop-first-preserved : goal.loop-first-preserved
@@ -54,7 +54,7 @@ pub add_op-requires-clause-exists : goal.add_op-requires-clause-exists
 add_op-requires-clause-exists c =
     let items = c.awaited-op-items.result.now in
     let e = get_or items c.loop-op.op-index 0 in
-    (plan_lanes c.args.run.now c.requires.complete.plan).awaited_exists c.args.j e (subst (λ (es : List ℕ). has es e ≡ true) (c.awaited-op-items.ensures ∙ ap (λ (q : Plan). awaited_at q c.args.j AtEnd) c.plan-2.ensures.value) (has_at items c.loop-op.op-index c.loop-op-test.true))
+    (plan_lanes c.args.run.now c.requires.makes.complete.plan).awaited_exists c.args.j e (subst (λ (es : List ℕ). has es e ≡ true) (c.awaited-op-items.ensures ∙ ap (λ (q : Plan). awaited_at q c.args.j AtEnd) c.plan-2.ensures.value) (has_at items c.loop-op.op-index c.loop-op-test.true))
 
 pub returns-clause-value : goal.returns-clause-value
 returns-clause-value c =
@@ -62,4 +62,4 @@ returns-clause-value c =
     let items = c.awaited-op-items.result.now in
     let row = c.loop-op.row in
     let all : take c.loop-op.op-index items ≡ awaited_at p c.args.j AtEnd = take_all c.loop-op.op-index items c.loop-op-test.false ∙ (c.awaited-op-items.ensures ∙ ap (λ (q : Plan). awaited_at q c.args.j AtEnd) c.plan-2.ensures.value) in
-    sure_end p (plan_lanes p c.requires.complete.plan) c.requires.complete.reachable c.args.j AtEnd (in_row row) c.requires.exists (subst (λ (es : List ℕ). Covers (lane_at p) (job_of p) (in_row row) (IsSureBy p c.args.j (must_finish p c.args.j) es)) all c.loop-op.invariant.0)
+    sure_end p (plan_lanes p c.requires.makes.complete.plan) c.requires.makes.complete.reachable c.args.j AtEnd (in_row row) c.requires.makes.exists (subst (λ (es : List ℕ). Covers (lane_at p) (job_of p) (in_row row) (IsSureBy p c.args.j (must_finish p c.args.j) es)) all c.loop-op.invariant.0)

@@ -3,7 +3,7 @@ use Rattle.vq_model.specs.Plan.{job_of}
 use Rattle.vq_model.specs.Edges.{must_finish}
 use Rattle.vq_model.specs.Lanes.{lane_at}
 use Rattle.vq_clocks.specs.VectorClocks.{Covers, lanes, SureByJob, IsSureBy, in_row}
-use Rattle.vq_clocks.proofs.clocks.sure.sure_row.Given as goal
+use Rattle.vq_clocks.proofs.clocks.sure.make_sure_row.Given as goal
 
 abbrev pub invariant-loop-first : goal.invariant-loop-first
 invariant-loop-first l =
