@@ -66,6 +66,7 @@ pub(crate) struct Known {
 
 /// Whether a command comes before the one that goes through cells, or is that one. The clocks are
 /// asked only where it isn't the known one or an earlier one of its job.
+#[inline(always)]
 fn is_before(order: &Clocked, a: Visitor, by: Visitor, known: &mut Visitor) -> bool
     requires plan { IsPlan order.now }
     requires first { IsOfJob order.now a }
@@ -77,6 +78,19 @@ fn is_before(order: &Clocked, a: Visitor, by: Visitor, known: &mut Visitor) -> b
     if is_earlier(a, *known) {
         return true;
     }
+    is_found_before(order, a, by, known)
+}
+
+/// Whether the clocks say that a command comes before the one that goes through cells. From there on
+/// it is the known one.
+#[inline(never)]
+fn is_found_before(order: &Clocked, a: Visitor, by: Visitor, known: &mut Visitor) -> bool
+    requires first { IsOfJob order.now a }
+    requires second { IsOfJob order.now by }
+    requires known { IsKnown order.now known.old by }
+    ensures before { IsTrue result → AtOrBefore order.now a by }
+    ensures known { IsKnown order.now known.new by }
+{
     if !is_at_or_before(order, a, by) {
         return false;
     }
@@ -209,6 +223,7 @@ impl Cell {
     }
 
     /// The readers with one more, without those that come before it.
+    #[inline(never)]
     fn with_reader(
         &self,
         alloc: Global,

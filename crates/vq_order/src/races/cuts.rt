@@ -56,13 +56,30 @@ fn cuts_below(cuts: &[u64], place: u64) -> usize
     cuts.partition_point(|cut| *cut < place)
 }
 
+/// The first cut from one of them on that isn't below a place. Most ranges have few cells, so the
+/// cuts are gone through one by one.
+fn end_from(cuts: &[u64], first: usize, place: u64) -> usize
+    requires { IsNonDecreasing cuts.now }
+    ensures within { result ≤ length cuts.now }
+    ensures above { (k : ℕ) → result ≤ k → k < length cuts.now →
+        place ≤ slice_index_or cuts.now k 0 }
+{
+    for end in first..cuts.len() {
+        if place <= cuts[end] {
+            return end;
+        }
+    }
+    cuts.len()
+}
+
 /// The cells of a range.
 pub(crate) fn reach_of(cuts: &[u64], span: Span) -> Reach
     requires { IsNonDecreasing cuts.now }
     ensures { IsReach cuts.now span result }
 {
+    let first = cuts_below(cuts, on_axis(span.buffer, span.start));
     Reach {
-        first: cuts_below(cuts, on_axis(span.buffer, span.start)),
-        end: cuts_below(cuts, on_axis(span.buffer, span.end)),
+        first,
+        end: end_from(cuts, first, on_axis(span.buffer, span.end)),
     }
 }
