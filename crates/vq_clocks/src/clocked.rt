@@ -9,6 +9,7 @@ ghost use Rattle.vq_model.specs.Plan.{chain, commands_of, has, initial};
 ghost use Rattle.vq_model.specs.Signals.{kind_of};
 ghost use Rattle.vq_model.specs.SlowRun.{slow_order};
 ghost use Rattle.vq_model.specs.Sure.{IsSure};
+ghost use Rattle.vq_clocks.specs.PartClocks.{AreParts};
 ghost use Rattle.vq_clocks.specs.VectorClocks.{IsComplete, IsOfSomeJob};
 
 use crate::clocks::before::before_rows;
@@ -118,9 +119,20 @@ impl Clocked {
         requires second { has (commands_of self.now j) d ≡ true }
         ensures { IsTrue result ↔ HappensBeforeCommand self.now i j d }
     {
-        let Some(parts) = self.parts.get(j as usize) else {
-            return self.before(i, j);
-        };
+        match self.parts.get(j as usize) {
+            Some(parts) => self.before_place(parts, i, j, d),
+            None => self.before(i, j),
+        }
+    }
+
+    /// Whether the commands of one job happen before a command of another, which has these parts.
+    #[inline(never)]
+    fn before_place(&self, parts: &Parts, i: u32, j: u32, d: u32) -> bool
+        requires parts { AreParts self.now j parts.now }
+        requires first { i < length self.now.jobs }
+        requires second { has (commands_of self.now j) d ≡ true }
+        ensures { IsTrue result ↔ HappensBeforeCommand self.now i j d }
+    {
         let part = ends_before(parts.ends.as_slice(), self.ahead(j, d));
         if part == parts.ends.len() {
             return self.before(i, j);

@@ -17,8 +17,8 @@ use Rattle.vq_order_laws.proofs.Cited.{before_end}
 itself_earlier : {p : Plan} (d j : Visitor) → d ≡ j → AtOrBefore p j d
 itself_earlier {p} d j e = inl (sym (ap (λ (v : Visitor). v.job) e), let s = ap (λ (v : Visitor). v.command) e in omega arith)
 
-pub itself_known : (p : Plan) (a : Visitor) → IsOfJob p a → IsKnown p a a
-itself_known p a own = record { own = own; comes = itself_earlier a a refl }
+pub itself_known : (p : Plan) (a : Visitor) → IsKnown p a a
+itself_known p a = record { comes = λ b e. inl e }
 
 module _ (p : Plan) (plan : IsPlan p) where
   pub then_before : (h i j : Visitor) → IsOfJob p i → AtOrBefore p h i → AtOrBefore p i j → AtOrBefore p h j

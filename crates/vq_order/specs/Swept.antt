@@ -84,11 +84,10 @@ pub record MayTouch (p : Plan) (cell : Cell) (by : Visitor) : Type 0 where
   pub kept : HasCommands p cell
   pub own : IsOfJob p by
 
--- A command of the plan is known to be another one or an earlier one of its job, or to happen before
--- it.
+-- The commands of a job up to one of them are known: each is the command that goes through cells, an
+-- earlier one of its job, or happens before it.
 pub record IsKnown (p : Plan) (known by : Visitor) : Type 0 where
-  pub own : IsOfJob p known
-  pub comes : AtOrBefore p known by
+  pub comes : (a : Visitor) → IsEarlier a known → AtOrBefore p a by
 
 -- both commands that are remembered are known so
 abbrev pub AreKnown : Plan → Known → Visitor → Type 0

@@ -1,6 +1,5 @@
 //! Cells: bytes that each command covers whole or not at all.
 ghost use Rattle.std.specs.Prelude.{◌≡◌, ◌↔◌, true, false, IsTrue, None, [], IfOk, OnOk};
-ghost use Rattle.vq_model.specs.LoweringFaults.{IsPlan};
 ghost use Rattle.vq_order.specs.Swept.{is_write, AtOrBefore, IsEarlier, IsOfJob, MayTouch, Touches};
 ghost use Rattle.vq_order.specs.Swept.{AreKnown, IsAfterSome, IsAfterAll, IsKnown, KeepsLater};
 
@@ -56,8 +55,9 @@ fn is_earlier(a: Visitor, b: Visitor) -> bool
     a.job == b.job && a.command <= b.command
 }
 
-/// While a command goes through cells: the last writer and the last reader that were found to come
-/// before it, at first the command itself. Neighbouring cells were mostly touched by the same ones.
+/// While a command goes through cells: up to which command of its job the last writer that was asked
+/// about comes before it, and so for the last reader; at first the command itself. Neighbouring cells
+/// were mostly touched by the same jobs.
 #[derive(Clone, Copy)]
 pub(crate) struct Known {
     pub(crate) writer: Visitor,
@@ -65,10 +65,9 @@ pub(crate) struct Known {
 }
 
 /// Whether a command comes before the one that goes through cells, or is that one. The clocks are
-/// asked only where it isn't the known one or an earlier one of its job.
+/// asked only where it isn't known.
 #[inline(always)]
 fn is_before(order: &Clocked, a: Visitor, by: Visitor, known: &mut Visitor) -> bool
-    requires plan { IsPlan order.now }
     requires first { IsOfJob order.now a }
     requires second { IsOfJob order.now by }
     requires known { IsKnown order.now known.old by }
@@ -81,8 +80,8 @@ fn is_before(order: &Clocked, a: Visitor, by: Visitor, known: &mut Visitor) -> b
     is_found_before(order, a, by, known)
 }
 
-/// Whether the clocks say that a command comes before the one that goes through cells. From there on
-/// it is the known one.
+/// Whether a command that isn't known comes before the one that goes through cells, or is that one.
+/// The clocks say it of all commands of a job at once, so all of them are known from there on.
 #[inline(never)]
 fn is_found_before(order: &Clocked, a: Visitor, by: Visitor, known: &mut Visitor) -> bool
     requires first { IsOfJob order.now a }
@@ -91,10 +90,17 @@ fn is_found_before(order: &Clocked, a: Visitor, by: Visitor, known: &mut Visitor
     ensures before { IsTrue result → AtOrBefore order.now a by }
     ensures known { IsKnown order.now known.new by }
 {
-    if !is_at_or_before(order, a, by) {
+    if is_earlier(a, by) {
+        *known = by;
+        return true;
+    }
+    if !order.before_command(a.job, by.job, by.command) {
         return false;
     }
-    *known = a;
+    *known = Visitor {
+        job: a.job,
+        command: u32::MAX,
+    };
     true
 }
 

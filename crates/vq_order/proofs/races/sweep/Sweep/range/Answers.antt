@@ -10,7 +10,7 @@ pub loop-k-init : goal.loop-k-init
 loop-k-init c =
     let p = c.args.self.now.order.now in
     let first = c.reach_of-first.result.first in
-    let known = itself_known p c.args.by c.requires.own in (
+    let known = itself_known p c.args.by in (
       sweeps_none p c.args.cells.now (TouchesEach first first c.args.by (is_write c.args.touch)) c.requires.fits.kept (λ k j w t. let a = t.from in let b = t.below in omega arith),
       (known, known),
     )
