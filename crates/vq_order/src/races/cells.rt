@@ -174,8 +174,7 @@ impl Cell {
     {
         // Most often all of them go, and their room is there.
         if !self.follows_readers(order, by, known) {
-            self.readers = self.with_reader(alloc, order, by)?;
-            return Ok(());
+            return self.keep_later(alloc, order, by);
         }
         self.readers.clear();
         self.readers.push(by)?;
@@ -228,8 +227,19 @@ impl Cell {
         true
     }
 
-    /// The readers with one more, without those that come before it.
+    /// Keeps one reader more, beside those that don't come before it.
     #[inline(never)]
+    fn keep_later(&mut self, alloc: Global, order: &Clocked, by: Visitor) -> Result<(), AllocError>
+        requires may { MayTouch order.now self.old by }
+        ensures kept { OnOk result
+            (KeepsLater order.now self.old.readers.items by self.new.readers.items) }
+        ensures writer { OnOk result (self.new.writer ≡ self.old.writer) }
+    {
+        self.readers = self.with_reader(alloc, order, by)?;
+        Ok(())
+    }
+
+    /// The readers with one more, without those that come before it.
     fn with_reader(
         &self,
         alloc: Global,
