@@ -1,9 +1,11 @@
 -- Cells. A cell begins at each place where the range of a command begins, so two ranges that have a
 -- byte in common have a cell in common.
-use Rattle.std.specs.Prelude.{ℕ, ◌≡◌, ◌<◌, ◌≤◌, ◌+◌, ◌*◌, List, ◌∷◌, length, map, Some}
-use Rattle.std.specs.List.{slice_get, slice_index_or, Contains}
+use Rattle.std.specs.Prelude.{ℕ, ◌≡◌, ◌<◌, ◌≤◌, ◌+◌, ◌*◌, ◌==◌, ◌&&◌, ◌++◌, nat_lt, Bool, true, List, [], ◌∷◌}
+use Rattle.std.specs.Prelude.{length, if◌then◌else◌, Some}
+use Rattle.std.specs.List.{flat_map, slice_get, slice_index_or, Contains}
 use Rattle.std.specs.List.Sorted.{IsNonDecreasing}
 use Rattle.std.specs.Option.{option_to_list}
+use Rattle.vq_model.specs.Plan.{has}
 use Rattle.vq_order.specs.declared.races.accesses.MemoryAccess.{MemoryAccess}
 use Rattle.vq_order.specs.declared.races.cuts.Reach.{Reach}
 use Rattle.vq_order.specs.declared.races.accesses.Span.{Span}
@@ -16,9 +18,22 @@ axis buffer offset = buffer * 4294967296 + offset
 abbrev pub start_of : Span → ℕ
 start_of s = axis s.buffer s.start
 
--- where the ranges of a command begin
-abbrev pub starts_of : MemoryAccess → List ℕ
-starts_of a = start_of a.written ∷ map start_of (option_to_list a.read)
+-- a range begins where one of the first buffers does
+abbrev pub begins_first : Span → ℕ → Bool
+begins_first s buffers = (s.start == 0) && nat_lt s.buffer buffers
+
+-- where a range begins, unless one of the first buffers does there
+abbrev pub later_start : ℕ → Span → List ℕ
+later_start buffers s = if begins_first s buffers then [] else start_of s ∷ []
+
+-- where the ranges of a command begin, except where one of the first buffers does
+abbrev pub later_starts : ℕ → MemoryAccess → List ℕ
+later_starts buffers a =
+    later_start buffers a.written ++ flat_map (later_start buffers) (option_to_list a.read)
+
+-- the first buffers begin at some of these places
+pub record HasBuffers (buffers : ℕ) (places : List ℕ) : Type 0 where
+  pub each : (b : ℕ) → b < buffers → has places (axis b 0) ≡ true
 
 -- Where all ranges begin, in order.
 pub record AreCuts (accesses : List MemoryAccess) (cuts : List ℕ) : Type 0 where

@@ -163,6 +163,17 @@ fn count_clean(
     Ok(low)
 }
 
+/// How many buffers there are, or only as many as commands.
+fn first_buffers(order: &Clocked) -> u32 {
+    let buffers = order.plan().script().buffers.as_slice().len();
+    let commands = order.plan().commands();
+    if buffers < commands as usize {
+        buffers as u32
+    } else {
+        commands
+    }
+}
+
 /// The least pair of lines of commands that race, by the second line and then by the first, or
 /// none. Commands are gone through cell by cell. Where that finds a race, the second command is
 /// looked for by halves, and compared with each one before it. Where there are too many cells, each
@@ -172,7 +183,7 @@ pub(crate) fn first_race(alloc: Global, order: &Clocked) -> Result<Option<Lines>
 {
     let accesses = all_accesses(alloc, order)?;
     let accesses = accesses.as_slice();
-    let cuts = make_cuts(alloc, accesses)?;
+    let cuts = make_cuts(alloc, accesses, first_buffers(order))?;
     let cuts = cuts.as_slice();
     match go_through(alloc, order, cuts, accesses) {
         Ok(()) => Ok(None),

@@ -2,7 +2,7 @@
 ghost use Rattle.std.specs.Prelude.{◌≡◌, ◌<◌, ◌≤◌, ◌++◌, ℕ, length, OnOk, IfOk};
 ghost use Rattle.std.specs.List.{slice_index_or};
 ghost use Rattle.std.specs.List.Sorted.{IsNonDecreasing};
-ghost use Rattle.vq_order.specs.CellRanges.{axis, starts_of, AreCuts, IsReach};
+ghost use Rattle.vq_order.specs.CellRanges.{axis, begins_first, later_start, later_starts, AreCuts, HasBuffers, IsReach};
 
 use crate::races::accesses::{MemoryAccess, Span};
 use std::alloc::{AllocError, Global};
@@ -21,24 +21,58 @@ fn on_axis(buffer: u32, offset: u32) -> u64
     u64::from(buffer) * 4294967296 + u64::from(offset)
 }
 
-/// Adds where the ranges of a command begin.
-fn push_starts(cuts: &mut Vec<u64>, access: &MemoryAccess) -> Result<(), AllocError>
-    ensures { OnOk result (cuts.new.items ≡ cuts.old.items ++ starts_of access.now) }
+/// Whether a range begins where one of the first buffers does.
+fn begins_first(span: Span, buffers: u32) -> bool
+    ensures { result ≡ begins_first span buffers }
 {
-    cuts.push(on_axis(access.written.buffer, access.written.start))?;
+    span.start == 0 && span.buffer < buffers
+}
+
+/// Adds where a range begins, unless one of the first buffers does there.
+fn push_start(cuts: &mut Vec<u64>, span: Span, buffers: u32) -> Result<(), AllocError>
+    ensures { OnOk result (cuts.new.items ≡ cuts.old.items ++ later_start buffers span) }
+{
+    if begins_first(span, buffers) {
+        return Ok(());
+    }
+    cuts.push(on_axis(span.buffer, span.start))?;
+    Ok(())
+}
+
+/// Adds where the ranges of a command begin, except where one of the first buffers does.
+fn push_starts(cuts: &mut Vec<u64>, access: &MemoryAccess, buffers: u32) -> Result<(), AllocError>
+    ensures { OnOk result (cuts.new.items ≡ cuts.old.items ++ later_starts buffers access.now) }
+{
+    push_start(cuts, access.written, buffers)?;
     if let Some(read) = access.read {
-        cuts.push(on_axis(read.buffer, read.start))?;
+        push_start(cuts, read, buffers)?;
     }
     Ok(())
 }
 
-/// Where the ranges of all commands begin, each place once, in order.
-pub(crate) fn make_cuts(alloc: Global, accesses: &[MemoryAccess]) -> Result<Vec<u64>, AllocError>
+/// Where the first buffers begin.
+fn buffer_starts(alloc: Global, buffers: u32) -> Result<Vec<u64>, AllocError>
+    ensures { IfOk result (λ starts. HasBuffers buffers starts.items) }
+{
+    let mut starts = Vec::with_capacity(alloc, buffers as usize)?;
+    for buffer in 0..buffers {
+        starts.push(on_axis(buffer, 0))?;
+    }
+    Ok(starts)
+}
+
+/// Where the ranges of all commands begin, each place once, in order. Many ranges begin where their
+/// buffer does: so many of the first buffers are cut there beforehand.
+pub(crate) fn make_cuts(
+    alloc: Global,
+    accesses: &[MemoryAccess],
+    buffers: u32,
+) -> Result<Vec<u64>, AllocError>
     ensures { IfOk result (λ cuts. AreCuts accesses.now cuts.items) }
 {
-    let mut cuts = Vec::new(alloc);
+    let mut cuts = buffer_starts(alloc, buffers)?;
     for access in accesses {
-        push_starts(&mut cuts, access)?;
+        push_starts(&mut cuts, access, buffers)?;
     }
     cuts.sort_unstable();
     cuts.dedup();
