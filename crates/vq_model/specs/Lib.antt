@@ -1,3 +1,4 @@
+pub mod KeptIndices
 pub mod Text
 pub mod Ranges
 pub mod Forms

@@ -2,6 +2,7 @@
 #![tactic(auto)]
 
 pub mod hexadecimal;
+pub mod indices;
 pub mod limits;
 pub mod list;
 pub mod plan;

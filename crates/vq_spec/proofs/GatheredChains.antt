@@ -1,5 +1,5 @@
 -- Lists of lists of pairs, as operations are gathered and sorted.
-use Rattle.std.proofs.Common.{◌≡◌, ◌≢◌, ℕ, ◌+◌, ◌<◌, ◌≤◌, cond, ltb, List, [], ◌∷◌, ◌++◌, length, get_or, map, take, Some, None, option_map, refl, sym, ap, ◌∙◌, ◌⊎◌, inl, inr, subst, arith, zero-add}
+use Rattle.std.proofs.Common.{◌≡◌, ◌≢◌, ℕ, ◌+◌, ◌<◌, ◌≤◌, cond, ltb, List, [], ◌∷◌, ◌++◌, length, get_or, map, take, drop, Some, None, option_map, refl, sym, ap, ◌∙◌, ◌⊎◌, inl, inr, subst, arith, zero-add}
 use Rattle.std.proofs.Math.ListN.{set}
 use Rattle.std.specs.List.{slice_get, filter_map, cons_option, enumerate_from, range_with_len, prefix_len}
 use Rattle.std.proofs.lemmas.Bool.{cases_lt, eq-eqb, ne_eqb}
@@ -38,6 +38,16 @@ module _ {V : Type 0} (items : V → List (ℕ × ℕ)) where
       map items lists ≡ map (members ops) (range_with_len 0 n) → length lists ≡ n
   lists_length ops lists n h = sym (length-map lists items)
       ∙ (ap length h ∙ length-map-range_with_len (members ops) 0 n)
+
+  -- the lists from a chain on: the first of them, and those behind it
+  pub lists_left : (ops : List Op) (lists rest : List V) (v : V) (n : ℕ) → lists ≡ v ∷ rest →
+      map items lists ≡ map (members ops) (range_with_len n (length lists)) →
+      (items v ≡ members ops n) × (map items rest ≡ map (members ops) (range_with_len (n + 1) (length rest)))
+  lists_left ops lists rest v n is h =
+      let both : items v ∷ map items rest
+      ≡ members ops n ∷ map (members ops) (range_with_len (n + 1) (length rest)) =
+      sym (ap (map items) is) ∙ (h ∙ ap (λ (xs : List V). map (members ops) (range_with_len n (length xs))) is) in
+      (ap (λ xs. get_or xs 0 []) both, ap (drop 1) both)
 
   pub list_at : (ops : List Op) (lists : List V) (n t : ℕ) (v : V) →
       map items lists ≡ map (members ops) (range_with_len 0 n) → t < length lists →

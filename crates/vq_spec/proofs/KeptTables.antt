@@ -4,7 +4,7 @@ use Rattle.std.specs.List.{enumerate_from, range_with_len, flat_map}
 use Rattle.std.proofs.lemmas.List.{length-map}
 use Rattle.std.proofs.lemmas.List.FromFn.{length-map-range_with_len, get_or-map-range_with_len}
 use Rattle.vq_model.specs.declared.script.Script.{Script}
-use Rattle.vq_model.specs.Edges.{AtEnd, awaited_at, edges_to, must_finish}
+use Rattle.vq_model.specs.Edges.{AtEnd, awaited_at, edges_to}
 use Rattle.vq_model.specs.Lowering.{plan_of, plan_job}
 use Rattle.vq_model.specs.LoweringFaults.{lowering_fault, IsPlan}
 use Rattle.vq_model.specs.Plan.{Plan}
@@ -107,17 +107,11 @@ module _ (s : Script) (t : Tables) (k : KeepsPlan s t) (p : Plan) (is : plan_of 
   read f rows all = ap (λ xs. get_or xs j []) all
       ∙ get_or-map-range_with_len f 0 (length s.jobs) j j [] inside (zero-add j)
 
-  pub firsts_within : j < length t.waits.firsts
-  firsts_within = within (must_finish (plan_of s)) t.waits.firsts k.waits.firsts
-
   pub awaited_within : j < length t.waits.awaited
   awaited_within = within (λ i. awaited_at (plan_of s) i AtEnd) t.waits.awaited k.waits.awaited
 
   pub edges_within : j < length t.waits.edges
   edges_within = within (edges_to (plan_of s)) t.waits.edges k.waits.edges
-
-  pub firsts_read : get_or t.waits.firsts j [] ≡ must_finish p j
-  firsts_read = read (must_finish (plan_of s)) t.waits.firsts k.waits.firsts ∙ ap (λ x. must_finish x j) is
 
   pub awaited_read : get_or t.waits.awaited j [] ≡ awaited_at p j AtEnd
   awaited_read = read (λ i. awaited_at (plan_of s) i AtEnd) t.waits.awaited k.waits.awaited

@@ -2,12 +2,14 @@ pub mod Cited
 mod GatheredChains
 mod KeptTables
 mod Initials
+mod EdgeParts
 mod FenceStates
 mod HostJobs
 mod Lowered
 mod ChainOrder
 mod Commands
 mod LoweredJobs
+mod PlacedOps
 mod PlanChains
 mod PlanEdges
 mod Ranges

@@ -16,7 +16,7 @@ use Rattle.vq_model.specs.declared.script.Job.TheVariants.{Host, Batch as BatchJ
 use Rattle.vq_model.specs.declared.plan.Need.{Need}
 use Rattle.vq_model.specs.declared.plan.PlanJob.{PlanJob}
 use Rattle.vq_model.specs.Lowering.{plan_of, plan_job, of_pair, of_wait, step_needs}
-use Rattle.vq_model.specs.Edges.{AtEnd, awaited_at, edges_to, must_finish}
+use Rattle.vq_model.specs.Edges.{AtEnd, awaited_at, edges_to}
 use Rattle.vq_model.specs.Context.{is_fence, is_timeline}
 use Rattle.vq_model.specs.Plan.{Plan, has, value, chain, chain_of, resolver, initial, job_of}
 use Rattle.vq_model.specs.SameScript.{IsRead}
@@ -152,9 +152,6 @@ module _ (p : Plan) (j : ℕ) (job : PlanJob) (at : slice_get p.jobs j ≡ Some 
   awaited o = cond (option_map_or (λ (x : PlanJob). x.any) o false) []
       (resolving p (option_map_or (λ (x : PlanJob). x.needs) o []))
 
-  firsts_are : must_finish p j ≡ finished_before job
-  firsts_are = ap firsts at
-
   awaited_are : awaited_at p j AtEnd ≡ awaited_by p job
   awaited_are = ap awaited at
 
@@ -208,15 +205,14 @@ module _ (s : Script) (i : IsRead s) (j : ℕ) (job : PlanJob)
   row_more f now new own row h e is a =
       a ∙ ((λ t. h t ++ (e ∙ sym is) t ∷ []) ∙ sym (map-range_with_len_more {X = List ℕ} f 0 j j (zero-add j)))
 
-  pub waits_push : (now new : Waits) (f a e : List ℕ) → AreWaits (plan_of s) j now →
-      f ≡ finished_before job → a ≡ awaited_by (plan_of s) job →
+  pub waits_push : (now new : Waits) (a e : List ℕ) → AreWaits (plan_of s) j now →
+      a ≡ awaited_by (plan_of s) job →
       e ≡ finished_before job ++ filter_map (job_of (plan_of s)) (awaited_by (plan_of s) job) →
-      new.firsts ≡ now.firsts ++ f ∷ [] → new.awaited ≡ now.awaited ++ a ∷ [] →
+      new.awaited ≡ now.awaited ++ a ∷ [] →
       new.edges ≡ now.edges ++ e ∷ [] → AreWaits (plan_of s) (j + 1) new
-  waits_push now new f a e h own_firsts own_awaited own_edges firsts awaited edges =
+  waits_push now new a e h own_awaited own_edges awaited edges =
       let p = plan_of s in
       record {
-        firsts = row_more (must_finish p) now.firsts new.firsts _ _ h.firsts own_firsts (firsts_are p j job at) firsts;
         awaited = row_more (λ k. awaited_at p k AtEnd) now.awaited new.awaited _ _ h.awaited own_awaited
             (awaited_are p j job at) awaited;
         edges = row_more (edges_to p) now.edges new.edges _ _ h.edges own_edges (edges_are p j job at) edges;

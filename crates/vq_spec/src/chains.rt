@@ -65,10 +65,10 @@ fn ops_of(alloc: Global, pairs: &[(u64, u32)]) -> Result<Vec<u32>, AllocError>
 
 impl Chain {
     /// A chain of operations that stand behind their values.
-    fn of(alloc: Global, members: &[(u64, u32)]) -> Result<Chain, AllocError>
-        ensures { IfOk result (λ chain. Sorts members.now chain) }
+    fn of(alloc: Global, members: Vec<(u64, u32)>) -> Result<Chain, AllocError>
+        ensures { IfOk result (λ chain. Sorts members.items chain) }
     {
-        let mut pairs = Vec::from_slice(alloc, members)?;
+        let mut pairs = members;
         pairs.sort()?;
         let ops = List::of(ops_of(alloc, pairs.as_slice())?);
         Ok(Chain { ops, pairs })
@@ -139,8 +139,8 @@ pub(crate) fn lower_chains(
 {
     let lists = gather(alloc, ops, counts)?;
     let mut chains = Vec::with_capacity(alloc, counts.len())?;
-    for members in &lists {
-        chains.push(Chain::of(alloc, members.as_slice())?)?;
+    for members in lists {
+        chains.push(Chain::of(alloc, members)?)?;
     }
     Ok(chains)
 }
@@ -155,17 +155,14 @@ fn place_op(chains: &[Chain], e: u32, op: &Op) -> Op
     Op { index, ..*op }
 }
 
-/// The operations with their places in their chains.
-pub(crate) fn place_ops(alloc: Global, ops: &[Op], chains: &[Chain]) -> Result<Vec<Op>, AllocError>
-    requires few { length ops.now < 2 ^ 32 }
-    requires exist { All (λ o. o.chain < length chains.now) ops.now }
+/// Gives operations their places in their chains.
+pub(crate) fn place_ops(ops: &mut [Op], chains: &[Chain])
+    requires few { length ops.old < 2 ^ 32 }
+    requires exist { All (λ o. o.chain < length chains.now) ops.old }
     requires searchable { All IsSearchable chains.now }
-    ensures { IfOk result (λ placed_ops. placed_ops.items
-        ≡ map (placed chains.now) (enumerate_from 0 ops.now)) }
+    ensures { ops.new ≡ map (placed chains.now) (enumerate_from 0 ops.old) }
 {
-    let mut placed = Vec::with_capacity(alloc, ops.len())?;
-    for (e, op) in ops.iter().enumerate() {
-        placed.push(place_op(chains, e as u32, op))?;
+    for e in 0..ops.len() {
+        ops[e] = place_op(chains, e as u32, &ops[e]);
     }
-    Ok(placed)
 }

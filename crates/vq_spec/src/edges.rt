@@ -19,8 +19,6 @@ use vq_model::script::Script;
 /// What each job waits for, job by job.
 #[derive(Drop)]
 pub(crate) struct Waits {
-    /// The jobs that must be finished before it starts.
-    pub(crate) firsts: Rows,
     /// The signal operations that it waits for: those that resolve its needs.
     pub(crate) awaited: Rows,
     /// The jobs with an edge to it: those that must be finished, and then those of the operations.
@@ -142,7 +140,6 @@ impl JobWaits {
     ) -> Result<(), AllocError>
         requires parts { AreParts script.now ops.now chains.now }
         requires exist { All (λ n. n.chain < length script.now.semaphores) job.now.needs }
-        ensures firsts { OnOk result (self.new.firsts.items ≡ finished_before job.now) }
         ensures awaited { OnOk result (self.new.awaited.items ≡ awaited_by (plan_of script.now) job.now) }
         ensures edges { OnOk result (self.new.edges.items ≡ finished_before job.now
             ++ filter_map (job_of (plan_of script.now)) (awaited_by (plan_of script.now) job.now)) }
@@ -159,29 +156,34 @@ impl JobWaits {
 }
 
 impl Waits {
-    /// What no job waits for, with room for so many jobs.
-    fn new(alloc: Global, jobs: usize) -> Result<Waits, AllocError>
-        ensures firsts { IfOk result (λ waits. waits.firsts ≡ []) }
+    /// What no job waits for, with room for so many jobs and needs.
+    fn new(alloc: Global, jobs: usize, needs: usize) -> Result<Waits, AllocError>
         ensures awaited { IfOk result (λ waits. waits.awaited ≡ []) }
         ensures edges { IfOk result (λ waits. waits.edges ≡ []) }
     {
         Ok(Waits {
-            firsts: Rows::with_room(alloc, jobs, jobs)?,
-            awaited: Rows::with_room(alloc, jobs, jobs)?,
-            edges: Rows::with_room(alloc, jobs, jobs)?,
+            awaited: Rows::with_room(alloc, jobs, needs)?,
+            edges: Rows::with_room(alloc, jobs, needs.saturating_add(jobs.saturating_mul(2)))?,
         })
     }
 
     /// Adds what the next job waits for.
     fn push(&mut self, own: &JobWaits) -> Result<(), AllocError>
-        ensures firsts { OnOk result (self.new.firsts ≡ self.old.firsts ++ own.now.firsts.items ∷ []) }
         ensures awaited { OnOk result (self.new.awaited ≡ self.old.awaited ++ own.now.awaited.items ∷ []) }
         ensures edges { OnOk result (self.new.edges ≡ self.old.edges ++ own.now.edges.items ∷ []) }
     {
-        self.firsts.push(own.firsts.as_slice())?;
         self.awaited.push(own.awaited.as_slice())?;
         self.edges.push(own.edges.as_slice())
     }
+}
+
+/// How many needs the jobs have.
+fn count_needs(jobs: &[PlanJob]) -> usize {
+    let mut count: usize = 0;
+    for job in jobs {
+        count = count.saturating_add(job.needs.len());
+    }
+    count
 }
 
 /// What each job waits for.
@@ -196,7 +198,7 @@ pub(crate) fn lower_waits(
     requires jobs { jobs.now ≡ (plan_of script.now).jobs }
     ensures { IfOk result (λ waits. AreWaits (plan_of script.now) (length jobs.now) waits) }
 {
-    let mut waits = Waits::new(alloc, jobs.len())?;
+    let mut waits = Waits::new(alloc, jobs.len(), count_needs(jobs))?;
     let mut own = JobWaits::new(alloc);
     for job in jobs {
         own.take(script, ops, chains, job)?;

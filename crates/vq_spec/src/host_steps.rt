@@ -13,9 +13,9 @@ ghost use Rattle.vq_spec.specs.Fences.{AreFences, fence_need};
 
 use crate::edges::push_some;
 use crate::fences::FenceState;
-use crate::lowering::numbers;
 use crate::signals::Signals;
 use std::alloc::{AllocError, Global};
+use vq_model::indices::Indices;
 use vq_model::list::List;
 use vq_model::plan::{Lane, Need, PlanJob, Question};
 use vq_model::script::{HostLine, HostStep, Pair, Script};
@@ -161,7 +161,7 @@ pub(crate) fn step_job(
     last: &[Option<u32>],
     previous: Option<u32>,
     host: &HostLine,
-    signals: List<u32>,
+    signals: Indices,
 ) -> Result<PlanJob, AllocError>
     requires waited { (f : ℕ) → host.now.step ≡ FenceWait f → f < length states.now }
     requires polled { (f : ℕ) → host.now.step ≡ FencePoll f → f < length states.now }
@@ -182,7 +182,7 @@ pub(crate) fn step_job(
         needs,
         asked,
         idle_after,
-        commands: List::of(Vec::new(alloc)),
+        commands: Indices::none(),
         signals,
         question: question_of(&host.step),
     })
@@ -195,7 +195,7 @@ pub(crate) fn push_signals(
     script: &Script,
     j: u32,
     host: &HostLine,
-) -> Result<List<u32>, AllocError>
+) -> Result<Indices, AllocError>
     requires read { IsRead script.now }
     requires at { slice_get script.now.jobs j ≡ Some (Host host.now) }
     requires kept { AreSignals script.now signals.old }
@@ -207,5 +207,5 @@ pub(crate) fn push_signals(
 {
     let first = signals.ops.len() as u32;
     signals.push_step(script, j, host)?;
-    numbers(alloc, first, signals.ops.len() as u32 - first)
+    Indices::from(alloc, first, signals.ops.len() as u32 - first)
 }

@@ -15,6 +15,7 @@ use crate::host_steps::{push_signals, step_job};
 use crate::places::{CommandAt, lower_places};
 use crate::signals::{Signals, value_of};
 use std::alloc::{AllocError, Global};
+use vq_model::indices::Indices;
 use vq_model::list::List;
 use vq_model::plan::{Lane, Need, Op, PlanJob, Question};
 use vq_model::script::{Batch, HostLine, Job, Mark, Script};
@@ -65,18 +66,6 @@ fn none<T>(alloc: Global) -> List<T>
     List::of(Vec::new(alloc))
 }
 
-/// So many numbers, from `first` on.
-pub(crate) fn numbers(alloc: Global, first: u32, count: u32) -> Result<List<u32>, AllocError>
-    requires { first + count < 2 ^ 32 }
-    ensures { IfOk result (λ numbers. numbers ≡ range_with_len first count) }
-{
-    let mut numbers = Vec::with_capacity(alloc, count as usize)?;
-    for place in 0..count {
-        numbers.push(first + place)?;
-    }
-    Ok(List::of(numbers))
-}
-
 /// What a wait asks for. That of a binary semaphore takes the last signal that is written before
 /// its batch, so its value is how many there are.
 fn lower_wait(script: &Script, counts: &[u64], wait: &Mark) -> Need
@@ -117,8 +106,8 @@ fn batch_job(
     previous: Option<u32>,
     host_before: Option<u32>,
     needs: List<Need>,
-    commands: List<u32>,
-    signals: List<u32>,
+    commands: Indices,
+    signals: Indices,
 ) -> PlanJob
     ensures { result ≡ batch_job batch.now previous host_before needs commands signals }
 {
@@ -181,9 +170,9 @@ impl Lowered {
         let needs = lower_needs(alloc, script, counts, batch.waits.as_slice())?;
         let first = self.signals.ops.len() as u32;
         self.signals.push_batch(script, j, batch)?;
-        let signals = numbers(alloc, first, self.signals.ops.len() as u32 - first)?;
+        let signals = Indices::from(alloc, first, self.signals.ops.len() as u32 - first)?;
         let count = batch.commands.as_slice().len() as u32;
-        let commands = numbers(alloc, self.commands, count)?;
+        let commands = Indices::from(alloc, self.commands, count)?;
         let queue = batch.queue as usize;
         let previous = self.last[queue];
         let job = batch_job(alloc, batch, previous, self.host, needs, commands, signals);
@@ -264,9 +253,9 @@ impl Tables {
             signals,
             ..
         } = lower_jobs(alloc, script)?;
-        let unplaced = signals.ops.as_slice();
-        let chains = lower_chains(alloc, unplaced, signals.counts.as_slice())?;
-        let ops = place_ops(alloc, unplaced, chains.as_slice())?;
+        let Signals { mut ops, counts } = signals;
+        let chains = lower_chains(alloc, ops.as_slice(), counts.as_slice())?;
+        place_ops(ops.as_mut_slice(), chains.as_slice());
         let waits = lower_waits(
             alloc,
             script,

@@ -189,7 +189,10 @@ impl Plan {
         requires { j < length self.now.jobs }
         ensures { result.now ≡ must_finish self.now j }
     {
-        self.tables.waits.firsts.row(j as usize)
+        // one edge for each operation that the job waits for stands behind them
+        let _script = self.script();
+        let edges = self.edges(j);
+        &edges[..edges.len() - self.awaited(j).len()]
     }
 
     /// The signal operations that a job waits for: those that resolve its needs above the initial

@@ -19,7 +19,6 @@ loop-job-preserved c =
     ∙ slice_get_read c.args.jobs.now (length c.args.jobs.now) j c.job-item.result refl
     c.loop-job-test.true c.job-item.is in
     waits_push c.args.script.now c.requires.parts.read j c.job-item.result at
-    c.loop-job.waits c.push.new.self _ _ _ c.loop-job.invariant
-    c.in_ok-take.ensures.firsts c.in_ok-take.ensures.awaited c.in_ok-take.ensures.edges
-    c.in_ok-push.ensures.firsts c.in_ok-push.ensures.awaited
-    c.in_ok-push.ensures.edges
+    c.loop-job.waits c.push.new.self _ _ c.loop-job.invariant
+    c.in_ok-take.ensures.awaited c.in_ok-take.ensures.edges
+    c.in_ok-push.ensures.awaited c.in_ok-push.ensures.edges

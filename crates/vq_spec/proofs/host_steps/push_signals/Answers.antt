@@ -29,8 +29,8 @@ overflow_sub-len c =
       c.push_step.new.self.ops.ok.0,
     )
 
-pub numbers-requires : goal.numbers-requires
-numbers-requires c =
+pub from-requires : goal.from-requires
+from-requires c =
     let s = c.args.script.now in
     let within = c.in_ok-push_step.ensures.kept.within in
     let was = c.requires.kept.within in
@@ -50,6 +50,6 @@ returns-clause-own c =
     ∙ (c.args.signals.now.ops.ok.0 ∙ c.requires.first) in
     let last : c.len.result ≡ length (signals_before s (c.args.j + 1)) = c.len.ensures
     ∙ (c.push_step.new.self.ops.ok.0 ∙ c.in_ok-push_step.ensures.more) in
-    subst (λ ns. IfOk c.numbers.result (λ own. own ≡ ns))
+    subst (λ ns. IfOk c.from.result (λ own. own ≡ ns))
     (step_ops_are s c.args.j c.args.host.now c.requires.at c.len-first.result c.len.result first last)
-    c.numbers.ensures
+    c.from.ensures

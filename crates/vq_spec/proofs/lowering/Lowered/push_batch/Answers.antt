@@ -47,8 +47,8 @@ overflow_sub-len c =
       c.push_batch.new.self.ops.ok.0,
     )
 
-pub numbers-requires : goal.numbers-requires
-numbers-requires c =
+pub from-requires : goal.from-requires
+from-requires c =
     let s = c.args.script.now in
     let within = c.in_ok-push_batch.ensures.kept.within in
     let was = c.requires.kept.signals.within in
@@ -77,8 +77,8 @@ index-previous-requires c =
     c.requires.kept in
     omega (arith, c.args.self.now.last.ok.0)
 
-pub numbers-requires-2 : goal.numbers-requires-2
-numbers-requires-2 c =
+pub from-requires-2 : goal.from-requires-2
+from-requires-2 c =
     let s = c.args.script.now in
     let fit = commands_fit s c.requires.read c.args.j c.args.batch.now c.requires.at c.args.self.now
     c.requires.kept in

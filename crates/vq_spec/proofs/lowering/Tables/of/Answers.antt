@@ -1,4 +1,4 @@
-use Rattle.std.proofs.Common.{◌≡◌, ◌∙◌, ap, sym, length, map, subst, All, List, ℕ, ◌<◌, ◌^◌, arith}
+use Rattle.std.proofs.Common.{rules, drop, ◌≡◌, ◌∙◌, ap, sym, length, map, subst, All, List, ℕ, ◌<◌, ◌^◌, arith}
 use Rattle.std.specs.List.{enumerate_from}
 use Rattle.vq_model.specs.declared.plan.Op.{Op}
 use Rattle.vq_model.specs.Lowering.{plan_of}
@@ -7,6 +7,7 @@ use Rattle.vq_spec.specs.ChainParts.{placed, IsSearchable, AreSorted, AreChains}
 use Rattle.vq_spec.specs.Waits.{AreWaits}
 use Rattle.vq_spec.proofs.KeptTables.{lowered_jobs, lowered_ops, lowered_counts, lowered_few, kept}
 use Rattle.vq_spec.proofs.PlanChains.{unplaced_ops, are_chains, searchable, placed_ops, unplaced_exist}
+use Rattle.vq_spec.proofs.SlowSteps.{whole_new}
 use Rattle.vq_spec.proofs.lowering.Tables.of.Goals as goal
 
 pub lower_chains-requires-clause-few : goal.lower_chains-requires-clause-few
@@ -14,16 +15,16 @@ lower_chains-requires-clause-few c = omega (
   arith,
   lowered_few c.args.script.now c.in_ok-jobs.field-0 (c.in_ok-jobs.ensures {u = tt})
       c.requires.read,
-  ap length c.as_slice-unplaced.ensures.value,
+  ap length c.as_slice.ensures.value,
 )
 
 pub lower_chains-requires-clause-exist : goal.lower_chains-requires-clause-exist
 lower_chains-requires-clause-exist c =
     let s = c.args.script.now in
-    let counts : length c.as_slice.result.now ≡ length s.semaphores =
-    ap length c.as_slice.ensures.value
+    let counts : length c.as_slice-2.result.now ≡ length s.semaphores =
+    ap length c.as_slice-2.ensures.value
     ∙ lowered_counts s c.in_ok-jobs.field-0 (c.in_ok-jobs.ensures {u = tt}) in
-    let ops : c.as_slice-unplaced.result.now ≡ unplaced_ops s = c.as_slice-unplaced.ensures.value
+    let ops : c.as_slice.result.now ≡ unplaced_ops s = c.as_slice.ensures.value
     ∙ lowered_ops s c.in_ok-jobs.field-0 (c.in_ok-jobs.ensures {u = tt}) in
     subst (λ (z : List Op × ℕ). All (λ o. o.chain < z.1) z.0)
     (λ i. (sym ops i, sym counts i)) (unplaced_exist s c.requires.read)
@@ -33,73 +34,83 @@ place_ops-requires-clause-few c = omega (
   arith,
   lowered_few c.args.script.now c.in_ok-jobs.field-0 (c.in_ok-jobs.ensures {u = tt})
       c.requires.read,
-  ap length c.as_slice-unplaced.ensures.value,
+  ap length c.as_mut_slice.ensures.value,
 )
 
 pub place_ops-requires-clause-exist : goal.place_ops-requires-clause-exist
 place_ops-requires-clause-exist c =
     let s = c.args.script.now in
-    let counts : length c.as_slice.result.now ≡ length s.semaphores =
-    ap length c.as_slice.ensures.value
+    let counts : length c.as_slice-2.result.now ≡ length s.semaphores =
+    ap length c.as_slice-2.ensures.value
     ∙ lowered_counts s c.in_ok-jobs.field-0 (c.in_ok-jobs.ensures {u = tt}) in
-    let ops : c.as_slice-unplaced.result.now ≡ unplaced_ops s = c.as_slice-unplaced.ensures.value
+    let ops : c.as_mut_slice.result.now ≡ unplaced_ops s = c.as_mut_slice.ensures.value
     ∙ lowered_ops s c.in_ok-jobs.field-0 (c.in_ok-jobs.ensures {u = tt}) in
     let sorted = c.in_ok-chains.ensures {u = tt} in
-    let count : length c.as_slice-2.result.now ≡ length s.semaphores = ap length
-    c.as_slice-2.ensures.value ∙ (sorted.number ∙ counts) in
+    let count : length c.as_slice-3.result.now ≡ length s.semaphores = ap length
+    c.as_slice-3.ensures.value ∙ (sorted.number ∙ counts) in
     subst (λ (z : List Op × ℕ). All (λ o. o.chain < z.1) z.0) (λ i. (sym ops i, sym count i))
     (unplaced_exist s c.requires.read)
 
 pub place_ops-requires-clause-searchable : goal.place_ops-requires-clause-searchable
 place_ops-requires-clause-searchable c =
-    let few : length c.as_slice-unplaced.result.now < 2 ^ 32 = omega (
+    let few : length c.as_slice.result.now < 2 ^ 32 = omega (
       arith,
       lowered_few c.args.script.now c.in_ok-jobs.field-0 (c.in_ok-jobs.ensures {u = tt})
           c.requires.read,
-      ap length c.as_slice-unplaced.ensures.value,
+      ap length c.as_slice.ensures.value,
     ) in
-    subst (λ (cs : List Chain). All IsSearchable cs) (sym c.as_slice-2.ensures.value)
-    (searchable c.as_slice-unplaced.result.now _ c.in_ok-chains.chains.items few
+    subst (λ (cs : List Chain). All IsSearchable cs) (sym c.as_slice-3.ensures.value)
+    (searchable c.as_slice.result.now _ c.in_ok-chains.chains.items few
     (c.in_ok-chains.ensures {u = tt}))
 
 pub lower_waits-requires-clause-parts : goal.lower_waits-requires-clause-parts
 lower_waits-requires-clause-parts c =
     let s = c.args.script.now in
     let chains = c.in_ok-chains.chains.items in
-    let counts : length c.as_slice.result.now ≡ length s.semaphores =
-    ap length c.as_slice.ensures.value
+    let counts : length c.as_slice-2.result.now ≡ length s.semaphores =
+    ap length c.as_slice-2.ensures.value
     ∙ lowered_counts s c.in_ok-jobs.field-0 (c.in_ok-jobs.ensures {u = tt}) in
-    let ops : c.as_slice-unplaced.result.now ≡ unplaced_ops s = c.as_slice-unplaced.ensures.value
-    ∙ lowered_ops s c.in_ok-jobs.field-0 (c.in_ok-jobs.ensures {u = tt}) in
-    let are = are_chains s c.requires.read c.as_slice-unplaced.result.now ops chains
-    (subst (λ (n : ℕ). AreSorted c.as_slice-unplaced.result.now n chains)
+    let lowered = lowered_ops s c.in_ok-jobs.field-0 (c.in_ok-jobs.ensures {u = tt}) in
+    let ops : c.as_slice.result.now ≡ unplaced_ops s = c.as_slice.ensures.value ∙ lowered in
+    let now : c.as_mut_slice.result.now ≡ unplaced_ops s = c.as_mut_slice.ensures.value ∙ lowered in
+    let are = are_chains s c.requires.read c.as_slice.result.now ops chains
+    (subst (λ (n : ℕ). AreSorted c.as_slice.result.now n chains)
     counts (c.in_ok-chains.ensures {u = tt})) in
+    let old = c.in_ok-jobs.field-0.signals.ops in
+    let new = c.place_ops.new.ops in
+    let size : length new ≡ old.len = search rules in
+    let whole = whole_new old.len new (drop (length new) old.items) size in
     record {
       read = c.requires.read;
-      ops = c.as_slice-3.ensures.value
-          ∙ (c.in_ok-ops.ensures {u = tt}
-          ∙ ((λ i. map (placed (c.as_slice-2.ensures.value i)) (enumerate_from 0 (ops i)))
-          ∙ placed_ops s c.requires.read chains are));
-      chains = subst (AreChains s) (sym c.as_slice-4.ensures.value) are;
+      ops = c.as_slice-4.ensures.value
+          ∙ (whole ∙ (c.place_ops.ensures
+          ∙ ((λ i. map (placed (c.as_slice-3.ensures.value i)) (enumerate_from 0 (now i)))
+          ∙ placed_ops s c.requires.read chains are)));
+      chains = subst (AreChains s) (sym c.as_slice-5.ensures.value) are;
     }
 
 pub returns : goal.returns
 returns c =
     let s = c.args.script.now in
     let chains = c.in_ok-chains.chains.items in
-    let counts : length c.as_slice.result.now ≡ length s.semaphores =
-    ap length c.as_slice.ensures.value
+    let counts : length c.as_slice-2.result.now ≡ length s.semaphores =
+    ap length c.as_slice-2.ensures.value
     ∙ lowered_counts s c.in_ok-jobs.field-0 (c.in_ok-jobs.ensures {u = tt}) in
-    let ops : c.as_slice-unplaced.result.now ≡ unplaced_ops s = c.as_slice-unplaced.ensures.value
-    ∙ lowered_ops s c.in_ok-jobs.field-0 (c.in_ok-jobs.ensures {u = tt}) in
-    let are = are_chains s c.requires.read c.as_slice-unplaced.result.now ops chains
-    (subst (λ (n : ℕ). AreSorted c.as_slice-unplaced.result.now n chains)
+    let lowered = lowered_ops s c.in_ok-jobs.field-0 (c.in_ok-jobs.ensures {u = tt}) in
+    let ops : c.as_slice.result.now ≡ unplaced_ops s = c.as_slice.ensures.value ∙ lowered in
+    let now : c.as_mut_slice.result.now ≡ unplaced_ops s = c.as_mut_slice.ensures.value ∙ lowered in
+    let are = are_chains s c.requires.read c.as_slice.result.now ops chains
+    (subst (λ (n : ℕ). AreSorted c.as_slice.result.now n chains)
     counts (c.in_ok-chains.ensures {u = tt})) in
     let jobs = lowered_jobs s c.in_ok-jobs.field-0 (c.in_ok-jobs.ensures {u = tt}) in
+    let old = c.in_ok-jobs.field-0.signals.ops in
+    let new = c.place_ops.new.ops in
+    let size : length new ≡ old.len = search rules in
+    let whole = whole_new old.len new (drop (length new) old.items) size in
     kept s c.requires.read c.requires.faultless _ jobs
-    (subst (λ (n : ℕ). AreWaits (plan_of s) n c.in_ok-waits.waits) (ap length c.as_slice-5.ensures.value)
+    (subst (λ (n : ℕ). AreWaits (plan_of s) n c.in_ok-waits.waits) (ap length c.as_slice-6.ensures.value)
     (c.in_ok-waits.ensures {u = tt}))
     (c.in_ok-lower_places.ensures {u = tt})
-    (c.in_ok-ops.ensures {u = tt}
-    ∙ ((λ i. map (placed (c.as_slice-2.ensures.value i)) (enumerate_from 0 (ops i)))
-    ∙ placed_ops s c.requires.read chains are)) are
+    (whole ∙ (c.place_ops.ensures
+    ∙ ((λ i. map (placed (c.as_slice-3.ensures.value i)) (enumerate_from 0 (now i)))
+    ∙ placed_ops s c.requires.read chains are))) are

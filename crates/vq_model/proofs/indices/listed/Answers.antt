@@ -1,7 +1,7 @@
 use Rattle.std.proofs.Common.{◌++◌, ◌∷◌, ◌+◌, [], ◌∙◌, ap, sym, add-one}
 use Rattle.std.specs.List.{range_with_len}
 use Rattle.vq_model.proofs.Numbers.{range_push}
-use Rattle.vq_spec.proofs.lowering.numbers.Goals as goal
+use Rattle.vq_model.proofs.indices.listed.Goals as goal
 
 pub loop-place-preserved : goal.loop-place-preserved
 loop-place-preserved c =
