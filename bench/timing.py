@@ -1,4 +1,5 @@
-"""The time and the memory that a command takes."""
+"""The time, the instructions and the memory that a command takes."""
+import re
 import subprocess
 import sys
 import tempfile
@@ -16,6 +17,13 @@ def least_time(command, data, rounds):
             taken = time.perf_counter() - begun
         best = taken if best is None else min(best, taken)
     return best, done
+
+
+def instructions(command, data):
+    """How many instructions a command takes, counted by callgrind: the same each time, whatever else runs."""
+    counter = ['valgrind', '--tool=callgrind', '--callgrind-out-file=/dev/null', *command]
+    done = subprocess.run(counter, input=data, stdout=subprocess.PIPE, stderr=subprocess.PIPE)
+    return int(re.search(rb'Collected : (\d+)', done.stderr)[1]), done
 
 
 # Runs a command without its output, and prints the most memory that it held, in KiB.

@@ -1,6 +1,6 @@
 -- Of the jobs with an edge to a job those that must be finished come first, and behind them one for each operation
 -- that it waits for.
-use Rattle.std.proofs.Common.{◌≡◌, ℕ, cond, ◌+◌, ◌-◌, Bool, true, false, ltb, leb, List, [], ◌∷◌, ◌++◌, length, filter, take, Option, Some, None, option_map, refl, sym, ap, ◌∙◌, arith}
+use Rattle.std.proofs.Common.{◌≡◌, ℕ, cond, ◌+◌, ◌-◌, Bool, true, false, ltb, leb, List, [], ◌∷◌, length, filter, take, Option, Some, None, option_map, refl, ap, ◌∙◌, arith}
 use Rattle.std.specs.List.{slice_get, filter_map, cons_option}
 use Rattle.std.proofs.Math.Seq.{take-append_seam}
 use Rattle.std.proofs.lemmas.List.{length-append}

@@ -1,4 +1,4 @@
-use Rattle.std.proofs.Common.{◌≡◌, ◌∙◌, ◌+◌, ◌<◌, [], ◌∷◌, Some, None, ap, sym, subst, arith, length, map, refl, ℕ, List}
+use Rattle.std.proofs.Common.{◌≡◌, ◌∙◌, Some, None, ap, sym, subst, arith, length, map, refl, ℕ, List}
 use Rattle.std.specs.List.{range_with_len, slice_get}
 use Rattle.vq_spec.specs.declared.chains.Chain.{Chain}
 use Rattle.vq_spec.specs.ChainParts.{members, Sorts}

@@ -1,4 +1,4 @@
-use Rattle.std.proofs.Common.{◌∙◌, ◌-◌, ℕ, List, ap, arith, length, take}
+use Rattle.std.proofs.Common.{◌∙◌, ◌-◌, ap, arith, length, take}
 use Rattle.vq_plan_laws.proofs.Cited.{plan_well_formed}
 use Rattle.vq_spec.proofs.EdgeParts.{edges_count, firsts_are}
 use Rattle.vq_spec.proofs.plan.Plan.must_finish.Goals as goal
