@@ -1,0 +1,316 @@
+//! What stands for Rattle's library in the plain Rust that bench/plain makes of the sources. Nothing here runs out of
+//! memory; a call that may do so in Rattle only has the type of one that may.
+
+use std::ops::{Deref, DerefMut, Index, IndexMut};
+use std::slice::SliceIndex;
+
+use alloc::{AllocError, Global};
+
+pub mod alloc {
+    #[derive(Clone, Copy, Debug)]
+    pub struct Global;
+    #[derive(Clone, Copy, Debug)]
+    pub struct AllocError;
+    pub struct AllocFailed<T>(pub T);
+
+    impl<T> From<AllocFailed<T>> for AllocError {
+        fn from(_: AllocFailed<T>) -> AllocError {
+            AllocError
+        }
+    }
+}
+
+pub mod marker {
+    pub trait Model {}
+}
+
+pub mod prelude {
+    pub use super::{Box, String, Vec};
+}
+
+#[macro_export]
+macro_rules! prove { ($($condition:tt)*) => {} }
+#[macro_export]
+macro_rules! prove_eq { ($($condition:tt)*) => {} }
+
+type Done<T = ()> = Result<T, AllocError>;
+
+#[derive(PartialEq, Eq, PartialOrd, Ord)]
+pub struct Vec<T>(std::vec::Vec<T>);
+
+pub fn vec_of<T: Clone>(_: Global, item: T, count: usize) -> Done<Vec<T>> {
+    Ok(Vec(vec![item; count]))
+}
+
+impl<T> Vec<T> {
+    #[inline(always)]
+    pub fn new(_: Global) -> Vec<T> {
+        Vec(std::vec::Vec::new())
+    }
+    #[inline(always)]
+    pub fn with_capacity(_: Global, count: usize) -> Done<Vec<T>> {
+        Ok(Vec(std::vec::Vec::with_capacity(count)))
+    }
+    #[inline(always)]
+    pub fn push(&mut self, item: T) -> Result<(), alloc::AllocFailed<T>> {
+        self.0.push(item);
+        Ok(())
+    }
+    #[inline(always)]
+    pub fn push_reserved(&mut self, item: T) {
+        let count = self.0.len();
+        assert!(count < self.0.capacity());
+        unsafe {
+            self.0.as_mut_ptr().add(count).write(item);
+            self.0.set_len(count + 1);
+        }
+    }
+    pub fn reserve(&mut self, more: usize) -> Done {
+        self.0.reserve(more);
+        Ok(())
+    }
+    pub fn reserve_exact(&mut self, more: usize) -> Done {
+        self.0.reserve_exact(more);
+        Ok(())
+    }
+    #[inline(always)]
+    pub fn as_slice(&self) -> &[T] {
+        &self.0
+    }
+    #[inline(always)]
+    pub fn as_mut_slice(&mut self) -> &mut [T] {
+        &mut self.0
+    }
+    pub fn pop(&mut self) -> Option<T> {
+        self.0.pop()
+    }
+    #[inline(always)]
+    pub fn clear(&mut self) {
+        self.0.clear()
+    }
+    #[inline(always)]
+    pub fn truncate(&mut self, count: usize) {
+        self.0.truncate(count)
+    }
+    pub fn sort(&mut self) -> Done
+    where
+        T: Ord,
+    {
+        self.0.sort();
+        Ok(())
+    }
+    pub fn retain(&mut self, test: impl FnMut(&T) -> bool) {
+        self.0.retain(test)
+    }
+    pub fn dedup(&mut self)
+    where
+        T: PartialEq,
+    {
+        self.0.dedup()
+    }
+}
+
+impl<T: Clone> Vec<T> {
+    pub fn from_slice(_: Global, items: &[T]) -> Done<Vec<T>> {
+        Ok(Vec(items.to_vec()))
+    }
+    #[inline(always)]
+    pub fn extend_from_slice(&mut self, items: &[T]) -> Done {
+        self.0.extend_from_slice(items);
+        Ok(())
+    }
+}
+
+impl<T> Deref for Vec<T> {
+    type Target = [T];
+    #[inline(always)]
+    fn deref(&self) -> &[T] {
+        &self.0
+    }
+}
+
+impl<T> DerefMut for Vec<T> {
+    #[inline(always)]
+    fn deref_mut(&mut self) -> &mut [T] {
+        &mut self.0
+    }
+}
+
+impl<T, I: SliceIndex<[T]>> Index<I> for Vec<T> {
+    type Output = I::Output;
+    #[inline(always)]
+    fn index(&self, at: I) -> &I::Output {
+        &self.0[at]
+    }
+}
+
+impl<T, I: SliceIndex<[T]>> IndexMut<I> for Vec<T> {
+    #[inline(always)]
+    fn index_mut(&mut self, at: I) -> &mut I::Output {
+        &mut self.0[at]
+    }
+}
+
+impl<T> IntoIterator for Vec<T> {
+    type Item = T;
+    type IntoIter = std::vec::IntoIter<T>;
+    fn into_iter(self) -> Self::IntoIter {
+        self.0.into_iter()
+    }
+}
+
+impl<'a, T> IntoIterator for &'a Vec<T> {
+    type Item = &'a T;
+    type IntoIter = std::slice::Iter<'a, T>;
+    fn into_iter(self) -> Self::IntoIter {
+        self.0.iter()
+    }
+}
+
+impl<T> std::borrow::Borrow<[T]> for Vec<T> {
+    fn borrow(&self) -> &[T] {
+        &self.0
+    }
+}
+
+pub struct String(std::string::String);
+
+impl String {
+    pub fn from_str(_: Global, text: &str) -> Done<String> {
+        Ok(String(text.to_string()))
+    }
+    #[inline(always)]
+    pub fn as_bytes(&self) -> &[u8] {
+        self.0.as_bytes()
+    }
+}
+
+pub struct Box<T>(std::boxed::Box<T>);
+
+impl<T> Box<T> {
+    pub fn new(_: Global, item: T) -> Done<Box<T>> {
+        Ok(Box(std::boxed::Box::new(item)))
+    }
+}
+
+impl<T> Deref for Box<T> {
+    type Target = T;
+    fn deref(&self) -> &T {
+        &self.0
+    }
+}
+
+pub mod collections {
+    use super::alloc::{AllocError, Global};
+    use std::borrow::Borrow;
+
+    pub struct BTreeMap<K, V>(std::collections::BTreeMap<K, V>);
+
+    impl<K: Ord, V> BTreeMap<K, V> {
+        pub fn new(_: Global) -> BTreeMap<K, V> {
+            BTreeMap(std::collections::BTreeMap::new())
+        }
+        pub fn insert(&mut self, key: K, value: V) -> Result<Option<V>, AllocError> {
+            Ok(self.0.insert(key, value))
+        }
+        pub fn get<Q: Ord + ?Sized>(&self, key: &Q) -> Option<&V>
+        where
+            K: Borrow<Q>,
+        {
+            self.0.get(key)
+        }
+    }
+}
+
+pub mod memchr {
+    extern "C" {
+        #[link_name = "memchr"]
+        fn find(bytes: *const u8, byte: i32, count: usize) -> *const u8;
+    }
+
+    #[inline(always)]
+    pub fn memchr(byte: u8, bytes: &[u8]) -> Option<usize> {
+        let found = unsafe { find(bytes.as_ptr(), i32::from(byte), bytes.len()) };
+        (!found.is_null()).then(|| found as usize - bytes.as_ptr() as usize)
+    }
+
+    pub fn memchr2(one: u8, other: u8, bytes: &[u8]) -> Option<usize> {
+        bytes.iter().position(|byte| *byte == one || *byte == other)
+    }
+}
+
+pub mod itoa {
+    pub struct Buffer(std::string::String);
+
+    impl Buffer {
+        pub fn new() -> Buffer {
+            Buffer(std::string::String::new())
+        }
+        pub fn format<T: std::fmt::Display>(&mut self, number: T) -> &str {
+            self.0 = number.to_string();
+            &self.0
+        }
+    }
+}
+
+pub mod simd {
+    pub mod prelude {
+        use core::arch::x86_64::{__m128i, _mm_loadu_si128, _mm_movemask_epi8};
+
+        /// A bit for each of 16 bytes, set where the byte's highest bit is.
+        #[inline(always)]
+        fn bits(bytes: &[u8; 16]) -> u64 {
+            unsafe { u64::from(_mm_movemask_epi8(_mm_loadu_si128(bytes.as_ptr().cast::<__m128i>())) as u32) }
+        }
+
+        macro_rules! lanes {
+            ($lanes:ident, $mask:ident, $count:literal) => {
+                #[derive(Clone, Copy)]
+                pub struct $lanes([u8; $count]);
+                #[derive(Clone, Copy)]
+                pub struct $mask([u8; $count]);
+
+                impl $lanes {
+                    #[inline(always)]
+                    pub fn from_slice(bytes: &[u8]) -> $lanes {
+                        $lanes(bytes[..$count].try_into().unwrap())
+                    }
+                    #[inline(always)]
+                    pub fn splat(byte: u8) -> $lanes {
+                        $lanes([byte; $count])
+                    }
+                    #[inline(always)]
+                    fn compared(self, other: $lanes, test: impl Fn(u8, u8) -> bool) -> $mask {
+                        let mut mask = [0; $count];
+                        for lane in 0..$count {
+                            mask[lane] = if test(self.0[lane], other.0[lane]) { 0xff } else { 0 };
+                        }
+                        $mask(mask)
+                    }
+                    #[inline(always)]
+                    pub fn simd_eq(self, other: $lanes) -> $mask {
+                        self.compared(other, |a, b| a == b)
+                    }
+                    #[inline(always)]
+                    pub fn simd_lt(self, other: $lanes) -> $mask {
+                        self.compared(other, |a, b| a < b)
+                    }
+                }
+
+                impl $mask {
+                    #[inline(always)]
+                    pub fn to_bitmask(self) -> u64 {
+                        let mut padded = [0; 32];
+                        padded[..$count].copy_from_slice(&self.0);
+                        let (low, high) = (padded[..16].try_into().unwrap(), padded[16..].try_into().unwrap());
+                        bits(low) | bits(high) << 16
+                    }
+                }
+            };
+        }
+
+        lanes!(u8x8, Mask8, 8);
+        lanes!(u8x16, Mask16, 16);
+        lanes!(u8x32, Mask32, 32);
+    }
+}
