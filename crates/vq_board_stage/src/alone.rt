@@ -3,8 +3,9 @@ ghost use Rattle.std.specs.Prelude.{◌≡◌, ◌+◌, true};
 ghost use Rattle.vq_board.specs.Named.{plan_of, view};
 ghost use Rattle.vq_board_stage.specs.Batches.{AllExist, IsPlain, IsAlone, HasHandedOn, IsReady, IsRunning};
 
+use crate::three_signals::is_batch;
 use vq_board::{Board, JobState, Pass};
-use vq_spec::{Lane, Plan, PlanJob, Question};
+use vq_spec::{Plan, PlanJob};
 
 /// Whether two lists of numbers are the same.
 pub fn is_same(left: &[u32], right: &[u32]) -> bool
@@ -17,16 +18,7 @@ pub fn is_same(left: &[u32], right: &[u32]) -> bool
 fn is_plain(job: &PlanJob, queue: u32, commands: &[u32]) -> bool
     ensures { result ≡ true → IsPlain job.now queue commands.now }
 {
-    let Lane::Queue(own) = job.lane else {
-        return false;
-    };
-    if own != queue || job.any || job.previous.is_some() {
-        return false;
-    }
-    if job.idle_after.len() != 0 || job.needs.len() != 0 || job.signals.len() != 0 {
-        return false;
-    }
-    is_same(job.commands.as_slice(), commands) && matches!(job.question, Question::Silent)
+    is_batch(job, queue, commands, &[]) && job.previous.is_none() && job.needs.len() == 0
 }
 
 /// Whether each of the commands is one of the plan.

@@ -5,7 +5,7 @@ ghost use Rattle.vq_board_laws.specs.declared.view.Role.TheVariants.{Shelf};
 ghost use Rattle.vq_board_laws.specs.Knowledge.{Knows};
 ghost use Rattle.vq_board.specs.Named.{plan_of, view};
 ghost use Rattle.vq_board_stage.specs.Dealing.{IsNew};
-ghost use Rattle.vq_board_stage.specs.HostSteps.{HasHostStep, HasSignal, AreSingle};
+ghost use Rattle.vq_board_stage.specs.HostSteps.{HasSignal, AreSingle};
 ghost use Rattle.vq_board_stage.specs.HostSteps.{HasFinished, IsAtStep};
 ghost use Rattle.vq_board_stage.specs.Reads.{IsOfReads};
 
@@ -28,18 +28,8 @@ pub fn read_first(board: &Board, host: &mut Pass) -> bool
     true
 }
 
-/// The host starts its next step.
-#[tactic(auto, using(crate::proofs::Asks::needs_nothing))]
-pub fn start_step(board: &Board, host: &mut Pass, step: u32)
-    requires step { HasHostStep (plan_of board.now) step }
-    requires host { HasFinished board.now host.old step }
-    ensures { IsAtStep board.now host.new step }
-{
-    board.start(host, step);
-}
-
 /// The shelf gives the signal the point with its number, as soon as its step is started.
-pub fn bind(board: &Board, shelf: &mut Pass, step: u32, op: u32) -> bool
+fn bind(board: &Board, shelf: &mut Pass, step: u32, op: u32) -> bool
     requires step { HasSignal (plan_of board.now) step op }
     requires single { AreSingle (plan_of board.now) }
     requires shelf { IsNew board.now shelf.old (Shelf op) }
@@ -54,7 +44,7 @@ pub fn bind(board: &Board, shelf: &mut Pass, step: u32, op: u32) -> bool
 
 /// The host makes its step's signal, and finishes the step.
 #[tactic(auto, using(crate::proofs::Asks::needs_nothing))]
-pub fn signal(board: &Board, host: &mut Pass, step: u32, op: u32) -> bool
+fn signal(board: &Board, host: &mut Pass, step: u32, op: u32) -> bool
     requires step { HasSignal (plan_of board.now) step op }
     requires host { IsAtStep board.now host.old step }
     ensures host { result ≡ true → HasFinished board.now host.new (step + 1) }
@@ -68,6 +58,7 @@ pub fn signal(board: &Board, host: &mut Pass, step: u32, op: u32) -> bool
 }
 
 /// The host makes its next step, whose signal the shelf gives a point in between.
+#[tactic(auto, using(crate::proofs::Asks::needs_nothing))]
 pub fn make_signal(board: &Board, host: &mut Pass, shelf: &mut Pass, step: u32, op: u32) -> bool
     requires step { HasSignal (plan_of board.now) step op }
     requires single { AreSingle (plan_of board.now) }
@@ -76,7 +67,7 @@ pub fn make_signal(board: &Board, host: &mut Pass, shelf: &mut Pass, step: u32, 
     ensures host { result ≡ true → HasFinished board.now host.new (step + 1) }
     ensures made { result ≡ true → Knows (view host.new).known (Made op) }
 {
-    start_step(board, host, step);
+    board.start(host, step);
     bind(board, shelf, step, op) && signal(board, host, step, op)
 }
 

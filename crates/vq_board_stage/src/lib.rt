@@ -3,7 +3,6 @@
 //! and after, and boards of the scripts in which these act.
 #![tactic(auto)]
 
-pub mod actors;
 pub mod alone;
 mod host_jobs;
 pub mod host_steps;

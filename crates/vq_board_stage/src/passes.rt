@@ -40,3 +40,19 @@ pub fn dealt(board: &Board, passes: &mut Vec<Pass>, role: Role) -> Option<Pass>
         None
     }
 }
+
+/// The last two passes of a list of fresh ones, where they are those of the roles.
+pub fn both(
+    board: &Board,
+    passes: &mut Vec<Pass>,
+    first: Role,
+    second: Role,
+) -> Option<(Pass, Pass)>
+    requires { AllFresh board.now passes.old.items }
+    ensures first { IfSome result (λ t. IsNew board.now t.0 first) }
+    ensures second { IfSome result (λ t. IsNew board.now t.1 second) }
+    ensures left { AllFresh board.now passes.new.items }
+{
+    let last = dealt(board, passes, second)?;
+    Some((dealt(board, passes, first)?, last))
+}

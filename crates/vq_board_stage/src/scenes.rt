@@ -13,7 +13,6 @@ use crate::three_signals::is_of_three_signals;
 use crate::two_waits::is_of_two_waits;
 use std::alloc::Global;
 use vq_board::{Board, Passes};
-use vq_order::Ordered;
 use vq_spec::Plan;
 
 /// Each of four queues, of which the host submits to all, writes 12 bytes of its own, 4 at a time.
@@ -129,21 +128,14 @@ impl Scene {
     }
 }
 
-/// The board of the plan, where that is the script's, with its passes.
-fn opened_of(alloc: Global, ordered: &Ordered, scene: Scene) -> Option<(Board, Passes)>
-    ensures plan { IfSome result (λ t. IsPlanOf scene (plan_of t.0)) }
-    ensures passes { IfSome result (λ t. AreNew t.0 t.1) }
-{
-    if !scene.has(ordered.plan()) {
-        return None;
-    }
-    board_of(alloc, ordered)
-}
-
 /// The board of the script, with its passes.
 pub fn opened(alloc: Global, scene: Scene) -> Option<(Board, Passes)>
     ensures plan { IfSome result (λ t. IsPlanOf scene (plan_of t.0)) }
     ensures passes { IfSome result (λ t. AreNew t.0 t.1) }
 {
-    opened_of(alloc, &checked(alloc, scene.text())?, scene)
+    let ordered = checked(alloc, scene.text())?;
+    if !scene.has(ordered.plan()) {
+        return None;
+    }
+    board_of(alloc, &ordered)
 }

@@ -10,7 +10,7 @@ use std::sync::Wait;
 use std::thread::{Threads, join};
 use vq_board::{Board, Closed, Pass, Passes, Role};
 use vq_board_stage::alone::{hand_on, start};
-use vq_board_stage::passes::dealt;
+use vq_board_stage::passes::both;
 use vq_board_stage::running::{all_finished, work};
 use vq_board_stage::scenes::{Scene, opened};
 
@@ -58,11 +58,8 @@ fn all_rings(board: &Board, rings: &mut Vec<Pass>) -> Option<((Pass, Pass), (Pas
     requires plan { AreFour (plan_of board.now) }
     ensures { IfSome result (λ t. AreReady board.now t) }
 {
-    let fourth = dealt(board, rings, Role::Ring(3))?;
-    let third = dealt(board, rings, Role::Ring(2))?;
-    let second = dealt(board, rings, Role::Ring(1))?;
-    let first = dealt(board, rings, Role::Ring(0))?;
-    Some(((first, second), (third, fourth)))
+    let others = both(board, rings, Role::Ring(2), Role::Ring(3))?;
+    Some((both(board, rings, Role::Ring(0), Role::Ring(1))?, others))
 }
 
 /// All batches are run, each in a thread of its own. It says whether all were.
@@ -175,20 +172,12 @@ fn start_and_take(board: &Board, first: &mut Pass, second: &mut Pass) -> bool
         && take_turns(board, first, second)
 }
 
-/// Whether the turn is had by one pass at a time.
-fn turns_are_taken(board: &Board, passes: &mut Passes) -> Option<bool>
-    requires plan { AreFour (plan_of board.now) }
-    requires passes { AreNew board.now passes.old }
-{
-    hand_all_on(board, &mut passes.host);
-    let (mut rings, _) = all_rings(board, &mut passes.rings)?;
-    Some(start_and_take(board, &mut rings.0, &mut rings.1))
-}
-
-/// The same on a board of its own.
+/// Whether the turn is had by one pass at a time, on a board of its own.
 fn one_has_the_turn(alloc: Global) -> Option<bool> {
     let (board, mut passes) = opened(alloc, Scene::Contending)?;
-    turns_are_taken(&board, &mut passes)
+    hand_all_on(&board, &mut passes.host);
+    let (mut rings, _) = all_rings(&board, &mut passes.rings)?;
+    Some(start_and_take(&board, &mut rings.0, &mut rings.1))
 }
 
 #[test]

@@ -11,6 +11,4 @@ mod points_tests;
 #[cfg(test)]
 mod references_tests;
 #[cfg(test)]
-mod tried;
-#[cfg(test)]
 mod waits_tests;

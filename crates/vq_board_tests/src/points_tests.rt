@@ -8,13 +8,14 @@ ghost use Rattle.vq_board_stage.specs.Holders.{HasSubmitted, HasReleased, HasPoi
 ghost use Rattle.vq_board_stage.specs.Holders.{HasFirst, HasBoth, IsToBind};
 ghost use Rattle.vq_board_stage.specs.ThreeSignals.{IsOfThreeSignals};
 
-use crate::tried::{Tried, is_so};
-use vq_board::{Board, Pass, Passes};
-use vq_board_stage::actors::{both_rings, both_submits, shelf};
+use std::alloc::Global;
+use vq_board::{Board, Pass, Passes, Role};
+use vq_board_stage::passes::{both, dealt};
 use vq_board_stage::rings::{
     fill_first, finds_it_moved_on, is_unbound, refer_first, sees_it_made, signal_first,
     unrefer_first,
 };
+use vq_board_stage::scenes::{Scene, opened};
 use vq_board_stage::shelves::{
     bind_first, bind_second, complete_first, finds_released, give_again, is_in_use, take_first,
     take_second,
@@ -114,33 +115,29 @@ fn all_passes(board: &Board, passes: &mut Passes) -> Option<((Pass, Pass), (Pass
     ensures second { IfSome result (λ t. IsNew board.now t.1.1 (Ring 1)) }
     ensures shelf { IfSome result (λ t. HasPoints board.now t.2 [] [] [] []) }
 {
-    let submits = both_submits(board, &mut passes.submits)?;
-    let rings = both_rings(board, &mut passes.rings)?;
-    let shelf = shelf(board, &mut passes.shelves)?;
+    let submits = both(board, &mut passes.submits, Role::Submit(0), Role::Submit(1))?;
+    let rings = both(board, &mut passes.rings, Role::Ring(0), Role::Ring(1))?;
+    let shelf = dealt(board, &mut passes.shelves, Role::Shelf(0))?;
     Some((submits, rings, shelf))
 }
 
 /// Whether point 0 is used again as soon as no one refers to it, and not before.
-pub(crate) fn uses_again(board: &Board, passes: &mut Passes) -> bool
-    requires plan { IsOfThreeSignals (plan_of board.now) }
-    requires passes { AreNew board.now passes.old }
-{
-    let Some((mut submits, mut rings, mut shelf)) = all_passes(board, passes) else {
-        return false;
-    };
-    runs_first(
-        board,
-        &mut passes.host,
-        &mut submits,
-        &mut rings,
-        &mut shelf,
-    ) && hand_second_on(board, &mut passes.host, &mut submits.0, &mut shelf)
-        && use_again(board, &mut rings.1, &mut shelf)
+fn uses_again(alloc: Global) -> Option<bool> {
+    let (board, mut passes) = opened(alloc, Scene::Signaling)?;
+    let (mut submits, mut rings, mut shelf) = all_passes(&board, &mut passes)?;
+    let host = &mut passes.host;
+    if !runs_first(&board, host, &mut submits, &mut rings, &mut shelf) {
+        return Some(false);
+    }
+    Some(
+        hand_second_on(&board, host, &mut submits.0, &mut shelf)
+            && use_again(&board, &mut rings.1, &mut shelf),
+    )
 }
 
 #[test]
 fn a_point_is_used_again(rt: HostRuntime) {
-    assert!(rt; is_so(&rt, rt.alloc(), Tried::Again));
+    assert!(rt; uses_again(rt.alloc()) == Some(true));
 }
 
 /// Whether a signal comes only once its operation is bound, by the passes that take part.
@@ -167,25 +164,17 @@ fn signals_bound(
     signal_first(board, ring)
 }
 
-pub(crate) fn binds_before_it_signals(board: &Board, passes: &mut Passes) -> bool
-    requires plan { IsOfThreeSignals (plan_of board.now) }
-    requires passes { AreNew board.now passes.old }
-{
-    let Some((mut submits, mut rings, mut shelf)) = all_passes(board, passes) else {
-        return false;
-    };
-    signals_bound(
-        board,
-        &mut passes.host,
-        &mut submits.0,
-        &mut rings.0,
-        &mut shelf,
-    )
+/// The same on a board of its own.
+fn binds_before_it_signals(alloc: Global) -> Option<bool> {
+    let (board, mut passes) = opened(alloc, Scene::Signaling)?;
+    let (mut submits, mut rings, mut shelf) = all_passes(&board, &mut passes)?;
+    let host = &mut passes.host;
+    Some(signals_bound(&board, host, &mut submits.0, &mut rings.0, &mut shelf))
 }
 
 #[test]
 fn an_unbound_operation_is_not_signaled(rt: HostRuntime) {
-    assert!(rt; is_so(&rt, rt.alloc(), Tried::Unbound));
+    assert!(rt; binds_before_it_signals(rt.alloc()) == Some(true));
 }
 
 /// Whether a pass finds the first point made, and the second one not.
@@ -203,17 +192,13 @@ fn finds_one(board: &Board, host: &mut Pass) -> bool
 }
 
 /// What the words of the first two points say, once one is made.
-pub(crate) fn has_two_words(board: &Board, passes: &mut Passes) -> bool
-    requires plan { IsOfThreeSignals (plan_of board.now) }
-    requires passes { AreNew board.now passes.old }
-{
-    match shelf(board, &mut passes.shelves) {
-        Some(mut shelf) => take_first(board, &mut shelf) && finds_one(board, &mut passes.host),
-        None => false,
-    }
+fn has_two_words(alloc: Global) -> Option<bool> {
+    let (board, mut passes) = opened(alloc, Scene::Signaling)?;
+    let mut shelf = dealt(&board, &mut passes.shelves, Role::Shelf(0))?;
+    Some(take_first(&board, &mut shelf) && finds_one(&board, &mut passes.host))
 }
 
 #[test]
 fn a_point_that_is_not_made_says_nothing(rt: HostRuntime) {
-    assert!(rt; is_so(&rt, rt.alloc(), Tried::Words));
+    assert!(rt; has_two_words(rt.alloc()) == Some(true));
 }

@@ -2,15 +2,15 @@
 ghost use Rattle.std.specs.Prelude.{◌≡◌, true, [], ◌∷◌};
 ghost use Rattle.vq_board_laws.specs.Points.{reference};
 ghost use Rattle.vq_board.specs.Named.{plan_of};
-ghost use Rattle.vq_board_stage.specs.Dealing.{AllFresh, AreNew};
 ghost use Rattle.vq_board_stage.specs.Holders.{HasReferences};
 ghost use Rattle.vq_board_stage.specs.ThreeSignals.{IsOfThreeSignals};
 
-use crate::tried::{Tried, is_so};
+use std::alloc::Global;
 use std::sync::Wait;
 use std::thread::{Threads, join, yield_now};
-use vq_board::{Board, Pass, Passes, Referred};
-use vq_board_stage::actors::{both_rings, shelf};
+use vq_board::{Board, Pass, Referred, Role};
+use vq_board_stage::passes::{both, dealt};
+use vq_board_stage::scenes::{Scene, opened};
 use vq_board_stage::shelves::take_first;
 use vq_board_stage::submitting::carrying;
 
@@ -88,38 +88,20 @@ fn refer_both<R: Threads + Wait + Sync>(rt: &R, board: &Board, first: Pass, seco
     ) == (true, true)
 }
 
-/// The same with the passes of both rings.
-fn refer_by_two<R: Threads + Wait + Sync>(rt: &R, board: &Board, rings: &mut Vec<Pass>) -> bool
-    requires plan { IsOfThreeSignals (plan_of board.now) }
-    requires rings { AllFresh board.now rings.old.items }
-{
-    match both_rings(board, rings) {
-        Some((first, second)) => refer_both(rt, board, first, second),
-        None => false,
-    }
-}
-
 /// Whether the point's word says that it carries operation 0 and nobody refers to it, once each pass has given back
 /// what it took.
-pub(crate) fn gives_back<R: Threads + Wait + Sync>(
-    rt: &R,
-    board: &Board,
-    passes: &mut Passes,
-) -> bool
-    requires plan { IsOfThreeSignals (plan_of board.now) }
-    requires passes { AreNew board.now passes.old }
-{
-    match shelf(board, &mut passes.shelves) {
-        Some(mut shelf) => {
-            take_first(board, &mut shelf)
-                && refer_by_two(rt, board, &mut passes.rings)
-                && board.look(&mut shelf, 0) == carrying(0, 0, false)
-        }
-        None => false,
-    }
+fn gives_back<R: Threads + Wait + Sync>(rt: &R, alloc: Global) -> Option<bool> {
+    let (board, mut passes) = opened(alloc, Scene::Signaling)?;
+    let mut shelf = dealt(&board, &mut passes.shelves, Role::Shelf(0))?;
+    let (first, second) = both(&board, &mut passes.rings, Role::Ring(0), Role::Ring(1))?;
+    Some(
+        take_first(&board, &mut shelf)
+            && refer_both(rt, &board, first, second)
+            && board.look(&mut shelf, 0) == carrying(0, 0, false),
+    )
 }
 
 #[test]
 fn references_are_given_back(rt: HostRuntime) {
-    assert!(rt; is_so(&rt, rt.alloc(), Tried::References));
+    assert!(rt; gives_back(&rt, rt.alloc()) == Some(true));
 }

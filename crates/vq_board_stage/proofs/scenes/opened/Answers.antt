@@ -2,7 +2,7 @@ use Rattle.std.proofs.Common.{◌∙◌, subst, sym}
 use Rattle.std.proofs.lemmas.Option.{IfSome_then}
 use Rattle.vq_model.specs.Plan.{Plan}
 use Rattle.vq_board_stage.specs.Scenes.{IsPlanOf}
-use Rattle.vq_board_stage.proofs.scenes.opened_of.Goals as goal
+use Rattle.vq_board_stage.proofs.scenes.opened.Goals as goal
 
 pub returns-clause-plan : goal.returns-clause-plan
 returns-clause-plan c =
