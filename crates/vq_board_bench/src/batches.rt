@@ -1,12 +1,12 @@
 //! A board whose batches are in a row, and the passes that take them through all steps.
 ghost use Rattle.std.specs.Prelude.{IfSome};
-ghost use Rattle.vq_board.specs.Named.{plan_of, AreDealt};
-ghost use Rattle.vq_board_stage.specs.Dealing.{AllFresh, IsNew};
+ghost use Rattle.vq_board.specs.Named.{plan_of};
+ghost use Rattle.vq_board_stage.specs.Dealing.{AllFresh, AreNew, IsNew};
 ghost use Rattle.vq_board_bench.specs.Rows.{IsRow, AreReady};
 
 use std::alloc::Global;
 use vq_board::{Board, Pass, Passes, Role};
-use vq_board_stage::passes::dealt;
+use vq_board_stage::passes::{board_of, dealt};
 use vq_order::Ordered;
 
 /// A board with so many batches in a row, the first of which have a command each and a signal.
@@ -42,7 +42,7 @@ fn taken(board: &Board, passes: &mut Vec<Pass>, role: Role) -> Option<Pass>
 
 /// The passes of the host, the first chain's shelf and the first ring.
 fn taking_part(board: &Board, passes: Passes) -> Option<Workers>
-    requires { AreDealt board.now passes }
+    requires { AreNew board.now passes }
     ensures { IfSome result (λ x. AreReady board.now x.host x.shelf x.ring) }
 {
     let Passes {
@@ -67,9 +67,7 @@ pub(crate) fn opened_row(
     requires { IsRow ordered.now count commands signals }
     ensures { IfSome result (λ t. AreReady t.0.board t.1.host t.1.shelf t.1.ring) }
 {
-    let Ok((board, passes)) = Board::new(alloc, ordered) else {
-        return None;
-    };
+    let (board, passes) = board_of(alloc, ordered)?;
     let workers = taking_part(&board, passes)?;
     let batches = Batches {
         board,

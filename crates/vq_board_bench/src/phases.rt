@@ -1,5 +1,4 @@
 //! A row of batches is taken through the kinds of step, one after another.
-ghost use Rattle.std.specs.Prelude.{true};
 ghost use Rattle.vq_board.specs.Named.{plan_of, view, IsOf};
 ghost use Rattle.vq_board_bench.specs.Rows.{IsHost, IsShelf, IsBetween, AreReady};
 
@@ -8,19 +7,9 @@ use crate::kind::Phase;
 use vq_board::Pass;
 
 impl Batches {
-    /// The ring runs the batches, and the shelf goes on from there, up to this phase.
-    fn run_on(&self, mut shelf: Pass, mut ring: Pass, last: Phase) -> bool
-        requires shelf_of { IsOf self.now.board shelf }
-        requires ring_of { IsOf self.now.board ring }
-        requires shelf { IsShelf (plan_of self.now.board) (view shelf)
-            self.now.signals self.now.signals self.now.signals self.now.signals }
-        requires ring { IsBetween (plan_of self.now.board) (view ring) 0 }
-    {
-        self.run(&mut ring) && self.end(&mut shelf, last)
-    }
-
-    /// The host releases the batches, the shelf binds the operations, and so on, up to this phase.
-    fn hand_on(&self, mut host: Pass, mut shelf: Pass, ring: Pass, last: Phase) -> bool
+    /// The host releases the batches, the shelf binds the operations, the ring runs the batches, and so on, up to
+    /// this phase.
+    fn hand_on(&self, mut host: Pass, mut shelf: Pass, mut ring: Pass, last: Phase) -> bool
         requires host_of { IsOf self.now.board host }
         requires shelf_of { IsOf self.now.board shelf }
         requires ring_of { IsOf self.now.board ring }
@@ -45,7 +34,7 @@ impl Batches {
             return true;
         }
         self.bind(&mut shelf);
-        last == Phase::Bound || self.run_on(shelf, ring, last)
+        last == Phase::Bound || (self.run(&mut ring) && self.end(&mut shelf, last))
     }
 
     /// Takes the batches through all kinds of step up to this phase. It says whether all came out as

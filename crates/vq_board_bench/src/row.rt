@@ -1,14 +1,15 @@
 //! A plan of batches in a row on one queue, the first of which have a command and a signal each.
-ghost use Rattle.std.specs.Prelude.{◌≡◌, ℕ, [], ◌+◌, ◌<◌, ◌≤◌, length, true, Some};
+ghost use Rattle.std.specs.Prelude.{◌≡◌, ℕ, ◌+◌, ◌<◌, ◌≤◌, length, true, Some};
 ghost use Rattle.std.specs.List.{slice_get};
 ghost use Rattle.vq_model.specs.LoweringFaults.{IsPlan};
-ghost use Rattle.vq_model.specs.Plan.{chain, chain_of, job_of};
+ghost use Rattle.vq_model.specs.Plan.{chain};
 ghost use Rattle.vq_board_bench.specs.Making.{HasShare};
 ghost use Rattle.vq_board_bench.specs.Rows.{IsOneOfFirst, IsLink, IsLinked, IsRow};
 
 use crate::kind::Form;
 use std::alloc::{AllocError, Global};
-use vq_spec::{Lane, Plan, PlanJob, Question};
+use vq_board_stage::three_signals::{is_batch, is_signal};
+use vq_spec::{Plan, PlanJob};
 
 /// Adds a batch on the first queue.
 fn push_batch(alloc: Global, text: &mut String, form: Form, value: u64) -> Result<(), AllocError> {
@@ -60,28 +61,12 @@ fn is_next(previous: Option<u32>, j: u32) -> bool
 fn is_link(job: &PlanJob, commands: u32, signals: u32, j: u32) -> bool
     ensures { result ≡ true → IsLink job.now commands signals j }
 {
-    let Lane::Queue(queue) = job.lane else {
-        return false;
-    };
-    if queue != 0 || job.any || job.idle_after.len() != 0 || job.needs.len() != 0 {
-        return false;
-    }
-    let Question::Silent = job.question else {
-        return false;
-    };
-    is_next(job.previous, j)
-        && is_one_of_first(job.commands.as_slice(), commands, j)
-        && is_one_of_first(job.signals.as_slice(), signals, j)
-}
-
-/// Whether the operation of this number is of the first chain and of the job of the same number.
-fn is_own(plan: &Plan, j: u32) -> bool
-    requires { j < length plan.now.ops }
-    ensures chain { result ≡ true → chain_of plan.now j ≡ Some 0 }
-    ensures job { result ≡ true → job_of plan.now j ≡ Some j }
-{
-    let op = plan.op(j);
-    op.chain == 0 && op.job == j
+    let (its_commands, its_signals) = (job.commands.as_slice(), job.signals.as_slice());
+    is_batch(job, 0, its_commands, its_signals)
+        && job.needs.len() == 0
+        && is_next(job.previous, j)
+        && is_one_of_first(its_commands, commands, j)
+        && is_one_of_first(its_signals, signals, j)
 }
 
 /// Whether so is this job of a plan, with the host to release it and the first chain for its signal.
@@ -90,7 +75,7 @@ fn is_linked(plan: &Plan, commands: u32, signals: u32, j: u32) -> bool
     requires ops { signals ≤ length plan.now.ops }
     ensures { result ≡ true → IsLinked plan.now commands signals j }
 {
-    if j < signals && !is_own(plan, j) {
+    if j < signals && !is_signal(plan, j, 0, j) {
         return false;
     }
     !plan.script().is_threaded(0) && is_link(plan.job(j), commands, signals, j)
@@ -120,22 +105,12 @@ fn are_rising(plan: &Plan) -> bool
     true
 }
 
-/// Whether a list has so many numbers.
-fn is_long(list: &[u32], count: u32) -> bool
-    ensures { result ≡ true → count ≤ length list.now }
-{
-    list.len() >= count as usize
-}
-
 /// Whether the shelf of the first chain may make so many points.
 pub(crate) fn has_share(plan: &Plan, count: u32) -> bool
     requires { IsPlan plan.now }
     ensures { result ≡ true → HasShare plan.now 0 count }
 {
-    if plan.chains() == 0 {
-        return false;
-    }
-    is_long(plan.chain(0), count)
+    plan.chains() != 0 && plan.chain(0).len() >= count as usize
 }
 
 /// Whether the jobs of a plan are in a row, the first so many of them with a command, and with a signal.

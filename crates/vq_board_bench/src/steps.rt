@@ -37,10 +37,7 @@ fn unrefer(board: &Board, pass: &mut Pass) -> bool
     requires { IsReferring board.now pass.old true }
     ensures { IsReferring board.now pass.new result }
 {
-    match board.unrefer(pass, 0, 0) {
-        Ok(()) => false,
-        Err(_) => true,
-    }
+    board.unrefer(pass, 0, 0).is_err()
 }
 
 /// Takes a reference, or gives it back where the pass has it.
@@ -55,15 +52,6 @@ fn reference(board: &Board, pass: &mut Pass, holds: bool) -> Option<bool>
     }
 }
 
-/// Whether the first point carries something unsignaled.
-fn look(board: &Board, pass: &mut Pass) -> bool
-    requires { IsWorker board.now pass.old }
-    ensures { IsWorker board.now pass.new }
-{
-    let word = board.look(pass, 0);
-    word.held && !word.signaled
-}
-
 /// Whether the first job is started, the first operation unbound or the first point unsignaled.
 fn asked(board: &Board, pass: &mut Pass, question: Question) -> bool
     requires { IsWorker board.now pass.old }
@@ -72,7 +60,10 @@ fn asked(board: &Board, pass: &mut Pass, question: Question) -> bool
     match question {
         Question::Job => board.job_state(pass, 0) == JobState::Started,
         Question::Recall => board.recall(pass, 0) == OpState::Unbound,
-        Question::Look => look(board, pass),
+        Question::Look => {
+            let word = board.look(pass, 0);
+            word.held && !word.signaled
+        }
     }
 }
 
