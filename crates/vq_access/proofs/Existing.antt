@@ -325,6 +325,3 @@ module _ (p : Plan) (i : IsPlan p) (l : IsLawful p) where
 
   pub signal_there : (j e k : ℕ) → slice_get (signals_of p j) k ≡ Some e → e < length p.ops
   signal_there j e k at = signal_exists j e (stands (signals_of p j) k e at)
-
-pub signals_are : (p : Plan) (j : ℕ) (job : PlanJob) → slice_get p.jobs j ≡ Some job → signals_of p j ≡ job.signals
-signals_are p j job at = ap (λ (o : Option PlanJob). option_map_or (λ x. x.signals) o []) at

@@ -1,5 +1,5 @@
 -- Events that the lists of a chain made.
-use Rattle.std.proofs.Common.{◌≡◌, ℕ, false, Option, Some, None, IfSome, refl, sym, subst, ap}
+use Rattle.std.proofs.Common.{◌≡◌, ℕ, false, Option, Some, None, IfSome, refl, sym, subst}
 use Rattle.atomic_table.specs.Seated.{TableId}
 use Rattle.vq_model.proofs.Options.{same_some}
 use Rattle.vq_model.specs.Plan.{Plan}

@@ -1,10 +1,9 @@
 -- The events of jobs that an actor at a board makes: that it may, and that the places stay true.
-use Rattle.std.proofs.Common.{◌≡◌, ◌<◌, ℕ, true, List, Some, length, ap, ◌∙◌}
-use Rattle.std.specs.List.{list_all, slice_get}
+use Rattle.std.proofs.Common.{◌≡◌, ◌<◌, ℕ, true, length}
+use Rattle.std.specs.List.{list_all}
 use Rattle.vq_model.specs.Checks.{IsLawful}
 use Rattle.vq_model.specs.LoweringFaults.{IsPlan}
 use Rattle.vq_model.specs.Plan.{has, signals_of}
-use Rattle.vq_model.specs.declared.plan.PlanJob.{PlanJob}
 use Rattle.vq_turns.specs.declared.task.Task.TheVariants.{Submit, Release, Start, Finish}
 use Rattle.vq_turns.specs.Turns.{forward}
 use Rattle.vq_board_laws.specs.declared.view.View.{View}
@@ -16,7 +15,7 @@ use Rattle.vq_access_laws.specs.Tests.{knows_taken}
 use Rattle.vq_access_laws.proofs.Cited.{may_submit, may_release, may_start, may_finish}
 use Rattle.vq_access_laws.proofs.Cited.{true_learned, true_submitted, true_released, true_started, true_finished}
 use Rattle.vq_access.specs.declared.post.Post.{Post}
-use Rattle.vq_access.proofs.Existing.{release_exists, signal_exists, signals_are}
+use Rattle.vq_access.proofs.Existing.{release_exists, signal_exists}
 use Rattle.vq_access.proofs.Posting.{at, here, seen_by, IsNextTask, AreTrueOf, served, next_there, goes_forward, of_board_plan}
 
 module _ (x : Post) (i : IsPlan x.ordered.now) (l : IsLawful x.ordered.now) where
@@ -79,8 +78,5 @@ module _ (x : Post) (i : IsPlan x.ordered.now) (l : IsLawful x.ordered.now) wher
   pub releases_there : (j : ℕ) → IsNextTask x (Release j) → j < length x.ordered.now.jobs
   releases_there j n = release_exists x.ordered.now i l x.actor x.seat.now.place.done j n
 
-  pub signals_there : (j : ℕ) (job : PlanJob) → slice_get x.ordered.now.jobs j ≡ Some job → (e : ℕ) →
-      has job.signals e ≡ true → e < length x.ordered.now.ops
-  signals_there j job at e m =
-      signal_exists x.ordered.now i l j e
-      (ap (λ (es : List ℕ). has es e) (signals_are x.ordered.now j job at) ∙ m)
+  pub signals_there : (j e : ℕ) → has (signals_of x.ordered.now j) e ≡ true → e < length x.ordered.now.ops
+  signals_there j e m = signal_exists x.ordered.now i l j e m

@@ -31,7 +31,7 @@ use Rattle.vq_timeline.specs.Answers.{Collects}
 use Rattle.vq_timeline.specs.Named.{chain_at, state_of}
 use Rattle.vq_access.specs.Shown.{IsShownAt}
 use Rattle.vq_access_laws.specs.AccessMeanings.{meaning_of, answers_told}
-use Rattle.vq_access_laws.specs.Causes.{Refusals, IsShown, refused, is_of_lists}
+use Rattle.vq_access_laws.specs.Causes.{Refusals, refused, is_of_lists}
 use Rattle.vq_access_laws.specs.Learning.{Learns}
 use Rattle.vq_access_laws.specs.Tests.{saw_value}
 use Rattle.vq_access_laws.proofs.Cited.{refused_now, saw_read, true_taken, true_bound, true_compared}

@@ -1,12 +1,11 @@
 -- What the last step of a pass shows of the event that it made.
-use Rattle.std.proofs.Common.{◌≡◌, ◌≤◌, ◌==◌, ℕ, true, List, ◌∷◌, find, Option, Some, length, refl, sym, ap, ◌∙◌, subst}
+use Rattle.std.proofs.Common.{◌≡◌, ◌≤◌, ◌==◌, ℕ, true, List, ◌∷◌, find, Some, length, refl, sym, ap, subst}
 use Rattle.std.proofs.Common.{arith, inl, inr, if◌then◌else◌, Bool}
 use Rattle.std.specs.Option.{option_map}
 use Rattle.std.proofs.lemmas.Bool.{eq-eqb}
 use Rattle.atomic_table.specs.Seated.{TableId}
 use Rattle.vq_model.proofs.Lists.{has_here}
 use Rattle.vq_model.specs.Memory.{Memory}
-use Rattle.vq_model.specs.Plan.{Plan}
 use Rattle.vq_model.specs.declared.plan.Answer.{Answer as GivenAnswer}
 use Rattle.vq_model.specs.declared.plan.Event.{Event}
 use Rattle.vq_model.specs.declared.plan.Event.TheVariants.{Submit, Release, Start, Apply, Signal, Finish, Answer}

@@ -40,7 +40,7 @@ impl<'a> Post<'a> {
         ensures wants { IfErr result (IsExchangeAmong (signals_of (meaning self.old).plan job)) }
     {
         self.last = Last::Other;
-        let signals = self.ordered.plan().job(job).signals.as_slice();
+        let signals = self.ordered.plan().signals_of(job);
         if let Some(want) = untaken(
             lists,
             self.ordered,

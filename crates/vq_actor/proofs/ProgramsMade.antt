@@ -108,7 +108,7 @@ module _ (p : Plan) (j : ℕ) (x : PlanJob) (at : slice_get p.jobs j ≡ Some x)
   pub part_at : {B : Type 0} (f : PlanJob → B) (none : B) → f x ≡ part f none
   part_at f none = ap (λ o. option_map_or f o none) (sym at)
 
-  pub command_added : (k c : ℕ) (s t u v : List Task) → slice_get x.commands k ≡ Some c →
+  pub command_added : (k c : ℕ) (s t u v : List Task) → slice_get (commands_of p j) k ≡ Some c →
       t ≡ s ++ flat_map (runs_command p j) (take k (enumerate_from 1 (commands_of p j))) →
       u ≡ t ++ map (λ n. AwaitNeeds (n ∷ [])) (filter (is_within (Place (k + 1))) x.needs) →
       v ≡ u ++ Apply j c ∷ [] →
@@ -123,20 +123,19 @@ module _ (p : Plan) (j : ℕ) (x : PlanJob) (at : slice_get p.jobs j ≡ Some x)
       let index : 1 + k ≡ k + 1 = omega arith in
       let next : slice_get ks k ≡ Some (k + 1, c) =
       get-enumerate 1 (commands_of p j) k
-      ∙ (ap (λ cs. option_map (λ d. (1 + k, d)) (slice_get cs k)) (sym (part_at (λ y. y.commands) []))
-      ∙ (ap (option_map (λ d. (1 + k, d))) is ∙ ap (λ (i : ℕ). Some (i, c)) index)) in
+      ∙ (ap (option_map (λ d. (1 + k, d))) is ∙ ap (λ (i : ℕ). Some (i, c)) index) in
       both s t v front (waits x.needs ++ Apply j c ∷ []) e (both t u v (waits x.needs) (Apply j c ∷ []) f g)
       ∙ ap (λ ts. s ++ ts)
       (sym (ap (flat_map (runs_command p j)) (take_push ks k (k + 1, c) next)
       ∙ (flat_map_push (runs_command p j) (take k ks) (k + 1, c) ∙ ap (λ ts. front ++ ts) here)))
 
-  pub commands_end : (k : ℕ) (s t : List Task) → k ≡ length x.commands →
+  pub commands_end : (k : ℕ) (s t : List Task) → k ≡ length (commands_of p j) →
       t ≡ s ++ flat_map (runs_command p j) (take k (enumerate_from 1 (commands_of p j))) →
       t ≡ s ++ flat_map (runs_command p j) (enumerate_from 1 (commands_of p j))
   commands_end k s t at_end e =
       let cs = commands_of p j in
       let whole : k ≡ length (enumerate_from 1 cs) =
-      at_end ∙ (ap length (part_at (λ y. y.commands) []) ∙ sym (length-enumerate 1 cs)) in
+      at_end ∙ sym (length-enumerate 1 cs) in
       e ∙ (ap (λ (i : ℕ). s ++ flat_map (runs_command p j) (take i (enumerate_from 1 cs))) whole
       ∙ ap (λ ks. s ++ flat_map (runs_command p j) ks) (take-length (enumerate_from 1 cs)))
 
@@ -145,7 +144,7 @@ module _ (p : Plan) (j : ℕ) (x : PlanJob) (at : slice_get p.jobs j ≡ Some x)
       t3 ≡ t2 ++ Start j ∷ [] →
       t4 ≡ t3 ++ flat_map (runs_command p j) (enumerate_from 1 (commands_of p j)) →
       t5 ≡ t4 ++ map (λ n. AwaitNeeds (n ∷ [])) (filter (is_within (Behind (length x.commands))) x.needs) →
-      t6 ≡ t5 ++ map Signal x.signals → t7 ≡ t6 ++ Finish j ∷ [] → t7 ≡ old ++ runs_batch p j
+      t6 ≡ t5 ++ map Signal (signals_of p j) → t7 ≡ t6 ++ Finish j ∷ [] → t7 ≡ old ++ runs_batch p j
   runs_are old t1 t2 t3 t4 t5 t6 t7 e1 e2 e3 e4 e5 e6 e7 =
       let waits : Within → List Need → List Task =
       λ within ns. map (λ n. AwaitNeeds (n ∷ [])) (filter (is_within within) ns) in
@@ -154,22 +153,22 @@ module _ (p : Plan) (j : ℕ) (x : PlanJob) (at : slice_get p.jobs j ≡ Some x)
       let b = waits AtStart x.needs in
       let c : List Task = Start j ∷ [] in
       let d = waits (Behind (length x.commands)) x.needs in
-      let whole : List Need → List ℕ → List ℕ → List Task = λ ns cs es.
-      a ++ waits AtStart ns ++ c ++ commands ++ waits (Behind (length cs)) ns ++ map Signal es ++ Finish j ∷ [] in
+      let signals : List Task = map Signal (signals_of p j) in
+      let whole : List Need → List ℕ → List Task = λ ns cs.
+      a ++ waits AtStart ns ++ c ++ commands ++ waits (Behind (length cs)) ns ++ signals ++ Finish j ∷ [] in
       let d2 = both old t1 t2 a b e1 e2 in
       let d3 = both old t2 t3 (a ++ b) c d2 e3 in
       let d4 = both old t3 t4 (a ++ b ++ c) commands d3 e4 in
       let d5 = both old t4 t5 (a ++ b ++ c ++ commands) d d4 e5 in
-      let d6 = both old t5 t6 (a ++ b ++ c ++ commands ++ d) (map Signal x.signals) d5 e6 in
-      both old t6 t7 (a ++ b ++ c ++ commands ++ d ++ map Signal x.signals) (Finish j ∷ []) d6 e7
-      ∙ (ap (λ ns. old ++ whole ns x.commands x.signals) (part_at (λ y. y.needs) [])
-      ∙ (ap (λ cs. old ++ whole (needs p j) cs x.signals) (part_at (λ y. y.commands) [])
-      ∙ ap (λ es. old ++ whole (needs p j) (commands_of p j) es) (part_at (λ y. y.signals) [])))
+      let d6 = both old t5 t6 (a ++ b ++ c ++ commands ++ d) signals d5 e6 in
+      both old t6 t7 (a ++ b ++ c ++ commands ++ d ++ signals) (Finish j ∷ []) d6 e7
+      ∙ (ap (λ ns. old ++ whole ns x.commands) (part_at (λ y. y.needs) [])
+      ∙ ap (λ cs. old ++ whole (needs p j) cs) (part_at (λ y. y.commands) []))
 
   pub step_is : (old t1 t2 t3 t4 t5 t6 t7 t8 t9 : List Task) → t1 ≡ old ++ host_waits p j →
       t2 ≡ t1 ++ map AwaitFinished x.idle_after → t3 ≡ t2 ++ Start j ∷ [] →
-      t4 ≡ t3 ++ map (λ e. Take e (option_map_or (λ t. t) (chain_of p e) 0)) x.signals →
-      t5 ≡ t4 ++ map Bind x.signals → t6 ≡ t5 ++ map Signal x.signals →
+      t4 ≡ t3 ++ map (λ e. Take e (option_map_or (λ t. t) (chain_of p e) 0)) (signals_of p j) →
+      t5 ≡ t4 ++ map Bind (signals_of p j) → t6 ≡ t5 ++ map Signal (signals_of p j) →
       t7 ≡ t6 ++ map (λ n. Compare n.chain n.value) x.asked →
       t8 ≡ t7 ++ (if is_silent x.question then [] else Answer j x.question ∷ []) →
       t9 ≡ t8 ++ Finish j ∷ [] → t9 ≡ old ++ does_step p j
@@ -177,14 +176,14 @@ module _ (p : Plan) (j : ℕ) (x : PlanJob) (at : slice_get p.jobs j ≡ Some x)
       let a = host_waits p j in
       let b : List Task = map AwaitFinished x.idle_after in
       let c : List Task = Start j ∷ [] in
-      let d : List Task = map (λ e. Take e (option_map_or (λ t. t) (chain_of p e) 0)) x.signals in
-      let f : List Task = map Bind x.signals in
-      let g : List Task = map Signal x.signals in
+      let es = signals_of p j in
+      let d : List Task = map (λ e. Take e (option_map_or (λ t. t) (chain_of p e) 0)) es in
+      let f : List Task = map Bind es in
+      let g : List Task = map Signal es in
       let h : List Task = map (λ n. Compare n.chain n.value) x.asked in
       let answers : Question → List Task = λ q. if is_silent q then [] else Answer j q ∷ [] in
-      let whole : List ℕ → List ℕ → List Need → Question → List Task = λ is es ns q.
-      a ++ map AwaitFinished is ++ c ++ map (λ e. Take e (option_map_or (λ t. t) (chain_of p e) 0)) es
-      ++ map Bind es ++ map Signal es ++ map (λ n. Compare n.chain n.value) ns ++ answers q
+      let whole : List ℕ → List Need → Question → List Task = λ is ns q.
+      a ++ map AwaitFinished is ++ c ++ d ++ f ++ g ++ map (λ n. Compare n.chain n.value) ns ++ answers q
       ++ Finish j ∷ [] in
       let d2 = both old t1 t2 a b e1 e2 in
       let d3 = both old t2 t3 (a ++ b) c d2 e3 in
@@ -194,18 +193,15 @@ module _ (p : Plan) (j : ℕ) (x : PlanJob) (at : slice_get p.jobs j ≡ Some x)
       let d7 = both old t6 t7 (a ++ b ++ c ++ d ++ f ++ g) h d6 e7 in
       let d8 = both old t7 t8 (a ++ b ++ c ++ d ++ f ++ g ++ h) (answers x.question) d7 e8 in
       both old t8 t9 (a ++ b ++ c ++ d ++ f ++ g ++ h ++ answers x.question) (Finish j ∷ []) d8 e9
-      ∙ (ap (λ is. old ++ whole is x.signals x.asked x.question) (part_at (λ y. y.idle_after) [])
-      ∙ (ap (λ es. old ++ whole (idle_after p j) es x.asked x.question) (part_at (λ y. y.signals) [])
-      ∙ (ap (λ ns. old ++ whole (idle_after p j) (signals_of p j) ns x.question) (part_at (λ y. y.asked) [])
-      ∙ ap (λ q. old ++ whole (idle_after p j) (signals_of p j) (asked p j) q)
-      (part_at (λ y. y.question) Silent))))
+      ∙ (ap (λ is. old ++ whole is x.asked x.question) (part_at (λ y. y.idle_after) [])
+      ∙ (ap (λ ns. old ++ whole (idle_after p j) ns x.question) (part_at (λ y. y.asked) [])
+      ∙ ap (λ q. old ++ whole (idle_after p j) (asked p j) q) (part_at (λ y. y.question) Silent)))
 
 -- a job's signals are operations of the plan
-pub signals_exist : (p : Plan) → IsWellFormed p → (j : ℕ) (x : PlanJob) → slice_get p.jobs j ≡ Some x →
-    All (λ e. e < length p.ops) x.signals
-signals_exist p wf j x at =
-    from_member (λ e. e < length p.ops) x.signals (λ e h. of_op e (slice_get p.ops e) refl
-    (wf.of_job e j (ap (λ o. has (option_map_or (λ y. y.signals) o []) e) at ∙ h)))
+pub signals_exist : (p : Plan) → IsWellFormed p → (j : ℕ) → All (λ e. e < length p.ops) (signals_of p j)
+signals_exist p wf j =
+    from_member (λ e. e < length p.ops) (signals_of p j)
+    (λ e h. of_op e (slice_get p.ops e) refl (wf.of_job e j h))
   where
     of_op : (e : ℕ) (o : Option Op) → slice_get p.ops e ≡ o → option_map (λ y. y.job) o ≡ Some j → e < length p.ops
     of_op e None is h = absurd (cc)

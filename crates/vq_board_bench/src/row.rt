@@ -1,5 +1,5 @@
 //! A plan of batches in a row on one queue, the first of which have a command and a signal each.
-ghost use Rattle.std.specs.Prelude.{◌≡◌, ℕ, ◌+◌, ◌<◌, ◌≤◌, length, true, Some};
+ghost use Rattle.std.specs.Prelude.{◌≡◌, ℕ, ◌+◌, ◌<◌, ◌≤◌, ◌∷◌, [], length, true, Some};
 ghost use Rattle.std.specs.List.{slice_get};
 ghost use Rattle.vq_model.specs.LoweringFaults.{IsPlan};
 ghost use Rattle.vq_model.specs.Plan.{chain};
@@ -35,15 +35,12 @@ pub(crate) fn row_text(alloc: Global, batches: u32, form: Form) -> Result<String
     Ok(text)
 }
 
-/// Whether a list has the number of one of the first batches alone, or nothing for another batch.
-fn is_one_of_first(list: &[u32], count: u32, j: u32) -> bool
-    ensures { result ≡ true → IsOneOfFirst list.now count j }
+/// A number alone where it is one of the first so many, and else nothing.
+fn one_of_first(own: &[u32], count: u32, j: u32) -> &[u32]
+    requires { own.now ≡ j ∷ [] }
+    ensures { IsOneOfFirst result.now count j }
 {
-    match list {
-        [] => j >= count,
-        [only] => j < count && *only == j,
-        _ => false,
-    }
+    if j < count { own } else { &own[..0] }
 }
 
 /// Whether there is no job before a job, or the one with the number before it.
@@ -61,12 +58,14 @@ fn is_next(previous: Option<u32>, j: u32) -> bool
 fn is_link(job: &PlanJob, commands: u32, signals: u32, j: u32) -> bool
     ensures { result ≡ true → IsLink job.now commands signals j }
 {
-    let (its_commands, its_signals) = (job.commands.as_slice(), job.signals.as_slice());
-    is_batch(job, 0, its_commands, its_signals)
-        && job.needs.len() == 0
+    let own = [j];
+    is_batch(
+        job,
+        0,
+        one_of_first(&own, commands, j),
+        one_of_first(&own, signals, j),
+    ) && job.needs.len() == 0
         && is_next(job.previous, j)
-        && is_one_of_first(its_commands, commands, j)
-        && is_one_of_first(its_signals, signals, j)
 }
 
 /// Whether so is this job of a plan, with the host to release it and the first chain for its signal.

@@ -4,7 +4,6 @@ ghost use Rattle.vq_model.specs.Plan.{needs, resolver};
 ghost use Rattle.vq_board_example.specs.FillAndCopy.{IsBatch, HasBatch, IsRead, HasRead, WaitsFor};
 ghost use Rattle.vq_board_example.specs.FillAndCopy.{HasJobs, HasSignal, IsFillAndCopy};
 
-use vq_board_stage::alone::is_same;
 use vq_spec::{Lane, Need, Plan, PlanJob, Question};
 
 /// Whether a job is a batch of the queue with these commands and signals, and the first of its queue.
@@ -17,7 +16,7 @@ fn is_batch(job: &PlanJob, queue: u32, commands: &[u32], signals: &[u32]) -> boo
     if own != queue || job.any || job.previous.is_some() || job.idle_after.len() != 0 {
         return false;
     }
-    if !is_same(job.commands.as_slice(), commands) || !is_same(job.signals.as_slice(), signals) {
+    if !job.commands.are(commands) || !job.signals.are(signals) {
         return false;
     }
     matches!(job.question, Question::Silent)

@@ -7,13 +7,6 @@ use crate::three_signals::is_batch;
 use vq_board::{Board, JobState, Pass};
 use vq_spec::{Plan, PlanJob};
 
-/// Whether two lists of numbers are the same.
-pub fn is_same(left: &[u32], right: &[u32]) -> bool
-    ensures { result ≡ true → left.now ≡ right.now }
-{
-    left == right
-}
-
 /// Whether a job is a batch of the queue with these commands, and has nothing to do with other jobs.
 fn is_plain(job: &PlanJob, queue: u32, commands: &[u32]) -> bool
     ensures { result ≡ true → IsPlain job.now queue commands.now }

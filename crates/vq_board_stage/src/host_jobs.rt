@@ -2,7 +2,6 @@
 ghost use Rattle.std.specs.Prelude.{◌≡◌, ◌<◌, ℕ, true, Some};
 ghost use Rattle.vq_board_stage.specs.HostSteps.{IsHostStep, HasRead, HasSignal, AreSingle};
 
-use crate::alone::is_same;
 use crate::three_signals::is_signal;
 use vq_spec::{Lane, Plan, PlanJob, Question};
 
@@ -49,7 +48,7 @@ pub fn signals(plan: &Plan, j: u32, op: u32) -> bool
         return false;
     }
     let job = plan.job(j);
-    if !matches!(job.question, Question::Silent) || !is_same(job.signals.as_slice(), &[op]) {
+    if !matches!(job.question, Question::Silent) || !job.signals.are(&[op]) {
         return false;
     }
     is_host_step(job, j)

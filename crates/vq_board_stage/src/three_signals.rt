@@ -5,7 +5,6 @@ ghost use Rattle.vq_board_laws.specs.declared.view.Role.TheVariants.{Submit};
 ghost use Rattle.vq_board_stage.specs.ThreeSignals.{IsBatch, HasBatch, WaitsFor, IsSignal};
 ghost use Rattle.vq_board_stage.specs.ThreeSignals.{HasBatches, HasSignals, IsOfThreeSignals};
 
-use crate::alone::is_same;
 use vq_spec::{Lane, Plan, PlanJob, Question};
 
 /// Whether a job is a batch of the queue with these commands and signals.
@@ -18,7 +17,7 @@ pub fn is_batch(job: &PlanJob, queue: u32, commands: &[u32], signals: &[u32]) ->
     if own != queue || job.any || job.idle_after.len() != 0 {
         return false;
     }
-    if !is_same(job.commands.as_slice(), commands) || !is_same(job.signals.as_slice(), signals) {
+    if !job.commands.are(commands) || !job.signals.are(signals) {
         return false;
     }
     matches!(job.question, Question::Silent)

@@ -1,5 +1,4 @@
 -- What other crates may cite of this one. All other files of proofs are private to it.
-pub use Rattle.vq_clocks.proofs.CommandJobs.{command_has_job, owner_exists}
 pub use Rattle.vq_clocks.proofs.CommandPlaces.{later_command}
 pub use Rattle.vq_clocks.proofs.Marking.{last_item_cases, taken_cases}
 pub use Rattle.vq_clocks.proofs.NeedChains.{need_chain, resolver_here}

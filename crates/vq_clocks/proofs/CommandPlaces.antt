@@ -1,5 +1,5 @@
 -- The commands of a job stand one after another, so what happens before one of them happens before the later ones.
-use Rattle.std.proofs.Common.{◌≡◌, ℕ, zero, suc, ◌+◌, ◌-◌, ◌<◌, ◌≤◌, true, List, [], ◌∷◌, length, get_or, fold, take, Option, Some, None, sym, inl, inr, subst, arith}
+use Rattle.std.proofs.Common.{◌≡◌, ℕ, zero, suc, ◌+◌, ◌-◌, ◌<◌, ◌≤◌, true, List, [], ◌∷◌, length, get_or, fold, take, Option, Some, None, sym, ap, inl, inr, subst, arith}
 use Rattle.std.specs.List.{range_with_len, slice_get}
 use Rattle.std.specs.Option.{option_map_or}
 use Rattle.std.proofs.lemmas.Bool.{cases_eq, false≢true, ne_eqb}
@@ -75,3 +75,9 @@ job_stands s j d h =
 
 pub command_stands : (p : Plan) → IsPlan p → (j d : ℕ) → has (commands_of p j) d ≡ true → StandsAt (commands_of p j) d
 command_stands p plan = subst (λ (q : Plan). (j d : ℕ) → has (commands_of q j) d ≡ true → StandsAt (commands_of q j) d) (sym plan.lowered) (job_stands p.script)
+
+-- the first number of a range that isn't empty
+pub first_of_range : (xs : List ℕ) (first x : ℕ) → xs ≡ range_with_len first (length xs) → has xs x ≡ true →
+    get_or xs 0 0 ≡ first
+first_of_range [] first x e h = absurd (false≢true h)
+first_of_range (y ∷ ys) first x e h = ap (λ zs. get_or zs 0 0) e

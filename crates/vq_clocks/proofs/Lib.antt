@@ -3,7 +3,6 @@ mod SlowFacts
 mod Covering
 mod ClockLaws
 mod RowLaws
-mod CommandJobs
 mod CommandPlaces
 mod Marking
 mod NeedChains

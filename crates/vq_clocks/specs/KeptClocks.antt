@@ -1,17 +1,15 @@
 -- What is kept beside a plan of which the slow run leaves no job: the clocks of its jobs and of their
--- parts, and the job of each command.
+-- parts.
 -- This project's own.
 use Rattle.std.specs.Prelude.{ℕ, List, length}
 use Rattle.vq_model.specs.Plan.{Plan}
 use Rattle.vq_model.specs.SlowRun.{slow_order}
 use Rattle.vq_clocks.specs.declared.clocks.parts.Parts.{Parts}
 use Rattle.vq_clocks.specs.PartClocks.{HaveParts}
-use Rattle.vq_clocks.specs.VectorClocks.{HasClocks, HasOwners, HasSureClocks, IsComplete}
+use Rattle.vq_clocks.specs.VectorClocks.{HasClocks, HasSureClocks, IsComplete}
 
-pub record KeepsClocks (p : Plan) (rows sure_rows : List (List ℕ)) (parts : List Parts)
-    (owners : List ℕ) : Type 0 where
+pub record KeepsClocks (p : Plan) (rows sure_rows : List (List ℕ)) (parts : List Parts) : Type 0 where
   pub complete : IsComplete p
   pub before : HasClocks p rows (length (slow_order p))
   pub sure : HasSureClocks p sure_rows (length (slow_order p))
   pub of_parts : HaveParts p parts
-  pub of_commands : HasOwners p owners

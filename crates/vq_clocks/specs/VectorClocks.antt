@@ -161,9 +161,3 @@ pub record KeepsRun (p : Plan) (order positions : List ℕ) : Type 0 where
 -- a command is of a job
 abbrev pub IsOfSomeJob : Plan → ℕ → Type 0
 IsOfSomeJob p c = (j : ℕ) × (has (commands_of p j) c ≡ true)
-
--- and the job of each command
-pub record HasOwners (p : Plan) (owners : List ℕ) : Type 0 where
-  pub count : length owners ≡ length p.commands
-  pub each : (c : ℕ) → c < length p.commands →
-      has (commands_of p (slice_index_or owners c 0)) c ≡ true

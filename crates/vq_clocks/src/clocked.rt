@@ -17,7 +17,6 @@ use crate::clocks::parts::{Parts, all_parts, ends_before};
 use crate::clocks::rows::at;
 use crate::clocks::sure::sure_rows;
 use crate::complete_run::CompleteRun;
-use crate::owners::owners;
 use std::alloc::{AllocError, Global};
 use std::marker::Model;
 use vq_lists::Rows;
@@ -28,13 +27,12 @@ use vq_spec::Plan;
 
 /// A plan of which the slow run leaves no job, with two vector clocks for each job: the one says
 /// which jobs are before it, the other which signal operations are sure for it. Where waits hold back
-/// only a part of a batch, its first parts have clocks of their own. And the job of each command.
+/// only a part of a batch, its first parts have clocks of their own.
 pub struct Clocked {
     run: CompleteRun,
     before: Rows,
     sure: Rows,
     parts: Vec<Parts>,
-    owners: Vec<u32>,
 }
 
 impl Drop for Clocked {
@@ -44,7 +42,6 @@ impl Drop for Clocked {
             before: _before,
             sure: _sure,
             parts: _parts,
-            owners: _owners,
         } = self;
     }
 }
@@ -57,7 +54,7 @@ impl Model for Clocked {
 
     ghost view = { λ a. a.run };
 
-    ghost invariant = { λ a. KeepsClocks a.run a.before a.sure a.parts.items a.owners.items };
+    ghost invariant = { λ a. KeepsClocks a.run a.before a.sure a.parts.items };
 }
 
 impl Clocked {
@@ -72,13 +69,11 @@ impl Clocked {
         let before = before_rows(alloc, &run)?;
         let sure = sure_rows(alloc, &run)?;
         let parts = all_parts(alloc, &run, &before)?;
-        let owners = owners(alloc, run.plan())?;
         Ok(Clocked {
             run,
             before,
             sure,
             parts,
-            owners,
         })
     }
 
@@ -100,7 +95,7 @@ impl Clocked {
         requires { IsOfSomeJob self.now c }
         ensures { (j : ℕ) → has (commands_of self.now j) c ≡ true → result ≡ j }
     {
-        self.owners.as_slice()[c as usize]
+        self.plan().owner(c)
     }
 
     /// How many commands of its job are before a command. They are numbered one after another.
@@ -108,7 +103,7 @@ impl Clocked {
         requires { has (commands_of self.now j) d ≡ true }
         ensures { stage_of self.now j d ≡ At (suc result) }
     {
-        d - self.job(j).commands.as_slice()[0]
+        d - self.job(j).commands.first()
     }
 
     /// Whether the commands of one job happen before a command of another.

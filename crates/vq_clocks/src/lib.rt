@@ -5,6 +5,5 @@
 mod clocked;
 mod clocks;
 mod complete_run;
-mod owners;
 
 pub use clocked::Clocked;

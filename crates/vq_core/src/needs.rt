@@ -37,7 +37,7 @@ impl Core {
         ensures value { result.now ≡ signals_of self.now.plan job }
         ensures exist { All (λ e. e < length self.now.plan.ops) result.now }
     {
-        self.plan().job(job).signals.as_slice()
+        self.plan().signals_of(job)
     }
 
     /// Whether a need has a pending or a past signal, or was reached from the beginning.

@@ -60,10 +60,7 @@ impl Core {
         requires { job < length self.now.plan.jobs }
         ensures { result ≡ next (has (world self.now).machine.progress.applied) (commands_of self.now.plan job) }
     {
-        element(
-            self.plan().job(job).commands.as_slice(),
-            self.job_state(job).commands,
-        )
+        element(self.plan().commands_of(job), self.job_state(job).commands)
     }
 
     /// Whether all signals of a job are made.
@@ -79,10 +76,7 @@ impl Core {
         requires { job < length self.now.plan.jobs }
         ensures { result ≡ next (world self.now).machine.progress.made (signals_of self.now.plan job) }
     {
-        element(
-            self.plan().job(job).signals.as_slice(),
-            self.job_state(job).signals,
-        )
+        element(self.plan().signals_of(job), self.job_state(job).signals)
     }
 
     /// Whether all needs of a job are reached that hold back what comes after so many commands.

@@ -8,12 +8,13 @@ ghost use Rattle.vq_lists.specs.Cut.{start_of};
 use std::alloc::{AllocError, Global};
 use std::marker::Model;
 
-/// Rows of numbers, one behind another in one list. A row may have any length.
+/// Rows of numbers, one behind another in one list. A row may have any length; all rows together have less than 2^32
+/// numbers.
 #[derive(Drop)]
 pub struct Rows {
     numbers: Vec<u32>,
     /// Where each row ends.
-    ends: Vec<usize>,
+    ends: Vec<u32>,
 }
 
 impl Model for Rows {
@@ -48,7 +49,7 @@ impl Rows {
         })
     }
 
-    /// Adds a row behind the others. The error is want of memory.
+    /// Adds a row behind the others. The error is want of memory; more numbers than the rows may have are that too.
     #[inline(always)]
     #[tactic(auto, using(crate::proofs::Cuts::ends_pushed, crate::proofs::Cuts::row_pushed))]
     pub fn push(&mut self, row: &[u32]) -> Result<(), AllocError>
@@ -56,7 +57,11 @@ impl Rows {
     {
         let before = self.numbers.len();
         self.numbers.extend_from_slice(row)?;
-        if let Err(lack) = self.ends.push(self.numbers.len()) {
+        let Ok(end) = u32::try_from(self.numbers.len()) else {
+            self.numbers.truncate(before);
+            return Err(AllocError);
+        };
+        if let Err(lack) = self.ends.push(end) {
             // a row that has no end is none
             self.numbers.truncate(before);
             return Err(lack.into());
@@ -81,13 +86,13 @@ impl Rows {
     {
         let start = start_of(self.ends.as_slice(), n);
         let end = self.ends[n];
-        &self.numbers[start..end]
+        &self.numbers[start as usize..end as usize]
     }
 }
 
 /// Where a row begins: at the end of the one before it.
 #[inline(always)]
-fn start_of(ends: &[usize], n: usize) -> usize
+fn start_of(ends: &[u32], n: usize) -> u32
     requires { n < length ends.now }
     ensures { result ≡ start_of 0 ends.now n }
 {

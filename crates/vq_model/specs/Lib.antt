@@ -1,4 +1,3 @@
-pub mod KeptIndices
 pub mod Text
 pub mod Ranges
 pub mod Forms

@@ -20,7 +20,6 @@ use Rattle.vq_model.specs.ValidScripts.{IsValidStep, is_fence_at}
 use Rattle.vq_model.specs.Sure.{IsSure}
 use Rattle.vq_model.specs.Checks.{names_at, resets_at, IsFenceBusyAt, IsLeast}
 use Rattle.vq_model.specs.Plan.{Plan, has, job_of, line_of_job, signals_of}
-use Rattle.vq_model.specs.declared.plan.PlanJob.{PlanJob}
 use Rattle.vq_model.proofs.Lists.{has_here}
 use Rattle.vq_model.proofs.Gets.{get_within}
 use Rattle.vq_reading_laws.proofs.Cited.{read_batches, read_steps, read_lines_rise, kind_exists}
@@ -391,22 +390,19 @@ jobs_count p i =
     subst (λ (q : Plan). length q.jobs ≡ length p.script.jobs) (sym i.lowered) (count_jobs p.script)
 
 -- the signals of a job, as they were read
-pub of_signal : (p : Plan) → IsPlan p → (j : ℕ) (job : PlanJob) → slice_get p.jobs j ≡ Some job →
-    (ops : List ℕ) → ops ≡ job.signals → (k : ℕ) → k < length ops → job_of p (get_or ops k 0) ≡ Some j
-of_signal p i j job at ops e k l =
-    let signals : signals_of p j ≡ job.signals = ap (λ o. option_map_or (λ x. x.signals) o []) at in
+pub of_signal : (p : Plan) → IsPlan p → (j : ℕ) (ops : List ℕ) → ops ≡ signals_of p j → (k : ℕ) →
+    k < length ops → job_of p (get_or ops k 0) ≡ Some j
+of_signal p i j ops e k l =
     (plan_well_formed p i).of_job (get_or ops k 0) j
-    (subst (λ (xs : List ℕ). has xs (get_or ops k 0) ≡ true) (e ∙ sym signals) (has_at ops k l))
+    (subst (λ (xs : List ℕ). has xs (get_or ops k 0) ≡ true) e (has_at ops k l))
 
-pub signal_exists : (p : Plan) → IsPlan p → (j : ℕ) (job : PlanJob) → slice_get p.jobs j ≡ Some job →
-    (ops : List ℕ) → ops ≡ job.signals → (k : ℕ) → k < length ops → get_or ops k 0 < length p.ops
-signal_exists p i j job at ops e k l = op_exists p (get_or ops k 0) j (of_signal p i j job at ops e k l)
+pub signal_exists : (p : Plan) → IsPlan p → (j : ℕ) (ops : List ℕ) → ops ≡ signals_of p j → (k : ℕ) →
+    k < length ops → get_or ops k 0 < length p.ops
+signal_exists p i j ops e k l = op_exists p (get_or ops k 0) j (of_signal p i j ops e k l)
 
-pub signal_here : (p : Plan) → IsPlan p → (j : ℕ) (job : PlanJob) → slice_get p.jobs j ≡ Some job →
-    (ops : List ℕ) → ops ≡ job.signals → (e : ℕ) → job_of p e ≡ Some j → has ops e ≡ true
-signal_here p i j job at ops q e of =
-    let signals : signals_of p j ≡ job.signals = ap (λ o. option_map_or (λ x. x.signals) o []) at in
-    subst (λ (xs : List ℕ). has xs e ≡ true) (signals ∙ sym q) ((plan_well_formed p i).in_job e j of)
+pub signal_here : (p : Plan) → IsPlan p → (j : ℕ) (ops : List ℕ) → ops ≡ signals_of p j → (e : ℕ) →
+    job_of p e ≡ Some j → has ops e ≡ true
+signal_here p i j ops q e of = subst (λ (xs : List ℕ). has xs e ≡ true) (sym q) ((plan_well_formed p i).in_job e j of)
 
 pub job_read : (p : Plan) → IsPlan p → (items : List Job) → items ≡ p.script.jobs → (j : ℕ) → j < length p.jobs →
     (job : Job) → job ≡ get_or items j job → slice_get p.script.jobs j ≡ Some job

@@ -17,7 +17,7 @@ use Rattle.vq_order.specs.declared.races.cells.Cell.{Cell}
 use Rattle.vq_order.specs.declared.races.accesses.Span.{Span}
 use Rattle.vq_clocks.specs.VectorClocks.{IsComplete}
 use Rattle.vq_order.proofs.AccessLaws.{race_is}
-use Rattle.vq_clocks.proofs.Cited.{owner_exists}
+use Rattle.vq_plan_laws.proofs.Cited.{owner_exists}
 use Rattle.vq_order.proofs.CutLaws.{shared_cell}
 use Rattle.vq_clocks.proofs.Cited.{taken_cases}
 

@@ -54,7 +54,7 @@ fn is_in_use(order: &Clocked, fence: u32, naming: u32, j: u32) -> bool
     requires exists { j < length order.now.jobs }
     ensures { IsTrue result ↔ IsInUse order.now fence naming j }
 {
-    for op in order.job(naming).signals.as_slice() {
+    for op in order.plan().signals_of(naming) {
         if order.op(*op).chain == fence && !order.is_sure(*op, j) {
             return true;
         }

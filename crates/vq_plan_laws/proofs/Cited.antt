@@ -1,5 +1,7 @@
 -- What other crates may cite of this one. All other files of proofs are private to it.
 pub use Rattle.vq_plan_laws.proofs.AskedChains.{plan_asked, plan_reads}
+pub use Rattle.vq_plan_laws.proofs.CommandJobs.{HasOwner, StandsAt, command_has_job, command_owner, counted}
+pub use Rattle.vq_plan_laws.proofs.CommandJobs.{owner_exists, owner_has, stands_at}
 pub use Rattle.vq_plan_laws.proofs.FaultLaws.{no_fault_found}
 pub use Rattle.vq_plan_laws.proofs.HostPlans.{host_order}
 pub use Rattle.vq_plan_laws.proofs.LastBefore.{HasNone, IsLast, last_cases}

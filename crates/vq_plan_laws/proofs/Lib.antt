@@ -1,5 +1,6 @@
 pub mod Cited
 mod AskedChains
+mod CommandJobs
 mod FaultLaws
 mod HostPlans
 mod LastBefore

@@ -1,11 +1,10 @@
 -- All that is kept of a plan.
-use Rattle.std.proofs.Common.{◌≡◌, ℕ, ◌<◌, ◌≤◌, ◌^◌, length, map, get_or, zero-add, List, [], Some, None, refl, ap, ◌∙◌, arith, subst}
+use Rattle.std.proofs.Common.{◌≡◌, ℕ, ◌<◌, ◌≤◌, ◌^◌, length, map, get_or, zero-add, List, [], None, refl, sym, ap, ◌∙◌, arith, subst}
 use Rattle.std.specs.List.{enumerate_from, range_with_len, flat_map}
-use Rattle.std.proofs.lemmas.List.{length-map}
-use Rattle.std.proofs.lemmas.List.FromFn.{length-map-range_with_len, get_or-map-range_with_len}
+use Rattle.std.proofs.lemmas.List.FromFn.{length-map-range_with_len, length-range_with_len, get_or-map-range_with_len}
 use Rattle.vq_model.specs.declared.script.Script.{Script}
 use Rattle.vq_model.specs.Edges.{AtEnd, awaited_at, edges_to}
-use Rattle.vq_model.specs.Lowering.{plan_of, plan_job}
+use Rattle.vq_model.specs.Lowering.{batch_commands, plan_of, plan_job}
 use Rattle.vq_model.specs.LoweringFaults.{lowering_fault, IsPlan}
 use Rattle.vq_model.specs.Plan.{Plan}
 use Rattle.vq_model.specs.SameScript.{IsRead}
@@ -18,7 +17,7 @@ use Rattle.vq_spec.specs.ChainParts.{AreChains}
 use Rattle.vq_spec.specs.Counts.{AreLowered, first_ops, unplaced}
 use Rattle.vq_spec.specs.Waits.{AreWaits}
 use Rattle.vq_spec.specs.PlanTables.{KeepsPlan}
-use Rattle.vq_spec.specs.Places.{command_there}
+use Rattle.vq_spec.specs.Owners.{HasOwners}
 use Rattle.vq_spec.proofs.Lowered.{few_jobs, few_commands, plan_length}
 use Rattle.vq_spec.proofs.PlanChains.{unplaced_ops}
 use Rattle.vq_spec.proofs.Ranges.{take_all}
@@ -30,6 +29,9 @@ use Rattle.vq_plan_laws.proofs.Cited.{count_ops}
 module _ (s : Script) (x : Lowered) (k : AreLowered s (length s.jobs) x) where
   pub lowered_jobs : x.jobs.items ≡ (plan_of s).jobs
   lowered_jobs = k.jobs ∙ ap (λ jobs. map (plan_job s) (enumerate_from 0 jobs)) (take_all s.jobs)
+
+  pub lowered_commands : x.commands ≡ length (plan_of s).commands
+  lowered_commands = k.commands ∙ ap (λ jobs. length (flat_map batch_commands jobs)) (take_all s.jobs)
 
   all_counted : length x.signals.ops.items ≡ length (all_signals s)
   all_counted = k.operations
@@ -59,18 +61,18 @@ few_chains s i = (read_valid s i).limits.semaphores
 pub kept : (s : Script) → IsRead s → lowering_fault s ≡ None → (t : Tables) →
     t.jobs.items ≡ (plan_of s).jobs →
     AreWaits (plan_of s) (length t.jobs.items) t.waits →
-    map (command_there s.jobs) t.places.items ≡ map Some (plan_of s).commands →
+    HasOwners (plan_of s) t.owners.items →
+    (n : ℕ) → t.numbers.items ≡ range_with_len 0 n → length (plan_of s).commands ≤ n → length t.ops.items ≤ n →
     t.ops.items ≡ (plan_of s).ops → AreChains s t.chains.items → KeepsPlan s t
-kept s i none t jobs waits places ops chains =
+kept s i none t jobs waits owners n numbers more_commands more_ops ops chains =
+    let numbered = ap length numbers ∙ length-range_with_len 0 n in
     let jobs_count = few_jobs s i in
     let commands_count = few_commands s i in
     let signals_count = few_signals s i in
     let chains_count = few_chains s i in
     let all_jobs = ap length jobs in
     let counted = plan_length s i in
-    let all_places = ap length places in
-    let one = length-map t.places.items (command_there s.jobs) in
-    let two = length-map (plan_of s).commands Some in
+    let all_owners = owners.count in
     let all_ops = ap length ops in
     let ops_counted = count_ops s in
     let all_chains = chains.number in
@@ -79,11 +81,14 @@ kept s i none t jobs waits places ops chains =
       faultless = none;
       jobs = jobs;
       waits = subst (λ n. AreWaits (plan_of s) n t.waits) (all_jobs ∙ counted) waits;
-      places = places;
+      owners = owners;
+      numbers = numbers ∙ ap (range_with_len 0) (sym numbered);
+      numbered_commands = omega arith;
+      numbered_ops = omega arith;
       ops = ops;
       chains = chains;
       few_jobs = omega arith;
-      few_places = omega arith;
+      few_commands = omega arith;
       few_ops = omega arith;
       few_chains = omega arith;
     }

@@ -7,8 +7,9 @@ mod FenceStates
 mod HostJobs
 mod Lowered
 mod ChainOrder
-mod Commands
+mod CommandOwners
 mod LoweredJobs
+mod NumberParts
 mod PlacedOps
 mod PlanChains
 mod PlanEdges

@@ -9,7 +9,6 @@ use Rattle.std.proofs.lemmas.List.Elements.{filter_map-append}
 use Rattle.vq_model.specs.declared.script.Script.{Script}
 use Rattle.vq_model.specs.declared.script.Command.{Command}
 use Rattle.vq_model.specs.declared.script.CommandLine.{CommandLine}
-use Rattle.vq_model.specs.declared.plan.PlanJob.{PlanJob}
 use Rattle.vq_model.specs.Plan.{Plan, has, command_at, commands_of}
 use Rattle.vq_model.specs.Memory.{Memory, HasSizes, effect, after_all, zeros_of}
 use Rattle.vq_model.specs.Ranges.{Fits}
@@ -43,21 +42,16 @@ command_within [] c x e = absurd (let h : None ≡ Some x = e in cc)
 command_within (y ∷ cs) zero x e = omega arith
 command_within (y ∷ cs) (suc c) x e = let l = command_within cs c x e in omega arith
 
-module _ (p : Plan) (h : IsPlan p) (j : ℕ) (job : PlanJob) (at : slice_get p.jobs j ≡ Some job)
-    (k : ℕ) (inside : k < length job.commands) where
+module _ (p : Plan) (h : IsPlan p) (j k : ℕ) (inside : k < length (commands_of p j)) where
   -- the command at a place of the job fits
-  command_fits : (x : Command) × (command_at p (get_or job.commands k 0) ≡ Some x) × Fits p.sizes x
-  command_fits =
-      let own : commands_of p j ≡ job.commands = ap (λ o. option_map_or (λ y. y.commands) o [])
-      at in
-      (plan_well_formed p h).fits (get_or job.commands k 0) j
-      (ap (λ cs. has cs (get_or job.commands k 0)) own ∙ has_at job.commands k inside)
+  command_fits : (x : Command) × (command_at p (get_or (commands_of p j) k 0) ≡ Some x) × Fits p.sizes x
+  command_fits = (plan_well_formed p h).fits (get_or (commands_of p j) k 0) j (has_at (commands_of p j) k inside)
 
-  pub command_exists : get_or job.commands k 0 < length p.commands
-  command_exists = command_within p.commands (get_or job.commands k 0) command_fits.0 command_fits.1
+  pub command_exists : get_or (commands_of p j) k 0 < length p.commands
+  command_exists = command_within p.commands (get_or (commands_of p j) k 0) command_fits.0 command_fits.1
 
   pub seen_fits : (line : CommandLine) →
-      slice_get p.commands (get_or job.commands k 0) ≡ Some line → Fits p.sizes line.command
+      slice_get p.commands (get_or (commands_of p j) k 0) ≡ Some line → Fits p.sizes line.command
   seen_fits line e =
       let same : Some command_fits.0 ≡ Some line.command = sym command_fits.1
       ∙ ap (option_map (λ y. y.command)) e in
@@ -80,18 +74,14 @@ after_more p a b m =
     ∙ after_all-append (command_list p a) (command_list p b) m
 
 -- one command more
-pub after_command : (p : Plan) (j : ℕ) (job : PlanJob) → slice_get p.jobs j ≡ Some job → (k : ℕ) →
-    k < length job.commands → (line : CommandLine) →
-    slice_get p.commands (get_or job.commands k 0) ≡ Some line → (m now new : Memory) →
+pub after_command : (p : Plan) (j k : ℕ) → k < length (commands_of p j) → (line : CommandLine) →
+    slice_get p.commands (get_or (commands_of p j) k 0) ≡ Some line → (m now new : Memory) →
     now ≡ after_all (command_list p (take k (commands_of p j))) m → new ≡ effect line.command now →
     new ≡ after_all (command_list p (take (k + 1) (commands_of p j))) m
-after_command p j job at k l line e m now new a b =
-    let c = get_or job.commands k 0 in
-    let own : commands_of p j ≡ job.commands = ap (λ o. option_map_or (λ y. y.commands) o []) at in
-    let inside : k < length (commands_of p j) = omega (arith, ap length own) in
-    let more : take (k + 1) (commands_of p j) ≡ take k (commands_of p j)
-    ++ c ∷ [] = take_more (commands_of p j) k 0 inside
-    ∙ ap (λ cs. take k (commands_of p j) ++ get_or cs k 0 ∷ []) own in
+after_command p j k l line e m now new a b =
+    let c = get_or (commands_of p j) k 0 in
+    let more : take (k + 1) (commands_of p j) ≡ take k (commands_of p j) ++ c ∷ [] =
+    take_more (commands_of p j) k 0 l in
     let one : command_list p (c ∷ []) ≡ line.command ∷ [] = ap
     (λ o. cons_option (option_map (λ y. y.command) o) []) e in
     b

@@ -3,8 +3,8 @@ pub mod Counts
 pub mod Fences
 pub mod Jobs
 pub mod Waits
+pub mod Owners
 pub mod PlanTables
-pub mod Places
 pub mod SlowProgress
 pub mod TextRooms
 pub mod Walks

@@ -28,7 +28,6 @@ pub(crate) struct Waits {
 /// What one job waits for, until it stands with the others.
 #[derive(Drop)]
 pub(crate) struct JobWaits {
-    pub(crate) firsts: Vec<u32>,
     pub(crate) awaited: Vec<u32>,
     pub(crate) edges: Vec<u32>,
 }
@@ -102,18 +101,11 @@ fn job_of(ops: &[Op], op: u32) -> Option<u32>
     Some(ops.get(op as usize)?.job)
 }
 
-/// Puts some jobs, and then those of operations, in the place of others.
-fn with_jobs_of(
-    jobs: &mut Vec<u32>,
-    ops: &[Op],
-    firsts: &[u32],
-    awaited: &[u32],
-) -> Result<(), AllocError>
-    ensures { OnOk result (jobs.new.items ≡ firsts.now
+/// Adds the jobs of operations.
+fn push_jobs_of(jobs: &mut Vec<u32>, ops: &[Op], awaited: &[u32]) -> Result<(), AllocError>
+    ensures { OnOk result (jobs.new.items ≡ jobs.old.items
         ++ filter_map (λ e. option_map (λ o. o.job) (slice_get ops.now e)) awaited.now) }
 {
-    jobs.clear();
-    jobs.extend_from_slice(firsts)?;
     for op in awaited {
         push_some(jobs, job_of(ops, *op))?;
     }
@@ -124,7 +116,6 @@ impl JobWaits {
     /// Nothing is waited for. It takes no memory.
     fn new(alloc: Global) -> JobWaits {
         JobWaits {
-            firsts: Vec::new(alloc),
             awaited: Vec::new(alloc),
             edges: Vec::new(alloc),
         }
@@ -144,14 +135,9 @@ impl JobWaits {
         ensures edges { OnOk result (self.new.edges.items ≡ finished_before job.now
             ++ filter_map (job_of (plan_of script.now)) (awaited_by (plan_of script.now) job.now)) }
     {
-        finished_before(&mut self.firsts, job)?;
         awaited(&mut self.awaited, script, chains, job)?;
-        with_jobs_of(
-            &mut self.edges,
-            ops,
-            self.firsts.as_slice(),
-            self.awaited.as_slice(),
-        )
+        finished_before(&mut self.edges, job)?;
+        push_jobs_of(&mut self.edges, ops, self.awaited.as_slice())
     }
 }
 

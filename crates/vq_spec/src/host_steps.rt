@@ -190,7 +190,6 @@ pub(crate) fn step_job(
 
 /// Adds the signal of a host step, and gives the job's signals.
 pub(crate) fn push_signals(
-    alloc: Global,
     signals: &mut Signals,
     script: &Script,
     j: u32,
@@ -207,5 +206,5 @@ pub(crate) fn push_signals(
 {
     let first = signals.ops.len() as u32;
     signals.push_step(script, j, host)?;
-    Indices::from(alloc, first, signals.ops.len() as u32 - first)
+    Ok(Indices::from(first, signals.ops.len() as u32 - first))
 }

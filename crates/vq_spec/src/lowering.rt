@@ -12,7 +12,8 @@ use crate::chains::{Chain, lower_chains, place_ops};
 use crate::edges::{Waits, lower_waits};
 use crate::fences::{FenceState, no_fences, take_batch, take_step};
 use crate::host_steps::{push_signals, step_job};
-use crate::places::{CommandAt, lower_places};
+use crate::numbers::first_numbers;
+use crate::owners::lower_owners;
 use crate::signals::{Signals, value_of};
 use std::alloc::{AllocError, Global};
 use vq_model::indices::Indices;
@@ -25,8 +26,10 @@ pub(crate) struct Tables {
     pub(crate) jobs: Vec<PlanJob>,
     /// What each job waits for.
     pub(crate) waits: Waits,
-    /// Where each command stands in the script.
-    pub(crate) places: Vec<CommandAt>,
+    /// The job of each command.
+    pub(crate) owners: Vec<u32>,
+    /// The numbers from 0 on, of which a job's commands and signals are a part.
+    pub(crate) numbers: Vec<u32>,
     pub(crate) ops: Vec<Op>,
     /// The operations of each semaphore and each fence.
     pub(crate) chains: Vec<Chain>,
@@ -37,7 +40,8 @@ impl Drop for Tables {
         let Tables {
             jobs: _jobs,
             waits: _waits,
-            places: _places,
+            owners: _owners,
+            numbers: _numbers,
             ops: _ops,
             chains: _chains,
         } = self;
@@ -170,9 +174,9 @@ impl Lowered {
         let needs = lower_needs(alloc, script, counts, batch.waits.as_slice())?;
         let first = self.signals.ops.len() as u32;
         self.signals.push_batch(script, j, batch)?;
-        let signals = Indices::from(alloc, first, self.signals.ops.len() as u32 - first)?;
+        let signals = Indices::from(first, self.signals.ops.len() as u32 - first);
         let count = batch.commands.as_slice().len() as u32;
-        let commands = Indices::from(alloc, self.commands, count)?;
+        let commands = Indices::from(self.commands, count);
         let queue = batch.queue as usize;
         let previous = self.last[queue];
         let job = batch_job(alloc, batch, previous, self.host, needs, commands, signals);
@@ -196,7 +200,7 @@ impl Lowered {
         requires kept { AreLowered script.now j self.old }
         ensures { OnOk result (AreLowered script.now (j + 1) self.new) }
     {
-        let signals = push_signals(alloc, &mut self.signals, script, j, host)?;
+        let signals = push_signals(&mut self.signals, script, j, host)?;
         let states = self.fences.as_slice();
         let job = step_job(
             alloc,
@@ -254,6 +258,7 @@ impl Tables {
             ..
         } = lower_jobs(alloc, script)?;
         let Signals { mut ops, counts } = signals;
+        let numbers = first_numbers(alloc, commands.max(ops.len() as u32))?;
         let chains = lower_chains(alloc, ops.as_slice(), counts.as_slice())?;
         place_ops(ops.as_mut_slice(), chains.as_slice());
         let waits = lower_waits(
@@ -266,7 +271,8 @@ impl Tables {
         Ok(Tables {
             jobs,
             waits,
-            places: lower_places(alloc, script, commands)?,
+            owners: lower_owners(alloc, script, commands)?,
+            numbers,
             ops,
             chains,
         })

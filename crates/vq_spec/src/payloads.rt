@@ -45,7 +45,7 @@ pub(crate) fn signal_all(payloads: &mut [u64], plan: &Plan, j: u32)
     ensures { (done : List ℕ) → ArePayloads plan.now done payloads.old →
         ArePayloads plan.now (done ++ j ∷ []) payloads.new }
 {
-    for op in plan.job(j).signals.as_slice() {
+    for op in plan.signals_of(j) {
         signal(payloads, plan, *op);
     }
 }

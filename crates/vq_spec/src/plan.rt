@@ -1,16 +1,16 @@
 //! The plan of a script.
 //!
 //! Source: this project's own, where an item names no other.
-ghost use Rattle.std.specs.Prelude.{◌≡◌, ◌<◌, ◌↔◌, ℕ, length, Some, IsNone};
+ghost use Rattle.std.specs.Prelude.{◌≡◌, ◌<◌, ◌↔◌, ℕ, length, Some, IsNone, true};
 ghost use Rattle.std.specs.List.{slice_get};
 ghost use Rattle.vq_model.specs.Checks.{is_immediate_batch};
 ghost use Rattle.vq_model.specs.Edges.{AtEnd, awaited_at, edges_to, must_finish};
 ghost use Rattle.vq_model.specs.LoweringFaults.{IsPlan, Lowers};
-ghost use Rattle.vq_model.specs.Plan.{chain, chain_of, initial, resolver, value};
+ghost use Rattle.vq_model.specs.Plan.{chain, chain_of, commands_of, has, initial, resolver, signals_of, value};
 ghost use Rattle.vq_model.specs.SameScript.{IsRead};
 
 use crate::lowering::Tables;
-use crate::places::CommandAt;
+use crate::numbers::part;
 use crate::uses::find_fault;
 use std::alloc::Global;
 use std::marker::Model;
@@ -85,6 +85,26 @@ impl Plan {
         ensures { slice_get self.now.jobs j ≡ Some result.now }
     {
         &self.tables.jobs[j as usize]
+    }
+
+    /// The commands of a job, in order.
+    #[inline(always)]
+    pub fn commands_of(&self, j: u32) -> &[u32]
+        requires { j < length self.now.jobs }
+        ensures { result.now ≡ commands_of self.now j }
+    {
+        part(self.tables.numbers.as_slice(), &self.job(j).commands)
+    }
+
+    /// The signal operations of a job, in the order of the lines, the fence last.
+    ///
+    /// Source: Vulkan 1.3, "Semaphore Signaling".
+    #[inline(always)]
+    pub fn signals_of(&self, j: u32) -> &[u32]
+        requires { j < length self.now.jobs }
+        ensures { result.now ≡ signals_of self.now j }
+    {
+        part(self.tables.numbers.as_slice(), &self.job(j).signals)
     }
 
     /// Whether a job is a batch of an immediate queue, which the host moves as soon as it has submitted it.
@@ -165,7 +185,18 @@ impl Plan {
     pub fn commands(&self) -> u32
         ensures { result ≡ length self.now.commands }
     {
-        self.tables.places.len() as u32
+        self.tables.owners.len() as u32
+    }
+
+    /// The job of a command.
+    ///
+    /// Source: Vulkan 1.3, "Queue Submission".
+    #[inline(always)]
+    pub fn owner(&self, c: u32) -> u32
+        requires { c < length self.now.commands }
+        ensures { has (commands_of self.now result) c ≡ true }
+    {
+        self.tables.owners[c as usize]
     }
 
     /// A command; commands are numbered from 0 through all batches.
@@ -173,8 +204,10 @@ impl Plan {
         requires { c < length self.now.commands }
         ensures { slice_get self.now.commands c ≡ Some result.now }
     {
-        let CommandAt { job, place } = self.tables.places[c as usize];
-        match &self.script.jobs.as_slice()[job as usize] {
+        let jobs = self.script.jobs.as_slice();
+        let job = self.owner(c);
+        let place = c - self.job(job).commands.first();
+        match &jobs[job as usize] {
             Job::Batch(batch) => &batch.commands.as_slice()[place as usize],
             Job::Host(_) => unreachable!(),
         }

@@ -58,7 +58,7 @@ fn apply_job(plan: &Plan, j: u32, buffers: &mut Buffers)
         ≡ after_all (command_list plan.now (commands_of plan.now j)) buffers.old }
     ensures sizes { map length buffers.new ≡ plan.now.sizes }
 {
-    for c in plan.job(j).commands.as_slice() {
+    for c in plan.commands_of(j) {
         buffers.apply(&plan.command(*c).command);
     }
 }

@@ -1,4 +1,3 @@
-mod CommandJobs
 mod EventShapes
 mod FirstInRange
 mod FirstNames
@@ -7,5 +6,4 @@ mod FirstWord
 mod Joined
 mod LineCuts
 mod Lookups
-mod Marking
 mod OtherWords

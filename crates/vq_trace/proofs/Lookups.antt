@@ -1,5 +1,5 @@
 -- What is looked up of a plan, by what its index has.
-use Rattle.std.proofs.Common.{ℕ, ◌≡◌, ◌<◌, ◌^◌, ◌⊎◌, inl, inr, Bool, true, false, cond, List, [], ◌∷◌, length, find, Some, None, get_or, arith, refl, sym, ap, subst, ◌∙◌}
+use Rattle.std.proofs.Common.{ℕ, ◌≡◌, ◌<◌, ◌^◌, ◌⊎◌, inl, inr, Bool, true, false, cond, List, [], ◌∷◌, length, find, Some, None, arith, refl, sym, ap, subst, ◌∙◌}
 use Rattle.std.specs.Prelude.{◌==◌, nat_le}
 use Rattle.std.specs.List.{slice_get}
 use Rattle.std.specs.Str.{bytes_eq}
@@ -23,11 +23,9 @@ use Rattle.vq_model.proofs.Lists.{has_here, has_there}
 use Rattle.vq_model.proofs.Options.{some_of}
 use Rattle.vq_model.proofs.Searches.{find_member}
 use Rattle.vq_reading_laws.proofs.Cited.{queues_fit, read_lines_rise, read_valid}
-use Rattle.vq_plan_laws.proofs.Cited.{count_jobs, part_is, plan_semaphores, plan_well_formed}
+use Rattle.vq_plan_laws.proofs.Cited.{count_jobs, part_is, plan_semaphores, plan_well_formed, owner_exists}
 use Rattle.vq_order_laws.proofs.Cited.{lines_across}
-use Rattle.vq_trace.proofs.CommandJobs.{owner_exists}
 use Rattle.vq_given.specs.Words.{apply_said, command_at, command_said, job_with, semaphore_named}
-use Rattle.vq_trace.specs.PlanIndex.{HasOwners}
 use Rattle.vq_trace.proofs.FirstInRange.{first_in_range, found_below}
 
 -- The lines of jobs rise
@@ -65,19 +63,15 @@ jobs_rise p is =
 
 -- The job of a command
 
-pub owner_is : (p : Plan) → IsPlan p → (owners : List ℕ) → HasOwners p owners → (c : ℕ) → c < length p.commands →
-    job_with p c ≡ Some (get_or owners c 0)
-owner_is p is owners has_owners c l =
-    let own = has_owners.each c l in
-    first_in_range (λ j. has (commands_of p j) c) (length p.jobs) (get_or owners c 0)
-    (owner_exists p (get_or owners c 0) c own) own
-    (λ j less. by_test (has (commands_of p j) c) j refl less own)
+pub owner_is : (p : Plan) → IsPlan p → (c owner : ℕ) → has (commands_of p owner) c ≡ true → job_with p c ≡ Some owner
+owner_is p is c owner own =
+    first_in_range (λ j. has (commands_of p j) c) (length p.jobs) owner (owner_exists p owner c own) own
+    (λ j less. by_test (has (commands_of p j) c) j refl less)
   where
-    by_test : (b : Bool) (j : ℕ) → has (commands_of p j) c ≡ b → j < get_or owners c 0 →
-        has (commands_of p (get_or owners c 0)) c ≡ true → b ≡ false
-    by_test true j e less own =
-        let same = (plan_well_formed p is).one_job c j (get_or owners c 0) e own in absurd (omega (arith, same, less))
-    by_test false j e less own = refl
+    by_test : (b : Bool) (j : ℕ) → has (commands_of p j) c ≡ b → j < owner → b ≡ false
+    by_test true j e less =
+        let same = (plan_well_formed p is).one_job c j owner e own in absurd (omega (arith, same, less))
+    by_test false j e less = refl
 
 -- The operation with a value, by the one that resolves a wait for it
 
@@ -172,12 +166,12 @@ pub command_found : (p : Plan) (line c : ℕ) → Some c ≡ command_at p line �
 command_found p line c f = found_below (λ d. line_of_command p d == line) (length p.commands) c (sym f)
 
 -- the start of a command
-pub applied : (p : Plan) → IsPlan p → (owners : List ℕ) → HasOwners p owners → (word : List ℕ) (n c : ℕ) →
-    Some n ≡ numeral word → Some c ≡ command_at p n → Some (Applies (get_or owners c 0) c) ≡ apply_said p word
-applied p is owners has_owners word n c num found =
+pub applied : (p : Plan) → IsPlan p → (word : List ℕ) (n c owner : ℕ) → has (commands_of p owner) c ≡ true →
+    Some n ≡ numeral word → Some c ≡ command_at p n → Some (Applies owner c) ≡ apply_said p word
+applied p is word n c owner own num found =
     let said : command_said p word ≡ Some c = ap (option_and_then (command_at p)) (sym num) ∙ sym found in
     sym (ap (option_and_then (λ d. option_map (λ j. Applies j d) (job_with p d))) said
-    ∙ ap (option_map (λ j. Applies j c)) (owner_is p is owners has_owners c (command_found p n c found)))
+    ∙ ap (option_map (λ j. Applies j c)) (owner_is p is c owner own))
 
 -- the line of a job, and of a command
 pub job_line_is : (p : Plan) (j : ℕ) (job : PlanJob) → slice_get p.jobs j ≡ Some job → job.line ≡ line_of_job p j

@@ -6,7 +6,6 @@ ghost use Rattle.vq_given.specs.Words.{apply_said, command_at, job_at, job_said,
 ghost use Rattle.vq_trace.specs.PlanIndex.{IsIndexOf};
 
 use crate::names::{Names, queue_names, semaphore_names};
-use crate::owners::owners;
 use crate::places::place_of;
 use crate::tables::{command_lines, job_lines};
 use std::alloc::{AllocError, Global};
@@ -21,8 +20,6 @@ pub(crate) struct Index {
     queues: Names,
     job_lines: Vec<u64>,
     command_lines: Vec<u64>,
-    /// The job of each command.
-    owners: Vec<u32>,
 }
 
 /// The signal operation of a chain that sets this value.
@@ -57,7 +54,6 @@ impl Index {
             queues: queue_names(alloc, script)?,
             job_lines: job_lines(alloc, plan)?,
             command_lines: command_lines(alloc, plan)?,
-            owners: owners(alloc, plan)?,
         })
     }
 
@@ -99,8 +95,7 @@ impl Index {
         ensures { result ≡ apply_said plan.now word.now }
     {
         let command = self.command_at(plan, numeral(word)?)?;
-        let owners = self.owners.as_slice();
-        let job = owners[command as usize];
+        let job = plan.owner(command);
         Some(Event::Apply { job, command })
     }
 

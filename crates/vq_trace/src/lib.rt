@@ -9,7 +9,6 @@ mod events;
 mod first_word;
 mod index;
 mod names;
-mod owners;
 mod places;
 mod reader;
 mod said;

@@ -21,7 +21,7 @@ pub(crate) fn push_moves(tasks: &mut Vec<Task>, plan: &Plan, j: u32) -> Result<(
     requires exists { j < length plan.now.jobs }
     ensures { OnOk result (tasks.new.items ≡ tasks.old.items ++ moves_batch plan.now j) }
 {
-    let signals = plan.job(j).signals.as_slice();
+    let signals = plan.signals_of(j);
     push_awaits(tasks, plan.awaited(j))?;
     push_takes(tasks, plan, signals)?;
     tasks.push(Task::Release { job: j })?;
@@ -44,10 +44,10 @@ fn push_commands(tasks: &mut Vec<Task>, plan: &Plan, j: u32) -> Result<(), Alloc
     ensures { OnOk result (tasks.new.items ≡ tasks.old.items
         ++ flat_map (runs_command plan.now j) (enumerate_from 1 (commands_of plan.now j))) }
 {
-    let job = plan.job(j);
-    let commands = job.commands.as_slice();
+    let needs = plan.job(j).needs.as_slice();
+    let commands = plan.commands_of(j);
     for place in 0..commands.len() {
-        push_waits(tasks, Within::Place(place + 1), job.needs.as_slice())?;
+        push_waits(tasks, Within::Place(place + 1), needs)?;
         tasks.push(Task::Apply {
             job: j,
             command: commands[place],
@@ -68,7 +68,7 @@ fn push_runs(tasks: &mut Vec<Task>, plan: &Plan, j: u32) -> Result<(), AllocErro
     tasks.push(Task::Start { job: j })?;
     push_commands(tasks, plan, j)?;
     push_waits(tasks, Within::Behind(job.commands.len()), needs)?;
-    push_signals(tasks, job.signals.as_slice())?;
+    push_signals(tasks, plan.signals_of(j))?;
     tasks.push(Task::Finish { job: j })?;
     Ok(())
 }

@@ -80,7 +80,7 @@ fn push_step(alloc: Global, tasks: &mut Vec<Task>, plan: &Plan, j: u32) -> Resul
     ensures { OnOk result (tasks.new.items ≡ tasks.old.items ++ does_step plan.now j) }
 {
     let job = plan.job(j);
-    let signals = job.signals.as_slice();
+    let signals = plan.signals_of(j);
     push_host_waits(alloc, tasks, plan, j)?;
     push_idle(tasks, job.idle_after.as_slice())?;
     tasks.push(Task::Start { job: j })?;

@@ -16,7 +16,7 @@ fn ops_end(run: &CompleteRun, j: u32) -> u32
     requires { j < length run.now.jobs }
     ensures { EndsOps run.now j result }
 {
-    match run.plan().job(j).signals.as_slice().last() {
+    match run.plan().signals_of(j).last() {
         Some(op) => *op + 1,
         None => 0,
     }

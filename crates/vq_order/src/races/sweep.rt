@@ -121,7 +121,7 @@ impl Sweep<'_> {
         ensures { OnOk result (Sweeps self.now.order.now cells.old cells.new
             (TouchesAmong self.now.cuts.now accesses.now (commands_of self.now.order.now j))) }
     {
-        for c in self.order.job(j).commands.as_slice() {
+        for c in self.order.plan().commands_of(j) {
             if let Some(access) = accesses.get(*c as usize) {
                 self.command(alloc, cells, access, left)?;
             }

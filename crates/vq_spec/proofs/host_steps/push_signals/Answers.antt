@@ -1,4 +1,4 @@
-use Rattle.std.proofs.Common.{◌≡◌, ◌+◌, ◌∙◌, subst, IfOk, arith, length}
+use Rattle.std.proofs.Common.{◌≡◌, ◌+◌, ◌∙◌, arith, length}
 use Rattle.vq_spec.specs.Counts.{signals_before}
 use Rattle.vq_spec.proofs.SignalOrder.{few_signals, step_count, step_ops_are}
 use Rattle.vq_spec.proofs.host_steps.push_signals.Goals as goal
@@ -50,6 +50,5 @@ returns-clause-own c =
     ∙ (c.args.signals.now.ops.ok.0 ∙ c.requires.first) in
     let last : c.len.result ≡ length (signals_before s (c.args.j + 1)) = c.len.ensures
     ∙ (c.push_step.new.self.ops.ok.0 ∙ c.in_ok-push_step.ensures.more) in
-    subst (λ ns. IfOk c.from.result (λ own. own ≡ ns))
-    (step_ops_are s c.args.j c.args.host.now c.requires.at c.len-first.result c.len.result first last)
     c.from.ensures
+    ∙ step_ops_are s c.args.j c.args.host.now c.requires.at c.len-first.result c.len.result first last

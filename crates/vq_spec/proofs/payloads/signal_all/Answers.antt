@@ -1,7 +1,6 @@
-use Rattle.std.proofs.Common.{◌≡◌, ◌+◌, ◌++◌, ◌∷◌, [], ℕ, List, true, take, get_or, subst, sym, ap, ◌∙◌, add-one}
+use Rattle.std.proofs.Common.{◌≡◌, ◌+◌, ◌++◌, ◌∷◌, [], ℕ, List, true, take, get_or, subst, sym, ◌∙◌, add-one}
 use Rattle.std.proofs.Math.Seq.{take-suc}
 use Rattle.std.proofs.lemmas.List.{take_all}
-use Rattle.std.specs.Option.{option_map_or}
 use Rattle.vq_model.specs.Plan.{signals_of, has}
 use Rattle.vq_plan_laws.proofs.Cited.{plan_well_formed}
 use Rattle.vq_spec.specs.SlowProgress.{PayloadsWith}
@@ -19,9 +18,9 @@ loop-op-init c =
 pub signal-requires-clause-exists : goal.signal-requires-clause-exists
 signal-requires-clause-exists c =
     let p = c.args.plan.now in
-    let items = c.as_slice-op-items.result.now in
+    let items = c.signals_of-op-items.result.now in
     let s : signals_of p c.args.j ≡ items =
-    ap (λ o. option_map_or (λ y. y.signals) o []) c.job.ensures ∙ sym c.as_slice-op-items.ensures in
+    sym c.signals_of-op-items.ensures in
     let e = get_or items c.loop-op.op-index 0 in
     op_exists p e c.args.j ((plan_well_formed p c.requires.plan).of_job e c.args.j
     (subst (λ (xs : List ℕ). has xs e ≡ true) (sym s) (has_at items c.loop-op.op-index c.loop-op-test.true)))
@@ -30,7 +29,7 @@ pub loop-op-preserved : goal.loop-op-preserved
 loop-op-preserved c =
     let p = c.args.plan.now in
     let i = c.loop-op.op-index in
-    let items = c.as_slice-op-items.result.now in
+    let items = c.signals_of-op-items.result.now in
     let more : take (i + 1) items ≡ take i items ++ get_or items i 0 ∷ [] =
     rw add-one (take-suc items i 0 c.loop-op-test.true) in
     record {
@@ -41,9 +40,9 @@ loop-op-preserved c =
 pub returns : goal.returns
 returns c =
     let p = c.args.plan.now in
-    let items = c.as_slice-op-items.result.now in
+    let items = c.signals_of-op-items.result.now in
     let s : signals_of p c.args.j ≡ items =
-    ap (λ o. option_map_or (λ y. y.signals) o []) c.job.ensures ∙ sym c.as_slice-op-items.ensures in
+    sym c.signals_of-op-items.ensures in
     let all : take c.loop-op.op-index items ≡ items = take_all c.loop-op.op-index items c.loop-op-test.false in
     λ done k. payloads_end p (plan_well_formed p c.requires.plan) done c.args.j c.loop-op.payloads
     (subst (λ (xs : List ℕ). PayloadsWith p done xs c.loop-op.payloads) (all ∙ sym s) (c.loop-op.invariant.made done k))

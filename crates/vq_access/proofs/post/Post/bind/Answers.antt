@@ -1,5 +1,5 @@
-use Rattle.std.proofs.Common.{◌<◌, ◌≡◌, ◌∙◌, Some, Ok, Err, length, subst, sym, ap, refl, inl, inr, arith, false}
-use Rattle.vq_board.specs.Named.{plan_of, id_of}
+use Rattle.std.proofs.Common.{◌<◌, ◌≡◌, ◌∙◌, Some, Ok, Err, length, subst, sym, ap, refl, inl, inr, arith}
+use Rattle.vq_board.specs.Named.{plan_of}
 use Rattle.vq_model.specs.declared.plan.Event.TheVariants.{Bind as Binds}
 use Rattle.vq_timeline.specs.declared.timeline.LockedTimeline.{LockedTimeline}
 use Rattle.vq_timeline.specs.Answers.{IsBindRefused}
@@ -20,10 +20,8 @@ use Rattle.vq_access.proofs.Listing.{asked_at, binds_truly, err_of, ok_of, refus
 use Rattle.vq_access.proofs.Posting.{counts, fits_on, here, of_board_plan, seen_by, true_at}
 use Rattle.vq_actor.specs.Trackers.{Tracked}
 use Rattle.vq_access.proofs.Replies.{moves_step}
-use Rattle.vq_access.specs.Shown.{IsGiven}
 use Rattle.vq_access.proofs.Giving.{given_here}
 use Rattle.vq_access.proofs.Making.{shows_given}
-use Rattle.vq_model.specs.declared.plan.Event.{Event}
 use Rattle.vq_access.proofs.post.Post.bind.Goals as goal
 
 pub op-found-requires : goal.op-found-requires

@@ -1,4 +1,4 @@
-use Rattle.std.proofs.Common.{ap, ◌∙◌, refl, arith, Ok}
+use Rattle.std.proofs.Common.{ap, ◌∙◌, refl, arith}
 use Rattle.vq_turns.specs.declared.task.Task.TheVariants.{AwaitNeeds}
 use Rattle.vq_actor.specs.Waits.{looked_at}
 use Rattle.vq_actor.specs.Answers.{Is, signaled_or}

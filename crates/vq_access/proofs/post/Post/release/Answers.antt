@@ -1,7 +1,7 @@
 use Rattle.std.proofs.Common.{◌≡◌, ◌<◌, ℕ, true, List, Ok, length, refl, sym, subst, ap, ◌∙◌, arith}
-use Rattle.std.specs.List.{slice_get, list_all}
+use Rattle.std.specs.List.{list_all}
 use Rattle.vq_model.specs.declared.plan.Event.TheVariants.{Release as Releases}
-use Rattle.vq_model.specs.Plan.{Plan, has}
+use Rattle.vq_model.specs.Plan.{Plan, has, signals_of}
 use Rattle.vq_turns.specs.declared.task.Task.TheVariants.{Release}
 use Rattle.vq_turns.specs.Turns.{forward}
 use Rattle.vq_actor.specs.Answers.{Is}
@@ -11,7 +11,6 @@ use Rattle.vq_board_laws.specs.Steps.{releases}
 use Rattle.vq_access_laws.specs.Tests.{knows_taken}
 use Rattle.vq_access.specs.Lasts.{recent_of}
 use Rattle.vq_access.specs.Posts.{lenders_of}
-use Rattle.vq_access.proofs.Existing.{signals_are}
 use Rattle.vq_access.proofs.Jobbing.{releases_may, releases_there, releases_truly, signals_there}
 use Rattle.vq_access.proofs.Looking.{learned}
 use Rattle.vq_access.proofs.Posting.{counts, fits_on, here, learned_of, other_finds, seen_by, true_at}
@@ -20,19 +19,18 @@ use Rattle.vq_access.proofs.Untaking.{refused_release, learned_steps, learned_to
 use Rattle.vq_actor.specs.Trackers.{Tracked}
 use Rattle.vq_access.proofs.Replies.{moves_step}
 use Rattle.vq_access.proofs.Making.{shows_release}
-use Rattle.vq_board_laws.specs.declared.view.View.{View}
 use Rattle.vq_access.proofs.post.Post.release.Goals as goal
 
-pub job-requires : goal.job-requires
-job-requires g c =
+pub signals_of-signals-requires : goal.signals_of-signals-requires
+signals_of-signals-requires g c =
     subst (λ (p : Plan). c.args.job < length p.jobs) (sym c.plan.ensures.value)
     (releases_there c.args.self.now c.plan.ensures.read c.plan.ensures.lawful c.args.job c.requires)
 
 pub untaken-requires-clause-ops : goal.untaken-requires-clause-ops
 untaken-requires-clause-ops g c e m =
-    signals_there c.args.self.now c.plan.ensures.read c.plan.ensures.lawful c.args.job c.job.result.now
-    (ap (λ (p : Plan). slice_get p.jobs c.args.job) (sym c.plan.ensures.value) ∙ c.job.ensures) e
-    (ap (λ (es : List ℕ). has es e) (sym c.as_slice-signals.ensures) ∙ m)
+    let same = c.signals_of-signals.ensures ∙ ap (λ (p : Plan). signals_of p c.args.job) c.plan.ensures.value in
+    signals_there c.args.self.now c.plan.ensures.read c.plan.ensures.lawful c.args.job e
+    (ap (λ (es : List ℕ). has es e) (sym same) ∙ m)
 
 pub invariant_of-self : goal.invariant_of-self
 invariant_of-self g c =
@@ -54,18 +52,18 @@ pub returns-in-Some-clause-answer : goal.returns-in-Some-clause-answer
 returns-in-Some-clause-answer g c =
     let x = c.args.self.now in
     refused_release _ (lenders_of x) x.ordered.now x.actor (here x) (recent_of x.last) Other (seen_by x)
-    (view c.untaken.new.pass) x.refused.now c.as_slice-signals.result.now c.in-Some.want c.in-Some.ensures.untaken
+    (view c.untaken.new.pass) x.refused.now c.signals_of-signals.result.now c.in-Some.want c.in-Some.ensures.untaken
     (forward (here x)) (λ w. Ok (Releases c.args.job)) (Is (Releases c.args.job))
 
 pub release-requires-clause-may : goal.release-requires-clause-may
 release-requires-clause-may g c =
     let x = c.args.self.now in
-    let at = ap (λ (p : Plan). slice_get p.jobs c.args.job) (sym c.plan.ensures.value) ∙ c.job.ensures in
-    let same = signals_are x.ordered.now c.args.job c.job.result.now at ∙ sym c.as_slice-signals.ensures in
+    let same = sym
+    (c.signals_of-signals.ensures ∙ ap (λ (p : Plan). signals_of p c.args.job) c.plan.ensures.value) in
     releases_may x c.plan.ensures.read c.plan.ensures.lawful (view c.untaken.new.pass) c.untaken.ensures.pass.1
     c.args.job c.requires
     (subst (λ (es : List ℕ). list_all (knows_taken (view c.untaken.new.pass).known) es ≡ true) (sym same)
-    (all_taken (view c.untaken.new.pass) c.as_slice-signals.result.now (c.untaken.ensures.taken c.in_default.is)))
+    (all_taken (view c.untaken.new.pass) c.signals_of-signals.result.now (c.untaken.ensures.taken c.in_default.is)))
 
 pub forward-requires : goal.forward-requires
 forward-requires g c = counts c.args.self.now (Release c.args.job) c.requires

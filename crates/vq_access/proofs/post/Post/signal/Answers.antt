@@ -6,7 +6,7 @@ use Rattle.vq_board_laws.specs.PointSteps.{recalls, signals}
 use Rattle.vq_access.proofs.Commanding.{signals_may, signals_there, signals_truly}
 use Rattle.vq_access.proofs.Looking.{looked_at_op}
 use Rattle.vq_access.proofs.Posting.{counts, fits_on, here, seen_by, true_at}
-use Rattle.std.proofs.Common.{ap, refl, arith, Ok}
+use Rattle.std.proofs.Common.{ap, refl, arith}
 use Rattle.vq_actor.specs.Trackers.{Tracked}
 use Rattle.vq_access.specs.Lasts.{recent_of}
 use Rattle.vq_access.specs.Posts.{lenders_of}

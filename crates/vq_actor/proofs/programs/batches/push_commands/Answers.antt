@@ -6,21 +6,21 @@ use Rattle.vq_actor.proofs.programs.batches.push_commands.Goals as goal
 
 pub loop-place-preserved : goal.loop-place-preserved
 loop-place-preserved c =
-    let x = c.job-job.result.now in
+    let x = c.job.result.now in
     let k = c.loop-place.place in
-    let cs = c.as_slice-commands.result.now in
-    let e = c.as_slice.ensures in
+    let cs = c.commands_of-commands.result.now in
+    let e = c.as_slice-needs.ensures in
     let f = c.in_ok-push_waits.ensures {u = tt} in
-    command_added c.args.plan.now c.args.j x c.job-job.ensures k (get_or cs k 0) c.args.tasks.now.items
+    command_added c.args.plan.now c.args.j x c.job.ensures k (get_or cs k 0) c.args.tasks.now.items
     c.loop-place.tasks.items c.push_waits.new.tasks.items c.push.new.self.items
-    (ap (λ ds. slice_get ds k) (sym c.as_slice-commands.ensures)
+    (ap (λ ds. slice_get ds k) (sym c.commands_of-commands.ensures)
     ∙ slice_get-get_or cs k 0 c.loop-place-test.true)
     c.loop-place.invariant (search rules) (search rules)
 
 pub returns : goal.returns
 returns c =
-    let x = c.job-job.result.now in
-    let at_end : c.loop-place.place ≡ length c.as_slice-commands.result.now =
+    let x = c.job.result.now in
+    let at_end : c.loop-place.place ≡ length c.commands_of-commands.result.now =
     omega (arith, c.loop-place.auto.place-end, c.loop-place-test.false) in
-    commands_end c.args.plan.now c.args.j x c.job-job.ensures c.loop-place.place c.args.tasks.now.items
-    c.loop-place.tasks.items (at_end ∙ ap length c.as_slice-commands.ensures) c.loop-place.invariant
+    commands_end c.args.plan.now c.args.j x c.job.ensures c.loop-place.place c.args.tasks.now.items
+    c.loop-place.tasks.items (at_end ∙ ap length c.commands_of-commands.ensures) c.loop-place.invariant

@@ -7,8 +7,8 @@ pub push_takes-requires : goal.push_takes-requires
 push_takes-requires c =
     let p = c.args.plan.now in
     record {
-      exist = subst (λ (es : List ℕ). All (λ e. e < length p.ops) es) (sym c.as_slice-signals.ensures)
-          (signals_exist p (plan_well_formed p c.requires.read) c.args.j c.job-job.result.now c.job-job.ensures);
+      exist = subst (λ (es : List ℕ). All (λ e. e < length p.ops) es) (sym c.signals_of-signals.ensures)
+          (signals_exist p (plan_well_formed p c.requires.read) c.args.j);
     }
 
 pub returns : goal.returns

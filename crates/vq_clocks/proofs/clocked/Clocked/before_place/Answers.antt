@@ -6,7 +6,7 @@ use Rattle.vq_model.specs.Lanes.{lane_at}
 use Rattle.vq_model.specs.Plan.{Plan}
 use Rattle.vq_clocks.specs.PartClocks.{AreParts}
 use Rattle.vq_clocks.specs.VectorClocks.{row_at}
-use Rattle.vq_clocks.proofs.CommandJobs.{owner_exists}
+use Rattle.vq_plan_laws.proofs.Cited.{owner_exists}
 use Rattle.vq_clocks.proofs.PartLaws.{both_then, last_exact, part_exact}
 use Rattle.vq_clocks.proofs.clocked.Clocked.before_place.Goals as goal
 

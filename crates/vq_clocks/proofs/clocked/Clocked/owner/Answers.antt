@@ -1,24 +1,25 @@
-use Rattle.std.proofs.Common.{◌≡◌, true, length, sym, ap, subst, arith}
+use Rattle.std.proofs.Common.{◌≡◌, true, sym, subst}
+use Rattle.vq_model.specs.LoweringFaults.{IsPlan}
 use Rattle.vq_model.specs.Plan.{Plan, commands_of, has}
 use Rattle.vq_model.proofs.Plans.{command_exists}
 use Rattle.vq_plan_laws.proofs.Cited.{plan_well_formed}
-use Rattle.vq_clocks.specs.VectorClocks.{HasOwners, IsOfSomeJob}
-use Rattle.vq_clocks.proofs.CommandJobs.{owner_is}
+use Rattle.vq_clocks.specs.VectorClocks.{IsOfSomeJob}
 use Rattle.vq_clocks.proofs.clocked.Clocked.owner.Goals as goal
 
-pub bounds-as_slice-c : goal.bounds-as_slice-c
-bounds-as_slice-c c =
-    let q = c.self.inside.run in
-    let k = c.self.invariant in
-    let r = subst (λ (p : Plan). IsOfSomeJob p c.args.c) (sym c.self.view_is) c.requires in
-    let l = command_exists q (plan_well_formed q k.complete.plan) r.0 c.args.c r.1 in
-    let n = k.of_commands.count in
-    let m = ap length c.as_slice.ensures.value in
-    omega arith
+pub owner-requires : goal.owner-requires
+owner-requires c =
+    let now = c.args.self.now in
+    let seen = c.plan.result.now in
+    let is : now ≡ seen = sym c.plan.ensures.value in
+    let w = plan_well_formed seen (subst IsPlan is c.plan.ensures.complete.plan) in
+    let r = subst (λ (q : Plan). IsOfSomeJob q c.args.c) is c.requires in
+    command_exists seen w r.0 c.args.c r.1
 
 pub returns : goal.returns
 returns c j h =
-    let q = c.self.inside.run in
-    let k = c.self.invariant in
-    let are = subst (HasOwners q) (sym c.as_slice.ensures.value) k.of_commands in
-    owner_is q k.complete.plan c.as_slice.result.now are c.args.c j (subst (λ (p : Plan). has (commands_of p j) c.args.c ≡ true) (sym c.self.view_is) h)
+    let now = c.args.self.now in
+    let seen = c.plan.result.now in
+    let is : now ≡ seen = sym c.plan.ensures.value in
+    let w = plan_well_formed seen (subst IsPlan is c.plan.ensures.complete.plan) in
+    w.one_job c.args.c c.owner.result j c.owner.ensures
+    (subst (λ (q : Plan). has (commands_of q j) c.args.c ≡ true) is h)

@@ -1,17 +1,15 @@
-use Rattle.std.proofs.Common.{◌≡◌, ℕ, List, sym, ap, ◌∙◌, subst, Some}
+use Rattle.std.proofs.Common.{ℕ, List, sym, ap, ◌∙◌}
 use Rattle.std.specs.List.{slice_get}
 use Rattle.vq_model.specs.Plan.{Plan, signals_of}
 use Rattle.vq_core_laws.proofs.Cited.{next_is}
 use Rattle.vq_core.specs.CoreState.{world}
-use Rattle.vq_core.proofs.Jobs.{signals_are}
 use Rattle.vq_core.proofs.state.Core.next_signal.Goals as goal
 
 pub returns : goal.returns
 returns c =
     let p = c.args.self.now.plan in
     let j = c.args.job in
-    let at = subst (λ (p : Plan). slice_get p.jobs j ≡ Some c.job.result.now) c.plan.ensures.value c.job.ensures in
-    let items = c.as_slice.ensures ∙ sym (signals_are p j c.job.result.now at) in
+    let items = c.signals_of.ensures ∙ ap (λ (q : Plan). signals_of q j) c.plan.ensures.value in
     c.element.ensures ∙ (ap (λ (xs : List ℕ). slice_get xs c.job_state.result.signals) items
     ∙ sym (next_is (world c.args.self.now).machine.progress.made (signals_of p j) c.job_state.result.signals
     c.job_state.ensures.first_signals))

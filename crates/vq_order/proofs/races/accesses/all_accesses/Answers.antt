@@ -3,7 +3,8 @@ use Rattle.std.specs.List.{slice_get}
 use Rattle.vq_model.specs.Plan.{Plan, commands_of, has}
 use Rattle.vq_order.specs.Accessed.{IsAccess}
 use Rattle.vq_order.specs.declared.races.accesses.MemoryAccess.{MemoryAccess}
-use Rattle.vq_clocks.proofs.Cited.{command_has_job, last_item_cases}
+use Rattle.vq_clocks.proofs.Cited.{last_item_cases}
+use Rattle.vq_plan_laws.proofs.Cited.{command_has_job}
 use Rattle.vq_order.proofs.races.accesses.all_accesses.Goals as goal
 
 pub owner-requires : goal.owner-requires

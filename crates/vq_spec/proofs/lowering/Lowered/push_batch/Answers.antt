@@ -47,8 +47,8 @@ overflow_sub-len c =
       c.push_batch.new.self.ops.ok.0,
     )
 
-pub from-requires : goal.from-requires
-from-requires c =
+pub from-signals-requires : goal.from-signals-requires
+from-signals-requires c =
     let s = c.args.script.now in
     let within = c.in_ok-push_batch.ensures.kept.within in
     let was = c.requires.kept.signals.within in
@@ -77,8 +77,8 @@ index-previous-requires c =
     c.requires.kept in
     omega (arith, c.args.self.now.last.ok.0)
 
-pub from-requires-2 : goal.from-requires-2
-from-requires-2 c =
+pub from-commands-requires : goal.from-commands-requires
+from-commands-requires c =
     let s = c.args.script.now in
     let fit = commands_fit s c.requires.read c.args.j c.args.batch.now c.requires.at c.args.self.now
     c.requires.kept in
@@ -126,12 +126,12 @@ returns c =
     let size : length states ≡ x.fences.len = search rules in
     let whole = whole_new x.fences.len states (drop (length states) x.fences.items) size in
     lowered_push s c.requires.read c.args.j b at x c.requires.kept _ c.index-previous.result.now
-    c.index-previous.result.now c.in_ok-needs.needs c.in_ok-commands.commands c.in_ok-signals.signals
+    c.index-previous.result.now c.in_ok-needs.needs c.from-commands.result c.from-signals.result
     c.index-previous.ensures
     (c.in_ok-needs.ensures {u = tt}
     ∙ (λ i. map (need_by s (c.as_slice-counts.ensures.value i)) (c.as_slice.ensures i)))
-    (c.in_ok-commands.ensures {u = tt} ∙ ap (range_with_len x.commands) n)
-    (c.in_ok-signals.ensures {u = tt} ∙ (λ i. range_with_len (first i) (count i)))
+    (c.from-commands.ensures ∙ ap (range_with_len x.commands) n)
+    (c.from-signals.ensures ∙ (λ i. range_with_len (first i) (count i)))
     ((c.in_ok-push.ensures {u = tt}).items ∙ ap (λ job. x.jobs.items ++ job ∷ []) c.batch_job-job.ensures)
     (ap (λ k. x.commands + k) n) refl refl
     (whole ∙ (c.take_batch.ensures ∙ ap (λ ys. after_batch ys b) c.deref_mut.ensures.value))

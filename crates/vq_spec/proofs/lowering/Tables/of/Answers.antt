@@ -5,10 +5,19 @@ use Rattle.vq_model.specs.Lowering.{plan_of}
 use Rattle.vq_spec.specs.declared.chains.Chain.{Chain}
 use Rattle.vq_spec.specs.ChainParts.{placed, IsSearchable, AreSorted, AreChains}
 use Rattle.vq_spec.specs.Waits.{AreWaits}
-use Rattle.vq_spec.proofs.KeptTables.{lowered_jobs, lowered_ops, lowered_counts, lowered_few, kept}
+use Rattle.vq_spec.proofs.KeptTables.{lowered_jobs, lowered_commands, lowered_ops, lowered_counts, lowered_few, kept}
 use Rattle.vq_spec.proofs.PlanChains.{unplaced_ops, are_chains, searchable, placed_ops, unplaced_exist}
 use Rattle.vq_spec.proofs.SlowSteps.{whole_new}
 use Rattle.vq_spec.proofs.lowering.Tables.of.Goals as goal
+
+pub overflow_cast-len : goal.overflow_cast-len
+overflow_cast-len c = omega (
+  arith,
+  lowered_few c.args.script.now c.in_ok-jobs.field-0 (c.in_ok-jobs.ensures {u = tt})
+      c.requires.read,
+  c.len.ensures,
+  c.in_ok-jobs.signals.ops.ok.0,
+)
 
 pub lower_chains-requires-clause-few : goal.lower_chains-requires-clause-few
 lower_chains-requires-clause-few c = omega (
@@ -110,7 +119,15 @@ returns c =
     kept s c.requires.read c.requires.faultless _ jobs
     (subst (λ (n : ℕ). AreWaits (plan_of s) n c.in_ok-waits.waits) (ap length c.as_slice-6.ensures.value)
     (c.in_ok-waits.ensures {u = tt}))
-    (c.in_ok-lower_places.ensures {u = tt})
+    (c.in_ok-lower_owners.ensures {u = tt})
+    _ (c.in_ok-numbers.ensures {u = tt})
+    (omega (
+      arith,
+      lowered_commands s c.in_ok-jobs.field-0 (c.in_ok-jobs.ensures {u = tt}),
+      c.in_ok-jobs.commands-is,
+      c.max.ensures,
+    ))
+    (omega (arith, ap length whole, c.in_ok-jobs.signals.ops.ok.0, c.len.ensures, c.max.ensures))
     (whole ∙ (c.place_ops.ensures
     ∙ ((λ i. map (placed (c.as_slice-3.ensures.value i)) (enumerate_from 0 (now i)))
     ∙ placed_ops s c.requires.read chains are))) are

@@ -1,64 +1,65 @@
-use Rattle.std.proofs.Common.{◌≡◌, ◌∙◌, ap, sym, length, arith, refl, Some, None, get_or}
+use Rattle.std.proofs.Common.{◌-◌, ◌∙◌, ap, length, arith, refl, get_or}
 use Rattle.std.proofs.lemmas.Option.{slice_get_read}
 use Rattle.vq_model.specs.declared.script.Job.TheVariants.{Host, Batch}
 use Rattle.vq_model.proofs.Gets.{get_within}
 use Rattle.vq_spec.proofs.Lowered.{read_job}
-use Rattle.vq_spec.proofs.Commands.{kept_command, job_within, command_in}
+use Rattle.vq_spec.proofs.CommandOwners.{there, first_is, command_is, no_step}
 use Rattle.vq_spec.proofs.plan.Plan.command.Goals as goal
 
-pub bounds-as_slice-job : goal.bounds-as_slice-job
-bounds-as_slice-job c =
-    let found = kept_command c.self.inside.script c.self.inside.tables c.self.invariant
-    c.args.self.now c.self.view_is c.args.c c.requires c.index.result.now c.index.ensures in
+pub overflow_sub-place : goal.overflow_sub-place
+overflow_sub-place c =
+    let s = c.self.inside.script in
+    let at = there s c.args.self.now c.self.view_is c.args.c c.owner-job.result c.owner-job.ensures
+    c.job.result.now c.job.ensures c.first.result c.first.ensures in
+    let from = at.from in
     omega (
       arith,
-      job_within c.self.inside.script.jobs c.index.result.now found.0 found.2,
-      ap length
-          c.as_slice.ensures,
+      first_is s c.args.self.now c.self.view_is c.args.c c.owner-job.result c.owner-job.ensures
+          c.job.result.now c.job.ensures c.first.result c.first.ensures,
     )
+
+pub bounds-jobs-job : goal.bounds-jobs-job
+bounds-jobs-job c =
+    let s = c.self.inside.script in
+    let at = there s c.args.self.now c.self.view_is c.args.c c.owner-job.result c.owner-job.ensures
+    c.job.result.now c.job.ensures c.first.result c.first.ensures in
+    omega (arith, get_within s.jobs c.owner-job.result (Batch at.batch) at.is, ap length c.as_slice-jobs.ensures)
 
 pub bounds-as_slice-place : goal.bounds-as_slice-place
 bounds-as_slice-place c =
-    let jobs = c.self.inside.script.jobs in
-    let p = c.index.result.now in
-    let found = kept_command c.self.inside.script c.self.inside.tables c.self.invariant
-    c.args.self.now c.self.view_is c.args.c c.requires p c.index.ensures in
-    let at = read_job jobs c.as_slice.result.now p.job c.index-as_slice-job.result _
-    c.as_slice.ensures (job_within jobs p found.0 found.2) c.index-as_slice-job.is
-    c.in-Batch.is in
-    let here = command_in jobs p found.0 (Batch c.in-Batch.batch) found.2 at in
-    omega (
-      arith,
-      get_within c.in-Batch.batch.commands p.place found.0 here,
-      ap length
-          c.as_slice-in-Batch.ensures,
-    )
+    let s = c.self.inside.script in
+    let j = c.owner-job.result in
+    let at = there s c.args.self.now c.self.view_is c.args.c j c.owner-job.ensures c.job.result.now c.job.ensures
+    c.first.result c.first.ensures in
+    let found = read_job s.jobs c.as_slice-jobs.result.now j c.index-jobs-job.result (Batch c.in-Batch.batch)
+    c.as_slice-jobs.ensures (get_within s.jobs j (Batch at.batch) at.is) c.index-jobs-job.is c.in-Batch.is in
+    let is = command_is s c.args.self.now c.self.view_is c.args.c j c.owner-job.ensures c.job.result.now c.job.ensures
+    c.first.result c.first.ensures c.in-Batch.batch found in
+    omega (arith, is.1, ap length c.as_slice.ensures)
 
 pub unreachable-requires : goal.unreachable-requires
 unreachable-requires c =
-    let jobs = c.self.inside.script.jobs in
-    let p = c.index.result.now in
-    let found = kept_command c.self.inside.script c.self.inside.tables c.self.invariant
-    c.args.self.now c.self.view_is c.args.c c.requires p c.index.ensures in
-    let at = read_job jobs c.as_slice.result.now p.job c.index-as_slice-job.result _
-    c.as_slice.ensures (job_within jobs p found.0 found.2) c.index-as_slice-job.is
-    c.in-Host.is in
-    let here : None ≡ Some found.0 = command_in jobs p found.0 (Host c.in-Host.field-0) found.2
-    at in
-    cc
+    let s = c.self.inside.script in
+    let j = c.owner-job.result in
+    let at = there s c.args.self.now c.self.view_is c.args.c j c.owner-job.ensures c.job.result.now c.job.ensures
+    c.first.result c.first.ensures in
+    let found = read_job s.jobs c.as_slice-jobs.result.now j c.index-jobs-job.result (Host c.in-Host.field-0)
+    c.as_slice-jobs.ensures (get_within s.jobs j (Batch at.batch) at.is) c.index-jobs-job.is c.in-Host.is in
+    no_step s c.args.self.now c.self.view_is c.args.c j c.owner-job.ensures c.job.result.now c.job.ensures
+    c.first.result c.first.ensures c.in-Host.field-0 found
 
 pub returns : goal.returns
 returns c =
-    let jobs = c.self.inside.script.jobs in
-    let p = c.index.result.now in
-    let found = kept_command c.self.inside.script c.self.inside.tables c.self.invariant
-    c.args.self.now c.self.view_is c.args.c c.requires p c.index.ensures in
-    let at = read_job jobs c.as_slice.result.now p.job c.index-as_slice-job.result _
-    c.as_slice.ensures (job_within jobs p found.0 found.2) c.index-as_slice-job.is
-    c.in-Batch.is in
-    let here = command_in jobs p found.0 (Batch c.in-Batch.batch) found.2 at in
-    let inside = get_within c.in-Batch.batch.commands p.place found.0 here in
-    let read = c.index-as_slice-place.is ∙ ap
-    (λ xs. get_or xs p.place c.index-as_slice-place.result) c.as_slice-in-Batch.ensures in
-    found.1 ∙ (sym here ∙ slice_get_read c.in-Batch.batch.commands
-    (length c.in-Batch.batch.commands) p.place c.index-as_slice-place.result refl inside read)
+    let s = c.self.inside.script in
+    let j = c.owner-job.result in
+    let at = there s c.args.self.now c.self.view_is c.args.c j c.owner-job.ensures c.job.result.now c.job.ensures
+    c.first.result c.first.ensures in
+    let found = read_job s.jobs c.as_slice-jobs.result.now j c.index-jobs-job.result (Batch c.in-Batch.batch)
+    c.as_slice-jobs.ensures (get_within s.jobs j (Batch at.batch) at.is) c.index-jobs-job.is c.in-Batch.is in
+    let is = command_is s c.args.self.now c.self.view_is c.args.c j c.owner-job.ensures c.job.result.now c.job.ensures
+    c.first.result c.first.ensures c.in-Batch.batch found in
+    let commands = c.in-Batch.batch.commands in
+    let place = c.args.c - c.first.result in
+    let read = c.index-as_slice-place.is
+    ∙ ap (λ xs. get_or xs place c.index-as_slice-place.result) c.as_slice.ensures in
+    is.0 ∙ slice_get_read commands (length commands) place c.index-as_slice-place.result refl is.1 read

@@ -1,8 +1,7 @@
 use Rattle.std.proofs.Common.{◌≡◌, ◌+◌, [], ℕ, List, take, get_or, sym, subst, ap, ◌∙◌}
 use Rattle.std.proofs.lemmas.Bool.{false≢true}
 use Rattle.std.proofs.lemmas.List.{take_all}
-use Rattle.std.specs.Option.{option_map_or}
-use Rattle.vq_model.specs.Plan.{commands_of}
+use Rattle.vq_model.specs.Plan.{Plan, commands_of}
 use Rattle.vq_order.specs.declared.races.cells.Cell.{Cell}
 use Rattle.vq_order.specs.Swept.{Sweeps, TouchesAmong, TouchesBy}
 use Rattle.vq_order.proofs.SweptCells.{sweeps_none, sweeps_own, sweeps_then}
@@ -15,7 +14,7 @@ loop-c-init c = sweeps_none c.args.self.now.order.now c.args.cells.now (TouchesA
 
 pub command-requires-clause-own : goal.command-requires-clause-own
 command-requires-clause-own c =
-    let n = get_or c.as_slice-c-items.result.now c.loop-c.c-index 0 in
+    let n = get_or c.commands_of-c-items.result.now c.loop-c.c-index 0 in
     (c.requires.accesses.each n c.in-Some.access.now (got_some c.args.accesses.now n c.in-Some.access.now (c.in-Some.ensures.lookup.0, c.in-Some.ensures.lookup.1))).of_job
 
 pub loop-c-preserved : goal.loop-c-preserved
@@ -23,7 +22,7 @@ loop-c-preserved c =
     let p = c.args.self.now.order.now in
     let cuts = c.args.self.now.cuts.now in
     let accesses = c.args.accesses.now in
-    let xs = c.as_slice-c-items.result.now in
+    let xs = c.commands_of-c-items.result.now in
     let i = c.loop-c.c-index in
     let more = TouchesAmong cuts accesses (take (i + 1) xs) in
     elim c.match-get.branch [
@@ -41,6 +40,6 @@ loop-c-preserved c =
 pub returns : goal.returns
 returns c =
     let p = c.args.self.now.order.now in
-    let items = c.as_slice-c-items.result.now in
-    let all : take c.loop-c.c-index items ≡ commands_of p c.args.j = take_all c.loop-c.c-index items c.loop-c-test.false ∙ (c.as_slice-c-items.ensures ∙ sym (ap (λ o. option_map_or (λ x. x.commands) o []) c.job.ensures.value)) in
+    let items = c.commands_of-c-items.result.now in
+    let all : take c.loop-c.c-index items ≡ commands_of p c.args.j = take_all c.loop-c.c-index items c.loop-c-test.false ∙ (c.commands_of-c-items.ensures ∙ ap (λ (q : Plan). commands_of q c.args.j) c.plan.ensures.value) in
     subst (λ (xs : List ℕ). Sweeps p c.args.cells.now c.loop-c.cells (TouchesAmong c.args.self.now.cuts.now c.args.accesses.now xs)) all c.loop-c.invariant

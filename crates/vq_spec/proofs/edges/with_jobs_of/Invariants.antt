@@ -1,7 +1,0 @@
-use Rattle.std.proofs.Common.{◌≡◌, ◌++◌, take, option_map}
-use Rattle.std.specs.List.{filter_map, slice_get}
-use Rattle.vq_spec.proofs.edges.with_jobs_of.Given as goal
-
-abbrev pub invariant-loop-op : goal.invariant-loop-op
-invariant-loop-op l = l.jobs.items ≡ l.firsts
-    ++ filter_map (λ e. option_map (λ o. o.job) (slice_get l.ops e)) (take l.op-index l.awaited)

@@ -1,0 +1,6 @@
+use Rattle.std.proofs.Common.{◌≡◌, ◌++◌}
+use Rattle.std.specs.Prelude.{replicate}
+use Rattle.vq_spec.proofs.owners.push_owner.Given as goal
+
+abbrev pub invariant-loop : goal.invariant-loop
+invariant-loop l = l.owners.items ≡ l.fn.owners.items ++ replicate l.counter l.job
