@@ -1,5 +1,5 @@
 -- Facts on what stands in a list, by the test `has`.
-use Rattle.std.proofs.Common.{◌≡◌, ℕ, false, List, [], ◌∷◌, Bool, true, ◌||◌, refl, eqb, ◌++◌, sym, ap, ◌∙◌, ◌⊎◌, inl, inr, subst, arith, Option, Some, None}
+use Rattle.std.proofs.Common.{◌≡◌, ℕ, false, List, [], ◌∷◌, Bool, true, ◌||◌, refl, eqb, ◌++◌, sym, ap, ◌∙◌, ◌⊎◌, inl, inr, subst, arith, ◌<◌, length, Option, Some, None}
 use Rattle.vq_model.specs.Plan.{has}
 use Rattle.std.proofs.lemmas.Bool.{eq-eqb, or_left, or_right, eqb-true, or_cases, or_from, false≢true, cases_Bool, and_parts, and_from, ne_eqb, eqb-false, or_parts}
 use Rattle.std.specs.List.{list_all, list_any}
@@ -116,3 +116,8 @@ any_has test (y ∷ xs) x h t = elim (has_cases y xs x h) [
 pub in_option : (o : Option ℕ) (i : ℕ) → has (option_to_list o) i ≡ true → o ≡ Some i
 in_option None i h = absurd (false≢true h)
 in_option (Some x) i h = elim (has_cases x [] i h) [ inl e ↦ ap Some e | inr m ↦ absurd (false≢true m) ]
+
+-- a list of something isn't empty
+pub has_some : (xs : List ℕ) (x : ℕ) → has xs x ≡ true → 0 < length xs
+has_some [] x h = absurd (false≢true h)
+has_some (y ∷ xs) x h = omega arith

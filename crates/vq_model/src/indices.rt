@@ -40,9 +40,10 @@ impl Indices {
         Indices { first, count }
     }
 
-    /// The first index, where there is one.
+    /// The first index, of some.
     #[inline(always)]
     pub fn first(&self) -> u32
+        requires { 0 < length self.now }
         ensures { self.now ≡ range_with_len result (length self.now) }
     {
         self.first

@@ -17,6 +17,7 @@ use Rattle.vq_model.specs.declared.plan.PlanJob.{PlanJob}
 use Rattle.vq_model.specs.Lowering.{batch_commands, commands_in, plan_of}
 use Rattle.vq_model.specs.Plan.{Plan, has, commands_of}
 use Rattle.vq_model.proofs.Gets.{get_within}
+use Rattle.vq_model.proofs.Lists.{has_some}
 use Rattle.vq_plan_laws.proofs.Cited.{HasOwner, StandsAt, stands_at, command_owner, counted, length-batch_commands}
 use Rattle.vq_plan_laws.proofs.Cited.{owner_has}
 use Rattle.vq_spec.specs.Owners.{HasOwners}
@@ -105,6 +106,12 @@ same_first a b m n e l =
     let u = get_or-range_with_len a m 0 0 (omega arith) in
     let w = get_or-range_with_len b n 0 0 l in
     omega (arith, ap (λ xs. get_or xs 0 0) e)
+
+-- a job of a command has some
+pub some_there : (p : Plan) (c j : ℕ) → has (commands_of p j) c ≡ true → (job : PlanJob) →
+    slice_get p.jobs j ≡ Some job → 0 < length job.commands
+some_there p c j own job at =
+    has_some job.commands c (ap (λ o. has (option_map_or (λ y. y.commands) o []) c) (sym at) ∙ own)
 
 -- a command of a job stands in its batch, as far behind the first as its number says
 module _ (s : Script) (p : Plan) (is : plan_of s ≡ p) (c j : ℕ) (own : has (commands_of p j) c ≡ true)

@@ -2,8 +2,15 @@ use Rattle.std.proofs.Common.{◌≡◌, ◌-◌, suc, get_or, [], sym, ap, ◌�
 use Rattle.std.specs.Option.{option_map_or}
 use Rattle.vq_model.specs.Edges.{At}
 use Rattle.vq_model.specs.Plan.{commands_of, has}
+use Rattle.vq_model.proofs.Lists.{has_some}
 use Rattle.vq_clocks.proofs.CommandPlaces.{command_stands, first_of_range}
 use Rattle.vq_clocks.proofs.clocked.Clocked.ahead.Goals as goal
+
+pub first-requires : goal.first-requires
+first-requires c =
+    let own : c.job.result.now.commands ≡ commands_of c.args.self.now c.args.j =
+    sym (ap (λ o. option_map_or (λ x. x.commands) o []) c.job.ensures.value) in
+    has_some c.job.result.now.commands c.args.d (ap (λ xs. has xs c.args.d) own ∙ c.requires)
 
 pub overflow_sub-result : goal.overflow_sub-result
 overflow_sub-result c =

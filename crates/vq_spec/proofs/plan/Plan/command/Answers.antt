@@ -3,8 +3,12 @@ use Rattle.std.proofs.lemmas.Option.{slice_get_read}
 use Rattle.vq_model.specs.declared.script.Job.TheVariants.{Host, Batch}
 use Rattle.vq_model.proofs.Gets.{get_within}
 use Rattle.vq_spec.proofs.Lowered.{read_job}
-use Rattle.vq_spec.proofs.CommandOwners.{there, first_is, command_is, no_step}
+use Rattle.vq_spec.proofs.CommandOwners.{some_there, there, first_is, command_is, no_step}
 use Rattle.vq_spec.proofs.plan.Plan.command.Goals as goal
+
+pub first-requires : goal.first-requires
+first-requires c =
+    some_there c.args.self.now c.args.c c.owner-job.result c.owner-job.ensures c.job.result.now c.job.ensures
 
 pub overflow_sub-place : goal.overflow_sub-place
 overflow_sub-place c =
