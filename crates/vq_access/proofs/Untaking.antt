@@ -1,11 +1,11 @@
 -- A release is refused where a point doesn't carry its operation.
-use Rattle.std.proofs.Common.{◌≡◌, ◌≤◌, ◌+◌, ℕ, List, true, false, Err, Result, length, refl, sym, ap, ◌∙◌, subst, arith, inl}
+use Rattle.std.proofs.Common.{◌≡◌, ◌≤◌, ◌+◌, ℕ, List, false, Err, Result, length, refl, sym, ap, ◌∙◌, subst, arith, inl}
 use Rattle.std.proofs.lemmas.List.{length-append}
 use Rattle.std.specs.Borrow.{GName}
 use Rattle.atomic_table.specs.Seated.{TableId}
 use Rattle.vq_model.specs.declared.script.ActorName.{ActorName}
 use Rattle.vq_model.specs.declared.plan.Event.{Event}
-use Rattle.vq_model.specs.Plan.{Plan, has}
+use Rattle.vq_model.specs.Plan.{Plan}
 use Rattle.vq_points.specs.Points.{PointState}
 use Rattle.vq_turns.specs.declared.outcome.Want.{Want}
 use Rattle.vq_turns.specs.declared.outcome.Want.TheVariants.{Submitted, Released, Bound, Next, Signaled, Finished}
@@ -13,7 +13,6 @@ use Rattle.vq_turns.specs.declared.outcome.Want.TheVariants.{MemoryTurn, Exchang
 use Rattle.vq_turns.specs.Turns.{Place}
 use Rattle.vq_actor.specs.Answers.{AnswersTry}
 use Rattle.vq_actor.specs.Meanings.{Recent}
-use Rattle.vq_actor.specs.Wants.{IsExchangeAmong}
 use Rattle.vq_board_laws.specs.declared.view.OwnStep.{OwnStep}
 use Rattle.vq_board_laws.specs.declared.view.View.{View}
 use Rattle.vq_board_laws.specs.PointSteps.{sees}
@@ -70,18 +69,6 @@ module _ (id : TableId) (l : List GName) (p : Plan) (a : ActorName) (x : Place) 
   refused_release es (Finished j) k to expected Names = absurd k
   refused_release es MemoryTurn k to expected Names = absurd k
   refused_release es (Listed e) k to expected Names = absurd k
-
-pub among_exchanges : (v w : View) (es fs : List ℕ) (want : Want) → es ≡ fs → SawUntaken v w es want →
-    IsExchangeAmong fs want
-among_exchanges v w es fs (Exchange e found) same k = subst (λ (gs : List ℕ). has gs e ≡ true) same k.among
-among_exchanges v w es fs (Submitted j) same k = absurd k
-among_exchanges v w es fs (Released j) same k = absurd k
-among_exchanges v w es fs (Bound e) same k = absurd k
-among_exchanges v w es fs (Next e) same k = absurd k
-among_exchanges v w es fs (Signaled e) same k = absurd k
-among_exchanges v w es fs (Finished j) same k = absurd k
-among_exchanges v w es fs MemoryTurn same k = absurd k
-among_exchanges v w es fs (Listed e) same k = absurd k
 
 -- A look at a point that carries an operation unsignaled.
 module _ (id : TableId) (l : List GName) (p : Plan) (a : ActorName) (x : Place) (r s : Recent) (v w : View)

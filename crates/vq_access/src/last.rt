@@ -1,6 +1,8 @@
 //! The last call of an access.
+//!
+//! Source: this project's own.
 
-/// The last call, where it matters for the next. Source: this project's own.
+/// The last call, where it matters for the next.
 #[derive(Clone, Copy)]
 pub enum Last {
     Other,

@@ -183,13 +183,6 @@ own_moved p a w x y z t next on here h =
     (subst (λ (n : ℕ). IsOwn p w (onto (take n (program p a)) []) (drop n (program p a)) y) (sym on)
     (subst (λ (bs : List Task). IsOwn p w bs (drop (x.done + 1) (program p a)) y) (sym cut.1) h))
 
--- where it stays
-pub own_stayed : (p : Plan) (a : ActorName) (w : View) (x y z : Place) → y.done ≡ x.done → z ≡ y →
-    IsOwn p w (tasks_before p a x) (tasks_left p a x) y → IsOwn p w (tasks_before p a z) (tasks_left p a z) z
-own_stayed p a w x y z on here h =
-    subst (λ (c : Place). IsOwn p w (tasks_before p a c) (tasks_left p a c) c) (sym here)
-    (subst (λ (n : ℕ). IsOwn p w (onto (take n (program p a)) []) (drop n (program p a)) y) (sym on) h)
-
 -- the own part as it stands at its next task
 pub own_here : (p : Plan) (a : ActorName) (v : View) (x : Place) (t : Task) → slice_get (program p a) x.done ≡ Some t →
     IsOwn p v (tasks_before p a x) (tasks_left p a x) x → IsOwn p v (tasks_before p a x) (t ∷ drop (x.done + 1) (program p a)) x

@@ -1,9 +1,8 @@
 -- Operations stand at their places in their chains, and chains are short.
-use Rattle.std.proofs.Common.{◌≡◌, ℕ, ◌+◌, ◌<◌, ◌≤◌, ◌^◌, Bool, true, false, ◌==◌, cond, leb, List, [], ◌∷◌, length, filter, fold, find, Option, Some, None, option_map, refl, sym, ap, ◌∙◌, subst, inl, inr, arith}
+use Rattle.std.proofs.Common.{◌≡◌, ℕ, ◌+◌, ◌<◌, ◌≤◌, ◌^◌, Bool, true, false, ◌==◌, cond, leb, List, [], ◌∷◌, length, filter, fold, Option, Some, None, option_map, refl, sym, ap, ◌∙◌, subst, inl, inr, arith}
 use Rattle.std.specs.List.{slice_get, position_or_len, range_with_len}
 use Rattle.std.specs.Option.{option_map_or}
-use Rattle.std.proofs.lemmas.Bool.{cases_lt, eq-eqb, eqb-true, false≢true}
-use Rattle.std.proofs.lemmas.List.Folds.{find_at}
+use Rattle.std.proofs.lemmas.Bool.{cases_lt}
 use Rattle.std.proofs.lemmas.List.FromFn.{length-range_with_len}
 use Rattle.std.proofs.lemmas.List.Sums.{count_by-le-length, length-filter}
 use Rattle.vq_model.specs.declared.plan.Op.{Op}
@@ -16,7 +15,7 @@ use Rattle.vq_model.specs.Signals.{insert_op, value_at, all_signals, chain_ops, 
 use Rattle.vq_model.specs.WellFormed.{IsWellFormed}
 use Rattle.vq_model.proofs.Gets.{slice_get_past}
 use Rattle.vq_model.proofs.Options.{some_of}
-use Rattle.vq_model.proofs.Searches.{find_fails, find_passes, at_place}
+use Rattle.vq_model.proofs.Searches.{at_place}
 use Rattle.vq_plan_laws.proofs.Cited.{chain_is, count_ops, op_chain_is, op_is, plan_lanes, plan_semaphores, plan_well_formed}
 use Rattle.vq_board.specs.Firsts.{StandInChains}
 

@@ -1,7 +1,6 @@
 //! The passes of a new board are cut off the host's.
 ghost use Rattle.std.specs.Prelude.{◌≡◌, ◌+◌, ◌<◌, ◌^◌, length, map, IfOk, OnOk};
 ghost use Rattle.std.specs.List.{range_with_len};
-ghost use Rattle.vq_model.specs.ValidScripts.{is_threaded_queue};
 ghost use Rattle.vq_board_laws.specs.declared.view.Role.TheVariants.{Submit, Ring, Shelf};
 ghost use Rattle.vq_board_laws.specs.Roles.{role_number, role_count, threaded_queues};
 ghost use Rattle.vq_board.specs.Named.{plan_of, view, role_of, IsFresh, AreFresh, IsCut};
@@ -10,17 +9,7 @@ use crate::parts::{Board, Pass};
 use crate::plays::Deal;
 use std::alloc::{AllocError, Global};
 use vq_board_laws::view::Role;
-use vq_model::script::{Mode, Script};
-
-/// Whether a queue is threaded.
-fn is_threaded(script: &Script, queue: u32) -> bool
-    ensures { result ≡ is_threaded_queue script.now queue }
-{
-    match script.queues.as_slice().get(queue as usize) {
-        Some(queue) => matches!(queue.mode, Mode::Threaded),
-        None => false,
-    }
-}
+use vq_model::script::Script;
 
 impl Board {
     /// Cuts the pass of the next role off the host's. The error is want of memory.
@@ -60,7 +49,7 @@ impl Board {
         let queues = script.queues.len() as u32;
         let mut passes = Vec::with_capacity(alloc, queues as usize)?;
         for queue in 0..queues {
-            if is_threaded(script, queue) {
+            if script.is_threaded(queue) {
                 passes.push(self.cut(alloc, host, Role::Submit(queue))?)?;
             }
         }

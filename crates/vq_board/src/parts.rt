@@ -114,8 +114,7 @@ pub struct Lost {
     pub found: u64,
 }
 
-/// The point has a reference, or its word was changed by others meanwhile: this was found. Source:
-/// this project's rule.
+/// The point has a reference, or its word was changed by others meanwhile: this was found.
 #[derive(Clone, Copy, Debug, PartialEq, Eq)]
 pub struct InUse {
     pub found: u64,
@@ -149,8 +148,7 @@ pub struct Passes {
 }
 
 /// What a board leaves once every job is finished: the buffers, with the bytes of the slow run of its
-/// plan. Clauses also see the host's pass as it was, with the answers that it told. Source: this
-/// project's rule.
+/// plan. Clauses also see the host's pass as it was, with the answers that it told.
 pub struct Closed {
     pub(crate) buffers: Buffers,
     pub(crate) plan: Snapshot<Plan>,

@@ -23,9 +23,6 @@ known_next known f n below next i less =
     (λ e. subst (λ (k : ℕ). Knows known (f k)) e next)
     (λ ne. below i (omega arith))
 
-pub known_more : (fs gs : List Fact) (f : ℕ → Fact) (n : ℕ) → KnowsBelow gs f n → KnowsBelow (fs ++ gs) f n
-known_more fs gs f n below i less = knows_behind fs gs (f i) (below i less)
-
 bit_small : (b : Bool) → bit b < 2
 bit_small true = omega arith
 bit_small false = omega arith

@@ -9,7 +9,7 @@ use Rattle.vq_point.specs.declared.PointWord.{PointWord as PointParts}
 use Rattle.vq_board_laws.specs.declared.view.Fact.{Fact}
 use Rattle.vq_board_laws.specs.declared.view.Fact.TheVariants.{Job, Taken, Bound, BoundTo, Past, Made}
 use Rattle.vq_board_laws.specs.declared.view.View.{View}
-use Rattle.vq_board_laws.specs.declared.view.OpState.TheVariants.{Unbound as UnboundOp, Past as PastOp}
+use Rattle.vq_board_laws.specs.declared.view.OpState.TheVariants.{Unbound as UnboundOp}
 use Rattle.vq_board_laws.specs.Knowledge.{Knows}
 use Rattle.vq_board_laws.specs.PointSteps.{recalls, sees, point_facts, moved_on, carries}
 use Rattle.vq_board_laws.specs.Words.{Carries}
@@ -63,9 +63,6 @@ moved q n e (g ∷ fs) isnt (inl is) = subst (λ (z : Fact). Knows (moved_on q n
 moved q n e (g ∷ fs) isnt (inr k) = later q n g fs (Past e) (moved q n e fs isnt k)
 
 -- The operation
-
-pub recalled_past : (v : View) (e : ℕ) → shows_made (recalls v e PastOp).known e ≡ true
-recalled_past v e = or_left (eqb e e) (shows_made (Bound e ∷ v.known) e) (eq-eqb e e refl)
 
 pub recalled_unbound : (v : View) (e : ℕ) → ShowsNext v (recalls v e UnboundOp) e
 recalled_unbound v e = record {

@@ -18,13 +18,12 @@ use Rattle.vq_payload.specs.Reading.{HasRead}
 use Rattle.vq_poll.specs.declared.bell.Bell.{Bell}
 use Rattle.vq_poll.specs.declared.pairs.Met.{Met}
 use Rattle.vq_poll.specs.declared.pairs.Pair.{Pair}
-use Rattle.vq_poll.specs.declared.pairs.WaitMode.{WaitMode}
 use Rattle.vq_poll.specs.declared.pairs.WaitMode.TheVariants.{All, Any}
 use Rattle.vq_poll.specs.declared.wait.Wait.{Wait}
 use Rattle.vq_poll.specs.Hearing.{HearsBell}
 use Rattle.vq_poll.specs.Looks.{Look, Reads, AreHeard}
 use Rattle.vq_poll.specs.Missing.{KnowsPair, KnowsFirst, KnowsMet, IsReached, IsMissed, AreMissed}
-use Rattle.vq_poll.specs.Waiting.{CanWait, IsAnswered, HasPolled, WaitsFor, WaitsAt, plan_in, pairs_in}
+use Rattle.vq_poll.specs.Waiting.{CanWait, IsAnswered, HasPolled, WaitsFor, plan_in, pairs_in}
 use Rattle.vq_poll.specs.Watching.{IsWatched}
 use Rattle.vq_poll.proofs.Learned.{value_grown}
 use Rattle.vq_poll.specs.Seeing.{Looked, HasValue}
@@ -110,9 +109,6 @@ pub record Looking (p : Plan) (v w : View) (cx : Context) (bells : List Bell) : 
   pub reads : Reads p v looks w
   pub heard : AreHeard cx bells looks
 
-pub looking_none : (p : Plan) (v : View) (cx : Context) (bells : List Bell) → Looking p v v cx bells
-looking_none p v cx bells = record { looks = []; reads = refl; heard = tt }
-
 pub looking_more : (p : Plan) (v w z : View) (cx cy : Context) (bells : List Bell) (t n : ℕ) → Looking p v w cx bells → Learns w z → HasRead p t w z n → HearsBell cy bells t → Keeps cx cy → Looking p v z cy bells
 looking_more p v w z cx cy bells t n l learned read hears kept =
     record {
@@ -157,17 +153,6 @@ missed_all w v u z cx n x watched at l learned read low =
     )
 
 -- The bells
-
-pub covers_all : (w : Wait) (cx : Context) (x : Pair) → w.mode ≡ All → slice_get (pairs_in w) w.next ≡ Some x → HearsBell cx w.awaited.watched.bells.now x.chain → IsArmed cx → Covers cx (WaitsFor w)
-covers_all w cx x all at hears armed = (armed, λ s need. heard s need)
-  where
-    heard : (s : ℕ) → WaitsFor w s → Hears cx s
-    heard s (i, y, b, stands, is, bell, name) =
-        let same : i ≡ w.next = subst (λ (m : WaitMode). WaitsAt m w.next i) all stands in
-        let there : slice_get (pairs_in w) w.next ≡ Some y = subst (λ (j : ℕ). slice_get (pairs_in w) j ≡ Some y) same is in
-        let eq : x ≡ y = (let a = at in let c = there in cc) in
-        let mine : HearsBell cx w.awaited.watched.bells.now y.chain = subst (λ (q : Pair). HearsBell cx w.awaited.watched.bells.now q.chain) eq hears in
-        subst (λ (k : ℕ). Hears cx k) (sym name) (mine b bell)
 
 pub covers_any : (w : Wait) (cx : Context) → ((i : ℕ) (x : Pair) → slice_get (pairs_in w) i ≡ Some x → HearsBell cx w.awaited.watched.bells.now x.chain) → IsArmed cx → Covers cx (WaitsFor w)
 covers_any w cx hears armed = (armed, λ s need. heard s need)

@@ -42,10 +42,6 @@ IsStill task = (row_of task).runs_threads ≡ false
 abbrev pub ReadsTrace : Task → Type 0
 ReadsTrace task = (row_of task).reads_trace ≡ true
 
--- a task that reads a text in which host threads stand in blocks
-abbrev pub ReadsThreads : Task → Type 0
-ReadsThreads task = (row_of task).reads_threads ≡ true
-
 -- a task that runs a script on threads
 abbrev pub RunsThreads : Task → Type 0
 RunsThreads task = (row_of task).runs_threads ≡ true

@@ -16,10 +16,6 @@ looked_on : (u v w : View) → HasLooked u v → HasLooked v w → HasLooked u w
 looked_on u v w a b =
     b ∙ ap (λ (z : View). record z { known = w.known; unmade = w.unmade; steps = w.steps }) a
 
-pub looked_again : (u v w : View) → w ≡ record v { known = w.known; unmade = w.unmade; steps = w.steps } →
-    HasLooked u v → HasLooked u w
-looked_again u v w b a = looked_on u v w a b
-
 pub one_looked : (v w : View) (q : ℕ) → FindsInUse v w q → HasLooked v w
 one_looked v w q (inl (n, used, is)) =
     is ∙ ap (λ (z : View). record v { known = z.known; unmade = z.unmade; steps = z.steps }) (sym is)

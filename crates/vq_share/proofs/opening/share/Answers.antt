@@ -1,4 +1,4 @@
-use Rattle.std.proofs.Common.{rules, ◌≡◌, ◌++◌, ◌∷◌, [], All, List, map, sym, ap, ◌∙◌, subst, map-id}
+use Rattle.std.proofs.Common.{rules, ◌++◌, ◌∷◌, [], All, List, map, sym, ap, ◌∙◌, subst, map-id}
 use Rattle.std.specs.Arc.{arc_value}
 use Rattle.std.specs.Global.{Box}
 use Rattle.std.proofs.lemmas.List.{map_push}
