@@ -13,3 +13,4 @@ mod Collecting
 mod Histories
 mod AnswerLaws
 mod AnswersKept
+mod AwaitedPlaces

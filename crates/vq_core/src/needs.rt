@@ -1,8 +1,8 @@
 //! The needs of jobs, and the operations that resolve them.
-ghost use Rattle.std.specs.Prelude.{◌≡◌, ◌<◌, ◌||◌, All, length};
+ghost use Rattle.std.specs.Prelude.{◌≡◌, ◌==◌, ◌<◌, ◌||◌, All, length};
 ghost use Rattle.std.specs.Prelude.{nat_le};
 ghost use Rattle.std.specs.Prelude.{is_some, false};
-ghost use Rattle.std.specs.List.{list_all, list_any};
+ghost use Rattle.std.specs.List.{list_all, list_any, position_or_len};
 ghost use Rattle.std.specs.Option.{option_map_or, option_to_list};
 ghost use Rattle.vq_model.specs.Plan.{initial, resolver, needs, signals_of, previous, idle_after, waits_for_any};
 ghost use Rattle.vq_points.specs.Points.{are_needs_pending, resolves, needs_resolved, needs_now};
@@ -12,6 +12,20 @@ ghost use Rattle.vq_tables.specs.Notes.{place_in};
 use crate::state::Core;
 use vq_spec::Need;
 use vq_tables::{any_resolved, count_resolved, place_among};
+
+/// The place of a number among some, or how many there are.
+fn place_of(numbers: &[u32], number: u32) -> usize
+    ensures { result ≡ position_or_len (λ n. n == number) numbers.now }
+{
+    let mut place = 0;
+    for other in numbers {
+        if *other == number {
+            return place;
+        }
+        place += 1;
+    }
+    place
+}
 
 impl Core {
     /// Whether one of its needs is enough for a job.
@@ -95,7 +109,12 @@ impl Core {
         requires { job < length self.now.plan.jobs }
         ensures { result ≡ place_in self.now.plan job op }
     {
-        place_among(self.plan(), self.needs(job), op)
+        let (needs, awaited) = (self.needs(job), self.plan().awaited(job));
+        // where each need is awaited, no chain has to be searched for what resolves it
+        if awaited.len() == needs.len() {
+            return place_of(awaited, op);
+        }
+        place_among(self.plan(), needs, op)
     }
 
     /// Whether a job waits now for a need that an operation resolves.

@@ -23,30 +23,14 @@ fails_then : (a b : Bool) → (a && (false && b)) ≡ false
 fails_then true b = refl
 fails_then false b = refl
 
-passes_then : (a : Bool) → (a && (true && true)) ≡ a
-passes_then true = refl
-passes_then false = refl
-
 -- the tests of words
 by_tests : (words : List (List ℕ)) (wait signal end : Bool) → matches_block words WaitForm ≡ wait →
     matches_block words SignalForm ≡ signal → matches_block words EndForm ≡ end →
     form_in true words ≡ first_form wait signal end
 by_tests words wait signal end w s e = λ i. first_form (w i) (s i) (e i)
 
-no_pairs_agree : (ws : List (List ℕ)) → agree (Pairs ∷ []) ws ≡ true
-no_pairs_agree [] = refl
-no_pairs_agree (w ∷ ws) = refl
-
 abbrev even_some : List (List ℕ) → Bool
 even_some ws = nat_lt 0 (length ws) && (length ws % 2 == 0)
-
-pub wait_form : (ws : List (List ℕ)) → form_in true (codes "wait" ∷ ws)
-    ≡ cond (nat_lt 0 (length ws) && (length ws % 2 == 0)) (Some WaitForm) None
-wait_form ws =
-    by_tests (codes "wait" ∷ ws) (even_some ws) false false
-    (ap (λ (b : Bool). even_some ws && (true && b)) (no_pairs_agree ws) ∙ passes_then (even_some ws))
-    (fails_then (are_as_many (TimelineName ∷ Numeral ∷ []) ws) (agree (TimelineName ∷ Numeral ∷ []) ws))
-    (fails_then (are_as_many [] ws) (agree [] ws))
 
 pub signal_form : (t v : List ℕ) → form_in true (codes "signal" ∷ t ∷ v ∷ []) ≡ Some SignalForm
 signal_form t v = refl

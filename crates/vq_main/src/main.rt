@@ -3,8 +3,10 @@
 #![tactic(auto)]
 
 mod file_limit;
+mod memory;
 mod output;
 
+use crate::memory::keep_given_back;
 use crate::output::Output;
 use std::process::ExitCode;
 use std::{env, io};
@@ -23,6 +25,7 @@ fn words(rt: &HostRuntime) -> io::Result<Vec<String>> {
 }
 
 fn main(rt: HostRuntime) -> ExitCode {
+    keep_given_back(rt.alloc());
     let mut source = StdSource::new(rt.stdin());
     let mut sink = Output::new(&rt);
     let status = match words(&rt) {

@@ -1,8 +1,8 @@
 -- Lists of pieces, one after another.
-use Rattle.std.proofs.Common.{◌≡◌, ℕ, zero, suc, ◌+◌, ◌<◌, ◌≤◌, ◌⊎◌, List, [], ◌∷◌, ◌++◌, length, Option, Some, None, MatchOption, get_or}
+use Rattle.std.proofs.Common.{◌≡◌, ℕ, zero, suc, ◌+◌, ◌<◌, ◌≤◌, ◌⊎◌, List, [], ◌∷◌, ◌++◌, length, Option, Some, None, MatchOption}
 use Rattle.std.proofs.Common.{refl, sym, subst, ap, ◌∙◌, arith, length-append, inl, inr}
 use Rattle.std.specs.List.{slice_get}
-use Rattle.std.proofs.lemmas.Option.{slice_get_past, slice_get_read}
+use Rattle.std.proofs.lemmas.Option.{slice_get_past}
 use Rattle.std.specs.Fmt.{decimal}
 use Rattle.std.specs.Option.{option_map_or}
 use Rattle.vq_model.specs.declared.plan.Op.{Op}
@@ -62,16 +62,6 @@ all_there f n pieces h none = λ k. at k (slice_get pieces k) refl
     at k None e = let l = past_all pieces k e in let count = h.count in none k (omega arith)
     at k (Some x) e = h.each k x e
 
--- The words at a number, taken from its piece.
-pub at_number : (f : ℕ → List ℕ) (pieces : List Piece) (k : ℕ) (x : Piece) → Spell f pieces →
-    slice_get pieces k ≡ Some x → IsPiece (f k) x
-at_number f pieces k x h e =
-    subst (λ (o : Option Piece). MatchOption o (f k ≡ []) (IsPiece (f k))) e (h k)
-
-pub no_number : (f : ℕ → List ℕ) (pieces : List Piece) (k : ℕ) → Spell f pieces → slice_get pieces k ≡ None → f k ≡ []
-no_number f pieces k h e =
-    subst (λ (o : Option Piece). MatchOption o (f k ≡ []) (IsPiece (f k))) e (h k)
-
 -- Past the operations of a plan there are no words, and no name past the queues of a script.
 pub no_words : (p : Plan) (k : ℕ) → length p.ops ≤ k → words_of_op p k ≡ []
 no_words p k past =
@@ -81,11 +71,3 @@ no_words p k past =
 pub no_name : (s : Script) (k : ℕ) → length s.queues ≤ k → queue_name s k ≡ []
 no_name s k past =
     ap (λ (o : Option Queue). option_map_or (λ x. x.name) o []) (slice_get_past s.queues k past)
-
-pub at_index : (f : ℕ → List ℕ) (pieces : List Piece) (k : ℕ) (x : Piece) → Spell f pieces → k < length pieces →
-    x ≡ get_or pieces k x → IsPiece (f k) x
-at_index f pieces k x h within is =
-    at_number f pieces k x h (slice_get_read pieces (length pieces) k x refl within is)
-
-pub past_index : (f : ℕ → List ℕ) (pieces : List Piece) (k : ℕ) → Spell f pieces → length pieces ≤ k → f k ≡ []
-past_index f pieces k h past = no_number f pieces k h (slice_get_past pieces k past)

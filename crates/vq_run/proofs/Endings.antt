@@ -42,7 +42,9 @@ use Rattle.vq_messages.specs.Refused.{RefusesPlan, RefusesOrder, input_limit, no
 use Rattle.vq_run.specs.Outcomes.{IsOutcome, is_too_long, has_no_trace, has_faulty_line, has_no_plan, is_unlawful, has_faulty_trace, gives_answer, Ends, AnswersTask, AnswersTrace, ReadsToEnd, IsLawfulInput, IsDoneOrMemory}
 use Rattle.vq_run.specs.Outcomes.{HasFirstFault, HasLawfulPlan, HasReadableTrace, IsScriptText, IsTraceRead, LacksTrace, ReadsAs}
 use Rattle.vq_run.specs.Origins.{IsOutputFrom, answer_origin, order_fault_origin, plan_fault_origin}
-use Rattle.vq_run.specs.Outcomes.{IsReadFor, ArePlayable, IsLawfulPlan, EndsForWords, WritesNothing}
+use Rattle.vq_run.specs.Outcomes.{HoldsRead, IsScripted, IsReadFor, ArePlayable, IsLawfulPlan, EndsForWords, WritesNothing}
+use Rattle.vq_run.specs.declared.reading.Scripted.{Scripted}
+use Rattle.vq_run.specs.declared.reading.Scripted.TheVariants.{Read, Refused as RefusedScript}
 use Rattle.vq_given.specs.declared.given.Cut.{Cut}
 use Rattle.vq_given.specs.declared.given.GivenTrace.{GivenTrace}
 use Rattle.vq_given.specs.Cutting.{IsCut, IsUncut}
@@ -385,6 +387,11 @@ module _ (task : Task) (input : List ℕ) (s : Script) (turns : List Turn) (from
   refused_outcome (SignaledTwice n) text short l is = refused (SignaledTwice n) text short l is
   refused_outcome (FenceUsed n) text short l is = refused (FenceUsed n) text short l is
   refused_outcome NoMemoryToLower text short l is = absurd is
+
+-- a script that was read is here with what it was read for
+pub holds_read : (task : Task) (input : List ℕ) (scripted : Scripted) → IsScripted task input scripted → HoldsRead scripted
+holds_read task input (Read script turns from) r = read_for task input script turns from r
+holds_read task input (RefusedScript text) r = tt
 
 -- What comes of a plan that was read for a task
 

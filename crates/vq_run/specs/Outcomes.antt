@@ -15,6 +15,7 @@ use Rattle.vq_model.specs.Canonical.{canonical_text}
 use Rattle.vq_model.specs.OutputText.{line_feed}
 use Rattle.vq_model.specs.Outputs.{IsOutput}
 use Rattle.vq_model.specs.Refusals.{too_long, bad_words, line_refusal, plan_refusal, order_refusal}
+use Rattle.vq_model.specs.SameScript.{IsRead}
 use Rattle.vq_model.specs.ValidScripts.{IsActor}
 use Rattle.vq_blocks.specs.BlockReading.{IsFirstHostsFault}
 use Rattle.vq_blocks.specs.Compiled.{IsCompiled}
@@ -38,6 +39,8 @@ use Rattle.vq_words.specs.declared.task.Task.{Task}
 use Rattle.vq_words.specs.declared.task.Task.TheVariants.{Run, Check, Replay, Generate, Rounds, Upgrade, Audit, Hosts}
 use Rattle.vq_run.specs.declared.reading.Reading.{Reading}
 use Rattle.vq_run.specs.declared.reading.Reading.TheVariants.{Lawful, Refused as RefusedReading}
+use Rattle.vq_run.specs.declared.reading.Scripted.{Scripted}
+use Rattle.vq_run.specs.declared.reading.Scripted.TheVariants.{Read, Refused as RefusedScript}
 use Rattle.vq_run.specs.declared.status.Status.{Status}
 use Rattle.vq_run.specs.declared.status.Status.TheVariants.{Done, BadWords, Refused, ReadFault, WriteFault, Memory}
 
@@ -189,6 +192,16 @@ pub record IsLawfulPlan (task : Task) (input : List ℕ) (p : Plan) (turns : Lis
   pub read : IsReadFor task input p.script turns from
   pub lowers : Lowers p.script (Ok p)
   pub lawful : IsLawful p
+
+-- the script was read, if it is here
+abbrev pub HoldsRead : Scripted → Type 0
+HoldsRead (Read script turns from) = IsRead script
+HoldsRead (RefusedScript text) = Unit {0}
+
+-- what comes of reading the script of an input: the script, or the text that refuses the input
+abbrev pub IsScripted : Task → List ℕ → Scripted → Type 0
+IsScripted task input (Read script turns from) = IsReadFor task input script turns from
+IsScripted task input (RefusedScript text) = IsOutcome task input Refused text.items
 
 -- what an input comes to before its task is done: such a plan, or the text that refuses the input
 abbrev pub IsReading : Task → List ℕ → Reading → Type 0

@@ -7,14 +7,14 @@ ghost use Rattle.vq_model.specs.Outputs.{asking};
 ghost use Rattle.vq_run.specs.Origins.{IsOutputFrom};
 ghost use Rattle.vq_model.specs.ValidScripts.{sizes_of};
 ghost use Rattle.vq_messages.specs.Refused.{input_limit};
-ghost use Rattle.vq_run.specs.Outcomes.{AnswersTask, ArePlayable, IsLawfulPlan, IsOutcome, upgraded};
+ghost use Rattle.vq_run.specs.Outcomes.{AnswersTask, ArePlayable, IsOutcome, upgraded};
 ghost use Rattle.vq_run.specs.Tasks.{IsStill, ReadsTrace, RunsThreads};
 ghost use Rattle.vq_board.specs.Named.{bytes_of};
 ghost use Rattle.vq_spec.specs.TextRooms.{text_room};
 
 use crate::auditing::trace_outcome;
 use crate::origins::name_origins;
-use crate::reading::{Reading, read_input};
+use crate::reading::{Reading, read_plan, read_script};
 use crate::status::Status;
 use crate::task::row_of;
 use std::alloc::{AllocError, Global};
@@ -104,15 +104,13 @@ fn still_text(
     task: Task,
     ordered: Ordered,
     turns: &[Turn],
-    input: &[u8],
 ) -> Result<Vec<u8>, AllocError>
     requires still { IsStill task }
     requires traceless { ¬ ReadsTrace task }
     requires playable { ArePlayable ordered.script turns.now }
-    ensures { (from : Option (List ℕ)) → IfOk result (λ text.
-        AnswersTask task input.now ordered turns.now from text.items) }
+    ensures { (input : List ℕ) (from : Option (List ℕ)) → IfOk result (λ text.
+        AnswersTask task input ordered turns.now from text.items) }
 {
-    let _ = input;
     match task {
         Task::Check => Vec::from_slice(alloc, b"lawful\n"),
         Task::Replay => replay_text(alloc, ordered, turns),
@@ -122,34 +120,36 @@ fn still_text(
     }
 }
 
-/// What a task that starts no thread comes to for a lawful plan that was read from an input.
-fn plan_outcome(
-    alloc: Global,
-    task: Task,
-    ordered: Ordered,
-    turns: &[Turn],
-    input: &[u8],
-) -> Result<Outcome, AllocError>
-    requires still { IsStill task }
-    requires plan { (from : Option (List ℕ)) × IsLawfulPlan task input.now ordered turns.now from }
-    ensures { IfOk result (λ outcome. IsOutcome task input.now outcome.status outcome.text.items) }
-{
-    if row_of(task).reads_trace {
-        return trace_outcome(alloc, ordered, input);
-    }
-    let text = still_text(alloc, task, ordered, turns, input)?;
-    Ok(Outcome::done(text))
-}
-
-/// What a task that starts no thread writes for an input. The error is want of memory.
-pub fn still_outcome(alloc: Global, task: Task, input: &[u8]) -> Result<Outcome, AllocError>
-    requires still { IsStill task }
+/// What a task that reads a trace behind the script comes to for an input.
+fn audit_outcome(alloc: Global, task: Task, input: &[u8]) -> Result<Outcome, AllocError>
+    requires traced { ReadsTrace task }
     requires short { length input.now ≤ input_limit }
     ensures { IfOk result (λ outcome. IsOutcome task input.now outcome.status outcome.text.items) }
 {
-    match read_input(alloc, task, input)? {
+    let scripted = read_script(alloc, task, input)?;
+    match read_plan(alloc, scripted)? {
+        Reading::Lawful { ordered, .. } => trace_outcome(alloc, ordered, input),
+        Reading::Refused(text) => Ok(Outcome::refused(text)),
+    }
+}
+
+/// What a task that starts no thread writes for an input. The error is want of memory.
+pub fn still_outcome(alloc: Global, task: Task, input: Vec<u8>) -> Result<Outcome, AllocError>
+    requires still { IsStill task }
+    requires short { length input.items ≤ input_limit }
+    ensures { IfOk result (λ outcome. IsOutcome task input.items outcome.status outcome.text.items) }
+{
+    if row_of(task).reads_trace {
+        return audit_outcome(alloc, task, input.as_slice());
+    }
+    let scripted = read_script(alloc, task, input.as_slice())?;
+    // the plan is made where the text stood
+    drop(input);
+    match read_plan(alloc, scripted)? {
         Reading::Lawful { ordered, turns, .. } => {
-            plan_outcome(alloc, task, ordered, turns.as_slice(), input)
+            let turns = turns.as_slice();
+            let text = still_text(alloc, task, ordered, turns)?;
+            Ok(Outcome::done(text))
         }
         Reading::Refused(text) => Ok(Outcome::refused(text)),
     }
@@ -160,14 +160,16 @@ pub fn run_outcome<R: Threads + Wait + Sync, G: Gate>(
     rt: &R,
     alloc: Global,
     task: Task,
-    input: &[u8],
+    input: Vec<u8>,
     gate: &G,
 ) -> Result<Outcome, AllocError>
     requires runs { RunsThreads task }
-    requires short { length input.now ≤ input_limit }
-    ensures { IfOk result (λ outcome. IsOutcome task input.now outcome.status outcome.text.items) }
+    requires short { length input.items ≤ input_limit }
+    ensures { IfOk result (λ outcome. IsOutcome task input.items outcome.status outcome.text.items) }
 {
-    match read_input(alloc, task, input)? {
+    let scripted = read_script(alloc, task, input.as_slice())?;
+    drop(input);
+    match read_plan(alloc, scripted)? {
         Reading::Lawful { ordered, from, .. } => {
             let text = run_text(rt, alloc, ordered, &from, gate)?;
             Ok(Outcome::done(text))

@@ -1,9 +1,10 @@
 //! What an input comes to before its task is done: a lawful plan, or a refusal.
-ghost use Rattle.std.specs.Prelude.{◌≡◌, ◌≤◌, ◌<◌, ◌-◌, ◌^◌, IfOk, IfErr, Ok, length};
+ghost use Rattle.std.specs.Prelude.{◌≡◌, ◌≤◌, ◌<◌, ◌-◌, ◌^◌, ℕ, IfOk, IfErr, List, Ok, length};
 ghost use Rattle.vq_model.specs.Text.{lines_of};
 ghost use Rattle.vq_model.specs.LoweringFaults.{Lowers};
+ghost use Rattle.vq_model.specs.SameScript.{IsRead};
 ghost use Rattle.vq_messages.specs.Refused.{input_limit};
-ghost use Rattle.vq_run.specs.Outcomes.{HasFaultOf, IsReadFor, IsReading, ReadsAs};
+ghost use Rattle.vq_run.specs.Outcomes.{HasFaultOf, HoldsRead, IsReadFor, IsReading, IsScripted, ReadsAs};
 ghost use Rattle.vq_run.specs.Tasks.{planned, turns_for};
 
 use crate::auditing::script_text;
@@ -19,6 +20,20 @@ use vq_order::{Ordered, check};
 use vq_script::{Script, ScriptFault, parse};
 use vq_spec::Plan;
 use vq_words::Task;
+
+/// What comes of reading the script of an input.
+#[derive(Drop)]
+pub enum Scripted {
+    /// The script, the turns that the task plays over its plan, and the lines of the input from which those of the
+    /// script come, where these aren't the same.
+    Read {
+        script: Script,
+        turns: List<Turn>,
+        from: Option<List<u32>>,
+    },
+    /// The text that refuses the input.
+    Refused(Vec<u8>),
+}
 
 /// What an input comes to before its task is done.
 #[derive(Drop)]
@@ -37,16 +52,13 @@ pub enum Reading {
 /// What comes of the plan of a script that was read from an input.
 fn of_plan(
     alloc: Global,
-    task: Task,
     plan: Plan,
     turns: List<Turn>,
     from: Option<List<u32>>,
-    input: &[u8],
 ) -> Result<Reading, AllocError>
-    requires short { length input.now ≤ input_limit }
-    requires read { IsReadFor task input.now plan.script turns from }
-    requires lowers { Lowers plan.script (Ok plan) }
-    ensures { IfOk result (IsReading task input.now) }
+    requires { Lowers plan.script (Ok plan) }
+    ensures { (task : Task) (input : List ℕ) → length input ≤ input_limit →
+        IsReadFor task input plan.script turns from → IfOk result (IsReading task input) }
 {
     match check(alloc, plan) {
         Ok(ordered) => Ok(Reading::Lawful {
@@ -64,22 +76,37 @@ fn of_plan(
 /// What comes of a script that was read from an input.
 fn of_script(
     alloc: Global,
-    task: Task,
     script: Script,
     turns: List<Turn>,
     from: Option<List<u32>>,
-    input: &[u8],
 ) -> Result<Reading, AllocError>
-    requires short { length input.now ≤ input_limit }
-    requires read { IsReadFor task input.now script turns from }
-    ensures { IfOk result (IsReading task input.now) }
+    requires { IsRead script }
+    ensures { (task : Task) (input : List ℕ) → length input ≤ input_limit →
+        IsReadFor task input script turns from → IfOk result (IsReading task input) }
 {
     match Plan::lower(alloc, script) {
-        Ok(plan) => of_plan(alloc, task, plan, turns, from, input),
+        Ok(plan) => of_plan(alloc, plan, turns, from),
         Err(fault) => {
             let fault = plan_fault_origin(&from, fault);
             Ok(Reading::Refused(plan_refusal(alloc, fault)?))
         }
+    }
+}
+
+/// Makes the plan of a script that was read from an input, and checks it. The input isn't needed any more. The error is
+/// want of memory.
+pub fn read_plan(alloc: Global, scripted: Scripted) -> Result<Reading, AllocError>
+    requires { HoldsRead scripted }
+    ensures { (task : Task) (input : List ℕ) → length input ≤ input_limit → IsScripted task input scripted →
+        IfOk result (IsReading task input) }
+{
+    match scripted {
+        Scripted::Read {
+            script,
+            turns,
+            from,
+        } => of_script(alloc, script, turns, from),
+        Scripted::Refused(text) => Ok(Reading::Refused(text)),
     }
 }
 
@@ -133,23 +160,27 @@ fn parse_for(alloc: Global, task: Task, text: &[u8]) -> Result<Parsed, ScriptFau
     }
 }
 
-/// Reads an input for a task: parses its script, makes the plan and checks that. The error is want of memory.
+/// Reads the script of an input for a task. The error is want of memory.
 #[tactic(auto, using(crate::proofs::Endings::traceless_outcome))]
-pub fn read_input(alloc: Global, task: Task, input: &[u8]) -> Result<Reading, AllocError>
+pub fn read_script(alloc: Global, task: Task, input: &[u8]) -> Result<Scripted, AllocError>
     requires { length input.now ≤ input_limit }
-    ensures { IfOk result (IsReading task input.now) }
+    ensures { IfOk result (IsScripted task input.now) }
 {
     let Some(text) = script_text(task, input) else {
-        return Ok(Reading::Refused(no_trace_refusal(alloc)?));
+        return Ok(Scripted::Refused(no_trace_refusal(alloc)?));
     };
     match parse_for(alloc, task, text) {
         Ok(Parsed { script, from }) => {
             let Planned { script, turns } = move_turns(alloc, task, script);
-            of_script(alloc, task, script, turns, from, input)
+            Ok(Scripted::Read {
+                script,
+                turns,
+                from,
+            })
         }
         Err(ScriptFault::Memory) => Err(AllocError),
         Err(ScriptFault::At { line, kind }) => {
-            Ok(Reading::Refused(line_refusal(alloc, line, kind)?))
+            Ok(Scripted::Refused(line_refusal(alloc, line, kind)?))
         }
     }
 }

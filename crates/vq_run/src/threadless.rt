@@ -43,7 +43,7 @@ pub fn still<S: Source, K: Sink>(alloc: Global, task: &Task, source: &mut S, sin
     ensures to_end { ReadsToEnd result (S.left source.old) (S.left source.new) }
 {
     match read_whole(alloc, source, INPUT_LIMIT) {
-        Ok(input) => end_with(sink, still_outcome(alloc, *task, input.as_slice())),
+        Ok(input) => end_with(sink, still_outcome(alloc, *task, input)),
         Err(fault) => end_unread(sink, fault),
     }
 }

@@ -63,7 +63,7 @@ fn run_source<R: Threads + Wait + Sync, S: Source, K: Sink, G: Gate>(
     ensures to_end { ReadsToEnd result (S.left source.old) (S.left source.new) }
 {
     match read_whole(alloc, source, INPUT_LIMIT) {
-        Ok(input) => end_with(sink, run_outcome(rt, alloc, task, input.as_slice(), gate)),
+        Ok(input) => end_with(sink, run_outcome(rt, alloc, task, input, gate)),
         Err(fault) => end_unread(sink, fault),
     }
 }
@@ -83,7 +83,7 @@ fn generated_outcome<R: Threads + Wait + Sync, G: Gate>(
         outcome.status outcome.text.items) }
 {
     let text = generate(alloc, rounds)?;
-    run_outcome(rt, alloc, task, text.as_slice(), gate)
+    run_outcome(rt, alloc, task, text, gate)
 }
 
 /// Does a task that runs the script of so many rounds that the program makes itself.

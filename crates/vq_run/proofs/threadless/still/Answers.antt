@@ -9,13 +9,13 @@ returns-in-Ok-clause-headline g c =
     let now = moment g.K.Sink.written g.K.Sink.room g.K.Sink.faults c.end_with.new.sink in
     told_ends c.args.task.now _ c.in-Ok.input.items c.end_with.result before now c.in-Ok.ensures.whole
     (came_to c.args.task.now c.in-Ok.input.items c.end_with.result before now c.still_outcome.result
-    (rw c.as_slice.ensures.value at c.still_outcome.ensures) c.end_with.ensures)
+    c.still_outcome.ensures c.end_with.ensures)
 
 pub returns-in-Ok-clause-lawful : goal.returns-in-Ok-clause-lawful
 returns-in-Ok-clause-lawful g c =
     let before = moment g.K.Sink.written g.K.Sink.room g.K.Sink.faults c.args.sink.now in
     let now = moment g.K.Sink.written g.K.Sink.room g.K.Sink.faults c.end_with.new.sink in
-    let is = rw c.as_slice.ensures.value at c.still_outcome.ensures in
+    let is = c.still_outcome.ensures in
     told_lawful c.args.task.now _ c.end_with.result before now _ _
     (told_ends c.args.task.now _ c.in-Ok.input.items c.end_with.result before now c.in-Ok.ensures.whole
     (came_to c.args.task.now c.in-Ok.input.items c.end_with.result before now c.still_outcome.result is c.end_with.ensures))
@@ -46,21 +46,21 @@ returns-in-Ok-clause-no_bad_words g c =
     let now = moment g.K.Sink.written g.K.Sink.room g.K.Sink.faults c.end_with.new.sink in
     ends_not_bad c.args.task.now c.in-Ok.input.items c.end_with.result before now
     (came_to c.args.task.now c.in-Ok.input.items c.end_with.result before now c.still_outcome.result
-    (rw c.as_slice.ensures.value at c.still_outcome.ensures) c.end_with.ensures)
+    c.still_outcome.ensures c.end_with.ensures)
 
 pub returns-in-Ok-clause-read_fault : goal.returns-in-Ok-clause-read_fault
 returns-in-Ok-clause-read_fault g c =
     let before = moment g.K.Sink.written g.K.Sink.room g.K.Sink.faults c.args.sink.now in
     let now = moment g.K.Sink.written g.K.Sink.room g.K.Sink.faults c.end_with.new.sink in
     λ e. absurd (came_to_unfailed c.args.task.now c.in-Ok.input.items c.end_with.result before now c.still_outcome.result
-    (rw c.as_slice.ensures.value at c.still_outcome.ensures) c.end_with.ensures e)
+    c.still_outcome.ensures c.end_with.ensures e)
 
 pub returns-in-Ok-clause-write_fault : goal.returns-in-Ok-clause-write_fault
 returns-in-Ok-clause-write_fault g c =
     let before = moment g.K.Sink.written g.K.Sink.room g.K.Sink.faults c.args.sink.now in
     let now = moment g.K.Sink.written g.K.Sink.room g.K.Sink.faults c.end_with.new.sink in
     came_to_rose c.args.task.now c.in-Ok.input.items c.end_with.result before now c.still_outcome.result
-    (rw c.as_slice.ensures.value at c.still_outcome.ensures) c.end_with.ensures
+    c.still_outcome.ensures c.end_with.ensures
 
 pub returns-in-Ok-clause-nothing : goal.returns-in-Ok-clause-nothing
 returns-in-Ok-clause-nothing g c =
@@ -68,4 +68,4 @@ returns-in-Ok-clause-nothing g c =
     let now = moment g.K.Sink.written g.K.Sink.room g.K.Sink.faults c.end_with.new.sink in
     ends_nothing c.args.task.now c.in-Ok.input.items c.end_with.result before now
     (came_to c.args.task.now c.in-Ok.input.items c.end_with.result before now c.still_outcome.result
-    (rw c.as_slice.ensures.value at c.still_outcome.ensures) c.end_with.ensures)
+    c.still_outcome.ensures c.end_with.ensures)

@@ -9,7 +9,7 @@ returns-in-Ok-clause-headline g c =
     let now = moment g.K.Sink.written g.K.Sink.room g.K.Sink.faults c.end_with.new.sink in
     told_ends c.args.task _ c.in-Ok.input.items c.end_with.result before now c.in-Ok.ensures.whole
     (came_to c.args.task c.in-Ok.input.items c.end_with.result before now c.run_outcome.result
-    (rw c.as_slice.ensures.value at c.run_outcome.ensures) c.end_with.ensures)
+    c.run_outcome.ensures c.end_with.ensures)
 
 pub returns-in-Err-clause-headline : goal.returns-in-Err-clause-headline
 returns-in-Err-clause-headline g c =
@@ -24,21 +24,21 @@ returns-in-Ok-clause-no_bad_words g c =
     let now = moment g.K.Sink.written g.K.Sink.room g.K.Sink.faults c.end_with.new.sink in
     ends_not_bad c.args.task c.in-Ok.input.items c.end_with.result before now
     (came_to c.args.task c.in-Ok.input.items c.end_with.result before now c.run_outcome.result
-    (rw c.as_slice.ensures.value at c.run_outcome.ensures) c.end_with.ensures)
+    c.run_outcome.ensures c.end_with.ensures)
 
 pub returns-in-Ok-clause-read_fault : goal.returns-in-Ok-clause-read_fault
 returns-in-Ok-clause-read_fault g c =
     let before = moment g.K.Sink.written g.K.Sink.room g.K.Sink.faults c.args.sink.now in
     let now = moment g.K.Sink.written g.K.Sink.room g.K.Sink.faults c.end_with.new.sink in
     λ e. absurd (came_to_unfailed c.args.task c.in-Ok.input.items c.end_with.result before now c.run_outcome.result
-    (rw c.as_slice.ensures.value at c.run_outcome.ensures) c.end_with.ensures e)
+    c.run_outcome.ensures c.end_with.ensures e)
 
 pub returns-in-Ok-clause-write_fault : goal.returns-in-Ok-clause-write_fault
 returns-in-Ok-clause-write_fault g c =
     let before = moment g.K.Sink.written g.K.Sink.room g.K.Sink.faults c.args.sink.now in
     let now = moment g.K.Sink.written g.K.Sink.room g.K.Sink.faults c.end_with.new.sink in
     came_to_rose c.args.task c.in-Ok.input.items c.end_with.result before now c.run_outcome.result
-    (rw c.as_slice.ensures.value at c.run_outcome.ensures) c.end_with.ensures
+    c.run_outcome.ensures c.end_with.ensures
 
 pub returns-in-Ok-clause-nothing : goal.returns-in-Ok-clause-nothing
 returns-in-Ok-clause-nothing g c =
@@ -46,4 +46,4 @@ returns-in-Ok-clause-nothing g c =
     let now = moment g.K.Sink.written g.K.Sink.room g.K.Sink.faults c.end_with.new.sink in
     ends_nothing c.args.task c.in-Ok.input.items c.end_with.result before now
     (came_to c.args.task c.in-Ok.input.items c.end_with.result before now c.run_outcome.result
-    (rw c.as_slice.ensures.value at c.run_outcome.ensures) c.end_with.ensures)
+    c.run_outcome.ensures c.end_with.ensures)

@@ -1,7 +1,7 @@
 use Rattle.std.proofs.Common.{arith}
 use Rattle.vq_reading_laws.proofs.Cited.{few_lines}
 use Rattle.vq_run.proofs.Endings.{faulty_outcome}
-use Rattle.vq_run.proofs.reading.read_input.Goals as goal
+use Rattle.vq_run.proofs.reading.read_script.Goals as goal
 
 pub parse_for-requires : goal.parse_for-requires
 parse_for-requires c = let few = few_lines c.in-Some.text.now in let short = c.in-Some.ensures.1 in omega arith
