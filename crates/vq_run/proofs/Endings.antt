@@ -16,7 +16,7 @@ use Rattle.vq_blocks.specs.Blocks.{Told}
 use Rattle.vq_blocks.specs.BlockReading.{IsFirstHostsFault}
 use Rattle.vq_blocks.specs.Compiled.{IsCompiled, script_by_input}
 use Rattle.vq_model.specs.Lowering.{plan_of}
-use Rattle.vq_model.specs.LoweringFaults.{lowering_fault, IsFirstLoweringFault, IsPlan, Lowers}
+use Rattle.vq_model.specs.LoweringFaults.{lowering_fault, IsFirstLoweringFault, Lowers}
 use Rattle.vq_model.specs.Plan.{Plan}
 use Rattle.vq_model.specs.Checks.{IsLawful, IsFirstPlanFault, Checks}
 use Rattle.vq_model.specs.declared.script.Turn.{Turn}
@@ -397,9 +397,6 @@ holds_read task input (RefusedScript text) r = tt
 
 module _ (task : Task) (input : List ℕ) (p : Plan) (turns : List Turn) (from : Option (List ℕ))
     (short : length input ≤ input_limit) (r : IsReadFor task input p.script turns from) (l : Lowers p.script (Ok p)) where
-  pub plan_is : IsPlan p
-  plan_is = record { of_script = read_for task input p.script turns from r; faultless = l.0; lowered = l.1 }
-
   lowers : lowering_fault (planned task r.script) ≡ None
   lowers = subst (λ z. lowering_fault z ≡ None) r.made l.0
 
