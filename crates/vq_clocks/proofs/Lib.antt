@@ -7,4 +7,5 @@ mod CommandPlaces
 mod Marking
 mod NeedChains
 mod SortedLists
+mod BothClocks
 mod PartLaws

@@ -32,9 +32,12 @@ module _ (p : Plan) where
     | inr m ↦ let r = mapped (job_of p) (awaited_at p j k) i m in lanes.job_exists r.0 i r.2
   ]
 
--- a row of zeros covers nothing
+-- numbers that are zero cover nothing
+pub none_covered : (lane : ℕ → ℕ) (of : ℕ → Option ℕ) (S : ℕ → Type 0) (numbers : ℕ → ℕ) → ((x : ℕ) → ¬ S x) → ((l : ℕ) → numbers l ≡ 0) → Covers lane of numbers S
+none_covered lane of S numbers none are = record { below = λ x i o h. absurd (none x h); covered = λ x i o h. let z = are (lane i) in absurd (omega arith) }
+
 pub zeros_cover : (lane : ℕ → ℕ) (of : ℕ → Option ℕ) (S : ℕ → Type 0) → ((x : ℕ) → ¬ S x) → (n : ℕ) → Covers lane of (in_row (replicate n 0)) S
-zeros_cover lane of S none n = record { below = λ x i o h. absurd (none x h); covered = λ x i o h. let z = in_zeros n (lane i) in absurd (omega arith) }
+zeros_cover lane of S none n = none_covered lane of S (in_row (replicate n 0)) none (in_zeros n)
 
 -- Tables that grow
 
@@ -155,12 +158,6 @@ position_within p c j l = place_within (slow_order p) j (slow_has p c.reachable 
 -- Reading the tables of all jobs
 
 module _ (p : Plan) (complete : IsComplete p) (rows : List (List ℕ)) (j : ℕ) (exists : j < length p.jobs) where
-  pub row_exists : (Says : ℕ → (ℕ → ℕ) → Type 0) → HasRows p Says rows (length (slow_order p)) → (position p j < length rows) × (length (get_or rows (position p j) []) ≡ lanes p)
-  row_exists Says t =
-      let l = position_within p complete j exists in
-      let n = t.count in
-      ((omega arith), t.width (position p j) l)
-
   pub before_exact : HasClocks p rows (length (slow_order p)) → (i : ℕ) → IsTrue (ltb i (row_of p rows j (lane_at p i))) ↔ HappensBefore p i j
   before_exact t i =
       let f = t.each j (position_within p complete j exists) in

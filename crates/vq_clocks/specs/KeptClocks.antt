@@ -6,10 +6,9 @@ use Rattle.vq_model.specs.Plan.{Plan}
 use Rattle.vq_model.specs.SlowRun.{slow_order}
 use Rattle.vq_clocks.specs.declared.clocks.parts.Parts.{Parts}
 use Rattle.vq_clocks.specs.PartClocks.{HaveParts}
-use Rattle.vq_clocks.specs.VectorClocks.{HasClocks, HasSureClocks, IsComplete}
+use Rattle.vq_clocks.specs.VectorClocks.{HasBoth, IsComplete}
 
-pub record KeepsClocks (p : Plan) (rows sure_rows : List (List ℕ)) (parts : List Parts) : Type 0 where
+pub record KeepsClocks (p : Plan) (rows : List (List ℕ)) (parts : List Parts) : Type 0 where
   pub complete : IsComplete p
-  pub before : HasClocks p rows (length (slow_order p))
-  pub sure : HasSureClocks p sure_rows (length (slow_order p))
+  pub clocks : HasBoth p rows (length (slow_order p))
   pub of_parts : HaveParts p parts

@@ -2,9 +2,9 @@
 -- those that happen before a job are the first ones of each lane, and the number says where they end.
 -- Vulkan 1.3, "Implicit Synchronization Guarantees" (submission order).
 use Rattle.std.specs.Prelude.{ℕ, ◌++◌, ◌∷◌, ◌≡◌, ◌<◌, ◌≤◌, ◌+◌, ◌==◌, true, List}
-use Rattle.std.specs.Prelude.{[], length, max, if◌then◌else◌}
+use Rattle.std.specs.Prelude.{[], length, map, take, drop, max, if◌then◌else◌}
 use Rattle.std.specs.Prelude.{Option, Some, ◌⊎◌}
-use Rattle.std.specs.List.{slice_index_or, position_or_len}
+use Rattle.std.specs.List.{filter_map, slice_index_or, position_or_len}
 use Rattle.vq_model.specs.Plan.{Plan, has, job_of, commands_of}
 use Rattle.vq_model.specs.Edges.{Stage, AtEnd}
 use Rattle.vq_model.specs.HappensBefore.{HappensBefore, HappensBeforeAt, comes_earlier}
@@ -73,6 +73,13 @@ AddsEdge p j edge old new =
     (edges : List ℕ) → Covers (lane_at p) itself (in_row old) (PassesOne p j edges) →
     Covers (lane_at p) itself (in_row new) (PassesOne p j (edges ++ edge ∷ []))
 
+-- the edge to the job of an operation
+abbrev pub AddsEdgeOf : Plan → ℕ → ℕ → List ℕ → List ℕ → Type 0
+AddsEdgeOf p j op old new =
+    (edges ops : List ℕ) →
+    Covers (lane_at p) itself (in_row old) (PassesOne p j (edges ++ filter_map (job_of p) ops)) →
+    Covers (lane_at p) itself (in_row new) (PassesOne p j (edges ++ filter_map (job_of p) (ops ++ op ∷ [])))
+
 abbrev pub AddsJob : Plan → ℕ → List ℕ → List ℕ → Type 0
 AddsJob p first old new =
     (firsts : List ℕ) → Covers (lane_at p) (job_of p) (in_row old) (SureByJob p firsts) →
@@ -100,6 +107,11 @@ pub record Joins (old from : List ℕ) (lane bound : ℕ) (new : List ℕ) : Typ
   pub raised : (l : ℕ) → in_row new l
       ≡ max (max (in_row old l) (in_row from l)) (if lane == l then bound else 0)
 
+-- a number of a row is raised to a bound
+pub record Raises (old : List ℕ) (lane bound : ℕ) (new : List ℕ) : Type 0 where
+  pub width : length new ≡ length old
+  pub raised : (l : ℕ) → in_row new l ≡ max (in_row old l) (if lane == l then bound else 0)
+
 -- number l of row n of a table
 abbrev pub row_at : List (List ℕ) → ℕ → ℕ → ℕ
 row_at rows n l = in_row (slice_index_or rows n []) l
@@ -126,6 +138,37 @@ HasClocks p rows n = HasRows p (λ j. IsClock p j AtEnd) rows n
 abbrev pub HasSureClocks : Plan → List (List ℕ) → ℕ → Type 0
 HasSureClocks p rows n = HasRows p (λ j. IsSureClock p j AtEnd) rows n
 
+-- Both clocks of a job stand in one row: first the numbers that say what is before the job, then those
+-- that say what is sure for it.
+
+-- how many numbers such a row has
+abbrev pub both : Plan → ℕ
+both p = lanes p + lanes p
+
+abbrev pub before_half : Plan → List ℕ → List ℕ
+before_half p row = take (lanes p) row
+
+abbrev pub sure_half : Plan → List ℕ → List ℕ
+sure_half p row = drop (lanes p) row
+
+abbrev pub before_halves : Plan → List (List ℕ) → List (List ℕ)
+before_halves p rows = map (before_half p) rows
+
+abbrev pub sure_halves : Plan → List (List ℕ) → List (List ℕ)
+sure_halves p rows = map (sure_half p) rows
+
+-- both clocks of the first jobs of the slow run
+pub record HasBoth (p : Plan) (rows : List (List ℕ)) (n : ℕ) : Type 0 where
+  pub before : HasClocks p (before_halves p rows) n
+  pub sure : HasSureClocks p (sure_halves p rows) n
+
+-- The halves of a row are raised to those of another one. In the lane of a job each is raised to a bound too:
+-- the first to just above the job.
+pub record JoinsBoth (p : Plan) (old from : List ℕ) (job bound : ℕ) (new : List ℕ) : Type 0 where
+  pub before : Joins (before_half p old) (before_half p from) (lane_at p job) (job + 1) (before_half p new)
+  pub sure : Joins (sure_half p old) (sure_half p from) (lane_at p job) bound (sure_half p new)
+  pub width : length new ≡ length old
+
 -- the places of all jobs in the slow run
 pub record HasPositions (p : Plan) (positions : List ℕ) : Type 0 where
   pub count : length positions ≡ length p.jobs
@@ -149,8 +192,13 @@ pub record MakesRow (p : Plan) (Says : ℕ → (ℕ → ℕ) → Type 0)
 abbrev pub MakesClock : Plan → List (List ℕ) → ℕ → Type 0
 MakesClock p rows j = MakesRow p (λ i. IsClock p i AtEnd) rows j
 
-abbrev pub MakesSureClock : Plan → List (List ℕ) → ℕ → Type 0
-MakesSureClock p rows j = MakesRow p (λ i. IsSureClock p i AtEnd) rows j
+-- both clocks of a job are made
+pub record MakesBoth (p : Plan) (rows : List (List ℕ)) (j : ℕ) : Type 0 where
+  pub complete : IsComplete p
+  pub exists : j < length p.jobs
+  pub made : ℕ
+  pub enough : position p j ≤ made
+  pub earlier : HasBoth p rows made
 
 -- what is kept beside such a plan: its slow run, and where each job stands in it
 pub record KeepsRun (p : Plan) (order positions : List ℕ) : Type 0 where

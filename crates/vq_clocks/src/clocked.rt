@@ -12,10 +12,9 @@ ghost use Rattle.vq_model.specs.Sure.{IsSure};
 ghost use Rattle.vq_clocks.specs.PartClocks.{AreParts};
 ghost use Rattle.vq_clocks.specs.VectorClocks.{IsComplete, IsOfSomeJob};
 
-use crate::clocks::before::before_rows;
 use crate::clocks::parts::{Parts, all_parts, ends_before};
 use crate::clocks::rows::at;
-use crate::clocks::sure::sure_rows;
+use crate::clocks::table::clock_table;
 use crate::complete_run::CompleteRun;
 use std::alloc::{AllocError, Global};
 use std::marker::Model;
@@ -30,8 +29,8 @@ use vq_spec::Plan;
 /// only a part of a batch, its first parts have clocks of their own.
 pub struct Clocked {
     run: CompleteRun,
-    before: Rows,
-    sure: Rows,
+    /// The row of a job has both its clocks, one behind the other.
+    clocks: Rows,
     parts: Vec<Parts>,
 }
 
@@ -39,8 +38,7 @@ impl Drop for Clocked {
     fn drop(self) {
         let Clocked {
             run: _run,
-            before: _before,
-            sure: _sure,
+            clocks: _clocks,
             parts: _parts,
         } = self;
     }
@@ -54,7 +52,7 @@ impl Model for Clocked {
 
     ghost view = { λ a. a.run };
 
-    ghost invariant = { λ a. KeepsClocks a.run a.before a.sure a.parts.items };
+    ghost invariant = { λ a. KeepsClocks a.run a.clocks a.parts.items };
 }
 
 impl Clocked {
@@ -66,15 +64,9 @@ impl Clocked {
         ensures { IfOk result (λ clocked. clocked ≡ plan) }
     {
         let run = CompleteRun::new(alloc, plan, order)?;
-        let before = before_rows(alloc, &run)?;
-        let sure = sure_rows(alloc, &run)?;
-        let parts = all_parts(alloc, &run, &before)?;
-        Ok(Clocked {
-            run,
-            before,
-            sure,
-            parts,
-        })
+        let clocks = clock_table(alloc, &run)?;
+        let parts = all_parts(alloc, &run, &clocks)?;
+        Ok(Clocked { run, clocks, parts })
     }
 
     /// Whether one job happens before another.
@@ -85,7 +77,7 @@ impl Clocked {
         requires second { j < length self.now.jobs }
         ensures { IsTrue result ↔ HappensBefore self.now i j }
     {
-        i < at(&self.before, self.run.position(j), self.run.lane(i))
+        i < at(&self.clocks, self.run.position(j), self.run.lane(i))
     }
 
     /// The job of a command.
@@ -144,7 +136,8 @@ impl Clocked {
         ensures { IsTrue result ↔ IsSure self.now op j }
     {
         let job = self.run.plan().op(op).job;
-        op < at(&self.sure, self.run.position(j), self.run.lane(job))
+        let lane = self.run.lanes() + self.run.lane(job);
+        op < at(&self.clocks, self.run.position(j), lane)
     }
 
     /// The plan.

@@ -1,5 +1,5 @@
-//! Vector clocks: a row for each job, with a number for each lane.
+//! Vector clocks: a row for each job, with two numbers for each lane.
 pub(crate) mod before;
 pub(crate) mod parts;
 pub(crate) mod rows;
-pub(crate) mod sure;
+pub(crate) mod table;

@@ -1,5 +1,5 @@
 //! Plans of which the slow run leaves no job.
-ghost use Rattle.std.specs.Prelude.{◌≡◌, ◌<◌, length, IfOk};
+ghost use Rattle.std.specs.Prelude.{◌≡◌, ◌<◌, ◌^◌, length, IfOk};
 ghost use Rattle.vq_model.specs.HappensBefore.{comes_earlier};
 ghost use Rattle.vq_model.specs.Lanes.{lane_at};
 ghost use Rattle.vq_model.specs.SlowRun.{slow_order};
@@ -93,7 +93,8 @@ impl CompleteRun {
 
     /// How many lanes there are: the host's lane, and those of the queues.
     pub(crate) fn lanes(&self) -> usize
-        ensures { result ≡ lanes self.now }
+        ensures value { result ≡ lanes self.now }
+        ensures few { lanes self.now < 2 ^ 32 }
     {
         self.plan().script().queues.as_slice().len() + 1
     }

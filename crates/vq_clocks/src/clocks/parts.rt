@@ -7,7 +7,7 @@ ghost use Rattle.vq_model.specs.Edges.{At, edges_at, waits_at_start};
 ghost use Rattle.vq_model.specs.LoweringFaults.{IsPlan};
 ghost use Rattle.vq_model.specs.SlowRun.{slow_order};
 ghost use Rattle.vq_clocks.specs.PartClocks.{end_before, jobs_for, AreParts, HaveParts, IsPartEnds};
-ghost use Rattle.vq_clocks.specs.VectorClocks.{in_row, lanes, HasClocks, IsClock, MakesClock};
+ghost use Rattle.vq_clocks.specs.VectorClocks.{before_halves, in_row, lanes, HasClocks, IsClock, MakesClock};
 
 use crate::clocks::before::row_through;
 use crate::clocks::rows::Row;
@@ -137,7 +137,7 @@ fn place_row(
     j: u32,
     place: u32,
 ) -> Result<Row, AllocError>
-    requires { MakesClock run.now rows.now j }
+    requires { MakesClock run.now (before_halves run.now rows.now) j }
     ensures value { IfOk result (λ row. IsClock run.now j (At place) (in_row row)) }
     ensures width { IfOk result (λ row. length row ≡ lanes run.now) }
 {
@@ -149,7 +149,7 @@ fn place_row(
 
 /// The clocks of a job's parts.
 fn parts_of(alloc: Global, run: &CompleteRun, rows: &Rows, j: u32) -> Result<Parts, AllocError>
-    requires { MakesClock run.now rows.now j }
+    requires { MakesClock run.now (before_halves run.now rows.now) j }
     ensures { IfOk result (AreParts run.now j) }
 {
     let ends = part_ends(alloc, run.plan(), j)?;
@@ -170,7 +170,7 @@ pub(crate) fn all_parts(
     run: &CompleteRun,
     rows: &Rows,
 ) -> Result<Vec<Parts>, AllocError>
-    requires { HasClocks run.now rows.now (length (slow_order run.now)) }
+    requires { HasClocks run.now (before_halves run.now rows.now) (length (slow_order run.now)) }
     ensures { IfOk result (λ parts. HaveParts run.now parts.items) }
 {
     let mut parts = Vec::new(alloc);

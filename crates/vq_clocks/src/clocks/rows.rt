@@ -1,14 +1,14 @@
-//! Rows of numbers, one for each lane.
+//! Rows of numbers, one or two for each lane.
 ghost use Rattle.std.specs.Prelude.{◌≡◌, ◌<◌, [], ℕ, max, length, replicate, IfOk};
 ghost use Rattle.std.specs.Prelude.{◌==◌, if◌then◌else◌};
 ghost use Rattle.std.specs.List.{slice_index_or};
-ghost use Rattle.vq_clocks.specs.VectorClocks.{in_row, row_at, Joins};
+ghost use Rattle.vq_clocks.specs.VectorClocks.{in_row, row_at, Joins, Raises};
 
 use std::alloc::{AllocError, Global};
 use std::marker::Model;
 use vq_lists::Rows;
 
-/// A number for each lane.
+/// A number for each lane, or two.
 #[derive(Drop)]
 pub(crate) struct Row {
     numbers: Vec<u32>,
@@ -24,11 +24,11 @@ impl Model for Row {
 
 impl Row {
     /// A row of zeros.
-    pub(crate) fn new(alloc: Global, lanes: usize) -> Result<Row, AllocError>
-        ensures { IfOk result (λ row. row ≡ replicate lanes 0) }
+    pub(crate) fn new(alloc: Global, numbers: usize) -> Result<Row, AllocError>
+        ensures { IfOk result (λ row. row ≡ replicate numbers 0) }
     {
         Ok(Row {
-            numbers: vec![in alloc; 0; lanes]?,
+            numbers: vec![in alloc; 0; numbers]?,
         })
     }
 
@@ -55,6 +55,14 @@ impl Row {
         raise_all(self.numbers.as_mut_slice(), from);
         raise(self.numbers.as_mut_slice(), lane, bound);
     }
+
+    /// Raises one number to a bound.
+    pub(crate) fn raise(&mut self, lane: usize, bound: u32)
+        requires { lane < length self.old }
+        ensures { Raises self.old lane bound self.new }
+    {
+        raise(self.numbers.as_mut_slice(), lane, bound);
+    }
 }
 
 /// Makes each number of a row zero.
@@ -72,7 +80,7 @@ fn raise_all(row: &mut [u32], from: &[u32])
     ensures { (l : ℕ) → in_row row.new l ≡ max (in_row row.old l) (in_row from.now l) }
 {
     for l in 0..row.len() {
-        raise(row, l, from[l]);
+        row[l] = row[l].max(from[l]);
     }
 }
 
@@ -82,9 +90,7 @@ fn raise(row: &mut [u32], lane: usize, bound: u32)
     ensures { (l : ℕ) →
         in_row row.new l ≡ max (in_row row.old l) (if lane == l then bound else 0) }
 {
-    if row[lane] < bound {
-        row[lane] = bound;
-    }
+    row[lane] = row[lane].max(bound);
 }
 
 /// A number of a row.

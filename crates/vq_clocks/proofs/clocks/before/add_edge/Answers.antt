@@ -1,39 +1,47 @@
-use Rattle.std.proofs.Common.{◌≡◌, ◌+◌, ℕ, List, [], get_or, length, ap, ◌∙◌, sym, subst, arith}
-use Rattle.std.proofs.lemmas.Bool.{ltb-true}
+use Rattle.std.proofs.Common.{◌≡◌, ◌+◌, ℕ, List, [], get_or, length, take, ap, ◌∙◌, sym, subst, arith}
+use Rattle.std.proofs.lemmas.List.{length-take-le}
 use Rattle.vq_plan_laws.proofs.Cited.{plan_lanes}
 use Rattle.vq_model.specs.Lanes.{lane_at}
-use Rattle.vq_clocks.specs.VectorClocks.{in_row, position, row_of, Joins}
+use Rattle.vq_clocks.specs.VectorClocks.{before_halves, in_row, position, row_of, Joins}
+use Rattle.vq_clocks.proofs.BothClocks.{edge_row}
 use Rattle.vq_clocks.proofs.ClockLaws.{clock_step, clock_skip}
 use Rattle.vq_clocks.proofs.clocks.before.add_edge.Goals as goal
 
-pub row-requires : goal.row-requires
-row-requires c =
-    let p = c.args.run.now in
-    let l = ltb-true (position p c.args.edge) (position p c.args.j) (sym c.comes_earlier.ensures ∙ c.if-comes_earlier.true) in
-    let n = c.requires.makes.earlier.count in
-    let k = c.requires.makes.enough in
+pub row-clocks-requires : goal.row-clocks-requires
+row-clocks-requires c =
+    let l = (edge_row c.args.run.now c.args.rows.now c.args.j c.args.edge c.requires.makes (sym c.comes_earlier.ensures ∙ c.if-comes_earlier.true)).stands in
     omega arith
+
+pub slice_bounds-join-end : goal.slice_bounds-join-end
+slice_bounds-join-end c =
+    let w = (edge_row c.args.run.now c.args.rows.now c.args.j c.args.edge c.requires.makes (sym c.comes_earlier.ensures ∙ c.if-comes_earlier.true)).wide in
+    let e = ap length (c.row-clocks.ensures ∙ ap (λ n. get_or c.args.rows.now n []) c.position.ensures) in
+    let n = c.lanes.ensures.value in
+    sym (length-take-le c.lanes.result c.row-clocks.result.now (omega arith))
 
 pub join-requires : goal.join-requires
 join-requires c =
-    let p = c.args.run.now in
-    let l = ltb-true (position p c.args.edge) (position p c.args.j) (sym c.comes_earlier.ensures ∙ c.if-comes_earlier.true) in
-    let k = c.requires.makes.enough in
-    let w = c.requires.makes.earlier.width c.position.result (omega arith) in
-    record { same = ap length c.row.ensures ∙ (w ∙ sym c.requires.width); exists = omega arith }
+    let w = (edge_row c.args.run.now c.args.rows.now c.args.j c.args.edge c.requires.makes (sym c.comes_earlier.ensures ∙ c.if-comes_earlier.true)).wide in
+    let e = ap length (c.row-clocks.ensures ∙ ap (λ n. get_or c.args.rows.now n []) c.position.ensures) in
+    let n = c.lanes.ensures.value in
+    let l = c.lane.ensures.exists in
+    let own = c.requires.width in
+    record { same = length-take-le c.lanes.result c.row-clocks.result.now (omega arith) ∙ (n ∙ sym own); exists = omega arith }
 
 pub returns-then-comes_earlier : goal.returns-then-comes_earlier
 returns-then-comes_earlier c =
     let p = c.args.run.now in
     let e = c.args.edge in
     let rows = c.args.rows.now in
+    let halves = before_halves p rows in
     let early = sym c.comes_earlier.ensures ∙ c.if-comes_earlier.true in
-    let l = ltb-true (position p e) (position p c.args.j) early in
-    let from : c.row.result.now ≡ get_or rows (position p e) [] = c.row.ensures ∙ ap (λ n. get_or rows n []) c.position.ensures in
-    let joined : Joins c.args.row.now (get_or rows (position p e) []) (lane_at p e) (e + 1) c.join.new.self =
+    let through = edge_row p rows c.args.j e c.requires.makes early in
+    let from : take c.lanes.result c.row-clocks.result.now ≡ get_or halves (position p e) [] =
+    ap (λ (x : ℕ × List ℕ). take x.0 x.1) (λ k. (c.lanes.ensures.value k, (c.row-clocks.ensures ∙ ap (λ n. get_or rows n []) c.position.ensures) k)) ∙ sym through.half in
+    let joined : Joins c.args.row.now (get_or halves (position p e) []) (lane_at p e) (e + 1) c.join.new.self =
     subst (λ (x : List ℕ × ℕ). Joins c.args.row.now x.0 x.1 (e + 1) c.join.new.self) (λ k. (from k, c.lane.ensures.value k)) c.join.ensures in
     record {
-      adds = λ edges k. clock_step p (plan_lanes p c.requires.makes.complete.plan) c.requires.makes.complete.reachable c.args.j e edges (in_row c.args.row.now) (row_of p rows e) (in_row c.join.new.self) c.requires.exists early (c.requires.makes.earlier.each e (let k = c.requires.makes.enough in omega arith)) k joined.raised;
+      adds = λ edges k. clock_step p (plan_lanes p c.requires.makes.complete.plan) c.requires.makes.complete.reachable c.args.j e edges (in_row c.args.row.now) (row_of p halves e) (in_row c.join.new.self) c.requires.exists early (c.requires.makes.earlier.each e through.made) k joined.raised;
       width = joined.width ∙ c.requires.width;
     }
 

@@ -1,0 +1,101 @@
+//! The table of clocks: a row for each job says what is before it, and then what is sure for it.
+ghost use Rattle.std.specs.Prelude.{◌≡◌, ◌<◌, [], true, length, IfOk};
+ghost use Rattle.std.specs.List.{slice_index_or};
+ghost use Rattle.vq_model.specs.Edges.{AtEnd, must_finish};
+ghost use Rattle.vq_model.specs.Plan.{has};
+ghost use Rattle.vq_model.specs.SlowRun.{slow_order};
+ghost use Rattle.vq_clocks.specs.VectorClocks.{before_half, both, in_row, position, sure_half};
+ghost use Rattle.vq_clocks.specs.VectorClocks.{AddsEdge, AddsEdgeOf, AddsJob, AddsOp, EndsOps, HasBoth};
+ghost use Rattle.vq_clocks.specs.VectorClocks.{IsClock, IsComplete, IsSureClock, JoinsBoth, MakesBoth};
+
+use crate::clocks::rows::Row;
+use crate::complete_run::CompleteRun;
+use std::alloc::{AllocError, Global};
+use vq_lists::Rows;
+
+/// A bound on a job's signal operations. Those of later jobs are at or above it.
+fn ops_end(run: &CompleteRun, j: u32) -> u32
+    requires { j < length run.now.jobs }
+    ensures { EndsOps run.now j result }
+{
+    match run.plan().signals_of(j).last() {
+        Some(op) => *op + 1,
+        None => 0,
+    }
+}
+
+/// Adds to a row what comes through a job: what is before it and sure for it, the job itself, and its
+/// operations below a bound.
+fn add(run: &CompleteRun, rows: &Rows, row: &mut Row, job: u32, bound: u32)
+    requires complete { IsComplete run.now }
+    requires exists { job < length run.now.jobs }
+    requires made { position run.now job < length rows.now }
+    requires from { length (slice_index_or rows.now (position run.now job) []) ≡ both run.now }
+    requires width { length row.old ≡ both run.now }
+    ensures { JoinsBoth run.now row.old (slice_index_or rows.now (position run.now job) []) job bound row.new }
+{
+    let lane = run.lane(job);
+    row.join(rows.row(run.position(job)), lane, job + 1);
+    row.raise(run.lanes() + lane, bound);
+}
+
+/// Adds a job that is finished before another one to the other's row.
+fn add_first(run: &CompleteRun, rows: &Rows, row: &mut Row, j: u32, first: u32)
+    requires makes { MakesBoth run.now rows.now j }
+    requires must { has (must_finish run.now j) first ≡ true }
+    requires width { length row.old ≡ both run.now }
+    ensures before { AddsEdge run.now j first (before_half run.now row.old) (before_half run.now row.new) }
+    ensures sure { AddsJob run.now first (sure_half run.now row.old) (sure_half run.now row.new) }
+    ensures width { length row.new ≡ both run.now }
+{
+    let bound = ops_end(run, first);
+    add(run, rows, row, first, bound);
+}
+
+/// Adds an operation that a job waits for to its row, with the operation's job.
+fn add_op(run: &CompleteRun, rows: &Rows, row: &mut Row, j: u32, op: u32)
+    requires makes { MakesBoth run.now rows.now j }
+    requires exists { op < length run.now.ops }
+    requires width { length row.old ≡ both run.now }
+    ensures before { AddsEdgeOf run.now j op (before_half run.now row.old) (before_half run.now row.new) }
+    ensures sure { AddsOp run.now j op (sure_half run.now row.old) (sure_half run.now row.new) }
+    ensures width { length row.new ≡ both run.now }
+{
+    let job = run.plan().op(op).job;
+    if run.comes_earlier(job, j) {
+        add(run, rows, row, job, op + 1);
+    }
+}
+
+/// Makes a row that of a job, from those of the jobs before it in the slow run: both clocks in one walk
+/// over what the job waits for.
+fn make_row(run: &CompleteRun, rows: &Rows, j: u32, row: &mut Row)
+    requires makes { MakesBoth run.now rows.now j }
+    requires width { length row.old ≡ both run.now }
+    ensures before { IsClock run.now j AtEnd (in_row (before_half run.now row.new)) }
+    ensures sure { IsSureClock run.now j AtEnd (in_row (sure_half run.now row.new)) }
+    ensures width { length row.new ≡ both run.now }
+{
+    row.clear();
+    for first in run.plan().must_finish(j) {
+        add_first(run, rows, row, j, *first);
+    }
+    for op in run.plan().awaited(j) {
+        add_op(run, rows, row, j, *op);
+    }
+}
+
+/// The rows of all jobs, in the order of the slow run.
+pub(crate) fn clock_table(alloc: Global, run: &CompleteRun) -> Result<Rows, AllocError>
+    ensures { IfOk result (λ rows. HasBoth run.now rows (length (slow_order run.now))) }
+{
+    let (jobs, lanes) = (run.order().len(), run.lanes());
+    let numbers = lanes + lanes;
+    let mut rows = Rows::with_room(alloc, jobs, jobs.saturating_mul(numbers))?;
+    let mut row = Row::new(alloc, numbers)?;
+    for j in run.order() {
+        make_row(run, &rows, *j, &mut row);
+        rows.push(row.as_slice())?;
+    }
+    Ok(rows)
+}
