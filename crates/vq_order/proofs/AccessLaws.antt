@@ -1,7 +1,6 @@
 -- Conflicts and races by the accesses of commands.
-use Rattle.std.proofs.Common.{◌≡◌, ℕ, zero, suc, [], ◌∷◌, take, ◌+◌, ◌≤◌, ◌<◌, arith, length, Bool, true, false, ◌||◌, List, Option, Some, None, option_map, refl, sym, ap, ◌∙◌, subst, inl, inr}
-use Rattle.std.specs.List.{list_any, slice_get}
-use Rattle.std.proofs.lemmas.List.{length-take-le}
+use Rattle.std.proofs.Common.{◌≡◌, ℕ, ◌+◌, ◌≤◌, ◌<◌, arith, length, Bool, true, false, ◌||◌, List, Option, Some, None, option_map, refl, sym, ap, ◌∙◌, subst, inl, inr}
+use Rattle.std.specs.List.{list_any}
 use Rattle.std.specs.Option.{option_map_or, option_to_list}
 use Rattle.std.proofs.lemmas.Bool.{cases_eq, cases_lt}
 use Rattle.std.proofs.lemmas.Option.{slice_get-get_or}
@@ -14,7 +13,6 @@ use Rattle.vq_model.specs.declared.ranges.Range.{Range}
 use Rattle.vq_model.specs.Ranges.{Fits, share, conflict, written_range, read_range}
 use Rattle.vq_model.specs.WellFormed.{IsWellFormed}
 use Rattle.vq_plan_laws.proofs.Cited.{plan_well_formed}
-use Rattle.vq_order.specs.CellRanges.{AreCuts}
 use Rattle.vq_order.specs.Accessed.{span_of, spans_share, accesses_conflict, access_in, IsAccess, AreAccesses, AreAllInOrder, HasNoRaceBelow, IsJobInOrder, IsQuiet, RaceBy}
 use Rattle.vq_order.specs.Swept.{AreInOrder, IsOfJob}
 use Rattle.vq_order.specs.declared.races.accesses.MemoryAccess.{MemoryAccess}
@@ -50,6 +48,24 @@ conflicts_are p c d a b u v =
 -- the command of an access is of its job
 pub own_command : (p : Plan) (c : ℕ) (a : MemoryAccess) → IsAccess p c a → has (commands_of p a.by.job) c ≡ true
 own_command p c a u = subst (λ z. has (commands_of p a.by.job) z ≡ true) u.number u.of_job
+
+-- a command has one access
+pub one_access : (p : Plan) → IsPlan p → (c : ℕ) (a b : MemoryAccess) → IsAccess p c a → IsAccess p c b → a ≡ b
+one_access p i c a b u v =
+    let job : a.by.job ≡ b.by.job = (plan_well_formed p i).one_job c a.by.job b.by.job (own_command p c a u) (own_command p c b v) in
+    let number : a.by.command ≡ b.by.command = u.number ∙ sym v.number in
+    let found : Some u.command ≡ Some v.command = sym u.found ∙ v.found in
+    let same : u.command ≡ v.command = cc in
+    let written : a.written ≡ b.written = u.writes ∙ (ap (λ x. span_of (written_range p.sizes x)) same ∙ sym v.writes) in
+    let read : a.read ≡ b.read = u.reads ∙ (ap (λ x. option_map span_of (read_range x)) same ∙ sym v.reads) in
+    λ k. record { by = record { job = job k; command = number k }; written = written k; read = read k }
+
+pub access_exists : (p : Plan) → IsPlan p → (c j : ℕ) → has (commands_of p j) c ≡ true → (a : MemoryAccess) × IsAccess p c a
+access_exists p i c j h =
+    let f = (plan_well_formed p i).fits c j h in (
+      record { by = record { job = j; command = c }; written = span_of (written_range p.sizes f.0); read = option_map span_of (read_range f.0) },
+      record { number = refl; of_job = h; command = f.0; found = f.1; writes = refl; reads = refl },
+    )
 
 -- commands of one job are in order
 pub same_job : {p : Plan} (a b : Visitor) → a.job ≡ b.job → AreInOrder p a b
@@ -166,28 +182,3 @@ none_races_next p d below none a b l m r = elim (cases_eq b d) [
   | inl e ↦ none a (omega arith) (subst (IsRace p a) e r)
   | inr n ↦ below a b l (grind arith) r
 ]
-
--- those of fewer commands
-
-get_take : (n : ℕ) (xs : List MemoryAccess) (c : ℕ) (a : MemoryAccess) → slice_get (take n xs) c ≡ Some a → slice_get xs c ≡ Some a
-get_take zero xs c a e = absurd (let q : None ≡ Some a = e in cc)
-get_take (suc n) [] c a e = absurd (let q : None ≡ Some a = e in cc)
-get_take (suc n) (x ∷ xs) zero a e = e
-get_take (suc n) (x ∷ xs) (suc c) a e = get_take n xs c a e
-
-pub first_accesses : (p : Plan) (n : ℕ) (accesses : List MemoryAccess) → n ≤ length accesses → AreAccesses p accesses → AreAccesses p (take n accesses)
-first_accesses p n accesses l h =
-    record {
-      plan = h.plan;
-      within = let e = length-take-le n accesses l in let w = h.within in omega arith;
-      each = λ c a e. h.each c a (get_take n accesses c a e);
-    }
-
--- where the ranges of all commands begin, those of the first ones do too
-pub first_cuts : (n : ℕ) (accesses : List MemoryAccess) (cuts : List ℕ) → AreCuts accesses cuts → AreCuts (take n accesses) cuts
-first_cuts n accesses cuts h =
-    record {
-      rise = h.rise;
-      written = λ c a e. h.written c a (get_take n accesses c a e);
-      read = λ c a s e. h.read c a s (get_take n accesses c a e);
-    }

@@ -2,8 +2,7 @@
 -- byte in common have a cell in common.
 use Rattle.std.specs.Prelude.{ℕ, ◌≡◌, ◌<◌, ◌≤◌, ◌+◌, ◌*◌, ◌==◌, ◌&&◌, ◌++◌, nat_lt, Bool, true, List, [], ◌∷◌}
 use Rattle.std.specs.Prelude.{length, if◌then◌else◌, Some}
-use Rattle.std.specs.List.{flat_map, slice_get, slice_index_or, Contains}
-use Rattle.std.specs.List.Sorted.{IsNonDecreasing}
+use Rattle.std.specs.List.{flat_map, slice_get, slice_index_or}
 use Rattle.std.specs.Option.{option_to_list}
 use Rattle.vq_model.specs.Plan.{has}
 use Rattle.vq_order.specs.declared.races.accesses.MemoryAccess.{MemoryAccess}
@@ -35,13 +34,16 @@ later_starts buffers a =
 pub record HasBuffers (buffers : ℕ) (places : List ℕ) : Type 0 where
   pub each : (b : ℕ) → b < buffers → has places (axis b 0) ≡ true
 
--- Where all ranges begin, in order.
-pub record AreCuts (accesses : List MemoryAccess) (cuts : List ℕ) : Type 0 where
-  pub rise : IsNonDecreasing cuts
-  pub written : (c : ℕ) (a : MemoryAccess) → slice_get accesses c ≡ Some a →
-      Contains cuts (start_of a.written)
-  pub read : (c : ℕ) (a : MemoryAccess) (s : Span) → slice_get accesses c ≡ Some a →
-      a.read ≡ Some s → Contains cuts (start_of s)
+-- the cells from this one on are those that don't begin below a place
+pub record IsFirstFrom (cuts : List ℕ) (place first : ℕ) : Type 0 where
+  pub within : first ≤ length cuts
+  pub below : (k : ℕ) → k < first → slice_index_or cuts k 0 < place
+  pub above : (k : ℕ) → first ≤ k → k < length cuts → place ≤ slice_index_or cuts k 0
+
+-- where the first buffers begin, by number
+abbrev pub AreFirstCells : List ℕ → List ℕ → Type 0
+AreFirstCells cuts firsts =
+    (buffer first : ℕ) → slice_get firsts buffer ≡ Some first → IsFirstFrom cuts (axis buffer 0) first
 
 -- a cell is one of a range
 pub record IsCellOf (cuts : List ℕ) (s : Span) (k : ℕ) : Type 0 where

@@ -8,4 +8,5 @@ pub mod Pending
 pub mod Accessed
 pub mod CellRanges
 pub mod Swept
+pub mod CommandCells
 pub mod Checked

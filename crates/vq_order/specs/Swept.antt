@@ -7,7 +7,7 @@ use Rattle.std.specs.List.Sorted.{IsNonDecreasing}
 use Rattle.vq_model.specs.HappensBefore.{HappensBeforeCommand}
 use Rattle.vq_model.specs.LoweringFaults.{IsPlan}
 use Rattle.vq_model.specs.Plan.{Plan, has, commands_of}
-use Rattle.vq_order.specs.CellRanges.{IsCellOf}
+use Rattle.vq_order.specs.CellRanges.{AreFirstCells, IsCellOf}
 use Rattle.vq_order.specs.declared.races.accesses.MemoryAccess.{MemoryAccess}
 use Rattle.vq_order.specs.declared.races.accesses.Visitor.{Visitor}
 use Rattle.vq_order.specs.declared.races.cells.Cell.{Cell}
@@ -138,10 +138,11 @@ pub record Sweeps (p : Plan) (old new : List Cell)
   pub kept : HaveCommands p new
   pub extends : (log : List Visit) → KeepsAll p log old → Extended p new log Own
 
--- where cells begin, and what is kept of each
-pub record FitsSweep (p : Plan) (cuts : List ℕ) (cells : List Cell) : Type 0 where
+-- where cells begin, which are the first ones of the first buffers, and what is kept of each
+pub record FitsSweep (p : Plan) (cuts firsts : List ℕ) (cells : List Cell) : Type 0 where
   pub plan : IsPlan p
   pub rise : IsNonDecreasing cuts
+  pub starts : AreFirstCells cuts firsts
   pub count : length cells ≡ length cuts
   pub kept : HaveCommands p cells
 
@@ -169,22 +170,6 @@ pub record ReadsCell (cuts : List ℕ) (a : MemoryAccess)
 
 abbrev pub TouchesBy : List ℕ → MemoryAccess → ℕ → Visitor → Bool → Type 0
 TouchesBy cuts a k j w = TouchesSpan cuts a.written a.by true k j w ⊎ ReadsCell cuts a k j w
-
--- one of these commands touches a cell
-pub record TouchesAmong (cuts : List ℕ) (accesses : List MemoryAccess) (commands : List ℕ)
-    (k : ℕ) (j : Visitor) (w : Bool) : Type 0 where
-  pub command : ℕ
-  pub listed : has commands command ≡ true
-  pub access : MemoryAccess
-  pub found : slice_get accesses command ≡ Some access
-  pub touch : TouchesBy cuts access k j w
-
--- a command of one of these jobs touches a cell
-pub record TouchesIn (p : Plan) (cuts : List ℕ) (accesses : List MemoryAccess) (jobs : List ℕ)
-    (k : ℕ) (j : Visitor) (w : Bool) : Type 0 where
-  pub job : ℕ
-  pub in_list : has jobs job ≡ true
-  pub among : TouchesAmong cuts accesses (commands_of p job) k j w
 
 -- cells that nothing has touched
 abbrev pub AreUntouched : List Cell → Type 0

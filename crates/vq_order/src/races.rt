@@ -2,7 +2,7 @@
 ghost use Rattle.std.specs.Prelude.{◌≡◌, ◌<◌, ◌↔◌, Some, length, IfOk, IsTrue};
 ghost use Rattle.vq_model.specs.Checks.{IsRaceAt};
 ghost use Rattle.vq_order.specs.Accessed.{AreAccesses, AreAllInOrder, HasNoRaceBelow, IsFirstRacing};
-ghost use Rattle.vq_order.specs.CellRanges.{AreCuts};
+ghost use Rattle.vq_order.specs.CommandCells.{AreCuts};
 ghost use Rattle.vq_order.specs.LeastLines.{AreLeastOrNone};
 ghost use Rattle.vq_order.specs.Swept.{AreInOrder, IsOfJob};
 
@@ -14,7 +14,7 @@ mod sweep;
 use crate::lines::Lines;
 use crate::races::accesses::{MemoryAccess, Visitor, all_accesses, conflict};
 use crate::races::cells::{Halt, is_at_or_before};
-use crate::races::cuts::make_cuts;
+use crate::races::cuts::{first_buffers, make_cuts};
 use crate::races::sweep::go_through;
 use std::alloc::{AllocError, Global};
 use vq_clocks::Clocked;
@@ -116,18 +116,23 @@ fn least_race(order: &Clocked, accesses: &[MemoryAccess], clean: u32) -> Option<
     None
 }
 
-/// Whether going through commands once finds no conflict out of order and not too many cells.
-fn is_clean(
-    alloc: Global,
-    order: &Clocked,
-    cuts: &[u64],
-    accesses: &[MemoryAccess],
-) -> Result<bool, AllocError>
-    requires accesses { AreAccesses order.now accesses.now }
-    requires cuts { AreCuts accesses.now cuts.now }
-    ensures { IfOk result (λ clean. IsTrue clean → HasNoRaceBelow order.now (length accesses.now)) }
+/// The least pair of lines of commands that race, or none, where the first commands don't. What all
+/// commands read and write is listed for it.
+fn least_race_from(alloc: Global, order: &Clocked, clean: u32) -> Result<Option<Lines>, AllocError>
+    requires { HasNoRaceBelow order.now clean }
+    ensures { IfOk result (AreLeastOrNone (IsRaceAt order.now)) }
 {
-    match go_through(alloc, order, cuts, accesses) {
+    let accesses = all_accesses(alloc, order)?;
+    Ok(least_race(order, accesses.as_slice(), clean))
+}
+
+/// Whether going through the first commands once finds no conflict out of order and not too many
+/// cells.
+fn is_clean(alloc: Global, order: &Clocked, cuts: &[u64], count: u32) -> Result<bool, AllocError>
+    requires { AreCuts order.now cuts.now }
+    ensures { IfOk result (λ clean. IsTrue clean → HasNoRaceBelow order.now count) }
+{
+    match go_through(alloc, order, cuts, count) {
         Ok(()) => Ok(true),
         Err(Halt::Conflict | Halt::TooMany) => Ok(false),
         Err(Halt::Memory(error)) => Err(error),
@@ -139,39 +144,21 @@ const FEW_COMMANDS: u32 = 256;
 
 /// A number of commands, the first ones, of which no two race. The search is by halves, so where not
 /// all are such ones, one of the next few races with one of them, unless there were too many cells.
-fn count_clean(
-    alloc: Global,
-    order: &Clocked,
-    cuts: &[u64],
-    accesses: &[MemoryAccess],
-) -> Result<u32, AllocError>
-    requires accesses { AreAccesses order.now accesses.now }
-    requires cuts { AreCuts accesses.now cuts.now }
-    requires all { length accesses.now ≡ length order.now.commands }
+fn count_clean(alloc: Global, order: &Clocked, cuts: &[u64]) -> Result<u32, AllocError>
+    requires { AreCuts order.now cuts.now }
     ensures { IfOk result (HasNoRaceBelow order.now) }
 {
     let mut low = 0;
     let mut high = order.plan().commands();
     while high - low > FEW_COMMANDS {
         let middle = low + (high - low) / 2;
-        if is_clean(alloc, order, cuts, &accesses[..middle as usize])? {
+        if is_clean(alloc, order, cuts, middle)? {
             low = middle;
         } else {
             high = middle;
         }
     }
     Ok(low)
-}
-
-/// How many buffers there are, or only as many as commands.
-fn first_buffers(order: &Clocked) -> u32 {
-    let buffers = order.plan().script().buffers.as_slice().len();
-    let commands = order.plan().commands();
-    if buffers < commands as usize {
-        buffers as u32
-    } else {
-        commands
-    }
 }
 
 /// The least pair of lines of commands that race, by the second line and then by the first, or
@@ -181,17 +168,15 @@ fn first_buffers(order: &Clocked) -> u32 {
 pub(crate) fn first_race(alloc: Global, order: &Clocked) -> Result<Option<Lines>, AllocError>
     ensures { IfOk result (AreLeastOrNone (IsRaceAt order.now)) }
 {
-    let accesses = all_accesses(alloc, order)?;
-    let accesses = accesses.as_slice();
-    let cuts = make_cuts(alloc, accesses, first_buffers(order))?;
+    let cuts = make_cuts(alloc, order, first_buffers(order))?;
     let cuts = cuts.as_slice();
-    match go_through(alloc, order, cuts, accesses) {
+    match go_through(alloc, order, cuts, order.plan().commands()) {
         Ok(()) => Ok(None),
         Err(Halt::Conflict) => {
-            let clean = count_clean(alloc, order, cuts, accesses)?;
-            Ok(least_race(order, accesses, clean))
+            let clean = count_clean(alloc, order, cuts)?;
+            least_race_from(alloc, order, clean)
         }
-        Err(Halt::TooMany) => Ok(least_race(order, accesses, 0)),
+        Err(Halt::TooMany) => least_race_from(alloc, order, 0),
         Err(Halt::Memory(error)) => Err(error),
     }
 }

@@ -100,7 +100,7 @@ fn read_span(plan: &Plan, command: &Command) -> Option<Span>
 }
 
 /// What a command of this job reads and writes.
-fn access_of(plan: &Plan, c: u32, job: u32) -> MemoryAccess
+pub(crate) fn access_of(plan: &Plan, c: u32, job: u32) -> MemoryAccess
     requires plan { IsPlan plan.now }
     requires own { has (commands_of plan.now job) c ≡ true }
     ensures { IsAccess plan.now c result }
@@ -113,15 +113,23 @@ fn access_of(plan: &Plan, c: u32, job: u32) -> MemoryAccess
     }
 }
 
+/// What a command reads and writes.
+pub(crate) fn command_access(order: &Clocked, c: u32) -> MemoryAccess
+    requires { c < length order.now.commands }
+    ensures { IsAccess order.now c result }
+{
+    access_of(order.plan(), c, order.owner(c))
+}
+
 /// What all commands read and write.
 pub(crate) fn all_accesses(alloc: Global, order: &Clocked) -> Result<Vec<MemoryAccess>, AllocError>
     ensures accesses { IfOk result (λ accesses. AreAccesses order.now accesses.items) }
     ensures all { IfOk result (λ accesses. length accesses.items ≡ length order.now.commands) }
 {
-    let plan = order.plan();
-    let mut accesses = Vec::with_capacity(alloc, plan.commands() as usize)?;
-    for c in 0..plan.commands() {
-        accesses.push(access_of(plan, c, order.owner(c)))?;
+    let count = order.plan().commands();
+    let mut accesses = Vec::with_capacity(alloc, count as usize)?;
+    for c in 0..count {
+        accesses.push(command_access(order, c))?;
     }
     Ok(accesses)
 }

@@ -2,10 +2,13 @@
 ghost use Rattle.std.specs.Prelude.{◌≡◌, ◌<◌, ◌≤◌, ◌++◌, ℕ, length, OnOk, IfOk};
 ghost use Rattle.std.specs.List.{slice_index_or};
 ghost use Rattle.std.specs.List.Sorted.{IsNonDecreasing};
-ghost use Rattle.vq_order.specs.CellRanges.{axis, begins_first, later_start, later_starts, AreCuts, HasBuffers, IsReach};
+ghost use Rattle.vq_order.specs.CellRanges.{axis, begins_first, later_start, later_starts, start_of};
+ghost use Rattle.vq_order.specs.CellRanges.{AreFirstCells, HasBuffers, IsFirstFrom, IsReach};
+ghost use Rattle.vq_order.specs.CommandCells.{AreCuts};
 
-use crate::races::accesses::{MemoryAccess, Span};
+use crate::races::accesses::{MemoryAccess, Span, command_access};
 use std::alloc::{AllocError, Global};
+use vq_clocks::Clocked;
 
 /// Cells, from the first one up to an end.
 #[derive(Clone, Copy)]
@@ -50,6 +53,17 @@ fn push_starts(cuts: &mut Vec<u64>, access: &MemoryAccess, buffers: u32) -> Resu
     Ok(())
 }
 
+/// How many buffers there are, or only as many as commands.
+pub(crate) fn first_buffers(order: &Clocked) -> u32 {
+    let buffers = order.plan().script().buffers.as_slice().len();
+    let commands = order.plan().commands();
+    if buffers < commands as usize {
+        buffers as u32
+    } else {
+        commands
+    }
+}
+
 /// Where the first buffers begin.
 fn buffer_starts(alloc: Global, buffers: u32) -> Result<Vec<u64>, AllocError>
     ensures { IfOk result (λ starts. HasBuffers buffers starts.items) }
@@ -65,14 +79,14 @@ fn buffer_starts(alloc: Global, buffers: u32) -> Result<Vec<u64>, AllocError>
 /// buffer does: so many of the first buffers are cut there beforehand.
 pub(crate) fn make_cuts(
     alloc: Global,
-    accesses: &[MemoryAccess],
+    order: &Clocked,
     buffers: u32,
 ) -> Result<Vec<u64>, AllocError>
-    ensures { IfOk result (λ cuts. AreCuts accesses.now cuts.items) }
+    ensures { IfOk result (λ cuts. AreCuts order.now cuts.items) }
 {
     let mut cuts = buffer_starts(alloc, buffers)?;
-    for access in accesses {
-        push_starts(&mut cuts, access, buffers)?;
+    for c in 0..order.plan().commands() {
+        push_starts(&mut cuts, &command_access(order, c), buffers)?;
     }
     cuts.sort_unstable();
     cuts.dedup();
@@ -82,12 +96,40 @@ pub(crate) fn make_cuts(
 /// How many cuts are below a place.
 fn cuts_below(cuts: &[u64], place: u64) -> usize
     requires { IsNonDecreasing cuts.now }
-    ensures within { result ≤ length cuts.now }
-    ensures below { (k : ℕ) → k < result → slice_index_or cuts.now k 0 < place }
-    ensures above { (k : ℕ) → result ≤ k → k < length cuts.now →
-        place ≤ slice_index_or cuts.now k 0 }
+    ensures { IsFirstFrom cuts.now place result }
 {
     cuts.partition_point(|cut| *cut < place)
+}
+
+/// The first cell of each of the first buffers.
+pub(crate) fn first_cells(
+    alloc: Global,
+    cuts: &[u64],
+    buffers: u32,
+) -> Result<Vec<usize>, AllocError>
+    requires { IsNonDecreasing cuts.now }
+    ensures { IfOk result (λ firsts. AreFirstCells cuts.now firsts.items) }
+{
+    let mut firsts = Vec::with_capacity(alloc, buffers as usize)?;
+    for buffer in 0..buffers {
+        firsts.push(cuts_below(cuts, on_axis(buffer, 0)))?;
+    }
+    Ok(firsts)
+}
+
+/// The first cell that doesn't begin before a range does. Many ranges begin where their buffer does,
+/// and there it is known.
+fn first_cell(cuts: &[u64], firsts: &[usize], span: Span) -> usize
+    requires rise { IsNonDecreasing cuts.now }
+    requires firsts { AreFirstCells cuts.now firsts.now }
+    ensures { IsFirstFrom cuts.now (start_of span) result }
+{
+    if span.start == 0 {
+        if let Some(first) = firsts.get(span.buffer as usize) {
+            return *first;
+        }
+    }
+    cuts_below(cuts, on_axis(span.buffer, span.start))
 }
 
 /// The first cut from one of them on that isn't below a place. Most ranges have few cells, so the
@@ -106,12 +148,13 @@ fn end_from(cuts: &[u64], first: usize, place: u64) -> usize
     cuts.len()
 }
 
-/// The cells of a range.
-pub(crate) fn reach_of(cuts: &[u64], span: Span) -> Reach
-    requires { IsNonDecreasing cuts.now }
+/// The cells of a range, where the first ones of the first buffers are known.
+pub(crate) fn reach_of(cuts: &[u64], firsts: &[usize], span: Span) -> Reach
+    requires rise { IsNonDecreasing cuts.now }
+    requires firsts { AreFirstCells cuts.now firsts.now }
     ensures { IsReach cuts.now span result }
 {
-    let first = cuts_below(cuts, on_axis(span.buffer, span.start));
+    let first = first_cell(cuts, firsts, span);
     Reach {
         first,
         end: end_from(cuts, first, on_axis(span.buffer, span.end)),

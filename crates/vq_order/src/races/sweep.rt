@@ -4,15 +4,15 @@
 ghost use Rattle.std.specs.Prelude.{◌≡◌, ◌<◌, ◌+◌, true, false, length, IfOk, OnOk};
 ghost use Rattle.vq_model.specs.Plan.{commands_of};
 ghost use Rattle.vq_model.specs.SlowRun.{slow_order};
-ghost use Rattle.vq_order.specs.Accessed.{AreAccesses, HasNoRaceBelow};
-ghost use Rattle.vq_order.specs.CellRanges.{AreCuts};
+ghost use Rattle.vq_order.specs.Accessed.{HasNoRaceBelow};
+ghost use Rattle.vq_order.specs.CommandCells.{AreCuts, TouchesAmong, TouchesIn};
 ghost use Rattle.vq_order.specs.Swept.{is_write, AreUntouched, FitsSweep, IsOfJob, ReadsCell, Sweeps};
-ghost use Rattle.vq_order.specs.Swept.{TouchesAmong, TouchesBy, TouchesIn, TouchesSpan};
+ghost use Rattle.vq_order.specs.Swept.{TouchesBy, TouchesSpan};
 ghost use Rattle.vq_clocks.specs.VectorClocks.{IsComplete};
 
-use crate::races::accesses::{MemoryAccess, Span, Visitor};
+use crate::races::accesses::{MemoryAccess, Span, Visitor, access_of};
 use crate::races::cells::{Cell, Halt, Known, Touch};
-use crate::races::cuts::{Reach, reach_of};
+use crate::races::cuts::{Reach, first_buffers, first_cells, reach_of};
 use std::alloc::{AllocError, Global};
 use vq_clocks::Clocked;
 
@@ -33,12 +33,13 @@ fn count_down(left: &mut usize, cells: usize) -> Result<(), Halt>
     }
 }
 
-/// What stays the same while commands are gone through: the order of the jobs, and where cells
-/// begin.
+/// What stays the same while commands are gone through: the order of the jobs, where cells begin,
+/// and the first cell of each of the first buffers.
 #[derive(Clone, Copy)]
 struct Sweep<'a> {
     order: &'a Clocked,
     cuts: &'a [u64],
+    firsts: &'a [usize],
 }
 
 impl Sweep<'_> {
@@ -52,12 +53,12 @@ impl Sweep<'_> {
         touch: Touch,
         left: &mut usize,
     ) -> Result<(), Halt>
-        requires fits { FitsSweep self.now.order.now self.now.cuts.now cells.old }
+        requires fits { FitsSweep self.now.order.now self.now.cuts.now self.now.firsts.now cells.old }
         requires own { IsOfJob self.now.order.now by }
         ensures { OnOk result (Sweeps self.now.order.now cells.old cells.new
             (TouchesSpan self.now.cuts.now span by (is_write touch))) }
     {
-        let Reach { first, end } = reach_of(self.cuts, span);
+        let Reach { first, end } = reach_of(self.cuts, self.firsts, span);
         count_down(left, end.saturating_sub(first))?;
         let mut known = Known {
             writer: by,
@@ -77,7 +78,7 @@ impl Sweep<'_> {
         access: &MemoryAccess,
         left: &mut usize,
     ) -> Result<(), Halt>
-        requires fits { FitsSweep self.now.order.now self.now.cuts.now cells.old }
+        requires fits { FitsSweep self.now.order.now self.now.cuts.now self.now.firsts.now cells.old }
         requires own { IsOfJob self.now.order.now access.now.by }
         ensures { OnOk result (Sweeps self.now.order.now cells.old cells.new
             (ReadsCell self.now.cuts.now access.now)) }
@@ -96,7 +97,7 @@ impl Sweep<'_> {
         access: &MemoryAccess,
         left: &mut usize,
     ) -> Result<(), Halt>
-        requires fits { FitsSweep self.now.order.now self.now.cuts.now cells.old }
+        requires fits { FitsSweep self.now.order.now self.now.cuts.now self.now.firsts.now cells.old }
         requires own { IsOfJob self.now.order.now access.now.by }
         ensures { OnOk result (Sweeps self.now.order.now cells.old cells.new
             (TouchesBy self.now.cuts.now access.now)) }
@@ -105,47 +106,46 @@ impl Sweep<'_> {
         self.range(alloc, cells, access.written, access.by, Touch::Writes, left)
     }
 
-    /// Goes through those commands of a job whose accesses are given: those of the first commands
-    /// of the plan.
+    /// Goes through those commands of a job that are among so many first ones of the plan.
     fn job(
         &self,
         alloc: Global,
         cells: &mut [Cell],
-        accesses: &[MemoryAccess],
+        count: u32,
         j: u32,
         left: &mut usize,
     ) -> Result<(), Halt>
-        requires fits { FitsSweep self.now.order.now self.now.cuts.now cells.old }
-        requires accesses { AreAccesses self.now.order.now accesses.now }
+        requires fits { FitsSweep self.now.order.now self.now.cuts.now self.now.firsts.now cells.old }
         requires exists { j < length self.now.order.now.jobs }
         ensures { OnOk result (Sweeps self.now.order.now cells.old cells.new
-            (TouchesAmong self.now.cuts.now accesses.now (commands_of self.now.order.now j))) }
+            (TouchesAmong self.now.order.now self.now.cuts.now count
+            (commands_of self.now.order.now j))) }
     {
-        for c in self.order.plan().commands_of(j) {
-            if let Some(access) = accesses.get(*c as usize) {
-                self.command(alloc, cells, access, left)?;
+        let plan = self.order.plan();
+        for c in plan.commands_of(j) {
+            if *c < count {
+                self.command(alloc, cells, &access_of(plan, *c, j), left)?;
             }
         }
         Ok(())
     }
 
-    /// Goes through commands in the order of the slow run.
+    /// Goes through so many first commands of the plan, in the order of the slow run.
     fn jobs(
         &self,
         alloc: Global,
         cells: &mut [Cell],
-        accesses: &[MemoryAccess],
+        count: u32,
         left: &mut usize,
     ) -> Result<(), Halt>
-        requires fits { FitsSweep self.now.order.now self.now.cuts.now cells.old }
-        requires accesses { AreAccesses self.now.order.now accesses.now }
+        requires fits { FitsSweep self.now.order.now self.now.cuts.now self.now.firsts.now cells.old }
         ensures swept { OnOk result (Sweeps self.now.order.now cells.old cells.new
-            (TouchesIn self.now.order.now self.now.cuts.now accesses.now
+            (TouchesIn self.now.order.now self.now.cuts.now count
             (slow_order self.now.order.now))) }
         ensures complete { IsComplete self.now.order.now }
     {
         for j in self.order.slow_order() {
-            self.job(alloc, cells, accesses, *j, left)?;
+            self.job(alloc, cells, count, *j, left)?;
         }
         Ok(())
     }
@@ -163,21 +163,25 @@ fn untouched(alloc: Global, count: usize) -> Result<Vec<Cell>, AllocError>
     Ok(cells)
 }
 
-/// Goes through the first commands of a plan, in the order of the slow run, whose cells begin at
-/// these cuts. The error is a command that comes after one that it conflicts with and that isn't
+/// Goes through so many first commands of a plan, in the order of the slow run; cells begin at these
+/// cuts. The error is a command that comes after one that it conflicts with and that isn't
 /// before it, too many cells, or want of memory.
 pub(crate) fn go_through(
     alloc: Global,
     order: &Clocked,
     cuts: &[u64],
-    accesses: &[MemoryAccess],
+    count: u32,
 ) -> Result<(), Halt>
-    requires accesses { AreAccesses order.now accesses.now }
-    requires cuts { AreCuts accesses.now cuts.now }
-    ensures { OnOk result (HasNoRaceBelow order.now (length accesses.now)) }
+    requires { AreCuts order.now cuts.now }
+    ensures { OnOk result (HasNoRaceBelow order.now count) }
 {
     let mut cells = untouched(alloc, cuts.len())?;
-    let sweep = Sweep { order, cuts };
+    let firsts = first_cells(alloc, cuts, first_buffers(order))?;
+    let sweep = Sweep {
+        order,
+        cuts,
+        firsts: firsts.as_slice(),
+    };
     let mut left = MOST_CELLS.saturating_mul(order.plan().commands() as usize);
-    sweep.jobs(alloc, cells.as_mut_slice(), accesses, &mut left)
+    sweep.jobs(alloc, cells.as_mut_slice(), count, &mut left)
 }

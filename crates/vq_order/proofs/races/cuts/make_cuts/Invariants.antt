@@ -1,7 +1,6 @@
-use Rattle.std.proofs.Common.{◌≡◌, ◌++◌, take}
-use Rattle.std.specs.List.{flat_map}
-use Rattle.vq_order.specs.CellRanges.{later_starts}
+use Rattle.vq_order.specs.CellRanges.{HasBuffers}
+use Rattle.vq_order.specs.CommandCells.{HaveStarts}
 use Rattle.vq_order.proofs.races.cuts.make_cuts.Given as goal
 
-abbrev pub invariant-loop-access : goal.invariant-loop-access
-invariant-loop-access l = l.cuts.items ≡ l.initial.cuts.items ++ flat_map (later_starts l.buffers) (take l.access-index l.accesses)
+abbrev pub invariant-loop-c : goal.invariant-loop-c
+invariant-loop-c l = HasBuffers l.buffers l.cuts.items × HaveStarts l.order l.c l.cuts.items

@@ -7,8 +7,7 @@ use Rattle.vq_order.proofs.races.sweep.go_through.Goals as goal
 pub returns : goal.returns
 returns c =
     let p = c.args.order.now in
-    let accesses = c.args.accesses.now in
     let cuts = c.args.cuts.now in
     let old = c.as_mut_slice.result.now in
     let n : length old ≡ length cuts = search rules in
-    on_ok_weaker c.jobs.result (λ s. swept_without_race p c.jobs.ensures.complete accesses c.requires.accesses cuts c.requires.cuts c.jobs.new.cells (s.count ∙ n) (s.extends [] (untouched_keeps p old))) c.jobs.ensures.swept
+    on_ok_weaker c.jobs.result (λ s. swept_without_race p c.jobs.ensures.complete cuts c.requires c.args.count c.jobs.new.cells (s.count ∙ n) (s.extends [] (untouched_keeps p old))) c.jobs.ensures.swept
