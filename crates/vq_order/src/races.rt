@@ -134,7 +134,7 @@ fn is_clean(alloc: Global, order: &Clocked, cuts: &[u64], count: u32) -> Result<
 {
     match go_through(alloc, order, cuts, count) {
         Ok(()) => Ok(true),
-        Err(Halt::Conflict | Halt::TooMany) => Ok(false),
+        Err(Halt::Conflict(_) | Halt::TooMany) => Ok(false),
         Err(Halt::Memory(error)) => Err(error),
     }
 }
@@ -144,12 +144,20 @@ const FEW_COMMANDS: u32 = 256;
 
 /// A number of commands, the first ones, of which no two race. The search is by halves, so where not
 /// all are such ones, one of the next few races with one of them, unless there were too many cells.
-fn count_clean(alloc: Global, order: &Clocked, cuts: &[u64]) -> Result<u32, AllocError>
+/// It begins where a conflict was found: mostly the slow run goes in the order of the script, and no
+/// two commands before that one race.
+fn count_clean(alloc: Global, order: &Clocked, cuts: &[u64], found: u32) -> Result<u32, AllocError>
     requires { AreCuts order.now cuts.now }
     ensures { IfOk result (HasNoRaceBelow order.now) }
 {
     let mut low = 0;
     let mut high = order.plan().commands();
+    let found = found.min(high);
+    if is_clean(alloc, order, cuts, found)? {
+        low = found;
+    } else {
+        high = found;
+    }
     while high - low > FEW_COMMANDS {
         let middle = low + (high - low) / 2;
         if is_clean(alloc, order, cuts, middle)? {
@@ -172,8 +180,8 @@ pub(crate) fn first_race(alloc: Global, order: &Clocked) -> Result<Option<Lines>
     let cuts = cuts.as_slice();
     match go_through(alloc, order, cuts, order.plan().commands()) {
         Ok(()) => Ok(None),
-        Err(Halt::Conflict) => {
-            let clean = count_clean(alloc, order, cuts)?;
+        Err(Halt::Conflict(found)) => {
+            let clean = count_clean(alloc, order, cuts, found)?;
             least_race_from(alloc, order, clean)
         }
         Err(Halt::TooMany) => least_race_from(alloc, order, 0),

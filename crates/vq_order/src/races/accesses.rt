@@ -100,6 +100,7 @@ fn read_span(plan: &Plan, command: &Command) -> Option<Span>
 }
 
 /// What a command of this job reads and writes.
+#[inline(always)]
 pub(crate) fn access_of(plan: &Plan, c: u32, job: u32) -> MemoryAccess
     requires plan { IsPlan plan.now }
     requires own { has (commands_of plan.now job) c ≡ true }
@@ -114,6 +115,7 @@ pub(crate) fn access_of(plan: &Plan, c: u32, job: u32) -> MemoryAccess
 }
 
 /// What a command reads and writes.
+#[inline(always)]
 pub(crate) fn command_access(order: &Clocked, c: u32) -> MemoryAccess
     requires { c < length order.now.commands }
     ensures { IsAccess order.now c result }

@@ -17,8 +17,8 @@ pub(crate) enum Touch {
 /// Why going through commands stops.
 #[derive(Drop)]
 pub(crate) enum Halt {
-    /// A command comes after one that it conflicts with and that isn't before it.
-    Conflict,
+    /// This command comes after one that it conflicts with and that isn't before it.
+    Conflict(u32),
     /// There are more cells to go through than comparing all pairs of commands is worth.
     TooMany,
     /// Want of memory.
@@ -151,7 +151,7 @@ impl Cell {
         ensures known { AreKnown order.now known.new by }
     {
         if !self.follows_writer(order, by, &mut known.writer) {
-            return Err(Halt::Conflict);
+            return Err(Halt::Conflict(by.command));
         }
         self.keep_reader(alloc, order, by, &mut known.reader)?;
         Ok(())
@@ -189,10 +189,10 @@ impl Cell {
         ensures known { AreKnown order.now known.new by }
     {
         if !self.follows_writer(order, by, &mut known.writer) {
-            return Err(Halt::Conflict);
+            return Err(Halt::Conflict(by.command));
         }
         if !self.follows_readers(order, by, &mut known.reader) {
-            return Err(Halt::Conflict);
+            return Err(Halt::Conflict(by.command));
         }
         self.writer = Some(by);
         self.readers.clear();
