@@ -160,3 +160,13 @@ pub(crate) fn reach_of(cuts: &[u64], firsts: &[usize], span: Span) -> Reach
         end: end_from(cuts, first, on_axis(span.buffer, span.end)),
     }
 }
+
+/// How many cells a range has. It is for ranges that may have many, so their end is looked for by
+/// halves.
+pub(crate) fn count_cells(cuts: &[u64], firsts: &[usize], span: Span) -> usize
+    requires rise { IsNonDecreasing cuts.now }
+    requires firsts { AreFirstCells cuts.now firsts.now }
+{
+    let end = cuts_below(cuts, on_axis(span.buffer, span.end));
+    end.saturating_sub(first_cell(cuts, firsts, span))
+}

@@ -11,7 +11,7 @@ use Rattle.vq_order.proofs.SweptRaces.{in_more}
 use Rattle.vq_order.proofs.races.sweep.Sweep.jobs.Goals as goal
 
 pub loop-j-init : goal.loop-j-init
-loop-j-init c = sweeps_none c.args.self.now.order.now c.args.cells.now (TouchesIn c.args.self.now.order.now c.args.self.now.cuts.now c.args.count []) c.requires.fits.kept (λ k j w t. false≢true t.in_list)
+loop-j-init c = sweeps_none c.args.self.now.order.now c.args.cells.now (TouchesIn c.args.self.now.order.now c.args.self.now.cuts.now c.args.self.now.count []) c.requires.fits.kept (λ k j w t. false≢true t.in_list)
 
 pub job-requires-clause-exists : goal.job-requires-clause-exists
 job-requires-clause-exists c = (slow_at c.args.self.now.order.now c.slow_order-j-items.result.now c.slow_order-j-items.ensures.value c.loop-j.j-index c.loop-j-test.true).0
@@ -20,7 +20,7 @@ pub loop-j-preserved : goal.loop-j-preserved
 loop-j-preserved c =
     let p = c.args.self.now.order.now in
     let cuts = c.args.self.now.cuts.now in
-    let count = c.args.count in
+    let count = c.args.self.now.count in
     let xs = c.slow_order-j-items.result.now in
     let i = c.loop-j.j-index in
     sweeps_then p c.args.cells.now c.loop-j.cells c.job.new.cells (TouchesIn p cuts count (take i xs)) (TouchesAmong p cuts count (commands_of p (get_or xs i 0))) (TouchesIn p cuts count (take (i + 1) xs)) c.loop-j.invariant c.in_ok-job.ensures (in_more p cuts count xs i c.loop-j-test.true)
@@ -30,4 +30,4 @@ returns-clause-swept c =
     let p = c.args.self.now.order.now in
     let items = c.slow_order-j-items.result.now in
     let all : take c.loop-j.j-index items ≡ slow_order p = take_all c.loop-j.j-index items c.loop-j-test.false ∙ c.slow_order-j-items.ensures.value in
-    subst (λ (xs : List ℕ). Sweeps p c.args.cells.now c.loop-j.cells (TouchesIn p c.args.self.now.cuts.now c.args.count xs)) all c.loop-j.invariant
+    subst (λ (xs : List ℕ). Sweeps p c.args.cells.now c.loop-j.cells (TouchesIn p c.args.self.now.cuts.now c.args.self.now.count xs)) all c.loop-j.invariant
