@@ -4,6 +4,7 @@ use Rattle.std.specs.Prelude.{◌==◌, ◌+◌, nat_lt, Option, Some, None, All
 use Rattle.std.specs.Option.{option_map_or}
 use Rattle.std.specs.List.{list_all, flat_map, enumerate_from, range_with_len, slice_get}
 use Rattle.std.proofs.lemmas.Bool.{and_parts, and_from, lt-ltb, ltb-true}
+use Rattle.vq_access_laws.proofs.Cited.{all_flat, all_jobs}
 use Rattle.vq_model.specs.declared.script.ActorName.{ActorName}
 use Rattle.vq_model.specs.declared.script.ActorName.TheVariants.{Host as HostActor, Submit as SubmitActor}
 use Rattle.vq_model.specs.declared.script.ActorName.TheVariants.{Ring as RingActor}
@@ -12,14 +13,15 @@ use Rattle.vq_model.specs.declared.plan.Need.{Need}
 use Rattle.vq_model.specs.Checks.{IsLawful, is_immediate_batch}
 use Rattle.vq_model.specs.LoweringFaults.{IsPlan}
 use Rattle.vq_model.specs.Edges.{AtEnd, awaited_at}
-use Rattle.vq_model.specs.Plan.{Plan, has, of_job, same_lane, needs, asked, waits_for_any, idle_after, commands_of, signals_of, question, is_host_step, is_silent, chain_of, chain, value, initial}
-use Rattle.vq_model.proofs.Lists.{has_here, has_there}
-use Rattle.vq_model.proofs.Filters.{filter-has, filter-has_cases}
+use Rattle.vq_model.specs.Plan.{Plan, of_job, same_lane, needs, asked, waits_for_any, idle_after, commands_of, signals_of, question, is_host_step, is_silent, chain_of, chain, value, initial}
+use Rattle.vq_ground.specs.Lists.{has}
+use Rattle.vq_ground.proofs.Lists.{has_here, has_there}
+use Rattle.vq_ground.proofs.Filters.{filter-has, filter-has_cases}
 use Rattle.vq_model.specs.declared.plan.Op.{Op}
 use Rattle.vq_actor.specs.Wants.{IsBefore}
 use Rattle.std.specs.Option.{option_map}
-use Rattle.vq_model.proofs.Numbers.{in_range}
-use Rattle.vq_points.specs.Points.{jobs_of_lane}
+use Rattle.vq_ground.proofs.Numbers.{in_range}
+use Rattle.vq_point_laws.specs.Points.{jobs_of_lane}
 use Rattle.vq_plan_laws.proofs.Cited.{plan_lanes}
 use Rattle.vq_order_laws.proofs.Cited.{idle_first}
 use Rattle.vq_turns.specs.declared.task.Task.{Task}
@@ -28,9 +30,9 @@ use Rattle.vq_turns.specs.Programs.{program, waits_where, takes, moves_batch, su
 use Rattle.vq_turn_laws.specs.Orders.{Asks, InOrder, AsksRelease, AsksAnswer, AsksTake, AsksBind}
 use Rattle.vq_model.specs.declared.plan.Question.{Question}
 use Rattle.vq_model.specs.declared.plan.Question.TheVariants.{Silent}
-use Rattle.vq_model.proofs.Gets.{get_within}
+use Rattle.vq_ground.proofs.Gets.{get_within, get_has}
 use Rattle.vq_turn_laws.proofs.Cited.{plan_orderly, cut_at, done_of, next_left}
-use Rattle.vq_core_laws.proofs.Cited.{stands, facts, chain_places}
+use Rattle.vq_core_laws.proofs.Cited.{facts, chain_places}
 use Rattle.vq_spec.proofs.Cited.{op_exists}
 use Rattle.vq_model.specs.declared.plan.PlanJob.{PlanJob}
 use Rattle.vq_model.proofs.Plans.{batch_exists, command_exists, op_within}
@@ -61,17 +63,6 @@ all_named : (f : Task → Bool) (g : ℕ → Task) (xs : List ℕ) → ((x : ℕ
 all_named f g [] h = refl
 all_named f g (x ∷ xs) h =
     and_from (f (g x)) (list_all f (map g xs)) (h x (has_here x xs)) (all_named f g xs (λ y m. h y (has_there x xs y m)))
-
-all_flat : {X : Type 0} (f : Task → Bool) (g : X → List Task) (xs : List X) → ((x : X) → list_all f (g x) ≡ true) →
-    list_all f (flat_map g xs) ≡ true
-all_flat f g [] h = refl
-all_flat f g (x ∷ xs) h = all_join f (g x) (flat_map g xs) (h x) (all_flat f g xs h)
-
-all_jobs : (f : Task → Bool) (g : ℕ → List Task) (js : List ℕ) →
-    ((j : ℕ) → has js j ≡ true → list_all f (g j) ≡ true) → list_all f (flat_map g js) ≡ true
-all_jobs f g [] h = refl
-all_jobs f g (j ∷ js) h =
-    all_join f (g j) (flat_map g js) (h j (has_here j js)) (all_jobs f g js (λ i m. h i (has_there j js i m)))
 
 all_at : (f : Task → Bool) (n : ℕ) (ts : List Task) (t : Task) → list_all f ts ≡ true → slice_get ts n ≡ Some t →
     f t ≡ true
@@ -314,14 +305,14 @@ module _ (p : Plan) (i : IsPlan p) (l : IsLawful p) where
         record {
           chain = o.chain;
           in_chain = chain_is;
-          smaller = filter-has (λ g. nat_lt (value p g) (value p e)) (chain p o.chain) f (stands (chain p o.chain) n f at)
+          smaller = filter-has (λ g. nat_lt (value p g) (value p e)) (chain p o.chain) f (get_has (chain p o.chain) n f at)
               (lt-ltb (value p f) (value p e) (chain_places p (initial p o.chain) (chain p o.chain)
               ((plan_orderly p i l).chains o.chain) n o.index f e at at_place low));
         }
 
   pub command_there : (j c k : ℕ) → slice_get (commands_of p j) k ≡ Some c → c < length p.commands
   command_there j c k at =
-      command_exists p (plan_orderly p i l).well_formed j c (stands (commands_of p j) k c at)
+      command_exists p (plan_orderly p i l).well_formed j c (get_has (commands_of p j) k c at)
 
   pub signal_there : (j e k : ℕ) → slice_get (signals_of p j) k ≡ Some e → e < length p.ops
-  signal_there j e k at = signal_exists j e (stands (signals_of p j) k e at)
+  signal_there j e k at = signal_exists j e (get_has (signals_of p j) k e at)

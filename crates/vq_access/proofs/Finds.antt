@@ -1,6 +1,7 @@
 -- What a look for a need shows.
-use Rattle.std.proofs.Common.{◌≡◌, ◌≤◌, ◌<◌, ℕ, true, List, [], Some, length, refl, sym, ap, ◌∙◌, subst, inl, inr}
+use Rattle.std.proofs.Common.{◌≡◌, ◌≤◌, ◌<◌, ℕ, true, List, Some, length, refl, sym, ap, ◌∙◌, subst, inl, inr}
 use Rattle.std.specs.List.{slice_get, list_any}
+use Rattle.vq_board_laws.proofs.Cited.{learns_none, learns_recall}
 use Rattle.vq_model.specs.Plan.{Plan, initial, resolver}
 use Rattle.vq_model.specs.declared.plan.Need.{Need}
 use Rattle.vq_model.specs.declared.script.ActorName.{ActorName}
@@ -17,22 +18,19 @@ use Rattle.vq_board_laws.specs.declared.view.View.{View}
 use Rattle.vq_board_laws.specs.PointSteps.{recalls}
 use Rattle.vq_board.specs.declared.parts.Pass.{Pass}
 use Rattle.vq_board.specs.Named.{view}
-use Rattle.vq_access_laws.specs.Learning.{Learns}
+use Rattle.vq_board_laws.specs.Learning.{Learns}
 use Rattle.vq_access_laws.specs.Tests.{shows_reached}
-use Rattle.vq_access_laws.proofs.Cited.{learns_op, initial_reached, past_reached}
+use Rattle.vq_access_laws.proofs.Cited.{initial_reached, past_reached}
 use Rattle.vq_access.specs.Found.{HasFound, found_by}
 use Rattle.vq_access.specs.Lasts.{IsFound, FindsTruly}
 use Rattle.vq_access.specs.Taken.{HasLearned}
-
-learns_none : (v : View) → Learns v v
-learns_none v = record { same = refl; known = ([], refl); unmade = ([], refl); steps = ([], refl) }
 
 module _ (p : Plan) (x y : Pass) (t v : ℕ) (f : Found) where
   pub found_learned : HasFound p x y t v f → HasLearned x y
   found_learned (same, inl early) =
       (same, subst (λ (w : View). Learns (view x) w) (sym early.same) (learns_none (view x)))
   found_learned (same, inr r) =
-      (same, subst (λ (w : View). Learns (view x) w) (sym r.recalled) (learns_op (view x) r.op r.state))
+      (same, subst (λ (w : View). Learns (view x) w) (sym r.recalled) (learns_recall (view x) r.op r.state))
 
   was_past : (e : ℕ) (s : OpState) → Past ≡ found_by e s → s ≡ PastOp
   was_past e UnboundOp h = absurd (cc)

@@ -1,7 +1,7 @@
 -- Events that the lists of a chain made.
 use Rattle.std.proofs.Common.{◌≡◌, ℕ, false, Option, Some, None, IfSome, refl, sym, subst}
+use Rattle.std.proofs.lemmas.Option.{same_Some}
 use Rattle.atomic_table.specs.Seated.{TableId}
-use Rattle.vq_model.proofs.Options.{same_some}
 use Rattle.vq_model.specs.Plan.{Plan}
 use Rattle.vq_model.specs.declared.plan.Event.{Event}
 use Rattle.vq_model.specs.declared.plan.Event.TheVariants.{Complete, Free}
@@ -33,9 +33,9 @@ given_take id p x on e (Fresh q) asked = (x, on, (Fresh q, refl, asked))
 collected_by : (id : TableId) (p : Plan) (x : LockedTimeline) → IsOn id p x → (r : Collected) → HasAsked p x r →
     (event : Event) → collection r ≡ Some event → IsGiven id p event
 collected_by id p x on (Completed e) asked event is =
-    subst (λ (z : Event). IsGiven id p z) (same_some (Complete e) event is) (x, on, asked)
+    subst (λ (z : Event). IsGiven id p z) (same_Some (Complete e) event is) (x, on, asked)
 collected_by id p x on (Freed q) asked event is =
-    subst (λ (z : Event). IsGiven id p z) (same_some (Free q) event is) (x, on, asked)
+    subst (λ (z : Event). IsGiven id p z) (same_Some (Free q) event is) (x, on, asked)
 collected_by id p x on Nothing asked event is = absurd (cc)
 
 pub gave_by : (id : TableId) (p : Plan) (x : LockedTimeline) → IsOn id p x → (r : Option Collected) →

@@ -3,7 +3,7 @@ use Rattle.std.proofs.Common.{ℕ, Bool, List, ◌∷◌, Option, drop, ap}
 use Rattle.std.specs.Prelude.{Result}
 use Rattle.std.specs.Borrow.{GName}
 use Rattle.vq_model.specs.declared.plan.Event.{Event}
-use Rattle.vq_points.specs.Points.{PointState}
+use Rattle.vq_point_laws.specs.Points.{PointState}
 use Rattle.vq_turns.specs.Turns.{Place}
 use Rattle.vq_turns.specs.declared.look.Found.{Found}
 use Rattle.vq_turns.specs.declared.outcome.Outcome.{Outcome}

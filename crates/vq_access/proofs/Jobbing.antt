@@ -3,14 +3,15 @@ use Rattle.std.proofs.Common.{◌≡◌, ◌<◌, ℕ, true, length}
 use Rattle.std.specs.List.{list_all}
 use Rattle.vq_model.specs.Checks.{IsLawful}
 use Rattle.vq_model.specs.LoweringFaults.{IsPlan}
-use Rattle.vq_model.specs.Plan.{has, signals_of}
+use Rattle.vq_model.specs.Plan.{signals_of}
+use Rattle.vq_ground.specs.Lists.{has}
 use Rattle.vq_turns.specs.declared.task.Task.TheVariants.{Submit, Release, Start, Finish}
 use Rattle.vq_turns.specs.Turns.{forward}
 use Rattle.vq_board_laws.specs.declared.view.View.{View}
 use Rattle.vq_board_laws.specs.May.{MaySubmit, MayRelease, MayStart, MayFinish}
 use Rattle.vq_board_laws.specs.Steps.{submits, releases, starts, finishes}
 use Rattle.vq_board.specs.Named.{plan_of}
-use Rattle.vq_access_laws.specs.Learning.{Learns}
+use Rattle.vq_board_laws.specs.Learning.{Learns}
 use Rattle.vq_access_laws.specs.Tests.{knows_taken}
 use Rattle.vq_access_laws.proofs.Cited.{may_submit, may_release, may_start, may_finish}
 use Rattle.vq_access_laws.proofs.Cited.{true_learned, true_submitted, true_released, true_started, true_finished}

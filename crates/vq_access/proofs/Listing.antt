@@ -2,15 +2,17 @@
 use Rattle.std.proofs.Common.{◌≡◌, ◌≤◌, ℕ, true, List, Option, Err, Some, None, IfSome, length, option_map, refl, sym, ap, ◌∙◌, subst, arith}
 use Rattle.std.specs.List.{slice_get}
 use Rattle.std.specs.Borrow.{GName}
+use Rattle.std.proofs.lemmas.Option.{same_Some}
+use Rattle.vq_ground.proofs.Gets.{get_has}
 use Rattle.atomic_table.specs.Seated.{TableId}
 use Rattle.vq_model.specs.Checks.{IsLawful}
 use Rattle.vq_model.specs.LoweringFaults.{IsPlan}
-use Rattle.vq_model.specs.Plan.{Plan, has, chain, chain_of}
+use Rattle.vq_model.specs.Plan.{Plan, chain, chain_of}
+use Rattle.vq_ground.specs.Lists.{has}
 use Rattle.vq_model.specs.declared.plan.Op.{Op}
 use Rattle.vq_model.specs.declared.plan.Event.{Event}
 use Rattle.vq_model.specs.declared.script.ActorName.{ActorName}
-use Rattle.vq_points.specs.Points.{PointState}
-use Rattle.vq_core_laws.proofs.Cited.{stands}
+use Rattle.vq_point_laws.specs.Points.{PointState}
 use Rattle.vq_turns.specs.declared.outcome.Want.{Want}
 use Rattle.vq_turns.specs.declared.task.Task.TheVariants.{Take, Bind, Compare}
 use Rattle.vq_turns.specs.Turns.{Place, forward, seeing}
@@ -19,20 +21,18 @@ use Rattle.vq_actor.specs.Answers.{AnswersTry}
 use Rattle.vq_actor.specs.Collections.{AnswersPast}
 use Rattle.vq_actor.specs.Meanings.{Recent}
 use Rattle.vq_board_laws.specs.declared.view.View.{View}
-use Rattle.vq_payload.specs.Learning.{Learns as Looked}
+use Rattle.vq_board_laws.specs.Learning.{Learns as Looked, Learns}
 use Rattle.vq_payload.specs.Tests.{saw_payload}
 use Rattle.vq_timeline.specs.declared.parts.Collected.{Collected}
 use Rattle.vq_timeline.specs.declared.parts.Collected.TheVariants.{Completed}
 use Rattle.vq_timeline_laws.specs.Shelves.{State}
 use Rattle.vq_timeline.specs.declared.timeline.LockedTimeline.{LockedTimeline}
-use Rattle.vq_model.proofs.Options.{same_some}
 use Rattle.vq_access.specs.Timelines.{HasAsked, HasAskedOr}
 use Rattle.vq_timeline.specs.Answers.{Collects}
 use Rattle.vq_timeline.specs.Named.{chain_at, state_of}
 use Rattle.vq_access.specs.Shown.{IsShownAt}
 use Rattle.vq_access_laws.specs.AccessMeanings.{meaning_of, answers_told}
 use Rattle.vq_access_laws.specs.Causes.{Refusals, refused, is_of_lists}
-use Rattle.vq_access_laws.specs.Learning.{Learns}
 use Rattle.vq_access_laws.specs.Tests.{saw_value}
 use Rattle.vq_access_laws.proofs.Cited.{refused_now, saw_read, true_taken, true_bound, true_compared}
 use Rattle.vq_access.specs.declared.post.Post.{Post}
@@ -46,7 +46,7 @@ pub completed_there : (p : Plan) (t u : ℕ) (x y : State) (r : Collected) (e : 
     t ≡ u → has (chain p u) e ≡ true
 completed_there p t u x y r e k is same =
     let done = subst (Collects p t x y) is k in
-    subst (λ (z : ℕ). has (chain p z) e ≡ true) same (stands (chain p t) done.entry.index e done.operation)
+    subst (λ (z : ℕ). has (chain p z) e ≡ true) same (get_has (chain p t) done.entry.index e done.operation)
 
 -- the same of what was asked, where it was
 pub completed_by : (p : Plan) (x : LockedTimeline) (u : ℕ) (r : Option Collected) → IfSome r (HasAsked p x) →
@@ -70,15 +70,15 @@ asked_or tries p x (Some r) k in_use = k
 
 pub asked_there : (tries : Type 0) (p : Plan) (x y : LockedTimeline) (r : Option Collected) → Some x ≡ Some y →
     HasAskedOr tries p x r → HasAskedOr tries p y r
-asked_there tries p x y r e k = subst (λ (z : LockedTimeline). HasAskedOr tries p z r) (same_some x y e) k
+asked_there tries p x y r e k = subst (λ (z : LockedTimeline). HasAskedOr tries p z r) (same_Some x y e) k
 
 -- it is the timeline of the operation's chain
 pub asked_at : (b p : Plan) (ts : List LockedTimeline) (e t : ℕ) (o : Op) (x y : LockedTimeline) → b ≡ p →
     slice_get b.ops e ≡ Some o → chain_of p e ≡ Some t → slice_get ts o.chain ≡ Some x → slice_get ts t ≡ Some y → x ≡ y
 asked_at b p ts e t o x y same is of here there =
     let at = subst (λ (z : Plan). slice_get z.ops e ≡ Some o) same is in
-    let number = same_some o.chain t (sym (ap (option_map (λ (z : Op). z.chain)) at) ∙ of) in
-    same_some x y (sym here ∙ (ap (λ (n : ℕ). slice_get ts n) number ∙ there))
+    let number = same_Some o.chain t (sym (ap (option_map (λ (z : Op). z.chain)) at) ∙ of) in
+    same_Some x y (sym here ∙ (ap (λ (n : ℕ). slice_get ts n) number ∙ there))
 
 -- a refusal of lists is kept
 pub refused_lists : (id : TableId) (l : List GName) (p : Plan) (a : ActorName) (x : Place) (r s : Recent) (v : View)

@@ -1,5 +1,6 @@
 -- Looks of an actor at a board: what is looked at is there, and the places stay true.
 use Rattle.std.proofs.Common.{◌≡◌, ◌<◌, ◌≤◌, ℕ, length, refl, sym, subst, arith}
+use Rattle.vq_board_laws.proofs.Cited.{learns_recall}
 use Rattle.vq_model.specs.Checks.{IsLawful}
 use Rattle.vq_model.specs.LoweringFaults.{IsPlan}
 use Rattle.vq_turns.specs.declared.task.Task.TheVariants.{AwaitSubmitted, AwaitReleased, AwaitFinished, AwaitBound}
@@ -13,8 +14,8 @@ use Rattle.vq_board_laws.specs.Knowledge.{state_number}
 use Rattle.vq_board_laws.specs.PointSteps.{recalls}
 use Rattle.vq_board_laws.specs.Steps.{looks}
 use Rattle.vq_board.specs.Named.{plan_of}
-use Rattle.vq_access_laws.specs.Learning.{Learns}
-use Rattle.vq_access_laws.proofs.Cited.{learns_job, learns_op, true_learned}
+use Rattle.vq_board_laws.specs.Learning.{Learns}
+use Rattle.vq_access_laws.proofs.Cited.{learns_job, true_learned}
 use Rattle.vq_access_laws.proofs.Cited.{true_seen_submitted, true_seen_released, true_seen_finished, true_seen_bound}
 use Rattle.vq_access.specs.declared.post.Post.{Post}
 use Rattle.vq_access.proofs.Existing.{submitted_exists, released_exists, finished_exists, bound_exists}
@@ -66,7 +67,7 @@ module _ (x : Post) (i : IsPlan x.ordered.now) (l : IsLawful x.ordered.now) wher
   looked_at_job w j s e = learned w (looks (seen_by x) j s) e (learns_job (seen_by x) j s)
 
   pub looked_at_op : (w : View) (f : ℕ) (s : OpState) → w ≡ recalls (seen_by x) f s → AreTrueOf x w (here x)
-  looked_at_op w f s e = learned w (recalls (seen_by x) f s) e (learns_op (seen_by x) f s)
+  looked_at_op w f s e = learned w (recalls (seen_by x) f s) e (learns_recall (seen_by x) f s)
 
   pub saw_submitted : (j : ℕ) (s : JobState) → IsNextTask x (AwaitSubmitted j) → 1 ≤ state_number s →
       AreTrueOf x (looks (seen_by x) j s) (forward (here x))

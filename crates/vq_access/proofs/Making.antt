@@ -4,14 +4,14 @@ use Rattle.std.proofs.Common.{arith, inl, inr, if◌then◌else◌, Bool}
 use Rattle.std.specs.Option.{option_map}
 use Rattle.std.proofs.lemmas.Bool.{eq-eqb}
 use Rattle.atomic_table.specs.Seated.{TableId}
-use Rattle.vq_model.proofs.Lists.{has_here}
+use Rattle.vq_ground.proofs.Lists.{has_here}
 use Rattle.vq_model.specs.Memory.{Memory}
 use Rattle.vq_model.specs.declared.plan.Answer.{Answer as GivenAnswer}
 use Rattle.vq_model.specs.declared.plan.Event.{Event}
 use Rattle.vq_model.specs.declared.plan.Event.TheVariants.{Submit, Release, Start, Apply, Signal, Finish, Answer}
 use Rattle.vq_model.specs.declared.plan.Event.TheVariants.{Refer, Look, Unref}
 use Rattle.vq_model.specs.declared.script.ActorName.{ActorName}
-use Rattle.vq_points.specs.PointWord.{parts}
+use Rattle.vq_point_laws.specs.PointWord.{parts}
 use Rattle.vq_turns.specs.declared.outcome.Outcome.TheVariants.{Moved}
 use Rattle.vq_actor.specs.Meanings.{IsShownSince}
 use Rattle.vq_board_laws.specs.declared.view.OpState.TheVariants.{Bound as BoundOp}

@@ -4,7 +4,7 @@ use Rattle.std.specs.Prelude.{nat_lt}
 use native.Mathlib.Decide.{dec_le}
 use Rattle.std.proofs.lemmas.Bool.{lt-ltb}
 use Rattle.vq_model.specs.Plan.{Plan}
-use Rattle.vq_points.specs.Timeline.{Timeline, point_at}
+use Rattle.vq_point_laws.specs.Timeline.{Timeline, point_at}
 use Rattle.vq_timeline_core.specs.Answers.{open_place, place_of}
 use Rattle.vq_timeline_core.specs.declared.answers.OpPlace.{OpPlace}
 use Rattle.vq_timeline_core.specs.declared.answers.OpPlace.TheVariants as place_as

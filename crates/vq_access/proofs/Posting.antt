@@ -6,7 +6,7 @@ use Rattle.vq_model.specs.Plan.{Plan}
 use Rattle.vq_model.specs.declared.script.ActorName.{ActorName}
 use Rattle.vq_model.proofs.Actors.{same_actor_is, same_actor_self}
 use Rattle.std.proofs.lemmas.Option.{get_or_from_slice_get}
-use Rattle.vq_model.proofs.Gets.{get_within}
+use Rattle.vq_ground.proofs.Gets.{get_within}
 use Rattle.vq_model.specs.declared.plan.Need.{Need}
 use Rattle.vq_turns.specs.declared.task.Task.TheVariants.{AwaitNeeds}
 use Rattle.vq_turns.specs.declared.task.Task.{Task}
@@ -32,7 +32,7 @@ use Rattle.vq_access.proofs.Serving.{serves_of}
 pub there : (f : ActorName → Place) (b : ActorName) (y : Place) → with_place f b y b ≡ y
 there f b y = ap (λ (t : Bool). if t then y else f b) (same_actor_self b)
 
-elsewhere : (f : ActorName → Place) (b c : ActorName) (y : Place) → (c ≡ b → ⊥) → with_place f b y c ≡ f c
+pub elsewhere : (f : ActorName → Place) (b c : ActorName) (y : Place) → (c ≡ b → ⊥) → with_place f b y c ≡ f c
 elsewhere f b c y apart = by_test (same_actor c b) refl
   where
     by_test : (t : Bool) → same_actor c b ≡ t → (if t then y else f c) ≡ f c

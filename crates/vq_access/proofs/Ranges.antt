@@ -4,7 +4,7 @@ use Rattle.vq_model.specs.Checks.{IsLawful}
 use Rattle.vq_model.specs.LoweringFaults.{IsPlan}
 use Rattle.vq_model.specs.Plan.{Plan, chain, value, resolver}
 use Rattle.vq_model.proofs.Plans.{op_within}
-use Rattle.vq_model.proofs.Searches.{find_member}
+use Rattle.vq_ground.proofs.Searches.{find_member}
 use Rattle.vq_turn_laws.proofs.Cited.{plan_orderly}
 
 pub resolver_exists : (p : Plan) → IsPlan p → IsLawful p → (t v e : ℕ) → resolver p t v ≡ Some e → e < length p.ops

@@ -4,14 +4,14 @@ use Rattle.std.proofs.Common.{Result, Ok, Err, if◌then◌else◌, filter, map,
 use Rattle.std.proofs.Common.{append-nil}
 use Rattle.std.proofs.lemmas.List.{map-append, reverse-append}
 use Rattle.std.specs.Borrow.{GName}
+use Rattle.std.proofs.lemmas.Option.{same_Some}
 use Rattle.atomic_table.specs.Seated.{TableId}
 use Rattle.vq_model.specs.declared.script.ActorName.{ActorName}
 use Rattle.vq_model.specs.declared.plan.Answer.{Answer as GivenAnswer}
 use Rattle.vq_model.specs.declared.plan.Event.{Event}
 use Rattle.vq_model.specs.declared.plan.Event.TheVariants.{Answer}
 use Rattle.vq_model.specs.Plan.{Plan}
-use Rattle.vq_model.proofs.Options.{same_some}
-use Rattle.vq_points.specs.Points.{PointState}
+use Rattle.vq_point_laws.specs.Points.{PointState}
 use Rattle.vq_turns.specs.declared.look.Found.{Found}
 use Rattle.vq_turns.specs.declared.look.Found.TheVariants.{NotYet}
 use Rattle.vq_turns.specs.declared.outcome.Outcome.TheVariants.{Moved}
@@ -191,9 +191,9 @@ module _ (id : TableId) (l : List GName) (p : Plan) (a : ActorName) (x y : Place
         place = stays;
         recent = refl;
         state = λ z. untold z;
-        named = λ other e. subst (λ (z : Event). IsCollection p t z) (same_some event other e) collection;
+        named = λ other e. subst (λ (z : Event). IsCollection p t z) (same_Some event other e) collection;
         made = λ other e. subst (λ (z : Event). IsShownSince (since v f) (λ k. IsShownAt id w f (Moved z) k))
-            (same_some event other e) shown;
+            (same_Some event other e) shown;
       }
 
 pub collects_none : (id : TableId) (l : List GName) (p : Plan) (a : ActorName) (x : Place) (r : Recent) (v : View)

@@ -1,17 +1,19 @@
 -- Looks at the points of operations, one after another.
 use Rattle.std.proofs.Common.{◌≡◌, ◌<◌, ◌+◌, ◌⊎◌, ◌==◌, ℕ, Bool, true, false, List, [], ◌∷◌, ◌++◌, Some, length, refl, sym, ap, ◌∙◌, subst, arith, inl, inr, eq-eqb, if◌then◌else◌, zero, suc}
 use Rattle.std.specs.List.{slice_get, list_all}
+use Rattle.std.proofs.lemmas.Option.{same_Some}
+use Rattle.vq_board_laws.proofs.Cited.{learns_on, learns_look}
 use native.Mathlib.Decide.{dec_le}
 use Rattle.std.proofs.lemmas.Bool.{or_left, and_from}
-use Rattle.vq_points.specs.PointWord.{parts}
+use Rattle.vq_point_laws.specs.PointWord.{parts}
 use Rattle.vq_board_laws.specs.declared.view.Fact.{Fact}
 use Rattle.vq_board_laws.specs.declared.view.Fact.TheVariants.{Taken, Made}
 use Rattle.vq_board_laws.specs.declared.view.View.{View}
 use Rattle.vq_board_laws.specs.PointSteps.{sees, moved_on}
 use Rattle.vq_board_laws.specs.Words.{Carries}
-use Rattle.vq_access_laws.specs.Learning.{Learns}
+use Rattle.vq_board_laws.specs.Learning.{Learns}
 use Rattle.vq_access_laws.specs.Tests.{knows_taken}
-use Rattle.vq_access_laws.proofs.Cited.{learns_point, learns_both, taken_more}
+use Rattle.vq_access_laws.proofs.Cited.{taken_more}
 use Rattle.vq_access.specs.Taken.{AreTaken}
 
 abbrev facts : Bool → Bool → ℕ → List Fact
@@ -31,10 +33,7 @@ carried_taken v q n e c =
 
 pub looked_on : (u v w : View) (q n : ℕ) → Learns u v → w ≡ sees v q n → Learns u w
 looked_on u v w q n k e =
-    subst (λ (z : View). Learns u z) (sym e) (learns_both u v (sees v q n) k (learns_point v q n))
-
-some_number : (m n : ℕ) → Some m ≡ Some n → m ≡ n
-some_number m n e = cc
+    subst (λ (z : View). Learns u z) (sym e) (learns_on u v (sees v q n) k (learns_look v q n))
 
 -- one operation more is known taken
 pub taken_on : (v w : View) (es : List ℕ) (k e q n : ℕ) → AreTaken v es k → slice_get es k ≡ Some e → Carries n e →
@@ -47,11 +46,11 @@ taken_on v w es k e q n before at c same i f low is =
 
     by_place : (i < k) ⊎ (i ≡ k) → knows_taken (sees v q n).known f ≡ true
     by_place (inl l) =
-        let front = learns_point v q n in
+        let front = learns_look v q n in
         subst (λ (fs : List Fact). knows_taken fs f ≡ true) (sym front.known.1)
         (taken_more front.known.0 v.known f (before i f l is))
     by_place (inr here) =
-        let one : e ≡ f = some_number e f (sym at ∙ (ap (slice_get es) (sym here) ∙ is)) in
+        let one : e ≡ f = same_Some e f (sym at ∙ (ap (slice_get es) (sym here) ∙ is)) in
         subst (λ (g : ℕ). knows_taken (sees v q n).known g ≡ true) one (carried_taken v q n e c)
 
 -- all of them

@@ -6,7 +6,7 @@ use Rattle.atomic_table.specs.Seated.{TableId}
 use Rattle.vq_model.specs.declared.script.ActorName.{ActorName}
 use Rattle.vq_model.specs.declared.plan.Event.{Event}
 use Rattle.vq_model.specs.Plan.{Plan}
-use Rattle.vq_points.specs.Points.{PointState}
+use Rattle.vq_point_laws.specs.Points.{PointState}
 use Rattle.vq_turns.specs.declared.outcome.Want.{Want}
 use Rattle.vq_turns.specs.declared.outcome.Want.TheVariants.{Submitted, Released, Bound, Next, Signaled, Finished}
 use Rattle.vq_turns.specs.declared.outcome.Want.TheVariants.{MemoryTurn, Exchange, Listed}
@@ -17,11 +17,11 @@ use Rattle.vq_board_laws.specs.declared.view.OwnStep.{OwnStep}
 use Rattle.vq_board_laws.specs.declared.view.View.{View}
 use Rattle.vq_board_laws.specs.PointSteps.{sees}
 use Rattle.vq_board_laws.specs.Words.{Carries}
-use Rattle.vq_points.specs.PointWord.{parts}
+use Rattle.vq_point_laws.specs.PointWord.{parts}
 use Rattle.vq_access.specs.Shown.{IsShownAt}
 use Rattle.vq_access_laws.specs.AccessMeanings.{meaning_of}
 use Rattle.vq_access_laws.specs.Causes.{Refusals, IsShown}
-use Rattle.vq_access_laws.specs.Learning.{Learns}
+use Rattle.vq_board_laws.specs.Learning.{Learns}
 use Rattle.vq_access.specs.Taken.{SawUntaken, IsUntaken}
 use Rattle.vq_access.proofs.Replies.{refuses}
 

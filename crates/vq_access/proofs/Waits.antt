@@ -1,14 +1,15 @@
 -- The looks and references of an actor at a board that waits for needs: that it may, and that the places stay true.
-use Rattle.std.proofs.Common.{◌≡◌, ◌<◌, ◌≤◌, ◌==◌, ◌⊎◌, ℕ, Bool, true, false, not, List, ◌∷◌, Option, Some, None, length, refl, ap, ◌∙◌, arith, inl, inr, eq-eqb}
+use Rattle.std.proofs.Common.{◌≡◌, ◌<◌, ◌≤◌, ◌==◌, ◌⊎◌, ℕ, true, false, List, ◌∷◌, Option, Some, None, length, refl, ap, ◌∙◌, arith, inl, inr, eq-eqb}
 use Rattle.std.specs.List.{slice_get, list_any}
 use Rattle.std.specs.Option.{option_map_or}
 use Rattle.std.proofs.lemmas.Bool.{and_from, lt-ltb}
+use Rattle.vq_board_laws.proofs.Cited.{learns_on, learns_look}
 use Rattle.vq_model.specs.Checks.{IsLawful}
 use Rattle.vq_model.specs.LoweringFaults.{IsPlan}
 use Rattle.vq_model.specs.Plan.{Plan, resolver}
 use Rattle.vq_model.specs.declared.plan.Need.{Need}
 use Rattle.vq_model.specs.declared.script.ActorName.{ActorName}
-use Rattle.vq_points.specs.PointWord.{parts, PointWord as PointParts}
+use Rattle.vq_point_laws.specs.PointWord.{parts, PointWord as PointParts}
 use Rattle.vq_point.specs.Word.{bits_of}
 use Rattle.vq_point.specs.declared.PointWord.{PointWord}
 use Rattle.vq_turns.specs.declared.look.Holding.{Holding}
@@ -29,10 +30,10 @@ use Rattle.vq_board_laws.specs.MayPoints.{MayRefer}
 use Rattle.vq_board.specs.declared.parts.Pass.{Pass}
 use Rattle.vq_board.specs.Answers.{IsLost}
 use Rattle.vq_board.specs.Named.{view, plan_of, IsOf, Turns}
-use Rattle.vq_access_laws.specs.Learning.{Learns}
+use Rattle.vq_board_laws.specs.Learning.{Learns}
 use Rattle.vq_access_laws.specs.Tests.{shows_reached}
 use Rattle.vq_access_laws.specs.TruePasses.{is_for}
-use Rattle.vq_access_laws.proofs.Cited.{learns_point, learns_miss, learns_both, may_refer, listed_held, listed_first}
+use Rattle.vq_access_laws.proofs.Cited.{learns_miss, may_refer, listed_held, listed_first}
 use Rattle.vq_access_laws.proofs.Cited.{true_past, true_met, true_referred, true_given_back}
 use Rattle.vq_access.specs.declared.post.Post.{Post}
 use Rattle.vq_access.specs.Lasts.{IsFound, recent_of}
@@ -56,14 +57,6 @@ pub carried : (w : PointWord) (e : ℕ) →
     (w.held ≡ true) × (w.op ≡ e) → Carries (bits_of w) e
 carried w e same is =
     record { held = ap (λ (u : PointParts). u.held) same ∙ is.0; op = ap (λ (u : PointParts). u.op) same ∙ is.1 }
-
-pub not_set : (b : Bool) → not b ≡ true → b ≡ false
-not_set true h = absurd (cc)
-not_set false h = refl
-
-pub set_so : (b : Bool) → not b ≡ false → b ≡ true
-set_so true h = refl
-set_so false h = absurd (cc)
 
 -- a tracker whose task stays has room
 pub fits_here : (x : Post) (t : Task) → IsNextTask x t → (y : Tracked) (z : Place) → y ≡ record x.seat.now { place = z } →
@@ -179,13 +172,13 @@ module _ (x : Post) (i : IsPlan x.ordered.now) (l : IsLawful x.ordered.now) wher
   -- Looks at points that change no place
 
   pub looked_at_point : (w : View) (q m : ℕ) → w ≡ sees (seen_by x) q m → AreTrueOf x w (here x)
-  looked_at_point w q m e = learned x i l w (sees (seen_by x) q m) e (learns_point (seen_by x) q m)
+  looked_at_point w q m e = learned x i l w (sees (seen_by x) q m) e (learns_look (seen_by x) q m)
 
   pub missed_point : (w : View) (q m n : ℕ) → w ≡ misses_point (sees (seen_by x) q m) q n → AreTrueOf x w (here x)
   missed_point w q m n e =
       learned x i l w (misses_point (sees (seen_by x) q m) q n) e
-      (learns_both (seen_by x) (sees (seen_by x) q m) (misses_point (sees (seen_by x) q m) q n)
-      (learns_point (seen_by x) q m) (learns_miss (sees (seen_by x) q m) q n))
+      (learns_on (seen_by x) (sees (seen_by x) q m) (misses_point (sees (seen_by x) q m) q n)
+      (learns_look (seen_by x) q m) (learns_miss (sees (seen_by x) q m) q n))
 
   -- it stays a pass of the board
   pub lost_of : (y : Pass) (q found : ℕ) → IsLost x.pass.now y q found → IsOf x.board.now y

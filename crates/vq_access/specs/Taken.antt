@@ -1,7 +1,7 @@
 -- The points that lists have for a batch's signals, and what looks at them show. This project's own.
 use Rattle.std.specs.Prelude.{ℕ, ◌≡◌, ◌<◌, true, List, Some}
 use Rattle.std.specs.List.{slice_get}
-use Rattle.vq_model.specs.Plan.{has}
+use Rattle.vq_ground.specs.Lists.{has}
 use Rattle.vq_turns.specs.declared.outcome.Want.{Want}
 use Rattle.vq_turns.specs.declared.outcome.Want.TheVariants.{Exchange}
 use Rattle.vq_board_laws.specs.declared.view.View.{View}
@@ -9,7 +9,7 @@ use Rattle.vq_board_laws.specs.PointSteps.{sees}
 use Rattle.vq_board_laws.specs.Words.{Carries}
 use Rattle.vq_board.specs.declared.parts.Pass.{Pass}
 use Rattle.vq_board.specs.Named.{view, board_of}
-use Rattle.vq_access_laws.specs.Learning.{Learns}
+use Rattle.vq_board_laws.specs.Learning.{Learns}
 use Rattle.vq_access_laws.specs.Tests.{knows_taken}
 
 -- the pass of the same board has looked and learned, and done nothing else

@@ -1,7 +1,7 @@
 -- Where the places are true of a pass, the host may answer by what it compared.
 use Rattle.std.proofs.Common.{◌≡◌, ℕ, ◌+◌, true, false, List, ◌∷◌, ◌++◌, Option, Some, None, drop, map, refl, sym, ap, ◌∙◌, subst, is_some, option_map}
 use Rattle.std.specs.List.{slice_get}
-use Rattle.std.proofs.lemmas.Bool.{false≢true}
+use Rattle.std.proofs.lemmas.Bool.{false≢true, not-true}
 use Rattle.vq_model.specs.Checks.{IsLawful}
 use Rattle.vq_model.specs.LoweringFaults.{IsPlan}
 use Rattle.vq_model.specs.declared.plan.Answer.{Answer as GivenAnswer}
@@ -29,7 +29,7 @@ use Rattle.vq_board_laws.specs.Shows.{MayAnswer, ShowsBy}
 use Rattle.vq_access_laws.specs.Tests.{saw_values}
 use Rattle.vq_access_laws.specs.TruePasses.{AreTrue, tasks_before, role_of_actor}
 use Rattle.vq_access_laws.proofs.AnswerLaws.{pair_of, compared_onto, shows_answer}
-use Rattle.vq_access_laws.proofs.Guards.{asks, kind, no_test, not_done, role, runner_own, turn}
+use Rattle.vq_access_laws.proofs.Guards.{asks, kind, not_done, role, runner_own, turn}
 use Rattle.vq_access_laws.proofs.OwnRules.{own_here}
 use Rattle.vq_access_laws.proofs.ServedActors.{serves_itself}
 use Rattle.vq_access_laws.proofs.TaskKinds.{is_task_of}
@@ -80,7 +80,7 @@ module _ (p : Plan) (i : IsPlan p) (l : IsLawful p) (a : ActorName) (v : View) (
     host = by_actor b (role p i l a v places k b s) (kind p i l a v places k b s (Answer j asked_for) next);
     runs = runs;
     asks = order.loud;
-    unanswered = no_test (is_some (answer_told v.told j)) (not_done p i l a v places k b s (Answer j asked_for) next);
+    unanswered = not-true (is_some (answer_told v.told j)) (not_done p i l a v places k b s (Answer j asked_for) next);
     shows = subst (ShowsBy p v j (question p j)) (sym is) shows;
   }
     where

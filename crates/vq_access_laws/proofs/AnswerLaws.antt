@@ -5,18 +5,21 @@ use Rattle.std.specs.Option.{option_map_or}
 use Rattle.std.proofs.lemmas.Bool.{false≢true, eqb-true, leb-true, le-leb, lt-ltb, ltb-true, and_parts, or_cases, cases_lt}
 use Rattle.std.proofs.lemmas.List.{append_assoc, append-nil}
 use Rattle.std.proofs.lemmas.List.Elements.{All-nil, All-cons}
+use Rattle.vq_ground.proofs.Searches.{IsFirst, first_of}
+use Rattle.vq_ground.proofs.Gets.{get_has}
 use Rattle.vq_model.specs.declared.plan.Answer.TheVariants.{Reached, Timeout, NotReady}
 use Rattle.vq_model.specs.declared.plan.Need.{Need}
 use Rattle.vq_model.specs.declared.plan.Question.{Question}
 use Rattle.vq_model.specs.declared.plan.Question.TheVariants.{Silent, Reached as AsksReached, PollAll, PollAny, Fence, Value as AsksValue}
-use Rattle.vq_model.specs.Plan.{Plan, has, chain, chain_of, initial, value, resolver, asked, is_silent}
-use Rattle.vq_model.proofs.Lists.{has_cases}
+use Rattle.vq_model.specs.Plan.{Plan, chain, chain_of, initial, value, resolver, asked, is_silent}
+use Rattle.vq_ground.specs.Lists.{has}
+use Rattle.vq_ground.proofs.Lists.{has_cases, any_at}
 use Rattle.vq_turns.specs.declared.look.Seen.{Seen}
 use Rattle.vq_turns.specs.declared.task.Task.{Task}
 use Rattle.vq_turns.specs.declared.task.Task.TheVariants.{Compare}
 use Rattle.vq_turns.specs.Turns.{reaches, answer_by, first_past}
 use Rattle.vq_turn_laws.specs.Tasks.{onto, compares, compared_now}
-use Rattle.vq_core_laws.proofs.Cited.{Facts, chain_places, stands}
+use Rattle.vq_core_laws.proofs.Cited.{Facts, chain_places}
 use Rattle.vq_board.specs.Firsts.{shows_made}
 use Rattle.vq_board.proofs.Cited.{shown_known}
 use Rattle.vq_board_laws.specs.declared.view.View.{View}
@@ -24,7 +27,6 @@ use Rattle.vq_board_laws.specs.Knowledge.{IsKnownValue}
 use Rattle.vq_board_laws.specs.May.{KnowsReached}
 use Rattle.vq_board_laws.specs.Shows.{Misses, IsHeldUp, IsNextUnmade, ShowsValue, ShowsBy, OneOf}
 use Rattle.vq_access_laws.specs.Tests.{shows_value, notes_next, saw_value, saw_values}
-use Rattle.vq_access_laws.proofs.TestLaws.{any_has}
 
 abbrev pub pair_of : Need → ℕ × ℕ
 pair_of n = (n.chain, n.value)
@@ -33,27 +35,6 @@ pair_of n = (n.chain, n.value)
 pub compared_onto : (ns : List Need) (b : List Task) → compared_now (onto (compares ns) b) ≡ compared_now b ++ map pair_of ns
 compared_onto [] b = sym (append-nil (compared_now b))
 compared_onto (n ∷ ns) b = compared_onto ns (Compare n.chain n.value ∷ b) ∙ append_assoc (compared_now b) ((n.chain, n.value) ∷ []) (map pair_of ns)
-
--- the first that passes: it stands at a place before which nothing does
-pub record IsFirst (f : ℕ → Bool) (xs : List ℕ) (x : ℕ) : Type 0 where
-  pub place : ℕ
-  pub is : slice_get xs place ≡ Some x
-  pub passes : f x ≡ true
-  pub none : (i y : ℕ) → slice_get xs i ≡ Some y → f y ≡ true → place ≤ i
-
-first_of : (f : ℕ → Bool) (xs : List ℕ) (x : ℕ) → find f xs ≡ Some x → IsFirst f xs x
-first_of f [] x h = absurd (let z = h in cc)
-first_of f (y ∷ ys) x h = by_test (f y) refl h (first_of f ys x)
-  where
-    by_test : (b : Bool) → f y ≡ b → (if b then Some y else find f ys) ≡ Some x → (find f ys ≡ Some x → IsFirst f ys x) → IsFirst f (y ∷ ys) x
-    by_test true t e rest = let same : y ≡ x = let z = e in cc in record { place = 0; is = ap Some same; passes = subst (λ (z : ℕ). f z ≡ true) same t; none = λ i z at p. omega arith }
-    by_test false t e rest =
-        let r = rest e in
-        record { place = suc r.place; is = r.is; passes = r.passes; none = none r }
-      where
-        none : (r : IsFirst f ys x) (i z : ℕ) → slice_get (y ∷ ys) i ≡ Some z → f z ≡ true → suc r.place ≤ i
-        none r zero z at p = let same : y ≡ z = let w = at in cc in absurd (false≢true (sym t ∙ (ap f same ∙ p)))
-        none r (suc i) z at p = let l = r.none i z at p in omega arith
 
 none_of : (f : ℕ → Bool) (xs : List ℕ) → find f xs ≡ None → (x : ℕ) → has xs x ≡ true → f x ≡ false
 none_of f [] h x m = absurd (false≢true m)
@@ -91,7 +72,7 @@ module _ (p : Plan) (f : Facts p) (v : View) where
     value_known = elim (or_cases (s.past == initial p t) (list_any (λ e. (value p e == s.past) && shows_made v.known e) (chain p t)) parts_three.0) [
       | inl same ↦ inl (eqb-true s.past (initial p t) same)
       | inr some ↦
-          let r = any_has (λ e. (value p e == s.past) && shows_made v.known e) (chain p t) some in
+          let r = any_at (λ e. (value p e == s.past) && shows_made v.known e) (chain p t) some in
           let q = and_parts (value p r.0 == s.past) (shows_made v.known r.0) r.2 in
           inr (r.0, f.formed.of_chain r.0 t r.1, eqb-true (value p r.0) s.past q.0, shown_known p v.known r.0 q.1)
     ]
@@ -100,14 +81,14 @@ module _ (p : Plan) (f : Facts p) (v : View) where
     reached l = elim (or_cases (s.past == initial p t) (list_any (λ e. (value p e == s.past) && shows_made v.known e) (chain p t)) parts_three.0) [
       | inl same ↦ let e = eqb-true s.past (initial p t) same in inl (omega arith)
       | inr some ↦
-          let r = any_has (λ e. (value p e == s.past) && shows_made v.known e) (chain p t) some in
+          let r = any_at (λ e. (value p e == s.past) && shows_made v.known e) (chain p t) some in
           let q = and_parts (value p r.0 == s.past) (shows_made v.known r.0) r.2 in
           let e = eqb-true (value p r.0) s.past q.0 in
           inr (record { op = r.0; in_chain = r.1; reaches = omega arith; made = shown_known p v.known r.0 q.1 })
     ]
 
     in_chain_at : (i e : ℕ) → slice_get (chain p t) i ≡ Some e → chain_of p e ≡ Some t
-    in_chain_at i e at = f.formed.of_chain e t (stands (chain p t) i e at)
+    in_chain_at i e at = f.formed.of_chain e t (get_has (chain p t) i e at)
 
     -- an operation above the value stands at or behind the first such one
     first_least : (op : ℕ) → (a : IsFirst above (chain p t) op) → (i e : ℕ) → slice_get (chain p t) i ≡ Some e → s.past < value p e → value p op ≤ value p e
@@ -128,7 +109,7 @@ module _ (p : Plan) (f : Facts p) (v : View) where
         by_next None is noted (Some r) at =
             let a = first_of (λ e. nat_le n.value (value p e)) (chain p t) r at in
             let up = leb-true n.value (value p r) a.passes in
-            let none = none_of above (chain p t) is r (stands (chain p t) a.place r a.is) in
+            let none = none_of above (chain p t) is r (get_has (chain p t) a.place r a.is) in
             absurd (false≢true (sym none ∙ lt-ltb s.past (value p r) (omega arith)))
         by_next (Some op) is noted (Some r) at =
             let a = first_of above (chain p t) op is in

@@ -2,7 +2,7 @@
 -- stays shown as the record grows.
 use Rattle.std.proofs.Common.{◌≡◌, ◌≢◌, ℕ, ◌+◌, ◌<◌, ◌≤◌, ◌⊎◌, true, false, List, [], ◌∷◌, ◌++◌, length, refl, sym, subst, arith, inl, inr, min}
 use Rattle.std.proofs.lemmas.Bool.{cases_lt}
-use Rattle.vq_points.specs.PointWord.{parts}
+use Rattle.vq_point_laws.specs.PointWord.{parts}
 use Rattle.vq_turns.specs.declared.outcome.Want.{Want}
 use Rattle.vq_turns.specs.declared.outcome.Want.TheVariants.{Submitted, Released, Bound, Next, Signaled, Finished, MemoryTurn, Exchange}
 use Rattle.vq_actor.specs.Meanings.{IsEarlier, IsShownSince}
@@ -16,7 +16,7 @@ use Rattle.vq_board_laws.specs.PointSteps.{recalls, sees, misses_point}
 use Rattle.vq_board_laws.specs.Steps.{looks, misses_turn}
 use Rattle.vq_board_laws.specs.Words.{Carries}
 use Rattle.vq_access_laws.specs.Causes.{IsStepFor, IsShown, Refusals, refused, is_of_lists}
-use Rattle.vq_access_laws.specs.Learning.{Grows}
+use Rattle.vq_board_laws.specs.Learning.{Grows}
 
 -- The last step
 

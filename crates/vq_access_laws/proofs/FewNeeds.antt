@@ -34,7 +34,7 @@ use Rattle.vq_model.specs.declared.statement.Statement.{Statement}
 use Rattle.vq_model.specs.declared.statement.Statement.TheVariants.{HasVersion, DeclareBuffer, DeclareSemaphore, DeclareQueue, BeginBatch, AddWait, AddCommand, AddSignal, AddFence, EndBatch, TakeHostStep, BeginSchedule, TakeTurns}
 use Rattle.vq_model.specs.Checks.{is_immediate_batch}
 use Rattle.vq_model.specs.Plan.{Plan, needs, waits_for_any, asked, idle_after, commands_of, signals_of, question, is_silent, is_host_step}
-use Rattle.vq_points.specs.Points.{jobs_of_lane}
+use Rattle.vq_point_laws.specs.Points.{jobs_of_lane}
 use Rattle.vq_plan_laws.proofs.Cited.{part_is}
 use Rattle.vq_reading_laws.proofs.Cited.{first_fails}
 use Rattle.vq_turns.specs.declared.task.Task.{Task}

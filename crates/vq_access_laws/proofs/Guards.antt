@@ -1,9 +1,9 @@
 -- Where the places are true of a pass, the pass may make the step of an actor's next task.
-use Rattle.std.proofs.Common.{◌≡◌, ℕ, zero, suc, ◌+◌, ◌<◌, ◌≤◌, Bool, true, false, not, List, [], ◌∷◌, Option, Some, None, length, drop, refl, sym, ap, ◌∙◌, subst, arith, inl, inr, filter}
+use Rattle.std.proofs.Common.{◌≡◌, ℕ, zero, suc, ◌+◌, ◌<◌, ◌≤◌, true, false, not, List, [], ◌∷◌, Option, Some, None, length, drop, refl, sym, ap, ◌∙◌, subst, arith, inl, inr, filter}
 use Rattle.std.specs.Prelude.{nat_lt}
 use Rattle.std.specs.List.{slice_get, list_all, range_with_len}
 use Rattle.std.specs.Option.{option_map_or}
-use Rattle.std.proofs.lemmas.Bool.{false≢true, not_from_false, and_parts, eq-eqb, lt-ltb, ltb-true}
+use Rattle.std.proofs.lemmas.Bool.{false≢true, not_from_false, and_parts, eq-eqb, lt-ltb, ltb-true, not-true}
 use Rattle.vq_model.specs.Checks.{IsLawful}
 use Rattle.vq_model.specs.LoweringFaults.{IsPlan}
 use Rattle.vq_model.specs.declared.script.ActorName.{ActorName}
@@ -17,13 +17,14 @@ use Rattle.vq_model.specs.declared.plan.Question.TheVariants.{Silent}
 use Rattle.vq_model.specs.Edges.{Stage, AtEnd, needs_at}
 use Rattle.vq_model.specs.Lanes.{lane_at, lane_number}
 use Rattle.vq_model.specs.Outputs.{asking}
-use Rattle.vq_model.specs.Plan.{Plan, has, of_job, same_lane, signals_of, is_host_step, is_batch, is_silent, question}
-use Rattle.vq_model.proofs.Filters.{filter-has}
-use Rattle.vq_model.proofs.Gets.{get_within}
-use Rattle.vq_model.proofs.Lists.{list_all_has}
-use Rattle.vq_model.proofs.Numbers.{has_range, range-has}
+use Rattle.vq_model.specs.Plan.{Plan, of_job, same_lane, signals_of, is_host_step, is_batch, is_silent, question}
+use Rattle.vq_ground.specs.Lists.{has}
+use Rattle.vq_ground.proofs.Filters.{filter-has}
+use Rattle.vq_ground.proofs.Gets.{get_within}
+use Rattle.vq_ground.proofs.Lists.{list_all_has}
+use Rattle.vq_ground.proofs.Numbers.{has_range, range-has}
 use Rattle.vq_order_laws.proofs.Cited.{need_awaits}
-use Rattle.vq_points.specs.Points.{earlier_in_queue, jobs_of_lane}
+use Rattle.vq_point_laws.specs.Points.{earlier_in_queue, jobs_of_lane}
 use Rattle.vq_turns.specs.declared.look.Holding.{Holding}
 use Rattle.vq_turns.specs.declared.task.Task.{Task}
 use Rattle.vq_turns.specs.declared.task.Task.TheVariants.{AwaitSubmitted, AwaitBound, AwaitNeeds, Submit, Release, Answer, Finish}
@@ -47,10 +48,6 @@ use Rattle.vq_access_laws.proofs.TaskKinds.{all_among, kind_of, is_task_of}
 use Rattle.vq_access_laws.proofs.TestLaws.{far_known, finished_known, bound_known, taken_known, all_known, one_known}
 
 -- Small laws
-
-pub no_test : (b : Bool) → not b ≡ true → b ≡ false
-no_test true h = absurd (false≢true h)
-no_test false h = refl
 
 pub among_program : (n : ℕ) (ts : List Task) (t : Task) → slice_get ts n ≡ Some t → Among t ts
 among_program n [] t h = absurd (let z = h in cc)
@@ -80,7 +77,7 @@ job_exists p (RingActor q) j is = is.0
 batch_parts : (p : Plan) (j : ℕ) → is_batch p j ≡ true → (j < length p.jobs) × (is_host_step p j ≡ false)
 batch_parts p j h =
     let q = and_parts (nat_lt j (length p.jobs)) (not (is_host_step p j)) h in
-    (ltb-true j (length p.jobs) q.0, no_test (is_host_step p j) q.1)
+    (ltb-true j (length p.jobs) q.0, not-true (is_host_step p j) q.1)
 
 -- the batches of its queue before a batch
 earlier_has : (p : Plan) (i j : ℕ) → i < j → j < length p.jobs → lane_at p i ≡ lane_at p j →
@@ -177,7 +174,7 @@ module _ (p : Plan) (i : IsPlan p) (l : IsLawful p) (a : ActorName) (v : View) (
       record {
         host = by_actor b role (kind (Submit j) next);
         batch = x.batch;
-        new = no_test (has v.submitted j) (not_done (Submit j) next);
+        new = not-true (has v.submitted j) (not_done (Submit j) next);
         next = λ h low is. (and_parts (has v.submitted h) (knows_far v.known h Submitted)
             (done (Submit h) (x.batches h low (batch_parts p h is).1))).0;
         before = λ h low is. finished_known v.known h (done (Finish h) (x.hosts h low is));
@@ -198,7 +195,7 @@ module _ (p : Plan) (i : IsPlan p) (l : IsLawful p) (a : ActorName) (v : View) (
       record {
         submitter = by_actor b role (kind (Release j) next);
         batch = y.batch;
-        new = no_test (has v.released j) (not_done (Release j) next);
+        new = not-true (has v.released j) (not_done (Release j) next);
         next = λ h low same. done (Release h) (y.earlier h (earlier_has p h j low parts.0 same));
         submitted = elim y.submitted [
           | inl m ↦ far_known v.known j Submitted (done (AwaitSubmitted j) m)

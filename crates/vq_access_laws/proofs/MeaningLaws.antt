@@ -11,7 +11,7 @@ use Rattle.vq_turns.specs.Turns.{Place}
 use Rattle.vq_turn_laws.specs.TruePlaces.{with_place}
 use Rattle.vq_board_laws.specs.declared.view.Told.{Told}
 use Rattle.vq_access_laws.specs.AccessMeanings.{answers_told}
-use Rattle.vq_access_laws.specs.Learning.{Grows}
+use Rattle.vq_board_laws.specs.Learning.{Grows}
 use Rattle.vq_access_laws.specs.TruePasses.{Moves}
 
 -- an answer more is noted at the end

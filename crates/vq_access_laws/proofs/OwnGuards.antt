@@ -1,14 +1,17 @@
 -- Where the places are true of a pass, its own actor's next task may start a job, enter a command, signal and finish.
 use Rattle.std.proofs.Common.{◌≡◌, ℕ, ◌<◌, true, List, [], ◌∷◌, ◌++◌, Option, Some, None, length, refl, sym, ap, ◌∙◌, subst, arith, option_map, drop, ◌+◌}
 use Rattle.std.specs.List.{slice_get, list_all}
+use Rattle.std.proofs.lemmas.Bool.{not-true}
+use Rattle.std.proofs.lemmas.Option.{same_Some}
+use Rattle.vq_ground.proofs.Gets.{get_has}
 use Rattle.vq_model.specs.Memory.{Memory}
 use Rattle.vq_model.specs.Checks.{IsLawful}
 use Rattle.vq_model.specs.LoweringFaults.{IsPlan}
 use Rattle.vq_model.specs.declared.script.ActorName.{ActorName}
 use Rattle.vq_model.specs.Edges.{At, AtEnd, stage_of}
-use Rattle.vq_model.specs.Plan.{Plan, has, commands_of, signals_of, question}
-use Rattle.vq_model.proofs.Lists.{has_here, has-append_right}
-use Rattle.vq_model.proofs.Options.{same_some}
+use Rattle.vq_model.specs.Plan.{Plan, commands_of, signals_of, question}
+use Rattle.vq_ground.specs.Lists.{has}
+use Rattle.vq_ground.proofs.Lists.{has_here, has-append_right}
 use Rattle.vq_turns.specs.declared.task.Task.{Task}
 use Rattle.vq_turns.specs.declared.task.Task.TheVariants.{AwaitReleased, AwaitFinished, Start, Apply, Signal, Answer, Finish}
 use Rattle.vq_turns.specs.Programs.{program}
@@ -18,7 +21,6 @@ use Rattle.vq_turn_laws.specs.PlanParts.{IsOrderly}
 use Rattle.vq_turn_laws.specs.Running.{Running, runs_after, InTurn, IsRunnerOf}
 use Rattle.vq_turn_laws.specs.Tasks.{waited_now}
 use Rattle.vq_turn_laws.proofs.Cited.{plan_orderly}
-use Rattle.vq_core_laws.proofs.Cited.{stands}
 use Rattle.vq_actor.specs.Stages.{Serves}
 use Rattle.vq_board_laws.specs.declared.view.JobState.TheVariants.{Released}
 use Rattle.vq_board_laws.specs.declared.view.View.{View}
@@ -26,7 +28,7 @@ use Rattle.vq_board_laws.specs.May.{MayStart, MayEnter, MayFinish}
 use Rattle.vq_board_laws.specs.MayPoints.{MaySignal}
 use Rattle.vq_board_laws.specs.Steps.{takes_turn}
 use Rattle.vq_access_laws.specs.TruePasses.{AreTrue, tasks_before, is_for}
-use Rattle.vq_access_laws.proofs.Guards.{no_test, runs_jobs, job_exists, none_held, done, needed, left_is, asks, turn, not_done, runner_own}
+use Rattle.vq_access_laws.proofs.Guards.{runs_jobs, job_exists, none_held, done, needed, left_is, asks, turn, not_done, runner_own}
 use Rattle.vq_access_laws.proofs.ServedActors.{serves_itself}
 use Rattle.vq_access_laws.proofs.TestLaws.{far_known, finished_known}
 
@@ -58,7 +60,7 @@ module _ (p : Plan) (i : IsPlan p) (l : IsLawful p) (a : ActorName) (v : View) (
         exists = x.exists;
         runner = runs_jobs p a j t.1 ∙ sym k.role;
         idle = k.own.runs.job ∙ ap (option_map (λ (y : Running). y.job)) t.0;
-        new = no_test (has v.begun j) (not_done p i l a v places k a self (Start j) next);
+        new = not-true (has v.begun j) (not_done p i l a v places k a self (Start j) next);
         released = λ batch. far_known v.known j Released
             (done p i l a v places k a self (AwaitReleased j) (x.released batch));
         previous = λ h at. finished_known v.known h (done p i l a v places k a self (Finish h) (x.lane h at));
@@ -107,8 +109,8 @@ module _ (p : Plan) (i : IsPlan p) (l : IsLawful p) (a : ActorName) (v : View) (
       by_run None at t = absurd t
       by_run (Some y) at t =
           let one = o.well_formed.of_job e x.job (in_whole (signals_of p x.job) x.next.front x.next.back e x.next.whole) in
-          let two = o.well_formed.of_job e y.job (stands (signals_of p y.job) y.signals e t.1) in
-          let same : x.job ≡ y.job = same_some x.job y.job (sym one ∙ two) in
+          let two = o.well_formed.of_job e y.job (get_has (signals_of p y.job) y.signals e t.1) in
+          let same : x.job ≡ y.job = same_Some x.job y.job (sym one ∙ two) in
           record {
             job = y.job;
             runs = runs_it y at;

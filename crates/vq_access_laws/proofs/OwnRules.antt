@@ -6,8 +6,9 @@ use Rattle.std.specs.Option.{option_map_or}
 use Rattle.std.proofs.lemmas.Bool.{false≢true, and_parts, and_from, or_cases, or_left, or_right}
 use Rattle.vq_model.specs.declared.plan.Need.{Need}
 use Rattle.vq_model.specs.declared.script.ActorName.{ActorName}
-use Rattle.vq_model.specs.Plan.{Plan, has, chain, initial, value}
-use Rattle.vq_model.proofs.Lists.{has-append_right}
+use Rattle.vq_model.specs.Plan.{Plan, chain, initial, value}
+use Rattle.vq_ground.specs.Lists.{has}
+use Rattle.vq_ground.proofs.Lists.{has-append_right}
 use Rattle.vq_turns.specs.declared.look.Seen.{Seen}
 use Rattle.vq_turns.specs.declared.task.Task.{Task}
 use Rattle.vq_turns.specs.Programs.{program}
@@ -21,7 +22,7 @@ use Rattle.vq_board_laws.specs.declared.view.View.{View}
 use Rattle.vq_board_laws.specs.Reached.{answer_told}
 use Rattle.vq_board.specs.Firsts.{shows_made}
 use Rattle.vq_board.proofs.Cited.{shown_more}
-use Rattle.vq_access_laws.specs.Learning.{Grows, Learns}
+use Rattle.vq_board_laws.specs.Learning.{Grows, Learns}
 use Rattle.vq_access_laws.specs.Tests.{shows_reached, shows_value, notes_next, saw_value, saw_values}
 use Rattle.vq_access_laws.specs.TruePasses.{RunsAs, HoldsAs, IsAtRest, IsOwn, are_told_once, is_to, holds_to, is_for, are_rising, tasks_before, tasks_left}
 use Rattle.vq_access_laws.proofs.Guards.{none_held}

@@ -1,13 +1,15 @@
 -- The places stay true of the pass through looks, and through the steps of tasks that leave alone what is run and held.
-use Rattle.std.proofs.Common.{◌≡◌, ℕ, ◌+◌, ◌≤◌, true, List, [], ◌∷◌, ◌++◌, Option, Some, None, refl, sym, ap, ◌∙◌, subst, arith, inl, inr, drop}
+use Rattle.std.proofs.Common.{◌≡◌, ℕ, ◌+◌, ◌≤◌, true, [], ◌∷◌, ◌++◌, Option, Some, None, refl, sym, ap, ◌∙◌, subst, arith, inl, inr, drop}
 use Rattle.std.specs.List.{slice_get}
 use Rattle.std.proofs.lemmas.Bool.{and_from}
+use Rattle.vq_board_laws.proofs.Cited.{learns_recall}
 use Rattle.vq_model.specs.Checks.{IsLawful}
 use Rattle.vq_model.specs.LoweringFaults.{IsPlan}
 use Rattle.vq_model.specs.declared.script.ActorName.{ActorName}
 use Rattle.vq_model.specs.Outputs.{asking}
-use Rattle.vq_model.specs.Plan.{Plan, has}
-use Rattle.vq_model.proofs.Lists.{has_here}
+use Rattle.vq_model.specs.Plan.{Plan}
+use Rattle.vq_ground.specs.Lists.{has}
+use Rattle.vq_ground.proofs.Lists.{has_here}
 use Rattle.vq_turns.specs.declared.task.Task.{Task}
 use Rattle.vq_turns.specs.declared.task.Task.TheVariants.{AwaitSubmitted, AwaitReleased, AwaitFinished, AwaitBound, Submit, Take, Release, Bind}
 use Rattle.vq_turns.specs.Programs.{program}
@@ -21,10 +23,10 @@ use Rattle.vq_board_laws.specs.declared.view.OpState.{OpState}
 use Rattle.vq_board_laws.specs.declared.view.OpState.TheVariants.{Unbound as UnboundOp, Bound as BoundOp, Past as PastOp}
 use Rattle.vq_board_laws.specs.declared.view.View.{View}
 use Rattle.vq_board_laws.specs.Knowledge.{state_number}
-use Rattle.vq_board_laws.specs.PointSteps.{sees, recalls, misses_point, point_facts, point_unmade, moved_on, op_facts, op_unmade, op_number}
+use Rattle.vq_board_laws.specs.PointSteps.{recalls, misses_point, op_facts}
 use Rattle.vq_board_laws.specs.Steps.{looks, submits, releases, misses_turn, own_step}
-use Rattle.vq_board_laws.specs.Words.{job_word, op_word, point_word, turn_word}
-use Rattle.vq_access_laws.specs.Learning.{Grows, Learns}
+use Rattle.vq_board_laws.specs.Words.{job_word, point_word, turn_word}
+use Rattle.vq_board_laws.specs.Learning.{Learns}
 use Rattle.vq_access_laws.specs.Tests.{knows_far, knows_bound}
 use Rattle.vq_access_laws.specs.TrueTasks.{is_done}
 use Rattle.vq_access_laws.specs.TruePasses.{AreTrue, IsOwn, RunsAs, Moves, are_told_once, tasks_before, tasks_left}
@@ -44,22 +46,6 @@ learns_job v j s = record {
   steps = (own_step (job_word j) (state_number s) ∷ [], refl);
 }
 
-pub learns_op : (v : View) (e : ℕ) (s : OpState) → Learns v (recalls v e s)
-learns_op v e s = record {
-  same = refl;
-  known = (op_facts e s, refl);
-  unmade = (op_unmade e s, refl);
-  steps = (own_step (op_word e) (op_number s) ∷ [], refl);
-}
-
-pub learns_point : (v : View) (q n : ℕ) → Learns v (sees v q n)
-learns_point v q n = record {
-  same = refl;
-  known = (point_facts n ++ moved_on q n v.known, refl);
-  unmade = (point_unmade n, refl);
-  steps = (own_step (point_word q) n ∷ [], refl);
-}
-
 pub learns_miss : (v : View) (q n : ℕ) → Learns v (misses_point v q n)
 learns_miss v q n = record {
   same = refl;
@@ -74,22 +60,6 @@ learns_turn v n = record {
   known = ([], refl);
   unmade = ([], refl);
   steps = (own_step turn_word n ∷ [], refl);
-}
-
-joined : {A : Type 0} (xs ys zs : List A) → Grows xs ys → Grows ys zs → Grows xs zs
-joined xs ys zs g h = (h.0 ++ g.0, h.1 ∙ (ap (λ us. h.0 ++ us) g.1 ∙ together h.0 g.0 xs))
-  where
-    together : {A : Type 0} (us vs ws : List A) → us ++ (vs ++ ws) ≡ (us ++ vs) ++ ws
-    together [] vs ws = refl
-    together (x ∷ us) vs ws = ap (λ ts. x ∷ ts) (together us vs ws)
-
--- one look after another
-pub learns_both : (u v w : View) → Learns u v → Learns v w → Learns u w
-learns_both u v w g h = record {
-  same = h.same ∙ ap (λ (x : View). record x { known = w.known; unmade = w.unmade; steps = w.steps }) g.same;
-  known = joined u.known v.known w.known g.known h.known;
-  unmade = joined u.unmade v.unmade w.unmade g.unmade h.unmade;
-  steps = joined u.steps v.steps w.steps g.steps h.steps;
 }
 
 -- a task that leaves alone what is run and held
@@ -217,7 +187,7 @@ module _ (p : Plan) (i : IsPlan p) (l : IsLawful p) (a : ActorName) (v : View) (
 
   pub true_seen_bound : (e : ℕ) (r : OpState) → slice_get (program p b) (places b).done ≡ Some (AwaitBound e) →
       (r ≡ UnboundOp → ⊥) → AreTrue p a (recalls v e r) after
-  true_seen_bound e r next bound = true_known p i l a (recalls v e r) places (true_learned p i l a v places k (recalls v e r) (learns_op v e r))
+  true_seen_bound e r next bound = true_known p i l a (recalls v e r) places (true_learned p i l a v places k (recalls v e r) (learns_recall v e r))
       b s (AwaitBound e) next
       record { unasked = record { waiting = λ _. refl; waited = λ _. refl; asking = λ _. refl; compared = λ _. refl }; runs = λ r. refl }
       refl (by_state r bound) after moves

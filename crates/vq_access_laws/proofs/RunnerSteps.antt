@@ -2,6 +2,8 @@
 use Rattle.std.proofs.Common.{◌≡◌, ℕ, suc, ◌+◌, Bool, true, List, [], ◌∷◌, ◌++◌, Option, Some, None, refl, sym, ap, ◌∙◌, subst, arith, drop, is_some, option_map, find, if◌then◌else◌, ◌==◌}
 use Rattle.std.specs.List.{slice_get}
 use Rattle.std.proofs.lemmas.Bool.{false≢true, and_parts, and_from, eq-eqb}
+use Rattle.std.proofs.lemmas.Option.{same_Some}
+use Rattle.vq_board_laws.proofs.Cited.{learns_recall}
 use Rattle.vq_model.specs.Checks.{IsLawful}
 use Rattle.vq_model.specs.LoweringFaults.{IsPlan}
 use Rattle.vq_model.specs.Memory.{Memory}
@@ -9,9 +11,9 @@ use Rattle.vq_model.specs.declared.plan.Answer.{Answer as GivenAnswer}
 use Rattle.vq_model.specs.declared.plan.Question.{Question}
 use Rattle.vq_model.specs.declared.script.ActorName.{ActorName}
 use Rattle.vq_model.specs.Outputs.{asking}
-use Rattle.vq_model.specs.Plan.{Plan, has}
-use Rattle.vq_model.proofs.Lists.{has_here}
-use Rattle.vq_model.proofs.Options.{same_some}
+use Rattle.vq_model.specs.Plan.{Plan}
+use Rattle.vq_ground.specs.Lists.{has}
+use Rattle.vq_ground.proofs.Lists.{has_here}
 use Rattle.vq_turns.specs.declared.look.Seen.{Seen}
 use Rattle.vq_turns.specs.declared.task.Task.{Task}
 use Rattle.vq_turns.specs.declared.task.Task.TheVariants.{Start, Apply, Signal, Compare, Answer, Finish}
@@ -30,13 +32,13 @@ use Rattle.vq_board_laws.specs.declared.view.View.{View}
 use Rattle.vq_board_laws.specs.PointSteps.{answers, signals, recalls}
 use Rattle.vq_board_laws.specs.Reached.{answer_told}
 use Rattle.vq_board_laws.specs.Steps.{starts, finishes, takes_turn, enters, gives_turn}
-use Rattle.vq_access_laws.specs.Learning.{Learns}
+use Rattle.vq_board_laws.specs.Learning.{Learns}
 use Rattle.vq_access_laws.specs.Tests.{saw_value, saw_values}
 use Rattle.vq_access_laws.specs.TrueTasks.{is_done}
 use Rattle.vq_access_laws.specs.TruePasses.{AreTrue, RunsAs, Moves, are_told_once, tasks_before}
 use Rattle.vq_access_laws.proofs.Guards.{answered_asks, asks, none_held, not_done, runner_own, turn}
 use Rattle.vq_access_laws.proofs.OwnRules.{IsUnasked, holds_nothing, own_here, own_moved, own_on, own_kept, rest_unseen, learned_own, learned_lists, learned_role, learned_told}
-use Rattle.vq_access_laws.proofs.PlainSteps.{true_learned, learns_op}
+use Rattle.vq_access_laws.proofs.PlainSteps.{true_learned}
 use Rattle.vq_access_laws.proofs.ServedActors.{serves_itself}
 use Rattle.vq_access_laws.proofs.ServedSteps.{task_step}
 use Rattle.vq_access_laws.proofs.StepRules.{KeepsLists, mark, list_push, list_same, told_push}
@@ -49,7 +51,7 @@ runs_started : (v : View) (j : ℕ) (r : Option Running) → RunsAs (starts v j)
 runs_started v j r = record {
   job = refl;
   counts = λ y is.
-      let same : (record { job = j; commands = 0; signals = 0 }) ≡ y = same_some (record { job = j; commands = 0; signals = 0 }) y is in
+      let same : (record { job = j; commands = 0; signals = 0 }) ≡ y = same_Some (record { job = j; commands = 0; signals = 0 }) y is in
       (ap (λ (z : Running). z.commands) same, ap (λ (z : Running). z.signals) same);
 }
 
@@ -63,7 +65,7 @@ module _ (p : Plan) (R : ℕ → Type 0) where
   runs_applied v j c n m bytes more (Some x) t h = record {
     job = h.job;
     counts = λ y is.
-        let same : (record x { commands = suc x.commands }) ≡ y = same_some (record x { commands = suc x.commands }) y is in
+        let same : (record x { commands = suc x.commands }) ≡ y = same_Some (record x { commands = suc x.commands }) y is in
         let old = h.counts x refl in
         (ap suc old.0 ∙ ap (λ (z : Running). z.commands) same, old.1 ∙ ap (λ (z : Running). z.signals) same);
   }
@@ -74,7 +76,7 @@ module _ (p : Plan) (R : ℕ → Type 0) where
   runs_signaled v e q n (Some x) t h = record {
     job = h.job;
     counts = λ y is.
-        let same : (record x { signals = suc x.signals }) ≡ y = same_some (record x { signals = suc x.signals }) y is in
+        let same : (record x { signals = suc x.signals }) ≡ y = same_Some (record x { signals = suc x.signals }) y is in
         let old = h.counts x refl in
         (old.0 ∙ ap (λ (z : Running). z.commands) same, ap suc old.1 ∙ ap (λ (z : Running). z.signals) same);
   }
@@ -272,7 +274,7 @@ module _ (p : Plan) (i : IsPlan p) (l : IsLawful p) (a : ActorName) (v : View) (
   pub true_signaled : (e q n : ℕ) (r : OpState) → slice_get (program p b) (places b).done ≡ Some (Signal e) →
       Moves places b (forward (places b)) after → AreTrue p a (signals (recalls v e r) e q n) after
   true_signaled e q n r next moves =
-      let k2 = true_learned p i l a v places k (recalls v e r) (learns_op v e r) in
+      let k2 = true_learned p i l a v places k (recalls v e r) (learns_recall v e r) in
       to_own p i l a (recalls v e r) places k2 b s after forward (signals (recalls v e r) e q n) (Signal e)
       (own_signaled p i l a (recalls v e r) places k2 after e q n) next
       (runner_own p i l a v places k b s (Signal e) next (λ q. refl)) moves

@@ -1,7 +1,8 @@
 -- A step of one actor keeps what each program of the pass says of it.
 use Rattle.std.proofs.Common.{◌≡◌, ℕ, ◌+◌, Bool, true, false, ◌==◌, List, [], ◌∷◌, Option, Some, None, take, drop, refl, sym, ap, ◌∙◌, subst, ◌⊎◌, inl, inr}
 use Rattle.std.specs.List.{slice_get, list_all}
-use Rattle.std.proofs.lemmas.Bool.{false≢true, and_parts, and_from, eqb-true}
+use Rattle.std.proofs.lemmas.Bool.{false≢true, and_parts, and_from, eqb-true, false_from_ne_true}
+use Rattle.vq_ground.proofs.Lists.{all_weaker}
 use Rattle.vq_model.specs.Checks.{IsLawful, is_immediate_batch}
 use Rattle.vq_model.specs.LoweringFaults.{IsPlan}
 use Rattle.vq_model.specs.Naming.{same_actor}
@@ -23,19 +24,10 @@ use Rattle.vq_access_laws.specs.TrueTasks.{is_done, is_left}
 use Rattle.vq_access_laws.specs.TruePasses.{AreTrue, HasDone, IsOwn, Moves, are_told_once, tasks_before, tasks_left}
 use Rattle.vq_access_laws.proofs.Guards.{among_program}
 use Rattle.vq_access_laws.proofs.ServedActors.{IsServed, itself, deferred, served_cases, not_both, one_queue}
-use Rattle.vq_access_laws.proofs.StepRules.{mark, clash, differ_marks, KeepsLists, done_still, left_still}
+use Rattle.vq_access_laws.proofs.StepRules.{mark, clash, differ_marks, KeepsLists, done_still, left_still, clash_none}
 use Rattle.vq_access_laws.proofs.TaskKinds.{is_task_of, kind_of}
-use Rattle.vq_access_laws.proofs.TestLaws.{all_more}
 
 -- Marks of tasks of different actors
-
-no : (b : Bool) → (b ≡ true → ⊥) → b ≡ false
-no true h = absurd (h refl)
-no false h = refl
-
-none_right : (m : Option (ℕ × ℕ)) → clash m None ≡ false
-none_right None = refl
-none_right (Some x) = refl
 
 -- a submit actor's task has no mark, or releases a batch of its queue
 data Submitters (p : Plan) (q : ℕ) : Task → Type 0 where
@@ -71,8 +63,8 @@ host_marks p q j (AwaitNeeds ns) d m h = (refl, refl)
 host_marks p q j (Submit i) d m h = (refl, refl)
 host_marks p q j (Take e t) d m h = (refl, refl)
 host_marks p q j (Release i) d m h = (
-  no (i == j) (λ e. not_both p q j d m (subst (λ (z : ℕ). is_immediate_batch p z ≡ true) (eqb-true i j e) h)),
-  no (j == i) (λ e. not_both p q j d m (subst (λ (z : ℕ). is_immediate_batch p z ≡ true) (sym (eqb-true j i e)) h)),
+  false_from_ne_true (i == j) (λ e. not_both p q j d m (subst (λ (z : ℕ). is_immediate_batch p z ≡ true) (eqb-true i j e) h)),
+  false_from_ne_true (j == i) (λ e. not_both p q j d m (subst (λ (z : ℕ). is_immediate_batch p z ≡ true) (sym (eqb-true j i e)) h)),
 )
 host_marks p q j (Bind e) d m h = (refl, refl)
 host_marks p q j (Start i) d m h = (refl, refl)
@@ -86,7 +78,7 @@ host_marks p q j (Finish i) d m h = (refl, refl)
 module _ (p : Plan) where
   host_then : (q : ℕ) (t u : Task) → is_deferred_queue p q ≡ true → is_task_of p HostActor t ≡ true →
       Submitters p q u → clash (mark t) (mark u) ≡ false
-  host_then q t u d h (unmarked x none) = ap (clash (mark t)) none ∙ none_right (mark t)
+  host_then q t u d h (unmarked x none) = ap (clash (mark t)) none ∙ clash_none (mark t)
   host_then q t u d h (releases j m) = (host_marks p q j t d m h).0
 
   then_host : (q : ℕ) (t u : Task) → is_deferred_queue p q ≡ true → Submitters p q t →
@@ -98,7 +90,7 @@ module _ (p : Plan) where
       clash (mark t) (mark u) ≡ false
   two_queues q r t u apart (unmarked x none) y = ap (λ (m : Option (ℕ × ℕ)). clash m (mark u)) none
   two_queues q r t u apart (releases j m) (unmarked x none) = ap (clash (Some (1, j))) none
-  two_queues q r t u apart (releases j m) (releases i n) = no (j == i) (λ e. apart (one_queue p q r j m
+  two_queues q r t u apart (releases j m) (releases i n) = false_from_ne_true (j == i) (λ e. apart (one_queue p q r j m
       (subst (λ (z : ℕ). of_job (λ x. same_lane (QueueLane r) x.lane) false p z ≡ true) (sym (eqb-true j i e)) n)))
 
   pub other_marks : (a b c : ActorName) → Serves p a b → Serves p a c → (b ≡ c → ⊥) → (t u : Task) →
@@ -156,7 +148,7 @@ module _ (p : Plan) (i : IsPlan p) (l : IsLawful p) (a : ActorName) (v w : View)
         let rest = and_parts (is_left v t) (list_all (is_left v) (drop ((places b).done + 1) (program p b))) left in
         let done : list_all (is_done p w) (t ∷ before) ≡ true =
         and_from (is_done p w t) (list_all (is_done p w) before) now
-        (all_more (is_done p v) (is_done p w) before (done_still p (mark t) v w keeps) old.done) in
+        (all_weaker (is_done p v) (is_done p w) before (done_still p (mark t) v w keeps) old.done) in
         let still : list_all (is_left w) (drop ((places b).done + 1) (program p b)) ≡ true =
         left_all v w (drop ((places b).done + 1) (program p b))
         (λ u m h. left_still p (mark t) v w keeps u (differ_marks t u (apart.0 u m)) h) rest.1 in
@@ -167,7 +159,7 @@ module _ (p : Plan) (i : IsPlan p) (l : IsLawful p) (a : ActorName) (v w : View)
     other c r apart =
         let old = k.served c r in
         record {
-          done = all_more (is_done p v) (is_done p w) (tasks_before p c (places c)) (done_still p (mark t) v w keeps) old.done;
+          done = all_weaker (is_done p v) (is_done p w) (tasks_before p c (places c)) (done_still p (mark t) v w keeps) old.done;
           left = left_all v w (tasks_left p c (places c)) (λ u m h. left_still p (mark t) v w keeps u
               (other_marks p a b c s r (λ e. apart (sym e)) t u
               (kind_of p b t (among_program (places b).done (program p b) t next))
@@ -192,7 +184,7 @@ module _ (p : Plan) (i : IsPlan p) (l : IsLawful p) (a : ActorName) (v w : View)
     all_still c r =
         let old = k.served c r in
         record {
-          done = all_more (is_done p v) (is_done p w) (tasks_before p c (places c)) (done_still p None v w keeps) old.done;
+          done = all_weaker (is_done p v) (is_done p w) (tasks_before p c (places c)) (done_still p None v w keeps) old.done;
           left = left_all v w (tasks_left p c (places c)) (λ u m h. left_still p None v w keeps u refl h) old.left;
         }
 

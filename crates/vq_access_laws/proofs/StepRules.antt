@@ -1,13 +1,14 @@
 -- What steps leave of the tasks that are done and of those that are left.
-use Rattle.std.proofs.Common.{◌≡◌, ℕ, Bool, true, false, not, ◌&&◌, ◌||◌, ◌==◌, List, ◌∷◌, ◌++◌, Option, Some, None, refl, sym, ap, ◌∙◌, subst, is_some, option_map, find, if◌then◌else◌}
+use Rattle.std.proofs.Common.{◌≡◌, ℕ, Bool, true, false, ◌&&◌, ◌||◌, ◌==◌, List, ◌∷◌, ◌++◌, Option, Some, None, refl, sym, ap, ◌∙◌, subst, is_some, option_map, find, if◌then◌else◌}
 use Rattle.std.specs.List.{list_any}
-use Rattle.std.proofs.lemmas.Bool.{false≢true, and_parts, and_from, eq-eqb, eqb-true, or_from, or_right}
+use Rattle.std.proofs.lemmas.Bool.{and_parts, and_from, eq-eqb, eqb-true, or_from, or_right, not-true, not_from_false, false_from_ne_true}
 use Rattle.vq_model.specs.declared.plan.Need.{Need}
 use Rattle.vq_model.specs.declared.plan.Event.TheVariants.{Submit as Submits, Release as Releases, Start as Starts, Answer as AnswersAs}
 use Rattle.vq_board_laws.specs.declared.view.Told.{Told}
 use Rattle.vq_model.specs.declared.plan.Answer.{Answer as GivenAnswer}
 use Rattle.vq_model.specs.declared.plan.Answer.TheVariants.{Reached as ReachedAnswer}
-use Rattle.vq_model.specs.Plan.{Plan, has}
+use Rattle.vq_model.specs.Plan.{Plan}
+use Rattle.vq_ground.specs.Lists.{has}
 use Rattle.vq_turns.specs.declared.task.Task.{Task}
 use Rattle.vq_turns.specs.declared.task.Task.TheVariants.{AwaitSubmitted, AwaitReleased, AwaitFinished, AwaitBound, AwaitNeeds, Submit, Take, Release, Bind, Start, Apply, Signal, Compare, Answer, Finish}
 use Rattle.vq_turn_laws.specs.Tasks.{Differ}
@@ -16,7 +17,7 @@ use Rattle.vq_board_laws.specs.declared.view.JobState.{JobState}
 use Rattle.vq_board_laws.specs.declared.view.JobState.TheVariants.{Submitted, Released, Finished}
 use Rattle.vq_board_laws.specs.declared.view.View.{View}
 use Rattle.vq_board_laws.specs.Reached.{answer_told}
-use Rattle.vq_access_laws.specs.Learning.{Grows}
+use Rattle.vq_board_laws.specs.Learning.{Grows}
 use Rattle.vq_access_laws.specs.Tests.{knows_far, knows_bound, shows_reached}
 use Rattle.vq_access_laws.specs.TrueTasks.{is_done, is_left}
 use Rattle.vq_access_laws.proofs.TestLaws.{far_more, bound_more, any_more, reached_more}
@@ -34,13 +35,9 @@ clash None m = false
 clash (Some x) None = false
 clash (Some x) (Some y) = (x.0 == y.0) && (x.1 == y.1)
 
-clash_none : (m : Option (ℕ × ℕ)) → clash m None ≡ false
+pub clash_none : (m : Option (ℕ × ℕ)) → clash m None ≡ false
 clash_none None = refl
 clash_none (Some x) = refl
-
-no_clash : (b : Bool) → (b ≡ true → ⊥) → b ≡ false
-no_clash true h = absurd (h refl)
-no_clash false h = refl
 
 -- tasks without a common event have no common mark
 pub differ_marks : (t u : Task) → Differ t u → clash (mark t) (mark u) ≡ false
@@ -54,7 +51,7 @@ differ_marks (Submit i) (AwaitReleased i2) d = refl
 differ_marks (Submit i) (AwaitFinished i2) d = refl
 differ_marks (Submit i) (AwaitBound e2) d = refl
 differ_marks (Submit i) (AwaitNeeds ns2) d = refl
-differ_marks (Submit i) (Submit i2) d = no_clash (i == i2) (λ h. d (Submits i) refl (eqb-true i i2 h))
+differ_marks (Submit i) (Submit i2) d = false_from_ne_true (i == i2) (λ h. d (Submits i) refl (eqb-true i i2 h))
 differ_marks (Submit i) (Take e2 t2) d = refl
 differ_marks (Submit i) (Release i2) d = refl
 differ_marks (Submit i) (Bind e2) d = refl
@@ -72,7 +69,7 @@ differ_marks (Release i) (AwaitBound e2) d = refl
 differ_marks (Release i) (AwaitNeeds ns2) d = refl
 differ_marks (Release i) (Submit i2) d = refl
 differ_marks (Release i) (Take e2 t2) d = refl
-differ_marks (Release i) (Release i2) d = no_clash (i == i2) (λ h. d (Releases i) refl (eqb-true i i2 h))
+differ_marks (Release i) (Release i2) d = false_from_ne_true (i == i2) (λ h. d (Releases i) refl (eqb-true i i2 h))
 differ_marks (Release i) (Bind e2) d = refl
 differ_marks (Release i) (Start i2) d = refl
 differ_marks (Release i) (Apply i2 c2) d = refl
@@ -90,7 +87,7 @@ differ_marks (Start i) (Submit i2) d = refl
 differ_marks (Start i) (Take e2 t2) d = refl
 differ_marks (Start i) (Release i2) d = refl
 differ_marks (Start i) (Bind e2) d = refl
-differ_marks (Start i) (Start i2) d = no_clash (i == i2) (λ h. d (Starts i) refl (eqb-true i i2 h))
+differ_marks (Start i) (Start i2) d = false_from_ne_true (i == i2) (λ h. d (Starts i) refl (eqb-true i i2 h))
 differ_marks (Start i) (Apply i2 c2) d = refl
 differ_marks (Start i) (Signal e2) d = refl
 differ_marks (Start i) (Compare t2 w2) d = refl
@@ -112,7 +109,7 @@ differ_marks (Answer i asks) (Start i2) d = refl
 differ_marks (Answer i asks) (Apply i2 c2) d = refl
 differ_marks (Answer i asks) (Signal e2) d = refl
 differ_marks (Answer i asks) (Compare t2 w2) d = refl
-differ_marks (Answer i asks) (Answer i2 asks2) d = no_clash (i == i2) (λ h. d (AnswersAs i ReachedAnswer) refl (eqb-true i i2 h))
+differ_marks (Answer i asks) (Answer i2 asks2) d = false_from_ne_true (i == i2) (λ h. d (AnswersAs i ReachedAnswer) refl (eqb-true i i2 h))
 differ_marks (Answer i asks) (Finish i2) d = refl
 differ_marks (Finish i) u d = refl
 
@@ -161,14 +158,6 @@ pub record KeepsLists (m : Option (ℕ × ℕ)) (v w : View) : Type 0 where
   pub begun : KeepsList 2 m (has v.begun) (has w.begun)
   pub told : KeepsList 3 m (λ j. is_some (answer_told v.told j)) (λ j. is_some (answer_told w.told j))
 
-pub not_of : (b : Bool) → b ≡ false → not b ≡ true
-not_of true h = absurd (false≢true (sym h))
-not_of false h = refl
-
-pub is_not : (b : Bool) → not b ≡ true → b ≡ false
-is_not true h = absurd (false≢true h)
-is_not false h = refl
-
 module _ (p : Plan) (m : Option (ℕ × ℕ)) (v w : View) (k : KeepsLists m v w) where
   far : (j : ℕ) (s : JobState) → knows_far v.known j s ≡ true → knows_far w.known j s ≡ true
   far j s h = subst (λ (fs : List Fact). knows_far fs j s ≡ true) (sym k.known.1) (far_more k.known.0 v.known j s h)
@@ -208,13 +197,13 @@ module _ (p : Plan) (m : Option (ℕ × ℕ)) (v w : View) (k : KeepsLists m v w
   left_still (AwaitFinished i) c h = h
   left_still (AwaitBound e) c h = h
   left_still (AwaitNeeds ns) c h = h
-  left_still (Submit i) c h = not_of (has w.submitted i) (k.submitted.come i c (is_not (has v.submitted i) h))
+  left_still (Submit i) c h = not_from_false (has w.submitted i) (k.submitted.come i c (not-true (has v.submitted i) h))
   left_still (Take e t) c h = h
-  left_still (Release i) c h = not_of (has w.released i) (k.released.come i c (is_not (has v.released i) h))
+  left_still (Release i) c h = not_from_false (has w.released i) (k.released.come i c (not-true (has v.released i) h))
   left_still (Bind e) c h = h
-  left_still (Start i) c h = not_of (has w.begun i) (k.begun.come i c (is_not (has v.begun i) h))
+  left_still (Start i) c h = not_from_false (has w.begun i) (k.begun.come i c (not-true (has v.begun i) h))
   left_still (Apply i d) c h = h
   left_still (Signal e) c h = h
   left_still (Compare t w) c h = h
-  left_still (Answer i asks) c h = not_of (is_some (answer_told w.told i)) (k.told.come i c (is_not (is_some (answer_told v.told i)) h))
+  left_still (Answer i asks) c h = not_from_false (is_some (answer_told w.told i)) (k.told.come i c (not-true (is_some (answer_told v.told i)) h))
   left_still (Finish i) c h = h

@@ -11,10 +11,11 @@ use Rattle.vq_model.specs.declared.plan.Lane.TheVariants.{Queue as QueueLane}
 use Rattle.vq_model.specs.declared.plan.Need.{Need}
 use Rattle.vq_model.specs.Checks.{is_immediate_batch}
 use Rattle.vq_model.specs.Edges.{AtEnd, awaited_at}
-use Rattle.vq_model.specs.Plan.{Plan, has, of_job, same_lane, needs, asked, waits_for_any, idle_after, commands_of, signals_of, question, is_host_step, is_silent}
-use Rattle.vq_model.proofs.Lists.{has_here, has_there}
-use Rattle.vq_model.proofs.Filters.{filter-has_cases}
-use Rattle.vq_points.specs.Points.{jobs_of_lane}
+use Rattle.vq_model.specs.Plan.{Plan, of_job, same_lane, needs, asked, waits_for_any, idle_after, commands_of, signals_of, question, is_host_step, is_silent}
+use Rattle.vq_ground.specs.Lists.{has}
+use Rattle.vq_ground.proofs.Lists.{has_here, has_there}
+use Rattle.vq_ground.proofs.Filters.{filter-has_cases}
+use Rattle.vq_point_laws.specs.Points.{jobs_of_lane}
 use Rattle.vq_turns.specs.declared.task.Task.{Task}
 use Rattle.vq_turns.specs.declared.task.Task.TheVariants.{AwaitSubmitted, AwaitReleased, AwaitFinished, AwaitBound, AwaitNeeds, Submit, Take, Release, Bind, Start, Apply, Signal, Compare, Answer, Finish}
 use Rattle.vq_turns.specs.Programs.{program, waits_where, takes, moves_batch, submits_batch, runs_command, runs_batch, host_waits, does_step, host_does}
@@ -53,7 +54,7 @@ pub all_flat : {X : Type 0} (f : Task → Bool) (g : X → List Task) (xs : List
 all_flat f g [] h = refl
 all_flat f g (x ∷ xs) h = all_join f (g x) (flat_map g xs) (h x) (all_flat f g xs h)
 
-all_jobs : (f : Task → Bool) (g : ℕ → List Task) (js : List ℕ) →
+pub all_jobs : (f : Task → Bool) (g : ℕ → List Task) (js : List ℕ) →
     ((j : ℕ) → has js j ≡ true → list_all f (g j) ≡ true) → list_all f (flat_map g js) ≡ true
 all_jobs f g [] h = refl
 all_jobs f g (j ∷ js) h =

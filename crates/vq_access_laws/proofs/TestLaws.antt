@@ -1,11 +1,12 @@
 -- Tests of what a pass knows say what it knows, and stay so as it learns.
-use Rattle.std.proofs.Common.{◌≡◌, ℕ, zero, suc, ◌≤◌, ◌⊎◌, Bool, true, false, ◌&&◌, ◌||◌, ◌==◌, List, [], ◌∷◌, ◌++◌, Some, All, refl, sym, ap, ◌∙◌, subst, arith, inl, inr, nat_le, eq-eqb, find, if◌then◌else◌}
-use Rattle.std.specs.List.{slice_get, list_any, list_all}
+use Rattle.std.proofs.Common.{◌≡◌, ℕ, zero, suc, ◌≤◌, ◌⊎◌, Bool, true, false, ◌&&◌, ◌||◌, ◌==◌, List, [], ◌∷◌, ◌++◌, Some, All, refl, sym, ap, ◌∙◌, arith, inl, inr, nat_le, eq-eqb}
+use Rattle.std.specs.List.{slice_get, list_any}
 use Rattle.std.proofs.lemmas.Bool.{false≢true, or_cases, or_left, or_right, and_parts, and_from, eqb-true, leb-true, le-leb}
 use Rattle.std.proofs.lemmas.List.Elements.{All-nil, All-cons}
+use Rattle.vq_ground.proofs.Searches.{found_in}
 use Rattle.vq_model.specs.declared.plan.Need.{Need}
-use Rattle.vq_model.specs.Plan.{Plan, has, chain, initial, value, resolver}
-use Rattle.vq_model.proofs.Lists.{has_here, has_there}
+use Rattle.vq_model.specs.Plan.{Plan, chain, initial, value, resolver}
+use Rattle.vq_ground.proofs.Lists.{any_at, any_has}
 use Rattle.vq_turn_laws.specs.Orders.{Within}
 use Rattle.vq_board_laws.specs.declared.view.Fact.{Fact}
 use Rattle.vq_board_laws.specs.declared.view.Fact.TheVariants.{Job, Taken, Bound, BoundTo, Made, Past}
@@ -85,20 +86,6 @@ taken_known (Past f ∷ fs) e h = placed_later (Past f) fs e (taken_known fs e h
 
 -- Needs
 
-pub any_has : (f : ℕ → Bool) (xs : List ℕ) → list_any f xs ≡ true → (x : ℕ) × (has xs x ≡ true) × (f x ≡ true)
-any_has f [] h = absurd (false≢true h)
-any_has f (x ∷ xs) h = elim (or_cases (f x) (list_any f xs) h) [
-  | inl t ↦ (x, has_here x xs, t)
-  | inr t ↦ let r = any_has f xs t in (r.0, has_there x xs r.0 r.1, r.2)
-]
-
-pub has_any : (f : ℕ → Bool) (xs : List ℕ) (x : ℕ) → has xs x ≡ true → f x ≡ true → list_any f xs ≡ true
-has_any f [] x m t = absurd (false≢true m)
-has_any f (y ∷ ys) x m t = elim (or_cases (y == x) (has ys x) m) [
-  | inl same ↦ or_left (f y) (list_any f ys) (ap f (eqb-true y x same) ∙ t)
-  | inr more ↦ or_right (f y) (list_any f ys) (has_any f ys x more t)
-]
-
 any_place : (f : Need → Bool) (xs : List Need) → list_any f xs ≡ true →
     (k : ℕ) × (x : Need) × (slice_get xs k ≡ Some x) × (f x ≡ true)
 any_place f [] h = absurd (false≢true h)
@@ -115,25 +102,13 @@ place_any f (y ∷ ys) zero x at t =
     or_left (f y) (list_any f ys) (ap f same ∙ t)
 place_any f (y ∷ ys) (suc k) x at t = or_right (f y) (list_any f ys) (place_any f ys k x at t)
 
--- what is found stands in the list, and passes
-pub found_first : (f : ℕ → Bool) (xs : List ℕ) (x : ℕ) → find f xs ≡ Some x → (has xs x ≡ true) × (f x ≡ true)
-found_first f [] x h = absurd (let z = h in cc)
-found_first f (y ∷ ys) x h = by_test (f y) refl h (found_first f ys x)
-  where
-    by_test : (b : Bool) → f y ≡ b → (if b then Some y else find f ys) ≡ Some x →
-        (find f ys ≡ Some x → (has ys x ≡ true) × (f x ≡ true)) → (has (y ∷ ys) x ≡ true) × (f x ≡ true)
-    by_test true t e rest =
-        let same : y ≡ x = let z = e in cc in
-        (subst (λ (z : ℕ). has (y ∷ ys) z ≡ true) same (has_here y ys), subst (λ (z : ℕ). f z ≡ true) same t)
-    by_test false t e rest = let r = rest e in (has_there y ys x r.0, r.1)
-
 module _ (p : Plan) (known : List Fact) where
   pub reached_known : (n : Need) → shows_reached p known n ≡ true → KnowsReached p known n
   reached_known n h =
       elim (or_cases (nat_le n.value (initial p n.chain)) (list_any (shows_reaching p known n) (chain p n.chain)) h) [
         | inl t ↦ inl (leb-true n.value (initial p n.chain) t)
         | inr t ↦
-            let r = any_has (shows_reaching p known n) (chain p n.chain) t in
+            let r = any_at (shows_reaching p known n) (chain p n.chain) t in
             let q = and_parts (nat_le n.value (value p r.0)) (shows_made known r.0) r.2 in
             inr record {
               op = r.0;
@@ -162,9 +137,9 @@ module _ (p : Plan) (known : List Fact) where
   pub resolver_reached : (n : Need) (e : ℕ) → resolver p n.chain n.value ≡ Some e → shows_made known e ≡ true →
       shows_reached p known n ≡ true
   resolver_reached n e resolves made =
-      let f = found_first (λ x. nat_le n.value (value p x)) (chain p n.chain) e resolves in
+      let f = found_in (λ x. nat_le n.value (value p x)) (chain p n.chain) e resolves in
       or_right (nat_le n.value (initial p n.chain)) (list_any (shows_reaching p known n) (chain p n.chain))
-      (has_any (shows_reaching p known n) (chain p n.chain) e f.0
+      (any_has (shows_reaching p known n) (chain p n.chain) e f.0
       (and_from (nat_le n.value (value p e)) (shows_made known e) f.1 made))
 
 -- More is known
@@ -206,13 +181,6 @@ any_more f g (x ∷ xs) up h = elim (or_cases (f x) (list_any f xs) h) [
   | inl t ↦ or_left (g x) (list_any g xs) (up x t)
   | inr t ↦ or_right (g x) (list_any g xs) (any_more f g xs up t)
 ]
-
-pub all_more : {A : Type 0} (f g : A → Bool) (xs : List A) → ((x : A) → f x ≡ true → g x ≡ true) →
-    list_all f xs ≡ true → list_all g xs ≡ true
-all_more f g [] up h = h
-all_more f g (x ∷ xs) up h =
-    let q = and_parts (f x) (list_all f xs) h in
-    and_from (g x) (list_all g xs) (up x q.0) (all_more f g xs up q.1)
 
 pub reached_more : (p : Plan) (front fs : List Fact) (n : Need) → shows_reached p fs n ≡ true →
     shows_reached p (front ++ fs) n ≡ true

@@ -2,6 +2,7 @@
 use Rattle.std.proofs.Common.{◌≡◌, ℕ, ◌<◌, ◌≤◌, true, false, List, ◌∷◌, Some, None, length, refl, sym, subst}
 use Rattle.std.specs.List.{slice_get, list_any}
 use Rattle.std.proofs.lemmas.Bool.{false≢true}
+use Rattle.vq_board_laws.proofs.Cited.{learns_look}
 use Rattle.vq_model.specs.Checks.{IsLawful}
 use Rattle.vq_model.specs.LoweringFaults.{IsPlan}
 use Rattle.vq_model.specs.declared.plan.Lane.TheVariants.{Host as HostLane, Queue as QueueLane}
@@ -11,7 +12,7 @@ use Rattle.vq_model.specs.declared.script.ActorName.TheVariants.{Host as HostAct
 use Rattle.vq_model.specs.declared.script.ActorName.TheVariants.{Ring as RingActor}
 use Rattle.vq_model.specs.Outputs.{asking}
 use Rattle.vq_model.specs.Plan.{Plan}
-use Rattle.vq_points.specs.PointWord.{parts}
+use Rattle.vq_point_laws.specs.PointWord.{parts}
 use Rattle.vq_turns.specs.declared.look.Holding.{Holding}
 use Rattle.vq_turns.specs.declared.task.Task.TheVariants.{AwaitNeeds}
 use Rattle.vq_turns.specs.Programs.{program}
@@ -24,13 +25,13 @@ use Rattle.vq_board_laws.specs.Points.{reference, Lists}
 use Rattle.vq_board_laws.specs.PointSteps.{sees, refers, unrefers}
 use Rattle.vq_board_laws.specs.Roles.{role_number}
 use Rattle.vq_board_laws.specs.Words.{Carries}
-use Rattle.vq_access_laws.specs.Learning.{Learns}
+use Rattle.vq_board_laws.specs.Learning.{Learns}
 use Rattle.vq_access_laws.specs.Tests.{shows_reached}
 use Rattle.vq_access_laws.specs.TruePasses.{AreTrue, Moves, is_for, role_of_actor}
 use Rattle.vq_access_laws.proofs.Guards.{kind, role, runner_own}
 use Rattle.vq_access_laws.proofs.HeldLists.{held_one}
 use Rattle.vq_access_laws.proofs.OwnRules.{learned_own, learned_lists, learned_role, learned_told}
-use Rattle.vq_access_laws.proofs.PlainSteps.{true_learned, learns_point}
+use Rattle.vq_access_laws.proofs.PlainSteps.{true_learned}
 use Rattle.vq_access_laws.proofs.TaskKinds.{is_task_of}
 use Rattle.vq_access_laws.proofs.WaitSteps.{own_held, own_first, own_room, own_past, own_met, own_referred, own_given_back, held_reached, seen_made, here}
 
@@ -84,7 +85,7 @@ module _ (p : Plan) (i : IsPlan p) (l : IsLawful p) (a : ActorName) (v : View) (
         let at2 = subst (λ (c : ActorName). held_for n (places c).holding ≡ Some (record { need = n; point = q; op = e })) own at in
         let h = here p i l a v places k ns next_own in
         own_met p i l a v places k ns next_own after (sees v q m)
-        (learned_own v (sees v q m) (learns_point v q m)) refl k.told (learned_lists v (sees v q m) (learns_point v q m) None)
+        (learned_own v (sees v q m) (learns_look v q m)) refl k.told (learned_lists v (sees v q m) (learns_look v q m) None)
         (held_reached p (sees v q m).known ns (record { need = n; point = q; op = e })
         (held_one (is_for p ns) n (places a).holding (record { need = n; point = q; op = e }) at2 h.holds.for_needs).0
         (seen_made v q m e carries signaled))
@@ -99,7 +100,7 @@ module _ (p : Plan) (i : IsPlan p) (l : IsLawful p) (a : ActorName) (v : View) (
       AreTrue p a (refers (sees v q m) q e m) after
   true_referred n q e m t none moves =
       let is = own p i l a v places k b s ns next in
-      own_referred p i l a (sees v q m) places (true_learned p i l a v places k (sees v q m) (learns_point v q m)) ns
+      own_referred p i l a (sees v q m) places (true_learned p i l a v places k (sees v q m) (learns_look v q m)) ns
       (next_own p i l a v places k b s ns next) after n q e m t
       (subst (λ (c : ActorName). held_for n (places c).holding ≡ None) is none)
       (subst (λ (c : ActorName). Moves places c (holding_also (places c) n e q) after) is moves)
@@ -109,7 +110,7 @@ module _ (p : Plan) (i : IsPlan p) (l : IsLawful p) (a : ActorName) (v : View) (
       Moves places b (given_back (places b) (places b).holding) after → AreTrue p a (unrefers (sees v q m) q e m) after
   true_given_back n q e m rest met is moves =
       let mine = own p i l a v places k b s ns next in
-      own_given_back p i l a (sees v q m) places (true_learned p i l a v places k (sees v q m) (learns_point v q m)) ns
+      own_given_back p i l a (sees v q m) places (true_learned p i l a v places k (sees v q m) (learns_look v q m)) ns
       (next_own p i l a v places k b s ns next) after (record { need = n; point = q; op = e }) rest m
       (subst (λ (c : ActorName). (places c).met ≡ true) mine met)
       (subst (λ (c : ActorName). (places c).holding ≡ record { need = n; point = q; op = e } ∷ rest) mine is)

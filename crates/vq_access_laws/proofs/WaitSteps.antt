@@ -9,8 +9,9 @@ use Rattle.vq_model.specs.LoweringFaults.{IsPlan}
 use Rattle.vq_model.specs.declared.plan.Need.{Need}
 use Rattle.vq_model.specs.declared.script.ActorName.{ActorName}
 use Rattle.vq_model.specs.Outputs.{asking}
-use Rattle.vq_model.specs.Plan.{Plan, has, initial, resolver}
-use Rattle.vq_points.specs.PointWord.{parts}
+use Rattle.vq_model.specs.Plan.{Plan, initial, resolver}
+use Rattle.vq_ground.specs.Lists.{has}
+use Rattle.vq_point_laws.specs.PointWord.{parts}
 use Rattle.vq_turns.specs.declared.look.Holding.{Holding}
 use Rattle.vq_turns.specs.declared.task.Task.{Task}
 use Rattle.vq_turns.specs.declared.task.Task.TheVariants.{AwaitNeeds}
@@ -30,7 +31,7 @@ use Rattle.vq_board_laws.specs.PointSteps.{sees, refers, unrefers, without, reca
 use Rattle.vq_board_laws.specs.Reached.{answer_told}
 use Rattle.vq_board_laws.specs.Words.{Carries}
 use Rattle.vq_board.specs.Firsts.{shows_made}
-use Rattle.vq_access_laws.specs.Learning.{Grows}
+use Rattle.vq_board_laws.specs.Learning.{Grows}
 use Rattle.vq_access_laws.specs.Tests.{shows_reached, knows_taken}
 use Rattle.vq_access_laws.specs.TruePasses.{AreTrue, IsOwn, Moves, are_told_once, is_for, is_to, holds_to, are_rising, tasks_before, tasks_left}
 use Rattle.vq_access_laws.proofs.Guards.{role}

@@ -2,11 +2,11 @@
 -- lists; an event by the last steps of its pass. This project's own.
 use Rattle.std.specs.Prelude.{ℕ, ◌≡◌, ◌≢◌, ◌<◌, ◌≤◌, ◌+◌, ◌⊎◌, suc, min, Bool, true, false, List, [], ◌∷◌, length}
 use Rattle.std.specs.Prelude.{Option, Some, None}
-use Rattle.vq_model.specs.Plan.{has}
+use Rattle.vq_ground.specs.Lists.{has}
 use Rattle.vq_model.specs.declared.plan.Event.{Event}
 use Rattle.vq_model.specs.declared.plan.Event.TheVariants.{Submit, Release, Start, Apply, Signal, Finish, Answer}
 use Rattle.vq_model.specs.declared.plan.Event.TheVariants.{Refer, Look, Unref}
-use Rattle.vq_points.specs.PointWord.{parts}
+use Rattle.vq_point_laws.specs.PointWord.{parts}
 use Rattle.vq_turns.specs.declared.outcome.Want.{Want}
 use Rattle.vq_turns.specs.declared.outcome.Want.TheVariants.{Submitted, Released, Bound, Next, Signaled, Finished}
 use Rattle.vq_turns.specs.declared.outcome.Want.TheVariants.{MemoryTurn, Exchange, Listed}

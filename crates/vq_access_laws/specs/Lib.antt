@@ -1,7 +1,6 @@
 pub mod Tests
 pub mod TrueTasks
 pub mod TruePasses
-pub mod Learning
 pub mod Premises
 pub mod Causes
 pub mod AccessMeanings

@@ -11,7 +11,8 @@ use Rattle.vq_model.specs.declared.script.ActorName.TheVariants.{Ring as RingAct
 use Rattle.vq_model.specs.declared.plan.Lane.TheVariants.{Queue as QueueLane}
 use Rattle.vq_model.specs.declared.plan.Need.{Need}
 use Rattle.vq_model.specs.Outputs.{asking}
-use Rattle.vq_model.specs.Plan.{Plan, has, resolver}
+use Rattle.vq_model.specs.Plan.{Plan, resolver}
+use Rattle.vq_ground.specs.Lists.{has}
 use Rattle.vq_turns.specs.declared.look.Holding.{Holding}
 use Rattle.vq_turns.specs.declared.task.Task.{Task}
 use Rattle.vq_turns.specs.Programs.{program}

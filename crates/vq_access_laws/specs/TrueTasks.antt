@@ -1,7 +1,8 @@
 -- What a pass says of a task of a program that its steps do: that it is done, or that it is left. This project's own.
 use Rattle.std.specs.Prelude.{◌&&◌, not, is_some, Bool, true}
 use Rattle.std.specs.List.{list_any}
-use Rattle.vq_model.specs.Plan.{Plan, has}
+use Rattle.vq_model.specs.Plan.{Plan}
+use Rattle.vq_ground.specs.Lists.{has}
 use Rattle.vq_turns.specs.declared.task.Task.{Task}
 use Rattle.vq_turns.specs.declared.task.Task.TheVariants.{AwaitSubmitted, AwaitReleased, AwaitFinished, AwaitBound}
 use Rattle.vq_turns.specs.declared.task.Task.TheVariants.{AwaitNeeds, Submit, Release, Start, Answer, Finish}

@@ -1,7 +1,7 @@
 -- Three timelines in a list.
 use Rattle.std.proofs.Common.{◌≡◌, ℕ, zero, suc, [], ◌∷◌, Some, length, sym, subst}
 use Rattle.std.specs.List.{slice_get}
-use Rattle.vq_model.proofs.Options.{same_some}
+use Rattle.std.proofs.lemmas.Option.{same_Some}
 use Rattle.vq_board.specs.declared.parts.Board.{Board}
 use Rattle.vq_board.specs.Named.{plan_of}
 use Rattle.vq_timeline.specs.declared.timeline.LockedTimeline.{LockedTimeline}
@@ -15,7 +15,7 @@ pub three_are : (b : Board) (x y z : LockedTimeline) → length (plan_of b).chai
 three_are b x y z count first second third = record { count = sym count; each = at_place }
   where
     at_place : (n : ℕ) (w : LockedTimeline) → slice_get (x ∷ y ∷ z ∷ []) n ≡ Some w → IsAt b w × (chain_at w ≡ n)
-    at_place zero w at = subst (λ (v : LockedTimeline). IsTimelineOf b 0 v) (same_some x w at) first
-    at_place (suc zero) w at = subst (λ (v : LockedTimeline). IsTimelineOf b 1 v) (same_some y w at) second
-    at_place (suc (suc zero)) w at = subst (λ (v : LockedTimeline). IsTimelineOf b 2 v) (same_some z w at) third
+    at_place zero w at = subst (λ (v : LockedTimeline). IsTimelineOf b 0 v) (same_Some x w at) first
+    at_place (suc zero) w at = subst (λ (v : LockedTimeline). IsTimelineOf b 1 v) (same_Some y w at) second
+    at_place (suc (suc zero)) w at = subst (λ (v : LockedTimeline). IsTimelineOf b 2 v) (same_Some z w at) third
     at_place (suc (suc (suc n))) w at = absurd (cc)

@@ -5,7 +5,7 @@ use Rattle.vq_board.specs.declared.parts.Board.{Board}
 use Rattle.vq_board.specs.Named.{plan_of}
 use Rattle.vq_timeline.specs.declared.timeline.LockedTimeline.{LockedTimeline}
 use Rattle.vq_timeline.specs.Named.{IsAt, chain_at}
-use Rattle.vq_rooms.specs.Rooming.{Room, IsRoomOf}
+use Rattle.vq_board_run.specs.Rooming.{Room, IsRoomOf}
 
 -- the room is of the board, and of one of its plan's actors
 abbrev pub IsPlaced : Board → Room → Type 0

@@ -10,10 +10,10 @@ use std::alloc::Global;
 use vq_access::{Grounds, Lists};
 use vq_actor::{Company, queue_count};
 use vq_board::{Board, Pass, Role};
+use vq_board_run::AccessRoom;
 use vq_board_stage::passes::dealt;
 use vq_model::script::ActorName;
 use vq_order::Ordered;
-use vq_rooms::AccessRoom;
 use vq_turns::outcome::Outcome;
 
 /// The room of the host.

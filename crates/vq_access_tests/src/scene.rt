@@ -15,10 +15,10 @@ use std::thread::Threads;
 use vq_access::{Grounds, Lists, Trying, Waiting};
 use vq_actor::Company;
 use vq_board::{Board, Pass, Passes, Role};
+use vq_board_run::AccessRoom;
 use vq_board_stage::passes::{board_of, dealt};
 use vq_board_stage::plans::checked;
 use vq_order::Ordered;
-use vq_rooms::AccessRoom;
 use vq_timeline::LockedTimeline;
 
 /// P signals T three times; Q and the deferred queue D wait for the first signal; the deferred queue E signals A and B.

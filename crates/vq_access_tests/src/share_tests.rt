@@ -2,7 +2,7 @@
 use std::alloc::Global;
 use vq_board_stage::plans::checked;
 use vq_model::plan::Answer;
-use vq_share::{Look, Player, Shut, share};
+use vq_shared_run::{Look, Player, Shut, share};
 use vq_turns::outcome::Outcome;
 
 /// A deferred queue fills and signals, a threaded one waits and copies, and the host waits and reads.

@@ -9,8 +9,8 @@ use crate::rooms::turn_at;
 use std::sync::Wait;
 use vq_access::{Grounds, Lists};
 use vq_actor::Company;
+use vq_board_run::AccessRoom;
 use vq_model::plan::Event;
-use vq_rooms::AccessRoom;
 use vq_timeline::LockedTimeline;
 use vq_turns::outcome::{Outcome, Want};
 

@@ -4,6 +4,7 @@ use Rattle.std.proofs.Common.{All, length, drop, Some, refl, sym, ap, subst, ari
 use Rattle.std.specs.List.{slice_get}
 use Rattle.std.proofs.lemmas.List.Sums.{sum_by-cons}
 use Rattle.std.proofs.lemmas.Option.{slice_get_within}
+use Rattle.vq_ground.proofs.Gets.{all_at}
 use Rattle.vq_model.specs.declared.plan.Need.{Need}
 use Rattle.vq_turns.specs.declared.look.Holding.{Holding}
 use Rattle.vq_turns.specs.declared.task.Task.{Task}
@@ -13,7 +14,7 @@ use Rattle.vq_actor.specs.Answers.{answered}
 use Rattle.vq_actor.specs.Waits.{met_at, looked_at, given_back}
 use Rattle.vq_actor.specs.Positions.{HasRoom, is_compare, compares}
 use Rattle.vq_actor.specs.Trackers.{Tracked, FitsIn}
-use Rattle.vq_actor.proofs.TurnSteps.{all_at, drop_at}
+use Rattle.vq_actor.proofs.TurnSteps.{drop_at}
 
 -- how many comparisons are left, before and after a task
 compares_at : (tasks : List Task) (k : ℕ) (t : Task) → slice_get tasks k ≡ Some t →

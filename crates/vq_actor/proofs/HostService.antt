@@ -16,7 +16,7 @@ use Rattle.vq_model.specs.declared.script.Queue.{Queue}
 use Rattle.vq_model.specs.Context.{is_threaded, is_deferred}
 use Rattle.vq_model.specs.ValidScripts.{is_threaded_queue}
 use Rattle.vq_model.specs.Plan.{Plan}
-use Rattle.vq_points.specs.Points.{PointState}
+use Rattle.vq_point_laws.specs.Points.{PointState}
 use Rattle.vq_turns.specs.declared.outcome.Want.{Want}
 use Rattle.vq_turns.specs.declared.outcome.Outcome.{Outcome}
 use Rattle.vq_turns.specs.declared.outcome.Outcome.TheVariants.{Moved, Blocked, Ended}
@@ -81,7 +81,7 @@ member_name p name n xs q x h within is =
 
 -- Deferred queues
 
-deferred_within : (p : Plan) (q : ℕ) → is_deferred_queue p q ≡ true → q < length p.script.queues
+pub deferred_within : (p : Plan) (q : ℕ) → is_deferred_queue p q ≡ true → q < length p.script.queues
 deferred_within p q d = by_queue (slice_get p.script.queues q) refl d
   where
     by_queue : (o : Option Queue) → slice_get p.script.queues q ≡ o →
@@ -118,10 +118,10 @@ one_served p k w d =
 
 -- Scenes
 
-put_here : (f : ℕ → Place) (q k : ℕ) (y : Place) → k ≡ q → put_place f q y k ≡ y
+pub put_here : (f : ℕ → Place) (q k : ℕ) (y : Place) → k ≡ q → put_place f q y k ≡ y
 put_here f q k y e = cond-true (k == q) y (f k) (eq-eqb k q e)
 
-put_there : (f : ℕ → Place) (q k : ℕ) (y : Place) → (k ≡ q → ⊥) → put_place f q y k ≡ f k
+pub put_there : (f : ℕ → Place) (q k : ℕ) (y : Place) → (k ≡ q → ⊥) → put_place f q y k ≡ f k
 put_there f q k y e = cond-false (k == q) y (f k) (ne_eqb k q e)
 
 -- the places of all but some actors stay

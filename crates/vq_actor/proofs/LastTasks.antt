@@ -10,7 +10,7 @@ use Rattle.vq_model.specs.declared.script.ActorName.TheVariants.{Ring as RingAct
 use Rattle.vq_model.specs.Checks.{is_immediate_batch}
 use Rattle.vq_model.specs.Edges.{AtEnd, awaited_at}
 use Rattle.vq_model.specs.Plan.{Plan, asked, commands_of, idle_after, is_host_step, is_silent, question, signals_of}
-use Rattle.vq_points.specs.Points.{jobs_of_lane}
+use Rattle.vq_point_laws.specs.Points.{jobs_of_lane}
 use Rattle.vq_turns.specs.declared.task.Task.{Task}
 use Rattle.vq_turns.specs.declared.task.Task.TheVariants.{AwaitSubmitted, AwaitReleased, AwaitFinished, AwaitBound}
 use Rattle.vq_turns.specs.declared.task.Task.TheVariants.{Submit, Release, Bind, Start, Signal, Compare, Answer, Finish}

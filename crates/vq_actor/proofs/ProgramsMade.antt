@@ -1,5 +1,5 @@
 -- Programs as they are made, part after part.
-use Rattle.std.proofs.Common.{◌≡◌, ℕ, zero, suc, ◌+◌, ◌<◌, Bool, true, false, if◌then◌else◌, List, [], ◌∷◌, ◌++◌}
+use Rattle.std.proofs.Common.{◌≡◌, ℕ, suc, ◌+◌, ◌<◌, Bool, true, false, if◌then◌else◌, List, [], ◌∷◌, ◌++◌}
 use Rattle.std.proofs.Common.{length, map}
 use Rattle.std.proofs.Common.{filter, take, Option, Some, None, All, refl, sym, ap, ◌∙◌, arith, append_assoc}
 use Rattle.std.proofs.Common.{append-nil, option_map}
@@ -8,17 +8,18 @@ use Rattle.std.specs.Option.{option_map_or}
 use Rattle.std.proofs.lemmas.List.Elements.{filter-append, All-nil, All-cons}
 use Rattle.std.proofs.lemmas.Grind.{flat_map-append}
 use Rattle.std.proofs.Math.Seq.{take-length}
-use Rattle.vq_model.proofs.Gets.{get-enumerate, get_within}
-use Rattle.vq_model.proofs.Lists.{has_here, has_there}
+use Rattle.vq_ground.proofs.Gets.{get-enumerate, get_within, take_push}
+use Rattle.vq_ground.proofs.Lists.{has_here, has_there}
 use Rattle.vq_model.specs.WellFormed.{IsWellFormed}
 use Rattle.vq_model.specs.declared.plan.Op.{Op}
 use Rattle.vq_model.specs.declared.plan.Question.{Question}
 use Rattle.vq_model.specs.declared.plan.Question.TheVariants.{Silent}
 use Rattle.vq_model.specs.declared.plan.Need.{Need}
 use Rattle.vq_model.specs.declared.plan.PlanJob.{PlanJob}
-use Rattle.vq_model.specs.Plan.{Plan, has, needs, commands_of, signals_of, chain_of, idle_after, asked}
+use Rattle.vq_model.specs.Plan.{Plan, needs, commands_of, signals_of, chain_of, idle_after, asked}
+use Rattle.vq_ground.specs.Lists.{has}
 use Rattle.vq_model.specs.Plan.{is_silent}
-use Rattle.vq_model.proofs.Numbers.{range_more}
+use Rattle.vq_ground.proofs.Numbers.{range_more}
 use Rattle.vq_turns.specs.declared.task.Task.{Task}
 use Rattle.vq_turns.specs.declared.task.Task.TheVariants.{AwaitReleased, AwaitFinished, AwaitNeeds, Start, Apply}
 use Rattle.vq_turns.specs.declared.task.Task.TheVariants.{Signal, Finish, Take, Bind, Compare, Answer}
@@ -32,16 +33,6 @@ use Rattle.vq_actor.specs.ProgramParts.{is_within, wait_where}
 -- a part is added, and then another one
 pub both : {A : Type 0} (s t u xs ys : List A) → t ≡ s ++ xs → u ≡ t ++ ys → u ≡ s ++ (xs ++ ys)
 both s t u xs ys e f = f ∙ (ap (λ zs. zs ++ ys) e ∙ append_assoc s xs ys)
-
-taken : {A : Type 0} (xs : List A) (k : ℕ) (x : A) → slice_get xs k ≡ Some x →
-    take (suc k) xs ≡ take k xs ++ x ∷ []
-taken [] k x e = absurd (cc)
-taken (y ∷ xs) zero x e = cc
-taken (y ∷ xs) (suc k) x e = ap (λ ys. y ∷ ys) (taken xs k x e)
-
-pub take_push : {A : Type 0} (xs : List A) (k : ℕ) (x : A) → slice_get xs k ≡ Some x →
-    take (k + 1) xs ≡ take k xs ++ x ∷ []
-take_push xs k x e = let f : k + 1 ≡ suc k = omega arith in ap (λ (i : ℕ). take i xs) f ∙ taken xs k x e
 
 pub flat_map_one : {A B : Type 0} (f : A → List B) (x : A) → flat_map f (x ∷ []) ≡ f x
 flat_map_one f x = append-nil (f x)

@@ -7,9 +7,10 @@ use Rattle.std.specs.List.{slice_get, list_all, list_any}
 use Rattle.std.proofs.lemmas.Bool.{and_parts, or_left, or_right, or_cases, false≢true, leb-true, le-leb, lt-leb}
 use Rattle.std.proofs.lemmas.Bool.{cases_lt}
 use Rattle.std.proofs.lemmas.List.Elements.{All-nil, All-cons}
-use Rattle.vq_model.proofs.Lists.{has_cases}
+use Rattle.vq_ground.proofs.Lists.{has_cases}
 use Rattle.vq_model.specs.declared.plan.Need.{Need}
-use Rattle.vq_model.specs.Plan.{Plan, has, chain, value, initial, resolver, needs, waits_for_any}
+use Rattle.vq_model.specs.Plan.{Plan, chain, value, initial, resolver, needs, waits_for_any}
+use Rattle.vq_ground.specs.Lists.{has}
 use Rattle.vq_model.specs.Edges.{AtEnd}
 use Rattle.vq_model.specs.Machine.{are_reached, is_reached, can_start}
 use Rattle.vq_model.specs.SlowRun.{left_over, is_ready, payload_after, is_of, greatest}

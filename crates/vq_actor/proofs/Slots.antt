@@ -17,9 +17,6 @@ Slots = List (Option Held)
 abbrev found : Option Held → Option (Option Held)
 found o = Some o
 
-same_number : (a b : ℕ) → a ≡ b → (a == b) ≡ true
-same_number a b h = eq-eqb a b h
-
 other_number : (a b : ℕ) → (a ≡ b → ⊥) → (a == b) ≡ false
 other_number a b h = ne_eqb a b h
 
@@ -39,7 +36,7 @@ held_at (None ∷ xs) a zero h e = absurd (cc)
 held_at (Some x ∷ xs) a zero h e =
     let same : x ≡ h = cc in
     let at : a + 0 ≡ a = omega arith in
-    let is : (a == a + 0) ≡ true = same_number a (a + 0) (omega arith) in
+    let is : (a == a + 0) ≡ true = eq-eqb a (a + 0) (omega arith) in
     ap (λ b. if b then Some (holding_of a x) else held_for (a + 0) (holding_from (a + 1) xs)) is
     ∙ (ap (λ (y : Held). Some (holding_of a y)) same ∙ ap (λ (k : ℕ). Some (holding_of k h)) (sym at))
 held_at (None ∷ xs) a (suc i) h e =

@@ -2,7 +2,7 @@
 use Rattle.std.proofs.Common.{◌≡◌, ℕ, append-nil, Option, Some, None, Result, Ok, Err, refl, sym, subst, ap, ◌∙◌, ◌∷◌, []}
 use Rattle.std.specs.Option.{option_map_or}
 use Rattle.vq_model.specs.declared.plan.Event.{Event}
-use Rattle.vq_points.specs.Points.{PointState, after_event}
+use Rattle.vq_point_laws.specs.Points.{PointState, after_event}
 use Rattle.vq_turns.specs.declared.task.Task.TheVariants.{Take}
 use Rattle.vq_turns.specs.declared.outcome.Want.{Want}
 use Rattle.vq_turns.specs.declared.outcome.Outcome.{Outcome}

@@ -1,10 +1,10 @@
 -- A turn, task by task.
-use Rattle.std.proofs.Common.{◌≡◌, ℕ, zero, suc, ◌+◌, ◌<◌, ◌≤◌, List, [], ◌∷◌, length, drop, get_or, All, Some, None}
-use Rattle.std.proofs.Common.{refl, sym, ap, subst, ◌∙◌, arith, append-nil}
+use Rattle.std.proofs.Common.{◌≡◌, ℕ, zero, suc, ◌+◌, ◌≤◌, List, [], ◌∷◌, length, drop, Some}
+use Rattle.std.proofs.Common.{refl, sym, ap, ◌∙◌, arith, append-nil}
 use Rattle.std.specs.List.{slice_get}
 use Rattle.std.proofs.lemmas.List.{drop_all}
-use Rattle.std.proofs.lemmas.List.Elements.{All-head, All-tail}
-use Rattle.vq_points.specs.Points.{PointState}
+use Rattle.std.proofs.lemmas.Option.{slice_get_past}
+use Rattle.vq_point_laws.specs.Points.{PointState}
 use Rattle.vq_turns.specs.declared.task.Task.{Task}
 use Rattle.vq_turns.specs.declared.outcome.Outcome.{Outcome}
 use Rattle.vq_turns.specs.declared.outcome.Outcome.TheVariants.{Moved, Blocked, Ended}
@@ -23,21 +23,6 @@ pub drop_at : {A : Type 0} (xs : List A) (k : ℕ) (x : A) → slice_get xs k �
 drop_at [] k x e = absurd (cc)
 drop_at (y ∷ xs) zero x e = cc
 drop_at (y ∷ xs) (suc k) x e = drop_at xs k x e
-
-none_at : {A : Type 0} (xs : List A) (k : ℕ) → length xs ≤ k → slice_get xs k ≡ None
-none_at [] k le = refl
-none_at (x ∷ xs) zero le = absurd (omega arith)
-none_at (x ∷ xs) (suc k) le = none_at xs k (omega arith)
-
-pub at_index : {A : Type 0} (xs : List A) (k : ℕ) (d : A) → k < length xs → d ≡ get_or xs k d → slice_get xs k ≡ Some d
-at_index [] k d le e = absurd (omega arith)
-at_index (x ∷ xs) zero d le e = ap Some (sym e)
-at_index (x ∷ xs) (suc k) d le e = at_index xs k d (omega arith) e
-
-pub all_at : {A : Type 0} (P : A → Type 0) (xs : List A) (k : ℕ) (x : A) → All P xs → slice_get xs k ≡ Some x → P x
-all_at P [] k x h e = absurd (cc)
-all_at P (y ∷ xs) zero x h e = let same : y ≡ x = cc in subst P same (All-head P y xs h)
-all_at P (y ∷ xs) (suc k) x h e = all_at P xs k x (All-tail P y xs h) e
 
 -- Steps
 
@@ -127,5 +112,5 @@ is_over a m tasks shows k past e h =
       );
       made = λ event x. absurd (cc);
       shown = λ want x. absurd (cc);
-      ended = λ x. next_at a m tasks k e h ∙ none_at tasks k past;
+      ended = λ x. next_at a m tasks k e h ∙ slice_get_past tasks k past;
     }

@@ -9,7 +9,7 @@ use Rattle.vq_model.specs.declared.plan.Event.{Event}
 use Rattle.vq_model.specs.declared.plan.Event.TheVariants.{Bind as Binds}
 use Rattle.vq_model.specs.declared.plan.Question.{Question}
 use Rattle.vq_model.specs.Plan.{Plan}
-use Rattle.vq_points.specs.Points.{PointState, after_event}
+use Rattle.vq_point_laws.specs.Points.{PointState, after_event}
 use Rattle.vq_turns.specs.declared.task.Task.TheVariants.{Answer as AnswerTask}
 use Rattle.vq_turns.specs.declared.outcome.Want.{Want}
 use Rattle.vq_turns.specs.declared.outcome.Want.TheVariants.{Next, Bound, Signaled}

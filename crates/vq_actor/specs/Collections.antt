@@ -4,8 +4,9 @@ use Rattle.std.specs.Prelude.{ℕ, ◌≡◌, true, Option, Some, None}
 use Rattle.std.specs.Option.{option_to_list}
 use Rattle.vq_model.specs.declared.plan.Event.{Event}
 use Rattle.vq_model.specs.declared.plan.Event.TheVariants.{Take as Takes, Complete, Free}
-use Rattle.vq_model.specs.Plan.{Plan, has, chain}
-use Rattle.vq_points.specs.Points.{PointState, after_event}
+use Rattle.vq_model.specs.Plan.{Plan, chain}
+use Rattle.vq_ground.specs.Lists.{has}
+use Rattle.vq_point_laws.specs.Points.{PointState, after_event}
 use Rattle.vq_turns.specs.declared.task.Task.{Task}
 use Rattle.vq_turns.specs.declared.task.Task.TheVariants.{Take, Compare}
 use Rattle.vq_turns.specs.Turns.{seeing, collected, past_value}

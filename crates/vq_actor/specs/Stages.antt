@@ -5,7 +5,7 @@ use Rattle.vq_model.specs.declared.script.ActorName.{ActorName}
 use Rattle.vq_model.specs.declared.script.ActorName.TheVariants.{Host as HostActor, Submit as SubmitActor}
 use Rattle.vq_model.specs.declared.script.ActorName.TheVariants.{Ring as RingActor}
 use Rattle.vq_model.specs.Plan.{Plan}
-use Rattle.vq_points.specs.Points.{PointState}
+use Rattle.vq_point_laws.specs.Points.{PointState}
 use Rattle.vq_turns.specs.declared.outcome.Want.{Want}
 use Rattle.vq_turns.specs.declared.outcome.Outcome.{Outcome}
 use Rattle.vq_turns.specs.declared.outcome.Outcome.TheVariants.{Moved, Blocked, Ended}

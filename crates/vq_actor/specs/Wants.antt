@@ -1,7 +1,8 @@
 -- The wants for which each call may make no event. This project's own.
 use Rattle.std.specs.Prelude.{ℕ, ◌≡◌, true, List, Some}
-use Rattle.vq_model.specs.Plan.{Plan, has, chain_of, job_of}
-use Rattle.vq_points.specs.Points.{smaller_ops}
+use Rattle.vq_model.specs.Plan.{Plan, chain_of, job_of}
+use Rattle.vq_ground.specs.Lists.{has}
+use Rattle.vq_point_laws.specs.Points.{smaller_ops}
 use Rattle.vq_turns.specs.declared.outcome.Want.{Want}
 use Rattle.vq_turns.specs.declared.outcome.Want.TheVariants.{Next, Released, Exchange, Listed}
 

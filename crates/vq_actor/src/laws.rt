@@ -2,7 +2,7 @@
 ghost use Rattle.std.specs.Prelude.{◌≡◌, []};
 ghost use Rattle.vq_model.specs.Plan.{Plan};
 ghost use Rattle.vq_model.specs.declared.script.ActorName.{ActorName};
-ghost use Rattle.vq_points.specs.Points.{PointState};
+ghost use Rattle.vq_point_laws.specs.Points.{PointState};
 ghost use Rattle.vq_turns.specs.Programs.{deferred_queues};
 ghost use Rattle.vq_turns.specs.Turns.{HostPlace, host_turn, turn_of};
 

@@ -1,96 +1,16 @@
 -- A text is cut at one place.
 use Rattle.std.proofs.Common.{◌≡◌, ℕ, ◌<◌, ◌≤◌, Bool, true, false, cond, eqb, List, [], ◌∷◌, ◌++◌, length, map, refl, sym, ap, ◌∙◌, subst, arith, append_assoc}
+use Rattle.vq_trace.proofs.Cited.{HasFirst, split_has_first, lines_after, lines_whole, line_first}
 use native.Mathlib.Decide.{dec_le}
 use Rattle.std.specs.Prelude.{not}
 use Rattle.std.specs.List.{list_all, slice_split, onto_first}
 use Rattle.std.specs.Str.Lines.{strip_carriage_return}
 use Rattle.std.proofs.lemmas.Bool.{and_parts, true≢false}
 use Rattle.std.proofs.lemmas.Bool.Decides.{nat_tests}
-use Rattle.std.proofs.lemmas.List.{length-append}
+use Rattle.std.proofs.lemmas.List.{length-append, append-nil}
 use Rattle.vq_model.specs.Text.{is_line_feed, lines_of, without_empty_end}
 use Rattle.vq_given.specs.declared.given.Cut.{Cut}
 use Rattle.vq_given.specs.Cutting.{AreWholeLines, Nothing, Ended, IsWholeLine, Fed, Last, IsCut, IsUncut, is_cut_line}
-
--- Lines of a text in two parts
-
-abbrev HasFirst : List (List ℕ) → Type 0
-HasFirst parts = (part : List ℕ) × (more : List (List ℕ)) × (parts ≡ part ∷ more)
-
--- a split has a first part
-split_first : (text : List ℕ) → HasFirst (slice_split is_line_feed text)
-split_first [] = ([], [], refl)
-split_first (x ∷ text) = by_test (is_line_feed x) (split_first text)
-  where
-    by_test : (b : Bool) → HasFirst (slice_split is_line_feed text) →
-        HasFirst (cond b ([] ∷ slice_split is_line_feed text) (onto_first x (slice_split is_line_feed text)))
-    by_test true h = ([], slice_split is_line_feed text, refl)
-    by_test false h = (x ∷ h.0, h.1, ap (onto_first x) h.2)
-
--- a byte goes to the first part
-onto-append : (x : ℕ) (parts more : List (List ℕ)) → HasFirst parts → onto_first x (parts ++ more) ≡ onto_first x parts ++ more
-onto-append x parts more h =
-    ap (λ (ps : List (List ℕ)). onto_first x (ps ++ more)) h.2
-    ∙ sym (ap (λ (ps : List (List ℕ)). onto_first x ps ++ more) h.2)
-
-split_fed : (front back : List ℕ) → slice_split is_line_feed (front ++ 10 ∷ back)
-    ≡ slice_split is_line_feed front ++ slice_split is_line_feed back
-split_fed [] back = refl
-split_fed (x ∷ front) back = by_test (is_line_feed x) (split_fed front back)
-  where
-    by_test : (b : Bool) → slice_split is_line_feed (front ++ 10 ∷ back) ≡ slice_split is_line_feed front ++ slice_split is_line_feed back →
-        cond b ([] ∷ slice_split is_line_feed (front ++ 10 ∷ back)) (onto_first x (slice_split is_line_feed (front ++ 10 ∷ back)))
-        ≡ cond b ([] ∷ slice_split is_line_feed front) (onto_first x (slice_split is_line_feed front)) ++ slice_split is_line_feed back
-    by_test true e = ap (λ (ps : List (List ℕ)). [] ∷ ps) e
-    by_test false e =
-        ap (onto_first x) e
-        ∙ onto-append x (slice_split is_line_feed front) (slice_split is_line_feed back) (split_first front)
-
--- what stands before other parts is kept
-front_kept : (parts more : List (List ℕ)) → HasFirst more → without_empty_end (parts ++ more) ≡ parts ++ without_empty_end more
-front_kept [] more h = refl
-front_kept (part ∷ []) more h = rw h.2 refl
-front_kept (part ∷ next ∷ parts) more h = ap (λ (ps : List (List ℕ)). part ∷ ps) (front_kept (next ∷ parts) more h)
-
-map-append : (xs ys : List (List ℕ)) → map strip_carriage_return (xs ++ ys) ≡ map strip_carriage_return xs ++ map strip_carriage_return ys
-map-append [] ys = refl
-map-append (x ∷ xs) ys = ap (λ (zs : List (List ℕ)). strip_carriage_return x ∷ zs) (map-append xs ys)
-
-append-empty : (xs : List (List ℕ)) → xs ++ [] ≡ xs
-append-empty [] = refl
-append-empty (x ∷ xs) = ap (λ (zs : List (List ℕ)). x ∷ zs) (append-empty xs)
-
-lines_fed : (front back : List ℕ) →
-    lines_of (front ++ 10 ∷ back) ≡ map strip_carriage_return (slice_split is_line_feed front) ++ lines_of back
-lines_fed front back =
-    ap (λ (ps : List (List ℕ)). map strip_carriage_return (without_empty_end ps)) (split_fed front back)
-    ∙ (ap (map strip_carriage_return) (front_kept (slice_split is_line_feed front) (slice_split is_line_feed back) (split_first back))
-    ∙ map-append (slice_split is_line_feed front) (without_empty_end (slice_split is_line_feed back)))
-
-lines_ended : (front back : List ℕ) → lines_of ((front ++ 10 ∷ []) ++ back) ≡ lines_of (front ++ 10 ∷ []) ++ lines_of back
-lines_ended front back =
-    ap lines_of (append_assoc front (10 ∷ []) back)
-    ∙ (lines_fed front back
-    ∙ ap (λ (ls : List (List ℕ)). ls ++ lines_of back)
-    (sym (lines_fed front [] ∙ append-empty (map strip_carriage_return (slice_split is_line_feed front)))))
-
--- the lines of whole lines and of what follows
-pub lines_whole : (front back : List ℕ) → AreWholeLines front → lines_of (front ++ back) ≡ lines_of front ++ lines_of back
-lines_whole front back (Nothing is) =
-    subst (λ (f : List ℕ). lines_of (f ++ back) ≡ lines_of f ++ lines_of back) (sym is) refl
-lines_whole front back (Ended before is) =
-    subst (λ (f : List ℕ). lines_of (f ++ back) ≡ lines_of f ++ lines_of back) (sym is) (lines_ended before back)
-
--- the lines of a line and of what follows
-lines_line : (line back : List ℕ) → IsWholeLine line back → lines_of (line ++ back) ≡ lines_of line ++ lines_of back
-lines_line line back (Fed before is) =
-    subst (λ (l : List ℕ). lines_of (l ++ back) ≡ lines_of l ++ lines_of back) (sym is) (lines_ended before back)
-lines_line line back (Last is) =
-    subst (λ (b : List ℕ). lines_of (line ++ b) ≡ lines_of line ++ lines_of b) (sym is)
-    (ap lines_of (append-none line) ∙ sym (append-empty (lines_of line)))
-  where
-    append-none : (xs : List ℕ) → xs ++ [] ≡ xs
-    append-none [] = refl
-    append-none (x ∷ xs) = ap (λ (zs : List ℕ). x ∷ zs) (append-none xs)
 
 -- Lists in two parts
 
@@ -114,7 +34,7 @@ not_both line cutting uncut = true≢false (sym uncut ∙ ap not cutting)
 
 -- a text that isn't empty has lines
 some_lines : (x : ℕ) (text : List ℕ) → lines_of (x ∷ text) ≡ [] → ⊥
-some_lines x text e = by_test (is_line_feed x) (split_first text) e
+some_lines x text e = by_test (is_line_feed x) (split_has_first text) e
   where
     by_test : (b : Bool) → HasFirst (slice_split is_line_feed text) →
         map strip_carriage_return (without_empty_end (cond b ([] ∷ slice_split is_line_feed text)
@@ -167,10 +87,10 @@ module _ (text : List ℕ) where
 
       lines_between : HasFirst (lines_of m)
       lines_between =
-          let first = split_first end.0 in (
+          let first = split_has_first end.0 in (
             strip_carriage_return first.0,
             map strip_carriage_return first.1 ++ [],
-            ap lines_of end.1 ∙ (lines_fed end.0 []
+            ap lines_of end.1 ∙ (lines_after end.0 []
                 ∙ ap (λ (ps : List (List ℕ)). map strip_carriage_return ps ++ []) first.2),
           )
 
@@ -184,7 +104,7 @@ module _ (text : List ℕ) where
       same =
           sym (lines_whole m (y.line ++ y.trace) (Ended end.0 end.1))
           ∙ (sym (ap lines_of between.2)
-          ∙ (lines_line x.line x.trace x.whole
+          ∙ (line_first x.line x.trace x.whole
           ∙ ap (λ (ls : List (List ℕ)). ls ++ lines_of x.trace) x.one_line))
 
       first_cuts : lines_between.0 ≡ x.cutting
@@ -225,11 +145,7 @@ module _ (text : List ℕ) where
         empty (z ∷ m) e = absurd (omega arith)
 
     pub same_script : y.script ≡ x.script
-    same_script = behind.1 ∙ (ap (λ (m : List ℕ). x.script ++ m) none_between ∙ append-none x.script)
-      where
-        append-none : (xs : List ℕ) → xs ++ [] ≡ xs
-        append-none [] = refl
-        append-none (z ∷ xs) = ap (λ (zs : List ℕ). z ∷ zs) (append-none xs)
+    same_script = behind.1 ∙ (ap (λ (m : List ℕ). x.script ++ m) none_between ∙ append-nil x.script)
 
     same_rest : x.line ++ x.trace ≡ y.line ++ y.trace
     same_rest = behind.2 ∙ ap (λ (m : List ℕ). m ++ (y.line ++ y.trace)) none_between
@@ -246,7 +162,7 @@ module _ (text : List ℕ) where
         by_rest (z ∷ m) e f (Fed before is) =
             let lines : x.cutting ∷ lines_of (z ∷ m) ≡ y.cutting ∷ [] =
             sym (ap (λ (ls : List (List ℕ)). ls ++ lines_of (z ∷ m)) x.one_line)
-            ∙ (sym (lines_line x.line (z ∷ m) (Fed before is)) ∙ (sym (ap lines_of e) ∙ y.one_line)) in
+            ∙ (sym (line_first x.line (z ∷ m) (Fed before is)) ∙ (sym (ap lines_of e) ∙ y.one_line)) in
             some_lines z m (let none : lines_of (z ∷ m) ≡ [] = cc in none)
 
         against : ⊥
@@ -278,7 +194,7 @@ module _ (text : List ℕ) where
       let lines : lines_of text ≡ lines_of x.script ++ (x.cutting ∷ lines_of x.trace) =
       ap lines_of (x.parts ∙ append_assoc x.script x.line x.trace)
       ∙ (lines_whole x.script (x.line ++ x.trace) x.before
-      ∙ ap (λ (ls : List (List ℕ)). lines_of x.script ++ ls) (lines_line x.line x.trace x.whole
+      ∙ ap (λ (ls : List (List ℕ)). lines_of x.script ++ ls) (line_first x.line x.trace x.whole
       ∙ ap (λ (ls : List (List ℕ)). ls ++ lines_of x.trace) x.one_line)) in
       let all = all_right (λ line. not (is_cut_line line)) (lines_of x.script) (x.cutting ∷ lines_of x.trace)
       (subst (λ (ls : List (List ℕ)). list_all (λ line. not (is_cut_line line)) ls ≡ true) lines uncut) in

@@ -1,7 +1,7 @@
 -- What follows from the steps of an audit.
 use Rattle.std.proofs.Common.{◌≡◌, ◌∙◌, ℕ, List, Option, Some, None, refl, sym, ap, subst}
 use Rattle.vq_model.specs.declared.plan.Event.{Event}
-use Rattle.vq_points.specs.Points.{HistoryFrom, opening_points}
+use Rattle.vq_point_laws.specs.Points.{HistoryFrom, opening_points}
 use Rattle.vq_history_laws.specs.Histories.{points_after}
 use Rattle.vq_core.specs.CoreState.{Course, world}
 use Rattle.vq_core.specs.Tables.{jobs_left}

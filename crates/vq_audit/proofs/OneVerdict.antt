@@ -3,7 +3,7 @@ use Rattle.std.proofs.Common.{◌≡◌, ◌++◌, ℕ, List, [], ◌∷◌, fol
 use native.Mathlib.Decide.{dec_le}
 use Rattle.std.specs.List.{slice_get}
 use Rattle.vq_model.specs.Plan.{Plan}
-use Rattle.vq_points.specs.Points.{CanCome, HistoryFrom, PointState, after_event, opening_points}
+use Rattle.vq_point_laws.specs.Points.{CanCome, HistoryFrom, PointState, after_event, opening_points}
 use Rattle.vq_given.specs.declared.given.GivenEvent.{GivenEvent}
 use Rattle.vq_given.specs.declared.given.GivenLine.{GivenLine}
 use Rattle.vq_given.specs.declared.given.GivenTrace.{GivenTrace}

@@ -3,7 +3,7 @@ use Rattle.std.proofs.Common.{◌≡◌, ◌<◌, ◌+◌, ◌++◌, ◌∷◌, 
 use Rattle.std.proofs.lemmas.List.{take-append-drop, drop_more}
 use Rattle.vq_model.specs.declared.plan.Event.{Event}
 use Rattle.vq_model.specs.Plan.{Plan}
-use Rattle.vq_points.specs.Points.{CanCome, HistoryFrom, opening_points}
+use Rattle.vq_point_laws.specs.Points.{CanCome, HistoryFrom, opening_points}
 use Rattle.vq_history_laws.specs.Histories.{points_after}
 use Rattle.vq_core.specs.CoreState.{Course, IsCourse, world}
 use Rattle.vq_given.specs.declared.given.GivenEvent.{GivenEvent}

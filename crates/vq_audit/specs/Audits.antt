@@ -4,8 +4,8 @@ use Rattle.vq_model.specs.declared.plan.Event.{Event}
 use Rattle.vq_model.specs.Plan.{Plan}
 use Rattle.vq_model.specs.Machine.{Run}
 use Rattle.vq_model.specs.Text.{lines_of}
-use Rattle.vq_points.specs.HistoryLaws.{PointLaw, PendingLaw}
-use Rattle.vq_points.specs.Points.{steps_of}
+use Rattle.vq_point_laws.specs.HistoryLaws.{PointLaw, PendingLaw}
+use Rattle.vq_point_laws.specs.Points.{steps_of}
 use Rattle.vq_given.specs.declared.given.GivenEvent.{GivenEvent}
 use Rattle.vq_given.specs.declared.given.GivenTrace.{GivenTrace}
 use Rattle.vq_given.specs.Reading.{read_trace}

@@ -9,7 +9,7 @@ use Rattle.vq_model.specs.Machine.{State}
 use Rattle.vq_model.specs.SlowRun.{bytes_after}
 use Rattle.vq_model.specs.OutputText.{answers_of, buffers_text}
 use Rattle.vq_model.specs.Text.{lines_of}
-use Rattle.vq_points.specs.Points.{HistoryFrom, CanCome, opening_points}
+use Rattle.vq_point_laws.specs.Points.{HistoryFrom, CanCome, opening_points}
 use Rattle.vq_history_laws.specs.Histories.{points_after}
 use Rattle.vq_core.specs.Tables.{jobs_left}
 use Rattle.vq_given.specs.declared.given.GivenEvent.{GivenEvent}

@@ -4,9 +4,9 @@ use Rattle.std.specs.Prelude.{find, nat_lt}
 use Rattle.std.specs.List.{AllByRecursion as Every, list_all}
 use Rattle.std.specs.Option.{option_map_or, option_and_then}
 use Rattle.std.specs.Str.{bytes_eq}
-use Rattle.std.proofs.lemmas.Bool.{and_parts, or_parts, ltb-false}
-use Rattle.vq_model.proofs.Bools.{not_true, not_false}
-use Rattle.vq_model.proofs.Options.{some_of}
+use Rattle.std.proofs.lemmas.Bool.{and_parts, or_parts, ltb-false, not-true, not-false}
+use Rattle.vq_ground.proofs.Positions.{found_at}
+use Rattle.vq_ground.proofs.Options.{some_of}
 use Rattle.vq_model.specs.declared.script.Pair.{Pair}
 use Rattle.vq_model.specs.declared.script.Semaphore.{Semaphore}
 use Rattle.vq_model.specs.declared.statement.FaultKind.{FaultKind}
@@ -19,7 +19,7 @@ use Rattle.vq_model.specs.Meaning.{of_two, open_places, pair_at, pairs_at}
 use Rattle.vq_model.specs.Text.{is_name, is_plain, numeral}
 use Rattle.vq_reading_laws.proofs.Cited.{below, first_fails}
 use Rattle.vq_canonical_laws.specs.FormatRules.{IsOfKindIn, IsTimed}
-use Rattle.vq_canonical_laws.proofs.Cited.{numeral_below, position_passes}
+use Rattle.vq_canonical_laws.proofs.Cited.{numeral_below}
 use Rattle.vq_blocks.specs.declared.block.BlockForm.{BlockForm}
 use Rattle.vq_blocks.specs.declared.block.BlockForm.TheVariants.{ThreadForm, WaitForm, SignalForm, EndForm}
 use Rattle.vq_blocks.specs.declared.block.BlockStatement.{BlockStatement}
@@ -85,7 +85,7 @@ module _ (before : List Line) where
       IsOfKindIn is_timeline (semaphores before) t
   timeline_there name t e =
       let found =
-      position_passes (λ x. bytes_eq name x.name && is_timeline x.kind) (semaphores before) t e in
+      found_at (λ x. bytes_eq name x.name && is_timeline x.kind) (semaphores before) t e in
       record {
         semaphore = found.0;
         there = found.1;
@@ -176,9 +176,9 @@ thread_named told ThreadForm (a ∷ b ∷ words) name e s n =
     let said : Some (BeginThread b) ≡ Some (BeginThread name) = e in
     let same : b ≡ name = cc in
     subst (λ (w : List ℕ). (is_name w ≡ true) × (is_named told w ≡ false)) same (
-      (and_parts (is_name b) true (not_false (is_name b && true) s)).0,
-      not_true (is_named told b)
-          (and_parts (not (is_named told b)) true (not_false (not (is_named told b) && true) n)).0,
+      (and_parts (is_name b) true (not-false (is_name b && true) s)).0,
+      not-true (is_named told b)
+          (and_parts (not (is_named told b)) true (not-false (not (is_named told b) && true) n)).0,
     )
 thread_named told WaitForm words name e s n =
     absurd (never_begins (number_at told.rest) WaitForm

@@ -1,33 +1,31 @@
 -- The script that a text with blocks is compiled to can be written, and its canonical text stands for it.
-use Rattle.std.proofs.Common.{ℕ, ◌≡◌, ◌<◌, ◌≤◌, ◌+◌, ◌^◌, Bool, true, cond, List, [], ◌∷◌, ◌++◌, length, length-append, map, option_map, Ok, refl, sym, ap, ◌∙◌, subst, arith, inl}
+use Rattle.std.proofs.Common.{ℕ, ◌≡◌, ◌<◌, ◌≤◌, ◌+◌, Bool, cond, List, [], ◌∷◌, ◌++◌, length, length-append, map, option_map, Ok, refl, sym, ap, ◌∙◌, subst, arith, inl}
 use Rattle.std.specs.List.{AllByRecursion as Every, cons_option}
-use Rattle.std.proofs.lemmas.Bool.{false≢true}
 use Rattle.std.proofs.lemmas.List.{length-map}
 use Rattle.std.proofs.lemmas.List.Sums.{sum_by-cons}
-use Rattle.vq_model.proofs.Gets.{get-map}
+use Rattle.vq_ground.proofs.Every.{every_append}
+use Rattle.vq_ground.proofs.Gets.{get-map}
 use Rattle.vq_model.specs.declared.script.Job.{Job}
 use Rattle.vq_model.specs.declared.script.Pair.{Pair}
 use Rattle.vq_model.specs.declared.script.Queue.{Queue}
 use Rattle.vq_model.specs.declared.script.Script.{Script}
 use Rattle.vq_model.specs.declared.script.Semaphore.{Semaphore}
-use Rattle.vq_model.specs.declared.script.SemaphoreKind.{SemaphoreKind}
-use Rattle.vq_model.specs.declared.script.SemaphoreKind.TheVariants.{Timeline, Binary, Fence}
 use Rattle.vq_model.specs.declared.statement.Form.{Form}
 use Rattle.vq_model.specs.declared.statement.Form.TheVariants.{Plain, Scheduled}
 use Rattle.vq_model.specs.declared.statement.Line.{Line}
 use Rattle.vq_model.specs.declared.statement.Statement.{Statement}
 use Rattle.vq_model.specs.declared.statement.Statement.TheVariants.{BeginBatch, TakeHostStep}
 use Rattle.vq_model.specs.Canonical.{canonical_text, form_of_script}
-use Rattle.vq_model.specs.Context.{count, is_job, is_timeline, semaphores}
+use Rattle.vq_model.specs.Context.{count, is_job, semaphores}
 use Rattle.vq_model.specs.Lowering.{commands_in}
 use Rattle.vq_model.specs.Reading.{StandsFor, read_lines, script_or_fault}
 use Rattle.vq_model.specs.SameScript.{IsRead, IsScript, SameButLines, queue_without_line, semaphore_without_line, without_lines}
 use Rattle.vq_model.specs.ScriptOfLines.{job_at, jobs_of, mark, script_of}
 use Rattle.vq_model.specs.Text.{lines_of}
-use Rattle.vq_reading_laws.proofs.Cited.{every_append, most_queues, plain_unscheduled, read_valid}
+use Rattle.vq_reading_laws.proofs.Cited.{most_queues, plain_unscheduled, read_valid}
 use Rattle.vq_canonical_laws.specs.AddedJobs.{MayBeAdded, with_more}
-use Rattle.vq_canonical_laws.specs.FormatRules.{are_new, names_of, IsMarked, IsTimed, IsWaitOf, JobFits, TakesValue}
-use Rattle.vq_canonical_laws.proofs.Cited.{added_is_written, canonical_reads_back, read_is_written}
+use Rattle.vq_canonical_laws.specs.FormatRules.{are_new, names_of, IsMarked, IsTimed, IsWaitOf, JobFits}
+use Rattle.vq_canonical_laws.proofs.Cited.{added_is_written, canonical_reads_back, read_is_written, timeline_takes}
 use Rattle.vq_blocks.specs.declared.block.HostThread.{HostThread}
 use Rattle.vq_blocks.specs.declared.block.ThreadLine.{ThreadLine}
 use Rattle.vq_blocks.specs.declared.block.ThreadStep.{ThreadStep}
@@ -83,12 +81,6 @@ jobs_counted (line ∷ lines) =
 
 -- Batches of steps
 
-takes_timed : (kind : SemaphoreKind) (value : ℕ) → is_timeline kind ≡ true → value < 2 ^ 64 →
-    TakesValue kind value
-takes_timed (Timeline initial) value h l = l
-takes_timed Binary value h l = absurd (false≢true h)
-takes_timed Fence value h l = absurd (false≢true h)
-
 -- a timed pair is marked, also among semaphores without lines
 timed_marked : (ss : List Semaphore) (pair : Pair) → IsTimed ss pair →
     IsMarked (map semaphore_without_line ss) pair
@@ -97,7 +89,7 @@ timed_marked ss pair h =
     record {
       semaphore = semaphore_without_line found.semaphore;
       there = get-map semaphore_without_line ss pair.semaphore ∙ ap (option_map semaphore_without_line) found.there;
-      takes = takes_timed found.semaphore.kind pair.value found.tested h.1;
+      takes = timeline_takes found.semaphore.kind pair.value found.tested h.1;
     }
 
 module _ (s : Script) (ss : List Semaphore) (are : s.semaphores ≡ map semaphore_without_line ss)

@@ -1,17 +1,18 @@
 -- What is kept of threads, from line to line.
-use Rattle.std.proofs.Common.{ℕ, ◌≡◌, ◌<◌, ◌≤◌, ◌+◌, Bool, true, false, not, ◌&&◌, ◌||◌, List, [], ◌∷◌, ◌++◌, append-nil, append_assoc, length, length-append, map, refl, sym, ap, ◌∙◌, arith, sum}
+use Rattle.std.proofs.Common.{ℕ, ◌≡◌, ◌<◌, ◌≤◌, ◌+◌, true, false, not, ◌&&◌, ◌||◌, List, [], ◌∷◌, ◌++◌, append-nil, append_assoc, length, length-append, map, refl, sym, ap, ◌∙◌, arith, sum}
 use Rattle.std.specs.List.{AllByRecursion as Every, list_any}
 use Rattle.std.specs.Str.{bytes_eq}
 use Rattle.std.proofs.lemmas.Bool.{and_parts, and_from, or_parts, or_from}
 use Rattle.std.proofs.lemmas.List.{map-append}
 use Rattle.std.proofs.lemmas.List.Folds.{list_any-append}
 use Rattle.std.proofs.lemmas.List.Sums.{sum_by-append, sum_by-cons}
+use Rattle.vq_ground.proofs.Every.{every_append}
+use Rattle.vq_ground.proofs.Lists.{any_map}
 use Rattle.vq_model.specs.declared.script.Buffer.{Buffer}
 use Rattle.vq_model.specs.declared.script.Queue.{Queue}
 use Rattle.vq_model.specs.declared.script.Semaphore.{Semaphore}
 use Rattle.vq_model.specs.Context.{buffers, semaphores, queues, count, is_job, is_taken}
 use Rattle.vq_model.specs.Text.{is_name}
-use Rattle.vq_reading_laws.proofs.Cited.{every_append}
 use Rattle.vq_canonical_laws.specs.FormatRules.{are_new}
 use Rattle.vq_blocks.specs.declared.block.BlockStatement.{BlockStatement}
 use Rattle.vq_blocks.specs.declared.block.BlockStatement.TheVariants.{BeginThread, TakeStep, EndThread}
@@ -49,11 +50,6 @@ pub keeps_nothing : Keeps nothing_told
 keeps_nothing = record { fit = fit_none [] [] []; few_jobs = omega arith }
 
 -- A thread more
-
-any_name : {A : Type 0} (test : List ℕ → Bool) (name : A → List ℕ) (xs : List A) →
-    list_any test (map name xs) ≡ list_any (λ x. test (name x)) xs
-any_name test name [] = refl
-any_name test name (x ∷ xs) = ap (λ (b : Bool). test (name x) || b) (any_name test name xs)
 
 -- a name that is new after all these may follow them
 new_push : (before names : List (List ℕ)) (name : List ℕ) → are_new before names ≡ true → is_name name ≡ true →
@@ -108,10 +104,10 @@ module _ (bs : List Buffer) (ss : List Semaphore) (qs : List Queue) (threads : L
       ∙ or_from (list_any test (of_buffers ++ of_semaphores)) (list_any test of_queues)
       (list_any-append test of_buffers of_semaphores
       ∙ or_from (list_any test of_buffers) (list_any test of_semaphores)
-      (any_name test (λ (b : Buffer). b.name) bs ∙ three.0)
-      (any_name test (λ (x : Semaphore). x.name) ss ∙ three.1))
-      (any_name test (λ (q : Queue). q.name) qs ∙ two.1))
-      (any_name test (λ (t : HostThread). t.name) threads ∙ one.1) in
+      (any_map test (λ (b : Buffer). b.name) bs ∙ three.0)
+      (any_map test (λ (x : Semaphore). x.name) ss ∙ three.1))
+      (any_map test (λ (q : Queue). q.name) qs ∙ two.1))
+      (any_map test (λ (t : HostThread). t.name) threads ∙ one.1) in
       record {
         names = ap (are_new (declared_names bs ss qs))
             (map-append (λ (t : HostThread). t.name) threads (a_thread n name ∷ []))

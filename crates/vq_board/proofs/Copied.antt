@@ -1,5 +1,5 @@
 -- The commands that are copied out of a plan.
-use Rattle.std.proofs.Common.{◌≡◌, ℕ, zero, suc, ◌+◌, ◌<◌, List, [], ◌∷◌, ◌++◌, ◌-◌, ◌≤◌, ◌⊎◌, inl, inr, length, map, take, get_or, Some, None, refl, sym, ap, ◌∙◌, subst, arith}
+use Rattle.std.proofs.Common.{◌≡◌, ℕ, suc, ◌+◌, ◌<◌, List, [], ◌∷◌, ◌++◌, ◌-◌, ◌≤◌, ◌⊎◌, inl, inr, length, map, Some, None, refl, sym, ap, ◌∙◌, subst, arith}
 use Rattle.std.specs.List.{slice_get, flat_map}
 use Rattle.std.proofs.lemmas.Bool.{cases_lt}
 use Rattle.vq_model.specs.declared.script.Command.{Command}
@@ -10,23 +10,10 @@ use Rattle.vq_model.specs.declared.script.CommandLine.{CommandLine}
 use Rattle.vq_model.specs.LoweringFaults.{IsPlan}
 use Rattle.vq_model.specs.Plan.{Plan, command_at}
 use Rattle.vq_model.specs.Ranges.{Fits}
-use Rattle.vq_model.proofs.Gets.{get-append, get-append_left, get-map}
-use Rattle.vq_model.proofs.Options.{some_of}
+use Rattle.vq_ground.proofs.Gets.{get-append, get-append_left, get-map}
+use Rattle.vq_ground.proofs.Options.{some_of}
 use Rattle.vq_reading_laws.proofs.Cited.{read_valid}
 use Rattle.vq_board.specs.Copied.{command_of, AllFit}
-
-pub get_is : {A : Type 0} (xs : List A) (i : ℕ) (x : A) → i < length xs → x ≡ get_or xs i x → slice_get xs i ≡ Some x
-get_is [] i x l e = absurd (omega arith)
-get_is (y ∷ xs) zero x l e = ap Some (sym e)
-get_is (y ∷ xs) (suc i) x l e = get_is xs i x (omega arith) e
-
-pub take_next : {A : Type 0} (xs : List A) (n : ℕ) (x : A) → slice_get xs n ≡ Some x → take (n + 1) xs ≡ take n xs ++ x ∷ []
-take_next xs n x e = let more : n + 1 ≡ suc n = omega arith in subst (λ (k : ℕ). take k xs ≡ take n xs ++ x ∷ []) (sym more) (next xs n x e)
-  where
-    next : {A : Type 0} (ys : List A) (m : ℕ) (y : A) → slice_get ys m ≡ Some y → take (suc m) ys ≡ take m ys ++ y ∷ []
-    next [] m y g = let f : None ≡ Some y = g in absurd cc
-    next (z ∷ ys) zero y g = let same : z ≡ y = cc in ap (λ w. w ∷ []) same
-    next (z ∷ ys) (suc m) y g = ap (λ w. z ∷ w) (next ys m y g)
 
 -- the command that is copied is the plan's
 pub copied_at : (p : Plan) (commands : List Command) (c : ℕ) (x : Command) → commands ≡ map command_of p.commands → slice_get commands c ≡ Some x → command_at p c ≡ Some x

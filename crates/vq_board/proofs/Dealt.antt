@@ -3,7 +3,7 @@ use Rattle.std.proofs.Common.{◌≡◌, ℕ, zero, suc, ◌+◌, ◌-◌, ◌<�
 use Rattle.std.specs.List.{slice_get, range_with_len}
 use Rattle.std.proofs.lemmas.Bool.{cond-true, cond-false}
 use Rattle.vq_model.specs.Plan.{Plan}
-use Rattle.vq_model.proofs.Numbers.{range_more}
+use Rattle.vq_ground.proofs.Numbers.{range_more}
 use Rattle.vq_board_laws.specs.declared.view.Role.{Role}
 use Rattle.vq_board_laws.specs.declared.view.Role.TheVariants.{Submit}
 use Rattle.vq_board_laws.specs.Roles.{is_threaded, threaded_before, role_number, role_count}

@@ -6,7 +6,7 @@ use Rattle.std.proofs.lemmas.List.{get_or-set_same, get_or-set_other, length-set
 use mathlib.Core.Logic.{dite}
 use native.Mathlib.Decide.{ℕ_discrete}
 use Rattle.vq_model.specs.Plan.{Plan, chain}
-use Rattle.vq_model.proofs.Gets.{get_within}
+use Rattle.vq_ground.proofs.Gets.{get_within}
 use Rattle.vq_board_laws.specs.declared.view.Fact.{Fact}
 use Rattle.vq_board_laws.specs.declared.view.Fact.TheVariants.{Job, Taken, Bound, BoundTo, Made, Past}
 use Rattle.vq_board_laws.specs.Knowledge.{Knows, KnowsMade}

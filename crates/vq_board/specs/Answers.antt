@@ -1,6 +1,6 @@
 -- What the calls on points answer. This project's own.
 use Rattle.std.specs.Prelude.{ℕ, ◌≢◌, ◌⊎◌}
-use Rattle.vq_points.specs.PointWord.{parts}
+use Rattle.vq_point_laws.specs.PointWord.{parts}
 use Rattle.vq_board_laws.specs.PointSteps.{sees, refers, misses_point}
 use Rattle.vq_board_laws.specs.Words.{Carries}
 use Rattle.vq_board.specs.declared.parts.Pass.{Pass}

@@ -4,8 +4,8 @@
 ghost use Rattle.std.specs.Prelude.{◌≡◌, ◌≢◌, ℕ, ◌+◌, ◌<◌, ◌^◌, ◌⊎◌};
 ghost use Rattle.std.specs.Prelude.{length, true, false, IfOk, IfErr};
 ghost use Rattle.vq_point.specs.Word.{bits_of};
-ghost use Rattle.vq_model.specs.Plan.{has};
-ghost use Rattle.vq_points.specs.PointWord.{parts};
+ghost use Rattle.vq_ground.specs.Lists.{has};
+ghost use Rattle.vq_point_laws.specs.PointWord.{parts};
 ghost use Rattle.vq_board_laws.specs.MayPoints.{MayMake, MayAssign, MayRetire, MayRefer};
 ghost use Rattle.vq_board_laws.specs.Points.{reference, Lists, IsWord};
 ghost use Rattle.vq_board_laws.specs.Knowledge.{KnowsMade};

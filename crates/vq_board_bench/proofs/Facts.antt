@@ -2,8 +2,10 @@
 use Rattle.std.proofs.Common.{ℕ, suc, ◌≡◌, ◌<◌, ◌^◌, ◌/◌, ◌%◌, true, false, Bool, List, [], ◌∷◌, ◌++◌, ap, sym, subst, ◌∙◌, inl, inr, eq-eqb, arith}
 use Rattle.std.specs.Prelude.{if◌then◌else◌}
 use mathlib.Core.Logic.{dite}
+use Rattle.vq_point_laws.proofs.Cited.{bit_small}
+use Rattle.vq_board_laws.proofs.Cited.{knows_first, knows_more}
 use native.Mathlib.Decide.{ℕ_discrete}
-use Rattle.vq_points.specs.PointWord.{PointWord, pack, parts, bit}
+use Rattle.vq_point_laws.specs.PointWord.{PointWord, pack, parts, bit}
 use Rattle.vq_board_laws.specs.declared.view.Fact.{Fact}
 use Rattle.vq_board_laws.specs.declared.view.Fact.TheVariants.{Taken, Made}
 use Rattle.vq_board_laws.specs.declared.view.View.{View}
@@ -13,7 +15,6 @@ use Rattle.vq_board_laws.specs.Words.{Carries}
 use Rattle.vq_board.specs.declared.parts.Board.{Board}
 use Rattle.vq_board.specs.declared.parts.Pass.{Pass}
 use Rattle.vq_board.specs.Named.{view, IsOf, TurnsWith}
-use Rattle.vq_board_stage.proofs.Cited.{knows_behind, knows_before}
 use Rattle.vq_board_bench.specs.Rows.{KnowsBelow}
 
 -- one fact more is known, of the next number or of another kind
@@ -22,10 +23,6 @@ known_next known f n below next i less =
     dite (ℕ_discrete n i)
     (λ e. subst (λ (k : ℕ). Knows known (f k)) e next)
     (λ ne. below i (omega arith))
-
-bit_small : (b : Bool) → bit b < 2
-bit_small true = omega arith
-bit_small false = omega arith
 
 -- a word of these parts carries the operation that they name
 pub held_carries : (x : PointWord) (e : ℕ) → x.op < 2 ^ 32 → x.refs < 2 ^ 16 → x.held ≡ true → x.op ≡ e → Carries (pack x) e
@@ -48,11 +45,11 @@ shows_taken n e c =
 
 -- a look at a point forgets nothing, and shows what the point carries
 pub sees_more : (v : View) (q n : ℕ) (f : ℕ → Fact) (m : ℕ) → KnowsBelow v.known f m → KnowsBelow (sees v q n).known f m
-sees_more v q n f m below i less = knows_behind (point_facts n ++ moved_on q n v.known) v.known (f i) (below i less)
+sees_more v q n f m below i less = knows_more (point_facts n ++ moved_on q n v.known) v.known (f i) (below i less)
 
 pub sees_taken : (v : View) (q n e : ℕ) → Carries n e → Knows (sees v q n).known (Taken e)
 sees_taken v q n e c =
-    knows_before (point_facts n ++ moved_on q n v.known) v.known (Taken e) (knows_before (point_facts n) (moved_on q n v.known) (Taken e) (shows_taken n e c))
+    knows_first (point_facts n ++ moved_on q n v.known) v.known (Taken e) (knows_first (point_facts n) (moved_on q n v.known) (Taken e) (shows_taken n e c))
 
 -- a pass that has made a step is still one of the board's
 pub still_of : (b : Board) (x y : Pass) (w : View) (counts : List ℕ) → IsOf b x → TurnsWith x y w counts → w.plan ≡ (view x).plan → IsOf b y

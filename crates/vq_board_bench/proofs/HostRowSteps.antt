@@ -1,7 +1,9 @@
 -- What the host's pass may do next in a row, and how far it is then.
 use Rattle.std.proofs.Common.{ℕ, suc, ◌≡◌, ◌<◌, ◌+◌, true, false, List, ◌∷◌, refl, sym, ap, subst, ◌∙◌, ⊎_elim, inl, inr, arith}
 use Rattle.std.proofs.lemmas.Bool.{cases_lt, false≢true}
-use Rattle.vq_model.specs.Plan.{Plan, has, signals_of}
+use Rattle.vq_ground.proofs.Lists.{only_one}
+use Rattle.vq_model.specs.Plan.{Plan, signals_of}
+use Rattle.vq_ground.specs.Lists.{has}
 use Rattle.vq_board_laws.specs.declared.view.View.{View}
 use Rattle.vq_board_laws.specs.declared.view.Fact.TheVariants.{Taken}
 use Rattle.vq_board_laws.specs.Knowledge.{Knows}
@@ -12,7 +14,7 @@ use Rattle.vq_board_laws.specs.PointSteps.{sees}
 use Rattle.vq_board_laws.specs.Steps.{submits, releases}
 use Rattle.vq_board_laws.specs.Words.{Carries}
 use Rattle.vq_board_bench.specs.Rows.{IsRow, IsHost, is_submitted}
-use Rattle.vq_board_bench.proofs.Below.{has_below, not_below, only}
+use Rattle.vq_board_bench.proofs.Below.{has_below, not_below}
 use Rattle.vq_board_bench.proofs.Facts.{known_next, sees_more, sees_taken}
 
 module _ (p : Plan) (n c s : ℕ) (row : IsRow p n c s) (j : ℕ) where
@@ -54,7 +56,7 @@ module _ (p : Plan) (n c s : ℕ) (row : IsRow p n c s) (j : ℕ) where
   own_signal exists e m =
       let signals = (row.linked j exists).signals in
       ⊎_elim
-      (λ (less : j < s). (less, only j e (subst (λ (xs : List ℕ). has xs e ≡ true) (signals.one less) m)))
+      (λ (less : j < s). (less, only_one j e (subst (λ (xs : List ℕ). has xs e ≡ true) (signals.one less) m)))
       (λ more. absurd (false≢true (ap (λ (xs : List ℕ). has xs e) (sym (signals.none more)) ∙ m)))
       (cases_lt j s)
 

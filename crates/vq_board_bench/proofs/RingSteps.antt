@@ -3,7 +3,8 @@ use Rattle.std.proofs.Common.{ℕ, ◌≡◌, ◌<◌, ◌≤◌, false, List, S
 use Rattle.std.specs.List.{slice_get}
 use Rattle.std.proofs.lemmas.Bool.{false≢true}
 use Rattle.vq_model.specs.Edges.{Stage, At}
-use Rattle.vq_model.specs.Plan.{Plan, has, commands_of, signals_of}
+use Rattle.vq_model.specs.Plan.{Plan, commands_of, signals_of}
+use Rattle.vq_ground.specs.Lists.{has}
 use Rattle.vq_board_laws.specs.declared.view.Fact.{Fact}
 use Rattle.vq_board_laws.specs.declared.view.View.{View}
 use Rattle.vq_board_laws.specs.declared.view.JobState.{JobState}

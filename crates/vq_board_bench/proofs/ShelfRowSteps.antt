@@ -1,7 +1,9 @@
 -- What the shelf's pass may do next in a row, and how far it is then.
 use Rattle.std.proofs.Common.{ℕ, suc, ◌≡◌, ◌<◌, ◌≤◌, true, false, List, ◌∷◌, Some, length, refl, sym, ap, subst, ◌∙◌, inl, inr, arith}
 use Rattle.std.proofs.lemmas.Bool.{false≢true}
-use Rattle.vq_model.specs.Plan.{Plan, has, job_of, is_host_step}
+use Rattle.vq_board_laws.proofs.Cited.{kept_listed}
+use Rattle.vq_model.specs.Plan.{Plan, job_of, is_host_step}
+use Rattle.vq_ground.specs.Lists.{has}
 use Rattle.vq_board_laws.specs.declared.view.View.{View}
 use Rattle.vq_board_laws.specs.declared.view.Fact.TheVariants.{Job}
 use Rattle.vq_board_laws.specs.declared.view.JobState.{JobState}
@@ -14,7 +16,7 @@ use Rattle.vq_board_laws.specs.PointSteps.{makes, assigns, binds, completes, ret
 use Rattle.vq_board_laws.specs.Roles.{share_of}
 use Rattle.vq_board_laws.specs.Steps.{looks}
 use Rattle.vq_board_bench.specs.Rows.{IsRow, IsShelf, IsEnding, is_released, is_finished}
-use Rattle.vq_board_bench.proofs.Below.{has_below, not_below, length_below, pairs_list, point_beyond, op_beyond, still_listed}
+use Rattle.vq_board_bench.proofs.Below.{has_below, not_below, length_below, pairs_list, point_beyond, op_beyond}
 use Rattle.vq_board_bench.proofs.Facts.{known_next, sees_more}
 
 module _ (p : Plan) (n c s : ℕ) (row : IsRow p n c s) (j : ℕ) where
@@ -161,7 +163,7 @@ module _ (p : Plan) (n c s : ℕ) (row : IsRow p n c s) (j : ℕ) where
       subst (λ (x : View). IsEnding p x s s s (suc j)) (sym is)
       record {
         role = h.role;
-        carrying = λ i least l. still_listed j (reference i i) v.carrying (λ e. omega arith) (h.carrying i (omega arith) l);
+        carrying = λ i least l. kept_listed j (reference i i) v.carrying (λ e. omega arith) (h.carrying i (omega arith) l);
         bound = h.bound;
         knows = sees_more v j m is_finished s h.knows;
         past = h.past;

@@ -3,8 +3,8 @@ use Rattle.std.proofs.Common.{◌≡◌, ℕ, zero, suc, ◌+◌, ◌<◌, ◌�
 use Rattle.std.specs.Prelude.{count_by}
 use Rattle.std.specs.List.{slice_get}
 use Rattle.std.specs.Option.{option_map, option_map_or}
-use Rattle.vq_model.proofs.Gets.{slice_get_past, get_within}
-use Rattle.vq_model.proofs.Options.{same_some}
+use Rattle.std.proofs.lemmas.Option.{same_Some, slice_get_past}
+use Rattle.vq_ground.proofs.Gets.{get_within}
 use Rattle.vq_model.specs.declared.plan.Op.{Op}
 use Rattle.vq_model.specs.Plan.{Plan, chain, chain_of, value}
 use Rattle.vq_board_laws.specs.declared.view.Role.TheVariants.{Shelf}
@@ -37,7 +37,7 @@ module _ (p : Plan) (k : HasSignal p) where
 
   counts_one : (f : ℕ → ℕ) (ops : List Op) → length ops ≡ 1 → option_map (λ o. o.chain) (slice_get ops 0) ≡ Some 0 → count_by (λ o. eqb (f o.chain) (f 0)) ops ≡ 1
   counts_one f [] few is = absurd (omega arith)
-  counts_one f (a ∷ []) few is = λ i. 0 + cond {A = ℕ} (eq-eqb (f a.chain) (f 0) (ap f (same_some a.chain 0 is)) i) 1 0
+  counts_one f (a ∷ []) few is = λ i. 0 + cond {A = ℕ} (eq-eqb (f a.chain) (f 0) (ap f (same_Some a.chain 0 is)) i) 1 0
   counts_one f (a ∷ b ∷ os) few is = absurd (omega arith)
 
   -- the shelf may make a point while it has none

@@ -2,7 +2,7 @@
 use Rattle.std.proofs.Common.{◌≡◌, ℕ, nat_le, List, [], ◌∷◌, Some, sym, subst, inr, leb-true}
 use Rattle.std.specs.Prelude.{All}
 use Rattle.std.proofs.lemmas.List.Elements.{All-cons, All-nil}
-use Rattle.vq_model.proofs.Searches.{find_member, find_passes}
+use Rattle.vq_ground.proofs.Searches.{find_member, find_passes}
 use Rattle.vq_model.specs.Edges.{Stage}
 use Rattle.vq_model.specs.Plan.{Plan, chain, value}
 use Rattle.vq_model.specs.declared.plan.Need.{Need}

@@ -2,7 +2,7 @@
 use Rattle.std.specs.Prelude.{ℕ, List, [], ◌∷◌, ◌≡◌, ◌≤◌, ◌<◌, true, false, Some, None}
 use Rattle.vq_model.specs.declared.plan.Answer.TheVariants.{Value}
 use Rattle.vq_model.specs.Edges.{Stage}
-use Rattle.vq_model.specs.Plan.{has}
+use Rattle.vq_ground.specs.Lists.{has}
 use Rattle.vq_board_laws.specs.declared.view.Fact.TheVariants.{Job}
 use Rattle.vq_board_laws.specs.declared.view.JobState.TheVariants.{Finished}
 use Rattle.vq_board_laws.specs.declared.view.Reference.{Reference}

@@ -7,9 +7,10 @@ use Rattle.std.proofs.lemmas.Bool.{eqb-true, false_from_ne_true, false≢true, c
 use Rattle.std.proofs.lemmas.List.Sums.{sum_by-cons}
 use Rattle.vq_model.specs.declared.plan.Op.{Op}
 use Rattle.vq_model.specs.LoweringFaults.{IsPlan}
-use Rattle.vq_model.specs.Plan.{Plan, has, chain}
+use Rattle.vq_model.specs.Plan.{Plan, chain}
+use Rattle.vq_ground.specs.Lists.{has}
 use Rattle.vq_model.specs.WellFormed.{AreInOrder}
-use Rattle.vq_model.proofs.Lists.{AreDistinct, has_here, has_there, has_cases}
+use Rattle.vq_ground.proofs.Lists.{AreDistinct, has_here, has_there, has_cases}
 use Rattle.vq_plan_laws.proofs.Cited.{plan_well_formed}
 use Rattle.vq_board_laws.specs.declared.view.Role.TheVariants.{Shelf}
 use Rattle.vq_board_laws.specs.Roles.{role_number, share_of}

@@ -2,14 +2,17 @@
 use Rattle.std.proofs.Common.{◌≡◌, ◌≢◌, ℕ, suc, ◌+◌, ◌<◌, true, false, List, [], ◌∷◌, ◌++◌, length, set, refl, ap, sym, ◌∙◌, subst, arith, inl, inr, Some, take, drop, length-set, length-append}
 use mathlib.Core.Option.{some, none}
 use lib.ListN.{get_elem?}
-use Rattle.std.proofs.lemmas.Bool.{lt-ltb, le-ltb, false_from_ne_true, false≢true}
+use Rattle.std.proofs.lemmas.Bool.{lt-ltb, le-ltb}
+use Rattle.vq_spec.proofs.Cited.{bytes_push}
+use Rattle.vq_ground.proofs.Gets.{get_has}
 use Rattle.atomic_table.specs.Table.{State, step, keeps, Allows}
 use Rattle.vq_model.specs.declared.script.Command.{Command}
 use Rattle.vq_model.specs.Memory.{effect}
-use Rattle.vq_model.specs.Plan.{Plan, has, commands_of, command_at}
+use Rattle.vq_model.specs.Plan.{Plan, commands_of, command_at}
+use Rattle.vq_ground.specs.Lists.{has}
 use Rattle.vq_model.specs.Edges.{stage_of}
 use Rattle.vq_model.specs.Machine.{Progress, State as MachineState, put, CanApply, ApplyStep, after_progress, after_step}
-use Rattle.vq_model.proofs.Lists.{has_here, has_there, has-append_left, has-append_right, pushed}
+use Rattle.vq_ground.proofs.Lists.{has_here, has_there, has-append_left, has-append_right, pushed, not_pushed}
 use Rattle.vq_model.proofs.Puts.{put_there}
 use Rattle.vq_plan_laws.proofs.Cited.{plan_well_formed}
 use Rattle.vq_board_laws.specs.declared.view.View.{View}
@@ -27,16 +30,12 @@ use Rattle.vq_board_laws.proofs.Columns.{place_set}
 use Rattle.vq_board_laws.proofs.Frames.{facts_stay, so_unread, knowledge_stays, ownership_stays, points_stay, references_stay}
 use Rattle.vq_board_laws.proofs.JobParts.{RunFields, run_fields, runs_none, OwnRun}
 use Rattle.vq_board_laws.proofs.Needs.{needs_reached}
-use Rattle.vq_board_laws.proofs.Logs.{filled_put, has_room, bytes_push}
+use Rattle.vq_board_laws.proofs.Logs.{filled_put, has_room}
 use Rattle.vq_board_laws.proofs.Runs.{end_state, reach_further}
 use Rattle.vq_board_laws.proofs.Since.{since_rises}
-use Rattle.vq_board_laws.proofs.Taken.{next_at, taken_has, taken_more, drop_next, dropped_has, later_greater}
+use Rattle.vq_board_laws.proofs.Taken.{next_at, taken_more, drop_next, dropped_has, later_greater}
 use Rattle.vq_board_laws.proofs.TurnSteps.{one_holder}
 use Rattle.vq_board_laws.proofs.Views.{each_pass, same_length, other_role}
-
--- what isn't c and isn't in the log isn't in the log with c
-not_pushed : (log : List ℕ) (c y : ℕ) → has log y ≡ false → c ≢ y → has (log ++ c ∷ []) y ≡ false
-not_pushed log c y absent ne = false_from_ne_true (has (log ++ c ∷ []) y) (λ h. elim (pushed log c y h) [ inl m ↦ false≢true (sym absent ∙ m) | inr e ↦ ne e ])
 
 module _ (p : Plan) (laws : RunLaws p) (s : State LoggedBuffers View) (id c : ℕ) (v : View) (k : Kept p s) (at : get_elem? s.views id ≡ some v) (may : MayEnter p v c) where
   abbrev d : Words
@@ -64,7 +63,7 @@ module _ (p : Plan) (laws : RunLaws p) (s : State LoggedBuffers View) (id c : �
   count = (k.rule.log.holding id v at).counted n may.held
 
   in_job : has (commands_of p j) c ≡ true
-  in_job = taken_has (commands_of p j) v.entered c may.next
+  in_job = get_has (commands_of p j) v.entered c may.next
 
   new : has log c ≡ false
   new = own.later_commands j c may.runs (subst (λ (cs : List ℕ). has cs c ≡ true) (sym (drop_next (commands_of p j) v.entered c may.next)) (has_here c (drop (suc v.entered) (commands_of p j))))

@@ -8,7 +8,7 @@ use Rattle.atomic_table.specs.Table.{State}
 use Rattle.vq_model.specs.LoweringFaults.{IsPlan}
 use Rattle.vq_model.specs.Plan.{Plan}
 use Rattle.vq_model.specs.Signals.{chain_ops}
-use Rattle.vq_points.specs.PointWord.{parts}
+use Rattle.vq_point_laws.specs.PointWord.{parts}
 use Rattle.vq_model.specs.Limits.{limits_of}
 use Rattle.vq_reading_laws.proofs.Cited.{read_valid, most_queues}
 use Rattle.vq_board_laws.specs.declared.view.View.{View}

@@ -8,7 +8,8 @@ use lib.Seq.{set-get_or}
 use Rattle.atomic_table.specs.Table.{State}
 use Rattle.atomic_table.proofs.Lists.{at_set}
 use Rattle.vq_model.specs.Memory.{Memory}
-use Rattle.vq_model.specs.Plan.{Plan, has}
+use Rattle.vq_model.specs.Plan.{Plan}
+use Rattle.vq_ground.specs.Lists.{has}
 use Rattle.vq_board_laws.specs.declared.view.View.{View}
 use Rattle.vq_board_laws.specs.declared.view.Fact.{Fact}
 use Rattle.vq_board_laws.specs.declared.view.Fact.TheVariants.{Job, Taken, Bound, BoundTo, Made, Past}

@@ -16,11 +16,12 @@ use Rattle.vq_model.specs.declared.plan.Question.TheVariants.{Silent, Reached as
 use Rattle.vq_model.specs.declared.plan.Question.TheVariants.{Value as AsksValue}
 use Rattle.vq_model.specs.Edges.{At, AtEnd}
 use Rattle.vq_model.specs.Machine.{Progress, State as MachineState, is_reached, are_reached, was_since, may_answer}
-use Rattle.vq_model.specs.Plan.{Plan, has, asked, question, is_silent, value, initial, chain, chain_of}
+use Rattle.vq_model.specs.Plan.{Plan, asked, question, is_silent, value, initial, chain, chain_of}
+use Rattle.vq_ground.specs.Lists.{has}
 use Rattle.vq_model.specs.Sure.{RisesFrom}
 use Rattle.vq_model.specs.WellFormed.{AreInOrder}
-use Rattle.vq_model.proofs.Lists.{has_cases, split_at, any_has}
-use Rattle.vq_model.proofs.Searches.{find_fails}
+use Rattle.vq_ground.proofs.Lists.{has_cases, split_at, any_has}
+use Rattle.vq_ground.proofs.Searches.{find_fails}
 use Rattle.vq_order_laws.proofs.Cited.{plan_has_sure_order}
 use Rattle.vq_plan_laws.proofs.Cited.{plan_well_formed, plan_hosts, needs_alike, same_reached}
 use Rattle.vq_run_laws.proofs.Cited.{above_initial}

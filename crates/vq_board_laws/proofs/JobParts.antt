@@ -4,7 +4,8 @@ use mathlib.Core.Option.{some}
 use mathlib.Core.Option as maybe
 use lib.ListN.{get_elem?}
 use Rattle.atomic_table.specs.Table.{State}
-use Rattle.vq_model.specs.Plan.{Plan, has, is_batch, is_host_step}
+use Rattle.vq_model.specs.Plan.{Plan, is_batch, is_host_step}
+use Rattle.vq_ground.specs.Lists.{has}
 use Rattle.vq_model.specs.Edges.{At}
 use Rattle.vq_model.specs.Machine.{put, are_reached}
 use Rattle.vq_model.proofs.Puts.{put_there}

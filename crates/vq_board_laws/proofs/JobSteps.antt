@@ -5,9 +5,10 @@ use lib.ListN.{get_elem?}
 use native.Mathlib.Decide.{dec_le}
 use Rattle.std.proofs.lemmas.Bool.{le-ltb, false≢true, and_parts, ltb-true}
 use Rattle.atomic_table.specs.Table.{State, step, keeps, Allows}
-use Rattle.vq_model.specs.Plan.{Plan, has, is_batch, is_host_step}
+use Rattle.vq_model.specs.Plan.{Plan, is_batch, is_host_step}
+use Rattle.vq_ground.specs.Lists.{has}
 use Rattle.vq_model.specs.Machine.{put, Progress}
-use Rattle.vq_model.proofs.Lists.{has_here, has_there}
+use Rattle.vq_ground.proofs.Lists.{has_here, has_there}
 use Rattle.vq_model.proofs.Puts.{put_here}
 use Rattle.vq_model.proofs.Plans.{batch_exists}
 use Rattle.vq_board_laws.specs.declared.view.View.{View}

@@ -40,3 +40,4 @@ mod Taken
 mod ToldLists
 mod TurnSteps
 mod Views
+mod Learned

@@ -1,23 +1,22 @@
 -- The log of commands: its filled places, its room, and what its commands leave in the buffers.
 use Rattle.std.proofs.Common.{◌≡◌, ◌≢◌, ℕ, zero, suc, ◌-◌, ◌<◌, ◌≤◌, Bool, true, false, cond, eqb, not, List, [], ◌∷◌, ◌++◌, length, Option, Some, refl, ap, sym, ◌∙◌, subst, arith, inl, inr, ne_eqb, eq-eqb, length-append, append-nil}
 use mathlib.Core.Logic.{dite}
+use Rattle.vq_spec.proofs.Cited.{after_all-append}
 use native.Mathlib.Decide.{ℕ_discrete}
 use Rattle.std.specs.Prelude.{fold}
-use Rattle.std.specs.List.{slice_get, filter_map, cons_option}
+use Rattle.std.specs.List.{filter_map, cons_option}
 use Rattle.std.proofs.lemmas.Bool.{false_from_ne_true, false≢true, eqb-true, not-true}
 use Rattle.std.proofs.lemmas.List.Elements.{filter_map-append}
 use Rattle.vq_model.specs.declared.script.Command.{Command}
-use Rattle.vq_model.specs.declared.script.CommandLine.{CommandLine}
-use Rattle.vq_model.specs.Memory.{Memory, effect, after_all}
-use Rattle.vq_model.specs.Plan.{Plan, has, commands_of, command_at}
+use Rattle.vq_model.specs.Memory.{effect, after_all}
+use Rattle.vq_model.specs.Plan.{Plan, commands_of, command_at}
+use Rattle.vq_ground.specs.Lists.{has}
 use Rattle.vq_model.specs.SlowRun.{bytes_after, zeros}
 use Rattle.vq_model.specs.WellFormed.{IsWellFormed}
 use Rattle.vq_model.specs.Machine.{Progress, State, Step, put, CanStep, RunFrom, after_step, opening_state, with_signal, StartStep, ApplyStep, SignalStep, FinishStep, AnswerStep}
-use Rattle.vq_model.proofs.Lists.{AreDistinct, has_here, has_there, has_cases, distinct_push, pushed}
+use Rattle.vq_ground.proofs.Lists.{AreDistinct, has_here, has_there, has_cases, distinct_push, pushed}
 use Rattle.vq_model.proofs.Puts.{put_here, put_there}
-use Rattle.vq_model.proofs.Searches.{find_member, find_passes}
-use Rattle.vq_model.proofs.Gets.{get_within}
-use Rattle.vq_model.proofs.Options.{some_of}
+use Rattle.vq_ground.proofs.Searches.{find_member, find_passes}
 use Rattle.vq_model.proofs.Plans.{command_exists}
 use Rattle.vq_board_laws.specs.Words.{filled}
 use Rattle.vq_board_laws.specs.declared.view.View.{View}
@@ -158,14 +157,3 @@ has_room p s job views j c w r member new =
     omega arith
 
 -- Bytes
-
-after_both : (cs ds : List Command) (m : Memory) → after_all (cs ++ ds) m ≡ after_all ds (after_all cs m)
-after_both [] ds m = refl
-after_both (c ∷ cs) ds m = after_both cs ds (effect c m)
-
--- one command more in the log
-pub bytes_push : (p : Plan) (log : List ℕ) (c : ℕ) (x : Command) → command_at p c ≡ Some x → bytes_after p (log ++ c ∷ []) ≡ effect x (bytes_after p log)
-bytes_push p log c x is =
-    ap (λ (cs : List Command). after_all cs (zeros p)) (filter_map-append (command_at p) log (c ∷ []))
-    ∙ (after_both (filter_map (command_at p) log) (filter_map (command_at p) (c ∷ [])) (zeros p)
-    ∙ ap (λ (o : Option Command). after_all (cons_option o []) (bytes_after p log)) is)

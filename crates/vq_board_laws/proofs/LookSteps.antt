@@ -3,9 +3,10 @@ use Rattle.std.proofs.Common.{◌≡◌, ◌⊎◌, ℕ, ◌+◌, Bool, true, fa
 use mathlib.Core.Option.{none}
 use Rattle.std.proofs.lemmas.Bool.{eqb-true, false≢true, not-true, and_parts, and_from}
 use Rattle.atomic_table.specs.Table.{step, keeps, Allows}
-use Rattle.vq_model.specs.Plan.{Plan, has}
-use Rattle.vq_model.proofs.Lists.{has_cases, has-append_cases}
-use Rattle.vq_points.specs.PointWord.{parts}
+use Rattle.vq_model.specs.Plan.{Plan}
+use Rattle.vq_ground.specs.Lists.{has}
+use Rattle.vq_ground.proofs.Lists.{has_cases, has-append_cases}
+use Rattle.vq_point_laws.specs.PointWord.{parts}
 use Rattle.vq_board_laws.specs.declared.view.View.{View}
 use Rattle.vq_board_laws.specs.declared.view.Fact.{Fact}
 use Rattle.vq_board_laws.specs.declared.view.Fact.TheVariants.{Job, Taken, Bound, BoundTo, Made, Past}

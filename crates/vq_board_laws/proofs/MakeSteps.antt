@@ -6,8 +6,9 @@ use native.Mathlib.Decide.{ℕ_discrete}
 use lib.ListN.{get_elem?}
 use Rattle.atomic_table.specs.Table.{step, keeps, Allows}
 use Rattle.atomic_table.proofs.Lists.{at_set}
-use Rattle.vq_model.specs.Plan.{Plan, has}
-use Rattle.vq_model.proofs.Lists.{has_there, has_cases}
+use Rattle.vq_model.specs.Plan.{Plan}
+use Rattle.vq_ground.specs.Lists.{has}
+use Rattle.vq_ground.proofs.Lists.{has_there, has_cases}
 use Rattle.vq_board_laws.specs.declared.view.View.{View}
 use Rattle.vq_board_laws.specs.Roles.{share_of, role_count}
 use Rattle.vq_board_laws.specs.Words.{Words, words_of, count_word, made_of, log_of, shown}

@@ -5,7 +5,8 @@ use lib.ListN.{get_elem?}
 use native.Mathlib.Decide.{dec_le}
 use Rattle.std.proofs.lemmas.Bool.{false≢true}
 use Rattle.vq_model.specs.Machine.{Progress, State}
-use Rattle.vq_model.specs.Plan.{Plan, has, value, chain_of}
+use Rattle.vq_model.specs.Plan.{Plan, value, chain_of}
+use Rattle.vq_ground.specs.Lists.{has}
 use Rattle.vq_board_laws.specs.declared.view.View.{View}
 use Rattle.vq_board_laws.specs.declared.view.Told.{Told}
 use Rattle.vq_board_laws.specs.Reached.{IsReached, SinceStart, InOrder, answer_told}

@@ -6,11 +6,12 @@ use native.Mathlib.Decide.{ℕ_discrete}
 use Rattle.std.proofs.lemmas.Bool.{false≢true}
 use lib.ListN.{get_elem?}
 use Rattle.atomic_table.specs.Table.{State, step, keeps, Allows}
-use Rattle.vq_model.specs.Plan.{Plan, has, signals_of}
+use Rattle.vq_model.specs.Plan.{Plan, signals_of}
+use Rattle.vq_ground.specs.Lists.{has}
 use Rattle.vq_model.specs.Machine.{put}
-use Rattle.vq_model.proofs.Lists.{has_here, has_there, has_cases}
+use Rattle.vq_ground.proofs.Lists.{has_here, has_there, has_cases}
 use Rattle.vq_model.proofs.Puts.{put_here}
-use Rattle.vq_points.specs.PointWord.{parts}
+use Rattle.vq_point_laws.specs.PointWord.{parts}
 use Rattle.vq_board_laws.specs.declared.view.View.{View}
 use Rattle.vq_board_laws.specs.declared.view.LoggedBuffers.{LoggedBuffers}
 use Rattle.vq_board_laws.specs.declared.view.OpState.{OpState}

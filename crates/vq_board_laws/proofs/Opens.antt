@@ -4,15 +4,17 @@ use mathlib.Core.Option.{some, some-injective}
 use lib.ListN.{get_elem?}
 use Rattle.std.proofs.lemmas.Bool.{le-ltb, false≢true}
 use Rattle.std.proofs.lemmas.List.Sums.{sum_by-cons}
+use Rattle.vq_ground.proofs.Elements.{at_end, at_one}
 use Rattle.atomic_table.specs.Table.{opening, Splits}
 use Rattle.atomic_table.proofs.Lists.{set_here, at_longer}
 use Rattle.vq_model.specs.Checks.{IsLawful}
 use Rattle.vq_model.specs.LoweringFaults.{IsPlan}
 use Rattle.vq_model.specs.Machine.{opening_state, state_after}
-use Rattle.vq_model.specs.Plan.{Plan, has, value, initial, chain}
+use Rattle.vq_model.specs.Plan.{Plan, value, initial, chain}
+use Rattle.vq_ground.specs.Lists.{has}
 use Rattle.vq_model.specs.SlowRun.{zeros, greatest, bytes_after}
-use Rattle.vq_model.proofs.Filters.{filter_empty}
-use Rattle.vq_points.specs.PointWord.{parts}
+use Rattle.vq_ground.proofs.Filters.{filter_empty}
+use Rattle.vq_point_laws.specs.PointWord.{parts}
 use Rattle.vq_board_laws.specs.declared.view.View.{View}
 use Rattle.vq_board_laws.specs.declared.view.LoggedBuffers.{LoggedBuffers}
 use Rattle.vq_board_laws.specs.Roles.{role_count, share_of}
@@ -30,7 +32,7 @@ use Rattle.vq_board_laws.proofs.Logs.{nothing_filled}
 use Rattle.vq_board_laws.proofs.MadeWords.{unbound_value}
 use Rattle.vq_board_laws.proofs.PointBits.{no_word}
 use Rattle.vq_board_laws.proofs.Since.{since_nothing}
-use Rattle.vq_board_laws.proofs.Views.{at_inside, at_one, at_end, each_pass, sum_moves, sum_more}
+use Rattle.vq_board_laws.proofs.Views.{at_inside, each_pass, sum_moves, sum_more}
 
 -- Where nothing has happened
 

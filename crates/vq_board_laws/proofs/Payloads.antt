@@ -1,15 +1,16 @@
 -- The payload of a chain: it is the initial value or what a made operation sets, none of these is above it, and a signal that is above it becomes it.
-use Rattle.std.proofs.Common.{◌≡◌, ◌≢◌, ℕ, ◌<◌, ◌≤◌, max, Bool, true, cond, List, [], ◌∷◌, map, filter, refl, ap, sym, ◌∙◌, subst, arith, inl, inr, Some}
+use Rattle.std.proofs.Common.{◌≡◌, ◌≢◌, ℕ, ◌<◌, ◌≤◌, max, Bool, true, List, [], ◌∷◌, map, filter, refl, ap, sym, ◌∙◌, subst, arith, inl, inr, Some}
 use mathlib.Core.Logic.{dite}
+use Rattle.std.proofs.lemmas.Option.{same_Some}
 use native.Mathlib.Decide.{ℕ_discrete, dec_le}
 use Rattle.std.proofs.lemmas.Bool.{false≢true}
 use Rattle.vq_model.specs.Machine.{put}
-use Rattle.vq_model.specs.Plan.{Plan, has, value, initial, chain, chain_of}
+use Rattle.vq_model.specs.Plan.{Plan, value, initial, chain, chain_of}
+use Rattle.vq_ground.specs.Lists.{has}
 use Rattle.vq_model.specs.SlowRun.{greatest}
 use Rattle.vq_model.specs.WellFormed.{IsWellFormed}
-use Rattle.vq_model.proofs.Filters.{filter-has, filter-has_cases, same_filter}
-use Rattle.vq_model.proofs.Lists.{has_here, has_there, has_cases}
-use Rattle.vq_model.proofs.Options.{same_some}
+use Rattle.vq_ground.proofs.Filters.{filter-has, filter-has_cases, same_filter}
+use Rattle.vq_ground.proofs.Lists.{has_here, has_there, has_cases}
 use Rattle.vq_model.proofs.Puts.{put_here, put_there, put_cases}
 use Rattle.vq_board_laws.specs.Reached.{IsPayload}
 use Rattle.vq_board_laws.specs.Words.{payload_of}
@@ -93,7 +94,7 @@ module _ (p : Plan) (w : IsWellFormed p) (made : ℕ → Bool) (e t : ℕ) (in_c
 
   payload_else : (u : ℕ) → u ≢ t → payload_of p more u ≡ payload_of p made u
   payload_else u ne = ap (λ (es : List ℕ). greatest (initial p u) (map (value p) es)) (same_filter more made (chain p u) (λ x h. put_there made e true x (λ is.
-      ne (same_some u t (sym (w.of_chain x u h) ∙ (ap (chain_of p) is ∙ in_chain))))))
+      ne (same_Some u t (sym (w.of_chain x u h) ∙ (ap (chain_of p) is ∙ in_chain))))))
 
   pub payload_set : (u : ℕ) → put (payload_of p made) t (value p e) u ≡ payload_of p more u
   payload_set = put_each (payload_of p made) t (value p e) (λ u y. y ≡ payload_of p more u) (sym payload_here) (λ u ne. sym (payload_else u ne))

@@ -1,7 +1,7 @@
 -- A point's word as a number: its parts where a reference more or less is counted, where it is signaled, and where it is new.
 use Rattle.std.proofs.Common.{◌≡◌, ℕ, zero, suc, ◌+◌, ◌-◌, ◌/◌, ◌%◌, ◌^◌, ◌<◌, true, false, eqb, refl, ap, sym, ◌∙◌, arith, inl, inr, eq-eqb, ne_eqb}
 use Rattle.std.proofs.lemmas.Bool.{eqb-true, false≢true}
-use Rattle.vq_points.specs.PointWord.{parts}
+use Rattle.vq_point_laws.specs.PointWord.{parts}
 use Rattle.vq_board_laws.specs.Points.{IsWord}
 use Rattle.vq_board_laws.specs.PointSteps.{carrying_word}
 use Rattle.vq_board_laws.specs.Words.{Carries}

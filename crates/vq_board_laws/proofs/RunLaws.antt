@@ -1,14 +1,15 @@
 -- In each state of a run the signals of a job are made in their order, and those of a finished job are made.
-use Rattle.std.proofs.Common.{◌≡◌, ℕ, ◌<◌, Bool, true, false, not, List, [], ◌∷◌, Option, Some, refl, ap, sym, ◌∙◌, subst, arith, ⊎_elim, inl, inr}
+use Rattle.std.proofs.Common.{◌≡◌, ℕ, ◌<◌, true, false, List, [], ◌∷◌, Option, Some, ap, sym, ◌∙◌, subst, arith, ⊎_elim, inl, inr}
 use Rattle.std.specs.Prelude.{fold}
-use Rattle.std.proofs.lemmas.Bool.{cond-true, cond-false, false≢true}
+use Rattle.std.proofs.lemmas.Bool.{false≢true}
+use Rattle.std.proofs.lemmas.Option.{same_Some}
 use Rattle.vq_model.specs.Machine.{Progress, State, Step, Run, RunFrom, CanStep, CanSignal, after_step, opening_state, state_after, with_signal, next, StartStep, ApplyStep, SignalStep, FinishStep, AnswerStep}
-use Rattle.vq_model.specs.Plan.{Plan, has, job_of, signals_of}
+use Rattle.vq_model.specs.Plan.{Plan, job_of, signals_of}
+use Rattle.vq_ground.specs.Lists.{has}
 use Rattle.vq_model.specs.Sure.{IsSure}
-use Rattle.vq_model.specs.WellFormed.{AreRising, IsWellFormed}
+use Rattle.vq_model.specs.WellFormed.{IsWellFormed}
 use Rattle.vq_model.specs.Windows.{itself, signaled_earlier, sure}
-use Rattle.vq_model.proofs.Lists.{has_cases, list_all_has}
-use Rattle.vq_model.proofs.Options.{same_some}
+use Rattle.vq_ground.proofs.Lists.{list_all_has}
 use Rattle.vq_model.proofs.Puts.{put_cases, put_keeps}
 use Rattle.vq_run_laws.proofs.Cited.{next_in, next_before}
 use Rattle.vq_run_laws.specs.RunFacts.{IsSureInTime, MakesAsPayloadsSay}
@@ -23,7 +24,7 @@ order_signaled p s e w k can = record {
   earlier = λ f g j of_f of_g l m. put_keeps s.made e g (elim (put_cases s.made e f m) [
     | inl is ↦
         let member = (next_in s.made (signals_of p can.job) e can.next).0 in
-        let same : j ≡ can.job = same_some j can.job (sym of_f ∙ (ap (job_of p) is ∙ w.of_job e can.job member)) in
+        let same : j ≡ can.job = same_Some j can.job (sym of_f ∙ (ap (job_of p) is ∙ w.of_job e can.job member)) in
         next_before s.made (signals_of p can.job) e g (w.signals can.job) can.next (subst (λ (i : ℕ). has (signals_of p i) g ≡ true) same (w.in_job g j of_g)) (omega arith)
     | inr t ↦ k.earlier f g j of_f of_g l t
   ]);

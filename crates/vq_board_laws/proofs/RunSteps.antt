@@ -12,10 +12,11 @@ use Rattle.atomic_table.specs.Table.{State, step, keeps, Allows}
 use Rattle.vq_model.specs.declared.plan.Lane.{Lane}
 use Rattle.vq_model.specs.declared.plan.Lane.TheVariants.{Host as HostLane, Queue as QueueLane}
 use Rattle.vq_model.specs.declared.plan.PlanJob.{PlanJob}
-use Rattle.vq_model.specs.Plan.{Plan, has, is_batch, is_host_step, is_host_lane, is_silent, question, previous, host_before, idle_after, commands_of, signals_of}
+use Rattle.vq_model.specs.Plan.{Plan, is_batch, is_host_step, is_host_lane, is_silent, question, previous, host_before, idle_after, commands_of, signals_of}
+use Rattle.vq_ground.specs.Lists.{has}
 use Rattle.vq_model.specs.Edges.{AtEnd, At, must_finish}
 use Rattle.vq_model.specs.Machine.{Progress, State as MachineState, put, are_reached, CanStart, StartStep, FinishStep, IsDone, after_progress, after_step}
-use Rattle.vq_model.proofs.Lists.{has_here, has_there, has_cases, has-append_cases, list_all_from, in_option}
+use Rattle.vq_ground.proofs.Lists.{has_here, has_there, has_cases, has-append_cases, list_all_from, in_option}
 use Rattle.vq_model.proofs.Puts.{put_here, put_there}
 use Rattle.vq_model.proofs.Plans.{batch_of, batch_no_step}
 use Rattle.vq_plan_laws.proofs.Cited.{plan_well_formed, plan_hosts}

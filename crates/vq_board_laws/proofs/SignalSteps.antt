@@ -2,21 +2,23 @@
 use Rattle.std.proofs.Common.{◌≡◌, ◌≢◌, ◌⊎◌, ℕ, suc, ◌+◌, ◌%◌, ◌^◌, ◌<◌, ◌≤◌, Bool, true, false, List, [], length, take, take_all, drop, set, refl, ap, sym, ◌∙◌, subst, arith, inl, inr, Option, Some, length-set, lt-ltb, le-ltb}
 use mathlib.Core.Option.{some, none}
 use mathlib.Core.Logic.{dite}
+use Rattle.std.proofs.lemmas.Option.{same_Some}
+use Rattle.vq_ground.proofs.Gets.{get_has}
 use native.Mathlib.Decide.{ℕ_discrete, dec_le}
 use lib.ListN.{get_elem?}
 use Rattle.std.specs.List.{slice_get}
 use Rattle.std.proofs.lemmas.Bool.{false_from_ne_true, false≢true}
 use Rattle.atomic_table.specs.Table.{State, step, keeps, Allows}
-use Rattle.vq_model.specs.Plan.{Plan, has, value, chain_of, job_of, commands_of, signals_of}
+use Rattle.vq_model.specs.Plan.{Plan, value, chain_of, job_of, commands_of, signals_of}
+use Rattle.vq_ground.specs.Lists.{has}
 use Rattle.vq_model.specs.Edges.{At, AtEnd}
 use Rattle.vq_model.specs.Machine.{put, Progress, State as RunState, SignalStep, CanSignal, with_signal, after_progress, after_step}
 use Rattle.vq_model.specs.WellFormed.{IsWellFormed}
-use Rattle.vq_model.proofs.Lists.{has_here, has_there, list_all_from}
-use Rattle.vq_model.proofs.Options.{same_some}
+use Rattle.vq_ground.proofs.Lists.{has_here, has_there, list_all_from}
 use Rattle.vq_model.proofs.Puts.{put_here, put_keeps}
 use Rattle.vq_plan_laws.proofs.Cited.{plan_well_formed}
 use Rattle.vq_order_laws.proofs.Cited.{op_chain, are_reached_still}
-use Rattle.vq_points.specs.PointWord.{parts}
+use Rattle.vq_point_laws.specs.PointWord.{parts}
 use Rattle.vq_board_laws.specs.declared.view.View.{View}
 use Rattle.vq_board_laws.specs.declared.view.LoggedBuffers.{LoggedBuffers}
 use Rattle.vq_board_laws.specs.declared.view.Reference.{Reference}
@@ -42,7 +44,7 @@ use Rattle.vq_board_laws.proofs.Needs.{needs_reached}
 use Rattle.vq_board_laws.proofs.Payloads.{payload_set, payload_rises}
 use Rattle.vq_board_laws.proofs.PointBits.{signaled_held, signaled_set, signaled_op, signaled_refs, signaled_word, signaled_fits, no_word}
 use Rattle.vq_board_laws.proofs.Runs.{end_state, reach_further}
-use Rattle.vq_board_laws.proofs.Taken.{next_at, taken_has, taken_more, drop_next, dropped_has, later_greater}
+use Rattle.vq_board_laws.proofs.Taken.{next_at, taken_more, drop_next, dropped_has, later_greater}
 use Rattle.vq_board_laws.proofs.Views.{each_pass, same_length, other_role, sum_stays}
 
 module _ (p : Plan) (s : State LoggedBuffers View) (id e q : ℕ) (v : View) (laws : RunLaws p) (may : MaySignal p v e) (bound : Knows v.known (BoundTo e q)) (k : Kept p s) (at : get_elem? s.views id ≡ some v) where
@@ -83,7 +85,7 @@ module _ (p : Plan) (s : State LoggedBuffers View) (id e q : ℕ) (v : View) (la
   formed = plan_well_formed p k.plan
 
   in_job : has (signals_of p j) e ≡ true
-  in_job = taken_has (signals_of p j) v.signaled e may.next
+  in_job = get_has (signals_of p j) v.signaled e may.next
 
   job : job_of p e ≡ Some j
   job = formed.of_job e j in_job
@@ -210,7 +212,7 @@ module _ (p : Plan) (s : State LoggedBuffers View) (id e q : ℕ) (v : View) (la
     made_signals = λ a b is h. made_up b (o.made_signals a b is h);
     later_signals = λ a b is h. made_else b (λ same.
         let theirs : job_of p e ≡ Some a = sym (ap (job_of p) same) ∙ formed.of_job b a (dropped_has (signals_of p a) u.signaled b h) in
-        let one : a ≡ j = same_some a j (sym theirs ∙ job) in
+        let one : a ≡ j = same_Some a j (sym theirs ∙ job) in
         ne (sym (o.runs_one a is).0 ∙ (ap (runner p) one ∙ runs.0))) ∙ o.later_signals a b is h;
   }
 
@@ -247,7 +249,7 @@ module _ (p : Plan) (s : State LoggedBuffers View) (id e q : ℕ) (v : View) (la
         ranged = k.rule.jobs.ranged;
         applied_begun = k.rule.jobs.applied_begun;
         made_begun = λ a b h o. dite (ℕ_discrete a e)
-            (λ is. let one : b ≡ j = same_some b j (sym o ∙ (ap (job_of p) is ∙ job)) in let same = ap d.job one in let t = runs.1 in omega arith)
+            (λ is. let one : b ≡ j = same_Some b j (sym o ∙ (ap (job_of p) is ∙ job)) in let same = ap d.job one in let t = runs.1 in omega arith)
             (λ ne. k.rule.jobs.made_begun a b (sym (made_else a ne) ∙ h) o);
         reached = λ a h. are_reached_still p (payload_of p made) (payload_of p made') payload_up a (At 1) (k.rule.jobs.reached a h);
       }
@@ -314,8 +316,8 @@ module _ (p : Plan) (s : State LoggedBuffers View) (id e q : ℕ) (v : View) (la
 -- the operation that a pass may signal next is one
 one_signal : (p : Plan) (v : View) (e f : ℕ) → MaySignal p v e → MaySignal p v f → e ≡ f
 one_signal p v e f a b =
-    let same : a.job ≡ b.job = same_some a.job b.job (sym a.runs ∙ b.runs) in
-    same_some e f (sym a.next ∙ (ap (λ (j : ℕ). slice_get (signals_of p j) v.signaled) same ∙ b.next))
+    let same : a.job ≡ b.job = same_Some a.job b.job (sym a.runs ∙ b.runs) in
+    same_Some e f (sym a.next ∙ (ap (λ (j : ℕ). slice_get (signals_of p j) v.signaled) same ∙ b.next))
 
 pub signals_op : (p : Plan) (slots id : ℕ) (m : Mine) (e q : ℕ) → RunLaws p → MaySignal p m.0 e → Knows m.0.known (BoundTo e q) → q < length p.ops
     → Allows (Kept p) slots id m (point_word q) (λ n. (n + 2 ^ 48) % 2 ^ 64) (signaled (step slots (point_word q) (2 ^ 48) 0 none) m)

@@ -7,10 +7,11 @@ use Rattle.std.proofs.lemmas.List.FromFn.{length-map-range_with_len}
 use Rattle.atomic_table.specs.Table.{State}
 use Rattle.vq_model.specs.declared.script.Command.{Command}
 use Rattle.vq_model.specs.Memory.{Memory, HasSizes, buffer, effect, after_all, zeros_of}
-use Rattle.vq_model.specs.Plan.{Plan, has, commands_of, command_at}
+use Rattle.vq_model.specs.Plan.{Plan, commands_of, command_at}
+use Rattle.vq_ground.specs.Lists.{has}
 use Rattle.vq_model.specs.SlowRun.{bytes_after, zeros}
 use Rattle.vq_model.specs.WellFormed.{IsWellFormed}
-use Rattle.vq_model.proofs.Lists.{has_here, has_there}
+use Rattle.vq_ground.proofs.Lists.{has_here, has_there}
 use Rattle.vq_model.proofs.Sizes.{sizes_are}
 use Rattle.vq_memory_laws.proofs.Cited.{effect_sizes}
 use Rattle.vq_plan_laws.proofs.Cited.{plan_well_formed}

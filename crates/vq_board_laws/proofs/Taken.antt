@@ -2,10 +2,9 @@
 use Rattle.std.proofs.Common.{◌≡◌, ℕ, zero, suc, ◌<◌, Bool, true, false, not, List, [], ◌∷◌, Some, None, take, drop, refl, ap, sym, ◌∙◌, subst, inl, inr, ◌⊎◌}
 use Rattle.std.specs.List.{slice_get}
 use Rattle.std.proofs.lemmas.Bool.{cond-true, cond-false, false≢true}
-use Rattle.vq_model.specs.Plan.{has}
+use Rattle.vq_ground.specs.Lists.{has, AreRising}
 use Rattle.vq_model.specs.Machine.{next}
-use Rattle.vq_model.specs.WellFormed.{AreRising}
-use Rattle.vq_model.proofs.Lists.{has_here, has_there, has_cases}
+use Rattle.vq_ground.proofs.Lists.{has_here, has_there, has_cases}
 
 -- the first that isn't done
 pub next_at : (done : ℕ → Bool) (xs : List ℕ) (n c : ℕ) → slice_get xs n ≡ Some c → ((x : ℕ) → has (take n xs) x ≡ true → done x ≡ true) → done c ≡ false → next done xs ≡ Some c
@@ -15,11 +14,6 @@ next_at done (x ∷ xs) zero c e f new =
     cond-true (not (done x)) (Some x) (next done xs) (ap not (ap done same ∙ new)) ∙ ap (λ (z : ℕ). Some z) same
 next_at done (x ∷ xs) (suc n) c e f new =
     cond-false (not (done x)) (Some x) (next done xs) (ap not (f x (has_here x (take n xs)))) ∙ next_at done xs n c e (λ y h. f y (has_there x (take n xs) y h)) new
-
-pub taken_has : (xs : List ℕ) (n c : ℕ) → slice_get xs n ≡ Some c → has xs c ≡ true
-taken_has [] n c e = let g : None ≡ Some c = e in absurd cc
-taken_has (x ∷ xs) zero c e = let same : x ≡ c = cc in subst (λ (z : ℕ). has (x ∷ xs) z ≡ true) same (has_here x xs)
-taken_has (x ∷ xs) (suc n) c e = has_there x xs c (taken_has xs n c e)
 
 -- among the first none there is nothing, and all is left after them
 pub none_taken : (xs : List ℕ) (y : ℕ) → has (take zero xs) y ≡ true → ⊥

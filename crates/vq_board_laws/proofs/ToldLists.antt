@@ -4,6 +4,7 @@ use Rattle.std.specs.Prelude.{is_some}
 use Rattle.std.specs.List.{filter_map, cons_option, range_with_len}
 use Rattle.std.specs.Option.{option_map_or}
 use mathlib.Core.Logic.{dite}
+use Rattle.std.proofs.lemmas.Option.{slice_get_past}
 use native.Mathlib.Decide.{ℕ_discrete, dec_le}
 use Rattle.std.proofs.lemmas.Bool.{cond-true, cond-false, false≢true}
 use Rattle.std.proofs.lemmas.List.{map-append, reverse-append}
@@ -15,8 +16,7 @@ use Rattle.vq_model.specs.declared.plan.Question.TheVariants.{Silent}
 use Rattle.vq_model.specs.Machine.{State}
 use Rattle.vq_model.specs.OutputText.{answer_at, lines_answered}
 use Rattle.vq_model.specs.Plan.{Plan, question, is_silent}
-use Rattle.vq_model.proofs.Gets.{slice_get_past}
-use Rattle.vq_model.proofs.Numbers.{range_push}
+use Rattle.vq_ground.proofs.Numbers.{range_push}
 use Rattle.vq_board_laws.specs.declared.view.Told.{Told}
 use Rattle.vq_board_laws.specs.Reached.{answer_told, lines_told, AreFalling}
 

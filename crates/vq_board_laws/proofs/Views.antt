@@ -1,5 +1,5 @@
 -- The list of passes, when one of them steps.
-use Rattle.std.proofs.Common.{◌≡◌, ◌≢◌, ◌⊎◌, ℕ, zero, suc, ◌+◌, ◌<◌, ◌≤◌, List, [], ◌∷◌, ◌++◌, length, set, get_or, refl, ap, sym, ◌∙◌, subst, arith, inl, inr, ⊎_elim, length-set}
+use Rattle.std.proofs.Common.{◌≡◌, ◌≢◌, ◌⊎◌, ℕ, zero, suc, ◌+◌, ◌<◌, ◌≤◌, List, [], ◌∷◌, ◌++◌, length, set, get_or, sym, ◌∙◌, subst, arith, ⊎_elim, length-set}
 use mathlib.Core.Option.{some, some-injective, some-ne-none}
 use lib.ListN.{get_elem?}
 use Rattle.std.specs.Prelude.{sum_by}
@@ -17,16 +17,6 @@ at_index : {A : Type 0} (l : List A) (i : ℕ) (a : A) → get_elem? l i ≡ som
 at_index [] i a e = absurd (some-ne-none a (sym e))
 at_index (x ∷ xs) zero a e = some-injective x a e
 at_index (x ∷ xs) (suc i) a e = at_index xs i a e
-
-pub at_one : {A : Type 0} (a b : A) (i : ℕ) → get_elem? (a ∷ []) i ≡ some b → (i ≡ 0) × (a ≡ b)
-at_one a b zero e = (refl, some-injective a b e)
-at_one a b (suc i) e = absurd (some-ne-none b (sym e))
-
-pub at_end : {A : Type 0} (l : List A) (a b : A) (j : ℕ) → get_elem? (l ++ a ∷ []) j ≡ some b → (get_elem? l j ≡ some b) ⊎ ((j ≡ length l) × (a ≡ b))
-at_end [] a b zero e = inr (refl, some-injective a b e)
-at_end [] a b (suc j) e = absurd (some-ne-none b (sym e))
-at_end (x ∷ xs) a b zero e = inl e
-at_end (x ∷ xs) a b (suc j) e = ⊎_elim inl (λ t. inr (ap suc t.0, t.1)) (at_end xs a b j e)
 
 -- what holds of the pass that steps and of each other holds of all
 pub each_pass : (Q : ℕ → View → Type 0) (views : List View) (id : ℕ) (w : View) → Q id w → ((i : ℕ) (u : View) → i ≢ id → get_elem? views i ≡ some u → Q i u) → Each Q (set views id w)

@@ -1,7 +1,8 @@
 -- Jobs on the board: what each pass knows exactly of its own. This project's own.
 use Rattle.std.specs.Prelude.{ℕ, Bool, true, false, List, [], ◌≡◌, ◌<◌}
 use Rattle.std.specs.Prelude.{◌≤◌, Option, Some, None, length, take, drop}
-use Rattle.vq_model.specs.Plan.{Plan, has, commands_of, signals_of, job_of, is_batch, is_host_step}
+use Rattle.vq_model.specs.Plan.{Plan, commands_of, signals_of, job_of, is_batch, is_host_step}
+use Rattle.vq_ground.specs.Lists.{has}
 use Rattle.vq_model.specs.Edges.{At}
 use Rattle.vq_model.specs.Machine.{are_reached}
 use Rattle.vq_board_laws.specs.declared.view.View.{View}

@@ -18,3 +18,4 @@ pub mod Ends
 pub mod MachineSteps
 pub mod OwnSteps
 pub mod Moments
+pub mod Learning

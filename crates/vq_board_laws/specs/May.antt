@@ -6,7 +6,8 @@ use Rattle.std.specs.List.{slice_get}
 use Rattle.vq_model.specs.declared.plan.Need.{Need}
 use Rattle.vq_model.specs.Edges.{Stage, At, AtEnd, needs_at, stage_of}
 use Rattle.vq_model.specs.Lanes.{lane_at}
-use Rattle.vq_model.specs.Plan.{Plan, has, previous, idle_after, needs, waits_for_any, commands_of, signals_of}
+use Rattle.vq_model.specs.Plan.{Plan, previous, idle_after, needs, waits_for_any, commands_of, signals_of}
+use Rattle.vq_ground.specs.Lists.{has}
 use Rattle.vq_model.specs.Plan.{is_batch, is_host_step, initial, chain, value, resolver, question, is_silent}
 use Rattle.vq_board_laws.specs.declared.view.View.{View}
 use Rattle.vq_board_laws.specs.declared.view.Fact.{Fact}

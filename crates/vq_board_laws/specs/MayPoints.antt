@@ -4,7 +4,8 @@ use Rattle.std.specs.Prelude.{ℕ, ◌≡◌, ◌<◌, Some, true, false, length
 use Rattle.std.specs.List.{slice_get}
 use Rattle.vq_model.specs.declared.plan.Lane.{Lane}
 use Rattle.vq_model.specs.Edges.{AtEnd}
-use Rattle.vq_model.specs.Plan.{Plan, has, chain, job_of, commands_of, signals_of, is_host_step}
+use Rattle.vq_model.specs.Plan.{Plan, chain, job_of, commands_of, signals_of, is_host_step}
+use Rattle.vq_ground.specs.Lists.{has}
 use Rattle.vq_board_laws.specs.declared.view.View.{View}
 use Rattle.vq_board_laws.specs.declared.view.JobState.TheVariants.{Released, Started}
 use Rattle.vq_board_laws.specs.Knowledge.{KnowsMade, KnowsSoFar}

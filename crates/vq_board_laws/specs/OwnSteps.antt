@@ -1,8 +1,8 @@
 -- What the record of a pass's steps shows: the steps of a view, of which the last stands first. They are
 -- numbered from 1. This project's own.
 use Rattle.std.specs.Prelude.{ℕ, List, [], ◌∷◌, ◌≡◌, ◌≢◌, ◌≤◌, ◌⊎◌, length, false, true}
-use Rattle.vq_model.specs.Plan.{has}
-use Rattle.vq_points.specs.PointWord.{parts}
+use Rattle.vq_ground.specs.Lists.{has}
+use Rattle.vq_point_laws.specs.PointWord.{parts}
 use Rattle.vq_board_laws.specs.declared.view.OwnStep.{OwnStep}
 use Rattle.vq_board_laws.specs.declared.view.View.{View}
 use Rattle.vq_board_laws.specs.Words.{op_word, point_word, Carries}

@@ -3,10 +3,10 @@
 use Rattle.std.specs.Prelude.{ℕ, suc, Bool, List, [], ◌∷◌, ◌++◌, length, filter, not}
 use Rattle.std.specs.Prelude.{◌+◌, ◌^◌, ◌<◌, ◌==◌, ◌&&◌, ◌≡◌, ◌≢◌, ◌⊎◌, false, if◌then◌else◌}
 use Rattle.atomic_table.specs.Table as Table
-use Rattle.vq_model.specs.Plan.{has}
+use Rattle.vq_ground.specs.Lists.{has}
 use Rattle.vq_model.specs.declared.plan.Answer.{Answer}
 use Rattle.vq_model.specs.declared.plan.Answer.TheVariants.{Reached, Timeout, NotReady, Value}
-use Rattle.vq_points.specs.PointWord.{parts}
+use Rattle.vq_point_laws.specs.PointWord.{parts}
 use Rattle.vq_board_laws.specs.declared.view.View.{View}
 use Rattle.vq_board_laws.specs.declared.view.Fact.{Fact}
 use Rattle.vq_board_laws.specs.declared.view.Fact.TheVariants.{Taken, Bound, BoundTo, Made, Past}

@@ -1,8 +1,9 @@
 -- Points on the board, and the operations that they carry. This project's own.
 use Rattle.std.specs.Prelude.{ℕ, List, [], ◌∷◌, ◌≡◌, ◌≢◌, ◌≤◌}
 use Rattle.std.specs.Prelude.{◌+◌, ◌<◌, ◌^◌, ◌⊎◌, length, true, false, Some}
-use Rattle.vq_model.specs.Plan.{Plan, has, chain_of}
-use Rattle.vq_points.specs.PointWord.{parts}
+use Rattle.vq_model.specs.Plan.{Plan, chain_of}
+use Rattle.vq_ground.specs.Lists.{has}
+use Rattle.vq_point_laws.specs.PointWord.{parts}
 use Rattle.vq_board_laws.specs.declared.view.View.{View}
 use Rattle.vq_board_laws.specs.declared.view.Reference.{Reference}
 use Rattle.vq_board_laws.specs.declared.view.Role.TheVariants.{Shelf}

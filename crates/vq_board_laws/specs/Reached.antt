@@ -7,7 +7,8 @@ use Rattle.vq_model.specs.declared.plan.Answer.{Answer}
 use Rattle.vq_model.specs.declared.plan.AnswerLine.{AnswerLine}
 use Rattle.vq_model.specs.Machine.{Progress, State, Step, Run, state_after}
 use Rattle.vq_model.specs.OutputText.{answer_at}
-use Rattle.vq_model.specs.Plan.{Plan, has, value, initial, chain_of, question, is_silent}
+use Rattle.vq_model.specs.Plan.{Plan, value, initial, chain_of, question, is_silent}
+use Rattle.vq_ground.specs.Lists.{has}
 use Rattle.vq_board_laws.specs.declared.view.View.{View}
 use Rattle.vq_board_laws.specs.declared.view.Told.{Told}
 use Rattle.vq_board_laws.specs.Knowledge.{Each}

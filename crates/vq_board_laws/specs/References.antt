@@ -1,6 +1,6 @@
 -- References to points. This project's own.
 use Rattle.std.specs.Prelude.{ℕ, List, ◌≡◌, ◌≤◌, ◌==◌, length, count_by, sum_by}
-use Rattle.vq_points.specs.PointWord.{parts}
+use Rattle.vq_point_laws.specs.PointWord.{parts}
 use Rattle.vq_board_laws.specs.declared.view.View.{View}
 use Rattle.vq_board_laws.specs.Words.{Carries}
 use Rattle.vq_board_laws.specs.Points.{reference, Lists}

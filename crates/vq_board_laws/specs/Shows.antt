@@ -10,7 +10,8 @@ use Rattle.vq_model.specs.declared.plan.Need.{Need}
 use Rattle.vq_model.specs.declared.plan.Question.{Question}
 use Rattle.vq_model.specs.declared.plan.Question.TheVariants.{Reached as AsksReached, PollAll, PollAny, Fence}
 use Rattle.vq_model.specs.declared.plan.Question.TheVariants.{Value as AsksValue}
-use Rattle.vq_model.specs.Plan.{Plan, has, asked, question, is_silent, initial, value, chain_of, resolver}
+use Rattle.vq_model.specs.Plan.{Plan, asked, question, is_silent, initial, value, chain_of, resolver}
+use Rattle.vq_ground.specs.Lists.{has}
 use Rattle.vq_board_laws.specs.declared.view.View.{View}
 use Rattle.vq_board_laws.specs.Knowledge.{IsKnownValue}
 use Rattle.vq_board_laws.specs.May.{KnowsReached}

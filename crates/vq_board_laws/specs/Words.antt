@@ -5,7 +5,7 @@ use Rattle.std.specs.Prelude.{if◌then◌else◌, nat_lt, slice_index, length, 
 use Rattle.vq_model.specs.Plan.{Plan, value, initial, chain}
 use Rattle.vq_model.specs.Machine.{Progress}
 use Rattle.vq_model.specs.SlowRun.{greatest}
-use Rattle.vq_points.specs.PointWord.{parts}
+use Rattle.vq_point_laws.specs.PointWord.{parts}
 
 -- Each job, operation, point and place of the log has a word; and there are the turn over the
 -- buffers and the count of points.

@@ -2,8 +2,9 @@
 -- started.
 use Rattle.std.proofs.Common.{◌≡◌, ℕ, true, false, Some, sym, ap, subst, ◌∙◌, arith}
 use Rattle.std.proofs.lemmas.Bool.{false≢true}
-use Rattle.vq_model.specs.Plan.{Plan, has, job_of, is_host_step}
-use Rattle.vq_model.proofs.Options.{same_some}
+use Rattle.std.proofs.lemmas.Option.{same_Some}
+use Rattle.vq_model.specs.Plan.{Plan, job_of, is_host_step}
+use Rattle.vq_ground.specs.Lists.{has}
 use Rattle.vq_board_laws.specs.declared.view.Fact.TheVariants.{Job}
 use Rattle.vq_board_laws.specs.declared.view.JobState.TheVariants.{Released, Started}
 use Rattle.vq_board_laws.specs.declared.view.View.{View}
@@ -14,7 +15,7 @@ use Rattle.vq_board_laws.specs.Points.{reference, Lists}
 module _ (p : Plan) (v : View) (e q j : ℕ) (of_job : job_of p e ≡ Some j) (lists : Lists v.carrying (reference q e)) (new : has v.bound e ≡ false)
     (earlier : (f : ℕ) → IsSmaller p f e → has v.bound f ≡ true) where
   its_job : (i : ℕ) → job_of p e ≡ Some i → j ≡ i
-  its_job i is = same_some j i (sym of_job ∙ is)
+  its_job i is = same_Some j i (sym of_job ∙ is)
 
   pub may_bind_released : is_host_step p j ≡ false → Knows v.known (Job j Released) → MayBind p v e q
   may_bind_released batch known = record {

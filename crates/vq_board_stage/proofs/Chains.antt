@@ -2,8 +2,8 @@
 use Rattle.std.proofs.Common.{◌≡◌, ℕ, zero, suc, ◌<◌, ◌≤◌, [], ◌∷◌, length, Some, None, ap, sym, ◌∙◌, arith}
 use Rattle.std.specs.List.{slice_get}
 use Rattle.std.specs.Option.{option_map, option_map_or}
-use Rattle.vq_model.proofs.Gets.{slice_get_past, get_within}
-use Rattle.vq_model.proofs.Options.{same_some}
+use Rattle.std.proofs.lemmas.Option.{same_Some, slice_get_past}
+use Rattle.vq_ground.proofs.Gets.{get_within}
 use Rattle.vq_model.specs.Plan.{Plan, chain, chain_of, value}
 use Rattle.vq_board_laws.specs.MayPoints.{IsSmaller}
 use Rattle.vq_board_stage.specs.HostSteps.{AreSingle}
@@ -12,9 +12,9 @@ use Rattle.vq_board_stage.specs.ThreeSignals.{HasSignals}
 
 -- an operation's place in the chain is its number
 place_is : (k e : ℕ) → slice_get (0 ∷ 1 ∷ 2 ∷ []) k ≡ Some e → k ≡ e
-place_is zero e s = same_some 0 e s
-place_is (suc zero) e s = same_some 1 e s
-place_is (suc (suc zero)) e s = same_some 2 e s
+place_is zero e s = same_Some 0 e s
+place_is (suc zero) e s = same_Some 1 e s
+place_is (suc (suc zero)) e s = same_Some 2 e s
 place_is (suc (suc (suc k))) e s = absurd (let c : None ≡ Some e = s in cc)
 
 no_second : (p : Plan) (t k e : ℕ) → length p.chains ≡ 1 → slice_get (chain p (suc t)) k ≡ Some e → ⊥

@@ -5,7 +5,7 @@ use lib.ListN.{get_elem?}
 use Rattle.atomic_table.specs.Table.{State}
 use Rattle.vq_model.specs.Machine.{Progress}
 use Rattle.vq_model.specs.Plan.{Plan}
-use Rattle.vq_points.specs.PointWord.{parts, PointWord}
+use Rattle.vq_point_laws.specs.PointWord.{parts, PointWord}
 use Rattle.vq_point.specs.declared.PointWord.{PointWord as PointParts}
 use Rattle.vq_point.specs.Word.{bits_of}
 use Rattle.vq_board_laws.specs.declared.view.LoggedBuffers.{LoggedBuffers}

@@ -4,8 +4,8 @@ use Rattle.std.specs.Prelude.{count_by}
 use Rattle.std.specs.List.{slice_get}
 use Rattle.std.specs.Option.{option_map}
 use Rattle.std.proofs.lemmas.List.Sums.{sum_by-cons}
+use Rattle.std.proofs.lemmas.Option.{same_Some}
 use Rattle.vq_model.specs.Plan.{Plan, chain_of}
-use Rattle.vq_model.proofs.Options.{same_some}
 use Rattle.vq_model.specs.declared.plan.Op.{Op}
 use Rattle.vq_board_laws.specs.declared.view.Role.TheVariants.{Shelf}
 use Rattle.vq_board_laws.specs.declared.view.View.{View}
@@ -14,7 +14,7 @@ use Rattle.vq_board_laws.specs.Roles.{role_number, share_of}
 use Rattle.vq_board_stage.specs.ThreeSignals.{HasSignals}
 
 counts_one : (f : ℕ → ℕ) (t s : ℕ) → Some t ≡ Some s → cond {A = ℕ} (eqb (f t) (f s)) 1 0 ≡ 1
-counts_one f t s e = ap (λ b. cond {A = ℕ} b 1 0) (eq-eqb (f t) (f s) (ap f (same_some t s e)))
+counts_one f t s e = ap (λ b. cond {A = ℕ} b 1 0) (eq-eqb (f t) (f s) (ap f (same_Some t s e)))
 
 -- three operations of the first chain are counted
 three : (f : ℕ → ℕ) (ops : List Op) → length ops ≡ 3 → option_map (λ o. o.chain) (slice_get ops 0) ≡ Some 0 → option_map (λ o. o.chain) (slice_get ops 1) ≡ Some 0 →

@@ -6,9 +6,9 @@ use Rattle.std.specs.List.{slice_get}
 use Rattle.std.proofs.lemmas.Bool.{false≢true, and_parts}
 use Rattle.std.proofs.lemmas.List.Elements.{All-cons, All-nil}
 use Rattle.std.proofs.lemmas.Option.{same_Some}
-use Rattle.vq_model.proofs.Options.{same_some}
-use Rattle.vq_model.proofs.Searches.{find_member, find_passes}
-use Rattle.vq_model.specs.Plan.{Plan, has, is_host_step, chain, value, resolver}
+use Rattle.vq_ground.proofs.Searches.{find_member, find_passes}
+use Rattle.vq_model.specs.Plan.{Plan, is_host_step, chain, value, resolver}
+use Rattle.vq_ground.specs.Lists.{has}
 use Rattle.vq_model.specs.Edges.{Stage, At, AtEnd}
 use Rattle.vq_model.specs.declared.plan.Need.{Need}
 use Rattle.vq_point.specs.declared.PointWord.{PointWord as PointParts}
@@ -18,12 +18,11 @@ use Rattle.vq_board_laws.specs.declared.view.Fact.TheVariants.{Job, Bound, Made}
 use Rattle.vq_board_laws.specs.declared.view.JobState.TheVariants.{Submitted, Released, Finished}
 use Rattle.vq_board_laws.specs.declared.view.Role.TheVariants.{Ring}
 use Rattle.vq_board_laws.specs.declared.view.View.{View}
-use Rattle.vq_board_laws.specs.Knowledge.{Knows, KnowsMade.shown}
+use Rattle.vq_board_laws.specs.Knowledge.{Knows}
 use Rattle.vq_board_laws.specs.May.{MaySubmit, MayRelease, MayStart, MayFinish, KnowsReached, KnowsNeeds}
-use Rattle.vq_board_laws.proofs.Cited.{needs_each, knows_so_far}
+use Rattle.vq_board_laws.proofs.Cited.{needs_each, knows_so_far, knows_first, knows_more}
 use Rattle.vq_board_laws.specs.PointSteps.{point_facts, moved_on, sees, unrefers}
 use Rattle.vq_board_laws.specs.Roles.{role_number}
-use Rattle.vq_board_stage.proofs.Cited.{knows_behind, knows_before}
 use Rattle.vq_board_stage.specs.HostSteps.{HasHostStep}
 use Rattle.vq_board_stage.specs.TwoWaits.{IsOfTwoWaits}
 
@@ -36,17 +35,17 @@ pub look_shows : (v w : View) (q : ℕ) (x y : PointParts) (f : Fact) → w ≡ 
 look_shows v w q x y f is found h =
     let n = bits_of x in
     let said = subst (λ (z : PointParts). Knows (point_facts (bits_of z)) f) (sym found) h in
-    subst (λ (u : View). Knows u.known f) (sym is) (knows_before (point_facts n ++ moved_on q n v.known) v.known f (knows_before (point_facts n) (moved_on q n v.known) f said))
+    subst (λ (u : View). Knows u.known f) (sym is) (knows_first (point_facts n ++ moved_on q n v.known) v.known f (knows_first (point_facts n) (moved_on q n v.known) f said))
 
 -- and forgets nothing
 pub look_keeps : (v w : View) (q n : ℕ) (f : Fact) → w ≡ sees v q n → Knows v.known f → Knows w.known f
 look_keeps v w q n f is h =
-    subst (λ (x : View). Knows x.known f) (sym is) (knows_behind (point_facts n ++ moved_on q n v.known) v.known f h)
+    subst (λ (x : View). Knows x.known f) (sym is) (knows_more (point_facts n ++ moved_on q n v.known) v.known f h)
 
 -- nor does a reference that is given back
 pub unrefer_keeps : (v w : View) (q n e : ℕ) (f : Fact) → w ≡ unrefers (sees v q n) q e n → Knows v.known f → Knows w.known f
 unrefer_keeps v w q n e f is h =
-    subst (λ (x : View). Knows x.known f) (sym is) (knows_behind (point_facts n ++ moved_on q n v.known) v.known f h)
+    subst (λ (x : View). Knows x.known f) (sym is) (knows_more (point_facts n ++ moved_on q n v.known) v.known f h)
 
 -- what is ensured where a call gives no error
 pub given : {A B : Type 0} (r : Result A B) (P : Type 0) → IfOk r (λ _. P) → is_err r ≡ false → P
@@ -58,7 +57,7 @@ module _ (p : Plan) (known : List Fact) where
   bound_by : (m n : Need) (f e : ℕ) → Some m ≡ Some n → resolver p m.chain m.value ≡ Some f → resolver p n.chain n.value ≡ Some e → Knows known (Bound f) → Knows known (Bound e)
   bound_by m n f e same found resolves bound =
       let both = sym found ∙ (ap (λ (x : Need). resolver p x.chain x.value) (same_Some m n same) ∙ resolves) in
-      subst (λ (x : ℕ). Knows known (Bound x)) (same_some f e both) bound
+      subst (λ (x : ℕ). Knows known (Bound x)) (same_Some f e both) bound
 
   -- a wait is reached, where the operation that resolves it is made
   reached : (n : Need) (e : ℕ) → resolver p n.chain n.value ≡ Some e → Knows known (Made e) → KnowsReached p known n

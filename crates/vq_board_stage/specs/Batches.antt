@@ -1,7 +1,8 @@
 -- Batches that have nothing to do with other jobs, and the passes that hand them on and run them.
 use Rattle.std.specs.Prelude.{ℕ, List, [], ◌≡◌, ◌<◌, ◌≤◌, Some, None, true, false, length}
 use Rattle.std.specs.List.{slice_get}
-use Rattle.vq_model.specs.Plan.{Plan, has, previous, idle_after, needs, waits_for_any, commands_of, signals_of}
+use Rattle.vq_model.specs.Plan.{Plan, previous, idle_after, needs, waits_for_any, commands_of, signals_of}
+use Rattle.vq_ground.specs.Lists.{has}
 use Rattle.vq_model.specs.Plan.{is_batch, is_host_step, question, is_silent}
 use Rattle.vq_model.specs.declared.plan.PlanJob.{PlanJob}
 use Rattle.vq_model.specs.declared.plan.Lane.TheVariants.{Queue}

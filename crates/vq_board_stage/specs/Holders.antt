@@ -1,6 +1,6 @@
 -- What the passes of the tests on points have done so far.
 use Rattle.std.specs.Prelude.{ℕ, List, [], ◌∷◌, ◌≡◌, ◌≤◌, ◌<◌, true, false, Some, None}
-use Rattle.vq_model.specs.Plan.{has}
+use Rattle.vq_ground.specs.Lists.{has}
 use Rattle.vq_board_laws.specs.declared.view.Fact.TheVariants.{Job}
 use Rattle.vq_board_laws.specs.declared.view.JobState.TheVariants.{Released}
 use Rattle.vq_board_laws.specs.declared.view.Reference.{Reference}

@@ -1,7 +1,8 @@
 -- Steps of the host that read a chain or signal one, and the host's pass between them.
 use Rattle.std.specs.Prelude.{ℕ, [], ◌∷◌, ◌≡◌, ◌<◌, ◌≤◌, Some, None, true, false, length, is_some}
 use Rattle.vq_model.specs.Lanes.{lane_at}
-use Rattle.vq_model.specs.Plan.{Plan, has, previous, idle_after, needs, waits_for_any, commands_of, signals_of}
+use Rattle.vq_model.specs.Plan.{Plan, previous, idle_after, needs, waits_for_any, commands_of, signals_of}
+use Rattle.vq_ground.specs.Lists.{has}
 use Rattle.vq_model.specs.Plan.{is_host_step, question, is_silent, chain}
 use Rattle.vq_model.specs.declared.plan.Lane.TheVariants.{Host}
 use Rattle.vq_model.specs.declared.plan.PlanJob.{PlanJob}

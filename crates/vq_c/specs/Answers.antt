@@ -5,8 +5,8 @@ use Rattle.vq_face.specs.declared.reply.Reply.{Reply}
 use Rattle.vq_face.specs.declared.reply.Reply.TheVariants.{NoMemory, NotHost, WrongKind}
 use Rattle.vq_face.specs.declared.rows.AnswerRow.{AnswerRow}
 use Rattle.vq_face.specs.Rows.{rows_of}
-use Rattle.vq_share.specs.declared.player.Player.{Player}
-use Rattle.vq_share.specs.Players.{answers_of}
+use Rattle.vq_shared_run.specs.declared.player.Player.{Player}
+use Rattle.vq_shared_run.specs.Players.{answers_of}
 use Rattle.vq_c.specs.declared.object.Object.{Object}
 use Rattle.vq_c.specs.declared.object.Object.TheVariants.{Plan as HoldsPlan, Run as HoldsRun, Actor as HoldsActor}
 use Rattle.vq_c.specs.Objects.{answers_so_far}

@@ -6,13 +6,13 @@ use Rattle.vq_model.specs.OutputText.{answers_of, buffers_text}
 use Rattle.vq_model.specs.Outputs.{IsOutput}
 use Rattle.vq_model.specs.SlowRun.{final}
 use Rattle.vq_core.specs.CoreState.{world}
-use Rattle.vq_troupe.specs.Casts.{Cast}
+use Rattle.vq_core_run.specs.Casts.{Cast}
 use Rattle.vq_face.specs.declared.reply.Reply.{Reply}
 use Rattle.vq_face.specs.declared.reply.Reply.TheVariants.{NoMemory, NoBuffer, Unfinished, NotHost, Shared, WrongKind}
-use Rattle.vq_share.specs.declared.answers.Shut.TheVariants.{Closed, Unfinished as NotFinished, Shared as IsShared}
-use Rattle.vq_share.specs.declared.answers.Shut.TheVariants.{NotHost as NotTheHost}
-use Rattle.vq_share.specs.declared.player.Player.{Player}
-use Rattle.vq_share.specs.Players.{HasNotLeft, HasShut, IsLeftIn}
+use Rattle.vq_shared_run.specs.declared.answers.Shut.TheVariants.{Closed, Unfinished as NotFinished, Shared as IsShared}
+use Rattle.vq_shared_run.specs.declared.answers.Shut.TheVariants.{NotHost as NotTheHost}
+use Rattle.vq_shared_run.specs.declared.player.Player.{Player}
+use Rattle.vq_shared_run.specs.Players.{HasNotLeft, HasShut, IsLeftIn}
 use Rattle.vq_c.specs.declared.object.Object.{Object}
 use Rattle.vq_c.specs.declared.object.Object.TheVariants.{Plan as HoldsPlan, Run as HoldsRun, Actor as HoldsActor}
 

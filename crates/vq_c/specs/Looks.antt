@@ -4,10 +4,10 @@ use Rattle.vq_model.specs.Machine.{AreFinished}
 use Rattle.vq_core.specs.CoreState.{world}
 use Rattle.vq_face.specs.declared.reply.Reply.{Reply}
 use Rattle.vq_face.specs.declared.reply.Reply.TheVariants.{Done, Unfinished, NotHost, WrongKind}
-use Rattle.vq_share.specs.declared.answers.Look.{Look}
-use Rattle.vq_share.specs.declared.answers.Look.TheVariants.{Finished as AllFinished, Unfinished as StillUnfinished}
-use Rattle.vq_share.specs.declared.answers.Look.TheVariants.{NotHost as NoHostAsked}
-use Rattle.vq_share.specs.Players.{IsLookBy}
+use Rattle.vq_shared_run.specs.declared.answers.Look.{Look}
+use Rattle.vq_shared_run.specs.declared.answers.Look.TheVariants.{Finished as AllFinished, Unfinished as StillUnfinished}
+use Rattle.vq_shared_run.specs.declared.answers.Look.TheVariants.{NotHost as NoHostAsked}
+use Rattle.vq_shared_run.specs.Players.{IsLookBy}
 use Rattle.vq_c.specs.declared.object.Object.{Object}
 use Rattle.vq_c.specs.declared.object.Object.TheVariants.{Plan as HoldsPlan, Run as HoldsRun, Actor as HoldsActor}
 

@@ -4,10 +4,10 @@ use Rattle.vq_model.specs.declared.plan.AnswerLine.{AnswerLine}
 use Rattle.vq_model.specs.OutputText.{lines_answered}
 use Rattle.vq_model.specs.Plan.{Plan}
 use Rattle.vq_core.specs.CoreState.{world}
-use Rattle.vq_troupe.specs.Casts.{Cast}
-use Rattle.vq_share.specs.declared.player.Player.{Player}
-use Rattle.vq_share.specs.declared.player.Player.TheVariants.{Playing, Left}
-use Rattle.vq_share.specs.Players.{ordered_of}
+use Rattle.vq_core_run.specs.Casts.{Cast}
+use Rattle.vq_shared_run.specs.declared.player.Player.{Player}
+use Rattle.vq_shared_run.specs.declared.player.Player.TheVariants.{Playing, Left}
+use Rattle.vq_shared_run.specs.Players.{ordered_of}
 use Rattle.vq_c.specs.declared.object.Object.{Object}
 use Rattle.vq_c.specs.declared.object.Object.TheVariants.{Plan as HoldsPlan, Run as HoldsRun, Actor as HoldsActor}
 

@@ -1,7 +1,7 @@
 -- What opening gives: a plan, a run, or the actors of one. This project's own.
 use Rattle.std.specs.Prelude.{ℕ, ◌≡◌, ◌<◌, ◌≤◌, ◌+◌, ◌*◌, ◌⊎◌, List, [], length}
 use Rattle.vq_model.specs.Plan.{Plan}
-use Rattle.vq_troupe.specs.Casts.{Cast, first_places, places}
+use Rattle.vq_core_run.specs.Casts.{Cast, first_places, places}
 use Rattle.vq_face.specs.declared.ending.Ending.{Ending}
 use Rattle.vq_face.specs.declared.ending.Ending.TheVariants.{Lawful}
 use Rattle.vq_face.specs.declared.reply.Reply.{Reply}

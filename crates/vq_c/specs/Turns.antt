@@ -1,8 +1,8 @@
 -- Turns of what a handle holds. This project's own.
 use Rattle.std.specs.Prelude.{ℕ, ◌≡◌, true, false, Result, Ok, Err, Some, None}
-use Rattle.vq_drive.specs.Driven.{IsTurnOf}
-use Rattle.vq_share.specs.declared.player.Player.{Player}
-use Rattle.vq_share.specs.Players.{IsTurnBy}
+use Rattle.vq_core_run.specs.Driven.{IsTurnOf}
+use Rattle.vq_shared_run.specs.declared.player.Player.{Player}
+use Rattle.vq_shared_run.specs.Players.{IsTurnBy}
 use Rattle.vq_turns.specs.declared.outcome.Outcome.{Outcome}
 use Rattle.vq_face.specs.declared.reply.Reply.{Reply}
 use Rattle.vq_face.specs.declared.reply.Reply.TheVariants.{NoActor, WrongKind, Closed}

@@ -5,13 +5,13 @@ ghost use Rattle.std.specs.Prelude.{◌≡◌, IfErr, IfOk};
 ghost use Rattle.vq_c.specs.Answers.{AreRowsOf, IsUntold, IsUntoldBy, answers_in};
 ghost use Rattle.vq_c.specs.Objects.{answers_so_far};
 ghost use Rattle.vq_face.specs.Rows.{rows_of};
-ghost use Rattle.vq_share.specs.Players.{answers_of};
+ghost use Rattle.vq_shared_run.specs.Players.{answers_of};
 
 use crate::object::Object;
 use std::alloc::{AllocError, Global};
-use vq_drive::Drive;
+use vq_core_run::Drive;
 use vq_face::{AnswerRow, Reply, rows_of};
-use vq_share::Player;
+use vq_shared_run::Player;
 
 /// What crosses of the answers of a run. The error is want of memory.
 fn told_of(alloc: Global, drive: &Drive) -> Result<Vec<AnswerRow>, AllocError>

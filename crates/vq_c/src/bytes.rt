@@ -3,13 +3,13 @@
 //! Source: this project's own.
 ghost use Rattle.std.specs.Prelude.{◌≡◌, ◌≤◌, IfErr, IfOk, length};
 ghost use Rattle.vq_c.specs.Bytes.{IsLeft, IsLeftOf, IsRead, IsUnread, IsUnreadIn, IsUnreadOf, IsUnleft};
-ghost use Rattle.vq_share.specs.Players.{IsLeftIn};
+ghost use Rattle.vq_shared_run.specs.Players.{IsLeftIn};
 
 use crate::object::Object;
 use std::alloc::Global;
-use vq_drive::Drive;
+use vq_core_run::Drive;
 use vq_face::Reply;
-use vq_share::{Player, Shut};
+use vq_shared_run::{Player, Shut};
 
 /// A copy of the bytes that a run over one core has left in a buffer.
 fn left_by(alloc: Global, drive: &Drive, buffer: u32) -> Result<Vec<u8>, Reply>

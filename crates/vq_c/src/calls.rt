@@ -14,7 +14,7 @@ ghost use Rattle.vq_model.specs.Plan.{line_of_job};
 use crate::handle::Handle;
 use crate::object::Object;
 use std::alloc::Global;
-use vq_drive::actor_count;
+use vq_core_run::actor_count;
 use vq_face::{AnswerRow, Reply};
 use vq_loose::Loose;
 use vq_model::plan::Op;

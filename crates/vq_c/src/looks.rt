@@ -6,7 +6,7 @@ ghost use Rattle.vq_c.specs.Looks.{HasLooked, look_reply, run_reply};
 
 use crate::object::Object;
 use vq_face::Reply;
-use vq_share::Look;
+use vq_shared_run::Look;
 
 /// What a look answers.
 fn look_reply(look: Look) -> Reply

@@ -6,11 +6,11 @@ ghost use Rattle.std.specs.List.{slice_get};
 ghost use Rattle.vq_c.specs.Objects.{plan_of};
 ghost use Rattle.vq_model.specs.Plan.{line_of_job};
 
-use vq_crew::line_of;
-use vq_drive::Drive;
+use vq_board_run::line_of;
+use vq_core_run::Drive;
 use vq_model::plan::Op;
 use vq_order::Ordered;
-use vq_share::Player;
+use vq_shared_run::Player;
 
 /// What a handle holds. Whatever it is, it is of a lawful plan.
 #[derive(Drop)]

@@ -8,7 +8,7 @@ use crate::calls::close;
 use crate::handle::Handle;
 use crate::opening::{hand_out, opened, planned, shared};
 use std::alloc::Global;
-use vq_drive::actor_count;
+use vq_core_run::actor_count;
 use vq_face::{Ending, Reply, Verdict, lawful_plan, reply_code, verdict_of};
 
 /// A reply as a verdict.

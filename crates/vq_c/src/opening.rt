@@ -4,15 +4,15 @@
 ghost use Rattle.std.specs.Prelude.{◌≡◌, [], IfErr, IfOk, length};
 ghost use Rattle.vq_c.specs.Opened.{HoldsPlanOf, HoldsRunOf, IsRunOf};
 ghost use Rattle.vq_face.specs.Endings.{IsEnding};
-ghost use Rattle.vq_troupe.specs.Casts.{first_places, places};
+ghost use Rattle.vq_core_run.specs.Casts.{first_places, places};
 
 use crate::object::Object;
 use core::ptr::null_mut;
 use std::alloc::{AllocError, Global};
-use vq_drive::Drive;
+use vq_core_run::Drive;
 use vq_face::{Ending, lawful_plan};
 use vq_order::Ordered;
-use vq_share::{number_of, share};
+use vq_shared_run::{number_of, share};
 
 /// A lawful plan of a text, or what else comes of the text. Want of memory may come in the place of the plan.
 pub(crate) fn planned(alloc: Global, text: &[u8]) -> Result<Box<Object>, Ending>

@@ -7,7 +7,7 @@ ghost use Rattle.vq_c.specs.Turns.{HasActed, HasPlayed, IsActedBy};
 
 use crate::object::Object;
 use vq_face::Reply;
-use vq_share::Player;
+use vq_shared_run::Player;
 use vq_turns::outcome::Outcome;
 
 /// Whether the board of an actor is closed.

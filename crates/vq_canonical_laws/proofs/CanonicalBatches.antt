@@ -51,7 +51,7 @@ no_fence : (k : ℕ) → nat_lt k 4 ≡ true → (s : Statement) → nat_lt k (p
 no_fence k l (AddFence f) h = absurd (false≢true (sym h ∙ l))
 no_fence k l s h = refl
 
-no_second_fence : (s : Statement) → is_batch_fence s ≡ false → fence_in s ≡ None
+pub no_second_fence : (s : Statement) → is_batch_fence s ≡ false → fence_in s ≡ None
 no_second_fence (AddFence f) h = absurd (false≢true (sym h))
 no_second_fence s h = refl
 

@@ -1,6 +1,7 @@
 -- The canonical lines of declarations, and those at which batches begin, are read.
 use Rattle.std.proofs.Common.{◌≡◌, false, List, [], Option, None, ap, ◌∙◌, subst, true, ◌&&◌, ◌||◌, refl, ℕ, ◌+◌, ◌^◌, ◌<◌, not, ◌∷◌, length, Some, option_map, arith}
 use Rattle.std.specs.Prelude.{nat_lt, is_some, codes, sum}
+use Rattle.vq_ground.proofs.Tests.{not_below_test}
 use Rattle.vq_model.specs.declared.statement.Section.TheVariants.{Outside}
 use Rattle.vq_model.specs.declared.statement.Line.{Line}
 use Rattle.vq_model.specs.Context.{section, has_begun, open_batch, some, buffers, semaphores, queues, is_declared, count}
@@ -23,7 +24,7 @@ use Rattle.vq_canonical_laws.proofs.SaidContext.{most_before, most_said, sizes_s
 use Rattle.vq_canonical_laws.proofs.WrittenTexts.{is_text_word, are_text_words}
 use Rattle.vq_canonical_laws.proofs.WrittenNumbers.{decimal_back, decimal_word}
 use Rattle.vq_canonical_laws.proofs.NamedParts.{AreNamed, name_word}
-use Rattle.vq_canonical_laws.proofs.LineWords.{ReadsAs, words_plain, words_of_three, words_of_two, not_over, not_past, form_outside}
+use Rattle.vq_canonical_laws.proofs.LineWords.{ReadsAs, words_plain, words_of_three, words_of_two, not_over, form_outside}
 
 -- what the lines say outside a batch and before the first job
 pub record IsFirst (before : List Line) : Type 0 where
@@ -104,7 +105,7 @@ module _ (form : Form) (before : List Line) (p : Parts) (h : Say before p) (name
             or_from (not (nat_lt (length (buffers before)) (most_before before).buffers))
             (nat_lt (most_before before).bytes (sum (sizes_in (buffers before)) + size))
             (not_over (length (buffers before)) (most_before before).buffers (omega arith))
-            (not_past (most_before before).bytes (sum (sizes_in (buffers before)) + size) (omega arith));
+            (not_below_test (most_before before).bytes (sum (sizes_in (buffers before)) + size) (omega arith));
       } in
       record {
         are_words = words;

@@ -1,9 +1,11 @@
 -- Batches that keep the rules of the format may follow what is declared and other jobs.
-use Rattle.std.proofs.Common.{ℕ, zero, suc, ◌≡◌, ◌<◌, ◌≤◌, ◌+◌, true, false, cond, List, [], ◌∷◌, ◌++◌, append-nil, append_assoc, length, map, Option, Some, None, refl, sym, ap, subst, arith, ◌⊎◌, inl, inr}
+use Rattle.std.proofs.Common.{ℕ, suc, ◌≡◌, ◌<◌, ◌≤◌, ◌+◌, true, false, cond, List, [], ◌∷◌, ◌++◌, append-nil, append_assoc, length, map, Option, Some, None, refl, sym, ap, subst, arith, ◌⊎◌, inl, inr}
 use Rattle.std.specs.Prelude.{nat_lt, count_by}
-use Rattle.std.specs.List.{AllByRecursion as Every, list_any, slice_get}
+use Rattle.std.specs.List.{AllByRecursion as Every, list_any}
 use Rattle.std.proofs.lemmas.List.Sums.{sum_by_push}
 use Rattle.std.proofs.lemmas.Bool.{or_from, false≢true}
+use Rattle.vq_ground.proofs.Gets.{get_some}
+use Rattle.vq_ground.proofs.Tests.{not_below_test}
 use Rattle.vq_model.specs.declared.script.SemaphoreKind.{SemaphoreKind}
 use Rattle.vq_model.specs.declared.script.SemaphoreKind.TheVariants.{Timeline, Binary, Fence}
 use Rattle.vq_model.specs.declared.script.Mark.{Mark}
@@ -21,7 +23,6 @@ pub use Rattle.vq_canonical_laws.specs.CanonicalStatements.{wait_statement, comm
 use Rattle.vq_canonical_laws.specs.FormatRules.{IsWaitOf, IsSignalOf, IsCommandOf, IsFenceOf, BatchFits}
 use Rattle.vq_canonical_laws.proofs.ScriptParts.{ToldJob, ToldBatch, Told, Parts, parts, after, May, commands_of}
 use Rattle.vq_canonical_laws.proofs.CanonicalOrder.{Leads, leads_on, leads_push, job_statements}
-use Rattle.vq_canonical_laws.proofs.LineWords.{not_past}
 
 -- The statements of a batch
 
@@ -36,7 +37,7 @@ none_later part far k [] l h = refl
 none_later part far k (s ∷ told) l h =
     let e = h.0.0 in
     or_from (nat_lt k (part_of s)) (list_any (λ x. nat_lt k (part_of x)) told)
-    (not_past k (part_of s) (omega arith)) (none_later part far k told l h.1)
+    (not_below_test k (part_of s) (omega arith)) (none_later part far k told l h.1)
 
 none_far : (part far k : ℕ) (told : List Statement) → far ≤ k → Every (IsEarly part far) told →
     list_any (λ x. nat_lt k (held_from x)) told ≡ false
@@ -44,7 +45,7 @@ none_far part far k [] l h = refl
 none_far part far k (s ∷ told) l h =
     let e = h.0.1 in
     or_from (nat_lt k (held_from s)) (list_any (λ x. nat_lt k (held_from x)) told)
-    (not_past k (held_from s) (omega arith)) (none_far part far k told l h.1)
+    (not_below_test k (held_from s) (omega arith)) (none_far part far k told l h.1)
 
 still_early : (part far k : ℕ) (told : List Statement) → part ≤ k → Every (IsEarly part far) told →
     Every (IsEarly k far) told
@@ -292,13 +293,6 @@ signals_told b = commands_told_of b ++ map signal_statement b.signals
 abbrev pub batch_told : Batch → Told
 batch_told b = (b.queue, signals_told b ++ fence_statements b.fence)
 
--- a queue that is there
-queue_there : {A : Type 0} (qs : List A) (q : ℕ) → q < length qs →
-    (x : A) × (slice_get qs q ≡ Some x)
-queue_there [] q l = absurd (omega arith)
-queue_there (x ∷ qs) zero l = (x, refl)
-queue_there (x ∷ qs) (suc q) l = queue_there qs q (omega arith)
-
 -- A batch that keeps the rules may follow jobs.
 pub batch_follows : (s : Script) (jobs : List ToldJob) (b : Batch) → IsOfAVersion s → BatchFits s b →
     length jobs < (most_of s).jobs →
@@ -307,7 +301,7 @@ pub batch_follows : (s : Script) (jobs : List ToldJob) (b : Batch) → IsOfAVers
     (job_statements (ToldBatch (batch_told b)))
     (parts s.version s.buffers s.semaphores s.queues (jobs ++ ToldBatch (batch_told b) ∷ []) None)
 batch_follows s jobs b versioned fits few total =
-    let there = queue_there s.queues b.queue fits.queue in
+    let there = get_some s.queues b.queue fits.queue in
     let a = fits.few_waits in
     let d = fits.few_signals in
     let room : Room s all jobs 1 [] (length b.waits) all (length b.signals) =

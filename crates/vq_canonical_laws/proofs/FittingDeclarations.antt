@@ -1,11 +1,12 @@
 -- Declarations that keep the rules of the format may follow one another.
-use Rattle.std.proofs.Common.{ℕ, ◌≡◌, ◌<◌, ◌≤◌, ◌+◌, Bool, true, false, not, ◌&&◌, ◌||◌, List, [], ◌∷◌, ◌++◌, append-nil, append_assoc, length, length-append, map, refl, sym, ap, ◌∙◌, subst, arith, sum}
+use Rattle.std.proofs.Common.{ℕ, ◌≡◌, ◌<◌, ◌≤◌, ◌+◌, true, false, not, ◌&&◌, ◌||◌, List, [], ◌∷◌, ◌++◌, append-nil, append_assoc, length, length-append, map, refl, sym, ap, ◌∙◌, subst, arith, sum}
 use Rattle.std.specs.List.{AllByRecursion as Every, list_any}
 use Rattle.std.specs.Str.{bytes_eq}
 use Rattle.std.proofs.lemmas.List.{map-append}
 use Rattle.std.proofs.lemmas.List.Folds.{list_any-append}
 use Rattle.std.proofs.lemmas.List.Sums.{sum_by-append, sum_by-cons}
-use Rattle.std.proofs.lemmas.Bool.{and_parts, or_parts, or_from}
+use Rattle.std.proofs.lemmas.Bool.{and_parts, or_parts, or_from, not-true}
+use Rattle.vq_ground.proofs.Lists.{any_map}
 use Rattle.vq_model.specs.declared.script.Buffer.{Buffer}
 use Rattle.vq_model.specs.declared.script.Semaphore.{Semaphore}
 use Rattle.vq_model.specs.declared.script.Queue.{Queue}
@@ -13,18 +14,12 @@ use Rattle.vq_model.specs.declared.statement.Statement.{Statement}
 use Rattle.vq_model.specs.declared.statement.Statement.TheVariants.{DeclareBuffer, DeclareSemaphore, DeclareQueue}
 use Rattle.vq_model.specs.Text.{is_name}
 use Rattle.vq_model.specs.SameScript.{buffer_without_line, semaphore_without_line, queue_without_line}
-use Rattle.vq_model.proofs.Bools.{not_true}
 use Rattle.vq_model.specs.Limits.{limits_of}
 use Rattle.vq_canonical_laws.specs.FormatRules.{are_new, sizes_in, HasValue}
 use Rattle.vq_canonical_laws.proofs.ScriptParts.{Parts, after, May}
 use Rattle.vq_canonical_laws.proofs.CanonicalOrder.{Leads, buffer_statements, semaphore_statements, queue_statements, declarations}
 
 -- Names
-
-any_map : {A : Type 0} (test : List ℕ → Bool) (name : A → List ℕ) (xs : List A) →
-    list_any test (map name xs) ≡ list_any (λ x. test (name x)) xs
-any_map test name [] = refl
-any_map test name (x ∷ xs) = ap (λ (b : Bool). test (name x) || b) (any_map test name xs)
 
 -- A list of declarations of one kind
 
@@ -50,7 +45,7 @@ module _ {A : Type 0} (f : A → Statement) (name : A → List ℕ) (Fits : A �
       (are_new (names ++ name x ∷ []) (map name xs ++ rest)) new in
       let this = and_parts (is_name (name x)) (not (list_any (bytes_eq (name x)) names)) more.0 in
       let first = one before x xs fits.0 this.0
-      (not_true (list_any (bytes_eq (name x)) names) this.1) left in
+      (not-true (list_any (bytes_eq (name x)) names) this.1) left in
       let longer : names ++ name x ∷ [] ≡ front ++ map name (before ++ x ∷ []) =
       append_assoc front (map name before) (name x ∷ [])
       ∙ ap (λ (ns : List (List ℕ)). front ++ ns) (sym (map-append name before (x ∷ []))) in

@@ -7,6 +7,7 @@ use Rattle.std.proofs.lemmas.List.Folds.{list_all-append}
 use Rattle.std.proofs.lemmas.List.Sums.{sum_by-cons}
 use Rattle.std.proofs.lemmas.Bool.{and_from}
 use Rattle.std.proofs.lemmas.List.Elements.{filter_map-append}
+use Rattle.vq_ground.proofs.Every.{every_weaker}
 use Rattle.vq_model.specs.declared.script.Mark.{Mark}
 use Rattle.vq_model.specs.declared.script.CommandLine.{CommandLine}
 use Rattle.vq_model.specs.declared.script.Batch.{Batch}
@@ -46,11 +47,6 @@ none_kept part f (x ∷ xs) h = λ i. cons_option (h x i) (none_kept part f xs h
 each : {A : Type 0} (P : A → Type 0) (xs : List A) → ((x : A) → P x) → Every P xs
 each P [] h = tt
 each P (x ∷ xs) h = (h x, each P xs h)
-
-each_of : {A : Type 0} (P Q : A → Type 0) (xs : List A) → ((x : A) → P x → Q x) → Every P xs →
-    Every Q xs
-each_of P Q [] f h = tt
-each_of P Q (x ∷ xs) f h = (f x h.0, each_of P Q xs f h.1)
 
 each_both : {A : Type 0} (P Q : A → Type 0) (xs : List A) → Every P xs → Every Q xs →
     Every (λ x. P x × Q x) xs
@@ -133,7 +129,7 @@ module _ (s : Script) (b : Batch) (fits : BatchFits s b) where
       none_kept signal_in wait_statement b.waits (λ m. refl) i
       ++ none_kept signal_in command_statement b.commands (λ c. refl) i
       ++ all_kept signal_in signal_statement mark_without_line b.signals
-      (each_of (IsSignalOf s.semaphores)
+      (every_weaker (IsSignalOf s.semaphores)
       (λ m. signal_in (signal_statement m) ≡ Some (mark_without_line m)) b.signals signal_told
       fits.signals) i
       ++ no_fence_kept signal_in b.fence (λ m. refl) i)

@@ -1,8 +1,10 @@
 -- A line without a fault says a statement that may follow what the lines before say.
 use Rattle.std.proofs.Common.{◌≡◌, Option, Some, None, refl, false, List, [], ◌∷◌, sym, Bool, true, not, ℕ, ◌^◌, ◌<◌, ◌++◌, cond, ◌+◌, ◌==◌, ◌&&◌, ◌||◌, length, find, option_map, ap, ◌∙◌, subst, arith, ◌⊎◌, inl, inr}
+use Rattle.std.proofs.lemmas.Option.{same_Some}
+use Rattle.vq_ground.proofs.Positions.{found_at}
 use Rattle.vq_model.specs.declared.statement.Section.TheVariants.{Outside, InBatch, InSchedule}
 use Rattle.vq_canonical_laws.proofs.ScriptParts.{ToldJob, Told, part_of_batch, has_jobs, TakesValue, Parts, May, Say, HasValue, IsMarked, sizes_in, HasNumerals, count_jobs, count_commands, commands_of}
-use Rattle.std.proofs.lemmas.Bool.{false≢true, or_parts, and_parts, ltb-true, ltb-false, eqb-true}
+use Rattle.std.proofs.lemmas.Bool.{false≢true, or_parts, and_parts, ltb-true, ltb-false, eqb-true, not-true}
 use Rattle.vq_model.specs.declared.statement.Statement.{Statement}
 use Rattle.vq_model.specs.declared.script.SemaphoreKind.{SemaphoreKind}
 use Rattle.vq_model.specs.declared.script.SemaphoreKind.TheVariants.{Timeline, Binary, Fence}
@@ -33,13 +35,10 @@ use Rattle.vq_model.specs.Context.{number_at, is_job, part_of}
 use Rattle.vq_model.specs.Earlier.{earlier}
 use Rattle.vq_model.specs.LineFaults.{passes_limit}
 use Rattle.vq_model.specs.Forms.{BufferName, TimelineName, BinaryName, FenceName, QueueName}
-use Rattle.vq_model.proofs.Bools.{not_true}
-use Rattle.vq_model.proofs.Options.{same_some}
 use Rattle.vq_reading_laws.proofs.Cited.{found_passes, found_belongs, forms_in, below, fence_is}
 use Rattle.vq_canonical_laws.proofs.WrittenNumbers.{numeral_below, small_numeral_below, hex_bytes_below}
 use Rattle.vq_canonical_laws.proofs.FollowingSteps.{host_may}
 use Rattle.vq_canonical_laws.proofs.LineTests.{PassesTests, tests_passed}
-use Rattle.vq_canonical_laws.proofs.NamedParts.{position_passes}
 use Rattle.vq_canonical_laws.proofs.SaidContext.{most_before, most_said, sizes_said, buffer_count_said, semaphore_count_said, queue_count_said, timeline_at_said, binary_at_said, fence_at_said, queue_at_said, declared_said, range_said, overlap_said, some_said, count_said}
 
 -- Parts of the text
@@ -68,7 +67,7 @@ nothing_said : (s : Statement) → None ≡ Some s → ⊥
 nothing_said s e = cc
 
 -- kinds that take values as marks
-timeline_takes : (k : SemaphoreKind) (v : ℕ) → is_timeline k ≡ true → v < 2 ^ 64 → TakesValue k v
+pub timeline_takes : (k : SemaphoreKind) (v : ℕ) → is_timeline k ≡ true → v < 2 ^ 64 → TakesValue k v
 timeline_takes (Timeline i) v e l = l
 timeline_takes k v e l = absurd (false≢true e)
 
@@ -173,7 +172,7 @@ module _ (form : Form) (before : List Line) (p : Parts) (h : Say before p) where
       by_size : (o : Option ℕ) → option_map (λ n. DeclareBuffer name n) o ≡ Some s → May p s
       by_size None i = absurd (nothing_said s i)
       by_size (Some n) i =
-          let same : DeclareBuffer name n ≡ s = same_some (DeclareBuffer name n) s i in
+          let same : DeclareBuffer name n ≡ s = same_Some (DeclareBuffer name n) s i in
           let first = first_parts e t.in_order in
           let r : is_in_range (earlier before) (DeclareBuffer name n) ≡ true =
           subst (λ (z : Statement). is_in_range (earlier before) z ≡ true) (sym same) t.ranged in
@@ -194,7 +193,7 @@ module _ (form : Form) (before : List Line) (p : Parts) (h : Say before p) where
             first = first.1;
             named = (and_parts (is_name name) true t.shaped).0;
             fresh = sym (declared_said before p h name)
-                ∙ not_true (is_declared before name)
+                ∙ not-true (is_declared before name)
                 (and_parts (not (is_declared before name)) true t.fresh).0;
             some_bytes = ltb-true 0 n r;
             few = omega arith;
@@ -212,7 +211,7 @@ module _ (form : Form) (before : List Line) (p : Parts) (h : Say before p) where
       Some (DeclareSemaphore name kind) ≡ Some s → HasValue kind → May p s
   semaphore_may name kind s e order named fresh limited i small =
       let same : DeclareSemaphore name kind ≡ s =
-      same_some (DeclareSemaphore name kind) s i in
+      same_Some (DeclareSemaphore name kind) s i in
       let first = first_parts e order in
       let few =
       below (length (semaphores before)) (most_before before).semaphores
@@ -225,7 +224,7 @@ module _ (form : Form) (before : List Line) (p : Parts) (h : Say before p) where
         outside = first.0;
         first = first.1;
         named = named;
-        fresh = sym (declared_said before p h name) ∙ not_true (is_declared before name) fresh;
+        fresh = sym (declared_said before p h name) ∙ not-true (is_declared before name) fresh;
         few = omega arith;
         small = small;
       })
@@ -263,7 +262,7 @@ module _ (form : Form) (before : List Line) (p : Parts) (h : Say before p) where
       Outside ≡ part_of_batch p.batch → matches words (QueueLine mode) ≡ true →
       PassesTests form before words (QueueLine mode) s → May p s
   queue_may mode (a ∷ name ∷ c ∷ []) s e m t =
-      let same : DeclareQueue name mode ≡ s = same_some (DeclareQueue name mode) s t.said in
+      let same : DeclareQueue name mode ≡ s = same_Some (DeclareQueue name mode) s t.said in
       let first = first_parts e t.in_order in
       let few =
       below (length (queues before)) (most_before before).queues
@@ -277,7 +276,7 @@ module _ (form : Form) (before : List Line) (p : Parts) (h : Say before p) where
         first = first.1;
         named = (and_parts (is_name name) true t.shaped).0;
         fresh = sym (declared_said before p h name)
-            ∙ not_true (is_declared before name)
+            ∙ not-true (is_declared before name)
             (and_parts (not (is_declared before name)) true t.fresh).0;
         few = omega arith;
       })
@@ -292,9 +291,9 @@ module _ (form : Form) (before : List Line) (p : Parts) (h : Say before p) where
           option_map (λ q. BeginBatch q) o ≡ Some s → May p s
       by_queue None f i = absurd (nothing_said s i)
       by_queue (Some q) f i =
-          let same : BeginBatch q ≡ s = same_some (BeginBatch q) s i in
+          let same : BeginBatch q ≡ s = same_Some (BeginBatch q) s i in
           let found =
-          position_passes (λ x. bytes_eq queue x.name) p.queues q
+          found_at (λ x. bytes_eq queue x.name) p.queues q
           (sym (queue_at_said before p h queue) ∙ f) in
           let few =
           below (count is_job before) (most_before before).jobs
@@ -313,7 +312,7 @@ module _ (form : Form) (before : List Line) (p : Parts) (h : Say before p) where
       IsMarked p.semaphores (record { semaphore = t; value = v })
   timeline_marked name t v f l =
       let found =
-      position_passes (λ x. bytes_eq name x.name && is_timeline x.kind) p.semaphores t
+      found_at (λ x. bytes_eq name x.name && is_timeline x.kind) p.semaphores t
       (sym (timeline_at_said before p h name) ∙ f) in
       record {
         semaphore = found.0;
@@ -327,7 +326,7 @@ module _ (form : Form) (before : List Line) (p : Parts) (h : Say before p) where
       IsMarked p.semaphores (binary_pair t)
   binary_marked name t f =
       let found =
-      position_passes (λ x. bytes_eq name x.name && is_binary x.kind) p.semaphores t
+      found_at (λ x. bytes_eq name x.name && is_binary x.kind) p.semaphores t
       (sym (binary_at_said before p h name) ∙ f) in
       record {
         semaphore = found.0;
@@ -352,7 +351,7 @@ module _ (form : Form) (before : List Line) (p : Parts) (h : Say before p) where
       Some (AddWait pair from) ≡ Some s → (from ≡ 1) ⊎ (p.version ≡ 2) →
       IsMarked p.semaphores pair → May p s
   wait_may pair from s e order ranged limited i held known =
-      let same : AddWait pair from ≡ s = same_some (AddWait pair from) s i in
+      let same : AddWait pair from ≡ s = same_Some (AddWait pair from) s i in
       let inside = inside_batch p.batch e in
       let few =
       below (count is_wait (open_batch before)) (most_before before).waits
@@ -445,7 +444,7 @@ module _ (form : Form) (before : List Line) (p : Parts) (h : Say before p) where
       passes_limit (earlier before) s ≡ false →
       Some (AddSignal pair) ≡ Some s → IsMarked p.semaphores pair → May p s
   signal_may pair s e order limited i known =
-      let same : AddSignal pair ≡ s = same_some (AddSignal pair) s i in
+      let same : AddSignal pair ≡ s = same_Some (AddSignal pair) s i in
       let inside = inside_batch p.batch e in
       let few =
       below (count is_signal (open_batch before)) (most_before before).signals
@@ -499,13 +498,13 @@ module _ (form : Form) (before : List Line) (p : Parts) (h : Say before p) where
           option_map (λ x. AddFence x) o ≡ Some s → May p s
       by_place None f i = absurd (nothing_said s i)
       by_place (Some o) f i =
-          let same : AddFence o ≡ s = same_some (AddFence o) s i in
+          let same : AddFence o ≡ s = same_Some (AddFence o) s i in
           let inside = inside_batch p.batch e in
           let order =
           or_parts (some (λ x. nat_lt 4 (part_of x)) (open_batch before))
           (some is_batch_fence (open_batch before)) t.in_order in
           let found =
-          position_passes (λ x. bytes_eq name x.name && is_fence x.kind) p.semaphores o
+          found_at (λ x. bytes_eq name x.name && is_fence x.kind) p.semaphores o
           (sym (fence_at_said before p h name) ∙ f) in
           subst (May p) same
           (record {
@@ -530,7 +529,7 @@ module _ (form : Form) (before : List Line) (p : Parts) (h : Say before p) where
       passes_limit (earlier before) s ≡ false →
       Some (AddCommand c) ≡ Some s → HasNumerals c → May p s
   command_may c s e order ranged apart limited i numerals =
-      let same : AddCommand c ≡ s = same_some (AddCommand c) s i in
+      let same : AddCommand c ≡ s = same_Some (AddCommand c) s i in
       let r : is_in_range (earlier before) (AddCommand c) ≡ true =
       subst (λ (z : Statement). is_in_range (earlier before) z ≡ true) (sym same) ranged in
       let o : overlaps (buffers before) (AddCommand c) ≡ false =
@@ -641,10 +640,10 @@ module _ (form : Form) (before : List Line) (p : Parts) (h : Say before p) where
   end_may : (words : List (List ℕ)) (s : Statement) → InBatch ≡ part_of_batch p.batch →
       matches words EndLine ≡ true → PassesTests form before words EndLine s → May p s
   end_may (a ∷ []) s e m t =
-      let same : EndBatch ≡ s = same_some EndBatch s t.said in
+      let same : EndBatch ≡ s = same_Some EndBatch s t.said in
       let inside = inside_batch p.batch e in
       let near : waits_too_far (open_batch before) ≡ false =
-      not_true (waits_too_far (open_batch before))
+      not-true (waits_too_far (open_batch before))
       (subst (λ (z : Statement). is_in_range (earlier before) z ≡ true) (sym same) t.ranged) in
       subst (May p) same
       (record {
@@ -664,7 +663,7 @@ module _ (form : Form) (before : List Line) (p : Parts) (h : Say before p) where
       Outside ≡ part_of_batch p.batch → stands_outside (are_none before) f ≡ true →
       matches words f ≡ true → PassesTests form before words f s → MayFollow before p s
   outside_may VersionLine (a ∷ b ∷ []) s e g m t =
-      inr (inr (sym (same_some (HasVersion 2) s t.said), none_are before g))
+      inr (inr (sym (same_Some (HasVersion 2) s t.said), none_are before g))
   outside_may VersionLine words s e g m t = absurd (false≢true m)
   outside_may BufferLine words s e g m t = inl (buffer_may words s e m t)
   outside_may TimelineLine words s e g m t = inl (timeline_may words s e m t)
@@ -693,7 +692,7 @@ module _ (form : Form) (before : List Line) (p : Parts) (h : Say before p) where
   outside_may HostIdleLine words s e g m t =
       inl (host_may before p h form HostIdleLine words s (outside_batch p.batch e) refl m t)
   outside_may ScheduleLine (a ∷ []) s e g m t =
-      inr (inl (sym (same_some BeginSchedule s t.said), outside_batch p.batch e))
+      inr (inl (sym (same_Some BeginSchedule s t.said), outside_batch p.batch e))
   outside_may ScheduleLine words s e g m t = absurd (false≢true m)
   outside_may TurnLine words s e g m t = absurd (false≢true g)
   outside_may TurnsLine words s e g m t = absurd (false≢true g)

@@ -4,6 +4,7 @@ use Rattle.std.specs.Prelude.{nat_lt}
 use Rattle.std.specs.List.{AllByRecursion as Every}
 use Rattle.std.specs.Str.{bytes_eq}
 use Rattle.std.proofs.lemmas.Bool.{false≢true, or_parts, and_parts, ltb-false}
+use Rattle.vq_ground.proofs.Positions.{found_at}
 use Rattle.vq_model.specs.declared.statement.Form.{Form}
 use Rattle.vq_model.specs.declared.statement.Line.{Line}
 use Rattle.vq_model.specs.declared.statement.LineForm.{LineForm}
@@ -25,7 +26,6 @@ use Rattle.vq_model.specs.LineFaults.{pairs_of, passes_limit}
 use Rattle.vq_model.specs.Forms.{TimelineName, FenceName}
 use Rattle.vq_reading_laws.proofs.Cited.{below}
 use Rattle.vq_canonical_laws.proofs.LineTests.{PassesTests}
-use Rattle.vq_canonical_laws.proofs.NamedParts.{position_passes}
 use Rattle.vq_canonical_laws.proofs.SaidContext.{most_before, most_said, timeline_at_said, fence_at_said}
 use Rattle.vq_canonical_laws.proofs.ScriptParts.{Told, Parts, Say, May, IsOfKindIn, IsTimed, AreTimed, StepFits, count_jobs}
 use Rattle.vq_canonical_laws.proofs.WrittenNumbers.{numeral_below}
@@ -58,7 +58,7 @@ module _ (before : List Line) (p : Parts) (h : Say before p) where
       IsOfKindIn is_timeline p.semaphores t
   timeline_found name t e =
       let found =
-      position_passes (λ x. bytes_eq name x.name && is_timeline x.kind) p.semaphores t
+      found_at (λ x. bytes_eq name x.name && is_timeline x.kind) p.semaphores t
       (sym (timeline_at_said before p h name) ∙ e) in
       record {
         semaphore = found.0;
@@ -70,7 +70,7 @@ module _ (before : List Line) (p : Parts) (h : Say before p) where
       IsOfKindIn is_fence p.semaphores t
   fence_found name t e =
       let found =
-      position_passes (λ x. bytes_eq name x.name && is_fence x.kind) p.semaphores t
+      found_at (λ x. bytes_eq name x.name && is_fence x.kind) p.semaphores t
       (sym (fence_at_said before p h name) ∙ e) in
       record {
         semaphore = found.0;

@@ -5,6 +5,8 @@ use Rattle.std.specs.List.{position}
 use Rattle.std.specs.Str.{bytes_eq}
 use Rattle.std.proofs.lemmas.Bool.{false≢true, and_parts, ltb-true, ltb-false}
 use Rattle.std.proofs.lemmas.List.{length-map}
+use Rattle.std.proofs.lemmas.Option.{same_Some}
+use Rattle.vq_ground.proofs.Positions.{found_at}
 use Rattle.vq_model.specs.declared.statement.Form.{Form}
 use Rattle.vq_model.specs.declared.statement.Line.{Line}
 use Rattle.vq_model.specs.declared.statement.LineForm.{LineForm}
@@ -28,10 +30,8 @@ use Rattle.vq_model.specs.Earlier.{earlier}
 use Rattle.vq_model.specs.LineFaults.{passes_limit}
 use Rattle.vq_model.specs.Forms.{QueueName, ThreadedName}
 use Rattle.std.specs.List.{flat_map}
-use Rattle.vq_model.proofs.Options.{same_some}
 use Rattle.vq_reading_laws.proofs.Cited.{found_passes, found_belongs, forms_in, turns_counted}
 use Rattle.vq_canonical_laws.proofs.LineTests.{PassesTests, tests_passed}
-use Rattle.vq_canonical_laws.proofs.NamedParts.{position_passes}
 use Rattle.vq_canonical_laws.proofs.SaidContext.{most_before, position_same}
 use Rattle.vq_canonical_laws.proofs.ScriptParts.{Parts}
 use Rattle.vq_canonical_laws.proofs.ScheduleParts.{IsActorIn, SaySchedule}
@@ -82,9 +82,9 @@ module _ (before : List Line) (p : Parts) (turns : List Turn) (h : SaySchedule b
       by_submit None i g = absurd (let c : None ≡ Some a = g in cc)
       by_submit (Some q) i g =
           let found =
-          position_passes (λ x. bytes_eq name x.name && is_threaded x.mode) p.queues q
+          found_at (λ x. bytes_eq name x.name && is_threaded x.mode) p.queues q
           (sym (threaded_said name) ∙ i) in
-          subst (IsActorIn p.queues) (same_some (SubmitActor q) a g) (
+          subst (IsActorIn p.queues) (same_Some (SubmitActor q) a g) (
             found.0,
             found.1,
             (and_parts (bytes_eq name found.0.name) (is_threaded found.0.mode) found.2).1,
@@ -95,8 +95,8 @@ module _ (before : List Line) (p : Parts) (turns : List Turn) (h : SaySchedule b
       by_ring None i g = absurd (let c : None ≡ Some a = g in cc)
       by_ring (Some q) i g =
           let found =
-          position_passes (λ x. bytes_eq name x.name) p.queues q (sym (queue_said name) ∙ i) in
-          subst (IsActorIn p.queues) (same_some (RingActor q) a g) (found.0, found.1)
+          found_at (λ x. bytes_eq name x.name) p.queues q (sym (queue_said name) ∙ i) in
+          subst (IsActorIn p.queues) (same_Some (RingActor q) a g) (found.0, found.1)
 
       of_queue : Bool → Option ActorName
       of_queue b =
@@ -111,7 +111,7 @@ module _ (before : List Line) (p : Parts) (turns : List Turn) (h : SaySchedule b
           IsActorIn p.queues a
       by_host true i g =
           subst (IsActorIn p.queues)
-          (same_some HostActor a
+          (same_Some HostActor a
           (sym (ap (λ (b : Bool). cond b (Some HostActor) (of_queue (is_marked 83 word))) i) ∙ g)) tt
       by_host false i g =
           by_mark (is_marked 83 word)
@@ -151,7 +151,7 @@ module _ (before : List Line) (p : Parts) (turns : List Turn) (h : SaySchedule b
             option_map (λ a. TakeTurns a 1) o ≡ Some s → Takes p (length turns) s
         by_actor None e g = absurd (let c : None ≡ Some s = g in cc)
         by_actor (Some a) e g =
-            takes a 1 s (actor_said word a e) t.ranged t.limited (same_some (TakeTurns a 1) s g)
+            takes a 1 s (actor_said word a e) t.ranged t.limited (same_Some (TakeTurns a 1) s g)
     turn_takes words s m t = absurd (false≢true m)
 
     turns_take : (words : List (List ℕ)) (s : Statement) → matches words TurnsLine ≡ true →
@@ -164,7 +164,7 @@ module _ (before : List Line) (p : Parts) (turns : List Turn) (h : SaySchedule b
         by_actor None n e g = absurd (let c : None ≡ Some s = g in cc)
         by_actor (Some a) None e g = absurd (let c : None ≡ Some s = g in cc)
         by_actor (Some a) (Some n) e g =
-            takes a n s (actor_said word a e) t.ranged t.limited (same_some (TakeTurns a n) s g)
+            takes a n s (actor_said word a e) t.ranged t.limited (same_Some (TakeTurns a n) s g)
     turns_take words s m t = absurd (false≢true m)
 
     by_form : (f : LineForm) (words : List (List ℕ)) (s : Statement) → takes_turns f ≡ true →

@@ -5,6 +5,7 @@ use Rattle.std.specs.List.{list_all, flat_map, AllByRecursion as Every}
 use Rattle.std.specs.Option.{option_map_or}
 use Rattle.std.specs.Fmt.{decimal}
 use Rattle.std.proofs.lemmas.Bool.{and_from, or_from, lt-ltb, eq-eqb}
+use Rattle.vq_ground.proofs.Tests.{not_below_test}
 use Rattle.vq_model.specs.declared.statement.Form.{Form}
 use Rattle.vq_model.specs.declared.statement.Line.{Line}
 use Rattle.vq_model.specs.declared.statement.LineForm.{LineForm}
@@ -31,7 +32,7 @@ use Rattle.vq_model.specs.Forms.{TimelineName}
 use Rattle.vq_model.specs.Naming.{semaphore_name}
 use Rattle.vq_canonical_laws.proofs.BatchLines.{timeline_there, fence_there}
 use Rattle.vq_canonical_laws.proofs.LineTests.{PassesTests, read_tested}
-use Rattle.vq_canonical_laws.proofs.LineWords.{declared_script, ReadsAs, words_plain, words_of_two, words_of_three, not_over, not_past, form_outside}
+use Rattle.vq_canonical_laws.proofs.LineWords.{declared_script, ReadsAs, words_plain, words_of_two, words_of_three, not_over, form_outside}
 use Rattle.vq_canonical_laws.proofs.NamedParts.{AreNamed, name_word}
 use Rattle.vq_canonical_laws.proofs.ScriptParts.{Told, Parts, Say, MayStep, IsOfKindIn, IsTimed, StepFits, OpenLines, count_jobs, part_of_batch}
 use Rattle.vq_canonical_laws.proofs.WrittenNumbers.{decimal_back, decimal_word}
@@ -108,7 +109,7 @@ module _ (form : Form) (before : List Line) (p : Parts) (h : Say before p) (name
             or_from (not (nat_lt (count is_job before) (most_before before).jobs))
             (nat_lt (most_before before).pairs (length (pairs_of step)))
             (not_over (count is_job before) (most_before before).jobs (omega arith))
-            (not_past (most_before before).pairs (length (pairs_of step)) (omega arith));
+            (not_below_test (most_before before).pairs (length (pairs_of step)) (omega arith));
       }
 
   -- Steps of one name

@@ -10,14 +10,13 @@ use Rattle.vq_model.specs.Forms.{places}
 use Rattle.vq_model.specs.Meaning.{open_places, statement_of, form_of, meaning}
 use Rattle.vq_model.specs.LineFaults.{is_shaped, is_numeric, is_known, is_new, is_out_of_order, is_in_range, overlaps, fails, has_fault, fault_of}
 use Rattle.std.specs.Option.{option_map_or, option_and_then}
-use Rattle.std.proofs.lemmas.Bool.{or_parts, or_from}
+use Rattle.std.proofs.lemmas.Bool.{or_parts, or_from, not-false}
 use Rattle.vq_model.specs.declared.statement.FaultKind.TheVariants.{Syntax, Order, Number, Name, Twice, Range, Overlap, Limit}
 use Rattle.vq_reading_laws.proofs.Cited.{first_fails}
 use Rattle.vq_model.specs.Reading.{with_line, without_fault, read_statement}
 use Rattle.vq_model.specs.Context.{number_at, is_declared, buffers}
 use Rattle.vq_model.specs.Earlier.{earlier}
 use Rattle.vq_model.specs.LineFaults.{passes_limit}
-use Rattle.vq_model.proofs.Bools.{not_false}
 
 -- A line's words pass all tests of a form, and say a statement.
 pub record PassesTests (form : Form) (before : List Line) (words : List (List ℕ)) (f : LineForm)
@@ -59,7 +58,7 @@ tests_passed form before words s h m =
     or_parts (not (list_all (list_all is_plain) words))
     (option_map_or (fails is_shaped words) (form_of form before words) true) one.0 in
     by_form (form_of form before words) refl syntax.0 syntax.1 two.0 three.0 four.0 five.0 m
-    (not_false (is_in_range (earlier before) s)
+    (not-false (is_in_range (earlier before) s)
     (sym (ap (λ (o : Option Statement). option_map_or (λ x. not (is_in_range (earlier before) x)) o false) m)
     ∙ six.0))
     (sym (ap (λ (o : Option Statement). option_map_or (overlaps (buffers before)) o false) m) ∙ seven.0)
@@ -83,12 +82,12 @@ tests_passed form before words s h m =
       f,
       record {
         found = e;
-        plain = not_false (list_all (list_all is_plain) words) plain;
-        shaped = not_false (list_all is_shaped (open_places (places f) words)) shaped;
+        plain = not-false (list_all (list_all is_plain) words) plain;
+        shaped = not-false (list_all is_shaped (open_places (places f) words)) shaped;
         in_order = order;
-        numeric = not_false (list_all is_numeric (open_places (places f) words)) numeric;
-        known = not_false (list_all (is_known (number_at before)) (open_places (places f) words)) known;
-        fresh = not_false (list_all (is_new (is_declared before)) (open_places (places f) words)) fresh;
+        numeric = not-false (list_all is_numeric (open_places (places f) words)) numeric;
+        known = not-false (list_all (is_known (number_at before)) (open_places (places f) words)) known;
+        fresh = not-false (list_all (is_new (is_declared before)) (open_places (places f) words)) fresh;
         said = said;
         ranged = r;
         apart = o;

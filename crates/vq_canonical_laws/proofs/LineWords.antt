@@ -1,5 +1,5 @@
 -- The canonical words of a statement after lines that say parts, and the form of words.
-use Rattle.std.proofs.Common.{[], None, ℕ, List, ◌∷◌, ◌≡◌, true, Ok, length, refl, ◌<◌, false, not, ap, ◌≤◌, arith, Bool, cond, ◌++◌, find, Option, Some, ◌∙◌, ◌||◌, ◌==◌}
+use Rattle.std.proofs.Common.{[], None, ℕ, List, ◌∷◌, ◌≡◌, true, Ok, length, refl, ◌<◌, false, not, ap, Bool, cond, ◌++◌, find, Option, Some, ◌∙◌, ◌||◌, ◌==◌}
 use Rattle.vq_model.specs.declared.script.Script.{Script}
 use Rattle.vq_canonical_laws.proofs.ScriptParts.{Parts, parts, script_of_parts, a_buffer, a_semaphore, a_queue, Told, Say}
 use Rattle.std.specs.Prelude.{codes, nat_lt}
@@ -12,7 +12,7 @@ use Rattle.vq_model.specs.declared.statement.Line.{Line}
 use Rattle.vq_model.specs.Reading.{with_line, read_statement}
 use Rattle.vq_canonical_laws.proofs.WrittenTexts.{are_text_words, is_word_byte, is_text_word, all_weaker, word_to_plain}
 use Rattle.std.specs.List.{list_all, list_any}
-use Rattle.std.proofs.lemmas.Bool.{and_parts, and_from, lt-ltb, ltb-true, false_from_ne_true, or_from}
+use Rattle.std.proofs.lemmas.Bool.{and_parts, and_from, lt-ltb, or_from}
 use Rattle.vq_model.specs.Text.{is_plain}
 use Rattle.vq_model.specs.declared.statement.Section.{Section}
 use Rattle.vq_model.specs.declared.statement.Section.TheVariants.{Outside, InBatch}
@@ -80,10 +80,6 @@ words_of_two a b i j =
 -- below a limit
 pub not_over : (a b : ℕ) → a < b → not (nat_lt a b) ≡ false
 not_over a b l = ap not (lt-ltb a b l)
-
--- not past a limit
-pub not_past : (a b : ℕ) → b ≤ a → nat_lt a b ≡ false
-not_past a b l = false_from_ne_true (nat_lt a b) (λ e. let m = ltb-true a b e in omega arith)
 
 -- The forms
 

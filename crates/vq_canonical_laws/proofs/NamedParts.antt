@@ -1,13 +1,14 @@
 -- Names of parts: each is a name, and looking it up gives what has it.
-use Rattle.std.proofs.Common.{◌≡◌, ℕ, ◌≤◌, ◌==◌, true, not, ◌&&◌, ◌||◌, ap, inl, inr, arith, List, length, ◌+◌, Bool, false, cond, [], ◌∷◌, ◌++◌, length-append, Some, None, refl, ◌∙◌, zero, suc, ◌⊎◌, sym, ◌<◌, subst, ne_eqb}
+use Rattle.std.proofs.Common.{◌≡◌, ℕ, ◌≤◌, ◌==◌, true, not, ◌&&◌, ◌||◌, ap, inl, inr, arith, List, length, ◌+◌, Bool, false, cond, [], ◌∷◌, ◌++◌, length-append, Some, None, refl, ◌∙◌, zero, suc, ◌⊎◌, sym, subst, ne_eqb}
 use Rattle.std.specs.Prelude.{nat_le, nat_lt}
-use Rattle.std.proofs.lemmas.Bool.{and_parts, and_from, or_cases, le-leb, leb-true, eqb-true, ltb-true, lt-ltb, or_parts, eq-eqb, false≢true}
+use Rattle.std.proofs.lemmas.Bool.{and_parts, and_from, or_cases, le-leb, leb-true, eqb-true, ltb-true, lt-ltb, or_parts, false≢true}
+use Rattle.vq_ground.proofs.Bytes.{same_bytes}
+use Rattle.vq_ground.proofs.Positions.{position_new}
 use Rattle.vq_model.specs.Text.{is_letter, is_digit, is_name}
 use Rattle.vq_canonical_laws.proofs.WrittenTexts.{is_word_byte, is_text_word, all_weaker}
 use Rattle.std.specs.List.{slice_index, list_all, position, position_or_len, list_any, slice_get}
 use Rattle.std.proofs.lemmas.List.Folds.{position_or_len_push}
 use Rattle.std.specs.Str.{bytes_eq}
-use Rattle.std.proofs.lemmas.Slice.Eq.{bytes_eq-Decides}
 use Rattle.vq_canonical_laws.proofs.ScriptParts.{Parts, no_parts, is_named, a_buffer, a_semaphore, a_queue, after, May}
 use Rattle.vq_model.specs.declared.script.Buffer.{Buffer}
 use Rattle.vq_model.specs.declared.script.Semaphore.{Semaphore}
@@ -84,30 +85,6 @@ position_found {A} test xs y k h = by_test (nat_lt (position_or_len test xs) (le
         ∙ ap (λ (j : ℕ). Some j) (here ∙ same)
     by_test false e i = absurd (cc)
 
--- where none passes, the place is the end
-none_passes : {A : Type 0} (test : A → Bool) (xs : List A) → list_any test xs ≡ false →
-    position_or_len test xs ≡ length xs
-none_passes test [] h = refl
-none_passes test (x ∷ xs) h =
-    let no = or_parts (test x) (list_any test xs) h in
-    let rest = none_passes test xs no.1 in
-    ap (λ (b : Bool). cond (not b) (1 + position_or_len test xs) 0) no.0 ∙ omega arith
-
--- the first that passes may be the last of a list
-position_new : {A : Type 0} (test : A → Bool) (xs : List A) (y : A) → list_any test xs ≡ false →
-    test y ≡ true →
-    position test (xs ++ y ∷ []) ≡ Some (length xs)
-position_new test xs y h e =
-    let m = length-append xs (y ∷ []) in
-    let here : position_or_len test (xs ++ y ∷ []) ≡ length xs =
-    position_or_len_push test xs y
-    ∙ (ap (λ (b : Bool). cond b (length xs + cond (test y) 0 1) (position_or_len test xs))
-    (eq-eqb (position_or_len test xs) (length xs) (none_passes test xs h))
-    ∙ (ap (λ (b : Bool). length xs + cond b 0 1) e ∙ omega arith)) in
-    ap (λ (b : Bool). cond b (Some (position_or_len test (xs ++ y ∷ []))) None)
-    (lt-ltb (position_or_len test (xs ++ y ∷ [])) (length (xs ++ y ∷ [])) (omega arith))
-    ∙ ap (λ (j : ℕ). Some j) here
-
 -- an item of a longer list is one of the list, or the new one
 get_push : {A : Type 0} (xs : List A) (y : A) (k : ℕ) (x : A) →
     slice_get (xs ++ y ∷ []) k ≡ Some x →
@@ -117,10 +94,6 @@ get_push [] y (suc k) x h = absurd (let c : None ≡ Some x = h in cc)
 get_push (z ∷ xs) y zero x h = inl h
 get_push (z ∷ xs) y (suc k) x h =
     elim (get_push xs y k x h) [ inl e ↦ inl e | inr e ↦ let f = e.0 in inr (omega arith, e.1) ]
-
--- a name is the same as itself
-same_bytes : (name : List ℕ) → bytes_eq name name ≡ true
-same_bytes name = (bytes_eq-Decides name name).1 refl
 
 -- Positions of more than a name
 
@@ -166,38 +139,6 @@ position_of_both p q xs k x h g e = by_test (nat_lt (position_or_len p xs) (leng
         (λ j. cond (nat_lt (both j) (length xs)) (Some (both j)) None)
         ∙ (ap (λ (b : Bool). cond b (Some k) None)
         (ap (λ (j : ℕ). nat_lt j (length xs)) (sym same) ∙ l))
-    by_test false l i = absurd (cc)
-
--- what is found is there and passes
-pub position_passes : {A : Type 0} (p : A → Bool) (xs : List A) (k : ℕ) → position p xs ≡ Some k →
-    (x : A) × (slice_get xs k ≡ Some x) × (p x ≡ true)
-position_passes {A} p xs k h = by_test (nat_lt (position_or_len p xs) (length xs)) refl h
-  where
-    here : (ys : List A) → position_or_len p ys < length ys →
-        (x : A) × (slice_get ys (position_or_len p ys) ≡ Some x) × (p x ≡ true)
-    here [] l = absurd (omega arith)
-    here (y ∷ ys) l = by_first (p y) refl l (here ys)
-      where
-        by_first : (b : Bool) → p y ≡ b →
-            cond (not b) (1 + position_or_len p ys) 0 < length (y ∷ ys) →
-            (position_or_len p ys < length ys →
-            (x : A) × (slice_get ys (position_or_len p ys) ≡ Some x) × (p x ≡ true)) →
-            (x : A)
-            × (slice_get (y ∷ ys) (cond (not b) (1 + position_or_len p ys) 0) ≡ Some x)
-            × (p x ≡ true)
-        by_first true e l more = (y, refl, e)
-        by_first false e l more =
-            let next : 1 + position_or_len p ys ≡ suc (position_or_len p ys) = omega arith in
-            let x = more (omega arith) in
-            (x.0, ap (λ (j : ℕ). slice_get (y ∷ ys) j) next ∙ x.1, x.2)
-
-    by_test : (b : Bool) → nat_lt (position_or_len p xs) (length xs) ≡ b →
-        cond b (Some (position_or_len p xs)) None ≡ Some k →
-        (x : A) × (slice_get xs k ≡ Some x) × (p x ≡ true)
-    by_test true l i =
-        let same : position_or_len p xs ≡ k = cc in
-        let x = here xs (ltb-true (position_or_len p xs) (length xs) l) in
-        (x.0, ap (λ (j : ℕ). slice_get xs j) (sym same) ∙ x.1, x.2)
     by_test false l i = absurd (cc)
 
 -- Names of parts

@@ -13,7 +13,7 @@ use Rattle.vq_model.specs.Context.{is_batch_fence, part_of}
 use Rattle.vq_model.specs.ScriptOfLines.{first_of_list}
 use Rattle.vq_canonical_laws.specs.CanonicalStatements.{wait_statement, command_statement, signal_statement, fence_statements, statements_of_job}
 use Rattle.vq_canonical_laws.proofs.BatchItems.{is_item, AllItems}
-use Rattle.vq_canonical_laws.proofs.CanonicalBatches.{items_along, leads_split, none_added}
+use Rattle.vq_canonical_laws.proofs.CanonicalBatches.{items_along, leads_split, none_added, no_second_fence}
 use Rattle.vq_canonical_laws.proofs.CanonicalOrder.{Leads, job_statements}
 use Rattle.vq_canonical_laws.proofs.ScriptParts.{ToldJob, ToldStep, ToldBatch, Told, Parts, parts, a_job, wait_in, command_in, signal_in, fence_in, MayItem}
 
@@ -91,10 +91,6 @@ no_signal_in : (k : ℕ) → nat_lt 3 k ≡ true → (s : Statement) → nat_lt 
 no_signal_in k l (AddSignal pair) h = absurd (false≢true (sym h ∙ l))
 no_signal_in k l s h = refl
 
-no_fence_in : (s : Statement) → is_batch_fence s ≡ false → fence_in s ≡ None
-no_fence_in (AddFence f) h = absurd (false≢true (sym h))
-no_fence_in s h = refl
-
 -- the waits, commands, signals and fence of statements, as statements
 abbrev waits_in : List Statement → List Statement
 waits_in told = map wait_statement (filter_map wait_in told)
@@ -143,7 +139,7 @@ items_again (AddFence f ∷ rest) items order =
     let w = waits_none rest 4 order.0.0 refl in
     let c = commands_none rest 4 order.0.0 refl in
     let m = signals_none rest 4 order.0.0 refl in
-    let n = none_added fence_in is_batch_fence no_fence_in rest (order.0.1 refl) in
+    let n = none_added fence_in is_batch_fence no_second_fence rest (order.0.1 refl) in
     (λ i. w i ++ c i ++ m i ++ (AddFence f ∷ []))
     ∙ ap (λ (xs : List Statement). AddFence f ∷ xs)
     ((λ i. sym w i ++ sym c i ++ sym m i ++ fence_statements (first_of_list (sym n i)))

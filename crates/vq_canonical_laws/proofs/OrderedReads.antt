@@ -2,6 +2,7 @@
 use Rattle.std.proofs.Common.{List, [], refl, ◌≡◌, Ok, ℕ, ◌∷◌, Option, Some, None, Err, sym, ap, ◌∙◌, subst, ◌+◌, Bool, true, false, cond, ◌++◌, append-nil, map, ◌⊎◌, inl, inr, ◌≤◌, length, length-append, replicate, zero, suc, arith}
 use Rattle.std.specs.List.{AllByRecursion as Every, flat_map}
 use Rattle.std.proofs.lemmas.List.{length-replicate}
+use Rattle.vq_ground.proofs.Every.{every_append}
 use Rattle.vq_model.specs.declared.script.ActorName.{ActorName}
 use Rattle.vq_model.specs.declared.script.Queue.{Queue}
 use Rattle.vq_model.specs.declared.script.Turn.{Turn}
@@ -27,7 +28,7 @@ use Rattle.vq_model.specs.Limits.{limits_of}
 use Rattle.vq_model.specs.Meaning.{meaning}
 use Rattle.vq_model.specs.LineFaults.{fault_of, ends_early}
 use Rattle.vq_model.specs.Reading.{with_line, without_fault, read_statement, read_line, read_lines, script_or_fault, go_on, StandsFor}
-use Rattle.vq_reading_laws.proofs.Cited.{has_meaning, every_append, plain_unscheduled}
+use Rattle.vq_reading_laws.proofs.Cited.{has_meaning, plain_unscheduled}
 use Rattle.vq_canonical_laws.proofs.FollowingLines.{may_follow}
 use Rattle.vq_canonical_laws.proofs.OrderedBatches.{ordered_more}
 use Rattle.vq_model.specs.declared.statement.FaultKind.TheVariants.{Syntax}

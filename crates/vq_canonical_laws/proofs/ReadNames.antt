@@ -2,8 +2,8 @@
 use Rattle.std.proofs.Common.{◌≡◌, ℕ, true, List, [], ◌∷◌, map, Some, option_map, refl, sym, subst, ap, ◌∙◌}
 use Rattle.std.specs.List.{slice_get, position}
 use Rattle.std.specs.Str.{bytes_eq}
-use Rattle.vq_model.proofs.Gets.{get-map}
-use Rattle.vq_model.proofs.Options.{same_some}
+use Rattle.std.proofs.lemmas.Option.{same_Some}
+use Rattle.vq_ground.proofs.Gets.{get-map}
 use Rattle.vq_model.specs.declared.statement.Statement.{Statement}
 use Rattle.vq_model.specs.declared.script.Buffer.{Buffer}
 use Rattle.vq_model.specs.declared.script.Semaphore.{Semaphore}
@@ -44,7 +44,7 @@ have_names {A} name xs n =
       apart = λ j k x y at there same.
           let first : position (λ z. bytes_eq (name y) (name z)) xs ≡ Some j =
           subst (λ (w : List ℕ). position (λ z. bytes_eq w (name z)) xs ≡ Some j) same (n j x at).1 in
-          same_some j k (sym first ∙ (n k y there).1);
+          same_Some j k (sym first ∙ (n k y there).1);
     }
 
 -- .. also where the items are changed in something else

@@ -7,6 +7,7 @@ use Rattle.std.specs.Str.{bytes_eq}
 use Rattle.std.specs.Fmt.{decimal}
 use Rattle.std.proofs.lemmas.Bool.{and_parts, and_from, or_from, lt-ltb, ltb-false}
 use Rattle.std.proofs.lemmas.List.{length-replicate}
+use Rattle.vq_ground.proofs.Tests.{not_below_test}
 use Rattle.vq_model.specs.declared.statement.FaultKind.{FaultKind}
 use Rattle.vq_model.specs.declared.statement.FaultKind.TheVariants.{Syntax}
 use Rattle.vq_model.specs.declared.statement.Form.{Form}
@@ -32,7 +33,7 @@ use Rattle.vq_canonical_laws.proofs.SaidContext.{most_before}
 use Rattle.vq_canonical_laws.proofs.FollowingTurns.{queue_said, threaded_said, turns_said}
 use Rattle.vq_canonical_laws.proofs.JoinedTurns.{AreOf, expanded}
 use Rattle.vq_canonical_laws.proofs.LineTests.{PassesTests, read_tested}
-use Rattle.vq_canonical_laws.proofs.LineWords.{ReadsAs, words_plain, words_of_two, not_past, form_in, form_outside}
+use Rattle.vq_canonical_laws.proofs.LineWords.{ReadsAs, words_plain, words_of_two, form_in, form_outside}
 use Rattle.vq_canonical_laws.proofs.NamedParts.{AreNamed, name_word, position_of_both}
 use Rattle.vq_canonical_laws.proofs.ScheduleParts.{IsActorIn, SaySchedule, a_turn, schedule_goes_on, scheduled_script}
 use Rattle.vq_canonical_laws.proofs.ScriptParts.{Parts, Say, Told, OpenLines, part_of_batch}
@@ -144,7 +145,7 @@ module _ (before : List Line) (p : Parts) (turns : List Turn) (h : SaySchedule b
           said = λ i. option_map (λ x. TakeTurns x 1) (w.known i);
           ranged = refl;
           apart = refl;
-          limited = not_past (most_before before).turns
+          limited = not_below_test (most_before before).turns
               (sum (map (λ (line : Line). turns_of line.statement) before) + 1) (omega arith);
         } in
         record {
@@ -174,7 +175,7 @@ module _ (before : List Line) (p : Parts) (turns : List Turn) (h : SaySchedule b
           said = λ i. of_two (λ x k. TakeTurns x k) (w.known i) (decimal_back count small i);
           ranged = lt-ltb 0 count some_turns;
           apart = refl;
-          limited = not_past (most_before before).turns
+          limited = not_below_test (most_before before).turns
               (sum (map (λ (line : Line). turns_of line.statement) before) + count) (omega arith);
         } in
         record {

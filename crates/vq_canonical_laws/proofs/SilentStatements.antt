@@ -31,10 +31,6 @@ pub or_true : (a : Bool) → (a || true) ≡ true
 or_true true = refl
 or_true false = refl
 
-pub or_nothing : (a : Bool) → (a || false) ≡ a
-or_nothing true = refl
-or_nothing false = refl
-
 -- one test more, which fails
 pub or_same : (a b c : Bool) → a ≡ c → b ≡ false → (a || (b || false)) ≡ c
 or_same true b c h e = h

@@ -2,7 +2,7 @@
 use Rattle.std.proofs.Common.{ℕ, ◌==◌, Bool, not, ◌&&◌, List, length, ◌≡◌, true, [], ◌∷◌, refl, ◌≤◌, false, ap, arith, cond, ◌++◌, suc, ◌+◌, take, ◌∙◌, zero, ◌-◌, append_assoc, map, ne_eqb}
 use Rattle.std.specs.Prelude.{nat_le, nat_lt, filter}
 use Rattle.std.specs.List.{list_all, slice_split, onto_first, before_first, position_or_len, join_with_byte, slice_index, flat_map}
-use Rattle.std.proofs.lemmas.Bool.{and_parts, and_from, leb-true, false≢true, le-leb, or_left, or_from}
+use Rattle.std.proofs.lemmas.Bool.{and_parts, and_from, leb-true, false≢true, le-leb, or_left, or_from, not_from_false}
 use Rattle.vq_model.specs.Text.{is_plain, is_blank, is_line_feed, is_some_word, words_in, words_of, without_empty_end, lines_of}
 use Rattle.std.proofs.lemmas.List.Folds.{list_all-append}
 use Rattle.std.specs.Str.Lines.{strip_carriage_return}
@@ -58,10 +58,6 @@ word_byte b h =
     not_true true e = absurd (false≢true e)
     not_true false e = refl
 
--- what is false is not
-not_false : (x : Bool) → x ≡ false → not x ≡ true
-not_false x e = ap not e
-
 -- a byte of a word is plain
 pub word_to_plain : (b : ℕ) → is_word_byte b ≡ true → is_plain b ≡ true
 word_to_plain b h =
@@ -76,7 +72,7 @@ word_to_kept : (b : ℕ) → is_word_byte b ≡ true → is_kept_byte b ≡ true
 word_to_kept b h =
     let w = word_byte b h in
     let l = w.0 in
-    and_from (nat_le 33 b) (not (b == 35)) (le-leb 33 b (omega arith)) (not_false (b == 35) w.2)
+    and_from (nat_le 33 b) (not (b == 35)) (le-leb 33 b (omega arith)) (not_from_false (b == 35) w.2)
 
 -- such words are kept
 pub text_to_kept : (word : List ℕ) → is_text_word word ≡ true → is_kept_word word ≡ true
@@ -95,7 +91,7 @@ kept_to_line b h =
 kept_to_not_blank : (b : ℕ) → is_kept_byte b ≡ true → not (is_blank b) ≡ true
 kept_to_not_blank b h =
     let l = leb-true 33 b (and_parts (nat_le 33 b) (not (b == 35)) h).0 in
-    not_false (is_blank b)
+    not_from_false (is_blank b)
     (or_from (b == 32) (b == 9) (ne_eqb b 32 (λ e. omega arith)) (ne_eqb b 9 (λ e. omega arith)))
 
 -- .. and no hash sign
@@ -106,13 +102,13 @@ kept_to_not_hash b h = (and_parts (nat_le 33 b) (not (b == 35)) h).1
 line_to_not_feed : (b : ℕ) → is_line_byte b ≡ true → not (is_line_feed b) ≡ true
 line_to_not_feed b h =
     let l = leb-true 32 b h in
-    not_false (b == 10) (ne_eqb b 10 (λ e. omega arith))
+    not_from_false (b == 10) (ne_eqb b 10 (λ e. omega arith))
 
 -- .. and no carriage return
 line_to_not_return : (b : ℕ) → is_line_byte b ≡ true → not (b == 13) ≡ true
 line_to_not_return b h =
     let l = leb-true 32 b h in
-    not_false (b == 13) (ne_eqb b 13 (λ e. omega arith))
+    not_from_false (b == 13) (ne_eqb b 13 (λ e. omega arith))
 
 -- Splitting
 

@@ -2,14 +2,15 @@
 use Rattle.std.proofs.Common.{◌≡◌, ℕ, zero, suc, ◌+◌, ◌<◌, ◌≤◌, max, true, false, eqb, if◌then◌else◌, List, [], ◌∷◌, ◌++◌, length, Some, refl, sym, ap, ◌∙◌, ◌⊎◌, inl, inr, subst, arith}
 use Rattle.std.specs.List.{filter_map}
 use Rattle.std.proofs.lemmas.Bool.{false≢true, cases_eq}
-use Rattle.vq_model.specs.Plan.{Plan, has, previous, job_of}
+use Rattle.vq_model.specs.Plan.{Plan, previous, job_of}
+use Rattle.vq_ground.specs.Lists.{has}
 use Rattle.vq_model.specs.Edges.{Stage, AtEnd, must_finish, awaited_at, edges_at}
 use Rattle.vq_model.specs.SlowRun.{left_over}
 use Rattle.vq_model.specs.HappensBefore.{comes_earlier, IsHop, HappensBefore, HappensBeforeAt, one, more}
 use Rattle.vq_model.specs.Sure.{IsSure, IsSureAt, finished_first, waited_for, passed_on}
-use Rattle.vq_model.proofs.Lists.{has-append_cases, has-append_left, has-append_right, has_here, has_cases}
-use Rattle.vq_model.proofs.Mapped.{mapped}
-use Rattle.vq_model.proofs.Mapped.{has_mapped}
+use Rattle.vq_ground.proofs.Lists.{has-append_cases, has-append_left, has-append_right, has_here, has_cases}
+use Rattle.vq_ground.proofs.Mapped.{mapped}
+use Rattle.vq_ground.proofs.Mapped.{has_mapped}
 use Rattle.vq_model.specs.Lanes.{lane_at, KeepsLanes, IsJustBefore}
 use Rattle.vq_clocks.specs.VectorClocks.{Covers, itself, IsClock, IsSureClock, PassesOne, SureByJob, IsSureBy}
 use Rattle.vq_clocks.proofs.SlowFacts.{must_earlier}

@@ -9,11 +9,11 @@ use Rattle.vq_model.specs.declared.script.Script.{Script}
 use Rattle.vq_model.specs.HappensBefore.{HappensBeforeCommand}
 use Rattle.vq_model.specs.Lowering.{commands_in, plan_job, plan_of}
 use Rattle.vq_model.specs.LoweringFaults.{IsPlan}
-use Rattle.vq_model.specs.Plan.{Plan, has, commands_of}
-use Rattle.vq_model.specs.WellFormed.{AreRising}
-use Rattle.vq_model.proofs.Lists.{has_cases}
-use Rattle.vq_model.proofs.Numbers.{has-range_cases}
-use Rattle.vq_model.proofs.Positions.{place, place_head, place_tail}
+use Rattle.vq_model.specs.Plan.{Plan, commands_of}
+use Rattle.vq_ground.specs.Lists.{has, AreRising}
+use Rattle.vq_ground.proofs.Lists.{has_cases}
+use Rattle.vq_ground.proofs.Numbers.{has-range_cases}
+use Rattle.vq_ground.proofs.Positions.{place, place_head, place_tail}
 use Rattle.vq_order_laws.proofs.Cited.{before_later}
 use Rattle.vq_plan_laws.proofs.Cited.{part_is, plan_well_formed}
 

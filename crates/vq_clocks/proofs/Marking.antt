@@ -3,8 +3,8 @@ use Rattle.std.proofs.Common.{◌≡◌, ℕ, zero, suc, ◌+◌, ◌<◌, true,
 use Rattle.std.specs.List.{slice_get}
 use Rattle.std.proofs.lemmas.Bool.{false≢true}
 use Rattle.std.proofs.Math.Seq.{take-suc}
-use Rattle.vq_model.specs.Plan.{has}
-use Rattle.vq_model.proofs.Lists.{has-append_cases, has_cases}
+use Rattle.vq_ground.specs.Lists.{has}
+use Rattle.vq_ground.proofs.Lists.{has-append_cases, has_cases}
 
 -- one more of a list
 pub taken_cases : (xs : List ℕ) (i x : ℕ) → i < length xs → has (take (i + 1) xs) x ≡ true → (has (take i xs) x ≡ true) ⊎ (x ≡ get_or xs i 0)

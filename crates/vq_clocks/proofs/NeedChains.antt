@@ -8,7 +8,7 @@ use Rattle.vq_model.specs.Lanes.{KeepsSemaphores}
 use Rattle.vq_model.specs.LoweringFaults.{IsPlan}
 use Rattle.vq_model.specs.Plan.{Plan, chain, needs, resolver, value}
 use Rattle.vq_model.proofs.Plans.{op_within}
-use Rattle.vq_model.proofs.Searches.{find_member}
+use Rattle.vq_ground.proofs.Searches.{find_member}
 use Rattle.vq_plan_laws.proofs.Cited.{plan_well_formed}
 
 -- a job's needs are of chains that exist

@@ -9,19 +9,19 @@ use Rattle.std.proofs.Math.Seq.{take-suc, get_or-append_seam}
 use Rattle.std.proofs.lemmas.Bool.{cases_lt, cond-false, cond-true, le-leb, lt-ltb, ltb-true, ltb-false}
 use Rattle.std.proofs.lemmas.Grind.{get_or_default_zero}
 use Rattle.std.proofs.lemmas.List.Elements.{filter-append, filter_map-append}
-use Rattle.std.proofs.lemmas.Option.{slice_get-get_or}
+use Rattle.std.proofs.lemmas.Option.{slice_get-get_or, slice_get_past}
 use Rattle.vq_model.specs.declared.plan.Need.{Need}
 use Rattle.vq_model.specs.Edges.{Stage, At, AtEnd, edges_at, must_finish, needs_at, stage_of, waits_at_start}
 use Rattle.vq_model.specs.HappensBefore.{HappensBefore, HappensBeforeAt, HappensBeforeCommand}
 use Rattle.vq_model.specs.Lanes.{lane_at}
-use Rattle.vq_model.specs.Plan.{Plan, commands_of, has, initial, job_of, needs, resolver, waits_for_any}
-use Rattle.vq_model.proofs.Gets.{slice_get_past}
-use Rattle.vq_model.proofs.Lists.{has-append_left, has-append_right, has_here}
+use Rattle.vq_model.specs.Plan.{Plan, commands_of, initial, job_of, needs, resolver, waits_for_any}
+use Rattle.vq_ground.specs.Lists.{has}
+use Rattle.vq_ground.proofs.Lists.{has-append_left, has-append_right, has_here}
 use Rattle.vq_clocks.specs.declared.clocks.parts.Parts.{Parts}
 use Rattle.vq_clocks.specs.PartClocks.{end_before, jobs_for, AreParts, AreRowsOfParts, IsPartEnds}
 use Rattle.vq_clocks.specs.VectorClocks.{in_row, lanes, row_at, IsClock}
 use Rattle.vq_clocks.proofs.SortedLists.{sorted_once}
-use Rattle.vq_model.proofs.Positions.{place}
+use Rattle.vq_ground.proofs.Positions.{place}
 use Rattle.vq_plan_laws.proofs.Cited.{needs_alike, same_before}
 
 -- Edges to a place

@@ -6,18 +6,19 @@ use Rattle.std.proofs.Math.Seq.{take-suc, get_or-append_seam}
 use Rattle.std.proofs.Math.ListN.{get_or-append, set}
 use Rattle.std.proofs.lemmas.List.{get_or-replicate, get_or_past, length-replicate, length-append, take_all, get_or-set_same, get_or-set_other}
 use Rattle.std.proofs.lemmas.Bool.{lt-ltb, ltb-true, cases_lt, cases_eq, false≢true}
-use Rattle.vq_model.specs.Plan.{Plan, has, job_of, signals_of}
+use Rattle.vq_ground.proofs.Gets.{has_at, get_has}
+use Rattle.vq_model.specs.Plan.{Plan, job_of, signals_of}
+use Rattle.vq_ground.specs.Lists.{has, AreRising}
 use Rattle.vq_model.specs.Edges.{Stage, must_finish, awaited_at, edges_at}
-use Rattle.vq_model.specs.WellFormed.{AreRising, IsWellFormed}
+use Rattle.vq_model.specs.WellFormed.{IsWellFormed}
 use Rattle.vq_model.specs.SlowRun.{left_over, slow_order}
 use Rattle.vq_model.specs.HappensBefore.{HappensBefore}
 use Rattle.vq_model.specs.Sure.{IsSure}
-use Rattle.vq_model.proofs.Lists.{has-append_cases, has_here, has_there, has_cases}
-use Rattle.vq_model.proofs.Mapped.{mapped}
+use Rattle.vq_ground.proofs.Lists.{has-append_cases, has_here, has_cases}
+use Rattle.vq_ground.proofs.Mapped.{mapped}
 use Rattle.vq_model.specs.Lanes.{lane_at, KeepsLanes}
 use Rattle.vq_clocks.specs.VectorClocks.{HasClocks, HasSureClocks, Covers, in_row, row_of, position, lanes, HasRows, HasPositions, IsComplete, SureByJob, IsSureBy, EndsOps}
 use Rattle.vq_clocks.proofs.SlowFacts.{place_at, place_within, at_place, slow_exists, slow_short, must_earlier}
-use Rattle.vq_spec.proofs.Cited.{has_at}
 use Rattle.vq_order_laws.proofs.Cited.{slow_distinct, slow_has}
 use Rattle.vq_clocks.proofs.Covering.{covers_same}
 
@@ -107,11 +108,6 @@ last_greatest (suc n) (z ∷ v ∷ xs) x r w e y h = elim (has_cases z (v ∷ xs
   | inl q ↦ (let a = r.0 v (has_here v xs) in let b = last_greatest n (v ∷ xs) x r.1 (omega arith) e v (has_here v xs) in omega arith)
   | inr t ↦ last_greatest n (v ∷ xs) x r.1 (omega arith) e y t
 ]
-
-get_has : (xs : List ℕ) (n x : ℕ) → slice_get xs n ≡ Some x → has xs x ≡ true
-get_has [] n x e = cc
-get_has (y ∷ xs) zero x e = let s : Some y ≡ Some x = e in let t : y ≡ x = cc in subst (λ z. has (y ∷ xs) z ≡ true) t (has_here y xs)
-get_has (y ∷ xs) (suc n) x e = has_there y xs x (get_has xs n x e)
 
 pub last_of_job : (p : Plan) → IsWellFormed p → (j x : ℕ) (xs : List ℕ) → signals_of p j ≡ xs → slice_get xs (length xs - 1) ≡ Some x → job_of p x ≡ Some j
 last_of_job p w j x xs s e = w.of_job x j (subst (λ (ys : List ℕ). has ys x ≡ true) (sym s) (get_has xs (length xs - 1) x e))

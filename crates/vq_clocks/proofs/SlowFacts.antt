@@ -4,16 +4,18 @@ use Rattle.std.specs.List.{list_all, range_with_len}
 use Rattle.std.specs.Option.{option_map_or}
 use Rattle.std.proofs.lemmas.Bool.{and_parts, false≢true, not-true, eqb-true, cond-false, lt-ltb, cases_lt, ne_eqb}
 use Rattle.std.proofs.lemmas.List.{length-append}
-use Rattle.vq_model.specs.Plan.{Plan, has}
+use Rattle.vq_ground.proofs.Gets.{has_at}
+use Rattle.vq_ground.proofs.Numbers.{in_range}
+use Rattle.vq_model.specs.Plan.{Plan}
+use Rattle.vq_ground.specs.Lists.{has}
 use Rattle.vq_model.specs.Edges.{AtEnd, must_finish}
 use Rattle.vq_model.specs.Machine.{can_start, are_reached}
 use Rattle.vq_model.specs.SlowRun.{is_ready, payload_after, lowest_ready, slow_from, slow_order, left_over}
 use Rattle.vq_model.specs.HappensBefore.{comes_earlier}
-use Rattle.vq_model.proofs.Lists.{AreDistinct, has-append_cases, has_cases, list_all_has}
-use Rattle.vq_model.proofs.Searches.{find_passes, find_member}
+use Rattle.vq_ground.proofs.Lists.{AreDistinct, has-append_cases, has_cases, list_all_has}
+use Rattle.vq_ground.proofs.Searches.{find_passes, find_member}
 use Rattle.vq_order_laws.proofs.Cited.{slow_has}
-use Rattle.vq_model.proofs.Positions.{place, place_head, place_tail, place-append}
-use Rattle.vq_spec.proofs.Cited.{has_at}
+use Rattle.vq_ground.proofs.Positions.{place, place_head, place_tail, place-append}
 
 -- where an element of the front stands
 pub place_front : (front back : List ℕ) (x : ℕ) → has front x ≡ true → (place (front ++ back) x ≡ place front x) × (place front x < length front)
@@ -116,10 +118,6 @@ at_place (y ∷ xs) x l = by_test (eqb y x) refl (at_place xs x)
 pub place_within : (xs : List ℕ) (x : ℕ) → has xs x ≡ true → place xs x < length xs
 place_within xs x h = (place_front xs [] x h).1
 
-pub in_range_list : (n a x : ℕ) → has (range_with_len a n) x ≡ true → x < a + n
-in_range_list zero a x h = absurd (false≢true h)
-in_range_list (suc n) a x h = elim (has_cases a (range_with_len (a + 1) n) x h) [ inl e ↦ (omega arith) | inr m ↦ (let l = in_range_list n (a + 1) x m in omega arith) ]
-
 module _ (p : Plan) where
   slow_within : (n : ℕ) (done : List ℕ) → ((j : ℕ) → has done j ≡ true → j < length p.jobs) → (j : ℕ) → has (slow_from n p done) j ≡ true → j < length p.jobs
   slow_within zero done k = k
@@ -129,7 +127,7 @@ module _ (p : Plan) where
       by_case None e f = k
       by_case (Some i) e f =
           let m = find_member (is_ready p done) (range_with_len 0 (length p.jobs)) i e in
-          let l = in_range_list (length p.jobs) 0 i m in
+          let l = in_range (length p.jobs) 0 i m in
           f (done ++ i ∷ []) (λ j h. elim (has-append_cases done (i ∷ []) j h) [
             | inl a ↦ k j a
             | inr a ↦ elim (has_cases i [] j a) [ inl q ↦ subst (λ z. z < length p.jobs) q (omega arith) | inr t ↦ absurd (false≢true t) ]

@@ -7,8 +7,8 @@ use Rattle.std.proofs.lemmas.Grind.{get_or_default_zero}
 use Rattle.std.proofs.lemmas.List.Kept.{Contains-dedup_nat}
 use Rattle.std.proofs.lemmas.List.Sorted.{Contains-permutation}
 use Rattle.std.proofs.lemmas.Map.Keys.{IsStrictlyIncreasing-dedup, non_decreasing_from_sorted, sorted_from_strictly_increasing}
-use Rattle.vq_model.specs.Plan.{has}
-use Rattle.vq_model.proofs.Positions.{place}
+use Rattle.vq_ground.specs.Lists.{has}
+use Rattle.vq_ground.proofs.Positions.{place}
 use Rattle.vq_clocks.proofs.SlowFacts.{at_place, place_within}
 
 pub has_contains : (xs : List ℕ) (x : ℕ) → has xs x ≡ true → Contains xs x

@@ -5,7 +5,8 @@ use Rattle.std.specs.Prelude.{ℕ, ◌++◌, ◌∷◌, ◌≡◌, ◌<◌, ◌�
 use Rattle.std.specs.Prelude.{[], length, map, take, drop, max, if◌then◌else◌}
 use Rattle.std.specs.Prelude.{Option, Some, ◌⊎◌}
 use Rattle.std.specs.List.{filter_map, slice_index_or, position_or_len}
-use Rattle.vq_model.specs.Plan.{Plan, has, job_of, commands_of}
+use Rattle.vq_model.specs.Plan.{Plan, job_of, commands_of}
+use Rattle.vq_ground.specs.Lists.{has}
 use Rattle.vq_model.specs.Edges.{Stage, AtEnd}
 use Rattle.vq_model.specs.HappensBefore.{HappensBefore, HappensBeforeAt, comes_earlier}
 use Rattle.vq_model.specs.Sure.{IsSure, IsSureAt}

@@ -4,18 +4,16 @@ use Rattle.std.specs.Prelude.{nat_le}
 use Rattle.std.specs.List.{slice_get, list_any}
 use Rattle.std.specs.Option.{option_map_or}
 use Rattle.std.proofs.lemmas.Bool.{cases_eq, eq-eqb, ne_eqb, false≢true, and_from, le-leb, leb-true}
+use Rattle.vq_ground.proofs.Bools.{and_false}
 use Rattle.vq_model.specs.declared.plan.Op.{Op}
-use Rattle.vq_model.specs.Plan.{Plan, has, chain, value, initial, resolver}
+use Rattle.vq_model.specs.Plan.{Plan, chain, value, initial, resolver}
+use Rattle.vq_ground.specs.Lists.{has}
 use Rattle.vq_model.specs.Sure.{RisesFrom}
-use Rattle.vq_model.proofs.Gets.{get-append}
-use Rattle.vq_model.proofs.Lists.{has_cases, has-append_cases, any_has}
-use Rattle.vq_model.proofs.Searches.{find_passes, find_fails, find_member, find_splits}
-use Rattle.vq_core_laws.proofs.Cited.{Facts, chain_places, place_in}
+use Rattle.vq_ground.proofs.Gets.{get-append, place_in}
+use Rattle.vq_ground.proofs.Lists.{has_cases, has-append_cases, any_has}
+use Rattle.vq_ground.proofs.Searches.{find_passes, find_fails, find_member, find_splits}
+use Rattle.vq_core_laws.proofs.Cited.{Facts, chain_places}
 use Rattle.vq_core.proofs.Histories.{any_from}
-
-and_no : (b : Bool) → (b && false) ≡ false
-and_no true = refl
-and_no false = refl
 
 pub op_value : (p : Plan) (e : ℕ) (o : Op) → slice_get p.ops e ≡ Some o → value p e ≡ o.value
 op_value p e o at = ap (λ x. option_map_or (λ (y : Op). y.value) x 0) at
@@ -25,7 +23,7 @@ module _ (p : Plan) (f : Facts p) (made : ℕ → Bool) (t v : ℕ) where
   is_made_so e = made e && (value p e == v)
 
   not_so : (e : ℕ) → (value p e ≡ v → ⊥) → is_made_so e ≡ false
-  not_so e d = ap (λ b. made e && b) (ne_eqb (value p e) v d) ∙ and_no (made e)
+  not_so e d = ap (λ b. made e && b) (ne_eqb (value p e) v d) ∙ and_false (made e)
 
   -- at most one operation of a chain has a value: the one that resolves it
   only_one : (op e : ℕ) → resolver p t v ≡ Some op → has (chain p t) e ≡ true → value p e ≡ v → e ≡ op

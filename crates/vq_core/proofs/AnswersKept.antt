@@ -1,16 +1,17 @@
 -- The answers that a history gave, by job.
 use Rattle.std.proofs.Common.{◌≡◌, ℕ, zero, suc, ◌+◌, ◌<◌, ◌≤◌, List, [], ◌∷◌, ◌++◌, map, length, take, Option, Some, None}
-use Rattle.std.proofs.Common.{get_or, set, slice_set, option_map, filter_map, map-id, refl, sym, subst, ap, ap₂}
+use Rattle.std.proofs.Common.{get_or, set, slice_set, option_map, filter_map, refl, sym, subst, ap, ap₂}
 use Rattle.std.proofs.Common.{◌∙◌, arith}
 use Rattle.std.specs.List.{cons_option, range_with_len}
 use Rattle.std.proofs.Math.Seq.{take-suc}
 use Rattle.std.proofs.lemmas.List.Elements.{filter_map-append}
-use Rattle.std.proofs.lemmas.List.FromFn.{length-map-range_with_len, get_or-map-range_with_len, map-range_with_len_more}
+use Rattle.std.proofs.lemmas.List.FromFn.{length-map-range_with_len, get_or-map-range_with_len}
 use Rattle.std.proofs.lemmas.List.Sums.{fold-append}
+use Rattle.vq_ground.proofs.Numbers.{range_more}
 use Rattle.vq_model.specs.declared.plan.AnswerLine.{AnswerLine}
 use Rattle.vq_model.specs.OutputText.{answer_at}
 use Rattle.vq_history_laws.specs.Histories.{points_after}
-use Rattle.vq_points.specs.Points.{opening_points}
+use Rattle.vq_point_laws.specs.Points.{opening_points}
 use Rattle.vq_model.specs.declared.plan.Answer.{Answer}
 use Rattle.vq_model.specs.declared.plan.Event.{Event}
 use Rattle.vq_model.specs.declared.plan.Event.TheVariants.{Submit, Take, Release, Bind, Refer, Look, Unref, Complete}
@@ -18,7 +19,7 @@ use Rattle.vq_model.specs.declared.plan.Event.TheVariants.{Free, Start, Apply, S
 use Rattle.vq_model.specs.Machine.{put}
 use Rattle.vq_model.specs.Plan.{Plan}
 use Rattle.vq_model.proofs.Puts.{put_here, put_there}
-use Rattle.vq_points.specs.Points.{PointState, after_event}
+use Rattle.vq_point_laws.specs.Points.{PointState, after_event}
 use Rattle.vq_core.specs.Answered.{AreAnswers, IsRoom}
 
 module _ {A : Type 0} (f : ℕ → A) (x : A) where
@@ -100,11 +101,6 @@ pub given_at : (w : PointState) (n : ℕ) (given : List (Option Answer)) (j : �
 given_at w n given j d k l =
     ap (λ (xs : List (Option Answer)). get_or xs j d) k
     ∙ get_or-map-range_with_len w.machine.answer 0 n j j d l (omega arith)
-
-range_more : (j : ℕ) → range_with_len 0 (j + 1) ≡ range_with_len 0 j ++ j ∷ []
-range_more j = sym (map-id (range_with_len 0 (j + 1)))
-    ∙ (map-range_with_len_more (λ k. k) 0 j j (omega arith) ∙ ap (λ (xs : List ℕ). xs ++ j ∷ []) (map-id (range_with_len
-    0 j)))
 
 -- the lines with that of one job more
 pub line_more : (p : Plan) (w : PointState) (j : ℕ) (lines more : List AnswerLine) (given : Option Answer) →

@@ -2,7 +2,7 @@
 use Rattle.std.proofs.Common.{◌≡◌, ℕ}
 use Rattle.std.specs.List.{filter_map}
 use Rattle.vq_model.specs.Plan.{chain}
-use Rattle.vq_points.specs.Timeline.{Timeline, KeepsLists}
+use Rattle.vq_point_laws.specs.Timeline.{Timeline, KeepsLists}
 use Rattle.vq_turns.specs.Turns.{waiting_point}
 use Rattle.vq_core_laws.specs.TimelineOf.{IsTimelineOf}
 use Rattle.vq_core_laws.proofs.Cited.{keeps_carriers, waiting_points}

@@ -8,15 +8,15 @@ use Rattle.std.proofs.lemmas.List.FromFn.{length-range_with_len}
 use Rattle.std.proofs.lemmas.List.Sums.{count_by-le-length}
 use Rattle.vq_model.specs.declared.plan.PlanJob.{PlanJob}
 use Rattle.vq_model.specs.Lanes.{lane_number}
-use Rattle.vq_model.specs.Plan.{Plan, has, chain, chain_of}
-use Rattle.vq_model.specs.WellFormed.{AreRising}
-use Rattle.vq_model.proofs.Lists.{has_here}
-use Rattle.vq_points.specs.Points.{PointState, Reference, CanSubmit, CanTake, after_event}
+use Rattle.vq_model.specs.Plan.{Plan, chain, chain_of}
+use Rattle.vq_ground.specs.Lists.{has, AreRising}
+use Rattle.vq_ground.proofs.Lists.{has_here}
+use Rattle.vq_point_laws.specs.Points.{PointState, Reference, CanSubmit, CanTake, after_event}
 use Rattle.vq_model.specs.declared.plan.Event.TheVariants.{Signal}
 use Rattle.vq_model.specs.Machine.{with_signal}
 use Rattle.vq_model.proofs.Plans.{batch_exists}
-use Rattle.vq_model.proofs.Gets.{first_is}
-use Rattle.vq_points.specs.Timeline.{Timeline, KeepsLists}
+use Rattle.vq_ground.proofs.Gets.{first_is}
+use Rattle.vq_point_laws.specs.Timeline.{Timeline, KeepsLists}
 use Rattle.vq_core_laws.specs.TimelineOf.{IsTimelineOf}
 use Rattle.vq_history_laws.specs.Histories.{points_after}
 use Rattle.vq_core_laws.proofs.Cited.{count_below, free_below, lane_rises, rising_at_least}

@@ -56,9 +56,9 @@ use Rattle.vq_model.specs.Plan.{
   question,
   chain,
 }
-use Rattle.vq_model.proofs.Searches.{find_member, at_place}
+use Rattle.vq_ground.proofs.Searches.{find_member, at_place}
 use Rattle.vq_model.specs.Naming.{same_actor}
-use Rattle.vq_points.specs.Points.{
+use Rattle.vq_point_laws.specs.Points.{
   CanSubmit,
   CanTake,
   CanRelease,
@@ -80,7 +80,7 @@ use Rattle.vq_points.specs.Points.{
   may_bind,
   smaller_ops,
 }
-use Rattle.vq_points.specs.Timeline.{Timeline, KeepsLists}
+use Rattle.vq_point_laws.specs.Timeline.{Timeline, KeepsLists}
 use Rattle.vq_core_laws.specs.Firsts.{AreFirst}
 use Rattle.vq_core_laws.specs.TimelineOf.{IsTimelineOf}
 use Rattle.vq_core_laws.proofs.Cited.{Facts, Keeps, turn_place, smaller_done, rising_once, next_is}

@@ -5,21 +5,22 @@ use Rattle.std.specs.List.{list_any, range_with_len}
 use Rattle.std.specs.Vec.{vec_capacity}
 use Rattle.std.proofs.lemmas.Bool.{false≢true, or_parts, or_from, le-ltb}
 use Rattle.vq_model.specs.declared.plan.Event.{Event}
-use Rattle.vq_model.proofs.Lists.{has_here, has_there, has_cases}
+use Rattle.vq_ground.proofs.Lists.{has_here, has_there, has_cases}
 use Rattle.std.proofs.lemmas.List.FromFn.{length-range_with_len}
 use Rattle.vq_model.specs.Checks.{IsLawful}
 use Rattle.vq_model.specs.LoweringFaults.{IsPlan}
 use Rattle.vq_model.specs.Machine.{State, Run, IsFinished, AreFinished, state_after, put}
-use Rattle.vq_model.specs.Plan.{Plan, has, is_batch}
+use Rattle.vq_model.specs.Plan.{Plan, is_batch}
+use Rattle.vq_ground.specs.Lists.{has}
 use Rattle.vq_model.specs.OutputText.{answers_of, buffers_text}
 use Rattle.vq_model.specs.Outputs.{IsOutput}
 use Rattle.vq_model.specs.SlowRun.{bytes_after, final}
 use Rattle.vq_model.specs.ValidScripts.{sizes_of}
 use Rattle.vq_model.proofs.Puts.{put_here, put_there}
-use Rattle.vq_model.proofs.Numbers.{range-has, has-range_cases}
-use Rattle.vq_points.specs.HistoryLaws.{PointLaw, PendingLaw}
-use Rattle.vq_points.specs.Points.{HistoryFrom, opening_points, steps_of}
-use Rattle.vq_points.proofs.Cited.{keeps_point_law, keeps_pending_law}
+use Rattle.vq_ground.proofs.Numbers.{range-has, has-range_cases}
+use Rattle.vq_point_laws.specs.HistoryLaws.{PointLaw, PendingLaw}
+use Rattle.vq_point_laws.specs.Points.{HistoryFrom, opening_points, steps_of}
+use Rattle.vq_point_laws.proofs.Cited.{keeps_point_law, keeps_pending_law}
 use Rattle.vq_run_laws.proofs.Cited.{Leads, history_leads, follows_opening, one_result, run_gives_output}
 use Rattle.vq_history_laws.specs.Histories.{points_after, acts}
 use Rattle.vq_history_laws.proofs.Cited.{history_bounded, count_cons}

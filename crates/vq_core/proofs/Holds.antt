@@ -29,9 +29,9 @@ use Rattle.std.specs.List.{list_any}
 use Rattle.std.proofs.lemmas.Bool.{false≢true, and_parts, and_from, or_cases, or_left, or_right, eqb-true, eq-eqb}
 use Rattle.vq_model.specs.declared.script.ActorName.{ActorName}
 use Rattle.vq_model.specs.Naming.{same_actor}
-use Rattle.vq_model.proofs.Bools.{same_tests}
+use Rattle.vq_ground.proofs.Bools.{same_tests}
 use Rattle.vq_history_laws.proofs.Cited.{counted_any, none_counted}
-use Rattle.vq_points.specs.Points.{Reference, holds, is_reference, next_job, needs_resolved}
+use Rattle.vq_point_laws.specs.Points.{Reference, holds, is_reference, next_job, needs_resolved}
 use Rattle.vq_core.specs.CoreState.{Course, world, IsCourse}
 use Rattle.vq_tables.specs.Notes.{held_by}
 use Rattle.vq_core.proofs.Courses.{world_keeps, counts_any}

@@ -1,56 +1,20 @@
 -- The parts of a job, and what is done of them.
-use Rattle.std.proofs.Common.{
-  if◌then◌else◌,
-  ◌≡◌,
-  ◌+◌,
-  ◌-◌,
-  ℕ,
-  ◌<◌,
-  ◌||◌,
-  ◌&&◌,
-  Bool,
-  true,
-  false,
-  List,
-  [],
-  ◌∷◌,
-  length,
-  get_or,
-  filter,
-  Some,
-  refl,
-  sym,
-  ap,
-  ◌∙◌,
-  arith,
-  inl,
-  inr,
-  subst,
-}
+use Rattle.std.proofs.Common.{if◌then◌else◌, ◌≡◌, ◌+◌, ◌-◌, ℕ, ◌<◌, ◌||◌, ◌&&◌, Bool, true, false, List, [], ◌∷◌, length, get_or, filter, Some, refl, sym, ap, ◌∙◌, arith, inl, inr, subst}
 use Rattle.std.specs.Prelude.{nat_lt, nat_le, nat_eq, All}
 use Rattle.std.specs.List.{slice_get, list_all, list_any}
 use Rattle.std.specs.Option.{option_map_or}
-use Rattle.std.proofs.lemmas.Bool.{
-  cases_eq,
-  eq-eqb,
-  ne_eqb,
-  cond-true,
-  cond-false,
-  cases_lt,
-  lt-ltb,
-  le-ltb,
-  le-leb,
-  lt-leb,
-}
+use Rattle.std.proofs.lemmas.Bool.{cases_eq, eq-eqb, ne_eqb, cond-true, cond-false, cases_lt, lt-ltb, le-ltb, le-leb, lt-leb}
+use Rattle.vq_ground.proofs.Gets.{has_at}
 use Rattle.vq_model.specs.declared.plan.PlanJob.{PlanJob}
 use Rattle.vq_model.specs.declared.plan.Need.{Need}
 use Rattle.vq_model.specs.Edges.{Stage, At, needs_at}
 use Rattle.vq_model.specs.Machine.{are_reached, is_reached}
-use Rattle.vq_model.specs.Plan.{Plan, commands_of, signals_of, needs, asked, waits_for_any, has, chain, value, resolver}
-use Rattle.vq_model.proofs.Searches.{find_member}
+use Rattle.vq_model.specs.Plan.{Plan, commands_of, signals_of, needs, asked, waits_for_any, chain, value, resolver}
+use Rattle.vq_ground.specs.Lists.{has}
+use Rattle.vq_ground.proofs.Searches.{find_member}
 use Rattle.std.proofs.lemmas.List.{get_or_default}
 use Rattle.vq_model.proofs.Plans.{op_within}
-use Rattle.vq_spec.proofs.Cited.{has_at, op_exists}
+use Rattle.vq_spec.proofs.Cited.{op_exists}
 use Rattle.vq_spec.specs.SlowProgress.{payload_in}
 use Rattle.vq_core_laws.specs.Firsts.{AreFirst}
 use Rattle.vq_core_laws.proofs.Cited.{Facts, all_done, done_all}

@@ -6,9 +6,9 @@ use Rattle.std.proofs.lemmas.Bool.{cases_lt, lt-ltb, le-ltb}
 use Rattle.std.proofs.lemmas.List.{length-map}
 use Rattle.vq_model.specs.declared.plan.Op.{Op}
 use Rattle.vq_model.specs.Plan.{Plan, chain, chain_of, job_of, value}
-use Rattle.vq_model.proofs.Gets.{get_within}
-use Rattle.vq_points.specs.Points.{PointState}
-use Rattle.vq_points.specs.Timeline.{Timeline, point_at}
+use Rattle.vq_ground.proofs.Gets.{get_within}
+use Rattle.vq_point_laws.specs.Points.{PointState}
+use Rattle.vq_point_laws.specs.Timeline.{Timeline, point_at}
 use Rattle.vq_core_laws.specs.Firsts.{AreFirst}
 use Rattle.vq_core_laws.specs.TimelineOf.{IsTimelineOf}
 use Rattle.vq_core_laws.proofs.Cited.{Facts}

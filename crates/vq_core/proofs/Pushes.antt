@@ -6,7 +6,7 @@ use Rattle.vq_model.specs.declared.plan.Event.{Event}
 use Rattle.vq_model.specs.Checks.{IsLawful}
 use Rattle.vq_model.specs.LoweringFaults.{IsPlan}
 use Rattle.vq_model.specs.Plan.{Plan}
-use Rattle.vq_points.specs.Points.{PointState, CanCome, after_event, HistoryFrom, opening_points}
+use Rattle.vq_point_laws.specs.Points.{PointState, CanCome, after_event, HistoryFrom, opening_points}
 use Rattle.vq_history_laws.specs.Histories.{points_after, acts}
 use Rattle.vq_history_laws.proofs.Cited.{history_bounded, history_push}
 use Rattle.vq_core_laws.proofs.Cited.{Facts, facts, Keeps, keeps, points_push, held_few}

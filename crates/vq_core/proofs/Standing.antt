@@ -5,7 +5,7 @@ use Rattle.std.specs.List.{slice_get}
 use Rattle.std.specs.Option.{option_map_or}
 use Rattle.std.proofs.lemmas.Bool.{ltb-true}
 use Rattle.vq_model.specs.declared.plan.Op.{Op}
-use Rattle.vq_points.specs.Timeline.{Timeline, KeepsLists, point_at}
+use Rattle.vq_point_laws.specs.Timeline.{Timeline, KeepsLists, point_at}
 use Rattle.vq_timeline_core.specs.Answers.{place_of, open_place}
 use Rattle.vq_timeline_core.specs.declared.answers.OpPlace.{OpPlace}
 use Rattle.vq_timeline_core.specs.declared.answers.OpPlace.TheVariants as place_as

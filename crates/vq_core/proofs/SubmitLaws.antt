@@ -35,16 +35,16 @@ use Rattle.vq_model.specs.declared.plan.Lane.{Lane}
 use Rattle.vq_model.specs.declared.plan.Lane.TheVariants.{Host as HostLane, Queue as QueueLane}
 use Rattle.vq_model.specs.declared.plan.PlanJob.{PlanJob}
 use Rattle.vq_model.specs.Machine.{next, put}
-use Rattle.vq_model.specs.Plan.{Plan, has, is_batch, is_host_step, is_host_lane, same_lane, of_job}
-use Rattle.vq_model.specs.WellFormed.{AreRising}
-use Rattle.vq_model.proofs.Filters.{filter-has, filter-has_cases}
-use Rattle.vq_model.proofs.Lists.{list_all_has, list_all_from, has_cases}
-use Rattle.vq_model.proofs.Numbers.{has-range_cases, range-has}
+use Rattle.vq_model.specs.Plan.{Plan, is_batch, is_host_step, is_host_lane, same_lane, of_job}
+use Rattle.vq_ground.specs.Lists.{has, AreRising}
+use Rattle.vq_ground.proofs.Filters.{filter-has, filter-has_cases}
+use Rattle.vq_ground.proofs.Lists.{list_all_has, list_all_from, has_cases}
+use Rattle.vq_ground.proofs.Numbers.{has-range_cases, range-has}
 use Rattle.vq_model.proofs.Puts.{put_here, put_there}
-use Rattle.vq_model.proofs.Searches.{find_member, find_passes, find_fails}
+use Rattle.vq_ground.proofs.Searches.{find_member, find_passes, find_fails}
 use Rattle.vq_model.proofs.Plans.{batch_of, batch_no_step}
 use Rattle.vq_history_laws.specs.Measure.{one}
-use Rattle.vq_points.specs.Points.{PointState, jobs_of_lane, written_before, CanSubmit}
+use Rattle.vq_point_laws.specs.Points.{PointState, jobs_of_lane, written_before, CanSubmit}
 use Rattle.vq_core_laws.proofs.Cited.{lane_rises}
 use Rattle.vq_tables.proofs.Cited.{batches_more, batches_most}
 use Rattle.vq_core.specs.GuardParts.{are_batches_submitted, are_steps_finished}

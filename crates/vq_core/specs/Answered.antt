@@ -3,7 +3,7 @@ use Rattle.std.specs.Prelude.{ℕ, ◌≡◌, ◌≤◌, List, [], length, Optio
 use Rattle.std.specs.List.{range_with_len}
 use Rattle.vq_model.specs.declared.plan.Answer.{Answer}
 use Rattle.vq_model.specs.declared.plan.AnswerLine.{AnswerLine}
-use Rattle.vq_points.specs.Points.{PointState}
+use Rattle.vq_point_laws.specs.Points.{PointState}
 
 -- what each of so many jobs was answered
 abbrev pub AreAnswers : PointState → ℕ → List (Option Answer) → Type 0

@@ -4,8 +4,9 @@ use Rattle.std.specs.Prelude.{if◌then◌else◌}
 use Rattle.std.specs.List.{list_all, slice_get}
 use Rattle.vq_model.specs.Edges.{AtEnd}
 use Rattle.vq_model.specs.Machine.{are_reached}
-use Rattle.vq_model.specs.Plan.{Plan, has, commands_of, is_host_step}
-use Rattle.vq_points.specs.Points.{PointState, earlier_in_queue, are_needs_pending, written_before}
+use Rattle.vq_model.specs.Plan.{Plan, commands_of, is_host_step}
+use Rattle.vq_ground.specs.Lists.{has}
+use Rattle.vq_point_laws.specs.Points.{PointState, earlier_in_queue, are_needs_pending, written_before}
 
 -- A batch's turn to be released has come, but for the points of its signals.
 pub record ReleaseTurn (p : Plan) (w : PointState) (j : ℕ) : Type 0 where

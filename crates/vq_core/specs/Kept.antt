@@ -5,7 +5,7 @@ use Rattle.vq_model.specs.Checks.{IsLawful}
 use Rattle.vq_model.specs.LoweringFaults.{IsPlan}
 use Rattle.vq_model.specs.Plan.{Plan}
 use Rattle.vq_model.specs.SlowRun.{bytes_after}
-use Rattle.vq_points.specs.Points.{PointState, HistoryFrom, opening_points}
+use Rattle.vq_point_laws.specs.Points.{PointState, HistoryFrom, opening_points}
 use Rattle.vq_history_laws.specs.Histories.{points_after, acts}
 use Rattle.vq_core.specs.declared.state.Core.TheInside.{Inside}
 use Rattle.vq_core.specs.CoreState.{Course}

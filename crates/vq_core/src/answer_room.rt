@@ -7,7 +7,7 @@ ghost use Rattle.std.specs.Option.{option_map};
 ghost use Rattle.std.specs.Vec.{vec_len, vec_capacity};
 ghost use Rattle.vq_model.specs.Plan.{Plan as AnyPlan};
 ghost use Rattle.vq_model.specs.OutputText.{answer_at, lines_answered};
-ghost use Rattle.vq_points.specs.Points.{PointState, after_event};
+ghost use Rattle.vq_point_laws.specs.Points.{PointState, after_event};
 ghost use Rattle.vq_core.specs.CoreState.{world};
 ghost use Rattle.vq_core.specs.Answered.{AreAnswers};
 

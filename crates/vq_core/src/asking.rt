@@ -4,7 +4,7 @@
 ghost use Rattle.std.specs.Prelude.{◌≡◌, ◌<◌, ◌||◌, not, true, length, nat_le, is_some, find, Some};
 ghost use Rattle.std.specs.List.{slice_get, filter_map};
 ghost use Rattle.vq_model.specs.Plan.{chain as ops_of, initial, resolver};
-ghost use Rattle.vq_points.specs.Points.{is_pending};
+ghost use Rattle.vq_point_laws.specs.Points.{is_pending};
 ghost use Rattle.vq_turns.specs.Turns.{found, found_by, unbound_before, taken, has_reference_to};
 ghost use Rattle.vq_turns.specs.Turns.{waiting_point, to_complete, to_free, collected};
 ghost use Rattle.vq_core.specs.CoreState.{world};

@@ -1,7 +1,7 @@
 //! Batches and host steps, in the order of the script.
 ghost use Rattle.std.specs.Prelude.{◌≡◌, ◌<◌, ◌||◌, IsTrue, length};
 ghost use Rattle.vq_model.specs.Plan.{is_batch, is_host_step};
-ghost use Rattle.vq_points.specs.Points.{may_bind};
+ghost use Rattle.vq_point_laws.specs.Points.{may_bind};
 ghost use Rattle.vq_core.specs.CoreState.{IsCourse, world};
 ghost use Rattle.vq_core.specs.GuardParts.{are_batches_submitted, are_steps_finished, may_start};
 

@@ -1,9 +1,9 @@
 //! What each event leaves.
 ghost use Rattle.std.specs.Prelude.{◌≡◌, ◌++◌, ◌∷◌, [], true, false};
 ghost use Rattle.vq_model.specs.Machine.{CanAnswer, CanApply};
-ghost use Rattle.vq_points.specs.Points.{CanCome, CanSubmit, CanTake, CanRelease, CanBind, CanRefer, CanLook};
-ghost use Rattle.vq_points.specs.Points.{CanUnrefer, CanComplete, CanFree, CanStartNow, CanSignalNow};
-ghost use Rattle.vq_points.specs.Points.{CanFinishNow};
+ghost use Rattle.vq_point_laws.specs.Points.{CanCome, CanSubmit, CanTake, CanRelease, CanBind, CanRefer, CanLook};
+ghost use Rattle.vq_point_laws.specs.Points.{CanUnrefer, CanComplete, CanFree, CanStartNow, CanSignalNow};
+ghost use Rattle.vq_point_laws.specs.Points.{CanFinishNow};
 ghost use Rattle.vq_core.specs.CoreState.{world};
 
 use crate::state::Core;

@@ -1,9 +1,9 @@
 //! Which event may come next.
 ghost use Rattle.std.specs.Prelude.{◌↔◌, ◌≡◌, ◌<◌, IsTrue, length, true};
 ghost use Rattle.vq_model.specs.Machine.{CanAnswer, CanApply};
-ghost use Rattle.vq_points.specs.Points.{CanCome, CanSubmit, CanTake, CanRelease, CanBind, CanRefer, CanLook};
-ghost use Rattle.vq_points.specs.Points.{CanUnrefer, CanComplete, CanFree, CanStartNow, CanSignalNow};
-ghost use Rattle.vq_points.specs.Points.{CanFinishNow};
+ghost use Rattle.vq_point_laws.specs.Points.{CanCome, CanSubmit, CanTake, CanRelease, CanBind, CanRefer, CanLook};
+ghost use Rattle.vq_point_laws.specs.Points.{CanUnrefer, CanComplete, CanFree, CanStartNow, CanSignalNow};
+ghost use Rattle.vq_point_laws.specs.Points.{CanFinishNow};
 ghost use Rattle.vq_core.specs.CoreState.{world};
 ghost use Rattle.vq_core.specs.GuardParts.{ReleaseTurn, IsPointInTurn, HasCommandsDone, may_take};
 

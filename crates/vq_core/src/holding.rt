@@ -3,7 +3,7 @@ ghost use Rattle.std.specs.Prelude.{◌≡◌, ◌<◌, ◌↔◌, IsTrue, lengt
 ghost use Rattle.std.specs.List.{list_any};
 ghost use Rattle.vq_model.specs.Naming.{same_actor};
 ghost use Rattle.vq_model.specs.Plan.{of_job};
-ghost use Rattle.vq_points.specs.Points.{actor_of_lane, holds, needs_resolved};
+ghost use Rattle.vq_point_laws.specs.Points.{actor_of_lane, holds, needs_resolved};
 ghost use Rattle.vq_core.specs.CoreState.{world};
 ghost use Rattle.vq_tables.specs.Notes.{IsNote};
 

@@ -5,7 +5,7 @@ ghost use Rattle.std.specs.Prelude.{is_some, false};
 ghost use Rattle.std.specs.List.{list_all, list_any, position_or_len};
 ghost use Rattle.std.specs.Option.{option_map_or, option_to_list};
 ghost use Rattle.vq_model.specs.Plan.{initial, resolver, needs, signals_of, previous, idle_after, waits_for_any};
-ghost use Rattle.vq_points.specs.Points.{are_needs_pending, resolves, needs_resolved, needs_now};
+ghost use Rattle.vq_point_laws.specs.Points.{are_needs_pending, resolves, needs_resolved, needs_now};
 ghost use Rattle.vq_core.specs.CoreState.{world};
 ghost use Rattle.vq_tables.specs.Notes.{place_in};
 

@@ -5,8 +5,9 @@ ghost use Rattle.std.specs.Prelude.{false};
 ghost use Rattle.std.specs.List.{list_all, list_any, slice_get};
 ghost use Rattle.vq_model.specs.Edges.{At, AtEnd, needs_at};
 ghost use Rattle.vq_model.specs.Machine.{next, are_reached, is_reached};
-ghost use Rattle.vq_model.specs.Plan.{has, commands_of, signals_of, needs};
-ghost use Rattle.vq_points.specs.Points.{earlier_in_queue};
+ghost use Rattle.vq_model.specs.Plan.{commands_of, signals_of, needs};
+ghost use Rattle.vq_ground.specs.Lists.{has};
+ghost use Rattle.vq_point_laws.specs.Points.{earlier_in_queue};
 ghost use Rattle.vq_core.specs.CoreState.{world};
 ghost use Rattle.vq_tables.specs.Tables.{IsJobState};
 

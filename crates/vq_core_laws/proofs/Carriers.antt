@@ -8,15 +8,15 @@ use Rattle.vq_model.specs.declared.plan.Event.{Event}
 use Rattle.vq_model.specs.declared.plan.Event.TheVariants.{Submit, Take, Release, Bind, Refer, Look, Unref, Complete}
 use Rattle.vq_model.specs.declared.plan.Event.TheVariants.{Free, Start, Apply, Signal, Finish, Answer}
 use Rattle.vq_model.specs.Machine.{put, with_signal}
-use Rattle.vq_model.specs.Plan.{Plan, chain, chain_of, initial, value, has}
-use Rattle.vq_model.proofs.Filters.{filter-has}
-use Rattle.vq_model.proofs.Lists.{has_here, list_all_has}
+use Rattle.vq_model.specs.Plan.{Plan, chain, chain_of, initial, value}
+use Rattle.vq_ground.specs.Lists.{has}
+use Rattle.vq_ground.proofs.Filters.{filter-has}
+use Rattle.vq_ground.proofs.Lists.{has_here, list_all_has}
 use Rattle.vq_model.proofs.Puts.{put_here, put_there, put_cases, put_keeps}
-use Rattle.vq_model.proofs.Gets.{first_is}
-use Rattle.vq_points.specs.Points.{PointState, CanCome, CanComplete, after_event, opening_points, HistoryFrom}
-use Rattle.vq_points.specs.Points.{smaller_ops}
+use Rattle.vq_ground.proofs.Gets.{first_is, get_has}
+use Rattle.vq_point_laws.specs.Points.{PointState, CanCome, CanComplete, after_event, opening_points, HistoryFrom}
+use Rattle.vq_point_laws.specs.Points.{smaller_ops}
 use Rattle.vq_history_laws.specs.Histories.{points_after}
-use Rattle.vq_core_laws.proofs.Firsts.{stands}
 use Rattle.vq_core_laws.proofs.Keeps.{Keeps, keeps, keeps_after}
 use Rattle.vq_core_laws.proofs.PlanFacts.{Facts, ordered_once, chain_places}
 
@@ -133,9 +133,9 @@ module _ (p : Plan) (f : Facts p) (w : PointState) (k : Keeps p w) (c : Carriers
       earlier : (t i n y : ℕ) → slice_get (chain p t) i ≡ Some y → slice_get (chain p t) n ≡ Some e → i < n →
           w.past y ≡ true
       earlier t i n y a b l =
-          let same : g.chain ≡ t = let z = sym g.in_chain ∙ f.formed.of_chain e t (stands (chain p t) n e b) in cc in
+          let same : g.chain ≡ t = let z = sym g.in_chain ∙ f.formed.of_chain e t (get_has (chain p t) n e b) in cc in
           let less = chain_places p (initial p t) (chain p t) (f.order.chains t) i n y e a b l in
-          let member = filter-has (λ x. nat_lt (value p x) (value p e)) (chain p t) y (stands (chain p t) i y a)
+          let member = filter-has (λ x. nat_lt (value p x) (value p e)) (chain p t) y (get_has (chain p t) i y a)
           (lt-ltb (value p y) (value p e) less) in
           list_all_has w.past (smaller_ops p t e) y
           (ap (λ (s : ℕ). list_all w.past (smaller_ops p s e)) (sym same) ∙ g.in_order) member

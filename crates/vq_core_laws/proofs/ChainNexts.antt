@@ -4,10 +4,10 @@ use Rattle.std.proofs.Common.{find, Option, Some, None, refl, sym, ap, ◌∙◌
 use Rattle.std.specs.Prelude.{nat_lt}
 use Rattle.std.specs.List.{slice_get}
 use Rattle.std.specs.Option.{option_map_or}
-use Rattle.std.proofs.lemmas.Bool.{cases_eq, cases_lt, and_from, cond-true, cond-false, lt-ltb, le-ltb}
+use Rattle.std.proofs.lemmas.Bool.{cases_eq, cases_lt, and_from, cond-true, cond-false, lt-ltb, le-ltb, and_right}
 use Rattle.vq_model.specs.Plan.{Plan, chain, chain_of, initial, value}
-use Rattle.vq_points.specs.Points.{PointState, is_pending, smaller_ops}
-use Rattle.vq_points.specs.Timeline.{Timeline}
+use Rattle.vq_point_laws.specs.Points.{PointState, is_pending, smaller_ops}
+use Rattle.vq_point_laws.specs.Timeline.{Timeline}
 use Rattle.vq_turns.specs.Turns.{unbound_before}
 use Rattle.vq_core_laws.specs.TimelineOf.{IsTimelineOf}
 use Rattle.vq_core_laws.proofs.PlanFacts.{Facts, chain_places}
@@ -40,10 +40,6 @@ find-filter test kept (x ∷ xs) = by_test (kept x) (find-filter test kept xs)
     by_test true h = ap (cond (test x) (Some x)) h
     by_test false h = h
 
-and_none : (a b : Bool) → b ≡ false → (a && b) ≡ false
-and_none true b h = h
-and_none false b h = refl
-
 module _ (p : Plan) (w : PointState) (t : ℕ) (l : Timeline) (is : IsTimelineOf p w t l) where
   -- The least pending operation
 
@@ -53,14 +49,14 @@ module _ (p : Plan) (w : PointState) (t : ℕ) (l : Timeline) (is : IsTimelineOf
       find_at (is_pending w) (chain p t) l.completed e here
       (and_from (w.bound e) (not (w.past e)) (is.bound.before l.completed e here less)
       (ap not (is.completed.after l.completed e here (omega arith))))
-      (λ j y a m. and_none (w.bound y) (not (w.past y)) (ap not (is.completed.before j y a m)))
+      (λ j y a m. and_right (w.bound y) (not (w.past y)) (ap not (is.completed.before j y a m)))
 
   pub none_pending : l.bound ≤ l.completed → find (is_pending w) (chain p t) ≡ None
   none_pending most = find_none (is_pending w) (chain p t) each
     where
       each : (j y : ℕ) → slice_get (chain p t) j ≡ Some y → is_pending w y ≡ false
       each j y a = elim (cases_lt j l.completed) [
-        | inl m ↦ and_none (w.bound y) (not (w.past y)) (ap not (is.completed.before j y a m))
+        | inl m ↦ and_right (w.bound y) (not (w.past y)) (ap not (is.completed.before j y a m))
         | inr m ↦ ap (λ b. b && not (w.past y)) (is.bound.after j y a (omega arith))
       ]
 
@@ -79,7 +75,7 @@ module _ (p : Plan) (w : PointState) (t : ℕ) (l : Timeline) (is : IsTimelineOf
         (lt-ltb (value p x) (value p e)
         (chain_places p (initial p t) (chain p t) (f.order.chains t) l.bound i x e at here less))
         (ap not (is.bound.after l.bound x at (omega arith))))
-        (λ j y a m. and_none (nat_lt (value p y) (value p e)) (not (w.bound y)) (ap not (is.bound.before j y a m))))
+        (λ j y a m. and_right (nat_lt (value p y) (value p e)) (not (w.bound y)) (ap not (is.bound.before j y a m))))
 
     pub none_unbound : i ≤ l.bound → unbound_before p w e ≡ None
     none_unbound most =
@@ -101,7 +97,7 @@ module _ (p : Plan) (w : PointState) (t : ℕ) (l : Timeline) (is : IsTimelineOf
         each : (j y : ℕ) → slice_get (chain p t) j ≡ Some y →
             (nat_lt (value p y) (value p e) && not (w.bound y)) ≡ false
         each j y a = elim (cases_lt j i) [
-          | inl m ↦ and_none (nat_lt (value p y) (value p e)) (not (w.bound y))
+          | inl m ↦ and_right (nat_lt (value p y) (value p e)) (not (w.bound y))
               (ap not (is.bound.before j y a (omega arith)))
           | inr m ↦ ap (λ b. b && not (w.bound y)) (le-ltb (value p y) (value p e) (not_less j y a m))
         ]

@@ -1,51 +1,13 @@
 -- Lists of which a first part is done.
-use Rattle.std.proofs.Common.{
-  ◌≡◌,
-  ℕ,
-  zero,
-  suc,
-  ◌+◌,
-  ◌<◌,
-  ◌≤◌,
-  Bool,
-  true,
-  false,
-  not,
-  List,
-  [],
-  ◌∷◌,
-  length,
-  Some,
-  None,
-  refl,
-  sym,
-  ap,
-  ◌∙◌,
-  ◌⊎◌,
-  inl,
-  inr,
-  subst,
-  arith,
-}
-use Rattle.vq_model.proofs.Filters.{filter-has, filter-has_cases}
+use Rattle.std.proofs.Common.{◌≡◌, ℕ, zero, suc, ◌+◌, ◌<◌, ◌≤◌, Bool, true, false, not, List, [], ◌∷◌, length, Some, None, refl, sym, ap, ◌∙◌, ◌⊎◌, inl, inr, subst, arith}
+use Rattle.vq_ground.proofs.Filters.{filter-has, filter-has_cases}
 use Rattle.std.specs.Prelude.{nat_lt, filter}
 use Rattle.std.specs.List.{slice_get, list_all}
-use Rattle.std.proofs.lemmas.Bool.{
-  cond-true,
-  cond-false,
-  false≢true,
-  cases_eq,
-  cases_lt,
-  and_from,
-  and_parts,
-  lt-ltb,
-  ltb-true,
-}
+use Rattle.std.proofs.lemmas.Bool.{cond-true, cond-false, false≢true, cases_eq, cases_lt, and_from, and_parts, lt-ltb, ltb-true}
 use Rattle.vq_model.specs.Machine.{next, put}
-use Rattle.vq_model.specs.WellFormed.{AreRising}
-use Rattle.vq_model.specs.Plan.{has}
-use Rattle.vq_model.proofs.Gets.{get_some, get_within}
-use Rattle.vq_model.proofs.Lists.{has_here, has_there, has_cases, list_all_has, list_all_from}
+use Rattle.vq_ground.specs.Lists.{AreRising, has}
+use Rattle.vq_ground.proofs.Gets.{get_some, get_within, place_in, get_has}
+use Rattle.vq_ground.proofs.Lists.{has_cases, list_all_has, list_all_from}
 use Rattle.vq_model.proofs.Puts.{put_here, put_there}
 use Rattle.vq_core_laws.specs.Firsts.{AreFirst, StandOnce}
 
@@ -112,19 +74,14 @@ done_all done (x ∷ xs) zero f h =
 done_all done (x ∷ xs) (suc n) f h =
     ap suc (done_all done xs n (rest_first done x xs n f) (and_parts (done x) (list_all done xs) h).1)
 
-pub stands : (xs : List ℕ) (i x : ℕ) → slice_get xs i ≡ Some x → has xs x ≡ true
-stands [] i x e = absurd (let c : None ≡ Some x = e in cc)
-stands (y ∷ xs) zero x e = let s : y ≡ x = cc in subst (λ (z : ℕ). has (y ∷ xs) z ≡ true) s (has_here y xs)
-stands (y ∷ xs) (suc i) x e = has_there y xs x (stands xs i x e)
-
 -- a list that rises has no number twice
 pub rising_once : (xs : List ℕ) → AreRising xs → StandOnce xs
 rising_once [] r i k x a b = absurd (let c : None ≡ Some x = a in cc)
 rising_once (y ∷ xs) r zero zero x a b = refl
 rising_once (y ∷ xs) r zero (suc k) x a b =
-    let s : y ≡ x = cc in let l = r.0 x (stands xs k x b) in absurd (omega arith)
+    let s : y ≡ x = cc in let l = r.0 x (get_has xs k x b) in absurd (omega arith)
 rising_once (y ∷ xs) r (suc i) zero x a b =
-    let s : y ≡ x = cc in let l = r.0 x (stands xs i x a) in absurd (omega arith)
+    let s : y ≡ x = cc in let l = r.0 x (get_has xs i x a) in absurd (omega arith)
 rising_once (y ∷ xs) r (suc i) (suc k) x a b = ap suc (rising_once xs r.1 i k x a b)
 
 -- a list that rises, by places
@@ -133,16 +90,8 @@ pub rising_less : (xs : List ℕ) → AreRising xs → (i k x y : ℕ) → slice
 rising_less [] r i k x y a b l = absurd (let c : None ≡ Some x = a in cc)
 rising_less (z ∷ xs) r i zero x y a b l = absurd (omega arith)
 rising_less (z ∷ xs) r zero (suc k) x y a b l =
-    let s : z ≡ x = cc in subst (λ (n : ℕ). n < y) s (r.0 y (stands xs k y b))
+    let s : z ≡ x = cc in subst (λ (n : ℕ). n < y) s (r.0 y (get_has xs k y b))
 rising_less (z ∷ xs) r (suc i) (suc k) x y a b l = rising_less xs r.1 i k x y a b (omega arith)
-
--- where a number of a list stands
-pub place_in : (xs : List ℕ) (x : ℕ) → has xs x ≡ true → (i : ℕ) × (slice_get xs i ≡ Some x)
-place_in [] x h = absurd (false≢true h)
-place_in (y ∷ xs) x h = elim (has_cases y xs x h) [
-  | inl s ↦ (0, ap Some s)
-  | inr m ↦ let r = place_in xs x m in (suc r.0, r.1)
-]
 
 module _ (done : ℕ → Bool) (xs : List ℕ) (n : ℕ) (f : AreFirst done xs n) (r : AreRising xs) where
   -- the first of a list that isn't done is that of which all smaller ones are
@@ -164,7 +113,7 @@ module _ (done : ℕ → Bool) (xs : List ℕ) (n : ℕ) (f : AreFirst done xs n
               let b = get_within xs m.0 j m.1 in
               let x = get_some xs n (omega arith) in
               let less = rising_less xs r n m.0 x.0 j x.1 m.1 l in
-              let there = filter-has (λ i. nat_lt i j) xs x.0 (stands xs n x.0 x.1) (lt-ltb x.0 j less) in
+              let there = filter-has (λ i. nat_lt i j) xs x.0 (get_has xs n x.0 x.1) (lt-ltb x.0 j less) in
               false≢true (sym (f.after n x.0 x.1 (omega arith))
               ∙ list_all_has done (filter (λ i. nat_lt i j) xs) x.0 all there)
 

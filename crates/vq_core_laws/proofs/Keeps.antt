@@ -54,19 +54,20 @@ use Rattle.vq_model.specs.declared.plan.Event.TheVariants.{
 }
 use Rattle.vq_model.specs.Lanes.{lane_at}
 use Rattle.vq_model.specs.Machine.{put, with_signal, next}
-use Rattle.vq_model.specs.Plan.{Plan, chain_of, previous, of_job, has}
+use Rattle.vq_model.specs.Plan.{Plan, chain_of, previous, of_job}
+use Rattle.vq_ground.specs.Lists.{has}
 use Rattle.vq_model.specs.declared.plan.Op.{Op}
-use Rattle.vq_model.proofs.Gets.{get_within, first_is}
-use Rattle.vq_model.proofs.Lists.{has_here}
-use Rattle.vq_model.proofs.Options.{some_of}
-use Rattle.vq_points.specs.HistoryLaws.{last_take}
+use Rattle.vq_ground.proofs.Gets.{get_within, first_is}
+use Rattle.vq_ground.proofs.Lists.{has_here}
+use Rattle.vq_ground.proofs.Options.{some_of}
+use Rattle.vq_point_laws.specs.HistoryLaws.{last_take}
 use Rattle.vq_model.proofs.Puts.{put_here, put_there, put_cases, put_keeps}
 use Rattle.vq_model.specs.Naming.{same_actor}
 use Rattle.vq_model.proofs.Actors.{same_actor_is}
 use Rattle.vq_model.proofs.Plans.{op_within}
 use Rattle.vq_history_laws.proofs.Cited.{count_cons}
 use Rattle.vq_history_laws.specs.Measure.{one}
-use Rattle.vq_points.specs.Points.{
+use Rattle.vq_point_laws.specs.Points.{
   count_of,
   with_note,
   PointState,
@@ -86,7 +87,7 @@ use Rattle.vq_points.specs.Points.{
   actor_of_lane,
   without_first,
 }
-use Rattle.vq_points.proofs.Cited.{Links, one_event, at_opening, still_held}
+use Rattle.vq_point_laws.proofs.Cited.{Links, one_event, at_opening, still_held}
 use Rattle.vq_history_laws.specs.Histories.{points_after}
 use Rattle.vq_core_laws.proofs.Counts.{put_some_counts}
 use Rattle.vq_core_laws.proofs.LaneFacts.{next_of, next_put, IsNextOf}

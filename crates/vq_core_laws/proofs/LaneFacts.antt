@@ -35,17 +35,17 @@ use Rattle.vq_model.specs.declared.script.ActorName.TheVariants.{
 use Rattle.vq_model.specs.declared.plan.Lane.{Lane}
 use Rattle.vq_model.specs.declared.plan.Lane.TheVariants.{Host as HostLane, Queue as QueueLane}
 use Rattle.vq_model.specs.declared.plan.PlanJob.{PlanJob}
-use Rattle.vq_model.specs.Plan.{Plan, has, of_job, same_lane}
+use Rattle.vq_model.specs.Plan.{Plan, of_job, same_lane}
+use Rattle.vq_ground.specs.Lists.{has, AreRising}
 use Rattle.vq_model.specs.Machine.{next, put}
-use Rattle.vq_model.specs.WellFormed.{AreRising}
 use Rattle.vq_model.specs.Lanes.{lane_number, lane_at}
-use Rattle.vq_model.proofs.Filters.{filter-has_cases, filter-has, rising_filter}
-use Rattle.vq_model.proofs.Numbers.{rising_range, has-range_cases, range-has}
+use Rattle.vq_ground.proofs.Filters.{filter-has_cases, filter-has, rising_filter}
+use Rattle.vq_ground.proofs.Numbers.{rising_range, has-range_cases, range-has}
 use Rattle.vq_model.proofs.Puts.{put_here, put_there}
-use Rattle.vq_model.proofs.Searches.{find_member}
+use Rattle.vq_ground.proofs.Searches.{find_member}
 use Rattle.vq_model.specs.Naming.{same_actor}
 use Rattle.vq_model.proofs.Actors.{same_lane_is}
-use Rattle.vq_points.specs.Points.{PointState, jobs_of_lane, lane_of_actor, next_job, actor_of_lane}
+use Rattle.vq_point_laws.specs.Points.{PointState, jobs_of_lane, lane_of_actor, next_job, actor_of_lane}
 use Rattle.vq_core_laws.specs.Firsts.{StandOnce}
 use Rattle.vq_core_laws.proofs.Firsts.{rising_once}
 

@@ -1,11 +1,13 @@
 -- What the proofs of this crate need of a lawful plan.
-use Rattle.std.proofs.Common.{◌≡◌, ℕ, zero, suc, ◌+◌, ◌<◌, Bool, true, false, List, [], ◌∷◌, map, length, All, Some, None, option_map, refl, sym, ap, ◌∙◌, ◌⊎◌, inl, inr, subst, arith, ◌==◌, not}
+use Rattle.std.proofs.Common.{◌≡◌, ℕ, zero, suc, ◌<◌, true, false, List, [], ◌∷◌, map, length, All, Some, None, option_map, refl, sym, ap, ◌∙◌, ◌⊎◌, inl, inr, subst, arith, ◌==◌}
 use Rattle.std.specs.List.{slice_get, position_or_len}
-use Rattle.std.proofs.lemmas.Bool.{cond-true, cond-false, false≢true, eqb-true, or_cases}
+use Rattle.std.proofs.lemmas.Bool.{false≢true}
+use Rattle.vq_ground.proofs.Gets.{get_has}
 use Rattle.vq_model.specs.declared.script.Script.{Script}
 use Rattle.vq_model.specs.declared.plan.Op.{Op}
 use Rattle.vq_model.specs.declared.plan.Question.TheVariants.{Value as AsksValue}
-use Rattle.vq_model.specs.Plan.{Plan, has, chain, value, question, asked}
+use Rattle.vq_model.specs.Plan.{Plan, chain, value, question, asked}
+use Rattle.vq_ground.specs.Lists.{has, AreRisingFrom}
 use Rattle.vq_model.specs.Checks.{IsLawful}
 use Rattle.vq_model.specs.Lanes.{KeepsLanes, KeepsSemaphores}
 use Rattle.vq_model.specs.Lowering.{plan_of}
@@ -14,14 +16,12 @@ use Rattle.vq_model.specs.Races.{HasSureOrder}
 use Rattle.vq_model.specs.Signals.{chain_ops, op_at, all_signals}
 use Rattle.vq_model.specs.Sure.{KeepsRising, RisesFrom}
 use Rattle.vq_model.specs.WellFormed.{IsWellFormed, KeepsHostOrder, AreInOrder}
-use Rattle.vq_model.proofs.Lists.{has_cases}
-use Rattle.vq_model.proofs.Options.{some_of}
-use Rattle.vq_model.proofs.Searches.{at_place}
-use Rattle.vq_points.specs.Timeline.{AreRisingFrom}
+use Rattle.vq_ground.proofs.Lists.{has_cases}
+use Rattle.vq_ground.proofs.Options.{some_of}
+use Rattle.vq_ground.proofs.Searches.{at_place}
 use Rattle.vq_plan_laws.proofs.Cited.{plan_asked, plan_reads, plan_well_formed, plan_lanes, plan_semaphores, plan_hosts, chain_is, op_is, op_chain_is}
 use Rattle.vq_order_laws.proofs.Cited.{plan_has_sure_order}
 use Rattle.vq_core_laws.specs.Firsts.{StandOnce}
-use Rattle.vq_core_laws.proofs.Firsts.{stands}
 
 pub record Facts (p : Plan) : Type 0 where
   pub formed : IsWellFormed p
@@ -74,9 +74,9 @@ pub ordered_once : (p : Plan) (xs : List ℕ) → AreInOrder p xs → StandOnce 
 ordered_once p [] r i k x a b = absurd (let c : None ≡ Some x = a in cc)
 ordered_once p (y ∷ xs) r zero zero x a b = refl
 ordered_once p (y ∷ xs) r zero (suc k) x a b =
-    let s : y ≡ x = cc in absurd (not_later p y x s (r.0 x (stands xs k x b)))
+    let s : y ≡ x = cc in absurd (not_later p y x s (r.0 x (get_has xs k x b)))
 ordered_once p (y ∷ xs) r (suc i) zero x a b =
-    let s : y ≡ x = cc in absurd (not_later p y x s (r.0 x (stands xs i x a)))
+    let s : y ≡ x = cc in absurd (not_later p y x s (r.0 x (get_has xs i x a)))
 ordered_once p (y ∷ xs) r (suc i) (suc k) x a b = ap suc (ordered_once p xs r.1 i k x a b)
 
 -- the values of a chain rise
@@ -101,7 +101,7 @@ rising_places : (p : Plan) (e : ℕ) (xs : List ℕ) → KeepsRising p e xs → 
 rising_places p e [] r i k f g a b l = absurd (let c : None ≡ Some f = a in cc)
 rising_places p e (x ∷ xs) r i zero f g a b l = absurd (omega arith)
 rising_places p e (x ∷ xs) r zero (suc k) f g a b l =
-    let s : x ≡ f = cc in subst (λ (z : ℕ). value p z < value p g) s (above_first p x xs r.2 g (stands xs k g b))
+    let s : x ≡ f = cc in subst (λ (z : ℕ). value p z < value p g) s (above_first p x xs r.2 g (get_has xs k g b))
 rising_places p e (x ∷ xs) r (suc i) (suc k) f g a b l = rising_places p x xs r.2 i k f g a b (omega arith)
 
 pub chain_places : (p : Plan) (n : ℕ) (xs : List ℕ) → RisesFrom p n xs → (i k f g : ℕ) → slice_get xs i ≡ Some f →
@@ -109,5 +109,5 @@ pub chain_places : (p : Plan) (n : ℕ) (xs : List ℕ) → RisesFrom p n xs →
 chain_places p n [] r i k f g a b l = absurd (let c : None ≡ Some f = a in cc)
 chain_places p n (x ∷ xs) r i zero f g a b l = absurd (omega arith)
 chain_places p n (x ∷ xs) r zero (suc k) f g a b l =
-    let s : x ≡ f = cc in subst (λ (z : ℕ). value p z < value p g) s (above_first p x xs r.1 g (stands xs k g b))
+    let s : x ≡ f = cc in subst (λ (z : ℕ). value p z < value p g) s (above_first p x xs r.1 g (get_has xs k g b))
 chain_places p n (x ∷ xs) r (suc i) (suc k) f g a b l = rising_places p x xs r.1 i k f g a b (omega arith)

@@ -1,104 +1,24 @@
 -- The lists of timelines follow the world, event by event.
-use Rattle.std.proofs.Common.{
-  ◌≡◌,
-  ℕ,
-  suc,
-  ◌+◌,
-  ◌-◌,
-  ◌<◌,
-  Bool,
-  true,
-  false,
-  not,
-  ◌&&◌,
-  ◌||◌,
-  List,
-  [],
-  ◌∷◌,
-  ◌++◌,
-  length,
-  map,
-  filter,
-  take,
-  drop,
-  set,
-  get_or,
-  Option,
-  Some,
-  None,
-  refl,
-  sym,
-  ap,
-  ◌∙◌,
-  inl,
-  inr,
-  subst,
-  arith,
-  ◌==◌,
-}
+use Rattle.std.proofs.Common.{◌≡◌, ℕ, suc, ◌+◌, ◌-◌, ◌<◌, Bool, true, false, not, ◌&&◌, ◌||◌, List, [], ◌∷◌, ◌++◌, length, map, filter, take, drop, set, get_or, Option, Some, None, refl, sym, ap, ◌∙◌, inl, inr, subst, arith, ◌==◌}
 use Rattle.std.specs.Prelude.{slice_range, nat_lt}
 use Rattle.std.specs.List.{slice_get, list_all}
 use Rattle.std.specs.Option.{option_map_or}
-use Rattle.std.proofs.lemmas.Bool.{
-  cond-true,
-  cond-false,
-  false≢true,
-  eq-eqb,
-  eqb-true,
-  ne_eqb,
-  cases_eq,
-  cases_lt,
-  and_from,
-  or_parts,
-  or_from,
-  or_right,
-  ltb-true,
-  lt-ltb,
-}
-use Rattle.std.proofs.lemmas.List.{
-  get_or-replicate,
-  get_or-set_same,
-  get_or-set_other,
-  get_or-take,
-  get_or-drop,
-  get_or_past,
-  length-map,
-  length-take,
-}
+use Rattle.std.proofs.lemmas.Bool.{cond-true, cond-false, false≢true, eq-eqb, eqb-true, ne_eqb, cases_eq, cases_lt, and_from, or_parts, or_from, or_right, ltb-true, lt-ltb}
+use Rattle.std.proofs.lemmas.List.{get_or-replicate, get_or-set_same, get_or-set_other, get_or-take, get_or-drop, get_or_past, length-map, length-take}
 use Rattle.vq_model.specs.Machine.{put}
-use Rattle.vq_model.specs.Plan.{Plan, chain, chain_of, value, initial, has}
-use Rattle.vq_model.proofs.Filters.{filter-has, filter-has_cases}
-use Rattle.vq_model.proofs.Gets.{get_some, get_within, first_is}
-use Rattle.vq_model.proofs.Lists.{has_here, has-append, list_all_has, list_all_from}
+use Rattle.vq_model.specs.Plan.{Plan, chain, chain_of, value, initial}
+use Rattle.vq_ground.specs.Lists.{has}
+use Rattle.vq_ground.proofs.Filters.{filter-has, filter-has_cases}
+use Rattle.vq_ground.proofs.Gets.{get_some, get_within, first_is, place_in, get_has}
+use Rattle.vq_ground.proofs.Lists.{has_here, has-append, list_all_has, list_all_from}
 use Rattle.vq_model.proofs.Puts.{put_here, put_there}
-use Rattle.vq_points.specs.Points.{PointState, CanTake, after_event, at_option, opening_points, smaller_ops}
-use Rattle.vq_points.specs.Timeline.{
-  Timeline,
-  KeepsLists,
-  point_at,
-  new_timeline,
-  take_from,
-  after_take,
-  after_bind,
-  after_complete,
-  complete_from,
-  after_free,
-  all_points,
-  points_of,
-  entries_from,
-  taken,
-  pending,
-  IsAbsent,
-  MayTake,
-  MayBind,
-  MayFree,
-  Entry,
-}
+use Rattle.vq_point_laws.specs.Points.{PointState, CanTake, after_event, at_option, opening_points, smaller_ops}
+use Rattle.vq_point_laws.specs.Timeline.{Timeline, KeepsLists, point_at, new_timeline, take_from, after_take, after_bind, after_complete, complete_from, after_free, all_points, points_of, entries_from, taken, pending, IsAbsent, MayTake, MayBind, MayFree, Entry}
 use Rattle.vq_model.specs.declared.plan.Event.TheVariants.{Take, Bind, Complete, Free}
-use Rattle.vq_points.proofs.Cited.{least_pending, IsLeast, Latest}
+use Rattle.vq_point_laws.proofs.Cited.{least_pending, IsLeast, Latest}
 use Rattle.vq_core_laws.specs.Firsts.{AreFirst, StandOnce}
 use Rattle.vq_core_laws.specs.TimelineOf.{IsTimelineOf, waits_on}
-use Rattle.vq_core_laws.proofs.Firsts.{put_next, put_other, stands, place_in}
+use Rattle.vq_core_laws.proofs.Firsts.{put_next, put_other}
 use Rattle.vq_core_laws.proofs.Keeps.{Keeps, free_below}
 use Rattle.vq_core_laws.proofs.PlanFacts.{Facts, ordered_once, chain_places}
 
@@ -142,7 +62,7 @@ module _ (p : Plan) (f : Facts p) (w : PointState) (k : Keeps p w) where
   once t = ordered_once p (chain p t) (f.formed.chain_order t)
 
   chain_at : (t i e : ℕ) → slice_get (chain p t) i ≡ Some e → chain_of p e ≡ Some t
-  chain_at t i e h = f.formed.of_chain e t (stands (chain p t) i e h)
+  chain_at t i e h = f.formed.of_chain e t (get_has (chain p t) i e h)
 
   -- an operation isn't of another chain
   not_there : (t s e i : ℕ) → chain_of p e ≡ Some s → (t ≡ s → ⊥) → slice_get (chain p t) i ≡ Some e → ⊥
@@ -367,7 +287,7 @@ module _ (p : Plan) (f : Facts p) (w : PointState) (k : Keeps p w) where
               let w1 = get_within (chain p t) i e here in
               let x = get_some (chain p t) n (omega arith) in
               let less = chain_places p (initial p t) (chain p t) (f.order.chains t) n i x.0 e x.1 here m in
-              let member = filter-has (λ g. nat_lt (value p g) (value p e)) (chain p t) x.0 (stands (chain p t) n x.0
+              let member = filter-has (λ g. nat_lt (value p g) (value p e)) (chain p t) x.0 (get_has (chain p t) n x.0
               x.1) (lt-ltb (value p x.0) (value p e) less) in
               false≢true (sym (first.after n x.0 x.1 (omega arith))
               ∙ list_all_has done (smaller_ops p t e) x.0 all member)

@@ -1,16 +1,19 @@
 -- The points of a timeline that wait to be freed are those of its chain's operations that they carry still,
 -- in the order of the chain.
 use Rattle.std.proofs.Common.{◌≡◌, ℕ, zero, suc, ◌+◌, ◌<◌, ◌≤◌, ◌==◌, ◌&&◌, Bool, true, false, cond, List, [], ◌∷◌}
-use Rattle.std.proofs.Common.{length, map, take, get_or, Option, Some, None, refl, sym, ap, ◌∙◌, inl, inr, subst, arith}
+use Rattle.std.proofs.Common.{length, map, take, get_or, Option, Some, None, refl, sym, ap, ◌∙◌, inl, inr, arith}
 use Rattle.std.specs.List.{slice_get, filter_map, cons_option}
 use Rattle.std.specs.Option.{option_map_or}
 use Rattle.std.proofs.lemmas.Bool.{false≢true, cases_lt, and_parts, and_from, eq-eqb, eqb-true, cond-true}
 use Rattle.std.proofs.lemmas.List.{get_or-take, get_or_past, length-take-le, length-map}
-use Rattle.vq_model.specs.Plan.{Plan, chain, chain_of, value, has}
-use Rattle.vq_model.proofs.Gets.{get_some}
-use Rattle.vq_model.proofs.Lists.{has_here, has_there, has_cases}
-use Rattle.vq_points.specs.Points.{PointState}
-use Rattle.vq_points.specs.Timeline.{Timeline, KeepsLists, AreRisingFrom, carries, last_from, last_carrier}
+use Rattle.vq_ground.proofs.Mapped.{has_mapped, mapped}
+use Rattle.vq_ground.proofs.Rising.{above_first}
+use Rattle.vq_model.specs.Plan.{Plan, chain, chain_of, value}
+use Rattle.vq_ground.specs.Lists.{has, AreRisingFrom}
+use Rattle.vq_ground.proofs.Gets.{get_some}
+use Rattle.vq_ground.proofs.Lists.{has_here, has_there, has_cases}
+use Rattle.vq_point_laws.specs.Points.{PointState}
+use Rattle.vq_point_laws.specs.Timeline.{Timeline, KeepsLists, carries, last_from, last_carrier}
 use Rattle.vq_turns.specs.Turns.{waiting_of, waiting_point}
 use Rattle.vq_core_laws.specs.TimelineOf.{IsTimelineOf}
 use Rattle.vq_core_laws.proofs.Carriers.{CarriersOf}
@@ -56,39 +59,7 @@ is_waiting w e q h =
 
 -- What a map gives of a list's items
 
-pub given_from : (g : ℕ → Option ℕ) (xs : List ℕ) (q : ℕ) → has (filter_map g xs) q ≡ true →
-    (e : ℕ) × (has xs e ≡ true) × (g e ≡ Some q)
-given_from g [] q h = absurd (false≢true h)
-given_from g (x ∷ xs) q h = by_given (g x) refl h (given_from g xs q)
-  where
-    by_given : (o : Option ℕ) → g x ≡ o → has (cons_option o (filter_map g xs)) q ≡ true →
-        (has (filter_map g xs) q ≡ true → (e : ℕ) × (has xs e ≡ true) × (g e ≡ Some q)) →
-        (e : ℕ) × (has (x ∷ xs) e ≡ true) × (g e ≡ Some q)
-    by_given None s h f = let r = f h in (r.0, has_there x xs r.0 r.1, r.2)
-    by_given (Some y) s h f = elim (has_cases y (filter_map g xs) q h) [
-      | inl i ↦ (x, has_here x xs, s ∙ ap Some i)
-      | inr m ↦ let r = f m in (r.0, has_there x xs r.0 r.1, r.2)
-    ]
-
-pub given : (g : ℕ → Option ℕ) (xs : List ℕ) (e q : ℕ) → has xs e ≡ true → g e ≡ Some q → has (filter_map g xs) q ≡ true
-given g [] e q h s = absurd (false≢true h)
-given g (x ∷ xs) e q h s = elim (has_cases x xs e h) [
-  | inl i ↦ ap (λ o. has (cons_option o (filter_map g xs)) q) (ap g i ∙ s) ∙ has_here q (filter_map g xs)
-  | inr m ↦ by_given (g x) (given g xs e q m s)
-]
-  where
-    by_given : (o : Option ℕ) → has (filter_map g xs) q ≡ true → has (cons_option o (filter_map g xs)) q ≡ true
-    by_given None h = h
-    by_given (Some y) h = has_there y (filter_map g xs) q h
-
 -- Lists that rise by a key
-
-above : (key : ℕ → ℕ) (n : ℕ) (xs : List ℕ) (x : ℕ) → AreRisingFrom n (map key xs) → has xs x ≡ true → n < key x
-above key n [] x r h = absurd (false≢true h)
-above key n (y ∷ ys) x r h = elim (has_cases y ys x h) [
-  | inl s ↦ subst (λ (z : ℕ). n < key z) s r.0
-  | inr m ↦ let a = r.0 in let b = above key (key y) ys x r.1 m in omega arith
-]
 
 -- two of them with the same members are one list
 pub same_rising : (key : ℕ → ℕ) (n m : ℕ) (xs ys : List ℕ) → AreRisingFrom n (map key xs) →
@@ -105,14 +76,14 @@ same_rising key n m (x ∷ xs) (y ∷ ys) r s to from =
       | inl e ↦ sym e
       | inr a ↦ elim (has_cases x xs y (from y (has_here y ys))) [
         | inl e ↦ e
-        | inr b ↦ let l = above key (key y) ys x s.1 a in let g = above key (key x) xs y r.1 b in absurd (omega arith)
+        | inr b ↦ let l = above_first key (key y) ys x s.1 a in let g = above_first key (key x) xs y r.1 b in absurd (omega arith)
       ]
     ]
 
     rest : (z : ℕ) → has xs z ≡ true → has ys z ≡ true
     rest z h = elim (has_cases y ys z (to z (has_there x xs z h))) [
       | inl e ↦
-          let l = above key (key x) xs z r.1 h in
+          let l = above_first key (key x) xs z r.1 h in
           let same = ap key (first ∙ e) in
           absurd (omega arith)
       | inr a ↦ a
@@ -121,7 +92,7 @@ same_rising key n m (x ∷ xs) (y ∷ ys) r s to from =
     back : (z : ℕ) → has ys z ≡ true → has xs z ≡ true
     back z h = elim (has_cases x xs z (from z (has_there y ys z h))) [
       | inl e ↦
-          let l = above key (key y) ys z s.1 h in
+          let l = above_first key (key y) ys z s.1 h in
           let same = ap key (sym first ∙ e) in
           absurd (omega arith)
       | inr a ↦ a
@@ -218,7 +189,7 @@ module _ (p : Plan) (f : Facts p) (w : PointState) (k : Keeps p w) (c : Carriers
 
   waits_there : (q : ℕ) → has (filter_map (waiting_point w) (chain p t)) q ≡ true → has l.waiting q ≡ true
   waits_there q h =
-      let g = given_from (waiting_point w) (chain p t) q h in
+      let g = mapped (waiting_point w) (chain p t) q h in
       let v = waiting_is w g.0 q g.2 in
       is.waiting q
       ∙ and_from (w.waiting q)
@@ -245,7 +216,7 @@ module _ (p : Plan) (f : Facts p) (w : PointState) (k : Keeps p w) (c : Carriers
               has (filter_map (waiting_point w) (chain p t)) q ≡ true
           by_chain None u j = absurd (false≢true j)
           by_chain (Some x) u j =
-              given (waiting_point w) (chain p t) e q (f.formed.in_chain e t (u ∙ ap Some (eqb-true x t j)))
+              has_mapped (waiting_point w) (chain p t) e q (f.formed.in_chain e t (u ∙ ap Some (eqb-true x t j)))
               (is_waiting w e q (record { point = k.points.carries q e s; waiting = parts.0; carried = s }))
 
   pub waiting_points : filter_map (waiting_point w) (chain p t) ≡ l.waiting

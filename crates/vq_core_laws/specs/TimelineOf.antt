@@ -2,9 +2,10 @@
 use Rattle.std.specs.Prelude.{ℕ, Bool, map, Some, ◌≡◌, ◌&&◌, ◌==◌, false}
 use Rattle.std.specs.List.{slice_get}
 use Rattle.std.specs.Option.{option_map_or}
-use Rattle.vq_model.specs.Plan.{Plan, chain, initial, value, has, chain_of}
-use Rattle.vq_points.specs.Points.{PointState}
-use Rattle.vq_points.specs.Timeline.{Timeline, point_at}
+use Rattle.vq_model.specs.Plan.{Plan, chain, initial, value, chain_of}
+use Rattle.vq_ground.specs.Lists.{has}
+use Rattle.vq_point_laws.specs.Points.{PointState}
+use Rattle.vq_point_laws.specs.Timeline.{Timeline, point_at}
 use Rattle.vq_core_laws.specs.Firsts.{AreFirst}
 
 -- whether a point waits to be freed and carries an operation of a chain

@@ -5,6 +5,7 @@ use Rattle.std.specs.List.{AllByRecursion as Every, range_with_len}
 use Rattle.std.proofs.lemmas.List.{length-map, map-append}
 use Rattle.std.proofs.lemmas.List.Sums.{length-filter, count_by-le-length, sum_by-append}
 use Rattle.std.proofs.lemmas.Bool.{and_from, lt-ltb, eq-eqb, false_from_ne_true, eqb-true, ltb-true}
+use Rattle.vq_ground.proofs.Every.{every_append}
 use Rattle.vq_model.specs.declared.script.Buffer.{Buffer}
 use Rattle.vq_model.specs.declared.script.Semaphore.{Semaphore}
 use Rattle.vq_model.specs.declared.script.Job.{Job}
@@ -157,11 +158,6 @@ round_fits n r first last = (
 )
 
 -- The rounds
-
-pub every_append : {A : Type 0} (P : A → Type 0) (xs ys : List A) → Every P xs → Every P ys →
-    Every P (xs ++ ys)
-every_append P [] ys h k = k
-every_append P (x ∷ xs) ys h k = (h.0, every_append P xs ys h.1 k)
 
 rounds_fit : (n a m : ℕ) → 1 ≤ a → a + m ≤ 501 →
     Every (JobFits (generated_script n)) (flat_map generated_round (range_with_len a m))

@@ -5,11 +5,12 @@ use Rattle.std.specs.Fmt.{decimal}
 use Rattle.std.proofs.lemmas.Fmt.{length-decimal-le}
 use Rattle.std.proofs.lemmas.List.{length-map}
 use Rattle.std.proofs.lemmas.Grind.{flat_map-append}
+use Rattle.vq_ground.proofs.Every.{every_append}
 use Rattle.vq_model.specs.declared.script.Job.{Job}
 use Rattle.vq_model.specs.Canonical.{line_text, wait_words, signal_words, command_words, job_words, canonical_lines, canonical_text, buffer_words, semaphore_words, queue_words}
 use Rattle.vq_model.specs.Naming.{buffer_name, queue_name}
 use Rattle.vq_generator.specs.Generated.{buffer_names, timeline_names, queue_names, small_buffer, timeline_from_zero, threaded_queue, generated_script, generated_round, generated_batch, mark_at, others, buffer_in_round, copy_of_round, fill_of_round}
-use Rattle.vq_generator.proofs.GeneratedScripts.{every_append, others_below, few_others, batches_counted}
+use Rattle.vq_generator.proofs.GeneratedScripts.{others_below, few_others, batches_counted}
 
 -- Lines
 

@@ -17,12 +17,13 @@ use Rattle.vq_model.specs.declared.plan.Event.TheVariants.{Bind as Binds, Refer 
 use Rattle.vq_model.specs.declared.plan.Event.TheVariants.{Unref as Unrefs, Complete as Completes, Free as Frees}
 use Rattle.vq_model.specs.declared.plan.Event.TheVariants.{Start as Starts, Apply as Applies, Signal as Signals}
 use Rattle.vq_model.specs.declared.plan.Event.TheVariants.{Finish as Finishes, Answer as Answers}
-use Rattle.vq_model.specs.Plan.{Plan, line_of_job, line_of_command, commands_of, has, of_job, job_of, chain, value}
+use Rattle.vq_model.specs.Plan.{Plan, line_of_job, line_of_command, commands_of, of_job, job_of, chain, value}
+use Rattle.vq_ground.specs.Lists.{has}
 use Rattle.vq_model.specs.Naming.{semaphore_name, queue_name, same_actor}
 use Rattle.vq_model.specs.ValidScripts.{is_threaded_queue}
 use Rattle.vq_model.specs.Text.{numeral}
 use Rattle.vq_model.specs.Meaning.{small_numeral, is_marked, of_two, of_three}
-use Rattle.vq_points.specs.Points.{actor_of_lane}
+use Rattle.vq_point_laws.specs.Points.{actor_of_lane}
 use Rattle.vq_given.specs.declared.given.TraceTurn.{TraceTurn}
 use Rattle.vq_given.specs.declared.given.TraceEnd.{TraceEnd}
 use Rattle.vq_given.specs.declared.given.TraceLine.{TraceLine}

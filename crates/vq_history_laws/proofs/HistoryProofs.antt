@@ -1,29 +1,30 @@
 -- That an event may come has at most one proof, and so has a history: they may be ghost facts of a type.
-use Rattle.std.proofs.Common.{◌≡◌, ℕ, ◌<◌, ◌||◌, ◌&&◌, not, if◌then◌else◌, Bool, true, false, List, [], ◌∷◌, Some, None}
-use Rattle.std.proofs.Common.{refl, sym, ◌∙◌}
+use Rattle.std.proofs.Common.{◌≡◌, ℕ, ◌<◌, ◌||◌, ◌&&◌, not, if◌then◌else◌, Bool, true, false, [], Some, None}
+use Rattle.std.proofs.Common.{sym, ◌∙◌}
 use Rattle.std.specs.Prelude.{MatchBool}
 use Rattle.std.specs.List.{list_all, list_any, slice_get}
 use Rattle.std.proofs.Props.{props}
 use mathlib.Core.HLevel.{is_prop→PathP}
+use Rattle.std.proofs.lemmas.Option.{same_Some}
 use Rattle.vq_model.specs.declared.script.ActorName.{ActorName}
 use Rattle.vq_model.specs.declared.plan.Event.{Event}
 use Rattle.vq_model.specs.declared.plan.Event.TheVariants.{Submit, Take, Release, Bind, Refer, Look, Unref, Complete}
 use Rattle.vq_model.specs.declared.plan.Event.TheVariants.{Free, Start, Apply, Signal, Finish, Answer}
-use Rattle.vq_model.specs.Plan.{Plan, has, job_of, chain_of, signals_of, commands_of, is_host_step}
+use Rattle.vq_model.specs.Plan.{Plan, job_of, chain_of, signals_of, commands_of, is_host_step}
+use Rattle.vq_ground.specs.Lists.{has}
 use Rattle.vq_model.specs.Edges.{AtEnd}
 use Rattle.vq_model.specs.Machine.{next, are_reached}
 use Rattle.vq_model.specs.WellFormed.{IsWellFormed}
-use Rattle.vq_model.proofs.Options.{same_some}
-use Rattle.vq_points.specs.Points.{PointState, next_job, CanTake, CanBind, CanRefer, CanLook, CanComplete, CanSignalNow}
-use Rattle.vq_points.specs.Points.{CanCome, after_event, HistoryFrom, earlier_in_queue, are_needs_pending, may_bind}
-use Rattle.vq_points.specs.Points.{smaller_ops, needs_now, resolves, needs_resolved, count_of, holds, is_pending}
+use Rattle.vq_point_laws.specs.Points.{PointState, next_job, CanTake, CanBind, CanRefer, CanLook, CanComplete, CanSignalNow}
+use Rattle.vq_point_laws.specs.Points.{CanCome, earlier_in_queue, are_needs_pending, may_bind}
+use Rattle.vq_point_laws.specs.Points.{smaller_ops, needs_now, resolves, needs_resolved, count_of, holds, is_pending}
 use Rattle.vq_run_laws.proofs.Cited.{next_in}
 
 module _ (p : Plan) (w : PointState) where
   take_prop : (e q : ℕ) (fresh : Bool) → IsProp (CanTake p w e q fresh)
   take_prop e q fresh x y =
-      let j : x.job ≡ y.job = same_some x.job y.job (sym x.of_job ∙ y.of_job) in
-      let c : x.chain ≡ y.chain = same_some x.chain y.chain (sym x.in_chain ∙ y.in_chain) in
+      let j : x.job ≡ y.job = same_Some x.job y.job (sym x.of_job ∙ y.of_job) in
+      let c : x.chain ≡ y.chain = same_Some x.chain y.chain (sym x.in_chain ∙ y.in_chain) in
       λ i. record {
         job = j i;
         of_job = is_prop→PathP (λ k. job_of p e ≡ Some (j k)) (λ k. Prim.hlevel props) x.of_job y.of_job i;
@@ -46,8 +47,8 @@ module _ (p : Plan) (w : PointState) where
 
   bind_prop : (e q : ℕ) → IsProp (CanBind p w e q)
   bind_prop e q x y =
-      let j : x.job ≡ y.job = same_some x.job y.job (sym x.of_job ∙ y.of_job) in
-      let c : x.chain ≡ y.chain = same_some x.chain y.chain (sym x.in_chain ∙ y.in_chain) in
+      let j : x.job ≡ y.job = same_Some x.job y.job (sym x.of_job ∙ y.of_job) in
+      let c : x.chain ≡ y.chain = same_Some x.chain y.chain (sym x.in_chain ∙ y.in_chain) in
       λ i. record {
         job = j i;
         of_job = is_prop→PathP (λ k. job_of p e ≡ Some (j k)) (λ k. Prim.hlevel props) x.of_job y.of_job i;
@@ -62,7 +63,7 @@ module _ (p : Plan) (w : PointState) where
 
   refer_prop : (a : ActorName) (q e : ℕ) → IsProp (CanRefer p w a q e)
   refer_prop a q e x y =
-      let j : x.job ≡ y.job = same_some x.job y.job (sym x.is_next ∙ y.is_next) in
+      let j : x.job ≡ y.job = same_Some x.job y.job (sym x.is_next ∙ y.is_next) in
       λ i. record {
         job = j i;
         is_next = is_prop→PathP (λ k. next_job p w a ≡ Some (j k)) (λ k. Prim.hlevel props) x.is_next y.is_next i;
@@ -78,7 +79,7 @@ module _ (p : Plan) (w : PointState) where
 
   look_prop : (a : ActorName) (q e : ℕ) → IsProp (CanLook p w a q e)
   look_prop a q e x y =
-      let j : x.job ≡ y.job = same_some x.job y.job (sym x.is_next ∙ y.is_next) in
+      let j : x.job ≡ y.job = same_Some x.job y.job (sym x.is_next ∙ y.is_next) in
       λ i. record {
         job = j i;
         is_next = is_prop→PathP (λ k. next_job p w a ≡ Some (j k)) (λ k. Prim.hlevel props) x.is_next y.is_next i;
@@ -90,7 +91,7 @@ module _ (p : Plan) (w : PointState) where
 
   complete_prop : (e : ℕ) → IsProp (CanComplete p w e)
   complete_prop e x y =
-      let c : x.chain ≡ y.chain = same_some x.chain y.chain (sym x.in_chain ∙ y.in_chain) in
+      let c : x.chain ≡ y.chain = same_Some x.chain y.chain (sym x.in_chain ∙ y.in_chain) in
       λ i. record {
         chain = c i;
         in_chain = is_prop→PathP (λ k. chain_of p e ≡ Some (c k)) (λ k. Prim.hlevel props) x.in_chain y.in_chain i;
@@ -106,8 +107,8 @@ module _ (p : Plan) (w : PointState) where
     signal_prop e x y =
         let first = wf.of_job e x.job (next_in w.machine.progress.made (signals_of p x.job) e x.next).0 in
         let second = wf.of_job e y.job (next_in w.machine.progress.made (signals_of p y.job) e y.next).0 in
-        let j : x.job ≡ y.job = same_some x.job y.job (sym first ∙ second) in
-        let c : x.chain ≡ y.chain = same_some x.chain y.chain (sym x.in_chain ∙ y.in_chain) in
+        let j : x.job ≡ y.job = same_Some x.job y.job (sym first ∙ second) in
+        let c : x.chain ≡ y.chain = same_Some x.chain y.chain (sym x.in_chain ∙ y.in_chain) in
         λ i. record {
           job = j i;
           chain = c i;

@@ -1,12 +1,12 @@
 -- What each world of a history keeps of its points, its jobs and its references, beside `Links`.
 use Rattle.std.proofs.Common.{◌≡◌, ℕ, zero, suc, ◌<◌, ◌≤◌, ◌+◌, Bool, true, false, not, List, [], ◌∷◌, length, Option}
 use Rattle.std.proofs.Common.{Some, None, is_some, refl, sym, subst, ap, ◌∙◌, inl, inr, arith, ◌==◌}
-use Rattle.std.specs.List.{list_any, count_by, range_with_len, slice_get}
+use Rattle.std.specs.List.{list_any, range_with_len, slice_get}
 use Rattle.std.specs.Option.{option_map, option_map_or}
-use Rattle.std.proofs.lemmas.Option.{slice_get_within}
+use Rattle.std.proofs.lemmas.Option.{slice_get_within, same_Some}
 use Rattle.std.proofs.lemmas.Bool.{or_cases, and_parts, false≢true, eq-eqb, cases_eq, cond-true, cond-false, ne_eqb}
-use Rattle.vq_model.proofs.Filters.{filter-has_cases}
-use Rattle.vq_model.proofs.Numbers.{has-range_cases}
+use Rattle.vq_ground.proofs.Filters.{filter-has_cases}
+use Rattle.vq_ground.proofs.Numbers.{has-range_cases}
 use Rattle.vq_model.specs.declared.plan.Op.{Op}
 use Rattle.vq_model.specs.declared.script.ActorName.{ActorName}
 use Rattle.vq_model.specs.declared.plan.Answer.{Answer as TheAnswer}
@@ -16,15 +16,15 @@ use Rattle.vq_model.specs.declared.plan.Question.TheVariants.{Value as AsksValue
 use Rattle.vq_model.specs.declared.plan.Event.{Event}
 use Rattle.vq_model.specs.declared.plan.Event.TheVariants.{Submit, Take, Release, Bind, Refer, Look, Unref, Complete}
 use Rattle.vq_model.specs.declared.plan.Event.TheVariants.{Free, Start, Apply, Signal, Finish, Answer}
-use Rattle.vq_model.specs.Plan.{Plan, has, job_of, chain_of, is_batch, is_silent, question}
+use Rattle.vq_model.specs.Plan.{Plan, job_of, chain_of, is_batch, is_silent, question}
+use Rattle.vq_ground.specs.Lists.{has}
 use Rattle.vq_model.specs.Machine.{next, may_answer, put, with_signal}
-use Rattle.vq_model.proofs.Lists.{has_here, list_all_has}
+use Rattle.vq_ground.proofs.Lists.{has_here, list_all_has}
 use Rattle.vq_model.proofs.Puts.{put_here, put_there, put_cases, put_keeps}
-use Rattle.vq_model.proofs.Options.{same_some}
-use Rattle.vq_points.specs.Points.{PointState, Reference, opening_points, jobs_of_lane, lane_of_actor, next_job}
-use Rattle.vq_points.specs.Points.{smaller_ops, needs_resolved, count_of, is_reference, with_note, without_first}
-use Rattle.vq_points.specs.Points.{CanTake, CanCome, after_event}
-use Rattle.vq_points.proofs.Cited.{Links}
+use Rattle.vq_point_laws.specs.Points.{PointState, Reference, opening_points, jobs_of_lane, lane_of_actor, next_job}
+use Rattle.vq_point_laws.specs.Points.{smaller_ops, needs_resolved, count_of, is_reference, with_note, without_first}
+use Rattle.vq_point_laws.specs.Points.{CanTake, CanCome, after_event}
+use Rattle.vq_point_laws.proofs.Cited.{Links}
 use Rattle.vq_run_laws.proofs.Cited.{next_in}
 use Rattle.vq_history_laws.specs.Measure.{one, sum_to}
 use Rattle.vq_history_laws.specs.KeptFacts.{KeepsFacts}
@@ -197,7 +197,7 @@ module _ (p : Plan) (h : List Event) (w : PointState) (links : Links p h w) (k :
         ops = record {
           carried_of = λ r f c. elim (cases_eq r q) [
             | inl i ↦
-                let same : e ≡ f = same_some e f
+                let same : e ≡ f = same_Some e f
                 (sym (put_here w.carried q (Some e)) ∙ subst (λ (z : ℕ). put w.carried q (Some e) z ≡ Some f) i c)
                 in
                 subst (λ (z : ℕ). put w.point_of e (Some q) z ≡ Some r) same
@@ -237,7 +237,7 @@ module _ (p : Plan) (h : List Event) (w : PointState) (links : Links p h w) (k :
           ];
           below = λ f t x b c m. put_keeps w.bound e x (elim (put_cases w.bound e f b) [
             | inl i ↦
-                let same : g.chain ≡ t = same_some g.chain t (sym g.in_chain ∙ (ap (chain_of p) (sym i) ∙ c)) in
+                let same : g.chain ≡ t = same_Some g.chain t (sym g.in_chain ∙ (ap (chain_of p) (sym i) ∙ c)) in
                 list_all_has w.bound (smaller_ops p g.chain e) x g.in_order
                 (subst (λ (z : ℕ). has (smaller_ops p z e) x ≡ true) (sym same)
                 (subst (λ (z : ℕ). has (smaller_ops p t z) x ≡ true) i m))

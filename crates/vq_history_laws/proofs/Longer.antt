@@ -2,7 +2,7 @@
 use Rattle.std.proofs.Common.{◌≡◌, List, [], ◌∷◌, ◌++◌, fold, refl}
 use Rattle.vq_model.specs.declared.plan.Event.{Event}
 use Rattle.vq_model.specs.Plan.{Plan}
-use Rattle.vq_points.specs.Points.{PointState, CanCome, after_event, HistoryFrom}
+use Rattle.vq_point_laws.specs.Points.{PointState, CanCome, after_event, HistoryFrom}
 
 pub history_push : (p : Plan) (w : PointState) (xs : List Event) (x : Event) → HistoryFrom p w xs →
     CanCome p (fold (after_event p) w xs) x → HistoryFrom p w (xs ++ x ∷ [])

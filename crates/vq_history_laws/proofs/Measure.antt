@@ -16,14 +16,15 @@ use Rattle.vq_model.specs.declared.plan.Need.{Need}
 use Rattle.vq_model.specs.declared.plan.Event.{Event}
 use Rattle.vq_model.specs.declared.plan.Event.TheVariants.{Submit, Take, Release, Bind, Refer, Look, Unref, Complete}
 use Rattle.vq_model.specs.declared.plan.Event.TheVariants.{Free, Start, Apply, Signal, Finish, Answer}
-use Rattle.vq_model.specs.Plan.{Plan, has, chain_of, commands_of, needs, resolver, is_batch, is_host_step}
+use Rattle.vq_model.specs.Plan.{Plan, chain_of, commands_of, needs, resolver, is_batch, is_host_step}
+use Rattle.vq_ground.specs.Lists.{has}
 use Rattle.vq_model.specs.WellFormed.{IsWellFormed, KeepsHostOrder}
 use Rattle.vq_model.specs.Machine.{put, with_signal}
-use Rattle.vq_model.proofs.Lists.{has-append}
+use Rattle.vq_ground.proofs.Lists.{has-append}
 use Rattle.vq_model.proofs.Puts.{put_here, put_there}
-use Rattle.vq_points.specs.Points.{PointState, opening_points, at_option, resolves, count_of, is_reference, CanTake}
-use Rattle.vq_points.specs.Points.{CanCome, after_event, HistoryFrom}
-use Rattle.vq_points.proofs.Cited.{Links, Waits, one_event, at_opening}
+use Rattle.vq_point_laws.specs.Points.{PointState, opening_points, at_option, resolves, count_of, is_reference, CanTake}
+use Rattle.vq_point_laws.specs.Points.{CanCome, after_event, HistoryFrom}
+use Rattle.vq_point_laws.proofs.Cited.{Links, Waits, one_event, at_opening}
 use Rattle.vq_run_laws.proofs.Cited.{next_in}
 use Rattle.vq_history_laws.specs.KeptFacts.{KeepsFacts}
 use Rattle.vq_history_laws.specs.Histories.{points_after, acts}

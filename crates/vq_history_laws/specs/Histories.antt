@@ -2,7 +2,7 @@
 use Rattle.std.specs.Prelude.{ℕ, List, length, map, sum, fold, ◌+◌, ◌*◌}
 use Rattle.vq_model.specs.declared.plan.Event.{Event}
 use Rattle.vq_model.specs.Plan.{Plan}
-use Rattle.vq_points.specs.Points.{PointState, opening_points, after_event}
+use Rattle.vq_point_laws.specs.Points.{PointState, opening_points, after_event}
 
 -- the world after a history
 abbrev pub points_after : Plan → List Event → PointState

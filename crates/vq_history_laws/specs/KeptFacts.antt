@@ -2,8 +2,9 @@
 use Rattle.std.specs.Prelude.{ℕ, ◌≡◌, ◌<◌, ◌≤◌, Bool, true, false, List, length, Option, Some}
 use Rattle.std.specs.Prelude.{is_some}
 use Rattle.vq_model.specs.declared.plan.Answer.{Answer}
-use Rattle.vq_model.specs.Plan.{Plan, has, chain_of, is_batch, is_silent, question}
-use Rattle.vq_points.specs.Points.{PointState, Reference, smaller_ops, needs_resolved, count_of}
+use Rattle.vq_model.specs.Plan.{Plan, chain_of, is_batch, is_silent, question}
+use Rattle.vq_ground.specs.Lists.{has}
+use Rattle.vq_point_laws.specs.Points.{PointState, Reference, smaller_ops, needs_resolved, count_of}
 use Rattle.vq_history_laws.specs.Measure.{sum_to}
 
 -- What carries an operation is its point; bound operations were taken, and bound behind the smaller ones of

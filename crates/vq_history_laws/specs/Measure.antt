@@ -3,8 +3,9 @@ use Rattle.std.specs.Prelude.{ℕ, zero, suc, ◌+◌, ◌-◌, ◌==◌, Bool, 
 use Rattle.std.specs.Prelude.{length, Option, Some}
 use Rattle.std.specs.Prelude.{None, is_some}
 use Rattle.std.specs.Option.{option_map_or}
-use Rattle.vq_model.specs.Plan.{Plan, has}
-use Rattle.vq_points.specs.Points.{PointState}
+use Rattle.vq_model.specs.Plan.{Plan}
+use Rattle.vq_ground.specs.Lists.{has}
+use Rattle.vq_point_laws.specs.Points.{PointState}
 
 -- a fact counts one where it holds
 abbrev pub one : Bool → ℕ

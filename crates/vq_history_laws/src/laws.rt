@@ -3,7 +3,7 @@ ghost use Rattle.std.specs.Prelude.{◌≡◌, ◌≤◌, ◌+◌, ◌++◌, ◌
 ghost use Rattle.vq_model.specs.Plan.{Plan};
 ghost use Rattle.vq_model.specs.WellFormed.{IsWellFormed, KeepsHostOrder};
 ghost use Rattle.vq_model.specs.declared.plan.Event.{Event};
-ghost use Rattle.vq_points.specs.Points.{CanCome, after_event, HistoryFrom, opening_points};
+ghost use Rattle.vq_point_laws.specs.Points.{CanCome, after_event, HistoryFrom, opening_points};
 ghost use Rattle.vq_history_laws.specs.Histories.{points_after, acts};
 ghost use Rattle.vq_history_laws.specs.KeptFacts.{KeepsFacts};
 ghost use Rattle.vq_history_laws.specs.Measure.{measure};

@@ -4,12 +4,14 @@ use Rattle.std.proofs.lemmas.Bool.Decides.{nat_tests}
 use Rattle.std.specs.Prelude.{is_some, map, nat_le}
 use Rattle.std.specs.List.{list_all}
 use Rattle.std.specs.Option.{option_map, option_map_or}
+use Rattle.vq_script.proofs.Cited.{no_names}
+use Rattle.vq_ground.proofs.Bools.{and_true, or_false}
 use Rattle.vq_model.specs.declared.script.Pair.{Pair}
 use Rattle.vq_model.specs.declared.statement.FaultKind.{FaultKind}
 use Rattle.vq_model.specs.declared.statement.FaultKind.TheVariants.{Syntax, Order, Number, Name, Twice, Limit}
 use Rattle.vq_model.specs.Context.{has_begun, number_at, queues}
 use Rattle.vq_model.specs.Forms.{Slot, TimelineName}
-use Rattle.vq_model.specs.LineFaults.{is_known, is_new, is_numeric, is_shaped}
+use Rattle.vq_model.specs.LineFaults.{is_known, is_numeric, is_shaped}
 use Rattle.vq_model.specs.Meaning.{of_two, pair_at, pair_places, pairs_at}
 use Rattle.vq_model.specs.Text.{is_name, is_plain, numeral}
 use Rattle.vq_blocks.specs.declared.block.BlockForm.TheVariants.{ThreadForm, WaitForm, SignalForm, EndForm}
@@ -32,10 +34,6 @@ kind_of m l n k t f =
 abbrev pub plain_words : List (List ℕ) → Bool
 plain_words words = list_all (list_all is_plain) words
 
-and_true : (b : Bool) → (b && true) ≡ b
-and_true true = refl
-and_true false = refl
-
 not_not : (b : Bool) → not (not b && true) ≡ b
 not_not true = refl
 not_not false = refl
@@ -50,10 +48,6 @@ thread_kind told first name of_block form =
     ∙ (λ i. kind_of (not (plain_words (first ∷ name ∷ [])) || not (and_true (is_name name) i)) (has_begun told.rest)
     false false (not_not (is_named told name) i)
     (not (nat_lt (length (queues told.rest) + length told.threads) most_lanes)))
-
-or_false : (b : Bool) → (b || false) ≡ b
-or_false true = refl
-or_false false = refl
 
 -- a line of one pair, whose number and value may be read
 one_pair : (m full : Bool) (t v : Option ℕ) (make : ℕ → ℕ → Pair) (passes : Pair → Bool) → ((p : Pair) → passes p ≡ full) →
@@ -105,11 +99,6 @@ all_pairs m true true o items passes e = ap (λ (x : Option (List Pair)). kind_o
 all_pairs m true false o items passes e = refl
 all_pairs m false known o items passes e = refl
 
-new_pairs : (taken : List ℕ → Bool) (words : List (List ℕ)) → list_all (is_new taken) (pair_places words) ≡ true
-new_pairs taken [] = refl
-new_pairs taken (w ∷ []) = refl
-new_pairs taken (t ∷ v ∷ words) = new_pairs taken words
-
 pub pairs_again : (number : Slot → List ℕ → Option ℕ) (words : List (List ℕ)) →
     pairs_at number (map (λ x. x.1) (pair_places words)) ≡ pairs_at number words
 pairs_again number [] = refl
@@ -130,7 +119,7 @@ pairs_tested told first words of_block form =
     (not (plain_words (first ∷ words)) || not (list_all is_shaped (pair_places words))) false
     (not (list_all is_numeric (pair_places words))) (not (list_all (is_known number) (pair_places words))) named full in
     block_tested told (first ∷ words) of_block WaitForm form
-    ∙ (λ i. kind (not (new_pairs (is_named told) words i))
+    ∙ (λ i. kind (not (no_names (is_named told) words i))
     (option_map_or (passes_block_limit told) (option_map (λ ps. TakeStep (Wait ps)) (pairs_again number words i)) false))
     ∙ ap (kind false) (said_after (λ ps. TakeStep (Wait ps)) (passes_block_limit told) (pairs_at number words))
 

@@ -12,7 +12,7 @@ use Rattle.vq_blocks.specs.Compiled.{version_line}
 use Rattle.vq_hosts.specs.declared.fault.HostsFault.{HostsFault}
 use Rattle.vq_hosts.specs.declared.fault.HostsFault.TheVariants.{At, Memory}
 use Rattle.vq_hosts.specs.declared.hosts_reader.HostsReader.{HostsReader}
-use Rattle.vq_block_threads.specs.declared.threads.Threads.{Threads}
+use Rattle.vq_hosts.specs.declared.threads.Threads.{Threads}
 use Rattle.vq_hosts.specs.HasTold.{HasTold, HasToldNext, ReadsBlock}
 use Rattle.vq_hosts.proofs.RestLines.{faulty_words, numbers, told_words}
 

@@ -2,6 +2,7 @@ mod BlockFaultsFound
 mod BlockForms
 mod BlockKinds
 mod BlockNext
+mod GrownThreads
 mod JobLines
 mod JoinedTold
 mod Joining

@@ -3,7 +3,7 @@ use Rattle.std.proofs.Common.{◌≡◌, ◌<◌, ℕ, suc, ◌/◌, Bool, true,
 use Rattle.std.specs.Prelude.{is_some}
 use Rattle.std.specs.List.{list_all}
 use Rattle.std.specs.Option.{option_map, option_map_or}
-use Rattle.std.proofs.lemmas.Bool.{and_parts}
+use Rattle.std.proofs.lemmas.Bool.{and_parts, or_right}
 use Rattle.std.proofs.lemmas.Bool.Decides.{nat_tests}
 use Rattle.vq_model.specs.declared.script.Pair.{Pair}
 use Rattle.vq_model.specs.Context.{number_at}
@@ -40,10 +40,6 @@ counted number (name ∷ value ∷ words) n k =
     ∙ ap (λ (o : Option ℕ). option_map (λ n. suc n) o) (counted number words ns.1 ks.1)
     ∙ ap (λ (m : ℕ). Some m) half
 
-or_true : (a b : Bool) → b ≡ true → (a || b) ≡ true
-or_true true b h = refl
-or_true false b h = h
-
 -- so many pass the limit
 past : (full : Bool) (pairs : Option (List Pair)) (many : ℕ) → option_map (λ ps. length ps) pairs ≡ Some many →
     16 < many → option_map_or (λ ps. full || nat_lt most_pairs (length ps)) pairs false ≡ true
@@ -51,7 +47,7 @@ past full None many e h = absurd (cc)
 past full (Some ps) many e h =
     let same : length ps ≡ many = cc in
     let more : nat_lt most_pairs (length ps) ≡ true = grind (arith, nat_tests) in
-    or_true full (nat_lt most_pairs (length ps)) more
+    or_right full (nat_lt most_pairs (length ps)) more
 
 -- the limit counts only where all are read
 by_limit : (misshapen numeric known full : Bool) → (numeric ≡ true → known ≡ true → full ≡ true) →

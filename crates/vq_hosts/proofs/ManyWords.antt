@@ -4,6 +4,7 @@ use Rattle.std.specs.Option.{option_map_or}
 use Rattle.std.specs.Prelude.{find}
 use Rattle.std.proofs.lemmas.Bool.{false≢true}
 use Rattle.std.proofs.lemmas.List.{length-append}
+use Rattle.vq_ground.proofs.Bools.{and_false}
 use Rattle.vq_model.specs.declared.script.Mode.TheVariants.{Immediate, Deferred, Threaded}
 use Rattle.vq_model.specs.declared.statement.FaultKind.{FaultKind}
 use Rattle.vq_model.specs.declared.statement.FaultKind.TheVariants.{Order}
@@ -14,7 +15,7 @@ use Rattle.vq_model.specs.Context.{section}
 use Rattle.vq_model.specs.LineFaults.{is_declaration}
 use Rattle.vq_model.specs.Meaning.{forms_at, matches}
 use Rattle.vq_model.specs.Reading.{read_statement}
-use Rattle.vq_long_lines.specs.Few.{AreCutOff}
+use Rattle.vq_forms.specs.Few.{AreCutOff}
 use Rattle.vq_blocks.specs.declared.block.BlockForm.TheVariants.{ThreadForm}
 use Rattle.vq_blocks.specs.BlockFaults.{declares_late}
 use Rattle.vq_blocks.specs.BlockForms.{matches_block}
@@ -22,10 +23,6 @@ use Rattle.vq_blocks.specs.BlockReading.{read_hosts_words}
 use Rattle.vq_blocks.specs.Blocks.{Told, is_of_block, is_outside}
 use Rattle.vq_hosts.specs.BlockTests.{is_syntax}
 use Rattle.vq_hosts.proofs.RestLines.{rest_unread}
-
-and_false : (b : Bool) → (b && false) ≡ false
-and_false true = refl
-and_false false = refl
 
 -- a kind stays where a declaration isn't late
 in_time : (syntax : Bool) (kind : FaultKind) → cond (not syntax && false) Order kind ≡ kind
@@ -54,15 +51,6 @@ module _ (w1 w2 w3 w4 : List ℕ) (ws : List (List ℕ)) where
           option_map_or is_declaration (cond b (Some f) (find (matches (w1 ∷ w2 ∷ w3 ∷ w4 ∷ ws)) forms)) false ≡ false
       by_match true m more = undeclared f m
       by_match false m more = more
-
--- more words follow the first 63 of them
-pub cut_long : (first words : List (List ℕ)) → AreCutOff first words → 63 < length words
-cut_long first words cut =
-    let counted = ap (λ (ws : List (List ℕ)). length ws) cut.parts in
-    let both = length-append first cut.more in
-    let many = cut.many in
-    let some = cut.some in
-    omega (arith, counted, both, many, some)
 
 pub many_rest : (told : Told) (n : ℕ) (words : List (List ℕ)) (kind : FaultKind) → 63 < length words →
     told.inside ≡ false → read_statement Plain told.rest n words ≡ Err kind → read_hosts_words told n words ≡ Err kind

@@ -5,6 +5,7 @@ use Rattle.std.specs.Borrow.{Bor}
 use Rattle.std.specs.List.{list_all}
 use Rattle.std.specs.Option.{option_map, option_to_list}
 use Rattle.std.proofs.lemmas.List.{append-nil, append_assoc}
+use Rattle.vq_ground.proofs.Bools.{and_true}
 use Rattle.vq_model.specs.declared.script.Pair.{Pair}
 use Rattle.vq_model.specs.Forms.{Slot, Numeral, TimelineName}
 use Rattle.vq_model.specs.LineFaults.{is_shaped, is_numeric, is_known}
@@ -90,10 +91,6 @@ pub pair_more_at : (number : Slot → List ℕ → Option ℕ) (other : Bor (Lis
 pair_more_at number other [] words old new many h a = absurd (omega arith)
 pair_more_at number other (t ∷ []) words old new many h a = absurd (omega arith)
 pair_more_at number other (t ∷ v ∷ rest) words old new many h a = pair_more number t.now v.now (texts rest) words old new h a
-
-and_true : (b : Bool) → (b && true) ≡ b
-and_true true = refl
-and_true false = refl
 
 -- all are read
 pub all_so_far : (number : Slot → List ℕ → Option ℕ) (rest : List (Bor (List ℕ))) (words : List (List ℕ)) (found : PairWords) →

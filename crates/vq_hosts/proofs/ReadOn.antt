@@ -1,6 +1,5 @@
 -- Reading a text with blocks from one of its lines on.
-use Rattle.std.proofs.Common.{◌≡◌, ℕ, ◌+◌, Bool, false, cond, List, [], ◌∷◌, Ok, Err, Result, sym, ap, ◌∙◌}
-use Rattle.std.specs.Result.{IsErr, IsErrAnd}
+use Rattle.std.proofs.Common.{◌≡◌, ℕ, ◌+◌, Bool, false, cond, List, [], ◌∷◌, Ok, Err, sym, ap, ◌∙◌}
 use Rattle.vq_model.specs.declared.statement.FaultKind.TheVariants.{Syntax}
 use Rattle.vq_model.specs.Text.{words_of}
 use Rattle.vq_blocks.specs.Blocks.{Told}
@@ -40,8 +39,3 @@ pub tells_all : (text : List ℕ) (told : Told) (n : ℕ) (rest : List (List ℕ
     read_hosts_lines told n rest ≡ read_hosts text → hosts_end_early told ≡ false → read_hosts text ≡ Ok told
 tells_all text told n rest e same h =
     sym same ∙ ap (read_hosts_lines told n) e ∙ ap (λ (b : Bool). cond b (Err (n, Syntax)) (Ok told)) h
-
--- what an exit by `?` returns
-pub returned : {A E : Type 0} (r : Result A E) (e : E) → IsErr r → IsErrAnd r (λ x. x ≡ e) → r ≡ Err e
-returned (Ok a) e h i = absurd (cc)
-returned (Err x) e h i = ap (λ y. Err y) i

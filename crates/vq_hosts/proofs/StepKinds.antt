@@ -13,9 +13,9 @@ use Rattle.vq_blocks.specs.declared.block.BlockStatement.TheVariants.{TakeStep}
 use Rattle.vq_blocks.specs.declared.block.ThreadStep.TheVariants.{Wait, Signal}
 use Rattle.vq_blocks.specs.BlockFaults.{most_pairs, most_steps, hosts_fault}
 use Rattle.vq_blocks.specs.Blocks.{Told, block_form, is_of_block, step_count, told_with, with_block_line}
-use Rattle.vq_block_threads.specs.HasThreads.{HasThreads}
+use Rattle.vq_hosts.specs.HasThreads.{HasThreads}
 use Rattle.vq_hosts.specs.declared.pairs.PairWords.{PairWords}
-use Rattle.vq_block_threads.specs.declared.threads.Threads.{Threads}
+use Rattle.vq_hosts.specs.declared.threads.Threads.{Threads}
 use Rattle.vq_hosts.specs.Pairs.{AreRead}
 use Rattle.vq_hosts.proofs.BlockFaultsFound.{block_told}
 use Rattle.vq_hosts.proofs.BlockKinds.{kind_of, not_below, pairs_again, plain_words, signal_kind, wait_kind}

@@ -12,7 +12,7 @@ use Rattle.vq_blocks.specs.declared.block.HostThread.{HostThread}
 use Rattle.vq_blocks.specs.declared.block.ThreadLine.{ThreadLine}
 use Rattle.vq_blocks.specs.Blocks.{step_count, signaled_by, waited_by}
 use Rattle.vq_blocks.specs.Compiled.{batch_of_step, lines_of_step, queue_of_thread, thread_jobs}
-use Rattle.vq_block_threads.specs.Batches.{step_batch, thread_batches}
+use Rattle.vq_hosts.specs.StepBatches.{step_batch, thread_batches}
 use Rattle.vq_hosts.specs.Batches.{behind, lines_of_batch}
 
 -- a batch for each step

@@ -2,7 +2,7 @@
 use Rattle.std.proofs.Common.{◌++◌, not, cond, map, ℕ, ◌≡◌, Bool, true, false, List, [], ◌∷◌, Option, Some, None, refl, sym, ap, ◌∙◌}
 use Rattle.std.specs.Prelude.{find}
 use Rattle.std.specs.Option.{option_and_then, option_map, option_map_or}
-use Rattle.std.proofs.lemmas.Bool.{false≢true}
+use Rattle.std.proofs.lemmas.Bool.{false≢true, not-true}
 use Rattle.vq_model.specs.declared.script.Command.TheVariants.{Fill, Update, Copy}
 use Rattle.vq_model.specs.declared.script.FillSize.TheVariants.{Whole, Count}
 use Rattle.vq_model.specs.declared.script.HostStep.TheVariants.{Signal as HostSignal, WaitAll, WaitAny, PollAll, PollAny, Read, FenceWait, FencePoll, FenceReset}
@@ -15,7 +15,6 @@ use Rattle.vq_model.specs.declared.statement.Form.TheVariants.{Plain}
 use Rattle.vq_model.specs.declared.statement.Line.{Line}
 use Rattle.vq_model.specs.Context.{number_at}
 use Rattle.vq_model.specs.Reading.{with_line}
-use Rattle.vq_model.proofs.Bools.{not_true}
 use Rattle.vq_reading_laws.proofs.Cited.{found_belongs}
 use Rattle.vq_blocks.specs.Compiled.{version_line}
 use Rattle.vq_model.specs.Forms.{forms_outside, places, schedule_forms, Slot, BufferName, TimelineName, BinaryName, FenceName, QueueName}
@@ -151,7 +150,7 @@ version_unnamed words n s other said =
     by_form None e = let a : read None ≡ Some s = sym (ap read (found ∙ e)) ∙ said in absurd (cc)
     by_form (Some f) e =
         let a : read (Some f) ≡ Some s = sym (ap read (found ∙ e)) ∙ said in
-        let later = not_true _ (found_belongs (matches words) (λ x. not (is_version_form x))
+        let later = not-true _ (found_belongs (matches words) (λ x. not (is_version_form x))
         (forms_outside ++ schedule_forms Plain) f refl e) in
         unnamed s (sym (ap (λ (o : Option Statement). option_map_or names_version o false) a)
         ∙ says_unnamed (number_at []) f (map (λ y. y.1) (open_places (places f) words)) later)

@@ -8,8 +8,8 @@ use Rattle.vq_blocks.specs.Blocks.{Told, told_with}
 use Rattle.vq_blocks.specs.BlockFaults.{hosts_fault, hosts_end_early, most_rest_jobs}
 use Rattle.vq_blocks.specs.BlockReading.{read_hosts_words}
 use Rattle.vq_blocks.specs.Compiled.{version_line, job_lines_in, script_by_input, origins}
-use Rattle.vq_block_threads.specs.HasThreads.{HasThreads}
-use Rattle.vq_block_threads.specs.declared.threads.Threads.{Threads}
+use Rattle.vq_hosts.specs.HasThreads.{HasThreads}
+use Rattle.vq_hosts.specs.declared.threads.Threads.{Threads}
 use Rattle.vq_hosts.specs.declared.fault.HostsFault.{HostsFault}
 use Rattle.vq_hosts.specs.declared.fault.HostsFault.TheVariants.{At, Memory}
 use Rattle.vq_hosts.specs.declared.hosts_reader.HostsReader.{HostsReader}

@@ -11,16 +11,16 @@ ghost use Rattle.vq_lexer.specs.Words.{texts};
 ghost use Rattle.vq_hosts.specs.BlockTests.{first_kind};
 ghost use Rattle.vq_hosts.specs.BlockWords.{form_in};
 ghost use Rattle.vq_blocks.specs.declared.block.BlockForm.TheVariants.{ThreadForm, WaitForm, SignalForm, EndForm};
-ghost use Rattle.vq_block_threads.specs.HasThreads.{HasThreads};
+ghost use Rattle.vq_hosts.specs.HasThreads.{HasThreads};
 ghost use Rattle.vq_hosts.specs.HasTold.{ReadsBlock};
 
 use crate::block_words::{BlockWords, block_words};
 use crate::fault::HostsFault;
 use crate::pairs::{are_timelines, marks, read_pairs};
+use crate::threads::Threads;
 use std::alloc::Global;
-use vq_block_threads::Threads;
+use vq_forms::{are_even, are_names, are_numerals, are_plain, next_word};
 use vq_lexer::{is_name, numeral, owned_name};
-use vq_long_lines::{are_even, are_numerals, are_plain, are_shaped, next_word};
 use vq_model::script::Pair;
 use vq_model::statement::FaultKind;
 use vq_script::LineReader;
@@ -241,7 +241,7 @@ fn pairs_fault(reader: &LineReader, pairs: &[u8], plain: bool) -> FaultKind
         hosts_fault told (first ∷ words_in pairs.now) ≡ Some result }
 {
     let tests = BlockTests {
-        misshapen: !plain | !are_shaped(pairs),
+        misshapen: !plain | !are_names(pairs),
         late: false,
         unnumbered: !are_numerals(pairs),
         unknown: !are_timelines(reader, pairs),

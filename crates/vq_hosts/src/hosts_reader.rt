@@ -13,8 +13,8 @@ use crate::block_words::is_thread;
 use crate::fault::HostsFault;
 use crate::joined::{Joined, join_parts};
 use crate::origins::push_line;
+use crate::threads::Threads;
 use std::alloc::{AllocError, Global};
-use vq_block_threads::Threads;
 use vq_forms::is_declaration;
 use vq_model::statement::{FaultKind, Form, Section};
 use vq_script::{LineReader, ScriptFault};
@@ -66,7 +66,7 @@ pub struct HostsReader {
 impl HostsReader {
     ghost use Rattle.std.specs.Prelude.{ℕ, Err};
     ghost use Rattle.vq_model.specs.Text.{words_in};
-    ghost use Rattle.vq_long_lines.specs.Few.{AreCutOff};
+    ghost use Rattle.vq_forms.specs.Few.{AreCutOff};
     ghost use Rattle.vq_blocks.specs.BlockReading.{read_hosts_words};
 
     /// A reader that has read no lines.

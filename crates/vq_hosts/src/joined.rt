@@ -7,8 +7,8 @@ ghost use Rattle.vq_hosts.specs.Batches.{behind, lines_of_batch};
 use crate::origins::{
     push_batch_lines, push_buffer_lines, push_lines, push_queue_lines, push_semaphore_lines,
 };
+use crate::threads::Threads;
 use std::alloc::{AllocError, Global};
-use vq_block_threads::Threads;
 use vq_model::list::List;
 use vq_model::script::{Batch, Job, Queue, Script};
 use vq_script::ScriptParts;

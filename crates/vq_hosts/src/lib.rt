@@ -9,6 +9,7 @@ mod hosts_reader;
 mod joined;
 mod origins;
 mod pairs;
+mod threads;
 
 pub use compiler::{Compiled, compile};
 pub use fault::HostsFault;

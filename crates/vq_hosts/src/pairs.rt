@@ -14,8 +14,8 @@ ghost use Rattle.vq_lexer.specs.Words.{texts};
 ghost use Rattle.vq_hosts.specs.Pairs.{AddsPair, AreRead};
 
 use std::alloc::{AllocError, Global};
+use vq_forms::next_pair;
 use vq_lexer::{is_name, numeral};
-use vq_long_lines::next_pair;
 use vq_model::script::{Mark, Pair};
 use vq_script::LineReader;
 

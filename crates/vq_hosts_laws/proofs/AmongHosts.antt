@@ -2,10 +2,10 @@
 use Rattle.std.proofs.Common.{◌≡◌, ℕ, ◌+◌, ◌-◌, ◌<◌, cond, List, length, Some, None, refl, ap, ◌∙◌, arith}
 use Rattle.std.specs.List.{slice_get}
 use Rattle.std.proofs.lemmas.Bool.{le-ltb, lt-ltb}
+use Rattle.std.proofs.lemmas.Option.{slice_get_past}
 use Rattle.vq_model.specs.declared.plan.Answer.{Answer}
 use Rattle.vq_model.specs.declared.script.Pair.{Pair}
 use Rattle.vq_model.specs.Machine.{Step, StartStep, ApplyStep, SignalStep, FinishStep, AnswerStep}
-use Rattle.vq_model.proofs.Gets.{slice_get_past}
 use Rattle.vq_blocks.specs.declared.block.ThreadStep.TheVariants.{Wait, Signal}
 use Rattle.vq_blocks.specs.Blocks.{Told}
 use Rattle.vq_blocks.specs.HostsMachine.{OfRest, OfThread}

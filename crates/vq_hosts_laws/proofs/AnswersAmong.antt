@@ -3,7 +3,7 @@ use Rattle.std.proofs.Common.{◌≡◌, ℕ, ◌+◌, ◌⊎◌, inl, inr, Bool
 use Rattle.std.proofs.Common.{◌∙◌, subst, arith, not}
 use Rattle.std.specs.Prelude.{◌==◌, nat_lt}
 use Rattle.std.specs.List.{list_all, list_any}
-use Rattle.std.proofs.lemmas.Bool.{and_parts, and_from, eqb-true, eq-eqb}
+use Rattle.std.proofs.lemmas.Bool.{and_parts, and_from, eqb-true, eq-eqb, or_right, or_left}
 use Rattle.vq_model.specs.declared.plan.Answer.{Answer}
 use Rattle.vq_model.specs.declared.plan.Answer.TheVariants.{Reached, Timeout, NotReady, Value}
 use Rattle.vq_model.specs.declared.plan.Question.{Question}
@@ -17,7 +17,7 @@ use Rattle.vq_model.specs.Machine.{State, may_answer, was_since, is_reached}
 use Rattle.vq_model.specs.Plan.{Plan, question, chain, value}
 use Rattle.vq_model.specs.ScriptOfLines.{script_of}
 use Rattle.vq_model.specs.Signals.{Signaling}
-use Rattle.vq_model.proofs.Bools.{same_tests}
+use Rattle.vq_ground.proofs.Bools.{same_tests}
 use Rattle.vq_blocks.specs.declared.block.HostThread.{HostThread}
 use Rattle.vq_blocks.specs.declared.block.ThreadStep.TheVariants.{Signal}
 use Rattle.vq_blocks.specs.Blocks.{Told}
@@ -49,13 +49,6 @@ either_part false false r t = refl
 either_cases : (a b : Bool) → (a || b) ≡ true → (a ≡ true) ⊎ (b ≡ true)
 either_cases true b h = inl refl
 either_cases false b h = inr h
-
-either_left : (a b : Bool) → a ≡ true → (a || b) ≡ true
-either_left a b h = ap (λ x. x || b) h
-
-either_right : (a b : Bool) → b ≡ true → (a || b) ≡ true
-either_right true b h = refl
-either_right false b h = h
 
 module _ (told : Told) (fit : AreFit (script_of told.rest) told.threads) where
   abbrev script : Script
@@ -139,9 +132,9 @@ module _ (told : Told) (fit : AreFit (script_of told.rest) told.threads) where
             (list_any (sets_rest n) (chain (plan_of script) t)
             || list_any (is_pair t n) (thread_signals told.threads done)) ≡ true
         on h = elim (chain_cases script told.threads fit (sets n) t h) [
-          | inl a ↦ either_left (list_any (sets_rest n) (chain (plan_of script) t))
+          | inl a ↦ or_left (list_any (sets_rest n) (chain (plan_of script) t))
               (list_any (is_pair t n) (thread_signals told.threads done)) (sym (rest_sets t n) ∙ a)
-          | inr a ↦ either_right (list_any (sets_rest n) (chain (plan_of script) t))
+          | inr a ↦ or_right (list_any (sets_rest n) (chain (plan_of script) t))
               (list_any (is_pair t n) (thread_signals told.threads done))
               (signal_made told.threads done (is_pair t n) (op_is_made t n a.0 a.1 a.2))
         ]

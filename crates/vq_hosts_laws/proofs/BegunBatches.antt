@@ -1,11 +1,8 @@
 -- Where lines begin a batch, its queue is one that was declared before.
-use Rattle.std.proofs.Common.{◌≡◌, ℕ, ◌<◌, Bool, true, false, cond, List, [], ◌∷◌, map, length, Option, Some, None}
-use Rattle.std.proofs.Common.{refl, sym, ◌∙◌, arith}
-use Rattle.std.specs.Prelude.{nat_lt}
-use Rattle.std.specs.List.{position, position_or_len}
+use Rattle.std.proofs.Common.{◌≡◌, ℕ, ◌<◌, List, [], ◌∷◌, map, length, Option, Some, None}
+use Rattle.std.proofs.Common.{refl, sym, ◌∙◌}
 use Rattle.std.specs.Option.{option_map, option_and_then}
-use Rattle.std.proofs.lemmas.Bool.{ltb-true}
-use Rattle.vq_model.specs.declared.script.Queue.{Queue}
+use Rattle.vq_ground.proofs.Positions.{position_within}
 use Rattle.vq_model.specs.declared.statement.Form.{Form}
 use Rattle.vq_model.specs.declared.statement.Line.{Line}
 use Rattle.vq_model.specs.declared.statement.LineForm.{LineForm}
@@ -143,18 +140,6 @@ named number TurnLine words = no_name number None refl
 named number TurnsLine (a ∷ b ∷ []) = no_name number _ (two _ (λ x y. refl) (actor_at number a) (numeral b))
 named number TurnsLine words = no_name number None refl
 
--- a position is one of a list
-within : (test : Queue → Bool) (qs : List Queue) (q : ℕ) → position test qs ≡ Some q → q < length qs
-within test qs q h = by_test (nat_lt (position_or_len test qs) (length qs)) refl h
-  where
-    by_test : (b : Bool) → nat_lt (position_or_len test qs) (length qs) ≡ b →
-        cond b (Some (position_or_len test qs)) None ≡ Some q → q < length qs
-    by_test true e h =
-        let l = ltb-true (position_or_len test qs) (length qs) e in
-        let same : position_or_len test qs ≡ q = cc in
-        omega arith
-    by_test false e h = absurd (cc)
-
 -- The queue of a batch that a line begins is declared before.
 pub begins_declared : (form : Form) (before : List Line) (words : List (List ℕ)) (q : ℕ) →
     begun_by (meaning form before words) ≡ Some q → q < length (queues before)
@@ -166,4 +151,4 @@ begins_declared form before words q h = by_form (form_of form before words) h
     by_form None h = absurd (let c : None ≡ Some q = h in cc)
     by_form (Some f) h =
         let n = named (number_at before) f (map (λ x. x.1) (open_places (places f) words)) q h in
-        within _ (queues before) q n.1
+        position_within _ (queues before) q n.1

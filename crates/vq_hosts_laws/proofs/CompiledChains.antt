@@ -8,31 +8,21 @@ use Rattle.std.proofs.lemmas.Bool.{false≢true, cases_lt, eqb-true, eq-eqb}
 use Rattle.vq_model.specs.declared.script.Script.{Script}
 use Rattle.vq_model.specs.Context.{is_timeline}
 use Rattle.vq_model.specs.Lowering.{plan_of}
-use Rattle.vq_model.specs.Plan.{Plan, has, chain, chain_of}
+use Rattle.vq_model.specs.Plan.{Plan, chain, chain_of}
+use Rattle.vq_ground.specs.Lists.{has}
 use Rattle.vq_model.specs.Signals.{Signaling, all_signals, signals_semaphore, value_at, insert_op, chain_ops}
-use Rattle.vq_model.proofs.Bools.{or_false}
-use Rattle.vq_model.proofs.Filters.{filter-has_cases, filter-has}
-use Rattle.vq_model.proofs.Gets.{get-map, get-range_past, get_within}
-use Rattle.vq_model.proofs.Lists.{any_has, has_here, has_there}
-use Rattle.vq_model.proofs.Numbers.{has_range}
-use Rattle.vq_model.proofs.Options.{some_of}
+use Rattle.vq_ground.proofs.Bools.{or_false}
+use Rattle.vq_ground.proofs.Filters.{filter-has_cases, filter-has}
+use Rattle.vq_ground.proofs.Gets.{get-map, get-range_past, get_within}
+use Rattle.vq_ground.proofs.Lists.{any_has, any_at}
+use Rattle.vq_ground.proofs.Numbers.{has_range}
+use Rattle.vq_ground.proofs.Options.{some_of}
 use Rattle.vq_plan_laws.proofs.Cited.{chain_is, op_chain_is}
 use Rattle.vq_reading_laws.proofs.Cited.{kind_exists}
 use Rattle.vq_blocks.specs.declared.block.HostThread.{HostThread}
 use Rattle.vq_blocks.specs.HostsRuns.{signals_in_order}
 use Rattle.vq_hosts_laws.proofs.PlainScripts.{plain_script}
 use Rattle.vq_hosts_laws.proofs.CompiledSignals.{AreFit, thread_signal, on_timeline, thread_chain, rest_chain}
-
--- some number of a list passes a test
-pub any_at : (f : ℕ → Bool) (xs : List ℕ) → list_any f xs ≡ true → (e : ℕ) × (has xs e ≡ true) × (f e ≡ true)
-any_at f [] h = absurd (false≢true h)
-any_at f (x ∷ xs) h = by_test (f x) refl h (any_at f xs)
-  where
-    by_test : (b : Bool) → f x ≡ b → (b || list_any f xs) ≡ true →
-        (list_any f xs ≡ true → (e : ℕ) × (has xs e ≡ true) × (f e ≡ true)) →
-        (e : ℕ) × (has (x ∷ xs) e ≡ true) × (f e ≡ true)
-    by_test true p h i = (x, has_here x xs, p)
-    by_test false p h i = let r = i h in (r.0, has_there x xs r.0 r.1, r.2)
 
 -- The chain of a semaphore
 

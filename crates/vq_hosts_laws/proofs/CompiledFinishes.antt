@@ -6,6 +6,7 @@ use Rattle.std.specs.List.{slice_get, range_with_len, filter_map}
 use Rattle.std.specs.Option.{option_map_or, option_to_list}
 use Rattle.std.proofs.lemmas.List.{length-map, append_assoc}
 use Rattle.std.proofs.lemmas.Bool.{false≢true, cases_lt}
+use Rattle.std.proofs.lemmas.Option.{same_Some}
 use Rattle.vq_model.specs.declared.plan.Lane.TheVariants.{Queue as QueueLane}
 use Rattle.vq_model.specs.declared.script.HostStep.{HostStep}
 use Rattle.vq_model.specs.declared.script.HostStep.TheVariants.{Idle}
@@ -14,12 +15,13 @@ use Rattle.vq_model.specs.declared.script.Job.TheVariants.{Host, Batch as BatchJ
 use Rattle.vq_model.specs.declared.script.Script.{Script}
 use Rattle.vq_model.specs.Edges.{must_finish}
 use Rattle.vq_model.specs.Lowering.{plan_of, plan_job, step_idle, last_before, lane_of}
-use Rattle.vq_model.specs.Plan.{Plan, has, previous, host_before, idle_after, same_lane}
-use Rattle.vq_model.proofs.Gets.{get_within}
-use Rattle.vq_model.proofs.Lists.{has_here, has-append_cases, has-append_left, has-append_right, in_option}
-use Rattle.vq_model.proofs.Mapped.{has_mapped, mapped}
-use Rattle.vq_model.proofs.Numbers.{has-range_cases, range-has}
-use Rattle.vq_model.proofs.Options.{some_of, same_some}
+use Rattle.vq_model.specs.Plan.{Plan, previous, host_before, idle_after, same_lane}
+use Rattle.vq_ground.specs.Lists.{has}
+use Rattle.vq_ground.proofs.Gets.{get_within}
+use Rattle.vq_ground.proofs.Lists.{has_here, has-append_cases, has-append_left, has-append_right, in_option}
+use Rattle.vq_ground.proofs.Mapped.{has_mapped, mapped}
+use Rattle.vq_ground.proofs.Numbers.{has-range_cases, range-has}
+use Rattle.vq_ground.proofs.Options.{some_of}
 use Rattle.vq_plan_laws.proofs.Cited.{part_is}
 use Rattle.vq_blocks.specs.declared.block.HostThread.{HostThread}
 use Rattle.vq_blocks.specs.declared.block.ThreadStep.{ThreadStep}
@@ -170,7 +172,7 @@ module _ (s : Script) (threads : List HostThread) (fit : AreFit s threads) where
       none_later : (n : ℕ) (other : ThreadStep) → m < n → IsThreadStep threads t n (first_of threads t + n) other →
           batches + k ≤ first_of threads t + n
       none_later n other l g =
-          let same : x ≡ g.steps = same_some x g.steps (sym e ∙ g.of_thread) in
+          let same : x ≡ g.steps = same_Some x g.steps (sym e ∙ g.of_thread) in
           let w = get_within g.steps.steps n g.line g.at_place in
           let v = ap (λ (y : HostThread). length y.steps) same in
           absurd (omega arith)

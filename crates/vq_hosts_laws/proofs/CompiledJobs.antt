@@ -23,13 +23,14 @@ use Rattle.vq_model.specs.Edges.{At, AtEnd, needs_at}
 use Rattle.vq_model.specs.Lowering.{plan_of, plan_job, job_ops, commands_in, effective_resets, fence_value, of_wait}
 use Rattle.vq_model.specs.Lowering.{step_needs, step_asked}
 use Rattle.vq_model.specs.Machine.{are_reached, is_reached}
-use Rattle.vq_model.specs.Plan.{Plan, has, of_job, previous, host_before, needs, asked, waits_for_any, commands_of}
+use Rattle.vq_model.specs.Plan.{Plan, of_job, previous, host_before, needs, asked, waits_for_any, commands_of}
+use Rattle.vq_ground.specs.Lists.{has}
 use Rattle.vq_model.specs.Plan.{signals_of, question}
 use Rattle.vq_model.specs.ScriptOfLines.{mark}
 use Rattle.vq_model.specs.Signals.{Signaling, all_signals, is_timeline_at}
-use Rattle.vq_model.proofs.Filters.{filter-has_cases, filter-has, filter_empty}
-use Rattle.vq_model.proofs.Gets.{get_within}
-use Rattle.vq_model.proofs.Numbers.{has_range, has-range_cases}
+use Rattle.vq_ground.proofs.Filters.{filter-has_cases, filter-has, filter_empty}
+use Rattle.vq_ground.proofs.Gets.{get_within}
+use Rattle.vq_ground.proofs.Numbers.{has_range, has-range_cases, range-append}
 use Rattle.vq_plan_laws.proofs.Cited.{count_jobs, part_is}
 use Rattle.vq_blocks.specs.declared.block.HostThread.{HostThread}
 use Rattle.vq_blocks.specs.declared.block.ThreadStep.{ThreadStep}
@@ -44,17 +45,6 @@ use Rattle.vq_hosts_laws.proofs.CompiledSignals.{rest_signal, rest_count, same_s
 use Rattle.vq_hosts_laws.proofs.CompiledLasts.{thread_job, rest_job, rest_taken, rest_last, other_queue}
 
 -- Lists
-
-range_parts : (a m n : ℕ) → range_with_len a (m + n) ≡ range_with_len a m ++ range_with_len (a + m) n
-range_parts a zero n =
-    let z : 0 + n ≡ n = omega arith in
-    let w : a ≡ a + 0 = omega arith in
-    ap (range_with_len a) z ∙ ap (λ b. range_with_len b n) w
-range_parts a (suc m) n =
-    let z : suc m + n ≡ suc (m + n) = omega arith in
-    let w : (a + 1) + m ≡ a + suc m = omega arith in
-    ap (range_with_len a) z
-    ∙ ap (λ xs. a ∷ xs) (range_parts (a + 1) m n ∙ ap (λ b. range_with_len (a + 1) m ++ range_with_len b n) w)
 
 range_shift : (m a n : ℕ) → range_with_len (m + a) n ≡ map (λ e. m + e) (range_with_len a n)
 range_shift m a zero = refl
@@ -346,7 +336,7 @@ module _ (s : Script) (threads : List HostThread) (fit : AreFit s threads) where
       ranges =
           let z : 0 + signals ≡ signals + 0 = omega arith in
           ap (range_with_len 0) (count_all s threads fit)
-          ∙ (range_parts 0 signals (length (all_signals s))
+          ∙ (range-append 0 signals (length (all_signals s))
           ∙ ap (λ xs. range_with_len 0 signals ++ xs) (ap (λ n. range_with_len n (length (all_signals s))) z
           ∙ range_shift signals 0 (length (all_signals s))))
 

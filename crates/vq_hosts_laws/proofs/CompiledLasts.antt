@@ -5,6 +5,7 @@ use Rattle.std.proofs.Common.{arith}
 use Rattle.std.specs.Prelude.{◌==◌}
 use Rattle.std.specs.List.{slice_get}
 use Rattle.std.proofs.lemmas.Bool.{false≢true, cases_lt, ne_eqb, eqb-true, eq-eqb}
+use Rattle.std.proofs.lemmas.Option.{same_Some}
 use Rattle.vq_model.specs.declared.plan.Lane.{Lane}
 use Rattle.vq_model.specs.declared.plan.Lane.TheVariants.{Host as HostLane, Queue as QueueLane}
 use Rattle.vq_model.specs.declared.script.Job.{Job}
@@ -12,8 +13,7 @@ use Rattle.vq_model.specs.declared.script.Job.TheVariants.{Host, Batch as BatchJ
 use Rattle.vq_model.specs.declared.script.Script.{Script}
 use Rattle.vq_model.specs.Lowering.{lane_of, last_from, last_before}
 use Rattle.vq_model.specs.Plan.{same_lane}
-use Rattle.vq_model.proofs.Gets.{get-map, get-take, get-take_within, get_within, get_some}
-use Rattle.vq_model.proofs.Options.{same_some}
+use Rattle.vq_ground.proofs.Gets.{get-map, get-take, get-take_within, get_within, get_some}
 use Rattle.vq_plan_laws.proofs.Cited.{IsLast, last_cases}
 use Rattle.vq_blocks.specs.declared.block.HostThread.{HostThread}
 use Rattle.vq_blocks.specs.declared.block.ThreadStep.{ThreadStep}
@@ -111,7 +111,7 @@ module _ (s : Script) (threads : List HostThread) (fit : AreFit s threads) where
       of_thread : (y : ℕ × ThreadStep) → slice_get (steps_in_order threads) j ≡ Some y → (i : ℕ) × (step : ThreadStep)
           × IsThreadStep threads t i j step
       of_thread y f =
-          let same : plain_batch first y ≡ job = same_some (plain_batch first y) job (sym (thread_job j y f) ∙ e) in
+          let same : plain_batch first y ≡ job = same_Some (plain_batch first y) job (sym (thread_job j y f) ∙ e) in
           let p : (first + t == first + y.0) ≡ true = ap (is_in (QueueLane (first + t))) same ∙ passes in
           let n = eqb-true (first + t) (first + y.0) p in
           let z : y.0 ≡ t = omega arith in
@@ -155,7 +155,7 @@ module _ (s : Script) (threads : List HostThread) (fit : AreFit s threads) where
       here r =
           let l = get-take_within n script.jobs r.place r.job r.is in
           let z : 0 + r.place ≡ r.place = omega arith in
-          let same : r.place ≡ x = same_some r.place x (sym (r.is_found ∙ ap Some z) ∙ h) in
+          let same : r.place ≡ x = same_Some r.place x (sym (r.is_found ∙ ap Some z) ∙ h) in
           let k = in_queue t r.place r.job (sym (get-take n script.jobs r.place l) ∙ r.is) r.passes in
           let m : x < n = omega arith in
           (k.0, k.1, m, subst (λ y. IsThreadStep threads t k.0 y k.1) same k.2)
@@ -217,6 +217,6 @@ module _ (s : Script) (threads : List HostThread) (fit : AreFit s threads) where
           let l = get-take_within n script.jobs r.place r.job r.is in
           let g = get_some (steps_in_order threads) r.place (omega arith) in
           let same : plain_batch first g.0 ≡ r.job =
-          same_some (plain_batch first g.0) r.job (sym (thread_job r.place g.0 g.1)
+          same_Some (plain_batch first g.0) r.job (sym (thread_job r.place g.0 g.1)
           ∙ (sym (get-take n script.jobs r.place l) ∙ r.is)) in
           ap (is_in HostLane) same ∙ r.passes

@@ -3,7 +3,8 @@ use Rattle.std.proofs.Common.{◌≡◌, ℕ, ◌+◌, ◌-◌, ◌<◌, ◌≤�
 use Rattle.std.proofs.Common.{Some, None, refl, sym, ap, ◌∙◌, zero, suc, subst, arith, not}
 use Rattle.std.specs.List.{slice_get, list_all, filter_map, cons_option}
 use Rattle.std.specs.Option.{option_map_or}
-use Rattle.std.proofs.lemmas.Bool.{cases_lt, and_parts}
+use Rattle.std.proofs.lemmas.Bool.{cases_lt, and_parts, not-true}
+use Rattle.std.proofs.lemmas.Option.{same_Some}
 use Rattle.vq_model.specs.declared.script.Pair.{Pair}
 use Rattle.vq_model.specs.declared.script.Script.{Script}
 use Rattle.vq_model.specs.Edges.{At, must_finish}
@@ -13,12 +14,10 @@ use Rattle.vq_model.specs.Machine.{CanStart, CanSignal, CanFinish, RunFrom, afte
 use Rattle.vq_model.specs.Plan.{Plan, signals_of}
 use Rattle.vq_model.specs.ScriptOfLines.{script_of}
 use Rattle.vq_model.specs.Signals.{all_signals}
-use Rattle.vq_model.proofs.Bools.{not_true}
-use Rattle.vq_model.proofs.Gets.{get_some}
-use Rattle.vq_model.proofs.Lists.{list_all_has}
-use Rattle.vq_model.proofs.Options.{same_some}
+use Rattle.vq_ground.proofs.Gets.{get_some}
+use Rattle.vq_ground.proofs.Lists.{list_all_has}
 use Rattle.vq_model.proofs.Puts.{put_there}
-use Rattle.vq_model.proofs.Searches.{find_member, find_passes}
+use Rattle.vq_ground.proofs.Searches.{find_member, find_passes}
 use Rattle.vq_blocks.specs.declared.block.ThreadStep.{ThreadStep}
 use Rattle.vq_blocks.specs.declared.block.ThreadStep.TheVariants.{Wait, Signal}
 use Rattle.vq_blocks.specs.Blocks.{Told}
@@ -162,7 +161,7 @@ module _ (told : Told) (fit : AreFit (script_of told.rest) told.threads) where
             let t : ℕ = got.0.0 in
             let here = got.1 ∙ ap {B = Option (ℕ × ThreadStep)} (λ step. Some (t, step)) same in
             let p = place_of_batch told.threads t a.job (Signal pair) here in
-            let unmade = not_true (c.progress.made e)
+            let unmade = not-true (c.progress.made e)
             (find_passes (λ x. not (c.progress.made x)) (signals_of plan a.job) e a.next) in
             let next = next_is told.threads c.progress.started c.progress.finished c.progress.made done keeps t p.0
             a.job (Signal pair) p.1 a.started (ap c.progress.made (sym at) ∙ unmade) in
@@ -170,7 +169,7 @@ module _ (told : Told) (fit : AreFit (script_of told.rest) told.threads) where
             let is = ap (slice_get (all_signals (plain_script script told.threads))) at ∙ g.1 in
             let chain = thread_chain script told.threads fit e (signal_by a.job pair) is in
             let sets = thread_value script told.threads fit e (signal_by a.job pair) l is in
-            let chains = same_some a.chain pair.semaphore (sym a.in_chain ∙ chain) in
+            let chains = same_Some a.chain pair.semaphore (sym a.in_chain ∙ chain) in
             let rises = a.rises in
             let payloads = ap c.progress.payload chains in
             let higher : c.progress.payload pair.semaphore < pair.value = omega arith in

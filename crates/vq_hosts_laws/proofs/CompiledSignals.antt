@@ -17,8 +17,8 @@ use Rattle.vq_model.specs.Lowering.{plan_of}
 use Rattle.vq_model.specs.Plan.{chain_of, value}
 use Rattle.vq_model.specs.Signals.{Signaling, all_signals, job_signals, is_timeline_at, signals_semaphore}
 use Rattle.vq_model.specs.Signals.{signal_value, value_at}
-use Rattle.vq_model.proofs.Gets.{get-map, get-append, get-append_left, get_some, get_within}
-use Rattle.vq_model.proofs.Bools.{same_tests}
+use Rattle.vq_ground.proofs.Gets.{get-map, get-append, get-append_left, get_some, get_within}
+use Rattle.vq_ground.proofs.Bools.{same_tests}
 use Rattle.vq_plan_laws.proofs.Cited.{no_value, op_value_is, op_chain_is, value_is}
 use Rattle.vq_blocks.specs.declared.block.HostThread.{HostThread}
 use Rattle.vq_blocks.specs.declared.block.ThreadStep.TheVariants.{Signal}

@@ -10,13 +10,14 @@ use Rattle.vq_model.specs.Edges.{At, AtEnd, must_finish}
 use Rattle.vq_model.specs.Lowering.{plan_of}
 use Rattle.vq_model.specs.Machine.{State, Step, StartStep, ApplyStep, SignalStep, FinishStep, AnswerStep, CanStep}
 use Rattle.vq_model.specs.Machine.{CanStart, CanFinish, RunFrom, after_step, with_signal, are_reached, put, next}
-use Rattle.vq_model.specs.Plan.{Plan, has, signals_of, is_silent, chain_of, value}
+use Rattle.vq_model.specs.Plan.{Plan, signals_of, is_silent, chain_of, value}
+use Rattle.vq_ground.specs.Lists.{has}
 use Rattle.vq_model.specs.ScriptOfLines.{script_of}
 use Rattle.vq_model.specs.Signals.{all_signals}
-use Rattle.vq_model.proofs.Gets.{get_some, get_within}
-use Rattle.vq_model.proofs.Lists.{list_all_from}
+use Rattle.vq_ground.proofs.Gets.{get_some, get_within}
+use Rattle.vq_ground.proofs.Lists.{list_all_from}
 use Rattle.vq_model.proofs.Puts.{put_here, put_there, put_cases, put_keeps}
-use Rattle.vq_model.proofs.Searches.{find_member, find_fails}
+use Rattle.vq_ground.proofs.Searches.{find_member, find_fails}
 use Rattle.vq_blocks.specs.declared.block.ThreadStep.{ThreadStep}
 use Rattle.vq_blocks.specs.declared.block.ThreadStep.TheVariants.{Wait, Signal}
 use Rattle.vq_blocks.specs.Blocks.{Told}

@@ -1,5 +1,6 @@
 -- The script that a text with blocks is compiled to, but that its first batches have no lines.
 use Rattle.std.proofs.Common.{◌≡◌, ℕ, ◌+◌, List, [], ◌∷◌, ◌++◌, map, length, None, refl, sym, ap, ◌∙◌, arith}
+use Rattle.std.proofs.lemmas.List.{map-append}
 use Rattle.vq_model.specs.declared.script.Job.{Job}
 use Rattle.vq_model.specs.declared.script.Job.TheVariants.{Batch as BatchJob}
 use Rattle.vq_model.specs.declared.script.Mark.{Mark}
@@ -65,22 +66,18 @@ own_batches first n (x ∷ steps) =
     ap (λ y. y ∷ map job_without_lines (map (batch_of_step (first + n)) steps)) (without_line (first + n) x)
     ∙ ap (λ ys. job_without_lines (plain_batch first (n, x.step)) ∷ ys) (own_batches first n steps)
 
-map_parts : {A B : Type 0} (f : A → B) (xs ys : List A) → map f (xs ++ ys) ≡ map f xs ++ map f ys
-map_parts f [] ys = refl
-map_parts f (x ∷ xs) ys = ap (λ zs. f x ∷ zs) (map_parts f xs ys)
-
 batches_from : (first n : ℕ) (threads : List HostThread) → map job_without_lines (thread_jobs (first + n) threads)
     ≡ map job_without_lines (map (plain_batch first) (steps_from n threads))
 batches_from first n [] = refl
 batches_from first n (x ∷ threads) =
     let z : (first + n) + 1 ≡ first + (n + 1) = omega arith in
-    map_parts job_without_lines (map (batch_of_step (first + n)) x.steps) (thread_jobs ((first + n) + 1) threads)
+    map-append job_without_lines (map (batch_of_step (first + n)) x.steps) (thread_jobs ((first + n) + 1) threads)
     ∙ (ap (λ ys. ys ++ map job_without_lines (thread_jobs ((first + n) + 1) threads)) (own_batches first n x.steps)
     ∙ (ap (λ ys. map job_without_lines (map (plain_batch first) (numbered_steps (n, x))) ++ ys)
     (ap (λ m. map job_without_lines (thread_jobs m threads)) z ∙ batches_from first (n + 1) threads)
-    ∙ (sym (map_parts job_without_lines (map (plain_batch first) (numbered_steps (n, x)))
+    ∙ (sym (map-append job_without_lines (map (plain_batch first) (numbered_steps (n, x)))
     (map (plain_batch first) (steps_from (n + 1) threads)))
-    ∙ ap (map job_without_lines) (sym (map_parts (plain_batch first) (numbered_steps (n, x))
+    ∙ ap (map job_without_lines) (sym (map-append (plain_batch first) (numbered_steps (n, x))
     (steps_from (n + 1) threads))))))
 
 -- The compiled script is the same but for lines.
@@ -93,7 +90,7 @@ plain_is_compiled s threads =
         ≡ map job_without_lines (plain_batches (length s.queues) threads ++ s.jobs)
     jobs =
         let z : length s.queues ≡ length s.queues + 0 = omega arith in
-        map_parts job_without_lines (thread_jobs (length s.queues) threads) s.jobs
+        map-append job_without_lines (thread_jobs (length s.queues) threads) s.jobs
         ∙ (ap (λ ys. ys ++ map job_without_lines s.jobs) (ap (λ m. map job_without_lines (thread_jobs m threads)) z
         ∙ batches_from (length s.queues) 0 threads)
-        ∙ sym (map_parts job_without_lines (plain_batches (length s.queues) threads) s.jobs))
+        ∙ sym (map-append job_without_lines (plain_batches (length s.queues) threads) s.jobs))

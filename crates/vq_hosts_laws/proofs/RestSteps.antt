@@ -14,11 +14,12 @@ use Rattle.vq_model.specs.Lowering.{plan_of}
 use Rattle.vq_model.specs.Machine.{State, Step, StartStep, ApplyStep, SignalStep, FinishStep, AnswerStep, CanStart}
 use Rattle.vq_model.specs.Machine.{CanApply, CanSignal, CanFinish, after_step, with_signal, are_reached, is_reached}
 use Rattle.vq_model.specs.Machine.{next, put}
-use Rattle.vq_model.specs.Plan.{Plan, has, commands_of, signals_of, is_silent, chain_of, value}
-use Rattle.vq_model.proofs.Gets.{get_some}
-use Rattle.vq_model.proofs.Lists.{list_all_has, list_all_from, has_cases}
-use Rattle.vq_model.proofs.Options.{some_of}
-use Rattle.vq_model.proofs.Searches.{find_member}
+use Rattle.vq_model.specs.Plan.{Plan, commands_of, signals_of, is_silent, chain_of, value}
+use Rattle.vq_ground.specs.Lists.{has}
+use Rattle.vq_ground.proofs.Gets.{get_some}
+use Rattle.vq_ground.proofs.Lists.{list_all_has, list_all_from, has_cases}
+use Rattle.vq_ground.proofs.Options.{some_of}
+use Rattle.vq_ground.proofs.Searches.{find_member}
 use Rattle.vq_blocks.specs.declared.block.HostThread.{HostThread}
 use Rattle.vq_blocks.specs.declared.block.ThreadStep.{ThreadStep}
 use Rattle.vq_blocks.specs.HostsMachine.{with_payload}

@@ -6,7 +6,7 @@ use Rattle.std.specs.Prelude.{nat_lt, nat_le, ◌==◌}
 use Rattle.std.specs.List.{slice_get, flat_map, enumerate_from, range_with_len, filter_map, cons_option}
 use Rattle.std.specs.List.{position_or_len}
 use Rattle.std.specs.Option.{option_map_or, option_to_list}
-use Rattle.std.proofs.lemmas.List.{take-map, length-map}
+use Rattle.std.proofs.lemmas.List.{take-map, length-map, map-append}
 use Rattle.vq_model.specs.declared.plan.Need.{Need}
 use Rattle.vq_model.specs.declared.plan.Op.{Op}
 use Rattle.vq_model.specs.declared.plan.PlanJob.{PlanJob}
@@ -31,7 +31,7 @@ use Rattle.vq_model.specs.SameScript.{semaphore_without_line, buffer_without_lin
 use Rattle.vq_model.specs.Signals.{is_timeline_at, initial_value, Signaling, of_mark, step_signals, job_signals}
 use Rattle.vq_model.specs.Signals.{all_signals, signals_semaphore, signal_value, values_from, value_at, insert_op}
 use Rattle.vq_model.specs.Signals.{chain_ops, op_at}
-use Rattle.vq_model.proofs.Gets.{get-map}
+use Rattle.vq_ground.proofs.Gets.{get-map}
 
 -- Lists
 
@@ -42,10 +42,6 @@ map_map f g (x ∷ xs) = ap (λ ys. f (g x) ∷ ys) (map_map f g xs)
 pub map_alike : {A B : Type 0} (f g : A → B) (xs : List A) → ((x : A) → f x ≡ g x) → map f xs ≡ map g xs
 map_alike f g [] same = refl
 map_alike f g (x ∷ xs) same = ap (λ y. y ∷ map f xs) (same x) ∙ ap (λ ys. g x ∷ ys) (map_alike f g xs same)
-
-map_of_append : {A B : Type 0} (f : A → B) (xs ys : List A) → map f (xs ++ ys) ≡ map f xs ++ map f ys
-map_of_append f [] ys = refl
-map_of_append f (x ∷ xs) ys = ap (λ zs. f x ∷ zs) (map_of_append f xs ys)
 
 pub same_kept : (f g : ℕ → Bool) (xs : List ℕ) → ((x : ℕ) → f x ≡ g x) → filter f xs ≡ filter g xs
 same_kept f g [] same = refl
@@ -155,7 +151,7 @@ same_batch_commands [] = refl
 same_batch_commands (Host h ∷ jobs) = same_batch_commands jobs
 same_batch_commands (BatchJob b ∷ jobs) =
     ap (λ cs. map command_without_line b.commands ++ cs) (same_batch_commands jobs)
-    ∙ sym (map_of_append command_without_line b.commands (flat_map batch_commands jobs))
+    ∙ sym (map-append command_without_line b.commands (flat_map batch_commands jobs))
 
 -- Signals
 
@@ -184,7 +180,7 @@ signals_from n [] = refl
 signals_from n (job ∷ jobs) =
     ap (λ xs. xs ++ flat_map job_signals (enumerate_from (n + 1) (map job_without_lines jobs))) (signals_of_job n job)
     ∙ (ap (λ ys. map signal_without_line (job_signals (n, job)) ++ ys) (signals_from (n + 1) jobs)
-    ∙ sym (map_of_append signal_without_line (job_signals (n, job))
+    ∙ sym (map-append signal_without_line (job_signals (n, job))
     (flat_map job_signals (enumerate_from (n + 1) jobs))))
 
 count_from : (test : Signaling → Bool) → ((x : Signaling) → test (signal_without_line x) ≡ test x) →
@@ -237,7 +233,7 @@ module _ (s : Script) where
       ap (λ v. v ∷ values_from bare (map signal_without_line before ++ signal_without_line x ∷ [])
       (map signal_without_line xs)) (same_signal_value before x)
       ∙ (ap (λ ys. signal_value s before x ∷ values_from bare ys (map signal_without_line xs))
-      (sym (map_of_append signal_without_line before (x ∷ [])))
+      (sym (map-append signal_without_line before (x ∷ [])))
       ∙ ap (λ vs. signal_value s before x ∷ vs) (same_values (before ++ x ∷ []) xs))
 
   same_value : (e : ℕ) → value_at bare e ≡ value_at s e

@@ -19,10 +19,11 @@ use Rattle.vq_model.specs.Lowering.{plan_of}
 use Rattle.vq_model.specs.Machine.{State, Step, StartStep, ApplyStep, SignalStep, FinishStep, AnswerStep, Run}
 use Rattle.vq_model.specs.Machine.{RunFrom, CanStep, after_step, with_signal, opening_state, can_start, are_reached}
 use Rattle.vq_model.specs.Machine.{is_reached, may_answer, was_since, next}
-use Rattle.vq_model.specs.Plan.{Plan, has, of_job, needs, asked, waits_for_any, commands_of, signals_of, question}
+use Rattle.vq_model.specs.Plan.{Plan, of_job, needs, asked, waits_for_any, commands_of, signals_of, question}
+use Rattle.vq_ground.specs.Lists.{has}
 use Rattle.vq_model.specs.Plan.{is_silent, chain, chain_of, value, initial}
 use Rattle.vq_model.specs.SameScript.{SameButLines}
-use Rattle.vq_model.proofs.Gets.{get-map}
+use Rattle.vq_ground.proofs.Gets.{get-map}
 use Rattle.vq_hosts_laws.proofs.SameLines.{need_without_line, op_without_line, plan_job_without_lines}
 use Rattle.vq_hosts_laws.proofs.SameLines.{plan_without_lines, same_plan}
 

@@ -5,8 +5,9 @@ use Rattle.std.specs.List.{slice_get, flat_map, enumerate_from}
 use Rattle.std.specs.Option.{option_and_then}
 use Rattle.std.proofs.lemmas.List.{length-map}
 use Rattle.std.proofs.lemmas.Bool.{cases_lt}
-use Rattle.vq_model.proofs.Gets.{get-map, get-append, get-append_left, get_within, get_some}
-use Rattle.vq_model.proofs.Options.{same_some, some_of}
+use Rattle.std.proofs.lemmas.Option.{same_Some}
+use Rattle.vq_ground.proofs.Gets.{get-map, get-append, get-append_left, get_within, get_some}
+use Rattle.vq_ground.proofs.Options.{some_of}
 use Rattle.vq_blocks.specs.declared.block.HostThread.{HostThread}
 use Rattle.vq_blocks.specs.declared.block.ThreadLine.{ThreadLine}
 use Rattle.vq_blocks.specs.declared.block.ThreadStep.{ThreadStep}
@@ -211,7 +212,7 @@ module _ (threads : List HostThread) where
   pub same_place : (t i j : ℕ) (step : ThreadStep) (u m : ℕ) (other : ThreadStep) → IsThreadStep threads t i j step →
       IsThreadStep threads u m j other → (t ≡ u) × (i ≡ m) × (step ≡ other)
   same_place t i j step u m other k l =
-      let e = same_some (t, step) (u, other) (sym (batch_of_place t i j step k) ∙ batch_of_place u m j other l) in
+      let e = same_Some (t, step) (u, other) (sym (batch_of_place t i j step k) ∙ batch_of_place u m j other l) in
       let p : t ≡ u = ap (λ (y : ℕ × ThreadStep). y.0) e in
       let s : step ≡ other = ap (λ (y : ℕ × ThreadStep). y.1) e in
       let kn = k.number in

@@ -3,10 +3,10 @@ use Rattle.std.proofs.Common.{◌≡◌, ℕ, ◌+◌, ◌<◌, ◌≤◌, ◌�
 use Rattle.std.proofs.Common.{ap, ◌∙◌, zero, suc, subst, arith}
 use Rattle.std.specs.List.{slice_get}
 use Rattle.std.proofs.lemmas.Bool.{false≢true, cases_lt, cases_eq}
+use Rattle.std.proofs.lemmas.Option.{same_Some}
 use Rattle.vq_model.specs.declared.script.Pair.{Pair}
 use Rattle.vq_model.specs.Machine.{put}
-use Rattle.vq_model.proofs.Gets.{get_within}
-use Rattle.vq_model.proofs.Options.{same_some}
+use Rattle.vq_ground.proofs.Gets.{get_within}
 use Rattle.vq_model.proofs.Puts.{put_here, put_there}
 use Rattle.vq_blocks.specs.declared.block.HostThread.{HostThread}
 use Rattle.vq_blocks.specs.declared.block.ThreadStep.{ThreadStep}
@@ -66,7 +66,7 @@ module _ (threads : List HostThread) where
   one_place t i j pair u m k other a b e =
       let p = signal_stands 0 0 steps j t pair (batch_of_place threads t i j (Signal pair) a) in
       let q = signal_stands 0 0 steps k u other (batch_of_place threads u m k (Signal other) b) in
-      let same = same_some (signal_by (0 + j) pair) (signal_by (0 + k) other) (sym p
+      let same = same_Some (signal_by (0 + j) pair) (signal_by (0 + k) other) (sym p
       ∙ (ap (slice_get (signals_of_steps 0 0 steps)) e ∙ q)) in
       let n = ap (λ x. x.job) same in
       omega arith
@@ -181,7 +181,7 @@ module _ (threads : List HostThread) where
       more_within u x e = elim (cases_eq u t) [
         | inl c ↦ (let a = ap more c ∙ put_here done t (done t + 1) in
             let w = get_within here.steps.steps i here.line here.at_place in
-            let same : x ≡ here.steps = same_some x here.steps (sym e ∙ (ap (slice_get threads) c ∙ here.of_thread)) in
+            let same : x ≡ here.steps = same_Some x here.steps (sym e ∙ (ap (slice_get threads) c ∙ here.of_thread)) in
             let v = ap (λ (y : HostThread). length y.steps) same in
             omega arith)
         | inr n ↦ (let a = put_there done t (done t + 1) u n in let b = keeps.within u x e in omega arith)

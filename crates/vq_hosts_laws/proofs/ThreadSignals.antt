@@ -5,8 +5,8 @@ use Rattle.std.specs.List.{slice_get, list_any, flat_map, enumerate_from}
 use Rattle.std.proofs.lemmas.List.Folds.{list_any-append}
 use Rattle.std.proofs.lemmas.Bool.{false≢true}
 use Rattle.vq_model.specs.declared.script.Pair.{Pair}
-use Rattle.vq_model.proofs.Gets.{get-enumerate, get-take, get-take_within}
-use Rattle.vq_model.proofs.Options.{some_of}
+use Rattle.vq_ground.proofs.Gets.{get-enumerate, get-take, get-take_within}
+use Rattle.vq_ground.proofs.Options.{some_of}
 use Rattle.vq_blocks.specs.declared.block.HostThread.{HostThread}
 use Rattle.vq_blocks.specs.declared.block.ThreadLine.{ThreadLine}
 use Rattle.vq_blocks.specs.declared.block.ThreadStep.{ThreadStep}

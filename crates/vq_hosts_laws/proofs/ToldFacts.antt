@@ -1,6 +1,6 @@
 -- What a text with blocks tells: its batches are in queues that it declares, and its threads' steps on its timelines.
 use Rattle.std.proofs.Common.{◌≡◌, ℕ, ◌+◌, ◌<◌, ◌≤◌, ◌⊎◌, inl, inr, Bool, true, false, ◌&&◌, cond, List, [], ◌∷◌}
-use Rattle.std.proofs.Common.{◌++◌, map, length, Option, Some, None, refl, sym, ap, ◌∙◌, zero, suc, subst, arith, not}
+use Rattle.std.proofs.Common.{◌++◌, map, length, Option, Some, None, refl, sym, ap, ◌∙◌, zero, suc, subst, arith}
 use Rattle.std.proofs.Common.{length-append}
 use Rattle.std.specs.Prelude.{nat_lt, Result, Ok, Err}
 use Rattle.std.specs.List.{slice_get, position_or_len, cons_option}
@@ -8,6 +8,8 @@ use Rattle.std.specs.Option.{option_map, option_map_or, option_and_then}
 use Rattle.std.specs.Str.{bytes_eq}
 use Rattle.std.proofs.lemmas.Bool.{false≢true, and_parts, ltb-true, cases_lt}
 use Rattle.std.proofs.lemmas.List.Elements.{filter_map-append}
+use Rattle.std.proofs.lemmas.Option.{same_Some}
+use Rattle.vq_ground.proofs.Positions.{at_position}
 use Rattle.vq_model.specs.declared.script.Batch.{Batch}
 use Rattle.vq_model.specs.declared.script.Job.{Job}
 use Rattle.vq_model.specs.declared.script.Job.TheVariants.{Batch as BatchJob}
@@ -27,8 +29,7 @@ use Rattle.vq_model.specs.Reading.{with_line}
 use Rattle.vq_model.specs.ScriptOfLines.{script_of, jobs_of, job_at}
 use Rattle.vq_model.specs.Signals.{is_timeline_at}
 use Rattle.vq_model.specs.Text.{numeral, words_of, lines_of}
-use Rattle.vq_model.proofs.Gets.{get-append_left, get_within}
-use Rattle.vq_model.proofs.Options.{same_some}
+use Rattle.vq_ground.proofs.Gets.{get-append_left, get_within}
 use Rattle.vq_blocks.specs.declared.block.BlockForm.{BlockForm}
 use Rattle.vq_blocks.specs.declared.block.BlockForm.TheVariants.{ThreadForm, WaitForm, SignalForm, EndForm}
 use Rattle.vq_blocks.specs.declared.block.BlockStatement.{BlockStatement}
@@ -67,10 +68,10 @@ batch_begun (line ∷ lines) j b e = by_job (job_at line lines) refl j e (batch_
         by_statement : (s : Statement) → job_at (record { number = line.number; statement = s }) lines
             ≡ Some (BatchJob b) → begun s ≡ Some b.queue
         by_statement (BeginBatch q) g =
-            let c = same_some _ (BatchJob b) g in
+            let c = same_Some _ (BatchJob b) g in
             let d : q ≡ b.queue = cc in
             ap Some d
-        by_statement (TakeHostStep step) g = absurd (let c = same_some _ (BatchJob b) g in cc)
+        by_statement (TakeHostStep step) g = absurd (let c = same_Some _ (BatchJob b) g in cc)
         by_statement other g = absurd (let c : None ≡ Some (BatchJob b) = g in cc)
 
     by_job : (o : Option Job) → job_at line lines ≡ o → (k : ℕ) → slice_get (cons_option o (jobs_of lines)) k
@@ -80,7 +81,7 @@ batch_begun (line ∷ lines) j b e = by_job (job_at line lines) refl j e (batch_
         (i : ℕ) × (x : Line) × (slice_get (line ∷ lines) i ≡ Some x) × (begun x.statement ≡ Some b.queue)
     by_job None is k e later = let r = later k b e in (suc r.0, r.1, r.2, r.3)
     by_job (Some job) is zero e later = let c : job ≡ BatchJob b =
-        same_some job (BatchJob b) e in (0, line, refl, here job is c)
+        same_Some job (BatchJob b) e in (0, line, refl, here job is c)
     by_job (Some job) is (suc k) e later = let r = later k b e in (suc r.0, r.1, r.2, r.3)
 
 -- one line more
@@ -102,7 +103,7 @@ begin_push before n s below this i line q e f = by_place (cases_lt i (length bef
         by_list : (ys : List Line) (k : ℕ) → slice_get (ys ++ record { number = n; statement = s } ∷ []) k
             ≡ Some line → length ys ≤ k → line.statement ≡ s
         by_list [] zero g l = let c : record { number = n; statement = s } ≡ line =
-            same_some _ line g in ap (λ (x : Line). x.statement) (sym c)
+            same_Some _ line g in ap (λ (x : Line). x.statement) (sym c)
         by_list [] (suc k) g l = absurd (let c : None ≡ Some line = g in cc)
         by_list (y ∷ ys) zero g l = absurd (omega arith)
         by_list (y ∷ ys) (suc k) g l = by_list ys k g (omega arith)
@@ -118,21 +119,6 @@ begin_push before n s below this i line q e f = by_place (cases_lt i (length bef
         omega arith
 
 -- Timelines
-
--- a position is where an item stands that passes
-at_position : {X : Type 0} (test : X → Bool) (xs : List X) → position_or_len test xs < length xs →
-    (x : X) × (slice_get xs (position_or_len test xs) ≡ Some x) × (test x ≡ true)
-at_position test [] l = absurd (omega arith)
-at_position {X} test (x ∷ xs) l = by_test (test x) refl l (at_position test xs)
-  where
-    by_test : (b : Bool) → test x ≡ b → cond (not b) (1 + position_or_len test xs) 0 < suc (length xs) →
-        (position_or_len test xs < length xs → (y : X) × (slice_get xs (position_or_len test xs) ≡ Some y)
-        × (test y ≡ true)) →
-        (y : X) × (slice_get (x ∷ xs) (cond (not b) (1 + position_or_len test xs) 0) ≡ Some y) × (test y ≡ true)
-    by_test true e m later = (x, refl, e)
-    by_test false e m later =
-        let n : suc (position_or_len test xs) ≡ 1 + position_or_len test xs = omega arith in
-        subst (λ (k : ℕ). (y : X) × (slice_get (x ∷ xs) k ≡ Some y) × (test y ≡ true)) n (later (omega arith))
 
 -- a timeline that is named
 named_timeline : (before : List Line) (name : List ℕ) (t : ℕ) → number_at before TimelineName name ≡ Some t →
@@ -152,7 +138,7 @@ named_timeline before name t h =
         let l = ltb-true (position_or_len (λ x. bytes_eq name x.name && is_timeline x.kind) (semaphores before))
         (length (semaphores before)) e in
         let a = at_position (λ x. bytes_eq name x.name && is_timeline x.kind) (semaphores before) l in
-        let same = same_some (position_or_len (λ x. bytes_eq name x.name && is_timeline x.kind) (semaphores before)) t
+        let same = same_Some (position_or_len (λ x. bytes_eq name x.name && is_timeline x.kind) (semaphores before)) t
         g in
         ap (λ o. option_map_or is_timeline (option_map (λ x. x.kind) o) false)
         (ap (slice_get (semaphores before)) (sym same) ∙ a.1)
@@ -225,13 +211,13 @@ each_stays before n s (x ∷ xs) h = (each_step_stays before n s x.steps h.0, ea
 each_at : (s : Script) (xs : List HostThread) (t : ℕ) (x : HostThread) → EachThread s xs → slice_get xs t ≡ Some x →
     EachStep s x.steps
 each_at s [] t x h e = absurd (let c : None ≡ Some x = e in cc)
-each_at s (y ∷ xs) zero x h e = let same = same_some y x e in subst (λ (z : HostThread). EachStep s z.steps) same h.0
+each_at s (y ∷ xs) zero x h e = let same = same_Some y x e in subst (λ (z : HostThread). EachStep s z.steps) same h.0
 each_at s (y ∷ xs) (suc t) x h e = each_at s xs t x h.1 e
 
 step_at : (s : Script) (xs : List ThreadLine) (i : ℕ) (x : ThreadLine) → EachStep s xs → slice_get xs i ≡ Some x →
     IsOnTimelines s x.step
 step_at s [] i x h e = absurd (let c : None ≡ Some x = e in cc)
-step_at s (y ∷ xs) zero x h e = let same = same_some y x e in subst (λ (z : ThreadLine). IsOnTimelines s z.step) same
+step_at s (y ∷ xs) zero x h e = let same = same_Some y x e in subst (λ (z : ThreadLine). IsOnTimelines s z.step) same
     h.0
 step_at s (y ∷ xs) (suc i) x h e = step_at s xs i x h.1 e
 
@@ -247,13 +233,13 @@ pair_named before name value p h = by_number (number_at before TimelineName name
     by_number None v e g = absurd (let c : None ≡ Some p = g in cc)
     by_number (Some t) None e g = absurd (let c : None ≡ Some p = g in cc)
     by_number (Some t) (Some v) e g =
-        let c : record { semaphore = t; value = v } ≡ p = same_some _ p g in
+        let c : record { semaphore = t; value = v } ≡ p = same_Some _ p g in
         ap (λ (x : Pair). is_timeline_at (script_of before) x.semaphore) (sym c) ∙ named_timeline before name t e
 
 pairs_named : (before : List Line) (words : List (List ℕ)) (ps : List Pair) → pairs_at (number_at before) words
     ≡ Some ps → AreTimelines (script_of before) ps
-pairs_named before [] ps h = let c = same_some [] ps h in subst (AreTimelines (script_of before)) c tt
-pairs_named before (a ∷ []) ps h = let c = same_some [] ps h in subst (AreTimelines (script_of before)) c tt
+pairs_named before [] ps h = let c = same_Some [] ps h in subst (AreTimelines (script_of before)) c tt
+pairs_named before (a ∷ []) ps h = let c = same_Some [] ps h in subst (AreTimelines (script_of before)) c tt
 pairs_named before (a ∷ b ∷ words) ps h = by_pair (pair_at (number_at before) a b) (pairs_at (number_at before) words)
     refl h (pairs_named before words)
   where
@@ -263,12 +249,12 @@ pairs_named before (a ∷ b ∷ words) ps h = by_pair (pair_at (number_at before
     by_pair None q e g later = absurd (let c : None ≡ Some ps = g in cc)
     by_pair (Some p) None e g later = absurd (let c : None ≡ Some ps = g in cc)
     by_pair (Some p) (Some qs) e g later =
-        let c = same_some (p ∷ qs) ps g in
+        let c = same_Some (p ∷ qs) ps g in
         subst (AreTimelines (script_of before)) c (pair_named before a b p e, later qs refl)
 
 step_said : (before : List Line) (form : BlockForm) (words : List (List ℕ)) (step : ThreadStep) →
     block_statement (number_at before) form words ≡ Some (TakeStep step) → IsOnTimelines (script_of before) step
-step_said before ThreadForm (name ∷ []) step h = absurd (let c = same_some (BeginThread name) (TakeStep step) h in cc)
+step_said before ThreadForm (name ∷ []) step h = absurd (let c = same_Some (BeginThread name) (TakeStep step) h in cc)
 step_said before ThreadForm words step h = absurd (let c : None ≡ Some (TakeStep step) = h in cc)
 step_said before WaitForm words step h = by_pairs (pairs_at (number_at before) words) refl h
   where
@@ -276,7 +262,7 @@ step_said before WaitForm words step h = by_pairs (pairs_at (number_at before) w
         option_map (λ ps. TakeStep (Wait ps)) o ≡ Some (TakeStep step) → IsOnTimelines (script_of before) step
     by_pairs None e g = absurd (let c : None ≡ Some (TakeStep step) = g in cc)
     by_pairs (Some ps) e g =
-        let c = same_some (TakeStep (Wait ps)) (TakeStep step) g in
+        let c = same_Some (TakeStep (Wait ps)) (TakeStep step) g in
         let d : Wait ps ≡ step = cc in
         subst (IsOnTimelines (script_of before)) d (pairs_named before words ps e, tt)
 step_said before SignalForm (name ∷ value ∷ []) step h = by_pair (pair_at (number_at before) name value) refl h
@@ -285,11 +271,11 @@ step_said before SignalForm (name ∷ value ∷ []) step h = by_pair (pair_at (n
         ≡ Some (TakeStep step) → IsOnTimelines (script_of before) step
     by_pair None e g = absurd (let c : None ≡ Some (TakeStep step) = g in cc)
     by_pair (Some p) e g =
-        let c = same_some (TakeStep (Signal p)) (TakeStep step) g in
+        let c = same_Some (TakeStep (Signal p)) (TakeStep step) g in
         let d : Signal p ≡ step = cc in
         subst (IsOnTimelines (script_of before)) d (tt, (pair_named before name value p e, tt))
 step_said before SignalForm words step h = absurd (let c : None ≡ Some (TakeStep step) = h in cc)
-step_said before EndForm [] step h = absurd (let c = same_some EndThread (TakeStep step) h in cc)
+step_said before EndForm [] step h = absurd (let c = same_Some EndThread (TakeStep step) h in cc)
 step_said before EndForm words step h = absurd (let c : None ≡ Some (TakeStep step) = h in cc)
 
 -- Reading

@@ -2,13 +2,12 @@
 use Rattle.std.proofs.Common.{◌≡◌, ℕ, Bool, true, false, not, cond, List, [], ◌∷◌, ◌++◌, filter, take, drop, get_or, length, suc, ◌+◌, ◌<◌, ◌≤◌, refl, sym, ap, ◌∙◌, arith}
 use Rattle.std.specs.Prelude.{◌==◌, ◌&&◌, nat_le}
 use Rattle.std.specs.List.{list_all, slice_split, onto_first, position_or_len}
-use Rattle.std.proofs.lemmas.Bool.{and_parts}
+use Rattle.std.proofs.lemmas.Bool.{and_parts, not-true}
 use Rattle.std.proofs.lemmas.Bool.Decides.{nat_tests}
 use Rattle.std.proofs.lemmas.List.{append_assoc, append-nil, drop_all}
 use Rattle.std.proofs.Math.Seq.{drop-cons, take-suc}
 use Rattle.std.proofs.lemmas.List.Folds.{list_all-append}
 use Rattle.vq_model.specs.Text.{is_blank, is_plain, is_some_word, words_in, without_comment}
-use Rattle.vq_model.proofs.Bools.{not_true}
 use Rattle.vq_lexer.specs.Words.{some_word}
 
 abbrev pub is_hash : ℕ → Bool
@@ -32,7 +31,7 @@ no_hash b h = by_test (is_hash b) refl
     by_test false e = refl
 
 -- what a line holds up to its comment, byte by byte
-comment_here : (b : ℕ) (bs : List ℕ) → is_hash b ≡ true → without_comment (b ∷ bs) ≡ []
+pub comment_here : (b : ℕ) (bs : List ℕ) → is_hash b ≡ true → without_comment (b ∷ bs) ≡ []
 comment_here b bs h = rw h refl
 
 pub comment_later : (b : ℕ) (bs : List ℕ) → is_hash b ≡ false → without_comment (b ∷ bs) ≡ b ∷ without_comment bs
@@ -45,7 +44,7 @@ whole : (word : List ℕ) → list_all is_solid word ≡ true → slice_split is
 whole [] h = refl
 whole (b ∷ bs) h =
     let parts = and_parts (is_solid b) (list_all is_solid bs) h in
-    ap (λ t. cond t ([] ∷ slice_split is_blank bs) (onto_first b (slice_split is_blank bs))) (not_true (is_blank b) parts.0)
+    ap (λ t. cond t ([] ∷ slice_split is_blank bs) (onto_first b (slice_split is_blank bs))) (not-true (is_blank b) parts.0)
     ∙ ap (onto_first b) (whole bs parts.1)
 
 before_blank : (word : List ℕ) (b : ℕ) (rest : List ℕ) → list_all is_solid word ≡ true → is_blank b ≡ true →
@@ -54,7 +53,7 @@ before_blank [] b rest h e = ap (λ t. cond t ([] ∷ slice_split is_blank rest)
 before_blank (x ∷ word) b rest h e =
     let parts = and_parts (is_solid x) (list_all is_solid word) h in
     ap (λ t. cond t ([] ∷ slice_split is_blank (word ++ b ∷ rest)) (onto_first x (slice_split is_blank (word ++ b ∷ rest))))
-    (not_true (is_blank x) parts.0)
+    (not-true (is_blank x) parts.0)
     ∙ ap (onto_first x) (before_blank word b rest parts.1 e)
 
 -- a part is kept if it has a byte

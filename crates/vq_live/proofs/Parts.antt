@@ -1,28 +1,17 @@
 -- The points are parted.
-use Rattle.std.proofs.Common.{◌≡◌, ℕ, zero, suc, ◌+◌, ◌<◌, ◌≤◌, Bool, true, false, not, List, [], ◌∷◌, length, set, refl, sym, ◌∙◌, ap, arith, subst}
+use Rattle.std.proofs.Common.{◌≡◌, ℕ, ◌+◌, ◌<◌, ◌≤◌, Bool, true, false, not, List, [], ◌∷◌, length, set, refl, ◌∙◌, ap, arith, subst}
 use Rattle.std.specs.Prelude.{◌==◌, ◌&&◌, ◌||◌}
 use Rattle.std.proofs.lemmas.Bool.Decides.{nat_tests}
+use Rattle.std.proofs.lemmas.Bool.{or_parts, eqb-true}
+use Rattle.vq_ground.proofs.Bools.{same_tests}
 use Rattle.vq_live.specs.declared.answers.Given.{Given}
 use Rattle.vq_live.specs.declared.answers.Slot.{Slot}
 use Rattle.vq_live.specs.Live.{Live, KeepsLive, KeepsFree, AreOut, AreIdle, IsUnused, CarryOnce, IsAbsent, AreDistinct, slot_at, no_slot, is_out, is_idle, is_only_held, one_if, count_of, carries, is_among, AreParted}
 use Rattle.vq_live.specs.Calls.{busy}
 use Rattle.vq_live.proofs.Slots.{idle_set, out_unused, count_set}
 
-is_equal : (a b : ℕ) → (a == b) ≡ true → a ≡ b
-is_equal a b e = grind (arith, nat_tests)
-
 isnt_equal : (a b : ℕ) → (a == b) ≡ false → a ≡ b → ⊥
 isnt_equal a b e = grind (arith, nat_tests)
-
-neither : (a b : Bool) → (a || b) ≡ false → (a ≡ false) × (b ≡ false)
-neither true b h = absurd (cc)
-neither false b h = (refl, h)
-
-pub bool_same : (a b : Bool) → (a ≡ true → b ≡ true) → (b ≡ true → a ≡ true) → a ≡ b
-bool_same true true f g = refl
-bool_same true false f g = let h = f refl in absurd (cc)
-bool_same false true f g = let h = g refl in absurd (cc)
-bool_same false false f g = refl
 
 -- distinct idle points are at most all idle ones, and points of operations at most those that are out
 count_most : (slots : List Slot) (xs : List ℕ) → AreIdle slots xs → AreDistinct xs → length xs ≤ count_of is_idle slots
@@ -45,13 +34,13 @@ out_most slots (x ∷ xs) h c =
 absent_of : (p : ℕ) (free : List ℕ) → is_among free p ≡ false → IsAbsent p free
 absent_of p [] h = tt
 absent_of p (x ∷ xs) h =
-    let both = neither (x == p) (is_among xs p) h in
+    let both = or_parts (x == p) (is_among xs p) h in
     (isnt_equal x p both.0, absent_of p xs both.1)
 
 unused_of : (p : ℕ) (ops : List Given) → carries ops p ≡ false → IsUnused p ops
 unused_of p [] h = tt
 unused_of p (x ∷ xs) h =
-    let both = neither (x.point == p) (carries xs p) h in
+    let both = or_parts (x.point == p) (carries xs p) h in
     (isnt_equal x.point p both.0, unused_of p xs both.1)
 
 -- each point is where its slot says
@@ -60,7 +49,7 @@ among_idle slots [] p h e = absurd (cc)
 among_idle slots (x ∷ xs) p h e = by_test (x == p) refl e (among_idle slots xs p h.1.1)
   where
     by_test : (b : Bool) → (x == p) ≡ b → (b || is_among xs p) ≡ true → (is_among xs p ≡ true → is_idle (slot_at slots p) ≡ true) → is_idle (slot_at slots p) ≡ true
-    by_test true q r rest = subst (λ (n : ℕ). is_idle (slot_at slots n) ≡ true) (is_equal x p q) h.1.0
+    by_test true q r rest = subst (λ (n : ℕ). is_idle (slot_at slots n) ≡ true) (eqb-true x p q) h.1.0
     by_test false q r rest = rest r
 
 idle_among : (slots : List Slot) (free : List ℕ) (p : ℕ) → KeepsFree slots free → p < length slots → is_idle (slot_at slots p) ≡ true → is_among free p ≡ true
@@ -78,7 +67,7 @@ carried_out slots [] p h e = absurd (cc)
 carried_out slots (x ∷ xs) p h e = by_test (x.point == p) refl e (carried_out slots xs p h.1.1)
   where
     by_test : (b : Bool) → (x.point == p) ≡ b → (b || carries xs p) ≡ true → (carries xs p ≡ true → (slot_at slots p).out ≡ true) → (slot_at slots p).out ≡ true
-    by_test true q r rest = subst (λ (n : ℕ). (slot_at slots n).out ≡ true) (is_equal x.point p q) h.1.0
+    by_test true q r rest = subst (λ (n : ℕ). (slot_at slots n).out ≡ true) (eqb-true x.point p q) h.1.0
     by_test false q r rest = rest r
 
 out_carried : (t : Live) (p : ℕ) → KeepsLive t → p < length t.slots → (slot_at t.slots p).out ≡ true → carries t.ops p ≡ true
@@ -105,6 +94,6 @@ slot_parts s = by_out s.out (s.refs == 0)
 pub parted : (t : Live) → KeepsLive t → AreParted t
 parted t k p l =
     let s = slot_at t.slots p in
-    let carried = bool_same (carries t.ops p) s.out (carried_out t.slots t.ops p k.out) (out_carried t p k l) in
-    let free = bool_same (is_among t.free p) (is_idle s) (among_idle t.slots t.free p k.points.idle) (idle_among t.slots t.free p k.points l) in
+    let carried = same_tests (carries t.ops p) s.out (carried_out t.slots t.ops p k.out) (out_carried t p k l) in
+    let free = same_tests (is_among t.free p) (is_idle s) (among_idle t.slots t.free p k.points.idle) (idle_among t.slots t.free p k.points l) in
     (λ i. one_if (carried i) + one_if (is_only_held s) + one_if (free i)) ∙ slot_parts s

@@ -7,6 +7,7 @@ use Rattle.std.proofs.lemmas.Bool.Decides.{nat_tests}
 use Rattle.std.proofs.lemmas.List.Edits.{length-remove}
 use Rattle.std.proofs.lemmas.Option.{slice_get_within, slice_get_read}
 use Rattle.std.proofs.lemmas.List.{get_or_read}
+use Rattle.std.proofs.lemmas.Bool.{ne_eqb, eq-eqb}
 use Rattle.vq_live.specs.declared.answers.Given.{Given}
 use Rattle.vq_live.specs.declared.answers.Slot.{Slot}
 use Rattle.vq_live.specs.declared.answers.CancelFault.TheVariants as cancel_as
@@ -79,21 +80,15 @@ remove_front (suc n) (suc k) [] l = refl
 remove_front (suc n) (suc k) (x ∷ xs) l = ap (λ (zs : List Given). x ∷ zs) (remove_front n k xs (omega arith))
 
 -- it is the one with its value
-same_of : (a b : ℕ) → a ≡ b → (a == b) ≡ true
-same_of a b e = grind (arith, nat_tests)
-
-apart : (a b : ℕ) → ((a ≡ b) → ⊥) → (a == b) ≡ false
-apart a b n = grind (arith, nat_tests)
-
 removed_is : (n k : ℕ) (xs : List Given) (y : Given) → RisesFrom n xs → slice_get xs k ≡ Some y → remove xs k ≡ without y xs
 removed_is n k [] y h g = absurd (cc)
 removed_is n zero (x ∷ xs) y h g =
     let same : x ≡ y = cc in
-    sym (ap (λ (b : Bool). if b then xs else x ∷ without y xs) (same_of x.value y.value (ap (λ (z : Given). z.value) same)))
+    sym (ap (λ (b : Bool). if b then xs else x ∷ without y xs) (eq-eqb x.value y.value (ap (λ (z : Given). z.value) same)))
 removed_is n (suc k) (x ∷ xs) y h g =
     let more = at_rises x.value k xs y h.1 g in
     ap (λ (zs : List Given). x ∷ zs) (removed_is x.value k xs y h.1 g)
-    ∙ sym (ap (λ (b : Bool). if b then xs else x ∷ without y xs) (apart x.value y.value (λ e. absurd (omega arith))))
+    ∙ sym (ap (λ (b : Bool). if b then xs else x ∷ without y xs) (ne_eqb x.value y.value (λ e. absurd (omega arith))))
 
 -- what is pending stands in front of it
 front_left : (m n k : ℕ) (xs : List Given) (y : Given) → RisesFrom m xs → last_value m (take n xs) < y.value → slice_get xs k ≡ Some y → n ≤ k
@@ -109,8 +104,8 @@ front_left m (suc n) (suc k) (x ∷ xs) y h l g = let rest = front_left x.value 
 -- which operation is the same
 same_both : (x y : Given) → x ≡ y → is_same x y ≡ true
 same_both x y e =
-    ap (λ (b : Bool). b && (x.point == y.point)) (same_of x.value y.value (ap (λ (z : Given). z.value) e))
-    ∙ same_of x.point y.point (ap (λ (z : Given). z.point) e)
+    ap (λ (b : Bool). b && (x.point == y.point)) (eq-eqb x.value y.value (ap (λ (z : Given). z.value) e))
+    ∙ eq-eqb x.point y.point (ap (λ (z : Given). z.point) e)
 
 same_is : (x y : Given) → is_same x y ≡ true → x ≡ y
 same_is x y e = by_value (x.value == y.value) refl e
@@ -142,7 +137,7 @@ any_place (x ∷ xs) y h = by_test (is_same x y) refl h (any_place xs y)
     by_test false e q r = let rest = r q in (suc rest.0, rest.1)
 
 other_value : (x y : Given) → ((x.value ≡ y.value) → ⊥) → is_same x y ≡ false
-other_value x y n = ap (λ (b : Bool). b && (x.point == y.point)) (apart x.value y.value n)
+other_value x y n = ap (λ (b : Bool). b && (x.point == y.point)) (ne_eqb x.value y.value n)
 
 above_none : (y : Given) (n : ℕ) (xs : List Given) → y.value ≤ n → RisesFrom n xs → list_any (λ x. is_same x y) xs ≡ false
 above_none y n [] l h = refl
@@ -169,7 +164,7 @@ other_value_at xs k x y d l e n = ap (λ (z : Given). is_same z y) (sym (get_or_
 pub other_point_at : (xs : List Given) (k : ℕ) (x y d : Given) → k < length xs → x ≡ get_or xs k x → ((x.point ≡ y.point) → ⊥) → is_same (get_or xs k d) y ≡ false
 other_point_at xs k x y d l e n =
     ap (λ (z : Given). is_same z y) (sym (get_or_read xs k x l e d))
-    ∙ ap (λ (b : Bool). (x.value == y.value) && b) (apart x.point y.point n)
+    ∙ ap (λ (b : Bool). (x.value == y.value) && b) (ne_eqb x.point y.point n)
     ∙ and_false (x.value == y.value)
   where
     and_false : (b : Bool) → (b && false) ≡ false

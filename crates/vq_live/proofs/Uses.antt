@@ -1,39 +1,28 @@
 -- When a point is given again, and how many points are made.
-use Rattle.std.proofs.Common.{◌≡◌, ℕ, zero, suc, ◌+◌, ◌-◌, ◌<◌, ◌≤◌, Bool, true, false, not, List, [], ◌∷◌, ◌++◌, length, set, drop, Some, None, refl, sym, ◌∙◌, ap, arith, subst, ◌⊎◌, inl, inr}
+use Rattle.std.proofs.Common.{◌≡◌, ℕ, zero, suc, ◌+◌, ◌-◌, ◌<◌, ◌≤◌, Bool, true, false, not, List, [], ◌∷◌, ◌++◌, length, set, drop, refl, sym, ◌∙◌, ap, arith, subst, ◌⊎◌, inl, inr}
 use Rattle.std.specs.Prelude.{◌==◌, ◌&&◌, if◌then◌else◌}
-use Rattle.std.proofs.lemmas.Bool.{cases_eq}
-use Rattle.std.proofs.lemmas.Bool.Decides.{nat_tests}
-use Rattle.std.proofs.lemmas.List.{get_or-set_same, get_or-set_other, get_or_past, length-set, length-append}
+use Rattle.std.proofs.lemmas.Bool.{cases_eq, ne_eqb, eqb-true, eq-eqb}
+use Rattle.std.proofs.lemmas.List.{get_or-set_same, get_or-set_other, get_or_past, length-set}
+use Rattle.vq_ground.proofs.Bools.{same_tests}
 use Rattle.vq_live.specs.declared.answers.Given.{Given}
 use Rattle.vq_live.specs.declared.answers.Slot.{Slot}
 use Rattle.vq_live.specs.Live.{Live, KeepsLive, AreOut, AreIdle, opened, slot_at, no_slot, is_idle, one_if, count_of}
 use Rattle.vq_live.specs.Calls.{point_from, next_point, slots_from, busy, done_slot, after_take, after_complete}
 use Rattle.vq_live.specs.Runs.{Event, taking, installing, completing, cancelling, referring, returning, signaling, MayCome, after, IsRun, after_all, refers, returns_it, times, carried_after, is_carried, IsLeft, is_used, used_count, UsesAtMost}
-use Rattle.vq_live.proofs.Parts.{bool_same}
 use Rattle.vq_live.proofs.Removing.{may_cancel, at_out}
 use Rattle.vq_live.proofs.Runs.{opened_keeps, out_exists, held_exists, refer_out, complete_gives, event_keeps, run_keeps}
 
--- what a test of numbers says
-same_of : (a b : ℕ) → a ≡ b → (a == b) ≡ true
-same_of a b e = grind (arith, nat_tests)
-
-apart : (a b : ℕ) → ((a ≡ b) → ⊥) → (a == b) ≡ false
-apart a b n = grind (arith, nat_tests)
-
-equal_of : (a b : ℕ) → (a == b) ≡ true → a ≡ b
-equal_of a b e = grind (arith, nat_tests)
-
 suc_eq : (a b : ℕ) → (a == b) ≡ (suc a == suc b)
 suc_eq a b =
-    bool_same (a == b) (suc a == suc b) (λ e. same_of (suc a) (suc b) (ap suc (equal_of a b e)))
-    (λ e. let q = equal_of (suc a) (suc b) e in same_of a b (omega arith))
+    same_tests (a == b) (suc a == suc b) (λ e. eq-eqb (suc a) (suc b) (ap suc (eqb-true a b e)))
+    (λ e. let q = eqb-true (suc a) (suc b) e in eq-eqb a b (omega arith))
 
 -- an idle slot
 idle_is : (s : Slot) → is_idle s ≡ true → (s.refs ≡ 0) × (s.out ≡ false)
 idle_is s e = by_refs (s.refs == 0) refl s.out refl e
   where
     by_refs : (r : Bool) → (s.refs == 0) ≡ r → (o : Bool) → s.out ≡ o → (r && not o) ≡ true → (s.refs ≡ 0) × (s.out ≡ false)
-    by_refs true r false o q = (equal_of s.refs 0 r, o)
+    by_refs true r false o q = (eqb-true s.refs 0 r, o)
     by_refs true r true o q = absurd (cc)
     by_refs false r o p q = absurd (cc)
 
@@ -47,9 +36,9 @@ read_after slots q p s l = by_point (cases_eq p q)
   where
     by_point : (p ≡ q) ⊎ (p ≡ q → ⊥) → Read slots q p s
     by_point (inl same) =
-        here (same_of q p (sym same)) (ap (λ (n : ℕ). slot_at (set slots q s) n) same ∙ get_or-set_same slots q s no_slot l)
+        here (eq-eqb q p (sym same)) (ap (λ (n : ℕ). slot_at (set slots q s) n) same ∙ get_or-set_same slots q s no_slot l)
         (ap (slot_at slots) (sym same))
-    by_point (inr other) = there (apart q p (λ e. other (sym e))) (get_or-set_other slots q p s no_slot other)
+    by_point (inr other) = there (ne_eqb q p (λ e. other (sym e))) (get_or-set_other slots q p s no_slot other)
 
 -- a fresh point
 more_refs : (slots : List Slot) (p : ℕ) → (slot_at (slots ++ busy ∷ []) p).refs ≡ (slot_at slots p).refs
@@ -60,8 +49,8 @@ more_refs (x ∷ xs) (suc p) = more_refs xs p
 
 more_out : (slots : List Slot) (p : ℕ) → (slot_at (slots ++ busy ∷ []) p).out ≡ (if length slots == p then true else (slot_at slots p).out)
 more_out [] zero = refl
-more_out [] (suc p) = sym (ap (λ (b : Bool). if b then true else false) (apart 0 (suc p) (λ e. absurd (omega arith))))
-more_out (x ∷ xs) zero = sym (ap (λ (b : Bool). if b then true else x.out) (apart (suc (length xs)) 0 (λ e. absurd (omega arith))))
+more_out [] (suc p) = sym (ap (λ (b : Bool). if b then true else false) (ne_eqb 0 (suc p) (λ e. absurd (omega arith))))
+more_out (x ∷ xs) zero = sym (ap (λ (b : Bool). if b then true else x.out) (ne_eqb (suc (length xs)) 0 (λ e. absurd (omega arith))))
 more_out (x ∷ xs) (suc p) = more_out xs p ∙ ap (λ (b : Bool). if b then true else (slot_at xs p).out) (suc_eq (length xs) p)
 
 -- what a write leaves of a point's references, and of whether it is out

@@ -2,6 +2,7 @@
 use Rattle.std.proofs.Common.{◌≡◌, ℕ, zero, suc, ◌<◌, ◌≤◌, Bool, true, false, List, [], ◌∷◌, length, get_or, take, refl, sym, ◌∙◌, ap, arith}
 use Rattle.std.specs.Prelude.{◌==◌, ◌||◌, nat_lt, if◌then◌else◌}
 use Rattle.std.proofs.lemmas.Bool.Decides.{nat_tests}
+use Rattle.vq_ground.proofs.Tests.{below_test}
 use Rattle.vq_live.specs.declared.answers.Given.{Given}
 use Rattle.std.specs.List.{list_any, insert}
 use Rattle.std.specs.List.Sorted.{IsPartitionPoint, IsPartitionedBy}
@@ -111,13 +112,10 @@ searched xs v k p = (
     least_test a b t = grind (arith, nat_tests)
 
 -- what is pending stays in front of a greater value
-less_is : (a b : ℕ) → a < b → nat_lt a b ≡ true
-less_is a b l = grind (arith, nat_tests)
-
 pub keep_front : (y : Given) (m n : ℕ) (ops : List Given) → RisesFrom m ops → n ≤ length ops → last_value m (take n ops) < y.value → take n (placed y ops) ≡ take n ops
 keep_front y m zero ops h l a = refl
 keep_front y m (suc n) [] h l a = absurd (omega arith)
 keep_front y m (suc n) (x ∷ xs) h l a =
     let low = last_above x.value n xs h.1 in
-    ap (λ (b : Bool). take (suc n) (if b then x ∷ placed y xs else y ∷ x ∷ xs)) (less_is x.value y.value (omega arith))
+    ap (λ (b : Bool). take (suc n) (if b then x ∷ placed y xs else y ∷ x ∷ xs)) (below_test x.value y.value (omega arith))
     ∙ ap (λ (zs : List Given). x ∷ zs) (keep_front y x.value n xs h.1 (omega arith) a)

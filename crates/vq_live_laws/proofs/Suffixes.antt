@@ -1,10 +1,13 @@
 -- The operations of a chain's rest, with the values and the points of that rest.
-use Rattle.std.proofs.Common.{◌≡◌, ℕ, zero, suc, ◌+◌, ◌<◌, ◌≤◌, Bool, true, false, List, [], ◌∷◌, length, get_or, set, take, drop, map, Option, Some, None, refl, ◌∙◌, ap, arith}
+use Rattle.std.proofs.Common.{◌≡◌, ℕ, zero, suc, ◌+◌, ◌<◌, ◌≤◌, Bool, false, List, [], ◌∷◌, length, get_or, set, take, drop, map, Option, Some, None, refl, ◌∙◌, ap, arith}
 use Rattle.std.specs.Prelude.{◌==◌, ◌||◌, nat_lt, if◌then◌else◌}
 use Rattle.std.specs.List.{list_any, slice_get}
 use Rattle.std.proofs.lemmas.Bool.Decides.{nat_tests}
 use Rattle.std.proofs.lemmas.List.{drop_more}
-use Rattle.vq_points.specs.Timeline.{entries_from, AreRisingFrom}
+use Rattle.std.proofs.lemmas.Bool.{ne_eqb}
+use Rattle.vq_ground.proofs.Tests.{below_test}
+use Rattle.vq_point_laws.specs.Timeline.{entries_from}
+use Rattle.vq_ground.specs.Lists.{AreRisingFrom}
 use Rattle.vq_live.specs.declared.answers.Given.{Given}
 use Rattle.vq_live.specs.Live.{last_value}
 use Rattle.vq_live.specs.Calls.{placed}
@@ -29,14 +32,8 @@ have_first (suc n) [] h = h 0 (omega arith) refl
 have_first (suc n) (None ∷ ps) h = h 0 (omega arith) refl
 have_first (suc n) (Some p ∷ ps) h = have_first n ps (λ j l. h (suc j) (omega arith))
 
-less_is : (a b : ℕ) → a < b → nat_lt a b ≡ true
-less_is a b l = grind (arith, nat_tests)
-
 not_less : (a b : ℕ) → b < a → nat_lt a b ≡ false
 not_less a b l = grind (arith, nat_tests)
-
-apart : (a b : ℕ) → ((a ≡ b) → ⊥) → (a == b) ≡ false
-apart a b n = grind (arith, nat_tests)
 
 -- values that rise
 pub rising_at : (n : ℕ) (vs : List ℕ) (k : ℕ) → AreRisingFrom n vs → k < length vs → n < get_or vs k 0
@@ -69,7 +66,7 @@ put_in n (v ∷ vs) (Some q ∷ ps) (suc k) p h l m e =
     let more = rising_at v vs k h.1 (omega arith) in
     let x : Given = record { value = v; point = q } in
     let y : Given = record { value = get_or vs k 0; point = p } in
-    ap (λ (b : Bool). if b then x ∷ placed y (zipped vs ps) else y ∷ x ∷ zipped vs ps) (less_is v (get_or vs k 0) more)
+    ap (λ (b : Bool). if b then x ∷ placed y (zipped vs ps) else y ∷ x ∷ zipped vs ps) (below_test v (get_or vs k 0) more)
     ∙ ap (λ (xs : List Given). x ∷ xs) (put_in v vs ps k p h.1 (omega arith) (omega arith) e)
 
 -- its value isn't there before
@@ -79,7 +76,7 @@ above_all w n (v ∷ vs) [] l h = refl
 above_all w n (v ∷ vs) (None ∷ ps) l h = let first = h.0 in above_all w v vs ps (omega arith) h.1
 above_all w n (v ∷ vs) (Some p ∷ ps) l h =
     let first = h.0 in
-    ap (λ (b : Bool). b || list_any (λ x. x.value == w) (zipped vs ps)) (apart v w (λ e. absurd (omega arith)))
+    ap (λ (b : Bool). b || list_any (λ x. x.value == w) (zipped vs ps)) (ne_eqb v w (λ e. absurd (omega arith)))
     ∙ above_all w v vs ps (omega arith) h.1
 
 pub value_new : (n : ℕ) (vs : List ℕ) (ps : List (Option ℕ)) (k : ℕ) → AreRisingFrom n vs → k < length vs → get_or ps k None ≡ None → list_any (λ x. x.value == get_or vs k 0) (zipped vs ps) ≡ false
@@ -90,7 +87,7 @@ value_new n (v ∷ vs) (Some q ∷ ps) zero h l e = absurd (cc)
 value_new n (v ∷ vs) (None ∷ ps) (suc k) h l e = value_new v vs ps k h.1 (omega arith) e
 value_new n (v ∷ vs) (Some q ∷ ps) (suc k) h l e =
     let more = rising_at v vs k h.1 (omega arith) in
-    ap (λ (b : Bool). b || list_any (λ x. x.value == get_or vs k 0) (zipped vs ps)) (apart v (get_or vs k 0) (λ d. absurd (omega arith)))
+    ap (λ (b : Bool). b || list_any (λ x. x.value == get_or vs k 0) (zipped vs ps)) (ne_eqb v (get_or vs k 0) (λ d. absurd (omega arith)))
     ∙ value_new v vs ps k h.1 (omega arith) e
 
 -- the first ones are below it

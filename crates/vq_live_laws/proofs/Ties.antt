@@ -1,13 +1,14 @@
 -- A live timeline that is fed with the calls of a timeline of known values stays tied to it.
-use Rattle.std.proofs.Common.{◌≡◌, ℕ, zero, suc, ◌+◌, ◌-◌, ◌<◌, ◌≤◌, Bool, true, false, not, List, [], ◌∷◌, ◌++◌, length, get_or, set, take, drop, Option, Some, None, Ok, Err, refl, sym, ◌∙◌, ap, arith, subst, ◌⊎◌, inl, inr}
-use Rattle.std.specs.Prelude.{◌==◌, ◌&&◌, ◌||◌, nat_le, nat_eq, if◌then◌else◌, filter, replicate}
+use Rattle.std.proofs.Common.{◌≡◌, ℕ, zero, suc, ◌+◌, ◌-◌, ◌<◌, ◌≤◌, Bool, true, false, not, List, [], ◌∷◌, ◌++◌, length, get_or, set, take, drop, Option, Some, None, Ok, Err, refl, sym, ◌∙◌, ap, arith, subst}
+use Rattle.std.specs.Prelude.{◌==◌, ◌&&◌, ◌||◌, nat_eq, if◌then◌else◌, filter, replicate}
 use Rattle.std.specs.List.{list_any, slice_get}
-use Rattle.std.proofs.lemmas.Bool.Decides.{nat_tests}
-use Rattle.std.proofs.lemmas.Bool.{cases_lt}
+use Rattle.std.proofs.lemmas.Bool.{ne_eqb, eqb-true, eq-eqb}
 use Rattle.std.proofs.lemmas.List.{drop_more, get_or-drop, length-drop, length-set, length-append, drop-set-add}
 use Rattle.std.proofs.lemmas.List.Folds.{list_any-append}
-use Rattle.vq_points.specs.Timeline.{Timeline, Entry, KeepsLists, AreRisingFrom, MayTake, MayBind, MayFree, IsPresent, new_timeline, point_at, past_value, take_from, after_take, after_bind, complete_from, after_complete, after_free}
-use Rattle.vq_points.proofs.Cited.{new_keeps, take_keeps, bind_keeps, complete_keeps, free_keeps, IsLeast, least_pending}
+use Rattle.vq_ground.proofs.Tests.{above_test}
+use Rattle.vq_point_laws.specs.Timeline.{Timeline, Entry, KeepsLists, MayTake, MayBind, MayFree, IsPresent, new_timeline, past_value, take_from, after_take, after_bind, complete_from, after_complete, after_free}
+use Rattle.vq_ground.specs.Lists.{AreRisingFrom}
+use Rattle.vq_point_laws.proofs.Cited.{new_keeps, take_keeps, bind_keeps, complete_keeps, free_keeps, IsLeast, least_pending, unbound}
 use Rattle.vq_live.specs.declared.answers.Given.{Given}
 use Rattle.vq_live.specs.declared.answers.InstallFault.TheVariants as install_as
 use Rattle.vq_live.specs.declared.answers.ReferFault.TheVariants as refer_as
@@ -31,18 +32,6 @@ record Tied (t : Timeline) (u : Live) : Type 0 where
   waits : (p : ℕ) → IsPresent p t.waiting → ((slot_at u.slots p).refs ≡ 1) × ((slot_at u.slots p).out ≡ false)
   clean : (p : ℕ) → (slot_at u.slots p).out ≡ true → (slot_at u.slots p).refs ≡ 0
 
-same_of : (a b : ℕ) → a ≡ b → (a == b) ≡ true
-same_of a b e = grind (arith, nat_tests)
-
-equal_of : (a b : ℕ) → (a == b) ≡ true → a ≡ b
-equal_of a b e = grind (arith, nat_tests)
-
-apart : (a b : ℕ) → ((a ≡ b) → ⊥) → (a == b) ≡ false
-apart a b n = grind (arith, nat_tests)
-
-not_le : (a b : ℕ) → b < a → nat_le a b ≡ false
-not_le a b q = grind (arith, nat_tests)
-
 -- what a timeline of known values keeps of its rest
 firsts : (t : Timeline) → KeepsLists t → HaveFirst (t.bound - t.completed) (drop t.completed t.points)
 firsts t k = have_first (t.bound - t.completed) (drop t.completed t.points) (λ j l e. k.had (t.completed + j) (omega arith) (sym (get_or-drop t.completed t.points j None) ∙ e))
@@ -51,13 +40,6 @@ rises : (t : Timeline) → KeepsLists t → AreRisingFrom (past_value t) (drop t
 rises t k =
     let in_order = k.in_order in let within = k.within in
     rising_drop t.initial t.values t.completed k.rising (omega arith)
-
-beyond : (t : Timeline) (index : ℕ) → KeepsLists t → point_at t index ≡ None → t.bound ≤ index
-beyond t index k e = by_order (cases_lt index t.bound)
-  where
-    by_order : (index < t.bound) ⊎ (t.bound ≤ index) → t.bound ≤ index
-    by_order (inl l) = absurd (k.had index l e)
-    by_order (inr l) = l
 
 exists : (points : List (Option ℕ)) (index p : ℕ) → get_or points index None ≡ Some p → index < length points
 exists [] index p e = absurd (cc)
@@ -100,7 +82,7 @@ take_slots t u x tied m = (waiting, clean)
         let old = tied.waits p h in
         let one = old.0 in
         let refs = event_refs u p (taking x) tied.kept m in
-        let test = apart x.point p (λ e. let none = at_next p e in absurd (omega arith)) in (
+        let test = ne_eqb x.point p (λ e. let none = at_next p e in absurd (omega arith)) in (
           omega arith,
           event_out u p (taking x) tied.kept m
               ∙ ap (λ (b : Bool). if b then true else (slot_at u.slots p).out) test
@@ -113,7 +95,7 @@ take_slots t u x tied m = (waiting, clean)
         by_test : (b : Bool) → (x.point == p) ≡ b → (if b then true else (slot_at u.slots p).out) ≡ true → (slot_at (after u (taking x)).slots p).refs ≡ 0
         by_test true e o =
             let refs = event_refs u p (taking x) tied.kept m in
-            let none = at_next p (equal_of x.point p e) in
+            let none = at_next p (eqb-true x.point p e) in
             omega arith
         by_test false e o =
             let refs = event_refs u p (taking x) tied.kept m in let none = tied.clean p o in omega arith
@@ -121,7 +103,7 @@ take_slots t u x tied m = (waiting, clean)
 may_take : (t : Timeline) (u : Live) (index : ℕ) → Tied t u → MayTake t index t.made → take_fault u (value_at t index) ≡ None
 may_take t u index tied m =
     let k = tied.lists in let in_order = k.in_order in
-    let b = beyond t index k m.without in
+    let b = unbound t index k m.without in
     let exists = m.exists in
     let size = length-drop t.completed t.values in
     let place : t.completed + (index - t.completed) ≡ index = omega arith in
@@ -133,7 +115,7 @@ may_take t u index tied m =
     let other : list_any (λ x. x.value == value_at t index) u.ops ≡ false =
     (λ i. list_any (λ x. x.value == sym value i) (tied.ops i)) ∙ new in
     let v = value_at t index in
-    ap (λ (r : Bool). if r then Some (take_as.NotAbove (pending_value u)) else (if list_any (λ x. x.value == v) u.ops then Some take_as.Twice else None)) (not_le v (pending_value u) (pending_below t u index tied b exists))
+    ap (λ (r : Bool). if r then Some (take_as.NotAbove (pending_value u)) else (if list_any (λ x. x.value == v) u.ops then Some take_as.Twice else None)) (above_test v (pending_value u) (pending_below t u index tied b exists))
     ∙ ap (λ (r : Bool). if r then Some take_as.Twice else None) other
 
 take_step : (t : Timeline) (u : Live) (index : ℕ) → Tied t u → MayTake t index t.made → IsRun u (events_of t (takes index)) × Tied (after_take t index t.made) (after_all u (events_of t (takes index)))
@@ -154,7 +136,7 @@ take_step t u index tied m = ((may, tt), by_free t.free refl)
     ops : (free : List ℕ) → t.free ≡ free → placed (given_to u v) u.ops ≡ zipped (drop t.completed t.values) (drop t.completed (set t.points index (Some (point_from free t.made))))
     ops free e =
         let k = tied.lists in let in_order = k.in_order in let one_each = k.one_each in
-        let b = beyond t index k m.without in
+        let b = unbound t index k m.without in
         let exists = m.exists in
         let size = length-drop t.completed t.values in
         let count = length-drop t.completed t.points in
@@ -201,7 +183,7 @@ take_step t u index tied m = ((may, tt), by_free t.free refl)
 
 -- a bind
 same_both : (x : Given) → is_same x x ≡ true
-same_both x = ap (λ (b : Bool). b && (x.point == x.point)) (same_of x.value x.value refl) ∙ same_of x.point x.point refl
+same_both x = ap (λ (b : Bool). b && (x.point == x.point)) (eq-eqb x.value x.value refl) ∙ eq-eqb x.point x.point refl
 
 bind_step : (t : Timeline) (u : Live) (p : ℕ) → Tied t u → MayBind t t.bound p → IsRun u (events_of t (binds p)) × Tied (after_bind t) (after_all u (events_of t (binds p)))
 bind_step t u p tied m = ((may, tt), after_it)
@@ -228,7 +210,7 @@ bind_step t u p tied m = ((may, tt), after_it)
 
     may : MayCome u (installing x)
     may =
-        ap (λ (r : Bool). if r then Some install_as.Already else next_fault (slice_get u.ops u.installed) x) (not_le x.value (pending_value u) (pending_below t u t.bound tied (omega arith) there))
+        ap (λ (r : Bool). if r then Some install_as.Already else next_fault (slice_get u.ops u.installed) x) (above_test x.value (pending_value u) (pending_below t u t.bound tied (omega arith) there))
         ∙ ap (λ (o : Option Given). next_fault o x) next
         ∙ ap (λ (r : Bool). if r then None else Some (install_as.NotNext x)) (same_both x)
 
@@ -237,7 +219,7 @@ bind_step t u p tied m = ((may, tt), after_it)
         let in_order = tied.lists.in_order in
         let installed = tied.installed in
         record {
-          lists = bind_keeps t t.bound p tied.lists m (same_of t.bound t.bound refl);
+          lists = bind_keeps t t.bound p tied.lists m (eq-eqb t.bound t.bound refl);
           kept = event_keeps u (installing x) tied.kept may;
           payload = tied.payload;
           free = tied.free;
@@ -344,15 +326,15 @@ module _ (t : Timeline) (u : Live) (x : Entry) (tied : Tied t u) (l : t.complete
       busy : is_idle (done_slot w x.point) ≡ false
       busy =
           let refs = event_refs u x.point (referring x.point) tied.kept may_refer in
-          let one : one_if (x.point == x.point) ≡ 1 = ap one_if (same_of x.point x.point refl) in
-          ap (λ (b : Bool). b && true) (apart (slot_at w.slots x.point).refs 0 (λ e. absurd (omega arith)))
+          let one : one_if (x.point == x.point) ≡ 1 = ap one_if (eq-eqb x.point x.point refl) in
+          ap (λ (b : Bool). b && true) (ne_eqb (slot_at w.slots x.point).refs 0 (λ e. absurd (omega arith)))
 
       waiting : (q : ℕ) → IsPresent q (t.waiting ++ x.point ∷ []) → ((slot_at (after w (completing g)).slots q).refs ≡ 1) × ((slot_at (after w (completing g)).slots q).out ≡ false)
       waiting q h = by_test (x.point == q) refl
         where
           by_test : (b : Bool) → (x.point == q) ≡ b → ((slot_at (after w (completing g)).slots q).refs ≡ 1) × ((slot_at (after w (completing g)).slots q).out ≡ false)
           by_test true e =
-              let none = subst (λ (n : ℕ). (slot_at u.slots n).refs ≡ 0) (equal_of x.point q e) (tied.clean x.point is_out) in
+              let none = subst (λ (n : ℕ). (slot_at u.slots n).refs ≡ 0) (eqb-true x.point q e) (tied.clean x.point is_out) in
               let one : one_if (x.point == q) ≡ 1 = ap one_if e in
               let refs = refs_after q in
               (omega arith, out_after q ∙ ap (λ (b : Bool). if b then false else (slot_at u.slots q).out) e)
@@ -397,7 +379,7 @@ present_kept p q (x ∷ xs) h = by_test (x == p) refl h (present_kept p q xs)
     by_same : (b : Bool) → (x == q) ≡ b → (x == p) ≡ false → (b || list_any (λ y. y == q) (filter (λ y. not (y == p)) xs)) ≡ true → (IsPresent q (filter (λ y. not (y == p)) xs) → IsPresent q xs × ((p == q) ≡ false)) → IsPresent q (x ∷ xs) × ((p == q) ≡ false)
     by_same true e n r rest = (
       ap (λ (b : Bool). b || list_any (λ y. y == q) xs) e,
-      apart p q (λ d. let both = same_of x p (equal_of x q e ∙ sym d) in absurd (cc)),
+      ne_eqb p q (λ d. let both = eq-eqb x p (eqb-true x q e ∙ sym d) in absurd (cc)),
     )
     by_same false e n r rest = keep (rest r)
 

@@ -1,8 +1,8 @@
 -- A live timeline that is fed with the calls of a timeline whose values are known from the start.
 use Rattle.std.specs.Prelude.{ℕ, List, [], ◌∷◌, ◌++◌, map, Option, Some, None, ◌≡◌, ◌<◌}
 use Rattle.std.specs.List.{slice_index_or}
-use Rattle.vq_points.specs.Timeline.{Timeline, Entry, MayTake, MayBind, MayFree, after_take, after_bind, after_complete}
-use Rattle.vq_points.specs.Timeline.{after_free, pending, first_pending, past_value}
+use Rattle.vq_point_laws.specs.Timeline.{Timeline, Entry, MayTake, MayBind, MayFree, after_take, after_bind, after_complete}
+use Rattle.vq_point_laws.specs.Timeline.{after_free, pending, first_pending, past_value}
 use Rattle.vq_live.specs.declared.answers.Given.{Given}
 use Rattle.vq_live.specs.Live.{Live, pending as live_pending}
 use Rattle.vq_live.specs.Calls.{point_from}

@@ -1,6 +1,7 @@
 //! The function does nothing: its contract is the law.
 ghost use Rattle.std.specs.Prelude.{ℕ, List};
-ghost use Rattle.vq_points.specs.Timeline.{AreRisingFrom, new_timeline};
+ghost use Rattle.vq_point_laws.specs.Timeline.{new_timeline};
+ghost use Rattle.vq_ground.specs.Lists.{AreRisingFrom};
 ghost use Rattle.vq_live.specs.Live.{opened};
 ghost use Rattle.vq_live.specs.Runs.{IsRun, after_all};
 ghost use Rattle.vq_live_laws.specs.Feeds.{Call, AreCalls, after_calls, fed, Shows};

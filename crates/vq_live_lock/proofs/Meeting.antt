@@ -1,14 +1,8 @@
 -- Pairs that are met, one after another.
-use Rattle.std.proofs.Common.{◌≡◌, ◌<◌, ◌+◌, ◌∷◌, ◌++◌, ℕ, zero, suc, List, [], length, take, get_or, Some, ap, sym, subst, arith}
-use Rattle.std.specs.List.{slice_get}
+use Rattle.std.proofs.Common.{◌≡◌, ◌<◌, ◌+◌, ◌∷◌, ◌++◌, ℕ, zero, suc, List, [], length, take, get_or, subst, arith}
 use Rattle.vq_live_lock.specs.declared.gauge.Reached.{Reached}
 use Rattle.vq_live_lock.specs.declared.waiting.Wanted.{Wanted}
 use Rattle.vq_live_lock.specs.Waits.{IsMet, AreMet}
-
-pub got : {A : Type 0} (xs : List A) (i : ℕ) (a : A) → i < length xs → a ≡ get_or xs i a → slice_get xs i ≡ Some a
-got [] i a h e = absurd (omega arith)
-got (x ∷ xs) zero a h e = ap (λ z. Some z) (sym e)
-got (x ∷ xs) (suc i) a h e = got xs i a (omega arith) e
 
 one_more : (ws : List Wanted) (rs : List Reached) (i : ℕ) (w : Wanted) (r : Reached) → i < length ws →
     w ≡ get_or ws i w → AreMet (take i ws) rs → IsMet w r → AreMet (take (suc i) ws) (rs ++ r ∷ [])

@@ -1,21 +1,12 @@
 -- The steps of a gauge keep its rule.
-use Rattle.std.proofs.Common.{◌≡◌, ◌≢◌, ◌≤◌, ℕ, List, [], ◌∷◌, ◌++◌, length, set, get_or, refl, ap, sym, ◌∙◌, subst, arith, ◌⊎◌, inl, inr, zero, suc, ⊎_elim, length-set, get_or-set_same, le_refl, le_trans}
-use mathlib.Core.Option.{some, none, some-injective, some-ne-none}
+use Rattle.std.proofs.Common.{◌≡◌, ◌≢◌, ◌≤◌, ℕ, [], ◌∷◌, ◌++◌, set, get_or, refl, ap, sym, ◌∙◌, subst, arith, ◌⊎◌, ⊎_elim, length-set, get_or-set_same, le_refl, le_trans}
+use mathlib.Core.Option.{some, none}
 use lib.ListN.{get_elem?}
+use Rattle.vq_ground.proofs.Elements.{at_end, at_one}
 use Rattle.atomic_table.specs.Table.{Me, step, keeps, opening, Allows, Enters}
 use Rattle.atomic_table.proofs.Lists.{at_set}
 use Rattle.vq_live_lock.specs.declared.rule.Known.{Known}
 use Rattle.vq_live_lock.specs.Gauges.{known, IsRising, looked, raised}
-
-at_one : {A : Type 0} (a b : A) (i : ℕ) → get_elem? (a ∷ []) i ≡ some b → (i ≡ 0) × (a ≡ b)
-at_one a b zero e = (refl, some-injective a b e)
-at_one a b (suc i) e = absurd (some-ne-none b (sym e))
-
-at_end : {A : Type 0} (l : List A) (a b : A) (j : ℕ) → get_elem? (l ++ a ∷ []) j ≡ some b → (get_elem? l j ≡ some b) ⊎ ((j ≡ length l) × (a ≡ b))
-at_end [] a b zero e = inr (refl, some-injective a b e)
-at_end [] a b (suc j) e = absurd (some-ne-none b (sym e))
-at_end (x ∷ xs) a b zero e = inl e
-at_end (x ∷ xs) a b (suc j) e = ⊎_elim inl (λ t. inr (ap suc t.0, t.1)) (at_end xs a b j e)
 
 abbrev floor_of : Known → ℕ
 floor_of v = v.floor

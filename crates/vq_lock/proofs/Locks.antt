@@ -1,8 +1,9 @@
 -- The steps of a lock keep its rule.
-use Rattle.std.proofs.Common.{Bool, ne_eqb, ◌≡◌, ◌≢◌, ◌<◌, ◌==◌, ℕ, List, [], ◌∷◌, ◌++◌, length, set, get_or, refl, ap, sym, ◌∙◌, subst, arith, ◌⊎◌, inl, inr, zero, suc, ⊎_elim, length-set, get_or-set_same}
-use mathlib.Core.Option.{some, none, some-injective, some-ne-none}
+use Rattle.std.proofs.Common.{Bool, ne_eqb, ◌≡◌, ◌≢◌, ◌<◌, ◌==◌, ℕ, List, [], ◌∷◌, ◌++◌, length, set, get_or, refl, ap, sym, ◌∙◌, subst, arith, ◌⊎◌, ⊎_elim, length-set, get_or-set_same}
+use mathlib.Core.Option.{some, none, some-injective}
 use mathlib.Core.Option as maybe
 use mathlib.Core.Logic.{dite}
+use Rattle.vq_ground.proofs.Elements.{at_end, at_one}
 use native.Mathlib.Decide.{ℕ_discrete}
 use prog.Atomic.{either}
 use lib.ListN.{get_elem?}
@@ -10,16 +11,6 @@ use Rattle.atomic_table.specs.Table.{Me, step, keeps, takes, gives, opening, All
 use Rattle.atomic_table.proofs.Lists.{at_set}
 use Rattle.vq_lock.specs.declared.parts.Turn.{Turn}
 use Rattle.vq_lock.specs.Locks.{turn, IsLocked, taken, given, sat}
-
-at_one : {A : Type 0} (a b : A) (i : ℕ) → get_elem? (a ∷ []) i ≡ some b → (i ≡ 0) × (a ≡ b)
-at_one a b zero e = (refl, some-injective a b e)
-at_one a b (suc i) e = absurd (some-ne-none b (sym e))
-
-at_end : {A : Type 0} (l : List A) (a b : A) (j : ℕ) → get_elem? (l ++ a ∷ []) j ≡ some b → (get_elem? l j ≡ some b) ⊎ ((j ≡ length l) × (a ≡ b))
-at_end [] a b zero e = inr (refl, some-injective a b e)
-at_end [] a b (suc j) e = absurd (some-ne-none b (sym e))
-at_end (x ∷ xs) a b zero e = inl e
-at_end (x ∷ xs) a b (suc j) e = ⊎_elim inl (λ t. inr (ap suc t.0, t.1)) (at_end xs a b j e)
 
 one_home : {T : Type 0} (hs : List (maybe.Option T)) (y : maybe.Option T) → length hs ≡ 1 → set hs 0 y ≡ y ∷ []
 one_home [] y h = absurd (omega arith)

@@ -1,14 +1,4 @@
 pub mod Actors
-pub mod Bools
-pub mod Filters
-pub mod Gets
-pub mod Lists
-pub mod Mapped
-pub mod Numbers
-pub mod Options
 pub mod Plans
-pub mod Positions
 pub mod Puts
-pub mod Rising
-pub mod Searches
 pub mod Sizes

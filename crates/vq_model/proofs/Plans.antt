@@ -7,11 +7,12 @@ use Rattle.vq_model.specs.declared.script.CommandLine.{CommandLine}
 use Rattle.vq_model.specs.declared.plan.Lane.{Lane}
 use Rattle.vq_model.specs.declared.plan.Lane.TheVariants.{Host as HostLane, Queue as QueueLane}
 use Rattle.vq_model.specs.declared.plan.PlanJob.{PlanJob}
-use Rattle.vq_model.specs.Plan.{Plan, chain_of, commands_of, has, is_batch, is_host_lane, is_host_step}
+use Rattle.vq_model.specs.Plan.{Plan, chain_of, commands_of, is_batch, is_host_lane, is_host_step}
+use Rattle.vq_ground.specs.Lists.{has}
 use Rattle.vq_model.specs.WellFormed.{IsWellFormed}
 use Rattle.vq_model.specs.Checks.{is_immediate_batch, is_immediate_lane}
-use Rattle.vq_model.proofs.Gets.{get_within}
-use Rattle.vq_model.proofs.Options.{some_of}
+use Rattle.vq_ground.proofs.Gets.{get_within}
+use Rattle.vq_ground.proofs.Options.{some_of}
 
 pub batch_exists : (p : Plan) (j : ℕ) → is_batch p j ≡ true → j < length p.jobs
 batch_exists p j h = ltb-true j (length p.jobs) (and_parts (ltb j (length p.jobs)) (not (is_host_step p j)) h).0

@@ -16,7 +16,8 @@ use Rattle.vq_model.specs.declared.plan.OrderFault.{OrderFault}
 use Rattle.vq_model.specs.declared.plan.OrderFault.TheVariants.{Unreachable, Unordered, FenceBusy, NotPending, Race}
 use Rattle.vq_model.specs.declared.plan.OrderFault.TheVariants.{Memory}
 use Rattle.vq_model.specs.Context.{is_immediate}
-use Rattle.vq_model.specs.Plan.{Plan, needs, waits_for_any, has, chain, chain_of, line_of_op, initial, value, job_of}
+use Rattle.vq_model.specs.Plan.{Plan, needs, waits_for_any, chain, chain_of, line_of_op, initial, value, job_of}
+use Rattle.vq_ground.specs.Lists.{has}
 use Rattle.vq_model.specs.Plan.{line_of_job, of_job, resolver, is_host_step, line_of_command}
 use Rattle.vq_model.specs.Machine.{is_reached}
 use Rattle.vq_model.specs.SlowRun.{payload_after, slow_order, left_over}

@@ -7,7 +7,8 @@ use Rattle.std.specs.Option.{option_to_list}
 use Rattle.std.specs.List.{position_or_len, list_all, filter_map, slice_get}
 use Rattle.vq_model.specs.declared.plan.Need.{Need}
 use Rattle.vq_model.specs.Plan.{Plan, previous, host_before, idle_after, commands_of, needs, waits_for_any, initial}
-use Rattle.vq_model.specs.Plan.{resolver, job_of, has}
+use Rattle.vq_model.specs.Plan.{resolver, job_of}
+use Rattle.vq_ground.specs.Lists.{has}
 
 -- The jobs that must be finished before a job starts: the one before it in its lane, the last host
 -- step before a batch, and those that an idle step waits for (Vulkan 1.3, vkDeviceWaitIdle). That a

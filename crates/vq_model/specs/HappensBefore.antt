@@ -2,7 +2,8 @@
 -- Vulkan 1.3, "Execution and Memory Dependencies", "Semaphores".
 use Rattle.std.specs.Prelude.{ℕ, ◌==◌, nat_lt, Bool, ◌≡◌, true}
 use Rattle.std.specs.List.{position_or_len}
-use Rattle.vq_model.specs.Plan.{Plan, has}
+use Rattle.vq_model.specs.Plan.{Plan}
+use Rattle.vq_ground.specs.Lists.{has}
 use Rattle.vq_model.specs.SlowRun.{slow_order}
 use Rattle.vq_model.specs.Edges.{Stage, edges_at, AtEnd, stage_of}
 

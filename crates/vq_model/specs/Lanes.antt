@@ -3,7 +3,8 @@
 use Rattle.std.specs.Prelude.{ℕ, ◌≡◌, ◌<◌, ◌≤◌, ◌+◌, ◌^◌, true, length, Some, All}
 use Rattle.vq_model.specs.declared.plan.Lane.{Lane}
 use Rattle.vq_model.specs.declared.plan.Lane.TheVariants.{Host, Queue}
-use Rattle.vq_model.specs.Plan.{Plan, of_job, previous, has, job_of, chain_of, needs, line_of_command, line_of_op}
+use Rattle.vq_model.specs.Plan.{Plan, of_job, previous, job_of, chain_of, needs, line_of_command, line_of_op}
+use Rattle.vq_ground.specs.Lists.{has}
 use Rattle.vq_model.specs.Edges.{AtEnd, must_finish, awaited_at}
 
 -- lanes by number: the host's lane, then those of the queues

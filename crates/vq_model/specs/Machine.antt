@@ -13,7 +13,8 @@ use Rattle.vq_model.specs.declared.plan.Answer.TheVariants.{Reached, Timeout, No
 use Rattle.vq_model.specs.declared.plan.Question.{Question}
 use Rattle.vq_model.specs.declared.plan.Question.TheVariants.{Reached as AsksReached, PollAll, PollAny, Fence}
 use Rattle.vq_model.specs.declared.plan.Question.TheVariants.{Value as AsksValue}
-use Rattle.vq_model.specs.Plan.{Plan, initial, value, chain_of, waits_for_any, has, commands_of, signals_of, chain}
+use Rattle.vq_model.specs.Plan.{Plan, initial, value, chain_of, waits_for_any, commands_of, signals_of, chain}
+use Rattle.vq_ground.specs.Lists.{has}
 use Rattle.vq_model.specs.Plan.{question, is_silent, asked}
 use Rattle.vq_model.specs.Edges.{Stage, needs_at, At, must_finish, stage_of, AtEnd}
 

@@ -4,7 +4,7 @@
 use Rattle.std.specs.Prelude.{ℕ, List, ◌==◌, Bool, Option, None, [], false, true, nat_lt, not, ◌&&◌, length}
 use Rattle.std.specs.Prelude.{nat_le}
 use Rattle.std.specs.Prelude.{find}
-use Rattle.std.specs.List.{list_any, slice_get}
+use Rattle.std.specs.List.{slice_get}
 use Rattle.std.specs.Option.{option_map, option_map_or}
 use Rattle.vq_model.specs.declared.script.Script.{Script}
 use Rattle.vq_model.specs.declared.script.CommandLine.{CommandLine}
@@ -29,10 +29,6 @@ pub record Plan : Type 0 where
   pub initials : List ℕ
   -- the signal operations of each chain, by value and then by line
   pub chains : List (List ℕ)
-
--- whether a number stands in a list
-abbrev pub has : List ℕ → ℕ → Bool
-has xs x = list_any (λ y. y == x) xs
 
 -- Commands and jobs
 

@@ -4,7 +4,8 @@ use Rattle.std.specs.Prelude.{ℕ, Bool, ◌≡◌, true, ◌≢◌, ◌⊎◌, 
 use Rattle.std.specs.List.{list_any}
 use Rattle.std.specs.Option.{option_to_list}
 use Rattle.vq_model.specs.Ranges.{conflict}
-use Rattle.vq_model.specs.Plan.{Plan, command_at, has, commands_of}
+use Rattle.vq_model.specs.Plan.{Plan, command_at, commands_of}
+use Rattle.vq_ground.specs.Lists.{has}
 use Rattle.vq_model.specs.HappensBefore.{HappensBeforeCommand}
 use Rattle.vq_model.specs.SlowRun.{left_over}
 use Rattle.vq_model.specs.Sure.{KeepsChains}

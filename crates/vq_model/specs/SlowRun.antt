@@ -6,7 +6,8 @@ use Rattle.std.specs.Prelude.{[], ◌∷◌, ◌++◌, ◌≡◌}
 use Rattle.std.specs.Option.{option_map_or}
 use Rattle.std.specs.List.{range_with_len, filter_map, flat_map}
 use Rattle.vq_model.specs.declared.script.Command.{Command}
-use Rattle.vq_model.specs.Plan.{Plan, has, job_of, chain, initial, value, commands_of, signals_of, command_at}
+use Rattle.vq_model.specs.Plan.{Plan, job_of, chain, initial, value, commands_of, signals_of, command_at}
+use Rattle.vq_ground.specs.Lists.{has}
 use Rattle.vq_model.specs.Edges.{AtEnd}
 use Rattle.vq_model.specs.Machine.{are_reached, can_start, Step, StartStep, ApplyStep, SignalStep, FinishStep, Run}
 use Rattle.vq_model.specs.Machine.{state_after, IsFinished}

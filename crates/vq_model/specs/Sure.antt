@@ -2,7 +2,8 @@
 -- a sure order. Vulkan 1.3, "Semaphores": a signal's value is greater than the payload when it
 -- executes.
 use Rattle.std.specs.Prelude.{ℕ, ◌≡◌, true, Some, ◌≤◌, ◌<◌, List, [], ◌∷◌}
-use Rattle.vq_model.specs.Plan.{Plan, has, job_of, value, chain, initial}
+use Rattle.vq_model.specs.Plan.{Plan, job_of, value, chain, initial}
+use Rattle.vq_ground.specs.Lists.{has}
 use Rattle.vq_model.specs.Edges.{must_finish, Stage, awaited_at, AtEnd}
 use Rattle.vq_model.specs.HappensBefore.{comes_earlier, IsHop}
 

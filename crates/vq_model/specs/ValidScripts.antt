@@ -21,7 +21,7 @@ use Rattle.vq_model.specs.Context.{is_fence, is_immediate, is_threaded}
 use Rattle.vq_model.specs.Limits.{limits_of}
 use Rattle.vq_model.specs.Ranges.{Fits}
 use Rattle.vq_model.specs.Signals.{Signaling, all_signals, kind_of, is_timeline_at}
-use Rattle.vq_model.specs.WellFormed.{AreRising}
+use Rattle.vq_ground.specs.Lists.{AreRising}
 use Rattle.vq_model.specs.Lowering.{commands_in, batch_commands}
 
 -- the sizes of a script's buffers

@@ -3,15 +3,11 @@
 use Rattle.std.specs.Prelude.{ℕ, ◌≡◌, ◌<◌, true, List, [], ◌∷◌, ◌⊎◌, false, length, Some}
 use Rattle.std.specs.Prelude.{◌≤◌}
 use Rattle.vq_model.specs.declared.script.Command.{Command}
-use Rattle.vq_model.specs.Plan.{has, Plan, value, command_at, needs, waits_for_any, commands_of, signals_of}
+use Rattle.vq_model.specs.Plan.{Plan, value, command_at, needs, waits_for_any, commands_of, signals_of}
+use Rattle.vq_ground.specs.Lists.{has, AreRising}
 use Rattle.vq_model.specs.Plan.{is_host_step, chain, job_of, chain_of, host_before, question, is_silent}
 use Rattle.vq_model.specs.Ranges.{Fits}
 use Rattle.vq_model.specs.Edges.{must_finish, waits_at_start}
-
--- numbers that rise
-abbrev pub AreRising : List ℕ → Type 0
-AreRising [] = Unit {0}
-AreRising (x ∷ xs) = ((y : ℕ) → has xs y ≡ true → x < y) × AreRising xs
 
 -- operations by value, and those of one value by line
 abbrev pub AreInOrder : Plan → List ℕ → Type 0

@@ -3,6 +3,7 @@ use Rattle.std.proofs.Common.{◌≡◌, ℕ, ◌<◌, ◌≤◌, true, false, l
 use Rattle.std.specs.List.{slice_get}
 use Rattle.std.specs.Option.{option_map_or}
 use Rattle.std.proofs.lemmas.Bool.{cases_lt, cases_eq, false≢true}
+use Rattle.std.proofs.lemmas.Option.{slice_get_past}
 use Rattle.vq_model.specs.declared.script.SemaphoreKind.{SemaphoreKind}
 use Rattle.vq_model.specs.declared.script.SemaphoreKind.TheVariants.{Timeline, Binary, Fence}
 use Rattle.vq_model.specs.Context.{is_timeline, is_binary}
@@ -12,14 +13,13 @@ use Rattle.vq_model.specs.LoweringFaults.{IsPlan}
 use Rattle.vq_model.specs.Checks.{IsNextSignal}
 use Rattle.vq_model.specs.WellFormed.{IsWellFormed}
 use Rattle.vq_model.specs.Lanes.{HasLinesInOrder}
-use Rattle.vq_model.proofs.Gets.{slice_get_past}
 use Rattle.vq_reading_laws.proofs.Cited.{read_valid, read_batches, read_steps, read_lines_rise}
 use Rattle.vq_order_laws.proofs.Cited.{signal_is, numbers_rise}
 use Rattle.vq_plan_laws.proofs.Cited.{plan_well_formed, plan_lines}
 use Rattle.vq_order.specs.Counts.{AreFirst}
 use Rattle.vq_order.specs.UnorderedLines.{op_in, IsNextOrNone}
 use Rattle.vq_clocks.proofs.Cited.{at_place, place_within}
-use Rattle.vq_model.proofs.Positions.{place}
+use Rattle.vq_ground.proofs.Positions.{place}
 use Rattle.vq_model.proofs.Plans.{op_within}
 use Rattle.vq_order.proofs.UnorderedLaws.{get_at, order_at, op_of_chain}
 

@@ -19,12 +19,13 @@ use Rattle.vq_model.specs.Context.{is_fence}
 use Rattle.vq_model.specs.ValidScripts.{IsValidStep, is_fence_at}
 use Rattle.vq_model.specs.Sure.{IsSure}
 use Rattle.vq_model.specs.Checks.{names_at, resets_at, IsFenceBusyAt, IsLeast}
-use Rattle.vq_model.specs.Plan.{Plan, has, job_of, line_of_job, signals_of}
-use Rattle.vq_model.proofs.Lists.{has_here}
-use Rattle.vq_model.proofs.Gets.{get_within}
+use Rattle.vq_model.specs.Plan.{Plan, job_of, line_of_job, signals_of}
+use Rattle.vq_ground.specs.Lists.{has}
+use Rattle.vq_ground.proofs.Lists.{has_here}
+use Rattle.vq_ground.proofs.Gets.{get_within, has_at}
 use Rattle.vq_reading_laws.proofs.Cited.{read_batches, read_steps, read_lines_rise, kind_exists}
 use Rattle.vq_plan_laws.proofs.Cited.{part_is, count_jobs, plan_well_formed}
-use Rattle.vq_spec.proofs.Cited.{has_at, op_exists}
+use Rattle.vq_spec.proofs.Cited.{op_exists}
 use Rattle.vq_order_laws.proofs.Cited.{lines_across}
 use Rattle.vq_order.proofs.UnorderedLaws.{get_at}
 use Rattle.vq_order.specs.Busy.{IsLastNaming, IsLastOrNone, AreLastNamings, IsInUse, IsBusyOrNone, NoneBusyBefore, named_by, reset_by, reset_of}

@@ -7,9 +7,10 @@ use Rattle.std.specs.Ordering.{nat_cmp}
 use Rattle.std.proofs.lemmas.Bool.{and_parts, cases_Bool, eqb-true, ltb-true, cases_lt}
 use Rattle.std.proofs.lemmas.Grind.{get_or_default_zero}
 use Rattle.vq_model.specs.LoweringFaults.{IsPlan}
-use Rattle.vq_model.specs.Plan.{Plan, has}
+use Rattle.vq_model.specs.Plan.{Plan}
+use Rattle.vq_ground.specs.Lists.{has}
 use Rattle.vq_model.proofs.Plans.{command_exists}
-use Rattle.vq_model.proofs.Lists.{has-append_left, has-append_right, has_here}
+use Rattle.vq_ground.proofs.Lists.{has-append_left, has-append_right, has_here}
 use Rattle.vq_order.specs.Accessed.{spans_share, IsAccess}
 use Rattle.vq_order.specs.CellRanges.{axis, begins_first, later_start, later_starts, start_of, HasBuffers, IsCellOf}
 use Rattle.vq_order.specs.CommandCells.{AreCuts, HasStarts, HaveStarts}

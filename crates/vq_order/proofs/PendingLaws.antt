@@ -5,7 +5,7 @@ use Rattle.vq_model.specs.Checks.{IsLeast, IsNotPendingAt, NoLine, is_immediate_
 use Rattle.vq_model.specs.LoweringFaults.{IsPlan}
 use Rattle.vq_model.specs.Plan.{Plan, host_before, needs}
 use Rattle.vq_model.specs.Sure.{IsSure}
-use Rattle.vq_model.proofs.Gets.{get_within}
+use Rattle.vq_ground.proofs.Gets.{get_within}
 use Rattle.vq_model.proofs.Plans.{immediate_batch}
 use Rattle.vq_order_laws.proofs.Cited.{sure_for_last}
 use Rattle.vq_plan_laws.proofs.Cited.{plan_hosts}

@@ -5,7 +5,8 @@ use Rattle.std.specs.List.{list_any}
 use Rattle.std.proofs.lemmas.Bool.{cases_eq, cases_lt}
 use Rattle.vq_model.specs.declared.script.Command.{Command}
 use Rattle.vq_model.specs.Ranges.{share, conflict, written_range, read_range}
-use Rattle.vq_model.specs.Plan.{Plan, has, commands_of, command_at}
+use Rattle.vq_model.specs.Plan.{Plan, commands_of, command_at}
+use Rattle.vq_ground.specs.Lists.{has}
 use Rattle.vq_model.specs.WellFormed.{IsWellFormed}
 use Rattle.vq_model.specs.Races.{conflicts, IsRace}
 use Rattle.vq_model.specs.Checks.{IsRaceAt, IsLeastPair}

@@ -3,7 +3,8 @@ use Rattle.std.proofs.Common.{◌≡◌, ℕ, ◌<◌, true, length, sym, inl, i
 use Rattle.std.proofs.lemmas.Bool.{cases_eq, cases_lt}
 use Rattle.vq_model.specs.Checks.{IsRaceAt, IsLeastPair, NoLines}
 use Rattle.vq_model.specs.LoweringFaults.{IsPlan}
-use Rattle.vq_model.specs.Plan.{Plan, has, commands_of, line_of_command}
+use Rattle.vq_model.specs.Plan.{Plan, commands_of, line_of_command}
+use Rattle.vq_ground.specs.Lists.{has}
 use Rattle.vq_model.specs.Races.{IsRace}
 use Rattle.vq_model.specs.WellFormed.{IsWellFormed}
 use Rattle.vq_model.proofs.Plans.{command_exists}

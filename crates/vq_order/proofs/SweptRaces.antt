@@ -7,7 +7,7 @@ use Rattle.vq_model.specs.LoweringFaults.{IsPlan}
 use Rattle.vq_model.specs.Plan.{Plan, commands_of}
 use Rattle.vq_model.specs.SlowRun.{slow_order}
 use Rattle.vq_order_laws.proofs.Cited.{slow_has}
-use Rattle.vq_model.proofs.Gets.{get_some}
+use Rattle.vq_ground.proofs.Gets.{get_some}
 use Rattle.vq_order.specs.Accessed.{spans_share, accesses_conflict, HasNoRaceBelow, IsAccess}
 use Rattle.vq_order.specs.CellRanges.{start_of, IsCellOf}
 use Rattle.vq_order.specs.CommandCells.{AreCuts, TouchesAmong, TouchesIn}

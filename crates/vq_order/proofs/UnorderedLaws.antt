@@ -3,20 +3,20 @@ use Rattle.std.proofs.Common.{◌≡◌, ℕ, zero, suc, ◌+◌, ◌<◌, true,
 use Rattle.std.specs.List.{slice_get}
 use Rattle.std.specs.Option.{option_map_or}
 use Rattle.std.proofs.lemmas.Bool.{cases_lt}
+use Rattle.std.proofs.lemmas.Option.{slice_get_past}
 use Rattle.vq_model.specs.declared.plan.Need.{Need}
 use Rattle.vq_model.specs.Plan.{Plan, chain, chain_of, value, line_of_op, needs}
 use Rattle.vq_model.specs.WellFormed.{IsWellFormed, AreInOrder}
 use Rattle.vq_model.specs.Lanes.{KeepsSemaphores, HasLinesInOrder}
 use Rattle.vq_model.specs.Checks.{IsUnordered, AreNeighbours, is_timeline_chain, too_low, equal, unsure, unsure_back, unawaited}
-use Rattle.vq_model.proofs.Gets.{slice_get_past}
-use Rattle.vq_model.proofs.Gets.{get_within}
+use Rattle.vq_ground.proofs.Gets.{has_at}
+use Rattle.vq_ground.proofs.Gets.{get_within}
 use Rattle.vq_order.specs.LeastLines.{IsOfFirst}
 use Rattle.vq_order.specs.UnorderedLines.{IsTooLow, IsUnsureFor, AreUnordered, op_in, IsUnorderedAt, IsUnorderedIn, IsOvertakenIn}
 use Rattle.vq_order.proofs.LineSearches.{Either}
 use Rattle.vq_clocks.proofs.Cited.{at_place, place_within}
-use Rattle.vq_model.proofs.Positions.{place}
+use Rattle.vq_ground.proofs.Positions.{place}
 use Rattle.vq_model.proofs.Plans.{op_within}
-use Rattle.vq_spec.proofs.Cited.{has_at}
 
 -- Lists
 

@@ -8,21 +8,22 @@ use Rattle.vq_model.specs.declared.plan.PlanJob.{PlanJob}
 use Rattle.vq_model.specs.Checks.{IsLeast, NoLine, is_unreached, IsUnreachableAt}
 use Rattle.vq_model.specs.LoweringFaults.{IsPlan}
 use Rattle.vq_model.specs.Machine.{is_reached}
-use Rattle.vq_model.specs.Plan.{Plan, has, needs, waits_for_any}
+use Rattle.vq_model.specs.Plan.{Plan, needs, waits_for_any}
+use Rattle.vq_ground.specs.Lists.{has}
 use Rattle.vq_model.specs.SlowRun.{left_over, payload_after, slow_order}
 use Rattle.vq_model.specs.WellFormed.{IsWellFormed}
-use Rattle.vq_model.proofs.Lists.{has_here}
-use Rattle.vq_model.proofs.Filters.{filter-has_cases}
-use Rattle.vq_model.proofs.Gets.{get_within}
-use Rattle.vq_model.proofs.Numbers.{has-range_cases}
+use Rattle.vq_ground.proofs.Lists.{has_here}
+use Rattle.vq_ground.proofs.Filters.{filter-has_cases}
+use Rattle.vq_ground.proofs.Gets.{get_within, has_at}
+use Rattle.vq_ground.proofs.Numbers.{has-range_cases}
 use Rattle.vq_order_laws.proofs.Cited.{left_unreachable}
 use Rattle.vq_spec.specs.SlowProgress.{payload_in, ArePayloads}
-use Rattle.vq_spec.proofs.Cited.{same_any, own_needs, chains_exist, has_at}
+use Rattle.vq_spec.proofs.Cited.{same_any, own_needs, chains_exist}
 use Rattle.vq_order.specs.declared.lines.Lines.{Lines}
 use Rattle.vq_order.specs.LeastLines.{AreLeastOrNone, IsOfFirst}
 use Rattle.vq_order.specs.Unreached.{IsUnreachedAt, IsUnreachedIn}
 use Rattle.vq_clocks.proofs.Cited.{at_place, place_within}
-use Rattle.vq_model.proofs.Positions.{place}
+use Rattle.vq_ground.proofs.Positions.{place}
 
 to_unreachable : (p : Plan) (a b : ℕ) → IsOfFirst (IsUnreachedAt p) (length (left_over p)) a b → IsUnreachableAt p a × (a ≡ b)
 to_unreachable p a b x =

@@ -4,19 +4,20 @@ use Rattle.std.proofs.Common.{◌≡◌, ℕ, zero, suc, ◌-◌, ◌<◌, ◌�
 use Rattle.std.specs.List.{filter_map, slice_get}
 use Rattle.std.specs.Option.{option_map}
 use Rattle.std.proofs.lemmas.Bool.{cases_lt, cases_eq, cond-true, cond-false, eq-eqb, ne_eqb}
+use Rattle.vq_ground.proofs.Gets.{has_at}
 use Rattle.vq_model.specs.declared.plan.Op.{Op}
-use Rattle.vq_model.specs.Plan.{Plan, has, chain, chain_of, job_of, initial, value}
+use Rattle.vq_model.specs.Plan.{Plan, chain, chain_of, job_of, initial, value}
+use Rattle.vq_ground.specs.Lists.{has}
 use Rattle.vq_model.specs.Edges.{Stage, AtEnd, must_finish, awaited_at}
 use Rattle.vq_model.specs.WellFormed.{IsWellFormed}
 use Rattle.vq_model.specs.HappensBefore.{comes_earlier, IsHop, HappensBefore, HappensBeforeAt, one, more}
 use Rattle.vq_model.specs.Sure.{IsSure, IsSureAt, finished_first, waited_for, passed_on, IsSureForJobOf, KeepsRising, RisesFrom, KeepsChains}
 use Rattle.vq_model.specs.Windows.{IsSurelyReached, at_first, sure, IsPossiblyReached, possible, IsGreatest}
-use Rattle.vq_model.proofs.Lists.{has-append_left, has-append_right, has_here, has_there}
-use Rattle.vq_model.proofs.Mapped.{has_mapped}
+use Rattle.vq_ground.proofs.Lists.{has-append_left, has-append_right, has_here, has_there}
+use Rattle.vq_ground.proofs.Mapped.{has_mapped}
 use Rattle.vq_order.specs.Counts.{AreFirst, MayBeMade, value_after}
 use Rattle.vq_clocks.proofs.Cited.{at_place, place_within}
-use Rattle.vq_model.proofs.Positions.{place}
-use Rattle.vq_spec.proofs.Cited.{has_at}
+use Rattle.vq_ground.proofs.Positions.{place}
 
 module _ (p : Plan) where
   first_hop : (i j : ℕ) (k : Stage) → has (must_finish p j) i ≡ true → comes_earlier p i j ≡ true → IsHop p i j k

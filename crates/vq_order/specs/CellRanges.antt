@@ -4,7 +4,7 @@ use Rattle.std.specs.Prelude.{ℕ, ◌≡◌, ◌<◌, ◌≤◌, ◌+◌, ◌*�
 use Rattle.std.specs.Prelude.{length, if◌then◌else◌, Some}
 use Rattle.std.specs.List.{flat_map, slice_get, slice_index_or}
 use Rattle.std.specs.Option.{option_to_list}
-use Rattle.vq_model.specs.Plan.{has}
+use Rattle.vq_ground.specs.Lists.{has}
 use Rattle.vq_order.specs.declared.races.accesses.MemoryAccess.{MemoryAccess}
 use Rattle.vq_order.specs.declared.races.cuts.Reach.{Reach}
 use Rattle.vq_order.specs.declared.races.accesses.Span.{Span}

@@ -1,7 +1,8 @@
 -- Pairs of commands that an order is asked of.
 -- Vulkan 1.3, "Execution and Memory Dependencies".
 use Rattle.std.specs.Prelude.{ℕ, ◌≡◌, ◌≢◌, true}
-use Rattle.vq_model.specs.Plan.{Plan, commands_of, has}
+use Rattle.vq_model.specs.Plan.{Plan, commands_of}
+use Rattle.vq_ground.specs.Lists.{has}
 
 -- commands of two jobs
 pub record AreOfTwoJobs (p : Plan) (c d : ℕ) : Type 0 where

@@ -1,10 +1,11 @@
 -- The signals of a chain as the script has them, and what is counted of them.
 use Rattle.std.proofs.Common.{◌≡◌, ◌+◌, Bool, cond, List, ◌∷◌, count_by, ℕ, suc, false, [], Some, refl, ap, arith, zero, ◌<◌, ◌≤◌, true, take, None, sym, subst, ◌∙◌, ◌++◌, Option, option_map, find, ◌⊎◌, inl, inr}
 use Rattle.std.proofs.lemmas.List.Sums.{sum_by-cons}
-use Rattle.std.specs.List.{slice_get, list_all}
+use Rattle.std.specs.List.{slice_get}
 use Rattle.vq_model.specs.declared.script.Mark.{Mark}
-use Rattle.vq_model.specs.Plan.{has, job_of, line_of_op, value, chain_of, Plan}
-use Rattle.vq_model.proofs.Lists.{has_here, has_there, has_cases, has-append_right}
+use Rattle.vq_model.specs.Plan.{job_of, line_of_op, value, chain_of, Plan}
+use Rattle.vq_ground.specs.Lists.{has}
+use Rattle.vq_ground.proofs.Lists.{has_here, has_there, has_cases, has-append_right}
 use Rattle.vq_order_laws.proofs.JobLines.{mark_lines}
 use Rattle.std.specs.Option.{option_to_list, option_map_or}
 use Rattle.vq_model.specs.declared.script.Script.{Script}
@@ -12,18 +13,15 @@ use Rattle.vq_model.specs.declared.script.Batch.{Batch}
 use Rattle.vq_model.specs.declared.script.Job.TheVariants.{Batch as BatchJob, Host}
 use Rattle.vq_model.specs.Signals.{Signaling, all_signals, job_signals, of_mark, step_signals, is_timeline_at}
 use Rattle.vq_model.specs.Lowering.{plan_of}
-use Rattle.std.proofs.lemmas.Bool.{false≢true, and_parts, cond-true, cond-false}
+use Rattle.std.proofs.lemmas.Bool.{false≢true, cond-true, cond-false}
 use Rattle.vq_model.specs.declared.script.HostLine.{HostLine}
 use Rattle.vq_model.specs.declared.script.HostStep.{HostStep}
 use Rattle.vq_model.specs.declared.script.HostStep.TheVariants.{Signal}
 use Rattle.vq_model.specs.declared.script.Job.{Job}
 use Rattle.vq_model.specs.ValidScripts.{IsValidStep, HasValidSteps}
-use Rattle.vq_model.proofs.Gets.{get-map}
-use Rattle.vq_model.proofs.Options.{some_of}
+use Rattle.vq_ground.proofs.Gets.{get-map}
+use Rattle.vq_ground.proofs.Options.{some_of}
 use Rattle.vq_plan_laws.proofs.Cited.{owner, op_chain_is, op_job_is, op_line_is}
-use Rattle.std.specs.Prelude.{All}
-use Rattle.std.proofs.lemmas.List.Elements.{All-head, All-tail}
-use Rattle.vq_model.specs.declared.plan.Need.{Need}
 use Rattle.vq_model.specs.WellFormed.{AreInOrder}
 
 -- Counting
@@ -177,23 +175,6 @@ pub only : (o : Option Mark) (k : ℕ) (m : Mark) → slice_get (option_to_list 
 only None k m e = absurd (let c : None ≡ Some m = e in cc)
 only (Some x) zero m e = e
 only (Some x) (suc k) m e = absurd (let c : None ≡ Some m = e in cc)
-
--- what holds of all holds of the one at a place
-pub of_all : {X : Type 0} (P : X → Type 0) (xs : List X) (k : ℕ) (x : X) → All P xs →
-    slice_get xs k ≡ Some x → P x
-of_all P [] k x a e = absurd (let c : None ≡ Some x = e in cc)
-of_all {X} P (y ∷ xs) zero x a e =
-    let same : y ≡ x = cc in subst P same (All-head P y xs a)
-of_all P (y ∷ xs) (suc k) x a e = of_all P xs k x (All-tail P y xs a) e
-
-pub all_pass : (test : Need → Bool) (ns : List Need) (k : ℕ) (n : Need) → list_all test ns ≡ true →
-    slice_get ns k ≡ Some n → test n ≡ true
-all_pass test [] k n h e = absurd (let c : None ≡ Some n = e in cc)
-all_pass test (m ∷ ns) zero n h e =
-    let same : m ≡ n = cc in
-    subst (λ (z : Need). test z ≡ true) same (and_parts (test m) (list_all test ns) h).0
-all_pass test (m ∷ ns) (suc k) n h e =
-    all_pass test ns k n (and_parts (test m) (list_all test ns) h).1 e
 
 -- Chains in order
 

@@ -14,7 +14,8 @@ use Rattle.vq_model.specs.declared.script.Job.{Job}
 use Rattle.vq_model.specs.declared.script.Job.TheVariants.{Batch as BatchJob}
 use Rattle.vq_model.specs.declared.plan.Need.{Need}
 use Rattle.vq_model.specs.Context.{is_timeline, is_fence}
-use Rattle.vq_model.specs.Plan.{has, chain, initial, value, job_of, chain_of, line_of_op, needs, waits_for_any, resolver}
+use Rattle.vq_model.specs.Plan.{chain, initial, value, job_of, chain_of, line_of_op, needs, waits_for_any, resolver}
+use Rattle.vq_ground.specs.Lists.{has, AreRising}
 use Rattle.vq_model.specs.Signals.{initial_value, Signaling, all_signals, kind_of, is_timeline_at, is_counted_at, signals_semaphore}
 use Rattle.vq_model.specs.Lowering.{plan_of, of_wait, plan_job}
 use Rattle.vq_model.specs.LoweringFaults.{lowering_fault, uses, Use, Waited, Signaled, UseLine, LastIs, SignaledTwice}
@@ -25,12 +26,12 @@ use Rattle.vq_model.specs.Machine.{is_reached, are_reached, can_start}
 use Rattle.vq_model.specs.SlowRun.{is_ready, payload_after, left_over}
 use Rattle.vq_model.specs.HappensBefore.{HappensBefore}
 use Rattle.vq_model.specs.Checks.{IsUnordered, IsNextSignal, NoLines, unawaited}
-use Rattle.vq_model.specs.WellFormed.{IsWellFormed, AreInOrder, AreRising}
+use Rattle.vq_model.specs.WellFormed.{IsWellFormed, AreInOrder}
 use Rattle.vq_model.specs.Lanes.{HasLinesInOrder}
-use Rattle.vq_model.proofs.Lists.{has_here, has_there, has_cases, has-append_cases, has-append_right, has-append_left}
+use Rattle.vq_ground.proofs.Lists.{has_here, has_there, has_cases, has-append_cases, has-append_right, has-append_left}
 use Rattle.vq_plan_laws.proofs.Cited.{well_formed, op_chain_is, part_is, op_value_is, count_ops, count_jobs, lines_in_order, counted_value, no_fault_found}
-use Rattle.vq_model.proofs.Gets.{get-map, get_within, get-append, get-append_left}
-use Rattle.vq_model.proofs.Options.{some_of}
+use Rattle.vq_ground.proofs.Gets.{get-map, get_within, get-append, get-append_left, all_at, all_pass_at}
+use Rattle.vq_ground.proofs.Options.{some_of}
 use Rattle.vq_order_laws.proofs.RowLaws.{order_from}
 use Rattle.vq_order_laws.proofs.Decides.{before_decides}
 use Rattle.vq_order_laws.proofs.EdgeReasons.{need_awaits}
@@ -39,7 +40,7 @@ use Rattle.vq_order_laws.proofs.UsesInOrder.{StandsIn, uses_rise}
 use Rattle.vq_order_laws.proofs.UseKinds.{IsUse, use_is, reset_fence, signal_is_use}
 use Rattle.vq_order_laws.proofs.LastUses.{HasLastBefore, last_before}
 use Rattle.vq_order_laws.proofs.JobLines.{lines_across, waits_first, wait_line, signal_line, job_rises, mark_lines}
-use Rattle.vq_order_laws.proofs.ChainSignals.{count_take_more, count_to, IsSignal, signal_is, line_among, mark_has, only, of_all, all_pass, find_here, order_across}
+use Rattle.vq_order_laws.proofs.ChainSignals.{count_take_more, count_to, IsSignal, signal_is, line_among, mark_has, only, find_here, order_across}
 
 -- Where lowering finds no fault, ..
 module _ (s : Script) (v : IsValid s) (bs : HasValidBatches s) (hs : HasValidSteps s)
@@ -158,11 +159,11 @@ module _ (s : Script) (v : IsValid s) (bs : HasValidBatches s) (hs : HasValidSte
 
   pub wait_kind : (b : Batch) (j k : ℕ) (m : Mark) → slice_get s.jobs j ≡ Some (BatchJob b) →
       slice_get b.waits k ≡ Some m → is_fence_at s m.semaphore ≡ false
-  wait_kind b j k m e h = (of_all (IsValidMark s) b.waits k m (bs j b e).waits h).kind
+  wait_kind b j k m e h = (all_at (IsValidMark s) b.waits k m (bs j b e).waits h).kind
 
   pub signal_kind : (b : Batch) (j k : ℕ) (m : Mark) → slice_get s.jobs j ≡ Some (BatchJob b) →
       slice_get b.signals k ≡ Some m → is_fence_at s m.semaphore ≡ false
-  signal_kind b j k m e h = (of_all (IsValidMark s) b.signals k m (bs j b e).signals h).kind
+  signal_kind b j k m e h = (all_at (IsValidMark s) b.signals k m (bs j b e).signals h).kind
 
   fence_kind : (b : Batch) (j k : ℕ) (m : Mark) → slice_get s.jobs j ≡ Some (BatchJob b) →
       slice_get (option_to_list b.fence) k ≡ Some m → is_fence_at s m.semaphore ≡ true
@@ -628,7 +629,7 @@ module _ (s : Script) (v : IsValid s) (bs : HasValidBatches s) (hs : HasValidSte
           (list_any (is_reached (payload_after (plan_of s) done)) (needs (plan_of s) x.wait.job))
           (list_all (is_reached (payload_after (plan_of s) done)) (needs (plan_of s) x.wait.job))
           waits_for_all) ∙ both.1 in
-          let one = all_pass (is_reached (payload_after (plan_of s) done))
+          let one = all_pass_at (is_reached (payload_after (plan_of s) done))
           (needs (plan_of s) x.wait.job) x.wait.place (of_wait s x.wait.job x.wait.mark) all need_at in
           let l = leb-true (of_wait s x.wait.job x.wait.mark).value
           (payload_after (plan_of s) done x.wait.mark.semaphore) one in

@@ -1,11 +1,12 @@
 -- Whether a job happens before another, and whether an operation is sure for it, can be decided.
 use Rattle.std.proofs.Common.{◌≡◌, ℕ, true, List, [], ◌∷◌, sym, ◌⊎◌, inl, inr, subst, Bool, false, refl, eqb, Option, Some, None, ap, ◌∙◌, zero, suc, ◌<◌, ◌≤◌, arith}
 use Rattle.std.proofs.lemmas.Bool.{false≢true, cases_eq, cases_lt, ltb-true}
-use Rattle.vq_model.specs.Plan.{has, Plan, job_of}
-use Rattle.vq_model.proofs.Lists.{has_here, has_there, has_cases}
+use Rattle.std.proofs.lemmas.Option.{same_Some}
+use Rattle.vq_model.specs.Plan.{Plan, job_of}
+use Rattle.vq_ground.specs.Lists.{has}
+use Rattle.vq_ground.proofs.Lists.{has_here, has_there, has_cases}
 use Rattle.std.specs.List.{position_or_len}
 use Rattle.vq_model.specs.SlowRun.{slow_order}
-use Rattle.vq_model.proofs.Options.{same_some}
 use Rattle.vq_model.specs.Edges.{Stage, AtEnd, must_finish, awaited_at, edges_at}
 use Rattle.vq_model.specs.HappensBefore.{comes_earlier, HappensBeforeAt, one, more, HappensBefore}
 use Rattle.vq_model.specs.Sure.{IsFinishedFirst, IsWaitedFor, IsSureAt, finished_first, waited_for, passed_on, IsSure}
@@ -42,7 +43,7 @@ job_decides p e j = by_option (job_of p e) refl
 
     by_option : (o : Option ℕ) → job_of p e ≡ o → (job_of p e ≡ Some j) ⊎ (job_of p e ≡ Some j → ⊥)
     by_option None i = inr (λ h. none_some (sym i ∙ h))
-    by_option (Some x) i = elim (cases_eq x j) [ inl q ↦ inl (i ∙ ap Some q) | inr n ↦ inr (λ h. n (same_some x j (sym i ∙ h))) ]
+    by_option (Some x) i = elim (cases_eq x j) [ inl q ↦ inl (i ∙ ap Some q) | inr n ↦ inr (λ h. n (same_Some x j (sym i ∙ h))) ]
 
 module _ (p : Plan) where
   before_by : (n i j : ℕ) (k : Stage) → stands p j < n → HappensBeforeAt p i j k ⊎ (HappensBeforeAt p i j k → ⊥)
@@ -87,7 +88,7 @@ module _ (p : Plan) where
       by_option (Some x) i = elim (both_decide (test_decides (has (must_finish p j) x)) (test_decides (comes_earlier p x j))) [
         | inl q ↦ inl (record { job = x; of_job = i; first = q.0; earlier = q.1 })
         | inr n ↦ inr (λ f.
-            let s = same_some f.job x (sym f.of_job ∙ i) in
+            let s = same_Some f.job x (sym f.of_job ∙ i) in
             n (subst (λ z. has (must_finish p j) z ≡ true) s f.first, subst (λ z. comes_earlier p z j ≡ true) s f.earlier))
       ]
 
@@ -106,7 +107,7 @@ module _ (p : Plan) where
           elim (both_decide (test_decides (comes_earlier p x j)) (as_test (in_list (λ r. (job_of p r ≡ Some x) × (e ≤ r)) (awaited_at p j k) (λ r m. both_decide (job_decides p r x) (later_decides r))))) [
             | inl q ↦ (let r = q.1 in inl (record { job = x; of_job = i; by_op = r.0; same_job = r.2.0; at_or_later = r.2.1; waits = r.1; earlier = q.0 }))
             | inr n ↦ inr (λ f.
-                let s = same_some f.job x (sym f.of_job ∙ i) in
+                let s = same_Some f.job x (sym f.of_job ∙ i) in
                 n (subst (λ z. comes_earlier p z j ≡ true) s f.earlier, (f.by_op, f.waits, (f.same_job ∙ ap Some s, f.at_or_later))))
           ]
         where

@@ -3,11 +3,12 @@ use Rattle.std.proofs.Common.{◌≡◌, ℕ, Bool, true, List, Some, zero, suc,
 use Rattle.std.specs.List.{slice_get, filter_map, cons_option}
 use Rattle.vq_model.specs.declared.plan.Need.{Need}
 use Rattle.std.proofs.lemmas.Bool.{cond-true, cond-false, false≢true, ltb-true, lt-ltb}
-use Rattle.vq_model.specs.Plan.{has, Plan, resolver, initial, previous, host_before, idle_after, needs, waits_for_any, job_of}
-use Rattle.vq_model.proofs.Lists.{has_cases, has_here, has_there, has-append_cases, has-append_left, has-append_right, in_option}
+use Rattle.vq_model.specs.Plan.{Plan, resolver, initial, previous, host_before, idle_after, needs, waits_for_any, job_of}
+use Rattle.vq_ground.specs.Lists.{has}
+use Rattle.vq_ground.proofs.Lists.{has_cases, has_here, has_there, has-append_cases, has-append_left, has-append_right, in_option}
 use Rattle.std.specs.Option.{option_to_list}
 use Rattle.vq_model.specs.Edges.{Stage, At, AtEnd, must_finish, needs_at, awaited_at, edges_at, holds_back, EdgeAt, by_lane, by_host, by_need, by_idle}
-use Rattle.vq_model.proofs.Mapped.{has_mapped, mapped}
+use Rattle.vq_ground.proofs.Mapped.{has_mapped, mapped}
 
 -- Lists of needs
 

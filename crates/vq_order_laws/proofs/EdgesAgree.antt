@@ -1,11 +1,13 @@
 -- In a plan with a sure order every edge agrees with the slow run: it leads from a job that stands
 -- earlier there.
-use Rattle.std.proofs.Common.{ℕ, ◌≡◌, zero, suc, true, false, Bool, List, [], ◌∷◌, ◌&&◌, not, sym, ap, ◌∙◌, subst, ◌<◌, ◌≤◌, leb, inl, inr, arith, length, Option, Some, None}
+use Rattle.std.proofs.Common.{ℕ, ◌≡◌, true, false, List, [], ◌∷◌, ◌&&◌, not, sym, ap, ◌∙◌, subst, ◌<◌, ◌≤◌, leb, inl, inr, arith, length, Option, Some, None}
 use Rattle.std.specs.List.{slice_get, list_all, list_any}
 use Rattle.std.specs.Option.{option_map_or}
 use Rattle.std.proofs.lemmas.Bool.{and_parts, cases_lt, cond-false, false≢true, lt-ltb, ltb-true, leb-true, le-leb}
+use Rattle.std.proofs.lemmas.Option.{same_Some, slice_get_past}
 use Rattle.vq_model.specs.declared.plan.Need.{Need}
-use Rattle.vq_model.specs.Plan.{Plan, has, needs, waits_for_any, value, job_of, chain, initial, resolver}
+use Rattle.vq_model.specs.Plan.{Plan, needs, waits_for_any, value, job_of, chain, initial, resolver}
+use Rattle.vq_ground.specs.Lists.{has}
 use Rattle.vq_model.specs.Edges.{AtEnd, EdgeAt, by_lane, by_host, by_need, by_idle, edges_to}
 use Rattle.vq_model.specs.Machine.{is_reached, are_reached, can_start}
 use Rattle.vq_model.specs.HappensBefore.{comes_earlier}
@@ -13,11 +15,10 @@ use Rattle.vq_model.specs.Races.{HasSureOrder}
 use Rattle.vq_model.specs.SlowRun.{is_ready, payload_after, slow_order}
 use Rattle.vq_model.specs.Sure.{IsSure, finished_first, waited_for, passed_on, KeepsRising, RisesFrom}
 use Rattle.vq_model.specs.WellFormed.{IsWellFormed}
-use Rattle.vq_model.proofs.Gets.{slice_get_past}
-use Rattle.vq_model.proofs.Lists.{has_cases, has-append_cases}
-use Rattle.vq_model.proofs.Options.{same_some}
-use Rattle.vq_model.proofs.Positions.{place}
-use Rattle.vq_model.proofs.Searches.{Finds, find_splits}
+use Rattle.vq_ground.proofs.Gets.{all_pass_at}
+use Rattle.vq_ground.proofs.Lists.{has_cases, has-append_cases}
+use Rattle.vq_ground.proofs.Positions.{place}
+use Rattle.vq_ground.proofs.Searches.{Finds, find_splits}
 use Rattle.vq_order_laws.proofs.EdgeReasons.{edge_of, lane_first, host_first, idle_first}
 use Rattle.vq_order_laws.proofs.RisingChains.{rising_at}
 use Rattle.vq_order_laws.proofs.SlowFronts.{finished_earlier, signaled_earlier}
@@ -29,12 +30,12 @@ stands p j = place (slow_order p) j
 -- what is sure for a job is signaled by one that stands earlier
 pub sure_stands : (p : Plan) (e i j : ℕ) → job_of p e ≡ Some i → IsSure p e j → stands p i < stands p j
 sure_stands p e i j at (finished_first f) =
-    let same = same_some f.job i (sym f.of_job ∙ at) in
+    let same = same_Some f.job i (sym f.of_job ∙ at) in
     let l = ltb-true (stands p f.job) (stands p j) f.earlier in
     let q = ap (stands p) same in
     omega arith
 sure_stands p e i j at (waited_for f) =
-    let same = same_some f.job i (sym f.of_job ∙ at) in
+    let same = same_Some f.job i (sym f.of_job ∙ at) in
     let l = ltb-true (stands p f.job) (stands p j) f.earlier in
     let q = ap (stands p) same in
     omega arith
@@ -51,21 +52,12 @@ rising_stands p r (f ∷ es) g i j k m ri gj =
     let s = sure_stands p r i k.1.0 ri k.1.2 in
     elim (has_cases f es g m) [
       | inl q ↦
-          (let same = same_some k.1.0 j (sym k.1.1 ∙ (ap (job_of p) q ∙ gj)) in
+          (let same = same_Some k.1.0 j (sym k.1.1 ∙ (ap (job_of p) q ∙ gj)) in
           let z = ap (stands p) same in
           omega arith)
       | inr n ↦
           (let l = rising_stands p f es g k.1.0 j k.2 n k.1.1 gj in omega arith)
     ]
-
--- where all of some needs are reached, each is
-one_of_all : (test : Need → Bool) (ns : List Need) (place : ℕ) (n : Need) →
-    list_all test ns ≡ true → slice_get ns place ≡ Some n → test n ≡ true
-one_of_all test [] place n a e = absurd (let c : None ≡ Some n = e in cc)
-one_of_all test (m ∷ ns) zero n a e =
-    let same : m ≡ n = cc in ap test (sym same) ∙ (and_parts (test m) (list_all test ns) a).0
-one_of_all test (m ∷ ns) (suc place) n a e =
-    one_of_all test ns place n (and_parts (test m) (list_all test ns) a).1 e
 
 module _ (p : Plan) (w : IsWellFormed p) (o : HasSureOrder p) where
   -- a job that waits for a need is one
@@ -91,7 +83,7 @@ module _ (p : Plan) (w : IsWellFormed p) (o : HasSureOrder p) where
       (list_any (is_reached (payload_after p done)) (needs p j))
       (list_all (is_reached (payload_after p done)) (needs p j)) any) ∙ both.1 in
       leb-true n.value (payload_after p done n.chain)
-      (one_of_all (is_reached (payload_after p done)) (needs p j) place n all at)
+      (all_pass_at (is_reached (payload_after p done)) (needs p j) place n all at)
 
   need_agrees : (i j : ℕ) (n : Need) (place e : ℕ) → waits_for_any p j ≡ false →
       slice_get (needs p j) place ≡ Some n → initial p n.chain < n.value →
@@ -123,7 +115,7 @@ module _ (p : Plan) (w : IsWellFormed p) (o : HasSureOrder p) where
           has (e ∷ f.back) g ≡ true → stands p i < stands p j
       by_place g k v gk l f m = elim (has_cases e f.back g m) [
         | inl q ↦
-            (let same = same_some i k (sym of_job ∙ (ap (job_of p) q ∙ gk)) in
+            (let same = same_Some i k (sym of_job ∙ (ap (job_of p) q ∙ gk)) in
             let z = ap (stands p) same in
             omega arith)
         | inr b ↦

@@ -3,13 +3,14 @@
 use Rattle.std.proofs.Common.{◌≡◌, ◌≢◌, ℕ, zero, suc, ◌<◌, ◌≤◌, true, ◌⊎◌, [], length, inl, inr, sym, ap, ◌∙◌, subst, arith, ◌+◌, Bool, false, ◌++◌, take, Option, Some, None, refl}
 use Rattle.std.specs.List.{slice_get}
 use Rattle.std.proofs.lemmas.Bool.{cases_eq, false≢true, cases_lt}
-use Rattle.vq_model.specs.Plan.{Plan, has, is_host_step, previous, host_before, idle_after, same_lane, is_host_lane}
+use Rattle.vq_model.specs.Plan.{Plan, is_host_step, previous, host_before, idle_after, same_lane, is_host_lane}
+use Rattle.vq_ground.specs.Lists.{has}
 use Rattle.vq_model.specs.Edges.{AtEnd, must_finish}
 use Rattle.vq_model.specs.SlowRun.{left_over}
 use Rattle.vq_model.specs.HappensBefore.{IsHop}
 use Rattle.vq_model.specs.Sure.{IsSure, passed_on}
 use Rattle.vq_model.specs.WellFormed.{KeepsHostOrder}
-use Rattle.vq_model.proofs.Lists.{has_here, has-append_left, has-append_right}
+use Rattle.vq_ground.proofs.Lists.{has_here, has-append_left, has-append_right}
 use Rattle.vq_order_laws.proofs.SlowFronts.{finished_earlier}
 use Rattle.vq_order_laws.proofs.EdgeReasons.{finish_edge}
 use Rattle.std.specs.Option.{option_map_or, option_to_list}
@@ -22,7 +23,7 @@ use Rattle.vq_model.specs.declared.plan.Lane.TheVariants.{Host as HostLane}
 use Rattle.vq_model.specs.Lowering.{lane_of, plan_job, plan_of}
 use Rattle.vq_model.specs.LoweringFaults.{IsPlan}
 use Rattle.vq_plan_laws.proofs.Cited.{HasNone, IsLast, last_cases, part_is, count_jobs, plan_hosts}
-use Rattle.vq_model.proofs.Gets.{get-take, get-take_within, get_some, get_within}
+use Rattle.vq_ground.proofs.Gets.{get-take, get-take_within, get_some, get_within}
 
 module _ (p : Plan) (reach : left_over p ≡ []) where
   pub finished_hop : (i j : ℕ) → j < length p.jobs → has (must_finish p j) i ≡ true → IsHop p i j AtEnd

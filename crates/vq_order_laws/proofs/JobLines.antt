@@ -1,12 +1,12 @@
 -- The lines of jobs, and of the waits and signals in them.
 use Rattle.std.proofs.Common.{◌≡◌, ℕ, zero, suc, List, [], ◌∷◌, Some, None, subst, true, sym, ◌<◌, arith, map, ◌⊎◌, ◌++◌, inl, inr}
 use Rattle.std.specs.List.{slice_get, flat_map}
+use Rattle.std.proofs.lemmas.List.{map-append}
 use Rattle.vq_model.specs.declared.script.Job.{Job}
-use Rattle.vq_model.specs.WellFormed.{AreRising}
+use Rattle.vq_ground.specs.Lists.{AreRising, has}
 use Rattle.vq_model.specs.ValidScripts.{job_lines}
-use Rattle.vq_model.proofs.Rising.{rising_left, rising_right, rising_across, map-append}
-use Rattle.vq_model.specs.Plan.{has}
-use Rattle.vq_model.proofs.Lists.{has-append_left, has-append_right, has-append_cases, has_there}
+use Rattle.vq_ground.proofs.Rising.{rising_left, rising_right, rising_across}
+use Rattle.vq_ground.proofs.Lists.{has-append_left, has-append_right, has-append_cases, has_there}
 use Rattle.vq_model.specs.declared.script.Mark.{Mark}
 use Rattle.std.specs.Option.{option_to_list}
 use Rattle.vq_model.specs.declared.script.Batch.{Batch}

@@ -2,12 +2,12 @@
 use Rattle.std.proofs.Common.{◌≡◌, ℕ, Bool, true, false, eqb, List, [], ◌∷◌, ◌++◌, inl, inr, refl, sym, ap, ◌∙◌, subst, ◌<◌, ◌⊎◌, map, arith}
 use Rattle.std.specs.List.{list_any}
 use Rattle.std.proofs.lemmas.Bool.{eqb-true, eq-eqb, false≢true, or_left, or_right, or_cases}
+use Rattle.std.proofs.lemmas.List.{map-append}
 use Rattle.vq_model.specs.LoweringFaults.{Use, UseLine, LastIs, uses}
 use Rattle.vq_order_laws.proofs.UsesInOrder.{StandsIn, of_append, number_stands, in_first}
-use Rattle.vq_model.specs.Plan.{has}
-use Rattle.vq_model.specs.WellFormed.{AreRising}
-use Rattle.vq_model.proofs.Lists.{has_cases, has_here}
-use Rattle.vq_model.proofs.Rising.{rising_right, map-append, rising_left, rising_across}
+use Rattle.vq_ground.specs.Lists.{has, AreRising}
+use Rattle.vq_ground.proofs.Lists.{has_cases, has_here}
+use Rattle.vq_ground.proofs.Rising.{rising_right, rising_left, rising_across}
 use Rattle.vq_model.specs.declared.script.Script.{Script}
 
 -- The last use of a semaphore

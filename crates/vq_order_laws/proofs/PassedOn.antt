@@ -1,7 +1,8 @@
 -- A chain whose signals are passed on: for each but the last a job waits, which is the next signal's
 -- or happens before it. Such a chain rises in a sure order.
 use Rattle.std.proofs.Common.{ℕ, ◌≡◌, true, List, [], ◌∷◌, ◌++◌, refl, sym, ap, ◌∙◌, subst, ◌<◌, ◌≤◌, inl, inr, arith, length, ◌⊎◌, Some, zero, suc}
-use Rattle.vq_model.specs.Plan.{Plan, has, value, job_of, chain, initial}
+use Rattle.vq_model.specs.Plan.{Plan, value, job_of, chain, initial}
+use Rattle.vq_ground.specs.Lists.{has}
 use Rattle.vq_model.specs.Edges.{Stage, AtEnd, awaited_at}
 use Rattle.vq_model.specs.HappensBefore.{HappensBeforeAt, one, more, HappensBefore, comes_earlier}
 use Rattle.vq_model.specs.Sure.{IsSureAt, IsSure, passed_on, IsSureForJobOf, KeepsRising, RisesFrom, waited_for}
@@ -10,8 +11,8 @@ use Rattle.vq_model.specs.SlowRun.{is_ready, payload_after, slow_order, left_ove
 use Rattle.vq_order_laws.proofs.SlowOrder.{before_earlier}
 use Rattle.vq_order_laws.proofs.SlowFronts.{signaled_earlier}
 use Rattle.std.proofs.lemmas.Bool.{false≢true, lt-ltb}
-use Rattle.vq_model.proofs.Lists.{has_here, has_cases, Splits, split_at, has-append_cases, has-append_right}
-use Rattle.vq_model.proofs.Positions.{place}
+use Rattle.vq_ground.proofs.Lists.{has_here, has_cases, Splits, split_at, has-append_cases, has-append_right}
+use Rattle.vq_ground.proofs.Positions.{place}
 
 -- what is sure for a job is sure for what the job happens before
 pub sure_along : (p : Plan) (e i j : ℕ) (k : Stage) → IsSure p e i → HappensBeforeAt p i j k →

@@ -4,11 +4,12 @@ use Rattle.std.proofs.Common.{◌≡◌, ℕ, ◌≤◌, Bool, true, false, List
 use Rattle.std.specs.List.{filter_map, cons_option, position_or_len}
 use Rattle.std.proofs.lemmas.Bool.{cond-true, cond-false, false≢true, le-leb, leb-true}
 use Rattle.vq_model.specs.declared.plan.Need.{Need}
-use Rattle.vq_model.specs.Plan.{has, Plan, initial, resolver, needs, waits_for_any, job_of, commands_of}
-use Rattle.vq_model.proofs.Lists.{has_here, has_there, has_cases, has-append_cases, has-append_left, has-append_right}
+use Rattle.vq_model.specs.Plan.{Plan, initial, resolver, needs, waits_for_any, job_of, commands_of}
+use Rattle.vq_ground.specs.Lists.{has}
+use Rattle.vq_ground.proofs.Lists.{has_here, has_there, has_cases, has-append_cases, has-append_left, has-append_right}
 use Rattle.vq_model.specs.Edges.{Stage, At, AtEnd, awaited_at, needs_at, must_finish, stage_of, HasNoHeldWait}
 use Rattle.vq_model.specs.HappensBefore.{IsHop, HappensBefore, HappensBeforeAt, one, more, HappensBeforeCommand}
-use Rattle.vq_model.proofs.Mapped.{mapped, has_mapped}
+use Rattle.vq_ground.proofs.Mapped.{mapped, has_mapped}
 use Rattle.vq_model.specs.Sure.{IsSure, IsSureAt, finished_first, waited_for, passed_on}
 use Rattle.vq_plan_laws.proofs.Cited.{same_before, needs_alike}
 

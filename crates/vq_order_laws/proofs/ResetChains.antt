@@ -12,9 +12,10 @@ use Rattle.std.specs.Option.{option_map_or, option_to_list}
 use Rattle.vq_model.specs.declared.script.Job.{Job}
 use Rattle.vq_model.specs.Lowering.{names_fence, resets_fence, plan_of, step_resets}
 use Rattle.vq_model.specs.Checks.{names_at, resets_at, IsEffectiveReset, IsFenceBusyAt, IsUnordered, NoLine, NoLines}
-use Rattle.vq_model.specs.Plan.{has, chain, initial, line_of_job}
+use Rattle.vq_model.specs.Plan.{chain, initial, line_of_job}
+use Rattle.vq_ground.specs.Lists.{has}
 use Rattle.vq_model.specs.ValidScripts.{job_lines, IsValid, HasValidBatches, HasValidSteps, HasRisingLines, is_fence_at}
-use Rattle.vq_model.proofs.Gets.{get-append, get-map, get_some}
+use Rattle.vq_ground.proofs.Gets.{get-append, get-map, get_some}
 use Rattle.vq_order_laws.proofs.JobLines.{signal_line, lines_across}
 use Rattle.vq_order_laws.proofs.ChainSignals.{mark_has, IsSignal}
 use Rattle.vq_model.specs.declared.script.HostLine.{HostLine}
@@ -28,7 +29,7 @@ use Rattle.vq_model.specs.Signals.{initial_value, kind_of, is_timeline_at, is_co
 use Rattle.vq_model.specs.LoweringFaults.{lowering_fault, uses, Use, Named, UseLine, LastIs, FenceUsed}
 use Rattle.vq_model.specs.SlowRun.{left_over}
 use Rattle.vq_model.specs.Sure.{IsSure, IsSureForJobOf, KeepsRising, RisesFrom}
-use Rattle.vq_model.proofs.Lists.{has_here}
+use Rattle.vq_ground.proofs.Lists.{has_here}
 use Rattle.vq_plan_laws.proofs.Cited.{host_order, op_chain_is, no_fault_found}
 use Rattle.vq_order_laws.proofs.Decides.{sure_decides}
 use Rattle.vq_order_laws.proofs.HostOrder.{sure_for_batch}

@@ -7,7 +7,8 @@ use Rattle.vq_model.specs.Ranges.{share, written_range, read_range, conflict}
 use Rattle.std.specs.Option.{option_map_or, option_to_list}
 use Rattle.vq_model.specs.declared.script.Command.{Command}
 use Rattle.std.specs.List.{list_any, slice_get}
-use Rattle.vq_model.specs.Plan.{Plan, command_at, line_of_command, chain, job_of, chain_of, has, initial, value, line_of_op}
+use Rattle.vq_model.specs.Plan.{Plan, command_at, line_of_command, chain, job_of, chain_of, initial, value, line_of_op}
+use Rattle.vq_ground.specs.Lists.{has}
 use Rattle.vq_model.specs.Races.{conflicts, HasNoRace}
 use Rattle.vq_model.specs.Edges.{stage_of, AtEnd}
 use Rattle.vq_model.specs.HappensBefore.{HappensBeforeCommand}
@@ -17,9 +18,9 @@ use Rattle.vq_model.specs.declared.plan.Op.{Op}
 use Rattle.vq_model.specs.WellFormed.{AreInOrder, IsWellFormed}
 use Rattle.std.proofs.lemmas.List.{append_assoc}
 use Rattle.vq_model.specs.Sure.{IsSure, IsSureForJobOf, KeepsRising, RisesFrom}
-use Rattle.vq_model.proofs.Lists.{has-append_right, has_here}
-use Rattle.vq_model.proofs.Gets.{get-append}
-use Rattle.vq_model.proofs.Numbers.{eqb_comm}
+use Rattle.vq_ground.proofs.Lists.{has-append_right, has_here}
+use Rattle.vq_ground.proofs.Gets.{get-append}
+use Rattle.vq_ground.proofs.Numbers.{eqb_comm}
 
 -- Conflicts go both ways
 

@@ -4,13 +4,14 @@ use Rattle.std.proofs.Common.{ℕ, ◌≡◌, true, List, [], ◌∷◌, ◌++�
 use Rattle.std.specs.List.{list_all}
 use Rattle.std.proofs.lemmas.Bool.{and_parts, cases_lt, cond-true, cond-false, false≢true, eq-eqb, lt-ltb}
 use Rattle.std.proofs.lemmas.List.{append_assoc}
-use Rattle.vq_model.specs.Plan.{Plan, has, value, job_of, chain, initial}
+use Rattle.vq_model.specs.Plan.{Plan, value, job_of, chain, initial}
+use Rattle.vq_ground.specs.Lists.{has}
 use Rattle.vq_model.specs.Edges.{At, AtEnd, must_finish}
 use Rattle.vq_model.specs.Machine.{are_reached, can_start}
 use Rattle.vq_model.specs.HappensBefore.{comes_earlier}
 use Rattle.vq_model.specs.SlowRun.{is_ready, greatest, is_of, payload_after, slow_order, left_over}
-use Rattle.vq_model.proofs.Lists.{has_here, has_there, has_cases, AreDistinct, Splits, split_at, list_all_has}
-use Rattle.vq_model.proofs.Positions.{place, place_tail, place_head, place-append}
+use Rattle.vq_ground.proofs.Lists.{has_here, has_there, has_cases, AreDistinct, Splits, split_at, list_all_has}
+use Rattle.vq_ground.proofs.Positions.{place, place_tail, place_head, place-append}
 use Rattle.vq_order_laws.proofs.SlowOrder.{ReadyEach, slow_distinct, slow_has, slow_adds, is_of_job}
 
 -- a job of a slow run is ready after those before it

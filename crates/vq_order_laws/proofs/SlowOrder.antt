@@ -3,16 +3,17 @@ use Rattle.std.proofs.Common.{◌≡◌, ℕ, zero, suc, ◌<◌, true, not, ◌
 use Rattle.std.specs.List.{range_with_len}
 use Rattle.std.specs.Option.{option_map_or}
 use Rattle.std.proofs.lemmas.Bool.{and_parts, ltb-true, not-true, not-false, false≢true}
-use Rattle.vq_model.specs.Plan.{Plan, has, job_of}
+use Rattle.vq_model.specs.Plan.{Plan, job_of}
+use Rattle.vq_ground.specs.Lists.{has}
 use Rattle.vq_model.specs.Edges.{Stage, AtEnd}
 use Rattle.vq_model.specs.Machine.{can_start, are_reached}
 use Rattle.vq_model.specs.SlowRun.{is_ready, payload_after, lowest_ready, slow_from, slow_order, left_over, is_of}
 use Rattle.vq_model.specs.HappensBefore.{HappensBeforeAt, one, more}
-use Rattle.vq_model.proofs.Lists.{AreDistinct, distinct_push}
-use Rattle.vq_model.proofs.Searches.{find_passes, find_member}
-use Rattle.vq_model.proofs.Filters.{filter_none}
-use Rattle.vq_model.proofs.Numbers.{has_range, in_range}
-use Rattle.vq_model.proofs.Positions.{place}
+use Rattle.vq_ground.proofs.Lists.{AreDistinct, distinct_push}
+use Rattle.vq_ground.proofs.Searches.{find_passes, find_member}
+use Rattle.vq_ground.proofs.Filters.{filter_none}
+use Rattle.vq_ground.proofs.Numbers.{has_range, in_range}
+use Rattle.vq_ground.proofs.Positions.{place}
 use Rattle.std.proofs.lemmas.List.{append_assoc}
 
 module _ (p : Plan) where

@@ -5,18 +5,19 @@ use Rattle.std.specs.Option.{option_map_or}
 use Rattle.std.proofs.lemmas.Bool.{or_parts, and_parts, cases_eq, not-true, false≢true, and_from, cond-true, cond-false}
 use Rattle.std.proofs.lemmas.List.{length-map}
 use Rattle.std.proofs.lemmas.List.FromFn.{length-map-range_with_len}
-use Rattle.vq_model.specs.Plan.{Plan, has, needs, waits_for_any}
+use Rattle.vq_model.specs.Plan.{Plan, needs, waits_for_any}
+use Rattle.vq_ground.specs.Lists.{has}
 use Rattle.vq_model.specs.Edges.{AtEnd, must_finish}
 use Rattle.vq_model.specs.Machine.{are_reached, can_start, is_reached}
 use Rattle.vq_model.specs.SlowRun.{is_ready, payload_after, lowest_ready, slow_from, slow_order, left_over}
-use Rattle.vq_model.proofs.Lists.{AreDistinct, has-append, has-append_right, has_here, distinct_front, has_there, has_cases, list_all_from}
-use Rattle.vq_model.proofs.Searches.{find_passes, find_member, find_fails}
+use Rattle.vq_ground.proofs.Lists.{AreDistinct, has-append, has-append_right, has_here, distinct_front, has_there, has_cases, list_all_from}
+use Rattle.vq_ground.proofs.Searches.{find_passes, find_member, find_fails}
 use Rattle.vq_order_laws.proofs.SlowOrder.{slow_distinct}
-use Rattle.vq_model.proofs.Filters.{filter_fewer, filter_less, filter_all, filter-has_cases}
+use Rattle.vq_ground.proofs.Filters.{filter_fewer, filter_less, filter_all, filter-has_cases}
 use Rattle.vq_model.specs.declared.plan.Need.{Need}
 use Rattle.vq_model.specs.WellFormed.{IsWellFormed}
 use Rattle.vq_model.specs.Checks.{IsUnreachableAt}
-use Rattle.vq_model.proofs.Numbers.{has_range}
+use Rattle.vq_ground.proofs.Numbers.{has_range}
 use Rattle.vq_plan_laws.proofs.Cited.{ready_whole}
 
 module _ (p : Plan) where

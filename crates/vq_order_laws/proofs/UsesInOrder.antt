@@ -1,10 +1,10 @@
 -- The uses of binary semaphores and fences stand in the order of the lines.
 use Rattle.std.proofs.Common.{◌≡◌, List, ◌∷◌, ◌++◌, ap, ◌∙◌, sym, ℕ, zero, suc, [], Some, None, subst, ◌⊎◌, inl, inr, refl, true, map, Bool, false, cond}
-use Rattle.std.proofs.lemmas.List.{append_assoc}
+use Rattle.std.proofs.lemmas.List.{append_assoc, map-append}
 use Rattle.std.specs.List.{slice_get, flat_map}
-use Rattle.vq_model.specs.Plan.{has}
-use Rattle.vq_model.proofs.Lists.{has_here, has-append_right}
-use Rattle.vq_model.proofs.Rising.{map-append, IsPart, part_join, part_none, part_same, part_left, part_right}
+use Rattle.vq_ground.specs.Lists.{has, AreRising}
+use Rattle.vq_ground.proofs.Lists.{has_here, has-append_right}
+use Rattle.vq_ground.proofs.Rising.{IsPart, part_join, part_none, part_same, part_left, part_right}
 use Rattle.vq_model.specs.declared.script.Script.{Script}
 use Rattle.vq_model.specs.declared.script.Mark.{Mark}
 use Rattle.vq_model.specs.Signals.{is_counted_at}
@@ -15,7 +15,6 @@ use Rattle.vq_model.specs.declared.script.HostStep.TheVariants.{FenceReset}
 use Rattle.vq_model.specs.declared.script.Job.{Job}
 use Rattle.vq_model.specs.declared.script.Job.TheVariants.{Host, Batch as BatchJob}
 use Rattle.vq_model.specs.ValidScripts.{job_lines, HasRisingLines}
-use Rattle.vq_model.specs.WellFormed.{AreRising}
 
 -- An item stands in a list.
 pub record StandsIn {X : Type 0} (xs : List X) (x : X) : Type 0 where

@@ -2,7 +2,8 @@
 //! functions do nothing: their contracts are the laws.
 ghost use Rattle.std.specs.Prelude.{◌≡◌, ◌<◌, ◌++◌, ℕ, length, true, false, List, ◌∷◌, ◌⊎◌};
 ghost use Rattle.std.specs.Prelude.{[], None, ◌↔◌};
-ghost use Rattle.vq_model.specs.Plan.{Plan, has, chain, initial, value};
+ghost use Rattle.vq_model.specs.Plan.{Plan, chain, initial, value};
+ghost use Rattle.vq_ground.specs.Lists.{has};
 ghost use Rattle.vq_model.specs.WellFormed.{IsWellFormed};
 ghost use Rattle.vq_model.specs.SlowRun.{is_ready, slow_order, left_over};
 ghost use Rattle.vq_model.specs.Checks.{IsUnreachableAt, IsLawful, IsUnordered, IsRaceAt, NoLines, is_timeline_chain};

@@ -2,39 +2,20 @@
 use Rattle.std.proofs.Common.{◌≡◌, ℕ, zero, suc, ◌<◌, ◌≤◌, Bool, true, false, List, [], ◌∷◌, length, map, find, get_or, Some, refl, sym, ap, ◌∙◌, subst, arith, inl, inr}
 use Rattle.std.specs.Prelude.{nat_le, nat_lt}
 use Rattle.std.specs.List.{slice_get}
-use Rattle.std.specs.List.Sorted.{IsPartitionedBy, IsPartitionPoint}
+use Rattle.std.specs.List.Sorted.{IsPartitionPoint}
 use Rattle.std.proofs.lemmas.Bool.{cond-true, cond-false, cases_lt}
-use Rattle.std.proofs.lemmas.Bool.Decides.{nat_tests}
 use Rattle.std.proofs.lemmas.List.{length-map}
+use Rattle.vq_ground.proofs.Tests.{at_least_of_test, at_most_test, below_of_test, above_test}
 use Rattle.vq_model.specs.Plan.{Plan, chain, chain_of, initial, value, resolver}
 use Rattle.vq_model.specs.Sure.{KeepsRising, RisesFrom}
-use Rattle.vq_model.proofs.Gets.{get_some, get_within}
+use Rattle.vq_ground.proofs.Gets.{get_some, get_within, get_has}
 use Rattle.vq_model.specs.WellFormed.{IsWellFormed}
 use Rattle.vq_model.proofs.Plans.{op_within}
-use Rattle.vq_model.proofs.Searches.{at_place}
-use Rattle.vq_points.specs.Timeline.{AreRisingFrom}
-use Rattle.vq_core_laws.proofs.Cited.{Facts, chain_places, stands}
+use Rattle.vq_ground.proofs.Searches.{at_place}
+use Rattle.vq_core_laws.proofs.Cited.{Facts, chain_places}
 use Rattle.vq_payload.specs.Chains.{value_up_to}
 
 -- Tests
-
-pub above_test : (a b : ℕ) → b < a → nat_le a b ≡ false
-above_test a b l = grind (arith, nat_tests)
-
-pub at_most_test : (a b : ℕ) → a ≤ b → nat_le a b ≡ true
-at_most_test a b l = grind (arith, nat_tests)
-
-pub below_test : (a b : ℕ) → a < b → nat_lt a b ≡ true
-below_test a b l = grind (arith, nat_tests)
-
-pub not_below_test : (a b : ℕ) → b ≤ a → nat_lt a b ≡ false
-not_below_test a b l = grind (arith, nat_tests)
-
-below_of_test : (a b : ℕ) → nat_lt a b ≡ true → a < b
-below_of_test a b h = grind (arith, nat_tests)
-
-at_least_of_test : (a b : ℕ) → nat_lt a b ≡ false → b ≤ a
-at_least_of_test a b h = grind (arith, nat_tests)
 
 -- a search finds what stands at a place, where all before fails the test and this doesn't
 pub find_cut : (test : ℕ → Bool) (xs : List ℕ) (n : ℕ) → ((i e : ℕ) → i < n → slice_get xs i ≡ Some e → test e ≡ false) → ((e : ℕ) → slice_get xs n ≡ Some e → test e ≡ true) → find test xs ≡ slice_get xs n
@@ -45,24 +26,6 @@ find_cut test (x ∷ xs) (suc n) below here =
     ∙ find_cut test xs n (λ i e l g. below (suc i) e (omega arith) g) here
 
 -- Rising values
-
-rising_above : (n : ℕ) (xs : List ℕ) (j d : ℕ) → AreRisingFrom n xs → j < length xs → n < get_or xs j d
-rising_above n [] j d h l = absurd (omega arith)
-rising_above n (x ∷ xs) zero d h l = h.0
-rising_above n (x ∷ xs) (suc j) d h l = let first = h.0 in let more = rising_above x xs j d h.1 (omega arith) in omega arith
-
-rising_at : (x : ℕ) (xs : List ℕ) (i j d : ℕ) → AreRisingFrom x xs → i ≤ j → j < suc (length xs) → get_or (x ∷ xs) i d ≤ get_or (x ∷ xs) j d
-rising_at x xs zero zero d h l m = omega arith
-rising_at x xs zero (suc j) d h l m = let more = rising_above x xs j d h (omega arith) in omega arith
-rising_at x xs (suc i) zero d h l m = absurd (omega arith)
-rising_at x [] (suc i) (suc j) d h l m = absurd (omega arith)
-rising_at x (y ∷ xs) (suc i) (suc j) d h l m = rising_at y xs i j d h.1 (omega arith) (omega arith)
-
-pub parted : (n v : ℕ) (xs : List ℕ) → AreRisingFrom n xs → IsPartitionedBy (λ y. nat_lt y v) xs
-parted n v xs h = λ i j d l m e.
-    let order = rising_at n xs (suc i) (suc j) d h (omega arith) (omega arith) in
-    let below = below_of_test (get_or xs j d) v e in
-    below_test (get_or xs i d) v (omega arith)
 
 pub value_here : (p : Plan) (xs : List ℕ) (i e : ℕ) → slice_get xs i ≡ Some e → get_or (map (value p) xs) i 0 ≡ value p e
 value_here p [] i e h = absurd (let z = h in cc)
@@ -94,7 +57,7 @@ module _ (p : Plan) (f : Facts p) (t : ℕ) where
   rises = f.order.chains t
 
   pub of_chain_at : (i e : ℕ) → slice_get (chain p t) i ≡ Some e → chain_of p e ≡ Some t
-  of_chain_at i e at = f.formed.of_chain e t (stands (chain p t) i e at)
+  of_chain_at i e at = f.formed.of_chain e t (get_has (chain p t) i e at)
 
   -- where an operation of the chain stands in it
   pub place_of_op : (e : ℕ) → chain_of p e ≡ Some t → (k : ℕ) × (slice_get (chain p t) k ≡ Some e)
@@ -161,4 +124,4 @@ at_index (y ∷ xs) (suc i) d x l h = at_index xs i d x (omega arith) h
 pub op_exists : (p : Plan) → IsWellFormed p → (t k d : ℕ) → k < length (chain p t) → get_or (chain p t) k d < length p.ops
 op_exists p wf t k d l =
     let at = at_index (chain p t) k d (get_or (chain p t) k d) l refl in
-    op_within p (get_or (chain p t) k d) t (wf.of_chain (get_or (chain p t) k d) t (stands (chain p t) k (get_or (chain p t) k d) at))
+    op_within p (get_or (chain p t) k d) t (wf.of_chain (get_or (chain p t) k d) t (get_has (chain p t) k (get_or (chain p t) k d) at))

@@ -1,60 +1,24 @@
 -- A pass that only looks: what it knew it still knows.
-use Rattle.std.proofs.Common.{◌≡◌, ℕ, List, [], ◌∷◌, ◌++◌, true, refl, sym, ap, ◌∙◌, subst, inr}
-use Rattle.std.proofs.lemmas.List.{append_assoc}
+use Rattle.std.proofs.Common.{◌≡◌, ℕ, List, ◌++◌, true, refl, sym, ap, ◌∙◌, subst}
+use Rattle.vq_board_laws.proofs.Cited.{learns_none, learns_on, learns_recall, learns_look, knows_more}
 use Rattle.vq_model.specs.Plan.{Plan}
 use Rattle.vq_board_laws.specs.declared.view.Fact.{Fact}
 use Rattle.vq_board_laws.specs.declared.view.Fact.TheVariants.{Made, Past}
 use Rattle.vq_board_laws.specs.declared.view.OpState.{OpState}
 use Rattle.vq_board_laws.specs.declared.view.View.{View}
 use Rattle.vq_board_laws.specs.Knowledge.{Knows, KnowsMade, made_with, shown, completed, of_finished, before_finished}
-use Rattle.vq_board_laws.specs.PointSteps.{recalls, sees, op_facts, op_unmade, point_facts, point_unmade, moved_on}
+use Rattle.vq_board_laws.specs.PointSteps.{recalls, sees}
 use Rattle.vq_board.specs.declared.parts.Board.{Board}
 use Rattle.vq_board.specs.declared.parts.Pass.{Pass}
 use Rattle.vq_board.specs.Firsts.{shows_made}
 use Rattle.vq_board.specs.Named.{view, IsOf, TurnsWith}
 use Rattle.vq_board.proofs.Cited.{shown_more}
-use Rattle.vq_payload.specs.Learning.{Grows, Learns, HasLearned}
+use Rattle.vq_payload.specs.Learning.{HasLearned}
+use Rattle.vq_board_laws.specs.Learning.{Grows, Learns}
 
 -- Lists that grow
 
-grows_none : {A : Type 0} (xs : List A) → Grows xs xs
-grows_none xs = ([], refl)
-
-pub grows_on : {A : Type 0} (xs ys zs : List A) → Grows xs ys → Grows ys zs → Grows xs zs
-grows_on xs ys zs (front, is) (more, also) =
-    (more ++ front, also ∙ (ap (λ us. more ++ us) is ∙ sym (append_assoc more front xs)))
-
 -- Views
-
-learns_none : (v : View) → Learns v v
-learns_none v =
-    record {
-      same = refl;
-      known = grows_none v.known;
-      unmade = grows_none v.unmade;
-      steps = grows_none v.steps;
-    }
-
-learns_on : (u v w : View) → Learns u v → Learns v w → Learns u w
-learns_on u v w a b =
-    record {
-      same = b.same ∙ ap (λ (z : View). record z { known = w.known; unmade = w.unmade; steps = w.steps }) a.same;
-      known = grows_on u.known v.known w.known a.known b.known;
-      unmade = grows_on u.unmade v.unmade w.unmade a.unmade b.unmade;
-      steps = grows_on u.steps v.steps w.steps a.steps b.steps;
-    }
-
-learns_recall : (v : View) (e : ℕ) (s : OpState) → Learns v (recalls v e s)
-learns_recall v e s = record { same = refl; known = (op_facts e s, refl); unmade = (op_unmade e s, refl); steps = (_ ∷ [], refl) }
-
-learns_look : (v : View) (q n : ℕ) → Learns v (sees v q n)
-learns_look v q n =
-    record {
-      same = refl;
-      known = (point_facts n ++ moved_on q n v.known, refl);
-      unmade = (point_unmade n, refl);
-      steps = (_ ∷ [], refl);
-    }
 
 -- Passes
 
@@ -75,10 +39,6 @@ pub learned_look : (x y : Pass) (q n : ℕ) (counts : List ℕ) → TurnsWith x 
 learned_look x y q n counts h = (h.0, h.1, subst (λ (w : View). Learns (view x) w) (sym h.2) (learns_look (view x) q n))
 
 -- Knowledge
-
-pub knows_more : (front known : List Fact) (f : Fact) → Knows known f → Knows (front ++ known) f
-knows_more [] known f h = h
-knows_more (g ∷ front) known f h = inr (knows_more front known f h)
 
 -- what was known is known still
 pub knows_grown : (known more : List Fact) (f : Fact) → Grows known more → Knows known f → Knows more f

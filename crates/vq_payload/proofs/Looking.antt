@@ -1,10 +1,10 @@
 -- What a look at an operation, and then at its point, shows of it.
 use Rattle.std.proofs.Common.{◌≡◌, ℕ, if◌then◌else◌, List, [], ◌∷◌, ◌++◌, true, false, Bool, ◌&&◌, ◌||◌, ◌==◌, eqb, not, cond, length, refl, sym, ap, ◌∙◌, subst, arith, inl, inr}
-use Rattle.std.proofs.lemmas.Bool.{false≢true, and_from, and_parts, or_cases, or_left, or_parts, eq-eqb, eqb-true}
-use Rattle.vq_model.specs.Plan.{has}
-use Rattle.vq_model.proofs.Bools.{not_false}
-use Rattle.vq_model.proofs.Lists.{has_here}
-use Rattle.vq_points.specs.PointWord.{parts, PointWord}
+use Rattle.std.proofs.lemmas.Bool.{false≢true, and_from, and_parts, or_cases, or_left, or_parts, eq-eqb, eqb-true, not-false}
+use Rattle.vq_board_laws.proofs.Cited.{knows_first, knows_more}
+use Rattle.vq_ground.specs.Lists.{has}
+use Rattle.vq_ground.proofs.Lists.{has_here}
+use Rattle.vq_point_laws.specs.PointWord.{parts, PointWord}
 use Rattle.vq_point.specs.declared.PointWord.{PointWord as PointParts}
 use Rattle.vq_board_laws.specs.declared.view.Fact.{Fact}
 use Rattle.vq_board_laws.specs.declared.view.Fact.TheVariants.{Job, Taken, Bound, BoundTo, Past, Made}
@@ -15,15 +15,9 @@ use Rattle.vq_board_laws.specs.PointSteps.{recalls, sees, point_facts, moved_on,
 use Rattle.vq_board_laws.specs.Words.{Carries}
 use Rattle.vq_board.specs.Firsts.{shows_made}
 use Rattle.vq_board.proofs.Cited.{shown_more}
-use Rattle.vq_payload.specs.Learning.{Grows}
+use Rattle.vq_board_laws.specs.Learning.{Grows}
 use Rattle.std.proofs.lemmas.List.{length-append}
 use Rattle.vq_payload.specs.Reading.{ShowsNext}
-use Rattle.vq_payload.proofs.Growing.{knows_more}
-
-knows_first : (front back : List Fact) (f : Fact) → Knows front f → Knows (front ++ back) f
-knows_first [] back f h = absurd h
-knows_first (g ∷ front) back f (inl is) = inl is
-knows_first (g ∷ front) back f (inr k) = inr (knows_first front back f k)
 
 -- what is known made or past by a step is shown made
 made_shown : (fs : List Fact) (e : ℕ) → Knows fs (Made e) → shows_made fs e ≡ true
@@ -94,7 +88,7 @@ module _ (v : View) (q n e : ℕ) where
           (knows_first (point_facts n ++ moved_on q n v.known) v.known (Made e) (knows_first (point_facts n) (moved_on q n v.known) (Made e) (seen_signaled (carried is) set)))
 
   look_carries : (not (carries n e) || (parts n).signaled) ≡ false → Carries n e
-  look_carries h = carried (not_false (carries n e) (or_parts (not (carries n e)) (parts n).signaled h).0)
+  look_carries h = carried (not-false (carries n e) (or_parts (not (carries n e)) (parts n).signaled h).0)
 
   look_unmade : (not (carries n e) || (parts n).signaled) ≡ false → ShowsNext v (sees v q n) e
   look_unmade h =

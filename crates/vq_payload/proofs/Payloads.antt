@@ -4,26 +4,26 @@ use Rattle.std.specs.Prelude.{nat_le, nat_lt}
 use Rattle.std.specs.List.{slice_get}
 use Rattle.std.specs.Option.{option_map_or}
 use Rattle.std.proofs.lemmas.Bool.{cases_lt, and_from, or_left, or_right, eq-eqb}
-use Rattle.vq_model.specs.Plan.{Plan, has, chain, initial, value}
+use Rattle.std.proofs.lemmas.Option.{same_Some}
+use Rattle.vq_ground.proofs.Tests.{at_most_test, below_test, not_below_test}
+use Rattle.vq_model.specs.Plan.{Plan, chain, initial, value}
+use Rattle.vq_ground.specs.Lists.{has}
 use Rattle.vq_model.specs.Sure.{KeepsRising, RisesFrom}
 use Rattle.vq_model.specs.Windows.{sure}
-use Rattle.vq_model.proofs.Gets.{get_some, get_within}
-use Rattle.vq_model.proofs.Lists.{any_has}
-use Rattle.vq_core_laws.proofs.Cited.{Facts, stands}
+use Rattle.vq_ground.proofs.Gets.{get_some, get_within, get_has}
+use Rattle.vq_ground.proofs.Lists.{any_has}
+use Rattle.vq_core_laws.proofs.Cited.{Facts}
 use Rattle.vq_board_laws.specs.declared.view.Fact.{Fact}
 use Rattle.vq_board_laws.specs.declared.view.View.{View}
 use Rattle.vq_board_laws.specs.Knowledge.{KnowsMade, made_with, IsKnownValue, IsKnownPayload}
 use Rattle.vq_board.specs.Firsts.{ShowsFirst, shows_made}
 use Rattle.vq_board.proofs.Cited.{shown_known}
 use Rattle.vq_payload.specs.Chains.{value_up_to}
-use Rattle.vq_payload.specs.Learning.{Grows, Learns}
+use Rattle.vq_board_laws.specs.Learning.{Grows, Learns}
 use Rattle.vq_payload.specs.Reading.{IsNextAbove, ShowsNext, IsShownValue, HasRead}
 use Rattle.vq_payload.specs.Tests.{shows_value, notes_next}
-use Rattle.vq_payload.proofs.ChainValues.{find_cut, at_most_test, below_test, not_below_test, of_chain_at, place_of_op, in_order, value_at, up_to_least, up_to_below, initial_least}
+use Rattle.vq_payload.proofs.ChainValues.{find_cut, of_chain_at, place_of_op, in_order, value_at, up_to_least, up_to_below, initial_least}
 use Rattle.vq_payload.proofs.Growing.{made_grown, shown_grown}
-
-some_same : (x y : ℕ) → Some x ≡ Some y → x ≡ y
-some_same x y h = cc
 
 -- what was known of the payload is at most what is known of it with more
 payload_grown : (p : Plan) (t : ℕ) (known more : List Fact) (m n : ℕ) → Grows known more → IsKnownPayload p known t m → IsKnownPayload p more t n → m ≤ n
@@ -54,7 +54,7 @@ module _ (p : Plan) (f : Facts p) (t : ℕ) where
   back known zero i d e a b m =
       let none : zero + i ≡ i = omega arith in
       let y : slice_get (chain p t) i ≡ Some e = subst (λ (k : ℕ). slice_get (chain p t) k ≡ Some e) none b in
-      subst (λ (z : ℕ). KnowsMade p known z) (some_same e d (sym y ∙ a)) m
+      subst (λ (z : ℕ). KnowsMade p known z) (same_Some e d (sym y ∙ a)) m
   back known (suc n) i d e a b m =
       let more : suc n + i ≡ suc (n + i) = omega arith in
       let here : slice_get (chain p t) (suc (n + i)) ≡ Some e = subst (λ (k : ℕ). slice_get (chain p t) k ≡ Some e) more b in
@@ -118,7 +118,7 @@ module _ (p : Plan) (f : Facts p) (t : ℕ) where
       let last = get_some (chain p t) n (omega arith) in
       let here = value_at p f t n last.0 last.1 in
       or_right (eqb (value_up_to p t (suc n)) (initial p t)) _
-      (any_has (λ e. (value p e == value_up_to p t (suc n)) && shows_made known e) (chain p t) last.0 (stands (chain p t) n last.0 last.1)
+      (any_has (λ e. (value p e == value_up_to p t (suc n)) && shows_made known e) (chain p t) last.0 (get_has (chain p t) n last.0 last.1)
       (and_from (eqb (value p last.0) (value_up_to p t (suc n))) (shows_made known last.0) (eq-eqb (value p last.0) (value_up_to p t (suc n)) (sym here)) (first n last.0 (omega arith) last.1)))
 
   tests_next : (v w : View) (n : ℕ) → n ≤ length (chain p t) → ((e : ℕ) → slice_get (chain p t) n ≡ Some e → ShowsNext v w e) → notes_next p w.unmade t (value_up_to p t n) ≡ true
@@ -154,8 +154,8 @@ module _ (p : Plan) (f : Facts p) (t : ℕ) where
   read_stops v w n d at learned first shows unmade =
       let within = get_within (chain p t) n d at in
       has_read v w n (omega arith) learned first
-      (λ e is. subst (λ (z : ℕ). ShowsNext v w z) (some_same d e (sym at ∙ is)) shows)
-      (λ e is made. unmade (subst (λ (z : ℕ). KnowsMade p w.known z) (some_same e d (sym is ∙ at)) made))
+      (λ e is. subst (λ (z : ℕ). ShowsNext v w z) (same_Some d e (sym at ∙ is)) shows)
+      (λ e is made. unmade (subst (λ (z : ℕ). KnowsMade p w.known z) (same_Some e d (sym is ∙ at)) made))
 
   -- or at the end of the chain
   pub read_ends : (v w : View) (n : ℕ) → n ≡ length (chain p t) → Learns v w → ShowsFirst p w.known t n → HasRead p t v w (value_up_to p t n)
@@ -171,7 +171,7 @@ module _ (p : Plan) (f : Facts p) (t : ℕ) where
     | inr high ↦
         let same : i ≡ n = omega arith in
         let here : slice_get (chain p t) n ≡ Some e = subst (λ (z : ℕ). slice_get (chain p t) z ≡ Some e) same h in
-        subst (λ (z : ℕ). shows_made known z ≡ true) (some_same d e (sym at ∙ here)) made
+        subst (λ (z : ℕ). shows_made known z ≡ true) (same_Some d e (sym at ∙ here)) made
   ]
 
   pub first_grown : (known more : List Fact) (n : ℕ) → Grows known more → ShowsFirst p known t n → ShowsFirst p more t n

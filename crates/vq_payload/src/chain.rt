@@ -7,7 +7,7 @@ ghost use Rattle.std.specs.List.{slice_get};
 ghost use Rattle.vq_model.specs.Checks.{IsLawful};
 ghost use Rattle.vq_model.specs.LoweringFaults.{IsPlan};
 ghost use Rattle.vq_model.specs.Plan.{chain as operations_of, chain_of, initial, value};
-ghost use Rattle.vq_points.specs.Timeline.{AreRisingFrom};
+ghost use Rattle.vq_ground.specs.Lists.{AreRisingFrom};
 ghost use Rattle.vq_payload.specs.Chains.{operations};
 
 use std::alloc::{AllocError, Global};

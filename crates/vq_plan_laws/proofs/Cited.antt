@@ -10,10 +10,11 @@ pub use Rattle.vq_plan_laws.proofs.Owners.{owner}
 pub use Rattle.vq_plan_laws.proofs.PlacesAlike.{needs_alike, reached_earlier, ready_whole, same_before}
 pub use Rattle.vq_plan_laws.proofs.PlacesAlike.{same_reached, same_sure}
 pub use Rattle.vq_plan_laws.proofs.PlanChains.{chain_is, no_value, op_value_is}
-pub use Rattle.vq_plan_laws.proofs.PlanCommands.{length-batch_commands}
+pub use Rattle.vq_plan_laws.proofs.PlanCommands.{length-batch_commands, all_commands}
 pub use Rattle.vq_plan_laws.proofs.PlanLanes.{count_jobs, count_ops, few_ops}
 pub use Rattle.vq_plan_laws.proofs.PlanLines.{lines_in_order, op_line_is}
 pub use Rattle.vq_plan_laws.proofs.PlanParts.{job_is, op_chain_is, op_is, op_job_is, part_is}
+pub use Rattle.vq_plan_laws.proofs.PlansKept.{few_queues}
 pub use Rattle.vq_plan_laws.proofs.PlansKept.{plan_hosts, plan_lanes, plan_lines, plan_semaphores, plan_well_formed}
 pub use Rattle.vq_plan_laws.proofs.SignalValues.{counted_value, value_is}
 pub use Rattle.vq_plan_laws.proofs.UnheldWaits.{first_version_unheld}

@@ -1,8 +1,10 @@
 -- The plan of a valid script keeps the order of the host's steps.
 use Rattle.std.proofs.Common.{◌≡◌, ℕ, false, [], refl, sym, ◌+◌, ◌<◌, ◌≤◌, Bool, true, ◌++◌, length, take, Option, Some, None, ap, ◌∙◌, ◌⊎◌, inl, inr, subst, arith, ◌==◌}
 use Rattle.std.proofs.lemmas.Bool.{false≢true, eqb-true, cases_lt}
+use Rattle.std.proofs.lemmas.Option.{same_Some}
 use Rattle.vq_model.specs.declared.script.HostStep.{HostStep}
-use Rattle.vq_model.specs.Plan.{is_silent, previous, host_before, idle_after, question, same_lane, has, signals_of, is_host_step, is_host_lane}
+use Rattle.vq_model.specs.Plan.{is_silent, previous, host_before, idle_after, question, same_lane, signals_of, is_host_step, is_host_lane}
+use Rattle.vq_ground.specs.Lists.{has}
 use Rattle.vq_model.specs.Lowering.{step_question, last_before, lane_of, plan_job, plan_of, job_ops}
 use Rattle.vq_model.specs.Signals.{step_signals, job_signals, all_signals}
 use Rattle.vq_model.specs.declared.script.HostStep.TheVariants.{Signal}
@@ -17,14 +19,13 @@ use Rattle.vq_model.specs.declared.plan.Question.TheVariants.{Silent}
 use Rattle.vq_model.specs.Edges.{must_finish}
 use Rattle.vq_model.specs.WellFormed.{KeepsHostOrder}
 use Rattle.vq_model.specs.ValidScripts.{IsValid}
-use Rattle.vq_model.proofs.Options.{same_some}
-use Rattle.vq_model.proofs.Lists.{has-append_left, has_here}
+use Rattle.vq_ground.proofs.Lists.{has-append_left, has_here}
 use Rattle.vq_plan_laws.proofs.PlanParts.{part_is, signals_is}
 use Rattle.vq_plan_laws.proofs.Owners.{owner}
 use Rattle.vq_plan_laws.proofs.LastBefore.{IsLast, HasNone, last_cases}
-use Rattle.vq_model.proofs.Gets.{get-take, get-take_within}
+use Rattle.vq_ground.proofs.Gets.{get-take, get-take_within}
 use Rattle.vq_plan_laws.proofs.WellFormedPlans.{passes}
-use Rattle.vq_model.proofs.Filters.{filter_empty}
+use Rattle.vq_ground.proofs.Filters.{filter_empty}
 
 silent_steps : (a line : ℕ) (t : HostStep) → is_silent (step_question t) ≡ false → step_signals a line t ≡ []
 silent_steps a line (Signal pair) q = absurd (false≢true (sym q))
@@ -119,7 +120,7 @@ module _ (s : Script) (v : IsValid s) where
           let x = host_line r.job r.passes in
           let at : slice_get s.jobs r.place ≡ Some (Host x.0) = sym (get-take j s.jobs r.place below) ∙ (r.is ∙ ap Some x.1) in
           let z : 0 + r.place ≡ r.place = omega arith in
-          let same : r.place ≡ i = same_some r.place i (sym (r.is_found ∙ ap Some z) ∙ e) in
+          let same : r.place ≡ i = same_Some r.place i (sym (r.is_found ∙ ap Some z) ∙ e) in
           (subst (λ k. k < j) same below, subst (λ k. is_host_step (plan_of s) k ≡ true) same (from_host r.place x.0 at))
 
       by_job : (o : Option Job) → slice_get s.jobs j ≡ o → option_map_or (λ job. (plan_job s (j, job)).host_before) o None ≡ Some i → (i < j) × (is_host_step (plan_of s) i ≡ true) × (is_host_step (plan_of s) j ≡ false)

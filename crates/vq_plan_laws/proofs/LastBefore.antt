@@ -1,11 +1,11 @@
 -- The last of the first jobs that passes a test.
 use Rattle.std.proofs.Common.{◌≡◌, ℕ, ◌+◌, ◌<◌, Bool, true, false, List, Option, Some, zero, suc, cond, [], ◌∷◌, None, refl, sym, ap, ◌∙◌, ◌⊎◌, inl, inr, arith, take, subst}
 use Rattle.std.specs.List.{slice_get}
+use Rattle.std.proofs.lemmas.Option.{same_Some}
 use Rattle.vq_model.specs.declared.script.Job.{Job}
 use Rattle.vq_model.specs.Lowering.{last_from, last_before}
 use Rattle.vq_model.specs.declared.script.Script.{Script}
-use Rattle.vq_model.proofs.Options.{same_some}
-use Rattle.vq_model.proofs.Gets.{get-take_within}
+use Rattle.vq_ground.proofs.Gets.{get-take_within}
 
 -- The last of the first jobs
 
@@ -64,7 +64,7 @@ last_below s j test i h =
       | inr r ↦
           let below = get-take_within j s.jobs r.place r.job r.is in
           let z : 0 + r.place ≡ r.place = omega arith in
-          subst (λ k. k < j) (same_some r.place i (sym (r.is_found ∙ ap Some z) ∙ h)) below
+          subst (λ k. k < j) (same_Some r.place i (sym (r.is_found ∙ ap Some z) ∙ h)) below
     ]
   where
     none_is : HasNone 0 test (take j s.jobs) None → ⊥

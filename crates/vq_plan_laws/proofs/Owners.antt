@@ -7,8 +7,8 @@ use Rattle.vq_model.specs.declared.script.Job.{Job}
 use Rattle.vq_model.specs.declared.script.Job.TheVariants.{Host, Batch}
 use Rattle.vq_model.specs.declared.script.HostStep.{HostStep}
 use Rattle.vq_model.specs.declared.script.HostStep.TheVariants.{Signal}
-use Rattle.vq_model.proofs.Gets.{get-map, get-append, get-append_left}
-use Rattle.vq_model.proofs.Options.{some_of}
+use Rattle.vq_ground.proofs.Gets.{get-map, get-append, get-append_left}
+use Rattle.vq_ground.proofs.Options.{some_of}
 use Rattle.std.proofs.lemmas.Bool.{cases_lt}
 
 same_signal : (x y : Signaling) → Some x ≡ Some y → x ≡ y

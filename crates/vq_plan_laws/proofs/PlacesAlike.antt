@@ -2,8 +2,10 @@
 -- each place are.
 use Rattle.std.proofs.Common.{◌≡◌, ℕ, if◌then◌else◌, ltb, List, [], ◌++◌, filter, sym, ap, ◌∙◌, suc, true, eqb, leb, ◌∷◌, refl, arith, Bool, false, ◌&&◌, not}
 use Rattle.std.specs.List.{list_all, list_any, filter_map}
+use Rattle.vq_ground.proofs.Bools.{and_false}
 use Rattle.vq_model.specs.declared.plan.Need.{Need}
-use Rattle.vq_model.specs.Plan.{Plan, has, waits_for_any, initial, job_of, resolver, needs, is_host_step}
+use Rattle.vq_model.specs.Plan.{Plan, waits_for_any, initial, job_of, resolver, needs, is_host_step}
+use Rattle.vq_ground.specs.Lists.{has}
 use Rattle.vq_model.specs.Edges.{Stage, must_finish, awaited_at, edges_at, needs_at, At, AtEnd, waits_at_start}
 use Rattle.vq_model.specs.Machine.{is_reached, are_reached, can_start}
 use Rattle.vq_model.specs.HappensBefore.{IsHop, HappensBeforeAt, one, more}
@@ -56,10 +58,6 @@ and_true : (a b : Bool) → (a && (b && true)) ≡ (a && b)
 and_true true true = refl
 and_true true false = refl
 and_true false b = refl
-
-and_false : (a : Bool) → (a && false) ≡ false
-and_false true = refl
-and_false false = refl
 
 all_of_some : (test at : Need → Bool) (ns : List Need) → list_all test ns ≡ true → list_all test (filter at ns) ≡ true
 all_of_some test at [] h = refl

@@ -1,17 +1,18 @@
 -- The chains of a plan: the operations of a semaphore or a fence, in order.
 use Rattle.std.proofs.Common.{◌≡◌, ℕ, Bool, true, false, ◌||◌, cond, eqb, leb, List, [], ◌∷◌, refl, ap, ◌∙◌, fold, ◌<◌, ◌⊎◌, sym, inl, inr, subst, arith, zero, suc, ◌++◌, Some, None, Option, option_map, length, filter, ◌+◌, ◌≤◌}
 use Rattle.vq_model.specs.declared.script.Script.{Script}
-use Rattle.vq_model.specs.Plan.{has, value, chain}
+use Rattle.vq_model.specs.Plan.{value, chain}
+use Rattle.vq_ground.specs.Lists.{has, AreRising}
 use Rattle.vq_model.specs.Signals.{insert_op, value_at, Signaling, values_from, all_signals, op_at, chain_ops, signals_semaphore}
 use Rattle.std.proofs.lemmas.Bool.{false≢true, cases_lt, leb-true, leb-false}
-use Rattle.vq_model.proofs.Lists.{has_here, has_there, has_cases}
-use Rattle.vq_model.specs.WellFormed.{AreRising, AreInOrder}
+use Rattle.vq_ground.proofs.Lists.{has_here, has_there, has_cases}
+use Rattle.vq_model.specs.WellFormed.{AreInOrder}
 use Rattle.std.specs.List.{slice_get, range_with_len}
 use Rattle.std.specs.Option.{option_map_or}
 use Rattle.vq_model.specs.Lowering.{plan_of}
 use Rattle.vq_plan_laws.proofs.PlanParts.{op_is}
-use Rattle.vq_model.proofs.Gets.{get-map, get-range, get-range_past}
-use Rattle.vq_model.proofs.Bools.{or_false}
+use Rattle.vq_ground.proofs.Gets.{get-map, get-range, get-range_past}
+use Rattle.vq_ground.proofs.Bools.{or_false}
 
 -- Chains
 

@@ -1,11 +1,13 @@
 -- The commands of a plan by their numbers.
-use Rattle.std.proofs.Common.{ℕ, ◌+◌, List, [], ◌∷◌, ◌≡◌, fold, arith, zero, suc, ◌<◌, ◌≤◌, take, Some, None, ap, length, refl, ◌++◌, ◌∙◌}
+use Rattle.std.proofs.Common.{ℕ, ◌+◌, List, [], ◌∷◌, ◌≡◌, fold, arith, zero, suc, ◌<◌, ◌≤◌, take, Some, None, ap, length, refl, ◌++◌, ◌∙◌, map, sum}
+use Rattle.std.proofs.lemmas.List.{length-append}
+use Rattle.std.proofs.lemmas.List.Sums.{sum_by-cons}
 use Rattle.vq_model.specs.declared.script.Job.{Job}
 use Rattle.vq_model.specs.Lowering.{commands_in, batch_commands}
 use Rattle.std.specs.List.{slice_get, flat_map}
 use Rattle.std.specs.Option.{option_map_or}
 use Rattle.vq_model.specs.declared.script.Job.TheVariants.{Host, Batch}
-use Rattle.vq_model.proofs.Gets.{get-append, get-append_left}
+use Rattle.vq_ground.proofs.Gets.{get-append, get-append_left}
 
 -- Commands
 
@@ -43,3 +45,13 @@ command_from (x ∷ jobs) (suc j) k job e l =
     let q : (commands_in x + total (take j jobs)) + k ≡ length (batch_commands x) + (total (take j jobs) + k) = omega arith in
     ap (slice_get (batch_commands x ++ flat_map batch_commands jobs)) q
     ∙ (get-append (batch_commands x) (flat_map batch_commands jobs) (total (take j jobs) + k) ∙ command_from jobs j k job e l)
+
+-- the commands of all jobs
+pub all_commands : (jobs : List Job) → length (flat_map batch_commands jobs) ≡ sum (map commands_in jobs)
+all_commands [] = refl
+all_commands (job ∷ jobs) =
+    let rest = all_commands jobs in
+    let here = length-batch_commands job in
+    let both = length-append (batch_commands job) (flat_map batch_commands jobs) in
+    let sums = sum_by-cons (λ (n : ℕ). n) (commands_in job) (map commands_in jobs) in
+    omega arith

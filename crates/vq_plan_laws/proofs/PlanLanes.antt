@@ -3,7 +3,8 @@ use Rattle.std.proofs.Common.{◌≡◌, ◌+◌, true, refl, arith, ap, ℕ, Op
 use Rattle.std.proofs.lemmas.Bool.{eq-eqb, eqb-true, false≢true, cases_lt, cond-true, cond-false}
 use Rattle.vq_model.specs.declared.plan.Lane.{Lane}
 use Rattle.vq_model.specs.declared.plan.Lane.TheVariants.{Host as HostLane, Queue as QueueLane}
-use Rattle.vq_model.specs.Plan.{same_lane, previous, job_of, has, chain_of, chain, resolver, initial, needs, waits_for_any}
+use Rattle.vq_model.specs.Plan.{same_lane, previous, job_of, chain_of, chain, resolver, initial, needs, waits_for_any}
+use Rattle.vq_ground.specs.Lists.{has}
 use Rattle.vq_model.specs.Lanes.{lane_number, lane_at, IsJustBefore, KeepsLanes, KeepsSemaphores}
 use Rattle.std.specs.List.{slice_get, flat_map, enumerate_from, filter_map, cons_option, range_with_len}
 use Rattle.std.specs.Option.{option_map_or, option_to_list}
@@ -13,12 +14,12 @@ use Rattle.vq_model.specs.declared.script.Job.TheVariants.{Host, Batch}
 use Rattle.vq_model.specs.Lowering.{lane_of, plan_job, plan_of, last_before, of_wait, of_pair, step_needs, fence_value}
 use Rattle.vq_plan_laws.proofs.PlanParts.{part_is, op_job_is, op_chain_is}
 use Rattle.vq_plan_laws.proofs.LastBefore.{IsLast, HasNone, last_cases}
-use Rattle.vq_model.proofs.Gets.{get_some, get-take, get-take_within, get-append, get-append_left, get_within}
+use Rattle.vq_ground.proofs.Gets.{get_some, get-take, get-take_within, get-append, get-append_left, get_within}
 use Rattle.vq_model.specs.Signals.{Signaling, job_signals, all_signals, op_at, initial_value, chain_ops, of_mark, step_signals}
 use Rattle.vq_plan_laws.proofs.Owners.{owner, each_job}
-use Rattle.vq_model.proofs.Options.{some_of}
+use Rattle.vq_ground.proofs.Options.{some_of}
 use Rattle.std.proofs.lemmas.List.{length-append, length-map}
-use Rattle.vq_model.proofs.Lists.{has_cases}
+use Rattle.vq_ground.proofs.Lists.{has_cases}
 use Rattle.std.proofs.lemmas.List.Elements.{All-map, All-cons, All-nil}
 use Rattle.vq_model.specs.declared.script.Mark.{Mark}
 use Rattle.vq_model.specs.declared.script.HostStep.{HostStep}
@@ -32,7 +33,7 @@ use Rattle.vq_model.specs.ValidScripts.{IsValid, IsValidStep, IsTimelinePair, Ha
 use Rattle.vq_model.specs.Context.{is_timeline, is_fence}
 use Rattle.vq_reading_laws.proofs.Cited.{kind_exists, jobs_fit}
 use Rattle.vq_model.specs.Limits.{limits_of}
-use Rattle.vq_model.proofs.Searches.{find_member}
+use Rattle.vq_ground.proofs.Searches.{find_member}
 use Rattle.vq_plan_laws.proofs.WellFormedPlans.{well_formed}
 
 -- Lanes by number

@@ -1,11 +1,12 @@
 -- In the plan of a script that was read the lines of commands and of operations rise with their numbers.
 use Rattle.std.proofs.Common.{ℕ, List, [], ◌∷◌, ◌++◌, map, sym, ◌∙◌, subst, ◌+◌, ◌≡◌, Option, Some, None, option_map, refl, ap, arith}
 use Rattle.std.specs.Option.{option_to_list, option_map_or}
+use Rattle.std.proofs.lemmas.List.{map-append}
 use Rattle.vq_model.specs.declared.script.Job.{Job}
 use Rattle.vq_model.specs.declared.script.Job.TheVariants.{Host, Batch}
 use Rattle.vq_model.specs.Lowering.{batch_commands, plan_of}
 use Rattle.vq_model.specs.ValidScripts.{job_lines, HasRisingLines}
-use Rattle.vq_model.proofs.Rising.{IsPart, part_none, part_same, part_left, part_right, part_join, map-append, map-map, rises_at}
+use Rattle.vq_ground.proofs.Rising.{IsPart, part_none, part_same, part_left, part_right, part_join, map-map, rises_at}
 use Rattle.vq_model.specs.declared.script.HostStep.{HostStep}
 use Rattle.vq_model.specs.declared.script.HostStep.TheVariants.{Signal}
 use Rattle.vq_model.specs.Signals.{job_signals, of_mark, step_signals, Signaling, all_signals, op_at}

@@ -5,7 +5,7 @@ use Rattle.vq_model.specs.declared.script.Script.{Script}
 use Rattle.vq_model.specs.declared.script.Job.{Job}
 use Rattle.vq_model.specs.Lowering.{plan_job, plan_of, job_ops, commands_in}
 use Rattle.vq_model.specs.declared.plan.PlanJob.{PlanJob}
-use Rattle.vq_model.proofs.Gets.{get-map, get-enumerate}
+use Rattle.vq_ground.proofs.Gets.{get-map, get-enumerate}
 use Rattle.std.specs.Option.{option_map_or}
 use Rattle.vq_model.specs.declared.script.Job.TheVariants.{Host, Batch}
 use Rattle.vq_model.specs.Plan.{signals_of, commands_of, job_of, chain_of}

@@ -8,7 +8,7 @@ use Rattle.vq_model.specs.declared.script.Job.TheVariants.{Host, Batch}
 use Rattle.std.specs.Option.{option_map_or}
 use Rattle.vq_model.specs.declared.script.Script.{Script}
 use Rattle.vq_model.specs.Checks.{names_at, resets_at, IsEffectiveReset}
-use Rattle.vq_model.proofs.Gets.{get-take, get-take_within}
+use Rattle.vq_ground.proofs.Gets.{get-take, get-take_within}
 
 -- whether a fence stands named after these jobs
 abbrev named_after : ℕ → Bool → List Job → Bool

@@ -8,24 +8,25 @@ use Rattle.vq_model.specs.declared.script.Job.{Job}
 use Rattle.vq_model.specs.declared.script.Job.TheVariants.{Host, Batch}
 use Rattle.vq_model.specs.declared.script.HostStep.{HostStep}
 use Rattle.vq_model.specs.declared.plan.Lane.TheVariants.{Host as HostLane, Queue as QueueLane}
-use Rattle.vq_model.specs.Plan.{previous, host_before, idle_after, same_lane, has, command_at, commands_of, signals_of, chain, chain_of, job_of, waits_for_any, needs, is_host_step, is_host_lane}
+use Rattle.vq_model.specs.Plan.{previous, host_before, idle_after, same_lane, command_at, commands_of, signals_of, chain, chain_of, job_of, waits_for_any, needs, is_host_step, is_host_lane}
+use Rattle.vq_ground.specs.Lists.{has, AreRising}
 use Rattle.vq_model.specs.Edges.{must_finish, waits_at_start}
-use Rattle.vq_model.specs.WellFormed.{AreRising, AreInOrder, IsWellFormed}
+use Rattle.vq_model.specs.WellFormed.{AreInOrder, IsWellFormed}
 use Rattle.vq_model.specs.Lowering.{last_before, lane_of, step_needs, step_idle, asks_any, of_pair, plan_job, plan_of, job_ops, commands_in, batch_commands}
 use Rattle.vq_model.specs.ValidScripts.{IsValid}
 use Rattle.vq_model.specs.Ranges.{Fits}
 use Rattle.vq_model.specs.Signals.{Signaling, all_signals, chain_ops, signals_semaphore}
-use Rattle.vq_model.proofs.Mapped.{mapped}
-use Rattle.vq_model.proofs.Lists.{has-append_cases, has_cases}
+use Rattle.vq_ground.proofs.Mapped.{mapped}
+use Rattle.vq_ground.proofs.Lists.{has-append_cases, has_cases}
 use Rattle.vq_model.specs.declared.script.HostStep.TheVariants.{WaitAll, WaitAny, Idle}
 use Rattle.vq_model.specs.declared.script.Pair.{Pair}
 use Rattle.vq_model.specs.declared.script.Command.{Command}
-use Rattle.vq_model.proofs.Gets.{get_some, get_within}
+use Rattle.vq_ground.proofs.Gets.{get_some, get_within}
 use Rattle.vq_plan_laws.proofs.PlanParts.{part_is, signals_is, offset, commands_are, op_job_is, op_chain_is}
-use Rattle.vq_model.proofs.Numbers.{has-range_cases, range-has, rising_range}
-use Rattle.vq_model.proofs.Filters.{filter-has_cases, filter-has, rising_filter}
+use Rattle.vq_ground.proofs.Numbers.{has-range_cases, range-has, rising_range}
+use Rattle.vq_ground.proofs.Filters.{filter-has_cases, filter-has, rising_filter}
 use Rattle.vq_plan_laws.proofs.PlanChains.{sorted-fold_insert, in_order_of, has-chain_ops, chain_is, chain_past}
-use Rattle.vq_model.proofs.Options.{some_of}
+use Rattle.vq_ground.proofs.Options.{some_of}
 use Rattle.vq_plan_laws.proofs.Owners.{owner}
 use Rattle.vq_plan_laws.proofs.PlanCommands.{total, fold_total, total_take, length-batch_commands, command_from}
 use Rattle.vq_plan_laws.proofs.LastBefore.{last_below}

@@ -2,7 +2,8 @@
 ghost use Rattle.std.specs.Prelude.{◌≡◌, ◌&&◌, not, ℕ, List, Some, None, ◌+◌, true, false, take};
 ghost use Rattle.std.specs.Prelude.{count_by, suc, []};
 ghost use Rattle.std.specs.List.{list_all, slice_get};
-ghost use Rattle.vq_model.specs.Plan.{Plan, has, value};
+ghost use Rattle.vq_model.specs.Plan.{Plan, value};
+ghost use Rattle.vq_ground.specs.Lists.{has};
 ghost use Rattle.vq_model.specs.Edges.{must_finish, AtEnd, HasNoHeldWait};
 ghost use Rattle.vq_model.specs.WellFormed.{IsWellFormed, KeepsHostOrder};
 ghost use Rattle.vq_model.specs.Machine.{are_reached};

@@ -1,7 +1,7 @@
 -- A point's word and its parts. The layout is this project's own.
 use Rattle.std.specs.Prelude.{ℕ, Option}
 use Rattle.std.specs.Option.{option_map}
-use Rattle.vq_points.specs.PointWord.{pack, unpack}
+use Rattle.vq_point_laws.specs.PointWord.{pack, unpack}
 use Rattle.vq_point.specs.declared.PointWord.{PointWord}
 
 -- the 64 bits of these parts

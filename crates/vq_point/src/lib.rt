@@ -5,7 +5,7 @@
 ghost use Rattle.std.specs.Prelude.{◌≡◌, ◌≢◌, ◌↔◌, ◌⊎◌, ◌*◌, ◌/◌, ◌%◌, ◌^◌};
 ghost use Rattle.std.specs.Prelude.{◌<◌, ◌≤◌, ◌==◌, Some, IsNone, IfSome};
 ghost use Rattle.std.specs.Prelude.{◌&&◌, true, false};
-ghost use Rattle.vq_points.specs.PointWord.{parts};
+ghost use Rattle.vq_point_laws.specs.PointWord.{parts};
 ghost use Rattle.vq_point.specs.Word.{bits_of, parts_of};
 
 // The layout: bits 0 to 31 are the operation, and the other parts begin at these bits.

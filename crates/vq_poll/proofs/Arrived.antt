@@ -6,7 +6,7 @@ use Rattle.std.proofs.lemmas.Bool.{eq-eqb, cases_lt}
 use Rattle.std.proofs.lemmas.Bool.Decides.{nat_tests}
 use Rattle.std.proofs.lemmas.List.Sums.{sum_by-cons, sum_by-remove}
 use Rattle.vq_model.specs.Plan.{Plan}
-use Rattle.vq_model.proofs.Gets.{get_within}
+use Rattle.vq_ground.proofs.Gets.{get_within}
 use Rattle.vq_poll.specs.declared.pairs.Met.{Met}
 use Rattle.vq_poll.specs.declared.pairs.Pair.{Pair}
 use Rattle.vq_poll.specs.Arriving.{Comes}

@@ -1,5 +1,5 @@
 -- What a pass that only looks still knows, and what its steps still show.
-use Rattle.std.proofs.Common.{◌≡◌, ℕ, ◌+◌, ◌≤◌, List, [], ◌∷◌, ◌++◌, length, refl, sym, ap, ◌∙◌, subst, arith, inl, inr}
+use Rattle.std.proofs.Common.{◌≡◌, ℕ, ◌+◌, ◌≤◌, List, [], ◌∷◌, ◌++◌, length, sym, ap, ◌∙◌, subst, arith, inl, inr}
 use Rattle.std.proofs.lemmas.List.{length-append}
 use Rattle.vq_model.specs.Plan.{Plan}
 use Rattle.vq_board_laws.specs.declared.view.Fact.{Fact}
@@ -7,20 +7,8 @@ use Rattle.vq_board_laws.specs.declared.view.OwnStep.{OwnStep}
 use Rattle.vq_board_laws.specs.declared.view.View.{View}
 use Rattle.vq_board_laws.specs.Knowledge.{IsKnownValue}
 use Rattle.vq_board_laws.specs.OwnSteps.{HasStep}
-use Rattle.vq_payload.specs.Learning.{Grows, Learns}
-use Rattle.vq_payload.proofs.Cited.{grows_on, made_grown}
-
-pub learns_none : (v : View) → Learns v v
-learns_none v = record { same = refl; known = ([], refl); unmade = ([], refl); steps = ([], refl) }
-
-pub learns_on : (u v w : View) → Learns u v → Learns v w → Learns u w
-learns_on u v w a b =
-    record {
-      same = b.same ∙ ap (λ (z : View). record z { known = w.known; unmade = w.unmade; steps = w.steps }) a.same;
-      known = grows_on u.known v.known w.known a.known b.known;
-      unmade = grows_on u.unmade v.unmade w.unmade a.unmade b.unmade;
-      steps = grows_on u.steps v.steps w.steps a.steps b.steps;
-    }
+use Rattle.vq_board_laws.specs.Learning.{Grows, Learns}
+use Rattle.vq_payload.proofs.Cited.{made_grown}
 
 pub value_grown : (p : Plan) (known more : List Fact) (t n : ℕ) → Grows known more → IsKnownValue p known t n → IsKnownValue p more t n
 value_grown p known more t n g (inl h) = inl h

@@ -5,7 +5,7 @@ use Rattle.std.specs.List.{slice_get}
 use Rattle.futures.specs.declared.task.context.Context.{Context}
 use Rattle.futures.specs.Task.{Keeps, IsArmed}
 use Rattle.vq_board_laws.specs.declared.view.View.{View}
-use Rattle.vq_payload.specs.Learning.{Learns}
+use Rattle.vq_board_laws.specs.Learning.{Learns}
 use Rattle.vq_payload.specs.Reading.{HasRead}
 use Rattle.vq_poll.specs.declared.awaited.Awaited.{Awaited}
 use Rattle.vq_poll.specs.declared.pairs.Pair.{Pair}

@@ -2,50 +2,25 @@
 use Rattle.std.proofs.Common.{◌≡◌, ℕ, zero, suc, ◌<◌, ◌≤◌, ◌⊎◌, Bool, true, false, nat_le, nat_lt, List, [], ◌∷◌, length, Option, Some, None, find, refl, sym, ap, ◌∙◌, subst, arith, inl, inr, if◌then◌else◌}
 use Rattle.std.specs.List.{slice_get}
 use Rattle.std.proofs.lemmas.Bool.{false≢true, leb-true, lt-ltb, ltb-true, cases_lt}
-use Rattle.vq_model.specs.Plan.{Plan, has, chain, chain_of, initial, value, resolver}
-use Rattle.vq_model.proofs.Lists.{has_cases}
-use Rattle.vq_model.proofs.Searches.{find_fails}
-use Rattle.vq_core_laws.proofs.Cited.{Facts, chain_places, stands}
+use Rattle.vq_ground.proofs.Gets.{place_in, get_has}
+use Rattle.vq_model.specs.Plan.{Plan, chain, chain_of, initial, value, resolver}
+use Rattle.vq_ground.proofs.Searches.{find_fails, IsFirst, first_of}
+use Rattle.vq_core_laws.proofs.Cited.{Facts, chain_places}
 use Rattle.vq_board_laws.specs.declared.view.OwnStep.{OwnStep}
 use Rattle.vq_board_laws.specs.declared.view.View.{View}
 use Rattle.vq_board_laws.specs.OwnSteps.{HasStep, IsUnmadeStep}
-use Rattle.vq_payload.specs.Learning.{Learns}
+use Rattle.vq_board_laws.specs.Learning.{Learns}
 use Rattle.vq_payload.specs.Reading.{IsNextAbove, ShowsNext, HasRead}
 use Rattle.vq_poll.specs.declared.pairs.Pair.{Pair}
 use Rattle.vq_poll.specs.Missing.{IsHeldUp, IsMissed}
 use Rattle.vq_poll.proofs.Learned.{step_still}
-
--- the first that passes: it stands at a place before which nothing does
-record IsFirst (f : ℕ → Bool) (xs : List ℕ) (x : ℕ) : Type 0 where
-  pub place : ℕ
-  pub is : slice_get xs place ≡ Some x
-  pub passes : f x ≡ true
-  pub none : (i y : ℕ) → slice_get xs i ≡ Some y → f y ≡ true → place ≤ i
-
-first_of : (f : ℕ → Bool) (xs : List ℕ) (x : ℕ) → find f xs ≡ Some x → IsFirst f xs x
-first_of f [] x h = absurd (let z = h in cc)
-first_of f (y ∷ ys) x h = by_test (f y) refl h (first_of f ys x)
-  where
-    by_test : (b : Bool) → f y ≡ b → (if b then Some y else find f ys) ≡ Some x → (find f ys ≡ Some x → IsFirst f ys x) → IsFirst f (y ∷ ys) x
-    by_test true t e rest = let same : y ≡ x = let z = e in cc in record { place = 0; is = ap Some same; passes = subst (λ (z : ℕ). f z ≡ true) same t; none = λ i z at p. omega arith }
-    by_test false t e rest =
-        let r = rest e in
-        record { place = suc r.place; is = r.is; passes = r.passes; none = none r }
-      where
-        none : (r : IsFirst f ys x) (i z : ℕ) → slice_get (y ∷ ys) i ≡ Some z → f z ≡ true → suc r.place ≤ i
-        none r zero z at p = let same : y ≡ z = let w = at in cc in absurd (false≢true (sym t ∙ (ap f same ∙ p)))
-        none r (suc i) z at p = let l = r.none i z at p in omega arith
-
-placed : (xs : List ℕ) (x : ℕ) → has xs x ≡ true → (i : ℕ) × (slice_get xs i ≡ Some x)
-placed [] x m = absurd (false≢true m)
-placed (y ∷ ys) x m = elim (has_cases y ys x m) [ inl same ↦ (0, ap Some same) | inr there ↦ let r = placed ys x there in (suc r.0, r.1) ]
 
 module _ (p : Plan) (f : Facts p) (t n : ℕ) where
   abbrev above : ℕ → Bool
   above e = nat_lt n (value p e)
 
   in_chain_at : (i e : ℕ) → slice_get (chain p t) i ≡ Some e → chain_of p e ≡ Some t
-  in_chain_at i e at = f.formed.of_chain e t (stands (chain p t) i e at)
+  in_chain_at i e at = f.formed.of_chain e t (get_has (chain p t) i e at)
 
   -- an operation above the value stands at or behind the first such one
   first_least : (op : ℕ) → IsFirst above (chain p t) op → (i e : ℕ) → slice_get (chain p t) i ≡ Some e → n < value p e → value p op ≤ value p e
@@ -64,7 +39,7 @@ module _ (p : Plan) (f : Facts p) (t n : ℕ) where
       record {
         in_chain = in_chain_at a.place op a.is;
         above = ltb-true n (value p op) a.passes;
-        least = λ e of l. let z = placed (chain p t) e (f.formed.in_chain e t of) in first_least op a z.0 e z.1 l;
+        least = λ e of l. let z = place_in (chain p t) e (f.formed.in_chain e t of) in first_least op a z.0 e z.1 l;
       }
 
 step_shown : (v w : View) (e : ℕ) → ShowsNext v w e → HasStep (length v.steps) (λ s _. IsUnmadeStep e s) w.steps
@@ -87,7 +62,7 @@ missed_now p f v w x n read l =
     by_next None is (Some r) at =
         let a = first_of (λ e. nat_le x.value (value p e)) (chain p x.chain) r at in
         let up = leb-true x.value (value p r) a.passes in
-        let none = find_fails (above p f x.chain n) (chain p x.chain) r is (stands (chain p x.chain) a.place r a.is) in
+        let none = find_fails (above p f x.chain n) (chain p x.chain) r is (get_has (chain p x.chain) a.place r a.is) in
         absurd (false≢true (sym none ∙ lt-ltb n (value p r) (omega arith)))
     by_next (Some op) is (Some r) at =
         let a = first_of (above p f x.chain n) (chain p x.chain) op is in

@@ -1,19 +1,20 @@
 -- What the reads of a poll show.
 use Rattle.std.proofs.Common.{ℕ, ◌<◌, List, [], ◌∷◌, sym, subst, inl, inr}
+use Rattle.vq_board_laws.proofs.Cited.{learns_none, learns_on}
 use Rattle.futures.specs.declared.task.context.Context.{Context}
 use Rattle.futures.specs.Task.{Keeps, Lasting}
 use Rattle.vq_model.specs.Plan.{Plan}
 use Rattle.vq_core_laws.proofs.Cited.{Facts}
 use Rattle.vq_board_laws.specs.declared.view.View.{View}
 use Rattle.vq_board_laws.specs.Knowledge.{IsKnownValue}
-use Rattle.vq_payload.specs.Learning.{Learns}
+use Rattle.vq_board_laws.specs.Learning.{Learns}
 use Rattle.vq_payload.specs.Reading.{HasRead}
 use Rattle.vq_poll.specs.declared.bell.Bell.{Bell}
 use Rattle.vq_poll.specs.declared.pairs.Pair.{Pair}
 use Rattle.vq_poll.specs.Hearing.{HearsBell}
 use Rattle.vq_poll.specs.Looks.{Look, Reads, WasRead, AreHeard}
 use Rattle.vq_poll.specs.Missing.{IsMissed}
-use Rattle.vq_poll.proofs.Learned.{learns_none, learns_on, value_grown}
+use Rattle.vq_poll.proofs.Learned.{value_grown}
 use Rattle.vq_poll.proofs.Missed.{missed_now, missed_still}
 
 pub reads_learn : (p : Plan) (v z : View) (ls : List Look) → Reads p v ls z → Learns v z

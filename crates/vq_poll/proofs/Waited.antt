@@ -13,7 +13,8 @@ use Rattle.vq_board_laws.specs.Knowledge.{IsKnownValue}
 use Rattle.vq_board_laws.specs.Reached.{IsPayload}
 use Rattle.vq_board.specs.declared.parts.Pass.{Pass}
 use Rattle.vq_board.specs.Named.{view, IsOf}
-use Rattle.vq_payload.specs.Learning.{Grows, Learns, HasLearned}
+use Rattle.vq_payload.specs.Learning.{HasLearned}
+use Rattle.vq_board_laws.specs.Learning.{Grows, Learns}
 use Rattle.vq_payload.specs.Reading.{HasRead}
 use Rattle.vq_poll.specs.declared.bell.Bell.{Bell}
 use Rattle.vq_poll.specs.declared.pairs.Met.{Met}

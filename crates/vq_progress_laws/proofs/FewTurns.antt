@@ -24,7 +24,7 @@ use Rattle.vq_model.specs.SameScript.{IsRead}
 use Rattle.vq_model.specs.Signals.{job_signals, of_mark, step_signals}
 use Rattle.vq_model.specs.ValidScripts.{is_threaded_queue}
 use Rattle.vq_history_laws.specs.Histories.{acts}
-use Rattle.vq_plan_laws.proofs.Cited.{count_jobs, count_ops, length-batch_commands}
+use Rattle.vq_plan_laws.proofs.Cited.{count_jobs, count_ops, length-batch_commands, all_commands}
 use Rattle.vq_reading_laws.proofs.Cited.{most_jobs, most_queues, read_batches, read_valid}
 use Rattle.vq_progress_laws.specs.Movers.{all_queues, round, rounds_of}
 use Rattle.vq_progress_laws.proofs.ShortSteps.{few_pairs, most_pairs}
@@ -54,15 +54,6 @@ few_needs s most (job ∷ jobs) a f =
     let more : most * suc (length jobs) ≡ most + most * length jobs = grind arith in
     let others : List ℕ = map (λ x. length x.needs) (map (plan_job s) (enumerate_from (a + 1) jobs)) in
     let both = sum_by-cons (λ (n : ℕ). n) (length (plan_job s (a, job)).needs) others in
-    omega arith
-
-all_commands : (jobs : List Job) → length (flat_map batch_commands jobs) ≡ sum (map commands_in jobs)
-all_commands [] = refl
-all_commands (job ∷ jobs) =
-    let rest = all_commands jobs in
-    let here = length-batch_commands job in
-    let both = length-append (batch_commands job) (flat_map batch_commands jobs) in
-    let sums = sum_by-cons (λ (n : ℕ). n) (commands_in job) (map commands_in jobs) in
     omega arith
 
 module _ (s : Script) (i : IsRead s) where

@@ -1,5 +1,5 @@
 -- What other crates may cite of this one. All other files of proofs are private to it.
-pub use Rattle.vq_reading_laws.proofs.KeptBatches.{batch_lines_cons, every_append}
+pub use Rattle.vq_reading_laws.proofs.KeptBatches.{batch_lines_cons}
 pub use Rattle.vq_reading_laws.proofs.KeptTurns.{turns_counted}
 pub use Rattle.vq_reading_laws.proofs.FormPlaces.{forms_in, found_belongs}
 pub use Rattle.vq_reading_laws.proofs.LineFacts.{below, fence_is}

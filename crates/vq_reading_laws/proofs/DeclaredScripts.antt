@@ -1,11 +1,12 @@
 -- Scripts of what is declared keep what a script keeps.
 use Rattle.std.proofs.Common.{◌≡◌, ℕ, Bool, zero, suc, List, [], ◌∷◌, Some, None, subst, ◌<◌, true, false, length, map, Option, sym, ap, ◌∙◌, arith, ◌+◌, ◌++◌, refl}
 use Rattle.std.specs.List.{slice_get, AllByRecursion as Every, flat_map, enumerate_from}
+use Rattle.vq_ground.proofs.Every.{every_weaker, every_append}
 use Rattle.vq_model.specs.declared.script.Batch.{Batch}
 use Rattle.vq_model.specs.declared.script.Job.{Job}
 use Rattle.vq_model.specs.declared.script.Job.TheVariants.{Host, Batch as BatchJob}
 use Rattle.vq_reading_laws.proofs.Standing.{Declarations}
-use Rattle.vq_reading_laws.proofs.KeptBatches.{KeepsJob, KeepJobs, of_every, pair_of, IsWaitOf, IsSignalOf, IsFenceOf, every_append, every_map}
+use Rattle.vq_reading_laws.proofs.KeptBatches.{KeepsJob, KeepJobs, of_every, pair_of, IsWaitOf, IsSignalOf, IsFenceOf, every_map}
 use Rattle.std.specs.Option.{option_map, option_map_or, option_to_list}
 use Rattle.std.proofs.lemmas.List.{length-map}
 use Rattle.std.proofs.lemmas.Bool.{false≢true}
@@ -30,7 +31,7 @@ use Rattle.vq_reading_laws.proofs.KeptTurns.{IsTurnOf}
 use Rattle.vq_model.specs.ScriptOfLines.{first_of_list}
 use Rattle.vq_model.specs.Signals.{kind_of, Signaling, all_signals, job_signals, step_signals, of_mark}
 use Rattle.vq_model.specs.ValidScripts.{IsValidMark, IsValidFence, HoldsBack, IsValidBatch, IsValidStep, IsTimelinePair, IsActor, HasValidBatches, HasValidSteps}
-use Rattle.vq_model.proofs.Gets.{get-map, get_within}
+use Rattle.vq_ground.proofs.Gets.{get-map, get_within}
 use Rattle.vq_reading_laws.proofs.LineFacts.{IsMarkOf, IsActorOf}
 use Rattle.std.specs.Prelude.{All}
 use Rattle.std.proofs.lemmas.List.Elements.{All-head, All-tail}
@@ -60,11 +61,6 @@ pub all_at : {X : Type 0} (P : X → Type 0) (xs : List X) (k : ℕ) (x : X) →
 all_at P [] k x a e = absurd (let c : None ≡ Some x = e in cc)
 all_at {X} P (y ∷ xs) zero x a e = let same : y ≡ x = cc in subst P same a.0
 all_at P (y ∷ xs) (suc k) x a e = all_at P xs k x a.1 e
-
-all_weaker : {X : Type 0} (P Q : X → Type 0) (xs : List X) → ((x : X) → P x → Q x) → Every P xs →
-    Every Q xs
-all_weaker P Q [] f a = tt
-all_weaker P Q (x ∷ xs) f a = (f x a.0, all_weaker P Q xs f a.1)
 
 module _ (s : Script) where
   -- what the script declares
@@ -125,15 +121,15 @@ module _ (s : Script) where
         queue = omega arith;
         waits =
             of_every (IsValidMark s) b.waits
-            (all_weaker (IsWaitOf declared_in) (IsValidMark s) b.waits (λ m h. valid_mark m h.mark)
+            (every_weaker (IsWaitOf declared_in) (IsValidMark s) b.waits (λ m h. valid_mark m h.mark)
             p.waits_of);
         held =
             of_every (HoldsBack s) b.waits
-            (all_weaker (IsWaitOf declared_in) (HoldsBack s) b.waits
+            (every_weaker (IsWaitOf declared_in) (HoldsBack s) b.waits
             (λ m h. record { counted = h.counted; whole = h.whole }) p.waits_of);
         signals =
             of_every (IsValidMark s) b.signals
-            (all_weaker (IsSignalOf declared_in) (IsValidMark s) b.signals valid_mark
+            (every_weaker (IsSignalOf declared_in) (IsValidMark s) b.signals valid_mark
             p.signals_of);
         fence = λ m e. first_valid k.fences m p.fences_of (sym k.first ∙ e);
         few_waits = omega arith;
@@ -151,7 +147,7 @@ module _ (s : Script) where
       All (IsTimelinePair s) pairs
   valid_pairs pairs a =
       of_every (IsTimelinePair s) pairs
-      (all_weaker (IsPairOf declared_in.kinds) (IsTimelinePair s) pairs
+      (every_weaker (IsPairOf declared_in.kinds) (IsTimelinePair s) pairs
       (λ pair h. kind_named is_timeline pair.semaphore h) a)
 
   pub valid_step : (step : HostStep) → IsStepOf declared_in.kinds step → IsValidStep s step
@@ -185,7 +181,7 @@ module _ (s : Script) where
       All (λ t. IsActor s t.actor) turns
   valid_turns turns a =
       of_every (λ (t : Turn). IsActor s t.actor) turns
-      (all_weaker (IsTurnOf declared_in) (λ (t : Turn). IsActor s t.actor) turns
+      (every_weaker (IsTurnOf declared_in) (λ (t : Turn). IsActor s t.actor) turns
       (λ t h. valid_actor t.actor h) a)
 
 -- The signals of valid batches and of valid host steps name semaphores that exist.

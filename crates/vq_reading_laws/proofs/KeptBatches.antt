@@ -1,5 +1,5 @@
 -- Batches of what is declared keep what a batch keeps.
-use Rattle.std.proofs.Common.{◌≡◌, ℕ, suc, ◌+◌, Bool, true, false, cond, not, List, [], ◌∷◌, take, refl, ap, arith, ◌++◌, map, Some, ◌-◌, ◌≤◌, length, ◌<◌, sym, ◌∙◌, subst, ◌⊎◌, inl, inr}
+use Rattle.std.proofs.Common.{◌≡◌, ℕ, suc, ◌+◌, Bool, true, false, cond, not, List, [], ◌∷◌, take, refl, ap, arith, map, Some, ◌-◌, ◌≤◌, length, ◌<◌, sym, ◌∙◌, subst, ◌⊎◌, inl, inr}
 use Rattle.std.specs.List.{position_or_len, AllByRecursion as Every, slice_get, filter_map}
 use Rattle.vq_model.specs.declared.statement.Line.{Line}
 use Rattle.vq_model.specs.Context.{is_end, is_command, count, version_of}
@@ -42,12 +42,6 @@ batch_lines_cons line lines = by_test (is_end line.statement)
         omega arith in ap (λ (k : ℕ). take k (line ∷ lines)) e
 
 -- Batches of what is declared
-
--- what holds of each, one after another
-pub every_append : {X : Type 0} (P : X → Type 0) (xs ys : List X) → Every P xs → Every P ys →
-    Every P (xs ++ ys)
-every_append P [] ys a b = b
-every_append P (x ∷ xs) ys a b = (a.0, every_append P xs ys a.1 b)
 
 pub every_map : {X Y : Type 0} (P : Y → Type 0) (f : X → Y) (xs : List X) → Every (λ x. P (f x)) xs →
     Every P (map f xs)

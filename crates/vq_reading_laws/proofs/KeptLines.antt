@@ -6,13 +6,12 @@ use Rattle.vq_model.specs.Context.{buffers, semaphores, queues, is_command, coun
 use Rattle.vq_model.specs.ScriptOfLines.{is_schedule}
 use Rattle.vq_model.specs.declared.statement.Form.{Form}
 use Rattle.vq_model.specs.declared.statement.Form.TheVariants.{Scheduled}
-use Rattle.vq_model.specs.Plan.{has}
-use Rattle.vq_model.specs.WellFormed.{AreRising}
+use Rattle.vq_ground.specs.Lists.{has, AreRising}
 use Rattle.vq_reading_laws.proofs.CommandRanges.{sizes_before}
 use Rattle.vq_reading_laws.proofs.Standing.{declared_by, is_outside, where_of, AllStand, Grows, stands_grows, all_grow, all_stand_push, where_push}
 use Rattle.vq_reading_laws.proofs.PlaceContext.{Lead, lead_more, said_stands}
 use Rattle.std.proofs.lemmas.Bool.{false≢true}
-use Rattle.vq_model.proofs.Lists.{has_here, has_there, has_cases, has-append_cases}
+use Rattle.vq_ground.proofs.Lists.{has_here, has_there, has_cases, has-append_cases}
 use Rattle.std.specs.List.{filter_map}
 use Rattle.std.proofs.lemmas.List.{map-append}
 use Rattle.std.proofs.lemmas.List.Elements.{filter_map-append}

@@ -4,6 +4,7 @@ use Rattle.std.specs.List.{AllByRecursion as Every, flat_map, fold}
 use Rattle.std.proofs.lemmas.List.{length-replicate}
 use Rattle.std.proofs.lemmas.List.Sums.{sum_by-cons}
 use Rattle.std.proofs.lemmas.Bool.{false≢true, or_parts}
+use Rattle.vq_ground.proofs.Every.{every_append}
 use Rattle.vq_model.specs.declared.statement.Line.{Line}
 use Rattle.vq_model.specs.declared.statement.Statement.{Statement}
 use Rattle.vq_model.specs.declared.statement.Statement.TheVariants.{HasVersion, DeclareBuffer, DeclareSemaphore, DeclareQueue, BeginBatch, AddWait, AddCommand, AddSignal, AddFence, EndBatch, BeginSchedule, TakeTurns, TakeHostStep}
@@ -13,7 +14,6 @@ use Rattle.vq_model.specs.ScriptOfLines.{is_schedule, turns_at}
 use Rattle.vq_reading_laws.proofs.LineFacts.{IsActorOf, turns_before}
 use Rattle.vq_reading_laws.proofs.LinePushes.{a_line}
 use Rattle.vq_reading_laws.proofs.Standing.{Declarations, Where, is_outside, is_inside, in_schedule, where_after, Stands, AllStand}
-use Rattle.vq_reading_laws.proofs.KeptBatches.{every_append}
 
 -- a turn of an actor of these declarations
 abbrev pub IsTurnOf : Declarations → Turn → Type 0

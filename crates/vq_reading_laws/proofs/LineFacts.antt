@@ -1,5 +1,7 @@
 -- What a line without a fault says, by the part of the text in which it stands.
 use Rattle.std.proofs.Common.{List, map, ◌≡◌, false, Some, ℕ, ◌<◌, ◌+◌, ◌≤◌, length, Bool, true, cond, [], ◌∷◌, subst, ◌==◌, refl, Option, None, arith, not, suc, zero, ap, ◌&&◌, ◌||◌, option_map, sym, ◌∙◌}
+use Rattle.std.proofs.lemmas.Option.{same_Some}
+use Rattle.vq_ground.proofs.Positions.{found_at, position_within}
 use Rattle.vq_model.specs.declared.statement.Line.{Line}
 use Rattle.vq_model.specs.declared.script.SemaphoreKind.{SemaphoreKind}
 use Rattle.vq_model.specs.Earlier.{earlier}
@@ -8,7 +10,7 @@ use Rattle.vq_model.specs.declared.script.Mode.{Mode}
 use Rattle.vq_model.specs.declared.script.Mode.TheVariants.{Immediate, Deferred, Threaded}
 use Rattle.vq_model.specs.declared.script.ActorName.{ActorName}
 use Rattle.vq_model.specs.declared.script.ActorName.TheVariants.{Host as HostActor, Submit as SubmitActor, Ring as RingActor}
-use Rattle.std.specs.List.{slice_get, position, position_or_len}
+use Rattle.std.specs.List.{slice_get}
 use Rattle.vq_model.specs.declared.script.Pair.{Pair}
 use Rattle.std.specs.Prelude.{nat_lt, sum}
 use Rattle.vq_model.specs.LineFaults.{fault_of, has_fault, part_of_form, is_out_of_order, is_declaration, is_batch_fence_form, is_in_range, overlaps}
@@ -21,12 +23,12 @@ use Rattle.vq_model.specs.declared.statement.Statement.{Statement}
 use Rattle.vq_model.specs.declared.statement.Statement.TheVariants.{HasVersion, DeclareBuffer, DeclareSemaphore, DeclareQueue, BeginBatch, AddWait, AddCommand, AddSignal, AddFence, EndBatch, BeginSchedule, TakeTurns, TakeHostStep}
 use Rattle.vq_model.specs.declared.script.HostStep.{HostStep}
 use Rattle.vq_model.specs.declared.script.HostStep.TheVariants.{WaitAll, WaitAny, PollAll, PollAny, Read, FenceWait, FencePoll, FenceReset, Idle}
-use Rattle.vq_reading_laws.proofs.NamedSemaphores.{found_at, kind_at, kinds_before, IsStepOf, SaysStep, timeline_named, fence_named, says_pair, says_pairs, says_name}
+use Rattle.vq_reading_laws.proofs.NamedSemaphores.{kind_at, kinds_before, IsStepOf, SaysStep, timeline_named, fence_named, says_pair, says_pairs, says_name}
 use Rattle.vq_model.specs.declared.script.SemaphoreKind.TheVariants.{Fence, Timeline, Binary}
 use Rattle.vq_model.specs.declared.statement.LineForm.{LineForm}
 use Rattle.vq_model.specs.declared.statement.LineForm.TheVariants.{VersionLine, BufferLine, TimelineLine, BinaryLine, FenceLine, QueueLine, SubmitLine, WaitTimelineLine, WaitBinaryLine, HeldTimelineLine, HeldBinaryLine, FillWholeLine, FillLine, UpdateLine, CopyLine, SignalTimelineLine, SignalBinaryLine, BatchFenceLine, EndLine, ScheduleLine, TurnLine, TurnsLine, HostSignalLine, HostWaitAllLine, HostWaitAnyLine, HostPollAllLine, HostPollAnyLine, HostReadLine, HostFenceWaitLine, HostFencePollLine, HostFenceResetLine, HostIdleLine}
 use Rattle.std.proofs.lemmas.List.{length-map}
-use Rattle.std.proofs.lemmas.Bool.{and_parts, ltb-true, false≢true, ltb-false, or_parts}
+use Rattle.std.proofs.lemmas.Bool.{and_parts, ltb-true, false≢true, ltb-false, or_parts, not-false}
 use Rattle.vq_model.specs.declared.statement.Form.{Form}
 use Rattle.vq_model.specs.Forms.{places}
 use Rattle.std.specs.Prelude.{codes, drop}
@@ -46,8 +48,6 @@ use Rattle.vq_model.specs.Text.{numeral}
 use Rattle.vq_model.specs.Context.{number_at, is_job, part_of}
 use Rattle.vq_model.specs.LineFaults.{pairs_of, passes_limit}
 use Rattle.vq_model.specs.Forms.{BufferName, TimelineName, BinaryName, FenceName, QueueName, ThreadedName}
-use Rattle.vq_model.proofs.Options.{same_some}
-use Rattle.vq_model.proofs.Bools.{not_false}
 
 -- What a line says
 
@@ -123,21 +123,9 @@ Said form before InSchedule (TakeTurns actor count) =
     × (turns_before before + count ≤ (most_before before).turns)
 Said form before was other = ⊥
 
--- a position is one of a list
-pub position_within : (test : Queue → Bool) (qs : List Queue) (q : ℕ) → position test qs ≡ Some q →
-    q < length qs
-position_within test qs q h = by_test (nat_lt (position_or_len test qs) (length qs)) refl h
-  where
-    by_test : (b : Bool) → nat_lt (position_or_len test qs) (length qs) ≡ b →
-        cond b (Some (position_or_len test qs)) None ≡ Some q → q < length qs
-    by_test true e h =
-        let l = ltb-true (position_or_len test qs) (length qs) e in let same : position_or_len test
-        qs ≡ q = cc in omega arith
-    by_test false e h = absurd (cc)
-
 -- below a limit
 pub below : (a b : ℕ) → not (nat_lt a b) ≡ false → a < b
-below a b h = ltb-true a b (not_false (nat_lt a b) h)
+below a b h = ltb-true a b (not-false (nat_lt a b) h)
 
 -- a command of two numbers, of three, of four, of five
 of_two_says : (f : ℕ → ℕ → Command) (b o : Option ℕ) (s : Statement) →
@@ -256,13 +244,13 @@ module _ (form : Form) (before : List Line) where
       option_map (λ n. DeclareBuffer name n) o ≡ Some s → Shape form before Outside 0 s
   buffer_shape name None s h = absurd (cc)
   buffer_shape name (Some n) s h =
-      subst (Shape form before Outside 0) (same_some (DeclareBuffer name n) s h) (a_buffer name n)
+      subst (Shape form before Outside 0) (same_Some (DeclareBuffer name n) s h) (a_buffer name n)
 
   timeline_shape : (name : List ℕ) (o : Option ℕ) (s : Statement) →
       option_map (λ v. DeclareSemaphore name (Timeline v)) o ≡ Some s → Shape form before Outside 0 s
   timeline_shape name None s h = absurd (cc)
   timeline_shape name (Some v) s h =
-      subst (Shape form before Outside 0) (same_some (DeclareSemaphore name (Timeline v)) s h)
+      subst (Shape form before Outside 0) (same_Some (DeclareSemaphore name (Timeline v)) s h)
       (a_semaphore name (Timeline v))
 
   batch_shape : (queue : List ℕ) (o : Option ℕ) (s : Statement) → number_at before QueueName queue ≡ o →
@@ -270,7 +258,7 @@ module _ (form : Form) (before : List Line) where
   batch_shape queue None s e h = absurd (let c : None ≡ Some s = h in cc)
   batch_shape queue (Some q) s e h =
       let l = position_within (λ x. bytes_eq queue x.name) (queues before) q e in
-      subst (Shape form before Outside 0) (same_some (BeginBatch q) s h) (a_batch q l)
+      subst (Shape form before Outside 0) (same_Some (BeginBatch q) s h) (a_batch q l)
 
   command_shape : (s : Statement) → (c : Command) × (AddCommand c ≡ s) → Shape form before InBatch 2 s
   command_shape s c = subst (Shape form before InBatch 2) c.1 (a_command c.0)
@@ -283,14 +271,14 @@ module _ (form : Form) (before : List Line) where
   wait_shape name (Some t) None s e h = absurd (cc)
   wait_shape name (Some t) (Some v) s e h =
       subst (Shape form before InBatch 1)
-      (same_some (AddWait (record { semaphore = t; value = v }) 1) s h)
+      (same_Some (AddWait (record { semaphore = t; value = v }) 1) s h)
       (a_wait (record { semaphore = t; value = v }) 1 (timeline_mark name t v e) (λ h. refl))
 
   binary_wait_shape : (name : List ℕ) (t : Option ℕ) (s : Statement) → number_at before BinaryName name ≡ t →
       option_map (λ x. AddWait (binary_pair x) 1) t ≡ Some s → Shape form before InBatch 1 s
   binary_wait_shape name None s e h = absurd (let c : None ≡ Some s = h in cc)
   binary_wait_shape name (Some t) s e h =
-      subst (Shape form before InBatch 1) (same_some (AddWait (binary_pair t) 1) s h)
+      subst (Shape form before InBatch 1) (same_Some (AddWait (binary_pair t) 1) s h)
       (a_wait (binary_pair t) 1 (binary_mark name t e) (λ h. refl))
 
   -- a wait that holds back a part of its batch, in the second version
@@ -306,7 +294,7 @@ module _ (form : Form) (before : List Line) where
   held_shape name (Some t) (Some v) None s e i h = absurd (let c : None ≡ Some s = h in cc)
   held_shape name (Some t) (Some v) (Some k) s e i h =
       subst (Shape form before InBatch 1)
-      (same_some (AddWait (record { semaphore = t; value = v }) k) s h)
+      (same_Some (AddWait (record { semaphore = t; value = v }) k) s h)
       (a_wait (record { semaphore = t; value = v }) k (timeline_mark name t v e) (in_second k i))
 
   held_binary_shape : (name : List ℕ) (t k : Option ℕ) (s : Statement) → number_at before BinaryName name ≡ t →
@@ -315,7 +303,7 @@ module _ (form : Form) (before : List Line) where
   held_binary_shape name None k s e i h = absurd (let c : None ≡ Some s = h in cc)
   held_binary_shape name (Some t) None s e i h = absurd (let c : None ≡ Some s = h in cc)
   held_binary_shape name (Some t) (Some k) s e i h =
-      subst (Shape form before InBatch 1) (same_some (AddWait (binary_pair t) k) s h)
+      subst (Shape form before InBatch 1) (same_Some (AddWait (binary_pair t) k) s h)
       (a_wait (binary_pair t) k (binary_mark name t e) (in_second k i))
 
   -- a signal of a timeline, of a binary semaphore
@@ -326,7 +314,7 @@ module _ (form : Form) (before : List Line) where
   signal_shape name (Some t) None s e h = absurd (cc)
   signal_shape name (Some t) (Some v) s e h =
       subst (Shape form before InBatch 3)
-      (same_some (AddSignal (record { semaphore = t; value = v })) s h)
+      (same_Some (AddSignal (record { semaphore = t; value = v })) s h)
       (a_signal (record { semaphore = t; value = v }) (timeline_mark name t v e))
 
   binary_signal_shape : (name : List ℕ) (t : Option ℕ) (s : Statement) →
@@ -334,14 +322,14 @@ module _ (form : Form) (before : List Line) where
       option_map (λ x. AddSignal (binary_pair x)) t ≡ Some s → Shape form before InBatch 3 s
   binary_signal_shape name None s e h = absurd (let c : None ≡ Some s = h in cc)
   binary_signal_shape name (Some t) s e h =
-      subst (Shape form before InBatch 3) (same_some (AddSignal (binary_pair t)) s h)
+      subst (Shape form before InBatch 3) (same_Some (AddSignal (binary_pair t)) s h)
       (a_signal (binary_pair t) (binary_mark name t e))
 
   fence_shape : (name : List ℕ) (t : Option ℕ) (s : Statement) → number_at before FenceName name ≡ t →
       option_map (λ f. AddFence f) t ≡ Some s → Shape form before InBatch 4 s
   fence_shape name None s e h = absurd (let c : None ≡ Some s = h in cc)
   fence_shape name (Some t) s e h =
-      subst (Shape form before InBatch 4) (same_some (AddFence t) s h)
+      subst (Shape form before InBatch 4) (same_Some (AddFence t) s h)
       (a_fence t (fence_kind name t e))
 
   step_shape : (s : Statement) → SaysStep before s → Shape form before Outside 0 s
@@ -359,7 +347,7 @@ module _ (form : Form) (before : List Line) where
           option_map (λ q. SubmitActor q) o ≡ Some a → IsActorOf (modes_before before) a
       by_submit None i g = absurd (let c : None ≡ Some a = g in cc)
       by_submit (Some q) i g =
-          subst (IsActorOf (modes_before before)) (same_some (SubmitActor q) a g)
+          subst (IsActorOf (modes_before before)) (same_Some (SubmitActor q) a g)
           (let f = found_at (λ x. bytes_eq name x.name && is_threaded x.mode) (queues before) q i in
           let k = and_parts (bytes_eq name f.0.name) (is_threaded f.0.mode) f.2 in
           mode_at (queues before) q f.0 f.1 ∙ ap Some (threaded_is f.0.mode k.1))
@@ -370,7 +358,7 @@ module _ (form : Form) (before : List Line) where
       by_ring (Some q) i g =
           let l = position_within (λ x. bytes_eq name x.name) (queues before) q i in
           let same = length-map (queues before) (λ (x : Queue). x.mode) in
-          subst (IsActorOf (modes_before before)) (same_some (RingActor q) a g) (omega arith)
+          subst (IsActorOf (modes_before before)) (same_Some (RingActor q) a g) (omega arith)
 
       of_queue : Bool → Option ActorName
       of_queue b =
@@ -386,7 +374,7 @@ module _ (form : Form) (before : List Line) where
           IsActorOf (modes_before before) a
       by_host true i g =
           subst (IsActorOf (modes_before before))
-          (same_some HostActor a
+          (same_Some HostActor a
           (sym (ap (λ (b : Bool). cond b (Some HostActor) (of_queue (is_marked 83 word))) i) ∙ g)) tt
       by_host false i g =
           by_mark (is_marked 83 word)
@@ -396,7 +384,7 @@ module _ (form : Form) (before : List Line) where
       option_map (λ a. TakeTurns a 1) o ≡ Some s → Shape form before InSchedule 0 s
   turn_shape word None s e h = absurd (let c : None ≡ Some s = h in cc)
   turn_shape word (Some a) s e h =
-      subst (Shape form before InSchedule 0) (same_some (TakeTurns a 1) s h)
+      subst (Shape form before InSchedule 0) (same_Some (TakeTurns a 1) s h)
       (some_turns a 1 (actor_is word (Some a) a e refl))
 
   turns_shape : (word : List ℕ) (o : Option ActorName) (n : Option ℕ) (s : Statement) →
@@ -405,31 +393,31 @@ module _ (form : Form) (before : List Line) where
   turns_shape word None n s e h = absurd (let c : None ≡ Some s = h in cc)
   turns_shape word (Some a) None s e h = absurd (let c : None ≡ Some s = h in cc)
   turns_shape word (Some a) (Some n) s e h =
-      subst (Shape form before InSchedule 0) (same_some (TakeTurns a n) s h)
+      subst (Shape form before InSchedule 0) (same_Some (TakeTurns a n) s h)
       (some_turns a n (actor_is word (Some a) a e refl))
 
   schedule_shape : (f : Form) → form ≡ f → suits f before ScheduleLine ≡ true → (s : Statement) →
       Some BeginSchedule ≡ Some s → Shape form before Outside 0 s
   schedule_shape Plain e t s h = absurd (false≢true t)
   schedule_shape Scheduled e t s h =
-      subst (Shape form before Outside 0) (same_some BeginSchedule s h) (a_schedule e)
+      subst (Shape form before Outside 0) (same_Some BeginSchedule s h) (a_schedule e)
 
   -- the words of a form that stands where it may
   shape : (was : Section) (f : LineForm) (words : List (List ℕ)) (s : Statement) →
       belongs was f ≡ true → suits form before f ≡ true →
       statement_of (number_at before) f words ≡ Some s → Shape form before was (part_of_form f) s
   shape Outside VersionLine [] s g t h =
-      subst (Shape form before Outside 0) (same_some (HasVersion 2) s h) (a_version (is_first before t))
+      subst (Shape form before Outside 0) (same_Some (HasVersion 2) s h) (a_version (is_first before t))
   shape Outside BufferLine (name ∷ size ∷ []) s g t h = buffer_shape name (numeral size) s h
   shape Outside TimelineLine (name ∷ value ∷ []) s g t h = timeline_shape name (numeral value) s h
   shape Outside BinaryLine (name ∷ []) s g t h =
-      subst (Shape form before Outside 0) (same_some (DeclareSemaphore name Binary) s h)
+      subst (Shape form before Outside 0) (same_Some (DeclareSemaphore name Binary) s h)
       (a_semaphore name Binary)
   shape Outside FenceLine (name ∷ []) s g t h =
-      subst (Shape form before Outside 0) (same_some (DeclareSemaphore name Fence) s h)
+      subst (Shape form before Outside 0) (same_Some (DeclareSemaphore name Fence) s h)
       (a_semaphore name Fence)
   shape Outside (QueueLine mode) (name ∷ []) s g t h =
-      subst (Shape form before Outside 0) (same_some (DeclareQueue name mode) s h)
+      subst (Shape form before Outside 0) (same_Some (DeclareQueue name mode) s h)
       (a_queue name mode)
   shape Outside SubmitLine (queue ∷ []) s g t h = batch_shape queue (number_at before QueueName queue) s refl h
   shape Outside HostSignalLine (name ∷ value ∷ []) s g t h =
@@ -451,7 +439,7 @@ module _ (form : Form) (before : List Line) where
       step_shape s (says_name before FencePoll (number_at before FenceName name) s (fence_named before name) h)
   shape Outside HostFenceResetLine (name ∷ []) s g t h =
       step_shape s (says_name before FenceReset (number_at before FenceName name) s (fence_named before name) h)
-  shape Outside HostIdleLine [] s g t h = step_shape s (Idle, tt, same_some (TakeHostStep Idle) s h)
+  shape Outside HostIdleLine [] s g t h = step_shape s (Idle, tt, same_Some (TakeHostStep Idle) s h)
   shape InBatch WaitTimelineLine (name ∷ value ∷ []) s g t h =
       wait_shape name (number_at before TimelineName name) (numeral value) s refl h
   shape InBatch WaitBinaryLine (name ∷ []) s g t h =
@@ -482,7 +470,7 @@ module _ (form : Form) (before : List Line) where
       binary_signal_shape name (number_at before BinaryName name) s refl h
   shape InBatch BatchFenceLine (name ∷ []) s g t h = fence_shape name (number_at before FenceName name) s refl h
   shape InBatch EndLine [] s g t h =
-      subst (Shape form before InBatch 5) (same_some EndBatch s h) an_end
+      subst (Shape form before InBatch 5) (same_Some EndBatch s h) an_end
   shape Outside ScheduleLine [] s g t h = schedule_shape form refl t s h
   shape InSchedule TurnLine (actor ∷ []) s g t h =
       turn_shape actor (actor_at (number_at before) actor) s refl h
@@ -603,7 +591,7 @@ module _ (form : Form) (before : List Line) where
       let seven = first_fails (has_fault form before words) Overlap (Limit ∷ []) six.1 in
       let eight = first_fails (has_fault form before words) Limit [] seven.1 in
       by_form (form_of form before words) refl m
-      (not_false (is_in_range (earlier before) s)
+      (not-false (is_in_range (earlier before) s)
       (sym (ap (λ (o : Option Statement). option_map_or (λ x. not (is_in_range (earlier before) x)) o
       false) m) ∙ six.0))
       (sym (ap (λ (o : Option Statement). option_map_or (overlaps (buffers before)) o false) m) ∙ seven.0)

@@ -1,8 +1,8 @@
 -- The lines of a script that was read rise in its order.
 use Rattle.std.proofs.Common.{◌≡◌, ℕ, ◌<◌, true, ◌⊎◌, List, inr, sym, subst, ◌∷◌, [], ◌++◌, inl, map, ◌+◌, ◌≤◌, Bool, false, cond, refl, ap, ◌∙◌, arith}
-use Rattle.vq_model.specs.Plan.{has}
-use Rattle.vq_model.specs.WellFormed.{AreRising}
-use Rattle.vq_model.proofs.Lists.{has_cases, has-append_right, has_here, has_there}
+use Rattle.vq_ground.proofs.Rising.{rising_right}
+use Rattle.vq_ground.specs.Lists.{has, AreRising}
+use Rattle.vq_ground.proofs.Lists.{has_cases, has-append_right, has_here, has_there}
 use Rattle.vq_model.specs.declared.script.Mark.{Mark}
 use Rattle.vq_model.specs.declared.script.CommandLine.{CommandLine}
 use Rattle.std.specs.List.{filter_map, flat_map}
@@ -38,16 +38,11 @@ adds_none n old new e =
 adds_first : (n : ℕ) (old : List ℕ) → Adds n old (n ∷ old)
 adds_first n old = record { rising = λ r f. (f, r); members = λ y h. has_cases n old y h }
 
--- the end of a list that rises
-rising_end : (front back : List ℕ) → AreRising (front ++ back) → AreRising back
-rising_end [] back r = r
-rising_end (x ∷ front) back r = rising_end front back r.1
-
 adds_dropped : (n : ℕ) (front back : List ℕ) → Adds n (front ++ back) (n ∷ back)
 adds_dropped n front back =
     record {
       rising =
-          λ r f. ((λ y h. f y (has-append_right front back y h)), rising_end front back r);
+          λ r f. ((λ y h. f y (has-append_right front back y h)), rising_right front back r);
       members = λ y h. elim (has_cases n back y h) [
         | inl e ↦ inl e
         | inr m ↦ inr (has-append_right front back y m)

@@ -2,6 +2,7 @@
 use Rattle.std.proofs.Common.{◌≡◌, Bool, true, false, ◌&&◌, refl, Option, Some, None, ℕ, List, [], ◌∷◌, map, cond, subst, not, ◌||◌}
 use Rattle.std.specs.Prelude.{is_some, find}
 use Rattle.std.specs.Option.{option_map, option_map_or, option_and_then}
+use Rattle.std.proofs.lemmas.Bool.{not-false}
 use Rattle.vq_model.specs.Meaning.{of_two, of_three, of_four, of_five, pair_at, pair_places, pairs_at, matches, open_places, statement_of, actor_at, small_numeral, meaning, form_of, forms_at}
 use Rattle.vq_model.specs.declared.statement.Line.{Line}
 use Rattle.vq_model.specs.Text.{numeral, is_plain}
@@ -15,7 +16,7 @@ use Rattle.vq_model.specs.declared.statement.FaultKind.TheVariants.{Syntax, Orde
 use Rattle.vq_model.specs.declared.statement.Statement.{Statement}
 use Rattle.vq_model.specs.Context.{number_at}
 use Rattle.vq_model.specs.Forms.{BufferName, TimelineName, BinaryName, FenceName, QueueName}
-use Rattle.vq_model.proofs.Bools.{not_false}
+use Rattle.vq_ground.proofs.Bools.{never}
 
 -- a conjunction's parts
 and_first : (a b : Bool) → a && b ≡ true → a ≡ true
@@ -57,75 +58,72 @@ pairs_said before (a ∷ []) n k = refl
 pairs_said before (a ∷ b ∷ words) n k =
     two _ (pair_at (number_at before) a b) (pairs_at (number_at before) (map (λ x. x.1) (pair_places words))) (pair_said before a b (and_first _ _ k) (and_first _ _ n)) (pairs_said before words (and_second _ _ n) (and_second _ _ k))
 
-no : {A : Type 0} → false ≡ true → A
-no h = absurd (cc)
-
 -- words that match a form, with numerals and known names in their places, say something
 said : (before : List Line) (f : LineForm) (words : List (List ℕ)) → matches words f ≡ true → list_all is_numeric (open_places (places f) words) ≡ true → list_all (is_known (number_at before)) (open_places (places f) words) ≡ true → is_some (statement_of (number_at before) f (map (λ x. x.1) (open_places (places f) words))) ≡ true
 said before VersionLine (a ∷ b ∷ []) m n k = refl
-said before VersionLine words m n k = no m
+said before VersionLine words m n k = never m
 said before BufferLine (a ∷ b ∷ c ∷ []) m n k = mapped _ (numeral c) (and_first _ _ n)
-said before BufferLine words m n k = no m
+said before BufferLine words m n k = never m
 said before TimelineLine (a ∷ b ∷ c ∷ []) m n k = mapped _ (numeral c) (and_first _ _ n)
-said before TimelineLine words m n k = no m
+said before TimelineLine words m n k = never m
 said before BinaryLine (a ∷ b ∷ []) m n k = refl
-said before BinaryLine words m n k = no m
+said before BinaryLine words m n k = never m
 said before FenceLine (a ∷ b ∷ []) m n k = refl
-said before FenceLine words m n k = no m
+said before FenceLine words m n k = never m
 said before (QueueLine mode) (a ∷ b ∷ c ∷ []) m n k = refl
-said before (QueueLine mode) words m n k = no m
+said before (QueueLine mode) words m n k = never m
 said before SubmitLine (a ∷ b ∷ []) m n k = mapped _ (number_at before QueueName b) (and_first _ _ k)
-said before SubmitLine words m n k = no m
+said before SubmitLine words m n k = never m
 said before HostSignalLine (a ∷ b ∷ c ∷ d ∷ []) m n k = mapped _ (pair_at (number_at before) c d) (pair_said before c d (and_first _ _ k) (and_first _ _ n))
-said before HostSignalLine words m n k = no m
+said before HostSignalLine words m n k = never m
 said before HostWaitAllLine (a ∷ b ∷ c ∷ words) m n k = mapped _ (pairs_at (number_at before) (map (λ x. x.1) (pair_places words))) (pairs_said before words n k)
-said before HostWaitAllLine words m n k = no m
+said before HostWaitAllLine words m n k = never m
 said before HostWaitAnyLine (a ∷ b ∷ c ∷ words) m n k = mapped _ (pairs_at (number_at before) (map (λ x. x.1) (pair_places words))) (pairs_said before words n k)
-said before HostWaitAnyLine words m n k = no m
+said before HostWaitAnyLine words m n k = never m
 said before HostPollAllLine (a ∷ b ∷ c ∷ words) m n k = mapped _ (pairs_at (number_at before) (map (λ x. x.1) (pair_places words))) (pairs_said before words n k)
-said before HostPollAllLine words m n k = no m
+said before HostPollAllLine words m n k = never m
 said before HostPollAnyLine (a ∷ b ∷ c ∷ words) m n k = mapped _ (pairs_at (number_at before) (map (λ x. x.1) (pair_places words))) (pairs_said before words n k)
-said before HostPollAnyLine words m n k = no m
+said before HostPollAnyLine words m n k = never m
 said before HostReadLine (a ∷ b ∷ c ∷ []) m n k = mapped _ (number_at before TimelineName c) (and_first _ _ k)
-said before HostReadLine words m n k = no m
+said before HostReadLine words m n k = never m
 said before HostFenceWaitLine (a ∷ b ∷ c ∷ d ∷ []) m n k = mapped _ (number_at before FenceName d) (and_first _ _ k)
-said before HostFenceWaitLine words m n k = no m
+said before HostFenceWaitLine words m n k = never m
 said before HostFencePollLine (a ∷ b ∷ c ∷ d ∷ []) m n k = mapped _ (number_at before FenceName d) (and_first _ _ k)
-said before HostFencePollLine words m n k = no m
+said before HostFencePollLine words m n k = never m
 said before HostFenceResetLine (a ∷ b ∷ c ∷ d ∷ []) m n k = mapped _ (number_at before FenceName d) (and_first _ _ k)
-said before HostFenceResetLine words m n k = no m
+said before HostFenceResetLine words m n k = never m
 said before HostIdleLine (a ∷ b ∷ []) m n k = refl
-said before HostIdleLine words m n k = no m
+said before HostIdleLine words m n k = never m
 said before ScheduleLine (a ∷ []) m n k = refl
-said before ScheduleLine words m n k = no m
+said before ScheduleLine words m n k = never m
 said before WaitTimelineLine (a ∷ b ∷ c ∷ []) m n k = mapped _ (pair_at (number_at before) b c) (pair_said before b c (and_first _ _ k) (and_first _ _ n))
-said before WaitTimelineLine words m n k = no m
+said before WaitTimelineLine words m n k = never m
 said before WaitBinaryLine (a ∷ b ∷ []) m n k = mapped _ (number_at before BinaryName b) (and_first _ _ k)
-said before WaitBinaryLine words m n k = no m
+said before WaitBinaryLine words m n k = never m
 said before HeldTimelineLine (a ∷ b ∷ c ∷ d ∷ e ∷ []) m n k = two _ (pair_at (number_at before) b c) (numeral e) (pair_said before b c (and_first _ _ k) (and_first _ _ n)) (and_first _ _ (and_second _ _ n))
-said before HeldTimelineLine words m n k = no m
+said before HeldTimelineLine words m n k = never m
 said before HeldBinaryLine (a ∷ b ∷ c ∷ d ∷ []) m n k = two _ (number_at before BinaryName b) (numeral d) (and_first _ _ k) (and_first _ _ n)
-said before HeldBinaryLine words m n k = no m
+said before HeldBinaryLine words m n k = never m
 said before FillWholeLine (a ∷ b ∷ c ∷ d ∷ e ∷ []) m n k = three _ (number_at before BufferName b) (numeral c) (small_numeral e) (and_first _ _ k) (and_first _ _ n) (and_first _ _ (and_second _ _ n))
-said before FillWholeLine words m n k = no m
+said before FillWholeLine words m n k = never m
 said before FillLine (a ∷ b ∷ c ∷ d ∷ e ∷ []) m n k = four _ (number_at before BufferName b) (numeral c) (numeral d) (small_numeral e) (and_first _ _ k) (and_first _ _ n) (and_first _ _ (and_second _ _ n)) (and_first _ _ (and_second _ _ (and_second _ _ n)))
-said before FillLine words m n k = no m
+said before FillLine words m n k = never m
 said before UpdateLine (a ∷ b ∷ c ∷ d ∷ []) m n k = two _ (number_at before BufferName b) (numeral c) (and_first _ _ k) (and_first _ _ n)
-said before UpdateLine words m n k = no m
+said before UpdateLine words m n k = never m
 said before CopyLine (a ∷ b ∷ c ∷ d ∷ e ∷ g ∷ []) m n k = five _ (number_at before BufferName b) (numeral c) (number_at before BufferName d) (numeral e) (numeral g) (and_first _ _ k) (and_first _ _ n) (and_first _ _ (and_second _ _ k)) (and_first _ _ (and_second _ _ n)) (and_first _ _ (and_second _ _ (and_second _ _ n)))
-said before CopyLine words m n k = no m
+said before CopyLine words m n k = never m
 said before SignalTimelineLine (a ∷ b ∷ c ∷ []) m n k = mapped _ (pair_at (number_at before) b c) (pair_said before b c (and_first _ _ k) (and_first _ _ n))
-said before SignalTimelineLine words m n k = no m
+said before SignalTimelineLine words m n k = never m
 said before SignalBinaryLine (a ∷ b ∷ []) m n k = mapped _ (number_at before BinaryName b) (and_first _ _ k)
-said before SignalBinaryLine words m n k = no m
+said before SignalBinaryLine words m n k = never m
 said before BatchFenceLine (a ∷ b ∷ []) m n k = mapped _ (number_at before FenceName b) (and_first _ _ k)
-said before BatchFenceLine words m n k = no m
+said before BatchFenceLine words m n k = never m
 said before EndLine (a ∷ []) m n k = refl
-said before EndLine words m n k = no m
+said before EndLine words m n k = never m
 said before TurnLine (a ∷ []) m n k = mapped _ (actor_at (number_at before) a) (and_first _ _ k)
-said before TurnLine words m n k = no m
+said before TurnLine words m n k = never m
 said before TurnsLine (a ∷ b ∷ []) m n k = two _ (actor_at (number_at before) a) (numeral b) (and_first _ _ k) (and_first _ _ n)
-said before TurnsLine words m n k = no m
+said before TurnsLine words m n k = never m
 
 -- what is found passes the test
 pub found_passes : {A : Type 0} (p : A → Bool) (xs : List A) (y : A) → find p xs ≡ Some y → p y ≡ true
@@ -171,4 +169,4 @@ has_meaning form before words h =
         no_form true h = cc
         no_form false h = cc
     by_form (Some f) e h n k =
-        some_said (statement_of (number_at before) f (map (λ x. x.1) (open_places (places f) words))) (said before f words (found f e) (not_false (list_all is_numeric (open_places (places f) words)) n) (not_false (list_all (is_known (number_at before)) (open_places (places f) words)) k))
+        some_said (statement_of (number_at before) f (map (λ x. x.1) (open_places (places f) words))) (said before f words (found f e) (not-false (list_all is_numeric (open_places (places f) words)) n) (not-false (list_all (is_known (number_at before)) (open_places (places f) words)) k))

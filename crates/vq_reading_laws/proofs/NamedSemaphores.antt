@@ -1,9 +1,9 @@
 -- The semaphores that lines name, and what the steps of the host name.
-use Rattle.std.proofs.Common.{List, [], ◌∷◌, map, ◌≡◌, Some, None, Option, ℕ, ◌<◌, ◌+◌, length, Bool, true, false, cond, subst, refl, arith, not, suc, zero, ap, ◌&&◌, option_map}
-use Rattle.std.specs.Prelude.{nat_lt}
-use Rattle.std.specs.List.{slice_get, position, position_or_len, AllByRecursion as Every}
+use Rattle.std.proofs.Common.{List, [], ◌∷◌, map, ◌≡◌, Some, None, Option, ℕ, Bool, true, subst, refl, suc, zero, ap, ◌&&◌, option_map}
+use Rattle.std.specs.List.{slice_get, position, AllByRecursion as Every}
 use Rattle.std.specs.Str.{bytes_eq}
-use Rattle.std.proofs.lemmas.Bool.{and_parts, ltb-true}
+use Rattle.std.proofs.lemmas.Bool.{and_parts}
+use Rattle.vq_ground.proofs.Positions.{found_at}
 use Rattle.vq_model.specs.declared.statement.Line.{Line}
 use Rattle.vq_model.specs.declared.statement.Statement.{Statement}
 use Rattle.vq_model.specs.declared.statement.Statement.TheVariants.{TakeHostStep}
@@ -17,38 +17,6 @@ use Rattle.vq_model.specs.Meaning.{of_two, pairs_at}
 use Rattle.vq_model.specs.Text.{numeral}
 use Rattle.vq_model.specs.Context.{number_at}
 use Rattle.vq_model.specs.Forms.{TimelineName, FenceName}
-
--- a position is where an item stands that passes
-at_position : {X : Type 0} (test : X → Bool) (xs : List X) →
-    position_or_len test xs < length xs →
-    (x : X) × (slice_get xs (position_or_len test xs) ≡ Some x) × (test x ≡ true)
-at_position test [] l = absurd (omega arith)
-at_position {X} test (x ∷ xs) l = by_test (test x) refl l (at_position test xs)
-  where
-    by_test : (b : Bool) → test x ≡ b → cond (not b) (1 + position_or_len test xs) 0 < suc (length xs) →
-        (position_or_len test xs < length xs → (y : X)
-        × (slice_get xs (position_or_len test xs) ≡ Some y) × (test y ≡ true)) →
-        (y : X) × (slice_get (x ∷ xs) (cond (not b) (1 + position_or_len test xs) 0) ≡ Some y)
-        × (test y ≡ true)
-    by_test true e m later = (x, refl, e)
-    by_test false e m later =
-        let n : suc (position_or_len test xs) ≡ 1 + position_or_len test xs = omega arith in
-        subst (λ (k : ℕ). (y : X) × (slice_get (x ∷ xs) k ≡ Some y) × (test y ≡ true)) n
-        (later (omega arith))
-
--- what stands at the position that is found
-pub found_at : {X : Type 0} (test : X → Bool) (xs : List X) (t : ℕ) → position test xs ≡ Some t →
-    (x : X) × (slice_get xs t ≡ Some x) × (test x ≡ true)
-found_at {X} test xs t h = by_test (nat_lt (position_or_len test xs) (length xs)) refl h
-  where
-    by_test : (b : Bool) → nat_lt (position_or_len test xs) (length xs) ≡ b →
-        cond b (Some (position_or_len test xs)) None ≡ Some t →
-        (x : X) × (slice_get xs t ≡ Some x) × (test x ≡ true)
-    by_test true e h =
-        let same : position_or_len test xs ≡ t = cc in
-        subst (λ (k : ℕ). (x : X) × (slice_get xs k ≡ Some x) × (test x ≡ true)) same
-        (at_position test xs (ltb-true (position_or_len test xs) (length xs) e))
-    by_test false e h = absurd (cc)
 
 -- its kind
 pub kind_at : (xs : List Semaphore) (t : ℕ) (x : Semaphore) → slice_get xs t ≡ Some x →

@@ -1,12 +1,13 @@
 -- What the context says of the place of a line.
 use Rattle.std.proofs.Common.{◌≡◌, ℕ, ◌<◌, List, length, ◌≤◌, Bool, true, false, ◌||◌, refl, sym, arith, ◌+◌, cond, [], ◌∷◌, ◌++◌, length-append, ap, ◌∙◌, subst}
 use Rattle.std.specs.Prelude.{nat_lt}
+use Rattle.vq_ground.proofs.Tests.{at_least_of_test}
 use Rattle.vq_model.specs.declared.statement.Section.TheVariants.{InBatch, Outside, InSchedule}
 use Rattle.vq_model.specs.declared.statement.Line.{Line}
 use Rattle.vq_model.specs.declared.statement.Form.{Form}
 use Rattle.vq_model.specs.Context.{section, queues, open_batch, is_wait, is_signal, count, some, section_after, queue_of, is_submit, is_end}
 use Rattle.vq_reading_laws.proofs.Standing.{Where, is_outside, is_inside, in_schedule, declared_by, where_after, Stands}
-use Rattle.std.proofs.lemmas.Bool.{ltb-true, lt-ltb, ltb-false}
+use Rattle.std.proofs.lemmas.Bool.{ltb-true, lt-ltb}
 use Rattle.std.specs.List.{filter_map}
 use Rattle.std.proofs.lemmas.List.Elements.{filter_map-append}
 use Rattle.vq_model.specs.declared.statement.Section.{Section}
@@ -135,10 +136,6 @@ lead_more before n in_schedule (TakeTurns actor count) t h =
     section_push before n (TakeTurns actor count) ∙ t
 lead_more before n was s t h = absurd h
 
--- no part is above one that all lines keep
-parts_kept : (j k : ℕ) → nat_lt j k ≡ false → k ≤ j
-parts_kept j k e = ltb-false j k e
-
 -- What a line without a fault says stands where the lines lead.
 pub said_stands : (form : Form) (before : List Line) (was : Where) (s : Statement) →
     Lead before was → Said form before (section before) s → Stands (declared_by before) was s
@@ -168,7 +165,7 @@ said_stands form before (is_inside q w g k) s t h =
     inside s (subst (λ (x : Section). Said form before x s) t.part h)
   where
     kept : (j : ℕ) → some (λ s. nat_lt j (part_of s)) (open_batch before) ≡ false → k ≤ j
-    kept j h = parts_kept j k (sym (t.parts j) ∙ h)
+    kept j h = at_least_of_test j k (sym (t.parts j) ∙ h)
 
     inside : (s : Statement) → Said form before InBatch s →
         Stands (declared_by before) (is_inside q w g k) s

@@ -30,8 +30,8 @@ use Rattle.vq_model.specs.declared.script.Mode.{Mode}
 use Rattle.vq_model.specs.declared.script.Turn.{Turn}
 use Rattle.vq_model.specs.declared.script.ActorName.{ActorName}
 use Rattle.vq_model.specs.declared.script.ActorName.TheVariants.{Host as HostActor, Submit as SubmitActor, Ring as RingActor}
-use Rattle.vq_model.proofs.Gets.{get-map}
-use Rattle.vq_model.proofs.Options.{some_of}
+use Rattle.vq_ground.proofs.Gets.{get-map}
+use Rattle.vq_ground.proofs.Options.{some_of}
 use Rattle.vq_reading_laws.proofs.DeclaredScripts.{valid_signals}
 
 -- Lists without lines

@@ -5,13 +5,14 @@ use Rattle.std.proofs.Common.{refl, sym, subst, ap, ◌∙◌, arith, inl, inr}
 use Rattle.std.proofs.lemmas.Bool.{cases_eq}
 use Rattle.std.specs.List.{enumerate_from}
 use Rattle.std.specs.Option.{option_map_or}
+use Rattle.vq_actor.proofs.Cited.{put_here, put_there}
 use Rattle.vq_model.specs.declared.script.ActorName.{ActorName}
 use Rattle.vq_model.specs.declared.script.ActorName.TheVariants.{Host, Submit as SubmitActor}
 use Rattle.vq_model.specs.declared.plan.Event.{Event}
 use Rattle.vq_model.specs.declared.plan.Event.TheVariants.{Look, Bind as Binds, Signal as Signals}
 use Rattle.vq_model.specs.declared.plan.Need.{Need}
 use Rattle.vq_model.specs.Plan.{Plan, initial, resolver}
-use Rattle.vq_points.specs.Points.{PointState}
+use Rattle.vq_point_laws.specs.Points.{PointState}
 use Rattle.vq_history_laws.specs.Histories.{points_after}
 use Rattle.vq_turns.specs.declared.task.Task.{Task}
 use Rattle.vq_turns.specs.declared.task.Task.TheVariants.{AwaitSubmitted, AwaitReleased, AwaitFinished, AwaitBound}
@@ -34,7 +35,7 @@ use Rattle.vq_turn_laws.proofs.Cited.{GoesForward, does_forward, next_at}
 use Rattle.vq_replay.specs.Rounds.{is_moved}
 use Rattle.vq_replay.specs.Resting.{HoldsUntil, HostIsIdle, IsIdle, host_rest}
 use Rattle.vq_replay.proofs.Idle.{IsStill, idle_by, still_idle}
-use Rattle.vq_replay.proofs.Places.{put_again, put_here, put_there}
+use Rattle.vq_replay.proofs.Places.{put_again}
 
 -- One task
 

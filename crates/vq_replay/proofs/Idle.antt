@@ -14,7 +14,7 @@ use Rattle.vq_model.specs.declared.plan.Lane.TheVariants.{Queue as QueueLane}
 use Rattle.vq_model.specs.declared.plan.Need.{Need}
 use Rattle.vq_model.specs.Edges.{AtEnd, awaited_at}
 use Rattle.vq_model.specs.Plan.{Plan, chain_of, initial, resolver, needs, commands_of, signals_of}
-use Rattle.vq_points.specs.Points.{PointState, smaller_ops, opening_points, HistoryFrom, jobs_of_lane}
+use Rattle.vq_point_laws.specs.Points.{PointState, smaller_ops, opening_points, HistoryFrom, jobs_of_lane}
 use Rattle.vq_history_laws.specs.Histories.{points_after}
 use Rattle.vq_history_laws.proofs.Cited.{history_reaches}
 use Rattle.vq_turns.specs.declared.task.Task.{Task}

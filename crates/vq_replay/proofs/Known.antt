@@ -4,16 +4,17 @@ use Rattle.std.proofs.Common.{refl, sym, subst, ap, ◌∙◌, inl, inr}
 use Rattle.std.proofs.Math.ListN.{set}
 use Rattle.std.proofs.lemmas.Bool.{cases_eq}
 use Rattle.std.proofs.lemmas.List.{get_or-set_other, get_or-set_same, length-replicate, length-set}
+use Rattle.vq_actor.proofs.Cited.{put_here, put_there}
 use Rattle.vq_model.specs.declared.script.ActorName.{ActorName}
 use Rattle.vq_model.specs.declared.script.ActorName.TheVariants.{Host, Submit, Ring}
 use Rattle.vq_model.specs.Plan.{Plan}
-use Rattle.vq_points.specs.Points.{PointState}
+use Rattle.vq_point_laws.specs.Points.{PointState}
 use Rattle.vq_turns.specs.declared.outcome.Outcome.{Outcome}
 use Rattle.vq_turns.specs.declared.outcome.Outcome.TheVariants.{Moved, Blocked, Ended}
 use Rattle.vq_turns.specs.Turns.{HostTurned, Place, Scene, Turned, host_turn, plays, turn_of, world_after}
 use Rattle.vq_core.specs.CoreState.{Course}
-use Rattle.vq_troupe.specs.Casts.{Cast, Plays, scene}
-use Rattle.vq_troupe.proofs.Cited.{plan_kept}
+use Rattle.vq_core_run.specs.Casts.{Cast, Plays, scene}
+use Rattle.vq_core_run.proofs.Cited.{plan_kept}
 use Rattle.vq_replay.specs.declared.rests.Rest.{Rest}
 use Rattle.vq_replay.specs.declared.rests.Rest.TheVariants.{Unknown, Over, Unsubmitted, Unreleased, Unbound, Unsignaled}
 use Rattle.vq_replay.specs.declared.rests.Rest.TheVariants.{Unfinished}
@@ -21,7 +22,7 @@ use Rattle.vq_replay.specs.Rounds.{is_moved}
 use Rattle.vq_replay.specs.Resting.{AreApart, AreKnown, ChangesNothing, HoldsUntil, IsIdle, IsIdleIn, Knows, rest_after}
 use Rattle.vq_replay.proofs.Ends.{host_known}
 use Rattle.vq_replay.proofs.Idle.{turn_known}
-use Rattle.vq_replay.proofs.Places.{put_again, put_here, put_there}
+use Rattle.vq_replay.proofs.Places.{put_again}
 
 -- a world after a turn that made no event
 same_world : (p : Plan) (w : PointState) (o : Outcome) → is_moved o ≡ false → world_after p w o ≡ w

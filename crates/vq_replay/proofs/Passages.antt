@@ -8,14 +8,14 @@ use Rattle.std.proofs.lemmas.List.Sums.{fold-append}
 use Rattle.vq_model.specs.declared.script.ActorName.{ActorName}
 use Rattle.vq_model.specs.declared.plan.Event.{Event}
 use Rattle.vq_model.specs.Plan.{Plan}
-use Rattle.vq_points.specs.Points.{opening_points}
+use Rattle.vq_point_laws.specs.Points.{opening_points}
 use Rattle.vq_turns.specs.declared.outcome.Outcome.{Outcome}
 use Rattle.vq_turns.specs.declared.outcome.Outcome.TheVariants.{Moved, Blocked, Ended}
 use Rattle.vq_turns.specs.Turns.{Scene, first_scene, plays, played_from}
 use Rattle.vq_progress_laws.specs.Scenes.{scene_after}
 use Rattle.vq_core.specs.CoreState.{Course}
-use Rattle.vq_troupe.specs.Casts.{Cast, Plays, course_after, first_places, places, scene}
-use Rattle.vq_troupe.proofs.Cited.{plan_kept}
+use Rattle.vq_core_run.specs.Casts.{Cast, Plays, course_after, first_places, places, scene}
+use Rattle.vq_core_run.proofs.Cited.{plan_kept}
 use Rattle.vq_replay.specs.declared.played.Played.{Played}
 use Rattle.vq_replay.specs.Passages.{LeadsTo}
 use Rattle.vq_replay.specs.Resting.{ChangesNothing}

@@ -1,13 +1,8 @@
 -- The places of a scene, where one of them is put.
-use Rattle.std.proofs.Common.{◌≡◌, ℕ, ◌==◌, sym, ap, ◌∙◌, inl, inr}
-use Rattle.std.proofs.lemmas.Bool.{cases_eq, cond-true, cond-false, eq-eqb, ne_eqb}
+use Rattle.std.proofs.Common.{◌≡◌, ℕ, sym, ap, ◌∙◌, inl, inr}
+use Rattle.std.proofs.lemmas.Bool.{cases_eq}
+use Rattle.vq_actor.proofs.Cited.{put_here, put_there}
 use Rattle.vq_turns.specs.Turns.{Place, put_place}
-
-pub put_here : (f : ℕ → Place) (q k : ℕ) (x : Place) → k ≡ q → put_place f q x k ≡ x
-put_here f q k x h = cond-true (k == q) x (f k) (eq-eqb k q h)
-
-pub put_there : (f : ℕ → Place) (q k : ℕ) (x : Place) → (k ≡ q → ⊥) → put_place f q x k ≡ f k
-put_there f q k x h = cond-false (k == q) x (f k) (ne_eqb k q h)
 
 pub put_again : (f : ℕ → Place) (q : ℕ) (x : Place) → x ≡ f q → put_place f q x ≡ f
 put_again f q x h = λ i k. at k i

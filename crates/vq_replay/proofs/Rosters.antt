@@ -11,7 +11,7 @@ use Rattle.vq_model.specs.declared.script.ActorName.TheVariants.{Host, Submit, R
 use Rattle.vq_model.specs.declared.script.Script.{Script}
 use Rattle.vq_model.specs.Plan.{Plan}
 use Rattle.vq_model.specs.ValidScripts.{IsActor, is_threaded_queue}
-use Rattle.vq_model.proofs.Numbers.{range_more}
+use Rattle.vq_ground.proofs.Numbers.{range_more}
 use Rattle.vq_progress_laws.specs.Movers.{all_queues, round}
 use Rattle.vq_replay.specs.Resting.{AreApart}
 

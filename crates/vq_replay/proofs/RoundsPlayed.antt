@@ -9,14 +9,14 @@ use Rattle.vq_model.specs.Plan.{Plan}
 use Rattle.vq_model.specs.Checks.{IsLawful}
 use Rattle.vq_model.specs.LoweringFaults.{IsPlan}
 use Rattle.vq_model.specs.Machine.{AreFinished}
-use Rattle.vq_points.specs.Points.{opening_points}
+use Rattle.vq_point_laws.specs.Points.{opening_points}
 use Rattle.vq_history_laws.specs.Histories.{acts}
 use Rattle.vq_turns.specs.Turns.{Scene, first_scene}
 use Rattle.vq_progress_laws.specs.Movers.{round, rounds_of}
 use Rattle.vq_progress_laws.specs.Scenes.{FinishIn, scene_after}
 use Rattle.vq_progress_laws.proofs.Cited.{few_acts, few_turns, opening_scene, rounds_end, rounds_more}
 use Rattle.vq_core.specs.CoreState.{Course, world}
-use Rattle.vq_troupe.specs.Casts.{Cast, first_places, places, scene}
+use Rattle.vq_core_run.specs.Casts.{Cast, first_places, places, scene}
 use Rattle.vq_replay.specs.declared.played.Played.{Played}
 use Rattle.vq_replay.specs.declared.rests.Rest.{Rest}
 use Rattle.vq_replay.specs.Passages.{AreUnderWay, HasGone, LeadsTo}

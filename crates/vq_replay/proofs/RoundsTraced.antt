@@ -7,8 +7,8 @@ use Rattle.vq_model.specs.Machine.{AreFinished, Run}
 use Rattle.vq_model.specs.OutputText.{answers_of, buffers_text}
 use Rattle.vq_model.specs.Outputs.{IsOutput}
 use Rattle.vq_model.specs.SlowRun.{bytes_after, final}
-use Rattle.vq_points.specs.HistoryLaws.{PointLaw, PendingLaw}
-use Rattle.vq_points.specs.Points.{HistoryFrom, opening_points, steps_of}
+use Rattle.vq_point_laws.specs.HistoryLaws.{PointLaw, PendingLaw}
+use Rattle.vq_point_laws.specs.Points.{HistoryFrom, opening_points, steps_of}
 use Rattle.vq_core.specs.CoreState.{Course, world}
 use Rattle.vq_replay.specs.declared.played.Played.{Played}
 use Rattle.vq_replay.specs.Passages.{AreWritten}

@@ -11,7 +11,7 @@ use Rattle.vq_model.specs.declared.script.Turn.{Turn}
 use Rattle.vq_model.specs.declared.plan.Event.{Event}
 use Rattle.vq_model.specs.Plan.{Plan}
 use Rattle.vq_history_laws.specs.Histories.{points_after}
-use Rattle.vq_points.specs.Points.{PointState, opening_points}
+use Rattle.vq_point_laws.specs.Points.{PointState, opening_points}
 use Rattle.vq_turns.specs.Programs.{is_deferred_queue}
 use Rattle.vq_turns.specs.Turns.{Place, Scene, first_place, first_scene, played_from}
 use Rattle.vq_turns.specs.Wants.{IsNotSo}
@@ -21,8 +21,8 @@ use Rattle.vq_turns.specs.declared.outcome.Outcome.{Outcome}
 use Rattle.vq_turns.specs.declared.outcome.Outcome.TheVariants.{Moved, Blocked, Ended}
 use Rattle.vq_core.specs.CoreState.{Course, world}
 use Rattle.vq_replay.specs.declared.played.Played.{Played}
-use Rattle.vq_troupe.specs.Casts.{Cast, Plays, course_after, first_places, places, scene}
-use Rattle.vq_troupe.proofs.Cited.{plan_kept}
+use Rattle.vq_core_run.specs.Casts.{Cast, Plays, course_after, first_places, places, scene}
+use Rattle.vq_core_run.proofs.Cited.{plan_kept}
 use Rattle.vq_replay.specs.Schedules.{AreBlockedSo, HasPlayed, plays_on}
 use Rattle.vq_replay.specs.Traces.{actors_of, event_of, events_of, numbered_from, played_turns}
 

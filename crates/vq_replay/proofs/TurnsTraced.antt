@@ -9,16 +9,16 @@ use Rattle.vq_model.specs.Machine.{AreFinished, Run}
 use Rattle.vq_model.specs.OutputText.{answers_of, buffers_text}
 use Rattle.vq_model.specs.Outputs.{IsOutput}
 use Rattle.vq_model.specs.SlowRun.{bytes_after, final}
-use Rattle.vq_points.specs.HistoryLaws.{PointLaw, PendingLaw}
-use Rattle.vq_points.specs.Points.{HistoryFrom, opening_points, steps_of}
+use Rattle.vq_point_laws.specs.HistoryLaws.{PointLaw, PendingLaw}
+use Rattle.vq_point_laws.specs.Points.{HistoryFrom, opening_points, steps_of}
 use Rattle.vq_turns.specs.declared.outcome.Outcome.{Outcome}
 use Rattle.vq_turns.specs.declared.outcome.Outcome.TheVariants.{Blocked}
 use Rattle.vq_turns.specs.declared.outcome.Want.{Want}
 use Rattle.vq_turns.specs.Wants.{IsNotSo}
 use Rattle.vq_core.specs.CoreState.{Course, world}
 use Rattle.vq_core.specs.Tables.{jobs_left}
-use Rattle.vq_troupe.specs.Casts.{Cast, Plays, first_places, places}
-use Rattle.vq_troupe.proofs.Cited.{plan_kept}
+use Rattle.vq_core_run.specs.Casts.{Cast, Plays, first_places, places}
+use Rattle.vq_core_run.proofs.Cited.{plan_kept}
 use Rattle.vq_replay.specs.declared.played.Played.{Played}
 use Rattle.vq_replay.specs.Schedules.{HasWritten}
 use Rattle.vq_replay.specs.Traces.{end_text, events_of, played_turns, trace_text, turn_line}

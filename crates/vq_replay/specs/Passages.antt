@@ -5,11 +5,11 @@ use Rattle.vq_model.specs.declared.script.ActorName.{ActorName}
 use Rattle.vq_model.specs.declared.plan.Event.{Event}
 use Rattle.vq_model.specs.Plan.{Plan}
 use Rattle.vq_model.specs.Machine.{AreFinished}
-use Rattle.vq_points.specs.Points.{opening_points}
+use Rattle.vq_point_laws.specs.Points.{opening_points}
 use Rattle.vq_turns.specs.Turns.{Scene, first_scene}
 use Rattle.vq_progress_laws.specs.Movers.{round, rounds_of}
 use Rattle.vq_progress_laws.specs.Scenes.{scene_after}
-use Rattle.vq_troupe.specs.Casts.{Cast, scene}
+use Rattle.vq_core_run.specs.Casts.{Cast, scene}
 use Rattle.vq_replay.specs.declared.played.Played.{Played}
 use Rattle.vq_replay.specs.declared.rests.Rest.{Rest}
 use Rattle.vq_replay.specs.Resting.{AreKnown}

@@ -9,7 +9,7 @@ use Rattle.vq_turns.specs.declared.outcome.Want.{Want}
 use Rattle.vq_turns.specs.declared.outcome.Outcome.TheVariants.{Blocked}
 use Rattle.vq_turns.specs.Turns.{played_from}
 use Rattle.vq_turns.specs.Wants.{IsNotSo}
-use Rattle.vq_troupe.specs.Casts.{Cast, scene}
+use Rattle.vq_core_run.specs.Casts.{Cast, scene}
 use Rattle.vq_replay.specs.declared.played.Played.{Played}
 use Rattle.vq_replay.specs.Traces.{actors_of, events_of, numbered_from, played_turns, turn_line}
 

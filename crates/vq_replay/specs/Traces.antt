@@ -15,7 +15,7 @@ use Rattle.vq_model.specs.SlowRun.{bytes_after}
 use Rattle.vq_model.specs.OutputText.{answer_words, answers_of, buffers_text, line_feed}
 use Rattle.vq_model.specs.Canonical.{line_text}
 use Rattle.vq_model.specs.Naming.{semaphore_name, actor_word}
-use Rattle.vq_points.specs.Points.{opening_points}
+use Rattle.vq_point_laws.specs.Points.{opening_points}
 use Rattle.vq_core.specs.Tables.{jobs_left}
 use Rattle.vq_turns.specs.declared.outcome.Outcome.{Outcome}
 use Rattle.vq_turns.specs.declared.outcome.Outcome.TheVariants.{Moved, Blocked, Ended}

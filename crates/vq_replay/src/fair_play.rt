@@ -5,7 +5,7 @@ ghost use Rattle.std.specs.Prelude.{◌≡◌, ◌<◌, ◌+◌, ◌^◌, ◌++�
 ghost use Rattle.vq_model.specs.Machine.{AreFinished};
 ghost use Rattle.vq_model.specs.ValidScripts.{IsActor};
 ghost use Rattle.vq_core.specs.CoreState.{world};
-ghost use Rattle.vq_troupe.specs.Casts.{scene};
+ghost use Rattle.vq_core_run.specs.Casts.{scene};
 ghost use Rattle.vq_replay.specs.declared.played.Played.{Played as Turn};
 ghost use Rattle.vq_replay.specs.Passages.{AreUnderWay, LeadsTo};
 ghost use Rattle.vq_replay.specs.Resting.{AreApart, AreKnown};
@@ -16,9 +16,9 @@ use crate::rests::Rests;
 use crate::roster::roster;
 use std::alloc::{AllocError, Global};
 use vq_core::Core;
+use vq_core_run::Troupe;
 use vq_model::script::ActorName;
 use vq_order::Ordered;
-use vq_troupe::Troupe;
 use vq_turns::outcome::Outcome;
 
 /// Rounds over a core from its first state on, as far as they have come: in each, every actor has a turn.

@@ -9,9 +9,9 @@ ghost use Rattle.vq_replay.specs.Traces.{events_of, played_turns};
 use crate::played::Played;
 use std::alloc::{AllocError, Global};
 use vq_core::Core;
+use vq_core_run::Troupe;
 use vq_model::script::Turn;
 use vq_order::Ordered;
-use vq_troupe::Troupe;
 
 /// What a schedule came to, or rounds: its turns, of rounds those that moved, and the core after them.
 pub struct Replayed {

@@ -18,11 +18,11 @@ use crate::trace::push_turns;
 use crate::writer::Writer;
 use std::alloc::{AllocError, Global};
 use vq_core::{AnswerRoom, Core};
+use vq_core_run::Troupe;
 use vq_model::script::Turn;
 use vq_order::Ordered;
 use vq_spec::{Plan, push_buffers};
 use vq_text::push_numeral;
-use vq_troupe::Troupe;
 
 /// The fewest bytes of a turn's line: a number, an actor's word of three letters and a mark, with their spaces and a
 /// line feed.

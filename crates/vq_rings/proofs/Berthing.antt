@@ -12,7 +12,7 @@ use Rattle.vq_lock.specs.declared.lock.KeyedLock.{KeyedLock}
 use Rattle.vq_lock.specs.declared.lock.Guard.{Guard}
 use Rattle.vq_lock.specs.declared.parts.Turn.{Turn}
 use Rattle.vq_lock.specs.Named.{Has, key_of}
-use Rattle.vq_rooms.specs.Rooming.{Room, IsRoomOf}
+use Rattle.vq_board_run.specs.Rooming.{Room, IsRoomOf}
 use Rattle.vq_rings.specs.declared.berth.Home.{Home}
 use Rattle.vq_rings.specs.Berths.{IsAt, IsHome, actor_at, fits}
 

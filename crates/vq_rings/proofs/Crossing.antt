@@ -12,8 +12,8 @@ use Rattle.vq_order.specs.contracts.ordered.Ordered as ordered
 use Rattle.vq_access.specs.contracts.asking.Waiting as waiting
 use Rattle.vq_access.specs.contracts.grounds.Grounds as grounds
 use Rattle.vq_access.proofs.Cited.{grounds_sync, waiting_sync}
-use Rattle.vq_rooms.specs.contracts.room.AccessRoom as room
-use Rattle.vq_rooms.proofs.room.AccessRoom.TheSendSync as content
+use Rattle.vq_board_run.specs.contracts.room.AccessRoom as room
+use Rattle.vq_board_run.proofs.room.AccessRoom.TheSendSync as content
 use Rattle.vq_rings.specs.contracts.berth.Home as home
 use Rattle.vq_rings.specs.contracts.berth.OptionAccessRoomFitsHome.TheImpl as fits
 

@@ -7,9 +7,9 @@ use Rattle.vq_board.specs.Named.{plan_of}
 use Rattle.vq_timeline.specs.Named.{IsSameBoard}
 use Rattle.vq_lock.specs.declared.lock.KeyedLock.{KeyedLock}
 use Rattle.vq_lock.specs.Named.{key_of}
-use Rattle.vq_rooms.specs.Rooming.{Room, IsRoomOf}
+use Rattle.vq_board_run.specs.Rooming.{Room, IsRoomOf}
 use Rattle.vq_rings.specs.declared.berth.Home.{Home}
-use Rattle.vq_crew.specs.Crews.{workers}
+use Rattle.vq_board_run.specs.Crews.{workers}
 
 -- the room is of this board and of this actor
 abbrev pub IsHome : Board → ActorName → Room → Type 0

@@ -4,7 +4,7 @@ use Rattle.vq_model.specs.Plan.{Plan}
 use Rattle.vq_actor.specs.Companies.{IsCompanyOf}
 use Rattle.vq_board.specs.Named.{plan_of}
 use Rattle.vq_access.specs.Timelines.{AreOf}
-use Rattle.vq_crew.specs.Crewed.{MayLead}
+use Rattle.vq_board_run.specs.Crewed.{MayLead}
 use Rattle.vq_rings.specs.declared.opening.Parts.{Parts}
 use Rattle.vq_rings.specs.Berths.{AreBerths}
 

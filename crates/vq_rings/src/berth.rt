@@ -1,9 +1,9 @@
 //! An actor's room in a cell that threads and the caller reach by reference.
 use std::snapshot::Snapshot;
 use vq_board::Board;
+use vq_board_run::AccessRoom;
 use vq_lock::{Fits, KeyedLock};
 use vq_model::script::ActorName;
-use vq_rooms::AccessRoom;
 
 /// Which board and which of its actors a berth was made for.
 #[derive(Drop)]

@@ -2,15 +2,15 @@
 //!
 //! Source: this project's own.
 ghost use Rattle.std.specs.Prelude.{◌≡◌, IfOk};
-ghost use Rattle.vq_crew.specs.Crewed.{AreWorkersOf, IsWorkerOf};
+ghost use Rattle.vq_board_run.specs.Crewed.{AreWorkersOf, IsWorkerOf};
 ghost use Rattle.vq_rings.specs.Berths.{AreBerths, IsAt, actor_at};
 
 use crate::berth::{Berth, Home};
 use std::alloc::{AllocError, Global};
 use std::snapshot::Snapshot;
 use vq_board::Board;
+use vq_board_run::AccessRoom;
 use vq_lock::KeyedLock;
-use vq_rooms::AccessRoom;
 
 /// The berth of a worker before its first turn.
 fn berth_of(alloc: Global, board: &Board, room: AccessRoom) -> Result<Berth, AllocError>

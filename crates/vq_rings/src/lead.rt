@@ -4,7 +4,7 @@ ghost use Rattle.std.specs.Vec.{vec_capacity};
 ghost use Rattle.vq_access.specs.Grounding.{plan_at, board_at};
 ghost use Rattle.vq_actor.specs.Companies.{IsCompanyOf};
 ghost use Rattle.vq_board.specs.Named.{view};
-ghost use Rattle.vq_crew.specs.Answered.{HasSeen, IsLead};
+ghost use Rattle.vq_board_run.specs.Answered.{HasSeen, IsLead};
 ghost use Rattle.vq_model.specs.Outputs.{asking};
 ghost use Rattle.vq_rings.specs.Berths.{AreAt};
 
@@ -16,10 +16,9 @@ use std::sync::Wait;
 use vq_access::{Grounds, Waiting};
 use vq_actor::Company;
 use vq_board::Pass;
-use vq_crew::{host_turn, sees_finished};
+use vq_board_run::{AccessRoom, host_turn, sees_finished};
 use vq_model::plan::AnswerLine;
 use vq_model::script::ActorName;
-use vq_rooms::AccessRoom;
 use vq_turns::outcome::Outcome;
 
 /// The turns of the host until it has ended, with those of the actors that have no thread.

@@ -10,7 +10,7 @@ use crate::rounds::{Hand, all_hands};
 use std::alloc::{AllocError, Global};
 use vq_actor::Company;
 use vq_board::Board;
-use vq_crew::{Crew, Lead};
+use vq_board_run::{Crew, Lead};
 use vq_order::Ordered;
 use vq_timeline::LockedTimeline;
 

@@ -1,7 +1,7 @@
 //! The turns of workers, by their threads or by the caller.
 ghost use Rattle.std.specs.Prelude.{◌≡◌, IfOk, IfSome, length};
 ghost use Rattle.vq_access.specs.Grounding.{plan_at, board_at};
-ghost use Rattle.vq_rooms.specs.Rooming.{IsRoomOf};
+ghost use Rattle.vq_board_run.specs.Rooming.{IsRoomOf};
 ghost use Rattle.vq_actor.specs.Companies.{IsCompanyOf};
 ghost use Rattle.vq_model.specs.ValidScripts.{IsActor};
 ghost use Rattle.vq_model.specs.declared.script.ActorName.{ActorName as Name};
@@ -15,7 +15,7 @@ use std::sync::Wait;
 use std::thread::Threads;
 use vq_access::{Grounds, Waiting};
 use vq_actor::Company;
-use vq_rooms::AccessRoom;
+use vq_board_run::AccessRoom;
 use vq_turns::outcome::Outcome;
 
 /// What the caller knows of an actor whose turns it may have to take.

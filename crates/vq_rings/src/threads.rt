@@ -4,7 +4,7 @@ ghost use Rattle.std.specs.Vec.{vec_capacity};
 ghost use Rattle.vq_access.specs.Grounding.{plan_at, board_at};
 ghost use Rattle.vq_actor.specs.Companies.{IsCompanyOf};
 ghost use Rattle.vq_model.specs.Outputs.{asking};
-ghost use Rattle.vq_crew.specs.Answered.{IsDone, IsLead};
+ghost use Rattle.vq_board_run.specs.Answered.{IsDone, IsLead};
 ghost use Rattle.vq_rings.specs.Berths.{AreAt, IsAt};
 
 use crate::berth::Berth;
@@ -18,7 +18,7 @@ use std::thread::Threads;
 use vq_access::{Grounds, Waiting};
 use vq_actor::Company;
 use vq_board::Pass;
-use vq_crew::Lead;
+use vq_board_run::Lead;
 use vq_model::plan::AnswerLine;
 
 /// The host's pass, which knows all jobs finished, and the answers that it told.

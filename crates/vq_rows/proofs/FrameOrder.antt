@@ -4,6 +4,7 @@ use Rattle.std.proofs.Common.{ℕ, List, [], ◌∷◌, Some, None, ◌≡◌, r
 use Rattle.std.specs.Prelude.{◌==◌}
 use Rattle.std.specs.List.{slice_get, list_all, range_with_len}
 use Rattle.std.specs.Option.{option_map_or}
+use Rattle.std.proofs.lemmas.Option.{slice_get_past}
 use Rattle.vq_model.specs.declared.script.Job.{Job}
 use Rattle.vq_model.specs.declared.script.CommandLine.{CommandLine}
 use Rattle.vq_model.specs.Plan.{Plan}
@@ -16,9 +17,8 @@ use Rattle.vq_model.specs.Signals.{Signaling, all_signals}
 use Rattle.vq_model.specs.ValidScripts.{IsValid, KeepsLimits}
 use Rattle.vq_model.specs.WellFormed.{IsWellFormed, KeepsHostOrder}
 use Rattle.vq_model.specs.SlowRun.{HasOneResult}
-use Rattle.vq_model.proofs.Gets.{slice_get_past}
-use Rattle.vq_model.proofs.Lists.{list_all_has}
-use Rattle.vq_model.proofs.Numbers.{has_range}
+use Rattle.vq_ground.proofs.Lists.{list_all_has}
+use Rattle.vq_ground.proofs.Numbers.{has_range}
 use Rattle.vq_plan_laws.proofs.Cited.{well_formed, host_order}
 use Rattle.vq_run_laws.proofs.Cited.{one_result}
 use Rattle.vq_rows.proofs.FrameRows.{frames}

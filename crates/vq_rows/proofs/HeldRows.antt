@@ -1,8 +1,10 @@
 -- A batch whose wait holds back only its second command or its end: the order, the bytes and the races of small scripts.
 use Rattle.std.proofs.Common.{ℕ, [], ◌∷◌, false, None, ◌≡◌, refl, zero, suc, arith, true, ◌⊎◌, inl, inr, ap, ◌∙◌, subst, sym, ◌+◌, ◌≤◌, List, length, Some, ◌≢◌, ◌<◌, fold, Option, IfSome, option_map}
+use Rattle.std.proofs.lemmas.Option.{same_Some, slice_get_past}
 use Rattle.vq_model.specs.declared.script.Queue.{Queue}
 use Rattle.vq_model.specs.declared.script.Mode.TheVariants.{Threaded}
-use Rattle.vq_model.specs.Plan.{value, Plan, has, chain, chain_of, initial, needs, commands_of, line_of_command}
+use Rattle.vq_model.specs.Plan.{value, Plan, chain, chain_of, initial, needs, commands_of, line_of_command}
+use Rattle.vq_ground.specs.Lists.{has}
 use Rattle.vq_model.specs.declared.script.Script.{Script}
 use Rattle.vq_model.specs.declared.script.SemaphoreKind.TheVariants.{Timeline, Binary}
 use Rattle.vq_model.specs.declared.script.Job.TheVariants.{Batch}
@@ -15,20 +17,18 @@ use Rattle.vq_model.specs.Edges.{edges_to, At, edges_at, Stage, stage_of, AtEnd}
 use Rattle.vq_model.specs.HappensBefore.{HappensBeforeCommand, one, HappensBeforeAt, more}
 use Rattle.vq_model.specs.Sure.{KeepsChains, IsSureAt, finished_first, waited_for, passed_on}
 use Rattle.std.proofs.lemmas.Bool.{false≢true}
-use Rattle.vq_model.proofs.Lists.{has_cases}
+use Rattle.vq_ground.proofs.Lists.{has_cases}
 use Rattle.vq_model.specs.Races.{conflicts, HasNoRace}
 use Rattle.vq_model.specs.Checks.{IsRaceAt, AreNeighbours, IsUnordered, too_low, equal, unsure, unsure_back, unawaited, NoLines, is_immediate_batch, IsFirstPlanFault, IsLawful}
 use Rattle.std.specs.List.{slice_get, list_any, flat_map}
-use Rattle.vq_model.proofs.Gets.{slice_get_past}
 use Rattle.std.specs.Option.{option_map_or}
 use Rattle.vq_model.specs.declared.plan.Need.{Need}
 use Rattle.vq_model.specs.Signals.{kind_of, Signaling, all_signals}
 use Rattle.vq_model.specs.declared.plan.OrderFault.TheVariants.{Race}
 use Rattle.vq_model.specs.Machine.{StartStep, ApplyStep, SignalStep, FinishStep, Run, next, are_reached, CanApply, state_after}
-use Rattle.vq_points.specs.Points.{opening_points, HistoryFrom, PointState, after_event, CanRefer, resolves, needs_now}
+use Rattle.vq_point_laws.specs.Points.{opening_points, HistoryFrom, PointState, after_event, CanRefer, resolves, needs_now}
 use Rattle.vq_model.specs.declared.script.ActorName.TheVariants.{Ring}
 use Rattle.vq_model.specs.declared.plan.Event.TheVariants.{Submit, Take, Release, Bind, Refer, Start as Starts, Apply as Applies}
-use Rattle.vq_model.proofs.Options.{same_some}
 use Rattle.vq_model.specs.Ranges.{Fits}
 use Rattle.vq_model.specs.ValidScripts.{IsValid, KeepsLimits}
 use Rattle.vq_model.specs.declared.script.CommandLine.{CommandLine}
@@ -321,7 +321,7 @@ abbrev before_start : PointState
 before_start = fold (after_event copy_held) (opening_points copy_held) (Submit 0 ∷ Submit 1 ∷ Take 0 0 true ∷ Release 1 ∷ Bind 0 0 ∷ Release 0 ∷ [])
 
 no_early_reference : ¬ CanRefer copy_held before_start (Ring 0) 0 0
-no_early_reference c = false≢true (subst (λ j. list_any (resolves copy_held 0) (needs_now copy_held before_start j) ≡ true) (same_some c.job 0 (sym c.is_next)) c.needed)
+no_early_reference c = false≢true (subst (λ j. list_any (resolves copy_held 0) (needs_now copy_held before_start j) ≡ true) (same_Some c.job 0 (sym c.is_next)) c.needed)
 
 -- The copy isn't applied before the signal
 abbrev before_signal : PointState

@@ -5,14 +5,15 @@ use Rattle.std.specs.Prelude.{◌==◌}
 use Rattle.std.specs.List.{list_any, list_all, range_with_len}
 use Rattle.std.specs.Option.{option_map_or}
 use Rattle.std.proofs.lemmas.Bool.{false≢true, and_parts, or_cases, eqb-true}
-use Rattle.vq_model.specs.Plan.{Plan, has, commands_of}
+use Rattle.std.proofs.lemmas.Option.{slice_get_past}
+use Rattle.vq_model.specs.Plan.{Plan, commands_of}
+use Rattle.vq_ground.specs.Lists.{has}
 use Rattle.vq_model.specs.Edges.{edges_to, AtEnd, HasNoHeldWait}
 use Rattle.vq_model.specs.HappensBefore.{comes_earlier, HappensBefore, IsHop, one, more}
 use Rattle.vq_model.specs.Sure.{IsSure, passed_on}
 use Rattle.vq_model.specs.Races.{conflicts, HasNoRace}
-use Rattle.vq_model.proofs.Gets.{slice_get_past}
-use Rattle.vq_model.proofs.Lists.{has_cases, list_all_has}
-use Rattle.vq_model.proofs.Numbers.{has_range}
+use Rattle.vq_ground.proofs.Lists.{has_cases, list_all_has}
+use Rattle.vq_ground.proofs.Numbers.{has_range}
 use Rattle.vq_order_laws.proofs.Cited.{command_order}
 
 -- Paths

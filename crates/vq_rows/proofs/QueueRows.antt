@@ -1,10 +1,11 @@
 -- A text with two queues: its plan is one of a script that was read, and it is lawful. So the premises of
 -- the laws on plans of scripts are met, and their conclusions hold of it.
-use Rattle.std.proofs.Common.{ℕ, List, [], ◌∷◌, ◌++◌, false, true, None, ◌≡◌, ◌≢◌, refl, zero, suc, arith, inl, inr, ap, ◌∙◌, subst, sym, ◌+◌, ◌≤◌, length, Some}
+use Rattle.std.proofs.Common.{ℕ, List, [], ◌∷◌, ◌++◌, false, true, None, ◌≡◌, ◌≢◌, refl, zero, suc, arith, inl, ap, ◌∙◌, subst, sym, ◌+◌, ◌≤◌, length, Some}
 use Rattle.std.specs.Prelude.{codes}
 use Rattle.std.specs.List.{slice_get}
 use Rattle.std.specs.Option.{option_map_or}
 use Rattle.std.proofs.lemmas.Bool.{false≢true}
+use Rattle.std.proofs.lemmas.Option.{slice_get_past}
 use Rattle.vq_model.specs.declared.script.Script.{Script}
 use Rattle.vq_model.specs.declared.script.Mode.TheVariants.{Threaded}
 use Rattle.vq_model.specs.declared.script.SemaphoreKind.TheVariants.{Timeline, Binary}
@@ -13,7 +14,8 @@ use Rattle.vq_model.specs.declared.script.Command.TheVariants.{Fill, Copy}
 use Rattle.vq_model.specs.declared.script.FillSize.TheVariants.{Count}
 use Rattle.vq_model.specs.declared.statement.Form.TheVariants.{Plain}
 use Rattle.vq_model.specs.declared.plan.Need.{Need}
-use Rattle.vq_model.specs.Plan.{Plan, has, chain, chain_of, initial, value, needs, commands_of}
+use Rattle.vq_model.specs.Plan.{Plan, chain, chain_of, initial, value, needs, commands_of}
+use Rattle.vq_ground.specs.Lists.{has}
 use Rattle.vq_model.specs.Signals.{kind_of}
 use Rattle.vq_model.specs.SameScript.{IsRead}
 use Rattle.vq_model.specs.Lowering.{plan_of, resets_fence}
@@ -21,8 +23,6 @@ use Rattle.vq_model.specs.LoweringFaults.{IsPlan}
 use Rattle.vq_model.specs.SlowRun.{HasOneResult, final}
 use Rattle.vq_model.specs.HappensBefore.{HappensBefore, HappensBeforeCommand, one}
 use Rattle.vq_model.specs.Checks.{IsLawful, IsUnordered, AreNeighbours, IsRaceAt, NoLines, too_low, equal, unsure, unsure_back, unawaited, is_immediate_batch}
-use Rattle.vq_model.proofs.Gets.{slice_get_past}
-use Rattle.vq_model.proofs.Lists.{has_cases}
 use Rattle.vq_plan_laws.proofs.Cited.{plan_well_formed, first_version_unheld}
 use Rattle.vq_order_laws.proofs.Cited.{plan_has_sure_order, command_order}
 use Rattle.vq_run_laws.proofs.Cited.{one_result}
@@ -125,9 +125,6 @@ none_immediate (suc zero) h = false≢true h
 none_immediate (suc (suc j)) h = false≢true h
 
 -- the commands of the two jobs
-single : (x c : ℕ) → has (x ∷ []) c ≡ true → x ≡ c
-single x c h = elim (has_cases x [] c h) [ inl e ↦ e | inr n ↦ absurd (false≢true n) ]
-
 fill_first : (d : ℕ) → HappensBeforeCommand plan 1 0 d
 fill_first d = command_order plan (first_version_unheld plan is_plan refl) 1 0 d copy_after_fill
 

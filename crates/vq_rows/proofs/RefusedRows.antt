@@ -1,5 +1,6 @@
 -- What the definitions refuse: plans that are not lawful, commands that do not fit, a look at an old operation.
 use Rattle.std.proofs.Common.{ℕ, [], ◌∷◌, List, Option, false, None, ◌≡◌, refl, Some, zero, suc, ◌<◌, ◌≤◌, arith, sym, inl, inr, subst, true}
+use Rattle.std.proofs.lemmas.Option.{same_Some}
 use Rattle.vq_model.specs.declared.script.Queue.{Queue}
 use Rattle.vq_model.specs.declared.script.Mode.{Mode}
 use Rattle.vq_model.specs.declared.script.Mark.{Mark}
@@ -14,7 +15,7 @@ use Rattle.vq_model.specs.Lowering.{plan_of}
 use Rattle.vq_model.specs.Checks.{IsNextSignal, IsUnordered, unawaited, IsLawful, IsFenceBusyAt, IsNotPendingAt}
 use Rattle.std.proofs.lemmas.Bool.{false≢true}
 use Rattle.vq_model.specs.HappensBefore.{one, more, HappensBefore}
-use Rattle.vq_model.proofs.Lists.{has_cases}
+use Rattle.vq_ground.proofs.Lists.{has_cases}
 use Rattle.vq_model.specs.declared.script.HostStep.TheVariants.{FenceReset}
 use Rattle.vq_model.specs.Sure.{IsSure, finished_first, waited_for, passed_on}
 use Rattle.vq_model.specs.declared.script.Command.TheVariants.{Fill, Copy}
@@ -23,8 +24,7 @@ use Rattle.vq_model.specs.Ranges.{Fits}
 use Rattle.vq_model.specs.declared.script.ActorName.TheVariants.{Ring}
 use Rattle.vq_model.specs.declared.plan.Event.{Event}
 use Rattle.vq_model.specs.declared.plan.Event.TheVariants.{Take, Bind, Refer, Look, Unref, Complete, Free, Signal}
-use Rattle.vq_points.specs.HistoryLaws.{LooksTruly}
-use Rattle.vq_model.proofs.Options.{same_some}
+use Rattle.vq_point_laws.specs.HistoryLaws.{LooksTruly}
 
 abbrev queue : ℕ → ℕ → Mode → Queue
 queue line letter mode = record { line = line; name = letter ∷ []; mode = mode }
@@ -164,7 +164,7 @@ before_look =
     ∷ Take 0 0 true ∷ []
 
 old_look : ¬ LooksTruly before_look (Ring 0) 0 0
-old_look l = let e = same_some 1 0 l.carried in absurd (omega arith)
+old_look l = let e = same_Some 1 0 l.carried in absurd (omega arith)
 
 new_reference : ¬ LooksTruly before_look (Ring 0) 0 1
 new_reference l = false≢true l.signaled

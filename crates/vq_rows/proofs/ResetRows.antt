@@ -8,15 +8,15 @@ use Rattle.vq_model.specs.declared.script.HostStep.TheVariants.{FenceWait, Fence
 use Rattle.vq_model.specs.declared.script.SemaphoreKind.TheVariants.{Fence, Binary}
 use Rattle.vq_model.specs.declared.script.Mode.TheVariants.{Threaded}
 use Rattle.vq_model.specs.declared.script.Job.TheVariants.{Host, Batch as BatchJob}
-use Rattle.vq_model.specs.Plan.{chain, has, job_of}
+use Rattle.vq_model.specs.Plan.{chain, job_of}
+use Rattle.vq_ground.specs.Lists.{has, AreRising}
 use Rattle.vq_model.specs.Lowering.{plan_of, batch_commands}
 use Rattle.vq_model.specs.LoweringFaults.{lowering_fault}
 use Rattle.vq_model.specs.SlowRun.{left_over}
 use Rattle.vq_model.specs.declared.script.HostLine.{HostLine}
 use Rattle.vq_model.specs.ValidScripts.{IsValidStep, HasValidSteps, IsValidFence, IsValidBatch, HasValidBatches, HasRisingLines, IsValid}
 use Rattle.std.proofs.lemmas.Bool.{false≢true, and_parts, ltb-true}
-use Rattle.vq_model.specs.WellFormed.{AreRising}
-use Rattle.vq_model.proofs.Lists.{has_cases}
+use Rattle.vq_ground.proofs.Lists.{has_cases}
 use Rattle.std.specs.List.{slice_get}
 use Rattle.std.specs.Option.{option_map_or}
 use Rattle.vq_model.specs.declared.script.Job.{Job}

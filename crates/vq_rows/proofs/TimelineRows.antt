@@ -1,7 +1,7 @@
 -- The word of a point and the lists of a timeline in small cases, computed.
 use Rattle.std.proofs.Common.{◌≡◌, false, Some, refl, None, true, [], ◌∷◌}
-use Rattle.vq_points.specs.PointWord.{unpack, pack}
-use Rattle.vq_points.specs.Timeline.{Timeline, new_timeline, first_at_least, after_take, is_next, next_unbound, taken, after_bind, pending, first_pending, pending_value, after_complete, past_value, last_carrier, after_free}
+use Rattle.vq_point_laws.specs.PointWord.{unpack, pack}
+use Rattle.vq_point_laws.specs.Timeline.{Timeline, new_timeline, first_at_least, after_take, is_next, next_unbound, taken, after_bind, pending, first_pending, pending_value, after_complete, past_value, last_carrier, after_free}
 
 unheld : unpack 0 ≡ Some (record { op = 0; refs = 0; signaled = false; held = false })
 unheld = refl

@@ -12,7 +12,7 @@ use Rattle.vq_model.specs.Lowering.{plan_of}
 use Rattle.vq_model.specs.declared.script.ActorName.TheVariants.{Ring}
 use Rattle.vq_model.specs.declared.plan.Event.{Event}
 use Rattle.vq_model.specs.declared.plan.Event.TheVariants.{Submit, Take, Release, Bind, Refer, Look, Unref, Complete, Free, Start, Apply, Signal, Finish}
-use Rattle.vq_points.specs.Points.{HistoryFrom, opening_points}
+use Rattle.vq_point_laws.specs.Points.{HistoryFrom, opening_points}
 
 abbrev three_signals : Script
 three_signals =

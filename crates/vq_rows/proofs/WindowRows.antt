@@ -7,7 +7,8 @@ use Rattle.vq_model.specs.declared.script.SemaphoreKind.TheVariants.{Timeline}
 use Rattle.vq_model.specs.declared.script.Job.TheVariants.{Host, Batch}
 use Rattle.vq_model.specs.declared.script.HostStep.TheVariants.{Read}
 use Rattle.vq_model.specs.declared.plan.Answer.TheVariants.{Value}
-use Rattle.vq_model.specs.Plan.{Plan, has, chain_of, value}
+use Rattle.vq_model.specs.Plan.{Plan, chain_of, value}
+use Rattle.vq_ground.specs.Lists.{has}
 use Rattle.vq_model.specs.Edges.{Stage, AtEnd, edges_at}
 use Rattle.vq_model.specs.Lowering.{plan_of}
 use Rattle.vq_model.specs.HappensBefore.{HappensBeforeAt, one, more}

@@ -1,7 +1,9 @@
 -- What each state of a run keeps of the answers given so far.
+use Rattle.std.proofs.lemmas.Option.{same_Some}
 use Rattle.vq_order_laws.proofs.Cited.{rising_at}
 use Rattle.std.proofs.Common.{◌≡◌, ℕ, ◌<◌, ◌≤◌, true, false, Option, Some, is_some, option_map, ◌⊎◌, sym, ap, ◌∙◌, Bool, ◌&&◌, cond, eqb, ltb, List, [], ◌∷◌, None, refl, inl, inr, subst, arith}
-use Rattle.vq_model.specs.Plan.{Plan, has, initial, value, chain_of, question, is_host_step, is_silent, needs, asked, waits_for_any, signals_of, chain, job_of}
+use Rattle.vq_model.specs.Plan.{Plan, initial, value, chain_of, question, is_host_step, is_silent, needs, asked, waits_for_any, signals_of, chain, job_of}
+use Rattle.vq_ground.specs.Lists.{has}
 use Rattle.vq_model.specs.Edges.{must_finish, At, AtEnd}
 use Rattle.vq_model.specs.Machine.{State, is_reached, are_reached, Step, StartStep, ApplyStep, SignalStep, FinishStep, AnswerStep, put, after_step, with_signal, CanStart, CanFinish, CanAnswer, CanStep, may_answer, was_since}
 use Rattle.vq_model.specs.Outputs.{Answered, Shows, IsShownReached, Allowed, IsIn, here, there, Resolves, shown_pairs, ShowsBy, from_floor, carried, AtMostCeiling, IsAboveLow, AllowedBy}
@@ -19,9 +21,8 @@ use Rattle.vq_model.specs.WellFormed.{IsWellFormed, KeepsHostOrder}
 use Rattle.vq_model.specs.HappensBefore.{HappensBefore}
 use Rattle.vq_model.specs.Sure.{IsSure, RisesFrom, KeepsChains}
 use Rattle.vq_model.specs.Windows.{at_first, sure, IsPossiblyReached, possible, IsPossible, IsMadeWith, itself, signaled_earlier}
-use Rattle.vq_model.proofs.Lists.{split_at, has-append_cases, has_here, has_there, has_cases, list_all_has}
+use Rattle.vq_ground.proofs.Lists.{split_at, has-append_cases, has_here, has_there, has_cases, list_all_has}
 use Rattle.vq_model.proofs.Puts.{put_here, put_there, put_cases, put_keeps}
-use Rattle.vq_model.proofs.Options.{same_some}
 use Rattle.vq_run_laws.proofs.KeptSteps.{need_made, made_below, sure_ready}
 use Rattle.vq_plan_laws.proofs.Cited.{same_sure, needs_alike}
 use Rattle.vq_run_laws.proofs.Payloads.{front_below}
@@ -357,7 +358,7 @@ module _ (p : Plan) (w : IsWellFormed p) (host : KeepsHostOrder p) (ch : KeepsCh
         first_done = a.first_done;
         earlier_done = a.earlier_done;
         raised = λ f u m on. elim (put_cases s.progress.made e f m) [
-          | inl i ↦ (let v = here u (same_some u t (sym on ∙ (ap (chain_of p) i ∙ c))) in let x = ap (value p) i in omega arith)
+          | inl i ↦ (let v = here u (same_Some u t (sym on ∙ (ap (chain_of p) i ∙ c))) in let x = ap (value p) i in omega arith)
           | inr o ↦ (let r = a.raised f u o on in let g = rises u in omega arith)
         ];
         above = λ u. let r = a.above u in let g = rises u in omega arith;

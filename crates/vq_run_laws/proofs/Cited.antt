@@ -6,4 +6,5 @@ pub use Rattle.vq_run_laws.proofs.OneResult.{one_result}
 pub use Rattle.vq_run_laws.proofs.OutputRuns.{run_gives_output}
 pub use Rattle.vq_run_laws.proofs.Payloads.{above_initial, made_reached}
 pub use Rattle.vq_run_laws.proofs.SlowAnswers.{answers_slowly}
+pub use Rattle.vq_run_laws.proofs.SlowSteps.{next_at}
 pub use Rattle.vq_run_laws.proofs.StateFacts.{HasCome, Invariant, RaisedTo, by_finish, by_signal}

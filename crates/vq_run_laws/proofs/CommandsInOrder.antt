@@ -1,18 +1,19 @@
 -- The commands of the slow run stand in an order in which none comes before one that it must follow.
 use Rattle.std.proofs.Common.{◌≡◌, Bool, true, false, refl, sym, ℕ, List, [], ◌∷◌, ◌++◌, inl, inr, subst, ◌<◌, eqb, ◌∙◌, arith, length, ap}
-use Rattle.vq_model.specs.Plan.{has, Plan, commands_of}
-use Rattle.vq_model.proofs.Lists.{has_here, has_there, has-append_cases, has_cases, has-append_left, has-append_right, AreDistinct, distinct_front, rising_distinct, distinct_append}
+use Rattle.std.proofs.lemmas.Option.{slice_get_past}
+use Rattle.vq_model.specs.Plan.{Plan, commands_of}
+use Rattle.vq_ground.specs.Lists.{has, AreRising}
+use Rattle.vq_ground.proofs.Lists.{has_here, has_there, has-append_cases, has_cases, has-append_left, has-append_right, AreDistinct, distinct_front, rising_distinct, distinct_append}
 use Rattle.vq_run_laws.proofs.Swaps.{Extends}
 use Rattle.std.specs.List.{flat_map}
 use Rattle.std.proofs.lemmas.Bool.{false≢true, ne_eqb, cases_lt}
 use Rattle.std.proofs.lemmas.List.{append_assoc}
-use Rattle.vq_model.proofs.Positions.{place, place_head, place_tail, place-append}
+use Rattle.vq_ground.proofs.Positions.{place, place_head, place_tail, place-append}
 use Rattle.std.specs.Option.{option_map_or}
 use Rattle.vq_model.specs.SlowRun.{slow_order}
-use Rattle.vq_model.proofs.Gets.{slice_get_past}
 use Rattle.vq_order_laws.proofs.Cited.{slow_distinct, Earlier, before_earlier}
 use Rattle.vq_model.specs.Edges.{stage_of}
-use Rattle.vq_model.specs.WellFormed.{AreRising, IsWellFormed}
+use Rattle.vq_model.specs.WellFormed.{IsWellFormed}
 use Rattle.vq_model.specs.Races.{HasSureOrder}
 use Rattle.vq_run_laws.proofs.StateFacts.{Must}
 

@@ -1,9 +1,10 @@
 -- A history of a lawful plan, without the events on points, is a run of the machine.
 use Rattle.std.proofs.Common.{◌≡◌, List, fold, ℕ, ◌<◌, true, Bool, false, cond, [], ◌∷◌, ◌++◌, Option, Some, None, refl, sym, ap, ◌∙◌, inl, inr, subst, arith}
 use Rattle.vq_model.specs.declared.plan.Event.{Event}
-use Rattle.vq_model.specs.Plan.{Plan, is_host_step, previous, host_before, idle_after, signals_of, has, value, chain_of}
+use Rattle.vq_model.specs.Plan.{Plan, is_host_step, previous, host_before, idle_after, signals_of, value, chain_of}
+use Rattle.vq_ground.specs.Lists.{has}
 use Rattle.vq_model.specs.Machine.{State, RunFrom, after_step, are_reached, StartStep, ApplyStep, SignalStep, FinishStep, AnswerStep, CanStart, CanSignal, with_signal}
-use Rattle.vq_points.specs.Points.{PointState, steps_of, opening_points, CanSubmit, CanStartNow, CanSignalNow, after_event, HistoryFrom}
+use Rattle.vq_point_laws.specs.Points.{PointState, steps_of, opening_points, CanSubmit, CanStartNow, CanSignalNow, after_event, HistoryFrom}
 use Rattle.vq_run_laws.proofs.StateFacts.{Invariant}
 use Rattle.std.proofs.lemmas.Bool.{false≢true, and_from, cond-true, cases_lt}
 use Rattle.vq_run_laws.proofs.KeptRuns.{holds_at_opening, keep}
@@ -13,8 +14,8 @@ use Rattle.vq_model.specs.declared.plan.Event.TheVariants.{Submit, Take, Release
 use Rattle.vq_model.specs.Edges.{At, must_finish}
 use Rattle.vq_model.specs.WellFormed.{IsWellFormed, KeepsHostOrder}
 use Rattle.vq_model.specs.Sure.{KeepsChains}
-use Rattle.vq_model.proofs.Lists.{has_cases, has-append_cases, list_all_has, list_all_from}
-use Rattle.vq_model.proofs.Numbers.{has_range}
+use Rattle.vq_ground.proofs.Lists.{has_cases, has-append_cases, list_all_has, list_all_from}
+use Rattle.vq_ground.proofs.Numbers.{has_range}
 use Rattle.vq_run_laws.proofs.Payloads.{made_where_reached}
 use Rattle.vq_run_laws.proofs.NextDone.{next_in}
 use Rattle.vq_model.proofs.Puts.{put_cases, put_keeps}

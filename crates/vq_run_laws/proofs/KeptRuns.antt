@@ -1,6 +1,7 @@
 -- Each state of a run keeps what a state keeps.
 use Rattle.std.proofs.Common.{ℕ, Option, sym, subst, false, [], refl, inl, List, ◌∷◌, fold, ◌≡◌, true}
-use Rattle.vq_model.specs.Plan.{Plan, has, commands_of}
+use Rattle.vq_model.specs.Plan.{Plan, commands_of}
+use Rattle.vq_ground.specs.Lists.{has}
 use Rattle.vq_model.specs.WellFormed.{IsWellFormed}
 use Rattle.vq_model.specs.Machine.{Progress, Step, StartStep, ApplyStep, SignalStep, FinishStep, AnswerStep, with_signal, CanProgress, after_progress, State, after_step, CanStep, opening_progress, RunFrom, opening_state, Run, state_after, ProgressFrom, progress_after, ProgressRun}
 use Rattle.vq_model.specs.Sure.{KeepsChains}

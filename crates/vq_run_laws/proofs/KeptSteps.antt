@@ -1,23 +1,24 @@
 -- Each step keeps what a state keeps.
+use Rattle.std.proofs.lemmas.Option.{same_Some}
 use Rattle.vq_order_laws.proofs.Cited.{rising_at}
 use Rattle.std.proofs.Common.{◌≡◌, ℕ, ◌<◌, ◌≤◌, Bool, true, false, leb, List, [], ◌∷◌, ◌++◌, Some, refl, sym, ap, ◌∙◌, ◌⊎◌, inl, inr, subst, arith}
 use Rattle.std.specs.List.{list_all, filter_map}
 use Rattle.std.proofs.lemmas.Bool.{and_parts, false≢true, cases_eq, leb-false}
-use Rattle.vq_model.specs.Plan.{Plan, has, commands_of, signals_of, chain, initial, value, job_of, chain_of}
+use Rattle.vq_model.specs.Plan.{Plan, commands_of, signals_of, chain, initial, value, job_of, chain_of}
+use Rattle.vq_ground.specs.Lists.{has}
 use Rattle.vq_model.specs.Edges.{Stage, At, AtEnd, stage_of, must_finish, awaited_at, edges_at}
 use Rattle.vq_model.specs.WellFormed.{IsWellFormed}
 use Rattle.vq_model.specs.Machine.{are_reached, can_start, put, next}
 use Rattle.vq_model.specs.HappensBefore.{HappensBeforeAt, one, more}
 use Rattle.vq_model.specs.Sure.{IsSureAt, finished_first, waited_for, passed_on, KeepsRising, RisesFrom, KeepsChains}
-use Rattle.vq_model.proofs.Lists.{has_cases, has-append_cases, has-append_left, list_all_has, distinct_push, pushed}
+use Rattle.vq_ground.proofs.Lists.{has_cases, has-append_cases, has-append_left, list_all_has, distinct_push, pushed}
 use Rattle.vq_run_laws.proofs.NextDone.{next_in, next_before}
 use Rattle.vq_model.proofs.Puts.{put_here, put_there, put_cases, put_keeps}
 use Rattle.vq_run_laws.proofs.StateFacts.{Must, RaisedTo, HasCome, by_start, by_command, by_signal, by_finish, Keeps, come_later}
 use Rattle.vq_run_laws.proofs.NeedsMade.{IsNeed, awaited_need}
-use Rattle.vq_model.proofs.Searches.{find_splits}
+use Rattle.vq_ground.proofs.Searches.{find_splits}
 use Rattle.vq_run_laws.proofs.Swaps.{extends_push}
-use Rattle.vq_model.proofs.Options.{same_some}
-use Rattle.vq_model.proofs.Mapped.{mapped}
+use Rattle.vq_ground.proofs.Mapped.{mapped}
 
 module _ (p : Plan) (w : IsWellFormed p) (chains : KeepsChains p) (payload : ℕ → ℕ) (started finished made : ℕ → Bool) (applied : List ℕ) (k : Keeps p payload started finished made applied) where
   -- a job that is at its end has all its commands applied
@@ -226,7 +227,7 @@ module _ (p : Plan) (w : IsWellFormed p) (chains : KeepsChains p) (payload : ℕ
           | inr m ↦ k.made_job f m
         ];
         made_commands = λ f q c h is m. elim (put_cases made e f h) [
-          | inl r ↦ list_all_has (has applied) (commands_of p j) c cs (subst (λ z. has (commands_of p z) c ≡ true) (same_some q j (sym is ∙ (ap (job_of p) r ∙ of_job))) m)
+          | inl r ↦ list_all_has (has applied) (commands_of p j) c cs (subst (λ z. has (commands_of p z) c ≡ true) (same_Some q j (sym is ∙ (ap (job_of p) r ∙ of_job))) m)
           | inr o ↦ k.made_commands f q c o is m
         ];
         made_earlier = λ d f q h is is' l. elim (put_cases made e f h) [
@@ -260,7 +261,7 @@ module _ (p : Plan) (w : IsWellFormed p) (chains : KeepsChains p) (payload : ℕ
       comes : (h : ℕ) (q : Stage) → HasCome p started finished (put made e true) applied h q → HasCome p started finished made applied h q ⊎ ((h ≡ j) × (q ≡ AtEnd))
       comes h q (by_start c) = inl (by_start c)
       comes h q (by_command d m c) = inl (by_command d m c)
-      comes h q (by_signal f m c) = elim (put_cases made e f c) [ inl r ↦ inr (same_some h j (sym m ∙ (ap (job_of p) r ∙ of_job)), refl) | inr o ↦ inl (by_signal f m o) ]
+      comes h q (by_signal f m c) = elim (put_cases made e f c) [ inl r ↦ inr (same_Some h j (sym m ∙ (ap (job_of p) r ∙ of_job)), refl) | inr o ↦ inl (by_signal f m o) ]
       comes h q (by_finish c) = inl (by_finish c)
 
       earlier : (d f q : ℕ) → f ≡ e → job_of p d ≡ Some q → job_of p f ≡ Some q → d ≤ f → put made e true d ≡ true
@@ -268,7 +269,7 @@ module _ (p : Plan) (w : IsWellFormed p) (chains : KeepsChains p) (payload : ℕ
           elim (cases_eq d e) [
             | inl x ↦ subst (λ z. put made e true z ≡ true) (sym x) (put_here made e true)
             | inr x ↦
-                let here = same_some q j (sym is' ∙ (ap (job_of p) r ∙ of_job)) in
+                let here = same_Some q j (sym is' ∙ (ap (job_of p) r ∙ of_job)) in
                 put_keeps made e d (next_before made (signals_of p j) e d (w.signals j) n (w.in_job d j (is ∙ ap Some here)) (below d f r l x))
           ]
         where

@@ -1,11 +1,12 @@
 -- A need that is reached, and the operation that resolves it.
 use Rattle.std.proofs.Common.{◌≡◌, ℕ, ◌<◌, ◌≤◌, Some, Option, Bool, ltb, true, false, List, [], ◌∷◌, filter, refl, sym, ap, ◌∙◌, inl, inr}
-use Rattle.vq_model.specs.Plan.{Plan, initial, resolver, has, waits_for_any}
+use Rattle.vq_model.specs.Plan.{Plan, initial, resolver, waits_for_any}
+use Rattle.vq_ground.specs.Lists.{has}
 use Rattle.vq_model.specs.declared.plan.Need.{Need}
 use Rattle.std.specs.List.{list_all, filter_map, list_any}
 use Rattle.std.proofs.lemmas.Bool.{and_parts, false≢true, cond-true, cond-false, leb-true, ltb-true}
 use Rattle.vq_model.specs.Machine.{is_reached, are_reached}
-use Rattle.vq_model.proofs.Mapped.{has_option}
+use Rattle.vq_ground.proofs.Mapped.{has_option}
 use Rattle.vq_model.specs.Edges.{Stage, awaited_at, needs_at}
 
 -- Waits

@@ -1,10 +1,9 @@
 -- The first element of a list that isn't done.
 use Rattle.std.proofs.Common.{◌≡◌, ℕ, Bool, true, false, not, List, [], ◌∷◌, Some, refl, sym, ap, ◌∙◌, subst, ◌<◌, inl, inr, arith}
 use Rattle.std.proofs.lemmas.Bool.{cond-true, cond-false, false≢true}
-use Rattle.vq_model.specs.Plan.{has}
+use Rattle.vq_ground.specs.Lists.{has, AreRising}
 use Rattle.vq_model.specs.Machine.{next}
-use Rattle.vq_model.proofs.Lists.{has_here, has_there, has_cases}
-use Rattle.vq_model.specs.WellFormed.{AreRising}
+use Rattle.vq_ground.proofs.Lists.{has_here, has_there, has_cases}
 
 -- The first that isn't done
 

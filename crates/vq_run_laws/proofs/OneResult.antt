@@ -2,7 +2,8 @@
 use Rattle.std.proofs.Common.{ℕ, ◌≡◌, true, List, [], ◌∷◌, Option, Some, None, refl, ◌<◌, ◌≤◌, length, map, sym, ap, ◌∙◌, ◌⊎◌, inl, inr, arith, false, ◌||◌, subst}
 use Rattle.std.specs.Option.{option_map_or, option_to_list}
 use Rattle.vq_model.specs.Memory.{Memory, effect, after_all, HasSizes, buffer}
-use Rattle.vq_model.specs.Plan.{Plan, command_at, has, commands_of}
+use Rattle.vq_model.specs.Plan.{Plan, command_at, commands_of}
+use Rattle.vq_ground.specs.Lists.{has}
 use Rattle.vq_run_laws.proofs.Swaps.{acts, same_result}
 use Rattle.std.specs.List.{filter_map, cons_option, range_with_len, slice_index_or, list_any, flat_map}
 use Rattle.vq_model.specs.declared.script.Command.{Command}
@@ -14,8 +15,8 @@ use Rattle.vq_model.specs.Ranges.{conflict}
 use Rattle.vq_model.specs.WellFormed.{IsWellFormed}
 use Rattle.vq_model.specs.Machine.{Progress, Step, state_after, progress_after, ProgressRun, AreFinished}
 use Rattle.vq_model.specs.Races.{conflicts, HasSureOrder}
-use Rattle.vq_model.proofs.Lists.{HaveSame}
-use Rattle.vq_model.proofs.Bools.{same_tests}
+use Rattle.vq_ground.proofs.Lists.{HaveSame}
+use Rattle.vq_ground.proofs.Bools.{same_tests}
 use Rattle.vq_memory_laws.proofs.Cited.{effect_sizes, effects_commute}
 use Rattle.vq_run_laws.proofs.StateFacts.{Must, Invariant}
 use Rattle.vq_run_laws.proofs.KeptRuns.{run_keeps, progress_keeps}

@@ -16,7 +16,7 @@ use Rattle.vq_model.specs.OutputText.{answer_at, answer_text, answers_of, buffer
 use Rattle.vq_run_laws.proofs.PairLists.{told_before}
 use Rattle.vq_model.specs.Races.{HasSureOrder}
 use Rattle.vq_model.specs.SlowRun.{bytes_after}
-use Rattle.vq_model.proofs.Numbers.{range_push}
+use Rattle.vq_ground.proofs.Numbers.{range_push}
 use Rattle.vq_run_laws.proofs.OneResult.{one_result}
 
 -- Runs

@@ -1,16 +1,17 @@
 -- In each state of a run an operation is made exactly where its chain's payload has reached its value.
 use Rattle.std.proofs.Common.{ℕ, ◌<◌, List, [], ◌∷◌, ◌++◌, arith, ◌≡◌, true, inl, inr, subst, ◌≤◌, Some, sym, Bool, Option, ap, ◌∙◌, ◌⊎◌, fold}
-use Rattle.vq_model.specs.Plan.{Plan, value, has, chain, initial, chain_of}
+use Rattle.std.proofs.lemmas.Option.{same_Some}
+use Rattle.vq_model.specs.Plan.{Plan, value, chain, initial, chain_of}
+use Rattle.vq_ground.specs.Lists.{has}
 use Rattle.vq_model.specs.Sure.{KeepsRising, RisesFrom, KeepsChains}
 use Rattle.std.proofs.lemmas.Bool.{false≢true, cases_eq}
-use Rattle.vq_model.proofs.Lists.{has_cases, split_at, has-append_cases}
+use Rattle.vq_ground.proofs.Lists.{has_cases, split_at, has-append_cases}
 use Rattle.vq_model.specs.WellFormed.{IsWellFormed}
 use Rattle.vq_model.specs.Machine.{Progress, Step, Run, state_after, StartStep, ApplyStep, SignalStep, FinishStep, AnswerStep, put, with_signal, CanProgress, after_progress, State, after_step, CanStep, RunFrom, opening_state}
 use Rattle.vq_run_laws.proofs.StateFacts.{Invariant}
 use Rattle.vq_order_laws.proofs.Cited.{rising_at}
 use Rattle.vq_run_laws.proofs.KeptSteps.{made_below}
 use Rattle.vq_run_laws.proofs.KeptRuns.{run_keeps}
-use Rattle.vq_model.proofs.Options.{same_some}
 use Rattle.vq_model.proofs.Puts.{put_here, put_there, put_cases}
 
 -- What each state keeps of answers
@@ -75,7 +76,7 @@ raised_progress p s (SignalStep e) r g =
     let P : Option ℕ → Type 0 = λ o. Raised p (with_signal p s e o).payload (with_signal p s e o).made in
     subst P (sym g.in_chain) (λ f u c m. elim (put_cases s.made e f m) [
       | inl i ↦
-          let here : u ≡ g.chain = same_some u g.chain (sym c ∙ (ap (chain_of p) i ∙ g.in_chain)) in
+          let here : u ≡ g.chain = same_Some u g.chain (sym c ∙ (ap (chain_of p) i ∙ g.in_chain)) in
           let v = ap (put s.payload g.chain (value p e)) here ∙ put_here s.payload g.chain (value p e) in
           let x = ap (value p) i in
           omega arith

@@ -1,6 +1,7 @@
 -- Places of started jobs: host steps, jobs without signals, and plans without held waits.
 use Rattle.std.proofs.Common.{◌≡◌, ℕ, true, List, sym, false, [], Some, ap, ◌∙◌, Bool, ◌≤◌, Option, ◌⊎◌, inl, inr, subst, arith, ◌∷◌, fold}
-use Rattle.vq_model.specs.Plan.{Plan, is_host_step, has, signals_of, job_of, value}
+use Rattle.vq_model.specs.Plan.{Plan, is_host_step, signals_of, job_of, value}
+use Rattle.vq_ground.specs.Lists.{has}
 use Rattle.vq_model.specs.Edges.{At, AtEnd, must_finish, HasNoHeldWait}
 use Rattle.vq_model.specs.WellFormed.{IsWellFormed}
 use Rattle.vq_model.specs.Machine.{Step, Run, state_after, are_reached, State, StartStep, ApplyStep, SignalStep, FinishStep, AnswerStep, put, after_step, with_signal, CanStep, RunFrom, opening_state}

@@ -2,34 +2,19 @@
 use Rattle.std.proofs.Common.{◌≡◌, ℕ, Bool, true, List, [], ◌∷◌, inl, inr, ap, ◌∙◌, ◌<◌, ◌≤◌, false, ◌&&◌, eqb, ltb, ◌++◌, fold, Option, Some, refl, sym, ◌⊎◌, subst, arith}
 use Rattle.std.specs.List.{list_any}
 use Rattle.std.proofs.lemmas.Bool.{false≢true, or_cases, or_left, or_right, eqb-true, eq-eqb, ltb-true, lt-ltb, and_parts, and_from, cases_eq}
-use Rattle.vq_model.specs.Plan.{has, Plan, chain, initial, value, chain_of}
-use Rattle.vq_model.proofs.Lists.{has_here, has_there, has_cases, split_at}
+use Rattle.std.proofs.lemmas.Option.{same_Some}
+use Rattle.vq_model.specs.Plan.{Plan, chain, initial, value, chain_of}
+use Rattle.vq_ground.specs.Lists.{has}
+use Rattle.vq_ground.proofs.Lists.{split_at, any_at, any_has}
 use Rattle.vq_model.specs.WellFormed.{IsWellFormed}
 use Rattle.vq_model.specs.Sure.{RisesFrom, KeepsChains}
 use Rattle.vq_model.specs.Machine.{State, Step, StartStep, ApplyStep, SignalStep, FinishStep, AnswerStep, put, with_signal, CanStart, CanStep, after_step, RunFrom, was_since, opening_state, Run, state_after}
 use Rattle.vq_run_laws.proofs.StateFacts.{Invariant}
 use Rattle.vq_run_laws.proofs.KeptRuns.{keep, keep_run, run_keeps}
 use Rattle.vq_model.proofs.Puts.{put_here, put_there, put_cases, put_keeps}
-use Rattle.vq_model.proofs.Options.{same_some}
 use Rattle.vq_run_laws.proofs.Payloads.{Raised, above_initial, raised_run}
 
 -- Lists
-
-any_one : (test : ℕ → Bool) (es : List ℕ) → list_any test es ≡ true → (e : ℕ) × (has es e ≡ true) × (test e ≡ true)
-any_one test [] h = absurd (false≢true h)
-any_one test (e ∷ es) h =
-    elim (or_cases (test e) (list_any test es) h) [
-      | inl t ↦ (e, has_here e es, t)
-      | inr t ↦ (let r = any_one test es t in (r.0, has_there e es r.0 r.1, r.2))
-    ]
-
-one_any : (test : ℕ → Bool) (es : List ℕ) (e : ℕ) → has es e ≡ true → test e ≡ true → list_any test es ≡ true
-one_any test [] e h t = absurd (false≢true h)
-one_any test (x ∷ es) e h t =
-    elim (has_cases x es e h) [
-      | inl i ↦ or_left (test x) (list_any test es) (ap test i ∙ t)
-      | inr i ↦ or_right (test x) (list_any test es) (one_any test es e i t)
-    ]
 
 module _ (p : Plan) where
   fold_append : (s : State) (xs ys : List Step) → fold (after_step p) s (xs ++ ys) ≡ fold (after_step p) (fold (after_step p) s xs) ys
@@ -98,7 +83,7 @@ module _ (p : Plan) where
   made_by e t c s (SignalStep f) g n m =
       let P : Option ℕ → Type 0 = λ o. (with_signal p s.progress f o).made e ≡ true → (with_signal p s.progress f o).payload t ≡ value p e in
       let q : P (Some g.chain) = λ h. (elim (put_cases s.progress.made f e h) [
-        | inl i ↦ (let here = same_some t g.chain (sym c ∙ (ap (chain_of p) i ∙ g.in_chain)) in ap (put s.progress.payload g.chain (value p f)) here ∙ (put_here s.progress.payload g.chain (value p f) ∙ ap (value p) (sym i)))
+        | inl i ↦ (let here = same_Some t g.chain (sym c ∙ (ap (chain_of p) i ∙ g.in_chain)) in ap (put s.progress.payload g.chain (value p f)) here ∙ (put_here s.progress.payload g.chain (value p f) ∙ ap (value p) (sym i)))
         | inr o ↦ absurd (false≢true (sym n ∙ o))
       ]) in
       subst P (sym g.in_chain) q m
@@ -131,7 +116,7 @@ module _ (p : Plan) where
           | inl i ↦ record { front = []; back = b; whole = refl; has_value = sym (eqb-true n ((fold (after_step p) (after_step p s (StartStep j)) b).at_start j t) i ∙ start_is) }
           | inr i ↦
               let parts = and_parts (ltb ((fold (after_step p) (after_step p s (StartStep j)) b).at_start j t) n) (list_any (λ e. (fold (after_step p) (after_step p s (StartStep j)) b).progress.made e && eqb (value p e) n) (chain p t)) i in
-              let o = any_one (λ e. (fold (after_step p) (after_step p s (StartStep j)) b).progress.made e && eqb (value p e) n) (chain p t) parts.1 in
+              let o = any_at (λ e. (fold (after_step p) (after_step p s (StartStep j)) b).progress.made e && eqb (value p e) n) (chain p t) parts.1 in
               let q = and_parts ((fold (after_step p) (after_step p s (StartStep j)) b).progress.made o.0) (eqb (value p o.0) n) o.2 in
               by_op o.0 o.1 q.0 (eqb-true (value p o.0) n q.1) (ltb-true ((fold (after_step p) (after_step p s (StartStep j)) b).at_start j t) n parts.0)
         ]
@@ -182,7 +167,7 @@ module _ (p : Plan) where
             some_op : list_any (λ e. (fold (after_step p) (after_step p s (StartStep j)) b).progress.made e && eqb (value p e) n) (chain p t) ≡ true
             some_op = elim (facts.raised t) [
               | inl e ↦ (let a = start_is in let l = low in let q = v.has_value in let u = above in absurd (omega arith))
-              | inr o ↦ one_any (λ e. (fold (after_step p) (after_step p s (StartStep j)) b).progress.made e && eqb (value p e) n) (chain p t) o.op o.in_chain (and_from ((fold (after_step p) (after_step p s (StartStep j)) b).progress.made o.op) (eqb (value p o.op) n) (still o.op o.was_made) (eq-eqb (value p o.op) n (o.sets ∙ v.has_value)))
+              | inr o ↦ any_has (λ e. (fold (after_step p) (after_step p s (StartStep j)) b).progress.made e && eqb (value p e) n) (chain p t) o.op o.in_chain (and_from ((fold (after_step p) (after_step p s (StartStep j)) b).progress.made o.op) (eqb (value p o.op) n) (still o.op o.was_made) (eq-eqb (value p o.op) n (o.sets ∙ v.has_value)))
             ]
 
 -- the same of runs

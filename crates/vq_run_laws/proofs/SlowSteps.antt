@@ -1,9 +1,10 @@
 -- The slow run is a run: the jobs of its order, each whole.
 use Rattle.std.proofs.Common.{◌≡◌, ℕ, Bool, true, false, not, List, [], ◌∷◌, ◌++◌, Some, ap, ◌∙◌, ◌≤◌, max, map, filter, refl, sym, subst, fold, ◌⊎◌, ◌<◌, ◌&&◌, length, inl, inr, arith, append-nil}
 use Rattle.std.proofs.lemmas.Bool.{cond-true, cond-false, and_parts, and_from, false≢true, cases_eq, cases_lt, not-true}
-use Rattle.vq_model.specs.Plan.{has, Plan, value, commands_of, signals_of, chain, initial, job_of, chain_of}
+use Rattle.vq_model.specs.Plan.{Plan, value, commands_of, signals_of, chain, initial, job_of, chain_of}
+use Rattle.vq_ground.specs.Lists.{has, AreRising}
 use Rattle.vq_model.specs.Machine.{next, Progress, Step, after_progress, ProgressFrom, AreFinished, are_reached, can_start, StartStep, ApplyStep, SignalStep, FinishStep, put, with_signal, CanSignal, IsDone, CanProgress, opening_progress, ProgressRun, progress_after}
-use Rattle.vq_model.proofs.Lists.{has_here, has_there, has-append_left, has-append_right, list_all_has, list_all_from, split_at, pushed}
+use Rattle.vq_ground.proofs.Lists.{has_here, has_there, has-append_left, has-append_right, list_all_has, list_all_from, split_at, pushed}
 use Rattle.std.proofs.Math.Nat.{max-le}
 use Rattle.vq_model.specs.SlowRun.{greatest, is_of, is_ready, payload_after, steps_of_jobs, slow_order}
 use Rattle.vq_run_laws.proofs.StateFacts.{Invariant}
@@ -11,7 +12,7 @@ use Rattle.vq_run_laws.proofs.Payloads.{Raised, raised_progress, made_where_reac
 use Rattle.vq_model.specs.Edges.{AtEnd, At, must_finish}
 use Rattle.std.specs.List.{list_all}
 use Rattle.std.proofs.lemmas.List.{append_assoc}
-use Rattle.vq_model.specs.WellFormed.{AreRising, IsWellFormed}
+use Rattle.vq_model.specs.WellFormed.{IsWellFormed}
 use Rattle.vq_model.specs.Sure.{KeepsChains, RisesFrom}
 use Rattle.vq_run_laws.proofs.KeptRuns.{keep_progress, holds_at_opening}
 use Rattle.vq_model.proofs.Puts.{put_here, put_there, put_cases, put_keeps}
@@ -20,7 +21,7 @@ use Rattle.vq_order_laws.proofs.Cited.{are_reached_still, op_chain, ReadyEach, i
 use Rattle.vq_model.specs.Races.{HasSureOrder}
 
 -- the first that isn't done
-next_at : (done : ℕ → Bool) (front : List ℕ) (c : ℕ) (back : List ℕ) → ((x : ℕ) → has front x ≡ true → done x ≡ true) → done c ≡ false → next done (front ++ c ∷ back) ≡ Some c
+pub next_at : (done : ℕ → Bool) (front : List ℕ) (c : ℕ) (back : List ℕ) → ((x : ℕ) → has front x ≡ true → done x ≡ true) → done c ≡ false → next done (front ++ c ∷ back) ≡ Some c
 next_at done [] c back f n = cond-true (not (done c)) (Some c) (next done back) (ap not n)
 next_at done (x ∷ front) c back f n =
     cond-false (not (done x)) (Some x) (next done (front ++ c ∷ back)) (ap not (f x (has_here x front))) ∙ next_at done front c back (λ y h. f y (has_there x front y h)) n

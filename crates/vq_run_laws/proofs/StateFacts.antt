@@ -1,10 +1,11 @@
 -- What each state of a run keeps.
 use Rattle.std.proofs.Common.{◌≡◌, ℕ, ◌<◌, true, ◌⊎◌, Bool, Some, List, ◌≤◌}
-use Rattle.vq_model.specs.Plan.{Plan, has, commands_of, job_of, chain, value, signals_of, initial}
+use Rattle.vq_model.specs.Plan.{Plan, commands_of, job_of, chain, value, signals_of, initial}
+use Rattle.vq_ground.specs.Lists.{has}
 use Rattle.vq_model.specs.HappensBefore.{HappensBeforeCommand, HappensBeforeAt}
 use Rattle.vq_model.specs.Edges.{Stage, At, AtEnd, stage_of, must_finish}
 use Rattle.vq_model.specs.Sure.{IsSureAt}
-use Rattle.vq_model.proofs.Lists.{AreDistinct}
+use Rattle.vq_ground.proofs.Lists.{AreDistinct}
 use Rattle.vq_run_laws.proofs.Swaps.{Extends}
 use Rattle.vq_model.specs.Machine.{Progress}
 

@@ -1,8 +1,8 @@
 -- Two orders of the same actions leave the same, where each pair that doesn't commute stands in one order in both.
 use Rattle.std.proofs.Common.{◌≡◌, ℕ, true, List, [], ◌∷◌, ◌++◌, inl, inr, subst, false, eqb, refl, sym, ◌∙◌, ◌||◌, ap, ◌⊎◌, Bool}
-use Rattle.vq_model.specs.Plan.{has}
+use Rattle.vq_ground.specs.Lists.{has}
 use Rattle.std.proofs.lemmas.Bool.{false≢true, eq-eqb, ne_eqb, or_parts, or_from, cases_eq, cases_Bool}
-use Rattle.vq_model.proofs.Lists.{has_here, has_there, has_cases, has-append_cases, has-append_right, has-append_left, AreDistinct, has-append, HaveSame, split_at}
+use Rattle.vq_ground.proofs.Lists.{has_here, has_there, has_cases, has-append_cases, has-append_right, has-append_left, AreDistinct, has-append, HaveSame, split_at}
 
 -- No element comes, by R, before one that stands in front of it.
 abbrev pub Extends : (ℕ → ℕ → Type 0) → List ℕ → Type 0

@@ -4,15 +4,16 @@ use Rattle.std.specs.List.{list_all, list_any, slice_get, range_with_len}
 use Rattle.std.specs.Option.{option_map_or}
 use Rattle.std.proofs.lemmas.Bool.{and_parts, and_from, or_parts, false≢true, false_from_ne_true, cases_eq, cond-true, cond-false, not-true}
 use Rattle.vq_model.specs.declared.plan.Need.{Need}
-use Rattle.vq_model.specs.Plan.{Plan, has, needs, waits_for_any, signals_of, chain, initial, value, job_of, chain_of}
+use Rattle.vq_model.specs.Plan.{Plan, needs, waits_for_any, signals_of, chain, initial, value, job_of, chain_of}
+use Rattle.vq_ground.specs.Lists.{has}
 use Rattle.vq_model.specs.Edges.{At, AtEnd, must_finish}
 use Rattle.vq_model.specs.WellFormed.{IsWellFormed}
 use Rattle.vq_model.specs.Machine.{is_reached, are_reached, Progress, Step, StartStep, ApplyStep, SignalStep, FinishStep, AnswerStep, put, with_signal, after_progress, CanProgress, CanSignal, ProgressFrom, opening_progress, opening_state, Run, state_after, without_answers}
 use Rattle.vq_model.specs.SlowRun.{greatest, is_of, payload_after, slow_order}
 use Rattle.vq_model.specs.Checks.{is_unreached, IsUnreachableAt}
-use Rattle.vq_model.proofs.Lists.{has_cases, list_all_has, list_all_from}
-use Rattle.vq_model.proofs.Filters.{filter-has}
-use Rattle.vq_model.proofs.Numbers.{has_range}
+use Rattle.vq_ground.proofs.Lists.{has_cases, list_all_has, list_all_from}
+use Rattle.vq_ground.proofs.Filters.{filter-has}
+use Rattle.vq_ground.proofs.Numbers.{has_range}
 use Rattle.vq_model.proofs.Puts.{put_here, put_there, put_cases}
 use Rattle.vq_plan_laws.proofs.Cited.{ready_whole}
 use Rattle.vq_order_laws.proofs.Cited.{are_reached_still, left_waits, reached_still}

@@ -2,7 +2,8 @@
 -- Waiting"; the machine and its runs are this project's own.
 use Rattle.std.specs.Prelude.{ℕ, ◌≡◌, ◌≤◌, ◌↔◌, ◌++◌, ◌∷◌, true, false, List, [], Some}
 use Rattle.vq_model.specs.declared.plan.Event.{Event}
-use Rattle.vq_model.specs.Plan.{Plan, has, commands_of, signals_of, job_of, chain_of, value, is_host_step}
+use Rattle.vq_model.specs.Plan.{Plan, commands_of, signals_of, job_of, chain_of, value, is_host_step}
+use Rattle.vq_ground.specs.Lists.{has}
 use Rattle.vq_model.specs.Edges.{At, stage_of, HasNoHeldWait}
 use Rattle.vq_model.specs.Machine.{Step, StartStep, Run, state_after, ProgressRun, progress_after, AreFinished}
 use Rattle.vq_model.specs.Machine.{IsFinished, was_since}
@@ -11,7 +12,7 @@ use Rattle.vq_model.specs.HappensBefore.{HappensBefore, HappensBeforeAt, Happens
 use Rattle.vq_model.specs.Sure.{IsSure, IsSureAt}
 use Rattle.vq_model.specs.Outputs.{IsOutput}
 use Rattle.vq_model.specs.OutputText.{answers_of, buffers_text}
-use Rattle.vq_points.specs.Points.{HistoryFrom, opening_points, steps_of}
+use Rattle.vq_point_laws.specs.Points.{HistoryFrom, opening_points, steps_of}
 
 -- Every finished run without answers leaves the bytes of the slow run.
 abbrev pub HasOneProgress : Plan → Type 0

@@ -15,7 +15,7 @@ use Rattle.vq_model.specs.declared.script.CommandLine.{CommandLine}
 use Rattle.vq_model.specs.Context.{is_wait, is_command, is_signal, is_batch_fence}
 use Rattle.vq_model.specs.Context.{part_of, held_from}
 use Rattle.vq_model.specs.ScriptOfLines.{mark}
-use Rattle.vq_model.proofs.Bools.{or_false}
+use Rattle.vq_ground.proofs.Bools.{or_false}
 use Rattle.vq_script.specs.SaidLines.{waiting, commanding, signaling, fenced, started}
 use Rattle.vq_script.specs.Holds.{FillBatch, waits_of, commands_of, signals_of, named_fence, last_part, last_part_by, waits_past}
 use Rattle.vq_script.proofs.LineMore.{numbered, count_more, some_more, later_part}

@@ -4,7 +4,7 @@ use Rattle.std.specs.Borrow.{Bor}
 use Rattle.std.proofs.lemmas.List.{length-map}
 use Rattle.std.specs.Prelude.{find, nat_lt, ◌==◌}
 use Rattle.std.specs.List.{list_all}
-use Rattle.std.proofs.lemmas.Bool.{and_parts, false≢true}
+use Rattle.std.proofs.lemmas.Bool.{and_parts, false≢true, not-true}
 use Rattle.vq_model.specs.declared.script.Batch.{Batch}
 use Rattle.vq_model.specs.declared.statement.Line.{Line}
 use Rattle.vq_model.specs.declared.statement.Form.{Form}
@@ -16,7 +16,6 @@ use Rattle.vq_model.specs.Context.{section, version_of}
 use Rattle.vq_model.specs.Forms.{Slot, Fixed, Pairs, TimelineName, Numeral, places, forms_outside, forms_in_batch, forms_in_schedule, held_forms, schedule_forms}
 use Rattle.vq_model.specs.LineFaults.{part_of_form}
 use Rattle.vq_model.specs.Meaning.{matches, form_of, are_as_many, agree, open_places, pair_places}
-use Rattle.vq_model.proofs.Bools.{not_true}
 use Rattle.vq_reading_laws.proofs.Cited.{found_belongs, found_passes}
 use Rattle.vq_script.specs.Holds.{Holds, Kept, section_of, are_none}
 use Rattle.vq_script.specs.SaidLines.{Fits, Stands, end_with_pairs, is_turn_form, is_version_form, open_kinds}
@@ -91,27 +90,27 @@ pub form_stands : (form : Form) (version : ℕ) (words : List (List ℕ)) (sched
 form_stands form version words false None f e =
     let forms = forms_outside ++ schedule_forms form in
     record {
-      inside = not_true _ (found_belongs (matches words) is_outside forms f
+      inside = not-true _ (found_belongs (matches words) is_outside forms f
           (outside_pass is_outside refl refl form) e);
-      turns = not_true _ (found_belongs (matches words) takes_none forms f
+      turns = not-true _ (found_belongs (matches words) takes_none forms f
           (outside_pass takes_none refl refl form) e);
-      later = not_true _ (found_belongs (matches words) is_later forms f
+      later = not-true _ (found_belongs (matches words) is_later forms f
           (outside_pass is_later refl refl form) e);
     }
 form_stands form version words true None f e =
     record {
-      inside = not_true _ (found_belongs (matches words) is_outside forms_in_schedule f refl e);
+      inside = not-true _ (found_belongs (matches words) is_outside forms_in_schedule f refl e);
       turns = found_belongs (matches words) is_turn_form forms_in_schedule f refl e;
-      later = not_true _ (found_belongs (matches words) is_later forms_in_schedule f refl e);
+      later = not-true _ (found_belongs (matches words) is_later forms_in_schedule f refl e);
     }
 form_stands form version words scheduled (Some b) f e =
     let forms = held_forms version ++ forms_in_batch in
     record {
       inside = found_belongs (matches words) is_inside forms f
           (in_batch_pass is_inside refl refl version) e;
-      turns = not_true _ (found_belongs (matches words) takes_none forms f
+      turns = not-true _ (found_belongs (matches words) takes_none forms f
           (in_batch_pass takes_none refl refl version) e);
-      later = not_true _ (found_belongs (matches words) is_later forms f
+      later = not-true _ (found_belongs (matches words) is_later forms f
           (in_batch_pass is_later refl refl version) e);
     }
 

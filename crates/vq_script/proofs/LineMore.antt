@@ -9,7 +9,7 @@ use Rattle.std.proofs.lemmas.Bool.Decides.{nat_tests}
 use Rattle.vq_model.specs.declared.statement.Line.{Line}
 use Rattle.vq_model.specs.declared.statement.Statement.{Statement}
 use Rattle.vq_model.specs.Context.{count, some, version_of}
-use Rattle.vq_model.proofs.Bools.{or_false}
+use Rattle.vq_ground.proofs.Bools.{or_false}
 
 abbrev pub numbered : ℕ → Statement → Line
 numbered n s = record { number = n; statement = s }

@@ -2,7 +2,7 @@
 use Rattle.std.proofs.Common.{◌≡◌, ℕ, ◌+◌, Bool, true, false, cond, not, ◌||◌, ◌&&◌, List, [], ◌∷◌, length, map, Option, Some, None, is_some, refl, sym, ap, subst, ◌∙◌, nat_lt, arith}
 use Rattle.std.specs.List.{list_all, list_any, count_by}
 use Rattle.std.specs.Option.{option_map, option_map_or, option_or}
-use Rattle.std.proofs.lemmas.Bool.{and_parts, or_parts, ltb-false, false≢true}
+use Rattle.std.proofs.lemmas.Bool.{and_parts, or_parts, ltb-false, false≢true, not-true, not-false}
 use Rattle.std.proofs.lemmas.Bool.Decides.{nat_tests}
 use Rattle.std.proofs.lemmas.List.Sums.{sum_by-cons}
 use Rattle.vq_model.specs.declared.script.Batch.{Batch}
@@ -31,7 +31,6 @@ use Rattle.vq_script.specs.SaidLines.{AreFound, Stands, Suits, MayKeep, MayComma
 use Rattle.vq_model.specs.Earlier.{Earlier, earlier}
 use Rattle.vq_model.specs.Context.{number_at, number_in as number_among, is_taken}
 use Rattle.std.specs.Prelude.{sum}
-use Rattle.vq_model.proofs.Bools.{not_true, not_false}
 
 -- Order
 
@@ -208,7 +207,7 @@ passed k batch form words w =
     || nat_lt (part_of_form form) (last_part batch))
     (is_batch_fence_form form && is_some (named_fence batch)) two.0 in
     record {
-      shaped = not_false _ one.0;
+      shaped = not-false _ one.0;
       in_order = (or_parts (is_declaration form && (is_some batch || nat_lt 0 (length k.jobs)))
           (nat_lt (part_of_form form) (last_part batch)) order.0).1;
       one_fence = order.1;
@@ -229,7 +228,7 @@ passed_later k batch words s n e =
     let six = cond_none (not (is_in_range (earlier_in k batch) s)) Range _ five.1 in
     record {
       numeric = n;
-      fresh = not_false _ five.0;
+      fresh = not-false _ five.0;
       limited = (cond_none (passes_limit (earlier_in k batch) s) Limit None (cond_none (overlaps k.buffers s) Overlap _ six.1).1).0;
     }
 
@@ -240,7 +239,7 @@ module _ (k : Kept) (form : LineForm) (words : List (Slot × List ℕ)) (found :
       Some (NewName, name) ≡ copied form (map (λ y. y.1) words) → IsNewName k name
   is_new_name batch name p fresh e = (
     copy_passes is_shaped form words (NewName, name) found e p.shaped,
-    not_true _ (copy_passes (is_new (taken_of k)) form words (NewName, name) found e fresh),
+    not-true _ (copy_passes (is_new (taken_of k)) form words (NewName, name) found e fresh),
   )
 
   -- a command

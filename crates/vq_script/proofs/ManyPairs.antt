@@ -1,9 +1,9 @@
 -- The faults of a line with many pairs.
-use Rattle.std.proofs.Common.{◌≡◌, ◌<◌, ◌+◌, ◌/◌, ℕ, Bool, true, false, not, cond, ◌||◌, List, [], ◌∷◌, length, map, Option, Some, None, is_some, refl, ap, ◌∙◌, arith}
+use Rattle.std.proofs.Common.{◌≡◌, ◌<◌, ◌+◌, ◌/◌, ℕ, Bool, true, false, not, cond, List, [], ◌∷◌, length, map, Option, Some, None, is_some, refl, ap, ◌∙◌, arith}
 use Rattle.std.specs.Prelude.{find, nat_lt}
 use Rattle.std.specs.List.{list_all}
 use Rattle.std.specs.Option.{option_map, option_map_or}
-use Rattle.std.proofs.lemmas.Bool.{and_parts, false≢true}
+use Rattle.std.proofs.lemmas.Bool.{and_parts, false≢true, or_right}
 use Rattle.std.proofs.lemmas.Bool.Decides.{nat_tests}
 use Rattle.vq_model.specs.declared.script.HostStep.{HostStep}
 use Rattle.vq_model.specs.declared.script.HostStep.TheVariants.{WaitAll, WaitAny, PollAll, PollAny}
@@ -75,7 +75,7 @@ module _ (e : Earlier) (line : OpenLine) where
 
 -- What pairs say
 
-no_names : (taken : List ℕ → Bool) (words : List (List ℕ)) → list_all (is_new taken) (pair_places words) ≡ true
+pub no_names : (taken : List ℕ → Bool) (words : List (List ℕ)) → list_all (is_new taken) (pair_places words) ≡ true
 no_names taken [] = refl
 no_names taken (name ∷ []) = refl
 no_names taken (name ∷ value ∷ words) = no_names taken words
@@ -110,10 +110,6 @@ module _ (number : Slot → List ℕ → Option ℕ) where
       let half = both.2 in
       (both.0, both.1, omega arith)
 
-or_true : (a b : Bool) → b ≡ true → (a || b) ≡ true
-or_true true b h = refl
-or_true false b h = h
-
 -- a line with more than 16 pairs has the fault Limit, if it has none before
 module _ (e : Earlier) (words : List (List ℕ)) (most : 16 ≡ e.most.pairs) (many : 16 < length words / 2)
     (n : list_all is_numeric (pair_places words) ≡ true)
@@ -140,7 +136,7 @@ module _ (e : Earlier) (words : List (List ℕ)) (most : 16 ≡ e.most.pairs) (m
       fault_by e (form, pair_places words) ≡ Some Limit
   limit_of form s o step same said =
       after_names e (form, pair_places words) s o n k (no_names e.taken words) (step read.0) said
-      (or_true (not (nat_lt e.jobs e.most.jobs)) (nat_lt e.most.pairs (length (pairs_of (step read.0))))
+      (or_right (not (nat_lt e.jobs e.most.jobs)) (nat_lt e.most.pairs (length (pairs_of (step read.0))))
       (ap (λ (ps : List Pair). nat_lt e.most.pairs (length ps)) (same read.0) ∙ past))
 
   pub is_limit : (form : LineForm) → is_pairs_line form ≡ true → list_all is_shaped (pair_places words) ≡ true →

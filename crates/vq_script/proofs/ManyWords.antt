@@ -16,7 +16,7 @@ use Rattle.vq_model.specs.declared.statement.LineForm.TheVariants.{TurnLine, Tur
 use Rattle.vq_model.specs.Forms.{places}
 use Rattle.vq_model.specs.Meaning.{matches, open_places, pair_places}
 use Rattle.vq_lexer.specs.Words.{texts}
-use Rattle.vq_long_lines.specs.Few.{AreCutOff}
+use Rattle.vq_forms.specs.Few.{AreCutOff}
 use Rattle.vq_script.specs.SaidLines.{is_pairs_line}
 
 -- Seven words and more
@@ -181,15 +181,6 @@ form_odd (w1 ∷ w2 ∷ w3 ∷ w4 ∷ w5 ∷ w6 ∷ w7 ∷ w8 ∷ rest) more all
     ∙ ap (λ (ws : List (List ℕ)). matches ws f) parts
 
 -- Many words
-
--- more words follow the first of them
-pub cut_long : (first words : List (List ℕ)) → AreCutOff first words → 63 < length words
-cut_long first words cut =
-    let counted = ap (λ (ws : List (List ℕ)). length ws) cut.parts in
-    let both = length-append first cut.more in
-    let many = cut.many in
-    let some = cut.some in
-    omega (arith, counted, both, many, some)
 
 pub many_pairs : (words : List (List ℕ)) → 63 < length words → (f : LineForm) →
     matches words f ≡ true → is_pairs_line f ≡ true

@@ -18,6 +18,8 @@ use Rattle.std.proofs.lemmas.Bool.{or_parts}
 use Rattle.std.proofs.lemmas.List.Elements.{All-weaker}
 use Rattle.std.proofs.lemmas.Option.{none-some}
 use Rattle.std.specs.List.{All}
+use Rattle.vq_ground.proofs.Bytes.{bytes_by_order}
+use Rattle.vq_ground.proofs.Positions.{position_new}
 use Rattle.vq_script.specs.declared.names.Entry.{Entry}
 use Rattle.vq_model.specs.declared.script.Buffer.{Buffer}
 use Rattle.vq_model.specs.declared.script.Semaphore.{Semaphore}
@@ -57,18 +59,6 @@ none_found p xs h =
     let out : nat_lt (position_or_len p xs) (length xs) ≡ false = any_within p xs ∙ h in
     rw out refl
 
--- one more that passes is the first, where no earlier one does
-last_found : {X : Type 0} (p : X → Bool) (xs : List X) (x : X) → list_any p xs ≡ false → p x ≡ true → position p (xs ++ x ∷ []) ≡ Some (length xs)
-last_found p xs x h e =
-    let out : nat_lt (position_or_len p xs) (length xs) ≡ false = any_within p xs ∙ h in
-    let few = prefix_len-le-length (λ z. not (p z)) xs in
-    let late : position_or_len p xs ≡ length xs = grind (arith, nat_tests) in
-    let more = position_or_len_push p xs x in
-    let place : position_or_len p (xs ++ x ∷ []) ≡ length xs = grind (arith, nat_tests) in
-    let long = length-append xs (x ∷ []) in
-    let within : nat_lt (position_or_len p (xs ++ x ∷ [])) (length (xs ++ x ∷ [])) ≡ true = grind (arith, nat_tests) in
-    ap (λ (b : Bool). cond b (Some (position_or_len p (xs ++ x ∷ []))) None) within ∙ ap (λ (n : ℕ). Some n) place
-
 -- one more that doesn't pass changes nothing
 same_found : {X : Type 0} (p : X → Bool) (xs : List X) (x : X) → p x ≡ false → position p (xs ++ x ∷ []) ≡ position p xs
 same_found p xs x e =
@@ -80,9 +70,6 @@ same_found p xs x e =
 -- the test of a key by its bytes
 abbrev has_bytes : List ℕ → Vec ℕ → Bool
 has_bytes name = is_at (λ k. slice_cmp nat_cmp name k.items)
-
-same_bytes : (xs ys : List ℕ) → is_eq (slice_cmp nat_cmp xs ys) ≡ true → xs ≡ ys
-same_bytes xs ys h = (bytes_eq-Decides xs ys).0 (sym (is_eq-slice_cmp xs ys) ∙ h)
 
 other_names : (old new : List (Vec ℕ × NamedItem)) (test : Vec ℕ → Bool) →
     KeepsOthers (eq_by_cmp key_cmp) test old new → (other : Vec ℕ → Bool) →
@@ -100,9 +87,9 @@ after_put old new k d put name true e =
     subst (λ (bs : List ℕ). item_of new bs ≡ Some d) (sym same) put.1
 after_put old new k d put name false e =
     other_names old.entries new.entries (is_at (key_cmp k)) put.3 (has_bytes name)
-    (λ x y h. ap (λ (bs : List ℕ). is_eq (slice_cmp nat_cmp bs y.items)) (same_bytes name x.items h))
+    (λ x y h. ap (λ (bs : List ℕ). is_eq (slice_cmp nat_cmp bs y.items)) (bytes_by_order name x.items h))
     (λ x h. subst (λ (bs : List ℕ). is_eq (slice_cmp nat_cmp name bs) ≡ false)
-    (same_bytes k.items x.items h) (is_eq-slice_cmp name k.items ∙ e))
+    (bytes_by_order k.items x.items h) (is_eq-slice_cmp name k.items ∙ e))
 
 -- the last of a list is found by its name, if the name is new
 found_with : {X : Type 0} (passes : List ℕ → X → Bool) (reads : Option NamedItem → Option ℕ)
@@ -120,7 +107,7 @@ found_with passes reads old new k d xs x put named last fresh was name =
         let same : k.items ≡ name = sym ((bytes_eq-Decides name k.items).0 e) in
         let none = subst (λ (bs : List ℕ). list_any (passes bs) xs ≡ false) same fresh in
         ap reads (after_put old new k d put name true e) ∙ last
-        ∙ sym (last_found (passes name) xs x none (named name ∙ e))
+        ∙ sym (position_new (passes name) xs x none (named name ∙ e))
     by_test false e =
         ap reads (after_put old new k d put name false e) ∙ was name
         ∙ sym (same_found (passes name) xs x (named name ∙ e))

@@ -30,7 +30,7 @@ use Rattle.vq_model.specs.Reading.{with_line}
 use Rattle.vq_model.specs.ScriptOfLines.{batch_lines, jobs_of, job_at, is_schedule, turns_at, mark, command_of, wait_of, signal_of, fence_of, first_of_list}
 use Rattle.vq_model.specs.declared.statement.Section.{Section}
 use Rattle.vq_model.specs.declared.statement.Section.TheVariants.{Outside, InBatch}
-use Rattle.vq_model.proofs.Bools.{or_false}
+use Rattle.vq_ground.proofs.Bools.{or_false, never}
 use Rattle.vq_script.specs.Holds.{Holds, Declares, FillBatch, Kept, last_part, with_buffer, with_semaphore, with_queue, with_command, with_batch, with_step, with_schedule, with_turns, section_of}
 use Rattle.vq_script.proofs.LineMore.{numbered, after_last_cut, after_last_more, before_first_more, count_more, some_more, version_more, given_none, given_one, later_part}
 use Rattle.vq_script.specs.declared.said.Said.{Said}
@@ -204,10 +204,6 @@ one_counted test lines l m h one =
 nothing : (b : Bool) → b ≡ false → 0 ≡ 0 + cond b 1 0
 nothing b h = ap (λ (x : Bool). 0 + cond x 1 0) (sym h)
 
--- no batch is open
-none_open : {A : Type 0} → false ≡ true → A
-none_open h = absurd (cc)
-
 holds_outside : (lines : List Line) (n : ℕ) (s : Statement) (k next : Kept) → Holds lines k None →
     StandsOutside s → section_after (section_of k.scheduled None) s ≡ section_of next.scheduled None →
     Declares (with_line lines n s) next → next.jobs ≡ k.jobs →
@@ -215,7 +211,7 @@ holds_outside : (lines : List Line) (n : ℕ) (s : Statement) (k next : Kept) �
 holds_outside lines n s k next h out part declares jobs commands =
     record {
       part = section_more lines (numbered n s) (section_of k.scheduled None) h.part ∙ part;
-      unscheduled = λ is. none_open is;
+      unscheduled = λ is. never is;
       declares = declares;
       all_jobs = same_count is_job lines (numbered n s) (length next.jobs + 0)
           (h.all_jobs ∙ ap (λ (js : List Job). length js + 0) (sym jobs)) out.job;
@@ -628,7 +624,7 @@ holds_end lines n b k h =
     record {
       part = section_more lines l InBatch h.part
           ∙ ap (λ (b : Bool). section_of b None) (sym (h.unscheduled refl));
-      unscheduled = λ is. none_open is;
+      unscheduled = λ is. never is;
       declares = (
           let d = declares_none lines n EndBatch k h.declares none_ended in
           record {
@@ -674,7 +670,7 @@ holds_step lines n step k h =
     let x : HostLine = record { line = n; step = step } in
     record {
       part = section_more lines l (section_of k.scheduled None) h.part;
-      unscheduled = λ is. none_open is;
+      unscheduled = λ is. never is;
       declares = (
           let d = declares_none lines n (TakeHostStep step) k h.declares (none_stepped step) in
           record {

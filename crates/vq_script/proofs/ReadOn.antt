@@ -1,6 +1,5 @@
 -- Reading a text from one of its lines on.
 use Rattle.std.proofs.Common.{◌≡◌, ℕ, ◌+◌, List, [], ◌∷◌, Ok, Err, Result, refl, sym, ap, ◌∙◌}
-use Rattle.std.specs.Result.{IsErr, IsErrAnd}
 use Rattle.vq_model.specs.declared.statement.Line.{Line}
 use Rattle.vq_model.specs.declared.statement.Form.{Form}
 use Rattle.vq_model.specs.declared.statement.FaultKind.{FaultKind}
@@ -41,11 +40,6 @@ gives_fault text form lines n line rest after (At m kind) reader e same r =
     ∙ ap script_from (sym same ∙ on_fault form lines n line rest after kind e r.1)
     ∙ (λ i. Err (sym r.0 i, kind))
 gives_fault text form lines n line rest after Memory reader e same r = tt
-
--- what an exit by `?` returns
-pub returned : {A E : Type 0} (r : Result A E) (e : E) → IsErr r → IsErrAnd r (λ x. x ≡ e) → r ≡ Err e
-returned (Ok a) e h i = absurd (cc)
-returned (Err x) e h i = ap (λ y. Err y) i
 
 pub is_first : (text : List ℕ) (form : Form) (fault : ScriptFault) → Gives (Err fault) (read_script text form) → IsFirst text form fault
 is_first text form (At n kind) h = h

@@ -7,6 +7,7 @@ use Rattle.std.specs.Str.{bytes_eq}
 use Rattle.std.proofs.lemmas.Bool.{and_parts, false≢true}
 use Rattle.std.proofs.lemmas.List.Elements.{All-head, All-tail}
 use Rattle.std.proofs.lemmas.Slice.Eq.{bytes_eq-Decides}
+use Rattle.vq_ground.proofs.Bools.{and_true}
 use Rattle.vq_model.specs.declared.script.Buffer.{Buffer}
 use Rattle.vq_model.specs.declared.script.Semaphore.{Semaphore}
 use Rattle.vq_model.specs.declared.script.Queue.{Queue}
@@ -25,10 +26,6 @@ use Rattle.vq_script.specs.LineTests.{number_of}
 use Rattle.vq_script.specs.SaidLines.{AreFound, Fits, end_with_pairs, is_actor_or_marked, is_turn_form, named_in, open_kinds}
 use Rattle.vq_script.proofs.LineTold.{all_read, some_mapped}
 use Rattle.vq_script.proofs.NamesFound.{any_found}
-
-alone : (t : Bool) → t ≡ (t && true)
-alone true = refl
-alone false = refl
 
 -- The name of what is declared is a name.
 pub record AreNamed (k : Kept) : Type 0 where
@@ -188,11 +185,11 @@ none_new k form words found h =
 counted_new : (taken : List ℕ → Bool) (form : LineForm) (words : List (Bor (List ℕ))) (d : Bor (List ℕ)) →
     is_declaration form ≡ true → length words ≡ length (places form) →
     not (taken (get_or words 1 d).now) ≡ list_all (is_new taken) (opens form words)
-counted_new taken BufferLine (a ∷ name ∷ size ∷ []) d h e = alone (not (taken name.now))
-counted_new taken TimelineLine (a ∷ name ∷ value ∷ []) d h e = alone (not (taken name.now))
-counted_new taken BinaryLine (a ∷ name ∷ []) d h e = alone (not (taken name.now))
-counted_new taken FenceLine (a ∷ name ∷ []) d h e = alone (not (taken name.now))
-counted_new taken (QueueLine mode) (a ∷ name ∷ b ∷ []) d h e = alone (not (taken name.now))
+counted_new taken BufferLine (a ∷ name ∷ size ∷ []) d h e = sym (and_true (not (taken name.now)))
+counted_new taken TimelineLine (a ∷ name ∷ value ∷ []) d h e = sym (and_true (not (taken name.now)))
+counted_new taken BinaryLine (a ∷ name ∷ []) d h e = sym (and_true (not (taken name.now)))
+counted_new taken FenceLine (a ∷ name ∷ []) d h e = sym (and_true (not (taken name.now)))
+counted_new taken (QueueLine mode) (a ∷ name ∷ b ∷ []) d h e = sym (and_true (not (taken name.now)))
 counted_new taken form words d h e = absurd (grind arith)
 
 declared_single : (form : LineForm) → is_declaration form ≡ true → end_with_pairs (places form) ≡ false
@@ -227,7 +224,7 @@ module _ (k : Kept) (named : AreNamed k) (word : List ℕ) where
       (host || threads || rings) ≡ (host || ((threads || rings) && name))
   by_marks true threads rings name f = refl
   by_marks false true rings name f = sym (f refl)
-  by_marks false false rings name f = alone rings ∙ (λ i. rings && sym (f refl) i)
+  by_marks false false rings name f = sym (and_true rings) ∙ (λ i. rings && sym (f refl) i)
 
   -- so its mark alone tells whether it is an actor
   actor_is : is_some (actor_at (number_of k) word) ≡ true → is_actor_or_marked word ≡ is_actor word
@@ -237,7 +234,7 @@ module _ (k : Kept) (named : AreNamed k) (word : List ℕ) where
 
   turn_is : is_some (actor_at (number_of k) word) ≡ true →
       is_actor_or_marked word ≡ (is_actor word && true)
-  turn_is some = actor_is some ∙ alone (is_actor word)
+  turn_is some = actor_is some ∙ sym (and_true (is_actor word))
 
 some_first : {A B C : Type 0} (f : A → B → C) (a : Option A) (b : Option B) → is_some (of_two f a b) ≡ true →
     is_some a ≡ true

@@ -11,7 +11,7 @@ use Rattle.vq_model.specs.declared.statement.Statement.{Statement}
 use Rattle.vq_model.specs.declared.statement.Statement.TheVariants.{HasVersion}
 use Rattle.vq_model.specs.Meaning.{matches}
 use Rattle.vq_model.specs.Reading.{read_statement, with_line}
-use Rattle.vq_model.proofs.Bools.{or_false}
+use Rattle.vq_ground.proofs.Bools.{or_false}
 use Rattle.vq_script.specs.Holds.{Holds, are_none, nothing}
 use Rattle.vq_script.proofs.BatchMore.{fill_nothing}
 use Rattle.vq_script.proofs.LineMore.{numbered}

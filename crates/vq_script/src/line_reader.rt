@@ -124,7 +124,7 @@ impl LineReader {
     ghost use Rattle.std.specs.Prelude.{length, ℕ, Err};
     ghost use Rattle.vq_model.specs.Reading.{read_statement};
     ghost use Rattle.vq_model.specs.Text.{words_in};
-    ghost use Rattle.vq_long_lines.specs.Few.{AreCutOff};
+    ghost use Rattle.vq_forms.specs.Few.{AreCutOff};
 
     /// A reader that has read no lines.
     pub fn new(alloc: Global, form: Form) -> LineReader

@@ -9,7 +9,7 @@ ghost use Rattle.vq_model.specs.Text.{words_in};
 ghost use Rattle.vq_model.specs.declared.statement.Line.{Line};
 ghost use Rattle.vq_forms.specs.Table.{forms_of};
 ghost use Rattle.vq_lexer.specs.Words.{texts};
-ghost use Rattle.vq_long_lines.specs.Few.{AreCutOff};
+ghost use Rattle.vq_forms.specs.Few.{AreCutOff};
 ghost use Rattle.vq_script.specs.Faults.{first_fault};
 ghost use Rattle.vq_script.specs.Holds.{Keeps, kept, open_so_far, section_of};
 ghost use Rattle.vq_script.specs.LineTests.{number_of};
@@ -17,8 +17,9 @@ ghost use Rattle.vq_script.specs.SaidLines.{is_pairs_line};
 
 use crate::known::Known;
 use crate::line_faults::is_late;
-use vq_forms::{Token, form_of};
-use vq_long_lines::{are_even, are_numerals, are_plain, are_shaped, behind_head, next_pair};
+use vq_forms::{
+    Token, are_even, are_names, are_numerals, are_plain, behind_head, form_of, next_pair,
+};
 use vq_model::statement::{FaultKind, Form, LineForm};
 
 /// Whether each pair of a part has the name of a timeline.
@@ -42,7 +43,7 @@ fn pairs_fault(known: &Known, form: LineForm, part: &[u8]) -> FaultKind
     ensures { (lines : List Line) → Keeps lines known.now →
         first_fault lines (form, pair_places (words_in part.now)) ≡ Some result }
 {
-    if !are_shaped(part) {
+    if !are_names(part) {
         return FaultKind::Syntax;
     }
     if is_late(known, form) {

@@ -10,8 +10,8 @@ ghost use Rattle.vq_script.specs.Reads.{HasRead, HasReadNext};
 use crate::fault::ScriptFault;
 use crate::line_reader::LineReader;
 use std::alloc::Global;
+use vq_forms::{are_plain, find_few, without_comment};
 use vq_lexer::{find_words, next_line};
-use vq_long_lines::{are_plain, find_few, without_comment};
 use vq_model::script::Script;
 use vq_model::statement::Form;
 

@@ -6,13 +6,14 @@ use Rattle.std.specs.Option.{option_map_or}
 use Rattle.std.proofs.lemmas.Bool.{cond-true, cond-false, eq-eqb, eqb-true, le-leb, lt-leb, ltb-true, ltb-false, false≢true}
 use Rattle.vq_model.specs.declared.script.Script.{Script}
 use Rattle.vq_model.specs.Lowering.{plan_of}
-use Rattle.vq_model.specs.Plan.{has, value, chain}
+use Rattle.vq_model.specs.Plan.{value}
+use Rattle.vq_ground.specs.Lists.{has}
 use Rattle.vq_model.specs.SameScript.{IsRead}
 use Rattle.vq_model.specs.Signals.{Signaling, all_signals, signals_semaphore, value_at, insert_op, chain_ops}
 use Rattle.vq_model.specs.WellFormed.{AreInOrder}
-use Rattle.vq_model.proofs.Lists.{has_cases}
-use Rattle.vq_model.proofs.Gets.{get-map, get-range, get-append}
-use Rattle.vq_plan_laws.proofs.Cited.{well_formed, op_value_is}
+use Rattle.vq_ground.proofs.Lists.{has_cases}
+use Rattle.vq_ground.proofs.Gets.{get-map, get-range, get-append}
+use Rattle.vq_plan_laws.proofs.Cited.{well_formed, op_value_is, chain_is}
 use Rattle.vq_reading_laws.proofs.Cited.{read_valid}
 use Rattle.vq_spec.specs.declared.chains.Chain.{Chain}
 use Rattle.vq_spec.specs.Counts.{unplaced}
@@ -27,10 +28,6 @@ chain_is s t l =
     get-map (chain_ops s) (range_with_len 0 (length s.semaphores)) t
     ∙ (ap (option_map (chain_ops s)) (get-range (length s.semaphores) 0 t l)
     ∙ ap (λ u. Some (chain_ops s u)) (zero-add t))
-
-pub chain_there : (s : Script) (t : ℕ) → t < length s.semaphores →
-    chain (plan_of s) t ≡ chain_ops s t
-chain_there s t l = ap (λ o. option_map_or (λ x. x) o []) (chain_is s t l)
 
 -- by value and then by number, each number once
 abbrev pub AreStrict : Script → List ℕ → Type 0
@@ -52,7 +49,7 @@ strict_from s (e ∷ es) h = (
 pub strict_chain : (s : Script) → IsRead s → (t : ℕ) → t < length s.semaphores →
     AreStrict s (chain_ops s t)
 strict_chain s i t l = strict_from s (chain_ops s t)
-    (subst (AreInOrder (plan_of s)) (chain_there s t l)
+    (subst (AreInOrder (plan_of s)) (chain_is s t l)
     ((well_formed s (read_valid s i)).chain_order t))
 
 weak_from : (s : Script) (es : List ℕ) → AreStrict s es → AreWeak (value_at s) es

@@ -1,4 +1,5 @@
 -- What other crates may cite of this one. All other files of proofs are private to it.
-pub use Rattle.vq_spec.proofs.SlowHeads.{has_at, previous_first}
+pub use Rattle.vq_spec.proofs.SlowHeads.{previous_first}
 pub use Rattle.vq_spec.proofs.SlowReady.{chains_exist, own_needs, same_any}
+pub use Rattle.vq_spec.proofs.SlowRuns.{after_all-append, bytes_push}
 pub use Rattle.vq_spec.proofs.SlowSteps.{op_exists, whole_new}

@@ -15,9 +15,10 @@ use Rattle.vq_model.specs.declared.script.Batch.{Batch as BatchOf}
 use Rattle.vq_model.specs.declared.script.HostLine.{HostLine}
 use Rattle.vq_model.specs.declared.plan.PlanJob.{PlanJob}
 use Rattle.vq_model.specs.Lowering.{batch_commands, commands_in, plan_of}
-use Rattle.vq_model.specs.Plan.{Plan, has, commands_of}
-use Rattle.vq_model.proofs.Gets.{get_within}
-use Rattle.vq_model.proofs.Lists.{has_some}
+use Rattle.vq_model.specs.Plan.{Plan, commands_of}
+use Rattle.vq_ground.specs.Lists.{has}
+use Rattle.vq_ground.proofs.Gets.{get_within}
+use Rattle.vq_ground.proofs.Lists.{has_some}
 use Rattle.vq_plan_laws.proofs.Cited.{HasOwner, StandsAt, stands_at, command_owner, counted, length-batch_commands}
 use Rattle.vq_plan_laws.proofs.Cited.{owner_has}
 use Rattle.vq_spec.specs.Owners.{HasOwners}

@@ -9,8 +9,8 @@ use Rattle.vq_model.specs.declared.plan.Op.{Op}
 use Rattle.vq_model.specs.Edges.{AtEnd, awaited_at, edges_to, must_finish}
 use Rattle.vq_model.specs.Plan.{Plan, value, chain, resolver, initial, needs, job_of, waits_for_any}
 use Rattle.vq_model.specs.WellFormed.{IsWellFormed}
-use Rattle.vq_model.proofs.Options.{some_of}
-use Rattle.vq_model.proofs.Searches.{find_member}
+use Rattle.vq_ground.proofs.Options.{some_of}
+use Rattle.vq_ground.proofs.Searches.{find_member}
 
 module _ (p : Plan) (w : IsWellFormed p) where
   -- what resolves a need is the operation of a job

@@ -8,7 +8,7 @@ use Rattle.std.proofs.lemmas.List.Elements.{filter_map-append}
 use Rattle.std.proofs.lemmas.List.FromFn.{length-map-range_with_len, get_or-map-range_with_len, map-range_with_len_more}
 use Rattle.std.proofs.lemmas.Option.{slice_get_past, slice_get-get_or}
 use Rattle.vq_model.specs.declared.plan.Op.{Op}
-use Rattle.vq_model.proofs.Gets.{get_within, get-append, get-append_left}
+use Rattle.vq_ground.proofs.Gets.{get_within, get-append, get-append_left}
 use Rattle.vq_spec.specs.declared.chains.Chain.{Chain}
 use Rattle.vq_spec.specs.ChainParts.{member, members, Sorts, first_with}
 use Rattle.vq_spec.proofs.Ranges.{take_push, enumerate-append, map_range-set}

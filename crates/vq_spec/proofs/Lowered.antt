@@ -10,21 +10,11 @@ use Rattle.vq_model.specs.declared.script.Script.{Script}
 use Rattle.vq_model.specs.declared.script.Job.{Job}
 use Rattle.vq_model.specs.Lowering.{batch_commands, commands_in, plan_of, plan_job}
 use Rattle.vq_model.specs.SameScript.{IsRead}
-use Rattle.vq_plan_laws.proofs.Cited.{length-batch_commands}
+use Rattle.vq_plan_laws.proofs.Cited.{length-batch_commands, all_commands}
 use Rattle.vq_model.specs.Limits.{limits_of}
 use Rattle.vq_reading_laws.proofs.Cited.{read_valid, jobs_fit}
 
 -- Numbers
-
--- the commands of all jobs
-total : (jobs : List Job) → length (flat_map batch_commands jobs) ≡ sum (map commands_in jobs)
-total [] = refl
-total (job ∷ jobs) =
-    let own = length-batch_commands job in
-    let rest = total jobs in
-    let all = length-append (batch_commands job) (flat_map batch_commands jobs) in
-    let added = sum_by-cons (λ (n : ℕ). n) (commands_in job) (map commands_in jobs) in
-    omega arith
 
 -- one more job's commands
 pub commands_push : (jobs : List Job) (j : ℕ) (job : Job) → slice_get jobs j ≡ Some job →
@@ -50,7 +40,7 @@ module _ (s : Script) (i : IsRead s) where
   pub few_commands : length (flat_map batch_commands s.jobs) ≤ (limits_of s.version).commands
   few_commands =
       let most = (read_valid s i).limits.commands in
-      omega (arith, total s.jobs)
+      omega (arith, all_commands s.jobs)
 
   -- the commands up to a job and its own
   pub few_up_to : (j : ℕ) (job : Job) → slice_get s.jobs j ≡ Some job →

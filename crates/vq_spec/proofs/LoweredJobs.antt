@@ -24,7 +24,7 @@ use Rattle.vq_model.specs.SameScript.{IsRead}
 use Rattle.vq_model.specs.Signals.{job_signals, all_signals, signals_semaphore}
 use Rattle.vq_model.specs.ValidScripts.{is_fence_at, IsValidBatch, IsValidMark, IsValidStep}
 use Rattle.vq_plan_laws.proofs.Cited.{length-batch_commands}
-use Rattle.vq_model.proofs.Gets.{get_within}
+use Rattle.vq_ground.proofs.Gets.{get_within}
 use Rattle.vq_model.specs.Limits.{limits_of}
 use Rattle.vq_reading_laws.proofs.Cited.{kind_exists, read_batches, read_steps}
 use Rattle.vq_spec.specs.declared.lowering.Lowered.{Lowered}

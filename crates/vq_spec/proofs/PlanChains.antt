@@ -9,16 +9,17 @@ use Rattle.std.proofs.lemmas.Option.{slice_get_read, slice_get-get_or}
 use Rattle.vq_model.specs.declared.script.Script.{Script}
 use Rattle.vq_model.specs.declared.plan.Op.{Op}
 use Rattle.vq_model.specs.Lowering.{plan_of}
-use Rattle.vq_model.specs.Plan.{has, value, chain, resolver}
+use Rattle.vq_model.specs.Plan.{value, chain, resolver}
+use Rattle.vq_ground.specs.Lists.{has}
 use Rattle.vq_model.specs.SameScript.{IsRead}
 use Rattle.vq_model.specs.Signals.{Signaling, all_signals, chain_ops, op_at, value_at}
-use Rattle.vq_model.proofs.Gets.{get-map, get-enumerate, get_some, get_within}
-use Rattle.vq_plan_laws.proofs.Cited.{well_formed, op_value_is, op_is}
+use Rattle.vq_ground.proofs.Gets.{get-map, get-enumerate, get_some, get_within}
+use Rattle.vq_plan_laws.proofs.Cited.{well_formed, op_value_is, op_is, chain_is}
 use Rattle.vq_reading_laws.proofs.Cited.{read_valid}
 use Rattle.vq_spec.specs.declared.chains.Chain.{Chain}
 use Rattle.vq_spec.specs.ChainParts.{member, members, placed, place_in, valued, Sorts, AreSorted, IsSearchable, AreChains, first_with}
 use Rattle.vq_spec.specs.Counts.{unplaced}
-use Rattle.vq_spec.proofs.ChainOrder.{chain_there, strict_chain, chain_pairs, first_is, place_is}
+use Rattle.vq_spec.proofs.ChainOrder.{strict_chain, chain_pairs, first_is, place_is}
 use Rattle.vq_spec.proofs.Ranges.{take_push, enumerate-append}
 use Rattle.vq_spec.proofs.SortedPairs.{map_numbers}
 
@@ -128,7 +129,7 @@ module _ (s : Script) (i : IsRead s) where
   in_chain : (e : ℕ) (x : Signaling) → slice_get (all_signals s) e ≡ Some x →
       x.semaphore < length s.semaphores → has (chain_ops s x.semaphore) e ≡ true
   in_chain e x at l =
-      ap (λ es. has es e) (sym (chain_there s x.semaphore l))
+      ap (λ es. has es e) (sym (chain_is s x.semaphore l))
       ∙ (well_formed s (read_valid s i)).in_chain e x.semaphore
       (ap (option_map (λ o. o.chain)) (op_is s e ∙ ap (option_map (λ y. op_at s (e, y))) at))
 
@@ -204,11 +205,11 @@ module _ (s : Script) (i : IsRead s) where
       ap (λ ps. first_with ps v) (k.pairs t c at)
       ∙ (first_is s (chain_ops s t) v
       ∙ (sym (λ j. find (λ e. leb v (op_value_is s e j)) (chain_ops s t))
-      ∙ ap (find (λ e. leb v (value (plan_of s) e))) (sym (chain_there s t (omega arith)))))
+      ∙ ap (find (λ e. leb v (value (plan_of s) e))) (sym (chain_is s t (omega arith)))))
 
   pub chain_kept : (chains : List Chain) → AreChains s chains → (t : ℕ) (c : Chain) →
       slice_get chains t ≡ Some c → c.ops ≡ chain (plan_of s) t
   chain_kept chains k t c at =
       let inside = get_within chains t c at in
       let n = k.number in
-      k.ops t c at ∙ sym (chain_there s t (omega arith))
+      k.ops t c at ∙ sym (chain_is s t (omega arith))

@@ -1,6 +1,6 @@
 -- What the jobs of a plan wait for comes from its needs, its operations and its chains.
-use Rattle.std.proofs.Common.{◌≡◌, ℕ, zero, suc, cond, ◌+◌, ◌<◌, ◌≤◌, Bool, true, false, ltb, leb, List, [], ◌∷◌, ◌++◌, length, get_or, map, filter, take, All, Option, Some, None, option_map, ◌↔◌, IsNone, inl, inr, refl, sym, ap, ◌∙◌, subst, arith, zero-add, append_assoc}
-use Rattle.std.specs.List.{slice_get, filter_map, cons_option, range_with_len, find}
+use Rattle.std.proofs.Common.{◌≡◌, ℕ, zero, suc, cond, ◌+◌, ◌<◌, ◌≤◌, true, false, ltb, leb, List, [], ◌∷◌, ◌++◌, length, get_or, map, filter, take, All, Option, Some, None, option_map, ◌↔◌, IsNone, refl, sym, ap, ◌∙◌, subst, arith, zero-add, append_assoc}
+use Rattle.std.specs.List.{slice_get, filter_map, cons_option, range_with_len}
 use Rattle.std.specs.Option.{option_map_or, option_to_list}
 use Rattle.std.proofs.lemmas.Bool.{cond-true, cond-false, lt-ltb, leb-true, leb-false, lt-leb}
 use Rattle.std.proofs.lemmas.List.Elements.{filter-append, filter_map-append}
@@ -18,17 +18,16 @@ use Rattle.vq_model.specs.declared.plan.PlanJob.{PlanJob}
 use Rattle.vq_model.specs.Lowering.{plan_of, plan_job, of_pair, of_wait, step_needs}
 use Rattle.vq_model.specs.Edges.{AtEnd, awaited_at, edges_to}
 use Rattle.vq_model.specs.Context.{is_fence, is_timeline}
-use Rattle.vq_model.specs.Plan.{Plan, has, value, chain, chain_of, resolver, initial, job_of}
+use Rattle.vq_model.specs.Plan.{Plan, value, chain, chain_of, resolver, initial, job_of}
 use Rattle.vq_model.specs.SameScript.{IsRead}
 use Rattle.vq_model.specs.Signals.{initial_value}
 use Rattle.vq_model.specs.ValidScripts.{IsTimelinePair, IsValidMark, IsValidStep}
 use Rattle.vq_model.specs.WellFormed.{IsWellFormed}
-use Rattle.vq_model.proofs.Lists.{has_cases}
-use Rattle.vq_model.proofs.Searches.{find_passes}
-use Rattle.vq_model.proofs.Gets.{get-map}
+use Rattle.vq_ground.proofs.Searches.{find_passes, find_fails}
+use Rattle.vq_ground.proofs.Gets.{get-map}
 use Rattle.vq_plan_laws.proofs.Cited.{job_is}
-use Rattle.vq_model.proofs.Options.{some_of}
-use Rattle.vq_model.proofs.Searches.{find_member}
+use Rattle.vq_ground.proofs.Options.{some_of}
+use Rattle.vq_ground.proofs.Searches.{find_member}
 use Rattle.vq_reading_laws.proofs.Cited.{kind_exists, read_batches, read_steps}
 use Rattle.vq_spec.specs.declared.chains.Chain.{Chain}
 use Rattle.vq_spec.specs.ChainParts.{AreChains, first_with}
@@ -39,23 +38,6 @@ use Rattle.vq_spec.proofs.PlanChains.{chain_read, resolver_is}
 use Rattle.vq_spec.proofs.Ranges.{take_push}
 
 -- Needs
-
--- where nothing is found, each one fails the test
-find_fails : (test : ℕ → Bool) (es : List ℕ) (e : ℕ) → find test es ≡ None → has es e ≡ true →
-    test e ≡ false
-find_fails test [] e h m = absurd (cc)
-find_fails test (x ∷ es) e h m = by_test (test x) refl (find_fails test es e)
-  where
-    by_test : (b : Bool) → test x ≡ b →
-        (find test es ≡ None → has es e ≡ true → test e ≡ false) → test e ≡ false
-    by_test true t rest = absurd (
-        let c : Some x ≡ None = sym (cond-true (test x) (Some x) (find test es) t) ∙ h in cc
-        )
-    by_test false t rest = elim (has_cases x es e m) [
-      | inl same ↦ ap test (sym same) ∙ t
-      | inr there ↦ rest
-          (sym (cond-false (test x) (Some x) (find test es) t) ∙ h) there
-    ]
 
 -- a resolver is missing exactly where all operations of the chain have lower values
 pub no_resolver : (p : Plan) → IsWellFormed p → (t v : ℕ) (o : Option ℕ) → o ≡ resolver p t v →

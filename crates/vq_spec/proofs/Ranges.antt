@@ -100,19 +100,6 @@ module _ {X : Type 0} where
 
 -- Ranges
 
-pub range-append : (a m n : ℕ) →
-    range_with_len a (m + n) ≡ range_with_len a m ++ range_with_len (a + m) n
-range-append a zero n =
-    let e : 0 + n ≡ n = omega arith in
-    let f : a ≡ a + 0 = omega arith in
-    λ i. range_with_len (f i) (e i)
-range-append a (suc m) n =
-    let e : suc m + n ≡ suc (m + n) = omega arith in
-    let f : (a + 1) + m ≡ a + suc m = omega arith in
-    ap (range_with_len a) e
-    ∙ ap (λ xs. a ∷ xs) (range-append (a + 1) m n
-    ∙ ap (λ b. range_with_len (a + 1) m ++ range_with_len b n) f)
-
 -- what a test gives on a range
 pub filter_range-all : (test : ℕ → Bool) (a n : ℕ) →
     ((e : ℕ) → a ≤ e → e < a + n → test e ≡ true) →

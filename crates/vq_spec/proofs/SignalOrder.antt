@@ -9,6 +9,7 @@ use Rattle.std.proofs.lemmas.List.{length-append, length-map, map-append, take-a
 use Rattle.std.proofs.lemmas.List.Elements.{filter-append}
 use Rattle.std.proofs.lemmas.List.FromFn.{length-map-range_with_len}
 use Rattle.std.proofs.lemmas.List.Sums.{count_by-le-length}
+use Rattle.vq_ground.proofs.Numbers.{range-append}
 use Rattle.vq_model.specs.declared.script.Script.{Script}
 use Rattle.vq_model.specs.declared.script.Mark.{Mark}
 use Rattle.vq_model.specs.declared.script.Pair.{Pair}
@@ -21,12 +22,12 @@ use Rattle.vq_model.specs.declared.script.Job.TheVariants.{Host, Batch as BatchJ
 use Rattle.vq_model.specs.Lowering.{job_ops}
 use Rattle.vq_model.specs.SameScript.{IsRead}
 use Rattle.vq_model.specs.Signals.{Signaling, of_mark, step_signals, job_signals, all_signals, signals_semaphore, signal_value, values_from, value_at}
-use Rattle.vq_model.proofs.Gets.{get-map, get_within, get-append, get-append_left}
+use Rattle.vq_ground.proofs.Gets.{get-map, get_within, get-append, get-append_left}
 use Rattle.vq_plan_laws.proofs.Cited.{count_ops, few_ops, value_is}
 use Rattle.vq_reading_laws.proofs.Cited.{read_valid, read_batches}
 use Rattle.vq_spec.specs.declared.signals.Signals.{Signals}
 use Rattle.vq_spec.specs.Counts.{signals_before, unplaced, first_ops, counts_of, AreSignals, value_by}
-use Rattle.vq_spec.proofs.Ranges.{take_push, enumerate-append, count-push, count-append, count-none, count-same, each-append, each-weaken, map_range-set, get_map_range, range-append, filter_range-all, filter_range-none}
+use Rattle.vq_spec.proofs.Ranges.{take_push, enumerate-append, count-push, count-append, count-none, count-same, each-append, each-weaken, map_range-set, get_map_range, filter_range-all, filter_range-none}
 
 -- The jobs of signals
 

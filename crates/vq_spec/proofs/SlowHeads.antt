@@ -1,23 +1,20 @@
 -- The lowest job that is ready stands first among those of its lane that aren't done.
-use Rattle.std.proofs.Common.{◌≡◌, ℕ, zero, suc, ◌+◌, ◌<◌, ◌≤◌, max, min, Bool, true, false, not, ◌&&◌, ◌++◌, List, [], ◌∷◌, length, get_or, filter, map, fold, find, Option, Some, None, refl, sym, ap, ◌∙◌, ◌⊎◌, inl, inr, subst, arith}
-use Rattle.std.specs.List.{list_all, range_with_len}
+use Rattle.std.proofs.Common.{◌≡◌, ℕ, zero, suc, ◌+◌, ◌<◌, ◌≤◌, max, min, Bool, true, false, not, ◌&&◌, ◌++◌, List, [], ◌∷◌, length, get_or, filter, map, fold, Option, Some, None, refl, sym, ap, ◌∙◌, ◌⊎◌, inl, inr, subst, arith}
+use Rattle.std.specs.List.{list_all}
 use Rattle.std.specs.Option.{option_to_list}
 use Rattle.std.proofs.lemmas.Bool.{and_parts, false≢true, not-true, cases_eq, cases_lt, cond-true, cond-false}
-use Rattle.vq_model.specs.Plan.{Plan, has, chain, initial, value, previous, host_before, idle_after}
+use Rattle.vq_ground.proofs.Gets.{has_at}
+use Rattle.vq_ground.proofs.Searches.{find_least, find_none_from}
+use Rattle.vq_model.specs.Plan.{Plan, chain, initial, value, previous, host_before, idle_after}
+use Rattle.vq_ground.specs.Lists.{has}
 use Rattle.vq_model.specs.Edges.{AtEnd, must_finish}
 use Rattle.vq_model.specs.Lanes.{lane_at, KeepsLanes, IsJustBefore}
 use Rattle.vq_model.specs.Machine.{can_start, are_reached}
 use Rattle.vq_model.specs.SlowRun.{is_ready, payload_after, lowest_ready, is_of}
 use Rattle.vq_model.specs.WellFormed.{IsWellFormed}
-use Rattle.vq_model.proofs.Lists.{has-append_cases, has-append_left, has_here, has_there, has_cases, list_all_has}
+use Rattle.vq_ground.proofs.Lists.{has-append_cases, has-append_left, has_here, has_there, has_cases, list_all_has}
 use Rattle.vq_plan_laws.proofs.Cited.{ready_whole}
 use Rattle.vq_spec.specs.SlowProgress.{IsClosed, IsHead, AreHeads, IsLeastOf, lower}
-
--- an element stands in the list
-pub has_at : (xs : List ℕ) (i : ℕ) → i < length xs → has xs (get_or xs i 0) ≡ true
-has_at [] i h = absurd (omega arith)
-has_at (x ∷ xs) zero h = has_here x xs
-has_at (x ∷ xs) (suc i) h = has_there x xs (get_or xs i 0) (has_at xs i (omega arith))
 
 pub previous_first : (p : Plan) (k j : ℕ) → previous p j ≡ Some k → has (must_finish p j) k ≡ true
 previous_first p k j e =
@@ -25,18 +22,6 @@ previous_first p k j e =
     (has-append_left (option_to_list (previous p j)) (option_to_list (host_before p j)) k (ap (λ o. has (option_to_list o) k) e ∙ has_here k []))
 
 -- Finding the least number that passes a test
-
-pub find_none : (test : ℕ → Bool) (n a : ℕ) → ((i : ℕ) → a ≤ i → i < a + n → test i ≡ false) → find test (range_with_len a n) ≡ None
-find_none test zero a f = refl
-find_none test (suc n) a f =
-    cond-false (test a) (Some a) (find test (range_with_len (a + 1) n)) (f a (omega arith) (omega arith)) ∙ find_none test n (a + 1) (λ i l h. f i (omega arith) (omega arith))
-
-pub find_least : (test : ℕ → Bool) (n a j : ℕ) → a ≤ j → j < a + n → test j ≡ true → ((i : ℕ) → a ≤ i → i < j → test i ≡ false) → find test (range_with_len a n) ≡ Some j
-find_least test zero a j l h t f = absurd (omega arith)
-find_least test (suc n) a j l h t f = elim (cases_eq a j) [
-  | inl e ↦ cond-true (test a) (Some a) (find test (range_with_len (a + 1) n)) (subst (λ z. test z ≡ true) (sym e) t) ∙ ap Some e
-  | inr e ↦ cond-false (test a) (Some a) (find test (range_with_len (a + 1) n)) (f a (omega arith) (grind arith)) ∙ find_least test n (a + 1) j (grind arith) (omega arith) t (λ i l h. f i (omega arith) h)
-]
 
 module _ (p : Plan) (lanes : KeepsLanes p) (done : List ℕ) (closed : IsClosed p done) where
   pub ready_first : (j : ℕ) → is_ready p done j ≡ true → (has done j ≡ false) × (list_all (has done) (must_finish p j) ≡ true)
@@ -87,7 +72,7 @@ module _ (p : Plan) (lanes : KeepsLanes p) (done : List ℕ) (closed : IsClosed 
           absurd (omega arith)
 
   pub no_head : (heads : List ℕ) → AreHeads p done heads → ((l : ℕ) → l ≤ length p.script.queues → get_or heads l 0 < length p.jobs → is_ready p done (get_or heads l 0) ≡ false) → lowest_ready p done ≡ None
-  no_head heads hs f = find_none (is_ready p done) (length p.jobs) 0 (λ i a b. low i (omega arith) (is_ready p done i) refl)
+  no_head heads hs f = find_none_from (is_ready p done) (length p.jobs) 0 (λ i a b. low i (omega arith) (is_ready p done i) refl)
     where
       low : (i : ℕ) → i < length p.jobs → (b : Bool) → is_ready p done i ≡ b → is_ready p done i ≡ false
       low i b false e = e

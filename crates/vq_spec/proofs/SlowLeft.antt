@@ -2,10 +2,11 @@
 use Rattle.std.proofs.Common.{◌≡◌, ℕ, suc, ◌+◌, Bool, true, false, if◌then◌else◌, not, List, [], ◌∷◌, ◌++◌, length, filter, refl, sym, ap, ◌∙◌, arith, zero-add}
 use Rattle.std.specs.List.{range_with_len}
 use Rattle.std.proofs.lemmas.List.Elements.{filter-append}
-use Rattle.vq_model.specs.Plan.{Plan, has}
+use Rattle.vq_model.specs.Plan.{Plan}
+use Rattle.vq_ground.specs.Lists.{has}
 use Rattle.vq_model.specs.SlowRun.{left_over, slow_order}
-use Rattle.vq_model.proofs.Numbers.{has-range_cases, range_push}
-use Rattle.vq_model.proofs.Filters.{same_filter}
+use Rattle.vq_ground.proofs.Numbers.{has-range_cases, range_push}
+use Rattle.vq_ground.proofs.Filters.{same_filter}
 use Rattle.vq_spec.specs.SlowProgress.{is_marked, AreMarks}
 
 -- one job more

@@ -7,9 +7,10 @@ use Rattle.vq_model.specs.declared.plan.PlanJob.{PlanJob}
 use Rattle.vq_model.specs.Edges.{AtEnd, must_finish}
 use Rattle.vq_model.specs.LoweringFaults.{IsPlan}
 use Rattle.vq_model.specs.Machine.{is_reached, are_reached}
-use Rattle.vq_model.specs.Plan.{Plan, has, needs, waits_for_any}
+use Rattle.vq_model.specs.Plan.{Plan, needs, waits_for_any}
+use Rattle.vq_ground.specs.Lists.{has}
 use Rattle.vq_model.specs.SlowRun.{payload_after}
-use Rattle.vq_model.proofs.Lists.{has_here, has_there}
+use Rattle.vq_ground.proofs.Lists.{has_here, has_there}
 use Rattle.vq_plan_laws.proofs.Cited.{plan_lanes, plan_semaphores}
 use Rattle.vq_spec.specs.Jobs.{finished_before}
 use Rattle.vq_spec.specs.SlowProgress.{is_marked, payload_in, AreMarks, ArePayloads}

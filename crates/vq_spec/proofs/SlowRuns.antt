@@ -6,25 +6,26 @@ use Rattle.std.proofs.lemmas.Bool.{false≢true}
 use Rattle.std.proofs.lemmas.Grind.{flat_map-append}
 use Rattle.std.proofs.lemmas.List.{append-nil, take_more}
 use Rattle.std.proofs.lemmas.List.Elements.{filter_map-append}
+use Rattle.vq_ground.proofs.Gets.{has_at}
 use Rattle.vq_model.specs.declared.script.Script.{Script}
 use Rattle.vq_model.specs.declared.script.Command.{Command}
 use Rattle.vq_model.specs.declared.script.CommandLine.{CommandLine}
-use Rattle.vq_model.specs.Plan.{Plan, has, command_at, commands_of}
+use Rattle.vq_model.specs.Plan.{Plan, command_at, commands_of}
+use Rattle.vq_ground.specs.Lists.{has}
 use Rattle.vq_model.specs.Memory.{Memory, HasSizes, effect, after_all, zeros_of}
 use Rattle.vq_model.specs.Ranges.{Fits}
 use Rattle.vq_model.specs.SlowRun.{command_list, is_ready, lowest_ready, slow_from, slow_order, bytes_after, zeros}
 use Rattle.vq_model.specs.LoweringFaults.{IsPlan}
 use Rattle.vq_model.specs.SameScript.{IsRead}
 use Rattle.vq_model.specs.ValidScripts.{sizes_of}
-use Rattle.vq_model.proofs.Lists.{has-append_cases, has_cases}
-use Rattle.vq_model.proofs.Numbers.{has-range_cases}
+use Rattle.vq_ground.proofs.Lists.{has-append_cases, has_cases}
+use Rattle.vq_ground.proofs.Numbers.{has-range_cases}
 use Rattle.vq_plan_laws.proofs.Cited.{plan_well_formed}
-use Rattle.vq_model.proofs.Searches.{find_member}
+use Rattle.vq_ground.proofs.Searches.{find_member}
 use Rattle.vq_model.proofs.Sizes.{sizes-zeros_of}
 use Rattle.vq_model.specs.Limits.{limits_of}
 use Rattle.vq_reading_laws.proofs.Cited.{read_valid}
 use Rattle.vq_transfer.proofs.Cited.{has_own_sizes}
-use Rattle.vq_spec.proofs.SlowHeads.{has_at}
 
 -- Sizes
 
@@ -60,7 +61,7 @@ module _ (p : Plan) (h : IsPlan p) (j k : ℕ) (inside : k < length (commands_of
 
 -- Bytes
 
-after_all-append : (a b : List Command) (m : Memory) →
+pub after_all-append : (a b : List Command) (m : Memory) →
     after_all (a ++ b) m ≡ after_all b (after_all a m)
 after_all-append [] b m = refl
 after_all-append (c ∷ a) b m = after_all-append a b (effect c m)
@@ -143,3 +144,10 @@ zeros_are p h s e m a =
     let sizes : sizes_of s ≡ p.sizes = ap sizes_of e ∙ sym (sizes_of_plan p h) in
     let all : m ≡ zeros p = a ∙ ap zeros_of sizes in
     (all, ap (map length) all ∙ sizes-zeros_of p.sizes)
+
+-- one command more is run last
+pub bytes_push : (p : Plan) (log : List ℕ) (c : ℕ) (x : Command) → command_at p c ≡ Some x → bytes_after p (log ++ c ∷ []) ≡ effect x (bytes_after p log)
+bytes_push p log c x is =
+    ap (λ (cs : List Command). after_all cs (zeros p)) (filter_map-append (command_at p) log (c ∷ []))
+    ∙ (after_all-append (filter_map (command_at p) log) (filter_map (command_at p) (c ∷ [])) (zeros p)
+    ∙ ap (λ (o : Option Command). after_all (cons_option o []) (bytes_after p log)) is)

@@ -1,34 +1,29 @@
 -- One more job is done: marks, heads and payloads follow.
-use Rattle.std.proofs.Common.{◌≡◌, ◌≢◌, ℕ, zero, suc, ◌+◌, ◌<◌, ◌≤◌, max, Bool, true, false, eqb, List, [], ◌∷◌, ◌++◌, length, get_or, replicate, take, filter, fold, map, Option, Some, None, option_map, refl, sym, ap, ◌∙◌, ◌⊎◌, inl, inr, subst, arith}
+use Rattle.std.proofs.Common.{◌≡◌, ◌≢◌, ℕ, zero, suc, ◌+◌, ◌<◌, ◌≤◌, max, Bool, true, false, List, [], ◌∷◌, ◌++◌, length, get_or, replicate, take, filter, fold, map, Option, Some, None, option_map, refl, sym, ap, ◌∙◌, ◌⊎◌, inl, inr, subst, arith}
 use Rattle.std.proofs.Math.ListN.{set, get_or-append}
 use Rattle.std.specs.List.{range_with_len}
 use Rattle.std.specs.Option.{option_map_or}
 use Rattle.std.proofs.lemmas.List.{get_or-set_same, get_or-set_other, length-set, length-append, length-replicate, get_or-replicate}
 use Rattle.std.proofs.Math.Seq.{get_or-append_seam, take-append_seam}
-use Rattle.std.proofs.lemmas.Bool.{false≢true, cases_eq, cases_lt, or_cases, or_left, or_right, or_from, ne_eqb, cond-false}
-use Rattle.vq_model.specs.Plan.{Plan, has, job_of, chain_of, chain, initial, value, signals_of}
+use Rattle.std.proofs.lemmas.Bool.{false≢true, cases_eq, cases_lt, or_cases, or_left, or_right, cond-false}
+use Rattle.std.proofs.lemmas.Option.{slice_get_past}
+use Rattle.vq_model.specs.Plan.{Plan, job_of, chain_of, chain, initial, value, signals_of}
+use Rattle.vq_ground.specs.Lists.{has}
 use Rattle.vq_model.specs.Edges.{must_finish}
 use Rattle.vq_model.specs.Lanes.{lane_at, KeepsLanes}
 use Rattle.vq_model.specs.SlowRun.{is_ready, is_of, payload_after, lowest_ready, slow_from}
 use Rattle.vq_model.specs.WellFormed.{IsWellFormed}
-use Rattle.vq_model.proofs.Lists.{has-append, has-append_cases, has-append_left, has-append_right, has_here, has_cases, list_all_has}
-use Rattle.vq_model.proofs.Searches.{find_passes}
-use Rattle.vq_model.proofs.Numbers.{has-range_cases}
-use Rattle.vq_model.proofs.Searches.{find_member}
+use Rattle.vq_ground.proofs.Lists.{has-append_left, has-append_right, has_here, list_all_has, not_pushed, pushed}
+use Rattle.vq_ground.proofs.Searches.{find_passes}
+use Rattle.vq_ground.proofs.Numbers.{has-range_cases}
+use Rattle.vq_ground.proofs.Searches.{find_member}
 use Rattle.vq_spec.specs.SlowProgress.{IsClosed, IsHead, AreHeads, AreMarks, ArePayloads, IsPayloadOf, with_some, PayloadsWith, IsProgress}
 use Rattle.vq_spec.proofs.SlowHeads.{ready_first, lane_done, payload_is, one_payload}
-use Rattle.vq_model.proofs.Gets.{slice_get_past}
-use Rattle.vq_model.proofs.Bools.{same_tests}
-
-last : (done : List ℕ) (j q : ℕ) → has (done ++ j ∷ []) q ≡ true → (has done q ≡ true) ⊎ (j ≡ q)
-last done j q h = elim (has-append_cases done (j ∷ []) q h) [ inl m ↦ inl m | inr m ↦ elim (has_cases j [] q m) [ inl e ↦ inr e | inr t ↦ absurd (false≢true t) ] ]
-
-absent : (done : List ℕ) (j q : ℕ) → has done q ≡ false → j ≢ q → has (done ++ j ∷ []) q ≡ false
-absent done j q e n = has-append done (j ∷ []) q ∙ or_from (has done q) (has (j ∷ []) q) e (or_from (eqb j q) false (ne_eqb j q n) refl)
+use Rattle.vq_ground.proofs.Bools.{same_tests}
 
 -- a job that is ready keeps what is done closed
 pub closed_push : (p : Plan) (lanes : KeepsLanes p) (done : List ℕ) (j : ℕ) → IsClosed p done → is_ready p done j ≡ true → IsClosed p (done ++ j ∷ [])
-closed_push p lanes done j closed r i q h m = elim (last done j q h) [
+closed_push p lanes done j closed r i q h m = elim (pushed done j q h) [
   | inl d ↦ has-append_left done (j ∷ []) i (closed i q d m)
   | inr e ↦ has-append_left done (j ∷ []) i (list_all_has (has done) (must_finish p j) i (ready_first p lanes done closed j r).1 (subst (λ z. has (must_finish p z) i ≡ true) (sym e) m))
 ]
@@ -39,7 +34,7 @@ marks_push p done marks j l m =
       count = length-set marks j true ∙ m.count;
       each = λ q h. elim (cases_eq q j) [
         | inl e ↦ subst (λ z. get_or (set marks j true) z false ≡ has (done ++ j ∷ []) z) (sym e) (get_or-set_same marks j true false (let n = m.count in omega arith) ∙ sym (has-append_right done (j ∷ []) j (has_here j [])))
-        | inr n ↦ get_or-set_other marks j q true false n ∙ (m.each q h ∙ same_tests (has done q) (has (done ++ j ∷ []) q) (λ t. has-append_left done (j ∷ []) q t) (λ t. elim (last done j q t) [ inl d ↦ d | inr e ↦ absurd (n (sym e)) ]))
+        | inr n ↦ get_or-set_other marks j q true false n ∙ (m.each q h ∙ same_tests (has done q) (has (done ++ j ∷ []) q) (λ t. has-append_left done (j ∷ []) q t) (λ t. elim (pushed done j q t) [ inl d ↦ d | inr e ↦ absurd (n (sym e)) ]))
       ];
     }
 
@@ -74,7 +69,7 @@ module _ (p : Plan) (lanes : KeepsLanes p) (done : List ℕ) (closed : IsClosed 
               ]
             ];
             in_lane = in_lane;
-            waits = λ l. absent done j next (later_waits next up l (in_lane l)) (λ q. (let k : j < j = subst (λ z. j < z) (sym q) up in omega arith));
+            waits = λ l. not_pushed done j next (later_waits next up l (in_lane l)) (λ q. (let k : j < j = subst (λ z. j < z) (sym q) up in omega arith));
           }
 
       each : (l : ℕ) → l ≤ length p.script.queues → ((l ≡ lane_at p j) ⊎ (l ≢ lane_at p j)) → IsHead p (done ++ j ∷ []) l (get_or (set heads (lane_at p j) next) l 0)
@@ -85,7 +80,7 @@ module _ (p : Plan) (lanes : KeepsLanes p) (done : List ℕ) (closed : IsClosed 
             within = old.within;
             before = λ i h e. has-append_left done (j ∷ []) i (old.before i h e);
             in_lane = old.in_lane;
-            waits = λ h. absent done j (get_or heads l 0) (old.waits h) (λ q. n (sym (old.in_lane h) ∙ ap (lane_at p) (sym q)));
+            waits = λ h. not_pushed done j (get_or heads l 0) (old.waits h) (λ q. n (sym (old.in_lane h) ∙ ap (lane_at p) (sym q)));
           })
 
 -- Payloads while the signals of a job are made
@@ -94,7 +89,7 @@ module _ (p : Plan) (w : IsWellFormed p) (done : List ℕ) where
   push_cases : (signals : List ℕ) (e f : ℕ) → with_some p done (signals ++ e ∷ []) f ≡ true → (with_some p done signals f ≡ true) ⊎ (e ≡ f)
   push_cases signals e f h = elim (or_cases (is_of p done f) (has (signals ++ e ∷ []) f) h) [
     | inl a ↦ inl (or_left (is_of p done f) (has signals f) a)
-    | inr a ↦ elim (last signals e f a) [ inl b ↦ inl (or_right (is_of p done f) (has signals f) b) | inr b ↦ inr b ]
+    | inr a ↦ elim (pushed signals e f a) [ inl b ↦ inl (or_right (is_of p done f) (has signals f) b) | inr b ↦ inr b ]
   ]
 
   push_old : (signals : List ℕ) (e f : ℕ) → with_some p done signals f ≡ true → with_some p done (signals ++ e ∷ []) f ≡ true
@@ -147,7 +142,7 @@ module _ (p : Plan) (w : IsWellFormed p) (done : List ℕ) where
     where
       to : (o : Option ℕ) → job_of p e ≡ o → is_of p (done ++ j ∷ []) e ≡ true → with_some p done (signals_of p j) e ≡ true
       to None q h = absurd (false≢true (sym (ap (λ x. option_map_or (has (done ++ j ∷ [])) x false) q) ∙ h))
-      to (Some i) q h = elim (last done j i (sym (ap (λ x. option_map_or (has (done ++ j ∷ [])) x false) q) ∙ h)) [
+      to (Some i) q h = elim (pushed done j i (sym (ap (λ x. option_map_or (has (done ++ j ∷ [])) x false) q) ∙ h)) [
         | inl d ↦ or_left (is_of p done e) (has (signals_of p j) e) (ap (λ x. option_map_or (has done) x false) q ∙ d)
         | inr s ↦ or_right (is_of p done e) (has (signals_of p j) e) (w.in_job e j (q ∙ ap Some (sym s)))
       ]

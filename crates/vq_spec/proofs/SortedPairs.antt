@@ -12,8 +12,8 @@ use Rattle.std.proofs.lemmas.List.Sorted.{sorted_far, ranks_by, All-permutation,
 use Rattle.std.proofs.lemmas.List.Elements.{recursion_from_All}
 use Rattle.std.proofs.lemmas.List.{get_or_default}
 use Rattle.std.proofs.lemmas.List.Sums.{sum_by-cons}
-use Rattle.vq_model.specs.Plan.{has}
-use Rattle.vq_model.proofs.Lists.{has_there, has_cases}
+use Rattle.vq_ground.specs.Lists.{has}
+use Rattle.vq_ground.proofs.Lists.{has_there, has_cases}
 use Rattle.vq_spec.specs.ChainParts.{pair_cmp, is_before, place_in}
 
 -- Pairs

@@ -3,7 +3,7 @@ use Rattle.std.proofs.Common.{◌≡◌, ℕ, ◌+◌, ◌-◌, ◌*◌, ◌^◌
 use Rattle.std.proofs.lemmas.List.Elements.{filter-append}
 use Rattle.std.specs.List.{range_with_len, slice_get}
 use Rattle.std.specs.Option.{option_map_or}
-use Rattle.vq_model.proofs.Numbers.{range_push}
+use Rattle.vq_ground.proofs.Numbers.{range_push}
 use Rattle.vq_model.specs.declared.plan.PlanJob.{PlanJob}
 use Rattle.vq_model.specs.declared.plan.Question.TheVariants.{Silent}
 use Rattle.vq_model.specs.declared.script.Buffer.{Buffer}

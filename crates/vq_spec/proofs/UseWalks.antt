@@ -25,7 +25,7 @@ use Rattle.vq_model.specs.LoweringFaults.{Use, Waited as IsWaited, Signaled as I
 use Rattle.vq_model.specs.SameScript.{IsRead}
 use Rattle.vq_model.specs.Signals.{kind_of, is_timeline_at, is_counted_at}
 use Rattle.vq_model.specs.ValidScripts.{is_fence_at, IsValidMark, IsValidFence, IsValidBatch, IsValidStep}
-use Rattle.vq_model.proofs.Gets.{get_some}
+use Rattle.vq_ground.proofs.Gets.{get_some}
 use Rattle.vq_reading_laws.proofs.Cited.{kind_exists, read_batches, read_steps}
 use Rattle.vq_spec.specs.declared.uses.Usage.{Usage}
 use Rattle.vq_spec.specs.declared.uses.Usage.TheVariants.{Waited, Signaled, Named, Reset}

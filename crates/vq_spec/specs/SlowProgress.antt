@@ -2,7 +2,8 @@
 use Rattle.std.specs.Prelude.{ℕ, ◌≡◌, ◌<◌, ◌≤◌, ◌+◌, Bool, true, false, List, length, get_or, min}
 use Rattle.std.specs.Prelude.{Option, Some, None}
 use Rattle.std.specs.Prelude.{◌⊎◌, ◌||◌}
-use Rattle.vq_model.specs.Plan.{Plan, has, chain, initial, value}
+use Rattle.vq_model.specs.Plan.{Plan, chain, initial, value}
+use Rattle.vq_ground.specs.Lists.{has}
 use Rattle.vq_model.specs.Edges.{must_finish}
 use Rattle.vq_model.specs.SlowRun.{payload_after, is_of}
 use Rattle.vq_model.specs.Lanes.{lane_at}

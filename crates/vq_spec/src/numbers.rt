@@ -1,7 +1,7 @@
 //! The numbers from 0 on. A job's commands and signals follow one another, so each is a part of these.
 ghost use Rattle.std.specs.Prelude.{◌≡◌, ◌<◌, ℕ, true, length, IfOk};
 ghost use Rattle.std.specs.List.{range_with_len};
-ghost use Rattle.vq_model.specs.Plan.{has};
+ghost use Rattle.vq_ground.specs.Lists.{has};
 
 use std::alloc::{AllocError, Global};
 use vq_model::indices::Indices;

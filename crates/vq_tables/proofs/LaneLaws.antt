@@ -1,31 +1,5 @@
 -- What changes of one lane leave of the lanes' table.
-use Rattle.std.proofs.Common.{
-  ◌≡◌,
-  ℕ,
-  zero,
-  suc,
-  ◌+◌,
-  ◌<◌,
-  ◌==◌,
-  ◌&&◌,
-  Bool,
-  true,
-  false,
-  List,
-  ◌∷◌,
-  length,
-  get_or,
-  set,
-  Some,
-  refl,
-  sym,
-  ap,
-  ◌∙◌,
-  inl,
-  inr,
-  subst,
-  arith,
-}
+use Rattle.std.proofs.Common.{◌≡◌, ℕ, zero, suc, ◌+◌, ◌<◌, ◌==◌, ◌&&◌, Bool, true, false, List, ◌∷◌, length, get_or, set, Some, refl, sym, ap, ◌∙◌, inl, inr, subst, arith}
 use Rattle.std.specs.Prelude.{count_by}
 use Rattle.std.specs.List.{slice_get, list_any}
 use Rattle.std.proofs.lemmas.Bool.{false≢true, eqb-true, eq-eqb, ne_eqb, and_parts, cases_eq, cases_lt}
@@ -37,12 +11,12 @@ use Rattle.vq_model.specs.declared.plan.PlanJob.{PlanJob}
 use Rattle.vq_model.specs.Lanes.{lane_number, lane_at}
 use Rattle.vq_model.specs.Machine.{put}
 use Rattle.vq_model.specs.Plan.{Plan}
-use Rattle.vq_model.proofs.Gets.{get_within, get_some}
+use Rattle.vq_ground.proofs.Gets.{get_within, get_some, place_in, get_has}
 use Rattle.vq_model.specs.Naming.{same_actor}
 use Rattle.vq_model.proofs.Actors.{same_actor_is, same_actor_self}
-use Rattle.vq_points.specs.Points.{Reference, jobs_of_lane, actor_of_lane, without_first, is_reference}
+use Rattle.vq_point_laws.specs.Points.{Reference, jobs_of_lane, actor_of_lane, without_first, is_reference}
 use Rattle.vq_core_laws.specs.Firsts.{AreFirst, StandOnce}
-use Rattle.vq_core_laws.proofs.Cited.{Facts, put_next, put_other, stands, place_in, lane_once, lane_has, in_lane, rising_less, lane_rises, lane_at_is}
+use Rattle.vq_core_laws.proofs.Cited.{Facts, put_next, put_other, lane_once, lane_has, in_lane, rising_less, lane_rises, lane_at_is}
 use Rattle.vq_tables.specs.declared.lanes.LaneState.{LaneState}
 use Rattle.vq_tables.specs.Lanes.{AreLanes, IsLane, lane_named, no_lane}
 use Rattle.vq_tables.proofs.LaneNext.{named, own}
@@ -77,7 +51,7 @@ module _ (p : Plan) (f : Facts p) (released finished : ℕ →
     -- a job isn't of another lane
     not_in : (k : ℕ) → (k ≡ lane_number x.lane → ⊥) → (i : ℕ) → slice_get (jobs_of_lane p (lane_named k)) i ≡ Some j → ⊥
     not_in k n i e =
-        let m = in_lane p (lane_named k) j (stands (jobs_of_lane p (lane_named k)) i j e) in
+        let m = in_lane p (lane_named k) j (get_has (jobs_of_lane p (lane_named k)) i j e) in
         let same : m.job ≡ x = let z = sym m.at ∙ at in cc in
         n (named_once k x.lane (sym m.lane_is ∙ ap (λ (y : PlanJob). y.lane) same))
 
@@ -204,8 +178,8 @@ module _ (p : Plan) (f : Facts p) (released finished : ℕ →
                 let w = get_within (jobs_of_lane p x.lane) i j is in
                 let y = get_some (jobs_of_lane p x.lane) s.finished (omega arith) in
                 let less = rising_less (jobs_of_lane p x.lane) (lane_rises p x.lane) s.finished i y.0 j y.1 is m in
-                let mine = lane_at_is p x.lane j (in_lane p x.lane j (stands (jobs_of_lane p x.lane) i j is)) in
-                let other = lane_at_is p x.lane y.0 (in_lane p x.lane y.0 (stands (jobs_of_lane p x.lane) s.finished
+                let mine = lane_at_is p x.lane j (in_lane p x.lane j (get_has (jobs_of_lane p x.lane) i j is)) in
+                let other = lane_at_is p x.lane y.0 (in_lane p x.lane y.0 (get_has (jobs_of_lane p x.lane) s.finished
                 y.0 y.1)) in
                 false≢true (sym (first.after s.finished y.0 y.1 (omega arith)) ∙ before y.0 less (other ∙ sym mine))
 

@@ -32,10 +32,10 @@ use Rattle.vq_model.specs.declared.plan.Lane.TheVariants.{Host as HostLane, Queu
 use Rattle.vq_model.specs.declared.plan.PlanJob.{PlanJob}
 use Rattle.vq_model.specs.Lanes.{lane_number}
 use Rattle.vq_model.specs.Machine.{next}
-use Rattle.vq_model.specs.Plan.{Plan, has}
-use Rattle.vq_model.specs.WellFormed.{AreRising}
-use Rattle.vq_model.proofs.Gets.{get_within}
-use Rattle.vq_points.specs.Points.{PointState, next_job, Reference, jobs_of_lane, earlier_in_queue}
+use Rattle.vq_model.specs.Plan.{Plan}
+use Rattle.vq_ground.specs.Lists.{has, AreRising}
+use Rattle.vq_ground.proofs.Gets.{get_within}
+use Rattle.vq_point_laws.specs.Points.{PointState, next_job, Reference, jobs_of_lane, earlier_in_queue}
 use Rattle.vq_core_laws.proofs.Cited.{next_of, next_is, turn_first, first_turn, lane_rises, lane_has}
 use Rattle.vq_tables.specs.declared.lanes.LaneState.{LaneState}
 use Rattle.vq_tables.specs.Lanes.{AreLanes, IsLane, lane_named, no_lane}

@@ -1,86 +1,28 @@
 -- What changes leave of the notes on references.
-use Rattle.std.proofs.Common.{
-  ◌≡◌,
-  ℕ,
-  zero,
-  suc,
-  ◌+◌,
-  ◌-◌,
-  ◌<◌,
-  ◌==◌,
-  ◌&&◌,
-  not,
-  Bool,
-  true,
-  false,
-  List,
-  [],
-  ◌∷◌,
-  length,
-  get_or,
-  set,
-  Option,
-  Some,
-  None,
-  refl,
-  sym,
-  ap,
-  ◌∙◌,
-  inl,
-  inr,
-  subst,
-  arith,
-}
+use Rattle.std.proofs.Common.{◌≡◌, ℕ, zero, suc, ◌+◌, ◌-◌, ◌<◌, ◌==◌, ◌&&◌, not, Bool, true, false, List, [], ◌∷◌, length, get_or, set, Option, Some, None, refl, sym, ap, ◌∙◌, inl, inr, subst, arith}
 use Rattle.std.specs.Prelude.{count_by}
 use Rattle.std.specs.List.{slice_get, list_any, position_or_len}
 use Rattle.std.specs.Option.{option_map_or}
-use Rattle.std.proofs.lemmas.Bool.{
-  false≢true,
-  eqb-true,
-  eq-eqb,
-  ne_eqb,
-  and_parts,
-  and_from,
-  cases_eq,
-  cases_lt,
-  or_cases,
-  or_left,
-  or_right,
-  cond-true,
-  cond-false,
-}
+use Rattle.std.proofs.lemmas.Bool.{false≢true, eqb-true, eq-eqb, ne_eqb, and_parts, and_from, cases_eq, cases_lt, or_cases, or_left, or_right, cond-true, cond-false}
 use Rattle.std.proofs.lemmas.List.{length-set, get_or-set_same, get_or-set_other}
 use Rattle.std.proofs.lemmas.List.Sums.{sum_by-cons}
+use Rattle.std.proofs.lemmas.Option.{slice_get_past}
 use Rattle.vq_model.specs.declared.script.ActorName.{ActorName}
-use Rattle.vq_model.specs.declared.script.ActorName.TheVariants.{
-  Host as HostActor,
-  Submit as SubmitActor,
-  Ring as
-      RingActor,
-}
+use Rattle.vq_model.specs.declared.script.ActorName.TheVariants.{Host as HostActor, Submit as SubmitActor, Ring as RingActor}
 use Rattle.vq_model.specs.declared.plan.Lane.{Lane}
 use Rattle.vq_model.specs.declared.plan.Lane.TheVariants.{Host as HostLane, Queue as QueueLane}
 use Rattle.vq_model.specs.declared.plan.Need.{Need}
 use Rattle.vq_model.specs.declared.plan.PlanJob.{PlanJob}
 use Rattle.vq_model.specs.Machine.{next, put}
 use Rattle.vq_model.specs.Plan.{Plan, needs, resolver}
-use Rattle.vq_model.proofs.Gets.{get_within, get_some, slice_get_past}
+use Rattle.vq_ground.proofs.Gets.{get_within, get_some}
 use Rattle.vq_model.proofs.Puts.{put_here, put_there}
-use Rattle.vq_model.proofs.Searches.{find_member}
+use Rattle.vq_ground.proofs.Searches.{find_member}
 use Rattle.vq_model.specs.Naming.{same_actor}
 use Rattle.vq_model.proofs.Actors.{same_actor_is, same_actor_self}
 use Rattle.vq_history_laws.proofs.Cited.{counted_any}
 use Rattle.vq_history_laws.specs.Measure.{one}
-use Rattle.vq_points.specs.Points.{
-  Reference,
-  jobs_of_lane,
-  actor_of_lane,
-  resolves,
-  needs_resolved,
-  count_of,
-  is_reference,
-  without_first,
-}
+use Rattle.vq_point_laws.specs.Points.{Reference, jobs_of_lane, actor_of_lane, resolves, needs_resolved, count_of, is_reference, without_first}
 use Rattle.vq_core_laws.proofs.Cited.{in_lane, next_put, next_none}
 use Rattle.vq_tables.specs.declared.notes.Note.{Note}
 use Rattle.vq_tables.specs.Notes.{AreNotes, IsNote, place_in, next_by, held_by, no_note}

@@ -1,59 +1,21 @@
 -- The tables before the first event.
-use Rattle.std.proofs.Common.{
-  ◌≡◌,
-  ℕ,
-  zero,
-  suc,
-  ◌+◌,
-  ◌<◌,
-  ◌≤◌,
-  ◌++◌,
-  ◌∷◌,
-  [],
-  Bool,
-  true,
-  false,
-  List,
-  length,
-  get_or,
-  set,
-  map,
-  take,
-  filter,
-  replicate,
-  Some,
-  None,
-  refl,
-  sym,
-  ap,
-  ◌∙◌,
-  inl,
-  inr,
-  subst,
-  arith,
-}
+use Rattle.std.proofs.Common.{◌≡◌, ℕ, zero, suc, ◌+◌, ◌<◌, ◌≤◌, ◌++◌, ◌∷◌, [], Bool, true, false, List, length, get_or, set, map, take, filter, replicate, Some, None, refl, sym, ap, ◌∙◌, inl, inr, subst, arith}
 use Rattle.std.specs.Prelude.{sum, count_by, ◌||◌}
 use Rattle.std.specs.List.{slice_get, range_with_len}
 use Rattle.std.specs.Option.{option_map_or}
 use Rattle.std.proofs.lemmas.Bool.{cases_lt, cases_eq, cond-true, cond-false, ne_eqb}
-use Rattle.std.proofs.lemmas.List.{
-  get_or_past,
-  get_or_push,
-  get_or_append_left,
-  length-replicate,
-  get_or-set_same,
-  get_or-set_other,
-  length-set,
-}
+use Rattle.std.proofs.lemmas.List.{get_or_past, get_or_push, get_or_append_left, length-replicate, get_or-set_same, get_or-set_other, length-set}
+use Rattle.std.proofs.lemmas.Option.{slice_get_past}
 use Rattle.vq_model.specs.declared.plan.Lane.{Lane}
 use Rattle.vq_model.specs.declared.plan.PlanJob.{PlanJob}
 use Rattle.vq_model.specs.Lanes.{lane_number, KeepsLanes, KeepsSemaphores}
-use Rattle.vq_model.specs.Plan.{Plan, initial, needs, of_job, same_lane, has, chain, value}
-use Rattle.vq_model.proofs.Gets.{slice_get_past}
-use Rattle.vq_model.proofs.Lists.{has_here, has_there}
+use Rattle.vq_model.specs.Plan.{Plan, initial, needs, of_job, same_lane, chain, value}
+use Rattle.vq_ground.specs.Lists.{has}
+use Rattle.vq_ground.proofs.Gets.{has_at, place_in}
+use Rattle.vq_ground.proofs.Lists.{has_here, has_there}
 use Rattle.std.proofs.lemmas.List.Sums.{sum_by-cons, count_by-le-length}
-use Rattle.vq_points.specs.Points.{opening_points, jobs_of_lane}
-use Rattle.vq_core_laws.proofs.Cited.{ordered_once, count_raised, place_in as place_of, same_lane_self, in_lane, InLane, lane_at_is, opening_timeline}
+use Rattle.vq_point_laws.specs.Points.{opening_points, jobs_of_lane}
+use Rattle.vq_core_laws.proofs.Cited.{ordered_once, count_raised, same_lane_self, in_lane, InLane, lane_at_is, opening_timeline}
 use Rattle.vq_tables.specs.declared.lanes.LaneState.{LaneState}
 use Rattle.vq_tables.specs.declared.notes.Note.{Note}
 use Rattle.vq_tables.specs.Lanes.{AreLanes, lane_named, no_lane}
@@ -63,12 +25,11 @@ use Rattle.vq_tables.specs.Tables.{ArePayloads, AreTimelines, no_timeline}
 use Rattle.vq_core_laws.specs.Firsts.{StandOnce}
 use Rattle.vq_core_laws.specs.TimelineOf.{IsTimelineOf}
 use Rattle.vq_model.specs.WellFormed.{IsWellFormed}
-use Rattle.vq_points.specs.Timeline.{Timeline, KeepsLists, new_timeline}
+use Rattle.vq_point_laws.specs.Timeline.{Timeline, KeepsLists, new_timeline}
 use Rattle.std.proofs.lemmas.List.FromFn.{length-range_with_len}
 use Rattle.vq_model.proofs.Actors.{same_lane_is}
 use Rattle.vq_model.proofs.Plans.{op_within}
 use Rattle.vq_tables.proofs.LaneLaws.{named_once}
-use Rattle.vq_spec.proofs.Cited.{has_at}
 use Rattle.vq_tables.proofs.LaneNext.{named}
 
 pub replicate_same : {A : Type 0} (n i : ℕ) (x : A) → get_or (replicate n x) i x ≡ x
@@ -303,7 +264,7 @@ once_few n (x ∷ xs) once below =
 
     by_test : (b : Bool) → has xs x ≡ b → b ≡ false
     by_test false e = refl
-    by_test true e = let p = place_of xs x e in let z = once 0 (suc p.0) x refl p.1 in absurd (omega arith)
+    by_test true e = let p = place_in xs x e in let z = once 0 (suc p.0) x refl p.1 in absurd (omega arith)
 
 pub chain_few : (p : Plan) → IsWellFormed p → (t : ℕ) → length (chain p t) ≤ length p.ops
 chain_few p wf t =

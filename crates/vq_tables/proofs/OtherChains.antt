@@ -8,9 +8,9 @@ use Rattle.vq_model.specs.declared.plan.Need.{Need}
 use Rattle.vq_model.specs.declared.plan.Op.{Op}
 use Rattle.vq_model.specs.LoweringFaults.{IsPlan}
 use Rattle.vq_model.specs.Plan.{Plan, chain, chain_of, resolver, value}
-use Rattle.vq_model.proofs.Searches.{find_member}
+use Rattle.vq_ground.proofs.Searches.{find_member}
 use Rattle.vq_plan_laws.proofs.Cited.{plan_well_formed}
-use Rattle.vq_points.specs.Points.{resolves}
+use Rattle.vq_point_laws.specs.Points.{resolves}
 
 pub never_resolves : (p : Plan) → IsPlan p → (e : ℕ) (o : Op) (n : Need) → slice_get p.ops e ≡ Some o →
     (o.chain ≡ n.chain → ⊥) → resolves p e n ≡ false

@@ -1,66 +1,29 @@
 -- What a change of one item leaves of the tables.
-use Rattle.std.proofs.Common.{
-  ◌≡◌,
-  ℕ,
-  ◌+◌,
-  ◌<◌,
-  ◌==◌,
-  ◌++◌,
-  Bool,
-  true,
-  false,
-  not,
-  List,
-  [],
-  ◌∷◌,
-  length,
-  get_or,
-  set,
-  cond,
-  Option,
-  Some,
-  None,
-  is_some,
-  refl,
-  sym,
-  ap,
-  ◌∙◌,
-  inl,
-  inr,
-  subst,
-  arith,
-}
+use Rattle.std.proofs.Common.{◌≡◌, ℕ, ◌+◌, ◌<◌, ◌==◌, ◌++◌, Bool, true, false, List, [], ◌∷◌, length, get_or, set, cond, Option, Some, None, is_some, refl, sym, ap, ◌∙◌, inl, inr, subst, arith}
 use Rattle.std.specs.Prelude.{count_by}
 use Rattle.std.specs.List.{slice_get, list_any, cons_option}
 use Rattle.std.proofs.lemmas.Bool.{cases_eq, false≢true, or_cases, cond-true, cond-false}
 use Rattle.std.proofs.lemmas.List.{get_or-set_same, get_or-set_other, length-set}
+use Rattle.vq_ground.proofs.Gets.{get_has}
 use Rattle.vq_model.specs.declared.script.Command.{Command}
 use Rattle.vq_model.specs.Machine.{put}
 use Rattle.vq_model.specs.Memory.{Memory, after_all, effect}
 use Rattle.vq_model.specs.declared.plan.Answer.{Answer}
-use Rattle.vq_model.specs.Plan.{Plan, has, commands_of, signals_of, command_at, job_of, question, asked}
+use Rattle.vq_model.specs.Plan.{Plan, commands_of, signals_of, command_at, job_of, question, asked}
+use Rattle.vq_ground.specs.Lists.{has}
 use Rattle.vq_model.specs.SlowRun.{bytes_after, command_list, zeros}
-use Rattle.vq_model.proofs.Lists.{has-append_left, has-append_right, has-append_cases, has_here, has_cases}
+use Rattle.vq_ground.proofs.Lists.{has-append_left, has-append_right, has-append_cases, has_here, has_cases}
 use Rattle.vq_model.proofs.Puts.{put_here, put_there}
 use Rattle.vq_history_laws.proofs.Cited.{count_cons}
 use Rattle.vq_history_laws.specs.Measure.{one}
-use Rattle.vq_points.specs.Points.{Reference, without_first}
+use Rattle.vq_point_laws.specs.Points.{Reference, without_first}
 use Rattle.vq_core_laws.specs.Firsts.{AreFirst}
-use Rattle.vq_core_laws.proofs.Cited.{Facts, put_next, put_other, rising_once, stands}
+use Rattle.vq_core_laws.proofs.Cited.{Facts, put_next, put_other, rising_once}
 use Rattle.vq_tables.specs.declared.answer_state.AnswerState.{AnswerState}
 use Rattle.vq_tables.specs.AnswerStates.{AreAnswerStates, IsAnswerState, not_asked, is_asked_reached, payload_read}
 use Rattle.vq_tables.specs.declared.table.JobRecord.{JobRecord}
 use Rattle.vq_tables.specs.declared.table.PointSlot.{PointSlot}
-use Rattle.vq_tables.specs.Tables.{
-  AreJobs,
-  IsJobState,
-  ArePoints,
-  IsSlot,
-  AreMade,
-  ArePayloads,
-  idle,
-  no_slot,
-}
+use Rattle.vq_tables.specs.Tables.{AreJobs, IsJobState, ArePoints, IsSlot, AreMade, ArePayloads, idle, no_slot}
 
 -- one item is put
 pub set_each : {A : Type 0} (P Q : ℕ → A → Type 0) (xs : List A) (d v : A) (j : ℕ) → j < length xs → ((k : ℕ) →
@@ -187,8 +150,8 @@ module _ (p : Plan) (released started finished made : ℕ →
                 is_finished =
                     h.is_finished;
                 first_commands = pushed_first (commands_of p k) s.commands (put_other (has applied)
-                    (commands_of p k) s.commands c h.first_commands (λ i e. n (f.formed.one_job c k j (stands
-                    (commands_of p k) i c e) (stands (commands_of p j) v.commands c is))));
+                    (commands_of p k) s.commands c h.first_commands (λ i e. n (f.formed.one_job c k j (get_has
+                    (commands_of p k) i c e) (get_has (commands_of p j) v.commands c is))));
                 first_signals =
                     h.first_signals;
               });
@@ -245,8 +208,8 @@ module _ (p : Plan) (released started finished made : ℕ →
                     h.is_finished;
                 first_commands = h.first_commands;
                 first_signals = put_other made (signals_of p k)
-                    s.signals e h.first_signals (λ i g. n (one_job e k j (f.formed.of_job e k (stands (signals_of p k)
-                    i e g)) (f.formed.of_job e j (stands (signals_of p j) v.signals e is))));
+                    s.signals e h.first_signals (λ i g. n (one_job e k j (f.formed.of_job e k (get_has (signals_of p k)
+                    i e g)) (f.formed.of_job e j (get_has (signals_of p j) v.signals e is))));
               });
         }
       where
@@ -471,26 +434,3 @@ count_same first test (r ∷ rs) f = by_test (first r) refl (count_same first te
         ap (count_by test) (cond-false (first r) rs (r ∷ without_first first rs) e) ∙ (omega arith)
 
 -- Bytes
-
-pub bytes_push : (p : Plan) (cs : List ℕ) (c : ℕ) (x : Command) → command_at p c ≡ Some x →
-    bytes_after p (cs ++ c ∷ []) ≡ effect x (bytes_after p cs)
-bytes_push p cs c x is = push cs (zeros p)
-  where
-    last : (m : Memory) → after_all (command_list p (c ∷ [])) m ≡ effect x m
-    last m = ap (λ o. after_all (cons_option o []) m) is
-
-    push : (cs : List ℕ) (m : Memory) → after_all (command_list p (cs ++ c ∷ [])) m ≡ effect x (after_all
-        (command_list p cs) m)
-    push [] m = last m
-    push (d ∷ ds) m = by_command (command_at p d) refl (λ n. push ds n)
-      where
-        by_command : (o : Option Command) → command_at p d ≡ o → ((n : Memory) →
-            after_all (command_list p (ds ++ c ∷ [])) n ≡ effect x (after_all (command_list p ds) n)) →
-            after_all (cons_option (command_at p d) (command_list p (ds ++ c ∷ []))) m ≡ effect x (after_all
-            (cons_option (command_at p d) (command_list p ds)) m)
-        by_command None e f =
-            ap (λ o. after_all (cons_option o (command_list p (ds ++ c ∷ []))) m) e ∙ (f m
-            ∙ sym (ap (λ o. effect x (after_all (cons_option o (command_list p ds)) m)) e))
-        by_command (Some y) e f =
-            ap (λ o. after_all (cons_option o (command_list p (ds ++ c ∷ []))) m) e ∙ (f (effect y m)
-            ∙ sym (ap (λ o. effect x (after_all (cons_option o (command_list p ds)) m)) e))

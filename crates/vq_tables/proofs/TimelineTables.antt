@@ -23,8 +23,8 @@ use Rattle.std.proofs.Common.{
 use Rattle.std.proofs.lemmas.Bool.{cases_eq}
 use Rattle.std.proofs.lemmas.List.{length-set, get_or-set_same, get_or-set_other}
 use Rattle.vq_model.specs.Plan.{Plan, chain, chain_of}
-use Rattle.vq_points.specs.Points.{PointState}
-use Rattle.vq_points.specs.Timeline.{Timeline, KeepsLists}
+use Rattle.vq_point_laws.specs.Points.{PointState}
+use Rattle.vq_point_laws.specs.Timeline.{Timeline, KeepsLists}
 use Rattle.std.specs.Option.{option_map_or}
 use Rattle.vq_core_laws.specs.Firsts.{AreFirst}
 use Rattle.vq_core_laws.specs.TimelineOf.{IsTimelineOf}

@@ -5,7 +5,7 @@ use Rattle.vq_model.specs.declared.plan.Lane.{Lane}
 use Rattle.vq_model.specs.declared.plan.Lane.TheVariants.{Host, Queue}
 use Rattle.vq_model.specs.Plan.{Plan}
 use Rattle.vq_model.specs.Naming.{same_actor}
-use Rattle.vq_points.specs.Points.{Reference, jobs_of_lane, actor_of_lane}
+use Rattle.vq_point_laws.specs.Points.{Reference, jobs_of_lane, actor_of_lane}
 use Rattle.vq_core_laws.specs.Firsts.{AreFirst}
 use Rattle.vq_tables.specs.declared.lanes.LaneState.{LaneState}
 

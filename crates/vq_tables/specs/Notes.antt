@@ -7,7 +7,7 @@ use Rattle.vq_model.specs.declared.script.ActorName.{ActorName}
 use Rattle.vq_model.specs.Machine.{next}
 use Rattle.vq_model.specs.Plan.{Plan, needs}
 use Rattle.vq_model.specs.Naming.{same_actor}
-use Rattle.vq_points.specs.Points.{Reference, jobs_of_lane, lane_of_actor, resolves, needs_resolved, count_of}
+use Rattle.vq_point_laws.specs.Points.{Reference, jobs_of_lane, lane_of_actor, resolves, needs_resolved, count_of}
 use Rattle.vq_tables.specs.declared.notes.Note.{Note}
 
 -- no reference and no look

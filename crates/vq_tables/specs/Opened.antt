@@ -4,7 +4,7 @@ use Rattle.std.specs.Vec.{vec_capacity}
 use Rattle.vq_model.specs.Memory.{zeros_of}
 use Rattle.vq_model.specs.Plan.{Plan, initial}
 use Rattle.vq_model.specs.ValidScripts.{sizes_of}
-use Rattle.vq_points.specs.Points.{opening_points}
+use Rattle.vq_point_laws.specs.Points.{opening_points}
 use Rattle.vq_history_laws.specs.Histories.{acts}
 use Rattle.vq_tables.specs.declared.opening.Opening.{Opening}
 use Rattle.vq_tables.specs.Lanes.{AreLanes}

@@ -3,9 +3,10 @@ use Rattle.std.specs.Prelude.{ℕ, Bool, List, length, count_by, ◌≡◌, ◌<
 use Rattle.std.specs.Prelude.{None, []}
 use Rattle.std.specs.Prelude.{nat_lt, ◌&&◌}
 use Rattle.std.specs.List.{slice_index_or}
-use Rattle.vq_model.specs.Plan.{Plan, has, commands_of, signals_of, is_batch}
-use Rattle.vq_points.specs.Points.{PointState, Reference, written_before}
-use Rattle.vq_points.specs.Timeline.{Timeline, KeepsLists, new_timeline}
+use Rattle.vq_model.specs.Plan.{Plan, commands_of, signals_of, is_batch}
+use Rattle.vq_ground.specs.Lists.{has}
+use Rattle.vq_point_laws.specs.Points.{PointState, Reference, written_before}
+use Rattle.vq_point_laws.specs.Timeline.{Timeline, KeepsLists, new_timeline}
 use Rattle.vq_core_laws.specs.Firsts.{AreFirst}
 use Rattle.vq_core_laws.specs.TimelineOf.{IsTimelineOf}
 use Rattle.vq_tables.specs.declared.table.JobRecord.{JobRecord}

@@ -2,7 +2,7 @@
 ghost use Rattle.std.specs.Prelude.{◌≡◌, ◌<◌, ◌&&◌, All, if◌then◌else◌, length, nat_lt, nat_le, count_by};
 ghost use Rattle.std.specs.Prelude.{true, false};
 ghost use Rattle.std.specs.List.{list_any, position_or_len};
-ghost use Rattle.vq_points.specs.Points.{resolves};
+ghost use Rattle.vq_point_laws.specs.Points.{resolves};
 
 use vq_spec::{Need, Plan};
 

@@ -6,7 +6,7 @@ ghost use Rattle.vq_model.specs.LoweringFaults.{IsPlan};
 ghost use Rattle.vq_model.specs.Memory.{zeros_of};
 ghost use Rattle.vq_model.specs.Plan.{chain, initial, value, is_batch};
 ghost use Rattle.vq_model.specs.ValidScripts.{sizes_of};
-ghost use Rattle.vq_points.specs.Points.{opening_points};
+ghost use Rattle.vq_point_laws.specs.Points.{opening_points};
 ghost use Rattle.vq_history_laws.specs.Histories.{acts};
 ghost use Rattle.vq_history_laws.specs.Measure.{one};
 ghost use Rattle.vq_tables.specs.Lanes.{AreLanes};

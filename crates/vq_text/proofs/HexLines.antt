@@ -4,7 +4,7 @@ use Rattle.std.specs.List.{flat_map, range_with_len, slice_range}
 use Rattle.std.proofs.lemmas.List.{take_min, length-drop, append-nil, take_at, drop_more, length-append, length-take}
 use Rattle.std.proofs.lemmas.Grind.{flat_map-append}
 use Rattle.vq_model.specs.OutputText.{hex_line, hex_lines, hex_byte, line_feed}
-use Rattle.vq_model.proofs.Numbers.{range_push}
+use Rattle.vq_ground.proofs.Numbers.{range_push}
 
 -- One line
 

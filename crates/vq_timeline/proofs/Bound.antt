@@ -5,7 +5,7 @@ use Rattle.std.specs.Option.{option_map_or}
 use Rattle.std.proofs.Common.{Option}
 use Rattle.vq_model.specs.declared.plan.Op.{Op}
 use Rattle.vq_model.specs.Plan.{chain_of}
-use Rattle.vq_points.specs.Timeline.{Timeline, KeepsLists, point_at, all_points, after_bind}
+use Rattle.vq_point_laws.specs.Timeline.{Timeline, KeepsLists, point_at, all_points, after_bind}
 use Rattle.vq_timeline_core.specs.Answers.{place_of}
 use Rattle.vq_timeline_core.specs.declared.answers.OpPlace.TheVariants.{Taken}
 use Rattle.vq_board_laws.specs.declared.view.JobState.{JobState}

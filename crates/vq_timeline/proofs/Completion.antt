@@ -5,8 +5,8 @@ use Rattle.vq_model.specs.declared.plan.Op.{Op}
 use Rattle.vq_model.specs.Plan.{chain}
 use Rattle.vq_point.specs.declared.PointWord.{PointWord}
 use Rattle.vq_point.specs.Word.{bits_of}
-use Rattle.vq_points.specs.PointWord.{parts, PointWord as Parts}
-use Rattle.vq_points.specs.Timeline.{Timeline, Entry, KeepsLists, first_pending, all_points, after_complete}
+use Rattle.vq_point_laws.specs.PointWord.{parts, PointWord as Parts}
+use Rattle.vq_point_laws.specs.Timeline.{Timeline, Entry, KeepsLists, first_pending, all_points, after_complete}
 use Rattle.vq_board_laws.specs.declared.view.View.{View}
 use Rattle.vq_board_laws.specs.MayPoints.{MayComplete}
 use Rattle.vq_board_laws.specs.PointSteps.{sees, completes}

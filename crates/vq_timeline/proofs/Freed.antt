@@ -1,8 +1,8 @@
 -- A shelf that freed a point, or found none that it could free.
 use Rattle.std.proofs.Common.{◌≡◌, ℕ, List, ◌∷◌, true, IsPermutation, sym, ap, ◌∙◌, subst}
-use Rattle.vq_model.specs.Plan.{has}
-use Rattle.vq_model.proofs.Lists.{has-append_right, has_here}
-use Rattle.vq_points.specs.Timeline.{Timeline, KeepsLists, all_points, after_free}
+use Rattle.vq_ground.specs.Lists.{has}
+use Rattle.vq_ground.proofs.Lists.{has-append_right, has_here}
+use Rattle.vq_point_laws.specs.Timeline.{Timeline, KeepsLists, all_points, after_free}
 use Rattle.vq_board_laws.specs.declared.view.View.{View}
 use Rattle.vq_board_laws.specs.PointSteps.{sees}
 use Rattle.vq_board.specs.declared.parts.Board.{Board}

@@ -2,8 +2,9 @@
 use Rattle.std.proofs.Common.{◌≡◌, ℕ, ◌<◌, List, [], ◌∷◌, ◌++◌, false, Some, None, IsPermutation, length, sym, ap, ◌∙◌, subst}
 use Rattle.std.specs.List.{slice_get}
 use Rattle.vq_model.specs.declared.plan.Op.{Op}
-use Rattle.vq_model.specs.Plan.{has, chain_of}
-use Rattle.vq_points.specs.Timeline.{Timeline, KeepsLists, point_at, all_points, after_take, fresh_points}
+use Rattle.vq_model.specs.Plan.{chain_of}
+use Rattle.vq_ground.specs.Lists.{has}
+use Rattle.vq_point_laws.specs.Timeline.{Timeline, KeepsLists, point_at, all_points, after_take, fresh_points}
 use Rattle.vq_timeline_core.specs.Answers.{place_of}
 use Rattle.vq_timeline_core.specs.declared.answers.OpPlace.TheVariants.{Without}
 use Rattle.vq_timeline_core.specs.declared.answers.Taken.TheVariants.{Reused, Fresh}

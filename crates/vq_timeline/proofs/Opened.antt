@@ -1,11 +1,12 @@
 -- A shelf before its first point.
 use Rattle.std.proofs.Common.{◌≡◌, ℕ, ◌<◌, length, map, get_or, sym, ap, ◌∙◌, subst}
+use Rattle.vq_ground.proofs.Gets.{has_at}
 use Rattle.vq_model.specs.Checks.{IsLawful}
 use Rattle.vq_model.specs.LoweringFaults.{IsPlan}
 use Rattle.vq_model.specs.Plan.{Plan, chain, initial, value}
 use Rattle.vq_model.proofs.Plans.{op_within}
 use Rattle.vq_plan_laws.proofs.Cited.{plan_well_formed}
-use Rattle.vq_points.specs.Timeline.{Timeline, KeepsLists, new_timeline}
+use Rattle.vq_point_laws.specs.Timeline.{Timeline, KeepsLists, new_timeline}
 use Rattle.vq_board_laws.specs.declared.view.Role.{Role}
 use Rattle.vq_board_laws.specs.declared.view.Role.TheVariants.{Shelf as ShelfRole}
 use Rattle.vq_board_laws.specs.declared.view.View.{View}
@@ -18,7 +19,6 @@ use Rattle.vq_timeline_laws.specs.Shelves.{AreListsOf}
 use Rattle.vq_timeline_laws.proofs.Cited.{fresh_lists}
 use Rattle.vq_timeline.specs.declared.parts.Shelf.{Shelf}
 use Rattle.vq_timeline.specs.Named.{IsShelfOf}
-use Rattle.vq_timeline.proofs.Retiring.{has_at}
 
 pub chain_op : (p : Plan) → IsPlan p → (t k : ℕ) → k < length (chain p t) → get_or (chain p t) k 0 < length p.ops
 chain_op p plan t k l =

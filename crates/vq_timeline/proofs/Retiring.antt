@@ -1,8 +1,6 @@
 -- Trying to retire points one after another.
-use Rattle.std.proofs.Common.{◌≡◌, ℕ, zero, suc, ◌<◌, ◌≤◌, List, [], ◌∷◌, ◌++◌, true, length, take, drop}
+use Rattle.std.proofs.Common.{◌≡◌, ℕ, zero, suc, ◌<◌, ◌≤◌, List, [], ◌∷◌, ◌++◌, length, take, drop}
 use Rattle.std.proofs.Common.{get_or, refl, ap, ◌∙◌, arith, inl, inr}
-use Rattle.vq_model.specs.Plan.{has}
-use Rattle.vq_model.proofs.Lists.{has_here, has_there}
 use Rattle.vq_board_laws.specs.declared.view.View.{View}
 use Rattle.vq_board.specs.declared.parts.Board.{Board}
 use Rattle.vq_board.specs.declared.parts.Pass.{Pass}
@@ -44,11 +42,6 @@ tried_of b x y qs of tried = (
 )
 
 -- Lists
-
-pub has_at : (xs : List ℕ) (k : ℕ) → k < length xs → has xs (get_or xs k 0) ≡ true
-has_at [] k l = absurd (omega arith)
-has_at (x ∷ xs) zero l = has_here x xs
-has_at (x ∷ xs) (suc k) l = has_there x xs (get_or xs k 0) (has_at xs k (omega arith))
 
 pub split_at : (xs : List ℕ) (k : ℕ) → k < length xs → xs ≡ take k xs ++ get_or xs k 0 ∷ drop (suc k) xs
 split_at [] k l = absurd (omega arith)

@@ -1,13 +1,14 @@
 -- What the proofs of the calls on a shelf share.
-use Rattle.std.proofs.Common.{◌≡◌, ℕ, zero, suc, ◌<◌, List, [], ◌∷◌, Bool, true, false, not, Option, Some, None}
+use Rattle.std.proofs.Common.{◌≡◌, ℕ, zero, suc, ◌<◌, List, [], ◌∷◌, Bool, true, false, Option, Some, None}
 use Rattle.std.proofs.Common.{length, map, option_map, refl, ap, ◌∙◌, arith}
 use Rattle.std.specs.List.{slice_get, slice_index_or}
 use Rattle.std.specs.Prelude.{if◌then◌else◌, nat_lt}
 use Rattle.std.proofs.lemmas.List.{length-map}
+use Rattle.std.proofs.lemmas.Option.{same_Some}
 use Rattle.vq_model.specs.declared.plan.Op.{Op}
 use Rattle.vq_model.specs.Plan.{Plan, chain, chain_of, value}
-use Rattle.vq_model.proofs.Gets.{get_within}
-use Rattle.vq_points.specs.Timeline.{Timeline, Entry, KeepsLists, point_at}
+use Rattle.vq_ground.proofs.Gets.{get_within}
+use Rattle.vq_point_laws.specs.Timeline.{Timeline, Entry, KeepsLists, point_at}
 use Rattle.vq_timeline_core.specs.Answers.{place_of, open_place}
 use Rattle.vq_timeline_core.specs.declared.answers.OpPlace.TheVariants.{Without, Past}
 use Rattle.vq_core_laws.proofs.Cited.{facts}
@@ -38,14 +39,11 @@ still_shelf b x core pass s board role plan lists kept = (
   },
 )
 
-pub same_some : {A : Type 0} (x y : A) → Some x ≡ Some y → x ≡ y
-same_some x y h = cc
-
 pub entry_of : (o : Option Entry) (i q : ℕ) → option_map {U = ℕ × ℕ} (λ (x : Entry). (x.index, x.point)) o ≡ Some (i, q) →
     o ≡ Some record { index = i; point = q }
 entry_of None i q h = absurd (cc)
 entry_of (Some x) i q h =
-    let same : (x.index, x.point) ≡ (i, q) = same_some (x.index, x.point) (i, q) h in
+    let same : (x.index, x.point) ≡ (i, q) = same_Some (x.index, x.point) (i, q) h in
     let index : x.index ≡ i = ap (λ (z : ℕ × ℕ). z.0) same in
     let point : x.point ≡ q = ap (λ (z : ℕ × ℕ). z.1) same in
     λ j. Some record { index = index j; point = point j }
@@ -54,10 +52,6 @@ pub get_at : (xs : List ℕ) (k d : ℕ) → k < length xs → slice_get xs k �
 get_at [] k d l = absurd (omega arith)
 get_at (x ∷ xs) zero d l = refl
 get_at (x ∷ xs) (suc k) d l = get_at xs k d (omega arith)
-
-pub not_false : (b : Bool) → not b ≡ false → b ≡ true
-not_false true h = refl
-not_false false h = absurd (cc)
 
 -- Places in the lists
 
@@ -86,7 +80,7 @@ without_point t i h = by_test (nat_lt i t.completed) h
 pub host_at : (p : Plan) (xs : List ℕ) (k e : ℕ) (d : Bool) → slice_get xs k ≡ Some e →
     slice_index_or (map (of_host p) xs) k d ≡ of_host p e
 host_at p [] k e d h = absurd (cc)
-host_at p (x ∷ xs) zero e d h = ap (of_host p) (same_some x e h)
+host_at p (x ∷ xs) zero e d h = ap (of_host p) (same_Some x e h)
 host_at p (x ∷ xs) (suc k) e d h = host_at p xs k e d h
 
 pub no_first : (xs : List ℕ) → slice_get xs 0 ≡ None → xs ≡ []

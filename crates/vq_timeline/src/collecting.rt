@@ -2,8 +2,8 @@
 //!
 //! Source: this project's own.
 ghost use Rattle.std.specs.Prelude.{◌≡◌, ◌<◌, ℕ, length, true, None, IfSome};
-ghost use Rattle.vq_model.specs.Plan.{has};
-ghost use Rattle.vq_points.specs.Timeline.{first_pending, after_free};
+ghost use Rattle.vq_ground.specs.Lists.{has};
+ghost use Rattle.vq_point_laws.specs.Timeline.{first_pending, after_free};
 ghost use Rattle.vq_board_laws.specs.MayPoints.{MayRetire};
 ghost use Rattle.vq_board.specs.Named.{plan_of, view, IsOf, Turns};
 ghost use Rattle.vq_timeline_laws.specs.Calls.{state, HasCompleted, FindsUnsignaled};
@@ -13,7 +13,7 @@ ghost use Rattle.vq_timeline.specs.Answers.{Collects};
 
 use crate::parts::{Collected, Shelf};
 use vq_board::{Board, Pass};
-use vq_points::laws::calls_lose_no_point;
+use vq_point_laws::laws::calls_lose_no_point;
 
 /// Tries to take the operations off these points, whose operations are past, in order. It answers the first
 /// point that had no reference, if any.

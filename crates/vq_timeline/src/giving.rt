@@ -13,7 +13,7 @@ ghost use Rattle.vq_timeline.specs.Answers.{taken_point, IsBindRefused};
 
 use crate::parts::{BindFault, Shelf};
 use vq_board::{Board, JobState};
-use vq_points::laws::calls_lose_no_point;
+use vq_point_laws::laws::calls_lose_no_point;
 use vq_timeline_core::{OpPlace, Taken};
 
 /// No point has this number: there are at most as many points as operations, which are fewer.

@@ -1,53 +1,15 @@
 -- Where a value stands among rising values.
 use Rattle.std.proofs.Common.{◌≡◌, ℕ, zero, suc, ◌+◌, ◌-◌, ◌<◌, ◌≤◌, Bool, true, false, cond, List, [], ◌∷◌, length, find, get_or, Option, Some, None, refl, sym, ◌∙◌, ap, arith, subst, ◌⊎◌, inl, inr, ◌↔◌}
 use Rattle.std.specs.Prelude.{nat_lt, nat_le, slice_range}
-use Rattle.std.specs.List.Sorted.{IsPartitionedBy, IsPartitionPoint}
+use Rattle.std.specs.List.Sorted.{IsPartitionPoint}
 use Rattle.std.proofs.lemmas.Bool.{cases_lt}
-use Rattle.std.proofs.lemmas.Bool.Decides.{nat_tests}
-use Rattle.vq_points.specs.Timeline.{Entry, Timeline, KeepsLists, AreRisingFrom, entries_from, point_at, value_before, past_value, pending_value, first_at_least}
+use Rattle.vq_ground.proofs.Rising.{rising_from_at}
+use Rattle.vq_ground.proofs.Tests.{at_least_of_test, at_most_test, below_of_test, above_test}
+use Rattle.vq_point_laws.specs.Timeline.{Entry, Timeline, KeepsLists, entries_from, point_at, value_before, past_value, pending_value, first_at_least}
 use Rattle.vq_timeline_core.specs.declared.answers.Found.{Found}
 use Rattle.vq_timeline_core.specs.declared.answers.Found.TheVariants as found_as
 use Rattle.vq_timeline_core.specs.Answers.{found, pending_answer}
 use Rattle.vq_timeline_core.proofs.Points.{part_count, part_at, pending_point}
-
--- tests
-above_test : (a b : ℕ) → b < a → nat_le a b ≡ false
-above_test a b l = grind (arith, nat_tests)
-
-at_most_test : (a b : ℕ) → a ≤ b → nat_le a b ≡ true
-at_most_test a b l = grind (arith, nat_tests)
-
-below_test : (a b : ℕ) → a < b → nat_lt a b ≡ true
-below_test a b l = grind (arith, nat_tests)
-
-below_of_test : (a b : ℕ) → nat_lt a b ≡ true → a < b
-below_of_test a b h = grind (arith, nat_tests)
-
-at_least_of_test : (a b : ℕ) → nat_lt a b ≡ false → b ≤ a
-at_least_of_test a b h = grind (arith, nat_tests)
-
--- rising values
-rising_above : (n : ℕ) (xs : List ℕ) (j d : ℕ) → AreRisingFrom n xs → j < length xs → n < get_or xs j d
-rising_above n [] j d h l = absurd (omega arith)
-rising_above n (x ∷ xs) zero d h l = h.0
-rising_above n (x ∷ xs) (suc j) d h l =
-    let first = h.0 in
-    let more = rising_above x xs j d h.1 (omega arith) in
-    omega arith
-
-rising_at : (x : ℕ) (xs : List ℕ) (i j d : ℕ) → AreRisingFrom x xs → i ≤ j → j < suc (length xs) → get_or (x ∷ xs) i d ≤ get_or (x ∷ xs) j d
-rising_at x xs zero zero d h l m = omega arith
-rising_at x xs zero (suc j) d h l m =
-    let more = rising_above x xs j d h (omega arith) in omega arith
-rising_at x xs (suc i) zero d h l m = absurd (omega arith)
-rising_at x [] (suc i) (suc j) d h l m = absurd (omega arith)
-rising_at x (y ∷ xs) (suc i) (suc j) d h l m = rising_at y xs i j d h.1 (omega arith) (omega arith)
-
-pub parted : (n value : ℕ) (xs : List ℕ) → AreRisingFrom n xs → IsPartitionedBy (λ y. nat_lt y value) xs
-parted n value xs h = λ i j d l m e.
-    let order = rising_at n xs (suc i) (suc j) d h (omega arith) (omega arith) in
-    let below = below_of_test (get_or xs j d) value e in
-    below_test (get_or xs i d) value (omega arith)
 
 -- what a search by the test says
 pub searched : (values : List ℕ) (value index : ℕ) → IsPartitionPoint (λ y. nat_lt y value ≡ true) (λ y. nat_lt y value ≡ false) values index → IsPartitionPoint (λ y. y < value) (λ y. value ≤ y) values index
@@ -162,7 +124,7 @@ pub not_yet_exact : (t : Timeline) (value : ℕ) → KeepsLists t → (found t v
 not_yet_exact t value k = (forth, back)
   where
     order : (i j : ℕ) → i ≤ j → j < suc (length t.values) → value_before t i ≤ value_before t j
-    order i j l m = rising_at t.initial t.values i j 0 k.rising l m
+    order i j l m = rising_from_at t.initial t.values i j 0 k.rising l m
 
     hits : past_value t < value → value ≤ pending_value t → first_at_least t value ≡ None → ⊥
     hits late early none = by_bound t.bound refl

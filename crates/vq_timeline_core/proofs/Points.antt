@@ -6,8 +6,8 @@ use Rattle.std.specs.Option.{option_map}
 use Rattle.std.proofs.lemmas.List.{length-map, length-take-le, length-drop, get_or-take, get_or-drop, get_or_read}
 use Rattle.std.proofs.lemmas.Bool.{cases_lt}
 use Rattle.std.proofs.lemmas.List.FromFn.{length-range_with_len}
-use Rattle.vq_points.specs.Timeline.{Timeline, KeepsLists, indexes, entries_from, pending, first_pending, point_at}
-use Rattle.vq_points.proofs.Cited.{least_pending, entries_count}
+use Rattle.vq_point_laws.specs.Timeline.{Timeline, KeepsLists, indexes, entries_from, pending, first_pending, point_at}
+use Rattle.vq_point_laws.proofs.Cited.{least_pending, entries_count}
 
 pub pending_count : (t : Timeline) → KeepsLists t → t.bound - t.completed ≡ length (pending t)
 pending_count t k =

@@ -1,6 +1,6 @@
 -- The answers of a timeline's calls in small cases, computed.
 use Rattle.std.proofs.Common.{◌≡◌, [], ◌∷◌, refl}
-use Rattle.vq_points.specs.Timeline.{Timeline, new_timeline, after_take, after_bind, after_complete, after_free}
+use Rattle.vq_point_laws.specs.Timeline.{Timeline, new_timeline, after_take, after_bind, after_complete, after_free}
 use Rattle.vq_timeline_core.specs.declared.answers.Taken.TheVariants as taken_as
 use Rattle.vq_timeline_core.specs.declared.answers.Found.TheVariants as found_as
 use Rattle.vq_timeline_core.specs.declared.answers.OpPlace.TheVariants as place_as

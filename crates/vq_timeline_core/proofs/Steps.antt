@@ -1,8 +1,9 @@
 -- What each call leaves of a timeline's lists, written field by field.
 use Rattle.std.proofs.Common.{◌≡◌, ℕ, ◌+◌, ◌<◌, List, [], ◌∷◌, ◌++◌, length, filter, not, set, Option, Some, None, replicate, sym, ◌∙◌, ap, subst}
 use Rattle.std.specs.Prelude.{◌==◌}
-use Rattle.vq_points.specs.Timeline.{Timeline, KeepsLists, AreRisingFrom, new_timeline, point_at, MayTake, take_from, after_complete, complete_from, MayFree, after_free}
-use Rattle.vq_points.proofs.Cited.{new_keeps, take_keeps, complete_keeps, least_pending, free_keeps}
+use Rattle.vq_point_laws.specs.Timeline.{Timeline, KeepsLists, new_timeline, point_at, MayTake, take_from, after_complete, complete_from, MayFree, after_free}
+use Rattle.vq_ground.specs.Lists.{AreRisingFrom}
+use Rattle.vq_point_laws.proofs.Cited.{new_keeps, take_keeps, complete_keeps, least_pending, free_keeps}
 
 pub opened_keeps : (initial : ℕ) (values vs ws fs : List ℕ) (ps : List (Option ℕ)) → AreRisingFrom initial values → vs ≡ values → ps ≡ replicate (length values) None → ws ≡ [] → fs ≡ [] → KeepsLists (record { initial = initial; values = vs; points = ps; bound = 0; completed = 0; waiting = ws; free = fs; made = 0 })
 opened_keeps initial values vs ws fs ps h a b c d =

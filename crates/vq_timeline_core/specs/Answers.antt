@@ -1,7 +1,7 @@
 -- The answers of a timeline's calls. The construction is this project's own.
 use Rattle.std.specs.Prelude.{ℕ, Bool, true, false, List, [], ◌∷◌, Option, Some, None, nat_lt, nat_le}
 use Rattle.std.specs.Prelude.{if◌then◌else◌}
-use Rattle.vq_points.specs.Timeline.{Entry, Timeline, point_at, past_value, first_at_least}
+use Rattle.vq_point_laws.specs.Timeline.{Entry, Timeline, point_at, past_value, first_at_least}
 use Rattle.vq_timeline_core.specs.declared.answers.Taken.{Taken}
 use Rattle.vq_timeline_core.specs.declared.answers.Taken.TheVariants.{Reused, Fresh}
 use Rattle.vq_timeline_core.specs.declared.answers.Found.{Found}

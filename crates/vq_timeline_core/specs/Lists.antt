@@ -1,7 +1,7 @@
 -- A timeline's lists in its fields, with the room that later calls need.
 use Rattle.std.specs.Prelude.{◌^◌, ◌<◌, ◌≤◌, length, reverse}
 use Rattle.std.specs.Vec.{vec_capacity}
-use Rattle.vq_points.specs.Timeline.{Timeline, KeepsLists}
+use Rattle.vq_point_laws.specs.Timeline.{Timeline, KeepsLists}
 use Rattle.vq_timeline_core.specs.declared.timeline.TimelineCore.TheInside.{Inside}
 
 abbrev pub lists_of : Inside → Timeline

@@ -3,9 +3,10 @@ ghost use Rattle.std.specs.Prelude.{IfErr, OnOk, OnErr};
 ghost use Rattle.std.specs.List.{slice_get};
 ghost use Rattle.std.specs.List.Sorted.{IsPartitionPoint};
 ghost use Rattle.std.specs.Option.{option_map};
-ghost use Rattle.vq_points.specs.Timeline.{KeepsLists, AreRisingFrom, new_timeline, point_at, past_value};
-ghost use Rattle.vq_points.specs.Timeline.{pending_value, pending, first_pending, MayTake, after_take, MayBind};
-ghost use Rattle.vq_points.specs.Timeline.{next_unbound, after_bind, after_complete, MayFree, after_free};
+ghost use Rattle.vq_point_laws.specs.Timeline.{KeepsLists, new_timeline, point_at, past_value};
+ghost use Rattle.vq_ground.specs.Lists.{AreRisingFrom};
+ghost use Rattle.vq_point_laws.specs.Timeline.{pending_value, pending, first_pending, MayTake, after_take, MayBind};
+ghost use Rattle.vq_point_laws.specs.Timeline.{next_unbound, after_bind, after_complete, MayFree, after_free};
 ghost use Rattle.vq_timeline_core.specs.Answers.{taken_answer, found, place_of};
 
 use crate::{Found, NotNext, OpPlace, Taken};
@@ -32,7 +33,7 @@ pub struct TimelineCore {
 }
 
 impl Model for TimelineCore {
-    ghost use Rattle.vq_points.specs.Timeline.{Timeline};
+    ghost use Rattle.vq_point_laws.specs.Timeline.{Timeline};
 
     ghost Value = { Timeline };
 

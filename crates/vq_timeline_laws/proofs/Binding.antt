@@ -5,9 +5,11 @@ use Rattle.std.specs.List.{slice_get}
 use Rattle.std.specs.Option.{option_map_or}
 use Rattle.std.proofs.lemmas.Bool.{false≢true}
 use Rattle.std.proofs.lemmas.List.Sorted.{IsPermutation-trans}
+use Rattle.std.proofs.lemmas.Option.{same_Some}
 use Rattle.vq_model.specs.declared.plan.Op.{Op}
-use Rattle.vq_model.specs.Plan.{Plan, has, chain, chain_of, job_of, is_host_step}
-use Rattle.vq_points.specs.Timeline.{Timeline, point_at, all_points, after_bind}
+use Rattle.vq_model.specs.Plan.{Plan, chain, chain_of, job_of, is_host_step}
+use Rattle.vq_ground.specs.Lists.{has}
+use Rattle.vq_point_laws.specs.Timeline.{Timeline, point_at, all_points, after_bind}
 use Rattle.vq_core_laws.proofs.Cited.{Facts, facts}
 use Rattle.vq_board_laws.specs.declared.view.View.{View}
 use Rattle.vq_board_laws.specs.declared.view.Fact.TheVariants.{Job}
@@ -21,7 +23,7 @@ use Rattle.vq_timeline_laws.specs.Calls.{may_bind}
 use Rattle.vq_timeline_laws.specs.ChainOps.{of_host}
 use Rattle.vq_timeline_laws.specs.Shelves.{AreListsOf, IsKept}
 use Rattle.vq_timeline_laws.proofs.ListParts.{one_more, has_reverse, taken_place, place_taken}
-use Rattle.vq_timeline_laws.proofs.Places.{same_some, of_chain_at, place_at, place_once}
+use Rattle.vq_timeline_laws.proofs.Places.{of_chain_at, place_at, place_once}
 
 -- The first n operations of a chain, latest first: an operation behind them isn't among them,
 pub not_among : (p : Plan) (f : Facts p) (t n i e : ℕ) (es : List ℕ) → es ≡ reverse (take n (chain p t)) →
@@ -48,7 +50,7 @@ pub smaller_among : (p : Plan) (f : Facts p) (t n e : ℕ) (es : List ℕ) → e
     slice_get (chain p t) n ≡ Some e → (g : ℕ) → IsSmaller p g e → has es g ≡ true
 smaller_among p f t n e es are at g m =
     let here = of_chain_at p f m.of_chain m.second e m.greater in
-    let same : m.of_chain ≡ t = same_some m.of_chain t (sym here ∙ of_chain_at p f t n e at) in
+    let same : m.of_chain ≡ t = same_Some m.of_chain t (sym here ∙ of_chain_at p f t n e at) in
     let second = place_once p f t m.second n e
     (subst (λ (u : ℕ). slice_get (chain p u) m.second ≡ Some e) same m.greater) at in
     let order = m.order in
@@ -68,7 +70,7 @@ module _ (p : Plan) (t : ℕ) (c : Timeline) (v : View) (x : IsKept p t c v) (o 
   point_next = subst (λ (n : ℕ). point_at c n ≡ Some q) (sym next) point
 
   job_is : (j : ℕ) → job_of p e ≡ Some j → o.job ≡ j
-  job_is j h = same_some o.job j (sym (ap (option_map (λ (z : Op). z.job)) is) ∙ h)
+  job_is j h = same_Some o.job j (sym (ap (option_map (λ (z : Op). z.job)) is) ∙ h)
 
   host_is : (j : ℕ) → job_of p e ≡ Some j → of_host p e ≡ is_host_step p j
   host_is j h =

@@ -7,15 +7,17 @@ use Rattle.std.specs.List.{slice_get}
 use Rattle.std.proofs.lemmas.Bool.{false≢true, cases_lt, cases_eq}
 use Rattle.std.proofs.lemmas.List.{take_more, length-take-le}
 use Rattle.std.proofs.lemmas.List.Sorted.{IsPermutation-trans}
-use Rattle.vq_model.specs.Plan.{Plan, has, chain}
-use Rattle.vq_model.proofs.Lists.{has-append_left, has-append_right, has-append_cases, has_here, has_cases}
+use Rattle.std.proofs.lemmas.Option.{same_Some}
+use Rattle.vq_board_laws.proofs.Cited.{knows_first}
+use Rattle.vq_model.specs.Plan.{Plan, chain}
+use Rattle.vq_ground.specs.Lists.{has}
+use Rattle.vq_ground.proofs.Lists.{has-append_left, has-append_right, has-append_cases, has_here, has_cases}
 use Rattle.vq_model.proofs.Plans.{op_within}
-use Rattle.vq_points.specs.PointWord.{parts}
-use Rattle.vq_points.specs.Timeline.{Timeline, Entry, KeepsLists, point_at, all_points, first_pending, first_of, entries_from}
-use Rattle.vq_points.specs.Timeline.{last_from, last_carrier, after_complete, complete_from}
-use Rattle.vq_points.proofs.Cited.{IsLeast, least_pending}
+use Rattle.vq_point_laws.specs.PointWord.{parts}
+use Rattle.vq_point_laws.specs.Timeline.{Timeline, Entry, KeepsLists, point_at, all_points, first_pending, first_of, entries_from}
+use Rattle.vq_point_laws.specs.Timeline.{last_from, last_carrier, after_complete, complete_from}
+use Rattle.vq_point_laws.proofs.Cited.{IsLeast, least_pending, carrier_push}
 use Rattle.vq_core_laws.proofs.Cited.{Facts, facts}
-use Rattle.vq_board_laws.specs.declared.view.Fact.{Fact}
 use Rattle.vq_board_laws.specs.declared.view.Fact.TheVariants.{Taken, Made}
 use Rattle.vq_board_laws.specs.declared.view.View.{View}
 use Rattle.vq_board_laws.specs.Knowledge.{Knows, KnowsMade, shown}
@@ -25,14 +27,8 @@ use Rattle.vq_board_laws.specs.PointSteps.{sees, completes, point_facts, moved_o
 use Rattle.vq_board_laws.specs.Words.{Carries}
 use Rattle.vq_timeline_laws.specs.Shelves.{HasPoint, AreOfPass, AreListsOf, IsKept}
 use Rattle.vq_timeline_laws.proofs.Binding.{not_among, among, smaller_among}
-use Rattle.vq_timeline_laws.proofs.GivenPoints.{carrier_push}
 use Rattle.vq_timeline_laws.proofs.ListParts.{one_more}
-use Rattle.vq_timeline_laws.proofs.Places.{same_some, of_chain_at, values_count, open_waits_not, held_below}
-
-knows_first : (front back : List Fact) (f : Fact) → Knows front f → Knows (front ++ back) f
-knows_first [] back f h = absurd h
-knows_first (g ∷ front) back f (inl same) = inl same
-knows_first (g ∷ front) back f (inr m) = inr (knows_first front back f m)
+use Rattle.vq_timeline_laws.proofs.Places.{of_chain_at, values_count, open_waits_not, held_below}
 
 -- a look at a signaled point shows the operation made that it carries
 pub signaled_made : (p : Plan) (v : View) (q n e : ℕ) → Carries n e → (parts n).signaled ≡ true →
@@ -65,7 +61,7 @@ some_pending c y first = elim (cases_lt c.completed c.bound) [
 least_is : (c : Timeline) → KeepsLists c → (y : Entry) → first_pending c ≡ Some y → IsLeast c y
 least_is c k y first =
     let least = least_pending c k (some_pending c y first) in
-    subst (IsLeast c) (same_some least.0 y (sym least.1.first ∙ first)) least.1
+    subst (IsLeast c) (same_Some least.0 y (sym least.1.first ∙ first)) least.1
 
 -- the least pending operation is one of the chain
 pub first_within : (p : Plan) (t : ℕ) (c : Timeline) (v : View) → IsKept p t c v → (y : Entry) →
@@ -154,7 +150,7 @@ module _ (p : Plan) (t : ℕ) (c : Timeline) (v : View) (x : IsKept p t c v) (y 
       | inl low ↦ elim (cases_eq i c.completed) [
         | inl s ↦
             let same : y.point ≡ r =
-            same_some y.point r (sym least.point ∙ subst (λ (k : ℕ). point_at c k ≡ Some r) s h.0) in
+            same_Some y.point r (sym least.point ∙ subst (λ (k : ℕ). point_at c k ≡ Some r) s h.0) in
             inr (
               subst (λ (z : ℕ). has (c.waiting ++ y.point ∷ []) z ≡ true) same
                   (has-append_right c.waiting (y.point ∷ []) y.point (has_here y.point [])),

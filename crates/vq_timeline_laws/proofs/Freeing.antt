@@ -4,10 +4,11 @@ use Rattle.std.proofs.Common.{IsPermutation, length, sym, ap, ◌∙◌, subst, 
 use Rattle.std.specs.Prelude.{◌==◌}
 use Rattle.std.proofs.lemmas.Bool.{false≢true}
 use Rattle.std.proofs.lemmas.List.Sorted.{IsPermutation-trans}
-use Rattle.vq_model.specs.Plan.{Plan, has, chain}
-use Rattle.vq_model.proofs.Filters.{filter-has, filter-has_cases}
-use Rattle.vq_model.proofs.Gets.{get_some}
-use Rattle.vq_points.specs.Timeline.{Timeline, all_points, after_free}
+use Rattle.vq_model.specs.Plan.{Plan, chain}
+use Rattle.vq_ground.specs.Lists.{has}
+use Rattle.vq_ground.proofs.Filters.{filter-has, filter-has_cases}
+use Rattle.vq_ground.proofs.Gets.{get_some}
+use Rattle.vq_point_laws.specs.Timeline.{Timeline, all_points, after_free}
 use Rattle.vq_board_laws.specs.declared.view.View.{View}
 use Rattle.vq_board_laws.specs.MayPoints.{MayRetire}
 use Rattle.vq_board_laws.specs.PointSteps.{retires}

@@ -5,7 +5,7 @@ use Rattle.std.proofs.lemmas.List.Sorted.{IsPermutation-refl}
 use Rattle.std.specs.List.{slice_index_or}
 use Rattle.std.proofs.lemmas.Bool.{false≢true}
 use Rattle.vq_model.specs.Plan.{Plan, chain, initial, value}
-use Rattle.vq_points.specs.Timeline.{Timeline, Entry, new_timeline, all_points, entries_from, points_of}
+use Rattle.vq_point_laws.specs.Timeline.{Timeline, Entry, new_timeline, all_points, entries_from, points_of}
 use Rattle.vq_board_laws.specs.declared.view.Role.TheVariants.{Shelf}
 use Rattle.vq_board_laws.specs.Roles.{role_number}
 use Rattle.vq_board_laws.specs.Rule.{fresh}

@@ -1,13 +1,13 @@
 -- What the pass's lists of points that carry operations keep, and the last carriers of points.
-use Rattle.std.proofs.Common.{◌≡◌, ◌≢◌, ℕ, suc, ◌+◌, ◌<◌, ◌⊎◌, inl, inr, List, [], ◌∷◌, ◌++◌, true, false, not}
-use Rattle.std.proofs.Common.{Bool, cond, Option, Some, None, length, map, take, get_or, refl, sym, ap, ◌∙◌, subst, arith}
+use Rattle.std.proofs.Common.{◌≡◌, ◌≢◌, ℕ, suc, ◌+◌, ◌<◌, ◌⊎◌, inl, inr, List, [], ◌∷◌, true, false, not}
+use Rattle.std.proofs.Common.{Bool, cond, Option, Some, None, length, take, get_or, refl, sym, ap, ◌∙◌, arith}
 use Rattle.std.proofs.Common.{eq-eqb}
 use Rattle.std.specs.Prelude.{◌==◌}
 use Rattle.std.proofs.lemmas.Bool.{false≢true, eqb-true}
 use Rattle.std.proofs.lemmas.List.{get_or-take, length-take}
-use Rattle.vq_model.specs.Plan.{has}
-use Rattle.vq_model.proofs.Lists.{has_cases}
-use Rattle.vq_points.specs.Timeline.{Timeline, KeepsLists, AreRisingFrom, point_at, carries, last_from, last_carrier}
+use Rattle.vq_ground.proofs.Rising.{above_first}
+use Rattle.vq_ground.specs.Lists.{has}
+use Rattle.vq_point_laws.specs.Timeline.{Timeline, KeepsLists, point_at, carries, last_from, last_carrier}
 use Rattle.vq_board_laws.specs.declared.view.Reference.{Reference}
 use Rattle.vq_board_laws.specs.Points.{Lists, reference}
 use Rattle.vq_board_laws.specs.PointSteps.{without_point}
@@ -44,14 +44,6 @@ was_there q (x ∷ rs) r e h = by_test (x.point == q) refl h (was_there q rs r e
 
 -- Last carriers
 
-pub carrier_push : (n found w q : ℕ) (xs : List (Option ℕ)) →
-    last_from n found w (xs ++ Some q ∷ []) ≡ cond (q == w) (n + length xs + 1) (last_from n found w xs)
-carrier_push n found w q [] = let e : n + 1 ≡ n + 0 + 1 = omega arith in ap (λ (k : ℕ). cond (q == w) k found) e
-carrier_push n found w q (x ∷ xs) =
-    let e : n + 1 + length xs + 1 ≡ n + suc (length xs) + 1 = omega arith in
-    carrier_push (n + 1) (cond (carries x w) (n + 1) found) w q xs
-    ∙ ap (λ (k : ℕ). cond (q == w) k (last_from (n + 1) (cond (carries x w) (n + 1) found) w xs)) e
-
 -- one of the operations after the first n carried the point last
 pub record IsLastFrom (n w number : ℕ) (xs : List (Option ℕ)) : Type 0 where
   pub place : ℕ
@@ -86,13 +78,6 @@ last_is n found w (x ∷ xs) = by_test (carries x w) refl (λ m. last_is (n + 1)
       | inl same ↦ inr record { place = 0; within = omega arith; point = carried_by x w is; is = omega arith }
       | inr r ↦ inr (further n w (last_from (n + 1) (n + 1) w xs) x xs r)
     ]
-
-above_first : (f : ℕ → ℕ) (n : ℕ) (ws : List ℕ) (q : ℕ) → AreRisingFrom n (map f ws) → has ws q ≡ true → n < f q
-above_first f n [] q r h = absurd (false≢true h)
-above_first f n (w ∷ ws) q r h = elim (has_cases w ws q h) [
-  | inl same ↦ subst (λ (z : ℕ). n < f z) same r.0
-  | inr m ↦ let low = r.0 in let more = above_first f (f w) ws q r.1 m in omega arith
-]
 
 -- the completed operation that carried a waiting point last
 pub record Carried (c : Timeline) (q : ℕ) : Type 0 where

@@ -1,7 +1,7 @@
 -- Points found in use one after another: the pass has looked, and its own lists are as they were.
 use Rattle.std.proofs.Common.{◌≡◌, ℕ, List, [], ◌∷◌, ◌++◌, Option, Some, None, refl, sym, ap, ◌∙◌, subst, inl, inr}
 use Rattle.vq_model.specs.Plan.{Plan}
-use Rattle.vq_points.specs.Timeline.{Entry, Timeline}
+use Rattle.vq_point_laws.specs.Timeline.{Entry, Timeline}
 use Rattle.vq_board_laws.specs.declared.view.View.{View}
 use Rattle.vq_board_laws.specs.MayPoints.{MayRetire}
 use Rattle.vq_timeline_laws.specs.Shelves.{IsKept}

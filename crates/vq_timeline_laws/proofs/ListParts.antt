@@ -4,8 +4,9 @@ use Rattle.std.specs.List.{slice_get}
 use Rattle.std.proofs.lemmas.List.{reverse-append}
 use Rattle.std.proofs.lemmas.List.Folds.{list_any-append}
 use Rattle.std.proofs.lemmas.Bool.{false≢true}
-use Rattle.vq_model.specs.Plan.{has}
-use Rattle.vq_model.proofs.Lists.{has_cases, has_here, has_there}
+use Rattle.vq_ground.proofs.Bools.{or_false}
+use Rattle.vq_ground.specs.Lists.{has}
+use Rattle.vq_ground.proofs.Lists.{has_cases, has_here, has_there}
 
 next_taken : (xs : List ℕ) (n x : ℕ) → slice_get xs n ≡ Some x → take (suc n) xs ≡ take n xs ++ x ∷ []
 next_taken [] n x h = absurd (let z = h in cc)
@@ -23,10 +24,6 @@ commute true false = refl
 commute false true = refl
 commute false false = refl
 
-or_no : (b : Bool) → (b || false) ≡ b
-or_no true = refl
-or_no false = refl
-
 pub has_reverse : (xs : List ℕ) (x : ℕ) → has (reverse xs) x ≡ has xs x
 has_reverse [] x = refl
 has_reverse (y ∷ ys) x =
@@ -34,7 +31,7 @@ has_reverse (y ∷ ys) x =
     ∙ list_any-append (λ z. z == x) (reverse ys) (y ∷ [])
     ∙ (λ i. has_reverse ys x i || has (y ∷ []) x)
     ∙ commute (has ys x) (has (y ∷ []) x)
-    ∙ ap (λ b. b || has ys x) (or_no (y == x))
+    ∙ ap (λ b. b || has ys x) (or_false (y == x))
 
 pub record IsPlaced (xs : List ℕ) (n x : ℕ) : Type 0 where
   pub place : ℕ

@@ -7,31 +7,31 @@ use Rattle.std.specs.Option.{option_map_or}
 use Rattle.std.proofs.lemmas.Bool.{false≢true, cases_lt}
 use Rattle.std.proofs.lemmas.List.{get_or-take, get_or-drop, length-map, append_assoc}
 use Rattle.std.proofs.lemmas.List.Sorted.{list_any-IsPermutation}
+use Rattle.std.proofs.lemmas.Option.{same_Some}
+use Rattle.vq_ground.proofs.Gets.{get_has}
 use Rattle.vq_model.specs.declared.plan.Op.{Op}
-use Rattle.vq_model.specs.Plan.{Plan, has, chain, chain_of, value}
-use Rattle.vq_model.proofs.Lists.{has_here, has_there, has_cases, has-append_left, has-append_right}
-use Rattle.vq_points.specs.Timeline.{Timeline, KeepsLists, AreDistinct, point_at, all_points, entries_from, points_of}
-use Rattle.vq_points.specs.Timeline.{pending, taken}
-use Rattle.vq_core_laws.proofs.Cited.{Facts, ordered_once, stands}
+use Rattle.vq_model.specs.Plan.{Plan, chain, chain_of, value}
+use Rattle.vq_ground.specs.Lists.{has}
+use Rattle.vq_ground.proofs.Lists.{has_here, has_there, has_cases, has-append_left, has-append_right}
+use Rattle.vq_point_laws.specs.Timeline.{Timeline, KeepsLists, AreDistinct, point_at, all_points, entries_from, points_of}
+use Rattle.vq_point_laws.specs.Timeline.{pending, taken}
+use Rattle.vq_core_laws.proofs.Cited.{Facts, ordered_once}
 use Rattle.vq_board_laws.specs.declared.view.View.{View}
 use Rattle.vq_timeline_laws.specs.ChainOps.{index_of}
 use Rattle.vq_timeline_laws.specs.Shelves.{HasPoint, IsKept}
-
-pub same_some : {A : Type 0} (x y : A) → Some x ≡ Some y → x ≡ y
-same_some x y h = cc
 
 pub index_is : (p : Plan) (e : ℕ) (o : Op) → slice_get p.ops e ≡ Some o → index_of p e ≡ o.index
 index_is p e o is = ap (λ (z : Option Op). option_map_or (λ (y : Op). y.index) z 0) is
 
 -- of which chain an operation at a place is
 pub of_chain_at : (p : Plan) (f : Facts p) (t i e : ℕ) → slice_get (chain p t) i ≡ Some e → chain_of p e ≡ Some t
-of_chain_at p f t i e at = f.formed.of_chain e t (stands (chain p t) i e at)
+of_chain_at p f t i e at = f.formed.of_chain e t (get_has (chain p t) i e at)
 
 -- an operation's place in its chain, and no other
 pub place_at : (p : Plan) (f : Facts p) (t e : ℕ) (o : Op) → slice_get p.ops e ≡ Some o → chain_of p e ≡ Some t →
     slice_get (chain p t) o.index ≡ Some e
 place_at p f t e o is of =
-    let same : o.chain ≡ t = same_some o.chain t (sym (ap (option_map (λ (z : Op). z.chain)) is) ∙ of) in
+    let same : o.chain ≡ t = same_Some o.chain t (sym (ap (option_map (λ (z : Op). z.chain)) is) ∙ of) in
     subst (λ (u : ℕ). slice_get (chain p u) o.index ≡ Some e) same (f.place e o is)
 
 pub place_once : (p : Plan) (f : Facts p) (t i k e : ℕ) → slice_get (chain p t) i ≡ Some e →

@@ -5,13 +5,15 @@ use Rattle.std.specs.List.{slice_get}
 use Rattle.std.proofs.lemmas.Bool.{false≢true, cases_lt, cases_eq}
 use Rattle.std.proofs.lemmas.List.{get_or-set_other, get_or-set_same, take-set-le}
 use Rattle.std.proofs.lemmas.List.Sorted.{IsPermutation-trans, IsPermutation-cons, length_permutation}
+use Rattle.std.proofs.lemmas.Option.{same_Some}
 use Rattle.vq_model.specs.declared.plan.Op.{Op}
-use Rattle.vq_model.specs.Plan.{Plan, has, chain, chain_of}
-use Rattle.vq_model.proofs.Gets.{get_within}
-use Rattle.vq_model.proofs.Lists.{has_cases, has_here, has_there}
-use Rattle.vq_points.specs.Timeline.{Timeline, KeepsLists, MayTake, IsAbsent, point_at, all_points, last_from, last_carrier}
-use Rattle.vq_points.specs.Timeline.{after_take, take_from, fresh_points}
-use Rattle.vq_points.proofs.Cited.{take_keeps}
+use Rattle.vq_model.specs.Plan.{Plan, chain, chain_of}
+use Rattle.vq_ground.specs.Lists.{has}
+use Rattle.vq_ground.proofs.Gets.{get_within}
+use Rattle.vq_ground.proofs.Lists.{has_cases, has_here, has_there}
+use Rattle.vq_point_laws.specs.Timeline.{Timeline, KeepsLists, MayTake, IsAbsent, point_at, all_points, last_from, last_carrier}
+use Rattle.vq_point_laws.specs.Timeline.{after_take, take_from, fresh_points}
+use Rattle.vq_point_laws.proofs.Cited.{take_keeps}
 use Rattle.vq_core_laws.proofs.Cited.{Facts, facts}
 use Rattle.vq_board_laws.specs.declared.view.Reference.{Reference}
 use Rattle.vq_board_laws.specs.declared.view.View.{View}
@@ -22,7 +24,7 @@ use Rattle.vq_board_laws.specs.Roles.{share_of}
 use Rattle.vq_board_laws.proofs.Cited.{share_is_chain}
 use Rattle.vq_timeline_laws.specs.Shelves.{HasPoint, AreOfPass, AreListsOf, IsKept}
 use Rattle.vq_timeline_laws.proofs.Binding.{not_among}
-use Rattle.vq_timeline_laws.proofs.Places.{same_some, place_at, place_once, values_count, held_in_all, held_not_free, owned_is}
+use Rattle.vq_timeline_laws.proofs.Places.{place_at, place_once, values_count, held_in_all, held_not_free, owned_is}
 
 -- a number that isn't in a list
 abbrev above : List ℕ → ℕ
@@ -201,9 +203,9 @@ module _ (p : Plan) (t : ℕ) (c : Timeline) (v : View) (x : IsKept p t c v) (o 
           Lists (reference q e ∷ v.carrying) (reference r g)
       all r i g here held = elim (cases_eq i o.index) [
         | inl s ↦
-            let point : q ≡ r = same_some q r (sym (point_here q free made)
+            let point : q ≡ r = same_Some q r (sym (point_here q free made)
             ∙ subst (λ (k : ℕ). point_at (given q free made) k ≡ Some r) s held.0) in
-            let op : e ≡ g = same_some e g (sym at ∙ subst (λ (k : ℕ). slice_get (chain p t) k ≡ Some g) s here) in
+            let op : e ≡ g = same_Some e g (sym at ∙ subst (λ (k : ℕ). slice_get (chain p t) k ≡ Some g) s here) in
             inl (λ j. reference (point j) (op j))
         | inr other ↦
             inr (x.lists.carrying_all r i g here (

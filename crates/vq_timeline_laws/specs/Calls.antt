@@ -2,9 +2,10 @@
 -- it. This project's own.
 use Rattle.std.specs.Prelude.{ℕ, Bool, true, false, not, List, [], ◌≡◌, ◌≢◌, Option, Some, None}
 use Rattle.std.specs.List.{slice_get}
-use Rattle.vq_model.specs.Plan.{Plan, has, chain}
-use Rattle.vq_points.specs.PointWord.{parts}
-use Rattle.vq_points.specs.Timeline.{Entry, Timeline, first_pending, after_take, after_bind, after_complete, after_free}
+use Rattle.vq_model.specs.Plan.{Plan, chain}
+use Rattle.vq_ground.specs.Lists.{has}
+use Rattle.vq_point_laws.specs.PointWord.{parts}
+use Rattle.vq_point_laws.specs.Timeline.{Entry, Timeline, first_pending, after_take, after_bind, after_complete, after_free}
 use Rattle.vq_timeline_core.specs.declared.answers.OpPlace.{OpPlace}
 use Rattle.vq_timeline_core.specs.declared.answers.OpPlace.TheVariants.{Without, Taken}
 use Rattle.vq_timeline_core.specs.declared.answers.Taken.{Taken as TakenPoint}

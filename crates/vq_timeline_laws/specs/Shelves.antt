@@ -5,8 +5,9 @@ use Rattle.std.specs.Prelude.{◌≡◌, ◌<◌, ◌≤◌, ◌+◌, ◌⊎◌,
 use Rattle.std.specs.List.{slice_get}
 use Rattle.vq_model.specs.Checks.{IsLawful}
 use Rattle.vq_model.specs.LoweringFaults.{IsPlan}
-use Rattle.vq_model.specs.Plan.{Plan, has, chain, initial, value}
-use Rattle.vq_points.specs.Timeline.{Timeline, KeepsLists, point_at, all_points, last_carrier}
+use Rattle.vq_model.specs.Plan.{Plan, chain, initial, value}
+use Rattle.vq_ground.specs.Lists.{has}
+use Rattle.vq_point_laws.specs.Timeline.{Timeline, KeepsLists, point_at, all_points, last_carrier}
 use Rattle.vq_board_laws.specs.declared.view.Reference.{Reference}
 use Rattle.vq_board_laws.specs.declared.view.Role.TheVariants.{Shelf}
 use Rattle.vq_board_laws.specs.declared.view.View.{View}

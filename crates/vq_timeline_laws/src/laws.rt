@@ -1,8 +1,9 @@
 //! Laws on a shelf while its lock is free. The function does nothing: its contract is the law.
 ghost use Rattle.std.specs.Prelude.{◌≡◌, ◌<◌, ◌≤◌, ℕ, Some, true, false, length};
 ghost use Rattle.std.specs.List.{slice_get};
-ghost use Rattle.vq_model.specs.Plan.{Plan, has, chain};
-ghost use Rattle.vq_points.specs.Timeline.{Timeline, all_points};
+ghost use Rattle.vq_model.specs.Plan.{Plan, chain};
+ghost use Rattle.vq_ground.specs.Lists.{has};
+ghost use Rattle.vq_point_laws.specs.Timeline.{Timeline, all_points};
 ghost use Rattle.vq_board_laws.specs.declared.view.View.{View};
 ghost use Rattle.vq_timeline_laws.specs.Shelves.{HasPoint, IsKept};
 

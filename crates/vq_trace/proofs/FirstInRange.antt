@@ -1,26 +1,10 @@
 -- The first of the numbers up to one that passes a test.
-use Rattle.std.proofs.Common.{ℕ, zero, suc, ◌≡◌, ◌<◌, ◌≤◌, ◌+◌, ◌⊎◌, inl, inr, Bool, true, false, cond, find, Option, Some, None, arith, refl, sym, ap, ◌∙◌}
+use Rattle.std.proofs.Common.{ℕ, zero, suc, ◌≡◌, ◌<◌, ◌≤◌, ◌+◌, ◌⊎◌, Bool, true, false, cond, find, Option, Some, None, arith, refl, sym, ap, ◌∙◌}
 use Rattle.std.specs.List.{range_with_len}
+use Rattle.vq_ground.proofs.Searches.{find_least, find_none_from}
 
 cases : (a n : ℕ) → a ≤ n → (a ≡ n) ⊎ (a < n)
 cases a n l = grind arith
-
-found_from : (q : ℕ → Bool) (m a n : ℕ) → a ≤ n → n < a + m → q n ≡ true → ((k : ℕ) → a ≤ k → k < n → q k ≡ false) →
-    find q (range_with_len a m) ≡ Some n
-found_from q zero a n l u e h = absurd (omega (arith, l, u))
-found_from q (suc m) a n l u e h = elim (cases a n l) [
-  | inl same ↦
-      ap (λ t. cond t (Some a) (find q (range_with_len (a + 1) m))) (ap q same ∙ e) ∙ ap (λ (x : ℕ). Some x) same
-  | inr less ↦
-      ap (λ t. cond t (Some a) (find q (range_with_len (a + 1) m))) (h a (omega arith) less)
-      ∙ found_from q m (a + 1) n (omega (arith, less)) (omega (arith, u)) e (λ k i j. h k (omega (arith, i)) j)
-]
-
-none_from : (q : ℕ → Bool) (m a : ℕ) → ((k : ℕ) → a ≤ k → k < a + m → q k ≡ false) → find q (range_with_len a m) ≡ None
-none_from q zero a h = refl
-none_from q (suc m) a h =
-    ap (λ t. cond t (Some a) (find q (range_with_len (a + 1) m))) (h a (omega arith) (omega arith))
-    ∙ none_from q m (a + 1) (λ k i j. h k (omega (arith, i)) (omega (arith, j)))
 
 same_from : (q r : ℕ → Bool) (m a : ℕ) → ((k : ℕ) → a ≤ k → k < a + m → q k ≡ r k) →
     find q (range_with_len a m) ≡ find r (range_with_len a m)
@@ -48,10 +32,10 @@ found_below q m t e = let less = below_from q m 0 t e in omega (arith, less)
 
 pub first_in_range : (q : ℕ → Bool) (m n : ℕ) → n < m → q n ≡ true → ((k : ℕ) → k < n → q k ≡ false) →
     find q (range_with_len 0 m) ≡ Some n
-first_in_range q m n l e h = found_from q m 0 n (omega arith) (omega (arith, l)) e (λ k i j. h k j)
+first_in_range q m n l e h = find_least q m 0 n (omega arith) (omega (arith, l)) e (λ k i j. h k j)
 
 pub none_in_range : (q : ℕ → Bool) (m : ℕ) → ((k : ℕ) → k < m → q k ≡ false) → find q (range_with_len 0 m) ≡ None
-none_in_range q m h = none_from q m 0 (λ k i j. h k (omega (arith, j)))
+none_in_range q m h = find_none_from q m 0 (λ k i j. h k (omega (arith, j)))
 
 pub same_in_range : (q r : ℕ → Bool) (m : ℕ) → ((k : ℕ) → k < m → q k ≡ r k) →
     find q (range_with_len 0 m) ≡ find r (range_with_len 0 m)

@@ -12,6 +12,7 @@ use Rattle.std.specs.Global.{Vec}
 use Rattle.std.proofs.lemmas.List.Folds.{find-append}
 use Rattle.std.proofs.lemmas.Map.Text.{is_eq-slice_cmp}
 use Rattle.std.proofs.lemmas.Slice.Eq.{bytes_eq-Decides}
+use Rattle.vq_ground.proofs.Bytes.{bytes_by_order}
 
 -- numbers from a on, with one more
 range_push : (n a j : ℕ) → a + n ≡ j → range_with_len a (suc n) ≡ range_with_len a n ++ j ∷ []
@@ -40,9 +41,6 @@ key_cmp x y = slice_cmp nat_cmp x.items y.items
 abbrev has_bytes : List ℕ → Vec ℕ → Bool
 has_bytes name = is_at (λ k. slice_cmp nat_cmp name k.items)
 
-same_bytes : (xs ys : List ℕ) → is_eq (slice_cmp nat_cmp xs ys) ≡ true → xs ≡ ys
-same_bytes xs ys h = (bytes_eq-Decides xs ys).0 (sym (is_eq-slice_cmp xs ys) ∙ h)
-
 other_names : (old new : List (Vec ℕ × ℕ)) (test : Vec ℕ → Bool) →
     KeepsOthers (eq_by_cmp key_cmp) test old new → (other : Vec ℕ → Bool) →
     IsKeyTest (eq_by_cmp key_cmp) other → AreApart test other → lookup other new ≡ lookup other old
@@ -59,9 +57,9 @@ after_put old new k d put name true e =
     subst (λ (bs : List ℕ). number_in new bs ≡ Some d) (sym same) put.1
 after_put old new k d put name false e =
     other_names old.entries new.entries (is_at (key_cmp k)) put.3 (has_bytes name)
-    (λ x y h. ap (λ (bs : List ℕ). is_eq (slice_cmp nat_cmp bs y.items)) (same_bytes name x.items h))
+    (λ x y h. ap (λ (bs : List ℕ). is_eq (slice_cmp nat_cmp bs y.items)) (bytes_by_order name x.items h))
     (λ x h. subst (λ (bs : List ℕ). is_eq (slice_cmp nat_cmp name bs) ≡ false)
-    (same_bytes k.items x.items h) (is_eq-slice_cmp name k.items ∙ e))
+    (bytes_by_order k.items x.items h) (is_eq-slice_cmp name k.items ∙ e))
 
 -- the number that a name had, or for one name this one
 abbrev with_name : BTreeMap (Vec ℕ) ℕ → List ℕ → ℕ → List ℕ → Option ℕ

@@ -3,19 +3,12 @@ use Rattle.std.proofs.Common.{◌≡◌, ℕ, Bool, true, false, cond, List, [],
 use Rattle.std.specs.Prelude.{◌==◌, ◌||◌}
 use Rattle.std.specs.List.{slice_split, onto_first, position_or_len}
 use Rattle.std.proofs.lemmas.Bool.Decides.{nat_tests}
+use Rattle.vq_lexer.proofs.Cited.{comment_here, comment_later}
 use Rattle.vq_model.specs.Text.{is_blank, is_some_word, words_in, words_of, without_comment}
 use Rattle.vq_trace.specs.Words.{ends_word, starts_blank}
 
 abbrev is_hash : ℕ → Bool
 is_hash b = b == 35
-
-comment_here : (b : ℕ) (bs : List ℕ) → is_hash b ≡ true → without_comment (b ∷ bs) ≡ []
-comment_here b bs h = rw h refl
-
-comment_later : (b : ℕ) (bs : List ℕ) → is_hash b ≡ false → without_comment (b ∷ bs) ≡ b ∷ without_comment bs
-comment_later b bs h =
-    let next : position_or_len is_hash (b ∷ bs) ≡ suc (position_or_len is_hash bs) = rw h (omega arith) in
-    ap (λ (n : ℕ). take n (b ∷ bs)) next
 
 blank_no_hash : (b : ℕ) → is_blank b ≡ true → is_hash b ≡ false
 blank_no_hash b h = grind (arith, nat_tests)

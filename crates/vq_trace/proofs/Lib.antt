@@ -1,3 +1,4 @@
+pub mod Cited
 mod EventShapes
 mod FirstInRange
 mod FirstNames

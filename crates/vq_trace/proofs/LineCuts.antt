@@ -13,11 +13,11 @@ use Rattle.vq_given.specs.declared.given.Cut.{Cut}
 use Rattle.vq_given.specs.Cutting.{AreWholeLines, Nothing, Ended, IsCut, IsUncut, IsWholeLine, Fed, Last, is_cut_line}
 use Rattle.vq_trace.specs.FirstLines.{AtEnd, AtFeed, EndsLine, IsUnbroken}
 
-abbrev HasFirst : List (List ℕ) → Type 0
+abbrev pub HasFirst : List (List ℕ) → Type 0
 HasFirst parts = (first : List ℕ) × (rest : List (List ℕ)) × (parts ≡ first ∷ rest)
 
 -- a split has a first part
-split_has_first : (xs : List ℕ) → HasFirst (slice_split is_line_feed xs)
+pub split_has_first : (xs : List ℕ) → HasFirst (slice_split is_line_feed xs)
 split_has_first [] = ([], [], refl)
 split_has_first (x ∷ xs) = by_test (is_line_feed x) (split_has_first xs)
   where
@@ -53,10 +53,10 @@ kept_parts [] y ys = refl
 kept_parts (x ∷ []) y ys = refl
 kept_parts (x ∷ z ∷ xs) y ys = ap (λ (ps : List (List ℕ)). x ∷ ps) (kept_parts (z ∷ xs) y ys)
 
-abbrev fed_lines : List ℕ → List (List ℕ)
+abbrev pub fed_lines : List ℕ → List (List ℕ)
 fed_lines before = map strip_carriage_return (slice_split is_line_feed before)
 
-lines_after : (before back : List ℕ) → lines_of (before ++ 10 ∷ back) ≡ fed_lines before ++ lines_of back
+pub lines_after : (before back : List ℕ) → lines_of (before ++ 10 ∷ back) ≡ fed_lines before ++ lines_of back
 lines_after before back =
     let h = split_has_first back in
     ap (λ (ps : List (List ℕ)). map strip_carriage_return (without_empty_end ps)) (split_at before back)
@@ -273,7 +273,7 @@ cut_trace text cut is =
     (λ i. drop (start i) (is.parts i)) ∙ drop-append_seam (is.script ++ is.line) is.trace
 
 -- a whole line stands before others
-line_first : (line rest : List ℕ) → IsWholeLine line rest → lines_of (line ++ rest) ≡ lines_of line ++ lines_of rest
+pub line_first : (line rest : List ℕ) → IsWholeLine line rest → lines_of (line ++ rest) ≡ lines_of line ++ lines_of rest
 line_first line rest (Fed before e) = lines_whole line rest (Ended before e)
 line_first line rest (Last e) =
     subst (λ (bs : List ℕ). lines_of (line ++ bs) ≡ lines_of line ++ lines_of bs) (sym e)

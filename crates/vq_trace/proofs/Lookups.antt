@@ -15,13 +15,14 @@ use Rattle.vq_model.specs.Naming.{semaphore_name}
 use Rattle.vq_model.specs.Text.{numeral}
 use Rattle.vq_model.specs.LoweringFaults.{IsPlan}
 use Rattle.vq_model.specs.Lowering.{plan_job, plan_of}
-use Rattle.vq_model.specs.Plan.{Plan, chain, commands_of, has, line_of_command, line_of_job, resolver, value}
+use Rattle.vq_model.specs.Plan.{Plan, chain, commands_of, line_of_command, line_of_job, resolver, value}
+use Rattle.vq_ground.specs.Lists.{has}
 use Rattle.vq_model.specs.ValidScripts.{HasRisingLines, job_lines}
 use Rattle.vq_model.specs.WellFormed.{AreInOrder}
-use Rattle.vq_model.proofs.Gets.{get_some, get_within}
-use Rattle.vq_model.proofs.Lists.{has_here, has_there}
-use Rattle.vq_model.proofs.Options.{some_of}
-use Rattle.vq_model.proofs.Searches.{find_member}
+use Rattle.vq_ground.proofs.Gets.{get_some, get_within}
+use Rattle.vq_ground.proofs.Lists.{has_here}
+use Rattle.vq_ground.proofs.Options.{some_of}
+use Rattle.vq_ground.proofs.Searches.{find_member, find_none}
 use Rattle.vq_reading_laws.proofs.Cited.{queues_fit, read_lines_rise, read_valid}
 use Rattle.vq_plan_laws.proofs.Cited.{count_jobs, part_is, plan_semaphores, plan_well_formed, owner_exists}
 use Rattle.vq_order_laws.proofs.Cited.{lines_across}
@@ -81,12 +82,6 @@ not_some x e = absurd (cc)
 not_none : {A B : Type 0} (x : A) → Some x ≡ None → B
 not_none x e = absurd (cc)
 
-none_where : (test : ℕ → Bool) (xs : List ℕ) → ((f : ℕ) → has xs f ≡ true → test f ≡ false) → find test xs ≡ None
-none_where test [] h = refl
-none_where test (x ∷ xs) h =
-    ap (λ t. cond t (Some x) (find test xs)) (h x (has_here x xs))
-    ∙ none_where test xs (λ f m. h f (has_there x xs f m))
-
 module _ (p : Plan) (v : ℕ) where
   abbrev reaches : ℕ → Bool
   reaches e = nat_le v (value p e)
@@ -142,7 +137,7 @@ module _ (p : Plan) (v : ℕ) where
           let far : v < value p x = above x h (subst (λ y. value p y ≡ v → ⊥) (sym same) not) in
           let none : sets x ≡ false = grind (arith, nat_tests) in
           ap (λ t. cond t (Some x) (find sets xs)) none
-          ∙ none_where sets xs (λ g m. later g far (r.0 g m))
+          ∙ find_none sets xs (λ g m. later g far (r.0 g m))
       by_test false h more =
           ap (λ t. cond t (Some x) (find sets xs)) (below x h)
           ∙ more (sym (ap (λ t. cond t (Some x) (find reaches xs)) h) ∙ f) not
@@ -179,10 +174,3 @@ job_line_is p j job e = sym (ap (λ o. option_map_or (λ x. x.line) o 0) e)
 
 pub command_line_is : (p : Plan) (c : ℕ) (x : CommandLine) → slice_get p.commands c ≡ Some x → x.line ≡ line_of_command p c
 command_line_is p c x e = sym (ap (λ o. option_map_or (λ y. y.line) o 0) e)
-
--- the queues are few
-pub few_queues : (p : Plan) → IsPlan p → length p.script.queues < 2 ^ 32
-few_queues p is =
-    let few = (read_valid p.script is.of_script).limits.queues in
-    let fit = queues_fit p.script.version in
-    omega (arith, few, fit)

@@ -15,14 +15,15 @@ use Rattle.vq_model.specs.declared.plan.Event.TheVariants.{Submit, Take, Release
 use Rattle.vq_model.specs.declared.plan.Event.TheVariants.{Free, Start, Apply, Signal, Finish, Answer}
 use Rattle.vq_model.specs.Machine.{may_answer, was_since, with_signal}
 use Rattle.vq_model.specs.LoweringFaults.{IsPlan}
-use Rattle.vq_model.specs.Plan.{Plan, has, chain, chain_of, commands_of, question, value}
-use Rattle.vq_model.proofs.Gets.{get_within, first_is}
-use Rattle.vq_model.proofs.Lists.{has_here}
-use Rattle.vq_model.proofs.Options.{some_of}
+use Rattle.vq_model.specs.Plan.{Plan, chain, chain_of, commands_of, question, value}
+use Rattle.vq_ground.specs.Lists.{has}
+use Rattle.vq_ground.proofs.Gets.{get_within, first_is}
+use Rattle.vq_ground.proofs.Lists.{has_here}
+use Rattle.vq_ground.proofs.Options.{some_of}
 use Rattle.vq_model.proofs.Plans.{batch_exists, op_within, command_exists}
 use Rattle.vq_model.proofs.Puts.{put_here, put_there}
-use Rattle.vq_model.proofs.Searches.{find_member}
-use Rattle.vq_points.specs.Points.{PointState, CanCome, CanTake, HistoryFrom, opening_points, after_event}
+use Rattle.vq_ground.proofs.Searches.{find_member}
+use Rattle.vq_point_laws.specs.Points.{PointState, CanCome, CanTake, HistoryFrom, opening_points, after_event}
 use Rattle.vq_history_laws.specs.Histories.{points_after}
 use Rattle.vq_history_laws.proofs.Cited.{history_bounded, history_push, world_push}
 use Rattle.vq_turn_laws.specs.PlanParts.{IsOrderly}

@@ -18,7 +18,7 @@ use Rattle.vq_model.specs.Plan.{Plan, value, line_of_job, line_of_command}
 use Rattle.vq_model.specs.Sure.{KeepsChains}
 use Rattle.vq_model.specs.Meaning.{of_two, of_three, small_numeral}
 use Rattle.vq_model.proofs.Actors.{same_actor_is}
-use Rattle.vq_model.proofs.Gets.{get_some}
+use Rattle.vq_ground.proofs.Gets.{get_some}
 use Rattle.vq_canonical_laws.proofs.Cited.{decimal_back}
 use Rattle.vq_given.specs.Words.{job_said, job_with, apply_said, op_said, taken_said, answer_said, event_said, may_make, if_made_by}
 use Rattle.vq_given.specs.Words.{is_submit_actor}

@@ -8,6 +8,7 @@ use Rattle.std.specs.List.{slice_get, range_with_len}
 use Rattle.std.specs.Option.{option_map_or, option_and_then}
 use Rattle.std.proofs.lemmas.Bool.{or_left, cond-true, eq-eqb, eqb-true, false≢true, lt-ltb, cases_lt}
 use Rattle.std.proofs.lemmas.Slice.Eq.{bytes_eq-Decides}
+use Rattle.vq_ground.proofs.Bytes.{same_bytes}
 use Rattle.vq_model.specs.declared.script.ActorName.{ActorName}
 use Rattle.vq_model.specs.declared.script.ActorName.TheVariants.{Host as HostActor, Submit as SubmitActor, Ring as RingActor}
 use Rattle.vq_model.specs.declared.script.Script.{Script}
@@ -17,17 +18,18 @@ use Rattle.vq_model.specs.declared.script.Queue.{Queue}
 use Rattle.vq_model.specs.declared.script.Job.{Job}
 use Rattle.vq_model.specs.declared.script.Job.TheVariants.{Host as HostJob, Batch as BatchJob}
 use Rattle.vq_model.specs.declared.plan.Op.{Op}
-use Rattle.vq_model.specs.Plan.{Plan, has, chain, chain_of, value, initial, line_of_job, line_of_command, commands_of}
+use Rattle.vq_model.specs.Plan.{Plan, chain, chain_of, value, initial, line_of_job, line_of_command, commands_of}
+use Rattle.vq_ground.specs.Lists.{has}
 use Rattle.vq_model.specs.Lowering.{plan_of, plan_job}
 use Rattle.vq_model.specs.LoweringFaults.{IsPlan}
 use Rattle.vq_model.specs.Naming.{semaphore_name, queue_name, actor_word}
 use Rattle.vq_model.specs.Sure.{KeepsChains, KeepsRising, RisesFrom}
 use Rattle.vq_model.specs.Meaning.{small_numeral}
 use Rattle.vq_model.specs.ValidScripts.{IsActor, is_threaded_queue, job_lines}
-use Rattle.vq_model.proofs.Gets.{get_some, get_within}
-use Rattle.vq_model.proofs.Lists.{has_here, has_cases}
-use Rattle.vq_model.proofs.Numbers.{has_range, has-range_cases}
-use Rattle.vq_model.proofs.Searches.{find_passes, find_member, find_fails}
+use Rattle.vq_ground.proofs.Gets.{get_some, get_within}
+use Rattle.vq_ground.proofs.Lists.{has_here, has_cases}
+use Rattle.vq_ground.proofs.Numbers.{has_range, has-range_cases}
+use Rattle.vq_ground.proofs.Searches.{find_passes, find_member, find_fails}
 use Rattle.vq_reading_laws.proofs.Cited.{read_lines_rise}
 use Rattle.vq_canonical_laws.proofs.Cited.{decimal_back, read_names}
 use Rattle.vq_plan_laws.proofs.Cited.{count_jobs, part_is, plan_lines, plan_semaphores, plan_well_formed}
@@ -49,9 +51,6 @@ find_one test n j l t one = by_found (find test (range_with_len 0 n)) refl
     by_found (Some r) e =
         let inside = (has-range_cases n 0 r (find_member test (range_with_len 0 n) r e)).1 in
         e ∙ ap (λ (k : ℕ). Some k) (one r (omega arith) (find_passes test (range_with_len 0 n) r e))
-
-pub same_bytes : (name : List ℕ) → bytes_eq name name ≡ true
-same_bytes name = (bytes_eq-Decides name name).1 refl
 
 -- Numbers
 

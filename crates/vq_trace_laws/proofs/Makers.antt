@@ -4,6 +4,7 @@ use Rattle.std.proofs.Common.{Option, Some, None, refl, ap, ◌∙◌}
 use Rattle.std.specs.List.{slice_get, flat_map, range_with_len, enumerate_from}
 use Rattle.std.specs.Option.{option_map_or}
 use Rattle.std.proofs.lemmas.Bool.{and_from, false≢true}
+use Rattle.vq_progress_laws.proofs.Cited.{each_append, each_map}
 use Rattle.vq_model.specs.declared.script.ActorName.{ActorName}
 use Rattle.vq_model.specs.declared.script.ActorName.TheVariants.{Host as HostActor, Submit as SubmitActor, Ring as RingActor}
 use Rattle.vq_model.specs.declared.script.Mode.{Mode}
@@ -17,14 +18,15 @@ use Rattle.vq_model.specs.declared.plan.Event.TheVariants.{Complete, Free, Look,
 use Rattle.vq_model.specs.Checks.{is_immediate_batch, is_immediate_lane}
 use Rattle.vq_model.specs.Context.{is_immediate, is_threaded, is_deferred}
 use Rattle.vq_model.specs.Naming.{same_actor}
-use Rattle.vq_model.specs.Plan.{Plan, has, signals_of, is_host_step, needs, waits_for_any, idle_after, asked, question, is_silent, commands_of}
+use Rattle.vq_model.specs.Plan.{Plan, signals_of, is_host_step, needs, waits_for_any, idle_after, asked, question, is_silent, commands_of}
+use Rattle.vq_ground.specs.Lists.{has}
 use Rattle.vq_model.specs.ValidScripts.{IsActor, is_threaded_queue}
 use Rattle.vq_model.specs.WellFormed.{IsWellFormed}
 use Rattle.vq_model.specs.Edges.{AtEnd, awaited_at}
 use Rattle.vq_model.proofs.Actors.{same_actor_self}
-use Rattle.vq_model.proofs.Filters.{filter-has_cases}
-use Rattle.vq_model.proofs.Lists.{has_here, has_there}
-use Rattle.vq_points.specs.Points.{PointState, actor_of_lane, jobs_of_lane}
+use Rattle.vq_ground.proofs.Filters.{filter-has_cases}
+use Rattle.vq_ground.proofs.Lists.{has_here, has_there}
+use Rattle.vq_point_laws.specs.Points.{PointState, actor_of_lane, jobs_of_lane}
 use Rattle.vq_turns.specs.declared.task.Task.{Task}
 use Rattle.vq_turns.specs.declared.task.Task.TheVariants.{AwaitSubmitted, AwaitReleased, AwaitFinished, AwaitBound, AwaitNeeds, Submit, Take, Release, Bind, Start, Apply, Signal, Compare, Answer, Finish}
 use Rattle.vq_turns.specs.declared.look.Found.{Found}
@@ -166,19 +168,11 @@ each_drop P zero ts e = e
 each_drop P (suc n) [] e = tt
 each_drop P (suc n) (t ∷ ts) e = each_drop P n ts e.1
 
-each_join : (P : Task → Type 0) (ts us : List Task) → Each P ts → Each P us → Each P (ts ++ us)
-each_join P [] us e f = f
-each_join P (t ∷ ts) us e f = (e.0, each_join P ts us e.1 f)
-
-each_mapped : (P : Task → Type 0) (f : ℕ → Task) (xs : List ℕ) → ((x : ℕ) → has xs x ≡ true → P (f x)) → Each P (map f xs)
-each_mapped P f [] g = tt
-each_mapped P f (x ∷ xs) g = (g x (has_here x xs), each_mapped P f xs (λ y m. g y (has_there x xs y m)))
-
 each_flat : (P : Task → Type 0) (f : ℕ → List Task) (xs : List ℕ) → ((x : ℕ) → has xs x ≡ true → Each P (f x)) →
     Each P (flat_map f xs)
 each_flat P f [] g = tt
 each_flat P f (x ∷ xs) g =
-    each_join P (f x) (flat_map f xs) (g x (has_here x xs)) (each_flat P f xs (λ y m. g y (has_there x xs y m)))
+    each_append P (f x) (flat_map f xs) (g x (has_here x xs)) (each_flat P f xs (λ y m. g y (has_there x xs y m)))
 
 -- who moves the jobs of a lane
 abbrev mover_in : Plan → Lane → ActorName
@@ -208,7 +202,7 @@ each_of P f (x ∷ xs) g = (g x, each_of P f xs g)
 each_flat_of : {X : Type 0} (P : Task → Type 0) (f : X → List Task) (xs : List X) → ((x : X) → Each P (f x)) →
     Each P (flat_map f xs)
 each_flat_of P f [] g = tt
-each_flat_of P f (x ∷ xs) g = each_join P (f x) (flat_map f xs) (g x) (each_flat_of P f xs g)
+each_flat_of P f (x ∷ xs) g = each_append P (f x) (flat_map f xs) (g x) (each_flat_of P f xs g)
 
 -- An immediate queue and a deferred one aren't threaded.
 immediate_mode : (m : Mode) → is_immediate m ≡ true → is_threaded m ≡ false
@@ -236,17 +230,17 @@ module _ (p : Plan) (wf : IsWellFormed p) where
     module _ (moves_it : same_actor b (mover p j) ≡ true) (no_ring : not (is_ring b) ≡ true) where
       takes_suit : Each (Suits p b a) (takes p j)
       takes_suit =
-          each_mapped (Suits p b a) _ (signals_of p j) (λ e m. (for_op mover b j e m moves_it, no_ring))
+          each_map (Suits p b a) _ (signals_of p j) (λ e m. (for_op mover b j e m moves_it, no_ring))
 
       binds_suit : Each (Suits p b a) (map Bind (signals_of p j))
-      binds_suit = each_mapped (Suits p b a) Bind (signals_of p j) (λ e m. for_op mover b j e m moves_it)
+      binds_suit = each_map (Suits p b a) Bind (signals_of p j) (λ e m. for_op mover b j e m moves_it)
 
       moves_suit : Each (Suits p b a) (moves_batch p j)
       moves_suit =
-          each_join (Suits p b a) (map AwaitBound (awaited_at p j AtEnd) ++ takes p j ++ Release j ∷ [])
+          each_append (Suits p b a) (map AwaitBound (awaited_at p j AtEnd) ++ takes p j ++ Release j ∷ [])
           (map Bind (signals_of p j))
-          (each_join (Suits p b a) (map AwaitBound (awaited_at p j AtEnd) ++ takes p j) (Release j ∷ [])
-          (each_join (Suits p b a) (map AwaitBound (awaited_at p j AtEnd)) (takes p j)
+          (each_append (Suits p b a) (map AwaitBound (awaited_at p j AtEnd) ++ takes p j) (Release j ∷ [])
+          (each_append (Suits p b a) (map AwaitBound (awaited_at p j AtEnd)) (takes p j)
           (each_of (Suits p b a) AwaitBound (awaited_at p j AtEnd) (λ e. tt)) takes_suit)
           (moves_it, tt))
           binds_suit
@@ -257,11 +251,11 @@ module _ (p : Plan) (wf : IsWellFormed p) where
 
       module _ (runs_it : same_actor b (runner p j) ≡ true) where
         signals_suit : Each (Suits p b a) (map Signal (signals_of p j))
-        signals_suit = each_mapped (Suits p b a) Signal (signals_of p j) (λ e m. for_op runner b j e m runs_it)
+        signals_suit = each_map (Suits p b a) Signal (signals_of p j) (λ e m. for_op runner b j e m runs_it)
 
         command_suit : (x : ℕ × ℕ) → Each (Suits p b a) (runs_command p j x)
         command_suit (place, c) =
-            each_join (Suits p b a) (waits_where p j _) (Apply j c ∷ []) (waits_suit _) (runs_it, tt)
+            each_append (Suits p b a) (waits_where p j _) (Apply j c ∷ []) (waits_suit _) (runs_it, tt)
 
         -- the tasks of a batch up to its start, and up to its last wait
         abbrev up_to_start : List Task
@@ -273,14 +267,14 @@ module _ (p : Plan) (wf : IsWellFormed p) where
 
         start_suits : Each (Suits p b a) up_to_start
         start_suits =
-            each_join (Suits p b a) (AwaitReleased j ∷ [] ++ waits_where p j (λ n. n.from == 1)) (Start j ∷ [])
+            each_append (Suits p b a) (AwaitReleased j ∷ [] ++ waits_where p j (λ n. n.from == 1)) (Start j ∷ [])
             (tt, waits_suit (λ n. n.from == 1)) (runs_it, tt)
 
         waits_suits : (late : Need → Bool) → Each (Suits p b a) (up_to_waits late)
         waits_suits late =
-            each_join (Suits p b a) (up_to_start ++ flat_map (runs_command p j) (enumerate_from 1 (commands_of p j)))
+            each_append (Suits p b a) (up_to_start ++ flat_map (runs_command p j) (enumerate_from 1 (commands_of p j)))
             (waits_where p j late)
-            (each_join (Suits p b a) up_to_start (flat_map (runs_command p j) (enumerate_from 1 (commands_of p j)))
+            (each_append (Suits p b a) up_to_start (flat_map (runs_command p j) (enumerate_from 1 (commands_of p j)))
             start_suits
             (each_flat_of (Suits p b a) (runs_command p j) (enumerate_from 1 (commands_of p j)) command_suit))
             (waits_suit late)
@@ -288,8 +282,8 @@ module _ (p : Plan) (wf : IsWellFormed p) where
         batch_suit : (late : Need → Bool) →
             Each (Suits p b a) (up_to_waits late ++ map Signal (signals_of p j) ++ Finish j ∷ [])
         batch_suit late =
-            each_join (Suits p b a) (up_to_waits late ++ map Signal (signals_of p j)) (Finish j ∷ [])
-            (each_join (Suits p b a) (up_to_waits late) (map Signal (signals_of p j)) (waits_suits late) signals_suit)
+            each_append (Suits p b a) (up_to_waits late ++ map Signal (signals_of p j)) (Finish j ∷ [])
+            (each_append (Suits p b a) (up_to_waits late) (map Signal (signals_of p j)) (waits_suits late) signals_suit)
             (runs_it, tt)
 
         runs_suit : Each (Suits p b a) (runs_batch p j)
@@ -319,30 +313,30 @@ module _ (p : Plan) (wf : IsWellFormed p) where
 
         to_start_suit : Each (Suits p b a) to_start
         to_start_suit =
-            each_join (Suits p b a) (host_waits p j ++ map AwaitFinished (idle_after p j)) (Start j ∷ [])
-            (each_join (Suits p b a) (host_waits p j) (map AwaitFinished (idle_after p j)) host_waits_suit
+            each_append (Suits p b a) (host_waits p j ++ map AwaitFinished (idle_after p j)) (Start j ∷ [])
+            (each_append (Suits p b a) (host_waits p j) (map AwaitFinished (idle_after p j)) host_waits_suit
             (each_of (Suits p b a) AwaitFinished (idle_after p j) (λ i. tt)))
             (runs_it, tt)
 
         module _ (m : same_actor b (mover p j) ≡ true) (r : not (is_ring b) ≡ true) where
           to_signals_suit : Each (Suits p b a) to_signals
           to_signals_suit =
-              each_join (Suits p b a) (to_start ++ takes p j ++ map Bind (signals_of p j)) (map Signal (signals_of p j))
-              (each_join (Suits p b a) (to_start ++ takes p j) (map Bind (signals_of p j))
-              (each_join (Suits p b a) to_start (takes p j) to_start_suit (takes_suit m r))
+              each_append (Suits p b a) (to_start ++ takes p j ++ map Bind (signals_of p j)) (map Signal (signals_of p j))
+              (each_append (Suits p b a) (to_start ++ takes p j) (map Bind (signals_of p j))
+              (each_append (Suits p b a) to_start (takes p j) to_start_suit (takes_suit m r))
               (binds_suit m r))
               signals_suit
 
           to_questions_suit : Each (Suits p b a) to_questions
           to_questions_suit =
-              each_join (Suits p b a) to_signals (map (λ n. Compare n.chain n.value) (asked p j)) to_signals_suit
+              each_append (Suits p b a) to_signals (map (λ n. Compare n.chain n.value) (asked p j)) to_signals_suit
               (each_of (Suits p b a) (λ n. Compare n.chain n.value) (asked p j) (λ n. r))
 
           step_suit : Each (Suits p b a) (does_step p j)
           step_suit =
-              each_join (Suits p b a)
+              each_append (Suits p b a)
               (to_questions ++ (if is_silent (question p j) then [] else Answer j (question p j) ∷ [])) (Finish j ∷ [])
-              (each_join (Suits p b a) to_questions
+              (each_append (Suits p b a) to_questions
               (if is_silent (question p j) then [] else Answer j (question p j) ∷ []) to_questions_suit
               (answer_suit (is_silent (question p j))))
               (runs_it, tt)

@@ -7,7 +7,8 @@ use Rattle.vq_model.specs.declared.plan.Answer.TheVariants.{Reached, Timeout, No
 use Rattle.vq_model.specs.declared.plan.Event.{Event}
 use Rattle.vq_model.specs.declared.plan.Event.TheVariants.{Submit, Take, Release, Bind, Refer, Look, Unref, Complete}
 use Rattle.vq_model.specs.declared.plan.Event.TheVariants.{Free, Start, Apply, Signal, Finish, Answer}
-use Rattle.vq_model.specs.Plan.{Plan, has, commands_of, line_of_job, line_of_command, value, initial}
+use Rattle.vq_model.specs.Plan.{Plan, commands_of, line_of_job, line_of_command, value, initial}
+use Rattle.vq_ground.specs.Lists.{has}
 use Rattle.vq_model.specs.Naming.{actor_word}
 use Rattle.vq_model.specs.declared.script.ActorName.{ActorName}
 use Rattle.vq_turns.specs.declared.outcome.Outcome.{Outcome}

@@ -10,7 +10,7 @@ use Rattle.vq_model.specs.LoweringFaults.{IsPlan}
 use Rattle.vq_model.specs.Machine.{AreFinished, State}
 use Rattle.vq_model.specs.Plan.{Plan}
 use Rattle.vq_model.specs.ValidScripts.{IsActor}
-use Rattle.vq_points.specs.Points.{HistoryFrom, opening_points}
+use Rattle.vq_point_laws.specs.Points.{HistoryFrom, opening_points}
 use Rattle.vq_history_laws.specs.Histories.{acts, points_after}
 use Rattle.vq_history_laws.specs.Measure.{one}
 use Rattle.vq_history_laws.proofs.Cited.{count_cons}

@@ -9,6 +9,7 @@ use Rattle.std.proofs.lemmas.List.{map-append}
 use Rattle.std.proofs.lemmas.List.FromFn.{length-range_with_len}
 use Rattle.std.proofs.lemmas.List.Folds.{list_all-append}
 use Rattle.std.proofs.lemmas.List.Sums.{count_by-le-length}
+use Rattle.std.proofs.lemmas.Option.{same_Some}
 use Rattle.vq_model.specs.declared.plan.Answer.{Answer as Answered}
 use Rattle.vq_model.specs.declared.plan.Event.{Event}
 use Rattle.vq_model.specs.declared.plan.Event.TheVariants.{Submit, Take, Release, Bind, Refer, Look, Unref, Complete}
@@ -21,9 +22,8 @@ use Rattle.vq_model.specs.Machine.{State, put}
 use Rattle.vq_model.specs.Plan.{Plan}
 use Rattle.vq_model.specs.Text.{lines_of}
 use Rattle.vq_model.specs.ValidScripts.{IsActor}
-use Rattle.vq_model.proofs.Options.{same_some}
 use Rattle.vq_model.proofs.Puts.{put_here, put_there}
-use Rattle.vq_points.specs.Points.{PointState, HistoryFrom, opening_points, after_event}
+use Rattle.vq_point_laws.specs.Points.{PointState, HistoryFrom, opening_points, after_event}
 use Rattle.vq_history_laws.specs.Histories.{points_after}
 use Rattle.vq_turns.specs.declared.outcome.Outcome.{Outcome}
 use Rattle.vq_turns.specs.declared.outcome.Outcome.TheVariants.{Moved, Blocked, Ended}
@@ -63,7 +63,7 @@ answered_small s i a small all j b e =
       | inl same ↦
           let here : Some a ≡ Some b =
           sym (put_here s.answer i (Some a)) ∙ (ap (put s.answer i (Some a)) (sym same) ∙ e) in
-          subst IsSmallAnswer (same_some a b here) small
+          subst IsSmallAnswer (same_Some a b here) small
       | inr other ↦ all j b (sym (put_there s.answer i (Some a) j other) ∙ e)
     ]
 

@@ -21,7 +21,7 @@ use Rattle.vq_model.specs.Naming.{queue_name, semaphore_name, actor_word}
 use Rattle.vq_model.specs.Plan.{Plan, chain_of}
 use Rattle.vq_model.specs.Sure.{KeepsChains}
 use Rattle.vq_model.specs.ValidScripts.{IsActor}
-use Rattle.vq_model.proofs.Gets.{get_some}
+use Rattle.vq_ground.proofs.Gets.{get_some}
 use Rattle.vq_turns.specs.declared.outcome.Outcome.{Outcome}
 use Rattle.vq_turns.specs.declared.outcome.Outcome.TheVariants.{Moved, Blocked, Ended}
 use Rattle.vq_turn_laws.specs.Scenes.{event_made}

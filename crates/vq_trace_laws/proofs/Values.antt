@@ -12,7 +12,7 @@ use Rattle.vq_model.specs.Lowering.{plan_of}
 use Rattle.vq_model.specs.LoweringFaults.{IsPlan}
 use Rattle.vq_model.specs.Plan.{Plan, value, initial}
 use Rattle.vq_model.specs.Signals.{Signaling, all_signals, initial_value, is_timeline_at, signals_semaphore, value_at}
-use Rattle.vq_model.proofs.Gets.{get-map}
+use Rattle.vq_ground.proofs.Gets.{get-map}
 use Rattle.vq_canonical_laws.specs.FormatRules.{HasValue}
 use Rattle.vq_canonical_laws.proofs.Cited.{read_values}
 use Rattle.vq_plan_laws.proofs.Cited.{count_ops, no_value, op_value_is, plan_lanes, value_is}

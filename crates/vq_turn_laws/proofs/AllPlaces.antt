@@ -5,7 +5,7 @@ use Rattle.vq_model.specs.declared.script.ActorName.{ActorName}
 use Rattle.vq_model.specs.Plan.{Plan}
 use Rattle.vq_model.specs.Naming.{same_actor}
 use Rattle.vq_model.proofs.Actors.{same_actor_is, same_actor_self}
-use Rattle.vq_points.specs.Points.{PointState, after_event}
+use Rattle.vq_point_laws.specs.Points.{PointState, after_event}
 use Rattle.vq_turns.specs.declared.outcome.Outcome.{Outcome}
 use Rattle.vq_turns.specs.declared.outcome.Outcome.TheVariants.{Moved, Blocked, Ended}
 use Rattle.vq_turns.specs.Turns.{Place, turn_of, world_after}

@@ -5,8 +5,9 @@ use Rattle.std.proofs.Common.{arith, nat_lt, ◌==◌}
 use Rattle.std.specs.List.{list_all, flat_map, range_with_len, enumerate_from, slice_get}
 use Rattle.std.specs.Option.{option_map_or}
 use Rattle.std.proofs.lemmas.Bool.{false≢true, eqb-true, ne_eqb}
-use Rattle.vq_model.proofs.Filters.{filter-has_cases, rising_filter}
-use Rattle.vq_model.proofs.Numbers.{rising_range}
+use Rattle.std.proofs.lemmas.Option.{same_Some}
+use Rattle.vq_ground.proofs.Filters.{filter-has_cases, rising_filter}
+use Rattle.vq_ground.proofs.Numbers.{rising_range}
 use Rattle.vq_model.specs.declared.script.ActorName.{ActorName}
 use Rattle.vq_model.specs.declared.script.ActorName.TheVariants.{Host as HostActor, Submit as SubmitActor}
 use Rattle.vq_model.specs.declared.script.ActorName.TheVariants.{Ring as RingActor}
@@ -18,15 +19,15 @@ use Rattle.vq_model.specs.declared.plan.Event.{Event}
 use Rattle.vq_model.specs.declared.plan.Event.TheVariants.{Submit as Submits, Take as Takes, Release as Releases}
 use Rattle.vq_model.specs.declared.plan.Event.TheVariants.{Bind as Binds, Start as Starts, Apply as Applies}
 use Rattle.vq_model.specs.declared.plan.Event.TheVariants.{Signal as Signals, Finish as Finishes, Answer as AnswersAs}
-use Rattle.vq_model.specs.Plan.{Plan, has, of_job, same_lane, is_host_lane, job_of, is_host_step, signals_of}
+use Rattle.vq_model.specs.Plan.{Plan, of_job, same_lane, is_host_lane, job_of, is_host_step, signals_of}
+use Rattle.vq_ground.specs.Lists.{has, AreRising}
 use Rattle.vq_model.specs.Plan.{commands_of, needs, asked, question, is_silent, waits_for_any, idle_after}
 use Rattle.vq_model.specs.Edges.{AtEnd, awaited_at}
-use Rattle.vq_model.specs.WellFormed.{IsWellFormed, AreRising}
-use Rattle.vq_model.proofs.Lists.{has_here, has_there, has_cases, has-append_left, has-append_right, list_all_has}
-use Rattle.vq_model.proofs.Options.{same_some}
+use Rattle.vq_model.specs.WellFormed.{IsWellFormed}
+use Rattle.vq_ground.proofs.Lists.{has_here, has_there, has_cases, has-append_left, has-append_right, list_all_has}
 use Rattle.vq_model.specs.ValidScripts.{is_immediate_queue}
 use Rattle.vq_model.specs.Checks.{is_immediate_lane}
-use Rattle.vq_points.specs.Points.{jobs_of_lane}
+use Rattle.vq_point_laws.specs.Points.{jobs_of_lane}
 use Rattle.vq_turns.specs.declared.task.Task.{Task}
 use Rattle.vq_turns.specs.declared.task.Task.TheVariants.{AwaitSubmitted, AwaitReleased, AwaitFinished, AwaitBound}
 use Rattle.vq_turns.specs.declared.task.Task.TheVariants.{AwaitNeeds, Submit, Take, Release, Bind, Start, Apply, Signal}
@@ -97,12 +98,12 @@ JobOf p other j = ⊥
 
 pub one_job_of : (p : Plan) → IsWellFormed p → (x : Event) (i j : ℕ) → JobOf p x i → JobOf p x j → i ≡ j
 one_job_of p wf (Submits k) i j a b = sym a ∙ b
-one_job_of p wf (Takes e q fresh) i j a b = same_some i j (sym a ∙ b)
+one_job_of p wf (Takes e q fresh) i j a b = same_Some i j (sym a ∙ b)
 one_job_of p wf (Releases k) i j a b = sym a ∙ b
-one_job_of p wf (Binds e q) i j a b = same_some i j (sym a ∙ b)
+one_job_of p wf (Binds e q) i j a b = same_Some i j (sym a ∙ b)
 one_job_of p wf (Starts k) i j a b = sym a ∙ b
 one_job_of p wf (Applies k c) i j a b = wf.one_job c i j a b
-one_job_of p wf (Signals e) i j a b = same_some i j (sym a ∙ b)
+one_job_of p wf (Signals e) i j a b = same_Some i j (sym a ∙ b)
 one_job_of p wf (Finishes k) i j a b = sym a ∙ b
 one_job_of p wf (AnswersAs k z) i j a b = sym a ∙ b
 one_job_of p wf other i j a b = absurd a

@@ -4,17 +4,19 @@ use Rattle.std.proofs.Common.{◌∙◌}
 use Rattle.std.specs.List.{range_with_len}
 use Rattle.std.specs.Option.{option_map_or}
 use Rattle.std.proofs.lemmas.List.{take-append-drop}
-use Rattle.vq_model.proofs.Filters.{filter-has_cases}
+use Rattle.vq_run_laws.proofs.Cited.{next_at}
+use Rattle.vq_ground.proofs.Filters.{filter-has_cases}
 use Rattle.vq_model.specs.declared.script.ActorName.{ActorName}
 use Rattle.vq_model.specs.declared.script.ActorName.TheVariants.{Host as HostActor, Submit as SubmitActor}
 use Rattle.vq_model.specs.declared.script.ActorName.TheVariants.{Ring as RingActor}
 use Rattle.vq_model.specs.declared.plan.Lane.{Lane}
 use Rattle.vq_model.specs.declared.plan.Lane.TheVariants.{Host as HostLane, Queue as QueueLane}
-use Rattle.vq_model.specs.Plan.{Plan, has, of_job, same_lane}
+use Rattle.vq_model.specs.Plan.{Plan, of_job, same_lane}
+use Rattle.vq_ground.specs.Lists.{has}
 use Rattle.vq_model.specs.Machine.{next}
 use Rattle.vq_model.specs.WellFormed.{IsWellFormed}
-use Rattle.vq_model.proofs.Lists.{has_here, has-append_right}
-use Rattle.vq_points.specs.Points.{PointState, jobs_of_lane, lane_of_actor, actor_of_lane, next_job}
+use Rattle.vq_ground.proofs.Lists.{has_here, has-append_right}
+use Rattle.vq_point_laws.specs.Points.{PointState, jobs_of_lane, lane_of_actor, actor_of_lane, next_job}
 use Rattle.vq_turns.specs.declared.task.Task.{Task}
 use Rattle.vq_turns.specs.declared.task.Task.TheVariants.{Finish}
 use Rattle.vq_turns.specs.Programs.{program}
@@ -25,7 +27,6 @@ use Rattle.vq_turn_laws.specs.Tasks.{AreApart, Each, Among, finishes}
 use Rattle.vq_turn_laws.proofs.Apart.{program_apart, in_queue, host_lane}
 use Rattle.vq_turn_laws.proofs.Cuts.{done_of, order_cut, apart_cut, among_cut}
 use Rattle.vq_turn_laws.proofs.Finishes.{finishes_append, program_finishes, submit_finishes, finish_among}
-use Rattle.vq_turn_laws.proofs.Guards.{next_split}
 use Rattle.vq_turn_laws.proofs.HostOrder.{host_same}
 use Rattle.vq_turn_laws.proofs.PlaceLaws.{each_among}
 use Rattle.vq_turn_laws.proofs.ProgramLaws.{among_turned}
@@ -78,7 +79,7 @@ module _ (p : Plan) (a : ActorName) (w : PointState) (before after : List Task) 
       let lane = c.in_lane j js s in
       ap (λ o. option_map_or (λ lane. next w.machine.progress.finished (jobs_of_lane p lane)) o None) lane.1
       ∙ (ap (next w.machine.progress.finished) (c.whole lane.0 lane.1 ∙ ap (λ us. c.front ++ us) s)
-      ∙ next_split w.machine.progress.finished c.front j js
+      ∙ next_at w.machine.progress.finished c.front j js
       (λ y m. each_among (IsDone w) before (Finish y) d (c.earlier y m))
       (each_among (IsLeft w) after (Finish j) l
       (finish_among after j (subst (λ us. has us j ≡ true) (sym s) (has_here j js)))))

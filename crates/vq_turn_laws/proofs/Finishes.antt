@@ -9,12 +9,13 @@ use Rattle.vq_model.specs.declared.script.ActorName.TheVariants.{Ring as RingAct
 use Rattle.vq_model.specs.declared.plan.Lane.{Lane}
 use Rattle.vq_model.specs.declared.plan.Lane.TheVariants.{Host as HostLane, Queue as QueueLane}
 use Rattle.vq_model.specs.declared.plan.Need.{Need}
-use Rattle.vq_model.specs.Plan.{Plan, has, needs, asked, waits_for_any, idle_after, commands_of, signals_of, question}
+use Rattle.vq_model.specs.Plan.{Plan, needs, asked, waits_for_any, idle_after, commands_of, signals_of, question}
+use Rattle.vq_ground.specs.Lists.{has}
 use Rattle.vq_model.specs.Plan.{is_silent, is_host_step, of_job, same_lane}
 use Rattle.vq_model.specs.Edges.{AtEnd, awaited_at}
 use Rattle.vq_model.specs.Checks.{is_immediate_batch}
-use Rattle.vq_model.proofs.Lists.{has_cases}
-use Rattle.vq_points.specs.Points.{jobs_of_lane, lane_of_actor}
+use Rattle.vq_ground.proofs.Lists.{has_cases}
+use Rattle.vq_point_laws.specs.Points.{jobs_of_lane, lane_of_actor}
 use Rattle.vq_turns.specs.declared.task.Task.{Task}
 use Rattle.vq_turns.specs.declared.task.Task.TheVariants.{AwaitReleased, AwaitFinished, AwaitBound, AwaitNeeds, Submit}
 use Rattle.vq_turns.specs.declared.task.Task.TheVariants.{Release, Bind, Start, Apply, Signal, Compare, Answer, Finish}

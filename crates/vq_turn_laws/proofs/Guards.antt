@@ -6,26 +6,27 @@ use Rattle.std.specs.List.{list_any, list_all, filter_map}
 use Rattle.std.specs.Option.{option_map_or, option_to_list}
 use Rattle.std.proofs.lemmas.Bool.{or_cases, or_left, or_right, and_parts, and_from, false≢true, le-leb, leb-true}
 use Rattle.std.proofs.lemmas.Bool.{ltb-true}
-use Rattle.vq_model.proofs.Numbers.{has-range_cases}
-use Rattle.vq_model.proofs.Filters.{filter-has_cases}
+use Rattle.std.proofs.lemmas.Option.{same_Some}
+use Rattle.vq_ground.proofs.Numbers.{has-range_cases}
+use Rattle.vq_ground.proofs.Filters.{filter-has_cases}
 use Rattle.vq_model.specs.declared.plan.Answer.TheVariants.{Reached, Timeout, NotReady}
 use Rattle.vq_model.specs.declared.plan.Question.{Question}
 use Rattle.vq_model.specs.declared.plan.Question.TheVariants.{Silent, Reached as AsksReached, PollAll, PollAny, Fence}
 use Rattle.vq_model.specs.declared.plan.Question.TheVariants.{Value as AsksValue}
 use Rattle.vq_model.specs.declared.plan.Need.{Need}
-use Rattle.vq_model.specs.Plan.{Plan, of_job, has, chain, chain_of, value, signals_of, commands_of, is_host_step, asked}
+use Rattle.vq_model.specs.Plan.{Plan, of_job, chain, chain_of, value, signals_of, commands_of, is_host_step, asked}
+use Rattle.vq_ground.specs.Lists.{has}
 use Rattle.vq_model.specs.Plan.{question, is_silent, waits_for_any, previous, idle_after}
 use Rattle.vq_model.specs.Edges.{Stage, At, AtEnd, needs_at, stage_of}
 use Rattle.vq_model.specs.WellFormed.{IsWellFormed, AreInOrder}
 use Rattle.vq_model.specs.Machine.{is_reached, are_reached, next, was_since, may_answer, CanApply, CanAnswer}
-use Rattle.vq_model.proofs.Lists.{has_here, has_there, has_cases, list_all_from}
-use Rattle.vq_model.proofs.Searches.{find_splits}
-use Rattle.vq_model.proofs.Mapped.{mapped}
-use Rattle.vq_model.proofs.Options.{same_some}
+use Rattle.vq_ground.proofs.Lists.{has_here, has_there, has_cases, list_all_from}
+use Rattle.vq_ground.proofs.Searches.{find_splits}
+use Rattle.vq_ground.proofs.Mapped.{mapped}
 use Rattle.vq_model.specs.Naming.{same_actor}
-use Rattle.vq_points.specs.Points.{PointState, Reference, actor_of_lane, smaller_ops, is_pending, written_before}
-use Rattle.vq_points.specs.Points.{CanSubmit, CanBind, CanStartNow, CanSignalNow, CanFinishNow, CanComplete, CanFree}
-use Rattle.vq_run_laws.proofs.Cited.{next_in}
+use Rattle.vq_point_laws.specs.Points.{PointState, Reference, actor_of_lane, smaller_ops, is_pending, written_before}
+use Rattle.vq_point_laws.specs.Points.{CanSubmit, CanBind, CanStartNow, CanSignalNow, CanFinishNow, CanComplete, CanFree}
+use Rattle.vq_run_laws.proofs.Cited.{next_in, next_at}
 use Rattle.vq_turns.specs.declared.task.Task.{Task}
 use Rattle.vq_turns.specs.declared.task.Task.TheVariants.{AwaitReleased, AwaitFinished, AwaitNeeds, Submit, Take}
 use Rattle.vq_turns.specs.declared.task.Task.TheVariants.{Release, Bind, Start, Apply, Signal, Answer, Finish}
@@ -48,14 +49,6 @@ or_none false h = absurd (false≢true h)
 -- the chains and values of needs
 abbrev pub pairs_of : List Need → List (ℕ × ℕ)
 pairs_of ns = map (λ n. (n.chain, n.value)) ns
-
--- the first that isn't done
-pub next_split : (done : ℕ → Bool) (front : List ℕ) (x : ℕ) (back : List ℕ) →
-    ((y : ℕ) → has front y ≡ true → done y ≡ true) → done x ≡ false → next done (front ++ x ∷ back) ≡ Some x
-next_split done [] x back f n = ap (λ b. cond (not b) (Some x) (next done back)) n
-next_split done (y ∷ ys) x back f n =
-    ap (λ b. cond (not b) (Some y) (next done (ys ++ x ∷ back))) (f y (has_here y ys)) ∙ next_split done ys x back
-    (λ z m. f z (has_there y ys z m)) n
 
 module _ (p : Plan) (w : PointState) (before : List Task) (d : Each (IsDone w) before) where
   is_done : (t : Task) → Among t before → IsDone w t
@@ -118,7 +111,7 @@ module _ (p : Plan) (w : PointState) (before : List Task) (d : Each (IsDone w) b
       record {
         started = is_done (Start j) k.started;
         unfinished = each_among (IsLeft w) after (Finish j) left.1 k.unfinished;
-        next = ap (next (has w.machine.progress.applied)) k.next.whole ∙ next_split
+        next = ap (next (has w.machine.progress.applied)) k.next.whole ∙ next_at
             (has w.machine.progress.applied) k.next.front c k.next.back
             (λ y m. is_done (Apply j y) (k.next.earlier y m)) left.0;
         ready = reached j (stage_of p j c) k.needs;
@@ -137,7 +130,7 @@ module _ (p : Plan) (w : PointState) (before : List Task) (d : Each (IsDone w) b
         commands = list_all_from (has w.machine.progress.applied) (commands_of p k.job)
             (λ c m. is_done (Apply k.job c) (k.commands c m));
         next = ap (next w.machine.progress.made) k.next.whole
-            ∙ next_split w.machine.progress.made k.next.front e k.next.back
+            ∙ next_at w.machine.progress.made k.next.front e k.next.back
             (λ y m. is_done (Signal y) (k.next.earlier y m)) left.0;
         ready = reached k.job AtEnd k.needs;
         bound = bound;
@@ -393,7 +386,7 @@ module _ (p : Plan) (wf : IsWellFormed p) (w : PointState) where
 
           by_made : (b : Bool) → w.machine.progress.made f ≡ b → (if b then Some f else None) ≡ Some e →
               CanComplete p w e
-          by_made true m i = facts m (same_some f e i)
+          by_made true m i = facts m (same_Some f e i)
           by_made false m i = absurd (let c = i in cc)
 
   -- Nothing else is needed to free a point.
@@ -405,7 +398,7 @@ module _ (p : Plan) (wf : IsWellFormed p) (w : PointState) where
     where
       by_wait : (b : Bool) (r : ℕ) → b ≡ w.waiting r → (c : Bool) → (if b && c then Some r else None) ≡ Some q →
           w.waiting q ≡ true
-      by_wait true r is true h = subst (λ (z : ℕ). w.waiting z ≡ true) (same_some r q h) (sym is)
+      by_wait true r is true h = subst (λ (z : ℕ). w.waiting z ≡ true) (same_Some r q h) (sym is)
       by_wait true r is false h = absurd (let c = h in cc)
       by_wait false r is true h = absurd (let c = h in cc)
       by_wait false r is false h = absurd (let c = h in cc)

@@ -14,8 +14,8 @@ use Rattle.vq_model.specs.Plan.{Plan, initial, resolver}
 use Rattle.vq_model.proofs.Puts.{put_here, put_there}
 use Rattle.vq_model.specs.Naming.{same_actor}
 use Rattle.vq_model.proofs.Actors.{same_actor_is, same_actor_self}
-use Rattle.vq_points.specs.Points.{PointState, Reference, next_job, resolves, count_of, is_reference, holds, with_note}
-use Rattle.vq_points.specs.Points.{without_first, after_event}
+use Rattle.vq_point_laws.specs.Points.{PointState, Reference, next_job, resolves, count_of, is_reference, holds, with_note}
+use Rattle.vq_point_laws.specs.Points.{without_first, after_event}
 use Rattle.vq_turns.specs.declared.task.Task.{Task}
 use Rattle.vq_turns.specs.declared.task.Task.TheVariants.{AwaitNeeds}
 use Rattle.vq_turns.specs.declared.look.Holding.{Holding as Held}

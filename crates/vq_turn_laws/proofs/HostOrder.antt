@@ -11,12 +11,13 @@ use Rattle.vq_model.specs.declared.plan.Lane.{Lane}
 use Rattle.vq_model.specs.declared.plan.Lane.TheVariants.{Host as HostLane, Queue as QueueLane}
 use Rattle.vq_model.specs.declared.plan.PlanJob.{PlanJob}
 use Rattle.vq_model.specs.declared.plan.Need.{Need}
-use Rattle.vq_model.specs.Plan.{Plan, has, of_job, same_lane, is_host_lane, signals_of, commands_of, job_of, chain_of}
+use Rattle.vq_model.specs.Plan.{Plan, of_job, same_lane, is_host_lane, signals_of, commands_of, job_of, chain_of}
+use Rattle.vq_ground.specs.Lists.{has}
 use Rattle.vq_model.specs.Plan.{is_host_step, needs, asked, question, is_silent, waits_for_any, previous, idle_after}
 use Rattle.vq_model.specs.Edges.{Stage, At, AtEnd, awaited_at, needs_at, waits_at_start}
-use Rattle.vq_model.proofs.Lists.{has_here, has_there}
+use Rattle.vq_ground.proofs.Lists.{has_here, has_there, pushed}
 use Rattle.vq_model.specs.Checks.{is_immediate_lane}
-use Rattle.vq_points.specs.Points.{resolves, jobs_of_lane, earlier_in_queue}
+use Rattle.vq_point_laws.specs.Points.{resolves, jobs_of_lane, earlier_in_queue}
 use Rattle.vq_turns.specs.declared.task.Task.{Task}
 use Rattle.vq_turns.specs.declared.task.Task.TheVariants.{AwaitFinished, AwaitBound, AwaitNeeds, Submit, Take, Release}
 use Rattle.vq_turns.specs.declared.task.Task.TheVariants.{Bind, Start, Signal, Compare, Answer, Finish}
@@ -27,7 +28,7 @@ use Rattle.vq_turn_laws.proofs.WaitParts.{all_of, wait, within_filter, filter_wi
 use Rattle.vq_turn_laws.proofs.ProgramLaws.{InPart, onto_append, joined, parts, together, among_onto, among_turned}
 use Rattle.vq_turn_laws.proofs.ProgramLaws.{among_right, among_left, among_map, chain_or, IsBatch, moves_part}
 use Rattle.vq_turn_laws.proofs.Rooms.{Quiet, quiet_append, quiet_map, filter_few}
-use Rattle.vq_turn_laws.proofs.RingOrder.{push, pushed_has, signals_each}
+use Rattle.vq_turn_laws.proofs.RingOrder.{push, signals_each}
 
 -- What a plan says of a host step.
 pub record IsStep (p : Plan) (j : ℕ) : Type 0 where
@@ -494,7 +495,7 @@ module _ (p : Plan) (o : HasHostOrder p) where
           (cond-true (in_lane k) (k ∷ filter in_lane (range_with_len (k + 1) n))
           (filter in_lane (range_with_len (k + 1) n)) e) ∙ push front k
           (filter in_lane (range_with_len (k + 1) n))))
-          (λ i m. elim (pushed_has front k i m) [
+          (λ i m. elim (pushed front k i m) [
             | inl old ↦ among_onto (Finish i) (host_does p k) before (done i old)
             | inr s ↦ among_turned (Finish i) (host_does p k) before
                 (subst (λ (z : ℕ). Among (Finish z) (host_does p k)) s (finish_in p k (sym (host_same p k) ∙ e)))

@@ -12,8 +12,8 @@ use Rattle.vq_model.specs.WellFormed.{IsWellFormed}
 use Rattle.vq_model.specs.declared.plan.Lane.TheVariants.{Host as HostLane}
 use Rattle.vq_model.specs.declared.plan.PlanJob.{PlanJob}
 use Rattle.vq_model.specs.Naming.{same_actor}
-use Rattle.vq_points.specs.Points.{PointState, CanCome, Reference, actor_of_lane}
-use Rattle.vq_points.proofs.Cited.{Links}
+use Rattle.vq_point_laws.specs.Points.{PointState, CanCome, Reference, actor_of_lane}
+use Rattle.vq_point_laws.proofs.Cited.{Links}
 use Rattle.vq_turns.specs.declared.task.Task.{Task}
 use Rattle.vq_turns.specs.declared.task.Task.TheVariants.{Bind}
 use Rattle.vq_turns.specs.declared.look.Found.TheVariants.{Pending}

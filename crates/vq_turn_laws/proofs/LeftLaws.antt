@@ -5,11 +5,12 @@ use Rattle.vq_model.specs.declared.plan.Event.{Event}
 use Rattle.vq_model.specs.declared.plan.Event.TheVariants.{Submit as Submits, Take as Takes, Release as Releases}
 use Rattle.vq_model.specs.declared.plan.Event.TheVariants.{Bind as Binds, Start as Starts, Apply as Applies}
 use Rattle.vq_model.specs.declared.plan.Event.TheVariants.{Signal as Signals, Finish as Finishes, Answer as AnswersAs}
-use Rattle.vq_model.specs.Plan.{Plan, has, chain_of}
+use Rattle.vq_model.specs.Plan.{Plan, chain_of}
+use Rattle.vq_ground.specs.Lists.{has}
 use Rattle.vq_model.specs.Machine.{Progress, with_signal}
-use Rattle.vq_model.proofs.Lists.{has-append}
+use Rattle.vq_ground.proofs.Lists.{has-append}
 use Rattle.vq_model.proofs.Puts.{put_there}
-use Rattle.vq_points.specs.Points.{PointState, after_event}
+use Rattle.vq_point_laws.specs.Points.{PointState, after_event}
 use Rattle.vq_turns.specs.declared.task.Task.{Task}
 use Rattle.vq_turns.specs.declared.task.Task.TheVariants.{AwaitSubmitted, AwaitReleased, AwaitFinished, AwaitBound}
 use Rattle.vq_turns.specs.declared.task.Task.TheVariants.{AwaitNeeds, Submit, Take, Release, Bind, Start, Apply, Signal}

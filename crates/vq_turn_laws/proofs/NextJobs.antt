@@ -4,21 +4,22 @@ use Rattle.std.proofs.Common.{None, refl, sym, subst, ap, ◌∙◌, inl, inr, a
 use Rattle.std.specs.List.{range_with_len, slice_get}
 use Rattle.std.specs.Option.{option_map_or}
 use Rattle.std.proofs.lemmas.Bool.{false≢true, eqb-true, cases_eq}
-use Rattle.vq_model.proofs.Filters.{filter-has_cases}
+use Rattle.std.proofs.lemmas.Option.{same_Some}
+use Rattle.vq_ground.proofs.Filters.{filter-has_cases}
 use Rattle.vq_model.specs.declared.script.ActorName.{ActorName}
 use Rattle.vq_model.specs.declared.plan.Lane.{Lane}
 use Rattle.vq_model.specs.declared.plan.Lane.TheVariants.{Host as HostLane, Queue as QueueLane}
 use Rattle.vq_model.specs.declared.plan.PlanJob.{PlanJob}
 use Rattle.vq_model.specs.declared.plan.Event.{Event}
 use Rattle.vq_model.specs.declared.plan.Event.TheVariants.{Refer}
-use Rattle.vq_model.specs.Plan.{Plan, has, of_job, same_lane}
-use Rattle.vq_model.specs.WellFormed.{IsWellFormed, AreRising}
+use Rattle.vq_model.specs.Plan.{Plan, of_job, same_lane}
+use Rattle.vq_ground.specs.Lists.{has, AreRising}
+use Rattle.vq_model.specs.WellFormed.{IsWellFormed}
 use Rattle.vq_model.specs.Machine.{next}
-use Rattle.vq_model.proofs.Lists.{has_here, has_cases, has-append_left, has-append_right, has-append_cases}
-use Rattle.vq_model.proofs.Searches.{find_splits}
-use Rattle.vq_model.proofs.Options.{same_some}
-use Rattle.vq_points.specs.Points.{PointState, opening_points, jobs_of_lane, lane_of_actor, next_job, count_of, CanCome}
-use Rattle.vq_points.specs.Points.{after_event}
+use Rattle.vq_ground.proofs.Lists.{has_here, has_cases, has-append_left, has-append_right, has-append_cases}
+use Rattle.vq_ground.proofs.Searches.{find_splits}
+use Rattle.vq_point_laws.specs.Points.{PointState, opening_points, jobs_of_lane, lane_of_actor, next_job, count_of, CanCome}
+use Rattle.vq_point_laws.specs.Points.{after_event}
 use Rattle.vq_turn_laws.specs.Worlds.{RefersInTurn}
 use Rattle.vq_turn_laws.proofs.Apart.{lane_rises}
 use Rattle.vq_turn_laws.proofs.HoldingLaws.{noted_away}
@@ -112,7 +113,7 @@ module _ (p : Plan) (wf : IsWellFormed p) where
       elim (cases_eq i g.job) [
         | inl s ↦ earlier_finished w a i (g.is_next ∙ ap Some (sym s)) lane front back whole y m
         | inr n ↦
-            let c = noted_away p w w.referred a e i f (λ h. n (same_some i g.job (sym h ∙ g.is_next))) in
+            let c = noted_away p w w.referred a e i f (λ h. n (same_Some i g.job (sym h ∙ g.is_next))) in
             k i f (omega arith) lane front back whole y m
       ]
   turn_stays w k other g i f l lane front back whole y m = finished_stays p w other y

@@ -6,15 +6,16 @@ use Rattle.std.specs.Option.{option_map_or}
 use Rattle.std.proofs.lemmas.Bool.{false≢true}
 use Rattle.vq_model.specs.declared.plan.Event.{Event}
 use Rattle.vq_model.specs.declared.plan.Event.TheVariants.{Bind, Complete, Signal}
-use Rattle.vq_model.specs.Plan.{Plan, has, chain, chain_of, initial, value}
+use Rattle.vq_model.specs.Plan.{Plan, chain, chain_of, initial, value}
+use Rattle.vq_ground.specs.Lists.{has}
 use Rattle.vq_model.specs.WellFormed.{IsWellFormed}
 use Rattle.vq_model.specs.Sure.{KeepsChains, RisesFrom}
 use Rattle.vq_model.specs.SlowRun.{greatest}
 use Rattle.vq_model.specs.Machine.{with_signal}
-use Rattle.vq_model.proofs.Lists.{has_here, has_there, has_cases, has-append_cases, split_at}
+use Rattle.vq_ground.proofs.Lists.{has_here, has_there, has_cases, has-append_cases, split_at}
 use Rattle.vq_model.proofs.Puts.{put_cases, put_keeps}
-use Rattle.vq_model.proofs.Searches.{find_splits}
-use Rattle.vq_points.specs.Points.{PointState, opening_points, is_pending, CanCome, after_event}
+use Rattle.vq_ground.proofs.Searches.{find_splits}
+use Rattle.vq_point_laws.specs.Points.{PointState, opening_points, is_pending, CanCome, after_event}
 use Rattle.vq_order_laws.proofs.Cited.{rising_at}
 use Rattle.vq_run_laws.proofs.Cited.{Invariant, RaisedTo, made_below, above_initial}
 use Rattle.vq_turns.specs.Turns.{to_complete, past_value}

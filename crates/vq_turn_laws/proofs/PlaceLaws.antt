@@ -10,13 +10,14 @@ use Rattle.vq_model.specs.declared.plan.Event.{Event}
 use Rattle.vq_model.specs.declared.plan.Event.TheVariants.{Submit as Submits, Take as Takes, Release as Releases}
 use Rattle.vq_model.specs.declared.plan.Event.TheVariants.{Bind as Binds, Start as Starts, Apply as Applies}
 use Rattle.vq_model.specs.declared.plan.Event.TheVariants.{Signal as Signals, Finish as Finishes, Answer as AnswersAs}
-use Rattle.vq_model.specs.Plan.{Plan, has, needs, waits_for_any, initial, value, resolver, signals_of, chain_of}
+use Rattle.vq_model.specs.Plan.{Plan, needs, waits_for_any, initial, value, resolver, signals_of, chain_of}
+use Rattle.vq_ground.specs.Lists.{has}
 use Rattle.vq_model.specs.Plan.{is_host_step}
 use Rattle.vq_model.specs.Edges.{AtEnd, awaited_at}
 use Rattle.vq_model.specs.Machine.{is_reached, Progress, put, with_signal}
-use Rattle.vq_model.proofs.Lists.{has_here, has_there, has-append_left, list_all_from}
+use Rattle.vq_ground.proofs.Lists.{has_here, has_there, has-append_left, list_all_from}
 use Rattle.vq_model.proofs.Puts.{put_here, put_there, put_keeps}
-use Rattle.vq_points.specs.Points.{PointState, after_event, CanCome, CanRelease, earlier_in_queue, are_needs_pending}
+use Rattle.vq_point_laws.specs.Points.{PointState, after_event, CanCome, CanRelease, earlier_in_queue, are_needs_pending}
 use Rattle.vq_turns.specs.declared.task.Task.{Task}
 use Rattle.vq_turns.specs.declared.task.Task.TheVariants.{AwaitSubmitted, AwaitReleased, AwaitFinished, AwaitBound}
 use Rattle.vq_turns.specs.declared.task.Task.TheVariants.{AwaitNeeds, Submit, Take, Release, Bind, Start, Apply, Signal}

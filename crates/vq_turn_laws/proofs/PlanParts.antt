@@ -21,7 +21,7 @@ use Rattle.vq_model.specs.Plan.{same_lane, is_host_lane, is_host_step, previous,
 use Rattle.vq_model.specs.Plan.{question, is_silent}
 use Rattle.vq_model.specs.Lowering.{plan_of, plan_job, lane_of, last_from, last_before, step_needs, of_pair, of_wait}
 use Rattle.vq_model.specs.Lowering.{step_asked, step_question}
-use Rattle.vq_model.proofs.Gets.{get-take, get-take_within}
+use Rattle.vq_ground.proofs.Gets.{get-take, get-take_within}
 use Rattle.vq_model.proofs.Actors.{same_lane_is}
 use Rattle.vq_plan_laws.proofs.Cited.{part_is}
 use Rattle.vq_turn_laws.specs.Orders.{Within}

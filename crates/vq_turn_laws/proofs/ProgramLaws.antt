@@ -3,12 +3,12 @@ use Rattle.std.proofs.Common.{◌≡◌, ℕ, ◌<◌, true, false, List, [], �
 use Rattle.std.proofs.Common.{inl, inr, arith}
 use Rattle.std.specs.List.{flat_map}
 use Rattle.std.specs.Option.{option_map_or}
-use Rattle.vq_model.specs.Plan.{Plan, has, signals_of, job_of, chain_of, is_host_step, is_batch}
+use Rattle.vq_model.specs.Plan.{Plan, signals_of, job_of, chain_of, is_host_step, is_batch}
+use Rattle.vq_ground.specs.Lists.{has, AreRising}
 use Rattle.vq_model.specs.Edges.{AtEnd, awaited_at}
-use Rattle.vq_model.specs.WellFormed.{AreRising}
-use Rattle.vq_model.proofs.Lists.{has_here, has_there, has_cases}
+use Rattle.vq_ground.proofs.Lists.{has_here, has_there, has_cases}
 use Rattle.vq_model.specs.declared.script.ActorName.{ActorName}
-use Rattle.vq_points.specs.Points.{earlier_in_queue}
+use Rattle.vq_point_laws.specs.Points.{earlier_in_queue}
 use Rattle.vq_turns.specs.declared.task.Task.{Task}
 use Rattle.vq_turns.specs.declared.task.Task.TheVariants.{AwaitSubmitted, AwaitBound, Submit, Take, Release, Bind}
 use Rattle.vq_turns.specs.Programs.{takes, moves_batch, submits_batch}

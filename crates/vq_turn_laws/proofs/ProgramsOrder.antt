@@ -4,8 +4,8 @@ use Rattle.std.proofs.Common.{sym, subst, ap, ◌∙◌, inl, arith, nat_lt}
 use Rattle.std.specs.List.{range_with_len, slice_get}
 use Rattle.std.specs.Option.{option_map, option_map_or, option_to_list}
 use Rattle.std.proofs.lemmas.Bool.{and_from, false≢true, eq-eqb, lt-ltb, ltb-true}
-use Rattle.vq_model.proofs.Numbers.{has-range_cases, has_range}
-use Rattle.vq_model.proofs.Filters.{filter-has_cases, filter-has}
+use Rattle.vq_ground.proofs.Numbers.{has-range_cases, has_range}
+use Rattle.vq_ground.proofs.Filters.{filter-has_cases, filter-has}
 use Rattle.vq_model.specs.declared.script.ActorName.{ActorName}
 use Rattle.vq_model.specs.declared.script.ActorName.TheVariants.{Host as HostActor, Submit as SubmitActor}
 use Rattle.vq_model.specs.declared.script.ActorName.TheVariants.{Ring as RingActor}
@@ -13,14 +13,15 @@ use Rattle.vq_model.specs.declared.plan.Lane.{Lane}
 use Rattle.vq_model.specs.declared.plan.Lane.TheVariants.{Host as HostLane, Queue as QueueLane}
 use Rattle.vq_model.specs.declared.plan.PlanJob.{PlanJob}
 use Rattle.vq_model.specs.declared.plan.Op.{Op}
-use Rattle.vq_model.specs.Plan.{Plan, has, of_job, same_lane, is_host_lane, chain_of, is_host_step, signals_of}
+use Rattle.vq_model.specs.Plan.{Plan, of_job, same_lane, is_host_lane, chain_of, is_host_step, signals_of}
+use Rattle.vq_ground.specs.Lists.{has}
 use Rattle.vq_model.specs.Plan.{question, is_silent, previous, host_before, idle_after}
 use Rattle.vq_model.specs.WellFormed.{IsWellFormed, KeepsHostOrder}
-use Rattle.vq_model.proofs.Lists.{has_here, has-append_left}
-use Rattle.vq_model.proofs.Gets.{get_some}
+use Rattle.vq_ground.proofs.Lists.{has_here, has-append_left}
+use Rattle.vq_ground.proofs.Gets.{get_some}
 use Rattle.vq_model.specs.Checks.{is_immediate_lane}
 use Rattle.vq_model.specs.ValidScripts.{is_immediate_queue}
-use Rattle.vq_points.specs.Points.{jobs_of_lane, earlier_in_queue}
+use Rattle.vq_point_laws.specs.Points.{jobs_of_lane, earlier_in_queue}
 use Rattle.vq_turns.specs.Programs.{program}
 use Rattle.vq_turn_laws.specs.Orders.{InOrder}
 use Rattle.vq_turn_laws.specs.PlanParts.{lane_of_job, KeepsParts}

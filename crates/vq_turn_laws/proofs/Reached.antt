@@ -4,8 +4,8 @@ use Rattle.vq_model.specs.declared.plan.Event.{Event}
 use Rattle.vq_model.specs.Plan.{Plan, chain_of, value}
 use Rattle.vq_model.specs.WellFormed.{IsWellFormed}
 use Rattle.vq_model.specs.Machine.{State}
-use Rattle.vq_points.specs.Points.{PointState, opening_points, after_event, HistoryFrom, CanCome, steps_of}
-use Rattle.vq_points.proofs.Cited.{Links}
+use Rattle.vq_point_laws.specs.Points.{PointState, opening_points, after_event, HistoryFrom, CanCome, steps_of}
+use Rattle.vq_point_laws.proofs.Cited.{Links}
 use Rattle.vq_run_laws.proofs.Cited.{Follows, follows_opening, history_leads, made_reached}
 use Rattle.vq_history_laws.specs.Histories.{points_after}
 use Rattle.vq_history_laws.specs.KeptFacts.{KeepsFacts}

@@ -5,16 +5,15 @@ use Rattle.std.proofs.Common.{[], ◌∷◌, Option, Some, None, is_some, refl, 
 use Rattle.std.proofs.Common.{nat_lt, filter, ◌==◌}
 use Rattle.std.specs.Option.{option_map_or}
 use Rattle.std.proofs.lemmas.Bool.{and_from, or_from, false≢true, eq-eqb, leb-false}
+use Rattle.vq_run_laws.proofs.Cited.{next_at}
 use Rattle.vq_model.specs.declared.script.ActorName.{ActorName}
-use Rattle.vq_model.specs.declared.script.ActorName.TheVariants.{Host as HostActor, Submit as SubmitActor}
-use Rattle.vq_model.specs.declared.script.ActorName.TheVariants.{Ring as RingActor}
 use Rattle.vq_model.specs.declared.plan.Need.{Need}
 use Rattle.vq_model.specs.Plan.{Plan, is_host_step, needs, resolver, initial}
 use Rattle.vq_model.specs.Edges.{At, needs_at}
 use Rattle.vq_model.specs.Machine.{next}
 use Rattle.vq_model.specs.Naming.{same_actor}
-use Rattle.vq_points.specs.Points.{PointState, Reference, jobs_of_lane, next_job, resolves, needs_now, is_reference}
-use Rattle.vq_points.specs.Points.{CanRefer, CanLook, CanUnrefer}
+use Rattle.vq_point_laws.specs.Points.{PointState, Reference, jobs_of_lane, next_job, resolves, needs_now, is_reference}
+use Rattle.vq_point_laws.specs.Points.{CanRefer, CanLook, CanUnrefer}
 use Rattle.vq_turns.specs.declared.task.Task.{Task}
 use Rattle.vq_turns.specs.declared.task.Task.TheVariants.{AwaitReleased, Start, Finish}
 use Rattle.vq_turns.specs.declared.look.Found.TheVariants.{Past, Pending, NotYet}
@@ -27,7 +26,6 @@ use Rattle.vq_turn_laws.specs.Tasks.{Each}
 use Rattle.vq_history_laws.specs.Measure.{one}
 use Rattle.vq_turn_laws.proofs.PlaceLaws.{each_among}
 use Rattle.vq_turn_laws.proofs.WaitParts.{within_any}
-use Rattle.vq_turn_laws.proofs.Guards.{next_split}
 use Rattle.vq_history_laws.proofs.Cited.{count_cons, counted_any}
 
 -- Counting
@@ -176,7 +174,7 @@ module _ (p : Plan) (a : ActorName) (w : PointState) (before after : List Task) 
   is_next j source k =
       ap (λ o. option_map_or (λ lane. next w.machine.progress.finished (jobs_of_lane p lane)) o None) k.of_actor
       ∙ (ap (next w.machine.progress.finished) k.behind.whole
-      ∙ next_split w.machine.progress.finished k.behind.front j k.behind.back
+      ∙ next_at w.machine.progress.finished k.behind.front j k.behind.back
       (λ y m. each_among (IsDone w) before (Finish y) d (k.behind.earlier y m))
       (each_among (IsLeft w) after (Finish j) left k.unfinished))
 

@@ -8,11 +8,12 @@ use Rattle.std.proofs.lemmas.Bool.{and_parts, leb-true, leb-false, cond-false, f
 use Rattle.std.proofs.lemmas.Option.{slice_get_within}
 use Rattle.vq_model.specs.declared.plan.Need.{Need}
 use Rattle.vq_model.specs.declared.plan.PlanJob.{PlanJob}
-use Rattle.vq_model.specs.Plan.{Plan, has, needs, chain, initial, value, waits_for_any}
+use Rattle.vq_model.specs.Plan.{Plan, needs, chain, initial, value, waits_for_any}
+use Rattle.vq_ground.specs.Lists.{has}
 use Rattle.vq_model.specs.Edges.{AtEnd}
 use Rattle.vq_model.specs.Machine.{is_reached, are_reached, can_start}
 use Rattle.vq_model.specs.SlowRun.{greatest, is_of, is_ready, payload_after, left_over}
-use Rattle.vq_model.proofs.Lists.{has_cases}
+use Rattle.vq_ground.proofs.Lists.{has_cases}
 use Rattle.vq_order_laws.proofs.Cited.{ReadyEach, slow_adds, slow_has}
 use Rattle.vq_turn_laws.specs.Orders.{Within}
 use Rattle.vq_turn_laws.specs.PlanParts.{HasResolvers}

@@ -1,6 +1,6 @@
 -- In the program of a ring each task stands behind what it asks.
 use Rattle.std.proofs.Common.{◌≡◌, ℕ, ◌<◌, ◌≤◌, ◌+◌, ◌&&◌, ◌||◌, Bool, true, false, eqb, List, [], ◌∷◌, ◌++◌, length}
-use Rattle.std.proofs.Common.{map, filter, Some, refl, sym, subst, ap, ◌∙◌, ◌⊎◌, inl, inr, arith, nat_lt, nat_le, suc}
+use Rattle.std.proofs.Common.{map, filter, Some, refl, sym, subst, ap, ◌∙◌, inl, inr, arith, nat_lt, nat_le, suc}
 use Rattle.std.proofs.Common.{◌==◌}
 use Rattle.std.specs.List.{count_by, flat_map, enumerate_from, position_or_len}
 use Rattle.std.proofs.lemmas.Bool.{or_cases, or_left, or_right, and_from, and_parts, false≢true, eq-eqb, eqb-true}
@@ -10,12 +10,12 @@ use Rattle.vq_model.specs.declared.script.ActorName.TheVariants.{Ring as RingAct
 use Rattle.vq_model.specs.declared.plan.Lane.TheVariants.{Queue as QueueLane}
 use Rattle.vq_model.specs.declared.plan.Lane.{Lane}
 use Rattle.vq_model.specs.declared.plan.Need.{Need}
-use Rattle.vq_model.specs.Plan.{Plan, has, signals_of, commands_of, chain_of, is_host_step, needs, question, is_silent}
+use Rattle.vq_model.specs.Plan.{Plan, signals_of, commands_of, chain_of, is_host_step, needs, question, is_silent}
+use Rattle.vq_ground.specs.Lists.{has, AreRising}
 use Rattle.vq_model.specs.Plan.{waits_for_any, previous, idle_after}
 use Rattle.vq_model.specs.Edges.{At, AtEnd, needs_at, stage_of}
-use Rattle.vq_model.specs.WellFormed.{AreRising}
-use Rattle.vq_model.proofs.Lists.{has_here, has_there, has_cases, has-append_right, has-append_cases}
-use Rattle.vq_points.specs.Points.{jobs_of_lane, resolves}
+use Rattle.vq_ground.proofs.Lists.{has_here, has_there, has_cases, has-append_right, has-append_cases, pushed}
+use Rattle.vq_point_laws.specs.Points.{jobs_of_lane, resolves}
 use Rattle.vq_turns.specs.declared.task.Task.{Task}
 use Rattle.vq_turns.specs.declared.task.Task.TheVariants.{AwaitReleased, Start, Apply, Signal, Finish}
 use Rattle.vq_turns.specs.Programs.{waits_where, runs_command, runs_batch}
@@ -56,13 +56,6 @@ pub pushed_length : (xs : List ℕ) (x : ℕ) → length (xs ++ x ∷ []) ≡ le
 pushed_length [] x = refl
 pushed_length (z ∷ zs) x = let r = pushed_length zs x in omega arith
 
-pub pushed_has : (xs : List ℕ) (x y : ℕ) → has (xs ++ x ∷ []) y ≡ true → (has xs y ≡ true) ⊎ (x ≡ y)
-pushed_has xs x y m =
-    elim (has-append_cases xs (x ∷ []) y m) [
-      | inl l ↦ inl l
-      | inr r ↦ elim (has_cases x [] y r) [ inl e ↦ inr e | inr o ↦ absurd (false≢true o) ]
-    ]
-
 -- the signals of a job, each behind the earlier ones
 pub signals_each : (p : Plan) (a : ActorName) (j : ℕ) →
     ((e : ℕ) → has (signals_of p j) e ≡ true → chain_of p e ≡ Some (chain_or p e)) → (es front : List ℕ) →
@@ -83,7 +76,7 @@ signals_each p a j chains (e ∷ es) front whole before left st fin cs w done = 
   },
   signals_each p a j chains es (front ++ e ∷ []) (whole ∙ push front e es) (Signal e ∷ before) left (inr st) fin
       (λ c m. inr (cs c m)) (record { any = λ h. inr (w.any h); all = λ h n m. inr (w.all h n m) })
-      (λ f m. elim (pushed_has front e f m) [ inl o ↦ inr (done f o) | inr s ↦ inl (ap Signal s) ]),
+      (λ f m. elim (pushed front e f m) [ inl o ↦ inr (done f o) | inr s ↦ inl (ap Signal s) ]),
 )
 
 -- the needs from a place on, after the start
@@ -255,7 +248,7 @@ module _ (p : Plan) (a : ActorName) (lane : Lane) (j : ℕ) (b : RunsBatch p lan
       (room_here m before room)) (applies, tt))
       (commands_part cs (front ++ c ∷ []) (m + 1) (pushed_length front c ∙ ap (λ n. n + 1) len)
       (whole ∙ push front c cs) (onto (ws ++ one) before) left (more p a j held (ws ++ one) before left k)
-      (among_onto (Start j) (ws ++ one) before st) (λ d m'. elim (pushed_has front c d m') [
+      (among_onto (Start j) (ws ++ one) before st) (λ d m'. elim (pushed front c d m') [
         | inl o ↦ among_onto (Apply j d) (ws ++ one) before (done d o)
         | inr e ↦ among_turned (Apply j d) (ws ++ one) before (among_right (Apply j d) ws one (inl (ap (Apply j) e)))
       ]) (upto_more (ws ++ one) before 1 ones) (upto_two ws one before (m + 1) up) (room_command m c before room))
@@ -485,7 +478,7 @@ runs_in_order p q (j ∷ js) front rising whole batches before done clear =
     joined p (RingActor q) before (runs_batch p j) (flat_map (runs_batch p) js)
     (runs_part p (RingActor q) (QueueLane q) j b before (flat_map (runs_batch p) js) at lane_done clear)
     (runs_in_order p q js (front ++ j ∷ []) rising.1 (whole ∙ push front j js) (λ k m. batches k (has_there j js k m))
-    (onto (runs_batch p j) before) (λ i m. elim (pushed_has front j i m) [
+    (onto (runs_batch p j) before) (λ i m. elim (pushed front j i m) [
       | inl o ↦ among_onto (Finish i) (runs_batch p j) before (done i o)
       | inr e ↦ subst (λ (n : ℕ). Among (Finish n) (onto (runs_batch p j) before)) e (has_finish p j before)
     ]) (runs_clear p j before))

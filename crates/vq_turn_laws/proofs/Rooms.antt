@@ -4,7 +4,7 @@ use Rattle.std.proofs.Common.{filter, refl, ap, ◌∙◌, arith}
 use Rattle.std.specs.List.{count_by}
 use Rattle.vq_model.specs.declared.plan.Need.{Need}
 use Rattle.vq_model.specs.Plan.{Plan}
-use Rattle.vq_points.specs.Points.{resolves}
+use Rattle.vq_point_laws.specs.Points.{resolves}
 use Rattle.vq_turns.specs.declared.task.Task.{Task}
 use Rattle.vq_turns.specs.declared.task.Task.TheVariants.{AwaitNeeds}
 use Rattle.vq_turn_laws.specs.Orders.{waited_since}

@@ -13,12 +13,13 @@ use Rattle.vq_model.specs.declared.plan.Need.{Need}
 use Rattle.vq_model.specs.Checks.{is_immediate_batch}
 use Rattle.vq_model.specs.Edges.{AtEnd, awaited_at}
 use Rattle.vq_model.specs.Plan.{Plan, commands_of, signals_of, is_host_step, needs, waits_for_any, idle_after, asked}
-use Rattle.vq_model.specs.Plan.{question, is_silent, has, of_job, same_lane}
+use Rattle.vq_model.specs.Plan.{question, is_silent, of_job, same_lane}
+use Rattle.vq_ground.specs.Lists.{has}
 use Rattle.vq_model.specs.WellFormed.{IsWellFormed}
-use Rattle.vq_model.proofs.Filters.{filter-has_cases}
-use Rattle.vq_model.proofs.Numbers.{has-range_cases}
-use Rattle.vq_model.proofs.Lists.{has_here, has_there}
-use Rattle.vq_points.specs.Points.{jobs_of_lane}
+use Rattle.vq_ground.proofs.Filters.{filter-has_cases}
+use Rattle.vq_ground.proofs.Numbers.{has-range_cases}
+use Rattle.vq_ground.proofs.Lists.{has_here, has_there}
+use Rattle.vq_point_laws.specs.Points.{jobs_of_lane}
 use Rattle.vq_turns.specs.declared.task.Task.{Task}
 use Rattle.vq_turns.specs.declared.task.Task.TheVariants.{AwaitReleased, AwaitFinished, AwaitBound}
 use Rattle.vq_turns.specs.declared.task.Task.TheVariants.{AwaitNeeds, Submit, Take, Release, Bind, Start, Apply, Signal}

@@ -10,10 +10,11 @@ use Rattle.vq_model.specs.declared.plan.Need.{Need}
 use Rattle.vq_model.specs.declared.plan.Question.{Question}
 use Rattle.vq_model.specs.declared.plan.Event.{Event}
 use Rattle.vq_model.specs.declared.plan.Event.TheVariants.{Complete, Free}
-use Rattle.vq_model.specs.Plan.{Plan, has, asked, chain, initial, value}
+use Rattle.vq_model.specs.Plan.{Plan, asked, chain, initial, value}
+use Rattle.vq_ground.specs.Lists.{has}
 use Rattle.vq_model.specs.Machine.{was_since}
-use Rattle.vq_model.proofs.Lists.{has_cases}
-use Rattle.vq_points.specs.Points.{PointState, CanCome, after_event}
+use Rattle.vq_ground.proofs.Lists.{has_cases}
+use Rattle.vq_point_laws.specs.Points.{PointState, CanCome, after_event}
 use Rattle.vq_run_laws.proofs.Cited.{RaisedTo}
 use Rattle.vq_turns.specs.declared.task.Task.{Task}
 use Rattle.vq_turns.specs.declared.task.Task.TheVariants.{Start, Compare, Answer}

@@ -11,14 +11,15 @@ use Rattle.vq_model.specs.declared.script.Mode.{Mode}
 use Rattle.vq_model.specs.declared.script.Mode.TheVariants.{Immediate, Deferred, Threaded}
 use Rattle.vq_model.specs.declared.script.Queue.{Queue}
 use Rattle.vq_model.specs.declared.plan.Event.{Event}
-use Rattle.vq_model.specs.Plan.{Plan, has}
+use Rattle.vq_model.specs.Plan.{Plan}
+use Rattle.vq_ground.specs.Lists.{has}
 use Rattle.vq_model.specs.Context.{is_immediate, is_deferred}
 use Rattle.vq_model.specs.ValidScripts.{is_immediate_queue}
-use Rattle.vq_model.proofs.Lists.{has_here, has_there}
-use Rattle.vq_model.proofs.Filters.{filter-has_cases}
+use Rattle.vq_ground.proofs.Lists.{has_here, has_there}
+use Rattle.vq_ground.proofs.Filters.{filter-has_cases}
 use Rattle.vq_model.specs.Naming.{same_actor}
 use Rattle.vq_model.proofs.Actors.{same_actor_is, same_actor_self}
-use Rattle.vq_points.specs.Points.{PointState, CanCome, after_event, opening_points, HistoryFrom}
+use Rattle.vq_point_laws.specs.Points.{PointState, CanCome, after_event, opening_points, HistoryFrom}
 use Rattle.vq_turns.specs.declared.outcome.Outcome.{Outcome}
 use Rattle.vq_turns.specs.declared.outcome.Outcome.TheVariants.{Moved, Blocked, Ended}
 use Rattle.vq_turns.specs.Programs.{is_deferred_queue, deferred_queues}

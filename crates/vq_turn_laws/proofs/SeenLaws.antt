@@ -10,7 +10,7 @@ use Rattle.vq_model.specs.WellFormed.{IsWellFormed, KeepsHostOrder}
 use Rattle.vq_model.specs.Sure.{KeepsChains}
 use Rattle.vq_model.specs.Machine.{was_since}
 use Rattle.vq_model.proofs.Puts.{put_there}
-use Rattle.vq_points.specs.Points.{PointState, CanCome, after_event}
+use Rattle.vq_point_laws.specs.Points.{PointState, CanCome, after_event}
 use Rattle.vq_run_laws.proofs.Cited.{Follows, signal_step}
 use Rattle.vq_turns.specs.declared.look.Seen.{Seen}
 use Rattle.vq_turn_laws.specs.Worlds.{Sees, RisesAt, RisesIn}

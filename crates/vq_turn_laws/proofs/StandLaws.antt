@@ -5,8 +5,8 @@ use Rattle.vq_model.specs.declared.script.ActorName.{ActorName}
 use Rattle.vq_model.specs.declared.plan.Need.{Need}
 use Rattle.vq_model.specs.declared.plan.Event.{Event}
 use Rattle.vq_model.specs.Plan.{Plan}
-use Rattle.vq_model.proofs.Lists.{has-append_right, has_here}
-use Rattle.vq_points.specs.Points.{PointState, CanCome, after_event, count_of}
+use Rattle.vq_ground.proofs.Lists.{has-append_right, has_here}
+use Rattle.vq_point_laws.specs.Points.{PointState, CanCome, after_event, count_of}
 use Rattle.vq_turns.specs.declared.task.Task.{Task}
 use Rattle.vq_turns.specs.declared.task.Task.TheVariants.{AwaitNeeds, Finish}
 use Rattle.vq_turns.specs.declared.look.Holding.{Holding}

@@ -13,9 +13,9 @@ use Rattle.vq_model.specs.declared.plan.Event.TheVariants.{Signal as Signals, Fi
 use Rattle.vq_model.specs.declared.plan.Event.TheVariants.{Complete, Free}
 use Rattle.vq_model.specs.Plan.{Plan, asked, question}
 use Rattle.vq_model.specs.Machine.{with_signal}
-use Rattle.vq_model.proofs.Lists.{has_here, has-append_right}
+use Rattle.vq_ground.proofs.Lists.{has_here, has-append_right}
 use Rattle.vq_model.proofs.Puts.{put_here}
-use Rattle.vq_points.specs.Points.{PointState, CanCome, after_event}
+use Rattle.vq_point_laws.specs.Points.{PointState, CanCome, after_event}
 use Rattle.vq_turns.specs.declared.task.Task.{Task}
 use Rattle.vq_turns.specs.declared.task.Task.TheVariants.{Submit, Take, Release, Bind, Start, Apply, Signal, Answer}
 use Rattle.vq_turns.specs.declared.task.Task.TheVariants.{Finish}

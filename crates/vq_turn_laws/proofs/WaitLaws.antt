@@ -3,16 +3,17 @@ use Rattle.std.proofs.Common.{◌≡◌, ℕ, ◌≤◌, Bool, true, false, if�
 use Rattle.std.proofs.Common.{refl, sym, subst, ap, ◌∙◌, inl, inr, arith}
 use Rattle.std.specs.List.{list_any}
 use Rattle.std.proofs.lemmas.Bool.{false≢true, leb-true, le-leb}
+use Rattle.std.proofs.lemmas.Option.{same_Some}
 use Rattle.vq_model.specs.declared.script.ActorName.{ActorName}
 use Rattle.vq_model.specs.declared.plan.Need.{Need}
 use Rattle.vq_model.specs.declared.plan.Event.{Event}
 use Rattle.vq_model.specs.declared.plan.Event.TheVariants.{Refer, Look, Unref}
-use Rattle.vq_model.specs.Plan.{Plan, has, chain, initial, value, resolver}
+use Rattle.vq_model.specs.Plan.{Plan, chain, initial, value, resolver}
+use Rattle.vq_ground.specs.Lists.{has}
 use Rattle.vq_model.specs.Machine.{is_reached}
-use Rattle.vq_model.proofs.Lists.{has_here, has_there}
-use Rattle.vq_model.proofs.Options.{same_some}
-use Rattle.vq_model.proofs.Searches.{find_passes, find_member}
-use Rattle.vq_points.specs.Points.{PointState, CanCome, after_event, next_job}
+use Rattle.vq_ground.proofs.Lists.{has_here, has_there}
+use Rattle.vq_ground.proofs.Searches.{find_passes, find_member}
+use Rattle.vq_point_laws.specs.Points.{PointState, CanCome, after_event, next_job}
 use Rattle.vq_turns.specs.declared.task.Task.{Task}
 use Rattle.vq_turns.specs.declared.task.Task.TheVariants.{AwaitNeeds, Finish}
 use Rattle.vq_turns.specs.declared.look.Holding.{Holding}
@@ -55,7 +56,7 @@ module _ (p : Plan) (w : PointState) (a : ActorName) (before : List Task) (ns : 
   waits_first : (holding : List Holding) (met : Bool) → Stands p w a before (AwaitNeeds ns ∷ left) holding met →
       (j : ℕ) (js : List ℕ) → finishes left ≡ j ∷ js → j ≡ asks.job
   waits_first holding met s j js f =
-      same_some j asks.job (sym (job_is_next p a w before (AwaitNeeds ns ∷ left) c s.done s.left j js f)
+      same_Some j asks.job (sym (job_is_next p a w before (AwaitNeeds ns ∷ left) c s.done s.left j js f)
       ∙ waits_next holding met s)
 
   at_job : (holding : List Holding) (met : Bool) → Stands p w a before (AwaitNeeds ns ∷ left) holding met →

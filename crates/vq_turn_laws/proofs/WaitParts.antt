@@ -5,10 +5,10 @@ use Rattle.std.proofs.Common.{refl, sym, subst, ap, ◌∙◌, inl, inr, ◌||�
 use Rattle.std.specs.List.{count_by, list_any, list_all, position_or_len, prefix_len}
 use Rattle.vq_model.specs.declared.script.ActorName.{ActorName}
 use Rattle.vq_model.specs.declared.plan.Need.{Need}
-use Rattle.vq_model.specs.Plan.{Plan, has}
-use Rattle.vq_model.specs.WellFormed.{AreRising}
-use Rattle.vq_model.proofs.Lists.{has_here, has-append_right}
-use Rattle.vq_points.specs.Points.{resolves, needs_resolved}
+use Rattle.vq_model.specs.Plan.{Plan}
+use Rattle.vq_ground.specs.Lists.{has, AreRising}
+use Rattle.vq_ground.proofs.Lists.{has_here, has-append_right}
+use Rattle.vq_point_laws.specs.Points.{resolves, needs_resolved}
 use Rattle.vq_turns.specs.declared.task.Task.{Task}
 use Rattle.vq_turns.specs.declared.task.Task.TheVariants.{AwaitReleased, AwaitNeeds, Start, Finish}
 use Rattle.vq_turn_laws.specs.Orders.{waited_since, Within, Behind, InJob, AsksWait}

@@ -6,7 +6,7 @@ use Rattle.std.specs.List.{slice_get}
 use Rattle.vq_model.specs.declared.script.ActorName.{ActorName}
 use Rattle.vq_model.specs.declared.plan.Need.{Need}
 use Rattle.vq_model.specs.Plan.{Plan, initial, resolver}
-use Rattle.vq_points.specs.Points.{PointState, resolves, count_of, is_reference}
+use Rattle.vq_point_laws.specs.Points.{PointState, resolves, count_of, is_reference}
 use Rattle.vq_turns.specs.declared.task.Task.{Task}
 use Rattle.vq_turns.specs.declared.look.Holding.{Holding}
 use Rattle.vq_turns.specs.Turns.{held_for}

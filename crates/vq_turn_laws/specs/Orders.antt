@@ -6,10 +6,11 @@ use Rattle.vq_model.specs.declared.script.ActorName.{ActorName}
 use Rattle.vq_model.specs.declared.plan.Lane.{Lane}
 use Rattle.vq_model.specs.declared.plan.Need.{Need}
 use Rattle.vq_model.specs.declared.plan.Question.{Question}
-use Rattle.vq_model.specs.Plan.{Plan, has, signals_of, commands_of, job_of, chain_of, is_host_step, is_batch, needs}
+use Rattle.vq_model.specs.Plan.{Plan, signals_of, commands_of, job_of, chain_of, is_host_step, is_batch, needs}
+use Rattle.vq_ground.specs.Lists.{has}
 use Rattle.vq_model.specs.Plan.{asked, question, is_silent, waits_for_any, previous, idle_after}
 use Rattle.vq_model.specs.Edges.{Stage, At, AtEnd, awaited_at, needs_at, stage_of}
-use Rattle.vq_points.specs.Points.{resolves, needs_resolved, earlier_in_queue, jobs_of_lane, lane_of_actor}
+use Rattle.vq_point_laws.specs.Points.{resolves, needs_resolved, earlier_in_queue, jobs_of_lane, lane_of_actor}
 use Rattle.vq_turns.specs.declared.task.Task.{Task}
 use Rattle.vq_turns.specs.declared.task.Task.TheVariants.{AwaitSubmitted, AwaitReleased, AwaitFinished, AwaitBound}
 use Rattle.vq_turns.specs.declared.task.Task.TheVariants.{AwaitNeeds, Submit, Take, Release, Bind, Start, Apply, Signal}

@@ -7,7 +7,7 @@ use Rattle.vq_model.specs.declared.script.ActorName.TheVariants.{Ring as RingAct
 use Rattle.vq_model.specs.declared.plan.Event.{Event}
 use Rattle.vq_model.specs.Plan.{Plan}
 use Rattle.vq_model.specs.ValidScripts.{is_immediate_queue}
-use Rattle.vq_points.specs.Points.{PointState, CanCome}
+use Rattle.vq_point_laws.specs.Points.{PointState, CanCome}
 use Rattle.vq_turns.specs.declared.outcome.Outcome.{Outcome}
 use Rattle.vq_turns.specs.declared.outcome.Outcome.TheVariants.{Moved}
 use Rattle.vq_turns.specs.Programs.{is_deferred_queue}

@@ -6,7 +6,7 @@ use Rattle.vq_model.specs.declared.script.ActorName.{ActorName}
 use Rattle.vq_model.specs.Plan.{Plan}
 use Rattle.vq_model.specs.Machine.{is_reached}
 use Rattle.vq_model.specs.Naming.{same_actor}
-use Rattle.vq_points.specs.Points.{PointState, CanCome, after_event}
+use Rattle.vq_point_laws.specs.Points.{PointState, CanCome, after_event}
 use Rattle.vq_turns.specs.declared.task.Task.{Task}
 use Rattle.vq_turns.specs.declared.look.Holding.{Holding}
 use Rattle.vq_turns.specs.declared.look.Seen.{Seen}

@@ -4,9 +4,10 @@ use Rattle.std.specs.Prelude.{None}
 use Rattle.vq_model.specs.declared.plan.Lane.{Lane}
 use Rattle.vq_model.specs.declared.plan.Event.{Event}
 use Rattle.vq_model.specs.declared.plan.Event.TheVariants.{Signal}
-use Rattle.vq_model.specs.Plan.{Plan, has, chain_of, value, initial}
+use Rattle.vq_model.specs.Plan.{Plan, chain_of, value, initial}
+use Rattle.vq_ground.specs.Lists.{has}
 use Rattle.vq_model.specs.Machine.{was_since}
-use Rattle.vq_points.specs.Points.{PointState, count_of, jobs_of_lane, opening_points, HistoryFrom}
+use Rattle.vq_point_laws.specs.Points.{PointState, count_of, jobs_of_lane, opening_points, HistoryFrom}
 use Rattle.vq_turns.specs.declared.look.Seen.{Seen}
 use Rattle.vq_history_laws.specs.Histories.{points_after}
 

@@ -7,7 +7,7 @@ ghost use Rattle.vq_model.specs.Checks.{IsLawful};
 ghost use Rattle.vq_model.specs.LoweringFaults.{IsPlan};
 ghost use Rattle.vq_model.specs.declared.plan.Event.{Event};
 ghost use Rattle.vq_model.specs.declared.script.ActorName.{ActorName};
-ghost use Rattle.vq_points.specs.Points.{PointState, CanCome, after_event, opening_points, HistoryFrom};
+ghost use Rattle.vq_point_laws.specs.Points.{PointState, CanCome, after_event, opening_points, HistoryFrom};
 ghost use Rattle.vq_turns.specs.declared.task.Task.{Task};
 ghost use Rattle.vq_turns.specs.declared.outcome.Outcome.TheVariants.{Blocked, Moved};
 ghost use Rattle.vq_turns.specs.declared.outcome.Want.{Want};

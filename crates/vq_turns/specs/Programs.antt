@@ -15,7 +15,7 @@ use Rattle.vq_model.specs.Plan.{question, is_host_step, is_silent}
 use Rattle.vq_model.specs.Edges.{AtEnd, awaited_at}
 use Rattle.vq_model.specs.Checks.{is_immediate_batch}
 use Rattle.vq_model.specs.Context.{is_deferred}
-use Rattle.vq_points.specs.Points.{jobs_of_lane}
+use Rattle.vq_point_laws.specs.Points.{jobs_of_lane}
 use Rattle.vq_turns.specs.declared.task.Task.{Task}
 use Rattle.vq_turns.specs.declared.task.Task.TheVariants.{AwaitSubmitted, AwaitReleased, AwaitFinished, AwaitBound}
 use Rattle.vq_turns.specs.declared.task.Task.TheVariants.{AwaitNeeds, Submit, Take, Release, Bind, Start, Apply, Signal}

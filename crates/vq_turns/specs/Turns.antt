@@ -19,7 +19,7 @@ use Rattle.vq_model.specs.declared.plan.Event.TheVariants.{Start as Starts, Appl
 use Rattle.vq_model.specs.declared.plan.Event.TheVariants.{Finish as Finishes, Answer as AnswersAs}
 use Rattle.vq_model.specs.Plan.{Plan, chain, chain_of, initial, value, resolver}
 use Rattle.vq_model.specs.SlowRun.{greatest}
-use Rattle.vq_points.specs.Points.{PointState, after_event, is_pending, smaller_ops}
+use Rattle.vq_point_laws.specs.Points.{PointState, after_event, is_pending, smaller_ops}
 use Rattle.vq_turns.specs.declared.task.Task.{Task}
 use Rattle.vq_turns.specs.declared.task.Task.TheVariants.{AwaitSubmitted, AwaitReleased, AwaitFinished, AwaitBound}
 use Rattle.vq_turns.specs.declared.task.Task.TheVariants.{AwaitNeeds, Submit, Take, Release, Bind, Start, Apply, Signal}

@@ -9,7 +9,8 @@ use Rattle.vq_model.specs.declared.script.Script.{Script}
 use Rattle.vq_model.specs.Edges.{Stage}
 use Rattle.vq_model.specs.HappensBefore.{IsHop, HappensBeforeAt, one, more}
 use Rattle.vq_model.specs.Machine.{is_reached}
-use Rattle.vq_model.specs.Plan.{Plan, has, needs, waits_for_any}
+use Rattle.vq_model.specs.Plan.{Plan, needs, waits_for_any}
+use Rattle.vq_ground.specs.Lists.{has}
 use Rattle.vq_model.specs.Races.{IsRace}
 use Rattle.vq_model.specs.Sure.{IsSureAt, finished_first, waited_for, passed_on}
 use Rattle.vq_model.specs.SlowRun.{left_over, payload_after}

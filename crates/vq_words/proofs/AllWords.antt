@@ -1,9 +1,10 @@
 -- What `clap` makes of all lists of words, and what is read of its answer.
 use Rattle.std.proofs.Common.{◌≡◌, ◌≢◌, ◌∙◌, inl, inr, ◌&&◌, true≢false, ◌∷◌, List, [], Option, Some, None, Bool, true, false, refl, sym, ap, subst, cond, codes, map}
 use Rattle.std.specs.Option.{ok_or}
-use Rattle.std.specs.Prelude.{if◌then◌else◌, not}
+use Rattle.std.specs.Prelude.{if◌then◌else◌}
 use Rattle.std.specs.Str.{bytes_eq}
 use Rattle.std.proofs.lemmas.Slice.Eq.{bytes_eq-Decides}
+use Rattle.std.proofs.lemmas.Bool.{not-true}
 use Rattle.clap.specs.Faults.{fault_of, is_simple_and_free, turn_fault, walk_fault}
 use Rattle.clap.specs.Kinds.{HasKind, Kinds, or_else}
 use Rattle.clap.specs.Simple.{App, matches_of}
@@ -124,10 +125,6 @@ pair first word free free_word = by_word (λ w. Says (w ∷ word ∷ [])) first
     (both_shown KnowsBehind SaysStray (λ w. Says (w ∷ word ∷ [])) (behind_first word free_word) options known_pairs stray_pairs)
     (λ none. by_fault (first ∷ word ∷ []) (either _ _ (idle_stray first [] free none)) (stray_asks_before first word none))
 
-no_stop : (b : Bool) → not b ≡ true → b ≡ false
-no_stop true e = sym e
-no_stop false e = refl
-
 both_free : (a b : Bool) → (a && b) ≡ true → (a ≡ true) × (b ≡ true)
 both_free true b e = (refl, e)
 both_free false b e = absurd (true≢false (sym e))
@@ -135,10 +132,10 @@ both_free false b e = absurd (true≢false (sym e))
 pub says : (words : List Text) → has_clap_form words ≡ true → Says words
 unfolding clap_on_literals
 says [] form = refl
-says (word ∷ []) form = alone word (no_stop _ form)
+says (word ∷ []) form = alone word (not-true _ form)
 says (first ∷ word ∷ []) form =
     let free = both_free _ _ form in
-    pair first word (no_stop _ free.0) (no_stop _ free.1)
+    pair first word (not-true _ free.0) (not-true _ free.1)
 says (first ∷ word ∷ more ∷ words) form = absurd (true≢false (sym form))
 
 -- ---- what is read of an answer

@@ -2,7 +2,7 @@
 ghost use Rattle.std.specs.Prelude.{◌≡◌, ◌<◌, [], true, length, IfOk};
 ghost use Rattle.std.specs.List.{slice_index_or};
 ghost use Rattle.vq_model.specs.Edges.{AtEnd, must_finish};
-ghost use Rattle.vq_model.specs.Plan.{has};
+ghost use Rattle.vq_ground.specs.Lists.{has};
 ghost use Rattle.vq_model.specs.SlowRun.{slow_order};
 ghost use Rattle.vq_clocks.specs.VectorClocks.{before_half, both, in_row, position, sure_half};
 ghost use Rattle.vq_clocks.specs.VectorClocks.{AddsEdge, AddsEdgeOf, AddsJob, AddsOp, EndsOps, HasBoth};

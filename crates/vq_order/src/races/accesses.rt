@@ -3,7 +3,8 @@ ghost use Rattle.std.specs.Prelude.{◌≡◌, ◌<◌, ◌+◌, ◌^◌, true, 
 ghost use Rattle.std.specs.List.{slice_index_or};
 ghost use Rattle.std.specs.Option.{option_map_or};
 ghost use Rattle.vq_model.specs.LoweringFaults.{IsPlan};
-ghost use Rattle.vq_model.specs.Plan.{commands_of, has};
+ghost use Rattle.vq_model.specs.Plan.{commands_of};
+ghost use Rattle.vq_ground.specs.Lists.{has};
 ghost use Rattle.vq_model.specs.Ranges.{Fits, read_range, written_range};
 ghost use Rattle.vq_order.specs.Accessed.{accesses_conflict, span_of, spans_share, AreAccesses, IsAccess};
 

@@ -1,7 +1,7 @@
 use Rattle.std.proofs.Common.{◌<◌, ◌∙◌, get_or, length, subst, sym}
+use Rattle.vq_ground.proofs.Gets.{has_at}
 use Rattle.vq_board.specs.Named.{view}
 use Rattle.vq_model.specs.Plan.{Plan}
-use Rattle.vq_spec.proofs.Cited.{has_at}
 use Rattle.std.proofs.lemmas.Option.{slice_get-get_or}
 use Rattle.vq_access.proofs.TakenLooks.{looked_on, taken_on}
 use Rattle.vq_access.proofs.takings.untaken.Goals as goal

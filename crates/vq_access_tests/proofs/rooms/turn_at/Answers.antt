@@ -2,7 +2,7 @@ use Rattle.std.proofs.Common.{Option, Some, IfSome, rules, slice_set, sym, subst
 use Rattle.std.proofs.lemmas.List.Elements.{All-set}
 use Rattle.vq_model.specs.ValidScripts.{IsActor}
 use Rattle.vq_access.specs.Grounding.{board_at}
-use Rattle.vq_rooms.specs.Rooming.{Room}
+use Rattle.vq_board_run.specs.Rooming.{Room}
 use Rattle.vq_board.specs.Named.{plan_of}
 use Rattle.vq_access_tests.specs.Rooms.{IsPlaced}
 use Rattle.vq_access_tests.proofs.rooms.turn_at.Goals as goal

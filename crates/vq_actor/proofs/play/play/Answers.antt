@@ -1,8 +1,9 @@
 use Rattle.std.proofs.Common.{◌≡◌, ◌∙◌, Some, refl, sym, ap, subst, inl, inr}
+use Rattle.vq_ground.proofs.Gets.{at_index}
 use Rattle.vq_turns.specs.Programs.{program}
 use Rattle.vq_turns.specs.Turns.{Place}
 use Rattle.vq_actor.proofs.LastTasks.{none_went_on}
-use Rattle.vq_actor.proofs.TurnSteps.{at_index, begins, goes_on, ends, is_over}
+use Rattle.vq_actor.proofs.TurnSteps.{begins, goes_on, ends, is_over}
 use Rattle.vq_actor.proofs.play.play.Goals as goal
 
 pub loop-k-init : goal.loop-k-init

@@ -1,7 +1,7 @@
 use Rattle.std.proofs.Common.{List, ap, ◌∙◌}
 use Rattle.std.specs.List.{slice_get}
 use Rattle.std.specs.Option.{option_to_list}
-use Rattle.vq_model.proofs.Gets.{get-append_left, get_within}
+use Rattle.vq_ground.proofs.Gets.{get-append_left, get_within}
 use Rattle.vq_board.specs.declared.parts.Pass.{Pass}
 use Rattle.vq_board_stage.proofs.passes.last.Goals as goal
 

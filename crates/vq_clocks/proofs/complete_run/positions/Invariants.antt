@@ -1,5 +1,5 @@
 use Rattle.std.proofs.Common.{ℕ, true, length, take, get_or, ◌≡◌}
-use Rattle.vq_model.specs.Plan.{has}
+use Rattle.vq_ground.specs.Lists.{has}
 use Rattle.vq_clocks.specs.VectorClocks.{position}
 use Rattle.vq_clocks.proofs.complete_run.positions.Given as goal
 

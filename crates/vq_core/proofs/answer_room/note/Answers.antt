@@ -1,6 +1,6 @@
 use Rattle.std.proofs.Common.{Some, length, refl, sym, subst, ◌≤◌, slice_set, arith, ap}
 use Rattle.vq_model.specs.declared.plan.Event.{Event}
-use Rattle.vq_points.specs.Points.{after_event}
+use Rattle.vq_point_laws.specs.Points.{after_event}
 use Rattle.vq_core.specs.Answered.{AreAnswers}
 use Rattle.vq_core.proofs.AnswersKept.{noted, unnoted}
 use Rattle.vq_core.proofs.answer_room.note.Goals as goal

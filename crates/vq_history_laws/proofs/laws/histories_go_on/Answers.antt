@@ -1,4 +1,4 @@
-use Rattle.vq_points.specs.Points.{opening_points}
+use Rattle.vq_point_laws.specs.Points.{opening_points}
 use Rattle.vq_history_laws.proofs.Longer.{history_push, world_push}
 use Rattle.vq_history_laws.proofs.laws.histories_go_on.Goals as goal
 

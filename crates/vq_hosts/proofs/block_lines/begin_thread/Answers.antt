@@ -10,7 +10,7 @@ use Rattle.vq_blocks.specs.declared.block.BlockStatement.TheVariants.{BeginThrea
 use Rattle.vq_blocks.specs.Blocks.{Told, is_named, with_block_line}
 use Rattle.vq_blocks.specs.BlockFaults.{most_lanes}
 use Rattle.vq_blocks.specs.Compiled.{queue_of_thread}
-use Rattle.vq_block_threads.specs.HasThreads.{HasThreads}
+use Rattle.vq_hosts.specs.HasThreads.{HasThreads}
 use Rattle.vq_hosts.proofs.BlockFaultsFound.{block_told}
 use Rattle.vq_hosts.proofs.BlockKinds.{kind_of, not_below, thread_kind}
 use Rattle.vq_hosts.proofs.ThreadBatches.{names_of_queues}

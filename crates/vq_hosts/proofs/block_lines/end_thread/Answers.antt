@@ -2,7 +2,7 @@ use Rattle.std.proofs.Common.{Bool, not, false, [], ◌∷◌, refl, sym, ap, su
 use Rattle.vq_blocks.specs.declared.block.BlockForm.TheVariants.{EndForm}
 use Rattle.vq_blocks.specs.declared.block.BlockStatement.TheVariants.{EndThread}
 use Rattle.vq_blocks.specs.Blocks.{Told}
-use Rattle.vq_block_threads.specs.HasThreads.{HasThreads}
+use Rattle.vq_hosts.specs.HasThreads.{HasThreads}
 use Rattle.vq_hosts.proofs.BlockFaultsFound.{block_told}
 use Rattle.vq_hosts.proofs.BlockKinds.{end_kind, kind_of}
 use Rattle.vq_hosts.proofs.block_lines.end_thread.Goals as goal

@@ -3,7 +3,7 @@ use Rattle.vq_model.specs.declared.script.Pair.{Pair}
 use Rattle.vq_model.specs.declared.statement.Form.TheVariants.{Plain}
 use Rattle.vq_blocks.specs.declared.block.ThreadStep.TheVariants.{Signal}
 use Rattle.vq_blocks.specs.Blocks.{Told}
-use Rattle.vq_block_threads.specs.HasThreads.{HasThreads}
+use Rattle.vq_hosts.specs.HasThreads.{HasThreads}
 use Rattle.vq_hosts.proofs.StepKinds.{signal_tested, signal_told}
 use Rattle.vq_hosts.proofs.block_lines.take_signal.Goals as goal
 

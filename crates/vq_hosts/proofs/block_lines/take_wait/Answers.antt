@@ -6,7 +6,7 @@ use Rattle.vq_blocks.specs.declared.block.ThreadStep.TheVariants.{Wait}
 use Rattle.vq_blocks.specs.BlockFaults.{most_pairs, most_steps}
 use Rattle.vq_blocks.specs.Blocks.{Told}
 use Rattle.vq_lexer.specs.Words.{texts}
-use Rattle.vq_block_threads.specs.HasThreads.{HasThreads}
+use Rattle.vq_hosts.specs.HasThreads.{HasThreads}
 use Rattle.vq_hosts.proofs.StepKinds.{wait_tested, wait_told}
 use Rattle.vq_hosts.proofs.block_lines.take_wait.Goals as goal
 

@@ -1,5 +1,6 @@
 use Rattle.std.proofs.Common.{◌≡◌, suc, Result, arith, length, refl, sym, ap, subst, ◌∙◌}
 use Rattle.std.specs.Prelude.{IfErr}
+use Rattle.vq_ground.proofs.Options.{returned}
 use Rattle.vq_model.specs.declared.script.Script.{Script}
 use Rattle.vq_model.specs.declared.statement.Form.TheVariants.{Plain}
 use Rattle.vq_model.specs.Canonical.{canonical_text}
@@ -10,7 +11,7 @@ use Rattle.vq_block_laws.proofs.Cited.{compiled_reads_back}
 use Rattle.vq_hosts.specs.declared.compiler.Compiled.{Compiled}
 use Rattle.vq_hosts.specs.declared.fault.HostsFault.{HostsFault}
 use Rattle.vq_hosts.specs.Outcomes.{IsFirst}
-use Rattle.vq_hosts.proofs.ReadOn.{first_fault, on_told, returned, tells_all}
+use Rattle.vq_hosts.proofs.ReadOn.{first_fault, on_told, tells_all}
 use Rattle.vq_hosts.proofs.compiler.compile.Goals as goal
 
 pub returns-in_err-read_line-clause-fault : goal.returns-in_err-read_line-clause-fault

@@ -4,6 +4,7 @@ use Rattle.std.specs.List.{list_all}
 use Rattle.std.specs.Borrow.{Bor}
 use Rattle.std.proofs.lemmas.Bool.Decides.{nat_tests}
 use Rattle.std.proofs.lemmas.List.{append_assoc, length-drop}
+use Rattle.vq_ground.proofs.Bools.{and_true}
 use Rattle.vq_model.specs.Text.{is_blank, is_plain, without_comment, words_in}
 use Rattle.vq_lexer.specs.Words.{some_word, texts}
 use Rattle.vq_lexer.proofs.Blanks.{plain_of_simple, words_of_simple}
@@ -89,16 +90,12 @@ loop-length-preserved c =
           ∙ c.loop-length.invariant.plain;
     }
 
-and_true : (b : Bool) → b ≡ (b && true)
-and_true true = refl
-and_true false = refl
-
 pub returns-clause-plain : goal.returns-clause-plain
 returns-clause-plain c =
     let part = c.loop-length.part.now in
     let n = c.loop-length.length in
     let ended : length part ≤ n = grind (arith, nat_tests) in
-    and_true c.loop-length.plain
+    sym (and_true c.loop-length.plain)
     ∙ ap (λ t. c.loop-length.plain && t) (sym (plain_end part n ended))
     ∙ c.loop-length.invariant.plain
     ∙ sym (words_plain (without_comment c.args.line.now))

@@ -2,7 +2,8 @@ use Rattle.std.proofs.Common.{◌≡◌, ◌∙◌, Some, ap, get_or, refl, sym,
 use Rattle.std.specs.Option.{option_map}
 use Rattle.std.proofs.lemmas.Bool.{false≢true}
 use Rattle.std.proofs.lemmas.List.{take_all}
-use Rattle.vq_model.specs.Plan.{Plan, has, signals_of}
+use Rattle.vq_model.specs.Plan.{Plan, signals_of}
+use Rattle.vq_ground.specs.Lists.{has}
 use Rattle.vq_order.proofs.BusyLaws.{of_signal, signal_exists, signal_here}
 use Rattle.vq_order.proofs.busy.is_in_use.Goals as goal
 

@@ -1,5 +1,6 @@
 use Rattle.std.proofs.Common.{◌≡◌, ℕ, Some, take, true}
-use Rattle.vq_model.specs.Plan.{has, chain_of}
+use Rattle.vq_model.specs.Plan.{chain_of}
+use Rattle.vq_ground.specs.Lists.{has}
 use Rattle.vq_model.specs.Sure.{IsSure}
 use Rattle.vq_order.proofs.busy.is_in_use.Given as goal
 

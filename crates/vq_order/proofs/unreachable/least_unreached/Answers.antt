@@ -1,11 +1,11 @@
 use Rattle.std.proofs.Common.{◌≡◌, ◌+◌, ℕ, List, Option, length, get_or, subst, sym, ap, ◌∙◌, arith}
-use Rattle.vq_model.specs.Plan.{has}
+use Rattle.vq_ground.proofs.Gets.{has_at}
+use Rattle.vq_ground.specs.Lists.{has}
 use Rattle.vq_model.specs.SlowRun.{left_over}
 use Rattle.vq_order.specs.declared.lines.Lines.{Lines}
 use Rattle.vq_order.specs.LeastLines.{AreLeastOrNone, IsOfFirst}
 use Rattle.vq_order.specs.Unreached.{IsUnreachedAt, IsUnreachedIn}
 use Rattle.vq_order.proofs.LineSearches.{first_more, all_first}
-use Rattle.vq_spec.proofs.Cited.{has_at}
 use Rattle.vq_order.proofs.UnreachedLaws.{left_exists, least_line, no_line}
 use Rattle.vq_order.proofs.unreachable.least_unreached.Goals as goal
 

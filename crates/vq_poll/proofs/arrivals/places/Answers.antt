@@ -1,5 +1,5 @@
 use Rattle.std.proofs.Common.{ℕ, List, [], ◌∷◌, ◌++◌, sym, ap, ◌∙◌}
-use Rattle.vq_model.proofs.Numbers.{range_more}
+use Rattle.vq_ground.proofs.Numbers.{range_more}
 use Rattle.vq_poll.proofs.arrivals.places.Goals as goal
 
 pub loop-place-preserved : goal.loop-place-preserved

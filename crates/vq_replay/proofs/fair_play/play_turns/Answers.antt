@@ -3,7 +3,7 @@ use Rattle.std.proofs.lemmas.List.{take_all}
 use Rattle.vq_model.specs.declared.script.ActorName.{ActorName}
 use Rattle.vq_model.specs.declared.script.ActorName.TheVariants.{Host}
 use Rattle.vq_core.specs.CoreState.{Course, world}
-use Rattle.vq_troupe.specs.Casts.{scene}
+use Rattle.vq_core_run.specs.Casts.{scene}
 use Rattle.vq_replay.specs.declared.rests.Rest.TheVariants.{Unknown}
 use Rattle.vq_replay.specs.Passages.{LeadsTo}
 use Rattle.vq_replay.specs.Resting.{AreKnown, ChangesNothing, Knows}

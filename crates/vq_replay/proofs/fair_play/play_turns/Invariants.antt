@@ -1,5 +1,5 @@
 use Rattle.std.proofs.Common.{take}
-use Rattle.vq_troupe.specs.Casts.{scene}
+use Rattle.vq_core_run.specs.Casts.{scene}
 use Rattle.vq_replay.specs.Passages.{LeadsTo}
 use Rattle.vq_replay.specs.Resting.{AreKnown}
 use Rattle.vq_replay.proofs.fair_play.play_turns.Given as goal

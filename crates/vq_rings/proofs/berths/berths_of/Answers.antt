@@ -3,8 +3,8 @@ use Rattle.std.proofs.lemmas.List.{map_push}
 use Rattle.std.proofs.lemmas.List.Elements.{All-get_or, All-push}
 use Rattle.std.proofs.lemmas.Iterator.Adapters.{YieldsList-from_vec}
 use Rattle.std.proofs.lemmas.Iterator.Consumers.{YieldsList-turn, YieldsList-end}
-use Rattle.vq_rooms.specs.Rooming.{Room}
-use Rattle.vq_crew.specs.Crewed.{IsWorkerOf, owner_of}
+use Rattle.vq_board_run.specs.Rooming.{Room}
+use Rattle.vq_board_run.specs.Crewed.{IsWorkerOf, owner_of}
 use Rattle.vq_rings.specs.Berths.{AreAt, IsAt, actor_at}
 use Rattle.vq_rings.proofs.berths.berths_of.Goals as goal
 

@@ -1,5 +1,5 @@
 use Rattle.std.proofs.Common.{◌≡◌, map}
-use Rattle.vq_crew.specs.Crewed.{owner_of}
+use Rattle.vq_board_run.specs.Crewed.{owner_of}
 use Rattle.vq_rings.specs.Berths.{AreAt, actor_at}
 use Rattle.vq_rings.proofs.berths.berths_of.Given as goal
 

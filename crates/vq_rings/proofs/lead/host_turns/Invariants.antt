@@ -1,7 +1,7 @@
 use Rattle.std.proofs.Common.{◌≡◌, length}
 use Rattle.std.specs.Vec.{vec_capacity}
 use Rattle.vq_access.specs.Grounding.{board_at}
-use Rattle.vq_crew.specs.Answered.{IsLead}
+use Rattle.vq_board_run.specs.Answered.{IsLead}
 use Rattle.vq_rings.proofs.lead.host_turns.Given as goal
 
 abbrev pub invariant-loop : goal.invariant-loop

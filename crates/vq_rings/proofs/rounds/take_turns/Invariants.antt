@@ -2,7 +2,7 @@ use Rattle.std.proofs.Common.{◌≡◌}
 use Rattle.std.specs.Prelude.{IfSome}
 use Rattle.vq_model.specs.ValidScripts.{IsActor}
 use Rattle.vq_access.specs.Grounding.{plan_at, board_at}
-use Rattle.vq_rooms.specs.Rooming.{IsRoomOf}
+use Rattle.vq_board_run.specs.Rooming.{IsRoomOf}
 use Rattle.vq_rings.proofs.rounds.take_turns.Given as goal
 
 -- the room is that of the same actor, which is one of the plan

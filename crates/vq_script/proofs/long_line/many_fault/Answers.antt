@@ -1,5 +1,6 @@
 use Rattle.std.proofs.Common.{◌≡◌, ℕ, List, Err, false, true, length, refl, sym, ap, ◌∙◌, arith}
 use Rattle.std.proofs.lemmas.List.{length-drop}
+use Rattle.vq_forms.proofs.Cited.{cut_long}
 use Rattle.vq_model.specs.Forms.{Slot}
 use Rattle.vq_model.specs.Meaning.{matches, pair_places}
 use Rattle.vq_model.specs.Text.{words_in}
@@ -11,7 +12,7 @@ use Rattle.vq_script.specs.Faults.{first_fault}
 use Rattle.vq_script.specs.Holds.{open_so_far, section_of}
 use Rattle.vq_script.proofs.FaultsFound.{reads_form, reads_none, reads_unplain}
 use Rattle.vq_script.proofs.FormFound.{form_is}
-use Rattle.vq_script.proofs.ManyWords.{cut_long, many_behind, many_pairs, many_unnamed}
+use Rattle.vq_script.proofs.ManyWords.{many_behind, many_pairs, many_unnamed}
 use Rattle.vq_script.proofs.long_line.many_fault.Goals as goal
 
 pub returns-then-not-are_plain : goal.returns-then-not-are_plain

@@ -1,11 +1,12 @@
 use Rattle.std.proofs.Common.{◌≡◌, suc, Result, [], arith, length, refl, sym, ap, subst, ◌∙◌}
 use Rattle.std.specs.Prelude.{IfErr}
+use Rattle.vq_ground.proofs.Options.{returned}
 use Rattle.vq_model.specs.declared.script.Script.{Script}
 use Rattle.vq_model.specs.Reading.{read_script}
 use Rattle.vq_model.specs.Text.{lines_of}
 use Rattle.vq_script.specs.declared.fault.ScriptFault.{ScriptFault}
 use Rattle.vq_script.specs.Outcomes.{Gives, IsFirst}
-use Rattle.vq_script.proofs.ReadOn.{gives_fault, is_first, on_read, returned}
+use Rattle.vq_script.proofs.ReadOn.{gives_fault, is_first, on_read}
 use Rattle.vq_script.proofs.reader.parse.Goals as goal
 
 pub returns-in_err-read_line-clause-exact : goal.returns-in_err-read_line-clause-exact

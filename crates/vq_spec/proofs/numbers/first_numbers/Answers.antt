@@ -1,6 +1,6 @@
 use Rattle.std.proofs.Common.{◌∙◌, ◌++◌, ◌∷◌, [], ap, sym, zero-add}
 use Rattle.std.specs.List.{range_with_len}
-use Rattle.vq_spec.proofs.Ranges.{range-append}
+use Rattle.vq_ground.proofs.Numbers.{range-append}
 use Rattle.vq_spec.proofs.numbers.first_numbers.Goals as goal
 
 pub loop-number-preserved : goal.loop-number-preserved

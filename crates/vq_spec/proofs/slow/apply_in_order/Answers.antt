@@ -1,6 +1,6 @@
 use Rattle.std.proofs.Common.{◌∙◌, ap, sym, get_or}
-use Rattle.vq_model.specs.Plan.{has}
-use Rattle.vq_spec.proofs.SlowHeads.{has_at}
+use Rattle.vq_ground.proofs.Gets.{has_at}
+use Rattle.vq_ground.specs.Lists.{has}
 use Rattle.vq_spec.proofs.SlowRuns.{zeros_are, after_job, slow_exists}
 use Rattle.vq_spec.proofs.slow.apply_in_order.Goals as goal
 

@@ -1,7 +1,7 @@
 use Rattle.std.proofs.Common.{◌≡◌, false, take, ◌&&◌, if◌then◌else◌}
 use Rattle.std.specs.Prelude.{nat_lt, nat_le}
 use Rattle.std.specs.List.{list_any}
-use Rattle.vq_points.specs.Points.{resolves}
+use Rattle.vq_point_laws.specs.Points.{resolves}
 use Rattle.vq_tables.proofs.needs.any_resolved.Given as goal
 
 abbrev pub invariant-loop-need : goal.invariant-loop-need

@@ -1,6 +1,6 @@
 use Rattle.std.proofs.Common.{◌≡◌, ◌+◌, drop}
 use Rattle.std.specs.List.{position_or_len}
-use Rattle.vq_points.specs.Points.{resolves}
+use Rattle.vq_point_laws.specs.Points.{resolves}
 use Rattle.vq_tables.proofs.needs.place_among.Given as goal
 
 abbrev pub invariant-loop-need : goal.invariant-loop-need

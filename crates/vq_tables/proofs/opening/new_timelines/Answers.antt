@@ -1,7 +1,8 @@
 use Rattle.std.proofs.Common.{◌≡◌, ◌<◌, ◌∙◌, ◌+◌, ◌∷◌, [], ℕ, List, length, map, get_or, sym, subst, arith, ap}
 use Rattle.std.proofs.lemmas.List.{length-map, length-append}
 use Rattle.vq_model.specs.Plan.{chain, initial, value}
-use Rattle.vq_points.specs.Timeline.{Timeline, AreRisingFrom, new_timeline, KeepsLists}
+use Rattle.vq_point_laws.specs.Timeline.{Timeline, new_timeline, KeepsLists}
+use Rattle.vq_ground.specs.Lists.{AreRisingFrom}
 use Rattle.vq_plan_laws.proofs.Cited.{plan_lanes, plan_well_formed}
 use Rattle.vq_core_laws.proofs.Cited.{facts, values_rise}
 use Rattle.vq_tables.specs.Tables.{no_timeline}

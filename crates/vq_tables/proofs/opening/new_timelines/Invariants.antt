@@ -1,6 +1,6 @@
 use Rattle.std.proofs.Common.{◌≡◌, ◌<◌, ℕ, length, get_or, map}
 use Rattle.vq_model.specs.Plan.{initial, value, chain}
-use Rattle.vq_points.specs.Timeline.{new_timeline, KeepsLists}
+use Rattle.vq_point_laws.specs.Timeline.{new_timeline, KeepsLists}
 use Rattle.vq_tables.specs.Tables.{no_timeline}
 use Rattle.vq_tables.proofs.opening.new_timelines.Given as goal
 

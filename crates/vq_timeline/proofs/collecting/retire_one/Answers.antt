@@ -1,9 +1,10 @@
 use Rattle.std.proofs.Common.{ℕ, take, drop, get_or, subst, sym, refl, arith, List, suc, ◌∙◌}
 use Rattle.std.proofs.lemmas.List.{take_more}
+use Rattle.vq_ground.proofs.Gets.{has_at}
 use Rattle.vq_board.specs.Named.{view}
 use Rattle.vq_timeline_laws.specs.Waiting.{FindsAllInUse}
 use Rattle.vq_timeline_laws.proofs.Cited.{all_looked, retires_still}
-use Rattle.vq_timeline.proofs.Retiring.{Tried, tried_none, tried_more, tried_of, has_at, split_at, take_whole}
+use Rattle.vq_timeline.proofs.Retiring.{Tried, tried_none, tried_more, tried_of, split_at, take_whole}
 use Rattle.vq_timeline.proofs.collecting.retire_one.Goals as goal
 
 pub loop-point-init : goal.loop-point-init

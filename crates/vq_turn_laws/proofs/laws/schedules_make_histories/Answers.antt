@@ -1,5 +1,5 @@
 use Rattle.std.proofs.Common.{sym, subst}
-use Rattle.vq_points.specs.Points.{PointState}
+use Rattle.vq_point_laws.specs.Points.{PointState}
 use Rattle.vq_turns.specs.Turns.{plays}
 use Rattle.vq_turn_laws.specs.Scenes.{HasPlayed}
 use Rattle.vq_turn_laws.proofs.Orderly.{plan_orderly}

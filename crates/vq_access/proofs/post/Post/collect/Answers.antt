@@ -8,7 +8,8 @@ use Rattle.vq_access.proofs.Replies.{collects_none, collects_step}
 use Rattle.vq_access.proofs.Giving.{given_here}
 use Rattle.vq_access.proofs.Making.{shows_given}
 use Rattle.vq_model.specs.declared.plan.Event.TheVariants.{Complete, Free}
-use Rattle.vq_model.specs.Plan.{Plan, chain, has}
+use Rattle.vq_model.specs.Plan.{Plan, chain}
+use Rattle.vq_ground.specs.Lists.{has}
 use Rattle.vq_access.proofs.post.Post.collect.Goals as goal
 
 pub returns-in-Completed-clause-asked : goal.returns-in-Completed-clause-asked

@@ -1,4 +1,5 @@
 use Rattle.std.proofs.Common.{ap, ◌∙◌, refl, arith}
+use Rattle.std.proofs.lemmas.Bool.{not-true, not-false}
 use Rattle.vq_turns.specs.declared.task.Task.TheVariants.{AwaitNeeds}
 use Rattle.vq_actor.specs.Waits.{looked_at}
 use Rattle.vq_actor.specs.Answers.{Is, signaled_or}
@@ -6,13 +7,13 @@ use Rattle.vq_actor.specs.Meanings.{Other}
 use Rattle.vq_model.specs.declared.plan.Event.TheVariants.{Look}
 use Rattle.vq_access.specs.Lasts.{recent_of}
 use Rattle.vq_access.specs.Posts.{lenders_of}
-use Rattle.vq_points.specs.PointWord.{PointWord as PointParts}
+use Rattle.vq_point_laws.specs.PointWord.{PointWord as PointParts}
 use Rattle.vq_point.specs.Word.{bits_of}
 use Rattle.vq_board.specs.Named.{board_of, view}
 use Rattle.vq_board_laws.specs.PointSteps.{sees}
 use Rattle.vq_access.proofs.Posting.{here, seen_by, true_at}
 use Rattle.vq_access.proofs.Untaking.{refused_look}
-use Rattle.vq_access.proofs.Waits.{carried, fits_here, not_set, set_so, looks_there, looks_listed, looked_at_point, meets_truly}
+use Rattle.vq_access.proofs.Waits.{carried, fits_here, looks_there, looks_listed, looked_at_point, meets_truly}
 use Rattle.vq_actor.specs.Trackers.{Tracked}
 use Rattle.vq_access.proofs.Replies.{moves_step}
 use Rattle.vq_access.proofs.Making.{shows_look}
@@ -38,7 +39,7 @@ returns-then-not-look-clause-answer c =
     refused_look _ (lenders_of x) x.ordered.now x.actor (here x) (recent_of x.last) Other (seen_by x)
     (view c.look.new.pass) x.refused.now c.args.point (bits_of c.look.result) c.args.op c.look.ensures.pass.2
     (carried c.look.result c.args.op c.look.ensures.parts is)
-    (ap (λ (w : PointParts). w.signaled) c.look.ensures.parts ∙ not_set c.look.result.signaled c.if-not-look.true)
+    (ap (λ (w : PointParts). w.signaled) c.look.ensures.parts ∙ not-true c.look.result.signaled c.if-not-look.true)
     (looked_at (here x)) (λ w. signaled_or w (Look c.args.actor c.args.point c.args.op) c.args.op)
     (Is (Look c.args.actor c.args.point c.args.op))
 
@@ -52,7 +53,7 @@ invariant_of-self-2-clause-places c =
     (looked_at (here x)) c.look.ensures.pass.2 c.meet.ensures
     (meets_truly x c.plan-lawful.ensures.read c.plan-lawful.ensures.lawful m.needs m.is_next m.need c.args.point c.args.op (bits_of c.look.result) m.held
     (carried c.look.result c.args.op c.look.ensures.parts is)
-    (ap (λ (w : PointParts). w.signaled) c.look.ensures.parts ∙ set_so c.look.result.signaled c.if-not-look.false))
+    (ap (λ (w : PointParts). w.signaled) c.look.ensures.parts ∙ not-false c.look.result.signaled c.if-not-look.false))
 
 pub invariant_of-self-2-clause-fits : goal.invariant_of-self-2-clause-fits
 invariant_of-self-2-clause-fits c =
@@ -72,6 +73,6 @@ returns-clause-answer c =
     (Look c.args.actor c.args.point c.args.op) refl (looked_at (here x)) (ap (λ (t : Tracked). t.place) c.meet.ensures)
     (shows_look (board_of c.look.new.pass) (seen_by x) (view c.look.new.pass) x.refused.now x.refused.now c.args.actor c.args.point c.args.op
     bits (carried c.look.result c.args.op c.look.ensures.parts is)
-    (ap (λ (w : PointParts). w.signaled) c.look.ensures.parts ∙ set_so c.look.result.signaled c.if-not-look.false)
+    (ap (λ (w : PointParts). w.signaled) c.look.ensures.parts ∙ not-false c.look.result.signaled c.if-not-look.false)
     c.look.ensures.pass.2) (λ w. signaled_or w (Look c.args.actor c.args.point c.args.op) c.args.op)
     (Is (Look c.args.actor c.args.point c.args.op)) refl

@@ -1,7 +1,8 @@
 use Rattle.std.proofs.Common.{◌≡◌, ◌<◌, ℕ, true, List, Ok, length, refl, sym, subst, ap, ◌∙◌, arith}
 use Rattle.std.specs.List.{list_all}
 use Rattle.vq_model.specs.declared.plan.Event.TheVariants.{Release as Releases}
-use Rattle.vq_model.specs.Plan.{Plan, has, signals_of}
+use Rattle.vq_model.specs.Plan.{Plan, signals_of}
+use Rattle.vq_ground.specs.Lists.{has}
 use Rattle.vq_turns.specs.declared.task.Task.TheVariants.{Release}
 use Rattle.vq_turns.specs.Turns.{forward}
 use Rattle.vq_actor.specs.Answers.{Is}

@@ -1,6 +1,6 @@
 use Rattle.std.proofs.Common.{◌<◌, ◌≡◌, ℕ, Some, Ok, Err, length, sym, subst, ap, ◌∙◌, refl, inl, inr, arith, false}
 use Rattle.std.specs.List.{slice_get}
-use Rattle.vq_model.proofs.Options.{same_some}
+use Rattle.std.proofs.lemmas.Option.{same_Some}
 use Rattle.vq_board.specs.Named.{plan_of, id_of}
 use Rattle.vq_timeline.specs.declared.timeline.LockedTimeline.{LockedTimeline}
 use Rattle.vq_access.specs.Asking.{HasGiven}
@@ -77,7 +77,7 @@ pub returns-in-Ok-clause-asked : goal.returns-in-Ok-clause-asked
 returns-in-Ok-clause-asked g c x at =
     let y = c.args.self.now in
     let l = c.timeline_at-timeline.result.now in
-    let same = same_some l x
+    let same = same_Some l x
     (sym c.timeline_at-timeline.ensures.there
     ∙ (ap (λ (n : ℕ). slice_get y.timelines.now n) c.emptied_chain-chain.ensures ∙ at)) in
     inl (subst (λ (z : LockedTimeline). HasGiven (plan_of y.board.now) z c.args.op (Ok c.taking.result)) same
@@ -93,7 +93,7 @@ pub returns-in-Err-clause-asked : goal.returns-in-Err-clause-asked
 returns-in-Err-clause-asked g c x at =
     let y = c.args.self.now in
     let l = c.timeline_at-timeline.result.now in
-    let same = same_some l x
+    let same = same_Some l x
     (sym c.timeline_at-timeline.ensures.there
     ∙ (ap (λ (n : ℕ). slice_get y.timelines.now n) c.emptied_chain-chain.ensures ∙ at)) in
     inl (subst (λ (z : LockedTimeline). HasGiven (plan_of y.board.now) z c.args.op (Err (Listed c.args.op))) same

@@ -1,6 +1,6 @@
 use Rattle.std.proofs.Common.{arith, ◌≡◌, ℕ, ◌+◌, List, [], ◌∷◌, ◌++◌, map, sym, ap, ◌∙◌, subst, length}
 use Rattle.std.specs.List.{range_with_len}
-use Rattle.vq_model.proofs.Numbers.{range_more}
+use Rattle.vq_ground.proofs.Numbers.{range_more}
 use Rattle.vq_board_laws.specs.declared.view.View.{View}
 use Rattle.vq_board_laws.specs.declared.view.Role.{Role}
 use Rattle.vq_board_laws.specs.declared.view.Role.TheVariants.{Ring}

@@ -1,10 +1,10 @@
 use Rattle.std.proofs.Common.{arith, ◌≡◌, ℕ, suc, List, ◌∷◌, length, map, ap, sym, refl, ◌∙◌, subst, Some}
+use Rattle.std.proofs.lemmas.Option.{same_Some}
 use Rattle.atomic_table.specs.Table.{rest}
 use Rattle.vq_model.specs.Memory.{effect}
 use Rattle.vq_model.specs.Plan.{Plan}
 use Rattle.vq_model.specs.Ranges.{Fits}
 use Rattle.vq_board_laws.specs.declared.view.LoggedBuffers.{LoggedBuffers}
-use Rattle.vq_model.proofs.Options.{same_some}
 use Rattle.vq_board_laws.specs.Words.{place_word}
 use Rattle.vq_board_laws.specs.May.{MayEnter}
 use Rattle.vq_board_laws.specs.Steps.{entered}
@@ -75,7 +75,7 @@ returns-clause-step c = λ n held.
     let t = holds_memory m.0.held may.filled m.0.bytes m.0.plan m.1 may.held c.args.pass.now.hand in
     let h = hand_is t.0 c.slot_mut-memory.result.now m.1 t.1 c.slot_mut-memory.ensures.value in
     let filled = ap (λ (z : LoggedBuffers). z.filled) (sym h.0) ∙ t.2 in
-    let same : may.filled ≡ n = same_some may.filled n (sym may.held ∙ held) in
+    let same : may.filled ≡ n = same_Some may.filled n (sym may.held ∙ held) in
     stored_step _ _ _ _ _ _ _ c.requires.board.1 (c.place_word.ensures ∙ ap place_word (filled ∙ same)) c.store.ensures.2.1
 
 pub invariant_of-pass : goal.invariant_of-pass

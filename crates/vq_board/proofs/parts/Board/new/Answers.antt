@@ -1,6 +1,6 @@
 use Rattle.std.proofs.Common.{arith, length, ap}
+use Rattle.vq_plan_laws.proofs.Cited.{few_queues}
 use Rattle.vq_model.specs.declared.script.Script.{Script}
-use Rattle.vq_board.proofs.Limits.{few_queues}
 use Rattle.vq_board.proofs.parts.Board.new.Goals as goal
 
 pub deal_submits-requires-clause-few : goal.deal_submits-requires-clause-few

@@ -1,7 +1,7 @@
 use Rattle.std.proofs.Common.{◌≡◌, ◌+◌, ℕ, arith, ap, length, slice_index, slice_set, subst}
 use Rattle.std.proofs.lemmas.Grind.{get_or_default_zero}
 use Rattle.vq_model.specs.Plan.{Plan, chain}
-use Rattle.vq_model.proofs.Gets.{get_within}
+use Rattle.vq_ground.proofs.Gets.{get_within}
 use Rattle.vq_board.specs.Firsts.{AreFirsts}
 use Rattle.vq_board.specs.Named.{view}
 use Rattle.vq_board.proofs.Firsts.{firsts_raised, has_count}

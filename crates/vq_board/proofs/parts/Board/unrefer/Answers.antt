@@ -1,7 +1,7 @@
 use Rattle.std.proofs.Common.{ℕ, arith, ap, sym, subst, ◌∙◌}
 use mathlib.Core.Logic.{dite}
 use native.Mathlib.Decide.{ℕ_discrete}
-use Rattle.vq_points.specs.PointWord.{parts}
+use Rattle.vq_point_laws.specs.PointWord.{parts}
 use Rattle.vq_board_laws.specs.declared.view.View.{View}
 use Rattle.vq_board_laws.specs.Points.{reference, Lists}
 use Rattle.vq_board_laws.specs.PointSteps.{unrefers, misses_point, unreferred}

@@ -1,6 +1,6 @@
 use Rattle.std.proofs.Common.{arith, refl, rules}
 use Rattle.vq_board.specs.Named.{plan_of, view}
-use Rattle.vq_points.specs.PointWord.{PointWord, pack}
+use Rattle.vq_point_laws.specs.PointWord.{PointWord, pack}
 use Rattle.vq_board_bench.proofs.Facts.{held_carries, still_of}
 use Rattle.vq_board_bench.proofs.HostRowSteps.{after_find}
 use Rattle.vq_board_bench.proofs.batches.Batches.find.Goals as goal

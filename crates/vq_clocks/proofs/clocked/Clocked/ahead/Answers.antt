@@ -1,8 +1,9 @@
 use Rattle.std.proofs.Common.{◌≡◌, ◌-◌, suc, get_or, [], sym, ap, ◌∙◌, arith}
 use Rattle.std.specs.Option.{option_map_or}
 use Rattle.vq_model.specs.Edges.{At}
-use Rattle.vq_model.specs.Plan.{commands_of, has}
-use Rattle.vq_model.proofs.Lists.{has_some}
+use Rattle.vq_model.specs.Plan.{commands_of}
+use Rattle.vq_ground.specs.Lists.{has}
+use Rattle.vq_ground.proofs.Lists.{has_some}
 use Rattle.vq_clocks.proofs.CommandPlaces.{command_stands, first_of_range}
 use Rattle.vq_clocks.proofs.clocked.Clocked.ahead.Goals as goal
 

@@ -2,10 +2,10 @@ use Rattle.std.proofs.Common.{◌≡◌, ◌+◌, ◌∷◌, ◌++◌, [], ℕ, 
 use Rattle.std.proofs.Math.Seq.{take-suc}
 use Rattle.std.proofs.lemmas.Bool.{false≢true}
 use Rattle.std.proofs.lemmas.List.{take_all, length-replicate}
+use Rattle.vq_ground.proofs.Gets.{has_at}
 use Rattle.vq_model.specs.Lanes.{lane_at}
 use Rattle.vq_clocks.specs.VectorClocks.{Covers, itself, lanes, PassesOne, in_row}
 use Rattle.vq_clocks.proofs.RowLaws.{zeros_cover}
-use Rattle.vq_spec.proofs.Cited.{has_at}
 use Rattle.vq_clocks.proofs.clocks.before.row_through.Goals as goal
 
 pub loop-edge-init : goal.loop-edge-init

@@ -2,7 +2,8 @@ use Rattle.std.proofs.Common.{◌≡◌, List, ℕ, true, ap, ◌∙◌, subst}
 use Rattle.vq_plan_laws.proofs.Cited.{plan_lanes}
 use Rattle.vq_model.specs.Edges.{At, edges_at}
 use Rattle.vq_model.specs.Lanes.{lane_at}
-use Rattle.vq_model.specs.Plan.{Plan, has}
+use Rattle.vq_model.specs.Plan.{Plan}
+use Rattle.vq_ground.specs.Lists.{has}
 use Rattle.vq_clocks.specs.VectorClocks.{Covers, itself, PassesOne, in_row}
 use Rattle.vq_clocks.proofs.ClockLaws.{clock_end}
 use Rattle.vq_clocks.proofs.RowLaws.{edge_exists}

@@ -2,14 +2,15 @@ use Rattle.std.proofs.Common.{◌≡◌, ◌+◌, ℕ, List, [], ◌∷◌, ◌+
 use Rattle.std.proofs.Math.Seq.{take-suc}
 use Rattle.std.proofs.lemmas.List.{append-nil, take_all}
 use Rattle.std.specs.List.{filter_map}
+use Rattle.vq_ground.proofs.Gets.{has_at}
 use Rattle.vq_plan_laws.proofs.Cited.{plan_lanes}
 use Rattle.vq_model.specs.Edges.{AtEnd, must_finish, awaited_at}
-use Rattle.vq_model.specs.Plan.{Plan, has, job_of}
+use Rattle.vq_model.specs.Plan.{Plan, job_of}
+use Rattle.vq_ground.specs.Lists.{has}
 use Rattle.vq_model.specs.Lanes.{lane_at}
 use Rattle.vq_clocks.specs.VectorClocks.{before_half, in_row, itself, sure_half, Covers, IsSureBy, PassesOne, SureByJob}
 use Rattle.vq_clocks.proofs.BothClocks.{before_zeros, sure_zeros, zeros_wide}
 use Rattle.vq_clocks.proofs.ClockLaws.{clock_end, sure_end}
-use Rattle.vq_spec.proofs.Cited.{has_at}
 use Rattle.vq_clocks.proofs.RowLaws.{sure_middle}
 use Rattle.vq_clocks.proofs.clocks.table.make_row.Goals as goal
 

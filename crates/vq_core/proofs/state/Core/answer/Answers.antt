@@ -1,7 +1,7 @@
 use Rattle.std.proofs.Common.{◌∙◌, Some, get_or, refl, sym, ap, subst, arith}
 use Rattle.vq_model.specs.declared.plan.Event.TheVariants.{Answer}
 use Rattle.vq_model.specs.Machine.{CanAnswer, put}
-use Rattle.vq_points.specs.Points.{after_event}
+use Rattle.vq_point_laws.specs.Points.{after_event}
 use Rattle.vq_history_laws.specs.Histories.{points_after}
 use Rattle.vq_tables.specs.AnswerStates.{AreAnswerStates, IsAnswerState}
 use Rattle.vq_core.specs.CoreState.{Course, world}

@@ -1,22 +1,24 @@
 use Rattle.std.proofs.Common.{◌≡◌, ◌<◌, ◌++◌, ◌∷◌, [], ◌∙◌, ℕ, List, Some, length, get_or, refl, sym, ap, subst, arith}
 use Rattle.std.specs.List.{slice_get}
 use Rattle.std.proofs.Common.{not, option_map}
+use Rattle.vq_spec.proofs.Cited.{bytes_push}
 use Rattle.vq_model.specs.declared.script.CommandLine.{CommandLine}
-use Rattle.vq_model.proofs.Gets.{get_within}
-use Rattle.vq_model.proofs.Options.{some_of}
-use Rattle.vq_model.proofs.Searches.{find_member}
+use Rattle.vq_ground.proofs.Gets.{get_within}
+use Rattle.vq_ground.proofs.Options.{some_of}
+use Rattle.vq_ground.proofs.Searches.{find_member}
 use Rattle.vq_model.specs.declared.plan.Event.TheVariants.{Apply}
 use Rattle.vq_model.specs.Machine.{CanApply}
 use Rattle.vq_model.specs.Memory.{effect}
-use Rattle.vq_model.specs.Plan.{Plan, commands_of, command_at, has}
+use Rattle.vq_model.specs.Plan.{Plan, commands_of, command_at}
+use Rattle.vq_ground.specs.Lists.{has}
 use Rattle.vq_model.specs.Ranges.{Fits as FitsBuffers}
-use Rattle.vq_points.specs.Points.{after_event}
+use Rattle.vq_point_laws.specs.Points.{after_event}
 use Rattle.vq_history_laws.specs.Histories.{points_after}
 use Rattle.vq_core_laws.proofs.Cited.{next_is, rising_at_least}
 use Rattle.vq_core.specs.CoreState.{Course, world}
 use Rattle.vq_tables.specs.Tables.{AreJobs, IsJobState}
 use Rattle.vq_core.proofs.Pushes.{inside_facts, inside_keeps, more_room, core_next}
-use Rattle.vq_tables.proofs.Cited.{jobs_applied, bytes_push}
+use Rattle.vq_tables.proofs.Cited.{jobs_applied}
 use Rattle.vq_tables.proofs.Cited.{timelines_by}
 use Rattle.vq_core.proofs.state.Core.apply_command.Goals as goal
 

@@ -1,8 +1,8 @@
 use Rattle.std.proofs.Common.{◌≡◌, ◌∙◌, ℕ, Some, get_or, refl, sym, ap, subst, arith}
 use Rattle.std.specs.List.{slice_get, list_all}
 use Rattle.vq_model.specs.declared.plan.Event.TheVariants.{Bind}
-use Rattle.vq_points.specs.Points.{CanBind, after_event, smaller_ops}
-use Rattle.vq_points.specs.Timeline.{Timeline, MayBind, after_bind}
+use Rattle.vq_point_laws.specs.Points.{CanBind, after_event, smaller_ops}
+use Rattle.vq_point_laws.specs.Timeline.{Timeline, MayBind, after_bind}
 use Rattle.vq_history_laws.specs.Histories.{points_after}
 use Rattle.vq_core_laws.specs.TimelineOf.{IsTimelineOf}
 use Rattle.vq_core_laws.proofs.Cited.{turn_place, own_bind, may_bind, other_bind}

@@ -1,7 +1,7 @@
 use Rattle.std.proofs.Common.{sym, subst}
 use Rattle.std.specs.Prelude.{IsTrue, ◌↔◌}
 use Rattle.vq_model.specs.declared.plan.Event.{Event}
-use Rattle.vq_points.specs.Points.{CanCome}
+use Rattle.vq_point_laws.specs.Points.{CanCome}
 use Rattle.vq_core.specs.CoreState.{world}
 use Rattle.vq_core.proofs.state.Core.can.Goals as goal
 

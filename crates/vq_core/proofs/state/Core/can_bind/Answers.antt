@@ -4,7 +4,7 @@ use Rattle.vq_core.proofs.GuardLaws.{bind_iff, bind_ready}
 use Rattle.vq_core.proofs.Tests.{never, confirmed}
 use Rattle.std.specs.Prelude.{nat_eq}
 use Rattle.std.proofs.lemmas.Bool.{false≢true}
-use Rattle.vq_points.specs.Points.{CanBind}
+use Rattle.vq_point_laws.specs.Points.{CanBind}
 use Rattle.vq_core.specs.CoreState.{world}
 use Rattle.vq_core.proofs.state.Core.can_bind.Goals as goal
 

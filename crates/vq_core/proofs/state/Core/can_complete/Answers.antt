@@ -2,7 +2,7 @@ use Rattle.std.proofs.Common.{◌∙◌, ℕ, sym, subst}
 use Rattle.std.specs.Prelude.{IsTrue, ◌↔◌}
 use Rattle.vq_core.proofs.GuardLaws.{complete_iff}
 use Rattle.std.specs.Prelude.{nat_eq}
-use Rattle.vq_points.specs.Points.{CanComplete}
+use Rattle.vq_point_laws.specs.Points.{CanComplete}
 use Rattle.vq_core.specs.CoreState.{world}
 use Rattle.vq_core.proofs.state.Core.can_complete.Goals as goal
 

@@ -1,7 +1,8 @@
 use Rattle.std.proofs.Common.{◌≡◌, length, sym, ap, ◌∙◌, subst, Some}
 use Rattle.std.specs.Prelude.{nat_eq}
 use Rattle.std.specs.List.{slice_get}
-use Rattle.vq_model.specs.Plan.{Plan, has, commands_of}
+use Rattle.vq_model.specs.Plan.{Plan, commands_of}
+use Rattle.vq_ground.specs.Lists.{has}
 use Rattle.vq_core.specs.CoreState.{world}
 use Rattle.vq_core.proofs.Jobs.{all_test, commands_are}
 use Rattle.vq_core.proofs.state.Core.commands_done.Goals as goal

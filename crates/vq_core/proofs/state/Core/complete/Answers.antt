@@ -4,8 +4,8 @@ use Rattle.std.proofs.Common.{not}
 use Rattle.std.proofs.lemmas.Bool.{and_parts, not-true}
 use Rattle.vq_model.specs.declared.plan.Event.TheVariants.{Complete}
 use Rattle.vq_model.specs.Machine.{put}
-use Rattle.vq_points.specs.Points.{CanComplete, after_event, smaller_ops, at_option}
-use Rattle.vq_points.specs.Timeline.{Timeline, after_complete}
+use Rattle.vq_point_laws.specs.Points.{CanComplete, after_event, smaller_ops, at_option}
+use Rattle.vq_point_laws.specs.Timeline.{Timeline, after_complete}
 use Rattle.vq_history_laws.specs.Histories.{points_after}
 use Rattle.vq_core_laws.specs.TimelineOf.{IsTimelineOf}
 use Rattle.vq_core_laws.proofs.Cited.{turn_place, own_complete, other_complete}

@@ -24,7 +24,7 @@ use Rattle.vq_model.specs.Lanes.{lane_number}
 use Rattle.vq_model.specs.Machine.{put}
 use Rattle.vq_model.specs.Plan.{Plan}
 use Rattle.vq_model.specs.Naming.{same_actor}
-use Rattle.vq_points.specs.Points.{Reference, CanFinishNow, after_event, actor_of_lane}
+use Rattle.vq_point_laws.specs.Points.{Reference, CanFinishNow, after_event, actor_of_lane}
 use Rattle.vq_history_laws.specs.Histories.{points_after}
 use Rattle.vq_core.specs.CoreState.{Course, world}
 use Rattle.vq_tables.specs.Lanes.{AreLanes, no_lane}

@@ -1,7 +1,7 @@
 use Rattle.std.proofs.Common.{◌≡◌, ◌∙◌, Some, sym, ap}
 use Rattle.vq_model.specs.Plan.{Plan, chain, resolver, value}
 use Rattle.std.specs.Prelude.{nat_le}
-use Rattle.vq_model.proofs.Searches.{find_member}
+use Rattle.vq_ground.proofs.Searches.{find_member}
 use Rattle.vq_model.proofs.Plans.{op_within}
 use Rattle.vq_core.proofs.Courses.{plan_facts}
 use Rattle.vq_core.proofs.state.Core.found.Goals as goal

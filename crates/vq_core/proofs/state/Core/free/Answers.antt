@@ -3,8 +3,8 @@ use Rattle.std.specs.List.{slice_get}
 use Rattle.vq_model.specs.declared.plan.Event.TheVariants.{Free}
 use Rattle.vq_model.specs.Machine.{put}
 use Rattle.vq_model.proofs.Plans.{op_within}
-use Rattle.vq_points.specs.Points.{CanFree, after_event}
-use Rattle.vq_points.specs.Timeline.{Timeline, MayFree, after_free}
+use Rattle.vq_point_laws.specs.Points.{CanFree, after_event}
+use Rattle.vq_point_laws.specs.Timeline.{Timeline, MayFree, after_free}
 use Rattle.vq_history_laws.specs.Histories.{points_after}
 use Rattle.vq_core_laws.specs.TimelineOf.{IsTimelineOf}
 use Rattle.vq_core_laws.proofs.Cited.{own_free, other_free}

@@ -5,7 +5,7 @@ use Rattle.std.specs.Option.{option_map_or}
 use Rattle.vq_model.specs.declared.plan.PlanJob.{PlanJob}
 use Rattle.vq_model.specs.Plan.{Plan, of_job}
 use Rattle.vq_model.specs.Naming.{same_actor}
-use Rattle.vq_points.specs.Points.{Reference, actor_of_lane}
+use Rattle.vq_point_laws.specs.Points.{Reference, actor_of_lane}
 use Rattle.vq_core.specs.CoreState.{Course, world}
 use Rattle.vq_core.specs.Kept.{course_of}
 use Rattle.vq_tables.specs.Lanes.{no_lane}

@@ -2,7 +2,7 @@ use Rattle.std.proofs.Common.{◌≡◌, ◌&&◌, ◌∙◌, if◌then◌else�
 use Rattle.std.specs.Prelude.{nat_lt, nat_le}
 use Rattle.std.specs.List.{list_any}
 use Rattle.vq_model.specs.Plan.{needs}
-use Rattle.vq_points.specs.Points.{resolves}
+use Rattle.vq_point_laws.specs.Points.{resolves}
 use Rattle.vq_core.specs.CoreState.{world}
 use Rattle.vq_core.proofs.Jobs.{needed_now}
 use Rattle.vq_core.proofs.state.Core.is_needed_now.Goals as goal

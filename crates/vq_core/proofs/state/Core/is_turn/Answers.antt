@@ -2,7 +2,7 @@ use Rattle.std.proofs.Common.{◌≡◌, ℕ, Some, true, false, get_or, sym, ap
 use Rattle.std.specs.Prelude.{IsTrue, ◌↔◌, nat_eq}
 use Rattle.std.specs.List.{slice_get, list_all}
 use Rattle.vq_model.specs.Plan.{Plan}
-use Rattle.vq_points.specs.Points.{earlier_in_queue}
+use Rattle.vq_point_laws.specs.Points.{earlier_in_queue}
 use Rattle.vq_core.specs.CoreState.{Course, world}
 use Rattle.vq_core.specs.Kept.{course_of}
 use Rattle.vq_tables.specs.Lanes.{no_lane}

@@ -1,7 +1,7 @@
 use Rattle.std.proofs.Common.{◌≡◌, ◌<◌, ◌+◌, ◌∷◌, [], ◌∙◌, ℕ, Option, length, get_or, set, refl, sym, ap, subst, arith}
 use Rattle.vq_model.specs.declared.plan.Event.TheVariants.{Look}
 use Rattle.vq_model.specs.Machine.{put}
-use Rattle.vq_points.specs.Points.{CanLook, after_event, next_job, with_note, count_of, needs_resolved}
+use Rattle.vq_point_laws.specs.Points.{CanLook, after_event, next_job, with_note, count_of, needs_resolved}
 use Rattle.vq_history_laws.specs.Histories.{points_after}
 use Rattle.vq_core_laws.proofs.Cited.{noted_few}
 use Rattle.vq_core.specs.CoreState.{Course, world}

@@ -1,6 +1,7 @@
 use Rattle.std.proofs.Common.{ℕ, List, sym, ap, ◌∙◌}
 use Rattle.std.specs.List.{slice_get}
-use Rattle.vq_model.specs.Plan.{Plan, has, commands_of}
+use Rattle.vq_model.specs.Plan.{Plan, commands_of}
+use Rattle.vq_ground.specs.Lists.{has}
 use Rattle.vq_core_laws.proofs.Cited.{next_is}
 use Rattle.vq_core.specs.CoreState.{world}
 use Rattle.vq_core.proofs.state.Core.next_command.Goals as goal

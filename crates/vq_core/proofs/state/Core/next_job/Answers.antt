@@ -1,6 +1,6 @@
 use Rattle.std.proofs.Common.{◌≡◌, ◌+◌, ℕ, suc, sym, ap, ◌∙◌, subst, arith}
 use Rattle.vq_model.specs.Machine.{next}
-use Rattle.vq_points.specs.Points.{next_job, jobs_of_lane}
+use Rattle.vq_point_laws.specs.Points.{next_job, jobs_of_lane}
 use Rattle.vq_core.specs.CoreState.{Course, world}
 use Rattle.vq_core.specs.Kept.{course_of}
 use Rattle.vq_tables.specs.Lanes.{lane_named}

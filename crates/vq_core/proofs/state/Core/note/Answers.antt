@@ -1,5 +1,5 @@
 use Rattle.std.proofs.Common.{◌∙◌, ◌<◌, ℕ, [], get_or, sym, ap, subst}
-use Rattle.vq_points.specs.Points.{needs_resolved}
+use Rattle.vq_point_laws.specs.Points.{needs_resolved}
 use Rattle.vq_tables.specs.declared.notes.Note.{Note}
 use Rattle.vq_core.specs.CoreState.{Course, world}
 use Rattle.vq_core.specs.Kept.{course_of}

@@ -27,7 +27,7 @@ use Rattle.vq_model.specs.Lanes.{lane_number}
 use Rattle.vq_model.specs.Machine.{put}
 use Rattle.vq_model.specs.Plan.{Plan}
 use Rattle.vq_model.specs.Naming.{same_actor}
-use Rattle.vq_points.specs.Points.{
+use Rattle.vq_point_laws.specs.Points.{
   Reference,
   CanRefer,
   after_event,

@@ -5,7 +5,7 @@ use Rattle.vq_model.specs.Lanes.{lane_number}
 use Rattle.vq_model.specs.Machine.{put}
 use Rattle.vq_model.specs.Plan.{Plan}
 use Rattle.vq_model.proofs.Plans.{batch_exists}
-use Rattle.vq_points.specs.Points.{CanRelease, after_event}
+use Rattle.vq_point_laws.specs.Points.{CanRelease, after_event}
 use Rattle.vq_history_laws.specs.Histories.{points_after}
 use Rattle.vq_tables.specs.declared.table.JobRecord.{JobRecord}
 use Rattle.vq_core.specs.CoreState.{Course, world}

@@ -2,13 +2,13 @@ use Rattle.std.proofs.Common.{◌≡◌, ◌∙◌, ℕ, true, Some, length, get
 use Rattle.std.specs.List.{slice_get}
 use Rattle.std.specs.Option.{option_map_or}
 use Rattle.std.proofs.Common.{not}
-use Rattle.vq_model.proofs.Searches.{find_member}
+use Rattle.vq_ground.proofs.Searches.{find_member}
 use Rattle.vq_model.specs.declared.plan.Event.TheVariants.{Signal}
 use Rattle.vq_model.specs.declared.plan.Op.{Op}
 use Rattle.vq_model.specs.Machine.{put, next, with_signal}
 use Rattle.vq_model.specs.Plan.{signals_of, value}
 use Rattle.vq_model.proofs.Plans.{op_within}
-use Rattle.vq_points.specs.Points.{CanSignalNow}
+use Rattle.vq_point_laws.specs.Points.{CanSignalNow}
 use Rattle.vq_history_laws.specs.Histories.{points_after}
 use Rattle.vq_core_laws.proofs.Cited.{next_is, rising_at_least}
 use Rattle.vq_core.specs.CoreState.{Course, world}

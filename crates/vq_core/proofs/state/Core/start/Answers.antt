@@ -2,7 +2,7 @@ use Rattle.std.proofs.Common.{◌≡◌, ◌∙◌, true, List, get_or, refl, sy
 use Rattle.vq_model.specs.declared.plan.Event.TheVariants.{Start}
 use Rattle.vq_model.specs.Machine.{put}
 use Rattle.vq_model.specs.Plan.{question, asked}
-use Rattle.vq_points.specs.Points.{CanStartNow, after_event}
+use Rattle.vq_point_laws.specs.Points.{CanStartNow, after_event}
 use Rattle.vq_history_laws.specs.Histories.{points_after}
 use Rattle.vq_tables.specs.declared.table.JobRecord.{JobRecord}
 use Rattle.vq_core.specs.CoreState.{Course, world}

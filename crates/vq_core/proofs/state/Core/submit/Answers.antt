@@ -1,7 +1,7 @@
 use Rattle.std.proofs.Common.{refl, sym, subst, arith}
 use Rattle.vq_model.specs.declared.plan.Event.TheVariants.{Submit}
 use Rattle.vq_model.proofs.Plans.{batch_exists}
-use Rattle.vq_points.specs.Points.{CanSubmit, after_event}
+use Rattle.vq_point_laws.specs.Points.{CanSubmit, after_event}
 use Rattle.vq_history_laws.specs.Histories.{points_after}
 use Rattle.vq_core.specs.CoreState.{Course, world}
 use Rattle.vq_core.proofs.EventParts.{submit_turn}

@@ -2,8 +2,8 @@ use Rattle.std.proofs.Common.{◌≡◌, ◌<◌, ◌∙◌, false, Some, length
 use Rattle.std.specs.List.{slice_get}
 use Rattle.vq_model.specs.declared.plan.Event.TheVariants.{Take}
 use Rattle.vq_model.specs.Machine.{put}
-use Rattle.vq_points.specs.Points.{CanTake, after_event}
-use Rattle.vq_points.specs.Timeline.{Timeline, MayTake, after_take}
+use Rattle.vq_point_laws.specs.Points.{CanTake, after_event}
+use Rattle.vq_point_laws.specs.Timeline.{Timeline, MayTake, after_take}
 use Rattle.vq_history_laws.specs.Histories.{points_after}
 use Rattle.vq_core_laws.specs.TimelineOf.{IsTimelineOf}
 use Rattle.vq_core_laws.proofs.Cited.{reused_take, other_take, may_take}

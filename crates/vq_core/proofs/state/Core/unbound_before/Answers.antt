@@ -1,7 +1,7 @@
 use Rattle.std.proofs.Common.{◌∙◌, sym, ap, arith}
 use Rattle.std.specs.List.{slice_get}
 use Rattle.vq_model.specs.Plan.{chain}
-use Rattle.vq_model.proofs.Gets.{get_within}
+use Rattle.vq_ground.proofs.Gets.{get_within}
 use Rattle.vq_core_laws.proofs.Cited.{unbound_at, none_unbound}
 use Rattle.vq_core.specs.CoreState.{world}
 use Rattle.vq_core.proofs.Courses.{plan_facts}

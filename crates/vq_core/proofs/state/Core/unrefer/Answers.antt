@@ -24,7 +24,7 @@ use Rattle.vq_model.specs.declared.plan.Event.TheVariants.{Unref}
 use Rattle.vq_model.specs.Lanes.{lane_number}
 use Rattle.vq_model.specs.Plan.{Plan}
 use Rattle.vq_model.specs.Naming.{same_actor}
-use Rattle.vq_points.specs.Points.{
+use Rattle.vq_point_laws.specs.Points.{
   Reference,
   CanUnrefer,
   after_event,

@@ -2,7 +2,7 @@ use Rattle.std.proofs.Common.{◌≡◌, ◌<◌, ◌∙◌, length, get_or, sym
 use Rattle.std.proofs.lemmas.List.{get_or_default}
 use Rattle.std.specs.List.{filter_map}
 use Rattle.vq_model.specs.Plan.{chain}
-use Rattle.vq_points.specs.Timeline.{Timeline}
+use Rattle.vq_point_laws.specs.Timeline.{Timeline}
 use Rattle.vq_turns.specs.Turns.{waiting_point}
 use Rattle.vq_core.specs.CoreState.{Course, world, IsCourse}
 use Rattle.vq_core.specs.Kept.{course_of}

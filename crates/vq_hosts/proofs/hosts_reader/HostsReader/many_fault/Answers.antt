@@ -1,8 +1,9 @@
 use Rattle.std.proofs.Common.{sym, ◌∙◌, arith}
+use Rattle.vq_forms.proofs.Cited.{cut_long}
 use Rattle.vq_model.specs.declared.statement.Form.TheVariants.{Plain}
 use Rattle.vq_model.specs.Text.{words_in}
 use Rattle.vq_lexer.specs.Words.{texts}
-use Rattle.vq_hosts.proofs.ManyWords.{cut_long, many_rest}
+use Rattle.vq_hosts.proofs.ManyWords.{many_rest}
 use Rattle.vq_hosts.proofs.RestLines.{faulty_words}
 use Rattle.vq_hosts.proofs.hosts_reader.HostsReader.many_fault.Goals as goal
 

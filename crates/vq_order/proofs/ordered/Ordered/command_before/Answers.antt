@@ -1,6 +1,7 @@
 use Rattle.std.proofs.Common.{◌≡◌, ◌<◌, ◌↔◌, ℕ, IsTrue, true, length, sym, subst}
 use Rattle.vq_model.specs.HappensBefore.{HappensBeforeCommand}
-use Rattle.vq_model.specs.Plan.{Plan, commands_of, has}
+use Rattle.vq_model.specs.Plan.{Plan, commands_of}
+use Rattle.vq_ground.specs.Lists.{has}
 use Rattle.vq_plan_laws.proofs.Cited.{owner_exists}
 use Rattle.vq_order.specs.CommandPairs.{AreOfTwoJobs}
 use Rattle.vq_order.proofs.ordered.Ordered.command_before.Goals as goal

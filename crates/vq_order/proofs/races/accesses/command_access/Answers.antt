@@ -1,5 +1,6 @@
 use Rattle.std.proofs.Common.{◌≡◌, ℕ, true, sym, subst}
-use Rattle.vq_model.specs.Plan.{Plan, commands_of, has}
+use Rattle.vq_model.specs.Plan.{Plan, commands_of}
+use Rattle.vq_ground.specs.Lists.{has}
 use Rattle.vq_order.specs.Accessed.{IsAccess}
 use Rattle.vq_plan_laws.proofs.Cited.{command_has_job}
 use Rattle.vq_order.proofs.races.accesses.command_access.Goals as goal

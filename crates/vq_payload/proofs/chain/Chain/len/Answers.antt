@@ -1,5 +1,5 @@
 use Rattle.std.proofs.Common.{length, ap, arith}
-use Rattle.vq_payload.proofs.Short.{short}
+use Rattle.vq_board.proofs.Cited.{short}
 use Rattle.vq_payload.proofs.chain.Chain.len.Goals as goal
 
 pub overflow_cast-result : goal.overflow_cast-result

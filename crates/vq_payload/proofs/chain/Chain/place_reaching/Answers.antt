@@ -2,8 +2,9 @@ use Rattle.std.proofs.Common.{rules, ◌≡◌, ℕ, List, true, false, subst}
 use Rattle.std.specs.Prelude.{nat_lt}
 use Rattle.std.specs.List.Sorted.{IsPartitionPoint}
 use Rattle.std.proofs.lemmas.List.Sorted.{IsPartitionPoint-from_clause}
+use Rattle.vq_ground.proofs.Rising.{parted}
 use Rattle.vq_model.specs.Plan.{initial}
-use Rattle.vq_payload.proofs.ChainValues.{parted, resolver_at}
+use Rattle.vq_payload.proofs.ChainValues.{resolver_at}
 use Rattle.vq_payload.proofs.chain.Chain.place_reaching.Goals as goal
 
 pub returns-clause-place : goal.returns-clause-place

@@ -1,10 +1,10 @@
 use Rattle.std.proofs.Common.{◌≡◌, ◌∙◌, ℕ, List, map, length, ap, sym, subst, arith}
 use Rattle.std.proofs.lemmas.List.{length-map}
+use Rattle.vq_board.proofs.Cited.{short}
 use Rattle.vq_model.specs.Plan.{chain, initial, value}
-use Rattle.vq_points.specs.Timeline.{AreRisingFrom}
+use Rattle.vq_ground.specs.Lists.{AreRisingFrom}
 use Rattle.vq_core_laws.proofs.Cited.{facts, values_rise}
 use Rattle.vq_payload.specs.Chains.{PlanChain}
-use Rattle.vq_payload.proofs.Short.{short}
 use Rattle.vq_payload.proofs.chain.Chain.values.Goals as goal
 
 pub returns-clause-rising : goal.returns-clause-rising

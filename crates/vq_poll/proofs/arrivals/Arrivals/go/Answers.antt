@@ -3,6 +3,7 @@ use Rattle.std.specs.List.{slice_get, remove}
 use Rattle.std.specs.Global.{Vec}
 use Rattle.std.proofs.lemmas.Bool.{cases_lt, eq-eqb, false≢true}
 use Rattle.std.proofs.lemmas.Option.{slice_get_within}
+use Rattle.vq_board_laws.proofs.Cited.{learns_none}
 use Rattle.vq_board.specs.Named.{view, IsOf}
 use Rattle.vq_payload.proofs.Cited.{learned_none, learned_on}
 use Rattle.vq_poll.specs.declared.awaited.Awaited.{Awaited}
@@ -13,7 +14,6 @@ use Rattle.vq_poll.specs.Missing.{IsMissed}
 use Rattle.vq_poll.specs.Seeing.{Looked, HasValue}
 use Rattle.vq_poll.specs.Waiting.{CanRead}
 use Rattle.vq_poll.proofs.Coming.{known_at, missed_at, comes, covers_left}
-use Rattle.vq_poll.proofs.Learned.{learns_none}
 use Rattle.vq_poll.proofs.Looked.{looked_none, none_at}
 use Rattle.vq_poll.proofs.Missed.{missed_still}
 use Rattle.vq_poll.proofs.Places.{stands_at, remove_at}

@@ -2,6 +2,7 @@ use Rattle.std.proofs.Common.{◌≡◌, ℕ, ◌<◌, ◌≤◌, List, length, 
 use Rattle.std.specs.List.{slice_get}
 use Rattle.std.proofs.lemmas.Bool.{cases_lt}
 use Rattle.std.proofs.lemmas.Option.{slice_get_within}
+use Rattle.vq_board_laws.proofs.Cited.{learns_none}
 use Rattle.futures.specs.Task.{Covers}
 use Rattle.vq_board.specs.Named.{view, IsOf}
 use Rattle.vq_payload.proofs.Cited.{learned_none, learned_on}
@@ -13,7 +14,6 @@ use Rattle.vq_poll.specs.Seeing.{Looked, HasValue}
 use Rattle.vq_poll.specs.Waiting.{CanRead, CanWait, WaitsFor, plan_in, pairs_in}
 use Rattle.vq_poll.proofs.Looked.{looked_none, none_at}
 use Rattle.vq_poll.proofs.Missed.{missed_still}
-use Rattle.vq_poll.proofs.Learned.{learns_none}
 use Rattle.vq_poll.proofs.Polled.{bell_still}
 use Rattle.vq_poll.proofs.Waited.{wait_still, chosen, waits_any, ends_any, value_known, value_missed, covers_any}
 use Rattle.vq_poll.proofs.wait.Wait.go_any.Goals as goal

@@ -1,5 +1,5 @@
 use Rattle.std.proofs.Common.{◌∙◌, subst, sym}
-use Rattle.vq_troupe.specs.Casts.{scene}
+use Rattle.vq_core_run.specs.Casts.{scene}
 use Rattle.vq_replay.specs.Resting.{AreKnown}
 use Rattle.vq_replay.proofs.Known.{none_known_first}
 use Rattle.vq_replay.proofs.RoundsPlayed.{under_way_first}

@@ -4,7 +4,7 @@ use Rattle.vq_model.specs.Checks.{IsLawful}
 use Rattle.vq_model.specs.LoweringFaults.{IsPlan}
 use Rattle.vq_model.specs.ValidScripts.{IsActor}
 use Rattle.vq_core.specs.CoreState.{Course}
-use Rattle.vq_troupe.specs.Casts.{scene}
+use Rattle.vq_core_run.specs.Casts.{scene}
 use Rattle.vq_replay.specs.Passages.{LeadsTo}
 use Rattle.vq_replay.specs.Resting.{AreApart, AreKnown}
 use Rattle.vq_replay.proofs.Rosters.{round_acts, round_apart}

@@ -1,5 +1,5 @@
 use Rattle.std.proofs.Common.{◌≡◌, ◌∙◌, List, ap, get_or, subst, sym}
-use Rattle.vq_points.specs.Points.{PointState}
+use Rattle.vq_point_laws.specs.Points.{PointState}
 use Rattle.vq_replay.specs.declared.rests.Rest.{Rest}
 use Rattle.vq_replay.specs.declared.rests.Rest.TheVariants.{Unknown}
 use Rattle.vq_replay.specs.Resting.{IsIdleIn, Knows}

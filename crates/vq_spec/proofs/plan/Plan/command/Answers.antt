@@ -1,7 +1,7 @@
 use Rattle.std.proofs.Common.{◌-◌, ◌∙◌, ap, length, arith, refl, get_or}
 use Rattle.std.proofs.lemmas.Option.{slice_get_read}
 use Rattle.vq_model.specs.declared.script.Job.TheVariants.{Host, Batch}
-use Rattle.vq_model.proofs.Gets.{get_within}
+use Rattle.vq_ground.proofs.Gets.{get_within}
 use Rattle.vq_spec.proofs.Lowered.{read_job}
 use Rattle.vq_spec.proofs.CommandOwners.{some_there, there, first_is, command_is, no_step}
 use Rattle.vq_spec.proofs.plan.Plan.command.Goals as goal

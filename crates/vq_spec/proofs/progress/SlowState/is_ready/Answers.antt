@@ -1,6 +1,6 @@
 use Rattle.std.proofs.Common.{◌≡◌, ◌<◌, true, false, if◌then◌else◌, ℕ, All, length, get_or, sym, subst, ap, ◌∙◌}
 use Rattle.std.specs.List.{list_all, list_any}
-use Rattle.vq_model.specs.Plan.{has}
+use Rattle.vq_ground.specs.Lists.{has}
 use Rattle.vq_model.specs.Edges.{must_finish}
 use Rattle.vq_model.specs.Machine.{is_reached}
 use Rattle.vq_plan_laws.proofs.Cited.{plan_well_formed}

@@ -1,5 +1,5 @@
 use Rattle.std.proofs.Common.{ℕ, List, sym, ap, ◌∙◌}
-use Rattle.vq_model.specs.Plan.{has}
+use Rattle.vq_ground.specs.Lists.{has}
 use Rattle.vq_board.specs.Named.{plan_of, view}
 use Rattle.vq_timeline_laws.specs.Waiting.{FindsFree, FindsAllInUse}
 use Rattle.std.proofs.Common.{subst, refl}

@@ -1,5 +1,5 @@
 use Rattle.std.proofs.Common.{sym, ap, ◌∙◌, arith}
-use Rattle.vq_model.proofs.Gets.{first_is}
+use Rattle.vq_ground.proofs.Gets.{first_is}
 use Rattle.vq_timeline_core.specs.Answers.{place_of}
 use Rattle.vq_core_laws.proofs.Cited.{facts}
 use Rattle.vq_board.specs.Named.{plan_of, view}

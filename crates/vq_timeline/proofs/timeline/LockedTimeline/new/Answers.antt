@@ -1,6 +1,6 @@
 use Rattle.std.proofs.Common.{map, sym, subst, refl, ap, ◌∙◌}
 use Rattle.vq_model.specs.Plan.{Plan, chain, initial, value}
-use Rattle.vq_points.specs.Timeline.{new_timeline}
+use Rattle.vq_point_laws.specs.Timeline.{new_timeline}
 use Rattle.vq_board.specs.declared.parts.Board.{Board}
 use Rattle.vq_payload.specs.Chains.{PlanChain}
 use Rattle.vq_timeline_laws.specs.ChainOps.{of_host}

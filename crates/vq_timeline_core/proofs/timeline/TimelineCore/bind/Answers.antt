@@ -1,6 +1,6 @@
 use Rattle.std.proofs.Common.{eq-eqb, sym, subst}
-use Rattle.vq_points.specs.Timeline.{Timeline, MayBind}
-use Rattle.vq_points.proofs.Cited.{bind_keeps}
+use Rattle.vq_point_laws.specs.Timeline.{Timeline, MayBind}
+use Rattle.vq_point_laws.proofs.Cited.{bind_keeps}
 use Rattle.vq_timeline_core.specs.Lists.{lists_of}
 use Rattle.vq_timeline_core.proofs.timeline.TimelineCore.bind.Goals as goal
 

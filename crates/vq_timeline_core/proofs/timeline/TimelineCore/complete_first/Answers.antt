@@ -1,6 +1,6 @@
 use Rattle.std.proofs.Common.{◌≡◌, ◌<◌, ◌+◌, sym, ◌∙◌, subst, arith}
-use Rattle.vq_points.specs.Timeline.{Timeline, after_complete}
-use Rattle.vq_points.proofs.Cited.{waiting_count}
+use Rattle.vq_point_laws.specs.Timeline.{Timeline, after_complete}
+use Rattle.vq_point_laws.proofs.Cited.{waiting_count}
 use Rattle.vq_timeline_core.specs.Lists.{lists_of}
 use Rattle.vq_timeline_core.proofs.Points.{read_point, pending_is_some}
 use Rattle.vq_timeline_core.proofs.Steps.{completed_keeps, completed_is}

@@ -1,5 +1,5 @@
 use Rattle.std.proofs.Common.{◌≡◌, ◌<◌, ◌≤◌, ◌↔◌, ℕ, sym, ◌∙◌, ap, subst, arith}
-use Rattle.vq_points.specs.Timeline.{Timeline, past_value, pending_value}
+use Rattle.vq_point_laws.specs.Timeline.{Timeline, past_value, pending_value}
 use Rattle.vq_timeline_core.specs.declared.answers.Found.TheVariants as found_as
 use Rattle.vq_timeline_core.specs.Answers.{found}
 use Rattle.vq_timeline_core.specs.Lists.{lists_of}

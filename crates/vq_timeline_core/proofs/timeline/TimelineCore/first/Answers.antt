@@ -1,6 +1,6 @@
 use Rattle.std.proofs.Common.{sym, ◌∙◌, ap, arith}
 use Rattle.std.specs.Option.{option_map}
-use Rattle.vq_points.specs.Timeline.{Timeline, first_pending}
+use Rattle.vq_point_laws.specs.Timeline.{Timeline, first_pending}
 use Rattle.vq_timeline_core.specs.Lists.{lists_of}
 use Rattle.vq_timeline_core.proofs.Points.{read_point, pending_is_some, first_answer}
 use Rattle.vq_timeline_core.proofs.timeline.TimelineCore.first.Goals as goal

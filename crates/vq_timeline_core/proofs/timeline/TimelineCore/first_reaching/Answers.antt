@@ -2,8 +2,9 @@ use Rattle.std.proofs.Common.{rules, ◌<◌, ◌≤◌, ℕ, List, sym, subst}
 use Rattle.std.specs.Prelude.{nat_lt}
 use Rattle.std.specs.List.Sorted.{IsPartitionedBy, IsPartitionPoint}
 use Rattle.std.proofs.lemmas.List.Sorted.{IsPartitionPoint-from_clause}
-use Rattle.vq_points.specs.Timeline.{Timeline}
-use Rattle.vq_timeline_core.proofs.Finding.{parted, searched}
+use Rattle.vq_ground.proofs.Rising.{parted}
+use Rattle.vq_point_laws.specs.Timeline.{Timeline}
+use Rattle.vq_timeline_core.proofs.Finding.{searched}
 use Rattle.vq_timeline_core.proofs.timeline.TimelineCore.first_reaching.Goals as goal
 
 pub returns : goal.returns

@@ -2,7 +2,7 @@ use Rattle.std.proofs.Common.{rules, ◌≡◌, ◌∷◌, [], not, reverse, sym
 use Rattle.std.specs.Prelude.{◌==◌}
 use Rattle.std.proofs.lemmas.List.{reverse-append}
 use Rattle.std.proofs.lemmas.Fn.{filter_same}
-use Rattle.vq_points.specs.Timeline.{Timeline, MayFree, after_free}
+use Rattle.vq_point_laws.specs.Timeline.{Timeline, MayFree, after_free}
 use Rattle.vq_timeline_core.specs.Lists.{lists_of}
 use Rattle.vq_timeline_core.proofs.Steps.{freed_keeps, freed_is}
 use Rattle.vq_timeline_core.proofs.timeline.TimelineCore.free.Goals as goal

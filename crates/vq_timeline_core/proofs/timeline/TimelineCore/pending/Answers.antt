@@ -1,5 +1,5 @@
 use Rattle.std.proofs.Common.{length, ◌∙◌, ap}
-use Rattle.vq_points.specs.Timeline.{Timeline, pending}
+use Rattle.vq_point_laws.specs.Timeline.{Timeline, pending}
 use Rattle.vq_timeline_core.specs.Lists.{lists_of}
 use Rattle.vq_timeline_core.proofs.Points.{pending_count}
 use Rattle.vq_timeline_core.proofs.timeline.TimelineCore.pending.Goals as goal

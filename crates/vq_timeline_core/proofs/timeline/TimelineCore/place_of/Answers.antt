@@ -1,5 +1,5 @@
 use Rattle.std.proofs.Common.{◌≡◌, ◌<◌, ◌≤◌, length, None, refl, sym, ◌∙◌, subst}
-use Rattle.vq_points.specs.Timeline.{Timeline, point_at}
+use Rattle.vq_point_laws.specs.Timeline.{Timeline, point_at}
 use Rattle.vq_timeline_core.specs.Lists.{lists_of}
 use Rattle.vq_timeline_core.proofs.Points.{read_point, without_unbound}
 use Rattle.vq_timeline_core.proofs.timeline.TimelineCore.place_of.Goals as goal

@@ -1,6 +1,6 @@
 use Rattle.std.proofs.Common.{◌∷◌, [], reverse, refl, sym, ◌∙◌, ap, subst, arith}
 use Rattle.std.proofs.lemmas.List.{reverse-append, nil_from_length}
-use Rattle.vq_points.specs.Timeline.{Timeline, MayTake}
+use Rattle.vq_point_laws.specs.Timeline.{Timeline, MayTake}
 use Rattle.vq_timeline_core.specs.Lists.{lists_of}
 use Rattle.vq_timeline_core.proofs.Steps.{reused_keeps, fresh_keeps}
 use Rattle.vq_timeline_core.proofs.timeline.TimelineCore.take.Goals as goal

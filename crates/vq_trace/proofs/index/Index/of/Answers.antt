@@ -1,7 +1,6 @@
 use Rattle.std.proofs.Common.{arith, ap, length}
 use Rattle.vq_model.specs.declared.script.Script.{Script}
-use Rattle.vq_plan_laws.proofs.Cited.{plan_semaphores}
-use Rattle.vq_trace.proofs.Lookups.{few_queues}
+use Rattle.vq_plan_laws.proofs.Cited.{plan_semaphores, few_queues}
 use Rattle.vq_trace.proofs.index.Index.of.Goals as goal
 
 pub semaphore_names-requires : goal.semaphore_names-requires

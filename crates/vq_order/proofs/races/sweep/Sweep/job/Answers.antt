@@ -1,8 +1,9 @@
 use Rattle.std.proofs.Common.{◌≡◌, ◌+◌, [], ℕ, List, true, take, get_or, sym, subst, ap, ◌∙◌}
 use Rattle.std.proofs.lemmas.Bool.{false≢true}
 use Rattle.std.proofs.lemmas.List.{take_all}
-use Rattle.vq_model.specs.Plan.{Plan, commands_of, has}
-use Rattle.vq_spec.proofs.Cited.{has_at}
+use Rattle.vq_ground.proofs.Gets.{has_at}
+use Rattle.vq_model.specs.Plan.{Plan, commands_of}
+use Rattle.vq_ground.specs.Lists.{has}
 use Rattle.vq_order.specs.Accessed.{IsAccess}
 use Rattle.vq_order.specs.CommandCells.{TouchesAmong}
 use Rattle.vq_order.specs.declared.races.cells.Cell.{Cell}

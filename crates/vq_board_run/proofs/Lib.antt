@@ -1,0 +1,9 @@
+mod Crewing
+mod Dealt
+mod Few
+mod FirstRooms
+mod Leading
+mod RoomLaws
+mod Seeing
+mod Shelving
+mod Told

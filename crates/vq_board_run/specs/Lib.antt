@@ -1,0 +1,4 @@
+pub mod Answered
+pub mod Crewed
+pub mod Crews
+pub mod Rooming

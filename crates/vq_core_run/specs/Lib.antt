@@ -1,0 +1,4 @@
+pub mod Casts
+pub mod CoreAccesses
+pub mod Driven
+pub mod Seats

@@ -1,6 +1,0 @@
-mod Crewing
-mod Dealt
-mod Leading
-mod Seeing
-mod Shelving
-mod Told

@@ -1,3 +1,0 @@
-pub mod Answered
-pub mod Crewed
-pub mod Crews

@@ -1,0 +1,1 @@
+-- A search of bytes ends at the first that passes, or at their end.

@@ -1,0 +1,14 @@
+pub mod Bools
+pub mod Bytes
+pub mod Elements
+pub mod Every
+pub mod Filters
+pub mod Gets
+pub mod Lists
+pub mod Mapped
+pub mod Numbers
+pub mod Options
+pub mod Positions
+pub mod Rising
+pub mod Searches
+pub mod Tests

@@ -1,2 +1,0 @@
-mod FirstFound
-mod FirstWord

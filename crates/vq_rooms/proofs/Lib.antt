@@ -1,3 +1,0 @@
-mod Few
-mod FirstRooms
-mod RoomLaws

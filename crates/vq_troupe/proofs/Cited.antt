@@ -1,2 +1,0 @@
--- What other crates may cite of this one. All other files of proofs are private to it.
-pub use Rattle.vq_troupe.proofs.Troupes.{plan_kept}

@@ -1,8 +1,0 @@
-mod Beyond
-pub mod Cited
-mod CoreAnswers
-mod Holding
-mod Openings
-mod PastValues
-mod Serving
-mod Troupes

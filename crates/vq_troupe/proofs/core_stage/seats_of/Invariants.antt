@@ -1,5 +1,0 @@
-use Rattle.vq_troupe.specs.Casts.{AreFirst}
-use Rattle.vq_troupe.proofs.core_stage.seats_of.Given as goal
-
-abbrev pub invariant-loop-actor : goal.invariant-loop-actor
-invariant-loop-actor l = AreFirst l.actors l.actor-index l.seats.items

@@ -1,3 +1,0 @@
-pub mod Casts
-pub mod CoreAccesses
-pub mod Seats
