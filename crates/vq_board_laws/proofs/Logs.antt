@@ -1,17 +1,11 @@
 -- The log of commands: its filled places, its room, and what its commands leave in the buffers.
-use Rattle.std.proofs.Common.{◌≡◌, ◌≢◌, ℕ, zero, suc, ◌-◌, ◌<◌, ◌≤◌, Bool, true, false, cond, eqb, not, List, [], ◌∷◌, ◌++◌, length, Option, Some, refl, ap, sym, ◌∙◌, subst, arith, inl, inr, ne_eqb, eq-eqb, length-append, append-nil}
+use Rattle.std.proofs.Common.{◌≡◌, ◌≢◌, ℕ, zero, suc, ◌-◌, ◌<◌, ◌≤◌, Bool, true, false, cond, eqb, not, List, [], ◌∷◌, ◌++◌, length, Option, refl, ap, sym, ◌∙◌, subst, arith, inl, inr, ne_eqb, eq-eqb, length-append, append-nil}
 use mathlib.Core.Logic.{dite}
-use Rattle.vq_spec.proofs.Cited.{after_all-append}
 use native.Mathlib.Decide.{ℕ_discrete}
 use Rattle.std.specs.Prelude.{fold}
-use Rattle.std.specs.List.{filter_map, cons_option}
 use Rattle.std.proofs.lemmas.Bool.{false_from_ne_true, false≢true, eqb-true, not-true}
-use Rattle.std.proofs.lemmas.List.Elements.{filter_map-append}
-use Rattle.vq_model.specs.declared.script.Command.{Command}
-use Rattle.vq_model.specs.Memory.{effect, after_all}
-use Rattle.vq_model.specs.Plan.{Plan, commands_of, command_at}
+use Rattle.vq_model.specs.Plan.{Plan, commands_of}
 use Rattle.vq_ground.specs.Lists.{has}
-use Rattle.vq_model.specs.SlowRun.{bytes_after, zeros}
 use Rattle.vq_model.specs.WellFormed.{IsWellFormed}
 use Rattle.vq_model.specs.Machine.{Progress, State, Step, put, CanStep, RunFrom, after_step, opening_state, with_signal, StartStep, ApplyStep, SignalStep, FinishStep, AnswerStep}
 use Rattle.vq_ground.proofs.Lists.{AreDistinct, has_here, has_there, has_cases, distinct_push, pushed}

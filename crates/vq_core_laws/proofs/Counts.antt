@@ -1,39 +1,11 @@
 -- A test that becomes true at one more place counts one more.
-use Rattle.std.proofs.Common.{
-  ◌≡◌,
-  ℕ,
-  zero,
-  suc,
-  ◌+◌,
-  ◌<◌,
-  ◌≤◌,
-  ◌||◌,
-  Bool,
-  true,
-  false,
-  cond,
-  List,
-  [],
-  ◌∷◌,
-  Option,
-  Some,
-  None,
-  is_some,
-  refl,
-  sym,
-  ap,
-  ◌∙◌,
-  inl,
-  inr,
-  arith,
-}
-use Rattle.std.specs.List.{count_by, range_with_len, list_any}
+use Rattle.std.proofs.Common.{◌≡◌, ℕ, zero, suc, ◌+◌, ◌<◌, ◌≤◌, Bool, true, false, Option, Some, None, is_some, refl, ap, ◌∙◌, inl, inr, arith}
+use Rattle.std.specs.List.{count_by, range_with_len}
 use Rattle.std.proofs.lemmas.List.FromFn.{length-range_with_len}
 use Rattle.std.proofs.lemmas.List.Sums.{sum_by-cons, count_by-le-length}
-use Rattle.std.proofs.lemmas.Bool.{cases_eq, false≢true}
+use Rattle.std.proofs.lemmas.Bool.{cases_eq}
 use Rattle.vq_model.specs.Machine.{put}
 use Rattle.vq_model.proofs.Puts.{put_here, put_there}
-use Rattle.vq_history_laws.proofs.Cited.{count_cons, none_counted}
 use Rattle.vq_history_laws.specs.Measure.{one}
 
 module _ (f : ℕ → Bool) (g : ℕ → Bool) (k : ℕ) (old : f k ≡ false) (new : g k ≡ true) (kept : (i : ℕ) → (i ≡ k →

@@ -7,7 +7,7 @@ use Rattle.std.proofs.lemmas.Bool.{cond-true, cond-false, false≢true, cases_eq
 use Rattle.vq_model.specs.Machine.{next, put}
 use Rattle.vq_ground.specs.Lists.{AreRising, has}
 use Rattle.vq_ground.proofs.Gets.{get_some, get_within, place_in, get_has}
-use Rattle.vq_ground.proofs.Lists.{has_cases, list_all_has, list_all_from}
+use Rattle.vq_ground.proofs.Lists.{list_all_has, list_all_from}
 use Rattle.vq_model.proofs.Puts.{put_here, put_there}
 use Rattle.vq_core_laws.specs.Firsts.{AreFirst, StandOnce}
 

@@ -1,5 +1,5 @@
 -- Rising lists, and their parts.
-use Rattle.std.proofs.Common.{◌≡◌, ℕ, true, List, [], ◌∷◌, ◌++◌, ◌<◌, inl, inr, subst, map, refl, ap, zero, suc, length, arith, get_or, ◌≤◌, false}
+use Rattle.std.proofs.Common.{◌≡◌, ℕ, true, List, [], ◌∷◌, ◌++◌, ◌<◌, inl, inr, subst, map, refl, ap, zero, suc, length, arith, get_or, ◌≤◌}
 use Rattle.std.specs.Prelude.{nat_lt}
 use Rattle.std.specs.List.Sorted.{IsPartitionedBy}
 use Rattle.vq_ground.proofs.Tests.{below_test, below_of_test}

@@ -3,7 +3,6 @@ use Rattle.std.proofs.Common.{◌≡◌, ◌<◌, ℕ, Bool, true, false, ◌||�
 use Rattle.std.specs.Option.{option_map_or}
 use Rattle.std.specs.Prelude.{find}
 use Rattle.std.proofs.lemmas.Bool.{false≢true}
-use Rattle.std.proofs.lemmas.List.{length-append}
 use Rattle.vq_ground.proofs.Bools.{and_false}
 use Rattle.vq_model.specs.declared.script.Mode.TheVariants.{Immediate, Deferred, Threaded}
 use Rattle.vq_model.specs.declared.statement.FaultKind.{FaultKind}
@@ -15,7 +14,6 @@ use Rattle.vq_model.specs.Context.{section}
 use Rattle.vq_model.specs.LineFaults.{is_declaration}
 use Rattle.vq_model.specs.Meaning.{forms_at, matches}
 use Rattle.vq_model.specs.Reading.{read_statement}
-use Rattle.vq_forms.specs.Few.{AreCutOff}
 use Rattle.vq_blocks.specs.declared.block.BlockForm.TheVariants.{ThreadForm}
 use Rattle.vq_blocks.specs.BlockFaults.{declares_late}
 use Rattle.vq_blocks.specs.BlockForms.{matches_block}

@@ -1,5 +1,5 @@
 -- The steps of a gauge keep its rule.
-use Rattle.std.proofs.Common.{◌≡◌, ◌≢◌, ◌≤◌, ℕ, [], ◌∷◌, ◌++◌, set, get_or, refl, ap, sym, ◌∙◌, subst, arith, ◌⊎◌, ⊎_elim, length-set, get_or-set_same, le_refl, le_trans}
+use Rattle.std.proofs.Common.{◌≡◌, ◌≢◌, ◌≤◌, ℕ, [], ◌∷◌, ◌++◌, set, get_or, refl, ap, sym, ◌∙◌, subst, arith, ⊎_elim, length-set, get_or-set_same, le_refl, le_trans}
 use mathlib.Core.Option.{some, none}
 use lib.ListN.{get_elem?}
 use Rattle.vq_ground.proofs.Elements.{at_end, at_one}

@@ -1,5 +1,5 @@
 -- The steps of a lock keep its rule.
-use Rattle.std.proofs.Common.{Bool, ne_eqb, ◌≡◌, ◌≢◌, ◌<◌, ◌==◌, ℕ, List, [], ◌∷◌, ◌++◌, length, set, get_or, refl, ap, sym, ◌∙◌, subst, arith, ◌⊎◌, ⊎_elim, length-set, get_or-set_same}
+use Rattle.std.proofs.Common.{Bool, ne_eqb, ◌≡◌, ◌≢◌, ◌<◌, ◌==◌, ℕ, List, [], ◌∷◌, ◌++◌, length, set, get_or, refl, ap, sym, ◌∙◌, subst, arith, ⊎_elim, length-set, get_or-set_same}
 use mathlib.Core.Option.{some, none, some-injective}
 use mathlib.Core.Option as maybe
 use mathlib.Core.Logic.{dite}

@@ -1,5 +1,5 @@
 -- What a read that doesn't reach a pair shows of it.
-use Rattle.std.proofs.Common.{◌≡◌, ℕ, zero, suc, ◌<◌, ◌≤◌, ◌⊎◌, Bool, true, false, nat_le, nat_lt, List, [], ◌∷◌, length, Option, Some, None, find, refl, sym, ap, ◌∙◌, subst, arith, inl, inr, if◌then◌else◌}
+use Rattle.std.proofs.Common.{◌≡◌, ℕ, suc, ◌<◌, ◌≤◌, ◌⊎◌, Bool, nat_le, nat_lt, List, length, Option, Some, None, find, refl, sym, ap, ◌∙◌, subst, arith, inl, inr}
 use Rattle.std.specs.List.{slice_get}
 use Rattle.std.proofs.lemmas.Bool.{false≢true, leb-true, lt-ltb, ltb-true, cases_lt}
 use Rattle.vq_ground.proofs.Gets.{place_in, get_has}

@@ -17,14 +17,14 @@ use Rattle.vq_model.specs.declared.script.Job.TheVariants.{Host, Batch}
 use Rattle.vq_model.specs.declared.script.Script.{Script}
 use Rattle.vq_model.specs.Limits.{limits_of}
 use Rattle.vq_model.specs.LineFaults.{pairs_of}
-use Rattle.vq_model.specs.Lowering.{batch_commands, commands_in, of_pair, of_wait, plan_job, plan_of, step_needs}
+use Rattle.vq_model.specs.Lowering.{of_pair, of_wait, plan_job, plan_of, step_needs}
 use Rattle.vq_model.specs.LoweringFaults.{IsPlan}
 use Rattle.vq_model.specs.Plan.{Plan}
 use Rattle.vq_model.specs.SameScript.{IsRead}
 use Rattle.vq_model.specs.Signals.{job_signals, of_mark, step_signals}
 use Rattle.vq_model.specs.ValidScripts.{is_threaded_queue}
 use Rattle.vq_history_laws.specs.Histories.{acts}
-use Rattle.vq_plan_laws.proofs.Cited.{count_jobs, count_ops, length-batch_commands, all_commands}
+use Rattle.vq_plan_laws.proofs.Cited.{count_jobs, count_ops, all_commands}
 use Rattle.vq_reading_laws.proofs.Cited.{most_jobs, most_queues, read_batches, read_valid}
 use Rattle.vq_progress_laws.specs.Movers.{all_queues, round, rounds_of}
 use Rattle.vq_progress_laws.proofs.ShortSteps.{few_pairs, most_pairs}

@@ -143,17 +143,11 @@ fn frames_are_answered(rt: HostRuntime) {
     each_script_ends(&rt, rt.alloc(), &[], FOUR_FRAMES);
 }
 
-#[test]
-fn host_steps_are_answered(rt: HostRuntime) {
-    each_ends(
-        &rt,
-        rt.alloc(),
-        &[],
-        Status::Done,
-        &[
-            // a wait that several signals reach, and a read after all of them
-            (
-                "timeline A 0
+/// Steps of the host, and what they are answered.
+const ANSWERED: &[(&str, &str)] = &[
+    // a wait that several signals reach, and a read after all of them
+    (
+        "timeline A 0
 queue Q threaded
 submit Q
 signal A 2
@@ -164,16 +158,16 @@ end
 host wait all A 3
 host read A
 ",
-                "9 ok\n10 value 7\nend\n",
-            ),
-            // a wait for the initial value
-            (
-                "timeline A 18446744073709551615\nhost wait all A 18446744073709551615\n",
-                "2 ok\nend\n",
-            ),
-            // a read between two signals, of which the second comes later
-            (
-                "timeline A 0
+        "9 ok\n10 value 7\nend\n",
+    ),
+    // a wait for the initial value
+    (
+        "timeline A 18446744073709551615\nhost wait all A 18446744073709551615\n",
+        "2 ok\nend\n",
+    ),
+    // a read between two signals, of which the second comes later
+    (
+        "timeline A 0
 queue Q threaded
 submit Q
 signal A 3
@@ -184,11 +178,11 @@ submit Q
 signal A 9
 end
 ",
-                "6 ok\n7 value 3\nend\n",
-            ),
-            // a fence is polled, waited for and reset
-            (
-                "buffer X 4
+        "6 ok\n7 value 3\nend\n",
+    ),
+    // a fence is polled, waited for and reset
+    (
+        "buffer X 4
 fence F
 queue Q threaded
 host fence poll F
@@ -201,11 +195,11 @@ host fence poll F
 host fence reset F
 host fence poll F
 ",
-                "4 not-ready\n9 ok\n10 ok\n12 not-ready\nbuffer X 4\n09000000\nend\n",
-            ),
-            // polls of both outcomes, and a wait for any whose first pair comes last
-            (
-                "timeline A 0
+        "4 not-ready\n9 ok\n10 ok\n12 not-ready\nbuffer X 4\n09000000\nend\n",
+    ),
+    // polls of both outcomes, and a wait for any whose first pair comes last
+    (
+        "timeline A 0
 timeline B 0
 host signal A 1
 host wait any B 1 A 1
@@ -214,11 +208,11 @@ host poll any B 1 A 1
 host idle
 host signal B 1
 ",
-                "4 ok\n5 timeout\n6 ok\n7 ok\nend\n",
-            ),
-            // a wait for any whose first pair has no signal at all
-            (
-                "timeline A 0
+        "4 ok\n5 timeout\n6 ok\n7 ok\nend\n",
+    ),
+    // a wait for any whose first pair has no signal at all
+    (
+        "timeline A 0
 timeline B 0
 queue P threaded
 submit P
@@ -227,11 +221,11 @@ end
 host wait any B 1 A 1
 host poll any A 1 B 1
 ",
-                "7 ok\n8 ok\nend\n",
-            ),
-            // a fence that is waited for, and then the timeline that its batch signals: always the new value
-            (
-                "timeline A 0
+        "7 ok\n8 ok\nend\n",
+    ),
+    // a fence that is waited for, and then the timeline that its batch signals: always the new value
+    (
+        "timeline A 0
 fence F
 queue Q threaded
 submit Q
@@ -241,11 +235,11 @@ end
 host fence wait F
 host read A
 ",
-                "8 ok\n9 value 5\nend\n",
-            ),
-            // a host signal right after a fence wait lets a batch go on
-            (
-                "buffer X 4
+        "8 ok\n9 value 5\nend\n",
+    ),
+    // a host signal right after a fence wait lets a batch go on
+    (
+        "buffer X 4
 timeline A 0
 fence F
 queue P threaded
@@ -261,11 +255,11 @@ host fence wait F
 host signal A 1
 host idle
 ",
-                "13 ok\n15 ok\nbuffer X 4\n07000000\nend\n",
-            ),
-            // a reset of a fence that no batch named
-            (
-                "fence F
+        "13 ok\n15 ok\nbuffer X 4\n07000000\nend\n",
+    ),
+    // a reset of a fence that no batch named
+    (
+        "fence F
 queue Q threaded
 host fence reset F
 host fence poll F
@@ -274,11 +268,11 @@ fence F
 end
 host fence wait F
 ",
-                "4 not-ready\n8 ok\nend\n",
-            ),
-            // a host step between two batches of an immediate queue
-            (
-                "buffer X 4
+        "4 not-ready\n8 ok\nend\n",
+    ),
+    // a host step between two batches of an immediate queue
+    (
+        "buffer X 4
 timeline A 0
 queue Q immediate
 submit Q
@@ -292,41 +286,38 @@ signal A 2
 end
 host wait all A 1 A 2
 ",
-                "8 ok\n13 ok\nbuffer X 4\n02000000\nend\n",
-            ),
-        ],
-    );
-}
+        "8 ok\n13 ok\nbuffer X 4\n02000000\nend\n",
+    ),
+];
 
 #[test]
-fn host_steps_are_refused(rt: HostRuntime) {
-    each_ends(
-        &rt,
-        rt.alloc(),
-        &[],
-        Status::Refused,
-        &[
-            // a wait that no signal reaches
-            (
-                "timeline A 0\nqueue Q threaded\nsubmit Q\nsignal A 4\nend\nhost wait all A 5\n",
-                "error: unreachable: line 6\n",
-            ),
-            // of a wait for any, where none of its pairs is reached
-            (
-                "timeline A 0\ntimeline B 0\nhost wait any A 1 B 1\n",
-                "error: unreachable: line 3\n",
-            ),
-            // a signal that is no greater
-            (
-                "timeline A 18446744073709551615
+fn host_steps_are_answered(rt: HostRuntime) {
+    each_ends(&rt, rt.alloc(), &[], Status::Done, ANSWERED);
+}
+
+/// Steps of the host that no run can take, and steps that come too early.
+const REFUSED: &[(&str, &str)] = &[
+    // a wait that no signal reaches
+    (
+        "timeline A 0\nqueue Q threaded\nsubmit Q\nsignal A 4\nend\nhost wait all A 5\n",
+        "error: unreachable: line 6\n",
+    ),
+    // of a wait for any, where none of its pairs is reached
+    (
+        "timeline A 0\ntimeline B 0\nhost wait any A 1 B 1\n",
+        "error: unreachable: line 3\n",
+    ),
+    // a signal that is no greater
+    (
+        "timeline A 18446744073709551615
 host wait all A 18446744073709551615
 host signal A 18446744073709551615
 ",
-                "error: unordered: lines 3 and 3\n",
-            ),
-            // a reset of a fence that may be in use
-            (
-                "buffer X 4
+        "error: unordered: lines 3 and 3\n",
+    ),
+    // a reset of a fence that may be in use
+    (
+        "buffer X 4
 fence F
 queue Q threaded
 host fence poll F
@@ -337,11 +328,11 @@ end
 host fence reset F
 host fence poll F
 ",
-                "error: fence busy: line 9\n",
-            ),
-            // of two such resets the first
-            (
-                "fence E
+        "error: fence busy: line 9\n",
+    ),
+    // of two such resets the first
+    (
+        "fence E
 fence F
 queue Q threaded
 submit Q
@@ -353,11 +344,11 @@ end
 host fence reset F
 host fence reset E
 ",
-                "error: fence busy: line 10\n",
-            ),
-            // a fence that is named after a reset that came before its naming
-            (
-                "fence F
+        "error: fence busy: line 10\n",
+    ),
+    // a fence that is named after a reset that came before its naming
+    (
+        "fence F
 queue Q threaded
 host fence reset F
 submit Q
@@ -367,36 +358,33 @@ submit Q
 fence F
 end
 ",
-                "error: fence used: line 8\n",
-            ),
-            // declarations stand before host steps
-            (
-                "buffer X 4\nhost idle\nbuffer X 0\n",
-                "error: order: line 3\n",
-            ),
-            // pairs stand in twos
-            (
-                "timeline A 0\nhost wait all A 1 A\n",
-                "error: syntax: line 2\n",
-            ),
-            // a fence is no timeline
-            ("fence F\nhost wait any F 1\n", "error: name: line 2\n"),
-        ],
-    );
-}
+        "error: fence used: line 8\n",
+    ),
+    // declarations stand before host steps
+    (
+        "buffer X 4\nhost idle\nbuffer X 0\n",
+        "error: order: line 3\n",
+    ),
+    // pairs stand in twos
+    (
+        "timeline A 0\nhost wait all A 1 A\n",
+        "error: syntax: line 2\n",
+    ),
+    // a fence is no timeline
+    ("fence F\nhost wait any F 1\n", "error: name: line 2\n"),
+];
 
 #[test]
-fn host_steps_are_replayed(rt: HostRuntime) {
-    each_ends(
-        &rt,
-        rt.alloc(),
-        &["--replay"],
-        Status::Done,
-        &[
-            // a host signal goes through a point, and a read collects it
-            (
-                "timeline A 0\nhost signal A 1\nhost read A\nschedule\nhost 11\n",
-                "1 host start 2
+fn host_steps_are_refused(rt: HostRuntime) {
+    each_ends(&rt, rt.alloc(), &[], Status::Refused, REFUSED);
+}
+
+/// Steps of the host in schedules, and their traces.
+const REPLAYED: &[(&str, &str)] = &[
+    // a host signal goes through a point, and a read collects it
+    (
+        "timeline A 0\nhost signal A 1\nhost read A\nschedule\nhost 11\n",
+        "1 host start 2
 2 host take A 1 fresh 0
 3 host bind A 1 0
 4 host signal A 1
@@ -411,10 +399,10 @@ finished
 3 value 1
 end
 ",
-            ),
-            // a wait for any holds two references, and gives them back one a turn
-            (
-                "timeline A 0
+    ),
+    // a wait for any holds two references, and gives them back one a turn
+    (
+        "timeline A 0
 timeline B 0
 queue P threaded
 queue Q threaded
@@ -435,7 +423,7 @@ host 7
 R:Q
 R:P 3
 ",
-                "1 host submit 5
+        "1 host submit 5
 2 host submit 8
 3 S:P take A 1 fresh 0
 4 S:P release 5
@@ -462,10 +450,10 @@ finished
 11 ok
 end
 ",
-            ),
-            // a poll before the signal and one after it
-            (
-                "timeline A 0
+    ),
+    // a poll before the signal and one after it
+    (
+        "timeline A 0
 queue P threaded
 submit P
 signal A 1
@@ -478,7 +466,7 @@ S:P 3
 R:P 3
 host 5
 ",
-                "1 host submit 3
+        "1 host submit 3
 2 host start 6
 3 host answer 6 timeout
 4 host finish 6
@@ -498,7 +486,10 @@ finished
 7 ok
 end
 ",
-            ),
-        ],
-    );
+    ),
+];
+
+#[test]
+fn host_steps_are_replayed(rt: HostRuntime) {
+    each_ends(&rt, rt.alloc(), &["--replay"], Status::Done, REPLAYED);
 }

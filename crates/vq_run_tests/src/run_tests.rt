@@ -153,21 +153,15 @@ signal A 1
 end
 ";
 
-#[test]
-fn queues_wait_for_each_other(rt: HostRuntime) {
-    each_ends(
-        &rt,
-        rt.alloc(),
-        &[],
-        Status::Done,
-        &[
-            (
-                COPY,
-                "buffer X 8\n0d0c0b0a0d0c0b0a\nbuffer Y 8\n0d0c0b0a0d0c0b0a\nend\n",
-            ),
-            // a binary semaphore that is passed on twice
-            (
-                "buffer X 4
+/// Queues that wait for each other, and what they leave.
+const WAITS: &[(&str, &str)] = &[
+    (
+        COPY,
+        "buffer X 8\n0d0c0b0a0d0c0b0a\nbuffer Y 8\n0d0c0b0a0d0c0b0a\nend\n",
+    ),
+    // a binary semaphore that is passed on twice
+    (
+        "buffer X 4
 binary S
 queue P threaded
 queue Q threaded
@@ -185,11 +179,11 @@ wait S
 fill X 0 4 3
 end
 ",
-                "buffer X 4\n03000000\nend\n",
-            ),
-            // a later, greater signal
-            (
-                "timeline A 0
+        "buffer X 4\n03000000\nend\n",
+    ),
+    // a later, greater signal
+    (
+        "timeline A 0
 buffer X 4
 queue P threaded
 queue Q threaded
@@ -204,10 +198,13 @@ submit Q
 signal A 7
 end
 ",
-                "buffer X 4\n05000000\nend\n",
-            ),
-        ],
-    );
+        "buffer X 4\n05000000\nend\n",
+    ),
+];
+
+#[test]
+fn queues_wait_for_each_other(rt: HostRuntime) {
+    each_ends(&rt, rt.alloc(), &[], Status::Done, WAITS);
 }
 
 #[test]
@@ -356,17 +353,11 @@ fn scripts_are_only_checked(rt: HostRuntime) {
     );
 }
 
-#[test]
-fn signals_of_queues_are_in_a_sure_order(rt: HostRuntime) {
-    each_ends(
-        &rt,
-        rt.alloc(),
-        &["--check"],
-        Status::Done,
-        &[
-            // the same, once the second waits for the first
-            (
-                "timeline A 0
+/// Signals of one timeline on several queues whose order is sure.
+const SURE_QUEUES: &[(&str, &str)] = &[
+    // the same, once the second waits for the first
+    (
+        "timeline A 0
 queue P threaded
 queue Q threaded
 submit P
@@ -377,18 +368,15 @@ wait A 1
 signal A 2
 end
 ",
-                "lawful\n",
-            ),
-        ],
-    );
-    each_ends(
-        &rt,
-        rt.alloc(),
-        &["--check"],
-        Status::Refused,
-        &[ // two queues that signal one timeline
-            (
-                "timeline A 0
+        "lawful\n",
+    ),
+];
+
+/// Signals of one timeline on several queues whose order isn't.
+const UNSURE_QUEUES: &[(&str, &str)] = &[
+    // two queues that signal one timeline
+    (
+        "timeline A 0
 queue P threaded
 queue Q threaded
 submit P
@@ -398,26 +386,30 @@ submit Q
 signal A 2
 end
 ",
-                "error: unordered: lines 5 and 8\n",
-            ),
-            // the initial value
-            (
-                "timeline A 18446744073709551615\nqueue P threaded\nsubmit P\nsignal A 18446744073709551615\nend\n",
-                "error: unordered: lines 4 and 4\n",
-            ),
-        ],
-    );
-}
+        "error: unordered: lines 5 and 8\n",
+    ),
+    // the initial value
+    (
+        "timeline A 18446744073709551615\nqueue P threaded\nsubmit P\nsignal A 18446744073709551615\nend\n",
+        "error: unordered: lines 4 and 4\n",
+    ),
+];
 
 #[test]
-fn signals_of_batches_are_in_a_sure_order(rt: HostRuntime) {
+fn signals_of_queues_are_in_a_sure_order(rt: HostRuntime) {
+    each_ends(&rt, rt.alloc(), &["--check"], Status::Done, SURE_QUEUES);
     each_ends(
         &rt,
         rt.alloc(),
         &["--check"],
-        Status::Done,
-        &[(
-            "timeline A 0
+        Status::Refused,
+        UNSURE_QUEUES,
+    );
+}
+
+/// Signals of two timelines in one batch, of which another batch waits for one.
+const SURE_BATCHES: &[(&str, &str)] = &[(
+    "timeline A 0
 timeline B 0
 queue P threaded
 queue Q threaded
@@ -430,17 +422,14 @@ wait B 1
 signal B 2
 end
 ",
-            "lawful\n",
-        )],
-    );
-    each_ends(
-        &rt,
-        rt.alloc(),
-        &["--check"],
-        Status::Refused,
-        &[ // a batch's signals aren't sure to one that waits for another of them, but for their job
-            (
-                "timeline A 0
+    "lawful\n",
+)];
+
+/// Waits that the next signal of their semaphore may overtake.
+const UNSURE_BATCHES: &[(&str, &str)] = &[
+    // a batch's signals aren't sure to one that waits for another of them, but for their job
+    (
+        "timeline A 0
 timeline B 0
 queue P threaded
 queue Q threaded
@@ -453,11 +442,11 @@ wait A 1
 signal B 2
 end
 ",
-                "error: unordered: lines 7 and 11\n",
-            ),
-            // a binary wait that the next signal may overtake
-            (
-                "binary S
+        "error: unordered: lines 7 and 11\n",
+    ),
+    // a binary wait that the next signal may overtake
+    (
+        "binary S
 queue P threaded
 queue Q threaded
 submit P
@@ -470,21 +459,25 @@ submit P
 signal S
 end
 ",
-                "error: unordered: lines 8 and 11\n",
-            ),
-        ],
-    );
-}
+        "error: unordered: lines 8 and 11\n",
+    ),
+];
 
 #[test]
-fn conflicting_commands_are_ordered(rt: HostRuntime) {
+fn signals_of_batches_are_in_a_sure_order(rt: HostRuntime) {
+    each_ends(&rt, rt.alloc(), &["--check"], Status::Done, SURE_BATCHES);
     each_ends(
         &rt,
         rt.alloc(),
         &["--check"],
-        Status::Done,
-        &[(
-            "buffer X 8
+        Status::Refused,
+        UNSURE_BATCHES,
+    );
+}
+
+/// Commands of two queues that share no byte.
+const UNSHARED: &[(&str, &str)] = &[(
+    "buffer X 8
 buffer Y 8
 queue P threaded
 queue Q threaded
@@ -495,17 +488,14 @@ submit Q
 copy Y 4 X 4 1
 end
 ",
-            "lawful\n",
-        )],
-    );
-    each_ends(
-        &rt,
-        rt.alloc(),
-        &["--check"],
-        Status::Refused,
-        &[ // the copy doesn't wait: a wait for 0 waits for nothing
-            (
-                "buffer X 8
+    "lawful\n",
+)];
+
+/// Commands of two queues that share a byte, which one of them writes, without an order.
+const RACES: &[(&str, &str)] = &[
+    // the copy doesn't wait: a wait for 0 waits for nothing
+    (
+        "buffer X 8
 buffer Y 8
 timeline A 0
 queue P threaded
@@ -519,11 +509,11 @@ fill X 0 8 1
 signal A 1
 end
 ",
-                "error: race: lines 8 and 11\n",
-            ),
-            // a wait for too small a value
-            (
-                "buffer X 8
+        "error: race: lines 8 and 11\n",
+    ),
+    // a wait for too small a value
+    (
+        "buffer X 8
 timeline A 0
 queue P threaded
 queue Q threaded
@@ -539,11 +529,11 @@ wait A 1
 fill X 0 4 2
 end
 ",
-                "error: race: lines 9 and 14\n",
-            ),
-            // a copy's read and a write of one shared byte, and of none
-            (
-                "buffer X 8
+        "error: race: lines 9 and 14\n",
+    ),
+    // a copy's read and a write of one shared byte, and of none
+    (
+        "buffer X 8
 buffer Y 8
 queue P threaded
 queue Q threaded
@@ -554,22 +544,21 @@ submit Q
 copy Y 4 X 3 1
 end
 ",
-                "error: race: lines 6 and 9\n",
-            ),
-        ],
-    );
-}
+        "error: race: lines 6 and 9\n",
+    ),
+];
 
 #[test]
-fn commands_that_are_ordered_or_apart_are_lawful(rt: HostRuntime) {
-    each_ends(
-        &rt,
-        rt.alloc(),
-        &["--check"],
-        Status::Done,
-        &[ // two readers
-            (
-                "buffer X 8
+fn conflicting_commands_are_ordered(rt: HostRuntime) {
+    each_ends(&rt, rt.alloc(), &["--check"], Status::Done, UNSHARED);
+    each_ends(&rt, rt.alloc(), &["--check"], Status::Refused, RACES);
+}
+
+/// Commands that share a byte and are ordered, or only read it.
+const ORDERED: &[(&str, &str)] = &[
+    // two readers
+    (
+        "buffer X 8
 buffer Y 8
 queue P threaded
 queue Q threaded
@@ -580,11 +569,11 @@ submit Q
 copy X 0 Y 4 4
 end
 ",
-                "lawful\n",
-            ),
-            // two queues that wait for one signal
-            (
-                "buffer X 8
+        "lawful\n",
+    ),
+    // two queues that wait for one signal
+    (
+        "buffer X 8
 buffer Y 8
 timeline A 0
 queue P threaded
@@ -603,11 +592,11 @@ wait A 1
 copy X 4 Y 4 4
 end
 ",
-                "lawful\n",
-            ),
-            // a wait for a value between two signals
-            (
-                "buffer X 8
+        "lawful\n",
+    ),
+    // a wait for a value between two signals
+    (
+        "buffer X 8
 timeline A 0
 queue P threaded
 queue Q threaded
@@ -623,8 +612,11 @@ wait A 2
 fill X 0 4 2
 end
 ",
-                "lawful\n",
-            ),
-        ],
-    );
+        "lawful\n",
+    ),
+];
+
+#[test]
+fn commands_that_are_ordered_or_apart_are_lawful(rt: HostRuntime) {
+    each_ends(&rt, rt.alloc(), &["--check"], Status::Done, ORDERED);
 }

@@ -4,7 +4,6 @@ use Rattle.std.specs.Prelude.{nat_lt, ◌==◌, ◌&&◌}
 use Rattle.std.specs.Borrow.{Bor}
 use Rattle.std.proofs.lemmas.Bool.{false≢true}
 use Rattle.std.proofs.lemmas.Bool.Decides.{nat_tests}
-use Rattle.std.proofs.lemmas.List.{length-append}
 use Rattle.vq_model.specs.declared.script.Mode.TheVariants.{Immediate, Deferred, Threaded}
 use Rattle.vq_model.specs.declared.statement.LineForm.{LineForm}
 use Rattle.vq_model.specs.declared.statement.LineForm.TheVariants.{VersionLine, BufferLine, TimelineLine, BinaryLine, FenceLine, QueueLine}
@@ -16,7 +15,6 @@ use Rattle.vq_model.specs.declared.statement.LineForm.TheVariants.{TurnLine, Tur
 use Rattle.vq_model.specs.Forms.{places}
 use Rattle.vq_model.specs.Meaning.{matches, open_places, pair_places}
 use Rattle.vq_lexer.specs.Words.{texts}
-use Rattle.vq_forms.specs.Few.{AreCutOff}
 use Rattle.vq_script.specs.SaidLines.{is_pairs_line}
 
 -- Seven words and more

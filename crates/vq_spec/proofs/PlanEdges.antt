@@ -1,5 +1,5 @@
 -- What the jobs of a plan wait for comes from its needs, its operations and its chains.
-use Rattle.std.proofs.Common.{◌≡◌, ℕ, zero, suc, cond, ◌+◌, ◌<◌, ◌≤◌, true, false, ltb, leb, List, [], ◌∷◌, ◌++◌, length, get_or, map, filter, take, All, Option, Some, None, option_map, ◌↔◌, IsNone, refl, sym, ap, ◌∙◌, subst, arith, zero-add, append_assoc}
+use Rattle.std.proofs.Common.{◌≡◌, ℕ, zero, suc, cond, ◌+◌, ◌<◌, ◌≤◌, false, ltb, leb, List, [], ◌∷◌, ◌++◌, length, get_or, map, filter, take, All, Option, Some, None, option_map, ◌↔◌, IsNone, refl, sym, ap, ◌∙◌, subst, arith, zero-add, append_assoc}
 use Rattle.std.specs.List.{slice_get, filter_map, cons_option, range_with_len}
 use Rattle.std.specs.Option.{option_map_or, option_to_list}
 use Rattle.std.proofs.lemmas.Bool.{cond-true, cond-false, lt-ltb, leb-true, leb-false, lt-leb}

@@ -1,17 +1,14 @@
 -- What a change of one item leaves of the tables.
 use Rattle.std.proofs.Common.{◌≡◌, ℕ, ◌+◌, ◌<◌, ◌==◌, ◌++◌, Bool, true, false, List, [], ◌∷◌, length, get_or, set, cond, Option, Some, None, is_some, refl, sym, ap, ◌∙◌, inl, inr, subst, arith}
 use Rattle.std.specs.Prelude.{count_by}
-use Rattle.std.specs.List.{slice_get, list_any, cons_option}
+use Rattle.std.specs.List.{slice_get, list_any}
 use Rattle.std.proofs.lemmas.Bool.{cases_eq, false≢true, or_cases, cond-true, cond-false}
 use Rattle.std.proofs.lemmas.List.{get_or-set_same, get_or-set_other, length-set}
 use Rattle.vq_ground.proofs.Gets.{get_has}
-use Rattle.vq_model.specs.declared.script.Command.{Command}
 use Rattle.vq_model.specs.Machine.{put}
-use Rattle.vq_model.specs.Memory.{Memory, after_all, effect}
 use Rattle.vq_model.specs.declared.plan.Answer.{Answer}
-use Rattle.vq_model.specs.Plan.{Plan, commands_of, signals_of, command_at, job_of, question, asked}
+use Rattle.vq_model.specs.Plan.{Plan, commands_of, signals_of, job_of, question, asked}
 use Rattle.vq_ground.specs.Lists.{has}
-use Rattle.vq_model.specs.SlowRun.{bytes_after, command_list, zeros}
 use Rattle.vq_ground.proofs.Lists.{has-append_left, has-append_right, has-append_cases, has_here, has_cases}
 use Rattle.vq_model.proofs.Puts.{put_here, put_there}
 use Rattle.vq_history_laws.proofs.Cited.{count_cons}

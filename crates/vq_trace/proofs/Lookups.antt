@@ -1,5 +1,5 @@
 -- What is looked up of a plan, by what its index has.
-use Rattle.std.proofs.Common.{ℕ, ◌≡◌, ◌<◌, ◌^◌, ◌⊎◌, inl, inr, Bool, true, false, cond, List, [], ◌∷◌, length, find, Some, None, arith, refl, sym, ap, subst, ◌∙◌}
+use Rattle.std.proofs.Common.{ℕ, ◌≡◌, ◌<◌, ◌⊎◌, inl, inr, Bool, true, false, cond, List, [], ◌∷◌, length, find, Some, None, arith, refl, sym, ap, subst, ◌∙◌}
 use Rattle.std.specs.Prelude.{◌==◌, nat_le}
 use Rattle.std.specs.List.{slice_get}
 use Rattle.std.specs.Str.{bytes_eq}
@@ -23,7 +23,7 @@ use Rattle.vq_ground.proofs.Gets.{get_some, get_within}
 use Rattle.vq_ground.proofs.Lists.{has_here}
 use Rattle.vq_ground.proofs.Options.{some_of}
 use Rattle.vq_ground.proofs.Searches.{find_member, find_none}
-use Rattle.vq_reading_laws.proofs.Cited.{queues_fit, read_lines_rise, read_valid}
+use Rattle.vq_reading_laws.proofs.Cited.{read_lines_rise}
 use Rattle.vq_plan_laws.proofs.Cited.{count_jobs, part_is, plan_semaphores, plan_well_formed, owner_exists}
 use Rattle.vq_order_laws.proofs.Cited.{lines_across}
 use Rattle.vq_given.specs.Words.{apply_said, command_at, command_said, job_with, semaphore_named}

@@ -1,0 +1,11 @@
+"""Tests of house: its words, and that this repository keeps its limits."""
+
+
+def test_house(tests):
+    tests.helps('house')
+    for words in (['--twin'], ['one']):
+        tests.misused('house', *words)
+    done = tests.tool('house', '--check', program=False)
+    tests.check('house --check', done.returncode == 0 and not done.stderr, done.stdout.decode() + done.stderr.decode())
+    done = tests.tool('house', '--twins', program=False)
+    tests.check('house --twins', done.returncode == 0 and not done.stderr, done.stderr)
