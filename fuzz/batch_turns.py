@@ -10,13 +10,17 @@ class Submitter:
     def __init__(self, scene, queue):
         self.scene = scene
         self.batches = [j for j, job in enumerate(scene.plan.jobs) if job.queue == queue]
+        # How many of them are bound whole: they come to it in their order.
+        self.done = 0
 
     def turn(self):
         scene = self.scene
-        left = [j for j in self.batches if not scene.is_bound_whole(j)]
-        if not left:
+        while self.done < len(self.batches) and scene.is_bound_whole(self.batches[self.done]):
+            self.done += 1
+        if self.done == len(self.batches):
             return ENDED
-        job, j = scene.plan.jobs[left[0]], left[0]
+        j = self.batches[self.done]
+        job = scene.plan.jobs[j]
         if j not in scene.submitted:
             return BLOCKED
         if j not in scene.released and not self.is_pending(job):
@@ -42,13 +46,16 @@ class Ring:
         self.scene = scene
         self.batches = [j for j, job in enumerate(scene.plan.jobs) if job.queue == queue]
         self.waiter = Waiter(scene, queue)
+        self.done = 0
 
     def turn(self):
         scene = self.scene
-        left = [j for j in self.batches if j not in scene.finished]
-        if not left:
+        while self.done < len(self.batches) and self.batches[self.done] in scene.finished:
+            self.done += 1
+        if self.done == len(self.batches):
             return ENDED
-        job, j = scene.plan.jobs[left[0]], left[0]
+        j = self.batches[self.done]
+        job = scene.plan.jobs[j]
         if j not in scene.released:
             return BLOCKED
         if j not in scene.started:

@@ -19,6 +19,8 @@ class Host:
         # The numbers of the chains that its present step asks for, as far as they were looked at.
         self.seen = []
         self.answers = {}
+        # How many of all jobs it has no more to do for: they come to it in their order.
+        self.done = 0
 
     def turn(self):
         for queue in self.deferred:
@@ -31,7 +33,8 @@ class Host:
 
     def own_turn(self):
         scene = self.scene
-        for j, job in enumerate(scene.plan.jobs):
+        for j in range(self.done, len(scene.plan.jobs)):
+            job = scene.plan.jobs[j]
             if job.queue is None:
                 if j not in scene.finished:
                     return self.step(j, job)
@@ -39,6 +42,7 @@ class Host:
                 return scene.submit(j)
             elif scene.plan.modes[job.queue] == b'immediate' and not scene.is_bound_whole(j):
                 return self.submits[job.queue].turn()
+            self.done = j + 1
         return ENDED
 
     def step(self, j, job):

@@ -1,6 +1,6 @@
 """A script whose order is explained: its plan, its order, and how its jobs and signals are called."""
 from lowering import Plan, Refusal
-from order import Order
+from paths import Paths
 from reading import read_whole
 
 
@@ -13,14 +13,14 @@ class Asked:
         if word == '--hosts':
             self.threads, self.block_lines = self.reader.threads, self.reader.block_lines
         self.plan = Plan(self.reader)
-        self.order = Order(self.plan)
+        self.order = Paths(self.plan)
         self.queues, self.buffers = ({number: name.decode() for name, (kind, number) in self.reader.names.items()
                                       if kind == wanted} for wanted in ('queue', 'buffer'))
         # The first and the last line of each job.
         self.first = [job.line for job in self.plan.jobs]
         self.last = []
         ends = [line for line, text in enumerate(page.lines, 1)
-                if text.split('#')[0].split() == ['end'] and line not in self.block_lines]
+                if 'end' in text and text.split('#')[0].split() == ['end'] and line not in self.block_lines]
         ends.reverse()
         for j, job in enumerate(self.plan.jobs):
             self.last.append(job.line if job.queue is None or self.is_of_thread(j) else ends.pop())
@@ -75,7 +75,7 @@ class Asked:
         return job.queue is not None and self.plan.modes[job.queue] == b'immediate'
 
     def is_before(self, i, j):
-        return i in self.order.before.get(j, ())
+        return j in self.order.after(i)
 
     def is_behind(self, p, i):
         """Whether job p is i, or comes behind it."""
@@ -138,15 +138,16 @@ class Asked:
     def note_before(self, j):
         """Says what comes before a job at once, and how many jobs more."""
         said = {}
+        before = self.order.before(j)
         for i, why in self.links(j):
-            if self.is_before(i, j):
+            if i in before:
                 said.setdefault(i, why)
         if not said:
             self.page.note(f'nothing comes before {self.called(j)}')
             return
         for i, why in list(said.items())[:4]:
             self.page.note(f'{self.called(i)} comes before {self.called(j)}: it {why}')
-        more = len(self.order.before[j]) - len(said)
+        more = len(before) - len(said)
         if more:
             jobs = '1 job more comes' if more == 1 else f'{more} jobs more come'
             self.page.note(f'through these {jobs} before {self.called(j)}')

@@ -24,8 +24,9 @@ class Behind:
     def given(self, only=None):
         """Waits for timelines' signals that stand there: of the job itself first, then of jobs behind it."""
         asked, plan = self.asked, self.plan
-        ops = [op for op in plan.ops if plan.kinds[op.chain] == 'timeline' and asked.is_behind(op.job, self.i)
-               and op.job != self.j and not asked.is_before(self.j, op.job) and op.value > plan.initial[op.chain]]
+        behind, late = {self.i, *asked.order.after(self.i)}, {self.j, *asked.order.after(self.j)}
+        ops = [op for op in plan.ops if op.job in behind and op.job not in late and plan.kinds[op.chain] == 'timeline'
+               and op.value > plan.initial[op.chain]]
         if only is not None:
             ops = [plan.ops[only]]
         ops.sort(key=lambda op: (op.job != self.i, op.line))
@@ -37,6 +38,7 @@ class Behind:
         held, why = f'{name} {op.value}', f'line {asked.at(op.line)} signals that'
         if self.job.queue is None or asked.is_immediate(self.j):
             if op.job < self.j:
+                yield from self.raised_host_wait(op)
                 yield (f'let the host wait for {held} before {asked.called(self.j)}: {why}',
                        [insert(self.job.line, f'host wait all {held}')])
             return
@@ -44,6 +46,18 @@ class Behind:
             if t == op.chain and value < op.value and not asked.has_pairs(line):
                 yield f'wait for {held} at line {asked.at(line)}: {why}', [replace(line, f'wait {held}')]
         yield (f'let {asked.called(self.j)} wait for {held}: {why}', [insert(self.wait_place(), f'wait {held}')])
+
+    def raised_host_wait(self, op):
+        """A wait of the host for less of that timeline, between which and the job are no other queue's batches."""
+        plan, h = self.plan, self.j - 1
+        while h > op.job and plan.jobs[h].queue in (None, self.job.queue):
+            step = plan.jobs[h]
+            if step.kind == 'host wait all' and any(t == op.chain and value < op.value for _, t, value in step.needs):
+                pairs = ' '.join(f'{plan.names[t]} {op.value if t == op.chain else value}' for _, t, value in step.needs)
+                yield (f'let the host wait for {plan.names[op.chain]} {op.value} at line {self.asked.at(step.line)}: line '
+                       f'{self.asked.at(op.line)} signals that', [replace(step.line, f'host wait all {pairs}')])
+                return
+            h -= 1
 
     def wait_place(self):
         """Where a wait of the job can be put in: a line of a thread has it before itself."""
@@ -53,7 +67,7 @@ class Behind:
         """Host's waits for fences of batches that come no sooner, while these are in use."""
         asked, plan, found = self.asked, self.plan, []
         for e, op in enumerate(plan.ops):
-            if (plan.kinds[op.chain] == 'fence' and asked.is_behind(op.job, self.i) and op.job < self.j
+            if (plan.kinds[op.chain] == 'fence' and op.job < self.j and asked.is_behind(op.job, self.i)
                     and not any(done == e and h < self.j for h, done in plan.resets)):
                 name = plan.names[op.chain]
                 text = f'let the host wait for {name} before {asked.called(self.j)}: line {asked.at(op.line)} names it'

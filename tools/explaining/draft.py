@@ -37,7 +37,7 @@ class Draft:
         return cls(lines, list(range(1, len(lines) + 2)))
 
     def data(self):
-        return b''.join(line + b'\n' for line in self.lines)
+        return b'\n'.join([*self.lines, b''])
 
     def origin(self, line):
         """The number of a line at first, or None for one that was put in."""
@@ -46,7 +46,10 @@ class Draft:
 
     def near(self, line):
         """The first number of a line that stood there at first, from this one on."""
-        return next(key for key in self.keys[min(line, len(self.keys)) - 1:] if key > 0)
+        place = min(line, len(self.keys)) - 1
+        while self.keys[place] <= 0:
+            place += 1
+        return self.keys[place]
 
     def apply(self, edits):
         """The lines after these edits, whose numbers are those of lines here."""
@@ -56,19 +59,20 @@ class Draft:
                 ahead.setdefault(edit.line, []).append(edit.text.encode('latin-1'))
             else:
                 instead[edit.line] = edit.text
-        lines, keys, fresh = [], [], min(0, min(self.keys))
-        for number in range(1, len(self.lines) + 2):
+        lines, keys, fresh, done = [], [], min(0, min(self.keys)), 0
+        for number in sorted({*ahead, *instead}):
+            lines += self.lines[done:number - 1]
+            keys += self.keys[done:number - 1]
             for text in ahead.get(number, ()):
                 fresh -= 1
                 lines.append(text)
                 keys.append(fresh)
-            if number > len(self.lines):
-                continue
-            text = instead.get(number, self.lines[number - 1])
+            text = instead.get(number, self.lines[number - 1] if number <= len(self.lines) else None)
             if text is not None:
                 lines.append(text.encode('latin-1') if isinstance(text, str) else text)
                 keys.append(self.keys[number - 1])
-        return Draft(lines, keys + [self.keys[-1]])
+            done = number
+        return Draft(lines + self.lines[done:], keys + self.keys[min(done, len(self.lines)):])
 
     def without(self, line):
         """The lines with an empty one in the place of this one."""
@@ -78,13 +82,12 @@ class Draft:
         """The edits of these lines that give a later draft, with the numbers that lines had at first."""
         places = {key: place for place, key in enumerate(self.keys, 1)}
         kept = set(other.keys)
-        texts = [line.decode('latin-1') for line in self.lines]
-        edits = [Edit('delete', self.near(place), None, texts[place - 1])
+        edits = [Edit('delete', self.near(place), None, self.lines[place - 1].decode('latin-1'))
                  for key, place in places.items() if key not in kept]
         for place, (key, line) in enumerate(zip(other.keys, other.lines), 1):
-            text = line.decode('latin-1')
             if key not in places:
-                edits.append(insert(other.near(place), text))
-            elif text != texts[places[key] - 1]:
-                edits.append(Edit('replace', self.near(places[key]), text, texts[places[key] - 1]))
+                edits.append(insert(other.near(place), line.decode('latin-1')))
+            elif line is not self.lines[places[key] - 1] and line != self.lines[places[key] - 1]:
+                edits.append(Edit('replace', self.near(places[key]), line.decode('latin-1'),
+                                  self.lines[places[key] - 1].decode('latin-1')))
         return sorted(edits, key=lambda edit: (edit.line, edit.what != 'insert'))

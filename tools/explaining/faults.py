@@ -6,7 +6,8 @@ from line_mends import line_mends
 from order_faults import explain_order
 from order_mends import order_mends
 from page import Page
-from trying import LINE_FAULTS, RANKS, USE_FAULTS, choose, is_later
+from trace_faults import Traced, explain_trace
+from trying import LINE_FAULTS, RANKS, TRACE_FAULTS, USE_FAULTS, choose, is_later
 from use_faults import Uses, explain_use, use_mends
 
 
@@ -18,6 +19,9 @@ def page_of(trial, verdict, path, draft):
         page.help('shorten comments and blanks, or cut the script in two')
         return page
     if verdict.kind not in RANKS:
+        return page
+    if verdict.kind in TRACE_FAULTS:
+        explain_trace(page, Traced(page, trial.word))
         return page
     looked_at = look(trial, page)
     if verdict.kind in LINE_FAULTS:

@@ -32,7 +32,7 @@ class Line:
         # The threads before it, and the one whose block it stands in.
         self.threads = self.reader.threads if word == '--hosts' else []
         self.thread = self.reader.thread_open if word == '--hosts' else None
-        self.has_blocks = word == '--hosts'
+        self.has_blocks, self.is_audit = word == '--hosts', word == '--audit'
         self.raw = page.draft.lines[self.number - 1] if self.number <= len(page.lines) else b''
         text = self.raw[:-1] if self.raw.endswith(b'\r') else self.raw
         self.text = text.split(b'#', 1)[0]
@@ -41,7 +41,8 @@ class Line:
 
     @property
     def is_at_end(self):
-        return self.number > len(self.page.lines)
+        """Whether the script ends here: with the text, or at the trace behind it."""
+        return self.number > len(self.page.lines) or self.is_audit and self.words == [b'trace']
 
     def mark(self, text, word=None):
         self.page.mark(self.number, text, word)
@@ -90,11 +91,10 @@ class Line:
 def read_up_to(data, number, word):
     """A reader that has read all lines before one."""
     reader = reader_of(word)
-    for at, line in enumerate(lines_of(data)[:number - 1], 1):
-        try:
-            reader.read(line, at)
-        except Fault:
-            break
+    try:
+        reader.read_some(lines_of(data)[:number - 1])
+    except Fault:
+        pass
     reader.number = number
     return reader
 
@@ -141,7 +141,7 @@ def syntax(page, line):
 
 
 def missing_end(page, line):
-    line.mark('the text ends here')
+    line.mark('the script ends here' if line.is_audit else 'the text ends here')
     if line.reader.batch:
         page.rule(f'a batch ends with a line `end`; the one of line {line.at(line.reader.batch.line)} is still open')
         page.help('write `end` as the last line')
@@ -236,6 +236,10 @@ def name(page, line):
         found = line.kind_of(text)
         if found is None:
             line.mark(f'`{text.decode()}` is not declared', at)
+        elif found == 'timeline' and line.form in ('wait', 'signal') and len(line.words) == 2:
+            line.mark(f'`{text.decode()}` is a timeline, and its value is missing', at)
+        elif found == 'binary' and line.form in ('wait', 'signal') and len(line.words) == 3:
+            line.mark(f'`{text.decode()}` is a binary semaphore, and a value stands behind it', at)
         elif found != wanted:
             line.mark(f'`{text.decode()}` is a {found}, and a {wanted} belongs here', at)
         elif is_actor and is_submitted_by_host(line, at):

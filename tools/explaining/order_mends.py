@@ -1,8 +1,9 @@
 """Mends of faults of the order, in groups, the best ones first: each is what to do, and the edits."""
 from behind import Behind, moved_behind, woven
 from draft import delete, insert, replace
-from order import final_numbers
+from order import final_numbers, share, touched
 from order_faults import blocking
+from trying import OnlyLawful
 
 # So many jobs are looked at that a wait hangs on, one by another.
 LONGEST = 16
@@ -134,14 +135,17 @@ def not_pending(asked, line):
 # Waits that nothing reaches.
 
 def unreachable(asked, line):
-    """What holds the wait back is mended first, from the last thing in its way on; then the wait may go."""
+    """What is waited for is submitted first or elsewhere, or else what holds the wait back is mended, from the last thing
+    in its way on; then the wait may go."""
     numbers, stuck = final_numbers(asked.plan, asked.order.slow), set(asked.order.stuck)
     chain, j = [], asked.job_at(line)
     while j is not None and j not in [i for i, _ in chain] and len(chain) < LONGEST:
         at, _, after = blocking(asked, j, numbers, stuck)
         chain.append((j, at))
         j = after
-    groups = [group for i, at in reversed(chain) for group in unblocked(asked, i, at, numbers)]
+    ring = chain[[i for i, _ in chain].index(j):] if j in [i for i, _ in chain] else []
+    groups = [OnlyLawful(submitted_sooner(asked, ring)), OnlyLawful(submitted_elsewhere(asked, ring))]
+    groups += [group for i, at in reversed(chain) for group in unblocked(asked, i, at, numbers)]
     if j is None and asked.words(chain[-1][1])[0] in ('wait', 'host'):
         groups.append([left_out(asked, chain[-1][1])])
     return groups + [[left_out(asked, line)]]
@@ -156,7 +160,7 @@ def unblocked(asked, j, line, numbers):
     if words[0] == 'wait' and missing and plan.kinds[missing[0]] == 'timeline':
         t, value = missing
         least = {numbers[t], own_floor(asked, j, t)}
-        groups.append([(f'wait for less: {plan.names[t]} is brought to {less}',
+        groups.append([(f'wait for less: {plan.names[t]} is brought to {less}{turned_round(asked, j, t, value)}',
                         [replace(line, f'wait {plan.names[t]} {less}{asked.held_text(line)}')])
                        for less in sorted(least, reverse=True) if plan.initial[t] < less < value
                        and not asked.has_pairs(line)])
@@ -172,7 +176,69 @@ def need(job, line, numbers):
 
 
 def left_out(asked, line):
-    return f'leave out line {asked.at(line)}', [delete(line)]
+    """A line left out; of a batch's wait it is said what that does to the bytes."""
+    j, said = asked.job_at(line), ''
+    if asked.plan.jobs[j].queue is not None and asked.words(line)[0] == 'wait':
+        t, value = next((t, value) for at, t, value in asked.plan.jobs[j].needs if at == line)
+        said = turned_round(asked, j, t, value)
+    return f'leave out line {asked.at(line)}{said}', [delete(line)]
+
+
+def turned_round(asked, j, t, value):
+    """What becomes of the bytes where a batch doesn't wait any more for a signal that comes behind it."""
+    e = asked.plan.awaited_signal(t, value)
+    if e is None or asked.plan.ops[e].job == j:
+        return ''
+    k = asked.plan.ops[e].job
+    both = [(at, other) for at, command in asked.plan.jobs[j].commands for other, later in asked.plan.jobs[k].commands
+            if conflict(touched(command), touched(later))]
+    if not both:
+        return f'; no command of {asked.called(j)} touches what {asked.called(k)} writes, nor the other way round'
+    at, other = both[0]
+    return (f'; the {asked.words(at)[0]} of line {asked.at(at)} then comes before the {asked.words(other)[0]} of line '
+            f'{asked.at(other)}, which it was to come after')
+
+
+def conflict(one, other):
+    """Whether two commands share a byte that one of them writes; of each what it writes and what it reads."""
+    return share(one[0], other[0]) or share(one[0], other[1]) or share(one[1], other[0])
+
+
+def submitted_sooner(asked, ring):
+    """Of jobs that hang on each other: what is waited for, submitted before the batch of its queue that holds it up."""
+    found = []
+    for k, i in held_up(asked, ring):
+        lines = [asked.page.lines[line - 1] for line in range(asked.first[k], asked.last[k] + 1)]
+        edits = [delete(line) for line in range(asked.first[k], asked.last[k] + 1)]
+        found.append((f'submit {asked.called(k)} before {asked.called(i)}',
+                      edits + [insert(asked.first[i], text) for text in lines]))
+    return found
+
+
+def submitted_elsewhere(asked, ring):
+    """The same, submitted to a queue of its own."""
+    found = []
+    for k, _ in held_up(asked, ring):
+        name = asked.fresh(f'{asked.queues[asked.plan.jobs[k].queue]}'[:12] + '_own')
+        found.append((f'submit {asked.called(k)} to a queue of its own, {name}',
+                      [insert(asked.first_line, f'queue {name} threaded'), replace(asked.first[k], f'submit {name}')]))
+    return found
+
+
+def held_up(asked, ring):
+    """The batches of a ring that are waited for and can't start, as one of their queue before them waits: pairs of both."""
+    jobs, found = asked.plan.jobs, []
+    for place, (i, at) in enumerate(ring):
+        if jobs[i].queue is None or asked.is_of_thread(i) or asked.words(at)[0] != 'wait':
+            continue
+        k = None
+        for other, line in reversed(ring[place + 1:] + ring[:place]):
+            if jobs[other].queue != jobs[i].queue or asked.words(line)[0] != 'submit':
+                break
+            k = other
+        if k is not None and k > i:
+            found.append((k, i))
+    return found
 
 
 def own_floor(asked, j, t):

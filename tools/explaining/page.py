@@ -20,6 +20,8 @@ class Page:
         self.verdict, self.path, self.draft = verdict, path, draft
         self.lines = [(line[:-1] if line.endswith(b'\r') else line).decode('latin-1') for line in draft.lines]
         self.marks, self.shown, self.remarks, self.mend = {}, set(), [], None
+        # What is said of lines that the mend changes, and the edits of the mend.
+        self.suspects, self.edits = [], []
 
     def at(self, line):
         """How a line is called."""
@@ -35,6 +37,10 @@ class Page:
         self.shown.add(line)
         start, end = self.columns(line, word)
         self.marks.setdefault(line, []).append(Mark(brief(text), start, end))
+
+    def suspect(self, line, text):
+        """Says something of a line where the mend that is offered changes it, and nothing else."""
+        self.suspects.append((line, text))
 
     def columns(self, line, word):
         if line > len(self.lines):
@@ -57,7 +63,11 @@ class Page:
     def offer(self, mend):
         """A mend that was tried: it takes the place of the general help."""
         self.remarks = [remark for remark in self.remarks if remark[0] != 'help'] + [('help', brief(mend.text()))]
-        self.mend = mend
+        self.mend, self.edits = mend, self.draft.edits_to(mend.draft)
+        changed = {edit.line for edit in self.edits if edit.what == 'replace'}
+        for line, text in self.suspects:
+            if self.draft.near(line) in changed:
+                self.mark(line, text)
 
     def primary(self):
         """The line and the column, both counted from 1, at which an editor shows the fault."""

@@ -64,7 +64,8 @@ class Guilty:
         return self.asked.is_behind(self.plan.ops[e].job, other)
 
     def mark_wait(self, line, t, value, other):
-        """Says what is wrong with a wait that puts nothing behind another job."""
+        """Says what is wrong with a wait that puts nothing behind another job: a value too low where the mend raises it, as
+        the one that is meant may be another wait."""
         plan, at = self.plan, self.asked.at
         e = self.enough(t, other)
         behind = '' if e is None else f'; line {at(plan.ops[e].line)} signals {plan.ops[e].value}'
@@ -72,8 +73,8 @@ class Guilty:
             self.page.mark(line, f'orders nothing: {plan.names[t]} begins with {plan.initial[t]}{behind}')
         elif plan.kinds[t] == 'timeline' and e is not None and value < plan.ops[e].value:
             reached = plan.awaited_signal(t, value)
-            self.page.mark(line, f'a value too low: line {at(plan.ops[reached].line)} reaches it; line '
-                           f'{at(plan.ops[e].line)}, behind {self.asked.called(other)}, signals {plan.ops[e].value}')
+            self.page.suspect(line, f'a value too low: line {at(plan.ops[reached].line)} reaches it; '
+                              f'line {at(plan.ops[e].line)}, behind {self.asked.called(other)}, signals {plan.ops[e].value}')
 
     def mark_host_line(self, h, job):
         """Of host lines between the two: a poll, a wait for any, a wait for too little."""

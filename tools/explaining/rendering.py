@@ -35,7 +35,7 @@ def said(page):
     """The verdict, with the numbers that lines had at first."""
     kind, lines = page.verdict.kind, [page.at(line) for line in page.verdict.lines]
     where = f': line{"s" * (len(lines) - 1)} {" and ".join(lines)}' if lines else ''
-    return f'error: {kind}{where}'
+    return f'{kind}{where}' if kind == 'broken' else f'error: {kind}{where}'
 
 
 def remarks(page):
@@ -63,7 +63,7 @@ def mend_rows(page, margin):
     """The lines of a mend: those that go with `-`, those that come with `+`, each beside the line where it does so."""
     wide = len(margin)
     rows = [f'{margin} |']
-    for edit in edits_of(page):
+    for edit in page.edits:
         if edit.what != 'insert':
             rows.append(f'{edit.line:>{wide}} - {cut(edit.old)}')
         if edit.what != 'delete':
@@ -73,21 +73,17 @@ def mend_rows(page, margin):
     return rows
 
 
-def edits_of(page):
-    return page.draft.edits_to(page.mend.draft) if page.mend else []
-
-
 # For editors.
 
 def as_gcc(page):
     """A line for the fault, and one for each further marked line and each remark."""
     line, column = page.primary()
     ids = rule_ids(page)
-    rows = [f'{page.path}:{line}:{column}: {said(page)}' + (f' [{", ".join(ids)}]' if ids else '')]
+    rows = [f'{page.path}:{line}:{column}: error: {said(page).removeprefix("error: ")}' + (f' [{", ".join(ids)}]' if ids else '')]
     for at in sorted(page.marks):
         rows += [f'{page.path}:{page.draft.near(at)}:{mark.start + 1}: note: {mark.text}' for mark in page.marks[at]]
     rows += [f'{page.path}:{line}:{column}: note: {text}' for kind, text in page.remarks if kind == 'help']
-    for edit in edits_of(page):
+    for edit in page.edits:
         text = EDITS[edit.what]
         rows.append(f'{page.path}:{edit.line}:1: note: {text}' + ('' if edit.text is None else f': {cut(edit.text)}'))
     return '\n'.join(rows) + '\n'
@@ -104,7 +100,7 @@ def fault_data(page):
         'column': column, 'rules': rule_ids(page), 'marks': marks,
         'remarks': [{'kind': kind, 'text': text} for kind, text in page.remarks],
         'edits': [{'what': edit.what, 'line': edit.line} | ({} if edit.text is None else {'text': edit.text})
-                  for edit in edits_of(page)],
+                  for edit in page.edits],
     }
 
 
@@ -112,8 +108,9 @@ def warning_data(warning):
     return {'line': warning.line, 'column': warning.column, 'text': warning.text}
 
 
-def as_json(path, verdict, faults, warnings):
-    data = {'file': path, 'status': verdict.status, 'answer': verdict.text.split('\n')[0],
+def as_json(path, verdict, faults, warnings, turns):
+    data = {'file': path, 'status': verdict.outcome, 'answer': verdict.text.split('\n')[0],
             'faults': [fault_data(page) for page in faults],
-            'warnings': [warning_data(warning) for warning in warnings]}
+            'warnings': [warning_data(warning) for warning in warnings],
+            'turns': [{'line': line, 'text': text} for line, text in turns]}
     return json.dumps(data) + '\n'

@@ -1,20 +1,24 @@
 """The verdicts on a script, and the choice of a mend: each that is offered was tried before."""
 import subprocess
 
+from judging import audit
 from lowering import Refusal
 from reading import script_of, word_of
+from reference import Script
 
 LINE_FAULTS = ('syntax', 'order', 'number', 'name', 'twice', 'range', 'overlap', 'limit')
 USE_FAULTS = ('no signal', 'signaled twice', 'fence used')
 ORDER_FAULTS = ('unreachable', 'unordered', 'fence busy', 'not pending', 'race')
+# Of the trace behind a script: a line that can't be read, and one that may not come.
+TRACE_FAULTS = ('trace', 'broken')
 # The kinds as they are looked for: those of lines together, and so those of uses.
 RANKS = {kind: 1 for kind in LINE_FAULTS} | {kind: 2 for kind in USE_FAULTS} | {
-    kind: 3 + place for place, kind in enumerate(ORDER_FAULTS)}
+    kind: 3 + place for place, kind in enumerate(ORDER_FAULTS + TRACE_FAULTS)}
 # So many of a mend's parts are looked for, where one wait behind another is reached in no order; of a large script one.
 MOST_PARTS, LARGE = 6, 20_000
 # So many mends are tried, of large scripts fewer: as many as make up so many bytes.
 MOST_TRIES, LEAST_TRIES, BYTES_TRIED = 64, 4, 1_000_000
-# The second reading is slower than the program.
+# The second reading is slower than the program, and reads texts of so many bytes at most.
 BYTES_READ = 100_000
 
 
@@ -24,9 +28,14 @@ class Verdict:
     def __init__(self, status, text):
         self.status, self.text = status, text
         self.kind, self.lines = None, []
-        if status == 2 and text.startswith('error: '):
-            _, self.kind, *where = text.strip().split(': ')
+        if status == 2 and text.startswith('error: ') or text.startswith('broken: '):
+            self.kind, *where = text.removeprefix('error: ').strip().split(': ')
             self.lines = [int(word) for word in ' '.join(where).split() if word.isdigit()]
+
+    @property
+    def outcome(self):
+        """The status of a tool that tells of it: a broken trace counts as refused."""
+        return 2 if self.kind else self.status
 
     def place(self, draft):
         """Where the fault stands among all faults: None for one of a line that was put in, or of no line."""
@@ -39,9 +48,9 @@ class Verdict:
 class Trial:
     """Asks the program, or the second reading where there is none; knows by which word a script is read."""
 
-    def __init__(self, program, data):
+    def __init__(self, program, data, word=None):
         self.program, self.size = program, len(data)
-        self.word = word_of(data)
+        self.word = word or word_of(data)
         self.parts = MOST_PARTS if len(data) < LARGE else 1
         self.most = max(LEAST_TRIES, min(MOST_TRIES, (BYTES_TRIED if program else BYTES_READ) // max(1, len(data))))
         self.tries = 0
@@ -62,6 +71,9 @@ class Trial:
         return Verdict(status, done.stdout.decode('latin-1'))
 
     def read(self, data):
+        if self.word == '--audit':
+            status, text = audit(data, lambda written: Script(written, False), Refusal)
+            return Verdict(status, text.decode('latin-1'))
         try:
             script_of(data, self.word)
         except Refusal as refusal:
@@ -77,6 +89,10 @@ class Mend:
 
     def text(self):
         return '; and then '.join(self.texts)
+
+
+class OnlyLawful(list):
+    """A group of mends of which each is offered only where the script is lawful then."""
 
 
 def choose(trial, draft, verdict, groups_of, parts=None):
@@ -96,7 +112,7 @@ def choose(trial, draft, verdict, groups_of, parts=None):
             mend = trial.try_mend(text, draft.apply(edits))
             if mend.verdict.status == 0:
                 return mend
-            if is_later(mend.verdict.place(mend.draft), verdict.place(draft)):
+            if not isinstance(group, OnlyLawful) and is_later(mend.verdict.place(mend.draft), verdict.place(draft)):
                 if mend.verdict.kind == 'unreachable':
                     further = further or mend
                 else:

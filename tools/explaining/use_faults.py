@@ -1,4 +1,6 @@
 """Faults in the use of binary semaphores and fences: all uses up to the faulty one, in the order of the lines."""
+import itertools
+
 from draft import delete, insert, replace
 from reading import read_whole
 
@@ -16,6 +18,8 @@ HELPS = {
     'fence used': 'let the host wait for the fence and reset it in between (`host fence wait`, `host fence reset`), or '
                   'declare another fence',
 }
+# So many batches are tried for a wait.
+MOST_BATCHES = 4
 FAULTY = {'no signal': 'waits, and no signal is left for it', 'signaled twice': 'signals again',
           'fence used': 'names it again'}
 
@@ -36,6 +40,11 @@ class Uses:
         self.uses = [use for use in uses if use.semaphore == semaphore]
         self.name = next(name.decode() for name, (kind, number) in self.reader.names.items()
                          if number == semaphore and kind not in ('buffer', 'queue'))
+
+    def declared(self):
+        """The line that declares the semaphore."""
+        return next(line for line, text in enumerate(self.page.lines, 1)
+                    if text.split('#')[0].split()[1:2] == [self.name])
 
     def faulty(self):
         return next(use for use in self.uses if use.line == self.number)
@@ -83,12 +92,35 @@ def no_signal(uses):
 
 
 def signaled_twice(uses):
-    again, name = uses.faulty(), uses.name
+    again = uses.faulty()
     before = [use for use in uses.uses if use.line < uses.number][-1]
-    waits = [] if before.job is again.job else [
-        (f'let the batch at line {uses.page.at(again.job.line)} wait for {name}',
-         [insert(again.job.line + 1, f'wait {name}')])]
-    return [waits, as_timeline(uses), left_out(uses)]
+    return [waited_between(uses, before, again), another_binary(uses, again), as_timeline(uses), left_out(uses)]
+
+
+def waited_between(uses, before, again):
+    """A wait in a batch between two signals, of another queue first: one that signals it again would wait for itself."""
+    blocks = getattr(uses.reader, 'block_lines', ())
+    batches = [job for job in uses.reader.jobs if job.queue is not None and job.line not in blocks
+               and before.job.line < job.line < again.job.line]
+    batches.sort(key=lambda job: job.queue in (before.job.queue, again.job.queue))
+    return [(f'let the batch at line {uses.page.at(job.line)} wait for {uses.name}',
+             [insert(job.line + 1, f'wait {uses.name}')]) for job in batches[:MOST_BATCHES]]
+
+
+def another_binary(uses, again):
+    """A binary semaphore of its own for the second signal, and for the wait that takes it."""
+    other = free_name(uses)
+    later = list(itertools.takewhile(lambda use: use.what != 'signals it',
+                                     [use for use in uses.uses if use.line > again.line]))
+    edits = [insert(uses.declared(), f'binary {other}'), replace(again.line, f'signal {other}')]
+    edits += [replace(use.line, f'wait {other}') for use in later if use.what == 'waits for it']
+    return [(f'signal another semaphore, {other}, in line {uses.page.at(again.line)}', edits)]
+
+
+def free_name(uses):
+    """A name like the semaphore's that is free."""
+    names = [f'{uses.name[:12]}_{number}' for number in range(2, 300)]
+    return next(tried for tried in names if tried.encode() not in uses.reader.names)
 
 
 def as_timeline(uses):
@@ -96,9 +128,7 @@ def as_timeline(uses):
     signals = [use for use in uses.uses if use.what == 'signals it']
     if not signals:
         return []
-    declared = next(line for line, text in enumerate(uses.page.lines, 1)
-                    if text.split('#')[0].split() == ['binary', uses.name])
-    edits, value, waited = [replace(declared, f'timeline {uses.name} 0')], 0, 0
+    edits, value, waited = [replace(uses.declared(), f'timeline {uses.name} 0')], 0, 0
     for use in uses.uses:
         if use.what == 'signals it':
             value += 1
@@ -111,11 +141,19 @@ def as_timeline(uses):
 
 def fence_used(uses):
     again, name, page = uses.faulty(), uses.name, uses.page
-    first = again.job.line
-    names = [f'{name[:12]}_{number}' for number in range(2, 300)]
-    other = next(tried for tried in names if tried.encode() not in uses.reader.names)
-    return [[(f'let the host wait for {name} and reset it before line {page.at(first)}',
-              [insert(first, f'host fence wait {name}'), insert(first, f'host fence reset {name}')])],
+    first, other = again.job.line, free_name(uses)
+    waits, resets = insert(first, f'host fence wait {name}'), insert(first, f'host fence reset {name}')
+    reset = (f'let the host reset {name} before line {page.at(first)}', [resets])
+    both = (f'let the host wait for {name} and reset it before line {page.at(first)}', [waits, resets])
+    return [[reset] if is_waited_for(uses) else [], [both],
             [(f'name another fence, {other}, in line {page.at(uses.number)}',
               [insert(uses.reader.jobs[0].line, f'fence {other}'), replace(uses.number, f'fence {other}')])],
             left_out(uses)]
+
+
+def is_waited_for(uses):
+    """Whether the host waits for the fence already, or for idle, between the batch that names it and the one that does
+    so again."""
+    named = [use.line for use in uses.uses if use.line < uses.number and use.job.queue is not None][-1]
+    return any(named < job.line < uses.number and (job.kind == 'host idle' or job.kind == 'host fence wait' and any(
+        use.line == job.line for use in uses.uses)) for job in uses.reader.jobs if job.queue is None)

@@ -1,5 +1,6 @@
 """What the tools share as programs: their words, their inputs, and how they find vq."""
 import argparse
+import gc
 import os
 import shutil
 import sys
@@ -126,6 +127,8 @@ def ended_by_words(main):
 
 def run(main):
     """Runs a tool, and ends the process: a failure is one line, and never a traceback."""
+    # A run is short, and the search for objects that refer to each other takes a fifth of the time of a large script.
+    gc.disable()
     for stream in filter(None, (sys.stdout, sys.stderr)):
         stream.reconfigure(errors='backslashreplace')
     try:

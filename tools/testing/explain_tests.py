@@ -5,6 +5,7 @@ import re
 import time
 
 from running import TOP
+from timing import most_memory
 
 # A script, the line that is to be marked with these words, and a line of the mend.
 CAUSES = [
@@ -50,7 +51,60 @@ CAUSES = [
      'submit P|fill X 0 4 1|end|submit Q|wait A 1|fill X 0 4 2|end', 13, 'writes bytes 0 to 3', '+ timeline order 0'),
     ('a declaration behind a thread', 'thread T|end|timeline A 0', 3, 'behind the first thread', '+ timeline A 0'),
     ('an open block', 'timeline A 0|thread T|wait A 0', 4, 'the text ends here', '+ end'),
+    ('a wait of the host that is too low', 'buffer X 4|buffer Y 4|timeline T 0|queue cpu immediate|queue Q threaded|'
+     'submit Q|copy X 0 Y 0 4|signal T 1|end|submit Q|copy X 0 Y 0 4|signal T 2|end|host wait all T 1|submit cpu|'
+     'fill X 0 4 1|end', 14, 'a value too low', '14 + host wait all T 2'),
+    ('a fence that the host has waited for', 'fence F|queue P threaded|submit P|fence F|end|host fence wait F|submit P|'
+     'fence F|end', 8, 'names it again', '  + host fence reset F    (before line 7)'),
+    ('an acquire that is signaled twice', 'binary acq|queue A threaded|queue G threaded|submit A|signal acq|end|submit A|'
+     'signal acq|end|submit G|wait acq|end', 8, 'signals again', '8 + signal acq_2'),
+    ('the other batch first', 'buffer a 4|buffer b 4|timeline t 0|queue gfx threaded|submit gfx|wait t 1|copy a 0 b 0 4|'
+     'end|submit gfx|fill a 0 4 7|signal t 1|end', 6, 'waits for the signal of t 1', ' 9 - submit gfx'),
+    ('another queue', 'buffer a 4|timeline t 0|timeline u 0|queue gfx threaded|submit gfx|wait t 1|signal u 1|end|'
+     'submit gfx|signal t 1|end|submit gfx|wait u 1|end', 6, 'waits for the signal of t 1', ' 9 - submit gfx'),
+    ('a ring of two queues', 'buffer a 4|buffer b 4|timeline t 0|timeline u 0|queue P threaded|queue Q threaded|submit P|'
+     'wait u 1|fill a 0 4 1|signal t 1|end|submit Q|wait t 1|copy a 0 b 0 4|signal u 1|end', 8, 'waits for the signal',
+     'the fill of line 9 then comes before the copy of line 14'),
     ('a byte order mark', '\ufeffbuffer X 4', 1, 'byte order mark', '1 + buffer X 4'),
+]
+# A race, and the lines of waits that the mend doesn't raise: nothing is said of them.
+INNOCENT = [
+    # async compute without its back edge: the wait of c 1 is right, and comp's second batch lacks one
+    ('buffer data 4|buffer image 4|timeline c 0|timeline g 0|queue comp threaded|queue gfx threaded|submit comp|'
+     'fill data 0 4 1|signal c 1|end|submit gfx|wait c 1|copy data 0 image 0 4|signal g 1|end|submit comp|'
+     'fill data 0 4 2|signal c 2|end', [12], '+ wait g 1'),
+    # a ring of three frames of which the last host wait is one too low, and the one before it is right
+    ('buffer X 4|buffer Y 4|buffer I 4|timeline frame 0|timeline w 0|queue cpu immediate|queue gfx threaded|'
+     'submit cpu|fill X 0 4 1|signal w 1|end|submit gfx|wait w 1|copy X 0 I 0 4|signal frame 1|end|'
+     'submit cpu|fill Y 0 4 2|signal w 2|end|submit gfx|wait w 2|copy Y 0 I 0 4|signal frame 2|end|'
+     'host wait all frame 1|submit cpu|fill X 0 4 3|signal w 3|end|submit gfx|wait w 3|copy X 0 I 0 4|signal frame 3|end|'
+     'host wait all frame 1|submit cpu|fill Y 0 4 4|signal w 4|end', [26], '36 + host wait all frame 2'),
+]
+# The line of a trace behind a script, put in after the first lines of a lawful trace, what is marked, and what is said.
+TRACED = ('buffer X 4|timeline A 0|queue P threaded|queue Q threaded|submit P|fill X 0 4 1|signal A 1|end|submit Q|wait A 1|'
+          'end|trace|1 host submit 5|2 S:P take A 1 fresh 0|3 S:P release 5|')
+TRACES = [
+    ('4 S:Q release 9', 'isn\'t submitted yet', 'S:Q can do nothing here but wait'),
+    ('4 host submit 9|5 S:Q release 9', 'its wait at line 10 is for A 1, which isn\'t pending', 'docs/TURNS.md'),
+    ('4 S:P bind A 1 1', 'point 1 carries nothing', 'S:P may go on with `bind A 1 0`'),
+    ('4 R:P start 5|5 R:P signal A 1', 'the command of line 6 isn\'t done', 'R:P may go on with `apply 6`'),
+    ('4 S:P free 0', 'its signal A 1 isn\'t completed', '`bind A 1 0`'),
+    ('4 S:P take A 1 fresh 1', 'has point 0 already, at line 14', '`bind A 1 0`'),
+    ('unfinished 1', '2 are left without a `finish`: lines 5, 9', 'write `unfinished 2`'),
+    ('4 H submit 9', 'no actor', '`S:QUEUE`'),
+    ('3 host submit 9', 'not above 3', 'count up'),
+    ('4 host submit 6', 'no batch and no host line stands at line 6', 'submit L'),
+    ('4 S:P bind A 2 0', 'A is signaled with 1', 'bind T V P'),
+    ('4 R:P release 5', 'R:P can\'t do that: it is of S:P', 'write it of who does it'),
+    ('4 S:P binds A 1 0', 'no event has this name', 'bind'),
+    ('4 S:P bind A 1 0', 'the trace ends here', 'unfinished N'),
+]
+# A schedule behind the same script, and what is said of its turns.
+TURNS = [
+    ('R:P|host', 'turn 1 of R:P: `-`: the batch of P at line 5 isn\'t handed on yet', 'unfinished 2'),
+    ('host 2|S:Q 3', 'turns 3, 4, 5 of S:Q: `-`: the batch of Q at line 9 waits at line 10 for A 1, which isn\'t pending',
+     'S:Q is stuck: the batch of Q at line 9 waits at line 10 for A 1'),
+    ('host 2', 'S:P would go on with `take A 1 fresh 0`', 'R:P is stuck'),
 ]
 # A lawful script, and what is warned of at which line.
 DOUBTS = [
@@ -73,10 +127,13 @@ def test_explain(tests):
     misuses(tests)
     other_programs(tests)
     causes(tests)
+    innocent(tests)
+    traces(tests)
     doubts(tests)
     formats(tests)
     several(tests)
     is_quick(tests)
+    is_quick_on_the_largest(tests)
 
 
 def misuses(tests):
@@ -115,6 +172,32 @@ def causes(tests):
                 break
             marks.append(row)
         tests.check(what, any(mark in row for row in marks) and mend in page, page)
+
+
+def innocent(tests):
+    for script, waits, mend in INNOCENT:
+        page = tests.tool('explain', data=lines(script).encode()).stdout.decode()
+        marked = [line for line in waits if re.search(rf'^ *{line} \|.*\n *\| *\^', page, re.MULTILINE)]
+        tests.check('a wait that is right', not marked and mend in page, page)
+
+
+def traces(tests):
+    """Lines of traces by their causes, in all formats, and turns of schedules."""
+    for trace, mark, said in TRACES:
+        data = lines(TRACED + trace + ('|unfinished 2' if 'unfinished N' != said and 'unfinished' not in trace else '')).encode()
+        done = tests.tool('explain', data=data)
+        page = ' '.join(done.stdout.decode().split())
+        first = tests.vq(data, '--audit').decode().strip()
+        tests.check(f'the trace {trace}', done.returncode == 2 and page.startswith(first + ' -->') and mark in page
+                    and said in page and not done.stderr, (first, done.stdout.decode()))
+        gcc = tests.tool('explain', '--format', 'gcc', data=data).stdout.decode()
+        tests.check(f'gcc of the trace {trace}', f': error: {first.removeprefix("error: ")}' in gcc, gcc)
+        data = json.loads(tests.tool('explain', '--format', 'json', data=data).stdout)
+        tests.check(f'json of the trace {trace}', (data['status'], data['answer']) == (2, first), data)
+    script = TRACED.split('trace|', maxsplit=1)[0]
+    for schedule, *said in TURNS:
+        page = tests.tool('explain', data=lines(f'{script}schedule|{schedule}').encode()).stdout.decode()
+        tests.check(f'the turns {schedule}', page.startswith('lawful\n') and all(text in page for text in said), page)
 
 
 def doubts(tests):
@@ -173,3 +256,40 @@ def is_quick(tests):
     times = os.times()
     took = min(time.monotonic() - start[0], sum(times[2:4]) - sum(start[1][2:4]))
     tests.check('a large script', b'+ wait T' in done.stdout and took < 3, f'{took} s\n{done.stdout.decode()}')
+
+
+def largest(tail=''):
+    """Nearly 4 MB: 7,900 batches of 15 queues in a ring, each with 16 waits for the one before and 16 signals."""
+    rows, values = ['version 2', 'buffer X 4'], [0] * 15
+    rows += [f'timeline T{q:02d}{m:02d} 0' for q in range(15) for m in range(16)] + [f'queue Q{q:03d} threaded' for q in range(15)]
+    for k in range(7900):
+        queue, before = k % 15, (k - 1) % 15
+        rows.append(f'submit Q{queue:03d}')
+        rows += [f'wait T{before:02d}{m:02d} {values[before]}' for m in range(16) if k]
+        values[queue] += 1
+        rows += [f'signal T{queue:02d}{m:02d} {values[queue]}' for m in range(16)] + ['end']
+    return ('\n'.join(rows) + '\n' + lines(tail).replace('\n\n', '\n').lstrip('\n')).encode()
+
+
+def is_quick_on_the_largest(tests):
+    """Scripts of 4 MB, lawful and faulty, take five seconds of one processor and 300 MB at most."""
+    for tail, answer in (('', 'lawful'), ('submit Q000|signal T0500 600|end', 'unordered'),
+                         ('submit Q000|fill X 0 4 1|end|submit Q001|fill X 0 4 2|end', 'race')):
+        data, took, said = largest(tail), 9, b''
+        for _ in range(3):
+            before = os.times()
+            said = tests.tool('explain', data=data).stdout
+            took = min(took, sum(os.times()[2:4]) - sum(before[2:4]))
+            if took < 5:
+                break
+        tests.check(f'4 MB, {answer}', answer.encode() in said.split(b'\n')[0] and took < 5, f'{took:.1f} s, {said[:80]}')
+    held = most_memory([os.path.join(TOP, 'tools', 'explain'), '--vq', tests.program], data)
+    tests.check('the memory for 4 MB', held < 300, f'{held:.0f} MB')
+    for name, words in (('order', ['--format', 'dot']), ('schedule', ['--all', '1'])):
+        before = os.times()
+        done = tests.tool(name, *words, data=largest())
+        took = sum(os.times()[2:4]) - sum(before[2:4])
+        tests.check(f'4 MB for {name} {words}', done.returncode == 2 and b' has ' in done.stderr and b'of up to 1,' in done.stderr
+                    and took < 5, (took, done.stderr))
+    alone = tests.tool('explain', data=largest(), program=False, env={'PATH': '/usr/bin:/bin', 'HOME': '/'})
+    tests.check('4 MB without vq', alone.returncode in (0, 1) or b'without vq' in alone.stderr, alone.stderr)

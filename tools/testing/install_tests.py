@@ -1,4 +1,4 @@
-"""Tests of install, and of the words of run-example."""
+"""Tests of install."""
 import os
 import subprocess
 
@@ -60,14 +60,3 @@ def runs_from_the_path(tests, prefix):
     completed = run(['bash', '-c', 'COMP_WORDS=(vq-explain --fo); COMP_CWORD=1; source ' + os.path.join(
         prefix, 'share/bash-completion/completions/vq-explain') + '; _vq_tool vq-explain; echo "${COMPREPLY[@]}"'])
     tests.check('completion', completed.stdout == b'--format\n', completed)
-
-
-def test_run_example(tests):
-    """What run-example says before it builds anything."""
-    for words, status in ((['--chek'], 1), (['one', 'other'], 1), (['--generate'], 1), (['/nowhere'], 3), (['/'], 3)):
-        done = subprocess.run([os.path.join(TOP, 'run-example'), *words], capture_output=True, check=False)
-        said = done.stderr.decode()
-        tests.check(f'run-example {words}', done.returncode == status and said.startswith('run-example: ')
-                    and ('usage: ' in said or status == 3) and not done.stdout, said)
-    done = subprocess.run([os.path.join(TOP, 'run-example'), '--help'], capture_output=True, check=False)
-    tests.check('run-example --help', done.returncode == 0 and done.stdout.startswith(b'usage: ./run-example'))

@@ -30,8 +30,9 @@ def test_order(tests):
     for words in (['--format', 'png'], ['one', 'other'], ['--vq', '/nowhere', '-']):
         tests.misused('order', *words)
     tests.misused('order', '/nowhere', status=3, program=True)
-    done = tests.tool('order', data=b'x' * 4_194_305)
-    tests.check('order of what can\'t be drawn', done.returncode == 2 and b'too long' in done.stderr, done.stderr)
+    done = tests.tool('order', data=b'x' * 1_000_001)
+    tests.check('order of what is too large', done.returncode == 2 and b'of up to 1,000,000 are drawn' in done.stderr,
+                done.stderr)
     with open(os.path.join(TOP, 'docs', 'frame_loop.svg'), 'rb') as file:
         drawn = tests.tool('order', os.path.join(TOP, 'examples', 'frame_loop.vq')).stdout
         tests.check('docs/frame_loop.svg', file.read() == drawn, 'draw it again')

@@ -5,7 +5,7 @@ use Rattle.std.proofs.lemmas.Bool.{cases_lt}
 use Rattle.vq_point_laws.specs.PointWord.{parts}
 use Rattle.vq_turns.specs.declared.outcome.Want.{Want}
 use Rattle.vq_turns.specs.declared.outcome.Want.TheVariants.{Submitted, Released, Bound, Next, Signaled, Finished, MemoryTurn, Exchange}
-use Rattle.vq_actor.specs.Meanings.{IsEarlier, IsShownSince}
+use Rattle.vq_actor.specs.Meanings.{IsShownSince}
 use Rattle.vq_board_laws.specs.declared.view.JobState.{JobState}
 use Rattle.vq_board_laws.specs.declared.view.OpState.TheVariants.{Unbound as UnboundOp}
 use Rattle.vq_board_laws.specs.declared.view.OwnStep.{OwnStep}
@@ -78,11 +78,3 @@ pub shown_still : (steps more : List OwnStep) (r : Refusals) (want : Want) (sinc
 shown_still steps more r want since grows (inl h) = inl (subst (HasStep since.0 (IsStepFor since.0 want)) (sym grows.1)
     (step_still since.0 (IsStepFor since.0 want) grows.0 steps h))
 shown_still steps more r want since grows (inr h) = inr h
-
--- .. and since each earlier moment of the record
-pub shown_since : {s t : ℕ × ℕ} {shown : ℕ × ℕ → Type 0} → IsEarlier s t → IsShownSince t shown → IsShownSince s shown
-shown_since {s} {t} early h u b = h u (let one = b.0 in let two = early.0 in omega arith, let one = b.1 in let two = early.1 in omega arith)
-
-pub since_still : (steps more : List OwnStep) (r : Refusals) (want : Want) (s : ℕ × ℕ) → Grows steps more →
-    IsShownSince s (IsShown steps r want) → IsShownSince s (IsShown more r want)
-since_still steps more r want s grows h t b = shown_still steps more r want t grows (h t b)

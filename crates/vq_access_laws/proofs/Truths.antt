@@ -1,6 +1,6 @@
 -- That places are true has at most one proof; the first places are true of a pass that has done nothing; places that
 -- agree are as true; and a table is known by its numbers.
-use Rattle.std.proofs.Common.{◌≡◌, ℕ, true, List, [], ◌∷◌, Option, None, refl, sym, ap, subst, drop, not, is_some, length, count_by, slice_index}
+use Rattle.std.proofs.Common.{◌≡◌, ℕ, true, List, [], ◌∷◌, None, refl, sym, ap, subst, drop, not, is_some, length, count_by, slice_index}
 use Rattle.std.proofs.Props.{props}
 use Rattle.std.specs.List.{list_all}
 use Rattle.std.proofs.lemmas.Bool.{false≢true, and_from}
@@ -14,7 +14,6 @@ use Rattle.vq_turns.specs.declared.task.Task.{Task}
 use Rattle.vq_turns.specs.declared.task.Task.TheVariants.{AwaitSubmitted, AwaitReleased, AwaitFinished, AwaitBound, AwaitNeeds, Submit, Take, Release, Bind, Start, Apply, Signal, Compare, Answer, Finish}
 use Rattle.vq_turns.specs.Programs.{program}
 use Rattle.vq_turns.specs.Turns.{Place, first_place}
-use Rattle.vq_turn_laws.specs.Running.{Running}
 use Rattle.vq_actor.specs.Stages.{Serves}
 use Rattle.vq_board_laws.specs.declared.view.View.{View}
 use Rattle.vq_board_laws.specs.Reached.{answer_told}
@@ -22,28 +21,16 @@ use Rattle.vq_board_laws.specs.Roles.{role_number}
 use Rattle.vq_board_laws.specs.Rule.{fresh}
 use Rattle.vq_access_laws.specs.AccessMeanings.{names_of}
 use Rattle.vq_access_laws.specs.TrueTasks.{is_left}
-use Rattle.vq_access_laws.specs.TruePasses.{AreTrue, IsOwn, HasDone, RunsAs, HoldsAs, IsAtRest, are_told_once, role_of_actor, is_to, tasks_before, tasks_left}
+use Rattle.vq_access_laws.specs.TruePasses.{AreTrue, IsOwn, HasDone, HoldsAs, are_told_once, role_of_actor, is_to, tasks_before, tasks_left}
 use Rattle.vq_access_laws.proofs.ServedActors.{serves_itself}
 
 -- One proof
 
-runs_prop : (v : View) (r : Option Running) → IsProp (RunsAs v r)
-runs_prop v r = Prim.hlevel props
-
 holds_prop : (p : Plan) (v : View) (ns : List Need) (x : Place) → IsProp (HoldsAs p v ns x)
 holds_prop p v ns x = Prim.hlevel props
 
-rest_prop : (p : Plan) (v : View) (before after : List Task) (x : Place) → IsProp (IsAtRest p v before after x)
-rest_prop p v before after x = Prim.hlevel props
-
-own_prop : (p : Plan) (v : View) (before after : List Task) (x : Place) → IsProp (IsOwn p v before after x)
-own_prop p v before after x = Prim.hlevel (props, runs_prop, holds_prop, rest_prop)
-
 done_prop : (p : Plan) (v : View) (before after : List Task) → IsProp (HasDone p v before after)
 done_prop p v before after = Prim.hlevel props
-
-pub are_true_prop : (p : Plan) (a : ActorName) (v : View) (places : ActorName → Place) → IsProp (AreTrue p a v places)
-are_true_prop p a v places = Prim.hlevel (props, own_prop, done_prop)
 
 -- The first places
 

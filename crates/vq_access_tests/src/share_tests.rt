@@ -1,7 +1,11 @@
-//! The actors of a shared run play in turn to its end, and the last share closes the board.
+//! The actors of a shared run play in turn to its end, and the last share closes the board. Threads run the same plan.
 use std::alloc::Global;
+use std::marker::Sync;
+use std::sync::Wait;
+use std::thread::Threads;
 use vq_board_stage::plans::checked;
-use vq_model::plan::Answer;
+use vq_model::plan::{Answer, AnswerLine};
+use vq_rings::{OpenGate, execute};
 use vq_shared_run::{Look, Player, Shut, share};
 use vq_turns::outcome::Outcome;
 
@@ -78,10 +82,7 @@ fn is_left(host: &mut Player) -> bool {
 }
 
 /// The answers, worked out by hand.
-fn has_answered(host: &Player) -> bool {
-    let Some(answers) = host.answers() else {
-        return false;
-    };
+fn are_answered(answers: &[AnswerLine]) -> bool {
     let (Some(first), Some(last)) = (answers.first(), answers.last()) else {
         return false;
     };
@@ -90,6 +91,20 @@ fn has_answered(host: &Player) -> bool {
         && matches!(first.answer, Answer::Reached)
         && last.line == 17
         && matches!(last.answer, Answer::Value(5))
+}
+
+/// Whether the host was answered so.
+fn has_answered(host: &Player) -> bool {
+    match host.answers() {
+        Some(answers) => are_answered(answers),
+        None => false,
+    }
+}
+
+/// Whether a run by threads answers the host so.
+fn threads_answer<R: Threads + Wait + Sync>(rt: &R, alloc: Global) -> Option<bool> {
+    let report = execute(rt, alloc, checked(alloc, SCRIPT)?, &OpenGate).ok()?;
+    Some(are_answered(report.answers.as_slice()))
 }
 
 /// All of that.
@@ -105,4 +120,9 @@ fn play(alloc: Global) -> Option<bool> {
 #[test]
 fn actors_of_a_shared_run_play_to_its_end(rt: HostRuntime) {
     assert!(rt; play(rt.alloc()) == Some(true));
+}
+
+#[test]
+fn threads_run_a_plan(rt: HostRuntime) {
+    assert!(rt; threads_answer(&rt, rt.alloc()) == Some(true));
 }

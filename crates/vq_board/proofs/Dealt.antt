@@ -18,9 +18,6 @@ at_end [] x y (suc k) e = absurd (let g : None ≡ Some y = e in cc)
 at_end (z ∷ xs) x y zero e = inl e
 at_end (z ∷ xs) x y (suc k) e = at_end xs x y k e
 
-pub none_fresh : (b : Board) → AreFresh b [] []
-none_fresh b = (refl, λ k x e. absurd (let g : None ≡ Some x = e in cc))
-
 -- one more fresh pass
 pub fresh_push : (b : Board) (xs : List Pass) (x : Pass) (roles : List Role) (role : Role) → AreFresh b xs roles → IsFresh b x → role_of x ≡ role → AreFresh b (xs ++ x ∷ []) (roles ++ role ∷ [])
 fresh_push b xs x roles role h fresh is = (

@@ -4,7 +4,6 @@ mod Copied
 mod Dealt
 mod Firsts
 mod Hands
-mod Limits
 mod OpNumbers
 mod Placed
 mod Shared

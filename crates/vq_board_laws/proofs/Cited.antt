@@ -13,7 +13,7 @@ pub use Rattle.vq_board_laws.proofs.Moments.{loads_at, stores_at, adds_at, excha
 pub use Rattle.vq_board_laws.proofs.Needed.{made_still, reached_still, needs_still, needs_later, needs_to_end, needs_nothing, needs_each, knows_so_far}
 pub use Rattle.vq_board_laws.proofs.OpSteps.{binds_op, completes_op, op_number_is, recalls_op}
 pub use Rattle.vq_board_laws.proofs.Opens.{deals, opens}
-pub use Rattle.vq_board_laws.proofs.PointLaws.{assigned_free, counts_all, referred_carries, retired_past, signaled_made}
+pub use Rattle.vq_board_laws.proofs.PointLaws.{assigned_free, retired_past, signaled_made}
 pub use Rattle.vq_board_laws.proofs.PointSteps.{assigns_point, refers_point, retires_point, unrefers_point}
 pub use Rattle.vq_board_laws.proofs.ReferenceLists.{kept_listed}
 pub use Rattle.vq_board_laws.proofs.RunSteps.{finishes_job, starts_job}

@@ -149,5 +149,3 @@ has_room p s job views j c w r member new =
     let n = pigeons (length p.commands) (c ∷ s.applied) (new, h.distinct)
     (λ x t. elim (has_cases c s.applied x t) [ inl is ↦ subst (λ (z : ℕ). z < length p.commands) is (command_exists p w j c member) | inr m ↦ h.exists x m ]) in
     omega arith
-
--- Bytes

@@ -1,6 +1,5 @@
 -- What the rule says of a point to a pass that has a reference to it, or that owns it.
 use Rattle.std.proofs.Common.{◌≡◌, ℕ, true, false, ap}
-use Rattle.std.specs.Prelude.{sum_by}
 use mathlib.Core.Option.{some}
 use lib.ListN.{get_elem?}
 use Rattle.atomic_table.specs.Table.{State}
@@ -10,20 +9,11 @@ use Rattle.vq_board_laws.specs.declared.view.View.{View}
 use Rattle.vq_board_laws.specs.declared.view.LoggedBuffers.{LoggedBuffers}
 use Rattle.vq_board_laws.specs.Words.{words_of, Carries, made_of}
 use Rattle.vq_board_laws.specs.Points.{Lists, reference}
-use Rattle.vq_board_laws.specs.References.{refs_to}
 use Rattle.vq_board_laws.specs.Rule.{Kept}
 use Rattle.vq_board_laws.specs.MayPoints.{MayAssign, MayRetire}
 use Rattle.vq_board_laws.proofs.MadeWords.{shows, not_shown}
 use Rattle.vq_board_laws.proofs.PointParts.{none_refers}
 use Rattle.vq_board_laws.proofs.PointSteps.{assigned_zero, assigned_none, retired_past as past_of_retired, retired_carries}
-
--- a reference means that the point carries the operation
-pub referred_carries : (p : Plan) (s : State LoggedBuffers View) → Kept p s → (i : ℕ) (v : View) → get_elem? s.views i ≡ some v → (q e : ℕ) → Lists v.refs (reference q e) → Carries ((words_of s.words).point q) e
-referred_carries p s k i v at q e listed = k.rule.references.carried i v at q e listed
-
--- a point's word has the number of references to it
-pub counts_all : (p : Plan) (s : State LoggedBuffers View) → Kept p s → (q : ℕ) → (parts ((words_of s.words).point q)).refs ≡ sum_by (refs_to q) s.views
-counts_all p s k q = k.rule.references.counts q
 
 -- a point that a pass may give to an operation carries nothing, and no pass has a reference to it
 pub assigned_free : (p : Plan) (s : State LoggedBuffers View) → Kept p s → (i : ℕ) (v : View) → get_elem? s.views i ≡ some v → (q e : ℕ) → MayAssign p v q e

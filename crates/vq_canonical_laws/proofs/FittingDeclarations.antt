@@ -19,8 +19,6 @@ use Rattle.vq_canonical_laws.specs.FormatRules.{are_new, sizes_in, HasValue}
 use Rattle.vq_canonical_laws.proofs.ScriptParts.{Parts, after, May}
 use Rattle.vq_canonical_laws.proofs.CanonicalOrder.{Leads, buffer_statements, semaphore_statements, queue_statements, declarations}
 
--- Names
-
 -- A list of declarations of one kind
 
 module _ {A : Type 0} (f : A → Statement) (name : A → List ℕ) (Fits : A → Type 0)

@@ -3,7 +3,7 @@ use Rattle.std.proofs.Common.{◌≡◌, ℕ, ◌+◌, Bool, true, false, cond, 
 use Rattle.std.specs.Prelude.{sum, nat_lt}
 use Rattle.std.proofs.lemmas.List.{map-append}
 use Rattle.std.proofs.lemmas.List.Sums.{sum_by-append, sum_by-cons}
-use Rattle.vq_ground.proofs.Bools.{or_false}
+use Rattle.vq_ground.proofs.Bools.{or_false as or_nothing}
 use Rattle.vq_model.specs.declared.statement.Statement.{Statement}
 use Rattle.vq_model.specs.declared.statement.Statement.TheVariants.{BeginBatch, EndBatch, DeclareBuffer, DeclareSemaphore, DeclareQueue, AddWait, AddCommand, AddSignal, AddFence, TakeHostStep, HasVersion}
 use Rattle.vq_model.specs.declared.script.HostStep.{HostStep}
@@ -124,7 +124,7 @@ module _ (before : List Line) (n v : ℕ) (bs : List Buffer) (ss : List Semaphor
             (job_told n q (batch_lines more)));
         unscheduled =
             some_push before n (BeginBatch q) is_schedule
-            ∙ (or_false (some is_schedule before) ∙ h.unscheduled);
+            ∙ (or_nothing (some is_schedule before) ∙ h.unscheduled);
         no_turns = turns_push before n (BeginBatch q) h.no_turns;
       }
     where
@@ -149,7 +149,7 @@ module _ (before : List Line) (n v : ℕ) (bs : List Buffer) (ss : List Semaphor
         semaphores_are = semaphores_push before n EndBatch ss h.semaphores_are ∙ append-nil ss;
         queues_are = queues_push before n EndBatch qs h.queues_are ∙ append-nil qs;
         begun = some_push before n EndBatch (λ t. is_submit t || is_host_step t)
-            ∙ (or_false (has_begun before) ∙ (h.begun ∙ same_begun jobs));
+            ∙ (or_nothing (has_begun before) ∙ (h.begun ∙ same_begun jobs));
         opened = subst (λ (ls : List Line). some (λ s. nat_lt 0 (part_of s)) ls ≡ false)
             (sym (open_push before n EndBatch)) refl;
         job_count = omega arith;
@@ -163,7 +163,7 @@ module _ (before : List Line) (n v : ℕ) (bs : List Buffer) (ss : List Semaphor
             (sym (map-append a_job jobs (ToldBatch (q, told) ∷ []))))));
         unscheduled =
             some_push before n EndBatch is_schedule
-            ∙ (or_false (some is_schedule before) ∙ h.unscheduled);
+            ∙ (or_nothing (some is_schedule before) ∙ h.unscheduled);
         no_turns = turns_push before n EndBatch h.no_turns;
       }
     where
@@ -218,7 +218,7 @@ module _ (before : List Line) (n v : ℕ) (bs : List Buffer) (ss : List Semaphor
             (sym (map-append a_job jobs (ToldStep step ∷ [])))));
         unscheduled =
             some_push before n s is_schedule
-            ∙ (or_false (some is_schedule before) ∙ h.unscheduled);
+            ∙ (or_nothing (some is_schedule before) ∙ h.unscheduled);
         no_turns = turns_push before n s h.no_turns;
       }
     where

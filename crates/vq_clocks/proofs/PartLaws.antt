@@ -1,5 +1,5 @@
 -- The clocks of the parts of a job.
-use Rattle.std.proofs.Common.{◌≡◌, ℕ, zero, suc, ◌+◌, ◌-◌, ◌<◌, ◌≤◌, Bool, true, false, eqb, leb, ltb, if◌then◌else◌, List, [], ◌∷◌, ◌++◌, filter, length, take, get_or, Option, Some, None, refl, sym, ap, ◌∙◌, ◌⊎◌, inl, inr, ◌↔◌, IsTrue, subst, arith, add-one, append-nil, length-append}
+use Rattle.std.proofs.Common.{◌≡◌, ℕ, zero, suc, ◌+◌, ◌-◌, ◌<◌, ◌≤◌, Bool, true, false, eqb, leb, ltb, if◌then◌else◌, List, [], ◌∷◌, ◌++◌, filter, length, take, get_or, Option, Some, None, refl, sym, ap, ◌∙◌, ◌⊎◌, inl, inr, ◌↔◌, IsTrue, subst, arith, add-one, length-append}
 use Rattle.std.specs.List.{filter_map, slice_get, dedup, list_all}
 use Rattle.std.specs.List.Sorted.{IsPermutation, IsSorted}
 use Rattle.std.specs.Option.{option_map_or}
@@ -11,10 +11,10 @@ use Rattle.std.proofs.lemmas.Grind.{get_or_default_zero}
 use Rattle.std.proofs.lemmas.List.Elements.{filter-append, filter_map-append}
 use Rattle.std.proofs.lemmas.Option.{slice_get-get_or, slice_get_past}
 use Rattle.vq_model.specs.declared.plan.Need.{Need}
-use Rattle.vq_model.specs.Edges.{Stage, At, AtEnd, edges_at, must_finish, needs_at, stage_of, waits_at_start}
+use Rattle.vq_model.specs.Edges.{Stage, At, AtEnd, needs_at, stage_of, waits_at_start}
 use Rattle.vq_model.specs.HappensBefore.{HappensBefore, HappensBeforeAt, HappensBeforeCommand}
 use Rattle.vq_model.specs.Lanes.{lane_at}
-use Rattle.vq_model.specs.Plan.{Plan, commands_of, initial, job_of, needs, resolver, waits_for_any}
+use Rattle.vq_model.specs.Plan.{Plan, commands_of, initial, job_of, needs, resolver}
 use Rattle.vq_ground.specs.Lists.{has}
 use Rattle.vq_ground.proofs.Lists.{has-append_left, has-append_right, has_here}
 use Rattle.vq_clocks.specs.declared.clocks.parts.Parts.{Parts}
@@ -91,18 +91,6 @@ module _ (p : Plan) (k : ℕ) (n : Need) where
     where
       cons_of : Option ℕ → List ℕ
       cons_of x = filter_map (λ (y : Option ℕ). y) (x ∷ [])
-
--- all edges to a place
-pub edges_for : (p : Plan) (j k : ℕ) → waits_for_any p j ≡ false → must_finish p j ++ jobs_for p k (needs p j) ≡ edges_at p j (At k)
-edges_for p j k e =
-    ap (λ es. must_finish p j ++ filter_map (job_of p) es)
-    (sym (cond-false (waits_for_any p j) [] (filter_map (λ n. resolver p n.chain n.value) (filter (λ n. ltb (initial p n.chain) n.value) (filter (λ n. leb n.from k) (needs p j)))) e))
-
-pub edges_of_any : (p : Plan) (j k : ℕ) → waits_for_any p j ≡ true → must_finish p j ≡ edges_at p j (At k)
-edges_of_any p j k e =
-    sym (append-nil (must_finish p j))
-    ∙ ap (λ es. must_finish p j ++ filter_map (job_of p) es)
-    (sym (cond-true (waits_for_any p j) [] (filter_map (λ n. resolver p n.chain n.value) (filter (λ n. ltb (initial p n.chain) n.value) (filter (λ n. leb n.from k) (needs p j)))) e))
 
 -- Ends of parts
 

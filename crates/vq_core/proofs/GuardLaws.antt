@@ -36,13 +36,13 @@ use Rattle.std.proofs.lemmas.Bool.{
   ltb-true,
   not-true,
 }
+use Rattle.vq_ground.specs.Lists.{has}
 use Rattle.vq_model.specs.declared.script.ActorName.{ActorName}
 use Rattle.vq_model.specs.declared.plan.Answer.{Answer}
 use Rattle.vq_model.specs.declared.plan.Op.{Op}
 use Rattle.vq_model.specs.Edges.{At, stage_of}
 use Rattle.vq_model.specs.Machine.{next, are_reached, CanAnswer, CanApply, may_answer}
 use Rattle.vq_model.specs.Plan.{
-  has,
   job_of,
   chain_of,
   is_batch,

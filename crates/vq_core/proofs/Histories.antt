@@ -137,9 +137,6 @@ none_submitted p =
 pub plan_sizes : (p : Plan) → IsPlan p → sizes_of p.script ≡ p.sizes
 plan_sizes p i = sym (ap (λ (q : Plan). q.sizes) i.lowered)
 
-abbrev nought : ℕ → ℕ
-nought k = 0
-
 pub core_open : (b : Inside) → IsPlan b.ordered → IsLawful b.ordered → b.history.items ≡ [] →
     acts b.ordered ≤ vec_capacity b.history → acts b.ordered < 18446744073709551616 →
     Tells b.ordered (opening_points b.ordered) b → IsCore b

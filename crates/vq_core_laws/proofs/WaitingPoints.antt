@@ -57,8 +57,6 @@ is_waiting w e q h =
     (and_from (w.waiting q) (option_map_or (λ f. f == e) (w.carried q) false) h.waiting
     (ap (λ o. option_map_or (λ f. f == e) o false) h.carried ∙ eq-eqb e e refl))
 
--- What a map gives of a list's items
-
 -- Lists that rise by a key
 
 -- two of them with the same members are one list

@@ -14,7 +14,7 @@ use Rattle.vq_turns.specs.Turns.{Place, forward, taken, taken_of, unbound_before
 use Rattle.vq_turns.specs.Turns.{past_value, seeing}
 use Rattle.vq_model.specs.declared.plan.Event.TheVariants.{Bind as Binds, Complete, Free}
 use Rattle.vq_model.specs.Plan.{Plan, chain, chain_of}
-use Rattle.vq_actor.specs.Meanings.{Recent, Other, Collected, FoundAt, Keeps}
+use Rattle.vq_actor.specs.Meanings.{Recent, Other, Collected, Keeps}
 use Rattle.vq_turns.specs.declared.look.Found.TheVariants.{NotYet}
 use Rattle.vq_actor.specs.Answers.{AnswersLook, AnswersTry, AnswersEvent, bound_first, signaled_or, bound_or}
 use Rattle.vq_actor.specs.Collections.{AnswersCollect, AnswersPast, IsCollection}
@@ -256,15 +256,6 @@ module _ (l : List GName) (c : Course) (a : ActorName) (x : Place) (r : Recent) 
 -- after other calls than a collection that found nothing
 pub other_emptied : (c : Course) → IsEmptied c Other
 other_emptied c t e = absurd (cc)
-
-pub found_emptied : (c : Course) (k e q : ℕ) → IsEmptied c (FoundAt k e q)
-found_emptied c k e q t z = absurd (cc)
-
--- after a collection that found nothing
-pub now_emptied : (c : Course) (u : ℕ) → collected c.plan (world c) u ≡ None → IsEmptied c (Collected u)
-now_emptied c u none t e =
-    let same : u ≡ t = cc in
-    subst (λ (v : ℕ). collected c.plan (world c) v ≡ None) same none
 
 pub none_of : (o : Option ℕ) → ((q : ℕ) → o ≡ Some q → ⊥) → o ≡ None
 none_of None h = refl

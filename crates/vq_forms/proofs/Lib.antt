@@ -1,5 +1,4 @@
 pub mod Cited
-mod FirstFound
 mod FirstWord
 mod LongLines
 mod Opened

@@ -77,7 +77,7 @@ none_passes test (x ∷ xs) h =
     ap (λ (b : Bool). cond (not b) (1 + position_or_len test xs) 0) no.0 ∙ omega arith
 
 -- the first that passes may be the last of a list
-position_new : {A : Type 0} (test : A → Bool) (xs : List A) (y : A) → list_any test xs ≡ false →
+pub position_new : {A : Type 0} (test : A → Bool) (xs : List A) (y : A) → list_any test xs ≡ false →
     test y ≡ true →
     position test (xs ++ y ∷ []) ≡ Some (length xs)
 position_new test xs y h e =

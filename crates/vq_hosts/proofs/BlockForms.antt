@@ -4,11 +4,8 @@ use Rattle.std.specs.Prelude.{codes}
 use Rattle.std.specs.Borrow.{Bor}
 use Rattle.std.proofs.lemmas.Bool.Decides.{nat_tests}
 use Rattle.std.specs.Str.{bytes_eq}
-use Rattle.vq_model.specs.Forms.{TimelineName, Numeral}
-use Rattle.vq_model.specs.Meaning.{are_as_many, agree}
-use Rattle.vq_model.specs.Forms.{Pairs}
 use Rattle.vq_blocks.specs.declared.block.BlockForm.{BlockForm}
-use Rattle.vq_blocks.specs.declared.block.BlockForm.TheVariants.{ThreadForm, WaitForm, SignalForm, EndForm}
+use Rattle.vq_blocks.specs.declared.block.BlockForm.TheVariants.{WaitForm, SignalForm, EndForm}
 use Rattle.vq_blocks.specs.BlockForms.{matches_block}
 use Rattle.vq_lexer.specs.Words.{texts}
 use Rattle.vq_hosts.specs.BlockWords.{form_in}
@@ -18,54 +15,17 @@ abbrev first_form : (wait signal end : Bool) → Option BlockForm
 first_form wait signal end =
     cond wait (Some WaitForm) (cond signal (Some SignalForm) (cond end (Some EndForm) None))
 
--- a test of which a part fails
-fails_then : (a b : Bool) → (a && (false && b)) ≡ false
-fails_then true b = refl
-fails_then false b = refl
-
 -- the tests of words
 by_tests : (words : List (List ℕ)) (wait signal end : Bool) → matches_block words WaitForm ≡ wait →
     matches_block words SignalForm ≡ signal → matches_block words EndForm ≡ end →
     form_in true words ≡ first_form wait signal end
 by_tests words wait signal end w s e = λ i. first_form (w i) (s i) (e i)
 
-abbrev even_some : List (List ℕ) → Bool
-even_some ws = nat_lt 0 (length ws) && (length ws % 2 == 0)
-
 pub signal_form : (t v : List ℕ) → form_in true (codes "signal" ∷ t ∷ v ∷ []) ≡ Some SignalForm
 signal_form t v = refl
 
-many_fail : (ws : List (List ℕ)) → (length ws ≡ 2 → ⊥) → are_as_many (TimelineName ∷ Numeral ∷ []) ws ≡ false
-many_fail [] other = refl
-many_fail (a ∷ []) other = refl
-many_fail (a ∷ b ∷ []) other = absurd (other refl)
-many_fail (a ∷ b ∷ c ∷ ws) other = refl
-
-pub no_signal_form : (ws : List (List ℕ)) → (length ws ≡ 2 → ⊥) → form_in true (codes "signal" ∷ ws) ≡ None
-no_signal_form ws other =
-    by_tests (codes "signal" ∷ ws) false false false
-    (fails_then (even_some ws) (agree (Pairs ∷ []) ws))
-    (ap (λ (b : Bool). b && (true && agree (TimelineName ∷ Numeral ∷ []) ws)) (many_fail ws other))
-    (fails_then (are_as_many [] ws) (agree [] ws))
-
 pub end_form : form_in true (codes "end" ∷ []) ≡ Some EndForm
 end_form = refl
-
-pub no_end_form : (w : List ℕ) (ws : List (List ℕ)) → form_in true (codes "end" ∷ w ∷ ws) ≡ None
-no_end_form w ws =
-    by_tests (codes "end" ∷ w ∷ ws) false false false
-    (fails_then (even_some (w ∷ ws)) true)
-    (fails_then (are_as_many (TimelineName ∷ Numeral ∷ []) (w ∷ ws)) (agree (TimelineName ∷ Numeral ∷ []) (w ∷ ws)))
-    refl
-
-pub no_inner_form : (w : List ℕ) (ws : List (List ℕ)) → bytes_eq w (codes "wait") ≡ false →
-    bytes_eq w (codes "signal") ≡ false → bytes_eq w (codes "end") ≡ false → form_in true (w ∷ ws) ≡ None
-no_inner_form w ws a b c =
-    by_tests (w ∷ ws) false false false
-    (ap (λ (t : Bool). even_some ws && (t && agree (Pairs ∷ []) ws)) a ∙ fails_then (even_some ws) (agree (Pairs ∷ []) ws))
-    (ap (λ (t : Bool). are_as_many (TimelineName ∷ Numeral ∷ []) ws && (t && agree (TimelineName ∷ Numeral ∷ []) ws)) b
-    ∙ fails_then (are_as_many (TimelineName ∷ Numeral ∷ []) ws) (agree (TimelineName ∷ Numeral ∷ []) ws))
-    (ap (λ (t : Bool). are_as_many [] ws && (t && agree [] ws)) c ∙ fails_then (are_as_many [] ws) (agree [] ws))
 
 -- Many words
 
@@ -103,16 +63,6 @@ many_formed w (a ∷ b ∷ c ∷ ws) many h =
     by_tests (w ∷ a ∷ b ∷ c ∷ ws) true false false
     (where_wait (nat_lt 0 (length (a ∷ b ∷ c ∷ ws))) (length (a ∷ b ∷ c ∷ ws) % 2 == 0) (bytes_eq w (codes "wait")) some h)
     refl refl
-
--- the forms inside a block stand in one alone
-pub inside_of : (inside : Bool) (words : List (List ℕ)) (f : BlockForm) → form_in inside words ≡ Some f →
-    (ThreadForm ≡ f → ⊥) → inside ≡ true
-inside_of true words f e other = refl
-inside_of false words f e other = by_test (matches_block words ThreadForm) e
-  where
-    by_test : (b : Bool) → cond b (Some ThreadForm) None ≡ Some f → false ≡ true
-    by_test true e = absurd (other (let g : ThreadForm ≡ f = cc in g))
-    by_test false e = absurd (cc)
 
 -- two words behind `signal`, and none behind `end`
 pub cut_signal : (first : List ℕ) (rest : List (Bor (List ℕ))) (other : Bor (List ℕ)) → first ≡ codes "signal" →

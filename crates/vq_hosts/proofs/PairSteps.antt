@@ -24,23 +24,6 @@ pub record SoFar (number : Slot → List ℕ → Option ℕ) (rest words : List 
   pub all_pairs : pairs_at number words
       ≡ cond (found.numeric && found.known) (option_map (λ ps. found.pairs.items ++ ps) (pairs_at number rest)) None
 
-mapped_none : (o : Option (List Pair)) → o ≡ option_map (λ ps. [] ++ ps) o
-mapped_none None = refl
-mapped_none (Some ps) = refl
-
--- none is read
-pub none_so_far : (number : Slot → List ℕ → Option ℕ) (words : List (List ℕ)) (found : PairWords) →
-    found.shaped ≡ true → found.numeric ≡ true → found.known ≡ true → found.pairs.items ≡ [] →
-    SoFar number words words found
-none_so_far number words found s n k p =
-    record {
-      all_shaped = ap (λ (b : Bool). b && list_all is_shaped (pair_places words)) s;
-      all_numeric = ap (λ (b : Bool). b && list_all is_numeric (pair_places words)) n;
-      all_known = ap (λ (b : Bool). b && list_all (is_known number) (pair_places words)) k;
-      all_pairs = mapped_none (pairs_at number words)
-          ∙ (λ i. cond (sym n i && sym k i) (option_map (λ ps. sym p i ++ ps) (pairs_at number words)) None);
-    }
-
 first_and : (a b c : Bool) → ((a && b) && c) ≡ (a && (b && (true && c)))
 first_and true b c = refl
 first_and false b c = refl

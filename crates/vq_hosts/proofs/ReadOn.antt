@@ -8,7 +8,7 @@ use Rattle.vq_blocks.specs.BlockReading.{read_hosts, read_hosts_lines, read_host
 use Rattle.vq_hosts.specs.declared.fault.HostsFault.{HostsFault}
 use Rattle.vq_hosts.specs.declared.fault.HostsFault.TheVariants.{At, Memory}
 use Rattle.vq_hosts.specs.declared.hosts_reader.HostsReader.{HostsReader}
-use Rattle.vq_hosts.specs.HasTold.{HasToldNext, IsJoined}
+use Rattle.vq_hosts.specs.HasTold.{HasToldNext}
 use Rattle.vq_hosts.specs.Outcomes.{IsFirst}
 
 -- a line without a fault
@@ -26,14 +26,6 @@ first_fault text told n line rest after (At m kind) reader e same r =
     sym same ∙ ap (read_hosts_lines told n) e ∙ ap (told_on n (λ now. read_hosts_lines now (n + 1) after)) r.1
     ∙ (λ i. Err (sym r.0 i, kind))
 first_fault text told n line rest after Memory reader e same r = tt
-
--- the line after the last
-pub end_fault : (text : List ℕ) (told : Told) (n : ℕ) (rest : List (List ℕ)) (fault : HostsFault) → rest ≡ [] →
-    read_hosts_lines told n rest ≡ read_hosts text → IsJoined told n (Err fault) → IsFirst text fault
-end_fault text told n rest (At m kind) e same h =
-    sym same ∙ ap (read_hosts_lines told n) e
-    ∙ ap (λ (b : Bool). cond b (Err (n, Syntax)) (Ok told)) h.0 ∙ (λ i. Err (sym h.1 i, sym h.2 i))
-end_fault text told n rest Memory e same h = tt
 
 pub tells_all : (text : List ℕ) (told : Told) (n : ℕ) (rest : List (List ℕ)) → rest ≡ [] →
     read_hosts_lines told n rest ≡ read_hosts text → hosts_end_early told ≡ false → read_hosts text ≡ Ok told

@@ -1,15 +1,15 @@
 -- What a take keeps.
-use Rattle.std.proofs.Common.{◌≡◌, ℕ, zero, suc, ◌+◌, ◌-◌, ◌<◌, ◌≤◌, Bool, true, false, not, List, [], ◌∷◌, ◌++◌, length, get_or, set, take, drop, Some, None, refl, sym, ◌∙◌, ap, arith, subst, reverse}
+use Rattle.std.proofs.Common.{◌≡◌, ℕ, zero, suc, ◌+◌, ◌-◌, ◌<◌, ◌≤◌, Bool, true, false, not, List, [], ◌∷◌, ◌++◌, length, get_or, set, take, Some, None, refl, sym, ◌∙◌, ap, arith, subst, reverse}
 use Rattle.std.specs.Prelude.{◌==◌, ◌&&◌, ◌||◌, nat_le, nat_lt, if◌then◌else◌}
 use Rattle.std.proofs.lemmas.Bool.Decides.{nat_tests}
 use Rattle.vq_live.specs.declared.answers.Given.{Given}
 use Rattle.vq_live.specs.declared.answers.Slot.{Slot}
-use Rattle.std.specs.List.{list_any, insert}
+use Rattle.std.specs.List.{list_any}
 use Rattle.std.specs.List.Sorted.{IsPartitionPoint}
 use Rattle.std.proofs.lemmas.List.{reverse-append, length-set, get_or_at, length-append}
 use Rattle.vq_live.specs.declared.answers.TakeFault.TheVariants as take_as
 use Rattle.vq_live.specs.Live.{Live, KeepsLive, KeepsFree, RisesFrom, AreOut, IsUnused, CarryOnce, slot_at, no_slot, is_out, is_idle, one_if, count_of, pending_value}
-use Rattle.vq_live.specs.Calls.{take_fault, after_take, point_from, slots_from, placed, busy}
+use Rattle.vq_live.specs.Calls.{take_fault, placed, busy}
 use Rattle.vq_live.specs.Places.{IsPlace}
 use Rattle.vq_live.proofs.Slots.{idle_unused, slot_same, out_out, out_more, reuse_free, fresh_free, fresh_unused, count_set, count_more}
 use Rattle.vq_live.proofs.Values.{none_taken, is_taken, last_above, keep_front, placed_is}
@@ -149,16 +149,6 @@ fresh_keeps t v kept fine e =
     let more = count_more is_out t.slots busy in
     take_keeps t (record { value = v; point = length t.slots }) (t.slots ++ busy ∷ []) [] kept fine (fresh_unused t.slots t.ops kept.out) (omega arith)
     (ap (λ (s : Slot). s.out) (get_or_at t.slots busy [] no_slot (length t.slots) refl)) (out_more t.slots t.ops busy kept.out) (omega arith) (fresh_free t.slots points)
-
-pub reuse_is : (t : Live) (v k p : ℕ) (rest : List ℕ) (ops : List Given) → IsPlace t v k → t.free ≡ p ∷ rest → ops ≡ insert t.ops k (record { value = v; point = p }) → record t { ops = ops; slots = set t.slots p busy; free = rest } ≡ after_take t v
-reuse_is t v k p rest ops place e m =
-    (λ i. record t { ops = (m ∙ place.inserted p) i; slots = set t.slots p busy; free = rest })
-    ∙ sym (ap (λ (f : List ℕ). record t { ops = placed (record { value = v; point = point_from f (length t.slots) }) t.ops; slots = slots_from f t.slots; free = drop 1 f }) e)
-
-pub fresh_is : (t : Live) (v k : ℕ) (ops : List Given) (slots : List Slot) (free : List ℕ) → IsPlace t v k → t.free ≡ [] → free ≡ [] → ops ≡ insert t.ops k (record { value = v; point = length t.slots }) → slots ≡ t.slots ++ busy ∷ [] → record t { ops = ops; slots = slots; free = free } ≡ after_take t v
-fresh_is t v k ops slots free place e f m q =
-    (λ i. record t { ops = (m ∙ place.inserted (length t.slots)) i; slots = q i; free = f i })
-    ∙ sym (ap (λ (f : List ℕ). record t { ops = placed (record { value = v; point = point_from f (length t.slots) }) t.ops; slots = slots_from f t.slots; free = drop 1 f }) e)
 
 -- a list with its last one
 split_last : (n : ℕ) (xs : List ℕ) (x : ℕ) → length xs ≡ suc n → x ≡ get_or xs n x → xs ≡ take n xs ++ x ∷ []

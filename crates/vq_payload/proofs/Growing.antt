@@ -6,7 +6,7 @@ use Rattle.vq_board_laws.specs.declared.view.Fact.{Fact}
 use Rattle.vq_board_laws.specs.declared.view.Fact.TheVariants.{Made, Past}
 use Rattle.vq_board_laws.specs.declared.view.OpState.{OpState}
 use Rattle.vq_board_laws.specs.declared.view.View.{View}
-use Rattle.vq_board_laws.specs.Knowledge.{Knows, KnowsMade, made_with, shown, completed, of_finished, before_finished}
+use Rattle.vq_board_laws.specs.Knowledge.{KnowsMade, made_with, shown, completed, of_finished, before_finished}
 use Rattle.vq_board_laws.specs.PointSteps.{recalls, sees}
 use Rattle.vq_board.specs.declared.parts.Board.{Board}
 use Rattle.vq_board.specs.declared.parts.Pass.{Pass}
@@ -15,10 +15,6 @@ use Rattle.vq_board.specs.Named.{view, IsOf, TurnsWith}
 use Rattle.vq_board.proofs.Cited.{shown_more}
 use Rattle.vq_payload.specs.Learning.{HasLearned}
 use Rattle.vq_board_laws.specs.Learning.{Grows, Learns}
-
--- Lists that grow
-
--- Views
 
 -- Passes
 
@@ -39,10 +35,6 @@ pub learned_look : (x y : Pass) (q n : ℕ) (counts : List ℕ) → TurnsWith x 
 learned_look x y q n counts h = (h.0, h.1, subst (λ (w : View). Learns (view x) w) (sym h.2) (learns_look (view x) q n))
 
 -- Knowledge
-
--- what was known is known still
-pub knows_grown : (known more : List Fact) (f : Fact) → Grows known more → Knows known f → Knows more f
-knows_grown known more f (front, is) k = subst (λ (fs : List Fact). Knows fs f) (sym is) (knows_more front known f k)
 
 made_more : (p : Plan) (front known : List Fact) (e : ℕ) → KnowsMade p known e → KnowsMade p (front ++ known) e
 made_more p front known e (shown h) = shown (knows_more front known (Made e) h)

@@ -3,4 +3,3 @@ mod ChainValues
 mod Growing
 mod Looking
 mod Payloads
-mod Short

@@ -18,26 +18,22 @@ use vq_actor::Company;
 use vq_board_run::AccessRoom;
 use vq_turns::outcome::Outcome;
 
-/// What the caller knows of an actor whose turns it may have to take.
+/// Who takes an actor's turns, as the caller knows it.
 #[derive(Clone, Copy)]
-pub(crate) struct Hand {
-    /// The caller takes its turns.
-    pub(crate) mine: bool,
-    pub(crate) ended: bool,
-    /// How many turns the caller took.
-    pub(crate) turn: u64,
+pub(crate) enum Hand {
+    /// A thread of its own.
+    Thread,
+    /// The caller, who took so many.
+    Caller { turns: u64 },
+    /// Nobody more: the caller took its last one.
+    Ended,
 }
 
 /// A hand for each of so many berths: each actor has its thread.
 pub(crate) fn all_hands(alloc: Global, count: usize) -> Result<Vec<Hand>, AllocError>
     ensures { IfOk result (λ hands. length hands.items ≡ count) }
 {
-    let hand = Hand {
-        mine: false,
-        ended: false,
-        turn: 0,
-    };
-    vec![in alloc; hand; count]
+    vec![in alloc; Hand::Thread; count]
 }
 
 /// A thread: it takes its berth, once, and takes the actor's turns until that has ended.
@@ -151,16 +147,16 @@ pub(crate) fn round<R: Wait, G: Gate>(
 {
     let mut has_moved = false;
     for place in 0..berths.len() {
-        let hand = hands[place];
-        if hand.ended || !hand.mine {
+        let Hand::Caller { turns } = hands[place] else {
             continue;
-        }
-        let outcome = turn(grounds, company, &berths[place], gate, hand.turn);
-        hands[place].turn = hand.turn.saturating_add(1);
-        match outcome {
+        };
+        hands[place] = Hand::Caller {
+            turns: turns.saturating_add(1),
+        };
+        match turn(grounds, company, &berths[place], gate, turns) {
             Some(Outcome::Moved(_)) => has_moved = true,
             Some(Outcome::Blocked(_)) | None => {}
-            Some(Outcome::Ended) => hands[place].ended = true,
+            Some(Outcome::Ended) => hands[place] = Hand::Ended,
         }
     }
     has_moved

@@ -63,7 +63,7 @@ pub(crate) fn run_threads<R: Threads + Wait + Sync, G: Gate>(
                     { work(grounds, company, berth, gate) },
                 );
                 if started.is_err() {
-                    hands[place].mine = true;
+                    hands[place] = Hand::Caller { turns: 0 };
                 }
             }
             finish(grounds, company, berths, hands, lead, gate)

@@ -39,10 +39,13 @@ use Rattle.vq_words.specs.declared.task.Task.TheVariants.{Run, Replay, Generate,
 use Rattle.vq_run.specs.declared.status.Status.{Status}
 use Rattle.vq_run.specs.declared.status.Status.TheVariants.{Done, BadWords, Refused, ReadFault, WriteFault, Memory}
 use Rattle.vq_messages.specs.Refused.{RefusesPlan, RefusesOrder, input_limit, no_trace, trace_refusal}
-use Rattle.vq_run.specs.Outcomes.{IsOutcome, is_too_long, has_no_trace, has_faulty_line, has_no_plan, is_unlawful, has_faulty_trace, gives_answer, Ends, AnswersTask, AnswersTrace, ReadsToEnd, IsLawfulInput, IsDoneOrMemory}
-use Rattle.vq_run.specs.Outcomes.{HasFirstFault, HasLawfulPlan, HasReadableTrace, IsScriptText, IsTraceRead, LacksTrace, ReadsAs}
+use Rattle.vq_run.specs.Outcomes.{IsOutcome, is_too_long, has_no_trace, has_faulty_line, has_no_plan, is_unlawful, has_faulty_trace, gives_answer, AnswersTask}
+use Rattle.vq_run.specs.Ends.{Ends, ReadsToEnd, IsDoneOrMemory, EndsForWords, WritesNothing}
+use Rattle.vq_run.specs.Readings.{IsLawfulInput, HoldsRead, IsScripted, IsReadFor, ArePlayable, IsLawfulPlan}
+use Rattle.vq_run.specs.Traced.{AnswersTrace, HasReadableTrace, IsTraceRead}
+use Rattle.vq_run.specs.Outcomes.{HasLawfulPlan}
+use Rattle.vq_run.specs.Inputs.{HasFirstFault, IsScriptText, LacksTrace, ReadsAs}
 use Rattle.vq_run.specs.Origins.{IsOutputFrom, answer_origin, order_fault_origin, plan_fault_origin}
-use Rattle.vq_run.specs.Outcomes.{HoldsRead, IsScripted, IsReadFor, ArePlayable, IsLawfulPlan, EndsForWords, WritesNothing}
 use Rattle.vq_run.specs.declared.reading.Scripted.{Scripted}
 use Rattle.vq_run.specs.declared.reading.Scripted.TheVariants.{Read, Refused as RefusedScript}
 use Rattle.vq_given.specs.declared.given.Cut.{Cut}
@@ -54,7 +57,7 @@ use Rattle.vq_replay.specs.Traced.{IsTrace}
 use Rattle.vq_port.specs.Faults.{Rose}
 use Rattle.vq_port.specs.declared.read.ReadFault.{ReadFault as Unread}
 use Rattle.vq_port.specs.declared.read.ReadFault.TheVariants.{Failed, TooLong, Memory as NoMemoryToRead}
-use Rattle.vq_run.specs.declared.outcome.Outcome.{Outcome}
+use Rattle.vq_run.specs.declared.outcome.Reply.{Reply}
 use Rattle.vq_run.specs.Writes.{SinkMoment, WroteAll, WroteNothing, Writes, wrote_all, wrote_part, EndsWith, EndsUnread}
 
 -- a whole outcome was written
@@ -95,19 +98,19 @@ writing_rose task input text status result before now o (wrote_all same all) e =
     not_failed WriteFault o e = elim o [ ]
 
 module _ {E : Type 0} (task : Task) (input : List ℕ) (result : Status) (before now : SinkMoment) where
-  pub came_to : (came : Result Outcome E) → IfOk came (λ o. IsOutcome task input o.status o.text.items) →
+  pub came_to : (came : Result Reply E) → IfOk came (λ o. IsOutcome task input o.status o.text.items) →
       EndsWith came result before now → Ends task input result before now
   came_to (Ok o) is w = outcome_ends task input o.status result o.text.items before now is (w.outcome o refl)
   came_to (Err e) is w =
       let nothing = w.memory e refl in subst (λ s. Ends task input s before now) (sym nothing.0) nothing.1
 
-  pub came_to_rose : (came : Result Outcome E) → IfOk came (λ o. IsOutcome task input o.status o.text.items) →
+  pub came_to_rose : (came : Result Reply E) → IfOk came (λ o. IsOutcome task input o.status o.text.items) →
       EndsWith came result before now → result ≡ WriteFault → Rose before.faults now.faults
   came_to_rose (Ok o) is w e =
       writing_rose task input o.text.items o.status result before now is (w.outcome o refl) e
   came_to_rose (Err x) is w e = absurd (let same = (w.memory x refl).0 in cc)
 
-  pub came_to_unfailed : (came : Result Outcome E) → IfOk came (λ o. IsOutcome task input o.status o.text.items) →
+  pub came_to_unfailed : (came : Result Reply E) → IfOk came (λ o. IsOutcome task input o.status o.text.items) →
       EndsWith came result before now → result ≡ ReadFault → ⊥
   came_to_unfailed (Ok o) is w e = by_writing (w.outcome o refl)
     where
@@ -464,7 +467,7 @@ module _ (task : Task) (input : List ℕ) (p : Plan) (turns : List Turn) (from :
   trace_done WriteFault text is none = absurd none
   trace_done Memory text is none = absurd none
 
-  pub trace_came : {E : Type 0} → task ≡ Audit → (came : Result Outcome E) →
+  pub trace_came : {E : Type 0} → task ≡ Audit → (came : Result Reply E) →
       IfOk came (λ o. AnswersTrace input p o.status o.text.items) → IfOk came (λ o. IsOutcome task input o.status o.text.items)
   trace_came is (Ok o) answers = trace_done o.status o.text.items is answers
   trace_came is (Err e) answers = tt

@@ -13,7 +13,8 @@ use Rattle.vq_given.specs.Reading.{read_trace}
 use Rattle.vq_audit.specs.Audits.{WasRead}
 use Rattle.vq_messages.specs.Refused.{input_limit}
 use Rattle.vq_words.specs.declared.task.Task.{Task}
-use Rattle.vq_run.specs.Outcomes.{IsScriptText, IsTraceRead}
+use Rattle.vq_run.specs.Traced.{IsTraceRead}
+use Rattle.vq_run.specs.Inputs.{IsScriptText}
 use Rattle.vq_run.specs.Tasks.{row_of}
 
 abbrev IsPart : List ℕ → List ℕ → Bool → Type 0

@@ -6,7 +6,7 @@ use Rattle.vq_port.specs.Faults.{Rose}
 use Rattle.vq_port.specs.Writing.{Appends, AppendsPart, Stays, StillTells}
 use Rattle.vq_run.specs.declared.status.Status.{Status}
 use Rattle.vq_run.specs.declared.status.Status.TheVariants.{Refused, ReadFault, WriteFault, Memory}
-use Rattle.vq_run.specs.declared.outcome.Outcome.{Outcome}
+use Rattle.vq_run.specs.declared.outcome.Reply.{Reply}
 use Rattle.vq_model.specs.Refusals.{too_long}
 
 -- a sink at one moment: the bytes written to it, where it tells them; how many more it is sure to
@@ -42,8 +42,8 @@ pub data Writes (text : List ℕ) (meant result : Status) (before now : SinkMome
       Writes text meant result before now
 
 -- A run ended with what an input came to; for want of memory with nothing.
-pub record EndsWith {E : Type 0} (came : Result Outcome E) (result : Status) (before now : SinkMoment) : Type 0 where
-  pub outcome : (o : Outcome) → came ≡ Ok o → Writes o.text.items o.status result before now
+pub record EndsWith {E : Type 0} (came : Result Reply E) (result : Status) (before now : SinkMoment) : Type 0 where
+  pub outcome : (o : Reply) → came ≡ Ok o → Writes o.text.items o.status result before now
   pub memory : (e : E) → came ≡ Err e → (result ≡ Memory) × WroteNothing before now
 
 -- A run ended whose input wasn't read whole: with nothing, or with the line that refuses a long one.

@@ -2,9 +2,10 @@
 ghost use Rattle.std.specs.Prelude.{◌≡◌, ◌≤◌, IfOk, MatchOption, length};
 ghost use Rattle.vq_given.specs.Cutting.{IsUncut};
 ghost use Rattle.vq_messages.specs.Refused.{input_limit};
-ghost use Rattle.vq_run.specs.Outcomes.{AnswersTrace, IsScriptText, LacksTrace, verdict_text};
+ghost use Rattle.vq_run.specs.Traced.{AnswersTrace, verdict_text};
+ghost use Rattle.vq_run.specs.Inputs.{IsScriptText, LacksTrace};
 
-use crate::outcome::Outcome;
+use crate::outcome::Reply;
 use crate::task::row_of;
 use std::alloc::{AllocError, Global};
 use vq_audit::{Verdict, audit};
@@ -51,7 +52,7 @@ pub(crate) fn trace_outcome(
     alloc: Global,
     ordered: Ordered,
     input: &[u8],
-) -> Result<Outcome, AllocError>
+) -> Result<Reply, AllocError>
     requires short { length input.now ≤ input_limit }
     requires cut { ¬ IsUncut input.now }
     ensures { IfOk result (λ outcome. AnswersTrace input.now ordered outcome.status outcome.text.items) }
@@ -69,9 +70,9 @@ pub(crate) fn trace_outcome(
     match read_trace(alloc, ordered.plan(), &input[trace_start..], first) {
         Ok(given) => {
             let verdict = audit(alloc, ordered, &given)?;
-            Ok(Outcome::done(verdict_text(alloc, verdict)?))
+            Ok(Reply::done(verdict_text(alloc, verdict)?))
         }
-        Err(TraceFault::At { line }) => Ok(Outcome::refused(trace_refusal(alloc, line)?)),
+        Err(TraceFault::At { line }) => Ok(Reply::refused(trace_refusal(alloc, line)?)),
         Err(TraceFault::Memory) => Err(AllocError),
     }
 }

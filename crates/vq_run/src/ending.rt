@@ -2,7 +2,7 @@
 ghost use Rattle.std.specs.Prelude.{◌≡◌};
 ghost use Rattle.vq_run.specs.Writes.{EndsUnread, EndsWith, Writes, moment};
 
-use crate::outcome::Outcome;
+use crate::outcome::Reply;
 use crate::status::Status;
 use std::alloc::AllocError;
 use vq_port::{ReadFault, Sink, write_whole};
@@ -20,7 +20,7 @@ pub(crate) fn write<K: Sink>(sink: &mut K, text: &[u8], status: Status) -> Statu
 }
 
 /// Writes what an input came to; for want of memory nothing.
-pub(crate) fn end_with<K: Sink>(sink: &mut K, outcome: Result<Outcome, AllocError>) -> Status
+pub(crate) fn end_with<K: Sink>(sink: &mut K, outcome: Result<Reply, AllocError>) -> Status
     ensures { EndsWith outcome result
         (moment K.written K.room K.faults sink.old)
         (moment K.written K.room K.faults sink.new) }

@@ -7,7 +7,8 @@ ghost use Rattle.vq_model.specs.Outputs.{asking};
 ghost use Rattle.vq_run.specs.Origins.{IsOutputFrom};
 ghost use Rattle.vq_model.specs.ValidScripts.{sizes_of};
 ghost use Rattle.vq_messages.specs.Refused.{input_limit};
-ghost use Rattle.vq_run.specs.Outcomes.{AnswersTask, ArePlayable, IsOutcome, upgraded};
+ghost use Rattle.vq_run.specs.Outcomes.{AnswersTask, IsOutcome, upgraded};
+ghost use Rattle.vq_run.specs.Readings.{ArePlayable};
 ghost use Rattle.vq_run.specs.Tasks.{IsStill, ReadsTrace, RunsThreads};
 ghost use Rattle.vq_board.specs.Named.{bytes_of};
 ghost use Rattle.vq_spec.specs.TextRooms.{text_room};
@@ -32,27 +33,27 @@ use vq_words::Task;
 
 /// A status with the text that goes with it.
 #[derive(Drop)]
-pub struct Outcome {
+pub struct Reply {
     pub status: Status,
     pub text: Vec<u8>,
 }
 
-impl Outcome {
+impl Reply {
     /// This text, and that all went well.
-    pub(crate) fn done(text: Vec<u8>) -> Outcome
+    pub(crate) fn done(text: Vec<u8>) -> Reply
         ensures { result ≡ record { status = Status.Done; text = text } }
     {
-        Outcome {
+        Reply {
             status: Status::Done,
             text,
         }
     }
 
     /// This text, and that the input is refused.
-    pub(crate) fn refused(text: Vec<u8>) -> Outcome
+    pub(crate) fn refused(text: Vec<u8>) -> Reply
         ensures { result ≡ record { status = Status.Refused; text = text } }
     {
-        Outcome {
+        Reply {
             status: Status::Refused,
             text,
         }
@@ -121,7 +122,7 @@ fn still_text(
 }
 
 /// What a task that reads a trace behind the script comes to for an input.
-fn audit_outcome(alloc: Global, task: Task, input: &[u8]) -> Result<Outcome, AllocError>
+fn audit_outcome(alloc: Global, task: Task, input: &[u8]) -> Result<Reply, AllocError>
     requires traced { ReadsTrace task }
     requires short { length input.now ≤ input_limit }
     ensures { IfOk result (λ outcome. IsOutcome task input.now outcome.status outcome.text.items) }
@@ -129,12 +130,12 @@ fn audit_outcome(alloc: Global, task: Task, input: &[u8]) -> Result<Outcome, All
     let scripted = read_script(alloc, task, input)?;
     match read_plan(alloc, scripted)? {
         Reading::Lawful { ordered, .. } => trace_outcome(alloc, ordered, input),
-        Reading::Refused(text) => Ok(Outcome::refused(text)),
+        Reading::Refused(text) => Ok(Reply::refused(text)),
     }
 }
 
 /// What a task that starts no thread writes for an input. The error is want of memory.
-pub fn still_outcome(alloc: Global, task: Task, input: Vec<u8>) -> Result<Outcome, AllocError>
+pub fn still_outcome(alloc: Global, task: Task, input: Vec<u8>) -> Result<Reply, AllocError>
     requires still { IsStill task }
     requires short { length input.items ≤ input_limit }
     ensures { IfOk result (λ outcome. IsOutcome task input.items outcome.status outcome.text.items) }
@@ -149,9 +150,9 @@ pub fn still_outcome(alloc: Global, task: Task, input: Vec<u8>) -> Result<Outcom
         Reading::Lawful { ordered, turns, .. } => {
             let turns = turns.as_slice();
             let text = still_text(alloc, task, ordered, turns)?;
-            Ok(Outcome::done(text))
+            Ok(Reply::done(text))
         }
-        Reading::Refused(text) => Ok(Outcome::refused(text)),
+        Reading::Refused(text) => Ok(Reply::refused(text)),
     }
 }
 
@@ -162,7 +163,7 @@ pub fn run_outcome<R: Threads + Wait + Sync, G: Gate>(
     task: Task,
     input: Vec<u8>,
     gate: &G,
-) -> Result<Outcome, AllocError>
+) -> Result<Reply, AllocError>
     requires runs { RunsThreads task }
     requires short { length input.items ≤ input_limit }
     ensures { IfOk result (λ outcome. IsOutcome task input.items outcome.status outcome.text.items) }
@@ -172,8 +173,8 @@ pub fn run_outcome<R: Threads + Wait + Sync, G: Gate>(
     match read_plan(alloc, scripted)? {
         Reading::Lawful { ordered, from, .. } => {
             let text = run_text(rt, alloc, ordered, &from, gate)?;
-            Ok(Outcome::done(text))
+            Ok(Reply::done(text))
         }
-        Reading::Refused(text) => Ok(Outcome::refused(text)),
+        Reading::Refused(text) => Ok(Reply::refused(text)),
     }
 }

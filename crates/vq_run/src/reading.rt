@@ -4,7 +4,8 @@ ghost use Rattle.vq_model.specs.Text.{lines_of};
 ghost use Rattle.vq_model.specs.LoweringFaults.{Lowers};
 ghost use Rattle.vq_model.specs.SameScript.{IsRead};
 ghost use Rattle.vq_messages.specs.Refused.{input_limit};
-ghost use Rattle.vq_run.specs.Outcomes.{HasFaultOf, HoldsRead, IsReadFor, IsReading, IsScripted, ReadsAs};
+ghost use Rattle.vq_run.specs.Readings.{HoldsRead, IsReadFor, IsReading, IsScripted};
+ghost use Rattle.vq_run.specs.Inputs.{HasFaultOf, ReadsAs};
 ghost use Rattle.vq_run.specs.Tasks.{planned, turns_for};
 
 use crate::auditing::script_text;

@@ -2,7 +2,7 @@
 //!
 //! Source: this project's own, where an item names no other.
 ghost use Rattle.std.specs.Prelude.{◌≡◌};
-ghost use Rattle.vq_run.specs.Outcomes.{status_number};
+ghost use Rattle.vq_run.specs.Ends.{status_number};
 
 /// How a run ended. Its number is the program's exit status.
 #[derive(Clone, Copy, Debug, PartialEq, Eq)]

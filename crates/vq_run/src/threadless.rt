@@ -3,7 +3,8 @@
 //! Source: this project's own, where an item names no other.
 ghost use Rattle.std.specs.Prelude.{◌≡◌, IfSome};
 ghost use Rattle.vq_port.specs.Faults.{Rose};
-ghost use Rattle.vq_run.specs.Outcomes.{Ends, IsDoneOrMemory, IsLawfulInput, ReadsToEnd, WritesNothing};
+ghost use Rattle.vq_run.specs.Ends.{Ends, IsDoneOrMemory, ReadsToEnd, WritesNothing};
+ghost use Rattle.vq_run.specs.Readings.{IsLawfulInput};
 ghost use Rattle.vq_run.specs.Tasks.{IsStill};
 ghost use Rattle.vq_run.specs.Writes.{moment};
 

@@ -7,11 +7,12 @@ ghost use Rattle.vq_words.specs.declared.task.Task.{Task};
 ghost use Rattle.vq_words.specs.Grammar.{HasFewRounds, task_of};
 ghost use Rattle.vq_run.specs.Tasks.{RunsThreads, generated_text, input_of, reads_source};
 ghost use Rattle.vq_run.specs.Writes.{moment};
-ghost use Rattle.vq_run.specs.Outcomes.{Ends, EndsForWords, IsOutcome, ReadsToEnd, WritesNothing};
-ghost use Rattle.vq_run.specs.Outcomes.{IsDoneOrMemory, IsLawfulInput};
+ghost use Rattle.vq_run.specs.Outcomes.{IsOutcome};
+ghost use Rattle.vq_run.specs.Ends.{Ends, EndsForWords, ReadsToEnd, WritesNothing, IsDoneOrMemory};
+ghost use Rattle.vq_run.specs.Readings.{IsLawfulInput};
 
 use crate::ending::{end_unread, end_with, write};
-use crate::outcome::{Outcome, run_outcome};
+use crate::outcome::{Reply, run_outcome};
 use crate::status::Status;
 use crate::task::row_of;
 use crate::threadless::still;
@@ -75,7 +76,7 @@ fn generated_outcome<R: Threads + Wait + Sync, G: Gate>(
     task: Task,
     rounds: u32,
     gate: &G,
-) -> Result<Outcome, AllocError>
+) -> Result<Reply, AllocError>
     requires runs { RunsThreads task }
     requires few { 1 ≤ rounds }
     requires many { rounds ≤ 500 }

@@ -13,7 +13,7 @@ use Rattle.vq_model.specs.Signals.{Signaling, all_signals, signals_semaphore, va
 use Rattle.vq_model.specs.WellFormed.{AreInOrder}
 use Rattle.vq_ground.proofs.Lists.{has_cases}
 use Rattle.vq_ground.proofs.Gets.{get-map, get-range, get-append}
-use Rattle.vq_plan_laws.proofs.Cited.{well_formed, op_value_is, chain_is}
+use Rattle.vq_plan_laws.proofs.Cited.{well_formed, op_value_is, chain_is as chain_there}
 use Rattle.vq_reading_laws.proofs.Cited.{read_valid}
 use Rattle.vq_spec.specs.declared.chains.Chain.{Chain}
 use Rattle.vq_spec.specs.Counts.{unplaced}
@@ -49,7 +49,7 @@ strict_from s (e ∷ es) h = (
 pub strict_chain : (s : Script) → IsRead s → (t : ℕ) → t < length s.semaphores →
     AreStrict s (chain_ops s t)
 strict_chain s i t l = strict_from s (chain_ops s t)
-    (subst (AreInOrder (plan_of s)) (chain_is s t l)
+    (subst (AreInOrder (plan_of s)) (chain_there s t l)
     ((well_formed s (read_valid s i)).chain_order t))
 
 weak_from : (s : Script) (es : List ℕ) → AreStrict s es → AreWeak (value_at s) es

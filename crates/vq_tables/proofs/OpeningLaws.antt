@@ -11,7 +11,7 @@ use Rattle.vq_model.specs.declared.plan.PlanJob.{PlanJob}
 use Rattle.vq_model.specs.Lanes.{lane_number, KeepsLanes, KeepsSemaphores}
 use Rattle.vq_model.specs.Plan.{Plan, initial, needs, of_job, same_lane, chain, value}
 use Rattle.vq_ground.specs.Lists.{has}
-use Rattle.vq_ground.proofs.Gets.{has_at, place_in}
+use Rattle.vq_ground.proofs.Gets.{has_at, place_in as place_of}
 use Rattle.vq_ground.proofs.Lists.{has_here, has_there}
 use Rattle.std.proofs.lemmas.List.Sums.{sum_by-cons, count_by-le-length}
 use Rattle.vq_point_laws.specs.Points.{opening_points, jobs_of_lane}
@@ -264,7 +264,7 @@ once_few n (x ∷ xs) once below =
 
     by_test : (b : Bool) → has xs x ≡ b → b ≡ false
     by_test false e = refl
-    by_test true e = let p = place_in xs x e in let z = once 0 (suc p.0) x refl p.1 in absurd (omega arith)
+    by_test true e = let p = place_of xs x e in let z = once 0 (suc p.0) x refl p.1 in absurd (omega arith)
 
 pub chain_few : (p : Plan) → IsWellFormed p → (t : ℕ) → length (chain p t) ≤ length p.ops
 chain_few p wf t =

@@ -429,5 +429,3 @@ count_same first test (r ∷ rs) f = by_test (first r) refl (count_same first te
         let a = count_cons test r (without_first first rs) in
         let b = count_cons test r rs in
         ap (count_by test) (cond-false (first r) rs (r ∷ without_first first rs) e) ∙ (omega arith)
-
--- Bytes

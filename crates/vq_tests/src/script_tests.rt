@@ -3,7 +3,7 @@
 use std::alloc::{AllocError, Global};
 use vq_model::script::Script;
 use vq_model::statement::{FaultKind, Form};
-use vq_script::{ScriptFault, is_short, parse, print};
+use vq_script::{ScriptFault, is_short, parse, print, upgrade};
 
 /// The script that a text stands for.
 fn script_of(alloc: Global, text: &[u8], form: Form) -> Result<Script, ScriptFault> {
@@ -170,4 +170,21 @@ const CANONICAL: [(&str, Form, &str); 5] = [
 #[test]
 fn canonical_texts(rt: HostRuntime) {
     assert!(rt; have_canonical(rt.alloc(), &CANONICAL));
+}
+
+/// Whether the script that a text stands for has this canonical text as one of version 2.
+fn has_upgrade(alloc: Global, text: &str, canonical: &str) -> Option<bool> {
+    let script = upgrade(script_of(alloc, text.as_bytes(), Form::Plain).ok()?);
+    let printed = print(alloc, &script).ok()?;
+    Some(printed.as_slice() == canonical.as_bytes())
+}
+
+#[test]
+fn an_upgrade_is_of_version_2(rt: HostRuntime) {
+    let upgraded = has_upgrade(
+        rt.alloc(),
+        "queue  Q threaded # Q",
+        "version 2\nqueue Q threaded\n",
+    );
+    assert!(rt; upgraded == Some(true));
 }

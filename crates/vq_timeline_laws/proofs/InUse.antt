@@ -1,11 +1,10 @@
 -- Points found in use one after another: the pass has looked, and its own lists are as they were.
-use Rattle.std.proofs.Common.{◌≡◌, ℕ, List, [], ◌∷◌, ◌++◌, Option, Some, None, refl, sym, ap, ◌∙◌, subst, inl, inr}
+use Rattle.std.proofs.Common.{◌≡◌, ℕ, List, [], ◌∷◌, ◌++◌, refl, sym, ap, ◌∙◌, subst, inl, inr}
 use Rattle.vq_model.specs.Plan.{Plan}
-use Rattle.vq_point_laws.specs.Timeline.{Entry, Timeline}
+use Rattle.vq_point_laws.specs.Timeline.{Timeline}
 use Rattle.vq_board_laws.specs.declared.view.View.{View}
 use Rattle.vq_board_laws.specs.MayPoints.{MayRetire}
 use Rattle.vq_timeline_laws.specs.Shelves.{IsKept}
-use Rattle.vq_timeline_laws.specs.Calls.{FindsUnsignaled}
 use Rattle.vq_timeline_laws.specs.Waiting.{FindsInUse, FindsAllInUse}
 
 -- the pass has looked, and done nothing else
@@ -25,11 +24,6 @@ one_looked v w q (inr (n, found, changed, is)) =
 pub all_looked : (qs : List ℕ) (v w : View) → FindsAllInUse qs v w → HasLooked v w
 all_looked [] v w same = same ∙ ap (λ (z : View). record v { known = z.known; unmade = z.unmade; steps = z.steps }) (sym same)
 all_looked (q ∷ qs) v w (u, one, all) = looked_on v u w (one_looked v u q one) (all_looked qs u w all)
-
-pub first_looked : (o : Option Entry) (v w : View) → FindsUnsignaled o v w → HasLooked v w
-first_looked None v w same = same ∙ ap (λ (z : View). record v { known = z.known; unmade = z.unmade; steps = z.steps }) (sym same)
-first_looked (Some x) v w (n, un, is) =
-    is ∙ ap (λ (z : View). record v { known = z.known; unmade = z.unmade; steps = z.steps }) (sym is)
 
 -- one more
 pub found_more : (qs : List ℕ) (q : ℕ) (v u w : View) → FindsAllInUse qs v u → FindsInUse u w q →

@@ -1,8 +1,8 @@
 use Rattle.std.proofs.Common.{arith, sym, subst}
 use Rattle.std.specs.Prelude.{Ok, Err}
 use Rattle.vq_reading_laws.proofs.Cited.{few_lines}
-use Rattle.vq_run.specs.declared.outcome.Outcome.{Outcome}
-use Rattle.vq_run.specs.Outcomes.{AnswersTrace}
+use Rattle.vq_run.specs.declared.outcome.Reply.{Reply}
+use Rattle.vq_run.specs.Traced.{AnswersTrace}
 use Rattle.vq_run.proofs.TraceParts.{lines_fit_behind, read_behind, trace_read, was_read}
 use Rattle.vq_run.proofs.auditing.trace_outcome.Goals as goal
 
@@ -21,7 +21,7 @@ audit-requires c =
 
 pub returns-in-Ok : goal.returns-in-Ok
 returns-in-Ok c =
-    subst (λ (o : Outcome). AnswersTrace c.args.input.now c.args.ordered o.status o.text.items) (sym c.done.ensures)
+    subst (λ (o : Reply). AnswersTrace c.args.input.now c.args.ordered o.status o.text.items) (sym c.done.ensures)
     (record {
       given = c.in-Ok.given;
       read = trace_read c.args.input.now c.in-Some.field-0 c.in-Some.ensures.cut c.args.ordered (Ok c.in-Ok.given)
@@ -36,7 +36,7 @@ returns-in-Ok c =
 pub returns-in-Err-At : goal.returns-in-Err-At
 returns-in-Err-At c =
     let faulty = rw c.in-Err-At.field-0-is at c.in-Err-At.ensures in
-    subst (λ (o : Outcome). AnswersTrace c.args.input.now c.args.ordered o.status o.text.items) (sym c.refused.ensures) (
+    subst (λ (o : Reply). AnswersTrace c.args.input.now c.args.ordered o.status o.text.items) (sym c.refused.ensures) (
       c.in-Err-At.line,
       trace_read c.args.input.now c.in-Some.field-0 c.in-Some.ensures.cut c.args.ordered (Err c.in-Err-At.line)
           (read_behind c.args.input.now c.in-Some.field-0 c.in-Some.ensures.cut c.args.ordered c.plan.result.now

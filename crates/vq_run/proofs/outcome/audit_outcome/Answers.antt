@@ -1,5 +1,5 @@
 use Rattle.std.proofs.Common.{sym, subst}
-use Rattle.vq_run.specs.declared.outcome.Outcome.{Outcome}
+use Rattle.vq_run.specs.declared.outcome.Reply.{Reply}
 use Rattle.vq_run.specs.Outcomes.{IsOutcome}
 use Rattle.vq_run.proofs.Endings.{audits, is_cut_for, trace_came}
 use Rattle.vq_run.proofs.outcome.audit_outcome.Goals as goal
@@ -20,5 +20,5 @@ returns-in-Lawful c =
 pub returns : goal.returns
 returns c =
     let reading = c.in_ok-ordered.ensures c.args.task c.args.input.now c.requires.short c.in_ok-scripted.ensures in
-    subst (λ (o : Outcome). IsOutcome c.args.task c.args.input.now o.status o.text.items) (sym c.refused.ensures)
+    subst (λ (o : Reply). IsOutcome c.args.task c.args.input.now o.status o.text.items) (sym c.refused.ensures)
     (rw c.in-Refused.is at reading)

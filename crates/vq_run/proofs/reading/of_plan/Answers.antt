@@ -1,5 +1,5 @@
 use Rattle.std.proofs.Common.{subst, sym}
-use Rattle.vq_run.specs.Outcomes.{IsLawfulPlan}
+use Rattle.vq_run.specs.Readings.{IsLawfulPlan}
 use Rattle.vq_run.proofs.Endings.{unlawful_outcome}
 use Rattle.vq_run.proofs.reading.of_plan.Goals as goal
 

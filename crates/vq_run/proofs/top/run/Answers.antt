@@ -1,7 +1,8 @@
 use Rattle.std.proofs.Common.{◌≡◌, ℕ, List}
 use Rattle.vq_port.specs.Faults.{Rose}
 use Rattle.vq_words.specs.declared.task.Task.{Task}
-use Rattle.vq_run.specs.Outcomes.{Ends, IsDoneOrMemory, IsLawfulInput}
+use Rattle.vq_run.specs.Ends.{Ends, IsDoneOrMemory}
+use Rattle.vq_run.specs.Readings.{IsLawfulInput}
 use Rattle.vq_run.specs.Tasks.{input_of}
 use Rattle.vq_run.specs.Writes.{SinkMoment, moment}
 use Rattle.vq_run.specs.declared.status.Status.{Status}

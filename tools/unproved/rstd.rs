@@ -1,5 +1,9 @@
-//! What stands for Rattle's library in the plain Rust that bench/plain makes of the sources. Nothing here runs out of
+//! What stands for Rattle's library in the plain Rust that translating.py makes of the sources. Nothing here runs out of
 //! memory; a call that may do so in Rattle only has the type of one that may.
+
+pub use std::{cmp, error, fmt, hint, iter, mem, num, ops, slice, str, time};
+
+pub use crate::host::{env, fs, io, process, sync, thread};
 
 use std::ops::{Deref, DerefMut, Index, IndexMut};
 use std::slice::SliceIndex;
@@ -21,12 +25,35 @@ pub mod alloc {
 }
 
 pub mod marker {
+    pub use std::marker::{PhantomData, Send, Sync};
+
     pub trait Model {}
+
+    /// Of which thing something is said: it has no bytes.
+    pub type Brand = ();
+}
+
+pub mod snapshot {
+    use std::marker::PhantomData;
+
+    /// A value as it was, which only clauses see.
+    pub struct Snapshot<T>(PhantomData<fn() -> T>);
+
+    impl<T> Snapshot<T> {
+        pub fn of(_: &T) -> Snapshot<T> {
+            Snapshot(PhantomData)
+        }
+    }
 }
 
 pub mod prelude {
     pub use super::{Box, String, Vec};
+    pub use crate::host::HostRuntime;
 }
+
+/// A text in new memory.
+#[macro_export]
+macro_rules! format_in { ($alloc:expr; $($part:tt)*) => { $crate::rstd::String::written($alloc, format_args!($($part)*)) } }
 
 #[macro_export]
 macro_rules! prove { ($($condition:tt)*) => {} }
@@ -176,6 +203,18 @@ impl<T> std::borrow::Borrow<[T]> for Vec<T> {
 pub struct String(std::string::String);
 
 impl String {
+    pub fn written(_: Global, text: std::fmt::Arguments) -> Done<String> {
+        Ok(String(text.to_string()))
+    }
+    pub fn of(text: std::string::String) -> String {
+        String(text)
+    }
+    pub fn into_bytes(self) -> Vec<u8> {
+        Vec(self.0.into_bytes())
+    }
+    pub fn as_str(&self) -> &str {
+        &self.0
+    }
     pub fn from_str(_: Global, text: &str) -> Done<String> {
         Ok(String(text.to_string()))
     }
@@ -201,6 +240,8 @@ impl<T> Deref for Box<T> {
 }
 
 pub mod collections {
+    pub use std::collections::{LinkedList, VecDeque};
+
     use super::alloc::{AllocError, Global};
     use std::borrow::Borrow;
 
@@ -212,6 +253,12 @@ pub mod collections {
         }
         pub fn insert(&mut self, key: K, value: V) -> Result<Option<V>, AllocError> {
             Ok(self.0.insert(key, value))
+        }
+        pub fn contains_key<Q: Ord + ?Sized>(&self, key: &Q) -> bool
+        where
+            K: Borrow<Q>,
+        {
+            self.0.contains_key(key)
         }
         pub fn get<Q: Ord + ?Sized>(&self, key: &Q) -> Option<&V>
         where

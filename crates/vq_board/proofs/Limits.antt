@@ -1,1 +1,0 @@
--- A plan has few queues.

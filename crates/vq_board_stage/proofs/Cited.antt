@@ -1,1 +1,0 @@
--- What other crates may cite of this one.

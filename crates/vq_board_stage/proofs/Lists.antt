@@ -1,1 +1,0 @@
--- Lists of facts that are known.

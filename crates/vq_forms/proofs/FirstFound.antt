@@ -1,1 +1,0 @@
--- A search of bytes ends at the first that passes, or at their end.

@@ -1,1 +1,0 @@
--- Chains are short: their operations are counted in 32 bits.

@@ -1,1 +1,0 @@
--- Who looks tells nothing.
