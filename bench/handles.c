@@ -23,7 +23,7 @@ static double now(void)
 static unsigned long over_core(size_t length, double *took)
 {
     struct vq_handle run;
-    struct vq_turn turn;
+    struct vq_turn_result turn;
     unsigned long turns = 0;
     if (vq_open(text, length, &run).code != VQ_LAWFUL)
         exit(1);
@@ -32,12 +32,12 @@ static unsigned long over_core(size_t length, double *took)
     for (int is_left = 1; is_left;) {
         is_left = 0;
         for (uint32_t i = 0; i < count; i++, turns++) {
-            uint32_t code = vq_turn_of(&run, i, &turn);
+            enum vq_code code = vq_turn_of(&run, i, &turn);
             is_left |= code == VQ_MOVED || code == VQ_BLOCKED;
         }
     }
     *took += now() - begun;
-    vq_close(run);
+    vq_close(&run);
     return turns;
 }
 
@@ -45,7 +45,7 @@ static unsigned long over_core(size_t length, double *took)
 static unsigned long over_board(size_t length, double *took, double *asked, unsigned long asks)
 {
     struct vq_handle actors[VQ_MOST_ACTORS];
-    struct vq_turn turn;
+    struct vq_turn_result turn;
     unsigned long turns = 0;
     size_t count;
     if (vq_share(text, length, actors, VQ_MOST_ACTORS, &count).code != VQ_LAWFUL)
@@ -66,7 +66,7 @@ static unsigned long over_board(size_t length, double *took, double *asked, unsi
     *asked += now() - begun;
     for (size_t i = 0; i < count; i++)
         if (actors[i].at != NULL)
-            vq_close(actors[i]);
+            vq_close(&actors[i]);
     return turns;
 }
 

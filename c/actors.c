@@ -13,52 +13,10 @@
 #include <string.h>
 #include <time.h>
 
+#include "testing.h"
 #include "vq.h"
 
 enum { LONGEST = 1 << 23, ANSWERS = 4096, BYTES = 1 << 22, PATIENCE = 200 };
-
-#ifndef WITHOUT_REFUSALS /* the linker sends malloc and realloc here */
-
-/* Allocations until one is refused; none while this is 0. */
-static _Thread_local unsigned long left;
-
-void *__real_malloc(size_t size);
-void *__real_realloc(void *block, size_t size);
-void *__wrap_malloc(size_t size);
-void *__wrap_realloc(void *block, size_t size);
-
-static int refused(void)
-{
-    return left != 0 && --left == 0;
-}
-
-void *__wrap_malloc(size_t size)
-{
-    return refused() ? NULL : __real_malloc(size);
-}
-
-void *__wrap_realloc(void *block, size_t size)
-{
-    return refused() ? NULL : __real_realloc(block, size);
-}
-#endif
-
-#ifdef __SANITIZE_THREAD__
-/* The library isn't compiled with the sanitizer for threads, which so doesn't see the atomic steps by which the library
- * orders its copies of bytes. What this program does between two calls is seen. */
-const char *__tsan_default_suppressions(void);
-
-const char *__tsan_default_suppressions(void)
-{
-    return "race:vq_\n";
-}
-#endif
-
-static void fail(const char *name, const char *what)
-{
-    printf("%s: %s\n", name, what);
-    exit(1);
-}
 
 struct script {
     const char *name;
@@ -88,7 +46,7 @@ static void rest(unsigned long *blocked)
 static void *drive(void *of)
 {
     struct part *part = of;
-    struct vq_turn turn;
+    struct vq_turn_result turn;
     unsigned long blocked = 0;
     uint32_t code;
     while ((code = vq_turn(&part->actor, &turn)) != VQ_ENDED) {
@@ -170,20 +128,20 @@ static void misuse(const char *name, struct vq_handle *actors, size_t count)
 static void at_their_numbers(const struct script *script, const struct vq_handle *actors, size_t count)
 {
     struct vq_handle run;
-    struct vq_turn turn;
+    struct vq_turn_result turn;
     if (vq_open(script->text, script->length, &run).code != VQ_LAWFUL || vq_actors(&run) != count)
         fail(script->name, "another number of actors");
     for (uint32_t i = 0; i < VQ_MOST_ACTORS; i++)
         if ((vq_turn_of(&run, i, &turn) == VQ_NO_ACTOR) != (actors[i].at == NULL))
             fail(script->name, "an actor stands at another number");
-    vq_close(run);
+    vq_close(&run);
 }
 
 /* What isn't of the kind that a handle holds: nothing is done, and what was there stays. */
 static void of_wrong_kind(const struct script *script, struct vq_handle *actor)
 {
     struct vq_handle plan, run;
-    struct vq_turn turn, same;
+    struct vq_turn_result turn, same;
     struct vq_answered row;
     uint8_t room[1] = {0xaa};
     size_t needed = 77;
@@ -211,8 +169,8 @@ static void of_wrong_kind(const struct script *script, struct vq_handle *actor)
             fail(script->name, "handles of one script differ in a signal operation");
     if (code != VQ_NO_OP)
         fail(script->name, "another code of a signal operation");
-    vq_close(plan);
-    vq_close(run);
+    vq_close(&plan);
+    vq_close(&run);
 }
 
 /* Too little room: what goes in is written, and the number says how much there is. */
@@ -241,7 +199,7 @@ static void without_copies(const char *name, struct vq_handle *host, uint8_t *wh
     if (vq_answers(host, rows, ANSWERS, &count) != VQ_DONE)
         fail(name, "no answers");
     left = 1;
-    uint32_t code = vq_answers(host, rows, ANSWERS, &needed);
+    enum vq_code code = vq_answers(host, rows, ANSWERS, &needed);
     left = 0;
     if (count > 0 && (code != VQ_NO_MEMORY || needed != 77))
         fail(name, "answers without memory");
@@ -268,7 +226,7 @@ static void close_workers(const char *name, struct part *parts, size_t count)
             continue;
         if (vq_bytes(&parts[0].actor, 0, room, sizeof room, &needed) != VQ_SHARED)
             fail(name, "bytes while another actor is open");
-        vq_close(parts[i].actor);
+        vq_close(&parts[i].actor);
     }
 }
 
@@ -291,28 +249,28 @@ static void run(const struct script *script, struct vq_handle *actors, size_t co
         in_little_room(script->name, &parts[0].actor, room);
         without_copies(script->name, &parts[0].actor, room);
     }
-    struct vq_turn turn;
+    struct vq_turn_result turn;
     if (vq_turn(&parts[0].actor, &turn) != VQ_CLOSED || vq_finished(&parts[0].actor) != VQ_DONE)
         fail(script->name, "a run that is closed isn't at its end");
-    vq_close(parts[0].actor);
+    vq_close(&parts[0].actor);
 }
 
 /* Some turns of each actor, and then all are closed, the host first or last. */
 static void given_up(const struct script *script, int turns, int is_host_first)
 {
     struct vq_handle actors[VQ_MOST_ACTORS];
-    struct vq_turn turn;
+    struct vq_turn_result turn;
     size_t count;
     if (vq_share(script->text, script->length, actors, VQ_MOST_ACTORS, &count).code != VQ_LAWFUL)
         fail(script->name, "another verdict");
     for (int k = 0; k < turns; k++)
         for (size_t i = 0; i < count; i++)
             if (actors[i].at != NULL)
-                vq_turn(&actors[i], &turn);
+                IS(vq_turn(&actors[i], &turn) == VQ_NO_HANDLE, 0);
     for (size_t i = 0; i < count; i++) {
         size_t which = is_host_first ? i : count - 1 - i;
         if (actors[which].at != NULL)
-            vq_close(actors[which]);
+            vq_close(&actors[which]);
     }
 }
 
@@ -327,7 +285,7 @@ static void without_memory(const struct script *script)
         int came = left == 0;
         left = 0;
         if (verdict.code == VQ_LAWFUL)
-            vq_close(plan);
+            vq_close(&plan);
         if (!came)
             break;
         if (verdict.code != VQ_LAWFUL && (verdict.code != VQ_NO_MEMORY || plan.at != NULL))
@@ -343,7 +301,7 @@ static void without_memory(const struct script *script)
         if (verdict.code == VQ_LAWFUL)
             for (size_t i = 0; i < count; i++)
                 if (actors[i].at != NULL)
-                    vq_close(actors[i]);
+                    vq_close(&actors[i]);
         if (!came)
             return;
         if (verdict.code != VQ_LAWFUL && (verdict.code != VQ_NO_MEMORY || actors[0].at != NULL || count != 77))

@@ -12,8 +12,9 @@ static pthread_cond_t moved = PTHREAD_COND_INITIALIZER;
 /* The turns of an actor until it has ended. Who is blocked waits until another actor has moved. */
 static void *turns(void *of)
 {
-    uint32_t actor = *(uint32_t *)of, code;
-    struct vq_turn turn;
+    uint32_t actor = *(uint32_t *)of;
+    enum vq_code code;
+    struct vq_turn_result turn;
     pthread_mutex_lock(&mutex);
     while ((code = vq_turn_of(&run, actor, &turn)) == VQ_MOVED || code == VQ_BLOCKED) {
         if (code == VQ_MOVED) {
@@ -50,7 +51,7 @@ int main(void)
     size_t needed;
     for (uint32_t buffer = 0; vq_bytes(&run, buffer, bytes, sizeof bytes, &needed) == VQ_DONE; buffer++)
         printf("buffer %u begins with %02x\n", (unsigned)buffer, bytes[0]);
-    vq_close(run);
+    vq_close(&run);
     free(numbers);
     free(threads);
     return 0;

@@ -4,7 +4,7 @@
 
 #include "vq_live.h"
 
-static struct vq_live timeline; /* the driver's lock is held round each call */
+static struct vq_live timeline; /* none yet; the driver's lock is held round each call */
 static int syncs[16];           /* the binary syncs by point: a driver's array grows when a take gives a greater one */
 
 /* Mesa's gc_locked: completes the pending operations whose syncs are signaled. */
@@ -16,10 +16,10 @@ static void collect(void)
 }
 
 /* Mesa's alloc_point_locked: a point for a value, its sync reset. */
-static uint32_t take(uint64_t value, struct vq_live_given *given)
+static enum vq_live_code take(uint64_t value, struct vq_live_given *given)
 {
     collect();
-    uint32_t code = vq_live_take(&timeline, value, given);
+    enum vq_live_code code = vq_live_take(&timeline, value, given);
     if (code == VQ_LIVE_DONE) {
         syncs[given->point] = 0; /* where this fails: vq_live_cancel(&timeline, given) */
         printf("value %" PRIu64 ": point %" PRIu32 "\n", value, given->point);
@@ -28,7 +28,7 @@ static uint32_t take(uint64_t value, struct vq_live_given *given)
 }
 
 /* Mesa's point_install, before the work is handed to the device. */
-static uint32_t submit(struct vq_live_given given)
+static enum vq_live_code submit(struct vq_live_given given)
 {
     struct vq_live_given next;
     return vq_live_install(&timeline, &given, &next);
@@ -38,7 +38,7 @@ static uint32_t submit(struct vq_live_given given)
 static void wait_for(uint64_t value)
 {
     struct vq_live_given at;
-    uint32_t code;
+    enum vq_live_code code;
     for (collect(); (code = vq_live_find(&timeline, value, &at)) != VQ_LIVE_PAST; collect()) {
         if (code == VQ_LIVE_NOT_YET)
             return; /* a driver waits here until something is installed */
@@ -68,6 +68,6 @@ int main(void)
     if (take(4, &three) != VQ_LIVE_DONE || submit(three) != VQ_LIVE_DONE)
         return 1;
     wait_for(3);
-    vq_live_close(timeline);
+    vq_live_close(&timeline);
     return 0;
 }

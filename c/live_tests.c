@@ -8,50 +8,17 @@
 #include <stdio.h>
 #include <stdlib.h>
 #include <string.h>
+#include <sys/mman.h>
 
+#include "testing.h"
 #include "vq_live.h"
 
-#ifndef WITHOUT_REFUSALS /* the linker sends malloc and realloc here */
+#define IS_GIVEN(got, value, point) is_given(__FILE__, __LINE__, (got), (value), (point))
 
-/* Allocations until one is refused; none while this is 0. */
-static unsigned long left;
-
-void *__real_malloc(size_t size);
-void *__real_realloc(void *block, size_t size);
-void *__wrap_malloc(size_t size);
-void *__wrap_realloc(void *block, size_t size);
-
-static int refused(void)
+static void is_given(const char *file, int line, struct vq_live_given got, uint64_t value, uint32_t point)
 {
-    return left != 0 && --left == 0;
-}
-
-void *__wrap_malloc(size_t size)
-{
-    return refused() ? NULL : __real_malloc(size);
-}
-
-void *__wrap_realloc(void *block, size_t size)
-{
-    return refused() ? NULL : __real_realloc(block, size);
-}
-#endif
-
-#define IS(got, wanted) is(__LINE__, (uint64_t)(got), (uint64_t)(wanted))
-#define IS_GIVEN(got, value, point) is_given(__LINE__, (got), (value), (point))
-
-static void is(int line, uint64_t got, uint64_t wanted)
-{
-    if (got == wanted)
-        return;
-    printf("live_tests.c:%d: got %" PRIu64 ", wanted %" PRIu64 "\n", line, got, wanted);
-    exit(1);
-}
-
-static void is_given(int line, struct vq_live_given got, uint64_t value, uint32_t point)
-{
-    is(line, got.value, value);
-    is(line, got.point, point);
+    is(file, line, got.value, value);
+    is(file, line, got.point, point);
 }
 
 static struct vq_live_given given(uint64_t value, uint32_t point)
@@ -209,7 +176,7 @@ static void each_call(void)
     the_host_signals(&timeline);
     points_are_held(&timeline);
     points_are_used_again(&timeline);
-    vq_live_close(timeline);
+    vq_live_close(&timeline);
 }
 
 /* Two timelines are free of one another, and a value may be as great as there are. */
@@ -227,9 +194,9 @@ static void two_timelines(void)
     IS(vq_live_signal(&other, UINT64_MAX, &known), VQ_LIVE_NOT_ABOVE);
     IS(known, UINT64_MAX);
     IS(vq_live_value(&one), 0);
-    vq_live_close(other);
+    vq_live_close(&other);
     IS(install(&one, 1, 0), VQ_LIVE_DONE);
-    vq_live_close(one);
+    vq_live_close(&one);
 }
 
 /* The three orders. The syncs of points, which the device signals. */
@@ -269,7 +236,7 @@ static void ends(struct vq_live timeline, int is_installed, uint64_t value)
         IS(install(&timeline, 1, 0), VQ_LIVE_ALREADY);
     collect(&timeline, 1);
     IS(vq_live_value(&timeline), value);
-    vq_live_close(timeline);
+    vq_live_close(&timeline);
 }
 
 /* A fence's wait, then a read: it is 1, where the read gave 0. */
@@ -325,7 +292,7 @@ static void late_without_help(void)
     IS(vq_live_signal(&timeline, 2, &known), VQ_LIVE_DONE);
     IS(vq_live_find(&timeline, 2, &g), VQ_LIVE_PAST);
     IS(vq_live_value(&timeline), 2);
-    vq_live_close(timeline);
+    vq_live_close(&timeline);
 }
 
 /* The helped operation's point carries a later one by the time of the late install: that is refused all the same. */
@@ -340,7 +307,7 @@ static void late_where_the_point_is_used_again(void)
     IS(vq_live_least_taken(&timeline, &g), VQ_LIVE_DONE);
     IS_GIVEN(g, 2, 0);
     IS(vq_live_value(&timeline), 1);
-    vq_live_close(timeline);
+    vq_live_close(&timeline);
 }
 
 /* A wait that is abandoned with its reference holds back no value, where the walk over the points ended at it. */
@@ -361,7 +328,7 @@ static void a_reference_holds_nothing_back(void)
     IS(taken(&timeline, 6), 3);
     IS(vq_live_unref(&timeline, 0), VQ_LIVE_DONE);
     IS(taken(&timeline, 7), 0);
-    vq_live_close(timeline);
+    vq_live_close(&timeline);
 }
 
 #ifndef WITHOUT_REFUSALS
@@ -379,7 +346,7 @@ static int takes_without_memory(unsigned long n)
         IS(vq_live_open(0, &timeline), VQ_LIVE_DONE);
     }
     for (uint64_t value = 1; value <= 100; value++) {
-        uint32_t code = vq_live_take(&timeline, value, &g);
+        enum vq_live_code code = vq_live_take(&timeline, value, &g);
         if (code == VQ_LIVE_NO_MEMORY) {
             IS_GIVEN(g, BEFORE, 77);
             refusals++;
@@ -391,7 +358,7 @@ static int takes_without_memory(unsigned long n)
     }
     IS(refusals, left == 0);
     left = 0;
-    vq_live_close(timeline);
+    vq_live_close(&timeline);
     return refusals != 0;
 }
 
@@ -416,7 +383,7 @@ static void the_others_want_none(void)
     }
     IS(left, 1);
     left = 0;
-    vq_live_close(timeline);
+    vq_live_close(&timeline);
 }
 
 static void without_memory(void)
@@ -440,11 +407,104 @@ static void all_references(void)
     IS(vq_live_refer(&timeline, 0), VQ_LIVE_FULL);
     IS(vq_live_unref(&timeline, 0), VQ_LIVE_DONE);
     IS(vq_live_refer(&timeline, 0), VQ_LIVE_DONE);
-    vq_live_close(timeline);
+    vq_live_close(&timeline);
+}
+
+/* Of a struct that holds no timeline each call says so, and leaves its output; and it is closed again and again. */
+static void none_is_open(struct vq_live *t)
+{
+    const struct vq_live_given one = given(1, 0), untouched = before();
+    struct vq_live_given g = before();
+    uint64_t known = BEFORE;
+    IS(vq_live_take(t, 1, &g), VQ_LIVE_NO_HANDLE);
+    IS(vq_live_install(t, &one, &g), VQ_LIVE_NO_HANDLE);
+    IS(vq_live_cancel(t, &one), VQ_LIVE_NO_HANDLE);
+    IS(vq_live_complete(t, &g), VQ_LIVE_NO_HANDLE);
+    IS(vq_live_find(t, 1, &g), VQ_LIVE_NO_HANDLE);
+    IS(vq_live_refer(t, 0), VQ_LIVE_NO_HANDLE);
+    IS(vq_live_unref(t, 0), VQ_LIVE_NO_HANDLE);
+    IS(vq_live_signal(t, 1, &known), VQ_LIVE_NO_HANDLE);
+    IS(vq_live_value(t), 0);
+    IS(vq_live_first(t, &g), VQ_LIVE_NO_HANDLE);
+    IS(vq_live_least_taken(t, &g), VQ_LIVE_NO_HANDLE);
+    IS(memcmp(&g, &untouched, sizeof g), 0);
+    IS(known, BEFORE);
+    vq_live_close(t);
+    IS(t->at == NULL, 1);
+}
+
+static void never_opened_and_closed(void)
+{
+    struct vq_live timeline = VQ_LIVE_NONE;
+    none_is_open(&timeline);
+    for (int times = 0; times < 2; times++) {
+        IS(vq_live_open(7, &timeline), VQ_LIVE_DONE);
+        IS(taken(&timeline, 8), 0);
+        vq_live_close(&timeline);
+        none_is_open(&timeline);
+    }
+}
+
+/* A call that is refused, or tells nothing, leaves each byte of its output, and the calls that ask write nothing else: they
+ * are answered from a page that can't be written. */
+static void questions_write_nothing(void)
+{
+    enum { PAGE = 4096 };
+    struct vq_live *t = aligned_alloc(PAGE, PAGE);
+    struct vq_live_given g, untouched, six = given(6, 0);
+    memset(&untouched, 0xaa, sizeof untouched);
+    g = untouched;
+    memset(&g, 0xaa, sizeof g);
+    IS(t != NULL, 1);
+    IS(vq_live_open(5, t), VQ_LIVE_DONE);
+    IS(vq_live_install(t, &six, &g), VQ_LIVE_NOTHING_TAKEN);
+    IS(taken(t, 6), 0);
+    IS(vq_live_take(t, 6, &g), VQ_LIVE_TWICE);
+    IS(vq_live_install(t, &six, &g), VQ_LIVE_DONE);
+    IS(mprotect(t, PAGE, PROT_READ), 0);
+    IS(vq_live_find(t, 5, &g), VQ_LIVE_PAST);
+    IS(vq_live_find(t, 7, &g), VQ_LIVE_NOT_YET);
+    IS(vq_live_least_taken(t, &g), VQ_LIVE_NOTHING_TAKEN);
+    IS(memcmp(&g, &untouched, sizeof g), 0);
+    IS(vq_live_value(t), 5);
+    IS(vq_live_find(t, 6, &g), VQ_LIVE_PENDING);
+    IS_GIVEN(g, 6, 0);
+    g = before();
+    IS(vq_live_first(t, &g), VQ_LIVE_DONE);
+    IS_GIVEN(g, 6, 0);
+    IS(mprotect(t, PAGE, PROT_READ | PROT_WRITE), 0);
+    vq_live_close(t);
+    free(t);
+}
+
+/* What VQ_LIVE_ALREADY doesn't say: a cancelled operation below the pending value, and one that was never taken. */
+static void already_is_of_values(void)
+{
+    struct vq_live timeline;
+    struct vq_live_given zero = given(0, 0);
+    IS(vq_live_open(0, &timeline), VQ_LIVE_DONE);
+    IS(vq_live_cancel(&timeline, &zero), VQ_LIVE_ALREADY);
+    IS(taken(&timeline, 5), 0);
+    IS(taken(&timeline, 6), 1);
+    IS(cancel(&timeline, 5, 0), VQ_LIVE_DONE);
+    IS(install(&timeline, 6, 1), VQ_LIVE_DONE);
+    IS(install(&timeline, 5, 0), VQ_LIVE_ALREADY);
+    vq_live_close(&timeline);
+}
+
+static void words_and_version(void)
+{
+    IS(vq_live_version(), VQ_LIVE_VERSION);
+    IS(strcmp(vq_live_words(VQ_LIVE_NOT_YET), "no pending operation reaches the value yet"), 0);
+    IS(strcmp(vq_live_words((enum vq_live_code)999), "no such code"), 0);
 }
 
 int main(int argc, char **argv)
 {
+    words_and_version();
+    never_opened_and_closed();
+    questions_write_nothing();
+    already_is_of_values();
     each_call();
     two_timelines();
     for (int is_installed = 0; is_installed <= 1; is_installed++) {

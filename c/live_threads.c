@@ -266,7 +266,7 @@ static void wait_until(uint64_t value)
     struct vq_live_given at;
     for (;;) {
         collect();
-        uint32_t code = vq_live_find(&timeline, value, &at);
+        enum vq_live_code code = vq_live_find(&timeline, value, &at);
         if (code == VQ_LIVE_PAST)
             break;
         if (code == VQ_LIVE_NOT_YET) {
@@ -364,7 +364,7 @@ static void end(void)
     for (uint32_t i = 0; i < POINTS; i++)
         if (carries[i] != 0 || held[i] != 0)
             fail("a point is in use at the end", i);
-    vq_live_close(timeline);
+    vq_live_close(&timeline);
 }
 
 /* One more operation, so that the last value is one that is reached; the waiters and the host end there. */

@@ -12,41 +12,10 @@
 #include <stdlib.h>
 #include <string.h>
 
+#include "testing.h"
 #include "vq.h"
 
 enum { LONGEST = 1 << 23, THREADS = 9, ANSWERS = 4096, BYTES = 1 << 22 };
-
-#ifndef WITHOUT_REFUSALS /* the linker sends malloc and realloc here */
-
-/* Allocations until one is refused; none while this is 0. */
-static _Thread_local unsigned long left;
-
-void *__real_malloc(size_t size);
-void *__real_realloc(void *block, size_t size);
-void *__wrap_malloc(size_t size);
-void *__wrap_realloc(void *block, size_t size);
-
-static int refused(void)
-{
-    return left != 0 && --left == 0;
-}
-
-void *__wrap_malloc(size_t size)
-{
-    return refused() ? NULL : __real_malloc(size);
-}
-
-void *__wrap_realloc(void *block, size_t size)
-{
-    return refused() ? NULL : __real_realloc(block, size);
-}
-#endif
-
-static void fail(const char *name, const char *what)
-{
-    printf("%s: %s\n", name, what);
-    exit(1);
-}
 
 struct shared {
     const char *name;
@@ -64,9 +33,9 @@ struct part {
 /* A turn of an actor with the mutex held. Who is blocked waits until some actor has moved. */
 static uint32_t one_turn(struct shared *shared, uint32_t actor)
 {
-    struct vq_turn turn;
+    struct vq_turn_result turn;
     pthread_mutex_lock(&shared->mutex);
-    uint32_t code = vq_turn_of(&shared->run, actor, &turn);
+    enum vq_code code = vq_turn_of(&shared->run, actor, &turn);
     if (code == VQ_MOVED) {
         shared->moves++;
         pthread_cond_broadcast(&shared->moved);
@@ -154,7 +123,7 @@ static void run(struct shared *shared)
 /* Each code that misuse has: nothing is done, and what was there stays. */
 static void misuse(struct shared *shared)
 {
-    struct vq_turn turn, same;
+    struct vq_turn_result turn, same;
     struct vq_signal signal;
     uint8_t room[1] = {0xaa};
     size_t needed = 77;
@@ -196,7 +165,7 @@ static void without_memory(const char *name, const uint8_t *text, size_t length)
         int came = left == 0;
         left = 0;
         if (verdict.code == VQ_LAWFUL)
-            vq_close(run);
+            vq_close(&run);
         if (!came)
             return;
         if (verdict.code != VQ_LAWFUL && (verdict.code != VQ_NO_MEMORY || run.at != NULL))
@@ -233,13 +202,55 @@ static void test(int times, const char *name, uint8_t *bytes, uint8_t *room)
         print(&shared, (const char *)bytes, room);
         if (time == 0)
             in_little_room(&shared, room);
-        vq_close(shared.run);
+        vq_close(&shared.run);
     }
     without_memory(name, bytes, length);
 }
 
+/* Of a handle that holds nothing each call says so, and leaves its output. */
+static void nothing_is_open(struct vq_handle *handle)
+{
+    struct vq_turn_result turn, turn_before;
+    struct vq_signal signal, signal_before;
+    struct vq_answered answered, answered_before;
+    uint8_t byte = 77;
+    size_t needed = 77;
+    memset(&turn, 0xaa, sizeof turn);
+    memset(&turn_before, 0xaa, sizeof turn);
+    memset(&signal, 0xaa, sizeof signal);
+    memset(&signal_before, 0xaa, sizeof signal);
+    memset(&answered, 0xaa, sizeof answered);
+    memset(&answered_before, 0xaa, sizeof answered);
+    IS(vq_turn(handle, &turn), VQ_NO_HANDLE);
+    IS(vq_turn_of(handle, 0, &turn), VQ_NO_HANDLE);
+    IS(vq_op(handle, 0, &signal), VQ_NO_HANDLE);
+    IS(vq_finished(handle), VQ_NO_HANDLE);
+    IS(vq_answers(handle, &answered, 1, &needed), VQ_NO_HANDLE);
+    IS(vq_bytes(handle, 0, &byte, 1, &needed), VQ_NO_HANDLE);
+    IS(vq_actors(handle), 0);
+    IS(vq_line(handle, 0), 0);
+    IS(memcmp(&turn, &turn_before, sizeof turn), 0);
+    IS(memcmp(&signal, &signal_before, sizeof signal), 0);
+    IS(memcmp(&answered, &answered_before, sizeof answered), 0);
+    IS(byte == 77 && needed == 77, 1);
+    vq_close(handle);
+    IS(handle->at == NULL, 1);
+}
+
+static void never_opened_and_closed(void)
+{
+    static const uint8_t text[] = "queue q immediate\n";
+    struct vq_handle handle = VQ_NOTHING;
+    nothing_is_open(&handle);
+    IS(vq_open(text, sizeof text - 1, &handle).code, VQ_LAWFUL);
+    vq_close(&handle);
+    nothing_is_open(&handle);
+    IS(strcmp(vq_words(VQ_NO_HANDLE), "nothing is open at the handle: it was never opened, or is closed"), 0);
+}
+
 int main(int argc, char **argv)
 {
+    never_opened_and_closed();
     uint8_t *bytes = malloc(LONGEST), *room = malloc(BYTES);
     if (bytes == NULL || room == NULL)
         fail("runs", "no memory");

@@ -9,8 +9,8 @@
 static void *turns(void *of)
 {
     struct vq_handle *actor = of;
-    struct vq_turn turn;
-    uint32_t code;
+    struct vq_turn_result turn;
+    enum vq_code code;
     while ((code = vq_turn(actor, &turn)) != VQ_ENDED) {
         if (code == VQ_MOVED) {
             /* here a driver makes the step that turn.kind names; others may know of it already (docs/C.md) */
@@ -43,9 +43,9 @@ int main(void)
             pthread_join(threads[i], NULL);
     for (size_t i = 1; i < count; i++)
         if (actors[i].at != NULL)
-            vq_close(actors[i]);
+            vq_close(&actors[i]);
     for (uint32_t buffer = 0; vq_bytes(&actors[0], buffer, bytes, sizeof bytes, &needed) == VQ_DONE; buffer++)
         printf("buffer %u begins with %02x\n", (unsigned)buffer, bytes[0]);
-    vq_close(actors[0]);
+    vq_close(&actors[0]);
     return 0;
 }

@@ -6,41 +6,10 @@
 #include <stdlib.h>
 #include <string.h>
 
+#include "testing.h"
 #include "vq.h"
 
 enum { LONGEST = 1 << 23, THREADS = 4, ROUNDS = 3, WORDS = 512 };
-
-/* Allocations until one is refused; none while this is 0. */
-static _Thread_local unsigned long left;
-
-#ifndef WITHOUT_REFUSALS /* the linker sends malloc and realloc here */
-
-void *__real_malloc(size_t size);
-void *__real_realloc(void *block, size_t size);
-void *__wrap_malloc(size_t size);
-void *__wrap_realloc(void *block, size_t size);
-
-static int refused(void)
-{
-    return left != 0 && --left == 0;
-}
-
-void *__wrap_malloc(size_t size)
-{
-    return refused() ? NULL : __real_malloc(size);
-}
-
-void *__wrap_realloc(void *block, size_t size)
-{
-    return refused() ? NULL : __real_realloc(block, size);
-}
-#endif
-
-static void fail(const char *name, const char *what)
-{
-    printf("%s: %s\n", name, what);
-    exit(1);
-}
 
 static int same(struct vq_verdict a, struct vq_verdict b)
 {
@@ -135,8 +104,8 @@ static void test(const char *name, uint8_t *bytes)
 
 int main(int argc, char **argv)
 {
-    struct vq_version version = vq_version();
-    if (version.face != 3 || version.script != 2)
+    struct vq_versions version = vq_version();
+    if (version.face != 4 || version.script != 2)
         fail("vq_version", "another version");
     uint8_t *bytes = malloc(LONGEST);
     if (bytes == NULL)

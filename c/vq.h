@@ -2,14 +2,14 @@
  * scripts, whose actors a program drives from threads of its own: over one core, one call at a time, or over a board that
  * the threads share.
  *
- * Link with libvq_c.a and with an allocator: rattle_alloc, rattle_realloc and rattle_dealloc, as the kit's liblibc_c.a
- * has them over malloc, realloc and free.
+ * Link with libvq_c.a and with an allocator: the kit's liblibc_c.a, or the three functions of vq_alloc.h. A shared object
+ * is linked with -Wl,--exclude-libs,ALL, so that it keeps these names to itself.
  *
- * What a caller owes, in each call, and nothing checks: pointers are valid and not null, also at length 0; the text
- * doesn't change during the call, and the room isn't read or written by anybody else; malloc, realloc and free are of
- * one allocator and align to 16 bytes. A call may come from any thread, not from a signal handler, and not in the
- * child of a fork of a process with threads. No call waits, starts a thread, or ends the process, and only vq_plan,
- * vq_open and vq_share keep something, until vq_close.
+ * What a caller owes, in each call, and nothing checks: pointers are valid and not null, also at length 0, and what they
+ * lead to doesn't overlap; the text doesn't change during the call, and the room isn't read or written by anybody else. A
+ * call may come from any thread, not from a signal handler, and not in the child of a fork of a process with threads. No
+ * call waits, starts a thread, or ends the process, and only vq_plan, vq_open and vq_share keep something, until vq_close.
+ * An output is written only where the call says so, and else not touched.
  */
 #ifndef VQ_H
 #define VQ_H
@@ -19,6 +19,15 @@
 
 #ifdef __cplusplus
 extern "C" {
+#endif
+
+/* For compilers that know these: no pointer is null, and the answer isn't dropped. */
+#if defined(__GNUC__)
+#define VQ_CALL __attribute__((nonnull))
+#define VQ_ASK __attribute__((nonnull, warn_unused_result))
+#else
+#define VQ_CALL
+#define VQ_ASK
 #endif
 
 /* The codes: made of codes.txt. */
@@ -55,7 +64,80 @@ enum vq_code {
     VQ_SHARED = 87,         /* other actors' handles are open still: nothing was done */
     VQ_WRONG_KIND = 88,     /* the handle holds something of another kind: nothing was done */
     VQ_CLOSED = 89,         /* the board is closed: nothing was done */
+    VQ_NO_HANDLE = 90       /* nothing is open at the handle: it was never opened, or is closed */
 };
+
+/* What a number of enum vq_code says. */
+static inline const char *vq_words(enum vq_code code)
+{
+    switch (code) {
+    case VQ_LAWFUL:
+        return "the script is lawful; or the call did what it says";
+    case VQ_NO_MEMORY:
+        return "there was no memory";
+    case VQ_TOO_LONG:
+        return "the text has more than 4,194,304 bytes";
+    case VQ_SYNTAX:
+        return "no line of this place has these words";
+    case VQ_ORDER:
+        return "the line stands too late";
+    case VQ_NUMBER:
+        return "a numeral is missing or too great";
+    case VQ_NAME:
+        return "a name isn't declared, or is of another kind";
+    case VQ_TWICE:
+        return "a name is declared again";
+    case VQ_RANGE:
+        return "a size or a range doesn't fit";
+    case VQ_OVERLAP:
+        return "the two ranges of a copy share a byte";
+    case VQ_LIMIT:
+        return "one too many, or too large";
+    case VQ_NO_SIGNAL:
+        return "a wait of a binary semaphore has no signal";
+    case VQ_SIGNALED_TWICE:
+        return "a binary semaphore is signaled twice with no wait between";
+    case VQ_FENCE_USED:
+        return "a fence is used again without a reset";
+    case VQ_UNREACHABLE:
+        return "a wait is never reached";
+    case VQ_UNORDERED:
+        return "two signals of a timeline are in no sure order";
+    case VQ_FENCE_BUSY:
+        return "a fence is reset that may be in use";
+    case VQ_NOT_PENDING:
+        return "a wait of an immediate queue may not be pending";
+    case VQ_RACE:
+        return "commands of two batches share a byte, in no sure order";
+    case VQ_MOVED:
+        return "the turn made an event";
+    case VQ_BLOCKED:
+        return "the actor waits for something: nothing was done";
+    case VQ_ENDED:
+        return "nothing of the actor is left to do";
+    case VQ_NO_ACTOR:
+        return "no actor has this number: nothing was done";
+    case VQ_NO_OP:
+        return "the plan has no such signal operation";
+    case VQ_NO_BUFFER:
+        return "the plan has no such buffer";
+    case VQ_UNFINISHED:
+        return "not all jobs are finished yet";
+    case VQ_NO_ROOM:
+        return "the room is too small: it was filled, and the rest left out";
+    case VQ_NOT_HOST:
+        return "the handle isn't the host's: nothing was done";
+    case VQ_SHARED:
+        return "other actors' handles are open still: nothing was done";
+    case VQ_WRONG_KIND:
+        return "the handle holds something of another kind: nothing was done";
+    case VQ_CLOSED:
+        return "the board is closed: nothing was done";
+    case VQ_NO_HANDLE:
+        return "nothing is open at the handle: it was never opened, or is closed";
+    }
+    return "no such code";
+}
 
 enum vq_event {
     VQ_EVENT_SUBMIT = 1,   /* a batch was submitted */
@@ -71,8 +153,44 @@ enum vq_event {
     VQ_EVENT_APPLY = 11,   /* a command was applied to the buffers */
     VQ_EVENT_SIGNAL = 12,  /* a signal operation was signaled */
     VQ_EVENT_FINISH = 13,  /* a batch or a host step was finished */
-    VQ_EVENT_ANSWER = 14,  /* a host step was answered */
+    VQ_EVENT_ANSWER = 14   /* a host step was answered */
 };
+
+/* What a number of enum vq_event says. */
+static inline const char *vq_event_words(enum vq_event code)
+{
+    switch (code) {
+    case VQ_EVENT_SUBMIT:
+        return "a batch was submitted";
+    case VQ_EVENT_TAKE:
+        return "a signal operation was given a point";
+    case VQ_EVENT_RELEASE:
+        return "a batch was released to its queue";
+    case VQ_EVENT_BIND:
+        return "a signal operation was bound to its point: it is pending";
+    case VQ_EVENT_REFER:
+        return "the actor refers to a point";
+    case VQ_EVENT_LOOK:
+        return "the actor saw a point signaled";
+    case VQ_EVENT_UNREF:
+        return "the actor gave back a reference";
+    case VQ_EVENT_COMPLETE:
+        return "a signal operation is past";
+    case VQ_EVENT_FREE:
+        return "a point was freed";
+    case VQ_EVENT_START:
+        return "a batch or a host step was started";
+    case VQ_EVENT_APPLY:
+        return "a command was applied to the buffers";
+    case VQ_EVENT_SIGNAL:
+        return "a signal operation was signaled";
+    case VQ_EVENT_FINISH:
+        return "a batch or a host step was finished";
+    case VQ_EVENT_ANSWER:
+        return "a host step was answered";
+    }
+    return "no such code";
+}
 
 enum vq_want {
     VQ_WANT_SUBMITTED = 1,   /* a batch is submitted */
@@ -83,62 +201,106 @@ enum vq_want {
     VQ_WANT_FINISHED = 6,    /* a job is finished */
     VQ_WANT_MEMORY_TURN = 7, /* the buffers are free */
     VQ_WANT_EXCHANGE = 8,    /* the word of a point wasn't changed just then */
-    VQ_WANT_LISTED = 9,      /* the lists of a chain are free */
+    VQ_WANT_LISTED = 9       /* the lists of a chain are free */
 };
+
+/* What a number of enum vq_want says. */
+static inline const char *vq_want_words(enum vq_want code)
+{
+    switch (code) {
+    case VQ_WANT_SUBMITTED:
+        return "a batch is submitted";
+    case VQ_WANT_RELEASED:
+        return "a batch is released";
+    case VQ_WANT_BOUND:
+        return "a signal operation is pending";
+    case VQ_WANT_NEXT:
+        return "a signal operation is pending that another one follows";
+    case VQ_WANT_SIGNALED:
+        return "a signal operation is signaled";
+    case VQ_WANT_FINISHED:
+        return "a job is finished";
+    case VQ_WANT_MEMORY_TURN:
+        return "the buffers are free";
+    case VQ_WANT_EXCHANGE:
+        return "the word of a point wasn't changed just then";
+    case VQ_WANT_LISTED:
+        return "the lists of a chain are free";
+    }
+    return "no such code";
+}
 
 enum vq_answer {
     VQ_ANSWER_REACHED = 1,   /* ok */
     VQ_ANSWER_TIMEOUT = 2,   /* timeout */
     VQ_ANSWER_NOT_READY = 3, /* not-ready */
-    VQ_ANSWER_VALUE = 4,     /* value, and the payload that was read */
+    VQ_ANSWER_VALUE = 4      /* value, and the payload that was read */
 };
+
+/* What a number of enum vq_answer says. */
+static inline const char *vq_answer_words(enum vq_answer code)
+{
+    switch (code) {
+    case VQ_ANSWER_REACHED:
+        return "ok";
+    case VQ_ANSWER_TIMEOUT:
+        return "timeout";
+    case VQ_ANSWER_NOT_READY:
+        return "not-ready";
+    case VQ_ANSWER_VALUE:
+        return "value, and the payload that was read";
+    }
+    return "no such code";
+}
 /* The end of the codes. */
 
 /* A code, and the lines that it speaks of, counted from 1; 0 where there is none. */
 struct vq_verdict {
-    uint32_t code;
+    enum vq_code code;
     uint32_t first;
     uint32_t second;
 };
 
 /* The version of this face, and the latest version of scripts that it reads. */
-struct vq_version {
+struct vq_versions {
     uint32_t face;
     uint32_t script;
 };
 
 /* The version. It can't fail. */
-struct vq_version vq_version(void);
+struct vq_versions vq_version(void);
 
 /* Whether the script that a text holds is lawful, and if not, its first fault. Any bytes may be passed. VQ_NO_MEMORY
  * comes where an allocation was refused; then nothing is said of the text. */
-struct vq_verdict vq_check(const uint8_t *text, size_t length);
+VQ_ASK struct vq_verdict vq_check(const uint8_t *text, size_t length);
 
 /* The same, and in words: `lawful`, or the line that refuses the text and a line that begins with `mend: `. So many
  * bytes of these words as go into the room are written there, with no zero behind them; `*needed` is how many there
  * are. The rest of the room stays as it is. */
-struct vq_verdict vq_explain(const uint8_t *text, size_t length, uint8_t *room, size_t size, size_t *needed);
+VQ_CALL struct vq_verdict vq_explain(const uint8_t *text, size_t length, uint8_t *room, size_t size, size_t *needed);
 
 /* What a program holds of a lawful script: a plan (vq_plan), a run of it over one core with all its actors (vq_open), or
  * one actor of a run over a board, with its share of the board and its timelines (vq_share). These write `at`, and
- * vq_close ends what is there. A call that isn't of a handle's kind answers VQ_WRONG_KIND, and does nothing.
+ * vq_close ends what is there. A call that isn't of a handle's kind answers VQ_WRONG_KIND, and does nothing. A zeroed
+ * handle (VQ_NOTHING) holds nothing, and so does a closed one: calls answer VQ_NO_HANDLE, and vq_close does nothing.
  *
- * What a caller owes of a handle, and nothing checks: each call is given one that was opened and isn't closed, as it was
- * written; two structs don't stand for one handle; calls on one handle are made one at a time, and where it moves to
- * another thread, a lock, a join or the like stands between. So where several threads drive the actors of one run over
- * one core, a mutex is held round each call; turns of actors with handles of their own may be taken at the same time,
- * from any threads, with nothing held round them: no call waits for another, and none wakes one. Runs are free of one
- * another.
+ * What a caller owes of a handle, and nothing checks: each call is given one as it was last written; two structs don't
+ * stand for one handle; calls on one handle are made one at a time, and where it moves to another thread, a lock, a join
+ * or the like stands between. So where several threads drive the actors of one run over one core, a mutex is held round
+ * each call; turns of actors with handles of their own may be taken at the same time, from any threads, with nothing held
+ * round them: no call waits for another, and none wakes one. Runs are free of one another. The calls whose handle is
+ * `const` write nothing but their output.
  */
 struct vq_handle {
     void *at;
 };
+#define VQ_NOTHING {0}
 
 /* What a turn made (VQ_MOVED; `kind` is of enum vq_event), or what the actor waits for (VQ_BLOCKED; `kind` is of enum
  * vq_want). Numbers that it doesn't speak of are VQ_NONE. `more` is 1 where VQ_EVENT_TAKE gives a new point, and of
  * enum vq_answer for VQ_EVENT_ANSWER, where `value` is the payload that was read. */
 #define VQ_NONE UINT32_MAX
-struct vq_turn {
+struct vq_turn_result {
     uint32_t kind;
     uint32_t job;     /* a batch or a step of the host; vq_line has its line */
     uint32_t op;      /* a signal operation; vq_op has what it signals */
@@ -158,19 +320,19 @@ struct vq_signal {
     uint64_t value;
 };
 
-/* What a step of the host was answered: the step's line, a number of enum vq_answer, and the payload that was read. */
+/* What a step of the host was answered: the step's line, the answer, and the payload that was read. */
 struct vq_answered {
     uint32_t line;
-    uint32_t kind;
+    enum vq_answer kind;
     uint64_t value;
 };
 
 /* The verdict of vq_check; where it is VQ_LAWFUL, `*plan` holds the script's plan, and else it stays as it was. */
-struct vq_verdict vq_plan(const uint8_t *text, size_t length, struct vq_handle *plan);
+VQ_ASK struct vq_verdict vq_plan(const uint8_t *text, size_t length, struct vq_handle *plan);
 
 /* The verdict of vq_check; where it is VQ_LAWFUL, `*run` holds a run of the script over one core, before its first turn,
  * and else it stays as it was. All memory of the run's turns is taken here. */
-struct vq_verdict vq_open(const uint8_t *text, size_t length, struct vq_handle *run);
+VQ_ASK struct vq_verdict vq_open(const uint8_t *text, size_t length, struct vq_handle *run);
 
 /* The most numbers that the actors of a script have: two for each of 16 queues, and the host's. */
 #define VQ_MOST_ACTORS 33
@@ -180,47 +342,49 @@ struct vq_verdict vq_open(const uint8_t *text, size_t length, struct vq_handle *
  * numbers there are. VQ_NO_ROOM: the script is lawful, and the room has less places than `*needed` says; the room stays.
  * With any other code room and number stay. The size of the room is in actors. All memory of the run's turns is taken
  * here. */
-struct vq_verdict vq_share(const uint8_t *text, size_t length, struct vq_handle *room, size_t size, size_t *needed);
+VQ_ASK struct vq_verdict vq_share(const uint8_t *text, size_t length, struct vq_handle *room, size_t size, size_t *needed);
 
 /* How many numbers the actors of the plan have: 0 is the host's, and of the queue q, from 0 in the order of the script,
- * 2q + 1 its submit actor's and 2q + 2 its ring's. Where the host submits for a queue, no actor has the number 2q + 1. */
-uint64_t vq_actors(struct vq_handle *handle);
+ * 2q + 1 its submit actor's and 2q + 2 its ring's. Where the host submits for a queue, no actor has the number 2q + 1. It
+ * is 0 where nothing is open. */
+VQ_CALL uint64_t vq_actors(const struct vq_handle *handle);
 
 /* One turn of the actor that is held. VQ_MOVED: it made one event, told in `*turn`. VQ_BLOCKED: it waits for what `*turn`
  * tells, and made nothing; ask again after another actor has moved. VQ_ENDED: nothing of it is left to do. VQ_CLOSED:
  * vq_bytes has closed its board. VQ_WRONG_KIND: no actor is held. With the last three `*turn` stays. While another actor
  * asks the lists of the same chain, a turn may be blocked with VQ_WANT_LISTED: nothing was done, ask again. Other actors
  * may see what the turn made before the call returns (docs/C.md, "Runs that threads share"). It takes no memory. */
-uint32_t vq_turn(struct vq_handle *actor, struct vq_turn *turn);
+VQ_ASK enum vq_code vq_turn(struct vq_handle *actor, struct vq_turn_result *turn);
 
 /* One turn of the actor with a number, of the run over one core that is held: as vq_turn. What a blocked one waits for
  * isn't so. VQ_NO_ACTOR: no actor has the number. VQ_WRONG_KIND: no run over one core is held. Then `*turn` stays. */
-uint32_t vq_turn_of(struct vq_handle *run, uint32_t actor, struct vq_turn *turn);
+VQ_ASK enum vq_code vq_turn_of(struct vq_handle *run, uint32_t actor, struct vq_turn_result *turn);
 
-/* The line of a job of the plan, counted from 1; 0 where there is none. */
-uint32_t vq_line(struct vq_handle *handle, uint32_t job);
+/* The line of a job of the plan, counted from 1; 0 where there is none, or nothing is open. */
+VQ_CALL uint32_t vq_line(const struct vq_handle *handle, uint32_t job);
 
-/* What an operation of the plan signals. VQ_DONE, or VQ_NO_OP, and then `*signal` stays. */
-uint32_t vq_op(struct vq_handle *handle, uint32_t op, struct vq_signal *signal);
+/* What an operation of the plan signals. VQ_DONE, or VQ_NO_OP. */
+VQ_ASK enum vq_code vq_op(const struct vq_handle *handle, uint32_t op, struct vq_signal *signal);
 
 /* Whether all jobs are finished: VQ_DONE or VQ_UNFINISHED. Of a run over a board the host sees that, once its program has
  * ended: after VQ_UNFINISHED ask again. VQ_NOT_HOST: another actor is held. VQ_WRONG_KIND: a plan is held. */
-uint32_t vq_finished(struct vq_handle *handle);
+VQ_ASK enum vq_code vq_finished(struct vq_handle *handle);
 
 /* What the steps of the host were answered so far, in the order of the script. So many rows as go into the room are
  * written to its front, and `*needed` is how many there are: VQ_DONE, or VQ_NO_ROOM where some were left out.
  * VQ_NO_MEMORY, VQ_NOT_HOST (another actor is held), VQ_WRONG_KIND (a plan is held): nothing was written. The size of the
  * room is in rows. */
-uint32_t vq_answers(struct vq_handle *handle, struct vq_answered *room, size_t size, size_t *needed);
+VQ_ASK enum vq_code vq_answers(const struct vq_handle *handle, struct vq_answered *room, size_t size, size_t *needed);
 
 /* The bytes of a buffer, numbered from 0 in the order of the script, once all jobs are finished: as vq_answers. Of a run
  * over a board the host is asked, once no other actor of it is open; the board is closed by that.
  * VQ_UNFINISHED, VQ_SHARED (another actor is open), VQ_NO_BUFFER, VQ_NO_MEMORY, VQ_NOT_HOST, VQ_WRONG_KIND: nothing was
  * written. */
-uint32_t vq_bytes(struct vq_handle *handle, uint32_t buffer, uint8_t *room, size_t size, size_t *needed);
+VQ_ASK enum vq_code vq_bytes(struct vq_handle *handle, uint32_t buffer, uint8_t *room, size_t size, size_t *needed);
 
-/* Ends what is held, wherever its run is, and frees its memory; of the actors of a board the last one frees the run's. */
-void vq_close(struct vq_handle handle);
+/* Ends what is held, wherever its run is, frees its memory, and zeroes the handle; of the actors of a board the last one
+ * frees the run's. Of a zeroed handle it does nothing. */
+VQ_CALL void vq_close(struct vq_handle *handle);
 
 #ifdef __cplusplus
 }

@@ -1,5 +1,5 @@
 -- What the steps of the host were answered, as it crosses to C. This project's own.
-use Rattle.std.specs.Prelude.{◌≡◌, List, Option, Some, None}
+use Rattle.std.specs.Prelude.{◌≡◌, List, Option, Some, None, Result, IfOk, IfErr}
 use Rattle.vq_model.specs.declared.plan.AnswerLine.{AnswerLine}
 use Rattle.vq_face.specs.declared.reply.Reply.{Reply}
 use Rattle.vq_face.specs.declared.reply.Reply.TheVariants.{NoMemory, NotHost, WrongKind}
@@ -33,3 +33,7 @@ IsUntold (HoldsPlan p) WrongKind = Unit {0}
 IsUntold (HoldsRun x) NoMemory = Unit {0}
 IsUntold (HoldsActor x) r = IsUntoldBy x r
 IsUntold x other = ⊥
+
+-- The rows were told, or why none were.
+abbrev pub AreRowsTold : {V : Type 0} → (V → List AnswerRow) → Object → Result V Reply → Type 0
+AreRowsTold items o told = IfOk told (λ v. AreRowsOf (answers_in o) (items v)) × IfErr told (λ r. IsUntold o r)

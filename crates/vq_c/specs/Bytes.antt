@@ -1,5 +1,5 @@
 -- What a run has left in its buffers, as it crosses to C. This project's own.
-use Rattle.std.specs.Prelude.{ℕ, ◌≡◌, ◌<◌, ◌≤◌, ◌++◌, List, [], length}
+use Rattle.std.specs.Prelude.{ℕ, ◌≡◌, ◌<◌, ◌≤◌, ◌++◌, List, [], length, Result, IfOk, IfErr}
 use Rattle.std.specs.List.{slice_index_or}
 use Rattle.vq_model.specs.Machine.{AreFinished}
 use Rattle.vq_model.specs.OutputText.{answers_of, buffers_text}
@@ -68,3 +68,7 @@ IsUnread (HoldsRun x) y n r = (y ≡ HoldsRun x) × IsUnreadIn x n r
 IsUnread (HoldsActor x) (HoldsActor y) n r = IsUnreadOf x y n r
 IsUnread (HoldsPlan p) y n WrongKind = y ≡ HoldsPlan p
 IsUnread x y n other = ⊥
+
+-- The bytes were read, or why none were.
+abbrev pub AreRead : {V : Type 0} → (V → List ℕ) → Object → Object → ℕ → Result V Reply → Type 0
+AreRead items x y n read = IfOk read (λ v. IsRead x y n (items v)) × IfErr read (λ r. IsUnread x y n r)

@@ -1,7 +1,9 @@
 pub mod Objects
 pub mod Handles
+pub mod Lending
 pub mod Opened
 pub mod Turns
 pub mod Looks
 pub mod Answers
 pub mod Bytes
+pub mod Asked

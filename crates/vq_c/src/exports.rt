@@ -19,9 +19,9 @@ pub struct Version {
 /// The version.
 #[unsafe(no_mangle)]
 pub extern "C" fn vq_version() -> Version
-    ensures { result ≡ record { face = 3; script = 2 } }
+    ensures { result ≡ record { face = 4; script = 2 } }
 {
-    Version { face: 3, script: 2 }
+    Version { face: 4, script: 2 }
 }
 
 /// Whether the script that a text holds is lawful, and if not, its first fault. Any bytes may be passed, from any

@@ -1,21 +1,23 @@
 //! An object as C holds it.
 //!
 //! Source: this project's own.
-ghost use Rattle.std.specs.Prelude.{◌≡◌};
+ghost use Rattle.std.specs.Prelude.{◌≡◌, Option};
+ghost use Rattle.std.specs.Borrow.{sem};
+ghost use Rattle.std.specs.Coded.{coded_option};
 ghost use Rattle.vq_c.specs.contracts.object.Object as object_row;
 ghost use Rattle.vq_c.specs.declared.object.Object.{Object as AnyObject};
 
 use crate::object::Object;
 use std::alloc::Global;
 use std::marker::Model;
-use vq_loose::Loose;
+use vq_loose::Slot;
 
-/// An object as its pointer, which C keeps. It owns the object, and has to be closed.
+/// An object as its pointer, which C keeps, or null where none is open. It owns the object, and has to be closed.
 #[repr(C)]
 pub struct Handle {
     at: *mut u8,
     alloc: Global,
-    pub ghost value: { AnyObject } by { object_row.the_row.coded },
+    pub ghost value: { Option AnyObject } by { coded_option object_row.the_row.coded },
 }
 
 impl Model for Handle {
@@ -25,21 +27,14 @@ impl Model for Handle {
 }
 
 impl Handle {
-    /// The pointer of a box, as C keeps it.
-    pub(crate) fn of(loose: Loose<Object, Global>) -> Handle
-        ensures { result.value ≡ loose.value }
-    {
-        let Loose { at, alloc } = loose;
-        let at = at as *mut u8;
-        Handle { at, alloc }
-    }
+    ghost use Rattle.vq_c.specs.Lending.{LendsSlot};
 
-    /// The pointer of a box again.
-    pub(crate) fn into_loose(self) -> Loose<Object, Global>
-        ensures { result.value ≡ self.value }
+    /// The same pointer as what it is in Rattle.
+    pub(crate) fn slot(&mut self) -> &mut Slot<Object>
+        ensures* writes_back { sem 𝓛 (LendsSlot self.entry result) }
+        ensures same { result.now.value ≡ self.old.value }
     {
-        let Handle { at, alloc } = self;
-        let at = at as *mut Object;
-        Loose { at, alloc }
+        let at = self as *mut Handle as *mut Slot<Object>;
+        unsafe { &mut *at }
     }
 }

@@ -1,10 +1,9 @@
 //! What C calls to get handles, and to give them up.
 //!
 //! Source: this project's own.
-ghost use Rattle.std.specs.Prelude.{◌≡◌};
+ghost use Rattle.std.specs.Prelude.{◌≡◌, None};
 ghost use Rattle.vq_c.specs.Opened.{HasOpened, HasShared, verdict_by};
 
-use crate::calls::close;
 use crate::handle::Handle;
 use crate::opening::{hand_out, opened, planned, shared};
 use std::alloc::Global;
@@ -82,8 +81,10 @@ pub extern "C" fn vq_share(
     }
 }
 
-/// Gives up what is held, wherever its run is. The last share of a board gives back the board's memory.
+/// Gives up what is held, if something is, wherever its run is. The last share of a board gives back the board's memory.
 #[unsafe(no_mangle)]
-pub extern "C" fn vq_close(handle: Handle) {
-    close(handle);
+pub extern "C" fn vq_close(handle: &mut Handle)
+    ensures { handle.new.value ≡ None }
+{
+    drop(handle.slot().take());
 }

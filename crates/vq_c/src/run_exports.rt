@@ -3,22 +3,17 @@
 //! Source: this project's own.
 ghost use Rattle.std.specs.Prelude.{◌≡◌};
 ghost use Rattle.vq_c.specs.Answers.{AreRowsOf, IsUntold, answers_in};
+ghost use Rattle.vq_c.specs.Asked.{HasAnswered, HasReplied, HasToldOp, count_in, line_in};
 ghost use Rattle.vq_c.specs.Bytes.{IsRead, IsUnread};
-ghost use Rattle.vq_c.specs.Looks.{HasLooked};
-ghost use Rattle.vq_c.specs.Objects.{plan_of};
-ghost use Rattle.vq_c.specs.Opened.{count_of};
 ghost use Rattle.vq_c.specs.Turns.{HasTurned, HasTurnedOf, IsTold};
-ghost use Rattle.vq_face.specs.Kinds.{reply_code};
-ghost use Rattle.vq_face.specs.Rows.{HasOp, HasPut};
-ghost use Rattle.vq_model.specs.Plan.{line_of_job};
+ghost use Rattle.vq_face.specs.Rows.{HasPut};
 
-use crate::calls::{acted, counted, found_op, lined, looked, played, read, told as rows_told};
+use crate::calls::{acted, counted, found_op, lined, looked, played, read, told};
 use crate::handle::Handle;
-use core::mem::replace_with;
 use std::alloc::Global;
 use vq_face::{
-    AnswerRow, OpRow, Reply, Turn, fit_reply, op_reply, op_told, put, put_rows, reply_code,
-    reply_of, told,
+    AnswerRow, OpRow, Reply, Turn, fit_reply, op_reply, put, put_rows, reply_code, reply_of,
+    tell_op, told as turn_told,
 };
 use vq_turns::outcome::Outcome;
 
@@ -28,7 +23,7 @@ fn tell(came: Result<Outcome, Reply>, turn: &mut Turn) -> u32
 {
     match came {
         Ok(outcome) => {
-            *turn = told(outcome, *turn);
+            *turn = turn_told(outcome, *turn);
             reply_code(reply_of(outcome))
         }
         Err(reply) => reply_code(reply),
@@ -38,54 +33,68 @@ fn tell(came: Result<Outcome, Reply>, turn: &mut Turn) -> u32
 /// A turn of the actor that is held: the code says whether it moved, is blocked or has ended, and `turn` with what.
 #[unsafe(no_mangle)]
 pub extern "C" fn vq_turn(actor: &mut Handle, turn: &mut Turn) -> u32
-    ensures { HasTurned actor.old.value actor.new.value turn.old turn.new result }
+    ensures { HasAnswered (λ o p. HasTurned o p turn.old turn.new result) (turn.new ≡ turn.old)
+        actor.old.value actor.new.value result }
 {
-    tell(replace_with(actor, (), acted), turn)
+    match acted(actor.slot()) {
+        Some(came) => tell(came, turn),
+        None => reply_code(Reply::NoHandle),
+    }
 }
 
 /// A turn of the actor with a number, of the run that is held.
 #[unsafe(no_mangle)]
 pub extern "C" fn vq_turn_of(run: &mut Handle, actor: u32, turn: &mut Turn) -> u32
-    ensures { HasTurnedOf run.old.value run.new.value actor turn.old turn.new result }
+    ensures { HasAnswered (λ o p. HasTurnedOf o p actor turn.old turn.new result) (turn.new ≡ turn.old)
+        run.old.value run.new.value result }
 {
-    tell(replace_with(run, actor, played), turn)
+    match played(run.slot(), actor) {
+        Some(came) => tell(came, turn),
+        None => reply_code(Reply::NoHandle),
+    }
 }
 
-/// How many numbers actors have: 0 is the host's, and of queue q 2q + 1 its submit actor's and 2q + 2 its ring's.
+/// How many numbers actors have, 0 where nothing is open: 0 is the host's, and of queue q 2q + 1 its submit actor's and
+/// 2q + 2 its ring's.
 #[unsafe(no_mangle)]
 pub extern "C" fn vq_actors(handle: &mut Handle) -> u64
     ensures same { handle.new.value ≡ handle.old.value }
-    ensures count { result ≡ count_of (plan_of handle.old.value) }
+    ensures count { result ≡ count_in handle.old.value }
 {
-    replace_with(handle, (), counted)
+    counted(handle.slot())
 }
 
-/// The line of a job, 0 where there is none.
+/// The line of a job, 0 where there is none or nothing is open.
 #[unsafe(no_mangle)]
 pub extern "C" fn vq_line(handle: &mut Handle, job: u32) -> u32
     ensures same { handle.new.value ≡ handle.old.value }
-    ensures line { result ≡ line_of_job (plan_of handle.old.value) job }
+    ensures line { result ≡ line_in handle.old.value job }
 {
-    replace_with(handle, job, lined)
+    lined(handle.slot(), job)
 }
 
 /// A signal operation.
 #[unsafe(no_mangle)]
 pub extern "C" fn vq_op(handle: &mut Handle, op: u32, row: &mut OpRow) -> u32
-    ensures same { handle.new.value ≡ handle.old.value }
-    ensures op { HasOp (plan_of handle.old.value).ops op row.old row.new result }
+    ensures { HasAnswered (λ o p. HasToldOp o op p row.old row.new result) (row.new ≡ row.old)
+        handle.old.value handle.new.value result }
 {
-    let found = replace_with(handle, op, found_op);
-    *row = op_told(found, *row);
+    let Some(found) = found_op(handle.slot(), op) else {
+        return reply_code(Reply::NoHandle);
+    };
+    tell_op(found, row);
     reply_code(op_reply(found))
 }
 
 /// Whether all jobs are finished. Of a run over a board the host sees that, once its program has ended.
 #[unsafe(no_mangle)]
 pub extern "C" fn vq_finished(handle: &mut Handle) -> u32
-    ensures { (reply : Reply) × HasLooked handle.old.value handle.new.value reply × (result ≡ reply_code reply) }
+    ensures { HasAnswered (λ o p. HasReplied o p result) Unit handle.old.value handle.new.value result }
 {
-    reply_code(replace_with(handle, (), looked))
+    match looked(handle.slot()) {
+        Some(reply) => reply_code(reply),
+        None => reply_code(Reply::NoHandle),
+    }
 }
 
 /// What the steps of the host were answered so far, in the order of the script: as many rows as go into the room, and
@@ -97,17 +106,18 @@ pub extern "C" fn vq_answers(
     room: &mut [AnswerRow],
     needed: &mut usize,
 ) -> u32
-    ensures same { handle.new.value ≡ handle.old.value }
-    ensures answers { HasPut (AreRowsOf (answers_in handle.old.value)) (IsUntold handle.old.value)
-        room.old room.new needed.old needed.new result }
+    ensures { HasAnswered (λ o p. (p ≡ o) × HasPut (AreRowsOf (answers_in o)) (IsUntold o)
+        room.old room.new needed.old needed.new result) ((room.new ≡ room.old) × (needed.new ≡ needed.old))
+        handle.old.value handle.new.value result }
 {
-    match replace_with(handle, alloc, rows_told) {
-        Ok(rows) => {
+    match told(handle.slot(), alloc) {
+        Some(Ok(rows)) => {
             *needed = rows.len();
             put_rows(rows.as_slice(), room);
             reply_code(fit_reply(rows.len(), room.len()))
         }
-        Err(reply) => reply_code(reply),
+        Some(Err(reply)) => reply_code(reply),
+        None => reply_code(Reply::NoHandle),
     }
 }
 
@@ -121,15 +131,17 @@ pub extern "C" fn vq_bytes(
     room: &mut [u8],
     needed: &mut usize,
 ) -> u32
-    ensures { HasPut (IsRead handle.old.value handle.new.value buffer)
-        (IsUnread handle.old.value handle.new.value buffer) room.old room.new needed.old needed.new result }
+    ensures { HasAnswered (λ o p. HasPut (IsRead o p buffer) (IsUnread o p buffer)
+        room.old room.new needed.old needed.new result) ((room.new ≡ room.old) × (needed.new ≡ needed.old))
+        handle.old.value handle.new.value result }
 {
-    match replace_with(handle, (alloc, buffer), read) {
-        Ok(bytes) => {
+    match read(handle.slot(), alloc, buffer) {
+        Some(Ok(bytes)) => {
             *needed = bytes.len();
             put(bytes.as_slice(), room);
             reply_code(fit_reply(bytes.len(), room.len()))
         }
-        Err(reply) => reply_code(reply),
+        Some(Err(reply)) => reply_code(reply),
+        None => reply_code(Reply::NoHandle),
     }
 }

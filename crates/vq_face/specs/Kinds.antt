@@ -4,7 +4,7 @@ use Rattle.std.specs.Prelude.{ℕ}
 use Rattle.vq_face.specs.declared.reply.Reply.{Reply}
 use Rattle.vq_face.specs.declared.reply.Reply.TheVariants.{NoMemory, Done, Moved, Blocked, Ended, NoActor}
 use Rattle.vq_face.specs.declared.reply.Reply.TheVariants.{NoOp, NoBuffer, Unfinished, NoRoom, NotHost, Shared}
-use Rattle.vq_face.specs.declared.reply.Reply.TheVariants.{WrongKind, Closed}
+use Rattle.vq_face.specs.declared.reply.Reply.TheVariants.{WrongKind, Closed, NoHandle}
 use Rattle.vq_model.specs.declared.plan.Event.{Event}
 use Rattle.vq_model.specs.declared.plan.Event.TheVariants.{Submit, Take, Release, Bind, Refer, Look}
 use Rattle.vq_model.specs.declared.plan.Event.TheVariants.{Unref, Complete, Free, Start, Apply, Signal}
@@ -30,6 +30,7 @@ reply_code NotHost = 86
 reply_code Shared = 87
 reply_code WrongKind = 88
 reply_code Closed = 89
+reply_code NoHandle = 90
 
 abbrev pub event_code : Event → ℕ
 event_code (Submit a) = 1

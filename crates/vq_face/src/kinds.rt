@@ -27,6 +27,7 @@ pub fn reply_code(reply: Reply) -> u32
         Reply::Shared => 87,
         Reply::WrongKind => 88,
         Reply::Closed => 89,
+        Reply::NoHandle => 90,
     }
 }
 

@@ -15,6 +15,6 @@ pub use ending::{Ending, ending_of, lawful_plan};
 pub use explanation::{NO_MEMORY, explained, put};
 pub use kinds::reply_code;
 pub use reply::Reply;
-pub use rows::{AnswerRow, OpRow, fit_reply, op_reply, op_told, put_rows, rows_of};
+pub use rows::{AnswerRow, OpRow, fit_reply, op_reply, put_rows, rows_of, tell_op};
 pub use turn::{Turn, reply_of, told};
 pub use verdict::{Verdict, verdict_of};

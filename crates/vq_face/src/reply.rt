@@ -19,4 +19,5 @@ pub enum Reply {
     Shared,
     WrongKind,
     Closed,
+    NoHandle,
 }

@@ -82,13 +82,12 @@ fn op_row(op: Op) -> OpRow
     }
 }
 
-/// What crosses of a signal operation, if it is there.
-pub fn op_told(found: Option<Op>, before: OpRow) -> OpRow
-    ensures { result ≡ op_told found before }
+/// Tells a signal operation, if it is there.
+pub fn tell_op(found: Option<Op>, row: &mut OpRow)
+    ensures { row.new ≡ op_told found row.old }
 {
-    match found {
-        None => before,
-        Some(op) => op_row(op),
+    if let Some(op) = found {
+        *row = op_row(op);
     }
 }
 

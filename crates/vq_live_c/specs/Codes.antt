@@ -1,4 +1,4 @@
--- The codes by which answers cross to C: `c/live_codes` makes this file out of `c/live_codes.txt`.
+-- The codes by which answers cross to C: `c/codes` makes this file out of `c/live_codes.txt`.
 use Rattle.std.specs.Prelude.{ℕ}
 use Rattle.vq_live_c.specs.declared.reply.Reply.{Reply}
 use Rattle.vq_live_c.specs.declared.reply.Reply.TheVariants as call_as
@@ -19,6 +19,7 @@ use Rattle.vq_live.specs.declared.answers.SignalFault.TheVariants as signal_as
 abbrev pub call_code : Reply → ℕ
 call_code call_as.Done = 0
 call_code call_as.NoMemory = 1
+call_code call_as.NoHandle = 2
 call_code call_as.NothingTaken = 25
 call_code call_as.NotHeld = 41
 call_code call_as.NothingPending = 42

@@ -1,4 +1,6 @@
 pub mod Handles
+pub mod Lending
 pub mod Codes
 pub mod Told
 pub mod Answered
+pub mod Asked

@@ -1,19 +1,17 @@
-//! The calls of a live timeline through its handle. The timeline is taken out of the handle for the call, and put back.
+//! The calls of a live timeline through its slot. Where it holds none, there is no answer.
 ghost use Rattle.std.specs.Prelude.{◌≡◌, IfOk};
-ghost use Rattle.std.specs.List.{slice_get};
 ghost use Rattle.vq_live.specs.Live.{opened};
-ghost use Rattle.vq_live.specs.Calls.{after_cancel, after_complete, after_install, after_refer, after_signal};
-ghost use Rattle.vq_live.specs.Calls.{cancel_fault, first_pending, found, install_fault, signal_fault};
-ghost use Rattle.vq_live_c.specs.Answered.{HasReturned, HasTaken, refer_fault, unless_refused};
+ghost use Rattle.vq_live_c.specs.Answered.{HasReturned, HasSought, HasTaken, HasTriedCancel, HasTriedComplete};
+ghost use Rattle.vq_live_c.specs.Answered.{HasTriedInstall, HasTriedRefer, HasTriedSignal, IsFirst, IsLeastTaken};
+ghost use Rattle.vq_live_c.specs.Asked.{HasAsked, payload_of};
 ghost use Rattle.vq_live_c.specs.Codes.{call_code};
 
-use crate::handle::Handle;
 use crate::reply::Reply;
 use std::alloc::{AllocError, Global};
 use vq_live::{
     CancelFault, Found, Given, Held, InstallFault, LiveTimeline, ReferFault, SignalFault, TakeFault,
 };
-use vq_loose::Loose;
+use vq_loose::Slot;
 
 /// A timeline that reached a value, in a box of its own. The error is want of memory.
 pub(crate) fn opened(alloc: Global, initial: u64) -> Result<Box<LiveTimeline>, AllocError>
@@ -25,155 +23,143 @@ pub(crate) fn opened(alloc: Global, initial: u64) -> Result<Box<LiveTimeline>, A
     }
 }
 
-/// The timeline of a handle.
-fn boxed(handle: Handle) -> Box<LiveTimeline>
-    ensures { result.value ≡ handle.value }
-{
-    handle.into_loose().into_box()
-}
-
-/// The handle of a timeline.
-fn held(live: Box<LiveTimeline>) -> Handle
-    ensures { result.value ≡ live.value }
-{
-    Handle::of(Loose::of(live))
-}
-
 /// Takes a point for a value.
-pub(crate) fn taken(handle: Handle, value: u64) -> (Handle, Result<Given, TakeFault>)
-    ensures { HasTaken handle.value result.0.value value result.1 }
+pub(crate) fn taken(slot: &mut Slot<LiveTimeline>, value: u64) -> Option<Result<Given, TakeFault>>
+    ensures { HasAsked (λ t u a. HasTaken t u value a) slot.old.value slot.new.value result }
 {
-    let mut live = boxed(handle);
-    match live.take(value) {
-        Ok(given) => (held(live), Ok(given)),
-        Err(fault) => (held(live), Err(fault)),
+    if slot.is_empty() {
+        return None;
     }
+    Some(slot.held().take(value))
 }
 
-/// Installs an operation.
-pub(crate) fn installed(handle: Handle, given: Given) -> (Handle, Option<InstallFault>)
-    ensures fault { result.1 ≡ install_fault handle.value given }
-    ensures after { result.0.value
-        ≡ unless_refused (install_fault handle.value given) handle.value (after_install handle.value) }
+/// Installs an operation: why it wasn't, if it wasn't.
+pub(crate) fn installed(slot: &mut Slot<LiveTimeline>, given: Given) -> Option<Option<InstallFault>>
+    ensures { HasAsked (λ t u a. HasTriedInstall t given u a) slot.old.value slot.new.value result }
 {
-    let mut live = boxed(handle);
-    match live.install(given) {
-        Ok(()) => (held(live), None),
-        Err(fault) => (held(live), Some(fault)),
+    if slot.is_empty() {
+        return None;
     }
+    Some(slot.held().install(given).err())
 }
 
-/// Takes an operation back.
-pub(crate) fn cancelled(handle: Handle, given: Given) -> (Handle, Option<CancelFault>)
-    ensures fault { result.1 ≡ cancel_fault handle.value given }
-    ensures after { result.0.value
-        ≡ unless_refused (cancel_fault handle.value given) handle.value (after_cancel handle.value given) }
+/// Takes an operation back: why it wasn't, if it wasn't.
+pub(crate) fn cancelled(slot: &mut Slot<LiveTimeline>, given: Given) -> Option<Option<CancelFault>>
+    ensures { HasAsked (λ t u a. HasTriedCancel t given u a) slot.old.value slot.new.value result }
 {
-    let mut live = boxed(handle);
-    match live.cancel(given) {
-        Ok(()) => (held(live), None),
-        Err(fault) => (held(live), Some(fault)),
+    if slot.is_empty() {
+        return None;
     }
+    Some(slot.held().cancel(given).err())
 }
 
-/// Completes the first pending operation.
-pub(crate) fn completed(handle: Handle, _nothing: ()) -> (Handle, Option<Given>)
-    ensures given { result.1 ≡ first_pending handle.value }
-    ensures after { result.0.value ≡ after_complete handle.value }
+/// Completes the first pending operation, if there is one.
+pub(crate) fn completed(slot: &mut Slot<LiveTimeline>) -> Option<Option<Given>>
+    ensures { HasAsked (λ t u a. HasTriedComplete t u a) slot.old.value slot.new.value result }
 {
-    let mut live = boxed(handle);
-    let given = live.complete();
-    (held(live), given)
+    if slot.is_empty() {
+        return None;
+    }
+    Some(slot.held().complete())
 }
 
 /// Where a value stands.
-pub(crate) fn sought(handle: Handle, value: u64) -> (Handle, Found)
-    ensures same { result.0.value ≡ handle.value }
-    ensures found { result.1 ≡ found handle.value value }
+pub(crate) fn sought(slot: &mut Slot<LiveTimeline>, value: u64) -> Option<Found>
+    ensures { HasAsked (λ t u a. HasSought t value u a) slot.old.value slot.new.value result }
 {
-    let live = boxed(handle);
-    let found = live.find(value);
-    (held(live), found)
+    if slot.is_empty() {
+        return None;
+    }
+    Some(slot.held().find(value))
 }
 
-/// Holds a point. The reference is the caller's as the point's number.
-pub(crate) fn referred(handle: Handle, point: u32) -> (Handle, Option<ReferFault>)
-    ensures fault { result.1 ≡ refer_fault handle.value point }
-    ensures after { result.0.value
-        ≡ unless_refused (refer_fault handle.value point) handle.value (after_refer handle.value point) }
+/// Holds a point: why it isn't held, if it isn't. The reference is the caller's as the point's number.
+fn refer(live: &mut LiveTimeline, point: u32) -> Option<ReferFault>
+    ensures { HasTriedRefer live.old point live.new result }
 {
-    let mut live = boxed(handle);
     match live.refer(point) {
         Ok(reference) => {
             // the header makes it the caller's duty to give it back
             let _number = unsafe { reference.into_point() };
-            (held(live), None)
+            None
         }
-        Err(fault) => (held(live), Some(fault)),
+        Err(fault) => Some(fault),
     }
+}
+
+/// The same, of the timeline that is held.
+pub(crate) fn referred(slot: &mut Slot<LiveTimeline>, point: u32) -> Option<Option<ReferFault>>
+    ensures { HasAsked (λ t u a. HasTriedRefer t point u a) slot.old.value slot.new.value result }
+{
+    if slot.is_empty() {
+        return None;
+    }
+    Some(refer(slot.held(), point))
 }
 
 /// Gives a reference back. The reply is `Done` or `NotHeld`.
-pub(crate) fn returned(handle: Handle, point: u32) -> (Handle, Reply)
-    ensures { HasReturned handle.value result.0.value point (call_code result.1) }
+fn unref(live: &mut LiveTimeline, point: u32) -> Reply
+    ensures { HasReturned live.old live.new point (call_code result) }
 {
-    let mut live = boxed(handle);
     // the header makes it the caller's duty that the number is of a reference of its own
     let reference = unsafe { Held::from_point(point) };
     match live.unref(reference) {
-        Ok(()) => (held(live), Reply::Done),
+        Ok(()) => Reply::Done,
         Err(reference) => {
             // it stood for no reference
             let _number = unsafe { reference.into_point() };
-            (held(live), Reply::NotHeld)
+            Reply::NotHeld
         }
     }
 }
 
-/// The host's signal.
-pub(crate) fn signaled(handle: Handle, value: u64) -> (Handle, Option<SignalFault>)
-    ensures fault { result.1 ≡ signal_fault handle.value value }
-    ensures after { result.0.value
-        ≡ unless_refused (signal_fault handle.value value) handle.value (after_signal handle.value value) }
+/// The same, of the timeline that is held.
+pub(crate) fn returned(slot: &mut Slot<LiveTimeline>, point: u32) -> Option<Reply>
+    ensures { HasAsked (λ t u a. HasReturned t u point (call_code a)) slot.old.value slot.new.value result }
 {
-    let mut live = boxed(handle);
-    match live.signal(value) {
-        Ok(()) => (held(live), None),
-        Err(fault) => (held(live), Some(fault)),
+    if slot.is_empty() {
+        return None;
     }
+    Some(unref(slot.held(), point))
 }
 
-/// The value that is reached.
-pub(crate) fn reached(handle: Handle, _nothing: ()) -> (Handle, u64)
-    ensures same { result.0.value ≡ handle.value }
-    ensures value { result.1 ≡ handle.value.payload }
+/// The host's signal: why the value isn't set, if it isn't.
+pub(crate) fn signaled(slot: &mut Slot<LiveTimeline>, value: u64) -> Option<Option<SignalFault>>
+    ensures { HasAsked (λ t u a. HasTriedSignal t value u a) slot.old.value slot.new.value result }
 {
-    let live = boxed(handle);
-    let value = live.value();
-    (held(live), value)
+    if slot.is_empty() {
+        return None;
+    }
+    Some(slot.held().signal(value).err())
+}
+
+/// The value that is reached, 0 where no timeline is held.
+pub(crate) fn reached(slot: &mut Slot<LiveTimeline>) -> u64
+    ensures same { slot.new.value ≡ slot.old.value }
+    ensures value { result ≡ payload_of slot.old.value }
+{
+    if slot.is_empty() {
+        return 0;
+    }
+    slot.held().value()
 }
 
 /// The first pending operation.
-pub(crate) fn first(handle: Handle, _nothing: ()) -> (Handle, Option<Given>)
-    ensures same { result.0.value ≡ handle.value }
-    ensures given { result.1 ≡ first_pending handle.value }
+pub(crate) fn first(slot: &mut Slot<LiveTimeline>) -> Option<Option<Given>>
+    ensures { HasAsked (λ t u a. IsFirst t u a) slot.old.value slot.new.value result }
 {
-    let live = boxed(handle);
-    let given = live.first();
-    (held(live), given)
+    if slot.is_empty() {
+        return None;
+    }
+    Some(slot.held().first())
 }
 
 /// The taken operation of least value.
-pub(crate) fn least_taken(handle: Handle, _nothing: ()) -> (Handle, Option<Given>)
-    ensures same { result.0.value ≡ handle.value }
-    ensures given { result.1 ≡ slice_get handle.value.ops handle.value.installed }
+pub(crate) fn least_taken(slot: &mut Slot<LiveTimeline>) -> Option<Option<Given>>
+    ensures { HasAsked (λ t u a. IsLeastTaken t u a) slot.old.value slot.new.value result }
 {
-    let live = boxed(handle);
-    let given = live.least_taken();
-    (held(live), given)
-}
-
-/// Ends a timeline.
-pub(crate) fn close(handle: Handle) {
-    drop(boxed(handle));
+    if slot.is_empty() {
+        return None;
+    }
+    Some(slot.held().least_taken())
 }

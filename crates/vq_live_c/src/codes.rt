@@ -1,4 +1,4 @@
-//! The codes by which answers cross to C: `c/live_codes` makes this file out of `c/live_codes.txt`.
+//! The codes by which answers cross to C: `c/codes` makes this file out of `c/live_codes.txt`.
 ghost use Rattle.std.specs.Prelude.{◌≡◌};
 ghost use Rattle.vq_live_c.specs.Codes.{call_code, cancel_code, find_code, install_code};
 ghost use Rattle.vq_live_c.specs.Codes.{refer_code, signal_code, take_code};
@@ -13,6 +13,7 @@ pub(crate) fn call_code(answer: Reply) -> u32
     match answer {
         Reply::Done => 0,
         Reply::NoMemory => 1,
+        Reply::NoHandle => 2,
         Reply::NothingTaken => 25,
         Reply::NotHeld => 41,
         Reply::NothingPending => 42,

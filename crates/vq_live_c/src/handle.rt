@@ -1,18 +1,19 @@
 //! A live timeline as C holds it.
-ghost use Rattle.std.specs.Prelude.{◌≡◌};
+ghost use Rattle.std.specs.Prelude.{◌≡◌, Option};
+ghost use Rattle.std.specs.Borrow.{sem};
 ghost use Rattle.vq_live.specs.Live.{Live};
 
 use std::alloc::Global;
 use std::marker::Model;
 use vq_live::LiveTimeline;
-use vq_loose::Loose;
+use vq_loose::Slot;
 
-/// A timeline as its pointer, which C keeps. It owns the timeline, and has to be closed.
+/// A timeline as its pointer, which C keeps, or null where none is open. It owns the timeline, and has to be closed.
 #[repr(C)]
 pub struct Handle {
     at: *mut u8,
     alloc: Global,
-    pub ghost value: { Live },
+    pub ghost value: { Option Live },
 }
 
 impl Model for Handle {
@@ -22,21 +23,14 @@ impl Model for Handle {
 }
 
 impl Handle {
-    /// The pointer of a box, as C keeps it.
-    pub(crate) fn of(loose: Loose<LiveTimeline, Global>) -> Handle
-        ensures { result.value ≡ loose.value }
-    {
-        let Loose { at, alloc } = loose;
-        let at = at as *mut u8;
-        Handle { at, alloc }
-    }
+    ghost use Rattle.vq_live_c.specs.Lending.{LendsSlot};
 
-    /// The pointer of a box again.
-    pub(crate) fn into_loose(self) -> Loose<LiveTimeline, Global>
-        ensures { result.value ≡ self.value }
+    /// The same pointer as what it is in Rattle.
+    pub(crate) fn slot(&mut self) -> &mut Slot<LiveTimeline>
+        ensures* writes_back { sem 𝓛 (LendsSlot self.entry result) }
+        ensures same { result.now.value ≡ self.old.value }
     {
-        let Handle { at, alloc } = self;
-        let at = at as *mut LiveTimeline;
-        Loose { at, alloc }
+        let at = self as *mut Handle as *mut Slot<LiveTimeline>;
+        unsafe { &mut *at }
     }
 }

@@ -5,6 +5,7 @@
 pub enum Reply {
     Done,
     NoMemory,
+    NoHandle,
     NothingTaken,
     NothingPending,
     NotHeld,

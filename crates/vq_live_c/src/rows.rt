@@ -39,13 +39,12 @@ pub(crate) fn given_of(row: &GivenRow) -> Given
     }
 }
 
-/// An operation, if there is one, and else what was there.
-pub(crate) fn given_told(given: Option<Given>, before: GivenRow) -> GivenRow
-    ensures { result ≡ given_told given before }
+/// Tells an operation, if there is one.
+pub(crate) fn tell_given(given: Option<Given>, row: &mut GivenRow)
+    ensures { row.new ≡ given_told given row.old }
 {
-    match given {
-        Some(given) => row_of(given),
-        None => before,
+    if let Some(given) = given {
+        *row = row_of(given);
     }
 }
 
@@ -69,19 +68,21 @@ pub(crate) fn take_answer(taken: Result<Given, TakeFault>) -> u32
     }
 }
 
-/// What a take tells: the operation with its point, or the pending value that its own isn't above.
-pub(crate) fn take_told(taken: Result<Given, TakeFault>, before: GivenRow) -> GivenRow
-    ensures { result ≡ take_told taken before }
+/// Tells what came of a take: the operation with its point, or the pending value that its own isn't above.
+pub(crate) fn tell_taken(taken: Result<Given, TakeFault>, row: &mut GivenRow)
+    ensures { row.new ≡ take_told taken row.old }
 {
     match taken {
-        Ok(given) => row_of(given),
-        Err(TakeFault::NotAbove { pending }) => GivenRow {
-            value: pending,
-            point: NO_POINT,
-        },
-        Err(TakeFault::Twice) => before,
-        Err(TakeFault::Full) => before,
-        Err(TakeFault::NoMemory) => before,
+        Ok(given) => {
+            *row = row_of(given);
+        }
+        Err(TakeFault::NotAbove { pending }) => {
+            *row = GivenRow {
+                value: pending,
+                point: NO_POINT,
+            };
+        }
+        Err(TakeFault::Twice | TakeFault::Full | TakeFault::NoMemory) => {}
     }
 }
 
@@ -95,15 +96,12 @@ pub(crate) fn install_answer(fault: Option<InstallFault>) -> u32
     }
 }
 
-/// What an install tells: the operation that is next, where it is another.
-pub(crate) fn install_told(fault: Option<InstallFault>, before: GivenRow) -> GivenRow
-    ensures { result ≡ install_told fault before }
+/// Tells the operation that is next, where an install was of another.
+pub(crate) fn tell_next(fault: Option<InstallFault>, row: &mut GivenRow)
+    ensures { row.new ≡ install_told fault row.old }
 {
-    match fault {
-        Some(InstallFault::NotNext { next }) => row_of(next),
-        Some(InstallFault::Already) => before,
-        Some(InstallFault::NothingTaken) => before,
-        None => before,
+    if let Some(InstallFault::NotNext { next }) = fault {
+        *row = row_of(next);
     }
 }
 
@@ -137,24 +135,26 @@ pub(crate) fn signal_answer(fault: Option<SignalFault>) -> u32
     }
 }
 
-/// What a refused signal of the host tells: the payload, or the value of the first operation.
-pub(crate) fn signal_told(fault: Option<SignalFault>, before: u64) -> u64
-    ensures { result ≡ signal_told fault before }
+/// Tells why a signal of the host was refused: the payload, or the value of the first operation.
+pub(crate) fn tell_known(fault: Option<SignalFault>, known: &mut u64)
+    ensures { known.new ≡ signal_told fault known.old }
 {
     match fault {
-        Some(SignalFault::NotAbove { payload }) => payload,
-        Some(SignalFault::Outstanding { first }) => first,
-        None => before,
+        Some(SignalFault::NotAbove { payload }) => {
+            *known = payload;
+        }
+        Some(SignalFault::Outstanding { first }) => {
+            *known = first;
+        }
+        None => {}
     }
 }
 
-/// What a look-up tells: the pending operation.
-pub(crate) fn find_told(found: Found, before: GivenRow) -> GivenRow
-    ensures { result ≡ find_told found before }
+/// Tells the pending operation that a look-up found.
+pub(crate) fn tell_found(found: Found, row: &mut GivenRow)
+    ensures { row.new ≡ find_told found row.old }
 {
-    match found {
-        Found::Pending { at } => row_of(at),
-        Found::Past => before,
-        Found::NotYet => before,
+    if let Found::Pending { at } = found {
+        *row = row_of(at);
     }
 }

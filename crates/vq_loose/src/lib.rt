@@ -2,5 +2,7 @@
 #![tactic(auto)]
 
 mod loose;
+mod slot;
 
 pub use loose::Loose;
+pub use slot::Slot;

@@ -20,14 +20,6 @@ impl<T, A: Allocator> Model for Loose<T, A> {
 }
 
 impl<T: Drop, A: Allocator> Loose<T, A> {
-    /// A box, taken apart.
-    pub fn of(value: Box<T, A>) -> Loose<T, A>
-        ensures { result.value ≡ value.value }
-    {
-        let (at, alloc) = Box::into_raw_with_allocator(value);
-        Loose { at, alloc }
-    }
-
     /// The box again.
     pub fn into_box(self) -> Box<T, A>
         ensures { result.value ≡ self.value }
