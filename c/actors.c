@@ -1,10 +1,9 @@
-/* Tests the actors of a run that threads share: of each script that is named, each actor is driven through its handle by
- * a thread of its own, with nothing held round a call, so many times; then the answers and the bytes of all buffers are
- * printed, as vq prints them. Misuse is answered by a code, and refused memory too. Stops with a line and status 1 where
- * something is not as vq.h says.
+/* Tests the actors of a run that threads share: of each script that is named, each actor is driven through its handle
+ * by a thread of its own, with nothing held round a call, so many times; then the answers and the bytes of all buffers
+ * are printed, as vq prints them. Misuse is answered by a code, and refused memory too. Stops with a line and status 1
+ * where something is not as vq.h says.
  *
- * actors TIMES SCRIPT..
- */
+ * actors TIMES SCRIPT.. */
 #include <inttypes.h>
 #include <pthread.h>
 #include <sched.h>

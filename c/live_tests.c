@@ -445,8 +445,8 @@ static void never_opened_and_closed(void)
     }
 }
 
-/* A call that is refused, or tells nothing, leaves each byte of its output, and the calls that ask write nothing else: they
- * are answered from a page that can't be written. */
+/* A call that is refused, or tells nothing, leaves each byte of its output, and the calls that ask write nothing else:
+ * they are answered from a page that can't be written. */
 static void questions_write_nothing(void)
 {
     enum { PAGE = 4096 };

@@ -1,6 +1,5 @@
-/* A shared object that links one of the libraries, as a driver does, and keeps their names to itself: plugin_host.c opens
- * two copies of it. With -DWITH_LIVE it links libvq_live_c.a, and else libvq_c.a.
- */
+/* A shared object that links one of the libraries, as a driver does, and keeps their names to itself: plugin_host.c
+ * opens two copies of it. With -DWITH_LIVE it links libvq_live_c.a, and else libvq_c.a. */
 #include <string.h>
 
 #ifdef WITH_LIVE

@@ -1,8 +1,8 @@
-/* Opens two copies of a plug-in that links one of the libraries (plugin.c), while it has functions of the libraries' names
- * itself: the plug-ins take their own, each has its own state, and none of the libraries' names is seen from outside.
+/* Opens two copies of a plug-in that links one of the libraries (plugin.c), while it has functions of the libraries'
+ * names itself: the plug-ins take their own, each has its own state, and none of the libraries' names is seen from
+ * outside.
  *
- * plugin_host OBJECT OBJECT
- */
+ * plugin_host OBJECT OBJECT */
 #include <dlfcn.h>
 #include <stdint.h>
 #include <stdio.h>

@@ -1,10 +1,9 @@
-/* Tests the runs of the face for C: of each script that is named, nine threads drive the actors of a run through it, with
- * a mutex of their own round each call, so many times; then the answers and the bytes of all buffers are printed, as vq
- * prints them. Misuse is answered by a code, and refused memory too. Stops with a line and status 1 where something is
- * not as vq.h says.
+/* Tests the runs of the face for C: of each script that is named, nine threads drive the actors of a run through it,
+ * with a mutex of their own round each call, so many times; then the answers and the bytes of all buffers are printed,
+ * as vq prints them. Misuse is answered by a code, and refused memory too. Stops with a line and status 1 where
+ * something is not as vq.h says.
  *
- * runs TIMES SCRIPT..
- */
+ * runs TIMES SCRIPT.. */
 #include <inttypes.h>
 #include <pthread.h>
 #include <sched.h>

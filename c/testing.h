@@ -1,6 +1,5 @@
-/* What the tests of the C libraries share: allocations that are refused, what the sanitizer for threads is told, and the
- * end of a test that fails. Included once in a test.
- */
+/* What the tests of the C libraries share: allocations that are refused, what the sanitizer for threads is told, and
+ * the end of a test that fails. Included once in a test. */
 #ifndef TESTING_H
 #define TESTING_H
 
@@ -35,8 +34,8 @@ void *__wrap_realloc(void *block, size_t size)
 #endif
 
 #ifdef __SANITIZE_THREAD__
-/* The libraries aren't compiled with the sanitizer for threads, which so doesn't see the atomic steps by which they order
- * their copies of bytes. What a program does between two calls is seen. */
+/* The libraries aren't compiled with the sanitizer for threads, which so doesn't see the atomic steps by which they
+ * order their copies of bytes. What a program does between two calls is seen. */
 const char *__tsan_default_suppressions(void);
 
 const char *__tsan_default_suppressions(void)

@@ -1,16 +1,15 @@
-/* vq for C: whether a script of queues, timelines and batches is lawful, and if not, its first fault; and runs of lawful
- * scripts, whose actors a program drives from threads of its own: over one core, one call at a time, or over a board that
- * the threads share.
+/* vq for C: whether a script of queues, timelines and batches is lawful, and if not, its first fault; and runs of
+ * lawful scripts, whose actors a program drives from threads of its own: over one core, one call at a time, or over a
+ * board that the threads share.
  *
- * Link with libvq_c.a and with an allocator: the kit's liblibc_c.a, or the three functions of vq_alloc.h. A shared object
- * is linked with -Wl,--exclude-libs,ALL, so that it keeps these names to itself.
+ * Link with libvq_c.a and with an allocator: the kit's liblibc_c.a, or the three functions of vq_alloc.h. A shared
+ * object is linked with -Wl,--exclude-libs,ALL, so that it keeps these names to itself.
  *
- * What a caller owes, in each call, and nothing checks: pointers are valid and not null, also at length 0, and what they
- * lead to doesn't overlap; the text doesn't change during the call, and the room isn't read or written by anybody else. A
- * call may come from any thread, not from a signal handler, and not in the child of a fork of a process with threads. No
- * call waits, starts a thread, or ends the process, and only vq_plan, vq_open and vq_share keep something, until vq_close.
- * An output is written only where the call says so, and else not touched.
- */
+ * What a caller owes, in each call, and nothing checks: pointers are valid and not null, also at length 0, and what
+ * they lead to doesn't overlap; the text doesn't change during the call, and the room isn't read or written by anybody
+ * else. A call may come from any thread, not from a signal handler, and not in the child of a fork of a process with
+ * threads. No call waits, starts a thread, or ends the process, and only vq_plan, vq_open and vq_share keep something,
+ * until vq_close. An output is written only where the call says so, and else not touched. */
 #ifndef VQ_H
 #define VQ_H
 
@@ -279,18 +278,17 @@ VQ_ASK struct vq_verdict vq_check(const uint8_t *text, size_t length);
  * are. The rest of the room stays as it is. */
 VQ_CALL struct vq_verdict vq_explain(const uint8_t *text, size_t length, uint8_t *room, size_t size, size_t *needed);
 
-/* What a program holds of a lawful script: a plan (vq_plan), a run of it over one core with all its actors (vq_open), or
- * one actor of a run over a board, with its share of the board and its timelines (vq_share). These write `at`, and
+/* What a program holds of a lawful script: a plan (vq_plan), a run of it over one core with all its actors (vq_open),
+ * or one actor of a run over a board, with its share of the board and its timelines (vq_share). These write `at`, and
  * vq_close ends what is there. A call that isn't of a handle's kind answers VQ_WRONG_KIND, and does nothing. A zeroed
  * handle (VQ_NOTHING) holds nothing, and so does a closed one: calls answer VQ_NO_HANDLE, and vq_close does nothing.
  *
  * What a caller owes of a handle, and nothing checks: each call is given one as it was last written; two structs don't
- * stand for one handle; calls on one handle are made one at a time, and where it moves to another thread, a lock, a join
- * or the like stands between. So where several threads drive the actors of one run over one core, a mutex is held round
- * each call; turns of actors with handles of their own may be taken at the same time, from any threads, with nothing held
- * round them: no call waits for another, and none wakes one. Runs are free of one another. The calls whose handle is
- * `const` write nothing but their output.
- */
+ * stand for one handle; calls on one handle are made one at a time, and where it moves to another thread, a lock, a
+ * join or the like stands between. So where several threads drive the actors of one run over one core, a mutex is held
+ * round each call; turns of actors with handles of their own may be taken at the same time, from any threads, with
+ * nothing held round them: no call waits for another, and none wakes one. Runs are free of one another. The calls
+ * whose handle is `const` write nothing but their output. */
 struct vq_handle {
     void *at;
 };
@@ -330,30 +328,32 @@ struct vq_answered {
 /* The verdict of vq_check; where it is VQ_LAWFUL, `*plan` holds the script's plan, and else it stays as it was. */
 VQ_ASK struct vq_verdict vq_plan(const uint8_t *text, size_t length, struct vq_handle *plan);
 
-/* The verdict of vq_check; where it is VQ_LAWFUL, `*run` holds a run of the script over one core, before its first turn,
- * and else it stays as it was. All memory of the run's turns is taken here. */
+/* The verdict of vq_check; where it is VQ_LAWFUL, `*run` holds a run of the script over one core, before its first
+ * turn, and else it stays as it was. All memory of the run's turns is taken here. */
 VQ_ASK struct vq_verdict vq_open(const uint8_t *text, size_t length, struct vq_handle *run);
 
 /* The most numbers that the actors of a script have: two for each of 16 queues, and the host's. */
 #define VQ_MOST_ACTORS 33
 
-/* The verdict of vq_check; where it is VQ_LAWFUL, the room has the actors of a run of the script over a board, before its
- * first turn, each at its number (as for vq_actors, the host's is 0), and NULL in all other places; `*needed` is how many
- * numbers there are. VQ_NO_ROOM: the script is lawful, and the room has less places than `*needed` says; the room stays.
- * With any other code room and number stay. The size of the room is in actors. All memory of the run's turns is taken
- * here. */
-VQ_ASK struct vq_verdict vq_share(const uint8_t *text, size_t length, struct vq_handle *room, size_t size, size_t *needed);
+/* The verdict of vq_check; where it is VQ_LAWFUL, the room has the actors of a run of the script over a board, before
+ * its first turn, each at its number (as for vq_actors, the host's is 0), and NULL in all other places; `*needed` is
+ * how many numbers there are. VQ_NO_ROOM: the script is lawful, and the room has less places than `*needed` says; the
+ * room stays. With any other code room and number stay. The size of the room is in actors. All memory of the run's
+ * turns is taken here. */
+VQ_ASK struct vq_verdict vq_share(const uint8_t *text, size_t length, struct vq_handle *room, size_t size,
+                                  size_t *needed);
 
-/* How many numbers the actors of the plan have: 0 is the host's, and of the queue q, from 0 in the order of the script,
- * 2q + 1 its submit actor's and 2q + 2 its ring's. Where the host submits for a queue, no actor has the number 2q + 1. It
- * is 0 where nothing is open. */
+/* How many numbers the actors of the plan have: 0 is the host's, and of the queue q, from 0 in the order of the
+ * script, 2q + 1 its submit actor's and 2q + 2 its ring's. Where the host submits for a queue, no actor has the number
+ * 2q + 1. It is 0 where nothing is open. */
 VQ_CALL uint64_t vq_actors(const struct vq_handle *handle);
 
-/* One turn of the actor that is held. VQ_MOVED: it made one event, told in `*turn`. VQ_BLOCKED: it waits for what `*turn`
- * tells, and made nothing; ask again after another actor has moved. VQ_ENDED: nothing of it is left to do. VQ_CLOSED:
- * vq_bytes has closed its board. VQ_WRONG_KIND: no actor is held. With the last three `*turn` stays. While another actor
- * asks the lists of the same chain, a turn may be blocked with VQ_WANT_LISTED: nothing was done, ask again. Other actors
- * may see what the turn made before the call returns (docs/C.md, "Runs that threads share"). It takes no memory. */
+/* One turn of the actor that is held. VQ_MOVED: it made one event, told in `*turn`. VQ_BLOCKED: it waits for what
+ * `*turn` tells, and made nothing; ask again after another actor has moved. VQ_ENDED: nothing of it is left to do.
+ * VQ_CLOSED: vq_bytes has closed its board. VQ_WRONG_KIND: no actor is held. With the last three `*turn` stays. While
+ * another actor asks the lists of the same chain, a turn may be blocked with VQ_WANT_LISTED: nothing was done, ask
+ * again. Other actors may see what the turn made before the call returns (docs/C.md, "Runs that threads share"). It
+ * takes no memory. */
 VQ_ASK enum vq_code vq_turn(struct vq_handle *actor, struct vq_turn_result *turn);
 
 /* One turn of the actor with a number, of the run over one core that is held: as vq_turn. What a blocked one waits for
@@ -366,24 +366,23 @@ VQ_CALL uint32_t vq_line(const struct vq_handle *handle, uint32_t job);
 /* What an operation of the plan signals. VQ_DONE, or VQ_NO_OP. */
 VQ_ASK enum vq_code vq_op(const struct vq_handle *handle, uint32_t op, struct vq_signal *signal);
 
-/* Whether all jobs are finished: VQ_DONE or VQ_UNFINISHED. Of a run over a board the host sees that, once its program has
- * ended: after VQ_UNFINISHED ask again. VQ_NOT_HOST: another actor is held. VQ_WRONG_KIND: a plan is held. */
+/* Whether all jobs are finished: VQ_DONE or VQ_UNFINISHED. Of a run over a board the host sees that, once its program
+ * has ended: after VQ_UNFINISHED ask again. VQ_NOT_HOST: another actor is held. VQ_WRONG_KIND: a plan is held. */
 VQ_ASK enum vq_code vq_finished(struct vq_handle *handle);
 
 /* What the steps of the host were answered so far, in the order of the script. So many rows as go into the room are
  * written to its front, and `*needed` is how many there are: VQ_DONE, or VQ_NO_ROOM where some were left out.
- * VQ_NO_MEMORY, VQ_NOT_HOST (another actor is held), VQ_WRONG_KIND (a plan is held): nothing was written. The size of the
- * room is in rows. */
+ * VQ_NO_MEMORY, VQ_NOT_HOST (another actor is held), VQ_WRONG_KIND (a plan is held): nothing was written. The size of
+ * the room is in rows. */
 VQ_ASK enum vq_code vq_answers(const struct vq_handle *handle, struct vq_answered *room, size_t size, size_t *needed);
 
-/* The bytes of a buffer, numbered from 0 in the order of the script, once all jobs are finished: as vq_answers. Of a run
- * over a board the host is asked, once no other actor of it is open; the board is closed by that.
- * VQ_UNFINISHED, VQ_SHARED (another actor is open), VQ_NO_BUFFER, VQ_NO_MEMORY, VQ_NOT_HOST, VQ_WRONG_KIND: nothing was
- * written. */
+/* The bytes of a buffer, numbered from 0 in the order of the script, once all jobs are finished: as vq_answers. Of a
+ * run over a board the host is asked, once no other actor of it is open; the board is closed by that. VQ_UNFINISHED,
+ * VQ_SHARED (another actor is open), VQ_NO_BUFFER, VQ_NO_MEMORY, VQ_NOT_HOST, VQ_WRONG_KIND: nothing was written. */
 VQ_ASK enum vq_code vq_bytes(struct vq_handle *handle, uint32_t buffer, uint8_t *room, size_t size, size_t *needed);
 
-/* Ends what is held, wherever its run is, frees its memory, and zeroes the handle; of the actors of a board the last one
- * frees the run's. Of a zeroed handle it does nothing. */
+/* Ends what is held, wherever its run is, frees its memory, and zeroes the handle; of the actors of a board the last
+ * one frees the run's. Of a zeroed handle it does nothing. */
 VQ_CALL void vq_close(struct vq_handle *handle);
 
 #ifdef __cplusplus

@@ -1,29 +1,28 @@
 /* The live timeline for C: points for the values of one timeline semaphore, as submissions come. docs/LIVE.md says
  * what it is, and how a driver uses it.
  *
- * Link with libvq_live_c.a and with an allocator: the kit's liblibc_c.a, or the three functions of vq_alloc.h. A shared
- * object is linked with -Wl,--exclude-libs,ALL, so that it keeps these names to itself.
+ * Link with libvq_live_c.a and with an allocator: the kit's liblibc_c.a, or the three functions of vq_alloc.h. A
+ * shared object is linked with -Wl,--exclude-libs,ALL, so that it keeps these names to itself.
  *
  * What a caller owes, and nothing checks:
- * - each call is given a timeline as it was last written: zeroed (VQ_LIVE_NONE), opened by vq_live_open, or closed; two
- *   structs don't stand for one timeline;
+ * - each call is given a timeline as it was last written: zeroed (VQ_LIVE_NONE), opened by vq_live_open, or closed;
+ *   two structs don't stand for one timeline;
  * - calls on one timeline that may change it are made one at a time: a mutex is held round each. Timelines are free of
  *   one another;
  * - pointers of one call are valid and not null, and what they lead to doesn't overlap;
  * - no call comes from a signal handler, nor in the child of a fork of a process with threads;
- * - vq_live_complete is told only of a point whose sync is signaled, and a sync is reset between the take of its
- *   point and the submission (with help, under the lock that the take has);
- * - an operation that is passed is one that vq_live_take gave for this timeline, and vq_live_unref gives back a reference
- *   of the caller's own.
+ * - vq_live_complete is told only of a point whose sync is signaled, and a sync is reset between the take of its point
+ *   and the submission (with help, under the lock that the take has);
+ * - an operation that is passed is one that vq_live_take gave for this timeline, and vq_live_unref gives back a
+ *   reference of the caller's own.
  *
- * Words: an operation is *taken* from vq_live_take on, *pending* from vq_live_install on, and done with vq_live_complete
- * or vq_live_cancel. The *pending value* is the value of the last pending operation, and where none is pending, the
- * payload, which is the value that the timeline has reached.
+ * Words: an operation is *taken* from vq_live_take on, *pending* from vq_live_install on, and done with
+ * vq_live_complete or vq_live_cancel. The *pending value* is the value of the last pending operation, and where none
+ * is pending, the payload, which is the value that the timeline has reached.
  *
  * A call that isn't answered with VQ_LIVE_DONE, VQ_LIVE_PENDING included, changes nothing. An output is written only
  * where the call says so, and else not touched. No call waits, starts a thread or ends the process, and only
- * vq_live_open and vq_live_take want memory. The calls whose timeline is `const` write nothing but their output.
- */
+ * vq_live_open and vq_live_take want memory. The calls whose timeline is `const` write nothing but their output. */
 #ifndef VQ_LIVE_H
 #define VQ_LIVE_H
 
@@ -126,8 +125,8 @@ struct vq_live_given {
 /* The version of the library. */
 uint32_t vq_live_version(void);
 
-/* Opens a timeline that has reached a value, with no points, at `*timeline`; or VQ_LIVE_NO_MEMORY, and it stays. What was
- * there isn't looked at, nor closed. */
+/* Opens a timeline that has reached a value, with no points, at `*timeline`; or VQ_LIVE_NO_MEMORY, and it stays. What
+ * was there isn't looked at, nor closed. */
 VQ_LIVE_ASK enum vq_live_code vq_live_open(uint64_t initial, struct vq_live *timeline);
 
 /* Ends a timeline, whatever is taken, pending or held, frees its memory, and zeroes the struct. Of a zeroed struct it
@@ -140,9 +139,9 @@ VQ_LIVE_CALL void vq_live_close(struct vq_live *timeline);
 VQ_LIVE_ASK enum vq_live_code vq_live_take(struct vq_live *timeline, uint64_t value, struct vq_live_given *given);
 
 /* Makes the taken operation pending: its submission is made. VQ_LIVE_ALREADY: its value isn't above the pending value,
- * which says nothing else; of an operation that vq_live_take gave and nobody cancelled, it was installed before, perhaps
- * by a reader that helped, and that is no error. It comes before the next two. VQ_LIVE_NOTHING_TAKEN. VQ_LIVE_NOT_NEXT:
- * another one is to be installed first, `*next`. */
+ * which says nothing else; of an operation that vq_live_take gave and nobody cancelled, it was installed before,
+ * perhaps by a reader that helped, and that is no error. It comes before the next two. VQ_LIVE_NOTHING_TAKEN.
+ * VQ_LIVE_NOT_NEXT: another one is to be installed first, `*next`. */
 VQ_LIVE_ASK enum vq_live_code vq_live_install(struct vq_live *timeline, const struct vq_live_given *given,
                                               struct vq_live_given *next);
 

@@ -54,8 +54,9 @@ class Behind:
             step = plan.jobs[h]
             if step.kind == 'host wait all' and any(t == op.chain and value < op.value for _, t, value in step.needs):
                 pairs = ' '.join(f'{plan.names[t]} {op.value if t == op.chain else value}' for _, t, value in step.needs)
-                yield (f'let the host wait for {plan.names[op.chain]} {op.value} at line {self.asked.at(step.line)}: line '
-                       f'{self.asked.at(op.line)} signals that', [replace(step.line, f'host wait all {pairs}')])
+                text = (f'let the host wait for {plan.names[op.chain]} {op.value} at line {self.asked.at(step.line)}: '
+                        f'line {self.asked.at(op.line)} signals that')
+                yield text, [replace(step.line, f'host wait all {pairs}')]
                 return
             h -= 1
 

@@ -122,9 +122,12 @@ def syntax(page, line):
     elif line.odd_bytes():
         mark = next((said for start, said in BYTE_ORDER_MARKS.items()
                      if line.number == 1 and line.raw.startswith(start)), None)
-        line.mark(mark or 'a byte that is neither printable nor a tab')
+        is_return = 13 in line.odd_bytes()
+        line.mark(mark or ('a carriage return that no line feed follows ends no line' if is_return else
+                           'a byte that is neither printable nor a tab'))
         page.rule('outside comments a line has printable characters of ASCII, and tabs')
         page.help('save the text as ASCII, or as UTF-8 without such a mark' if mark else
+                  'end each line with a line feed' if is_return else
                   'take that byte out, or move it into a comment')
     elif line.form:
         wrong = next(at for at, (place, word) in enumerate(zip(line.places, line.words)) if isinstance(place, str) and (

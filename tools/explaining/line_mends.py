@@ -57,6 +57,10 @@ def without_odd_bytes(line):
     for start, said in BYTE_ORDER_MARKS.items():
         if line.number == 1 and raw.startswith(start) and len(start) == 3:
             return [(f'take {said} out, at the start of the line', [replace(1, raw[3:].decode('latin-1'))])]
+    if 13 in line.odd_bytes():
+        first, *rest = raw.rstrip(b'\r').decode('latin-1').split('\r')
+        edits = [replace(line.number, first), *(insert(line.number + 1, text) for text in rest)]
+        return [('end lines with line feeds in the place of carriage returns', edits)]
     kept = bytes(byte for byte in line.text if 32 <= byte <= 126 or byte == 9)
     return [('take those bytes out', [replace(line.number, (kept + raw[len(line.text):]).decode('latin-1'))])]
 

@@ -135,8 +135,8 @@ def not_pending(asked, line):
 # Waits that nothing reaches.
 
 def unreachable(asked, line):
-    """What is waited for is submitted first or elsewhere, or else what holds the wait back is mended, from the last thing
-    in its way on; then the wait may go."""
+    """What is waited for is submitted first or elsewhere, or else what holds the wait back is mended, from the last
+    thing in its way on; then the wait may go."""
     numbers, stuck = final_numbers(asked.plan, asked.order.slow), set(asked.order.stuck)
     chain, j = [], asked.job_at(line)
     while j is not None and j not in [i for i, _ in chain] and len(chain) < LONGEST:
@@ -226,7 +226,7 @@ def submitted_elsewhere(asked, ring):
 
 
 def held_up(asked, ring):
-    """The batches of a ring that are waited for and can't start, as one of their queue before them waits: pairs of both."""
+    """The batches of a ring that are waited for and can't start, as one of their queue before them waits: pairs."""
     jobs, found = asked.plan.jobs, []
     for place, (i, at) in enumerate(ring):
         if jobs[i].queue is None or asked.is_of_thread(i) or asked.words(at)[0] != 'wait':

@@ -1,4 +1,4 @@
-"""What comes before what, found where it is asked: by walks from one job, so that a large script's order isn't made whole."""
+"""What comes before what, found where it is asked, by walks from one job: a large script's order isn't made whole."""
 from order import slow_run
 
 

@@ -64,8 +64,8 @@ class Guilty:
         return self.asked.is_behind(self.plan.ops[e].job, other)
 
     def mark_wait(self, line, t, value, other):
-        """Says what is wrong with a wait that puts nothing behind another job: a value too low where the mend raises it, as
-        the one that is meant may be another wait."""
+        """Says what is wrong with a wait that puts nothing behind another job: a value too low where the mend raises it,
+        as the one that is meant may be another wait."""
         plan, at = self.plan, self.asked.at
         e = self.enough(t, other)
         behind = '' if e is None else f'; line {at(plan.ops[e].line)} signals {plan.ops[e].value}'

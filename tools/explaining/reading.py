@@ -1,4 +1,4 @@
-"""How a text is read: as a script, as one with a schedule, with thread blocks or with a trace; by the word of vq for it."""
+"""How a text is read: as a script, with a schedule, with thread blocks or with a trace; by the word of vq for it."""
 import re
 
 from blocks import Hosts

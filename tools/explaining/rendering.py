@@ -79,7 +79,8 @@ def as_gcc(page):
     """A line for the fault, and one for each further marked line and each remark."""
     line, column = page.primary()
     ids = rule_ids(page)
-    rows = [f'{page.path}:{line}:{column}: error: {said(page).removeprefix("error: ")}' + (f' [{", ".join(ids)}]' if ids else '')]
+    verdict = said(page).removeprefix('error: ')
+    rows = [f'{page.path}:{line}:{column}: error: {verdict}' + (f' [{", ".join(ids)}]' if ids else '')]
     for at in sorted(page.marks):
         rows += [f'{page.path}:{page.draft.near(at)}:{mark.start + 1}: note: {mark.text}' for mark in page.marks[at]]
     rows += [f'{page.path}:{line}:{column}: note: {text}' for kind, text in page.remarks if kind == 'help']

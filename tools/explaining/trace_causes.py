@@ -64,8 +64,8 @@ class Causes:
         for line, t, value in self.plan.jobs[j].needs:
             e = self.plan.awaited_signal(t, value)
             if e is not None and e not in ledger.bound:
-                yield (f'its wait at line {self.page.at(line)} is for {self.op(e)}, which isn\'t pending: the work would start '
-                       'too early')
+                yield (f'its wait at line {self.page.at(line)} is for {self.op(e)}, which isn\'t pending: the work would '
+                       'start too early')
 
     def release(self, j):
         yield from self.handed_on(j)
@@ -176,8 +176,8 @@ class Causes:
         if fresh and free:
             yield f'point {free[0]} of {name} is free, and is used first'
         elif fresh and q != ledger.points:
-            yield (f'the next fresh point is {ledger.points}: they are counted over the whole run, of all timelines, binary '
-                   'semaphores and fences together')
+            yield (f'the next fresh point is {ledger.points}: they are counted over the whole run, of all timelines, '
+                   'binary semaphores and fences together')
         elif not fresh and not free:
             yield f'no point of {name} is free'
         elif not fresh and free[0] != q:
@@ -224,8 +224,8 @@ class Causes:
             yield f'its signal {self.op(e)} isn\'t completed'
         for actor, point, other in ledger.held:
             if point == q:
-                yield (f'{self.actor(actor)} still watches point {q} for {self.op(other)}{self.since("refer", actor)}: the '
-                       'next user\'s signal would be taken for this one')
+                yield (f'{self.actor(actor)} still watches point {q} for {self.op(other)}{self.since("refer", actor)}: '
+                       'the next user\'s signal would be taken for this one')
 
     def actor(self, actor):
         return 'the host' if actor[0] == 'host' else f'{actor[0]}:{self.queues[actor[1]]}'

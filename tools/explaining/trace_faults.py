@@ -7,8 +7,8 @@ from trace_causes import Causes, next_events
 # The words of an outcome by its first one, as they are written.
 FORMS = {'submit': 'submit L', 'release': 'release L', 'start': 'start L', 'finish': 'finish L', 'apply': 'apply L',
          'take': 'take T V fresh P` or `take T V reused P', 'bind': 'bind T V P', 'refer': 'refer P T V',
-         'look': 'look P T V', 'unref': 'unref P T V', 'complete': 'complete T V', 'signal': 'signal T V', 'free': 'free P',
-         'answer': 'answer L ok`, `answer L timeout`, `answer L not-ready` or `answer L value N'}
+         'look': 'look P T V', 'unref': 'unref P T V', 'complete': 'complete T V', 'signal': 'signal T V',
+         'free': 'free P', 'answer': 'answer L ok`, `answer L timeout`, `answer L not-ready` or `answer L value N'}
 MAKERS = {'submit': 'the host alone submits', 'refer': 'only the host and rings watch points',
           'look': 'only the host and rings watch points', 'unref': 'only the host and rings watch points',
           'complete': 'rings complete nothing: the host and those who submit do',
@@ -97,7 +97,8 @@ def form_fault(traced, words):
         except (ValueError, KeyError, IndexError):
             return None, named(traced, verb, words[3:]), f'write `{FORMS[verb]}`, with the names and lines of the script'
         if not traced.reader.may_make(actor, event):
-            return 1, f'{words[1]} can\'t do that: {maker(traced, event)}', f'write it of who does it, or leave the line out'
+            return (1, f'{words[1]} can\'t do that: {maker(traced, event)}',
+                    'write it of who does it, or leave the line out')
     if value <= last:
         return 0, f'not above {last}, a number before it', 'count up; where threads write in parts, sort by time first'
     return None, 'it can\'t be read', 'compare it with docs/AUDIT.md'
@@ -180,7 +181,8 @@ def broken_event(page, traced, ledger, came, event):
     word = traced.words()[1]
     able = next_events(traced, ledger, traced.reader.actor(word.encode('latin-1')))
     if able:
-        page.note(f'{word} may go on with ' + ', '.join(f'`{text}`' for text in able[:4]) + (' ..' if len(able) > 4 else ''))
+        some = ', '.join(f'`{text}`' for text in able[:4]) + (' ..' if len(able) > 4 else '')
+        page.note(f'{word} may go on with {some}')
         page.help(f'write what the layer did there, as `{able[0]}`, or mend the layer')
     else:
         page.note(f'{word} can do nothing here but wait')

@@ -65,6 +65,8 @@ CAUSES = [
     ('a ring of two queues', 'buffer a 4|buffer b 4|timeline t 0|timeline u 0|queue P threaded|queue Q threaded|submit P|'
      'wait u 1|fill a 0 4 1|signal t 1|end|submit Q|wait t 1|copy a 0 b 0 4|signal u 1|end', 8, 'waits for the signal',
      'the fill of line 9 then comes before the copy of line 14'),
+    ('carriage returns alone', 'buffer X 4\rqueue Q immediate\rsubmit Q\rend', 1, 'a carriage return that no line feed',
+     '+ queue Q immediate'),
     ('a byte order mark', '\ufeffbuffer X 4', 1, 'byte order mark', '1 + buffer X 4'),
 ]
 # A race, and the lines of waits that the mend doesn't raise: nothing is said of them.
@@ -81,8 +83,8 @@ INNOCENT = [
      'host wait all frame 1|submit cpu|fill Y 0 4 4|signal w 4|end', [26], '36 + host wait all frame 2'),
 ]
 # The line of a trace behind a script, put in after the first lines of a lawful trace, what is marked, and what is said.
-TRACED = ('buffer X 4|timeline A 0|queue P threaded|queue Q threaded|submit P|fill X 0 4 1|signal A 1|end|submit Q|wait A 1|'
-          'end|trace|1 host submit 5|2 S:P take A 1 fresh 0|3 S:P release 5|')
+TRACED = ('buffer X 4|timeline A 0|queue P threaded|queue Q threaded|submit P|fill X 0 4 1|signal A 1|end|submit Q|'
+          'wait A 1|end|trace|1 host submit 5|2 S:P take A 1 fresh 0|3 S:P release 5|')
 TRACES = [
     ('4 S:Q release 9', 'isn\'t submitted yet', 'S:Q can do nothing here but wait'),
     ('4 host submit 9|5 S:Q release 9', 'its wait at line 10 is for A 1, which isn\'t pending', 'docs/TURNS.md'),
@@ -184,7 +186,8 @@ def innocent(tests):
 def traces(tests):
     """Lines of traces by their causes, in all formats, and turns of schedules."""
     for trace, mark, said in TRACES:
-        data = lines(TRACED + trace + ('|unfinished 2' if 'unfinished N' != said and 'unfinished' not in trace else '')).encode()
+        has_end = said == 'unfinished N' or 'unfinished' in trace
+        data = lines(TRACED + trace + ('' if has_end else '|unfinished 2')).encode()
         done = tests.tool('explain', data=data)
         page = ' '.join(done.stdout.decode().split())
         first = tests.vq(data, '--audit').decode().strip()
@@ -261,7 +264,8 @@ def is_quick(tests):
 def largest(tail=''):
     """Nearly 4 MB: 7,900 batches of 15 queues in a ring, each with 16 waits for the one before and 16 signals."""
     rows, values = ['version 2', 'buffer X 4'], [0] * 15
-    rows += [f'timeline T{q:02d}{m:02d} 0' for q in range(15) for m in range(16)] + [f'queue Q{q:03d} threaded' for q in range(15)]
+    rows += [f'timeline T{q:02d}{m:02d} 0' for q in range(15) for m in range(16)]
+    rows += [f'queue Q{q:03d} threaded' for q in range(15)]
     for k in range(7900):
         queue, before = k % 15, (k - 1) % 15
         rows.append(f'submit Q{queue:03d}')
@@ -289,7 +293,7 @@ def is_quick_on_the_largest(tests):
         before = os.times()
         done = tests.tool(name, *words, data=largest())
         took = sum(os.times()[2:4]) - sum(before[2:4])
-        tests.check(f'4 MB for {name} {words}', done.returncode == 2 and b' has ' in done.stderr and b'of up to 1,' in done.stderr
-                    and took < 5, (took, done.stderr))
+        tests.check(f'4 MB for {name} {words}', done.returncode == 2 and b' has ' in done.stderr
+                    and b'of up to 1,' in done.stderr and took < 5, (took, done.stderr))
     alone = tests.tool('explain', data=largest(), program=False, env={'PATH': '/usr/bin:/bin', 'HOME': '/'})
     tests.check('4 MB without vq', alone.returncode in (0, 1) or b'without vq' in alone.stderr, alone.stderr)

@@ -26,7 +26,8 @@ def test_run_example(tests):
         return
     folder = os.path.join(tests.folder, 'unproved')
     done = run([os.path.join(TOP, 'tools', 'unproved', 'build'), folder])
-    tests.check('the unproved program is built', done.returncode == 0 and b'without its proof' in done.stderr, done.stderr)
+    tests.check('the unproved program is built', done.returncode == 0 and b'without its proof' in done.stderr,
+                done.stderr)
     if done.returncode == 0:
         answers_as_the_proved_one(tests, os.path.join(folder, 'vq'))
     takes_all_words(tests)

@@ -1,4 +1,4 @@
-"""The sources of crates as plain Rust: without clauses, ghosts and what is said to the prover, what is left is nearly so."""
+"""The sources of crates as plain Rust: without clauses, ghosts and what the prover is told, the rest is nearly so."""
 import os
 import re
 import shutil

@@ -15,7 +15,7 @@ use Rattle.vq_live.specs.declared.answers.SignalFault.TheVariants as signal_as
 use Rattle.vq_live.specs.Live.{Live, KeepsLive, RisesFrom, opened, pending, pending_value, slot_at, is_idle}
 use Rattle.vq_live.specs.Calls.{take_fault, after_take, point_from, slots_from, placed, next_fault, install_fault, after_install, first_of, first_pending, after_complete, put_slot, done_slot, cancel_fault, after_cancel, refer_answer, after_refer, after_unref, below_first, signal_fault, after_signal, found, found_of, first_at_least}
 use Rattle.vq_live.specs.Places.{IsTakenAt}
-use Rattle.vq_live.specs.Runs.{Event, taking, installing, completing, cancelling, referring, returning, signaling, MayCome, after, IsRun, after_all}
+use Rattle.vq_live.specs.Runs.{Event, taking, installing, completing, cancelling, referring, returning, signaling, reserving, MayCome, after, IsRun, after_all}
 use Rattle.vq_live.proofs.Slots.{out_busy, held_busy}
 use Rattle.vq_live.proofs.Taking.{reuse_keeps, fresh_keeps}
 use Rattle.vq_live.proofs.Completing.{complete_keeps, completed_is, held_keeps}
@@ -46,7 +46,7 @@ held_exists (x ∷ xs) (suc p) e = let rest = held_exists xs p e in omega arith
 take_event : (t : Live) (v : ℕ) → KeepsLive t → take_fault t v ≡ None → KeepsLive (after_take t v)
 take_event t v k fine = by_free t.free refl
   where
-    by_free : (free : List ℕ) → t.free ≡ free → KeepsLive (record t { ops = placed (record { value = v; point = point_from free (length t.slots) }) t.ops; slots = slots_from free t.slots; free = drop 1 free })
+    by_free : (free : List ℕ) → t.free ≡ free → KeepsLive (record t { ops = placed (record { value = v; point = point_from free (length t.slots) }) t.ops; slots = slots_from free t.slots; free = drop 1 free; reserved = t.reserved - 1 })
     by_free [] e = fresh_keeps t v k fine e
     by_free (p ∷ rest) e = reuse_keeps t v p rest k fine e
 
@@ -143,6 +143,7 @@ event_keeps t (cancelling x) k m = cancel_event t x k m
 event_keeps t (referring p) k m = refer_event t p k m
 event_keeps t (returning p) k m = unref_event t p k m
 event_keeps t (signaling v) k m = signal_event t v k m
+event_keeps t (reserving n) k m = record { rising = k.rising; within = k.within; out = k.out; once = k.once; each_out = k.each_out; points = k.points }
 
 pub run_keeps : (t : Live) (events : List Event) → KeepsLive t → IsRun t events → KeepsLive (after_all t events)
 run_keeps t [] k r = k
@@ -162,6 +163,7 @@ event_rises t (cancelling x) k m = omega arith
 event_rises t (referring p) k m = omega arith
 event_rises t (returning p) k m = omega arith
 event_rises t (signaling v) k m = let low = (signal_may t v m).0 in omega arith
+event_rises t (reserving n) k m = omega arith
 
 pub run_rises : (t : Live) (events : List Event) → KeepsLive t → IsRun t events → t.payload ≤ (after_all t events).payload
 run_rises t [] k r = omega arith

@@ -84,7 +84,7 @@ may_take t v k h =
     above_le : (a b : ℕ) → nat_le a b ≡ false → b < a
     above_le a b q = grind (arith, nat_tests)
 
-pub take_keeps : (t : Live) (y : Given) (slots : List Slot) (free : List ℕ) → KeepsLive t → take_fault t y.value ≡ None → IsUnused y.point t.ops → y.point < length slots → (slot_at slots y.point).out ≡ true → AreOut slots t.ops → count_of is_out slots ≡ count_of is_out t.slots + 1 → KeepsFree slots free → KeepsLive (record t { ops = placed y t.ops; slots = slots; free = free })
+pub take_keeps : (t : Live) (y : Given) (slots : List Slot) (free : List ℕ) → KeepsLive t → take_fault t y.value ≡ None → IsUnused y.point t.ops → y.point < length slots → (slot_at slots y.point).out ≡ true → AreOut slots t.ops → count_of is_out slots ≡ count_of is_out t.slots + 1 → KeepsFree slots free → KeepsLive (record t { ops = placed y t.ops; slots = slots; free = free; reserved = t.reserved - 1 })
 take_keeps t y slots free k fine unused exists out outs more points =
     let may = may_take t y.value k fine in
     let one = placed_count y t.ops in
@@ -132,7 +132,7 @@ idle_in s e = by_out s.out e
         by_refs true q = absurd (cc)
         by_refs false q = absurd (cc)
 
-pub reuse_keeps : (t : Live) (v p : ℕ) (rest : List ℕ) → KeepsLive t → take_fault t v ≡ None → t.free ≡ p ∷ rest → KeepsLive (record t { ops = placed (record { value = v; point = p }) t.ops; slots = set t.slots p busy; free = rest })
+pub reuse_keeps : (t : Live) (v p : ℕ) (rest : List ℕ) → KeepsLive t → take_fault t v ≡ None → t.free ≡ p ∷ rest → KeepsLive (record t { ops = placed (record { value = v; point = p }) t.ops; slots = set t.slots p busy; free = rest; reserved = t.reserved - 1 })
 reuse_keeps t v p rest kept fine e =
     let points = subst (KeepsFree t.slots) e kept.points in
     let exists = points.idle.0 in
@@ -142,7 +142,7 @@ reuse_keeps t v p rest kept fine e =
     take_keeps t (record { value = v; point = p }) (set t.slots p busy) rest kept fine (idle_unused t.slots t.ops p kept.out idle) (subst (λ (n : ℕ). p < n) (sym (length-set t.slots p busy)) exists)
     (ap (λ (s : Slot). s.out) (slot_same t.slots p busy exists)) (out_out t.slots t.ops p busy kept.out refl) (omega arith) (reuse_free t.slots p rest points)
 
-pub fresh_keeps : (t : Live) (v : ℕ) → KeepsLive t → take_fault t v ≡ None → t.free ≡ [] → KeepsLive (record t { ops = placed (record { value = v; point = length t.slots }) t.ops; slots = t.slots ++ busy ∷ []; free = [] })
+pub fresh_keeps : (t : Live) (v : ℕ) → KeepsLive t → take_fault t v ≡ None → t.free ≡ [] → KeepsLive (record t { ops = placed (record { value = v; point = length t.slots }) t.ops; slots = t.slots ++ busy ∷ []; free = []; reserved = t.reserved - 1 })
 fresh_keeps t v kept fine e =
     let points = subst (KeepsFree t.slots) e kept.points in
     let size = length-append t.slots (busy ∷ []) in

@@ -8,7 +8,7 @@ use Rattle.vq_live.specs.declared.answers.Given.{Given}
 use Rattle.vq_live.specs.declared.answers.Slot.{Slot}
 use Rattle.vq_live.specs.Live.{Live, KeepsLive, AreOut, AreIdle, opened, slot_at, no_slot, is_idle, one_if, count_of}
 use Rattle.vq_live.specs.Calls.{point_from, next_point, slots_from, busy, done_slot, after_take, after_complete}
-use Rattle.vq_live.specs.Runs.{Event, taking, installing, completing, cancelling, referring, returning, signaling, MayCome, after, IsRun, after_all, refers, returns_it, times, carried_after, is_carried, IsLeft, is_used, used_count, UsesAtMost}
+use Rattle.vq_live.specs.Runs.{Event, taking, installing, completing, cancelling, referring, returning, signaling, reserving, MayCome, after, IsRun, after_all, refers, returns_it, times, carried_after, is_carried, IsLeft, is_used, used_count, UsesAtMost}
 use Rattle.vq_live.proofs.Removing.{may_cancel, at_out}
 use Rattle.vq_live.proofs.Runs.{opened_keeps, out_exists, held_exists, refer_out, complete_gives, event_keeps, run_keeps}
 
@@ -147,6 +147,7 @@ event_refs t p (cancelling x) k m =
 event_refs t p (referring q) k m = refer_refs t.slots q p (out_exists t.slots q (refer_out t q m))
 event_refs t p (returning q) k m = unref_refs t.slots q p (slot_at t.slots q).out (held_exists t.slots q m) m
 event_refs t p (signaling v) k m = refl
+event_refs t p (reserving n) k m = refl
 
 pub event_out : (t : Live) (p : ℕ) (e : Event) → KeepsLive t → MayCome t e → (slot_at (after t e).slots p).out ≡ carried_after p (slot_at t.slots p).out e
 event_out t p (taking x) k m =
@@ -165,6 +166,7 @@ event_out t p (referring q) k m =
 event_out t p (returning q) k m =
     write_same t.slots q p (record { refs = (slot_at t.slots q).refs - 1; out = (slot_at t.slots q).out }) (held_exists t.slots q m) refl
 event_out t p (signaling v) k m = refl
+event_out t p (reserving n) k m = refl
 
 -- along a run
 run_refs : (t : Live) (p : ℕ) (events : List Event) → KeepsLive t → IsRun t events → (slot_at (after_all t events).slots p).refs + times (returns_it p) events ≡ (slot_at t.slots p).refs + times (refers p) events
@@ -239,6 +241,7 @@ event_made t (referring q) n k m l u =
 event_made t (returning q) n k m l u =
     let size = length-set t.slots q (record { refs = (slot_at t.slots q).refs - 1; out = (slot_at t.slots q).out }) in omega arith
 event_made t (signaling v) n k m l u = l
+event_made t (reserving c) n k m l u = l
 
 uses_now : (n : ℕ) (t : Live) (events : List Event) → UsesAtMost n t events → used_count t ≤ n
 uses_now n t [] u = u

@@ -1,5 +1,5 @@
 -- What each call of a live timeline answers and leaves.
-use Rattle.std.specs.Prelude.{ℕ, Bool, true, false, List, [], ◌∷◌, ◌++◌, Option, Some, None, ◌≡◌, ◌+◌, ◌-◌}
+use Rattle.std.specs.Prelude.{ℕ, Bool, true, false, List, [], ◌∷◌, ◌++◌, Option, Some, None, ◌≡◌, ◌+◌, ◌-◌, ◌<◌}
 use Rattle.std.specs.Prelude.{◌==◌, ◌&&◌, length, drop, find, nat_le, nat_lt, nat_eq, if◌then◌else◌, slice_set, Result, Ok, Err}
 use Rattle.std.specs.List.{slice_get, list_any}
 use Rattle.vq_live.specs.declared.answers.Given.{Given}
@@ -8,6 +8,8 @@ use Rattle.vq_live.specs.declared.answers.SignalFault.{SignalFault}
 use Rattle.vq_live.specs.declared.answers.SignalFault.TheVariants as signal_as
 use Rattle.vq_live.specs.declared.answers.TakeFault.{TakeFault}
 use Rattle.vq_live.specs.declared.answers.TakeFault.TheVariants as take_as
+use Rattle.vq_live.specs.declared.answers.ReserveFault.{ReserveFault}
+use Rattle.vq_live.specs.declared.answers.ReserveFault.TheVariants as reserve_as
 use Rattle.vq_live.specs.declared.answers.ReferFault.{ReferFault}
 use Rattle.vq_live.specs.declared.answers.ReferFault.TheVariants as refer_as
 use Rattle.vq_live.specs.declared.answers.Found.{Found}
@@ -120,16 +122,21 @@ after_unref t point =
     put_slot t point
     (record { refs = (slot_at t.slots point).refs - 1; out = (slot_at t.slots point).out })
 
+-- the first point from this number on that is held
+abbrev pub held_from : ℕ → List Slot → Option ℕ
+held_from n [] = None
+held_from n (s ∷ slots) = if nat_eq s.refs 0 then held_from (n + 1) slots else Some n
+
 -- taking
 abbrev pub take_fault : Live → ℕ → Option TakeFault
 take_fault t value =
     if nat_le value (pending_value t) then Some (take_as.NotAbove (pending_value t))
     else if list_any (λ x. x.value == value) t.ops then Some take_as.Twice else None
 
--- a take can fail for want of numbers or memory too
+-- a take can fail for want of numbers or memory too, where none is reserved
 abbrev pub MayLack : Live → TakeFault → Type 0
-MayLack t take_as.NoMemory = Unit {0}
-MayLack t take_as.Full = (length t.slots ≡ 4294967295) × (t.free ≡ [])
+MayLack t take_as.NoMemory = t.reserved ≡ 0
+MayLack t take_as.Full = (t.reserved ≡ 0) × (length t.slots ≡ 4294967295) × (t.free ≡ [])
 MayLack t take_as.Twice = ⊥
 MayLack t (take_as.NotAbove n) = ⊥
 
@@ -158,4 +165,20 @@ slots_from (point ∷ free) slots = slice_set slots point busy
 
 abbrev pub after_take : Live → ℕ → Live
 after_take t value =
-    record t { ops = placed (given_to t value) t.ops; slots = slots_from t.free t.slots; free = drop 1 t.free }
+    record t {
+      ops = placed (given_to t value) t.ops;
+      slots = slots_from t.free t.slots;
+      free = drop 1 t.free;
+      reserved = t.reserved - 1;
+    }
+
+-- reserving for so many takes, in the place of what was reserved before
+abbrev pub LacksNumbers : Live → ℕ → Type 0
+LacksNumbers t count = 4294967295 + length t.free < length t.slots + count
+
+abbrev pub LacksRoom : Live → ℕ → ReserveFault → Type 0
+LacksRoom t count reserve_as.Full = (t.reserved < count) × LacksNumbers t count
+LacksRoom t count reserve_as.NoMemory = t.reserved < count
+
+abbrev pub after_reserve : Live → ℕ → Live
+after_reserve t count = record t { reserved = count }

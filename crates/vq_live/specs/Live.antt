@@ -15,9 +15,11 @@ pub record Live : Type 0 where
   -- the points by number, and the free ones, the one freed last first
   pub slots : List Slot
   pub free : List ℕ
+  -- so many takes have their memory and their points' numbers already
+  pub reserved : ℕ
 
 abbrev pub opened : ℕ → Live
-opened initial = record { payload = initial; ops = []; installed = 0; slots = []; free = [] }
+opened initial = record { payload = initial; ops = []; installed = 0; slots = []; free = []; reserved = 0 }
 
 -- the installed operations, and those only taken
 abbrev pub pending : Live → List Given

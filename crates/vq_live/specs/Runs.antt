@@ -6,7 +6,7 @@ use Rattle.vq_live.specs.declared.answers.Given.{Given}
 use Rattle.vq_live.specs.Live.{Live, opened, slot_at, count_of, is_idle, one_if}
 use Rattle.vq_live.specs.Calls.{take_fault, given_to, after_take, install_fault, after_install, first_pending}
 use Rattle.vq_live.specs.Calls.{after_complete, cancel_fault, after_cancel, refer_answer, after_refer, after_unref}
-use Rattle.vq_live.specs.Calls.{signal_fault, after_signal}
+use Rattle.vq_live.specs.Calls.{signal_fault, after_signal, LacksNumbers, after_reserve}
 use Rattle.vq_live.specs.declared.answers.Slot.{Slot}
 
 -- a call that wasn't refused
@@ -18,6 +18,7 @@ pub data Event : Type 0 where
   referring : ℕ → Event
   returning : ℕ → Event
   signaling : ℕ → Event
+  reserving : ℕ → Event
 
 -- when each may come, by the words of the calls' contracts
 abbrev pub MayCome : Live → Event → Type 0
@@ -28,6 +29,7 @@ MayCome t (cancelling x) = cancel_fault t x ≡ None
 MayCome t (referring point) = refer_answer t point ≡ Ok (record { point = point })
 MayCome t (returning point) = 0 < (slot_at t.slots point).refs
 MayCome t (signaling value) = signal_fault t value ≡ None
+MayCome t (reserving count) = LacksNumbers t count → ⊥
 
 -- what each leaves
 abbrev pub after : Live → Event → Live
@@ -38,6 +40,7 @@ after t (cancelling x) = after_cancel t x
 after t (referring point) = after_refer t point
 after t (returning point) = after_unref t point
 after t (signaling value) = after_signal t value
+after t (reserving count) = after_reserve t count
 
 -- A call was this event: the event may come before it, and leaves what is there after it.
 pub record Comes (t : Live) (e : Event) (u : Live) : Type 0 where

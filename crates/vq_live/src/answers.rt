@@ -26,6 +26,13 @@ pub enum TakeFault {
     NoMemory,
 }
 
+/// Why nothing was reserved: there aren't numbers enough for so many fresh points; or there is no memory.
+#[derive(Clone, Copy, PartialEq, Eq, Debug)]
+pub enum ReserveFault {
+    Full,
+    NoMemory,
+}
+
 /// Why a point wasn't installed: the value isn't above the pending one, so it was installed before,
 /// perhaps by a reader that helped; or nothing is taken; or the operation isn't the one that was taken
 /// for the least value, which is named.

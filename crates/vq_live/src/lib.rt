@@ -7,6 +7,7 @@ pub mod laws;
 mod live;
 
 pub use answers::{
-    CancelFault, Found, Given, Held, InstallFault, ReferFault, SignalFault, Slot, TakeFault,
+    CancelFault, Found, Given, Held, InstallFault, ReferFault, ReserveFault, SignalFault, Slot,
+    TakeFault,
 };
 pub use live::LiveTimeline;

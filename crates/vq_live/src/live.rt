@@ -1,18 +1,20 @@
-ghost use Rattle.std.specs.Prelude.{◌≡◌, ◌⊎◌, ◌↔◌, ◌∷◌, ◌++◌, ◌<◌, ◌≤◌, [], ℕ, true, if◌then◌else◌, length};
+ghost use Rattle.std.specs.Prelude.{◌≡◌, ◌⊎◌, ◌↔◌, ◌∷◌, ◌++◌, ◌+◌, ◌<◌, ◌≤◌, [], ℕ, true, if◌then◌else◌, length};
 ghost use Rattle.std.specs.Prelude.{slice_set, None, Some, IsErr, IfOk, IfErr, OnOk, OnErr, IfSome};
 ghost use Rattle.std.specs.Vec.{vec_capacity, vec_len};
+ghost use Rattle.std.specs.VecDeque.{deque_capacity, deque_len};
 ghost use Rattle.std.specs.List.{slice_get};
 ghost use Rattle.std.specs.List.Sorted.{IsPartitionPoint};
 ghost use Rattle.vq_live.specs.Live.{opened, KeepsLive, pending_value, pending, slot_at, no_slot, is_idle, IsUnused};
 ghost use Rattle.vq_live.specs.Calls.{signal_fault, after_signal, install_fault, after_install, found};
 ghost use Rattle.vq_live.specs.Calls.{first_pending, after_complete, cancel_fault, after_cancel};
 ghost use Rattle.vq_live.specs.Calls.{refer_answer, after_refer, after_unref};
-ghost use Rattle.vq_live.specs.Calls.{take_fault, given_to, after_take, MayLack};
-ghost use Rattle.vq_live.specs.Runs.{Comes, taking, installing, completing, cancelling, referring, returning, signaling};
+ghost use Rattle.vq_live.specs.Calls.{take_fault, given_to, after_take, MayLack, LacksNumbers, LacksRoom, after_reserve, held_from};
+ghost use Rattle.vq_live.specs.Runs.{Comes, taking, installing, completing, cancelling, referring, returning, signaling, reserving};
 ghost use Rattle.vq_live.specs.Places.{IsPlace, IsTakenAt};
 
 use crate::{
-    CancelFault, Found, Given, Held, InstallFault, ReferFault, SignalFault, Slot, TakeFault,
+    CancelFault, Found, Given, Held, InstallFault, ReferFault, ReserveFault, SignalFault, Slot,
+    TakeFault,
 };
 use std::alloc::{AllocError, Global};
 use std::collections::VecDeque;
@@ -33,6 +35,8 @@ pub struct LiveTimeline {
     slots: Vec<Slot>,
     // The one freed last stands last.
     free: Vec<u32>,
+    // So many takes have their memory and their points' numbers already.
+    reserved: usize,
 }
 
 impl Model for LiveTimeline {
@@ -59,6 +63,7 @@ impl LiveTimeline {
             installed: 0,
             slots: Vec::new(alloc),
             free: Vec::new(alloc),
+            reserved: 0,
         }
     }
 
@@ -261,6 +266,28 @@ impl LiveTimeline {
         }
     }
 
+    /// How many references to a point are held: none of a number that is no point's.
+    pub fn refs(&self, point: u32) -> u32
+        ensures { result ≡ (slot_at self.now.slots point).refs }
+    {
+        match self.slots.get(point as usize) {
+            Some(slot) => slot.refs,
+            None => 0,
+        }
+    }
+
+    /// The point of least number that is held, if any is.
+    pub fn first_held(&self) -> Option<u32>
+        ensures { result ≡ held_from 0 self.now.slots }
+    {
+        for (i, slot) in self.slots.iter().enumerate() {
+            if slot.refs != 0 {
+                return Some(i as u32);
+            }
+        }
+        None
+    }
+
     /// Gives a reference back. The point is free if it was the last one and its operation is
     /// completed. The error hands the reference out again: nobody holds that point of this timeline,
     /// so the reference is of another one.
@@ -287,8 +314,8 @@ impl LiveTimeline {
         }
     }
 
-    // The value of the last installed operation, or the one reached where none is pending.
-    fn pending_value(&self) -> u64
+    /// The value of the last installed operation, or the one reached where none is pending.
+    pub fn pending_value(&self) -> u64
         ensures { result ≡ pending_value self.now }
     {
         if self.installed == 0 {
@@ -317,9 +344,53 @@ impl LiveTimeline {
         Ok(place)
     }
 
+    /// Why no point would be given to an operation with this value, memory and numbers of points aside.
+    pub fn take_fault(&self, value: u64) -> Option<TakeFault>
+        ensures { result ≡ take_fault self.now value }
+    {
+        match self.place_for(value) {
+            Ok(_) => None,
+            Err(fault) => Some(fault),
+        }
+    }
+
+    /// Takes the memory of so many takes ahead, and sees that there are numbers for so many points: as many takes from
+    /// here on lack neither. It stands in the place of what was reserved before, so to reserve none gives that up; the
+    /// room stays.
+    pub fn reserve(&mut self, count: usize) -> Result<(), ReserveFault>
+        ensures ok { OnOk result (LacksNumbers self.old count → ⊥) }
+        ensures err { IfErr result (LacksRoom self.old count) }
+        ensures after { OnOk result (self.new ≡ after_reserve self.old count) }
+        ensures unchanged { OnErr result (self.new ≡ self.old) }
+        ensures came { OnOk result (Comes self.old (reserving count) self.new) }
+        ensures kept { KeepsLive self.new }
+    {
+        if count > self.reserved {
+            let made = self.slots.len();
+            let fresh = count.saturating_sub(self.free.len());
+            if fresh > u32::MAX as usize - made {
+                return Err(ReserveFault::Full);
+            }
+            let freed = (made + fresh).saturating_sub(self.free.len());
+            let full = make_room(
+                &mut self.ops,
+                &mut self.slots,
+                &mut self.free,
+                count,
+                fresh,
+                freed,
+            );
+            if full.is_err() {
+                return Err(ReserveFault::NoMemory);
+            }
+        }
+        self.reserved = count;
+        Ok(())
+    }
+
     /// Gives a point to an operation with this value: the free one that was freed last, or a fresh one
     /// where none is free. Takes needn't come in the order of the values: a value is refused only where
-    /// it isn't above the pending one, or is taken already. All memory is taken here.
+    /// it isn't above the pending one, or is taken already. All memory is taken here, or ahead by `reserve`.
     pub fn take(&mut self, value: u64) -> Result<Given, TakeFault>
         ensures ok { OnOk result (take_fault self.old value ≡ None) }
         ensures err { IfErr result (λ fault. (take_fault self.old value ≡ Some fault) ⊎ MayLack self.old fault) }
@@ -346,6 +417,7 @@ impl LiveTimeline {
                         let rest = self.free.len() - 1;
                         self.free.truncate(rest);
                         self.slots[given.point as usize] = Slot { refs: 0, out: true };
+                        self.reserved = self.reserved.saturating_sub(1);
                         Ok(given)
                     }
                 }
@@ -385,6 +457,7 @@ impl LiveTimeline {
                         Err(_) => Err(TakeFault::NoMemory),
                         Ok(()) => {
                             self.slots.push_reserved(Slot { refs: 0, out: true });
+                            self.reserved = self.reserved.saturating_sub(1);
                             Ok(given)
                         }
                     }
@@ -392,6 +465,36 @@ impl LiveTimeline {
             },
         }
     }
+}
+
+// Makes room for so many operations, so many fresh points, and for freeing so many.
+fn make_room(
+    ops: &mut VecDeque<Given>,
+    slots: &mut Vec<Slot>,
+    free: &mut Vec<u32>,
+    count: usize,
+    fresh: usize,
+    freed: usize,
+) -> Result<(), AllocError>
+    ensures ops { ops.new.items ≡ ops.old.items }
+    ensures ops_len { deque_len ops.new ≡ deque_len ops.old }
+    ensures ops_room { deque_capacity ops.old ≤ deque_capacity ops.new }
+    ensures in_ops { OnOk result (deque_len ops.old + count ≤ deque_capacity ops.new) }
+
+    ensures slots { slots.new.items ≡ slots.old.items }
+    ensures slots_len { vec_len slots.new ≡ vec_len slots.old }
+    ensures slots_room { vec_capacity slots.old ≤ vec_capacity slots.new }
+    ensures in_slots { OnOk result (vec_len slots.old + fresh ≤ vec_capacity slots.new) }
+
+    ensures free { free.new.items ≡ free.old.items }
+    ensures free_len { vec_len free.new ≡ vec_len free.old }
+    ensures free_room { vec_capacity free.old ≤ vec_capacity free.new }
+    ensures in_free { OnOk result (vec_len free.old + freed ≤ vec_capacity free.new) }
+{
+    ops.reserve(count)?;
+    slots.reserve(fresh)?;
+    free.reserve(freed)?;
+    Ok(())
 }
 
 // What a point's slot becomes. The point is free where it is idle now.
@@ -402,6 +505,8 @@ fn put(slots: &mut Vec<Slot>, free: &mut Vec<u32>, point: u32, slot: Slot)
     ensures slots { slots.new.items ≡ slice_set slots.old.items point slot }
     ensures free { free.new.items ≡ (if is_idle slot then free.old.items ++ point ∷ [] else free.old.items) }
     ensures capacity { vec_capacity free.new ≡ vec_capacity free.old }
+    ensures slots_capacity { vec_capacity slots.new ≡ vec_capacity slots.old }
+    ensures more { length free.old.items ≤ length free.new.items }
 {
     slots[point as usize] = slot;
     if slot.refs == 0 && !slot.out {

@@ -46,10 +46,10 @@ class Tried:
 
 
 class Player:
-    """A player's command, with the words that go behind it."""
+    """A player's command, with the words that go behind it. Without vq the second reading alone says what is lawful."""
 
     def __init__(self, command, vq, device, timeout):
-        self.words = [command, '--vq', vq] + (['--device', device] if device else [])
+        self.words = [command, *(['--vq', vq] if vq else ['--checked']), *(['--device', device] if device else [])]
         self.timeout = timeout
 
     def play(self, data, runs, is_pinned, timeout=None):
@@ -80,7 +80,8 @@ class Player:
             if misfit is not None and not (is_hung and misfit.found.endswith(b' hang\n')):
                 tried.add('wrong', text, misfit.text(), count)
         if status == LOST:
-            tried.end('lost', printed, [line for line in said.split('\n') if line.startswith('play: ')][-1])
+            lines = [line for line in said.split('\n') if line.startswith('play: ')]
+            tried.end('lost', printed, lines[-1] if lines else f'a call of Vulkan failed: {said.strip()[-200:]!r}')
         elif status == HUNG and 'hung' not in tried.counts:
             tried.end('hung', printed, said)
         elif status < 0:

@@ -24,7 +24,7 @@ class Weighted(Lawful):
 
     def forms(self):
         return [self.fenced_read] * 3 + [self.overtaken] * 3 + [self.held, self.early] * 2 + [
-            self.rounds, self.any_of, self.chained] + [super().steps] * 2
+            self.rounds, self.any_of, self.chained] + [self.blocked, self.both] * 3 + [super().steps] * 2
 
     def name(self):
         return self.dice.choice('AB')
@@ -79,6 +79,37 @@ class Weighted(Lawful):
         signaling = self.step_up(second, name, *waits)
         waiting = [f'submit {first}', f'wait {name} {self.tops[name]}', self.command(), 'end']
         return [waiting, signaling] + self.questions()
+
+    def blocked(self, *waits):
+        """A batch that waits for the host's next signal and signals a timeline, at which the host looks before it.
+
+        The looks have one answer: what is signaled early, and a wait that is dropped or is for less, shows in each run.
+        """
+        name, other = self.dice.sample('AB', 2)
+        queues = [queue for queue, mode in self.modes.items() if mode != 'immediate']
+        if not queues:
+            return super().steps()
+        made = [f'host wait all {name} {self.tops[name]} {other} {self.tops[other]}']
+        reached, self.tops[other] = f'{name} {self.tops[name]}', self.tops[other] + 1
+        left = f'{other} {self.tops[other]}'
+        batch = self.step_up(self.dice.choice(queues), name, *(wait.format(reached) for wait in waits), f'wait {left}')
+        looks = [f'host read {name}', f'host poll all {name} {self.tops[name]}', f'host poll all {reached} {left}',
+                 f'host poll any {SILENT} 9 {name} {self.tops[name]}']
+        made += [batch, *self.dice.sample(looks, self.dice.choice([1, 2, 2, 3]))]
+        return made + [f'host signal {left}', f'host wait all {name} {self.tops[name]}', f'host read {name}']
+
+    def both(self):
+        """Waits for all that may act as waits for any: of a batch, one of whose waits is reached; or of the host, where
+        one of two batches is slow."""
+        if self.dice.random() < 0.5:
+            return self.blocked('wait {}')
+        name, other = self.dice.sample('AB', 2)
+        quick = self.step_up(self.queue(), name, *self.waits(name))
+        slow = self.step_up(self.queue(), other, *self.waits(other))
+        slow[-2:-2] = [self.command()] * self.dice.choice([8, 16, 32])
+        pairs = f'{name} {self.tops[name]} {other} {self.tops[other]}'
+        look = self.dice.choice([f'host read {other}', f'host poll all {pairs}'])
+        return [slow, quick, f'host wait all {pairs}', look]
 
     def rounds(self):
         """Many rounds on one timeline, over a queue or several, with looks between."""

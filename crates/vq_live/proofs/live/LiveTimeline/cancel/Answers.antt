@@ -8,6 +8,7 @@ use Rattle.vq_live.specs.Fields.{live_of}
 use Rattle.vq_live.specs.declared.answers.Given.{Given}
 use Rattle.vq_live.specs.declared.answers.Slot.{Slot}
 use Rattle.std.proofs.lemmas.List.{get_or_read, length-set}
+use Rattle.std.proofs.lemmas.List.Edits.{length-remove}
 use Rattle.vq_live.proofs.Slots.{out_busy}
 use Rattle.vq_live.proofs.Completing.{room_left, put_is}
 use Rattle.vq_live.proofs.Removing.{at_out, cancel_keeps}
@@ -57,7 +58,17 @@ invariant_of-self c =
     let capacity = c.put.ensures.capacity in
     let few = c.self.invariant.few in
     let room = c.self.invariant.room in
-    record { kept = subst KeepsLive (sym is) kept_now; few = omega arith; room = omega arith }
+    let in_ops = c.self.invariant.in_ops in
+    let numbers = c.self.invariant.numbers in
+    let in_slots = c.self.invariant.in_slots in
+    let in_free = c.self.invariant.in_free in
+    let more_free = c.put.ensures.more in
+    let slots_capacity = c.put.ensures.slots_capacity in
+    let ops_capacity = c.remove.ensures.capacity in
+    let ops_bound = at.bound in
+    let ops_now = ap length removed in
+    let ops_less = length-remove t.ops k at.bound in
+    record { kept = subst KeepsLive (sym is) kept_now; few = omega arith; room = omega arith; in_ops = omega arith; numbers = omega arith; in_slots = omega arith; in_free = omega arith }
 
 pub returns-clause-after : goal.returns-clause-after
 returns-clause-after c =

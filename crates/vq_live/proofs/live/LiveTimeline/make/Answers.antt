@@ -1,4 +1,4 @@
-use Rattle.std.proofs.Common.{take, ◌≡◌, ℕ, length, List, [], ◌∷◌, ◌++◌, sym, ◌∙◌, ap, subst, arith, reverse}
+use Rattle.std.proofs.Common.{take, ◌-◌, ◌≡◌, ℕ, length, List, [], ◌∷◌, ◌++◌, sym, ◌∙◌, ap, subst, arith, reverse}
 use Rattle.vq_live.specs.Live.{IsUnused, pending, Live, KeepsLive}
 use Rattle.vq_live.specs.Calls.{placed, busy}
 use Rattle.vq_live.specs.Places.{IsPlace}
@@ -7,7 +7,7 @@ use Rattle.vq_live.specs.Fields.{live_of}
 use Rattle.vq_live.specs.declared.answers.Slot.{Slot}
 use Rattle.std.proofs.lemmas.List.{length-append}
 use Rattle.vq_live.proofs.Slots.{fresh_unused}
-use Rattle.vq_live.proofs.Taking.{fresh_keeps}
+use Rattle.vq_live.proofs.Taking.{fresh_keeps, placed_count}
 use Rattle.vq_live.proofs.live.LiveTimeline.make.Goals as goal
 
 pub insert-requires : goal.insert-requires
@@ -32,10 +32,22 @@ invariant_of-self-in-Ok-insert c =
     let more = ap length slots ∙ length-append t.slots (busy ∷ []) in
     let few = c.if-count.false in
     let room = c.in-Ok-reserve.ensures.ok in
+    let in_ops = c.self.invariant.in_ops in
+    let numbers = c.self.invariant.numbers in
+    let in_slots = c.self.invariant.in_slots in
+    let in_free = c.self.invariant.in_free in
+    let less : c.saturating_sub-self-inside.result ≡ t.reserved - 1 = c.saturating_sub-self-inside.ensures in
+    let ops_now = ap length ops ∙ placed_count (record { value = v; point = length t.slots }) t.ops in
+    let ops_capacity = c.in-Ok-insert.ensures.capacity in
+    let ops_full = c.self.inside.ops.ok.0 in
     record {
-      kept = subst KeepsLive (λ i. record t { ops = sym ops i; slots = sym slots i; free = sym free i }) kept;
+      kept = subst KeepsLive (λ i. record t { ops = sym ops i; slots = sym slots i; free = sym free i; reserved = sym less i }) kept;
       few = omega arith;
       room = omega arith;
+      in_ops = omega arith;
+      numbers = omega arith;
+      in_slots = omega arith;
+      in_free = omega arith;
     }
 
 pub returns-in-Ok-insert-clause-kept : goal.returns-in-Ok-insert-clause-kept

@@ -20,10 +20,18 @@ invariant_of-self c =
     let size = length-set t.slots c.args.point more in
     let few = c.self.invariant.few in
     let room = c.self.invariant.room in
+    let in_ops = c.self.invariant.in_ops in
+    let numbers = c.self.invariant.numbers in
+    let in_slots = c.self.invariant.in_slots in
+    let in_free = c.self.invariant.in_free in
     record {
       kept = subst (λ (b : Bool). KeepsLive (record t { slots = set t.slots c.args.point more; free = if b then c.args.point ∷ t.free else t.free })) idle kept;
       few = omega arith;
       room = omega arith;
+      in_ops = omega arith;
+      numbers = omega arith;
+      in_slots = omega arith;
+      in_free = omega arith;
     }
 
 pub returns-else-refs-clause-kept : goal.returns-else-refs-clause-kept

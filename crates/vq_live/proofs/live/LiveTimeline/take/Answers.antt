@@ -4,9 +4,9 @@ use Rattle.vq_live.specs.Calls.{busy}
 use Rattle.vq_live.specs.Places.{IsPlace}
 use Rattle.vq_live.specs.Fields.{live_of}
 use Rattle.vq_live.specs.declared.answers.Given.{Given}
-use Rattle.std.proofs.lemmas.List.{length-set}
+use Rattle.std.proofs.lemmas.List.{length-set, length-reverse}
 use Rattle.vq_live.proofs.Slots.{idle_unused}
-use Rattle.vq_live.proofs.Taking.{reuse_keeps, last_free}
+use Rattle.vq_live.proofs.Taking.{reuse_keeps, last_free, placed_count}
 use Rattle.vq_live.proofs.live.LiveTimeline.take.Goals as goal
 
 pub insert-requires : goal.insert-requires
@@ -30,11 +30,26 @@ invariant_of-self-in-Ok c =
     let capacity = c.truncate.ensures.capacity in
     let few = c.self.invariant.few in
     let room = c.self.invariant.room in
+    let in_ops = c.self.invariant.in_ops in
+    let numbers = c.self.invariant.numbers in
+    let in_slots = c.self.invariant.in_slots in
+    let in_free = c.self.invariant.in_free in
+    let less : c.saturating_sub-self-inside.result ≡ t.reserved - 1 = c.saturating_sub-self-inside.ensures in
+    let ops_len = c.in-Ok.ensures.len in
+    let ops_capacity = c.in-Ok.ensures.capacity in
+    let ops_full = c.self.inside.ops.ok.0 in
+    let ops_now = ap length (c.in-Ok.ensures.items ∙ place.inserted x) ∙ placed_count (record { value = v; point = x }) t.ops in
+    let free_now = ap length rest in
+    let free_first = ap length first in
+    let free_size = length-reverse xs in
     record {
-      kept = subst (λ (f : List ℕ). KeepsLive (record t { ops = c.insert.new.self.items; slots = set t.slots x busy; free = reverse f })) (sym rest)
-          (subst (λ (ops : List Given). KeepsLive (record t { ops = ops; slots = set t.slots x busy; free = reverse (take (length xs - 1) xs) })) (sym (c.in-Ok.ensures.items ∙ place.inserted x)) kept);
+      kept = subst KeepsLive (λ i. record t { ops = sym (c.in-Ok.ensures.items ∙ place.inserted x) i; slots = set t.slots x busy; free = reverse (sym rest i); reserved = sym less i }) kept;
       few = omega arith;
       room = omega arith;
+      in_ops = omega arith;
+      numbers = omega arith;
+      in_slots = omega arith;
+      in_free = omega arith;
     }
 
 pub returns-in-Ok-clause-kept : goal.returns-in-Ok-clause-kept

@@ -31,7 +31,13 @@ invariant_of-self c =
     let capacity = c.put.ensures.capacity in
     let few = c.self.invariant.few in
     let room = c.self.invariant.room in
-    record { kept = subst KeepsLive (sym is) kept; few = omega arith; room = omega arith }
+    let in_ops = c.self.invariant.in_ops in
+    let numbers = c.self.invariant.numbers in
+    let in_slots = c.self.invariant.in_slots in
+    let in_free = c.self.invariant.in_free in
+    let more_free = c.put.ensures.more in
+    let slots_capacity = c.put.ensures.slots_capacity in
+    record { kept = subst KeepsLive (sym is) kept; few = omega arith; room = omega arith; in_ops = omega arith; numbers = omega arith; in_slots = omega arith; in_free = omega arith }
 
 pub returns-in-Some-clause-kept : goal.returns-in-Some-clause-kept
 returns-in-Some-clause-kept c = (invariant_of-self c).kept

@@ -1,0 +1,7 @@
+mod Apart
+mod Bare
+pub mod Cited
+mod Ground
+mod Left
+mod Lookups
+mod Reserving

@@ -1,0 +1,10 @@
+pub mod Layer
+pub mod Names
+pub mod Takes
+pub mod Installs
+pub mod Waits
+pub mod BatchFields
+pub mod QueueFields
+pub mod LayerFields
+pub mod Queues
+pub mod Calls

@@ -1,0 +1,12 @@
+pub mod Closing
+pub mod Counts
+pub mod Guarding
+pub mod Holding
+pub mod Keeping
+pub mod Living
+pub mod Ordering
+pub mod Pigeons
+pub mod Referring
+pub mod Sums
+pub mod Tying
+pub mod Waiting

@@ -1,0 +1,6 @@
+pub mod Runs
+pub mod Lived
+pub mod Ledger
+pub mod Tied
+pub mod Stuck
+pub mod Referred
