@@ -71,7 +71,7 @@ bare_hold : (ts : List Live) (n : ℕ) (o : Option ℕ) → AreBare ts → AreBa
 bare_hold ts n None b = b
 bare_hold ts n (Some p) b = bare_set ts n (after_refer (live_at ts n) p) b (b n)
 
-count_hold : (ts : List Live) (n : ℕ) (o : Option ℕ) → length (hold_point ts n o) ≡ length ts
+pub count_hold : (ts : List Live) (n : ℕ) (o : Option ℕ) → length (hold_point ts n o) ≡ length ts
 count_hold ts n None = refl
 count_hold ts n (Some p) = length-set ts n _
 

@@ -1,6 +1,6 @@
 -- Small facts on numbers, truth values and lists.
-use Rattle.std.proofs.Common.{◌≡◌, ℕ, zero, suc, ◌+◌, ◌-◌, ◌<◌, ◌≤◌, Bool, true, false, List, [], ◌∷◌, ◌++◌, length, take, drop, set, get_or, refl, sym, ◌∙◌, ap, arith}
-use Rattle.std.specs.Prelude.{nat_eq, nat_lt, nat_le}
+use Rattle.std.proofs.Common.{◌≡◌, ℕ, zero, suc, ◌+◌, ◌<◌, Bool, true, false, List, [], ◌∷◌, ◌++◌, length, take, drop, set, get_or, refl, sym, ◌∙◌, ap, arith}
+use Rattle.std.specs.Prelude.{nat_eq}
 use Rattle.std.proofs.lemmas.Bool.Decides.{nat_tests}
 
 pub same_number : (a b : ℕ) → nat_eq a b ≡ true → a ≡ b
@@ -17,12 +17,6 @@ equal_false a b n = grind (arith, nat_tests)
 
 pub equal_turned : (a b : ℕ) → nat_eq a b ≡ false → nat_eq b a ≡ false
 equal_turned a b e = equal_false b a (λ q. other_number a b e (sym q))
-
-pub is_less : (a b : ℕ) → nat_lt a b ≡ true → a < b
-is_less a b e = grind (arith, nat_tests)
-
-pub isnt_less : (a b : ℕ) → nat_lt a b ≡ false → b ≤ a
-isnt_less a b e = grind (arith, nat_tests)
 
 pub true_false : {P : Type 0} (b : Bool) → b ≡ true → b ≡ false → P
 true_false b e f = absurd (cc)

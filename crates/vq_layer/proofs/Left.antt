@@ -1,14 +1,14 @@
 -- Where there are no references none are the host's, and where some are, there is a timeline.
-use Rattle.std.proofs.Common.{◌≡◌, ℕ, zero, suc, ◌-◌, ◌<◌, ◌≤◌, Bool, true, false, List, [], ◌∷◌, length, take, refl, sym, ◌∙◌, ap, arith}
+use Rattle.std.proofs.Common.{◌≡◌, ℕ, ◌<◌, Bool, true, false, List, [], ◌∷◌, length, take, refl, ◌∙◌, ap}
 use Rattle.std.specs.Prelude.{nat_lt}
 use Rattle.std.proofs.lemmas.List.{get_or_past}
+use Rattle.vq_ground.proofs.Tests.{at_least_of_test, below_of_test}
 use Rattle.vq_live.specs.Live.{Live, opened, slot_at}
 use Rattle.vq_layer.specs.declared.answers.Wait.{Wait}
 use Rattle.vq_layer.specs.Layer.{Layer, Batch, Queue, live_at}
 use Rattle.vq_layer.specs.Waits.{holds, less_one, left_by_waits}
 use Rattle.vq_layer.specs.Queues.{left_by_batches, left_by_queues}
 use Rattle.vq_layer.specs.Calls.{host_refs}
-use Rattle.vq_layer.proofs.Ground.{is_less, isnt_less}
 
 none_less : (b : Bool) → less_one 0 b ≡ 0
 none_less true = refl
@@ -34,7 +34,7 @@ pub host_exists : (l : Layer) (n p : ℕ) → (host_refs l n p ≡ 0 → ⊥) �
 host_exists l n p h = by_test (nat_lt n (length l.timelines)) refl
   where
     by_test : (b : Bool) → nat_lt n (length l.timelines) ≡ b → n < length l.timelines
-    by_test true e = is_less n (length l.timelines) e
+    by_test true e = below_of_test n (length l.timelines) e
     by_test false e =
-        let none : live_at l.timelines n ≡ opened 0 = get_or_past l.timelines n (opened 0) (isnt_less n (length l.timelines) e) in
+        let none : live_at l.timelines n ≡ opened 0 = get_or_past l.timelines n (opened 0) (at_least_of_test n (length l.timelines) e) in
         absurd (h (none_host l n p (ap (λ (t : Live). (slot_at t.slots p).refs) none)))

@@ -35,7 +35,7 @@ use Rattle.vq_layer.specs.Takes.{taken_all, first_take_fault, LackNumbers}
 use Rattle.vq_layer.specs.Installs.{cancelled_all}
 use Rattle.vq_layer.specs.Waits.{found_in}
 use Rattle.vq_layer.specs.Queues.{batch_made, blocked, next_batch, timelines_released, after_release, oldest, after_finish, with_batch}
-use Rattle.vq_layer.specs.Queues.{newest_held_back, after_take_back, first_naming, left_by_queues, first_ready}
+use Rattle.vq_layer.specs.Queues.{first_held_back, missing_of, newest_held_back, after_take_back, first_naming, left_by_queues, first_ready}
 use Rattle.vq_layer.specs.Waits.{returned_all}
 
 -- opening: at the first number that stands for nothing, or behind the others
@@ -153,6 +153,10 @@ after_release_of l queue =
 
 abbrev pub next_of : Layer → Option ℕ
 next_of l = first_ready l.timelines 0 l.queues
+
+-- what the first held-back batch of a queue waits for and nothing signals
+abbrev pub stuck_of : Layer → ℕ → Option Wanted
+stuck_of l queue = missing_of l.timelines l.queues (first_held_back (queue_at l.queues queue))
 
 -- finishing
 abbrev pub oldest_in : Layer → ℕ → Option Batch

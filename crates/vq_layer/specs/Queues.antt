@@ -1,6 +1,6 @@
 -- What each call of a queue answers and leaves.
 use Rattle.std.specs.Prelude.{ℕ, Bool, true, false, List, [], ◌∷◌, ◌++◌, ◌≡◌, ◌+◌, ◌-◌, ◌==◌, Option, None, Some, slice_set, drop, take}
-use Rattle.std.specs.Prelude.{length, nat_eq, nat_lt, if◌then◌else◌}
+use Rattle.std.specs.Prelude.{length, nat_eq, nat_le, nat_lt, not, ◌&&◌, if◌then◌else◌}
 use Rattle.std.specs.List.{slice_get, slice_index_or}
 use Rattle.vq_live.specs.Live.{Live}
 use Rattle.vq_layer.specs.declared.answers.Wanted.{Wanted}
@@ -12,7 +12,7 @@ use Rattle.vq_layer.specs.Layer.{Batch, Queue, no_batch}
 use Rattle.vq_layer.specs.Names.{waits_name, signals_name}
 use Rattle.vq_layer.specs.Takes.{signals_all}
 use Rattle.vq_layer.specs.Installs.{installed_all, first_behind}
-use Rattle.vq_layer.specs.Waits.{first_not_yet, held_all, waits_all, returned_all, left_by_waits}
+use Rattle.vq_layer.specs.Waits.{found_in, is_not_yet, first_not_yet, held_all, waits_all, returned_all, left_by_waits}
 
 -- what a batch is blocked by
 abbrev pub blocked_by : Option Wanted → Option Signal → Option Blocked
@@ -105,6 +105,34 @@ left_by_batches n p left (b ∷ bs) = left_by_batches n p (left_by_waits n p lef
 abbrev pub left_by_queues : ℕ → ℕ → ℕ → List Queue → ℕ
 left_by_queues n p left [] = left
 left_by_queues n p left (q ∷ qs) = left_by_queues n p (left_by_batches n p left (take q.released q.batches)) qs
+
+-- whether a held-back batch signals a value of a timeline or a greater one
+abbrev pub brings : Wanted → Signal → Bool
+brings w s = nat_eq s.timeline w.timeline && nat_le w.value s.given.value
+
+abbrev pub signals_bring : Wanted → List Signal → Bool
+signals_bring w [] = false
+signals_bring w (s ∷ ss) = if brings w s then true else signals_bring w ss
+
+abbrev pub batches_bring : Wanted → List Batch → Bool
+batches_bring w [] = false
+batches_bring w (b ∷ bs) = if signals_bring w b.signals then true else batches_bring w bs
+
+abbrev pub queues_bring : Wanted → List Queue → Bool
+queues_bring w [] = false
+queues_bring w (q ∷ qs) = if batches_bring w (drop q.released q.batches) then true else queues_bring w qs
+
+-- the first wait for a value that is neither past nor pending and that no held-back batch signals
+abbrev pub is_missing : List Live → List Queue → Wanted → Bool
+is_missing ts qs w = is_not_yet (found_in ts w) && not (queues_bring w qs)
+
+abbrev pub first_missing : List Live → List Queue → List Wait → Option Wanted
+first_missing ts qs [] = None
+first_missing ts qs (w ∷ ws) = if is_missing ts qs w.wanted then Some w.wanted else first_missing ts qs ws
+
+abbrev pub missing_of : List Live → List Queue → Option Batch → Option Wanted
+missing_of ts qs None = None
+missing_of ts qs (Some b) = first_missing ts qs b.waits
 
 -- the first queue that is ready
 abbrev pub ready_or : Option Blocked → ℕ → Option ℕ → Option ℕ

@@ -12,6 +12,7 @@ mod naming;
 mod opening;
 mod queue;
 mod signals;
+mod stuck;
 mod submitting;
 mod undoing;
 mod waits;

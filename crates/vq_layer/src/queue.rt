@@ -1,5 +1,5 @@
 //! A queue of a live layer.
-ghost use Rattle.std.specs.Prelude.{◌≡◌, ◌<◌, ◌≤◌, None, IfOk, IfErr, OnErr, OnOk, OnSome, IfNone, length, take};
+ghost use Rattle.std.specs.Prelude.{◌≡◌, ◌<◌, ◌≤◌, None, IfOk, IfErr, OnErr, OnOk, OnSome, IfNone, length, take, drop};
 ghost use Rattle.std.specs.Option.{option_map, option_copied};
 ghost use Rattle.std.specs.List.{slice_get};
 ghost use Rattle.vq_layer.specs.Layer.{no_queue, AreBare};
@@ -10,8 +10,10 @@ ghost use Rattle.vq_layer.specs.Waits.{returned_all};
 ghost use Rattle.vq_layer.specs.Queues.{blocked, next_batch, after_release, timelines_released};
 ghost use Rattle.vq_layer.specs.Queues.{oldest, after_finish, with_batch, batch_made};
 ghost use Rattle.vq_layer.specs.Queues.{newest, newest_held_back, after_take_back, timelines_finished, some_names, left_by_batches};
+ghost use Rattle.vq_layer.specs.Queues.{batches_bring, missing_of, first_held_back};
 
 use crate::batch::LiveBatch;
+use crate::stuck::{first_missing, signals_bring};
 use crate::{Blocked, SubmitFault, Wait, Wanted};
 use std::alloc::Global;
 use std::collections::VecDeque;
@@ -100,6 +102,28 @@ impl LiveQueue {
             }
         }
         false
+    }
+
+    // Whether a held-back batch signals a value or a greater one.
+    pub(crate) fn brings(&self, wanted: Wanted) -> bool
+        ensures { result ≡ batches_bring wanted (drop self.now.released self.now.batches) }
+    {
+        for i in self.released..self.batches.len() {
+            if signals_bring(wanted, self.batches[i].signals()) {
+                return true;
+            }
+        }
+        false
+    }
+
+    // What the first held-back batch waits for and nothing signals.
+    pub(crate) fn missing(&self, timelines: &[LiveTimeline], queues: &[LiveQueue]) -> Option<Wanted>
+        ensures { result ≡ missing_of timelines.now queues.now (first_held_back self.now) }
+    {
+        match self.batches.get(self.released) {
+            None => None,
+            Some(batch) => first_missing(timelines, queues, batch.waits()),
+        }
     }
 
     // What is left of so many references to a point without those that released batches hold.

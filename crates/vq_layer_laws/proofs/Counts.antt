@@ -1,17 +1,19 @@
 -- How often an operation is taken on a timeline, after each of its calls.
-use Rattle.std.proofs.Common.{◌≡◌, ◌⊎◌, ℕ, zero, suc, ◌+◌, ◌-◌, ◌<◌, ◌≤◌, Bool, true, false, List, [], ◌∷◌, ◌++◌, length, take, drop, set, get_or, Option, None, Some, inl, inr, refl, sym, ◌∙◌, ap, subst, arith}
-use Rattle.std.specs.Prelude.{nat_eq, nat_lt, nat_le, ◌==◌, ◌&&◌, ◌||◌, if◌then◌else◌}
+use Rattle.std.proofs.Common.{◌≡◌, ◌⊎◌, ℕ, zero, suc, ◌+◌, ◌-◌, ◌<◌, ◌≤◌, Bool, true, false, List, [], ◌∷◌, length, take, drop, Option, None, Some, inl, inr, refl, sym, ◌∙◌, ap, subst, arith}
+use Rattle.std.specs.Prelude.{nat_lt, nat_le, ◌==◌, ◌&&◌, ◌||◌, if◌then◌else◌}
 use Rattle.std.specs.List.{slice_get, list_any}
 use Rattle.std.proofs.lemmas.Bool.Decides.{nat_tests}
+use Rattle.std.proofs.lemmas.Bool.{and_parts}
+use Rattle.vq_ground.proofs.Tests.{above_test, below_test}
 use Rattle.vq_live.specs.declared.answers.Given.{Given}
 use Rattle.vq_live.specs.declared.answers.InstallFault.TheVariants as install_as
 use Rattle.vq_live.specs.declared.answers.CancelFault.TheVariants as cancel_as
 use Rattle.vq_live.specs.declared.answers.TakeFault.TheVariants as take_as
-use Rattle.vq_live.specs.Live.{Live, KeepsLive, RisesFrom, opened, pending, taken, last_value, pending_value, one_if}
-use Rattle.vq_live.specs.Calls.{is_same, take_fault, given_to, after_take, placed, next_fault, install_fault, after_install, cancel_fault, after_cancel, without, first_of, first_pending, complete_from, after_complete}
+use Rattle.vq_live.specs.Live.{Live, KeepsLive, RisesFrom, opened, taken, last_value, pending_value, one_if}
+use Rattle.vq_live.specs.Calls.{is_same, take_fault, given_to, after_take, placed, next_fault, install_fault, after_install, cancel_fault, after_cancel, without, first_of, first_pending, complete_from}
 use Rattle.vq_live.specs.Runs.{Event, IsRun, after, after_all}
 use Rattle.vq_live.proofs.Cited.{event_keeps, opened_keeps}
-use Rattle.vq_layer.proofs.Cited.{same_number, other_number, equal_true, equal_false, is_less}
+use Rattle.vq_layer.proofs.Cited.{same_number, equal_true, equal_false}
 use Rattle.vq_layer.specs.Installs.{is_first}
 use Rattle.vq_layer_laws.specs.Lived.{HasLived}
 use Rattle.vq_layer_laws.specs.Tied.{count_in}
@@ -24,14 +26,9 @@ run_keeps t (e ∷ events) k r = run_keeps (after t e) events (event_keeps t e k
 pub lived_keeps : (t : Live) → HasLived t → KeepsLive t
 lived_keeps t h = subst KeepsLive h.leads (run_keeps (opened h.initial) h.events (opened_keeps h.initial) h.run)
 
--- operations that are the same
-both_true : (a b : Bool) → (a && b) ≡ true → (a ≡ true) × (b ≡ true)
-both_true true b h = (refl, h)
-both_true false b h = absurd (cc)
-
 pub same_given : (x y : Given) → is_same x y ≡ true → x ≡ y
 same_given x y h =
-    let both = both_true (x.value == y.value) (x.point == y.point) h in
+    let both = and_parts (x.value == y.value) (x.point == y.point) h in
     λ i. record { value = same_number x.value y.value both.0 i; point = same_number x.point y.point both.1 i }
 
 pub given_same : (x : Given) → is_same x x ≡ true
@@ -43,14 +40,8 @@ rises_last p zero ops h = omega arith
 rises_last p (suc n) [] h = omega arith
 rises_last p (suc n) (x ∷ xs) h = let rest = rises_last x.value n xs h.1 in let low = h.0 in omega arith
 
-less_true : (a b : ℕ) → a < b → nat_lt a b ≡ true
-less_true a b l = grind (arith, nat_tests)
-
 above : (a b : ℕ) → nat_le a b ≡ false → b < a
 above a b e = grind (arith, nat_tests)
-
-not_le : (a b : ℕ) → b < a → nat_le a b ≡ false
-not_le a b l = grind (arith, nat_tests)
 
 -- a take puts its operation among those only taken
 placed_drop : (y : Given) (p n : ℕ) (ops : List Given) → RisesFrom p ops → n ≤ length ops → last_value p (take n ops) < y.value → drop n (placed y ops) ≡ placed y (drop n ops)
@@ -58,7 +49,7 @@ placed_drop y p zero ops h k l = refl
 placed_drop y p (suc n) [] h k l = absurd (omega arith)
 placed_drop y p (suc n) (x ∷ xs) h k l =
     let low = rises_last x.value n xs h.1 in
-    let less : nat_lt x.value y.value ≡ true = less_true x.value y.value (omega arith) in
+    let less : nat_lt x.value y.value ≡ true = below_test x.value y.value (omega arith) in
     ap (λ (b : Bool). drop (suc n) (if b then x ∷ placed y xs else y ∷ x ∷ xs)) less
     ∙ placed_drop y x.value n xs h.1 (omega arith) l
 
@@ -110,7 +101,7 @@ first_is t x h = by_next (slice_get t.ops t.installed) refl h
 
 pub install_may : (t : Live) (x : Given) → KeepsLive t → IsNext t x → install_fault t x ≡ None
 install_may t x k n =
-    ap (λ (b : Bool). if b then Some install_as.Already else next_fault (slice_get t.ops t.installed) x) (not_le x.value (pending_value t) (next_above t.payload t.installed t.ops x k.rising n.next))
+    ap (λ (b : Bool). if b then Some install_as.Already else next_fault (slice_get t.ops t.installed) x) (above_test x.value (pending_value t) (next_above t.payload t.installed t.ops x k.rising n.next))
     ∙ ap (λ (o : Option Given). next_fault o x) n.next
     ∙ ap (λ (b : Bool). if b then None else Some (install_as.NotNext x)) (given_same x)
 
@@ -193,7 +184,7 @@ in_drop y (suc n) (x ∷ xs) i = inr (in_drop y n xs i)
 pub cancel_may : (t : Live) (y : Given) → KeepsLive t → IsIn y (taken t) → cancel_fault t y ≡ None
 cancel_may t y k i =
     let high = rises_in (pending_value t) (taken t) y (rises_drop t.payload t.installed t.ops k.rising) i in
-    ap (λ (b : Bool). if b then Some cancel_as.Already else if list_any (λ x. is_same x y) t.ops then None else Some cancel_as.NotTaken) (not_le y.value (pending_value t) high)
+    ap (λ (b : Bool). if b then Some cancel_as.Already else if list_any (λ x. is_same x y) t.ops then None else Some cancel_as.NotTaken) (above_test y.value (pending_value t) high)
     ∙ ap (λ (b : Bool). if b then None else Some cancel_as.NotTaken) (in_any y t.ops (in_drop y t.installed t.ops i))
 
 pub count_cancel : (t : Live) (x y : Given) → KeepsLive t → IsIn y (taken t) → one_if (is_same y x) + count_in x (taken (after_cancel t y)) ≡ count_in x (taken t)

@@ -1,31 +1,30 @@
 -- Along every run, each reference of a released batch is counted at its point.
-use Rattle.std.proofs.Common.{◌≡◌, ◌⊎◌, ℕ, zero, suc, ◌+◌, ◌-◌, ◌<◌, ◌≤◌, Bool, true, false, List, [], ◌∷◌, ◌++◌, length, take, drop, set, get_or, Option, None, Some, Ok, refl, sym, ◌∙◌, ap, subst, arith}
+use Rattle.std.proofs.Common.{◌≡◌, ℕ, zero, suc, ◌+◌, ◌<◌, ◌≤◌, Bool, true, false, List, [], ◌∷◌, ◌++◌, length, set, Option, None, Some, refl, sym, ◌∙◌, ap, subst, arith}
 use Rattle.std.specs.Prelude.{nat_eq, nat_lt, ◌&&◌, if◌then◌else◌}
+use Rattle.vq_ground.proofs.Tests.{at_least_of_test, below_of_test}
 use Rattle.vq_live.specs.declared.answers.Given.{Given}
 use Rattle.vq_live.specs.declared.answers.Slot.{Slot}
 use Rattle.vq_live.specs.declared.answers.InstallFault.{InstallFault}
 use Rattle.vq_live.specs.declared.answers.CancelFault.{CancelFault}
-use Rattle.vq_live.specs.Live.{Live, KeepsLive, opened, slot_at, no_slot, one_if}
+use Rattle.vq_live.specs.Live.{Live, opened, slot_at, one_if}
 use Rattle.vq_live.specs.Calls.{after_take, install_fault, cancel_fault, after_refer, after_unref, first_pending, complete_from, after_complete, after_signal, next_point}
-use Rattle.vq_live.specs.Runs.{referring, returning}
 use Rattle.vq_live.proofs.Cited.{next_idle}
 use Rattle.vq_layer.specs.declared.answers.Wanted.{Wanted}
 use Rattle.vq_layer.specs.declared.answers.Wait.{Wait}
 use Rattle.vq_layer.specs.declared.answers.Signal.{Signal}
 use Rattle.vq_layer.specs.declared.answers.Kind.{Kind}
 use Rattle.vq_layer.specs.declared.answers.Kind.TheVariants.{Closed, Timeline, Binary}
-use Rattle.vq_layer.specs.Layer.{Layer, Batch, Queue, live_at, kind_at, queue_at, no_layer}
+use Rattle.vq_layer.specs.Layer.{Layer, Batch, live_at, kind_at, queue_at, no_layer}
 use Rattle.vq_layer.specs.Names.{is_named, is_closed, with_wait, waits_named, signals_named}
 use Rattle.vq_layer.specs.Takes.{take_in, taken_all}
-use Rattle.vq_layer.specs.Installs.{install_unless, install_in, installed_all, cancel_unless, cancel_in, cancelled_all}
-use Rattle.vq_layer.specs.Waits.{held_at, hold_point, hold_in, held_all, waits_all, unref_unless, return_point, return_in, returned_all}
+use Rattle.vq_layer.specs.Installs.{install_unless, install_in, installed_all, cancel_unless, cancelled_all}
+use Rattle.vq_layer.specs.Waits.{held_at, hold_point, hold_in, held_all, unref_unless, return_point, return_in, returned_all}
 use Rattle.vq_layer.specs.Queues.{next_batch, newest, with_batch, batch_made, after_release, after_finish, after_take_back, oldest}
-use Rattle.vq_layer.specs.Calls.{put_at, free_number, after_open, close_fault, finish_from, host_refs, count_if}
-use Rattle.vq_layer.proofs.Cited.{same_number, other_number, equal_false, is_less, isnt_less, read_set, apart_named, not_named}
-use Rattle.vq_layer_laws.specs.Lived.{HasLived, HaveLived}
+use Rattle.vq_layer.specs.Calls.{put_at, free_number, after_open, close_fault, finish_from, count_if}
+use Rattle.vq_layer.proofs.Cited.{same_number, other_number, equal_false, read_set, apart_named, not_named}
 use Rattle.vq_layer_laws.specs.Referred.{held_by_waits, held_by_queue, held_by_queues, refs_at, AreReferred, IsUnreferred}
 use Rattle.vq_layer_laws.specs.Runs.{Call, opens, opens_binary, opens_queue, closes, submits, takes_back, releases, finishes, completes, sets, resets, refers_to, gives_back, MayCall, after_call, AreCalls, after_calls}
-use Rattle.vq_layer_laws.proofs.Living.{submit_may, refer_may, unref_may, lived_held}
+use Rattle.vq_layer_laws.proofs.Living.{submit_may, refer_may, unref_may}
 use Rattle.vq_layer_laws.proofs.Counts.{lived_keeps}
 use Rattle.vq_layer_laws.proofs.Closing.{closed_wait, closed_set, closed_counted, closed_uncounted, closed_unnamed, free_closed, kind_put}
 use Rattle.vq_layer_laws.proofs.Ordering.{oldest_exists, take_back_may}
@@ -188,7 +187,7 @@ guard_submit l k token waits signals m h g =
     record {
       referred = λ n p.
           let refs = refs_taken l.timelines ws n p (apart_named l.kinds signals) may.takes h.lived in
-          let sum = held_set n p l.queues k (with_batch q b) (is_less k (length l.queues) may.queue) in
+          let sum = held_set n p l.queues k (with_batch q b) (below_of_test k (length l.queues) may.queue) in
           let own = held_made n p q b (h.tied.fine k) in
           let most = g.referred n p in
           omega arith;
@@ -273,10 +272,10 @@ guard_unref l j p m h g =
     left = let is = host_is l j p in by_test (nat_lt (held_by_queues j p l.queues) (refs_at l.timelines j p)) refl
       where
         by_test : (b : Bool) → nat_lt (held_by_queues j p l.queues) (refs_at l.timelines j p) ≡ b → held_by_queues j p l.queues < refs_at l.timelines j p
-        by_test true e = is_less (held_by_queues j p l.queues) (refs_at l.timelines j p) e
+        by_test true e = below_of_test (held_by_queues j p l.queues) (refs_at l.timelines j p) e
         by_test false e =
             let is = host_is l j p in
-            let low = isnt_less (held_by_queues j p l.queues) (refs_at l.timelines j p) e in
+            let low = at_least_of_test (held_by_queues j p l.queues) (refs_at l.timelines j p) e in
             absurd (m (omega arith))
 
     less : (n q : ℕ) → one_if (nat_eq j n && nat_eq p q) + refs_at (set l.timelines j (after_unref (live_at l.timelines j) p)) n q ≡ refs_at l.timelines n q

@@ -1,11 +1,11 @@
 -- The references of released batches, as queues change.
-use Rattle.std.proofs.Common.{◌≡◌, ◌⊎◌, ℕ, zero, suc, ◌+◌, ◌-◌, ◌<◌, ◌≤◌, Bool, true, false, List, [], ◌∷◌, ◌++◌, length, take, drop, set, get_or, Option, None, Some, refl, sym, ◌∙◌, ap, subst, arith}
-use Rattle.std.specs.Prelude.{nat_eq, nat_lt, ◌==◌, ◌&&◌, if◌then◌else◌}
+use Rattle.std.proofs.Common.{◌≡◌, ℕ, zero, suc, ◌+◌, ◌-◌, ◌<◌, ◌≤◌, Bool, true, false, List, [], ◌∷◌, ◌++◌, length, take, drop, set, None, Some, refl, sym, ◌∙◌, ap, arith}
+use Rattle.std.specs.Prelude.{nat_eq, ◌==◌, ◌&&◌, if◌then◌else◌}
 use Rattle.std.proofs.lemmas.List.{take-append-le, take_more_set}
+use Rattle.vq_layer_laws.proofs.Sums.{either_false}
 use Rattle.vq_live.specs.Live.{Live, one_if}
 use Rattle.vq_layer.specs.declared.answers.Wait.{Wait}
-use Rattle.vq_layer.specs.declared.answers.Signal.{Signal}
-use Rattle.vq_layer.specs.Layer.{Layer, Batch, Queue, live_at, queue_at, no_queue, no_batch}
+use Rattle.vq_layer.specs.Layer.{Layer, Batch, Queue, queue_at, no_queue}
 use Rattle.vq_layer.specs.Names.{waits_name, signals_name}
 use Rattle.vq_layer.specs.Waits.{holds, is_point, less_one, left_by_waits, waits_all}
 use Rattle.vq_layer.specs.Queues.{names, some_names, first_naming, next_batch, with_batch, batch_released, after_release, after_finish, after_take_back, oldest, oldest_of, left_by_batches, left_by_queues}
@@ -69,11 +69,6 @@ held_first n p (suc k) (x ∷ xs) b e =
 
 pub held_finished : (n p : ℕ) (q : Queue) (b : Batch) → oldest q ≡ Some b → held_by_queue n p q ≡ held_by_waits n p b.waits + held_by_queue n p (after_finish q)
 held_finished n p q b e = held_first n p q.released q.batches b e
-
--- what no batch names none holds
-either_false : (a b : Bool) → (if a then true else b) ≡ false → (a ≡ false) × (b ≡ false)
-either_false true b h = absurd (cc)
-either_false false b h = (refl, h)
 
 unnamed_waits : (n p : ℕ) (ws : List Wait) → waits_name n ws ≡ false → held_by_waits n p ws ≡ 0
 unnamed_waits n p [] h = refl

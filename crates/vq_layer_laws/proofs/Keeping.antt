@@ -1,36 +1,34 @@
 -- Along every run, what is taken on timelines is what the held-back batches signal.
-use Rattle.std.proofs.Common.{◌≡◌, ◌⊎◌, ℕ, zero, suc, ◌+◌, ◌-◌, ◌<◌, ◌≤◌, Bool, true, false, List, [], ◌∷◌, ◌++◌, length, take, drop, set, get_or, Option, None, Some, inl, inr, refl, sym, ◌∙◌, ap, subst, arith}
-use Rattle.std.specs.Prelude.{nat_eq, nat_lt, ◌&&◌, if◌then◌else◌}
+use Rattle.std.proofs.Common.{◌≡◌, ℕ, zero, suc, ◌+◌, ◌-◌, ◌<◌, ◌≤◌, Bool, true, false, List, [], ◌∷◌, length, set, get_or, Option, None, Some, refl, sym, ◌∙◌, ap, subst, arith}
+use Rattle.std.specs.Prelude.{nat_lt, ◌&&◌, if◌then◌else◌}
 use Rattle.std.specs.List.{slice_get}
 use Rattle.std.proofs.lemmas.List.{length-set}
 use Rattle.std.proofs.lemmas.Option.{slice_get_within}
+use Rattle.vq_ground.proofs.Tests.{below_of_test}
 use Rattle.vq_live.specs.declared.answers.Given.{Given}
-use Rattle.vq_live.specs.Live.{Live, opened, taken, one_if, slot_at}
-use Rattle.vq_live.specs.Calls.{is_same, first_pending, after_complete, after_signal, after_refer, after_unref, held_from}
+use Rattle.vq_live.specs.Live.{Live, opened, taken, one_if}
+use Rattle.vq_live.specs.Calls.{first_pending, after_complete, after_signal, after_refer, after_unref, held_from}
 use Rattle.vq_layer.specs.declared.answers.Wanted.{Wanted}
-use Rattle.vq_layer.specs.declared.answers.Wait.{Wait}
 use Rattle.vq_layer.specs.declared.answers.Signal.{Signal}
 use Rattle.vq_layer.specs.declared.answers.Kind.{Kind}
 use Rattle.vq_layer.specs.declared.answers.Kind.TheVariants.{Closed, Timeline, Binary}
-use Rattle.vq_layer.specs.declared.answers.Blocked.{Blocked}
 use Rattle.vq_layer.specs.declared.answers.Blocked.TheVariants as blocked_as
 use Rattle.vq_layer.specs.declared.answers.CloseFault.{CloseFault}
 use Rattle.vq_layer.specs.declared.answers.CloseFault.TheVariants as close_as
 use Rattle.vq_layer.specs.Layer.{Layer, Batch, Queue, live_at, kind_at, queue_at, no_queue, no_batch, no_layer}
 use Rattle.vq_layer.specs.Names.{is_closed, with_wait, waits_named, signals_named}
-use Rattle.vq_layer.specs.Takes.{taken_all, signals_all}
-use Rattle.vq_layer.specs.Installs.{installed_all, cancelled_all, first_behind}
-use Rattle.vq_layer.specs.Waits.{first_not_yet, held_all, returned_all}
-use Rattle.vq_layer.specs.Queues.{blocked_by, batch_blocked, blocked_first, first_held_back, blocked, next_batch, newest, with_batch, batch_made, after_release, after_finish, after_take_back, oldest, first_naming}
-use Rattle.vq_layer.specs.Calls.{blocked_of, put_at, free_number, after_open, oldest_in, finish_from, close_held, close_named, close_fault, count_if}
-use Rattle.vq_layer.proofs.Cited.{same_number, equal_true, is_less, read_set, apart_named, known_named, count_taken, count_cancelled, count_released, count_returned}
-use Rattle.vq_layer_laws.specs.Lived.{HasLived, HaveLived}
-use Rattle.vq_layer_laws.specs.Tied.{count_in, is_signal, count_signals, count_batches, count_held, count_queues, SignalApart, IsFine, IsTied}
+use Rattle.vq_layer.specs.Installs.{first_behind}
+use Rattle.vq_layer.specs.Waits.{first_not_yet, held_all}
+use Rattle.vq_layer.specs.Queues.{blocked_by, blocked_first, first_held_back, blocked, next_batch, newest, with_batch, batch_made, after_release, after_finish, after_take_back, oldest, first_naming}
+use Rattle.vq_layer.specs.Calls.{blocked_of, free_number, after_open, finish_from, close_held, close_named, close_fault, count_if}
+use Rattle.vq_layer.proofs.Cited.{equal_true, read_set, apart_named, known_named, count_taken, count_cancelled, count_released, count_returned}
+use Rattle.vq_layer_laws.specs.Lived.{HaveLived}
+use Rattle.vq_layer_laws.specs.Tied.{count_in, is_signal, count_signals, count_held, count_queues, IsFine, IsTied}
 use Rattle.vq_layer_laws.specs.Runs.{Call, opens, opens_binary, opens_queue, closes, submits, takes_back, releases, finishes, completes, sets, resets, refers_to, gives_back, MayCall, after_call, AreCalls, after_calls}
 use Rattle.vq_layer_laws.proofs.Living.{submit_may, lived_call, lived_held, lived_opened}
-use Rattle.vq_layer_laws.proofs.Counts.{given_same, IsIn, some_in, in_some, taken_complete}
+use Rattle.vq_layer_laws.proofs.Counts.{given_same, IsIn, some_in, taken_complete}
 use Rattle.vq_layer_laws.proofs.Sums.{count_set, count_same, count_none, count_at_most, held_made, fine_made, held_released, fine_released, held_finished, fine_finished, held_back, fine_back, apart_at, unnamed_queues}
-use Rattle.vq_layer_laws.proofs.Tying.{taken_same, tied_taken, tied_installed, tied_cancelled, held_taken, returned_taken, next_held, all_next, IsTakenIn, AreTaken}
+use Rattle.vq_layer_laws.proofs.Tying.{taken_same, tied_taken, tied_installed, tied_cancelled, held_taken, returned_taken, next_held, all_next, AreTaken}
 use Rattle.vq_layer_laws.proofs.Closing.{closed_wait, closed_set, closed_counted, closed_uncounted, counted_count, uncounted_count, closed_unnamed, unnamed_count, signals_apart, free_closed, put_count, kind_put, count_put}
 use Rattle.vq_layer_laws.proofs.Ordering.{queue_more, oldest_exists, ready_exists, take_back_may}
 
@@ -135,7 +133,7 @@ tied_submit l k token waits signals m h =
     let ts = l.timelines in
     let q = queue_at l.queues k in
     let b = batch_made ts token (waits_named l.kinds waits) ws in
-    let exists = is_less k (length l.queues) may.queue in
+    let exists = below_of_test k (length l.queues) may.queue in
     record {
       tied = λ n x.
           let now = tied_taken ts ws n x (apart_named l.kinds signals) (known_named ts l.kinds waits signals h.same may.signaled) may.takes h.lived in
@@ -154,7 +152,7 @@ tied_submit l k token waits signals m h =
     }
 
 -- taking back
-taken_exists : (ts : List Live) (n : ℕ) (x : Given) → IsIn x (taken (live_at ts n)) → n < length ts
+pub taken_exists : (ts : List Live) (n : ℕ) (x : Given) → IsIn x (taken (live_at ts n)) → n < length ts
 taken_exists [] n x i = absurd i
 taken_exists (t ∷ ts) zero x i = omega arith
 taken_exists (t ∷ ts) (suc n) x i = let rest = taken_exists ts n x i in omega arith

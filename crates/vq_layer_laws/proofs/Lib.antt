@@ -1,12 +1,15 @@
+pub mod Bounding
 pub mod Closing
 pub mod Counts
 pub mod Guarding
 pub mod Holding
 pub mod Keeping
 pub mod Living
+pub mod Naming
 pub mod Ordering
 pub mod Pigeons
 pub mod Referring
 pub mod Sums
+pub mod Totals
 pub mod Tying
 pub mod Waiting

@@ -1,5 +1,5 @@
 -- Each call of a layer is, to each of its timelines, some calls of that timeline, or opens it anew.
-use Rattle.std.proofs.Common.{◌≡◌, ℕ, zero, suc, ◌+◌, ◌-◌, ◌<◌, ◌≤◌, Bool, true, false, List, [], ◌∷◌, ◌++◌, length, set, get_or, Option, None, Some, Result, Ok, Err, refl, sym, ◌∙◌, ap, subst, arith}
+use Rattle.std.proofs.Common.{◌≡◌, ℕ, zero, suc, ◌+◌, ◌<◌, Bool, true, false, List, [], ◌∷◌, ◌++◌, length, set, Option, None, Some, Result, Ok, Err, refl, sym, ◌∙◌, ap, subst, arith}
 use Rattle.std.specs.Prelude.{nat_eq, nat_lt, nat_le, if◌then◌else◌}
 use Rattle.std.proofs.lemmas.Bool.Decides.{nat_tests}
 use Rattle.vq_live.specs.declared.answers.Given.{Given}
@@ -23,16 +23,15 @@ use Rattle.vq_layer.specs.declared.answers.Kind.{Kind}
 use Rattle.vq_layer.specs.declared.answers.Kind.TheVariants.{Closed, Timeline, Binary}
 use Rattle.vq_layer.specs.declared.answers.SubmitFault.{SubmitFault}
 use Rattle.vq_layer.specs.declared.answers.SubmitFault.TheVariants as submit_as
-use Rattle.vq_layer.specs.declared.answers.SetFault.{SetFault}
 use Rattle.vq_layer.specs.declared.answers.SetFault.TheVariants as set_as
 use Rattle.vq_layer.specs.Layer.{Layer, Batch, live_at, kind_at, queue_at, no_layer}
 use Rattle.vq_layer.specs.Names.{is_named, first_some, first_wait_fault, first_signal_fault, signals_named}
 use Rattle.vq_layer.specs.Takes.{not_taken, first_take_fault, take_in, taken_all, AreApart}
-use Rattle.vq_layer.specs.Installs.{install_unless, install_in, installed_all, cancel_unless, cancel_in, cancelled_all}
+use Rattle.vq_layer.specs.Installs.{install_unless, install_in, installed_all, cancel_unless, cancelled_all}
 use Rattle.vq_layer.specs.Waits.{point_of, point_found, found_in, held_at, hold_point, hold_in, held_all, unref_unless, return_point, return_in, returned_all}
 use Rattle.vq_layer.specs.Queues.{newest, next_batch}
-use Rattle.vq_layer.specs.Calls.{put_at, free_number, after_open, submit_fault, most_waits, oldest_in, finish_from, set_fault_of, set_fault_in, set_fault, host_refer_answer, host_refs, count_if}
-use Rattle.vq_layer.proofs.Cited.{same_number, other_number, read_set, apart_named, none_first, not_named, none_host}
+use Rattle.vq_layer.specs.Calls.{put_at, free_number, submit_fault, most_waits, oldest_in, finish_from, set_fault_of, set_fault_in, host_refer_answer, host_refs, count_if}
+use Rattle.vq_layer.proofs.Cited.{same_number, read_set, apart_named, none_first, not_named, none_host}
 use Rattle.vq_layer_laws.specs.Lived.{HasLived, HaveLived}
 use Rattle.vq_layer_laws.specs.Runs.{Call, opens, opens_binary, opens_queue, closes, submits, takes_back, releases, finishes, completes, sets, resets, refers_to, gives_back, MayCall, after_call, AreCalls, after_calls}
 
@@ -111,11 +110,11 @@ lived_installed ts (s ∷ ss) h =
     lived_installed (install_in ts s) ss
     (lived_set ts s.timeline (install_unless t (install_fault t s.given)) h (lived_install t s.given (install_fault t s.given) refl (h s.timeline)))
 
-lived_cancel : (t : Live) (x : Given) (o : Option CancelFault) → cancel_fault t x ≡ o → HasLived t → HasLived (cancel_unless t x o)
+pub lived_cancel : (t : Live) (x : Given) (o : Option CancelFault) → cancel_fault t x ≡ o → HasLived t → HasLived (cancel_unless t x o)
 lived_cancel t x None e h = lived_event t (cancelling x) h e
 lived_cancel t x (Some fault) e h = h
 
-lived_cancelled : (ts : List Live) (ss : List Signal) → HaveLived ts → HaveLived (cancelled_all ts ss)
+pub lived_cancelled : (ts : List Live) (ss : List Signal) → HaveLived ts → HaveLived (cancelled_all ts ss)
 lived_cancelled ts [] h = h
 lived_cancelled ts (s ∷ ss) h =
     let us = cancelled_all ts ss in

@@ -1,23 +1,19 @@
 -- The batches of a queue stay in the order of their submission; none is lost, and none stands twice.
-use Rattle.std.proofs.Common.{◌≡◌, ℕ, zero, suc, ◌+◌, ◌-◌, ◌<◌, ◌≤◌, Bool, true, false, List, [], ◌∷◌, ◌++◌, length, map, take, drop, set, get_or, Option, Some, None, refl, sym, ◌∙◌, ap, subst, arith, get_or-set_same, get_or-set_other}
+use Rattle.std.proofs.Common.{◌≡◌, ℕ, zero, suc, ◌+◌, ◌-◌, ◌<◌, Bool, true, false, List, [], ◌∷◌, ◌++◌, length, map, take, drop, set, get_or, Option, Some, None, refl, sym, ◌∙◌, ap, arith, get_or-set_same, get_or-set_other}
 use Rattle.std.specs.Prelude.{◌==◌, nat_eq, nat_lt, if◌then◌else◌}
 use Rattle.std.specs.Option.{option_map_or}
 use Rattle.std.proofs.lemmas.List.{append_assoc, map-append, map-set, set-get_or, length-append}
+use Rattle.vq_ground.proofs.Tests.{below_of_test}
 use Rattle.vq_live.specs.Live.{Live}
-use Rattle.vq_layer.specs.declared.answers.Wanted.{Wanted}
-use Rattle.vq_layer.specs.declared.answers.Wait.{Wait}
-use Rattle.vq_layer.specs.declared.answers.Kind.{Kind}
-use Rattle.vq_layer.specs.declared.answers.Blocked.{Blocked}
 use Rattle.vq_layer.specs.declared.answers.Blocked.TheVariants as blocked_as
-use Rattle.vq_layer.specs.declared.answers.TakeBackFault.{TakeBackFault}
 use Rattle.vq_layer.specs.declared.answers.TakeBackFault.TheVariants as take_back_as
-use Rattle.vq_layer.specs.Layer.{Layer, Batch, Queue, queue_at, no_queue, no_batch, no_layer}
+use Rattle.vq_layer.specs.Layer.{Layer, Batch, Queue, queue_at, no_queue, no_batch}
 use Rattle.vq_layer.specs.Names.{waits_named, signals_named}
 use Rattle.vq_layer.specs.Queues.{next_batch, oldest, oldest_of, batch_released, after_release, after_finish, batch_made, with_batch, newest, newest_held_back, after_take_back, blocked}
-use Rattle.vq_layer.specs.Calls.{blocked_of, take_back_fault, batch_take_back_fault, oldest_in, finish_from}
-use Rattle.vq_layer.proofs.Cited.{same_number, other_number, is_less, true_false}
+use Rattle.vq_layer.specs.Calls.{blocked_of, take_back_fault, batch_take_back_fault, finish_from}
+use Rattle.vq_layer.proofs.Cited.{same_number, other_number}
 use Rattle.vq_layer_laws.proofs.Living.{submit_may}
-use Rattle.vq_layer_laws.specs.Runs.{Call, opens, opens_binary, opens_queue, closes, submits, takes_back, releases, finishes, completes, sets, resets, refers_to, gives_back, MayCall, MayFinish, after_call, AreCalls, after_calls}
+use Rattle.vq_layer_laws.specs.Runs.{Call, opens, opens_binary, opens_queue, closes, submits, takes_back, releases, finishes, completes, sets, resets, refers_to, gives_back, after_call, AreCalls, after_calls}
 use Rattle.vq_layer_laws.specs.Ledger.{tokens, tokens_in, without_last, if_its, listed, oldest_token, finished}
 
 -- a queue after another or itself has changed
@@ -44,7 +40,7 @@ pub ready_exists : (l : Layer) (n : ℕ) → blocked_of l n ≡ None → n < len
 ready_exists l n e = by_test (nat_lt n (length l.queues)) refl e
   where
     by_test : (b : Bool) → nat_lt n (length l.queues) ≡ b → (if b then blocked l.timelines (queue_at l.queues n) else Some blocked_as.NoQueue) ≡ None → n < length l.queues
-    by_test true t q = is_less n (length l.queues) t
+    by_test true t q = below_of_test n (length l.queues) t
     by_test false t q = absurd (cc)
 
 -- what a batch that may be taken back met
@@ -60,11 +56,11 @@ take_back_may l n e = by_test (nat_lt n (length l.queues)) refl e
     q = queue_at l.queues n
 
     by_held : (b : Bool) → nat_lt q.released (length q.batches) ≡ b → n < length l.queues → batch_take_back_fault l.kinds (if b then Some (newest q) else None) ≡ None → MayTakeBack l n
-    by_held true t k u = record { exists = k; some = is_less q.released (length q.batches) t; unused = u }
+    by_held true t k u = record { exists = k; some = below_of_test q.released (length q.batches) t; unused = u }
     by_held false t k u = absurd (cc)
 
     by_test : (b : Bool) → nat_lt n (length l.queues) ≡ b → (if b then batch_take_back_fault l.kinds (newest_held_back q) else Some take_back_as.NoQueue) ≡ None → MayTakeBack l n
-    by_test true t u = by_held (nat_lt q.released (length q.batches)) refl (is_less n (length l.queues) t) u
+    by_test true t u = by_held (nat_lt q.released (length q.batches)) refl (below_of_test n (length l.queues) t) u
     by_test false t u = absurd (cc)
 
 -- the tokens after each call
@@ -174,7 +170,7 @@ module _ (q : ℕ) where
   in_order f known l (submits k token waits signals ∷ calls) r h =
       in_order f (if_its (nat_eq k q) (known ++ token ∷ []) known) (after_call l (submits k token waits signals)) calls r.1
       (submitted (nat_eq k q) f known l k (batch_made l.timelines token (waits_named l.kinds waits) (signals_named l.kinds signals)) refl
-      (is_less k (length l.queues) (submit_may l k waits signals r.0).queue) h)
+      (below_of_test k (length l.queues) (submit_may l k waits signals r.0).queue) h)
   in_order f known l (takes_back k ∷ calls) r h =
       in_order f (if_its (nat_eq k q) (without_last known) known) (after_call l (takes_back k)) calls r.1
       (taken_back (nat_eq k q) f known l k refl (take_back_may l k r.0) h)

@@ -1,37 +1,27 @@
 -- References through the calls of a batch, and through a run.
-use Rattle.std.proofs.Common.{◌≡◌, ◌⊎◌, ℕ, zero, suc, ◌+◌, ◌-◌, ◌<◌, ◌≤◌, Bool, true, false, List, [], ◌∷◌, ◌++◌, length, take, drop, set, get_or, Option, None, Some, Ok, inl, inr, refl, sym, ◌∙◌, ap, subst, arith}
-use Rattle.std.specs.Prelude.{nat_eq, nat_lt, ◌==◌, ◌&&◌, if◌then◌else◌}
-use Rattle.std.proofs.lemmas.List.{take-append-le, length-set, length-append}
+use Rattle.std.proofs.Common.{◌≡◌, ◌⊎◌, ℕ, zero, suc, ◌+◌, ◌<◌, ◌≤◌, Bool, true, false, List, [], ◌∷◌, length, set, Option, None, Some, Ok, inl, inr, refl, ◌∙◌, ap, arith}
+use Rattle.std.specs.Prelude.{nat_eq, ◌&&◌}
 use Rattle.vq_live.specs.declared.answers.Given.{Given}
-use Rattle.vq_live.specs.declared.answers.Slot.{Slot}
-use Rattle.vq_live.specs.declared.answers.Found.{Found}
 use Rattle.vq_live.specs.declared.answers.Found.TheVariants as found_as
 use Rattle.vq_live.specs.declared.answers.InstallFault.{InstallFault}
 use Rattle.vq_live.specs.declared.answers.CancelFault.{CancelFault}
-use Rattle.vq_live.specs.Live.{Live, KeepsLive, opened, slot_at, no_slot, one_if}
-use Rattle.vq_live.specs.Calls.{given_to, after_take, install_fault, cancel_fault, after_cancel, refer_answer, after_refer, after_unref, first_pending, complete_from, after_complete, after_signal, found}
-use Rattle.vq_live.specs.Runs.{Event, taking, installing, completing, cancelling, referring, returning, signaling, MayCome, after, refers, returns_it}
+use Rattle.vq_live.specs.Live.{Live, opened, slot_at, one_if}
+use Rattle.vq_live.specs.Calls.{given_to, after_take, install_fault, cancel_fault, refer_answer, after_refer, after_unref, first_pending, complete_from, after_complete}
+use Rattle.vq_live.specs.Runs.{taking, completing, cancelling, referring, returning, MayCome}
 use Rattle.vq_live.proofs.Cited.{event_refs}
 use Rattle.vq_layer.specs.declared.answers.Wanted.{Wanted}
 use Rattle.vq_layer.specs.declared.answers.Wait.{Wait}
 use Rattle.vq_layer.specs.declared.answers.Signal.{Signal}
-use Rattle.vq_layer.specs.declared.answers.Kind.{Kind}
-use Rattle.vq_layer.specs.declared.answers.Kind.TheVariants.{Closed}
-use Rattle.vq_layer.specs.Layer.{Layer, Batch, Queue, live_at, kind_at, queue_at, no_queue, no_batch, no_layer}
-use Rattle.vq_layer.specs.Names.{is_named, is_closed, waits_name, with_wait, waits_named, signals_named}
+use Rattle.vq_layer.specs.Layer.{live_at}
 use Rattle.vq_layer.specs.Takes.{take_in, taken_all, first_take_fault, AreApart}
-use Rattle.vq_layer.specs.Installs.{install_unless, install_in, installed_all, cancel_unless, cancel_in, cancelled_all}
-use Rattle.vq_layer.specs.Waits.{found_in, held_at, hold_point, hold_in, held_all, wait_held, waits_all, unref_unless, return_point, return_in, returned_all, holds, is_point, less_one, left_by_waits}
-use Rattle.vq_layer.specs.Queues.{names, some_names, first_naming, next_batch, newest, with_batch, batch_made, batch_released, after_release, after_finish, after_take_back, oldest, oldest_of, left_by_batches, left_by_queues}
-use Rattle.vq_layer.specs.Calls.{put_at, free_number, after_open, close_fault, oldest_in, finish_from, host_refs, count_if}
-use Rattle.vq_layer.proofs.Cited.{same_number, other_number, equal_true, equal_false, is_less, true_false, read_set, apart_named}
+use Rattle.vq_layer.specs.Installs.{install_unless, install_in, installed_all, cancel_unless, cancelled_all}
+use Rattle.vq_layer.specs.Waits.{found_in, held_at, hold_point, hold_in, held_all, waits_all, unref_unless, return_point, return_in, returned_all, holds, is_point}
+use Rattle.vq_layer.proofs.Cited.{same_number, equal_true, read_set}
 use Rattle.vq_layer_laws.specs.Lived.{HasLived, HaveLived}
-use Rattle.vq_layer_laws.specs.Tied.{IsFine}
-use Rattle.vq_layer_laws.specs.Referred.{held_by_waits, held_by_batches, held_by_queue, held_by_queues, refs_at, AreReferred}
-use Rattle.vq_layer_laws.specs.Runs.{Call, opens, opens_binary, opens_queue, closes, submits, takes_back, releases, finishes, completes, sets, resets, refers_to, gives_back, MayCall, after_call, AreCalls, after_calls}
-use Rattle.vq_layer_laws.proofs.Living.{lived_event, lived_set, fault_first, fault_taken, found_point, submit_may, refer_may, unref_may, set_may, lived_held}
+use Rattle.vq_layer_laws.specs.Referred.{held_by_waits, refs_at}
+use Rattle.vq_layer_laws.proofs.Living.{lived_event, lived_set, fault_first, fault_taken, found_point, lived_cancelled}
 use Rattle.vq_layer_laws.proofs.Counts.{lived_keeps}
-use Rattle.vq_layer_laws.proofs.Tying.{Written, written}
+use Rattle.vq_layer_laws.proofs.Tying.{written}
 
 -- one timeline's references after a call
 refs_of : Live → ℕ → ℕ
@@ -72,24 +62,12 @@ refs_cancel : (t : Live) (x : Given) (o : Option CancelFault) (p : ℕ) → HasL
 refs_cancel t x None p h e = let r = event_refs t p (cancelling x) (lived_keeps t h) e in omega arith
 refs_cancel t x (Some fault) p h e = refl
 
-lived_unless : (t : Live) (x : Given) (o : Option CancelFault) → cancel_fault t x ≡ o → HasLived t → HasLived (cancel_unless t x o)
-lived_unless t x None e h = lived_event t (cancelling x) h e
-lived_unless t x (Some fault) e h = h
-
-lived_cancels : (ts : List Live) (ss : List Signal) → HaveLived ts → HaveLived (cancelled_all ts ss)
-lived_cancels ts [] h = h
-lived_cancels ts (s ∷ ss) h =
-    let us = cancelled_all ts ss in
-    let rest = lived_cancels ts ss h in
-    let t = live_at us s.timeline in
-    lived_set us s.timeline (cancel_unless t s.given (cancel_fault t s.given)) rest (lived_unless t s.given (cancel_fault t s.given) refl (rest s.timeline))
-
 pub refs_cancelled : (ts : List Live) (ss : List Signal) (n p : ℕ) → HaveLived ts → refs_at (cancelled_all ts ss) n p ≡ refs_at ts n p
 refs_cancelled ts [] n p h = refl
 refs_cancelled ts (s ∷ ss) n p h =
     let us = cancelled_all ts ss in
     let t = live_at us s.timeline in
-    refs_write us s.timeline (cancel_unless t s.given (cancel_fault t s.given)) n p (refs_cancel t s.given (cancel_fault t s.given) p (lived_cancels ts ss h s.timeline) refl)
+    refs_write us s.timeline (cancel_unless t s.given (cancel_fault t s.given)) n p (refs_cancel t s.given (cancel_fault t s.given) p (lived_cancelled ts ss h s.timeline) refl)
     ∙ refs_cancelled ts ss n p h
 
 pub refs_complete : (t : Live) (o : Option Given) (p : ℕ) → HasLived t → first_pending t ≡ o → (slot_at (complete_from t o).slots p).refs ≡ (slot_at t.slots p).refs
@@ -151,7 +129,7 @@ out_exists (t ∷ ts) zero q h = omega arith
 out_exists (t ∷ ts) (suc m) q h = let rest = out_exists ts m q h in omega arith
 
 -- a release adds the references of its batch
-refs_hold : (ts : List Live) (m : ℕ) (o : Option ℕ) (n p : ℕ) → ((q : ℕ) → o ≡ Some q → refer_answer (live_at ts m) q ≡ Ok (record { point = q })) → HaveLived ts → refs_at (hold_point ts m o) n p ≡ one_if (nat_eq m n && is_point o p) + refs_at ts n p
+pub refs_hold : (ts : List Live) (m : ℕ) (o : Option ℕ) (n p : ℕ) → ((q : ℕ) → o ≡ Some q → refer_answer (live_at ts m) q ≡ Ok (record { point = q })) → HaveLived ts → refs_at (hold_point ts m o) n p ≡ one_if (nat_eq m n && is_point o p) + refs_at ts n p
 refs_hold ts m None n p f h = by_test (nat_eq m n)
   where
     by_test : (b : Bool) → refs_at ts n p ≡ one_if (b && false) + refs_at ts n p
@@ -159,7 +137,7 @@ refs_hold ts m None n p f h = by_test (nat_eq m n)
     by_test false = omega arith
 refs_hold ts m (Some q) n p f h = refs_more ts m q n p (out_exists ts m q (f q refl)) h (f q refl)
 
-lived_hold : (ts : List Live) (m : ℕ) (o : Option ℕ) → ((q : ℕ) → o ≡ Some q → refer_answer (live_at ts m) q ≡ Ok (record { point = q })) → HaveLived ts → HaveLived (hold_point ts m o)
+pub lived_hold : (ts : List Live) (m : ℕ) (o : Option ℕ) → ((q : ℕ) → o ≡ Some q → refer_answer (live_at ts m) q ≡ Ok (record { point = q })) → HaveLived ts → HaveLived (hold_point ts m o)
 lived_hold ts m None f h = h
 lived_hold ts m (Some q) f h = lived_set ts m (after_refer (live_at ts m) q) h (lived_event (live_at ts m) (referring q) (h m) (f q refl))
 

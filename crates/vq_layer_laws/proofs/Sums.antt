@@ -1,17 +1,14 @@
 -- How often the held-back batches signal an operation, as queues change.
-use Rattle.std.proofs.Common.{◌≡◌, ◌⊎◌, ℕ, zero, suc, ◌+◌, ◌-◌, ◌<◌, ◌≤◌, Bool, true, false, List, [], ◌∷◌, ◌++◌, length, take, drop, set, get_or, Option, None, Some, inl, inr, refl, sym, ◌∙◌, ap, subst, arith}
-use Rattle.std.specs.Prelude.{nat_eq, nat_lt, ◌==◌, ◌&&◌, if◌then◌else◌}
-use Rattle.std.specs.List.{slice_get}
+use Rattle.std.proofs.Common.{◌≡◌, ℕ, zero, suc, ◌+◌, ◌-◌, ◌<◌, ◌≤◌, Bool, true, false, List, [], ◌∷◌, ◌++◌, length, take, drop, set, get_or, None, Some, refl, sym, ◌∙◌, ap, arith}
+use Rattle.std.specs.Prelude.{nat_eq, ◌&&◌, if◌then◌else◌}
 use Rattle.std.proofs.lemmas.List.{drop-append-le, length-append, length-set, length-take-le}
 use Rattle.vq_live.specs.declared.answers.Given.{Given}
 use Rattle.vq_live.specs.Live.{Live, one_if}
 use Rattle.vq_live.specs.Calls.{is_same}
 use Rattle.vq_layer.specs.declared.answers.Signal.{Signal}
-use Rattle.vq_layer.specs.declared.answers.Wait.{Wait}
 use Rattle.vq_layer.specs.Layer.{Batch, Queue, queue_at, no_queue, no_batch}
 use Rattle.vq_layer.specs.Names.{signals_name, waits_name}
-use Rattle.vq_layer.specs.Queues.{names, some_names, first_naming, next_batch, newest, first_held_back, with_batch, after_release, after_finish, after_take_back, batch_released, oldest, oldest_of}
-use Rattle.vq_layer.proofs.Cited.{read_set, equal_false, other_number}
+use Rattle.vq_layer.specs.Queues.{names, some_names, first_naming, next_batch, newest, with_batch, after_release, after_finish, after_take_back, batch_released, oldest, oldest_of}
 use Rattle.vq_layer_laws.specs.Tied.{is_signal, count_signals, count_batches, count_held, count_queues, SignalApart, BatchesApart, IsFine}
 
 -- one queue changes
@@ -128,7 +125,7 @@ fine_finished q b e f =
     record { within = omega arith; apart = apart_rest q.batches f.apart }
 
 -- the last one is taken back
-last_parts : (bs : List Batch) (d : Batch) → 0 < length bs → bs ≡ take (length bs - 1) bs ++ get_or bs (length bs - 1) d ∷ []
+pub last_parts : (bs : List Batch) (d : Batch) → 0 < length bs → bs ≡ take (length bs - 1) bs ++ get_or bs (length bs - 1) d ∷ []
 last_parts [] d l = absurd (omega arith)
 last_parts (c ∷ []) d l = refl
 last_parts (c ∷ e ∷ bs) d l =
@@ -152,7 +149,7 @@ fine_back q l f =
     record { within = omega arith; apart = apart_take (length q.batches - 1) q.batches f.apart }
 
 -- what no batch names none signals
-either_false : (a b : Bool) → (if a then true else b) ≡ false → (a ≡ false) × (b ≡ false)
+pub either_false : (a b : Bool) → (if a then true else b) ≡ false → (a ≡ false) × (b ≡ false)
 either_false true b h = absurd (cc)
 either_false false b h = (refl, h)
 

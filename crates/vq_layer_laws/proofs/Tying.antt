@@ -1,25 +1,26 @@
 -- What is taken, after the calls of a batch on all its timelines.
-use Rattle.std.proofs.Common.{◌≡◌, ◌⊎◌, ℕ, zero, suc, ◌+◌, ◌-◌, ◌<◌, ◌≤◌, Bool, true, false, List, [], ◌∷◌, ◌++◌, length, take, drop, set, get_or, Option, None, Some, inl, inr, refl, sym, ◌∙◌, ap, subst, arith, get_or-set_same, get_or-set_other}
-use Rattle.std.specs.Prelude.{nat_eq, nat_lt, ◌==◌, ◌&&◌, if◌then◌else◌}
+use Rattle.std.proofs.Common.{◌≡◌, ◌⊎◌, ℕ, ◌+◌, ◌-◌, ◌<◌, Bool, true, false, List, [], ◌∷◌, length, set, Option, None, Some, inl, inr, refl, sym, ◌∙◌, ap, subst, arith, get_or-set_same, get_or-set_other}
+use Rattle.std.specs.Prelude.{nat_eq, nat_lt, ◌&&◌, if◌then◌else◌}
 use Rattle.std.specs.List.{slice_get}
 use Rattle.std.proofs.lemmas.List.{length-set}
+use Rattle.vq_ground.proofs.Tests.{below_of_test}
 use Rattle.vq_live.specs.declared.answers.Given.{Given}
 use Rattle.vq_live.specs.Live.{Live, KeepsLive, opened, taken, one_if, slot_at}
 use Rattle.vq_live.specs.Calls.{is_same, take_fault, given_to, after_take, install_fault, after_install, cancel_fault, after_cancel, after_refer}
-use Rattle.vq_live.specs.Runs.{taking, installing, cancelling}
+use Rattle.vq_live.specs.Runs.{taking, installing}
 use Rattle.vq_layer.specs.declared.answers.Wanted.{Wanted}
 use Rattle.vq_layer.specs.declared.answers.Wait.{Wait}
 use Rattle.vq_layer.specs.declared.answers.Signal.{Signal}
 use Rattle.vq_layer.specs.Layer.{live_at}
-use Rattle.vq_layer.specs.Names.{is_named, signals_name}
-use Rattle.vq_layer.specs.Takes.{take_in, signal_in, taken_all, signals_all, first_take_fault, AreApart, AreKnown}
-use Rattle.vq_layer.specs.Installs.{install_unless, install_in, installed_all, cancel_unless, cancel_in, cancelled_all, is_next, is_first, unless_next, first_behind}
+use Rattle.vq_layer.specs.Names.{signals_name}
+use Rattle.vq_layer.specs.Takes.{take_in, taken_all, signals_all, first_take_fault, AreApart, AreKnown}
+use Rattle.vq_layer.specs.Installs.{install_unless, install_in, installed_all, cancel_unless, cancelled_all, is_next, is_first, unless_next, first_behind}
 use Rattle.vq_layer.specs.Waits.{held_at, hold_point, hold_in, held_all, unref_unless, return_point, return_in, returned_all}
-use Rattle.vq_layer.proofs.Cited.{same_number, other_number, equal_true, equal_false, is_less, true_false, read_set, not_named}
-use Rattle.vq_layer_laws.specs.Lived.{HasLived, HaveLived}
+use Rattle.vq_layer.proofs.Cited.{same_number, other_number, read_set, count_cancelled, count_held}
+use Rattle.vq_layer_laws.specs.Lived.{HaveLived}
 use Rattle.vq_layer_laws.specs.Tied.{count_in, is_signal, count_signals, SignalApart}
 use Rattle.vq_layer_laws.proofs.Living.{lived_event, lived_set, fault_first, fault_taken}
-use Rattle.vq_layer_laws.proofs.Counts.{lived_keeps, count_take, IsNext, first_is, install_may, count_install, IsIn, some_in, cancel_may, count_cancel}
+use Rattle.vq_layer_laws.proofs.Counts.{lived_keeps, count_take, IsNext, first_is, install_may, count_install, IsIn, cancel_may, count_cancel}
 
 -- a timeline that is read after a write is the written one, or another that stays
 pub record Written (ts : List Live) (m n : ℕ) (t : Live) : Type 0 where
@@ -150,10 +151,6 @@ cancelled_other ts (s ∷ ss) n h =
     get_or-set_other us s.timeline n (cancel_unless (live_at us s.timeline) s.given (cancel_fault (live_at us s.timeline) s.given)) (opened 0) (λ e. both.0 (sym e))
     ∙ cancelled_other ts ss n both.1
 
-cancelled_count : (ts : List Live) (ss : List Signal) → length (cancelled_all ts ss) ≡ length ts
-cancelled_count ts [] = refl
-cancelled_count ts (s ∷ ss) = length-set (cancelled_all ts ss) s.timeline _ ∙ cancelled_count ts ss
-
 pub tied_cancelled : (ts : List Live) (ss : List Signal) (n : ℕ) (x : Given) → SignalApart ss → AreTaken ts ss → HaveLived ts → count_signals n x ss + count_in x (taken (live_at (cancelled_all ts ss) n)) ≡ count_in x (taken (live_at ts n))
 tied_cancelled ts [] n x a k h = omega arith
 tied_cancelled ts (s ∷ ss) n x a k h =
@@ -165,7 +162,7 @@ tied_cancelled ts (s ∷ ss) n x a k h =
     let may = cancel_may t s.given keeps there in
     let now : set us s.timeline (cancel_unless t s.given (cancel_fault t s.given)) ≡ set us s.timeline (after_cancel t s.given) =
     ap (λ (u : Live). set us s.timeline u) (ap (cancel_unless t s.given) may) in
-    let exists = subst (λ (m : ℕ). s.timeline < m) (sym (cancelled_count ts ss)) k.0.exists in
+    let exists = subst (λ (m : ℕ). s.timeline < m) (sym (count_cancelled ts ss)) k.0.exists in
     let one = count_less us s.timeline n (after_cancel t s.given) x s.given exists (count_cancel t x s.given keeps there) in
     let rest = tied_cancelled ts ss n x a.1 k.1 h in
     let last : count_in x (taken (live_at (cancelled_all ts (s ∷ ss)) n)) ≡ count_in x (taken (live_at (set us s.timeline (after_cancel t s.given)) n)) =
@@ -208,10 +205,6 @@ hold_same ts m (Some p) n =
     read_set (λ (x : Live). (x.ops ≡ (live_at ts n).ops) × (x.installed ≡ (live_at ts n).installed)) (opened 0) ts m n (after_refer (live_at ts m) p)
     (λ e. (ap (λ (k : ℕ). (live_at ts k).ops) e, ap (λ (k : ℕ). (live_at ts k).installed) e)) (refl, refl)
 
-hold_count : (ts : List Live) (m : ℕ) (o : Option ℕ) → length (hold_point ts m o) ≡ length ts
-hold_count ts m None = refl
-hold_count ts m (Some p) = length-set ts m _
-
 held_same : (ts : List Live) (ws : List Wait) (n : ℕ) → ((live_at (held_all ts ws) n).ops ≡ (live_at ts n).ops) × ((live_at (held_all ts ws) n).installed ≡ (live_at ts n).installed)
 held_same ts [] n = (refl, refl)
 held_same ts (w ∷ ws) n =
@@ -219,14 +212,10 @@ held_same ts (w ∷ ws) n =
     let one = hold_same ts w.wanted.timeline (held_at ts w.wanted) n in
     (rest.0 ∙ one.0, rest.1 ∙ one.1)
 
-held_count : (ts : List Live) (ws : List Wait) → length (held_all ts ws) ≡ length ts
-held_count ts [] = refl
-held_count ts (w ∷ ws) = held_count (hold_in ts w.wanted) ws ∙ hold_count ts w.wanted.timeline (held_at ts w.wanted)
-
 pub next_held : (ts : List Live) (ws : List Wait) (ss : List Signal) → AreNext ts ss → AreNext (held_all ts ws) ss
 next_held ts ws [] k = tt
 next_held ts ws (s ∷ ss) k =
-    (same_next ts (held_all ts ws) s (held_count ts ws) (held_same ts ws s.timeline) k.0, next_held ts ws ss k.1)
+    (same_next ts (held_all ts ws) s (count_held ts ws) (held_same ts ws s.timeline) k.0, next_held ts ws ss k.1)
 
 -- a batch that isn't behind has the next operations
 next_is : (ts : List Live) (s : Signal) → is_next ts s ≡ true → IsNextIn ts s
@@ -236,7 +225,7 @@ next_is ts s h = by_test (nat_lt s.timeline (length ts)) refl h
     t = live_at ts s.timeline
 
     by_test : (b : Bool) → nat_lt s.timeline (length ts) ≡ b → (if b then is_first (slice_get t.ops t.installed) s.given else false) ≡ true → IsNextIn ts s
-    by_test true e k = record { exists = is_less s.timeline (length ts) e; next = first_is t s.given k }
+    by_test true e k = record { exists = below_of_test s.timeline (length ts) e; next = first_is t s.given k }
     by_test false e k = absurd (cc)
 
 pub all_next : (ts : List Live) (ss : List Signal) → first_behind ts ss ≡ None → AreNext ts ss

@@ -1,8 +1,10 @@
 -- Where no queue is ready, each that holds a batch back waits for a value that nothing signals, or for another such queue.
-use Rattle.std.proofs.Common.{◌≡◌, ◌⊎◌, ℕ, zero, suc, ◌+◌, ◌-◌, ◌<◌, ◌≤◌, Bool, true, false, List, [], ◌∷◌, ◌++◌, length, take, drop, get_or, Option, None, Some, inl, inr, refl, sym, ◌∙◌, ap, subst, arith}
+use Rattle.std.proofs.Common.{◌≡◌, ◌⊎◌, ℕ, zero, suc, ◌+◌, ◌<◌, ◌≤◌, Bool, true, false, List, [], ◌∷◌, length, take, drop, Option, None, Some, inl, inr, refl, sym, ◌∙◌, ap, subst, arith}
 use Rattle.std.specs.Prelude.{nat_eq, nat_lt, nat_le, ◌&&◌, if◌then◌else◌}
 use Rattle.std.specs.List.{slice_get}
 use Rattle.std.proofs.lemmas.Bool.Decides.{nat_tests}
+use Rattle.std.proofs.lemmas.Bool.{and_parts}
+use Rattle.vq_ground.proofs.Tests.{below_test, at_most_test, below_of_test}
 use Rattle.vq_live.specs.declared.answers.Given.{Given}
 use Rattle.vq_live.specs.declared.answers.Found.{Found}
 use Rattle.vq_live.specs.declared.answers.Found.TheVariants as found_as
@@ -11,30 +13,22 @@ use Rattle.vq_live.specs.Calls.{is_same, first_of}
 use Rattle.vq_layer.specs.declared.answers.Wanted.{Wanted}
 use Rattle.vq_layer.specs.declared.answers.Wait.{Wait}
 use Rattle.vq_layer.specs.declared.answers.Signal.{Signal}
-use Rattle.vq_layer.specs.declared.answers.Blocked.{Blocked}
 use Rattle.vq_layer.specs.declared.answers.Blocked.TheVariants as blocked_as
-use Rattle.vq_layer.specs.Layer.{Layer, Batch, Queue, queue_at, live_at, no_layer}
+use Rattle.vq_layer.specs.Layer.{Layer, Batch, Queue, queue_at, live_at}
 use Rattle.vq_layer.specs.Waits.{found_in, is_not_yet, or_later, first_not_yet}
 use Rattle.vq_layer.specs.Installs.{is_first, is_next, unless_next, first_behind}
 use Rattle.vq_layer.specs.Queues.{blocked_by, batch_blocked, blocked_first, first_held_back, blocked}
 use Rattle.vq_layer.specs.Calls.{blocked_of, completed_of}
-use Rattle.vq_layer.proofs.Cited.{same_number, other_number, equal_true, is_less, true_false}
-use Rattle.vq_layer_laws.specs.Runs.{Call, AreCalls, after_calls}
-use Rattle.vq_layer_laws.specs.Tied.{count_in, is_signal, count_signals, count_batches, count_held, count_queues, IsTied}
-use Rattle.vq_layer_laws.specs.Stuck.{IsAmong, held_back_in, IsHeldBack, IsFirst, IsStuck, Brings, ComesBefore, Awaits, Signals, WaitsFor, by_wait, by_signal, IsMissing, IsChain, StandsTwice, HasRing}
+use Rattle.vq_layer.proofs.Cited.{same_number, equal_true, true_false}
+use Rattle.vq_layer_laws.specs.Tied.{is_signal, count_signals, count_batches, count_held, count_queues}
+use Rattle.vq_layer_laws.specs.Stuck.{IsAmong, held_back_in, IsHeldBack, IsFirst, IsStuck, Brings, ComesBefore, Awaits, WaitsFor, by_wait, by_signal, IsMissing, IsChain, HasRing}
 use Rattle.vq_layer_laws.proofs.Counts.{lived_keeps, same_given, given_same, IsIn, some_in, in_some, rises_in, rises_last, rises_drop}
 use Rattle.vq_layer_laws.proofs.Sums.{count_at_most}
-use Rattle.vq_layer_laws.proofs.Keeping.{Keeps, keeps_all}
+use Rattle.vq_layer_laws.proofs.Keeping.{Keeps, taken_exists}
 use Rattle.vq_layer_laws.proofs.Pigeons.{AreBelow, some_twice}
 
-is_le : (a b : ℕ) → nat_le a b ≡ true → a ≤ b
+pub is_le : (a b : ℕ) → nat_le a b ≡ true → a ≤ b
 is_le a b e = grind (arith, nat_tests)
-
-le_true : (a b : ℕ) → a ≤ b → nat_le a b ≡ true
-le_true a b l = grind (arith, nat_tests)
-
-less_true : (a b : ℕ) → a < b → nat_lt a b ≡ true
-less_true a b l = grind (arith, nat_tests)
 
 -- a signal among these that brings a value, if there is one
 record BringsIn (ss : List Signal) (w : Wanted) : Type 0 where
@@ -43,17 +37,13 @@ record BringsIn (ss : List Signal) (w : Wanted) : Type 0 where
   of_timeline : signal.timeline ≡ w.timeline
   enough : w.value ≤ signal.given.value
 
-both_tests : (a b : Bool) → (a && b) ≡ true → (a ≡ true) × (b ≡ true)
-both_tests true b h = (refl, h)
-both_tests false b h = absurd (cc)
-
 search_signals : (w : Wanted) (ss : List Signal) → BringsIn ss w ⊎ (BringsIn ss w → ⊥)
 search_signals w [] = inr (λ b. b.its)
 search_signals w (s ∷ ss) = by_test (nat_eq s.timeline w.timeline && nat_le w.value s.given.value) refl (search_signals w ss)
   where
     by_test : (b : Bool) → (nat_eq s.timeline w.timeline && nat_le w.value s.given.value) ≡ b → (BringsIn ss w ⊎ (BringsIn ss w → ⊥)) → (BringsIn (s ∷ ss) w ⊎ (BringsIn (s ∷ ss) w → ⊥))
     by_test true e k =
-        let both = both_tests (nat_eq s.timeline w.timeline) (nat_le w.value s.given.value) e in
+        let both = and_parts (nat_eq s.timeline w.timeline) (nat_le w.value s.given.value) e in
         inl (record { signal = s; its = inl refl; of_timeline = same_number s.timeline w.timeline both.0; enough = is_le w.value s.given.value both.1 })
     by_test false e (inl k) = inl (record { signal = k.signal; its = inr k.its; of_timeline = k.of_timeline; enough = k.enough })
     by_test false e (inr k) = inr (λ b. by_place b b.its)
@@ -61,7 +51,7 @@ search_signals w (s ∷ ss) = by_test (nat_eq s.timeline w.timeline && nat_le w.
         by_place : (b : BringsIn (s ∷ ss) w) → ((s ≡ b.signal) ⊎ IsAmong b.signal ss) → ⊥
         by_place b (inl q) =
             let timeline : nat_eq s.timeline w.timeline ≡ true = equal_true s.timeline w.timeline (ap (λ (x : Signal). x.timeline) q ∙ b.of_timeline) in
-            let value : nat_le w.value s.given.value ≡ true = le_true w.value s.given.value (subst (λ (x : Signal). w.value ≤ x.given.value) (sym q) b.enough) in
+            let value : nat_le w.value s.given.value ≡ true = at_most_test w.value s.given.value (subst (λ (x : Signal). w.value ≤ x.given.value) (sym q) b.enough) in
             true_false (nat_eq s.timeline w.timeline && nat_le w.value s.given.value) (λ i. timeline i && value i) e
         by_place b (inr j) = k (record { signal = b.signal; its = j; of_timeline = b.of_timeline; enough = b.enough })
 
@@ -128,7 +118,7 @@ own_signals n x (s ∷ ss) h = by_test (nat_eq s.timeline n && is_same s.given x
   where
     by_test : (b : Bool) → (nat_eq s.timeline n && is_same s.given x) ≡ b → 0 < one_if b + count_signals n x ss → (0 < count_signals n x ss → OwnsIn ss n x) → OwnsIn (s ∷ ss) n x
     by_test true e k rest =
-        let both = both_tests (nat_eq s.timeline n) (is_same s.given x) e in
+        let both = and_parts (nat_eq s.timeline n) (is_same s.given x) e in
         record { signal = s; its = inl refl; of_timeline = same_number s.timeline n both.0; of_given = same_given s.given x both.1 }
     by_test false e k rest =
         let r = rest (omega arith) in
@@ -147,7 +137,7 @@ own_batches n x (b ∷ bs) h = by_test (nat_lt 0 (count_signals n x b.signals)) 
     isnt a e = grind (arith, nat_tests)
 
     by_test : (c : Bool) → nat_lt 0 (count_signals n x b.signals) ≡ c → (0 < count_batches n x bs → BatchOwns bs n x) → BatchOwns (b ∷ bs) n x
-    by_test true e rest = record { batch = b; held = inl refl; owns = own_signals n x b.signals (is_less 0 (count_signals n x b.signals) e) }
+    by_test true e rest = record { batch = b; held = inl refl; owns = own_signals n x b.signals (below_of_test 0 (count_signals n x b.signals) e) }
     by_test false e rest =
         let none = isnt (count_signals n x b.signals) e in
         let r = rest (omega arith) in
@@ -165,14 +155,14 @@ own_queues n x (q ∷ qs) h = by_test (nat_lt 0 (count_held n x q)) refl (own_qu
     isnt a e = grind (arith, nat_tests)
 
     by_test : (c : Bool) → nat_lt 0 (count_held n x q) ≡ c → (0 < count_queues n x qs → QueueOwns qs n x) → QueueOwns (q ∷ qs) n x
-    by_test true e rest = record { place = 0; owns = own_batches n x (drop q.released q.batches) (is_less 0 (count_held n x q) e) }
+    by_test true e rest = record { place = 0; owns = own_batches n x (drop q.released q.batches) (below_of_test 0 (count_held n x q) e) }
     by_test false e rest =
         let none = isnt (count_held n x q) e in
         let r = rest (omega arith) in
         record { place = suc r.place; owns = r.owns }
 
 -- what a batch is blocked by
-not_yet_is : (f : Found) → is_not_yet f ≡ true → f ≡ found_as.NotYet
+pub not_yet_is : (f : Found) → is_not_yet f ≡ true → f ≡ found_as.NotYet
 not_yet_is found_as.NotYet e = refl
 not_yet_is found_as.Past e = absurd (cc)
 not_yet_is (found_as.Pending x) e = absurd (cc)
@@ -249,11 +239,6 @@ signal_among s (x ∷ xs) (inr i) = let rest = signal_among s xs i in omega arit
 held_first : (n : ℕ) (x : Given) (l : Layer) (q : ℕ) (b : Batch) → IsFirst l q b → count_signals n x b.signals ≤ count_held n x (queue_at l.queues q)
 held_first n x l q b f = let all = ap (count_batches n x) f.first in omega arith
 
-taken_is : (ts : List Live) (n : ℕ) (x : Given) → IsIn x (taken (live_at ts n)) → n < length ts
-taken_is [] n x i = absurd i
-taken_is (t ∷ ts) zero x i = omega arith
-taken_is (t ∷ ts) (suc n) x i = let rest = taken_is ts n x i in omega arith
-
 -- what a queue that isn't ready waits for
 record Leads (l : Layer) (q : ℕ) : Type 0 where
   to : ℕ
@@ -274,7 +259,7 @@ by_missing l q b f n = by_search (search_layer l n.wait.wanted)
 not_first : (ts : List Live) (s : Signal) → s.timeline < length ts → is_next ts s ≡ false → is_first (slice_get (live_at ts s.timeline).ops (live_at ts s.timeline).installed) s.given ≡ false
 not_first ts s l h =
     let first = is_first (slice_get (live_at ts s.timeline).ops (live_at ts s.timeline).installed) s.given in
-    sym (ap (λ (b : Bool). if b then first else false) (less_true s.timeline (length ts) l)) ∙ h
+    sym (ap (λ (b : Bool). if b then first else false) (below_test s.timeline (length ts) l)) ∙ h
 
 by_behind : (l : Layer) (q : ℕ) (b : Batch) → Keeps l → IsFirst l q b → BehindOf l.timelines b.signals → Leads l q
 by_behind l q b k f n =
@@ -285,7 +270,7 @@ by_behind l q b k f n =
     let most = count_at_most m s.given l.queues q in
     let tied = k.tied.tied m s.given in
     let there = some_in s.given (taken (live_at l.timelines m)) (omega arith) in
-    let low = below (live_at l.timelines m) s.given (lived_keeps (live_at l.timelines m) (k.lived m)) there (not_first l.timelines s (taken_is l.timelines m s.given there) n.stands) in
+    let low = below (live_at l.timelines m) s.given (lived_keeps (live_at l.timelines m) (k.lived m)) there (not_first l.timelines s (taken_exists l.timelines m s.given there) n.stands) in
     let some = in_some low.first (taken (live_at l.timelines m)) low.its in
     let is = k.tied.tied m low.first in
     let owner = own_queues m low.first l.queues (omega arith) in
@@ -308,7 +293,7 @@ first_of_queue l q b h = by_list (held_back_in l q) refl
     by_list [] e = absurd (subst (IsAmong b) e h)
     by_list (c ∷ cs) e = (c, record { rest = cs; first = e })
 
-get_first : (bs : List Batch) (n : ℕ) (b : Batch) (rest : List Batch) → drop n bs ≡ b ∷ rest → slice_get bs n ≡ Some b
+pub get_first : (bs : List Batch) (n : ℕ) (b : Batch) (rest : List Batch) → drop n bs ≡ b ∷ rest → slice_get bs n ≡ Some b
 get_first [] zero b rest e = absurd (cc)
 get_first [] (suc n) b rest e = absurd (cc)
 get_first (x ∷ xs) zero b rest e = let same : x ≡ b = cc in ap (λ (y : Batch). Some y) same
@@ -326,7 +311,7 @@ next_step l q b k stuck h =
     let c = f.0 in
     let first : first_held_back (queue_at l.queues q) ≡ Some c = get_first (queue_at l.queues q).batches (queue_at l.queues q).released c f.1.rest f.1.first in
     let is : blocked_of l q ≡ batch_blocked l.timelines c =
-    ap (λ (t : Bool). if t then blocked l.timelines (queue_at l.queues q) else Some blocked_as.NoQueue) (less_true q (length l.queues) exists)
+    ap (λ (t : Bool). if t then blocked l.timelines (queue_at l.queues q) else Some blocked_as.NoQueue) (below_test q (length l.queues) exists)
     ∙ ap (blocked_first l.timelines) first in
     by_cause c f.1 (first_not_yet l.timelines c.waits) (first_behind l.timelines c.signals) refl refl (λ e. stuck q (is ∙ e))
   where

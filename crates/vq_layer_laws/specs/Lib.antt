@@ -4,3 +4,4 @@ pub mod Ledger
 pub mod Tied
 pub mod Stuck
 pub mod Referred
+pub mod Standing
