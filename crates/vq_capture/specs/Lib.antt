@@ -1,0 +1,12 @@
+pub mod Masks
+pub mod MaskWords
+pub mod LineForms
+pub mod Releases
+pub mod Context
+pub mod Statements
+pub mod LineFaults
+pub mod Reading
+pub mod Points
+pub mod Before
+pub mod Races
+pub mod Verdicts

@@ -1,0 +1,3 @@
+mod FormWords
+mod SplitParts
+mod ThreeParts
