@@ -18,7 +18,7 @@ use Rattle.vq_board_laws.specs.declared.view.Fact.TheVariants.{Job, Bound, Made}
 use Rattle.vq_board_laws.specs.declared.view.JobState.TheVariants.{Submitted, Released, Finished}
 use Rattle.vq_board_laws.specs.declared.view.Role.TheVariants.{Ring}
 use Rattle.vq_board_laws.specs.declared.view.View.{View}
-use Rattle.vq_board_laws.specs.Knowledge.{Knows}
+use Rattle.vq_board_laws.specs.Knowledge.{Knows, KnowsMade.shown}
 use Rattle.vq_board_laws.specs.May.{MaySubmit, MayRelease, MayStart, MayFinish, KnowsReached, KnowsNeeds}
 use Rattle.vq_board_laws.proofs.Cited.{needs_each, knows_so_far, knows_first, knows_more}
 use Rattle.vq_board_laws.specs.PointSteps.{point_facts, moved_on, sees, unrefers}

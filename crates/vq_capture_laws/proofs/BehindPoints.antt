@@ -2,13 +2,14 @@
 use Rattle.std.proofs.Common.{◌≡◌, ◌⊎◌, ◌<◌, ◌≤◌, Bool, true, false, List, [], ◌∷◌, if◌then◌else◌, refl, sym, ◌∙◌, ap, subst, inl, inr, arith}
 use Rattle.std.specs.Prelude.{nat_lt, ◌||◌}
 use Rattle.std.specs.List.{list_any}
+use Rattle.std.proofs.lemmas.Bool.{or_cases, or_left, or_right}
 use Rattle.vq_ground.proofs.Bools.{never}
 use Rattle.vq_ground.proofs.Tests.{below_of_test}
 use Rattle.vq_capture.specs.declared.capture.Step.{Step}
 use Rattle.vq_capture.specs.Points.{Point, points_of, IsMember}
 use Rattle.vq_capture.specs.Before.{Before, one, more, is_direct, by_scopes, by_signals, by_release, by_thread, by_telling, by_cut}
 use Rattle.vq_capture_laws.specs.Closure.{follows, behind, all_behind, is_before}
-use Rattle.vq_capture_laws.proofs.MemberFacts.{or_left, or_right, or_cases, and_left, any_of, one_of_any}
+use Rattle.vq_capture_laws.proofs.MemberFacts.{and_left, any_of, one_of_any}
 
 -- each point stands at a line at most that of the points behind it in the list
 abbrev pub AreInOrder : List Point → Type 0

@@ -1,7 +1,7 @@
 -- What joins the two points of an edge.
 use Rattle.std.proofs.Common.{◌≡◌, true, ◌||◌, ◌&&◌, ℕ, List, refl, sym, ap, inl, inr, Option, Some, None}
 use Rattle.std.specs.Prelude.{nat_lt, not, is_some}
-use Rattle.std.proofs.lemmas.Bool.{eqb-true}
+use Rattle.std.proofs.lemmas.Bool.{eqb-true, or_cases}
 use Rattle.vq_ground.specs.Lists.{has}
 use Rattle.vq_ground.proofs.Bools.{never}
 use Rattle.vq_capture.specs.declared.statement.Statement.{Statement}
@@ -13,7 +13,7 @@ use Rattle.vq_capture.specs.Points.{Point, takes, gives}
 use Rattle.vq_capture.specs.Before.{is_direct, by_scopes, by_signals, by_release, by_thread, by_telling, by_cut}
 use Rattle.vq_capture.specs.Before.{steps_above, was_handed, same_thread, is_after, is_cut, is_semaphore_operation, follows_them}
 use Rattle.vq_capture_laws.specs.Edges.{JoinedBy, OneQueue, OneThread, Released, HandedOver, Told, AtCut}
-use Rattle.vq_capture_laws.proofs.MemberFacts.{or_cases, and_left, and_right}
+use Rattle.vq_capture_laws.proofs.MemberFacts.{and_left, and_right}
 
 one_queue : (p q : Option ℕ) → same_queue p q ≡ true → (n : ℕ) × (p ≡ Some n) × (q ≡ Some n)
 one_queue None q h = never h

@@ -1,23 +1,12 @@
 -- Elements of lists, and tests of all and of some of them.
-use Rattle.std.proofs.Common.{◌≡◌, ◌⊎◌, Bool, true, false, ◌||◌, ◌&&◌, List, [], ◌∷◌, ◌++◌, map, refl, sym, subst, inl, inr}
+use Rattle.std.proofs.Common.{◌≡◌, ◌⊎◌, Bool, true, false, ◌&&◌, List, [], ◌∷◌, ◌++◌, map, refl, sym, subst, inl, inr}
 use Rattle.std.specs.List.{list_any, list_all}
 use Rattle.std.specs.Prelude.{flat_map, not}
+use Rattle.std.proofs.lemmas.Bool.{or_cases, or_left, or_right, and_from}
 use Rattle.vq_ground.proofs.Bools.{never}
 use Rattle.vq_capture.specs.Points.{IsMember}
 
 -- Truth values
-
-pub or_left : (a b : Bool) → a ≡ true → (a || b) ≡ true
-or_left true b h = refl
-or_left false b h = never h
-
-pub or_right : (a b : Bool) → b ≡ true → (a || b) ≡ true
-or_right true b h = refl
-or_right false b h = h
-
-pub or_cases : (a b : Bool) → (a || b) ≡ true → (a ≡ true) ⊎ (b ≡ true)
-or_cases true b h = inl refl
-or_cases false b h = inr h
 
 pub and_left : (a b : Bool) → (a && b) ≡ true → a ≡ true
 and_left true b h = refl
@@ -26,10 +15,6 @@ and_left false b h = never h
 pub and_right : (a b : Bool) → (a && b) ≡ true → b ≡ true
 and_right true b h = h
 and_right false b h = never h
-
-pub and_both : (a b : Bool) → a ≡ true → b ≡ true → (a && b) ≡ true
-and_both true b h k = k
-and_both false b h k = never h
 
 -- Elements
 
@@ -87,11 +72,7 @@ each_of_all test (y ∷ ys) x h (inr m) = each_of_all test ys x (and_right (test
 pub all_of_each : {X : Type 0} (test : X → Bool) (xs : List X) → ((x : X) → IsMember x xs → test x ≡ true) → list_all test xs ≡ true
 all_of_each test [] f = refl
 all_of_each test (y ∷ ys) f =
-    and_both (test y) (list_all test ys) (f y (inl refl)) (all_of_each test ys (λ x m. f x (inr m)))
-
-pub not_true : (b : Bool) → not b ≡ true → b ≡ true → ⊥
-not_true true n h = never n
-not_true false n h = never h
+    and_from (test y) (list_all test ys) (f y (inl refl)) (all_of_each test ys (λ x m. f x (inr m)))
 
 pub true_of_not : (b : Bool) → (b ≡ true → ⊥) → not b ≡ true
 true_of_not true f = absurd (f refl)

@@ -3,13 +3,14 @@ use Rattle.std.proofs.Common.{◌≡◌, ◌≤◌, Bool, true, false, List, [],
 use Rattle.std.specs.Prelude.{nat_lt, not, ◌&&◌}
 use Rattle.std.specs.Option.{option_map_or}
 use Rattle.std.specs.List.{list_all}
+use Rattle.std.proofs.lemmas.Bool.{and_from, false≢true, not-true}
 use Rattle.vq_ground.proofs.Bools.{never}
 use Rattle.vq_ground.proofs.Tests.{below_of_test, below_test}
 use Rattle.vq_capture.specs.declared.capture.Step.{Step}
 use Rattle.vq_capture.specs.Points.{points_of_step, IsMember}
 use Rattle.vq_capture.specs.Races.{conflict, Ordered, Conflicts, IsRace, AreOrdered, IsNamedRace}
 use Rattle.vq_capture_laws.specs.Closure.{is_before, is_ordered, races, last_that, race_to, first_race}
-use Rattle.vq_capture_laws.proofs.MemberFacts.{and_left, and_right, and_both, each_of_all, all_of_each, not_true, true_of_not, in_flat_map}
+use Rattle.vq_capture_laws.proofs.MemberFacts.{and_left, and_right, each_of_all, all_of_each, true_of_not, in_flat_map}
 use Rattle.vq_capture_laws.proofs.BehindPoints.{before_by_test, test_of_before}
 use Rattle.vq_capture_laws.proofs.PointOrder.{AreRising, points_in_order, same_step}
 
@@ -74,7 +75,7 @@ module _ (steps : List Step) (rising : AreRising steps) where
       above = below_of_test a.line b.line (and_left (nat_lt a.line b.line) (conflict a b && not (is_ordered steps a b)) h);
       conflicts = and_left (conflict a b) (not (is_ordered steps a b)) rest;
     };
-    unordered = λ o. not_true (is_ordered steps a b) (and_right (conflict a b) (not (is_ordered steps a b)) rest) (test_of_ordered a b o);
+    unordered = λ o. false≢true (sym (not-true (is_ordered steps a b) (and_right (conflict a b) (not (is_ordered steps a b)) rest)) ∙ test_of_ordered a b o);
   }
     where
       rest : (conflict a b && not (is_ordered steps a b)) ≡ true
@@ -82,9 +83,9 @@ module _ (steps : List Step) (rising : AreRising steps) where
 
   pub test_of_race : (a b : Step) → IsRace steps a b → races steps a b ≡ true
   test_of_race a b r =
-      and_both (nat_lt a.line b.line) (conflict a b && not (is_ordered steps a b))
+      and_from (nat_lt a.line b.line) (conflict a b && not (is_ordered steps a b))
       (below_test a.line b.line r.pair.above)
-      (and_both (conflict a b) (not (is_ordered steps a b)) r.pair.conflicts
+      (and_from (conflict a b) (not (is_ordered steps a b)) r.pair.conflicts
       (true_of_not (is_ordered steps a b) (λ h. r.unordered (ordered_by_test a b r.pair.second h))))
 
   -- where no test holds, what conflicts is ordered
@@ -95,9 +96,9 @@ module _ (steps : List Step) (rising : AreRising steps) where
       by_test true e = ordered_by_test a b c.second e
       by_test false e =
           absurd (none
-          (and_both (nat_lt a.line b.line) (conflict a b && not (is_ordered steps a b))
+          (and_from (nat_lt a.line b.line) (conflict a b && not (is_ordered steps a b))
           (below_test a.line b.line c.above)
-          (and_both (conflict a b) (not (is_ordered steps a b)) c.conflicts (ap not e))))
+          (and_from (conflict a b) (not (is_ordered steps a b)) c.conflicts (ap not e))))
 
   -- The race that is named
 
