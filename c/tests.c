@@ -60,6 +60,7 @@ static void in_small_rooms(const struct text *text, const uint8_t *words, size_t
     }
 }
 
+#ifndef WITHOUT_REFUSALS
 /* Each allocation in turn is refused: then there was no memory, or it wasn't needed. */
 static void without_memory(const struct text *text)
 {
@@ -82,6 +83,7 @@ static void without_memory(const struct text *text)
             fail(text->name, "another verdict for want of memory");
     }
 }
+#endif
 
 static void test(const char *name, uint8_t *bytes)
 {
@@ -97,7 +99,9 @@ static void test(const char *name, uint8_t *bytes)
         fail(name, "the two calls differ");
     on_threads(&text);
     in_small_rooms(&text, words, needed);
+#ifndef WITHOUT_REFUSALS
     without_memory(&text);
+#endif
     size_t line = (size_t)((uint8_t *)memchr(words, '\n', needed) - words);
     printf("%.*s\n", (int)line, (const char *)words);
 }

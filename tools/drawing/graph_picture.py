@@ -1,4 +1,6 @@
 """The picture of a graph of jobs: a column for each queue and one for the host, from top to bottom in their order."""
+import collections
+
 from svg import INK, MOST, RED, RULE, Svg, width_of
 
 TOP, GAP, ROW, SPACE, LEAST, WIDEST = 40, 34, 15, 150, 120, 260
@@ -9,6 +11,13 @@ EDGE = '#444444'
 
 class TooLarge(Exception):
     """A graph that no picture can show."""
+
+
+def refuse_long_columns(plan):
+    """Stops before a graph is made of a plan, where the boxes of one column alone are higher than a picture can be."""
+    jobs = collections.Counter(job.queue for job in plan.jobs)
+    if max(jobs.values(), default=0) * (12 + ROW + GAP) > MOST:
+        raise TooLarge()
 
 
 class GraphPicture:

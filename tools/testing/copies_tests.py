@@ -77,6 +77,13 @@ def test_libs(tests):
         tests.misused('libs', *words)
     prefix, archives = os.path.join(tests.folder, 'libraries'), os.path.join(tests.folder, 'archives')
     tests.misused('libs', '--remove', prefix, status=3)
+    # what a build takes is said before it begins, here by an rt that builds nothing
+    os.makedirs(os.path.join(tests.folder, 'nothing'))
+    os.chmod(tests.write('nothing/rt', '#!/bin/sh\nexit 1\n'), 0o755)
+    done = tests.tool('libs', '--anew', prefix, program=False, env={
+        **os.environ, 'PATH': os.path.join(tests.folder, 'nothing') + ':' + os.environ['PATH']})
+    tests.check('how long libs takes', done.returncode == 2 and b' minutes of one' in done.stderr
+                and b' 0 minutes' not in done.stderr, done)
     if not shutil.which('cc') or not shutil.which('ar'):
         print('NOT TESTED: libs, as there is no C compiler')
         return
@@ -86,8 +93,8 @@ def test_libs(tests):
         subprocess.run(['cc', '-c', source, '-o', source + '.o'], check=True)
         subprocess.run(['ar', 'rc', os.path.join(archives, f'lib{name}.a'), source + '.o'], check=True)
     done = tests.tool('libs', '--archives', archives, prefix, program=False)
-    tests.check('libs', done.returncode == 0 and b'7 files are below' in done.stdout, done)
-    for header in ('vq.h', 'vq_live.h'):
+    tests.check('libs', done.returncode == 0 and b'8 files are below' in done.stdout, done)
+    for header in ('vq.h', 'vq_live.h', 'vq_alloc.h'):
         tests.check(f'include/{header}', read(prefix, 'include', header) == read(TOP, 'c', header))
     if shutil.which('pkg-config'):
         for package, call in (('vq', 'vq_version'), ('vq-live', 'vq_live_value')):

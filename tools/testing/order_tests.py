@@ -33,6 +33,10 @@ def test_order(tests):
     done = tests.tool('order', data=b'x' * 1_000_001)
     tests.check('order of what is too large', done.returncode == 2 and b'of up to 1,000,000 are drawn' in done.stderr,
                 done.stderr)
+    many = b'queue Q threaded\n' + b'submit Q\nend\n' * 600
+    done = tests.tool('order', data=many)
+    tests.check('order of many batches', done.returncode == 2 and b'take --format dot' in done.stderr, done.stderr)
+    tests.check('order of many batches as DOT', tests.tool('order', '--format', 'dot', data=many).returncode == 0)
     with open(os.path.join(TOP, 'docs', 'frame_loop.svg'), 'rb') as file:
         drawn = tests.tool('order', os.path.join(TOP, 'examples', 'frame_loop.vq')).stdout
         tests.check('docs/frame_loop.svg', file.read() == drawn, 'draw it again')

@@ -240,10 +240,43 @@ impl<T> Deref for Box<T> {
 }
 
 pub mod collections {
-    pub use std::collections::{LinkedList, VecDeque};
+    pub use std::collections::LinkedList;
 
-    use super::alloc::{AllocError, Global};
+    use super::alloc::{AllocError, AllocFailed, Global};
     use std::borrow::Borrow;
+    use std::ops::{Deref, DerefMut};
+
+    pub struct VecDeque<T>(std::collections::VecDeque<T>);
+
+    impl<T> VecDeque<T> {
+        pub fn new(_: Global) -> VecDeque<T> {
+            VecDeque(std::collections::VecDeque::new())
+        }
+        pub fn insert(&mut self, place: usize, item: T) -> Result<(), AllocFailed<T>> {
+            self.0.insert(place, item);
+            Ok(())
+        }
+        pub fn reserve(&mut self, more: usize) -> Result<(), AllocError> {
+            self.0.reserve(more);
+            Ok(())
+        }
+        pub fn push_back_reserved(&mut self, item: T) {
+            self.0.push_back(item);
+        }
+    }
+
+    impl<T> Deref for VecDeque<T> {
+        type Target = std::collections::VecDeque<T>;
+        fn deref(&self) -> &Self::Target {
+            &self.0
+        }
+    }
+
+    impl<T> DerefMut for VecDeque<T> {
+        fn deref_mut(&mut self) -> &mut Self::Target {
+            &mut self.0
+        }
+    }
 
     pub struct BTreeMap<K, V>(std::collections::BTreeMap<K, V>);
 
