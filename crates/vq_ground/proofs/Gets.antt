@@ -4,6 +4,7 @@ use Rattle.std.proofs.lemmas.List.Elements.{All-head, All-tail}
 use Rattle.std.specs.List.{slice_get, enumerate_from, range_with_len, list_all}
 use Rattle.std.proofs.lemmas.Option.{same_Some}
 use Rattle.std.proofs.lemmas.Bool.{and_parts, false≢true}
+use Rattle.std.proofs.Math.Seq.{take-append_seam}
 use Rattle.vq_ground.proofs.Lists.{has_here, has_there, has_cases}
 use Rattle.vq_ground.specs.Lists.{has}
 
@@ -116,3 +117,7 @@ pub has_at : (xs : List ℕ) (i : ℕ) → i < length xs → has xs (get_or xs i
 has_at [] i h = absurd (omega arith)
 has_at (x ∷ xs) zero h = has_here x xs
 has_at (x ∷ xs) (suc i) h = has_there x xs (get_or xs i 0) (has_at xs i (omega arith))
+
+-- what is written back into a vector whole
+pub whole_new : {X : Type 0} (n : ℕ) (new rest : List X) → length new ≡ n → take n (new ++ rest) ≡ new
+whole_new n new rest e = subst (λ k. take k (new ++ rest) ≡ new) e (take-append_seam new rest)

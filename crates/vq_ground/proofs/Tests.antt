@@ -20,3 +20,6 @@ at_most_test a b l = grind (arith, nat_tests)
 
 pub above_test : (a b : ℕ) → b < a → nat_le a b ≡ false
 above_test a b l = grind (arith, nat_tests)
+
+pub above_of_test : (a b : ℕ) → nat_le a b ≡ false → b < a
+above_of_test a b h = grind (arith, nat_tests)

@@ -5,6 +5,7 @@ use Rattle.std.specs.List.{list_any, range_with_len, slice_get}
 use Rattle.std.specs.Option.{option_map, option_map_or}
 use Rattle.std.proofs.lemmas.Option.{slice_get_within, same_Some}
 use Rattle.std.proofs.lemmas.Bool.{or_cases, and_parts, false≢true, eq-eqb, cases_eq, cond-true, cond-false, ne_eqb}
+use Rattle.vq_model.proofs.Plans.{op_exists}
 use Rattle.vq_ground.proofs.Filters.{filter-has_cases}
 use Rattle.vq_ground.proofs.Numbers.{has-range_cases}
 use Rattle.vq_model.specs.declared.plan.Op.{Op}
@@ -67,13 +68,6 @@ next_exists p w a j h = by_lane (lane_of_actor a) h
         (next_in w.machine.progress.finished (jobs_of_lane p lane) j e).0).0 in
         let x = (has-range_cases (length p.jobs) 0 j m).1 in
         omega arith
-
-pub op_exists : (p : Plan) (e j : ℕ) → job_of p e ≡ Some j → e < length p.ops
-op_exists p e j h = by_op (slice_get p.ops e) refl h
-  where
-    by_op : (o : Option Op) → slice_get p.ops e ≡ o → option_map (λ x. x.job) o ≡ Some j → e < length p.ops
-    by_op None is m = absurd (let c = m in cc)
-    by_op (Some x) is m = slice_get_within p.ops e x is
 
 pub keeps_opening : (p : Plan) → KeepsFacts p (opening_points p)
 keeps_opening p =

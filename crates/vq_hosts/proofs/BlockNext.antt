@@ -16,11 +16,6 @@ use Rattle.vq_hosts.specs.declared.threads.Threads.{Threads}
 use Rattle.vq_hosts.specs.HasTold.{HasTold, HasToldNext, ReadsBlock}
 use Rattle.vq_hosts.proofs.RestLines.{faulty_words, numbers, told_words}
 
--- some word is there
-pub some_texts : (words : List (Bor (List ℕ))) → eqb (length words) 0 ≡ false → 0 < length (texts words)
-some_texts [] h = absurd (cc)
-some_texts (w ∷ words) h = omega arith
-
 -- only the threads are others
 pub block_next : (told : Told) (n : ℕ) (words : List (List ℕ)) (r : Result (Unit {0}) HostsFault) (reader : HostsReader)
     (threads : Threads) → 0 < length words → HasTold told reader → ReadsBlock told n words r threads →

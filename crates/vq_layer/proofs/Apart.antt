@@ -1,7 +1,7 @@
 -- The signals of a batch, merged, are of timelines that exist, and no two are of one.
 use Rattle.std.proofs.Common.{◌≡◌, ℕ, zero, suc, ◌+◌, ◌<◌, ◌≤◌, Bool, true, false, List, [], ◌∷◌, ◌++◌, length, map, take, drop, set, get_or, Option, None, Some, refl, sym, ◌∙◌, ap, subst, arith}
 use Rattle.std.specs.Prelude.{nat_eq, if◌then◌else◌}
-use Rattle.std.proofs.lemmas.List.{drop_more, take-append-drop}
+use Rattle.std.proofs.lemmas.List.{drop_more}
 use Rattle.vq_live.specs.Live.{Live}
 use Rattle.vq_layer.specs.declared.answers.Wanted.{Wanted}
 use Rattle.vq_layer.specs.declared.answers.Kind.{Kind}
@@ -10,7 +10,7 @@ use Rattle.vq_layer.specs.declared.answers.SubmitFault.{SubmitFault}
 use Rattle.vq_layer.specs.Layer.{kind_at}
 use Rattle.vq_layer.specs.Names.{is_named, first_some, signal_fault, first_signal_fault, signal_named, greater, merged, merged_all, signals_named}
 use Rattle.vq_layer.specs.Takes.{AreApart, AreKnown}
-use Rattle.vq_layer.proofs.Ground.{equal_true, equal_turned, other_number, set_parts}
+use Rattle.vq_layer.proofs.Ground.{equal_true, equal_turned, set_parts}
 
 pub merged_other : (n : ℕ) (w : Wanted) (xs : List Wanted) → nat_eq w.timeline n ≡ false → is_named n xs ≡ false → is_named n (merged w xs) ≡ false
 merged_other n w [] e h = ap (λ (b : Bool). if b then true else false) e

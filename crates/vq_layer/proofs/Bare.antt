@@ -1,5 +1,5 @@
 -- Nothing is reserved after a call, if nothing was before, and there are as many timelines.
-use Rattle.std.proofs.Common.{◌≡◌, ℕ, ◌+◌, ◌-◌, ◌<◌, ◌≤◌, Bool, true, false, List, [], ◌∷◌, ◌++◌, length, set, get_or, Option, None, Some, refl, sym, ◌∙◌, ap, arith}
+use Rattle.std.proofs.Common.{◌≡◌, ℕ, ◌-◌, Bool, true, false, List, [], ◌∷◌, length, set, Option, None, Some, refl, ◌∙◌, ap}
 use Rattle.std.specs.Prelude.{nat_eq}
 use Rattle.std.proofs.lemmas.List.{length-set}
 use Rattle.vq_live.specs.declared.answers.Given.{Given}
@@ -12,7 +12,7 @@ use Rattle.vq_layer.specs.declared.answers.Wait.{Wait}
 use Rattle.vq_layer.specs.declared.answers.Signal.{Signal}
 use Rattle.vq_layer.specs.Layer.{Batch, AreBare, live_at}
 use Rattle.vq_layer.specs.Takes.{take_in, taken_all}
-use Rattle.vq_layer.specs.Installs.{install_unless, install_in, installed_all, cancel_unless, cancel_in, cancelled_all}
+use Rattle.vq_layer.specs.Installs.{install_unless, install_in, installed_all, cancel_unless, cancelled_all}
 use Rattle.vq_layer.specs.Waits.{held_at, hold_point, hold_in, held_all, unref_unless, return_point, return_in, returned_all}
 use Rattle.vq_layer.specs.Queues.{timelines_released, timelines_finished}
 use Rattle.vq_layer.proofs.Ground.{read_set}

@@ -59,10 +59,3 @@ pub set_parts : {X : Type 0} (xs : List X) (n : ℕ) (x : X) → n < length xs �
 set_parts xs n x l =
     let next : suc n ≡ n + 1 = omega arith in
     write_parts xs n x l ∙ ap (λ (k : ℕ). take n xs ++ x ∷ drop k xs) next
-
--- a list written over one of its length
-pub write_all : {X : Type 0} (n : ℕ) (xs zs : List X) → length xs ≡ n → take n (xs ++ zs) ≡ xs
-write_all zero [] zs e = refl
-write_all (suc n) [] zs e = absurd (omega arith)
-write_all zero (x ∷ xs) zs e = absurd (omega arith)
-write_all (suc n) (x ∷ xs) zs e = ap (λ ys. x ∷ ys) (write_all n xs zs (omega arith))

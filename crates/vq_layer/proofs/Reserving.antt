@@ -1,23 +1,22 @@
 -- Takes that are reserved first are the takes that are not.
-use Rattle.std.proofs.Common.{◌≡◌, ◌⊎◌, ℕ, zero, suc, ◌+◌, ◌-◌, ◌<◌, ◌≤◌, Bool, true, false, List, [], ◌∷◌, ◌++◌, length, take, drop, set, get_or, Option, None, Some, inl, inr, refl, sym, ◌∙◌, ap, subst, arith}
+use Rattle.std.proofs.Common.{◌≡◌, ◌⊎◌, ℕ, zero, suc, ◌+◌, ◌-◌, ◌<◌, Bool, true, false, List, [], ◌∷◌, ◌++◌, length, take, drop, set, get_or, Option, None, Some, inl, inr, refl, sym, ◌∙◌, ap, subst, arith}
 use Rattle.std.specs.Prelude.{nat_eq, if◌then◌else◌}
 use Rattle.std.proofs.lemmas.List.{length-set, take_more, drop_more}
+use Rattle.vq_layer.proofs.Apart.{none_first}
 use Rattle.vq_live.specs.declared.answers.Slot.{Slot}
 use Rattle.vq_live.specs.declared.answers.TakeFault.{TakeFault}
 use Rattle.vq_live.specs.declared.answers.TakeFault.TheVariants as take_as
 use Rattle.vq_live.specs.declared.answers.ReserveFault.{ReserveFault}
 use Rattle.vq_live.specs.declared.answers.ReserveFault.TheVariants as reserve_as
 use Rattle.vq_live.specs.Live.{Live, opened}
-use Rattle.vq_live.specs.Calls.{take_fault, after_take, given_to, after_reserve, LacksNumbers, LacksRoom, MayLack}
+use Rattle.vq_live.specs.Calls.{take_fault, after_take, given_to, after_reserve, LacksRoom, MayLack}
 use Rattle.vq_layer.specs.declared.answers.Wanted.{Wanted}
 use Rattle.vq_layer.specs.declared.answers.Signal.{Signal}
-use Rattle.vq_layer.specs.declared.answers.SubmitFault.{SubmitFault}
-use Rattle.vq_layer.specs.declared.answers.SubmitFault.TheVariants.{NotTaken}
 use Rattle.vq_layer.specs.Layer.{AreBare, live_at}
 use Rattle.vq_layer.specs.Names.{is_named, first_some}
-use Rattle.vq_layer.specs.Takes.{not_taken, first_take_fault, take_in, signal_in, taken_all, signals_all, AreApart, AreKnown, reserve_in, reserved_all, unreserved_all, IsReserved, AreReserved, LackNumbers, lack_of}
+use Rattle.vq_layer.specs.Takes.{not_taken, first_take_fault, take_in, signal_in, taken_all, signals_all, AreApart, AreKnown, reserve_in, reserved_all, unreserved_all, IsReserved, AreReserved, lack_of}
 use Rattle.vq_layer.specs.Calls.{MayLackOf}
-use Rattle.vq_layer.proofs.Ground.{same_number, other_number, equal_true, equal_false, true_false, read_set, back_set, over_set, swap_set}
+use Rattle.vq_layer.proofs.Ground.{other_number, equal_true, equal_false, true_false, read_set, back_set, over_set, swap_set}
 
 -- what is named first is named
 named_first : (w : Wanted) (ws : List Wanted) → is_named w.timeline (w ∷ ws) ≡ true
@@ -146,23 +145,19 @@ fault_reserved ts m (w ∷ ws) =
     (λ e. ap (λ (k : ℕ). take_fault (live_at ts k) w.value) e) refl in
     λ i. first_some (not_taken w.timeline (one i)) (fault_reserved ts m ws i)
 
-none_some : (a b : Option SubmitFault) → first_some a b ≡ None → (a ≡ None) × (b ≡ None)
-none_some None b h = (refl, h)
-none_some (Some x) b h = absurd (cc)
-
-none_taken : (n : ℕ) (o : Option TakeFault) → not_taken n o ≡ None → o ≡ None
+pub none_taken : (n : ℕ) (o : Option TakeFault) → not_taken n o ≡ None → o ≡ None
 none_taken n None h = refl
 none_taken n (Some x) h = absurd (cc)
 
-known_reserved : (ts us : List Live) (ws : List Wanted) → length us ≡ length ts → AreKnown ts ws → AreKnown us ws
-known_reserved ts us [] e h = tt
-known_reserved ts us (w ∷ ws) e h = (subst (λ (n : ℕ). w.timeline < n) (sym e) h.0, known_reserved ts us ws e h.1)
+pub known_others : (ts us : List Live) (ws : List Wanted) → length us ≡ length ts → AreKnown ts ws → AreKnown us ws
+known_others ts us [] e h = tt
+known_others ts us (w ∷ ws) e h = (subst (λ (n : ℕ). w.timeline < n) (sym e) h.0, known_others ts us ws e h.1)
 
 pub are_reserved : (ts : List Live) (ws : List Wanted) → AreApart ws → AreKnown ts ws → first_take_fault ts ws ≡ None → AreReserved (reserved_all ts ws) ws
 are_reserved ts [] a k h = tt
 are_reserved ts (w ∷ ws) a k h =
     let us = reserve_in ts w.timeline 1 in
-    let both = none_some (not_taken w.timeline (take_fault (live_at ts w.timeline) w.value)) (first_take_fault ts ws) h in
+    let both = none_first (not_taken w.timeline (take_fault (live_at ts w.timeline) w.value)) (first_take_fault ts ws) h in
     let now : live_at (reserved_all us ws) w.timeline ≡ after_reserve (live_at ts w.timeline) 1 =
     reserved_other us ws w.timeline a.0 ∙ reserve_same ts w.timeline k.0 in
     let count = count_reserved ts (w ∷ ws) in (
@@ -171,7 +166,7 @@ are_reserved ts (w ∷ ws) a k h =
         fine = ap (λ (x : Live). take_fault x w.value) now ∙ none_taken w.timeline (take_fault (live_at ts w.timeline) w.value) both.0;
         room = ap (λ (x : Live). x.reserved) now;
       },
-      are_reserved us ws a.1 (known_reserved ts us ws (length-set ts w.timeline _) k.1) (fault_reserved ts w.timeline ws ∙ both.1),
+      are_reserved us ws a.1 (known_others ts us ws (length-set ts w.timeline _) k.1) (fault_reserved ts w.timeline ws ∙ both.1),
     )
 
 -- a take that is reserved is given

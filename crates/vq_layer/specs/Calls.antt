@@ -1,17 +1,15 @@
 -- What each call of a live layer answers and leaves.
-use Rattle.std.specs.Prelude.{ℕ, Bool, true, false, List, [], ◌∷◌, ◌++◌, ◌≡◌, ◌<◌, ◌≤◌, ◌+◌, ◌-◌, ◌⊎◌, Option, None, Some, Result, Ok, Err}
+use Rattle.std.specs.Prelude.{ℕ, Bool, true, false, List, [], ◌∷◌, ◌++◌, ◌+◌, ◌-◌, Option, None, Some, Result, Err}
 use Rattle.std.specs.Prelude.{slice_set, length, nat_lt, nat_le, nat_eq, if◌then◌else◌}
-use Rattle.std.specs.Option.{option_map}
 use Rattle.vq_live.specs.declared.answers.Given.{Given}
 use Rattle.vq_live.specs.declared.answers.Held.{Held}
-use Rattle.vq_live.specs.declared.answers.Found.{Found}
 use Rattle.vq_live.specs.declared.answers.ReferFault.{ReferFault}
 use Rattle.vq_live.specs.declared.answers.ReferFault.TheVariants as refer_as
 use Rattle.vq_live.specs.declared.answers.TakeFault.TheVariants as take_as
 use Rattle.vq_live.specs.declared.answers.SignalFault.{SignalFault}
 use Rattle.vq_live.specs.declared.answers.SignalFault.TheVariants as signal_as
 use Rattle.vq_live.specs.Live.{Live, opened, slot_at}
-use Rattle.vq_live.specs.Calls.{found, first_pending, after_complete, signal_fault, after_signal, refer_answer, after_refer, after_unref, held_from}
+use Rattle.vq_live.specs.Calls.{first_pending, after_complete, signal_fault, after_signal, refer_answer, after_refer, after_unref, held_from}
 use Rattle.vq_layer.specs.declared.answers.Wanted.{Wanted}
 use Rattle.vq_layer.specs.declared.answers.Kind.{Kind}
 use Rattle.vq_layer.specs.declared.answers.Kind.TheVariants as kind_as
@@ -27,13 +25,12 @@ use Rattle.vq_layer.specs.declared.answers.SetFault.{SetFault}
 use Rattle.vq_layer.specs.declared.answers.SetFault.TheVariants as set_as
 use Rattle.vq_layer.specs.declared.answers.ResetFault.{ResetFault}
 use Rattle.vq_layer.specs.declared.answers.ResetFault.TheVariants as reset_as
-use Rattle.vq_layer.specs.Layer.{Layer, Batch, Queue, live_at, kind_at, queue_at, no_queue}
+use Rattle.vq_layer.specs.Layer.{Layer, Batch, live_at, kind_at, queue_at, no_queue}
 use Rattle.vq_layer.specs.Names.{with_wait}
 use Rattle.vq_layer.specs.Names.{first_some, first_wait_fault, first_signal_fault, waits_named, signals_named, kinds_waited, kinds_signaled}
 use Rattle.vq_layer.specs.Names.{first_used_signal, first_used_wait, kinds_unsignaled, kinds_unwaited, free_from, is_closed}
 use Rattle.vq_layer.specs.Takes.{taken_all, first_take_fault, LackNumbers}
 use Rattle.vq_layer.specs.Installs.{cancelled_all}
-use Rattle.vq_layer.specs.Waits.{found_in}
 use Rattle.vq_layer.specs.Queues.{batch_made, blocked, next_batch, timelines_released, after_release, oldest, after_finish, with_batch}
 use Rattle.vq_layer.specs.Queues.{first_held_back, missing_of, newest_held_back, after_take_back, first_naming, left_by_queues, first_ready}
 use Rattle.vq_layer.specs.Waits.{returned_all}

@@ -1,5 +1,5 @@
 -- Installing and cancelling the operations of a batch.
-use Rattle.std.specs.Prelude.{ℕ, Bool, true, false, List, [], ◌∷◌, Option, None, Some, slice_set, nat_lt, length, if◌then◌else◌}
+use Rattle.std.specs.Prelude.{Bool, false, List, [], ◌∷◌, Option, None, Some, slice_set, nat_lt, length, if◌then◌else◌}
 use Rattle.std.specs.List.{slice_get}
 use Rattle.vq_live.specs.declared.answers.Given.{Given}
 use Rattle.vq_live.specs.declared.answers.InstallFault.{InstallFault}

@@ -1,11 +1,11 @@
 -- The state of a live layer.
-use Rattle.std.specs.Prelude.{ℕ, List, [], ◌≡◌, ◌≤◌, length}
+use Rattle.std.specs.Prelude.{ℕ, List, [], ◌≡◌}
 use Rattle.std.specs.List.{slice_index_or}
 use Rattle.vq_live.specs.Live.{Live, opened}
 use Rattle.vq_layer.specs.declared.answers.Wait.{Wait}
 use Rattle.vq_layer.specs.declared.answers.Signal.{Signal}
 use Rattle.vq_layer.specs.declared.answers.Kind.{Kind}
-use Rattle.vq_layer.specs.declared.answers.Kind.TheVariants.{Closed, Timeline, Binary}
+use Rattle.vq_layer.specs.declared.answers.Kind.TheVariants.{Closed}
 
 -- A batch: the caller's token, what it waits for, and what it signals.
 pub record Batch : Type 0 where

@@ -1,5 +1,5 @@
 -- What a batch names: timelines, and binary semaphores with their counted values.
-use Rattle.std.specs.Prelude.{ℕ, Bool, true, false, not, List, [], ◌∷◌, ◌+◌, ◌-◌, ◌==◌, ◌&&◌, ◌||◌, Option, None, Some}
+use Rattle.std.specs.Prelude.{ℕ, Bool, true, false, List, [], ◌∷◌, ◌+◌, ◌-◌, ◌&&◌, ◌||◌, Option, None, Some}
 use Rattle.std.specs.Prelude.{nat_lt, nat_eq, slice_set, map, max, min, if◌then◌else◌}
 use Rattle.vq_layer.specs.declared.answers.Wanted.{Wanted}
 use Rattle.vq_layer.specs.declared.answers.Wait.{Wait}

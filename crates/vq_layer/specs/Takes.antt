@@ -1,5 +1,5 @@
 -- Taking points for the signals of a batch, no two of which are of one timeline.
-use Rattle.std.specs.Prelude.{ℕ, Bool, true, false, List, [], ◌∷◌, ◌≡◌, ◌<◌, ◌≤◌, Option, None, Some, length, slice_set}
+use Rattle.std.specs.Prelude.{ℕ, true, false, List, [], ◌∷◌, ◌≡◌, ◌<◌, Option, None, Some, length, slice_set}
 use Rattle.vq_live.specs.Live.{Live}
 use Rattle.vq_live.specs.Calls.{take_fault, after_take, given_to, after_reserve, LacksNumbers}
 use Rattle.vq_live.specs.declared.answers.TakeFault.{TakeFault}

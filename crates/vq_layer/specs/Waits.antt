@@ -1,5 +1,5 @@
 -- Where the waits of a batch stand, and the references that a released batch holds.
-use Rattle.std.specs.Prelude.{ℕ, Bool, true, false, List, [], ◌∷◌, ◌≡◌, ◌<◌, ◌≤◌, ◌-◌, ◌==◌, ◌&&◌, Option, None, Some, Result, Ok, Err, slice_set, if◌then◌else◌}
+use Rattle.std.specs.Prelude.{ℕ, Bool, true, false, List, [], ◌∷◌, ◌-◌, ◌&&◌, Option, None, Some, Result, Ok, Err, slice_set, if◌then◌else◌}
 use Rattle.std.specs.Prelude.{nat_eq, nat_lt, length}
 use Rattle.vq_live.specs.declared.answers.Found.{Found}
 use Rattle.vq_live.specs.declared.answers.Found.TheVariants as found_as

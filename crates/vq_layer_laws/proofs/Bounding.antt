@@ -2,7 +2,8 @@
 use Rattle.std.proofs.Common.{◌≡◌, ℕ, zero, suc, ◌+◌, ◌<◌, ◌≤◌, Bool, true, false, cond, List, [], ◌∷◌, ◌++◌, length, take, set, Option, None, Some, Ok, Err, inl, inr, refl, sym, ◌∙◌, ap, subst, arith}
 use Rattle.std.specs.Prelude.{nat_eq, nat_lt, nat_le, ◌&&◌, if◌then◌else◌}
 use Rattle.std.proofs.lemmas.Bool.Decides.{nat_tests}
-use Rattle.vq_ground.proofs.Tests.{at_least_of_test, below_of_test}
+use Rattle.vq_live.proofs.Cited.{at_most_one}
+use Rattle.vq_ground.proofs.Tests.{above_of_test, at_least_of_test, below_of_test}
 use Rattle.vq_live.specs.declared.answers.Given.{Given}
 use Rattle.vq_live.specs.declared.answers.Slot.{Slot}
 use Rattle.vq_live.specs.declared.answers.Found.{Found}
@@ -24,14 +25,14 @@ use Rattle.vq_layer_laws.specs.Lived.{HaveLived}
 use Rattle.vq_layer_laws.specs.Referred.{held_by_waits, held_by_queue, held_by_queues, refs_at}
 use Rattle.vq_layer_laws.specs.Standing.{Stood, AllStood}
 use Rattle.vq_layer_laws.specs.Runs.{Call, opens, opens_binary, opens_queue, closes, submits, takes_back, releases, finishes, completes, sets, resets, refers_to, gives_back, MayCall, after_call, AreCalls, after_calls}
-use Rattle.vq_layer_laws.proofs.Living.{submit_may, refer_may, unref_may, found_point}
+use Rattle.vq_layer_laws.proofs.Living.{submit_may, refer_may, unref_may, found_point, lived_hold}
 use Rattle.vq_layer_laws.proofs.Counts.{lived_keeps}
 use Rattle.vq_layer_laws.proofs.Ordering.{oldest_exists, take_back_may}
-use Rattle.vq_layer_laws.proofs.Referring.{refs_write, refs_taken, refs_installed, refs_cancelled, refs_complete, refs_held, refs_returned, refs_more, refs_less, refs_hold, lived_hold, some_exists, out_exists}
+use Rattle.vq_layer_laws.proofs.Referring.{refs_write, refs_taken, refs_installed, refs_cancelled, refs_complete, refs_held, refs_returned, refs_more, refs_less, refs_hold, some_exists, out_exists}
 use Rattle.vq_layer_laws.proofs.Holding.{held_set, held_none, held_most, held_made, held_back, held_released, held_finished}
 use Rattle.vq_layer_laws.proofs.Keeping.{Keeps, ready_at, keeps_call, keeps_none}
 use Rattle.vq_layer_laws.proofs.Guarding.{Guards, guards_call}
-use Rattle.vq_layer_laws.proofs.Totals.{total, total_set, total_none, total_made, total_back, total_released, total_finished, queues_room, one_most}
+use Rattle.vq_layer_laws.proofs.Totals.{total, total_set, total_none, total_made, total_back, total_released, total_finished, queues_room}
 
 -- What a run keeps of counts: a point's references are at most those of released batches and 2^31 of the host's, and the
 -- waits are counted.
@@ -157,12 +158,9 @@ bound_done l k x o h g b =
 refer_room : (t : Live) (p : ℕ) → host_refer_answer t p ≡ Ok (record { point = p }) → (slot_at t.slots p).refs < 2147483648
 refer_room t p h = by_test (nat_le 2147483648 (slot_at t.slots p).refs) refl h
   where
-    above : (a b : ℕ) → nat_le a b ≡ false → b < a
-    above a b e = grind (arith, nat_tests)
-
     by_test : (b : Bool) → nat_le 2147483648 (slot_at t.slots p).refs ≡ b → (if b then Err refer_as.Full else refer_answer t p) ≡ Ok (record { point = p }) → (slot_at t.slots p).refs < 2147483648
     by_test true e k = absurd (cc)
-    by_test false e k = above 2147483648 (slot_at t.slots p).refs e
+    by_test false e k = above_of_test 2147483648 (slot_at t.slots p).refs e
 
 bound_refer : (l : Layer) (j p : ℕ) → MayCall l (refers_to j p) → Keeps l → Bounds l → Bounds (after_call l (refers_to j p))
 bound_refer l j p m h b =
@@ -304,7 +302,7 @@ stand_from ts us (w ∷ ws) same none h room =
     let may : (q : ℕ) → o ≡ Some q → refer_answer (live_at us m) q ≡ Ok (record { point = q }) = λ q e. found_point (live_at us m) (found_in us w.wanted) q e in (
       stands ts us w (found_in ts w.wanted) refl (same w.wanted) both.0 h (λ n p. let all = room n p in omega arith),
       stand_from ts (hold_in us w.wanted) ws (λ x. found_held us m o x ∙ same x) both.1 (lived_hold us m o may h)
-          (λ n p. let all = room n p in let more = refs_hold us m o n p may h in let one = one_most (nat_eq m n && is_point o p) in omega arith),
+          (λ n p. let all = room n p in let more = refs_hold us m o n p may h in let one = at_most_one (nat_eq m n && is_point o p) in omega arith),
     )
 
 pub all_stand : (l : Layer) (k : ℕ) → blocked_of l k ≡ None → Keeps l → Bounds l → AllStood l.timelines (next_batch (queue_at l.queues k)).waits (waits_all l.timelines (next_batch (queue_at l.queues k)).waits)

@@ -4,7 +4,7 @@ use Rattle.std.specs.Prelude.{nat_lt, nat_le, ◌==◌, ◌&&◌, ◌||◌, if�
 use Rattle.std.specs.List.{slice_get, list_any}
 use Rattle.std.proofs.lemmas.Bool.Decides.{nat_tests}
 use Rattle.std.proofs.lemmas.Bool.{and_parts}
-use Rattle.vq_ground.proofs.Tests.{above_test, below_test}
+use Rattle.vq_ground.proofs.Tests.{above_of_test, above_test, below_test}
 use Rattle.vq_live.specs.declared.answers.Given.{Given}
 use Rattle.vq_live.specs.declared.answers.InstallFault.TheVariants as install_as
 use Rattle.vq_live.specs.declared.answers.CancelFault.TheVariants as cancel_as
@@ -12,43 +12,22 @@ use Rattle.vq_live.specs.declared.answers.TakeFault.TheVariants as take_as
 use Rattle.vq_live.specs.Live.{Live, KeepsLive, RisesFrom, opened, taken, last_value, pending_value, one_if}
 use Rattle.vq_live.specs.Calls.{is_same, take_fault, given_to, after_take, placed, next_fault, install_fault, after_install, cancel_fault, after_cancel, without, first_of, first_pending, complete_from}
 use Rattle.vq_live.specs.Runs.{Event, IsRun, after, after_all}
-use Rattle.vq_live.proofs.Cited.{event_keeps, opened_keeps}
+use Rattle.vq_live.proofs.Cited.{event_keeps, opened_keeps, run_keeps, same_given, given_same, last_above}
 use Rattle.vq_layer.proofs.Cited.{same_number, equal_true, equal_false}
 use Rattle.vq_layer.specs.Installs.{is_first}
 use Rattle.vq_layer_laws.specs.Lived.{HasLived}
 use Rattle.vq_layer_laws.specs.Tied.{count_in}
 
 -- a timeline that lived keeps the law of live timelines
-run_keeps : (t : Live) (events : List Event) → KeepsLive t → IsRun t events → KeepsLive (after_all t events)
-run_keeps t [] k r = k
-run_keeps t (e ∷ events) k r = run_keeps (after t e) events (event_keeps t e k r.0) r.1
-
 pub lived_keeps : (t : Live) → HasLived t → KeepsLive t
 lived_keeps t h = subst KeepsLive h.leads (run_keeps (opened h.initial) h.events (opened_keeps h.initial) h.run)
-
-pub same_given : (x y : Given) → is_same x y ≡ true → x ≡ y
-same_given x y h =
-    let both = and_parts (x.value == y.value) (x.point == y.point) h in
-    λ i. record { value = same_number x.value y.value both.0 i; point = same_number x.point y.point both.1 i }
-
-pub given_same : (x : Given) → is_same x x ≡ true
-given_same x = λ i. (equal_true x.value x.value refl i) && (equal_true x.point x.point refl i)
-
--- values that rise
-pub rises_last : (p n : ℕ) (ops : List Given) → RisesFrom p ops → p ≤ last_value p (take n ops)
-rises_last p zero ops h = omega arith
-rises_last p (suc n) [] h = omega arith
-rises_last p (suc n) (x ∷ xs) h = let rest = rises_last x.value n xs h.1 in let low = h.0 in omega arith
-
-above : (a b : ℕ) → nat_le a b ≡ false → b < a
-above a b e = grind (arith, nat_tests)
 
 -- a take puts its operation among those only taken
 placed_drop : (y : Given) (p n : ℕ) (ops : List Given) → RisesFrom p ops → n ≤ length ops → last_value p (take n ops) < y.value → drop n (placed y ops) ≡ placed y (drop n ops)
 placed_drop y p zero ops h k l = refl
 placed_drop y p (suc n) [] h k l = absurd (omega arith)
 placed_drop y p (suc n) (x ∷ xs) h k l =
-    let low = rises_last x.value n xs h.1 in
+    let low = last_above x.value n xs h.1 in
     let less : nat_lt x.value y.value ≡ true = below_test x.value y.value (omega arith) in
     ap (λ (b : Bool). drop (suc n) (if b then x ∷ placed y xs else y ∷ x ∷ xs)) less
     ∙ placed_drop y x.value n xs h.1 (omega arith) l
@@ -66,7 +45,7 @@ take_above t v h = by_test (nat_le v (pending_value t)) refl h
   where
     by_test : (b : Bool) → nat_le v (pending_value t) ≡ b → (if b then Some (take_as.NotAbove (pending_value t)) else if list_any (λ x. x.value == v) t.ops then Some take_as.Twice else None) ≡ None → pending_value t < v
     by_test true e k = absurd (cc)
-    by_test false e k = above v (pending_value t) e
+    by_test false e k = above_of_test v (pending_value t) e
 
 pub count_take : (t : Live) (v : ℕ) (x : Given) → KeepsLive t → take_fault t v ≡ None → count_in x (taken (after_take t v)) ≡ one_if (is_same (given_to t v) x) + count_in x (taken t)
 count_take t v x k h =
@@ -151,7 +130,7 @@ without_drop : (y : Given) (p n : ℕ) (ops : List Given) → RisesFrom p ops �
 without_drop y p zero ops h k l = refl
 without_drop y p (suc n) [] h k l = absurd (omega arith)
 without_drop y p (suc n) (x ∷ xs) h k l =
-    let low = rises_last x.value n xs h.1 in
+    let low = last_above x.value n xs h.1 in
     let other : (x.value == y.value) ≡ false = equal_false x.value y.value (λ e. absurd (omega arith)) in
     ap (λ (b : Bool). drop (suc n) (if b then xs else x ∷ without y xs)) other
     ∙ without_drop y x.value n xs h.1 (omega arith) l

@@ -4,6 +4,7 @@ use Rattle.std.specs.Prelude.{nat_lt, ◌&&◌, if◌then◌else◌}
 use Rattle.std.specs.List.{slice_get}
 use Rattle.std.proofs.lemmas.List.{length-set}
 use Rattle.std.proofs.lemmas.Option.{slice_get_within}
+use Rattle.vq_live.proofs.Cited.{given_same}
 use Rattle.vq_ground.proofs.Tests.{below_of_test}
 use Rattle.vq_live.specs.declared.answers.Given.{Given}
 use Rattle.vq_live.specs.Live.{Live, opened, taken, one_if}
@@ -26,7 +27,7 @@ use Rattle.vq_layer_laws.specs.Lived.{HaveLived}
 use Rattle.vq_layer_laws.specs.Tied.{count_in, is_signal, count_signals, count_held, count_queues, IsFine, IsTied}
 use Rattle.vq_layer_laws.specs.Runs.{Call, opens, opens_binary, opens_queue, closes, submits, takes_back, releases, finishes, completes, sets, resets, refers_to, gives_back, MayCall, after_call, AreCalls, after_calls}
 use Rattle.vq_layer_laws.proofs.Living.{submit_may, lived_call, lived_held, lived_opened}
-use Rattle.vq_layer_laws.proofs.Counts.{given_same, IsIn, some_in, taken_complete}
+use Rattle.vq_layer_laws.proofs.Counts.{IsIn, some_in, taken_complete}
 use Rattle.vq_layer_laws.proofs.Sums.{count_set, count_same, count_none, count_at_most, held_made, fine_made, held_released, fine_released, held_finished, fine_finished, held_back, fine_back, apart_at, unnamed_queues}
 use Rattle.vq_layer_laws.proofs.Tying.{taken_same, tied_taken, tied_installed, tied_cancelled, held_taken, returned_taken, next_held, all_next, AreTaken}
 use Rattle.vq_layer_laws.proofs.Closing.{closed_wait, closed_set, closed_counted, closed_uncounted, counted_count, uncounted_count, closed_unnamed, unnamed_count, signals_apart, free_closed, put_count, kind_put, count_put}

@@ -31,7 +31,7 @@ use Rattle.vq_layer.specs.Installs.{install_unless, install_in, installed_all, c
 use Rattle.vq_layer.specs.Waits.{point_of, point_found, found_in, held_at, hold_point, hold_in, held_all, unref_unless, return_point, return_in, returned_all}
 use Rattle.vq_layer.specs.Queues.{newest, next_batch}
 use Rattle.vq_layer.specs.Calls.{put_at, free_number, submit_fault, most_waits, oldest_in, finish_from, set_fault_of, set_fault_in, host_refer_answer, host_refs, count_if}
-use Rattle.vq_layer.proofs.Cited.{same_number, read_set, apart_named, none_first, not_named, none_host}
+use Rattle.vq_layer.proofs.Cited.{same_number, read_set, apart_named, none_first, not_named, none_host, none_taken}
 use Rattle.vq_layer_laws.specs.Lived.{HasLived, HaveLived}
 use Rattle.vq_layer_laws.specs.Runs.{Call, opens, opens_binary, opens_queue, closes, submits, takes_back, releases, finishes, completes, sets, resets, refers_to, gives_back, MayCall, after_call, AreCalls, after_calls}
 
@@ -72,10 +72,6 @@ lived_put ts n t h k = by_test (nat_lt n (length ts))
     by_test false = lived_more ts t h k
 
 -- taking
-none_taken : (n : ℕ) (o : Option TakeFault) → not_taken n o ≡ None → o ≡ None
-none_taken n None h = refl
-none_taken n (Some x) h = absurd (cc)
-
 pub fault_taken : (ts : List Live) (w : Wanted) (ws : List Wanted) → is_named w.timeline ws ≡ false → first_take_fault (take_in ts w) ws ≡ first_take_fault ts ws
 fault_taken ts w [] a = refl
 fault_taken ts w (x ∷ xs) a =
@@ -141,7 +137,7 @@ found_point t found_as.NotYet p h = absurd (cc)
 found_point t found_as.Past p h = absurd (cc)
 found_point t (found_as.Pending x) p h = answer_point t x.point p h
 
-lived_hold : (ts : List Live) (n : ℕ) (o : Option ℕ) → ((p : ℕ) → o ≡ Some p → refer_answer (live_at ts n) p ≡ Ok (record { point = p })) → HaveLived ts → HaveLived (hold_point ts n o)
+pub lived_hold : (ts : List Live) (n : ℕ) (o : Option ℕ) → ((p : ℕ) → o ≡ Some p → refer_answer (live_at ts n) p ≡ Ok (record { point = p })) → HaveLived ts → HaveLived (hold_point ts n o)
 lived_hold ts n None f h = h
 lived_hold ts n (Some p) f h =
     lived_set ts n (after_refer (live_at ts n) p) h (lived_event (live_at ts n) (referring p) (h n) (f p refl))

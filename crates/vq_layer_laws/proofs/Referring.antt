@@ -19,7 +19,7 @@ use Rattle.vq_layer.specs.Waits.{found_in, held_at, hold_point, hold_in, held_al
 use Rattle.vq_layer.proofs.Cited.{same_number, equal_true, read_set}
 use Rattle.vq_layer_laws.specs.Lived.{HasLived, HaveLived}
 use Rattle.vq_layer_laws.specs.Referred.{held_by_waits, refs_at}
-use Rattle.vq_layer_laws.proofs.Living.{lived_event, lived_set, fault_first, fault_taken, found_point, lived_cancelled}
+use Rattle.vq_layer_laws.proofs.Living.{lived_event, lived_set, fault_first, fault_taken, found_point, lived_cancelled, lived_hold}
 use Rattle.vq_layer_laws.proofs.Counts.{lived_keeps}
 use Rattle.vq_layer_laws.proofs.Tying.{written}
 
@@ -136,10 +136,6 @@ refs_hold ts m None n p f h = by_test (nat_eq m n)
     by_test true = omega arith
     by_test false = omega arith
 refs_hold ts m (Some q) n p f h = refs_more ts m q n p (out_exists ts m q (f q refl)) h (f q refl)
-
-pub lived_hold : (ts : List Live) (m : ℕ) (o : Option ℕ) → ((q : ℕ) → o ≡ Some q → refer_answer (live_at ts m) q ≡ Ok (record { point = q })) → HaveLived ts → HaveLived (hold_point ts m o)
-lived_hold ts m None f h = h
-lived_hold ts m (Some q) f h = lived_set ts m (after_refer (live_at ts m) q) h (lived_event (live_at ts m) (referring q) (h m) (f q refl))
 
 pub refs_held : (ts : List Live) (ws : List Wait) (n p : ℕ) → HaveLived ts → refs_at (held_all ts ws) n p ≡ held_by_waits n p (waits_all ts ws) + refs_at ts n p
 refs_held ts [] n p h = omega arith

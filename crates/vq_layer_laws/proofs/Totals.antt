@@ -1,6 +1,7 @@
 -- How many waits the batches have, as queues change.
 use Rattle.std.proofs.Common.{◌≡◌, ℕ, zero, suc, ◌+◌, ◌-◌, ◌<◌, ◌≤◌, Bool, true, false, List, [], ◌∷◌, ◌++◌, length, take, drop, set, get_or, None, Some, refl, ◌∙◌, ap, arith}
 use Rattle.std.specs.Prelude.{◌==◌, if◌then◌else◌}
+use Rattle.vq_live.proofs.Cited.{at_most_one}
 use Rattle.vq_live.specs.Live.{Live, one_if}
 use Rattle.vq_layer.specs.declared.answers.Wait.{Wait}
 use Rattle.vq_layer.specs.declared.answers.Wanted.{Wanted}
@@ -73,13 +74,10 @@ pub total_finished : (q : Queue) (b : Batch) → oldest q ≡ Some b → total_b
 total_finished q b e = first_is q.released q.batches b e
 
 -- what is held is at most what waits
-pub one_most : (b : Bool) → one_if b ≤ 1
-one_most true = omega arith
-one_most false = omega arith
 
 waits_most : (n p : ℕ) (ws : List Wait) → held_by_waits n p ws ≤ length ws
 waits_most n p [] = omega arith
-waits_most n p (w ∷ ws) = let one = one_most (holds n p w) in let rest = waits_most n p ws in omega arith
+waits_most n p (w ∷ ws) = let one = at_most_one (holds n p w) in let rest = waits_most n p ws in omega arith
 
 batches_most : (n p k : ℕ) (bs : List Batch) → held_by_batches n p (take k bs) ≤ total_batches bs
 batches_most n p zero bs = omega arith

@@ -16,7 +16,7 @@ use Rattle.vq_layer.specs.Names.{signals_name}
 use Rattle.vq_layer.specs.Takes.{take_in, taken_all, signals_all, first_take_fault, AreApart, AreKnown}
 use Rattle.vq_layer.specs.Installs.{install_unless, install_in, installed_all, cancel_unless, cancelled_all, is_next, is_first, unless_next, first_behind}
 use Rattle.vq_layer.specs.Waits.{held_at, hold_point, hold_in, held_all, unref_unless, return_point, return_in, returned_all}
-use Rattle.vq_layer.proofs.Cited.{same_number, other_number, read_set, count_cancelled, count_held}
+use Rattle.vq_layer.proofs.Cited.{same_number, other_number, read_set, count_cancelled, count_held, known_others}
 use Rattle.vq_layer_laws.specs.Lived.{HaveLived}
 use Rattle.vq_layer_laws.specs.Tied.{count_in, is_signal, count_signals, SignalApart}
 use Rattle.vq_layer_laws.proofs.Living.{lived_event, lived_set, fault_first, fault_taken}
@@ -78,16 +78,12 @@ lived_take ts w h f =
     let t = live_at ts w.timeline in
     lived_set ts w.timeline (after_take t w.value) h (lived_event t (taking (given_to t w.value)) (h w.timeline) (f, refl))
 
-known_set : (ts us : List Live) (ws : List Wanted) → length us ≡ length ts → AreKnown ts ws → AreKnown us ws
-known_set ts us [] e h = tt
-known_set ts us (w ∷ ws) e h = (subst (λ (n : ℕ). w.timeline < n) (sym e) h.0, known_set ts us ws e h.1)
-
 pub tied_taken : (ts : List Live) (ws : List Wanted) (n : ℕ) (x : Given) → AreApart ws → AreKnown ts ws → first_take_fault ts ws ≡ None → HaveLived ts → count_in x (taken (live_at (taken_all ts ws) n)) ≡ count_signals n x (signals_all ts ws) + count_in x (taken (live_at ts n))
 tied_taken ts [] n x a k f h = omega arith
 tied_taken ts (w ∷ ws) n x a k f h =
     let first = fault_first ts w ws f in
     let t = live_at ts w.timeline in
-    let rest = tied_taken (take_in ts w) ws n x a.1 (known_set ts (take_in ts w) ws (length-set ts w.timeline _) k.1) (fault_taken ts w ws a.0 ∙ first.1) (lived_take ts w h first.0) in
+    let rest = tied_taken (take_in ts w) ws n x a.1 (known_others ts (take_in ts w) ws (length-set ts w.timeline _) k.1) (fault_taken ts w ws a.0 ∙ first.1) (lived_take ts w h first.0) in
     let one = count_more ts w.timeline n (after_take t w.value) x (given_to t w.value) k.0 (count_take t w.value x (lived_keeps t (h w.timeline)) first.0) in
     omega arith
 

@@ -4,6 +4,7 @@ use Rattle.std.specs.Prelude.{nat_eq, nat_lt, nat_le, ◌&&◌, if◌then◌else
 use Rattle.std.specs.List.{slice_get}
 use Rattle.std.proofs.lemmas.Bool.Decides.{nat_tests}
 use Rattle.std.proofs.lemmas.Bool.{and_parts}
+use Rattle.vq_live.proofs.Cited.{same_given, given_same, last_above}
 use Rattle.vq_ground.proofs.Tests.{below_test, at_most_test, below_of_test}
 use Rattle.vq_live.specs.declared.answers.Given.{Given}
 use Rattle.vq_live.specs.declared.answers.Found.{Found}
@@ -22,7 +23,7 @@ use Rattle.vq_layer.specs.Calls.{blocked_of, completed_of}
 use Rattle.vq_layer.proofs.Cited.{same_number, equal_true, true_false}
 use Rattle.vq_layer_laws.specs.Tied.{is_signal, count_signals, count_batches, count_held, count_queues}
 use Rattle.vq_layer_laws.specs.Stuck.{IsAmong, held_back_in, IsHeldBack, IsFirst, IsStuck, Brings, ComesBefore, Awaits, WaitsFor, by_wait, by_signal, IsMissing, IsChain, HasRing}
-use Rattle.vq_layer_laws.proofs.Counts.{lived_keeps, same_given, given_same, IsIn, some_in, in_some, rises_in, rises_last, rises_drop}
+use Rattle.vq_layer_laws.proofs.Counts.{lived_keeps, IsIn, some_in, in_some, rises_in, rises_drop}
 use Rattle.vq_layer_laws.proofs.Sums.{count_at_most}
 use Rattle.vq_layer_laws.proofs.Keeping.{Keeps, taken_exists}
 use Rattle.vq_layer_laws.proofs.Pigeons.{AreBelow, some_twice}
@@ -381,7 +382,7 @@ first_low p (suc n) [] x h e = absurd (cc)
 first_low p (suc n) (y ∷ ys) x h e =
     let same : y ≡ x = cc in
     let value = ap (λ (z : Given). z.value) same in
-    let low = rises_last y.value n ys h.1 in
+    let low = last_above y.value n ys h.1 in
     omega arith
 
 pub held_not_completed : (l : Layer) (q : ℕ) (b : Batch) (s : Signal) → Keeps l → IsHeldBack l q b → IsAmong s b.signals → completed_of l s.timeline ≡ Some s.given → ⊥

@@ -1,5 +1,5 @@
 -- The words of a line, cut byte by byte: from the word so far, and from what follows it.
-use Rattle.std.proofs.Common.{◌≡◌, ℕ, Bool, true, false, not, cond, List, [], ◌∷◌, ◌++◌, filter, take, drop, get_or, length, suc, ◌+◌, ◌<◌, ◌≤◌, refl, sym, ap, ◌∙◌, arith}
+use Rattle.std.proofs.Common.{◌≡◌, ℕ, Bool, true, false, not, cond, eqb, List, [], ◌∷◌, ◌++◌, filter, take, drop, get_or, length, suc, ◌+◌, ◌<◌, ◌≤◌, refl, sym, ap, ◌∙◌, arith}
 use Rattle.std.specs.Prelude.{◌==◌, ◌&&◌, nat_le}
 use Rattle.std.specs.List.{list_all, slice_split, onto_first, position_or_len}
 use Rattle.std.proofs.lemmas.Bool.{and_parts, not-true}
@@ -7,8 +7,9 @@ use Rattle.std.proofs.lemmas.Bool.Decides.{nat_tests}
 use Rattle.std.proofs.lemmas.List.{append_assoc, append-nil, drop_all}
 use Rattle.std.proofs.Math.Seq.{drop-cons, take-suc}
 use Rattle.std.proofs.lemmas.List.Folds.{list_all-append}
+use Rattle.std.specs.Borrow.{Bor}
 use Rattle.vq_model.specs.Text.{is_blank, is_plain, is_some_word, words_in, without_comment}
-use Rattle.vq_lexer.specs.Words.{some_word}
+use Rattle.vq_lexer.specs.Words.{some_word, texts}
 
 abbrev pub is_hash : ℕ → Bool
 is_hash b = b == 35
@@ -184,3 +185,8 @@ cut_end part n h = ap (cut (take n part)) (drop_all n part h)
 
 pub plain_end : (part : List ℕ) (n : ℕ) → length part ≤ n → list_all is_plain (without_comment (drop n part)) ≡ true
 plain_end part n h = ap (λ (bs : List ℕ). list_all is_plain (without_comment bs)) (drop_all n part h)
+
+-- some word is there
+pub some_texts : (words : List (Bor (List ℕ))) → eqb (length words) 0 ≡ false → 0 < length (texts words)
+some_texts [] h = absurd (cc)
+some_texts (w ∷ words) h = omega arith

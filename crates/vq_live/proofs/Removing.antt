@@ -8,6 +8,7 @@ use Rattle.std.proofs.lemmas.List.Edits.{length-remove}
 use Rattle.std.proofs.lemmas.Option.{slice_get_within, slice_get_read}
 use Rattle.std.proofs.lemmas.List.{get_or_read}
 use Rattle.std.proofs.lemmas.Bool.{ne_eqb, eq-eqb}
+use Rattle.vq_ground.proofs.Tests.{above_of_test}
 use Rattle.vq_live.specs.declared.answers.Given.{Given}
 use Rattle.vq_live.specs.declared.answers.Slot.{Slot}
 use Rattle.vq_live.specs.declared.answers.CancelFault.TheVariants as cancel_as
@@ -102,13 +103,11 @@ front_left m (suc n) zero (x ∷ xs) y h l g =
 front_left m (suc n) (suc k) (x ∷ xs) y h l g = let rest = front_left x.value n k xs y h.1 l g in omega arith
 
 -- which operation is the same
-same_both : (x y : Given) → x ≡ y → is_same x y ≡ true
-same_both x y e =
-    ap (λ (b : Bool). b && (x.point == y.point)) (eq-eqb x.value y.value (ap (λ (z : Given). z.value) e))
-    ∙ eq-eqb x.point y.point (ap (λ (z : Given). z.point) e)
+pub given_same : (x : Given) → is_same x x ≡ true
+given_same x = ap (λ (b : Bool). b && (x.point == x.point)) (eq-eqb x.value x.value refl) ∙ eq-eqb x.point x.point refl
 
-same_is : (x y : Given) → is_same x y ≡ true → x ≡ y
-same_is x y e = by_value (x.value == y.value) refl e
+pub same_given : (x y : Given) → is_same x y ≡ true → x ≡ y
+same_given x y e = by_value (x.value == y.value) refl e
   where
     equal : (a b : ℕ) → (a == b) ≡ true → a ≡ b
     equal a b q = grind (arith, nat_tests)
@@ -121,7 +120,7 @@ any_at : (k : ℕ) (xs : List Given) (y : Given) → slice_get xs k ≡ Some y �
 any_at k [] y g = absurd (cc)
 any_at zero (x ∷ xs) y g =
     let same : x ≡ y = cc in
-    ap (λ (b : Bool). b || list_any (λ x. is_same x y) xs) (same_both x y same)
+    ap (λ (b : Bool). b || list_any (λ x. is_same x y) xs) (ap (λ (z : Given). is_same x z) (sym same) ∙ given_same x)
 any_at (suc k) (x ∷ xs) y g = ap (λ (b : Bool). is_same x y || b) (any_at k xs y g) ∙ either_way (is_same x y)
   where
     either_way : (b : Bool) → (b || true) ≡ true
@@ -133,7 +132,7 @@ any_place [] y h = absurd (cc)
 any_place (x ∷ xs) y h = by_test (is_same x y) refl h (any_place xs y)
   where
     by_test : (b : Bool) → is_same x y ≡ b → (b || list_any (λ z. is_same z y) xs) ≡ true → (list_any (λ z. is_same z y) xs ≡ true → (k : ℕ) × (slice_get xs k ≡ Some y)) → (k : ℕ) × (slice_get (x ∷ xs) k ≡ Some y)
-    by_test true e q r = (zero, ap (λ (z : Given). Some z) (same_is x y e))
+    by_test true e q r = (zero, ap (λ (z : Given). Some z) (same_given x y e))
     by_test false e q r = let rest = r q in (suc rest.0, rest.1)
 
 other_value : (x y : Given) → ((x.value ≡ y.value) → ⊥) → is_same x y ≡ false
@@ -208,10 +207,7 @@ pub may_cancel : (t : Live) (y : Given) → KeepsLive t → cancel_fault t y ≡
 may_cancel t y kept h =
     let both = cancel_none (nat_le y.value (pending_value t)) (list_any (λ x. is_same x y) t.ops) h in
     let at = any_place t.ops y both.1 in
-    (at.0, taken_at t y at.0 kept (above_le y.value (pending_value t) both.0) at.1)
-  where
-    above_le : (a b : ℕ) → nat_le a b ≡ false → b < a
-    above_le a b q = grind (arith, nat_tests)
+    (at.0, taken_at t y at.0 kept (above_of_test y.value (pending_value t) both.0) at.1)
 
 pub cancel_keeps : (t : Live) (y : Given) (k : ℕ) → KeepsLive t → IsTakenAt t y k → KeepsLive (put_slot (record t { ops = remove t.ops k }) y.point (done_slot t y.point))
 cancel_keeps t y k kept at =

@@ -1,9 +1,10 @@
 -- What every run keeps, and that the payload rises along it.
-use Rattle.std.proofs.Common.{◌≡◌, ℕ, zero, suc, ◌+◌, ◌-◌, ◌<◌, ◌≤◌, Bool, true, false, List, [], ◌∷◌, ◌++◌, length, set, take, drop, Option, Some, None, Ok, Err, refl, sym, ◌∙◌, ap, arith, subst}
-use Rattle.std.specs.Prelude.{◌==◌, ◌&&◌, nat_le, nat_eq, if◌then◌else◌}
-use Rattle.std.specs.List.{slice_get, remove}
+use Rattle.std.proofs.Common.{◌≡◌, ℕ, zero, suc, ◌+◌, ◌-◌, ◌<◌, ◌≤◌, Bool, true, false, List, [], ◌∷◌, length, set, take, drop, Option, Some, None, Ok, Err, refl, sym, ap, arith, subst}
+use Rattle.std.specs.Prelude.{nat_le, nat_eq, if◌then◌else◌}
+use Rattle.std.specs.List.{slice_get}
 use Rattle.std.proofs.lemmas.Bool.Decides.{nat_tests}
 use Rattle.std.proofs.lemmas.Option.{slice_get_within}
+use Rattle.vq_ground.proofs.Tests.{above_of_test}
 use Rattle.vq_live.specs.declared.answers.Given.{Given}
 use Rattle.vq_live.specs.declared.answers.Held.{Held}
 use Rattle.vq_live.specs.declared.answers.Slot.{Slot}
@@ -14,7 +15,6 @@ use Rattle.vq_live.specs.declared.answers.SignalFault.{SignalFault}
 use Rattle.vq_live.specs.declared.answers.SignalFault.TheVariants as signal_as
 use Rattle.vq_live.specs.Live.{Live, KeepsLive, RisesFrom, opened, pending, pending_value, slot_at, is_idle}
 use Rattle.vq_live.specs.Calls.{take_fault, after_take, point_from, slots_from, placed, next_fault, install_fault, after_install, first_of, first_pending, after_complete, put_slot, done_slot, cancel_fault, after_cancel, refer_answer, after_refer, after_unref, below_first, signal_fault, after_signal, found, found_of, first_at_least}
-use Rattle.vq_live.specs.Places.{IsTakenAt}
 use Rattle.vq_live.specs.Runs.{Event, taking, installing, completing, cancelling, referring, returning, signaling, reserving, MayCome, after, IsRun, after_all}
 use Rattle.vq_live.proofs.Slots.{out_busy, held_busy}
 use Rattle.vq_live.proofs.Taking.{reuse_keeps, fresh_keeps}
@@ -114,21 +114,18 @@ signal_none : (past : Bool) (n : ℕ) (rest : Option SignalFault) → (if past t
 signal_none true n rest h = absurd (cc)
 signal_none false n rest h = (refl, h)
 
-above_le : (a b : ℕ) → nat_le a b ≡ false → b < a
-above_le a b q = grind (arith, nat_tests)
-
 rises_signal : (n v : ℕ) (ops : List Given) → RisesFrom n ops → below_first ops v ≡ None → RisesFrom v ops
 rises_signal n v [] h e = tt
 rises_signal n v (x ∷ xs) h e = by_test (nat_le x.value v) refl e
   where
     by_test : (b : Bool) → nat_le x.value v ≡ b → (if b then Some (signal_as.Outstanding x.value) else None) ≡ None → RisesFrom v (x ∷ xs)
     by_test true t q = absurd (cc)
-    by_test false t q = (above_le x.value v t, h.1)
+    by_test false t q = (above_of_test x.value v t, h.1)
 
 signal_may : (t : Live) (v : ℕ) → signal_fault t v ≡ None → (t.payload < v) × (below_first t.ops v ≡ None)
 signal_may t v h =
     let both = signal_none (nat_le v t.payload) t.payload (below_first t.ops v) h in
-    (above_le v t.payload both.0, both.1)
+    (above_of_test v t.payload both.0, both.1)
 
 signal_event : (t : Live) (v : ℕ) → KeepsLive t → signal_fault t v ≡ None → KeepsLive (after_signal t v)
 signal_event t v k h =

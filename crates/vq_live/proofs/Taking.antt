@@ -2,6 +2,7 @@
 use Rattle.std.proofs.Common.{◌≡◌, ℕ, zero, suc, ◌+◌, ◌-◌, ◌<◌, ◌≤◌, Bool, true, false, not, List, [], ◌∷◌, ◌++◌, length, get_or, set, take, Some, None, refl, sym, ◌∙◌, ap, arith, subst, reverse}
 use Rattle.std.specs.Prelude.{◌==◌, ◌&&◌, ◌||◌, nat_le, nat_lt, if◌then◌else◌}
 use Rattle.std.proofs.lemmas.Bool.Decides.{nat_tests}
+use Rattle.vq_ground.proofs.Tests.{above_of_test}
 use Rattle.vq_live.specs.declared.answers.Given.{Given}
 use Rattle.vq_live.specs.declared.answers.Slot.{Slot}
 use Rattle.std.specs.List.{list_any}
@@ -78,11 +79,8 @@ pub may_take : (t : Live) (v : ℕ) → KeepsLive t → take_fault t v ≡ None 
 may_take t v k h =
     let both = fault_none (nat_le v (pending_value t)) (list_any (λ x. x.value == v) t.ops) (pending_value t) h in
     let low = last_above t.payload t.installed t.ops k.rising in
-    let above = above_le v (pending_value t) both.0 in
+    let above = above_of_test v (pending_value t) both.0 in
     (omega arith, both.1)
-  where
-    above_le : (a b : ℕ) → nat_le a b ≡ false → b < a
-    above_le a b q = grind (arith, nat_tests)
 
 pub take_keeps : (t : Live) (y : Given) (slots : List Slot) (free : List ℕ) → KeepsLive t → take_fault t y.value ≡ None → IsUnused y.point t.ops → y.point < length slots → (slot_at slots y.point).out ≡ true → AreOut slots t.ops → count_of is_out slots ≡ count_of is_out t.slots + 1 → KeepsFree slots free → KeepsLive (record t { ops = placed y t.ops; slots = slots; free = free; reserved = t.reserved - 1 })
 take_keeps t y slots free k fine unused exists out outs more points =

@@ -1,9 +1,9 @@
 -- Whole runs of calls on a live timeline. A refused call changes nothing, so a run is the list of those
 -- that weren't refused, with what they answered.
-use Rattle.std.specs.Prelude.{ℕ, Bool, true, false, List, [], ◌∷◌, ◌++◌, Option, Some, None, ◌≡◌, ◌<◌, ◌≤◌, ◌+◌, ◌==◌}
-use Rattle.std.specs.Prelude.{length, if◌then◌else◌, Ok, not}
+use Rattle.std.specs.Prelude.{ℕ, Bool, true, false, List, [], ◌∷◌, Some, None, ◌≡◌, ◌<◌, ◌≤◌, ◌+◌, ◌==◌}
+use Rattle.std.specs.Prelude.{if◌then◌else◌, Ok, not}
 use Rattle.vq_live.specs.declared.answers.Given.{Given}
-use Rattle.vq_live.specs.Live.{Live, opened, slot_at, count_of, is_idle, one_if}
+use Rattle.vq_live.specs.Live.{Live, slot_at, count_of, is_idle, one_if}
 use Rattle.vq_live.specs.Calls.{take_fault, given_to, after_take, install_fault, after_install, first_pending}
 use Rattle.vq_live.specs.Calls.{after_complete, cancel_fault, after_cancel, refer_answer, after_refer, after_unref}
 use Rattle.vq_live.specs.Calls.{signal_fault, after_signal, LacksNumbers, after_reserve}

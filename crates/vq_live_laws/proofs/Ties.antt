@@ -16,7 +16,7 @@ use Rattle.vq_live.specs.declared.answers.TakeFault.TheVariants as take_as
 use Rattle.vq_live.specs.Live.{Live, KeepsLive, AreOut, opened, slot_at, is_idle, one_if, pending_value, last_value}
 use Rattle.vq_live.specs.Calls.{take_fault, given_to, placed, point_from, slots_from, next_point, next_fault, is_same, first_of, done_slot, complete_from as live_complete_from}
 use Rattle.vq_live.specs.Runs.{Event, taking, installing, completing, referring, returning, MayCome, after, IsRun, after_all}
-use Rattle.vq_live.proofs.Cited.{event_keeps, opened_keeps, event_out, event_refs, next_idle}
+use Rattle.vq_live.proofs.Cited.{event_keeps, opened_keeps, event_out, event_refs, next_idle, given_same}
 use Rattle.vq_live_laws.specs.Feeds.{Call, takes, binds, completes, frees, MayCall, after_call, AreCalls, after_calls, value_at, given_of, completing_of, events_of, fed, Shows}
 use Rattle.vq_live_laws.proofs.Suffixes.{zipped, HaveFirst, have_first, rising_drop, put_in, value_new, first_below, next_at, first_entries}
 
@@ -182,9 +182,6 @@ take_step t u index tied m = ((may, tt), by_free t.free refl)
         }
 
 -- a bind
-same_both : (x : Given) → is_same x x ≡ true
-same_both x = ap (λ (b : Bool). b && (x.point == x.point)) (eq-eqb x.value x.value refl) ∙ eq-eqb x.point x.point refl
-
 bind_step : (t : Timeline) (u : Live) (p : ℕ) → Tied t u → MayBind t t.bound p → IsRun u (events_of t (binds p)) × Tied (after_bind t) (after_all u (events_of t (binds p)))
 bind_step t u p tied m = ((may, tt), after_it)
   where
@@ -212,7 +209,7 @@ bind_step t u p tied m = ((may, tt), after_it)
     may =
         ap (λ (r : Bool). if r then Some install_as.Already else next_fault (slice_get u.ops u.installed) x) (above_test x.value (pending_value u) (pending_below t u t.bound tied (omega arith) there))
         ∙ ap (λ (o : Option Given). next_fault o x) next
-        ∙ ap (λ (r : Bool). if r then None else Some (install_as.NotNext x)) (same_both x)
+        ∙ ap (λ (r : Bool). if r then None else Some (install_as.NotNext x)) (given_same x)
 
     after_it : Tied (after_bind t) (after u (installing x))
     after_it =

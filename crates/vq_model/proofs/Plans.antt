@@ -1,13 +1,15 @@
 -- What exists in a plan: batches among its jobs, operations and commands by what names them.
 use Rattle.std.proofs.Common.{◌≡◌, ℕ, ◌<◌, true, false, not, nat_lt, ltb, length, Option, Some, None, refl, ap}
 use Rattle.std.specs.List.{slice_get}
-use Rattle.std.specs.Option.{option_map_or}
+use Rattle.std.specs.Option.{option_map_or, option_map}
 use Rattle.std.proofs.lemmas.Bool.{and_from, and_parts, false≢true, lt-ltb, ltb-true, not-true}
+use Rattle.std.proofs.lemmas.Option.{slice_get_within}
+use Rattle.vq_model.specs.declared.plan.Op.{Op}
 use Rattle.vq_model.specs.declared.script.CommandLine.{CommandLine}
 use Rattle.vq_model.specs.declared.plan.Lane.{Lane}
 use Rattle.vq_model.specs.declared.plan.Lane.TheVariants.{Host as HostLane, Queue as QueueLane}
 use Rattle.vq_model.specs.declared.plan.PlanJob.{PlanJob}
-use Rattle.vq_model.specs.Plan.{Plan, chain_of, commands_of, is_batch, is_host_lane, is_host_step}
+use Rattle.vq_model.specs.Plan.{Plan, chain_of, commands_of, is_batch, is_host_lane, is_host_step, job_of}
 use Rattle.vq_ground.specs.Lists.{has}
 use Rattle.vq_model.specs.WellFormed.{IsWellFormed}
 use Rattle.vq_model.specs.Checks.{is_immediate_batch, is_immediate_lane}
@@ -47,3 +49,11 @@ command_exists p w j c h =
     let f = w.fits c j h in
     let o = some_of (λ (x : CommandLine). x.command) (slice_get p.commands c) f.0 f.1 in
     get_within p.commands c o.0 o.1
+
+-- an operation with a job is one of the plan
+pub op_exists : (p : Plan) (e j : ℕ) → job_of p e ≡ Some j → e < length p.ops
+op_exists p e j h = by_op (slice_get p.ops e) refl h
+  where
+    by_op : (o : Option Op) → slice_get p.ops e ≡ o → option_map (λ x. x.job) o ≡ Some j → e < length p.ops
+    by_op None is m = absurd (let c = m in cc)
+    by_op (Some x) is m = slice_get_within p.ops e x is

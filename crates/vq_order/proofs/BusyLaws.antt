@@ -5,6 +5,7 @@ use Rattle.std.specs.Option.{option_map_or, is_some}
 use Rattle.vq_order.specs.Unreached.{IsLeastOrNone}
 use Rattle.std.proofs.lemmas.Bool.{cases_eq, cases_lt, false≢true, eqb-true, eq-eqb, ne_eqb}
 use Rattle.std.proofs.lemmas.List.{get_or-set_same, get_or-set_other, length-set}
+use Rattle.vq_model.proofs.Plans.{op_exists}
 use Rattle.vq_model.specs.declared.script.Script.{Script}
 use Rattle.vq_model.specs.declared.script.Mark.{Mark}
 use Rattle.vq_model.specs.declared.script.HostLine.{HostLine}
@@ -25,7 +26,6 @@ use Rattle.vq_ground.proofs.Lists.{has_here}
 use Rattle.vq_ground.proofs.Gets.{get_within, has_at}
 use Rattle.vq_reading_laws.proofs.Cited.{read_batches, read_steps, read_lines_rise, kind_exists}
 use Rattle.vq_plan_laws.proofs.Cited.{part_is, count_jobs, plan_well_formed}
-use Rattle.vq_spec.proofs.Cited.{op_exists}
 use Rattle.vq_order_laws.proofs.Cited.{lines_across}
 use Rattle.vq_order.proofs.UnorderedLaws.{get_at}
 use Rattle.vq_order.specs.Busy.{IsLastNaming, IsLastOrNone, AreLastNamings, IsInUse, IsBusyOrNone, NoneBusyBefore, named_by, reset_by, reset_of}

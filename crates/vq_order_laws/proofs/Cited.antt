@@ -6,6 +6,7 @@ pub use Rattle.vq_order_laws.proofs.EdgeReasons.{edge_of, finish_edge, host_firs
 pub use Rattle.vq_order_laws.proofs.EdgesAgree.{edges_agree, stands, sure_stands}
 pub use Rattle.vq_order_laws.proofs.HostOrder.{host_is_last, sure_for_last}
 pub use Rattle.vq_order_laws.proofs.JobLines.{lines_across}
+pub use Rattle.vq_order_laws.proofs.PlanLines.{job_lines_rise}
 pub use Rattle.vq_order_laws.proofs.LawfulOrder.{plan_has_sure_order}
 pub use Rattle.vq_order_laws.proofs.LawfulPlans.{lawful_without_fault}
 pub use Rattle.vq_order_laws.proofs.NeedsStay.{are_reached_still, reached_still}

@@ -1,8 +1,9 @@
-pub mod Cited
 mod ChainSignals
+pub mod Cited
 mod CountedChains
 mod Decides
 mod EdgeReasons
+mod EdgesAgree
 mod HostOrder
 mod JobLines
 mod LastUses
@@ -11,12 +12,12 @@ mod LawfulPlans
 mod NeedsStay
 mod PassedOn
 mod PlacesOrdered
+mod PlanLines
 mod ResetChains
+mod RisingChains
 mod RowLaws
+mod SlowFronts
 mod SlowOrder
 mod SlowStops
 mod UseKinds
 mod UsesInOrder
-mod EdgesAgree
-mod SlowFronts
-mod RisingChains

@@ -1,6 +1,6 @@
 -- Where no row of faults holds, commands are ordered and timelines rise in a sure order.
 use Rattle.std.proofs.Common.{◌≡◌, ℕ, eqb, sym, ◌∙◌, inl, inr, ◌+◌, ◌&&◌, ltb, min, max, ap, true, false, ◌||◌, List, Bool, Option, Some, None, refl, arith, option_map, [], ◌∷◌, ◌++◌, ◌<◌, length, ◌⊎◌, subst}
-use Rattle.std.proofs.lemmas.Bool.{eq-eqb, ne_eqb, cases_eq, or_cases, or_left, or_right, false≢true, cases_lt}
+use Rattle.std.proofs.lemmas.Bool.{or_cases, or_left, or_right, false≢true, cases_lt}
 use Rattle.std.proofs.Math.Nat.{max_comm, min_comm}
 use Rattle.vq_model.specs.declared.ranges.Range.{Range}
 use Rattle.vq_model.specs.Ranges.{share, written_range, read_range, conflict}

@@ -2,4 +2,3 @@
 pub use Rattle.vq_spec.proofs.SlowHeads.{previous_first}
 pub use Rattle.vq_spec.proofs.SlowReady.{chains_exist, own_needs, same_any}
 pub use Rattle.vq_spec.proofs.SlowRuns.{after_all-append, bytes_push}
-pub use Rattle.vq_spec.proofs.SlowSteps.{op_exists, whole_new}

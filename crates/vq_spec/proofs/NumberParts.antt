@@ -5,6 +5,7 @@ use Rattle.std.specs.List.{range_with_len, slice_get}
 use Rattle.std.specs.Option.{option_map_or}
 use Rattle.std.proofs.lemmas.List.{same_lists, length-take-le, length-drop, get_or-take, get_or-drop}
 use Rattle.std.proofs.lemmas.List.FromFn.{length-range_with_len, get_or-range_with_len}
+use Rattle.vq_model.proofs.Plans.{op_exists}
 use Rattle.vq_ground.proofs.Gets.{has_at}
 use Rattle.vq_model.specs.declared.plan.PlanJob.{PlanJob}
 use Rattle.vq_model.specs.declared.script.Script.{Script}
@@ -18,7 +19,6 @@ use Rattle.vq_spec.specs.declared.lowering.Tables.{Tables}
 use Rattle.vq_spec.specs.PlanTables.{KeepsPlan}
 use Rattle.vq_spec.proofs.KeptTables.{is_plan}
 use Rattle.vq_spec.proofs.SlowRuns.{command_within}
-use Rattle.vq_spec.proofs.SlowSteps.{op_exists}
 
 -- some indices that follow one another, all of them among the numbers
 module _ (numbers indices : List ℕ) (first count : ℕ)

@@ -1,12 +1,11 @@
 -- One more job is done: marks, heads and payloads follow.
-use Rattle.std.proofs.Common.{◌≡◌, ◌≢◌, ℕ, zero, suc, ◌+◌, ◌<◌, ◌≤◌, max, Bool, true, false, List, [], ◌∷◌, ◌++◌, length, get_or, replicate, take, filter, fold, map, Option, Some, None, option_map, refl, sym, ap, ◌∙◌, ◌⊎◌, inl, inr, subst, arith}
+use Rattle.std.proofs.Common.{◌≡◌, ◌≢◌, ℕ, zero, suc, ◌+◌, ◌<◌, ◌≤◌, max, Bool, true, false, List, [], ◌∷◌, ◌++◌, length, get_or, replicate, filter, fold, map, Option, Some, None, refl, sym, ap, ◌∙◌, ◌⊎◌, inl, inr, subst, arith}
 use Rattle.std.proofs.Math.ListN.{set, get_or-append}
 use Rattle.std.specs.List.{range_with_len}
 use Rattle.std.specs.Option.{option_map_or}
 use Rattle.std.proofs.lemmas.List.{get_or-set_same, get_or-set_other, length-set, length-append, length-replicate, get_or-replicate}
-use Rattle.std.proofs.Math.Seq.{get_or-append_seam, take-append_seam}
+use Rattle.std.proofs.Math.Seq.{get_or-append_seam}
 use Rattle.std.proofs.lemmas.Bool.{false≢true, cases_eq, cases_lt, or_cases, or_left, or_right, cond-false}
-use Rattle.std.proofs.lemmas.Option.{slice_get_past}
 use Rattle.vq_model.specs.Plan.{Plan, job_of, chain_of, chain, initial, value, signals_of}
 use Rattle.vq_ground.specs.Lists.{has}
 use Rattle.vq_model.specs.Edges.{must_finish}
@@ -241,16 +240,3 @@ starts p marks payloads heads e n h =
       payloads_right = n;
       heads_right = h;
     }
-
-pub op_exists : (p : Plan) (e i : ℕ) → job_of p e ≡ Some i → e < length p.ops
-op_exists p e i o = elim (cases_lt e (length p.ops)) [
-  | inl l ↦ l
-  | inr g ↦ (let n : job_of p e ≡ None = ap (option_map (λ x. x.job)) (slice_get_past p.ops e g) in absurd (none_some i (sym n ∙ o)))
-]
-  where
-    none_some : (k : ℕ) → None ≡ Some k → ⊥
-    none_some k h = cc
-
--- what is written back into a vector whole
-pub whole_new : {X : Type 0} (n : ℕ) (new rest : List X) → length new ≡ n → take n (new ++ rest) ≡ new
-whole_new n new rest e = subst (λ k. take k (new ++ rest) ≡ new) e (take-append_seam new rest)

@@ -5,62 +5,21 @@ use Rattle.std.specs.List.{slice_get}
 use Rattle.std.specs.Str.{bytes_eq}
 use Rattle.std.specs.Option.{option_and_then, option_map, option_map_or}
 use Rattle.std.proofs.lemmas.Bool.Decides.{nat_tests}
-use Rattle.vq_model.specs.declared.script.Job.{Job}
-use Rattle.vq_model.specs.declared.script.Job.TheVariants.{Host, Batch}
-use Rattle.vq_model.specs.declared.script.Script.{Script}
 use Rattle.vq_model.specs.declared.plan.Event.TheVariants.{Apply as Applies}
 use Rattle.vq_model.specs.declared.plan.PlanJob.{PlanJob}
 use Rattle.vq_model.specs.declared.script.CommandLine.{CommandLine}
 use Rattle.vq_model.specs.Naming.{semaphore_name}
 use Rattle.vq_model.specs.Text.{numeral}
 use Rattle.vq_model.specs.LoweringFaults.{IsPlan}
-use Rattle.vq_model.specs.Lowering.{plan_job, plan_of}
 use Rattle.vq_model.specs.Plan.{Plan, chain, commands_of, line_of_command, line_of_job, resolver, value}
 use Rattle.vq_ground.specs.Lists.{has}
-use Rattle.vq_model.specs.ValidScripts.{HasRisingLines, job_lines}
 use Rattle.vq_model.specs.WellFormed.{AreInOrder}
-use Rattle.vq_ground.proofs.Gets.{get_some, get_within}
-use Rattle.vq_ground.proofs.Lists.{has_here}
+use Rattle.vq_ground.proofs.Gets.{get_within}
 use Rattle.vq_ground.proofs.Options.{some_of}
 use Rattle.vq_ground.proofs.Searches.{find_member, find_none}
-use Rattle.vq_reading_laws.proofs.Cited.{read_lines_rise}
-use Rattle.vq_plan_laws.proofs.Cited.{count_jobs, part_is, plan_semaphores, plan_well_formed, owner_exists}
-use Rattle.vq_order_laws.proofs.Cited.{lines_across}
+use Rattle.vq_plan_laws.proofs.Cited.{plan_semaphores, plan_well_formed, owner_exists}
 use Rattle.vq_given.specs.Words.{apply_said, command_at, command_said, job_with, semaphore_named}
 use Rattle.vq_trace.proofs.FirstInRange.{first_in_range, found_below}
-
--- The lines of jobs rise
-
-job_line : (s : Script) (j : ℕ) (job : Job) → slice_get s.jobs j ≡ Some job →
-    (line : ℕ) × (line_of_job (plan_of s) j ≡ line) × (has (job_lines job) line ≡ true)
-job_line s j (Host h) e = (
-  h.line,
-  part_is (λ x. x.line) 0 s j ∙ ap (λ o. option_map_or (λ job. (plan_job s (j, job)).line) o 0) e,
-  has_here h.line [],
-)
-job_line s j (Batch b) e = (
-  b.line,
-  part_is (λ x. x.line) 0 s j ∙ ap (λ o. option_map_or (λ job. (plan_job s (j, job)).line) o 0) e,
-  has_here b.line _,
-)
-
-script_jobs_rise : (s : Script) → HasRisingLines s → (i j : ℕ) → i < j → j < length (plan_of s).jobs →
-    line_of_job (plan_of s) i < line_of_job (plan_of s) j
-script_jobs_rise s r i j l h =
-    let count = count_jobs s in
-    let x = get_some s.jobs i (omega (arith, l, h, count)) in
-    let y = get_some s.jobs j (omega (arith, h, count)) in
-    let a = job_line s i x.0 x.1 in
-    let b = job_line s j y.0 y.1 in
-    let less = lines_across s.jobs i j x.0 y.0 a.0 b.0 r x.1 y.1 l a.2 b.2 in
-    let first = a.1 in
-    let second = b.1 in
-    omega (arith, less, first, second)
-
-pub jobs_rise : (p : Plan) → IsPlan p → (i j : ℕ) → i < j → j < length p.jobs → line_of_job p i < line_of_job p j
-jobs_rise p is =
-    subst (λ (q : Plan). (i j : ℕ) → i < j → j < length q.jobs → line_of_job q i < line_of_job q j)
-    (sym is.lowered) (script_jobs_rise p.script (read_lines_rise p.script is.of_script))
 
 -- The job of a command
 

@@ -8,6 +8,7 @@ use Rattle.std.specs.List.{slice_get, range_with_len}
 use Rattle.std.specs.Option.{option_map_or, option_and_then}
 use Rattle.std.proofs.lemmas.Bool.{or_left, cond-true, eq-eqb, eqb-true, false≢true, lt-ltb, cases_lt}
 use Rattle.std.proofs.lemmas.Slice.Eq.{bytes_eq-Decides}
+use Rattle.vq_order_laws.proofs.Cited.{job_lines_rise}
 use Rattle.vq_ground.proofs.Bytes.{same_bytes}
 use Rattle.vq_model.specs.declared.script.ActorName.{ActorName}
 use Rattle.vq_model.specs.declared.script.ActorName.TheVariants.{Host as HostActor, Submit as SubmitActor, Ring as RingActor}
@@ -33,7 +34,6 @@ use Rattle.vq_ground.proofs.Searches.{find_passes, find_member, find_fails}
 use Rattle.vq_reading_laws.proofs.Cited.{read_lines_rise}
 use Rattle.vq_canonical_laws.proofs.Cited.{decimal_back, read_names}
 use Rattle.vq_plan_laws.proofs.Cited.{count_jobs, part_is, plan_lines, plan_semaphores, plan_well_formed}
-use Rattle.vq_order_laws.proofs.Cited.{lines_across}
 use Rattle.vq_given.specs.Words.{queue_named, actor_said, job_at, job_said, command_at, command_said, job_with}
 use Rattle.vq_given.specs.Words.{semaphore_named, op_in, op_at, op_said}
 use Rattle.vq_trace_laws.specs.ReadsBack.{HasSmallLines}
@@ -109,35 +109,6 @@ one_value p n e f (g ∷ gs) r he hf same =
         let v : value p g ≡ value p f = ap (value p) j in
         absurd (omega arith)
     by_places (inr m) (inr o) = one_on p g e f gs r.1 m o same
-
--- Lines of jobs
-
--- the lines of the jobs of a plan rise
-job_lines_rise : (p : Plan) → IsPlan p → (i j : ℕ) → i < j → j < length p.jobs → line_of_job p i < line_of_job p j
-job_lines_rise p is i j l h =
-    subst (λ (q : Plan). j < length q.jobs → line_of_job q i < line_of_job q j) (sym is.lowered) of_script h
-  where
-    s : Script
-    s = p.script
-
-    line_is : (k : ℕ) (job : Job) → slice_get s.jobs k ≡ Some job → line_of_job (plan_of s) k ≡ (plan_job s (k, job)).line
-    line_is k job at =
-        part_is (λ x. x.line) 0 s k ∙ ap (λ (o : Option Job). option_map_or (λ x. (plan_job s (k, x)).line) o 0) at
-
-    first_line : (k : ℕ) (job : Job) → has (job_lines job) (plan_job s (k, job)).line ≡ true
-    first_line k (HostJob x) = has_here x.line []
-    first_line k (BatchJob b) = or_left (b.line == b.line) _ (eq-eqb b.line b.line refl)
-
-    of_script : j < length (plan_of s).jobs → line_of_job (plan_of s) i < line_of_job (plan_of s) j
-    of_script m =
-        let count = count_jobs s in
-        let x = get_some s.jobs i (omega arith) in
-        let y = get_some s.jobs j (omega arith) in
-        let a = line_is i x.0 x.1 in
-        let b = line_is j y.0 y.1 in
-        let c = lines_across s.jobs i j x.0 y.0 (plan_job s (i, x.0)).line (plan_job s (j, y.0)).line
-        (read_lines_rise s is.of_script) x.1 y.1 l (first_line i x.0) (first_line j y.0) in
-        omega arith
 
 -- The parts of a plan
 

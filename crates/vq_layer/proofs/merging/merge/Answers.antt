@@ -1,4 +1,4 @@
-use Rattle.std.proofs.Common.{◌≡◌, ℕ, ◌+◌, ◌<◌, ◌≤◌, List, length, get_or, sym, ◌∙◌, ap, arith}
+use Rattle.std.proofs.Common.{◌≡◌, ◌<◌, ◌≤◌, length, get_or, sym, ◌∙◌, ap, arith}
 use Rattle.std.proofs.lemmas.List.{get_or_read}
 use Rattle.vq_layer.specs.declared.answers.Wanted.{Wanted}
 use Rattle.vq_layer.specs.Names.{greater, merged}

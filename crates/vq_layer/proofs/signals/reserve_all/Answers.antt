@@ -1,7 +1,6 @@
-use Rattle.std.proofs.Common.{◌≡◌, ℕ, ◌<◌, List, take, get_or, length, sym, ◌∙◌, ap, subst}
+use Rattle.std.proofs.Common.{◌≡◌, ℕ, ◌<◌, List, take, get_or, sym, ◌∙◌, ap, subst}
 use Rattle.vq_live.specs.Live.{Live}
 use Rattle.vq_layer.specs.declared.answers.Wanted.{Wanted}
-use Rattle.vq_layer.specs.declared.answers.SubmitFault.{SubmitFault}
 use Rattle.vq_layer.specs.Takes.{unreserved_all}
 use Rattle.vq_layer.specs.Calls.{MayLackOf}
 use Rattle.vq_layer.proofs.Reserving.{apart_take, known_at, lacks, reserved_back, reserved_more, bare_on}

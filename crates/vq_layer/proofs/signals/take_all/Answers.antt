@@ -1,4 +1,4 @@
-use Rattle.std.proofs.Common.{◌≡◌, ℕ, ◌+◌, List, drop, sym, subst, arith}
+use Rattle.std.proofs.Common.{◌+◌, List, drop, sym, subst, arith}
 use Rattle.vq_layer.specs.declared.answers.Wanted.{Wanted}
 use Rattle.vq_layer.specs.declared.answers.Signal.{Signal}
 use Rattle.vq_layer.proofs.Reserving.{Goes, goes_on}

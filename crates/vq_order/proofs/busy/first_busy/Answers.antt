@@ -1,5 +1,5 @@
 use Rattle.std.proofs.Common.{◌≡◌, ◌∙◌, ◌+◌, ap, arith, drop, length, rules, subst, sym}
-use Rattle.vq_spec.proofs.Cited.{whole_new}
+use Rattle.vq_ground.proofs.Gets.{whole_new}
 use Rattle.vq_order.specs.Busy.{AreLastNamings}
 use Rattle.vq_order.proofs.BusyLaws.{found_least, jobs_count, none_at_all, none_found}
 use Rattle.vq_order.proofs.busy.first_busy.Goals as goal

@@ -1,6 +1,7 @@
 use Rattle.std.proofs.Common.{◌≡◌, ◌<◌, ◌&&◌, Option, ℕ, eqb, true, false, List, [], ◌∷◌, ap, arith, find, length, refl, sym, subst, ◌∙◌}
 use Rattle.std.specs.Borrow.{Bor}
 use Rattle.std.proofs.lemmas.Bool.{and_parts}
+use Rattle.vq_lexer.proofs.Cited.{some_texts}
 use Rattle.vq_model.specs.declared.statement.Line.{Line}
 use Rattle.vq_model.specs.declared.statement.LineForm.TheVariants.{VersionLine}
 use Rattle.vq_model.specs.Meaning.{matches}
@@ -16,11 +17,6 @@ use Rattle.vq_script.proofs.FaultsFound.{reads_none, reads_form}
 use Rattle.vq_script.proofs.FormFound.{form_is, form_stands, words_fit}
 use Rattle.vq_script.proofs.VersionNamed.{holds_version, none_before, not_version, reads_version}
 use Rattle.vq_script.proofs.line_reader.read_words.Goals as goal
-
--- some word is there
-some_word : (words : List (Bor (List ℕ))) → eqb (length words) 0 ≡ false → 0 < length (texts words)
-some_word [] h = absurd (cc)
-some_word (w ∷ words) h = omega arith
 
 -- a line whose words don't name the version, or that isn't the first
 unnamed : (lines : List Line) (known : Known) (words : List (List ℕ)) → Keeps lines known →
@@ -49,7 +45,7 @@ pub returns-in_default : goal.returns-in_default
 returns-in_default c = λ lines h. (
   refl,
   reads_none c.args.form lines c.args.number (texts c.args.words.now) _
-      (some_word c.args.words.now (sym c.if-is_empty.ensures)) (sym c.requires ∙ c.if-not-plain.false)
+      (some_texts c.args.words.now (sym c.if-is_empty.ensures)) (sym c.requires ∙ c.if-not-plain.false)
       (form_is c.args.form lines (texts c.args.words.now) _ _ h.holds
       (unnamed lines c.args.known.now (texts c.args.words.now) h (sym c.if-names_version.ensures)))
       (sym (c.in_default.ensures
@@ -74,7 +70,7 @@ pub returns : goal.returns
 returns c = λ lines h.
     reads_form c.args.form lines c.args.number (texts c.args.words.now) _ c.in-Some.found
     c.read_open.result c.read_open.new.known
-    (some_word c.args.words.now (sym c.if-is_empty.ensures)) (sym c.requires ∙ c.if-not-plain.false)
+    (some_texts c.args.words.now (sym c.if-is_empty.ensures)) (sym c.requires ∙ c.if-not-plain.false)
     (form_is c.args.form lines (texts c.args.words.now) _ _ h.holds
     (unnamed lines c.args.known.now (texts c.args.words.now) h (sym c.if-names_version.ensures)))
     (sym (c.in-Some.ensures

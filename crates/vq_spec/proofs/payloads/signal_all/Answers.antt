@@ -1,12 +1,13 @@
 use Rattle.std.proofs.Common.{◌≡◌, ◌+◌, ◌++◌, ◌∷◌, [], ℕ, List, true, take, get_or, subst, sym, ◌∙◌, add-one}
 use Rattle.std.proofs.Math.Seq.{take-suc}
 use Rattle.std.proofs.lemmas.List.{take_all}
+use Rattle.vq_model.proofs.Plans.{op_exists}
 use Rattle.vq_ground.proofs.Gets.{has_at}
 use Rattle.vq_model.specs.Plan.{signals_of}
 use Rattle.vq_ground.specs.Lists.{has}
 use Rattle.vq_plan_laws.proofs.Cited.{plan_well_formed}
 use Rattle.vq_spec.specs.SlowProgress.{PayloadsWith}
-use Rattle.vq_spec.proofs.SlowSteps.{op_exists, payloads_start, payloads_end}
+use Rattle.vq_spec.proofs.SlowSteps.{payloads_start, payloads_end}
 use Rattle.vq_spec.proofs.payloads.signal_all.Goals as goal
 
 pub loop-op-init : goal.loop-op-init

@@ -1,6 +1,7 @@
+use Rattle.vq_lexer.proofs.Cited.{some_texts}
 use Rattle.std.proofs.Common.{sym, ◌∙◌}
 use Rattle.vq_lexer.specs.Words.{texts}
-use Rattle.vq_hosts.proofs.BlockNext.{block_next, some_texts}
+use Rattle.vq_hosts.proofs.BlockNext.{block_next}
 use Rattle.vq_hosts.proofs.hosts_reader.HostsReader.read.Goals as goal
 
 pub returns-then-is_of_block : goal.returns-then-is_of_block

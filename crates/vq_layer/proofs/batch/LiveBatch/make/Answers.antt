@@ -1,6 +1,5 @@
 use Rattle.std.proofs.Common.{◌≡◌, List, sym, ◌∙◌, ap, subst}
 use Rattle.vq_live.specs.Live.{Live}
-use Rattle.vq_layer.specs.declared.answers.Signal.{Signal}
 use Rattle.vq_layer.specs.Takes.{AreReserved, taken_all, signals_all}
 use Rattle.vq_layer.proofs.Reserving.{are_reserved, signals_reserved, taken_reserved, bare_on}
 use Rattle.vq_layer.proofs.batch.LiveBatch.make.Goals as goal

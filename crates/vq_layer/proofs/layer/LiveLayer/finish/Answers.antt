@@ -1,9 +1,9 @@
-use Rattle.std.proofs.Common.{◌≡◌, ◌≤◌, List, length, drop, sym, ◌∙◌, ap, subst, arith}
+use Rattle.std.proofs.Common.{◌≡◌, List, length, drop, sym, ◌∙◌, ap, subst, arith}
 use Rattle.std.proofs.lemmas.List.{length-set}
+use Rattle.vq_ground.proofs.Gets.{whole_new}
 use Rattle.vq_live.specs.Live.{Live}
 use Rattle.vq_layer.specs.Layer.{AreBare}
 use Rattle.vq_layer.specs.Queues.{oldest, timelines_finished}
-use Rattle.vq_layer.proofs.Ground.{write_all}
 use Rattle.vq_layer.proofs.Bare.{bare_finished, count_finished}
 use Rattle.vq_layer.proofs.layer.LiveLayer.finish.Goals as goal
 
@@ -15,7 +15,7 @@ invariant_of-self-in-Some c =
     c.finish.ensures.returned ∙ ap (λ (us : List Live). timelines_finished us o) c.deref_mut.ensures.value in
     let count = ap length now ∙ count_finished ts o in
     let size = c.self.inside.timelines.ok.0 in
-    let written = write_all c.self.inside.timelines.len c.finish.new.timelines (drop (length c.finish.new.timelines) ts) (omega arith) in
+    let written = whole_new c.self.inside.timelines.len c.finish.new.timelines (drop (length c.finish.new.timelines) ts) (omega arith) in
     let items = written ∙ now in
     let total = ap length items ∙ count_finished ts o in
     let same = c.self.invariant.same in

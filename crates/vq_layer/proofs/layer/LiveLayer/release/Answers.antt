@@ -1,9 +1,9 @@
-use Rattle.std.proofs.Common.{◌≡◌, ◌≤◌, List, length, drop, sym, ◌∙◌, ap, subst, arith}
+use Rattle.std.proofs.Common.{◌≡◌, List, length, drop, sym, ◌∙◌, ap, subst, arith}
 use Rattle.std.proofs.lemmas.List.{length-set}
+use Rattle.vq_ground.proofs.Gets.{whole_new}
 use Rattle.vq_live.specs.Live.{Live}
 use Rattle.vq_layer.specs.Layer.{AreBare}
 use Rattle.vq_layer.specs.Queues.{next_batch, timelines_released}
-use Rattle.vq_layer.proofs.Ground.{write_all}
 use Rattle.vq_layer.proofs.Bare.{bare_released, count_released}
 use Rattle.vq_layer.proofs.layer.LiveLayer.release.Goals as goal
 
@@ -15,7 +15,7 @@ invariant_of-self c =
     c.release.ensures.released ∙ ap (λ (us : List Live). timelines_released us b) c.deref_mut.ensures.value in
     let count = ap length now ∙ count_released ts b in
     let size = c.self.inside.timelines.ok.0 in
-    let written = write_all c.self.inside.timelines.len c.release.new.timelines (drop (length c.release.new.timelines) ts) (omega arith) in
+    let written = whole_new c.self.inside.timelines.len c.release.new.timelines (drop (length c.release.new.timelines) ts) (omega arith) in
     let items = written ∙ now in
     let total = ap length items ∙ count_released ts b in
     let same = c.self.invariant.same in

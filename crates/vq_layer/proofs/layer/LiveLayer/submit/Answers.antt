@@ -1,12 +1,11 @@
-use Rattle.std.proofs.Common.{◌≡◌, ◌≤◌, ℕ, List, length, drop, take, ◌++◌, None, refl, sym, ◌∙◌, ap, subst, arith}
+use Rattle.std.proofs.Common.{◌≡◌, List, length, drop, take, ◌++◌, None, sym, ◌∙◌, ap, subst, arith}
 use Rattle.std.proofs.lemmas.List.{length-set}
+use Rattle.vq_ground.proofs.Gets.{whole_new}
 use Rattle.vq_live.specs.Live.{Live}
-use Rattle.vq_layer.specs.declared.answers.Wanted.{Wanted}
 use Rattle.vq_layer.specs.declared.answers.Kind.{Kind}
 use Rattle.vq_layer.specs.Layer.{AreBare}
 use Rattle.vq_layer.specs.Names.{first_signal_fault, signals_named}
 use Rattle.vq_layer.specs.Takes.{AreApart, AreKnown, taken_all}
-use Rattle.vq_layer.proofs.Ground.{write_all}
 use Rattle.vq_layer.proofs.Apart.{apart_named, known_named}
 use Rattle.vq_layer.proofs.Bare.{bare_taken, count_taken}
 use Rattle.vq_layer.proofs.layer.LiveLayer.submit.Goals as goal
@@ -46,17 +45,17 @@ invariant_of-self-2 c =
     c.in_ok-submit.ensures.taken ∙ ap (λ (us : List Live). taken_all us ws) c.deref_mut.ensures.value in
     let count = ap length now ∙ count_taken ts ws in
     let size = c.self.inside.timelines.ok.0 in
-    let items = write_all c.self.inside.timelines.len c.submit.new.timelines (drop (length c.submit.new.timelines) ts) (omega arith) ∙ now in
+    let items = whole_new c.self.inside.timelines.len c.submit.new.timelines (drop (length c.submit.new.timelines) ts) (omega arith) ∙ now in
     let total = ap length items ∙ count_taken ts ws in
     let ks = c.self.inside.kinds in
     let size_k = ks.ok.0 in
     let first = c.count_waits.auto.kinds in
     let first_was = ap length c.deref_mut-2.ensures.value in
-    let first_now = write_all ks.len c.count_waits.new.kinds (drop (length c.count_waits.new.kinds) ks.items) (omega arith) in
+    let first_now = whole_new ks.len c.count_waits.new.kinds (drop (length c.count_waits.new.kinds) ks.items) (omega arith) in
     let first_size = ap length first_now in
     let second = c.count_signals.auto.kinds in
     let second_was = ap length c.deref_mut-3.ensures.value in
-    let second_now = write_all ks.len c.count_signals.new.kinds (drop (length c.count_signals.new.kinds) (take ks.len (c.count_waits.new.kinds ++ drop (length c.count_waits.new.kinds) ks.items))) (omega arith) in
+    let second_now = whole_new ks.len c.count_signals.new.kinds (drop (length c.count_signals.new.kinds) (take ks.len (c.count_waits.new.kinds ++ drop (length c.count_waits.new.kinds) ks.items))) (omega arith) in
     let second_size = ap length second_now in
     let same = c.self.invariant.same in
     let few = c.self.invariant.few in

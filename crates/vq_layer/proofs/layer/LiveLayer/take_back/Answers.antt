@@ -1,10 +1,10 @@
-use Rattle.std.proofs.Common.{◌≡◌, ◌≤◌, ℕ, List, length, drop, take, ◌++◌, sym, ◌∙◌, ap, subst, arith}
+use Rattle.std.proofs.Common.{◌≡◌, List, length, drop, take, ◌++◌, sym, ◌∙◌, ap, subst, arith}
 use Rattle.std.proofs.lemmas.List.{length-set}
+use Rattle.vq_ground.proofs.Gets.{whole_new}
 use Rattle.vq_live.specs.Live.{Live}
 use Rattle.vq_layer.specs.Layer.{AreBare}
 use Rattle.vq_layer.specs.Queues.{newest}
 use Rattle.vq_layer.specs.Installs.{cancelled_all}
-use Rattle.vq_layer.proofs.Ground.{write_all}
 use Rattle.vq_layer.proofs.Bare.{bare_cancelled, count_cancelled}
 use Rattle.vq_layer.proofs.layer.LiveLayer.take_back.Goals as goal
 
@@ -16,17 +16,17 @@ invariant_of-self c =
     c.take_back-batch.ensures.cancelled ∙ ap (λ (us : List Live). cancelled_all us ss) c.deref_mut.ensures.value in
     let count = ap length now ∙ count_cancelled ts ss in
     let size = c.self.inside.timelines.ok.0 in
-    let items = write_all c.self.inside.timelines.len c.take_back-batch.new.timelines (drop (length c.take_back-batch.new.timelines) ts) (omega arith) ∙ now in
+    let items = whole_new c.self.inside.timelines.len c.take_back-batch.new.timelines (drop (length c.take_back-batch.new.timelines) ts) (omega arith) ∙ now in
     let total = ap length items ∙ count_cancelled ts ss in
     let ks = c.self.inside.kinds in
     let size_k = ks.ok.0 in
     let first = c.uncount_signals.auto.kinds in
     let first_was = ap length c.deref_mut-2.ensures.value in
-    let first_now = write_all ks.len c.uncount_signals.new.kinds (drop (length c.uncount_signals.new.kinds) ks.items) (omega arith) in
+    let first_now = whole_new ks.len c.uncount_signals.new.kinds (drop (length c.uncount_signals.new.kinds) ks.items) (omega arith) in
     let first_size = ap length first_now in
     let second = c.uncount_waits.auto.kinds in
     let second_was = ap length c.deref_mut-3.ensures.value in
-    let second_now = write_all ks.len c.uncount_waits.new.kinds (drop (length c.uncount_waits.new.kinds) (take ks.len (c.uncount_signals.new.kinds ++ drop (length c.uncount_signals.new.kinds) ks.items))) (omega arith) in
+    let second_now = whole_new ks.len c.uncount_waits.new.kinds (drop (length c.uncount_waits.new.kinds) (take ks.len (c.uncount_signals.new.kinds ++ drop (length c.uncount_signals.new.kinds) ks.items))) (omega arith) in
     let second_size = ap length second_now in
     let same = c.self.invariant.same in
     let few = c.self.invariant.few in

@@ -1,4 +1,4 @@
-use Rattle.std.proofs.Common.{◌≡◌, ℕ, ◌<◌, length, sym, ◌∙◌, ap, subst, arith}
+use Rattle.std.proofs.Common.{◌≡◌, ℕ, sym, ◌∙◌, ap, arith}
 use Rattle.vq_live.specs.Live.{Live, slot_at}
 use Rattle.vq_layer.specs.Layer.{Layer, live_at}
 use Rattle.vq_layer.specs.Calls.{host_refs}

@@ -1,9 +1,8 @@
-use Rattle.std.proofs.Common.{set, take, ◌≡◌, ℕ, length, ◌-◌, List, sym, ◌∙◌, ap, subst, arith, reverse}
+use Rattle.std.proofs.Common.{set, take, ◌≡◌, ℕ, length, ◌-◌, sym, ◌∙◌, ap, subst, arith, reverse}
 use Rattle.vq_live.specs.Live.{KeepsFree, IsUnused, pending, Live, KeepsLive}
 use Rattle.vq_live.specs.Calls.{busy}
 use Rattle.vq_live.specs.Places.{IsPlace}
 use Rattle.vq_live.specs.Fields.{live_of}
-use Rattle.vq_live.specs.declared.answers.Given.{Given}
 use Rattle.std.proofs.lemmas.List.{length-set, length-reverse}
 use Rattle.vq_live.proofs.Slots.{idle_unused}
 use Rattle.vq_live.proofs.Taking.{reuse_keeps, last_free, placed_count}

@@ -1,10 +1,10 @@
 use Rattle.std.proofs.Common.{rules, drop, ◌≡◌, ◌+◌, ◌<◌, ◌∙◌, ap, sym, arith, length, refl, map, All, List, subst, ◌++◌, ◌∷◌, []}
 use Rattle.std.specs.List.{range_with_len}
+use Rattle.vq_ground.proofs.Gets.{whole_new}
 use Rattle.vq_model.specs.declared.script.Mark.{Mark}
 use Rattle.vq_spec.specs.Counts.{need_by, signals_before}
 use Rattle.vq_spec.specs.Fences.{after_batch}
 use Rattle.vq_spec.proofs.FenceStates.{states_length}
-use Rattle.vq_spec.proofs.SlowSteps.{whole_new}
 use Rattle.vq_spec.proofs.LoweredJobs.{is_valid, waits_exist, last_length, commands_fit, signal_count, lowered_push}
 use Rattle.vq_spec.proofs.SignalOrder.{counts_length, few_signals, batch_count}
 use Rattle.vq_spec.proofs.lowering.Lowered.push_batch.Goals as goal

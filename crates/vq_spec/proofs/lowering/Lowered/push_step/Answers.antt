@@ -1,8 +1,8 @@
 use Rattle.std.proofs.Common.{◌≡◌, ◌<◌, ◌^◌, ◌∙◌, ap, subst, sym, All, List, drop, length, refl, rules}
+use Rattle.vq_ground.proofs.Gets.{whole_new}
 use Rattle.vq_spec.specs.declared.fences.FenceState.{FenceState}
 use Rattle.vq_spec.specs.Fences.{AreFences, after_step}
 use Rattle.vq_spec.proofs.LoweredJobs.{waited_exist, polled_exist, reset_within, few_fence_resets, lowered_step}
-use Rattle.vq_spec.proofs.SlowSteps.{whole_new}
 use Rattle.vq_spec.proofs.lowering.Lowered.push_step.Goals as goal
 
 pub step_job-requires-clause-waited : goal.step_job-requires-clause-waited

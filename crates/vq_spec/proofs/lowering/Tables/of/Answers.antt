@@ -1,5 +1,6 @@
 use Rattle.std.proofs.Common.{rules, drop, ◌≡◌, ◌∙◌, ap, sym, length, map, subst, All, List, ℕ, ◌<◌, ◌^◌, arith}
 use Rattle.std.specs.List.{enumerate_from}
+use Rattle.vq_ground.proofs.Gets.{whole_new}
 use Rattle.vq_model.specs.declared.plan.Op.{Op}
 use Rattle.vq_model.specs.Lowering.{plan_of}
 use Rattle.vq_spec.specs.declared.chains.Chain.{Chain}
@@ -7,7 +8,6 @@ use Rattle.vq_spec.specs.ChainParts.{placed, IsSearchable, AreSorted, AreChains}
 use Rattle.vq_spec.specs.Waits.{AreWaits}
 use Rattle.vq_spec.proofs.KeptTables.{lowered_jobs, lowered_commands, lowered_ops, lowered_counts, lowered_few, kept}
 use Rattle.vq_spec.proofs.PlanChains.{unplaced_ops, are_chains, searchable, placed_ops, unplaced_exist}
-use Rattle.vq_spec.proofs.SlowSteps.{whole_new}
 use Rattle.vq_spec.proofs.lowering.Tables.of.Goals as goal
 
 pub overflow_cast-len : goal.overflow_cast-len

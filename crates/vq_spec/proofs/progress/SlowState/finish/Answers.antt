@@ -1,8 +1,9 @@
 use Rattle.std.proofs.Common.{◌≡◌, ◌++◌, ◌∷◌, [], ℕ, List, true, drop, length, subst, sym, ap, arith, rules}
 use Rattle.std.proofs.Math.ListN.{set}
+use Rattle.vq_ground.proofs.Gets.{whole_new}
 use Rattle.vq_plan_laws.proofs.Cited.{plan_lanes}
 use Rattle.vq_spec.specs.SlowProgress.{IsProgress, ArePayloads, AreHeads}
-use Rattle.vq_spec.proofs.SlowSteps.{closed_push, marks_push, whole_new}
+use Rattle.vq_spec.proofs.SlowSteps.{closed_push, marks_push}
 use Rattle.vq_spec.proofs.progress.SlowState.finish.Goals as goal
 
 pub pass_head-requires-clause-lane : goal.pass_head-requires-clause-lane
